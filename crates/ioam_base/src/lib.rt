@@ -1,0 +1,7 @@
+//! What every other crate stands on: the one refusal for want of memory, numbers in octets, and
+//! texts that are appended whole or not at all.
+#![tactic(auto)]
+
+pub mod memory;
+pub mod octets;
+pub mod text;
