@@ -1,0 +1,6 @@
+pub mod Form
+pub mod Entries
+pub mod Reads
+pub mod Steps
+pub mod Reading
+pub mod Reader
