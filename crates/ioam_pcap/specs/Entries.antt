@@ -36,7 +36,7 @@ module _ (form : Form) (octets : List ℕ) where
   entry_at at = record {
     time = number_at form.order octets at * 1000000000 + number_at form.order octets (at + 4) * nanoseconds form.fraction;
     original = number_at form.order octets (at + 12);
-    octets = take (captured at) (drop (at + 16) octets)
+    octets = take (captured at) (drop (at + 16) octets);
   }
 
   -- the place behind it

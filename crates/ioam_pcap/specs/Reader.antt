@@ -41,7 +41,7 @@ Waits reader = CutAt reader.pending reader.form 0
 
 -- the octets that a step takes off
 abbrev pub Moved : Reading → Reading → CapStep → Type 0
-Moved old new (Head link) = (new.start ≡ 24) × (new.pending ≡ drop 24 old.pending) × (length new.pending + 24 ≡ length old.pending)
+Moved old new (Head link) = (new.start ≡ old.start + 24) × (new.pending ≡ drop 24 old.pending) × (length new.pending + 24 ≡ length old.pending)
 Moved old new (Packet p) = (new.form ≡ old.form) × (new.start ≡ old.start + (16 + length p.octets.now))
     × (new.pending ≡ drop (16 + length p.octets.now) old.pending)
     × (length new.pending + (16 + length p.octets.now) ≡ length old.pending)

@@ -67,7 +67,11 @@ pub fn head_step(octets: &[u8]) -> HeadStep
     }
     let number = number_at(order, octets, 20);
     match link_of(number) {
-        Some(link) => HeadStep::Whole(Form { order, fraction, link }),
+        Some(link) => HeadStep::Whole(Form {
+            order,
+            fraction,
+            link,
+        }),
         None => HeadStep::Bad(CapFault::Link { found: number }),
     }
 }
