@@ -1,3 +1,4 @@
 pub mod BehindLaws
 pub mod DropLaws
+pub mod ReadsLaws
 pub mod StandsLaws
