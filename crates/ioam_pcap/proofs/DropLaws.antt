@@ -11,11 +11,11 @@ use Rattle.ioam_pcap.specs.Form.{number_at}
 use Rattle.ioam_pcap.specs.Entries.{Entry, most, captured, IsWhole, entry_at, behind}
 use Rattle.ioam_pcap.specs.Reads.{EntryFault, IsEntryCut}
 
-number_at-drop : (order : Order) (octets : List ℕ) (n at : ℕ) → number_at order (drop n octets) at ≡ number_at order octets (n + at)
+pub number_at-drop : (order : Order) (octets : List ℕ) (n at : ℕ) → number_at order (drop n octets) at ≡ number_at order octets (n + at)
 number_at-drop Big octets n at = grind (arith, get_or-drop)
 number_at-drop Little octets n at = grind (arith, get_or-drop)
 
-number_at-front : (order : Order) (octets : List ℕ) (n : ℕ) → number_at order (drop n octets) 0 ≡ number_at order octets n
+pub number_at-front : (order : Order) (octets : List ℕ) (n : ℕ) → number_at order (drop n octets) 0 ≡ number_at order octets n
 number_at-front order octets n = number_at-drop order octets n 0 ∙ ap (number_at order octets) (omega arith)
 
 module _ (form : Form) (octets : List ℕ) (n : ℕ) (inside : n ≤ length octets) where

@@ -2,3 +2,4 @@ pub mod BehindLaws
 pub mod DropLaws
 pub mod ReadsLaws
 pub mod StandsLaws
+pub mod TextLaws

@@ -248,13 +248,16 @@ module _ (octets : List ℕ) where
       cap_by : (form : Option Form) (at : ℕ) → Reached octets form entries at → EndsAt octets form at ending → Some link ≡ link_by form
           → (rest : ℕ) × Cap octets link entries rest
       cap_by None at reached ends linked = absurd (cc)
-      cap_by (Some form) at reached ends linked = (at, record {
-        form = form;
-        head = reached.0;
-        linked = cc;
-        leads = reached.1;
-        stops = ends_no_record form at ending ends
-      })
+      cap_by (Some form) at reached ends linked = (
+        at,
+        record {
+          form = form;
+          head = reached.0;
+          linked = cc;
+          leads = reached.1;
+          stops = ends_no_record form at ending ends;
+        },
+      )
 
 -- a number is spelled or not
 spelled_or_not : (magic : ℕ) → ((order : Order) × (fraction : Fraction) × (magic ≡ spelling order fraction)) ⊎ IsUnspelled magic

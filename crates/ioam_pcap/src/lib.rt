@@ -6,6 +6,8 @@ pub mod capture;
 mod entry;
 mod form;
 mod head;
+mod put;
 pub mod reader;
 
 pub use form::Link;
+pub use put::{put_head, put_record};
