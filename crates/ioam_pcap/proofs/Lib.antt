@@ -1,0 +1,5 @@
+pub mod BehindLaws
+pub mod DropLaws
+pub mod ReadsLaws
+pub mod StandsLaws
+pub mod TextLaws

@@ -1,0 +1,342 @@
+-- A capture reads in one way, and in some way.
+use Rattle.std.proofs.Common.{◌≡◌, ◌≢◌, ℕ, zero, suc, ◌+◌, ◌-◌, ◌*◌, ◌<◌, ◌≤◌, ◌⊎◌, Bool, true, false, List, [], ◌∷◌, ◌++◌, length, Option, Some, None, arith, refl, sym, ap, ◌∙◌, subst, inl, inr}
+use Rattle.std.specs.Option.{IsSome}
+use Rattle.std.proofs.lemmas.Bool.{cases_lt, cases_eq, false≢true}
+use Rattle.ioam_base.specs.Octets.{u32_at}
+use Rattle.ioam_base.proofs.LeadsLaws.{Leads-push, Leads-unique}
+use Rattle.ioam_pcap.specs.declared.form.Link.{Link}
+use Rattle.ioam_pcap.specs.declared.form.Link.TheVariants.{Ethernet, Raw}
+use Rattle.ioam_pcap.specs.declared.form.Order.{Order}
+use Rattle.ioam_pcap.specs.declared.form.Order.TheVariants.{Big, Little}
+use Rattle.ioam_pcap.specs.declared.form.Fraction.{Fraction}
+use Rattle.ioam_pcap.specs.declared.form.Fraction.TheVariants.{Micro, Nano}
+use Rattle.ioam_pcap.specs.declared.form.Form.{Form}
+use Rattle.ioam_pcap.specs.declared.capture.CapFault.{CapFault}
+use Rattle.ioam_pcap.specs.declared.capture.CapFault.TheVariants as fault
+use Rattle.ioam_pcap.specs.Form.{number_at, spelling, IsUnspelled, IsLinkType, IsNoLinkType, HasHead}
+use Rattle.ioam_pcap.specs.Entries.{Entry, most, captured, IsWhole, entry_at, behind, Entries}
+use Rattle.ioam_pcap.specs.Reads.{HasMagic, HeadFault, EntryFault, IsHeadCut, IsEntryCut, Reached, FaultAt, CutAt, Ending, Whole, Faulty, EndsAt, Reads, Cap, link_by}
+
+-- a number spells one order and one fraction
+spelling-injective : (o p : Order) (f g : Fraction) → spelling o f ≡ spelling p g → (o ≡ p) × (f ≡ g)
+spelling-injective Big Big Micro Micro same = (refl, refl)
+spelling-injective Big Big Micro Nano same = absurd (omega arith)
+spelling-injective Big Big Nano Micro same = absurd (omega arith)
+spelling-injective Big Big Nano Nano same = (refl, refl)
+spelling-injective Big Little Micro Micro same = absurd (omega arith)
+spelling-injective Big Little Micro Nano same = absurd (omega arith)
+spelling-injective Big Little Nano Micro same = absurd (omega arith)
+spelling-injective Big Little Nano Nano same = absurd (omega arith)
+spelling-injective Little Big Micro Micro same = absurd (omega arith)
+spelling-injective Little Big Micro Nano same = absurd (omega arith)
+spelling-injective Little Big Nano Micro same = absurd (omega arith)
+spelling-injective Little Big Nano Nano same = absurd (omega arith)
+spelling-injective Little Little Micro Micro same = (refl, refl)
+spelling-injective Little Little Micro Nano same = absurd (omega arith)
+spelling-injective Little Little Nano Micro same = absurd (omega arith)
+spelling-injective Little Little Nano Nano same = (refl, refl)
+
+-- what is spelled is not unspelled
+spelling_not_unspelled : (o : Order) (f : Fraction) (magic : ℕ) → magic ≡ spelling o f → IsUnspelled magic → ⊥
+spelling_not_unspelled Big Micro magic same un = un.0 same
+spelling_not_unspelled Big Nano magic same un = un.1 same
+spelling_not_unspelled Little Micro magic same un = un.2 same
+spelling_not_unspelled Little Nano magic same un = un.3 same
+
+-- a link type is of one link
+link_unique : (number : ℕ) (a b : Link) → IsLinkType number a → IsLinkType number b → a ≡ b
+link_unique number Ethernet Ethernet x y = refl
+link_unique number Ethernet Raw x (inl y) = absurd (omega arith)
+link_unique number Ethernet Raw x (inr y) = absurd (omega arith)
+link_unique number Raw Ethernet (inl x) y = absurd (omega arith)
+link_unique number Raw Ethernet (inr x) y = absurd (omega arith)
+link_unique number Raw Raw x y = refl
+
+link_known : (number : ℕ) (link : Link) → IsLinkType number link → IsNoLinkType number → ⊥
+link_known number Ethernet x unknown = unknown.0 x
+link_known number Raw (inl x) unknown = unknown.1 x
+link_known number Raw (inr x) unknown = unknown.2 x
+
+module _ (octets : List ℕ) where
+  magic_unique : (o p : Order) (f g : Fraction) → HasMagic octets o f → HasMagic octets p g → (o ≡ p) × (f ≡ g)
+  magic_unique o p f g x y = spelling-injective o p f g (sym x.1 ∙ y.1)
+
+  head_unique : (a b : Form) → HasHead octets a → HasHead octets b → a ≡ b
+  head_unique a b x y =
+      let same = spelling-injective a.order b.order a.fraction b.fraction (sym x.1 ∙ y.1) in
+      let Q : Order → Type 0 = λ o. IsLinkType (number_at o octets 20) a.link in
+      let link : a.link ≡ b.link = link_unique _ a.link b.link (subst Q same.0 x.2) y.2 in
+      let fields : ◌≡◌ {A = Form} (record { order = a.order; fraction = a.fraction; link = a.link }) (record { order = b.order; fraction = b.fraction; link = b.link }) = cc in
+      fields
+
+  -- a whole head has no fault and is not cut
+  head_sound : (form : Form) (f : CapFault) → HasHead octets form → HeadFault octets f → ⊥
+  head_sound form (fault.Magic found) head bad = spelling_not_unspelled form.order form.fraction found (bad.1 ∙ head.1) bad.2
+  head_sound form (fault.Link found) head bad =
+      let (order, fraction, magic, there) = bad.2 in
+      let same = spelling-injective form.order order form.fraction fraction (sym head.1 ∙ magic.1) in
+      let Q : Order → Type 0 = λ o. IsLinkType (number_at o octets 20) form.link in
+      let R : ℕ → Type 0 = λ n. IsLinkType n form.link in
+      link_known found form.link (subst R (sym there) (subst Q same.0 head.2)) bad.1
+  head_sound form (fault.RecordLong found) head bad = bad
+  head_sound form (fault.Short have) head bad = bad
+
+  head_uncut : (form : Form) → HasHead octets form → IsHeadCut octets → ⊥
+  head_uncut form head (inl few) = omega arith
+  head_uncut form head (inr few) = omega (arith, few.0)
+
+  -- a head that is cut has no fault
+  cut_sound : (f : CapFault) → IsHeadCut octets → HeadFault octets f → ⊥
+  cut_sound (fault.Magic found) (inl few) bad = omega arith
+  cut_sound (fault.Magic found) (inr few) bad = let (order, fraction, magic) = few.1 in spelling_not_unspelled order fraction found (bad.1 ∙ magic.1) bad.2
+  cut_sound (fault.Link found) (inl few) bad = omega (arith, bad.0)
+  cut_sound (fault.Link found) (inr few) bad = omega (arith, bad.0, few.0)
+  cut_sound (fault.RecordLong found) cut bad = bad
+  cut_sound (fault.Short have) cut bad = bad
+
+  -- a head has one fault
+  head_fault_unique : (f g : CapFault) → HeadFault octets f → HeadFault octets g → f ≡ g
+  head_fault_unique (fault.Magic m) (fault.Magic n) x y = ap fault.Magic (x.1 ∙ sym y.1)
+  head_fault_unique (fault.Magic m) (fault.Link n) x y = let (order, fraction, magic, there) = y.2 in absurd (spelling_not_unspelled order fraction m (x.1 ∙ magic.1) x.2)
+  head_fault_unique (fault.Magic m) (fault.RecordLong n) x y = absurd y
+  head_fault_unique (fault.Magic m) (fault.Short n) x y = absurd y
+  head_fault_unique (fault.Link m) (fault.Magic n) x y = let (order, fraction, magic, there) = x.2 in absurd (spelling_not_unspelled order fraction n (y.1 ∙ magic.1) y.2)
+  head_fault_unique (fault.Link m) (fault.Link n) x y =
+      let (o, f, magic, there) = x.2 in
+      let (p, g, magics, theres) = y.2 in
+      let same = magic_unique o p f g magic magics in
+      ap fault.Link (there ∙ ap (λ q. number_at q octets 20) same.0 ∙ sym theres)
+  head_fault_unique (fault.Link m) (fault.RecordLong n) x y = absurd y
+  head_fault_unique (fault.Link m) (fault.Short n) x y = absurd y
+  head_fault_unique (fault.RecordLong m) g x y = absurd x
+  head_fault_unique (fault.Short m) g x y = absurd x
+
+  -- at a place is one of: a whole record, one that is cut, one with a fault
+  entry_uncut : (form : Form) (at : ℕ) → IsWhole form octets at → IsEntryCut form octets at → ⊥
+  entry_uncut form at whole (inl few) = omega arith
+  entry_uncut form at whole (inr few) = omega arith
+
+  entry_sound : (form : Form) (at : ℕ) (f : CapFault) → IsWhole form octets at → EntryFault form octets at f → ⊥
+  entry_sound form at (fault.Magic found) whole bad = bad
+  entry_sound form at (fault.Link found) whole bad = bad
+  entry_sound form at (fault.RecordLong found) whole bad = omega arith
+  entry_sound form at (fault.Short have) whole bad = bad
+
+  cut_entry_sound : (form : Form) (at : ℕ) (f : CapFault) → IsEntryCut form octets at → EntryFault form octets at f → ⊥
+  cut_entry_sound form at (fault.Magic found) cut bad = bad
+  cut_entry_sound form at (fault.Link found) cut bad = bad
+  cut_entry_sound form at (fault.RecordLong found) (inl few) bad = omega arith
+  cut_entry_sound form at (fault.RecordLong found) (inr few) bad = omega arith
+  cut_entry_sound form at (fault.Short have) cut bad = bad
+
+  entry_fault_unique : (form : Form) (at : ℕ) (f g : CapFault) → EntryFault form octets at f → EntryFault form octets at g → f ≡ g
+  entry_fault_unique form at (fault.RecordLong m) (fault.RecordLong n) x y = ap fault.RecordLong (x.1 ∙ sym y.1)
+  entry_fault_unique form at (fault.RecordLong m) (fault.Magic n) x y = absurd y
+  entry_fault_unique form at (fault.RecordLong m) (fault.Link n) x y = absurd y
+  entry_fault_unique form at (fault.RecordLong m) (fault.Short n) x y = absurd y
+  entry_fault_unique form at (fault.Magic m) g x y = absurd x
+  entry_fault_unique form at (fault.Link m) g x y = absurd x
+  entry_fault_unique form at (fault.Short m) g x y = absurd x
+
+  -- the same at a reached place
+  cut_not_faulty : (form : Option Form) (at : ℕ) (f : CapFault) → CutAt octets form at → FaultAt octets form at f → ⊥
+  cut_not_faulty None at f cut bad = cut_sound f cut bad
+  cut_not_faulty (Some form) at f cut bad = cut_entry_sound form at f cut bad
+
+  fault_unique : (form : Option Form) (at : ℕ) (f g : CapFault) → FaultAt octets form at f → FaultAt octets form at g → f ≡ g
+  fault_unique None at f g x y = head_fault_unique f g x y
+  fault_unique (Some form) at f g x y = entry_fault_unique form at f g x y
+
+  -- nothing is left over at the end of a whole file
+  fault_inside : (form : Option Form) (at : ℕ) (f : CapFault) → IsSome form → at ≡ length octets → FaultAt octets form at f → ⊥
+  fault_inside None at f some end bad = false≢true some
+  fault_inside (Some form) at (fault.Magic found) some end bad = bad
+  fault_inside (Some form) at (fault.Link found) some end bad = bad
+  fault_inside (Some form) at (fault.RecordLong found) some end bad = omega arith
+  fault_inside (Some form) at (fault.Short have) some end bad = bad
+
+  -- a fault of what an ended file leaves over
+  abbrev IsShort : Option Form → ℕ → CapFault → Type 0
+  IsShort form at f = (have : ℕ) × (f ≡ fault.Short have) × CutAt octets form at × (at + have ≡ length octets) × (IsSome form → 0 < have)
+
+  ends_cases : (form : Option Form) (at place : ℕ) (f : CapFault) → EndsAt octets form at (Faulty place f)
+      → (place ≡ at) × (FaultAt octets form at f ⊎ IsShort form at f)
+  ends_cases form at place (fault.Magic found) ends = (ends.0, inl ends.1)
+  ends_cases form at place (fault.Link found) ends = (ends.0, inl ends.1)
+  ends_cases form at place (fault.RecordLong found) ends = (ends.0, inl ends.1)
+  ends_cases form at place (fault.Short have) ends = (ends.0, inr (have, refl, ends.1, ends.2, ends.3))
+
+  whole_or_faulty : (form : Option Form) (at place : ℕ) (f : CapFault) → EndsAt octets form at Whole → EndsAt octets form at (Faulty place f) → ⊥
+  whole_or_faulty form at place f whole ends = elim (ends_cases form at place f ends).1 [
+    | inl bad ↦ fault_inside form at f whole.0 whole.1 bad
+    | inr short ↦ let (have, is, cut, many, some) = short in let more = some whole.0 in omega arith
+  ]
+
+  faults_unique : (form : Option Form) (at : ℕ) (f g : CapFault) → (FaultAt octets form at f ⊎ IsShort form at f)
+      → (FaultAt octets form at g ⊎ IsShort form at g) → f ≡ g
+  faults_unique form at f g (inl x) (inl y) = fault_unique form at f g x y
+  faults_unique form at f g (inl x) (inr y) = absurd (cut_not_faulty form at f y.2 x)
+  faults_unique form at f g (inr x) (inl y) = absurd (cut_not_faulty form at g x.2 y)
+  faults_unique form at f g (inr x) (inr y) =
+      let (have, is, cut, many, some) = x in
+      let (had, was, cuts, much, more) = y in
+      let same : have ≡ had = omega arith in
+      is ∙ ap fault.Short same ∙ sym was
+
+  ends_unique : (form : Option Form) (at : ℕ) (d e : Ending) → EndsAt octets form at d → EndsAt octets form at e → d ≡ e
+  ends_unique form at Whole Whole x y = refl
+  ends_unique form at Whole (Faulty p f) x y = absurd (whole_or_faulty form at p f x y)
+  ends_unique form at (Faulty p f) Whole x y = absurd (whole_or_faulty form at p f y x)
+  ends_unique form at (Faulty p f) (Faulty q g) x y =
+      let first = ends_cases form at p f x in
+      let second = ends_cases form at q g y in
+      let same = faults_unique form at f g first.1 second.1 in
+      let place : p ≡ q = first.0 ∙ sym second.0 in
+      cc
+
+  -- a whole head ends nothing at the front
+  ends_front : (form : Form) (d : Ending) → HasHead octets form → EndsAt octets None 0 d → ⊥
+  ends_front form Whole head ends = false≢true ends.0
+  ends_front form (Faulty p f) head ends = elim (ends_cases None 0 p f ends).1 [
+    | inl bad ↦ head_sound form f head bad
+    | inr short ↦ head_uncut form head short.2
+  ]
+
+  -- a whole record ends nothing
+  pub ends_no_record : (form : Form) (at : ℕ) (d : Ending) → EndsAt octets (Some form) at d → IsWhole form octets at → ⊥
+  ends_no_record form at Whole ends whole = omega (arith, ends.1)
+  ends_no_record form at (Faulty p f) ends whole = elim (ends_cases (Some form) at p f ends).1 [
+    | inl bad ↦ entry_sound form at f whole bad
+    | inr short ↦ entry_uncut form at whole short.2
+  ]
+
+  -- reached places where the octets end are one
+  places_unique : (form other : Option Form) (xs ys : List Entry) (at there : ℕ) (d e : Ending)
+      → Reached octets form xs at → EndsAt octets form at d → Reached octets other ys there → EndsAt octets other there e
+      → (form ≡ other) × (xs ≡ ys) × (d ≡ e)
+  places_unique None None xs ys at there d e x ends y ends' =
+      let same : there ≡ at = omega arith in
+      let Q : ℕ → Type 0 = λ n. EndsAt octets None n e in
+      (refl, x.0 ∙ sym y.0, ends_unique None at d e ends (subst Q same ends'))
+  places_unique None (Some form) xs ys at there d e x ends y ends' =
+      let Q : ℕ → Type 0 = λ n. EndsAt octets None n d in
+      absurd (ends_front form d y.0 (subst Q x.1 ends))
+  places_unique (Some form) None xs ys at there d e x ends y ends' =
+      let Q : ℕ → Type 0 = λ n. EndsAt octets None n e in
+      absurd (ends_front form e x.0 (subst Q y.1 ends'))
+  places_unique (Some a) (Some b) xs ys at there d e x ends y ends' =
+      let form : b ≡ a = head_unique b a y.0 x.0 in
+      let Q : Form → Type 0 = λ f. Entries f octets 24 ys there in
+      let R : Form → Type 0 = λ f. EndsAt octets (Some f) there e in
+      let leads = subst Q form y.1 in
+      let stops = subst R form ends' in
+      let same = Leads-unique (IsWhole a octets) (entry_at a octets) (behind a octets) 24 xs at ys there x.1 (ends_no_record a at d ends) leads (ends_no_record a there e stops) in
+      let S : ℕ → Type 0 = λ n. EndsAt octets (Some a) n e in
+      (ap Some (sym form), same.0, ends_unique (Some a) at d e ends (subst S (sym same.1) stops))
+
+  -- a capture reads in one way
+  pub Reads-unique : (link other : Option Link) (xs ys : List Entry) (d e : Ending) → Reads octets link xs d → Reads octets other ys e
+      → (link ≡ other) × (xs ≡ ys) × (d ≡ e)
+  Reads-unique link other xs ys d e x y =
+      let same = places_unique x.form y.form xs ys x.at y.at d e x.reached x.ends y.reached y.ends in
+      (x.linked ∙ ap link_by same.0 ∙ sym y.linked, same.1, same.2)
+
+  -- a capture with a head has a list of records behind which no whole one stands
+  pub Reads-cap : (link : Link) (entries : List Entry) (ending : Ending) → Reads octets (Some link) entries ending → (rest : ℕ) × Cap octets link entries rest
+  Reads-cap link entries ending reads = cap_by reads.form reads.at reads.reached reads.ends reads.linked
+    where
+      cap_by : (form : Option Form) (at : ℕ) → Reached octets form entries at → EndsAt octets form at ending → Some link ≡ link_by form
+          → (rest : ℕ) × Cap octets link entries rest
+      cap_by None at reached ends linked = absurd (cc)
+      cap_by (Some form) at reached ends linked = (
+        at,
+        record {
+          form = form;
+          head = reached.0;
+          linked = cc;
+          leads = reached.1;
+          stops = ends_no_record form at ending ends;
+        },
+      )
+
+-- a number is spelled or not
+spelled_or_not : (magic : ℕ) → ((order : Order) × (fraction : Fraction) × (magic ≡ spelling order fraction)) ⊎ IsUnspelled magic
+spelled_or_not magic = elim (cases_eq magic 0xa1b2c3d4) [
+  | inl a ↦ inl (Big, Micro, a)
+  | inr a ↦ elim (cases_eq magic 0xa1b23c4d) [
+    | inl b ↦ inl (Big, Nano, b)
+    | inr b ↦ elim (cases_eq magic 0xd4c3b2a1) [
+      | inl d ↦ inl (Little, Micro, d)
+      | inr d ↦ elim (cases_eq magic 0x4d3cb2a1) [
+        | inl e ↦ inl (Little, Nano, e)
+        | inr e ↦ inr (a, b, d, e)
+      ]
+    ]
+  ]
+]
+
+-- a number is a link type that is read or not
+linked_or_not : (number : ℕ) → ((link : Link) × IsLinkType number link) ⊎ IsNoLinkType number
+linked_or_not number = elim (cases_eq number 1) [
+  | inl a ↦ inl (Ethernet, a)
+  | inr a ↦ elim (cases_eq number 101) [
+    | inl b ↦ inl (Raw, inl b)
+    | inr b ↦ elim (cases_eq number 229) [
+      | inl d ↦ inl (Raw, inr d)
+      | inr d ↦ inr (a, b, d)
+    ]
+  ]
+]
+
+-- what a file is found to be
+abbrev pub Found : List ℕ → Type 0
+Found octets = (link : Option Link) × (entries : List Entry) × (ending : Ending) × Reads octets link entries ending
+
+module _ (octets : List ℕ) where
+  found_at : (form : Option Form) (entries : List Entry) (at : ℕ) (ending : Ending) → Reached octets form entries at → EndsAt octets form at ending → Found octets
+  found_at form entries at ending reached ends =
+      (link_by form, entries, ending, record { form = form; at = at; reached = reached; ends = ends; linked = refl })
+
+  found_front : (ending : Ending) → EndsAt octets None 0 ending → Found octets
+  found_front ending ends = found_at None [] 0 ending (refl, refl) ends
+
+  -- what stands at a place, given what is found behind a whole record there
+  step_found : (form : Form) (entries : List Entry) (at : ℕ) → HasHead octets form → Entries form octets 24 entries at
+      → at ≤ length octets → (IsWhole form octets at → Found octets) → Found octets
+  step_found form entries at head leads inside more = elim (cases_lt (length octets) (at + 16)) [
+    | inl few ↦ elim (cases_eq at (length octets)) [
+      | inl end ↦ found_at (Some form) entries at Whole (head, leads) (refl, end)
+      | inr some ↦ found_at (Some form) entries at (Faulty at (fault.Short (length octets - at))) (head, leads) (refl, inl few, omega arith, λ _. omega arith)
+    ]
+    | inr fits ↦ elim (cases_lt most (captured form octets at)) [
+      | inl long ↦ found_at (Some form) entries at (Faulty at (fault.RecordLong (captured form octets at))) (head, leads) (refl, (fits, refl, long))
+      | inr short ↦ elim (cases_lt (length octets) (at + 16 + captured form octets at)) [
+        | inl few ↦ found_at (Some form) entries at (Faulty at (fault.Short (length octets - at))) (head, leads) (refl, inr (short, few), omega arith, λ _. omega arith)
+        | inr whole ↦ more (short, whole)
+      ]
+    ]
+  ]
+
+  -- what stands at a place behind which n octets are left at most
+  rest_found : (n : ℕ) (form : Form) (entries : List Entry) (at : ℕ) → HasHead octets form → Entries form octets 24 entries at
+      → at ≤ length octets → length octets ≤ at + n → Found octets
+  rest_found zero form entries at head leads inside left = step_found form entries at head leads inside (λ whole. absurd (omega arith))
+  rest_found (suc n) form entries at head leads inside left = step_found form entries at head leads inside (λ whole.
+      rest_found n form (entries ++ entry_at form octets at ∷ []) (behind form octets at) head
+      (Leads-push (IsWhole form octets) (entry_at form octets) (behind form octets) 24 entries at leads whole) (omega arith) (omega arith))
+
+  -- a capture reads in some way
+  pub Reads-total : Found octets
+  Reads-total = elim (cases_lt (length octets) 4) [
+    | inl few ↦ found_front (Faulty 0 (fault.Short (length octets))) (refl, inl few, omega arith, λ some. absurd (false≢true some))
+    | inr fits ↦ elim (spelled_or_not (u32_at octets 0)) [
+      | inr un ↦ found_front (Faulty 0 (fault.Magic (u32_at octets 0))) (refl, (fits, refl, un))
+      | inl spelled ↦ let (order, fraction, is) = spelled in elim (cases_lt (length octets) 24) [
+        | inl few ↦ found_front (Faulty 0 (fault.Short (length octets))) (refl, inr (few, (order, fraction, (fits, is))), omega arith, λ some. absurd (false≢true some))
+        | inr long ↦ elim (linked_or_not (number_at order octets 20)) [
+          | inl linked ↦ rest_found (length octets) (record { order = order; fraction = fraction; link = linked.0 }) [] 24 (long, is, linked.1) refl long (omega arith)
+          | inr unknown ↦ found_front (Faulty 0 (fault.Link (number_at order octets 20))) (refl, (long, unknown, (order, fraction, (fits, is), refl)))
+        ]
+      ]
+    ]
+  ]

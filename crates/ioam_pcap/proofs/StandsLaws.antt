@@ -1,0 +1,159 @@
+-- What a reader stands for after a piece or a step.
+use Rattle.std.proofs.Common.{◌≡◌, ℕ, ◌+◌, ◌-◌, ◌<◌, ◌≤◌, ◌⊎◌, List, [], ◌∷◌, ◌++◌, length, take, drop, Option, Some, None, arith, refl, sym, ap, ◌∙◌, subst, inl, inr, length-drop, length-take, length-take-le, length-append, append_assoc}
+use Rattle.std.proofs.lemmas.List.{drop-drop, drop-append-le, take_rest}
+use Rattle.std.specs.Option.{IsSome}
+use Rattle.ioam_base.proofs.LeadsLaws.{Leads-push}
+use Rattle.ioam_pcap.specs.declared.form.Form.{Form}
+use Rattle.ioam_pcap.specs.declared.capture.CapFault.{CapFault}
+use Rattle.ioam_pcap.specs.declared.capture.CapFault.TheVariants as fault
+use Rattle.ioam_pcap.specs.Form.{HasHead}
+use Rattle.ioam_pcap.specs.Entries.{Entry, captured, IsWhole, entry_at, behind}
+use Rattle.ioam_pcap.specs.Reads.{HeadFault, EntryFault, IsHeadCut, IsEntryCut, Reached, EntryAt, FaultAt, CutAt, Ending, Whole, Faulty, EndsAt, Reads}
+use Rattle.ioam_pcap.specs.Reading.{Reading}
+use Rattle.ioam_pcap.specs.Reader.{Stands, Waits, link_of}
+use Rattle.ioam_pcap.proofs.DropLaws.{captured-drop, IsWhole-drop, entry_at-drop, EntryFault-drop, IsEntryCut-drop}
+use Rattle.ioam_pcap.proofs.BehindLaws.{HeadFault-behind, Reached-behind, FaultAt-behind}
+
+-- a piece more
+pub Stands-feed : (reader : Reading) (piece octets : List ℕ) (entries : List Entry) → Stands reader octets entries
+    → Stands (record reader { pending = reader.pending ++ piece }) (octets ++ piece) entries
+Stands-feed reader piece octets entries stands = record {
+  left = ap (λ p. p ++ piece) stands.left ∙ sym (drop-append-le reader.start octets piece stands.inside);
+  inside = omega (arith, length-append octets piece);
+  reached = Reached-behind octets piece reader.form entries reader.start stands.reached;
+}
+
+-- a reader that was fed nothing yet takes the place of the front
+pub front_pending : (reader : Reading) (octets : List ℕ) (entries : List Entry) → reader.form ≡ None → Stands reader octets entries
+    → (reader.pending ≡ octets) × (reader.start ≡ 0) × (entries ≡ [])
+front_pending reader octets entries none stands =
+    let Q : Option Form → Type 0 = λ f. Reached octets f entries reader.start in
+    let here = subst Q none stands.reached in
+    (stands.left ∙ ap (λ n. drop n octets) here.1, here.1, here.0)
+
+module _ (reader : Reading) (octets : List ℕ) (entries : List Entry) (stands : Stands reader octets entries) where
+  -- what waits for octets is cut there
+  pub CutAt-waits : Waits reader → CutAt octets reader.form reader.start
+  CutAt-waits waits = cut_by reader.form refl waits
+    where
+      cut_by : (form : Option Form) → reader.form ≡ form → CutAt reader.pending form 0 → CutAt octets form reader.start
+      cut_by None none cut = let Q : List ℕ → Type 0 = λ p. IsHeadCut p in subst Q (front_pending reader octets entries none stands).0 cut
+      cut_by (Some form) some cut = let Q : List ℕ → Type 0 = λ p. IsEntryCut form p 0 in
+          IsEntryCut-drop form octets reader.start stands.inside (subst Q stands.left cut)
+
+  -- and so is a fault
+  pub FaultAt-pending : (f : CapFault) → FaultAt reader.pending reader.form 0 f → FaultAt octets reader.form reader.start f
+  FaultAt-pending f = fault_by reader.form refl
+    where
+      fault_by : (form : Option Form) → reader.form ≡ form → FaultAt reader.pending form 0 f → FaultAt octets form reader.start f
+      fault_by None none bad = let Q : List ℕ → Type 0 = λ p. HeadFault p f in subst Q (front_pending reader octets entries none stands).0 bad
+      fault_by (Some form) some bad = let Q : List ℕ → Type 0 = λ p. EntryFault form p 0 f in
+          EntryFault-drop form octets reader.start stands.inside f (subst Q stands.left bad)
+
+-- a fault ends the capture, whatever stands behind
+pub ends_by_fault : (octets : List ℕ) (form : Option Form) (at : ℕ) (f : CapFault) → FaultAt octets form at f → EndsAt octets form at (Faulty at f)
+ends_by_fault octets form at (fault.Magic found) bad = (refl, bad)
+ends_by_fault octets form at (fault.Link found) bad = (refl, bad)
+ends_by_fault octets form at (fault.RecordLong found) bad = (refl, bad)
+ends_by_fault octets None at (fault.Short have) bad = absurd bad
+ends_by_fault octets (Some form) at (fault.Short have) bad = absurd bad
+
+pub Reads-faulty : (reader : Reading) (octets : List ℕ) (entries : List Entry) (f : CapFault) → Stands reader octets entries
+    → FaultAt octets reader.form reader.start f → (more : List ℕ) → Reads (octets ++ more) (link_of reader) entries (Faulty reader.start f)
+Reads-faulty reader octets entries f stands bad more = record {
+  form = reader.form;
+  at = reader.start;
+  reached = Reached-behind octets more reader.form entries reader.start stands.reached;
+  ends = ends_by_fault (octets ++ more) reader.form reader.start f (FaultAt-behind octets more reader.form reader.start f bad);
+  linked = refl;
+}
+
+-- a whole record was taken
+module _ (old new : Reading) (form : Form) (read : old.form ≡ Some form) (whole : IsWhole form old.pending 0) (moved : new ≡ record { form = old.form; start = old.start + (16 + captured form old.pending 0); pending = drop (16 + captured form old.pending 0) old.pending }) where
+  entry_here : (octets : List ℕ) (entries : List Entry) → Stands old octets entries
+      → IsWhole form octets old.start × (entry_at form old.pending 0 ≡ entry_at form octets old.start) × (captured form old.pending 0 ≡ captured form octets old.start)
+  entry_here octets entries stands =
+      let Q : List ℕ → Type 0 = λ p. IsWhole form p 0 in (
+        IsWhole-drop form octets old.start stands.inside (subst Q stands.left whole),
+        ap (λ p. entry_at form p 0) stands.left ∙ entry_at-drop form octets old.start stands.inside,
+        ap (λ p. captured form p 0) stands.left ∙ captured-drop form octets old.start stands.inside,
+      )
+
+  pub EntryAt-step : (e : Entry) → e ≡ entry_at form old.pending 0 → (octets : List ℕ) (entries : List Entry) → Stands old octets entries
+      → EntryAt octets old.form old.start e
+  EntryAt-step e shown octets entries stands = let here = entry_here octets entries stands in
+      let Q : Option Form → Type 0 = λ f. EntryAt octets f old.start e in
+      subst Q (sym read) (here.0, shown ∙ here.1)
+
+  pub Stands-step : (e : Entry) → e ≡ entry_at form old.pending 0 → (octets : List ℕ) (entries : List Entry) → Stands old octets entries
+      → Stands new octets (entries ++ e ∷ [])
+  Stands-step e shown octets entries stands =
+      let here = entry_here octets entries stands in
+      let Q : Option Form → Type 0 = λ f. Reached octets f entries old.start in
+      let reached = subst Q read stands.reached in
+      let pushed = Leads-push (IsWhole form octets) (entry_at form octets) (behind form octets) 24 entries old.start reached.1 here.0 in
+      let size = here.2 in
+      let next : new.start ≡ behind form octets old.start = ap (λ r. r.start) moved ∙ (omega arith) in
+      let same : e ≡ entry_at form octets old.start = shown ∙ here.1 in
+      let R : Option Form → Type 0 = λ f. Reached octets f (entries ++ e ∷ []) new.start in
+      let form_is : new.form ≡ Some form = ap (λ r. r.form) moved ∙ read in
+      record {
+        left = ap (λ r. r.pending) moved ∙ ap (drop (16 + captured form old.pending 0)) stands.left ∙ drop-drop (16 + captured form old.pending 0) old.start octets
+            ∙ ap (λ n. drop n octets) (sym (ap (λ r. r.start) moved));
+        inside = omega arith;
+        reached = subst R (sym form_is) (reached.0, rw (next, same) pushed);
+      }
+
+-- the octets from the first that was not taken, as a slice of the buffer
+pub rest_of_buffer : (buffer items : List ℕ) (taken : ℕ) → buffer ≡ items → take (length buffer - taken) (drop taken buffer) ≡ drop taken items
+rest_of_buffer buffer items taken same = take_rest buffer taken ∙ ap (drop taken) same
+
+-- a record's octets, as a slice of the buffer
+pub octets_of_record : (buffer items : List ℕ) (taken size : ℕ) → buffer ≡ items
+    → take (taken + 16 + size - (taken + 16)) (drop (taken + 16) buffer) ≡ take size (drop 16 (drop taken items))
+octets_of_record buffer items taken size same =
+    let count : taken + 16 + size - (taken + 16) ≡ size = omega arith in
+    let rest : drop (taken + 16) buffer ≡ drop 16 (drop taken items) = ap (drop (taken + 16)) same ∙ sym (drop-drop 16 taken items) in
+    rw (count, rest)
+
+-- the reader's value behind as many octets more of its buffer
+pub moved_by : (items : List ℕ) (taken start size behind_taken behind_start : ℕ) (form : Option Form) (old : Reading)
+    → ◌≡◌ {A = Reading} (record { form = form; start = start; pending = drop taken items }) old
+    → behind_taken ≡ taken + size → behind_start ≡ start + size
+    → ◌≡◌ {A = Reading} (record { form = form; start = behind_start; pending = drop behind_taken items })
+    (record { form = old.form; start = old.start + size; pending = drop size old.pending })
+moved_by items taken start size behind_taken behind_start form old view there place =
+    let form_is : form ≡ old.form = ap (λ r. r.form) view in
+    let start_is : behind_start ≡ old.start + size = place ∙ ap (λ r. r.start + size) view in
+    let pending_is : drop behind_taken items ≡ drop size old.pending =
+    ap (λ n. drop n items) there ∙ sym (drop-drop size taken items) ∙ ap (λ r. drop size r.pending) view in
+    cc
+
+-- the head was read
+pub Stands-head : (old : Reading) (form : Form) → old.form ≡ None → HasHead old.pending form → (octets : List ℕ) (entries : List Entry)
+    → Stands old octets entries → Stands (record { form = Some form; start = old.start + 24; pending = drop 24 old.pending }) octets entries
+Stands-head old form none head octets entries stands =
+    let front = front_pending old octets entries none stands in
+    let Q : List ℕ → Type 0 = λ p. HasHead p form in
+    let here : HasHead octets form = subst Q front.0 head in
+    let behind_head : old.start + 24 ≡ 24 = omega arith in
+    record {
+      left = ap (drop 24) front.0 ∙ ap (λ n. drop n octets) (sym behind_head);
+      inside = omega arith;
+      reached = (here, rw (front.2, behind_head) refl);
+    }
+
+-- as many octets less are left
+pub length_left : (new pending : List ℕ) (size : ℕ) → new ≡ drop size pending → size ≤ length pending → length new + size ≡ length pending
+length_left new pending size same fits = omega (arith, length-drop size pending, ap length same)
+
+-- the octets of a whole record, of which there are as many as it says
+pub length_of_record : (form : Form) (pending : List ℕ) → IsWhole form pending 0 → length (take (captured form pending 0) (drop 16 pending)) ≡ captured form pending 0
+length_of_record form pending whole = length-take-le (captured form pending 0) (drop 16 pending) (omega (arith, length-drop 16 pending))
+
+-- an entry by its parts
+pub entry_by : (time original : ℕ) (octets : List ℕ) (e : Entry) → time ≡ e.time → original ≡ e.original → octets ≡ e.octets
+    → ◌≡◌ {A = Entry} (record { time = time; original = original; octets = octets }) e
+entry_by time original octets e t o s =
+    let same : ◌≡◌ {A = Entry} (record { time = time; original = original; octets = octets }) (record { time = e.time; original = e.original; octets = e.octets }) = cc in
+    same

@@ -1,0 +1,67 @@
+-- What a reader stands for, and what its steps tell of the octets that it was fed.
+use Rattle.std.specs.Prelude.{◌≡◌, ℕ, ◌+◌, ◌≤◌, List, [], ◌∷◌, ◌++◌, length, drop, Option, Some, None}
+use Rattle.std.specs.Io.BufRead.{Rests}
+use Rattle.std.specs.Borrow.{Fml, MutBor}
+use Rattle.ioam_pcap.specs.declared.form.Link.{Link}
+use Rattle.ioam_pcap.specs.declared.form.Form.{Form}
+use Rattle.ioam_pcap.specs.declared.capture.CapFault.{CapFault}
+use Rattle.ioam_pcap.specs.declared.capture.Packet as packet
+use Rattle.ioam_pcap.specs.declared.capture.CapStep.{CapStep}
+use Rattle.ioam_pcap.specs.declared.capture.CapStep.TheVariants.{Head, Packet, More, Bad}
+use Rattle.ioam_pcap.specs.contracts.reader.CaptureReader.{the_row}
+use Rattle.ioam_pcap.specs.Entries.{Entry}
+use Rattle.ioam_pcap.specs.Reads.{Reached, EntryAt, FaultAt, CutAt, Ending, Whole, Faulty, Reads, link_by}
+use Rattle.ioam_pcap.specs.Reading.{Reading}
+
+-- a reader that was fed these octets in all, and has given these records
+pub record Stands (reader : Reading) (octets : List ℕ) (entries : List Entry) : Type 0 where
+  pub left : reader.pending ≡ drop reader.start octets
+  pub inside : reader.start ≤ length octets
+  pub reached : Reached octets reader.form entries reader.start
+
+-- a reader that was fed nothing
+abbrev pub fresh : Reading
+fresh = record { form = None; start = 0; pending = [] }
+
+-- how many octets it was fed in all
+abbrev pub fed : Reading → ℕ
+fed reader = reader.start + length reader.pending
+
+-- the layer that the packets begin at, once the head was read
+abbrev pub link_of : Reading → Option Link
+link_of reader = link_by reader.form
+
+-- what a packet shows of its record
+abbrev pub entry_of : packet.Packet → Entry
+entry_of p = record { time = p.time; original = p.original; octets = p.octets.now }
+
+-- what is due is not whole and has no fault: more octets have to be fed, or the capture ends
+abbrev pub Waits : Reading → Type 0
+Waits reader = CutAt reader.pending reader.form 0
+
+-- the octets that a step takes off
+abbrev pub Moved : Reading → Reading → CapStep → Type 0
+Moved old new (Head link) = (new.start ≡ old.start + 24) × (new.pending ≡ drop 24 old.pending) × (length new.pending + 24 ≡ length old.pending)
+Moved old new (Packet p) = (new.form ≡ old.form) × (new.start ≡ old.start + (16 + length p.octets.now))
+    × (new.pending ≡ drop (16 + length p.octets.now) old.pending)
+    × (length new.pending + (16 + length p.octets.now) ≡ length old.pending)
+Moved old new More = (new ≡ old) × Waits old
+Moved old new (Bad at fault) = (new ≡ old) × (at ≡ old.start)
+
+-- what a step tells of the octets fed so far, behind these records; a fault stays whatever is fed
+abbrev pub Told : List ℕ → List Entry → Reading → Reading → CapStep → Type 0
+Told octets entries old new (Head link) = (old.form ≡ None) × (link_of new ≡ Some link) × Stands new octets entries
+Told octets entries old new (Packet p) = EntryAt octets old.form old.start (entry_of p) × Stands new octets (entries ++ entry_of p ∷ [])
+Told octets entries old new More = CutAt octets old.form old.start
+Told octets entries old new (Bad at fault) = FaultAt octets old.form old.start fault
+    × ((more : List ℕ) → Reads (octets ++ more) (link_of old) entries (Faulty at fault))
+
+-- so the reader is once the step's octets are no longer lent
+abbrev pub RestsSo : MutBor Reading → CapStep → Fml
+RestsSo reader step = Rests the_row reader (λ new. Moved reader.now new step
+    × ((octets : List ℕ) (entries : List Entry) → Stands reader.now octets entries → Told octets entries reader.now new step))
+
+-- the ending of a capture that was fed whole, by what `finish` answers
+abbrev pub ending_of : Option (ℕ × CapFault) → Ending
+ending_of None = Whole
+ending_of (Some (at, fault)) = Faulty at fault

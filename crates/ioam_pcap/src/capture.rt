@@ -1,0 +1,41 @@
+use crate::form::Link;
+
+/// The most octets that a record of a capture may have.
+pub const RECORD_MOST: u32 = 262_144;
+
+/// A packet of a capture.
+#[derive(Clone, Copy, Debug)]
+pub struct Packet<'a> {
+    /// Nanoseconds: the record's seconds times 10^9 and its fraction, which is not bounded.
+    pub time: u64,
+    /// The octets that the packet had where it was captured.
+    pub original: u32,
+    /// The octets that were captured.
+    pub octets: &'a [u8],
+}
+
+/// Why a capture cannot be read on.
+#[derive(Clone, Copy, Debug, PartialEq, Eq)]
+pub enum CapFault {
+    /// The first four octets, read big-endian, are none of the four magic numbers.
+    Magic { found: u32 },
+    /// The link type is neither 1 nor 101 nor 229.
+    Link { found: u32 },
+    /// A record's captured length passes 262,144 octets.
+    RecordLong { found: u32 },
+    /// The capture ends inside its head or a record, of which it has so many octets.
+    Short { have: u32 },
+}
+
+/// What a reader shows next of its capture.
+#[derive(Clone, Copy, Debug)]
+pub enum CapStep<'a> {
+    /// The head was read: its packets begin at this layer.
+    Head { link: Link },
+    /// A record was read.
+    Packet(Packet<'a>),
+    /// More octets are needed, or the capture's end.
+    More,
+    /// At this place of the capture its head or a record is faulty.
+    Bad { at: u64, fault: CapFault },
+}

@@ -1,0 +1,51 @@
+ghost use Rattle.std.specs.Prelude.{◌≡◌, ◌+◌, ◌≤◌, length};
+ghost use Rattle.ioam_pcap.specs.Steps.{TellsEntry};
+
+use crate::capture::{CapFault, RECORD_MOST};
+use crate::form::{Form, Fraction};
+use crate::head::number_at;
+
+/// The head of a whole record.
+#[derive(Clone, Copy)]
+pub struct EntryHead {
+    pub time: u64,
+    pub original: u32,
+    pub captured: u32,
+}
+
+/// What the octets where a record is due show of it.
+#[derive(Clone, Copy)]
+pub enum EntryStep {
+    Whole(EntryHead),
+    Cut,
+    Bad(CapFault),
+}
+
+// What the octets that begin where a record is due show of it.
+pub fn entry_step(form: Form, octets: &[u8]) -> EntryStep
+    ensures { TellsEntry form octets.now result }
+{
+    if octets.len() < 16 {
+        return EntryStep::Cut;
+    }
+    let captured = number_at(form.order, octets, 8);
+    if captured > RECORD_MOST {
+        return EntryStep::Bad(CapFault::RecordLong { found: captured });
+    }
+    if octets.len() - 16 < captured as usize {
+        return EntryStep::Cut;
+    }
+    let seconds = u64::from(number_at(form.order, octets, 0));
+    let fraction = u64::from(number_at(form.order, octets, 4));
+    let nanoseconds = match form.fraction {
+        Fraction::Micro => fraction * 1000,
+        Fraction::Nano => fraction,
+    };
+    let time = seconds * 1_000_000_000 + nanoseconds;
+    let original = number_at(form.order, octets, 12);
+    EntryStep::Whole(EntryHead {
+        time,
+        original,
+        captured,
+    })
+}

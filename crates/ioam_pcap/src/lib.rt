@@ -1,0 +1,13 @@
+//! Classic capture files (pcap, version 2.4): their head and their records, read in any pieces and
+//! written, and the choice of the next packet among several captures.
+#![tactic(auto)]
+
+pub mod capture;
+mod entry;
+mod form;
+mod head;
+mod put;
+pub mod reader;
+
+pub use form::Link;
+pub use put::{put_head, put_record};

@@ -1,0 +1,56 @@
+ghost use Rattle.std.specs.Prelude.{◌≡◌, ◌≤◌, ◌++◌, length, is_ok, if◌then◌else◌};
+ghost use Rattle.ioam_pcap.specs.Entries.{most};
+ghost use Rattle.ioam_pcap.specs.Text.{head_octets, record_head, record_octets};
+
+use ioam_base::memory::NoMemory;
+use ioam_base::text::append;
+
+// Magic number, version 2.4, no zone, no accuracy, 262,144 octets at most, link type 101.
+const HEAD: [u8; 24] = [
+    0xa1, 0xb2, 0x3c, 0x4d, 0, 2, 0, 4, 0, 0, 0, 0, 0, 0, 0, 0, 0, 4, 0, 0, 0, 0, 0, 0x65,
+];
+
+const NANOSECONDS: u64 = 1_000_000_000;
+
+/// Appends the head of a capture: 24 octets, big-endian, nanoseconds, version 2.4, packets that
+/// begin with an IP header. Without memory `out` is as before.
+pub fn put_head(out: &mut Vec<u8>) -> Result<(), NoMemory>
+    ensures { out.new.items
+        ≡ (if is_ok result then out.old.items ++ head_octets else out.old.items) }
+{
+    append(out, &HEAD)
+}
+
+// The head of a record of so many octets.
+fn record_head(time: u64, size: u32) -> [u8; 16]
+    ensures { result ≡ record_head time size }
+{
+    let seconds = ((time / NANOSECONDS) % (1 << 32)) as u32;
+    let fraction = (time % NANOSECONDS) as u32;
+    let s = seconds.to_be_bytes();
+    let f = fraction.to_be_bytes();
+    let n = size.to_be_bytes();
+    [
+        s[0], s[1], s[2], s[3], f[0], f[1], f[2], f[3], n[0], n[1], n[2], n[3], n[0], n[1], n[2],
+        n[3],
+    ]
+}
+
+/// Appends a record: a head of 16 octets and the packet. The time is in nanoseconds; its seconds
+/// are written modulo 2^32. Both lengths are the packet's. Without memory `out` is as before.
+pub fn put_record(time: u64, packet: &[u8], out: &mut Vec<u8>) -> Result<(), NoMemory>
+    requires { length packet.now ≤ most }
+    ensures { out.new.items ≡ (if is_ok result
+        then out.old.items ++ record_octets time packet.now
+        else out.old.items) }
+{
+    let before = out.len();
+    append(out, &record_head(time, packet.len() as u32))?;
+    match append(out, packet) {
+        Ok(()) => Ok(()),
+        Err(no_memory) => {
+            out.truncate(before);
+            Err(no_memory)
+        }
+    }
+}
