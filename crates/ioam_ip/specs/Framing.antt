@@ -1,5 +1,5 @@
 -- The packet that a captured frame holds.
-use Rattle.std.specs.Prelude.{◌≡◌, ⊤, ℕ, ◌/◌, List, Bool, ◌==◌, ◌||◌, ◌&&◌, not, nat_lt, nat_le, if◌then◌else◌, length, slice_index, take, drop}
+use Rattle.std.specs.Prelude.{⊤, ℕ, ◌/◌, List, Bool, ◌==◌, ◌||◌, ◌&&◌, not, nat_lt, nat_le, if◌then◌else◌, length, slice_index, take, drop}
 use Rattle.ioam_base.specs.Octets.{u16_at}
 use Rattle.ioam_ip.specs.Packet.{whole_length}
 

@@ -1,3 +1,10 @@
+pub mod Chain
+pub mod ChainOptions
+pub mod Findings
 pub mod Framed
 pub mod Framing
+pub mod Options
 pub mod Packet
+pub mod Scan
+pub mod Steps
+pub mod Walks

@@ -1,5 +1,16 @@
 //! IPv6 packets, header chains and the options of their options headers (RFC 8200 sections 3 and 4).
 #![tactic(auto)]
 
-pub mod frame;
-pub mod header;
+mod chain;
+mod frame;
+mod packet;
+mod scan;
+mod steps;
+mod walked;
+mod walking;
+
+pub use chain::Head;
+pub use frame::{Framed, packet_of};
+pub use packet::{HEADER_OCTETS, Header};
+pub use walked::Walk;
+pub use walking::walk;
