@@ -50,7 +50,7 @@ pub(crate) fn look_through(head: &[u8]) -> Scan
 }
 
 // Where the option at a place ends, if it lies within the header.
-fn option_end(head: &[u8], at: usize) -> Option<usize>
+pub(crate) fn option_end(head: &[u8], at: usize) -> Option<usize>
     requires { at < length head.now }
     ensures { MatchOption result (length head.now < option_end head.now at)
         (λ next. (next ≡ option_end head.now at) × OptionFits head.now at) }

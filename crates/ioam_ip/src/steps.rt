@@ -4,6 +4,7 @@ ghost use Rattle.ioam_ip.specs.Chain.{kind_of, said_size};
 ghost use Rattle.ioam_ip.specs.Steps.{Steps};
 
 use crate::chain::{Kind, Spot, kind_of};
+use crate::extents::said_end;
 use crate::scan::{Found, Scan, look_through};
 use ioam_base::octets::u16_at;
 
@@ -37,22 +38,6 @@ pub(crate) fn step_at(packet: &[u8], spot: Spot) -> Step
         Kind::Nested => at_nested(packet, spot),
         Kind::Upper => Step::Ends,
     }
-}
-
-// Where a header that says its own length ends, if its octets are there.
-fn said_end(packet: &[u8], at: usize) -> Option<usize>
-    requires { at ≤ length packet.now }
-    ensures { MatchOption result (length packet.now < at + said_size packet.now at)
-        (λ end. (end ≡ at + said_size packet.now at) × (end ≤ length packet.now)) }
-{
-    if packet.len() - at < 2 {
-        return None;
-    }
-    let size = (packet[at + 1] as usize + 1) * 8;
-    if packet.len() - at < size {
-        return None;
-    }
-    Some(at + size)
 }
 
 fn at_hop_by_hop(packet: &[u8], spot: Spot) -> Step
