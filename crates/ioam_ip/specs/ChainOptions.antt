@@ -1,0 +1,58 @@
+-- The options on the chain of a packet, and what they say of it.
+use Rattle.std.specs.Prelude.{◌≡◌, ℕ, List, [], ◌∷◌, ◌++◌, Bool, IsTrue, Option, ◌==◌, ◌||◌, if◌then◌else◌, slice_range}
+use Rattle.std.specs.Bool.{MatchBool}
+use Rattle.ioam_ip.specs.Chain.{Chain}
+use Rattle.ioam_ip.specs.Findings.{has_ioam, first_limit}
+use Rattle.ioam_ip.specs.Options.{Item, AreOptions}
+use Rattle.ioam_ip.specs.declared.chain.Head.{Head}
+
+-- the octets of a header on the chain
+abbrev pub octets_of : List ℕ → Head → List ℕ
+octets_of p head = slice_range p head.range.start head.range.end
+
+-- Hop-by-Hop Options and Destination Options
+abbrev pub is_options_head : Head → Bool
+is_options_head head = (head.value == 0) || (head.value == 60)
+
+-- the options of one header; another kind of header has none
+abbrev pub HeadOptions : List ℕ → Head → List Item → Type 0
+HeadOptions p head os = MatchBool (is_options_head head) (AreOptions (octets_of p head) os) (os ≡ [])
+
+-- the options of these headers, joined in order
+abbrev pub OptionsOf : List ℕ → List Head → List Item → Type 0
+OptionsOf p [] os = os ≡ []
+OptionsOf p (head ∷ hs) os = (first : List Item) × (others : List Item)
+    × HeadOptions p head first × OptionsOf p hs others × (os ≡ first ++ others)
+
+-- some options header on the chain, nested ones included, has an IOAM option
+pub record CarriesIoam (p : List ℕ) : Type 0 where
+  pub heads : List Head
+  pub upper : ℕ
+  pub at : ℕ
+  pub options : List Item
+  pub chain : Chain p heads upper at
+  pub are_options : OptionsOf p heads options
+  pub ioam : IsTrue (has_ioam options)
+
+abbrev pub is_nested : Head → Bool
+is_nested head = head.value == 41
+
+abbrev pub is_destination : Head → Bool
+is_destination head = head.value == 60
+
+-- the Destination Options headers in front of any nested IPv6 header
+abbrev pub outer_targets : List Head → List Head
+outer_targets [] = []
+outer_targets (head ∷ hs) =
+    if is_nested head then []
+    else (if is_destination head then head ∷ outer_targets hs else outer_targets hs)
+
+-- the data octet of the first Tunnel Encapsulation Limit in such a header, or none
+pub record LimitOf (p : List ℕ) (limit : Option ℕ) : Type 0 where
+  pub heads : List Head
+  pub upper : ℕ
+  pub at : ℕ
+  pub options : List Item
+  pub chain : Chain p heads upper at
+  pub are_options : OptionsOf p (outer_targets heads) options
+  pub first : limit ≡ first_limit options

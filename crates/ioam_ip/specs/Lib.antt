@@ -1,0 +1,12 @@
+pub mod Chain
+pub mod ChainOptions
+pub mod Findings
+pub mod Framed
+pub mod Framing
+pub mod HeadsLeft
+pub mod Options
+pub mod OptionsLeft
+pub mod Packet
+pub mod Scan
+pub mod Steps
+pub mod Walks

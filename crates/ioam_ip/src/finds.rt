@@ -1,0 +1,59 @@
+//! The headers on the chain of a sound packet (RFC 8200 section 4).
+ghost use Rattle.ioam_ip.specs.Packet.{IsPacket};
+ghost use Rattle.ioam_ip.specs.Chain.{IsSound};
+ghost use Rattle.ioam_ip.specs.HeadsLeft.{AreHeads, heads_left, HopHeaderOf, TargetHeaderOf};
+
+use crate::chain::Spot;
+use crate::headers::Heads;
+use crate::packet::HEADER_OCTETS;
+use std::ops::Range;
+
+/// The headers on the chain of a packet whose walk is whole, in order, nested ones included,
+/// without the one with which the chain ends.
+pub fn heads(packet: &[u8]) -> Heads<'_>
+    requires packet { IsPacket packet.now }
+    requires sound { IsSound packet.now }
+    ensures { AreHeads packet.now (heads_left result) }
+{
+    let spot = Spot {
+        value: packet[6],
+        at: HEADER_OCTETS,
+        behind_ip: true,
+    };
+    Heads { packet, spot }
+}
+
+/// Where the Hop-by-Hop Options header directly behind the outer IPv6 header stands, for a packet
+/// whose walk is whole. None where there is none.
+pub fn hop_header(packet: &[u8]) -> Option<Range<usize>>
+    requires packet { IsPacket packet.now }
+    requires sound { IsSound packet.now }
+    ensures { HopHeaderOf packet.now result }
+{
+    let mut along = heads(packet);
+    let Some(first) = along.next() else {
+        return None;
+    };
+    if first.value != 0 {
+        return None;
+    }
+    Some(first.range)
+}
+
+/// Where the first Destination Options header in front of any nested IPv6 header stands, for a
+/// packet whose walk is whole. None where there is none.
+pub fn target_header(packet: &[u8]) -> Option<Range<usize>>
+    requires packet { IsPacket packet.now }
+    requires sound { IsSound packet.now }
+    ensures { TargetHeaderOf packet.now result }
+{
+    for head in heads(packet) {
+        if head.value == 41 {
+            return None;
+        }
+        if head.value == 60 {
+            return Some(head.range);
+        }
+    }
+    None
+}

@@ -1,0 +1,25 @@
+//! IPv6 packets, header chains and the options of their options headers (RFC 8200 sections 3 and 4).
+#![tactic(auto)]
+
+mod chain;
+mod checks;
+mod extents;
+mod finds;
+mod frame;
+mod headers;
+mod items;
+mod packet;
+mod scan;
+mod steps;
+mod walked;
+mod walking;
+
+pub use chain::Head;
+pub use checks::{check_options, options};
+pub use finds::{heads, hop_header, target_header};
+pub use frame::{Framed, packet_of};
+pub use headers::Heads;
+pub use items::{Opt, Options};
+pub use packet::{HEADER_OCTETS, Header};
+pub use walked::Walk;
+pub use walking::walk;

@@ -1,0 +1,142 @@
+//! One step along the chain of a packet (RFC 8200 section 4).
+ghost use Rattle.std.specs.Prelude.{◌≡◌, ◌+◌, ◌<◌, ◌≤◌, length, slice_index, false, MatchOption};
+ghost use Rattle.ioam_ip.specs.Chain.{kind_of, said_size};
+ghost use Rattle.ioam_ip.specs.Steps.{Steps};
+
+use crate::chain::{Kind, Spot, kind_of};
+use crate::extents::said_end;
+use crate::scan::{Found, Scan, look_through};
+use ioam_base::octets::u16_at;
+
+/// What stands at a spot.
+#[derive(Clone, Copy)]
+pub(crate) enum Step {
+    /// A whole header that may stand there: the spot behind it, and what its options have.
+    On { next: Spot, found: Found },
+    /// The end of the chain.
+    Ends,
+    /// A header that breaks the chain.
+    Breaks,
+}
+
+// What a header without options has.
+const NOTHING: Found = Found {
+    ioam: false,
+    limit: None,
+};
+
+/// Looks at the header at a spot.
+pub(crate) fn step_at(packet: &[u8], spot: Spot) -> Step
+    requires { spot.at ≤ length packet.now }
+    ensures { Steps packet.now spot result }
+{
+    match kind_of(spot.value) {
+        Kind::HopByHop => at_hop_by_hop(packet, spot),
+        Kind::Destination => at_destination(packet, spot),
+        Kind::Routing => at_routing(packet, spot),
+        Kind::Fragment => at_fragment(packet, spot),
+        Kind::Nested => at_nested(packet, spot),
+        Kind::Upper => Step::Ends,
+    }
+}
+
+fn at_hop_by_hop(packet: &[u8], spot: Spot) -> Step
+    requires kind { kind_of spot.value ≡ Kind.HopByHop }
+    requires within { spot.at ≤ length packet.now }
+    ensures { Steps packet.now spot result }
+{
+    if !spot.behind_ip {
+        return Step::Breaks;
+    }
+    let Some(end) = said_end(packet, spot.at) else {
+        return Step::Breaks;
+    };
+    match look_through(&packet[spot.at..end]) {
+        Scan::Fills(found) => Step::On {
+            next: behind(packet, spot.at, end),
+            found,
+        },
+        Scan::Unfit(_) => Step::Breaks,
+    }
+}
+
+fn at_destination(packet: &[u8], spot: Spot) -> Step
+    requires kind { kind_of spot.value ≡ Kind.Destination }
+    requires within { spot.at ≤ length packet.now }
+    ensures { Steps packet.now spot result }
+{
+    let Some(end) = said_end(packet, spot.at) else {
+        return Step::Breaks;
+    };
+    match look_through(&packet[spot.at..end]) {
+        Scan::Fills(found) => Step::On {
+            next: behind(packet, spot.at, end),
+            found,
+        },
+        Scan::Unfit(_) => Step::Breaks,
+    }
+}
+
+fn at_routing(packet: &[u8], spot: Spot) -> Step
+    requires kind { kind_of spot.value ≡ Kind.Routing }
+    requires within { spot.at ≤ length packet.now }
+    ensures { Steps packet.now spot result }
+{
+    match said_end(packet, spot.at) {
+        Some(end) => Step::On {
+            next: behind(packet, spot.at, end),
+            found: NOTHING,
+        },
+        None => Step::Breaks,
+    }
+}
+
+fn at_fragment(packet: &[u8], spot: Spot) -> Step
+    requires kind { kind_of spot.value ≡ Kind.Fragment }
+    requires within { spot.at ≤ length packet.now }
+    ensures { Steps packet.now spot result }
+{
+    if packet.len() - spot.at < 8 {
+        return Step::Breaks;
+    }
+    if u16_at(packet, spot.at + 2) / 8 != 0 {
+        return Step::Ends;
+    }
+    Step::On {
+        next: behind(packet, spot.at, spot.at + 8),
+        found: NOTHING,
+    }
+}
+
+fn at_nested(packet: &[u8], spot: Spot) -> Step
+    requires kind { kind_of spot.value ≡ Kind.Nested }
+    requires within { spot.at ≤ length packet.now }
+    ensures { Steps packet.now spot result }
+{
+    if packet.len() - spot.at < 40 || packet[spot.at] / 16 != 6 {
+        return Step::Breaks;
+    }
+    let next = Spot {
+        value: packet[spot.at + 6],
+        at: spot.at + 40,
+        behind_ip: true,
+    };
+    Step::On {
+        next,
+        found: NOTHING,
+    }
+}
+
+// The spot behind an extension header, whose first octet is the next header value.
+fn behind(packet: &[u8], at: usize, end: usize) -> Spot
+    requires { at < length packet.now }
+    ensures value { result.value ≡ slice_index packet.now at }
+    ensures at { result.at ≡ end }
+    ensures behind_ip { result.behind_ip ≡ false }
+{
+    Spot {
+        value: packet[at],
+        at: end,
+        behind_ip: false,
+    }
+}
