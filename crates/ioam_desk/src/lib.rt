@@ -1,0 +1,13 @@
+//! The outside: files that are read to their end and files that are written, as a trait, with a
+//! desk in memory, one that never fails, and the one over real files.
+#![tactic(auto)]
+
+mod desk;
+mod fault;
+mod name;
+
+
+pub use desk::Desk;
+pub use fault::{DeskFault, WholeFault, WriteAll};
+pub use name::Name;
+
