@@ -1,1 +1,3 @@
 pub mod Desk
+pub mod Store
+pub mod Unread

@@ -5,9 +5,9 @@
 mod desk;
 mod fault;
 mod name;
-
+mod room;
+mod store;
 
 pub use desk::Desk;
 pub use fault::{DeskFault, WholeFault, WriteAll};
 pub use name::Name;
-
