@@ -1,5 +1,5 @@
 -- What a desk in memory keeps, as the desk's words see it.
-use Rattle.std.specs.Prelude.{◌≡◌, ◌≢◌, ℕ, List, [], ◌++◌, ◌==◌, ◌+◌, ◌-◌, ◌^◌, Bool, false, length, take, min, Option, Some, String, option_map, slice_index_or, slice_set}
+use Rattle.std.specs.Prelude.{◌≡◌, ◌≢◌, ℕ, List, [], ◌++◌, ◌==◌, ◌+◌, ◌-◌, ◌^◌, Bool, false, length, take, min, Option, Some, None, String, option_map, slice_index_or, slice_set}
 use Rattle.std.specs.HashMap.{HashMap, get_by_text}
 use Rattle.ioam_desk.specs.Unread.{Unread}
 use Rattle.ioam_desk.specs.Desk.{Side, Reading, Writing, Held}
@@ -51,3 +51,10 @@ writing_from faults asked slots files = record {
 pub record Ties (old new : List ℕ → Option Held) (name : List ℕ) (to : Held) : Type 0 where
   pub named : new name ≡ Some to
   pub others : (other : List ℕ) → other ≢ name → new other ≡ old other
+
+-- a desk on which nothing was opened and no name holds anything
+abbrev pub no_reading : Reading
+no_reading = reading_from 0 [] []
+
+abbrev pub no_writing : Writing
+no_writing = writing_from 0 [] [] (λ _. None)

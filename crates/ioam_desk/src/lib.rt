@@ -2,12 +2,15 @@
 //! desk in memory, one that never fails, and the one over real files.
 #![tactic(auto)]
 
+mod calls;
 mod desk;
 mod fault;
+mod memory_desk;
 mod name;
 mod room;
 mod store;
 
 pub use desk::Desk;
 pub use fault::{DeskFault, WholeFault, WriteAll};
+pub use memory_desk::MemoryDesk;
 pub use name::Name;
