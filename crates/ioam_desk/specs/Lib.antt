@@ -1,5 +1,7 @@
 pub mod Desk
 pub mod Files
+pub mod HostDesk
+pub mod HostSide
 pub mod MemoryDesk
 pub mod Plan
 pub mod Store

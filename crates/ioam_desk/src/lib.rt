@@ -5,6 +5,8 @@
 mod calls;
 mod desk;
 mod fault;
+mod host_desk;
+mod host_side;
 mod memory_desk;
 mod name;
 mod room;
@@ -12,5 +14,6 @@ mod store;
 
 pub use desk::Desk;
 pub use fault::{DeskFault, WholeFault, WriteAll};
+pub use host_desk::HostDesk;
 pub use memory_desk::MemoryDesk;
 pub use name::Name;
