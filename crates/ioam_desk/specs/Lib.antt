@@ -5,4 +5,5 @@ pub mod HostSide
 pub mod MemoryDesk
 pub mod Plan
 pub mod Store
+pub mod SureDesk
 pub mod Unread

@@ -11,9 +11,11 @@ mod memory_desk;
 mod name;
 mod room;
 mod store;
+mod sure_desk;
 
 pub use desk::Desk;
 pub use fault::{DeskFault, WholeFault, WriteAll};
 pub use host_desk::HostDesk;
 pub use memory_desk::MemoryDesk;
 pub use name::Name;
+pub use sure_desk::SureDesk;
