@@ -1,1 +1,2 @@
 pub mod DeskLaws
+pub mod MovesLaws

@@ -1,2 +1,10 @@
 pub mod Desk
 pub mod Whole
+pub mod Files
+pub mod HostDesk
+pub mod HostSide
+pub mod MemoryDesk
+pub mod Plan
+pub mod Store
+pub mod SureDesk
+pub mod Unread

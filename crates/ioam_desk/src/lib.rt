@@ -2,12 +2,22 @@
 //! desk in memory, one that never fails, and the one over real files.
 #![tactic(auto)]
 
+mod calls;
 mod desk;
 mod fault;
+mod host_desk;
+mod host_side;
+mod memory_desk;
 mod name;
+mod room;
+mod store;
+mod sure_desk;
 mod whole;
 
 pub use desk::Desk;
 pub use fault::{DeskFault, WholeFault, WriteAll};
+pub use host_desk::HostDesk;
+pub use memory_desk::MemoryDesk;
 pub use name::Name;
+pub use sure_desk::SureDesk;
 pub use whole::{PIECE, read_whole, write_all};
