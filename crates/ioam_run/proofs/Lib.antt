@@ -1,0 +1,5 @@
+pub mod TextsLaws
+pub mod FramingLaws
+pub mod FilteringLaws
+pub mod FollowedLaws
+pub mod FilterLaws

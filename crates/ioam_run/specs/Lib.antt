@@ -1,0 +1,9 @@
+pub mod Verdict
+pub mod Judgement
+pub mod FilterText
+pub mod Filtering
+pub mod Names
+pub mod Texts
+pub mod Filter
+pub mod Followed
+pub mod Answered

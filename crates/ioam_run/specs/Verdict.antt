@@ -1,0 +1,56 @@
+-- What becomes of a captured frame at the boundary of a domain: the first reason why it is dropped,
+-- or its packet.
+use Rattle.std.specs.Prelude.{◌≡◌, ℕ, List, [], ◌∷◌, Bool, true, false, nat_lt, length, codes, Option, Some, None}
+use Rattle.ioam_ip.specs.Framing.{Framing, Holds, NoIpv6, CutShort, TooShort, framing_of}
+use Rattle.ioam_ip.specs.Chain.{IsSound}
+use Rattle.ioam_ip.specs.ChainOptions.{CarriesIoam}
+use Rattle.ioam_pcap.specs.Entries.{Entry}
+use Rattle.ioam_pcap.specs.declared.form.Link.{Link}
+use Rattle.ioam_pcap.specs.declared.form.Link.TheVariants.{Ethernet, Raw}
+use Rattle.ioam_run.specs.declared.reason.Reason.{Reason}
+use Rattle.ioam_run.specs.declared.reason.Reason.TheVariants as reason
+
+pub data Verdict : Type 0 where
+  Keeps : (packet : List ℕ) → Verdict
+  Drops : Reason → Verdict
+
+-- the packet is kept where its chain is whole and no options header on it has an IOAM option
+abbrev pub PacketVerdict : List ℕ → Verdict → Type 0
+PacketVerdict packet (Keeps kept) = (kept ≡ packet) × IsSound packet × (CarriesIoam packet → ⊥)
+PacketVerdict packet (Drops reason.NotIpv6) = ⊥
+PacketVerdict packet (Drops reason.Cut) = ⊥
+PacketVerdict packet (Drops reason.Length) = ⊥
+PacketVerdict packet (Drops reason.Chain) = IsSound packet → ⊥
+PacketVerdict packet (Drops reason.IoamIn) = IsSound packet × CarriesIoam packet
+
+abbrev pub FramingVerdict : Framing → Verdict → Type 0
+FramingVerdict (Holds packet) verdict = PacketVerdict packet verdict
+FramingVerdict NoIpv6 verdict = verdict ≡ Drops reason.NotIpv6
+FramingVerdict CutShort verdict = verdict ≡ Drops reason.Cut
+FramingVerdict TooShort verdict = verdict ≡ Drops reason.Length
+
+-- the frames begin with an Ethernet header
+abbrev pub is_ethernet : Option Link → Bool
+is_ethernet None = false
+is_ethernet (Some Ethernet) = true
+is_ethernet (Some Raw) = false
+
+-- what becomes of one record of a capture
+abbrev pub HasVerdict : Bool → Entry → Verdict → Type 0
+HasVerdict ethernet entry verdict =
+    FramingVerdict (framing_of ethernet (nat_lt (length entry.octets) entry.original) entry.octets) verdict
+
+-- what becomes of each
+abbrev pub AreVerdicts : Bool → List Entry → List Verdict → Type 0
+AreVerdicts ethernet [] [] = Unit {0}
+AreVerdicts ethernet [] (v ∷ vs) = ⊥
+AreVerdicts ethernet (e ∷ es) [] = ⊥
+AreVerdicts ethernet (e ∷ es) (v ∷ vs) = HasVerdict ethernet e v × AreVerdicts ethernet es vs
+
+-- the words of the reports
+abbrev pub reason_text : Reason → List ℕ
+reason_text reason.NotIpv6 = codes "not-ipv6"
+reason_text reason.Cut = codes "cut"
+reason_text reason.Length = codes "length"
+reason_text reason.Chain = codes "chain"
+reason_text reason.IoamIn = codes "ioam-in"

@@ -1,0 +1,45 @@
+//! What becomes of a captured frame at the boundary of a domain.
+ghost use Rattle.std.specs.Prelude.{◌≡◌, ◌≤◌, length};
+ghost use Rattle.ioam_ip.specs.Packet.{IsPacket};
+ghost use Rattle.ioam_pcap.specs.Reader.{entry_of};
+ghost use Rattle.ioam_run.specs.Verdict.{HasVerdict, PacketVerdict};
+ghost use Rattle.ioam_run.specs.Judgement.{verdict_of, IsWithin};
+
+use crate::reason::Reason;
+use ioam_ip::{Framed, Walk, packet_of, walk};
+use ioam_pcap::capture::Packet;
+
+/// A frame's packet that is kept, or the first reason why the frame is dropped.
+#[derive(Clone, Copy, Debug, PartialEq, Eq)]
+pub enum Judgement<'a> {
+    /// The packet, without what follows it in the frame.
+    Kept(&'a [u8]),
+    Dropped(Reason),
+}
+
+/// What becomes of a record of a capture; `ethernet` says that its frames begin with an Ethernet header.
+pub fn judge<'a>(ethernet: bool, packet: &Packet<'a>) -> Judgement<'a>
+    ensures verdict { HasVerdict ethernet (entry_of packet.now) (verdict_of result) }
+    ensures within { IsWithin (verdict_of result) packet.now.octets.now }
+{
+    let cut = (packet.octets.len() as u64) < u64::from(packet.original);
+    match packet_of(ethernet, cut, packet.octets) {
+        Framed::Packet(octets) => judge_packet(octets),
+        Framed::NotIpv6 => Judgement::Dropped(Reason::NotIpv6),
+        Framed::Cut => Judgement::Dropped(Reason::Cut),
+        Framed::Length => Judgement::Dropped(Reason::Length),
+    }
+}
+
+// What becomes of a packet: it is kept where its chain is whole and has no IOAM option.
+fn judge_packet(octets: &[u8]) -> Judgement<'_>
+    requires { IsPacket octets.now }
+    ensures verdict { PacketVerdict octets.now (verdict_of result) }
+    ensures within { IsWithin (verdict_of result) octets.now }
+{
+    match walk(octets) {
+        Walk::Whole { ioam: false, .. } => Judgement::Kept(octets),
+        Walk::Whole { ioam: true, .. } => Judgement::Dropped(Reason::IoamIn),
+        Walk::Bad { .. } => Judgement::Dropped(Reason::Chain),
+    }
+}
