@@ -13,3 +13,6 @@ pub mod reader;
 pub use form::Link;
 pub use merge::pick;
 pub use put::{put_head, put_record};
+
+#[cfg(test)]
+mod tests;

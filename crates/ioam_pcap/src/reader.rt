@@ -71,6 +71,13 @@ impl CaptureReader {
         })
     }
 
+    /// How many octets were fed in all.
+    pub fn fed(&self) -> u64
+        ensures { result ≡ fed self.now }
+    {
+        self.start + (self.buffer.len() - self.taken) as u64
+    }
+
     /// Feeds the next octets of the capture, of which there are below 2^63 in all.
     pub fn feed(&mut self, piece: &[u8]) -> Result<(), NoMemory>
         requires { fed self.old + length piece.now < 2 ^ 63 }
