@@ -157,3 +157,18 @@ pub entry_by : (time original : ℕ) (octets : List ℕ) (e : Entry) → time �
 entry_by time original octets e t o s =
     let same : ◌≡◌ {A = Entry} (record { time = time; original = original; octets = octets }) (record { time = e.time; original = e.original; octets = e.octets }) = cc in
     same
+
+-- what a step that takes nothing off tells
+module _ (old new : Reading) (same : new ≡ old) (octets : List ℕ) (entries : List Entry) (stands : Stands old octets entries) where
+  stands_still : Stands new octets entries
+  stands_still = let S : Reading → Type 0 = λ r. Stands r octets entries in subst S (sym same) stands
+
+  pub cut_told : Waits old → CutAt octets old.form old.start × Stands new octets entries
+  cut_told waits = (CutAt-waits old octets entries stands waits, stands_still)
+
+  pub fault_told : (place : ℕ) (f : CapFault) → place ≡ old.start → FaultAt old.pending old.form 0 f
+      → FaultAt octets old.form old.start f × (Stands new octets entries × ((more : List ℕ) → Reads (octets ++ more) (link_of old) entries (Faulty place f)))
+  fault_told place f here bad =
+      let there = FaultAt-pending old octets entries stands f bad in
+      let P : ℕ → Type 0 = λ n. (more : List ℕ) → Reads (octets ++ more) (link_of old) entries (Faulty n f) in
+      (there, (stands_still, subst P (sym here) (Reads-faulty old octets entries f stands there)))
