@@ -11,7 +11,7 @@ use Rattle.ioam_pcap.specs.declared.capture.CapFault.{CapFault}
 use Rattle.ioam_pcap.specs.declared.capture.CapFault.TheVariants as fault
 use Rattle.ioam_pcap.specs.Form.{number_at, IsLinkType, HasHead}
 use Rattle.ioam_pcap.specs.Entries.{Entry, most, captured, IsWhole, entry_at, behind, Entries}
-use Rattle.ioam_pcap.specs.Reads.{HeadFault, EntryFault, Reached, FaultAt}
+use Rattle.ioam_pcap.specs.Reads.{HeadFault, EntryFault, Reached, FaultAt, Shown, HeadShown, EntryShown, CutShown, FaultShown, Shows}
 
 module _ (octets more : List ℕ) where
   number_at-append : (order : Order) (at : ℕ) → at + 4 ≤ length octets → number_at order (octets ++ more) at ≡ number_at order octets at
@@ -79,3 +79,11 @@ module _ (octets more : List ℕ) where
   pub FaultAt-behind : (form : Option Form) (at : ℕ) (f : CapFault) → FaultAt octets form at f → FaultAt (octets ++ more) form at f
   FaultAt-behind None at f bad = HeadFault-behind f bad
   FaultAt-behind (Some form) at f bad = EntryFault-behind form at f bad
+
+  -- what stands at a place stays, but for what is cut
+  pub Shows-behind : (form : Option Form) (at : ℕ) (shown : Shown) → (shown ≡ CutShown → ⊥) → Shows octets form at shown → Shows (octets ++ more) form at shown
+  Shows-behind form at (HeadShown link) whole shows = (shows.0, (shows.1.0, HasHead-behind shows.1.0 shows.1.1, shows.1.2))
+  Shows-behind None at (EntryShown e) whole shows = absurd shows
+  Shows-behind (Some form) at (EntryShown e) whole shows = (IsWhole-behind form at shows.0, shows.1 ∙ sym (entry_at-behind form at shows.0))
+  Shows-behind form at CutShown whole shows = absurd (whole refl)
+  Shows-behind form at (FaultShown f) whole shows = FaultAt-behind form at f shows

@@ -68,27 +68,32 @@ Reads-faulty reader octets entries f stands bad more = record {
   linked = refl;
 }
 
--- a whole record was taken
-module _ (old new : Reading) (form : Form) (read : old.form ≡ Some form) (whole : IsWhole form old.pending 0) (moved : new ≡ record { form = old.form; start = old.start + (16 + captured form old.pending 0); pending = drop (16 + captured form old.pending 0) old.pending }) where
-  entry_here : (octets : List ℕ) (entries : List Entry) → Stands old octets entries
-      → IsWhole form octets old.start × (entry_at form old.pending 0 ≡ entry_at form octets old.start) × (captured form old.pending 0 ≡ captured form octets old.start)
-  entry_here octets entries stands =
+-- what a whole record at the front of the pending octets is there
+module _ (old : Reading) (form : Form) (read : old.form ≡ Some form) (whole : IsWhole form old.pending 0) (octets : List ℕ) (entries : List Entry) (stands : Stands old octets entries) where
+  entry_here : IsWhole form octets old.start × (entry_at form old.pending 0 ≡ entry_at form octets old.start) × (captured form old.pending 0 ≡ captured form octets old.start)
+  entry_here =
       let Q : List ℕ → Type 0 = λ p. IsWhole form p 0 in (
         IsWhole-drop form octets old.start stands.inside (subst Q stands.left whole),
         ap (λ p. entry_at form p 0) stands.left ∙ entry_at-drop form octets old.start stands.inside,
         ap (λ p. captured form p 0) stands.left ∙ captured-drop form octets old.start stands.inside,
       )
 
-  pub EntryAt-step : (e : Entry) → e ≡ entry_at form old.pending 0 → (octets : List ℕ) (entries : List Entry) → Stands old octets entries
-      → EntryAt octets old.form old.start e
-  EntryAt-step e shown octets entries stands = let here = entry_here octets entries stands in
-      let Q : Option Form → Type 0 = λ f. EntryAt octets f old.start e in
-      subst Q (sym read) (here.0, shown ∙ here.1)
+  pub EntryAt-pending : EntryAt octets old.form old.start (entry_at form old.pending 0)
+  EntryAt-pending =
+      let Q : Option Form → Type 0 = λ f. EntryAt octets f old.start (entry_at form old.pending 0) in
+      subst Q (sym read) (entry_here.0, entry_here.1)
+
+-- a whole record was taken
+module _ (old new : Reading) (form : Form) (read : old.form ≡ Some form) (whole : IsWhole form old.pending 0) (moved : new ≡ record { form = old.form; start = old.start + (16 + captured form old.pending 0); pending = drop (16 + captured form old.pending 0) old.pending }) where
+  pub EntryAt-step : (e : Entry) → e ≡ entry_at form old.pending 0 → (octets : List ℕ) (entries : List Entry) → Stands old octets entries → EntryAt octets old.form old.start e
+  EntryAt-step e shown octets entries stands =
+      let Q : Entry → Type 0 = λ d. EntryAt octets old.form old.start d in
+      subst Q (sym shown) (EntryAt-pending old form read whole octets entries stands)
 
   pub Stands-step : (e : Entry) → e ≡ entry_at form old.pending 0 → (octets : List ℕ) (entries : List Entry) → Stands old octets entries
       → Stands new octets (entries ++ e ∷ [])
   Stands-step e shown octets entries stands =
-      let here = entry_here octets entries stands in
+      let here = entry_here old form read whole octets entries stands in
       let Q : Option Form → Type 0 = λ f. Reached octets f entries old.start in
       let reached = subst Q read stands.reached in
       let pushed = Leads-push (IsWhole form octets) (entry_at form octets) (behind form octets) 24 entries old.start reached.1 here.0 in

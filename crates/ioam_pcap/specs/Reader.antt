@@ -8,6 +8,8 @@ use Rattle.ioam_pcap.specs.declared.capture.CapFault.{CapFault}
 use Rattle.ioam_pcap.specs.declared.capture.Packet as packet
 use Rattle.ioam_pcap.specs.declared.capture.CapStep.{CapStep}
 use Rattle.ioam_pcap.specs.declared.capture.CapStep.TheVariants.{Head, Packet, More, Bad}
+use Rattle.ioam_pcap.specs.declared.capture.CapLook.{CapLook}
+use Rattle.ioam_pcap.specs.declared.capture.CapLook.TheVariants as look
 use Rattle.ioam_pcap.specs.contracts.reader.CaptureReader.{the_row}
 use Rattle.ioam_pcap.specs.Entries.{Entry}
 use Rattle.ioam_pcap.specs.Reads.{Reached, CutAt, Shown, HeadShown, EntryShown, CutShown, FaultShown, Shows, Ending, Whole, Faulty, Reads, link_by}
@@ -66,6 +68,14 @@ Leaves octets entries old new (Bad at fault) = Stands new octets entries
 -- what a step tells of the octets fed so far, behind these records
 abbrev pub Told : List ℕ → List Entry → Reading → Reading → CapStep → Type 0
 Told octets entries old new step = Shows octets old.form old.start (shown_by step) × Leaves octets entries old new step
+
+-- what a look tells of the octets fed so far: what a step would show, of a record its time and size
+abbrev pub Looks : List ℕ → Reading → CapLook → Type 0
+Looks octets reader (look.Head link) = Shows octets reader.form reader.start (HeadShown link)
+Looks octets reader (look.Packet time size) = (entry : Entry) × Shows octets reader.form reader.start (EntryShown entry)
+    × (time ≡ entry.time) × (size ≡ length entry.octets)
+Looks octets reader look.More = Shows octets reader.form reader.start CutShown
+Looks octets reader (look.Bad at fault) = (at ≡ reader.start) × Shows octets reader.form reader.start (FaultShown fault)
 
 -- so the reader is once the step's octets are no longer lent
 abbrev pub RestsSo : MutBor Reading → CapStep → Fml
