@@ -47,3 +47,7 @@ entry_sent s = record { time = s.time % 4294967296000000000; original = length s
 -- it may be written
 abbrev pub IsSendable : Sent → Type 0
 IsSendable s = length s.octets ≤ most
+
+-- one packet more is written
+abbrev pub with_sent : List Sent → ℕ → List ℕ → List Sent
+with_sent sent time octets = sent ++ record { time = time; octets = octets } ∷ []
