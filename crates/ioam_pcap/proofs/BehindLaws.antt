@@ -1,8 +1,7 @@
 -- Octets behind those of a capture change nothing of what these show.
-use Rattle.std.proofs.Common.{◌≡◌, ℕ, ◌+◌, ◌-◌, ◌*◌, ◌<◌, ◌≤◌, ◌⊎◌, List, [], ◌∷◌, ◌++◌, length, take, drop, get_or, Option, Some, None, arith, refl, sym, ap, ◌∙◌, subst, inl, inr, length-drop, length-append}
+use Rattle.std.proofs.Common.{◌≡◌, ℕ, ◌+◌, ◌≤◌, List, [], ◌∷◌, ◌++◌, length, take, drop, Option, Some, None, arith, refl, sym, ◌∙◌, subst, length-drop, length-append}
 use Rattle.std.proofs.lemmas.Grind.{common_steps}
 use Rattle.std.proofs.lemmas.List.{drop-append-le, take-append-le}
-use Rattle.ioam_base.specs.Octets.{u32_at}
 use Rattle.ioam_base.proofs.OctetsLaws.{u32_at-append}
 use Rattle.ioam_pcap.specs.declared.form.Order.{Order}
 use Rattle.ioam_pcap.specs.declared.form.Order.TheVariants.{Big, Little}
@@ -10,7 +9,7 @@ use Rattle.ioam_pcap.specs.declared.form.Form.{Form}
 use Rattle.ioam_pcap.specs.declared.capture.CapFault.{CapFault}
 use Rattle.ioam_pcap.specs.declared.capture.CapFault.TheVariants as fault
 use Rattle.ioam_pcap.specs.Form.{number_at, IsLinkType, HasHead}
-use Rattle.ioam_pcap.specs.Entries.{Entry, most, captured, IsWhole, entry_at, behind, Entries}
+use Rattle.ioam_pcap.specs.Entries.{Entry, captured, IsWhole, entry_at, behind, Entries}
 use Rattle.ioam_pcap.specs.Reads.{HeadFault, EntryFault, Reached, FaultAt, Shown, HeadShown, EntryShown, CutShown, FaultShown, Shows}
 
 module _ (octets more : List ℕ) where

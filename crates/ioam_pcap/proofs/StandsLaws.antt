@@ -1,18 +1,17 @@
 -- What a reader stands for after a piece or a step.
-use Rattle.std.proofs.Common.{◌≡◌, ℕ, ◌+◌, ◌-◌, ◌<◌, ◌≤◌, ◌⊎◌, List, [], ◌∷◌, ◌++◌, length, take, drop, Option, Some, None, arith, refl, sym, ap, ◌∙◌, subst, inl, inr, length-drop, length-take, length-take-le, length-append, append_assoc}
+use Rattle.std.proofs.Common.{◌≡◌, ℕ, ◌+◌, ◌-◌, ◌≤◌, List, [], ◌∷◌, ◌++◌, length, take, drop, Option, Some, None, arith, refl, sym, ap, ◌∙◌, subst, length-drop, length-take-le, length-append}
 use Rattle.std.proofs.lemmas.List.{drop-drop, drop-append-le, take_rest}
-use Rattle.std.specs.Option.{IsSome}
 use Rattle.ioam_base.proofs.LeadsLaws.{Leads-push}
 use Rattle.ioam_pcap.specs.declared.form.Form.{Form}
 use Rattle.ioam_pcap.specs.declared.capture.CapFault.{CapFault}
 use Rattle.ioam_pcap.specs.declared.capture.CapFault.TheVariants as fault
 use Rattle.ioam_pcap.specs.Form.{HasHead}
 use Rattle.ioam_pcap.specs.Entries.{Entry, captured, IsWhole, entry_at, behind}
-use Rattle.ioam_pcap.specs.Reads.{HeadFault, EntryFault, IsHeadCut, IsEntryCut, Reached, EntryAt, FaultAt, CutAt, Ending, Whole, Faulty, EndsAt, Reads}
+use Rattle.ioam_pcap.specs.Reads.{HeadFault, EntryFault, IsHeadCut, IsEntryCut, Reached, EntryAt, FaultAt, CutAt, Faulty, EndsAt, Reads}
 use Rattle.ioam_pcap.specs.Reading.{Reading}
 use Rattle.ioam_pcap.specs.Reader.{Stands, Waits, link_of}
 use Rattle.ioam_pcap.proofs.DropLaws.{captured-drop, IsWhole-drop, entry_at-drop, EntryFault-drop, IsEntryCut-drop}
-use Rattle.ioam_pcap.proofs.BehindLaws.{HeadFault-behind, Reached-behind, FaultAt-behind}
+use Rattle.ioam_pcap.proofs.BehindLaws.{Reached-behind, FaultAt-behind}
 
 -- a piece more
 pub Stands-feed : (reader : Reading) (piece octets : List ℕ) (entries : List Entry) → Stands reader octets entries

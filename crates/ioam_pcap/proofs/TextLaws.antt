@@ -1,6 +1,6 @@
 -- What was written is read back.
-use Rattle.std.proofs.Common.{◌≡◌, ℕ, ◌+◌, ◌-◌, ◌*◌, ◌/◌, ◌%◌, ◌<◌, ◌≤◌, List, [], ◌∷◌, ◌++◌, length, take, drop, map, Option, Some, None, Result, Ok, Err, cond, All, arith, refl, sym, ap, ◌∙◌, subst, inl, length-append, append_assoc}
-use Rattle.std.proofs.lemmas.List.{append-nil, take-append-le, drop-drop}
+use Rattle.std.proofs.Common.{◌≡◌, ℕ, ◌+◌, ◌*◌, ◌/◌, ◌%◌, ◌<◌, ◌≤◌, List, [], ◌∷◌, ◌++◌, length, take, drop, map, Some, Result, Ok, Err, cond, All, arith, refl, sym, ap, ◌∙◌, subst, inl, length-append, append_assoc}
+use Rattle.std.proofs.lemmas.List.{append-nil, drop-drop}
 use Rattle.std.proofs.lemmas.List.Elements.{All-nil, All-head, All-tail, All-push}
 use Rattle.std.specs.Result.{OnOk, is_ok}
 use Rattle.std.proofs.Math.Seq.{drop-append_seam, take-append_seam}
@@ -12,8 +12,8 @@ use Rattle.ioam_pcap.specs.declared.form.Form.{Form}
 use Rattle.ioam_pcap.specs.Form.{number_at, HasHead}
 use Rattle.ioam_pcap.specs.Entries.{Entry, most, captured, IsWhole, entry_at, behind, Entries}
 use Rattle.ioam_pcap.specs.Reads.{Whole, Reads}
-use Rattle.ioam_pcap.specs.Text.{Sent, word, seconds_of, fraction_of, record_head, record_octets, records_text, head_octets, capture_text, entry_sent, IsSendable, with_sent}
-use Rattle.ioam_pcap.proofs.DropLaws.{number_at-drop, number_at-front}
+use Rattle.ioam_pcap.specs.Text.{Sent, seconds_of, fraction_of, record_octets, records_text, head_octets, capture_text, entry_sent, IsSendable, with_sent}
+use Rattle.ioam_pcap.proofs.DropLaws.{number_at-drop}
 
 -- the form of what is written
 abbrev pub written_form : Form

@@ -3,7 +3,6 @@ use Rattle.std.specs.Prelude.{◌≡◌, ℕ, ◌+◌, ◌≤◌, List, [], ◌�
 use Rattle.std.specs.Io.BufRead.{Rests}
 use Rattle.std.specs.Borrow.{Fml, MutBor}
 use Rattle.ioam_pcap.specs.declared.form.Link.{Link}
-use Rattle.ioam_pcap.specs.declared.form.Form.{Form}
 use Rattle.ioam_pcap.specs.declared.capture.CapFault.{CapFault}
 use Rattle.ioam_pcap.specs.declared.capture.Packet as packet
 use Rattle.ioam_pcap.specs.declared.capture.CapStep.{CapStep}

@@ -1,4 +1,4 @@
-use Rattle.std.proofs.Common.{◌≡◌, ◌++◌, ap, ◌∙◌, append_assoc, List, ℕ, length}
+use Rattle.std.proofs.Common.{◌++◌, ap, ◌∙◌, append_assoc, length}
 use Rattle.ioam_pcap.specs.Text.{record_head}
 use Rattle.ioam_pcap.proofs.put.append_record.Goals as goal
 

@@ -1,4 +1,4 @@
-use Rattle.std.proofs.Common.{◌≡◌, List, ℕ, length, take, drop, refl, sym, ap, ◌∙◌, subst, rules, Some}
+use Rattle.std.proofs.Common.{◌≡◌, List, ℕ, sym, ap, ◌∙◌, subst, rules, Some}
 use Rattle.ioam_pcap.specs.Reads.{EntryFault, IsEntryCut, FaultAt, CutAt}
 use Rattle.ioam_pcap.specs.Entries.{IsWhole, captured, entry_at}
 use Rattle.ioam_pcap.proofs.StandsLaws.{CutAt-waits, FaultAt-pending, EntryAt-pending, rest_of_buffer, length_of_record}

@@ -1,6 +1,6 @@
 use Rattle.std.proofs.Common.{◌≡◌, ◌+◌, ◌-◌, List, ℕ, length, take, drop, refl, sym, ap, ◌∙◌, subst, rules, arith, Some, None}
 use Rattle.ioam_pcap.specs.Reading.{Reading}
-use Rattle.ioam_pcap.specs.Reads.{HeadFault, IsHeadCut, EntryFault, IsEntryCut, FaultAt, CutAt}
+use Rattle.ioam_pcap.specs.Reads.{HeadFault, EntryFault, IsEntryCut, FaultAt, CutAt}
 use Rattle.ioam_pcap.specs.Form.{HasHead}
 use Rattle.ioam_pcap.specs.Entries.{Entry, IsWhole, captured, entry_at}
 use Rattle.ioam_pcap.specs.Reader.{Stands}
