@@ -1,8 +1,7 @@
 -- Octets behind those of a capture change nothing of what these show.
-use Rattle.std.proofs.Common.{◌≡◌, ℕ, ◌+◌, ◌-◌, ◌*◌, ◌<◌, ◌≤◌, ◌⊎◌, List, [], ◌∷◌, ◌++◌, length, take, drop, get_or, Option, Some, None, arith, refl, sym, ap, ◌∙◌, subst, inl, inr, length-drop, length-append}
+use Rattle.std.proofs.Common.{◌≡◌, ℕ, ◌+◌, ◌≤◌, List, [], ◌∷◌, ◌++◌, length, take, drop, Option, Some, None, arith, refl, sym, ◌∙◌, subst, length-drop, length-append}
 use Rattle.std.proofs.lemmas.Grind.{common_steps}
 use Rattle.std.proofs.lemmas.List.{drop-append-le, take-append-le}
-use Rattle.ioam_base.specs.Octets.{u32_at}
 use Rattle.ioam_base.proofs.OctetsLaws.{u32_at-append}
 use Rattle.ioam_pcap.specs.declared.form.Order.{Order}
 use Rattle.ioam_pcap.specs.declared.form.Order.TheVariants.{Big, Little}
@@ -10,8 +9,8 @@ use Rattle.ioam_pcap.specs.declared.form.Form.{Form}
 use Rattle.ioam_pcap.specs.declared.capture.CapFault.{CapFault}
 use Rattle.ioam_pcap.specs.declared.capture.CapFault.TheVariants as fault
 use Rattle.ioam_pcap.specs.Form.{number_at, IsLinkType, HasHead}
-use Rattle.ioam_pcap.specs.Entries.{Entry, most, captured, IsWhole, entry_at, behind, Entries}
-use Rattle.ioam_pcap.specs.Reads.{HeadFault, EntryFault, Reached, FaultAt}
+use Rattle.ioam_pcap.specs.Entries.{Entry, captured, IsWhole, entry_at, behind, Entries}
+use Rattle.ioam_pcap.specs.Reads.{HeadFault, EntryFault, Reached, FaultAt, Shown, HeadShown, EntryShown, CutShown, FaultShown, Shows}
 
 module _ (octets more : List ℕ) where
   number_at-append : (order : Order) (at : ℕ) → at + 4 ≤ length octets → number_at order (octets ++ more) at ≡ number_at order octets at
@@ -79,3 +78,11 @@ module _ (octets more : List ℕ) where
   pub FaultAt-behind : (form : Option Form) (at : ℕ) (f : CapFault) → FaultAt octets form at f → FaultAt (octets ++ more) form at f
   FaultAt-behind None at f bad = HeadFault-behind f bad
   FaultAt-behind (Some form) at f bad = EntryFault-behind form at f bad
+
+  -- what stands at a place stays, but for what is cut
+  pub Shows-behind : (form : Option Form) (at : ℕ) (shown : Shown) → (shown ≡ CutShown → ⊥) → Shows octets form at shown → Shows (octets ++ more) form at shown
+  Shows-behind form at (HeadShown link) whole shows = (shows.0, (shows.1.0, HasHead-behind shows.1.0 shows.1.1, shows.1.2))
+  Shows-behind None at (EntryShown e) whole shows = absurd shows
+  Shows-behind (Some form) at (EntryShown e) whole shows = (IsWhole-behind form at shows.0, shows.1 ∙ sym (entry_at-behind form at shows.0))
+  Shows-behind form at CutShown whole shows = absurd (whole refl)
+  Shows-behind form at (FaultShown f) whole shows = FaultAt-behind form at f shows

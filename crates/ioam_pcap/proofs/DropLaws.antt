@@ -1,14 +1,13 @@
 -- What stands at a place stands at the front of the octets from that place on.
-use Rattle.std.proofs.Common.{◌≡◌, ℕ, ◌+◌, ◌-◌, ◌*◌, ◌<◌, ◌≤◌, ◌⊎◌, List, [], ◌∷◌, ◌++◌, length, take, drop, get_or, arith, refl, sym, ap, ◌∙◌, subst, inl, inr, length-drop}
+use Rattle.std.proofs.Common.{◌≡◌, ℕ, ◌+◌, ◌≤◌, List, length, drop, arith, ap, ◌∙◌, inl, inr, length-drop}
 use Rattle.std.proofs.lemmas.List.{get_or-drop, drop-drop}
-use Rattle.std.proofs.lemmas.Grind.{common_steps}
 use Rattle.ioam_pcap.specs.declared.form.Order.{Order}
 use Rattle.ioam_pcap.specs.declared.form.Order.TheVariants.{Big, Little}
 use Rattle.ioam_pcap.specs.declared.form.Form.{Form}
 use Rattle.ioam_pcap.specs.declared.capture.CapFault.{CapFault}
 use Rattle.ioam_pcap.specs.declared.capture.CapFault.TheVariants as fault
 use Rattle.ioam_pcap.specs.Form.{number_at}
-use Rattle.ioam_pcap.specs.Entries.{Entry, most, captured, IsWhole, entry_at, behind}
+use Rattle.ioam_pcap.specs.Entries.{captured, IsWhole, entry_at}
 use Rattle.ioam_pcap.specs.Reads.{EntryFault, IsEntryCut}
 
 pub number_at-drop : (order : Order) (octets : List ℕ) (n at : ℕ) → number_at order (drop n octets) at ≡ number_at order octets (n + at)

@@ -1,5 +1,5 @@
 -- A capture reads in one way, and in some way.
-use Rattle.std.proofs.Common.{◌≡◌, ◌≢◌, ℕ, zero, suc, ◌+◌, ◌-◌, ◌*◌, ◌<◌, ◌≤◌, ◌⊎◌, Bool, true, false, List, [], ◌∷◌, ◌++◌, length, Option, Some, None, arith, refl, sym, ap, ◌∙◌, subst, inl, inr}
+use Rattle.std.proofs.Common.{◌≡◌, ℕ, zero, suc, ◌+◌, ◌-◌, ◌<◌, ◌≤◌, ◌⊎◌, List, [], ◌∷◌, ◌++◌, length, Option, Some, None, arith, refl, sym, ap, ◌∙◌, subst, inl, inr}
 use Rattle.std.specs.Option.{IsSome}
 use Rattle.std.proofs.lemmas.Bool.{cases_lt, cases_eq, false≢true}
 use Rattle.ioam_base.specs.Octets.{u32_at}
@@ -15,7 +15,7 @@ use Rattle.ioam_pcap.specs.declared.capture.CapFault.{CapFault}
 use Rattle.ioam_pcap.specs.declared.capture.CapFault.TheVariants as fault
 use Rattle.ioam_pcap.specs.Form.{number_at, spelling, IsUnspelled, IsLinkType, IsNoLinkType, HasHead}
 use Rattle.ioam_pcap.specs.Entries.{Entry, most, captured, IsWhole, entry_at, behind, Entries}
-use Rattle.ioam_pcap.specs.Reads.{HasMagic, HeadFault, EntryFault, IsHeadCut, IsEntryCut, Reached, FaultAt, CutAt, Ending, Whole, Faulty, EndsAt, Reads, Cap, link_by}
+use Rattle.ioam_pcap.specs.Reads.{HasMagic, HeadFault, EntryFault, IsHeadCut, IsEntryCut, Reached, FaultAt, CutAt, Shown, HeadShown, EntryShown, CutShown, FaultShown, Shows, Ending, Whole, Faulty, EndsAt, Reads, Cap, link_by}
 
 -- a number spells one order and one fraction
 spelling-injective : (o p : Order) (f g : Fraction) → spelling o f ≡ spelling p g → (o ≡ p) × (f ≡ g)
@@ -146,6 +146,37 @@ module _ (octets : List ℕ) where
   fault_unique : (form : Option Form) (at : ℕ) (f g : CapFault) → FaultAt octets form at f → FaultAt octets form at g → f ≡ g
   fault_unique None at f g x y = head_fault_unique f g x y
   fault_unique (Some form) at f g x y = entry_fault_unique form at f g x y
+
+  -- at a place stands one thing: what a step shows of it is determined
+  pub Shows-unique : (form : Option Form) (at : ℕ) (x y : Shown) → Shows octets form at x → Shows octets form at y → x ≡ y
+  Shows-unique None at (HeadShown a) (HeadShown b) x y =
+      let same = head_unique x.1.0 y.1.0 x.1.1 y.1.1 in
+      ap HeadShown (sym x.1.2 ∙ ap (λ f. f.link) same ∙ y.1.2)
+  Shows-unique None at (HeadShown a) (EntryShown e) x y = absurd y
+  Shows-unique None at (HeadShown a) CutShown x y = absurd (head_uncut x.1.0 x.1.1 y)
+  Shows-unique None at (HeadShown a) (FaultShown f) x y = absurd (head_sound x.1.0 f x.1.1 y)
+  Shows-unique None at (EntryShown e) other x y = absurd x
+  Shows-unique None at CutShown (HeadShown b) x y = absurd (head_uncut y.1.0 y.1.1 x)
+  Shows-unique None at CutShown (EntryShown e) x y = absurd y
+  Shows-unique None at CutShown CutShown x y = refl
+  Shows-unique None at CutShown (FaultShown f) x y = absurd (cut_sound f x y)
+  Shows-unique None at (FaultShown f) (HeadShown b) x y = absurd (head_sound y.1.0 f y.1.1 x)
+  Shows-unique None at (FaultShown f) (EntryShown e) x y = absurd y
+  Shows-unique None at (FaultShown f) CutShown x y = absurd (cut_sound f y x)
+  Shows-unique None at (FaultShown f) (FaultShown g) x y = ap FaultShown (head_fault_unique f g x y)
+  Shows-unique (Some form) at (HeadShown a) other x y = absurd (let wrong = x.0 in cc)
+  Shows-unique (Some form) at (EntryShown e) (HeadShown b) x y = absurd (let wrong = y.0 in cc)
+  Shows-unique (Some form) at (EntryShown e) (EntryShown d) x y = ap EntryShown (x.1 ∙ sym y.1)
+  Shows-unique (Some form) at (EntryShown e) CutShown x y = absurd (entry_uncut form at x.0 y)
+  Shows-unique (Some form) at (EntryShown e) (FaultShown f) x y = absurd (entry_sound form at f x.0 y)
+  Shows-unique (Some form) at CutShown (HeadShown b) x y = absurd (let wrong = y.0 in cc)
+  Shows-unique (Some form) at CutShown (EntryShown d) x y = absurd (entry_uncut form at y.0 x)
+  Shows-unique (Some form) at CutShown CutShown x y = refl
+  Shows-unique (Some form) at CutShown (FaultShown f) x y = absurd (cut_entry_sound form at f x y)
+  Shows-unique (Some form) at (FaultShown f) (HeadShown b) x y = absurd (let wrong = y.0 in cc)
+  Shows-unique (Some form) at (FaultShown f) (EntryShown d) x y = absurd (entry_sound form at f y.0 x)
+  Shows-unique (Some form) at (FaultShown f) CutShown x y = absurd (cut_entry_sound form at f y x)
+  Shows-unique (Some form) at (FaultShown f) (FaultShown g) x y = ap FaultShown (entry_fault_unique form at f g x y)
 
   -- nothing is left over at the end of a whole file
   fault_inside : (form : Option Form) (at : ℕ) (f : CapFault) → IsSome form → at ≡ length octets → FaultAt octets form at f → ⊥

@@ -1,18 +1,17 @@
 -- What a reader stands for after a piece or a step.
-use Rattle.std.proofs.Common.{◌≡◌, ℕ, ◌+◌, ◌-◌, ◌<◌, ◌≤◌, ◌⊎◌, List, [], ◌∷◌, ◌++◌, length, take, drop, Option, Some, None, arith, refl, sym, ap, ◌∙◌, subst, inl, inr, length-drop, length-take, length-take-le, length-append, append_assoc}
+use Rattle.std.proofs.Common.{◌≡◌, ℕ, ◌+◌, ◌-◌, ◌≤◌, List, [], ◌∷◌, ◌++◌, length, take, drop, Option, Some, None, arith, refl, sym, ap, ◌∙◌, subst, length-drop, length-take-le, length-append}
 use Rattle.std.proofs.lemmas.List.{drop-drop, drop-append-le, take_rest}
-use Rattle.std.specs.Option.{IsSome}
 use Rattle.ioam_base.proofs.LeadsLaws.{Leads-push}
 use Rattle.ioam_pcap.specs.declared.form.Form.{Form}
 use Rattle.ioam_pcap.specs.declared.capture.CapFault.{CapFault}
 use Rattle.ioam_pcap.specs.declared.capture.CapFault.TheVariants as fault
 use Rattle.ioam_pcap.specs.Form.{HasHead}
 use Rattle.ioam_pcap.specs.Entries.{Entry, captured, IsWhole, entry_at, behind}
-use Rattle.ioam_pcap.specs.Reads.{HeadFault, EntryFault, IsHeadCut, IsEntryCut, Reached, EntryAt, FaultAt, CutAt, Ending, Whole, Faulty, EndsAt, Reads}
+use Rattle.ioam_pcap.specs.Reads.{HeadFault, EntryFault, IsHeadCut, IsEntryCut, Reached, EntryAt, FaultAt, CutAt, Faulty, EndsAt, Reads}
 use Rattle.ioam_pcap.specs.Reading.{Reading}
 use Rattle.ioam_pcap.specs.Reader.{Stands, Waits, link_of}
 use Rattle.ioam_pcap.proofs.DropLaws.{captured-drop, IsWhole-drop, entry_at-drop, EntryFault-drop, IsEntryCut-drop}
-use Rattle.ioam_pcap.proofs.BehindLaws.{HeadFault-behind, Reached-behind, FaultAt-behind}
+use Rattle.ioam_pcap.proofs.BehindLaws.{Reached-behind, FaultAt-behind}
 
 -- a piece more
 pub Stands-feed : (reader : Reading) (piece octets : List ℕ) (entries : List Entry) → Stands reader octets entries
@@ -68,27 +67,32 @@ Reads-faulty reader octets entries f stands bad more = record {
   linked = refl;
 }
 
--- a whole record was taken
-module _ (old new : Reading) (form : Form) (read : old.form ≡ Some form) (whole : IsWhole form old.pending 0) (moved : new ≡ record { form = old.form; start = old.start + (16 + captured form old.pending 0); pending = drop (16 + captured form old.pending 0) old.pending }) where
-  entry_here : (octets : List ℕ) (entries : List Entry) → Stands old octets entries
-      → IsWhole form octets old.start × (entry_at form old.pending 0 ≡ entry_at form octets old.start) × (captured form old.pending 0 ≡ captured form octets old.start)
-  entry_here octets entries stands =
+-- what a whole record at the front of the pending octets is there
+module _ (old : Reading) (form : Form) (read : old.form ≡ Some form) (whole : IsWhole form old.pending 0) (octets : List ℕ) (entries : List Entry) (stands : Stands old octets entries) where
+  entry_here : IsWhole form octets old.start × (entry_at form old.pending 0 ≡ entry_at form octets old.start) × (captured form old.pending 0 ≡ captured form octets old.start)
+  entry_here =
       let Q : List ℕ → Type 0 = λ p. IsWhole form p 0 in (
         IsWhole-drop form octets old.start stands.inside (subst Q stands.left whole),
         ap (λ p. entry_at form p 0) stands.left ∙ entry_at-drop form octets old.start stands.inside,
         ap (λ p. captured form p 0) stands.left ∙ captured-drop form octets old.start stands.inside,
       )
 
-  pub EntryAt-step : (e : Entry) → e ≡ entry_at form old.pending 0 → (octets : List ℕ) (entries : List Entry) → Stands old octets entries
-      → EntryAt octets old.form old.start e
-  EntryAt-step e shown octets entries stands = let here = entry_here octets entries stands in
-      let Q : Option Form → Type 0 = λ f. EntryAt octets f old.start e in
-      subst Q (sym read) (here.0, shown ∙ here.1)
+  pub EntryAt-pending : EntryAt octets old.form old.start (entry_at form old.pending 0)
+  EntryAt-pending =
+      let Q : Option Form → Type 0 = λ f. EntryAt octets f old.start (entry_at form old.pending 0) in
+      subst Q (sym read) (entry_here.0, entry_here.1)
+
+-- a whole record was taken
+module _ (old new : Reading) (form : Form) (read : old.form ≡ Some form) (whole : IsWhole form old.pending 0) (moved : new ≡ record { form = old.form; start = old.start + (16 + captured form old.pending 0); pending = drop (16 + captured form old.pending 0) old.pending }) where
+  pub EntryAt-step : (e : Entry) → e ≡ entry_at form old.pending 0 → (octets : List ℕ) (entries : List Entry) → Stands old octets entries → EntryAt octets old.form old.start e
+  EntryAt-step e shown octets entries stands =
+      let Q : Entry → Type 0 = λ d. EntryAt octets old.form old.start d in
+      subst Q (sym shown) (EntryAt-pending old form read whole octets entries stands)
 
   pub Stands-step : (e : Entry) → e ≡ entry_at form old.pending 0 → (octets : List ℕ) (entries : List Entry) → Stands old octets entries
       → Stands new octets (entries ++ e ∷ [])
   Stands-step e shown octets entries stands =
-      let here = entry_here octets entries stands in
+      let here = entry_here old form read whole octets entries stands in
       let Q : Option Form → Type 0 = λ f. Reached octets f entries old.start in
       let reached = subst Q read stands.reached in
       let pushed = Leads-push (IsWhole form octets) (entry_at form octets) (behind form octets) 24 entries old.start reached.1 here.0 in
@@ -157,3 +161,18 @@ pub entry_by : (time original : ℕ) (octets : List ℕ) (e : Entry) → time �
 entry_by time original octets e t o s =
     let same : ◌≡◌ {A = Entry} (record { time = time; original = original; octets = octets }) (record { time = e.time; original = e.original; octets = e.octets }) = cc in
     same
+
+-- what a step that takes nothing off tells
+module _ (old new : Reading) (same : new ≡ old) (octets : List ℕ) (entries : List Entry) (stands : Stands old octets entries) where
+  stands_still : Stands new octets entries
+  stands_still = let S : Reading → Type 0 = λ r. Stands r octets entries in subst S (sym same) stands
+
+  pub cut_told : Waits old → CutAt octets old.form old.start × Stands new octets entries
+  cut_told waits = (CutAt-waits old octets entries stands waits, stands_still)
+
+  pub fault_told : (place : ℕ) (f : CapFault) → place ≡ old.start → FaultAt old.pending old.form 0 f
+      → FaultAt octets old.form old.start f × (Stands new octets entries × ((more : List ℕ) → Reads (octets ++ more) (link_of old) entries (Faulty place f)))
+  fault_told place f here bad =
+      let there = FaultAt-pending old octets entries stands f bad in
+      let P : ℕ → Type 0 = λ n. (more : List ℕ) → Reads (octets ++ more) (link_of old) entries (Faulty n f) in
+      (there, (stands_still, subst P (sym here) (Reads-faulty old octets entries f stands there)))

@@ -1,7 +1,8 @@
 -- What was written is read back.
-use Rattle.std.proofs.Common.{◌≡◌, ℕ, ◌+◌, ◌-◌, ◌*◌, ◌/◌, ◌%◌, ◌<◌, ◌≤◌, List, [], ◌∷◌, ◌++◌, length, take, drop, map, Option, Some, None, All, arith, refl, sym, ap, ◌∙◌, subst, inl, length-append, append_assoc}
-use Rattle.std.proofs.lemmas.List.{append-nil, take-append-le, drop-drop}
-use Rattle.std.proofs.lemmas.List.Elements.{All-head, All-tail}
+use Rattle.std.proofs.Common.{◌≡◌, ℕ, ◌+◌, ◌*◌, ◌/◌, ◌%◌, ◌<◌, ◌≤◌, List, [], ◌∷◌, ◌++◌, length, take, drop, map, Some, Result, Ok, Err, cond, All, arith, refl, sym, ap, ◌∙◌, subst, inl, length-append, append_assoc}
+use Rattle.std.proofs.lemmas.List.{append-nil, drop-drop}
+use Rattle.std.proofs.lemmas.List.Elements.{All-nil, All-head, All-tail, All-push}
+use Rattle.std.specs.Result.{OnOk, is_ok}
 use Rattle.std.proofs.Math.Seq.{drop-append_seam, take-append_seam}
 use Rattle.ioam_base.specs.Octets.{u32_at}
 use Rattle.ioam_pcap.specs.declared.form.Link.TheVariants.{Raw}
@@ -11,8 +12,8 @@ use Rattle.ioam_pcap.specs.declared.form.Form.{Form}
 use Rattle.ioam_pcap.specs.Form.{number_at, HasHead}
 use Rattle.ioam_pcap.specs.Entries.{Entry, most, captured, IsWhole, entry_at, behind, Entries}
 use Rattle.ioam_pcap.specs.Reads.{Whole, Reads}
-use Rattle.ioam_pcap.specs.Text.{Sent, word, seconds_of, fraction_of, record_head, record_octets, records_text, head_octets, capture_text, entry_sent, IsSendable}
-use Rattle.ioam_pcap.proofs.DropLaws.{number_at-drop, number_at-front}
+use Rattle.ioam_pcap.specs.Text.{Sent, seconds_of, fraction_of, record_octets, records_text, head_octets, capture_text, entry_sent, IsSendable, with_sent}
+use Rattle.ioam_pcap.proofs.DropLaws.{number_at-drop}
 
 -- the form of what is written
 abbrev pub written_form : Form
@@ -115,3 +116,40 @@ Reads-text sent fits = record {
   ends = (refl, refl);
   linked = refl;
 }
+
+-- the text of one packet more
+records_text-with : (sent : List Sent) (time : ℕ) (octets : List ℕ) → records_text (with_sent sent time octets) ≡ records_text sent ++ record_octets time octets
+records_text-with [] time octets = append-nil (record_octets time octets)
+records_text-with (s ∷ sent) time octets =
+    ap (λ xs. record_octets s.time s.octets ++ xs) (records_text-with sent time octets)
+    ∙ sym (append_assoc (record_octets s.time s.octets) (records_text sent) (record_octets time octets))
+
+pub capture_text-with : (sent : List Sent) (time : ℕ) (octets : List ℕ) → capture_text (with_sent sent time octets) ≡ capture_text sent ++ record_octets time octets
+capture_text-with sent time octets =
+    ap (λ xs. head_octets ++ xs) (records_text-with sent time octets)
+    ∙ sym (append_assoc head_octets (records_text sent) (record_octets time octets))
+
+-- what an appended head and an appended record make
+pub begins_by : {E : Type 0} (r : Result (Unit {0}) E) (old new : List ℕ) → new ≡ cond (is_ok r) (old ++ head_octets) old → old ≡ []
+    → OnOk r (new ≡ capture_text [])
+begins_by (Ok u) old new made empty = made ∙ ap (λ xs. xs ++ head_octets) empty
+begins_by (Err e) old new made empty = tt
+
+pub begins_reading : {E : Type 0} (r : Result (Unit {0}) E) (old new : List ℕ) → new ≡ cond (is_ok r) (old ++ head_octets) old → old ≡ []
+    → OnOk r (Reads new (Some Raw) [] Whole)
+begins_reading (Ok u) old new made empty = let Q : List ℕ → Type 0 = λ xs. Reads xs (Some Raw) [] Whole in
+    subst Q (sym (made ∙ ap (λ xs. xs ++ head_octets) empty)) (Reads-text [] (All-nil IsSendable))
+begins_reading (Err e) old new made empty = tt
+
+module _ (old new : List ℕ) (time : ℕ) (octets : List ℕ) (sent : List Sent) where
+  pub adds_by : {E : Type 0} (r : Result (Unit {0}) E) → new ≡ cond (is_ok r) (old ++ record_octets time octets) old → old ≡ capture_text sent
+      → OnOk r (new ≡ capture_text (with_sent sent time octets))
+  adds_by (Ok u) made was = made ∙ ap (λ xs. xs ++ record_octets time octets) was ∙ sym (capture_text-with sent time octets)
+  adds_by (Err e) made was = tt
+
+  pub adds_reading : {E : Type 0} (r : Result (Unit {0}) E) → new ≡ cond (is_ok r) (old ++ record_octets time octets) old → length octets ≤ most
+      → All IsSendable sent → old ≡ capture_text sent → OnOk r (Reads new (Some Raw) (map entry_sent (with_sent sent time octets)) Whole)
+  adds_reading (Ok u) made small fits was =
+      let Q : List ℕ → Type 0 = λ xs. Reads xs (Some Raw) (map entry_sent (with_sent sent time octets)) Whole in
+      subst Q (sym (made ∙ ap (λ xs. xs ++ record_octets time octets) was ∙ sym (capture_text-with sent time octets))) (Reads-text (with_sent sent time octets) (All-push IsSendable sent (record { time = time; octets = octets }) fits small))
+  adds_reading (Err e) made small fits was = tt

@@ -1,6 +1,6 @@
 -- The records of a classic capture file. A record is a head of 16 octets (seconds, fraction,
 -- captured length and original length, 32 bits each), and the captured octets.
-use Rattle.std.specs.Prelude.{◌≡◌, ℕ, ◌+◌, ◌*◌, ◌≤◌, List, length, take, drop}
+use Rattle.std.specs.Prelude.{ℕ, ◌+◌, ◌*◌, ◌≤◌, List, length, take, drop}
 use Rattle.ioam_base.specs.Leads.{Leads}
 use Rattle.ioam_pcap.specs.declared.form.Fraction.{Fraction}
 use Rattle.ioam_pcap.specs.declared.form.Fraction.TheVariants.{Micro, Nano}

@@ -3,14 +3,15 @@ use Rattle.std.specs.Prelude.{◌≡◌, ℕ, ◌+◌, ◌≤◌, List, [], ◌�
 use Rattle.std.specs.Io.BufRead.{Rests}
 use Rattle.std.specs.Borrow.{Fml, MutBor}
 use Rattle.ioam_pcap.specs.declared.form.Link.{Link}
-use Rattle.ioam_pcap.specs.declared.form.Form.{Form}
 use Rattle.ioam_pcap.specs.declared.capture.CapFault.{CapFault}
 use Rattle.ioam_pcap.specs.declared.capture.Packet as packet
 use Rattle.ioam_pcap.specs.declared.capture.CapStep.{CapStep}
 use Rattle.ioam_pcap.specs.declared.capture.CapStep.TheVariants.{Head, Packet, More, Bad}
+use Rattle.ioam_pcap.specs.declared.capture.CapLook.{CapLook}
+use Rattle.ioam_pcap.specs.declared.capture.CapLook.TheVariants as look
 use Rattle.ioam_pcap.specs.contracts.reader.CaptureReader.{the_row}
 use Rattle.ioam_pcap.specs.Entries.{Entry}
-use Rattle.ioam_pcap.specs.Reads.{Reached, EntryAt, FaultAt, CutAt, Ending, Whole, Faulty, Reads, link_by}
+use Rattle.ioam_pcap.specs.Reads.{Reached, CutAt, Shown, HeadShown, EntryShown, CutShown, FaultShown, Shows, Ending, Whole, Faulty, Reads, link_by}
 use Rattle.ioam_pcap.specs.Reading.{Reading}
 
 -- a reader that was fed these octets in all, and has given these records
@@ -48,13 +49,32 @@ Moved old new (Packet p) = (new.form ≡ old.form) × (new.start ≡ old.start +
 Moved old new More = (new ≡ old) × Waits old
 Moved old new (Bad at fault) = (new ≡ old) × (at ≡ old.start)
 
--- what a step tells of the octets fed so far, behind these records; a fault stays whatever is fed
-abbrev pub Told : List ℕ → List Entry → Reading → Reading → CapStep → Type 0
-Told octets entries old new (Head link) = (old.form ≡ None) × (link_of new ≡ Some link) × Stands new octets entries
-Told octets entries old new (Packet p) = EntryAt octets old.form old.start (entry_of p) × Stands new octets (entries ++ entry_of p ∷ [])
-Told octets entries old new More = CutAt octets old.form old.start
-Told octets entries old new (Bad at fault) = FaultAt octets old.form old.start fault
+-- what a step shows of the octets fed so far
+abbrev pub shown_by : CapStep → Shown
+shown_by (Head link) = HeadShown link
+shown_by (Packet p) = EntryShown (entry_of p)
+shown_by More = CutShown
+shown_by (Bad at fault) = FaultShown fault
+
+-- what the reader stands for behind a step; a capture with a fault ends there, whatever is fed
+abbrev pub Leaves : List ℕ → List Entry → Reading → Reading → CapStep → Type 0
+Leaves octets entries old new (Head link) = (link_of new ≡ Some link) × Stands new octets entries
+Leaves octets entries old new (Packet p) = Stands new octets (entries ++ entry_of p ∷ [])
+Leaves octets entries old new More = Stands new octets entries
+Leaves octets entries old new (Bad at fault) = Stands new octets entries
     × ((more : List ℕ) → Reads (octets ++ more) (link_of old) entries (Faulty at fault))
+
+-- what a step tells of the octets fed so far, behind these records
+abbrev pub Told : List ℕ → List Entry → Reading → Reading → CapStep → Type 0
+Told octets entries old new step = Shows octets old.form old.start (shown_by step) × Leaves octets entries old new step
+
+-- what a look tells of the octets fed so far: what a step would show, of a record its time and size
+abbrev pub Looks : List ℕ → Reading → CapLook → Type 0
+Looks octets reader (look.Head link) = Shows octets reader.form reader.start (HeadShown link)
+Looks octets reader (look.Packet time size) = (entry : Entry) × Shows octets reader.form reader.start (EntryShown entry)
+    × (time ≡ entry.time) × (size ≡ length entry.octets)
+Looks octets reader look.More = Shows octets reader.form reader.start CutShown
+Looks octets reader (look.Bad at fault) = (at ≡ reader.start) × Shows octets reader.form reader.start (FaultShown fault)
 
 -- so the reader is once the step's octets are no longer lent
 abbrev pub RestsSo : MutBor Reading → CapStep → Fml

@@ -1,5 +1,5 @@
 -- How a capture reads: a head, the records behind it, and how it ends.
-use Rattle.std.specs.Prelude.{◌≡◌, ◌≢◌, ℕ, ◌+◌, ◌≤◌, ◌<◌, ◌⊎◌, List, [], length, Option, Some, None, IsSome, option_map}
+use Rattle.std.specs.Prelude.{◌≡◌, ℕ, ◌+◌, ◌≤◌, ◌<◌, ◌⊎◌, List, [], length, Option, Some, None, IsSome, option_map}
 use Rattle.ioam_base.specs.Octets.{u32_at}
 use Rattle.ioam_pcap.specs.declared.form.Link.{Link}
 use Rattle.ioam_pcap.specs.declared.form.Order.{Order}
@@ -57,6 +57,20 @@ CutAt octets (Some form) at = IsEntryCut form octets at
 abbrev pub EntryAt : List ℕ → Option Form → ℕ → Entry → Type 0
 EntryAt octets None at entry = ⊥
 EntryAt octets (Some form) at entry = IsWhole form octets at × (entry ≡ entry_at form octets at)
+
+-- what stands at a place that was reached: a head, a record, the front of one of them or nothing, or
+-- a fault
+pub data Shown : Type 0 where
+  HeadShown : Link → Shown
+  EntryShown : Entry → Shown
+  CutShown : Shown
+  FaultShown : CapFault → Shown
+
+abbrev pub Shows : List ℕ → Option Form → ℕ → Shown → Type 0
+Shows octets form at (HeadShown link) = (form ≡ None) × ((f : Form) × HasHead octets f × (f.link ≡ link))
+Shows octets form at (EntryShown entry) = EntryAt octets form at entry
+Shows octets form at CutShown = CutAt octets form at
+Shows octets form at (FaultShown fault) = FaultAt octets form at fault
 
 -- how a capture ends: behind a whole head and whole records, or at a place with a fault
 pub data Ending : Type 0 where

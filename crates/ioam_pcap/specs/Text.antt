@@ -1,6 +1,6 @@
 -- The captures that are written: big-endian, nanoseconds, version 2.4, no zone and no accuracy, at
 -- most 262,144 octets of a packet, packets that begin with an IP header (link type 101).
-use Rattle.std.specs.Prelude.{◌≡◌, ℕ, ◌+◌, ◌*◌, ◌/◌, ◌%◌, ◌≤◌, ◌^◌, List, [], ◌∷◌, ◌++◌, length, map, All}
+use Rattle.std.specs.Prelude.{ℕ, ◌/◌, ◌%◌, ◌≤◌, List, [], ◌∷◌, ◌++◌, length}
 use Rattle.ioam_pcap.specs.Entries.{Entry, most}
 
 -- a packet that is written: its time in nanoseconds and its octets
@@ -47,3 +47,7 @@ entry_sent s = record { time = s.time % 4294967296000000000; original = length s
 -- it may be written
 abbrev pub IsSendable : Sent → Type 0
 IsSendable s = length s.octets ≤ most
+
+-- one packet more is written
+abbrev pub with_sent : List Sent → ℕ → List ℕ → List Sent
+with_sent sent time octets = sent ++ record { time = time; octets = octets } ∷ []

@@ -39,3 +39,16 @@ pub enum CapStep<'a> {
     /// At this place of the capture its head or a record is faulty.
     Bad { at: u64, fault: CapFault },
 }
+
+/// What a reader would show next, without the octets: enough to choose among several captures.
+#[derive(Clone, Copy, Debug, PartialEq, Eq)]
+pub enum CapLook {
+    /// A head: the capture's packets begin at this layer.
+    Head { link: Link },
+    /// A record of a packet with this time, in nanoseconds, and so many captured octets.
+    Packet { time: u64, size: u32 },
+    /// More octets are needed, or the capture's end.
+    More,
+    /// At this place of the capture its head or a record is faulty.
+    Bad { at: u64, fault: CapFault },
+}

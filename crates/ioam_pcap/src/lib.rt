@@ -6,8 +6,13 @@ pub mod capture;
 mod entry;
 mod form;
 mod head;
+mod merge;
 mod put;
 pub mod reader;
 
 pub use form::Link;
+pub use merge::pick;
 pub use put::{put_head, put_record};
+
+#[cfg(test)]
+mod tests;

@@ -1,6 +1,8 @@
-ghost use Rattle.std.specs.Prelude.{◌≡◌, ◌≤◌, ◌++◌, length, is_ok, if◌then◌else◌};
+ghost use Rattle.std.specs.Prelude.{◌≡◌, ◌≤◌, ◌++◌, [], All, List, OnOk, Some, length, map, is_ok, if◌then◌else◌};
 ghost use Rattle.ioam_pcap.specs.Entries.{most};
-ghost use Rattle.ioam_pcap.specs.Text.{head_octets, record_head, record_octets};
+ghost use Rattle.ioam_pcap.specs.Reads.{Reads, Whole};
+ghost use Rattle.ioam_pcap.specs.Text.{Sent, IsSendable, head_octets, record_head, record_octets, capture_text, entry_sent, with_sent};
+ghost use Rattle.ioam_pcap.specs.declared.form.Link.TheVariants as Link;
 
 use ioam_base::memory::NoMemory;
 use ioam_base::text::append;
@@ -15,8 +17,10 @@ const NANOSECONDS: u64 = 1_000_000_000;
 /// Appends the head of a capture: 24 octets, big-endian, nanoseconds, version 2.4, packets that
 /// begin with an IP header. Without memory `out` is as before.
 pub fn put_head(out: &mut Vec<u8>) -> Result<(), NoMemory>
-    ensures { out.new.items
+    ensures octets { out.new.items
         ≡ (if is_ok result then out.old.items ++ head_octets else out.old.items) }
+    ensures begins { out.old.items ≡ [] → OnOk result (out.new.items ≡ capture_text []) }
+    ensures reads { out.old.items ≡ [] → OnOk result (Reads out.new.items (Some Link.Raw) [] Whole) }
 {
     append(out, &HEAD)
 }
@@ -36,9 +40,8 @@ fn record_head(time: u64, size: u32) -> [u8; 16]
     ]
 }
 
-/// Appends a record: a head of 16 octets and the packet. The time is in nanoseconds; its seconds
-/// are written modulo 2^32. Both lengths are the packet's. Without memory `out` is as before.
-pub fn put_record(time: u64, packet: &[u8], out: &mut Vec<u8>) -> Result<(), NoMemory>
+// Appends a record.
+fn append_record(time: u64, packet: &[u8], out: &mut Vec<u8>) -> Result<(), NoMemory>
     requires { length packet.now ≤ most }
     ensures { out.new.items ≡ (if is_ok result
         then out.old.items ++ record_octets time packet.now
@@ -53,4 +56,25 @@ pub fn put_record(time: u64, packet: &[u8], out: &mut Vec<u8>) -> Result<(), NoM
             Err(no_memory)
         }
     }
+}
+
+/// Appends a record of at most 262,144 octets: a head of 16 octets and the packet. The time is in
+/// nanoseconds; its seconds are written modulo 2^32. Both lengths are the packet's. Without memory
+/// `out` is as before.
+pub fn put_record(time: u64, packet: &[u8], out: &mut Vec<u8>) -> Result<(), NoMemory>
+    requires { length packet.now ≤ most }
+    ensures octets { out.new.items ≡ (if is_ok result
+        then out.old.items ++ record_octets time packet.now
+        else out.old.items) }
+
+    // Behind a capture it makes a capture of one packet more,
+    ensures adds { (sent : List Sent) → out.old.items ≡ capture_text sent
+        → OnOk result (out.new.items ≡ capture_text (with_sent sent time packet.now)) }
+
+    // which reads as these packets.
+    ensures reads { (sent : List Sent) → All IsSendable sent → out.old.items ≡ capture_text sent
+        → OnOk result (Reads out.new.items (Some Link.Raw)
+        (map entry_sent (with_sent sent time packet.now)) Whole) }
+{
+    append_record(time, packet, out)
 }

@@ -1,7 +1,7 @@
 ghost use Rattle.std.specs.Prelude.{◌≡◌, ◌+◌, ◌≤◌, ◌<◌, ◌^◌, ◌++◌, [], List, ℕ, length, drop, IfOk, IsSome, MatchOption, OnErr, OnOk, vec_len};
 ghost use Rattle.std.specs.Borrow.{sem};
 
-use crate::capture::{CapFault, CapStep, Packet};
+use crate::capture::{CapFault, CapLook, CapStep, Packet};
 use crate::entry::{EntryStep, entry_step};
 use crate::form::Form;
 use crate::head::{HeadStep, head_step};
@@ -55,7 +55,7 @@ impl CaptureReader {
     ghost use Rattle.ioam_pcap.specs.declared.capture.CapFault.TheVariants.{Short};
     ghost use Rattle.ioam_pcap.specs.Entries.{Entry};
     ghost use Rattle.ioam_pcap.specs.Reads.{Reads};
-    ghost use Rattle.ioam_pcap.specs.Reader.{Stands, Waits, RestsSo, fresh, fed, link_of, ending_of};
+    ghost use Rattle.ioam_pcap.specs.Reader.{Stands, Waits, Looks, RestsSo, fresh, fed, link_of, ending_of};
 
     /// A reader that was fed nothing.
     pub fn new(alloc: Global) -> Result<CaptureReader, NoMemory>
@@ -69,6 +69,13 @@ impl CaptureReader {
             start: 0,
             form: None,
         })
+    }
+
+    /// How many octets were fed in all.
+    pub fn fed(&self) -> u64
+        ensures { result ≡ fed self.now }
+    {
+        self.start + (self.buffer.len() - self.taken) as u64
     }
 
     /// Feeds the next octets of the capture, of which there are below 2^63 in all.
@@ -123,6 +130,31 @@ impl CaptureReader {
                     at: self.start,
                     fault,
                 },
+            },
+        }
+    }
+
+    /// What `next` will answer, while no more octets are fed.
+    pub fn look(&self) -> CapLook
+        ensures waits { result ≡ CapLook.More → Waits self.now }
+        ensures shows { (octets : List ℕ) (entries : List Entry) → Stands self.now octets entries
+            → Looks octets self.now result }
+    {
+        let pending = &self.buffer[self.taken..];
+        let at = self.start;
+        match self.form {
+            None => match head_step(pending) {
+                HeadStep::Whole(form) => CapLook::Head { link: form.link },
+                HeadStep::Cut => CapLook::More,
+                HeadStep::Bad(fault) => CapLook::Bad { at, fault },
+            },
+            Some(form) => match entry_step(form, pending) {
+                EntryStep::Whole(head) => CapLook::Packet {
+                    time: head.time,
+                    size: head.captured,
+                },
+                EntryStep::Cut => CapLook::More,
+                EntryStep::Bad(fault) => CapLook::Bad { at, fault },
             },
         }
     }

@@ -1,9 +1,10 @@
-use Rattle.std.proofs.Common.{◌≡◌, ◌++◌, ap, ◌∙◌, append_assoc, List, ℕ, length}
-use Rattle.ioam_pcap.specs.Text.{record_head}
+use Rattle.ioam_pcap.proofs.TextLaws.{adds_by, adds_reading}
 use Rattle.ioam_pcap.proofs.put.put_record.Goals as goal
 
-pub returns-in-Ok : goal.returns-in-Ok
-returns-in-Ok c =
-    let headed = c.in_ok-append.ensures ∙ ap (λ head. c.args.out.now.items ++ head) c.record_head.ensures in
-    c.in-Ok.ensures ∙ ap (λ items. items ++ c.args.packet.now) headed
-    ∙ append_assoc c.args.out.now.items (record_head c.args.time (length c.args.packet.now)) c.args.packet.now
+pub returns-clause-adds : goal.returns-clause-adds
+returns-clause-adds c = λ sent was.
+    adds_by c.args.out.now.items c.append_record.new.out.items c.args.time c.args.packet.now sent c.append_record.result c.append_record.ensures was
+
+pub returns-clause-reads : goal.returns-clause-reads
+returns-clause-reads c = λ sent fits was.
+    adds_reading c.args.out.now.items c.append_record.new.out.items c.args.time c.args.packet.now sent c.append_record.result c.append_record.ensures c.requires fits was

@@ -1,4 +1,4 @@
-use Rattle.std.proofs.Common.{◌≡◌, ◌++◌, ap, refl, rules, subst, sym}
+use Rattle.std.proofs.Common.{◌++◌, rules, subst}
 use Rattle.ioam_pcap.specs.Reading.{Reading}
 use Rattle.ioam_pcap.specs.Reader.{Stands}
 use Rattle.ioam_pcap.proofs.StandsLaws.{Stands-feed}

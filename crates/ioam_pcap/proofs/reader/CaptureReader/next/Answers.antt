@@ -1,10 +1,10 @@
-use Rattle.std.proofs.Common.{◌≡◌, ◌+◌, ◌-◌, List, ℕ, length, take, drop, refl, sym, ap, ◌∙◌, subst, rules, arith, Some, None, length-drop, length-take}
+use Rattle.std.proofs.Common.{◌≡◌, ◌+◌, ◌-◌, List, ℕ, length, take, drop, refl, sym, ap, ◌∙◌, subst, rules, arith, Some, None}
 use Rattle.ioam_pcap.specs.Reading.{Reading}
-use Rattle.ioam_pcap.specs.Reads.{HeadFault, IsHeadCut, EntryFault, IsEntryCut, FaultAt, CutAt}
+use Rattle.ioam_pcap.specs.Reads.{HeadFault, EntryFault, IsEntryCut, FaultAt, CutAt}
 use Rattle.ioam_pcap.specs.Form.{HasHead}
 use Rattle.ioam_pcap.specs.Entries.{Entry, IsWhole, captured, entry_at}
 use Rattle.ioam_pcap.specs.Reader.{Stands}
-use Rattle.ioam_pcap.proofs.StandsLaws.{Reads-faulty, CutAt-waits, FaultAt-pending, rest_of_buffer, octets_of_record, moved_by, Stands-head, Stands-step, EntryAt-step, length_left, length_of_record, entry_by}
+use Rattle.ioam_pcap.proofs.StandsLaws.{cut_told, fault_told, rest_of_buffer, octets_of_record, moved_by, Stands-head, Stands-step, EntryAt-step, length_left, length_of_record, entry_by}
 use Rattle.ioam_pcap.proofs.reader.CaptureReader.next.Goals as goal
 
 pub returns-in-Whole : goal.returns-in-Whole
@@ -24,8 +24,9 @@ returns-in-Whole c =
         (
           (ap (λ r. r.start) new, rest, length_left _ old.pending 24 rest head.0),
           λ octets entries stands.
+              let stood = Stands-head old c.in-Whole.form none head octets entries stands in
               let S : Reading → Type 0 = λ r. Stands r octets entries in
-              (none, refl, subst S (sym after) (Stands-head old c.in-Whole.form none head octets entries stands)),
+              ((none, (c.in-Whole.form, stood.reached.0, refl)), (refl, subst S (sym after) stood)),
         ),
       ),
       tt,
@@ -38,40 +39,47 @@ returns-in-Bad c =
     let pending = rest_of_buffer _ _ c.self.inside.taken c.deref.ensures.value ∙ ap (λ r. r.pending) c.self.view_is in
     let Q : List ℕ → Type 0 = λ p. HeadFault p c.in-Bad.fault in
     let bad : FaultAt old.pending old.form 0 c.in-Bad.fault = rw none (subst Q pending c.in-Bad.ensures) in
-    let start : c.self.inside.start ≡ old.start = ap (λ r. r.start) c.self.view_is in (
-      (
-        refl,
-        λ _. tt,
-        (
-          (c.self.view_is, start),
-          λ octets entries stands.
-              let there = FaultAt-pending old octets entries stands c.in-Bad.fault bad in
-              (there, rw start (Reads-faulty old octets entries c.in-Bad.fault stands there)),
-        ),
-      ),
-      tt,
-    )
+    let start = ap (λ r. r.start) c.self.view_is in
+    ((refl, λ _. tt, ((c.self.view_is, start), λ octets entries stands. fault_told old _ c.self.view_is octets entries stands _ c.in-Bad.fault start bad)), tt)
 
 pub returns-in-Whole-entry_step : goal.returns-in-Whole-entry_step
 returns-in-Whole-entry_step c =
     let old = c.args.self.now in
     let form = c.in-Some.form in
-    let form_is : old.form ≡ Some form = search rules in
-    let pending : _ ≡ old.pending = rest_of_buffer _ _ c.self.inside.taken c.deref.ensures.value ∙ ap (λ r. r.pending) c.self.view_is in
     let h = c.in-Whole-entry_step.head in
+    let taken = c.self.inside.taken in
+    let form_is : old.form ≡ Some form = search rules in
+    let pending : _ ≡ old.pending = rest_of_buffer _ _ taken c.deref.ensures.value ∙ ap (λ r. r.pending) c.self.view_is in
     let T : List ℕ → Type 0 = λ p. IsWhole form p 0 × (h.captured ≡ captured form p 0) × (h.time ≡ (entry_at form p 0).time) × (h.original ≡ (entry_at form p 0).original) in
     let told = subst T pending c.in-Whole-entry_step.ensures in
     let size = 16 + captured form old.pending 0 in
-    let there : c.self.inside.taken + 16 + h.captured ≡ c.self.inside.taken + size = omega arith in
+    let there : taken + 16 + h.captured ≡ taken + size = omega arith in
     let place : c.self.inside.start + (16 + c.from.result) ≡ c.self.inside.start + size = omega arith in
-    let new = moved_by c.self.inside.buffer.items c.self.inside.taken c.self.inside.start size _ _ c.self.inside.form old c.self.view_is there place in
+    let new = moved_by c.self.inside.buffer.items taken c.self.inside.start size _ _ c.self.inside.form old c.self.view_is there place in
     let rest = ap (λ r. r.pending) new in
-    let shown : take (c.self.inside.taken + 16 + h.captured - (c.self.inside.taken + 16)) (drop (c.self.inside.taken + 16) c.deref-in-Whole-entry_step.result.now) ≡ take (captured form old.pending 0) (drop 16 old.pending)
-    = octets_of_record _ _ c.self.inside.taken h.captured c.deref-in-Whole-entry_step.ensures.value ∙ ap (λ n. take n (drop 16 (drop c.self.inside.taken c.self.inside.buffer.items))) told.1 ∙ ap (λ r. take (captured form old.pending 0) (drop 16 r.pending)) c.self.view_is in
-    let many : length (take (c.self.inside.taken + 16 + h.captured - (c.self.inside.taken + 16)) (drop (c.self.inside.taken + 16) c.deref-in-Whole-entry_step.result.now)) ≡ captured form old.pending 0 = ap length shown ∙ length_of_record form old.pending told.0 in
-    let entry : Entry = record { time = h.time; original = h.original; octets = take (c.self.inside.taken + 16 + h.captured - (c.self.inside.taken + 16)) (drop (c.self.inside.taken + 16) c.deref-in-Whole-entry_step.result.now) } in
-    let entry_is : entry ≡ entry_at form old.pending 0 = entry_by _ _ _ (entry_at form old.pending 0) told.2 told.3 shown in
-    ((refl, λ _. tt, ((ap (λ r. r.form) new, ap (λ r. r.start) new ∙ ap (λ n. old.start + (16 + n)) (sym many), rest ∙ ap (λ n. drop (16 + n) old.pending) (sym many), ap (λ n. length (drop (c.self.inside.taken + 16 + h.captured) c.self.inside.buffer.items) + (16 + n)) many ∙ length_left _ old.pending size rest told.0.1), λ octets entries stands. (EntryAt-step old _ form form_is told.0 new entry entry_is octets entries stands, Stands-step old _ form form_is told.0 new entry entry_is octets entries stands))), tt)
+    let octets = take (taken + 16 + h.captured - (taken + 16)) (drop (taken + 16) c.deref-in-Whole-entry_step.result.now) in
+    let shown : octets ≡ take (captured form old.pending 0) (drop 16 old.pending) =
+    octets_of_record _ _ taken h.captured c.deref-in-Whole-entry_step.ensures.value
+    ∙ ap (λ n. take n (drop 16 (drop taken c.self.inside.buffer.items))) told.1
+    ∙ ap (λ r. take (captured form old.pending 0) (drop 16 r.pending)) c.self.view_is in
+    let many : length octets ≡ captured form old.pending 0 = ap length shown ∙ length_of_record form old.pending told.0 in
+    let entry : Entry = record { time = h.time; original = h.original; octets = octets } in
+    let entry_is : entry ≡ entry_at form old.pending 0 = entry_by _ _ _ (entry_at form old.pending 0) told.2 told.3 shown in (
+      (
+        refl,
+        λ _. tt,
+        (
+          (
+            ap (λ r. r.form) new,
+            ap (λ r. r.start) new ∙ ap (λ n. old.start + (16 + n)) (sym many),
+            rest ∙ ap (λ n. drop (16 + n) old.pending) (sym many),
+            ap (λ n. length (drop (taken + 16 + h.captured) c.self.inside.buffer.items) + (16 + n)) many ∙ length_left _ old.pending size rest told.0.1,
+          ),
+          λ all entries stands. (EntryAt-step old _ form form_is told.0 new entry entry_is all entries stands, Stands-step old _ form form_is told.0 new entry entry_is all entries stands),
+        ),
+      ),
+      tt,
+    )
 
 pub returns-in-Cut-entry_step : goal.returns-in-Cut-entry_step
 returns-in-Cut-entry_step c =
@@ -80,7 +88,7 @@ returns-in-Cut-entry_step c =
     let pending = rest_of_buffer _ _ c.self.inside.taken c.deref.ensures.value ∙ ap (λ r. r.pending) c.self.view_is in
     let Q : List ℕ → Type 0 = λ p. IsEntryCut c.in-Some.form p 0 in
     let cut : CutAt old.pending old.form 0 = rw form (subst Q pending c.in-Cut-entry_step.ensures) in
-    ((refl, λ _. tt, ((c.self.view_is, cut), λ octets entries stands. CutAt-waits old octets entries stands cut)), tt)
+    ((refl, λ _. tt, ((c.self.view_is, cut), λ octets entries stands. cut_told old _ c.self.view_is octets entries stands cut)), tt)
 
 pub returns-in-Bad-entry_step : goal.returns-in-Bad-entry_step
 returns-in-Bad-entry_step c =
@@ -89,16 +97,5 @@ returns-in-Bad-entry_step c =
     let pending = rest_of_buffer _ _ c.self.inside.taken c.deref.ensures.value ∙ ap (λ r. r.pending) c.self.view_is in
     let Q : List ℕ → Type 0 = λ p. EntryFault c.in-Some.form p 0 c.in-Bad-entry_step.fault in
     let bad : FaultAt old.pending old.form 0 c.in-Bad-entry_step.fault = rw form (subst Q pending c.in-Bad-entry_step.ensures) in
-    let start : c.self.inside.start ≡ old.start = ap (λ r. r.start) c.self.view_is in (
-      (
-        refl,
-        λ _. tt,
-        (
-          (c.self.view_is, start),
-          λ octets entries stands.
-              let there = FaultAt-pending old octets entries stands c.in-Bad-entry_step.fault bad in
-              (there, rw start (Reads-faulty old octets entries c.in-Bad-entry_step.fault stands there)),
-        ),
-      ),
-      tt,
-    )
+    let start = ap (λ r. r.start) c.self.view_is in
+    ((refl, λ _. tt, ((c.self.view_is, start), λ octets entries stands. fault_told old _ c.self.view_is octets entries stands _ c.in-Bad-entry_step.fault start bad)), tt)

@@ -1,0 +1,145 @@
+ghost use Rattle.std.specs.Prelude.{◌<◌};
+
+use crate::capture::CapStep;
+use crate::reader::CaptureReader;
+use crate::{pick, put_head, put_record};
+use std::alloc::Global;
+use std::test::Fail;
+
+// Big-endian, microseconds, IPv6 (link type 229): two records, of 3 and of 0 octets.
+const TWO: [u8; 59] = [
+    0xa1, 0xb2, 0xc3, 0xd4, 0, 2, 0, 4, 0, 0, 0, 0, 0, 0, 0, 0, 0, 0, 0xff, 0xff, 0, 0, 0, 229, //
+    0, 0, 0, 2, 0, 0, 0, 7, 0, 0, 0, 3, 0, 0, 0, 5, 10, 20, 30, //
+    0, 0, 0, 3, 0, 0, 0, 0, 0, 0, 0, 0, 0, 0, 1, 0,
+];
+
+const TWO_READ: &str = "Head { link: Raw }
+Packet(Packet { time: 2000007000, original: 5, octets: [10, 20, 30] })
+Packet(Packet { time: 3000000000, original: 256, octets: [] })
+whole
+";
+
+// Shows the heads and the packets that are there.
+fn show(alloc: Global, reader: &mut CaptureReader, text: &mut String) -> Result<(), Fail> {
+    for _ in 0..100 {
+        let step = reader.next();
+        if matches!(step, CapStep::More | CapStep::Bad { .. }) {
+            return Ok(());
+        }
+        text.push_str(&format!(in alloc; "{step:?}\n")?)?;
+    }
+    Err(Fail::from("too many packets"))
+}
+
+// Shows a capture that is fed in pieces of one size, and how it ends.
+fn outline(alloc: Global, capture: &[u8], size: usize) -> Result<String, Fail>
+    requires { 0 < size }
+{
+    let mut reader = CaptureReader::new(alloc)?;
+    let mut text = String::new(alloc);
+    for piece in capture.chunks(size) {
+        if reader.fed() > 1_000_000 || piece.len() > 65_536 {
+            return Err(Fail::from("too many octets"));
+        }
+        reader.feed(piece)?;
+        show(alloc, &mut reader, &mut text)?;
+    }
+    let end = match reader.next() {
+        CapStep::More => reader.finish(),
+        CapStep::Bad { at, fault } => Some((at, fault)),
+        _ => return Err(Fail::from("not at its end")),
+    };
+    match end {
+        None => text.push_str("whole\n")?,
+        Some((at, fault)) => text.push_str(&format!(in alloc; "{fault:?} at {at}\n")?)?,
+    }
+    Ok(text)
+}
+
+// A head, big-endian, nanoseconds, IP (link type 101).
+const HEAD: [u8; 24] = [
+    0xa1, 0xb2, 0x3c, 0x4d, 0, 2, 0, 4, 0, 0, 0, 0, 0, 0, 0, 0, 0, 4, 0, 0, 0, 0, 0, 0x65,
+];
+
+// Little-endian, microseconds, Ethernet.
+const LITTLE: [u8; 24] = [
+    0xd4, 0xc3, 0xb2, 0xa1, 2, 0, 4, 0, 0, 0, 0, 0, 0, 0, 0, 0, 0, 0, 4, 0, 1, 0, 0, 0,
+];
+
+// The head of LITTLE with its magic number's nanoseconds, and the link type 113.
+const COOKED: [u8; 24] = [
+    0x4d, 0x3c, 0xb2, 0xa1, 2, 0, 4, 0, 0, 0, 0, 0, 0, 0, 0, 0, 0, 0, 4, 0, 113, 0, 0, 0,
+];
+
+#[test]
+fn reads_in_any_pieces(rt: HostRuntime) -> Result<(), Fail> {
+    for size in [1, 2, 3, 7, 16, 24, 65_536] {
+        let text = outline(rt.alloc(), &TWO, size)?;
+        assert_eq!(rt; text.as_str(), TWO_READ);
+    }
+    Ok(())
+}
+
+#[test]
+fn reads_each_form_and_fault(rt: HostRuntime) -> Result<(), Fail> {
+    let little = [1, 0, 0, 0, 0x20, 0xa1, 7, 0, 2, 0, 0, 0, 62, 0, 0, 0, 8, 9];
+    let nanoseconds = [0, 0, 0, 1, 0x77, 0x35, 0x94, 0, 0, 0, 0, 1, 0, 0, 0, 1, 5];
+    let long = [0, 0, 0, 1, 0, 0, 0, 0, 0, 4, 0, 1, 0, 4, 0, 1];
+    let section = [0x0a, 0x0d, 0x0d, 0x0a];
+    let cases: [(&[u8], &[u8], &str); 9] = [
+        (
+            &LITTLE,
+            &little,
+            "Head { link: Ethernet }\nPacket(Packet { time: 1500000000, original: 62, octets: [8, 9] })\nwhole\n",
+        ),
+        (
+            &HEAD,
+            &nanoseconds,
+            "Head { link: Raw }\nPacket(Packet { time: 3000000000, original: 1, octets: [5] })\nwhole\n",
+        ),
+        (&HEAD, &[], "Head { link: Raw }\nwhole\n"),
+        (&section, &[], "Magic { found: 168627466 } at 0\n"),
+        (&COOKED, &[], "Link { found: 113 } at 0\n"),
+        (
+            &HEAD,
+            &long,
+            "Head { link: Raw }\nRecordLong { found: 262145 } at 24\n",
+        ),
+        (&HEAD[..23], &[], "Short { have: 23 } at 0\n"),
+        (
+            &HEAD,
+            &long[..15],
+            "Head { link: Raw }\nShort { have: 15 } at 24\n",
+        ),
+        (&[], &[], "Short { have: 0 } at 0\n"),
+    ];
+    for (head, rest, expected) in cases {
+        let mut capture = head.to_vec(rt.alloc())?;
+        capture.extend_from_slice(rest)?;
+        for size in [1, 65_536] {
+            let text = outline(rt.alloc(), &capture, size)?;
+            assert_eq!(rt; text.as_str(), expected);
+        }
+    }
+    Ok(())
+}
+
+#[test]
+fn writes_and_picks(rt: HostRuntime) -> Result<(), Fail> {
+    let mut out = Vec::new(rt.alloc());
+    put_head(&mut out)?;
+    put_record(1_000_002_000, &[7, 8], &mut out)?;
+    put_record(4_294_967_297_000_000_001, &[], &mut out)?;
+    let records = [
+        0, 0, 0, 1, 0, 0, 7, 0xd0, 0, 0, 0, 2, 0, 0, 0, 2, 7, 8, //
+        0, 0, 0, 1, 0, 0, 0, 1, 0, 0, 0, 0, 0, 0, 0, 0,
+    ];
+    let mut expected = HEAD.to_vec(rt.alloc())?;
+    expected.extend_from_slice(&records)?;
+    assert_eq!(rt; out.as_slice(), expected.as_slice());
+
+    assert_eq!(rt; pick(&[Some(5), None, Some(5), Some(4)]), Some(3));
+    assert_eq!(rt; pick(&[Some(5), None, Some(5)]), Some(0));
+    assert_eq!(rt; pick(&[None]), None);
+    Ok(())
+}
