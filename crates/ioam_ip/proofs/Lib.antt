@@ -1,8 +1,10 @@
 pub mod ChainLaws
 pub mod ChainOptionsLaws
+pub mod HeaderLaws
 pub mod HeadsLeftLaws
 pub mod IteratorLaws
 pub mod Looking
 pub mod OptionsLaws
 pub mod OptionsLeftLaws
 pub mod WalkLaws
+pub mod WideOctets

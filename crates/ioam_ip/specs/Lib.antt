@@ -3,6 +3,7 @@ pub mod ChainOptions
 pub mod Findings
 pub mod Framed
 pub mod Framing
+pub mod Header
 pub mod HeadsLeft
 pub mod Options
 pub mod OptionsLeft

@@ -3,6 +3,7 @@
 
 mod chain;
 mod checks;
+mod codec;
 mod extents;
 mod finds;
 mod frame;
@@ -16,6 +17,7 @@ mod walking;
 
 pub use chain::Head;
 pub use checks::{check_options, options};
+pub use codec::{header, put_header};
 pub use finds::{heads, hop_header, target_header};
 pub use frame::{Framed, packet_of};
 pub use headers::Heads;
