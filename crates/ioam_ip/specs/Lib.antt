@@ -5,6 +5,7 @@ pub mod Framed
 pub mod Framing
 pub mod Header
 pub mod HeadsLeft
+pub mod Layout
 pub mod Options
 pub mod OptionsLeft
 pub mod Packet

@@ -1,0 +1,28 @@
+-- The octets of an options header that is laid out (RFC 8200 section 4.2, RFC 9486 section 3).
+use Rattle.std.specs.Prelude.{◌≡◌, ℕ, zero, suc, ◌+◌, ◌-◌, ◌*◌, ◌/◌, ◌%◌, List, [], ◌∷◌, ◌++◌, Bool, ◌==◌, ◌||◌, if◌then◌else◌, length, replicate, slice_set}
+
+-- padding of so many octets: Pad1 for one, and PadN with zeros for more
+abbrev pub padding : ℕ → List ℕ
+padding zero = []
+padding (suc zero) = 0 ∷ []
+padding (suc (suc n)) = 1 ∷ n ∷ replicate n 0
+
+-- an IOAM option stands at a multiple of 4 octets; the others stand anywhere
+abbrev pub is_aligned : ℕ → Bool
+is_aligned kind = (kind == 0x11) || (kind == 0x31)
+
+-- the octets of padding between so many octets of a header and an option of this type
+abbrev pub gap_before : ℕ → ℕ → ℕ
+gap_before size kind = if is_aligned kind then (4 - size % 4) % 4 else 0
+
+-- the header so far, with an option behind it
+abbrev pub with_option : List ℕ → ℕ → List ℕ → List ℕ
+with_option laid kind body = laid ++ (padding (gap_before (length laid) kind) ++ (kind ∷ length body ∷ body))
+
+-- the least multiple of 8 that isn't below a size
+abbrev pub padded : ℕ → ℕ
+padded size = (size + 7) / 8 * 8
+
+-- the whole header: padded, with its length octet
+abbrev pub finished : List ℕ → List ℕ
+finished laid = slice_set (laid ++ padding (padded (length laid) - length laid)) 1 (padded (length laid) / 8 - 1)
