@@ -3,6 +3,7 @@ pub mod ChainOptionsLaws
 pub mod HeaderLaws
 pub mod HeadsLeftLaws
 pub mod IteratorLaws
+pub mod LayoutLaws
 pub mod Looking
 pub mod OptionsLaws
 pub mod OptionsLeftLaws

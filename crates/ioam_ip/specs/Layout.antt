@@ -1,5 +1,6 @@
 -- The octets of an options header that is laid out (RFC 8200 section 4.2, RFC 9486 section 3).
-use Rattle.std.specs.Prelude.{◌≡◌, ℕ, zero, suc, ◌+◌, ◌-◌, ◌*◌, ◌/◌, ◌%◌, List, [], ◌∷◌, ◌++◌, Bool, ◌==◌, ◌||◌, if◌then◌else◌, length, replicate, slice_set}
+use Rattle.std.specs.Prelude.{◌≡◌, ℕ, zero, suc, ◌+◌, ◌-◌, ◌*◌, ◌/◌, ◌%◌, List, [], ◌∷◌, ◌++◌, Bool, ◌==◌, ◌||◌, if◌then◌else◌, length, replicate, slice_index, slice_set}
+use Rattle.ioam_ip.specs.Options.{Item, AreOptions}
 
 -- padding of so many octets: Pad1 for one, and PadN with zeros for more
 abbrev pub padding : ℕ → List ℕ
@@ -26,3 +27,21 @@ padded size = (size + 7) / 8 * 8
 -- the whole header: padded, with its length octet
 abbrev pub finished : List ℕ → List ℕ
 finished laid = slice_set (laid ++ padding (padded (length laid) - length laid)) 1 (padded (length laid) / 8 - 1)
+
+-- the option with its place in the header
+abbrev pub placed : List ℕ → ℕ → List ℕ → Item
+placed laid kind body = record { kind = kind; at = length laid + gap_before (length laid) kind; body = body }
+
+-- the second header has the options of the first
+abbrev pub KeepsOptions : List ℕ → List ℕ → Type 0
+KeepsOptions old new = (os : List Item) → AreOptions old os → AreOptions new os
+
+-- the second header has the options of the first, and then this one
+abbrev pub AddsOption : List ℕ → List ℕ → Item → Type 0
+AddsOption old new item = (os : List Item) → AreOptions old os → AreOptions new (os ++ item ∷ [])
+
+-- the header has the least multiple of 8 octets that isn't below a size, and its length octet says
+-- so: units of 8 octets past the first 8
+pub record IsSized (head : List ℕ) (size : ℕ) : Type 0 where
+  pub length_is : length head ≡ padded size
+  pub said : (slice_index head 1 + 1) * 8 ≡ length head

@@ -1,6 +1,6 @@
 //! An options header that is laid out option by option (RFC 8200 section 4.2).
-ghost use Rattle.std.specs.Prelude.{◌≡◌, ◌↔◌, ◌+◌, ◌*◌, ◌<◌, ◌≤◌, List, [], ◌∷◌, ◌++◌, length, take, slice_index, is_ok, if◌then◌else◌, OnOk, OnErr, IfOk};
-ghost use Rattle.ioam_ip.specs.Layout.{padding, gap_before, with_option, padded, finished};
+ghost use Rattle.std.specs.Prelude.{◌≡◌, ◌↔◌, ◌+◌, ◌*◌, ◌%◌, ◌<◌, ◌≤◌, List, [], ◌∷◌, ◌++◌, length, take, slice_index, is_ok, if◌then◌else◌, OnOk, OnErr, IfOk, IsTrue};
+ghost use Rattle.ioam_ip.specs.Layout.{padding, gap_before, with_option, padded, finished, placed, is_aligned, AddsOption, KeepsOptions, IsSized};
 ghost use Rattle.ioam_ip.specs.Options.{Item, AreOptions};
 
 use ioam_base::memory::NoMemory;
@@ -58,6 +58,8 @@ impl Layout {
         requires short { length body.now ≤ 255 }
         ensures full { (result ≡ Err LayoutFault.Full) ↔ (2048 < padded (length (with_option self.old kind body.now))) }
         ensures octets { OnOk result (self.new ≡ with_option self.old kind body.now) }
+        ensures options { OnOk result (AddsOption self.old self.new (placed self.old kind body.now)) }
+        ensures aligned { IsTrue (is_aligned kind) → (placed self.old kind body.now).at % 4 ≡ 0 }
         ensures err { OnErr result (self.new ≡ self.old) }
     {
         let size = self.octets.len();
@@ -77,6 +79,9 @@ impl Layout {
     /// The whole header, padded to a multiple of 8 octets, with its length octet.
     pub fn finish(self) -> Result<Vec<u8>, NoMemory>
         ensures octets { IfOk result (λ head. head.items ≡ finished self) }
+        ensures options { IfOk result (λ head. KeepsOptions self head.items) }
+        ensures size { IfOk result (λ head. IsSized head.items (length self)) }
+        ensures short { IfOk result (λ head. length head.items ≤ 2048) }
     {
         let Layout { mut octets } = self;
         let size = octets.len();
