@@ -1,5 +1,6 @@
 pub mod ChainLaws
 pub mod ChainOptionsLaws
+pub mod FitLaws
 pub mod HeaderLaws
 pub mod HeadsLeftLaws
 pub mod IteratorLaws
