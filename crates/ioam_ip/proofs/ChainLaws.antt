@@ -46,5 +46,5 @@ bad_not_sound p at bad sound =
 pub BadAt-unique : (p : List ℕ) (a b : ℕ) → BadAt p a → BadAt p b → a ≡ b
 BadAt-unique p a b one other =
     let same : (one.heads ≡ other.heads) × (one.spot ≡ other.spot) =
-        Reaches-unique p one.heads one.spot other.heads other.spot one.reaches one.no_pass other.reaches other.no_pass in
+    Reaches-unique p one.heads one.spot other.heads other.spot one.reaches one.no_pass other.reaches other.no_pass in
     sym one.place ∙ ap (λ (spot : Spot). spot.at) same.1 ∙ other.place

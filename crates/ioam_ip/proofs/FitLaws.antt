@@ -1,10 +1,10 @@
 -- The headers on a chain lie within the packet, and their options fill them.
-use Rattle.std.proofs.Common.{◌≡◌, ℕ, ◌+◌, ◌≤◌, List, [], ◌∷◌, Bool, true, false, IsTrue, cond, eqb, ◌||◌, length, slice_range, refl, sym, ap, ◌∙◌, subst, arith}
+use Rattle.std.proofs.Common.{◌≡◌, ℕ, ◌+◌, List, [], ◌∷◌, Bool, true, false, IsTrue, cond, eqb, ◌||◌, slice_range, sym, subst, arith}
 use Rattle.std.specs.List.{All}
 use Rattle.std.proofs.lemmas.List.Elements.{All-nil, All-cons, All-head, All-rest}
 use Rattle.ioam_base.specs.Leads.{Leads}
-use Rattle.ioam_ip.specs.Chain.{kind_of, size_by, Admits, CanPass, head_at, behind, Chain}
-use Rattle.ioam_ip.specs.ChainOptions.{is_options_head, octets_of, HeadFits, IsFilledRange}
+use Rattle.ioam_ip.specs.Chain.{size_by, Admits, CanPass, head_at, behind}
+use Rattle.ioam_ip.specs.ChainOptions.{is_options_head, HeadFits, IsFilledRange}
 use Rattle.ioam_ip.specs.Options.{IsFilled}
 use Rattle.ioam_ip.specs.HeadsLeft.{AreHeads}
 use Rattle.ioam_ip.specs.declared.chain.Kind.{Kind}
@@ -24,7 +24,8 @@ fits_at p spot pass = record {
   ordered = omega arith;
   within = pass.0;
   filled = λ options. filled_by p spot (eqb spot.value 0) (eqb spot.value 60)
-      (cond (eqb spot.value 43) Routing (cond (eqb spot.value 44) Fragment (cond (eqb spot.value 41) Nested Upper))) options pass.1 }
+      (cond (eqb spot.value 43) Routing (cond (eqb spot.value 44) Fragment (cond (eqb spot.value 41) Nested Upper))) options pass.1;
+}
 
 reached_fit : (p : List ℕ) (spot : Spot) (hs : List Head) (last : Spot) → Leads (CanPass p) (head_at p) (behind p) spot hs last
     → All (HeadFits p) hs

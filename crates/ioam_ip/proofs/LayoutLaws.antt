@@ -1,8 +1,7 @@
 -- Laws of options headers that are laid out.
-use Rattle.std.proofs.Common.{◌≡◌, ◌≢◌, ℕ, zero, suc, ◌+◌, ◌-◌, ◌*◌, ◌/◌, ◌%◌, ◌<◌, ◌≤◌, List, [], ◌∷◌, ◌++◌, Bool, true, false, cond, eqb, ltb, length, take, drop, filter, replicate, slice_index, slice_set, get_or, refl, sym, ap, ◌∙◌, subst, arith, append_assoc, length-append, length-take, length-drop, get_or-take, get_or-drop}
+use Rattle.std.proofs.Common.{◌≡◌, ℕ, zero, suc, ◌+◌, ◌-◌, ◌/◌, ◌<◌, ◌≤◌, List, [], ◌∷◌, ◌++◌, Bool, true, false, cond, eqb, ltb, length, take, drop, filter, replicate, slice_index, slice_set, get_or, refl, sym, ap, ◌∙◌, subst, arith, append_assoc, length-append, length-take, length-drop, get_or-take, get_or-drop}
 use Rattle.std.proofs.lemmas.List.{ext_get_or, get_or-append-add, get_or_at, get_or_append_left, append-nil, length-set, get_or-set_other, get_or-set_same, length-replicate, take_all, drop_at, drop-drop}
 use Rattle.std.proofs.lemmas.List.Elements.{filter-append}
-use Rattle.std.proofs.lemmas.Grind.{common_steps}
 use Rattle.std.proofs.lemmas.Bool.Decides.{nat_tests}
 use Rattle.ioam_base.specs.Leads.{Leads}
 use Rattle.ioam_base.proofs.LeadsLaws.{Leads-push, Leads-append}
@@ -55,13 +54,13 @@ module _ (a b : List ℕ) (agree : Agree a b) (at : ℕ) (behind : 2 ≤ at) (fi
   part_same n within =
       let here : length (take n (drop (at + 2) a)) ≡ n = length_part n a within in
       ext_get_or 0 (take n (drop (at + 2) a)) (take n (drop (at + 2) b))
-        (here ∙ sym (length_part n b (omega (arith, within, agree.shorter))))
-        (λ i below. octet_same n i within (omega (arith, here)))
+      (here ∙ sym (length_part n b (omega (arith, within, agree.shorter))))
+      (λ i below. octet_same n i within (omega (arith, here)))
 
   body_same : body_at a at ≡ body_at b at
   body_same =
       same_data (eqb (slice_index a at) 0) (take (slice_index a (at + 1)) (drop (at + 2) a)) (take (slice_index b (at + 1)) (drop (at + 2) b))
-        (λ other. part_same (slice_index a (at + 1)) (long other) ∙ ap (λ n. take n (drop (at + 2) b)) (size_same other))
+      (λ other. part_same (slice_index a (at + 1)) (long other) ∙ ap (λ n. take n (drop (at + 2) b)) (size_same other))
       ∙ ap (λ k. cond (eqb k 0) [] (take (slice_index b (at + 1)) (drop (at + 2) b))) kind_same
 
   item_same : item_at a at ≡ item_at b at
@@ -76,9 +75,11 @@ carried : (a b : List ℕ) → Agree a b → (at : ℕ) (items : List Item) (end
     → Leads (OptionFits b) (item_at b) (option_end b) at items end
 carried a b agree at [] end behind here = here
 carried a b agree at (x ∷ xs) end behind leads =
-    let P : ℕ → Type 0 = λ next. Leads (OptionFits b) (item_at b) (option_end b) next xs end in
-    (fits_same a b agree at behind leads.0, leads.1 ∙ item_same a b agree at behind leads.0,
-    subst P (end_same a b agree at behind leads.0) (carried a b agree (option_end a at) xs end (omega (arith, behind)) leads.2))
+    let P : ℕ → Type 0 = λ next. Leads (OptionFits b) (item_at b) (option_end b) next xs end in (
+      fits_same a b agree at behind leads.0,
+      leads.1 ∙ item_same a b agree at behind leads.0,
+      subst P (end_same a b agree at behind leads.0) (carried a b agree (option_end a at) xs end (omega (arith, behind)) leads.2),
+    )
 
 -- paddings and where they end
 record Padded (head : List ℕ) (at count : ℕ) : Type 0 where
@@ -114,17 +115,19 @@ pads_at head a c (suc zero) is =
     record {
       pads = item_at head (length a) ∷ [];
       stand = (omega (arith, one, long), refl, omega (arith, one));
-      none = no_option (ltb 1 (slice_index head (length a))) (item_at head (length a)) (low_kind (slice_index head (length a)) (omega (arith, kind))) }
+      none = no_option (ltb 1 (slice_index head (length a))) (item_at head (length a)) (low_kind (slice_index head (length a)) (omega (arith, kind)));
+    }
 pads_at head a c (suc (suc n)) is =
     let kind : slice_index head (length a) ≡ 1 = ap (λ head. slice_index head (length a)) is ∙ first_behind a (n ∷ (replicate n 0 ++ c)) 1 in
     let count : slice_index head (length a + 1) ≡ n = ap (λ head. slice_index head (length a + 1)) is ∙ octet_behind a (1 ∷ n ∷ (replicate n 0 ++ c)) 1 in
     let more : option_size head (length a) ≡ slice_index head (length a + 1) + 2 = ap (λ k. cond (eqb k 0) 1 (slice_index head (length a + 1) + 2)) kind in
     let long : length head ≡ length a + (suc (suc n) + length c) =
-        omega (arith, ap length is, length-append a (padding (suc (suc n)) ++ c), length-append (padding (suc (suc n))) c, length-padding (suc (suc n))) in
+    omega (arith, ap length is, length-append a (padding (suc (suc n)) ++ c), length-append (padding (suc (suc n))) c, length-padding (suc (suc n))) in
     record {
       pads = item_at head (length a) ∷ [];
       stand = (omega (arith, more, count, long), refl, omega (arith, more, count));
-      none = no_option (ltb 1 (slice_index head (length a))) (item_at head (length a)) (low_kind (slice_index head (length a)) (omega (arith, kind))) }
+      none = no_option (ltb 1 (slice_index head (length a))) (item_at head (length a)) (low_kind (slice_index head (length a)) (omega (arith, kind)));
+    }
 
 -- a longer header has the options of its front
 front_agrees : (a c : List ℕ) → Agree a (a ++ c)
@@ -142,7 +145,8 @@ AreOptions-padding laid n os behind are =
       items = are.items ++ padded_at.pads;
       fill = subst P long (Leads-append (OptionFits head) (item_at head) (option_end head) 2 are.items (length laid) padded_at.pads (length laid + n) front padded_at.stand);
       options = are.options ∙ sym (append-nil (filter is_option are.items)) ∙ ap (λ xs. filter is_option are.items ++ xs) (sym padded_at.none)
-          ∙ sym (filter-append is_option are.items padded_at.pads) }
+          ∙ sym (filter-append is_option are.items padded_at.pads);
+    }
 
 an_option : (option : Bool) (item : Item) → option ≡ true → cond option (item ∷ []) [] ≡ item ∷ []
 an_option true item is = refl
@@ -169,7 +173,7 @@ AreOptions-push laid body kind os behind high are =
     let long : length head ≡ at + (length body + 2) = omega (arith, length-append laid tail) in
     let rest : drop (at + 2) head ≡ body = sym (drop-drop 2 at head) ∙ ap (λ xs. drop 2 xs) (drop_at laid tail at refl) in
     let data_is : body_at head at ≡ body = other_data (eqb (slice_index head at) 0) (take (slice_index head (at + 1)) (drop (at + 2) head)) other
-        ∙ ap (λ n. take n (drop (at + 2) head)) size_is ∙ ap (λ xs. take (length body) xs) rest ∙ take_all (length body) body (omega arith) in
+    ∙ ap (λ n. take n (drop (at + 2) head)) size_is ∙ ap (λ xs. take (length body) xs) rest ∙ take_all (length body) body (omega arith) in
     let item : item_at head at ≡ record { kind = kind; at = at; body = body } = λ i. record { kind = kind_is i; at = at; body = data_is i } in
     let fits : OptionFits head at = omega (arith, size, size_is, long) in
     let ends : option_end head at ≡ length head = omega (arith, size, size_is, long) in
@@ -181,12 +185,13 @@ AreOptions-push laid body kind os behind high are =
       options = ap (λ xs. xs ++ record { kind = kind; at = at; body = body } ∷ []) are.options
           ∙ ap (λ item. filter is_option are.items ++ item ∷ []) (sym item)
           ∙ ap (λ xs. filter is_option are.items ++ xs) (sym (an_option (ltb 1 (slice_index head at)) (item_at head at) (ap (λ k. ltb 1 k) kind_is ∙ (high_kind kind high).0)))
-          ∙ sym (filter-append is_option are.items (item_at head at ∷ [])) }
+          ∙ sym (filter-append is_option are.items (item_at head at ∷ []));
+    }
 
 -- an option with its padding
 pub AreOptions-with : (laid body : List ℕ) (kind : ℕ) (os : List Item) → 2 ≤ length laid → 1 < kind → AreOptions laid os
     → AreOptions (with_option laid kind body)
-        (os ++ record { kind = kind; at = length laid + gap_before (length laid) kind; body = body } ∷ [])
+    (os ++ record { kind = kind; at = length laid + gap_before (length laid) kind; body = body } ∷ [])
 AreOptions-with laid body kind os behind high are =
     let gap : ℕ = gap_before (length laid) kind in
     let long : length (laid ++ padding gap) ≡ length laid + gap = omega (arith, length-append laid (padding gap), length-padding gap) in
@@ -200,26 +205,29 @@ AreOptions-with laid body kind os behind high are =
 pub AreOptions-set : (laid : List ℕ) (octet : ℕ) (os : List Item) → AreOptions laid os → AreOptions (slice_set laid 1 octet) os
 AreOptions-set laid octet os are =
     let long : length (slice_set laid 1 octet) ≡ length laid = length-set laid 1 octet in
-    let agree : Agree laid (slice_set laid 1 octet) = record { shorter = omega (arith, long);
-        same = λ i behind below. sym (get_or-set_other laid 1 i octet 0 (omega arith)) } in
+    let agree : Agree laid (slice_set laid 1 octet) = record {
+      shorter = omega (arith, long);
+      same = λ i behind below. sym (get_or-set_other laid 1 i octet 0 (omega arith));
+    } in
     let P : ℕ → Type 0 = λ end. ItemsUpTo (slice_set laid 1 octet) are.items end in
     record {
       items = are.items;
       fill = subst P (sym long) (carried laid (slice_set laid 1 octet) agree 2 are.items (length laid) (omega arith) are.fill);
-      options = are.options }
+      options = are.options;
+    }
 
 -- the whole header has the options that were added
 pub AreOptions-finished : (laid : List ℕ) (os : List Item) → 2 ≤ length laid → AreOptions laid os → AreOptions (finished laid) os
 AreOptions-finished laid os behind are =
     AreOptions-set (laid ++ padding (padded (length laid) - length laid)) (padded (length laid) / 8 - 1) os
-        (AreOptions-padding laid (padded (length laid) - length laid) os behind are)
+    (AreOptions-padding laid (padded (length laid) - length laid) os behind are)
 
 -- and its length octet says its length
 pub finished-sized : (laid : List ℕ) → 2 ≤ length laid → IsSized (finished laid) (length laid)
 finished-sized laid behind =
     let whole : ℕ = padded (length laid) in
     let long : length (laid ++ padding (whole - length laid)) ≡ whole =
-        omega (arith, length-append laid (padding (whole - length laid)), length-padding (whole - length laid)) in
+    omega (arith, length-append laid (padding (whole - length laid)), length-padding (whole - length laid)) in
     let same : length (finished laid) ≡ whole = length-set (laid ++ padding (whole - length laid)) 1 (whole / 8 - 1) ∙ long in
     let octet : slice_index (finished laid) 1 ≡ whole / 8 - 1 = get_or-set_same (laid ++ padding (whole - length laid)) 1 (whole / 8 - 1) 0 (omega (arith, long)) in
     record { length_is = same; said = omega (arith, same, octet) }

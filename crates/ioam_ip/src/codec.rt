@@ -1,5 +1,5 @@
 //! Reading and writing the IPv6 header (RFC 8200 section 3).
-ghost use Rattle.std.specs.Prelude.{◌≡◌, ◌↔◌, IsTrue, IsSome, IfSome, ℕ, List, ◌++◌, length};
+ghost use Rattle.std.specs.Prelude.{◌≡◌, ◌↔◌, IsTrue, IsSome, IfSome, ℕ, List, ◌++◌, length, take};
 ghost use Rattle.ioam_ip.specs.Packet.{IsPacket};
 ghost use Rattle.ioam_ip.specs.Header.{HasFields, FieldsFit, header_octets};
 
@@ -11,12 +11,20 @@ use ioam_base::octets::{put_at, u16_at, u32_at};
 pub fn header(octets: &[u8]) -> Option<Header>
     ensures packet { IsSome result ↔ IsPacket octets.now }
     ensures fields { IfSome result (HasFields octets.now) }
+    ensures octets { IfSome result (λ read. take 40 octets.now ≡ header_octets read) }
 {
     if !is_packet(octets) {
         return None;
     }
+    Some(read_fields(octets))
+}
+
+fn read_fields(octets: &[u8]) -> Header
+    requires { IsPacket octets.now }
+    ensures { HasFields octets.now result }
+{
     let word = u32_at(octets, 0);
-    Some(Header {
+    Header {
         class: (word / 0x10_0000 % 256) as u8,
         label: word % 0x10_0000,
         payload: u16_at(octets, 4),
@@ -24,7 +32,7 @@ pub fn header(octets: &[u8]) -> Option<Header>
         hops: octets[7],
         source: u128::from_be_bytes(octets[8..24].try_into().unwrap()),
         target: u128::from_be_bytes(octets[24..40].try_into().unwrap()),
-    })
+    }
 }
 
 // Whether octets are one IPv6 packet.

@@ -1,4 +1,3 @@
-use Rattle.ioam_ip.specs.HeadsLeft.{heads_left}
 use Rattle.ioam_ip.proofs.HeadsLeftLaws.{all_from}
 use Rattle.ioam_ip.proofs.FitLaws.{heads_fit}
 use Rattle.ioam_ip.proofs.finds.heads.Goals as goal

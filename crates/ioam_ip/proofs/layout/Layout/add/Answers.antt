@@ -1,4 +1,4 @@
-use Rattle.std.proofs.Common.{◌≡◌, ◌≤◌, ◌∷◌, [], ◌++◌, List, ℕ, length, rules, arith, subst, sym}
+use Rattle.std.proofs.Common.{◌≡◌, ◌≤◌, ◌∷◌, [], ◌++◌, List, ℕ, length, rules, subst, sym}
 use Rattle.ioam_ip.specs.Layout.{with_option, placed}
 use Rattle.ioam_ip.specs.Options.{AreOptions}
 use Rattle.ioam_ip.proofs.LayoutLaws.{AreOptions-with}
