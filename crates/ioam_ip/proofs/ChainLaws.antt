@@ -41,3 +41,10 @@ bad_not_sound p at bad sound =
     Reaches-unique p bad.heads bad.spot sound.heads chain.last bad.reaches bad.no_pass chain.reaches (ends_no_pass p chain.last chain.ends) in
     let P : Spot → Type 0 = λ spot. EndsAt p spot in
     bad.no_end (subst P (sym same.1) chain.ends)
+
+-- a packet breaks at one place
+pub BadAt-unique : (p : List ℕ) (a b : ℕ) → BadAt p a → BadAt p b → a ≡ b
+BadAt-unique p a b one other =
+    let same : (one.heads ≡ other.heads) × (one.spot ≡ other.spot) =
+    Reaches-unique p one.heads one.spot other.heads other.spot one.reaches one.no_pass other.reaches other.no_pass in
+    sym one.place ∙ ap (λ (spot : Spot). spot.at) same.1 ∙ other.place

@@ -1,8 +1,12 @@
 pub mod ChainLaws
 pub mod ChainOptionsLaws
+pub mod FitLaws
+pub mod HeaderLaws
 pub mod HeadsLeftLaws
 pub mod IteratorLaws
+pub mod LayoutLaws
 pub mod Looking
 pub mod OptionsLaws
 pub mod OptionsLeftLaws
 pub mod WalkLaws
+pub mod WideOctets

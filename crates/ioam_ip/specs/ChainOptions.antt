@@ -1,9 +1,10 @@
 -- The options on the chain of a packet, and what they say of it.
-use Rattle.std.specs.Prelude.{◌≡◌, ℕ, List, [], ◌∷◌, ◌++◌, Bool, IsTrue, Option, ◌==◌, ◌||◌, if◌then◌else◌, slice_range}
+use Rattle.std.specs.Prelude.{◌≡◌, ℕ, List, [], ◌∷◌, ◌++◌, Bool, IsTrue, Option, ◌==◌, ◌||◌, if◌then◌else◌, ◌≤◌, length, slice_range}
+use Rattle.std.specs.declared.ops.Range.{Range}
 use Rattle.std.specs.Bool.{MatchBool}
 use Rattle.ioam_ip.specs.Chain.{Chain}
 use Rattle.ioam_ip.specs.Findings.{has_ioam, first_limit}
-use Rattle.ioam_ip.specs.Options.{Item, AreOptions}
+use Rattle.ioam_ip.specs.Options.{Item, AreOptions, IsFilled}
 use Rattle.ioam_ip.specs.declared.chain.Head.{Head}
 
 -- the octets of a header on the chain
@@ -56,3 +57,15 @@ pub record LimitOf (p : List ℕ) (limit : Option ℕ) : Type 0 where
   pub chain : Chain p heads upper at
   pub are_options : OptionsOf p (outer_targets heads) options
   pub first : limit ≡ first_limit options
+
+-- these octets of the packet are an options header that its options fill
+pub record IsFilledRange (p : List ℕ) (range : Range ℕ) : Type 0 where
+  pub ordered : range.start ≤ range.end
+  pub within : range.end ≤ length p
+  pub filled : IsFilled (slice_range p range.start range.end)
+
+-- a header lies within the packet, and the options of an options header fill it
+pub record HeadFits (p : List ℕ) (head : Head) : Type 0 where
+  pub ordered : head.range.start ≤ head.range.end
+  pub within : head.range.end ≤ length p
+  pub filled : IsTrue (is_options_head head) → IsFilled (octets_of p head)

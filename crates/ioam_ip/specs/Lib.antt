@@ -3,7 +3,9 @@ pub mod ChainOptions
 pub mod Findings
 pub mod Framed
 pub mod Framing
+pub mod Header
 pub mod HeadsLeft
+pub mod Layout
 pub mod Options
 pub mod OptionsLeft
 pub mod Packet

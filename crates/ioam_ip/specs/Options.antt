@@ -1,6 +1,6 @@
 -- The options of one options header (RFC 8200 section 4.2). A header is all its octets: the next
 -- header value, the length octet, and then options up to its end.
-use Rattle.std.specs.Prelude.{◌≡◌, ℕ, ◌+◌, ◌<◌, ◌≤◌, List, Bool, ◌==◌, nat_lt, if◌then◌else◌, length, slice_index, take, drop, filter}
+use Rattle.std.specs.Prelude.{◌≡◌, ℕ, ◌+◌, ◌<◌, ◌≤◌, List, [], Bool, ◌==◌, nat_lt, if◌then◌else◌, length, slice_index, take, drop, filter}
 use Rattle.ioam_base.specs.Leads.{Leads}
 
 -- one option, or one padding: its type, the place of its type octet, its data
@@ -20,8 +20,12 @@ option_end head at = at + option_size head at
 abbrev pub OptionFits : List ℕ → ℕ → Type 0
 OptionFits head at = option_end head at ≤ length head
 
+-- the data of the option at a place; Pad1 has none
+abbrev pub body_at : List ℕ → ℕ → List ℕ
+body_at head at = if slice_index head at == 0 then [] else take (slice_index head (at + 1)) (drop (at + 2) head)
+
 abbrev pub item_at : List ℕ → ℕ → Item
-item_at head at = record { kind = slice_index head at; at = at; body = take (slice_index head (at + 1)) (drop (at + 2) head) }
+item_at head at = record { kind = slice_index head at; at = at; body = body_at head at }
 
 -- options and paddings, one behind the other, from the first place up to this one
 abbrev pub ItemsUpTo : List ℕ → List Item → ℕ → Type 0

@@ -1,6 +1,8 @@
 //! The headers on the chain of a sound packet (RFC 8200 section 4).
+ghost use Rattle.std.specs.Prelude.{All, IfSome};
 ghost use Rattle.ioam_ip.specs.Packet.{IsPacket};
 ghost use Rattle.ioam_ip.specs.Chain.{IsSound};
+ghost use Rattle.ioam_ip.specs.ChainOptions.{HeadFits, IsFilledRange};
 ghost use Rattle.ioam_ip.specs.HeadsLeft.{AreHeads, heads_left, HopHeaderOf, TargetHeaderOf};
 
 use crate::chain::Spot;
@@ -13,7 +15,8 @@ use std::ops::Range;
 pub fn heads(packet: &[u8]) -> Heads<'_>
     requires packet { IsPacket packet.now }
     requires sound { IsSound packet.now }
-    ensures { AreHeads packet.now (heads_left result) }
+    ensures heads { AreHeads packet.now (heads_left result) }
+    ensures fit { All (HeadFits packet.now) (heads_left result) }
 {
     let spot = Spot {
         value: packet[6],
@@ -28,7 +31,8 @@ pub fn heads(packet: &[u8]) -> Heads<'_>
 pub fn hop_header(packet: &[u8]) -> Option<Range<usize>>
     requires packet { IsPacket packet.now }
     requires sound { IsSound packet.now }
-    ensures { HopHeaderOf packet.now result }
+    ensures header { HopHeaderOf packet.now result }
+    ensures filled { IfSome result (IsFilledRange packet.now) }
 {
     let mut along = heads(packet);
     let Some(first) = along.next() else {
@@ -45,7 +49,8 @@ pub fn hop_header(packet: &[u8]) -> Option<Range<usize>>
 pub fn target_header(packet: &[u8]) -> Option<Range<usize>>
     requires packet { IsPacket packet.now }
     requires sound { IsSound packet.now }
-    ensures { TargetHeaderOf packet.now result }
+    ensures header { TargetHeaderOf packet.now result }
+    ensures filled { IfSome result (IsFilledRange packet.now) }
 {
     for head in heads(packet) {
         if head.value == 41 {

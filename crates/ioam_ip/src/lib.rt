@@ -3,11 +3,13 @@
 
 mod chain;
 mod checks;
+mod codec;
 mod extents;
 mod finds;
 mod frame;
 mod headers;
 mod items;
+mod layout;
 mod packet;
 mod scan;
 mod steps;
@@ -16,10 +18,12 @@ mod walking;
 
 pub use chain::Head;
 pub use checks::{check_options, options};
+pub use codec::{header, put_header};
 pub use finds::{heads, hop_header, target_header};
 pub use frame::{Framed, packet_of};
 pub use headers::Heads;
 pub use items::{Opt, Options};
+pub use layout::{Layout, LayoutFault, MOST_OCTETS};
 pub use packet::{HEADER_OCTETS, Header};
 pub use walked::Walk;
 pub use walking::walk;

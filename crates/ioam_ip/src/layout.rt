@@ -1,0 +1,134 @@
+//! An options header that is laid out option by option (RFC 8200 section 4.2).
+ghost use Rattle.std.specs.Prelude.{◌≡◌, ◌↔◌, ◌+◌, ◌*◌, ◌%◌, ◌<◌, ◌≤◌, List, [], ◌∷◌, ◌++◌, length, take, slice_index, is_ok, if◌then◌else◌, OnOk, OnErr, IfOk, IsTrue};
+ghost use Rattle.ioam_ip.specs.Layout.{padding, gap_before, with_option, padded, finished, placed, is_aligned, AddsOption, KeepsOptions, IsSized};
+ghost use Rattle.ioam_ip.specs.Options.{Item, AreOptions};
+
+use ioam_base::memory::NoMemory;
+use ioam_base::text::append;
+use std::alloc::Global;
+use std::marker::Model;
+
+/// The most octets that a header is laid out to.
+pub const MOST_OCTETS: usize = 2048;
+
+/// Why an option isn't added.
+#[derive(Clone, Copy, Debug, PartialEq, Eq)]
+pub enum LayoutFault {
+    /// The header with the option, padded to a multiple of 8 octets, would pass 2,048 octets.
+    Full,
+    /// No memory could be had.
+    NoMemory,
+}
+
+/// An options header with the options added so far, which contracts see as its octets: the next
+/// header value, a length octet that is still 0, and the options with their paddings.
+#[derive(Debug, Drop)]
+pub struct Layout {
+    octets: Vec<u8>,
+}
+
+impl Model for Layout {
+    ghost use Rattle.std.specs.Prelude.{ℕ, List, ◌≤◌, length};
+
+    ghost Value = { List ℕ };
+
+    ghost view = { λ l. l.octets.items };
+
+    ghost invariant = { λ l. (2 ≤ length l.octets.items) × (length l.octets.items ≤ 2048) };
+}
+
+impl Layout {
+    /// A header without options. `next` is the value that names what follows it.
+    pub fn new(alloc: Global, next: u8) -> Result<Layout, NoMemory>
+        ensures octets { IfOk result (λ laid. laid ≡ next ∷ 0 ∷ []) }
+        ensures options { IfOk result (λ laid. AreOptions laid []) }
+    {
+        let mut octets = Vec::new(alloc);
+        append(&mut octets, &[next, 0])?;
+        Ok(Layout { octets })
+    }
+
+    /// Adds an option with its data behind those that are there. An IOAM option (type 0x11 or 0x31)
+    /// is put at a multiple of 4 octets from the header's first (RFC 9486 section 3); no other is
+    /// aligned. Padding is Pad1 for one octet and PadN with zeros for more. Full comes exactly where
+    /// the header, padded to a multiple of 8 octets, would pass 2,048 octets. After an `Err` the
+    /// header is as before.
+    pub fn add(&mut self, kind: u8, body: &[u8]) -> Result<(), LayoutFault>
+        requires kind { 1 < kind }
+        requires short { length body.now ≤ 255 }
+        ensures full { (result ≡ Err LayoutFault.Full) ↔ (2048 < padded (length (with_option self.old kind body.now))) }
+        ensures octets { OnOk result (self.new ≡ with_option self.old kind body.now) }
+        ensures options { OnOk result (AddsOption self.old self.new (placed self.old kind body.now)) }
+        ensures aligned { IsTrue (is_aligned kind) → (placed self.old kind body.now).at % 4 ≡ 0 }
+        ensures err { OnErr result (self.new ≡ self.old) }
+    {
+        let size = self.octets.len();
+        let gap = gap_before(size, kind);
+        if size + gap + 2 + body.len() > MOST_OCTETS {
+            return Err(LayoutFault::Full);
+        }
+        match append_option(&mut self.octets, gap, kind, body) {
+            Ok(()) => Ok(()),
+            Err(_) => {
+                self.octets.truncate(size);
+                Err(LayoutFault::NoMemory)
+            }
+        }
+    }
+
+    /// The whole header, padded to a multiple of 8 octets, with its length octet.
+    pub fn finish(self) -> Result<Vec<u8>, NoMemory>
+        ensures octets { IfOk result (λ head. head.items ≡ finished self) }
+        ensures options { IfOk result (λ head. KeepsOptions self head.items) }
+        ensures size { IfOk result (λ head. IsSized head.items (length self)) }
+        ensures short { IfOk result (λ head. length head.items ≤ 2048) }
+    {
+        let Layout { mut octets } = self;
+        let size = octets.len();
+        let whole = (size + 7) / 8 * 8;
+        pad(&mut octets, whole - size)?;
+        octets[1] = (whole / 8 - 1) as u8;
+        Ok(octets)
+    }
+}
+
+// The octets of padding in front of an option.
+fn gap_before(size: usize, kind: u8) -> usize
+    ensures { result ≡ gap_before size kind }
+{
+    if kind == 0x11 || kind == 0x31 {
+        (4 - size % 4) % 4
+    } else {
+        0
+    }
+}
+
+// Appends padding of up to 8 octets.
+fn pad(octets: &mut Vec<u8>, count: usize) -> Result<(), NoMemory>
+    requires { count ≤ 8 }
+    ensures { octets.new.items ≡ (if is_ok result then octets.old.items ++ padding count else octets.old.items) }
+{
+    match count {
+        0 => Ok(()),
+        1 => append(octets, &[0]),
+        2 => append(octets, &[1, 0]),
+        3 => append(octets, &[1, 1, 0]),
+        4 => append(octets, &[1, 2, 0, 0]),
+        5 => append(octets, &[1, 3, 0, 0, 0]),
+        6 => append(octets, &[1, 4, 0, 0, 0, 0]),
+        7 => append(octets, &[1, 5, 0, 0, 0, 0, 0]),
+        _ => append(octets, &[1, 6, 0, 0, 0, 0, 0, 0]),
+    }
+}
+
+// Appends an option behind its padding; an `Err` may leave a part of it.
+fn append_option(octets: &mut Vec<u8>, gap: usize, kind: u8, body: &[u8]) -> Result<(), NoMemory>
+    requires gap { gap ≤ 8 }
+    requires short { length body.now ≤ 255 }
+    ensures ok { OnOk result (octets.new.items ≡ octets.old.items ++ (padding gap ++ (kind ∷ length body.now ∷ body.now))) }
+    ensures kept { take (length octets.old.items) octets.new.items ≡ octets.old.items }
+{
+    pad(octets, gap)?;
+    append(octets, &[kind, body.len() as u8])?;
+    append(octets, body)
+}
