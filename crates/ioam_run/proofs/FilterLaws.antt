@@ -23,28 +23,28 @@ name_read words at name is inside = is ∙ get_or_default words at name [] insid
 
 -- the name at a place behind the command
 pub name_behind : (words : List (List ℕ)) (at : ℕ) (name : List ℕ) → length words ≡ 4 → at < length (file_names (files_of words))
-  → name ≡ get_or words (1 + at) name → name ≡ name_at (file_names (files_of words)) at
+    → name ≡ get_or words (1 + at) name → name ≡ name_at (file_names (files_of words)) at
 name_behind [] at name four inside is = absurd (omega (arith, four))
 name_behind (a ∷ []) at name four inside is = absurd (omega (arith, four))
 name_behind (a ∷ b ∷ []) at name four inside is = absurd (omega (arith, four))
 name_behind (a ∷ b ∷ c ∷ []) at name four inside is = absurd (omega (arith, four))
 name_behind (a ∷ b ∷ c ∷ d ∷ []) at name four inside is =
-  let next : 1 + at ≡ suc at = omega arith in
-  is ∙ ap (λ (k : ℕ). get_or (a ∷ b ∷ c ∷ d ∷ []) k name) next ∙ get_or_default (b ∷ c ∷ d ∷ []) at name [] inside
+    let next : 1 + at ≡ suc at = omega arith in
+    is ∙ ap (λ (k : ℕ). get_or (a ∷ b ∷ c ∷ d ∷ []) k name) next ∙ get_or_default (b ∷ c ∷ d ∷ []) at name [] inside
 name_behind (a ∷ b ∷ c ∷ d ∷ e ∷ more) at name four inside is = absurd (omega (arith, four))
 
 pub files_read : (words : List (List ℕ)) (input output report : List ℕ) → length words ≡ 4
-  → input ≡ get_or words 1 input → output ≡ get_or words 2 output → report ≡ get_or words 3 report
-  → ◌≡◌ {A = Files} (record { input = input; output = output; report = report }) (files_of words)
+    → input ≡ get_or words 1 input → output ≡ get_or words 2 output → report ≡ get_or words 3 report
+    → ◌≡◌ {A = Files} (record { input = input; output = output; report = report }) (files_of words)
 files_read words input output report four i o r =
-  let first : input ≡ name_at words 1 = name_read words 1 input i (omega (arith, four)) in
-  let second : output ≡ name_at words 2 = name_read words 2 output o (omega (arith, four)) in
-  let third : report ≡ name_at words 3 = name_read words 3 report r (omega (arith, four)) in
-  cc
+    let first : input ≡ name_at words 1 = name_read words 1 input i (omega (arith, four)) in
+    let second : output ≡ name_at words 2 = name_read words 2 output o (omega (arith, four)) in
+    let third : report ≡ name_at words 3 = name_read words 3 report r (omega (arith, four)) in
+    cc
 
 module _ (tells : Bool) (files : Files) (old_in : Reading) (old_out : Writing) (new_in : Reading) (new_out : Writing) where
   pub cause_of_file : (answer : Outcome) → AreApart (file_names files)
-    → FileCause tells files old_in old_out new_in new_out answer → HasCause tells files old_in old_out new_in new_out answer
+      → FileCause tells files old_in old_out new_in new_out answer → HasCause tells files old_in old_out new_in new_out answer
   cause_of_file outcome.Done apart cause = (apart, cause)
   cause_of_file outcome.Usage apart cause = cause
   cause_of_file (outcome.Names name) apart cause = absurd cause
@@ -55,7 +55,7 @@ module _ (tells : Bool) (files : Files) (old_in : Reading) (old_out : Writing) (
   cause_of_file outcome.NoMemory apart cause = cause
 
   pub cause_of_names : (answer : Outcome) (at : ℕ) (name : List ℕ) → IsFirstRepeat (file_names files) at → name ≡ name_at (file_names files) at
-    → (answer ≡ outcome.Names name) ⊎ (answer ≡ outcome.NoMemory) → HasCause tells files old_in old_out new_in new_out answer
+      → (answer ≡ outcome.Names name) ⊎ (answer ≡ outcome.NoMemory) → HasCause tells files old_in old_out new_in new_out answer
   cause_of_names answer at name first is either =
-    let P : Outcome → Type 0 = λ o. HasCause tells files old_in old_out new_in new_out o in
-    ⊎_elim (λ named. subst P (sym named) (at, first, is)) (λ none. subst P (sym none) tt) either
+      let P : Outcome → Type 0 = λ o. HasCause tells files old_in old_out new_in new_out o in
+      ⊎_elim (λ named. subst P (sym named) (at, first, is)) (λ none. subst P (sym none) tt) either

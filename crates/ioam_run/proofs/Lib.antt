@@ -3,3 +3,4 @@ pub mod FramingLaws
 pub mod FilteringLaws
 pub mod FollowedLaws
 pub mod FilterLaws
+pub mod AskedLaws

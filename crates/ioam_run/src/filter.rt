@@ -1,12 +1,14 @@
 //! `filter IN OUT REPORT`: keeps the packets that may leave a domain.
-ghost use Rattle.std.specs.Prelude.{◌≡◌, ◌≢◌, ◌<◌, ◌^◌, ◌⊎◌, ◌∷◌, [], List, ℕ, false, IfOk, IsTrue, length};
+ghost use Rattle.std.specs.Prelude.{◌≡◌, ◌≢◌, ◌<◌, ◌^◌, ◌⊎◌, ◌∷◌, [], List, ℕ, false, IfOk, IsSomeAnd, IsTrue, length};
 ghost use Rattle.ioam_pcap.specs.Reader.{ending_of as ending};
+ghost use Rattle.ioam_desk.specs.Desk.{Rose, holds};
 ghost use Rattle.ioam_run.specs.Answered.{IsAnswered, FileCause};
-ghost use Rattle.ioam_run.specs.Filter.{HasCause, Leaves, IsBehindAll, files_of, outcome_of};
+ghost use Rattle.ioam_run.specs.Filter.{HasCause, Asked, Leaves, IsBehindAll, IsCleanCapture, files_of, outcome_of};
 ghost use Rattle.ioam_run.specs.FilterText.{Filtered};
 ghost use Rattle.ioam_run.specs.Followed.{Follows, GathersReads};
 ghost use Rattle.ioam_run.specs.Names.{name_at};
 ghost use Rattle.ioam_run.specs.Texts.{AsksFront};
+ghost use Rattle.ioam_run.specs.declared.outcome.Outcome.{Outcome};
 
 use crate::filtering::Filtering;
 use crate::names::first_repeat;
@@ -75,7 +77,30 @@ pub fn run_filter<D: Desk>(alloc: Global, words: &[Name], desk: &mut D) -> Outco
         (name_at words.now 1 ∷ []) }
     ensures asked_out { AsksFront (D.writing desk.old).side.asked (D.writing desk.new).side.asked
         (name_at words.now 2 ∷ name_at words.now 3 ∷ []) }
+    // What is asked for is answered, unless a call of the desk failed or no memory could be had.
+    ensures exact { (asked : Outcome) → IsTrue D.tells → Asked D.tells (D.writing desk.old) (files_of words.now) asked
+        → (Rose (D.reading desk.old).side.faults (D.reading desk.new).side.faults → ⊥)
+        → (Rose (D.writing desk.old).side.faults (D.writing desk.new).side.faults → ⊥)
+        → (result ≡ asked) ⊎ (result ≡ Outcome.NoMemory) }
+    // Each packet in OUT has a whole header chain without an IOAM option.
+    ensures boundary { IsBehindAll result → IsTrue D.tells
+        → IsSomeAnd (holds (D.writing desk.new) (name_at words.now 2)) IsCleanCapture }
     // IN was read to its end.
+    ensures drained { IsBehindAll result → IsTrue D.tells → IsTrue ((D.reading desk.new).ended (D.reading desk.old).side.slots) }
+{
+    filter_words(alloc, words, desk)
+}
+
+// The run of `filter`, before what follows from its answer is said of it.
+fn filter_words<D: Desk>(alloc: Global, words: &[Name], desk: &mut D) -> Outcome
+    requires { length words.now ≡ 4 }
+    ensures cause { HasCause D.tells (files_of words.now) (D.reading desk.old) (D.writing desk.old)
+        (D.reading desk.new) (D.writing desk.new) result }
+    ensures leaves { IsTrue D.tells → Leaves (D.writing desk.old) (D.writing desk.new) (files_of words.now) result }
+    ensures asked_in { AsksFront (D.reading desk.old).side.asked (D.reading desk.new).side.asked
+        (name_at words.now 1 ∷ []) }
+    ensures asked_out { AsksFront (D.writing desk.old).side.asked (D.writing desk.new).side.asked
+        (name_at words.now 2 ∷ name_at words.now 3 ∷ []) }
     ensures drained { IsBehindAll result → IsTrue D.tells → IsTrue ((D.reading desk.new).ended (D.reading desk.old).side.slots) }
 {
     let [_, input, output, report] = words else {

@@ -1,24 +1,14 @@
-use Rattle.std.proofs.Common.{◌≡◌, ℕ, ◌+◌, List, [], sym, subst, ◌∙◌, arith, rules}
-use Rattle.ioam_run.specs.Answered.{FileCause}
-use Rattle.ioam_run.specs.Filter.{Files, files_of, file_names}
-use Rattle.ioam_run.specs.Names.{AreApart, IsFirstRepeat, name_at}
-use Rattle.ioam_run.proofs.FilterLaws.{names_of_words, name_behind, files_read, cause_of_file, cause_of_names}
+use Rattle.ioam_run.specs.Filter.{files_of}
+use Rattle.ioam_run.proofs.AskedLaws.{HasCause-asked, Leaves-clean}
 use Rattle.ioam_run.proofs.filter.run_filter.Goals as goal
 
-pub returns-in-Some-clause-cause : goal.returns-in-Some-clause-cause
-returns-in-Some-clause-cause g c =
-  let P : List (List ℕ) → Type 0 = λ names. IsFirstRepeat names c.in-Some.at in
-  let first : IsFirstRepeat (file_names (files_of c.args.words.now)) c.in-Some.at = subst P (names_of_words c.args.words.now c.requires) c.in-Some.ensures in
-  cause_of_names g.D.Desk.tells (files_of c.args.words.now) (g.D.Desk.reading c.args.desk.now) (g.D.Desk.writing c.args.desk.now)
-    (g.D.Desk.reading c.args.desk.now) (g.D.Desk.writing c.args.desk.now) c.names_outcome.result c.in-Some.at _ first
-    (name_behind c.args.words.now c.in-Some.at _ c.requires first.inside c.index-words-at.is) c.names_outcome.ensures
+pub returns-clause-exact : goal.returns-clause-exact
+returns-clause-exact g c = λ asked told asks reads writes.
+    HasCause-asked g.D.Desk.tells (g.D.Desk.writing c.args.desk.now) (files_of c.args.words.now) told (g.D.Desk.reading c.args.desk.now)
+    (g.D.Desk.reading c.filter_words.new.desk) (g.D.Desk.writing c.filter_words.new.desk) c.filter_words.result asked
+    c.filter_words.ensures.cause asks reads writes
 
-pub returns-in-None-clause-cause : goal.returns-in-None-clause-cause
-returns-in-None-clause-cause g c =
-  let P : Files → Type 0 = λ files. FileCause g.D.Desk.tells files (g.D.Desk.reading c.args.desk.now) (g.D.Desk.writing c.args.desk.now)
-    (g.D.Desk.reading c.filter_file.new.desk) (g.D.Desk.writing c.filter_file.new.desk) c.filter_file.result in
-  let apart : AreApart (file_names (files_of c.args.words.now)) =
-    let Q : List (List ℕ) → Type 0 = λ names. AreApart names in subst Q (names_of_words c.args.words.now c.requires) c.in-None.ensures in
-  cause_of_file g.D.Desk.tells (files_of c.args.words.now) (g.D.Desk.reading c.args.desk.now) (g.D.Desk.writing c.args.desk.now)
-    (g.D.Desk.reading c.filter_file.new.desk) (g.D.Desk.writing c.filter_file.new.desk) c.filter_file.result apart
-    (subst P (files_read _ _ _ _ c.requires c.input-item.is c.output-item.is c.report-item.is) c.filter_file.ensures.cause)
+pub returns-clause-boundary : goal.returns-clause-boundary
+returns-clause-boundary g c = λ behind told.
+    Leaves-clean (g.D.Desk.writing c.args.desk.now) (g.D.Desk.writing c.filter_words.new.desk) (files_of c.args.words.now) c.filter_words.result
+    (c.filter_words.ensures.leaves told) behind

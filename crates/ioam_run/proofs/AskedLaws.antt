@@ -1,0 +1,148 @@
+-- At most one answer is asked for, and the packets that are kept may leave a domain.
+use Rattle.std.proofs.Common.{◌≡◌, ℕ, ◌<◌, ◌≤◌, ◌⊎◌, Bool, IsTrue, IsSomeAnd, List, [], ◌∷◌, length, Option, Some, None, refl, sym, ◌∙◌, ap, subst, inl, inr, ⊎_elim, arith, All}
+use Rattle.std.specs.List.{AllByRecursion}
+use Rattle.std.proofs.lemmas.Bool.{cases_lt}
+use Rattle.std.proofs.lemmas.List.Elements.{All-from_recursion}
+use Rattle.ioam_desk.specs.Desk.{Reading, Writing, Rose, holds}
+use Rattle.ioam_ip.specs.Framing.{Framing, Holds, NoIpv6, CutShort, TooShort, framing_of}
+use Rattle.ioam_pcap.specs.Entries.{Entry}
+use Rattle.ioam_pcap.specs.Text.{Sent}
+use Rattle.ioam_pcap.specs.Reads.{Ending, Whole, Faulty}
+use Rattle.ioam_pcap.proofs.ReadsLaws.{Reads-unique}
+use Rattle.ioam_run.specs.Filter.{Files, HasCause, Asked, IsInput, LeavesTexts, Leaves, IsBehindAll, IsClean, IsCleanCapture, file_names, most_octets}
+use Rattle.ioam_run.specs.FilterText.{Filtered, kept_of}
+use Rattle.ioam_run.specs.Names.{AreApart, IsFirstRepeat, name_at}
+use Rattle.ioam_run.specs.Verdict.{Verdict, Keeps, Drops, HasVerdict, FramingVerdict, AreVerdicts}
+use Rattle.ioam_run.specs.declared.reason.Reason.{Reason}
+use Rattle.ioam_run.specs.declared.outcome.Outcome.{Outcome}
+use Rattle.ioam_run.specs.declared.outcome.Outcome.TheVariants as outcome
+
+not_apart : (names : List (List ℕ)) (at : ℕ) → IsFirstRepeat names at → AreApart names → ⊥
+not_apart names at first apart = apart at first.inside first.repeats
+
+first_unique : (names : List (List ℕ)) (a b : ℕ) → IsFirstRepeat names a → IsFirstRepeat names b → a ≡ b
+first_unique names a b x y = ⊎_elim (λ below. absurd (y.none_before a below x.repeats))
+    (λ not_below. ⊎_elim (λ above. absurd (x.none_before b above y.repeats)) (λ not_above. omega (arith, not_below, not_above)) (cases_lt b a))
+    (cases_lt a b)
+
+-- what is held is both
+both : (held : Option (List ℕ)) (P Q : List ℕ → Type 0) → IsSomeAnd held P → IsSomeAnd held Q → (octets : List ℕ) × P octets × Q octets
+both None P Q x y = absurd x
+both (Some octets) P Q x y = (octets, x, y)
+
+ending_unique : (octets : List ℕ) (d e : Ending) → IsInput d octets → IsInput e octets → d ≡ e
+ending_unique octets d e x y = (Reads-unique octets x.judged.link y.judged.link x.entries y.entries d e x.judged.reads y.judged.reads).2
+
+held_ending : (held : Option (List ℕ)) (d e : Ending) → IsSomeAnd held (IsInput d) → IsSomeAnd held (IsInput e) → d ≡ e
+held_ending held d e x y = let it : (octets : List ℕ) × IsInput d octets × IsInput e octets = both held (IsInput d) (IsInput e) x y in
+    ending_unique it.0 d e it.1 it.2
+
+too_long : (held : Option (List ℕ)) (d : Ending) → IsSomeAnd held (λ octets. most_octets < length octets) → IsSomeAnd held (IsInput d) → ⊥
+too_long held d x y =
+    let it : (octets : List ℕ) × (most_octets < length octets) × IsInput d octets = both held (λ octets. most_octets < length octets) (IsInput d) x y in
+    omega (arith, it.1, it.2.fits)
+
+whole_or_faulty : (at : ℕ) (fault : _) → Whole ≡ Faulty at fault → ⊥
+whole_or_faulty at fault same = cc
+
+module _ (tells : Bool) (desk : Writing) (files : Files) (told : IsTrue tells) where
+  pub Asked-unique : (a b : Outcome) → Asked tells desk files a → Asked tells desk files b → a ≡ b
+  Asked-unique outcome.Usage b x y = absurd x
+  Asked-unique outcome.ReadFault b x y = absurd x
+  Asked-unique outcome.WriteFault b x y = absurd x
+  Asked-unique outcome.NoMemory b x y = absurd x
+  Asked-unique outcome.Done outcome.Done x y = refl
+  Asked-unique outcome.Done (outcome.Names name) x y = absurd (not_apart (file_names files) y.0 y.1 x.0)
+  Asked-unique outcome.Done (outcome.Packets limit) x y = absurd (too_long (holds desk files.input) Whole (y.2 told) (x.1 told))
+  Asked-unique outcome.Done (outcome.Capture name at fault) x y = absurd (whole_or_faulty at fault (held_ending (holds desk files.input) Whole (Faulty at fault) (x.1 told) (y.2 told)))
+  Asked-unique outcome.Done outcome.Usage x y = absurd y
+  Asked-unique outcome.Done outcome.ReadFault x y = absurd y
+  Asked-unique outcome.Done outcome.WriteFault x y = absurd y
+  Asked-unique outcome.Done outcome.NoMemory x y = absurd y
+  Asked-unique (outcome.Names name) outcome.Done x y = absurd (not_apart (file_names files) x.0 x.1 y.0)
+  Asked-unique (outcome.Names name) (outcome.Names other) x y =
+      let same : x.0 ≡ y.0 = first_unique (file_names files) x.0 y.0 x.1 y.1 in
+      ap outcome.Names (x.2 ∙ ap (name_at (file_names files)) same ∙ sym y.2)
+  Asked-unique (outcome.Names name) (outcome.Packets limit) x y = absurd (not_apart (file_names files) x.0 x.1 y.0)
+  Asked-unique (outcome.Names name) (outcome.Capture other at fault) x y = absurd (not_apart (file_names files) x.0 x.1 y.0)
+  Asked-unique (outcome.Names name) outcome.Usage x y = absurd y
+  Asked-unique (outcome.Names name) outcome.ReadFault x y = absurd y
+  Asked-unique (outcome.Names name) outcome.WriteFault x y = absurd y
+  Asked-unique (outcome.Names name) outcome.NoMemory x y = absurd y
+  Asked-unique (outcome.Packets limit) outcome.Done x y = absurd (too_long (holds desk files.input) Whole (x.2 told) (y.1 told))
+  Asked-unique (outcome.Packets limit) (outcome.Names name) x y = absurd (not_apart (file_names files) y.0 y.1 x.0)
+  Asked-unique (outcome.Packets limit) (outcome.Packets other) x y = ap outcome.Packets (x.1 ∙ sym y.1)
+  Asked-unique (outcome.Packets limit) (outcome.Capture name at fault) x y = absurd (too_long (holds desk files.input) (Faulty at fault) (x.2 told) (y.2 told))
+  Asked-unique (outcome.Packets limit) outcome.Usage x y = absurd y
+  Asked-unique (outcome.Packets limit) outcome.ReadFault x y = absurd y
+  Asked-unique (outcome.Packets limit) outcome.WriteFault x y = absurd y
+  Asked-unique (outcome.Packets limit) outcome.NoMemory x y = absurd y
+  Asked-unique (outcome.Capture name at fault) outcome.Done x y = absurd (whole_or_faulty at fault (held_ending (holds desk files.input) Whole (Faulty at fault) (y.1 told) (x.2 told)))
+  Asked-unique (outcome.Capture name at fault) (outcome.Names other) x y = absurd (not_apart (file_names files) y.0 y.1 x.0)
+  Asked-unique (outcome.Capture name at fault) (outcome.Packets limit) x y = absurd (too_long (holds desk files.input) (Faulty at fault) (y.2 told) (x.2 told))
+  Asked-unique (outcome.Capture name at fault) (outcome.Capture other place cause) x y =
+      let same : Faulty at fault ≡ Faulty place cause = held_ending (holds desk files.input) (Faulty at fault) (Faulty place cause) (x.2 told) (y.2 told) in
+      let named : name ≡ other = x.1 ∙ sym y.1 in
+      cc
+  Asked-unique (outcome.Capture name at fault) outcome.Usage x y = absurd y
+  Asked-unique (outcome.Capture name at fault) outcome.ReadFault x y = absurd y
+  Asked-unique (outcome.Capture name at fault) outcome.WriteFault x y = absurd y
+  Asked-unique (outcome.Capture name at fault) outcome.NoMemory x y = absurd y
+
+  -- what is asked for is answered, unless a call failed or no memory could be had
+  pub HasCause-asked : (old_in new_in : Reading) (new_out : Writing) (answer asked : Outcome)
+      → HasCause tells files old_in desk new_in new_out answer → Asked tells desk files asked
+      → (Rose old_in.side.faults new_in.side.faults → ⊥) → (Rose desk.side.faults new_out.side.faults → ⊥)
+      → (answer ≡ asked) ⊎ (answer ≡ outcome.NoMemory)
+  HasCause-asked old_in new_in new_out outcome.Done asked cause asks reads writes = inl (Asked-unique outcome.Done asked cause asks)
+  HasCause-asked old_in new_in new_out outcome.Usage asked cause asks reads writes = absurd cause
+  HasCause-asked old_in new_in new_out (outcome.Names name) asked cause asks reads writes = inl (Asked-unique (outcome.Names name) asked cause asks)
+  HasCause-asked old_in new_in new_out (outcome.Capture name at fault) asked cause asks reads writes = inl (Asked-unique (outcome.Capture name at fault) asked cause asks)
+  HasCause-asked old_in new_in new_out (outcome.Packets limit) asked cause asks reads writes = inl (Asked-unique (outcome.Packets limit) asked cause asks)
+  HasCause-asked old_in new_in new_out outcome.ReadFault asked cause asks reads writes = absurd (reads cause)
+  HasCause-asked old_in new_in new_out outcome.WriteFault asked cause asks reads writes = absurd (writes cause)
+  HasCause-asked old_in new_in new_out outcome.NoMemory asked cause asks reads writes = inr refl
+
+keeps_drops : (kept : List ℕ) (reason : Reason) → Keeps kept ≡ Drops reason → ⊥
+keeps_drops kept reason same = cc
+
+keeps_clean : (packet kept : List ℕ) (time : ℕ) (framing : Framing) → FramingVerdict framing (Keeps kept) → IsClean (record { time = time; octets = kept })
+keeps_clean packet kept time (Holds held) has =
+    let P : List ℕ → Type 0 = λ p. IsClean (record { time = time; octets = p }) in subst P (sym has.0) (has.1, has.2)
+keeps_clean packet kept time NoIpv6 has = absurd (keeps_drops kept _ has)
+keeps_clean packet kept time CutShort has = absurd (keeps_drops kept _ has)
+keeps_clean packet kept time TooShort has = absurd (keeps_drops kept _ has)
+
+kept_clean : (ethernet : Bool) (es : List Entry) (vs : List Verdict) → AreVerdicts ethernet es vs → AllByRecursion IsClean (kept_of es vs)
+kept_clean ethernet [] [] are = tt
+kept_clean ethernet [] (v ∷ vs) are = tt
+kept_clean ethernet (e ∷ es) [] are = tt
+kept_clean ethernet (e ∷ es) (Keeps kept ∷ vs) are = (keeps_clean kept kept e.time _ are.0, kept_clean ethernet es vs are.1)
+kept_clean ethernet (e ∷ es) (Drops reason ∷ vs) are = kept_clean ethernet es vs are.1
+
+clean_capture : (octets : List ℕ) (ending : Ending) (out text : List ℕ) → Filtered octets ending out text → IsCleanCapture out
+clean_capture octets ending out text filtered = record {
+  sent = kept_of filtered.entries filtered.verdicts;
+  is = filtered.out_is;
+  clean = All-from_recursion IsClean (kept_of filtered.entries filtered.verdicts) (kept_clean _ filtered.entries filtered.verdicts filtered.judged.verdicts_are);
+}
+
+clean_texts : (ending : Ending) (input output report : Option (List ℕ))
+    → IsSomeAnd input (λ octets. IsSomeAnd output (λ out. IsSomeAnd report (λ text. Filtered octets ending out text))) → IsSomeAnd output IsCleanCapture
+clean_texts ending None output report texts = absurd texts
+clean_texts ending (Some octets) None report texts = absurd texts
+clean_texts ending (Some octets) (Some out) None texts = absurd texts
+clean_texts ending (Some octets) (Some out) (Some text) texts = clean_capture octets ending out text texts
+
+-- each packet in OUT may leave a domain
+pub Leaves-clean : (old new : Writing) (files : Files) (answer : Outcome) → Leaves old new files answer → IsBehindAll answer
+    → IsSomeAnd (holds new files.output) IsCleanCapture
+Leaves-clean old new files outcome.Done leaves behind = clean_texts Whole (holds old files.input) (holds new files.output) (holds new files.report) leaves
+Leaves-clean old new files (outcome.Capture name at fault) leaves behind =
+    clean_texts (Faulty at fault) (holds old files.input) (holds new files.output) (holds new files.report) leaves
+Leaves-clean old new files outcome.Usage leaves behind = absurd behind
+Leaves-clean old new files (outcome.Names name) leaves behind = absurd behind
+Leaves-clean old new files (outcome.Packets limit) leaves behind = absurd behind
+Leaves-clean old new files outcome.ReadFault leaves behind = absurd behind
+Leaves-clean old new files outcome.WriteFault leaves behind = absurd behind
+Leaves-clean old new files outcome.NoMemory leaves behind = absurd behind
