@@ -1,0 +1,64 @@
+//! The exit status and the line of an answer.
+ghost use Rattle.std.specs.Prelude.{◌≡◌, ◌++◌, IfOk, codes, decimal, string_bytes};
+ghost use Rattle.ioam_cmd.specs.Answers.{status_of, line_text, fault_text};
+
+use ioam_base::memory::NoMemory;
+use ioam_pcap::capture::CapFault;
+use ioam_run::Outcome;
+use std::alloc::Global;
+
+/// The program's exit status for an answer.
+pub fn status(outcome: &Outcome) -> u8
+    ensures { result ≡ status_of outcome.now }
+{
+    match outcome {
+        Outcome::Done => 0,
+        Outcome::Usage => 1,
+        Outcome::Names { .. } => 2,
+        Outcome::Capture { .. } => 5,
+        Outcome::Packets { .. } => 7,
+        Outcome::ReadFault => 9,
+        Outcome::WriteFault => 10,
+        Outcome::NoMemory => 11,
+    }
+}
+
+/// The line that says an answer, without its line feed.
+pub fn line(alloc: Global, outcome: &Outcome) -> Result<String, NoMemory>
+    ensures { IfOk result (λ line. string_bytes line ≡ line_text outcome.now) }
+{
+    match outcome {
+        Outcome::Done => Ok(String::from_str(alloc, "done")?),
+        Outcome::Usage => Ok(String::from_str(alloc, "usage")?),
+        Outcome::Names { name } => Ok(format!(in alloc; "names {}", name.text())?),
+        Outcome::Capture { name, at, fault } => {
+            let fault = fault_line(alloc, *fault)?;
+            capture_line(alloc, name.text(), *at, fault.as_str())
+        }
+        Outcome::Packets { limit } => Ok(format!(in alloc; "packets {}", *limit)?),
+        Outcome::ReadFault => Ok(String::from_str(alloc, "read fault")?),
+        Outcome::WriteFault => Ok(String::from_str(alloc, "write fault")?),
+        Outcome::NoMemory => Ok(String::from_str(alloc, "no memory")?),
+    }
+}
+
+// The line of a faulty capture.
+fn capture_line(alloc: Global, name: &str, at: u64, fault: &str) -> Result<String, NoMemory>
+    ensures { IfOk result (λ line. string_bytes line
+        ≡ codes "capture " ++ name.now ++ codes " " ++ decimal at ++ codes " " ++ fault.now) }
+{
+    Ok(format!(in alloc; "capture {name} {at} {fault}")?)
+}
+
+// A capture's fault, as its line ends.
+fn fault_line(alloc: Global, fault: CapFault) -> Result<String, NoMemory>
+    ensures { IfOk result (λ line. string_bytes line ≡ fault_text fault) }
+{
+    let line = match fault {
+        CapFault::Magic { found } => format!(in alloc; "magic {found}")?,
+        CapFault::Link { found } => format!(in alloc; "link {found}")?,
+        CapFault::RecordLong { found } => format!(in alloc; "long {found}")?,
+        CapFault::Short { have } => format!(in alloc; "short {have}")?,
+    };
+    Ok(line)
+}

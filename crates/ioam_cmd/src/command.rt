@@ -1,0 +1,22 @@
+//! The forms of a command line.
+use ioam_desk::Name;
+
+/// What a command line asks for.
+#[derive(Clone, Copy, Debug, PartialEq, Eq)]
+pub enum Command {
+    /// `filter IN OUT REPORT`
+    Filter,
+}
+
+ghost use Rattle.std.specs.Prelude.{MatchOption};
+ghost use Rattle.ioam_cmd.specs.Words.{IsForm, IsNoForm};
+
+/// The command that the words ask for: none where they are of no command's form.
+pub fn parse(words: &[Name]) -> Option<Command>
+    ensures { MatchOption result (IsNoForm words.now) (λ command. IsForm command words.now) }
+{
+    match words {
+        [command, _, _, _] if command.text() == "filter" => Some(Command::Filter),
+        _ => None,
+    }
+}

@@ -1,0 +1,48 @@
+//! `ioam`: packets with In Situ OAM (RFC 9197), read from and written to packet captures.
+#![tactic(auto)]
+
+mod answer;
+mod command;
+mod program;
+
+use answer::{line, status};
+use ioam_base::memory::NoMemory;
+use ioam_desk::{HostDesk, Name};
+use ioam_run::Outcome;
+use program::ioam;
+use std::env;
+use std::io::ErrorKind;
+use std::process::ExitCode;
+
+/// Runs the words of the command line over the files of the machine, prints the answer's line and
+/// ends with its status.
+fn main(rt: HostRuntime) -> ExitCode {
+    let outcome = match words_of(&rt) {
+        Ok(words) => ioam(rt.alloc(), &words, &mut HostDesk::new(&rt, rt.alloc())),
+        Err(outcome) => outcome,
+    };
+    if let Ok(line) = line(rt.alloc(), &outcome) {
+        let _ = println!(rt; "{line}");
+    }
+    ExitCode::from(status(&outcome))
+}
+
+// The words behind the program's name. One that isn't UTF-8 is no word of a command, and is
+// answered as such.
+fn words_of<R: std::rt::Env + AllocGlobal>(rt: &R) -> Result<Vec<Name>, Outcome> {
+    let args = match env::args(rt) {
+        Ok(args) => args,
+        Err(error) if error.kind() == ErrorKind::OutOfMemory => return Err(Outcome::NoMemory),
+        Err(_) => return Err(Outcome::Usage),
+    };
+    let mut words = Vec::new(rt.alloc());
+    for arg in args.skip(1) {
+        let Ok(word) = Name::new(rt.alloc(), arg.as_str()) else {
+            return Err(Outcome::NoMemory);
+        };
+        if words.push(word).is_err() {
+            return Err(Outcome::NoMemory);
+        }
+    }
+    Ok(words)
+}
