@@ -1,0 +1,4 @@
+pub mod Area
+pub mod Head
+pub mod Left
+pub mod Read
