@@ -1,5 +1,5 @@
 -- Laws of elements that stand one behind the other in the used words.
-use Rattle.std.proofs.Common.{◌≡◌, ◌≢◌, ℕ, zero, suc, ◌+◌, ◌*◌, ◌-◌, ◌<◌, ◌≤◌, Bool, true, false, cond, List, [], ◌∷◌, ◌++◌, length, take, drop, get_or, reverse, arith, rules, refl, sym, ap, ◌∙◌, subst, Option, Some, None}
+use Rattle.std.proofs.Common.{◌≡◌, ◌≢◌, ℕ, zero, suc, ◌+◌, ◌*◌, ◌-◌, ◌%◌, ◌<◌, ◌≤◌, Bool, true, false, cond, List, [], ◌∷◌, ◌++◌, length, take, drop, get_or, reverse, arith, rules, refl, sym, ap, ◌∙◌, subst, Option, Some, None}
 use Rattle.std.specs.Prelude.{slice_range}
 use Rattle.std.proofs.lemmas.Grind.{common_steps}
 use Rattle.std.proofs.lemmas.List.{reverse-append, reverse-reverse, get_or-take, get_or-drop, length-take-le, length-drop, places, same_lists, drop-take, take-take}
@@ -38,6 +38,19 @@ module _ (kind node_len : ℕ) (used : List ℕ) where
   pub Runs-grows : (from : ℕ) (xs : List (List ℕ)) (to : ℕ) → Runs kind node_len used from xs to → from ≤ to
   Runs-grows from [] to runs = omega (arith, runs)
   Runs-grows from (x ∷ xs) to runs = omega (arith, Runs-grows (behind kind node_len used from) xs to runs.2)
+
+  -- elements are whole words
+  pub size_at-in_words : (at : ℕ) → size_at kind node_len used at % 4 ≡ 0
+  size_at-in_words at = words_either (has kind 22) (get_or used (at + 4 * node_len) 0)
+    where
+    words_either : (b : Bool) (data_words : ℕ) → (4 * node_len + cond b (4 + 4 * data_words) 0) % 4 ≡ 0
+    words_either true data_words = omega arith
+    words_either false data_words = omega arith
+
+  pub Runs-in_words : (from : ℕ) (xs : List (List ℕ)) (to : ℕ) → Runs kind node_len used from xs to → from % 4 ≡ 0 → to % 4 ≡ 0
+  Runs-in_words from [] to runs here = omega (arith, runs)
+  Runs-in_words from (x ∷ xs) to runs here =
+      Runs-in_words (behind kind node_len used from) xs to runs.2 (omega (arith, size_at-in_words from))
 
   -- the function gives the list of the relation
   pub run_from-is : (fuel from : ℕ) (xs : List (List ℕ)) (to : ℕ) → Runs kind node_len used from xs to
@@ -86,6 +99,10 @@ module _ (kind node_len : ℕ) (used : List ℕ) where
   pub elements_of-Holds : (es : List (List ℕ)) → Holds kind node_len used es → elements_of kind node_len used ≡ es
   elements_of-Holds es holds =
       ap reverse (run_from-is (length used) 0 (reverse es) (length used) holds (ends_at_length (length used) (omega arith)) (omega arith)) ∙ reverse-reverse es
+
+  pub end_of-Holds : (es : List (List ℕ)) → Holds kind node_len used es → end_of kind node_len used ≡ length used
+  end_of-Holds es holds =
+      end_from-is (length used) 0 (reverse es) (length used) holds (ends_at_length (length used) (omega arith)) (omega arith)
 
   -- ---- the front of the used words
 

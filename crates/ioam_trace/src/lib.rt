@@ -3,9 +3,14 @@
 
 mod area;
 mod elements;
+mod fault;
 mod head;
+mod incremental;
+mod survey;
 mod trace;
 
 pub use elements::Elements;
+pub use fault::TraceFault;
 pub use head::TraceHead;
-pub use trace::{Trace, TraceFault};
+pub use incremental::Incremental;
+pub use trace::Trace;

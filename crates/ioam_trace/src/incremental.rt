@@ -1,0 +1,45 @@
+use crate::elements::Elements;
+use crate::fault::TraceFault;
+use crate::head::TraceHead;
+use crate::survey::survey;
+
+/// The data of an incremental trace option: its header and the elements behind it, with no free
+/// words between.
+#[derive(Clone, Copy, Debug)]
+pub struct Incremental<'a> {
+    /// The header. RemainingLen is not compared with the octets present.
+    pub head: TraceHead,
+    /// The elements, the newest first.
+    pub area: &'a [u8],
+}
+
+impl<'a> Incremental<'a> {
+    ghost use Rattle.std.specs.Prelude.{◌≡◌, IfOk};
+    ghost use Rattle.ioam_trace.specs.Read.{Decodes, incremental_elements, fault_of, fault_in, elements_behind};
+    ghost use Rattle.ioam_trace.specs.Left.{left};
+
+    /// Reads the octets behind the IOAM-Option-Type of an incremental trace option. The faults are
+    /// tested in the order in which [`TraceFault`] has them; `Space` never comes.
+    pub fn decode(octets: &'a [u8]) -> Result<Incremental<'a>, TraceFault>
+        ensures decodes { Decodes octets.now result }
+        // The same as functions.
+        ensures fault { fault_in result ≡ fault_of 0 octets.now }
+        ensures elements { IfOk result (λ trace. incremental_elements trace ≡ elements_behind 0 octets.now) }
+    {
+        match survey(octets, true) {
+            Ok(head) => Ok(Incremental {
+                head,
+                area: &octets[8..],
+            }),
+            Err(fault) => Err(fault),
+        }
+    }
+
+    /// The elements in visit order, the oldest first. Of a value that was not read by
+    /// [`Incremental::decode`]: those that stand one behind the other from the first word on.
+    pub fn elements(&self) -> Elements<'a>
+        ensures { left result ≡ incremental_elements self.now }
+    {
+        Elements::new(self.head.kind, self.head.node_len, self.area)
+    }
+}
