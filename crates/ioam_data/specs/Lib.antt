@@ -1,2 +1,5 @@
 pub mod Elements
 pub mod Kind
+pub mod Snapshot
+pub mod View
+pub mod Written

@@ -1,4 +1,5 @@
 ghost use Rattle.std.specs.Prelude.{◌≡◌, ℕ, ◌+◌, ◌-◌, ◌*◌, ◌/◌, ◌%◌, ◌^◌, ◌<◌, ◌≤◌};
+ghost use Rattle.std.specs.Bool.{OnTrue};
 ghost use Rattle.ioam_data.specs.Kind.{has, where_has, words, undefined, fits_type, can_add};
 
 use std::marker::Model;
@@ -89,7 +90,8 @@ impl TraceType {
     /// bits are set at least one word more for each of them.
     #[tactic(auto, unfolding(crate::specs::Kind::fits_type))]
     pub fn fits(self, node_len: u8) -> bool
-        ensures { result ≡ fits_type self node_len }
+        ensures value { result ≡ fits_type self node_len }
+        ensures room { OnTrue result (words self ≤ node_len) }
     {
         let undefined = self.undefined();
         if undefined == 0 {
@@ -103,7 +105,8 @@ impl TraceType {
     /// has one of the bits 0 to 22.
     #[tactic(auto, unfolding(crate::specs::Kind::can_add))]
     pub fn can_add(self, node_len: u8) -> bool
-        ensures { result ≡ can_add self node_len }
+        ensures value { result ≡ can_add self node_len }
+        ensures room { OnTrue result (words self ≤ node_len) }
     {
         self.fits(node_len) && self.bits() / 2 > 0
     }

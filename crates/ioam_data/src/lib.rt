@@ -1,10 +1,16 @@
 //! IOAM trace types and the elements that nodes record (RFC 9197 section 4.4).
 #![tactic(auto)]
 
+mod buffer;
+mod recording;
 mod kind;
 mod namespace;
 mod size;
+mod view;
 
+pub use buffer::ElementBuf;
+pub use recording::element;
 pub use kind::TraceType;
 pub use namespace::Namespace;
 pub use size::split;
+pub use view::View;
