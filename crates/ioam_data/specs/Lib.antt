@@ -1,4 +1,6 @@
+pub mod Cursor
 pub mod Elements
+pub mod Fields
 pub mod Kind
 pub mod Snapshot
 pub mod View

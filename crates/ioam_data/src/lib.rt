@@ -2,14 +2,19 @@
 #![tactic(auto)]
 
 mod buffer;
+mod reading;
 mod recording;
+mod cursor;
+mod held;
 mod kind;
 mod namespace;
 mod size;
 mod view;
 
 pub use buffer::ElementBuf;
+pub use reading::fields;
 pub use recording::element;
+pub use held::Fields;
 pub use kind::TraceType;
 pub use namespace::Namespace;
 pub use size::split;
