@@ -1,6 +1,7 @@
 -- What a node knows of one packet when it records its data.
-use Rattle.std.specs.Prelude.{ℕ, List, Option, Some, None}
+use Rattle.std.specs.Prelude.{ℕ, ◌<◌, List, Option, Some, None, IfSome}
 use Rattle.std.specs.Borrow.{Bor}
+use Rattle.ioam_data.specs.Snapshot.{IsSnapshot}
 use Rattle.ioam_data.specs.declared.view.View.{View}
 
 -- a view without where its snapshot lies in memory
@@ -36,3 +37,16 @@ seen view = record {
   wide = view.wide;
   snapshot = snapshot_data view.snapshot;
 }
+
+-- the numbers of a view are within their types, its id is below 2^56, and its snapshot is right
+pub record IsSeen (view : Seen) : Type 0 where
+  pub hops_below : view.hops < 256
+  pub id_below : view.id < 72057594037927936
+  pub inward_below : IfSome view.inward (λ number. number < 4294967296)
+  pub outward_below : IfSome view.outward (λ number. number < 4294967296)
+  pub stamp_below : IfSome view.stamp (λ stamp. (stamp.0 < 4294967296) × (stamp.1 < 4294967296))
+  pub queue_below : IfSome view.queue (λ number. number < 4294967296)
+  pub buffer_below : IfSome view.buffer (λ number. number < 4294967296)
+  pub short_below : IfSome view.short (λ number. number < 4294967296)
+  pub wide_below : IfSome view.wide (λ number. number < 18446744073709551616)
+  pub snapshot_fits : IfSome view.snapshot (λ given. IsSnapshot given.0 given.1)

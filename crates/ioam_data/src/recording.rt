@@ -1,6 +1,7 @@
 ghost use Rattle.std.specs.Prelude.{◌≡◌, ℕ, ◌+◌, ◌*◌, ◌<◌, ◌≤◌, ◌++◌, List, length};
 ghost use Rattle.std.specs.Bool.{OnTrue, OnFalse};
 ghost use Rattle.ioam_data.specs.Kind.{where_has, words, can_add};
+ghost use Rattle.ioam_data.specs.Elements.{IsElement};
 ghost use Rattle.ioam_data.specs.View.{seen, snapshot_data};
 ghost use Rattle.ioam_data.specs.Written.{part, bits_0_to_3, bits_4_to_7, bits_8_to_11, snapshot_of, element_of, or_ones, or_wide_ones, narrow_face, narrow_id, seconds_of, fraction_of, delay_of};
 
@@ -116,19 +117,13 @@ fn put_snapshot(kind: TraceType, view: &View<'_>, into: &mut ElementBuf)
     }
 }
 
-/// Writes into the buffer the element that a node adds for a view: the fields of bits 0 to 11 in
-/// bit order, words of all ones up to NodeLen, and with bit 22 the opaque state snapshot. False
-/// where a node adds nothing under this type and NodeLen; the buffer then stays as it was.
+// Writes the element of a view in place of what the buffer holds.
 #[tactic(auto, unfolding(crate::specs::Kind::words, crate::specs::Written::element_of))]
-pub fn element(kind: TraceType, node_len: u8, view: &View<'_>, into: &mut ElementBuf) -> bool
-    requires { node_len < 32 }
-    ensures can { result ≡ can_add kind node_len }
-    ensures written { OnTrue result (into.new ≡ element_of kind node_len (seen view.now)) }
-    ensures kept { OnFalse result (into.new ≡ into.old) }
+fn write(kind: TraceType, node_len: u8, view: &View<'_>, into: &mut ElementBuf)
+    requires below { node_len < 32 }
+    requires room { words kind ≤ node_len }
+    ensures { into.new ≡ element_of kind node_len (seen view.now) }
 {
-    if !kind.can_add(node_len) {
-        return false;
-    }
     let words = kind.words();
     into.clear();
     put_bits_0_to_3(kind, view, into);
@@ -136,5 +131,22 @@ pub fn element(kind: TraceType, node_len: u8, view: &View<'_>, into: &mut Elemen
     put_bits_8_to_11(kind, view, into);
     into.fill(usize::from(node_len - words));
     put_snapshot(kind, view, into);
+}
+
+/// Writes into the buffer the element that a node adds for a view: the fields of bits 0 to 11 in
+/// bit order, words of all ones up to NodeLen, and with bit 22 the opaque state snapshot. False
+/// where a node adds nothing under this type and NodeLen; the buffer then stays as it was.
+pub fn element(kind: TraceType, node_len: u8, view: &View<'_>, into: &mut ElementBuf) -> bool
+    requires { node_len < 32 }
+    ensures can { result ≡ can_add kind node_len }
+    ensures written { OnTrue result (into.new ≡ element_of kind node_len (seen view.now)) }
+    ensures whole { OnTrue result (IsElement kind node_len into.new) }
+    ensures kept { OnFalse result (into.new ≡ into.old) }
+{
+    if !kind.can_add(node_len) {
+        return false;
+    }
+    let _bits = kind.bits();
+    write(kind, node_len, view, into);
     true
 }
