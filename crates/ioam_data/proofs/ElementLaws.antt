@@ -11,7 +11,7 @@ use Rattle.ioam_data.specs.Kind.{has, where_has, words, undefined, fits_type, ca
 use Rattle.ioam_data.specs.Elements.{size_at, Stands, IsElement}
 use Rattle.ioam_data.specs.Snapshot.{IsSnapshot}
 use Rattle.ioam_data.specs.View.{Seen, snapshot_data}
-use Rattle.ioam_data.specs.Written.{word, part, bits_0_to_3, bits_4_to_7, bits_8_to_11, snapshot_of, element_of}
+use Rattle.ioam_data.specs.Written.{word, part, bits_0_to_3, bits_4_to_7, bits_8_to_11, snapshot_of, element_of, element_words}
 
 -- an element has NodeLen words, and with bit 22 a word more
 pub IsElement-room : (kind node_len : ℕ) (octets : List ℕ) → IsElement kind node_len octets
@@ -91,6 +91,12 @@ snapshot_size : (given : Option (ℕ × List ℕ)) → IfSome given (λ s. IsSna
 snapshot_size None fits = refl
 snapshot_size (Some given) fits = omega (arith, fits.in_words, fits.short, fits.schema_below)
 
+-- a snapshot is whole words, at most 46
+snapshot_words : (given : Option (ℕ × List ℕ)) → IfSome given (λ s. IsSnapshot s.0 s.1)
+    → (4 * (length (snapshot_of given) / 4) ≡ length (snapshot_of given)) × (length (snapshot_of given) ≤ 184)
+snapshot_words None fits = (refl, omega arith)
+snapshot_words (Some given) fits = (omega (arith, fits.in_words), omega (arith, fits.short))
+
 -- a number below twice a power that lacks the power's bit is below the power
 halve : (number power : ℕ) → 0 < power → number < 2 * power → (number / power % 2 ≡ 1 → ⊥) → number < power
 halve number power positive below no_bit =
@@ -158,6 +164,16 @@ module _ (kind node_len : ℕ) (view : Seen) (room : words kind ≤ node_len) (s
             ∙ get_or-append-add before_snapshot (snapshot_of view.snapshot) 0 0 in
         omega (arith, first, snapshot_size view.snapshot snapshot, length-before_snapshot, length-append before_snapshot (snapshot_of view.snapshot))
     sized false = omega (arith, length-before_snapshot, length-append before_snapshot ([]))
+
+  -- and its length is that many words
+  pub length-element_of : length (element_of kind node_len view) ≡ 4 * element_words kind node_len view
+  unfolding element_of
+  length-element_of = long (has kind 22)
+    where
+    long : (b : Bool) → length (before_snapshot ++ cond b (snapshot_of view.snapshot) [])
+        ≡ 4 * (node_len + cond b (length (snapshot_of view.snapshot) / 4) 0)
+    long true = omega (arith, snapshot_words view.snapshot snapshot, length-before_snapshot, length-append before_snapshot (snapshot_of view.snapshot))
+    long false = omega (arith, length-before_snapshot, length-append before_snapshot ([]))
 
 -- where a node adds an element, NodeLen has room for the fields
 pub can_add-room : (kind node_len : ℕ) → can_add kind node_len ≡ true → words kind ≤ node_len

@@ -82,3 +82,7 @@ unfoldable pub element_of : ℕ → ℕ → Seen → List ℕ
 element_of kind node_len view = bits_0_to_3 kind view ++ bits_4_to_7 kind view ++ bits_8_to_11 kind view
     ++ replicate (4 * (node_len - words kind)) 255
     ++ part kind 22 (snapshot_of view.snapshot)
+
+-- its words: NodeLen, and with bit 22 those of the snapshot as it is written
+abbrev pub element_words : ℕ → ℕ → Seen → ℕ
+element_words kind node_len view = node_len + (if has kind 22 then length (snapshot_of view.snapshot) / 4 else 0)

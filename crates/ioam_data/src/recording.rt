@@ -3,7 +3,7 @@ ghost use Rattle.std.specs.Bool.{OnTrue, OnFalse};
 ghost use Rattle.ioam_data.specs.Kind.{where_has, words, can_add};
 ghost use Rattle.ioam_data.specs.Elements.{IsElement};
 ghost use Rattle.ioam_data.specs.View.{seen, snapshot_data};
-ghost use Rattle.ioam_data.specs.Written.{part, bits_0_to_3, bits_4_to_7, bits_8_to_11, snapshot_of, element_of, or_ones, or_wide_ones, narrow_face, narrow_id, seconds_of, fraction_of, delay_of};
+ghost use Rattle.ioam_data.specs.Written.{part, bits_0_to_3, bits_4_to_7, bits_8_to_11, snapshot_of, element_of, element_words, or_ones, or_wide_ones, narrow_face, narrow_id, seconds_of, fraction_of, delay_of};
 
 use crate::buffer::ElementBuf;
 use crate::kind::TraceType;
@@ -140,6 +140,7 @@ pub fn element(kind: TraceType, node_len: u8, view: &View<'_>, into: &mut Elemen
     requires { node_len < 32 }
     ensures can { result ≡ can_add kind node_len }
     ensures written { OnTrue result (into.new ≡ element_of kind node_len (seen view.now)) }
+    ensures size { OnTrue result (length into.new ≡ 4 * element_words kind node_len (seen view.now)) }
     ensures whole { OnTrue result (IsElement kind node_len into.new) }
     ensures kept { OnFalse result (into.new ≡ into.old) }
 {

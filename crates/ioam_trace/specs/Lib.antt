@@ -1,4 +1,6 @@
 pub mod Area
+pub mod Data
+pub mod Filling
 pub mod Head
 pub mod Left
 pub mod Read

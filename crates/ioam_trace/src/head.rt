@@ -1,4 +1,4 @@
-ghost use Rattle.std.specs.Prelude.{◌≡◌, ℕ, ◌+◌, ◌*◌, ◌/◌, ◌%◌, ◌<◌, ◌≤◌, length};
+ghost use Rattle.std.specs.Prelude.{◌≡◌, ℕ, ◌+◌, ◌*◌, ◌/◌, ◌%◌, ◌<◌, ◌≤◌, ◌↔◌, IsTrue, length};
 ghost use Rattle.ioam_trace.specs.Head.{kind_of};
 
 use ioam_base::octets::u16_at;
@@ -34,6 +34,13 @@ impl LengthWord {
         ensures below { result < 32 }
     {
         (self.0 / 2048) as u8
+    }
+
+    // Whether Overflow is set.
+    pub(crate) fn is_over(self) -> bool
+        ensures { IsTrue result ↔ (self.0 / 1024 % 2 ≡ 1) }
+    {
+        self.0 / 1024 % 2 == 1
     }
 
     pub(crate) fn flags(self) -> u8

@@ -4,6 +4,8 @@
 mod area;
 mod elements;
 mod fault;
+mod filled;
+mod filling;
 mod head;
 mod incremental;
 mod survey;
@@ -11,6 +13,8 @@ mod trace;
 
 pub use elements::Elements;
 pub use fault::TraceFault;
+pub use filled::Filled;
+pub use filling::fill;
 pub use head::TraceHead;
 pub use incremental::Incremental;
 pub use trace::Trace;

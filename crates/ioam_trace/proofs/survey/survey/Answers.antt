@@ -15,5 +15,5 @@ returns c =
     let used : take _ (drop (8 + 4 * c.from.result) octets) ≡ used_behind free octets =
         take_rest octets (8 + 4 * c.from.result) ∙ ap (λ n. drop (8 + 4 * n) octets) is_free in
     let P : List ℕ → Type 0 = λ xs. Stops head.kind head.node_len xs c.end_of.result in
-    Carries-Stops free octets head c.end_of.result (omega arith) c.read-head.ensures (sym c.fits.ensures ∙ c.if-not-fits.false)
+    Carries-Stops free octets head c.end_of.result (omega arith) c.read-head.ensures (sym c.fits.ensures.value ∙ c.if-not-fits.false)
         (omega arith) (subst P used c.end_of.ensures.stops) (omega arith) (omega (arith, ap length used))
