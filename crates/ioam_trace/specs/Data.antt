@@ -1,8 +1,9 @@
 -- The octets of a trace that an entry node began and later nodes filled (RFC 9197 section 4.4).
-use Rattle.std.specs.Prelude.{ℕ, ◌+◌, ◌-◌, ◌*◌, ◌/◌, ◌≡◌, ◌<◌, ◌≤◌, Bool, true, false, nat_le, nat_lt, if◌then◌else◌, List, [], ◌∷◌, ◌++◌, length, reverse, replicate, sum_by}
+use Rattle.std.specs.Prelude.{ℕ, ◌+◌, ◌-◌, ◌*◌, ◌/◌, ◌≡◌, ◌<◌, ◌≤◌, Bool, true, false, nat_le, nat_lt, if◌then◌else◌, List, [], ◌∷◌, ◌++◌, length, reverse, replicate, sum_by, All}
 use Rattle.std.specs.List.{concat}
 use Rattle.std.specs.Int.{w16, w32, to_be_bytes}
 use Rattle.ioam_data.specs.Kind.{has, words, undefined}
+use Rattle.ioam_data.specs.Elements.{IsElement}
 use Rattle.ioam_trace.specs.declared.head.TraceHead.{TraceHead}
 
 -- a header of these numbers
@@ -49,3 +50,11 @@ unfoldable pub trace_data : ℕ → ℕ → ℕ → List (List ℕ) → List ℕ
 trace_data namespace kind capacity elements =
     header namespace (words kind) (if is_over capacity elements then 8 else 0) (free_words capacity elements) kind 0
     ++ area capacity elements
+
+-- a trace of these numbers can hold these elements: the type is one that entry nodes write
+pub record CanHold (namespace kind capacity : ℕ) (given : List (List ℕ)) : Type 0 where
+  pub namespace_below : namespace < 65536
+  pub kind_below : kind < 16777216
+  pub entry : IsEntryType kind
+  pub capacity_below : capacity ≤ 127
+  pub elements : All (IsElement kind (words kind)) given

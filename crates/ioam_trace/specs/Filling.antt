@@ -1,10 +1,11 @@
 -- What a node does to the octets of a trace when it adds its data in place (RFC 9197 section 4.4.1).
-use Rattle.std.specs.Prelude.{ℕ, ◌+◌, ◌-◌, ◌*◌, ◌%◌, ◌≡◌, ◌<◌, ◌≤◌, true, List, length}
+use Rattle.std.specs.Prelude.{ℕ, ◌+◌, ◌-◌, ◌*◌, ◌%◌, ◌≡◌, ◌<◌, ◌≤◌, true, List, [], ◌∷◌, ◌++◌, length}
 use Rattle.std.specs.Int.{w16, to_be_bytes}
 use Rattle.ioam_base.specs.Octets.{u16_at, written}
-use Rattle.ioam_data.specs.Kind.{can_add}
+use Rattle.ioam_data.specs.Kind.{words, can_add}
 use Rattle.ioam_data.specs.View.{Seen}
 use Rattle.ioam_data.specs.Written.{element_of, element_words}
+use Rattle.ioam_trace.specs.Data.{trace_data, CanHold}
 use Rattle.ioam_trace.specs.Head.{node_len_of, overflow_of, remaining_of, kind_of}
 use Rattle.ioam_trace.specs.declared.filled.Filled.{Filled}
 use Rattle.ioam_trace.specs.declared.filled.Filled.TheVariants.{Added, Overflowed, AlreadyOver, Unsuited}
@@ -43,3 +44,10 @@ Filling old view new Overflowed = IsOpen old × IsSuited old × (remaining_of ol
 Filling old view new (Added amount) = IsOpen old × IsSuited old × (amount ≡ words_to_add old view)
     × (amount ≤ remaining_of old)
     × (new ≡ written (less_remaining old amount) (8 + 4 * (remaining_of old - amount)) (element_of (kind_of old) (node_len_of old) view))
+
+-- A trace that holds the elements of the nodes before it holds this view's behind them in visit order, or
+-- none more and Overflow.
+abbrev pub AddsElement : List ℕ → Seen → List ℕ → Type 0
+AddsElement old view new = (namespace kind capacity : ℕ) (elements : List (List ℕ))
+    → CanHold namespace kind capacity elements → old ≡ trace_data namespace kind capacity elements
+    → new ≡ trace_data namespace kind capacity (elements ++ element_of kind (words kind) view ∷ [])

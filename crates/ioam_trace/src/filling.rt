@@ -3,7 +3,7 @@ ghost use Rattle.ioam_base.specs.Octets.{u16_at, written};
 ghost use Rattle.ioam_data.specs.View.{seen};
 ghost use Rattle.ioam_data.specs.Written.{element_of};
 ghost use Rattle.ioam_trace.specs.Head.{node_len_of, overflow_of, remaining_of, kind_of};
-ghost use Rattle.ioam_trace.specs.Filling.{Filling, IsOpen, IsSuited, words_to_add, with_lengths, less_remaining};
+ghost use Rattle.ioam_trace.specs.Filling.{Filling, IsOpen, IsSuited, words_to_add, with_lengths, less_remaining, AddsElement};
 
 use crate::filled::Filled;
 use crate::head::{LengthWord, kind_at};
@@ -71,13 +71,8 @@ fn add(octets: &mut [u8], view: &View<'_>) -> Filled
     Filled::Added { words }
 }
 
-/// Adds in place the data of a node to the octets of a pre-allocated trace, those behind the
-/// IOAM-Option-Type. It takes no memory. The tests come in this order: fewer than 8 octets give
-/// Unsuited; a set Overflow flag gives AlreadyOver; octets that are not whole words, a RemainingLen
-/// above the words behind the header, and a type or NodeLen under which nodes add nothing give
-/// Unsuited; an element longer than RemainingLen gives Overflowed, and only the flag changes. Else
-/// RemainingLen falls by the element's words, and it stands in the last of the free words.
-pub fn fill(octets: &mut [u8], view: &View<'_>) -> Filled
+// Fills the octets, by the rules alone.
+fn fill_octets(octets: &mut [u8], view: &View<'_>) -> Filled
     ensures { Filling octets.old (seen view.now) octets.new result }
 {
     if octets.len() < 8 {
@@ -90,4 +85,18 @@ pub fn fill(octets: &mut [u8], view: &View<'_>) -> Filled
         return Filled::Unsuited;
     }
     add(octets, view)
+}
+
+/// Adds in place the data of a node to the octets of a pre-allocated trace, those behind the
+/// IOAM-Option-Type. It takes no memory. The tests come in this order: fewer than 8 octets give
+/// Unsuited; a set Overflow flag gives AlreadyOver; octets that are not whole words, a RemainingLen
+/// above the words behind the header, and a type or NodeLen under which nodes add nothing give
+/// Unsuited; an element longer than RemainingLen gives Overflowed, and only the flag changes. Else
+/// RemainingLen falls by the element's words, and it stands in the last of the free words.
+pub fn fill(octets: &mut [u8], view: &View<'_>) -> Filled
+    ensures filling { Filling octets.old (seen view.now) octets.new result }
+    // A trace that an entry node began holds one element more, or Overflow.
+    ensures adds { AddsElement octets.old (seen view.now) octets.new }
+{
+    fill_octets(octets, view)
 }
