@@ -3,7 +3,7 @@ use Rattle.std.proofs.Common.{◌≡◌, ◌≢◌, ℕ, zero, suc, ◌+◌, ◌
 use Rattle.std.specs.Prelude.{IfSome, sum_by, nat_le, nat_lt, All, if◌then◌else◌}
 use Rattle.std.specs.List.{concat}
 use Rattle.std.specs.Int.{w16, w32, to_be_bytes}
-use Rattle.std.proofs.lemmas.List.{length-append, length-replicate, reverse-append, take_at, drop_at, replicate-append-replicate}
+use Rattle.std.proofs.lemmas.List.{length-append, length-replicate, reverse-append, take_at, drop_at, replicate-append-replicate, append-nil, take-replicate}
 use Rattle.std.proofs.lemmas.List.Folds.{concat-append}
 use Rattle.std.proofs.lemmas.Grind.{reverse_onto}
 use Rattle.std.proofs.lemmas.Bool.{cases_lt, ltb-true, ltb-false, lt-ltb, le-ltb}
@@ -256,3 +256,22 @@ trace_data-Filling namespace kind capacity es view new answer holds snapshot fil
                 ∙ sym (back ∙ ap (λ b. data_of namespace kind capacity b (recorded capacity (es ++ e ∷ []))) flag_after ∙ ap (data_of namespace kind capacity false) rest)
           ]
     ]
+
+-- a trace to which no node added anything
+pub trace_data-none : (namespace kind capacity : ℕ) → trace_data namespace kind capacity [] ≡ header namespace (words kind) 0 capacity kind 0 ++ replicate (4 * capacity) 0
+unfolding trace_data
+trace_data-none namespace kind capacity =
+    let whole : capacity - 0 ≡ capacity = omega arith in
+    ap (λ n. header namespace (words kind) 0 n kind 0 ++ (replicate (4 * n) 0 ++ [])) whole
+    ∙ ap (λ xs. header namespace (words kind) 0 capacity kind 0 ++ xs) (append-nil (replicate (4 * capacity) 0))
+
+-- octets over the first of as many zeros and more
+pub written-zeros : (octets : List ℕ) (words : ℕ) → length octets ≡ 8 → words ≤ 61
+    → take (8 + 4 * words) (written (replicate 252 0) 0 octets) ≡ octets ++ replicate (4 * words) 0
+written-zeros octets words long below =
+    let place : 8 + 4 * words ≡ length octets + 4 * words = omega arith in
+    let rest : drop (0 + length octets) (replicate 252 0) ≡ replicate 244 0 = ap (λ n. drop (0 + n) (replicate 252 0)) long in
+    ap (λ n. take n (written (replicate 252 0) 0 octets)) place
+    ∙ take-append-add octets (drop (0 + length octets) (replicate 252 0)) (4 * words)
+    ∙ ap (λ xs. octets ++ take (4 * words) xs) rest
+    ∙ ap (λ xs. octets ++ xs) (take-replicate (4 * words) 244 0 (omega arith))

@@ -61,6 +61,7 @@ impl LengthWord {
 impl TraceHead {
     ghost use Rattle.std.specs.Prelude.{◌≡◌, ℕ, ◌≤◌, length};
     ghost use Rattle.ioam_trace.specs.Read.{IsHead};
+    ghost use Rattle.ioam_trace.specs.Data.{head_octets};
 
     // The header that the octets begin with.
     pub(crate) fn read(octets: &[u8]) -> TraceHead
@@ -77,6 +78,24 @@ impl TraceHead {
             reserved: octets[7],
         }
     }
+
+    // The eight octets of the header.
+    pub(crate) fn octets(&self) -> [u8; 8]
+        ensures { result ≡ head_octets self.now }
+    {
+        let word = u16::from(self.node_len) * 2048 + u16::from(self.flags) * 128 + u16::from(self.remaining);
+        let [namespace_high, namespace_low] = self.namespace.0.to_be_bytes();
+        let [word_high, word_low] = word.to_be_bytes();
+        let [high, middle, low, reserved] = last_word(self.kind, self.reserved).to_be_bytes();
+        [namespace_high, namespace_low, word_high, word_low, high, middle, low, reserved]
+    }
+}
+
+// The IOAM-Trace-Type and the reserved octet as a word.
+fn last_word(kind: TraceType, reserved: u8) -> u32
+    ensures { result ≡ kind * 256 + reserved }
+{
+    kind.bits() * 256 + u32::from(reserved)
 }
 
 // The IOAM-Trace-Type in a trace header.

@@ -2,6 +2,8 @@ use crate::elements::Elements;
 use crate::fault::TraceFault;
 use crate::head::TraceHead;
 use crate::survey::survey;
+use ioam_base::memory::NoMemory;
+use ioam_base::text::append;
 
 /// The data of an incremental trace option: its header and the elements behind it, with no free
 /// words between.
@@ -14,7 +16,8 @@ pub struct Incremental<'a> {
 }
 
 impl<'a> Incremental<'a> {
-    ghost use Rattle.std.specs.Prelude.{◌≡◌, IfOk};
+    ghost use Rattle.std.specs.Prelude.{◌≡◌, ◌++◌, IfOk, OnOk, OnErr};
+    ghost use Rattle.ioam_trace.specs.Incremental.{incremental_octets, DecodesAgain};
     ghost use Rattle.ioam_trace.specs.Read.{Decodes, incremental_elements, fault_of, fault_in, elements_behind};
     ghost use Rattle.ioam_trace.specs.Left.{left};
 
@@ -32,6 +35,22 @@ impl<'a> Incremental<'a> {
                 area: &octets[8..],
             }),
             Err(fault) => Err(fault),
+        }
+    }
+
+    /// Appends the octets of the header and the area. Without memory nothing is appended.
+    pub fn encode(&self, out: &mut Vec<u8>) -> Result<(), NoMemory>
+        ensures ok { OnOk result (out.new.items ≡ out.old.items ++ incremental_octets self.now) }
+        ensures err { OnErr result (out.new.items ≡ out.old.items) }
+    {
+        let before = out.len();
+        append(out, &self.head.octets())?;
+        match append(out, self.area) {
+            Ok(()) => Ok(()),
+            Err(error) => {
+                out.truncate(before);
+                Err(error)
+            }
         }
     }
 

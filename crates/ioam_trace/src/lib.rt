@@ -2,6 +2,7 @@
 #![tactic(auto)]
 
 mod area;
+mod beginning;
 mod elements;
 mod fault;
 mod filled;
@@ -11,6 +12,7 @@ mod incremental;
 mod survey;
 mod trace;
 
+pub use beginning::put_trace;
 pub use elements::Elements;
 pub use fault::TraceFault;
 pub use filled::Filled;
