@@ -1,14 +1,19 @@
 -- Laws of reading the octets of a trace.
 use Rattle.std.proofs.Common.{◌≡◌, ℕ, ◌+◌, ◌*◌, ◌-◌, ◌%◌, ◌<◌, ◌≤◌, Bool, true, false, List, length, drop, reverse, Option, Some, None, Result, Ok, Err, arith, refl, sym, ap, ◌∙◌, subst}
+use Rattle.std.specs.Prelude.{IfOk}
 use Rattle.std.proofs.lemmas.List.{drop-drop, length-drop}
 use Rattle.std.proofs.lemmas.Bool.{false_from_ne_true, and_from, and_parts, le-leb, leb-true, eq-eqb, eqb-true, ne_eqb, cond-true, cond-false}
 use Rattle.ioam_data.specs.Kind.{words, undefined, fits_type}
 use Rattle.ioam_trace.specs.Area.{Holds, Stops, elements_of, end_of}
 use Rattle.ioam_trace.specs.Head.{node_len_of, remaining_of, kind_of}
-use Rattle.ioam_trace.specs.Read.{IsHead, Carries, IsWhole, HasFault, Surveys, Misfits, used_behind, is_whole, end_behind, fault_of, fault_in, elements_behind}
+use Rattle.ioam_trace.specs.Read.{IsHead, Carries, IsWhole, HasFault, Surveys, Misfits, Reads, Decodes, elements_in, incremental_elements, used_behind, is_whole, end_behind, fault_of, fault_in, elements_behind}
 use Rattle.ioam_trace.specs.declared.head.TraceHead.{TraceHead}
 use Rattle.ioam_trace.specs.declared.fault.TraceFault.{TraceFault}
 use Rattle.ioam_trace.specs.declared.fault.TraceFault.TheVariants.{Short, Space, NodeLen, Element}
+use Rattle.ioam_trace.specs.Incremental.{DecodesAgain}
+use Rattle.ioam_trace.specs.declared.trace.Trace.{Trace}
+use Rattle.ioam_trace.specs.declared.incremental.Incremental.{Incremental}
+use Rattle.ioam_trace.proofs.HeadLaws.{IsHead-octets}
 use Rattle.ioam_trace.proofs.AreaLaws.{Holds-elements_of, elements_of-Holds, end_of-Stops, end_of-Holds, Runs-in_words}
 
 -- octets with a right header, whose used words are elements up to the end, are a trace
@@ -102,3 +107,56 @@ module _ (free : ℕ) (octets : List ℕ) where
       ∙ cond-true _ _ _ has.2
       ∙ cond-false _ _ _ (ne_eqb (end_behind free octets) (length octets) (λ same. absurd (omega (arith, misfit.inside))))
       ∙ ap (λ n. Some (Element n)) at_is
+
+-- ---- the answers by the functions
+
+pub fault_in-Reads : (octets : List ℕ) (result : Result Trace TraceFault) → Reads octets result
+    → fault_in result ≡ fault_of (remaining_of octets) octets
+fault_in-Reads octets (Ok trace) reads =
+    let P : ℕ → Type 0 = λ free. Carries free octets trace.head (elements_in trace) in
+    sym (fault_of-Carries (remaining_of octets) octets trace.head (elements_in trace) (subst P reads.0.is_head.remaining reads.0))
+fault_in-Reads octets (Err fault) reads = sym (fault_of-HasFault (remaining_of octets) octets fault reads)
+
+pub elements-Reads : (octets : List ℕ) (result : Result Trace TraceFault) → Reads octets result
+    → IfOk result (λ trace. elements_in trace ≡ elements_behind (remaining_of octets) octets)
+elements-Reads octets (Ok trace) reads =
+    let P : ℕ → Type 0 = λ free. Carries free octets trace.head (elements_in trace) in
+    sym (elements_behind-Carries (remaining_of octets) octets trace.head (elements_in trace) (subst P reads.0.is_head.remaining reads.0))
+elements-Reads octets (Err fault) reads = tt
+
+pub fault_in-Decodes : (octets : List ℕ) (result : Result Incremental TraceFault) → Decodes octets result
+    → fault_in result ≡ fault_of 0 octets
+fault_in-Decodes octets (Ok trace) decodes = sym (fault_of-Carries 0 octets trace.head (incremental_elements trace) decodes.0)
+fault_in-Decodes octets (Err fault) decodes = sym (fault_of-HasFault 0 octets fault decodes)
+
+pub elements-Decodes : (octets : List ℕ) (result : Result Incremental TraceFault) → Decodes octets result
+    → IfOk result (λ trace. incremental_elements trace ≡ elements_behind 0 octets)
+elements-Decodes octets (Ok trace) decodes = sym (elements_behind-Carries 0 octets trace.head (incremental_elements trace) decodes.0)
+elements-Decodes octets (Err fault) decodes = tt
+
+-- what was written of a header and of elements is read again
+pub DecodesAgain-Decodes : (octets : List ℕ) (result : Result Incremental TraceFault) → Decodes octets result → DecodesAgain octets result
+DecodesAgain-Decodes octets (Ok trace) decodes head area es header fits holds is =
+    let P : List ℕ → Type 0 = λ xs. IsHead xs head in
+    let mine : IsHead octets head = subst P (sym is) (IsHead-octets head area header.namespace_below header.kind_below header.reserved_below) in
+    let read = decodes.0.is_head in
+    (record {
+      namespace = read.namespace ∙ sym mine.namespace;
+      node_len = read.node_len ∙ sym mine.node_len;
+      flags = read.flags ∙ sym mine.flags;
+      remaining = read.remaining ∙ sym mine.remaining;
+      kind = read.kind ∙ sym mine.kind;
+      reserved = read.reserved ∙ sym mine.reserved;
+    }, decodes.1 ∙ ap (λ xs. drop 8 xs) is)
+DecodesAgain-Decodes octets (Err fault) decodes head area es header fits holds is =
+    let Q : List ℕ → Type 0 = λ xs. Carries 0 xs head es in
+    let carries : Carries 0 octets head es = subst Q (sym is) (record {
+      begins = omega arith;
+      is_head = IsHead-octets head area header.namespace_below header.kind_below header.reserved_below;
+      fits = fits;
+      space = omega arith;
+      holds = holds;
+    }) in
+    let none = fault_of-Carries 0 octets head es carries in
+    let some = fault_of-HasFault 0 octets fault decodes in
+    absurd (cc)

@@ -13,7 +13,7 @@ incremental_octets trace = head_octets trace.head ++ trace.area.now
 
 -- the same numbers in two headers
 pub record IsSameHead (a b : TraceHead) : Type 0 where
-  pub namespace : a.namespace ≡ b.namespace
+  pub namespace : a.namespace.0 ≡ b.namespace.0
   pub node_len : a.node_len ≡ b.node_len
   pub flags : a.flags ≡ b.flags
   pub remaining : a.remaining ≡ b.remaining

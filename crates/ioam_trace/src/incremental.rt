@@ -1,3 +1,5 @@
+ghost use Rattle.ioam_trace.specs.Read.{Decodes};
+
 use crate::elements::Elements;
 use crate::fault::TraceFault;
 use crate::head::TraceHead;
@@ -28,14 +30,10 @@ impl<'a> Incremental<'a> {
         // The same as functions.
         ensures fault { fault_in result ≡ fault_of 0 octets.now }
         ensures elements { IfOk result (λ trace. incremental_elements trace ≡ elements_behind 0 octets.now) }
+        // What `encode` wrote is read as the same value.
+        ensures again { DecodesAgain octets.now result }
     {
-        match survey(octets, true) {
-            Ok(head) => Ok(Incremental {
-                head,
-                area: &octets[8..],
-            }),
-            Err(fault) => Err(fault),
-        }
+        decode_octets(octets)
     }
 
     /// Appends the octets of the header and the area. Without memory nothing is appended.
@@ -60,5 +58,18 @@ impl<'a> Incremental<'a> {
         ensures { left result ≡ incremental_elements self.now }
     {
         Elements::new(self.head.kind, self.head.node_len, self.area)
+    }
+}
+
+// Reads the octets, by the rules alone.
+fn decode_octets(octets: &[u8]) -> Result<Incremental<'_>, TraceFault>
+    ensures { Decodes octets.now result }
+{
+    match survey(octets, true) {
+        Ok(head) => Ok(Incremental {
+            head,
+            area: &octets[8..],
+        }),
+        Err(fault) => Err(fault),
     }
 }

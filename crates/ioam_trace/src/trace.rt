@@ -1,3 +1,5 @@
+ghost use Rattle.ioam_trace.specs.Read.{Reads};
+
 use crate::elements::Elements;
 use crate::fault::TraceFault;
 use crate::head::TraceHead;
@@ -26,13 +28,7 @@ impl<'a> Trace<'a> {
         ensures fault { fault_in result ≡ fault_of (remaining_of octets.now) octets.now }
         ensures elements { IfOk result (λ trace. elements_in trace ≡ elements_behind (remaining_of octets.now) octets.now) }
     {
-        match survey(octets, false) {
-            Ok(head) => Ok(Trace {
-                head,
-                area: &octets[8..],
-            }),
-            Err(fault) => Err(fault),
-        }
+        read_octets(octets)
     }
 
     /// The elements in visit order, the oldest first. Of a value that was not read by
@@ -47,5 +43,18 @@ impl<'a> Trace<'a> {
             &[]
         };
         Elements::new(self.head.kind, self.head.node_len, used)
+    }
+}
+
+// Reads the octets, by the rules alone.
+fn read_octets(octets: &[u8]) -> Result<Trace<'_>, TraceFault>
+    ensures { Reads octets.now result }
+{
+    match survey(octets, false) {
+        Ok(head) => Ok(Trace {
+            head,
+            area: &octets[8..],
+        }),
+        Err(fault) => Err(fault),
     }
 }

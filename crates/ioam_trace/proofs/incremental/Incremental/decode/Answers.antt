@@ -1,10 +1,11 @@
-use Rattle.std.proofs.Common.{sym}
-use Rattle.ioam_trace.specs.Head.{remaining_of}
-use Rattle.ioam_trace.proofs.ReadLaws.{fault_of-Carries, fault_of-HasFault}
+use Rattle.ioam_trace.proofs.ReadLaws.{fault_in-Decodes, elements-Decodes, DecodesAgain-Decodes}
 use Rattle.ioam_trace.proofs.incremental.Incremental.decode.Goals as goal
 
-pub returns-in-Ok-clause-fault : goal.returns-in-Ok-clause-fault
-returns-in-Ok-clause-fault c = sym (fault_of-Carries 0 c.args.octets.now c.in-Ok.head _ c.in-Ok.ensures)
+pub returns-clause-fault : goal.returns-clause-fault
+returns-clause-fault c = fault_in-Decodes c.args.octets.now c.decode_octets.result c.decode_octets.ensures
 
-pub returns-in-Err-clause-fault : goal.returns-in-Err-clause-fault
-returns-in-Err-clause-fault c = sym (fault_of-HasFault 0 c.args.octets.now c.in-Err.fault c.in-Err.ensures)
+pub returns-clause-elements : goal.returns-clause-elements
+returns-clause-elements c = elements-Decodes c.args.octets.now c.decode_octets.result c.decode_octets.ensures
+
+pub returns-clause-again : goal.returns-clause-again
+returns-clause-again c = DecodesAgain-Decodes c.args.octets.now c.decode_octets.result c.decode_octets.ensures

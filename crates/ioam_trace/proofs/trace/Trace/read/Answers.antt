@@ -1,10 +1,8 @@
-use Rattle.std.proofs.Common.{sym}
-use Rattle.ioam_trace.specs.Head.{remaining_of}
-use Rattle.ioam_trace.proofs.ReadLaws.{fault_of-Carries, fault_of-HasFault}
+use Rattle.ioam_trace.proofs.ReadLaws.{fault_in-Reads, elements-Reads}
 use Rattle.ioam_trace.proofs.trace.Trace.read.Goals as goal
 
-pub returns-in-Ok-clause-fault : goal.returns-in-Ok-clause-fault
-returns-in-Ok-clause-fault c = sym (fault_of-Carries (remaining_of c.args.octets.now) c.args.octets.now c.in-Ok.head _ c.in-Ok.ensures)
+pub returns-clause-fault : goal.returns-clause-fault
+returns-clause-fault c = fault_in-Reads c.args.octets.now c.read_octets.result c.read_octets.ensures
 
-pub returns-in-Err-clause-fault : goal.returns-in-Err-clause-fault
-returns-in-Err-clause-fault c = sym (fault_of-HasFault (remaining_of c.args.octets.now) c.args.octets.now c.in-Err.fault c.in-Err.ensures)
+pub returns-clause-elements : goal.returns-clause-elements
+returns-clause-elements c = elements-Reads c.args.octets.now c.read_octets.result c.read_octets.ensures
