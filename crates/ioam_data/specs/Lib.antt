@@ -1,0 +1,7 @@
+pub mod Cursor
+pub mod Elements
+pub mod Fields
+pub mod Kind
+pub mod Snapshot
+pub mod View
+pub mod Written

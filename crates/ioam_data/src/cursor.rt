@@ -1,0 +1,96 @@
+ghost use Rattle.std.specs.Prelude.{◌≡◌, ℕ, ◌+◌, ◌*◌, ◌<◌, ◌≤◌, length};
+ghost use Rattle.ioam_data.specs.Kind.{where_has};
+ghost use Rattle.ioam_data.specs.Fields.{when_has, hop_node_at, faces_at, number_at, wide_hop_node_at, wide_faces_at, wide_at};
+
+use crate::kind::TraceType;
+use ioam_base::octets::u32_at;
+
+/// What is left of an element while its fields are read in bit order.
+#[derive(Clone, Copy)]
+pub(crate) struct Cursor<'a> {
+    pub kind: TraceType,
+    pub rest: &'a [u8],
+}
+
+impl<'a> Cursor<'a> {
+    ghost use Rattle.ioam_data.specs.Cursor.{Passes, HasRoom, GoesOn};
+
+    // Goes on behind so many octets.
+    fn pass(&mut self, octets: usize)
+        requires { octets ≤ length self.old.rest.now }
+        ensures { GoesOn self.old self.new octets }
+    {
+        self.rest = &self.rest[octets..];
+    }
+
+    pub(crate) fn number(&mut self, bit: u8) -> Option<u32>
+        requires bit { bit < 24 }
+        requires room { HasRoom self.old bit 1 }
+        ensures value { result ≡ when_has self.old.kind bit (number_at self.old.rest.now) }
+        ensures passes { Passes self.old self.new bit 1 }
+    {
+        if !self.kind.has(bit) {
+            return None;
+        }
+        let number = u32_at(self.rest, 0);
+        self.pass(4);
+        Some(number)
+    }
+
+    pub(crate) fn hop_node(&mut self, bit: u8) -> Option<(u8, u32)>
+        requires bit { bit < 24 }
+        requires room { HasRoom self.old bit 1 }
+        ensures value { result ≡ when_has self.old.kind bit (hop_node_at self.old.rest.now) }
+        ensures passes { Passes self.old self.new bit 1 }
+    {
+        let word = self.number(bit)?;
+        Some(((word / 16777216) as u8, word % 16777216))
+    }
+
+    pub(crate) fn faces(&mut self, bit: u8) -> Option<(u16, u16)>
+        requires bit { bit < 24 }
+        requires room { HasRoom self.old bit 1 }
+        ensures value { result ≡ when_has self.old.kind bit (faces_at self.old.rest.now) }
+        ensures passes { Passes self.old self.new bit 1 }
+    {
+        let word = self.number(bit)?;
+        Some(((word / 65536) as u16, (word % 65536) as u16))
+    }
+
+    pub(crate) fn wide_faces(&mut self, bit: u8) -> Option<(u32, u32)>
+        requires bit { bit < 24 }
+        requires room { HasRoom self.old bit 2 }
+        ensures value { result ≡ when_has self.old.kind bit (wide_faces_at self.old.rest.now) }
+        ensures passes { Passes self.old self.new bit 2 }
+    {
+        if !self.kind.has(bit) {
+            return None;
+        }
+        let words = (u32_at(self.rest, 0), u32_at(self.rest, 4));
+        self.pass(8);
+        Some(words)
+    }
+
+    pub(crate) fn wide(&mut self, bit: u8) -> Option<u64>
+        requires bit { bit < 24 }
+        requires room { HasRoom self.old bit 2 }
+        ensures value { result ≡ when_has self.old.kind bit (wide_at self.old.rest.now) }
+        ensures passes { Passes self.old self.new bit 2 }
+    {
+        let (first, second) = self.wide_faces(bit)?;
+        Some(u64::from(first) * 4294967296 + u64::from(second))
+    }
+
+    pub(crate) fn wide_hop_node(&mut self, bit: u8) -> Option<(u8, u64)>
+        requires bit { bit < 24 }
+        requires room { HasRoom self.old bit 2 }
+        ensures value { result ≡ when_has self.old.kind bit (wide_hop_node_at self.old.rest.now) }
+        ensures passes { Passes self.old self.new bit 2 }
+    {
+        let (first, second) = self.wide_faces(bit)?;
+        Some((
+            (first / 16777216) as u8,
+            u64::from(first % 16777216) * 4294967296 + u64::from(second),
+        ))
+    }
+}

@@ -1,0 +1,113 @@
+ghost use Rattle.std.specs.Prelude.{◌≡◌, ℕ, ◌+◌, ◌-◌, ◌*◌, ◌/◌, ◌%◌, ◌^◌, ◌<◌, ◌≤◌};
+ghost use Rattle.std.specs.Bool.{OnTrue};
+ghost use Rattle.ioam_data.specs.Kind.{has, where_has, words, undefined, fits_type, can_add};
+
+use std::marker::Model;
+
+/// An IOAM-Trace-Type (RFC 9197 section 4.4.1): 24 bits, of which bit 0 is the most significant.
+/// Contracts see it as its number, below 2^24.
+#[derive(Clone, Copy, Debug, PartialEq, Eq)]
+pub struct TraceType(u32);
+
+impl Model for TraceType {
+    ghost use Rattle.std.specs.Prelude.{ℕ, ◌<◌};
+
+    ghost Value = { ℕ };
+
+    ghost view = { λ kind. kind.0 };
+
+    ghost invariant = { λ kind. kind.0 < 16777216 };
+
+    ghost inverse = { λ number. record { 0 = number } };
+}
+
+impl TraceType {
+    /// The type of these 24 bits.
+    pub fn new(bits: u32) -> TraceType
+        requires { bits < 16777216 }
+        ensures { result ≡ bits }
+    {
+        TraceType(bits)
+    }
+
+    /// The 24 bits as a number.
+    pub fn bits(self) -> u32
+        ensures value { result ≡ self }
+        ensures below { result < 16777216 }
+    {
+        self.0
+    }
+
+    /// Whether the type has a bit, 0 to 23 and the most significant first.
+    #[tactic(auto, unfolding(crate::specs::Kind::has))]
+    pub fn has(self, bit: u8) -> bool
+        requires { bit < 24 }
+        ensures { result ≡ has self bit }
+    {
+        (self.0 >> (23 - bit)) % 2 == 1
+    }
+
+    /// Whether an element ends with an opaque state snapshot (bit 22).
+    pub fn has_snapshot(self) -> bool
+        ensures { result ≡ has self 22 }
+    {
+        self.has(22)
+    }
+
+    // So many words where the type has the bit.
+    fn part(self, bit: u8, amount: u8) -> u8
+        requires bit { bit < 24 }
+        ensures value { result ≡ where_has self bit amount }
+        ensures small { result ≤ amount }
+    {
+        if self.has(bit) { amount } else { 0 }
+    }
+
+    /// The 4-octet words of the fields of bits 0 to 11, 0 to 15. The snapshot is not counted.
+    #[tactic(auto, unfolding(crate::specs::Kind::words))]
+    pub fn words(self) -> u8
+        ensures value { result ≡ words self }
+        ensures small { result ≤ 15 }
+    {
+        let narrow = self.part(0, 1) + self.part(1, 1) + self.part(2, 1) + self.part(3, 1);
+        let middle = self.part(4, 1) + self.part(5, 1) + self.part(6, 1) + self.part(7, 1);
+        let wide = self.part(8, 2) + self.part(9, 2) + self.part(10, 2) + self.part(11, 1);
+        narrow + middle + wide
+    }
+
+    /// How many of the undefined bits 12 to 21 the type has.
+    #[tactic(auto, unfolding(crate::specs::Kind::undefined))]
+    pub fn undefined(self) -> u8
+        ensures value { result ≡ undefined self }
+        ensures small { result ≤ 10 }
+    {
+        let first = self.part(12, 1) + self.part(13, 1) + self.part(14, 1) + self.part(15, 1);
+        let second = self.part(16, 1) + self.part(17, 1) + self.part(18, 1) + self.part(19, 1);
+        first + second + self.part(20, 1) + self.part(21, 1)
+    }
+
+    /// Whether NodeLen is right for this type: the words of the defined fields, and where undefined
+    /// bits are set at least one word more for each of them.
+    #[tactic(auto, unfolding(crate::specs::Kind::fits_type))]
+    pub fn fits(self, node_len: u8) -> bool
+        ensures value { result ≡ fits_type self node_len }
+        ensures room { OnTrue result (words self ≤ node_len) }
+    {
+        let undefined = self.undefined();
+        if undefined == 0 {
+            node_len == self.words()
+        } else {
+            self.words() + undefined <= node_len
+        }
+    }
+
+    /// Whether a node adds an element under this type and NodeLen: NodeLen is right, and the type
+    /// has one of the bits 0 to 22.
+    #[tactic(auto, unfolding(crate::specs::Kind::can_add))]
+    pub fn can_add(self, node_len: u8) -> bool
+        ensures value { result ≡ can_add self node_len }
+        ensures room { OnTrue result (words self ≤ node_len) }
+    {
+        self.fits(node_len) && self.bits() / 2 > 0
+    }
+}

@@ -1,0 +1,21 @@
+//! IOAM trace types and the elements that nodes record (RFC 9197 section 4.4).
+#![tactic(auto)]
+
+mod buffer;
+mod reading;
+mod recording;
+mod cursor;
+mod held;
+mod kind;
+mod namespace;
+mod size;
+mod view;
+
+pub use buffer::ElementBuf;
+pub use reading::fields;
+pub use recording::element;
+pub use held::Fields;
+pub use kind::TraceType;
+pub use namespace::Namespace;
+pub use size::split;
+pub use view::View;

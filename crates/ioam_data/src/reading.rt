@@ -1,0 +1,60 @@
+ghost use Rattle.std.specs.Prelude.{◌≡◌, ℕ, ◌-◌, ◌*◌, ◌≤◌, length, drop};
+ghost use Rattle.ioam_data.specs.Elements.{IsElement};
+ghost use Rattle.ioam_data.specs.Fields.{fields_of, held, when_has, snapshot_at};
+ghost use Rattle.ioam_data.specs.View.{snapshot_data};
+ghost use Rattle.ioam_data.specs.Kind.{words, where_has};
+
+use crate::cursor::Cursor;
+use crate::held::Fields;
+use crate::kind::TraceType;
+use ioam_base::octets::u32_at;
+
+// The snapshot at the front of the octets, where the type has bit 22.
+fn snapshot(kind: TraceType, octets: &[u8]) -> Option<(u32, &[u8])>
+    requires { 4 * where_has kind 22 1 ≤ length octets.now }
+    ensures { snapshot_data result ≡ when_has kind 22 (snapshot_at octets.now) }
+{
+    if !kind.has_snapshot() {
+        return None;
+    }
+    Some((u32_at(octets, 0) % 16777216, &octets[4..]))
+}
+
+/// The fields of an element, whole. Fields are read as they stand: all ones are not told apart.
+#[tactic(auto, unfolding(crate::specs::Kind::words, crate::specs::Fields::fields_of))]
+pub fn fields(kind: TraceType, node_len: u8, octets: &[u8]) -> Fields<'_>
+    requires { IsElement kind node_len octets.now }
+    ensures { held result ≡ fields_of kind node_len octets.now }
+{
+    let words = kind.words();
+    let mut cursor = Cursor { kind, rest: octets };
+    let hop_node = cursor.hop_node(0);
+    let faces = cursor.faces(1);
+    let seconds = cursor.number(2);
+    let fraction = cursor.number(3);
+    let delay = cursor.number(4);
+    let short = cursor.number(5);
+    let queue = cursor.number(6);
+    let check = cursor.number(7);
+    let wide_hop_node = cursor.wide_hop_node(8);
+    let wide_faces = cursor.wide_faces(9);
+    let wide = cursor.wide(10);
+    let buffer = cursor.number(11);
+    let (fill, rest) = cursor.rest.split_at(4 * usize::from(node_len - words));
+    Fields {
+        hop_node,
+        faces,
+        seconds,
+        fraction,
+        delay,
+        short,
+        queue,
+        check,
+        wide_hop_node,
+        wide_faces,
+        wide,
+        buffer,
+        fill,
+        snapshot: snapshot(kind, rest),
+    }
+}

@@ -1,0 +1,5 @@
+pub mod AreaLaws
+pub mod ReadLaws
+pub mod RecordedLaws
+pub mod HeadLaws
+pub mod DataLaws

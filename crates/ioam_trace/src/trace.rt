@@ -1,0 +1,60 @@
+ghost use Rattle.ioam_trace.specs.Read.{Reads};
+
+use crate::elements::Elements;
+use crate::fault::TraceFault;
+use crate::head::TraceHead;
+use crate::survey::survey;
+
+/// The data of a pre-allocated trace option: its header and the words behind it.
+#[derive(Clone, Copy, Debug)]
+pub struct Trace<'a> {
+    /// The header.
+    pub head: TraceHead,
+    /// What follows the header: the free words and the elements, the newest first.
+    pub area: &'a [u8],
+}
+
+impl<'a> Trace<'a> {
+    ghost use Rattle.std.specs.Prelude.{◌≡◌, IfOk};
+    ghost use Rattle.ioam_trace.specs.Head.{remaining_of};
+    ghost use Rattle.ioam_trace.specs.Read.{Reads, elements_in, fault_of, fault_in, elements_behind};
+    ghost use Rattle.ioam_trace.specs.Left.{left};
+
+    /// Reads the octets behind the IOAM-Option-Type of a trace option. The faults are tested in
+    /// the order in which [`TraceFault`] has them.
+    pub fn read(octets: &'a [u8]) -> Result<Trace<'a>, TraceFault>
+        ensures reads { Reads octets.now result }
+        // The same as functions.
+        ensures fault { fault_in result ≡ fault_of (remaining_of octets.now) octets.now }
+        ensures elements { IfOk result (λ trace. elements_in trace ≡ elements_behind (remaining_of octets.now) octets.now) }
+    {
+        read_octets(octets)
+    }
+
+    /// The elements in visit order, the oldest first. Of a value that was not read by
+    /// [`Trace::read`]: those that stand one behind the other from the first used word on.
+    pub fn elements(&self) -> Elements<'a>
+        ensures { left result ≡ elements_in self.now }
+    {
+        let start = 4 * usize::from(self.head.remaining);
+        let used = if start <= self.area.len() {
+            &self.area[start..]
+        } else {
+            &[]
+        };
+        Elements::new(self.head.kind, self.head.node_len, used)
+    }
+}
+
+// Reads the octets, by the rules alone.
+fn read_octets(octets: &[u8]) -> Result<Trace<'_>, TraceFault>
+    ensures { Reads octets.now result }
+{
+    match survey(octets, false) {
+        Ok(head) => Ok(Trace {
+            head,
+            area: &octets[8..],
+        }),
+        Err(fault) => Err(fault),
+    }
+}
