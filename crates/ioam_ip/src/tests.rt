@@ -69,6 +69,30 @@ fn udp_header(class: u8, label: u32) -> Header
     }
 }
 
+// Where the outer Destination Options header stands, each option of the Hop-by-Hop header with its
+// place and the octets of its data, and each header with its range.
+fn outline(alloc: Global, octets: &[u8]) -> Result<Vec<(usize, usize, usize)>, NoMemory> {
+    let mut seen = Vec::new(alloc);
+    let Framed::Packet(packet) = packet_of(false, false, octets) else {
+        return Ok(seen);
+    };
+    let Walk::Whole { .. } = walk(packet) else {
+        return Ok(seen);
+    };
+    if let Some(target) = target_header(packet) {
+        seen.push((target.start, target.end, 0))?;
+    }
+    if let Some(hop) = hop_header(packet) {
+        for option in options(&packet[hop.start..hop.end]) {
+            seen.push((option.kind as usize, option.at, option.body.len()))?;
+        }
+    }
+    for head in heads(packet) {
+        seen.push((head.value as usize, head.range.start, head.range.end))?;
+    }
+    Ok(seen)
+}
+
 fn whole(ioam: bool, upper: u8, at: u32, limit: Option<u8>) -> Walk {
     Walk::Whole {
         ioam,
@@ -255,22 +279,10 @@ fn options_and_layouts(rt: HostRuntime) -> Result<(), Fail> {
     assert_eq!(rt; outer.as_slice(), wanted.as_slice());
     assert_eq!(rt; check_options(&wanted), Ok(()));
     let octets = packet(alloc, 0, &wanted, &[41, 0, 1, 4, 0, 0, 0, 0], &UDP)?;
-    let Framed::Packet(packet) = packet_of(false, false, octets.as_slice()) else {
-        return Ok(());
-    };
-    assert_eq!(rt; walk(packet), whole(true, 17, 104, None));
-    assert_eq!(rt; target_header(packet), Some(56..64));
-    let Some(hop) = hop_header(packet) else {
-        return Err(Fail::new("no Hop-by-Hop header"));
-    };
-    let mut seen = Vec::new(alloc);
-    for option in options(&packet[hop.start..hop.end]) {
-        seen.push((option.kind as usize, option.at, option.body.len()))?;
-    }
-    for head in heads(packet) {
-        seen.push((head.value as usize, head.range.start, head.range.end))?;
-    }
+    assert_eq!(rt; walked(octets.as_slice()), Some(whole(true, 17, 104, None)));
+    let seen = outline(alloc, octets.as_slice())?;
     let wanted = [
+        (56, 64, 0),
         (5, 2, 2),
         (0x31, 8, 3),
         (4, 13, 1),
