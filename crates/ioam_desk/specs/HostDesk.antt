@@ -12,7 +12,7 @@ untold_reading side = record { side = side; left = λ _. []; ended = λ _. false
 abbrev pub untold_writing : Side → Writing
 untold_writing side = record { side = side; written = λ _. []; files = λ _. None }
 
--- The desk's type, and those of its files and folders, stand as R, F and D.
+-- R is the type of the runtime, F and D are those of its files and folders.
 abbrev pub reading_of : {R F D : Type 0} → HostDesk R F D → Reading
 reading_of desk = untold_reading (side_of desk.inputs)
 

@@ -16,7 +16,7 @@ abbrev pub reading_from : ℕ → List (List ℕ) → List Unread → Reading
 reading_from faults asked slots = record {
   side = record { faults = faults; asked = asked; slots = length slots };
   left = λ k. (slice_index_or slots k unopened).left;
-  ended = λ k. (slice_index_or slots k unopened).ended
+  ended = λ k. (slice_index_or slots k unopened).ended;
 }
 
 -- A read of a slot moved as many octets into the front of a buffer as its limit, the buffer's
@@ -44,7 +44,7 @@ abbrev pub writing_from : ℕ → List (List ℕ) → List (List ℕ) → (List 
 writing_from faults asked slots files = record {
   side = record { faults = faults; asked = asked; slots = length slots };
   written = written_at slots;
-  files = files
+  files = files;
 }
 
 -- a name is tied to this from now on, and every other name to what it was

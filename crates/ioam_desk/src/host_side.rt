@@ -14,10 +14,10 @@ use std::io::{Read, Write};
 /// One kind of slots over real files: the opened files, the names that were given to the opening
 /// call, and how many calls failed.
 #[derive(Drop)]
-pub(crate) struct HostSide<F: Drop> {
+pub(crate) struct HostSide<F> {
     asked: Vec<Name>,
-    pub(crate) files: Vec<F>,
-    faults: u64,
+    files: Vec<F>,
+    pub(crate) faults: u64,
 }
 
 impl<F: Drop> HostSide<F> {

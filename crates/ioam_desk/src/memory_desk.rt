@@ -242,3 +242,42 @@ impl Desk for MemoryDesk {
         }
     }
 }
+
+#[cfg(test)]
+mod tests {
+    use super::*;
+    use std::test::Fail;
+
+    #[test]
+    fn chosen_pieces_and_failures(rt: HostRuntime) -> Result<(), Fail> {
+        let mut desk = MemoryDesk::new(rt.alloc())?;
+        desk.put_file("in", b"01234")?;
+        desk.set_piece(4);
+        desk.fail_call(4)?;
+
+        // Calls 1 to 6: the first finds no such name, the fourth is the listed one.
+        assert_eq!(rt; desk.open_in("none"), Err(DeskFault::Failed));
+        let input = desk.open_in("in")?;
+        let mut into = [0u8; 8];
+        assert_eq!(rt; desk.read(input, &mut into), Ok(4));
+        assert_eq!(rt; desk.read(input, &mut into), Err(DeskFault::Failed));
+        assert_eq!(rt; desk.read(input, &mut into), Ok(1));
+        assert_eq!(rt; desk.read(input, &mut into), Ok(0));
+        assert_eq!(rt; into, *b"4123\0\0\0\0");
+        assert_eq!(rt; (desk.read_faults, desk.write_faults), (2, 0));
+        Ok(())
+    }
+
+    #[test]
+    fn names_hold_what_is_written(rt: HostRuntime) -> Result<(), Fail> {
+        let mut desk = MemoryDesk::new(rt.alloc())?;
+        desk.set_piece(4);
+        let output = desk.open_out("out")?;
+        assert_eq!(rt; desk.write(output, b"0123456789"), Ok(4));
+        assert_eq!(rt; desk.file("out"), Some(&b"0123"[..]));
+        desk.put_file("out", b"own")?;
+        assert_eq!(rt; desk.write(output, b"45"), Ok(2));
+        assert_eq!(rt; desk.file("out"), Some(&b"own"[..]));
+        Ok(())
+    }
+}
