@@ -1,1 +1,2 @@
-pub mod MovesLaws
+mod MovesLaws
+pub mod StoreLaws

@@ -1,5 +1,5 @@
 -- The desk over real files, in the desk's words: it tells its counts, its names and its slots.
-use Rattle.std.specs.Prelude.{ℕ, List, [], false, None}
+use Rattle.std.specs.Prelude.{[], false, None}
 use Rattle.ioam_desk.specs.Desk.{Side, Reading, Writing}
 use Rattle.ioam_desk.specs.HostSide.{side_of}
 use Rattle.ioam_desk.specs.declared.host_desk.HostDesk.{HostDesk}

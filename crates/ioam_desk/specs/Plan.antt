@@ -26,11 +26,15 @@ pub record Plan : Type 0 where
 abbrev pub will_fail : Plan → Bool
 will_fail plan = is_listed (next_call plan.calls) plan.failing
 
--- after a call: it was counted, but for one that had no memory
-abbrev pub counted : {A : Type 0} → Plan → Result A DeskFault → Plan
-counted plan (Ok _) = record plan { calls = next_call plan.calls }
-counted plan (Err Failed) = record plan { calls = next_call plan.calls }
-counted plan (Err NoMemory) = plan
+-- one call more was counted
+abbrev pub with_one_call : Plan → Plan
+with_one_call plan = record plan { calls = next_call plan.calls }
+
+-- after a call, which is counted unless it had no memory
+abbrev pub plan_after : {A : Type 0} → Plan → Result A DeskFault → Plan
+plan_after plan (Ok _) = with_one_call plan
+plan_after plan (Err Failed) = with_one_call plan
+plan_after plan (Err NoMemory) = plan
 
 -- a call failed where it had to, and nowhere else, but for want of memory
 abbrev pub FailsIf : {A : Type 0} → Bool → Result A DeskFault → Type 0

@@ -1,8 +1,8 @@
 -- What a desk in memory keeps, as the desk's words see it.
-use Rattle.std.specs.Prelude.{◌≡◌, ◌≢◌, ℕ, List, [], ◌++◌, ◌==◌, ◌+◌, ◌-◌, ◌^◌, Bool, false, length, take, min, Option, Some, None, String, option_map, slice_index_or, slice_set}
+use Rattle.std.specs.Prelude.{◌≡◌, ◌≢◌, ℕ, List, [], ◌++◌, ◌==◌, false, length, take, min, Option, Some, None, String, option_map, slice_index_or, slice_set}
 use Rattle.std.specs.HashMap.{HashMap, get_by_text}
 use Rattle.ioam_desk.specs.Unread.{Unread}
-use Rattle.ioam_desk.specs.Desk.{Side, Reading, Writing, Held}
+use Rattle.ioam_desk.specs.Desk.{Reading, Writing, Held}
 use Rattle.ioam_desk.specs.Desk.Held.{Stored, Written}
 use Rattle.ioam_desk.specs.declared.store.outputs.Tie.{Tie}
 use Rattle.ioam_desk.specs.declared.store.outputs.Tie.TheVariants.{Own, Slot}

@@ -1,4 +1,4 @@
-ghost use Rattle.std.specs.Prelude.{◌≡◌, ◌<◌, false, length};
+ghost use Rattle.std.specs.Prelude.{◌≡◌, ◌≢◌, ◌<◌, false, length};
 ghost use Rattle.ioam_desk.specs.Desk.{OpenIn, ReadInto, OpenOut, WriteFrom, holds};
 ghost use Rattle.ioam_desk.specs.HostDesk.{untold_reading, untold_writing, reading_of, writing_of};
 ghost use Rattle.ioam_desk.specs.HostSide.{no_side};
@@ -60,6 +60,7 @@ impl<'a, R: Files> Desk for HostDesk<'a, R> {
         ensures read { ReadInto false (reading_of self.old) slot into.new result (reading_of self.new) }
         ensures outputs { writing_of self.new ≡ writing_of self.old }
         ensures faults { (reading_of self.new).side.faults ≡ faults_after (reading_of self.old).side.faults result }
+        ensures memory { result ≢ Err DeskFault.NoMemory }
     {
         self.inputs.read(slot, into)
     }
@@ -81,6 +82,7 @@ impl<'a, R: Files> Desk for HostDesk<'a, R> {
         ensures written { WriteFrom false (writing_of self.old) slot from.now result (writing_of self.new) }
         ensures inputs { reading_of self.new ≡ reading_of self.old }
         ensures faults { (writing_of self.new).side.faults ≡ faults_after (writing_of self.old).side.faults result }
+        ensures memory { result ≢ Err DeskFault.NoMemory }
     {
         self.outputs.write(slot, from)
     }

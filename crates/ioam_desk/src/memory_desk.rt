@@ -1,10 +1,10 @@
 ghost use Rattle.std.specs.Prelude.{◌≡◌, ◌≢◌, ◌<◌, ◌≤◌, ◌+◌, ◌-◌, ◌^◌, ◌++◌, ◌∷◌, ◌||◌, [], true, false, Some, None, Ok, Err, IfOk, OnOk, OnErr, option_map, min, length, is_ok, is_none, if◌then◌else◌};
 ghost use Rattle.std.specs.Option.{option_copied};
-ghost use Rattle.ioam_desk.specs.declared.fault.DeskFault.TheVariants.{Failed, NoMemory};
+ghost use Rattle.ioam_desk.specs.declared.fault.DeskFault.TheVariants.{Failed};
 ghost use Rattle.ioam_desk.specs.Desk.{holds, OpenIn, ReadInto, OpenOut, WriteFrom};
 ghost use Rattle.ioam_desk.specs.Files.{PutsFile};
 ghost use Rattle.ioam_desk.specs.MemoryDesk.{reading_of, writing_of, plan_of};
-ghost use Rattle.ioam_desk.specs.Plan.{counted, will_fail, faults_after, FailsIf};
+ghost use Rattle.ioam_desk.specs.Plan.{will_fail, with_one_call, plan_after, faults_after, one_more, FailsIf};
 ghost use Rattle.ioam_desk.specs.Store.{no_reading, no_writing};
 
 use crate::calls::Calls;
@@ -88,6 +88,30 @@ impl MemoryDesk {
         self.calls.list(call)
     }
 
+    /// Counts a call that failed to open or to read an input.
+    fn input_failed(&mut self) -> DeskFault
+        ensures fault { result ≡ Failed }
+        ensures reading { reading_of self.new ≡ record (reading_of self.old) { side = record (reading_of self.old).side { faults = one_more (reading_of self.old).side.faults } } }
+        ensures writing { writing_of self.new ≡ writing_of self.old }
+        ensures plan { plan_of self.new ≡ with_one_call (plan_of self.old) }
+    {
+        self.calls.count();
+        self.read_faults = self.read_faults.saturating_add(1);
+        DeskFault::Failed
+    }
+
+    /// Counts a call that failed to open or to write an output.
+    fn output_failed(&mut self) -> DeskFault
+        ensures fault { result ≡ Failed }
+        ensures writing { writing_of self.new ≡ record (writing_of self.old) { side = record (writing_of self.old).side { faults = one_more (writing_of self.old).side.faults } } }
+        ensures reading { reading_of self.new ≡ reading_of self.old }
+        ensures plan { plan_of self.new ≡ with_one_call (plan_of self.old) }
+    {
+        self.calls.count();
+        self.write_faults = self.write_faults.saturating_add(1);
+        DeskFault::Failed
+    }
+
     /// The octets over which an input slot is to be opened, or none where the call is to fail: it
     /// was listed, or the name is missing.
     fn to_open(&self, name: &str) -> Result<Option<Vec<u8>>, NoMemory>
@@ -109,7 +133,7 @@ impl MemoryDesk {
         ensures outputs { writing_of self.new ≡ writing_of self.old }
         ensures fails { FailsIf false result }
         ensures faults { self.new.read_faults ≡ self.old.read_faults }
-        ensures plan { plan_of self.new ≡ counted (plan_of self.old) result }
+        ensures plan { plan_of self.new ≡ plan_after (plan_of self.old) result }
     {
         match self.inputs.open(self.alloc, name, octets) {
             Ok(slot) => {
@@ -126,14 +150,10 @@ impl MemoryDesk {
         ensures outputs { writing_of self.new ≡ writing_of self.old }
         ensures fails { FailsIf true result }
         ensures faults { self.new.read_faults ≡ faults_after self.old.read_faults result }
-        ensures plan { plan_of self.new ≡ counted (plan_of self.old) result }
+        ensures plan { plan_of self.new ≡ plan_after (plan_of self.old) result }
     {
         match self.inputs.refuse(self.alloc, name) {
-            Ok(()) => {
-                self.calls.count();
-                self.read_faults = self.read_faults.saturating_add(1);
-                Err(DeskFault::Failed)
-            }
+            Ok(()) => Err(self.input_failed()),
             Err(NoMemory) => Err(DeskFault::NoMemory),
         }
     }
@@ -144,14 +164,10 @@ impl MemoryDesk {
         ensures inputs { reading_of self.new ≡ reading_of self.old }
         ensures fails { FailsIf true result }
         ensures faults { self.new.write_faults ≡ faults_after self.old.write_faults result }
-        ensures plan { plan_of self.new ≡ counted (plan_of self.old) result }
+        ensures plan { plan_of self.new ≡ plan_after (plan_of self.old) result }
     {
         match self.outputs.refuse(self.alloc, name) {
-            Ok(()) => {
-                self.calls.count();
-                self.write_faults = self.write_faults.saturating_add(1);
-                Err(DeskFault::Failed)
-            }
+            Ok(()) => Err(self.output_failed()),
             Err(NoMemory) => Err(DeskFault::NoMemory),
         }
     }
@@ -169,7 +185,7 @@ impl Desk for MemoryDesk {
         ensures outputs { writing_of self.new ≡ writing_of self.old }
         ensures fails { FailsIf (will_fail (plan_of self.old) || is_none (holds (writing_of self.old) name.now)) result }
         ensures faults { (reading_of self.new).side.faults ≡ faults_after (reading_of self.old).side.faults result }
-        ensures plan { plan_of self.new ≡ counted (plan_of self.old) result }
+        ensures plan { plan_of self.new ≡ plan_after (plan_of self.old) result }
     {
         match self.to_open(name) {
             Ok(Some(octets)) => self.open_over(name, octets),
@@ -186,14 +202,12 @@ impl Desk for MemoryDesk {
         ensures count { result ≡ (if will_fail (plan_of self.old) then Err Failed
             else Ok (min (plan_of self.old).piece (min (length into.old) (length ((reading_of self.old).left slot))))) }
         ensures faults { (reading_of self.new).side.faults ≡ faults_after (reading_of self.old).side.faults result }
-        ensures plan { plan_of self.new ≡ counted (plan_of self.old) result }
+        ensures plan { plan_of self.new ≡ plan_after (plan_of self.old) result }
     {
-        let fails = self.calls.next_fails();
-        self.calls.count();
-        if fails {
-            self.read_faults = self.read_faults.saturating_add(1);
-            return Err(DeskFault::Failed);
+        if self.calls.next_fails() {
+            return Err(self.input_failed());
         }
+        self.calls.count();
         let most = self.piece.of(into.len());
         Ok(self.inputs.read(slot, into, most))
     }
@@ -203,7 +217,7 @@ impl Desk for MemoryDesk {
         ensures inputs { reading_of self.new ≡ reading_of self.old }
         ensures fails { FailsIf (will_fail (plan_of self.old)) result }
         ensures faults { (writing_of self.new).side.faults ≡ faults_after (writing_of self.old).side.faults result }
-        ensures plan { plan_of self.new ≡ counted (plan_of self.old) result }
+        ensures plan { plan_of self.new ≡ plan_after (plan_of self.old) result }
     {
         if self.calls.next_fails() {
             return self.refuse_out(name);
@@ -225,12 +239,10 @@ impl Desk for MemoryDesk {
         ensures fails { FailsIf (will_fail (plan_of self.old)) result }
         ensures count { IfOk result (λ count. count ≡ min (plan_of self.old).piece (length from.now)) }
         ensures faults { (writing_of self.new).side.faults ≡ faults_after (writing_of self.old).side.faults result }
-        ensures plan { plan_of self.new ≡ counted (plan_of self.old) result }
+        ensures plan { plan_of self.new ≡ plan_after (plan_of self.old) result }
     {
         if self.calls.next_fails() {
-            self.calls.count();
-            self.write_faults = self.write_faults.saturating_add(1);
-            return Err(DeskFault::Failed);
+            return Err(self.output_failed());
         }
         let count = self.piece.of(from.len());
         match self.outputs.write(slot, &from[..count]) {

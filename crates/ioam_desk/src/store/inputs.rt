@@ -39,10 +39,10 @@ impl Inputs {
         let Ok(slot) = u32::try_from(self.slots.len()) else {
             return Err(NoMemory);
         };
-        let name = Name::new(alloc, name)?;
+        let asked = Name::new(alloc, name)?;
         self.asked.reserve(1)?;
         self.slots.reserve(1)?;
-        put(&mut self.asked, name);
+        put(&mut self.asked, asked);
         put(&mut self.slots, Input::new(octets));
         Ok(slot)
     }
