@@ -1,2 +1,4 @@
 pub mod DeskLaws
 pub mod MovesLaws
+mod MovesLaws
+pub mod StoreLaws

@@ -2,7 +2,7 @@
 use Rattle.std.specs.Prelude.{◌≡◌, ◌++◌, ◌∷◌, [], ℕ, List, Result, Ok, Err, vec_len}
 use Rattle.ioam_desk.specs.Desk.{Side, opened_side}
 use Rattle.ioam_desk.specs.declared.host_side.HostSide.{HostSide}
-use Rattle.ioam_desk.specs.Plan.{one_more}
+use Rattle.ioam_desk.specs.Faults.{with_fault}
 use Rattle.ioam_desk.specs.declared.fault.DeskFault.{DeskFault}
 use Rattle.ioam_desk.specs.declared.fault.DeskFault.TheVariants.{Failed, NoMemory}
 
@@ -17,11 +17,11 @@ no_side = record { faults = 0; asked = []; slots = 0 }
 -- nothing, for want of memory
 abbrev pub AddsSlot : Side → List ℕ → Result ℕ DeskFault → Side → Type 0
 AddsSlot old name (Ok slot) new = (slot ≡ old.slots) × (new ≡ opened_side old name)
-AddsSlot old name (Err Failed) new = new ≡ record old { faults = one_more old.faults; asked = old.asked ++ name ∷ [] }
+AddsSlot old name (Err Failed) new = new ≡ record (with_fault old) { asked = old.asked ++ name ∷ [] }
 AddsSlot old name (Err NoMemory) new = new ≡ old
 
 -- what a read or a write did to the counts: one fault more where it failed. It never has no memory
 abbrev pub HasCounted : Side → Result ℕ DeskFault → Side → Type 0
 HasCounted old (Ok _) new = new ≡ old
-HasCounted old (Err Failed) new = new ≡ record old { faults = one_more old.faults }
+HasCounted old (Err Failed) new = new ≡ with_fault old
 HasCounted old (Err NoMemory) new = ⊥

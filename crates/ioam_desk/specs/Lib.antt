@@ -1,5 +1,6 @@
 pub mod Desk
 pub mod Whole
+pub mod Faults
 pub mod Files
 pub mod HostDesk
 pub mod HostSide

@@ -1,7 +1,5 @@
 -- The desk in memory, in the desk's words.
-use Rattle.std.specs.Prelude.{◌≡◌, ◌≢◌, List, ℕ, Some}
-use Rattle.ioam_desk.specs.Desk.{Reading, Writing, Held}
-use Rattle.ioam_desk.specs.Desk.Held.{Stored}
+use Rattle.ioam_desk.specs.Desk.{Reading, Writing}
 use Rattle.ioam_desk.specs.Store.{reading_from, writing_from, files_of}
 use Rattle.ioam_desk.specs.Plan.{Plan}
 use Rattle.ioam_desk.specs.declared.memory_desk.MemoryDesk.{MemoryDesk}

@@ -1,12 +1,9 @@
 -- Which calls of a desk in memory fail, and how much one of them moves.
-use Rattle.std.specs.Prelude.{◌≡◌, ◌+◌, ◌-◌, ◌^◌, ◌==◌, ℕ, Bool, true, false, List, min, Result, Ok, Err}
+use Rattle.std.specs.Prelude.{◌==◌, ℕ, Bool, List, Result, Ok, Err}
 use Rattle.std.specs.List.{list_any}
+use Rattle.ioam_desk.specs.Faults.{one_more}
 use Rattle.ioam_desk.specs.declared.fault.DeskFault.{DeskFault}
 use Rattle.ioam_desk.specs.declared.fault.DeskFault.TheVariants.{Failed, NoMemory}
-
--- one more, or the greatest value of a u64
-abbrev pub one_more : ℕ → ℕ
-one_more count = min (count + 1) (2 ^ 64 - 1)
 
 -- the number of the next call, where so many were counted: they are counted from 1
 abbrev pub next_call : ℕ → ℕ
@@ -26,20 +23,12 @@ pub record Plan : Type 0 where
 abbrev pub will_fail : Plan → Bool
 will_fail plan = is_listed (next_call plan.calls) plan.failing
 
--- after a call: it was counted, but for one that had no memory
-abbrev pub counted : {A : Type 0} → Plan → Result A DeskFault → Plan
-counted plan (Ok _) = record plan { calls = next_call plan.calls }
-counted plan (Err Failed) = record plan { calls = next_call plan.calls }
-counted plan (Err NoMemory) = plan
+-- one call more was counted
+abbrev pub with_one_call : Plan → Plan
+with_one_call plan = record plan { calls = next_call plan.calls }
 
--- a call failed where it had to, and nowhere else, but for want of memory
-abbrev pub FailsIf : {A : Type 0} → Bool → Result A DeskFault → Type 0
-FailsIf must (Ok _) = must ≡ false
-FailsIf must (Err Failed) = must ≡ true
-FailsIf must (Err NoMemory) = Unit {0}
-
--- how many calls failed, after one more
-abbrev pub faults_after : {A : Type 0} → ℕ → Result A DeskFault → ℕ
-faults_after faults (Ok _) = faults
-faults_after faults (Err Failed) = one_more faults
-faults_after faults (Err NoMemory) = faults
+-- after a call, which is counted unless it had no memory
+abbrev pub plan_after : {A : Type 0} → Plan → Result A DeskFault → Plan
+plan_after plan (Ok _) = with_one_call plan
+plan_after plan (Err Failed) = with_one_call plan
+plan_after plan (Err NoMemory) = plan

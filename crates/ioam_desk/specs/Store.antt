@@ -1,8 +1,8 @@
 -- What a desk in memory keeps, as the desk's words see it.
-use Rattle.std.specs.Prelude.{◌≡◌, ◌≢◌, ℕ, List, [], ◌++◌, ◌==◌, ◌+◌, ◌-◌, ◌^◌, Bool, false, length, take, min, Option, Some, None, String, option_map, slice_index_or, slice_set}
+use Rattle.std.specs.Prelude.{◌≡◌, ◌≢◌, ℕ, List, [], ◌++◌, ◌==◌, false, length, take, min, Option, Some, None, String, option_map, slice_index_or, slice_set}
 use Rattle.std.specs.HashMap.{HashMap, get_by_text}
 use Rattle.ioam_desk.specs.Unread.{Unread}
-use Rattle.ioam_desk.specs.Desk.{Side, Reading, Writing, Held}
+use Rattle.ioam_desk.specs.Desk.{Reading, Writing, Held}
 use Rattle.ioam_desk.specs.Desk.Held.{Stored, Written}
 use Rattle.ioam_desk.specs.declared.store.outputs.Tie.{Tie}
 use Rattle.ioam_desk.specs.declared.store.outputs.Tie.TheVariants.{Own, Slot}
@@ -16,7 +16,7 @@ abbrev pub reading_from : ℕ → List (List ℕ) → List Unread → Reading
 reading_from faults asked slots = record {
   side = record { faults = faults; asked = asked; slots = length slots };
   left = λ k. (slice_index_or slots k unopened).left;
-  ended = λ k. (slice_index_or slots k unopened).ended
+  ended = λ k. (slice_index_or slots k unopened).ended;
 }
 
 -- A read of a slot moved as many octets into the front of a buffer as its limit, the buffer's
@@ -44,7 +44,7 @@ abbrev pub writing_from : ℕ → List (List ℕ) → List (List ℕ) → (List 
 writing_from faults asked slots files = record {
   side = record { faults = faults; asked = asked; slots = length slots };
   written = written_at slots;
-  files = files
+  files = files;
 }
 
 -- a name is tied to this from now on, and every other name to what it was

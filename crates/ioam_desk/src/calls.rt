@@ -25,7 +25,9 @@ impl Calls {
     /// Lists a call as one that is to fail.
     pub(crate) fn list(&mut self, call: u64) -> Result<(), NoMemory>
         ensures made { self.new.made ≡ self.old.made }
-        ensures failing { self.new.failing.items ≡ (if is_ok result then self.old.failing.items ++ call ∷ [] else self.old.failing.items) }
+        ensures failing { self.new.failing.items ≡
+            (if is_ok result then self.old.failing.items ++ call ∷ []
+            else self.old.failing.items) }
     {
         self.failing.push(call)?;
         Ok(())

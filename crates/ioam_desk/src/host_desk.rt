@@ -1,8 +1,8 @@
-ghost use Rattle.std.specs.Prelude.{◌≡◌, ◌<◌, false, length};
+ghost use Rattle.std.specs.Prelude.{◌≡◌, ◌≢◌, ◌<◌, false, length};
 ghost use Rattle.ioam_desk.specs.Desk.{OpenIn, ReadInto, OpenOut, WriteFrom, holds};
 ghost use Rattle.ioam_desk.specs.HostDesk.{untold_reading, untold_writing, reading_of, writing_of};
 ghost use Rattle.ioam_desk.specs.HostSide.{no_side};
-ghost use Rattle.ioam_desk.specs.Plan.{faults_after};
+ghost use Rattle.ioam_desk.specs.Faults.{faults_after};
 
 use crate::desk::Desk;
 use crate::fault::DeskFault;
@@ -44,9 +44,11 @@ impl<'a, R: Files> Desk for HostDesk<'a, R> {
     ghost writing = { writing_of };
 
     fn open_in(&mut self, name: &str) -> Result<u32, DeskFault>
-        ensures opened { OpenIn false (reading_of self.old) (holds (writing_of self.old) name.now) name.now result (reading_of self.new) }
+        ensures opened { OpenIn false (reading_of self.old) (holds (writing_of self.old) name.now) name.now
+            result (reading_of self.new) }
         ensures outputs { writing_of self.new ≡ writing_of self.old }
-        ensures faults { (reading_of self.new).side.faults ≡ faults_after (reading_of self.old).side.faults result }
+        ensures faults { (reading_of self.new).side.faults
+            ≡ faults_after (reading_of self.old).side.faults result }
     {
         match self.inputs.make_room(self.alloc, name) {
             Ok(asked) => self.inputs.add(asked, fs::open(self.rt, name)),
@@ -57,9 +59,12 @@ impl<'a, R: Files> Desk for HostDesk<'a, R> {
     fn read(&mut self, slot: u32, into: &mut [u8]) -> Result<usize, DeskFault>
         requires input { slot < (reading_of self.old).side.slots }
         requires room { 0 < length into.old }
-        ensures read { ReadInto false (reading_of self.old) slot into.new result (reading_of self.new) }
+        ensures read { ReadInto false (reading_of self.old) slot into.new
+            result (reading_of self.new) }
         ensures outputs { writing_of self.new ≡ writing_of self.old }
-        ensures faults { (reading_of self.new).side.faults ≡ faults_after (reading_of self.old).side.faults result }
+        ensures faults { (reading_of self.new).side.faults
+            ≡ faults_after (reading_of self.old).side.faults result }
+        ensures memory { result ≢ Err DeskFault.NoMemory }
     {
         self.inputs.read(slot, into)
     }
@@ -67,7 +72,8 @@ impl<'a, R: Files> Desk for HostDesk<'a, R> {
     fn open_out(&mut self, name: &str) -> Result<u32, DeskFault>
         ensures opened { OpenOut false (writing_of self.old) name.now result (writing_of self.new) }
         ensures inputs { reading_of self.new ≡ reading_of self.old }
-        ensures faults { (writing_of self.new).side.faults ≡ faults_after (writing_of self.old).side.faults result }
+        ensures faults { (writing_of self.new).side.faults
+            ≡ faults_after (writing_of self.old).side.faults result }
     {
         match self.outputs.make_room(self.alloc, name) {
             Ok(asked) => self.outputs.add(asked, fs::create(self.rt, name)),
@@ -78,10 +84,41 @@ impl<'a, R: Files> Desk for HostDesk<'a, R> {
     fn write(&mut self, slot: u32, from: &[u8]) -> Result<usize, DeskFault>
         requires output { slot < (writing_of self.old).side.slots }
         requires some { 0 < length from.now }
-        ensures written { WriteFrom false (writing_of self.old) slot from.now result (writing_of self.new) }
+        ensures written { WriteFrom false (writing_of self.old) slot from.now
+            result (writing_of self.new) }
         ensures inputs { reading_of self.new ≡ reading_of self.old }
-        ensures faults { (writing_of self.new).side.faults ≡ faults_after (writing_of self.old).side.faults result }
+        ensures faults { (writing_of self.new).side.faults
+            ≡ faults_after (writing_of self.old).side.faults result }
+        ensures memory { result ≢ Err DeskFault.NoMemory }
     {
         self.outputs.write(slot, from)
+    }
+}
+
+#[cfg(test)]
+mod tests {
+    use super::*;
+    use std::test::Fail;
+
+    #[test]
+    fn real_files(rt: HostRuntime) -> Result<(), Fail> {
+        let name = "ioam_desk_real_files.bin";
+        let mut desk = HostDesk::new(&rt, rt.alloc());
+        let output = desk.open_out(name)?;
+        assert_eq!(rt; desk.write(output, b"octets"), Ok(6));
+
+        let input = desk.open_in(name)?;
+        let mut into = [0u8; 8];
+        assert_eq!(rt; desk.read(input, &mut into), Ok(6));
+        assert_eq!(rt; into, *b"octets\0\0");
+        assert_eq!(rt; desk.read(input, &mut into), Ok(0));
+
+        assert_eq!(rt;
+            desk.open_in("ioam_desk_no_file.bin"),
+            Err(DeskFault::Failed)
+        );
+        assert_eq!(rt; (desk.inputs.faults, desk.outputs.faults), (1, 0));
+        fs::remove_file(&rt, name)?;
+        Ok(())
     }
 }

@@ -1,6 +1,6 @@
-ghost use Rattle.std.specs.Prelude.{◌≡◌, ◌<◌, ◌^◌, ◌≤◌, OnOk, OnErr, IfOk, vec_len, vec_capacity, length};
+ghost use Rattle.std.specs.Prelude.{◌≡◌, ◌<◌, ◌^◌, ◌≤◌, OnOk, IfOk, vec_len, vec_capacity, length};
 ghost use Rattle.ioam_desk.specs.HostSide.{side_of, no_side, AddsSlot, HasCounted};
-ghost use Rattle.ioam_desk.specs.Plan.{one_more};
+ghost use Rattle.ioam_desk.specs.Faults.{with_fault};
 ghost use Rattle.ioam_desk.specs.declared.fault.DeskFault.TheVariants.{Failed};
 
 use crate::fault::DeskFault;
@@ -14,10 +14,10 @@ use std::io::{Read, Write};
 /// One kind of slots over real files: the opened files, the names that were given to the opening
 /// call, and how many calls failed.
 #[derive(Drop)]
-pub(crate) struct HostSide<F: Drop> {
+pub(crate) struct HostSide<F> {
     asked: Vec<Name>,
-    pub(crate) files: Vec<F>,
-    faults: u64,
+    files: Vec<F>,
+    pub(crate) faults: u64,
 }
 
 impl<F: Drop> HostSide<F> {
@@ -68,9 +68,9 @@ impl<F: Drop> HostSide<F> {
     }
 
     /// Counts a call that failed.
-    pub(crate) fn failed(&mut self) -> DeskFault
+    fn failed(&mut self) -> DeskFault
         ensures fault { result ≡ Failed }
-        ensures side { side_of self.new ≡ record (side_of self.old) { faults = one_more (side_of self.old).faults } }
+        ensures side { side_of self.new ≡ with_fault (side_of self.old) }
     {
         self.faults = self.faults.saturating_add(1);
         DeskFault::Failed

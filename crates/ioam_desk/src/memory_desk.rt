@@ -1,10 +1,11 @@
-ghost use Rattle.std.specs.Prelude.{◌≡◌, ◌≢◌, ◌<◌, ◌≤◌, ◌+◌, ◌-◌, ◌^◌, ◌++◌, ◌∷◌, ◌||◌, [], true, false, Some, None, Ok, Err, IfOk, OnOk, OnErr, option_map, min, length, is_ok, is_none, if◌then◌else◌};
+ghost use Rattle.std.specs.Prelude.{◌≡◌, ◌<◌, ◌≤◌, ◌+◌, ◌-◌, ◌^◌, ◌++◌, ◌∷◌, ◌||◌, [], true, false, Some, None, Ok, Err, IfOk, OnOk, OnErr, option_map, min, length, is_none, if◌then◌else◌};
 ghost use Rattle.std.specs.Option.{option_copied};
-ghost use Rattle.ioam_desk.specs.declared.fault.DeskFault.TheVariants.{Failed, NoMemory};
+ghost use Rattle.ioam_desk.specs.declared.fault.DeskFault.TheVariants.{Failed};
 ghost use Rattle.ioam_desk.specs.Desk.{holds, OpenIn, ReadInto, OpenOut, WriteFrom};
+ghost use Rattle.ioam_desk.specs.Faults.{with_fault, faults_after, FailsIf};
 ghost use Rattle.ioam_desk.specs.Files.{PutsFile};
 ghost use Rattle.ioam_desk.specs.MemoryDesk.{reading_of, writing_of, plan_of};
-ghost use Rattle.ioam_desk.specs.Plan.{counted, will_fail, faults_after, FailsIf};
+ghost use Rattle.ioam_desk.specs.Plan.{will_fail, with_one_call, plan_after};
 ghost use Rattle.ioam_desk.specs.Store.{no_reading, no_writing};
 
 use crate::calls::Calls;
@@ -35,7 +36,8 @@ impl MemoryDesk {
     pub fn new(alloc: Global) -> Result<MemoryDesk, NoMemory>
         ensures reading { IfOk result (λ desk. reading_of desk ≡ no_reading) }
         ensures writing { IfOk result (λ desk. writing_of desk ≡ no_writing) }
-        ensures plan { IfOk result (λ desk. plan_of desk ≡ record { calls = 0; failing = []; piece = 2 ^ 64 - 1 }) }
+        ensures plan { IfOk result (λ desk. plan_of desk
+            ≡ record { calls = 0; failing = []; piece = 2 ^ 64 - 1 }) }
     {
         Ok(MemoryDesk {
             alloc,
@@ -51,7 +53,8 @@ impl MemoryDesk {
     /// From then on the name holds these octets, whatever it was tied to. Nothing changes where no
     /// memory could be had.
     pub fn put_file(&mut self, name: &str, octets: &[u8]) -> Result<(), NoMemory>
-        ensures ok { OnOk result (PutsFile (writing_of self.old) (writing_of self.new) name.now octets.now) }
+        ensures ok { OnOk result
+            (PutsFile (writing_of self.old) (writing_of self.new) name.now octets.now) }
         ensures err { OnErr result (writing_of self.new ≡ writing_of self.old) }
         ensures reading { reading_of self.new ≡ reading_of self.old }
         ensures plan { plan_of self.new ≡ plan_of self.old }
@@ -80,12 +83,39 @@ impl MemoryDesk {
     /// Lets a call fail. The calls of the four kinds are counted together from 1; one that had no
     /// memory isn't counted. Nothing changes where no memory could be had.
     pub fn fail_call(&mut self, call: u64) -> Result<(), NoMemory>
-        ensures ok { OnOk result (plan_of self.new ≡ record (plan_of self.old) { failing = (plan_of self.old).failing ++ call ∷ [] }) }
+        ensures ok { OnOk result (plan_of self.new
+            ≡ record (plan_of self.old) { failing = (plan_of self.old).failing ++ call ∷ [] }) }
         ensures err { OnErr result (plan_of self.new ≡ plan_of self.old) }
         ensures reading { reading_of self.new ≡ reading_of self.old }
         ensures writing { writing_of self.new ≡ writing_of self.old }
     {
         self.calls.list(call)
+    }
+
+    /// Counts a call that failed to open or to read an input.
+    fn input_failed(&mut self) -> DeskFault
+        ensures fault { result ≡ Failed }
+        ensures reading { reading_of self.new
+            ≡ record (reading_of self.old) { side = with_fault (reading_of self.old).side } }
+        ensures writing { writing_of self.new ≡ writing_of self.old }
+        ensures plan { plan_of self.new ≡ with_one_call (plan_of self.old) }
+    {
+        self.calls.count();
+        self.read_faults = self.read_faults.saturating_add(1);
+        DeskFault::Failed
+    }
+
+    /// Counts a call that failed to open or to write an output.
+    fn output_failed(&mut self) -> DeskFault
+        ensures fault { result ≡ Failed }
+        ensures writing { writing_of self.new
+            ≡ record (writing_of self.old) { side = with_fault (writing_of self.old).side } }
+        ensures reading { reading_of self.new ≡ reading_of self.old }
+        ensures plan { plan_of self.new ≡ with_one_call (plan_of self.old) }
+    {
+        self.calls.count();
+        self.write_faults = self.write_faults.saturating_add(1);
+        DeskFault::Failed
     }
 
     /// The octets over which an input slot is to be opened, or none where the call is to fail: it
@@ -105,11 +135,12 @@ impl MemoryDesk {
 
     /// Opens an input slot over these octets.
     fn open_over(&mut self, name: &str, octets: Vec<u8>) -> Result<u32, DeskFault>
-        ensures opened { OpenIn true (reading_of self.old) (Some octets.items) name.now result (reading_of self.new) }
+        ensures opened { OpenIn true (reading_of self.old) (Some octets.items) name.now
+            result (reading_of self.new) }
         ensures outputs { writing_of self.new ≡ writing_of self.old }
         ensures fails { FailsIf false result }
         ensures faults { self.new.read_faults ≡ self.old.read_faults }
-        ensures plan { plan_of self.new ≡ counted (plan_of self.old) result }
+        ensures plan { plan_of self.new ≡ plan_after (plan_of self.old) result }
     {
         match self.inputs.open(self.alloc, name, octets) {
             Ok(slot) => {
@@ -122,18 +153,15 @@ impl MemoryDesk {
 
     /// Fails to open an input slot.
     fn refuse_in(&mut self, name: &str) -> Result<u32, DeskFault>
-        ensures opened { OpenIn true (reading_of self.old) None name.now result (reading_of self.new) }
+        ensures opened { OpenIn true (reading_of self.old) None name.now
+            result (reading_of self.new) }
         ensures outputs { writing_of self.new ≡ writing_of self.old }
         ensures fails { FailsIf true result }
         ensures faults { self.new.read_faults ≡ faults_after self.old.read_faults result }
-        ensures plan { plan_of self.new ≡ counted (plan_of self.old) result }
+        ensures plan { plan_of self.new ≡ plan_after (plan_of self.old) result }
     {
         match self.inputs.refuse(self.alloc, name) {
-            Ok(()) => {
-                self.calls.count();
-                self.read_faults = self.read_faults.saturating_add(1);
-                Err(DeskFault::Failed)
-            }
+            Ok(()) => Err(self.input_failed()),
             Err(NoMemory) => Err(DeskFault::NoMemory),
         }
     }
@@ -144,14 +172,10 @@ impl MemoryDesk {
         ensures inputs { reading_of self.new ≡ reading_of self.old }
         ensures fails { FailsIf true result }
         ensures faults { self.new.write_faults ≡ faults_after self.old.write_faults result }
-        ensures plan { plan_of self.new ≡ counted (plan_of self.old) result }
+        ensures plan { plan_of self.new ≡ plan_after (plan_of self.old) result }
     {
         match self.outputs.refuse(self.alloc, name) {
-            Ok(()) => {
-                self.calls.count();
-                self.write_faults = self.write_faults.saturating_add(1);
-                Err(DeskFault::Failed)
-            }
+            Ok(()) => Err(self.output_failed()),
             Err(NoMemory) => Err(DeskFault::NoMemory),
         }
     }
@@ -165,11 +189,14 @@ impl Desk for MemoryDesk {
     ghost writing = { writing_of };
 
     fn open_in(&mut self, name: &str) -> Result<u32, DeskFault>
-        ensures opened { OpenIn true (reading_of self.old) (holds (writing_of self.old) name.now) name.now result (reading_of self.new) }
+        ensures opened { OpenIn true (reading_of self.old) (holds (writing_of self.old) name.now) name.now
+            result (reading_of self.new) }
         ensures outputs { writing_of self.new ≡ writing_of self.old }
-        ensures fails { FailsIf (will_fail (plan_of self.old) || is_none (holds (writing_of self.old) name.now)) result }
-        ensures faults { (reading_of self.new).side.faults ≡ faults_after (reading_of self.old).side.faults result }
-        ensures plan { plan_of self.new ≡ counted (plan_of self.old) result }
+        ensures fails { FailsIf
+            (will_fail (plan_of self.old) || is_none (holds (writing_of self.old) name.now)) result }
+        ensures faults { (reading_of self.new).side.faults
+            ≡ faults_after (reading_of self.old).side.faults result }
+        ensures plan { plan_of self.new ≡ plan_after (plan_of self.old) result }
     {
         match self.to_open(name) {
             Ok(Some(octets)) => self.open_over(name, octets),
@@ -181,19 +208,20 @@ impl Desk for MemoryDesk {
     fn read(&mut self, slot: u32, into: &mut [u8]) -> Result<usize, DeskFault>
         requires input { slot < (reading_of self.old).side.slots }
         requires room { 0 < length into.old }
-        ensures read { ReadInto true (reading_of self.old) slot into.new result (reading_of self.new) }
+        ensures read { ReadInto true (reading_of self.old) slot into.new
+            result (reading_of self.new) }
         ensures outputs { writing_of self.new ≡ writing_of self.old }
         ensures count { result ≡ (if will_fail (plan_of self.old) then Err Failed
-            else Ok (min (plan_of self.old).piece (min (length into.old) (length ((reading_of self.old).left slot))))) }
-        ensures faults { (reading_of self.new).side.faults ≡ faults_after (reading_of self.old).side.faults result }
-        ensures plan { plan_of self.new ≡ counted (plan_of self.old) result }
+            else Ok (min (plan_of self.old).piece
+            (min (length into.old) (length ((reading_of self.old).left slot))))) }
+        ensures faults { (reading_of self.new).side.faults
+            ≡ faults_after (reading_of self.old).side.faults result }
+        ensures plan { plan_of self.new ≡ plan_after (plan_of self.old) result }
     {
-        let fails = self.calls.next_fails();
-        self.calls.count();
-        if fails {
-            self.read_faults = self.read_faults.saturating_add(1);
-            return Err(DeskFault::Failed);
+        if self.calls.next_fails() {
+            return Err(self.input_failed());
         }
+        self.calls.count();
         let most = self.piece.of(into.len());
         Ok(self.inputs.read(slot, into, most))
     }
@@ -202,8 +230,9 @@ impl Desk for MemoryDesk {
         ensures opened { OpenOut true (writing_of self.old) name.now result (writing_of self.new) }
         ensures inputs { reading_of self.new ≡ reading_of self.old }
         ensures fails { FailsIf (will_fail (plan_of self.old)) result }
-        ensures faults { (writing_of self.new).side.faults ≡ faults_after (writing_of self.old).side.faults result }
-        ensures plan { plan_of self.new ≡ counted (plan_of self.old) result }
+        ensures faults { (writing_of self.new).side.faults
+            ≡ faults_after (writing_of self.old).side.faults result }
+        ensures plan { plan_of self.new ≡ plan_after (plan_of self.old) result }
     {
         if self.calls.next_fails() {
             return self.refuse_out(name);
@@ -220,17 +249,18 @@ impl Desk for MemoryDesk {
     fn write(&mut self, slot: u32, from: &[u8]) -> Result<usize, DeskFault>
         requires output { slot < (writing_of self.old).side.slots }
         requires some { 0 < length from.now }
-        ensures written { WriteFrom true (writing_of self.old) slot from.now result (writing_of self.new) }
+        ensures written { WriteFrom true (writing_of self.old) slot from.now
+            result (writing_of self.new) }
         ensures inputs { reading_of self.new ≡ reading_of self.old }
         ensures fails { FailsIf (will_fail (plan_of self.old)) result }
-        ensures count { IfOk result (λ count. count ≡ min (plan_of self.old).piece (length from.now)) }
-        ensures faults { (writing_of self.new).side.faults ≡ faults_after (writing_of self.old).side.faults result }
-        ensures plan { plan_of self.new ≡ counted (plan_of self.old) result }
+        ensures count { IfOk result
+            (λ count. count ≡ min (plan_of self.old).piece (length from.now)) }
+        ensures faults { (writing_of self.new).side.faults
+            ≡ faults_after (writing_of self.old).side.faults result }
+        ensures plan { plan_of self.new ≡ plan_after (plan_of self.old) result }
     {
         if self.calls.next_fails() {
-            self.calls.count();
-            self.write_faults = self.write_faults.saturating_add(1);
-            return Err(DeskFault::Failed);
+            return Err(self.output_failed());
         }
         let count = self.piece.of(from.len());
         match self.outputs.write(slot, &from[..count]) {
@@ -240,5 +270,44 @@ impl Desk for MemoryDesk {
             }
             Err(NoMemory) => Err(DeskFault::NoMemory),
         }
+    }
+}
+
+#[cfg(test)]
+mod tests {
+    use super::*;
+    use std::test::Fail;
+
+    #[test]
+    fn chosen_pieces_and_failures(rt: HostRuntime) -> Result<(), Fail> {
+        let mut desk = MemoryDesk::new(rt.alloc())?;
+        desk.put_file("in", b"01234")?;
+        desk.set_piece(4);
+        desk.fail_call(4)?;
+
+        // Calls 1 to 6: the first finds no such name, the fourth is the listed one.
+        assert_eq!(rt; desk.open_in("none"), Err(DeskFault::Failed));
+        let input = desk.open_in("in")?;
+        let mut into = [0u8; 8];
+        assert_eq!(rt; desk.read(input, &mut into), Ok(4));
+        assert_eq!(rt; desk.read(input, &mut into), Err(DeskFault::Failed));
+        assert_eq!(rt; desk.read(input, &mut into), Ok(1));
+        assert_eq!(rt; desk.read(input, &mut into), Ok(0));
+        assert_eq!(rt; into, *b"4123\0\0\0\0");
+        assert_eq!(rt; (desk.read_faults, desk.write_faults), (2, 0));
+        Ok(())
+    }
+
+    #[test]
+    fn names_hold_what_is_written(rt: HostRuntime) -> Result<(), Fail> {
+        let mut desk = MemoryDesk::new(rt.alloc())?;
+        desk.set_piece(4);
+        let output = desk.open_out("out")?;
+        assert_eq!(rt; desk.write(output, b"0123456789"), Ok(4));
+        assert_eq!(rt; desk.file("out"), Some(&b"0123"[..]));
+        desk.put_file("out", b"own")?;
+        assert_eq!(rt; desk.write(output, b"45"), Ok(2));
+        assert_eq!(rt; desk.file("out"), Some(&b"own"[..]));
+        Ok(())
     }
 }

@@ -3,7 +3,7 @@ ghost use Rattle.std.specs.Option.{option_copied};
 ghost use Rattle.ioam_desk.specs.Desk.{holds, OpenIn, OpensInput, ReadInto, OpenOut, WriteFrom};
 ghost use Rattle.ioam_desk.specs.Desk.Held.{Stored};
 ghost use Rattle.ioam_desk.specs.Files.{PutsFile};
-ghost use Rattle.ioam_desk.specs.Plan.{FailsIf};
+ghost use Rattle.ioam_desk.specs.Faults.{FailsIf};
 ghost use Rattle.ioam_desk.specs.Store.{no_reading, writing_from};
 ghost use Rattle.ioam_desk.specs.SureDesk.{reading_of, writing_of, piece_of};
 
@@ -30,7 +30,8 @@ impl SureDesk {
     /// can.
     pub fn new(alloc: Global) -> Result<SureDesk, NoMemory>
         ensures reading { IfOk result (λ desk. reading_of desk ≡ no_reading) }
-        ensures writing { IfOk result (λ desk. writing_of desk ≡ writing_from 0 [] [] (λ _. Some (Stored []))) }
+        ensures writing { IfOk result (λ desk. writing_of desk
+            ≡ writing_from 0 [] [] (λ _. Some (Stored []))) }
         ensures piece { IfOk result (λ desk. piece_of desk ≡ 2 ^ 64 - 1) }
     {
         Ok(SureDesk {
@@ -44,7 +45,8 @@ impl SureDesk {
     /// From then on the name holds these octets, whatever it was tied to. Nothing changes where no
     /// memory could be had.
     pub fn put_file(&mut self, name: &str, octets: &[u8]) -> Result<(), NoMemory>
-        ensures ok { OnOk result (PutsFile (writing_of self.old) (writing_of self.new) name.now octets.now) }
+        ensures ok { OnOk result
+            (PutsFile (writing_of self.old) (writing_of self.new) name.now octets.now) }
         ensures err { OnErr result (writing_of self.new ≡ writing_of self.old) }
         ensures reading { reading_of self.new ≡ reading_of self.old }
         ensures piece { piece_of self.new ≡ piece_of self.old }
@@ -81,7 +83,9 @@ impl SureDesk {
 
     /// Opens an input slot over what the name holds.
     fn open_over(&mut self, name: &str) -> Result<u32, NoMemory>
-        ensures opened { MatchResult result (λ slot. OpensInput true (reading_of self.old) (reading_of self.new) (holds (writing_of self.old) name.now) name.now slot)
+        ensures opened { MatchResult result
+            (λ slot. OpensInput true (reading_of self.old) (reading_of self.new)
+            (holds (writing_of self.old) name.now) name.now slot)
             (λ _. reading_of self.new ≡ reading_of self.old) }
         ensures outputs { writing_of self.new ≡ writing_of self.old }
         ensures piece { piece_of self.new ≡ piece_of self.old }
@@ -99,7 +103,8 @@ impl Desk for SureDesk {
     ghost writing = { writing_of };
 
     fn open_in(&mut self, name: &str) -> Result<u32, DeskFault>
-        ensures opened { OpenIn true (reading_of self.old) (holds (writing_of self.old) name.now) name.now result (reading_of self.new) }
+        ensures opened { OpenIn true (reading_of self.old) (holds (writing_of self.old) name.now) name.now
+            result (reading_of self.new) }
         ensures outputs { writing_of self.new ≡ writing_of self.old }
         ensures fails { FailsIf false result }
         ensures piece { piece_of self.new ≡ piece_of self.old }
@@ -113,9 +118,11 @@ impl Desk for SureDesk {
     fn read(&mut self, slot: u32, into: &mut [u8]) -> Result<usize, DeskFault>
         requires input { slot < (reading_of self.old).side.slots }
         requires room { 0 < length into.old }
-        ensures read { ReadInto true (reading_of self.old) slot into.new result (reading_of self.new) }
+        ensures read { ReadInto true (reading_of self.old) slot into.new
+            result (reading_of self.new) }
         ensures outputs { writing_of self.new ≡ writing_of self.old }
-        ensures count { result ≡ Ok (min (piece_of self.old) (min (length into.old) (length ((reading_of self.old).left slot)))) }
+        ensures count { result ≡ Ok (min (piece_of self.old)
+            (min (length into.old) (length ((reading_of self.old).left slot)))) }
         ensures piece { piece_of self.new ≡ piece_of self.old }
     {
         let most = self.piece.of(into.len());
@@ -137,10 +144,12 @@ impl Desk for SureDesk {
     fn write(&mut self, slot: u32, from: &[u8]) -> Result<usize, DeskFault>
         requires output { slot < (writing_of self.old).side.slots }
         requires some { 0 < length from.now }
-        ensures written { WriteFrom true (writing_of self.old) slot from.now result (writing_of self.new) }
+        ensures written { WriteFrom true (writing_of self.old) slot from.now
+            result (writing_of self.new) }
         ensures inputs { reading_of self.new ≡ reading_of self.old }
         ensures fails { FailsIf false result }
-        ensures count { IfOk result (λ count. count ≡ min (piece_of self.old) (length from.now)) }
+        ensures count { IfOk result
+            (λ count. count ≡ min (piece_of self.old) (length from.now)) }
         ensures piece { piece_of self.new ≡ piece_of self.old }
     {
         let count = self.piece.of(from.len());
@@ -148,5 +157,29 @@ impl Desk for SureDesk {
             Ok(()) => Ok(count),
             Err(NoMemory) => Err(DeskFault::NoMemory),
         }
+    }
+}
+
+#[cfg(test)]
+mod tests {
+    use super::*;
+    use std::test::Fail;
+
+    #[test]
+    fn no_name_is_missing(rt: HostRuntime) -> Result<(), Fail> {
+        let mut desk = SureDesk::new(rt.alloc())?;
+        desk.put_file("in", b"01234")?;
+        desk.set_piece(4);
+        let empty = desk.open_in("none")?;
+        let input = desk.open_in("in")?;
+        let mut into = [0u8; 8];
+        assert_eq!(rt; desk.read(empty, &mut into), Ok(0));
+        assert_eq!(rt; desk.read(input, &mut into), Ok(4));
+
+        let output = desk.open_out("out")?;
+        assert_eq!(rt; desk.write(output, b"56789"), Ok(4));
+        assert_eq!(rt; desk.file("out"), Some(&b"5678"[..]));
+        assert_eq!(rt; desk.file("none"), Some(&b""[..]));
+        Ok(())
     }
 }

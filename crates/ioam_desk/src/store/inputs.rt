@@ -1,4 +1,4 @@
-ghost use Rattle.std.specs.Prelude.{◌≡◌, ◌<◌, ◌++◌, ◌∷◌, [], ◌==◌, false, length, min, take, is_ok, IfOk, slice_set, vec_len, if◌then◌else◌};
+ghost use Rattle.std.specs.Prelude.{◌≡◌, ◌<◌, ◌++◌, ◌∷◌, [], false, length, is_ok, IfOk, vec_len, if◌then◌else◌};
 ghost use Rattle.ioam_desk.specs.Store.{Reads};
 
 use super::input::Input;
@@ -33,23 +33,29 @@ impl Inputs {
         octets: Vec<u8>,
     ) -> Result<u32, NoMemory>
         ensures number { IfOk result (λ slot. slot ≡ length self.old.slots.items) }
-        ensures asked { self.new.asked.items ≡ (if is_ok result then self.old.asked.items ++ name.now ∷ [] else self.old.asked.items) }
-        ensures slots { self.new.slots.items ≡ (if is_ok result then self.old.slots.items ++ record { left = octets.items; ended = false } ∷ [] else self.old.slots.items) }
+        ensures asked { self.new.asked.items ≡
+            (if is_ok result then self.old.asked.items ++ name.now ∷ []
+            else self.old.asked.items) }
+        ensures slots { self.new.slots.items ≡
+            (if is_ok result then self.old.slots.items ++ record { left = octets.items; ended = false } ∷ []
+            else self.old.slots.items) }
     {
         let Ok(slot) = u32::try_from(self.slots.len()) else {
             return Err(NoMemory);
         };
-        let name = Name::new(alloc, name)?;
+        let asked = Name::new(alloc, name)?;
         self.asked.reserve(1)?;
         self.slots.reserve(1)?;
-        put(&mut self.asked, name);
+        put(&mut self.asked, asked);
         put(&mut self.slots, Input::new(octets));
         Ok(slot)
     }
 
     /// Takes the name and opens nothing, or leaves all as it was.
     pub(crate) fn refuse(&mut self, alloc: Global, name: &str) -> Result<(), NoMemory>
-        ensures asked { self.new.asked.items ≡ (if is_ok result then self.old.asked.items ++ name.now ∷ [] else self.old.asked.items) }
+        ensures asked { self.new.asked.items ≡
+            (if is_ok result then self.old.asked.items ++ name.now ∷ []
+            else self.old.asked.items) }
         ensures slots { self.new.slots.items ≡ self.old.slots.items }
     {
         let name = Name::new(alloc, name)?;
@@ -61,7 +67,8 @@ impl Inputs {
     pub(crate) fn read(&mut self, slot: u32, into: &mut [u8], most: usize) -> usize
         requires { slot < vec_len self.old.slots }
         ensures asked { self.new.asked.items ≡ self.old.asked.items }
-        ensures read { Reads self.old.slots.items self.new.slots.items slot most (length into.old) into.new result }
+        ensures read { Reads self.old.slots.items self.new.slots.items
+            slot most (length into.old) into.new result }
     {
         self.slots[slot as usize].read(into, most)
     }

@@ -44,7 +44,8 @@ impl Outputs {
     fn tie(&mut self, alloc: Global, name: &str, to: Tie) -> Result<(), NoMemory>
         ensures asked { self.new.asked ≡ self.old.asked }
         ensures slots { self.new.slots ≡ self.old.slots }
-        ensures ok { OnOk result (Ties (files_of self.old.ties) (files_of self.new.ties) name.now (held_of to)) }
+        ensures ok { OnOk result
+            (Ties (files_of self.old.ties) (files_of self.new.ties) name.now (held_of to)) }
         ensures err { OnErr result (files_of self.new.ties ≡ files_of self.old.ties) }
     {
         let name = String::from_str(alloc, name)?;
@@ -61,7 +62,8 @@ impl Outputs {
     ) -> Result<(), NoMemory>
         ensures asked { self.new.asked.items ≡ self.old.asked.items }
         ensures slots { self.new.slots.items ≡ self.old.slots.items }
-        ensures ok { OnOk result (Ties (files_of self.old.ties) (files_of self.new.ties) name.now (Stored octets.now)) }
+        ensures ok { OnOk result
+            (Ties (files_of self.old.ties) (files_of self.new.ties) name.now (Stored octets.now)) }
         ensures err { OnErr result (files_of self.new.ties ≡ files_of self.old.ties) }
     {
         let octets = Octets::copy(alloc, octets)?;
@@ -72,9 +74,14 @@ impl Outputs {
     /// as it was.
     pub(crate) fn open(&mut self, alloc: Global, name: &str) -> Result<u32, NoMemory>
         ensures number { IfOk result (λ slot. slot ≡ length self.old.slots.items) }
-        ensures asked { self.new.asked.items ≡ (if is_ok result then self.old.asked.items ++ name.now ∷ [] else self.old.asked.items) }
-        ensures slots { self.new.slots.items ≡ (if is_ok result then self.old.slots.items ++ [] ∷ [] else self.old.slots.items) }
-        ensures ok { IfOk result (λ slot. Ties (files_of self.old.ties) (files_of self.new.ties) name.now (Written slot)) }
+        ensures asked { self.new.asked.items ≡
+            (if is_ok result then self.old.asked.items ++ name.now ∷ []
+            else self.old.asked.items) }
+        ensures slots { self.new.slots.items ≡
+            (if is_ok result then self.old.slots.items ++ [] ∷ []
+            else self.old.slots.items) }
+        ensures ok { IfOk result
+            (λ slot. Ties (files_of self.old.ties) (files_of self.new.ties) name.now (Written slot)) }
         ensures err { OnErr result (files_of self.new.ties ≡ files_of self.old.ties) }
     {
         let Ok(slot) = u32::try_from(self.slots.len()) else {
@@ -91,7 +98,9 @@ impl Outputs {
 
     /// Takes the name and opens nothing, or leaves all as it was.
     pub(crate) fn refuse(&mut self, alloc: Global, name: &str) -> Result<(), NoMemory>
-        ensures asked { self.new.asked.items ≡ (if is_ok result then self.old.asked.items ++ name.now ∷ [] else self.old.asked.items) }
+        ensures asked { self.new.asked.items ≡
+            (if is_ok result then self.old.asked.items ++ name.now ∷ []
+            else self.old.asked.items) }
         ensures slots { self.new.slots.items ≡ self.old.slots.items }
         ensures ties { files_of self.new.ties ≡ files_of self.old.ties }
     {
@@ -104,7 +113,10 @@ impl Outputs {
     pub(crate) fn write(&mut self, slot: u32, from: &[u8]) -> Result<(), NoMemory>
         requires { slot < vec_len self.old.slots }
         ensures asked { self.new.asked.items ≡ self.old.asked.items }
-        ensures slots { self.new.slots.items ≡ (if is_ok result then slice_set self.old.slots.items slot (written_at self.old.slots.items slot ++ from.now) else self.old.slots.items) }
+        ensures slots { self.new.slots.items ≡
+            (if is_ok result
+            then slice_set self.old.slots.items slot (written_at self.old.slots.items slot ++ from.now)
+            else self.old.slots.items) }
         ensures ties { files_of self.new.ties ≡ files_of self.old.ties }
     {
         self.slots[slot as usize].append(from)
@@ -122,7 +134,9 @@ impl Outputs {
 
     /// The octets that a name holds.
     pub(crate) fn held(&self, name: &str) -> Option<&[u8]>
-        ensures { option_copied result ≡ option_map (held_octets (written_at self.now.slots.items)) (files_of self.now.ties name.now) }
+        ensures { option_copied result
+            ≡ option_map (held_octets (written_at self.now.slots.items))
+            (files_of self.now.ties name.now) }
     {
         match self.ties.get(name)? {
             Tie::Own(octets) => Some(octets.as_slice()),
