@@ -1,4 +1,3 @@
 pub mod DeskLaws
-pub mod MovesLaws
 mod MovesLaws
 pub mod StoreLaws
