@@ -8,7 +8,7 @@ ghost use Rattle.ioam_run.specs.Texts.{AsksFront};
 ghost use Rattle.ioam_run.specs.declared.outcome.Outcome.{Outcome};
 
 use crate::command::{Command, parse};
-use ioam_desk::{Desk, Name};
+use ioam_desk::{Desk, Name, SureDesk};
 use ioam_run::{Outcome, run_filter};
 use std::alloc::Global;
 
@@ -48,4 +48,12 @@ pub fn ioam<D: Desk>(alloc: Global, words: &[Name], desk: &mut D) -> Outcome
         Some(Command::Filter) => run_filter(alloc, words, desk),
         None => Outcome::Usage,
     }
+}
+
+/// The same over a desk none of whose calls fails: then no fault of reading or writing is answered.
+pub fn ioam_surely(alloc: Global, words: &[Name], desk: &mut SureDesk) -> Outcome
+    ensures no_read_fault { result ≢ Outcome.ReadFault }
+    ensures no_write_fault { result ≢ Outcome.WriteFault }
+{
+    ioam(alloc, words, desk)
 }
