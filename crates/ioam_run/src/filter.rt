@@ -5,20 +5,18 @@ ghost use Rattle.ioam_desk.specs.Desk.{Rose, holds};
 ghost use Rattle.ioam_run.specs.Answered.{IsAnswered, FileCause};
 ghost use Rattle.ioam_run.specs.Filter.{HasCause, Asked, Leaves, IsBehindAll, IsCleanCapture, files_of, outcome_of};
 ghost use Rattle.ioam_run.specs.FilterText.{Filtered};
-ghost use Rattle.ioam_run.specs.Followed.{Follows, GathersReads};
 ghost use Rattle.ioam_run.specs.Names.{name_at};
 ghost use Rattle.ioam_run.specs.Texts.{AsksFront};
 ghost use Rattle.ioam_run.specs.declared.outcome.Outcome.{Outcome};
 
 use crate::filtering::Filtering;
+use crate::gather::gather_octets;
 use crate::names::first_repeat;
 use crate::outcome::Outcome;
 use crate::texts::write_texts;
 use ioam_base::memory::NoMemory;
 use ioam_desk::{Desk, DeskFault, Name, WholeFault, read_whole};
-use ioam_pcap::Link;
-use ioam_pcap::capture::{CapFault, CapStep};
-use ioam_pcap::reader::CaptureReader;
+use ioam_pcap::capture::CapFault;
 use std::alloc::Global;
 
 /// The most octets of IN.
@@ -35,32 +33,10 @@ struct Gathered {
 fn filter_octets(alloc: Global, octets: &[u8]) -> Result<Gathered, NoMemory>
     ensures { IfOk result (λ f. Filtered octets.now (ending f.fault) f.texts.out.items f.texts.report.items) }
 {
-    let mut reader = CaptureReader::new(alloc)?;
-    reader.feed(octets)?;
     let mut texts = Filtering::new(alloc)?;
-    let fault = filter_records(&mut reader, &mut texts)?;
+    let fault = gather_octets(alloc, octets, &mut texts)?;
     texts.finish()?;
     Ok(Gathered { texts, fault })
-}
-
-// Takes each record that was fed. The answer is the fault behind them, if there is one.
-fn filter_records(
-    reader: &mut CaptureReader,
-    texts: &mut Filtering,
-) -> Result<Option<(u64, CapFault)>, NoMemory>
-    ghost octets: { List ℕ }
-    requires { Follows octets reader.old false texts.old }
-    ensures { IfOk result (λ fault. GathersReads octets (ending fault) texts.new) }
-{
-    let mut ethernet = false;
-    'records: loop {
-        match reader.next() {
-            CapStep::Head { link } => ethernet = link == Link::Ethernet,
-            CapStep::Packet(packet) => texts.take(ethernet, &packet)?,
-            CapStep::More => return Ok(reader.finish()),
-            CapStep::Bad { at, fault } => return Ok(Some((at, fault))),
-        }
-    }
 }
 
 /// Runs `filter IN OUT REPORT`: OUT becomes the capture of the packets of IN whose header chain is

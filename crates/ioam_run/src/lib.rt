@@ -3,6 +3,7 @@
 
 mod filter;
 mod filtering;
+mod gather;
 mod judge;
 mod names;
 mod outcome;
