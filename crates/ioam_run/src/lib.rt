@@ -4,6 +4,7 @@
 mod filter;
 mod filtering;
 mod gather;
+mod input;
 mod judge;
 mod names;
 mod outcome;
