@@ -2,17 +2,19 @@
 //! written, and the choice of the next packet among several captures.
 #![tactic(auto)]
 
-pub mod capture;
+mod capture;
 mod entry;
 mod form;
 mod head;
 mod merge;
 mod put;
-pub mod reader;
+mod reader;
 
+pub use capture::{CapFault, CapLook, CapStep, Packet, RECORD_MOST};
 pub use form::Link;
 pub use merge::pick;
 pub use put::{put_head, put_record};
+pub use reader::CaptureReader;
 
 #[cfg(test)]
 mod tests;
