@@ -2,13 +2,13 @@
 //! written, and the choice of the next packet among several captures.
 #![tactic(auto)]
 
-mod capture;
+pub mod capture;
 mod entry;
 mod form;
 mod head;
 mod merge;
 mod put;
-mod reader;
+pub mod reader;
 
 pub use capture::{CapFault, CapLook, CapStep, Packet, RECORD_MOST};
 pub use form::Link;
