@@ -1,5 +1,6 @@
 -- Laws of trace types.
 use Rattle.std.proofs.Common.{◌≡◌, ℕ, ◌+◌, ◌/◌, ◌<◌, ◌≤◌, Bool, true, false, cond, arith}
+use Rattle.std.proofs.lemmas.Bool.{and_parts}
 use Rattle.std.proofs.lemmas.Bool.Decides.{nat_tests}
 use Rattle.ioam_data.specs.Kind.{has, where_has, words, undefined, fits_type, can_add}
 
@@ -17,3 +18,8 @@ words-small kind = omega (arith, at_most (has kind 0) 1, at_most (has kind 1) 1,
 pub can_add-words : (kind : ℕ) → undefined kind ≡ 0 → 1 < kind → can_add kind (words kind) ≡ true
 unfolding can_add fits_type
 can_add-words kind none some = let half : 0 < kind / 2 = omega arith in grind (arith, nat_tests)
+
+-- where nodes add elements, NodeLen is right
+pub can_add-fits : (kind node_len : ℕ) → can_add kind node_len ≡ true → fits_type kind node_len ≡ true
+unfolding can_add
+can_add-fits kind node_len can = (and_parts (fits_type kind node_len) _ can).0

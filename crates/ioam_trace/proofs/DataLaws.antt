@@ -13,16 +13,22 @@ use Rattle.ioam_data.specs.Kind.{words, can_add}
 use Rattle.ioam_data.specs.Elements.{size_at, IsElement}
 use Rattle.ioam_data.specs.View.{Seen}
 use Rattle.ioam_data.specs.Written.{element_of, element_words}
-use Rattle.ioam_data.proofs.KindLaws.{words-small, can_add-words}
+use Rattle.ioam_data.proofs.KindLaws.{words-small, can_add-words, can_add-fits}
 use Rattle.ioam_data.specs.Snapshot.{IsSnapshot}
 use Rattle.ioam_data.proofs.ElementLaws.{IsElement-element_of, length-element_of}
 use Rattle.ioam_trace.specs.Data.{header, words_in, recorded, is_over, free_words, area, trace_data, CanHold}
+use Rattle.ioam_trace.specs.Recorded.{ReadsRecorded}
+use Rattle.ioam_trace.specs.Area.{Holds}
+use Rattle.ioam_trace.specs.Read.{IsHead, Carries, fault_of, elements_behind}
+use Rattle.ioam_trace.specs.declared.head.TraceHead.{TraceHead}
+use Rattle.ioam_trace.proofs.ConcatLaws.{All-reverse, Holds-concat}
+use Rattle.ioam_trace.proofs.ReadLaws.{fault_of-Carries, elements_behind-Carries}
 use Rattle.ioam_trace.specs.Filling.{Filling, IsOpen, IsSuited, words_to_add, with_lengths, less_remaining}
 use Rattle.ioam_trace.specs.Head.{node_len_of, overflow_of, remaining_of, kind_of}
 use Rattle.ioam_trace.specs.declared.filled.Filled.{Filled}
 use Rattle.ioam_trace.specs.declared.filled.Filled.TheVariants.{Added, Overflowed, AlreadyOver, Unsuited}
 use Rattle.ioam_trace.proofs.AreaLaws.{size_at-in_words}
-use Rattle.ioam_trace.proofs.HeadLaws.{lengths-header, node_len_of-header, overflow_of-header, remaining_of-header, kind_of-header}
+use Rattle.ioam_trace.proofs.HeadLaws.{IsHead-octets, lengths-header, node_len_of-header, overflow_of-header, remaining_of-header, kind_of-header}
 use Rattle.ioam_trace.proofs.RecordedLaws.{total, total-cons, total-push, recorded-fits, recorded-all, total-recorded, recorded-push_over, recorded-push_not, recorded-push_fits, length-recorded}
 
 -- ---- lists
@@ -88,6 +94,10 @@ trace_data-is namespace kind capacity es = refl
 
 split_zeros : (free width : ℕ) → width ≤ free → 4 * free ≡ 4 * (free - width) + 4 * width
 split_zeros free width within = omega arith
+
+one_or_none : (b : Bool) → cond b 8 0 / 8 ≡ cond b 1 0
+one_or_none true = refl
+one_or_none false = refl
 
 eight_or_none : (b : Bool) → cond b 8 0 < 16
 eight_or_none true = omega arith
@@ -211,6 +221,70 @@ module _ (namespace kind capacity : ℕ) (elements : List (List ℕ)) (namespace
       ∙ ap (λ xs. written (with_zeros left (replicate (4 * width) 0 ++ others)) (8 + 4 * left) xs) written_element
       ∙ done
       ∙ sym (ap (λ n. with_zeros n (concat (reverse (elements ++ e ∷ [])))) rest_free ∙ ap (λ xs. with_zeros left xs) joined)
+
+-- the words behind the free ones are those that were recorded
+used_is : (namespace kind capacity : ℕ) (over : Bool) (es : List (List ℕ))
+    → drop (8 + 4 * (capacity - total es)) (data_of namespace kind capacity over es) ≡ concat (reverse es)
+used_is namespace kind capacity over es =
+    let free = capacity - total es in
+    let front = header namespace (words kind) (if over then 8 else 0) free kind 0 ++ replicate (4 * free) 0 in
+    drop_at front (concat (reverse es)) (8 + 4 * free) (omega (arith, length-replicate {A = ℕ} (4 * free) 0))
+
+-- what was recorded is read again, in the order in which it was added
+pub ReadsRecorded-CanHold : (namespace kind capacity : ℕ) (es : List (List ℕ)) → CanHold namespace kind capacity es
+    → ReadsRecorded namespace kind capacity es
+ReadsRecorded-CanHold namespace kind capacity es holds =
+    let kept = recorded capacity es in
+    let over = is_over capacity es in
+    let flags = cond over 8 0 in
+    let free = capacity - total kept in
+    let octets = data_of namespace kind capacity over kept in
+    let rest = replicate (4 * free) 0 ++ concat (reverse kept) in
+    let can : can_add kind (words kind) ≡ true = can_add-words kind holds.entry.defined holds.entry.some in
+    let all = All-recorded (IsElement kind (words kind)) capacity es holds.elements in
+    let below : capacity < 128 = omega (arith, holds.capacity_below) in
+    let fits = recorded-fits capacity es in
+    let words_below : words kind < 32 = omega (arith, words-small kind) in
+    let free_below : free < 128 = omega arith in
+    let flags_below : flags < 16 = eight_or_none over in
+    let head : TraceHead = record {
+      namespace = record { 0 = namespace };
+      node_len = words kind;
+      flags = flags;
+      remaining = free;
+      kind = kind;
+      reserved = 0;
+      node_len_below = words_below;
+      flags_below = flags_below;
+      remaining_below = free_below;
+    } in
+    let is_head : IsHead octets head = IsHead-octets head rest holds.namespace_below holds.kind_below (omega arith) in
+    let P : List ℕ → Type 0 = λ xs. Holds kind (words kind) xs kept in
+    let carries : Carries free octets head kept = record {
+      begins = omega arith;
+      is_head = is_head;
+      fits = can_add-fits kind (words kind) can;
+      space = omega (arith, length_is namespace kind capacity kept holds.namespace_below holds.kind_below below can fits all over);
+      holds = subst P (sym (used_is namespace kind capacity over kept))
+        (Holds-concat kind (words kind) kept (All-reverse (IsElement kind (words kind)) kept all));
+    } in
+    let is = trace_data-is namespace kind capacity es in
+    let remaining = remaining_is namespace kind capacity kept holds.namespace_below holds.kind_below below can fits all over in
+    let Q : List ℕ → Type 0 = λ xs. (u16_at xs 0 ≡ namespace) × (kind_of xs ≡ kind) × (overflow_of xs ≡ cond over 1 0)
+        × (fault_of (remaining_of xs) xs ≡ None) × (elements_behind (remaining_of xs) xs ≡ kept) in
+    let read = subst Q (sym is) (
+      sym is_head.namespace,
+      sym is_head.kind,
+      overflow_is namespace kind capacity kept holds.namespace_below holds.kind_below below can fits all over ∙ one_or_none over,
+      ap (λ n. fault_of n octets) remaining ∙ fault_of-Carries free octets head kept carries,
+      ap (λ n. elements_behind n octets) remaining ∙ elements_behind-Carries free octets head kept carries) in
+    record {
+      namespace_is = read.0;
+      kind_is = read.1;
+      overflow_is = read.2;
+      no_fault = read.3;
+      elements = read.4;
+    }
 
 -- what a node leaves of a trace that holds the elements of the nodes before it
 pub trace_data-Filling : (namespace kind capacity : ℕ) (es : List (List ℕ)) (view : Seen) (new : List ℕ) (answer : Filled)
