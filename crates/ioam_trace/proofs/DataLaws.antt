@@ -1,5 +1,5 @@
 -- Laws of the octets of a trace that nodes filled.
-use Rattle.std.proofs.Common.{◌≡◌, ◌≢◌, ℕ, zero, suc, ◌+◌, ◌*◌, ◌-◌, ◌/◌, ◌%◌, ◌<◌, ◌≤◌, Bool, true, false, cond, List, [], ◌∷◌, ◌++◌, length, take, drop, get_or, reverse, replicate, append_assoc, arith, refl, sym, ap, ◌∙◌, subst, Option, Some, None, inl, inr}
+use Rattle.std.proofs.Common.{◌≡◌, ◌≢◌, ℕ, zero, suc, ◌+◌, ◌*◌, ◌-◌, ◌/◌, ◌%◌, ◌<◌, ◌≤◌, Bool, true, false, cond, List, [], ◌∷◌, ◌++◌, length, take, drop, get_or, reverse, replicate, append_assoc, arith, refl, sym, ap, ◌∙◌, subst, Option, Some, None, Result, Ok, Err, inl, inr}
 use Rattle.std.specs.Prelude.{IfSome, sum_by, nat_le, nat_lt, All, if◌then◌else◌}
 use Rattle.std.specs.List.{concat}
 use Rattle.std.specs.Int.{w16, w32, to_be_bytes}
@@ -17,14 +17,16 @@ use Rattle.ioam_data.proofs.KindLaws.{words-small, can_add-words, can_add-fits}
 use Rattle.ioam_data.specs.Snapshot.{IsSnapshot}
 use Rattle.ioam_data.proofs.ElementLaws.{IsElement-element_of, length-element_of}
 use Rattle.ioam_trace.specs.Data.{header, words_in, recorded, is_over, free_words, area, trace_data, CanHold}
-use Rattle.ioam_trace.specs.Recorded.{ReadsRecorded}
+use Rattle.ioam_trace.specs.Recorded.{ReadsRecorded, ReadsAgain}
 use Rattle.ioam_trace.specs.Area.{Holds}
-use Rattle.ioam_trace.specs.Read.{IsHead, Carries, fault_of, elements_behind}
+use Rattle.ioam_trace.specs.Read.{IsHead, Carries, Reads, elements_in, fault_of, elements_behind}
 use Rattle.ioam_trace.specs.declared.head.TraceHead.{TraceHead}
+use Rattle.ioam_trace.specs.declared.trace.Trace.{Trace}
+use Rattle.ioam_trace.specs.declared.fault.TraceFault.{TraceFault}
 use Rattle.ioam_trace.proofs.ConcatLaws.{All-reverse, Holds-concat}
-use Rattle.ioam_trace.proofs.ReadLaws.{fault_of-Carries, elements_behind-Carries}
+use Rattle.ioam_trace.proofs.ReadLaws.{fault_of-Carries, fault_of-HasFault, elements_behind-Carries}
 use Rattle.ioam_trace.specs.Filling.{Filling, IsOpen, IsSuited, words_to_add, with_lengths, less_remaining}
-use Rattle.ioam_trace.specs.Head.{node_len_of, overflow_of, remaining_of, kind_of}
+use Rattle.ioam_trace.specs.Head.{node_len_of, flags_of, overflow_of, remaining_of, kind_of}
 use Rattle.ioam_trace.specs.declared.filled.Filled.{Filled}
 use Rattle.ioam_trace.specs.declared.filled.Filled.TheVariants.{Added, Overflowed, AlreadyOver, Unsuited}
 use Rattle.ioam_trace.proofs.AreaLaws.{size_at-in_words}
@@ -285,6 +287,26 @@ ReadsRecorded-CanHold namespace kind capacity es holds =
       no_fault = read.3;
       elements = read.4;
     }
+
+pub ReadsAgain-Reads : (octets : List ℕ) (result : Result Trace TraceFault) → Reads octets result → ReadsAgain octets result
+ReadsAgain-Reads octets (Ok trace) reads namespace kind capacity es holds is =
+    let recorded_is = ReadsRecorded-CanHold namespace kind capacity es holds in
+    let head = reads.0.is_head in
+    let P : ℕ → Type 0 = λ free. Carries free octets trace.head (elements_in trace) in
+    let carries = subst P head.remaining reads.0 in
+    (head.namespace ∙ ap (λ xs. u16_at xs 0) is ∙ recorded_is.namespace_is,
+     head.kind ∙ ap kind_of is ∙ recorded_is.kind_is,
+     overflow_flag trace.head.flags octets head.flags ∙ ap overflow_of is ∙ recorded_is.overflow_is,
+     sym (elements_behind-Carries (remaining_of octets) octets trace.head (elements_in trace) carries)
+       ∙ ap (λ xs. elements_behind (remaining_of xs) xs) is ∙ recorded_is.elements)
+  where
+  overflow_flag : (flags : ℕ) (octets : List ℕ) → flags ≡ flags_of octets → flags / 8 ≡ overflow_of octets
+  overflow_flag flags octets is = omega arith
+ReadsAgain-Reads octets (Err fault) reads namespace kind capacity es holds is =
+    let recorded_is = ReadsRecorded-CanHold namespace kind capacity es holds in
+    let some = fault_of-HasFault (remaining_of octets) octets fault reads in
+    let none = ap (λ xs. fault_of (remaining_of xs) xs) is ∙ recorded_is.no_fault in
+    absurd (cc)
 
 -- what a node leaves of a trace that holds the elements of the nodes before it
 pub trace_data-Filling : (namespace kind capacity : ℕ) (es : List (List ℕ)) (view : Seen) (new : List ℕ) (answer : Filled)

@@ -79,3 +79,22 @@ recorded-push_not capacity (x ∷ es) e fits above =
 pub recorded-push_fits : (capacity : ℕ) (es : List (List ℕ)) (e : List ℕ) → total es + words_in e ≤ capacity
     → recorded capacity (es ++ e ∷ []) ≡ es ++ e ∷ []
 recorded-push_fits capacity es e fits = recorded-all capacity (es ++ e ∷ []) (omega (arith, total-push es e))
+
+-- what is recorded is a front of what is given
+pub recorded-front : (capacity : ℕ) (es : List (List ℕ)) → (rest : List (List ℕ)) × (es ≡ recorded capacity es ++ rest)
+recorded-front capacity [] = ([], refl)
+recorded-front capacity (e ∷ es) = front_either (nat_le (words_in e) capacity) (recorded-front (capacity - words_in e) es)
+  where
+  front_either : (b : Bool) → (rest : List (List ℕ)) × (es ≡ recorded (capacity - words_in e) es ++ rest)
+      → (rest : List (List ℕ)) × (e ∷ es ≡ cond b (e ∷ recorded (capacity - words_in e) es) [] ++ rest)
+  front_either true shorter = (shorter.0, ap (λ xs. e ∷ xs) shorter.1)
+  front_either false shorter = (e ∷ es, refl)
+
+-- and no front that fits is longer
+pub recorded-longest : (capacity : ℕ) (front rest : List (List ℕ)) → total front ≤ capacity
+    → length front ≤ length (recorded capacity (front ++ rest))
+recorded-longest capacity [] rest fits = omega arith
+recorded-longest capacity (e ∷ front) rest fits =
+    let sum = total-cons e front in
+    let shorter = recorded-longest (capacity - words_in e) front rest (omega arith) in
+    rw (le-leb (words_in e) capacity (omega arith)) (omega arith)

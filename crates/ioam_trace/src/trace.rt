@@ -20,6 +20,7 @@ impl<'a> Trace<'a> {
     ghost use Rattle.ioam_trace.specs.Head.{remaining_of};
     ghost use Rattle.ioam_trace.specs.Read.{Reads, elements_in, fault_of, fault_in, elements_behind};
     ghost use Rattle.ioam_trace.specs.Left.{left};
+    ghost use Rattle.ioam_trace.specs.Recorded.{ReadsAgain};
 
     /// Reads the octets behind the IOAM-Option-Type of a trace option. The faults are tested in
     /// the order in which [`TraceFault`] has them.
@@ -28,6 +29,8 @@ impl<'a> Trace<'a> {
         // The same as functions.
         ensures fault { fault_in result ≡ fault_of (remaining_of octets.now) octets.now }
         ensures elements { IfOk result (λ trace. elements_in trace ≡ elements_behind (remaining_of octets.now) octets.now) }
+        // What nodes filled is read as what they recorded.
+        ensures again { ReadsAgain octets.now result }
     {
         read_octets(octets)
     }
