@@ -1,6 +1,6 @@
 -- Laws of elements among octets.
 use Rattle.std.proofs.Common.{◌≡◌, ◌≢◌, ℕ, ◌+◌, ◌*◌, ◌-◌, ◌/◌, ◌%◌, ◌<◌, ◌≤◌, Bool, true, false, cond, List, [], ◌∷◌, ◌++◌, length, take, drop, get_or, replicate, arith, refl, sym, ap, ◌∙◌, subst, Option, Some, None, inl, inr, eqb, ◌^◌}
-use Rattle.std.specs.Prelude.{IfSome, slice_range}
+use Rattle.std.specs.Prelude.{IfSome, MatchOption, slice_range}
 use Rattle.std.specs.Option.{ForSome}
 use Rattle.std.specs.Borrow.{Bor}
 use Rattle.std.proofs.lemmas.List.{length-append, length-replicate, get_or-append-add, get_or_append_left, take_at, drop_at}
@@ -8,7 +8,7 @@ use Rattle.std.proofs.lemmas.Nat.{le-div, div_below}
 use Rattle.std.proofs.lemmas.Bool.{cases_lt, cases_Bool, cond-true, eq-eqb, ltb-true, eqb-true, leb-true, and_parts}
 use Rattle.std.proofs.lemmas.Bool.Decides.{nat_tests}
 use Rattle.ioam_data.specs.Kind.{has, where_has, words, undefined, fits_type, can_add}
-use Rattle.ioam_data.specs.Elements.{size_at, Stands, IsElement}
+use Rattle.ioam_data.specs.Elements.{size_at, Stands, IsElement, FindsElement}
 use Rattle.ioam_data.specs.Snapshot.{IsSnapshot}
 use Rattle.ioam_data.specs.View.{Seen, snapshot_data}
 use Rattle.ioam_data.specs.Written.{word, part, bits_0_to_3, bits_4_to_7, bits_8_to_11, snapshot_of, element_of, element_words}
@@ -220,3 +220,14 @@ pub IsSnapshot-lent : (given : Option (ℕ × Bor (List ℕ))) → ForSome given
     → IfSome (snapshot_data given) (λ s. IsSnapshot s.0 s.1)
 IsSnapshot-lent None fits = tt
 IsSnapshot-lent (Some given) fits = fits given refl
+
+-- a size that is told of what the octets begin with is that of the element that begins them
+pub FindsElement-size : (kind node_len : ℕ) (octets : List ℕ) (found : Option ℕ)
+    → MatchOption found (¬ Stands kind node_len octets 0) (λ size. Stands kind node_len octets 0 × (size ≡ size_at kind node_len octets 0))
+    → FindsElement kind node_len octets found
+FindsElement-size kind node_len octets None none e rest element is =
+    let P : List ℕ → Type 0 = λ xs. Stands kind node_len xs 0 in
+    absurd (none (subst P (sym is) (Stands-append kind node_len [] e rest element)))
+FindsElement-size kind node_len octets (Some size) told e rest element is =
+    ap Some (told.1 ∙ ap (λ xs. size_at kind node_len xs 0) is
+      ∙ size_at-append kind node_len [] e rest (omega (arith, element.whole)) ∙ element.whole)
