@@ -83,15 +83,15 @@ narrow_face_below : (face : Option ℕ) → narrow_face face < 65536
 narrow_face_below None = omega arith
 narrow_face_below (Some face) = some_below face
   where
-  some_below : (face : ℕ) → cond (nat_lt face 65536) face 65535 < 65536
-  some_below face = grind (arith, nat_tests)
+    some_below : (face : ℕ) → cond (nat_lt face 65536) face 65535 < 65536
+    some_below face = grind (arith, nat_tests)
 
 delay_below : (delay : Option ℕ) → delay_of delay < 4294967296
 delay_below None = omega arith
 delay_below (Some delay) = some_below delay
   where
-  some_below : (delay : ℕ) → cond (nat_lt 2147483647 delay) 2147483648 delay < 4294967296
-  some_below delay = grind (arith, nat_tests)
+    some_below : (delay : ℕ) → cond (nat_lt 2147483647 delay) 2147483648 delay < 4294967296
+    some_below delay = grind (arith, nat_tests)
 
 or_ones_below : (number : Option ℕ) → IfSome number (λ n. n < 4294967296) → or_ones number < 4294967296
 or_ones_below None below = omega arith
@@ -114,7 +114,7 @@ snapshot_back : (given : Option (ℕ × List ℕ)) → IfSome given (λ s. IsSna
 snapshot_back None fits = refl
 snapshot_back (Some given) fits =
     let schema : u32_at (word (length given.1 / 4 * 16777216 + given.0) ++ given.1) 0 % 16777216 ≡ given.0 =
-        (pair_back (length given.1 / 4) given.0 16777216 given.1 fits.schema_below (omega (arith, fits.short, fits.schema_below))).1 in
+    (pair_back (length given.1 / 4) given.0 16777216 given.1 fits.schema_below (omega (arith, fits.short, fits.schema_below))).1 in
     ap (λ n. (n, given.1)) schema
 
 -- ---- the whole element
@@ -216,10 +216,10 @@ module _ (kind node_len : ℕ) (view : Seen) (is : IsSeen view) where
       let snapshot = ap (λ xs. when_has kind 22 (snapshot_at xs)) last ∙ last_back (has kind 22) view.snapshot is.snapshot_fits in
       same_held (fields_of kind node_len from_0) (shown kind node_len view) v0 v1 v2 v3 v4 v5 v6 v7 v8 v9 v10 v11 filler snapshot
     where
-    last_back : (b : Bool) (given : Option (ℕ × List ℕ)) → IfSome given (λ s. IsSnapshot s.0 s.1)
-        → cond b (Some (snapshot_at (cond b (snapshot_of given) []))) None ≡ cond b (Some (given_snapshot given)) None
-    last_back true given fits = ap Some (snapshot_back given fits)
-    last_back false given fits = refl
+      last_back : (b : Bool) (given : Option (ℕ × List ℕ)) → IfSome given (λ s. IsSnapshot s.0 s.1)
+          → cond b (Some (snapshot_at (cond b (snapshot_of given) []))) None ≡ cond b (Some (given_snapshot given)) None
+      last_back true given fits = ap Some (snapshot_back given fits)
+      last_back false given fits = refl
 
   -- the fields of what was written for a view are those that it shows
   pub fields_of-element_of : fields_of kind node_len (element_of kind node_len view) ≡ shown kind node_len view

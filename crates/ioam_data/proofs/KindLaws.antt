@@ -10,9 +10,21 @@ at_most false amount = omega arith
 
 pub words-small : (kind : ℕ) → words kind ≤ 15
 unfolding words
-words-small kind = omega (arith, at_most (has kind 0) 1, at_most (has kind 1) 1, at_most (has kind 2) 1, at_most (has kind 3) 1,
-    at_most (has kind 4) 1, at_most (has kind 5) 1, at_most (has kind 6) 1, at_most (has kind 7) 1,
-    at_most (has kind 8) 2, at_most (has kind 9) 2, at_most (has kind 10) 2, at_most (has kind 11) 1)
+words-small kind = omega (
+  arith,
+  at_most (has kind 0) 1,
+  at_most (has kind 1) 1,
+  at_most (has kind 2) 1,
+  at_most (has kind 3) 1,
+  at_most (has kind 4) 1,
+  at_most (has kind 5) 1,
+  at_most (has kind 6) 1,
+  at_most (has kind 7) 1,
+  at_most (has kind 8) 2,
+  at_most (has kind 9) 2,
+  at_most (has kind 10) 2,
+  at_most (has kind 11) 1,
+)
 
 -- a type with no undefined bit, and one of the bits 0 to 22, takes elements of the words of its fields
 pub can_add-words : (kind : ℕ) → undefined kind ≡ 0 → 1 < kind → can_add kind (words kind) ≡ true
