@@ -29,19 +29,21 @@ module _ (kind node_len : ℕ) where
       let element = All-first e es all in
       let used = front ++ (e ++ concat es) in
       let size : size_at kind node_len used (length front) ≡ length e =
-          size_at-append kind node_len front e (concat es) (omega (arith, element.whole)) ∙ element.whole in
+      size_at-append kind node_len front e (concat es) (omega (arith, element.whole)) ∙ element.whole in
       let place : behind kind node_len used (length front) ≡ length (front ++ e) =
-          omega (arith, size, length-append front e) in
+      omega (arith, size, length-append front e) in
       let width : length front + size_at kind node_len used (length front) - length front ≡ length e = omega (arith, size) in
       let thing : element_at kind node_len used (length front) ≡ e =
-          ap (λ n. take n (drop (length front) used)) width
-          ∙ ap (λ xs. take (length e) xs) (drop_at front (e ++ concat es) (length front) refl)
-          ∙ take_at e (concat es) (length e) refl in
+      ap (λ n. take n (drop (length front) used)) width
+      ∙ ap (λ xs. take (length e) xs) (drop_at front (e ++ concat es) (length front) refl)
+      ∙ take_at e (concat es) (length e) refl in
       let joined : (front ++ e) ++ concat es ≡ used = append_assoc front e (concat es) in
       let P : List ℕ → Type 0 = λ xs. Runs kind node_len xs (length (front ++ e)) es (length xs) in
-      let Q : ℕ → Type 0 = λ n. Runs kind node_len used n es (length used) in
-      (Stands-append kind node_len front e (concat es) element, sym thing,
-       subst Q (sym place) (subst P joined (Runs-concat (front ++ e) es (All-rest e es all))))
+      let Q : ℕ → Type 0 = λ n. Runs kind node_len used n es (length used) in (
+        Stands-append kind node_len front e (concat es) element,
+        sym thing,
+        subst Q (sym place) (subst P joined (Runs-concat (front ++ e) es (All-rest e es all))),
+      )
 
   -- and those that stand one behind the other are whole elements, joined
   pub Holds-concat : (es : List (List ℕ)) → All (IsElement kind node_len) (reverse es) → Holds kind node_len (concat (reverse es)) es
@@ -61,17 +63,17 @@ module _ (kind node_len : ℕ) (used : List ℕ) where
         whole = omega arith;
       })
     where
-    size_in_part : (b : Bool) (at : ℕ)
-        → size_at kind node_len used at ≡ size_at kind node_len used at
-        → 4 * node_len + cond b (4 + 4 * get_or (take (4 * node_len + cond b (4 + 4 * get_or used (at + 4 * node_len) 0) 0) (drop at used)) (0 + 4 * node_len) 0) 0
+      size_in_part : (b : Bool) (at : ℕ)
+          → size_at kind node_len used at ≡ size_at kind node_len used at
+          → 4 * node_len + cond b (4 + 4 * get_or (take (4 * node_len + cond b (4 + 4 * get_or used (at + 4 * node_len) 0) 0) (drop at used)) (0 + 4 * node_len) 0) 0
           ≡ 4 * node_len + cond b (4 + 4 * get_or used (at + 4 * node_len) 0) 0
-    size_in_part true at _ =
-        let size = 4 * node_len + (4 + 4 * get_or used (at + 4 * node_len) 0) in
-        let place : 0 + 4 * node_len ≡ 4 * node_len = omega arith in
-        let read = ap (λ i. get_or (take size (drop at used)) i 0) place
-            ∙ get_or-take size (drop at used) (4 * node_len) 0 (omega arith) ∙ get_or-drop at used (4 * node_len) 0 in
-        ap (λ n. 4 * node_len + (4 + 4 * n)) read
-    size_in_part false at _ = refl
+      size_in_part true at _ =
+          let size = 4 * node_len + (4 + 4 * get_or used (at + 4 * node_len) 0) in
+          let place : 0 + 4 * node_len ≡ 4 * node_len = omega arith in
+          let read = ap (λ i. get_or (take size (drop at used)) i 0) place
+          ∙ get_or-take size (drop at used) (4 * node_len) 0 (omega arith) ∙ get_or-drop at used (4 * node_len) 0 in
+          ap (λ n. 4 * node_len + (4 + 4 * n)) read
+      size_in_part false at _ = refl
 
   -- so each that the function gives is one
   All-run_from : (fuel at : ℕ) → All (IsElement kind node_len) (run_from fuel kind node_len used at)
@@ -80,12 +82,12 @@ module _ (kind node_len : ℕ) (used : List ℕ) where
   All-run_from (suc fuel) at = all_either (stands kind node_len used at) (λ test. IsElement-at at (stands_is kind node_len used at test))
       (All-run_from fuel (behind kind node_len used at))
     where
-    all_either : (b : Bool) → (b ≡ true → IsElement kind node_len (element_at kind node_len used at))
-        → All (IsElement kind node_len) (run_from fuel kind node_len used (behind kind node_len used at))
-        → All (IsElement kind node_len) (cond b (element_at kind node_len used at ∷ run_from fuel kind node_len used (behind kind node_len used at)) [])
-    all_either true first rest zero d below = first refl
-    all_either true first rest (suc k) d below = rest k d (omega arith)
-    all_either false first rest k d below = absurd (omega arith)
+      all_either : (b : Bool) → (b ≡ true → IsElement kind node_len (element_at kind node_len used at))
+          → All (IsElement kind node_len) (run_from fuel kind node_len used (behind kind node_len used at))
+          → All (IsElement kind node_len) (cond b (element_at kind node_len used at ∷ run_from fuel kind node_len used (behind kind node_len used at)) [])
+      all_either true first rest zero d below = first refl
+      all_either true first rest (suc k) d below = rest k d (omega arith)
+      all_either false first rest k d below = absurd (omega arith)
 
   pub All-elements_of : All (IsElement kind node_len) (elements_of kind node_len used)
   All-elements_of = All-reverse (IsElement kind node_len) (run_from (length used) kind node_len used 0) (All-run_from (length used) 0)

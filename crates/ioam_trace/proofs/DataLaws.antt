@@ -40,8 +40,8 @@ written-at : (front old part rest : List ℕ) (at : ℕ) → length front ≡ at
     → written (front ++ (old ++ rest)) at part ≡ front ++ (part ++ rest)
 written-at front old part rest at is_at same =
     let place : drop (at + length part) (front ++ (old ++ rest)) ≡ rest =
-        ap (λ n. drop (n + length part) (front ++ (old ++ rest))) (sym is_at)
-        ∙ drop-append-add front (old ++ rest) (length part) ∙ drop_at old rest (length part) same in
+    ap (λ n. drop (n + length part) (front ++ (old ++ rest))) (sym is_at)
+    ∙ drop-append-add front (old ++ rest) (length part) ∙ drop_at old rest (length part) same in
     ap (λ ys. ys ++ (part ++ drop (at + length part) (front ++ (old ++ rest)))) (take_at front (old ++ rest) at is_at)
     ∙ ap (λ ys. front ++ (part ++ ys)) place
 
@@ -77,10 +77,10 @@ All-recorded P capacity [] all = all
 All-recorded P capacity (e ∷ es) all =
     all_either (nat_le (words_in e) capacity) (All-recorded P (capacity - words_in e) es (All-rest P e es all))
   where
-  all_either : (b : Bool) → All P (recorded (capacity - words_in e) es) → All P (cond b (e ∷ recorded (capacity - words_in e) es) [])
-  all_either true rest zero d below = All-first P e es all
-  all_either true rest (suc k) d below = rest k d (omega arith)
-  all_either false rest k d below = absurd (omega arith)
+    all_either : (b : Bool) → All P (recorded (capacity - words_in e) es) → All P (cond b (e ∷ recorded (capacity - words_in e) es) [])
+    all_either true rest zero d below = All-first P e es all
+    all_either true rest (suc k) d below = rest k d (omega arith)
+    all_either false rest k d below = absurd (omega arith)
 
 -- ---- the octets by the elements that are recorded
 
@@ -145,8 +145,8 @@ module _ (namespace kind capacity : ℕ) (elements : List (List ℕ)) (namespace
     length_is : length written_data ≡ 8 + (4 * free + 4 * total elements)
     length_is =
         let long : length behind_header ≡ 4 * free + 4 * total elements =
-            length-append (replicate (4 * free) 0) (concat (reverse elements))
-            ∙ omega (arith, length-replicate {A = ℕ} (4 * free) 0, length-concat kind (words kind) elements all) in
+        length-append (replicate (4 * free) 0) (concat (reverse elements))
+        ∙ omega (arith, length-replicate {A = ℕ} (4 * free) 0, length-concat kind (words kind) elements all) in
         omega (arith, long)
 
     is_suited : IsSuited written_data
@@ -201,19 +201,19 @@ module _ (namespace kind capacity : ℕ) (elements : List (List ℕ)) (namespace
       let amount_is : amount ≡ width = filling.2 ∙ to_add_is false view in
       let number : u16_at (written_data false) 2 - amount ≡ words kind * 2048 + 0 * 128 + left = omega (arith, lengths_are false, amount_is) in
       let zeros : behind_header ≡ replicate (4 * left) 0 ++ (replicate (4 * width) 0 ++ others) =
-          ap (λ n. replicate n 0 ++ others) (split_zeros free width within)
-          ∙ ap (λ xs. xs ++ others) (sym (replicate-append-replicate (4 * left) (4 * width) 0))
-          ∙ append_assoc (replicate (4 * left) 0) (replicate (4 * width) 0) others in
+      ap (λ n. replicate n 0 ++ others) (split_zeros free width within)
+      ∙ ap (λ xs. xs ++ others) (sym (replicate-append-replicate (4 * left) (4 * width) 0))
+      ∙ append_assoc (replicate (4 * left) 0) (replicate (4 * width) 0) others in
       let lowered : less_remaining (written_data false) amount ≡ with_zeros left (replicate (4 * width) 0 ++ others) =
-          ap (λ n. with_lengths (written_data false) n) number
-          ∙ ap (λ xs. header namespace (words kind) 0 left kind 0 ++ xs) zeros in
+      ap (λ n. with_lengths (written_data false) n) number
+      ∙ ap (λ xs. header namespace (words kind) 0 left kind 0 ++ xs) zeros in
       let place : 8 + 4 * (remaining_of (written_data false) - amount) ≡ 8 + 4 * left = omega (arith, remaining_is false, amount_is) in
       let written_element : element_of (kind_of (written_data false)) (node_len_of (written_data false)) view ≡ e =
-          ap (λ n. element_of n (node_len_of (written_data false)) view) (kind_is false) ∙ ap (λ n. element_of kind n view) (node_len_is false) in
+      ap (λ n. element_of n (node_len_of (written_data false)) view) (kind_is false) ∙ ap (λ n. element_of kind n view) (node_len_is false) in
       let front = header namespace (words kind) 0 left kind 0 ++ replicate (4 * left) 0 in
       let front_long : length front ≡ 8 + 4 * left = omega (arith, length-replicate {A = ℕ} (4 * left) 0) in
       let done : written (with_zeros left (replicate (4 * width) 0 ++ others)) (8 + 4 * left) e ≡ with_zeros left (e ++ others) =
-          written-at front (replicate (4 * width) 0) e others (8 + 4 * left) front_long (length-replicate (4 * width) 0 ∙ sym long) in
+      written-at front (replicate (4 * width) 0) e others (8 + 4 * left) front_long (length-replicate (4 * width) 0 ∙ sym long) in
       let width_is : words_in e ≡ width = omega (arith, long, words_in-IsElement kind (words kind) e element) in
       let rest_free : capacity - total (elements ++ e ∷ []) ≡ left = omega (arith, total-push elements e) in
       let joined : concat (reverse (elements ++ e ∷ [])) ≡ e ++ others = ap concat (reverse-push elements e) in
@@ -268,18 +268,19 @@ ReadsRecorded-CanHold namespace kind capacity es holds =
       fits = can_add-fits kind (words kind) can;
       space = omega (arith, length_is namespace kind capacity kept holds.namespace_below holds.kind_below below can fits all over);
       holds = subst P (sym (used_is namespace kind capacity over kept))
-        (Holds-concat kind (words kind) kept (All-reverse (IsElement kind (words kind)) kept all));
+          (Holds-concat kind (words kind) kept (All-reverse (IsElement kind (words kind)) kept all));
     } in
     let is = trace_data-is namespace kind capacity es in
     let remaining = remaining_is namespace kind capacity kept holds.namespace_below holds.kind_below below can fits all over in
     let Q : List ℕ → Type 0 = λ xs. (u16_at xs 0 ≡ namespace) × (kind_of xs ≡ kind) × (overflow_of xs ≡ cond over 1 0)
-        × (fault_of (remaining_of xs) xs ≡ None) × (elements_behind (remaining_of xs) xs ≡ kept) in
+    × (fault_of (remaining_of xs) xs ≡ None) × (elements_behind (remaining_of xs) xs ≡ kept) in
     let read = subst Q (sym is) (
       sym is_head.namespace,
       sym is_head.kind,
       overflow_is namespace kind capacity kept holds.namespace_below holds.kind_below below can fits all over ∙ one_or_none over,
       ap (λ n. fault_of n octets) remaining ∙ fault_of-Carries free octets head kept carries,
-      ap (λ n. elements_behind n octets) remaining ∙ elements_behind-Carries free octets head kept carries) in
+      ap (λ n. elements_behind n octets) remaining ∙ elements_behind-Carries free octets head kept carries,
+    ) in
     record {
       namespace_is = read.0;
       kind_is = read.1;
@@ -293,15 +294,16 @@ ReadsAgain-Reads octets (Ok trace) reads namespace kind capacity es holds is =
     let recorded_is = ReadsRecorded-CanHold namespace kind capacity es holds in
     let head = reads.0.is_head in
     let P : ℕ → Type 0 = λ free. Carries free octets trace.head (elements_in trace) in
-    let carries = subst P head.remaining reads.0 in
-    (head.namespace ∙ ap (λ xs. u16_at xs 0) is ∙ recorded_is.namespace_is,
-     head.kind ∙ ap kind_of is ∙ recorded_is.kind_is,
-     overflow_flag trace.head.flags octets head.flags ∙ ap overflow_of is ∙ recorded_is.overflow_is,
-     sym (elements_behind-Carries (remaining_of octets) octets trace.head (elements_in trace) carries)
-       ∙ ap (λ xs. elements_behind (remaining_of xs) xs) is ∙ recorded_is.elements)
+    let carries = subst P head.remaining reads.0 in (
+      head.namespace ∙ ap (λ xs. u16_at xs 0) is ∙ recorded_is.namespace_is,
+      head.kind ∙ ap kind_of is ∙ recorded_is.kind_is,
+      overflow_flag trace.head.flags octets head.flags ∙ ap overflow_of is ∙ recorded_is.overflow_is,
+      sym (elements_behind-Carries (remaining_of octets) octets trace.head (elements_in trace) carries)
+          ∙ ap (λ xs. elements_behind (remaining_of xs) xs) is ∙ recorded_is.elements,
+    )
   where
-  overflow_flag : (flags : ℕ) (octets : List ℕ) → flags ≡ flags_of octets → flags / 8 ≡ overflow_of octets
-  overflow_flag flags octets is = omega arith
+    overflow_flag : (flags : ℕ) (octets : List ℕ) → flags ≡ flags_of octets → flags / 8 ≡ overflow_of octets
+    overflow_flag flags octets is = omega arith
 ReadsAgain-Reads octets (Err fault) reads namespace kind capacity es holds is =
     let recorded_is = ReadsRecorded-CanHold namespace kind capacity es holds in
     let some = fault_of-HasFault (remaining_of octets) octets fault reads in
@@ -331,7 +333,7 @@ trace_data-Filling namespace kind capacity es view new answer holds snapshot fil
           let flag_after : is_over capacity (es ++ e ∷ []) ≡ true = lt-ltb _ _ (omega (arith, ap length same)) in
           let at_true = subst (λ b. Filling (data_of namespace kind capacity b (recorded capacity es)) view new answer) flag by_record in
           stays_over namespace kind capacity (recorded capacity es) holds.namespace_below holds.kind_below (omega (arith, holds.capacity_below)) can
-            (recorded-fits capacity es) (All-recorded (IsElement kind (words kind)) capacity es holds.elements) view new answer at_true
+          (recorded-fits capacity es) (All-recorded (IsElement kind (words kind)) capacity es holds.elements) view new answer at_true
           ∙ sym (back ∙ ap (λ b. data_of namespace kind capacity b (recorded capacity (es ++ e ∷ []))) flag_after ∙ ap (data_of namespace kind capacity true) same)
       | inr none_over ↦
           let fits : total es ≤ capacity = total-recorded capacity es none_over in

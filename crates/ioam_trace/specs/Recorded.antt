@@ -22,4 +22,4 @@ abbrev pub ReadsAgain : List ℕ → Result Trace TraceFault → Type 0
 ReadsAgain octets result = (namespace kind capacity : ℕ) (elements : List (List ℕ)) → CanHold namespace kind capacity elements
     → octets ≡ trace_data namespace kind capacity elements
     → IsOkAnd result (λ trace. (trace.head.namespace.0 ≡ namespace) × (trace.head.kind ≡ kind)
-        × (trace.head.flags / 8 ≡ (if is_over capacity elements then 1 else 0)) × (elements_in trace ≡ recorded capacity elements))
+    × (trace.head.flags / 8 ≡ (if is_over capacity elements then 1 else 0)) × (elements_in trace ≡ recorded capacity elements))

@@ -20,7 +20,12 @@ fn put_empty(head: &TraceHead, words: u8, out: &mut Vec<u8>) -> Result<(), NoMem
 /// Appends the octets of an empty pre-allocated trace, those behind the IOAM-Option-Type: a header
 /// with NodeLen of the type, and `capacity` free words of zero. The type has only bits 0 to 11 and
 /// 22, and one of them at least. Without memory nothing is appended.
-pub fn put_trace(namespace: Namespace, kind: TraceType, capacity: u8, out: &mut Vec<u8>) -> Result<(), NoMemory>
+pub fn put_trace(
+    namespace: Namespace,
+    kind: TraceType,
+    capacity: u8,
+    out: &mut Vec<u8>,
+) -> Result<(), NoMemory>
     requires entry { IsEntryType kind }
     requires some { 1 ≤ capacity }
     requires below { capacity ≤ 61 }
