@@ -1,8 +1,8 @@
 -- Laws of trace types.
-use Rattle.std.proofs.Common.{◌≡◌, ℕ, ◌+◌, ◌/◌, ◌<◌, ◌≤◌, Bool, true, false, cond, arith}
-use Rattle.std.proofs.lemmas.Bool.{and_parts}
+use Rattle.std.proofs.Common.{◌≡◌, ℕ, ◌+◌, ◌/◌, ◌<◌, ◌≤◌, Bool, true, false, cond, eqb, not, arith}
+use Rattle.std.proofs.lemmas.Bool.{and_parts, eqb-true, ltb-true}
 use Rattle.std.proofs.lemmas.Bool.Decides.{nat_tests}
-use Rattle.ioam_data.specs.Kind.{has, where_has, words, undefined, fits_type, can_add}
+use Rattle.ioam_data.specs.Kind.{has, where_has, words, undefined, fits_type, can_add, is_entry_type}
 
 at_most : (b : Bool) (amount : ℕ) → cond b amount 0 ≤ amount
 at_most true amount = omega arith
@@ -35,3 +35,11 @@ can_add-words kind none some = let half : 0 < kind / 2 = omega arith in grind (a
 pub can_add-fits : (kind node_len : ℕ) → can_add kind node_len ≡ true → fits_type kind node_len ≡ true
 unfolding can_add
 can_add-fits kind node_len can = (and_parts (fits_type kind node_len) _ can).0
+
+-- under a type that entry nodes write, with NodeLen the words of its fields, nodes add elements
+pub is_entry_type-can_add : (kind : ℕ) → is_entry_type kind ≡ true → can_add kind (words kind) ≡ true
+unfolding is_entry_type
+is_entry_type-can_add kind entry =
+    let parts = and_parts (eqb (undefined kind) 0) _ entry in
+    let others = and_parts (not (has kind 23)) _ parts.1 in
+    can_add-words kind (eqb-true (undefined kind) 0 parts.0) (ltb-true 1 kind others.1)

@@ -1,6 +1,6 @@
 -- IOAM-Trace-Types (RFC 9197 section 4.4): which fields a node adds, and how many words they take. A
 -- word is four octets. Of the 24 bits of a type bit 0 is the most significant.
-use Rattle.std.specs.Prelude.{ℕ, ◌+◌, ◌-◌, ◌*◌, ◌/◌, ◌%◌, ◌^◌, ◌≡◌, ◌≢◌, ◌<◌, ◌≤◌, Bool, true, false, ◌&&◌, nat_lt, nat_le, ◌==◌, if◌then◌else◌}
+use Rattle.std.specs.Prelude.{ℕ, ◌+◌, ◌-◌, ◌*◌, ◌/◌, ◌%◌, ◌^◌, ◌≡◌, ◌≢◌, ◌<◌, ◌≤◌, Bool, true, false, ◌&&◌, not, nat_lt, nat_le, ◌==◌, if◌then◌else◌}
 
 -- whether a type has a bit
 unfoldable pub has : ℕ → ℕ → Bool
@@ -32,3 +32,8 @@ fits_type kind node_len =
 -- 0 to 22
 unfoldable pub can_add : ℕ → ℕ → Bool
 can_add kind node_len = fits_type kind node_len && nat_lt 0 (kind / 2)
+
+-- a type that entry nodes write and direct exports ask for: only bits 0 to 11 and 22, and one of them or
+-- more
+unfoldable pub is_entry_type : ℕ → Bool
+is_entry_type kind = (undefined kind == 0) && (not (has kind 23) && nat_lt 1 kind)

@@ -13,7 +13,7 @@ use Rattle.ioam_data.specs.Kind.{words, can_add}
 use Rattle.ioam_data.specs.Elements.{size_at, IsElement}
 use Rattle.ioam_data.specs.View.{Seen}
 use Rattle.ioam_data.specs.Written.{element_of, element_words}
-use Rattle.ioam_data.proofs.KindLaws.{words-small, can_add-words, can_add-fits}
+use Rattle.ioam_data.proofs.KindLaws.{words-small, is_entry_type-can_add, can_add-fits}
 use Rattle.ioam_data.specs.Snapshot.{IsSnapshot}
 use Rattle.ioam_data.proofs.ElementLaws.{IsElement-element_of, length-element_of}
 use Rattle.ioam_trace.specs.Data.{header, words_in, recorded, is_over, free_words, area, trace_data, CanHold}
@@ -242,7 +242,7 @@ ReadsRecorded-CanHold namespace kind capacity es holds =
     let free = capacity - total kept in
     let octets = data_of namespace kind capacity over kept in
     let rest = replicate (4 * free) 0 ++ concat (reverse kept) in
-    let can : can_add kind (words kind) ≡ true = can_add-words kind holds.entry.defined holds.entry.some in
+    let can : can_add kind (words kind) ≡ true = is_entry_type-can_add kind holds.entry in
     let all = All-recorded (IsElement kind (words kind)) capacity es holds.elements in
     let below : capacity < 128 = omega (arith, holds.capacity_below) in
     let fits = recorded-fits capacity es in
@@ -317,7 +317,7 @@ pub trace_data-Filling : (namespace kind capacity : ℕ) (es : List (List ℕ)) 
     → new ≡ trace_data namespace kind capacity (es ++ element_of kind (words kind) view ∷ [])
 trace_data-Filling namespace kind capacity es view new answer holds snapshot filling =
     let e = element_of kind (words kind) view in
-    let can : can_add kind (words kind) ≡ true = can_add-words kind holds.entry.defined holds.entry.some in
+    let can : can_add kind (words kind) ≡ true = is_entry_type-can_add kind holds.entry in
     let width = element_words kind (words kind) view in
     let element : IsElement kind (words kind) e = IsElement-element_of kind (words kind) view holds.kind_below can snapshot in
     let long : length e ≡ 4 * width = length-element_of kind (words kind) view (omega arith) snapshot in

@@ -1,5 +1,6 @@
-ghost use Rattle.std.specs.Prelude.{◌≡◌, ℕ, ◌+◌, ◌*◌, ◌<◌, ◌≤◌, [], ◌++◌, length, replicate, OnOk, OnErr, is_ok, if◌then◌else◌};
-ghost use Rattle.ioam_trace.specs.Data.{IsEntryType, head_octets, trace_data};
+ghost use Rattle.std.specs.Prelude.{◌≡◌, ℕ, ◌+◌, ◌*◌, ◌<◌, ◌≤◌, [], ◌++◌, true, replicate, OnOk, OnErr, is_ok, if◌then◌else◌};
+ghost use Rattle.ioam_data.specs.Kind.{is_entry_type};
+ghost use Rattle.ioam_trace.specs.Data.{head_octets, trace_data};
 
 use crate::head::TraceHead;
 use ioam_base::memory::NoMemory;
@@ -26,7 +27,7 @@ pub fn put_trace(
     capacity: u8,
     out: &mut Vec<u8>,
 ) -> Result<(), NoMemory>
-    requires entry { IsEntryType kind }
+    requires entry { is_entry_type kind ≡ true }
     requires some { 1 ≤ capacity }
     requires below { capacity ≤ 61 }
     ensures ok { OnOk result (out.new.items ≡ out.old.items ++ trace_data namespace.0 kind capacity []) }

@@ -2,30 +2,37 @@ use super::*;
 use ioam_data::{Namespace, TraceType, View};
 use std::test::Fail;
 
+// The fault of the octets of a trace.
+fn fault(octets: &[u8]) -> Option<TraceFault> {
+    match Trace::read(octets) {
+        Ok(_) => None,
+        Err(fault) => Some(fault),
+    }
+}
+
 #[test]
 fn faults(rt: HostRuntime) {
-    let short = |octets: &[u8]| Trace::read(octets).err();
     assert_eq!(rt;
-        short(&[0, 7, 8, 0, 0x80, 0, 0]),
+        fault(&[0, 7, 8, 0, 0x80, 0, 0]),
         Some(TraceFault::Short { have: 7 })
     );
     assert_eq!(rt;
-        short(&[0, 7, 8, 0, 0x80, 0, 0, 0, 0]),
+        fault(&[0, 7, 8, 0, 0x80, 0, 0, 0, 0]),
         Some(TraceFault::Short { have: 9 })
     );
     assert_eq!(rt;
-        short(&[0, 7, 8, 5, 0x80, 0, 0, 0, 0, 0, 0, 0]),
+        fault(&[0, 7, 8, 5, 0x80, 0, 0, 0, 0, 0, 0, 0]),
         Some(TraceFault::Space { remaining: 5 })
     );
     assert_eq!(rt;
-        short(&[0, 7, 0x10, 0, 0x80, 0, 0, 0]),
+        fault(&[0, 7, 0x10, 0, 0x80, 0, 0, 0]),
         Some(TraceFault::NodeLen {
             found: 2,
             wanted: 1
         })
     );
     assert_eq!(rt;
-        short(&[0, 7, 8, 0, 0x80, 8, 0, 0]),
+        fault(&[0, 7, 8, 0, 0x80, 8, 0, 0]),
         Some(TraceFault::NodeLen {
             found: 1,
             wanted: 2
@@ -33,61 +40,61 @@ fn faults(rt: HostRuntime) {
     );
     // A third word where each element has two.
     assert_eq!(rt;
-        short(&[
+        fault(&[
             0, 7, 0x10, 0, 0xc0, 0, 0, 0, 1, 0, 0, 1, 0, 1, 0, 1, 1, 0, 0, 1
         ]),
         Some(TraceFault::Element { at: 16 })
     );
     // A snapshot that is not there.
     assert_eq!(rt;
-        short(&[0, 7, 8, 0, 0x80, 0, 2, 0, 1, 0, 0, 1]),
+        fault(&[0, 7, 8, 0, 0x80, 0, 2, 0, 1, 0, 0, 1]),
         Some(TraceFault::Element { at: 8 })
     );
 }
 
-// The elements of the octets of a trace, the oldest first, as far as three; none where it has a
-// fault.
-fn first_three(octets: &[u8]) -> (Option<&[u8]>, Option<&[u8]>, Option<&[u8]>) {
-    match Trace::read(octets) {
-        Ok(trace) => {
-            let mut elements = trace.elements();
-            (elements.next(), elements.next(), elements.next())
+// The length and the first octet of the first two elements, the oldest first, and how many there
+// are; a fault has 9 of them.
+fn first_two(octets: &[u8]) -> ((usize, u8), (usize, u8), u32) {
+    let mut first = (0, 0);
+    let mut second = (0, 0);
+    let mut count: u32 = 0;
+    let Ok(trace) = Trace::read(octets) else {
+        return (first, second, 9);
+    };
+    for element in trace.elements() {
+        let head = (element.len(), element.first().copied().unwrap_or(0));
+        if count == 0 {
+            first = head;
+        } else if count == 1 {
+            second = head;
         }
-        Err(_) => (None, None, None),
+        count = count.saturating_add(1);
     }
+    (first, second, count)
 }
 
 #[test]
 fn elements(rt: HostRuntime) {
     // RemainingLen is the space.
-    assert_eq!(rt;
-        first_three(&[0, 7, 8, 1, 0x80, 0, 0, 0, 9, 9, 9, 9]),
-        (None, None, None)
-    );
+    let free = [0, 7, 8, 1, 0x80, 0, 0, 0, 9, 9, 9, 9];
+    assert_eq!(rt; first_two(&free), ((0, 0), (0, 0), 0));
     // Overflow is set; the newest element stands first.
     let over = [0, 7, 0x0c, 0, 0x80, 0, 0, 0, 0x3f, 0, 0, 2, 0x40, 0, 0, 1];
-    assert_eq!(rt;
-        first_three(&over),
-        (Some(&over[12..]), Some(&over[8..12]), None)
-    );
-    assert_eq!(rt;
-        Trace::read(&over).ok().map(|trace| trace.head.flags),
-        Some(8)
-    );
+    assert_eq!(rt; first_two(&over), ((4, 0x40), (4, 0x3f), 2));
     // Undefined bits, and NodeLen above the words; one word is free.
     let wide = [
         0, 7, 0x18, 1, 0x80, 8, 0, 0, 5, 5, 5, 5, 1, 1, 1, 1, 2, 2, 2, 2, 3, 3, 3, 3,
     ];
-    assert_eq!(rt; first_three(&wide), (Some(&wide[12..]), None, None));
+    assert_eq!(rt; first_two(&wide), ((12, 1), (0, 0), 1));
     // Snapshots without data and with 45 words.
     let mut long = [0; 204];
-    long[..16].copy_from_slice(&[0, 0, 8, 0, 0x80, 0, 2, 0, 63, 0, 0, 2, 45, 0, 0, 9]);
+    long[2] = 8;
+    long[4] = 0x80;
+    long[6] = 2;
+    long[8] = 63;
+    long[12] = 45;
     long[196] = 64;
-    long[200..].copy_from_slice(&[0, 0xff, 0xff, 0xff]);
-    assert_eq!(rt;
-        first_three(&long),
-        (Some(&long[196..]), Some(&long[8..196]), None)
-    );
+    assert_eq!(rt; first_two(&long), ((8, 64), (188, 63), 2));
 }
 
 // A node of which nothing is known but its id and the hop limit.
@@ -110,7 +117,9 @@ fn node(hops: u8, id: u32) -> View<'static> {
 #[test]
 fn filling(rt: HostRuntime) -> Result<(), Fail> {
     let mut octets = Vec::new(rt.alloc());
-    put_trace(Namespace(7), TraceType::new(0x800000), 2, &mut octets)?;
+    let kind = TraceType::new(0x800000);
+    assert!(rt; kind.is_entry_type());
+    put_trace(Namespace(7), kind, 2, &mut octets)?;
     assert_eq!(rt;
         octets.as_slice(),
         [0, 7, 8, 2, 0x80, 0, 0, 0, 0, 0, 0, 0, 0, 0, 0, 0].as_slice()
@@ -142,33 +151,52 @@ fn filling(rt: HostRuntime) -> Result<(), Fail> {
     Ok(())
 }
 
+// Decodes the octets of an incremental trace and encodes it again: the length and the first octet
+// of its oldest element, and the octets.
+fn encoded_again(octets: &[u8], out: &mut Vec<u8>) -> Result<(usize, u8), Option<TraceFault>> {
+    match Incremental::decode(octets) {
+        Ok(trace) => {
+            if trace.encode(out).is_err() {
+                return Err(None);
+            }
+            let oldest = trace.elements().next().unwrap_or(&[]);
+            Ok((oldest.len(), oldest.first().copied().unwrap_or(0)))
+        }
+        Err(fault) => Err(Some(fault)),
+    }
+}
+
 #[test]
-fn incremental(rt: HostRuntime) -> Result<(), Fail> {
-    let fault = |octets: &[u8]| Incremental::decode(octets).err();
+fn incremental(rt: HostRuntime) {
+    let mut out = Vec::new(rt.alloc());
     assert_eq!(rt;
-        fault(&[0, 7, 0x10, 0, 0x80, 0, 0, 0]),
-        Some(TraceFault::NodeLen {
+        encoded_again(&[0, 7, 0x10, 0, 0x80, 0, 0, 0], &mut out),
+        Err(Some(TraceFault::NodeLen {
             found: 2,
             wanted: 1
-        })
+        }))
     );
     assert_eq!(rt;
-        fault(&[0, 7, 8, 0, 0x80, 0, 0]),
-        Some(TraceFault::Short { have: 7 })
+        encoded_again(&[0, 7, 8, 0, 0x80, 0, 0], &mut out),
+        Err(Some(TraceFault::Short { have: 7 }))
     );
     assert_eq!(rt;
-        fault(&[0, 7, 8, 0, 0x80, 0, 2, 0, 1, 0, 0, 1]),
-        Some(TraceFault::Element { at: 8 })
+        encoded_again(&[0, 7, 8, 0, 0x80, 0, 0, 0], &mut out),
+        Ok((0, 0))
     );
     // RemainingLen is not compared.
-    let octets = [0, 7, 8, 5, 0x80, 0, 0, 0, 0x3f, 0, 0, 2, 0x40, 0, 0, 1];
-    let trace = Incremental::decode(&octets).ok().ok_or("two elements")?;
-    let mut elements = trace.elements();
-    assert_eq!(rt; elements.next(), Some(&octets[12..]));
-    assert_eq!(rt; elements.next(), Some(&octets[8..12]));
-    assert_eq!(rt; elements.next(), None);
-    let mut out = Vec::new(rt.alloc());
-    trace.encode(&mut out)?;
-    assert_eq!(rt; out.as_slice(), octets.as_slice());
-    Ok(())
+    assert_eq!(rt;
+        encoded_again(
+            &[0, 7, 8, 5, 0x80, 0, 0, 0, 0x3f, 0, 0, 2, 0x40, 0, 0, 1],
+            &mut out
+        ),
+        Ok((4, 0x40))
+    );
+    assert_eq!(rt;
+        out.as_slice(),
+        [
+            0, 7, 8, 0, 0x80, 0, 0, 0, 0, 7, 8, 5, 0x80, 0, 0, 0, 0x3f, 0, 0, 2, 0x40, 0, 0, 1
+        ]
+        .as_slice()
+    );
 }
