@@ -117,7 +117,8 @@ fn put_bits_8_to_11(kind: TraceType, view: &View<'_>, into: &mut ElementBuf)
 // The opaque state snapshot, where the type has bit 22.
 fn put_snapshot(kind: TraceType, view: &View<'_>, into: &mut ElementBuf)
     requires { length into.old + 184 ≤ 308 }
-    ensures { into.new ≡ into.old ++ part kind 22 (snapshot_of (snapshot_data view.now.snapshot)) }
+    ensures value { into.new ≡ into.old ++ part kind 22 (snapshot_of (snapshot_data view.now.snapshot)) }
+    ensures small { length into.new ≤ length into.old + 184 }
 {
     if kind.has_snapshot() {
         match view.snapshot {

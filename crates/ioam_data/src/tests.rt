@@ -51,7 +51,11 @@ fn types(rt: HostRuntime) {
     assert!(rt; kind(0x800800).fits(2) && kind(0x800800).fits(31) && !kind(0x800800).fits(1));
     assert!(rt; kind(0xc00000).fits(2) && !kind(0xc00000).fits(3));
     assert!(rt; kind(1).fits(0) && !kind(1).can_add(0) && kind(2).can_add(0));
-    assert!(rt; kind(0xc04002).is_entry_type() && !kind(0x800800).is_entry_type() && !kind(1).is_entry_type());
+    assert!(rt;
+        kind(0xc04002).is_entry_type()
+            && !kind(0x800800).is_entry_type()
+            && !kind(1).is_entry_type()
+    );
     assert_eq!(rt; kind(0x800800).bits(), 0x800800);
 }
 
