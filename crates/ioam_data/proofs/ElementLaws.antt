@@ -1,17 +1,17 @@
 -- Laws of elements among octets.
-use Rattle.std.proofs.Common.{◌≡◌, ◌≢◌, ℕ, ◌+◌, ◌*◌, ◌-◌, ◌/◌, ◌%◌, ◌<◌, ◌≤◌, Bool, true, false, cond, List, [], ◌∷◌, ◌++◌, length, take, drop, get_or, replicate, arith, refl, sym, ap, ◌∙◌, subst, Option, Some, None, inl, inr, eqb, ◌^◌}
-use Rattle.std.specs.Prelude.{IfSome, MatchOption, slice_range}
+use Rattle.std.proofs.Common.{◌≡◌, ℕ, ◌+◌, ◌*◌, ◌-◌, ◌/◌, ◌%◌, ◌<◌, ◌≤◌, Bool, true, false, cond, List, [], ◌++◌, length, get_or, replicate, arith, refl, sym, ap, ◌∙◌, subst, Option, Some, None, inl, inr, eqb, ◌^◌}
+use Rattle.std.specs.Prelude.{IfSome, MatchOption}
 use Rattle.std.specs.Option.{ForSome}
 use Rattle.std.specs.Borrow.{Bor}
-use Rattle.std.proofs.lemmas.List.{length-append, length-replicate, get_or-append-add, get_or_append_left, take_at, drop_at}
+use Rattle.std.proofs.lemmas.List.{length-append, length-replicate, get_or-append-add, get_or_append_left}
 use Rattle.std.proofs.lemmas.Nat.{le-div, div_below}
-use Rattle.std.proofs.lemmas.Bool.{cases_lt, cases_Bool, cond-true, eq-eqb, ltb-true, eqb-true, leb-true, and_parts}
+use Rattle.std.proofs.lemmas.Bool.{cases_lt, cases_Bool, cond-true, eq-eqb, and_parts}
 use Rattle.std.proofs.lemmas.Bool.Decides.{nat_tests}
 use Rattle.ioam_data.specs.Kind.{has, where_has, words, undefined, fits_type, can_add}
 use Rattle.ioam_data.specs.Elements.{size_at, Stands, IsElement, FindsElement}
 use Rattle.ioam_data.specs.Snapshot.{IsSnapshot}
 use Rattle.ioam_data.specs.View.{Seen, snapshot_data}
-use Rattle.ioam_data.specs.Written.{word, part, bits_0_to_3, bits_4_to_7, bits_8_to_11, snapshot_of, element_of, element_words}
+use Rattle.ioam_data.specs.Written.{bits_0_to_3, bits_4_to_7, bits_8_to_11, snapshot_of, element_of, element_words}
 
 -- an element has NodeLen words, and with bit 22 a word more
 pub IsElement-room : (kind node_len : ℕ) (octets : List ℕ) → IsElement kind node_len octets

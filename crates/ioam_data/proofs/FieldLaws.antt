@@ -1,14 +1,14 @@
 -- What was written for a view is read again.
-use Rattle.std.proofs.Common.{◌≡◌, ℕ, ◌+◌, ◌*◌, ◌-◌, ◌/◌, ◌%◌, ◌<◌, ◌≤◌, Bool, true, false, cond, List, [], ◌∷◌, ◌++◌, length, take, drop, replicate, append_assoc, arith, refl, sym, ap, ◌∙◌, subst, Option, Some, None}
+use Rattle.std.proofs.Common.{◌≡◌, ℕ, ◌+◌, ◌*◌, ◌-◌, ◌/◌, ◌%◌, ◌<◌, Bool, true, false, cond, List, [], ◌++◌, length, take, drop, replicate, append_assoc, arith, refl, ap, ◌∙◌, Option, Some, None}
 use Rattle.std.specs.Prelude.{IfSome, nat_lt}
-use Rattle.std.proofs.lemmas.List.{drop_at, take_at, append-nil, length-replicate}
+use Rattle.std.proofs.lemmas.List.{drop_at, take_at, length-replicate}
 use Rattle.std.proofs.lemmas.Bool.Decides.{nat_tests}
 use Rattle.std.proofs.lemmas.Nat.{div-mul-add, mod-mul-add}
 use Rattle.ioam_base.specs.Octets.{u32_at}
-use Rattle.ioam_data.specs.Kind.{has, where_has, words}
+use Rattle.ioam_data.specs.Kind.{has, words}
 use Rattle.ioam_data.specs.Snapshot.{IsSnapshot}
 use Rattle.ioam_data.specs.View.{Seen, IsSeen}
-use Rattle.ioam_data.specs.Written.{word, part, bits_0_to_3, bits_4_to_7, bits_8_to_11, snapshot_of, element_of, or_ones, or_wide_ones, narrow_face, narrow_id, seconds_of, fraction_of, delay_of}
+use Rattle.ioam_data.specs.Written.{word, part, snapshot_of, element_of, or_ones, or_wide_ones, narrow_face, narrow_id, seconds_of, fraction_of, delay_of}
 use Rattle.ioam_data.specs.Fields.{Held, past, when_has, fields_of, hop_node_at, faces_at, number_at, wide_hop_node_at, wide_faces_at, wide_at, snapshot_at}
 use Rattle.ioam_data.specs.Shown.{shown, given_snapshot}
 

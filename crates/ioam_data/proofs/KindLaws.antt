@@ -1,8 +1,8 @@
 -- Laws of trace types.
-use Rattle.std.proofs.Common.{◌≡◌, ℕ, ◌+◌, ◌/◌, ◌<◌, ◌≤◌, Bool, true, false, cond, eqb, not, arith}
+use Rattle.std.proofs.Common.{◌≡◌, ℕ, ◌/◌, ◌<◌, ◌≤◌, Bool, true, false, cond, eqb, not, arith}
 use Rattle.std.proofs.lemmas.Bool.{and_parts, eqb-true, ltb-true}
 use Rattle.std.proofs.lemmas.Bool.Decides.{nat_tests}
-use Rattle.ioam_data.specs.Kind.{has, where_has, words, undefined, fits_type, can_add, is_entry_type}
+use Rattle.ioam_data.specs.Kind.{has, words, undefined, fits_type, can_add, is_entry_type}
 
 at_most : (b : Bool) (amount : ℕ) → cond b amount 0 ≤ amount
 at_most true amount = omega arith

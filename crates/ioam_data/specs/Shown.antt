@@ -1,10 +1,9 @@
 -- What is read of the element that was written for a view.
-use Rattle.std.specs.Prelude.{ℕ, ◌-◌, ◌*◌, ◌≡◌, ◌<◌, List, [], ◌++◌, length, replicate, Option, Some, None}
+use Rattle.std.specs.Prelude.{ℕ, ◌-◌, ◌*◌, ◌≡◌, List, [], replicate, Option, Some, None}
 use Rattle.ioam_data.specs.Kind.{words}
-use Rattle.ioam_data.specs.Elements.{IsElement}
 use Rattle.ioam_data.specs.View.{Seen, IsSeen}
 use Rattle.ioam_data.specs.Written.{element_of, or_ones, or_wide_ones, narrow_face, narrow_id, seconds_of, fraction_of, delay_of}
-use Rattle.ioam_data.specs.Fields.{Held, when_has, fields_of}
+use Rattle.ioam_data.specs.Fields.{Held, when_has}
 
 -- the schema and the data of a snapshot; a node without data writes a schema of all ones
 abbrev pub given_snapshot : Option (ℕ × List ℕ) → ℕ × List ℕ
