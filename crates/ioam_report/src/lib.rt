@@ -1,0 +1,8 @@
+//! The texts of reports: what traces hold, line by line. Words are separated by one space, and every
+//! line ends with a line feed.
+#![tactic(auto)]
+
+mod digits;
+mod piece;
+mod put;
+mod settle;
