@@ -1,2 +1,4 @@
 pub mod Digits
+pub mod FieldsText
 pub mod Piece
+pub mod TraceText

@@ -3,6 +3,11 @@
 #![tactic(auto)]
 
 mod digits;
+mod elements;
+mod lines;
 mod piece;
 mod put;
 mod settle;
+mod values;
+
+pub use elements::put_fields;

@@ -16,6 +16,8 @@ pub(crate) enum Piece<'a> {
     Text(&'a [u8]),
     /// A number in decimal digits.
     Number(&'a [u8], u64),
+    /// `-`, for a value that is not known.
+    Dash(&'a [u8]),
     /// The lower 24 bits of a number in 6 hexadecimal digits.
     Narrow(&'a [u8], u32),
     /// A number in 8 hexadecimal digits.
@@ -33,6 +35,16 @@ pub(crate) fn append_number(out: &mut Vec<u8>, label: &[u8], number: u64) -> Res
     let before = out.len();
     append(out, label)?;
     let answer = append_decimal(out, number);
+    settle(out, before, answer)
+}
+
+// Appends a label and octets.
+pub(crate) fn append_both(out: &mut Vec<u8>, label: &[u8], octets: &[u8]) -> Result<(), NoMemory>
+    ensures { out.new.items ≡ (if is_ok result then out.old.items ++ (label.now ++ octets.now) else out.old.items) }
+{
+    let before = out.len();
+    append(out, label)?;
+    let answer = append(out, octets);
     settle(out, before, answer)
 }
 

@@ -3,7 +3,7 @@ ghost use Rattle.std.specs.Prelude.{◌≡◌, ◌++◌, is_ok, if◌then◌else
 ghost use Rattle.std.specs.List.{flat_map};
 ghost use Rattle.ioam_report.specs.Piece.{piece_text};
 
-use crate::piece::{Piece, append_labelled, append_number};
+use crate::piece::{Piece, append_both, append_labelled, append_number};
 use crate::settle::settle;
 use ioam_base::memory::NoMemory;
 use ioam_base::text::append;
@@ -16,6 +16,7 @@ fn put_piece(piece: Piece<'_>, out: &mut Vec<u8>) -> Result<(), NoMemory>
         Piece::Nothing => Ok(()),
         Piece::Text(octets) => append(out, octets),
         Piece::Number(label, number) => append_number(out, label, number),
+        Piece::Dash(label) => append_both(out, label, b"-"),
         Piece::Narrow(label, number) => {
             append_labelled(out, label, &number.to_be_bytes()[1..])
         }
