@@ -1,1 +1,3 @@
+pub mod ElementsLaws
+pub mod LinesLaws
 pub mod TextLaws

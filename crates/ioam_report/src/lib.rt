@@ -11,3 +11,4 @@ mod settle;
 mod values;
 
 pub use elements::put_fields;
+pub use lines::put_trace_lines;

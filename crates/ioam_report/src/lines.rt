@@ -85,3 +85,54 @@ fn put_element_line(kind: TraceType, node_len: u8, element: &[u8], out: &mut Vec
     let answer = append(out, b"\n");
     settle(out, before, answer)
 }
+
+// How many elements a trace has.
+fn count_elements(trace: &Trace<'_>) -> u64
+    ensures { result ≡ length (elements_in trace.now) }
+{
+    // An element has an octet or more, so the count is no greater than this.
+    let _most = trace.area.len();
+    trace.elements().count() as u64
+}
+
+// Appends the lines of the elements.
+fn put_element_lines(trace: &Trace<'_>, out: &mut Vec<u8>) -> Result<(), NoMemory>
+    requires { All (IsElement trace.now.head.kind trace.now.head.node_len) (elements_in trace.now) }
+    ensures { out.new.items ≡ (if is_ok result
+        then out.old.items ++ flat_map (element_line trace.now.head.kind trace.now.head.node_len) (elements_in trace.now)
+        else out.old.items) }
+{
+    let before = out.len();
+    for element in trace.elements() {
+        let answer = put_element_line(trace.head.kind, trace.head.node_len, element, out);
+        settle(out, before, answer)?;
+    }
+    Ok(())
+}
+
+// Appends the lines of a trace that was read.
+fn put_whole_lines(trace: &Trace<'_>, out: &mut Vec<u8>) -> Result<(), NoMemory>
+    requires { All (IsElement trace.now.head.kind trace.now.head.node_len) (elements_in trace.now) }
+    ensures { out.new.items ≡ (if is_ok result
+        then out.old.items ++ whole_lines trace.now.head.namespace.0 trace.now.head.kind (trace.now.head.flags / 8) trace.now.head.node_len (elements_in trace.now)
+        else out.old.items) }
+{
+    let before = out.len();
+    put_first_line(&trace.head, count_elements(trace), out)?;
+    let answer = put_element_lines(trace, out);
+    settle(out, before, answer)
+}
+
+/// Appends the lines for the octets behind the IOAM-Option-Type of a trace option (RFC 9197 section
+/// 4.4.1). A trace has a line with its namespace, its type, `whole` or where Overflow is set
+/// `overflow`, and the count of its elements, and then a line for each element in visit order, the
+/// oldest first. Octets that are no trace have one line with their first fault. Without memory
+/// nothing is appended.
+pub fn put_trace_lines(octets: &[u8], out: &mut Vec<u8>) -> Result<(), NoMemory>
+    ensures { out.new.items ≡ (if is_ok result then out.old.items ++ trace_lines octets.now else out.old.items) }
+{
+    match Trace::read(octets) {
+        Ok(trace) => put_whole_lines(&trace, out),
+        Err(fault) => put_bad_line(fault, out),
+    }
+}
