@@ -5,10 +5,13 @@
 mod digits;
 mod elements;
 mod lines;
+mod listed;
 mod piece;
 mod put;
 mod settle;
+mod traces;
 mod values;
 
 pub use elements::put_fields;
 pub use lines::put_trace_lines;
+pub use traces::put_traces;
