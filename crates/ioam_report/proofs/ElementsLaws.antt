@@ -27,16 +27,16 @@ part-IsElement kind node_len used at here =
       whole = omega arith;
     }
   where
-  size_of_part : (b : Bool) (n : ℕ) → n ≡ 4 * node_len + cond b (4 + 4 * get_or used (at + 4 * node_len) 0) 0
-      → 4 * node_len + cond b (4 + 4 * get_or (take n (drop at used)) (0 + 4 * node_len) 0) 0
+    size_of_part : (b : Bool) (n : ℕ) → n ≡ 4 * node_len + cond b (4 + 4 * get_or used (at + 4 * node_len) 0) 0
+        → 4 * node_len + cond b (4 + 4 * get_or (take n (drop at used)) (0 + 4 * node_len) 0) 0
         ≡ 4 * node_len + cond b (4 + 4 * get_or used (at + 4 * node_len) 0) 0
-  size_of_part true n is =
-      let inside : 0 + 4 * node_len < n = omega arith in
-      let there = get_or-take n (drop at used) (0 + 4 * node_len) 0 inside in
-      let before = get_or-drop at used (0 + 4 * node_len) 0 in
-      let place : at + (0 + 4 * node_len) ≡ at + 4 * node_len = omega arith in
-      ap (λ octet. 4 * node_len + (4 + 4 * octet)) (there ∙ before ∙ ap (λ i. get_or used i 0) place)
-  size_of_part false n is = refl
+    size_of_part true n is =
+        let inside : 0 + 4 * node_len < n = omega arith in
+        let there = get_or-take n (drop at used) (0 + 4 * node_len) 0 inside in
+        let before = get_or-drop at used (0 + 4 * node_len) 0 in
+        let place : at + (0 + 4 * node_len) ≡ at + 4 * node_len = omega arith in
+        ap (λ octet. 4 * node_len + (4 + 4 * octet)) (there ∙ before ∙ ap (λ i. get_or used i 0) place)
+    size_of_part false n is = refl
 
 -- things that stand one behind the other are elements
 Runs-IsElement : (kind node_len : ℕ) (used : List ℕ) (from : ℕ) (xs : List (List ℕ)) (to : ℕ) → Runs kind node_len used from xs to
@@ -55,9 +55,9 @@ All-reverse P (x ∷ xs) all =
     subst Q (sym (reverse-append (x ∷ []) xs)) (All-append P (reverse xs) (x ∷ []) (All-reverse P xs (λ k d below. all (suc k) d (omega arith)))
     (λ k d below. first k d below))
   where
-  first : (k : ℕ) (d : List ℕ) → k < 1 → P (get_or (x ∷ []) k d)
-  first zero d below = all 0 d (omega arith)
-  first (suc k) d below = absurd (omega arith)
+    first : (k : ℕ) (d : List ℕ) → k < 1 → P (get_or (x ∷ []) k d)
+    first zero d below = all 0 d (omega arith)
+    first (suc k) d below = absurd (omega arith)
 
 -- the elements of a trace are elements, whole
 pub Carries-IsElement : (free : ℕ) (octets : List ℕ) (head : TraceHead) (elements : List (List ℕ)) → Carries free octets head elements

@@ -6,7 +6,7 @@ use Rattle.ioam_trace.specs.Read.{Carries, TraceOf, HasFault, fault_of, elements
 use Rattle.ioam_trace.specs.declared.head.TraceHead.{TraceHead}
 use Rattle.ioam_trace.specs.declared.fault.TraceFault.{TraceFault}
 use Rattle.ioam_trace.proofs.ReadLaws.{fault_of-Carries, elements_behind-Carries, fault_of-HasFault}
-use Rattle.ioam_report.specs.TraceText.{whole_lines, bad_line, lines_by, trace_lines}
+use Rattle.ioam_report.specs.TraceText.{whole_lines, bad_line, lines_by, trace_lines, IsTraceText}
 
 -- a trace is printed as its header and its elements
 pub trace_lines-TraceOf : (octets : List ℕ) (head : TraceHead) (elements : List (List ℕ)) → TraceOf octets head elements
@@ -29,3 +29,7 @@ trace_lines-TraceOf octets head elements trace =
 pub trace_lines-HasFault : (octets : List ℕ) (fault : TraceFault) → HasFault (remaining_of octets) octets fault → trace_lines octets ≡ bad_line fault
 unfolding trace_lines
 trace_lines-HasFault octets fault has = ap (lines_by octets) (fault_of-HasFault (remaining_of octets) octets fault has)
+
+-- the function gives the text of what the octets hold
+pub IsTraceText-trace_lines : (octets : List ℕ) → IsTraceText octets (trace_lines octets)
+IsTraceText-trace_lines octets = record { whole = trace_lines-TraceOf octets; bad = trace_lines-HasFault octets }

@@ -79,7 +79,7 @@ joined_either p true head hs more is = refl
 joined_either p false head hs more is =
     filter-append is_trace (options_in p head) (flat_map (options_in p) hs)
     ∙ ap (λ xs. xs ++ filter is_trace (flat_map (options_in p) hs))
-      (filter-either (is_options_head head) (options_from (length (octets_of p head)) (octets_of p head) 2))
+    (filter-either (is_options_head head) (options_from (length (octets_of p head)) (octets_of p head) 2))
     ∙ ap (λ xs. traces_in p head ++ xs) is
 
 traces_joined : (p : List ℕ) (hs : List Head) → filter is_trace (flat_map (options_in p) (in_front hs)) ≡ traces_from p hs

@@ -1,11 +1,12 @@
 -- How a trace is printed (RFC 9197 section 4.4.1): a line for the header and one for each element, or
 -- one that says why the octets are no trace.
-use Rattle.std.specs.Prelude.{ℕ, ◌*◌, ◌==◌, if◌then◌else◌, List, [], ◌∷◌, ◌++◌, Option, Some, None, length, drop, decimal, codes}
+use Rattle.std.specs.Prelude.{ℕ, ◌*◌, ◌/◌, ◌≡◌, ◌==◌, if◌then◌else◌, List, [], ◌∷◌, ◌++◌, Option, Some, None, length, drop, decimal, codes}
 use Rattle.std.specs.List.{flat_map}
 use Rattle.std.specs.Int.{w32, to_be_bytes}
 use Rattle.ioam_base.specs.Octets.{u16_at}
 use Rattle.ioam_trace.specs.Head.{node_len_of, overflow_of, remaining_of, kind_of}
-use Rattle.ioam_trace.specs.Read.{fault_of, elements_behind}
+use Rattle.ioam_trace.specs.Read.{TraceOf, HasFault, fault_of, elements_behind}
+use Rattle.ioam_trace.specs.declared.head.TraceHead.{TraceHead}
 use Rattle.ioam_trace.specs.declared.fault.TraceFault.{TraceFault}
 use Rattle.ioam_trace.specs.declared.fault.TraceFault.TheVariants.{Short, Space, NodeLen, Element}
 use Rattle.ioam_report.specs.Digits.{digits_of}
@@ -48,3 +49,10 @@ lines_by octets None =
 -- The lines for the octets behind the IOAM-Option-Type of a trace option. The elements stand in visit order.
 unfoldable pub trace_lines : List ℕ → List ℕ
 trace_lines octets = lines_by octets (fault_of (remaining_of octets) octets)
+
+-- The same by what the octets hold: a trace with a header and elements has the lines of these, and octets
+-- that are no trace the line of their first fault.
+pub record IsTraceText (octets text : List ℕ) : Type 0 where
+  pub whole : (head : TraceHead) (elements : List (List ℕ)) → TraceOf octets head elements
+      → text ≡ whole_lines head.namespace.0 head.kind (head.flags / 8) head.node_len elements
+  pub bad : (fault : TraceFault) → HasFault (remaining_of octets) octets fault → text ≡ bad_line fault

@@ -11,7 +11,11 @@ fn digit(value: u8) -> u8
     requires { value < 16 }
     ensures { result ≡ digit_of value }
 {
-    if value < 10 { b'0' + value } else { b'a' - 10 + value }
+    if value < 10 {
+        b'0' + value
+    } else {
+        b'a' - 10 + value
+    }
 }
 
 /// Appends the digits of these octets, or leaves what was there.

@@ -84,7 +84,12 @@ fn put_spaced(fields: &Fields<'_>, out: &mut Vec<u8>) -> Result<(), NoMemory>
 /// Appends the text of an element: its fields in bit order, filler words and the snapshot, with one
 /// space between each two words (RFC 9197 section 4.4.2). The octets are empty, which gives an empty
 /// text, or one element whole. Without memory nothing is appended.
-pub fn put_fields(kind: TraceType, node_len: u8, element: &[u8], out: &mut Vec<u8>) -> Result<(), NoMemory>
+pub fn put_fields(
+    kind: TraceType,
+    node_len: u8,
+    element: &[u8],
+    out: &mut Vec<u8>,
+) -> Result<(), NoMemory>
     requires { (element.now ≡ []) ⊎ IsElement kind node_len element.now }
     ensures { out.new.items ≡ (if is_ok result then out.old.items ++ element_text kind node_len element.now else out.old.items) }
 {

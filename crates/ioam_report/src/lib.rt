@@ -15,3 +15,6 @@ mod values;
 pub use elements::put_fields;
 pub use lines::put_trace_lines;
 pub use traces::put_traces;
+
+#[cfg(test)]
+mod tests;

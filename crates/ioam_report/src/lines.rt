@@ -3,7 +3,7 @@ ghost use Rattle.std.specs.Prelude.{◌≡◌, ◌++◌, ◌*◌, ◌/◌, All, 
 ghost use Rattle.std.specs.List.{flat_map};
 ghost use Rattle.ioam_data.specs.Elements.{IsElement};
 ghost use Rattle.ioam_trace.specs.Read.{elements_in};
-ghost use Rattle.ioam_report.specs.TraceText.{element_line, first_line, whole_lines, bad_line, trace_lines};
+ghost use Rattle.ioam_report.specs.TraceText.{element_line, first_line, whole_lines, bad_line, trace_lines, IsTraceText};
 
 use crate::elements::put_fields;
 use crate::piece::Piece;
@@ -74,7 +74,12 @@ fn put_first_line(head: &TraceHead, count: u64, out: &mut Vec<u8>) -> Result<(),
 }
 
 // Appends the line of an element.
-fn put_element_line(kind: TraceType, node_len: u8, element: &[u8], out: &mut Vec<u8>) -> Result<(), NoMemory>
+fn put_element_line(
+    kind: TraceType,
+    node_len: u8,
+    element: &[u8],
+    out: &mut Vec<u8>,
+) -> Result<(), NoMemory>
     requires { IsElement kind node_len element.now }
     ensures { out.new.items ≡ (if is_ok result then out.old.items ++ element_line kind node_len element.now else out.old.items) }
 {
@@ -129,7 +134,9 @@ fn put_whole_lines(trace: &Trace<'_>, out: &mut Vec<u8>) -> Result<(), NoMemory>
 /// oldest first. Octets that are no trace have one line with their first fault. Without memory
 /// nothing is appended.
 pub fn put_trace_lines(octets: &[u8], out: &mut Vec<u8>) -> Result<(), NoMemory>
-    ensures { out.new.items ≡ (if is_ok result then out.old.items ++ trace_lines octets.now else out.old.items) }
+    ensures text { out.new.items ≡ (if is_ok result then out.old.items ++ trace_lines octets.now else out.old.items) }
+    // The text is that of the header and the elements, or of the fault, that the octets have.
+    ensures is_text { IsTraceText octets.now (trace_lines octets.now) }
 {
     match Trace::read(octets) {
         Ok(trace) => put_whole_lines(&trace, out),

@@ -49,7 +49,11 @@ pub(crate) fn append_both(out: &mut Vec<u8>, label: &[u8], octets: &[u8]) -> Res
 }
 
 // Appends a label and the digits of octets.
-pub(crate) fn append_labelled(out: &mut Vec<u8>, label: &[u8], octets: &[u8]) -> Result<(), NoMemory>
+pub(crate) fn append_labelled(
+    out: &mut Vec<u8>,
+    label: &[u8],
+    octets: &[u8],
+) -> Result<(), NoMemory>
     ensures { out.new.items ≡ (if is_ok result then out.old.items ++ (label.now ++ digits_of octets.now) else out.old.items) }
 {
     let before = out.len();

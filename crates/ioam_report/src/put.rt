@@ -17,9 +17,7 @@ fn put_piece(piece: Piece<'_>, out: &mut Vec<u8>) -> Result<(), NoMemory>
         Piece::Text(octets) => append(out, octets),
         Piece::Number(label, number) => append_number(out, label, number),
         Piece::Dash(label) => append_both(out, label, b"-"),
-        Piece::Narrow(label, number) => {
-            append_labelled(out, label, &number.to_be_bytes()[1..])
-        }
+        Piece::Narrow(label, number) => { append_labelled(out, label, &number.to_be_bytes()[1..]) }
         Piece::Word(label, number) => append_labelled(out, label, &number.to_be_bytes()),
         Piece::Wide(label, number) => append_labelled(out, label, &number.to_be_bytes()),
         Piece::Octets(label, octets) => append_labelled(out, label, octets),

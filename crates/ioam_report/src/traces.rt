@@ -59,7 +59,10 @@ pub fn put_traces(packet: &[u8], out: &mut Vec<u8>) -> Result<(), NoMemory>
 {
     let before = out.len();
     let count = count_traces(packet) as u64;
-    put_pieces(&[Piece::Number(b" traces ", count), Piece::Text(b"\n")], out)?;
+    put_pieces(
+        &[Piece::Number(b" traces ", count), Piece::Text(b"\n")],
+        out,
+    )?;
     let answer = put_listed(packet, out);
     settle(out, before, answer)
 }

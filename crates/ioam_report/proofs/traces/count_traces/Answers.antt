@@ -24,7 +24,7 @@ overflow_add-count c =
     let steps : heads_left c.loop-head.head-iterator ≡ c.in-Some.head ∷ heads_left c.next.new.self = search rules in
     let octets : IsOctets p = λ i. omega (arith, c.type_inv.packet i) in
     let step = counting_traces p c.requires.sound _ are c.loop-head.count c.count_in-count.result (heads_left c.loop-head.head-iterator) (heads_left c.next.new.self)
-        c.in-Some.head c.loop-head.invariant.lead steps c.if-head-eq41.false c.count_in-count.ensures in
+    c.in-Some.head c.loop-head.invariant.lead steps c.if-head-eq41.false c.count_in-count.ensures in
     omega (arith, counting_fits p c.requires.sound _ are c.loop-head.count c.count_in-count.result (heads_left c.next.new.self) c.requires.packet octets step)
 
 pub loop-head-preserved : goal.loop-head-preserved
