@@ -129,27 +129,27 @@ clean_capture octets ending out text filtered = record {
 }
 
 clean_held : (octets : List ℕ) (ending : Ending) (texts : List (List ℕ)) (output report : List ℕ) (new : Writing)
-  → FilterTexts octets ending texts → HoldTexts new (output ∷ report ∷ []) texts → IsSomeAnd (holds new output) IsCleanCapture
+    → FilterTexts octets ending texts → HoldTexts new (output ∷ report ∷ []) texts → IsSomeAnd (holds new output) IsCleanCapture
 clean_held octets ending [] output report new are held = absurd are
 clean_held octets ending (out ∷ []) output report new are held = absurd are
 clean_held octets ending (out ∷ text ∷ []) output report new are held =
-  let P : Option (List ℕ) → Type 0 = λ o. IsSomeAnd o IsCleanCapture in
-  subst P (sym held.0) (clean_capture octets ending out text are)
+    let P : Option (List ℕ) → Type 0 = λ o. IsSomeAnd o IsCleanCapture in
+    subst P (sym held.0) (clean_capture octets ending out text are)
 clean_held octets ending (out ∷ text ∷ more ∷ texts) output report new are held = absurd are
 
 clean_all : (ending : Ending) (input output report : List ℕ) (old new : Writing) (octets : List ℕ)
-  → HoldsAll FilterTexts input (output ∷ report ∷ []) old new ending octets → IsSomeAnd (holds new output) IsCleanCapture
+    → HoldsAll FilterTexts input (output ∷ report ∷ []) old new ending octets → IsSomeAnd (holds new output) IsCleanCapture
 clean_all ending input output report old new octets all =
-  clean_held octets ending all.texts output report new all.are all.held
+    clean_held octets ending all.texts output report new all.are all.held
 
 from_held : (held : Option (List ℕ)) (ending : Ending) (input output report : List ℕ) (old new : Writing)
-  → IsSomeAnd held (HoldsAll FilterTexts input (output ∷ report ∷ []) old new ending) → IsSomeAnd (holds new output) IsCleanCapture
+    → IsSomeAnd held (HoldsAll FilterTexts input (output ∷ report ∷ []) old new ending) → IsSomeAnd (holds new output) IsCleanCapture
 from_held None ending input output report old new all = absurd all
 from_held (Some octets) ending input output report old new all = clean_all ending input output report old new octets all
 
 -- each packet in OUT may leave a domain
 pub Leaves-clean : (input output report : List ℕ) (old new : Writing) (answer : Outcome) → Leaves FilterTexts input (output ∷ report ∷ []) old new answer
-  → IsBehindAll answer → IsSomeAnd (holds new output) IsCleanCapture
+    → IsBehindAll answer → IsSomeAnd (holds new output) IsCleanCapture
 Leaves-clean input output report old new outcome.Done leaves behind = from_held (holds old input) Whole input output report old new leaves
 Leaves-clean input output report old new (outcome.Capture name at fault) leaves behind = from_held (holds old input) (Faulty at fault) input output report old new leaves
 Leaves-clean input output report old new outcome.Usage leaves behind = absurd behind

@@ -17,11 +17,11 @@ name_read words at name is inside = is ∙ get_or_default words at name [] insid
 
 -- the name at a place behind the command
 pub name_behind : (words : List (List ℕ)) (at : ℕ) (name : List ℕ) → at < length (file_names words)
-  → name ≡ get_or words (1 + at) name → name ≡ name_at (file_names words) at
+    → name ≡ get_or words (1 + at) name → name ≡ name_at (file_names words) at
 name_behind [] at name inside is = absurd (omega arith)
 name_behind (a ∷ names) at name inside is =
-  let next : 1 + at ≡ suc at = omega arith in
-  is ∙ ap (λ (k : ℕ). get_or (a ∷ names) k name) next ∙ get_or_default names at name [] inside
+    let next : 1 + at ≡ suc at = omega arith in
+    is ∙ ap (λ (k : ℕ). get_or (a ∷ names) k name) next ∙ get_or_default names at name [] inside
 
 module _ (tells : Bool) (names : List (List ℕ)) (input : List ℕ) (old_in : Reading) (old_out : Writing) (new_in : Reading) (new_out : Writing) where
   pub cause_of_file : (answer : Outcome) → AreApart names

@@ -5,3 +5,4 @@ pub mod FollowedLaws
 pub mod FilterLaws
 pub mod AskedLaws
 pub mod RunLaws
+pub mod ListingLaws

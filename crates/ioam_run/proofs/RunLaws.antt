@@ -22,22 +22,22 @@ faulty_due name other at fault Whole due = cc
 faulty_due name other at fault (Faulty place cause) due = cc
 
 module _ (Texts : List ℕ → Ending → List (List ℕ) → Type 0) (tells : Bool) (input : List ℕ) (outputs : List (List ℕ)) (old new : Writing) (told : IsTrue tells)
-  (octets : List ℕ) (ending : Ending) (texts : List (List ℕ)) where
+    (octets : List ℕ) (ending : Ending) (texts : List (List ℕ)) where
   all_held : (e : Ending) → ending ≡ e → holds old input ≡ Some octets → Texts octets ending texts → HoldTexts new outputs texts
-    → IsSomeAnd (holds old input) (HoldsAll Texts input outputs old new e)
+      → IsSomeAnd (holds old input) (HoldsAll Texts input outputs old new e)
   all_held e same held are texts_held = held_so (holds old input) octets (HoldsAll Texts input outputs old new e) held
-    (record { texts = texts; are = let P : Ending → Type 0 = λ d. Texts octets d texts in subst P same are; held = texts_held })
+      (record { texts = texts; are = let P : Ending → Type 0 = λ d. Texts octets d texts in subst P same are; held = texts_held })
 
   fronts_held : holds old input ≡ Some octets → Texts octets ending texts → HoldFronts old new 0 outputs texts
-    → IsSomeAnd (holds old input) (HoldsFronts Texts input outputs old new)
+      → IsSomeAnd (holds old input) (HoldsFronts Texts input outputs old new)
   fronts_held held are fronts = held_so (holds old input) octets (HoldsFronts Texts input outputs old new) held
-    (record { ending = ending; texts = texts; are = are; held = fronts })
+      (record { ending = ending; texts = texts; are = are; held = fronts })
 
   pub Leaves-answered : (answer : Outcome) → holds old input ≡ Some octets → Texts octets ending texts
-    → IsAnswered tells old new outputs texts (outcome_of input ending) answer → Leaves Texts input outputs old new answer
+      → IsAnswered tells old new outputs texts (outcome_of input ending) answer → Leaves Texts input outputs old new answer
   Leaves-answered outcome.Done held are answered = all_held Whole (whole_due input ending answered.0) held are (answered.1 told)
   Leaves-answered (outcome.Capture name at fault) held are answered =
-    all_held (Faulty at fault) (faulty_due input name at fault ending answered.0) held are (answered.1 told)
+      all_held (Faulty at fault) (faulty_due input name at fault ending answered.0) held are (answered.1 told)
   Leaves-answered outcome.WriteFault held are answered = inr (fronts_held held are (answered.1 told))
   Leaves-answered outcome.NoMemory held are answered = inr (fronts_held held are (answered told))
   Leaves-answered outcome.Usage held are answered = absurd answered

@@ -9,3 +9,5 @@ pub mod Input
 pub mod Filter
 pub mod Followed
 pub mod Answered
+pub mod PathsText
+pub mod Listing
