@@ -131,6 +131,52 @@ const RUNS: [Run; 12] = [
     },
 ];
 
+struct Listing {
+    input: &'static [&'static str],
+    report: &'static str,
+}
+
+const LISTINGS: [Listing; 4] = [
+    Listing {
+        input: &[
+            HEAD,
+            "00000001 000003e8 00000078 00000078",
+            "600000000050003f 20010db800000000000000000000000a 20010db800000000000000000000000c",
+            "29030100 31160000 00070801 80000000 00000000 3f000002 40000001 01020000",
+            "600000000008113f 20010db8000100000000000000000001 20010db8000200000000000000000001 0400040100080000",
+        ],
+        report: "1 traces 1\n  trace 7 800000 whole 2\n    hop=64 node=1\n    hop=63 node=2\npackets 1\n",
+    },
+    Listing {
+        input: &[
+            HEAD,
+            "00000001 00000000 00000040 00000040",
+            "6000000000180040 20010db8000100000000000000000001 20010db8000200000000000000000001",
+            "3b020100 310e0000 00070805 80000000 00000000 01020000",
+        ],
+        report: "1 traces 1\n  trace bad space 5\npackets 1\n",
+    },
+    Listing {
+        input: &[HEAD, "00000001 00000000 00000058 00000058", NESTED],
+        report: "1 traces 0\npackets 1\n",
+    },
+    Listing {
+        input: &[
+            HEAD,
+            AT_ONE,
+            BROKEN,
+            "00000001 00000000 00000000 00000000",
+            "00000001 00000000 00000030 00000031",
+            UDP,
+            "00000001 00000000 0000002f 0000002f",
+            "6000000000081140 20010db8000100000000000000000001 20010db8000200000000000000000001 04000401000800",
+            AT_ONE,
+            UDP,
+        ],
+        report: "1 skip chain\n2 skip not-ipv6\n3 skip cut\n4 skip length\n5 traces 0\npackets 5\n",
+    },
+];
+
 // The octets of hexadecimal digits; blanks are for reading.
 fn octets(alloc: Global, parts: &[&str]) -> Result<Vec<u8>, NoMemory> {
     let mut digits = Vec::new(alloc);
@@ -156,6 +202,12 @@ fn words(alloc: Global, texts: &[&str]) -> Result<Vec<Name>, NoMemory> {
 fn filtered(alloc: Global, desk: &mut MemoryDesk) -> Result<String, NoMemory> {
     let filter = words(alloc, &["filter", "in.pcap", "out.pcap", "report.txt"])?;
     line(alloc, &ioam(alloc, &filter, desk))
+}
+
+// The line of a run of `paths` over these files.
+fn listed(alloc: Global, desk: &mut MemoryDesk) -> Result<String, NoMemory> {
+    let paths = words(alloc, &["paths", "in.pcap", "report.txt"])?;
+    line(alloc, &ioam(alloc, &paths, desk))
 }
 
 // A desk with this capture, of which the numbered call fails.
@@ -189,6 +241,22 @@ fn filter_writes_what_it_keeps(rt: HostRuntime) {
 }
 
 #[test]
+fn paths_lists_traces(rt: HostRuntime) {
+    let alloc = rt.alloc();
+    for listing in &LISTINGS {
+        let input = octets(alloc, listing.input).expect(&rt, "octets");
+        let mut desk = desk_with(alloc, &input, 0).expect(&rt, "memory");
+        let line = listed(alloc, &mut desk).expect(&rt, "memory");
+        assert_eq!(rt; line.as_str(), "done");
+        assert!(rt;
+            desk.file("report.txt") == Some(listing.report.as_bytes()),
+            "at {}",
+            listing.report
+        );
+    }
+}
+
+#[test]
 fn filter_over_a_desk_that_never_fails(rt: HostRuntime) {
     let alloc = rt.alloc();
     let filter = words(alloc, &["filter", "in.pcap", "out.pcap", "report.txt"]).expect(
@@ -211,7 +279,15 @@ struct Refusal {
     line: &'static str,
 }
 
-const REFUSALS: [Refusal; 8] = [
+const REFUSALS: [Refusal; 10] = [
+    Refusal {
+        words: &["paths", "a", "a"],
+        line: "names a",
+    },
+    Refusal {
+        words: &["paths", "a"],
+        line: "usage",
+    },
     Refusal {
         words: &["filter", "a", "a", "r"],
         line: "names a",
