@@ -237,7 +237,7 @@ pub ReadsRecorded-CanHold : (namespace kind capacity : ℕ) (es : List (List ℕ
 ReadsRecorded-CanHold namespace kind capacity es holds =
     let kept = recorded capacity es in
     let over = is_over capacity es in
-    let flags = cond over 8 0 in
+    let flags : ℕ = cond over 8 0 in
     let free = capacity - total kept in
     let octets = data_of namespace kind capacity over kept in
     let rest = replicate (4 * free) 0 ++ concat (reverse kept) in
@@ -367,7 +367,7 @@ pub written-zeros : (octets : List ℕ) (words : ℕ) → length octets ≡ 8 �
     → take (8 + 4 * words) (written (replicate 252 0) 0 octets) ≡ octets ++ replicate (4 * words) 0
 written-zeros octets words long below =
     let place : 8 + 4 * words ≡ length octets + 4 * words = omega arith in
-    let rest : drop (0 + length octets) (replicate 252 0) ≡ replicate 244 0 = ap (λ n. drop (0 + n) (replicate 252 0)) long in
+    let rest : drop (0 + length octets) (replicate {A = ℕ} 252 0) ≡ replicate {A = ℕ} 244 0 = ap (λ n. drop (0 + n) (replicate 252 0)) long in
     ap (λ n. take n (written (replicate 252 0) 0 octets)) place
     ∙ take-append-add octets (drop (0 + length octets) (replicate 252 0)) (4 * words)
     ∙ ap (λ xs. octets ++ take (4 * words) xs) rest
