@@ -1,13 +1,10 @@
 -- Laws of elements that stand one behind the other in the used words.
-use Rattle.std.proofs.Common.{◌≡◌, ◌≢◌, ℕ, zero, suc, ◌+◌, ◌*◌, ◌-◌, ◌%◌, ◌<◌, ◌≤◌, Bool, true, false, cond, List, [], ◌∷◌, ◌++◌, length, take, drop, get_or, reverse, arith, rules, refl, sym, ap, ◌∙◌, subst, Option, Some, None}
-use Rattle.std.specs.Prelude.{slice_range}
-use Rattle.std.proofs.lemmas.Grind.{common_steps}
-use Rattle.std.proofs.lemmas.List.{reverse-append, reverse-reverse, get_or-take, get_or-drop, length-take-le, length-drop, places, same_lists, drop-take, take-take}
-use Rattle.std.proofs.lemmas.Bool.{false_from_ne_true, cases_Bool}
+use Rattle.std.proofs.Common.{◌≡◌, ℕ, zero, suc, ◌+◌, ◌*◌, ◌-◌, ◌%◌, ◌<◌, ◌≤◌, Bool, true, false, cond, List, [], ◌∷◌, ◌++◌, length, take, drop, get_or, reverse, arith, refl, sym, ap, ◌∙◌, subst, Option, Some, None}
+use Rattle.std.proofs.lemmas.List.{reverse-append, reverse-reverse, get_or-take, length-take-le, drop-take, take-take}
+use Rattle.std.proofs.lemmas.Bool.{false_from_ne_true}
 use Rattle.std.proofs.lemmas.Bool.Decides.{nat_tests}
-use Rattle.ioam_base.specs.Leads.{Leads}
 use Rattle.ioam_base.proofs.LeadsLaws.{Leads-push}
-use Rattle.ioam_data.specs.Kind.{words, has}
+use Rattle.ioam_data.specs.Kind.{has}
 use Rattle.ioam_data.specs.Elements.{size_at, Stands}
 use Rattle.ioam_trace.specs.Area.{behind, element_at, Runs, Holds, Stops, IsLast, Follows, stands, run_from, end_from, elements_of, end_of}
 

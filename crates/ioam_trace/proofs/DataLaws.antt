@@ -1,22 +1,21 @@
 -- Laws of the octets of a trace that nodes filled.
-use Rattle.std.proofs.Common.{◌≡◌, ◌≢◌, ℕ, zero, suc, ◌+◌, ◌*◌, ◌-◌, ◌/◌, ◌%◌, ◌<◌, ◌≤◌, Bool, true, false, cond, List, [], ◌∷◌, ◌++◌, length, take, drop, get_or, reverse, replicate, append_assoc, arith, refl, sym, ap, ◌∙◌, subst, Option, Some, None, Result, Ok, Err, inl, inr}
-use Rattle.std.specs.Prelude.{IfSome, sum_by, nat_le, nat_lt, All, if◌then◌else◌}
+use Rattle.std.proofs.Common.{◌≡◌, ℕ, zero, suc, ◌+◌, ◌*◌, ◌-◌, ◌/◌, ◌<◌, ◌≤◌, Bool, true, false, cond, List, [], ◌∷◌, ◌++◌, length, take, drop, reverse, replicate, append_assoc, arith, refl, sym, ap, ◌∙◌, subst, None, Result, Ok, Err, inl, inr}
+use Rattle.std.specs.Prelude.{IfSome, nat_le, All, if◌then◌else◌}
 use Rattle.std.specs.List.{concat}
-use Rattle.std.specs.Int.{w16, w32, to_be_bytes}
 use Rattle.std.proofs.lemmas.List.{length-append, length-replicate, reverse-append, take_at, drop_at, replicate-append-replicate, append-nil, take-replicate}
 use Rattle.std.proofs.lemmas.List.Folds.{concat-append}
 use Rattle.std.proofs.lemmas.Grind.{reverse_onto}
-use Rattle.std.proofs.lemmas.Bool.{cases_lt, ltb-true, ltb-false, lt-ltb, le-ltb}
+use Rattle.std.proofs.lemmas.Bool.{cases_lt, lt-ltb, le-ltb}
 use Rattle.std.proofs.Math.Seq.{take-append-add, drop-append-add}
 use Rattle.ioam_base.specs.Octets.{u16_at, written}
 use Rattle.ioam_data.specs.Kind.{words, can_add}
-use Rattle.ioam_data.specs.Elements.{size_at, IsElement}
+use Rattle.ioam_data.specs.Elements.{IsElement}
 use Rattle.ioam_data.specs.View.{Seen}
 use Rattle.ioam_data.specs.Written.{element_of, element_words}
 use Rattle.ioam_data.proofs.KindLaws.{words-small, is_entry_type-can_add, can_add-fits}
 use Rattle.ioam_data.specs.Snapshot.{IsSnapshot}
 use Rattle.ioam_data.proofs.ElementLaws.{IsElement-element_of, length-element_of}
-use Rattle.ioam_trace.specs.Data.{header, words_in, recorded, is_over, free_words, area, trace_data, CanHold}
+use Rattle.ioam_trace.specs.Data.{header, words_in, recorded, is_over, trace_data, CanHold}
 use Rattle.ioam_trace.specs.Recorded.{ReadsRecorded, ReadsAgain}
 use Rattle.ioam_trace.specs.Area.{Holds}
 use Rattle.ioam_trace.specs.Read.{IsHead, Carries, Reads, elements_in, fault_of, elements_behind}
@@ -25,13 +24,13 @@ use Rattle.ioam_trace.specs.declared.trace.Trace.{Trace}
 use Rattle.ioam_trace.specs.declared.fault.TraceFault.{TraceFault}
 use Rattle.ioam_trace.proofs.ConcatLaws.{All-reverse, Holds-concat}
 use Rattle.ioam_trace.proofs.ReadLaws.{fault_of-Carries, fault_of-HasFault, elements_behind-Carries}
-use Rattle.ioam_trace.specs.Filling.{Filling, IsOpen, IsSuited, words_to_add, with_lengths, less_remaining}
+use Rattle.ioam_trace.specs.Filling.{Filling, IsSuited, words_to_add, with_lengths, less_remaining}
 use Rattle.ioam_trace.specs.Head.{node_len_of, flags_of, overflow_of, remaining_of, kind_of}
 use Rattle.ioam_trace.specs.declared.filled.Filled.{Filled}
 use Rattle.ioam_trace.specs.declared.filled.Filled.TheVariants.{Added, Overflowed, AlreadyOver, Unsuited}
 use Rattle.ioam_trace.proofs.AreaLaws.{size_at-in_words}
 use Rattle.ioam_trace.proofs.HeadLaws.{IsHead-octets, lengths-header, node_len_of-header, overflow_of-header, remaining_of-header, kind_of-header}
-use Rattle.ioam_trace.proofs.RecordedLaws.{total, total-cons, total-push, recorded-fits, recorded-all, total-recorded, recorded-push_over, recorded-push_not, recorded-push_fits, length-recorded}
+use Rattle.ioam_trace.proofs.RecordedLaws.{total, total-cons, total-push, recorded-fits, recorded-all, total-recorded, recorded-push_over, recorded-push_not, recorded-push_fits}
 
 -- ---- lists
 
@@ -238,7 +237,7 @@ pub ReadsRecorded-CanHold : (namespace kind capacity : ℕ) (es : List (List ℕ
 ReadsRecorded-CanHold namespace kind capacity es holds =
     let kept = recorded capacity es in
     let over = is_over capacity es in
-    let flags = cond over 8 0 in
+    let flags : ℕ = cond over 8 0 in
     let free = capacity - total kept in
     let octets = data_of namespace kind capacity over kept in
     let rest = replicate (4 * free) 0 ++ concat (reverse kept) in
@@ -368,7 +367,7 @@ pub written-zeros : (octets : List ℕ) (words : ℕ) → length octets ≡ 8 �
     → take (8 + 4 * words) (written (replicate 252 0) 0 octets) ≡ octets ++ replicate (4 * words) 0
 written-zeros octets words long below =
     let place : 8 + 4 * words ≡ length octets + 4 * words = omega arith in
-    let rest : drop (0 + length octets) (replicate 252 0) ≡ replicate 244 0 = ap (λ n. drop (0 + n) (replicate 252 0)) long in
+    let rest : drop (0 + length octets) (replicate {A = ℕ} 252 0) ≡ replicate {A = ℕ} 244 0 = ap (λ n. drop (0 + n) (replicate 252 0)) long in
     ap (λ n. take n (written (replicate 252 0) 0 octets)) place
     ∙ take-append-add octets (drop (0 + length octets) (replicate 252 0)) (4 * words)
     ∙ ap (λ xs. octets ++ take (4 * words) xs) rest

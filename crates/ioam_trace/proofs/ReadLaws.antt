@@ -1,12 +1,12 @@
 -- Laws of reading the octets of a trace.
-use Rattle.std.proofs.Common.{◌≡◌, ℕ, ◌+◌, ◌*◌, ◌-◌, ◌%◌, ◌<◌, ◌≤◌, Bool, true, false, List, length, drop, reverse, Option, Some, None, Result, Ok, Err, arith, refl, sym, ap, ◌∙◌, subst}
+use Rattle.std.proofs.Common.{◌≡◌, ℕ, ◌+◌, ◌*◌, ◌-◌, ◌%◌, ◌≤◌, true, false, List, length, drop, reverse, Some, None, Result, Ok, Err, arith, refl, sym, ap, ◌∙◌, subst}
 use Rattle.std.specs.Prelude.{IfOk}
-use Rattle.std.proofs.lemmas.List.{drop-drop, length-drop}
+use Rattle.std.proofs.lemmas.List.{length-drop}
 use Rattle.std.proofs.lemmas.Bool.{false_from_ne_true, and_from, and_parts, le-leb, leb-true, eq-eqb, eqb-true, ne_eqb, cond-true, cond-false}
 use Rattle.ioam_data.specs.Kind.{words, undefined, fits_type}
 use Rattle.ioam_trace.specs.Area.{Holds, Stops, elements_of, end_of}
 use Rattle.ioam_trace.specs.Head.{node_len_of, remaining_of, kind_of}
-use Rattle.ioam_trace.specs.Read.{IsHead, Carries, IsWhole, HasFault, Surveys, Misfits, Reads, Decodes, elements_in, incremental_elements, used_behind, is_whole, end_behind, fault_of, fault_in, elements_behind}
+use Rattle.ioam_trace.specs.Read.{IsHead, Carries, IsWhole, HasFault, Reads, Decodes, elements_in, incremental_elements, used_behind, is_whole, end_behind, fault_of, fault_in, elements_behind}
 use Rattle.ioam_trace.specs.declared.head.TraceHead.{TraceHead}
 use Rattle.ioam_trace.specs.declared.fault.TraceFault.{TraceFault}
 use Rattle.ioam_trace.specs.declared.fault.TraceFault.TheVariants.{Short, Space, NodeLen, Element}

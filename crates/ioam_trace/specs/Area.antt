@@ -1,6 +1,6 @@
 -- The elements in the used words of a trace (RFC 9197 section 4.4). The newest stands first and the
 -- first node's last, so visit order is the reverse of the order in which they stand.
-use Rattle.std.specs.Prelude.{ℕ, ◌+◌, ◌≡◌, ◌<◌, ◌≤◌, ◌&&◌, Bool, nat_le, nat_lt, List, [], ◌∷◌, length, reverse, slice_range, Option, Some, None, if◌then◌else◌}
+use Rattle.std.specs.Prelude.{ℕ, ◌+◌, ◌≡◌, ◌&&◌, Bool, nat_le, nat_lt, List, [], ◌∷◌, length, reverse, slice_range, Option, Some, None, if◌then◌else◌}
 use Rattle.std.proofs.Common.{zero, suc}
 use Rattle.ioam_base.specs.Leads.{Leads}
 use Rattle.ioam_data.specs.Kind.{words}

@@ -1,5 +1,5 @@
 -- The octets of a trace that an entry node began and later nodes filled (RFC 9197 section 4.4).
-use Rattle.std.specs.Prelude.{ℕ, ◌+◌, ◌-◌, ◌*◌, ◌/◌, ◌≡◌, ◌<◌, ◌≤◌, Bool, true, false, nat_le, nat_lt, if◌then◌else◌, List, [], ◌∷◌, ◌++◌, length, reverse, replicate, sum_by, All}
+use Rattle.std.specs.Prelude.{ℕ, ◌+◌, ◌-◌, ◌*◌, ◌/◌, ◌≡◌, ◌<◌, ◌≤◌, Bool, true, nat_le, nat_lt, if◌then◌else◌, List, [], ◌∷◌, ◌++◌, length, reverse, replicate, sum_by, All}
 use Rattle.std.specs.List.{concat}
 use Rattle.std.specs.Int.{w16, w32, to_be_bytes}
 use Rattle.ioam_data.specs.Kind.{words, is_entry_type}

@@ -1,6 +1,6 @@
 -- The eight octets of a trace header (RFC 9197 section 4.4.1): Namespace-ID 16 bits, NodeLen 5, Flags 4,
 -- RemainingLen 7, IOAM-Trace-Type 24, Reserved 8.
-use Rattle.std.specs.Prelude.{ℕ, ◌+◌, ◌*◌, ◌/◌, ◌%◌, ◌≡◌, List, slice_index}
+use Rattle.std.specs.Prelude.{ℕ, ◌+◌, ◌*◌, ◌/◌, ◌%◌, List, slice_index}
 use Rattle.ioam_base.specs.Octets.{u16_at}
 
 -- NodeLen: the words that a node adds, the snapshot not counted

@@ -32,7 +32,7 @@ pub record Carries (free : ℕ) (octets : List ℕ) (head : TraceHead) (elements
   pub space : 8 + 4 * free ≤ length octets
   pub holds : Holds head.kind head.node_len (used_behind free octets) elements
 
--- a trace of either fixed size (pre-allocated): RemainingLen counts the free words before the elements
+-- a pre-allocated trace: RemainingLen counts the free words between the header and the elements
 abbrev pub TraceOf : List ℕ → TraceHead → List (List ℕ) → Type 0
 TraceOf octets head elements = Carries head.remaining octets head elements
 

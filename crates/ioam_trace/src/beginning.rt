@@ -11,7 +11,9 @@ use ioam_data::{Namespace, TraceType};
 // Appends a header and so many words of zero, or nothing.
 fn put_empty(head: &TraceHead, words: u8, out: &mut Vec<u8>) -> Result<(), NoMemory>
     requires { words ≤ 61 }
-    ensures { out.new.items ≡ (if is_ok result then out.old.items ++ (head_octets head.now ++ replicate (4 * words) 0) else out.old.items) }
+    ensures { out.new.items ≡ (if is_ok result
+        then out.old.items ++ (head_octets head.now ++ replicate (4 * words) 0)
+        else out.old.items) }
 {
     let mut octets = [0; 252];
     put_at(&mut octets, 0, &head.octets());

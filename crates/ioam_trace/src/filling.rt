@@ -55,7 +55,8 @@ fn put_element(octets: &mut [u8], words: u8, element: &[u8])
     requires begins { 8 ≤ length octets.old }
     requires enough { words ≤ remaining_of octets.old }
     requires size { length element.now ≡ 4 * words }
-    ensures { octets.new ≡ written (less_remaining octets.old words) (8 + 4 * (remaining_of octets.old - words)) element.now }
+    ensures { octets.new
+        ≡ written (less_remaining octets.old words) (8 + 4 * (remaining_of octets.old - words)) element.now }
 {
     let remaining = LengthWord(u16_at(octets, 2)).remaining();
     lower_remaining(octets, words);

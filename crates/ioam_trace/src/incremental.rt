@@ -30,7 +30,8 @@ impl<'a> Incremental<'a> {
         ensures decodes { Decodes octets.now result }
         // The same as functions.
         ensures fault { fault_in result ≡ fault_of 0 octets.now }
-        ensures elements { IfOk result (λ trace. incremental_elements trace ≡ elements_behind 0 octets.now) }
+        ensures elements { IfOk result
+            (λ trace. incremental_elements trace ≡ elements_behind 0 octets.now) }
         // What `encode` wrote is read as the same value.
         ensures again { DecodesAgain octets.now result }
     {

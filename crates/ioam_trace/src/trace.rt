@@ -28,7 +28,8 @@ impl<'a> Trace<'a> {
         ensures reads { Reads octets.now result }
         // The same as functions.
         ensures fault { fault_in result ≡ fault_of (remaining_of octets.now) octets.now }
-        ensures elements { IfOk result (λ trace. elements_in trace ≡ elements_behind (remaining_of octets.now) octets.now) }
+        ensures elements { IfOk result
+            (λ trace. elements_in trace ≡ elements_behind (remaining_of octets.now) octets.now) }
         // What nodes filled is read as what they recorded.
         ensures again { ReadsAgain octets.now result }
     {

@@ -1,4 +1,4 @@
-use Rattle.std.proofs.Common.{ℕ, List, ◌-◌, ◌≤◌, length}
+use Rattle.std.proofs.Common.{◌-◌, ◌≤◌, length}
 use Rattle.ioam_trace.specs.Area.{Follows}
 use Rattle.ioam_trace.proofs.elements.last_element.Given as goal
 
