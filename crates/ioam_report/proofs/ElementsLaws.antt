@@ -1,11 +1,11 @@
 -- Laws of the elements that stand in a trace.
-use Rattle.std.proofs.Common.{◌≡◌, ℕ, zero, suc, ◌+◌, ◌-◌, ◌*◌, ◌<◌, ◌≤◌, Bool, true, false, cond, List, [], ◌∷◌, ◌++◌, length, take, drop, get_or, reverse, arith, refl, sym, ap, ◌∙◌, subst}
+use Rattle.std.proofs.Common.{◌≡◌, ℕ, zero, suc, ◌+◌, ◌-◌, ◌*◌, ◌<◌, ◌≤◌, Bool, true, false, cond, List, [], ◌∷◌, length, take, drop, get_or, reverse, arith, refl, sym, ap, ◌∙◌, subst}
 use Rattle.std.specs.List.{All}
 use Rattle.std.proofs.lemmas.List.{reverse-append, reverse-reverse, length-reverse, length-drop, length-take-le, get_or-take, get_or-drop}
 use Rattle.std.proofs.lemmas.List.Elements.{All-nil, All-cons, All-append}
 use Rattle.ioam_data.specs.Kind.{has}
 use Rattle.ioam_data.specs.Elements.{size_at, Stands, IsElement}
-use Rattle.ioam_trace.specs.Area.{behind, element_at, Runs, Holds, stands, run_from, elements_of}
+use Rattle.ioam_trace.specs.Area.{behind, element_at, Runs, stands, run_from, elements_of}
 use Rattle.ioam_trace.specs.Read.{Carries, used_behind}
 use Rattle.ioam_trace.specs.declared.head.TraceHead.{TraceHead}
 
