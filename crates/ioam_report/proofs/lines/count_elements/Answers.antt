@@ -9,4 +9,4 @@ count-requires-clause-fits c =
     let used = drop (4 * trace.head.remaining) trace.area.now in
     let few = few_elements trace.head.kind trace.head.node_len used in
     let less = length-drop (4 * trace.head.remaining) trace.area.now in
-    inl (omega (arith, ap length c.elements.ensures))
+    inl (omega (arith, ap length c.elements.ensures.value))
