@@ -3,3 +3,4 @@ pub mod LinesLaws
 pub mod ListedLaws
 pub mod TextLaws
 pub mod TracesLaws
+pub mod WordsLaws

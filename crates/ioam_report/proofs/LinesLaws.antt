@@ -1,6 +1,5 @@
 -- What the lines of octets are, in the words of what the octets hold.
-use Rattle.std.proofs.Common.{◌≡◌, ℕ, ◌+◌, ◌*◌, ◌/◌, ◌%◌, List, length, refl, sym, ap, ◌∙◌, subst, Option, Some, None, arith}
-use Rattle.ioam_base.specs.Octets.{u16_at}
+use Rattle.std.proofs.Common.{◌≡◌, ℕ, ◌/◌, List, sym, ap, ◌∙◌, subst, None, arith}
 use Rattle.ioam_trace.specs.Head.{node_len_of, overflow_of, remaining_of, kind_of}
 use Rattle.ioam_trace.specs.Read.{Carries, TraceOf, HasFault, fault_of, elements_behind}
 use Rattle.ioam_trace.specs.declared.head.TraceHead.{TraceHead}

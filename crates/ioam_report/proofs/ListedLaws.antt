@@ -1,8 +1,8 @@
 -- Laws of the traces that are listed of one header.
-use Rattle.std.proofs.Common.{◌≡◌, ℕ, zero, suc, ◌+◌, ◌*◌, ◌<◌, ◌≤◌, Bool, true, false, cond, leb, List, [], ◌∷◌, ◌++◌, length, filter, arith, refl, sym, ap, ◌∙◌}
+use Rattle.std.proofs.Common.{◌≡◌, ℕ, zero, suc, ◌+◌, ◌≤◌, Bool, true, false, cond, leb, List, [], ◌∷◌, ◌++◌, length, filter, arith, sym, ap, ◌∙◌}
 use Rattle.std.proofs.lemmas.List.{append-nil}
 use Rattle.std.specs.List.{flat_map}
-use Rattle.ioam_ip.specs.Options.{Item, AreOptions, IsFilled, option_end, item_at, is_option}
+use Rattle.ioam_ip.specs.Options.{Item, AreOptions, option_end, item_at, is_option}
 use Rattle.ioam_ip.specs.OptionsLeft.{options_from}
 use Rattle.ioam_ip.proofs.OptionsLeftLaws.{all_from}
 use Rattle.ioam_report.specs.TracesText.{is_trace, option_lines}

@@ -1,10 +1,10 @@
 -- Laws of texts that are put together from parts.
-use Rattle.std.proofs.Common.{◌≡◌, ℕ, zero, suc, ◌+◌, ◌-◌, ◌*◌, ◌/◌, ◌<◌, ◌≤◌, List, [], ◌∷◌, ◌++◌, length, take, drop, codes, decimal, append_assoc, length-append, length-drop, arith, refl, sym, ap, ◌∙◌}
+use Rattle.std.proofs.Common.{◌≡◌, ℕ, suc, ◌/◌, ◌≤◌, List, [], ◌∷◌, ◌++◌, length, take, drop, codes, decimal, append_assoc, length-append, length-drop, arith, sym, ap, ◌∙◌}
 use Rattle.std.proofs.lemmas.List.{take-append-le}
 use Rattle.std.specs.List.{flat_map}
 use Rattle.ioam_report.specs.Digits.{digits_of}
 use Rattle.ioam_trace.specs.declared.fault.TraceFault.TheVariants.{NodeLen}
-use Rattle.ioam_report.specs.FieldsText.{fillers_text}
+use Rattle.ioam_report.specs.Spaced.{fillers_text}
 use Rattle.ioam_report.specs.TraceText.{line_feed, bad_line}
 
 -- the first of the filler words, and the others

@@ -1,5 +1,5 @@
 -- Laws of the traces that are listed of a packet.
-use Rattle.std.proofs.Common.{◌≡◌, ℕ, ◌+◌, ◌-◌, ◌*◌, ◌<◌, ◌≤◌, ◌≢◌, zero, suc, Bool, true, false, IsTrue, cond, List, [], ◌∷◌, ◌++◌, length, take, drop, filter, append_assoc, length-append, length-drop, arith, refl, sym, ap, ◌∙◌, subst}
+use Rattle.std.proofs.Common.{◌≡◌, ℕ, ◌+◌, ◌-◌, ◌*◌, ◌<◌, ◌≤◌, ◌≢◌, zero, suc, Bool, true, false, IsTrue, cond, List, [], ◌∷◌, ◌++◌, length, drop, filter, append_assoc, length-append, length-drop, arith, refl, sym, ap, ◌∙◌, subst}
 use Rattle.std.specs.Bool.{MatchBool}
 use Rattle.std.specs.List.{All, flat_map}
 use Rattle.std.proofs.lemmas.List.Elements.{filter-append, All-head, All-rest, All-cons, All-nil}
@@ -9,8 +9,8 @@ use Rattle.std.proofs.lemmas.Bool.{eq-eqb, ne_eqb}
 use Rattle.std.proofs.Math.Nat.{mul-le-mul_left}
 use Rattle.ioam_base.specs.Octets.{IsOctets}
 use Rattle.ioam_base.proofs.OctetsLaws.{u16_at-fits}
-use Rattle.ioam_ip.specs.Chain.{Chain, IsSound, start, head_at, behind}
-use Rattle.ioam_ip.specs.ChainOptions.{octets_of, is_options_head, is_nested, HeadOptions, OptionsOf, HeadFits}
+use Rattle.ioam_ip.specs.Chain.{IsSound, start, head_at, behind}
+use Rattle.ioam_ip.specs.ChainOptions.{octets_of, is_options_head, is_nested, OptionsOf, HeadFits}
 use Rattle.ioam_ip.specs.HeadsLeft.{heads_from, goes_on, AreHeads}
 use Rattle.ioam_ip.specs.Options.{Item, AreOptions, IsFilled}
 use Rattle.ioam_ip.specs.OptionsLeft.{options_from}

@@ -1,5 +1,6 @@
 pub mod Digits
 pub mod FieldsText
 pub mod Piece
+pub mod Spaced
 pub mod TraceText
 pub mod TracesText

@@ -1,6 +1,6 @@
 -- How a trace is printed (RFC 9197 section 4.4.1): a line for the header and one for each element, or
 -- one that says why the octets are no trace.
-use Rattle.std.specs.Prelude.{ℕ, ◌*◌, ◌/◌, ◌≡◌, ◌==◌, if◌then◌else◌, List, [], ◌∷◌, ◌++◌, Option, Some, None, length, drop, decimal, codes}
+use Rattle.std.specs.Prelude.{ℕ, ◌/◌, ◌≡◌, ◌==◌, if◌then◌else◌, List, [], ◌∷◌, ◌++◌, Option, Some, None, length, drop, decimal, codes}
 use Rattle.std.specs.List.{flat_map}
 use Rattle.std.specs.Int.{w32, to_be_bytes}
 use Rattle.ioam_base.specs.Octets.{u16_at}

@@ -1,10 +1,11 @@
 //! The text of an element.
-ghost use Rattle.std.specs.Prelude.{◌≡◌, ◌++◌, ◌+◌, ◌*◌, ◌/◌, ◌≤◌, ◌⊎◌, [], length, is_ok, if◌then◌else◌, decimal, codes};
+ghost use Rattle.std.specs.Prelude.{◌≡◌, ◌++◌, ◌+◌, ◌*◌, ◌/◌, ◌≤◌, ◌⊎◌, [], length, drop, is_ok, if◌then◌else◌, decimal, codes};
 ghost use Rattle.ioam_data.specs.Elements.{IsElement};
 ghost use Rattle.ioam_data.specs.Fields.{held, fields_of};
 ghost use Rattle.ioam_data.specs.View.{snapshot_data};
 ghost use Rattle.ioam_report.specs.Digits.{digits_of};
-ghost use Rattle.ioam_report.specs.FieldsText.{bits_text, fillers_text, snapshot_text, spaced_fields, element_text};
+ghost use Rattle.ioam_report.specs.FieldsText.{element_text};
+ghost use Rattle.ioam_report.specs.Spaced.{bits_text, fillers_text, snapshot_text, spaced_fields};
 
 use crate::piece::{Piece, append_labelled};
 use crate::put::put_pieces;
@@ -14,7 +15,7 @@ use ioam_base::memory::NoMemory;
 use ioam_data::{Fields, TraceType, fields};
 
 // Appends the fields of bits 0 to 11.
-#[tactic(auto, unfolding(crate::specs::FieldsText::bits_text))]
+#[tactic(auto, unfolding(crate::specs::Spaced::bits_text))]
 fn put_bits(fields: &Fields<'_>, out: &mut Vec<u8>) -> Result<(), NoMemory>
     ensures { out.new.items ≡ (if is_ok result then out.old.items ++ bits_text (held fields.now) else out.old.items) }
 {
@@ -69,7 +70,7 @@ fn put_snapshot(field: Option<(u32, &[u8])>, out: &mut Vec<u8>) -> Result<(), No
 }
 
 // Appends all fields, each word with a space in front.
-#[tactic(auto, unfolding(crate::specs::FieldsText::spaced_fields))]
+#[tactic(auto, unfolding(crate::specs::Spaced::spaced_fields))]
 fn put_spaced(fields: &Fields<'_>, out: &mut Vec<u8>) -> Result<(), NoMemory>
     ensures { out.new.items ≡ (if is_ok result then out.old.items ++ spaced_fields (held fields.now) else out.old.items) }
 {
@@ -79,6 +80,18 @@ fn put_spaced(fields: &Fields<'_>, out: &mut Vec<u8>) -> Result<(), NoMemory>
     settle(out, before, answer)?;
     let answer = put_snapshot(fields.snapshot, out);
     settle(out, before, answer)
+}
+
+// Appends all fields, with a space between each two words.
+fn put_joined(fields: &Fields<'_>, out: &mut Vec<u8>) -> Result<(), NoMemory>
+    ensures { out.new.items ≡ (if is_ok result then out.old.items ++ drop 1 (spaced_fields (held fields.now)) else out.old.items) }
+{
+    let before = out.len();
+    put_spaced(fields, out)?;
+    if before < out.len() {
+        let _space = out.remove(before);
+    }
+    Ok(())
 }
 
 /// Appends the text of an element: its fields in bit order, filler words and the snapshot, with one
@@ -96,10 +109,5 @@ pub fn put_fields(
     if element.is_empty() {
         return Ok(());
     }
-    let before = out.len();
-    put_spaced(&fields(kind, node_len, element), out)?;
-    if before < out.len() {
-        let _space = out.remove(before);
-    }
-    Ok(())
+    put_joined(&fields(kind, node_len, element), out)
 }

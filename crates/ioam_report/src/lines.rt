@@ -1,5 +1,5 @@
 //! The lines of a trace.
-ghost use Rattle.std.specs.Prelude.{◌≡◌, ◌++◌, ◌*◌, ◌/◌, All, length, is_ok, if◌then◌else◌};
+ghost use Rattle.std.specs.Prelude.{◌≡◌, ◌++◌, ◌*◌, ◌/◌, length, is_ok, if◌then◌else◌};
 ghost use Rattle.std.specs.List.{flat_map};
 ghost use Rattle.ioam_data.specs.Elements.{IsElement};
 ghost use Rattle.ioam_trace.specs.Read.{elements_in};
@@ -102,7 +102,6 @@ fn count_elements(trace: &Trace<'_>) -> u64
 
 // Appends the lines of the elements.
 fn put_element_lines(trace: &Trace<'_>, out: &mut Vec<u8>) -> Result<(), NoMemory>
-    requires { All (IsElement trace.now.head.kind trace.now.head.node_len) (elements_in trace.now) }
     ensures { out.new.items ≡ (if is_ok result
         then out.old.items ++ flat_map (element_line trace.now.head.kind trace.now.head.node_len) (elements_in trace.now)
         else out.old.items) }
@@ -117,7 +116,6 @@ fn put_element_lines(trace: &Trace<'_>, out: &mut Vec<u8>) -> Result<(), NoMemor
 
 // Appends the lines of a trace that was read.
 fn put_whole_lines(trace: &Trace<'_>, out: &mut Vec<u8>) -> Result<(), NoMemory>
-    requires { All (IsElement trace.now.head.kind trace.now.head.node_len) (elements_in trace.now) }
     ensures { out.new.items ≡ (if is_ok result
         then out.old.items ++ whole_lines trace.now.head.namespace.0 trace.now.head.kind (trace.now.head.flags / 8) trace.now.head.node_len (elements_in trace.now)
         else out.old.items) }

@@ -2,7 +2,8 @@
 ghost use Rattle.std.specs.Prelude.{◌≡◌, ◌++◌, decimal, codes};
 ghost use Rattle.ioam_data.specs.View.{snapshot_data};
 ghost use Rattle.ioam_report.specs.Piece.{piece_text};
-ghost use Rattle.ioam_report.specs.FieldsText.{when_there, known, known_word, known_wide, known_narrow, opaque_digits};
+ghost use Rattle.ioam_report.specs.Spaced.{when_there};
+ghost use Rattle.ioam_report.specs.FieldsText.{known, known_word, known_wide, known_narrow, opaque_digits};
 
 use crate::piece::Piece;
 

@@ -1,4 +1,4 @@
-use Rattle.std.proofs.Common.{◌≡◌, ◌++◌, ◌≤◌, length, codes, rules, refl, arith, length-append, ap}
+use Rattle.std.proofs.Common.{◌≡◌, ◌++◌, length, codes, rules, refl, arith, length-append, ap}
 use Rattle.ioam_report.specs.Digits.{digits_of}
 use Rattle.ioam_report.proofs.TextLaws.{fillers-step, front-kept}
 use Rattle.ioam_report.proofs.elements.put_fillers.Goals as goal

@@ -1,5 +1,5 @@
 use Rattle.std.proofs.Common.{◌≡◌, ◌++◌, ◌/◌, ◌≤◌, length, take}
-use Rattle.ioam_report.specs.FieldsText.{fillers_text}
+use Rattle.ioam_report.specs.Spaced.{fillers_text}
 use Rattle.ioam_report.proofs.elements.put_fillers.Given as goal
 
 abbrev pub invariant-words : goal.invariant-words

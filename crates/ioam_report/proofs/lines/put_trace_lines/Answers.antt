@@ -1,12 +1,7 @@
 use Rattle.std.proofs.Common.{◌++◌, is_ok, cond, sym, ap, ◌∙◌}
 use Rattle.ioam_trace.specs.Read.{elements_in}
-use Rattle.ioam_report.proofs.ElementsLaws.{Carries-IsElement}
 use Rattle.ioam_report.proofs.LinesLaws.{trace_lines-TraceOf, trace_lines-HasFault, IsTraceText-trace_lines}
 use Rattle.ioam_report.proofs.lines.put_trace_lines.Goals as goal
-
-pub put_whole_lines-requires : goal.put_whole_lines-requires
-put_whole_lines-requires c =
-    Carries-IsElement c.in-Ok.trace.head.remaining c.args.octets.now c.in-Ok.trace.head (elements_in c.in-Ok.trace) c.in-Ok.ensures.reads.0
 
 pub returns-in-Ok-clause-text : goal.returns-in-Ok-clause-text
 returns-in-Ok-clause-text c =

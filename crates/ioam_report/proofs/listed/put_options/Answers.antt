@@ -1,5 +1,5 @@
-use Rattle.std.proofs.Common.{◌≡◌, [], List, subst, rules}
-use Rattle.ioam_ip.specs.Options.{Item, AreOptions}
+use Rattle.std.proofs.Common.{◌≡◌, [], rules}
+use Rattle.ioam_ip.specs.Options.{AreOptions}
 use Rattle.ioam_ip.specs.OptionsLeft.{options_left}
 use Rattle.ioam_report.proofs.ListedLaws.{told}
 use Rattle.ioam_report.proofs.listed.put_options.Goals as goal

@@ -1,11 +1,10 @@
-use Rattle.std.proofs.Common.{◌≡◌, ◌+◌, length, ◌∷◌, [], List, refl, rules, arith, ap}
-use Rattle.std.specs.List.{All}
+use Rattle.std.proofs.Common.{◌≡◌, ◌∷◌, [], rules, arith, ap}
 use Rattle.std.proofs.lemmas.List.Elements.{All-rest}
 use Rattle.ioam_base.specs.Octets.{IsOctets}
 use Rattle.ioam_ip.specs.ChainOptions.{HeadFits}
 use Rattle.ioam_ip.specs.HeadsLeft.{heads_left, AreHeads}
 use Rattle.ioam_ip.specs.declared.chain.Head.{Head}
-use Rattle.ioam_report.specs.TracesText.{traces_in, traces_from}
+use Rattle.ioam_report.specs.TracesText.{traces_from}
 use Rattle.ioam_report.proofs.TracesLaws.{counted_traces, counting_traces, counting_fits, traces_from-nested}
 use Rattle.ioam_report.proofs.traces.count_traces.Goals as goal
 

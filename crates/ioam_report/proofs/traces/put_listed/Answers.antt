@@ -1,5 +1,5 @@
-use Rattle.std.proofs.Common.{◌≡◌, ◌++◌, length, ◌∷◌, [], List, rules, ap}
-use Rattle.std.specs.List.{All, flat_map}
+use Rattle.std.proofs.Common.{◌≡◌, ◌++◌, ◌∷◌, [], rules, ap}
+use Rattle.std.specs.List.{flat_map}
 use Rattle.std.proofs.lemmas.List.Elements.{All-rest}
 use Rattle.ioam_ip.specs.ChainOptions.{HeadFits}
 use Rattle.ioam_ip.specs.HeadsLeft.{heads_left, AreHeads}
