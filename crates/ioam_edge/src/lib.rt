@@ -2,11 +2,17 @@
 #![tactic(auto)]
 
 mod buffer;
+mod counts;
 mod cursor;
 mod edge;
+mod note;
 mod putting;
 mod reading;
+mod receiver;
+mod window;
 
 pub use edge::{Edge, EdgeFault};
+pub use note::{Note, Tally};
 pub use putting::put;
 pub use reading::read;
+pub use receiver::Receiver;
