@@ -77,8 +77,8 @@ module _ (noted : List ℕ) (seq : ℕ) where
       → (nat_lt back 64 && (bit_at window back == 1)) ≡ (nat_le (due noted) (seq + 64) && is_noted seq noted)
   held-noted window back marks behind = elim (cases_lt back 64) [
     | inl few ↦
-      let bit = ap (λ n. n == 1) (marks back seq few behind) ∙ is_marked (is_noted seq noted) in
-      near (bit_at window back == 1) (is_noted seq noted) few bit
+        let bit = ap (λ n. n == 1) (marks back seq few behind) ∙ is_marked (is_noted seq noted) in
+        near (bit_at window back == 1) (is_noted seq noted) few bit
     | inr many ↦ far (bit_at window back == 1) (is_noted seq noted) many
   ]
     where

@@ -46,17 +46,17 @@ high_case window by k some above = grind (arith, nat_tests)
 pub Moved-shift : (window by : ℕ) → 0 < by → 0 < 2 ^ by → Moved window by (bit_or (window * 2 ^ by % 18446744073709551616) 1)
 Moved-shift window by some power k few = bit_at_or (window * 2 ^ by % 18446744073709551616) 1 k ∙ elim (cases_eq k 0) [
   | inl none ↦
-    let lowest : bit_at 1 k ≡ 1 = ap (bit_at 1) none in
-    let shifted = shifted_low window by k few (omega arith) in
-    let both : max (bit_at (window * 2 ^ by % 18446744073709551616) k) (bit_at 1 k) ≡ 1 = rw (shifted, lowest) refl in
-    both ∙ low_case window by k some none
+      let lowest : bit_at 1 k ≡ 1 = ap (bit_at 1) none in
+      let shifted = shifted_low window by k few (omega arith) in
+      let both : max (bit_at (window * 2 ^ by % 18446744073709551616) k) (bit_at 1 k) ≡ 1 = rw (shifted, lowest) refl in
+      both ∙ low_case window by k some none
   | inr other ↦
-    let rest : max (bit_at (window * 2 ^ by % 18446744073709551616) k) (bit_at 1 k) ≡ bit_at (window * 2 ^ by % 18446744073709551616) k =
-    ap (max (bit_at (window * 2 ^ by % 18446744073709551616) k)) (one_above k (omega arith)) ∙ max_zero (bit_at (window * 2 ^ by % 18446744073709551616) k) in
-    rest ∙ elim (cases_lt k by) [
-      | inl low ↦ shifted_low window by k few low ∙ middle_case window by k (omega arith) low
-      | inr high ↦ shifted_high window by k few high power ∙ high_case window by k (omega arith) high
-    ]
+      let rest : max (bit_at (window * 2 ^ by % 18446744073709551616) k) (bit_at 1 k) ≡ bit_at (window * 2 ^ by % 18446744073709551616) k =
+      ap (max (bit_at (window * 2 ^ by % 18446744073709551616) k)) (one_above k (omega arith)) ∙ max_zero (bit_at (window * 2 ^ by % 18446744073709551616) k) in
+      rest ∙ elim (cases_lt k by) [
+        | inl low ↦ shifted_low window by k few low ∙ middle_case window by k (omega arith) low
+        | inr high ↦ shifted_high window by k few high power ∙ high_case window by k (omega arith) high
+      ]
 ]
 
 pub Moved-far : (window by : ℕ) → 64 ≤ by → Moved window by 1

@@ -16,3 +16,6 @@ pub use note::{Note, Tally};
 pub use putting::put;
 pub use reading::read;
 pub use receiver::Receiver;
+
+#[cfg(test)]
+mod tests;

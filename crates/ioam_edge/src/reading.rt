@@ -8,7 +8,7 @@ use ioam_data::Namespace;
 
 // Whether a type asks for the field of a bit, the least significant bit 0.
 #[tactic(auto, unfolding(crate::specs::Edge::asks))]
-fn asks(kind: u16, bit: u8) -> bool
+pub fn asks(kind: u16, bit: u8) -> bool
     requires { bit ≤ 15 }
     ensures { result ≡ asks kind bit }
 {

@@ -21,5 +21,9 @@ pub fn moved(window: u64, by: u64) -> u64
 pub fn set(window: u64, bit: u64) -> u64
     ensures { Set window bit result }
 {
-    if bit < 64 { window | (1 << bit) } else { window }
+    if bit < 64 {
+        window | (1 << bit)
+    } else {
+        window
+    }
 }
