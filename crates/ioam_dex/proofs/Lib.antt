@@ -1,0 +1,6 @@
+pub mod DirectLaws
+pub mod FaultLaws
+pub mod NumbersLaws
+pub mod ReaderLaws
+pub mod ReadsLaws
+pub mod RecordLaws
