@@ -1,5 +1,5 @@
 -- Laws of direct export data.
-use Rattle.std.proofs.Common.{◌≡◌, ℕ, ◌+◌, ◌<◌, ◌≤◌, List, [], ◌∷◌, ◌++◌, length, drop, get_or, Result, Ok, Err, arith, refl, sym, ap, ◌∙◌, append_assoc}
+use Rattle.std.proofs.Common.{◌≡◌, ℕ, ◌+◌, ◌≤◌, List, ◌∷◌, ◌++◌, length, drop, get_or, Ok, arith, sym, ap, ◌∙◌, append_assoc}
 use Rattle.ioam_base.specs.Octets.{IsOctets, u16_at}
 use Rattle.ioam_base.specs.Words.{two_octets, three_octets, four_octets_if}
 use Rattle.ioam_base.proofs.WordsLaws.{two_octets-same, three_octets-same, four_octets_if-same}

@@ -1,12 +1,10 @@
 -- Where a record is due stands one of: a whole record, the front of one, a fault. Octets behind it change
 -- no fault.
-use Rattle.std.proofs.Common.{◌≡◌, ◌≢◌, ℕ, ◌+◌, ◌-◌, ◌<◌, ◌≤◌, List, [], ◌∷◌, ◌++◌, length, take, drop, get_or, arith, refl, sym, ap, ◌∙◌, subst, inl, inr, length-append, length-drop}
+use Rattle.std.proofs.Common.{◌≡◌, ℕ, ◌-◌, ◌<◌, ◌≤◌, List, ◌++◌, length, take, drop, get_or, arith, sym, ap, ◌∙◌, subst, inl, inr, length-append, length-drop}
 use Rattle.std.proofs.lemmas.List.{get_or_append_left, drop-append-le, take-append-le}
-use Rattle.ioam_base.specs.Octets.{u16_at}
 use Rattle.ioam_base.proofs.OctetsLaws.{u16_at-append}
 use Rattle.ioam_dex.specs.declared.export.ExportFault.{ExportFault}
 use Rattle.ioam_dex.specs.declared.export.ExportFault.TheVariants as fault
-use Rattle.ioam_dex.specs.Numbers.{u24_at}
 use Rattle.ioam_dex.specs.Record.{IsFilled, front_size, length_of, front_of, element_of, kind_of, IsSized, IsWhole}
 use Rattle.ioam_dex.specs.Faults.{Fault, IsCut}
 

@@ -4,3 +4,4 @@ pub mod NumbersLaws
 pub mod ReaderLaws
 pub mod ReadsLaws
 pub mod RecordLaws
+pub mod TotalLaws

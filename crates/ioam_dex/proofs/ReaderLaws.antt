@@ -1,16 +1,19 @@
 -- What a reader stands for after a piece or a step.
-use Rattle.std.proofs.Common.{◌≡◌, ℕ, ◌+◌, ◌-◌, ◌<◌, ◌≤◌, List, [], ◌∷◌, ◌++◌, length, take, drop, arith, refl, sym, ap, ◌∙◌, subst, length-append, length-drop}
+use Rattle.std.proofs.Common.{◌≡◌, ℕ, ◌+◌, ◌-◌, List, [], ◌∷◌, ◌++◌, length, take, drop, arith, refl, sym, ap, ◌∙◌, subst, length-append}
 use Rattle.std.proofs.lemmas.List.{append-nil, drop-drop, take_rest}
 use Rattle.ioam_dex.specs.declared.export.ExportFault.{ExportFault}
 use Rattle.ioam_dex.specs.declared.head.RecordHead.{RecordHead}
 use Rattle.ioam_dex.specs.declared.head.RecordStep.TheVariants as step
-use Rattle.ioam_dex.specs.Record.{Record, IsRecord, record_octets, length_of, front_of, element_of}
+use Rattle.ioam_dex.specs.Record.{Record, IsRecord, record_of, record_octets, length_of, element_of}
 use Rattle.ioam_dex.specs.Faults.{Fault, TellsRecord, said}
-use Rattle.ioam_dex.specs.Reads.{records_octets, Splits, Faulty, Reads}
+use Rattle.ioam_dex.specs.Reads.{records_octets, Faulty, Reads}
 use Rattle.ioam_dex.specs.Reading.{Reading}
-use Rattle.ioam_dex.specs.Reader.{Stands, Waits}
+use Rattle.ioam_dex.specs.declared.reader.Step.{Step}
+use Rattle.ioam_dex.specs.declared.reader.Step.TheVariants.{Export, More, Bad}
+use Rattle.ioam_dex.specs.Reader.{Stands, Waits, Moved}
+use Rattle.ioam_dex.proofs.FaultLaws.{cut-not-faulty, fault-unique}
 use Rattle.ioam_dex.proofs.RecordLaws.{front-length}
-use Rattle.ioam_dex.proofs.ReadsLaws.{records_octets-append, Splits-feed, Splits-push, Splits-unique, cut-no-record, Reads-faulty}
+use Rattle.ioam_dex.proofs.ReadsLaws.{records_octets-append, Splits-feed, Splits-push, Splits-unique, cut-no-record, fault-no-record, Reads-faulty}
 
 -- a piece more
 pub Stands-feed : (reader : Reading) (piece octets : List ℕ) (records : List Record) → Stands reader octets records
@@ -41,6 +44,15 @@ pub Stands-faulty : (old : Reading) (place : ℕ) (f : ExportFault) → place �
 Stands-faulty old place f here bad octets records stands more =
     let P : ℕ → Type 0 = λ n. Reads (octets ++ more) records (Faulty n f) in
     subst P (sym (here ∙ stands.place)) (Reads-faulty octets records old.pending f stands.splits bad more)
+
+-- After a fault every step answers the same.
+pub Bad-again : (old new : Reading) (step : Step) (f : ExportFault) → Fault old.pending f → Moved old new step → step ≡ Bad old.start f
+Bad-again old new (Export e) f bad moved = absurd (fault-no-record old.pending f bad (record_of e) new.pending moved.0 moved.1)
+Bad-again old new More f bad moved = absurd (cut-not-faulty old.pending f moved.1 bad)
+Bad-again old new (Bad at g) f bad moved =
+    let place : at ≡ old.start = moved.1 in
+    let same : g ≡ f = fault-unique old.pending g f moved.2 bad in
+    cc
 
 -- However octets were cut into pieces, two readers that were fed them and wait have given the same records
 -- and have the same octets left over, at the same place.

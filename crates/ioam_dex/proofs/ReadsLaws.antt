@@ -1,10 +1,10 @@
 -- Laws of records one behind the other.
-use Rattle.std.proofs.Common.{◌≡◌, ℕ, ◌+◌, ◌-◌, ◌<◌, ◌≤◌, ◌⊎◌, List, [], ◌∷◌, ◌++◌, length, All, arith, refl, sym, ap, ◌∙◌, subst, inl, inr, length-append, append_assoc}
+use Rattle.std.proofs.Common.{◌≡◌, ℕ, ◌<◌, ◌⊎◌, List, [], ◌∷◌, ◌++◌, length, All, arith, refl, sym, ap, ◌∙◌, subst, inl, inr, append_assoc}
 use Rattle.std.proofs.lemmas.List.{append-nil}
-use Rattle.std.proofs.lemmas.List.Elements.{All-nil, All-head, All-tail, All-push, All-append}
+use Rattle.std.proofs.lemmas.List.Elements.{All-head, All-tail, All-push, All-append}
 use Rattle.ioam_dex.specs.declared.export.ExportFault.{ExportFault}
 use Rattle.ioam_dex.specs.declared.export.ExportFault.TheVariants as fault
-use Rattle.ioam_dex.specs.Record.{Record, IsRecord, IsWhole, record_octets}
+use Rattle.ioam_dex.specs.Record.{Record, IsRecord, record_octets}
 use Rattle.ioam_dex.specs.Faults.{Fault, IsCut}
 use Rattle.ioam_dex.specs.Reads.{records_octets, Splits, Ending, Whole, Faulty, EndsAt, Reads}
 use Rattle.ioam_dex.proofs.RecordLaws.{IsWhole-record, record_octets-same}

@@ -138,57 +138,66 @@ fn outline(alloc: Global, input: &[u8], size: usize) -> Result<String, Fail>
     Ok(text)
 }
 
+// Whole records and what stands behind them, what is shown of the records, and how they end.
+const CASES: [(&[u8], &[u8], &str, &str); 16] = [
+    (&[], &[], "", "whole\n"),
+    (&RECORD, &[], RECORD_READ, "whole\n"),
+    (&RECORD, &[3], RECORD_READ, "Version { found: 3 } at 22\n"),
+    (
+        &[],
+        &[
+            1, 0xC0, 0, 0x16, 0, 7, 0, 0x80, 0, 0, 0, 0, 0, 9, 0, 0, 0, 0, 0x40, 0, 0,
+        ],
+        "",
+        "Short { have: 21 } at 0\n",
+    ),
+    (&[], &[1, 0xC0, 0, 17], "", "Length { found: 17 } at 0\n"),
+    (&[], &[1, 0xC0, 0, 18], "", "Short { have: 4 } at 0\n"),
+    (&[], &[1, 0xC0, 1, 6], "", "Short { have: 4 } at 0\n"),
+    (&[], &[1, 0xC0, 1, 7], "", "Length { found: 263 } at 0\n"),
+    (
+        &RECORD,
+        &[1, 0, 0, 9],
+        RECORD_READ,
+        "Length { found: 9 } at 22\n",
+    ),
+    (&[], &[1, 0x40, 1, 2], "", "Short { have: 4 } at 0\n"),
+    (&[], &[1, 0x80, 1, 3], "", "Length { found: 259 } at 0\n"),
+    (
+        &BARE,
+        &[],
+        "Export(Export { namespace: Namespace(7), flags: 2, ext: 0, kind: 0, flow: None, seq: None, element: [] })\n",
+        "whole\n",
+    ),
+    (
+        &SNAPSHOT,
+        &[],
+        "Export(Export { namespace: Namespace(7), flags: 2, ext: 0, kind: 8388610, flow: None, seq: None, element: [64, 0, 0, 1, 1, 0, 0, 5, 170, 187, 204, 221] })\n",
+        "whole\n",
+    ),
+    (
+        &[],
+        &[1, 0, 0, 10, 0, 7, 2, 0x80, 0, 0],
+        "",
+        "Element { at: 10 } at 0\n",
+    ),
+    (
+        &[],
+        &[1, 0, 0, 14, 0, 7, 2, 0, 8, 0, 0, 0, 0, 0],
+        "",
+        "Element { at: 10 } at 0\n",
+    ),
+    (
+        &[],
+        &[1, 0, 0, 18, 0, 7, 2, 0x80, 0, 2, 0x40, 0, 0, 1, 1, 0, 0, 5],
+        "",
+        "Element { at: 10 } at 0\n",
+    ),
+];
+
 #[test]
 fn records_are_read_in_any_pieces(rt: HostRuntime) -> Result<(), Fail> {
-    let cases: [(&[u8], &[u8], &str, &str); 16] = [
-        (&[], &[], "", "whole\n"),
-        (&RECORD, &[], RECORD_READ, "whole\n"),
-        (&RECORD, &[3], RECORD_READ, "Version { found: 3 } at 22\n"),
-        (&[], &RECORD[..21], "", "Short { have: 21 } at 0\n"),
-        (&[], &[1, 0xC0, 0, 17], "", "Length { found: 17 } at 0\n"),
-        (&[], &[1, 0xC0, 0, 18], "", "Short { have: 4 } at 0\n"),
-        (&[], &[1, 0xC0, 1, 6], "", "Short { have: 4 } at 0\n"),
-        (&[], &[1, 0xC0, 1, 7], "", "Length { found: 263 } at 0\n"),
-        (
-            &RECORD,
-            &[1, 0, 0, 9],
-            RECORD_READ,
-            "Length { found: 9 } at 22\n",
-        ),
-        (&[], &[1, 0x40, 1, 2], "", "Short { have: 4 } at 0\n"),
-        (&[], &[1, 0x80, 1, 3], "", "Length { found: 259 } at 0\n"),
-        (
-            &BARE,
-            &[],
-            "Export(Export { namespace: Namespace(7), flags: 2, ext: 0, kind: 0, flow: None, seq: None, element: [] })\n",
-            "whole\n",
-        ),
-        (
-            &SNAPSHOT,
-            &[],
-            "Export(Export { namespace: Namespace(7), flags: 2, ext: 0, kind: 8388610, flow: None, seq: None, element: [64, 0, 0, 1, 1, 0, 0, 5, 170, 187, 204, 221] })\n",
-            "whole\n",
-        ),
-        (
-            &[],
-            &[1, 0, 0, 10, 0, 7, 2, 0x80, 0, 0],
-            "",
-            "Element { at: 10 } at 0\n",
-        ),
-        (
-            &[],
-            &[1, 0, 0, 14, 0, 7, 2, 0, 8, 0, 0, 0, 0, 0],
-            "",
-            "Element { at: 10 } at 0\n",
-        ),
-        (
-            &[],
-            &[1, 0, 0, 18, 0, 7, 2, 0x80, 0, 2, 0x40, 0, 0, 1, 1, 0, 0, 5],
-            "",
-            "Element { at: 10 } at 0\n",
-        ),
-    ];
-    for (first, rest, read, end) in cases {
+    for (first, rest, read, end) in CASES {
         let mut input = first.to_vec(rt.alloc())?;
         input.extend_from_slice(rest)?;
         let mut expected = String::new(rt.alloc());

@@ -1,11 +1,9 @@
 -- Laws of edge-to-edge data.
-use Rattle.std.proofs.Common.{◌≡◌, ℕ, ◌+◌, ◌<◌, ◌≤◌, List, [], ◌∷◌, ◌++◌, length, Result, Ok, Err, arith, refl, sym, ap, ◌∙◌, subst, append_assoc}
+use Rattle.std.proofs.Common.{◌≡◌, ℕ, List, ◌++◌, Ok, sym, ap, ◌∙◌, append_assoc}
 use Rattle.ioam_base.proofs.WordsLaws.{two_octets-same, four_octets_if-same, eight_octets_if-same}
 use Rattle.ioam_base.specs.Words.{two_octets, four_octets_if, eight_octets_if}
 use Rattle.ioam_edge.specs.declared.edge.Edge.{Edge}
-use Rattle.ioam_edge.specs.declared.edge.EdgeFault.{EdgeFault}
-use Rattle.ioam_edge.specs.declared.edge.EdgeFault.TheVariants.{Short}
-use Rattle.ioam_edge.specs.Edge.{asks, HasItsFields, IsEdge, edge_octets, Begins, Reads, ReadsAgain, wanted}
+use Rattle.ioam_edge.specs.Edge.{asks, HasItsFields, IsEdge, edge_octets, Begins, ReadsAgain}
 
 -- the octets in groups of one field each, with what follows
 pub fields_of : (n k a b c d rest : List ℕ) → (n ++ (k ++ (a ++ (b ++ (c ++ d))))) ++ rest ≡ n ++ (k ++ (a ++ (b ++ (c ++ (d ++ rest)))))

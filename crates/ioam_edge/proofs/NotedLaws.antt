@@ -1,7 +1,8 @@
 -- Laws of lists of numbers that were noted.
-use Rattle.std.proofs.Common.{◌≡◌, ◌≢◌, ℕ, ◌+◌, ◌-◌, ◌<◌, ◌≤◌, ◌==◌, min, max, Bool, true, false, ◌||◌, List, [], ◌∷◌, ◌++◌, arith, refl, sym, ap, ◌∙◌, append_assoc}
-use Rattle.std.specs.List.{list_any, sum_by}
+use Rattle.std.proofs.Common.{◌≡◌, ◌≢◌, ℕ, ◌+◌, ◌<◌, ◌≤◌, ◌==◌, max, Bool, true, false, ◌||◌, List, [], ◌∷◌, ◌++◌, arith, refl, sym, ap, ◌∙◌, inl, inr, ◌⊎◌, append_assoc}
+use Rattle.std.specs.List.{sum_by}
 use Rattle.std.proofs.lemmas.List.{append-nil}
+use Rattle.std.proofs.lemmas.Bool.{cases_lt, false≢true}
 use Rattle.std.proofs.lemmas.Bool.Decides.{nat_tests}
 use Rattle.std.proofs.lemmas.List.Folds.{list_any-append}
 use Rattle.std.proofs.lemmas.List.Sums.{sum_by-append}
@@ -87,3 +88,28 @@ counts_in-push notes Late = same_counts _ _
 
 pub counts-push : (noted : List ℕ) (n : ℕ) → counts_in (notes_of (noted ++ n ∷ [])) ≡ counted (counts_in (notes_of noted)) (note_of noted n)
 counts-push noted n = ap counts_in (notes_behind-push [] noted n) ∙ counts_in-push (notes_of noted) (note_of noted n)
+
+-- ---- the number due in the words of a list: above each number noted, and one above one of them where there is one
+
+pub noted-below : (noted : List ℕ) (n : ℕ) → is_noted n noted ≡ true → n < due noted
+noted-below noted n is = elim (cases_lt n (due noted)) [
+  | inl below ↦ below
+  | inr above ↦ absurd (false≢true (sym (is_noted-above noted n above) ∙ is))
+]
+
+first_noted : (m : ℕ) (rest : Bool) → ((m == m) || rest) ≡ true
+first_noted m rest = grind (arith, nat_tests)
+
+later_noted : (a b : Bool) → b ≡ true → (a || b) ≡ true
+later_noted true b same = refl
+later_noted false b same = same
+
+pub due-noted : (noted : List ℕ) → (due noted ≡ 0) ⊎ ((n : ℕ) × (due noted ≡ n + 1) × (is_noted n noted ≡ true))
+due-noted [] = inl refl
+due-noted (m ∷ noted) = elim (cases_lt (due noted) (m + 1)) [
+  | inl above ↦ inr (m, omega arith, first_noted m (is_noted m noted))
+  | inr below ↦ elim (due-noted noted) [
+    | inl none ↦ absurd (omega arith)
+    | inr found ↦ (let (n, there, is) = found in inr (n, omega arith, later_noted (m == n) (is_noted n noted) is))
+  ]
+]

@@ -1,11 +1,10 @@
 -- What a receiver stands for after a number more.
-use Rattle.std.proofs.Common.{◌≡◌, ◌≢◌, ℕ, ◌+◌, ◌-◌, ◌<◌, ◌≤◌, ◌==◌, nat_lt, nat_le, max, Bool, true, false, ◌&&◌, List, [], ◌∷◌, ◌++◌, arith, refl, sym, ap, ◌∙◌, inl, inr}
+use Rattle.std.proofs.Common.{◌≡◌, ◌≢◌, ℕ, ◌+◌, ◌-◌, ◌<◌, ◌≤◌, ◌==◌, nat_lt, nat_le, Bool, true, false, ◌&&◌, List, [], ◌∷◌, ◌++◌, arith, refl, sym, ap, ◌∙◌, inl, inr}
 use Rattle.std.specs.Int.{bit_at}
 use Rattle.std.specs.Bool.{if◌then◌else◌}
 use Rattle.std.proofs.lemmas.Bool.{cases_lt, cases_eq}
 use Rattle.std.proofs.lemmas.Bool.Decides.{nat_tests}
-use Rattle.ioam_edge.specs.declared.note.Note.{Note}
-use Rattle.ioam_edge.specs.declared.note.Note.TheVariants.{Next, Gap, Repeat, Late}
+use Rattle.ioam_edge.specs.declared.note.Note.TheVariants.{Repeat, Late}
 use Rattle.ioam_edge.specs.Noted.{due, is_noted, note_of}
 use Rattle.ioam_edge.specs.Receiver.{mark, Marks}
 use Rattle.ioam_edge.specs.Window.{moved_bit, Moved, Set}

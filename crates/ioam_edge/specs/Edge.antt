@@ -1,6 +1,6 @@
 -- Edge-to-edge data (RFC 9197 section 4.6): Namespace-ID 16 bits, IOAM-E2E-Type 16, and the fields that
 -- the type asks for.
-use Rattle.std.specs.Prelude.{ℕ, ◌+◌, ◌/◌, ◌%◌, ◌^◌, ◌≡◌, ◌<◌, ◌≤◌, Bool, nat_lt, ◌==◌, if◌then◌else◌, List, ◌++◌, length, Option, Some, None, is_some, IfSome, Result, Ok, Err, IsOkAnd}
+use Rattle.std.specs.Prelude.{ℕ, ◌+◌, ◌/◌, ◌%◌, ◌^◌, ◌≡◌, ◌<◌, ◌≤◌, Bool, nat_lt, ◌==◌, if◌then◌else◌, List, ◌++◌, length, is_some, IfSome, Result, Ok, Err, IsOkAnd}
 use Rattle.ioam_base.specs.Octets.{u16_at}
 use Rattle.ioam_base.specs.Words.{two_octets, four_octets_if, eight_octets_if}
 use Rattle.ioam_edge.specs.declared.edge.Edge.{Edge}

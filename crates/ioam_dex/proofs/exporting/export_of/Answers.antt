@@ -1,4 +1,4 @@
-use Rattle.std.proofs.Common.{◌≡◌, ℕ, ◌-◌, ◌++◌, List, [], length, take, drop, sym, ap, ◌∙◌, subst, arith}
+use Rattle.std.proofs.Common.{◌≡◌, ℕ, ◌-◌, ◌++◌, List, length, take, drop, sym, ap, ◌∙◌, subst, arith}
 use Rattle.std.proofs.lemmas.List.{append-nil, drop_all}
 use Rattle.ioam_dex.specs.declared.head.RecordHead.{RecordHead}
 use Rattle.ioam_dex.specs.Record.{Record, IsRecord, Rec, record_octets, length_of, front_of, element_of, record_of}

@@ -1,8 +1,8 @@
-use Rattle.std.proofs.Common.{◌≡◌, ◌+◌, ◌≤◌, Bool, true, false, cond, nat_lt, length, List, ℕ, sym, subst, rules, arith, get_or, refl}
+use Rattle.std.proofs.Common.{◌+◌, ◌≤◌, cond, nat_lt, length, List, ℕ, sym, subst, rules, arith, get_or}
 use Rattle.std.proofs.lemmas.Bool.Decides.{nat_tests}
 use Rattle.ioam_dex.specs.Numbers.{numbers_size}
 use Rattle.ioam_dex.specs.declared.direct.Direct.{Direct}
-use Rattle.ioam_dex.specs.Direct.{Begins, direct_at, wanted}
+use Rattle.ioam_dex.specs.Direct.{Begins, wanted}
 use Rattle.ioam_dex.proofs.DirectLaws.{Begins-direct_at, ReadsAgain-Begins}
 use Rattle.ioam_dex.proofs.reading.read.Goals as goal
 

@@ -1,4 +1,4 @@
-use Rattle.std.proofs.Common.{rules, arith}
+use Rattle.std.proofs.Common.{rules}
 use Rattle.ioam_edge.proofs.EdgeLaws.{ReadsAgain-Begins}
 use Rattle.ioam_edge.proofs.reading.read.Goals as goal
 

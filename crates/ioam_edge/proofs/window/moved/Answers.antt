@@ -1,4 +1,3 @@
-use Rattle.std.proofs.Common.{arith, rules, ◌<◌, ◌^◌}
 use Rattle.std.proofs.lemmas.Nat.{pow_pos}
 use Rattle.ioam_edge.proofs.WindowLaws.{Moved-shift, Moved-far}
 use Rattle.ioam_edge.proofs.window.moved.Goals as goal

@@ -1,6 +1,4 @@
-use Rattle.std.proofs.Common.{◌≡◌, ◌+◌, ◌-◌, ◌++◌, List, ℕ, length, take, drop, refl, sym, ap, ◌∙◌, subst}
-use Rattle.ioam_dex.specs.declared.head.RecordHead.{RecordHead}
-use Rattle.ioam_dex.specs.declared.head.RecordStep.{RecordStep}
+use Rattle.std.proofs.Common.{◌≡◌, ◌+◌, ◌-◌, List, ℕ, take, drop, refl, ap, ◌∙◌, subst}
 use Rattle.ioam_dex.specs.declared.head.RecordStep.TheVariants as step
 use Rattle.ioam_dex.specs.Faults.{Fault, TellsRecord, said}
 use Rattle.ioam_dex.specs.Reading.{Reading}

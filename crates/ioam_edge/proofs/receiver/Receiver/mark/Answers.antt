@@ -1,4 +1,4 @@
-use Rattle.std.proofs.Common.{◌≡◌, ◌+◌, ◌-◌, arith, sym, ◌∙◌, rules, Some, ap}
+use Rattle.std.proofs.Common.{◌≡◌, ◌+◌, ◌-◌, arith, sym, ◌∙◌, ap}
 use Rattle.ioam_edge.specs.Noted.{due}
 use Rattle.ioam_edge.specs.Receiver.{above}
 use Rattle.ioam_edge.proofs.ReceiverLaws.{due-above, due-below, Marks-first, Marks-moved, Marks-set}

@@ -1,4 +1,4 @@
-use Rattle.std.proofs.Common.{◌≡◌, sym, ◌∙◌, ap, rules}
+use Rattle.std.proofs.Common.{sym, ◌∙◌, ap}
 use Rattle.ioam_edge.specs.Noted.{counted}
 use Rattle.ioam_edge.proofs.NotedLaws.{counts-push}
 use Rattle.ioam_edge.proofs.receiver.Receiver.note.Goals as goal
