@@ -6,6 +6,8 @@ use ioam_desk::Name;
 pub enum Command {
     /// `filter IN OUT REPORT`
     Filter,
+    /// `paths IN REPORT`
+    Paths,
 }
 
 ghost use Rattle.std.specs.Prelude.{MatchOption};
@@ -17,6 +19,7 @@ pub fn parse(words: &[Name]) -> Option<Command>
 {
     match words {
         [command, _, _, _] if command.text() == "filter" => Some(Command::Filter),
+        [command, _, _] if command.text() == "paths" => Some(Command::Paths),
         _ => None,
     }
 }

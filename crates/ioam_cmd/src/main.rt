@@ -46,3 +46,6 @@ fn words_of<R: std::rt::Env + AllocGlobal>(rt: &R) -> Result<Vec<Name>, Outcome>
     }
     Ok(words)
 }
+
+#[cfg(test)]
+mod tests;

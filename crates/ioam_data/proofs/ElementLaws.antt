@@ -1,27 +1,27 @@
 -- Laws of elements among octets.
-use Rattle.std.proofs.Common.{◌≡◌, ◌≢◌, ℕ, ◌+◌, ◌*◌, ◌-◌, ◌/◌, ◌%◌, ◌<◌, ◌≤◌, Bool, true, false, cond, List, [], ◌∷◌, ◌++◌, length, take, drop, get_or, replicate, arith, refl, sym, ap, ◌∙◌, subst, Option, Some, None, inl, inr, eqb, ◌^◌}
-use Rattle.std.specs.Prelude.{IfSome, slice_range}
+use Rattle.std.proofs.Common.{◌≡◌, ℕ, ◌+◌, ◌*◌, ◌-◌, ◌/◌, ◌%◌, ◌<◌, ◌≤◌, Bool, true, false, cond, List, [], ◌++◌, length, get_or, replicate, arith, refl, sym, ap, ◌∙◌, subst, Option, Some, None, inl, inr, eqb, ◌^◌}
+use Rattle.std.specs.Prelude.{IfSome, MatchOption}
 use Rattle.std.specs.Option.{ForSome}
 use Rattle.std.specs.Borrow.{Bor}
-use Rattle.std.proofs.lemmas.List.{length-append, length-replicate, get_or-append-add, get_or_append_left, take_at, drop_at}
+use Rattle.std.proofs.lemmas.List.{length-append, length-replicate, get_or-append-add, get_or_append_left}
 use Rattle.std.proofs.lemmas.Nat.{le-div, div_below}
-use Rattle.std.proofs.lemmas.Bool.{cases_lt, cases_Bool, cond-true, eq-eqb, ltb-true, eqb-true, leb-true, and_parts}
+use Rattle.std.proofs.lemmas.Bool.{cases_lt, cases_Bool, cond-true, eq-eqb, and_parts}
 use Rattle.std.proofs.lemmas.Bool.Decides.{nat_tests}
 use Rattle.ioam_data.specs.Kind.{has, where_has, words, undefined, fits_type, can_add}
-use Rattle.ioam_data.specs.Elements.{size_at, Stands, IsElement}
+use Rattle.ioam_data.specs.Elements.{size_at, Stands, IsElement, FindsElement}
 use Rattle.ioam_data.specs.Snapshot.{IsSnapshot}
 use Rattle.ioam_data.specs.View.{Seen, snapshot_data}
-use Rattle.ioam_data.specs.Written.{word, part, bits_0_to_3, bits_4_to_7, bits_8_to_11, snapshot_of, element_of, element_words}
+use Rattle.ioam_data.specs.Written.{bits_0_to_3, bits_4_to_7, bits_8_to_11, snapshot_of, element_of, element_words}
 
 -- an element has NodeLen words, and with bit 22 a word more
 pub IsElement-room : (kind node_len : ℕ) (octets : List ℕ) → IsElement kind node_len octets
     → 4 * node_len + 4 * where_has kind 22 1 ≤ length octets
 IsElement-room kind node_len octets element = room_either (has kind 22) (get_or octets (0 + 4 * node_len) 0) element.whole
   where
-  room_either : (b : Bool) (data_words : ℕ) → 4 * node_len + cond b (4 + 4 * data_words) 0 ≡ length octets
-      → 4 * node_len + 4 * cond b 1 0 ≤ length octets
-  room_either true data_words whole = omega arith
-  room_either false data_words whole = omega arith
+    room_either : (b : Bool) (data_words : ℕ) → 4 * node_len + cond b (4 + 4 * data_words) 0 ≡ length octets
+        → 4 * node_len + 4 * cond b 1 0 ≤ length octets
+    room_either true data_words whole = omega arith
+    room_either false data_words whole = omega arith
 
 -- ---- where an element stands among other octets
 
@@ -30,15 +30,15 @@ pub size_at-append : (kind node_len : ℕ) (front e back : List ℕ) → size_at
     → size_at kind node_len (front ++ (e ++ back)) (length front) ≡ size_at kind node_len e 0
 size_at-append kind node_len front e back inside = same_either (has kind 22) inside
   where
-  same_either : (b : Bool) → 4 * node_len + cond b (4 + 4 * get_or e (0 + 4 * node_len) 0) 0 ≤ length e
-      → 4 * node_len + cond b (4 + 4 * get_or (front ++ (e ++ back)) (length front + 4 * node_len) 0) 0
+    same_either : (b : Bool) → 4 * node_len + cond b (4 + 4 * get_or e (0 + 4 * node_len) 0) 0 ≤ length e
+        → 4 * node_len + cond b (4 + 4 * get_or (front ++ (e ++ back)) (length front + 4 * node_len) 0) 0
         ≡ 4 * node_len + cond b (4 + 4 * get_or e (0 + 4 * node_len) 0) 0
-  same_either true inside =
-      let there = get_or-append-add front (e ++ back) (4 * node_len) 0 in
-      let here = get_or_append_left e back 0 (4 * node_len) (omega arith) in
-      let same : 0 + 4 * node_len ≡ 4 * node_len = omega arith in
-      ap (λ n. 4 * node_len + (4 + 4 * n)) (there ∙ here ∙ sym (ap (λ i. get_or e i 0) same))
-  same_either false inside = refl
+    same_either true inside =
+        let there = get_or-append-add front (e ++ back) (4 * node_len) 0 in
+        let here = get_or_append_left e back 0 (4 * node_len) (omega arith) in
+        let same : 0 + 4 * node_len ≡ 4 * node_len = omega arith in
+        ap (λ n. 4 * node_len + (4 + 4 * n)) (there ∙ here ∙ sym (ap (λ i. get_or e i 0) same))
+    same_either false inside = refl
 
 -- a whole element stands wherever its octets do
 pub Stands-append : (kind node_len : ℕ) (front e back : List ℕ) → IsElement kind node_len e
@@ -156,24 +156,24 @@ module _ (kind node_len : ℕ) (view : Seen) (room : words kind ≤ node_len) (s
   unfolding element_of
   size_at-element_of = sized (has kind 22)
     where
-    sized : (b : Bool) → 4 * node_len + cond b (4 + 4 * get_or (before_snapshot ++ cond b (snapshot_of view.snapshot) []) (0 + 4 * node_len) 0) 0
-        ≡ length (before_snapshot ++ cond b (snapshot_of view.snapshot) [])
-    sized true =
-        let place : 0 + 4 * node_len ≡ length before_snapshot + 0 = omega (arith, length-before_snapshot) in
-        let first = ap (λ i. get_or (before_snapshot ++ snapshot_of view.snapshot) i 0) place
-            ∙ get_or-append-add before_snapshot (snapshot_of view.snapshot) 0 0 in
-        omega (arith, first, snapshot_size view.snapshot snapshot, length-before_snapshot, length-append before_snapshot (snapshot_of view.snapshot))
-    sized false = omega (arith, length-before_snapshot, length-append before_snapshot ([]))
+      sized : (b : Bool) → 4 * node_len + cond b (4 + 4 * get_or (before_snapshot ++ cond b (snapshot_of view.snapshot) []) (0 + 4 * node_len) 0) 0
+          ≡ length (before_snapshot ++ cond b (snapshot_of view.snapshot) [])
+      sized true =
+          let place : 0 + 4 * node_len ≡ length before_snapshot + 0 = omega (arith, length-before_snapshot) in
+          let first = ap (λ i. get_or (before_snapshot ++ snapshot_of view.snapshot) i 0) place
+          ∙ get_or-append-add before_snapshot (snapshot_of view.snapshot) 0 0 in
+          omega (arith, first, snapshot_size view.snapshot snapshot, length-before_snapshot, length-append before_snapshot (snapshot_of view.snapshot))
+      sized false = omega (arith, length-before_snapshot, length-append before_snapshot ([]))
 
   -- and its length is that many words
   pub length-element_of : length (element_of kind node_len view) ≡ 4 * element_words kind node_len view
   unfolding element_of
   length-element_of = long (has kind 22)
     where
-    long : (b : Bool) → length (before_snapshot ++ cond b (snapshot_of view.snapshot) [])
-        ≡ 4 * (node_len + cond b (length (snapshot_of view.snapshot) / 4) 0)
-    long true = omega (arith, snapshot_words view.snapshot snapshot, length-before_snapshot, length-append before_snapshot (snapshot_of view.snapshot))
-    long false = omega (arith, length-before_snapshot, length-append before_snapshot ([]))
+      long : (b : Bool) → length (before_snapshot ++ cond b (snapshot_of view.snapshot) [])
+          ≡ 4 * (node_len + cond b (length (snapshot_of view.snapshot) / 4) 0)
+      long true = omega (arith, snapshot_words view.snapshot snapshot, length-before_snapshot, length-append before_snapshot (snapshot_of view.snapshot))
+      long false = omega (arith, length-before_snapshot, length-append before_snapshot ([]))
 
 -- where a node adds an element, NodeLen has room for the fields
 pub can_add-room : (kind node_len : ℕ) → can_add kind node_len ≡ true → words kind ≤ node_len
@@ -192,12 +192,12 @@ can_add-filled kind node_len data_words below can =
     elim (cases_lt 0 node_len) [
       | inl some ↦ omega arith
       | inr none ↦ elim (cases_Bool (has kind 22)) [
-          | inl is_there ↦ omega (arith, ap (λ b. cond b (4 + 4 * data_words) 0) is_there)
-          | inr is_not ↦
-              let parts = no_words kind node_len can none in
-              let below_two = none_below kind below parts.0 parts.1 (ap (λ b. cond b 1 0) is_not) in
-              absurd (omega (arith, parts.2))
-        ]
+        | inl is_there ↦ omega (arith, ap (λ b. cond b (4 + 4 * data_words) 0) is_there)
+        | inr is_not ↦
+            let parts = no_words kind node_len can none in
+            let below_two = none_below kind below parts.0 parts.1 (ap (λ b. cond b 1 0) is_not) in
+            absurd (omega (arith, parts.2))
+      ]
     ]
 
 -- what is written for a view is one element, whole
@@ -220,3 +220,14 @@ pub IsSnapshot-lent : (given : Option (ℕ × Bor (List ℕ))) → ForSome given
     → IfSome (snapshot_data given) (λ s. IsSnapshot s.0 s.1)
 IsSnapshot-lent None fits = tt
 IsSnapshot-lent (Some given) fits = fits given refl
+
+-- a size that is told of what the octets begin with is that of the element that begins them
+pub FindsElement-size : (kind node_len : ℕ) (octets : List ℕ) (found : Option ℕ)
+    → MatchOption found (¬ Stands kind node_len octets 0) (λ size. Stands kind node_len octets 0 × (size ≡ size_at kind node_len octets 0))
+    → FindsElement kind node_len octets found
+FindsElement-size kind node_len octets None none e rest element is =
+    let P : List ℕ → Type 0 = λ xs. Stands kind node_len xs 0 in
+    absurd (none (subst P (sym is) (Stands-append kind node_len [] e rest element)))
+FindsElement-size kind node_len octets (Some size) told e rest element is =
+    ap Some (told.1 ∙ ap (λ xs. size_at kind node_len xs 0) is
+    ∙ size_at-append kind node_len [] e rest (omega (arith, element.whole)) ∙ element.whole)

@@ -1,5 +1,5 @@
 -- Where elements stand among octets (RFC 9197 section 4.4): the node data fields that one node added.
-use Rattle.std.specs.Prelude.{ℕ, ◌+◌, ◌*◌, ◌≡◌, ◌<◌, ◌≤◌, List, length, slice_index, if◌then◌else◌}
+use Rattle.std.specs.Prelude.{ℕ, ◌+◌, ◌*◌, ◌≡◌, ◌<◌, ◌≤◌, List, ◌++◌, length, slice_index, Option, Some, if◌then◌else◌}
 use Rattle.ioam_data.specs.Kind.{has, words}
 
 -- The octets of the element that begins at a place: NodeLen words, and with bit 22 a word whose first
@@ -19,3 +19,8 @@ pub record Stands (kind node_len : ℕ) (octets : List ℕ) (at : ℕ) : Type 0 
 pub record IsElement (kind node_len : ℕ) (octets : List ℕ) : Type 0 where
   pub stands : Stands kind node_len octets 0
   pub whole : size_at kind node_len octets 0 ≡ length octets
+
+-- where an element begins the octets, with anything behind it, its length is found
+abbrev pub FindsElement : ℕ → ℕ → List ℕ → Option ℕ → Type 0
+FindsElement kind node_len octets found = (element rest : List ℕ) → IsElement kind node_len element
+    → octets ≡ element ++ rest → found ≡ Some (length element)

@@ -1,6 +1,5 @@
 -- What an element holds (RFC 9197 section 4.4.2), field by field.
 use Rattle.std.specs.Prelude.{ℕ, ◌+◌, ◌-◌, ◌*◌, ◌/◌, ◌%◌, if◌then◌else◌, List, take, drop, Option, Some, None}
-use Rattle.std.specs.Borrow.{Bor}
 use Rattle.ioam_base.specs.Octets.{u32_at}
 use Rattle.ioam_data.specs.Kind.{has, where_has, words}
 use Rattle.ioam_data.specs.View.{snapshot_data}

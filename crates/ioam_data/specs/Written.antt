@@ -1,6 +1,6 @@
 -- The element that a node writes (RFC 9197 section 4.4.2): its fields in bit order, filler words of all
 -- ones up to NodeLen, and the opaque state snapshot.
-use Rattle.std.specs.Prelude.{ℕ, ◌+◌, ◌-◌, ◌*◌, ◌/◌, ◌%◌, nat_lt, if◌then◌else◌, List, [], ◌∷◌, ◌++◌, length, replicate, Option, Some, None}
+use Rattle.std.specs.Prelude.{ℕ, ◌+◌, ◌-◌, ◌*◌, ◌/◌, ◌%◌, nat_lt, if◌then◌else◌, List, [], ◌++◌, length, replicate, Option, Some, None}
 use Rattle.std.specs.Int.{w32, to_be_bytes}
 use Rattle.ioam_data.specs.Kind.{has, words}
 use Rattle.ioam_data.specs.View.{Seen}

@@ -1,6 +1,6 @@
 ghost use Rattle.std.specs.Prelude.{◌≡◌, ℕ, ◌+◌, ◌-◌, ◌*◌, ◌/◌, ◌%◌, ◌^◌, ◌<◌, ◌≤◌};
 ghost use Rattle.std.specs.Bool.{OnTrue};
-ghost use Rattle.ioam_data.specs.Kind.{has, where_has, words, undefined, fits_type, can_add};
+ghost use Rattle.ioam_data.specs.Kind.{has, where_has, words, undefined, fits_type, can_add, is_entry_type};
 
 use std::marker::Model;
 
@@ -109,5 +109,14 @@ impl TraceType {
         ensures room { OnTrue result (words self ≤ node_len) }
     {
         self.fits(node_len) && self.bits() / 2 > 0
+    }
+
+    /// Whether the type is one that entry nodes write: it has only bits 0 to 11 and 22, and one of
+    /// them at least.
+    #[tactic(auto, unfolding(crate::specs::Kind::is_entry_type))]
+    pub fn is_entry_type(self) -> bool
+        ensures { result ≡ is_entry_type self }
+    {
+        self.undefined() == 0 && !self.has(23) && self.bits() > 1
     }
 }

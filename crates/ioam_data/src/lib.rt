@@ -2,20 +2,23 @@
 #![tactic(auto)]
 
 mod buffer;
-mod reading;
-mod recording;
 mod cursor;
 mod held;
 mod kind;
 mod namespace;
+mod reading;
+mod recording;
 mod size;
 mod view;
 
 pub use buffer::ElementBuf;
-pub use reading::fields;
-pub use recording::element;
 pub use held::Fields;
 pub use kind::TraceType;
 pub use namespace::Namespace;
+pub use reading::fields;
+pub use recording::element;
 pub use size::split;
 pub use view::View;
+
+#[cfg(test)]
+mod tests;

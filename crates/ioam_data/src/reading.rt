@@ -1,6 +1,7 @@
 ghost use Rattle.std.specs.Prelude.{◌≡◌, ℕ, ◌-◌, ◌*◌, ◌≤◌, length, drop};
 ghost use Rattle.ioam_data.specs.Elements.{IsElement};
 ghost use Rattle.ioam_data.specs.Fields.{fields_of, held, when_has, snapshot_at};
+ghost use Rattle.ioam_data.specs.Shown.{ReadsBack};
 ghost use Rattle.ioam_data.specs.View.{snapshot_data};
 ghost use Rattle.ioam_data.specs.Kind.{words, where_has};
 
@@ -20,9 +21,9 @@ fn snapshot(kind: TraceType, octets: &[u8]) -> Option<(u32, &[u8])>
     Some((u32_at(octets, 0) % 16777216, &octets[4..]))
 }
 
-/// The fields of an element, whole. Fields are read as they stand: all ones are not told apart.
+// The fields of an element, by the rules alone.
 #[tactic(auto, unfolding(crate::specs::Kind::words, crate::specs::Fields::fields_of))]
-pub fn fields(kind: TraceType, node_len: u8, octets: &[u8]) -> Fields<'_>
+fn read_fields(kind: TraceType, node_len: u8, octets: &[u8]) -> Fields<'_>
     requires { IsElement kind node_len octets.now }
     ensures { held result ≡ fields_of kind node_len octets.now }
 {
@@ -57,4 +58,15 @@ pub fn fields(kind: TraceType, node_len: u8, octets: &[u8]) -> Fields<'_>
         fill,
         snapshot: snapshot(kind, rest),
     }
+}
+
+/// The fields of an element, whole: octets of which [`split`](crate::split) gives the length. Fields
+/// are read as they stand: all ones are not told apart.
+pub fn fields(kind: TraceType, node_len: u8, octets: &[u8]) -> Fields<'_>
+    requires { IsElement kind node_len octets.now }
+    ensures value { held result ≡ fields_of kind node_len octets.now }
+    // What `element` wrote for a view is read as that view shows.
+    ensures back { ReadsBack kind node_len octets.now (held result) }
+{
+    read_fields(kind, node_len, octets)
 }

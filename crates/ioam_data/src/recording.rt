@@ -67,8 +67,16 @@ fn put_bits_0_to_3(kind: TraceType, view: &View<'_>, into: &mut ElementBuf)
     ensures size { length into.new ≡ length into.old
         + 4 * (where_has kind 0 1 + where_has kind 1 1 + where_has kind 2 1 + where_has kind 3 1) }
 {
-    into.word_at(kind, 0, u32::from(view.hops) * 16777216 + narrow_id(view.id));
-    into.word_at(kind, 1, narrow_face(view.inward) * 65536 + narrow_face(view.outward));
+    into.word_at(
+        kind,
+        0,
+        u32::from(view.hops) * 16777216 + narrow_id(view.id),
+    );
+    into.word_at(
+        kind,
+        1,
+        narrow_face(view.inward) * 65536 + narrow_face(view.outward),
+    );
     let (seconds, fraction) = stamp_words(view.stamp);
     into.word_at(kind, 2, seconds);
     into.word_at(kind, 3, fraction);
@@ -97,14 +105,20 @@ fn put_bits_8_to_11(kind: TraceType, view: &View<'_>, into: &mut ElementBuf)
     into.words_at(kind, 8, u32::from(view.hops) * 16777216 + high, low);
     into.words_at(kind, 9, or_ones(view.inward), or_ones(view.outward));
     let wide = or_wide_ones(view.wide);
-    into.words_at(kind, 10, (wide / 4294967296) as u32, (wide % 4294967296) as u32);
+    into.words_at(
+        kind,
+        10,
+        (wide / 4294967296) as u32,
+        (wide % 4294967296) as u32,
+    );
     into.word_at(kind, 11, or_ones(view.buffer));
 }
 
 // The opaque state snapshot, where the type has bit 22.
 fn put_snapshot(kind: TraceType, view: &View<'_>, into: &mut ElementBuf)
     requires { length into.old + 184 ≤ 308 }
-    ensures { into.new ≡ into.old ++ part kind 22 (snapshot_of (snapshot_data view.now.snapshot)) }
+    ensures value { into.new ≡ into.old ++ part kind 22 (snapshot_of (snapshot_data view.now.snapshot)) }
+    ensures small { length into.new ≤ length into.old + 184 }
 {
     if kind.has_snapshot() {
         match view.snapshot {

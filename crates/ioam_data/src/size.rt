@@ -1,5 +1,5 @@
 ghost use Rattle.std.specs.Prelude.{◌≡◌, ℕ, ◌+◌, ◌*◌, ◌<◌, ◌≤◌, length, MatchOption};
-ghost use Rattle.ioam_data.specs.Elements.{size_at, Stands};
+ghost use Rattle.ioam_data.specs.Elements.{size_at, Stands, FindsElement};
 
 use crate::kind::TraceType;
 
@@ -17,10 +17,8 @@ fn element_size(kind: TraceType, node_len: u8, octets: &[u8]) -> usize
     }
 }
 
-/// The number of octets of the element that the octets begin with. None where NodeLen is less than
-/// the words of the type's defined fields, where the octets do not hold a whole element, or where it
-/// would be empty. What follows the element is not looked at.
-pub fn split(kind: TraceType, node_len: u8, octets: &[u8]) -> Option<usize>
+// The size of the element that the octets begin with, by the rules alone.
+fn size_of(kind: TraceType, node_len: u8, octets: &[u8]) -> Option<usize>
     ensures { MatchOption result (¬ Stands kind node_len octets.now 0)
         (λ size. Stands kind node_len octets.now 0 × (size ≡ size_at kind node_len octets.now 0)) }
 {
@@ -30,4 +28,16 @@ pub fn split(kind: TraceType, node_len: u8, octets: &[u8]) -> Option<usize>
     } else {
         None
     }
+}
+
+/// The number of octets of the element that the octets begin with. None where NodeLen is less than
+/// the words of the type's defined fields, where the octets do not hold a whole element, or where it
+/// would be empty. What follows the element is not looked at.
+pub fn split(kind: TraceType, node_len: u8, octets: &[u8]) -> Option<usize>
+    ensures value { MatchOption result (¬ Stands kind node_len octets.now 0)
+        (λ size. Stands kind node_len octets.now 0 × (size ≡ size_at kind node_len octets.now 0)) }
+    // In other words: a whole element is found.
+    ensures finds { FindsElement kind node_len octets.now result }
+{
+    size_of(kind, node_len, octets)
 }

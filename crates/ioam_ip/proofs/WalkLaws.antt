@@ -1,5 +1,5 @@
 -- A walk along the chain, one header after the other.
-use Rattle.std.proofs.Common.{◌≡◌, ℕ, ◌<◌, ◌≤◌, List, [], ◌∷◌, ◌++◌, Bool, true, false, IsTrue, cond, ◌&&◌, ◌||◌, eqb, not, Option, None, refl, sym, ap, ◌∙◌, subst, arith}
+use Rattle.std.proofs.Common.{◌≡◌, ℕ, ◌<◌, ◌≤◌, List, [], ◌∷◌, ◌++◌, Bool, true, false, cond, ◌&&◌, ◌||◌, eqb, not, Option, None, refl, sym, ap, ◌∙◌, subst, arith}
 use Rattle.std.specs.List.{list_any}
 use Rattle.std.specs.Option.{option_or}
 use Rattle.std.proofs.lemmas.List.Folds.{list_any-append}
@@ -18,7 +18,7 @@ use Rattle.ioam_ip.specs.declared.chain.Spot.{Spot}
 use Rattle.ioam_ip.specs.declared.chain.Head.{Head}
 use Rattle.ioam_ip.specs.declared.scan.Found.{Found}
 use Rattle.ioam_ip.specs.declared.walking.Passed.{Passed}
-use Rattle.ioam_ip.proofs.ChainOptionsLaws.{OptionsOf-push, outer_targets-push, carries_by_chain}
+use Rattle.ioam_ip.proofs.ChainOptionsLaws.{OptionsOf-push, outer_targets-push, any_from_joined, carries_by_chain}
 use Rattle.ioam_ip.proofs.ChainLaws.{bad_not_sound}
 use Rattle.ioam_ip.proofs.Looking.{first_limit-append}
 
@@ -104,7 +104,6 @@ pub Walked-ends : (p : List ℕ) (spot : Spot) (passed : Passed) → Walked p sp
     → IsWhole p passed.ioam spot.value spot.at passed.limit
 Walked-ends p spot passed walked ends =
     let chain : Chain p walked.heads spot.value spot.at = record { last = spot; reaches = walked.reaches; ends = ends; value = refl; place = refl } in
-    let P : Bool → Type 0 = λ b. IsTrue b in
     record {
       sound = record { heads = walked.heads; upper = spot.value; at = spot.at; chain = chain };
       ends = record { heads = walked.heads; chain = chain };
@@ -113,12 +112,10 @@ Walked-ends p spot passed walked ends =
           heads = walked.heads;
           upper = spot.value;
           at = spot.at;
-          options = walked.options;
           chain = chain;
-          are_options = walked.are_options;
-          ioam = subst P walked.ioam yes;
+          has_ioam = any_from_joined p walked.heads walked.options walked.are_options (sym walked.ioam ∙ yes);
         }),
-        (λ carries. subst P (sym walked.ioam) (carries_by_chain p walked.heads spot.value spot.at walked.options chain walked.are_options carries)),
+        (λ carries. walked.ioam ∙ carries_by_chain p walked.heads spot.value spot.at walked.options chain walked.are_options carries),
       );
       first = record {
         heads = walked.heads;

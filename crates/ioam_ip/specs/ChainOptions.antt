@@ -2,6 +2,7 @@
 use Rattle.std.specs.Prelude.{◌≡◌, ℕ, List, [], ◌∷◌, ◌++◌, Bool, IsTrue, Option, ◌==◌, ◌||◌, if◌then◌else◌, ◌≤◌, length, slice_range}
 use Rattle.std.specs.declared.ops.Range.{Range}
 use Rattle.std.specs.Bool.{MatchBool}
+use Rattle.std.specs.List.{Any}
 use Rattle.ioam_ip.specs.Chain.{Chain}
 use Rattle.ioam_ip.specs.Findings.{has_ioam, first_limit}
 use Rattle.ioam_ip.specs.Options.{Item, AreOptions, IsFilled}
@@ -25,15 +26,20 @@ OptionsOf p [] os = os ≡ []
 OptionsOf p (head ∷ hs) os = (first : List Item) × (others : List Item)
     × HeadOptions p head first × OptionsOf p hs others × (os ≡ first ++ others)
 
--- some options header on the chain, nested ones included, has an IOAM option
+-- this is an options header, and one of its options is an IOAM option
+pub record HasIoam (p : List ℕ) (head : Head) : Type 0 where
+  pub holds_options : IsTrue (is_options_head head)
+  pub options : List Item
+  pub are_options : AreOptions (octets_of p head) options
+  pub ioam : IsTrue (has_ioam options)
+
+-- the packet is sound, and some header on its chain, nested ones included, has an IOAM option
 pub record CarriesIoam (p : List ℕ) : Type 0 where
   pub heads : List Head
   pub upper : ℕ
   pub at : ℕ
-  pub options : List Item
   pub chain : Chain p heads upper at
-  pub are_options : OptionsOf p heads options
-  pub ioam : IsTrue (has_ioam options)
+  pub has_ioam : Any (HasIoam p) heads
 
 abbrev pub is_nested : Head → Bool
 is_nested head = head.value == 41

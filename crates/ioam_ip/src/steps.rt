@@ -1,7 +1,7 @@
 //! One step along the chain of a packet (RFC 8200 section 4).
 ghost use Rattle.std.specs.Prelude.{◌≡◌, ◌+◌, ◌<◌, ◌≤◌, length, slice_index, false, MatchOption};
 ghost use Rattle.ioam_ip.specs.Chain.{kind_of, said_size};
-ghost use Rattle.ioam_ip.specs.Steps.{Steps};
+ghost use Rattle.ioam_ip.specs.Steps.{Steps, OptionsAt};
 
 use crate::chain::{Kind, Spot, kind_of};
 use crate::extents::said_end;
@@ -40,6 +40,21 @@ pub(crate) fn step_at(packet: &[u8], spot: Spot) -> Step
     }
 }
 
+// Where the options header at a place ends and what its options have, if it is whole and they fill
+// it.
+fn options_at(packet: &[u8], at: usize) -> Option<(usize, Found)>
+    requires { at ≤ length packet.now }
+    ensures { OptionsAt packet.now at result }
+{
+    let Some(end) = said_end(packet, at) else {
+        return None;
+    };
+    match look_through(&packet[at..end]) {
+        Scan::Fills(found) => Some((end, found)),
+        Scan::Unfit(_) => None,
+    }
+}
+
 fn at_hop_by_hop(packet: &[u8], spot: Spot) -> Step
     requires kind { kind_of spot.value ≡ Kind.HopByHop }
     requires within { spot.at ≤ length packet.now }
@@ -48,15 +63,12 @@ fn at_hop_by_hop(packet: &[u8], spot: Spot) -> Step
     if !spot.behind_ip {
         return Step::Breaks;
     }
-    let Some(end) = said_end(packet, spot.at) else {
-        return Step::Breaks;
-    };
-    match look_through(&packet[spot.at..end]) {
-        Scan::Fills(found) => Step::On {
+    match options_at(packet, spot.at) {
+        Some((end, found)) => Step::On {
             next: behind(packet, spot.at, end),
             found,
         },
-        Scan::Unfit(_) => Step::Breaks,
+        None => Step::Breaks,
     }
 }
 
@@ -65,15 +77,12 @@ fn at_destination(packet: &[u8], spot: Spot) -> Step
     requires within { spot.at ≤ length packet.now }
     ensures { Steps packet.now spot result }
 {
-    let Some(end) = said_end(packet, spot.at) else {
-        return Step::Breaks;
-    };
-    match look_through(&packet[spot.at..end]) {
-        Scan::Fills(found) => Step::On {
+    match options_at(packet, spot.at) {
+        Some((end, found)) => Step::On {
             next: behind(packet, spot.at, end),
             found,
         },
-        Scan::Unfit(_) => Step::Breaks,
+        None => Step::Breaks,
     }
 }
 

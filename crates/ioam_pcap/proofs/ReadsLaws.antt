@@ -112,11 +112,11 @@ module _ (octets : List ℕ) where
   head_fault_unique (fault.Short m) g x y = absurd x
 
   -- at a place is one of: a whole record, one that is cut, one with a fault
-  entry_uncut : (form : Form) (at : ℕ) → IsWhole form octets at → IsEntryCut form octets at → ⊥
+  pub entry_uncut : (form : Form) (at : ℕ) → IsWhole form octets at → IsEntryCut form octets at → ⊥
   entry_uncut form at whole (inl few) = omega arith
   entry_uncut form at whole (inr few) = omega arith
 
-  entry_sound : (form : Form) (at : ℕ) (f : CapFault) → IsWhole form octets at → EntryFault form octets at f → ⊥
+  pub entry_sound : (form : Form) (at : ℕ) (f : CapFault) → IsWhole form octets at → EntryFault form octets at f → ⊥
   entry_sound form at (fault.Magic found) whole bad = bad
   entry_sound form at (fault.Link found) whole bad = bad
   entry_sound form at (fault.RecordLong found) whole bad = omega arith

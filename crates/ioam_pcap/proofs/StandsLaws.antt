@@ -1,17 +1,19 @@
 -- What a reader stands for after a piece or a step.
 use Rattle.std.proofs.Common.{◌≡◌, ℕ, ◌+◌, ◌-◌, ◌≤◌, List, [], ◌∷◌, ◌++◌, length, take, drop, Option, Some, None, arith, refl, sym, ap, ◌∙◌, subst, length-drop, length-take-le, length-append}
-use Rattle.std.proofs.lemmas.List.{drop-drop, drop-append-le, take_rest}
+use Rattle.std.proofs.lemmas.List.{append-nil, drop-drop, drop-append-le, take_rest}
 use Rattle.ioam_base.proofs.LeadsLaws.{Leads-push}
 use Rattle.ioam_pcap.specs.declared.form.Form.{Form}
+use Rattle.ioam_pcap.specs.declared.form.Link.{Link}
 use Rattle.ioam_pcap.specs.declared.capture.CapFault.{CapFault}
 use Rattle.ioam_pcap.specs.declared.capture.CapFault.TheVariants as fault
 use Rattle.ioam_pcap.specs.Form.{HasHead}
 use Rattle.ioam_pcap.specs.Entries.{Entry, captured, IsWhole, entry_at, behind}
-use Rattle.ioam_pcap.specs.Reads.{HeadFault, EntryFault, IsHeadCut, IsEntryCut, Reached, EntryAt, FaultAt, CutAt, Faulty, EndsAt, Reads}
+use Rattle.ioam_pcap.specs.Reads.{HeadFault, EntryFault, IsHeadCut, IsEntryCut, Reached, EntryAt, FaultAt, CutAt, Faulty, EndsAt, Reads, link_by}
 use Rattle.ioam_pcap.specs.Reading.{Reading}
-use Rattle.ioam_pcap.specs.Reader.{Stands, Waits, link_of}
+use Rattle.ioam_pcap.specs.Reader.{Stands, Waits, IsCap, link_of}
 use Rattle.ioam_pcap.proofs.DropLaws.{captured-drop, IsWhole-drop, entry_at-drop, EntryFault-drop, IsEntryCut-drop}
 use Rattle.ioam_pcap.proofs.BehindLaws.{Reached-behind, FaultAt-behind}
+use Rattle.ioam_pcap.proofs.ReadsLaws.{entry_uncut, entry_sound}
 
 -- a piece more
 pub Stands-feed : (reader : Reading) (piece octets : List ℕ) (entries : List Entry) → Stands reader octets entries
@@ -162,17 +164,40 @@ entry_by time original octets e t o s =
     let same : ◌≡◌ {A = Entry} (record { time = time; original = original; octets = octets }) (record { time = e.time; original = e.original; octets = e.octets }) = cc in
     same
 
+-- a head, these records, and a rest that begins no whole record
+cap_by : (reader : Reading) (octets : List ℕ) (entries : List Entry) (form : Option Form) → reader.form ≡ form → Stands reader octets entries
+    → ((f : Form) → form ≡ Some f → IsWhole f octets reader.start → ⊥) → IsCap octets entries reader
+cap_by reader octets entries None none stands stops = λ link linked. let wrong : ◌≡◌ {A = Option Link} None (Some link) = ap link_by (sym none) ∙ linked in absurd (cc)
+cap_by reader octets entries (Some form) some stands stops = λ link linked.
+    let Q : Option Form → Type 0 = λ f. Reached octets f entries reader.start in
+    let reached = subst Q some stands.reached in
+    let same : ◌≡◌ {A = Option Link} (Some form.link) (Some link) = ap link_by (sym some) ∙ linked in
+    record { form = form; head = reached.0; linked = cc; leads = reached.1; stops = stops form refl }
+
+pub IsCap-cut : (reader : Reading) (octets : List ℕ) (entries : List Entry) → Stands reader octets entries → CutAt octets reader.form reader.start → IsCap octets entries reader
+IsCap-cut reader octets entries stands cut = cap_by reader octets entries reader.form refl stands
+    (λ f is whole. let Q : Option Form → Type 0 = λ g. CutAt octets g reader.start in entry_uncut octets f reader.start whole (subst Q is cut))
+
+pub IsCap-fault : (reader : Reading) (octets : List ℕ) (entries : List Entry) (f : CapFault) → Stands reader octets entries → FaultAt octets reader.form reader.start f → IsCap octets entries reader
+IsCap-fault reader octets entries bad_by stands bad = cap_by reader octets entries reader.form refl stands
+    (λ f is whole. let Q : Option Form → Type 0 = λ g. FaultAt octets g reader.start bad_by in entry_sound octets f reader.start bad_by whole (subst Q is bad))
+
 -- what a step that takes nothing off tells
 module _ (old new : Reading) (same : new ≡ old) (octets : List ℕ) (entries : List Entry) (stands : Stands old octets entries) where
   stands_still : Stands new octets entries
   stands_still = let S : Reading → Type 0 = λ r. Stands r octets entries in subst S (sym same) stands
 
-  pub cut_told : Waits old → CutAt octets old.form old.start × Stands new octets entries
-  cut_told waits = (CutAt-waits old octets entries stands waits, stands_still)
+  pub cut_told : Waits old → CutAt octets old.form old.start × (Stands new octets entries × IsCap octets entries old)
+  cut_told waits =
+      let cut = CutAt-waits old octets entries stands waits in
+      (cut, (stands_still, IsCap-cut old octets entries stands cut))
 
   pub fault_told : (place : ℕ) (f : CapFault) → place ≡ old.start → FaultAt old.pending old.form 0 f
-      → FaultAt octets old.form old.start f × (Stands new octets entries × ((more : List ℕ) → Reads (octets ++ more) (link_of old) entries (Faulty place f)))
+      → FaultAt octets old.form old.start f × (Stands new octets entries × IsCap octets entries old × Reads octets (link_of old) entries (Faulty place f)
+      × ((more : List ℕ) → Reads (octets ++ more) (link_of old) entries (Faulty place f)))
   fault_told place f here bad =
       let there = FaultAt-pending old octets entries stands f bad in
       let P : ℕ → Type 0 = λ n. (more : List ℕ) → Reads (octets ++ more) (link_of old) entries (Faulty n f) in
-      (there, (stands_still, subst P (sym here) (Reads-faulty old octets entries f stands there)))
+      let Q : List ℕ → Type 0 = λ xs. Reads xs (link_of old) entries (Faulty place f) in
+      let all = subst P (sym here) (Reads-faulty old octets entries f stands there) in
+      (there, (stands_still, IsCap-fault old octets entries f stands there, subst Q (append-nil octets) (all []), all))

@@ -11,7 +11,7 @@ use Rattle.ioam_pcap.specs.declared.capture.CapLook.{CapLook}
 use Rattle.ioam_pcap.specs.declared.capture.CapLook.TheVariants as look
 use Rattle.ioam_pcap.specs.contracts.reader.CaptureReader.{the_row}
 use Rattle.ioam_pcap.specs.Entries.{Entry}
-use Rattle.ioam_pcap.specs.Reads.{Reached, CutAt, Shown, HeadShown, EntryShown, CutShown, FaultShown, Shows, Ending, Whole, Faulty, Reads, link_by}
+use Rattle.ioam_pcap.specs.Reads.{Reached, CutAt, Shown, HeadShown, EntryShown, CutShown, FaultShown, Shows, Ending, Whole, Faulty, Reads, Cap, link_by}
 use Rattle.ioam_pcap.specs.Reading.{Reading}
 
 -- a reader that was fed these octets in all, and has given these records
@@ -56,12 +56,18 @@ shown_by (Packet p) = EntryShown (entry_of p)
 shown_by More = CutShown
 shown_by (Bad at fault) = FaultShown fault
 
+-- once the head was read, the octets are it, exactly these records, and a rest that begins no whole
+-- record
+abbrev pub IsCap : List ℕ → List Entry → Reading → Type 0
+IsCap octets entries reader = (link : Link) → link_of reader ≡ Some link → Cap octets link entries reader.start
+
 -- what the reader stands for behind a step; a capture with a fault ends there, whatever is fed
 abbrev pub Leaves : List ℕ → List Entry → Reading → Reading → CapStep → Type 0
 Leaves octets entries old new (Head link) = (link_of new ≡ Some link) × Stands new octets entries
 Leaves octets entries old new (Packet p) = Stands new octets (entries ++ entry_of p ∷ [])
-Leaves octets entries old new More = Stands new octets entries
-Leaves octets entries old new (Bad at fault) = Stands new octets entries
+Leaves octets entries old new More = Stands new octets entries × IsCap octets entries old
+Leaves octets entries old new (Bad at fault) = Stands new octets entries × IsCap octets entries old
+    × Reads octets (link_of old) entries (Faulty at fault)
     × ((more : List ℕ) → Reads (octets ++ more) (link_of old) entries (Faulty at fault))
 
 -- what a step tells of the octets fed so far, behind these records

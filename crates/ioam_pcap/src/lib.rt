@@ -10,9 +10,11 @@ mod merge;
 mod put;
 pub mod reader;
 
+pub use capture::{CapFault, CapLook, CapStep, Packet, RECORD_MOST};
 pub use form::Link;
 pub use merge::pick;
 pub use put::{put_head, put_record};
+pub use reader::CaptureReader;
 
 #[cfg(test)]
 mod tests;

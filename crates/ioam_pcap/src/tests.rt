@@ -1,8 +1,8 @@
 ghost use Rattle.std.specs.Prelude.{◌<◌};
 
-use crate::capture::CapStep;
+use crate::capture::{CapLook, CapStep};
 use crate::reader::CaptureReader;
-use crate::{pick, put_head, put_record};
+use crate::{Link, pick, put_head, put_record};
 use std::alloc::Global;
 use std::test::Fail;
 
@@ -77,6 +77,22 @@ fn reads_in_any_pieces(rt: HostRuntime) -> Result<(), Fail> {
         let text = outline(rt.alloc(), &TWO, size)?;
         assert_eq!(rt; text.as_str(), TWO_READ);
     }
+    Ok(())
+}
+
+#[test]
+fn looks_ahead(rt: HostRuntime) -> Result<(), Fail> {
+    let mut reader = CaptureReader::new(rt.alloc())?;
+    assert_eq!(rt; reader.look(), CapLook::More);
+    reader.feed(&TWO)?;
+    assert_eq!(rt; reader.fed(), 59);
+    assert_eq!(rt; reader.look(), CapLook::Head { link: Link::Raw });
+    assert!(rt; matches!(reader.next(), CapStep::Head { .. }));
+    let first = CapLook::Packet {
+        time: 2_000_007_000,
+        size: 3,
+    };
+    assert_eq!(rt; reader.look(), first);
     Ok(())
 }
 

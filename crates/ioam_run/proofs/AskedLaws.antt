@@ -9,7 +9,8 @@ use Rattle.ioam_pcap.specs.Entries.{Entry}
 use Rattle.ioam_pcap.specs.Text.{Sent}
 use Rattle.ioam_pcap.specs.Reads.{Ending, Whole, Faulty}
 use Rattle.ioam_pcap.proofs.ReadsLaws.{Reads-unique}
-use Rattle.ioam_run.specs.Filter.{Files, HasCause, Asked, IsInput, LeavesTexts, Leaves, IsBehindAll, IsClean, IsCleanCapture, file_names, most_octets}
+use Rattle.ioam_run.specs.Filter.{FilterTexts}
+use Rattle.ioam_run.specs.Run.{HasCause, Asked, IsInput, HoldTexts, HoldsAll, Leaves, IsBehindAll, IsClean, IsCleanCapture, most_octets}
 use Rattle.ioam_run.specs.FilterText.{Filtered, kept_of}
 use Rattle.ioam_run.specs.Names.{AreApart, IsFirstRepeat, name_at}
 use Rattle.ioam_run.specs.Verdict.{Verdict, Keeps, Drops, HasVerdict, FramingVerdict, AreVerdicts}
@@ -31,7 +32,7 @@ both None P Q x y = absurd x
 both (Some octets) P Q x y = (octets, x, y)
 
 ending_unique : (octets : List ℕ) (d e : Ending) → IsInput d octets → IsInput e octets → d ≡ e
-ending_unique octets d e x y = (Reads-unique octets x.judged.link y.judged.link x.entries y.entries d e x.judged.reads y.judged.reads).2
+ending_unique octets d e x y = (Reads-unique octets x.link y.link x.entries y.entries d e x.reads y.reads).2
 
 held_ending : (held : Option (List ℕ)) (d e : Ending) → IsSomeAnd held (IsInput d) → IsSomeAnd held (IsInput e) → d ≡ e
 held_ending held d e x y = let it : (octets : List ℕ) × IsInput d octets × IsInput e octets = both held (IsInput d) (IsInput e) x y in
@@ -45,43 +46,43 @@ too_long held d x y =
 whole_or_faulty : (at : ℕ) (fault : _) → Whole ≡ Faulty at fault → ⊥
 whole_or_faulty at fault same = cc
 
-module _ (tells : Bool) (desk : Writing) (files : Files) (told : IsTrue tells) where
-  pub Asked-unique : (a b : Outcome) → Asked tells desk files a → Asked tells desk files b → a ≡ b
+module _ (tells : Bool) (desk : Writing) (names : List (List ℕ)) (input : List ℕ) (told : IsTrue tells) where
+  pub Asked-unique : (a b : Outcome) → Asked tells desk names input a → Asked tells desk names input b → a ≡ b
   Asked-unique outcome.Usage b x y = absurd x
   Asked-unique outcome.ReadFault b x y = absurd x
   Asked-unique outcome.WriteFault b x y = absurd x
   Asked-unique outcome.NoMemory b x y = absurd x
   Asked-unique outcome.Done outcome.Done x y = refl
-  Asked-unique outcome.Done (outcome.Names name) x y = absurd (not_apart (file_names files) y.0 y.1 x.0)
-  Asked-unique outcome.Done (outcome.Packets limit) x y = absurd (too_long (holds desk files.input) Whole (y.2 told) (x.1 told))
-  Asked-unique outcome.Done (outcome.Capture name at fault) x y = absurd (whole_or_faulty at fault (held_ending (holds desk files.input) Whole (Faulty at fault) (x.1 told) (y.2 told)))
+  Asked-unique outcome.Done (outcome.Names name) x y = absurd (not_apart names y.0 y.1 x.0)
+  Asked-unique outcome.Done (outcome.Packets limit) x y = absurd (too_long (holds desk input) Whole (y.2 told) (x.1 told))
+  Asked-unique outcome.Done (outcome.Capture name at fault) x y = absurd (whole_or_faulty at fault (held_ending (holds desk input) Whole (Faulty at fault) (x.1 told) (y.2 told)))
   Asked-unique outcome.Done outcome.Usage x y = absurd y
   Asked-unique outcome.Done outcome.ReadFault x y = absurd y
   Asked-unique outcome.Done outcome.WriteFault x y = absurd y
   Asked-unique outcome.Done outcome.NoMemory x y = absurd y
-  Asked-unique (outcome.Names name) outcome.Done x y = absurd (not_apart (file_names files) x.0 x.1 y.0)
+  Asked-unique (outcome.Names name) outcome.Done x y = absurd (not_apart names x.0 x.1 y.0)
   Asked-unique (outcome.Names name) (outcome.Names other) x y =
-      let same : x.0 ≡ y.0 = first_unique (file_names files) x.0 y.0 x.1 y.1 in
-      ap outcome.Names (x.2 ∙ ap (name_at (file_names files)) same ∙ sym y.2)
-  Asked-unique (outcome.Names name) (outcome.Packets limit) x y = absurd (not_apart (file_names files) x.0 x.1 y.0)
-  Asked-unique (outcome.Names name) (outcome.Capture other at fault) x y = absurd (not_apart (file_names files) x.0 x.1 y.0)
+      let same : x.0 ≡ y.0 = first_unique names x.0 y.0 x.1 y.1 in
+      ap outcome.Names (x.2 ∙ ap (name_at names) same ∙ sym y.2)
+  Asked-unique (outcome.Names name) (outcome.Packets limit) x y = absurd (not_apart names x.0 x.1 y.0)
+  Asked-unique (outcome.Names name) (outcome.Capture other at fault) x y = absurd (not_apart names x.0 x.1 y.0)
   Asked-unique (outcome.Names name) outcome.Usage x y = absurd y
   Asked-unique (outcome.Names name) outcome.ReadFault x y = absurd y
   Asked-unique (outcome.Names name) outcome.WriteFault x y = absurd y
   Asked-unique (outcome.Names name) outcome.NoMemory x y = absurd y
-  Asked-unique (outcome.Packets limit) outcome.Done x y = absurd (too_long (holds desk files.input) Whole (x.2 told) (y.1 told))
-  Asked-unique (outcome.Packets limit) (outcome.Names name) x y = absurd (not_apart (file_names files) y.0 y.1 x.0)
+  Asked-unique (outcome.Packets limit) outcome.Done x y = absurd (too_long (holds desk input) Whole (x.2 told) (y.1 told))
+  Asked-unique (outcome.Packets limit) (outcome.Names name) x y = absurd (not_apart names y.0 y.1 x.0)
   Asked-unique (outcome.Packets limit) (outcome.Packets other) x y = ap outcome.Packets (x.1 ∙ sym y.1)
-  Asked-unique (outcome.Packets limit) (outcome.Capture name at fault) x y = absurd (too_long (holds desk files.input) (Faulty at fault) (x.2 told) (y.2 told))
+  Asked-unique (outcome.Packets limit) (outcome.Capture name at fault) x y = absurd (too_long (holds desk input) (Faulty at fault) (x.2 told) (y.2 told))
   Asked-unique (outcome.Packets limit) outcome.Usage x y = absurd y
   Asked-unique (outcome.Packets limit) outcome.ReadFault x y = absurd y
   Asked-unique (outcome.Packets limit) outcome.WriteFault x y = absurd y
   Asked-unique (outcome.Packets limit) outcome.NoMemory x y = absurd y
-  Asked-unique (outcome.Capture name at fault) outcome.Done x y = absurd (whole_or_faulty at fault (held_ending (holds desk files.input) Whole (Faulty at fault) (y.1 told) (x.2 told)))
-  Asked-unique (outcome.Capture name at fault) (outcome.Names other) x y = absurd (not_apart (file_names files) y.0 y.1 x.0)
-  Asked-unique (outcome.Capture name at fault) (outcome.Packets limit) x y = absurd (too_long (holds desk files.input) (Faulty at fault) (y.2 told) (x.2 told))
+  Asked-unique (outcome.Capture name at fault) outcome.Done x y = absurd (whole_or_faulty at fault (held_ending (holds desk input) Whole (Faulty at fault) (y.1 told) (x.2 told)))
+  Asked-unique (outcome.Capture name at fault) (outcome.Names other) x y = absurd (not_apart names y.0 y.1 x.0)
+  Asked-unique (outcome.Capture name at fault) (outcome.Packets limit) x y = absurd (too_long (holds desk input) (Faulty at fault) (y.2 told) (x.2 told))
   Asked-unique (outcome.Capture name at fault) (outcome.Capture other place cause) x y =
-      let same : Faulty at fault ≡ Faulty place cause = held_ending (holds desk files.input) (Faulty at fault) (Faulty place cause) (x.2 told) (y.2 told) in
+      let same : Faulty at fault ≡ Faulty place cause = held_ending (holds desk input) (Faulty at fault) (Faulty place cause) (x.2 told) (y.2 told) in
       let named : name ≡ other = x.1 ∙ sym y.1 in
       cc
   Asked-unique (outcome.Capture name at fault) outcome.Usage x y = absurd y
@@ -91,7 +92,7 @@ module _ (tells : Bool) (desk : Writing) (files : Files) (told : IsTrue tells) w
 
   -- what is asked for is answered, unless a call failed or no memory could be had
   pub HasCause-asked : (old_in new_in : Reading) (new_out : Writing) (answer asked : Outcome)
-      → HasCause tells files old_in desk new_in new_out answer → Asked tells desk files asked
+      → HasCause tells names input old_in desk new_in new_out answer → Asked tells desk names input asked
       → (Rose old_in.side.faults new_in.side.faults → ⊥) → (Rose desk.side.faults new_out.side.faults → ⊥)
       → (answer ≡ asked) ⊎ (answer ≡ outcome.NoMemory)
   HasCause-asked old_in new_in new_out outcome.Done asked cause asks reads writes = inl (Asked-unique outcome.Done asked cause asks)
@@ -127,22 +128,33 @@ clean_capture octets ending out text filtered = record {
   clean = All-from_recursion IsClean (kept_of filtered.entries filtered.verdicts) (kept_clean _ filtered.entries filtered.verdicts filtered.judged.verdicts_are);
 }
 
-clean_texts : (ending : Ending) (input output report : Option (List ℕ))
-    → IsSomeAnd input (λ octets. IsSomeAnd output (λ out. IsSomeAnd report (λ text. Filtered octets ending out text))) → IsSomeAnd output IsCleanCapture
-clean_texts ending None output report texts = absurd texts
-clean_texts ending (Some octets) None report texts = absurd texts
-clean_texts ending (Some octets) (Some out) None texts = absurd texts
-clean_texts ending (Some octets) (Some out) (Some text) texts = clean_capture octets ending out text texts
+clean_held : (octets : List ℕ) (ending : Ending) (texts : List (List ℕ)) (output report : List ℕ) (new : Writing)
+    → FilterTexts octets ending texts → HoldTexts new (output ∷ report ∷ []) texts → IsSomeAnd (holds new output) IsCleanCapture
+clean_held octets ending [] output report new are held = absurd are
+clean_held octets ending (out ∷ []) output report new are held = absurd are
+clean_held octets ending (out ∷ text ∷ []) output report new are held =
+    let P : Option (List ℕ) → Type 0 = λ o. IsSomeAnd o IsCleanCapture in
+    subst P (sym held.0) (clean_capture octets ending out text are)
+clean_held octets ending (out ∷ text ∷ more ∷ texts) output report new are held = absurd are
+
+clean_all : (ending : Ending) (input output report : List ℕ) (old new : Writing) (octets : List ℕ)
+    → HoldsAll FilterTexts input (output ∷ report ∷ []) old new ending octets → IsSomeAnd (holds new output) IsCleanCapture
+clean_all ending input output report old new octets all =
+    clean_held octets ending all.texts output report new all.are all.held
+
+from_held : (held : Option (List ℕ)) (ending : Ending) (input output report : List ℕ) (old new : Writing)
+    → IsSomeAnd held (HoldsAll FilterTexts input (output ∷ report ∷ []) old new ending) → IsSomeAnd (holds new output) IsCleanCapture
+from_held None ending input output report old new all = absurd all
+from_held (Some octets) ending input output report old new all = clean_all ending input output report old new octets all
 
 -- each packet in OUT may leave a domain
-pub Leaves-clean : (old new : Writing) (files : Files) (answer : Outcome) → Leaves old new files answer → IsBehindAll answer
-    → IsSomeAnd (holds new files.output) IsCleanCapture
-Leaves-clean old new files outcome.Done leaves behind = clean_texts Whole (holds old files.input) (holds new files.output) (holds new files.report) leaves
-Leaves-clean old new files (outcome.Capture name at fault) leaves behind =
-    clean_texts (Faulty at fault) (holds old files.input) (holds new files.output) (holds new files.report) leaves
-Leaves-clean old new files outcome.Usage leaves behind = absurd behind
-Leaves-clean old new files (outcome.Names name) leaves behind = absurd behind
-Leaves-clean old new files (outcome.Packets limit) leaves behind = absurd behind
-Leaves-clean old new files outcome.ReadFault leaves behind = absurd behind
-Leaves-clean old new files outcome.WriteFault leaves behind = absurd behind
-Leaves-clean old new files outcome.NoMemory leaves behind = absurd behind
+pub Leaves-clean : (input output report : List ℕ) (old new : Writing) (answer : Outcome) → Leaves FilterTexts input (output ∷ report ∷ []) old new answer
+    → IsBehindAll answer → IsSomeAnd (holds new output) IsCleanCapture
+Leaves-clean input output report old new outcome.Done leaves behind = from_held (holds old input) Whole input output report old new leaves
+Leaves-clean input output report old new (outcome.Capture name at fault) leaves behind = from_held (holds old input) (Faulty at fault) input output report old new leaves
+Leaves-clean input output report old new outcome.Usage leaves behind = absurd behind
+Leaves-clean input output report old new (outcome.Names name) leaves behind = absurd behind
+Leaves-clean input output report old new (outcome.Packets limit) leaves behind = absurd behind
+Leaves-clean input output report old new outcome.ReadFault leaves behind = absurd behind
+Leaves-clean input output report old new outcome.WriteFault leaves behind = absurd behind
+Leaves-clean input output report old new outcome.NoMemory leaves behind = absurd behind

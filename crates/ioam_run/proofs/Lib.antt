@@ -4,3 +4,5 @@ pub mod FilteringLaws
 pub mod FollowedLaws
 pub mod FilterLaws
 pub mod AskedLaws
+pub mod RunLaws
+pub mod ListingLaws

@@ -1,4 +1,4 @@
--- A capture that is read to its end while its records are gathered.
+-- A capture that is read to its end while texts are gathered of its records.
 use Rattle.std.specs.Prelude.{◌≡◌, ℕ, ◌+◌, ◌<◌, ◌≤◌, ◌^◌, List, Bool, Option, length}
 use Rattle.ioam_pcap.specs.Entries.{Entry}
 use Rattle.ioam_pcap.specs.Reading.{Reading}
@@ -6,22 +6,21 @@ use Rattle.ioam_pcap.specs.Reads.{Ending, Reads}
 use Rattle.ioam_pcap.specs.Reader.{Stands, link_of}
 use Rattle.ioam_pcap.specs.declared.form.Link.{Link}
 use Rattle.ioam_run.specs.Verdict.{is_ethernet}
-use Rattle.ioam_run.specs.Filtering.{Gathers}
-use Rattle.ioam_run.specs.declared.filtering.Filtering.{Filtering}
 
--- what was gathered is of the records that the reader has given of these octets
-pub record Follows (octets : List ℕ) (reader : Reading) (ethernet : Bool) (gathered : Filtering) : Type 0 where
-  pub entries : List Entry
-  pub stands : Stands reader octets entries
-  pub gathers : Gathers ethernet entries gathered
-  pub link_is : ethernet ≡ is_ethernet (link_of reader)
-  pub few : gathered.kept + gathered.dropped ≤ reader.start
-  pub fits : length octets < 2 ^ 63
+module _ {G : Type 0} (gathers : Bool → List Entry → G → Type 0) (count : G → ℕ) where
+  -- what was gathered is of the records that the reader has given of these octets
+  pub record Follows (octets : List ℕ) (reader : Reading) (ethernet : Bool) (gathered : G) : Type 0 where
+    pub entries : List Entry
+    pub stands : Stands reader octets entries
+    pub are_gathered : gathers ethernet entries gathered
+    pub link_is : ethernet ≡ is_ethernet (link_of reader)
+    pub few : count gathered ≤ reader.start
+    pub fits : length octets < 2 ^ 63
 
--- what was gathered is of all records of these octets, which end so
-pub record GathersReads (octets : List ℕ) (ending : Ending) (gathered : Filtering) : Type 0 where
-  pub link : Option Link
-  pub entries : List Entry
-  pub reads : Reads octets link entries ending
-  pub gathers : Gathers (is_ethernet link) entries gathered
-  pub few : gathered.kept + gathered.dropped ≤ length octets
+  -- what was gathered is of all records of these octets, which end so
+  pub record GathersReads (octets : List ℕ) (ending : Ending) (gathered : G) : Type 0 where
+    pub link : Option Link
+    pub entries : List Entry
+    pub reads : Reads octets link entries ending
+    pub are_gathered : gathers (is_ethernet link) entries gathered
+    pub few : count gathered ≤ length octets

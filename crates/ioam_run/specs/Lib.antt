@@ -4,6 +4,10 @@ pub mod FilterText
 pub mod Filtering
 pub mod Names
 pub mod Texts
+pub mod Run
+pub mod Input
 pub mod Filter
 pub mod Followed
 pub mod Answered
+pub mod PathsText
+pub mod Listing

@@ -35,10 +35,13 @@ is_ethernet None = false
 is_ethernet (Some Ethernet) = true
 is_ethernet (Some Raw) = false
 
+-- what a record of a capture gives: it is cut where it has fewer octets than the frame had
+abbrev pub entry_framing : Bool → Entry → Framing
+entry_framing ethernet entry = framing_of ethernet (nat_lt (length entry.octets) entry.original) entry.octets
+
 -- what becomes of one record of a capture
 abbrev pub HasVerdict : Bool → Entry → Verdict → Type 0
-HasVerdict ethernet entry verdict =
-    FramingVerdict (framing_of ethernet (nat_lt (length entry.octets) entry.original) entry.octets) verdict
+HasVerdict ethernet entry verdict = FramingVerdict (entry_framing ethernet entry) verdict
 
 -- what becomes of each
 abbrev pub AreVerdicts : Bool → List Entry → List Verdict → Type 0

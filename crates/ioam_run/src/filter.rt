@@ -1,28 +1,25 @@
 //! `filter IN OUT REPORT`: keeps the packets that may leave a domain.
-ghost use Rattle.std.specs.Prelude.{◌≡◌, ◌≢◌, ◌<◌, ◌^◌, ◌⊎◌, ◌∷◌, [], List, ℕ, false, IfOk, IsSomeAnd, IsTrue, length};
-ghost use Rattle.ioam_pcap.specs.Reader.{ending_of as ending};
+ghost use Rattle.std.specs.Prelude.{◌≡◌, ◌≢◌, ◌⊎◌, ◌∷◌, [], IfOk, IsSomeAnd, IsTrue, length};
 ghost use Rattle.ioam_desk.specs.Desk.{Rose, holds};
-ghost use Rattle.ioam_run.specs.Answered.{IsAnswered, FileCause};
-ghost use Rattle.ioam_run.specs.Filter.{HasCause, Asked, Leaves, IsBehindAll, IsCleanCapture, files_of, outcome_of};
+ghost use Rattle.ioam_pcap.specs.Reader.{ending_of as ending};
+ghost use Rattle.ioam_run.specs.Answered.{IsAnswered};
+ghost use Rattle.ioam_run.specs.Filter.{FilterTexts};
 ghost use Rattle.ioam_run.specs.FilterText.{Filtered};
-ghost use Rattle.ioam_run.specs.Followed.{Follows, GathersReads};
 ghost use Rattle.ioam_run.specs.Names.{name_at};
+ghost use Rattle.ioam_run.specs.Run.{HasCause, FileCause, Asked, Leaves, IsBehindAll, IsCleanCapture, file_names, input_name, output_names, outcome_of};
 ghost use Rattle.ioam_run.specs.Texts.{AsksFront};
 ghost use Rattle.ioam_run.specs.declared.outcome.Outcome.{Outcome};
 
 use crate::filtering::Filtering;
+use crate::gather::gather_octets;
+use crate::input::{end_outcome, names_outcome, read_input};
 use crate::names::first_repeat;
 use crate::outcome::Outcome;
 use crate::texts::write_texts;
 use ioam_base::memory::NoMemory;
-use ioam_desk::{Desk, DeskFault, Name, WholeFault, read_whole};
-use ioam_pcap::Link;
-use ioam_pcap::capture::{CapFault, CapStep};
-use ioam_pcap::reader::CaptureReader;
+use ioam_desk::{Desk, DeskFault, Name};
+use ioam_pcap::capture::CapFault;
 use std::alloc::Global;
-
-/// The most octets of IN.
-const MOST_OCTETS: usize = 67_108_864;
 
 /// The capture of the kept packets and the report, and the fault behind the records that were read.
 #[derive(Drop)]
@@ -35,32 +32,10 @@ struct Gathered {
 fn filter_octets(alloc: Global, octets: &[u8]) -> Result<Gathered, NoMemory>
     ensures { IfOk result (λ f. Filtered octets.now (ending f.fault) f.texts.out.items f.texts.report.items) }
 {
-    let mut reader = CaptureReader::new(alloc)?;
-    reader.feed(octets)?;
     let mut texts = Filtering::new(alloc)?;
-    let fault = filter_records(&mut reader, &mut texts)?;
+    let fault = gather_octets(alloc, octets, &mut texts)?;
     texts.finish()?;
     Ok(Gathered { texts, fault })
-}
-
-// Takes each record that was fed. The answer is the fault behind them, if there is one.
-fn filter_records(
-    reader: &mut CaptureReader,
-    texts: &mut Filtering,
-) -> Result<Option<(u64, CapFault)>, NoMemory>
-    ghost octets: { List ℕ }
-    requires { Follows octets reader.old false texts.old }
-    ensures { IfOk result (λ fault. GathersReads octets (ending fault) texts.new) }
-{
-    let mut ethernet = false;
-    'records: loop {
-        match reader.next() {
-            CapStep::Head { link } => ethernet = link == Link::Ethernet,
-            CapStep::Packet(packet) => texts.take(ethernet, &packet)?,
-            CapStep::More => return Ok(reader.finish()),
-            CapStep::Bad { at, fault } => return Ok(Some((at, fault))),
-        }
-    }
 }
 
 /// Runs `filter IN OUT REPORT`: OUT becomes the capture of the packets of IN whose header chain is
@@ -70,15 +45,14 @@ fn filter_records(
 /// an output is opened.
 pub fn run_filter<D: Desk>(alloc: Global, words: &[Name], desk: &mut D) -> Outcome
     requires { length words.now ≡ 4 }
-    ensures cause { HasCause D.tells (files_of words.now) (D.reading desk.old) (D.writing desk.old)
+    ensures cause { HasCause D.tells (file_names words.now) (input_name words.now) (D.reading desk.old) (D.writing desk.old)
         (D.reading desk.new) (D.writing desk.new) result }
-    ensures leaves { IsTrue D.tells → Leaves (D.writing desk.old) (D.writing desk.new) (files_of words.now) result }
-    ensures asked_in { AsksFront (D.reading desk.old).side.asked (D.reading desk.new).side.asked
-        (name_at words.now 1 ∷ []) }
-    ensures asked_out { AsksFront (D.writing desk.old).side.asked (D.writing desk.new).side.asked
-        (name_at words.now 2 ∷ name_at words.now 3 ∷ []) }
+    ensures leaves { IsTrue D.tells → Leaves FilterTexts (input_name words.now) (output_names words.now)
+        (D.writing desk.old) (D.writing desk.new) result }
+    ensures asked_in { AsksFront (D.reading desk.old).side.asked (D.reading desk.new).side.asked (input_name words.now ∷ []) }
+    ensures asked_out { AsksFront (D.writing desk.old).side.asked (D.writing desk.new).side.asked (output_names words.now) }
     // What is asked for is answered, unless a call of the desk failed or no memory could be had.
-    ensures exact { (asked : Outcome) → IsTrue D.tells → Asked D.tells (D.writing desk.old) (files_of words.now) asked
+    ensures exact { (asked : Outcome) → IsTrue D.tells → Asked D.tells (D.writing desk.old) (file_names words.now) (input_name words.now) asked
         → (Rose (D.reading desk.old).side.faults (D.reading desk.new).side.faults → ⊥)
         → (Rose (D.writing desk.old).side.faults (D.writing desk.new).side.faults → ⊥)
         → (result ≡ asked) ⊎ (result ≡ Outcome.NoMemory) }
@@ -94,13 +68,12 @@ pub fn run_filter<D: Desk>(alloc: Global, words: &[Name], desk: &mut D) -> Outco
 // The run of `filter`, before what follows from its answer is said of it.
 fn filter_words<D: Desk>(alloc: Global, words: &[Name], desk: &mut D) -> Outcome
     requires { length words.now ≡ 4 }
-    ensures cause { HasCause D.tells (files_of words.now) (D.reading desk.old) (D.writing desk.old)
+    ensures cause { HasCause D.tells (file_names words.now) (input_name words.now) (D.reading desk.old) (D.writing desk.old)
         (D.reading desk.new) (D.writing desk.new) result }
-    ensures leaves { IsTrue D.tells → Leaves (D.writing desk.old) (D.writing desk.new) (files_of words.now) result }
-    ensures asked_in { AsksFront (D.reading desk.old).side.asked (D.reading desk.new).side.asked
-        (name_at words.now 1 ∷ []) }
-    ensures asked_out { AsksFront (D.writing desk.old).side.asked (D.writing desk.new).side.asked
-        (name_at words.now 2 ∷ name_at words.now 3 ∷ []) }
+    ensures leaves { IsTrue D.tells → Leaves FilterTexts (input_name words.now) (output_names words.now)
+        (D.writing desk.old) (D.writing desk.new) result }
+    ensures asked_in { AsksFront (D.reading desk.old).side.asked (D.reading desk.new).side.asked (input_name words.now ∷ []) }
+    ensures asked_out { AsksFront (D.writing desk.old).side.asked (D.writing desk.new).side.asked (output_names words.now) }
     ensures drained { IsBehindAll result → IsTrue D.tells → IsTrue ((D.reading desk.new).ended (D.reading desk.old).side.slots) }
 {
     let [_, input, output, report] = words else {
@@ -112,7 +85,7 @@ fn filter_words<D: Desk>(alloc: Global, words: &[Name], desk: &mut D) -> Outcome
     }
 }
 
-// Filters IN, whose name is none of those of the outputs, which differ.
+// Filters IN into two outputs whose names differ.
 fn filter_file<D: Desk>(
     alloc: Global,
     desk: &mut D,
@@ -121,25 +94,21 @@ fn filter_file<D: Desk>(
     report: &Name,
 ) -> Outcome
     requires { output.now ≢ report.now }
-    ensures cause { FileCause D.tells (record { input = input.now; output = output.now; report = report.now })
-        (D.reading desk.old) (D.writing desk.old) (D.reading desk.new) (D.writing desk.new) result }
-    ensures leaves { IsTrue D.tells → Leaves (D.writing desk.old) (D.writing desk.new)
-        (record { input = input.now; output = output.now; report = report.now }) result }
+    ensures cause { FileCause D.tells input.now (D.reading desk.old) (D.writing desk.old) (D.reading desk.new) (D.writing desk.new) result }
+    ensures leaves { IsTrue D.tells → Leaves FilterTexts input.now (output.now ∷ report.now ∷ [])
+        (D.writing desk.old) (D.writing desk.new) result }
     ensures asked_in { AsksFront (D.reading desk.old).side.asked (D.reading desk.new).side.asked (input.now ∷ []) }
     ensures asked_out { AsksFront (D.writing desk.old).side.asked (D.writing desk.new).side.asked
         (output.now ∷ report.now ∷ []) }
     ensures drained { IsBehindAll result → IsTrue D.tells → IsTrue ((D.reading desk.new).ended (D.reading desk.old).side.slots) }
 {
-    match read_whole(alloc, desk, input.text(), MOST_OCTETS) {
-        Ok(octets) => match filter_octets(alloc, &octets) {
-            Ok(gathered) => write_filtered(alloc, desk, input, output, report, &gathered),
-            Err(NoMemory) => Outcome::NoMemory,
-        },
-        Err(WholeFault::Failed) => Outcome::ReadFault,
-        Err(WholeFault::TooLong { .. }) => Outcome::Packets {
-            limit: MOST_OCTETS as u32,
-        },
-        Err(WholeFault::NoMemory) => Outcome::NoMemory,
+    let octets = match read_input(alloc, desk, input) {
+        Ok(octets) => octets,
+        Err(outcome) => return outcome,
+    };
+    match filter_octets(alloc, &octets) {
+        Ok(gathered) => write_filtered(alloc, desk, input, output, report, &gathered),
+        Err(_) => Outcome::NoMemory,
     }
 }
 
@@ -153,9 +122,8 @@ fn write_filtered<D: Desk>(
     gathered: &Gathered,
 ) -> Outcome
     requires { output.now ≢ report.now }
-    ensures answered { IsAnswered D.tells (D.writing desk.old) (D.writing desk.new)
-        output.now gathered.now.texts.out.items report.now gathered.now.texts.report.items
-        (outcome_of input.now (ending gathered.now.fault)) result }
+    ensures answered { IsAnswered D.tells (D.writing desk.old) (D.writing desk.new) (output.now ∷ report.now ∷ [])
+        (gathered.now.texts.out.items ∷ gathered.now.texts.report.items ∷ []) (outcome_of input.now (ending gathered.now.fault)) result }
     ensures asked { AsksFront (D.writing desk.old).side.asked (D.writing desk.new).side.asked
         (output.now ∷ report.now ∷ []) }
     ensures inputs { D.reading desk.new ≡ D.reading desk.old }
@@ -174,30 +142,5 @@ fn write_filtered<D: Desk>(
         Ok(()) => answer,
         Err(DeskFault::Failed) => Outcome::WriteFault,
         Err(DeskFault::NoMemory) => Outcome::NoMemory,
-    }
-}
-
-// The answer behind all records of IN, of which the last may be faulty.
-fn end_outcome(
-    alloc: Global,
-    name: &Name,
-    fault: Option<(u64, CapFault)>,
-) -> Result<Outcome, NoMemory>
-    ensures { IfOk result (λ answer. answer ≡ outcome_of name.now (ending fault)) }
-{
-    let Some((at, fault)) = fault else {
-        return Ok(Outcome::Done);
-    };
-    let name = Name::new(alloc, name.text())?;
-    Ok(Outcome::Capture { name, at, fault })
-}
-
-// The answer that this name equals an earlier one.
-fn names_outcome(alloc: Global, name: &Name) -> Outcome
-    ensures { (result ≡ Outcome.Names name.now) ⊎ (result ≡ Outcome.NoMemory) }
-{
-    match Name::new(alloc, name.text()) {
-        Ok(name) => Outcome::Names { name },
-        Err(_) => Outcome::NoMemory,
     }
 }

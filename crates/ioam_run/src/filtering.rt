@@ -5,6 +5,7 @@ ghost use Rattle.ioam_pcap.specs.Reader.{entry_of};
 ghost use Rattle.ioam_run.specs.FilterText.{verdict_line, sums_line};
 ghost use Rattle.ioam_run.specs.Verdict.{Verdict};
 
+use crate::gather::Gather;
 use crate::judge::{Judgement, judge};
 use crate::reason::Reason;
 use ioam_base::memory::NoMemory;
@@ -40,14 +41,24 @@ impl Filtering {
         })
     }
 
-    /// Takes the next record.
-    pub fn take(&mut self, ethernet: bool, packet: &Packet<'_>) -> Result<(), NoMemory>
-        requires short { length packet.now.octets.now ≤ most }
-        requires few { self.old.kept + self.old.dropped < 2 ^ 63 }
-        ensures gathers { OnOk result ((entries : List Entry) → Gathers ethernet entries self.old
-            → Gathers ethernet (entries ++ entry_of packet.now ∷ []) self.new) }
-        ensures counted { OnOk result (self.new.kept + self.new.dropped ≡ self.old.kept + self.old.dropped + 1) }
+    /// Ends the report with its sums.
+    pub fn finish(&mut self) -> Result<(), NoMemory>
+        requires { self.old.kept + self.old.dropped < 2 ^ 63 }
+        ensures { OnOk result ((ethernet : _) (entries : List Entry) → Gathers ethernet entries self.old
+            → GathersAll ethernet entries self.new) }
     {
+        put_sums(self.kept, self.dropped, &mut self.report)
+    }
+}
+
+impl Gather for Filtering {
+    ghost use Rattle.ioam_run.specs.Filtering.{Gathers, Gathers-any_link, taken};
+
+    ghost gathers = { Gathers };
+
+    ghost count = { taken };
+
+    fn take(&mut self, ethernet: bool, packet: &Packet<'_>) -> Result<(), NoMemory> {
         let number = self.kept + self.dropped + 1;
         match judge(ethernet, packet) {
             Judgement::Kept(octets) => {
@@ -63,14 +74,7 @@ impl Filtering {
         Ok(())
     }
 
-    /// Ends the report with its sums.
-    pub fn finish(&mut self) -> Result<(), NoMemory>
-        requires { self.old.kept + self.old.dropped < 2 ^ 63 }
-        ensures { OnOk result ((ethernet : _) (entries : List Entry) → Gathers ethernet entries self.old
-            → GathersAll ethernet entries self.new) }
-    {
-        put_sums(self.kept, self.dropped, &mut self.report)
-    }
+    ghost any_link = { Gathers-any_link };
 }
 
 // `N kept`

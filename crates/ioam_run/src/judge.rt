@@ -5,8 +5,9 @@ ghost use Rattle.ioam_pcap.specs.Reader.{entry_of};
 ghost use Rattle.ioam_run.specs.Verdict.{HasVerdict, PacketVerdict};
 ghost use Rattle.ioam_run.specs.Judgement.{verdict_of, IsWithin};
 
+use crate::frame::framed;
 use crate::reason::Reason;
-use ioam_ip::{Framed, Walk, packet_of, walk};
+use ioam_ip::{Framed, Walk, walk};
 use ioam_pcap::capture::Packet;
 
 /// A frame's packet that is kept, or the first reason why the frame is dropped.
@@ -22,8 +23,7 @@ pub fn judge<'a>(ethernet: bool, packet: &Packet<'a>) -> Judgement<'a>
     ensures verdict { HasVerdict ethernet (entry_of packet.now) (verdict_of result) }
     ensures within { IsWithin (verdict_of result) packet.now.octets.now }
 {
-    let cut = (packet.octets.len() as u64) < u64::from(packet.original);
-    match packet_of(ethernet, cut, packet.octets) {
+    match framed(ethernet, packet) {
         Framed::Packet(octets) => judge_packet(octets),
         Framed::NotIpv6 => Judgement::Dropped(Reason::NotIpv6),
         Framed::Cut => Judgement::Dropped(Reason::Cut),

@@ -3,11 +3,17 @@
 
 mod filter;
 mod filtering;
+mod frame;
+mod gather;
+mod input;
 mod judge;
+mod listing;
 mod names;
 mod outcome;
+mod paths;
 mod reason;
 mod texts;
 
 pub use filter::run_filter;
 pub use outcome::Outcome;
+pub use paths::run_paths;

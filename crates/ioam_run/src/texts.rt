@@ -1,10 +1,27 @@
-//! Two outputs, each written whole.
+//! Outputs, each opened and then written whole.
 ghost use Rattle.std.specs.Prelude.{◌≡◌, ◌≢◌, ◌<◌, ◌+◌, ◌∷◌, ◌++◌, [], List, Some, IsTrue, OnOk, IfOk, IfErr, OnErr};
 ghost use Rattle.ioam_base.specs.Octets.{IsFront};
 ghost use Rattle.ioam_desk.specs.Desk.{holds, Grows};
 ghost use Rattle.ioam_run.specs.Texts.{AsksFront, HoldsFront, IsFaultOf, OpensTwo, OpensOne, WroteFront};
 
 use ioam_desk::{Desk, DeskFault, WriteAll, write_all};
+
+/// Opens one output, and writes it whole.
+pub fn write_one_text<D: Desk>(desk: &mut D, name: &str, text: &[u8]) -> Result<(), DeskFault>
+    ensures written { OnOk result (IsTrue D.tells → holds (D.writing desk.new) name.now ≡ Some text.now) }
+    ensures front { IsTrue D.tells → HoldsFront (D.writing desk.old) (D.writing desk.new) 0 name.now text.now }
+    ensures asked { AsksFront (D.writing desk.old).side.asked (D.writing desk.new).side.asked (name.now ∷ []) }
+    ensures cause { IfErr result (IsFaultOf (D.writing desk.old).side (D.writing desk.new).side) }
+    ensures inputs { D.reading desk.new ≡ D.reading desk.old }
+{
+    match desk.open_out(name) {
+        Ok(slot) => match write_text(desk, slot, text) {
+            Ok(()) => Ok(()),
+            Err(fault) => Err(fault),
+        },
+        Err(fault) => Err(fault),
+    }
+}
 
 /// Opens two outputs, and then writes each whole.
 pub fn write_texts<D: Desk>(

@@ -43,9 +43,9 @@ module _ (kind node_len : ℕ) (used : List ℕ) where
   pub size_at-in_words : (at : ℕ) → size_at kind node_len used at % 4 ≡ 0
   size_at-in_words at = words_either (has kind 22) (get_or used (at + 4 * node_len) 0)
     where
-    words_either : (b : Bool) (data_words : ℕ) → (4 * node_len + cond b (4 + 4 * data_words) 0) % 4 ≡ 0
-    words_either true data_words = omega arith
-    words_either false data_words = omega arith
+      words_either : (b : Bool) (data_words : ℕ) → (4 * node_len + cond b (4 + 4 * data_words) 0) % 4 ≡ 0
+      words_either true data_words = omega arith
+      words_either false data_words = omega arith
 
   pub Runs-in_words : (from : ℕ) (xs : List (List ℕ)) (to : ℕ) → Runs kind node_len used from xs to → from % 4 ≡ 0 → to % 4 ≡ 0
   Runs-in_words from [] to runs here = omega (arith, runs)

@@ -1,5 +1,5 @@
 -- Laws of the octets of a trace that nodes filled.
-use Rattle.std.proofs.Common.{◌≡◌, ◌≢◌, ℕ, zero, suc, ◌+◌, ◌*◌, ◌-◌, ◌/◌, ◌%◌, ◌<◌, ◌≤◌, Bool, true, false, cond, List, [], ◌∷◌, ◌++◌, length, take, drop, get_or, reverse, replicate, append_assoc, arith, refl, sym, ap, ◌∙◌, subst, Option, Some, None, inl, inr}
+use Rattle.std.proofs.Common.{◌≡◌, ◌≢◌, ℕ, zero, suc, ◌+◌, ◌*◌, ◌-◌, ◌/◌, ◌%◌, ◌<◌, ◌≤◌, Bool, true, false, cond, List, [], ◌∷◌, ◌++◌, length, take, drop, get_or, reverse, replicate, append_assoc, arith, refl, sym, ap, ◌∙◌, subst, Option, Some, None, Result, Ok, Err, inl, inr}
 use Rattle.std.specs.Prelude.{IfSome, sum_by, nat_le, nat_lt, All, if◌then◌else◌}
 use Rattle.std.specs.List.{concat}
 use Rattle.std.specs.Int.{w16, w32, to_be_bytes}
@@ -13,16 +13,24 @@ use Rattle.ioam_data.specs.Kind.{words, can_add}
 use Rattle.ioam_data.specs.Elements.{size_at, IsElement}
 use Rattle.ioam_data.specs.View.{Seen}
 use Rattle.ioam_data.specs.Written.{element_of, element_words}
-use Rattle.ioam_data.proofs.KindLaws.{words-small, can_add-words}
+use Rattle.ioam_data.proofs.KindLaws.{words-small, is_entry_type-can_add, can_add-fits}
 use Rattle.ioam_data.specs.Snapshot.{IsSnapshot}
 use Rattle.ioam_data.proofs.ElementLaws.{IsElement-element_of, length-element_of}
 use Rattle.ioam_trace.specs.Data.{header, words_in, recorded, is_over, free_words, area, trace_data, CanHold}
+use Rattle.ioam_trace.specs.Recorded.{ReadsRecorded, ReadsAgain}
+use Rattle.ioam_trace.specs.Area.{Holds}
+use Rattle.ioam_trace.specs.Read.{IsHead, Carries, Reads, elements_in, fault_of, elements_behind}
+use Rattle.ioam_trace.specs.declared.head.TraceHead.{TraceHead}
+use Rattle.ioam_trace.specs.declared.trace.Trace.{Trace}
+use Rattle.ioam_trace.specs.declared.fault.TraceFault.{TraceFault}
+use Rattle.ioam_trace.proofs.ConcatLaws.{All-reverse, Holds-concat}
+use Rattle.ioam_trace.proofs.ReadLaws.{fault_of-Carries, fault_of-HasFault, elements_behind-Carries}
 use Rattle.ioam_trace.specs.Filling.{Filling, IsOpen, IsSuited, words_to_add, with_lengths, less_remaining}
-use Rattle.ioam_trace.specs.Head.{node_len_of, overflow_of, remaining_of, kind_of}
+use Rattle.ioam_trace.specs.Head.{node_len_of, flags_of, overflow_of, remaining_of, kind_of}
 use Rattle.ioam_trace.specs.declared.filled.Filled.{Filled}
 use Rattle.ioam_trace.specs.declared.filled.Filled.TheVariants.{Added, Overflowed, AlreadyOver, Unsuited}
 use Rattle.ioam_trace.proofs.AreaLaws.{size_at-in_words}
-use Rattle.ioam_trace.proofs.HeadLaws.{lengths-header, node_len_of-header, overflow_of-header, remaining_of-header, kind_of-header}
+use Rattle.ioam_trace.proofs.HeadLaws.{IsHead-octets, lengths-header, node_len_of-header, overflow_of-header, remaining_of-header, kind_of-header}
 use Rattle.ioam_trace.proofs.RecordedLaws.{total, total-cons, total-push, recorded-fits, recorded-all, total-recorded, recorded-push_over, recorded-push_not, recorded-push_fits, length-recorded}
 
 -- ---- lists
@@ -32,8 +40,8 @@ written-at : (front old part rest : List ℕ) (at : ℕ) → length front ≡ at
     → written (front ++ (old ++ rest)) at part ≡ front ++ (part ++ rest)
 written-at front old part rest at is_at same =
     let place : drop (at + length part) (front ++ (old ++ rest)) ≡ rest =
-        ap (λ n. drop (n + length part) (front ++ (old ++ rest))) (sym is_at)
-        ∙ drop-append-add front (old ++ rest) (length part) ∙ drop_at old rest (length part) same in
+    ap (λ n. drop (n + length part) (front ++ (old ++ rest))) (sym is_at)
+    ∙ drop-append-add front (old ++ rest) (length part) ∙ drop_at old rest (length part) same in
     ap (λ ys. ys ++ (part ++ drop (at + length part) (front ++ (old ++ rest)))) (take_at front (old ++ rest) at is_at)
     ∙ ap (λ ys. front ++ (part ++ ys)) place
 
@@ -69,10 +77,10 @@ All-recorded P capacity [] all = all
 All-recorded P capacity (e ∷ es) all =
     all_either (nat_le (words_in e) capacity) (All-recorded P (capacity - words_in e) es (All-rest P e es all))
   where
-  all_either : (b : Bool) → All P (recorded (capacity - words_in e) es) → All P (cond b (e ∷ recorded (capacity - words_in e) es) [])
-  all_either true rest zero d below = All-first P e es all
-  all_either true rest (suc k) d below = rest k d (omega arith)
-  all_either false rest k d below = absurd (omega arith)
+    all_either : (b : Bool) → All P (recorded (capacity - words_in e) es) → All P (cond b (e ∷ recorded (capacity - words_in e) es) [])
+    all_either true rest zero d below = All-first P e es all
+    all_either true rest (suc k) d below = rest k d (omega arith)
+    all_either false rest k d below = absurd (omega arith)
 
 -- ---- the octets by the elements that are recorded
 
@@ -88,6 +96,10 @@ trace_data-is namespace kind capacity es = refl
 
 split_zeros : (free width : ℕ) → width ≤ free → 4 * free ≡ 4 * (free - width) + 4 * width
 split_zeros free width within = omega arith
+
+one_or_none : (b : Bool) → cond b 8 0 / 8 ≡ cond b 1 0
+one_or_none true = refl
+one_or_none false = refl
 
 eight_or_none : (b : Bool) → cond b 8 0 < 16
 eight_or_none true = omega arith
@@ -133,8 +145,8 @@ module _ (namespace kind capacity : ℕ) (elements : List (List ℕ)) (namespace
     length_is : length written_data ≡ 8 + (4 * free + 4 * total elements)
     length_is =
         let long : length behind_header ≡ 4 * free + 4 * total elements =
-            length-append (replicate (4 * free) 0) (concat (reverse elements))
-            ∙ omega (arith, length-replicate {A = ℕ} (4 * free) 0, length-concat kind (words kind) elements all) in
+        length-append (replicate (4 * free) 0) (concat (reverse elements))
+        ∙ omega (arith, length-replicate {A = ℕ} (4 * free) 0, length-concat kind (words kind) elements all) in
         omega (arith, long)
 
     is_suited : IsSuited written_data
@@ -189,19 +201,19 @@ module _ (namespace kind capacity : ℕ) (elements : List (List ℕ)) (namespace
       let amount_is : amount ≡ width = filling.2 ∙ to_add_is false view in
       let number : u16_at (written_data false) 2 - amount ≡ words kind * 2048 + 0 * 128 + left = omega (arith, lengths_are false, amount_is) in
       let zeros : behind_header ≡ replicate (4 * left) 0 ++ (replicate (4 * width) 0 ++ others) =
-          ap (λ n. replicate n 0 ++ others) (split_zeros free width within)
-          ∙ ap (λ xs. xs ++ others) (sym (replicate-append-replicate (4 * left) (4 * width) 0))
-          ∙ append_assoc (replicate (4 * left) 0) (replicate (4 * width) 0) others in
+      ap (λ n. replicate n 0 ++ others) (split_zeros free width within)
+      ∙ ap (λ xs. xs ++ others) (sym (replicate-append-replicate (4 * left) (4 * width) 0))
+      ∙ append_assoc (replicate (4 * left) 0) (replicate (4 * width) 0) others in
       let lowered : less_remaining (written_data false) amount ≡ with_zeros left (replicate (4 * width) 0 ++ others) =
-          ap (λ n. with_lengths (written_data false) n) number
-          ∙ ap (λ xs. header namespace (words kind) 0 left kind 0 ++ xs) zeros in
+      ap (λ n. with_lengths (written_data false) n) number
+      ∙ ap (λ xs. header namespace (words kind) 0 left kind 0 ++ xs) zeros in
       let place : 8 + 4 * (remaining_of (written_data false) - amount) ≡ 8 + 4 * left = omega (arith, remaining_is false, amount_is) in
       let written_element : element_of (kind_of (written_data false)) (node_len_of (written_data false)) view ≡ e =
-          ap (λ n. element_of n (node_len_of (written_data false)) view) (kind_is false) ∙ ap (λ n. element_of kind n view) (node_len_is false) in
+      ap (λ n. element_of n (node_len_of (written_data false)) view) (kind_is false) ∙ ap (λ n. element_of kind n view) (node_len_is false) in
       let front = header namespace (words kind) 0 left kind 0 ++ replicate (4 * left) 0 in
       let front_long : length front ≡ 8 + 4 * left = omega (arith, length-replicate {A = ℕ} (4 * left) 0) in
       let done : written (with_zeros left (replicate (4 * width) 0 ++ others)) (8 + 4 * left) e ≡ with_zeros left (e ++ others) =
-          written-at front (replicate (4 * width) 0) e others (8 + 4 * left) front_long (length-replicate (4 * width) 0 ∙ sym long) in
+      written-at front (replicate (4 * width) 0) e others (8 + 4 * left) front_long (length-replicate (4 * width) 0 ∙ sym long) in
       let width_is : words_in e ≡ width = omega (arith, long, words_in-IsElement kind (words kind) e element) in
       let rest_free : capacity - total (elements ++ e ∷ []) ≡ left = omega (arith, total-push elements e) in
       let joined : concat (reverse (elements ++ e ∷ [])) ≡ e ++ others = ap concat (reverse-push elements e) in
@@ -212,6 +224,92 @@ module _ (namespace kind capacity : ℕ) (elements : List (List ℕ)) (namespace
       ∙ done
       ∙ sym (ap (λ n. with_zeros n (concat (reverse (elements ++ e ∷ [])))) rest_free ∙ ap (λ xs. with_zeros left xs) joined)
 
+-- the words behind the free ones are those that were recorded
+used_is : (namespace kind capacity : ℕ) (over : Bool) (es : List (List ℕ))
+    → drop (8 + 4 * (capacity - total es)) (data_of namespace kind capacity over es) ≡ concat (reverse es)
+used_is namespace kind capacity over es =
+    let free = capacity - total es in
+    let front = header namespace (words kind) (if over then 8 else 0) free kind 0 ++ replicate (4 * free) 0 in
+    drop_at front (concat (reverse es)) (8 + 4 * free) (omega (arith, length-replicate {A = ℕ} (4 * free) 0))
+
+-- what was recorded is read again, in the order in which it was added
+pub ReadsRecorded-CanHold : (namespace kind capacity : ℕ) (es : List (List ℕ)) → CanHold namespace kind capacity es
+    → ReadsRecorded namespace kind capacity es
+ReadsRecorded-CanHold namespace kind capacity es holds =
+    let kept = recorded capacity es in
+    let over = is_over capacity es in
+    let flags = cond over 8 0 in
+    let free = capacity - total kept in
+    let octets = data_of namespace kind capacity over kept in
+    let rest = replicate (4 * free) 0 ++ concat (reverse kept) in
+    let can : can_add kind (words kind) ≡ true = is_entry_type-can_add kind holds.entry in
+    let all = All-recorded (IsElement kind (words kind)) capacity es holds.elements in
+    let below : capacity < 128 = omega (arith, holds.capacity_below) in
+    let fits = recorded-fits capacity es in
+    let words_below : words kind < 32 = omega (arith, words-small kind) in
+    let free_below : free < 128 = omega arith in
+    let flags_below : flags < 16 = eight_or_none over in
+    let head : TraceHead = record {
+      namespace = record { 0 = namespace };
+      node_len = words kind;
+      flags = flags;
+      remaining = free;
+      kind = kind;
+      reserved = 0;
+      node_len_below = words_below;
+      flags_below = flags_below;
+      remaining_below = free_below;
+    } in
+    let is_head : IsHead octets head = IsHead-octets head rest holds.namespace_below holds.kind_below (omega arith) in
+    let P : List ℕ → Type 0 = λ xs. Holds kind (words kind) xs kept in
+    let carries : Carries free octets head kept = record {
+      begins = omega arith;
+      is_head = is_head;
+      fits = can_add-fits kind (words kind) can;
+      space = omega (arith, length_is namespace kind capacity kept holds.namespace_below holds.kind_below below can fits all over);
+      holds = subst P (sym (used_is namespace kind capacity over kept))
+          (Holds-concat kind (words kind) kept (All-reverse (IsElement kind (words kind)) kept all));
+    } in
+    let is = trace_data-is namespace kind capacity es in
+    let remaining = remaining_is namespace kind capacity kept holds.namespace_below holds.kind_below below can fits all over in
+    let Q : List ℕ → Type 0 = λ xs. (u16_at xs 0 ≡ namespace) × (kind_of xs ≡ kind) × (overflow_of xs ≡ cond over 1 0)
+    × (fault_of (remaining_of xs) xs ≡ None) × (elements_behind (remaining_of xs) xs ≡ kept) in
+    let read = subst Q (sym is) (
+      sym is_head.namespace,
+      sym is_head.kind,
+      overflow_is namespace kind capacity kept holds.namespace_below holds.kind_below below can fits all over ∙ one_or_none over,
+      ap (λ n. fault_of n octets) remaining ∙ fault_of-Carries free octets head kept carries,
+      ap (λ n. elements_behind n octets) remaining ∙ elements_behind-Carries free octets head kept carries,
+    ) in
+    record {
+      namespace_is = read.0;
+      kind_is = read.1;
+      overflow_is = read.2;
+      no_fault = read.3;
+      elements = read.4;
+    }
+
+pub ReadsAgain-Reads : (octets : List ℕ) (result : Result Trace TraceFault) → Reads octets result → ReadsAgain octets result
+ReadsAgain-Reads octets (Ok trace) reads namespace kind capacity es holds is =
+    let recorded_is = ReadsRecorded-CanHold namespace kind capacity es holds in
+    let head = reads.0.is_head in
+    let P : ℕ → Type 0 = λ free. Carries free octets trace.head (elements_in trace) in
+    let carries = subst P head.remaining reads.0 in (
+      head.namespace ∙ ap (λ xs. u16_at xs 0) is ∙ recorded_is.namespace_is,
+      head.kind ∙ ap kind_of is ∙ recorded_is.kind_is,
+      overflow_flag trace.head.flags octets head.flags ∙ ap overflow_of is ∙ recorded_is.overflow_is,
+      sym (elements_behind-Carries (remaining_of octets) octets trace.head (elements_in trace) carries)
+          ∙ ap (λ xs. elements_behind (remaining_of xs) xs) is ∙ recorded_is.elements,
+    )
+  where
+    overflow_flag : (flags : ℕ) (octets : List ℕ) → flags ≡ flags_of octets → flags / 8 ≡ overflow_of octets
+    overflow_flag flags octets is = omega arith
+ReadsAgain-Reads octets (Err fault) reads namespace kind capacity es holds is =
+    let recorded_is = ReadsRecorded-CanHold namespace kind capacity es holds in
+    let some = fault_of-HasFault (remaining_of octets) octets fault reads in
+    let none = ap (λ xs. fault_of (remaining_of xs) xs) is ∙ recorded_is.no_fault in
+    absurd (cc)
+
 -- what a node leaves of a trace that holds the elements of the nodes before it
 pub trace_data-Filling : (namespace kind capacity : ℕ) (es : List (List ℕ)) (view : Seen) (new : List ℕ) (answer : Filled)
     → CanHold namespace kind capacity es → IfSome view.snapshot (λ s. IsSnapshot s.0 s.1)
@@ -219,7 +317,7 @@ pub trace_data-Filling : (namespace kind capacity : ℕ) (es : List (List ℕ)) 
     → new ≡ trace_data namespace kind capacity (es ++ element_of kind (words kind) view ∷ [])
 trace_data-Filling namespace kind capacity es view new answer holds snapshot filling =
     let e = element_of kind (words kind) view in
-    let can : can_add kind (words kind) ≡ true = can_add-words kind holds.entry.defined holds.entry.some in
+    let can : can_add kind (words kind) ≡ true = is_entry_type-can_add kind holds.entry in
     let width = element_words kind (words kind) view in
     let element : IsElement kind (words kind) e = IsElement-element_of kind (words kind) view holds.kind_below can snapshot in
     let long : length e ≡ 4 * width = length-element_of kind (words kind) view (omega arith) snapshot in
@@ -235,7 +333,7 @@ trace_data-Filling namespace kind capacity es view new answer holds snapshot fil
           let flag_after : is_over capacity (es ++ e ∷ []) ≡ true = lt-ltb _ _ (omega (arith, ap length same)) in
           let at_true = subst (λ b. Filling (data_of namespace kind capacity b (recorded capacity es)) view new answer) flag by_record in
           stays_over namespace kind capacity (recorded capacity es) holds.namespace_below holds.kind_below (omega (arith, holds.capacity_below)) can
-            (recorded-fits capacity es) (All-recorded (IsElement kind (words kind)) capacity es holds.elements) view new answer at_true
+          (recorded-fits capacity es) (All-recorded (IsElement kind (words kind)) capacity es holds.elements) view new answer at_true
           ∙ sym (back ∙ ap (λ b. data_of namespace kind capacity b (recorded capacity (es ++ e ∷ []))) flag_after ∙ ap (data_of namespace kind capacity true) same)
       | inr none_over ↦
           let fits : total es ≤ capacity = total-recorded capacity es none_over in

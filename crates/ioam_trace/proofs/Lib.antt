@@ -3,3 +3,4 @@ pub mod ReadLaws
 pub mod RecordedLaws
 pub mod HeadLaws
 pub mod DataLaws
+pub mod ConcatLaws

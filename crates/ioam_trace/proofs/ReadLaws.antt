@@ -139,15 +139,17 @@ pub DecodesAgain-Decodes : (octets : List ℕ) (result : Result Incremental Trac
 DecodesAgain-Decodes octets (Ok trace) decodes head area es header fits holds is =
     let P : List ℕ → Type 0 = λ xs. IsHead xs head in
     let mine : IsHead octets head = subst P (sym is) (IsHead-octets head area header.namespace_below header.kind_below header.reserved_below) in
-    let read = decodes.0.is_head in
-    (record {
-      namespace = read.namespace ∙ sym mine.namespace;
-      node_len = read.node_len ∙ sym mine.node_len;
-      flags = read.flags ∙ sym mine.flags;
-      remaining = read.remaining ∙ sym mine.remaining;
-      kind = read.kind ∙ sym mine.kind;
-      reserved = read.reserved ∙ sym mine.reserved;
-    }, decodes.1 ∙ ap (λ xs. drop 8 xs) is)
+    let read = decodes.0.is_head in (
+      record {
+        namespace = read.namespace ∙ sym mine.namespace;
+        node_len = read.node_len ∙ sym mine.node_len;
+        flags = read.flags ∙ sym mine.flags;
+        remaining = read.remaining ∙ sym mine.remaining;
+        kind = read.kind ∙ sym mine.kind;
+        reserved = read.reserved ∙ sym mine.reserved;
+      },
+      decodes.1 ∙ ap (λ xs. drop 8 xs) is,
+    )
 DecodesAgain-Decodes octets (Err fault) decodes head area es header fits holds is =
     let Q : List ℕ → Type 0 = λ xs. Carries 0 xs head es in
     let carries : Carries 0 octets head es = subst Q (sym is) (record {

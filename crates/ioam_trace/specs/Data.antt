@@ -2,7 +2,7 @@
 use Rattle.std.specs.Prelude.{ℕ, ◌+◌, ◌-◌, ◌*◌, ◌/◌, ◌≡◌, ◌<◌, ◌≤◌, Bool, true, false, nat_le, nat_lt, if◌then◌else◌, List, [], ◌∷◌, ◌++◌, length, reverse, replicate, sum_by, All}
 use Rattle.std.specs.List.{concat}
 use Rattle.std.specs.Int.{w16, w32, to_be_bytes}
-use Rattle.ioam_data.specs.Kind.{has, words, undefined}
+use Rattle.ioam_data.specs.Kind.{words, is_entry_type}
 use Rattle.ioam_data.specs.Elements.{IsElement}
 use Rattle.ioam_trace.specs.declared.head.TraceHead.{TraceHead}
 
@@ -14,12 +14,6 @@ header namespace node_len flags remaining kind reserved = to_be_bytes w16 namesp
 
 abbrev pub head_octets : TraceHead → List ℕ
 head_octets head = header head.namespace.0 head.node_len head.flags head.remaining head.kind head.reserved
-
--- a type that an entry node writes: only bits 0 to 11 and 22, and one of them or more
-pub record IsEntryType (kind : ℕ) : Type 0 where
-  pub defined : undefined kind ≡ 0
-  pub unreserved : has kind 23 ≡ false
-  pub some : 1 < kind
 
 -- the words of an element
 abbrev pub words_in : List ℕ → ℕ
@@ -55,6 +49,6 @@ trace_data namespace kind capacity elements =
 pub record CanHold (namespace kind capacity : ℕ) (given : List (List ℕ)) : Type 0 where
   pub namespace_below : namespace < 65536
   pub kind_below : kind < 16777216
-  pub entry : IsEntryType kind
+  pub entry : is_entry_type kind ≡ true
   pub capacity_below : capacity ≤ 127
   pub elements : All (IsElement kind (words kind)) given

@@ -5,3 +5,4 @@ pub mod Head
 pub mod Incremental
 pub mod Left
 pub mod Read
+pub mod Recorded

@@ -108,10 +108,10 @@ end_behind free octets = 8 + 4 * free + end_of (kind_of octets) (node_len_of oct
 unfoldable pub fault_of : ℕ → List ℕ → Option TraceFault
 fault_of free octets =
     if is_whole octets then (if nat_le (8 + 4 * free) (length octets)
-        then (if fits_type (kind_of octets) (node_len_of octets)
-            then (if end_behind free octets == length octets then None else Some (Element (end_behind free octets)))
-            else Some (NodeLen (node_len_of octets) (words (kind_of octets) + undefined (kind_of octets))))
-        else Some (Space free))
+    then (if fits_type (kind_of octets) (node_len_of octets)
+    then (if end_behind free octets == length octets then None else Some (Element (end_behind free octets)))
+    else Some (NodeLen (node_len_of octets) (words (kind_of octets) + undefined (kind_of octets))))
+    else Some (Space free))
     else Some (Short (length octets))
 
 -- the elements of octets with so many free words, in visit order

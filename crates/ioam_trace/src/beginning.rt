@@ -1,5 +1,6 @@
-ghost use Rattle.std.specs.Prelude.{◌≡◌, ℕ, ◌+◌, ◌*◌, ◌<◌, ◌≤◌, [], ◌++◌, length, replicate, OnOk, OnErr, is_ok, if◌then◌else◌};
-ghost use Rattle.ioam_trace.specs.Data.{IsEntryType, head_octets, trace_data};
+ghost use Rattle.std.specs.Prelude.{◌≡◌, ℕ, ◌+◌, ◌*◌, ◌<◌, ◌≤◌, [], ◌++◌, true, replicate, OnOk, OnErr, is_ok, if◌then◌else◌};
+ghost use Rattle.ioam_data.specs.Kind.{is_entry_type};
+ghost use Rattle.ioam_trace.specs.Data.{head_octets, trace_data};
 
 use crate::head::TraceHead;
 use ioam_base::memory::NoMemory;
@@ -20,8 +21,13 @@ fn put_empty(head: &TraceHead, words: u8, out: &mut Vec<u8>) -> Result<(), NoMem
 /// Appends the octets of an empty pre-allocated trace, those behind the IOAM-Option-Type: a header
 /// with NodeLen of the type, and `capacity` free words of zero. The type has only bits 0 to 11 and
 /// 22, and one of them at least. Without memory nothing is appended.
-pub fn put_trace(namespace: Namespace, kind: TraceType, capacity: u8, out: &mut Vec<u8>) -> Result<(), NoMemory>
-    requires entry { IsEntryType kind }
+pub fn put_trace(
+    namespace: Namespace,
+    kind: TraceType,
+    capacity: u8,
+    out: &mut Vec<u8>,
+) -> Result<(), NoMemory>
+    requires entry { is_entry_type kind ≡ true }
     requires some { 1 ≤ capacity }
     requires below { capacity ≤ 61 }
     ensures ok { OnOk result (out.new.items ≡ out.old.items ++ trace_data namespace.0 kind capacity []) }

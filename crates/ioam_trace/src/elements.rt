@@ -13,12 +13,14 @@ pub struct Elements<'a> {
 }
 
 impl<'a> Elements<'a> {
-    ghost use Rattle.std.specs.Prelude.{◌≡◌};
+    ghost use Rattle.std.specs.Prelude.{◌≡◌, All};
+    ghost use Rattle.ioam_data.specs.Elements.{IsElement};
     ghost use Rattle.ioam_trace.specs.Left.{left};
     ghost use Rattle.ioam_trace.specs.Area.{elements_of};
 
     pub(crate) fn new(kind: TraceType, node_len: u8, used: &'a [u8]) -> Elements<'a>
-        ensures { left result ≡ elements_of kind node_len used.now }
+        ensures value { left result ≡ elements_of kind node_len used.now }
+        ensures whole { All (IsElement kind node_len) (left result) }
     {
         Elements {
             kind,

@@ -10,6 +10,15 @@ use crate::head::{LengthWord, kind_at};
 use ioam_base::octets::{put_at, u16_at};
 use ioam_data::{ElementBuf, View, element};
 
+// Whether Overflow is clear.
+fn is_open(octets: &[u8]) -> bool
+    requires { 8 ≤ length octets.now }
+    ensures { IsTrue result ↔ (overflow_of octets.now ≡ 0) }
+{
+    let word = LengthWord(u16_at(octets, 2));
+    !word.is_over()
+}
+
 // Whether nodes add elements to the octets.
 fn is_suited(octets: &[u8]) -> bool
     requires { 8 ≤ length octets.now }
@@ -78,7 +87,7 @@ fn fill_octets(octets: &mut [u8], view: &View<'_>) -> Filled
     if octets.len() < 8 {
         return Filled::Unsuited;
     }
-    if LengthWord(u16_at(octets, 2)).is_over() {
+    if !is_open(octets) {
         return Filled::AlreadyOver;
     }
     if !is_suited(octets) {

@@ -83,11 +83,22 @@ impl TraceHead {
     pub(crate) fn octets(&self) -> [u8; 8]
         ensures { result ≡ head_octets self.now }
     {
-        let word = u16::from(self.node_len) * 2048 + u16::from(self.flags) * 128 + u16::from(self.remaining);
+        let word = u16::from(self.node_len) * 2048
+            + u16::from(self.flags) * 128
+            + u16::from(self.remaining);
         let [namespace_high, namespace_low] = self.namespace.0.to_be_bytes();
         let [word_high, word_low] = word.to_be_bytes();
         let [high, middle, low, reserved] = last_word(self.kind, self.reserved).to_be_bytes();
-        [namespace_high, namespace_low, word_high, word_low, high, middle, low, reserved]
+        [
+            namespace_high,
+            namespace_low,
+            word_high,
+            word_low,
+            high,
+            middle,
+            low,
+            reserved,
+        ]
     }
 }
 

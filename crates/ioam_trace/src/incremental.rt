@@ -18,7 +18,8 @@ pub struct Incremental<'a> {
 }
 
 impl<'a> Incremental<'a> {
-    ghost use Rattle.std.specs.Prelude.{◌≡◌, ◌++◌, IfOk, OnOk, OnErr};
+    ghost use Rattle.std.specs.Prelude.{◌≡◌, ◌++◌, IfOk, OnOk, OnErr, All};
+    ghost use Rattle.ioam_data.specs.Elements.{IsElement};
     ghost use Rattle.ioam_trace.specs.Incremental.{incremental_octets, DecodesAgain};
     ghost use Rattle.ioam_trace.specs.Read.{Decodes, incremental_elements, fault_of, fault_in, elements_behind};
     ghost use Rattle.ioam_trace.specs.Left.{left};
@@ -55,7 +56,8 @@ impl<'a> Incremental<'a> {
     /// The elements in visit order, the oldest first. Of a value that was not read by
     /// [`Incremental::decode`]: those that stand one behind the other from the first word on.
     pub fn elements(&self) -> Elements<'a>
-        ensures { left result ≡ incremental_elements self.now }
+        ensures value { left result ≡ incremental_elements self.now }
+        ensures whole { All (IsElement self.now.head.kind self.now.head.node_len) (left result) }
     {
         Elements::new(self.head.kind, self.head.node_len, self.area)
     }

@@ -26,9 +26,7 @@ pub(crate) fn survey(octets: &[u8], is_incremental: bool) -> Result<TraceHead, T
     let free = free_words(head.remaining, is_incremental);
     let start = 8 + 4 * usize::from(free);
     if start > have {
-        return Err(TraceFault::Space {
-            remaining: free,
-        });
+        return Err(TraceFault::Space { remaining: free });
     }
     if !head.kind.fits(head.node_len) {
         return Err(TraceFault::NodeLen {

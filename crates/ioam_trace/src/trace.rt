@@ -15,10 +15,12 @@ pub struct Trace<'a> {
 }
 
 impl<'a> Trace<'a> {
-    ghost use Rattle.std.specs.Prelude.{◌≡◌, IfOk};
+    ghost use Rattle.std.specs.Prelude.{◌≡◌, IfOk, All};
+    ghost use Rattle.ioam_data.specs.Elements.{IsElement};
     ghost use Rattle.ioam_trace.specs.Head.{remaining_of};
     ghost use Rattle.ioam_trace.specs.Read.{Reads, elements_in, fault_of, fault_in, elements_behind};
     ghost use Rattle.ioam_trace.specs.Left.{left};
+    ghost use Rattle.ioam_trace.specs.Recorded.{ReadsAgain};
 
     /// Reads the octets behind the IOAM-Option-Type of a trace option. The faults are tested in
     /// the order in which [`TraceFault`] has them.
@@ -27,6 +29,8 @@ impl<'a> Trace<'a> {
         // The same as functions.
         ensures fault { fault_in result ≡ fault_of (remaining_of octets.now) octets.now }
         ensures elements { IfOk result (λ trace. elements_in trace ≡ elements_behind (remaining_of octets.now) octets.now) }
+        // What nodes filled is read as what they recorded.
+        ensures again { ReadsAgain octets.now result }
     {
         read_octets(octets)
     }
@@ -34,7 +38,8 @@ impl<'a> Trace<'a> {
     /// The elements in visit order, the oldest first. Of a value that was not read by
     /// [`Trace::read`]: those that stand one behind the other from the first used word on.
     pub fn elements(&self) -> Elements<'a>
-        ensures { left result ≡ elements_in self.now }
+        ensures value { left result ≡ elements_in self.now }
+        ensures whole { All (IsElement self.now.head.kind self.now.head.node_len) (left result) }
     {
         let start = 4 * usize::from(self.head.remaining);
         let used = if start <= self.area.len() {

@@ -9,7 +9,7 @@ returns-clause-whole c =
     let view = c.args.view.now in
     let P : List ℕ → Type 0 = λ octets. IsElement c.args.kind c.args.node_len octets in
     subst P (sym c.write.ensures)
-        (IsElement-element_of c.args.kind c.args.node_len (seen view) (search rules) (search rules) (IsSnapshot-lent view.snapshot view.snapshot_fits))
+    (IsElement-element_of c.args.kind c.args.node_len (seen view) (search rules) (search rules) (IsSnapshot-lent view.snapshot view.snapshot_fits))
 
 pub returns-clause-size : goal.returns-clause-size
 returns-clause-size c =

@@ -1,4 +1,5 @@
 use Rattle.std.proofs.Common.{arith}
+use Rattle.std.proofs.lemmas.Grind.{common_steps}
 use Rattle.ioam_data.proofs.recording.put_snapshot.Goals as goal
 
 pub overflow_cast-data : goal.overflow_cast-data
@@ -12,3 +13,6 @@ overflow_add-data c = let fits = c.args.view.now.snapshot_fits _ c.in-Some.is in
 
 pub append-requires : goal.append-requires
 append-requires c = let fits = c.args.view.now.snapshot_fits _ c.in-Some.is in omega (arith, fits)
+
+pub returns-in-Some-clause-small : goal.returns-in-Some-clause-small
+returns-in-Some-clause-small c = let fits = c.args.view.now.snapshot_fits _ c.in-Some.is in grind (arith, common_steps, fits.short)

@@ -10,6 +10,6 @@ returns c =
     let words = c.args.words in
     let made = c.put_at.ensures ∙ ap (λ (xs : List ℕ). written (replicate 252 0) 0 xs) c.octets.ensures in
     let cut = ap (λ n. take (8 + 4 * n) c.put_at.new.octets) c.from.ensures
-        ∙ ap (λ xs. take (8 + 4 * words) xs) made ∙ written-zeros head words refl (omega arith) in
+    ∙ ap (λ xs. take (8 + 4 * words) xs) made ∙ written-zeros head words refl (omega arith) in
     c.append.ensures
     ∙ ap (λ xs. if is_ok c.append.result then c.args.out.now.items ++ xs else c.args.out.now.items) cut

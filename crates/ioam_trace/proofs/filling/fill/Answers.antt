@@ -10,4 +10,4 @@ returns-clause-adds c namespace kind capacity elements holds is =
     let view = c.args.view.now in
     let P : List ℕ → Type 0 = λ old. Filling old (seen view) c.fill_octets.new.octets c.fill_octets.result in
     trace_data-Filling namespace kind capacity elements (seen view) c.fill_octets.new.octets c.fill_octets.result holds
-        (IsSnapshot-lent view.snapshot view.snapshot_fits) (subst P is c.fill_octets.ensures)
+    (IsSnapshot-lent view.snapshot view.snapshot_fits) (subst P is c.fill_octets.ensures)

@@ -13,7 +13,7 @@ returns c =
     let free = if c.args.is_incremental then 0 else remaining_of octets in
     let is_free : c.from.result ≡ free = c.from.ensures ∙ c.free_words-free.ensures ∙ ap (λ n. if c.args.is_incremental then 0 else n) c.read-head.ensures.remaining in
     let used : take _ (drop (8 + 4 * c.from.result) octets) ≡ used_behind free octets =
-        take_rest octets (8 + 4 * c.from.result) ∙ ap (λ n. drop (8 + 4 * n) octets) is_free in
+    take_rest octets (8 + 4 * c.from.result) ∙ ap (λ n. drop (8 + 4 * n) octets) is_free in
     let P : List ℕ → Type 0 = λ xs. Stops head.kind head.node_len xs c.end_of.result in
     Carries-Stops free octets head c.end_of.result (omega arith) c.read-head.ensures (sym c.fits.ensures.value ∙ c.if-not-fits.false)
-        (omega arith) (subst P used c.end_of.ensures.stops) (omega arith) (omega (arith, ap length used))
+    (omega arith) (subst P used c.end_of.ensures.stops) (omega arith) (omega (arith, ap length used))

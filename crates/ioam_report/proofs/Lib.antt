@@ -1,0 +1,5 @@
+pub mod ElementsLaws
+pub mod LinesLaws
+pub mod ListedLaws
+pub mod TextLaws
+pub mod TracesLaws

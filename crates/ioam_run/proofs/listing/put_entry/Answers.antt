@@ -1,0 +1,10 @@
+use Rattle.std.proofs.Common.{◌≡◌, ◌++◌, List, ℕ, subst}
+use Rattle.ioam_ip.specs.Framing.{Framing}
+use Rattle.ioam_run.specs.PathsText.{FramingLines}
+use Rattle.ioam_run.proofs.ListingLaws.{OnOk-map}
+use Rattle.ioam_run.proofs.listing.put_entry.Goals as goal
+
+pub returns-in-Packet : goal.returns-in-Packet
+returns-in-Packet c = OnOk-map c.put_packet.result _ _ c.put_packet.ensures
+    (λ added. let P : Framing → Type 0 = λ framing. FramingLines c.args.number framing added.0 in
+    (added.0, subst P c.in-Packet.ensures.framing added.1, added.2))
