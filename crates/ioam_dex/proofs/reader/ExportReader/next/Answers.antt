@@ -1,0 +1,41 @@
+use Rattle.std.proofs.Common.{◌≡◌, ◌+◌, ◌-◌, List, ℕ, take, drop, refl, ap, ◌∙◌, subst}
+use Rattle.ioam_dex.specs.declared.head.RecordStep.TheVariants as step
+use Rattle.ioam_dex.specs.Faults.{Fault, TellsRecord, said}
+use Rattle.ioam_dex.specs.Reading.{Reading}
+use Rattle.ioam_dex.proofs.ReaderLaws.{rest_of_buffer, taken_off, Stands-step, Stands-still, Stands-faulty}
+use Rattle.ioam_dex.proofs.reader.ExportReader.next.Goals as goal
+
+pub returns-in-Whole : goal.returns-in-Whole
+returns-in-Whole c =
+    let old = c.args.self.now in
+    let h = c.in-Whole.head in
+    let taken = c.self.inside.taken in
+    let items = c.self.inside.buffer.items in
+    let slice = c.deref-in-Whole.result.now in
+    let pending : _ ≡ old.pending = rest_of_buffer _ _ taken c.deref.ensures.value ∙ ap (λ r. r.pending) c.self.view_is in
+    let T : List ℕ → Type 0 = λ p. TellsRecord p (step.Whole h) in
+    let told = subst T pending c.in-Whole.ensures in
+    let off = taken_off items slice taken c.self.inside.start h old c.self.view_is c.deref-in-Whole.ensures.value told in
+    let new : Reading = record { start = c.self.inside.start + h.size; pending = drop (taken + h.size) items } in
+    let x = said h (take (taken + h.size - (taken + h.front)) (drop (taken + h.front) slice)) in
+    ((refl, λ _. tt, (off, λ octets records stands. Stands-step old new x off.0 off.1 off.2 octets records stands)), tt)
+
+pub returns-in-Bad : goal.returns-in-Bad
+returns-in-Bad c =
+    let old = c.args.self.now in
+    let pending = rest_of_buffer _ _ c.self.inside.taken c.deref.ensures.value ∙ ap (λ r. r.pending) c.self.view_is in
+    let Q : List ℕ → Type 0 = λ p. Fault p c.in-Bad.fault in
+    let bad : Fault old.pending c.in-Bad.fault = subst Q pending c.in-Bad.ensures in
+    let start = ap (λ r. r.start) c.self.view_is in
+    let new : Reading = record { start = c.self.inside.start; pending = drop c.self.inside.taken c.self.inside.buffer.items } in (
+      (
+        refl,
+        λ _. tt,
+        (
+          (c.self.view_is, start, bad),
+          λ octets records stands.
+              (Stands-still old new c.self.view_is octets records stands, Stands-faulty old c.self.inside.start c.in-Bad.fault start bad octets records stands),
+        ),
+      ),
+      tt,
+    )

@@ -1,0 +1,34 @@
+ghost use Rattle.std.specs.Prelude.{◌<◌};
+
+use crate::export::ExportFault;
+use ioam_data::Namespace;
+
+/// What the first octets of a record show of its size.
+#[derive(Clone, Copy)]
+pub enum Sizing {
+    Sized { front: usize, size: usize },
+    Cut,
+    Bad(ExportFault),
+}
+
+/// What stands in front of an element, and the sizes of this front and of the whole record.
+#[derive(Clone, Copy)]
+pub struct RecordHead {
+    pub namespace: Namespace,
+    pub flags: u8,
+    pub ext: u8,
+    pub kind: u32,
+    pub flow: Option<u32>,
+    pub seq: Option<u32>,
+    pub front: usize,
+    pub size: usize,
+    pub ghost kind_below: { kind < 16777216 },
+}
+
+/// What octets where a record is due show of it.
+#[derive(Clone, Copy)]
+pub enum RecordStep {
+    Whole(RecordHead),
+    Cut,
+    Bad(ExportFault),
+}

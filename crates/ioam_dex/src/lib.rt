@@ -1,0 +1,25 @@
+//! IOAM direct export data (RFC 9326 section 3), and the records that nodes export.
+#![tactic(auto)]
+
+mod buffer;
+mod direct;
+mod export;
+mod exporting;
+mod head;
+mod numbers;
+mod putting;
+mod reader;
+mod reading;
+mod room;
+mod step;
+
+pub use direct::{Direct, DirectFault};
+pub use export::{Export, ExportFault};
+pub use exporting::{export_of, put_export};
+pub use putting::put;
+pub use reader::{ExportReader, Step};
+pub use reading::read;
+pub use room::ExportRoom;
+
+#[cfg(test)]
+mod tests;

@@ -1,0 +1,149 @@
+ghost use Rattle.std.specs.Prelude.{◌≡◌, ◌+◌, ◌≤◌, ◌<◌, ◌^◌, ◌++◌, [], List, ℕ, length, drop, IfOk, MatchOption, OnErr, OnOk, vec_len};
+ghost use Rattle.std.specs.Borrow.{sem};
+
+use crate::export::{Export, ExportFault};
+use crate::head::RecordStep;
+use crate::step::record_step;
+use ioam_base::memory::NoMemory;
+use std::alloc::Global;
+use std::marker::Model;
+
+/// Octets that a reader has room for from the start: a piece as files are read in.
+const ROOM: usize = 65_536;
+
+/// What a reader shows next of its input.
+#[derive(Clone, Copy, Debug)]
+pub enum Step<'a> {
+    /// A record was read.
+    Export(Export<'a>),
+    /// More octets are needed, or the input's end.
+    More,
+    /// At this place of the input begins a record that is faulty.
+    Bad { at: u64, fault: ExportFault },
+}
+
+/// Reads export records out of any pieces of them.
+///
+/// It keeps the octets that were fed and not yet taken: no more than one record and one piece, where
+/// each piece is fed after `next` answered `More`. Each octet is copied into the buffer once, and
+/// moved to its front at most once.
+#[derive(Drop)]
+pub struct ExportReader {
+    buffer: Vec<u8>,
+    // octets at the front of the buffer that were taken
+    taken: usize,
+    // the place in the input of the first octet behind these
+    start: u64,
+}
+
+impl Model for ExportReader {
+    ghost use Rattle.std.specs.Prelude.{◌+◌, ◌-◌, ◌<◌, ◌≤◌, ◌^◌, drop, length};
+    ghost use Rattle.ioam_dex.specs.Reading.{Reading};
+
+    ghost Value = { Reading };
+
+    ghost view = { λ r. record { start = r.start; pending = drop r.taken r.buffer.items } };
+
+    ghost invariant = { λ r. (r.taken ≤ length r.buffer.items) × (r.start + (length r.buffer.items - r.taken) < 2 ^ 63) };
+}
+
+// Takes octets off the front of a buffer.
+fn drop_front(buffer: &mut Vec<u8>, count: usize)
+    requires { count ≤ vec_len buffer.old }
+    ensures { buffer.new.items ≡ drop count buffer.old.items }
+{
+    if count == 0 {
+        return;
+    }
+    let len = buffer.len();
+    buffer.as_mut_slice().copy_within(count..len, 0);
+    buffer.truncate(len - count);
+}
+
+impl ExportReader {
+    ghost use Rattle.ioam_dex.specs.declared.export.ExportFault.TheVariants.{Short};
+    ghost use Rattle.ioam_dex.specs.Record.{Record};
+    ghost use Rattle.ioam_dex.specs.Reads.{Reads};
+    ghost use Rattle.ioam_dex.specs.Reader.{Stands, Waits, RestsSo, fresh, fed, ending_of};
+
+    /// A reader that was fed nothing.
+    pub fn new(alloc: Global) -> Result<ExportReader, NoMemory>
+        ensures exact { IfOk result (λ reader. reader ≡ fresh) }
+        ensures stands { IfOk result (λ reader. Stands reader [] []) }
+    {
+        let buffer = Vec::with_capacity(alloc, ROOM)?;
+        Ok(ExportReader {
+            buffer,
+            taken: 0,
+            start: 0,
+        })
+    }
+
+    /// How many octets were fed in all.
+    pub fn fed(&self) -> u64
+        ensures { result ≡ fed self.now }
+    {
+        self.start + (self.buffer.len() - self.taken) as u64
+    }
+
+    /// Feeds the next octets of the input, of which there are below 2^63 in all.
+    pub fn feed(&mut self, piece: &[u8]) -> Result<(), NoMemory>
+        requires { fed self.old + length piece.now < 2 ^ 63 }
+        ensures ok { OnOk result (self.new
+            ≡ record self.old { pending = self.old.pending ++ piece.now }) }
+        ensures stands { OnOk result ((octets : List ℕ) (records : List Record)
+            → Stands self.old octets records
+            → Stands self.new (octets ++ piece.now) records) }
+        ensures err { OnErr result (self.new ≡ self.old) }
+    {
+        drop_front(&mut self.buffer, self.taken);
+        self.taken = 0;
+        self.buffer.extend_from_slice(piece)?;
+        Ok(())
+    }
+
+    /// The next record of the input. After `Bad` every call answers the same.
+    pub fn next(&mut self) -> Step<'_>
+        ensures* { sem 𝓛 (RestsSo self.entry result) }
+    {
+        let pending = &self.buffer[self.taken..];
+        match record_step(pending) {
+            RecordStep::Whole(head) => {
+                let from = self.taken + head.front;
+                let to = self.taken + head.size;
+                self.taken = to;
+                self.start += head.size as u64;
+                Step::Export(Export {
+                    namespace: head.namespace,
+                    flags: head.flags,
+                    ext: head.ext,
+                    kind: head.kind,
+                    flow: head.flow,
+                    seq: head.seq,
+                    element: &self.buffer[from..to],
+                })
+            }
+            RecordStep::Cut => Step::More,
+            RecordStep::Bad(fault) => Step::Bad {
+                at: self.start,
+                fault,
+            },
+        }
+    }
+
+    /// What an ended input leaves over, once `next` answered `More`: nothing where its last record is
+    /// whole, else the place of the record that is cut, and how many octets of it are there.
+    pub fn finish(&self) -> Option<(u64, ExportFault)>
+        requires { Waits self.now }
+        ensures left { MatchOption result (self.now.pending ≡ [])
+            (λ cut. (cut ≡ (self.now.start, Short (length self.now.pending))) × (0 < length self.now.pending)) }
+        ensures reads { (octets : List ℕ) (records : List Record) → Stands self.now octets records
+            → Reads octets records (ending_of result) }
+    {
+        let have = self.buffer.len() - self.taken;
+        if have == 0 {
+            return None;
+        }
+        Some((self.start, ExportFault::Short { have: have as u32 }))
+    }
+}

@@ -1,0 +1,101 @@
+ghost use Rattle.std.specs.Prelude.{◌≡◌, ◌<◌, ◌≤◌, ◌↔◌, IsTrue, length};
+ghost use Rattle.ioam_dex.specs.Record.{IsFilled, record_at, record_of, element_of, front_of};
+ghost use Rattle.ioam_dex.specs.Faults.{TellsSize, TellsRecord, said};
+
+use crate::export::{Export, ExportFault};
+use crate::head::{RecordHead, RecordStep, Sizing};
+use crate::numbers::{four_where, has_flow, has_seq, kind_at, numbers_size, u32_where};
+use ioam_base::octets::u16_at;
+use ioam_data::{Namespace, TraceType, split};
+
+/// The most octets of an element: 61 words.
+pub const ELEMENT_MOST: usize = 244;
+
+impl RecordHead {
+    /// The record with its element.
+    pub fn with_element(self, element: &[u8]) -> Export<'_>
+        ensures { record_of result ≡ said self element.now }
+    {
+        Export {
+            namespace: self.namespace,
+            flags: self.flags,
+            ext: self.ext,
+            kind: self.kind,
+            flow: self.flow,
+            seq: self.seq,
+            element,
+        }
+    }
+}
+
+// Whether octets are one element of a type, or nothing where it asks for nothing.
+fn is_filled(kind: TraceType, element: &[u8]) -> bool
+    ensures { IsTrue result ↔ IsFilled kind element.now }
+{
+    match split(kind, kind.words(), element) {
+        Some(size) => size == element.len(),
+        None => kind.words() == 0 && !kind.has_snapshot() && element.is_empty(),
+    }
+}
+
+// What the first octets show of the record's size.
+fn size_step(octets: &[u8]) -> Sizing
+    ensures { TellsSize octets.now result }
+{
+    if octets.is_empty() {
+        return Sizing::Cut;
+    }
+    if octets[0] != 1 {
+        return Sizing::Bad(ExportFault::Version { found: octets[0] });
+    }
+    if octets.len() < 4 {
+        return Sizing::Cut;
+    }
+    let front = 10 + numbers_size(octets[1]);
+    let found = u16_at(octets, 2);
+    let size = usize::from(found);
+    if size < front || size > front + ELEMENT_MOST {
+        return Sizing::Bad(ExportFault::Length { found });
+    }
+    Sizing::Sized { front, size }
+}
+
+// The head of a record whose front is there.
+fn head(octets: &[u8], front: usize, size: usize) -> RecordHead
+    requires fits { front_of octets.now ≤ length octets.now }
+    ensures says { said result (element_of octets.now) ≡ record_at octets.now }
+    ensures front { result.front ≡ front }
+    ensures size { result.size ≡ size }
+{
+    let ext = octets[1];
+    RecordHead {
+        namespace: Namespace(u16_at(octets, 4)),
+        flags: octets[6],
+        ext,
+        kind: kind_at(octets, 7).bits(),
+        flow: u32_where(has_flow(ext), octets, 10),
+        seq: u32_where(has_seq(ext), octets, 10 + four_where(has_flow(ext))),
+        front,
+        size,
+    }
+}
+
+/// What the octets show of the record that is due at their front.
+pub fn record_step(octets: &[u8]) -> RecordStep
+    ensures { TellsRecord octets.now result }
+{
+    match size_step(octets) {
+        Sizing::Cut => RecordStep::Cut,
+        Sizing::Bad(fault) => RecordStep::Bad(fault),
+        Sizing::Sized { front, size } => {
+            if octets.len() < size {
+                return RecordStep::Cut;
+            }
+            if is_filled(kind_at(octets, 7), &octets[front..size]) {
+                RecordStep::Whole(head(octets, front, size))
+            } else {
+                RecordStep::Bad(ExportFault::Element { at: front as u32 })
+            }
+        }
+    }
+}

@@ -1,0 +1,4 @@
+pub mod EdgeLaws
+pub mod NotedLaws
+pub mod ReceiverLaws
+pub mod WindowLaws

@@ -1,0 +1,4 @@
+pub mod Edge
+pub mod Noted
+pub mod Receiver
+pub mod Window

@@ -1,0 +1,21 @@
+//! IOAM edge-to-edge data (RFC 9197 section 4.6), and what a receiver tells of its sequence numbers.
+#![tactic(auto)]
+
+mod buffer;
+mod counts;
+mod cursor;
+mod edge;
+mod note;
+mod putting;
+mod reading;
+mod receiver;
+mod window;
+
+pub use edge::{Edge, EdgeFault};
+pub use note::{Note, Tally};
+pub use putting::put;
+pub use reading::read;
+pub use receiver::Receiver;
+
+#[cfg(test)]
+mod tests;
