@@ -1,3 +1,2 @@
 pub mod LeadsLaws
 pub mod OctetsLaws
-pub mod WordsLaws

@@ -3,8 +3,8 @@ use Rattle.std.proofs.Common.{◌≡◌, ℕ, ◌+◌, ◌<◌, ◌≤◌, Bool,
 use Rattle.std.specs.Option.{is_some}
 use Rattle.std.proofs.lemmas.List.{drop_more}
 use Rattle.ioam_base.specs.Octets.{IsOctets, u16_at, u32_at}
-use Rattle.ioam_base.specs.Words.{two_octets, three_octets, four_octets, four_octets_if}
-use Rattle.ioam_base.proofs.WordsLaws.{two_octets-front, three_octets-front, four_octets-front}
+use Rattle.ioam_dex.specs.Words.{two_octets, three_octets, four_octets, four_octets_if}
+use Rattle.ioam_dex.proofs.WordsLaws.{two_octets-front, three_octets-front, four_octets-front}
 use Rattle.ioam_dex.specs.Numbers.{four_where, u32_where, u24_at}
 
 module _ (octets : List ℕ) (at : ℕ) where

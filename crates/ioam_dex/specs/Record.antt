@@ -3,7 +3,7 @@
 -- flags have them, and the element.
 use Rattle.std.specs.Prelude.{ℕ, ◌+◌, ◌-◌, ◌≡◌, ◌<◌, ◌≤◌, ◌⊎◌, false, List, [], ◌∷◌, ◌++◌, length, take, drop, slice_index, Option, is_some, IfSome}
 use Rattle.ioam_base.specs.Octets.{u16_at}
-use Rattle.ioam_base.specs.Words.{two_octets, three_octets, four_octets_if}
+use Rattle.ioam_dex.specs.Words.{two_octets, three_octets, four_octets_if}
 use Rattle.ioam_data.specs.Kind.{has, words}
 use Rattle.ioam_data.specs.Elements.{IsElement}
 use Rattle.ioam_dex.specs.Numbers.{has_flow, has_seq, four_where, numbers_size, u24_at, u32_where}

@@ -2,3 +2,4 @@ pub mod EdgeLaws
 pub mod NotedLaws
 pub mod ReceiverLaws
 pub mod WindowLaws
+pub mod WordsLaws

@@ -2,3 +2,4 @@ pub mod Edge
 pub mod Noted
 pub mod Receiver
 pub mod Window
+pub mod Words

@@ -1,5 +1,5 @@
 ghost use Rattle.std.specs.Prelude.{◌≡◌, ◌+◌, ◌≤◌, [], ◌++◌, length};
-ghost use Rattle.ioam_base.specs.Words.{four_octets_if, eight_octets_if};
+ghost use Rattle.ioam_edge.specs.Words.{four_octets_if, eight_octets_if};
 
 use ioam_base::octets::put_at;
 use std::marker::Model;
