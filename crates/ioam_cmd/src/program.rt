@@ -4,7 +4,7 @@ ghost use Rattle.ioam_cmd.specs.Words.{IsForm, IsNoForm, TextsOf};
 ghost use Rattle.ioam_cmd.specs.declared.command.Command.{Command};
 ghost use Rattle.ioam_desk.specs.Desk.{Rose, holds};
 ghost use Rattle.ioam_run.specs.Names.{name_at};
-ghost use Rattle.ioam_run.specs.Run.{HasCause, Asked, Leaves, IsBehindAll, IsCleanCapture, file_names, input_name, output_names};
+ghost use Rattle.ioam_run.specs.Run.{HasCause, Asked, Leaves, IsBehindAll, OpensNothing, OpensNoOutput, IsCleanCapture, file_names, input_name, output_names};
 ghost use Rattle.ioam_run.specs.Texts.{AsksFront};
 ghost use Rattle.ioam_run.specs.declared.outcome.Outcome.{Outcome};
 
@@ -15,9 +15,12 @@ use std::alloc::Global;
 
 /// Runs the command that the words ask for over a desk, and answers.
 pub fn ioam<D: Desk>(alloc: Global, words: &[Name], desk: &mut D) -> Outcome
-    // Usage comes exactly where the words are of no command's form, and then nothing was opened.
+    // Usage comes exactly where the words are of no command's form.
     ensures usage { (result ≡ Outcome.Usage) ↔ IsNoForm words.now }
-    ensures nothing { result ≡ Outcome.Usage → (D.reading desk.new ≡ D.reading desk.old) × (D.writing desk.new ≡ D.writing desk.old) }
+
+    // After Usage and Names nothing was opened, and after a refusal of the input no output was.
+    ensures unopened { OpensNothing result → D.reading desk.new ≡ D.reading desk.old }
+    ensures no_output { OpensNoOutput result → D.writing desk.new ≡ D.writing desk.old }
 
     // A fault of reading or writing comes only where the desk's count of such faults rose.
     ensures read_fault { result ≡ Outcome.ReadFault → Rose (D.reading desk.old).side.faults (D.reading desk.new).side.faults }

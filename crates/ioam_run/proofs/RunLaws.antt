@@ -5,7 +5,7 @@ use Rattle.ioam_pcap.specs.Reads.{Ending, Whole, Faulty}
 use Rattle.ioam_pcap.specs.declared.capture.CapFault.{CapFault}
 use Rattle.ioam_run.specs.Answered.{IsAnswered}
 use Rattle.ioam_run.specs.Names.{name_at}
-use Rattle.ioam_run.specs.Run.{HoldTexts, HoldFronts, HoldsAll, HoldsFronts, Leaves, outcome_of, output_names}
+use Rattle.ioam_run.specs.Run.{HoldTexts, HoldFronts, HoldsAll, HoldsFronts, Leaves, OpensNothing, OpensNoOutput, outcome_of, output_names}
 use Rattle.ioam_run.specs.declared.outcome.Outcome.{Outcome}
 use Rattle.ioam_run.specs.declared.outcome.Outcome.TheVariants as outcome
 
@@ -60,3 +60,15 @@ one_output (a ∷ []) three = absurd (omega (arith, three))
 one_output (a ∷ b ∷ []) three = absurd (omega (arith, three))
 one_output (a ∷ b ∷ c ∷ []) three = refl
 one_output (a ∷ b ∷ c ∷ d ∷ more) three = absurd (omega (arith, three))
+
+-- the answers behind a capture come after both openings
+module _ (tells : Bool) (old new : Writing) (names texts : List (List ℕ)) (due : Outcome) where
+  pub answered_opens : (answer : Outcome) → IsAnswered tells old new names texts due answer → OpensNoOutput answer → ⊥
+  answered_opens outcome.Done answered none = none
+  answered_opens (outcome.Capture name at fault) answered none = none
+  answered_opens outcome.WriteFault answered none = none
+  answered_opens outcome.NoMemory answered none = none
+  answered_opens outcome.Usage answered none = answered
+  answered_opens (outcome.Names name) answered none = answered
+  answered_opens (outcome.Packets limit) answered none = answered
+  answered_opens outcome.ReadFault answered none = answered

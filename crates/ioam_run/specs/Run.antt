@@ -125,6 +125,28 @@ IsBehindAll outcome.ReadFault = ⊥
 IsBehindAll outcome.WriteFault = ⊥
 IsBehindAll outcome.NoMemory = ⊥
 
+-- the answer comes before anything was opened
+abbrev pub OpensNothing : Outcome → Type 0
+OpensNothing outcome.Usage = ⊤
+OpensNothing (outcome.Names name) = ⊤
+OpensNothing outcome.Done = ⊥
+OpensNothing (outcome.Capture name at fault) = ⊥
+OpensNothing (outcome.Packets limit) = ⊥
+OpensNothing outcome.ReadFault = ⊥
+OpensNothing outcome.WriteFault = ⊥
+OpensNothing outcome.NoMemory = ⊥
+
+-- the answer comes before an output was opened
+abbrev pub OpensNoOutput : Outcome → Type 0
+OpensNoOutput outcome.Usage = ⊤
+OpensNoOutput (outcome.Names name) = ⊤
+OpensNoOutput (outcome.Packets limit) = ⊤
+OpensNoOutput outcome.ReadFault = ⊤
+OpensNoOutput outcome.Done = ⊥
+OpensNoOutput (outcome.Capture name at fault) = ⊥
+OpensNoOutput outcome.WriteFault = ⊥
+OpensNoOutput outcome.NoMemory = ⊥
+
 -- the answer behind a capture that ends so
 abbrev pub outcome_of : List ℕ → Ending → Outcome
 outcome_of name Whole = outcome.Done

@@ -6,7 +6,7 @@ ghost use Rattle.ioam_run.specs.Answered.{IsAnswered};
 ghost use Rattle.ioam_run.specs.Filter.{FilterTexts};
 ghost use Rattle.ioam_run.specs.FilterText.{Filtered};
 ghost use Rattle.ioam_run.specs.Names.{name_at};
-ghost use Rattle.ioam_run.specs.Run.{HasCause, FileCause, Asked, Leaves, IsBehindAll, IsCleanCapture, file_names, input_name, output_names, outcome_of};
+ghost use Rattle.ioam_run.specs.Run.{HasCause, FileCause, Asked, Leaves, IsBehindAll, OpensNothing, OpensNoOutput, IsCleanCapture, file_names, input_name, output_names, outcome_of};
 ghost use Rattle.ioam_run.specs.Texts.{AsksFront};
 ghost use Rattle.ioam_run.specs.declared.outcome.Outcome.{Outcome};
 
@@ -59,7 +59,9 @@ pub fn run_filter<D: Desk>(alloc: Global, words: &[Name], desk: &mut D) -> Outco
     // Each packet in OUT has a whole header chain without an IOAM option.
     ensures boundary { IsBehindAll result → IsTrue D.tells
         → IsSomeAnd (holds (D.writing desk.new) (name_at words.now 2)) IsCleanCapture }
-    // IN was read to its end.
+    // What came before anything, or before an output, was opened left it so, told or not; behind all of IN it was read to its end.
+    ensures unopened { OpensNothing result → D.reading desk.new ≡ D.reading desk.old }
+    ensures no_output { OpensNoOutput result → D.writing desk.new ≡ D.writing desk.old }
     ensures drained { IsBehindAll result → IsTrue D.tells → IsTrue ((D.reading desk.new).ended (D.reading desk.old).side.slots) }
 {
     filter_words(alloc, words, desk)
@@ -74,6 +76,8 @@ fn filter_words<D: Desk>(alloc: Global, words: &[Name], desk: &mut D) -> Outcome
         (D.writing desk.old) (D.writing desk.new) result }
     ensures asked_in { AsksFront (D.reading desk.old).side.asked (D.reading desk.new).side.asked (input_name words.now ∷ []) }
     ensures asked_out { AsksFront (D.writing desk.old).side.asked (D.writing desk.new).side.asked (output_names words.now) }
+    ensures unopened { OpensNothing result → D.reading desk.new ≡ D.reading desk.old }
+    ensures no_output { OpensNoOutput result → D.writing desk.new ≡ D.writing desk.old }
     ensures drained { IsBehindAll result → IsTrue D.tells → IsTrue ((D.reading desk.new).ended (D.reading desk.old).side.slots) }
 {
     let [_, input, output, report] = words else {
@@ -100,6 +104,8 @@ fn filter_file<D: Desk>(
     ensures asked_in { AsksFront (D.reading desk.old).side.asked (D.reading desk.new).side.asked (input.now ∷ []) }
     ensures asked_out { AsksFront (D.writing desk.old).side.asked (D.writing desk.new).side.asked
         (output.now ∷ report.now ∷ []) }
+    ensures unopened { OpensNothing result → D.reading desk.new ≡ D.reading desk.old }
+    ensures no_output { OpensNoOutput result → D.writing desk.new ≡ D.writing desk.old }
     ensures drained { IsBehindAll result → IsTrue D.tells → IsTrue ((D.reading desk.new).ended (D.reading desk.old).side.slots) }
 {
     let octets = match read_input(alloc, desk, input) {

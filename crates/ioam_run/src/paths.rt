@@ -4,7 +4,7 @@ ghost use Rattle.ioam_desk.specs.Desk.{Rose};
 ghost use Rattle.ioam_pcap.specs.Reader.{ending_of as ending};
 ghost use Rattle.ioam_run.specs.Answered.{IsAnswered};
 ghost use Rattle.ioam_run.specs.PathsText.{PathsTexts, Listed};
-ghost use Rattle.ioam_run.specs.Run.{HasCause, FileCause, Asked, Leaves, IsBehindAll, file_names, input_name, output_names, outcome_of};
+ghost use Rattle.ioam_run.specs.Run.{HasCause, FileCause, Asked, Leaves, IsBehindAll, OpensNothing, OpensNoOutput, file_names, input_name, output_names, outcome_of};
 ghost use Rattle.ioam_run.specs.Texts.{AsksFront};
 ghost use Rattle.ioam_run.specs.declared.outcome.Outcome.{Outcome};
 
@@ -58,7 +58,9 @@ pub fn run_paths<D: Desk>(alloc: Global, words: &[Name], desk: &mut D) -> Outcom
         → (Rose (D.reading desk.old).side.faults (D.reading desk.new).side.faults → ⊥)
         → (Rose (D.writing desk.old).side.faults (D.writing desk.new).side.faults → ⊥)
         → (result ≡ asked) ⊎ (result ≡ Outcome.NoMemory) }
-    // IN was read to its end.
+    // What came before anything, or before an output, was opened left it so, told or not; behind all of IN it was read to its end.
+    ensures unopened { OpensNothing result → D.reading desk.new ≡ D.reading desk.old }
+    ensures no_output { OpensNoOutput result → D.writing desk.new ≡ D.writing desk.old }
     ensures drained { IsBehindAll result → IsTrue D.tells → IsTrue ((D.reading desk.new).ended (D.reading desk.old).side.slots) }
 {
     list_words(alloc, words, desk)
@@ -73,6 +75,8 @@ fn list_words<D: Desk>(alloc: Global, words: &[Name], desk: &mut D) -> Outcome
         (D.writing desk.old) (D.writing desk.new) result }
     ensures asked_in { AsksFront (D.reading desk.old).side.asked (D.reading desk.new).side.asked (input_name words.now ∷ []) }
     ensures asked_out { AsksFront (D.writing desk.old).side.asked (D.writing desk.new).side.asked (output_names words.now) }
+    ensures unopened { OpensNothing result → D.reading desk.new ≡ D.reading desk.old }
+    ensures no_output { OpensNoOutput result → D.writing desk.new ≡ D.writing desk.old }
     ensures drained { IsBehindAll result → IsTrue D.tells → IsTrue ((D.reading desk.new).ended (D.reading desk.old).side.slots) }
 {
     let [_, input, report] = words else {
@@ -90,6 +94,8 @@ fn list_file<D: Desk>(alloc: Global, desk: &mut D, input: &Name, report: &Name) 
     ensures leaves { IsTrue D.tells → Leaves PathsTexts input.now (report.now ∷ []) (D.writing desk.old) (D.writing desk.new) result }
     ensures asked_in { AsksFront (D.reading desk.old).side.asked (D.reading desk.new).side.asked (input.now ∷ []) }
     ensures asked_out { AsksFront (D.writing desk.old).side.asked (D.writing desk.new).side.asked (report.now ∷ []) }
+    ensures unopened { OpensNothing result → D.reading desk.new ≡ D.reading desk.old }
+    ensures no_output { OpensNoOutput result → D.writing desk.new ≡ D.writing desk.old }
     ensures drained { IsBehindAll result → IsTrue D.tells → IsTrue ((D.reading desk.new).ended (D.reading desk.old).side.slots) }
 {
     let octets = match read_input(alloc, desk, input) {
