@@ -1,0 +1,4 @@
+pub mod KeyLaws
+pub mod FaultLaws
+pub mod GoodsLaws
+pub mod NodeLaws

@@ -1,0 +1,5 @@
+pub mod Faults
+pub mod Goods
+pub mod Keys
+pub mod NodeTable
+pub mod NodeRead
