@@ -23,5 +23,5 @@ pub use numbers::{maybe_number, number, number_or};
 pub use prefixes::{masked, matches, prefix};
 pub use refused::Refused;
 pub use spaces::{Spaces, namespaces};
-pub use texts::{file_name, maybe_file_name, maybe_name, name};
+pub use texts::{file_name, maybe_file_name, maybe_name, name, text_of};
 pub use why::Why;

@@ -15,8 +15,8 @@ pub const NAME_MOST: usize = 32;
 /// The most octets of a file name.
 pub const FILE_NAME_MOST: usize = 255;
 
-// A value that is to be a text.
-pub(crate) fn text_of(value: &Value) -> Result<&str, Why>
+/// A value that is to be a text.
+pub fn text_of(value: &Value) -> Result<&str, Why>
     ensures { Reads (λ t. t.now) result (text (view value.now)) }
 {
     match value {

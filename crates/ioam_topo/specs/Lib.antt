@@ -3,3 +3,12 @@ pub mod Goods
 pub mod Keys
 pub mod NodeTable
 pub mod NodeRead
+pub mod LinkTable
+pub mod LinkRead
+pub mod PortTable
+pub mod PortRead
+pub mod RouteTable
+pub mod RouteRead
+pub mod Top
+pub mod Domain
+pub mod PartsRead

@@ -15,6 +15,9 @@ use std::alloc::Global;
 use std::marker::Model;
 use toml::Table;
 
+// The most names of one kind, far above any table's most entries.
+const MOST_NAMES: usize = 0x7fff_fffe;
+
 // Names, no two of them equal, each numbered by its place from 0.
 #[derive(Drop)]
 pub(crate) struct Names {
@@ -22,11 +25,13 @@ pub(crate) struct Names {
 }
 
 impl Model for Names {
-    ghost use Rattle.std.specs.Prelude.{List, ℕ, map, string_bytes};
+    ghost use Rattle.std.specs.Prelude.{List, ℕ, map, string_bytes, length, ◌<◌, ◌^◌};
 
     ghost Value = { List (List ℕ) };
 
     ghost view = { λ names. map string_bytes names.held.keys };
+
+    ghost invariant = { λ names. length names.held.keys < 2 ^ 31 };
 }
 
 impl Names {
@@ -42,6 +47,7 @@ impl Names {
     pub(crate) fn place_of(&self, name: &str) -> Option<usize>
         ensures value { result ≡ place_of self.now name.now }
         ensures within { IfSome result (λ at. at < length self.now) }
+        ensures small { IfSome result (λ at. at < 2 ^ 31) }
     {
         self.held.get_index_of(name)
     }
@@ -66,7 +72,6 @@ impl Names {
 
     // The place of the name at a key of an entry.
     pub(crate) fn known(&self, entry: &Table, key: &str) -> Result<u32, Why>
-        requires { length self.now < 2 ^ 31 }
         ensures value { result ≡ needed name (get_member key.now (table_view entry.now)) ▷ known self.now }
         ensures within { IfOk result (λ at. at < length self.now) }
     {
@@ -78,7 +83,6 @@ impl Names {
 
     // The place of a name.
     pub(crate) fn known_name(&self, name: &str) -> Result<u32, Why>
-        requires { length self.now < 2 ^ 31 }
         ensures value { result ≡ known self.now name.now }
         ensures within { IfOk result (λ at. at < length self.now) }
     {
@@ -97,6 +101,9 @@ impl Names {
             Ok(name) => name,
             Err(_) => return Err(NoMemory),
         };
+        if self.held.len() >= MOST_NAMES {
+            return Err(NoMemory);
+        }
         match self.held.insert_full(name) {
             Ok(_) => {}
             Err(_) => return Err(NoMemory),

@@ -1,4 +1,4 @@
-use crate::ids::{LinkId, NodeId, PortId};
+use crate::ids::{NodeId, Way};
 use ioam_desk::Name;
 use ioam_toml::{Prefix, Spaces};
 
@@ -49,4 +49,15 @@ pub struct Port {
     pub input: Option<Name>,
     /// The file of the packets that leave.
     pub output: Name,
+}
+
+/// A route of a node.
+#[derive(Clone, Copy, Debug)]
+pub struct Route {
+    /// The node.
+    pub node: NodeId,
+    /// The targets; no two routes of one node have one prefix.
+    pub prefix: Prefix,
+    /// Where they are sent: a link from the node or a port of the node.
+    pub way: Way,
 }

@@ -62,3 +62,14 @@ pub enum Field {
     /// No key: the fault is one of the table or of the file.
     NoKey,
 }
+
+/// The format of a domain's timestamps (RFC 9197 section 5).
+#[derive(Clone, Copy, Debug, PartialEq, Eq)]
+pub enum Format {
+    /// Seconds and nanoseconds.
+    Ptp,
+    /// Seconds and fractions of 2^-32 of a second.
+    Ntp,
+    /// Seconds and microseconds.
+    Posix,
+}
