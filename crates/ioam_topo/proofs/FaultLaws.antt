@@ -1,5 +1,5 @@
 -- Laws of faults and of entries that are taken in turn.
-use Rattle.std.proofs.Common.{◌≡◌, ℕ, ◌+◌, ◌<◌, List, [], ◌∷◌, ◌++◌, map, length, take, drop, slice_index_or, Option, Some, None, Result, Ok, Err, refl, ap, sym, subst, ◌∙◌, arith, length-take}
+use Rattle.std.proofs.Common.{◌≡◌, ℕ, ◌+◌, ◌<◌, List, [], ◌∷◌, ◌++◌, map, length, take, drop, slice_index_or, Some, Err, ap, sym, subst, ◌∙◌, arith, length-take}
 use Rattle.std.proofs.lemmas.List.{drop_more, take_more, take_all}
 use Rattle.std.proofs.Math.Seq.{drop-length}
 use Rattle.toml.specs.Data.{Members}
@@ -55,7 +55,7 @@ module _ {X T : Type 0} (F : List Members → Members → List DomainFault) (H :
       → H (map f (take i xs)) old → each F (map f (take i xs)) (map f (drop i xs)) ≡ whole → Gives {A = B} (Err refused) whole Q
   collect_stop xs i x old refused P Q whole lt at took holds before =
       gives_first refused (F (map f (take i xs)) (f x)) (each F (map f (take (i + 1) xs)) (map f (drop (i + 1) xs))) whole (P (map f (take i xs))) Q
-        (sym before ∙ each_more xs i x lt at) (took (map f (take i xs)) holds (front_length xs i lt))
+      (sym before ∙ each_more xs i x lt at) (took (map f (take i xs)) holds (front_length xs i lt))
 
   -- all entries were taken
   pub collect_all : (xs : List X) (i : ℕ) (out : T) (whole : List DomainFault) → i ≡ length xs → H (map f (take i xs)) out

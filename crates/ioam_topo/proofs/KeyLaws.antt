@@ -1,5 +1,5 @@
 -- Laws of keys and of names.
-use Rattle.std.proofs.Common.{◌≡◌, ℕ, Bool, true, false, ◌&&◌, ◌||◌, ◌+◌, cond, List, [], ◌∷◌, ◌++◌, map, Option, Some, None, String, Global, length, refl, ap, sym, ◌∙◌, string_bytes}
+use Rattle.std.proofs.Common.{◌≡◌, ℕ, Bool, false, ◌&&◌, ◌||◌, cond, List, [], ◌∷◌, ◌++◌, map, String, Global, length, refl, ap, ◌∙◌, string_bytes}
 use Rattle.std.specs.List.{list_any, list_all, position, position_or_len}
 use Rattle.std.specs.Map.{keys_of}
 use Rattle.std.specs.Str.{bytes_eq}
@@ -38,6 +38,6 @@ pub added : (ks new : List (String Global)) (k : String Global) (name : List ℕ
     → map string_bytes new ≡ map string_bytes ks ++ name ∷ []
 added ks new k name is absent more =
     let off : list_any (λ x. bytes_eq (string_bytes k) (string_bytes x)) ks ≡ false = any_map (bytes_eq (string_bytes k)) string_bytes ks
-        ∙ ap (λ n. list_any (bytes_eq n) (map string_bytes ks)) is ∙ absent in
+    ∙ ap (λ n. list_any (bytes_eq n) (map string_bytes ks)) is ∙ absent in
     let put : new ≡ ks ++ k ∷ [] = more ∙ ap (λ b. cond b ks (ks ++ k ∷ [])) off in
     ap (map string_bytes) put ∙ map_append string_bytes ks (k ∷ []) ∙ ap (λ n. map string_bytes ks ++ n ∷ []) is

@@ -33,11 +33,12 @@ pub link_added : (nodes : List (List ℕ)) (earlier : List Members) (m : Members
     → new.items.items ≡ old.items.items ++ link ∷ [] → new.names ≡ old.names ++ link.name ∷ [] → new.taps ≡ old.taps + count_of link.tap
     → HoldsLinks nodes (earlier ++ m ∷ []) new
 link_added nodes earlier m text link old new holds fits items names taps = record {
-    items = goods_push (link_of nodes) earlier m link _ _ fits.is holds.items items;
-    ends = goods_push (link_end nodes) earlier m (from_of link) _ _ fits.end_is holds.ends
-        (ap (map from_of) items ∙ map_append from_of old.items.items (link ∷ []));
-    names = goods_push link_name earlier m link.name _ _ fits.name_is holds.names names;
-    taps = taps ∙ ap (λ n. n + count_of link.tap) holds.taps ∙ sym (taps_more earlier m (count_of link.tap) fits.tap_is) }
+  items = goods_push (link_of nodes) earlier m link _ _ fits.is holds.items items;
+  ends = goods_push (link_end nodes) earlier m (from_of link) _ _ fits.end_is holds.ends
+      (ap (map from_of) items ∙ map_append from_of old.items.items (link ∷ []));
+  names = goods_push link_name earlier m link.name _ _ fits.name_is holds.names names;
+  taps = taps ∙ ap (λ n. n + count_of link.tap) holds.taps ∙ sym (taps_more earlier m (count_of link.tap) fits.tap_is);
+}
 
 under_most : (b : Bool) (file : List ℕ) (tap : Option (List ℕ)) (r : Result (Option (List ℕ)) Why) → r ≡ cond b (Ok (Some file)) (Err TooMany)
     → r ≡ Ok tap → tap ≡ Some file

@@ -1,11 +1,8 @@
 -- Laws of the nodes that are collected.
-use Rattle.std.proofs.Common.{◌≡◌, ℕ, ◌+◌, nat_eq, List, [], ◌∷◌, ◌++◌, length, Ok, Result, refl, ap, sym, ◌∙◌}
-use Rattle.std.specs.Str.{bytes_eq}
+use Rattle.std.proofs.Common.{◌≡◌, ℕ, ◌+◌, List, [], ◌∷◌, ◌++◌, length}
 use Rattle.toml.specs.Data.{Members}
-use Rattle.ioam_toml.specs.declared.why.Why.{Why}
 use Rattle.ioam_topo.specs.declared.node_table.Nodes.{Nodes}
 use Rattle.ioam_topo.specs.declared.parts.Node.{Node}
-use Rattle.ioam_topo.specs.Goods.{goods, kept}
 use Rattle.ioam_topo.specs.NodeTable.{node_keys, node_faults, node_of, node_name, node_id, node_address}
 use Rattle.ioam_topo.specs.NodeRead.{HoldsNodes, IsNewNode}
 use Rattle.ioam_topo.proofs.GoodsLaws.{goods_push}
@@ -19,7 +16,8 @@ pub node_added : (earlier : List Members) (m : Members) (text : List ℕ) (node 
     → new.ids.keys ≡ old.ids.keys ++ node.id ∷ [] → new.addresses.keys ≡ old.addresses.keys ++ node.address ∷ []
     → HoldsNodes (earlier ++ m ∷ []) new
 node_added earlier m text node old new holds fits items names ids addresses = record {
-    items = goods_push node_of earlier m node _ _ fits.is holds.items items;
-    names = goods_push node_name earlier m node.name _ _ fits.name_is holds.names names;
-    ids = goods_push node_id earlier m node.id _ _ fits.id_is holds.ids ids;
-    addresses = goods_push node_address earlier m node.address _ _ fits.address_is holds.addresses addresses }
+  items = goods_push node_of earlier m node _ _ fits.is holds.items items;
+  names = goods_push node_name earlier m node.name _ _ fits.name_is holds.names names;
+  ids = goods_push node_id earlier m node.id _ _ fits.id_is holds.ids ids;
+  addresses = goods_push node_address earlier m node.address _ _ fits.address_is holds.addresses addresses;
+}

@@ -22,12 +22,12 @@ use Rattle.ioam_topo.specs.PortTable.{port_faults}
 
 pub links_same : (t : Members) (nodes : Nodes) → HoldsNodes (node_entries t) nodes
     → table_faults LinkTable MOST_LINKS (get_member (codes "link") t) (link_faults nodes.names)
-      ≡ table_faults LinkTable MOST_LINKS (get_member (codes "link") t) (link_faults (node_names t))
+    ≡ table_faults LinkTable MOST_LINKS (get_member (codes "link") t) (link_faults (node_names t))
 links_same t nodes holds = ap (λ n. table_faults LinkTable MOST_LINKS (get_member (codes "link") t) (link_faults n)) holds.names
 
 pub ports_same : (t : Members) (nodes : Nodes) → HoldsNodes (node_entries t) nodes
     → table_faults PortTable MOST_PORTS (get_member (codes "port") t) (port_faults nodes.names)
-      ≡ table_faults PortTable MOST_PORTS (get_member (codes "port") t) (port_faults (node_names t))
+    ≡ table_faults PortTable MOST_PORTS (get_member (codes "port") t) (port_faults (node_names t))
 ports_same t nodes holds = ap (λ n. table_faults PortTable MOST_PORTS (get_member (codes "port") t) (port_faults n)) holds.names
 
 pub routes_same : (t : Members) (parts : Parts) → HoldsParts t parts

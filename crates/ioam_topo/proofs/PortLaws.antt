@@ -17,7 +17,8 @@ pub port_added : (nodes : List (List ℕ)) (earlier : List Members) (m : Members
     → new.items.items ≡ old.items.items ++ port ∷ [] → new.names ≡ old.names ++ port.name ∷ []
     → HoldsPorts nodes (earlier ++ m ∷ []) new
 port_added nodes earlier m text port old new holds fits items names = record {
-    items = goods_push (port_of nodes) earlier m port _ _ fits.is holds.items items;
-    ends = goods_push (port_end nodes) earlier m (node_of_port port) _ _ fits.end_is holds.ends
-        (ap (map node_of_port) items ∙ map_append node_of_port old.items.items (port ∷ []));
-    names = goods_push port_name earlier m port.name _ _ fits.name_is holds.names names }
+  items = goods_push (port_of nodes) earlier m port _ _ fits.is holds.items items;
+  ends = goods_push (port_end nodes) earlier m (node_of_port port) _ _ fits.end_is holds.ends
+      (ap (map node_of_port) items ∙ map_append node_of_port old.items.items (port ∷ []));
+  names = goods_push port_name earlier m port.name _ _ fits.name_is holds.names names;
+}

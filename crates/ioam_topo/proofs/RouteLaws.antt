@@ -1,5 +1,5 @@
 -- Laws of the routes that are collected.
-use Rattle.std.proofs.Common.{◌≡◌, ℕ, ◌+◌, List, [], ◌∷◌, ◌++◌, length, map}
+use Rattle.std.proofs.Common.{◌≡◌, ℕ, ◌+◌, List, [], ◌∷◌, ◌++◌, length}
 use Rattle.toml.specs.Data.{Members}
 use Rattle.ioam_topo.specs.declared.route_table.Parts.{Parts}
 use Rattle.ioam_topo.specs.declared.route_table.Routes.{Routes}
@@ -16,5 +16,6 @@ pub route_added : (parts : Parts) (earlier : List Members) (m : Members) (route 
     → new.items.items ≡ old.items.items ++ route ∷ [] → new.taken.keys ≡ old.taken.keys ++ (route.node.0, route.prefix) ∷ []
     → HoldsRoutes parts (earlier ++ m ∷ []) new
 route_added parts earlier m route old new holds fits items keys = record {
-    items = goods_push (route_behind parts) earlier m route _ _ fits.is holds.items items;
-    keys = goods_push (key_behind parts) earlier m (route.node.0, route.prefix) _ _ fits.key_is holds.keys keys }
+  items = goods_push (route_behind parts) earlier m route _ _ fits.is holds.items items;
+  keys = goods_push (key_behind parts) earlier m (route.node.0, route.prefix) _ _ fits.key_is holds.keys keys;
+}

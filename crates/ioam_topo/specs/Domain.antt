@@ -1,5 +1,6 @@
 -- A domain, and what it is of a file.
-use Rattle.std.specs.Prelude.{◌≡◌, List, Ok}
+use Rattle.std.specs.Prelude.{◌≡◌, List, Ok, ℕ, Bool, false, nat_eq, Option, Some, None}
+use Rattle.std.specs.List.{list_any}
 use Rattle.toml.specs.Data.{Members}
 use Rattle.ioam_topo.specs.declared.domain.Domain.{Domain}
 use Rattle.ioam_topo.specs.declared.parts.Node.{Node}
@@ -31,3 +32,8 @@ pub record IsDomain (t : Members) (domain : Domain) : Type 0 where
   pub has_links : links domain ≡ links_of t
   pub has_ports : ports domain ≡ ports_of t
   pub has_routes : routes domain ≡ routes_of t
+
+-- whether a node, where it is there, lists a namespace
+abbrev pub lists_space : Option Node → ℕ → Bool
+lists_space None namespace = false
+lists_space (Some node) namespace = list_any (λ space. nat_eq namespace space.0) node.namespaces

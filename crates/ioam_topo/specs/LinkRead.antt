@@ -1,5 +1,5 @@
 -- What is known of the links of the entries so far, and of one that was read.
-use Rattle.std.specs.Prelude.{◌≡◌, ⊤, ℕ, ◌+◌, ◌<◌, false, List, map, Option, Some, None, Result, Ok, length}
+use Rattle.std.specs.Prelude.{◌≡◌, ℕ, ◌+◌, false, List, map, Option, Some, None, Result, Ok, length}
 use Rattle.std.specs.List.{list_any}
 use Rattle.std.specs.Str.{bytes_eq}
 use Rattle.toml.specs.Data.{Members}
@@ -7,7 +7,7 @@ use Rattle.ioam_toml.specs.declared.why.Why.{Why}
 use Rattle.ioam_topo.specs.declared.parts.Link.{Link}
 use Rattle.ioam_topo.specs.declared.link_table.Links.{Links}
 use Rattle.ioam_topo.specs.Goods.{goods, kept}
-use Rattle.ioam_topo.specs.LinkTable.{link_of, link_name, link_end, link_from, tap_there, tap_count}
+use Rattle.ioam_topo.specs.LinkTable.{link_of, link_name, link_end, tap_there, tap_count}
 
 -- the node that a link is from
 abbrev pub from_of : Link → Result ℕ Why

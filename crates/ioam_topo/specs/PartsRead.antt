@@ -1,5 +1,4 @@
 -- What is known of the nodes, links and ports of a file.
-use Rattle.std.specs.Prelude.{List, ℕ}
 use Rattle.toml.specs.Data.{Members}
 use Rattle.ioam_topo.specs.declared.route_table.Parts.{Parts}
 use Rattle.ioam_topo.specs.NodeRead.{HoldsNodes}

@@ -1,5 +1,5 @@
 -- The table `port`.
-use Rattle.std.specs.Prelude.{◌≡◌, ℕ, ◌+◌, codes, List, ◌++◌, length, Option, Result, Ok, Err}
+use Rattle.std.specs.Prelude.{ℕ, ◌+◌, codes, List, ◌++◌, length, Option, Result, Ok}
 use Rattle.std.specs.Str.{bytes_eq}
 use Rattle.toml.specs.Data.{Members, get_member}
 use Rattle.ioam_toml.specs.declared.why.Why.{Why}

@@ -1,9 +1,9 @@
 -- The whole file.
-use Rattle.std.specs.Prelude.{◌≡◌, ℕ, codes, List, [], ◌∷◌, ◌++◌, Option, Result, Ok, Err, if◌then◌else◌}
+use Rattle.std.specs.Prelude.{ℕ, codes, List, [], ◌++◌, Option, Result, Ok, Err, if◌then◌else◌}
 use Rattle.std.specs.Str.{bytes_eq}
 use Rattle.toml.specs.Data.{Data, Members, get_member}
 use Rattle.ioam_toml.specs.declared.why.Why.{Why}
-use Rattle.ioam_toml.specs.declared.why.Why.TheVariants.{Range, Text, Long}
+use Rattle.ioam_toml.specs.declared.why.Why.TheVariants.{Range}
 use Rattle.ioam_toml.specs.Reads.{◌▷◌, optional}
 use Rattle.ioam_toml.specs.Numbers.{number}
 use Rattle.ioam_toml.specs.Texts.{text}
@@ -18,14 +18,13 @@ use Rattle.ioam_topo.specs.declared.words.Field.TheVariants.{OtherKey, FormatKey
 use Rattle.ioam_topo.specs.declared.fault.DomainFault.{DomainFault}
 use Rattle.ioam_topo.specs.declared.words.Format.{Format}
 use Rattle.ioam_topo.specs.declared.words.Format.TheVariants.{Ptp, Ntp, Posix}
-use Rattle.ioam_topo.specs.declared.parts.Node.{Node}
 use Rattle.ioam_topo.specs.declared.parts.Link.{Link}
 use Rattle.ioam_topo.specs.declared.parts.Port.{Port}
 use Rattle.ioam_topo.specs.declared.parts.Route.{Route}
-use Rattle.ioam_topo.specs.Faults.{at, each, fault}
+use Rattle.ioam_topo.specs.Faults.{at, each}
 use Rattle.ioam_topo.specs.Goods.{goods}
 use Rattle.ioam_topo.specs.Keys.{own_keys}
-use Rattle.ioam_topo.specs.NodeTable.{node_faults, node_name, node_of}
+use Rattle.ioam_topo.specs.NodeTable.{node_faults, node_name}
 use Rattle.ioam_topo.specs.LinkTable.{link_faults, link_name, link_end, link_of}
 use Rattle.ioam_topo.specs.PortTable.{port_faults, port_name, port_end, port_of}
 use Rattle.ioam_topo.specs.RouteTable.{route_faults, route_of}
@@ -87,7 +86,7 @@ table_faults table most d faults = at table 0 NoKey (rows most d) ++ each faults
 abbrev pub route_table_faults : Members → List DomainFault
 route_table_faults t = table_faults RouteTable MOST_ROUTES (get_member (codes "route") t)
     (route_faults (node_names t) (goods link_name (link_entries t)) (goods (link_end (node_names t)) (link_entries t))
-      (goods port_name (port_entries t)) (goods (port_end (node_names t)) (port_entries t)))
+    (goods port_name (port_entries t)) (goods (port_end (node_names t)) (port_entries t)))
 
 -- the faults of the tables that routes refer to
 abbrev pub part_faults : Members → List DomainFault

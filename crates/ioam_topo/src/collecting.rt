@@ -20,14 +20,25 @@ pub(crate) trait Collects<C>: Drop {
     ghost Holds: { C → List Members → Self → Type 0 };
 
     // Collects one entry more.
-    fn take(&mut self, alloc: Global, before: &C, place: u32, entry: &toml::Table) -> Result<(), DomainRefused>
+    fn take(
+        &mut self,
+        alloc: Global,
+        before: &C,
+        place: u32,
+        entry: &toml::Table,
+    ) -> Result<(), DomainRefused>
         ensures { (earlier : List Members) → Holds before.now earlier self.old → place ≡ length earlier + 1
             → Gives result (faults before.now earlier (table_view entry.now))
-                (λ _. Holds before.now (earlier ++ table_view entry.now ∷ []) self.new) };
+            (λ _. Holds before.now (earlier ++ table_view entry.now ∷ []) self.new) };
 }
 
 // Collects all entries of a table.
-pub(crate) fn collect<C, T: Collects<C>>(alloc: Global, before: &C, entries: &[&toml::Table], none: T) -> Result<T, DomainRefused>
+pub(crate) fn collect<C, T: Collects<C>>(
+    alloc: Global,
+    before: &C,
+    entries: &[&toml::Table],
+    none: T,
+) -> Result<T, DomainRefused>
     requires few { length entries.now < 2 ^ 31 }
     requires none { T.Holds before.now [] none }
     ensures { Gives result (each (T.faults before.now) [] (map (λ t. table_view t.now) entries.now))

@@ -92,7 +92,15 @@ pub(crate) fn read_own(top: &toml::Table) -> Result<Own, DomainRefused>
 }
 
 // The entries of a table, collected.
-pub(crate) fn read_entries<C, T: Collects<C>>(alloc: Global, top: &toml::Table, spot: Spot, key: &str, most: usize, before: &C, none: T) -> Result<T, DomainRefused>
+pub(crate) fn read_entries<C, T: Collects<C>>(
+    alloc: Global,
+    top: &toml::Table,
+    spot: Spot,
+    key: &str,
+    most: usize,
+    before: &C,
+    none: T,
+) -> Result<T, DomainRefused>
     requires most { most < 2 ^ 31 }
     requires place { spot.place ≡ 0 }
     requires none { T.Holds before.now [] none }

@@ -40,7 +40,11 @@ impl Spot {
     }
 
     // The same, of a read that may find no memory.
-    pub(crate) fn key_or<T>(self, field: Field, read: Result<T, Refused>) -> Result<T, DomainRefused>
+    pub(crate) fn key_or<T>(
+        self,
+        field: Field,
+        read: Result<T, Refused>,
+    ) -> Result<T, DomainRefused>
         ensures { MatchResult read (λ x. result ≡ Ok x) (λ refused. result ≡ Err (refused_at self.table self.place field refused)) }
     {
         match read {
@@ -56,12 +60,14 @@ fn is_listed(table: Table, key: &str) -> bool
     ensures { result ≡ is_listed table key.now }
 {
     match table {
-        Table::Top => {
-            is_top_key(key)
-        }
+        Table::Top => { is_top_key(key) }
         Table::NodeTable => key == "name" || key == "id" || key == "address" || key == "namespaces",
         Table::LinkTable => is_link_key(key),
-        Table::PortTable => key == "name" || key == "node" || key == "id" || key == "in" || key == "out",
+        Table::PortTable => key == "name"
+            || key == "node"
+            || key == "id"
+            || key == "in"
+            || key == "out",
         Table::RouteTable => key == "node" || key == "prefix" || key == "link" || key == "port",
         Table::DataTable => is_data_key(key),
         Table::FlowTable => is_flow_key(key),
@@ -92,9 +98,23 @@ fn is_data_key(key: &str) -> bool
 fn is_flow_key(key: &str) -> bool
     ensures { result ≡ is_listed Table.FlowTable key.now }
 {
-    let packets = key == "name" || key == "entry" || key == "exit" || key == "source" || key == "target";
-    let headers = key == "namespace" || key == "hops" || key == "label" || key == "trace" || key == "capacity";
-    packets || headers || key == "edge" || key == "direct" || key == "every" || key == "flow_id" || key == "limit"
+    let packets = key == "name"
+        || key == "entry"
+        || key == "exit"
+        || key == "source"
+        || key == "target";
+    let headers = key == "namespace"
+        || key == "hops"
+        || key == "label"
+        || key == "trace"
+        || key == "capacity";
+    packets
+        || headers
+        || key == "edge"
+        || key == "direct"
+        || key == "every"
+        || key == "flow_id"
+        || key == "limit"
 }
 
 // Whether each key of an entry is listed.

@@ -25,3 +25,6 @@ pub use ioam_toml::{Prefix, Spaces, Why};
 pub use parts::{Link, Node, Port, Route};
 pub use reading::{FILE_MOST, read_domain};
 pub use words::{Field, Format, Table};
+
+#[cfg(test)]
+mod tests;

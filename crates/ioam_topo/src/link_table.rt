@@ -131,7 +131,13 @@ impl Links {
     }
 
     // The link of an entry, with its name.
-    fn read<'a>(&self, alloc: Global, nodes: &Nodes, place: u32, entry: &'a toml::Table) -> Result<(&'a str, Link), DomainRefused>
+    fn read<'a>(
+        &self,
+        alloc: Global,
+        nodes: &Nodes,
+        place: u32,
+        entry: &'a toml::Table,
+    ) -> Result<(&'a str, Link), DomainRefused>
         ensures { Gives result (link_keys nodes.now.names place self.now.names self.now.taps (table_view entry.now))
             (λ row. IsNewLink nodes.now.names self.now (table_view entry.now) row.0.now row.1) }
     {
@@ -151,16 +157,19 @@ impl Links {
         };
         let tap = spot.key(Field::TapKey, tap(self.taps, entry))?;
         match (Name::new(alloc, text), maybe_copied(alloc, tap)) {
-            (Ok(name), Ok(tap)) => Ok((text, Link {
-                name,
-                from: NodeId(ends.from),
-                to: NodeId(ends.to),
-                out_id: numbers.out_id,
-                in_id: numbers.in_id,
-                delay: numbers.delay,
-                mtu: numbers.mtu,
-                tap,
-            })),
+            (Ok(name), Ok(tap)) => Ok((
+                text,
+                Link {
+                    name,
+                    from: NodeId(ends.from),
+                    to: NodeId(ends.to),
+                    out_id: numbers.out_id,
+                    in_id: numbers.in_id,
+                    delay: numbers.delay,
+                    mtu: numbers.mtu,
+                    tap,
+                },
+            )),
             _ => Err(DomainRefused::NoMemory),
         }
     }
@@ -191,7 +200,13 @@ impl Collects<Nodes> for Links {
 
     ghost Holds = { λ nodes. HoldsLinks nodes.names };
 
-    fn take(&mut self, alloc: Global, before: &Nodes, place: u32, entry: &toml::Table) -> Result<(), DomainRefused> {
+    fn take(
+        &mut self,
+        alloc: Global,
+        before: &Nodes,
+        place: u32,
+        entry: &toml::Table,
+    ) -> Result<(), DomainRefused> {
         let (text, link) = match self.read(alloc, before, place, entry) {
             Ok(row) => row,
             Err(refused) => return Err(refused),

@@ -1,9 +1,14 @@
 ghost use Rattle.std.specs.Prelude.{◌≡◌, nat_eq};
+ghost use Rattle.std.specs.Prelude.{◌||◌, slice_get};
 ghost use Rattle.std.specs.List.{list_any};
+ghost use Rattle.std.specs.Option.{option_copied};
+ghost use Rattle.ioam_topo.specs.Domain.{lists_space};
 
 use crate::domain::Domain;
+use crate::ids::NodeId;
 use crate::parts::{Link, Node, Port, Route};
 use crate::words::Format;
+use ioam_data::Namespace;
 
 impl Domain {
     ghost use Rattle.ioam_topo.specs.Domain.{nodes, links, ports, routes};
@@ -56,4 +61,28 @@ impl Domain {
     {
         self.nodes().iter().any(|node| target == node.address)
     }
+
+    /// Whether a node knows a namespace; every node knows namespace 0.
+    pub fn knows(&self, node: NodeId, namespace: Namespace) -> bool
+        ensures { result ≡ (nat_eq namespace.0 0 || lists_space (slice_get (nodes self.now) node.0) namespace.0) }
+    {
+        namespace.0 == 0 || lists_space(self.nodes().get(node.0 as usize), namespace)
+    }
+}
+
+// Whether a node, where it is there, lists a namespace.
+fn lists_space(node: Option<&Node>, namespace: Namespace) -> bool
+    ensures { result ≡ lists_space (option_copied node.entry) namespace.0 }
+{
+    match node {
+        Some(node) => is_among(node.namespaces.list(), namespace),
+        None => false,
+    }
+}
+
+// Whether a namespace is one of these.
+fn is_among(spaces: &[Namespace], namespace: Namespace) -> bool
+    ensures { result ≡ list_any (λ space. nat_eq namespace.0 space.0) spaces.now }
+{
+    spaces.iter().any(|space| namespace.0 == space.0)
 }

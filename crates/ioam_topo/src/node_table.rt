@@ -88,7 +88,12 @@ impl Nodes {
     ghost use Rattle.ioam_topo.specs.NodeRead.{IsNewNode};
 
     // The node of an entry, with its name.
-    fn read<'a>(&self, alloc: Global, place: u32, entry: &'a toml::Table) -> Result<(&'a str, Node), DomainRefused>
+    fn read<'a>(
+        &self,
+        alloc: Global,
+        place: u32,
+        entry: &'a toml::Table,
+    ) -> Result<(&'a str, Node), DomainRefused>
         ensures { Gives result (node_keys place self.now.names self.now.ids.keys self.now.addresses.keys (table_view entry.now))
             (λ row. IsNewNode self.now (table_view entry.now) row.0.now row.1) }
     {
@@ -99,15 +104,21 @@ impl Nodes {
         spot.key(Field::OtherKey, own_keys(Table::NodeTable, entry))?;
         let text = spot.key(Field::NameKey, self.names.new_name(entry, "name"))?;
         let id = spot.key(Field::IdKey, self.new_id(number(entry, "id", 0, ID_MOST)))?;
-        let address = spot.key(Field::AddressKey, self.new_address(address(entry, "address")))?;
+        let address = spot.key(
+            Field::AddressKey,
+            self.new_address(address(entry, "address")),
+        )?;
         let namespaces = spot.key_or(Field::NamespacesKey, namespaces(alloc, entry, "namespaces"))?;
         match Name::new(alloc, text) {
-            Ok(name) => Ok((text, Node {
-                name,
-                id,
-                address,
-                namespaces,
-            })),
+            Ok(name) => Ok((
+                text,
+                Node {
+                    name,
+                    id,
+                    address,
+                    namespaces,
+                },
+            )),
             Err(_) => Err(DomainRefused::NoMemory),
         }
     }
@@ -121,7 +132,13 @@ impl Collects<()> for Nodes {
 
     ghost Holds = { λ _. HoldsNodes };
 
-    fn take(&mut self, alloc: Global, _before: &(), place: u32, entry: &toml::Table) -> Result<(), DomainRefused> {
+    fn take(
+        &mut self,
+        alloc: Global,
+        _before: &(),
+        place: u32,
+        entry: &toml::Table,
+    ) -> Result<(), DomainRefused> {
         let (text, node) = match self.read(alloc, place, entry) {
             Ok(row) => row,
             Err(refused) => return Err(refused),

@@ -44,7 +44,13 @@ impl Ports {
     }
 
     // The port of an entry, with its name.
-    fn read<'a>(&self, alloc: Global, nodes: &Nodes, place: u32, entry: &'a toml::Table) -> Result<(&'a str, Port), DomainRefused>
+    fn read<'a>(
+        &self,
+        alloc: Global,
+        nodes: &Nodes,
+        place: u32,
+        entry: &'a toml::Table,
+    ) -> Result<(&'a str, Port), DomainRefused>
         ensures { Gives result (port_keys nodes.now.names place self.now.names (table_view entry.now))
             (λ row. IsNewPort nodes.now.names self.now (table_view entry.now) row.0.now row.1) }
     {
@@ -58,14 +64,21 @@ impl Ports {
         let id = spot.key(Field::IdKey, number32(entry, "id", 0, 4_294_967_295))?;
         let input = spot.key(Field::InKey, maybe_file_name(entry, "in"))?;
         let output = spot.key(Field::OutKey, file_name(entry, "out"))?;
-        match (Name::new(alloc, text), maybe_copied(alloc, input), Name::new(alloc, output)) {
-            (Ok(name), Ok(input), Ok(output)) => Ok((text, Port {
-                name,
-                node: NodeId(node),
-                id,
-                input,
-                output,
-            })),
+        match (
+            Name::new(alloc, text),
+            maybe_copied(alloc, input),
+            Name::new(alloc, output),
+        ) {
+            (Ok(name), Ok(input), Ok(output)) => Ok((
+                text,
+                Port {
+                    name,
+                    node: NodeId(node),
+                    id,
+                    input,
+                    output,
+                },
+            )),
             _ => Err(DomainRefused::NoMemory),
         }
     }
@@ -90,7 +103,13 @@ impl Collects<Nodes> for Ports {
 
     ghost Holds = { λ nodes. HoldsPorts nodes.names };
 
-    fn take(&mut self, alloc: Global, before: &Nodes, place: u32, entry: &toml::Table) -> Result<(), DomainRefused> {
+    fn take(
+        &mut self,
+        alloc: Global,
+        before: &Nodes,
+        place: u32,
+        entry: &toml::Table,
+    ) -> Result<(), DomainRefused> {
         let (text, port) = match self.read(alloc, before, place, entry) {
             Ok(row) => row,
             Err(refused) => return Err(refused),

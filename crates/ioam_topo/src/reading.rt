@@ -30,15 +30,48 @@ pub const FILE_MOST: usize = 1_048_576;
 fn read_parts(alloc: Global, top: &toml::Table) -> Result<Parts, DomainRefused>
     ensures { Gives result (part_faults (table_view top.now)) (HoldsParts (table_view top.now)) }
 {
-    let nodes = match read_entries(alloc, top, Spot { table: Table::NodeTable, place: 0 }, "node", MOST_NODES, &(), Nodes::new(alloc)) {
+    let nodes = match read_entries(
+        alloc,
+        top,
+        Spot {
+            table: Table::NodeTable,
+            place: 0,
+        },
+        "node",
+        MOST_NODES,
+        &(),
+        Nodes::new(alloc),
+    ) {
         Ok(nodes) => nodes,
         Err(refused) => return Err(refused),
     };
-    let links = match read_entries(alloc, top, Spot { table: Table::LinkTable, place: 0 }, "link", MOST_LINKS, &nodes, Links::new(alloc)) {
+    let links = match read_entries(
+        alloc,
+        top,
+        Spot {
+            table: Table::LinkTable,
+            place: 0,
+        },
+        "link",
+        MOST_LINKS,
+        &nodes,
+        Links::new(alloc),
+    ) {
         Ok(links) => links,
         Err(refused) => return Err(refused),
     };
-    let ports = match read_entries(alloc, top, Spot { table: Table::PortTable, place: 0 }, "port", MOST_PORTS, &nodes, Ports::new(alloc)) {
+    let ports = match read_entries(
+        alloc,
+        top,
+        Spot {
+            table: Table::PortTable,
+            place: 0,
+        },
+        "port",
+        MOST_PORTS,
+        &nodes,
+        Ports::new(alloc),
+    ) {
         Ok(ports) => ports,
         Err(refused) => return Err(refused),
     };
@@ -50,7 +83,13 @@ fn read_parts(alloc: Global, top: &toml::Table) -> Result<Parts, DomainRefused>
 }
 
 // A table of which only the heading is looked at.
-fn check_heading(alloc: Global, top: &toml::Table, table: Table, key: &str, most: usize) -> Result<(), DomainRefused>
+fn check_heading(
+    alloc: Global,
+    top: &toml::Table,
+    table: Table,
+    key: &str,
+    most: usize,
+) -> Result<(), DomainRefused>
     ensures { Gives result (at table 0 NoKey (rows most (get_member key.now (table_view top.now)))) (λ _. ⊤) }
 {
     let spot = Spot { table, place: 0 };
@@ -82,7 +121,18 @@ fn read_file(alloc: Global, top: &toml::Table) -> Result<Domain, DomainRefused>
         Ok(parts) => parts,
         Err(refused) => return Err(refused),
     };
-    let routes = match read_entries(alloc, top, Spot { table: Table::RouteTable, place: 0 }, "route", MOST_ROUTES, &parts, Routes::new(alloc)) {
+    let routes = match read_entries(
+        alloc,
+        top,
+        Spot {
+            table: Table::RouteTable,
+            place: 0,
+        },
+        "route",
+        MOST_ROUTES,
+        &parts,
+        Routes::new(alloc),
+    ) {
         Ok(routes) => routes,
         Err(refused) => return Err(refused),
     };

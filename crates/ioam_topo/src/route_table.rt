@@ -198,7 +198,13 @@ impl Collects<Parts> for Routes {
 
     ghost Holds = { HoldsRoutes };
 
-    fn take(&mut self, _alloc: Global, before: &Parts, place: u32, entry: &toml::Table) -> Result<(), DomainRefused> {
+    fn take(
+        &mut self,
+        _alloc: Global,
+        before: &Parts,
+        place: u32,
+        entry: &toml::Table,
+    ) -> Result<(), DomainRefused> {
         let route = match self.read(before, place, entry) {
             Ok(route) => route,
             Err(refused) => return Err(refused),

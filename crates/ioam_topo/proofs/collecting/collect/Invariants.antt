@@ -7,4 +7,5 @@ abbrev pub invariant-loop-at : goal.invariant-loop-at
 invariant-loop-at g l = record {
   holds : g.T.Collects.Holds l.before (map (λ t. table_view t.now) (take l.at l.entries)) l.out;
   rest : each (g.T.Collects.faults l.before) (map (λ t. table_view t.now) (take l.at l.entries)) (map (λ t. table_view t.now) (drop l.at l.entries))
-      ≡ each (g.T.Collects.faults l.before) [] (map (λ t. table_view t.now) l.entries) }
+      ≡ each (g.T.Collects.faults l.before) [] (map (λ t. table_view t.now) l.entries);
+}

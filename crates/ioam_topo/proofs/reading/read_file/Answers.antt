@@ -15,5 +15,5 @@ returns-in-Err-read_entries c = gives_first c.in-Err-read_entries.refused _ _ _ 
 pub returns-in-Err-check_later : goal.returns-in-Err-check_later
 returns-in-Err-check_later c = gives_first c.in-Err-check_later.refused _ _ _ _ _
     (last_of_four _ _ _ _ _ c.in-Ok.ensures.0 c.in-Ok-read_parts.ensures.0 c.in-Ok-read_entries.ensures.0
-      (routes_same (table_view c.args.top.now) c.in-Ok-read_parts.parts c.in-Ok-read_parts.ensures.1))
+    (routes_same (table_view c.args.top.now) c.in-Ok-read_parts.parts c.in-Ok-read_parts.ensures.1))
     c.in-Err-check_later.ensures

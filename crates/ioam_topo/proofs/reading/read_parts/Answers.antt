@@ -10,4 +10,4 @@ returns-in-Err-read_entries c = gives_first c.in-Err-read_entries.refused _ _ _ 
 pub returns-in-Err-read_entries-2 : goal.returns-in-Err-read_entries-2
 returns-in-Err-read_entries-2 c = gives_first c.in-Err-read_entries-2.refused _ _ _ _ _
     (last_of_three _ _ _ _ _ c.in-Ok.ensures.0 c.in-Ok-read_entries.ensures.0 (links_same (table_view c.args.top.now) c.in-Ok.nodes c.in-Ok.ensures.1)
-      (ports_same (table_view c.args.top.now) c.in-Ok.nodes c.in-Ok.ensures.1)) c.in-Err-read_entries-2.ensures
+    (ports_same (table_view c.args.top.now) c.in-Ok.nodes c.in-Ok.ensures.1)) c.in-Err-read_entries-2.ensures

@@ -9,8 +9,11 @@ use Rattle.ioam_topo.proofs.route_table.Routes.read.Goals as goal
 
 pub returns : goal.returns
 returns c =
-    let f : needed prefix (get_member (codes "prefix") (table_view c.args.entry.now)) ▷ fresh_for (Ok c.in_ok-node.node) c.args.self.now.taken.keys ≡ Ok c.in_ok-prefix.prefix = search rules in
-    (search rules, record {
-      is = search rules;
-      key_is = search rules;
-      new_key = fresh_for_new c.in_ok-node.node c.args.self.now.taken.keys _ c.in_ok-prefix.prefix f })
+    let f : needed prefix (get_member (codes "prefix") (table_view c.args.entry.now)) ▷ fresh_for (Ok c.in_ok-node.node) c.args.self.now.taken.keys ≡ Ok c.in_ok-prefix.prefix = search rules in (
+      search rules,
+      record {
+        is = search rules;
+        key_is = search rules;
+        new_key = fresh_for_new c.in_ok-node.node c.args.self.now.taken.keys _ c.in_ok-prefix.prefix f;
+      },
+    )
