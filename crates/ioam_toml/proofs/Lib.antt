@@ -1,0 +1,3 @@
+pub mod AddressLaws
+pub mod PrefixLaws
+pub mod EntryLaws

@@ -1,0 +1,52 @@
+-- Prefixes: an address, `/` and the number of its bits that count.
+use Rattle.std.specs.Prelude.{ℕ, ◌+◌, ◌-◌, ◌*◌, ◌%◌, ◌^◌, Bool, not, nat_le, ◌==◌, ◌&&◌, List, [], ◌∷◌, length, take, drop, slice_index, position, Option, Some, None, option_and_then, Result, if◌then◌else◌}
+use Rattle.toml.specs.Data.{Data}
+use Rattle.ioam_toml.specs.declared.why.Why.{Why}
+use Rattle.ioam_toml.specs.declared.masks.Prefix.{Prefix}
+use Rattle.ioam_toml.specs.Reads.{◌▷◌}
+use Rattle.ioam_toml.specs.Texts.{text}
+use Rattle.ioam_toml.specs.Addresses.{address_of, ranged}
+
+-- the bits of an address of which only so many count, the others 0
+abbrev pub masked : ℕ → ℕ → ℕ
+masked size bits = bits - bits % 2 ^ (128 - size)
+
+-- the value of a decimal digit
+abbrev pub digit : ℕ → Option ℕ
+digit b = if nat_le 48 b && nat_le b 57 then Some (b - 48) else None
+
+-- decimal digits behind others of a value
+abbrev pub decimal_value : ℕ → List ℕ → Option ℕ
+decimal_value n [] = Some n
+decimal_value n (b ∷ bs) = option_and_then (λ d. decimal_value (n * 10 + d) bs) (digit b)
+
+-- one to three digits, the first of several not 0
+abbrev pub is_plain : List ℕ → Bool
+is_plain s = nat_le 1 (length s) && nat_le (length s) 3 && not (nat_le 2 (length s) && (slice_index s 0 == 48))
+
+-- no more than 128
+abbrev pub at_most_128 : ℕ → Option ℕ
+at_most_128 n = if nat_le n 128 then Some n else None
+
+-- the number of bits that a text spells
+abbrev pub size_of : List ℕ → Option ℕ
+size_of s = if is_plain s then option_and_then at_most_128 (decimal_value 0 s) else None
+
+abbrev pub prefix_of : Option ℕ → Option ℕ → Option Prefix
+prefix_of (Some bits) (Some size) = Some (record { bits = masked size bits; length = size })
+prefix_of _ _ = None
+
+-- the parts before and behind the first `/`
+abbrev pub parted : Option ℕ → List ℕ → Option Prefix
+parted None s = None
+parted (Some i) s = prefix_of (address_of (take i s)) (size_of (drop (i + 1) s))
+
+abbrev pub slash_at : List ℕ → Option ℕ
+slash_at s = position (λ b. b == 47) s
+
+abbrev pub prefix : Data → Result Prefix Why
+prefix d = text d ▷ (λ s. ranged (parted (slash_at s) s))
+
+-- whether an address has these bits
+abbrev pub matches : Prefix → ℕ → Bool
+matches p target = masked p.length target == p.bits

@@ -1,0 +1,27 @@
+//! The kinds of value that the tables of a TOML file hold, each with one definition of what it
+//! reads as: whole numbers, names, file names, addresses, prefixes, trace types, lists of numbers
+//! and hexadecimal digits.
+#![tactic(auto)]
+
+mod addresses;
+mod entries;
+mod finding;
+mod groups;
+mod masks;
+mod numbers;
+mod prefixes;
+mod refused;
+mod spaces;
+mod texts;
+mod why;
+
+pub use addresses::address;
+pub use entries::rows;
+pub use finding::find;
+pub use masks::Prefix;
+pub use numbers::{maybe_number, number, number_or};
+pub use prefixes::{masked, matches, prefix};
+pub use refused::Refused;
+pub use spaces::{Spaces, namespaces};
+pub use texts::{file_name, maybe_file_name, maybe_name, name, text_of};
+pub use why::Why;

@@ -1,0 +1,135 @@
+ghost use Rattle.std.specs.Prelude.{◌≡◌, ◌+◌, ◌-◌, ◌%◌, ◌^◌, ◌<◌, ◌≤◌, length, IfOk, IfSome};
+ghost use Rattle.toml.specs.Data.{get_member};
+ghost use Rattle.toml.specs.View.{view, table_view};
+ghost use Rattle.ioam_toml.specs.Reads.{needed};
+ghost use Rattle.ioam_toml.specs.Prefixes.{masked, digit, decimal_value, size_of, prefix_of, parted, slash_at, prefix, matches};
+
+use crate::addresses::address_of;
+use crate::finding::find;
+use crate::masks::Prefix;
+use crate::texts::text_of;
+use crate::why::Why;
+use toml::{Table, Value};
+
+/// The bits of an address of which only so many count, at most 128; the others are 0.
+pub fn masked(size: u8, bits: u128) -> u128
+    requires { size ≤ 128 }
+    ensures { result ≡ masked size bits }
+{
+    if size == 0 {
+        0
+    } else {
+        bits - bits % power(128 - size)
+    }
+}
+
+// A power of two.
+fn power(exponent: u8) -> u128
+    requires { exponent < 128 }
+    ensures value { result ≡ 2 ^ exponent }
+    ensures some { 0 < result }
+{
+    1 << exponent
+}
+
+/// Whether an address has the bits of a prefix.
+pub fn matches(prefix: Prefix, target: u128) -> bool
+    requires { prefix.length ≤ 128 }
+    ensures { result ≡ matches prefix target }
+{
+    masked(prefix.length, target) == prefix.bits
+}
+
+// The value of a decimal digit.
+fn digit(octet: u8) -> Option<u8>
+    ensures value { result ≡ digit octet }
+    ensures small { IfSome result (λ d. d < 10) }
+{
+    match octet {
+        b'0'..=b'9' => Some(octet - b'0'),
+        _ => None,
+    }
+}
+
+// The value of at most three decimal digits.
+#[tactic(auto, using(crate::proofs::PrefixLaws::decimal_step, crate::proofs::PrefixLaws::decimal_stop, crate::proofs::PrefixLaws::ten_step))]
+fn decimal_value(digits: &[u8]) -> Option<u32>
+    requires { length digits.now ≤ 3 }
+    ensures { result ≡ decimal_value 0 digits.now }
+{
+    let mut value: u32 = 0;
+    for octet in digits {
+        match digit(*octet) {
+            Some(digit) => value = value * 10 + u32::from(digit),
+            None => return None,
+        }
+    }
+    Some(value)
+}
+
+// The number of bits that a text spells.
+fn size_of(text: &[u8]) -> Option<u8>
+    ensures value { result ≡ size_of text.now }
+    ensures small { IfSome result (λ n. n ≤ 128) }
+{
+    if text.is_empty() || text.len() > 3 || text.len() >= 2 && text[0] == b'0' {
+        return None;
+    }
+    match decimal_value(text) {
+        Some(size) if size <= 128 => Some(size as u8),
+        _ => None,
+    }
+}
+
+// Where the first `/` stands.
+fn slash_at(text: &[u8]) -> Option<usize>
+    ensures value { result ≡ slash_at text.now }
+    ensures within { IfSome result (λ at. at < length text.now) }
+{
+    text.iter().position(|octet| *octet == b'/')
+}
+
+// The prefix of an address and a number of bits.
+fn prefix_of(bits: Option<u128>, size: Option<u8>) -> Option<Prefix>
+    requires { IfSome size (λ n. n ≤ 128) }
+    ensures value { result ≡ prefix_of bits size }
+    ensures small { IfSome result (λ p. p.length ≤ 128) }
+{
+    match (bits, size) {
+        (Some(bits), Some(length)) => Some(Prefix {
+            bits: masked(length, bits),
+            length,
+        }),
+        _ => None,
+    }
+}
+
+// A value that is to be a prefix.
+fn prefix_in(value: &Value) -> Result<Prefix, Why>
+    ensures value { result ≡ prefix (view value.now) }
+    ensures small { IfOk result (λ p. p.length ≤ 128) }
+{
+    let octets = match text_of(value) {
+        Ok(text) => text.as_bytes(),
+        Err(why) => return Err(why),
+    };
+    let Some(at) = slash_at(octets) else {
+        return Err(Why::Range);
+    };
+    match prefix_of(address_of(&octets[..at]), size_of(&octets[at + 1..])) {
+        Some(prefix) => Ok(prefix),
+        None => Err(Why::Range),
+    }
+}
+
+/// The prefix at a key that is needed: an address, `/` and a decimal number from 0 to 128 without
+/// a leading zero save `0` itself. Bits past that number are ignored, and are 0 in what is read.
+pub fn prefix(entry: &Table, key: &str) -> Result<Prefix, Why>
+    ensures value { result ≡ needed prefix (get_member key.now (table_view entry.now)) }
+    ensures small { IfOk result (λ p. p.length ≤ 128) }
+{
+    match find(entry, key) {
+        Some(value) => prefix_in(value),
+        None => Err(Why::Missing),
+    }
+}

@@ -1,0 +1,43 @@
+-- Laws of keys and of names.
+use Rattle.std.proofs.Common.{◌≡◌, ℕ, Bool, false, ◌&&◌, ◌||◌, cond, List, [], ◌∷◌, ◌++◌, map, String, Global, length, refl, ap, ◌∙◌, string_bytes}
+use Rattle.std.specs.List.{list_any, list_all, position, position_or_len}
+use Rattle.std.specs.Map.{keys_of}
+use Rattle.std.specs.Str.{bytes_eq}
+use Rattle.toml.specs.View.{members_view}
+use Rattle.toml.specs.declared.value.Value.{Value}
+use Rattle.ioam_topo.specs.declared.words.Table.{Table}
+use Rattle.ioam_topo.specs.Keys.{is_listed, all_listed}
+
+pub listed_keys : (table : Table) (es : List (String Global × Value)) → list_all (λ k. is_listed table (string_bytes k)) (keys_of es) ≡ all_listed table (members_view es)
+listed_keys table [] = refl
+listed_keys table (e ∷ es) = ap (λ b. is_listed table (string_bytes e.0) && b) (listed_keys table es)
+
+pub any_map : {A B : Type 0} (p : B → Bool) (f : A → B) (xs : List A) → list_any (λ x. p (f x)) xs ≡ list_any p (map f xs)
+any_map p f [] = refl
+any_map p f (x ∷ xs) = ap (λ b. p (f x) || b) (any_map p f xs)
+
+place_map : {A B : Type 0} (p : B → Bool) (f : A → B) (xs : List A) → position_or_len (λ x. p (f x)) xs ≡ position_or_len p (map f xs)
+place_map p f [] = refl
+place_map p f (x ∷ xs) = rw (place_map p f xs)
+
+pub length_map : {A B : Type 0} (f : A → B) (xs : List A) → length xs ≡ length (map f xs)
+length_map f [] = refl
+length_map f (x ∷ xs) = rw (length_map f xs)
+
+pub position_map : {A B : Type 0} (p : B → Bool) (f : A → B) (xs : List A) → position (λ x. p (f x)) xs ≡ position p (map f xs)
+position_map p f xs = rw (place_map p f xs, length_map f xs)
+
+pub map_append : {A B : Type 0} (f : A → B) (xs ys : List A) → map f (xs ++ ys) ≡ map f xs ++ map f ys
+map_append f [] ys = refl
+map_append f (x ∷ xs) ys = ap (λ zs. f x ∷ zs) (map_append f xs ys)
+
+-- a name that isn't there is added behind the others
+pub added : (ks new : List (String Global)) (k : String Global) (name : List ℕ) → string_bytes k ≡ name
+    → list_any (bytes_eq name) (map string_bytes ks) ≡ false
+    → new ≡ cond (list_any (λ x. bytes_eq (string_bytes k) (string_bytes x)) ks) ks (ks ++ k ∷ [])
+    → map string_bytes new ≡ map string_bytes ks ++ name ∷ []
+added ks new k name is absent more =
+    let off : list_any (λ x. bytes_eq (string_bytes k) (string_bytes x)) ks ≡ false = any_map (bytes_eq (string_bytes k)) string_bytes ks
+    ∙ ap (λ n. list_any (bytes_eq n) (map string_bytes ks)) is ∙ absent in
+    let put : new ≡ ks ++ k ∷ [] = more ∙ ap (λ b. cond b ks (ks ++ k ∷ [])) off in
+    ap (map string_bytes) put ∙ map_append string_bytes ks (k ∷ []) ∙ ap (λ n. map string_bytes ks ++ n ∷ []) is

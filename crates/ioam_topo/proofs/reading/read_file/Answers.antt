@@ -1,0 +1,19 @@
+use Rattle.std.proofs.Common.{refl}
+use Rattle.ioam_topo.proofs.FaultLaws.{gives_first}
+use Rattle.ioam_topo.proofs.PartsLaws.{third_of_four, last_of_four, routes_same}
+use Rattle.toml.specs.View.{table_view}
+use Rattle.ioam_topo.proofs.reading.read_file.Goals as goal
+
+pub returns-in-Err : goal.returns-in-Err
+returns-in-Err c = gives_first c.in-Err.refused _ _ _ _ _ refl c.in-Err.ensures
+
+pub returns-in-Err-read_entries : goal.returns-in-Err-read_entries
+returns-in-Err-read_entries c = gives_first c.in-Err-read_entries.refused _ _ _ _ _
+    (third_of_four _ _ _ _ _ c.in-Ok.ensures.0 c.in-Ok-read_parts.ensures.0 (routes_same (table_view c.args.top.now) c.in-Ok-read_parts.parts c.in-Ok-read_parts.ensures.1))
+    c.in-Err-read_entries.ensures
+
+pub returns-in-Err-check_later : goal.returns-in-Err-check_later
+returns-in-Err-check_later c = gives_first c.in-Err-check_later.refused _ _ _ _ _
+    (last_of_four _ _ _ _ _ c.in-Ok.ensures.0 c.in-Ok-read_parts.ensures.0 c.in-Ok-read_entries.ensures.0
+    (routes_same (table_view c.args.top.now) c.in-Ok-read_parts.parts c.in-Ok-read_parts.ensures.1))
+    c.in-Err-check_later.ensures

@@ -1,0 +1,14 @@
+pub mod Faults
+pub mod Goods
+pub mod Keys
+pub mod NodeTable
+pub mod NodeRead
+pub mod LinkTable
+pub mod LinkRead
+pub mod PortTable
+pub mod PortRead
+pub mod RouteTable
+pub mod RouteRead
+pub mod Top
+pub mod Domain
+pub mod PartsRead

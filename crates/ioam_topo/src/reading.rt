@@ -1,0 +1,192 @@
+ghost use Rattle.std.specs.Prelude.{◌≡◌, ◌<◌, ◌≤◌, ◌^◌, ◌++◌, ◌∷◌, [], ⊤, Some, None, length, codes};
+ghost use Rattle.std.specs.Str.{IsUtf8};
+ghost use Rattle.toml.specs.Data.{Members, get_member};
+ghost use Rattle.toml.specs.Parse.{parse_document};
+ghost use Rattle.toml.specs.View.{table_view};
+ghost use Rattle.ioam_toml.specs.Entries.{rows};
+ghost use Rattle.ioam_topo.specs.declared.words.Table.TheVariants.{Top};
+ghost use Rattle.ioam_topo.specs.declared.words.Field.TheVariants.{NoKey};
+ghost use Rattle.ioam_topo.specs.declared.fault.DomainRefused.TheVariants.{Fault};
+ghost use Rattle.ioam_topo.specs.Faults.{Gives, at, fault};
+ghost use Rattle.ioam_topo.specs.Top.{part_faults, later_faults, faults_of};
+ghost use Rattle.ioam_topo.specs.PartsRead.{HoldsParts};
+ghost use Rattle.ioam_topo.specs.Domain.{IsDomain};
+
+use crate::domain::{Domain, MOST_DATA, MOST_FLOWS, MOST_ROUTES, read_entries, read_own};
+use crate::fault::{DomainFault, DomainRefused};
+use crate::keys::Spot;
+use crate::link_table::{Links, MOST_LINKS};
+use crate::node_table::{MOST_NODES, Nodes};
+use crate::port_table::{MOST_PORTS, Ports};
+use crate::route_table::{Parts, Routes};
+use crate::words::{Field, Table};
+use ioam_toml::{Why, rows};
+use std::alloc::Global;
+
+/// The most octets of a domain file: 1 MiB.
+pub const FILE_MOST: usize = 1_048_576;
+
+// The nodes, links and ports of a file.
+fn read_parts(alloc: Global, top: &toml::Table) -> Result<Parts, DomainRefused>
+    ensures { Gives result (part_faults (table_view top.now)) (HoldsParts (table_view top.now)) }
+{
+    let nodes = match read_entries(
+        alloc,
+        top,
+        Spot {
+            table: Table::NodeTable,
+            place: 0,
+        },
+        "node",
+        MOST_NODES,
+        &(),
+        Nodes::new(alloc),
+    ) {
+        Ok(nodes) => nodes,
+        Err(refused) => return Err(refused),
+    };
+    let links = match read_entries(
+        alloc,
+        top,
+        Spot {
+            table: Table::LinkTable,
+            place: 0,
+        },
+        "link",
+        MOST_LINKS,
+        &nodes,
+        Links::new(alloc),
+    ) {
+        Ok(links) => links,
+        Err(refused) => return Err(refused),
+    };
+    let ports = match read_entries(
+        alloc,
+        top,
+        Spot {
+            table: Table::PortTable,
+            place: 0,
+        },
+        "port",
+        MOST_PORTS,
+        &nodes,
+        Ports::new(alloc),
+    ) {
+        Ok(ports) => ports,
+        Err(refused) => return Err(refused),
+    };
+    Ok(Parts {
+        nodes,
+        links,
+        ports,
+    })
+}
+
+// A table of which only the heading is looked at.
+fn check_heading(
+    alloc: Global,
+    top: &toml::Table,
+    table: Table,
+    key: &str,
+    most: usize,
+) -> Result<(), DomainRefused>
+    ensures { Gives result (at table 0 NoKey (rows most (get_member key.now (table_view top.now)))) (λ _. ⊤) }
+{
+    let spot = Spot { table, place: 0 };
+    match spot.key_or(Field::NoKey, rows(alloc, top, key, most)) {
+        Ok(_) => Ok(()),
+        Err(refused) => Err(refused),
+    }
+}
+
+// The tables that may have no entries yet.
+fn check_later(alloc: Global, top: &toml::Table) -> Result<(), DomainRefused>
+    ensures { Gives result (later_faults (table_view top.now)) (λ _. ⊤) }
+{
+    match check_heading(alloc, top, Table::DataTable, "data", MOST_DATA) {
+        Ok(()) => check_heading(alloc, top, Table::FlowTable, "flow", MOST_FLOWS),
+        Err(refused) => Err(refused),
+    }
+}
+
+// The domain of a file's tables.
+fn read_file(alloc: Global, top: &toml::Table) -> Result<Domain, DomainRefused>
+    ensures { Gives result (faults_of (table_view top.now)) (IsDomain (table_view top.now)) }
+{
+    let own = match read_own(top) {
+        Ok(own) => own,
+        Err(refused) => return Err(refused),
+    };
+    let parts = match read_parts(alloc, top) {
+        Ok(parts) => parts,
+        Err(refused) => return Err(refused),
+    };
+    let routes = match read_entries(
+        alloc,
+        top,
+        Spot {
+            table: Table::RouteTable,
+            place: 0,
+        },
+        "route",
+        MOST_ROUTES,
+        &parts,
+        Routes::new(alloc),
+    ) {
+        Ok(routes) => routes,
+        Err(refused) => return Err(refused),
+    };
+    match check_later(alloc, top) {
+        Ok(()) => {}
+        Err(refused) => return Err(refused),
+    }
+    Ok(Domain {
+        format: own.format,
+        packets: own.packets,
+        parts,
+        routes,
+    })
+}
+
+// A fault of the file as a whole.
+fn whole_fault(why: Why) -> DomainRefused
+    ensures { result ≡ Fault (fault Top 0 NoKey why) }
+{
+    DomainRefused::Fault(DomainFault {
+        table: Table::Top,
+        place: 0,
+        field: Field::NoKey,
+        why,
+    })
+}
+
+/// Reads a domain file. Of its faults the first is answered, in this order: it has more than
+/// 1 MiB; it is no TOML text; the file's own keys; the tables `node`, `link`, `port`, `route`,
+/// `data` and `flow` in turn, each first as a whole and then its entries in order, each of these
+/// first for a key that isn't listed and then key by key. Where there is no memory, NoMemory may
+/// be answered in place of anything else.
+pub fn read_domain(alloc: Global, octets: &[u8]) -> Result<Domain, DomainRefused>
+    ensures long { 1048576 < length octets.now → Gives result (fault Top 0 NoKey Why.Long ∷ []) (λ _. ⊥) }
+    ensures text { length octets.now ≤ 1048576 → (IsUtf8 octets.now → parse_document octets.now ≡ None)
+        → Gives result (fault Top 0 NoKey Why.Text ∷ []) (λ _. ⊥) }
+    ensures table { (t : Members) → length octets.now ≤ 1048576 → IsUtf8 octets.now → parse_document octets.now ≡ Some t
+        → Gives result (faults_of t) (IsDomain t) }
+{
+    if octets.len() > FILE_MOST {
+        return Err(whole_fault(Why::Long));
+    }
+    let text = match std::str::from_utf8(octets) {
+        Ok(text) => text,
+        Err(_) => return Err(whole_fault(Why::Text)),
+    };
+    match toml::table_from_str(alloc, text) {
+        Ok(table) => read_file(alloc, &table),
+        Err(error) => {
+            if error.is_memory() {
+                Err(DomainRefused::NoMemory)
+            } else {
+                Err(whole_fault(Why::Text))
+            }
+        }
+    }
+}
