@@ -1,8 +1,9 @@
 //! The top call: one run of a command over a desk.
-ghost use Rattle.std.specs.Prelude.{◌≡◌, ◌≢◌, ◌↔◌, ◌⊎◌, ◌∷◌, [], IsSomeAnd, IsTrue};
+ghost use Rattle.std.specs.Prelude.{true, ◌≡◌, ◌≢◌, ◌↔◌, ◌⊎◌, ◌∷◌, [], IsSomeAnd, IsTrue};
 ghost use Rattle.ioam_cmd.specs.Words.{IsForm, IsNoForm, TextsOf};
 ghost use Rattle.ioam_cmd.specs.declared.command.Command.{Command};
 ghost use Rattle.ioam_desk.specs.Desk.{Rose, holds};
+ghost use Rattle.ioam_desk.specs.SureDesk.{writing_of};
 ghost use Rattle.ioam_run.specs.Names.{name_at};
 ghost use Rattle.ioam_run.specs.Run.{HasCause, Asked, Leaves, IsBehindAll, OpensNothing, OpensNoOutput, IsCleanCapture, file_names, input_name, output_names};
 ghost use Rattle.ioam_run.specs.Texts.{AsksFront};
@@ -60,6 +61,14 @@ pub fn ioam<D: Desk>(alloc: Global, words: &[Name], desk: &mut D) -> Outcome
 pub fn ioam_surely(alloc: Global, words: &[Name], desk: &mut SureDesk) -> Outcome
     ensures no_read_fault { result ≢ Outcome.ReadFault }
     ensures no_write_fault { result ≢ Outcome.WriteFault }
+    ensures usage { (result ≡ Outcome.Usage) ↔ IsNoForm words.now }
+
+    // What is asked for is answered, unless no memory could be had, and the outputs hold what belongs to the answer.
+    ensures exact { (command : Command) → IsForm command words.now → (asked : Outcome)
+        → Asked true (writing_of desk.old) (file_names words.now) (input_name words.now) asked
+        → (result ≡ asked) ⊎ (result ≡ Outcome.NoMemory) }
+    ensures leaves { (command : Command) → IsForm command words.now
+        → Leaves (TextsOf command) (input_name words.now) (output_names words.now) (writing_of desk.old) (writing_of desk.new) result }
 {
     ioam(alloc, words, desk)
 }
