@@ -1,4 +1,5 @@
 pub mod Desk
+pub mod Asked
 pub mod Whole
 pub mod Faults
 pub mod Files

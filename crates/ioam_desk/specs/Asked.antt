@@ -1,0 +1,14 @@
+-- What calls that open several names, or write, leave of a side: the names that were asked for, and the faults.
+use Rattle.std.specs.Prelude.{◌≡◌, ℕ, List, ◌++◌, take}
+use Rattle.ioam_desk.specs.Desk.{Side, Rose}
+use Rattle.ioam_desk.specs.declared.fault.DeskFault.{DeskFault}
+use Rattle.ioam_desk.specs.declared.fault.DeskFault.TheVariants.{Failed, NoMemory}
+
+-- the names that were given to an opening call are a front of this list
+abbrev pub AsksFront : List (List ℕ) → List (List ℕ) → List (List ℕ) → Type 0
+AsksFront old new names = (count : ℕ) × (new ≡ old ++ take count names)
+
+-- a fault of the outside came only where the count of faults rose
+abbrev pub IsFaultOf : Side → Side → DeskFault → Type 0
+IsFaultOf old new Failed = Rose old.faults new.faults
+IsFaultOf old new NoMemory = new.faults ≡ old.faults
