@@ -1,0 +1,4 @@
+pub mod ToldLaws
+pub mod HeldLaws
+mod FlushLaws
+mod OpenLaws

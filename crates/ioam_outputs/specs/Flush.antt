@@ -1,0 +1,18 @@
+-- What a writing of gathered octets changes.
+use Rattle.std.specs.Prelude.{◌≡◌, ℕ, Bool, IsTrue, List, ◌++◌}
+use Rattle.ioam_desk.specs.Desk.{Writing, SameBut}
+use Rattle.ioam_outputs.specs.declared.output.Output.{Output}
+use Rattle.ioam_outputs.specs.Told.{AreTold}
+
+-- octets moved from what is gathered for an output to what was written to its slot, and nothing else did
+pub record Moves (tells : Bool) (old new : Writing) (before after : Output) : Type 0 where
+  pub slot : after.slot ≡ before.slot
+  pub slots : new.side.slots ≡ old.side.slots
+  pub other_written : SameBut before.slot old.written new.written
+  pub files : new.files ≡ old.files
+  pub said : IsTrue tells → new.written before.slot ++ after.gathered.items ≡ old.written before.slot ++ before.gathered.items
+
+-- what was said to the outputs is what was said before
+abbrev pub KeepsTold : Bool → Writing → Writing → List Output → List Output → Type 0
+KeepsTold tells old new before after = (slot : ℕ) (names texts : List (List ℕ))
+    → AreTold tells old slot names before texts → AreTold tells new slot names after texts

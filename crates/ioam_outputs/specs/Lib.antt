@@ -1,0 +1,4 @@
+pub mod Names
+pub mod Held
+pub mod Told
+pub mod Flush
