@@ -3,3 +3,7 @@ pub mod DropLaws
 pub mod ReadsLaws
 pub mod StandsLaws
 pub mod TextLaws
+pub mod TurnLaws
+pub mod MergeLaws
+pub mod StreamsLaws
+pub mod ArrivesLaws

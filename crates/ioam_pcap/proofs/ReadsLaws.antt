@@ -61,7 +61,7 @@ module _ (octets : List ℕ) where
   magic_unique : (o p : Order) (f g : Fraction) → HasMagic octets o f → HasMagic octets p g → (o ≡ p) × (f ≡ g)
   magic_unique o p f g x y = spelling-injective o p f g (sym x.1 ∙ y.1)
 
-  head_unique : (a b : Form) → HasHead octets a → HasHead octets b → a ≡ b
+  pub head_unique : (a b : Form) → HasHead octets a → HasHead octets b → a ≡ b
   head_unique a b x y =
       let same = spelling-injective a.order b.order a.fraction b.fraction (sym x.1 ∙ y.1) in
       let Q : Order → Type 0 = λ o. IsLinkType (number_at o octets 20) a.link in
@@ -226,7 +226,7 @@ module _ (octets : List ℕ) where
       cc
 
   -- a whole head ends nothing at the front
-  ends_front : (form : Form) (d : Ending) → HasHead octets form → EndsAt octets None 0 d → ⊥
+  pub ends_front : (form : Form) (d : Ending) → HasHead octets form → EndsAt octets None 0 d → ⊥
   ends_front form Whole head ends = false≢true ends.0
   ends_front form (Faulty p f) head ends = elim (ends_cases None 0 p f ends).1 [
     | inl bad ↦ head_sound form f head bad

@@ -6,3 +6,7 @@ pub mod Steps
 pub mod Text
 pub mod Reading
 pub mod Reader
+pub mod Turn
+pub mod Merge
+pub mod Streams
+pub mod Arrives

@@ -82,6 +82,10 @@ Looks octets reader (look.Packet time size) = (entry : Entry) × Shows octets re
 Looks octets reader look.More = Shows octets reader.form reader.start CutShown
 Looks octets reader (look.Bad at fault) = (at ≡ reader.start) × Shows octets reader.form reader.start (FaultShown fault)
 
+-- the head is whole, and due
+abbrev pub IsHeadDue : List ℕ → Reading → Type 0
+IsHeadDue octets reader = (link : Link) × Shows octets reader.form reader.start (HeadShown link)
+
 -- so the reader is once the step's octets are no longer lent
 abbrev pub RestsSo : MutBor Reading → CapStep → Fml
 RestsSo reader step = Rests the_row reader (λ new. Moved reader.now new step

@@ -9,12 +9,14 @@ mod head;
 mod merge;
 mod put;
 pub mod reader;
+mod turns;
 
 pub use capture::{CapFault, CapLook, CapStep, Packet, RECORD_MOST};
 pub use form::Link;
 pub use merge::pick;
 pub use put::{put_head, put_record};
 pub use reader::CaptureReader;
+pub use turns::{Due, Turn, next_turn};
 
 #[cfg(test)]
 mod tests;

@@ -5,6 +5,7 @@ use crate::capture::{CapFault, CapLook, CapStep, Packet};
 use crate::entry::{EntryStep, entry_step};
 use crate::form::Form;
 use crate::head::{HeadStep, head_step};
+use crate::turns::Due;
 use ioam_base::memory::NoMemory;
 use std::alloc::Global;
 use std::marker::Model;
@@ -54,8 +55,10 @@ fn drop_front(buffer: &mut Vec<u8>, count: usize)
 impl CaptureReader {
     ghost use Rattle.ioam_pcap.specs.declared.capture.CapFault.TheVariants.{Short};
     ghost use Rattle.ioam_pcap.specs.Entries.{Entry};
+    ghost use Rattle.ioam_pcap.specs.Merge.{Stream, due_of};
     ghost use Rattle.ioam_pcap.specs.Reads.{Reads};
-    ghost use Rattle.ioam_pcap.specs.Reader.{Stands, Waits, Looks, RestsSo, fresh, fed, link_of, ending_of};
+    ghost use Rattle.ioam_pcap.specs.Streams.{Streams};
+    ghost use Rattle.ioam_pcap.specs.Reader.{Stands, IsHeadDue, Waits, Looks, RestsSo, fresh, fed, link_of, ending_of};
 
     /// A reader that was fed nothing.
     pub fn new(alloc: Global) -> Result<CaptureReader, NoMemory>
@@ -155,6 +158,25 @@ impl CaptureReader {
                 },
                 EntryStep::Cut => CapLook::More,
                 EntryStep::Bad(fault) => CapLook::Bad { at, fault },
+            },
+        }
+    }
+
+    /// What is due of the capture, of which all octets were fed if it has ended. None: its head is,
+    /// which `next` takes.
+    pub fn due(&self, ended: bool) -> Option<Due>
+        ensures { (octets : List ℕ) (taken : List Entry) (stream : Stream)
+            → Stands self.now octets taken → Streams octets ended taken stream
+            → MatchOption result (IsHeadDue octets self.now) (λ due. due ≡ due_of stream) }
+    {
+        match self.look() {
+            CapLook::Head { .. } => None,
+            CapLook::Packet { time, .. } => Some(Due::Record { time }),
+            CapLook::Bad { at, fault } => Some(Due::Bad { at, fault }),
+            CapLook::More if !ended => Some(Due::More),
+            CapLook::More => match self.finish() {
+                None => Some(Due::End),
+                Some((at, fault)) => Some(Due::Bad { at, fault }),
             },
         }
     }

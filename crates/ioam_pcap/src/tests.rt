@@ -2,7 +2,7 @@ ghost use Rattle.std.specs.Prelude.{◌<◌};
 
 use crate::capture::{CapLook, CapStep};
 use crate::reader::CaptureReader;
-use crate::{Link, pick, put_head, put_record};
+use crate::{CapFault, Due, Link, Turn, next_turn, pick, put_head, put_record};
 use std::alloc::Global;
 use std::test::Fail;
 
@@ -157,5 +157,55 @@ fn writes_and_picks(rt: HostRuntime) -> Result<(), Fail> {
     assert_eq!(rt; pick(&[Some(5), None, Some(5), Some(4)]), Some(3));
     assert_eq!(rt; pick(&[Some(5), None, Some(5)]), Some(0));
     assert_eq!(rt; pick(&[None]), None);
+    Ok(())
+}
+
+#[test]
+fn takes_the_first_of_the_least(rt: HostRuntime) -> Result<(), Fail> {
+    let soon = Due::Record { time: 4 };
+    let late = Due::Record { time: 5 };
+    let fault = CapFault::Short { have: 7 };
+    let bad = Due::Bad { at: 24, fault };
+    let cases: [(&[Due], Turn); 8] = [
+        (&[], Turn::Over),
+        (&[Due::End, Due::End], Turn::Over),
+        (
+            &[late, soon, Due::End, soon],
+            Turn::Next { place: 1, time: 4 },
+        ),
+        (&[soon, late, soon], Turn::Next { place: 0, time: 4 }),
+        (
+            &[soon, bad, Due::Bad { at: 0, fault }],
+            Turn::Broken {
+                place: 1,
+                at: 24,
+                fault,
+            },
+        ),
+        (&[soon, Due::More], Turn::Unshown),
+        (&[bad, Due::More], Turn::Unshown),
+        (&[Due::More, bad, soon], Turn::Unshown),
+    ];
+    for (dues, turn) in cases {
+        assert_eq!(rt; next_turn(dues), turn);
+    }
+    Ok(())
+}
+
+#[test]
+fn tells_what_is_due(rt: HostRuntime) -> Result<(), Fail> {
+    let mut reader = CaptureReader::new(rt.alloc())?;
+    assert_eq!(rt; reader.due(false), Some(Due::More));
+    reader.feed(&TWO)?;
+    assert_eq!(rt; reader.due(false), None);
+    assert!(rt; matches!(reader.next(), CapStep::Head { .. }));
+    let first = Due::Record {
+        time: 2_000_007_000,
+    };
+    assert_eq!(rt; reader.due(true), Some(first));
+    assert!(rt; matches!(reader.next(), CapStep::Packet { .. }));
+    assert!(rt; matches!(reader.next(), CapStep::Packet { .. }));
+    assert_eq!(rt; reader.due(false), Some(Due::More));
+    assert_eq!(rt; reader.due(true), Some(Due::End));
     Ok(())
 }
