@@ -1,0 +1,6 @@
+pub mod CaptureLaws
+pub mod ListLaws
+pub mod MergingLaws
+pub mod ShowLaws
+pub mod TakeLaws
+pub mod OpenLaws

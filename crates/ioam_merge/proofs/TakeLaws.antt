@@ -1,0 +1,123 @@
+-- A record is taken of one of several captures that are merged by time.
+use Rattle.std.proofs.Common.{◌≡◌, ℕ, ◌+◌, ◌<◌, Bool, List, [], ◌∷◌, ◌++◌, length, Option, Some, None, arith, refl, sym, ap, ◌∙◌, subst, set, inl, inr, ◌⊎◌}
+use Rattle.std.specs.Prelude.{slice_get}
+use Rattle.std.specs.List.{AllZip}
+use Rattle.std.proofs.lemmas.Option.{same_Some}
+use Rattle.ioam_desk.specs.Desk as desk
+use Rattle.ioam_pcap.specs.Arrives.{Handed, IsStream}
+use Rattle.ioam_pcap.specs.Entries.{Entry}
+use Rattle.ioam_pcap.specs.Merge.{Stream, Arrival, of_capture, first_of, arrival, rest, CanTake, IsNext, Takes}
+use Rattle.ioam_pcap.specs.Reader.{Stands, link_of}
+use Rattle.ioam_pcap.specs.Reads.{EntryAt, link_by}
+use Rattle.ioam_pcap.specs.declared.form.Form.{Form}
+use Rattle.ioam_pcap.specs.declared.form.Link.{Link}
+use Rattle.ioam_pcap.specs.declared.turns.Due.TheVariants.{More}
+use Rattle.ioam_pcap.proofs.MergeLaws.{Takes-push, Next-first, of_capture-push_same, of_capture-push_other}
+use Rattle.ioam_pcap.proofs.StreamsLaws.{Streams-take, Streams-link}
+use Rattle.ioam_merge.specs.Capture.{Lane}
+use Rattle.ioam_merge.specs.Merging.{Start, Row, IsRow, Rows, Merging, Comes, GivesRecord}
+use Rattle.ioam_merge.specs.declared.capture.Capture.{Capture}
+use Rattle.ioam_merge.specs.declared.merge.Merge.{Merge}
+use Rattle.ioam_merge.proofs.ListLaws.{get-map, get-set, map-set, map-set_same}
+use Rattle.ioam_merge.proofs.MergingLaws.{row_stream, within}
+use Rattle.ioam_merge.proofs.ShowLaws.{row_there, Merging-sized}
+
+-- the record that comes next is of one of the captures
+pub Comes-inside : (tells : Bool) (start : Start) (taken : List Arrival) (inputs : desk.Reading) (merge : Merge) (place time : ℕ)
+    → Comes tells start inputs merge taken place time → place < length merge.captures.items
+Comes-inside tells start taken inputs merge place time comes =
+    omega (arith, within merge.dues.items place More comes.again, Merging-sized tells start taken inputs inputs merge comes.merging)
+
+-- a reader that gives a record has read its capture's head
+linked_by : (octets : List ℕ) (form : Option Form) (at : ℕ) (entry : Entry) → EntryAt octets form at entry → (l : Link) × (link_by form ≡ Some l)
+linked_by octets None at entry here = absurd here
+linked_by octets (Some form) at entry here = (form.link, refl)
+
+module _ (tells : Bool) (start : Start) (taken : List Arrival) (inputs : desk.Reading) (merge : Merge) (place time : ℕ) (comes : Comes tells start inputs merge taken place time) (capture after : Capture) (there : slice_get merge.captures.items place ≡ Some capture) (entry : Entry) (gives : GivesRecord capture.feed.reader entry after.feed.reader) (slots : after.feed.slot ≡ capture.feed.slot) (ends : after.ended ≡ capture.ended) (links : after.link ≡ capture.link) (linked : link_of after.feed.reader ≡ link_of capture.feed.reader) where
+  abbrev rows : List Row
+  rows = comes.merging.rows
+
+  abbrev are : Rows tells start inputs rows taken
+  are = comes.merging.are_rows
+
+  abbrev now : List Stream
+  now = are.begins.now
+
+  abbrev one : Arrival
+  one = record { capture = place; link = capture.link; entry = entry }
+
+  abbrev IsTaken : Row → Type 0
+  IsTaken row = (arrival now ≡ one) × (entry.time ≡ time) × Stands after.feed.reader row.handed.octets (of_capture place taken ++ entry ∷ [])
+
+  taken_row : (row : Row) → slice_get rows place ≡ Some row → row.capture ≡ capture → IsTaken row
+  taken_row row is same =
+      let P : Capture → Type 0 = λ c. Lane tells row.content inputs (start.base + place) c row.handed (of_capture place taken) in
+      let lane : P capture = subst P same (are.each place row is).0 in
+      let (s, at, shows) = row_stream tells start taken inputs rows are place row is in
+      let (here, stood) = gives row.handed.octets (of_capture place taken) lane.fed.stands in
+      let (first, left) = Streams-take capture.feed.reader row.handed.octets row.handed.ended (of_capture place taken) s lane.fed.stands shows entry here in
+      let (l, link) = linked_by row.handed.octets capture.feed.reader.form capture.feed.reader.start entry here in
+      let shown_link = Streams-link capture.feed.reader row.handed.octets row.handed.ended (of_capture place taken) s lane.fed.stands shows l link in
+      let (t, where_t, time_is, arrives, behind) = Next-first now place time comes.next in
+      let same_stream : t ≡ s = same_Some t s (sym where_t ∙ at) in
+      let Q : Option Link → Entry → Arrival = λ k e. record { capture = place; link = k; entry = e } in
+      let R : Stream → Arrival = λ x. Q x.link (first_of x.entries) in (
+        arrives ∙ ap R same_stream ∙ ap (λ k. Q k (first_of s.entries)) (shown_link ∙ sym link ∙ sym lane.linked) ∙ ap (Q capture.link) first,
+        ap (λ (e : Entry). e.time) (sym first) ∙ ap (λ (x : Stream). (first_of x.entries).time) (sym same_stream) ∙ time_is,
+        stood,
+      )
+
+  each_taken : (row later : Row) → slice_get rows place ≡ Some row → row.capture ≡ capture → later.content ≡ row.content → later.capture ≡ after → later.due ≡ More → later.handed ≡ row.handed
+      → (k : ℕ) (r : Row) → ((k ≡ place) × (r ≡ later)) ⊎ ((k ≡ place → ⊥) × (slice_get rows k ≡ Some r))
+      → IsRow tells inputs (start.base + k) r (of_capture k (taken ++ one ∷ []))
+  each_taken row later is same content capture_is due handed k r (inr other) =
+      let Q : List Entry → Type 0 = IsRow tells inputs (start.base + k) r in
+      subst Q (sym (of_capture-push_other k one taken (λ at. other.0 (sym at)))) (are.each k r other.1)
+  each_taken row later is same content capture_is due handed k r (inl here) =
+      let P : Capture → Type 0 = λ c. Lane tells row.content inputs (start.base + place) c row.handed (of_capture place taken) in
+      let was : P capture = subst P same (are.each place row is).0 in
+      let stood = (taken_row row is same).2 in
+      let lane : Lane tells row.content inputs (start.base + place) after row.handed (of_capture place taken ++ entry ∷ []) = record {
+        fed = record { stands = stood; is_open = was.fed.is_open; held = was.fed.held };
+        number = slots ∙ was.number;
+        linked = links ∙ was.linked ∙ sym linked;
+        same_end = was.same_end ∙ sym ends;
+        slot_end = was.slot_end;
+        none_left = was.none_left;
+      } in
+      let G : List Entry → Type 0 = λ given. Lane tells row.content inputs (start.base + place) after row.handed given in
+      let pushed = subst G (sym (of_capture-push_same place one taken refl)) lane in
+      let F : Option (List ℕ) → Capture → Handed → Type 0 = λ x c h. Lane tells x inputs (start.base + place) c h (of_capture place (taken ++ one ∷ [])) in
+      let moved : F later.content later.capture later.handed =
+      subst (λ x. F x later.capture later.handed) (sym content) (subst (λ c. F row.content c later.handed) (sym capture_is) (subst (λ h. F row.content after h) (sym handed) pushed)) in
+      let W : ℕ → Row → Type 0 = λ n x. IsRow tells inputs (start.base + n) x (of_capture n (taken ++ one ∷ [])) in
+      subst (λ n. W n r) (sym here.0) (subst (W place) (sym here.1) (moved, λ shown. absurd (shown due)))
+
+  -- its reader gave the record that comes next: it was taken, and its capture is asked again
+  pub Comes-take : (next : Merge) → next.captures.items ≡ set merge.captures.items place after → next.dues.items ≡ merge.dues.items
+      → length next.piece.items ≡ length merge.piece.items → Merging tells start inputs next (taken ++ one ∷ []) × (entry.time ≡ time)
+  Comes-take next captures dues room =
+      let (row, is, same) = row_there tells start taken inputs inputs merge comes.merging place capture there in
+      let told = taken_row row is same in
+      let later : Row = record { content = row.content; capture = after; due = More; handed = row.handed } in
+      let due_is : row.due ≡ More =
+      same_Some row.due More (sym (get-map (λ (r : Row). r.due) rows place row is) ∙ subst (λ ds. slice_get ds place ≡ Some More) comes.merging.dues comes.again) in
+      let can : CanTake now = subst IsNext (sym comes.next) tt in (
+        record {
+          rows = set rows place later;
+          captures = captures ∙ ap (λ cs. set cs place after) comes.merging.captures ∙ sym (map-set (λ (r : Row). r.capture) rows place later);
+          dues = dues ∙ comes.merging.dues ∙ sym (map-set_same (λ (r : Row). r.due) rows place row later is (sym due_is));
+          room = omega (arith, room, comes.merging.room);
+          are_rows = record {
+            contents = are.contents ∙ sym (map-set_same (λ (r : Row). r.content) rows place row later is refl);
+            each = λ k r at. each_taken row later is same refl refl refl refl k r (get-set rows place later k r at);
+            begins = record {
+              streams = are.begins.streams;
+              now = rest now;
+              shown = subst (λ hs. AllZip IsStream hs are.begins.streams) (sym (map-set_same (λ (r : Row). r.handed) rows place row later is refl)) are.begins.shown;
+              takes = subst (λ a. Takes are.begins.streams (taken ++ a ∷ []) (rest now)) told.0 (Takes-push are.begins.streams taken now are.begins.takes can);
+            };
+          };
+        },
+        told.1,
+      )

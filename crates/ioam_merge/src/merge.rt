@@ -1,0 +1,154 @@
+//! Several captures that are merged by time.
+ghost use Rattle.std.specs.Prelude.{◌≡◌, ◌<◌, ◌+◌, ◌++◌, ◌∷◌, [], Bool, List, ℕ, None, false, IfErr, IfOk, IfSome, OnOk, length, vec_len};
+ghost use Rattle.ioam_desk.specs.Asked.{IsFaultOf};
+ghost use Rattle.ioam_desk.specs.Desk.{Reading};
+ghost use Rattle.ioam_pcap.specs.Merge.{Arrival};
+ghost use Rattle.ioam_merge.specs.Merging.{Start, Merging, Comes, IsMerging, AreKnown, Shows, Turns};
+
+use crate::capture::Capture;
+use ioam_base::memory::NoMemory;
+use ioam_desk::{Desk, DeskFault, PIECE};
+use ioam_feed::Feed;
+use ioam_pcap::{CapStep, Due, Turn, next_turn};
+use std::alloc::Global;
+
+/// Several captures of a desk, merged by time.
+#[derive(Drop)]
+pub struct Merge {
+    /// The captures, in the order of their names.
+    pub captures: Vec<Capture>,
+    // what is due of each, as far as it is known: `More` where the capture has to be asked
+    dues: Vec<Due>,
+    // room for the octets of one read
+    piece: Vec<u8>,
+}
+
+impl Merge {
+    ghost use Rattle.ioam_pcap.specs.declared.turns.Due.TheVariants.{More};
+
+    // No captures, with room for so many.
+    pub(crate) fn new(alloc: Global, count: usize) -> Result<Merge, NoMemory>
+        ensures { IfOk result (λ merge. (merge.captures.items ≡ []) × (merge.dues.items ≡ []) × (vec_len merge.piece ≡ PIECE)) }
+    {
+        let captures = Vec::with_capacity(alloc, count)?;
+        let dues = Vec::with_capacity(alloc, count)?;
+        let mut piece = Vec::new(alloc);
+        piece.resize(PIECE, 0)?;
+        Ok(Merge {
+            captures,
+            dues,
+            piece,
+        })
+    }
+
+    // One capture more, of which nothing was read.
+    pub(crate) fn add(&mut self, feed: Feed) -> Result<(), NoMemory>
+        ensures captures { OnOk result (self.new.captures.items
+            ≡ self.old.captures.items ++ record { feed = feed; link = None; ended = false } ∷ []) }
+        ensures dues { OnOk result (self.new.dues.items ≡ self.old.dues.items ++ More ∷ []) }
+        ensures piece { self.new.piece ≡ self.old.piece }
+    {
+        let capture = Capture {
+            feed,
+            link: None,
+            ended: false,
+        };
+        match self.captures.push(capture) {
+            Ok(()) => {}
+            Err(_) => return Err(NoMemory),
+        }
+        match self.dues.push(Due::More) {
+            Ok(()) => Ok(()),
+            Err(_) => Err(NoMemory),
+        }
+    }
+
+    // Asks one capture what is due of it, if that isn't known.
+    fn show_one<D: Desk>(&mut self, desk: &mut D, place: usize) -> Result<(), DeskFault>
+        requires inside { place < vec_len self.old.captures }
+        requires merging { IsMerging D.tells (D.reading desk.old) self.old }
+        ensures shown { (start : Start) (taken : List Arrival) (known : AreKnown place self.old)
+            → Merging D.tells start (D.reading desk.old) self.old taken
+            → Shows D.tells start taken (D.reading desk.new) self.new (place + 1) result }
+        ensures same { OnOk result ((D.reading desk.new).side ≡ (D.reading desk.old).side) }
+        ensures cause { IfErr result (IsFaultOf (D.reading desk.old).side (D.reading desk.new).side) }
+        ensures asked { (D.reading desk.new).side.asked ≡ (D.reading desk.old).side.asked }
+        ensures slots { (D.reading desk.new).side.slots ≡ (D.reading desk.old).side.slots }
+        ensures outputs { D.writing desk.new ≡ D.writing desk.old }
+        ensures count { vec_len self.new.captures ≡ vec_len self.old.captures }
+    {
+        match self.dues[place] {
+            Due::More => {}
+            _ => return Ok(()),
+        }
+        let piece = self.piece.as_mut_slice();
+        match self.captures[place].show(desk, piece) {
+            Ok(due) => {
+                self.dues[place] = due;
+                Ok(())
+            }
+            Err(fault) => Err(fault),
+        }
+    }
+
+    // Asks each capture what is due of it, if that isn't known.
+    fn show_all<D: Desk>(&mut self, desk: &mut D) -> Result<(), DeskFault>
+        requires { IsMerging D.tells (D.reading desk.old) self.old }
+        ensures shown { (start : Start) (taken : List Arrival) → Merging D.tells start (D.reading desk.old) self.old taken
+            → Shows D.tells start taken (D.reading desk.new) self.new (length self.new.captures.items) result }
+        ensures same { OnOk result ((D.reading desk.new).side ≡ (D.reading desk.old).side) }
+        ensures cause { IfErr result (IsFaultOf (D.reading desk.old).side (D.reading desk.new).side) }
+        ensures asked { (D.reading desk.new).side.asked ≡ (D.reading desk.old).side.asked }
+        ensures slots { (D.reading desk.new).side.slots ≡ (D.reading desk.old).side.slots }
+        ensures outputs { D.writing desk.new ≡ D.writing desk.old }
+    {
+        'captures: for place in 0..self.captures.len() {
+            match self.show_one(desk, place) {
+                Ok(()) => {}
+                Err(fault) => return Err(fault),
+            }
+        }
+        Ok(())
+    }
+
+    /// What comes next. Captures are asked in order, and pieces of them are read, until each shows
+    /// its next record, its end or its fault. After `Next` the capture has to be asked again: its
+    /// record is taken by its reader's `next`.
+    ///
+    /// `Failed`: a read failed, and the desk's count of faults rose. After `NoMemory` octets of a
+    /// capture may be lost.
+    pub fn turn<D: Desk>(&mut self, desk: &mut D) -> Result<Turn, DeskFault>
+        requires { IsMerging D.tells (D.reading desk.old) self.old }
+        ensures turns { (start : Start) (taken : List Arrival) → Merging D.tells start (D.reading desk.old) self.old taken
+            → Turns D.tells start taken (D.reading desk.new) self.new result }
+        ensures same { OnOk result ((D.reading desk.new).side ≡ (D.reading desk.old).side) }
+        ensures cause { IfErr result (IsFaultOf (D.reading desk.old).side (D.reading desk.new).side) }
+        ensures asked { (D.reading desk.new).side.asked ≡ (D.reading desk.old).side.asked }
+        ensures slots { (D.reading desk.new).side.slots ≡ (D.reading desk.old).side.slots }
+        ensures outputs { D.writing desk.new ≡ D.writing desk.old }
+    {
+        match self.show_all(desk) {
+            Ok(()) => {}
+            Err(fault) => return Err(fault),
+        }
+        let turn = next_turn(&self.dues);
+        if let Turn::Next { place, .. } = turn {
+            self.dues[place] = Due::More;
+        }
+        Ok(turn)
+    }
+
+    /// Takes the record that comes next, of the capture that `turn` has named, and passes over its
+    /// octets. The answer is its time in nanoseconds; none, where the capture's next isn't a record.
+    pub fn pass(&mut self, place: usize) -> Option<u64>
+        requires { place < vec_len self.old.captures }
+        ensures { IfSome result (λ at. (tells : Bool) (start : Start) (inputs : Reading) (taken : List Arrival) (time : ℕ)
+            → Comes tells start inputs self.old taken place time
+            → (at ≡ time) × ((one : Arrival) × Merging tells start inputs self.new (taken ++ one ∷ []))) }
+    {
+        match self.captures[place].feed.reader.next() {
+            CapStep::Packet(packet) => Some(packet.time),
+            _ => None,
+        }
+    }
+}
