@@ -4,3 +4,6 @@ pub mod Texts
 pub mod Addresses
 pub mod Prefixes
 pub mod Entries
+pub mod Octets
+pub mod Types
+pub mod Pairs

@@ -11,15 +11,14 @@ use crate::texts::text_of;
 use crate::why::Why;
 use toml::{Table, Value};
 
-/// The bits of an address of which only so many count, at most 128; the others are 0.
+/// The bits of an address of which only so many count, from 128 on all; the others are 0.
 pub fn masked(size: u8, bits: u128) -> u128
-    requires { size ≤ 128 }
     ensures { result ≡ masked size bits }
 {
     if size == 0 {
         0
     } else {
-        bits - bits % power(128 - size)
+        bits - bits % power(128_u8.saturating_sub(size))
     }
 }
 
@@ -34,7 +33,6 @@ fn power(exponent: u8) -> u128
 
 /// Whether an address has the bits of a prefix.
 pub fn matches(prefix: Prefix, target: u128) -> bool
-    requires { prefix.length ≤ 128 }
     ensures { result ≡ matches prefix target }
 {
     masked(prefix.length, target) == prefix.bits
