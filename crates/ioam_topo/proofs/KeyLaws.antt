@@ -1,5 +1,5 @@
 -- Laws of keys and of names.
-use Rattle.std.proofs.Common.{◌≡◌, ℕ, Bool, false, ◌&&◌, ◌||◌, cond, List, [], ◌∷◌, ◌++◌, map, String, Global, length, refl, ap, ◌∙◌, string_bytes}
+use Rattle.std.proofs.Common.{◌≡◌, ℕ, Bool, false, ◌&&◌, ◌||◌, cond, List, [], ◌∷◌, ◌++◌, map, String, Global, length, refl, ap, sym, ◌∙◌, string_bytes}
 use Rattle.std.specs.List.{list_any, list_all, position, position_or_len}
 use Rattle.std.specs.Map.{keys_of}
 use Rattle.std.specs.Str.{bytes_eq}
@@ -16,7 +16,7 @@ pub any_map : {A B : Type 0} (p : B → Bool) (f : A → B) (xs : List A) → li
 any_map p f [] = refl
 any_map p f (x ∷ xs) = ap (λ b. p (f x) || b) (any_map p f xs)
 
-place_map : {A B : Type 0} (p : B → Bool) (f : A → B) (xs : List A) → position_or_len (λ x. p (f x)) xs ≡ position_or_len p (map f xs)
+pub place_map : {A B : Type 0} (p : B → Bool) (f : A → B) (xs : List A) → position_or_len (λ x. p (f x)) xs ≡ position_or_len p (map f xs)
 place_map p f [] = refl
 place_map p f (x ∷ xs) = rw (place_map p f xs)
 
@@ -30,6 +30,11 @@ position_map p f xs = rw (place_map p f xs, length_map f xs)
 pub map_append : {A B : Type 0} (f : A → B) (xs ys : List A) → map f (xs ++ ys) ≡ map f xs ++ map f ys
 map_append f [] ys = refl
 map_append f (x ∷ xs) ys = ap (λ zs. f x ∷ zs) (map_append f xs ys)
+
+-- what is kept beside a list is still what its items have, after one item more
+pub kept_by : {A B : Type 0} (f : A → B) (xs new : List A) (x : A) (ys more : List B) → ys ≡ map f xs → new ≡ xs ++ x ∷ [] → more ≡ ys ++ f x ∷ []
+    → more ≡ map f new
+kept_by f xs new x ys more are items also = also ∙ ap (λ l. l ++ f x ∷ []) are ∙ sym (ap (map f) items ∙ map_append f xs (x ∷ []))
 
 -- a name that isn't there is added behind the others
 pub added : (ks new : List (String Global)) (k : String Global) (name : List ℕ) → string_bytes k ≡ name

@@ -5,4 +5,12 @@ pub mod NodeLaws
 pub mod LinkLaws
 pub mod PortLaws
 pub mod RouteLaws
+pub mod DataLaws
+pub mod FlowLaws
+pub mod FlowFacts
 pub mod PartsLaws
+pub mod LongestLaws
+pub mod KeptLaws
+pub mod ForwardLaws
+pub mod FlowKept
+pub mod SoundLaws

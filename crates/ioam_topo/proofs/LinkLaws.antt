@@ -12,9 +12,9 @@ use Rattle.ioam_topo.specs.declared.link_table.Links.{Links}
 use Rattle.ioam_topo.specs.declared.parts.Link.{Link}
 use Rattle.ioam_topo.specs.Goods.{goods, kept}
 use Rattle.ioam_topo.specs.LinkTable.{link_keys, link_faults, link_of, link_name, link_end, tap_there, tap_count, few_taps}
-use Rattle.ioam_topo.specs.LinkRead.{HoldsLinks, IsNewLink, from_of, count_of}
+use Rattle.ioam_topo.specs.LinkRead.{HoldsLinks, IsNewLink, from_of, name_of_link, count_of}
 use Rattle.ioam_topo.proofs.GoodsLaws.{goods_push}
-use Rattle.ioam_topo.proofs.KeyLaws.{map_append}
+use Rattle.ioam_topo.proofs.KeyLaws.{map_append, kept_by}
 
 pub held_faults : (nodes : List (List ℕ)) (earlier : List Members) (links : Links) (place : ℕ) (m : Members) → HoldsLinks nodes earlier links → place ≡ length earlier + 1
     → link_keys nodes place links.names links.taps m ≡ link_faults nodes earlier m
@@ -37,6 +37,7 @@ link_added nodes earlier m text link old new holds fits items names taps = recor
   ends = goods_push (link_end nodes) earlier m (from_of link) _ _ fits.end_is holds.ends
       (ap (map from_of) items ∙ map_append from_of old.items.items (link ∷ []));
   names = goods_push link_name earlier m link.name _ _ fits.name_is holds.names names;
+  named = kept_by name_of_link old.items.items new.items.items link _ _ holds.named items names;
   taps = taps ∙ ap (λ n. n + count_of link.tap) holds.taps ∙ sym (taps_more earlier m (count_of link.tap) fits.tap_is);
 }
 

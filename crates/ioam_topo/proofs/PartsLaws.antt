@@ -1,22 +1,38 @@
 -- Laws of the tables of a file.
-use Rattle.std.proofs.Common.{◌≡◌, ℕ, List, [], ◌∷◌, ◌++◌, codes, refl, ap, sym, ◌∙◌, subst}
-use Rattle.toml.specs.Data.{Members, get_member}
-use Rattle.ioam_topo.specs.declared.domain.TheConstants.{MOST_ROUTES}
+use Rattle.std.proofs.Common.{◌≡◌, ℕ, List, [], ◌∷◌, ◌++◌, codes, map, refl, ap, sym, ◌∙◌, subst, Result, Ok, Err, Bool, true, false, cond, nat_le, length, ◌≤◌, suc, Option, arith}
+use Rattle.std.proofs.lemmas.Bool.Decides.{nat_tests}
+use Rattle.ioam_toml.specs.declared.why.Why.TheVariants.{TooMany}
+use Rattle.ioam_toml.specs.Reads.{◌▷◌}
+use Rattle.ioam_toml.specs.Entries.{entries, array_at, at_most, or_none}
+use Rattle.ioam_topo.specs.declared.words.Table.{Table}
+use Rattle.ioam_topo.specs.declared.words.Field.TheVariants.{NoKey}
+use Rattle.ioam_topo.specs.Faults.{at, each}
+use Rattle.ioam_topo.specs.Goods.{goods, kept}
+use Rattle.ioam_data.specs.declared.namespace.Namespace.{Namespace}
+use Rattle.ioam_toml.specs.declared.why.Why.{Why}
+use Rattle.toml.specs.Data.{Data, Members, get_member}
+use Rattle.ioam_topo.specs.declared.domain.TheConstants.{MOST_ROUTES, MOST_DATA, MOST_FLOWS}
 use Rattle.ioam_topo.specs.declared.link_table.TheConstants.{MOST_LINKS}
 use Rattle.ioam_topo.specs.declared.port_table.TheConstants.{MOST_PORTS}
-use Rattle.ioam_topo.specs.declared.words.Table.TheVariants.{LinkTable, PortTable, RouteTable}
+use Rattle.ioam_topo.specs.declared.words.Table.TheVariants.{LinkTable, PortTable, RouteTable, DataTable, FlowTable}
 use Rattle.ioam_topo.specs.declared.fault.DomainFault.{DomainFault}
 use Rattle.ioam_topo.specs.declared.node_table.Nodes.{Nodes}
 use Rattle.ioam_topo.specs.declared.link_table.Links.{Links}
 use Rattle.ioam_topo.specs.declared.port_table.Ports.{Ports}
 use Rattle.ioam_topo.specs.declared.route_table.Parts.{Parts}
 use Rattle.ioam_topo.specs.declared.route_table.Routes.{Routes}
-use Rattle.ioam_topo.specs.NodeRead.{HoldsNodes}
+use Rattle.ioam_topo.specs.declared.data_table.DataRows.{DataRows}
+use Rattle.ioam_topo.specs.declared.flow_table.Flows.{Flows}
+use Rattle.ioam_topo.specs.NodeRead.{HoldsNodes, list_of}
 use Rattle.ioam_topo.specs.LinkRead.{HoldsLinks}
 use Rattle.ioam_topo.specs.PortRead.{HoldsPorts}
 use Rattle.ioam_topo.specs.RouteRead.{HoldsRoutes, faults_behind}
 use Rattle.ioam_topo.specs.PartsRead.{HoldsParts}
-use Rattle.ioam_topo.specs.Top.{node_entries, link_entries, port_entries, route_entries, node_names, table_faults, route_table_faults, routes_of}
+use Rattle.ioam_topo.specs.DataRead.{HoldsData}
+use Rattle.ioam_topo.specs.FlowRead.{HoldsFlows}
+use Rattle.ioam_topo.specs.DataTable.{data_faults}
+use Rattle.ioam_topo.specs.FlowTable.{flow_faults}
+use Rattle.ioam_topo.specs.Top.{node_entries, link_entries, port_entries, route_entries, node_names, node_lists, table_faults, route_table_faults, routes_of, data_entries, flow_entries, data_table_faults, flow_table_faults}
 use Rattle.ioam_topo.specs.LinkTable.{link_faults}
 use Rattle.ioam_topo.specs.PortTable.{port_faults}
 
@@ -45,6 +61,25 @@ ports_hold t nodes ports holds are = let P : List (List ℕ) → Type 0 = λ n. 
 pub routes_are : (t : Members) (parts : Parts) (routes : Routes) → HoldsParts t parts → HoldsRoutes parts (route_entries t) routes → routes.items.items ≡ routes_of t
 routes_are t parts routes holds are = are.items ∙ rw (holds.nodes.names, holds.links.names, holds.links.ends, holds.ports.names, holds.ports.ends)
 
+pub data_same : (t : Members) (nodes : Nodes) → HoldsNodes (node_entries t) nodes
+    → table_faults DataTable MOST_DATA (get_member (codes "data") t) (data_faults nodes.names) ≡ data_table_faults t
+data_same t nodes holds = ap (λ n. table_faults DataTable MOST_DATA (get_member (codes "data") t) (data_faults n)) holds.names
+
+pub flows_same : (t : Members) (nodes : Nodes) → HoldsNodes (node_entries t) nodes
+    → table_faults FlowTable MOST_FLOWS (get_member (codes "flow") t) (flow_faults nodes.names (map list_of nodes.items.items)) ≡ flow_table_faults t
+flows_same t nodes holds = rw (holds.names, holds.lists)
+
+pub data_hold : (t : Members) (nodes : Nodes) (rows : DataRows) → HoldsNodes (node_entries t) nodes → HoldsData nodes.names (data_entries t) rows
+    → HoldsData (node_names t) (data_entries t) rows
+data_hold t nodes rows holds are = let P : List (List ℕ) → Type 0 = λ n. HoldsData n (data_entries t) rows in subst P holds.names are
+
+pub flows_hold : (t : Members) (nodes : Nodes) (flows : Flows) → HoldsNodes (node_entries t) nodes
+    → HoldsFlows nodes.names (map list_of nodes.items.items) (flow_entries t) flows → HoldsFlows (node_names t) (node_lists t) (flow_entries t) flows
+flows_hold t nodes flows holds are =
+    let P : List (List ℕ) → Type 0 = λ n. HoldsFlows n (map list_of nodes.items.items) (flow_entries t) flows in
+    let Q : List (Result (List Namespace) Why) → Type 0 = λ l. HoldsFlows (node_names t) l (flow_entries t) flows in
+    subst Q holds.lists (subst P holds.names are)
+
 -- faults behind none
 pub behind : (xs ys zs ws : List DomainFault) → xs ≡ [] → ys ≡ zs → xs ++ (zs ++ ws) ≡ ys ++ ws
 behind xs ys zs ws none same = ap (λ l. l ++ (zs ++ ws)) none ∙ ap (λ l. l ++ ws) (sym same)
@@ -71,3 +106,26 @@ none_of_three xs ys zs ps qs none empty same clear also = ap (λ l. l ++ (zs ++ 
 
 pub none_of_four : (xs ys rs qs ws : List DomainFault) → xs ≡ [] → ys ≡ [] → rs ≡ [] → rs ≡ qs → ws ≡ [] → xs ++ (ys ++ (qs ++ ws)) ≡ []
 none_of_four xs ys rs qs ws none empty clear same also = third_of_four xs ys rs qs ws none empty same ∙ ap (λ l. l ++ ws) clear ∙ also
+
+goods_few : {A : Type 0} (read : Members → Result A Why) (ms : List Members) → length (goods read ms) ≤ length ms
+goods_few read [] = omega arith
+goods_few read (m ∷ ms) = kept_few (read m) (goods read ms) (length ms) (goods_few read ms) where
+  kept_few : {A : Type 0} (r : Result A Why) (xs : List A) (n : ℕ) → length xs ≤ n → length (kept r xs) ≤ suc n
+  kept_few (Ok x) xs n le = omega arith
+  kept_few (Err why) xs n le = omega arith
+
+within_most : (most : ℕ) (r : Result (List Members) Why) (table : Table) (fs : List DomainFault) → at table 0 NoKey (r ▷ at_most most) ++ fs ≡ []
+    → length (or_none r) ≤ most
+within_most most (Ok ms) table fs none = few_of (nat_le (length ms) most) refl none where
+  few_of : (b : Bool) → b ≡ nat_le (length ms) most → at table 0 NoKey (cond b (Ok ms) (Err TooMany)) ++ fs ≡ [] → length ms ≤ most
+  few_of true is none = grind (arith, nat_tests)
+  few_of false is none = cc
+within_most most (Err why) table fs none = cc
+
+-- a table without faults gives no more than its most
+pub few_goods : {A : Type 0} (read : Members → Result A Why) (table : Table) (most : ℕ) (d : Option Data) (faults : List Members → Members → List DomainFault) (items : List A)
+    → table_faults table most d faults ≡ [] → items ≡ goods read (entries d) → length items ≤ most
+few_goods read table most d faults items none are =
+    let few : length (entries d) ≤ most = within_most most (array_at d) table (each faults [] (entries d)) none in
+    let some : length (goods read (entries d)) ≤ length (entries d) = goods_few read (entries d) in
+    rw are (omega arith)

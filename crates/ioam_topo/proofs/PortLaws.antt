@@ -4,9 +4,9 @@ use Rattle.toml.specs.Data.{Members}
 use Rattle.ioam_topo.specs.declared.port_table.Ports.{Ports}
 use Rattle.ioam_topo.specs.declared.parts.Port.{Port}
 use Rattle.ioam_topo.specs.PortTable.{port_keys, port_faults, port_of, port_name, port_end}
-use Rattle.ioam_topo.specs.PortRead.{HoldsPorts, IsNewPort, node_of_port}
+use Rattle.ioam_topo.specs.PortRead.{HoldsPorts, IsNewPort, name_of_port, node_of_port}
 use Rattle.ioam_topo.proofs.GoodsLaws.{goods_push}
-use Rattle.ioam_topo.proofs.KeyLaws.{map_append}
+use Rattle.ioam_topo.proofs.KeyLaws.{map_append, kept_by}
 
 pub held_faults : (nodes : List (List ℕ)) (earlier : List Members) (ports : Ports) (place : ℕ) (m : Members) → HoldsPorts nodes earlier ports → place ≡ length earlier + 1
     → port_keys nodes place ports.names m ≡ port_faults nodes earlier m
@@ -21,4 +21,5 @@ port_added nodes earlier m text port old new holds fits items names = record {
   ends = goods_push (port_end nodes) earlier m (node_of_port port) _ _ fits.end_is holds.ends
       (ap (map node_of_port) items ∙ map_append node_of_port old.items.items (port ∷ []));
   names = goods_push port_name earlier m port.name _ _ fits.name_is holds.names names;
+  named = kept_by name_of_port old.items.items new.items.items port _ _ holds.named items names;
 }

@@ -1,5 +1,5 @@
 -- A domain, and what it is of a file.
-use Rattle.std.specs.Prelude.{◌≡◌, List, Ok, ℕ, Bool, false, nat_eq, Option, Some, None}
+use Rattle.std.specs.Prelude.{◌≡◌, List, Ok, ℕ, Bool, false, nat_eq, Option, Some, None, map, option_map}
 use Rattle.std.specs.List.{list_any}
 use Rattle.toml.specs.Data.{Members}
 use Rattle.ioam_topo.specs.declared.domain.Domain.{Domain}
@@ -7,9 +7,15 @@ use Rattle.ioam_topo.specs.declared.parts.Node.{Node}
 use Rattle.ioam_topo.specs.declared.parts.Link.{Link}
 use Rattle.ioam_topo.specs.declared.parts.Port.{Port}
 use Rattle.ioam_topo.specs.declared.parts.Route.{Route}
-use Rattle.ioam_topo.specs.Goods.{goods}
+use Rattle.ioam_topo.specs.declared.ids.NodeId.{NodeId}
+use Rattle.ioam_topo.specs.declared.ids.LinkId.{LinkId}
+use Rattle.ioam_topo.specs.Goods.{goods, place_of}
+use Rattle.ioam_topo.specs.NodeRead.{name_of_node}
+use Rattle.ioam_topo.specs.LinkRead.{name_of_link}
+use Rattle.ioam_topo.specs.declared.parts.NodeData.{NodeData}
+use Rattle.ioam_topo.specs.declared.parts.Flow.{Flow}
 use Rattle.ioam_topo.specs.NodeTable.{node_of}
-use Rattle.ioam_topo.specs.Top.{format_of, packets_of, node_entries, links_of, ports_of, routes_of}
+use Rattle.ioam_topo.specs.Top.{format_of, packets_of, node_entries, links_of, ports_of, routes_of, node_data_of, flows_of}
 
 -- the nodes, links, ports and routes of a domain, in file order
 abbrev pub nodes : Domain → List Node
@@ -24,6 +30,21 @@ ports domain = domain.parts.ports.items.items
 abbrev pub routes : Domain → List Route
 routes domain = domain.routes.items.items
 
+-- the data of the nodes and the flows, in file order
+abbrev pub node_data : Domain → List NodeData
+node_data domain = domain.telemetry.rows.items.items
+
+abbrev pub flows : Domain → List Flow
+flows domain = domain.telemetry.flows.items.items
+
+-- the node of a name, by its place
+abbrev pub node_of_name : Domain → List ℕ → Option NodeId
+node_of_name domain name = option_map (λ at. record { 0 = at }) (place_of (map name_of_node (nodes domain)) name)
+
+-- the link of a name, by its place
+abbrev pub link_of_name : Domain → List ℕ → Option LinkId
+link_of_name domain name = option_map (λ at. record { 0 = at }) (place_of (map name_of_link (links domain)) name)
+
 -- this is the domain of a file
 pub record IsDomain (t : Members) (domain : Domain) : Type 0 where
   pub format : format_of t ≡ Ok domain.format
@@ -32,6 +53,8 @@ pub record IsDomain (t : Members) (domain : Domain) : Type 0 where
   pub has_links : links domain ≡ links_of t
   pub has_ports : ports domain ≡ ports_of t
   pub has_routes : routes domain ≡ routes_of t
+  pub has_data : node_data domain ≡ node_data_of t
+  pub has_flows : flows domain ≡ flows_of t
 
 -- whether a node, where it is there, lists a namespace
 abbrev pub lists_space : Option Node → ℕ → Bool

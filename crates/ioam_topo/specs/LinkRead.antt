@@ -13,6 +13,10 @@ use Rattle.ioam_topo.specs.LinkTable.{link_of, link_name, link_end, tap_there, t
 abbrev pub from_of : Link → Result ℕ Why
 from_of link = Ok link.from.0
 
+-- the name of a link
+abbrev pub name_of_link : Link → List ℕ
+name_of_link link = link.name
+
 -- one more where there is something
 abbrev pub count_of : {A : Type 0} → Option A → ℕ
 count_of None = 0
@@ -24,6 +28,7 @@ module _ (nodes : List (List ℕ)) where
     pub items : links.items.items ≡ goods (link_of nodes) entries
     pub ends : map from_of links.items.items ≡ goods (link_end nodes) entries
     pub names : links.names ≡ goods link_name entries
+    pub named : links.names ≡ map name_of_link links.items.items
     pub taps : links.taps ≡ tap_count entries
 
   -- this is the link of an entry, and its name is not among the others

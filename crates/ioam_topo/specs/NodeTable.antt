@@ -30,6 +30,10 @@ node_address m = needed address (get_member (codes "address") m)
 abbrev pub node_spaces : Members → Result (List Namespace) Why
 node_spaces m = optional [] namespaces (get_member (codes "namespaces") m)
 
+-- the namespaces that a node of a name lists
+abbrev pub node_list : Members → Result (Result (List Namespace) Why) Why
+node_list m = node_name m ▷ (λ name. Ok (node_spaces m))
+
 -- a node
 abbrev pub node_of : Members → Result Node Why
 node_of m = node_name m ▷ (λ name. node_id m ▷ (λ id. node_address m ▷ (λ address. node_spaces m ▷ (λ spaces.

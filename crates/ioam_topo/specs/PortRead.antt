@@ -9,6 +9,10 @@ use Rattle.ioam_topo.specs.declared.port_table.Ports.{Ports}
 use Rattle.ioam_topo.specs.Goods.{goods}
 use Rattle.ioam_topo.specs.PortTable.{port_of, port_name, port_end}
 
+-- the name of a port
+abbrev pub name_of_port : Port → List ℕ
+name_of_port port = port.name
+
 -- the node of a port
 abbrev pub node_of_port : Port → Result ℕ Why
 node_of_port port = Ok port.node.0
@@ -19,6 +23,7 @@ module _ (nodes : List (List ℕ)) where
     pub items : ports.items.items ≡ goods (port_of nodes) entries
     pub ends : map node_of_port ports.items.items ≡ goods (port_end nodes) entries
     pub names : ports.names ≡ goods port_name entries
+    pub named : ports.names ≡ map name_of_port ports.items.items
 
   -- this is the port of an entry, and its name is not among the others
   pub record IsNewPort (ports : Ports) (m : Members) (text : List ℕ) (port : Port) : Type 0 where

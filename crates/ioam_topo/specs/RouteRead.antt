@@ -1,6 +1,6 @@
 -- What is known of the routes of the entries so far, and of one that was read.
-use Rattle.std.specs.Prelude.{◌≡◌, ℕ, false, List, map, Result, Ok}
-use Rattle.std.specs.List.{list_any}
+use Rattle.std.specs.Prelude.{◌≡◌, ◌≤◌, ℕ, Bool, false, List, map, Result, Ok}
+use Rattle.std.specs.List.{All, list_any}
 use Rattle.toml.specs.Data.{Members}
 use Rattle.ioam_toml.specs.declared.why.Why.{Why}
 use Rattle.ioam_toml.specs.declared.masks.Prefix.{Prefix}
@@ -9,9 +9,18 @@ use Rattle.ioam_topo.specs.declared.route_table.Parts.{Parts}
 use Rattle.ioam_topo.specs.declared.route_table.Routes.{Routes}
 use Rattle.ioam_topo.specs.declared.fault.DomainFault.{DomainFault}
 use Rattle.ioam_topo.specs.Goods.{goods}
+use Rattle.ioam_topo.specs.Lengths.{Occurs}
 use Rattle.ioam_topo.specs.LinkRead.{from_of}
 use Rattle.ioam_topo.specs.PortRead.{node_of_port}
 use Rattle.ioam_topo.specs.RouteTable.{is_route, route_of, route_key, route_keys, route_faults}
+
+-- a route's prefix has one of these lengths
+abbrev pub IsSized : List Bool → Route → Type 0
+IsSized held route = (route.prefix.length ≤ 128) × Occurs held route.prefix.length
+
+-- what no two routes share
+abbrev pub key_of_route : Route → ℕ × Prefix
+key_of_route route = (route.node.0, route.prefix)
 
 module _ (parts : Parts) where
   -- the keys, the faults, the route and what no two may share, behind these nodes, links and ports
@@ -31,9 +40,12 @@ module _ (parts : Parts) where
   pub record HoldsRoutes (entries : List Members) (routes : Routes) : Type 0 where
     pub items : routes.items.items ≡ goods route_behind entries
     pub keys : routes.taken.keys ≡ goods key_behind entries
+    pub keyed : routes.taken.keys ≡ map key_of_route routes.items.items
+    pub sized : All (IsSized routes.lengths.held) routes.items.items
 
   -- this is the route of an entry, and its prefix is not among the node's others
   pub record IsNewRoute (routes : Routes) (m : Members) (route : Route) : Type 0 where
     pub is : route_behind m ≡ Ok route
     pub key_is : key_behind m ≡ Ok (route.node.0, route.prefix)
+    pub small : route.prefix.length ≤ 128
     pub new_key : list_any (is_route route.node.0 route.prefix) routes.taken.keys ≡ false

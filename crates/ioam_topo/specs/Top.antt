@@ -21,13 +21,18 @@ use Rattle.ioam_topo.specs.declared.words.Format.TheVariants.{Ptp, Ntp, Posix}
 use Rattle.ioam_topo.specs.declared.parts.Link.{Link}
 use Rattle.ioam_topo.specs.declared.parts.Port.{Port}
 use Rattle.ioam_topo.specs.declared.parts.Route.{Route}
+use Rattle.ioam_topo.specs.declared.parts.NodeData.{NodeData}
+use Rattle.ioam_topo.specs.declared.parts.Flow.{Flow}
+use Rattle.ioam_data.specs.declared.namespace.Namespace.{Namespace}
 use Rattle.ioam_topo.specs.Faults.{at, each}
 use Rattle.ioam_topo.specs.Goods.{goods}
 use Rattle.ioam_topo.specs.Keys.{own_keys}
-use Rattle.ioam_topo.specs.NodeTable.{node_faults, node_name}
+use Rattle.ioam_topo.specs.NodeTable.{node_faults, node_name, node_list}
 use Rattle.ioam_topo.specs.LinkTable.{link_faults, link_name, link_end, link_of}
 use Rattle.ioam_topo.specs.PortTable.{port_faults, port_name, port_end, port_of}
 use Rattle.ioam_topo.specs.RouteTable.{route_faults, route_of}
+use Rattle.ioam_topo.specs.DataTable.{data_faults, data_of}
+use Rattle.ioam_topo.specs.FlowTable.{flow_faults, flow_of}
 
 -- "ptp", "ntp" or "posix"
 abbrev pub format_named : List ℕ → Result Format Why
@@ -58,9 +63,19 @@ port_entries t = entries (get_member (codes "port") t)
 abbrev pub route_entries : Members → List Members
 route_entries t = entries (get_member (codes "route") t)
 
+abbrev pub data_entries : Members → List Members
+data_entries t = entries (get_member (codes "data") t)
+
+abbrev pub flow_entries : Members → List Members
+flow_entries t = entries (get_member (codes "flow") t)
+
 -- the names of the nodes
 abbrev pub node_names : Members → List (List ℕ)
 node_names t = goods node_name (node_entries t)
+
+-- the namespaces that the nodes of these names list
+abbrev pub node_lists : Members → List (Result (List Namespace) Why)
+node_lists t = goods node_list (node_entries t)
 
 -- the links of the file, in order
 abbrev pub links_of : Members → List Link
@@ -74,6 +89,14 @@ ports_of t = goods (port_of (node_names t)) (port_entries t)
 abbrev pub routes_of : Members → List Route
 routes_of t = goods (route_of (node_names t) (goods link_name (link_entries t)) (goods (link_end (node_names t)) (link_entries t))
     (goods port_name (port_entries t)) (goods (port_end (node_names t)) (port_entries t))) (route_entries t)
+
+-- the node data of the file, in order
+abbrev pub node_data_of : Members → List NodeData
+node_data_of t = goods (data_of (node_names t)) (data_entries t)
+
+-- the flows of the file, in order
+abbrev pub flows_of : Members → List Flow
+flows_of t = goods (flow_of (node_names t) (node_lists t)) (flow_entries t)
 
 -- the faults of the file's own keys
 abbrev pub top_keys : Members → List DomainFault
@@ -94,10 +117,16 @@ part_faults t = table_faults NodeTable MOST_NODES (get_member (codes "node") t) 
     ++ (table_faults LinkTable MOST_LINKS (get_member (codes "link") t) (link_faults (node_names t))
     ++ table_faults PortTable MOST_PORTS (get_member (codes "port") t) (port_faults (node_names t)))
 
--- the faults of the tables that may have no entries yet
-abbrev pub later_faults : Members → List DomainFault
-later_faults t = at DataTable 0 NoKey (rows MOST_DATA (get_member (codes "data") t)) ++ at FlowTable 0 NoKey (rows MOST_FLOWS (get_member (codes "flow") t))
+abbrev pub data_table_faults : Members → List DomainFault
+data_table_faults t = table_faults DataTable MOST_DATA (get_member (codes "data") t) (data_faults (node_names t))
+
+abbrev pub flow_table_faults : Members → List DomainFault
+flow_table_faults t = table_faults FlowTable MOST_FLOWS (get_member (codes "flow") t) (flow_faults (node_names t) (node_lists t))
+
+-- the faults of the tables of what nodes and flows record
+abbrev pub telemetry_faults : Members → List DomainFault
+telemetry_faults t = data_table_faults t ++ flow_table_faults t
 
 -- all faults of a file, in the order in which they are looked for
 abbrev pub faults_of : Members → List DomainFault
-faults_of t = top_keys t ++ (part_faults t ++ (route_table_faults t ++ later_faults t))
+faults_of t = top_keys t ++ (part_faults t ++ (route_table_faults t ++ telemetry_faults t))

@@ -2,11 +2,17 @@ ghost use Rattle.std.specs.Prelude.{◌≡◌, ◌<◌, ◌≤◌, ◌^◌, ◌+
 ghost use Rattle.toml.specs.Data.{get_member};
 ghost use Rattle.toml.specs.View.{table_view};
 ghost use Rattle.ioam_toml.specs.Entries.{entries};
+ghost use Rattle.ioam_topo.specs.declared.domain.TheConstants.{MOST_FLOWS};
+ghost use Rattle.std.specs.List.{All};
 ghost use Rattle.ioam_topo.specs.Faults.{Gives, at};
+ghost use Rattle.ioam_topo.specs.Kept.{NodesKept, LinksKept, PortsKept, RoutesKept, FlowsKept};
+ghost use Rattle.ioam_topo.specs.Sound.{IsFlow};
 ghost use Rattle.ioam_topo.specs.Top.{format_of, format_named, packets_of, top_keys, table_faults};
 
 use crate::collecting::{Collects, collect};
+use crate::data_table::DataRows;
 use crate::fault::DomainRefused;
+use crate::flow_table::Flows;
 use crate::keys::{Spot, own_keys};
 use crate::route_table::{Parts, Routes};
 use crate::words::{Field, Format, Table};
@@ -22,13 +28,28 @@ pub const MOST_DATA: usize = 0;
 /// The most flows.
 pub const MOST_FLOWS: usize = 0;
 
-/// A domain: its nodes, links, ports and routes in the order of the file.
+// What nodes and flows record: the data of the nodes, and the flows.
+#[derive(Drop)]
+pub(crate) struct Telemetry {
+    pub(crate) rows: DataRows,
+    pub(crate) flows: Flows,
+    ghost few_flows: { length flows.items.items ≤ MOST_FLOWS },
+    ghost sound_flows: { All IsFlow flows.items.items },
+}
+
+/// A domain: its nodes, links, ports, routes, node data and flows in the order of the file.
 #[derive(Drop)]
 pub struct Domain {
     pub(crate) format: Format,
     pub(crate) packets: u32,
     pub(crate) parts: Parts,
     pub(crate) routes: Routes,
+    pub(crate) telemetry: Telemetry,
+    ghost nodes_kept: { NodesKept parts.nodes },
+    ghost links_kept: { LinksKept (length parts.nodes.items.items) parts.links },
+    ghost ports_kept: { PortsKept (length parts.nodes.items.items) parts.ports },
+    ghost routes_kept: { RoutesKept parts routes },
+    ghost flows_kept: { FlowsKept (length parts.nodes.items.items) telemetry.flows },
 }
 
 // The file's own keys.

@@ -3,12 +3,18 @@
 #![tactic(auto)]
 
 mod collecting;
+mod data_table;
 mod domain;
 mod fault;
+mod flow_parts;
+mod flow_table;
+mod forward;
 mod ids;
 mod keys;
+mod lengths;
 mod link_table;
 mod lookups;
+mod lookups_data;
 mod name_list;
 mod node_table;
 mod numbers;
@@ -21,10 +27,7 @@ mod words;
 pub use domain::{Domain, MOST_DATA, MOST_FLOWS, MOST_ROUTES};
 pub use fault::{DomainFault, DomainRefused};
 pub use ids::{FlowId, LinkId, NodeId, PortId, Way};
-pub use ioam_toml::{Prefix, Spaces, Why};
-pub use parts::{Link, Node, Port, Route};
+pub use ioam_toml::{Octets, Prefix, Spaces, Why};
+pub use parts::{Flow, Link, Node, NodeData, Port, Route};
 pub use reading::{FILE_MOST, read_domain};
 pub use words::{Field, Format, Table};
-
-#[cfg(test)]
-mod tests;

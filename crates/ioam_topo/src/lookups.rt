@@ -1,44 +1,100 @@
-ghost use Rattle.std.specs.Prelude.{◌≡◌, nat_eq};
-ghost use Rattle.std.specs.Prelude.{◌||◌, slice_get};
-ghost use Rattle.std.specs.List.{list_any};
+ghost use Rattle.std.specs.Prelude.{◌≡◌, ◌<◌, ◌≤◌, ◌||◌, nat_eq, length, slice_get, Some, IfSome};
+ghost use Rattle.std.specs.List.{All, list_any};
 ghost use Rattle.std.specs.Option.{option_copied};
 ghost use Rattle.ioam_topo.specs.Domain.{lists_space};
+ghost use Rattle.ioam_topo.specs.Kept.{JoinsNodes, IsAtNode, IsRouteOf};
 
 use crate::domain::Domain;
-use crate::ids::NodeId;
+use crate::ids::{LinkId, NodeId, PortId};
 use crate::parts::{Link, Node, Port, Route};
 use crate::words::Format;
 use ioam_data::Namespace;
 
 impl Domain {
-    ghost use Rattle.ioam_topo.specs.Domain.{nodes, links, ports, routes};
+    ghost use Rattle.ioam_topo.specs.Domain.{nodes, links, ports, routes, node_of_name, link_of_name};
 
-    /// The nodes, in file order.
+    /// The nodes, in file order: at most 256.
     pub fn nodes(&self) -> &[Node]
-        ensures { result.now ≡ nodes self.now }
+        ensures few { length (nodes self.now) ≤ 256 }
+        ensures value { result.now ≡ nodes self.now }
     {
         self.parts.nodes.items.as_slice()
     }
 
-    /// The links, in file order.
+    /// The links, in file order: at most 1,024, each from a node of the domain to another.
     pub fn links(&self) -> &[Link]
-        ensures { result.now ≡ links self.now }
+        ensures few { length (links self.now) ≤ 1024 }
+        ensures ends { All (JoinsNodes (length (nodes self.now))) result.now }
+        ensures value { result.now ≡ links self.now }
     {
         self.parts.links.items.as_slice()
     }
 
-    /// The ports, in file order.
+    /// The ports, in file order: at most 64, each at a node of the domain.
     pub fn ports(&self) -> &[Port]
-        ensures { result.now ≡ ports self.now }
+        ensures few { length (ports self.now) ≤ 64 }
+        ensures places { All (IsAtNode (length (nodes self.now))) result.now }
+        ensures value { result.now ≡ ports self.now }
     {
         self.parts.ports.items.as_slice()
     }
 
-    /// The routes, in file order.
+    /// The routes, in file order: at most 16,384, each of a node of the domain, with a way from
+    /// there.
     pub fn routes(&self) -> &[Route]
-        ensures { result.now ≡ routes self.now }
+        ensures few { length (routes self.now) ≤ 16384 }
+        ensures ways { All (IsRouteOf (length (nodes self.now)) (links self.now) (ports self.now)) result.now }
+        ensures value { result.now ≡ routes self.now }
     {
         self.routes.items.as_slice()
+    }
+
+    /// A node by its id.
+    pub fn node(&self, id: NodeId) -> &Node
+        requires { id.0 < length (nodes self.now) }
+        ensures { slice_get (nodes self.now) id.0 ≡ Some result.now }
+    {
+        &self.parts.nodes.items[id.0 as usize]
+    }
+
+    /// A link by its id.
+    pub fn link(&self, id: LinkId) -> &Link
+        requires { id.0 < length (links self.now) }
+        ensures value { slice_get (links self.now) id.0 ≡ Some result.now }
+        ensures ends { JoinsNodes (length (nodes self.now)) result.now }
+    {
+        &self.parts.links.items[id.0 as usize]
+    }
+
+    /// A port by its id.
+    pub fn port(&self, id: PortId) -> &Port
+        requires { id.0 < length (ports self.now) }
+        ensures value { slice_get (ports self.now) id.0 ≡ Some result.now }
+        ensures place { IsAtNode (length (nodes self.now)) result.now }
+    {
+        &self.parts.ports.items[id.0 as usize]
+    }
+
+    /// The node of a name, if there is one.
+    pub fn node_named(&self, name: &str) -> Option<NodeId>
+        ensures value { result ≡ node_of_name self.now name.now }
+        ensures inside { IfSome result (λ node. node.0 < length (nodes self.now)) }
+    {
+        match self.parts.nodes.names.place_of(name) {
+            Some(at) => Some(NodeId(at as u32)),
+            None => None,
+        }
+    }
+
+    /// The link of a name, if there is one.
+    pub fn link_named(&self, name: &str) -> Option<LinkId>
+        ensures value { result ≡ link_of_name self.now name.now }
+        ensures inside { IfSome result (λ link. link.0 < length (links self.now)) }
+    {
+        match self.parts.links.names.place_of(name) {
+            Some(at) => Some(LinkId(at as u32)),
+            None => None,
+        }
     }
 
     /// The format of the domain's timestamps.
@@ -59,7 +115,7 @@ impl Domain {
     pub fn is_local(&self, target: u128) -> bool
         ensures { result ≡ list_any (λ node. nat_eq target node.address) (nodes self.now) }
     {
-        self.nodes().iter().any(|node| target == node.address)
+        self.parts.nodes.addresses.contains(&target)
     }
 
     /// Whether a node knows a namespace; every node knows namespace 0.

@@ -1,6 +1,7 @@
 use crate::ids::{NodeId, Way};
+use ioam_data::{Namespace, TraceType};
 use ioam_desk::Name;
-use ioam_toml::{Prefix, Spaces};
+use ioam_toml::{Octets, Prefix, Spaces};
 
 /// A node of the domain.
 #[derive(Debug, Drop)]
@@ -60,4 +61,64 @@ pub struct Route {
     pub prefix: Prefix,
     /// Where they are sent: a link from the node or a port of the node.
     pub way: Way,
+}
+
+/// The data of a node in one namespace.
+#[derive(Debug, Drop)]
+pub struct NodeData {
+    /// The node.
+    pub node: NodeId,
+    /// The namespace; no two entries of one node have one namespace.
+    pub namespace: Namespace,
+    /// What the node records as namespace-specific data (RFC 9197 section 4.4.2.6).
+    pub short: Option<u32>,
+    /// What the node records as wide namespace-specific data, below 2^63 (RFC 9197 section
+    /// 4.4.2.11).
+    pub wide: Option<u64>,
+    /// The schema of its opaque state snapshot, at most 16,777,214; there is one exactly where
+    /// there is a snapshot.
+    pub schema: Option<u32>,
+    /// Its opaque state snapshot (RFC 9197 section 4.4.2.13): whole words of 4 octets, at most 180
+    /// octets, perhaps none.
+    pub snapshot: Option<Octets>,
+}
+
+/// A flow: which packets are enclosed on their way from one node to another, and with which IOAM
+/// options.
+#[derive(Debug, Drop)]
+pub struct Flow {
+    /// Its name; no two flows have one name.
+    pub name: Name,
+    /// The node that encloses.
+    pub entry: NodeId,
+    /// The node that takes the packet out again, another than `entry`.
+    pub exit: NodeId,
+    /// The sources of its packets.
+    pub source: Prefix,
+    /// The targets of its packets.
+    pub target: Prefix,
+    /// The namespace of its options; both `entry` and `exit` know it.
+    pub namespace: Namespace,
+    /// The hop limit of the outer header, 1 to 255.
+    pub hops: u8,
+    /// The flow label of the outer header, below 2^20.
+    pub label: u32,
+    /// The type of the pre-allocated trace that the packets carry.
+    pub trace: Option<TraceType>,
+    /// How many nodes the trace has room for, 1 to 61; there is one exactly where there is a
+    /// trace.
+    pub capacity: Option<u8>,
+    /// The type of the edge-to-edge option, of the bits 0x8000, 0x4000, 0x2000 and 0x1000 (RFC
+    /// 9197 section 4.6).
+    pub edge: Option<u16>,
+    /// The type of the direct export option (RFC 9326).
+    pub direct: Option<TraceType>,
+    /// One packet of so many carries the direct export option, 1 to 1,000,000; there is one
+    /// exactly where there is a direct export.
+    pub every: Option<u32>,
+    /// The flow's id in direct exports; no two flows of one namespace have one id. There is one
+    /// exactly where there is a direct export.
+    pub flow_id: Option<u32>,
+    /// The tunnel's encapsulation limit (RFC 2473 section 4.1.1).
+    pub limit: Option<u8>,
 }

@@ -1,26 +1,30 @@
-ghost use Rattle.std.specs.Prelude.{◌≡◌, ◌<◌, ◌≤◌, ◌^◌, ◌++◌, ◌∷◌, [], ⊤, Some, None, length, codes};
+ghost use Rattle.std.specs.Prelude.{◌≡◌, ◌<◌, ◌≤◌, ◌^◌, ◌++◌, ◌∷◌, [], ⊤, Some, None, length};
 ghost use Rattle.std.specs.Str.{IsUtf8};
-ghost use Rattle.toml.specs.Data.{Members, get_member};
+ghost use Rattle.toml.specs.Data.{Members};
 ghost use Rattle.toml.specs.Parse.{parse_document};
 ghost use Rattle.toml.specs.View.{table_view};
-ghost use Rattle.ioam_toml.specs.Entries.{rows};
 ghost use Rattle.ioam_topo.specs.declared.words.Table.TheVariants.{Top};
 ghost use Rattle.ioam_topo.specs.declared.words.Field.TheVariants.{NoKey};
 ghost use Rattle.ioam_topo.specs.declared.fault.DomainRefused.TheVariants.{Fault};
-ghost use Rattle.ioam_topo.specs.Faults.{Gives, at, fault};
-ghost use Rattle.ioam_topo.specs.Top.{part_faults, later_faults, faults_of};
-ghost use Rattle.ioam_topo.specs.PartsRead.{HoldsParts};
+ghost use Rattle.ioam_topo.specs.Faults.{Gives, fault};
+ghost use Rattle.ioam_topo.specs.Top.{part_faults, telemetry_faults, faults_of, node_entries};
+ghost use Rattle.ioam_topo.specs.NodeRead.{HoldsNodes};
+ghost use Rattle.ioam_topo.specs.PartsRead.{HoldsParts, HoldsTelemetry};
 ghost use Rattle.ioam_topo.specs.Domain.{IsDomain};
 
-use crate::domain::{Domain, MOST_DATA, MOST_FLOWS, MOST_ROUTES, read_entries, read_own};
+use crate::data_table::DataRows;
+use crate::domain::{
+    Domain, MOST_DATA, MOST_FLOWS, MOST_ROUTES, Telemetry, read_entries, read_own,
+};
 use crate::fault::{DomainFault, DomainRefused};
+use crate::flow_table::Flows;
 use crate::keys::Spot;
 use crate::link_table::{Links, MOST_LINKS};
 use crate::node_table::{MOST_NODES, Nodes};
 use crate::port_table::{MOST_PORTS, Ports};
 use crate::route_table::{Parts, Routes};
 use crate::words::{Field, Table};
-use ioam_toml::{Why, rows};
+use ioam_toml::Why;
 use std::alloc::Global;
 
 /// The most octets of a domain file: 1 MiB.
@@ -82,31 +86,46 @@ fn read_parts(alloc: Global, top: &toml::Table) -> Result<Parts, DomainRefused>
     })
 }
 
-// A table of which only the heading is looked at.
-fn check_heading(
+// The node data and the flows of a file, whose nodes these are.
+fn read_telemetry(
     alloc: Global,
     top: &toml::Table,
-    table: Table,
-    key: &str,
-    most: usize,
-) -> Result<(), DomainRefused>
-    ensures { Gives result (at table 0 NoKey (rows most (get_member key.now (table_view top.now)))) (λ _. ⊤) }
+    nodes: &Nodes,
+) -> Result<Telemetry, DomainRefused>
+    requires { HoldsNodes (node_entries (table_view top.now)) nodes.now }
+    ensures { Gives result (telemetry_faults (table_view top.now)) (HoldsTelemetry (table_view top.now)) }
 {
-    let spot = Spot { table, place: 0 };
-    match spot.key_or(Field::NoKey, rows(alloc, top, key, most)) {
-        Ok(_) => Ok(()),
-        Err(refused) => Err(refused),
-    }
-}
-
-// The tables that may have no entries yet.
-fn check_later(alloc: Global, top: &toml::Table) -> Result<(), DomainRefused>
-    ensures { Gives result (later_faults (table_view top.now)) (λ _. ⊤) }
-{
-    match check_heading(alloc, top, Table::DataTable, "data", MOST_DATA) {
-        Ok(()) => check_heading(alloc, top, Table::FlowTable, "flow", MOST_FLOWS),
-        Err(refused) => Err(refused),
-    }
+    let rows = match read_entries(
+        alloc,
+        top,
+        Spot {
+            table: Table::DataTable,
+            place: 0,
+        },
+        "data",
+        MOST_DATA,
+        nodes,
+        DataRows::new(alloc),
+    ) {
+        Ok(rows) => rows,
+        Err(refused) => return Err(refused),
+    };
+    let flows = match read_entries(
+        alloc,
+        top,
+        Spot {
+            table: Table::FlowTable,
+            place: 0,
+        },
+        "flow",
+        MOST_FLOWS,
+        nodes,
+        Flows::new(alloc),
+    ) {
+        Ok(flows) => flows,
+        Err(refused) => return Err(refused),
+    };
+    Ok(Telemetry { rows, flows })
 }
 
 // The domain of a file's tables.
@@ -136,15 +155,16 @@ fn read_file(alloc: Global, top: &toml::Table) -> Result<Domain, DomainRefused>
         Ok(routes) => routes,
         Err(refused) => return Err(refused),
     };
-    match check_later(alloc, top) {
-        Ok(()) => {}
+    let telemetry = match read_telemetry(alloc, top, &parts.nodes) {
+        Ok(telemetry) => telemetry,
         Err(refused) => return Err(refused),
-    }
+    };
     Ok(Domain {
         format: own.format,
         packets: own.packets,
         parts,
         routes,
+        telemetry,
     })
 }
 

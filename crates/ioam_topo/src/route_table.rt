@@ -7,12 +7,14 @@ ghost use Rattle.ioam_toml.specs.Texts.{name};
 ghost use Rattle.ioam_topo.specs.Faults.{Gives};
 ghost use Rattle.ioam_toml.specs.Prefixes.{prefix};
 ghost use Rattle.ioam_topo.specs.Goods.{known};
+ghost use Rattle.ioam_topo.specs.Lengths.{Marks};
 ghost use Rattle.ioam_topo.specs.RouteTable.{way_of};
 
 use crate::collecting::Collects;
 use crate::fault::DomainRefused;
 use crate::ids::{LinkId, NodeId, PortId, Way};
 use crate::keys::{Spot, own_keys};
+use crate::lengths::Lengths;
 use crate::link_table::Links;
 use crate::node_table::Nodes;
 use crate::parts::Route;
@@ -36,6 +38,7 @@ pub(crate) struct Parts {
 pub(crate) struct Routes {
     pub(crate) items: Vec<Route>,
     pub(crate) taken: IndexSet<(u32, Prefix)>,
+    pub(crate) lengths: Lengths,
 }
 
 // Whether an entry has a key.
@@ -128,6 +131,7 @@ impl Routes {
         Routes {
             items: Vec::new(alloc),
             taken: IndexSet::new(alloc),
+            lengths: Lengths::new(),
         }
     }
 
@@ -140,7 +144,8 @@ impl Routes {
 
     // The prefix of an entry, which no other route of the node has.
     fn new_prefix(&self, node: u32, entry: &toml::Table) -> Result<Prefix, Why>
-        ensures { result ≡ needed prefix (get_member (codes "prefix") (table_view entry.now)) ▷ fresh_for (Ok node) self.now.taken.keys }
+        ensures value { result ≡ needed prefix (get_member (codes "prefix") (table_view entry.now)) ▷ fresh_for (Ok node) self.now.taken.keys }
+        ensures small { IfOk result (λ p. p.length ≤ 128) }
     {
         match prefix(entry, "prefix") {
             Ok(prefix) if self.is_taken(node, prefix) => Err(Why::Twice),
@@ -170,12 +175,15 @@ impl Routes {
     }
 
     fn add(&mut self, route: Route) -> Result<(), NoMemory>
-        requires { list_any (is_route route.node.0 route.prefix) self.old.taken.keys ≡ false }
+        requires small { route.prefix.length ≤ 128 }
+        requires new_key { list_any (is_route route.node.0 route.prefix) self.old.taken.keys ≡ false }
         ensures items { OnOk result (self.new.items.items ≡ self.old.items.items ++ route ∷ []) }
         ensures keys { OnOk result (self.new.taken.keys ≡ self.old.taken.keys ++ (route.node.0, route.prefix) ∷ []) }
+        ensures lengths { OnOk result (Marks self.old.lengths.held self.new.lengths.held route.prefix.length) }
     {
         self.taken.insert_full((route.node.0, route.prefix))?;
         self.items.push(route)?;
+        self.lengths.add(route.prefix.length);
         Ok(())
     }
 }

@@ -2,6 +2,7 @@ use Rattle.std.proofs.Common.{refl}
 use Rattle.ioam_topo.proofs.FaultLaws.{gives_first}
 use Rattle.ioam_topo.proofs.PartsLaws.{third_of_four, last_of_four, routes_same}
 use Rattle.toml.specs.View.{table_view}
+use Rattle.ioam_topo.proofs.SoundLaws.{nodes_kept, links_kept, ports_kept, routes_kept, flows_kept}
 use Rattle.ioam_topo.proofs.reading.read_file.Goals as goal
 
 pub returns-in-Err : goal.returns-in-Err
@@ -12,8 +13,19 @@ returns-in-Err-read_entries c = gives_first c.in-Err-read_entries.refused _ _ _ 
     (third_of_four _ _ _ _ _ c.in-Ok.ensures.0 c.in-Ok-read_parts.ensures.0 (routes_same (table_view c.args.top.now) c.in-Ok-read_parts.parts c.in-Ok-read_parts.ensures.1))
     c.in-Err-read_entries.ensures
 
-pub returns-in-Err-check_later : goal.returns-in-Err-check_later
-returns-in-Err-check_later c = gives_first c.in-Err-check_later.refused _ _ _ _ _
+pub returns-in-Err-read_telemetry : goal.returns-in-Err-read_telemetry
+returns-in-Err-read_telemetry c = gives_first c.in-Err-read_telemetry.refused _ _ _ _ _
     (last_of_four _ _ _ _ _ c.in-Ok.ensures.0 c.in-Ok-read_parts.ensures.0 c.in-Ok-read_entries.ensures.0
     (routes_same (table_view c.args.top.now) c.in-Ok-read_parts.parts c.in-Ok-read_parts.ensures.1))
-    c.in-Err-check_later.ensures
+    c.in-Err-read_telemetry.ensures
+
+pub invariant_of-result : goal.invariant_of-result
+invariant_of-result c = record {
+  nodes_kept = nodes_kept (table_view c.args.top.now) c.in-Ok-read_parts.parts c.in-Ok-read_parts.ensures.1 c.in-Ok-read_parts.ensures.0;
+  links_kept = links_kept (table_view c.args.top.now) c.in-Ok-read_parts.parts c.in-Ok-read_parts.ensures.1 c.in-Ok-read_parts.ensures.0;
+  ports_kept = ports_kept (table_view c.args.top.now) c.in-Ok-read_parts.parts c.in-Ok-read_parts.ensures.1 c.in-Ok-read_parts.ensures.0;
+  routes_kept = routes_kept (table_view c.args.top.now) c.in-Ok-read_parts.parts c.in-Ok-read_parts.ensures.1 c.in-Ok-read_parts.ensures.0
+      c.in-Ok-read_entries.routes c.in-Ok-read_entries.ensures.1 c.in-Ok-read_entries.ensures.0;
+  flows_kept = flows_kept (table_view c.args.top.now) c.in-Ok-read_parts.parts c.in-Ok-read_parts.ensures.1 c.in-Ok-read_parts.ensures.0
+      c.in-Ok-read_telemetry.telemetry c.in-Ok-read_telemetry.ensures.1 c.in-Ok-read_telemetry.ensures.0;
+}

@@ -12,5 +12,5 @@ pub returns-in-Ok-add : goal.returns-in-Ok-add
 returns-in-Ok-add c = λ earlier holds there. (
   sym (held_faults c.args.before.now earlier c.args.self.now c.args.place (table_view c.args.entry.now) holds there) ∙ c.in-Ok.ensures.0,
   route_added c.args.before.now earlier (table_view c.args.entry.now) c.in-Ok.route c.args.self.now c.add.new.self holds c.in-Ok.ensures.1
-      c.in-Ok-add.ensures.items c.in-Ok-add.ensures.keys,
+      c.in-Ok-add.ensures.items c.in-Ok-add.ensures.keys c.in-Ok-add.ensures.lengths,
 )

@@ -1,0 +1,36 @@
+use Rattle.std.proofs.Common.{◌≡◌, ◌++◌, [], List, ap, sym, ◌∙◌}
+use Rattle.toml.specs.View.{table_view}
+use Rattle.ioam_topo.specs.declared.fault.DomainFault.{DomainFault}
+use Rattle.ioam_topo.specs.Top.{data_table_faults, flow_table_faults}
+use Rattle.ioam_topo.proofs.FaultLaws.{gives_first, gives_same}
+use Rattle.ioam_topo.proofs.PartsLaws.{data_same, flows_same, few_goods}
+use Rattle.std.proofs.Common.{codes, map}
+use Rattle.toml.specs.Data.{get_member}
+use Rattle.ioam_topo.specs.declared.domain.TheConstants.{MOST_FLOWS}
+use Rattle.ioam_topo.specs.declared.words.Table.TheVariants.{FlowTable}
+use Rattle.ioam_topo.specs.NodeRead.{list_of}
+use Rattle.ioam_topo.specs.FlowTable.{flow_of, flow_faults}
+use Rattle.ioam_toml.specs.Entries.{entries}
+use Rattle.ioam_topo.proofs.FlowFacts.{flows_sound}
+use Rattle.ioam_topo.proofs.reading.read_telemetry.Goals as goal
+
+pub returns-in-Err : goal.returns-in-Err
+returns-in-Err c = gives_first c.in-Err.refused _ (flow_table_faults (table_view c.args.top.now)) _ _ _
+    (ap (λ (l : List DomainFault). l ++ flow_table_faults (table_view c.args.top.now)) (sym (data_same (table_view c.args.top.now) c.args.nodes.now c.requires)))
+    c.in-Err.ensures
+
+pub returns-in-Err-read_entries : goal.returns-in-Err-read_entries
+returns-in-Err-read_entries c =
+    let none : data_table_faults (table_view c.args.top.now) ≡ [] = sym (data_same (table_view c.args.top.now) c.args.nodes.now c.requires) ∙ c.in-Ok.ensures.0 in
+    gives_same c.in-Err-read_entries.refused _ _ _ _
+    (flows_same (table_view c.args.top.now) c.args.nodes.now c.requires ∙ sym (ap (λ (l : List DomainFault). l ++ flow_table_faults (table_view c.args.top.now)) none))
+    c.in-Err-read_entries.ensures
+
+pub invariant_of-result : goal.invariant_of-result
+invariant_of-result c = record {
+  few_flows = few_goods (flow_of c.args.nodes.now.names (map list_of c.args.nodes.now.items.items)) FlowTable MOST_FLOWS (get_member (codes "flow") (table_view c.args.top.now))
+      (flow_faults c.args.nodes.now.names (map list_of c.args.nodes.now.items.items)) c.in-Ok-read_entries.flows.items.items
+      c.in-Ok-read_entries.ensures.0 c.in-Ok-read_entries.ensures.1.items;
+  sound_flows = flows_sound c.args.nodes.now.names (map list_of c.args.nodes.now.items.items) (entries (get_member (codes "flow") (table_view c.args.top.now)))
+      c.in-Ok-read_entries.flows.items.items c.in-Ok-read_entries.ensures.1.items;
+}

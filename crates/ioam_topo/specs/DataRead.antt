@@ -1,0 +1,21 @@
+-- What is known of the node data of the entries so far, and of one that was read.
+use Rattle.std.specs.Prelude.{◌≡◌, ℕ, false, List, Ok}
+use Rattle.std.specs.List.{list_any}
+use Rattle.toml.specs.Data.{Members}
+use Rattle.ioam_topo.specs.declared.parts.NodeData.{NodeData}
+use Rattle.ioam_topo.specs.declared.data_table.DataRows.{DataRows}
+use Rattle.ioam_topo.specs.Goods.{goods}
+use Rattle.ioam_topo.specs.Apart.{is_pair}
+use Rattle.ioam_topo.specs.DataTable.{data_of, data_key}
+
+module _ (nodes : List (List ℕ)) where
+  -- these are the data of these entries
+  pub record HoldsData (entries : List Members) (rows : DataRows) : Type 0 where
+    pub items : rows.items.items ≡ goods (data_of nodes) entries
+    pub keys : rows.taken.keys ≡ goods (data_key nodes) entries
+
+  -- this is what an entry holds, and its namespace is not among the node's others
+  pub record IsNewData (rows : DataRows) (m : Members) (row : NodeData) : Type 0 where
+    pub is : data_of nodes m ≡ Ok row
+    pub key_is : data_key nodes m ≡ Ok (row.node.0, row.namespace.0)
+    pub new_key : list_any (is_pair row.node.0 row.namespace.0) rows.taken.keys ≡ false

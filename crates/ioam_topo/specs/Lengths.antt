@@ -1,0 +1,10 @@
+-- The lengths that prefixes have.
+use Rattle.std.specs.Prelude.{◌≡◌, ℕ, Bool, true, List, Some, slice_get}
+
+-- a length occurs
+abbrev pub Occurs : List Bool → ℕ → Type 0
+Occurs held n = slice_get held n ≡ Some true
+
+-- a length was noted beside the others
+abbrev pub Marks : List Bool → List Bool → ℕ → Type 0
+Marks old new n = Occurs new n × ((k : ℕ) → Occurs old k → Occurs new k)

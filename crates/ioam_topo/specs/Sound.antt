@@ -1,0 +1,21 @@
+-- What is true of each flow, whatever file it is of.
+use Rattle.std.specs.Prelude.{◌≡◌, ◌≤◌, true, is_some}
+use Rattle.std.specs.Option.{ForSome}
+use Rattle.ioam_data.specs.Kind.{is_entry_type}
+use Rattle.ioam_toml.specs.Types.{is_direct_type, is_edge_type}
+use Rattle.ioam_topo.specs.declared.parts.Flow.{Flow}
+
+-- its numbers are within their bounds and its types are allowed, and what goes together is there together
+pub record IsFlow (flow : Flow) : Type 0 where
+  pub hops_some : 1 ≤ flow.hops
+  pub label_most : flow.label ≤ 1048575
+  pub trace_type : ForSome flow.trace (λ kind. is_entry_type kind ≡ true)
+  pub capacity_some : ForSome flow.capacity (λ n. 1 ≤ n)
+  pub capacity_most : ForSome flow.capacity (λ n. n ≤ 61)
+  pub trace_room : is_some flow.capacity ≡ is_some flow.trace
+  pub edge_type : ForSome flow.edge (λ kind. is_edge_type kind ≡ true)
+  pub direct_type : ForSome flow.direct (λ kind. is_direct_type kind ≡ true)
+  pub every_some : ForSome flow.every (λ n. 1 ≤ n)
+  pub every_most : ForSome flow.every (λ n. n ≤ 1000000)
+  pub direct_every : is_some flow.every ≡ is_some flow.direct
+  pub direct_id : is_some flow.flow_id ≡ is_some flow.direct

@@ -1,0 +1,64 @@
+ghost use Rattle.std.specs.Prelude.{◌≡◌, ◌<◌, ◌≤◌, nat_eq, ◌&&◌, length, slice_get, Some, IfSome};
+ghost use Rattle.ioam_topo.specs.Forward.{longest, bits_of, fits, way_to, IsWayTo, IsWayFrom};
+
+use crate::domain::Domain;
+use crate::ids::{NodeId, Way};
+use crate::parts::Route;
+use ioam_toml::{Prefix, masked};
+
+impl Domain {
+    ghost use Rattle.ioam_topo.specs.Domain.{links, ports, routes};
+
+    // A route by its place.
+    fn route(&self, at: usize) -> Route
+        requires { at < length (routes self.now) }
+        ensures { slice_get (routes self.now) at ≡ Some result }
+    {
+        self.routes.items[at]
+    }
+
+    // The route of a node for so many first bits of a target.
+    fn route_by(&self, node: NodeId, length: u8, target: u128) -> Option<Route>
+        requires { length ≤ 128 }
+        ensures { result ≡ longest bits_of (λ route. fits node.0 target route && nat_eq length (bits_of route)) (routes self.now) }
+    {
+        if !self.routes.lengths.has(length) {
+            return None;
+        }
+        let prefix = Prefix {
+            bits: masked(length, target),
+            length,
+        };
+        match self.routes.taken.get_index_of(&(node.0, prefix)) {
+            Some(at) => Some(self.route(at)),
+            None => None,
+        }
+    }
+
+    // The route of a node for a target, which is the longest. Lengths are tried from 128 bits down.
+    fn route_to(&self, node: NodeId, target: u128) -> Option<Route>
+        ensures { result ≡ longest bits_of (fits node.0 target) (routes self.now) }
+    {
+        for fewer in 0..129u8 {
+            match self.route_by(node, 128 - fewer, target) {
+                Some(route) => return Some(route),
+                None => {}
+            }
+        }
+        None
+    }
+
+    /// Where a node sends a target: the way of the longest of the node's routes whose prefix the
+    /// target has (RFC 1812 section 5.2.4.3); none where there is none, and none for a node that
+    /// is not of the domain.
+    pub fn forward(&self, node: NodeId, target: u128) -> Option<Way>
+        ensures value { result ≡ way_to (routes self.now) node.0 target }
+        ensures longest { IsWayTo (routes self.now) node.0 target result }
+        ensures inside { IfSome result (IsWayFrom (links self.now) (ports self.now) node.0) }
+    {
+        match self.route_to(node, target) {
+            Some(route) => Some(route.way),
+            None => None,
+        }
+    }
+}
