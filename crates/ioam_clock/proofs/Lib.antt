@@ -1,0 +1,4 @@
+mod NumberLaws
+mod TrackLaws
+mod LineLaws
+mod ReadingLaws

@@ -1,0 +1,27 @@
+//! The clocks of a domain's nodes: the file of readings, the sample in force at a time, and the
+//! timestamp formats.
+#![tactic(auto)]
+
+mod adding;
+mod fault;
+mod line;
+mod numbers;
+mod reading;
+mod readings;
+mod refused;
+mod sample;
+mod timestamp;
+mod track;
+
+pub use fault::{ReadWhy, ReadingsFault, ReadingsRefused};
+pub use reading::{FILE_MOST, read_readings};
+pub use readings::Readings;
+pub use sample::Sample;
+pub use timestamp::stamp;
+
+#[cfg(test)]
+mod domain_tests;
+#[cfg(test)]
+mod fault_tests;
+#[cfg(test)]
+mod tests;
