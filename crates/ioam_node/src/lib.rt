@@ -1,0 +1,15 @@
+//! What a node of a domain does with a packet: whether it takes in what arrives at a port, and where
+//! it sends a packet, or the first reason why it drops it.
+#![tactic(auto)]
+
+mod admitted;
+mod admitting;
+mod choosing;
+mod place;
+mod reason;
+
+pub use admitted::Admit;
+pub use admitting::admit;
+pub use choosing::choose;
+pub use place::Place;
+pub use reason::Reason;

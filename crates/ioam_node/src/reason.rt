@@ -1,0 +1,28 @@
+/// Why a packet is dropped, in the order in which the reasons are looked for.
+#[derive(Clone, Copy, Debug, PartialEq, Eq)]
+pub enum Reason {
+    /// The frame holds no IPv6: another Ethertype, nothing at all, or another version.
+    NotIpv6,
+    /// Fewer octets were captured than the frame had.
+    Cut,
+    /// The frame is shorter than the IPv6 header, or than the header says.
+    Length,
+    /// The header chain isn't whole (RFC 8200 section 4).
+    Chain,
+    /// The packet arrives with an IOAM option on its chain (RFC 9486 section 3).
+    IoamIn,
+    /// The packet is for an address of a node of the domain.
+    Local,
+    /// The hop limit that would be lowered is 0 or 1 (RFC 8200 section 3).
+    HopLimit,
+    /// The node has no route for the target.
+    NoRoute,
+    /// The packet may not be enclosed once more: its Tunnel Encapsulation Limit is 0 (RFC 2473
+    /// section 4.1.1).
+    EncapLimit,
+    /// The packet is longer than the link's packets may be.
+    TooBig,
+    /// The packet is enclosed and would leave the domain at another node than its exit: IOAM data
+    /// doesn't leave its domain (RFC 9197 section 3).
+    IoamOut,
+}
