@@ -1,0 +1,4 @@
+pub mod Journey
+pub mod Steps
+pub mod Plans
+pub mod Inside
