@@ -4,3 +4,4 @@ pub mod ListedLaws
 pub mod TextLaws
 pub mod TracesLaws
 pub mod WordsLaws
+pub mod SumsLaws

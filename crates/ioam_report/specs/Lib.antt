@@ -1,6 +1,9 @@
 pub mod Digits
 pub mod FieldsText
 pub mod Piece
+pub mod RunText
 pub mod Spaced
+pub mod Sums
+pub mod SumsText
 pub mod TraceText
 pub mod TracesText

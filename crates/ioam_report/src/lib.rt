@@ -2,18 +2,26 @@
 //! line ends with a line feed.
 #![tactic(auto)]
 
+mod arrivals;
 mod digits;
 mod elements;
 mod lines;
 mod listed;
 mod piece;
 mod put;
+mod reasons;
 mod settle;
+mod sums;
+mod totals;
 mod traces;
 mod values;
 
+pub use arrivals::put_arrival;
 pub use elements::put_fields;
 pub use lines::put_trace_lines;
+pub use reasons::reason_text;
+pub use sums::{NodeSum, NodeSums, Sums};
+pub use totals::put_sums;
 pub use traces::put_traces;
 
 #[cfg(test)]
