@@ -1,0 +1,94 @@
+-- What was answered of a frame at its port.
+use Rattle.std.proofs.Common.{◌≡◌, ℕ, ◌≤◌, Bool, true, false, List, [], ◌∷◌, length, take, drop, Option, Some, None, IsSomeAnd, ap, arith, length-take, length-drop, if◌then◌else◌}
+use Rattle.std.specs.Prelude.{nat_lt, not, ◌||◌, ◌==◌, ◌/◌, slice_index}
+use Rattle.ioam_ip.specs.Framing.{Framing, Holds, NoIpv6, CutShort, TooShort, IfHolds, framed, framing_of, is_ethernet_ipv6}
+use Rattle.ioam_ip.specs.Packet.{whole_length}
+use Rattle.ioam_node.specs.Admission.{Admits, HoldsPacket}
+use Rattle.ioam_node.specs.declared.admitted.Admit.{Admit}
+use Rattle.ioam_node.specs.declared.admitted.Admit.TheVariants as admit
+use Rattle.ioam_plan.specs.Plans.{PlansBy, IsPlannable}
+use Rattle.ioam_plan.specs.declared.itinerary.Visit.{Visit}
+use Rattle.ioam_plan.specs.declared.itinerary.End.{End}
+use Rattle.ioam_plan.specs.declared.itinerary.End.TheVariants.{Left, Drop}
+use Rattle.ioam_topo.specs.Domain.{flows}
+use Rattle.ioam_topo.specs.Finding.{flow_at}
+use Rattle.ioam_topo.specs.declared.domain.Domain.{Domain}
+use Rattle.ioam_topo.specs.declared.ids.FlowId.{FlowId}
+use Rattle.ioam_topo.specs.declared.parts.Flow.{Flow}
+use Rattle.ioam_topo.specs.declared.parts.Port.{Port}
+use Rattle.ioam_forward.specs.Fate.{packet_of, DropsAlike}
+
+-- no more octets than so many
+abbrev Within : ℕ → Framing → Type 0
+Within size framing = IfHolds framing (λ packet. length packet ≤ size)
+
+either : (b : Bool) (size : ℕ) (f g : Framing) → Within size f → Within size g → Within size (if b then f else g)
+either true size f g first second = first
+either false size f g first second = second
+
+framed-within : (cut : Bool) (octets : List ℕ) (size : ℕ) → length octets ≤ size → Within size (framed cut octets)
+framed-within cut octets size few =
+    let fewer : length (take (whole_length octets) octets) ≤ size = omega (arith, few, length-take (whole_length octets) octets) in
+    let short : Bool = nat_lt (length octets) 40 || nat_lt (length octets) (whole_length octets) in
+    let held : Framing = Holds (take (whole_length octets) octets) in
+    let third : Framing = if short then TooShort else held in
+    let second : Framing = if cut then CutShort else third in
+    either (not (slice_index octets 0 / 16 == 6)) size NoIpv6 second tt (either cut size CutShort third tt (either short size TooShort held tt fewer))
+
+framing-within : (ethernet cut : Bool) (frame : List ℕ) (size : ℕ) → length frame ≤ size → Within size (framing_of ethernet cut frame)
+framing-within ethernet cut frame size few =
+    let inner : Framing = if is_ethernet_ipv6 frame then framed cut (drop 14 frame) else NoIpv6 in
+    either (not ethernet) size (framed cut frame) inner (framed-within cut frame size few)
+    (either (is_ethernet_ipv6 frame) size (framed cut (drop 14 frame)) NoIpv6 (framed-within cut (drop 14 frame) size (omega (arith, few, length-drop 14 frame))) tt)
+
+admits-within : (domain : Domain) (node size : ℕ) (framing : Framing) (answer : Admit) → Within size framing → Admits domain node framing answer
+    → length (packet_of answer) ≤ size
+admits-within domain node size (Holds packet) (admit.Plain kept) few admits = omega (arith, few, ap length admits.0)
+admits-within domain node size (Holds packet) (admit.Enclose flow kept limit) few admits = omega (arith, few, ap length admits.0)
+admits-within domain node size (Holds packet) (admit.Drop reason) few admits = omega arith
+admits-within domain node size NoIpv6 (admit.Plain kept) few admits = absurd admits
+admits-within domain node size NoIpv6 (admit.Enclose flow kept limit) few admits = absurd admits
+admits-within domain node size NoIpv6 (admit.Drop reason) few admits = omega arith
+admits-within domain node size CutShort (admit.Plain kept) few admits = absurd admits
+admits-within domain node size CutShort (admit.Enclose flow kept limit) few admits = absurd admits
+admits-within domain node size CutShort (admit.Drop reason) few admits = omega arith
+admits-within domain node size TooShort (admit.Plain kept) few admits = absurd admits
+admits-within domain node size TooShort (admit.Enclose flow kept limit) few admits = absurd admits
+admits-within domain node size TooShort (admit.Drop reason) few admits = omega arith
+
+-- the packet that is taken in has no more octets than its frame
+pub answer-within : (domain : Domain) (at : Option Port) (ethernet cut : Bool) (frame : List ℕ) (answer : Admit)
+    → IsSomeAnd at (λ port. Admits domain port.node.0 (framing_of ethernet cut frame) answer) → length (packet_of answer) ≤ length frame
+answer-within domain (Some port) ethernet cut frame answer admits =
+    admits-within domain port.node.0 (length frame) (framing_of ethernet cut frame) answer (framing-within ethernet cut frame (length frame) (omega arith)) admits
+answer-within domain None ethernet cut frame answer admits = absurd admits
+
+no_flow : (all : List Flow) (node source target : ℕ) (flow : FlowId) → all ≡ [] → flow_at all node source target ≡ Some flow → ⊥
+no_flow [] node source target flow none is = cc
+no_flow (first ∷ all) node source target flow none is = cc
+
+plannable : (domain : Domain) (node : ℕ) (framing : Framing) (answer : Admit) → flows domain ≡ [] → HoldsPacket answer → Admits domain node framing answer
+    → IsPlannable answer
+plannable domain node framing (admit.Plain kept) none holds admits = holds
+plannable domain node framing (admit.Drop reason) none holds admits = tt
+plannable domain node (Holds packet) (admit.Enclose flow kept limit) none holds admits =
+    no_flow (flows domain) node (admits.2).0.source (admits.2).0.target flow none (admits.2).2
+plannable domain node NoIpv6 (admit.Enclose flow kept limit) none holds admits = absurd admits
+plannable domain node CutShort (admit.Enclose flow kept limit) none holds admits = absurd admits
+plannable domain node TooShort (admit.Enclose flow kept limit) none holds admits = absurd admits
+
+-- in a domain without flows no packet is put into a tunnel
+pub answer-plannable : (domain : Domain) (at : Option Port) (framing : Framing) (answer : Admit) → flows domain ≡ [] → HoldsPacket answer
+    → IsSomeAnd at (λ port. Admits domain port.node.0 framing answer) → IsPlannable answer
+answer-plannable domain (Some port) framing answer none holds admits = plannable domain port.node.0 framing answer none holds admits
+answer-plannable domain None framing answer none holds admits = absurd admits
+
+-- what is dropped on arrival doesn't leave
+pub plan-drops : (domain : Domain) (at : Option Port) (time : ℕ) (answer : Admit) (visits : List Visit) (end : End)
+    → IsSomeAnd at (PlansBy domain time answer visits end) → DropsAlike answer end
+plan-drops domain (Some port) time (admit.Plain kept) visits end plans = tt
+plan-drops domain (Some port) time (admit.Enclose flow kept limit) visits end plans = absurd plans
+plan-drops domain (Some port) time (admit.Drop reason) visits (Left exit) plans =
+    let is : Left exit ≡ Drop reason port.node = plans.ends in cc
+plan-drops domain (Some port) time (admit.Drop reason) visits (Drop cause node) plans = tt
+plan-drops domain None time answer visits end plans = absurd plans

@@ -1,0 +1,4 @@
+pub mod AddsLaws
+pub mod TextsLaws
+mod AnswerLaws
+mod LoweredLaws

@@ -1,0 +1,29 @@
+use Rattle.std.proofs.Common.{refl, ◌+◌, arith}
+use Rattle.ioam_forward.specs.Fate.{packet_of}
+use Rattle.ioam_forward.specs.Texts.{added_by}
+use Rattle.ioam_forward.proofs.AnswerLaws.{answer-within}
+use Rattle.ioam_forward.proofs.TextsLaws.{Forwards-push, IsOf-push}
+use Rattle.ioam_forward.proofs.forwarding.Forwarding.take.Goals as goal
+
+pub put_fate-requires-clause-short : goal.put_fate-requires-clause-short
+put_fate-requires-clause-short c =
+    let within = answer-within c.args.domain.now _ c.args.ethernet _ c.args.packet.now.octets.now c.admit-admitted.result c.admit-admitted.ensures.admits in
+    omega (arith, within, c.requires.short)
+
+pub returns-clause-of : goal.returns-clause-of
+returns-clause-of c = (IsOf-push c.args.domain.now c.args.self.now (record { sums = c.note.new.self }) c.in_ok-itinerary.itinerary.visits c.in_ok-itinerary.itinerary.end
+    (c.note.ensures c.args.domain.now) c.requires.of).0
+
+pub returns-clause-counted : goal.returns-clause-counted
+returns-clause-counted c = (IsOf-push c.args.domain.now c.args.self.now (record { sums = c.note.new.self }) c.in_ok-itinerary.itinerary.visits c.in_ok-itinerary.itinerary.end
+    (c.note.ensures c.args.domain.now) c.requires.of).1
+
+pub returns-clause-gathers : goal.returns-clause-gathers
+returns-clause-gathers c = (
+  added_by c.args.domain.now (c.args.self.now.sums.packets + 1)
+      (record { port = c.args.port; packet = packet_of c.admit-admitted.result; visits = c.in_ok-itinerary.itinerary.visits; end = c.in_ok-itinerary.itinerary.end }),
+  c.in_ok-put_fate.ensures,
+  Forwards-push c.args.domain.now _ _ c.args.self.now _ (c.args.self.now.sums.packets + 1) refl
+      (record { answer = c.admit-admitted.result; answered = c.admit-admitted.ensures.admits; plans = c.in_ok-itinerary.ensures.plans; port = refl; packet = refl })
+      (c.note.ensures c.args.domain.now),
+)

@@ -1,0 +1,60 @@
+-- What becomes of the arrivals of a domain whose packets aren't put into tunnels.
+use Rattle.std.specs.Prelude.{◌≡◌, ℕ, ⊤, Bool, IsSomeAnd, List, [], ◌∷◌, nat_lt, length, slice_get}
+use Rattle.ioam_ip.specs.Framing.{framing_of}
+use Rattle.ioam_node.specs.Admission.{Admits}
+use Rattle.ioam_node.specs.declared.admitted.Admit.{Admit}
+use Rattle.ioam_node.specs.declared.admitted.Admit.TheVariants as admit
+use Rattle.ioam_pcap.specs.Entries.{Entry}
+use Rattle.ioam_plan.specs.Plans.{Plans}
+use Rattle.ioam_plan.specs.declared.itinerary.Visit.{Visit}
+use Rattle.ioam_plan.specs.declared.itinerary.End.{End}
+use Rattle.ioam_plan.specs.declared.itinerary.End.TheVariants.{Left, Drop}
+use Rattle.ioam_topo.specs.Domain.{ports}
+use Rattle.ioam_topo.specs.declared.domain.Domain.{Domain}
+use Rattle.ioam_topo.specs.declared.ids.PortId.{PortId}
+
+-- an arrival: the port, whether its frame begins with an Ethernet header, and its record
+pub record Frame : Type 0 where
+  pub port : PortId
+  pub ethernet : Bool
+  pub entry : Entry
+
+-- what becomes of it: the port by which it came, the packet that was taken in, its visits and its end
+pub record Fate : Type 0 where
+  pub port : PortId
+  pub packet : List ℕ
+  pub visits : List Visit
+  pub end : End
+
+-- the packet that is taken in; none where the frame is dropped
+abbrev pub packet_of : Admit → List ℕ
+packet_of (admit.Plain packet) = packet.now
+packet_of (admit.Enclose flow packet limit) = packet.now
+packet_of (admit.Drop reason) = []
+
+-- what is answered of a frame at the port where it arrives; it is cut where its record has fewer
+-- octets than the frame had
+abbrev pub IsAnswered : Domain → Frame → Admit → Type 0
+IsAnswered domain frame answer = IsSomeAnd (slice_get (ports domain) frame.port.0) (λ at. Admits domain at.node.0
+    (framing_of frame.ethernet (nat_lt (length frame.entry.octets) frame.entry.original) frame.entry.octets) answer)
+
+pub record HasFate (domain : Domain) (frame : Frame) (fate : Fate) : Type 0 where
+  pub answer : Admit
+  pub answered : IsAnswered domain frame answer
+  pub plans : Plans domain frame.port frame.entry.time answer fate.visits fate.end
+  pub port : fate.port ≡ frame.port
+  pub packet : fate.packet ≡ packet_of answer
+
+-- what becomes of each
+abbrev pub AreFates : Domain → List Frame → List Fate → Type 0
+AreFates domain [] [] = ⊤
+AreFates domain [] (fate ∷ fates) = ⊥
+AreFates domain (frame ∷ frames) [] = ⊥
+AreFates domain (frame ∷ frames) (fate ∷ fates) = HasFate domain frame fate × AreFates domain frames fates
+
+-- a frame that is dropped where it arrives doesn't leave
+abbrev pub DropsAlike : Admit → End → Type 0
+DropsAlike (admit.Drop reason) (Left port) = ⊥
+DropsAlike (admit.Drop reason) (Drop cause node) = ⊤
+DropsAlike (admit.Plain packet) end = ⊤
+DropsAlike (admit.Enclose flow packet limit) end = ⊤

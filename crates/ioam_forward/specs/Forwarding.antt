@@ -1,0 +1,31 @@
+-- What the texts that are gathered for a run stand for.
+use Rattle.std.specs.Prelude.{◌≡◌, ℕ, List}
+use Rattle.ioam_plan.specs.declared.itinerary.Visit.{Visit}
+use Rattle.ioam_plan.specs.declared.itinerary.End.{End}
+use Rattle.ioam_report.specs.Sums.{StandFor}
+use Rattle.ioam_topo.specs.declared.domain.Domain.{Domain}
+use Rattle.ioam_forward.specs.Fate.{Frame, Fate, AreFates}
+use Rattle.ioam_forward.specs.Texts.{texts_of, texts_so_far, ways_of}
+use Rattle.ioam_forward.specs.declared.forwarding.Forwarding.{Forwarding}
+
+-- the texts of these arrivals so far, and their sums
+pub record Forwards (domain : Domain) (frames : List Frame) (texts : List (List ℕ)) (gathered : Forwarding) : Type 0 where
+  pub fates : List Fate
+  pub are : AreFates domain frames fates
+  pub texts_are : texts ≡ texts_so_far domain fates
+  pub sums : StandFor domain gathered.sums (ways_of fates)
+
+-- the texts of these arrivals, with the sums
+pub record Forwarded (domain : Domain) (frames : List Frame) (texts : List (List ℕ)) : Type 0 where
+  pub fates : List Fate
+  pub are : AreFates domain frames fates
+  pub texts_are : texts ≡ texts_of domain fates
+
+-- how many arrivals were taken
+abbrev pub taken : Forwarding → ℕ
+taken gathered = gathered.sums.packets
+
+-- the sums are those of some arrivals in the domain
+pub record IsOf (domain : Domain) (gathered : Forwarding) : Type 0 where
+  pub ways : List (List Visit × End)
+  pub stands : StandFor domain gathered.sums ways
