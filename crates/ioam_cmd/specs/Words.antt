@@ -1,8 +1,8 @@
 -- The forms of a command line.
-use Rattle.std.specs.Prelude.{◌≡◌, ℕ, List, length, codes}
-use Rattle.ioam_pcap.specs.Reads.{Ending}
-use Rattle.ioam_run.specs.Filter.{FilterTexts}
-use Rattle.ioam_run.specs.Names.{name_at}
+use Rattle.std.specs.Prelude.{◌≡◌, ℕ, Bool, List, length, codes}
+use Rattle.ioam_outputs.specs.Names.{name_at}
+use Rattle.ioam_pcap.specs.Entries.{Entry}
+use Rattle.ioam_run.specs.FilterText.{FilterTexts}
 use Rattle.ioam_run.specs.PathsText.{PathsTexts}
 use Rattle.ioam_cmd.specs.declared.command.Command.{Command}
 use Rattle.ioam_cmd.specs.declared.command.Command.TheVariants.{Filter, Paths}
@@ -16,7 +16,7 @@ IsForm Paths words = (length words ≡ 3) × (name_at words 0 ≡ codes "paths")
 abbrev pub IsNoForm : List (List ℕ) → Type 0
 IsNoForm words = (command : Command) → IsForm command words → ⊥
 
--- the texts that a command writes for the octets of a capture, which end so
-abbrev pub TextsOf : Command → List ℕ → Ending → List (List ℕ) → Type 0
-TextsOf Filter octets ending texts = FilterTexts octets ending texts
-TextsOf Paths octets ending texts = PathsTexts octets ending texts
+-- the texts that a command writes for these records, whose frames begin with an Ethernet header or don't
+abbrev pub TextsOf : Command → Bool → List Entry → List (List ℕ) → Type 0
+TextsOf Filter ethernet entries texts = FilterTexts ethernet entries texts
+TextsOf Paths ethernet entries texts = PathsTexts ethernet entries texts

@@ -1,12 +1,12 @@
 //! The top call: one run of a command over a desk.
-ghost use Rattle.std.specs.Prelude.{true, ◌≡◌, ◌≢◌, ◌↔◌, ◌⊎◌, ◌∷◌, [], IsSomeAnd, IsTrue};
+ghost use Rattle.std.specs.Prelude.{true, ◌≡◌, ◌≢◌, ◌↔◌, ◌<◌, ◌⊎◌, ◌∷◌, [], IsSomeAnd, IsTrue};
 ghost use Rattle.ioam_cmd.specs.Words.{IsForm, IsNoForm, TextsOf};
 ghost use Rattle.ioam_cmd.specs.declared.command.Command.{Command};
+ghost use Rattle.ioam_desk.specs.Asked.{AsksFront};
 ghost use Rattle.ioam_desk.specs.Desk.{Rose, holds};
-ghost use Rattle.ioam_desk.specs.SureDesk.{writing_of};
-ghost use Rattle.ioam_run.specs.Names.{name_at};
-ghost use Rattle.ioam_run.specs.Run.{HasCause, Asked, Leaves, IsBehindAll, OpensNothing, OpensNoOutput, IsCleanCapture, file_names, input_name, output_names};
-ghost use Rattle.ioam_run.specs.Texts.{AsksFront};
+ghost use Rattle.ioam_desk.specs.SureDesk.{reading_of, writing_of};
+ghost use Rattle.ioam_outputs.specs.Names.{name_at};
+ghost use Rattle.ioam_run.specs.Run.{HasCause, Asked, Leaves, IsDone, IsBehindAll, OpensNothing, IsCleanCapture, file_names, input_name, output_names};
 ghost use Rattle.ioam_run.specs.declared.outcome.Outcome.{Outcome};
 
 use crate::command::{Command, parse};
@@ -19,9 +19,9 @@ pub fn ioam<D: Desk>(alloc: Global, words: &[Name], desk: &mut D) -> Outcome
     // Usage comes exactly where the words are of no command's form.
     ensures usage { (result ≡ Outcome.Usage) ↔ IsNoForm words.now }
 
-    // After Usage and Names nothing was opened, and after a refusal of the input no output was.
+    // After Usage and Names nothing was opened, and no output is opened before the input.
     ensures unopened { OpensNothing result → D.reading desk.new ≡ D.reading desk.old }
-    ensures no_output { OpensNoOutput result → D.writing desk.new ≡ D.writing desk.old }
+    ensures no_output { (D.reading desk.new).side.slots ≡ (D.reading desk.old).side.slots → D.writing desk.new ≡ D.writing desk.old }
 
     // A fault of reading or writing comes only where the desk's count of such faults rose.
     ensures read_fault { result ≡ Outcome.ReadFault → Rose (D.reading desk.old).side.faults (D.reading desk.new).side.faults }
@@ -36,18 +36,19 @@ pub fn ioam<D: Desk>(alloc: Global, words: &[Name], desk: &mut D) -> Outcome
         → (Rose (D.writing desk.old).side.faults (D.writing desk.new).side.faults → ⊥)
         → (result ≡ asked) ⊎ (result ≡ Outcome.NoMemory) }
 
-    // What its files hold, the names that it opened, and that IN was read to its end.
+    // What its files hold, the names that it opened, and that IN was read to its end where all is done.
     ensures leaves { (command : Command) → IsForm command words.now → IsTrue D.tells
-        → Leaves (TextsOf command) (input_name words.now) (output_names words.now) (D.writing desk.old) (D.writing desk.new) result }
+        → Leaves (TextsOf command) (output_names words.now) (input_name words.now) (D.reading desk.old) (D.reading desk.new)
+        (D.writing desk.old) (D.writing desk.new) result }
     ensures asked_in { (command : Command) → IsForm command words.now
         → AsksFront (D.reading desk.old).side.asked (D.reading desk.new).side.asked (input_name words.now ∷ []) }
     ensures asked_out { (command : Command) → IsForm command words.now
         → AsksFront (D.writing desk.old).side.asked (D.writing desk.new).side.asked (output_names words.now) }
-    ensures drained { (command : Command) → IsForm command words.now → IsBehindAll result → IsTrue D.tells
+    ensures drained { (command : Command) → IsForm command words.now → IsDone result → IsTrue D.tells
         → IsTrue ((D.reading desk.new).ended (D.reading desk.old).side.slots) }
 
     // Each packet in OUT of `filter` has a whole header chain without an IOAM option.
-    ensures boundary { IsForm Command.Filter words.now → IsBehindAll result → IsTrue D.tells
+    ensures boundary { IsForm Command.Filter words.now → IsBehindAll ((D.reading desk.old).side.slots < (D.reading desk.new).side.slots) result → IsTrue D.tells
         → IsSomeAnd (holds (D.writing desk.new) (name_at words.now 2)) IsCleanCapture }
 {
     match parse(words) {
@@ -68,7 +69,8 @@ pub fn ioam_surely(alloc: Global, words: &[Name], desk: &mut SureDesk) -> Outcom
         → Asked true (writing_of desk.old) (file_names words.now) (input_name words.now) asked
         → (result ≡ asked) ⊎ (result ≡ Outcome.NoMemory) }
     ensures leaves { (command : Command) → IsForm command words.now
-        → Leaves (TextsOf command) (input_name words.now) (output_names words.now) (writing_of desk.old) (writing_of desk.new) result }
+        → Leaves (TextsOf command) (output_names words.now) (input_name words.now) (reading_of desk.old) (reading_of desk.new)
+        (writing_of desk.old) (writing_of desk.new) result }
 {
     ioam(alloc, words, desk)
 }

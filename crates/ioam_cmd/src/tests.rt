@@ -32,7 +32,7 @@ struct Run {
     line: &'static str,
 }
 
-const RUNS: [Run; 12] = [
+const RUNS: [Run; 14] = [
     Run {
         input: &[HEAD, AT_ONE, UDP],
         output: &[HEAD, AT_ONE, UDP],
@@ -129,6 +129,39 @@ const RUNS: [Run; 12] = [
         report: "1 kept\npackets 1 kept 1 dropped 0\n",
         line: "capture in.pcap 88 short 18",
     },
+    // Little-endian microseconds, Ethernet: a packet at one second and a half, one with padding behind
+    // it, and another Ethertype.
+    Run {
+        input: &[
+            "d4c3b2a1 0200 0400 00000000 00000000 00000400 01000000",
+            "01000000 20a10700 3e000000 3e000000",
+            "0123456789ab cdef01234567 86dd",
+            UDP,
+            "02000000 00000000 42000000 42000000",
+            "0123456789ab cdef01234567 86dd",
+            UDP,
+            "ffffffff",
+            "03000000 00000000 3e000000 3e000000",
+            "0123456789ab cdef01234567 0800",
+            UDP,
+        ],
+        output: &[
+            HEAD,
+            "00000001 1dcd6500 00000030 00000030",
+            UDP,
+            "00000002 00000000 00000030 00000030",
+            UDP,
+        ],
+        report: "1 kept\n2 kept\n3 drop not-ipv6\npackets 3 kept 2 dropped 1\n",
+        line: "done",
+    },
+    // A fraction of two seconds.
+    Run {
+        input: &[HEAD, "00000001 77359400 00000030 00000030", UDP],
+        output: &[HEAD, "00000003 00000000 00000030 00000030", UDP],
+        report: "1 kept\npackets 1 kept 1 dropped 0\n",
+        line: "done",
+    },
 ];
 
 struct Listing {
@@ -224,19 +257,22 @@ fn filter_writes_what_it_keeps(rt: HostRuntime) {
     for run in &RUNS {
         let input = octets(alloc, run.input).expect(&rt, "octets");
         let output = octets(alloc, run.output).expect(&rt, "octets");
-        let mut desk = desk_with(alloc, &input, 0).expect(&rt, "memory");
-        let line = filtered(alloc, &mut desk).expect(&rt, "memory");
-        assert_eq!(rt; line.as_str(), run.line);
-        assert!(rt;
-            desk.file("out.pcap") == Some(output.as_slice()),
-            "OUT at {}",
-            run.line
-        );
-        assert!(rt;
-            desk.file("report.txt") == Some(run.report.as_bytes()),
-            "REPORT at {}",
-            run.line
-        );
+        for piece in [65536usize, 1] {
+            let mut desk = desk_with(alloc, &input, 0).expect(&rt, "memory");
+            desk.set_piece(piece.max(1));
+            let line = filtered(alloc, &mut desk).expect(&rt, "memory");
+            assert_eq!(rt; line.as_str(), run.line);
+            assert!(rt;
+                desk.file("out.pcap") == Some(output.as_slice()),
+                "OUT at {}",
+                run.line
+            );
+            assert!(rt;
+                desk.file("report.txt") == Some(run.report.as_bytes()),
+                "REPORT at {}",
+                run.line
+            );
+        }
     }
 }
 
@@ -346,38 +382,92 @@ fn is_front(file: Option<&[u8]>, whole: &[u8]) -> bool {
     }
 }
 
+// The outputs of the first records of `RUNS[3]`: where the last of them ends, OUT and REPORT.
+struct Front {
+    end: u64,
+    output: &'static [&'static str],
+    report: &'static str,
+}
+
+const FRONTS: [Front; 4] = [
+    Front {
+        end: 0,
+        output: &[HEAD],
+        report: "packets 0 kept 0 dropped 0\n",
+    },
+    Front {
+        end: 88,
+        output: &[HEAD],
+        report: "1 drop chain\npackets 1 kept 0 dropped 1\n",
+    },
+    Front {
+        end: 151,
+        output: &[HEAD],
+        report: "1 drop chain\n2 drop length\npackets 2 kept 0 dropped 2\n",
+    },
+    Front {
+        end: 216,
+        output: &[HEAD, "00000003 0000000a 00000030 00000030", UDP],
+        report: "1 drop chain\n2 drop length\n3 kept\npackets 3 kept 1 dropped 2\n",
+    },
+];
+
+// The outputs of the records that are whole among so many octets.
+fn front_of(handed: u64) -> &'static Front {
+    let mut front = &FRONTS[0];
+    for other in &FRONTS {
+        if other.end <= handed {
+            front = other;
+        }
+    }
+    front
+}
+
+// IN is opened by the first call and the outputs by the next two; the reads follow, each of one
+// piece, and then what is gathered is written.
 #[test]
 fn each_call_fails_once(rt: HostRuntime) {
     let alloc = rt.alloc();
     let run = &RUNS[3];
     let input = octets(alloc, run.input).expect(&rt, "octets");
     let output = octets(alloc, run.output).expect(&rt, "octets");
-    let report = run.report.as_bytes();
     for piece in [65536usize, 7, 1] {
         let mut faults = [0u32; 2];
         for call in 1..1000u64 {
             let mut desk = desk_with(alloc, &input, call).expect(&rt, "memory");
             desk.set_piece(piece.max(1));
             let line = filtered(alloc, &mut desk).expect(&rt, "memory");
-            assert!(rt;
-                is_front(desk.file("out.pcap"), &output),
-                "OUT at call {call}"
-            );
-            assert!(rt;
-                is_front(desk.file("report.txt"), report),
-                "REPORT at call {call}"
-            );
-            if line.as_str() == "read fault" {
+            if line.as_str() == "read fault" && call < 4 {
                 assert!(rt;
-                    desk.file("out.pcap").is_none(),
-                    "OUT was opened at call {call}"
+                    desk.file("out.pcap").is_none() && desk.file("report.txt").is_none(),
+                    "an output at call {call}"
+                );
+            } else if line.as_str() == "read fault" {
+                let front = front_of(call.saturating_sub(4).saturating_mul(piece as u64));
+                let part = octets(alloc, front.output).expect(&rt, "octets");
+                assert!(rt;
+                    desk.file("out.pcap") == Some(part.as_slice()),
+                    "OUT at call {call}"
+                );
+                assert!(rt;
+                    desk.file("report.txt") == Some(front.report.as_bytes()),
+                    "REPORT at call {call}"
                 );
                 faults[0] = faults[0].saturating_add(1);
             } else if line.as_str() == "write fault" {
+                assert!(rt;
+                    is_front(desk.file("out.pcap"), &output),
+                    "OUT at call {call}"
+                );
+                assert!(rt;
+                    is_front(desk.file("report.txt"), run.report.as_bytes()),
+                    "REPORT at call {call}"
+                );
                 faults[1] = faults[1].saturating_add(1);
             } else {
                 assert_eq!(rt; line.as_str(), "done");
                 assert!(rt; desk.file("out.pcap") == Some(output.as_slice()));
+                assert!(rt; desk.file("report.txt") == Some(run.report.as_bytes()));
                 break;
             }
         }
@@ -386,15 +476,18 @@ fn each_call_fails_once(rt: HostRuntime) {
 }
 
 #[test]
-fn an_input_may_have_67108864_octets(rt: HostRuntime) {
+fn a_long_capture_is_written_in_pieces(rt: HostRuntime) {
     let alloc = rt.alloc();
-    for (size, expected) in [
-        (67_108_864usize, "capture in.pcap 0 magic 0"),
-        (67_108_865, "packets 67108864"),
-    ] {
-        let input = vec![in alloc; 0u8; size].expect(&rt, "memory");
-        let mut desk = desk_with(alloc, &input, 0).expect(&rt, "memory");
-        let line = filtered(alloc, &mut desk).expect(&rt, "memory");
-        assert_eq!(rt; line.as_str(), expected);
+    let record = octets(alloc, &[AT_ONE, UDP]).expect(&rt, "octets");
+    let mut input = octets(alloc, &[HEAD]).expect(&rt, "octets");
+    for _ in 0..3000u32 {
+        input.extend_from_slice(&record).expect(&rt, "memory");
     }
+    let mut desk = desk_with(alloc, &input, 0).expect(&rt, "memory");
+    let line = filtered(alloc, &mut desk).expect(&rt, "memory");
+    assert_eq!(rt; line.as_str(), "done");
+    assert!(rt; desk.file("out.pcap") == Some(input.as_slice()));
+    let report = desk.file("report.txt").expect(&rt, "a report");
+    assert!(rt; report.starts_with(b"1 kept\n2 kept\n"));
+    assert!(rt; report.ends_with(b"\n3000 kept\npackets 3000 kept 3000 dropped 0\n"));
 }

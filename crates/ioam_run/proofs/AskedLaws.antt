@@ -1,19 +1,19 @@
 -- At most one answer is asked for, and the packets that are kept may leave a domain.
-use Rattle.std.proofs.Common.{◌≡◌, ℕ, ◌<◌, ◌≤◌, ◌⊎◌, Bool, IsTrue, IsSomeAnd, List, [], ◌∷◌, length, Option, Some, None, refl, sym, ◌∙◌, ap, subst, inl, inr, ⊎_elim, arith, All}
+use Rattle.std.proofs.Common.{◌≡◌, ℕ, ◌<◌, ◌⊎◌, Bool, IsTrue, IsSomeAnd, List, [], ◌∷◌, length, Option, Some, None, refl, sym, ◌∙◌, ap, subst, inl, inr, ⊎_elim, arith}
 use Rattle.std.specs.List.{AllByRecursion}
 use Rattle.std.proofs.lemmas.Bool.{cases_lt}
 use Rattle.std.proofs.lemmas.List.Elements.{All-from_recursion}
 use Rattle.ioam_desk.specs.Desk.{Reading, Writing, Rose, holds}
-use Rattle.ioam_ip.specs.Framing.{Framing, Holds, NoIpv6, CutShort, TooShort, framing_of}
+use Rattle.ioam_ip.specs.Framing.{Framing, Holds, NoIpv6, CutShort, TooShort}
 use Rattle.ioam_pcap.specs.Entries.{Entry}
-use Rattle.ioam_pcap.specs.Text.{Sent}
 use Rattle.ioam_pcap.specs.Reads.{Ending, Whole, Faulty}
 use Rattle.ioam_pcap.proofs.ReadsLaws.{Reads-unique}
-use Rattle.ioam_run.specs.Filter.{FilterTexts}
-use Rattle.ioam_run.specs.Run.{HasCause, Asked, IsInput, HoldTexts, HoldsAll, Leaves, IsBehindAll, IsClean, IsCleanCapture, most_octets}
-use Rattle.ioam_run.specs.FilterText.{Filtered, kept_of}
-use Rattle.ioam_run.specs.Names.{AreApart, IsFirstRepeat, name_at}
-use Rattle.ioam_run.specs.Verdict.{Verdict, Keeps, Drops, HasVerdict, FramingVerdict, AreVerdicts}
+use Rattle.ioam_outputs.specs.Held.{HoldTexts}
+use Rattle.ioam_outputs.specs.Names.{AreApart, IsFirstRepeat, name_at}
+use Rattle.ioam_pcap.specs.declared.form.Link.{Link}
+use Rattle.ioam_run.specs.FilterText.{Filtered, FilterTexts, kept_of}
+use Rattle.ioam_run.specs.Run.{HasCause, Asked, IsInput, IsLong, HoldsAll, EndsSo, ArePassed, AreWhole, Leaves, IsBehindAll, IsClean, IsCleanCapture, output_names}
+use Rattle.ioam_run.specs.Verdict.{is_ethernet, Verdict, Keeps, Drops, FramingVerdict, AreVerdicts}
 use Rattle.ioam_run.specs.declared.reason.Reason.{Reason}
 use Rattle.ioam_run.specs.declared.outcome.Outcome.{Outcome}
 use Rattle.ioam_run.specs.declared.outcome.Outcome.TheVariants as outcome
@@ -38,10 +38,11 @@ held_ending : (held : Option (List ℕ)) (d e : Ending) → IsSomeAnd held (IsIn
 held_ending held d e x y = let it : (octets : List ℕ) × IsInput d octets × IsInput e octets = both held (IsInput d) (IsInput e) x y in
     ending_unique it.0 d e it.1 it.2
 
-too_long : (held : Option (List ℕ)) (d : Ending) → IsSomeAnd held (λ octets. most_octets < length octets) → IsSomeAnd held (IsInput d) → ⊥
+too_long : (held : Option (List ℕ)) (d : Ending) → IsSomeAnd held IsLong → IsSomeAnd held (IsInput d) → ⊥
 too_long held d x y =
-    let it : (octets : List ℕ) × (most_octets < length octets) × IsInput d octets = both held (λ octets. most_octets < length octets) (IsInput d) x y in
-    omega (arith, it.1, it.2.fits)
+    let it : (octets : List ℕ) × IsLong octets × IsInput d octets = both held IsLong (IsInput d) x y in
+    let same = (Reads-unique it.0 it.1.link it.2.link it.1.entries it.2.entries it.1.ending d it.1.reads it.2.reads).1 in
+    omega (arith, it.1.many, it.2.few, ap (λ (es : List Entry). length es) same)
 
 whole_or_faulty : (at : ℕ) (fault : _) → Whole ≡ Faulty at fault → ⊥
 whole_or_faulty at fault same = cc
@@ -121,40 +122,46 @@ kept_clean ethernet (e ∷ es) [] are = tt
 kept_clean ethernet (e ∷ es) (Keeps kept ∷ vs) are = (keeps_clean kept kept e.time _ are.0, kept_clean ethernet es vs are.1)
 kept_clean ethernet (e ∷ es) (Drops reason ∷ vs) are = kept_clean ethernet es vs are.1
 
-clean_capture : (octets : List ℕ) (ending : Ending) (out text : List ℕ) → Filtered octets ending out text → IsCleanCapture out
-clean_capture octets ending out text filtered = record {
-  sent = kept_of filtered.entries filtered.verdicts;
+clean_capture : (ethernet : Bool) (entries : List Entry) (out text : List ℕ) → Filtered ethernet entries out text → IsCleanCapture out
+clean_capture ethernet entries out text filtered = record {
+  sent = kept_of entries filtered.verdicts;
   is = filtered.out_is;
-  clean = All-from_recursion IsClean (kept_of filtered.entries filtered.verdicts) (kept_clean _ filtered.entries filtered.verdicts filtered.judged.verdicts_are);
+  clean = All-from_recursion IsClean (kept_of entries filtered.verdicts) (kept_clean ethernet entries filtered.verdicts filtered.are);
 }
 
-clean_held : (octets : List ℕ) (ending : Ending) (texts : List (List ℕ)) (output report : List ℕ) (new : Writing)
-    → FilterTexts octets ending texts → HoldTexts new (output ∷ report ∷ []) texts → IsSomeAnd (holds new output) IsCleanCapture
-clean_held octets ending [] output report new are held = absurd are
-clean_held octets ending (out ∷ []) output report new are held = absurd are
-clean_held octets ending (out ∷ text ∷ []) output report new are held =
+clean_held : (ethernet : Bool) (entries : List Entry) (texts : List (List ℕ)) (output report : List ℕ) (new : Writing)
+    → FilterTexts ethernet entries texts → HoldTexts new (output ∷ report ∷ []) texts → IsSomeAnd (holds new output) IsCleanCapture
+clean_held ethernet entries [] output report new are held = absurd are
+clean_held ethernet entries (out ∷ []) output report new are held = absurd are
+clean_held ethernet entries (out ∷ text ∷ []) output report new are held =
     let P : Option (List ℕ) → Type 0 = λ o. IsSomeAnd o IsCleanCapture in
-    subst P (sym held.0) (clean_capture octets ending out text are)
-clean_held octets ending (out ∷ text ∷ more ∷ texts) output report new are held = absurd are
+    subst P (sym held.0) (clean_capture ethernet entries out text are)
+clean_held ethernet entries (out ∷ text ∷ more ∷ texts) output report new are held = absurd are
 
-clean_all : (ending : Ending) (input output report : List ℕ) (old new : Writing) (octets : List ℕ)
-    → HoldsAll FilterTexts input (output ∷ report ∷ []) old new ending octets → IsSomeAnd (holds new output) IsCleanCapture
-clean_all ending input output report old new octets all =
-    clean_held octets ending all.texts output report new all.are all.held
-
-from_held : (held : Option (List ℕ)) (ending : Ending) (input output report : List ℕ) (old new : Writing)
-    → IsSomeAnd held (HoldsAll FilterTexts input (output ∷ report ∷ []) old new ending) → IsSomeAnd (holds new output) IsCleanCapture
-from_held None ending input output report old new all = absurd all
-from_held (Some octets) ending input output report old new all = clean_all ending input output report old new octets all
+from_held : (held : Option (List ℕ)) (Are : Option Link → List Entry → List ℕ → Type 0) (output report : List ℕ) (new : Writing)
+    → IsSomeAnd held (HoldsAll FilterTexts (output ∷ report ∷ []) Are new) → IsSomeAnd (holds new output) IsCleanCapture
+from_held None Are output report new all = absurd all
+from_held (Some octets) Are output report new all = clean_held (is_ethernet all.link) all.entries all.texts output report new all.texts_are all.held
 
 -- each packet in OUT may leave a domain
-pub Leaves-clean : (input output report : List ℕ) (old new : Writing) (answer : Outcome) → Leaves FilterTexts input (output ∷ report ∷ []) old new answer
-    → IsBehindAll answer → IsSomeAnd (holds new output) IsCleanCapture
-Leaves-clean input output report old new outcome.Done leaves behind = from_held (holds old input) Whole input output report old new leaves
-Leaves-clean input output report old new (outcome.Capture name at fault) leaves behind = from_held (holds old input) (Faulty at fault) input output report old new leaves
-Leaves-clean input output report old new outcome.Usage leaves behind = absurd behind
-Leaves-clean input output report old new (outcome.Names name) leaves behind = absurd behind
-Leaves-clean input output report old new (outcome.Packets limit) leaves behind = absurd behind
-Leaves-clean input output report old new outcome.ReadFault leaves behind = absurd behind
-Leaves-clean input output report old new outcome.WriteFault leaves behind = absurd behind
-Leaves-clean input output report old new outcome.NoMemory leaves behind = absurd behind
+module _ (input output report : List ℕ) (old_in new_in : Reading) (old new : Writing) where
+  pub Leaves-clean : (answer : Outcome) → Leaves FilterTexts (output ∷ report ∷ []) input old_in new_in old new answer
+      → IsBehindAll (old_in.side.slots < new_in.side.slots) answer → IsSomeAnd (holds new output) IsCleanCapture
+  Leaves-clean outcome.Done leaves behind = from_held (holds old input) (EndsSo Whole) output report new leaves
+  Leaves-clean (outcome.Capture name at fault) leaves behind = from_held (holds old input) (EndsSo (Faulty at fault)) output report new leaves
+  Leaves-clean (outcome.Packets limit) leaves behind = from_held (holds old input) ArePassed output report new leaves
+  Leaves-clean outcome.ReadFault leaves behind = ⊎_elim (λ unopened. absurd (omega (arith, unopened.0, behind)))
+      (λ held. from_held (holds old input) (AreWhole (new_in.left old_in.side.slots)) output report new held.1) leaves
+  Leaves-clean outcome.Usage leaves behind = absurd behind
+  Leaves-clean (outcome.Names name) leaves behind = absurd behind
+  Leaves-clean outcome.WriteFault leaves behind = absurd behind
+  Leaves-clean outcome.NoMemory leaves behind = absurd behind
+
+-- the outputs of four words
+pub two_outputs : (words : List (List ℕ)) → length words ≡ 4 → output_names words ≡ name_at words 2 ∷ name_at words 3 ∷ []
+two_outputs [] four = absurd (omega (arith, four))
+two_outputs (a ∷ []) four = absurd (omega (arith, four))
+two_outputs (a ∷ b ∷ []) four = absurd (omega (arith, four))
+two_outputs (a ∷ b ∷ c ∷ []) four = absurd (omega (arith, four))
+two_outputs (a ∷ b ∷ c ∷ d ∷ []) four = refl
+two_outputs (a ∷ b ∷ c ∷ d ∷ e ∷ more) four = absurd (omega (arith, four))

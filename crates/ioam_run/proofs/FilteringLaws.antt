@@ -1,11 +1,11 @@
 -- The texts of `filter`, with one record more.
 use Rattle.std.proofs.Common.{◌≡◌, ℕ, ◌+◌, Bool, List, [], ◌∷◌, ◌++◌, length, refl, sym, ◌∙◌, ap, append_assoc, append-nil, arith}
-use Rattle.std.specs.Prelude.{decimal, codes}
 use Rattle.ioam_pcap.specs.Entries.{Entry}
 use Rattle.ioam_pcap.specs.Text.{Sent, records_text, record_octets, capture_text, head_octets}
 use Rattle.ioam_run.specs.Verdict.{Verdict, Keeps, Drops, HasVerdict, AreVerdicts}
-use Rattle.ioam_run.specs.FilterText.{kept_of, verdict_line, verdict_lines, count_kept, count_dropped, sums_line, report_text}
-use Rattle.ioam_run.specs.Filtering.{Gathers, GathersAll}
+use Rattle.ioam_run.specs.FilterText.{kept_of, verdict_line, verdict_lines, count_kept, count_dropped}
+use Rattle.ioam_outputs.specs.Told.{said_more}
+use Rattle.ioam_run.specs.Filtering.{Gathers, Sorts}
 use Rattle.ioam_run.specs.declared.reason.Reason.{Reason}
 use Rattle.ioam_run.specs.declared.filtering.Filtering.{Filtering}
 
@@ -74,43 +74,62 @@ count_dropped-drop (Keeps q ∷ vs) r = count_dropped-drop vs r
 count_dropped-drop (Drops s ∷ vs) r = omega (arith, count_dropped-drop vs r)
 
 -- the line of the next record
-next_line : (ethernet : Bool) (es : List Entry) (g : Filtering) (now : List ℕ) (number : ℕ) (gathers : Gathers ethernet es g) (v : Verdict)
-    → number ≡ g.kept + g.dropped + 1 → now ≡ g.report.items ++ verdict_line number v
-    → now ≡ verdict_lines 1 (gathers.verdicts ++ v ∷ [])
-next_line ethernet es g now number gathers v is added =
-    let place : number ≡ 1 + length gathers.verdicts = omega (arith, is, gathers.kept_is, gathers.dropped_is, counts gathers.verdicts) in
-    added ∙ ap (λ (front : List ℕ). front ++ verdict_line number v) gathers.report_is
-    ∙ ap (λ (m : ℕ). verdict_lines 1 gathers.verdicts ++ verdict_line m v) place
-    ∙ sym (verdict_lines-push 1 gathers.verdicts v)
+next_line : (es : List Entry) (ethernet : Bool) (g : Filtering) (out report now : List ℕ) (number : ℕ) (sorts : Sorts ethernet es out report g) (v : Verdict)
+    → number ≡ g.kept + g.dropped + 1 → now ≡ report ++ verdict_line number v
+    → now ≡ verdict_lines 1 (sorts.verdicts ++ v ∷ [])
+next_line es ethernet g out report now number sorts v is added =
+    let place : number ≡ 1 + length sorts.verdicts = omega (arith, is, sorts.kept_is, sorts.dropped_is, counts sorts.verdicts) in
+    added ∙ ap (λ (front : List ℕ). front ++ verdict_line number v) sorts.report_is
+    ∙ ap (λ (m : ℕ). verdict_lines 1 sorts.verdicts ++ verdict_line m v) place
+    ∙ sym (verdict_lines-push 1 sorts.verdicts v)
 
 -- a record that is kept
-pub Gathers-keep : (ethernet : Bool) (es : List Entry) (old new : Filtering) (e : Entry) (p : List ℕ) (number : ℕ)
+keep : (ethernet : Bool) (es : List Entry) (old new : Filtering) (out report : List ℕ) (e : Entry) (p : List ℕ) (number : ℕ)
     → number ≡ old.kept + old.dropped + 1 → HasVerdict ethernet e (Keeps p)
-    → new.out.items ≡ old.out.items ++ record_octets e.time p → new.report.items ≡ old.report.items ++ verdict_line number (Keeps p)
     → new.kept ≡ old.kept + 1 → new.dropped ≡ old.dropped
-    → Gathers ethernet es old → Gathers ethernet (es ++ e ∷ []) new
-Gathers-keep ethernet es old new e p number is has out line kept dropped gathers = record {
-  verdicts = gathers.verdicts ++ Keeps p ∷ [];
-  are = AreVerdicts-push ethernet es gathers.verdicts e (Keeps p) gathers.are has;
-  out_is = out ∙ ap (λ (front : List ℕ). front ++ record_octets e.time p) gathers.out_is
-      ∙ sym (capture_text-push (kept_of es gathers.verdicts) (record { time = e.time; octets = p }))
-      ∙ ap capture_text (sym (kept_of-keep ethernet es gathers.verdicts e p gathers.are));
-  report_is = next_line ethernet es old new.report.items number gathers (Keeps p) is line;
-  kept_is = omega (arith, kept, gathers.kept_is, count_kept-keep gathers.verdicts p);
-  dropped_is = omega (arith, dropped, gathers.dropped_is, count_dropped-keep gathers.verdicts p);
+    → Sorts ethernet es out report old → Sorts ethernet (es ++ e ∷ []) (out ++ record_octets e.time p) (report ++ verdict_line number (Keeps p)) new
+keep ethernet es old new out report e p number is has kept dropped sorts = record {
+  verdicts = sorts.verdicts ++ Keeps p ∷ [];
+  are = AreVerdicts-push ethernet es sorts.verdicts e (Keeps p) sorts.are has;
+  out_is = ap (λ (front : List ℕ). front ++ record_octets e.time p) sorts.out_is
+      ∙ sym (capture_text-push (kept_of es sorts.verdicts) (record { time = e.time; octets = p }))
+      ∙ ap capture_text (sym (kept_of-keep ethernet es sorts.verdicts e p sorts.are));
+  report_is = next_line es ethernet old out report (report ++ verdict_line number (Keeps p)) number sorts (Keeps p) is refl;
+  kept_is = omega (arith, kept, sorts.kept_is, count_kept-keep sorts.verdicts p);
+  dropped_is = omega (arith, dropped, sorts.dropped_is, count_dropped-keep sorts.verdicts p);
 }
 
 -- a record that is dropped
-pub Gathers-drop : (ethernet : Bool) (es : List Entry) (old new : Filtering) (e : Entry) (r : Reason) (number : ℕ)
+drop_one : (ethernet : Bool) (es : List Entry) (old new : Filtering) (out report : List ℕ) (e : Entry) (r : Reason) (number : ℕ)
     → number ≡ old.kept + old.dropped + 1 → HasVerdict ethernet e (Drops r)
-    → new.out.items ≡ old.out.items → new.report.items ≡ old.report.items ++ verdict_line number (Drops r)
     → new.kept ≡ old.kept → new.dropped ≡ old.dropped + 1
-    → Gathers ethernet es old → Gathers ethernet (es ++ e ∷ []) new
-Gathers-drop ethernet es old new e r number is has out line kept dropped gathers = record {
-  verdicts = gathers.verdicts ++ Drops r ∷ [];
-  are = AreVerdicts-push ethernet es gathers.verdicts e (Drops r) gathers.are has;
-  out_is = out ∙ gathers.out_is ∙ ap capture_text (sym (kept_of-drop ethernet es gathers.verdicts e r gathers.are));
-  report_is = next_line ethernet es old new.report.items number gathers (Drops r) is line;
-  kept_is = omega (arith, kept, gathers.kept_is, count_kept-drop gathers.verdicts r);
-  dropped_is = omega (arith, dropped, gathers.dropped_is, count_dropped-drop gathers.verdicts r);
+    → Sorts ethernet es out report old → Sorts ethernet (es ++ e ∷ []) (out ++ []) (report ++ verdict_line number (Drops r)) new
+drop_one ethernet es old new out report e r number is has kept dropped sorts = record {
+  verdicts = sorts.verdicts ++ Drops r ∷ [];
+  are = AreVerdicts-push ethernet es sorts.verdicts e (Drops r) sorts.are has;
+  out_is = append-nil out ∙ sorts.out_is ∙ ap capture_text (sym (kept_of-drop ethernet es sorts.verdicts e r sorts.are));
+  report_is = next_line es ethernet old out report (report ++ verdict_line number (Drops r)) number sorts (Drops r) is refl;
+  kept_is = omega (arith, kept, sorts.kept_is, count_kept-drop sorts.verdicts r);
+  dropped_is = omega (arith, dropped, sorts.dropped_is, count_dropped-drop sorts.verdicts r);
 }
+
+-- the same of the texts of both outputs
+pub Gathers-keep : (ethernet : Bool) (old new : Filtering) (e : Entry) (p : List ℕ) (number : ℕ)
+    → number ≡ old.kept + old.dropped + 1 → HasVerdict ethernet e (Keeps p) → new.kept ≡ old.kept + 1 → new.dropped ≡ old.dropped
+    → (es : List Entry) (texts : List (List ℕ)) → Gathers ethernet es texts old
+    → Gathers ethernet (es ++ e ∷ []) (said_more texts (record_octets e.time p ∷ verdict_line number (Keeps p) ∷ [])) new
+Gathers-keep ethernet old new e p number is has kept dropped es [] gathers = absurd gathers
+Gathers-keep ethernet old new e p number is has kept dropped es (out ∷ []) gathers = absurd gathers
+Gathers-keep ethernet old new e p number is has kept dropped es (out ∷ report ∷ []) gathers =
+    keep ethernet es old new out report e p number is has kept dropped gathers
+Gathers-keep ethernet old new e p number is has kept dropped es (out ∷ report ∷ more ∷ texts) gathers = absurd gathers
+
+pub Gathers-drop : (ethernet : Bool) (old new : Filtering) (e : Entry) (r : Reason) (number : ℕ)
+    → number ≡ old.kept + old.dropped + 1 → HasVerdict ethernet e (Drops r) → new.kept ≡ old.kept → new.dropped ≡ old.dropped + 1
+    → (es : List Entry) (texts : List (List ℕ)) → Gathers ethernet es texts old
+    → Gathers ethernet (es ++ e ∷ []) (said_more texts ([] ∷ verdict_line number (Drops r) ∷ [])) new
+Gathers-drop ethernet old new e r number is has kept dropped es [] gathers = absurd gathers
+Gathers-drop ethernet old new e r number is has kept dropped es (out ∷ []) gathers = absurd gathers
+Gathers-drop ethernet old new e r number is has kept dropped es (out ∷ report ∷ []) gathers =
+    drop_one ethernet es old new out report e r number is has kept dropped gathers
+Gathers-drop ethernet old new e r number is has kept dropped es (out ∷ report ∷ more ∷ texts) gathers = absurd gathers

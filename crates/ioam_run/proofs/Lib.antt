@@ -1,8 +1,12 @@
-pub mod TextsLaws
 pub mod FramingLaws
+pub mod AddsLaws
 pub mod FilteringLaws
-pub mod FollowedLaws
-pub mod FilterLaws
-pub mod AskedLaws
-pub mod RunLaws
 pub mod ListingLaws
+pub mod OnwardLaws
+pub mod StepLaws
+pub mod HaltsLaws
+pub mod StopsLaws
+pub mod BeginLaws
+pub mod FinishesLaws
+pub mod WordsLaws
+pub mod AskedLaws

@@ -1,14 +1,12 @@
 -- The text of `paths`, with one record more.
-use Rattle.std.proofs.Common.{◌≡◌, ℕ, ◌+◌, ◌⊎◌, Bool, List, [], ◌∷◌, ◌++◌, length, Result, Ok, Err, OnOk, refl, sym, ◌∙◌, ap, subst, inl, inr, append_assoc, append-nil, length-append, arith}
+use Rattle.std.proofs.Common.{◌≡◌, ℕ, ◌+◌, Bool, List, [], ◌∷◌, ◌++◌, length, Result, Ok, Err, OnOk, refl, sym, ◌∙◌, ap, subst, inl, inr, append_assoc, append-nil, length-append, arith}
 use Rattle.std.specs.Prelude.{decimal, is_ok, if◌then◌else◌}
 use Rattle.ioam_ip.specs.Chain.{IsSound}
 use Rattle.ioam_pcap.specs.Entries.{Entry}
-use Rattle.ioam_pcap.specs.Reads.{Ending}
 use Rattle.ioam_report.specs.TracesText.{TracesText}
-use Rattle.ioam_run.specs.Verdict.{is_ethernet}
-use Rattle.ioam_run.specs.PathsText.{PacketLines, EntryLines, Lines, Listed, skip_line, packets_line}
-use Rattle.ioam_run.specs.Listing.{Lists, listed}
-use Rattle.ioam_run.specs.Followed.{GathersReads}
+use Rattle.ioam_run.specs.PathsText.{PacketLines, EntryLines, Lines, skip_line}
+use Rattle.ioam_outputs.specs.Told.{said_more}
+use Rattle.ioam_run.specs.Listing.{Lists}
 use Rattle.ioam_run.specs.declared.listing.Listing.{Listing}
 use Rattle.ioam_run.specs.declared.reason.Reason.TheVariants as reason
 
@@ -48,26 +46,15 @@ Lines-push ethernet number (f ∷ es) lines e text are has =
     )
 
 -- one record more
-pub Lists-push : (ethernet : Bool) (es : List Entry) (old new : Listing) (e : Entry) (number : ℕ) → number ≡ old.packets + 1
-    → (text : List ℕ) × EntryLines ethernet number e text × (new.report.items ≡ old.report.items ++ text) → new.packets ≡ old.packets + 1
-    → Lists ethernet es old → Lists ethernet (es ++ e ∷ []) new
-Lists-push ethernet es old new e number is added counted lists =
-    let P : ℕ → Type 0 = λ n. EntryLines ethernet n e added.0 in
+pub Lists-push : (ethernet : Bool) (old new : Listing) (e : Entry) (number : ℕ) (added : List ℕ) → number ≡ old.packets + 1
+    → EntryLines ethernet number e added → new.packets ≡ old.packets + 1
+    → (es : List Entry) (texts : List (List ℕ)) → Lists ethernet es texts old → Lists ethernet (es ++ e ∷ []) (said_more texts (added ∷ [])) new
+Lists-push ethernet old new e number added is lines counted es [] lists = absurd lists
+Lists-push ethernet old new e number added is lines counted es (text ∷ []) lists =
+    let P : ℕ → Type 0 = λ n. EntryLines ethernet n e added in
     let place : number ≡ 1 + length es = omega (arith, is, lists.count) in
-    let Q : List ℕ → Type 0 = λ text. Lines ethernet 1 (es ++ e ∷ []) text in
     record {
-      lines = subst Q (sym added.2) (Lines-push ethernet 1 es old.report.items e added.0 lists.lines (subst P place added.1));
+      lines = Lines-push ethernet 1 es text e added lists.lines (subst P place lines);
       count = omega (arith, counted, lists.count, length-append es (e ∷ []));
     }
-
--- all was read, and the count was added
-pub Listed-all : (octets : List ℕ) (ending : Ending) (g : Listing) (text : List ℕ) → GathersReads Lists listed octets ending g
-    → text ≡ g.report.items ++ packets_line g.packets → Listed octets ending text
-Listed-all octets ending g text reads is = record {
-  link = reads.link;
-  entries = reads.entries;
-  lines = g.report.items;
-  reads = reads.reads;
-  are_lines = reads.are_gathered.lines;
-  text_is = is ∙ ap (λ (n : ℕ). g.report.items ++ packets_line n) reads.are_gathered.count;
-}
+Lists-push ethernet old new e number added is lines counted es (text ∷ more ∷ texts) lists = absurd lists

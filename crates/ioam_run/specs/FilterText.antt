@@ -1,10 +1,8 @@
 -- What `filter` writes: the capture of the packets that it keeps, and the report.
-use Rattle.std.specs.Prelude.{◌≡◌, ℕ, ◌+◌, List, [], ◌∷◌, ◌++◌, Bool, length, codes, decimal, Option}
+use Rattle.std.specs.Prelude.{◌≡◌, ℕ, ◌+◌, List, [], ◌∷◌, ◌++◌, Bool, codes, decimal}
 use Rattle.ioam_pcap.specs.Entries.{Entry}
 use Rattle.ioam_pcap.specs.Text.{Sent, capture_text}
-use Rattle.ioam_pcap.specs.Reads.{Ending, Reads}
-use Rattle.ioam_pcap.specs.declared.form.Link.{Link}
-use Rattle.ioam_run.specs.Verdict.{Verdict, Keeps, Drops, AreVerdicts, is_ethernet, reason_text}
+use Rattle.ioam_run.specs.Verdict.{Verdict, Keeps, Drops, AreVerdicts, reason_text}
 
 -- the kept packets, each with its time, in order
 abbrev pub kept_of : List Entry → List Verdict → List Sent
@@ -39,16 +37,17 @@ sums_line kept dropped = codes "packets " ++ decimal (kept + dropped) ++ codes "
 abbrev pub report_text : List Verdict → List ℕ
 report_text vs = verdict_lines 1 vs ++ sums_line (count_kept vs) (count_dropped vs)
 
--- the octets of a capture file, what it reads as, and what becomes of each record
-pub record Judged (octets : List ℕ) (entries : List Entry) (verdicts : List Verdict) (ending : Ending) : Type 0 where
-  pub link : Option Link
-  pub reads : Reads octets link entries ending
-  pub verdicts_are : AreVerdicts (is_ethernet link) entries verdicts
-
--- these are the capture of the kept packets and the report, of a capture file that ends so
-pub record Filtered (octets : List ℕ) (ending : Ending) (out report : List ℕ) : Type 0 where
-  pub entries : List Entry
+-- these are the capture of the kept packets and the report, of these records, whose frames begin
+-- with an Ethernet header or don't
+pub record Filtered (ethernet : Bool) (entries : List Entry) (out report : List ℕ) : Type 0 where
   pub verdicts : List Verdict
-  pub judged : Judged octets entries verdicts ending
+  pub are : AreVerdicts ethernet entries verdicts
   pub out_is : out ≡ capture_text (kept_of entries verdicts)
   pub report_is : report ≡ report_text verdicts
+
+-- OUT and REPORT
+abbrev pub FilterTexts : Bool → List Entry → List (List ℕ) → Type 0
+FilterTexts ethernet entries [] = ⊥
+FilterTexts ethernet entries (out ∷ []) = ⊥
+FilterTexts ethernet entries (out ∷ report ∷ []) = Filtered ethernet entries out report
+FilterTexts ethernet entries (out ∷ report ∷ more ∷ texts) = ⊥

@@ -2,12 +2,7 @@ pub mod Verdict
 pub mod Judgement
 pub mod FilterText
 pub mod Filtering
-pub mod Names
-pub mod Texts
 pub mod Run
-pub mod Input
-pub mod Filter
-pub mod Followed
-pub mod Answered
+pub mod Streams
 pub mod PathsText
 pub mod Listing

@@ -1,12 +1,10 @@
 -- The text that `paths` writes: the traces of each packet of a capture.
-use Rattle.std.specs.Prelude.{◌≡◌, ℕ, ◌+◌, ◌⊎◌, Bool, List, [], ◌∷◌, ◌++◌, nat_lt, length, codes, decimal, Option}
+use Rattle.std.specs.Prelude.{◌≡◌, ℕ, ◌+◌, ◌⊎◌, Bool, List, [], ◌∷◌, ◌++◌, length, codes, decimal}
 use Rattle.ioam_ip.specs.Framing.{Framing, Holds, NoIpv6, CutShort, TooShort}
 use Rattle.ioam_ip.specs.Chain.{IsSound}
 use Rattle.ioam_pcap.specs.Entries.{Entry}
-use Rattle.ioam_pcap.specs.Reads.{Ending, Reads}
-use Rattle.ioam_pcap.specs.declared.form.Link.{Link}
 use Rattle.ioam_report.specs.TracesText.{TracesText}
-use Rattle.ioam_run.specs.Verdict.{is_ethernet, entry_framing, reason_text}
+use Rattle.ioam_run.specs.Verdict.{entry_framing, reason_text}
 use Rattle.ioam_run.specs.declared.reason.Reason.{Reason}
 use Rattle.ioam_run.specs.declared.reason.Reason.TheVariants as reason
 
@@ -37,17 +35,14 @@ Lines ethernet number (e ∷ es) text = (first : List ℕ) × (others : List ℕ
 abbrev pub packets_line : ℕ → List ℕ
 packets_line count = codes "packets " ++ decimal count ++ codes "\n"
 
--- the report of a capture file that ends so
-pub record Listed (octets : List ℕ) (ending : Ending) (text : List ℕ) : Type 0 where
-  pub link : Option Link
-  pub entries : List Entry
+-- this is the report of these records, whose frames begin with an Ethernet header or don't
+pub record Listed (ethernet : Bool) (entries : List Entry) (text : List ℕ) : Type 0 where
   pub lines : List ℕ
-  pub reads : Reads octets link entries ending
-  pub are_lines : Lines (is_ethernet link) 1 entries lines
+  pub are_lines : Lines ethernet 1 entries lines
   pub text_is : text ≡ lines ++ packets_line (length entries)
 
 -- REPORT
-abbrev pub PathsTexts : List ℕ → Ending → List (List ℕ) → Type 0
-PathsTexts octets ending [] = ⊥
-PathsTexts octets ending (text ∷ []) = Listed octets ending text
-PathsTexts octets ending (text ∷ more ∷ texts) = ⊥
+abbrev pub PathsTexts : Bool → List Entry → List (List ℕ) → Type 0
+PathsTexts ethernet entries [] = ⊥
+PathsTexts ethernet entries (text ∷ []) = Listed ethernet entries text
+PathsTexts ethernet entries (text ∷ more ∷ texts) = ⊥

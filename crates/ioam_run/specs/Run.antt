@@ -1,22 +1,24 @@
 -- What a command over one capture answers and leaves. Its words are the command, the name of the
--- capture, and the names of its outputs; `Texts octets ending texts` says which texts the outputs have
--- for the octets of the capture, which end so.
-use Rattle.std.specs.Prelude.{◌≡◌, ℕ, ◌+◌, ◌<◌, ◌≤◌, ◌⊎◌, ⊤, Bool, IsTrue, IsSomeAnd, List, [], ◌∷◌, length, drop, All, Option, Some}
+-- capture, and the names of its outputs; `Texts ethernet entries texts` says which texts the outputs
+-- have for these records, whose frames begin with an Ethernet header or don't.
+use Rattle.std.specs.Prelude.{◌≡◌, ℕ, ◌<◌, ◌≤◌, ◌⊎◌, ⊤, Bool, IsTrue, IsSomeAnd, List, ◌++◌, length, drop, All, Option}
 use Rattle.ioam_desk.specs.Desk.{Reading, Writing, Rose, holds}
 use Rattle.ioam_ip.specs.Chain.{IsSound}
 use Rattle.ioam_ip.specs.ChainOptions.{CarriesIoam}
+use Rattle.ioam_outputs.specs.Held.{HoldTexts, HoldFronts}
+use Rattle.ioam_outputs.specs.Names.{name_at, AreApart, IsFirstRepeat}
 use Rattle.ioam_pcap.specs.Entries.{Entry}
-use Rattle.ioam_pcap.specs.Reads.{Ending, Whole, Faulty, Reads}
+use Rattle.ioam_pcap.specs.Reads.{Ending, Whole, Faulty, Reached, CutAt, Reads, link_by}
 use Rattle.ioam_pcap.specs.Text.{Sent, capture_text}
+use Rattle.ioam_pcap.specs.declared.form.Form.{Form}
 use Rattle.ioam_pcap.specs.declared.form.Link.{Link}
-use Rattle.ioam_run.specs.Names.{name_at, AreApart, IsFirstRepeat}
-use Rattle.ioam_run.specs.Texts.{HoldsFront}
+use Rattle.ioam_run.specs.Verdict.{is_ethernet}
 use Rattle.ioam_run.specs.declared.outcome.Outcome.{Outcome}
 use Rattle.ioam_run.specs.declared.outcome.Outcome.TheVariants as outcome
 
--- the most octets of IN
-abbrev pub most_octets : ℕ
-most_octets = 67108864
+-- the most records of IN
+abbrev pub most_packets : ℕ
+most_packets = 16777216
 
 -- the names of the files: IN, and the outputs
 abbrev pub file_names : List (List ℕ) → List (List ℕ)
@@ -28,20 +30,27 @@ input_name words = name_at words 1
 abbrev pub output_names : List (List ℕ) → List (List ℕ)
 output_names words = drop 2 words
 
--- IN holds a capture file that is no longer than may be, and ends so
+-- the octets are a capture file that ends so, of no more records than may be
 pub record IsInput (ending : Ending) (octets : List ℕ) : Type 0 where
-  pub fits : length octets ≤ most_octets
   pub link : Option Link
   pub entries : List Entry
   pub reads : Reads octets link entries ending
+  pub few : length entries ≤ most_packets
+
+-- the octets are a capture file of more records
+pub record IsLong (octets : List ℕ) : Type 0 where
+  pub link : Option Link
+  pub entries : List Entry
+  pub ending : Ending
+  pub reads : Reads octets link entries ending
+  pub many : most_packets < length entries
 
 -- What the words and the files ask for, where nothing fails: the first of the refusals in their
 -- order whose condition holds, or Done. What a file holds is spoken of where the desk tells.
 module _ (tells : Bool) (desk : Writing) (names : List (List ℕ)) (input : List ℕ) where
   abbrev pub Asked : Outcome → Type 0
   Asked (outcome.Names name) = (at : ℕ) × IsFirstRepeat names at × (name ≡ name_at names at)
-  Asked (outcome.Packets limit) = AreApart names × (limit ≡ most_octets)
-      × (IsTrue tells → IsSomeAnd (holds desk input) (λ octets. most_octets < length octets))
+  Asked (outcome.Packets limit) = AreApart names × (limit ≡ most_packets) × (IsTrue tells → IsSomeAnd (holds desk input) IsLong)
   Asked (outcome.Capture name at fault) = AreApart names × (name ≡ input)
       × (IsTrue tells → IsSomeAnd (holds desk input) (IsInput (Faulty at fault)))
   Asked outcome.Done = AreApart names × (IsTrue tells → IsSomeAnd (holds desk input) (IsInput Whole))
@@ -59,7 +68,7 @@ module _ (tells : Bool) (input : List ℕ) (old_in : Reading) (old_out : Writing
   FileCause outcome.Usage = ⊥
   FileCause (outcome.Names name) = ⊥
   FileCause outcome.Done = IsTrue tells → IsSomeAnd (holds old_out input) (IsInput Whole)
-  FileCause (outcome.Packets limit) = (limit ≡ most_octets) × (IsTrue tells → IsSomeAnd (holds old_out input) (λ octets. most_octets < length octets))
+  FileCause (outcome.Packets limit) = (limit ≡ most_packets) × (IsTrue tells → IsSomeAnd (holds old_out input) IsLong)
   FileCause (outcome.Capture name at fault) = (name ≡ input) × (IsTrue tells → IsSomeAnd (holds old_out input) (IsInput (Faulty at fault)))
 
 -- the cause of each answer; want of memory alone has none
@@ -74,56 +83,95 @@ module _ (tells : Bool) (names : List (List ℕ)) (input : List ℕ) (old_in : R
   HasCause (outcome.Packets limit) = Asked tells old_out names input (outcome.Packets limit)
   HasCause (outcome.Capture name at fault) = Asked tells old_out names input (outcome.Capture name at fault)
 
--- each of these files holds its text
-abbrev pub HoldTexts : Writing → List (List ℕ) → List (List ℕ) → Type 0
-HoldTexts desk [] [] = ⊤
-HoldTexts desk [] (text ∷ texts) = ⊥
-HoldTexts desk (name ∷ names) [] = ⊥
-HoldTexts desk (name ∷ names) (text ∷ texts) = (holds desk name ≡ Some text) × HoldTexts desk names texts
+-- the octets read as these records, and end so
+abbrev pub EndsSo : Ending → Option Link → List Entry → List ℕ → Type 0
+EndsSo ending link entries octets = Reads octets link entries ending
 
--- each of these files, the k-th and those behind it that were opened, holds a front of its text if it was opened
-abbrev pub HoldFronts : Writing → Writing → ℕ → List (List ℕ) → List (List ℕ) → Type 0
-HoldFronts old new k [] [] = ⊤
-HoldFronts old new k [] (text ∷ texts) = ⊥
-HoldFronts old new k (name ∷ names) [] = ⊥
-HoldFronts old new k (name ∷ names) (text ∷ texts) = HoldsFront old new k name text × HoldFronts old new (k + 1) names texts
+-- these are the first records of the octets, and others come behind them
+pub record AreFirst (link : Option Link) (entries : List Entry) (octets : List ℕ) : Type 0 where
+  pub rest : List Entry
+  pub ending : Ending
+  pub reads : Reads octets link (entries ++ rest) ending
 
-module _ (Texts : List ℕ → Ending → List (List ℕ) → Type 0) (input : List ℕ) (outputs : List (List ℕ)) (old new : Writing) where
-  -- the outputs hold the texts for these octets of IN, which end so
-  pub record HoldsAll (ending : Ending) (octets : List ℕ) : Type 0 where
+-- these are as many of the first records of the octets as may be, and more come behind them
+pub record ArePassed (link : Option Link) (entries : List Entry) (octets : List ℕ) : Type 0 where
+  pub first : AreFirst link entries octets
+  pub all : length entries ≡ most_packets
+  pub more : 0 < length first.rest
+
+-- these are the records that are whole in the octets but for those that are left, and the head or
+-- record behind them is cut there
+pub record AreWhole (left : List ℕ) (link : Option Link) (entries : List Entry) (octets : List ℕ) : Type 0 where
+  pub handed : List ℕ
+  pub parts : octets ≡ handed ++ left
+  pub form : Option Form
+  pub at : ℕ
+  pub reached : Reached handed form entries at
+  pub cut : CutAt handed form at
+  pub linked : link ≡ link_by form
+
+module _ (Texts : Bool → List Entry → List (List ℕ) → Type 0) (outputs : List (List ℕ)) where
+  -- the outputs hold the texts of some records, no more than may be; `Are` says which records of IN
+  pub record HoldsAll (Are : Option Link → List Entry → List ℕ → Type 0) (new : Writing) (octets : List ℕ) : Type 0 where
+    pub link : Option Link
+    pub entries : List Entry
     pub texts : List (List ℕ)
-    pub are : Texts octets ending texts
+    pub are : Are link entries octets
+    pub few : length entries ≤ most_packets
+    pub texts_are : Texts (is_ethernet link) entries texts
     pub held : HoldTexts new outputs texts
 
-  -- each output that was opened holds a front of its text for these octets of IN
-  pub record HoldsFronts (octets : List ℕ) : Type 0 where
-    pub ending : Ending
+  -- each output that was opened holds a front of its text of some first records of IN
+  pub record HoldsFronts (old new : Writing) (octets : List ℕ) : Type 0 where
+    pub link : Option Link
+    pub entries : List Entry
     pub texts : List (List ℕ)
-    pub are : Texts octets ending texts
+    pub are : AreFirst link entries octets
+    pub texts_are : Texts (is_ethernet link) entries texts
     pub held : HoldFronts old new 0 outputs texts
 
-  -- what the files hold afterwards, where the desk tells: the texts; or nothing was opened and
-  -- written, or each output that was opened holds a front of its text
-  abbrev pub Leaves : Outcome → Type 0
-  Leaves outcome.Done = IsSomeAnd (holds old input) (HoldsAll Whole)
-  Leaves (outcome.Capture name at fault) = IsSomeAnd (holds old input) (HoldsAll (Faulty at fault))
-  Leaves outcome.WriteFault = (new ≡ old) ⊎ IsSomeAnd (holds old input) HoldsFronts
-  Leaves outcome.NoMemory = (new ≡ old) ⊎ IsSomeAnd (holds old input) HoldsFronts
-  Leaves outcome.ReadFault = new ≡ old
-  Leaves outcome.Usage = new ≡ old
-  Leaves (outcome.Names name) = new ≡ old
-  Leaves (outcome.Packets limit) = new ≡ old
+  -- What the files hold afterwards, where the desk tells: the texts, of all records, of the first, or
+  -- of those that are whole in what was handed out of IN; or nothing was opened for writing; or each
+  -- output that was opened holds a front of its text.
+  module _ (input : List ℕ) (old_in new_in : Reading) (old new : Writing) where
+    abbrev pub Leaves : Outcome → Type 0
+    Leaves outcome.Done = IsSomeAnd (holds old input) (HoldsAll (EndsSo Whole) new)
+    Leaves (outcome.Capture name at fault) = IsSomeAnd (holds old input) (HoldsAll (EndsSo (Faulty at fault)) new)
+    Leaves (outcome.Packets limit) = IsSomeAnd (holds old input) (HoldsAll ArePassed new)
+    Leaves outcome.ReadFault = ((new_in.side.slots ≡ old_in.side.slots) × (new ≡ old))
+        ⊎ ((old_in.side.slots < new_in.side.slots)
+        × IsSomeAnd (holds old input) (HoldsAll (AreWhole (new_in.left old_in.side.slots)) new))
+    Leaves outcome.WriteFault = IsSomeAnd (holds old input) (HoldsFronts old new)
+    Leaves outcome.NoMemory = (new ≡ old) ⊎ IsSomeAnd (holds old input) (HoldsFronts old new)
+    Leaves outcome.Usage = new ≡ old
+    Leaves (outcome.Names name) = new ≡ old
+
+-- the answer behind a capture that ends so
+abbrev pub outcome_of : List ℕ → Ending → Outcome
+outcome_of name Whole = outcome.Done
+outcome_of name (Faulty at fault) = outcome.Capture name at fault
 
 -- the answer comes behind all of IN
-abbrev pub IsBehindAll : Outcome → Type 0
-IsBehindAll outcome.Done = ⊤
-IsBehindAll (outcome.Capture name at fault) = ⊤
-IsBehindAll outcome.Usage = ⊥
-IsBehindAll (outcome.Names name) = ⊥
-IsBehindAll (outcome.Packets limit) = ⊥
-IsBehindAll outcome.ReadFault = ⊥
-IsBehindAll outcome.WriteFault = ⊥
-IsBehindAll outcome.NoMemory = ⊥
+abbrev pub IsDone : Outcome → Type 0
+IsDone outcome.Done = ⊤
+IsDone outcome.Usage = ⊥
+IsDone (outcome.Names name) = ⊥
+IsDone (outcome.Capture name at fault) = ⊥
+IsDone (outcome.Packets limit) = ⊥
+IsDone outcome.ReadFault = ⊥
+IsDone outcome.WriteFault = ⊥
+IsDone outcome.NoMemory = ⊥
+
+-- the answer comes once the outputs were written; `opened` says that IN was opened
+abbrev pub IsBehindAll : Type 0 → Outcome → Type 0
+IsBehindAll opened outcome.Done = ⊤
+IsBehindAll opened (outcome.Capture name at fault) = ⊤
+IsBehindAll opened (outcome.Packets limit) = ⊤
+IsBehindAll opened outcome.ReadFault = opened
+IsBehindAll opened outcome.Usage = ⊥
+IsBehindAll opened (outcome.Names name) = ⊥
+IsBehindAll opened outcome.WriteFault = ⊥
+IsBehindAll opened outcome.NoMemory = ⊥
 
 -- the answer comes before anything was opened
 abbrev pub OpensNothing : Outcome → Type 0
@@ -135,22 +183,6 @@ OpensNothing (outcome.Packets limit) = ⊥
 OpensNothing outcome.ReadFault = ⊥
 OpensNothing outcome.WriteFault = ⊥
 OpensNothing outcome.NoMemory = ⊥
-
--- the answer comes before an output was opened
-abbrev pub OpensNoOutput : Outcome → Type 0
-OpensNoOutput outcome.Usage = ⊤
-OpensNoOutput (outcome.Names name) = ⊤
-OpensNoOutput (outcome.Packets limit) = ⊤
-OpensNoOutput outcome.ReadFault = ⊤
-OpensNoOutput outcome.Done = ⊥
-OpensNoOutput (outcome.Capture name at fault) = ⊥
-OpensNoOutput outcome.WriteFault = ⊥
-OpensNoOutput outcome.NoMemory = ⊥
-
--- the answer behind a capture that ends so
-abbrev pub outcome_of : List ℕ → Ending → Outcome
-outcome_of name Whole = outcome.Done
-outcome_of name (Faulty at fault) = outcome.Capture name at fault
 
 -- a packet that may leave a domain: its chain is whole, and no header on it has an IOAM option
 abbrev pub IsClean : Sent → Type 0

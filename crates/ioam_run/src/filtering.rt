@@ -1,7 +1,5 @@
 //! The texts of `filter`, gathered record by record.
-ghost use Rattle.std.specs.Prelude.{◌≡◌, ◌+◌, ◌<◌, ◌≤◌, ◌^◌, [], ◌∷◌, ◌++◌, List, length, IfOk, OnOk, OnErr};
-ghost use Rattle.ioam_pcap.specs.Entries.{Entry, most};
-ghost use Rattle.ioam_pcap.specs.Reader.{entry_of};
+ghost use Rattle.std.specs.Prelude.{◌≡◌, ◌+◌, ◌<◌, ◌^◌, [], ◌++◌, OnOk};
 ghost use Rattle.ioam_run.specs.FilterText.{verdict_line, sums_line};
 ghost use Rattle.ioam_run.specs.Verdict.{Verdict};
 
@@ -10,71 +8,82 @@ use crate::judge::{Judgement, judge};
 use crate::reason::Reason;
 use ioam_base::memory::NoMemory;
 use ioam_base::text::{append, append_decimal};
+use ioam_outputs::Output;
 use ioam_pcap::capture::Packet;
 use ioam_pcap::{put_head, put_record};
-use std::alloc::Global;
 
-/// The capture of the kept packets and the report so far.
+/// How many packets are kept and dropped so far. Its outputs are the capture of the kept packets and
+/// the report.
 #[derive(Drop)]
 pub struct Filtering {
-    pub out: Vec<u8>,
-    pub report: Vec<u8>,
     pub kept: u64,
     pub dropped: u64,
 }
 
-impl Filtering {
-    ghost use Rattle.ioam_run.specs.Filtering.{Gathers, GathersAll};
-
-    /// The texts of no records: the head of the capture, and an empty report.
-    pub fn new(alloc: Global) -> Result<Filtering, NoMemory>
-        ensures gathers { IfOk result (λ gathered. (ethernet : _) → Gathers ethernet [] gathered) }
-        ensures none { IfOk result (λ gathered. gathered.kept + gathered.dropped ≡ 0) }
-    {
-        let mut out = Vec::new(alloc);
-        put_head(&mut out)?;
-        Ok(Filtering {
-            out,
-            report: Vec::new(alloc),
-            kept: 0,
-            dropped: 0,
-        })
-    }
-
-    /// Ends the report with its sums.
-    pub fn finish(&mut self) -> Result<(), NoMemory>
-        requires { self.old.kept + self.old.dropped < 2 ^ 63 }
-        ensures { OnOk result ((ethernet : _) (entries : List Entry) → Gathers ethernet entries self.old
-            → GathersAll ethernet entries self.new) }
-    {
-        put_sums(self.kept, self.dropped, &mut self.report)
-    }
-}
-
 impl Gather for Filtering {
-    ghost use Rattle.ioam_run.specs.Filtering.{Gathers, Gathers-any_link, taken};
+    ghost use Rattle.ioam_run.specs.FilterText.{FilterTexts};
+    ghost use Rattle.ioam_run.specs.Filtering.{Gathers, heads, sums, taken, empty, Gathers-any_link, Gathers-ends, empty-texts, empty-sized, sums-sized};
+
+    ghost width = { 2 };
 
     ghost gathers = { Gathers };
 
     ghost count = { taken };
 
-    fn take(&mut self, ethernet: bool, packet: &Packet<'_>) -> Result<(), NoMemory> {
+    ghost heads = { heads };
+
+    ghost sums = { sums };
+
+    ghost texts = { FilterTexts };
+
+    ghost empty = { empty };
+
+    fn begin(outputs: &mut [Output]) -> Result<Filtering, NoMemory> {
+        put_head(&mut outputs[0].gathered)?;
+        Ok(Filtering {
+            kept: 0,
+            dropped: 0,
+        })
+    }
+
+    fn taken(&self) -> u64 {
+        self.kept + self.dropped
+    }
+
+    fn take(
+        &mut self,
+        ethernet: bool,
+        packet: &Packet<'_>,
+        outputs: &mut [Output],
+    ) -> Result<(), NoMemory> {
         let number = self.kept + self.dropped + 1;
         match judge(ethernet, packet) {
             Judgement::Kept(octets) => {
-                put_record(packet.time, octets, &mut self.out)?;
-                put_kept(number, &mut self.report)?;
+                put_record(packet.time, octets, &mut outputs[0].gathered)?;
+                put_kept(number, &mut outputs[1].gathered)?;
                 self.kept += 1;
             }
             Judgement::Dropped(reason) => {
-                put_dropped(number, reason, &mut self.report)?;
+                put_dropped(number, reason, &mut outputs[1].gathered)?;
                 self.dropped += 1;
             }
         }
         Ok(())
     }
 
+    fn put_sums(&self, outputs: &mut [Output]) -> Result<(), NoMemory> {
+        put_sums(self.kept, self.dropped, &mut outputs[1].gathered)
+    }
+
     ghost any_link = { Gathers-any_link };
+
+    ghost ends = { Gathers-ends };
+
+    ghost of_none = { empty-texts };
+
+    ghost empty_sized = { empty-sized };
+
+    ghost sized = { sums-sized };
 }
 
 // `N kept`
@@ -97,7 +106,7 @@ fn put_dropped(number: u64, reason: Reason, out: &mut Vec<u8>) -> Result<(), NoM
 
 // `packets N kept N dropped N`
 fn put_sums(kept: u64, dropped: u64, out: &mut Vec<u8>) -> Result<(), NoMemory>
-    requires { kept + dropped < 2 ^ 63 }
+    requires { kept + dropped < 2 ^ 32 }
     ensures { OnOk result (out.new.items ≡ out.old.items ++ sums_line kept dropped) }
 {
     append(out, b"packets ")?;

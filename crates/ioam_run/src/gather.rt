@@ -1,77 +1,82 @@
-//! A capture read to its end, record by record.
-ghost use Rattle.std.specs.Prelude.{◌≡◌, ◌<◌, ◌≤◌, ◌+◌, ◌^◌, ◌∷◌, ◌++◌, [], List, ℕ, Bool, false, IfOk, OnOk, length};
+//! Texts that are gathered of the records of a capture, each for its output.
+ghost use Rattle.std.specs.Prelude.{◌≡◌, ◌<◌, ◌≤◌, ◌+◌, ◌^◌, ◌∷◌, ◌++◌, [], List, ℕ, Bool, IfOk, OnOk, length};
+ghost use Rattle.ioam_outputs.specs.Told.{Adds, said_more};
 ghost use Rattle.ioam_pcap.specs.Entries.{Entry, most};
-ghost use Rattle.ioam_pcap.specs.Reader.{entry_of, ending_of as ending};
-ghost use Rattle.ioam_run.specs.Followed.{Follows, GathersReads};
-ghost use Rattle.ioam_run.specs.Verdict.{is_ethernet};
+ghost use Rattle.ioam_pcap.specs.Reader.{entry_of};
 
 use ioam_base::memory::NoMemory;
-use ioam_pcap::Link;
-use ioam_pcap::capture::{CapFault, CapStep, Packet};
-use ioam_pcap::reader::CaptureReader;
-use std::alloc::Global;
+use ioam_outputs::Output;
+use ioam_pcap::capture::Packet;
 
-/// Texts that are gathered of the records of a capture.
-pub trait Gather {
-    // what stands for these records, whose frames begin with an Ethernet header or don't
-    ghost gathers: { Bool → List Entry → Self → Type 0 };
+/// Texts that are gathered of the records of a capture, each for its output.
+pub trait Gather: Drop {
+    // how many outputs there are
+    ghost width: { ℕ };
+
+    // the texts so far are those of these records, whose frames begin with an Ethernet header or don't
+    ghost gathers: { Bool → List Entry → List (List ℕ) → Self → Type 0 };
 
     // how many records were taken
     ghost count: { Self → ℕ };
 
+    // the texts of no records
+    ghost heads: { List (List ℕ) };
+
+    // what is added behind the last record
+    ghost sums: { Self → List (List ℕ) };
+
+    // the texts of these records, with what is added behind the last
+    ghost texts: { Bool → List Entry → List (List ℕ) → Type 0 };
+
+    // the texts of no records, with what is added behind the last
+    ghost empty: { List (List ℕ) };
+
+    /// Begins the texts.
+    fn begin(outputs: &mut [Output]) -> Result<Self, NoMemory>
+        requires { length outputs.old ≡ width }
+        ensures counted { IfOk result (λ gathered. count gathered ≡ 0) }
+        ensures adds { OnOk result (Adds outputs.old outputs.new heads) }
+        ensures gathers { IfOk result (λ gathered. (ethernet : Bool) → gathers ethernet [] heads gathered) };
+
+    /// How many records were taken.
+    fn taken(&self) -> u64
+        requires { count self.now < 2 ^ 32 }
+        ensures { result ≡ count self.now };
+
     /// Takes the next record.
-    fn take(&mut self, ethernet: bool, packet: &Packet<'_>) -> Result<(), NoMemory>
+    fn take(
+        &mut self,
+        ethernet: bool,
+        packet: &Packet<'_>,
+        outputs: &mut [Output],
+    ) -> Result<(), NoMemory>
         requires short { length packet.now.octets.now ≤ most }
-        requires few { count self.old < 2 ^ 63 }
-        ensures gathers { OnOk result ((entries : List Entry) → gathers ethernet entries self.old
-            → gathers ethernet (entries ++ entry_of packet.now ∷ []) self.new) }
-        ensures counted { OnOk result (count self.new ≡ count self.old + 1) };
+        requires few { count self.old < 2 ^ 32 }
+        requires width { length outputs.old ≡ width }
+        ensures counted { OnOk result (count self.new ≡ count self.old + 1) }
+        ensures gathers { OnOk result ((added : List (List ℕ)) × Adds outputs.old outputs.new added
+            × ((entries : List Entry) (so_far : List (List ℕ)) → gathers ethernet entries so_far self.old
+            → gathers ethernet (entries ++ entry_of packet.now ∷ []) (said_more so_far added) self.new)) };
+
+    /// Adds what stands behind the last record.
+    fn put_sums(&self, outputs: &mut [Output]) -> Result<(), NoMemory>
+        requires few { count self.now < 2 ^ 32 }
+        requires width { length outputs.old ≡ width }
+        ensures { OnOk result (Adds outputs.old outputs.new (sums self.now)) };
 
     // before the first record it doesn't matter what the frames begin with
-    ghost any_link: { (ethernet other : Bool) (gathered : Self) → gathers ethernet [] gathered → gathers other [] gathered };
-}
+    ghost any_link: { (ethernet other : Bool) (so_far : List (List ℕ)) (gathered : Self)
+        → gathers ethernet [] so_far gathered → gathers other [] so_far gathered };
 
-/// Gathers the records of a capture file. The answer is the fault behind them, if there is one.
-pub fn gather_octets<G: Gather>(
-    alloc: Global,
-    octets: &[u8],
-    gathered: &mut G,
-) -> Result<Option<(u64, CapFault)>, NoMemory>
-    requires none { G.count gathered.old ≡ 0 }
-    requires fresh { G.gathers false [] gathered.old }
-    ensures { IfOk result (λ fault. GathersReads G.gathers G.count octets.now (ending fault) gathered.new) }
-{
-    let mut reader = CaptureReader::new(alloc)?;
-    reader.feed(octets)?;
-    gather_records(&mut reader, gathered)
-}
+    // the texts are whole with what is added behind the last record
+    ghost ends: { (ethernet : Bool) (entries : List Entry) (so_far : List (List ℕ)) (gathered : Self)
+        → gathers ethernet entries so_far gathered → texts ethernet entries (said_more so_far (sums gathered)) };
 
-// Gathers each record that was fed.
-fn gather_records<G: Gather>(
-    reader: &mut CaptureReader,
-    gathered: &mut G,
-) -> Result<Option<(u64, CapFault)>, NoMemory>
-    ghost octets: { List ℕ }
-    requires { Follows G.gathers G.count octets reader.old false gathered.old }
-    ensures { IfOk result (λ fault. GathersReads G.gathers G.count octets (ending fault) gathered.new) }
-{
-    let mut ethernet = false;
-    'records: loop {
-        match reader.next() {
-            CapStep::Head { link } => ethernet = is_ethernet(link),
-            CapStep::Packet(packet) => gathered.take(ethernet, &packet)?,
-            CapStep::More => return Ok(reader.finish()),
-            CapStep::Bad { at, fault } => return Ok(Some((at, fault))),
-        }
-    }
-}
+    // there are texts of no records
+    ghost of_none: { (ethernet : Bool) → texts ethernet [] empty };
 
-// Whether the frames of a capture begin with an Ethernet header.
-fn is_ethernet(link: Link) -> bool
-    ensures { result ≡ is_ethernet (Some link) }
-{
-    match link {
-        Link::Ethernet => true,
-        Link::Raw => false,
-    }
+    ghost empty_sized: { length empty ≡ width };
+
+    // something is added to each
+    ghost sized: { (gathered : Self) → length (sums gathered) ≡ width };
 }

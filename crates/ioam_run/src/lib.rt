@@ -5,14 +5,14 @@ mod filter;
 mod filtering;
 mod frame;
 mod gather;
-mod input;
 mod judge;
 mod listing;
-mod names;
 mod outcome;
 mod paths;
 mod reason;
-mod texts;
+mod run;
+mod step;
+mod stream;
 
 pub use filter::run_filter;
 pub use outcome::Outcome;

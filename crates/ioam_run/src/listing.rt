@@ -1,7 +1,6 @@
 //! The text of `paths`, gathered record by record.
-ghost use Rattle.std.specs.Prelude.{◌≡◌, ◌++◌, ◌<◌, ◌^◌, [], List, length, IfOk, OnOk};
+ghost use Rattle.std.specs.Prelude.{◌≡◌, ◌++◌, List, OnOk};
 ghost use Rattle.ioam_ip.specs.Packet.{IsPacket};
-ghost use Rattle.ioam_pcap.specs.Entries.{Entry};
 ghost use Rattle.ioam_pcap.specs.Reader.{entry_of};
 ghost use Rattle.ioam_run.specs.PathsText.{EntryLines, PacketLines, skip_line, packets_line};
 
@@ -11,55 +10,75 @@ use crate::reason::Reason;
 use ioam_base::memory::NoMemory;
 use ioam_base::text::{append, append_decimal};
 use ioam_ip::{Framed, Walk, walk};
+use ioam_outputs::Output;
 use ioam_pcap::capture::Packet;
 use ioam_report::put_traces;
-use std::alloc::Global;
 
-/// The lines so far, and of how many packets.
+/// How many packets were listed so far. Its output is the report.
 #[derive(Drop)]
 pub struct Listing {
-    pub report: Vec<u8>,
     pub packets: u64,
 }
 
-impl Listing {
-    ghost use Rattle.ioam_run.specs.Listing.{Lists};
-
-    /// The text of no records.
-    pub fn new(alloc: Global) -> Listing
-        ensures lists { (ethernet : _) → Lists ethernet [] result }
-        ensures none { result.packets ≡ 0 }
-    {
-        Listing {
-            report: Vec::new(alloc),
-            packets: 0,
-        }
-    }
-
-    /// Ends the report with the count of packets.
-    pub fn finish(&mut self) -> Result<(), NoMemory>
-        ensures { OnOk result (self.new.report.items ≡ self.old.report.items ++ packets_line self.old.packets) }
-    {
-        append(&mut self.report, b"packets ")?;
-        append_decimal(&mut self.report, self.packets)?;
-        append(&mut self.report, b"\n")
-    }
-}
-
 impl Gather for Listing {
-    ghost use Rattle.ioam_run.specs.Listing.{Lists, Lists-any_link, listed};
+    ghost use Rattle.ioam_run.specs.Listing.{Lists, heads, sums, listed, empty, Lists-any_link, Lists-ends, empty-texts, empty-sized, sums-sized};
+    ghost use Rattle.ioam_run.specs.PathsText.{PathsTexts};
+
+    ghost width = { 1 };
 
     ghost gathers = { Lists };
 
     ghost count = { listed };
 
-    fn take(&mut self, ethernet: bool, packet: &Packet<'_>) -> Result<(), NoMemory> {
-        put_entry(self.packets + 1, ethernet, packet, &mut self.report)?;
+    ghost heads = { heads };
+
+    ghost sums = { sums };
+
+    ghost texts = { PathsTexts };
+
+    ghost empty = { empty };
+
+    fn begin(_outputs: &mut [Output]) -> Result<Listing, NoMemory> {
+        Ok(Listing { packets: 0 })
+    }
+
+    fn taken(&self) -> u64 {
+        self.packets
+    }
+
+    fn take(
+        &mut self,
+        ethernet: bool,
+        packet: &Packet<'_>,
+        outputs: &mut [Output],
+    ) -> Result<(), NoMemory> {
+        put_entry(self.packets + 1, ethernet, packet, &mut outputs[0].gathered)?;
         self.packets += 1;
         Ok(())
     }
 
+    fn put_sums(&self, outputs: &mut [Output]) -> Result<(), NoMemory> {
+        put_count(self.packets, &mut outputs[0].gathered)
+    }
+
     ghost any_link = { Lists-any_link };
+
+    ghost ends = { Lists-ends };
+
+    ghost of_none = { empty-texts };
+
+    ghost empty_sized = { empty-sized };
+
+    ghost sized = { sums-sized };
+}
+
+// `packets N`
+fn put_count(packets: u64, out: &mut Vec<u8>) -> Result<(), NoMemory>
+    ensures { OnOk result (out.new.items ≡ out.old.items ++ packets_line packets) }
+{
+    append(out, b"packets ")?;
+    append_decimal(out, packets)?;
+    append(out, b"\n")
 }
 
 // Appends the lines of one record.

@@ -1,5 +1,10 @@
+ghost use Rattle.std.specs.Prelude.{◌≡◌, ◌⊎◌};
+ghost use Rattle.ioam_pcap.specs.Reader.{ending_of as ending};
+ghost use Rattle.ioam_run.specs.Run.{outcome_of};
+
 use ioam_desk::Name;
 use ioam_pcap::capture::CapFault;
+use std::alloc::Global;
 
 /// What a run answers. Its numbers are the program's exit statuses.
 #[derive(Debug, Drop)]
@@ -18,7 +23,7 @@ pub enum Outcome {
         at: u64,
         fault: CapFault,
     },
-    /// An input is longer than this many octets.
+    /// An input has more than this many records.
     Packets {
         limit: u32,
     },
@@ -28,4 +33,34 @@ pub enum Outcome {
     WriteFault,
     /// No memory could be had.
     NoMemory,
+}
+
+/// The answer that this name equals an earlier one.
+pub fn names_outcome(alloc: Global, name: &Name) -> Outcome
+    ensures { (result ≡ Outcome.Names name.now) ⊎ (result ≡ Outcome.NoMemory) }
+{
+    match Name::new(alloc, name.text()) {
+        Ok(name) => Outcome::Names { name },
+        Err(_) => Outcome::NoMemory,
+    }
+}
+
+/// The answer that this capture is faulty at this place.
+pub fn capture_outcome(alloc: Global, name: &Name, at: u64, fault: CapFault) -> Outcome
+    ensures { (result ≡ Outcome.Capture name.now at fault) ⊎ (result ≡ Outcome.NoMemory) }
+{
+    match Name::new(alloc, name.text()) {
+        Ok(name) => Outcome::Capture { name, at, fault },
+        Err(_) => Outcome::NoMemory,
+    }
+}
+
+/// The answer behind all records of a capture, of which the last may be cut.
+pub fn end_outcome(alloc: Global, name: &Name, cut: Option<(u64, CapFault)>) -> Outcome
+    ensures { (result ≡ outcome_of name.now (ending cut)) ⊎ (result ≡ Outcome.NoMemory) }
+{
+    match cut {
+        Some((at, fault)) => capture_outcome(alloc, name, at, fault),
+        None => Outcome::Done,
+    }
 }

@@ -1,4 +1,4 @@
-use Rattle.std.proofs.Common.{◌≡◌, ◌++◌, List, ℕ, subst}
+use Rattle.std.proofs.Common.{subst}
 use Rattle.ioam_ip.specs.Framing.{Framing}
 use Rattle.ioam_run.specs.PathsText.{FramingLines}
 use Rattle.ioam_run.proofs.ListingLaws.{OnOk-map}

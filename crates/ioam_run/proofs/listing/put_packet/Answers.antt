@@ -1,6 +1,5 @@
-use Rattle.std.proofs.Common.{◌≡◌, ◌++◌, List, ℕ, ap, ◌∙◌, refl}
+use Rattle.std.proofs.Common.{◌++◌, List, ℕ, ap, ◌∙◌, refl}
 use Rattle.std.proofs.lemmas.Bool.{false≢true}
-use Rattle.std.specs.Prelude.{decimal}
 use Rattle.ioam_report.specs.TracesText.{traces_text}
 use Rattle.ioam_run.proofs.ListingLaws.{OnOk-map, appended, packet_listed, packet_skipped}
 use Rattle.ioam_run.proofs.listing.put_packet.Goals as goal

@@ -1,6 +1,12 @@
-use Rattle.std.proofs.Common.{refl}
+use Rattle.std.proofs.Common.{refl, [], ◌∷◌}
+use Rattle.ioam_run.proofs.AddsLaws.{Adds-one}
 use Rattle.ioam_run.proofs.ListingLaws.{Lists-push}
 use Rattle.ioam_run.proofs.listing.ListingGather.take.Goals as goal
 
 pub returns-clause-gathers : goal.returns-clause-gathers
-returns-clause-gathers c = λ entries lists. Lists-push _ _ _ _ _ _ refl c.in_ok-put_entry.ensures refl lists
+returns-clause-gathers c =
+    let lines = c.in_ok-put_entry.ensures in (
+      lines.0 ∷ [],
+      Adds-one _ _ _ _ c.requires.width refl lines.2,
+      Lists-push _ _ _ _ _ _ refl lines.1 refl,
+    )

@@ -1,0 +1,81 @@
+-- A step of a reader whose records are gathered.
+use Rattle.std.proofs.Common.{◌≡◌, ℕ, ◌+◌, ◌<◌, ◌≤◌, Bool, List, [], ◌∷◌, ◌++◌, length, Option, Some, None, sym, ◌∙◌, ap, subst, arith, length-append, length-take}
+use Rattle.ioam_desk.specs.Desk as desk
+use Rattle.ioam_desk.specs.Desk.{Writing}
+use Rattle.ioam_outputs.specs.Told.{Adds, said_more}
+use Rattle.ioam_outputs.specs.declared.output.Output.{Output}
+use Rattle.ioam_outputs.proofs.ToldLaws.{AreTold-adds}
+use Rattle.ioam_pcap.specs.declared.form.Form.{Form}
+use Rattle.ioam_pcap.specs.declared.form.Link.{Link}
+use Rattle.ioam_pcap.specs.Entries.{Entry, most}
+use Rattle.ioam_pcap.specs.Reading.{Reading}
+use Rattle.ioam_pcap.specs.Reads.{Reached, EntryAt, link_by}
+use Rattle.ioam_pcap.specs.Reader.{Stands, link_of}
+use Rattle.ioam_run.specs.Run.{most_packets}
+use Rattle.ioam_run.specs.Verdict.{is_ethernet}
+use Rattle.ioam_run.specs.Streams.{Start, Streams}
+
+-- a record has no more octets than may be
+pub entry_short : (octets : List ℕ) (form : Option Form) (at : ℕ) (e : Entry) → EntryAt octets form at e → length e.octets ≤ most
+entry_short octets None at e here = absurd here
+entry_short octets (Some form) at e here =
+    omega (arith, here.0, ap (λ (d : Entry). length d.octets) here.1, length-take {A = ℕ})
+
+-- before the head was read
+none_yet : (octets : List ℕ) (reader : Reading) (entries : List Entry) → reader.form ≡ None → Stands reader octets entries → (entries ≡ []) × (reader.start ≡ 0)
+none_yet octets reader entries fresh stands =
+    let P : Option Form → Type 0 = λ form. Reached octets form entries reader.start in
+    subst P fresh stands.reached
+
+module _ {G : Type 0} (gathers : Bool → List Entry → List (List ℕ) → G → Type 0) (count : G → ℕ)
+    (tells : Bool) (start : Start) (inputs : desk.Reading) (outputs : Writing) (slot : ℕ) (old new : Reading) where
+  -- the head was read
+  pub Streams-head : (ethernet : Bool) (g : G) (tellers : List Output) (link : Link) (now : Bool)
+      → ((e f : Bool) (texts : List (List ℕ)) (x : G) → gathers e [] texts x → gathers f [] texts x)
+      → now ≡ is_ethernet (Some link) → new.start ≡ old.start + 24
+      → ((octets : List ℕ) (entries : List Entry) → Stands old octets entries → (old.form ≡ None) × (link_of new ≡ Some link) × Stands new octets entries)
+      → Streams gathers count tells start inputs outputs slot old ethernet g tellers
+      → Streams gathers count tells start inputs outputs slot new now g tellers
+  Streams-head ethernet g tellers link now any_link is later reads streams =
+      let here = reads streams.octets streams.entries streams.given.stands in
+      let none = none_yet streams.octets old streams.entries here.0 streams.given.stands in
+      let P : List Entry → Type 0 = λ es. gathers ethernet es streams.texts g in
+      let Q : List Entry → Type 0 = λ es. gathers now es streams.texts g in
+      record {
+        octets = streams.octets;
+        entries = streams.entries;
+        texts = streams.texts;
+        given = record { stands = here.2; is_open = streams.given.is_open; held = streams.given.held };
+        told = streams.told;
+        are_gathered = subst Q (sym none.0) (any_link ethernet now streams.texts g (subst P none.0 streams.are_gathered));
+        link_is = is ∙ ap is_ethernet (sym here.1);
+        count_is = streams.count_is;
+        few = streams.few;
+        reach = omega (arith, later, none.1);
+      }
+
+  -- a record was taken
+  pub Streams-record : (ethernet : Bool) (before after : G) (tellers now : List Output) (e : Entry)
+      → count before < most_packets → count after ≡ count before + 1
+      → new.start ≡ old.start + (16 + length e.octets) → new.form ≡ old.form
+      → ((octets : List ℕ) (entries : List Entry) → Stands old octets entries → EntryAt octets old.form old.start e × Stands new octets (entries ++ e ∷ []))
+      → (added : List (List ℕ)) × Adds tellers now added
+      × ((entries : List Entry) (so_far : List (List ℕ)) → gathers ethernet entries so_far before → gathers ethernet (entries ++ e ∷ []) (said_more so_far added) after)
+      → Streams gathers count tells start inputs outputs slot old ethernet before tellers
+      → Streams gathers count tells start inputs outputs slot new ethernet after now
+  Streams-record ethernet before after tellers now e room counted later form reads added streams =
+      let here = reads streams.octets streams.entries streams.given.stands in
+      let short : length e.octets ≤ most = entry_short streams.octets old.form old.start e here.0 in
+      let size : length (streams.entries ++ e ∷ []) ≡ length streams.entries + 1 = length-append streams.entries (e ∷ []) in
+      record {
+        octets = streams.octets;
+        entries = streams.entries ++ e ∷ [];
+        texts = said_more streams.texts added.0;
+        given = record { stands = here.1; is_open = streams.given.is_open; held = streams.given.held };
+        told = AreTold-adds tells outputs start.base start.names tellers now streams.texts added.0 streams.told added.1;
+        are_gathered = added.2 streams.entries streams.texts streams.are_gathered;
+        link_is = streams.link_is ∙ ap (λ (f : Option Form). is_ethernet (link_by f)) (sym form);
+        count_is = omega (arith, counted, streams.count_is, size);
+        few = omega (arith, room, streams.count_is, size);
+        reach = omega (arith, later, streams.reach, short, size);
+      }

@@ -1,0 +1,5 @@
+use Rattle.ioam_run.proofs.AddsLaws.{Adds-none}
+use Rattle.ioam_run.proofs.listing.ListingGather.begin.Goals as goal
+
+pub returns-clause-adds : goal.returns-clause-adds
+returns-clause-adds c = Adds-none c.args._outputs.now c.requires

@@ -1,0 +1,10 @@
+use Rattle.ioam_desk.specs.Desk.{holds}
+use Rattle.ioam_run.proofs.run.run_words.Given as goal
+
+-- what IN holds before anything is opened
+abbrev pub ghost-run_file : goal.ghost-run_file
+ghost-run_file g a = record {
+  content = holds (g.D.Desk.writing a.desk.now) a.input.now;
+  base = (g.D.Desk.writing a.desk.now).side.slots;
+  names = a.names.now;
+}

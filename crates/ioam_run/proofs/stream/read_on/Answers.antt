@@ -1,0 +1,83 @@
+use Rattle.std.proofs.Common.{◌≡◌, ℕ, IsTrue, List, length, ap, sym, ◌∙◌, subst, arith}
+use Rattle.ioam_desk.specs.Desk as desk
+use Rattle.ioam_desk.specs.Desk.{Side, Writing}
+use Rattle.ioam_outputs.specs.Held.{HoldAllFronts}
+use Rattle.ioam_pcap.specs.Reads.{Faulty}
+use Rattle.ioam_pcap.specs.Reader.{ending_of}
+use Rattle.ioam_run.specs.Run.{EndsSo}
+use Rattle.ioam_run.proofs.HaltsLaws.{Streams-sticks, Streams-fronts, halts_waiting, halts_end}
+use Rattle.ioam_run.proofs.StopsLaws.{begins_ends, Halts-sticks_here, Stops-bad, Stops-end, Halts-left, Streams-fed, Streams-ended}
+use Rattle.ioam_run.proofs.stream.read_on.Goals as goal
+
+pub returns-in-Ok-Bad-clause-stopped : goal.returns-in-Ok-Bad-clause-stopped
+returns-in-Ok-Bad-clause-stopped g c =
+    let halts = rw c.in-Ok-Bad.field-0-is at c.in-Ok-Bad.ensures.paused in
+    Stops-bad g.G.Gather.gathers g.G.Gather.count g.D.Desk.tells g.start g.G.Gather.texts c.args.input.now c.args.stream.now.feed.slot
+    (g.D.Desk.reading c.args.desk.now) (g.D.Desk.reading c.take_shown.new.desk) (g.D.Desk.writing c.args.desk.now) (g.D.Desk.writing c.take_shown.new.desk)
+    c.take_shown.new.stream.gathered c.take_shown.new.outputs c.in-Ok-Bad.at c.in-Ok-Bad.fault c.capture_outcome.result c.capture_outcome.ensures halts
+    (c.in-Ok-Bad.ensures.same ∙ c.pieces.invariant.side)
+    (Halts-sticks_here _ _ _ _ g.G.Gather.texts g.G.Gather.sums g.met.G.Gather.any_link g.met.G.Gather.ends _ (begins_ends (Faulty c.in-Ok-Bad.at c.in-Ok-Bad.fault)) _ _ _ halts
+    (omega (arith, g.met.G.Gather.sized c.take_shown.new.stream.gathered, c.pieces.invariant.width, c.take_shown.auto.outputs)))
+
+pub pieces-preserved : goal.pieces-preserved
+pieces-preserved g c =
+    let streams = (rw c.in-Ok-More.field-0-is at c.in-Ok-More.ensures.paused).0 in
+    let feeds = rw c.in-Ok-true.field-0-test at c.in-Ok-true.ensures.read in
+    record {
+      streams = Streams-fed _ _ _ _ _ _ _ _ _ _ _ _ _ _ _ _ c.in-Ok-true.ensures.outputs c.in-Ok-true.ensures.slot feeds streams;
+      width = omega (arith, c.pieces.invariant.width, c.take_shown.auto.outputs);
+      room = omega (arith, c.pieces.invariant.room, c.refill.auto.piece);
+      inputs = feeds.gives.side ∙ ap (λ (r : desk.Reading). r.side) c.in-Ok-More.ensures.inputs ∙ c.pieces.invariant.inputs;
+      side = ap (λ (w : Writing). w.side) c.in-Ok-true.ensures.outputs ∙ c.in-Ok-More.ensures.same ∙ c.pieces.invariant.side;
+      slot = c.in-Ok-true.ensures.slot ∙ c.in-Ok-More.ensures.slot ∙ c.pieces.invariant.slot;
+    }
+
+pub returns-in-Ok-false-clause-stopped : goal.returns-in-Ok-false-clause-stopped
+returns-in-Ok-false-clause-stopped g c =
+    let paused = rw c.in-Ok-More.field-0-is at c.in-Ok-More.ensures.paused in
+    let ends = rw c.in-Ok-false.field-0-test at c.in-Ok-false.ensures.read in
+    let sized : length (g.G.Gather.sums c.take_shown.new.stream.gathered) ≡ length c.take_shown.new.outputs =
+    omega (arith, g.met.G.Gather.sized c.take_shown.new.stream.gathered, c.pieces.invariant.width, c.take_shown.auto.outputs) in
+    let slot : c.args.stream.now.feed.slot ≡ c.take_shown.new.stream.feed.slot = sym (c.in-Ok-More.ensures.slot ∙ c.pieces.invariant.slot) in
+    let streams = Streams-ended g.G.Gather.gathers g.G.Gather.count g.D.Desk.tells g.start
+    (g.D.Desk.reading c.take_shown.new.desk) (g.D.Desk.reading c.refill.new.desk) (g.D.Desk.writing c.take_shown.new.desk) (g.D.Desk.writing c.refill.new.desk)
+    c.take_shown.new.stream.feed.slot c.take_shown.new.stream.feed.reader c.refill.new.self.reader c.take_shown.new.stream.ethernet c.take_shown.new.stream.gathered c.take_shown.new.outputs
+    c.in-Ok-false.ensures.outputs ends paused.0 in
+    let halts = halts_end g.G.Gather.gathers g.G.Gather.count g.D.Desk.tells g.start (g.D.Desk.reading c.refill.new.desk) (g.D.Desk.writing c.refill.new.desk)
+    c.take_shown.new.stream.feed.slot c.refill.new.self.reader c.take_shown.new.stream.ethernet c.take_shown.new.stream.gathered c.take_shown.new.outputs streams
+    (ending_of c.finish.result) ends.left c.finish.ensures.reads in
+    Stops-end g.G.Gather.gathers g.G.Gather.count g.D.Desk.tells g.start g.G.Gather.texts c.args.input.now c.args.stream.now.feed.slot
+    (g.D.Desk.reading c.args.desk.now) (g.D.Desk.reading c.refill.new.desk) (g.D.Desk.writing c.args.desk.now) (g.D.Desk.writing c.refill.new.desk)
+    c.take_shown.new.stream.gathered c.take_shown.new.outputs (ending_of c.finish.result) c.end_outcome.result c.end_outcome.ensures halts
+    (ap (λ (w : Writing). w.side) c.in-Ok-false.ensures.outputs ∙ c.in-Ok-More.ensures.same ∙ c.pieces.invariant.side)
+    (Halts-sticks_here g.G.Gather.gathers g.G.Gather.count g.D.Desk.tells g.start g.G.Gather.texts g.G.Gather.sums g.met.G.Gather.any_link g.met.G.Gather.ends
+    (EndsSo (ending_of c.finish.result)) (begins_ends (ending_of c.finish.result)) (g.D.Desk.writing c.refill.new.desk) c.take_shown.new.stream.gathered c.take_shown.new.outputs halts sized)
+    (λ told. let P : ℕ → Type 0 = λ k. IsTrue ((g.D.Desk.reading c.refill.new.desk).ended k) in subst P (sym slot) (ends.ended told))
+
+pub returns-in-Err-Failed-refill-clause-stopped : goal.returns-in-Err-Failed-refill-clause-stopped
+returns-in-Err-Failed-refill-clause-stopped g c =
+    let paused = rw c.in-Ok-More.field-0-is at c.in-Ok-More.ensures.paused in
+    let fails = rw c.in-Err-Failed-refill.field-0-is at c.in-Err-Failed-refill.ensures.read in
+    let rose = rw c.in-Err-Failed-refill.field-0-is at c.in-Err-Failed-refill.ensures.cause in
+    let side : (g.D.Desk.reading c.take_shown.new.desk).side ≡ (g.D.Desk.reading c.args.desk.now).side =
+    ap (λ (r : desk.Reading). r.side) c.in-Ok-More.ensures.inputs ∙ c.pieces.invariant.inputs in
+    let slot : c.args.stream.now.feed.slot ≡ c.take_shown.new.stream.feed.slot = sym (c.in-Ok-More.ensures.slot ∙ c.pieces.invariant.slot) in (
+      omega (arith, rose, ap (λ (s : Side). s.faults) side),
+      (
+        Halts-left _ _ _ _ _ _ _ _ _ _ c.in-Err-Failed-refill.ensures.outputs
+            (ap (λ (left : ℕ → List ℕ). left c.args.stream.now.feed.slot) fails.left ∙ ap (g.D.Desk.reading c.take_shown.new.desk).left slot)
+            (halts_waiting _ _ _ _ _ _ _ _ _ _ _ paused.0 paused.1),
+        ap (λ (w : Writing). w.side) c.in-Err-Failed-refill.ensures.outputs ∙ c.in-Ok-More.ensures.same ∙ c.pieces.invariant.side,
+      ),
+    )
+
+pub returns-in-Err-NoMemory-refill-clause-stopped : goal.returns-in-Err-NoMemory-refill-clause-stopped
+returns-in-Err-NoMemory-refill-clause-stopped g c =
+    let streams = (rw c.in-Ok-More.field-0-is at c.in-Ok-More.ensures.paused).0 in
+    let P : Writing → Type 0 = λ w. HoldAllFronts w g.start.names streams.texts in
+    Streams-sticks g.G.Gather.gathers g.G.Gather.count g.D.Desk.tells g.start (g.D.Desk.reading c.take_shown.new.desk) (g.D.Desk.writing c.take_shown.new.desk)
+    c.take_shown.new.stream.feed.slot c.take_shown.new.stream.feed.reader c.take_shown.new.stream.ethernet c.take_shown.new.stream.gathered c.take_shown.new.outputs streams g.G.Gather.texts g.G.Gather.sums g.met.G.Gather.any_link g.met.G.Gather.ends
+    (omega (arith, g.met.G.Gather.sized c.take_shown.new.stream.gathered, c.pieces.invariant.width, c.take_shown.auto.outputs)) (g.D.Desk.writing c.refill.new.desk)
+    (λ told. subst P (sym c.in-Err-NoMemory-refill.ensures.outputs)
+    (Streams-fronts g.G.Gather.gathers g.G.Gather.count g.D.Desk.tells g.start (g.D.Desk.reading c.take_shown.new.desk) (g.D.Desk.writing c.take_shown.new.desk)
+    c.take_shown.new.stream.feed.slot c.take_shown.new.stream.feed.reader c.take_shown.new.stream.ethernet c.take_shown.new.stream.gathered c.take_shown.new.outputs streams told))

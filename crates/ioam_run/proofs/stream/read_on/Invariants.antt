@@ -1,0 +1,23 @@
+use Rattle.std.proofs.Common.{◌≡◌, ◌+◌, ◌-◌, length}
+use Rattle.ioam_pcap.specs.Reader.{fed}
+use Rattle.ioam_run.specs.Run.{most_packets}
+use Rattle.ioam_run.specs.Streams.{IsStreaming, most_start, most_size}
+use Rattle.ioam_run.proofs.stream.read_on.Given as goal
+
+-- the outputs were told the texts of the records that were given
+abbrev pub invariant-pieces : goal.invariant-pieces
+invariant-pieces g l = record {
+  streams : IsStreaming g.G.Gather.gathers g.G.Gather.count g.D.Desk.tells g.start (g.D.Desk.reading l.desk) (g.D.Desk.writing l.desk) l.stream l.outputs;
+  width : length l.outputs ≡ g.G.Gather.width;
+  room : length l.piece ≡ 65536;
+  inputs : (g.D.Desk.reading l.desk).side ≡ (g.D.Desk.reading l.initial.desk).side;
+  side : (g.D.Desk.writing l.desk).side ≡ (g.D.Desk.writing l.initial.desk).side;
+  slot : l.stream.feed.slot ≡ l.initial.stream.feed.slot;
+}
+
+-- what may still be fed: as many records as may be, the front of another, and a piece
+abbrev pub decreases-pieces : goal.decreases-pieces
+decreases-pieces g l = most_start most_packets + most_size + 65536 - fed l.stream.feed.reader
+
+abbrev pub ghost-take_shown : goal.ghost-take_shown
+ghost-take_shown g a = g.start

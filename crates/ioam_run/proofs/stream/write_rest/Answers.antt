@@ -1,0 +1,29 @@
+use Rattle.std.proofs.Common.{arith}
+use Rattle.ioam_outputs.proofs.HeldLaws.{AreTold-fronts}
+use Rattle.ioam_outputs.proofs.ToldLaws.{AreTold-adds}
+use Rattle.ioam_run.proofs.AddsLaws.{Adds-open}
+use Rattle.ioam_run.proofs.HaltsLaws.{more_fronts, told_names}
+use Rattle.ioam_run.proofs.ListingLaws.{OnOk-map}
+use Rattle.ioam_run.proofs.stream.write_rest.Goals as goal
+
+pub finish-requires : goal.finish-requires
+finish-requires g c = Adds-open (g.D.Desk.writing c.args.desk.now) c.args.outputs.now c.put_sums.new.outputs (g.G.Gather.sums c.args.gathered.now) c.in-Ok.ensures c.requires.open
+
+pub returns-in-Ok-clause-texts : goal.returns-in-Ok-clause-texts
+returns-in-Ok-clause-texts g c = OnOk-map c.finish.result _ _ c.finish.ensures.texts
+    (λ holds told slot names texts is. holds told slot names _ (AreTold-adds _ _ slot names _ _ texts _ is c.in-Ok.ensures))
+
+pub returns-in-Ok-clause-fronts : goal.returns-in-Ok-clause-fronts
+returns-in-Ok-clause-fronts g c = λ told slot names texts is.
+    c.finish.ensures.fronts told slot names _ (AreTold-adds _ _ slot names _ _ texts _ is c.in-Ok.ensures)
+
+pub returns-in-Err-clause-fronts : goal.returns-in-Err-clause-fronts
+returns-in-Err-clause-fronts g c = λ told slot names texts is.
+    more_fronts (g.D.Desk.writing c.args.desk.now) names texts (g.G.Gather.sums c.args.gathered.now)
+    (omega (
+      arith,
+      g.met.G.Gather.sized c.args.gathered.now,
+      c.requires.width,
+      told_names g.D.Desk.tells (g.D.Desk.writing c.args.desk.now) slot names c.args.outputs.now texts is,
+    ))
+    (AreTold-fronts g.D.Desk.tells (g.D.Desk.writing c.args.desk.now) slot names c.args.outputs.now texts told is)

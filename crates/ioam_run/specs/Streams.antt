@@ -1,0 +1,147 @@
+-- A capture that is read in pieces while texts are gathered of its records and written.
+use Rattle.std.specs.Prelude.{◌≡◌, ℕ, ◌+◌, ◌*◌, ◌<◌, ◌≤◌, ⊤, Bool, IsTrue, IsSomeAnd, List, ◌++◌, ◌∷◌, [], length, Option, Some, None}
+use Rattle.ioam_desk.specs.Desk as desk
+use Rattle.ioam_desk.specs.Desk.{Side, Writing, Rose}
+use Rattle.ioam_feed.specs.Feed.{Fed}
+use Rattle.ioam_outputs.specs.Held.{HoldAllFronts}
+use Rattle.ioam_outputs.specs.Told.{AreTold}
+use Rattle.ioam_outputs.specs.declared.output.Output.{Output}
+use Rattle.ioam_pcap.specs.Entries.{Entry}
+use Rattle.ioam_pcap.specs.Reading.{Reading}
+use Rattle.ioam_pcap.specs.Reads.{Whole, Faulty, Reads}
+use Rattle.ioam_pcap.specs.Reader.{Stands, Waits, link_of}
+use Rattle.ioam_pcap.specs.declared.form.Link.{Link}
+use Rattle.ioam_run.specs.Verdict.{is_ethernet}
+use Rattle.ioam_run.specs.Run.{most_packets, HoldsAll, EndsSo, AreFirst, ArePassed, AreWhole}
+use Rattle.ioam_run.specs.declared.step.Pause.{Pause}
+use Rattle.ioam_run.specs.declared.step.Pause.TheVariants as pause
+use Rattle.ioam_run.specs.declared.stream.Stream.{Stream}
+use Rattle.ioam_run.specs.declared.outcome.Outcome.{Outcome}
+use Rattle.ioam_run.specs.declared.outcome.Outcome.TheVariants as outcome
+
+-- where a run began: what IN holds, the number of the first output's slot, and the outputs' names
+pub record Start : Type 0 where
+  pub content : Option (List ℕ)
+  pub base : ℕ
+  pub names : List (List ℕ)
+
+-- the octets of a record with its head, at most
+abbrev pub most_size : ℕ
+most_size = 262160
+
+-- the place behind so many records, at most
+abbrev pub most_start : ℕ → ℕ
+most_start count = 24 + count * most_size
+
+-- some octets were fed to the reader, and it has given some records of them
+abbrev pub HasStood : Reading → Type 0
+HasStood reader = (octets : List ℕ) × (entries : List Entry) × Stands reader octets entries
+
+module _ {G : Type 0} (gathers : Bool → List Entry → List (List ℕ) → G → Type 0) (count : G → ℕ) where
+  -- the outputs were told the texts of the records that the reader has given of what was handed out
+  pub record Streams (tells : Bool) (start : Start) (inputs : desk.Reading) (outputs : Writing)
+      (slot : ℕ) (reader : Reading) (ethernet : Bool) (gathered : G) (tellers : List Output) : Type 0 where
+    pub octets : List ℕ
+    pub entries : List Entry
+    pub texts : List (List ℕ)
+    pub given : Fed tells start.content inputs slot reader octets entries
+    pub told : AreTold tells outputs start.base start.names tellers texts
+    pub are_gathered : gathers ethernet entries texts gathered
+    pub link_is : ethernet ≡ is_ethernet (link_of reader)
+    pub count_is : count gathered ≡ length entries
+    pub few : length entries ≤ most_packets
+    pub reach : reader.start ≤ most_start (length entries)
+
+  abbrev pub IsStreaming : Bool → Start → desk.Reading → Writing → Stream G → List Output → Type 0
+  IsStreaming tells start inputs outputs s tellers = Streams tells start inputs outputs s.feed.slot s.feed.reader s.ethernet s.gathered tellers
+
+  -- what a step did: what streams still does, with one thing more; or nothing, and why; or it gave a record past the limit
+  module _ (old new : Reading) (ethernet now_ethernet : Bool) (before after : G) (tellers now_tellers : List Output) where
+    abbrev pub Stays : Type 0
+    Stays = (now_ethernet ≡ ethernet) × (after ≡ before) × (now_tellers ≡ tellers)
+
+    abbrev pub Steps : Option Pause → Type 0
+    Steps None = (length new.pending < length old.pending)
+        × ((tells : Bool) (start : Start) (inputs : desk.Reading) (outputs : Writing) (slot : ℕ)
+        → Streams tells start inputs outputs slot old ethernet before tellers
+        → Streams tells start inputs outputs slot new now_ethernet after now_tellers)
+    Steps (Some pause.More) = Stays × (new ≡ old) × Waits old
+    Steps (Some (pause.Bad at fault)) = Stays × (new ≡ old) × ((octets : List ℕ) (entries : List Entry) → Stands old octets entries
+        → (more : List ℕ) → Reads (octets ++ more) (link_of old) entries (Faulty at fault))
+    Steps (Some pause.Limit) = Stays × (most_packets ≤ count before) × (link_of new ≡ link_of old)
+        × ((entry : Entry) × ((octets : List ℕ) (entries : List Entry) → Stands old octets entries → Stands new octets (entries ++ entry ∷ [])))
+
+  module _ (tells : Bool) (start : Start) where
+    -- the outputs were told the texts of some records; `Are` says which records of IN
+    pub record Halts (Are : Option Link → List Entry → List ℕ → Type 0) (outputs : Writing) (gathered : G) (tellers : List Output) : Type 0 where
+      pub link : Option Link
+      pub entries : List Entry
+      pub texts : List (List ℕ)
+      pub told : AreTold tells outputs start.base start.names tellers texts
+      pub are_gathered : gathers (is_ethernet link) entries texts gathered
+      pub count_is : count gathered ≡ length entries
+      pub few : length entries ≤ most_packets
+      pub are : IsTrue tells → IsSomeAnd start.content (Are link entries)
+
+    -- what stopped the taking of records
+    abbrev pub Pauses : desk.Reading → Writing → Stream G → List Output → Pause → Type 0
+    Pauses inputs outputs s tellers pause.More = IsStreaming tells start inputs outputs s tellers × Waits s.feed.reader
+    Pauses inputs outputs s tellers (pause.Bad at fault) = Halts (EndsSo (Faulty at fault)) outputs s.gathered tellers
+    Pauses inputs outputs s tellers pause.Limit = Halts ArePassed outputs s.gathered tellers
+
+module _ (tells : Bool) (start : Start) (Texts : Bool → List Entry → List (List ℕ) → Type 0) where
+  -- each output holds a front of its text of some first records of IN
+  pub record Fronts (outputs : Writing) (octets : List ℕ) : Type 0 where
+    pub link : Option Link
+    pub entries : List Entry
+    pub texts : List (List ℕ)
+    pub are : AreFirst link entries octets
+    pub texts_are : Texts (is_ethernet link) entries texts
+    pub held : HoldAllFronts outputs start.names texts
+
+  abbrev pub Sticks : Writing → Type 0
+  Sticks outputs = IsTrue tells → IsSomeAnd start.content (Fronts outputs)
+
+  -- what reading to the end, or to what stops it, answered
+  module _ {G : Type 0} (gathers : Bool → List Entry → List (List ℕ) → G → Type 0) (count : G → ℕ) (input : List ℕ) (slot : ℕ)
+      (old_in new_in : desk.Reading) (old_out new_out : Writing) (gathered : G) (tellers : List Output) where
+    -- all outputs were told the texts of these records
+    abbrev pub Tells : (Option Link → List Entry → List ℕ → Type 0) → Type 0
+    Tells Are = Halts gathers count tells start Are new_out gathered tellers × (new_out.side ≡ old_out.side)
+
+    abbrev pub Stops : Outcome → Type 0
+    Stops outcome.Done = Tells (EndsSo Whole) × (IsTrue tells → IsTrue (new_in.ended slot))
+    Stops (outcome.Capture name at fault) = (name ≡ input) × Tells (EndsSo (Faulty at fault))
+    Stops (outcome.Packets limit) = (limit ≡ most_packets) × Tells ArePassed
+    Stops outcome.ReadFault = Rose old_in.side.faults new_in.side.faults × Tells (AreWhole (new_in.left slot))
+    Stops outcome.WriteFault = Rose old_out.side.faults new_out.side.faults × Sticks new_out
+    Stops outcome.NoMemory = Sticks new_out
+    Stops outcome.Usage = ⊥
+    Stops (outcome.Names name) = ⊥
+
+  -- what a run over opened files answered
+  module _ (input : List ℕ) (slot : ℕ) (old_in new_in : desk.Reading) (old_out new_out : Writing) where
+    -- all outputs hold the texts of these records
+    abbrev pub Holds : (Option Link → List Entry → List ℕ → Type 0) → Type 0
+    Holds Are = IsTrue tells → IsSomeAnd start.content (HoldsAll Texts start.names Are new_out)
+
+    abbrev pub Finishes : Outcome → Type 0
+    Finishes outcome.Done = Holds (EndsSo Whole) × (IsTrue tells → IsTrue (new_in.ended slot))
+    Finishes (outcome.Capture name at fault) = (name ≡ input) × Holds (EndsSo (Faulty at fault))
+    Finishes (outcome.Packets limit) = (limit ≡ most_packets) × Holds ArePassed
+    Finishes outcome.ReadFault = Rose old_in.side.faults new_in.side.faults × Holds (AreWhole (new_in.left slot))
+    Finishes outcome.WriteFault = Rose old_out.side.faults new_out.side.faults × Sticks new_out
+    Finishes outcome.NoMemory = Sticks new_out
+    Finishes outcome.Usage = ⊥
+    Finishes (outcome.Names name) = ⊥
+
+-- the answer comes where an output could not be written, or no memory could be had
+abbrev pub IsBroken : Outcome → Type 0
+IsBroken outcome.WriteFault = ⊤
+IsBroken outcome.NoMemory = ⊤
+IsBroken outcome.Done = ⊥
+IsBroken outcome.Usage = ⊥
+IsBroken (outcome.Names name) = ⊥
+IsBroken (outcome.Capture name at fault) = ⊥
+IsBroken (outcome.Packets limit) = ⊥
+IsBroken outcome.ReadFault = ⊥

@@ -1,0 +1,133 @@
+//! A command over one capture: its names, its files and its answer.
+ghost use Rattle.std.specs.Prelude.{◌≡◌, ◌≢◌, ◌↔◌, ◌∷◌, ◌+◌, ◌<◌, [], IfOk, IsTrue, length};
+ghost use Rattle.ioam_desk.specs.Asked.{AsksFront};
+ghost use Rattle.ioam_desk.specs.Desk.{holds};
+ghost use Rattle.ioam_feed.specs.Feed.{Fed};
+ghost use Rattle.ioam_outputs.specs.Names.{AreApart};
+ghost use Rattle.ioam_outputs.specs.Told.{AreTold, unsaid};
+ghost use Rattle.ioam_pcap.specs.Reader.{fresh};
+ghost use Rattle.ioam_run.specs.Run.{HasCause, FileCause, Leaves, IsDone, OpensNothing, file_names, input_name, output_names};
+ghost use Rattle.ioam_run.specs.Streams.{Start, Finishes, IsBroken};
+
+use crate::gather::Gather;
+use crate::outcome::{Outcome, names_outcome};
+use crate::stream::{Stream, read_on, write_rest};
+use ioam_base::memory::NoMemory;
+use ioam_desk::{Desk, DeskFault, Name, PIECE};
+use ioam_feed::{Feed, open_feed};
+use ioam_outputs::{Output, first_repeat, open_outputs};
+use std::alloc::Global;
+
+/// Runs a command whose words are its own name, the name of a capture and those of its outputs.
+///
+/// Two names that are equal are refused first; then the capture is opened, and the outputs are. It is
+/// read in pieces, and what is gathered of its records is written in pieces: also before a fault of the
+/// capture, a fault of reading or the limit is answered, and at the end.
+pub fn run_words<G: Gather, D: Desk>(alloc: Global, words: &[Name], desk: &mut D) -> Outcome
+    requires { length words.now ≡ 2 + G.width }
+    ensures cause { HasCause D.tells (file_names words.now) (input_name words.now) (D.reading desk.old) (D.writing desk.old)
+        (D.reading desk.new) (D.writing desk.new) result }
+    ensures leaves { IsTrue D.tells → Leaves G.texts (output_names words.now) (input_name words.now) (D.reading desk.old) (D.reading desk.new)
+        (D.writing desk.old) (D.writing desk.new) result }
+    ensures asked_in { AsksFront (D.reading desk.old).side.asked (D.reading desk.new).side.asked (input_name words.now ∷ []) }
+    ensures asked_out { AsksFront (D.writing desk.old).side.asked (D.writing desk.new).side.asked (output_names words.now) }
+    ensures unopened { OpensNothing result → D.reading desk.new ≡ D.reading desk.old }
+    ensures no_output { (D.reading desk.new).side.slots ≡ (D.reading desk.old).side.slots → D.writing desk.new ≡ D.writing desk.old }
+    ensures drained { IsDone result → IsTrue D.tells → IsTrue ((D.reading desk.new).ended (D.reading desk.old).side.slots) }
+{
+    match first_repeat(&words[1..]) {
+        Some(at) => names_outcome(alloc, &words[1 + at]),
+        None => run_file::<G, D>(alloc, desk, &words[1], &words[2..]),
+    }
+}
+
+// Runs a command whose names differ.
+fn run_file<G: Gather, D: Desk>(
+    alloc: Global,
+    desk: &mut D,
+    input: &Name,
+    names: &[Name],
+) -> Outcome
+    ghost start: { Start }
+    requires starts { start ≡ record { content = holds (D.writing desk.old) input.now; base = (D.writing desk.old).side.slots; names = names.now } }
+    requires apart { AreApart names.now }
+    requires width { length names.now ≡ G.width }
+    ensures cause { FileCause D.tells input.now (D.reading desk.old) (D.writing desk.old) (D.reading desk.new) (D.writing desk.new) result }
+    ensures leaves { IsTrue D.tells → Leaves G.texts names.now input.now (D.reading desk.old) (D.reading desk.new)
+        (D.writing desk.old) (D.writing desk.new) result }
+    ensures asked_in { AsksFront (D.reading desk.old).side.asked (D.reading desk.new).side.asked (input.now ∷ []) }
+    ensures asked_out { AsksFront (D.writing desk.old).side.asked (D.writing desk.new).side.asked names.now }
+    ensures no_output { (D.reading desk.new).side.slots ≡ (D.reading desk.old).side.slots → D.writing desk.new ≡ D.writing desk.old }
+    ensures drained { IsDone result → IsTrue D.tells → IsTrue ((D.reading desk.new).ended (D.reading desk.old).side.slots) }
+{
+    let Ok(mut piece) = new_piece(alloc) else {
+        return Outcome::NoMemory;
+    };
+    let feed = match open_feed(alloc, desk, input.text()) {
+        Ok(feed) => feed,
+        Err(DeskFault::Failed) => return Outcome::ReadFault,
+        Err(DeskFault::NoMemory) => return Outcome::NoMemory,
+    };
+    match open_outputs(alloc, desk, names) {
+        Ok(mut outputs) => { run_open::<G, D>(alloc, desk, input, feed, &mut outputs, &mut piece) }
+        Err(DeskFault::Failed) => Outcome::WriteFault,
+        Err(DeskFault::NoMemory) => Outcome::NoMemory,
+    }
+}
+
+// Room for what one read of a file hands out.
+fn new_piece(alloc: Global) -> Result<Vec<u8>, NoMemory>
+    ensures { IfOk result (λ piece. length piece.items ≡ PIECE) }
+{
+    let mut piece = Vec::with_capacity(alloc, PIECE)?;
+    piece.resize(PIECE, 0)?;
+    Ok(piece)
+}
+
+// Runs a command whose files were opened.
+fn run_open<G: Gather, D: Desk>(
+    alloc: Global,
+    desk: &mut D,
+    input: &Name,
+    feed: Feed,
+    outputs: &mut [Output],
+    piece: &mut [u8],
+) -> Outcome
+    ghost start: { Start }
+    requires fed { Fed D.tells start.content (D.reading desk.old) feed.slot feed.reader [] [] }
+    requires fresh { feed.reader ≡ fresh }
+    requires told { AreTold D.tells (D.writing desk.old) start.base start.names outputs.old (unsaid start.names) }
+    requires width { length outputs.old ≡ G.width }
+    requires room { length piece.old ≡ PIECE }
+    ensures finishes { Finishes D.tells start G.texts input.now feed.slot (D.reading desk.old) (D.reading desk.new)
+        (D.writing desk.old) (D.writing desk.new) result }
+    ensures asked_in { (D.reading desk.new).side.asked ≡ (D.reading desk.old).side.asked }
+    ensures slots_in { (D.reading desk.new).side.slots ≡ (D.reading desk.old).side.slots }
+    ensures asked_out { (D.writing desk.new).side.asked ≡ (D.writing desk.old).side.asked }
+    ensures slots_out { (D.writing desk.new).side.slots ≡ (D.writing desk.old).side.slots }
+{
+    let Ok(gathered) = G::begin(outputs) else {
+        return Outcome::NoMemory;
+    };
+    let mut stream = Stream {
+        feed,
+        ethernet: false,
+        gathered,
+    };
+    let answer = read_on(alloc, &mut stream, outputs, desk, input, piece);
+    if is_broken(&answer) {
+        return answer;
+    }
+    match write_rest(&stream.gathered, outputs, desk) {
+        Ok(()) => answer,
+        Err(DeskFault::Failed) => Outcome::WriteFault,
+        Err(DeskFault::NoMemory) => Outcome::NoMemory,
+    }
+}
+
+// Whether the answer leaves the outputs as they are.
+fn is_broken(answer: &Outcome) -> bool
+    ensures { IsTrue result ↔ IsBroken answer.now }
+{
+    matches!(answer, Outcome::WriteFault | Outcome::NoMemory)
+}

@@ -1,0 +1,71 @@
+//! One step of a reader whose records are gathered.
+ghost use Rattle.std.specs.Prelude.{◌≡◌, ◌≤◌, IfOk, Some, length};
+ghost use Rattle.ioam_pcap.specs.Reader.{fed};
+ghost use Rattle.ioam_run.specs.Run.{most_packets};
+ghost use Rattle.ioam_run.specs.Streams.{HasStood, Steps};
+ghost use Rattle.ioam_run.specs.Verdict.{is_ethernet};
+
+use crate::gather::Gather;
+use ioam_base::memory::NoMemory;
+use ioam_outputs::Output;
+use ioam_pcap::Link;
+use ioam_pcap::capture::{CapFault, CapStep};
+use ioam_pcap::reader::CaptureReader;
+
+/// The most records that are taken of a capture.
+pub const MOST_PACKETS: u32 = 16_777_216;
+
+/// Why no record was taken.
+#[derive(Clone, Copy)]
+pub enum Pause {
+    /// More octets are needed, or the capture's end.
+    More,
+    /// At this place of the capture its head or a record is faulty.
+    Bad { at: u64, fault: CapFault },
+    /// As many records were taken as may be, and there is another.
+    Limit,
+}
+
+/// Takes the next thing that the octets fed so far show: the head of the capture, or a record. The
+/// answer is None where something was taken.
+pub fn step<G: Gather>(
+    reader: &mut CaptureReader,
+    ethernet: &mut bool,
+    gathered: &mut G,
+    outputs: &mut [Output],
+) -> Result<Option<Pause>, NoMemory>
+    requires stood { HasStood reader.old }
+    requires few { G.count gathered.old ≤ most_packets }
+    requires width { length outputs.old ≡ G.width }
+    ensures stepped { IfOk result (Steps G.gathers G.count reader.old reader.new ethernet.old ethernet.new
+        gathered.old gathered.new outputs.old outputs.new) }
+    ensures fed { fed reader.new ≡ fed reader.old }
+{
+    match reader.next() {
+        CapStep::Head { link } => {
+            *ethernet = is_ethernet(link);
+            Ok(None)
+        }
+        CapStep::Packet(packet) => {
+            if gathered.taken() >= u64::from(MOST_PACKETS) {
+                return Ok(Some(Pause::Limit));
+            }
+            match gathered.take(*ethernet, &packet, outputs) {
+                Ok(()) => Ok(None),
+                Err(NoMemory) => Err(NoMemory),
+            }
+        }
+        CapStep::More => Ok(Some(Pause::More)),
+        CapStep::Bad { at, fault } => Ok(Some(Pause::Bad { at, fault })),
+    }
+}
+
+// Whether the frames of a capture begin with an Ethernet header.
+fn is_ethernet(link: Link) -> bool
+    ensures { result ≡ is_ethernet (Some link) }
+{
+    match link {
+        Link::Ethernet => true,
+        Link::Raw => false,
+    }
+}

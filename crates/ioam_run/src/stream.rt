@@ -1,0 +1,129 @@
+//! A capture that is read in pieces while texts are gathered of its records and written.
+ghost use Rattle.std.specs.Prelude.{◌≡◌, ◌<◌, ◌^◌, IfErr, IfOk, OnErr, OnOk, IsTrue, List, ℕ, length};
+ghost use Rattle.ioam_desk.specs.Asked.{IsFaultOf};
+ghost use Rattle.ioam_outputs.specs.Held.{HoldAllFronts, HoldTexts};
+ghost use Rattle.ioam_outputs.specs.Told.{AreTold, AreOpen, said_more};
+ghost use Rattle.ioam_pcap.specs.Reader.{fed};
+ghost use Rattle.ioam_run.specs.Streams.{Start, IsStreaming, Pauses, Sticks, Stops};
+
+use crate::gather::Gather;
+use crate::outcome::{Outcome, capture_outcome, end_outcome};
+use crate::step::{MOST_PACKETS, Pause, step};
+use ioam_base::memory::NoMemory;
+use ioam_desk::{Desk, DeskFault, Name, PIECE};
+use ioam_feed::Feed;
+use ioam_outputs::{Output, finish, flush_full};
+use std::alloc::Global;
+
+/// One capture that is read in pieces, and what is gathered of its records.
+#[derive(Drop)]
+pub struct Stream<G> {
+    pub feed: Feed,
+    /// Whether the frames of the capture begin with an Ethernet header.
+    pub ethernet: bool,
+    pub gathered: G,
+}
+
+// Takes all that the octets handed out so far show, and writes what is gathered where it is a full piece.
+fn take_shown<G: Gather, D: Desk>(
+    stream: &mut Stream<G>,
+    outputs: &mut [Output],
+    desk: &mut D,
+) -> Result<Pause, DeskFault>
+    ghost start: { Start }
+    requires streams { IsStreaming G.gathers G.count D.tells start (D.reading desk.old) (D.writing desk.old) stream.old outputs.old }
+    requires width { length outputs.old ≡ G.width }
+    ensures paused { IfOk result (Pauses G.gathers G.count D.tells start (D.reading desk.new) (D.writing desk.new) stream.new outputs.new) }
+    ensures same { OnOk result ((D.writing desk.new).side ≡ (D.writing desk.old).side) }
+    ensures sticks { OnErr result (Sticks D.tells start G.texts (D.writing desk.new)) }
+    ensures cause { IfErr result (IsFaultOf (D.writing desk.old).side (D.writing desk.new).side) }
+    ensures asked { (D.writing desk.new).side.asked ≡ (D.writing desk.old).side.asked }
+    ensures slots { (D.writing desk.new).side.slots ≡ (D.writing desk.old).side.slots }
+    ensures fed { fed stream.new.feed.reader ≡ fed stream.old.feed.reader }
+    ensures slot { stream.new.feed.slot ≡ stream.old.feed.slot }
+    ensures inputs { D.reading desk.new ≡ D.reading desk.old }
+{
+    'records: loop {
+        match step(
+            &mut stream.feed.reader,
+            &mut stream.ethernet,
+            &mut stream.gathered,
+            outputs,
+        ) {
+            Ok(None) => {}
+            Ok(Some(pause)) => return Ok(pause),
+            Err(NoMemory) => return Err(DeskFault::NoMemory),
+        }
+        match flush_full(desk, outputs) {
+            Ok(()) => {}
+            Err(fault) => return Err(fault),
+        }
+    }
+}
+
+/// Reads a capture to its end, or to what stops it, and takes its records.
+pub fn read_on<G: Gather, D: Desk>(
+    alloc: Global,
+    stream: &mut Stream<G>,
+    outputs: &mut [Output],
+    desk: &mut D,
+    input: &Name,
+    piece: &mut [u8],
+) -> Outcome
+    ghost start: { Start }
+    requires streams { IsStreaming G.gathers G.count D.tells start (D.reading desk.old) (D.writing desk.old) stream.old outputs.old }
+    requires width { length outputs.old ≡ G.width }
+    requires room { length piece.old ≡ PIECE }
+    ensures stopped { Stops D.tells start G.texts G.gathers G.count input.now stream.old.feed.slot (D.reading desk.old) (D.reading desk.new)
+        (D.writing desk.old) (D.writing desk.new) stream.new.gathered outputs.new result }
+    ensures asked_in { (D.reading desk.new).side.asked ≡ (D.reading desk.old).side.asked }
+    ensures slots_in { (D.reading desk.new).side.slots ≡ (D.reading desk.old).side.slots }
+    ensures asked_out { (D.writing desk.new).side.asked ≡ (D.writing desk.old).side.asked }
+    ensures slots_out { (D.writing desk.new).side.slots ≡ (D.writing desk.old).side.slots }
+{
+    'pieces: loop {
+        match take_shown(stream, outputs, desk) {
+            Ok(Pause::More) => {}
+            Ok(Pause::Bad { at, fault }) => return capture_outcome(alloc, input, at, fault),
+            Ok(Pause::Limit) => {
+                return Outcome::Packets {
+                    limit: MOST_PACKETS,
+                };
+            }
+            Err(DeskFault::Failed) => return Outcome::WriteFault,
+            Err(DeskFault::NoMemory) => return Outcome::NoMemory,
+        }
+        match stream.feed.refill(desk, piece) {
+            Ok(true) => {}
+            Ok(false) => return end_outcome(alloc, input, stream.feed.reader.finish()),
+            Err(DeskFault::Failed) => return Outcome::ReadFault,
+            Err(DeskFault::NoMemory) => return Outcome::NoMemory,
+        }
+    }
+}
+
+/// Adds what stands behind the last record, and writes all that is gathered.
+pub fn write_rest<G: Gather, D: Desk>(
+    gathered: &G,
+    outputs: &mut [Output],
+    desk: &mut D,
+) -> Result<(), DeskFault>
+    requires open { AreOpen (D.writing desk.old) outputs.old }
+    requires width { length outputs.old ≡ G.width }
+    requires few { G.count gathered.now < 2 ^ 32 }
+    ensures texts { OnOk result (IsTrue D.tells → (slot : ℕ) (names texts : List (List ℕ))
+        → AreTold D.tells (D.writing desk.old) slot names outputs.old texts
+        → HoldTexts (D.writing desk.new) names (said_more texts (G.sums gathered.now))) }
+    ensures fronts { IsTrue D.tells → (slot : ℕ) (names texts : List (List ℕ))
+        → AreTold D.tells (D.writing desk.old) slot names outputs.old texts
+        → HoldAllFronts (D.writing desk.new) names (said_more texts (G.sums gathered.now)) }
+    ensures cause { IfErr result (IsFaultOf (D.writing desk.old).side (D.writing desk.new).side) }
+    ensures asked { (D.writing desk.new).side.asked ≡ (D.writing desk.old).side.asked }
+    ensures slots { (D.writing desk.new).side.slots ≡ (D.writing desk.old).side.slots }
+    ensures inputs { D.reading desk.new ≡ D.reading desk.old }
+{
+    match gathered.put_sums(outputs) {
+        Ok(()) => finish(desk, outputs),
+        Err(NoMemory) => Err(DeskFault::NoMemory),
+    }
+}
