@@ -146,33 +146,44 @@ fn is_so(alloc: Global, nodes: &str, links: &str, ports: &str, row: &str) -> boo
     }
 }
 
+// The first of the rows whose fault isn't so.
+fn first_wrong<'a>(
+    alloc: Global,
+    nodes: &str,
+    links: &str,
+    ports: &str,
+    rows: &'a str,
+) -> Option<&'a str> {
+    for row in rows.split('|') {
+        if !is_so(alloc, nodes, links, ports, row) {
+            return Some(row);
+        }
+    }
+    None
+}
+
 #[test]
 fn names_the_first_fault_of_a_file(rt: HostRuntime) {
-    for row in OF_FILES.split('|') {
-        assert!(rt; is_so(rt.alloc(), "", "", "", row), "{row}");
-    }
+    let wrong = first_wrong(rt.alloc(), "", "", "", OF_FILES);
+    assert!(rt; wrong.is_none());
 }
 
 #[test]
 fn names_the_first_fault_of_nodes(rt: HostRuntime) {
-    for row in OF_NODES.split('|') {
-        assert!(rt; is_so(rt.alloc(), "", "", "", row), "{row}");
-    }
+    let wrong = first_wrong(rt.alloc(), "", "", "", OF_NODES);
+    assert!(rt; wrong.is_none());
 }
 
 #[test]
 fn names_the_first_fault_of_links_and_ports(rt: HostRuntime) {
-    for row in OF_LINKS.split('|') {
-        assert!(rt; is_so(rt.alloc(), NODES, "", "", row), "{row}");
-    }
-    for row in OF_PORTS.split('|') {
-        assert!(rt; is_so(rt.alloc(), NODES, "", "", row), "{row}");
-    }
+    let wrong = first_wrong(rt.alloc(), NODES, "", "", OF_LINKS);
+    assert!(rt; wrong.is_none());
+    let wrong = first_wrong(rt.alloc(), NODES, "", "", OF_PORTS);
+    assert!(rt; wrong.is_none());
 }
 
 #[test]
 fn names_the_first_fault_of_routes(rt: HostRuntime) {
-    for row in OF_ROUTES.split('|') {
-        assert!(rt; is_so(rt.alloc(), NODES, LINKS, PORTS, row), "{row}");
-    }
+    let wrong = first_wrong(rt.alloc(), NODES, LINKS, PORTS, OF_ROUTES);
+    assert!(rt; wrong.is_none());
 }
