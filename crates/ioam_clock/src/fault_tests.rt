@@ -59,7 +59,18 @@ table: NodeTable, place: 1, field: AddressKey, why: Range # node = [{ name = \"a
 
 // Links between two nodes.
 const OF_LINKS: &str =
-    "table: LinkTable, place: 1, field: OtherKey, why: Unknown # link = [{ colour = 1 }]|\
+    "table: LinkTable, place: 1, field: NameKey, why: Kind # link = [{ name = 1 }]|\
+table: LinkTable, place: 1, field: NameKey, why: Range # link = [{ name = \"\" }]|\
+table: LinkTable, place: 1, field: ToKey, why: Kind # link = [{ name = \"l\", from = \"a\", to = 1 }]|\
+table: LinkTable, place: 1, field: ToKey, why: Range # link = [{ name = \"l\", from = \"a\", to = \"a b\" }]|\
+table: LinkTable, place: 1, field: OutIdKey, why: Kind # link = [{ name = \"l\", from = \"a\", to = \"b\", out_id = \"1\" }]|\
+table: LinkTable, place: 1, field: InIdKey, why: Missing # link = [{ name = \"l\", from = \"a\", to = \"b\", out_id = 1 }]|\
+table: LinkTable, place: 1, field: InIdKey, why: Range # link = [{ name = \"l\", from = \"a\", to = \"b\", out_id = 1, in_id = -1 }]|\
+table: LinkTable, place: 1, field: DelayKey, why: Missing # link = [{ name = \"l\", from = \"a\", to = \"b\", out_id = 1, in_id = 1 }]|\
+table: LinkTable, place: 1, field: DelayKey, why: Kind # link = [{ name = \"l\", from = \"a\", to = \"b\", out_id = 1, in_id = 1, delay = \"1\" }]|\
+table: LinkTable, place: 1, field: MtuKey, why: Missing # link = [{ name = \"l\", from = \"a\", to = \"b\", out_id = 1, in_id = 1, delay = 0 }]|\
+table: LinkTable, place: 1, field: MtuKey, why: Kind # link = [{ name = \"l\", from = \"a\", to = \"b\", out_id = 1, in_id = 1, delay = 0, mtu = \"1\" }]|\
+table: LinkTable, place: 1, field: OtherKey, why: Unknown # link = [{ colour = 1 }]|\
 table: LinkTable, place: 1, field: NameKey, why: Missing # link = [{ from = \"c\" }]|\
 table: LinkTable, place: 1, field: FromKey, why: Missing # link = [{ name = \"l\" }]|\
 table: LinkTable, place: 1, field: FromKey, why: Kind # link = [{ name = \"l\", from = 1 }]|\
@@ -81,7 +92,14 @@ table: LinkTable, place: 2, field: NameKey, why: Twice # link = [{ name = \"l\",
 
 // Ports of two nodes.
 const OF_PORTS: &str =
-    "table: PortTable, place: 1, field: OtherKey, why: Unknown # port = [{ colour = 1 }]|\
+    "table: PortTable, place: 1, field: NameKey, why: Missing # port = [{ node = \"c\" }]|\
+table: PortTable, place: 1, field: NameKey, why: Kind # port = [{ name = 1 }]|\
+table: PortTable, place: 1, field: NodeKey, why: Kind # port = [{ name = \"p\", node = 1 }]|\
+table: PortTable, place: 1, field: NodeKey, why: Range # port = [{ name = \"p\", node = \"\" }]|\
+table: PortTable, place: 1, field: IdKey, why: Kind # port = [{ name = \"p\", node = \"a\", id = \"1\" }]|\
+table: PortTable, place: 1, field: InKey, why: Range # port = [{ name = \"p\", node = \"a\", id = 1, in = \"\" }]|\
+table: PortTable, place: 1, field: OutKey, why: Kind # port = [{ name = \"p\", node = \"a\", id = 1, out = 1 }]|\
+table: PortTable, place: 1, field: OtherKey, why: Unknown # port = [{ colour = 1 }]|\
 table: PortTable, place: 1, field: NameKey, why: Range # port = [{ name = \"\", node = \"c\" }]|\
 table: PortTable, place: 1, field: NodeKey, why: Missing # port = [{ name = \"p\" }]|\
 table: PortTable, place: 1, field: NodeKey, why: Unknown # port = [{ name = \"p\", node = \"c\" }]|\
@@ -94,7 +112,13 @@ table: PortTable, place: 2, field: NameKey, why: Twice # port = [{ name = \"p\",
 
 // Routes of two nodes, with a link and two ports.
 const OF_ROUTES: &str =
-    "table: RouteTable, place: 1, field: OtherKey, why: Unknown # route = [{ colour = 1 }]|\
+    "table: RouteTable, place: 1, field: NodeKey, why: Kind # route = [{ node = 1 }]|\
+table: RouteTable, place: 1, field: NodeKey, why: Range # route = [{ node = \"\" }]|\
+table: RouteTable, place: 1, field: LinkKey, why: Kind # route = [{ node = \"a\", prefix = \"::/0\", link = 1 }]|\
+table: RouteTable, place: 1, field: LinkKey, why: Range # route = [{ node = \"a\", prefix = \"::/0\", link = \"\" }]|\
+table: RouteTable, place: 1, field: PortKey, why: Kind # route = [{ node = \"a\", prefix = \"::/0\", port = 1 }]|\
+table: RouteTable, place: 1, field: PortKey, why: Range # route = [{ node = \"a\", prefix = \"::/0\", port = \"\" }]|\
+table: RouteTable, place: 1, field: OtherKey, why: Unknown # route = [{ colour = 1 }]|\
 table: RouteTable, place: 1, field: NodeKey, why: Missing # route = [{ prefix = \"::/129\" }]|\
 table: RouteTable, place: 1, field: NodeKey, why: Unknown # route = [{ node = \"c\" }]|\
 table: RouteTable, place: 1, field: PrefixKey, why: Missing # route = [{ node = \"a\" }]|\
