@@ -1,0 +1,36 @@
+-- The files of a run over a domain: the words of the command name four, and each port of the domain
+-- the capture of the packets that leave by it and perhaps one of the packets that arrive at it.
+use Rattle.std.specs.Prelude.{ℕ, suc, List, [], ◌∷◌, ◌++◌, map, Option, Some, None}
+use Rattle.std.specs.List.{flat_map}
+use Rattle.ioam_topo.specs.declared.ids.PortId.{PortId}
+use Rattle.ioam_topo.specs.declared.parts.Port.{Port}
+
+-- the capture of the packets that arrive at a port, if it has one
+abbrev pub input_of : Option (List ℕ) → List (List ℕ)
+input_of None = []
+input_of (Some name) = name ∷ []
+
+-- those of all ports, in file order
+abbrev pub input_names : List Port → List (List ℕ)
+input_names ports = flat_map (λ port. input_of port.input) ports
+
+-- the port at a place of the file, if it has such a capture
+abbrev pub port_with : ℕ → Option (List ℕ) → List PortId
+port_with place None = []
+port_with place (Some name) = record { 0 = place } ∷ []
+
+-- the ports that have one, in file order, where the first of these stands at a place of the file
+abbrev pub ports_from : ℕ → List Port → List PortId
+ports_from place [] = []
+ports_from place (port ∷ ports) = port_with place port.input ++ ports_from (suc place) ports
+
+abbrev pub input_ports : List Port → List PortId
+input_ports ports = ports_from 0 ports
+
+-- the files that are written: a capture for each port, in file order, the report and the exports
+abbrev pub output_names : List Port → List ℕ → List ℕ → List (List ℕ)
+output_names ports report exports = map (λ port. port.output) ports ++ report ∷ exports ∷ []
+
+-- all files, in the order in which equal ones are looked for: those of the words, then those of each port
+abbrev pub file_names : List Port → List (List ℕ) → List (List ℕ)
+file_names ports words = words ++ flat_map (λ port. input_of port.input ++ port.output ∷ []) ports

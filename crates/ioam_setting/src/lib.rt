@@ -1,0 +1,8 @@
+//! What a run over a domain is set by: its domain file, its readings, and the names of its files.
+#![tactic(auto)]
+
+mod names;
+mod setting;
+
+pub use names::{file_names, input_names, input_ports, output_names};
+pub use setting::{Refusal, Setting, read_setting};

@@ -1,0 +1,98 @@
+-- The traffic of a domain: the captures of its ports are merged by time, each arrival is sent through
+-- the domain, and the outputs are told what becomes of it.
+use Rattle.std.specs.Prelude.{◌≡◌, ℕ, ◌+◌, ◌<◌, ◌≤◌, ◌⊎◌, Bool, true, false, IsTrue, List, [], ◌∷◌, ◌++◌, length, map, slice_index_or, Option, Some, None}
+use Rattle.ioam_desk.specs.Desk.{Reading, Writing, Rose}
+use Rattle.ioam_forward.specs.Fate.{Frame, Fate, AreFates}
+use Rattle.ioam_forward.specs.Texts.{texts_of}
+use Rattle.ioam_merge.specs.Merging as merging
+use Rattle.ioam_merge.specs.Merging.{FilesArrive, FilesBegin, PartsArrive, HaveEnded, start_of}
+use Rattle.ioam_outputs.specs.Held.{HoldTexts, HoldFronts}
+use Rattle.ioam_pcap.specs.Merge.{Arrival}
+use Rattle.ioam_pcap.specs.declared.form.Link.{Link}
+use Rattle.ioam_pcap.specs.declared.form.Link.TheVariants.{Ethernet, Raw}
+use Rattle.ioam_pcap.specs.declared.turns.Turn.{Turn}
+use Rattle.ioam_pcap.specs.declared.turns.Turn.TheVariants as turn
+use Rattle.ioam_topo.specs.declared.domain.Domain.{Domain}
+use Rattle.ioam_topo.specs.declared.ids.PortId.{PortId}
+use Rattle.ioam_traffic.specs.declared.halt.Halt.{Halt}
+use Rattle.ioam_traffic.specs.declared.halt.Halt.TheVariants.{Over, Broken, Limit, ReadFault, WriteFault, NoMemory}
+
+-- frames that are captured for this link begin with an Ethernet header
+abbrev pub is_ethernet : Option Link → Bool
+is_ethernet None = false
+is_ethernet (Some Ethernet) = true
+is_ethernet (Some Raw) = false
+
+-- the port whose capture stands at a place among the captures
+abbrev pub port_at : List PortId → ℕ → PortId
+port_at ports place = slice_index_or ports place (record { 0 = 0 })
+
+-- what arrives at its port with a record that was taken
+abbrev pub frame_of : List PortId → Arrival → Frame
+frame_of ports arrival = record { port = port_at ports arrival.capture; ethernet = is_ethernet arrival.link; entry = arrival.entry }
+
+abbrev pub frames_of : List PortId → List Arrival → List Frame
+frames_of ports taken = map (frame_of ports) taken
+
+-- Where the traffic begins: the domain, the ports that have a capture, what these captures hold and
+-- the number of the first one's slot, and the names of the outputs.
+pub record Start : Type 0 where
+  pub domain : Domain
+  pub ports : List PortId
+  pub lanes : merging.Start
+  pub names : List (List ℕ)
+
+-- on a desk, with captures and outputs of these names
+abbrev pub begun : Domain → List PortId → List (List ℕ) → List (List ℕ) → Reading → Writing → Start
+begun domain ports inputs names reading writing = record {
+  domain = domain;
+  ports = ports;
+  lanes = start_of reading.side.slots writing inputs;
+  names = names;
+}
+
+module _ (start : Start) where
+  -- these are as many of the first records as may be taken, and one more comes behind them
+  pub record ArePassed (taken : List Arrival) : Type 0 where
+    pub all : length taken ≡ start.domain.packets
+    pub next : Arrival
+    pub begin : FilesBegin start.lanes.contents (taken ++ next ∷ [])
+
+  -- the outputs hold the texts of what becomes of these arrivals; `Are` says which they are
+  pub record HoldsAll (Are : List Arrival → Type 0) (new : Writing) : Type 0 where
+    pub taken : List Arrival
+    pub fates : List Fate
+    pub are : Are taken
+    pub few : length taken ≤ start.domain.packets
+    pub become : AreFates start.domain (frames_of start.ports taken) fates
+    pub held : HoldTexts new start.names (texts_of start.domain fates)
+
+  -- each output that was opened holds a front of its text of some first arrivals
+  pub record HoldsFronts (old new : Writing) : Type 0 where
+    pub taken : List Arrival
+    pub fates : List Fate
+    pub begin : FilesBegin start.lanes.contents taken
+    pub few : length taken ≤ start.domain.packets
+    pub become : AreFates start.domain (frames_of start.ports taken) fates
+    pub held : HoldFronts old new 0 start.names (texts_of start.domain fates)
+
+  -- all captures were opened
+  abbrev pub AreOpened : Reading → Type 0
+  AreOpened inputs = inputs.side.slots ≡ start.lanes.base + length start.lanes.contents
+
+  -- these are all the arrivals of the captures, and the turn behind them is this
+  abbrev pub Arrive : Turn → List Arrival → Type 0
+  Arrive last taken = FilesArrive start.lanes.contents taken last
+
+  -- what the end of the traffic says; where the desk tells, also what the outputs hold then
+  module _ (tells : Bool) (old_in new_in : Reading) (old_out new_out : Writing) where
+    abbrev pub Finishes : Halt → Type 0
+    Finishes Over = IsTrue tells → HoldsAll (Arrive turn.Over) new_out × HaveEnded start.lanes new_in
+    Finishes (Broken place at fault) = (place < length start.lanes.contents)
+        × (IsTrue tells → HoldsAll (Arrive (turn.Broken place at fault)) new_out)
+    Finishes Limit = IsTrue tells → HoldsAll ArePassed new_out
+    Finishes ReadFault = Rose old_in.side.faults new_in.side.faults
+        × ((((new_in.side.slots < start.lanes.base + length start.lanes.contents) × (new_out ≡ old_out)))
+        ⊎ (AreOpened new_in × (IsTrue tells → HoldsAll (PartsArrive start.lanes.contents new_in start.lanes.base) new_out)))
+    Finishes WriteFault = Rose old_out.side.faults new_out.side.faults × (IsTrue tells → HoldsFronts old_out new_out)
+    Finishes NoMemory = (new_out ≡ old_out) ⊎ (IsTrue tells → HoldsFronts old_out new_out)
