@@ -1,5 +1,5 @@
 -- What a reader stands for, and what its steps tell of the octets that it was fed.
-use Rattle.std.specs.Prelude.{◌≡◌, ℕ, ◌+◌, ◌≤◌, List, [], ◌∷◌, ◌++◌, length, drop, Option, Some, None}
+use Rattle.std.specs.Prelude.{◌≡◌, ℕ, ◌+◌, ◌<◌, ◌≤◌, ◌^◌, List, [], ◌∷◌, ◌++◌, length, drop, Option, Some, None}
 use Rattle.std.specs.Io.BufRead.{Rests}
 use Rattle.std.specs.Borrow.{Fml, MutBor}
 use Rattle.ioam_pcap.specs.declared.form.Link.{Link}
@@ -40,12 +40,13 @@ entry_of p = record { time = p.time; original = p.original; octets = p.octets.no
 abbrev pub Waits : Reading → Type 0
 Waits reader = CutAt reader.pending reader.form 0
 
--- the octets that a step takes off
+-- the octets that a step takes off; the time of a record is below 2^62
 abbrev pub Moved : Reading → Reading → CapStep → Type 0
 Moved old new (Head link) = (new.start ≡ old.start + 24) × (new.pending ≡ drop 24 old.pending) × (length new.pending + 24 ≡ length old.pending)
 Moved old new (Packet p) = (new.form ≡ old.form) × (new.start ≡ old.start + (16 + length p.octets.now))
     × (new.pending ≡ drop (16 + length p.octets.now) old.pending)
     × (length new.pending + (16 + length p.octets.now) ≡ length old.pending)
+    × (p.time < 2 ^ 62)
 Moved old new More = (new ≡ old) × Waits old
 Moved old new (Bad at fault) = (new ≡ old) × (at ≡ old.start)
 
