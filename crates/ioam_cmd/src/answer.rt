@@ -1,10 +1,13 @@
 //! The exit status and the line of an answer.
 ghost use Rattle.std.specs.Prelude.{◌≡◌, ◌++◌, IfOk, codes, decimal, string_bytes};
-ghost use Rattle.ioam_cmd.specs.Answers.{status_of, line_text, fault_text};
+ghost use Rattle.ioam_cmd.specs.Answers.{status_of, line_text, domain_text, readings_text, fault_text};
 
+use crate::words::{field_text, read_why_text, table_text, why_text};
 use ioam_base::memory::NoMemory;
+use ioam_clock::ReadingsFault;
 use ioam_pcap::capture::CapFault;
 use ioam_run::Outcome;
+use ioam_topo::DomainFault;
 use std::alloc::Global;
 
 /// The program's exit status for an answer.
@@ -15,6 +18,8 @@ pub fn status(outcome: &Outcome) -> u8
         Outcome::Done => 0,
         Outcome::Usage => 1,
         Outcome::Names { .. } => 2,
+        Outcome::Domain { .. } => 3,
+        Outcome::Readings { .. } => 4,
         Outcome::Capture { .. } => 5,
         Outcome::Packets { .. } => 7,
         Outcome::ReadFault => 9,
@@ -31,6 +36,8 @@ pub fn line(alloc: Global, outcome: &Outcome) -> Result<String, NoMemory>
         Outcome::Done => Ok(String::from_str(alloc, "done")?),
         Outcome::Usage => Ok(String::from_str(alloc, "usage")?),
         Outcome::Names { name } => Ok(format!(in alloc; "names {}", name.text())?),
+        Outcome::Domain { fault } => domain_line(alloc, fault),
+        Outcome::Readings { fault } => readings_line(alloc, fault),
         Outcome::Capture { name, at, fault } => {
             let fault = fault_line(alloc, *fault)?;
             capture_line(alloc, name.text(), *at, fault.as_str())
@@ -40,6 +47,21 @@ pub fn line(alloc: Global, outcome: &Outcome) -> Result<String, NoMemory>
         Outcome::WriteFault => Ok(String::from_str(alloc, "write fault")?),
         Outcome::NoMemory => Ok(String::from_str(alloc, "no memory")?),
     }
+}
+
+// The line of a faulty domain file.
+fn domain_line(alloc: Global, fault: &DomainFault) -> Result<String, NoMemory>
+    ensures { IfOk result (λ line. string_bytes line ≡ domain_text fault.now) }
+{
+    let place = format!(in alloc; "domain {} {}", table_text(fault.table), fault.place)?;
+    Ok(format!(in alloc; "{} {} {}", place, field_text(fault.field), why_text(fault.why))?)
+}
+
+// The line of faulty readings.
+fn readings_line(alloc: Global, fault: &ReadingsFault) -> Result<String, NoMemory>
+    ensures { IfOk result (λ line. string_bytes line ≡ readings_text fault.now) }
+{
+    Ok(format!(in alloc; "readings {} {}", fault.line, read_why_text(fault.why))?)
 }
 
 // The line of a faulty capture.

@@ -8,6 +8,8 @@ pub enum Command {
     Filter,
     /// `paths IN REPORT`
     Paths,
+    /// `run DOMAIN READINGS WORKERS REPORT EXPORTS`, with one worker.
+    Run,
 }
 
 ghost use Rattle.std.specs.Prelude.{MatchOption};
@@ -20,6 +22,9 @@ pub fn parse(words: &[Name]) -> Option<Command>
     match words {
         [command, _, _, _] if command.text() == "filter" => Some(Command::Filter),
         [command, _, _] if command.text() == "paths" => Some(Command::Paths),
+        [command, _, _, workers, _, _] if command.text() == "run" && workers.text() == "1" => {
+            Some(Command::Run)
+        }
         _ => None,
     }
 }

@@ -4,6 +4,7 @@
 mod answer;
 mod command;
 mod program;
+mod words;
 
 use answer::{line, status};
 use ioam_base::memory::NoMemory;

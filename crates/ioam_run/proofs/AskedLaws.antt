@@ -50,6 +50,8 @@ whole_or_faulty at fault same = cc
 module _ (tells : Bool) (desk : Writing) (names : List (List ℕ)) (input : List ℕ) (told : IsTrue tells) where
   pub Asked-unique : (a b : Outcome) → Asked tells desk names input a → Asked tells desk names input b → a ≡ b
   Asked-unique outcome.Usage b x y = absurd x
+  Asked-unique (outcome.Domain why) b x y = absurd x
+  Asked-unique (outcome.Readings why) b x y = absurd x
   Asked-unique outcome.ReadFault b x y = absurd x
   Asked-unique outcome.WriteFault b x y = absurd x
   Asked-unique outcome.NoMemory b x y = absurd x
@@ -58,6 +60,8 @@ module _ (tells : Bool) (desk : Writing) (names : List (List ℕ)) (input : List
   Asked-unique outcome.Done (outcome.Packets limit) x y = absurd (too_long (holds desk input) Whole (y.2 told) (x.1 told))
   Asked-unique outcome.Done (outcome.Capture name at fault) x y = absurd (whole_or_faulty at fault (held_ending (holds desk input) Whole (Faulty at fault) (x.1 told) (y.2 told)))
   Asked-unique outcome.Done outcome.Usage x y = absurd y
+  Asked-unique outcome.Done (outcome.Domain why) x y = absurd y
+  Asked-unique outcome.Done (outcome.Readings why) x y = absurd y
   Asked-unique outcome.Done outcome.ReadFault x y = absurd y
   Asked-unique outcome.Done outcome.WriteFault x y = absurd y
   Asked-unique outcome.Done outcome.NoMemory x y = absurd y
@@ -68,6 +72,8 @@ module _ (tells : Bool) (desk : Writing) (names : List (List ℕ)) (input : List
   Asked-unique (outcome.Names name) (outcome.Packets limit) x y = absurd (not_apart names x.0 x.1 y.0)
   Asked-unique (outcome.Names name) (outcome.Capture other at fault) x y = absurd (not_apart names x.0 x.1 y.0)
   Asked-unique (outcome.Names name) outcome.Usage x y = absurd y
+  Asked-unique (outcome.Names name) (outcome.Domain why) x y = absurd y
+  Asked-unique (outcome.Names name) (outcome.Readings why) x y = absurd y
   Asked-unique (outcome.Names name) outcome.ReadFault x y = absurd y
   Asked-unique (outcome.Names name) outcome.WriteFault x y = absurd y
   Asked-unique (outcome.Names name) outcome.NoMemory x y = absurd y
@@ -76,6 +82,8 @@ module _ (tells : Bool) (desk : Writing) (names : List (List ℕ)) (input : List
   Asked-unique (outcome.Packets limit) (outcome.Packets other) x y = ap outcome.Packets (x.1 ∙ sym y.1)
   Asked-unique (outcome.Packets limit) (outcome.Capture name at fault) x y = absurd (too_long (holds desk input) (Faulty at fault) (x.2 told) (y.2 told))
   Asked-unique (outcome.Packets limit) outcome.Usage x y = absurd y
+  Asked-unique (outcome.Packets limit) (outcome.Domain why) x y = absurd y
+  Asked-unique (outcome.Packets limit) (outcome.Readings why) x y = absurd y
   Asked-unique (outcome.Packets limit) outcome.ReadFault x y = absurd y
   Asked-unique (outcome.Packets limit) outcome.WriteFault x y = absurd y
   Asked-unique (outcome.Packets limit) outcome.NoMemory x y = absurd y
@@ -87,6 +95,8 @@ module _ (tells : Bool) (desk : Writing) (names : List (List ℕ)) (input : List
       let named : name ≡ other = x.1 ∙ sym y.1 in
       cc
   Asked-unique (outcome.Capture name at fault) outcome.Usage x y = absurd y
+  Asked-unique (outcome.Capture name at fault) (outcome.Domain why) x y = absurd y
+  Asked-unique (outcome.Capture name at fault) (outcome.Readings why) x y = absurd y
   Asked-unique (outcome.Capture name at fault) outcome.ReadFault x y = absurd y
   Asked-unique (outcome.Capture name at fault) outcome.WriteFault x y = absurd y
   Asked-unique (outcome.Capture name at fault) outcome.NoMemory x y = absurd y
@@ -98,6 +108,8 @@ module _ (tells : Bool) (desk : Writing) (names : List (List ℕ)) (input : List
       → (answer ≡ asked) ⊎ (answer ≡ outcome.NoMemory)
   HasCause-asked old_in new_in new_out outcome.Done asked cause asks reads writes = inl (Asked-unique outcome.Done asked cause asks)
   HasCause-asked old_in new_in new_out outcome.Usage asked cause asks reads writes = absurd cause
+  HasCause-asked old_in new_in new_out (outcome.Domain why) asked cause asks reads writes = absurd cause
+  HasCause-asked old_in new_in new_out (outcome.Readings why) asked cause asks reads writes = absurd cause
   HasCause-asked old_in new_in new_out (outcome.Names name) asked cause asks reads writes = inl (Asked-unique (outcome.Names name) asked cause asks)
   HasCause-asked old_in new_in new_out (outcome.Capture name at fault) asked cause asks reads writes = inl (Asked-unique (outcome.Capture name at fault) asked cause asks)
   HasCause-asked old_in new_in new_out (outcome.Packets limit) asked cause asks reads writes = inl (Asked-unique (outcome.Packets limit) asked cause asks)
@@ -153,6 +165,8 @@ module _ (input output report : List ℕ) (old_in new_in : Reading) (old new : W
   Leaves-clean outcome.ReadFault leaves behind = ⊎_elim (λ unopened. absurd (omega (arith, unopened.0, behind)))
       (λ held. from_held (holds old input) (AreWhole (new_in.left old_in.side.slots)) output report new held.1) leaves
   Leaves-clean outcome.Usage leaves behind = absurd behind
+  Leaves-clean (outcome.Domain why) leaves behind = absurd behind
+  Leaves-clean (outcome.Readings why) leaves behind = absurd behind
   Leaves-clean (outcome.Names name) leaves behind = absurd behind
   Leaves-clean outcome.WriteFault leaves behind = absurd behind
   Leaves-clean outcome.NoMemory leaves behind = absurd behind

@@ -38,6 +38,8 @@ module _ {G : Type 0} (gathers : Bool → List Entry → List (List ℕ) → G �
   Stops-open outcome.WriteFault whole stops = absurd (whole tt)
   Stops-open outcome.NoMemory whole stops = absurd (whole tt)
   Stops-open outcome.Usage whole stops = absurd stops
+  Stops-open (outcome.Domain why) whole stops = absurd stops
+  Stops-open (outcome.Readings why) whole stops = absurd stops
   Stops-open (outcome.Names name) whole stops = absurd stops
 
   module _ (now : Writing) where
@@ -66,6 +68,8 @@ module _ {G : Type 0} (gathers : Bool → List Entry → List (List ℕ) → G �
       Finishes-written outcome.WriteFault whole stops = absurd (whole tt)
       Finishes-written outcome.NoMemory whole stops = absurd (whole tt)
       Finishes-written outcome.Usage whole stops = absurd stops
+      Finishes-written (outcome.Domain why) whole stops = absurd stops
+      Finishes-written (outcome.Readings why) whole stops = absurd stops
       Finishes-written (outcome.Names name) whole stops = absurd stops
 
     module _ (fronts : IsTrue tells → (base : ℕ) (names texts : List (List ℕ)) → AreTold tells mid_out base names tellers texts
@@ -83,6 +87,8 @@ module _ {G : Type 0} (gathers : Bool → List Entry → List (List ℕ) → G �
       Stops-sticks outcome.WriteFault whole stops = absurd (whole tt)
       Stops-sticks outcome.NoMemory whole stops = absurd (whole tt)
       Stops-sticks outcome.Usage whole stops = absurd stops
+      Stops-sticks (outcome.Domain why) whole stops = absurd stops
+      Stops-sticks (outcome.Readings why) whole stops = absurd stops
       Stops-sticks (outcome.Names name) whole stops = absurd stops
 
 -- the cause of each answer
@@ -120,6 +126,8 @@ module _ (tells : Bool) (start : Start) (Texts : Bool → List Entry → List (L
   Finishes-cause reads writes outcome.WriteFault finishes = omega (arith, finishes.0, writes)
   Finishes-cause reads writes outcome.NoMemory finishes = tt
   Finishes-cause reads writes outcome.Usage finishes = absurd finishes
+  Finishes-cause reads writes (outcome.Domain why) finishes = absurd finishes
+  Finishes-cause reads writes (outcome.Readings why) finishes = absurd finishes
   Finishes-cause reads writes (outcome.Names name) finishes = absurd finishes
 
 -- what the files hold
@@ -151,4 +159,6 @@ module _ (tells : Bool) (base : ℕ) (names : List (List ℕ)) (Texts : Bool →
   Finishes-leaves outcome.WriteFault finishes = fronts_held (finishes.1 told)
   Finishes-leaves outcome.NoMemory finishes = inr (fronts_held (finishes told))
   Finishes-leaves outcome.Usage finishes = absurd finishes
+  Finishes-leaves (outcome.Domain why) finishes = absurd finishes
+  Finishes-leaves (outcome.Readings why) finishes = absurd finishes
   Finishes-leaves (outcome.Names name) finishes = absurd finishes

@@ -44,6 +44,8 @@ module _ (tells : Bool) (names : List (List ℕ)) (input : List ℕ) (old_in : R
       → FileCause tells input old_in old_out new_in new_out answer → HasCause tells names input old_in old_out new_in new_out answer
   cause_of_file outcome.Done apart cause = (apart, cause)
   cause_of_file outcome.Usage apart cause = cause
+  cause_of_file (outcome.Domain why) apart cause = cause
+  cause_of_file (outcome.Readings why) apart cause = cause
   cause_of_file (outcome.Names name) apart cause = absurd cause
   cause_of_file (outcome.Capture name at fault) apart cause = (apart, cause.0, cause.1)
   cause_of_file (outcome.Packets limit) apart cause = (apart, cause.0, cause.1)

@@ -55,6 +55,8 @@ module _ (tells : Bool) (desk : Writing) (names : List (List ℕ)) (input : List
       × (IsTrue tells → IsSomeAnd (holds desk input) (IsInput (Faulty at fault)))
   Asked outcome.Done = AreApart names × (IsTrue tells → IsSomeAnd (holds desk input) (IsInput Whole))
   Asked outcome.Usage = ⊥
+  Asked (outcome.Domain why) = ⊥
+  Asked (outcome.Readings why) = ⊥
   Asked outcome.ReadFault = ⊥
   Asked outcome.WriteFault = ⊥
   Asked outcome.NoMemory = ⊥
@@ -66,6 +68,8 @@ module _ (tells : Bool) (input : List ℕ) (old_in : Reading) (old_out : Writing
   FileCause outcome.WriteFault = Rose old_out.side.faults new_out.side.faults
   FileCause outcome.NoMemory = ⊤
   FileCause outcome.Usage = ⊥
+  FileCause (outcome.Domain why) = ⊥
+  FileCause (outcome.Readings why) = ⊥
   FileCause (outcome.Names name) = ⊥
   FileCause outcome.Done = IsTrue tells → IsSomeAnd (holds old_out input) (IsInput Whole)
   FileCause (outcome.Packets limit) = (limit ≡ most_packets) × (IsTrue tells → IsSomeAnd (holds old_out input) IsLong)
@@ -78,6 +82,8 @@ module _ (tells : Bool) (names : List (List ℕ)) (input : List ℕ) (old_in : R
   HasCause outcome.WriteFault = Rose old_out.side.faults new_out.side.faults
   HasCause outcome.NoMemory = ⊤
   HasCause outcome.Usage = ⊥
+  HasCause (outcome.Domain why) = ⊥
+  HasCause (outcome.Readings why) = ⊥
   HasCause outcome.Done = Asked tells old_out names input outcome.Done
   HasCause (outcome.Names name) = Asked tells old_out names input (outcome.Names name)
   HasCause (outcome.Packets limit) = Asked tells old_out names input (outcome.Packets limit)
@@ -144,6 +150,8 @@ module _ (Texts : Bool → List Entry → List (List ℕ) → Type 0) (outputs :
     Leaves outcome.WriteFault = IsSomeAnd (holds old input) (HoldsFronts old new)
     Leaves outcome.NoMemory = (new ≡ old) ⊎ IsSomeAnd (holds old input) (HoldsFronts old new)
     Leaves outcome.Usage = new ≡ old
+    Leaves (outcome.Domain why) = new ≡ old
+    Leaves (outcome.Readings why) = new ≡ old
     Leaves (outcome.Names name) = new ≡ old
 
 -- the answer behind a capture that ends so
@@ -155,6 +163,8 @@ outcome_of name (Faulty at fault) = outcome.Capture name at fault
 abbrev pub IsDone : Outcome → Type 0
 IsDone outcome.Done = ⊤
 IsDone outcome.Usage = ⊥
+IsDone (outcome.Domain why) = ⊥
+IsDone (outcome.Readings why) = ⊥
 IsDone (outcome.Names name) = ⊥
 IsDone (outcome.Capture name at fault) = ⊥
 IsDone (outcome.Packets limit) = ⊥
@@ -169,6 +179,8 @@ IsBehindAll opened (outcome.Capture name at fault) = ⊤
 IsBehindAll opened (outcome.Packets limit) = ⊤
 IsBehindAll opened outcome.ReadFault = opened
 IsBehindAll opened outcome.Usage = ⊥
+IsBehindAll opened (outcome.Domain why) = ⊥
+IsBehindAll opened (outcome.Readings why) = ⊥
 IsBehindAll opened (outcome.Names name) = ⊥
 IsBehindAll opened outcome.WriteFault = ⊥
 IsBehindAll opened outcome.NoMemory = ⊥
@@ -176,6 +188,8 @@ IsBehindAll opened outcome.NoMemory = ⊥
 -- the answer comes before anything was opened
 abbrev pub OpensNothing : Outcome → Type 0
 OpensNothing outcome.Usage = ⊤
+OpensNothing (outcome.Domain why) = ⊥
+OpensNothing (outcome.Readings why) = ⊥
 OpensNothing (outcome.Names name) = ⊤
 OpensNothing outcome.Done = ⊥
 OpensNothing (outcome.Capture name at fault) = ⊥

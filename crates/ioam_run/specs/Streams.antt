@@ -117,6 +117,8 @@ module _ (tells : Bool) (start : Start) (Texts : Bool → List Entry → List (L
     Stops outcome.WriteFault = Rose old_out.side.faults new_out.side.faults × Sticks new_out
     Stops outcome.NoMemory = Sticks new_out
     Stops outcome.Usage = ⊥
+    Stops (outcome.Domain why) = ⊥
+    Stops (outcome.Readings why) = ⊥
     Stops (outcome.Names name) = ⊥
 
   -- what a run over opened files answered
@@ -133,6 +135,8 @@ module _ (tells : Bool) (start : Start) (Texts : Bool → List Entry → List (L
     Finishes outcome.WriteFault = Rose old_out.side.faults new_out.side.faults × Sticks new_out
     Finishes outcome.NoMemory = Sticks new_out
     Finishes outcome.Usage = ⊥
+    Finishes (outcome.Domain why) = ⊥
+    Finishes (outcome.Readings why) = ⊥
     Finishes (outcome.Names name) = ⊥
 
 -- the answer comes where an output could not be written, or no memory could be had
@@ -141,6 +145,8 @@ IsBroken outcome.WriteFault = ⊤
 IsBroken outcome.NoMemory = ⊤
 IsBroken outcome.Done = ⊥
 IsBroken outcome.Usage = ⊥
+IsBroken (outcome.Domain why) = ⊥
+IsBroken (outcome.Readings why) = ⊥
 IsBroken (outcome.Names name) = ⊥
 IsBroken (outcome.Capture name at fault) = ⊥
 IsBroken (outcome.Packets limit) = ⊥

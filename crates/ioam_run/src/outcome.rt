@@ -2,8 +2,10 @@ ghost use Rattle.std.specs.Prelude.{◌≡◌, ◌⊎◌};
 ghost use Rattle.ioam_pcap.specs.Reader.{ending_of as ending};
 ghost use Rattle.ioam_run.specs.Run.{outcome_of};
 
+use ioam_clock::ReadingsFault;
 use ioam_desk::Name;
 use ioam_pcap::capture::CapFault;
+use ioam_topo::DomainFault;
 use std::alloc::Global;
 
 /// What a run answers. Its numbers are the program's exit statuses.
@@ -16,6 +18,14 @@ pub enum Outcome {
     /// Two files have the same name: this one equals an earlier one.
     Names {
         name: Name,
+    },
+    /// The domain file is faulty: its first fault.
+    Domain {
+        fault: DomainFault,
+    },
+    /// The readings are faulty: their first fault.
+    Readings {
+        fault: ReadingsFault,
     },
     /// A capture's head or record is faulty, at this octet of the file.
     Capture {

@@ -41,9 +41,13 @@ pub fn output_names(
 pub fn file_names(
     alloc: Global,
     domain: &Domain,
-    words: &[&Name],
+    domain_file: &Name,
+    readings: &Name,
+    report: &Name,
+    exports: &Name,
 ) -> Result<Vec<Name>, NoMemory>
-    ensures { IfOk result (λ names. names.items ≡ file_names (ports domain.now) words.now) }
+    ensures { IfOk result (λ names. names.items
+        ≡ file_names (ports domain.now) (domain_file.now ∷ readings.now ∷ report.now ∷ exports.now ∷ [])) }
 {
     Err(NoMemory)
 }

@@ -1,0 +1,65 @@
+-- What the top call promises of each command, in the words of the command's own crate. `tells` says
+-- that the desk tells what its files hold.
+use Rattle.std.specs.Prelude.{ℕ, ◌<◌, ⊤, Bool, IsTrue, IsSomeAnd, List, [], ◌∷◌}
+use Rattle.ioam_desk.specs.Asked.{AsksFront}
+use Rattle.ioam_desk.specs.Desk.{Reading, Writing, holds}
+use Rattle.ioam_domain.specs.Run as domain
+use Rattle.ioam_domain.specs.Run.{domain_file, readings_file}
+use Rattle.ioam_outputs.specs.Names.{name_at}
+use Rattle.ioam_run.specs.FilterText.{FilterTexts}
+use Rattle.ioam_run.specs.PathsText.{PathsTexts}
+use Rattle.ioam_run.specs.Run as capture
+use Rattle.ioam_run.specs.Run.{IsBehindAll, IsCleanCapture, file_names, input_name, output_names}
+use Rattle.ioam_run.specs.declared.outcome.Outcome.{Outcome}
+use Rattle.ioam_cmd.specs.declared.command.Command.{Command}
+use Rattle.ioam_cmd.specs.declared.command.Command.TheVariants.{Filter, Paths, Run}
+
+-- which answer the words and the files ask for, where nothing fails
+abbrev pub Asked : Bool → List (List ℕ) → Writing → Command → Outcome → Type 0
+Asked tells words desk Filter answer = capture.Asked tells desk (file_names words) (input_name words) answer
+Asked tells words desk Paths answer = capture.Asked tells desk (file_names words) (input_name words) answer
+Asked tells words desk Run answer = domain.Asked desk words answer
+
+module _ (tells : Bool) (words : List (List ℕ)) (old_in new_in : Reading) (old new : Writing) where
+  -- the cause of each answer
+  abbrev pub HasCause : Command → Outcome → Type 0
+  HasCause Filter answer = capture.HasCause tells (file_names words) (input_name words) old_in old new_in new answer
+  HasCause Paths answer = capture.HasCause tells (file_names words) (input_name words) old_in old new_in new answer
+  HasCause Run answer = IsTrue tells → domain.HasCause words old_in new_in old new answer
+
+  -- what the files hold behind each answer
+  abbrev pub Leaves : Command → Outcome → Type 0
+  Leaves Filter answer = capture.Leaves FilterTexts (output_names words) (input_name words) old_in new_in old new answer
+  Leaves Paths answer = capture.Leaves PathsTexts (output_names words) (input_name words) old_in new_in old new answer
+  Leaves Run answer = domain.Leaves words old_in new_in old new answer
+
+  -- the names that were given to the opening calls; those out of a domain file are spoken of where the
+  -- desk tells what it holds
+  abbrev pub AsksIn : Command → Type 0
+  AsksIn Filter = AsksFront old_in.side.asked new_in.side.asked (input_name words ∷ [])
+  AsksIn Paths = AsksFront old_in.side.asked new_in.side.asked (input_name words ∷ [])
+  AsksIn Run = ((names : List (List ℕ)) × AsksFront old_in.side.asked new_in.side.asked (domain_file words ∷ readings_file words ∷ names))
+      × (IsTrue tells → domain.AsksIn words old_in new_in old new)
+
+  abbrev pub AsksOut : Command → Type 0
+  AsksOut Filter = AsksFront old.side.asked new.side.asked (output_names words)
+  AsksOut Paths = AsksFront old.side.asked new.side.asked (output_names words)
+  AsksOut Run = IsTrue tells → domain.AsksOut words old_in new_in old new
+
+  -- each capture was read to its end
+  abbrev pub AreDrained : Command → Type 0
+  AreDrained Filter = IsTrue (new_in.ended old_in.side.slots)
+  AreDrained Paths = IsTrue (new_in.ended old_in.side.slots)
+  AreDrained Run = domain.AreDrained words old_in new_in old new
+
+  -- the answer comes once the outputs were written
+  abbrev pub AreWritten : Command → Outcome → Type 0
+  AreWritten Filter answer = IsBehindAll (old_in.side.slots < new_in.side.slots) answer
+  AreWritten Paths answer = IsBehindAll (old_in.side.slots < new_in.side.slots) answer
+  AreWritten Run answer = IsBehindAll (old.side.slots < new.side.slots) answer
+
+  -- each packet in a capture of what leaves a domain has a whole header chain without an IOAM option
+  abbrev pub IsBounded : Command → Type 0
+  IsBounded Filter = IsSomeAnd (holds new (name_at words 2)) IsCleanCapture
+  IsBounded Paths = ⊤
+  IsBounded Run = domain.IsBounded words old_in new_in old new

@@ -1,0 +1,152 @@
+-- At most one answer is asked for.
+use Rattle.std.proofs.Common.{◌≡◌, ℕ, ◌<◌, ◌≤◌, ◌⊎◌, IsTrue, List, length, Option, refl, sym, ◌∙◌, ap, subst, inl, inr, ⊎_elim, arith}
+use Rattle.std.specs.Prelude.{map}
+use Rattle.std.proofs.lemmas.Bool.{cases_lt}
+use Rattle.ioam_desk.specs.Desk.{Reading, Writing, Rose, holds}
+use Rattle.ioam_merge.specs.Merging.{FilesArrive, FilesBegin}
+use Rattle.ioam_outputs.specs.Names.{AreApart, IsFirstRepeat, name_at}
+use Rattle.ioam_pcap.specs.declared.capture.CapFault.{CapFault}
+use Rattle.ioam_pcap.specs.declared.turns.Turn.{Turn}
+use Rattle.ioam_pcap.specs.declared.turns.Turn.TheVariants.{Over, Broken}
+use Rattle.ioam_run.specs.declared.outcome.Outcome.{Outcome}
+use Rattle.ioam_run.specs.declared.outcome.Outcome.TheVariants as outcome
+use Rattle.ioam_topo.specs.File.{Agree}
+use Rattle.ioam_topo.specs.declared.domain.Domain.{Domain}
+use Rattle.ioam_domain.specs.Run.{HasCause, Asked, IsSet, IsReady, Arrives, Exceeds, contents, run_files, run_inputs}
+use Rattle.ioam_domain.proofs.SameLaws.{FilesArrive-unique, FilesBegin-few, one_set, one_domain_fault, fault_or_set, fault_or_readings, one_readings_fault, readings_or_set, same_files, same_inputs}
+
+first_unique : (names : List (List ℕ)) (a b : ℕ) → IsFirstRepeat names a → IsFirstRepeat names b → a ≡ b
+first_unique names a b x y = ⊎_elim (λ below. absurd (y.none_before a below x.repeats))
+    (λ not_below. ⊎_elim (λ above. absurd (x.none_before b above y.repeats)) (λ not_above. omega (arith, not_below, not_above)) (cases_lt b a))
+    (cases_lt a b)
+
+broken_or_over : (place at : ℕ) (fault : CapFault) → Broken place at fault ≡ Over → ⊥
+broken_or_over place at fault same = cc
+
+broken_parts : (p q a b : ℕ) (f g : CapFault) → Broken p a f ≡ Broken q b g → (p ≡ q) × (a ≡ b) × (f ≡ g)
+broken_parts p q a b f g same = (cc, cc, cc)
+
+module _ (desk : Writing) (words : List (List ℕ)) where
+  agree : (a b : Domain) → IsReady desk words a → IsReady desk words b → Agree a b
+  agree a b x y = one_set desk words a b x.set y.set
+
+  -- what the captures of the one hold is what those of the other do
+  same_contents : (a b : Domain) → Agree a b → contents desk words a ≡ contents desk words b
+  same_contents a b same = ap (λ (ns : List (List ℕ)). map (holds desk) ns) (same_inputs a b same)
+
+  one_name : (a b : Domain) (name other : List ℕ) → IsSet desk words a → IsSet desk words b → (at place : ℕ) → IsFirstRepeat (run_files words a) at
+      → IsFirstRepeat (run_files words b) place → name ≡ name_at (run_files words a) at → other ≡ name_at (run_files words b) place → name ≡ other
+  one_name a b name other x y at place first second is also =
+      let same = same_files words a b (one_set desk words a b x y) in
+      let here = first_unique (run_files words b) at place (subst (λ ns. IsFirstRepeat ns at) same first) second in
+      is ∙ ap (λ ns. name_at ns at) same ∙ ap (name_at (run_files words b)) here ∙ sym also
+
+  named_or_ready : (a b : Domain) (at : ℕ) → IsSet desk words a → IsFirstRepeat (run_files words a) at → IsReady desk words b → ⊥
+  named_or_ready a b at x first y =
+      let same = same_files words a b (one_set desk words a b x y.set) in
+      let there = subst (λ ns. IsFirstRepeat ns at) same first in
+      y.apart at there.inside there.repeats
+
+  one_turn : (a b : Domain) → IsReady desk words a → IsReady desk words b → (s t : Turn) → Arrives desk words a s → Arrives desk words b t → s ≡ t
+  one_turn a b x y s t first second =
+      let same = same_contents a b (agree a b x y) in
+      (FilesArrive-unique (contents desk words b) first.taken s second.taken t
+      (subst (λ cs. FilesArrive cs first.taken s) same first.arrive) second.arrive).1
+
+  exceeds_or_arrives : (a b : Domain) → IsReady desk words a → IsReady desk words b → (t : Turn) → Exceeds desk words a → Arrives desk words b t → ⊥
+  exceeds_or_arrives a b x y t first second =
+      let agrees = agree a b x y in
+      let same = same_contents a b agrees in
+      let few = FilesBegin-few (contents desk words b) first.taken second.taken t (subst (λ cs. FilesBegin cs first.taken) same first.begin) second.arrive in
+      omega (arith, few, first.many, second.few, agrees.packets)
+
+  one_capture : (a b : Domain) → IsReady desk words a → IsReady desk words b → (name other : List ℕ) (p q at place : ℕ) (fault cause : CapFault)
+      → name ≡ name_at (run_inputs a) p → other ≡ name_at (run_inputs b) q → Arrives desk words a (Broken p at fault) → Arrives desk words b (Broken q place cause)
+      → outcome.Capture name at fault ≡ outcome.Capture other place cause
+  one_capture a b x y name other p q at place fault cause is also first second =
+      let parts = broken_parts p q at place fault cause (one_turn a b x y (Broken p at fault) (Broken q place cause) first second) in
+      let named : name ≡ other = is ∙ ap (λ ns. name_at ns p) (same_inputs a b (agree a b x y)) ∙ ap (name_at (run_inputs b)) parts.0 ∙ sym also in
+      let there : at ≡ place = parts.1 in
+      let why : fault ≡ cause = parts.2 in
+      cc
+
+  pub Asked-unique : (a b : Outcome) → Asked a → Asked b → a ≡ b
+  Asked-unique outcome.Usage b x y = absurd x
+  Asked-unique outcome.ReadFault b x y = absurd x
+  Asked-unique outcome.WriteFault b x y = absurd x
+  Asked-unique outcome.NoMemory b x y = absurd x
+  Asked-unique (outcome.Domain f) outcome.Usage x y = absurd y
+  Asked-unique (outcome.Domain f) outcome.ReadFault x y = absurd y
+  Asked-unique (outcome.Domain f) outcome.WriteFault x y = absurd y
+  Asked-unique (outcome.Domain f) outcome.NoMemory x y = absurd y
+  Asked-unique (outcome.Domain f) (outcome.Domain g) x y = ap outcome.Domain (one_domain_fault desk words f g x y)
+  Asked-unique (outcome.Domain f) (outcome.Readings g) x y = absurd (fault_or_readings desk words f g x y)
+  Asked-unique (outcome.Domain f) (outcome.Names other) x y = absurd (fault_or_set desk words y.0 f x y.1)
+  Asked-unique (outcome.Domain f) (outcome.Packets most) x y = absurd (fault_or_set desk words y.0 f x y.1.set)
+  Asked-unique (outcome.Domain f) (outcome.Capture other place cause) x y = absurd (fault_or_set desk words y.0 f x y.1.set)
+  Asked-unique (outcome.Domain f) outcome.Done x y = absurd (fault_or_set desk words y.0 f x y.1.set)
+  Asked-unique (outcome.Readings f) outcome.Usage x y = absurd y
+  Asked-unique (outcome.Readings f) outcome.ReadFault x y = absurd y
+  Asked-unique (outcome.Readings f) outcome.WriteFault x y = absurd y
+  Asked-unique (outcome.Readings f) outcome.NoMemory x y = absurd y
+  Asked-unique (outcome.Readings f) (outcome.Domain g) x y = absurd (fault_or_readings desk words g f y x)
+  Asked-unique (outcome.Readings f) (outcome.Readings g) x y = ap outcome.Readings (one_readings_fault desk words f g x y)
+  Asked-unique (outcome.Readings f) (outcome.Names other) x y = absurd (readings_or_set desk words y.0 f x y.1)
+  Asked-unique (outcome.Readings f) (outcome.Packets most) x y = absurd (readings_or_set desk words y.0 f x y.1.set)
+  Asked-unique (outcome.Readings f) (outcome.Capture other place cause) x y = absurd (readings_or_set desk words y.0 f x y.1.set)
+  Asked-unique (outcome.Readings f) outcome.Done x y = absurd (readings_or_set desk words y.0 f x y.1.set)
+  Asked-unique (outcome.Names name) outcome.Usage x y = absurd y
+  Asked-unique (outcome.Names name) outcome.ReadFault x y = absurd y
+  Asked-unique (outcome.Names name) outcome.WriteFault x y = absurd y
+  Asked-unique (outcome.Names name) outcome.NoMemory x y = absurd y
+  Asked-unique (outcome.Names name) (outcome.Domain g) x y = absurd (fault_or_set desk words x.0 g y x.1)
+  Asked-unique (outcome.Names name) (outcome.Readings g) x y = absurd (readings_or_set desk words x.0 g y x.1)
+  Asked-unique (outcome.Names name) (outcome.Names other) x y = ap outcome.Names (one_name x.0 y.0 name other x.1 y.1 x.2.0 y.2.0 x.2.1 y.2.1 x.2.2 y.2.2)
+  Asked-unique (outcome.Names name) (outcome.Packets most) x y = absurd (named_or_ready x.0 y.0 x.2.0 x.1 x.2.1 y.1)
+  Asked-unique (outcome.Names name) (outcome.Capture other place cause) x y = absurd (named_or_ready x.0 y.0 x.2.0 x.1 x.2.1 y.1)
+  Asked-unique (outcome.Names name) outcome.Done x y = absurd (named_or_ready x.0 y.0 x.2.0 x.1 x.2.1 y.1)
+  Asked-unique (outcome.Packets limit) outcome.Usage x y = absurd y
+  Asked-unique (outcome.Packets limit) outcome.ReadFault x y = absurd y
+  Asked-unique (outcome.Packets limit) outcome.WriteFault x y = absurd y
+  Asked-unique (outcome.Packets limit) outcome.NoMemory x y = absurd y
+  Asked-unique (outcome.Packets limit) (outcome.Domain g) x y = absurd (fault_or_set desk words x.0 g y x.1.set)
+  Asked-unique (outcome.Packets limit) (outcome.Readings g) x y = absurd (readings_or_set desk words x.0 g y x.1.set)
+  Asked-unique (outcome.Packets limit) (outcome.Names other) x y = absurd (named_or_ready y.0 x.0 y.2.0 y.1 y.2.1 x.1)
+  Asked-unique (outcome.Packets limit) (outcome.Packets most) x y = ap outcome.Packets (x.2 ∙ (agree x.0 y.0 x.1 y.1).packets ∙ sym y.2)
+  Asked-unique (outcome.Packets limit) (outcome.Capture other place cause) x y = absurd (exceeds_or_arrives x.0 y.0 x.1 y.1 _ x.3 y.2.2)
+  Asked-unique (outcome.Packets limit) outcome.Done x y = absurd (exceeds_or_arrives x.0 y.0 x.1 y.1 _ x.3 y.2)
+  Asked-unique (outcome.Capture name at fault) outcome.Usage x y = absurd y
+  Asked-unique (outcome.Capture name at fault) outcome.ReadFault x y = absurd y
+  Asked-unique (outcome.Capture name at fault) outcome.WriteFault x y = absurd y
+  Asked-unique (outcome.Capture name at fault) outcome.NoMemory x y = absurd y
+  Asked-unique (outcome.Capture name at fault) (outcome.Domain g) x y = absurd (fault_or_set desk words x.0 g y x.1.set)
+  Asked-unique (outcome.Capture name at fault) (outcome.Readings g) x y = absurd (readings_or_set desk words x.0 g y x.1.set)
+  Asked-unique (outcome.Capture name at fault) (outcome.Names other) x y = absurd (named_or_ready y.0 x.0 y.2.0 y.1 y.2.1 x.1)
+  Asked-unique (outcome.Capture name at fault) (outcome.Packets most) x y = absurd (exceeds_or_arrives y.0 x.0 y.1 x.1 _ y.3 x.2.2)
+  Asked-unique (outcome.Capture name at fault) (outcome.Capture other place cause) x y = one_capture x.0 y.0 x.1 y.1 name other x.2.0 y.2.0 at place fault cause x.2.1 y.2.1 x.2.2 y.2.2
+  Asked-unique (outcome.Capture name at fault) outcome.Done x y = absurd (broken_or_over _ _ _ (one_turn x.0 y.0 x.1 y.1 _ _ x.2.2 y.2))
+  Asked-unique outcome.Done outcome.Usage x y = absurd y
+  Asked-unique outcome.Done outcome.ReadFault x y = absurd y
+  Asked-unique outcome.Done outcome.WriteFault x y = absurd y
+  Asked-unique outcome.Done outcome.NoMemory x y = absurd y
+  Asked-unique outcome.Done (outcome.Domain g) x y = absurd (fault_or_set desk words x.0 g y x.1.set)
+  Asked-unique outcome.Done (outcome.Readings g) x y = absurd (readings_or_set desk words x.0 g y x.1.set)
+  Asked-unique outcome.Done (outcome.Names other) x y = absurd (named_or_ready y.0 x.0 y.2.0 y.1 y.2.1 x.1)
+  Asked-unique outcome.Done (outcome.Packets most) x y = absurd (exceeds_or_arrives y.0 x.0 y.1 x.1 _ y.3 x.2)
+  Asked-unique outcome.Done (outcome.Capture other place cause) x y = absurd (broken_or_over _ _ _ (one_turn y.0 x.0 y.1 x.1 _ _ y.2.2 x.2))
+  Asked-unique outcome.Done outcome.Done x y = refl
+
+  -- what is asked for is answered, unless a call failed or no memory could be had
+  pub HasCause-asked : (old_in new_in : Reading) (new : Writing) (answer asked : Outcome) → HasCause words old_in new_in desk new answer → Asked desk words asked
+      → (Rose old_in.side.faults new_in.side.faults → ⊥) → (Rose desk.side.faults new.side.faults → ⊥)
+      → (answer ≡ asked) ⊎ (answer ≡ outcome.NoMemory)
+  HasCause-asked old_in new_in new outcome.Done asked cause asks reads writes = inl (Asked-unique outcome.Done asked cause asks)
+  HasCause-asked old_in new_in new outcome.Usage asked cause asks reads writes = absurd cause
+  HasCause-asked old_in new_in new (outcome.Names name) asked cause asks reads writes = inl (Asked-unique (outcome.Names name) asked cause asks)
+  HasCause-asked old_in new_in new (outcome.Domain f) asked cause asks reads writes = inl (Asked-unique (outcome.Domain f) asked cause asks)
+  HasCause-asked old_in new_in new (outcome.Readings f) asked cause asks reads writes = inl (Asked-unique (outcome.Readings f) asked cause asks)
+  HasCause-asked old_in new_in new (outcome.Capture name at fault) asked cause asks reads writes = inl (Asked-unique (outcome.Capture name at fault) asked cause asks)
+  HasCause-asked old_in new_in new (outcome.Packets limit) asked cause asks reads writes = inl (Asked-unique (outcome.Packets limit) asked cause asks)
+  HasCause-asked old_in new_in new outcome.ReadFault asked cause asks reads writes = absurd (reads cause)
+  HasCause-asked old_in new_in new outcome.WriteFault asked cause asks reads writes = absurd (writes cause)
+  HasCause-asked old_in new_in new outcome.NoMemory asked cause asks reads writes = inr refl

@@ -1,0 +1,92 @@
+-- From how a run ended whose domain and readings were read to what the whole run answers and leaves.
+use Rattle.std.proofs.Common.{◌≡◌, ℕ, ◌+◌, ◌<◌, ◌⊎◌, Bool, IsTrue, List, [], ◌∷◌, ◌++◌, length, refl, sym, ◌∙◌, ap, subst, inl, inr, elim, take, append_assoc, length-append, arith}
+use Rattle.ioam_desk.specs.Asked.{AsksFront}
+use Rattle.ioam_desk.specs.Desk.{Side, Reading, Writing, Rose}
+use Rattle.ioam_outputs.specs.Names.{AreApart}
+use Rattle.ioam_outputs.specs.Told.{opened_each}
+use Rattle.ioam_merge.specs.Merging.{start_of}
+use Rattle.ioam_run.specs.declared.outcome.Outcome.{Outcome}
+use Rattle.ioam_run.specs.declared.outcome.Outcome.TheVariants as outcome
+use Rattle.ioam_setting.specs.Names.{input_ports}
+use Rattle.ioam_topo.specs.Domain.{ports}
+use Rattle.ioam_topo.specs.declared.domain.Domain.{Domain}
+use Rattle.ioam_traffic.specs.Traffic.{Start, HoldsAll, HoldsFronts, ArePassed, AreOpened, Arrive, Finishes}
+use Rattle.ioam_domain.specs.Ends.{Ends, begins}
+use Rattle.ioam_domain.specs.Run.{HasCause, Leaves, OfTraffic, StopsEarly, AsksIn, AreDrained, IsSet, IsReady, Exceeds, domain_file, readings_file, run_files, run_inputs, run_outputs, start_for}
+
+-- the two files were opened by two slots
+module _ (words : List (List ℕ)) (old_in mid_in : Reading) (opened : mid_in.side ≡ opened_each old_in.side (domain_file words ∷ readings_file words ∷ [])) where
+  pub same_faults : mid_in.side.faults ≡ old_in.side.faults
+  same_faults = ap (λ (s : Side). s.faults) opened
+
+  two_slots : mid_in.side.slots ≡ old_in.side.slots + 2
+  two_slots = ap (λ (s : Side). s.slots) opened
+
+  pub same_start : (old : Writing) (domain : Domain) → begins words domain mid_in old ≡ start_for words old_in old domain
+  same_start old domain = ap (λ (base : ℕ). record {
+    domain = domain;
+    ports = input_ports (ports domain);
+    lanes = start_of base old (run_inputs domain);
+    names = run_outputs words domain;
+  }) two_slots
+
+  module _ (tells : Bool) (new_in : Reading) (old new : Writing) (domain : Domain) (told : IsTrue tells) (set : IsSet old words domain) where
+    ready : AreApart (run_files words domain) → IsReady old words domain
+    ready apart = record { set = set; apart = apart }
+
+    of_traffic : (P : Start → Type 0) → AreApart (run_files words domain) → P (begins words domain mid_in old) → OfTraffic words old_in new_in old new P
+    of_traffic P apart holds = (domain, ready apart, subst P (same_start old domain) holds)
+
+    pub Ends-cause : (answer : Outcome) → Ends tells words domain mid_in new_in old new answer → HasCause words old_in new_in old new answer
+    Ends-cause outcome.Done ends =
+        let holds = (ends.1 told).0 in
+        (domain, ready ends.0, record { taken = holds.taken; arrive = holds.are; few = holds.few })
+    Ends-cause (outcome.Capture name at fault) ends =
+        let holds = ends.1.2.1 told in
+        (domain, ready ends.0, (ends.1.0, ends.1.1, record { taken = holds.taken; arrive = holds.are; few = holds.few }))
+    Ends-cause (outcome.Packets limit) ends =
+        let passed = (ends.2 told).are in
+        let more = (ends.2 told).taken in (
+          domain,
+          ready ends.0,
+          ends.1,
+          record { taken = more ++ passed.next ∷ []; begin = passed.begin; many = omega (arith, passed.all, length-append more (passed.next ∷ [])) },
+        )
+    Ends-cause outcome.ReadFault ends = omega (arith, ends.1.0, same_faults)
+    Ends-cause outcome.WriteFault ends = ends.1.0
+    Ends-cause outcome.NoMemory ends = tt
+    Ends-cause outcome.Usage ends = absurd ends
+    Ends-cause (outcome.Names name) ends = (domain, set, ends.0)
+    Ends-cause (outcome.Domain fault) ends = absurd ends
+    Ends-cause (outcome.Readings fault) ends = absurd ends
+
+    pub Ends-leaves : (answer : Outcome) → Ends tells words domain mid_in new_in old new answer → Leaves words old_in new_in old new answer
+    Ends-leaves outcome.Done ends = of_traffic (λ start. HoldsAll start (Arrive start _) new) ends.0 (ends.1 told).0
+    Ends-leaves (outcome.Capture name at fault) ends =
+        of_traffic (λ start. (place : ℕ) × HoldsAll start (Arrive start _) new) ends.0 (ends.1.0, ends.1.2.1 told)
+    Ends-leaves (outcome.Packets limit) ends = of_traffic (λ start. HoldsAll start (ArePassed start) new) ends.0 (ends.2 told)
+    Ends-leaves outcome.ReadFault ends = elim ends.1.1 [
+      | inl early ↦ inl (inr (of_traffic (λ start. new_in.side.slots < start.lanes.base + length start.lanes.contents) ends.0 early.0), early.1)
+      | inr late ↦ inr (of_traffic (λ start. AreOpened start new_in × HoldsAll start _ new) ends.0 (late.0, late.1 told))
+    ]
+    Ends-leaves outcome.WriteFault ends = of_traffic (λ start. HoldsFronts start old new) ends.0 (ends.1.1 told)
+    Ends-leaves outcome.NoMemory (inl same) = inl same
+    Ends-leaves outcome.NoMemory (inr (apart, inl same)) = inl same
+    Ends-leaves outcome.NoMemory (inr (apart, inr fronts)) = inr (of_traffic (λ start. HoldsFronts start old new) apart (fronts told))
+    Ends-leaves outcome.Usage ends = absurd ends
+    Ends-leaves (outcome.Names name) ends = ends.1.1
+    Ends-leaves (outcome.Domain fault) ends = absurd ends
+    Ends-leaves (outcome.Readings fault) ends = absurd ends
+
+    pub Ends-drained : Ends tells words domain mid_in new_in old new outcome.Done → AreDrained words old_in new_in old new
+    Ends-drained ends = of_traffic (λ start. (k : ℕ) → k < length start.lanes.contents → IsTrue (new_in.ended (start.lanes.base + k))) ends.0 (ends.1 told).1
+
+-- names that were asked for, and then others
+pub asks_more : (start mid new : List (List ℕ)) (first second : List ℕ) (names : List (List ℕ)) → mid ≡ start ++ first ∷ second ∷ []
+    → AsksFront mid new names → AsksFront start new (first ∷ second ∷ names)
+asks_more start mid new first second names is (count, asked) =
+    (2 + count, asked ∙ ap (λ (m : List (List ℕ)). m ++ take count names) is ∙ append_assoc start (first ∷ second ∷ []) (take count names))
+
+-- both were asked for, and no others
+pub asks_both : (start new : List (List ℕ)) (first second : List ℕ) → new ≡ start ++ first ∷ second ∷ [] → AsksFront start new (first ∷ second ∷ [])
+asks_both start new first second is = (2, is)

@@ -1,0 +1,4 @@
+mod EndsLaws
+mod SameLaws
+mod AskedLaws
+mod BoundLaws

@@ -1,0 +1,147 @@
+-- What a desk holds asks for one domain, and its captures for one order of arrivals.
+use Rattle.std.proofs.Common.{◌≡◌, ℕ, ◌+◌, ◌<◌, ◌≤◌, Bool, true, IsSomeAnd, List, [], ◌∷◌, ◌++◌, length, Option, Some, None, Ok, Err, refl, sym, ◌∙◌, ap, subst, length-append, arith}
+use Rattle.std.specs.Prelude.{map}
+use Rattle.std.specs.List.{AllZip}
+use Rattle.std.proofs.lemmas.Option.{same_Some}
+use Rattle.ioam_clock.specs.Reading.{readings_of, node_names}
+use Rattle.ioam_clock.specs.declared.fault.ReadingsFault.{ReadingsFault}
+use Rattle.ioam_clock.specs.declared.sample.Sample.{Sample}
+use Rattle.ioam_desk.specs.Desk.{Writing, holds}
+use Rattle.ioam_merge.specs.Merging.{Begins, IsFile, FilesArrive, FilesBegin}
+use Rattle.ioam_pcap.specs.Arrives.{Handed, Arrives}
+use Rattle.ioam_pcap.specs.Merge.{Arrival}
+use Rattle.ioam_pcap.specs.declared.turns.Turn.{Turn}
+use Rattle.ioam_pcap.proofs.ArrivesLaws.{Arrives-unique}
+use Rattle.ioam_pcap.proofs.MergeLaws.{TakesAll-total, Takes-append}
+use Rattle.ioam_setting.specs.Names.{input_names, output_names, file_names}
+use Rattle.ioam_setting.specs.Setting.{HasDomainFault, HasReadingsFault}
+use Rattle.ioam_topo.specs.Domain.{nodes, ports}
+use Rattle.ioam_topo.specs.File.{IsDomainOf, HasFault, Agree}
+use Rattle.ioam_topo.specs.NodeRead.{name_of_node}
+use Rattle.ioam_topo.specs.declared.domain.Domain.{Domain}
+use Rattle.ioam_topo.specs.declared.fault.DomainFault.{DomainFault}
+use Rattle.ioam_topo.specs.declared.parts.Node.{Node}
+use Rattle.ioam_topo.specs.declared.parts.Port.{Port}
+use Rattle.ioam_topo.proofs.FileLaws.{one_domain, one_fault, domain_or_fault}
+use Rattle.ioam_domain.specs.Run.{IsSet, domain_file, readings_file, word_files, run_files, run_inputs}
+
+-- what is held is both
+both : (held : Option (List ℕ)) (P Q : List ℕ → Type 0) → IsSomeAnd held P → IsSomeAnd held Q → (octets : List ℕ) × P octets × Q octets
+both None P Q x y = absurd x
+both (Some octets) P Q x y = (octets, x, y)
+
+same_handed : (f g : Handed) → f.octets ≡ g.octets → f.ended ≡ g.ended → f ≡ g
+same_handed f g octets ended = cc
+
+same_file : (content : Option (List ℕ)) (f g : Handed) → IsFile content f → IsFile content g → f ≡ g
+same_file content f g x y = same_handed f g (same_Some f.octets g.octets (sym x.0 ∙ y.0)) (x.1 ∙ sym y.1)
+
+files_unique : (contents : List (Option (List ℕ))) (fs gs : List Handed) → AllZip IsFile contents fs → AllZip IsFile contents gs → fs ≡ gs
+files_unique [] [] [] x y = refl
+files_unique [] [] (g ∷ gs) x y = absurd y
+files_unique [] (f ∷ fs) gs x y = absurd x
+files_unique (c ∷ cs) [] gs x y = absurd x
+files_unique (c ∷ cs) (f ∷ fs) [] x y = absurd y
+files_unique (c ∷ cs) (f ∷ fs) (g ∷ gs) x y =
+    let first = same_file c f g x.0 y.0 in
+    let others = files_unique cs fs gs x.1 y.1 in
+    cc
+
+-- one order of arrivals, and one turn behind them
+pub FilesArrive-unique : (contents : List (Option (List ℕ))) (xs : List Arrival) (a : Turn) (ys : List Arrival) (b : Turn)
+    → FilesArrive contents xs a → FilesArrive contents ys b → (xs ≡ ys) × (a ≡ b)
+FilesArrive-unique contents xs a ys b x y =
+    let same = files_unique contents x.files y.files x.are_files y.are_files in
+    Arrives-unique y.files xs a ys b (subst (λ fs. Arrives fs xs a) same x.arrive) y.arrive
+
+begins_arrive : (files : List Handed) (taken : List Arrival) → Begins files taken → (more : List Arrival) × (last : Turn) × Arrives files (taken ++ more) last
+begins_arrive files taken begins =
+    let (more, last, all) = TakesAll-total begins.now in (
+      more,
+      last,
+      record {
+        streams = begins.streams;
+        shown = begins.shown;
+        all = record { now = all.now; takes = Takes-append begins.streams taken begins.now more all.now begins.takes all.takes; stops = all.stops; last_is = all.last_is };
+      },
+    )
+
+-- no more are first than arrive in all
+pub FilesBegin-few : (contents : List (Option (List ℕ))) (xs ys : List Arrival) (last : Turn) → FilesBegin contents xs → FilesArrive contents ys last
+    → length xs ≤ length ys
+FilesBegin-few contents xs ys last x y =
+    let (more, end, whole) = begins_arrive x.files xs x.begin in
+    let same = files_unique contents x.files y.files x.are_files y.are_files in
+    let one = Arrives-unique y.files (xs ++ more) end ys last (subst (λ fs. Arrives fs (xs ++ more) end) same whole) y.arrive in
+    omega (arith, ap (λ (l : List Arrival). length l) one.0, length-append xs more)
+
+module _ (desk : Writing) (words : List (List ℕ)) where
+  -- one domain
+  pub one_set : (a b : Domain) → IsSet desk words a → IsSet desk words b → Agree a b
+  one_set a b x y =
+      let it : (octets : List ℕ) × IsDomainOf octets a × IsDomainOf octets b
+      = both (holds desk (domain_file words)) (λ o. IsDomainOf o a) (λ o. IsDomainOf o b) x.setting.has_domain y.setting.has_domain in
+      one_domain it.0 a b it.1 it.2
+
+  -- one fault of the domain's file
+  pub one_domain_fault : (f g : DomainFault) → HasDomainFault desk (domain_file words) (readings_file words) f
+      → HasDomainFault desk (domain_file words) (readings_file words) g → f ≡ g
+  one_domain_fault f g x y =
+      let it : (octets : List ℕ) × HasFault octets f × HasFault octets g = both (holds desk (domain_file words)) (λ o. HasFault o f) (λ o. HasFault o g) x y in
+      one_fault it.0 f g it.1 it.2
+
+  fault_or_held : (domain : Domain) (f : DomainFault) → IsSomeAnd (holds desk (domain_file words)) (λ o. HasFault o f)
+      → IsSomeAnd (holds desk (domain_file words)) (λ o. IsDomainOf o domain) → ⊥
+  fault_or_held domain f x y =
+      let it : (octets : List ℕ) × HasFault octets f × IsDomainOf octets domain
+      = both (holds desk (domain_file words)) (λ o. HasFault o f) (λ o. IsDomainOf o domain) x y in
+      domain_or_fault it.0 domain f it.2 it.1
+
+  -- a fault of it, or a domain
+  pub fault_or_set : (domain : Domain) (f : DomainFault) → HasDomainFault desk (domain_file words) (readings_file words) f → IsSet desk words domain → ⊥
+  fault_or_set domain f x y = fault_or_held domain f x y.setting.has_domain
+
+  pub fault_or_readings : (f : DomainFault) (g : ReadingsFault) → HasDomainFault desk (domain_file words) (readings_file words) f
+      → HasReadingsFault desk (domain_file words) (readings_file words) g → ⊥
+  fault_or_readings f g x y = fault_or_held y.domain f x y.has_domain
+
+  same_names : (a b : Domain) → Agree a b → node_names a ≡ node_names b
+  same_names a b agree = ap (λ (ns : List Node). map name_of_node ns) agree.same_nodes
+
+  held_agree : (a b : Domain) → IsSomeAnd (holds desk (domain_file words)) (λ o. IsDomainOf o a)
+      → IsSomeAnd (holds desk (domain_file words)) (λ o. IsDomainOf o b) → Agree a b
+  held_agree a b x y =
+      let it : (octets : List ℕ) × IsDomainOf octets a × IsDomainOf octets b
+      = both (holds desk (domain_file words)) (λ o. IsDomainOf o a) (λ o. IsDomainOf o b) x y in
+      one_domain it.0 a b it.1 it.2
+
+  -- one fault of the readings
+  pub one_readings_fault : (f g : ReadingsFault) → HasReadingsFault desk (domain_file words) (readings_file words) f
+      → HasReadingsFault desk (domain_file words) (readings_file words) g → f ≡ g
+  one_readings_fault f g x y =
+      let P : ReadingsFault → Domain → List ℕ → Type 0 = λ h d o. readings_of (node_names d) o ≡ Err h in
+      let it : (octets : List ℕ) × P f x.domain octets × P g y.domain octets = both (holds desk (readings_file words)) (P f x.domain) (P g y.domain) x.faulty y.faulty in
+      let same : readings_of (node_names x.domain) it.0 ≡ readings_of (node_names y.domain) it.0
+      = ap (λ ns. readings_of ns it.0) (same_names x.domain y.domain (held_agree x.domain y.domain x.has_domain y.has_domain)) in
+      let first = it.1 in
+      let second = it.2 in
+      cc
+
+  -- a fault of them, or readings
+  pub readings_or_set : (domain : Domain) (f : ReadingsFault) → HasReadingsFault desk (domain_file words) (readings_file words) f → IsSet desk words domain → ⊥
+  readings_or_set domain f x y =
+      let P : List ℕ → Type 0 = λ o. readings_of (node_names x.domain) o ≡ Err f in
+      let Q : List ℕ → Type 0 = λ o. readings_of (node_names domain) o ≡ Ok y.samples in
+      let it : (octets : List ℕ) × P octets × Q octets = both (holds desk (readings_file words)) P Q x.faulty y.setting.has_readings in
+      let same : readings_of (node_names x.domain) it.0 ≡ readings_of (node_names domain) it.0
+      = ap (λ ns. readings_of ns it.0) (same_names x.domain domain (held_agree x.domain domain x.has_domain y.setting.has_domain)) in
+      let first = it.1 in
+      let second = it.2 in
+      cc
+
+-- domains that agree have the same files
+pub same_files : (words : List (List ℕ)) (a b : Domain) → Agree a b → run_files words a ≡ run_files words b
+same_files words a b agree = ap (λ (ps : List Port). file_names ps (word_files words)) agree.same_ports
+
+pub same_inputs : (a b : Domain) → Agree a b → run_inputs a ≡ run_inputs b
+same_inputs a b agree = ap input_names agree.same_ports

@@ -1,0 +1,41 @@
+-- What a run answers whose domain and readings were read.
+use Rattle.std.specs.Prelude.{◌≡◌, ℕ, ◌⊎◌, Bool, IsTrue, List}
+use Rattle.ioam_desk.specs.Desk.{Reading, Writing}
+use Rattle.ioam_outputs.specs.Names.{name_at, AreApart, IsFirstRepeat}
+use Rattle.ioam_run.specs.declared.outcome.Outcome.{Outcome}
+use Rattle.ioam_run.specs.declared.outcome.Outcome.TheVariants as outcome
+use Rattle.ioam_setting.specs.declared.setting.Refusal.{Refusal}
+use Rattle.ioam_setting.specs.declared.setting.Refusal.TheVariants as refusal
+use Rattle.ioam_setting.specs.Names.{input_ports}
+use Rattle.ioam_topo.specs.Domain.{ports}
+use Rattle.ioam_topo.specs.declared.domain.Domain.{Domain}
+use Rattle.ioam_traffic.specs.Traffic.{Start, begun, Finishes}
+use Rattle.ioam_traffic.specs.declared.halt.Halt.TheVariants as halt
+use Rattle.ioam_domain.specs.Run.{run_files, run_outputs, run_inputs}
+
+-- the answer to a refusal of what a run is set by
+abbrev pub refused_as : Refusal → Outcome
+refused_as (refusal.Domain fault) = outcome.Domain fault
+refused_as (refusal.Readings fault) = outcome.Readings fault
+refused_as refusal.ReadFault = outcome.ReadFault
+refused_as refusal.NoMemory = outcome.NoMemory
+
+module _ (tells : Bool) (words : List (List ℕ)) (domain : Domain) (old_in new_in : Reading) (old new : Writing) where
+  -- where its traffic begins
+  abbrev pub begins : Start
+  begins = begun domain (input_ports (ports domain)) (run_inputs domain) (run_outputs words domain) old_in old
+
+  -- two files have one name, and nothing was opened; or the traffic ended
+  abbrev pub Ends : Outcome → Type 0
+  Ends (outcome.Names name) = ((at : ℕ) × IsFirstRepeat (run_files words domain) at × (name ≡ name_at (run_files words domain) at))
+      × (new_in ≡ old_in) × (new ≡ old)
+  Ends outcome.Done = AreApart (run_files words domain) × Finishes begins tells old_in new_in old new halt.Over
+  Ends (outcome.Capture name at fault) = AreApart (run_files words domain)
+      × ((place : ℕ) × (name ≡ name_at (run_inputs domain) place) × Finishes begins tells old_in new_in old new (halt.Broken place at fault))
+  Ends (outcome.Packets limit) = AreApart (run_files words domain) × (limit ≡ domain.packets) × Finishes begins tells old_in new_in old new halt.Limit
+  Ends outcome.ReadFault = AreApart (run_files words domain) × Finishes begins tells old_in new_in old new halt.ReadFault
+  Ends outcome.WriteFault = AreApart (run_files words domain) × Finishes begins tells old_in new_in old new halt.WriteFault
+  Ends outcome.NoMemory = (new ≡ old) ⊎ (AreApart (run_files words domain) × Finishes begins tells old_in new_in old new halt.NoMemory)
+  Ends outcome.Usage = ⊥
+  Ends (outcome.Domain fault) = ⊥
+  Ends (outcome.Readings fault) = ⊥

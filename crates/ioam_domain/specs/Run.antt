@@ -1,0 +1,159 @@
+-- What `run DOMAIN READINGS WORKERS REPORT EXPORTS` answers and leaves: the captures of the ports of
+-- the domain that DOMAIN describes are merged by time, and each port's capture of what leaves, the
+-- report and the exports are written.
+use Rattle.std.specs.Prelude.{◌≡◌, ℕ, ◌+◌, ◌<◌, ◌≤◌, ◌⊎◌, ⊤, Bool, IsTrue, IsSomeAnd, List, [], ◌∷◌, length, map, slice_get, Option, Some}
+use Rattle.ioam_clock.specs.declared.sample.Sample.{Sample}
+use Rattle.ioam_desk.specs.Asked.{AsksFront}
+use Rattle.ioam_desk.specs.Desk.{Side, Reading, Writing, Rose, holds}
+use Rattle.ioam_forward.specs.Clean.{IsCleanCapture}
+use Rattle.ioam_merge.specs.Merging.{FilesArrive, FilesBegin, PartsArrive, start_of}
+use Rattle.ioam_outputs.specs.Names.{name_at, AreApart, IsFirstRepeat}
+use Rattle.ioam_pcap.specs.Merge.{Arrival}
+use Rattle.ioam_pcap.specs.declared.turns.Turn.{Turn}
+use Rattle.ioam_pcap.specs.declared.turns.Turn.TheVariants as turn
+use Rattle.ioam_run.specs.declared.outcome.Outcome.{Outcome}
+use Rattle.ioam_run.specs.declared.outcome.Outcome.TheVariants as outcome
+use Rattle.ioam_setting.specs.Names.{input_names, input_ports, output_names, file_names}
+use Rattle.ioam_setting.specs.Setting.{HasDomainFault, HasReadingsFault, IsSetting}
+use Rattle.ioam_topo.specs.Domain.{ports}
+use Rattle.ioam_topo.specs.declared.domain.Domain.{Domain}
+use Rattle.ioam_topo.specs.declared.parts.Port.{Port}
+use Rattle.ioam_traffic.specs.Traffic.{Start, HoldsAll, HoldsFronts, ArePassed, AreOpened, Arrive}
+
+-- the files that the words name
+abbrev pub domain_file : List (List ℕ) → List ℕ
+domain_file words = name_at words 1
+
+abbrev pub readings_file : List (List ℕ) → List ℕ
+readings_file words = name_at words 2
+
+abbrev pub report_file : List (List ℕ) → List ℕ
+report_file words = name_at words 4
+
+abbrev pub exports_file : List (List ℕ) → List ℕ
+exports_file words = name_at words 5
+
+abbrev pub word_files : List (List ℕ) → List (List ℕ)
+word_files words = domain_file words ∷ readings_file words ∷ report_file words ∷ exports_file words ∷ []
+
+-- all files of a run, in the order in which equal ones are looked for
+abbrev pub run_files : List (List ℕ) → Domain → List (List ℕ)
+run_files words domain = file_names (ports domain) (word_files words)
+
+-- those that are written, in the order in which they are opened
+abbrev pub run_outputs : List (List ℕ) → Domain → List (List ℕ)
+run_outputs words domain = output_names (ports domain) (report_file words) (exports_file words)
+
+-- the captures that are read, in the order in which they are opened
+abbrev pub run_inputs : Domain → List (List ℕ)
+run_inputs domain = input_names (ports domain)
+
+module _ (desk : Writing) (words : List (List ℕ)) where
+  -- DOMAIN holds this domain, and READINGS the readings of its nodes
+  pub record IsSet (domain : Domain) : Type 0 where
+    pub samples : List (List Sample)
+    pub setting : IsSetting desk (domain_file words) (readings_file words) domain samples
+
+  -- and no two files of the run have one name
+  pub record IsReady (domain : Domain) : Type 0 where
+    pub set : IsSet domain
+    pub apart : AreApart (run_files words domain)
+
+  -- what the captures of a domain's ports hold
+  abbrev pub contents : Domain → List (Option (List ℕ))
+  contents domain = map (holds desk) (run_inputs domain)
+
+  -- these are all that arrive at the domain, no more than it allows, and the turn behind them is this
+  pub record Arrives (domain : Domain) (last : Turn) : Type 0 where
+    pub taken : List Arrival
+    pub arrive : FilesArrive (contents domain) taken last
+    pub few : length taken ≤ domain.packets
+
+  -- more arrive than the domain allows
+  pub record Exceeds (domain : Domain) : Type 0 where
+    pub taken : List Arrival
+    pub begin : FilesBegin (contents domain) taken
+    pub many : domain.packets < length taken
+
+  -- What the words and the files ask for, where nothing fails: the first of the refusals in their
+  -- order whose condition holds, or Done.
+  abbrev pub Asked : Outcome → Type 0
+  Asked (outcome.Domain fault) = HasDomainFault desk (domain_file words) (readings_file words) fault
+  Asked (outcome.Readings fault) = HasReadingsFault desk (domain_file words) (readings_file words) fault
+  Asked (outcome.Names name) = (domain : Domain) × IsSet domain
+      × ((at : ℕ) × IsFirstRepeat (run_files words domain) at × (name ≡ name_at (run_files words domain) at))
+  Asked (outcome.Packets limit) = (domain : Domain) × IsReady domain × (limit ≡ domain.packets) × Exceeds domain
+  Asked (outcome.Capture name at fault) = (domain : Domain) × IsReady domain
+      × ((place : ℕ) × (name ≡ name_at (run_inputs domain) place) × Arrives domain (turn.Broken place at fault))
+  Asked outcome.Done = (domain : Domain) × IsReady domain × Arrives domain turn.Over
+  Asked outcome.Usage = ⊥
+  Asked outcome.ReadFault = ⊥
+  Asked outcome.WriteFault = ⊥
+  Asked outcome.NoMemory = ⊥
+
+-- where the traffic of a domain begins: DOMAIN and READINGS were read by two slots
+abbrev pub start_for : List (List ℕ) → Reading → Writing → Domain → Start
+start_for words reading writing domain = record {
+  domain = domain;
+  ports = input_ports (ports domain);
+  lanes = start_of (reading.side.slots + 2) writing (run_inputs domain);
+  names = run_outputs words domain;
+}
+
+module _ (words : List (List ℕ)) (old_in new_in : Reading) (old new : Writing) where
+  -- the cause of each answer, where the desk tells what its files hold; want of memory alone has none
+  abbrev pub HasCause : Outcome → Type 0
+  HasCause outcome.ReadFault = Rose old_in.side.faults new_in.side.faults
+  HasCause outcome.WriteFault = Rose old.side.faults new.side.faults
+  HasCause outcome.NoMemory = ⊤
+  HasCause outcome.Usage = ⊥
+  HasCause outcome.Done = Asked old words outcome.Done
+  HasCause (outcome.Domain fault) = Asked old words (outcome.Domain fault)
+  HasCause (outcome.Readings fault) = Asked old words (outcome.Readings fault)
+  HasCause (outcome.Names name) = Asked old words (outcome.Names name)
+  HasCause (outcome.Packets limit) = Asked old words (outcome.Packets limit)
+  HasCause (outcome.Capture name at fault) = Asked old words (outcome.Capture name at fault)
+
+  -- so it is of the traffic of the domain that is held
+  abbrev pub OfTraffic : (Start → Type 0) → Type 0
+  OfTraffic P = (domain : Domain) × IsReady old words domain × P (start_for words old_in old domain)
+
+  -- no capture was opened yet, or not all of them
+  abbrev pub StopsEarly : Type 0
+  StopsEarly = AsksFront old_in.side.asked new_in.side.asked (domain_file words ∷ readings_file words ∷ [])
+      ⊎ OfTraffic (λ start. new_in.side.slots < start.lanes.base + length start.lanes.contents)
+
+  -- What the files hold afterwards, where the desk tells: the texts of all arrivals, of as many as the
+  -- domain allows, or of those that what was handed out of the captures shows; or nothing was opened
+  -- for writing; or each output that was opened holds a front of its text.
+  abbrev pub Leaves : Outcome → Type 0
+  Leaves outcome.Done = OfTraffic (λ start. HoldsAll start (Arrive start turn.Over) new)
+  Leaves (outcome.Capture name at fault) = OfTraffic (λ start. (place : ℕ) × HoldsAll start (Arrive start (turn.Broken place at fault)) new)
+  Leaves (outcome.Packets limit) = OfTraffic (λ start. HoldsAll start (ArePassed start) new)
+  Leaves outcome.ReadFault = (StopsEarly × (new ≡ old))
+      ⊎ OfTraffic (λ start. AreOpened start new_in × HoldsAll start (PartsArrive start.lanes.contents new_in start.lanes.base) new)
+  Leaves outcome.WriteFault = OfTraffic (λ start. HoldsFronts start old new)
+  Leaves outcome.NoMemory = (new ≡ old) ⊎ OfTraffic (λ start. HoldsFronts start old new)
+  Leaves outcome.Usage = new ≡ old
+  Leaves (outcome.Domain fault) = new ≡ old
+  Leaves (outcome.Readings fault) = new ≡ old
+  Leaves (outcome.Names name) = new ≡ old
+
+  -- the names that were given to the opening calls: DOMAIN, READINGS and the captures; and the outputs
+  abbrev pub AsksIn : Type 0
+  AsksIn = AsksFront old_in.side.asked new_in.side.asked (domain_file words ∷ readings_file words ∷ [])
+      ⊎ ((domain : Domain) × IsReady old words domain
+      × AsksFront old_in.side.asked new_in.side.asked (domain_file words ∷ readings_file words ∷ run_inputs domain))
+
+  abbrev pub AsksOut : Type 0
+  AsksOut = (new.side.asked ≡ old.side.asked)
+      ⊎ ((domain : Domain) × IsReady old words domain × AsksFront old.side.asked new.side.asked (run_outputs words domain))
+
+  -- each of the captures was read to its end
+  abbrev pub AreDrained : Type 0
+  AreDrained = OfTraffic (λ start. (k : ℕ) → k < length start.lanes.contents → IsTrue (new_in.ended (start.lanes.base + k)))
+
+  -- what leaves by each port of the domain is a capture of packets that may leave it
+  abbrev pub IsBounded : Type 0
+  IsBounded = OfTraffic (λ start. (place : ℕ) (port : Port) → slice_get (ports start.domain) place ≡ Some port
+      → IsSomeAnd (holds new port.output) IsCleanCapture)

@@ -1,0 +1,115 @@
+//! `run DOMAIN READINGS WORKERS REPORT EXPORTS`.
+ghost use Rattle.std.specs.Prelude.{◌≡◌, ◌≢◌, ◌+◌, ◌<◌, ◌⊎◌, ◌∷◌, [], List, ℕ, IsTrue, length};
+ghost use Rattle.ioam_desk.specs.Asked.{AsksFront};
+ghost use Rattle.ioam_desk.specs.Desk.{Rose};
+ghost use Rattle.ioam_outputs.specs.Names.{AreApart};
+ghost use Rattle.ioam_run.specs.Run.{IsDone, IsBehindAll};
+ghost use Rattle.ioam_run.specs.declared.outcome.Outcome.{Outcome};
+ghost use Rattle.ioam_topo.specs.Domain.{ports};
+ghost use Rattle.ioam_domain.specs.Ends.{Ends};
+ghost use Rattle.ioam_domain.specs.Run.{HasCause, Asked, Leaves, AsksIn, AsksOut, AreDrained, IsBounded, domain_file, readings_file, run_files, run_inputs, run_outputs};
+
+use crate::answer::refused;
+use ioam_desk::{Desk, Name};
+use ioam_outputs::first_repeat;
+use ioam_run::Outcome;
+use ioam_setting::{file_names, input_names, input_ports, output_names, read_setting};
+use ioam_topo::Domain;
+use ioam_traffic::{Halt, run_traffic};
+use std::alloc::Global;
+
+/// Runs `run DOMAIN READINGS WORKERS REPORT EXPORTS`: what arrives at the ports of the domain that
+/// DOMAIN describes is sent through it, in the order of time. Each port's capture has the packets that
+/// leave there, REPORT says what became of each arrival, and EXPORTS is empty, since no packet of a
+/// domain without flows carries direct export.
+///
+/// The words are the command and these five. DOMAIN is read first, then READINGS; then two files of
+/// one name are refused; then the captures are opened, and then the outputs.
+pub fn run_domain<D: Desk>(alloc: Global, words: &[Name], desk: &mut D) -> Outcome
+    requires { length words.now ≡ 6 }
+    ensures read_fault { result ≡ Outcome.ReadFault → Rose (D.reading desk.old).side.faults (D.reading desk.new).side.faults }
+    ensures write_fault { result ≡ Outcome.WriteFault → Rose (D.writing desk.old).side.faults (D.writing desk.new).side.faults }
+    ensures usage { result ≢ Outcome.Usage }
+    ensures cause { IsTrue D.tells → HasCause words.now (D.reading desk.old) (D.reading desk.new) (D.writing desk.old) (D.writing desk.new) result }
+    ensures leaves { IsTrue D.tells → Leaves words.now (D.reading desk.old) (D.reading desk.new) (D.writing desk.old) (D.writing desk.new) result }
+    // What is asked for is answered, unless a call of the desk failed or no memory could be had.
+    ensures exact { (asked : Outcome) → IsTrue D.tells → Asked (D.writing desk.old) words.now asked
+        → (Rose (D.reading desk.old).side.faults (D.reading desk.new).side.faults → ⊥)
+        → (Rose (D.writing desk.old).side.faults (D.writing desk.new).side.faults → ⊥)
+        → (result ≡ asked) ⊎ (result ≡ Outcome.NoMemory) }
+    // The names that were opened; those out of the domain file are spoken of where the desk tells.
+    ensures asked_first { (names : List (List ℕ)) × AsksFront (D.reading desk.old).side.asked (D.reading desk.new).side.asked
+        (domain_file words.now ∷ readings_file words.now ∷ names) }
+    ensures asked_in { IsTrue D.tells → AsksIn words.now (D.reading desk.old) (D.reading desk.new) (D.writing desk.old) (D.writing desk.new) }
+    ensures asked_out { IsTrue D.tells → AsksOut words.now (D.reading desk.old) (D.reading desk.new) (D.writing desk.old) (D.writing desk.new) }
+    // No output is opened before an input.
+    ensures no_output { (D.reading desk.new).side.slots ≡ (D.reading desk.old).side.slots → D.writing desk.new ≡ D.writing desk.old }
+    ensures drained { IsDone result → IsTrue D.tells
+        → AreDrained words.now (D.reading desk.old) (D.reading desk.new) (D.writing desk.old) (D.writing desk.new) }
+    // Each packet in a port's capture has a whole header chain without an IOAM option.
+    ensures boundary { IsBehindAll ((D.writing desk.old).side.slots < (D.writing desk.new).side.slots) result → IsTrue D.tells
+        → IsBounded words.now (D.reading desk.old) (D.reading desk.new) (D.writing desk.old) (D.writing desk.new) }
+{
+    let setting = match read_setting(alloc, desk, &words[1], &words[2]) {
+        Ok(setting) => setting,
+        Err(refusal) => return refused(refusal),
+    };
+    run_set(alloc, words, &setting.domain, desk)
+}
+
+// Runs a domain that was read: its files have to differ.
+fn run_set<D: Desk>(alloc: Global, words: &[Name], domain: &Domain, desk: &mut D) -> Outcome
+    requires { length words.now ≡ 6 }
+    ensures ends { Ends D.tells words.now domain.now (D.reading desk.old) (D.reading desk.new) (D.writing desk.old) (D.writing desk.new) result }
+    ensures asked_in { (D.reading desk.new ≡ D.reading desk.old) ⊎ (AreApart (run_files words.now domain.now)
+        × AsksFront (D.reading desk.old).side.asked (D.reading desk.new).side.asked (run_inputs domain.now)) }
+    ensures asked_out { (D.writing desk.new ≡ D.writing desk.old) ⊎ (AreApart (run_files words.now domain.now)
+        × AsksFront (D.writing desk.old).side.asked (D.writing desk.new).side.asked (run_outputs words.now domain.now)) }
+    ensures no_output { (D.reading desk.new).side.slots < (D.reading desk.old).side.slots + length (run_inputs domain.now)
+        → D.writing desk.new ≡ D.writing desk.old }
+{
+    let Ok(mut files) = file_names(alloc, domain, &words[1], &words[2], &words[4], &words[5]) else {
+        return Outcome::NoMemory;
+    };
+    match first_repeat(&files) {
+        Some(at) => Outcome::Names {
+            name: files.swap_remove(at),
+        },
+        None => run_apart(alloc, words, domain, desk),
+    }
+}
+
+// Runs a domain whose files differ.
+fn run_apart<D: Desk>(alloc: Global, words: &[Name], domain: &Domain, desk: &mut D) -> Outcome
+    requires sized { length words.now ≡ 6 }
+    requires apart { AreApart (run_files words.now domain.now) }
+    ensures ends { Ends D.tells words.now domain.now (D.reading desk.old) (D.reading desk.new) (D.writing desk.old) (D.writing desk.new) result }
+    ensures asked_in { AsksFront (D.reading desk.old).side.asked (D.reading desk.new).side.asked (run_inputs domain.now) }
+    ensures asked_out { AsksFront (D.writing desk.old).side.asked (D.writing desk.new).side.asked (run_outputs words.now domain.now) }
+    ensures no_output { (D.reading desk.new).side.slots < (D.reading desk.old).side.slots + length (run_inputs domain.now)
+        → D.writing desk.new ≡ D.writing desk.old }
+{
+    let Ok(ports) = input_ports(alloc, domain) else {
+        return Outcome::NoMemory;
+    };
+    let Ok(mut inputs) = input_names(alloc, domain) else {
+        return Outcome::NoMemory;
+    };
+    let Ok(outputs) = output_names(alloc, domain, &words[4], &words[5]) else {
+        return Outcome::NoMemory;
+    };
+    match run_traffic(alloc, desk, domain, &ports, &inputs, &outputs) {
+        Halt::Over => Outcome::Done,
+        Halt::Broken { place, at, fault } => Outcome::Capture {
+            name: inputs.swap_remove(place),
+            at,
+            fault,
+        },
+        Halt::Limit => Outcome::Packets {
+            limit: domain.packets(),
+        },
+        Halt::ReadFault => Outcome::ReadFault,
+        Halt::WriteFault => Outcome::WriteFault,
+        Halt::NoMemory => Outcome::NoMemory,
+    }
+}
