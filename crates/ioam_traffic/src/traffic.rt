@@ -1,7 +1,7 @@
 ghost use Rattle.std.specs.Prelude.{◌≡◌, ◌+◌, ◌<◌, length, All};
 ghost use Rattle.ioam_desk.specs.Asked.{AsksFront};
 ghost use Rattle.ioam_outputs.specs.Names.{AreApart};
-ghost use Rattle.ioam_topo.specs.Domain.{ports};
+ghost use Rattle.ioam_topo.specs.Domain.{ports as ports_of};
 ghost use Rattle.ioam_traffic.specs.Traffic.{begun, Finishes};
 
 use crate::halt::Halt;
@@ -26,8 +26,8 @@ pub fn run_traffic<D: Desk>(
     outputs: &[Name],
 ) -> Halt
     requires sized { length ports.now ≡ length inputs.now }
-    requires inside { All (λ port. port.0 < length (ports domain.now)) ports.now }
-    requires width { length outputs.now ≡ length (ports domain.now) + 2 }
+    requires inside { All (λ port. port.0 < length (ports_of domain.now)) ports.now }
+    requires width { length outputs.now ≡ length (ports_of domain.now) + 2 }
     requires apart { AreApart outputs.now }
     ensures finishes { Finishes (begun domain.now ports.now inputs.now outputs.now (D.reading desk.old) (D.writing desk.old)) D.tells
         (D.reading desk.old) (D.reading desk.new) (D.writing desk.old) (D.writing desk.new) result }
