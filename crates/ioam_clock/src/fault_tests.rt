@@ -17,14 +17,13 @@ table: NodeTable, place: 0, field: NoKey, why: Kind # node = 1|\
 table: LinkTable, place: 0, field: NoKey, why: Kind # link = [1]|\
 table: PortTable, place: 0, field: NoKey, why: Kind # port = {}|\
 table: RouteTable, place: 0, field: NoKey, why: Kind # route = \"\"|\
-table: DataTable, place: 0, field: NoKey, why: TooMany # data = [{}]|\
 table: FlowTable, place: 0, field: NoKey, why: TooMany # flow = [{}]|\
 table: DataTable, place: 0, field: NoKey, why: Kind # data = 1|\
 table: FlowTable, place: 0, field: NoKey, why: Kind # flow = [[]]|\
 table: Top, place: 0, field: FormatKey, why: Kind # packets = 0\nformat = 1|\
 table: NodeTable, place: 0, field: NoKey, why: Kind # link = 1\nnode = 1|\
 table: Top, place: 0, field: PacketsKey, why: Range # node = 1\npackets = 0|\
-table: DataTable, place: 0, field: NoKey, why: TooMany # flow = [{}]\ndata = [{}]";
+table: DataTable, place: 1, field: NodeKey, why: Missing # flow = [{}]\ndata = [{}]";
 
 // Nodes.
 const OF_NODES: &str =

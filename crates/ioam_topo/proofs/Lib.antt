@@ -14,3 +14,4 @@ pub mod KeptLaws
 pub mod ForwardLaws
 pub mod FlowKept
 pub mod SoundLaws
+pub mod FileLaws

@@ -1,7 +1,7 @@
 -- A domain that was read without faults keeps what is true of its tables.
-use Rattle.std.proofs.Common.{◌≡◌, ◌≤◌, ℕ, List, [], ◌∷◌, ◌++◌, map, length, codes, refl, ap, sym, subst, ◌∙◌, arith}
+use Rattle.std.proofs.Common.{◌≡◌, ◌≤◌, ℕ, List, [], ◌∷◌, ◌++◌, length, codes, refl, ap, sym, subst, ◌∙◌, arith}
 use Rattle.std.specs.List.{All}
-use Rattle.toml.specs.Data.{Data, Members, get_member}
+use Rattle.toml.specs.Data.{Members, get_member}
 use Rattle.ioam_topo.specs.declared.domain.TheConstants.{MOST_ROUTES, MOST_FLOWS}
 use Rattle.ioam_topo.specs.declared.node_table.TheConstants.{MOST_NODES}
 use Rattle.ioam_topo.specs.declared.link_table.TheConstants.{MOST_LINKS}
@@ -19,11 +19,11 @@ use Rattle.ioam_topo.specs.declared.route_table.Parts.{Parts}
 use Rattle.ioam_topo.specs.declared.route_table.Routes.{Routes}
 use Rattle.ioam_topo.specs.Goods.{goods}
 use Rattle.ioam_topo.specs.NodeTable.{node_of, node_faults}
-use Rattle.ioam_topo.specs.NodeRead.{HoldsNodes, name_of_node}
+use Rattle.ioam_topo.specs.NodeRead.{name_of_node}
 use Rattle.ioam_topo.specs.LinkTable.{link_of, link_faults}
-use Rattle.ioam_topo.specs.LinkRead.{HoldsLinks, name_of_link}
+use Rattle.ioam_topo.specs.LinkRead.{name_of_link}
 use Rattle.ioam_topo.specs.PortTable.{port_of, port_faults}
-use Rattle.ioam_topo.specs.PortRead.{HoldsPorts, name_of_port}
+use Rattle.ioam_topo.specs.PortRead.{name_of_port}
 use Rattle.ioam_topo.specs.RouteRead.{HoldsRoutes, route_behind, faults_behind}
 use Rattle.ioam_topo.specs.PartsRead.{HoldsParts, HoldsTelemetry}
 use Rattle.ioam_topo.specs.Top.{node_entries, link_entries, port_entries, route_entries, flow_entries, node_names, node_lists, part_faults, table_faults, data_table_faults, flow_table_faults, telemetry_faults}

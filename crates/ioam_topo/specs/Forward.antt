@@ -1,6 +1,6 @@
 -- Where a node sends a target: the way of the route with the longest prefix (RFC 1812 section 5.2.4.3).
-use Rattle.std.specs.Prelude.{◌≡◌, ◌<◌, ◌≤◌, ℕ, Bool, true, false, not, nat_eq, nat_lt, ◌&&◌, IsTrue, List, [], ◌∷◌, length, Option, Some, None, option_map, slice_get, if◌then◌else◌}
-use Rattle.std.specs.List.{All, AllPass, Contains}
+use Rattle.std.specs.Prelude.{◌≡◌, ◌<◌, ◌≤◌, ℕ, Bool, true, false, nat_eq, nat_lt, ◌&&◌, List, [], ◌∷◌, length, Option, Some, None, option_map, slice_get, if◌then◌else◌}
+use Rattle.std.specs.List.{All, Contains}
 use Rattle.std.specs.Option.{ForSome}
 use Rattle.ioam_toml.specs.Prefixes.{matches}
 use Rattle.ioam_topo.specs.declared.ids.Way.{Way}

@@ -21,6 +21,7 @@ pub mod Lengths
 pub mod Forward
 pub mod Kept
 pub mod Domain
+pub mod File
 pub mod Finding
 pub mod Sound
 pub mod PartsRead

@@ -23,7 +23,7 @@ use std::alloc::Global;
 pub const MOST_ROUTES: usize = 16384;
 
 /// The most entries of the table `data`.
-pub const MOST_DATA: usize = 0;
+pub const MOST_DATA: usize = 4096;
 
 /// The most flows.
 pub const MOST_FLOWS: usize = 0;

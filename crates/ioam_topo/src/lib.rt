@@ -29,5 +29,5 @@ pub use fault::{DomainFault, DomainRefused};
 pub use ids::{FlowId, LinkId, NodeId, PortId, Way};
 pub use ioam_toml::{Octets, Prefix, Spaces, Why};
 pub use parts::{Flow, Link, Node, NodeData, Port, Route};
-pub use reading::{FILE_MOST, read_domain};
+pub use reading::{FILE_MOST, long_file, read_domain};
 pub use words::{Field, Format, Table};

@@ -1,6 +1,7 @@
-ghost use Rattle.std.specs.Prelude.{◌≡◌, ◌<◌, length, position, slice_get, Some, IfSome};
+ghost use Rattle.std.specs.Prelude.{◌≡◌, ◌<◌, ◌≤◌, length, position, slice_get, Some, IfSome};
 ghost use Rattle.std.specs.List.{All};
 ghost use Rattle.std.specs.Option.{option_copied};
+ghost use Rattle.ioam_topo.specs.declared.domain.TheConstants.{MOST_FLOWS};
 ghost use Rattle.ioam_topo.specs.Sound.{IsFlow};
 ghost use Rattle.ioam_topo.specs.Finding.{is_data_of, data_at, encloses, flow_at};
 ghost use Rattle.ioam_topo.specs.Kept.{JoinsEnds};
@@ -46,10 +47,11 @@ fn place_at(flows: &[Flow], node: NodeId, source: u128, target: u128) -> Option<
 impl Domain {
     ghost use Rattle.ioam_topo.specs.Domain.{nodes, node_data, flows};
 
-    /// The flows, in file order: each from a node of the domain to another and within its bounds, a
+    /// The flows, in file order: at most `MOST_FLOWS`, each from a node of the domain to another and within its bounds, a
     /// trace there exactly where its capacity is, and direct exports exactly where their rate and
     /// their id are.
     pub fn flows(&self) -> &[Flow]
+        ensures few { length (flows self.now) ≤ MOST_FLOWS }
         ensures value { result.now ≡ flows self.now }
         ensures ends { All (JoinsEnds (length (nodes self.now))) result.now }
         ensures sound { All IsFlow result.now }

@@ -5,12 +5,12 @@ ghost use Rattle.toml.specs.Parse.{parse_document};
 ghost use Rattle.toml.specs.View.{table_view};
 ghost use Rattle.ioam_topo.specs.declared.words.Table.TheVariants.{Top};
 ghost use Rattle.ioam_topo.specs.declared.words.Field.TheVariants.{NoKey};
-ghost use Rattle.ioam_topo.specs.declared.fault.DomainRefused.TheVariants.{Fault};
 ghost use Rattle.ioam_topo.specs.Faults.{Gives, fault};
 ghost use Rattle.ioam_topo.specs.Top.{part_faults, telemetry_faults, faults_of, node_entries};
 ghost use Rattle.ioam_topo.specs.NodeRead.{HoldsNodes};
 ghost use Rattle.ioam_topo.specs.PartsRead.{HoldsParts, HoldsTelemetry};
 ghost use Rattle.ioam_topo.specs.Domain.{IsDomain};
+ghost use Rattle.ioam_topo.specs.File.{IsFileRead};
 
 use crate::data_table::DataRows;
 use crate::domain::{
@@ -169,15 +169,22 @@ fn read_file(alloc: Global, top: &toml::Table) -> Result<Domain, DomainRefused>
 }
 
 // A fault of the file as a whole.
-fn whole_fault(why: Why) -> DomainRefused
-    ensures { result ≡ Fault (fault Top 0 NoKey why) }
+fn whole_fault(why: Why) -> DomainFault
+    ensures { result ≡ fault Top 0 NoKey why }
 {
-    DomainRefused::Fault(DomainFault {
+    DomainFault {
         table: Table::Top,
         place: 0,
         field: Field::NoKey,
         why,
-    })
+    }
+}
+
+/// The fault of a file of more than 1 MiB, for whoever reads no more of a file than that.
+pub fn long_file() -> DomainFault
+    ensures { result ≡ fault Top 0 NoKey Why.Long }
+{
+    whole_fault(Why::Long)
 }
 
 /// Reads a domain file. Of its faults the first is answered, in this order: it has more than
@@ -191,13 +198,14 @@ pub fn read_domain(alloc: Global, octets: &[u8]) -> Result<Domain, DomainRefused
         → Gives result (fault Top 0 NoKey Why.Text ∷ []) (λ _. ⊥) }
     ensures table { (t : Members) → length octets.now ≤ 1048576 → IsUtf8 octets.now → parse_document octets.now ≡ Some t
         → Gives result (faults_of t) (IsDomain t) }
+    ensures file { IsFileRead octets.now result }
 {
     if octets.len() > FILE_MOST {
-        return Err(whole_fault(Why::Long));
+        return Err(DomainRefused::Fault(long_file()));
     }
     let text = match std::str::from_utf8(octets) {
         Ok(text) => text,
-        Err(_) => return Err(whole_fault(Why::Text)),
+        Err(_) => return Err(DomainRefused::Fault(whole_fault(Why::Text))),
     };
     match toml::table_from_str(alloc, text) {
         Ok(table) => read_file(alloc, &table),
@@ -205,7 +213,7 @@ pub fn read_domain(alloc: Global, octets: &[u8]) -> Result<Domain, DomainRefused
             if error.is_memory() {
                 Err(DomainRefused::NoMemory)
             } else {
-                Err(whole_fault(Why::Text))
+                Err(DomainRefused::Fault(whole_fault(Why::Text)))
             }
         }
     }
