@@ -1,2 +1,3 @@
 pub mod Names
+pub mod Reads
 pub mod Setting

@@ -1,11 +1,16 @@
-ghost use Rattle.std.specs.Prelude.{◌≡◌, ◌+◌, ◌∷◌, [], IsTrue, IfOk, IfErr, OnOk};
+//! The two files that a run is set by.
+ghost use Rattle.std.specs.Prelude.{◌≡◌, ◌+◌, ◌∷◌, [], IsTrue, IfOk, IfErr, OnOk, MatchResult};
+ghost use Rattle.ioam_clock.specs.Reading.{node_names};
 ghost use Rattle.ioam_desk.specs.Asked.{AsksFront};
+ghost use Rattle.ioam_desk.specs.Desk.{SameBut, holds, opened_side};
+ghost use Rattle.ioam_desk.specs.Whole.{ReadsWhole, FailsWhole};
 ghost use Rattle.ioam_outputs.specs.Told.{opened_each};
+ghost use Rattle.ioam_setting.specs.Reads.{IsDomainRead, AreReadingsRead};
 ghost use Rattle.ioam_setting.specs.Setting.{IsSetting, Refuses};
 
-use ioam_clock::{Readings, ReadingsFault};
-use ioam_desk::{Desk, Name};
-use ioam_topo::{Domain, DomainFault};
+use ioam_clock::{ReadWhy, Readings, ReadingsFault, ReadingsRefused, read_readings};
+use ioam_desk::{Desk, Name, WholeFault, read_whole};
+use ioam_topo::{Domain, DomainFault, DomainRefused, long_file, read_domain};
 use std::alloc::Global;
 
 /// A domain, and the readings of its nodes' clocks.
@@ -28,6 +33,81 @@ pub enum Refusal {
     NoMemory,
 }
 
+// The octets of a file that holds no more than `limit`.
+fn read_file<D: Desk>(
+    alloc: Global,
+    desk: &mut D,
+    name: &Name,
+    limit: usize,
+) -> Result<Vec<u8>, WholeFault>
+    ensures inputs { MatchResult result
+        (λ octets. ReadsWhole D.tells (D.reading desk.old) (D.reading desk.new) (holds (D.writing desk.old) name.now) name.now limit octets.items)
+        (FailsWhole D.tells (D.reading desk.old) (D.reading desk.new) (holds (D.writing desk.old) name.now) name.now limit) }
+    ensures asked { AsksFront (D.reading desk.old).side.asked (D.reading desk.new).side.asked (name.now ∷ []) }
+    ensures outputs { D.writing desk.new ≡ D.writing desk.old }
+{
+    read_whole(alloc, desk, name.text(), limit)
+}
+
+// Reads the domain file.
+fn read_domain_file<D: Desk>(
+    alloc: Global,
+    desk: &mut D,
+    name: &Name,
+) -> Result<Domain, Refusal>
+    ensures read { IsDomainRead D.tells (D.reading desk.old) (D.reading desk.new) (holds (D.writing desk.old) name.now) result }
+    ensures side { OnOk result ((D.reading desk.new).side ≡ opened_side (D.reading desk.old).side name.now) }
+    ensures ended { OnOk result (IsTrue D.tells → IsTrue ((D.reading desk.new).ended (D.reading desk.old).side.slots)) }
+    ensures asked { AsksFront (D.reading desk.old).side.asked (D.reading desk.new).side.asked (name.now ∷ []) }
+    ensures outputs { D.writing desk.new ≡ D.writing desk.old }
+{
+    let octets = match read_file(alloc, desk, name, ioam_topo::FILE_MOST) {
+        Ok(octets) => octets,
+        Err(WholeFault::TooLong { .. }) => return Err(Refusal::Domain(long_file())),
+        Err(WholeFault::Failed) => return Err(Refusal::ReadFault),
+        Err(WholeFault::NoMemory) => return Err(Refusal::NoMemory),
+    };
+    match read_domain(alloc, &octets) {
+        Ok(domain) => Ok(domain),
+        Err(DomainRefused::Fault(fault)) => Err(Refusal::Domain(fault)),
+        Err(DomainRefused::NoMemory) => Err(Refusal::NoMemory),
+    }
+}
+
+// The fault of a file of readings that holds too many octets.
+const LONG_READINGS: ReadingsFault = ReadingsFault {
+    line: 0,
+    why: ReadWhy::Long,
+};
+
+// Reads the readings of the domain's nodes.
+fn read_readings_file<D: Desk>(
+    alloc: Global,
+    desk: &mut D,
+    domain: &Domain,
+    name: &Name,
+) -> Result<Readings, Refusal>
+    ensures read { AreReadingsRead D.tells (D.reading desk.old) (D.reading desk.new) (holds (D.writing desk.old) name.now)
+        (node_names domain.now) result }
+    ensures side { OnOk result ((D.reading desk.new).side ≡ opened_side (D.reading desk.old).side name.now) }
+    ensures ended { OnOk result (IsTrue D.tells → IsTrue ((D.reading desk.new).ended (D.reading desk.old).side.slots)) }
+    ensures other_ended { OnOk result (SameBut (D.reading desk.old).side.slots (D.reading desk.old).ended (D.reading desk.new).ended) }
+    ensures asked { AsksFront (D.reading desk.old).side.asked (D.reading desk.new).side.asked (name.now ∷ []) }
+    ensures outputs { D.writing desk.new ≡ D.writing desk.old }
+{
+    let octets = match read_file(alloc, desk, name, ioam_clock::FILE_MOST) {
+        Ok(octets) => octets,
+        Err(WholeFault::TooLong { .. }) => return Err(Refusal::Readings(LONG_READINGS)),
+        Err(WholeFault::Failed) => return Err(Refusal::ReadFault),
+        Err(WholeFault::NoMemory) => return Err(Refusal::NoMemory),
+    };
+    match read_readings(alloc, domain, &octets) {
+        Ok(readings) => Ok(readings),
+        Err(ReadingsRefused::Fault(fault)) => Err(Refusal::Readings(fault)),
+        Err(ReadingsRefused::NoMemory) => Err(Refusal::NoMemory),
+    }
+}
+
 /// Reads the domain file (at most 1 MiB), and then the readings of the domain's nodes (at most
 /// 64 MiB). The readings are opened only once the domain was read.
 pub fn read_setting<D: Desk>(
@@ -45,5 +125,13 @@ pub fn read_setting<D: Desk>(
     ensures asked { AsksFront (D.reading desk.old).side.asked (D.reading desk.new).side.asked (domain.now ∷ readings.now ∷ []) }
     ensures outputs { D.writing desk.new ≡ D.writing desk.old }
 {
-    Err(Refusal::NoMemory)
+    let domain = match read_domain_file(alloc, desk, domain) {
+        Ok(domain) => domain,
+        Err(refusal) => return Err(refusal),
+    };
+    let readings = match read_readings_file(alloc, desk, &domain, readings) {
+        Ok(readings) => readings,
+        Err(refusal) => return Err(refusal),
+    };
+    Ok(Setting { domain, readings })
 }

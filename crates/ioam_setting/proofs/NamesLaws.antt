@@ -1,0 +1,184 @@
+-- Laws of the names of a run's files.
+use Rattle.std.proofs.Common.{◌≡◌, ℕ, zero, suc, ◌+◌, ◌<◌, ◌⊎◌, List, [], ◌∷◌, ◌++◌, map, length, take, get_or, Option, Some, None, refl, sym, ◌∙◌, ap, subst, inl, inr, ⊎_elim, append-nil, append_assoc, length-append, arith}
+use Rattle.std.specs.List.{All, Contains, flat_map}
+use Rattle.std.proofs.lemmas.List.{get_or_default, length-map, length-take-le, take_more, take_all}
+use Rattle.std.proofs.lemmas.List.Elements.{All-nil, All-cons, All-append, Contains-append_left, Contains-append_right, Contains-append_cases}
+use Rattle.ioam_outputs.specs.Names.{name_at, Repeats, AreApart}
+use Rattle.ioam_topo.specs.declared.ids.PortId.{PortId}
+use Rattle.ioam_topo.specs.declared.parts.Port.{Port}
+use Rattle.ioam_setting.specs.Names.{input_of, input_names, port_with, ports_from, input_ports, output_names, file_names}
+
+-- one port more at the end
+pub ports_more : (place : ℕ) (ports : List Port) (port : Port)
+    → ports_from place (ports ++ port ∷ []) ≡ ports_from place ports ++ port_with (place + length ports) port.input
+ports_more place [] port = append-nil (port_with place port.input) ∙ ap (λ n. port_with n port.input) (omega arith)
+ports_more place (first ∷ ports) port =
+    let next : suc place + length ports ≡ place + length (first ∷ ports) = omega arith in
+    ap (λ l. port_with place first.input ++ l) (ports_more (suc place) ports port)
+    ∙ sym (append_assoc (port_with place first.input) (ports_from (suc place) ports) (port_with (suc place + length ports) port.input))
+    ∙ ap (λ n. (port_with place first.input ++ ports_from (suc place) ports) ++ port_with n port.input) next
+
+-- the port at a place behind those before it
+pub ports_step : (ports : List Port) (place : ℕ) (port : Port) (ids new : List PortId) → place < length ports → port ≡ get_or ports place port
+    → ids ≡ input_ports (take place ports) → new ≡ ids ++ port_with place port.input → new ≡ input_ports (take (place + 1) ports)
+ports_step ports place port ids new inside is before now =
+    let so_far = take place ports in
+    let count : 0 + length so_far ≡ place = omega (arith, length-take-le place ports) in
+    let next : take (place + 1) ports ≡ so_far ++ port ∷ []
+        = take_more ports place port inside ∙ ap (λ (p : Port). so_far ++ p ∷ []) (sym is) in
+    now ∙ ap (λ (l : List PortId). l ++ port_with place port.input) before
+    ∙ ap (λ (n : ℕ). input_ports so_far ++ port_with n port.input) (sym count)
+    ∙ sym (ports_more 0 so_far port) ∙ ap input_ports (sym next)
+
+one_each : (place : ℕ) (input : Option (List ℕ)) → length (port_with place input) ≡ length (input_of input)
+one_each place None = refl
+one_each place (Some name) = refl
+
+as_many : (place : ℕ) (ports : List Port) → length (ports_from place ports) ≡ length (input_names ports)
+as_many place [] = refl
+as_many place (port ∷ ports) = omega (arith, length-append (port_with place port.input) (ports_from (suc place) ports),
+    length-append (input_of port.input) (input_names ports), one_each place port.input, as_many (suc place) ports)
+
+pub length-input_ports : (ports : List Port) → length (input_ports ports) ≡ length (input_names ports)
+length-input_ports ports = as_many 0 ports
+
+pub length-output_names : (ports : List Port) (report exports : List ℕ) → length (output_names ports report exports) ≡ length ports + 2
+length-output_names ports report exports = omega (arith, length-append (map (λ (port : Port). port.output) ports) (report ∷ exports ∷ []),
+    length-map ports (λ (port : Port). port.output))
+
+-- these ports are below a number
+abbrev AreBelow : ℕ → List PortId → Type 0
+AreBelow most ids = All (λ port. port.0 < most) ids
+
+port_below : (most place : ℕ) (input : Option (List ℕ)) → place < most → AreBelow most (port_with place input)
+port_below most place None below = All-nil (λ (port : PortId). port.0 < most)
+port_below most place (Some name) below = All-cons (λ (port : PortId). port.0 < most) (record { 0 = place }) [] below
+    (All-nil (λ (port : PortId). port.0 < most))
+
+ports_below : (place : ℕ) (ports : List Port) → AreBelow (place + length ports) (ports_from place ports)
+ports_below place [] = All-nil (λ (port : PortId). port.0 < place + 0)
+ports_below place (port ∷ ports) =
+    let most = place + length (port ∷ ports) in
+    let next : suc place + length ports ≡ most = omega arith in
+    let below : place < most = omega arith in
+    All-append (λ (id : PortId). id.0 < most) (port_with place port.input) (ports_from (suc place) ports) (port_below most place port.input below)
+    (subst (λ (n : ℕ). AreBelow n (ports_from (suc place) ports)) next (ports_below (suc place) ports))
+
+-- they are ports of the file
+pub ports_inside : (ports : List Port) → All (λ port. port.0 < length ports) (input_ports ports)
+ports_inside ports = let same : 0 + length ports ≡ length ports = omega arith in
+    subst (λ (n : ℕ). AreBelow n (input_ports ports)) same (ports_below 0 ports)
+
+-- no name is one of those behind it
+abbrev Differ : List (List ℕ) → Type 0
+Differ [] = Unit {0}
+Differ (name ∷ names) = (Contains names name → ⊥) × Differ names
+
+-- names without the first one
+apart_tail : (name : List ℕ) (names : List (List ℕ)) → AreApart (name ∷ names) → AreApart names
+apart_tail name names apart = λ at inside repeats.
+    let within : suc at < length (name ∷ names) = omega (arith, inside) in
+    apart (suc at) within (Contains-append_right (name ∷ []) (take at names) (name_at names at) repeats)
+
+differ_from_apart : (names : List (List ℕ)) → AreApart names → Differ names
+differ_from_apart [] apart = tt
+differ_from_apart (name ∷ names) apart = (stands_once, differ_from_apart names (apart_tail name names apart))
+  where
+    stands_once : Contains names name → ⊥
+    stands_once found =
+        let within : suc found.0 < length (name ∷ names) = omega (arith, found.1) in
+        let is : name_at names found.0 ≡ name = get_or_default names found.0 [] name found.1 ∙ found.2 in
+        apart (suc found.0) within (0, omega arith, sym is)
+
+-- the first of these, or one behind it
+first_or_behind : (x : List ℕ) (xs : List (List ℕ)) (y : List ℕ) → Contains (x ∷ xs) y → (x ≡ y) ⊎ Contains xs y
+first_or_behind x xs y found =
+    ⊎_elim (λ (one : Contains (x ∷ []) y). inl (only one.0 one.1 one.2)) (λ (behind : Contains xs y). inr behind)
+    (Contains-append_cases (x ∷ []) xs y found)
+  where
+    only : (k : ℕ) → k < length (x ∷ []) → get_or (x ∷ []) k y ≡ y → x ≡ y
+    only zero inside is = is
+    only (suc k) inside is = absurd (omega (arith, inside))
+
+apart_more : (name : List ℕ) (names : List (List ℕ)) → (Contains names name → ⊥) → AreApart names
+    → (at : ℕ) → at < length (name ∷ names) → Repeats (name ∷ names) at → ⊥
+apart_more name names once apart zero inside repeats = absurd (omega (arith, repeats.1))
+apart_more name names once apart (suc at) inside repeats =
+    let within : at < length names = omega (arith, inside) in
+    ⊎_elim (λ (first : name ≡ name_at names at). once (at, within, get_or_default names at name [] within ∙ sym first))
+    (λ (behind : Repeats names at). apart at within behind)
+    (first_or_behind name (take at names) (name_at names at) repeats)
+
+apart_from_differ : (names : List (List ℕ)) → Differ names → AreApart names
+apart_from_differ [] differ = λ at inside repeats. absurd (omega (arith, inside))
+apart_from_differ (name ∷ names) differ = apart_more name names differ.0 (apart_from_differ names differ.1)
+
+-- the names behind some
+differ_behind : (front back : List (List ℕ)) → Differ (front ++ back) → Differ back
+differ_behind [] back differ = differ
+differ_behind (name ∷ front) back differ = differ_behind front back differ.1
+
+-- two lists of which none has a name of the other
+differ_join : (front back : List (List ℕ)) → Differ front → Differ back
+    → ((name : List ℕ) → Contains front name → Contains back name → ⊥) → Differ (front ++ back)
+differ_join [] back differ rest none = rest
+differ_join (name ∷ front) back differ rest none = (
+    λ found. ⊎_elim (λ (near : Contains front name). differ.0 near)
+        (λ (far : Contains back name). none name (0, omega arith, refl) far)
+        (Contains-append_cases front back name found),
+    differ_join front back differ.1 rest (λ other near far. none other (Contains-append_right (name ∷ []) front other near) far))
+
+-- the captures of a port
+abbrev names_of : Port → List (List ℕ)
+names_of port = input_of port.input ++ port.output ∷ []
+
+abbrev outputs_of : List Port → List (List ℕ)
+outputs_of ports = map (λ (port : Port). port.output) ports
+
+-- the captures of the packets that leave are among those of the ports
+among_ports : (ports : List Port) (name : List ℕ) → Contains (outputs_of ports) name → Contains (flat_map names_of ports) name
+among_ports [] name found = found
+among_ports (port ∷ ports) name found =
+    subst (λ (l : List (List ℕ)). Contains l name) (sym (append_assoc (input_of port.input) (port.output ∷ []) (flat_map names_of ports)))
+    (Contains-append_right (input_of port.input) (port.output ∷ flat_map names_of ports) name
+    (⊎_elim (λ (first : port.output ≡ name). (0, omega arith, first))
+    (λ (behind : Contains (outputs_of ports) name). Contains-append_right (port.output ∷ []) (flat_map names_of ports) name (among_ports ports name behind))
+    (first_or_behind port.output (outputs_of ports) name found)))
+
+-- so they differ where those of the ports do
+outputs_differ : (ports : List Port) → Differ (flat_map names_of ports) → Differ (outputs_of ports)
+outputs_differ [] differ = tt
+outputs_differ (port ∷ ports) differ =
+    let regrouped : Differ (input_of port.input ++ (port.output ∷ flat_map names_of ports))
+        = subst Differ (append_assoc (input_of port.input) (port.output ∷ []) (flat_map names_of ports)) differ in
+    let rest : Differ (port.output ∷ flat_map names_of ports)
+        = differ_behind (input_of port.input) (port.output ∷ flat_map names_of ports) regrouped in
+    (λ found. rest.0 (among_ports ports port.output found), outputs_differ ports rest.1)
+
+module _ (ports : List Port) (report exports : List ℕ) where
+  -- the report and the exports are none of the ports' captures
+  apart_from_ports : Differ (report ∷ exports ∷ flat_map names_of ports)
+      → (name : List ℕ) → Contains (outputs_of ports) name → Contains (report ∷ exports ∷ []) name → ⊥
+  apart_from_ports differ name near far =
+      let behind = flat_map names_of ports in
+      let held : Contains behind name = among_ports ports name near in
+      ⊎_elim (λ (is : report ≡ name). differ.0 (Contains-append_right (exports ∷ []) behind report
+          (subst (λ (n : List ℕ). Contains behind n) (sym is) held)))
+      (λ (last : Contains (exports ∷ []) name). ⊎_elim (λ (is : exports ≡ name). differ.1.0 (subst (λ (n : List ℕ). Contains behind n) (sym is) held))
+          (λ (none : Contains [] name). absurd (omega (arith, none.1)))
+          (first_or_behind exports [] name last))
+      (first_or_behind report (exports ∷ []) name far)
+
+  written_differ : Differ (report ∷ exports ∷ flat_map names_of ports) → Differ (output_names ports report exports)
+  written_differ differ =
+      differ_join (outputs_of ports) (report ∷ exports ∷ []) (outputs_differ ports differ.1.1)
+      (λ found. differ.0 (Contains-append_left (exports ∷ []) (flat_map names_of ports) report found),
+          (λ found. absurd (omega (arith, found.1)), tt))
+      (apart_from_ports differ)
+
+-- names that are apart as all files are apart as outputs
+pub apart-outputs : (ports : List Port) (domain readings report exports : List ℕ)
+    → AreApart (file_names ports (domain ∷ readings ∷ report ∷ exports ∷ [])) → AreApart (output_names ports report exports)
+apart-outputs ports domain readings report exports apart =
+    let differ = differ_from_apart (file_names ports (domain ∷ readings ∷ report ∷ exports ∷ [])) apart in
+    apart_from_differ (output_names ports report exports) (written_differ ports report exports differ.1.1)

@@ -1,0 +1,34 @@
+-- Laws of the two files that a run is set by: what the second one's reading says once the first was read.
+use Rattle.std.proofs.Common.{◌≡◌, ℕ, suc, Bool, IsTrue, IsSomeAnd, List, [], ◌∷◌, ◌++◌, take, Result, Ok, Err, sym, ◌∙◌, ap, subst, append_assoc}
+use Rattle.ioam_clock.specs.Reading.{readings_of, node_names}
+use Rattle.ioam_clock.specs.declared.sample.Sample.{Sample}
+use Rattle.ioam_clock.specs.declared.fault.ReadingsFault.{ReadingsFault}
+use Rattle.ioam_desk.specs.Asked.{AsksFront}
+use Rattle.ioam_desk.specs.Desk.{Side, Reading, Writing, Rose, holds, opened_side}
+use Rattle.ioam_topo.specs.declared.domain.Domain.{Domain}
+use Rattle.ioam_setting.specs.Reads.{IsDomainRead, AreReadingsRead}
+use Rattle.ioam_setting.specs.Setting.{Refuses}
+use Rattle.ioam_setting.specs.declared.setting.Refusal.{Refusal}
+use Rattle.ioam_setting.specs.declared.setting.Refusal.TheVariants as refusal
+
+-- one name was asked for, and then perhaps the next
+pub asks_next : (old mid new : Side) (first second : List ℕ) → mid ≡ opened_side old first
+    → AsksFront mid.asked new.asked (second ∷ []) → AsksFront old.asked new.asked (first ∷ second ∷ [])
+asks_next old mid new first second opened asks =
+    (suc asks.0, asks.1 ∙ ap (λ (s : Side). s.asked ++ take asks.0 (second ∷ [])) opened
+    ∙ append_assoc old.asked (first ∷ []) (take asks.0 (second ∷ [])))
+
+module _ (tells : Bool) (old mid new : Reading) (desk next : Writing) (domain_file readings_file : List ℕ) (domain : Domain) where
+  -- the domain was read, and the readings were refused
+  pub refuses_next : IsDomainRead tells old mid (holds desk domain_file) (Ok domain) → mid.side ≡ opened_side old.side domain_file → next ≡ desk
+      → (why : Refusal) → AreReadingsRead tells mid new (holds next readings_file) (node_names domain) (Err why)
+      → Refuses desk domain_file readings_file tells old new why
+  refuses_next read opened same (refusal.Domain fault) refused = absurd refused
+  refuses_next read opened same (refusal.Readings fault) refused = λ told. record {
+    domain = domain;
+    has_domain = read told;
+    faulty = subst (λ (w : Writing). IsSomeAnd (holds w readings_file) (λ octets. readings_of (node_names domain) octets ≡ Err fault)) same (refused told);
+  }
+  refuses_next read opened same refusal.ReadFault refused =
+      subst (λ (s : Side). Rose s.faults new.side.faults) opened refused
+  refuses_next read opened same refusal.NoMemory refused = tt
