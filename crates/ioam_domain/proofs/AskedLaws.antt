@@ -70,7 +70,7 @@ module _ (desk : Writing) (words : List (List ℕ)) where
       let why : fault ≡ cause = parts.2 in
       cc
 
-  pub Asked-unique : (a b : Outcome) → Asked a → Asked b → a ≡ b
+  pub Asked-unique : (a b : Outcome) → Asked desk words a → Asked desk words b → a ≡ b
   Asked-unique outcome.Usage b x y = absurd x
   Asked-unique outcome.ReadFault b x y = absurd x
   Asked-unique outcome.WriteFault b x y = absurd x

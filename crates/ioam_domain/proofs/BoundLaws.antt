@@ -35,7 +35,7 @@ module _ (words : List (List ℕ)) (old_in new_in : Reading) (old new : Writing)
     ready,
     λ place port is.
         let text = held_at new (ports domain) 0 (λ k. out_text k all.fates) (report_file words ∷ exports_file words ∷ [])
-        (report_text domain all.fates ∷ [] ∷ []) all.held place port is in
+        (report_text domain all.fates ∷ [] ∷ []) all.held place port is ∙ ap (λ (k : ℕ). Some (out_text k all.fates)) (omega arith) in
         let P : Option (List ℕ) → Type 0 = λ o. IsSomeAnd o IsCleanCapture in
         subst P (sym text) (outs-clean domain (frames_of (start_for words old_in old domain).ports all.taken) all.fates all.become place),
   )

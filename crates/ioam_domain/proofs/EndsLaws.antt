@@ -1,17 +1,22 @@
 -- From how a run ended whose domain and readings were read to what the whole run answers and leaves.
-use Rattle.std.proofs.Common.{◌≡◌, ℕ, ◌+◌, ◌<◌, ◌⊎◌, Bool, IsTrue, List, [], ◌∷◌, ◌++◌, length, refl, sym, ◌∙◌, ap, subst, inl, inr, elim, take, append_assoc, length-append, arith}
+use Rattle.std.proofs.Common.{◌≡◌, ℕ, suc, ◌+◌, ◌<◌, ◌⊎◌, Bool, IsTrue, List, [], ◌∷◌, ◌++◌, length, refl, sym, ◌∙◌, ap, subst, inl, inr, take, append_assoc, length-append, arith}
 use Rattle.ioam_desk.specs.Asked.{AsksFront}
 use Rattle.ioam_desk.specs.Desk.{Side, Reading, Writing, Rose}
 use Rattle.ioam_outputs.specs.Names.{AreApart}
 use Rattle.ioam_outputs.specs.Told.{opened_each}
-use Rattle.ioam_merge.specs.Merging.{start_of}
+use Rattle.ioam_merge.specs.Merging.{PartsArrive, start_of}
+use Rattle.ioam_pcap.specs.declared.turns.Turn.TheVariants as turn
 use Rattle.ioam_run.specs.declared.outcome.Outcome.{Outcome}
 use Rattle.ioam_run.specs.declared.outcome.Outcome.TheVariants as outcome
+use Rattle.ioam_run.specs.Run.{IsDone}
 use Rattle.ioam_setting.specs.Names.{input_ports}
+use Rattle.ioam_setting.specs.Setting.{Refuses}
+use Rattle.ioam_setting.specs.declared.setting.Refusal.{Refusal}
+use Rattle.ioam_setting.specs.declared.setting.Refusal.TheVariants as refusal
 use Rattle.ioam_topo.specs.Domain.{ports}
 use Rattle.ioam_topo.specs.declared.domain.Domain.{Domain}
 use Rattle.ioam_traffic.specs.Traffic.{Start, HoldsAll, HoldsFronts, ArePassed, AreOpened, Arrive, Finishes}
-use Rattle.ioam_domain.specs.Ends.{Ends, begins}
+use Rattle.ioam_domain.specs.Ends.{Ends, begins, refused_as}
 use Rattle.ioam_domain.specs.Run.{HasCause, Leaves, OfTraffic, StopsEarly, AsksIn, AreDrained, IsSet, IsReady, Exceeds, domain_file, readings_file, run_files, run_inputs, run_outputs, start_for}
 
 -- the two files were opened by two slots
@@ -61,20 +66,20 @@ module _ (words : List (List ℕ)) (old_in mid_in : Reading) (opened : mid_in.si
     Ends-cause (outcome.Readings fault) ends = absurd ends
 
     pub Ends-leaves : (answer : Outcome) → Ends tells words domain mid_in new_in old new answer → Leaves words old_in new_in old new answer
-    Ends-leaves outcome.Done ends = of_traffic (λ start. HoldsAll start (Arrive start _) new) ends.0 (ends.1 told).0
+    Ends-leaves outcome.Done ends = of_traffic (λ start. HoldsAll start (Arrive start turn.Over) new) ends.0 (ends.1 told).0
     Ends-leaves (outcome.Capture name at fault) ends =
-        of_traffic (λ start. (place : ℕ) × HoldsAll start (Arrive start _) new) ends.0 (ends.1.0, ends.1.2.1 told)
+        of_traffic (λ start. (place : ℕ) × HoldsAll start (Arrive start (turn.Broken place at fault)) new) ends.0 (ends.1.0, ends.1.2.1 told)
     Ends-leaves (outcome.Packets limit) ends = of_traffic (λ start. HoldsAll start (ArePassed start) new) ends.0 (ends.2 told)
     Ends-leaves outcome.ReadFault ends = elim ends.1.1 [
       | inl early ↦ inl (inr (of_traffic (λ start. new_in.side.slots < start.lanes.base + length start.lanes.contents) ends.0 early.0), early.1)
-      | inr late ↦ inr (of_traffic (λ start. AreOpened start new_in × HoldsAll start _ new) ends.0 (late.0, late.1 told))
+      | inr late ↦ inr (of_traffic (λ start. AreOpened start new_in × HoldsAll start (PartsArrive start.lanes.contents new_in start.lanes.base) new) ends.0 (late.0, late.1 told))
     ]
     Ends-leaves outcome.WriteFault ends = of_traffic (λ start. HoldsFronts start old new) ends.0 (ends.1.1 told)
     Ends-leaves outcome.NoMemory (inl same) = inl same
     Ends-leaves outcome.NoMemory (inr (apart, inl same)) = inl same
     Ends-leaves outcome.NoMemory (inr (apart, inr fronts)) = inr (of_traffic (λ start. HoldsFronts start old new) apart (fronts told))
     Ends-leaves outcome.Usage ends = absurd ends
-    Ends-leaves (outcome.Names name) ends = ends.1.1
+    Ends-leaves (outcome.Names name) ends = ends.2
     Ends-leaves (outcome.Domain fault) ends = absurd ends
     Ends-leaves (outcome.Readings fault) ends = absurd ends
 
@@ -85,8 +90,51 @@ module _ (words : List (List ℕ)) (old_in mid_in : Reading) (opened : mid_in.si
 pub asks_more : (start mid new : List (List ℕ)) (first second : List ℕ) (names : List (List ℕ)) → mid ≡ start ++ first ∷ second ∷ []
     → AsksFront mid new names → AsksFront start new (first ∷ second ∷ names)
 asks_more start mid new first second names is (count, asked) =
-    (2 + count, asked ∙ ap (λ (m : List (List ℕ)). m ++ take count names) is ∙ append_assoc start (first ∷ second ∷ []) (take count names))
+    (suc (suc count), asked ∙ ap (λ (m : List (List ℕ)). m ++ take count names) is ∙ append_assoc start (first ∷ second ∷ []) (take count names))
 
 -- both were asked for, and no others
 pub asks_both : (start new : List (List ℕ)) (first second : List ℕ) → new ≡ start ++ first ∷ second ∷ [] → AsksFront start new (first ∷ second ∷ [])
 asks_both start new first second is = (2, is)
+
+-- a refusal of what a run is set by
+module _ (tells : Bool) (words : List (List ℕ)) (old_in new_in : Reading) (old : Writing) where
+  pub refused_cause : (why : Refusal) → Refuses old (domain_file words) (readings_file words) tells old_in new_in why → IsTrue tells
+      → HasCause words old_in new_in old old (refused_as why)
+  refused_cause (refusal.Domain fault) refuses told = refuses told
+  refused_cause (refusal.Readings fault) refuses told = refuses told
+  refused_cause refusal.ReadFault refuses told = refuses
+  refused_cause refusal.NoMemory refuses told = tt
+
+  pub refused_leaves : (why : Refusal) → AsksFront old_in.side.asked new_in.side.asked (domain_file words ∷ readings_file words ∷ [])
+      → Leaves words old_in new_in old old (refused_as why)
+  refused_leaves (refusal.Domain fault) asked = refl
+  refused_leaves (refusal.Readings fault) asked = refl
+  refused_leaves refusal.ReadFault asked = inl (inl asked, refl)
+  refused_leaves refusal.NoMemory asked = inl refl
+
+  pub refused_read : (why : Refusal) → Refuses old (domain_file words) (readings_file words) tells old_in new_in why
+      → refused_as why ≡ outcome.ReadFault → Rose old_in.side.faults new_in.side.faults
+  refused_read (refusal.Domain fault) refuses is = absurd (cc)
+  refused_read (refusal.Readings fault) refuses is = absurd (cc)
+  refused_read refusal.ReadFault refuses is = refuses
+  refused_read refusal.NoMemory refuses is = absurd (cc)
+
+  pub refused_other : (why : Refusal) → (refused_as why ≡ outcome.WriteFault → ⊥) × (refused_as why ≡ outcome.Usage → ⊥)
+  refused_other (refusal.Domain fault) = (λ is. absurd (cc), λ is. absurd (cc))
+  refused_other (refusal.Readings fault) = (λ is. absurd (cc), λ is. absurd (cc))
+  refused_other refusal.ReadFault = (λ is. absurd (cc), λ is. absurd (cc))
+  refused_other refusal.NoMemory = (λ is. absurd (cc), λ is. absurd (cc))
+
+  pub refused_done : (why : Refusal) → IsDone (refused_as why) → ⊥
+  refused_done (refusal.Domain fault) done = done
+  refused_done (refusal.Readings fault) done = done
+  refused_done refusal.ReadFault done = done
+  refused_done refusal.NoMemory done = done
+
+-- a read fault, and a write fault, of the whole run
+module _ (tells : Bool) (words : List (List ℕ)) (domain : Domain) (mid_in new_in : Reading) (old new : Writing) where
+  pub Ends-read : Ends tells words domain mid_in new_in old new outcome.ReadFault → Rose mid_in.side.faults new_in.side.faults
+  Ends-read ends = ends.1.0
+
+  pub Ends-write : Ends tells words domain mid_in new_in old new outcome.WriteFault → Rose old.side.faults new.side.faults
+  Ends-write ends = ends.1.0

@@ -2,3 +2,5 @@ mod EndsLaws
 mod SameLaws
 mod AskedLaws
 mod BoundLaws
+mod WordsLaws
+mod AnswerLaws

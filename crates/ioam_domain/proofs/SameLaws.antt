@@ -31,7 +31,9 @@ both None P Q x y = absurd x
 both (Some octets) P Q x y = (octets, x, y)
 
 same_handed : (f g : Handed) → f.octets ≡ g.octets → f.ended ≡ g.ended → f ≡ g
-same_handed f g octets ended = cc
+same_handed f g octets ended =
+    let P : List ℕ → Bool → Handed = λ o e. record { octets = o; ended = e } in
+    ap (λ (o : List ℕ). P o f.ended) octets ∙ ap (λ (e : Bool). P g.octets e) ended
 
 same_file : (content : Option (List ℕ)) (f g : Handed) → IsFile content f → IsFile content g → f ≡ g
 same_file content f g x y = same_handed f g (same_Some f.octets g.octets (sym x.0 ∙ y.0)) (x.1 ∙ sym y.1)

@@ -20,22 +20,22 @@ refused_as (refusal.Readings fault) = outcome.Readings fault
 refused_as refusal.ReadFault = outcome.ReadFault
 refused_as refusal.NoMemory = outcome.NoMemory
 
-module _ (tells : Bool) (words : List (List ℕ)) (domain : Domain) (old_in new_in : Reading) (old new : Writing) where
-  -- where its traffic begins
-  abbrev pub begins : Start
-  begins = begun domain (input_ports (ports domain)) (run_inputs domain) (run_outputs words domain) old_in old
+-- where the traffic of a domain begins that was read
+abbrev pub begins : List (List ℕ) → Domain → Reading → Writing → Start
+begins words domain reading writing = begun domain (input_ports (ports domain)) (run_inputs domain) (run_outputs words domain) reading writing
 
+module _ (tells : Bool) (words : List (List ℕ)) (domain : Domain) (old_in new_in : Reading) (old new : Writing) where
   -- two files have one name, and nothing was opened; or the traffic ended
   abbrev pub Ends : Outcome → Type 0
   Ends (outcome.Names name) = ((at : ℕ) × IsFirstRepeat (run_files words domain) at × (name ≡ name_at (run_files words domain) at))
       × (new_in ≡ old_in) × (new ≡ old)
-  Ends outcome.Done = AreApart (run_files words domain) × Finishes begins tells old_in new_in old new halt.Over
+  Ends outcome.Done = AreApart (run_files words domain) × Finishes (begins words domain old_in old) tells old_in new_in old new halt.Over
   Ends (outcome.Capture name at fault) = AreApart (run_files words domain)
-      × ((place : ℕ) × (name ≡ name_at (run_inputs domain) place) × Finishes begins tells old_in new_in old new (halt.Broken place at fault))
-  Ends (outcome.Packets limit) = AreApart (run_files words domain) × (limit ≡ domain.packets) × Finishes begins tells old_in new_in old new halt.Limit
-  Ends outcome.ReadFault = AreApart (run_files words domain) × Finishes begins tells old_in new_in old new halt.ReadFault
-  Ends outcome.WriteFault = AreApart (run_files words domain) × Finishes begins tells old_in new_in old new halt.WriteFault
-  Ends outcome.NoMemory = (new ≡ old) ⊎ (AreApart (run_files words domain) × Finishes begins tells old_in new_in old new halt.NoMemory)
+      × ((place : ℕ) × (name ≡ name_at (run_inputs domain) place) × Finishes (begins words domain old_in old) tells old_in new_in old new (halt.Broken place at fault))
+  Ends (outcome.Packets limit) = AreApart (run_files words domain) × (limit ≡ domain.packets) × Finishes (begins words domain old_in old) tells old_in new_in old new halt.Limit
+  Ends outcome.ReadFault = AreApart (run_files words domain) × Finishes (begins words domain old_in old) tells old_in new_in old new halt.ReadFault
+  Ends outcome.WriteFault = AreApart (run_files words domain) × Finishes (begins words domain old_in old) tells old_in new_in old new halt.WriteFault
+  Ends outcome.NoMemory = (new ≡ old) ⊎ (AreApart (run_files words domain) × Finishes (begins words domain old_in old) tells old_in new_in old new halt.NoMemory)
   Ends outcome.Usage = ⊥
   Ends (outcome.Domain fault) = ⊥
   Ends (outcome.Readings fault) = ⊥

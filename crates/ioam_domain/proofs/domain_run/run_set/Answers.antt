@@ -1,0 +1,63 @@
+use Rattle.std.proofs.Common.{◌≡◌, ℕ, List, length, refl, sym, ◌∙◌, ap, subst, inr, arith}
+use Rattle.ioam_outputs.specs.Names.{AreApart, IsFirstRepeat}
+use Rattle.ioam_topo.specs.Domain.{ports}
+use Rattle.ioam_domain.specs.Run.{run_files}
+use Rattle.ioam_domain.proofs.WordsLaws.{found_name, files_read, taken_name}
+use Rattle.ioam_domain.proofs.domain_run.run_set.Goals as goal
+
+pub returns-in-Some-clause-ends : goal.returns-in-Some-clause-ends
+returns-in-Some-clause-ends g c =
+    let words = c.args.words.now in
+    let files : c.in-Ok.files.items ≡ run_files words c.args.domain.now
+    = files_read (ports c.args.domain.now) words c.in-Ok.files.items c.in-Ok.files.items c.index-words-1.result c.index-words-2.result c.index-words-4.result c.index-words-5.result
+    refl c.in-Ok.ensures
+    (found_name words 1 c.index-words-1.result c.index-words-1.is (omega (arith, c.requires)))
+    (found_name words 2 c.index-words-2.result c.index-words-2.is (omega (arith, c.requires)))
+    (found_name words 4 c.index-words-4.result c.index-words-4.is (omega (arith, c.requires)))
+    (found_name words 5 c.index-words-5.result c.index-words-5.is (omega (arith, c.requires))) in
+    let lent : c.deref.result.now ≡ run_files words c.args.domain.now = c.deref.ensures.value ∙ files in
+    let P : List (List ℕ) → Type 0 = λ names. IsFirstRepeat names c.in-Some.at in
+    let first : IsFirstRepeat (run_files words c.args.domain.now) c.in-Some.at = subst P lent c.in-Some.ensures in (
+      (c.in-Some.at, first, taken_name (run_files words c.args.domain.now) c.in-Ok.files.items c.in-Some.at c.swap_remove.result files c.swap_remove.ensures.value first.inside),
+      refl,
+      refl,
+    )
+
+pub run_apart-requires-clause-apart : goal.run_apart-requires-clause-apart
+run_apart-requires-clause-apart g c =
+    let words = c.args.words.now in
+    let files : c.in-Ok.files.items ≡ run_files words c.args.domain.now
+    = files_read (ports c.args.domain.now) words c.in-Ok.files.items c.in-Ok.files.items c.index-words-1.result c.index-words-2.result c.index-words-4.result c.index-words-5.result
+    refl c.in-Ok.ensures
+    (found_name words 1 c.index-words-1.result c.index-words-1.is (omega (arith, c.requires)))
+    (found_name words 2 c.index-words-2.result c.index-words-2.is (omega (arith, c.requires)))
+    (found_name words 4 c.index-words-4.result c.index-words-4.is (omega (arith, c.requires)))
+    (found_name words 5 c.index-words-5.result c.index-words-5.is (omega (arith, c.requires))) in
+    let lent : c.deref.result.now ≡ run_files words c.args.domain.now = c.deref.ensures.value ∙ files in
+    subst AreApart lent c.in-None.ensures
+
+pub returns-clause-asked_in : goal.returns-clause-asked_in
+returns-clause-asked_in g c =
+    let words = c.args.words.now in
+    let files : c.in-Ok.files.items ≡ run_files words c.args.domain.now
+    = files_read (ports c.args.domain.now) words c.in-Ok.files.items c.in-Ok.files.items c.index-words-1.result c.index-words-2.result c.index-words-4.result c.index-words-5.result
+    refl c.in-Ok.ensures
+    (found_name words 1 c.index-words-1.result c.index-words-1.is (omega (arith, c.requires)))
+    (found_name words 2 c.index-words-2.result c.index-words-2.is (omega (arith, c.requires)))
+    (found_name words 4 c.index-words-4.result c.index-words-4.is (omega (arith, c.requires)))
+    (found_name words 5 c.index-words-5.result c.index-words-5.is (omega (arith, c.requires))) in
+    let lent : c.deref.result.now ≡ run_files words c.args.domain.now = c.deref.ensures.value ∙ files in
+    inr (subst AreApart lent c.in-None.ensures, c.run_apart.ensures.asked_in)
+
+pub returns-clause-asked_out : goal.returns-clause-asked_out
+returns-clause-asked_out g c =
+    let words = c.args.words.now in
+    let files : c.in-Ok.files.items ≡ run_files words c.args.domain.now
+    = files_read (ports c.args.domain.now) words c.in-Ok.files.items c.in-Ok.files.items c.index-words-1.result c.index-words-2.result c.index-words-4.result c.index-words-5.result
+    refl c.in-Ok.ensures
+    (found_name words 1 c.index-words-1.result c.index-words-1.is (omega (arith, c.requires)))
+    (found_name words 2 c.index-words-2.result c.index-words-2.is (omega (arith, c.requires)))
+    (found_name words 4 c.index-words-4.result c.index-words-4.is (omega (arith, c.requires)))
+    (found_name words 5 c.index-words-5.result c.index-words-5.is (omega (arith, c.requires))) in
+    let lent : c.deref.result.now ≡ run_files words c.args.domain.now = c.deref.ensures.value ∙ files in
+    inr (subst AreApart lent c.in-None.ensures, c.run_apart.ensures.asked_out)
