@@ -51,4 +51,6 @@ fn words_of<R: std::rt::Env + AllocGlobal>(rt: &R) -> Result<Vec<Name>, Outcome>
 #[cfg(test)]
 mod desk_tests;
 #[cfg(test)]
+mod run_tests;
+#[cfg(test)]
 mod tests;
