@@ -1,3 +1,4 @@
 pub mod AddressLaws
 pub mod PrefixLaws
 pub mod EntryLaws
+pub mod OctetLaws

@@ -9,7 +9,8 @@ use Rattle.ioam_topo.specs.declared.data_table.DataRows.{DataRows}
 use Rattle.ioam_topo.specs.declared.parts.NodeData.{NodeData}
 use Rattle.ioam_topo.specs.Apart.{is_pair, fresh_with}
 use Rattle.ioam_topo.specs.DataTable.{data_keys, data_faults, data_of, data_key}
-use Rattle.ioam_topo.specs.DataRead.{HoldsData, IsNewData}
+use Rattle.ioam_topo.specs.DataRead.{HoldsData, IsNewData, key_of_data}
+use Rattle.ioam_topo.proofs.KeyLaws.{kept_by}
 use Rattle.ioam_topo.proofs.GoodsLaws.{goods_push}
 
 pub held_faults : (nodes : List (List ℕ)) (earlier : List Members) (rows : DataRows) (place : ℕ) (m : Members) → HoldsData nodes earlier rows → place ≡ length earlier + 1
@@ -23,6 +24,7 @@ pub data_added : (nodes : List (List ℕ)) (earlier : List Members) (m : Members
 data_added nodes earlier m row old new holds fits items keys = record {
   items = goods_push (data_of nodes) earlier m row _ _ fits.is holds.items items;
   keys = goods_push (data_key nodes) earlier m (row.node.0, row.namespace.0) _ _ fits.key_is holds.keys keys;
+  keyed = kept_by key_of_data old.items.items new.items.items row _ _ holds.keyed items keys;
 }
 
 fresh_under : (b : Bool) (y x : ℕ) (r : Result ℕ Why) → r ≡ cond b (Err Twice) (Ok y) → r ≡ Ok x → (b ≡ false) × (y ≡ x)

@@ -38,14 +38,14 @@ bounded : (low high : ℕ) (r : Result ℤ Why) (x : ℕ) → r ▷ within low h
 bounded low high (Ok z) x is = within_bounds low high z x is
 bounded low high (Err why) x is = cc
 
-number_bounds : (low high : ℕ) (d : Data) (x : ℕ) → number low high d ≡ Ok x → (low ≤ x) × (x ≤ high)
+pub number_bounds : (low high : ℕ) (d : Data) (x : ℕ) → number low high d ≡ Ok x → (low ≤ x) × (x ≤ high)
 number_bounds low high d x is = bounded low high (whole d) x is
 
 passed : (test : ℕ → Bool) (r : Result ℕ Why) (x : ℕ) → r ▷ passing test ≡ Ok x → test x ≡ true
 passed test (Ok n) x is = let both : (test n ≡ true) × (n ≡ x) = tested (test n) n x is in ap test (sym both.1) ∙ both.0
 passed test (Err why) x is = cc
 
-beside_off : {A : Type 0} (other : Bool) (r : Result (Option A) Why) (x : Option A) → r ▷ beside other ≡ Ok x → r ≡ Ok x
+pub beside_off : {A : Type 0} (other : Bool) (r : Result (Option A) Why) (x : Option A) → r ▷ beside other ≡ Ok x → r ≡ Ok x
 beside_off true (Ok None) x is = cc
 beside_off false (Ok None) x is = is
 beside_off other (Ok (Some y)) x is = is
@@ -56,7 +56,7 @@ read_some (Ok y) x n is some = cc
 read_some (Err why) x n is some = cc
 
 -- what is true of each value of a kind is true of one that may be absent
-maybe_for : {A : Type 0} (kind : Data → Result A Why) (P : A → Type 0) → ((d : Data) (n : A) → kind d ≡ Ok n → P n)
+pub maybe_for : {A : Type 0} (kind : Data → Result A Why) (P : A → Type 0) → ((d : Data) (n : A) → kind d ≡ Ok n → P n)
     → (o : Option Data) (x : Option A) → maybe kind o ≡ Ok x → ForSome x P
 maybe_for kind P each None x is = λ n some. absurd (cc)
 maybe_for kind P each (Some d) x is = λ n some. each d n (read_some (kind d) x n is some)
@@ -76,7 +76,7 @@ needed_there other (Ok (Some y)) x is on = let same : x ≡ Some y = cc in rw sa
 needed_there other (Err why) x is on = cc
 
 -- of two keys that go together both are there or none
-paired : {A B : Type 0} (first : Data → Result A Why) (second : Data → Result B Why) (other : Bool) (o p : Option Data) (x : Option A) (y : Option B)
+pub paired : {A B : Type 0} (first : Data → Result A Why) (second : Data → Result B Why) (other : Bool) (o p : Option Data) (x : Option A) (y : Option B)
     → (is_some p ≡ true → other ≡ true) → maybe first o ▷ beside other ≡ Ok x → maybe second p ▷ beside (is_some o) ≡ Ok y → is_some y ≡ is_some x
 paired first second other o (Some e) x y on is also =
     maybe_there second (Some e) y (beside_off (is_some o) (maybe second (Some e)) y also) ∙ sym (needed_there other (maybe first o) x is (on refl))

@@ -15,3 +15,5 @@ pub mod ForwardLaws
 pub mod FlowKept
 pub mod SoundLaws
 pub mod FileLaws
+pub mod DataKept
+pub mod FindingLaws

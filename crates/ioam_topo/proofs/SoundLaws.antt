@@ -2,17 +2,20 @@
 use Rattle.std.proofs.Common.{◌≡◌, ◌≤◌, ℕ, List, [], ◌∷◌, ◌++◌, length, codes, refl, ap, sym, subst, ◌∙◌, arith}
 use Rattle.std.specs.List.{All}
 use Rattle.toml.specs.Data.{Members, get_member}
-use Rattle.ioam_topo.specs.declared.domain.TheConstants.{MOST_ROUTES, MOST_FLOWS}
+use Rattle.ioam_topo.specs.declared.domain.TheConstants.{MOST_ROUTES, MOST_DATA, MOST_FLOWS}
 use Rattle.ioam_topo.specs.declared.node_table.TheConstants.{MOST_NODES}
 use Rattle.ioam_topo.specs.declared.link_table.TheConstants.{MOST_LINKS}
 use Rattle.ioam_topo.specs.declared.port_table.TheConstants.{MOST_PORTS}
-use Rattle.ioam_topo.specs.declared.words.Table.TheVariants.{NodeTable, LinkTable, PortTable, RouteTable, FlowTable}
+use Rattle.ioam_topo.specs.declared.words.Table.TheVariants.{NodeTable, LinkTable, PortTable, RouteTable, DataTable, FlowTable}
 use Rattle.ioam_topo.specs.declared.fault.DomainFault.{DomainFault}
 use Rattle.ioam_topo.specs.declared.parts.Link.{Link}
 use Rattle.ioam_topo.specs.declared.parts.Port.{Port}
 use Rattle.ioam_topo.specs.declared.parts.Route.{Route}
 use Rattle.ioam_topo.specs.declared.parts.Flow.{Flow}
 use Rattle.ioam_topo.specs.declared.domain.Telemetry.{Telemetry}
+use Rattle.ioam_topo.specs.declared.parts.NodeData.{NodeData}
+use Rattle.ioam_topo.specs.DataTable.{data_of, data_faults}
+use Rattle.ioam_topo.proofs.DataKept.{data_placed}
 use Rattle.ioam_topo.specs.FlowTable.{flow_of, flow_faults}
 use Rattle.ioam_topo.proofs.FlowKept.{flow_joins}
 use Rattle.ioam_topo.specs.declared.route_table.Parts.{Parts}
@@ -26,8 +29,8 @@ use Rattle.ioam_topo.specs.PortTable.{port_of, port_faults}
 use Rattle.ioam_topo.specs.PortRead.{name_of_port}
 use Rattle.ioam_topo.specs.RouteRead.{HoldsRoutes, route_behind, faults_behind}
 use Rattle.ioam_topo.specs.PartsRead.{HoldsParts, HoldsTelemetry}
-use Rattle.ioam_topo.specs.Top.{node_entries, link_entries, port_entries, route_entries, flow_entries, node_names, node_lists, part_faults, table_faults, data_table_faults, flow_table_faults, telemetry_faults}
-use Rattle.ioam_topo.specs.Kept.{JoinsNodes, JoinsEnds, IsAtNode, IsRouteOf, NodesKept, LinksKept, PortsKept, RoutesKept, FlowsKept}
+use Rattle.ioam_topo.specs.Top.{node_entries, link_entries, port_entries, route_entries, data_entries, flow_entries, node_names, node_lists, part_faults, table_faults, data_table_faults, flow_table_faults, telemetry_faults}
+use Rattle.ioam_topo.specs.Kept.{JoinsNodes, JoinsEnds, IsAtNode, IsRouteOf, NodesKept, LinksKept, PortsKept, RoutesKept, DataKept, FlowsKept, IsOfNode}
 use Rattle.ioam_topo.proofs.KeyLaws.{length_map}
 use Rattle.ioam_topo.proofs.KeptLaws.{goods_all, few_entries, link_joins, port_placed, route_leads}
 
@@ -92,6 +95,18 @@ module _ (t : Members) (parts : Parts) (holds : HoldsParts t parts) (clear : par
     few = let f : length (goods (flow_of (node_names t) (node_lists t)) (flow_entries t)) ≤ MOST_FLOWS = few_entries (flow_of (node_names t) (node_lists t)) FlowTable MOST_FLOWS
         (get_member (codes "flow") t) (flow_faults (node_names t) (node_lists t)) (none_behind (data_table_faults t) (flow_table_faults t) none) in
         let e : length telemetry.flows.items.items ≡ length (goods (flow_of (node_names t) (node_lists t)) (flow_entries t)) = ap length are.flows.items in omega (arith, f, e);
+  }
+
+  pub data_kept : (telemetry : Telemetry) → HoldsTelemetry t telemetry → telemetry_faults t ≡ [] → DataKept (length parts.nodes.items.items) telemetry.rows
+  data_kept telemetry are none = record {
+    keyed = are.rows.keyed;
+    placed = let all : All (IsOfNode (length (node_names t))) (goods (data_of (node_names t)) (data_entries t)) =
+        goods_all (IsOfNode (length (node_names t))) (data_of (node_names t)) (data_entries t) (data_placed (node_names t)) in
+        let P : List NodeData → Type 0 = All (IsOfNode (length (node_names t))) in let Q : ℕ → Type 0 = λ n. All (IsOfNode n) telemetry.rows.items.items in
+        subst Q node_count (subst P (sym are.rows.items) all);
+    few = let f : length (goods (data_of (node_names t)) (data_entries t)) ≤ MOST_DATA = few_entries (data_of (node_names t)) DataTable MOST_DATA
+        (get_member (codes "data") t) (data_faults (node_names t)) (none_front (data_table_faults t) (flow_table_faults t) none) in
+        let e : length telemetry.rows.items.items ≡ length (goods (data_of (node_names t)) (data_entries t)) = ap length are.rows.items in omega (arith, f, e);
   }
 
   pub routes_kept : (routes : Routes) → HoldsRoutes parts (route_entries t) routes

@@ -1,5 +1,5 @@
 -- What is known of the node data of the entries so far, and of one that was read.
-use Rattle.std.specs.Prelude.{◌≡◌, ℕ, false, List, Ok}
+use Rattle.std.specs.Prelude.{◌≡◌, ℕ, false, List, map, Ok}
 use Rattle.std.specs.List.{list_any}
 use Rattle.toml.specs.Data.{Members}
 use Rattle.ioam_topo.specs.declared.parts.NodeData.{NodeData}
@@ -8,11 +8,16 @@ use Rattle.ioam_topo.specs.Goods.{goods}
 use Rattle.ioam_topo.specs.Apart.{is_pair}
 use Rattle.ioam_topo.specs.DataTable.{data_of, data_key}
 
+-- what no two rows share
+abbrev pub key_of_data : NodeData → ℕ × ℕ
+key_of_data row = (row.node.0, row.namespace.0)
+
 module _ (nodes : List (List ℕ)) where
   -- these are the data of these entries
   pub record HoldsData (entries : List Members) (rows : DataRows) : Type 0 where
     pub items : rows.items.items ≡ goods (data_of nodes) entries
     pub keys : rows.taken.keys ≡ goods (data_key nodes) entries
+    pub keyed : rows.taken.keys ≡ map key_of_data rows.items.items
 
   -- this is what an entry holds, and its namespace is not among the node's others
   pub record IsNewData (rows : DataRows) (m : Members) (row : NodeData) : Type 0 where

@@ -7,7 +7,7 @@ use Rattle.ioam_topo.specs.declared.parts.Flow.{Flow}
 
 -- whether this is the data of a node in a namespace
 abbrev pub is_data_of : ℕ → ℕ → NodeData → Bool
-is_data_of node space row = nat_eq row.node.0 node && nat_eq row.namespace.0 space
+is_data_of node space row = nat_eq node row.node.0 && nat_eq space row.namespace.0
 
 -- the data of a node in a namespace
 abbrev pub data_at : List NodeData → ℕ → ℕ → Option NodeData

@@ -4,13 +4,15 @@ use Rattle.std.specs.List.{All}
 use Rattle.ioam_topo.specs.declared.node_table.TheConstants.{MOST_NODES}
 use Rattle.ioam_topo.specs.declared.link_table.TheConstants.{MOST_LINKS}
 use Rattle.ioam_topo.specs.declared.port_table.TheConstants.{MOST_PORTS}
-use Rattle.ioam_topo.specs.declared.domain.TheConstants.{MOST_ROUTES, MOST_FLOWS}
+use Rattle.ioam_topo.specs.declared.domain.TheConstants.{MOST_ROUTES, MOST_DATA, MOST_FLOWS}
 use Rattle.ioam_topo.specs.declared.ids.Way.{Way}
 use Rattle.ioam_topo.specs.declared.ids.Way.TheVariants.{Link as ByLink, Port as ByPort}
 use Rattle.ioam_topo.specs.declared.parts.Link.{Link}
 use Rattle.ioam_topo.specs.declared.parts.Port.{Port}
 use Rattle.ioam_topo.specs.declared.parts.Route.{Route}
+use Rattle.ioam_topo.specs.declared.parts.NodeData.{NodeData}
 use Rattle.ioam_topo.specs.declared.parts.Flow.{Flow}
+use Rattle.ioam_topo.specs.declared.data_table.DataRows.{DataRows}
 use Rattle.ioam_topo.specs.declared.flow_table.Flows.{Flows}
 use Rattle.ioam_topo.specs.declared.node_table.Nodes.{Nodes}
 use Rattle.ioam_topo.specs.declared.link_table.Links.{Links}
@@ -21,6 +23,7 @@ use Rattle.ioam_topo.specs.NodeRead.{name_of_node, address_of_node}
 use Rattle.ioam_topo.specs.LinkRead.{name_of_link}
 use Rattle.ioam_topo.specs.PortRead.{name_of_port}
 use Rattle.ioam_topo.specs.RouteRead.{key_of_route, IsSized}
+use Rattle.ioam_topo.specs.DataRead.{key_of_data}
 
 -- the ends of a link are two of so many nodes
 pub record JoinsNodes (nodes : ℕ) (link : Link) : Type 0 where
@@ -37,6 +40,10 @@ pub record JoinsEnds (nodes : ℕ) (flow : Flow) : Type 0 where
 -- a port is at one of so many nodes
 abbrev pub IsAtNode : ℕ → Port → Type 0
 IsAtNode nodes port = port.node.0 < nodes
+
+-- data are of one of so many nodes
+abbrev pub IsOfNode : ℕ → NodeData → Type 0
+IsOfNode nodes row = row.node.0 < nodes
 
 -- whether something is there, and is of a node
 abbrev pub is_of : {A : Type 0} → (A → ℕ) → ℕ → Option A → Bool
@@ -73,6 +80,11 @@ pub record RoutesKept (parts : Parts) (routes : Routes) : Type 0 where
   pub sized : All (IsSized routes.lengths.held) routes.items.items
   pub routed : All (IsRouteOf (length parts.nodes.items.items) parts.links.items.items parts.ports.items.items) routes.items.items
   pub few : length routes.items.items ≤ MOST_ROUTES
+
+pub record DataKept (nodes : ℕ) (rows : DataRows) : Type 0 where
+  pub keyed : rows.taken.keys ≡ map key_of_data rows.items.items
+  pub placed : All (IsOfNode nodes) rows.items.items
+  pub few : length rows.items.items ≤ MOST_DATA
 
 pub record FlowsKept (nodes : ℕ) (flows : Flows) : Type 0 where
   pub joined : All (JoinsEnds nodes) flows.items.items

@@ -1,8 +1,9 @@
--- What is true of each flow, whatever file it is of.
-use Rattle.std.specs.Prelude.{◌≡◌, ◌≤◌, true, is_some}
+-- What is true of each flow and of a node's data, whatever file they are of.
+use Rattle.std.specs.Prelude.{◌≡◌, ◌≤◌, ◌%◌, true, is_some, length}
 use Rattle.std.specs.Option.{ForSome}
 use Rattle.ioam_data.specs.Kind.{is_entry_type}
 use Rattle.ioam_toml.specs.Types.{is_direct_type, is_edge_type}
+use Rattle.ioam_topo.specs.declared.parts.NodeData.{NodeData}
 use Rattle.ioam_topo.specs.declared.parts.Flow.{Flow}
 
 -- its numbers are within their bounds and its types are allowed, and what goes together is there together
@@ -19,3 +20,11 @@ pub record IsFlow (flow : Flow) : Type 0 where
   pub every_most : ForSome flow.every (λ n. n ≤ 1000000)
   pub direct_every : is_some flow.every ≡ is_some flow.direct
   pub direct_id : is_some flow.flow_id ≡ is_some flow.direct
+
+-- its numbers are within their bounds, and a schema is there exactly where its snapshot is, in whole words of 4 octets
+pub record IsNodeData (row : NodeData) : Type 0 where
+  pub wide_most : ForSome row.wide (λ n. n ≤ 9223372036854775807)
+  pub schema_most : ForSome row.schema (λ n. n ≤ 16777214)
+  pub both : is_some row.snapshot ≡ is_some row.schema
+  pub words : ForSome row.snapshot (λ octets. length octets % 4 ≡ 0)
+  pub most : ForSome row.snapshot (λ octets. length octets ≤ 180)

@@ -5,8 +5,8 @@ ghost use Rattle.ioam_toml.specs.Entries.{entries};
 ghost use Rattle.ioam_topo.specs.declared.domain.TheConstants.{MOST_FLOWS};
 ghost use Rattle.std.specs.List.{All};
 ghost use Rattle.ioam_topo.specs.Faults.{Gives, at};
-ghost use Rattle.ioam_topo.specs.Kept.{NodesKept, LinksKept, PortsKept, RoutesKept, FlowsKept};
-ghost use Rattle.ioam_topo.specs.Sound.{IsFlow};
+ghost use Rattle.ioam_topo.specs.Kept.{NodesKept, LinksKept, PortsKept, RoutesKept, DataKept, FlowsKept};
+ghost use Rattle.ioam_topo.specs.Sound.{IsNodeData, IsFlow};
 ghost use Rattle.ioam_topo.specs.Top.{format_of, format_named, packets_of, top_keys, table_faults};
 
 use crate::collecting::{Collects, collect};
@@ -33,6 +33,7 @@ pub const MOST_FLOWS: usize = 0;
 pub(crate) struct Telemetry {
     pub(crate) rows: DataRows,
     pub(crate) flows: Flows,
+    ghost sound_data: { All IsNodeData rows.items.items },
     ghost few_flows: { length flows.items.items ≤ MOST_FLOWS },
     ghost sound_flows: { All IsFlow flows.items.items },
 }
@@ -49,6 +50,7 @@ pub struct Domain {
     ghost links_kept: { LinksKept (length parts.nodes.items.items) parts.links },
     ghost ports_kept: { PortsKept (length parts.nodes.items.items) parts.ports },
     ghost routes_kept: { RoutesKept parts routes },
+    ghost data_kept: { DataKept (length parts.nodes.items.items) telemetry.rows },
     ghost flows_kept: { FlowsKept (length parts.nodes.items.items) telemetry.flows },
 }
 

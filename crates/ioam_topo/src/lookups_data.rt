@@ -1,10 +1,10 @@
 ghost use Rattle.std.specs.Prelude.{◌≡◌, ◌<◌, ◌≤◌, length, position, slice_get, Some, IfSome};
 ghost use Rattle.std.specs.List.{All};
 ghost use Rattle.std.specs.Option.{option_copied};
-ghost use Rattle.ioam_topo.specs.declared.domain.TheConstants.{MOST_FLOWS};
-ghost use Rattle.ioam_topo.specs.Sound.{IsFlow};
-ghost use Rattle.ioam_topo.specs.Finding.{is_data_of, data_at, encloses, flow_at};
-ghost use Rattle.ioam_topo.specs.Kept.{JoinsEnds};
+ghost use Rattle.ioam_topo.specs.declared.domain.TheConstants.{MOST_DATA, MOST_FLOWS};
+ghost use Rattle.ioam_topo.specs.Sound.{IsNodeData, IsFlow};
+ghost use Rattle.ioam_topo.specs.Finding.{data_at, encloses, flow_at};
+ghost use Rattle.ioam_topo.specs.Kept.{IsOfNode, JoinsEnds};
 
 use crate::domain::Domain;
 use crate::ids::{FlowId, NodeId};
@@ -12,20 +12,6 @@ use crate::parts::{Flow, NodeData};
 use ioam_data::Namespace;
 use ioam_ip::Header;
 use ioam_toml::matches;
-
-// Whether this is the data of a node in a namespace.
-fn is_data_of(node: NodeId, namespace: Namespace, row: &NodeData) -> bool
-    ensures { result ≡ is_data_of node.0 namespace.0 row.now }
-{
-    row.node.0 == node.0 && row.namespace.0 == namespace.0
-}
-
-// The data of a node in a namespace.
-fn data_at(rows: &[NodeData], node: NodeId, namespace: Namespace) -> Option<&NodeData>
-    ensures { option_copied result ≡ data_at rows.now node.0 namespace.0 }
-{
-    rows.iter().find(|row| is_data_of(node, namespace, row))
-}
 
 // Whether a node encloses, for this flow, packets from a source to a target.
 fn encloses(node: NodeId, source: u128, target: u128, flow: &Flow) -> bool
@@ -59,11 +45,39 @@ impl Domain {
         self.telemetry.flows.items.as_slice()
     }
 
+    /// The data of the nodes, in file order: at most 4,096, each of a node of the domain and within
+    /// its bounds, a schema there exactly where its snapshot is.
+    pub fn data(&self) -> &[NodeData]
+        ensures few { length (node_data self.now) ≤ MOST_DATA }
+        ensures value { result.now ≡ node_data self.now }
+        ensures places { All (IsOfNode (length (nodes self.now))) result.now }
+        ensures sound { All IsNodeData result.now }
+    {
+        self.telemetry.rows.items.as_slice()
+    }
+
+    // The data at a place.
+    fn row(&self, at: usize) -> &NodeData
+        requires { at < length (node_data self.now) }
+        ensures { slice_get (node_data self.now) at ≡ Some result.now }
+    {
+        &self.telemetry.rows.items[at]
+    }
+
     /// The data of a node in a namespace, where the file has them.
     pub fn node_data(&self, node: NodeId, namespace: Namespace) -> Option<&NodeData>
-        ensures { option_copied result ≡ data_at (node_data self.now) node.0 namespace.0 }
+        ensures value { option_copied result ≡ data_at (node_data self.now) node.0 namespace.0 }
+        ensures sound { IfSome result (λ row. IsNodeData row.now) }
     {
-        data_at(self.telemetry.rows.items.as_slice(), node, namespace)
+        match self
+            .telemetry
+            .rows
+            .taken
+            .get_index_of(&(node.0, namespace.0))
+        {
+            Some(at) => Some(self.row(at)),
+            None => None,
+        }
     }
 
     /// The flow for which a node encloses a packet with this header: of the flows whose entry is

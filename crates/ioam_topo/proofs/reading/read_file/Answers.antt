@@ -2,7 +2,7 @@ use Rattle.std.proofs.Common.{refl}
 use Rattle.ioam_topo.proofs.FaultLaws.{gives_first}
 use Rattle.ioam_topo.proofs.PartsLaws.{third_of_four, last_of_four, routes_same}
 use Rattle.toml.specs.View.{table_view}
-use Rattle.ioam_topo.proofs.SoundLaws.{nodes_kept, links_kept, ports_kept, routes_kept, flows_kept}
+use Rattle.ioam_topo.proofs.SoundLaws.{nodes_kept, links_kept, ports_kept, routes_kept, data_kept, flows_kept}
 use Rattle.ioam_topo.proofs.reading.read_file.Goals as goal
 
 pub returns-in-Err : goal.returns-in-Err
@@ -26,6 +26,8 @@ invariant_of-result c = record {
   ports_kept = ports_kept (table_view c.args.top.now) c.in-Ok-read_parts.parts c.in-Ok-read_parts.ensures.1 c.in-Ok-read_parts.ensures.0;
   routes_kept = routes_kept (table_view c.args.top.now) c.in-Ok-read_parts.parts c.in-Ok-read_parts.ensures.1 c.in-Ok-read_parts.ensures.0
       c.in-Ok-read_entries.routes c.in-Ok-read_entries.ensures.1 c.in-Ok-read_entries.ensures.0;
+  data_kept = data_kept (table_view c.args.top.now) c.in-Ok-read_parts.parts c.in-Ok-read_parts.ensures.1 c.in-Ok-read_parts.ensures.0
+      c.in-Ok-read_telemetry.telemetry c.in-Ok-read_telemetry.ensures.1 c.in-Ok-read_telemetry.ensures.0;
   flows_kept = flows_kept (table_view c.args.top.now) c.in-Ok-read_parts.parts c.in-Ok-read_parts.ensures.1 c.in-Ok-read_parts.ensures.0
       c.in-Ok-read_telemetry.telemetry c.in-Ok-read_telemetry.ensures.1 c.in-Ok-read_telemetry.ensures.0;
 }

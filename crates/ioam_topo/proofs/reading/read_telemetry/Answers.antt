@@ -11,6 +11,7 @@ use Rattle.ioam_topo.specs.declared.words.Table.TheVariants.{FlowTable}
 use Rattle.ioam_topo.specs.NodeRead.{list_of}
 use Rattle.ioam_topo.specs.FlowTable.{flow_of, flow_faults}
 use Rattle.ioam_toml.specs.Entries.{entries}
+use Rattle.ioam_topo.proofs.DataKept.{data_sound}
 use Rattle.ioam_topo.proofs.FlowFacts.{flows_sound}
 use Rattle.ioam_topo.proofs.reading.read_telemetry.Goals as goal
 
@@ -28,6 +29,7 @@ returns-in-Err-read_entries c =
 
 pub invariant_of-result : goal.invariant_of-result
 invariant_of-result c = record {
+  sound_data = data_sound c.args.nodes.now.names (entries (get_member (codes "data") (table_view c.args.top.now))) c.in-Ok.rows.items.items c.in-Ok.ensures.1.items;
   few_flows = few_goods (flow_of c.args.nodes.now.names (map list_of c.args.nodes.now.items.items)) FlowTable MOST_FLOWS (get_member (codes "flow") (table_view c.args.top.now))
       (flow_faults c.args.nodes.now.names (map list_of c.args.nodes.now.items.items)) c.in-Ok-read_entries.flows.items.items
       c.in-Ok-read_entries.ensures.0 c.in-Ok-read_entries.ensures.1.items;
