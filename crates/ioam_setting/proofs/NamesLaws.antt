@@ -25,7 +25,7 @@ ports_step ports place port ids new inside is before now =
     let so_far = take place ports in
     let count : 0 + length so_far ≡ place = omega (arith, length-take-le place ports) in
     let next : take (place + 1) ports ≡ so_far ++ port ∷ []
-        = take_more ports place port inside ∙ ap (λ (p : Port). so_far ++ p ∷ []) (sym is) in
+    = take_more ports place port inside ∙ ap (λ (p : Port). so_far ++ p ∷ []) (sym is) in
     now ∙ ap (λ (l : List PortId). l ++ port_with place port.input) before
     ∙ ap (λ (n : ℕ). input_ports so_far ++ port_with n port.input) (sym count)
     ∙ sym (ports_more 0 so_far port) ∙ ap input_ports (sym next)
@@ -36,15 +36,23 @@ one_each place (Some name) = refl
 
 as_many : (place : ℕ) (ports : List Port) → length (ports_from place ports) ≡ length (input_names ports)
 as_many place [] = refl
-as_many place (port ∷ ports) = omega (arith, length-append (port_with place port.input) (ports_from (suc place) ports),
-    length-append (input_of port.input) (input_names ports), one_each place port.input, as_many (suc place) ports)
+as_many place (port ∷ ports) = omega (
+  arith,
+  length-append (port_with place port.input) (ports_from (suc place) ports),
+  length-append (input_of port.input) (input_names ports),
+  one_each place port.input,
+  as_many (suc place) ports,
+)
 
 pub length-input_ports : (ports : List Port) → length (input_ports ports) ≡ length (input_names ports)
 length-input_ports ports = as_many 0 ports
 
 pub length-output_names : (ports : List Port) (report exports : List ℕ) → length (output_names ports report exports) ≡ length ports + 2
-length-output_names ports report exports = omega (arith, length-append (map (λ (port : Port). port.output) ports) (report ∷ exports ∷ []),
-    length-map ports (λ (port : Port). port.output))
+length-output_names ports report exports = omega (
+  arith,
+  length-append (map (λ (port : Port). port.output) ports) (report ∷ exports ∷ []),
+  length-map ports (λ (port : Port). port.output),
+)
 
 -- these ports are below a number
 abbrev AreBelow : ℕ → List PortId → Type 0
@@ -123,10 +131,11 @@ differ_join : (front back : List (List ℕ)) → Differ front → Differ back
     → ((name : List ℕ) → Contains front name → Contains back name → ⊥) → Differ (front ++ back)
 differ_join [] back differ rest none = rest
 differ_join (name ∷ front) back differ rest none = (
-    λ found. ⊎_elim (λ (near : Contains front name). differ.0 near)
-        (λ (far : Contains back name). none name (0, omega arith, refl) far)
-        (Contains-append_cases front back name found),
-    differ_join front back differ.1 rest (λ other near far. none other (Contains-append_right (name ∷ []) front other near) far))
+  λ found. ⊎_elim (λ (near : Contains front name). differ.0 near)
+      (λ (far : Contains back name). none name (0, omega arith, refl) far)
+      (Contains-append_cases front back name found),
+  differ_join front back differ.1 rest (λ other near far. none other (Contains-append_right (name ∷ []) front other near) far),
+)
 
 -- the captures of a port
 abbrev names_of : Port → List (List ℕ)
@@ -150,9 +159,9 @@ outputs_differ : (ports : List Port) → Differ (flat_map names_of ports) → Di
 outputs_differ [] differ = tt
 outputs_differ (port ∷ ports) differ =
     let regrouped : Differ (input_of port.input ++ (port.output ∷ flat_map names_of ports))
-        = subst Differ (append_assoc (input_of port.input) (port.output ∷ []) (flat_map names_of ports)) differ in
+    = subst Differ (append_assoc (input_of port.input) (port.output ∷ []) (flat_map names_of ports)) differ in
     let rest : Differ (port.output ∷ flat_map names_of ports)
-        = differ_behind (input_of port.input) (port.output ∷ flat_map names_of ports) regrouped in
+    = differ_behind (input_of port.input) (port.output ∷ flat_map names_of ports) regrouped in
     (λ found. rest.0 (among_ports ports port.output found), outputs_differ ports rest.1)
 
 module _ (ports : List Port) (report exports : List ℕ) where
@@ -163,17 +172,18 @@ module _ (ports : List Port) (report exports : List ℕ) where
       let behind = flat_map names_of ports in
       let held : Contains behind name = among_ports ports name near in
       ⊎_elim (λ (is : report ≡ name). differ.0 (Contains-append_right (exports ∷ []) behind report
-          (subst (λ (n : List ℕ). Contains behind n) (sym is) held)))
+      (subst (λ (n : List ℕ). Contains behind n) (sym is) held)))
       (λ (last : Contains (exports ∷ []) name). ⊎_elim (λ (is : exports ≡ name). differ.1.0 (subst (λ (n : List ℕ). Contains behind n) (sym is) held))
-          (λ (none : Contains [] name). absurd (omega (arith, none.1)))
-          (first_or_behind exports [] name last))
+      (λ (none : Contains [] name). absurd (omega (arith, none.1)))
+      (first_or_behind exports [] name last))
       (first_or_behind report (exports ∷ []) name far)
 
   written_differ : Differ (report ∷ exports ∷ flat_map names_of ports) → Differ (output_names ports report exports)
   written_differ differ =
-      differ_join (outputs_of ports) (report ∷ exports ∷ []) (outputs_differ ports differ.1.1)
-      (λ found. differ.0 (Contains-append_left (exports ∷ []) (flat_map names_of ports) report found),
-          (λ found. absurd (omega (arith, found.1)), tt))
+      differ_join (outputs_of ports) (report ∷ exports ∷ []) (outputs_differ ports differ.1.1) (
+        λ found. differ.0 (Contains-append_left (exports ∷ []) (flat_map names_of ports) report found),
+        (λ found. absurd (omega (arith, found.1)), tt),
+      )
       (apart_from_ports differ)
 
 -- names that are apart as all files are apart as outputs

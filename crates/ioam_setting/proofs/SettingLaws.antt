@@ -14,9 +14,11 @@ use Rattle.ioam_setting.specs.declared.setting.Refusal.TheVariants as refusal
 -- one name was asked for, and then perhaps the next
 pub asks_next : (old mid new : Side) (first second : List ℕ) → mid ≡ opened_side old first
     → AsksFront mid.asked new.asked (second ∷ []) → AsksFront old.asked new.asked (first ∷ second ∷ [])
-asks_next old mid new first second opened asks =
-    (suc asks.0, asks.1 ∙ ap (λ (s : Side). s.asked ++ take asks.0 (second ∷ [])) opened
-    ∙ append_assoc old.asked (first ∷ []) (take asks.0 (second ∷ [])))
+asks_next old mid new first second opened asks = (
+  suc asks.0,
+  asks.1 ∙ ap (λ (s : Side). s.asked ++ take asks.0 (second ∷ [])) opened
+      ∙ append_assoc old.asked (first ∷ []) (take asks.0 (second ∷ [])),
+)
 
 module _ (tells : Bool) (old mid new : Reading) (desk next : Writing) (domain_file readings_file : List ℕ) (domain : Domain) where
   -- the domain was read, and the readings were refused

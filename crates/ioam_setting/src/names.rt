@@ -18,11 +18,7 @@ fn push_name(alloc: Global, names: &mut Vec<Name>, name: &Name) -> Result<(), No
 }
 
 // Puts a copy of the name of a port's arrivals behind these, if it has one.
-fn push_input(
-    alloc: Global,
-    names: &mut Vec<Name>,
-    input: &Option<Name>,
-) -> Result<(), NoMemory>
+fn push_input(alloc: Global, names: &mut Vec<Name>, input: &Option<Name>) -> Result<(), NoMemory>
     ensures { OnOk result (names.new.items ≡ names.old.items ++ input_of input.now) }
 {
     match input {
@@ -32,11 +28,7 @@ fn push_input(
 }
 
 // Puts the port at a place behind these, if it has arrivals.
-fn push_port(
-    ids: &mut Vec<PortId>,
-    place: u32,
-    input: &Option<Name>,
-) -> Result<(), NoMemory>
+fn push_port(ids: &mut Vec<PortId>, place: u32, input: &Option<Name>) -> Result<(), NoMemory>
     ensures { OnOk result (ids.new.items ≡ ids.old.items ++ port_with place input.now) }
 {
     match input {
@@ -101,12 +93,12 @@ fn word_names(
 ) -> Result<Vec<Name>, NoMemory>
     ensures { IfOk result (λ names. names.items ≡ domain_file.now ∷ readings_file.now ∷ report.now ∷ exports.now ∷ []) }
 {
-    let mut names = Vec::new(alloc);
-    push_name(alloc, &mut names, domain_file)?;
-    push_name(alloc, &mut names, readings_file)?;
-    push_name(alloc, &mut names, report)?;
-    push_name(alloc, &mut names, exports)?;
-    Ok(names)
+    let mut words = Vec::new(alloc);
+    push_name(alloc, &mut words, domain_file)?;
+    push_name(alloc, &mut words, readings_file)?;
+    push_name(alloc, &mut words, report)?;
+    push_name(alloc, &mut words, exports)?;
+    Ok(words)
 }
 
 /// All files, in the order in which equal ones are looked for: those of the words, then those of each port.

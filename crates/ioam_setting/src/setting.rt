@@ -50,11 +50,7 @@ fn read_file<D: Desk>(
 }
 
 // Reads the domain file.
-fn read_domain_file<D: Desk>(
-    alloc: Global,
-    desk: &mut D,
-    name: &Name,
-) -> Result<Domain, Refusal>
+fn read_domain_file<D: Desk>(alloc: Global, desk: &mut D, name: &Name) -> Result<Domain, Refusal>
     ensures read { IsDomainRead D.tells (D.reading desk.old) (D.reading desk.new) (holds (D.writing desk.old) name.now) result }
     ensures side { OnOk result ((D.reading desk.new).side ≡ opened_side (D.reading desk.old).side name.now) }
     ensures ended { OnOk result (IsTrue D.tells → IsTrue ((D.reading desk.new).ended (D.reading desk.old).side.slots)) }
