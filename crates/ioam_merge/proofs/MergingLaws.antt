@@ -168,6 +168,7 @@ module _ (tells : Bool) (start : Start) (taken : List Arrival) where
             Lane-other tells old new (start.base + place) (start.base + k) moves (omega (arith, slots)) (λ same. other.0 (omega (arith, same)))
                 r.content r.capture r.handed (of_capture k taken) was.0,
             was.1,
+            was.2,
           )
 
   -- a capture whose next record isn't shown

@@ -85,6 +85,7 @@ module _ (tells : Bool) (start : Start) (old new : desk.Reading) (merge : Merge)
             Lane-other tells old new capture.feed.slot (start.base + k) (opens.other_left, opens.other_ended) more_slots
                 (λ same. absurd (omega (arith, same, slot_is, before.0))) r.content r.capture r.handed [] was.0,
             was.1,
+            was.2,
           )
       each_row k r (inr here) =
           let place : capture.feed.slot ≡ start.base + k = omega (arith, slot_is, here.0) in
@@ -101,6 +102,7 @@ module _ (tells : Bool) (start : Start) (old new : desk.Reading) (merge : Merge)
               none_left = λ told end. absurd (cc);
             },
             λ shown. absurd (shown refl),
+            tt,
           )
 
 -- a list with one item more of another

@@ -1,32 +1,72 @@
 -- A record is taken of one of several captures that are merged by time.
-use Rattle.std.proofs.Common.{◌≡◌, ℕ, ◌+◌, ◌<◌, Bool, List, [], ◌∷◌, ◌++◌, length, Option, Some, None, arith, refl, sym, ap, ◌∙◌, subst, set, inl, inr, ◌⊎◌}
+use Rattle.std.proofs.Common.{◌≡◌, ℕ, ◌+◌, ◌<◌, Bool, List, [], ◌∷◌, ◌++◌, length, Option, Some, None, arith, refl, sym, ap, ◌∙◌, subst, set, get_or, inl, inr, ◌⊎◌}
 use Rattle.std.specs.Prelude.{slice_get}
 use Rattle.std.specs.List.{AllZip}
-use Rattle.std.proofs.lemmas.Option.{same_Some}
+use Rattle.std.proofs.lemmas.Option.{same_Some, slice_get_read}
 use Rattle.ioam_desk.specs.Desk as desk
 use Rattle.ioam_pcap.specs.Arrives.{Handed, IsStream}
 use Rattle.ioam_pcap.specs.Entries.{Entry}
-use Rattle.ioam_pcap.specs.Merge.{Stream, Arrival, of_capture, first_of, arrival, rest, CanTake, IsNext, Takes}
-use Rattle.ioam_pcap.specs.Reader.{Stands, link_of}
+use Rattle.ioam_pcap.specs.Merge.{Stream, Arrival, due_of, of_capture, first_of, arrival, rest, CanTake, IsNext, Takes}
+use Rattle.ioam_pcap.specs.Reader.{Stands, Told, link_of}
+use Rattle.ioam_pcap.specs.Reading.{Reading}
 use Rattle.ioam_pcap.specs.Reads.{EntryAt, link_by}
+use Rattle.ioam_pcap.specs.declared.capture.Packet as packet
+use Rattle.ioam_pcap.specs.declared.capture.CapStep.{CapStep}
+use Rattle.ioam_pcap.specs.declared.capture.CapStep.TheVariants.{Packet}
 use Rattle.ioam_pcap.specs.declared.form.Form.{Form}
 use Rattle.ioam_pcap.specs.declared.form.Link.{Link}
-use Rattle.ioam_pcap.specs.declared.turns.Due.TheVariants.{More}
-use Rattle.ioam_pcap.proofs.MergeLaws.{Takes-push, Next-first, of_capture-push_same, of_capture-push_other}
-use Rattle.ioam_pcap.proofs.StreamsLaws.{Streams-take, Streams-link}
+use Rattle.ioam_pcap.specs.declared.turns.Due.TheVariants.{Record, More}
+use Rattle.ioam_pcap.proofs.MergeLaws.{Takes-push, Next-first, Next-due, of_capture-push_same, of_capture-push_other}
+use Rattle.ioam_pcap.proofs.StreamsLaws.{Streams-take, Streams-link, due-packet}
 use Rattle.ioam_merge.specs.Capture.{Lane}
 use Rattle.ioam_merge.specs.Merging.{Start, Row, IsRow, Rows, Merging, Comes, GivesRecord}
 use Rattle.ioam_merge.specs.declared.capture.Capture.{Capture}
 use Rattle.ioam_merge.specs.declared.merge.Merge.{Merge}
 use Rattle.ioam_merge.proofs.ListLaws.{get-map, get-set, map-set, map-set_same}
-use Rattle.ioam_merge.proofs.MergingLaws.{row_stream, within}
-use Rattle.ioam_merge.proofs.ShowLaws.{row_there, Merging-sized}
+use Rattle.ioam_merge.proofs.MergingLaws.{row_stream, map_length, within}
+use Rattle.ioam_merge.proofs.ShowLaws.{row_there, IsHeaded-more, Merging-sized}
 
 -- the record that comes next is of one of the captures
 pub Comes-inside : (tells : Bool) (start : Start) (taken : List Arrival) (inputs : desk.Reading) (merge : Merge) (place time : ℕ)
     → Comes tells start inputs merge taken place time → place < length merge.captures.items
 Comes-inside tells start taken inputs merge place time comes =
     omega (arith, within merge.dues.items place More comes.again, Merging-sized tells start taken inputs inputs merge comes.merging)
+
+pub Comes-below : (tells : Bool) (start : Start) (taken : List Arrival) (inputs : desk.Reading) (merge : Merge) (place time : ℕ)
+    → Comes tells start inputs merge taken place time → place < length start.contents
+Comes-below tells start taken inputs merge place time comes = omega (
+  arith,
+  Comes-inside tells start taken inputs merge place time comes,
+  ap length comes.merging.captures,
+  ap length comes.merging.are_rows.contents,
+  map_length (λ (r : Row). r.capture) comes.merging.rows,
+  map_length (λ (r : Row). r.content) comes.merging.rows,
+)
+
+-- the capture that stands there, as an index reads it
+pub Comes-there : (tells : Bool) (start : Start) (taken : List Arrival) (inputs : desk.Reading) (merge : Merge) (place time : ℕ)
+    → Comes tells start inputs merge taken place time → (capture : Capture) → capture ≡ get_or merge.captures.items place capture
+    → slice_get merge.captures.items place ≡ Some capture
+Comes-there tells start taken inputs merge place time comes capture is =
+    slice_get_read merge.captures.items (length merge.captures.items) place capture refl (Comes-inside tells start taken inputs merge place time comes) is
+
+-- its reader's next step gives a packet
+pub Comes-packet : (tells : Bool) (start : Start) (taken : List Arrival) (inputs : desk.Reading) (merge : Merge) (place time : ℕ)
+    → Comes tells start inputs merge taken place time → (capture : Capture) → slice_get merge.captures.items place ≡ Some capture → (new : Reading) (step : CapStep)
+    → ((octets : List ℕ) (given : List Entry) → Stands capture.feed.reader octets given → Told octets given capture.feed.reader new step)
+    → (p : packet.Packet) × (step ≡ Packet p)
+Comes-packet tells start taken inputs merge place time comes capture there new step told =
+    let rows = comes.merging.rows in
+    let are = comes.merging.are_rows in
+    let given = of_capture place taken in
+    let (row, is, same) = row_there tells start taken inputs inputs merge comes.merging place capture there in
+    let P : Capture → Type 0 = λ c. Lane tells row.content inputs (start.base + place) c row.handed given in
+    let lane : P capture = subst P same (are.each place row is).0 in
+    let (s, at, shows) = row_stream tells start taken inputs rows are place row is in
+    let (t, here, due) = Next-due are.begins.now place time comes.next in
+    let due_is : due_of s ≡ Record time = ap due_of (same_Some s t (sym at ∙ here)) ∙ due in
+    due-packet capture.feed.reader row.handed.octets row.handed.ended given s lane.fed.stands shows new step time (comes.headed capture there) due_is
+    (told row.handed.octets given lane.fed.stands)
 
 -- a reader that gives a record has read its capture's head
 linked_by : (octets : List ℕ) (form : Option Form) (at : ℕ) (entry : Entry) → EntryAt octets form at entry → (l : Link) × (link_by form ≡ Some l)
@@ -91,7 +131,7 @@ module _ (tells : Bool) (start : Start) (taken : List Arrival) (inputs : desk.Re
       let moved : F later.content later.capture later.handed =
       subst (λ x. F x later.capture later.handed) (sym content) (subst (λ c. F row.content c later.handed) (sym capture_is) (subst (λ h. F row.content after h) (sym handed) pushed)) in
       let W : ℕ → Row → Type 0 = λ n x. IsRow tells inputs (start.base + n) x (of_capture n (taken ++ one ∷ [])) in
-      subst (λ n. W n r) (sym here.0) (subst (W place) (sym here.1) (moved, λ shown. absurd (shown due)))
+      subst (λ n. W n r) (sym here.0) (subst (W place) (sym here.1) (moved, λ shown. absurd (shown due), IsHeaded-more later.due later.capture.feed.reader due))
 
   -- its reader gave the record that comes next: it was taken, and its capture is asked again
   pub Comes-take : (next : Merge) → next.captures.items ≡ set merge.captures.items place after → next.dues.items ≡ merge.dues.items

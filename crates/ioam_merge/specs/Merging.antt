@@ -1,6 +1,6 @@
 -- Several captures of a desk that are merged by time: what was handed out of them, and what was
 -- taken of what that shows.
-use Rattle.std.specs.Prelude.{◌≡◌, ℕ, ◌+◌, ◌<◌, ⊤, Bool, true, IsTrue, List, [], ◌∷◌, ◌++◌, length, map, slice_get, Option, Some, Result, Ok, Err}
+use Rattle.std.specs.Prelude.{◌≡◌, ℕ, ◌+◌, ◌<◌, ⊤, Bool, true, IsTrue, List, [], ◌∷◌, ◌++◌, length, map, slice_get, Option, Some, None, Result, Ok, Err}
 use Rattle.std.specs.List.{AllZip}
 use Rattle.ioam_desk.specs.Desk as desk
 use Rattle.ioam_desk.specs.Desk.{Side, Writing, holds}
@@ -9,7 +9,7 @@ use Rattle.ioam_desk.specs.declared.fault.DeskFault.TheVariants.{Failed, NoMemor
 use Rattle.ioam_pcap.specs.Arrives.{Handed, IsStream, Arrives}
 use Rattle.ioam_pcap.specs.Entries.{Entry}
 use Rattle.ioam_pcap.specs.Merge.{Stream, Arrival, turn, of_capture, Takes}
-use Rattle.ioam_pcap.specs.Reader.{Stands}
+use Rattle.ioam_pcap.specs.Reader.{Stands, IsHeaded}
 use Rattle.ioam_pcap.specs.Reading.{Reading}
 use Rattle.ioam_pcap.specs.Reads.{EntryAt}
 use Rattle.ioam_pcap.specs.declared.turns.Due.{Due}
@@ -84,10 +84,12 @@ pub record Row : Type 0 where
   pub due : Due
   pub handed : Handed
 
--- its records that were taken are these; what is due of it is known, or it has to be asked
+-- its records that were taken are these; what is due of it is known, or it has to be asked; where a
+-- record is due its head was read
 abbrev pub IsRow : Bool → desk.Reading → ℕ → Row → List Entry → Type 0
 IsRow tells inputs slot row given = Lane tells row.content inputs slot row.capture row.handed given
     × ((row.due ≡ More → ⊥) → IsDue row.handed given row.due)
+    × IsHeaded row.due row.capture.feed.reader
 
 -- of the captures in these rows these records were taken
 pub record Rows (tells : Bool) (start : Start) (inputs : desk.Reading) (rows : List Row) (taken : List Arrival) : Type 0 where
@@ -108,11 +110,17 @@ abbrev pub IsMerging : Bool → desk.Reading → Merge → Type 0
 IsMerging tells inputs merge = (start : Start) × (taken : List Arrival) × Merging tells start inputs merge taken
 
 -- and the next record is of the capture at this place, with this time; the capture has to be asked
--- again behind it
+-- again behind it; its head was read
 pub record Comes (tells : Bool) (start : Start) (inputs : desk.Reading) (merge : Merge) (taken : List Arrival) (place time : ℕ) : Type 0 where
   pub merging : Merging tells start inputs merge taken
   pub next : turn merging.are_rows.begins.now ≡ Next place time
   pub again : slice_get merge.dues.items place ≡ Some More
+  pub headed : (capture : Capture) → slice_get merge.captures.items place ≡ Some capture → capture.feed.reader.form ≡ None → ⊥
+
+-- the same, of some that were opened
+abbrev pub IsComing : Merge → ℕ → Type 0
+IsComing merge place = (tells : Bool) × (start : Start) × (inputs : desk.Reading) × (taken : List Arrival) × (time : ℕ)
+    × Comes tells start inputs merge taken place time
 
 -- a reader gave this record, the next of its capture
 abbrev pub GivesRecord : Reading → Entry → Reading → Type 0

@@ -1,10 +1,10 @@
 //! One of several captures that are read in pieces.
-ghost use Rattle.std.specs.Prelude.{◌≡◌, ◌<◌, ◌≤◌, List, ℕ, IfErr, OnOk, length};
+ghost use Rattle.std.specs.Prelude.{◌≡◌, ◌<◌, ◌≤◌, List, ℕ, IfErr, IfOk, OnOk, length};
 ghost use Rattle.ioam_desk.specs.Asked.{IsFaultOf};
 ghost use Rattle.ioam_feed.specs.Feed.{Refills};
 ghost use Rattle.ioam_pcap.specs.Entries.{Entry};
 ghost use Rattle.ioam_pcap.specs.Merge.{Stream, due_of};
-ghost use Rattle.ioam_pcap.specs.Reader.{Stands, IsHeadDue, fed, link_of};
+ghost use Rattle.ioam_pcap.specs.Reader.{Stands, IsHeadDue, IsHeaded, fed, link_of};
 ghost use Rattle.ioam_pcap.specs.Streams.{Streams};
 ghost use Rattle.ioam_merge.specs.Capture.{HasHead, ShowsDue, MovesOne};
 
@@ -45,6 +45,7 @@ impl Capture {
     fn due(&mut self) -> Due
         ensures due { (octets : List ℕ) (given : List Entry) (stream : Stream) → Stands self.old.feed.reader octets given
             → Streams octets self.old.ended given stream → result ≡ due_of stream }
+        ensures headed { IsHeaded result self.new.feed.reader }
         ensures stands { (octets : List ℕ) (given : List Entry) → Stands self.old.feed.reader octets given
             → self.old.link ≡ link_of self.old.feed.reader
             → Stands self.new.feed.reader octets given × (self.new.link ≡ link_of self.new.feed.reader) }
@@ -92,6 +93,7 @@ impl Capture {
         requires open { self.old.feed.slot < (D.reading desk.old).side.slots }
         requires room { length piece.old ≡ PIECE }
         ensures shown { ShowsDue D.tells (D.reading desk.old) self.old result (D.reading desk.new) self.new }
+        ensures headed { IfOk result (λ due. IsHeaded due self.new.feed.reader) }
         ensures others { MovesOne self.old.feed.slot (D.reading desk.old) (D.reading desk.new) }
         ensures same { OnOk result ((D.reading desk.new).side ≡ (D.reading desk.old).side) }
         ensures cause { IfErr result (IsFaultOf (D.reading desk.old).side (D.reading desk.new).side) }

@@ -1,9 +1,9 @@
 //! Several captures that are merged by time.
-ghost use Rattle.std.specs.Prelude.{◌≡◌, ◌<◌, ◌+◌, ◌++◌, ◌∷◌, [], Bool, List, ℕ, None, false, IfErr, IfOk, IfSome, OnOk, length, vec_len};
+ghost use Rattle.std.specs.Prelude.{◌≡◌, ◌<◌, ◌+◌, ◌++◌, ◌∷◌, [], Bool, List, ℕ, None, false, IfErr, IfOk, OnOk, length, vec_len};
 ghost use Rattle.ioam_desk.specs.Asked.{IsFaultOf};
 ghost use Rattle.ioam_desk.specs.Desk.{Reading};
 ghost use Rattle.ioam_pcap.specs.Merge.{Arrival};
-ghost use Rattle.ioam_merge.specs.Merging.{Start, Merging, Comes, IsMerging, AreKnown, Shows, Turns};
+ghost use Rattle.ioam_merge.specs.Merging.{Start, Merging, Comes, IsComing, IsMerging, AreKnown, Shows, Turns};
 
 use crate::capture::Capture;
 use ioam_base::memory::NoMemory;
@@ -139,16 +139,16 @@ impl Merge {
     }
 
     /// Takes the record that comes next, of the capture that `turn` has named, and passes over its
-    /// octets. The answer is its time in nanoseconds; none, where the capture's next isn't a record.
-    pub fn pass(&mut self, place: usize) -> Option<u64>
-        requires { place < vec_len self.old.captures }
-        ensures { IfSome result (λ at. (tells : Bool) (start : Start) (inputs : Reading) (taken : List Arrival) (time : ℕ)
+    /// octets. The answer is its time in nanoseconds.
+    pub fn pass(&mut self, place: usize) -> u64
+        requires { IsComing self.old place }
+        ensures { (tells : Bool) (start : Start) (inputs : Reading) (taken : List Arrival) (time : ℕ)
             → Comes tells start inputs self.old taken place time
-            → (at ≡ time) × ((one : Arrival) × Merging tells start inputs self.new (taken ++ one ∷ []))) }
+            → (result ≡ time) × ((one : Arrival) × Merging tells start inputs self.new (taken ++ one ∷ [])) }
     {
         match self.captures[place].feed.reader.next() {
-            CapStep::Packet(packet) => Some(packet.time),
-            _ => None,
+            CapStep::Packet(packet) => packet.time,
+            _ => unreachable!(),
         }
     }
 }

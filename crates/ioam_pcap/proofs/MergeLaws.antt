@@ -26,7 +26,7 @@ due_next : (streams : List Stream) (place time : ℕ) → turn streams ≡ Next 
 due_next streams place time next = (subst (IsTurn (map due_of streams)) next (turn_says (map due_of streams))).0
 
 -- what is due as a record is the first one
-due_first : (entries : List Entry) (ending : Option Ending) (time : ℕ) → due_by entries ending ≡ Record time
+pub due_first : (entries : List Entry) (ending : Option Ending) (time : ℕ) → due_by entries ending ≡ Record time
     → (e : Entry) × (es : List Entry) × (entries ≡ e ∷ es)
 due_first (e ∷ es) ending time due = (e, es, refl)
 due_first [] None time due = absurd (cc)
@@ -302,12 +302,17 @@ stream_due [] place due is = absurd (none-some due is)
 stream_due (s ∷ ss) zero due is = (s, refl, same_Some (due_of s) due is)
 stream_due (s ∷ ss) (suc place) due is = stream_due ss place due is
 
+-- what comes next, where a record does, is due of the capture at its place
+pub Next-due : (streams : List Stream) (place time : ℕ) → turn streams ≡ Next place time
+    → (s : Stream) × (slice_get streams place ≡ Some s) × (due_of s ≡ Record time)
+Next-due streams place time next = stream_due streams place (Record time) (due_next streams place time next)
+
 -- what comes next, where a record does: the first of the capture at its place, with its time
 pub Next-first : (streams : List Stream) (place time : ℕ) → turn streams ≡ Next place time
     → (s : Stream) × (slice_get streams place ≡ Some s) × ((first_of s.entries).time ≡ time)
     × (arrival streams ≡ record { capture = place; link = s.link; entry = first_of s.entries }) × (rest streams ≡ without_first streams place)
 Next-first streams place time next =
-    let (s, there, due) = stream_due streams place (Record time) (due_next streams place time next) in
+    let (s, there, due) = Next-due streams place time next in
     let (e, es, is) = due_first s.entries s.ending time due in
     let first_due : ◌≡◌ {A = Due} (Record e.time) (Record time) = ap (λ xs. due_by xs s.ending) (sym is) ∙ due in
     let here = stream_is streams place s there in

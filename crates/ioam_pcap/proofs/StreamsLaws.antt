@@ -8,15 +8,20 @@ use Rattle.ioam_pcap.specs.declared.form.Link.{Link}
 use Rattle.ioam_pcap.specs.declared.form.Form.{Form}
 use Rattle.ioam_pcap.specs.declared.capture.CapFault.{CapFault}
 use Rattle.ioam_pcap.specs.declared.capture.CapFault.TheVariants as fault
+use Rattle.ioam_pcap.specs.declared.capture.Packet as packet
+use Rattle.ioam_pcap.specs.declared.capture.CapStep.{CapStep}
+use Rattle.ioam_pcap.specs.declared.capture.CapStep.TheVariants as step
+use Rattle.ioam_pcap.specs.declared.turns.Due.{Due}
 use Rattle.ioam_pcap.specs.declared.turns.Due.TheVariants.{Record, Bad, More}
 use Rattle.ioam_pcap.specs.Form.{HasHead}
 use Rattle.ioam_pcap.specs.Entries.{Entry, IsWhole, entry_at, behind, Entries}
 use Rattle.ioam_pcap.specs.Reads.{Reached, FaultAt, CutAt, EntryAt, Ending, Whole, Faulty, EndsAt, Reads, link_by}
 use Rattle.ioam_pcap.specs.Reading.{Reading}
-use Rattle.ioam_pcap.specs.Reader.{Stands, link_of}
+use Rattle.ioam_pcap.specs.Reader.{Stands, Told, link_of}
 use Rattle.ioam_pcap.specs.Merge.{Stream, due_of, due_by, first_of, Continues}
 use Rattle.ioam_pcap.specs.Streams.{known_ending, ShowsSo, Streams}
 use Rattle.ioam_pcap.proofs.BehindLaws.{Reached-behind, FaultAt-behind}
+use Rattle.ioam_pcap.proofs.MergeLaws.{due_first}
 use Rattle.ioam_pcap.proofs.ReadsLaws.{Reads-unique, Reads-total, head_unique, ends_front, ends_no_record}
 use Rattle.ioam_pcap.proofs.StandsLaws.{ends_by_fault}
 
@@ -232,3 +237,17 @@ module _ (reader : Reading) (octets : List ℕ) (ended : Bool) (taken : List Ent
 
   pub due-end : ended ≡ true → (ending : Ending) → Reads octets (link_of reader) taken ending → due_of stream ≡ due_by [] (Some ending)
   due-end over ending reads = due_none ending (taken_all ending reads) ∙ ap (λ b. due_by [] (known_ending b ending)) over
+
+  -- where a record is due and the head was read, a step gives a record
+  pub due-packet : (new : Reading) (s : CapStep) (time : ℕ) → (reader.form ≡ None → ⊥) → due_of stream ≡ Record time → Told octets taken reader new s
+      → (p : packet.Packet) × (s ≡ step.Packet p)
+  due-packet new (step.Head link) time headed due told = absurd (headed told.0.0)
+  due-packet new (step.Packet p) time headed due told = (p, refl)
+  due-packet new step.More time headed due told =
+      let (ending, reads, short) = cut_reads octets reader.form taken reader.start stands.reached told.0 in
+      let (e, es, is) = due_first stream.entries stream.ending time due in
+      let wrong : ◌≡◌ {A = List Entry} (e ∷ es) [] = sym is ∙ (taken_all ending reads).0 in
+      absurd (cc)
+  due-packet new (step.Bad at fault) time headed due told =
+      let wrong : ◌≡◌ {A = Due} (Record time) (Bad reader.start fault) = sym due ∙ due-bad reader.start fault refl told.0 in
+      absurd (cc)

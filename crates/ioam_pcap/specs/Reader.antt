@@ -1,5 +1,5 @@
 -- What a reader stands for, and what its steps tell of the octets that it was fed.
-use Rattle.std.specs.Prelude.{◌≡◌, ℕ, ◌+◌, ◌≤◌, List, [], ◌∷◌, ◌++◌, length, drop, Option, Some, None}
+use Rattle.std.specs.Prelude.{◌≡◌, ⊤, ℕ, ◌+◌, ◌<◌, ◌≤◌, ◌^◌, List, [], ◌∷◌, ◌++◌, length, drop, Option, Some, None}
 use Rattle.std.specs.Io.BufRead.{Rests}
 use Rattle.std.specs.Borrow.{Fml, MutBor}
 use Rattle.ioam_pcap.specs.declared.form.Link.{Link}
@@ -9,6 +9,8 @@ use Rattle.ioam_pcap.specs.declared.capture.CapStep.{CapStep}
 use Rattle.ioam_pcap.specs.declared.capture.CapStep.TheVariants.{Head, Packet, More, Bad}
 use Rattle.ioam_pcap.specs.declared.capture.CapLook.{CapLook}
 use Rattle.ioam_pcap.specs.declared.capture.CapLook.TheVariants as look
+use Rattle.ioam_pcap.specs.declared.turns.Due.{Due}
+use Rattle.ioam_pcap.specs.declared.turns.Due.TheVariants as due
 use Rattle.ioam_pcap.specs.contracts.reader.CaptureReader.{the_row}
 use Rattle.ioam_pcap.specs.Entries.{Entry}
 use Rattle.ioam_pcap.specs.Reads.{Reached, CutAt, Shown, HeadShown, EntryShown, CutShown, FaultShown, Shows, Ending, Whole, Faulty, Reads, Cap, link_by}
@@ -40,12 +42,13 @@ entry_of p = record { time = p.time; original = p.original; octets = p.octets.no
 abbrev pub Waits : Reading → Type 0
 Waits reader = CutAt reader.pending reader.form 0
 
--- the octets that a step takes off
+-- the octets that a step takes off; the time of a record is below 2^62
 abbrev pub Moved : Reading → Reading → CapStep → Type 0
 Moved old new (Head link) = (new.start ≡ old.start + 24) × (new.pending ≡ drop 24 old.pending) × (length new.pending + 24 ≡ length old.pending)
 Moved old new (Packet p) = (new.form ≡ old.form) × (new.start ≡ old.start + (16 + length p.octets.now))
     × (new.pending ≡ drop (16 + length p.octets.now) old.pending)
     × (length new.pending + (16 + length p.octets.now) ≡ length old.pending)
+    × (p.time < 2 ^ 62)
 Moved old new More = (new ≡ old) × Waits old
 Moved old new (Bad at fault) = (new ≡ old) × (at ≡ old.start)
 
@@ -85,6 +88,13 @@ Looks octets reader (look.Bad at fault) = (at ≡ reader.start) × Shows octets 
 -- the head is whole, and due
 abbrev pub IsHeadDue : List ℕ → Reading → Type 0
 IsHeadDue octets reader = (link : Link) × Shows octets reader.form reader.start (HeadShown link)
+
+-- where a record is due the head was read
+abbrev pub IsHeaded : Due → Reading → Type 0
+IsHeaded (due.Record time) reader = reader.form ≡ None → ⊥
+IsHeaded due.End reader = ⊤
+IsHeaded (due.Bad at fault) reader = ⊤
+IsHeaded due.More reader = ⊤
 
 -- so the reader is once the step's octets are no longer lent
 abbrev pub RestsSo : MutBor Reading → CapStep → Fml

@@ -1,5 +1,5 @@
 -- What a step over the octets where a head or a record is due tells of them.
-use Rattle.std.specs.Prelude.{◌≡◌, ℕ, List}
+use Rattle.std.specs.Prelude.{◌≡◌, ℕ, ◌<◌, ◌^◌, ⊤, List}
 use Rattle.ioam_pcap.specs.declared.form.Form.{Form}
 use Rattle.ioam_pcap.specs.declared.head.HeadStep.{HeadStep}
 use Rattle.ioam_pcap.specs.declared.head.HeadStep.TheVariants as head
@@ -19,3 +19,9 @@ TellsEntry form octets (entry.Whole h) = IsWhole form octets 0 × (h.captured �
     × (h.time ≡ (entry_at form octets 0).time) × (h.original ≡ (entry_at form octets 0).original)
 TellsEntry form octets entry.Cut = IsEntryCut form octets 0
 TellsEntry form octets (entry.Bad fault) = EntryFault form octets 0 fault
+
+-- the time of a record that is read is below 2^62
+abbrev pub IsTimely : EntryStep → Type 0
+IsTimely (entry.Whole h) = h.time < 2 ^ 62
+IsTimely entry.Cut = ⊤
+IsTimely (entry.Bad fault) = ⊤

@@ -1,5 +1,5 @@
 ghost use Rattle.std.specs.Prelude.{◌≡◌, ◌+◌, ◌≤◌, length};
-ghost use Rattle.ioam_pcap.specs.Steps.{TellsEntry};
+ghost use Rattle.ioam_pcap.specs.Steps.{IsTimely, TellsEntry};
 
 use crate::capture::{CapFault, RECORD_MOST};
 use crate::form::{Form, Fraction};
@@ -23,7 +23,8 @@ pub enum EntryStep {
 
 // What the octets that begin where a record is due show of it.
 pub fn entry_step(form: Form, octets: &[u8]) -> EntryStep
-    ensures { TellsEntry form octets.now result }
+    ensures tells { TellsEntry form octets.now result }
+    ensures timely { IsTimely result }
 {
     if octets.len() < 16 {
         return EntryStep::Cut;

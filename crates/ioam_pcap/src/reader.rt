@@ -1,4 +1,4 @@
-ghost use Rattle.std.specs.Prelude.{◌≡◌, ◌+◌, ◌≤◌, ◌<◌, ◌^◌, ◌++◌, [], List, ℕ, length, drop, IfOk, IsSome, MatchOption, OnErr, OnOk, vec_len};
+ghost use Rattle.std.specs.Prelude.{◌≡◌, ◌+◌, ◌≤◌, ◌<◌, ◌^◌, ◌++◌, [], List, ℕ, length, drop, IfOk, IfSome, IsSome, MatchOption, OnErr, OnOk, vec_len};
 ghost use Rattle.std.specs.Borrow.{sem};
 
 use crate::capture::{CapFault, CapLook, CapStep, Packet};
@@ -58,7 +58,7 @@ impl CaptureReader {
     ghost use Rattle.ioam_pcap.specs.Merge.{Stream, due_of};
     ghost use Rattle.ioam_pcap.specs.Reads.{Reads};
     ghost use Rattle.ioam_pcap.specs.Streams.{Streams};
-    ghost use Rattle.ioam_pcap.specs.Reader.{Stands, IsHeadDue, Waits, Looks, RestsSo, fresh, fed, link_of, ending_of};
+    ghost use Rattle.ioam_pcap.specs.Reader.{Stands, IsHeadDue, IsHeaded, Waits, Looks, RestsSo, fresh, fed, link_of, ending_of};
 
     /// A reader that was fed nothing.
     pub fn new(alloc: Global) -> Result<CaptureReader, NoMemory>
@@ -140,6 +140,7 @@ impl CaptureReader {
     /// What `next` will answer, while no more octets are fed.
     pub fn look(&self) -> CapLook
         ensures waits { result ≡ CapLook.More → Waits self.now }
+        ensures headed { (time size : ℕ) → result ≡ CapLook.Packet time size → self.now.form ≡ None → ⊥ }
         ensures shows { (octets : List ℕ) (entries : List Entry) → Stands self.now octets entries
             → Looks octets self.now result }
     {
@@ -165,9 +166,10 @@ impl CaptureReader {
     /// What is due of the capture, of which all octets were fed if it has ended. None: its head is,
     /// which `next` takes.
     pub fn due(&self, ended: bool) -> Option<Due>
-        ensures { (octets : List ℕ) (taken : List Entry) (stream : Stream)
+        ensures due { (octets : List ℕ) (taken : List Entry) (stream : Stream)
             → Stands self.now octets taken → Streams octets ended taken stream
             → MatchOption result (IsHeadDue octets self.now) (λ due. due ≡ due_of stream) }
+        ensures headed { IfSome result (λ due. IsHeaded due self.now) }
     {
         match self.look() {
             CapLook::Head { .. } => None,

@@ -16,6 +16,7 @@ returns-in_default-2 g c =
     record {
       shown = known_due g.D.Desk.tells (g.D.Desk.reading c.args.desk.now) (g.D.Desk.reading c.pieces.desk) c.args.self.now c.pieces.self c.due.new.self c.due.result
           c.pieces.invariant.lane c.due.ensures.due c.due.ensures.stands c.due.ensures.slot c.due.ensures.ended (inl known);
+      headed = c.due.ensures.headed;
       others = c.pieces.invariant.others;
       same = c.pieces.invariant.side;
       cause = tt;

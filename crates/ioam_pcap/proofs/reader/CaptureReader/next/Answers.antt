@@ -51,7 +51,7 @@ returns-in-Whole-entry_step c =
     let form_is : old.form ≡ Some form = search rules in
     let pending : _ ≡ old.pending = rest_of_buffer _ _ taken c.deref.ensures.value ∙ ap (λ r. r.pending) c.self.view_is in
     let T : List ℕ → Type 0 = λ p. IsWhole form p 0 × (h.captured ≡ captured form p 0) × (h.time ≡ (entry_at form p 0).time) × (h.original ≡ (entry_at form p 0).original) in
-    let told = subst T pending c.in-Whole-entry_step.ensures in
+    let told = subst T pending c.in-Whole-entry_step.ensures.tells in
     let size = 16 + captured form old.pending 0 in
     let there : taken + 16 + h.captured ≡ taken + size = omega arith in
     let place : c.self.inside.start + (16 + c.from.result) ≡ c.self.inside.start + size = omega arith in
@@ -74,6 +74,7 @@ returns-in-Whole-entry_step c =
             ap (λ r. r.start) new ∙ ap (λ n. old.start + (16 + n)) (sym many),
             rest ∙ ap (λ n. drop (16 + n) old.pending) (sym many),
             ap (λ n. length (drop (taken + 16 + h.captured) c.self.inside.buffer.items) + (16 + n)) many ∙ length_left _ old.pending size rest told.0.1,
+            c.in-Whole-entry_step.ensures.timely,
           ),
           λ all entries stands. (EntryAt-step old _ form form_is told.0 new entry entry_is all entries stands, Stands-step old _ form form_is told.0 new entry entry_is all entries stands),
         ),
@@ -87,7 +88,7 @@ returns-in-Cut-entry_step c =
     let form : old.form ≡ Some c.in-Some.form = search rules in
     let pending = rest_of_buffer _ _ c.self.inside.taken c.deref.ensures.value ∙ ap (λ r. r.pending) c.self.view_is in
     let Q : List ℕ → Type 0 = λ p. IsEntryCut c.in-Some.form p 0 in
-    let cut : CutAt old.pending old.form 0 = rw form (subst Q pending c.in-Cut-entry_step.ensures) in
+    let cut : CutAt old.pending old.form 0 = rw form (subst Q pending c.in-Cut-entry_step.ensures.tells) in
     ((refl, λ _. tt, ((c.self.view_is, cut), λ octets entries stands. cut_told old _ c.self.view_is octets entries stands cut)), tt)
 
 pub returns-in-Bad-entry_step : goal.returns-in-Bad-entry_step
@@ -96,6 +97,6 @@ returns-in-Bad-entry_step c =
     let form : old.form ≡ Some c.in-Some.form = search rules in
     let pending = rest_of_buffer _ _ c.self.inside.taken c.deref.ensures.value ∙ ap (λ r. r.pending) c.self.view_is in
     let Q : List ℕ → Type 0 = λ p. EntryFault c.in-Some.form p 0 c.in-Bad-entry_step.fault in
-    let bad : FaultAt old.pending old.form 0 c.in-Bad-entry_step.fault = rw form (subst Q pending c.in-Bad-entry_step.ensures) in
+    let bad : FaultAt old.pending old.form 0 c.in-Bad-entry_step.fault = rw form (subst Q pending c.in-Bad-entry_step.ensures.tells) in
     let start = ap (λ r. r.start) c.self.view_is in
     ((refl, λ _. tt, ((c.self.view_is, start), λ octets entries stands. fault_told old _ c.self.view_is octets entries stands _ c.in-Bad-entry_step.fault start bad)), tt)
