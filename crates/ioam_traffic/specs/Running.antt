@@ -6,7 +6,7 @@ use Rattle.ioam_forward.specs.Forwarding.{Forwards}
 use Rattle.ioam_forward.specs.Texts.{texts_of}
 use Rattle.ioam_forward.specs.declared.forwarding.Forwarding.{Forwarding}
 use Rattle.ioam_merge.specs.Merging as merging
-use Rattle.ioam_merge.specs.Merging.{Merging, Comes, FilesBegin, PartsArrive, HaveEnded}
+use Rattle.ioam_merge.specs.Merging.{Merging, Comes, FilesBegin, PartsArrive, HaveEnded, start_of}
 use Rattle.ioam_outputs.specs.Held.{HoldAllFronts}
 use Rattle.ioam_outputs.specs.Told.{AreTold}
 use Rattle.ioam_outputs.specs.declared.output.Output.{Output}
@@ -23,6 +23,10 @@ use Rattle.ioam_traffic.specs.declared.stream.Stream.{Stream}
 pub record Files : Type 0 where
   pub lanes : merging.Start
   pub names : List (List ℕ)
+
+-- captures and outputs of these names on a desk
+abbrev pub files_of : List (List ℕ) → List (List ℕ) → Reading → Writing → Files
+files_of inputs names reading writing = record { lanes = start_of reading.side.slots writing inputs; names = names }
 
 -- where the traffic of a domain over these files begins
 abbrev pub start_with : Domain → List PortId → Files → Start

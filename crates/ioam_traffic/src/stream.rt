@@ -43,10 +43,10 @@ impl Stream {
         requires of { IsOf domain.now self.old.gathered }
         requires inside { All (λ port. port.0 < length (ports_of domain.now)) ports.now }
         requires below { place < length ports.now }
-        requires few { taken self.old.gathered < domain.now.packets }
+        requires few { taken self.old.gathered < 2 ^ 32 }
         requires width { length outputs.old ≡ length (ports_of domain.now) + 2 }
         ensures counted { OnOk result (taken self.new.gathered ≡ taken self.old.gathered + 1) }
-        ensures runs { OnOk result ((tells : Bool) (files : Files) (inputs : Reading) (writing : Writing)
+        ensures runs { OnOk result ((tells : Bool) (files : Files) (inputs : Reading) (writing : Writing) → taken self.old.gathered < domain.now.packets
             → Coming tells (start_with domain.now ports.now files) place inputs writing self.old outputs.old
             → Running tells (start_with domain.now ports.now files) inputs writing self.new outputs.new) }
     {

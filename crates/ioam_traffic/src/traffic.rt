@@ -5,7 +5,7 @@ ghost use Rattle.ioam_merge.specs.Merging.{Merging};
 ghost use Rattle.ioam_outputs.specs.Names.{AreApart};
 ghost use Rattle.ioam_outputs.specs.Told.{AreTold, unsaid};
 ghost use Rattle.ioam_topo.specs.Domain.{ports as ports_of};
-ghost use Rattle.ioam_traffic.specs.Running.{Ends, Files, IsBroken, start_with};
+ghost use Rattle.ioam_traffic.specs.Running.{Ends, Files, IsBroken, files_of, start_with};
 ghost use Rattle.ioam_traffic.specs.Traffic.{begun, Finishes};
 
 use crate::halt::Halt;
@@ -39,6 +39,31 @@ pub fn run_traffic<D: Desk>(
     requires width { length outputs.now ≡ length (ports_of domain.now) + 2 }
     requires apart { AreApart outputs.now }
     ensures finishes { Finishes (begun domain.now ports.now inputs.now outputs.now (D.reading desk.old) (D.writing desk.old)) D.tells
+        (D.reading desk.old) (D.reading desk.new) (D.writing desk.old) (D.writing desk.new) result }
+    ensures asked_in { AsksFront (D.reading desk.old).side.asked (D.reading desk.new).side.asked inputs.now }
+    ensures asked_out { AsksFront (D.writing desk.old).side.asked (D.writing desk.new).side.asked outputs.now }
+    ensures no_output { (D.reading desk.new).side.slots < (D.reading desk.old).side.slots + length inputs.now
+        → D.writing desk.new ≡ D.writing desk.old }
+{
+    run_files(alloc, desk, domain, ports, inputs, outputs)
+}
+
+// The same, over files of which it is known what they hold before anything is opened.
+fn run_files<D: Desk>(
+    alloc: Global,
+    desk: &mut D,
+    domain: &Domain,
+    ports: &[PortId],
+    inputs: &[Name],
+    outputs: &[Name],
+) -> Halt
+    ghost files: { Files }
+    requires known { files ≡ files_of inputs.now outputs.now (D.reading desk.old) (D.writing desk.old) }
+    requires sized { length ports.now ≡ length inputs.now }
+    requires inside { All (λ port. port.0 < length (ports_of domain.now)) ports.now }
+    requires width { length outputs.now ≡ length (ports_of domain.now) + 2 }
+    requires apart { AreApart outputs.now }
+    ensures finishes { Finishes (start_with domain.now ports.now files) D.tells
         (D.reading desk.old) (D.reading desk.new) (D.writing desk.old) (D.writing desk.new) result }
     ensures asked_in { AsksFront (D.reading desk.old).side.asked (D.reading desk.new).side.asked inputs.now }
     ensures asked_out { AsksFront (D.writing desk.old).side.asked (D.writing desk.new).side.asked outputs.now }

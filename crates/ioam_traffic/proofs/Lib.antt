@@ -1,0 +1,3 @@
+pub mod FrontsLaws
+pub mod RunsLaws
+pub mod TakeLaws
