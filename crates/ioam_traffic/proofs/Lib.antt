@@ -1,3 +1,4 @@
 pub mod FrontsLaws
 pub mod RunsLaws
 pub mod TakeLaws
+pub mod StopsLaws

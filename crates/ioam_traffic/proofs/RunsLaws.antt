@@ -187,3 +187,26 @@ module _ (tells : Bool) (start : Start) (inputs : Reading) (outputs : Writing) (
           Merging-begins tells start.lanes inputs stream.merge coming.taken comes.merging told,
           record { all = omega (arith, full, count, coming.few); next = next; begin = begin },
         ))
+
+-- a turn of the captures leaves what was told
+module _ (tells : Bool) (start : Start) (inputs : Reading) (outputs now : Writing) (stream : Stream) (tellers : List Output)
+    (running : Running tells start inputs outputs stream tellers) (same : now ≡ outputs) where
+  -- no record comes next, for this reason
+  pub Running-halted : (Are : List Arrival → Type 0) → (IsTrue tells → Are running.taken) → Halted tells start Are now stream.gathered tellers
+  Running-halted Are are =
+      let P : Writing → Type 0 = λ w. Halted tells start Are w stream.gathered tellers in
+      subst P (sym same) (Runs-so tells start (Merging tells start.lanes inputs stream.merge) outputs stream.gathered tellers running
+      (λ arrivals. IsTrue tells → FilesBegin start.lanes.contents arrivals × Are arrivals)
+      (λ told. (Merging-begins tells start.lanes inputs stream.merge running.taken running.are told, are told)))
+
+  -- a record comes next
+  pub Running-coming : (later : Reading) (merge : Merge) (place time : ℕ) → Comes tells start.lanes later merge running.taken place time
+      → Runs tells start (λ arrivals. (time : ℕ) × Comes tells start.lanes later merge arrivals place time) now stream.gathered tellers
+  Running-coming later merge place time comes =
+      let Q : List Arrival → Type 0 = λ arrivals. (time : ℕ) × Comes tells start.lanes later merge arrivals place time in
+      let P : Writing → Type 0 = λ w. Runs tells start Q w stream.gathered tellers in
+      subst P (sym same) (Runs-so tells start (Merging tells start.lanes inputs stream.merge) outputs stream.gathered tellers running Q (time, comes))
+
+  -- no output holds more than a front
+  pub Running-fronts_now : IsTrue tells → Fronts tells start now
+  Running-fronts_now told = subst (Fronts tells start) (sym same) (Running-fronts tells start inputs outputs stream tellers running told)
