@@ -1,4 +1,6 @@
 pub mod AddsLaws
+pub mod CleanLaws
+pub mod FlowsLaws
 pub mod TextsLaws
 mod AnswerLaws
 mod LoweredLaws

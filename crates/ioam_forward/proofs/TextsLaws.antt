@@ -15,10 +15,11 @@ use Rattle.ioam_report.specs.SumsText.{sums_text, arrivals_text}
 use Rattle.ioam_topo.specs.Domain.{ports, nodes as nodes_of}
 use Rattle.ioam_topo.specs.declared.domain.Domain.{Domain}
 use Rattle.ioam_forward.specs.Fate.{Frame, Fate, HasFate, AreFates}
-use Rattle.ioam_forward.specs.Texts.{each_text, out_text, fate_sent, sent_by, fate_line, report_lines, texts_so_far, texts_of, added_by, sums_by, ways_of, way_of}
+use Rattle.ioam_forward.specs.Texts.{each_text, out_text, fate_sent, sent_by, fate_line, report_lines, report_text, texts_so_far, texts_of, added_by, sums_by, ways_of, way_of}
 use Rattle.ioam_forward.specs.Forwarding.{Forwards, Forwarded, IsOf}
 use Rattle.ioam_forward.specs.declared.forwarding.Forwarding.{Forwarding}
 use Rattle.ioam_forward.proofs.AddsLaws.{same-each, said-each}
+use Rattle.ioam_forward.proofs.CleanLaws.{texts-clean}
 
 pub AreFates-push : (domain : Domain) (frames : List Frame) (fates : List Fate) (frame : Frame) (fate : Fate)
     → AreFates domain frames fates → HasFate domain frame fate → AreFates domain (frames ++ frame ∷ []) (fates ++ fate ∷ [])
@@ -92,12 +93,16 @@ pub Forwards-ends : (domain : Domain) (gathered : Forwarding)
     → ((arrivals : List (List Visit × End)) → StandFor domain gathered.sums arrivals → sums_text domain gathered.sums ≡ arrivals_text domain arrivals)
     → (frames : List Frame) (so_far : List (List ℕ)) → Forwards domain frames so_far gathered
     → Forwarded domain frames (said_more so_far (sums_by domain gathered.sums))
-Forwards-ends domain gathered sums frames so_far forwards = record {
-  fates = forwards.fates;
-  are = forwards.are;
-  texts_are = ap (λ (ts : List (List ℕ)). said_more ts (sums_by domain gathered.sums)) forwards.texts_are
-      ∙ texts-end domain forwards.fates gathered (sums (ways_of forwards.fates) forwards.sums);
-}
+Forwards-ends domain gathered sums frames so_far forwards =
+    let whole : said_more so_far (sums_by domain gathered.sums) ≡ texts_of domain forwards.fates =
+    ap (λ (ts : List (List ℕ)). said_more ts (sums_by domain gathered.sums)) forwards.texts_are
+    ∙ texts-end domain forwards.fates gathered (sums (ways_of forwards.fates) forwards.sums) in
+    record {
+      fates = forwards.fates;
+      are = forwards.are;
+      texts_are = whole;
+      clean = texts-clean domain frames forwards.fates (report_text domain forwards.fates) (said_more so_far (sums_by domain gathered.sums)) forwards.are whole;
+    }
 
 -- sums of one arrival more
 pub IsOf-push : (domain : Domain) (old new : Forwarding) (visits : List Visit) (end : End)

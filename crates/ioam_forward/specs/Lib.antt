@@ -1,3 +1,4 @@
+pub mod Clean
 pub mod Fate
 pub mod Texts
 pub mod Forwarding

@@ -5,7 +5,7 @@ ghost use Rattle.ioam_outputs.specs.Told.{Adds, said_more};
 ghost use Rattle.ioam_pcap.specs.Entries.{most};
 ghost use Rattle.ioam_pcap.specs.Reader.{entry_of};
 ghost use Rattle.ioam_plan.specs.Inside.{EndsInside};
-ghost use Rattle.ioam_topo.specs.Domain.{ports, flows};
+ghost use Rattle.ioam_topo.specs.Domain.{ports};
 ghost use Rattle.ioam_forward.specs.Fate.{Frame, Fate, HasFate, IsAnswered, packet_of, DropsAlike};
 ghost use Rattle.ioam_forward.specs.Texts.{texts_so_far, added_by, sums_by, heads};
 ghost use Rattle.ioam_forward.specs.Forwarding.{Forwards, Forwarded, IsOf, taken};
@@ -91,8 +91,7 @@ impl Forwarding {
     /// Takes the next arrival: `ethernet` says that its frame begins with an Ethernet header. Its
     /// line stands in the report, and where its packet leaves, its record in the capture of the port,
     /// at the time of its last visit and with its hop limit less by one for each visit (RFC 8200
-    /// section 3). The domain has no flows, and fewer than 2^32 arrivals were taken. Without memory
-    /// some of it may be told already.
+    /// section 3). Fewer than 2^32 arrivals were taken. Without memory some of it may be told already.
     pub fn take(
         &mut self,
         alloc: Global,
@@ -103,7 +102,6 @@ impl Forwarding {
         outputs: &mut [Output],
     ) -> Result<(), NoMemory>
         requires of { IsOf domain.now self.old }
-        requires no_flows { flows domain.now ≡ [] }
         requires port { port.0 < length (ports domain.now) }
         requires time { packet.now.time < 2 ^ 62 }
         requires short { length packet.now.octets.now ≤ most }
@@ -126,7 +124,9 @@ impl Forwarding {
         Ok(())
     }
 
-    /// Adds the sums to the report, behind the last arrival.
+    /// Adds the sums to the report, behind the last arrival. The texts are then whole, and every packet
+    /// that left by a port has a whole chain of headers and no IOAM option on it: IOAM data stays
+    /// inside its domain (RFC 9197 section 3).
     pub fn put_sums(&self, domain: &Domain, outputs: &mut [Output]) -> Result<(), NoMemory>
         requires { length outputs.old ≡ length (ports domain.now) + 2 }
         ensures adds { OnOk result (Adds outputs.old outputs.new (sums_by domain.now self.now.sums)) }

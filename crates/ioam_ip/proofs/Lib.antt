@@ -1,6 +1,8 @@
 pub mod ChainLaws
 pub mod ChainOptionsLaws
+pub mod CleanLaws
 pub mod FitLaws
+pub mod FramingLaws
 pub mod HeaderLaws
 pub mod HeadsLeftLaws
 pub mod IteratorLaws

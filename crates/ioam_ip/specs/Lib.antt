@@ -1,5 +1,6 @@
 pub mod Chain
 pub mod ChainOptions
+pub mod Clean
 pub mod Findings
 pub mod Framed
 pub mod Framing

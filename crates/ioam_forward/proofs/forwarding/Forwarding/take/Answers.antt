@@ -1,9 +1,14 @@
 use Rattle.std.proofs.Common.{refl, ◌+◌, arith}
 use Rattle.ioam_forward.specs.Fate.{packet_of}
 use Rattle.ioam_forward.specs.Texts.{added_by}
-use Rattle.ioam_forward.proofs.AnswerLaws.{answer-within}
+use Rattle.ioam_forward.proofs.AnswerLaws.{answer-within, answer-plannable}
+use Rattle.ioam_forward.proofs.FlowsLaws.{no-flows}
 use Rattle.ioam_forward.proofs.TextsLaws.{Forwards-push, IsOf-push}
 use Rattle.ioam_forward.proofs.forwarding.Forwarding.take.Goals as goal
+
+pub plan-requires-clause-admitted : goal.plan-requires-clause-admitted
+plan-requires-clause-admitted c = answer-plannable c.args.domain.now _ _ c.admit-admitted.result (no-flows c.args.domain.now)
+    c.admit-admitted.ensures.packet c.admit-admitted.ensures.admits
 
 pub put_fate-requires-clause-short : goal.put_fate-requires-clause-short
 put_fate-requires-clause-short c =
