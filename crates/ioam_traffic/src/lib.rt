@@ -3,7 +3,9 @@
 #![tactic(auto)]
 
 mod halt;
+mod stream;
 mod traffic;
+mod turns;
 
 pub use halt::Halt;
 pub use traffic::run_traffic;

@@ -1,11 +1,20 @@
-ghost use Rattle.std.specs.Prelude.{◌≡◌, ◌+◌, ◌<◌, length, All};
+//! The traffic of a domain: its files, and how it ends.
+ghost use Rattle.std.specs.Prelude.{◌≡◌, ◌↔◌, ◌+◌, ◌<◌, [], ℕ, All, IsTrue, length};
 ghost use Rattle.ioam_desk.specs.Asked.{AsksFront};
+ghost use Rattle.ioam_merge.specs.Merging.{Merging};
 ghost use Rattle.ioam_outputs.specs.Names.{AreApart};
+ghost use Rattle.ioam_outputs.specs.Told.{AreTold, unsaid};
 ghost use Rattle.ioam_topo.specs.Domain.{ports as ports_of};
+ghost use Rattle.ioam_traffic.specs.Running.{Ends, Files, IsBroken, files_of, start_with};
 ghost use Rattle.ioam_traffic.specs.Traffic.{begun, Finishes};
 
 use crate::halt::Halt;
-use ioam_desk::{Desk, Name};
+use crate::stream::Stream;
+use crate::turns::{carry_on, put_rest};
+use ioam_desk::{Desk, DeskFault, Name};
+use ioam_forward::Forwarding;
+use ioam_merge::{Merge, open_merge};
+use ioam_outputs::{Output, open_outputs};
 use ioam_topo::{Domain, PortId};
 use std::alloc::Global;
 
@@ -36,5 +45,83 @@ pub fn run_traffic<D: Desk>(
     ensures no_output { (D.reading desk.new).side.slots < (D.reading desk.old).side.slots + length inputs.now
         → D.writing desk.new ≡ D.writing desk.old }
 {
-    Halt::NoMemory
+    run_files(alloc, desk, domain, ports, inputs, outputs)
+}
+
+// The same, over files of which it is known what they hold before anything is opened.
+fn run_files<D: Desk>(
+    alloc: Global,
+    desk: &mut D,
+    domain: &Domain,
+    ports: &[PortId],
+    inputs: &[Name],
+    outputs: &[Name],
+) -> Halt
+    ghost files: { Files }
+    requires known { files ≡ files_of inputs.now outputs.now (D.reading desk.old) (D.writing desk.old) }
+    requires sized { length ports.now ≡ length inputs.now }
+    requires inside { All (λ port. port.0 < length (ports_of domain.now)) ports.now }
+    requires width { length outputs.now ≡ length (ports_of domain.now) + 2 }
+    requires apart { AreApart outputs.now }
+    ensures finishes { Finishes (start_with domain.now ports.now files) D.tells
+        (D.reading desk.old) (D.reading desk.new) (D.writing desk.old) (D.writing desk.new) result }
+    ensures asked_in { AsksFront (D.reading desk.old).side.asked (D.reading desk.new).side.asked inputs.now }
+    ensures asked_out { AsksFront (D.writing desk.old).side.asked (D.writing desk.new).side.asked outputs.now }
+    ensures no_output { (D.reading desk.new).side.slots < (D.reading desk.old).side.slots + length inputs.now
+        → D.writing desk.new ≡ D.writing desk.old }
+{
+    let merge = match open_merge(alloc, desk, inputs) {
+        Ok(merge) => merge,
+        Err(DeskFault::Failed) => return Halt::ReadFault,
+        Err(DeskFault::NoMemory) => return Halt::NoMemory,
+    };
+    match open_outputs(alloc, desk, outputs) {
+        Ok(mut outputs) => run_open(alloc, desk, domain, ports, merge, &mut outputs),
+        Err(DeskFault::Failed) => Halt::WriteFault,
+        Err(DeskFault::NoMemory) => Halt::NoMemory,
+    }
+}
+
+// Sends what arrives through the domain, where all files were opened.
+fn run_open<D: Desk>(
+    alloc: Global,
+    desk: &mut D,
+    domain: &Domain,
+    ports: &[PortId],
+    merge: Merge,
+    outputs: &mut [Output],
+) -> Halt
+    ghost files: { Files }
+    requires merging { Merging D.tells files.lanes (D.reading desk.old) merge [] }
+    requires told { (base : ℕ) × AreTold D.tells (D.writing desk.old) base files.names outputs.old (unsaid files.names) }
+    requires sized { length ports.now ≡ length files.lanes.contents }
+    requires inside { All (λ port. port.0 < length (ports_of domain.now)) ports.now }
+    requires width { length outputs.old ≡ length (ports_of domain.now) + 2 }
+    ensures ends { Ends D.tells (start_with domain.now ports.now files) (D.reading desk.old) (D.reading desk.new)
+        (D.writing desk.old) (D.writing desk.new) result }
+    ensures asked_in { (D.reading desk.new).side.asked ≡ (D.reading desk.old).side.asked }
+    ensures slots_in { (D.reading desk.new).side.slots ≡ (D.reading desk.old).side.slots }
+    ensures asked_out { (D.writing desk.new).side.asked ≡ (D.writing desk.old).side.asked }
+    ensures slots_out { (D.writing desk.new).side.slots ≡ (D.writing desk.old).side.slots }
+{
+    let Ok(gathered) = Forwarding::begin(alloc, domain, outputs) else {
+        return Halt::NoMemory;
+    };
+    let mut stream = Stream { merge, gathered };
+    let halt = carry_on(alloc, desk, domain, ports, &mut stream, outputs);
+    if is_broken(halt) {
+        return halt;
+    }
+    match put_rest(desk, domain, &stream.gathered, outputs) {
+        Ok(()) => halt,
+        Err(DeskFault::Failed) => Halt::WriteFault,
+        Err(DeskFault::NoMemory) => Halt::NoMemory,
+    }
+}
+
+// Whether the outputs stay as they are behind this end.
+fn is_broken(halt: Halt) -> bool
+    ensures { IsTrue result ↔ IsBroken halt }
+{
+    matches!(halt, Halt::WriteFault | Halt::NoMemory)
 }

@@ -1,0 +1,120 @@
+-- Traffic of which nothing was taken yet.
+use Rattle.std.proofs.Common.{◌≡◌, ℕ, ◌+◌, ◌≤◌, Bool, IsTrue, List, [], ◌∷◌, length, sym, ◌∙◌, ap, subst, arith}
+use Rattle.std.proofs.lemmas.List.{length-map}
+use Rattle.ioam_desk.specs.Desk.{Reading, Writing, holds}
+use Rattle.ioam_forward.specs.Forwarding.{Forwards}
+use Rattle.ioam_forward.specs.Texts.{of_ports, texts_so_far, texts_of}
+use Rattle.ioam_forward.specs.declared.forwarding.Forwarding.{Forwarding}
+use Rattle.ioam_merge.specs.Merging as merging
+use Rattle.ioam_merge.specs.Merging.{FilesBegin, Merging, start_of}
+use Rattle.ioam_merge.specs.declared.merge.Merge.{Merge}
+use Rattle.ioam_outputs.specs.Held.{HoldAllFronts, HoldFronts}
+use Rattle.ioam_outputs.specs.Told.{AreTold, Adds, unsaid}
+use Rattle.ioam_outputs.specs.declared.output.Output.{Output}
+use Rattle.ioam_outputs.proofs.HeldLaws.{AreTold-fronts}
+use Rattle.ioam_outputs.proofs.ToldLaws.{AreTold-adds}
+use Rattle.ioam_topo.specs.Domain.{ports as ports_of}
+use Rattle.ioam_topo.specs.declared.domain.Domain.{Domain}
+use Rattle.ioam_topo.specs.declared.ids.PortId.{PortId}
+use Rattle.ioam_traffic.specs.Traffic.{HoldsFronts, AreOpened}
+use Rattle.ioam_traffic.specs.Running.{Files, Fronts, Running, files_of, start_with}
+use Rattle.ioam_traffic.specs.declared.stream.Stream.{Stream}
+use Rattle.ioam_traffic.proofs.FrontsLaws.{longer_fronts, of_ports-length, said_first, told_names}
+use Rattle.ioam_traffic.proofs.RunsLaws.{Merging-begins}
+
+-- a text for each output
+all_texts : (domain : Domain) (text : ℕ → List ℕ) (report : List ℕ) (names : List (List ℕ)) → length names ≡ length (ports_of domain) + 2
+    → length (of_ports (length (ports_of domain)) text report) ≡ length names
+all_texts domain text report names width = omega (arith, of_ports-length (length (ports_of domain)) text report, width)
+
+module _ (tells : Bool) (domain : Domain) (ports : List PortId) (files : Files) (inputs : Reading) (merge : Merge)
+    (are : Merging tells files.lanes inputs merge []) where
+  module _ (outputs : Writing) (base : ℕ) (old : List Output) (told : AreTold tells outputs base files.names old (unsaid files.names))
+      (width : length old ≡ length (ports_of domain) + 2) where
+    as_many : length files.names ≡ length (ports_of domain) + 2
+    as_many = omega (arith, told_names tells outputs base files.names old (unsaid files.names) told, width)
+
+    -- the heads were told
+    pub Running-begin : (gathered : Forwarding) (tellers : List Output) → Adds old tellers (texts_so_far domain []) → Forwards domain [] (texts_so_far domain []) gathered
+        → Running tells (start_with domain ports files) inputs outputs (record { merge = merge; gathered = gathered }) tellers
+    Running-begin gathered tellers adds forwards =
+        let P : List (List ℕ) → Type 0 = λ texts. AreTold tells outputs base files.names tellers texts in
+        record {
+          taken = [];
+          texts = texts_so_far domain [];
+          base = base;
+          are = are;
+          told = subst P (said_first files.names (texts_so_far domain []) (all_texts domain _ _ files.names as_many))
+              (AreTold-adds tells outputs base files.names old tellers (unsaid files.names) (texts_so_far domain []) told adds);
+          forwards = forwards;
+          few = omega arith;
+        }
+
+    -- each output is empty
+    pub Fronts-begin : IsTrue tells → Fronts tells (start_with domain ports files) outputs
+    Fronts-begin tells_so = record {
+      taken = [];
+      begin = Merging-begins tells files.lanes inputs merge [] are tells_so;
+      few = omega arith;
+      hold = record {
+        fates = [];
+        become = tt;
+        held = subst (HoldAllFronts outputs files.names) (said_first files.names (texts_of domain []) size)
+            (longer_fronts outputs files.names (unsaid files.names) (texts_of domain []) size
+            (AreTold-fronts tells outputs base files.names old (unsaid files.names) tells_so told));
+      };
+    }
+      where
+        size : length (texts_of domain []) ≡ length files.names
+        size = all_texts domain _ _ files.names as_many
+
+  -- not all outputs were opened
+  pub HoldsFronts-begin : (first mid new : Writing) → mid ≡ first → length files.names ≡ length (ports_of domain) + 2
+      → ((texts : List (List ℕ)) → length texts ≡ length files.names → HoldFronts mid new 0 files.names texts)
+      → IsTrue tells → HoldsFronts (start_with domain ports files) first new
+  HoldsFronts-begin first mid new same width fronts tells_so =
+      let P : Writing → Type 0 = λ w. HoldFronts w new 0 files.names (texts_of domain []) in
+      record {
+        taken = [];
+        fates = [];
+        begin = Merging-begins tells files.lanes inputs merge [] are tells_so;
+        few = omega arith;
+        become = tt;
+        held = subst P same (fronts (texts_of domain []) (all_texts domain _ _ files.names width));
+      }
+
+-- the files as they were opened
+module _ (files : Files) (ins outs : List (List ℕ)) (reading : Reading) (writing : Writing) (known : files ≡ files_of ins outs reading writing) where
+  pub known_names : files.names ≡ outs
+  known_names = ap (λ (f : Files). f.names) known
+
+  pub known_sized : length files.lanes.contents ≡ length ins
+  known_sized = ap (λ (f : Files). length f.lanes.contents) known ∙ length-map ins (holds writing)
+
+  pub known_opened : (domain : Domain) (ports : List PortId) (new : Reading) → new.side.slots ≡ reading.side.slots + length ins
+      → AreOpened (start_with domain ports files) new
+  known_opened domain ports new slots = omega (arith, slots, known_sized, ap (λ (f : Files). f.lanes.base) known)
+
+  pub known_merging : (tells : Bool) (inputs now : Reading) (merge : Merge) → now ≡ inputs
+      → Merging tells (start_of reading.side.slots writing ins) inputs merge [] → Merging tells files.lanes now merge []
+  known_merging tells inputs now merge same are =
+      let P : Files → Type 0 = λ f. Merging tells f.lanes now merge [] in
+      let Q : Reading → Type 0 = λ r. Merging tells (start_of reading.side.slots writing ins) r merge [] in
+      subst P (sym known) (subst Q (sym same) are)
+
+  pub known_told : (tells : Bool) (outputs : Writing) (slot : ℕ) (items tellers : List Output) → tellers ≡ items
+      → AreTold tells outputs slot outs items (unsaid outs) → AreTold tells outputs slot files.names tellers (unsaid files.names)
+  known_told tells outputs slot items tellers same told =
+      let P : List (List ℕ) → Type 0 = λ names. AreTold tells outputs slot names tellers (unsaid names) in
+      let Q : List Output → Type 0 = λ os. AreTold tells outputs slot outs os (unsaid outs) in
+      subst P (sym known_names) (subst Q (sym same) told)
+
+  -- not all outputs were opened, and nothing was taken
+  pub known_fronts : (tells : Bool) (domain : Domain) (ports : List PortId) (inputs : Reading) (merge : Merge)
+      → Merging tells (start_of reading.side.slots writing ins) inputs merge [] → (mid new : Writing) → mid ≡ writing
+      → length outs ≡ length (ports_of domain) + 2
+      → ((texts : List (List ℕ)) → length texts ≡ length outs → HoldFronts mid new 0 outs texts)
+      → IsTrue tells → HoldsFronts (start_with domain ports files) writing new
+  known_fronts tells domain ports inputs merge are mid new same width fronts tells_so =
+      let P : Files → Type 0 = λ f. HoldsFronts (start_with domain ports f) writing new in
+      subst P (sym known) (HoldsFronts-begin tells domain ports (files_of ins outs reading writing) inputs merge are writing mid new same width fronts tells_so)

@@ -1,0 +1,5 @@
+pub mod FrontsLaws
+pub mod RunsLaws
+pub mod TakeLaws
+pub mod StopsLaws
+pub mod BeginLaws

@@ -1,0 +1,212 @@
+-- Laws of the traffic while it runs.
+use Rattle.std.proofs.Common.{◌≡◌, ℕ, ◌+◌, ◌<◌, ◌≤◌, Bool, IsTrue, List, [], ◌∷◌, ◌++◌, length, Option, Some, None, refl, sym, ◌∙◌, ap, subst, arith, length-take}
+use Rattle.std.specs.Prelude.{map, slice_get}
+use Rattle.std.specs.List.{AllZip}
+use Rattle.std.proofs.lemmas.List.{map-append, length-map}
+use Rattle.ioam_desk.specs.Desk.{Reading, Writing}
+use Rattle.ioam_forward.specs.Fate.{Frame, Fate, AreFates}
+use Rattle.ioam_forward.specs.Forwarding.{Forwards, IsOf, taken}
+use Rattle.ioam_forward.specs.Texts.{texts_so_far, texts_of, way_of, ways_of}
+use Rattle.ioam_forward.specs.declared.forwarding.Forwarding.{Forwarding}
+use Rattle.ioam_merge.specs.Merging as merging
+use Rattle.ioam_merge.specs.Merging.{Begins, IsFile, FilesBegin, Row, Merging, Comes}
+use Rattle.ioam_merge.specs.declared.merge.Merge.{Merge}
+use Rattle.ioam_merge.proofs.MergingLaws.{Begins-on, files_are, files_on, Rows-begin}
+use Rattle.ioam_outputs.specs.Held.{HoldAllFronts}
+use Rattle.ioam_outputs.specs.Told.{AreTold, Adds, said_more}
+use Rattle.ioam_outputs.specs.declared.output.Output.{Output}
+use Rattle.ioam_outputs.proofs.HeldLaws.{AreTold-fronts}
+use Rattle.ioam_outputs.proofs.ToldLaws.{AreTold-adds}
+use Rattle.ioam_pcap.specs.Arrives.{Handed, HandsOn}
+use Rattle.ioam_pcap.specs.Entries.{Entry}
+use Rattle.ioam_pcap.specs.Merge.{Arrival, CanTake, IsNext, arrival, of_capture, rest}
+use Rattle.ioam_pcap.proofs.MergeLaws.{Takes-push}
+use Rattle.ioam_topo.specs.declared.domain.Domain.{Domain}
+use Rattle.ioam_topo.specs.declared.ids.PortId.{PortId}
+use Rattle.ioam_traffic.specs.Traffic.{Start, ArePassed, frame_of, frames_of, is_ethernet, port_at}
+use Rattle.ioam_traffic.specs.Running.{Coming, Fronts, Halted, HoldSo, Running, Runs}
+use Rattle.ioam_traffic.specs.declared.stream.Stream.{Stream}
+use Rattle.ioam_traffic.proofs.FrontsLaws.{fronts_so_far}
+
+AreFates-length : (domain : Domain) (frames : List Frame) (fates : List Fate) → AreFates domain frames fates → length fates ≡ length frames
+AreFates-length domain [] [] are = refl
+AreFates-length domain [] (fate ∷ fates) are = absurd are
+AreFates-length domain (frame ∷ frames) [] are = absurd are
+AreFates-length domain (frame ∷ frames) (fate ∷ fates) are = omega (arith, AreFates-length domain frames fates are.1)
+
+-- the sums are those of some arrivals
+pub Forwards-of : (domain : Domain) (frames : List Frame) (texts : List (List ℕ)) (gathered : Forwarding) → Forwards domain frames texts gathered → IsOf domain gathered
+Forwards-of domain frames texts gathered forwards = record { ways = ways_of forwards.fates; stands = forwards.sums }
+
+-- as many as the frames
+pub Forwards-count : (domain : Domain) (frames : List Frame) (texts : List (List ℕ)) (gathered : Forwarding) → Forwards domain frames texts gathered
+    → taken gathered ≡ length frames
+Forwards-count domain frames texts gathered forwards = omega (
+  arith,
+  forwards.sums.packets,
+  length-map forwards.fates way_of,
+  AreFates-length domain frames forwards.fates forwards.are,
+)
+
+-- one record more
+frames-push : (ports : List PortId) (arrivals : List Arrival) (one : Arrival)
+    → frames_of ports (arrivals ++ one ∷ []) ≡ frames_of ports arrivals ++ frame_of ports one ∷ []
+frames-push ports arrivals one = map-append (frame_of ports) arrivals (one ∷ [])
+
+module _ (tells : Bool) (start : Start) (Were : List Arrival → Type 0) (outputs : Writing) (gathered : Forwarding) (tellers : List Output)
+    (runs : Runs tells start Were outputs gathered tellers) where
+  -- so many were taken
+  pub Runs-count : taken gathered ≡ length runs.taken
+  Runs-count = omega (
+    arith,
+    Forwards-count start.domain (frames_of start.ports runs.taken) runs.texts gathered runs.forwards,
+    length-map runs.taken (frame_of start.ports),
+  )
+
+  pub Runs-of : IsOf start.domain gathered
+  Runs-of = Forwards-of start.domain (frames_of start.ports runs.taken) runs.texts gathered runs.forwards
+
+  -- something else is known of what was taken
+  pub Runs-so : (Are : List Arrival → Type 0) → Are runs.taken → Runs tells start Are outputs gathered tellers
+  Runs-so Are are = record {
+    taken = runs.taken;
+    texts = runs.texts;
+    base = runs.base;
+    are = are;
+    told = runs.told;
+    forwards = runs.forwards;
+    few = runs.few;
+  }
+
+  -- what was gathered was written
+  pub Runs-written : (now : Writing) (later : List Output)
+      → ((slot : ℕ) (names texts : List (List ℕ)) → AreTold tells outputs slot names tellers texts → AreTold tells now slot names later texts)
+      → Runs tells start Were now gathered later
+  Runs-written now later told = record {
+    taken = runs.taken;
+    texts = runs.texts;
+    base = runs.base;
+    are = runs.are;
+    told = told runs.base start.names runs.texts runs.told;
+    forwards = runs.forwards;
+    few = runs.few;
+  }
+
+  -- one record more was taken
+  pub Runs-take : (Are : List Arrival → Type 0) (one : Arrival) (new : Forwarding) (later : List Output) (added : List (List ℕ)) (port : PortId) (ethernet : Bool)
+      → Are (runs.taken ++ one ∷ []) → Adds tellers later added → port ≡ port_at start.ports one.capture → ethernet ≡ is_ethernet one.link
+      → ((frames : List Frame) (so_far : List (List ℕ)) → Forwards start.domain frames so_far gathered
+      → Forwards start.domain (frames ++ record { port = port; ethernet = ethernet; entry = one.entry } ∷ []) (said_more so_far added) new)
+      → taken gathered < start.domain.packets → Runs tells start Are outputs new later
+  Runs-take Are one new later added port ethernet are adds at link gathers room =
+      let frames = frames_of start.ports runs.taken in
+      let P : PortId → Bool → Type 0 = λ p e. Forwards start.domain (frames ++ record { port = p; ethernet = e; entry = one.entry } ∷ []) (said_more runs.texts added) new in
+      let Q : List Frame → Type 0 = λ fs. Forwards start.domain fs (said_more runs.texts added) new in
+      record {
+        taken = runs.taken ++ one ∷ [];
+        texts = said_more runs.texts added;
+        base = runs.base;
+        are = are;
+        told = AreTold-adds tells outputs runs.base start.names tellers later runs.texts added runs.told adds;
+        forwards = subst Q (sym (frames-push start.ports runs.taken one))
+            (subst (λ p. P p (is_ethernet one.link)) at (subst (λ e. P port e) link (gathers frames runs.texts runs.forwards)));
+        few = omega (arith, room, Runs-count, pushed runs.taken one);
+      }
+    where
+      pushed : (arrivals : List Arrival) (x : Arrival) → length (arrivals ++ x ∷ []) ≡ length arrivals + 1
+      pushed [] x = refl
+      pushed (a ∷ arrivals) x = omega (arith, pushed arrivals x)
+
+  -- each output holds a front of its text
+  pub Runs-fronts : (now : Writing) → FilesBegin start.lanes.contents runs.taken → HoldAllFronts now start.names runs.texts → Fronts tells start now
+  Runs-fronts now begin fronts = record {
+    taken = runs.taken;
+    begin = begin;
+    few = runs.few;
+    hold = record {
+      fates = runs.forwards.fates;
+      become = runs.forwards.are;
+      held = fronts_so_far now start.names start.domain runs.forwards.fates (subst (HoldAllFronts now start.names) runs.forwards.texts_are fronts);
+    };
+  }
+
+  -- as nothing was written since
+  pub Runs-fronts_here : FilesBegin start.lanes.contents runs.taken → IsTrue tells → Fronts tells start outputs
+  Runs-fronts_here begin told = Runs-fronts outputs begin (AreTold-fronts tells outputs runs.base start.names tellers runs.texts told runs.told)
+
+module _ (tells : Bool) (lanes : merging.Start) (inputs : Reading) (merge : Merge) (arrivals : List Arrival) where
+  -- what was taken comes first
+  pub Merging-begins : Merging tells lanes inputs merge arrivals → IsTrue tells → FilesBegin lanes.contents arrivals
+  Merging-begins is told = Rows-begin tells lanes arrivals inputs is.rows is.are_rows told
+
+  -- and one record more does, where one comes
+  begin_more : (contents : List (Option (List ℕ))) (parts files : List Handed) (later : List Arrival)
+      → AllZip IsFile contents files → AllZip HandsOn parts files → Begins parts later → FilesBegin contents later
+  begin_more contents parts files later are on begins = record { files = files; are_files = are; begin = Begins-on parts files later on begins }
+
+  pub Comes-begins : (place time : ℕ) → Comes tells lanes inputs merge arrivals place time → IsTrue tells
+      → (next : Arrival) × FilesBegin lanes.contents (arrivals ++ next ∷ [])
+  Comes-begins place time comes told =
+      let is = comes.merging in
+      let are = is.are_rows in
+      let now = are.begins.now in
+      let parts : List Handed = map (λ (row : Row). row.handed) is.rows in
+      let given : ℕ → List Entry = λ k. of_capture k arrivals in
+      let can : CanTake now = subst IsNext (sym comes.next) tt in
+      let longer : Begins parts (arrivals ++ arrival now ∷ []) = record {
+        streams = are.begins.streams;
+        now = rest now;
+        shown = are.begins.shown;
+        takes = Takes-push are.begins.streams arrivals now are.begins.takes can;
+      } in
+      let of_rows = begin_more (map (λ (row : Row). row.content) is.rows) parts _ (arrivals ++ arrival now ∷ [])
+      (files_are tells inputs told lanes.base is.rows given are.each) (files_on tells inputs told lanes.base is.rows given are.each) longer in
+      (arrival now, subst (λ cs. FilesBegin cs (arrivals ++ arrival now ∷ [])) (sym are.contents) of_rows)
+
+module _ (tells : Bool) (start : Start) (inputs : Reading) (outputs : Writing) (stream : Stream) (tellers : List Output) where
+  -- while traffic runs no output holds more than a front
+  pub Running-fronts : Running tells start inputs outputs stream tellers → IsTrue tells → Fronts tells start outputs
+  Running-fronts runs told = Runs-fronts_here tells start (Merging tells start.lanes inputs stream.merge) outputs stream.gathered tellers runs
+      (Merging-begins tells start.lanes inputs stream.merge runs.taken runs.are told) told
+
+  module _ (place : ℕ) (coming : Coming tells start place inputs outputs stream tellers) where
+    pub Coming-running : Running tells start inputs outputs stream tellers
+    Coming-running = Runs-so tells start (λ arrivals. (time : ℕ) × Comes tells start.lanes inputs stream.merge arrivals place time)
+        outputs stream.gathered tellers coming (Merging tells start.lanes inputs stream.merge) coming.are.1.merging
+
+    -- as many were taken as may be
+    pub Coming-passed : start.domain.packets ≤ taken stream.gathered → Halted tells start (ArePassed start) outputs stream.gathered tellers
+    Coming-passed full =
+        let (time, comes) = coming.are in
+        let count = Runs-count tells start (λ arrivals. (time : ℕ) × Comes tells start.lanes inputs stream.merge arrivals place time)
+        outputs stream.gathered tellers coming in
+        Runs-so tells start (λ arrivals. (time : ℕ) × Comes tells start.lanes inputs stream.merge arrivals place time)
+        outputs stream.gathered tellers coming (λ arrivals. IsTrue tells → FilesBegin start.lanes.contents arrivals × ArePassed start arrivals)
+        (λ told.
+        let (next, begin) = Comes-begins tells start.lanes inputs stream.merge coming.taken place time comes told in (
+          Merging-begins tells start.lanes inputs stream.merge coming.taken comes.merging told,
+          record { all = omega (arith, full, count, coming.few); next = next; begin = begin },
+        ))
+
+-- a turn of the captures leaves what was told
+module _ (tells : Bool) (start : Start) (inputs : Reading) (outputs now : Writing) (stream : Stream) (tellers : List Output)
+    (running : Running tells start inputs outputs stream tellers) (same : now ≡ outputs) where
+  -- no record comes next, for this reason
+  pub Running-halted : (Are : List Arrival → Type 0) → (IsTrue tells → Are running.taken) → Halted tells start Are now stream.gathered tellers
+  Running-halted Are are =
+      let P : Writing → Type 0 = λ w. Halted tells start Are w stream.gathered tellers in
+      subst P (sym same) (Runs-so tells start (Merging tells start.lanes inputs stream.merge) outputs stream.gathered tellers running
+      (λ arrivals. IsTrue tells → FilesBegin start.lanes.contents arrivals × Are arrivals)
+      (λ told. (Merging-begins tells start.lanes inputs stream.merge running.taken running.are told, are told)))
+
+  -- a record comes next
+  pub Running-coming : (later : Reading) (merge : Merge) (place time : ℕ) → Comes tells start.lanes later merge running.taken place time
+      → Runs tells start (λ arrivals. (time : ℕ) × Comes tells start.lanes later merge arrivals place time) now stream.gathered tellers
+  Running-coming later merge place time comes =
+      let Q : List Arrival → Type 0 = λ arrivals. (time : ℕ) × Comes tells start.lanes later merge arrivals place time in
+      let P : Writing → Type 0 = λ w. Runs tells start Q w stream.gathered tellers in
+      subst P (sym same) (Runs-so tells start (Merging tells start.lanes inputs stream.merge) outputs stream.gathered tellers running Q (time, comes))
+
+  -- no output holds more than a front
+  pub Running-fronts_now : IsTrue tells → Fronts tells start now
+  Running-fronts_now told = subst (Fronts tells start) (sym same) (Running-fronts tells start inputs outputs stream tellers running told)

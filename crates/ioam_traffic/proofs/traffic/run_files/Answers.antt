@@ -1,0 +1,75 @@
+use Rattle.std.proofs.Common.{◌≡◌, ◌+◌, List, length, rules, ap, sym, ◌∙◌, inl, inr, arith}
+use Rattle.ioam_desk.specs.Desk.{Reading, Writing, Side}
+use Rattle.ioam_outputs.specs.declared.output.Output.{Output}
+use Rattle.ioam_traffic.specs.Running.{start_with}
+use Rattle.ioam_traffic.proofs.BeginLaws.{known_fronts, known_merging, known_opened, known_sized, known_told}
+use Rattle.ioam_traffic.proofs.FrontsLaws.{told_names}
+use Rattle.ioam_traffic.proofs.StopsLaws.{Ends-finishes}
+use Rattle.ioam_traffic.proofs.traffic.run_files.Goals as goal
+
+pub returns-in-Err-Failed-clause-finishes : goal.returns-in-Err-Failed-clause-finishes
+returns-in-Err-Failed-clause-finishes g c = (
+  rw c.in-Err-Failed.field-0-is at c.in-Err-Failed.ensures.cause,
+  inl (?, c.in-Err-Failed.ensures.outputs),
+)
+
+pub run_open-requires : goal.run_open-requires
+run_open-requires g c κs within =
+    let ins = c.args.inputs.now in
+    let outs = c.args.outputs.now in
+    let reading = g.D.Desk.reading c.args.desk.now in
+    let writing = g.D.Desk.writing c.args.desk.now in
+    let told = c.in-Ok-open_outputs.ensures.opened.0 in (
+      search rules,
+      (
+        known_merging g.files ins outs reading writing c.requires.1.0 g.D.Desk.tells (g.D.Desk.reading c.open_merge.new.desk) (g.D.Desk.reading c.open_outputs.new.desk)
+            c.in-Ok.merge c.in-Ok-open_outputs.ensures.inputs c.in-Ok.ensures.opened,
+        (
+          (
+            (g.D.Desk.writing c.open_merge.new.desk).side.slots,
+            known_told g.files ins outs reading writing c.requires.1.0 g.D.Desk.tells (g.D.Desk.writing c.open_outputs.new.desk)
+                (g.D.Desk.writing c.open_merge.new.desk).side.slots c.in-Ok-open_outputs.outputs.items c.deref_mut.result.now c.deref_mut.ensures.value told,
+          ),
+          (
+            c.requires.1.1.0 ∙ sym (known_sized g.files ins outs reading writing c.requires.1.0),
+            (
+              c.requires.1.1.1.0,
+              ap (λ (o : List Output). length o) c.deref_mut.ensures.value
+                  ∙ told_names g.D.Desk.tells (g.D.Desk.writing c.open_outputs.new.desk) (g.D.Desk.writing c.open_merge.new.desk).side.slots
+                  outs c.in-Ok-open_outputs.outputs.items _ told
+                  ∙ c.requires.1.1.1.1.0,
+            ),
+          ),
+        ),
+      ),
+    )
+
+pub returns-in-Ok-open_outputs-clause-finishes : goal.returns-in-Ok-open_outputs-clause-finishes
+returns-in-Ok-open_outputs-clause-finishes g c =
+    let reads = c.in-Ok-open_outputs.ensures.inputs in
+    let slots : (g.D.Desk.reading c.run_open.new.desk).side.slots ≡ (g.D.Desk.reading c.args.desk.now).side.slots + length c.args.inputs.now =
+    c.run_open.ensures.slots_in ∙ ap (λ (r : Reading). r.side.slots) reads ∙ ap (λ (s : Side). s.slots) c.in-Ok.ensures.side in
+    Ends-finishes g.D.Desk.tells (start_with c.args.domain.now c.args.ports.now g.files)
+    (g.D.Desk.reading c.args.desk.now) (g.D.Desk.reading c.open_outputs.new.desk) (g.D.Desk.reading c.run_open.new.desk)
+    (g.D.Desk.writing c.args.desk.now) (g.D.Desk.writing c.open_outputs.new.desk) (g.D.Desk.writing c.run_open.new.desk)
+    (ap (λ (r : Reading). r.side.faults) reads ∙ ap (λ (s : Side). s.faults) c.in-Ok.ensures.side)
+    (ap (λ (s : Side). s.faults) c.in-Ok-open_outputs.ensures.side ∙ ap (λ (w : Writing). w.side.faults) c.in-Ok.ensures.outputs)
+    (known_opened g.files c.args.inputs.now c.args.outputs.now (g.D.Desk.reading c.args.desk.now) (g.D.Desk.writing c.args.desk.now) c.requires.1.0
+    c.args.domain.now c.args.ports.now (g.D.Desk.reading c.run_open.new.desk) slots)
+    c.run_open.result c.run_open.ensures.ends
+
+pub returns-in-Err-Failed-open_outputs-clause-finishes : goal.returns-in-Err-Failed-open_outputs-clause-finishes
+returns-in-Err-Failed-open_outputs-clause-finishes g c =
+    let fault = rw c.in-Err-Failed-open_outputs.field-0-is at c.in-Err-Failed-open_outputs.ensures.fault in (
+      omega (arith, fault.0, ap (λ (w : Writing). w.side.faults) c.in-Ok.ensures.outputs),
+      λ told. known_fronts g.files c.args.inputs.now c.args.outputs.now (g.D.Desk.reading c.args.desk.now) (g.D.Desk.writing c.args.desk.now) c.requires.1.0
+          g.D.Desk.tells c.args.domain.now c.args.ports.now (g.D.Desk.reading c.open_merge.new.desk) c.in-Ok.merge c.in-Ok.ensures.opened
+          (g.D.Desk.writing c.open_merge.new.desk) (g.D.Desk.writing c.open_outputs.new.desk) c.in-Ok.ensures.outputs c.requires.1.1.1.1.0 (fault.1 told) told,
+    )
+
+pub returns-clause-finishes : goal.returns-clause-finishes
+returns-clause-finishes g c =
+    let fault = rw c.in-Err-NoMemory-open_outputs.field-0-is at c.in-Err-NoMemory-open_outputs.ensures.fault in
+    inr (λ told. known_fronts g.files c.args.inputs.now c.args.outputs.now (g.D.Desk.reading c.args.desk.now) (g.D.Desk.writing c.args.desk.now) c.requires.1.0
+    g.D.Desk.tells c.args.domain.now c.args.ports.now (g.D.Desk.reading c.open_merge.new.desk) c.in-Ok.merge c.in-Ok.ensures.opened
+    (g.D.Desk.writing c.open_merge.new.desk) (g.D.Desk.writing c.open_outputs.new.desk) c.in-Ok.ensures.outputs c.requires.1.1.1.1.0 (fault.1 told) told)

@@ -1,0 +1,21 @@
+use Rattle.std.proofs.Common.{◌≡◌, ◌+◌, ◌-◌, length}
+use Rattle.ioam_forward.specs.Forwarding.{taken}
+use Rattle.ioam_topo.specs.Domain.{ports as ports_of}
+use Rattle.ioam_traffic.specs.Running.{Running, start_with}
+use Rattle.ioam_traffic.proofs.turns.carry_on.Given as goal
+
+-- the outputs were told the texts so far of what was taken
+abbrev pub invariant-turns : goal.invariant-turns
+invariant-turns g l = record {
+  running : Running g.D.Desk.tells (start_with l.initial.domain l.initial.ports g.files) (g.D.Desk.reading l.desk) (g.D.Desk.writing l.desk) l.stream l.outputs;
+  width : length l.outputs ≡ length (ports_of l.initial.domain) + 2;
+  inputs : (g.D.Desk.reading l.desk).side ≡ (g.D.Desk.reading l.initial.desk).side;
+  side : (g.D.Desk.writing l.desk).side ≡ (g.D.Desk.writing l.initial.desk).side;
+}
+
+-- how many more may be taken
+abbrev pub decreases-turns : goal.decreases-turns
+decreases-turns g l = l.initial.domain.packets - taken l.stream.gathered
+
+abbrev pub ghost-pass_on : goal.ghost-pass_on
+ghost-pass_on g a = g.files

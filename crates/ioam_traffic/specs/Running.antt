@@ -1,0 +1,105 @@
+-- The traffic while it runs: what was taken of the captures, and what the outputs were told of it.
+use Rattle.std.specs.Prelude.{◌≡◌, ℕ, ◌<◌, ◌≤◌, Bool, IsTrue, List, length}
+use Rattle.ioam_desk.specs.Desk.{Reading, Writing, Rose}
+use Rattle.ioam_forward.specs.Fate.{Frame, Fate, AreFates}
+use Rattle.ioam_forward.specs.Forwarding.{Forwards}
+use Rattle.ioam_forward.specs.Texts.{texts_of}
+use Rattle.ioam_forward.specs.declared.forwarding.Forwarding.{Forwarding}
+use Rattle.ioam_merge.specs.Merging as merging
+use Rattle.ioam_merge.specs.Merging.{Merging, Comes, FilesBegin, PartsArrive, HaveEnded, start_of}
+use Rattle.ioam_outputs.specs.Held.{HoldAllFronts}
+use Rattle.ioam_outputs.specs.Told.{AreTold}
+use Rattle.ioam_outputs.specs.declared.output.Output.{Output}
+use Rattle.ioam_pcap.specs.Merge.{Arrival}
+use Rattle.ioam_pcap.specs.declared.turns.Turn.TheVariants as turn
+use Rattle.ioam_topo.specs.declared.domain.Domain.{Domain}
+use Rattle.ioam_topo.specs.declared.ids.PortId.{PortId}
+use Rattle.ioam_traffic.specs.Traffic.{Start, frames_of, HoldsAll, ArePassed, Arrive}
+use Rattle.ioam_traffic.specs.declared.halt.Halt.{Halt}
+use Rattle.ioam_traffic.specs.declared.halt.Halt.TheVariants.{Over, Broken, Limit, ReadFault, WriteFault, NoMemory}
+use Rattle.ioam_traffic.specs.declared.stream.Stream.{Stream}
+
+-- the files of the traffic: the captures where they were opened, and the names of the outputs
+pub record Files : Type 0 where
+  pub lanes : merging.Start
+  pub names : List (List ℕ)
+
+-- captures and outputs of these names on a desk
+abbrev pub files_of : List (List ℕ) → List (List ℕ) → Reading → Writing → Files
+files_of inputs names reading writing = record { lanes = start_of reading.side.slots writing inputs; names = names }
+
+-- where the traffic of a domain over these files begins
+abbrev pub start_with : Domain → List PortId → Files → Start
+start_with domain ports files = record { domain = domain; ports = ports; lanes = files.lanes; names = files.names }
+
+-- something is held of the texts of what becomes of these arrivals
+pub record HoldSo (domain : Domain) (frames : List Frame) (Hold : List (List ℕ) → Type 0) : Type 0 where
+  pub fates : List Fate
+  pub become : AreFates domain frames fates
+  pub held : Hold (texts_of domain fates)
+
+module _ (tells : Bool) (start : Start) where
+  -- the outputs were told the texts so far of some arrivals, no more than may be; `Are` says which they are
+  pub record Runs (Are : List Arrival → Type 0) (outputs : Writing) (gathered : Forwarding) (tellers : List Output) : Type 0 where
+    pub taken : List Arrival
+    pub texts : List (List ℕ)
+    pub base : ℕ
+    pub are : Are taken
+    pub told : AreTold tells outputs base start.names tellers texts
+    pub forwards : Forwards start.domain (frames_of start.ports taken) texts gathered
+    pub few : length taken ≤ start.domain.packets
+
+  -- they were taken of the captures
+  abbrev pub Running : Reading → Writing → Stream → List Output → Type 0
+  Running inputs outputs stream tellers = Runs (Merging tells start.lanes inputs stream.merge) outputs stream.gathered tellers
+
+  -- and the next record is of the capture at this place
+  abbrev pub Coming : ℕ → Reading → Writing → Stream → List Output → Type 0
+  Coming place inputs outputs stream tellers = Runs (λ taken. (time : ℕ) × Comes tells start.lanes inputs stream.merge taken place time)
+      outputs stream.gathered tellers
+
+  -- where the desk tells they are the first that the files hold, and so on
+  abbrev pub Halted : (List Arrival → Type 0) → Writing → Forwarding → List Output → Type 0
+  Halted Are outputs gathered tellers = Runs (λ taken. IsTrue tells → FilesBegin start.lanes.contents taken × Are taken) outputs gathered tellers
+
+  -- each output holds a front of its text of some first arrivals
+  pub record Fronts (outputs : Writing) : Type 0 where
+    pub taken : List Arrival
+    pub begin : FilesBegin start.lanes.contents taken
+    pub few : length taken ≤ start.domain.packets
+    pub hold : HoldSo start.domain (frames_of start.ports taken) (HoldAllFronts outputs start.names)
+
+  module _ (old_in new_in : Reading) (old_out new_out : Writing) where
+    -- what the taking of arrivals answered, to the end of all or to what stopped it
+    module _ (gathered : Forwarding) (tellers : List Output) where
+      -- all outputs were told the texts of these arrivals
+      abbrev pub Tells : (List Arrival → Type 0) → Type 0
+      Tells Are = Halted Are new_out gathered tellers × (new_out.side ≡ old_out.side)
+
+      abbrev pub Stops : Halt → Type 0
+      Stops Over = Tells (λ taken. Arrive start turn.Over taken × HaveEnded start.lanes new_in)
+      Stops (Broken place at fault) = (place < length start.lanes.contents) × Tells (Arrive start (turn.Broken place at fault))
+      Stops Limit = Tells (ArePassed start)
+      Stops ReadFault = Rose old_in.side.faults new_in.side.faults × Tells (PartsArrive start.lanes.contents new_in start.lanes.base)
+      Stops WriteFault = Rose old_out.side.faults new_out.side.faults × (IsTrue tells → Fronts new_out)
+      Stops NoMemory = IsTrue tells → Fronts new_out
+
+    -- what the traffic of opened files answered, and what they hold then
+    abbrev pub Ends : Halt → Type 0
+    Ends Over = IsTrue tells → HoldsAll start (Arrive start turn.Over) new_out × HaveEnded start.lanes new_in
+    Ends (Broken place at fault) = (place < length start.lanes.contents)
+        × (IsTrue tells → HoldsAll start (Arrive start (turn.Broken place at fault)) new_out)
+    Ends Limit = IsTrue tells → HoldsAll start (ArePassed start) new_out
+    Ends ReadFault = Rose old_in.side.faults new_in.side.faults
+        × (IsTrue tells → HoldsAll start (PartsArrive start.lanes.contents new_in start.lanes.base) new_out)
+    Ends WriteFault = Rose old_out.side.faults new_out.side.faults × (IsTrue tells → Fronts new_out)
+    Ends NoMemory = IsTrue tells → Fronts new_out
+
+-- the outputs are as they are left: one could not be written, or no memory could be had
+abbrev pub IsBroken : Halt → Type 0
+IsBroken WriteFault = Unit {0}
+IsBroken NoMemory = Unit {0}
+IsBroken Over = ⊥
+IsBroken (Broken place at fault) = ⊥
+IsBroken Limit = ⊥
+IsBroken ReadFault = ⊥

@@ -1,0 +1,63 @@
+//! The records of merged captures, taken one by one.
+ghost use Rattle.std.specs.Prelude.{◌≡◌, ◌+◌, ◌<◌, ◌^◌, All, Bool, OnOk, length};
+ghost use Rattle.ioam_desk.specs.Desk.{Reading, Writing};
+ghost use Rattle.ioam_forward.specs.Forwarding.{IsOf, taken};
+ghost use Rattle.ioam_merge.specs.Merging.{IsComing};
+ghost use Rattle.ioam_topo.specs.Domain.{ports as ports_of};
+ghost use Rattle.ioam_traffic.specs.Running.{Coming, Files, Running, start_with};
+ghost use Rattle.ioam_traffic.specs.Traffic.{is_ethernet};
+
+use ioam_base::memory::NoMemory;
+use ioam_forward::Forwarding;
+use ioam_merge::Merge;
+use ioam_outputs::Output;
+use ioam_pcap::{CapStep, Link};
+use ioam_topo::{Domain, PortId};
+use std::alloc::Global;
+
+/// The captures that are merged, and what is gathered of their records.
+#[derive(Drop)]
+pub struct Stream {
+    pub merge: Merge,
+    pub gathered: Forwarding,
+}
+
+// Whether the frames of a capture begin with an Ethernet header.
+fn is_ethernet(link: Option<Link>) -> bool
+    ensures { result ≡ is_ethernet link }
+{
+    matches!(link, Some(Link::Ethernet))
+}
+
+impl Stream {
+    /// Takes the record that comes next, of the capture at a place, and sends it through the domain.
+    pub fn take_next(
+        &mut self,
+        alloc: Global,
+        domain: &Domain,
+        ports: &[PortId],
+        place: usize,
+        outputs: &mut [Output],
+    ) -> Result<(), NoMemory>
+        requires coming { IsComing self.old.merge place }
+        requires of { IsOf domain.now self.old.gathered }
+        requires inside { All (λ port. port.0 < length (ports_of domain.now)) ports.now }
+        requires below { place < length ports.now }
+        requires few { taken self.old.gathered < 2 ^ 32 }
+        requires width { length outputs.old ≡ length (ports_of domain.now) + 2 }
+        ensures counted { OnOk result (taken self.new.gathered ≡ taken self.old.gathered + 1) }
+        ensures runs { OnOk result ((tells : Bool) (files : Files) (inputs : Reading) (writing : Writing) → taken self.old.gathered < domain.now.packets
+            → Coming tells (start_with domain.now ports.now files) place inputs writing self.old outputs.old
+            → Running tells (start_with domain.now ports.now files) inputs writing self.new outputs.new) }
+    {
+        let port = ports[place];
+        let capture = &mut self.merge.captures[place];
+        let ethernet = is_ethernet(capture.link);
+        match capture.feed.reader.next() {
+            CapStep::Packet(packet) => {
+                self.gathered.take(alloc, domain, port, ethernet, &packet, outputs)
+            }
+            _ => unreachable!(),
+        }
+    }
+}
