@@ -54,7 +54,12 @@ fn domain_line(alloc: Global, fault: &DomainFault) -> Result<String, NoMemory>
     ensures { IfOk result (λ line. string_bytes line ≡ domain_text fault.now) }
 {
     let place = format!(in alloc; "domain {} {}", table_text(fault.table), fault.place)?;
-    Ok(format!(in alloc; "{} {} {}", place, field_text(fault.field), why_text(fault.why))?)
+    Ok(format!(in alloc;
+        "{} {} {}",
+        place,
+        field_text(fault.field),
+        why_text(fault.why)
+    )?)
 }
 
 // The line of faulty readings.

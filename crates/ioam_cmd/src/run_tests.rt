@@ -11,17 +11,22 @@ const HEAD: &str = "a1b23c4d00020004000000000000000000040000 00000065";
 
 /// Records of 48 octets at one, two and three seconds.
 const AT_ONE: &str = "00000001 00000000 00000030 00000030";
+
 const AT_TWO: &str = "00000002 00000000 00000030 00000030";
+
 const AT_THREE: &str = "00000003 00000000 00000030 00000030";
 
 /// The same where they leave, two links of 1,000 ns later.
 const LEFT_ONE: &str = "00000001 000007d0 00000030 00000030";
+
 const LEFT_TWO: &str = "00000002 000007d0 00000030 00000030";
+
 const LEFT_THREE: &str = "00000003 000007d0 00000030 00000030";
 
 /// A packet of 48 octets with 8 octets of UDP header, and the same three visits later.
 const UDP: &str =
     "6000000000081140 20010db8000100000000000000000001 20010db8000200000000000000000001 0400040100080000";
+
 const UDP_LEFT: &str =
     "600000000008113d 20010db8000100000000000000000001 20010db8000200000000000000000001 0400040100080000";
 
@@ -93,6 +98,7 @@ struct Row {
 }
 
 const DOMAIN: &[&str] = &[NODES, LINKS, PORTS, ROUTES];
+
 const TWO_INPUTS: &[&str] = &[NODES, LINKS, THREE_PORTS, ROUTES];
 
 const ROWS: [Row; 12] = [
@@ -287,7 +293,14 @@ fn words(alloc: Global, texts: &[&str]) -> Result<Vec<Name>, NoMemory> {
     Ok(words)
 }
 
-const RUN: &[&str] = &["run", "domain.toml", "readings", "1", "report.txt", "exports"];
+const RUN: &[&str] = &[
+    "run",
+    "domain.toml",
+    "readings",
+    "1",
+    "report.txt",
+    "exports",
+];
 
 // A desk with the files of a row.
 fn desk_for(alloc: Global, row: &Row) -> Result<MemoryDesk, NoMemory> {
@@ -316,10 +329,26 @@ fn run_writes_what_becomes_of_arrivals(rt: HostRuntime) {
             desk.set_piece(piece.max(1));
             let line = run_line(alloc, RUN, &mut desk).expect(&rt, "memory");
             assert_eq!(rt; line.as_str(), row.line);
-            assert!(rt; desk.file("east-out.pcap") == Some(east.as_slice()), "east at {}", row.report);
-            assert!(rt; desk.file("west-out.pcap") == Some(head.as_slice()), "west at {}", row.report);
-            assert!(rt; desk.file("report.txt") == Some(row.report.as_bytes()), "at {}", row.report);
-            assert!(rt; desk.file("exports") == Some(b"".as_slice()), "exports at {}", row.report);
+            assert!(rt;
+                desk.file("east-out.pcap") == Some(east.as_slice()),
+                "east at {}",
+                row.report
+            );
+            assert!(rt;
+                desk.file("west-out.pcap") == Some(head.as_slice()),
+                "west at {}",
+                row.report
+            );
+            assert!(rt;
+                desk.file("report.txt") == Some(row.report.as_bytes()),
+                "at {}",
+                row.report
+            );
+            assert!(rt;
+                desk.file("exports") == Some(b"".as_slice()),
+                "exports at {}",
+                row.report
+            );
         }
     }
 }
@@ -331,7 +360,8 @@ fn run_over_a_desk_that_never_fails(rt: HostRuntime) {
     let east = octets(alloc, row.east_out).expect(&rt, "octets");
     let west = octets(alloc, row.west).expect(&rt, "octets");
     let mut desk = SureDesk::new(alloc).expect(&rt, "memory");
-    desk.put_file("domain.toml", &text(alloc, row.domain).expect(&rt, "text")).expect(&rt, "memory");
+    desk.put_file("domain.toml", &text(alloc, row.domain).expect(&rt, "text"))
+        .expect(&rt, "memory");
     desk.put_file("west.pcap", &west).expect(&rt, "memory");
     let run = words(alloc, RUN).expect(&rt, "memory");
     assert!(rt; matches!(ioam_surely(alloc, &run, &mut desk), Outcome::Done));
@@ -348,7 +378,14 @@ struct Refusal {
 
 const REFUSALS: [Refusal; 11] = [
     Refusal {
-        words: &["run", "domain.toml", "readings", "1", "east-out.pcap", "exports"],
+        words: &[
+            "run",
+            "domain.toml",
+            "readings",
+            "1",
+            "east-out.pcap",
+            "exports",
+        ],
         domain: DOMAIN,
         readings: "",
         line: "names east-out.pcap",
@@ -360,7 +397,14 @@ const REFUSALS: [Refusal; 11] = [
         line: "names readings",
     },
     Refusal {
-        words: &["run", "domain.toml", "readings", "1", "report.txt", "west.pcap"],
+        words: &[
+            "run",
+            "domain.toml",
+            "readings",
+            "1",
+            "report.txt",
+            "west.pcap",
+        ],
         domain: DOMAIN,
         readings: "",
         line: "names west.pcap",
@@ -373,13 +417,27 @@ const REFUSALS: [Refusal; 11] = [
     },
     // The domain is looked at before the readings, and these before the names.
     Refusal {
-        words: &["run", "domain.toml", "readings", "1", "east-out.pcap", "exports"],
+        words: &[
+            "run",
+            "domain.toml",
+            "readings",
+            "1",
+            "east-out.pcap",
+            "exports",
+        ],
         domain: &[NODES, LINKS, PORTS, ROUTES, "[[flow]]\n"],
         readings: "a 0\n",
         line: "domain flow 0 - too-many",
     },
     Refusal {
-        words: &["run", "domain.toml", "readings", "1", "east-out.pcap", "exports"],
+        words: &[
+            "run",
+            "domain.toml",
+            "readings",
+            "1",
+            "east-out.pcap",
+            "exports",
+        ],
         domain: DOMAIN,
         readings: "d 0 0 - - -\n",
         line: "readings 1 node",
@@ -403,7 +461,14 @@ const REFUSALS: [Refusal; 11] = [
         line: "domain top 0 - text",
     },
     Refusal {
-        words: &["run", "domain.toml", "readings", "0", "report.txt", "exports"],
+        words: &[
+            "run",
+            "domain.toml",
+            "readings",
+            "0",
+            "report.txt",
+            "exports",
+        ],
         domain: DOMAIN,
         readings: "",
         line: "usage",
@@ -421,9 +486,12 @@ fn a_refused_run_writes_nothing(rt: HostRuntime) {
     let alloc = rt.alloc();
     for row in &REFUSALS {
         let mut desk = MemoryDesk::new(alloc).expect(&rt, "memory");
-        desk.put_file("domain.toml", &text(alloc, row.domain).expect(&rt, "text")).expect(&rt, "memory");
-        desk.put_file("readings", row.readings.as_bytes()).expect(&rt, "memory");
-        desk.put_file("west.pcap", b"as it was").expect(&rt, "memory");
+        desk.put_file("domain.toml", &text(alloc, row.domain).expect(&rt, "text"))
+            .expect(&rt, "memory");
+        desk.put_file("readings", row.readings.as_bytes())
+            .expect(&rt, "memory");
+        desk.put_file("west.pcap", b"as it was")
+            .expect(&rt, "memory");
         let line = run_line(alloc, row.words, &mut desk).expect(&rt, "memory");
         assert_eq!(rt; line.as_str(), row.line);
         assert!(rt; desk.file("west.pcap") == Some(b"as it was".as_slice()));
@@ -502,6 +570,9 @@ fn each_call_of_a_run_fails_once(rt: HostRuntime) {
                 break;
             }
         }
-        assert!(rt; most == 2 && faults[0] > 5 && faults[1] > 1 && faults[2] > 3, "pieces of {piece}");
+        assert!(rt;
+            most == 2 && faults[0] > 5 && faults[1] > 1 && faults[2] > 3,
+            "pieces of {piece}"
+        );
     }
 }
