@@ -1,12 +1,11 @@
 -- Traffic of which nothing was taken yet.
-use Rattle.std.proofs.Common.{◌≡◌, ℕ, ◌+◌, ◌≤◌, Bool, IsTrue, List, [], ◌∷◌, length, sym, ◌∙◌, ap, subst, arith}
+use Rattle.std.proofs.Common.{◌≡◌, ℕ, ◌+◌, ◌<◌, Bool, IsTrue, List, [], length, sym, ◌∙◌, ap, subst, arith}
 use Rattle.std.proofs.lemmas.List.{length-map}
 use Rattle.ioam_desk.specs.Desk.{Reading, Writing, holds}
 use Rattle.ioam_forward.specs.Forwarding.{Forwards}
 use Rattle.ioam_forward.specs.Texts.{of_ports, texts_so_far, texts_of}
 use Rattle.ioam_forward.specs.declared.forwarding.Forwarding.{Forwarding}
-use Rattle.ioam_merge.specs.Merging as merging
-use Rattle.ioam_merge.specs.Merging.{FilesBegin, Merging, start_of}
+use Rattle.ioam_merge.specs.Merging.{Merging, start_of}
 use Rattle.ioam_merge.specs.declared.merge.Merge.{Merge}
 use Rattle.ioam_outputs.specs.Held.{HoldAllFronts, HoldFronts}
 use Rattle.ioam_outputs.specs.Told.{AreTold, Adds, unsaid}
@@ -18,7 +17,6 @@ use Rattle.ioam_topo.specs.declared.domain.Domain.{Domain}
 use Rattle.ioam_topo.specs.declared.ids.PortId.{PortId}
 use Rattle.ioam_traffic.specs.Traffic.{HoldsFronts, AreOpened}
 use Rattle.ioam_traffic.specs.Running.{Files, Fronts, Running, files_of, start_with}
-use Rattle.ioam_traffic.specs.declared.stream.Stream.{Stream}
 use Rattle.ioam_traffic.proofs.FrontsLaws.{longer_fronts, of_ports-length, said_first, told_names}
 use Rattle.ioam_traffic.proofs.RunsLaws.{Merging-begins}
 
@@ -94,6 +92,9 @@ module _ (files : Files) (ins outs : List (List ℕ)) (reading : Reading) (writi
   pub known_opened : (domain : Domain) (ports : List PortId) (new : Reading) → new.side.slots ≡ reading.side.slots + length ins
       → AreOpened (start_with domain ports files) new
   known_opened domain ports new slots = omega (arith, slots, known_sized, ap (λ (f : Files). f.lanes.base) known)
+
+  pub known_fewer : (new : Reading) → new.side.slots < reading.side.slots + length ins → new.side.slots < files.lanes.base + length files.lanes.contents
+  known_fewer new slots = omega (arith, slots, known_sized, ap (λ (f : Files). f.lanes.base) known)
 
   pub known_merging : (tells : Bool) (inputs now : Reading) (merge : Merge) → now ≡ inputs
       → Merging tells (start_of reading.side.slots writing ins) inputs merge [] → Merging tells files.lanes now merge []

@@ -1,12 +1,12 @@
 -- Laws of the traffic while it runs.
-use Rattle.std.proofs.Common.{◌≡◌, ℕ, ◌+◌, ◌<◌, ◌≤◌, Bool, IsTrue, List, [], ◌∷◌, ◌++◌, length, Option, Some, None, refl, sym, ◌∙◌, ap, subst, arith, length-take}
-use Rattle.std.specs.Prelude.{map, slice_get}
+use Rattle.std.proofs.Common.{◌≡◌, ℕ, ◌+◌, ◌<◌, ◌≤◌, Bool, IsTrue, List, [], ◌∷◌, ◌++◌, length, Option, refl, sym, subst, arith}
+use Rattle.std.specs.Prelude.{map}
 use Rattle.std.specs.List.{AllZip}
 use Rattle.std.proofs.lemmas.List.{map-append, length-map}
 use Rattle.ioam_desk.specs.Desk.{Reading, Writing}
 use Rattle.ioam_forward.specs.Fate.{Frame, Fate, AreFates}
 use Rattle.ioam_forward.specs.Forwarding.{Forwards, IsOf, taken}
-use Rattle.ioam_forward.specs.Texts.{texts_so_far, texts_of, way_of, ways_of}
+use Rattle.ioam_forward.specs.Texts.{way_of, ways_of}
 use Rattle.ioam_forward.specs.declared.forwarding.Forwarding.{Forwarding}
 use Rattle.ioam_merge.specs.Merging as merging
 use Rattle.ioam_merge.specs.Merging.{Begins, IsFile, FilesBegin, Row, Merging, Comes}
@@ -24,7 +24,7 @@ use Rattle.ioam_pcap.proofs.MergeLaws.{Takes-push}
 use Rattle.ioam_topo.specs.declared.domain.Domain.{Domain}
 use Rattle.ioam_topo.specs.declared.ids.PortId.{PortId}
 use Rattle.ioam_traffic.specs.Traffic.{Start, ArePassed, frame_of, frames_of, is_ethernet, port_at}
-use Rattle.ioam_traffic.specs.Running.{Coming, Fronts, Halted, HoldSo, Running, Runs}
+use Rattle.ioam_traffic.specs.Running.{Coming, Fronts, Halted, Running, Runs}
 use Rattle.ioam_traffic.specs.declared.stream.Stream.{Stream}
 use Rattle.ioam_traffic.proofs.FrontsLaws.{fronts_so_far}
 

@@ -1,10 +1,10 @@
 -- From what stopped the traffic to how it ends.
-use Rattle.std.proofs.Common.{◌≡◌, ℕ, ◌<◌, Bool, IsTrue, List, length, ◌∙◌, ap, subst, inl, inr, arith}
+use Rattle.std.proofs.Common.{◌≡◌, ℕ, Bool, IsTrue, List, ◌∙◌, ap, inr, arith}
 use Rattle.ioam_desk.specs.Desk.{Reading, Writing, Side}
 use Rattle.ioam_forward.specs.Fate.{Frame}
 use Rattle.ioam_forward.specs.Forwarding.{Forwards}
 use Rattle.ioam_forward.specs.declared.forwarding.Forwarding.{Forwarding}
-use Rattle.ioam_merge.specs.Merging.{FilesBegin, PartsArrive, HaveEnded}
+use Rattle.ioam_merge.specs.Merging.{PartsArrive, HaveEnded}
 use Rattle.ioam_outputs.specs.Held.{HoldTexts, HoldAllFronts}
 use Rattle.ioam_outputs.specs.Told.{AreTold, AreOpen}
 use Rattle.ioam_outputs.specs.declared.output.Output.{Output}
@@ -101,16 +101,6 @@ module _ (tells : Bool) (start : Start) where
         Stops-fronts ReadFault whole stops = broken (PartsArrive start.lanes.contents new_in start.lanes.base) stops.1.0
         Stops-fronts WriteFault whole stops = absurd (whole tt)
         Stops-fronts NoMemory whole stops = absurd (whole tt)
-
-    -- where the answer stays as it was
-    pub Ends-stopped : (halt : Halt) → IsBroken halt → Stops tells start old_in new_in old_out mid_out gathered tellers halt
-        → Ends tells start old_in new_in old_out mid_out halt
-    Ends-stopped Over broken stops = absurd broken
-    Ends-stopped (Broken place at fault) broken stops = absurd broken
-    Ends-stopped Limit broken stops = absurd broken
-    Ends-stopped ReadFault broken stops = absurd broken
-    Ends-stopped WriteFault broken stops = stops
-    Ends-stopped NoMemory broken stops = stops
 
   -- from where the files were opened to before that
   module _ (first_in old_in new_in : Reading) (first_out old_out new_out : Writing) where

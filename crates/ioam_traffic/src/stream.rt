@@ -55,7 +55,8 @@ impl Stream {
         let ethernet = is_ethernet(capture.link);
         match capture.feed.reader.next() {
             CapStep::Packet(packet) => {
-                self.gathered.take(alloc, domain, port, ethernet, &packet, outputs)
+                self.gathered
+                    .take(alloc, domain, port, ethernet, &packet, outputs)
             }
             _ => unreachable!(),
         }

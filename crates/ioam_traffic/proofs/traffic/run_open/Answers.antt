@@ -1,4 +1,4 @@
-use Rattle.std.proofs.Common.{◌≡◌, ℕ, length, rules, ap, sym, ◌∙◌, subst, arith}
+use Rattle.std.proofs.Common.{rules, ap, sym, ◌∙◌, subst, arith}
 use Rattle.std.proofs.lemmas.Bool.{false≢true}
 use Rattle.ioam_desk.specs.Desk.{Reading, Side}
 use Rattle.ioam_traffic.specs.Running.{Ends, IsBroken, start_with}

@@ -1,4 +1,4 @@
-use Rattle.std.proofs.Common.{IsTrue, List, refl, ◌∙◌, ap, rules, arith}
+use Rattle.std.proofs.Common.{refl, ◌∙◌, ap, rules, arith}
 use Rattle.ioam_desk.specs.Desk.{Reading, Writing, Side}
 use Rattle.ioam_merge.specs.Merging.{PartsArrive, HaveEnded}
 use Rattle.ioam_pcap.specs.declared.turns.Turn.TheVariants as turn

@@ -1,4 +1,4 @@
-use Rattle.std.proofs.Common.{List, ℕ, subst}
+use Rattle.std.proofs.Common.{subst}
 use Rattle.ioam_outputs.specs.Held.{HoldAllFronts, HoldTexts}
 use Rattle.ioam_outputs.proofs.HeldLaws.{AreTold-fronts}
 use Rattle.ioam_outputs.proofs.ToldLaws.{AreTold-adds}
