@@ -88,6 +88,7 @@ route = [
 ]
 "#;
 
+#[derive(Clone, Copy)]
 struct Row {
     domain: &'static [&'static str],
     west: &'static [&'static str],
@@ -376,7 +377,7 @@ struct Refusal {
     line: &'static str,
 }
 
-const REFUSALS: [Refusal; 11] = [
+const REFUSALS: [Refusal; 14] = [
     Refusal {
         words: &[
             "run",
@@ -456,6 +457,30 @@ const REFUSALS: [Refusal; 11] = [
     },
     Refusal {
         words: RUN,
+        domain: &["node = [ { name = \"a\", id = 1, address = \"2001:db8::a\", colour = 1 } ]\n"],
+        readings: "",
+        line: "domain node 1 other unknown",
+    },
+    Refusal {
+        words: RUN,
+        domain: &[
+            NODES,
+            "link = [ { name = \"ab\", from = \"a\", to = \"b\", out_id = 1, in_id = 2, delay = 0, mtu = 1279 } ]\n",
+        ],
+        readings: "",
+        line: "domain link 1 mtu range",
+    },
+    Refusal {
+        words: RUN,
+        domain: &[
+            NODES,
+            "link = [ { name = \"ab\", from = \"a\", to = \"b\", out_id = 1, in_id = 2, delay = 0, mtu = 1280, tap = \"ab.pcap\" } ]\n",
+        ],
+        readings: "",
+        line: "domain link 1 tap too-many",
+    },
+    Refusal {
+        words: RUN,
         domain: &["packets ="],
         readings: "",
         line: "domain top 0 - text",
@@ -500,14 +525,16 @@ fn a_refused_run_writes_nothing(rt: HostRuntime) {
     }
 }
 
+const REPORT_OF_TWO: &str = "1 west left east\n2 west left east\npackets 2 left 2 dropped 0\n\
+        node a seen 2 dropped 0\nnode b seen 2 dropped 0\nnode c seen 2 dropped 0\n";
+
 // The reports of the first arrivals of a run of two packets, sums included.
 const REPORTS: [&str; 3] = [
     "packets 0 left 0 dropped 0\n\
         node a seen 0 dropped 0\nnode b seen 0 dropped 0\nnode c seen 0 dropped 0\n",
     "1 west left east\npackets 1 left 1 dropped 0\n\
         node a seen 1 dropped 0\nnode b seen 1 dropped 0\nnode c seen 1 dropped 0\n",
-    "1 west left east\n2 west left east\npackets 2 left 2 dropped 0\n\
-        node a seen 2 dropped 0\nnode b seen 2 dropped 0\nnode c seen 2 dropped 0\n",
+    REPORT_OF_TWO,
 ];
 
 const TWO_PACKETS: Row = Row {
@@ -515,7 +542,7 @@ const TWO_PACKETS: Row = Row {
     west: &[HEAD, AT_ONE, UDP, AT_TWO, UDP],
     west2: &[],
     east_out: &[HEAD, LEFT_ONE, UDP_LEFT, LEFT_TWO, UDP_LEFT],
-    report: REPORTS[2],
+    report: REPORT_OF_TWO,
     line: "done",
 };
 
