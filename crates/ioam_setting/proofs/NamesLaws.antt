@@ -1,7 +1,7 @@
 -- Laws of the names of a run's files.
 use Rattle.std.proofs.Common.{◌≡◌, ℕ, zero, suc, ◌+◌, ◌<◌, ◌⊎◌, List, [], ◌∷◌, ◌++◌, map, length, take, get_or, Option, Some, None, refl, sym, ◌∙◌, ap, subst, inl, inr, ⊎_elim, append-nil, append_assoc, length-append, arith}
 use Rattle.std.specs.List.{All, Contains, flat_map}
-use Rattle.std.proofs.lemmas.List.{get_or_default, length-map, length-take-le, take_more, take_all}
+use Rattle.std.proofs.lemmas.List.{get_or_default, length-map, length-take-le, take_more}
 use Rattle.std.proofs.lemmas.List.Elements.{All-nil, All-cons, All-append, Contains-append_left, Contains-append_right, Contains-append_cases}
 use Rattle.ioam_outputs.specs.Names.{name_at, Repeats, AreApart}
 use Rattle.ioam_topo.specs.declared.ids.PortId.{PortId}

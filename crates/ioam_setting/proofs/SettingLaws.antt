@@ -1,8 +1,6 @@
 -- Laws of the two files that a run is set by: what the second one's reading says once the first was read.
-use Rattle.std.proofs.Common.{◌≡◌, ℕ, suc, Bool, IsTrue, IsSomeAnd, List, [], ◌∷◌, ◌++◌, take, Result, Ok, Err, sym, ◌∙◌, ap, subst, append_assoc}
+use Rattle.std.proofs.Common.{◌≡◌, ℕ, suc, Bool, IsSomeAnd, List, [], ◌∷◌, ◌++◌, take, Ok, Err, ◌∙◌, ap, subst, append_assoc}
 use Rattle.ioam_clock.specs.Reading.{readings_of, node_names}
-use Rattle.ioam_clock.specs.declared.sample.Sample.{Sample}
-use Rattle.ioam_clock.specs.declared.fault.ReadingsFault.{ReadingsFault}
 use Rattle.ioam_desk.specs.Asked.{AsksFront}
 use Rattle.ioam_desk.specs.Desk.{Side, Reading, Writing, Rose, holds, opened_side}
 use Rattle.ioam_topo.specs.declared.domain.Domain.{Domain}
