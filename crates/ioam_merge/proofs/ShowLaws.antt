@@ -14,7 +14,7 @@ use Rattle.ioam_pcap.specs.Reader.{IsHeaded}
 use Rattle.ioam_pcap.specs.Reading.{Reading}
 use Rattle.ioam_pcap.specs.Turn.{IsTurn, turn_of}
 use Rattle.ioam_pcap.specs.declared.turns.Due.{Due}
-use Rattle.ioam_pcap.specs.declared.turns.Due.TheVariants.{Record, End, More}
+use Rattle.ioam_pcap.specs.declared.turns.Due.TheVariants.{Record, End, More, Bad}
 use Rattle.ioam_pcap.specs.declared.turns.Turn.{Turn}
 use Rattle.ioam_pcap.specs.declared.turns.Turn.TheVariants.{Next, Over, Broken, Unshown}
 use Rattle.ioam_pcap.proofs.TurnLaws.{turn_says}
@@ -244,8 +244,24 @@ module _ (tells : Bool) (start : Start) (taken : List Arrival) (new : desk.Readi
             map_length (λ (r : Row). r.content) merging.rows,
           )) in
           Rows-ended tells start taken new merging.rows merging.are_rows told ends k row there
-  Turns-other (Broken place at fault) is stops = λ told.
-      Rows-arrive tells start taken new merging.rows merging.are_rows told (Broken place at fault) (turn_is (Broken place at fault) is) (λ next. next) (λ un. absurd (cc))
+  Turns-other (Broken place at fault) is stops = (
+    inside,
+    λ told.
+        Rows-arrive tells start taken new merging.rows merging.are_rows told (Broken place at fault) (turn_is (Broken place at fault) is) (λ next. next) (λ un. absurd (cc)),
+  )
+    where
+      says : IsTurn merge.dues.items (Broken place at fault)
+      says = subst (IsTurn merge.dues.items) is (turn_says merge.dues.items)
+
+      inside : place < length start.contents
+      inside = omega (
+        arith,
+        within merge.dues.items place (Bad at fault) says.0,
+        ap length merging.dues,
+        ap length merging.are_rows.contents,
+        map_length (λ (r : Row). r.due) merging.rows,
+        map_length (λ (r : Row). r.content) merging.rows,
+      )
   Turns-other Unshown is stops =
       let says : IsTurn merge.dues.items Unshown = subst (IsTurn merge.dues.items) is (turn_says merge.dues.items) in
       known says.0 More (omega (arith, within merge.dues.items says.0 More says.1, Merging-sized tells start taken new new merge merging)) says.1 refl

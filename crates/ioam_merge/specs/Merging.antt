@@ -137,6 +137,11 @@ abbrev pub Stops : Bool → Start → List Arrival → desk.Reading → DeskFaul
 Stops tells start taken new Failed = IsTrue tells → PartsArrive start.contents new start.base taken
 Stops tells start taken new NoMemory = IsTrue tells → FilesBegin start.contents taken
 
+-- an opening that failed left fewer slots than this
+abbrev pub LeavesFewer : DeskFault → ℕ → ℕ → Type 0
+LeavesFewer Failed slots most = slots < most
+LeavesFewer NoMemory slots most = ⊤
+
 -- every slot has ended
 abbrev pub HaveEnded : Start → desk.Reading → Type 0
 HaveEnded start new = (k : ℕ) → k < length start.contents → IsTrue (new.ended (start.base + k))
@@ -151,6 +156,7 @@ module _ (tells : Bool) (start : Start) (taken : List Arrival) (new : desk.Readi
   abbrev pub Turns : Result Turn DeskFault → Type 0
   Turns (Ok (Next place time)) = Comes tells start new merge taken place time
   Turns (Ok Over) = IsTrue tells → FilesArrive start.contents taken Over × HaveEnded start new
-  Turns (Ok (Broken place at fault)) = IsTrue tells → FilesArrive start.contents taken (Broken place at fault)
+  Turns (Ok (Broken place at fault)) = (place < length start.contents)
+      × (IsTrue tells → FilesArrive start.contents taken (Broken place at fault))
   Turns (Ok Unshown) = ⊥
   Turns (Err fault) = Stops tells start taken new fault

@@ -1,8 +1,8 @@
 //! Opening of several captures.
-ghost use Rattle.std.specs.Prelude.{◌≡◌, ◌+◌, ◌∷◌, [], IfErr, IfOk, OnOk, vec_len};
+ghost use Rattle.std.specs.Prelude.{◌≡◌, ◌+◌, ◌∷◌, [], IfErr, IfOk, OnOk, length, vec_len};
 ghost use Rattle.ioam_desk.specs.Asked.{AsksFront, IsFaultOf};
 ghost use Rattle.ioam_desk.specs.Desk.{holds, opened_side};
-ghost use Rattle.ioam_merge.specs.Merging.{Start, Merging, start_of, opened_each, with_content};
+ghost use Rattle.ioam_merge.specs.Merging.{Start, Merging, LeavesFewer, start_of, opened_each, with_content};
 
 use crate::merge::Merge;
 use ioam_base::memory::NoMemory;
@@ -24,6 +24,7 @@ fn open_one<D: Desk>(
     ensures side { OnOk result ((D.reading desk.new).side ≡ opened_side (D.reading desk.old).side name.now) }
     ensures asked { AsksFront (D.reading desk.old).side.asked (D.reading desk.new).side.asked (name.now ∷ []) }
     ensures cause { IfErr result (IsFaultOf (D.reading desk.old).side (D.reading desk.new).side) }
+    ensures fewer { IfErr result (λ fault. LeavesFewer fault (D.reading desk.new).side.slots ((D.reading desk.old).side.slots + 1)) }
     ensures outputs { D.writing desk.new ≡ D.writing desk.old }
 {
     let feed = match open_feed(alloc, desk, name) {
@@ -46,6 +47,7 @@ pub fn open_merge<D: Desk>(alloc: Global, desk: &mut D, names: &[Name]) -> Resul
     ensures side { OnOk result ((D.reading desk.new).side ≡ opened_each (D.reading desk.old).side names.now) }
     ensures asked { AsksFront (D.reading desk.old).side.asked (D.reading desk.new).side.asked names.now }
     ensures cause { IfErr result (IsFaultOf (D.reading desk.old).side (D.reading desk.new).side) }
+    ensures fewer { IfErr result (λ fault. LeavesFewer fault (D.reading desk.new).side.slots ((D.reading desk.old).side.slots + length names.now)) }
     ensures outputs { D.writing desk.new ≡ D.writing desk.old }
 {
     let mut merge = match Merge::new(alloc, names.len()) {

@@ -1,17 +1,21 @@
 use Rattle.std.proofs.Common.{◌≡◌, ◌+◌, List, length, rules, ap, sym, ◌∙◌, inl, inr, arith}
 use Rattle.ioam_desk.specs.Desk.{Reading, Writing, Side}
 use Rattle.ioam_outputs.specs.declared.output.Output.{Output}
-use Rattle.ioam_traffic.specs.Running.{start_with}
+use Rattle.ioam_traffic.specs.Running.{Files, start_with}
 use Rattle.ioam_traffic.proofs.BeginLaws.{known_fronts, known_merging, known_opened, known_sized, known_told}
 use Rattle.ioam_traffic.proofs.FrontsLaws.{told_names}
 use Rattle.ioam_traffic.proofs.StopsLaws.{Ends-finishes}
 use Rattle.ioam_traffic.proofs.traffic.run_files.Goals as goal
 
 pub returns-in-Err-Failed-clause-finishes : goal.returns-in-Err-Failed-clause-finishes
-returns-in-Err-Failed-clause-finishes g c = (
-  rw c.in-Err-Failed.field-0-is at c.in-Err-Failed.ensures.cause,
-  inl (?, c.in-Err-Failed.ensures.outputs),
-)
+returns-in-Err-Failed-clause-finishes g c =
+    let fewer = rw c.in-Err-Failed.field-0-is at c.in-Err-Failed.ensures.fewer in
+    let base : g.files.lanes.base ≡ (g.D.Desk.reading c.args.desk.now).side.slots = ap (λ (f : Files). f.lanes.base) c.requires.1.0 in
+    let sized : length g.files.lanes.contents ≡ length c.args.inputs.now
+    = known_sized g.files c.args.inputs.now c.args.outputs.now (g.D.Desk.reading c.args.desk.now) (g.D.Desk.writing c.args.desk.now) c.requires.1.0 in (
+      rw c.in-Err-Failed.field-0-is at c.in-Err-Failed.ensures.cause,
+      inl (omega (arith, fewer, base, sized), c.in-Err-Failed.ensures.outputs),
+    )
 
 pub run_open-requires : goal.run_open-requires
 run_open-requires g c κs within =

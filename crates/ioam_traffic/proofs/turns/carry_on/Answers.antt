@@ -30,11 +30,11 @@ returns-in-Ok-Broken-clause-stops g c =
     let start = start_with c.args.domain.now c.args.ports.now g.files in
     let running = c.turns.invariant.running in
     let turned = rw c.in-Ok-Broken.field-0-is at (c.in-Ok-Broken.ensures.turns g.files.lanes running.taken running.are) in (
-      ?,
+      turned.0,
       (
         Running-halted g.D.Desk.tells start (g.D.Desk.reading c.turns.desk) (g.D.Desk.writing c.turns.desk) (g.D.Desk.writing c.turn.new.desk)
             c.turns.stream c.turns.outputs running c.in-Ok-Broken.ensures.outputs
-            (Arrive start (turn.Broken c.in-Ok-Broken.place c.in-Ok-Broken.at c.in-Ok-Broken.fault)) turned,
+            (Arrive start (turn.Broken c.in-Ok-Broken.place c.in-Ok-Broken.at c.in-Ok-Broken.fault)) turned.1,
         ap (λ (w : Writing). w.side) c.in-Ok-Broken.ensures.outputs ∙ c.turns.invariant.side,
       ),
     )
