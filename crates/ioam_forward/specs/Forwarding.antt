@@ -18,7 +18,7 @@ pub record Forwards (domain : Domain) (frames : List Frame) (texts : List (List 
   pub sums : StandFor domain gathered.sums (ways_of fates)
 
 -- The texts of these arrivals, with the sums. By no port of the domain leaves a packet with an IOAM
--- option, or with a chain of headers that isn't whole
+-- option on its chain of headers, or with a chain that isn't whole.
 pub record Forwarded (domain : Domain) (frames : List Frame) (texts : List (List ℕ)) : Type 0 where
   pub fates : List Fate
   pub are : AreFates domain frames fates
