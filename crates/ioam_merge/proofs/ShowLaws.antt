@@ -19,7 +19,7 @@ use Rattle.ioam_pcap.specs.declared.turns.Turn.{Turn}
 use Rattle.ioam_pcap.specs.declared.turns.Turn.TheVariants.{Next, Over, Broken, Unshown}
 use Rattle.ioam_pcap.proofs.TurnLaws.{turn_says}
 use Rattle.ioam_merge.specs.Capture.{Lane, LaneOn, IsDue, ShowsDue, MovesOne}
-use Rattle.ioam_merge.specs.Merging.{Start, Row, IsRow, Rows, Merging, AreKnown, Stops, Turns, Comes}
+use Rattle.ioam_merge.specs.Merging.{Start, Row, IsRow, Rows, Merging, AreKnown, Stops, Turns, Comes, EndsKept}
 use Rattle.ioam_merge.specs.declared.capture.Capture.{Capture}
 use Rattle.ioam_merge.specs.declared.merge.Merge.{Merge}
 use Rattle.ioam_merge.proofs.ListLaws.{get-inside, get-map, get-set, get-set_here, map-set, map-set_same}
@@ -59,6 +59,13 @@ module _ (tells : Bool) (start : Start) (taken : List Arrival) (old new : desk.R
       let (row, is) = get-inside merging.rows place inside in
       let P : List Capture → Type 0 = λ cs. slice_get cs place ≡ Some before in
       (row, is, same_Some row.capture before (sym (get-map (λ (r : Row). r.capture) merging.rows place row is) ∙ subst P merging.captures there))
+
+  -- nothing but the capture's own slot moved, so those below the first are as before
+  pub Merging-kept : (place : ℕ) (before : Capture) → slice_get merge.captures.items place ≡ Some before → MovesOne before.feed.slot old new
+      → EndsKept start.base old new
+  Merging-kept place before there moves = λ k below.
+      let (row, is, same) = row_there place before there in
+      moves.1 k (λ at. omega (arith, at, below, (merging.are_rows.each place row is).0.number, ap (λ (c : Capture). c.feed.slot) same))
 
   -- its slot is open
   pub Merging-open : (place : ℕ) (before : Capture) → slice_get merge.captures.items place ≡ Some before → before.feed.slot < old.side.slots

@@ -142,6 +142,10 @@ abbrev pub LeavesFewer : DeskFault → ℕ → ℕ → Type 0
 LeavesFewer Failed slots most = slots < most
 LeavesFewer NoMemory slots most = ⊤
 
+-- the slots below a number have ended where they had
+abbrev pub EndsKept : ℕ → desk.Reading → desk.Reading → Type 0
+EndsKept base old new = (k : ℕ) → k < base → new.ended k ≡ old.ended k
+
 -- every slot has ended
 abbrev pub HaveEnded : Start → desk.Reading → Type 0
 HaveEnded start new = (k : ℕ) → k < length start.contents → IsTrue (new.ended (start.base + k))

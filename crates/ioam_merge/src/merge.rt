@@ -3,7 +3,7 @@ ghost use Rattle.std.specs.Prelude.{◌≡◌, ◌<◌, ◌+◌, ◌++◌, ◌�
 ghost use Rattle.ioam_desk.specs.Asked.{IsFaultOf};
 ghost use Rattle.ioam_desk.specs.Desk.{Reading};
 ghost use Rattle.ioam_pcap.specs.Merge.{Arrival};
-ghost use Rattle.ioam_merge.specs.Merging.{Start, Merging, Comes, IsComing, IsMerging, AreKnown, Shows, Turns};
+ghost use Rattle.ioam_merge.specs.Merging.{Start, Merging, Comes, IsComing, IsMerging, AreKnown, Shows, Turns, EndsKept};
 
 use crate::capture::Capture;
 use ioam_base::memory::NoMemory;
@@ -76,6 +76,8 @@ impl Merge {
         ensures slots { (D.reading desk.new).side.slots ≡ (D.reading desk.old).side.slots }
         ensures outputs { D.writing desk.new ≡ D.writing desk.old }
         ensures count { vec_len self.new.captures ≡ vec_len self.old.captures }
+        ensures below { (start : Start) (taken : List Arrival) → Merging D.tells start (D.reading desk.old) self.old taken
+            → EndsKept start.base (D.reading desk.old) (D.reading desk.new) }
     {
         match self.dues[place] {
             Due::More => {}
@@ -101,6 +103,8 @@ impl Merge {
         ensures asked { (D.reading desk.new).side.asked ≡ (D.reading desk.old).side.asked }
         ensures slots { (D.reading desk.new).side.slots ≡ (D.reading desk.old).side.slots }
         ensures outputs { D.writing desk.new ≡ D.writing desk.old }
+        ensures below { (start : Start) (taken : List Arrival) → Merging D.tells start (D.reading desk.old) self.old taken
+            → EndsKept start.base (D.reading desk.old) (D.reading desk.new) }
     {
         'captures: for place in 0..self.captures.len() {
             match self.show_one(desk, place) {
@@ -126,6 +130,8 @@ impl Merge {
         ensures asked { (D.reading desk.new).side.asked ≡ (D.reading desk.old).side.asked }
         ensures slots { (D.reading desk.new).side.slots ≡ (D.reading desk.old).side.slots }
         ensures outputs { D.writing desk.new ≡ D.writing desk.old }
+        ensures below { (start : Start) (taken : List Arrival) → Merging D.tells start (D.reading desk.old) self.old taken
+            → EndsKept start.base (D.reading desk.old) (D.reading desk.new) }
     {
         match self.show_all(desk) {
             Ok(()) => {}

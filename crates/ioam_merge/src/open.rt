@@ -2,7 +2,7 @@
 ghost use Rattle.std.specs.Prelude.{◌≡◌, ◌+◌, ◌∷◌, [], IfErr, IfOk, OnOk, length, vec_len};
 ghost use Rattle.ioam_desk.specs.Asked.{AsksFront, IsFaultOf};
 ghost use Rattle.ioam_desk.specs.Desk.{holds, opened_side};
-ghost use Rattle.ioam_merge.specs.Merging.{Start, Merging, LeavesFewer, start_of, opened_each, with_content};
+ghost use Rattle.ioam_merge.specs.Merging.{Start, Merging, LeavesFewer, EndsKept, start_of, opened_each, with_content};
 
 use crate::merge::Merge;
 use ioam_base::memory::NoMemory;
@@ -26,6 +26,7 @@ fn open_one<D: Desk>(
     ensures cause { IfErr result (IsFaultOf (D.reading desk.old).side (D.reading desk.new).side) }
     ensures fewer { IfErr result (λ fault. LeavesFewer fault (D.reading desk.new).side.slots ((D.reading desk.old).side.slots + 1)) }
     ensures outputs { D.writing desk.new ≡ D.writing desk.old }
+    ensures below { EndsKept (D.reading desk.old).side.slots (D.reading desk.old) (D.reading desk.new) }
 {
     let feed = match open_feed(alloc, desk, name) {
         Ok(feed) => feed,
@@ -49,6 +50,7 @@ pub fn open_merge<D: Desk>(alloc: Global, desk: &mut D, names: &[Name]) -> Resul
     ensures cause { IfErr result (IsFaultOf (D.reading desk.old).side (D.reading desk.new).side) }
     ensures fewer { IfErr result (λ fault. LeavesFewer fault (D.reading desk.new).side.slots ((D.reading desk.old).side.slots + length names.now)) }
     ensures outputs { D.writing desk.new ≡ D.writing desk.old }
+    ensures below { EndsKept (D.reading desk.old).side.slots (D.reading desk.old) (D.reading desk.new) }
 {
     let mut merge = match Merge::new(alloc, names.len()) {
         Ok(merge) => merge,

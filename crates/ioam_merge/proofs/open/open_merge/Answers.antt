@@ -1,7 +1,7 @@
 use Rattle.std.proofs.Common.{◌≡◌, ◌<◌, ◌∙◌, ◌++◌, List, ℕ, length, append-nil, [], take, get_or, refl, sym, ap, subst, arith}
 use Rattle.ioam_desk.specs.Desk.{Side, Writing, holds}
 use Rattle.ioam_merge.specs.Merging.{Start, Merging, start_of, opened_each, with_content}
-use Rattle.ioam_merge.proofs.OpenLaws.{Merging-none, start_more, side_more, asks_more}
+use Rattle.ioam_merge.proofs.OpenLaws.{Merging-none, start_more, side_more, asks_more, kept_on}
 use Rattle.ioam_merge.proofs.open.open_merge.Goals as goal
 
 pub names-init : goal.names-init
@@ -10,6 +10,7 @@ names-init g c = record {
       c.in-Ok.ensures.0 c.in-Ok.ensures.1 (omega (arith, c.in-Ok.ensures.2, c.in-Ok.merge.piece.ok.0));
   count = omega (arith, c.in-Ok.merge.captures.ok.0, ap length c.in-Ok.ensures.0);
   side = side_none (g.D.Desk.reading c.args.desk.now).side;
+  below = λ k lt. refl;
   outputs = refl;
 }
   where
@@ -42,5 +43,11 @@ names-preserved g c =
       count = omega (arith, c.names.invariant.count, c.in-Ok-open_one.ensures.count, ap (λ (s : Side). s.slots) c.in-Ok-open_one.ensures.side);
       side = side_more (g.D.Desk.reading c.args.desk.now).side (g.D.Desk.reading c.names.desk).side (g.D.Desk.reading c.open_one.new.desk).side names i name inside is
           c.names.invariant.side c.in-Ok-open_one.ensures.side;
+      below = kept_on base (g.D.Desk.reading c.args.desk.now) (g.D.Desk.reading c.names.desk) (g.D.Desk.reading c.open_one.new.desk)
+          (omega (arith, c.names.invariant.count)) c.names.invariant.below c.in-Ok-open_one.ensures.below;
       outputs = c.in-Ok-open_one.ensures.outputs ∙ c.names.invariant.outputs;
     }
+
+pub returns-in-Err-open_one-clause-below : goal.returns-in-Err-open_one-clause-below
+returns-in-Err-open_one-clause-below g c = kept_on (g.D.Desk.reading c.args.desk.now).side.slots (g.D.Desk.reading c.args.desk.now) (g.D.Desk.reading c.names.desk)
+    (g.D.Desk.reading c.open_one.new.desk) (omega (arith, c.names.invariant.count)) c.names.invariant.below c.in-Err-open_one.ensures.below

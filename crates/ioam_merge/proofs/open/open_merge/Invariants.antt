@@ -1,5 +1,5 @@
 use Rattle.std.proofs.Common.{◌≡◌, ◌+◌, [], take, vec_len}
-use Rattle.ioam_merge.specs.Merging.{Merging, start_of, opened_each}
+use Rattle.ioam_merge.specs.Merging.{Merging, EndsKept, start_of, opened_each}
 use Rattle.ioam_merge.proofs.open.open_merge.Given as goal
 
 -- the captures so far are open, and nothing was taken of them
@@ -8,5 +8,6 @@ invariant-names g l = record {
   merging : Merging g.D.Desk.tells (start_of (g.D.Desk.reading l.initial.desk).side.slots (g.D.Desk.writing l.initial.desk) (take l.name-index l.names)) (g.D.Desk.reading l.desk) l.merge [];
   count : (g.D.Desk.reading l.desk).side.slots ≡ (g.D.Desk.reading l.initial.desk).side.slots + vec_len l.merge.captures;
   side : (g.D.Desk.reading l.desk).side ≡ opened_each (g.D.Desk.reading l.initial.desk).side (take l.name-index l.names);
+  below : EndsKept (g.D.Desk.reading l.initial.desk).side.slots (g.D.Desk.reading l.initial.desk) (g.D.Desk.reading l.desk);
   outputs : g.D.Desk.writing l.desk ≡ g.D.Desk.writing l.initial.desk;
 }

@@ -2,7 +2,7 @@ use Rattle.std.proofs.Common.{◌≡◌, ◌<◌, ◌∙◌, Some, refl, arith, 
 use Rattle.std.specs.Prelude.{slice_get}
 use Rattle.std.proofs.lemmas.Option.{slice_get_read}
 use Rattle.ioam_pcap.specs.declared.turns.Due.TheVariants.{More}
-use Rattle.ioam_merge.proofs.ShowLaws.{Merging-open, Merging-sized, Shows-one, Shows-fault, Known-one, kept_room}
+use Rattle.ioam_merge.proofs.ShowLaws.{Merging-kept, Merging-open, Merging-sized, Shows-one, Shows-fault, Known-one, kept_room}
 use Rattle.ioam_merge.proofs.merge.Merge.show_one.Goals as goal
 
 pub index-requires : goal.index-requires
@@ -55,3 +55,19 @@ returns-in-Err-clause-shown g c = λ start taken known merging.
     slice_get_read c.args.self.now.captures.items (length c.args.self.now.captures.items) c.args.place c.index_mut.result.now refl inside c.index_mut.ensures.value in
     Shows-fault g.D.Desk.tells start taken (g.D.Desk.reading c.args.desk.now) (g.D.Desk.reading c.show.new.desk) c.args.self.now merging
     c.args.place c.index_mut.result.now c.show.new.self there c.in-Err.ensures.others c.in-Err.ensures.slots c.in-Err.fault c.in-Err.ensures.shown
+
+pub returns-in-Ok-clause-below : goal.returns-in-Ok-clause-below
+returns-in-Ok-clause-below g c = λ start taken merging.
+    let inside : c.args.place < length c.args.self.now.captures.items = omega (arith, c.requires.inside, c.args.self.now.captures.ok.0) in
+    let there : slice_get c.args.self.now.captures.items c.args.place ≡ Some c.index_mut.result.now =
+    slice_get_read c.args.self.now.captures.items (length c.args.self.now.captures.items) c.args.place c.index_mut.result.now refl inside c.index_mut.ensures.value in
+    Merging-kept g.D.Desk.tells start taken (g.D.Desk.reading c.args.desk.now) (g.D.Desk.reading c.show.new.desk) c.args.self.now merging
+    c.args.place c.index_mut.result.now there c.in-Ok.ensures.others
+
+pub returns-in-Err-clause-below : goal.returns-in-Err-clause-below
+returns-in-Err-clause-below g c = λ start taken merging.
+    let inside : c.args.place < length c.args.self.now.captures.items = omega (arith, c.requires.inside, c.args.self.now.captures.ok.0) in
+    let there : slice_get c.args.self.now.captures.items c.args.place ≡ Some c.index_mut.result.now =
+    slice_get_read c.args.self.now.captures.items (length c.args.self.now.captures.items) c.args.place c.index_mut.result.now refl inside c.index_mut.ensures.value in
+    Merging-kept g.D.Desk.tells start taken (g.D.Desk.reading c.args.desk.now) (g.D.Desk.reading c.show.new.desk) c.args.self.now merging
+    c.args.place c.index_mut.result.now there c.in-Err.ensures.others

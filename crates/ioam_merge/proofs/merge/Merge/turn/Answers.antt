@@ -20,4 +20,5 @@ returns-in_default g c = record {
   asked = c.in-Ok.ensures.asked;
   slots = c.in-Ok.ensures.slots;
   outputs = c.in-Ok.ensures.outputs;
+  below = c.in-Ok.ensures.below;
 }
