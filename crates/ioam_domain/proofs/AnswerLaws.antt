@@ -2,6 +2,7 @@
 use Rattle.std.proofs.Common.{◌≡◌, ℕ, ◌+◌, ◌<◌, ◌⊎◌, Bool, IsTrue, List, [], ◌∷◌, length, refl, sym, ◌∙◌, ap, subst, inl, inr, ⊎_elim, arith}
 use Rattle.ioam_desk.specs.Asked.{AsksFront}
 use Rattle.ioam_desk.specs.Desk.{Side, Reading, Writing, Rose}
+use Rattle.ioam_merge.specs.Merging.{EndsKept}
 use Rattle.ioam_outputs.specs.Names.{AreApart}
 use Rattle.ioam_outputs.specs.Told.{opened_each}
 use Rattle.ioam_run.specs.Run.{IsDone, IsBehindAll}
@@ -101,10 +102,11 @@ module _ (tells : Bool) (words : List (List ℕ)) (old_in mid_in new_in : Readin
   pub ended-bounded : IsBehindAll (old.side.slots < new.side.slots) answer → IsTrue tells → IsBounded words old_in new_in old new
   ended-bounded behind told = Leaves-bounded words old_in new_in old new answer behind (ended-leaves told)
 
-  pub ended-drained : IsDone answer → IsTrue tells → AreDrained words old_in new_in old new
-  ended-drained done told =
+  pub ended-drained : (IsTrue tells → IsTrue (mid_in.ended old_in.side.slots) × IsTrue (mid_in.ended (old_in.side.slots + 1)))
+      → EndsKept mid_in.side.slots mid_in new_in → IsDone answer → IsTrue tells → AreDrained words old_in new_in old new
+  ended-drained both kept done told =
       let P : Outcome → Type 0 = λ a. Ends tells words domain mid_in new_in old new a in
-      Ends-drained words old_in mid_in opened tells new_in old new domain told (set told) (subst P (done_is answer done) ends)
+      Ends-drained words old_in mid_in opened tells new_in old new domain told (set told) (both told).0 (both told).1 kept (subst P (done_is answer done) ends)
 
   both_asked : (names : List (List ℕ)) → AsksFront mid_in.side.asked new_in.side.asked names
       → AsksFront old_in.side.asked new_in.side.asked (domain_file words ∷ readings_file words ∷ names)

@@ -1,10 +1,11 @@
 -- From how a run ended whose domain and readings were read to what the whole run answers and leaves.
-use Rattle.std.proofs.Common.{◌≡◌, ℕ, suc, ◌+◌, ◌<◌, ◌⊎◌, Bool, IsTrue, List, [], ◌∷◌, ◌++◌, length, refl, sym, ◌∙◌, ap, subst, inl, inr, take, append_assoc, length-append, arith}
+use Rattle.std.proofs.Common.{◌≡◌, ℕ, suc, ◌+◌, ◌-◌, ◌<◌, ◌⊎◌, Bool, IsTrue, List, [], ◌∷◌, ◌++◌, length, refl, sym, ◌∙◌, ap, subst, inl, inr, take, append_assoc, length-append, arith}
+use Rattle.std.proofs.lemmas.Bool.{cases_lt}
 use Rattle.ioam_desk.specs.Asked.{AsksFront}
 use Rattle.ioam_desk.specs.Desk.{Side, Reading, Writing, Rose}
 use Rattle.ioam_outputs.specs.Names.{AreApart}
 use Rattle.ioam_outputs.specs.Told.{opened_each}
-use Rattle.ioam_merge.specs.Merging.{PartsArrive, start_of}
+use Rattle.ioam_merge.specs.Merging.{EndsKept, PartsArrive, start_of}
 use Rattle.ioam_pcap.specs.declared.turns.Turn.TheVariants as turn
 use Rattle.ioam_run.specs.declared.outcome.Outcome.{Outcome}
 use Rattle.ioam_run.specs.declared.outcome.Outcome.TheVariants as outcome
@@ -17,7 +18,7 @@ use Rattle.ioam_topo.specs.Domain.{ports}
 use Rattle.ioam_topo.specs.declared.domain.Domain.{Domain}
 use Rattle.ioam_traffic.specs.Traffic.{Start, HoldsAll, HoldsFronts, ArePassed, AreOpened, Arrive, Finishes}
 use Rattle.ioam_domain.specs.Ends.{Ends, begins, refused_as}
-use Rattle.ioam_domain.specs.Run.{HasCause, Leaves, OfTraffic, StopsEarly, AsksIn, AreDrained, IsSet, IsReady, Exceeds, domain_file, readings_file, run_files, run_inputs, run_outputs, start_for}
+use Rattle.ioam_domain.specs.Run.{HasCause, contents, Leaves, OfTraffic, StopsEarly, AsksIn, AreDrained, IsSet, IsReady, Exceeds, domain_file, readings_file, run_files, run_inputs, run_outputs, start_for}
 
 -- the two files were opened by two slots
 module _ (words : List (List ℕ)) (old_in mid_in : Reading) (opened : mid_in.side ≡ opened_each old_in.side (domain_file words ∷ readings_file words ∷ [])) where
@@ -83,8 +84,27 @@ module _ (words : List (List ℕ)) (old_in mid_in : Reading) (opened : mid_in.si
     Ends-leaves (outcome.Domain fault) ends = absurd ends
     Ends-leaves (outcome.Readings fault) ends = absurd ends
 
-    pub Ends-drained : Ends tells words domain mid_in new_in old new outcome.Done → AreDrained words old_in new_in old new
-    Ends-drained ends = of_traffic (λ start. (k : ℕ) → k < length start.lanes.contents → IsTrue (new_in.ended (start.lanes.base + k))) ends.0 (ends.1 told).1
+    pub Ends-drained : IsTrue (mid_in.ended old_in.side.slots) → IsTrue (mid_in.ended (old_in.side.slots + 1)) → EndsKept mid_in.side.slots mid_in new_in
+        → Ends tells words domain mid_in new_in old new outcome.Done → AreDrained words old_in new_in old new
+    Ends-drained first second kept ends = (domain, ready ends.0, λ k below. drained k below)
+      where
+        E : Reading → ℕ → Type 0
+        E r n = IsTrue (r.ended n)
+
+        early : (n : ℕ) → n < mid_in.side.slots → E mid_in n → E new_in n
+        early n below was = subst (λ b. IsTrue b) (sym (kept n below)) was
+
+        drained : (k : ℕ) → k < 2 + length (contents old words domain) → E new_in (old_in.side.slots + k)
+        drained k below = elim (cases_lt k 1) [
+          | inl none ↦ let at : old_in.side.slots ≡ old_in.side.slots + k = omega (arith, none) in
+              subst (E new_in) at (early old_in.side.slots (omega (arith, two_slots)) first)
+          | inr some ↦ elim (cases_lt k 2) [
+            | inl one ↦ let at : old_in.side.slots + 1 ≡ old_in.side.slots + k = omega (arith, some, one) in
+                subst (E new_in) at (early (old_in.side.slots + 1) (omega (arith, two_slots)) second)
+            | inr more ↦ let at : mid_in.side.slots + (k - 2) ≡ old_in.side.slots + k = omega (arith, more, two_slots) in
+                subst (E new_in) at ((ends.1 told).1 (k - 2) (omega (arith, below, more)))
+          ]
+        ]
 
 -- names that were asked for, and then others
 pub asks_more : (start mid new : List (List ℕ)) (first second : List ℕ) (names : List (List ℕ)) → mid ≡ start ++ first ∷ second ∷ []

@@ -149,9 +149,9 @@ module _ (words : List (List ℕ)) (old_in new_in : Reading) (old new : Writing)
   AsksOut = (new.side.asked ≡ old.side.asked)
       ⊎ ((domain : Domain) × IsReady old words domain × AsksFront old.side.asked new.side.asked (run_outputs words domain))
 
-  -- each of the captures was read to its end
+  -- DOMAIN, READINGS and each of the captures were read to their ends
   abbrev pub AreDrained : Type 0
-  AreDrained = OfTraffic (λ start. (k : ℕ) → k < length start.lanes.contents → IsTrue (new_in.ended (start.lanes.base + k)))
+  AreDrained = OfTraffic (λ start. (k : ℕ) → k < 2 + length start.lanes.contents → IsTrue (new_in.ended (old_in.side.slots + k)))
 
   -- what leaves by each port of the domain is a capture of packets that may leave it
   abbrev pub IsBounded : Type 0

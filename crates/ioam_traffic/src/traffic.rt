@@ -1,7 +1,7 @@
 //! The traffic of a domain: its files, and how it ends.
 ghost use Rattle.std.specs.Prelude.{◌≡◌, ◌↔◌, ◌+◌, ◌<◌, [], ℕ, All, IsTrue, length};
 ghost use Rattle.ioam_desk.specs.Asked.{AsksFront};
-ghost use Rattle.ioam_merge.specs.Merging.{Merging};
+ghost use Rattle.ioam_merge.specs.Merging.{EndsKept, Merging};
 ghost use Rattle.ioam_outputs.specs.Names.{AreApart};
 ghost use Rattle.ioam_outputs.specs.Told.{AreTold, unsaid};
 ghost use Rattle.ioam_topo.specs.Domain.{ports as ports_of};
@@ -44,6 +44,7 @@ pub fn run_traffic<D: Desk>(
     ensures asked_out { AsksFront (D.writing desk.old).side.asked (D.writing desk.new).side.asked outputs.now }
     ensures no_output { (D.reading desk.new).side.slots < (D.reading desk.old).side.slots + length inputs.now
         → D.writing desk.new ≡ D.writing desk.old }
+    ensures kept { EndsKept (D.reading desk.old).side.slots (D.reading desk.old) (D.reading desk.new) }
 {
     run_files(alloc, desk, domain, ports, inputs, outputs)
 }
@@ -69,6 +70,7 @@ fn run_files<D: Desk>(
     ensures asked_out { AsksFront (D.writing desk.old).side.asked (D.writing desk.new).side.asked outputs.now }
     ensures no_output { (D.reading desk.new).side.slots < (D.reading desk.old).side.slots + length inputs.now
         → D.writing desk.new ≡ D.writing desk.old }
+    ensures kept { EndsKept (D.reading desk.old).side.slots (D.reading desk.old) (D.reading desk.new) }
 {
     let merge = match open_merge(alloc, desk, inputs) {
         Ok(merge) => merge,
@@ -103,6 +105,7 @@ fn run_open<D: Desk>(
     ensures slots_in { (D.reading desk.new).side.slots ≡ (D.reading desk.old).side.slots }
     ensures asked_out { (D.writing desk.new).side.asked ≡ (D.writing desk.old).side.asked }
     ensures slots_out { (D.writing desk.new).side.slots ≡ (D.writing desk.old).side.slots }
+    ensures kept { EndsKept files.lanes.base (D.reading desk.old) (D.reading desk.new) }
 {
     let Ok(gathered) = Forwarding::begin(alloc, domain, outputs) else {
         return Halt::NoMemory;

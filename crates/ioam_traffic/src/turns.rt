@@ -3,6 +3,7 @@ ghost use Rattle.std.specs.Prelude.{◌≡◌, ◌+◌, ◌<◌, ◌≤◌, All,
 ghost use Rattle.ioam_desk.specs.Asked.{IsFaultOf};
 ghost use Rattle.ioam_forward.specs.Fate.{Frame};
 ghost use Rattle.ioam_forward.specs.Forwarding.{Forwards, taken};
+ghost use Rattle.ioam_merge.specs.Merging.{EndsKept};
 ghost use Rattle.ioam_outputs.specs.Held.{HoldAllFronts, HoldTexts};
 ghost use Rattle.ioam_outputs.specs.Told.{AreTold, AreOpen};
 ghost use Rattle.ioam_topo.specs.Domain.{ports as ports_of};
@@ -82,6 +83,7 @@ pub fn carry_on<D: Desk>(
     ensures slots_in { (D.reading desk.new).side.slots ≡ (D.reading desk.old).side.slots }
     ensures asked_out { (D.writing desk.new).side.asked ≡ (D.writing desk.old).side.asked }
     ensures slots_out { (D.writing desk.new).side.slots ≡ (D.writing desk.old).side.slots }
+    ensures kept { EndsKept files.lanes.base (D.reading desk.old) (D.reading desk.new) }
 {
     'turns: loop {
         let place = match stream.merge.turn(desk) {

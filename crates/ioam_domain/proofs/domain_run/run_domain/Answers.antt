@@ -322,7 +322,7 @@ returns-clause-drained g c =
     } in
     laws.ended-drained g.D.Desk.tells c.args.words.now (g.D.Desk.reading c.args.desk.now) (g.D.Desk.reading c.read_setting.new.desk) (g.D.Desk.reading c.run_set.new.desk)
     (g.D.Desk.writing c.args.desk.now) (g.D.Desk.writing c.read_setting.new.desk) (g.D.Desk.writing c.run_set.new.desk) c.in-Ok.setting.domain c.run_set.result
-    opened c.in-Ok.ensures.outputs set c.run_set.ensures.ends
+    opened c.in-Ok.ensures.outputs set c.run_set.ensures.ends c.in-Ok.ensures.ended c.run_set.ensures.kept
 
 pub returns-clause-boundary : goal.returns-clause-boundary
 returns-clause-boundary g c =

@@ -77,3 +77,8 @@ returns-clause-finishes g c =
     inr (λ told. known_fronts g.files c.args.inputs.now c.args.outputs.now (g.D.Desk.reading c.args.desk.now) (g.D.Desk.writing c.args.desk.now) c.requires.1.0
     g.D.Desk.tells c.args.domain.now c.args.ports.now (g.D.Desk.reading c.open_merge.new.desk) c.in-Ok.merge c.in-Ok.ensures.opened
     (g.D.Desk.writing c.open_merge.new.desk) (g.D.Desk.writing c.open_outputs.new.desk) c.in-Ok.ensures.outputs c.requires.1.1.1.1.0 (fault.1 told) told)
+
+pub returns-in-Ok-open_outputs-clause-kept : goal.returns-in-Ok-open_outputs-clause-kept
+returns-in-Ok-open_outputs-clause-kept g c = λ k lt.
+    let base : g.files.lanes.base ≡ (g.D.Desk.reading c.args.desk.now).side.slots = ap (λ (f : Files). f.lanes.base) c.requires.1.0 in
+    c.run_open.ensures.kept k (omega (arith, lt, base)) ∙ ap (λ (r : Reading). r.ended k) c.in-Ok-open_outputs.ensures.inputs ∙ c.in-Ok.ensures.below k lt

@@ -61,3 +61,12 @@ returns-clause-ends g c =
     (g.D.Desk.reading c.args.desk.now) (g.D.Desk.reading c.carry_on-halt.new.desk) (g.D.Desk.writing c.args.desk.now) (g.D.Desk.writing c.carry_on-halt.new.desk)
     c.carry_on-halt.new.stream.gathered c.carry_on-halt.new.outputs (g.D.Desk.writing c.put_rest.new.desk) c.put_rest.ensures.fronts
     c.carry_on-halt.result (λ broken. false≢true (sym c.if-is_broken.false ∙ c.is_broken.ensures.1 broken)) c.carry_on-halt.ensures.stops
+
+pub returns-in-Ok-put_rest-clause-kept : goal.returns-in-Ok-put_rest-clause-kept
+returns-in-Ok-put_rest-clause-kept g c = λ k lt. ap (λ (r : Reading). r.ended k) c.in-Ok-put_rest.ensures.inputs ∙ c.carry_on-halt.ensures.kept k lt
+
+pub returns-in-Err-Failed-clause-kept : goal.returns-in-Err-Failed-clause-kept
+returns-in-Err-Failed-clause-kept g c = λ k lt. ap (λ (r : Reading). r.ended k) c.put_rest.ensures.inputs ∙ c.carry_on-halt.ensures.kept k lt
+
+pub returns-clause-kept : goal.returns-clause-kept
+returns-clause-kept g c = λ k lt. ap (λ (r : Reading). r.ended k) c.put_rest.ensures.inputs ∙ c.carry_on-halt.ensures.kept k lt

@@ -9,7 +9,7 @@ use Rattle.ioam_traffic.proofs.StopsLaws.{Stops-since}
 use Rattle.ioam_traffic.proofs.turns.carry_on.Goals as goal
 
 pub turns-init : goal.turns-init
-turns-init g c = record { running = c.requires.1.0; width = c.requires.1.1.1.1; inputs = refl; side = refl }
+turns-init g c = record { running = c.requires.1.0; width = c.requires.1.1.1.1; inputs = refl; kept = λ k lt. refl; side = refl }
 
 pub turn-requires : goal.turn-requires
 turn-requires g c = (g.files.lanes, c.turns.invariant.running.taken, c.turns.invariant.running.are)
@@ -85,6 +85,8 @@ turns-preserved g c = record {
   running = c.in-Ok.ensures.runs;
   width = omega (arith, c.turns.invariant.width, c.pass_on.auto.outputs);
   inputs = ap (λ (r : Reading). r.side) c.in-Ok.ensures.inputs ∙ c.in-Ok-Next.ensures.same ∙ c.turns.invariant.inputs;
+  kept = λ k lt. ap (λ (r : Reading). r.ended k) c.in-Ok.ensures.inputs
+      ∙ c.in-Ok-Next.ensures.below g.files.lanes c.turns.invariant.running.taken c.turns.invariant.running.are k lt ∙ c.turns.invariant.kept k lt;
   side = c.in-Ok.ensures.same ∙ ap (λ (w : Writing). w.side) c.in-Ok-Next.ensures.outputs ∙ c.turns.invariant.side;
 }
 
@@ -97,3 +99,23 @@ returns-in-Err-clause-stops g c =
     (c.in-Ok-Next.ensures.same ∙ c.turns.invariant.inputs)
     (ap (λ (w : Writing). w.side) c.in-Ok-Next.ensures.outputs ∙ c.turns.invariant.side)
     c.in-Err.halt c.in-Err.ensures.stops
+
+pub returns-in-Ok-Over-clause-kept : goal.returns-in-Ok-Over-clause-kept
+returns-in-Ok-Over-clause-kept g c = λ k lt.
+    c.in-Ok-Over.ensures.below g.files.lanes c.turns.invariant.running.taken c.turns.invariant.running.are k lt ∙ c.turns.invariant.kept k lt
+
+pub returns-in-Ok-Broken-clause-kept : goal.returns-in-Ok-Broken-clause-kept
+returns-in-Ok-Broken-clause-kept g c = λ k lt.
+    c.in-Ok-Broken.ensures.below g.files.lanes c.turns.invariant.running.taken c.turns.invariant.running.are k lt ∙ c.turns.invariant.kept k lt
+
+pub returns-in-Err-Failed-clause-kept : goal.returns-in-Err-Failed-clause-kept
+returns-in-Err-Failed-clause-kept g c = λ k lt.
+    c.in-Err-Failed.ensures.below g.files.lanes c.turns.invariant.running.taken c.turns.invariant.running.are k lt ∙ c.turns.invariant.kept k lt
+
+pub returns-in-Err-NoMemory-clause-kept : goal.returns-in-Err-NoMemory-clause-kept
+returns-in-Err-NoMemory-clause-kept g c = λ k lt.
+    c.in-Err-NoMemory.ensures.below g.files.lanes c.turns.invariant.running.taken c.turns.invariant.running.are k lt ∙ c.turns.invariant.kept k lt
+
+pub returns-in-Err-clause-kept : goal.returns-in-Err-clause-kept
+returns-in-Err-clause-kept g c = λ k lt. ap (λ (r : Reading). r.ended k) c.in-Err.ensures.inputs
+    ∙ c.in-Ok-Next.ensures.below g.files.lanes c.turns.invariant.running.taken c.turns.invariant.running.are k lt ∙ c.turns.invariant.kept k lt

@@ -1,5 +1,6 @@
 use Rattle.std.proofs.Common.{◌≡◌, ◌+◌, ◌-◌, length}
 use Rattle.ioam_forward.specs.Forwarding.{taken}
+use Rattle.ioam_merge.specs.Merging.{EndsKept}
 use Rattle.ioam_topo.specs.Domain.{ports as ports_of}
 use Rattle.ioam_traffic.specs.Running.{Running, start_with}
 use Rattle.ioam_traffic.proofs.turns.carry_on.Given as goal
@@ -10,6 +11,7 @@ invariant-turns g l = record {
   running : Running g.D.Desk.tells (start_with l.initial.domain l.initial.ports g.files) (g.D.Desk.reading l.desk) (g.D.Desk.writing l.desk) l.stream l.outputs;
   width : length l.outputs ≡ length (ports_of l.initial.domain) + 2;
   inputs : (g.D.Desk.reading l.desk).side ≡ (g.D.Desk.reading l.initial.desk).side;
+  kept : EndsKept g.files.lanes.base (g.D.Desk.reading l.initial.desk) (g.D.Desk.reading l.desk);
   side : (g.D.Desk.writing l.desk).side ≡ (g.D.Desk.writing l.initial.desk).side;
 }
 
