@@ -134,7 +134,7 @@ table: RouteTable, place: 1, field: PortKey, why: Range # route = [{ node = \"a\
 table: RouteTable, place: 2, field: PrefixKey, why: Twice # route = [{ node = \"a\", prefix = \"1::/8\", link = \"ab\" }, { node = \"a\", prefix = \"2::/8\", link = \"ab\" }]";
 
 // The four texts, one behind the other.
-fn joined(alloc: Global, parts: [&str; 4]) -> Result<String, NoMemory> {
+pub fn joined(alloc: Global, parts: [&str; 4]) -> Result<String, NoMemory> {
     let mut file = String::new(alloc);
     for part in parts {
         file.push_str(part)?;
@@ -151,7 +151,7 @@ fn fault_of(alloc: Global, file: &str) -> Result<String, NoMemory> {
 }
 
 // Whether a file has this fault.
-fn has_fault(alloc: Global, file: &str, wanted: &str) -> bool {
+pub fn has_fault(alloc: Global, file: &str, wanted: &str) -> bool {
     match fault_of(alloc, file) {
         Ok(fault) => fault.as_str().contains(wanted),
         Err(NoMemory) => false,
@@ -170,7 +170,7 @@ fn is_so(alloc: Global, nodes: &str, links: &str, ports: &str, row: &str) -> boo
 }
 
 // The first of the rows whose fault isn't so.
-fn first_wrong<'a>(
+pub fn first_wrong<'a>(
     alloc: Global,
     nodes: &str,
     links: &str,

@@ -20,6 +20,8 @@ pub use sample::Sample;
 pub use timestamp::stamp;
 
 #[cfg(test)]
+mod data_tests;
+#[cfg(test)]
 mod domain_tests;
 #[cfg(test)]
 mod fault_tests;
