@@ -46,7 +46,7 @@ module _ (tells : Bool) (words : List (List ℕ)) (old_in new_in : Reading) (old
   AsksOut Paths = AsksFront old.side.asked new.side.asked (output_names words)
   AsksOut Run = IsTrue tells → domain.AsksOut words old_in new_in old new
 
-  -- each capture was read to its end
+  -- each input was read to its end
   abbrev pub AreDrained : Command → Type 0
   AreDrained Filter = IsTrue (new_in.ended old_in.side.slots)
   AreDrained Paths = IsTrue (new_in.ended old_in.side.slots)

@@ -33,7 +33,7 @@ pub fn ioam<D: Desk>(alloc: Global, words: &[Name], desk: &mut D) -> Outcome
         → (Rose (D.writing desk.old).side.faults (D.writing desk.new).side.faults → ⊥)
         → (result ≡ asked) ⊎ (result ≡ Outcome.NoMemory) }
 
-    // What its files hold, the names that it opened, and that its captures were read to their ends where all is done.
+    // What its files hold, the names that it opened, and that its inputs were read to their ends where all is done.
     ensures leaves { (command : Command) → IsForm command words.now → IsTrue D.tells → Leaves D.tells words.now (D.reading desk.old) (D.reading desk.new) (D.writing desk.old) (D.writing desk.new) command result }
     ensures asked_in { (command : Command) → IsForm command words.now → AsksIn D.tells words.now (D.reading desk.old) (D.reading desk.new) (D.writing desk.old) (D.writing desk.new) command }
     ensures asked_out { (command : Command) → IsForm command words.now → AsksOut D.tells words.now (D.reading desk.old) (D.reading desk.new) (D.writing desk.old) (D.writing desk.new) command }
