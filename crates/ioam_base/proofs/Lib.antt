@@ -1,2 +1,3 @@
 pub mod LeadsLaws
 pub mod OctetsLaws
+pub mod ResultLaws

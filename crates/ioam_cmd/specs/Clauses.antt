@@ -1,15 +1,17 @@
 -- What the top call promises of each command, in the words of the command's own crate. `tells` says
 -- that the desk tells what its files hold.
-use Rattle.std.specs.Prelude.{ℕ, ◌<◌, ⊤, Bool, IsTrue, IsSomeAnd, List, [], ◌∷◌}
+use Rattle.std.specs.Prelude.{◌≡◌, ℕ, ◌<◌, ⊤, Bool, IsTrue, IsSomeAnd, List, [], ◌∷◌}
 use Rattle.ioam_desk.specs.Asked.{AsksFront}
 use Rattle.ioam_desk.specs.Desk.{Reading, Writing, holds}
 use Rattle.ioam_domain.specs.Run as domain
 use Rattle.ioam_domain.specs.Run.{domain_file, readings_file}
+use Rattle.ioam_ip.specs.Clean.{IsClean}
 use Rattle.ioam_outputs.specs.Names.{name_at}
+use Rattle.ioam_pcap.specs.Text.{IsCaptureOf}
 use Rattle.ioam_run.specs.FilterText.{FilterTexts}
 use Rattle.ioam_run.specs.PathsText.{PathsTexts}
 use Rattle.ioam_run.specs.Run as capture
-use Rattle.ioam_run.specs.Run.{IsBehindAll, IsCleanCapture, file_names, input_name, output_names}
+use Rattle.ioam_run.specs.Run.{IsBehindAll, OpensNothing, file_names, input_name, output_names}
 use Rattle.ioam_run.specs.declared.outcome.Outcome.{Outcome}
 use Rattle.ioam_cmd.specs.declared.command.Command.{Command}
 use Rattle.ioam_cmd.specs.declared.command.Command.TheVariants.{Filter, Paths, Run}
@@ -46,6 +48,13 @@ module _ (tells : Bool) (words : List (List ℕ)) (old_in new_in : Reading) (old
   AsksOut Paths = AsksFront old.side.asked new.side.asked (output_names words)
   AsksOut Run = IsTrue tells → domain.AsksOut words old_in new_in old new
 
+  -- where the names are refused nothing was opened; `run` has read DOMAIN and READINGS before, and
+  -- opens no output where one of these or the names are refused
+  abbrev pub IsUntouched : Command → Outcome → Type 0
+  IsUntouched Filter answer = OpensNothing answer → (new_in ≡ old_in) × (new ≡ old)
+  IsUntouched Paths answer = OpensNothing answer → (new_in ≡ old_in) × (new ≡ old)
+  IsUntouched Run answer = domain.IsRefusal answer → new ≡ old
+
   -- each input was read to its end
   abbrev pub AreDrained : Command → Type 0
   AreDrained Filter = IsTrue (new_in.ended old_in.side.slots)
@@ -60,6 +69,6 @@ module _ (tells : Bool) (words : List (List ℕ)) (old_in new_in : Reading) (old
 
   -- each packet in a capture of what leaves a domain has a whole header chain without an IOAM option
   abbrev pub IsBounded : Command → Type 0
-  IsBounded Filter = IsSomeAnd (holds new (name_at words 2)) IsCleanCapture
+  IsBounded Filter = IsSomeAnd (holds new (name_at words 2)) (IsCaptureOf IsClean)
   IsBounded Paths = ⊤
   IsBounded Run = domain.IsBounded words old_in new_in old new

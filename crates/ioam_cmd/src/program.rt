@@ -1,6 +1,6 @@
 //! The top call: one run of a command over a desk.
 ghost use Rattle.std.specs.Prelude.{true, ◌≡◌, ◌≢◌, ◌↔◌, ◌⊎◌, IsTrue};
-ghost use Rattle.ioam_cmd.specs.Clauses.{Asked, HasCause, Leaves, AsksIn, AsksOut, AreDrained, AreWritten, IsBounded};
+ghost use Rattle.ioam_cmd.specs.Clauses.{Asked, HasCause, Leaves, AsksIn, AsksOut, AreDrained, AreWritten, IsBounded, IsUntouched};
 ghost use Rattle.ioam_cmd.specs.Words.{IsForm, IsNoForm};
 ghost use Rattle.ioam_cmd.specs.declared.command.Command.{Command};
 ghost use Rattle.ioam_desk.specs.Desk.{Rose};
@@ -20,6 +20,7 @@ pub fn ioam<D: Desk>(alloc: Global, words: &[Name], desk: &mut D) -> Outcome
     ensures usage { (result ≡ Outcome.Usage) ↔ IsNoForm words.now }
     ensures unopened { result ≡ Outcome.Usage → D.reading desk.new ≡ D.reading desk.old }
     ensures no_output { (D.reading desk.new).side.slots ≡ (D.reading desk.old).side.slots → D.writing desk.new ≡ D.writing desk.old }
+    ensures untouched { (command : Command) → IsForm command words.now → IsUntouched D.tells words.now (D.reading desk.old) (D.reading desk.new) (D.writing desk.old) (D.writing desk.new) command result }
 
     // A fault of reading or writing comes only where the desk's count of such faults rose.
     ensures read_fault { result ≡ Outcome.ReadFault → Rose (D.reading desk.old).side.faults (D.reading desk.new).side.faults }

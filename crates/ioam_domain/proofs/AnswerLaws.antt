@@ -1,5 +1,6 @@
 -- What a run owes for each of its answers: where it isn't set, and where its traffic ended.
 use Rattle.std.proofs.Common.{◌≡◌, ℕ, ◌+◌, ◌<◌, ◌⊎◌, Bool, IsTrue, List, [], ◌∷◌, length, refl, sym, ◌∙◌, ap, subst, inl, inr, ⊎_elim, arith}
+use Rattle.ioam_clock.specs.declared.sample.Sample.{Sample}
 use Rattle.ioam_desk.specs.Asked.{AsksFront}
 use Rattle.ioam_desk.specs.Desk.{Side, Reading, Writing, Rose}
 use Rattle.ioam_merge.specs.Merging.{EndsKept}
@@ -8,11 +9,11 @@ use Rattle.ioam_outputs.specs.Told.{opened_each}
 use Rattle.ioam_run.specs.Run.{IsDone, IsBehindAll}
 use Rattle.ioam_run.specs.declared.outcome.Outcome.{Outcome}
 use Rattle.ioam_run.specs.declared.outcome.Outcome.TheVariants as outcome
-use Rattle.ioam_setting.specs.Setting.{Refuses}
+use Rattle.ioam_setting.specs.Setting.{IsSetting, Refuses}
 use Rattle.ioam_setting.specs.declared.setting.Refusal.{Refusal}
 use Rattle.ioam_topo.specs.declared.domain.Domain.{Domain}
 use Rattle.ioam_domain.specs.Ends.{Ends, refused_as}
-use Rattle.ioam_domain.specs.Run.{HasCause, Asked, Leaves, AsksIn, AsksOut, AreDrained, IsBounded, IsSet, IsReady, domain_file, readings_file, run_files, run_inputs, run_outputs}
+use Rattle.ioam_domain.specs.Run.{HasCause, Asked, Leaves, AsksIn, AsksOut, AreDrained, IsBounded, IsRefusal, Owes, IsSet, IsReady, domain_file, readings_file, run_files, run_inputs, run_outputs}
 use Rattle.ioam_domain.proofs.AskedLaws.{HasCause-asked}
 use Rattle.ioam_domain.proofs.BoundLaws.{Leaves-bounded}
 use Rattle.ioam_domain.proofs.EndsLaws.{same_faults, Ends-cause, Ends-leaves, Ends-drained, asks_more, asks_both, refused_cause, refused_leaves, refused_read, refused_other, refused_done}
@@ -22,42 +23,72 @@ module _ (tells : Bool) (words : List (List ℕ)) (old_in new_in : Reading) (old
     (refuses : Refuses old (domain_file words) (readings_file words) tells old_in new_in why)
     (asked : AsksFront old_in.side.asked new_in.side.asked (domain_file words ∷ readings_file words ∷ []))
     (same : new ≡ old) (is : answer ≡ refused_as why) where
-  pub refused-read_fault : answer ≡ outcome.ReadFault → Rose old_in.side.faults new_in.side.faults
+  refused-read_fault : answer ≡ outcome.ReadFault → Rose old_in.side.faults new_in.side.faults
   refused-read_fault read = refused_read tells words old_in new_in old why refuses (sym is ∙ read)
 
-  pub refused-write_fault : answer ≡ outcome.WriteFault → Rose old.side.faults new.side.faults
+  refused-write_fault : answer ≡ outcome.WriteFault → Rose old.side.faults new.side.faults
   refused-write_fault write = absurd ((refused_other tells words old_in new_in old why).0 (sym is ∙ write))
 
-  pub refused-usage : answer ≡ outcome.Usage → ⊥
+  refused-usage : answer ≡ outcome.Usage → ⊥
   refused-usage usage = (refused_other tells words old_in new_in old why).1 (sym is ∙ usage)
 
-  pub refused-cause : IsTrue tells → HasCause words old_in new_in old new answer
+  refused-cause : IsTrue tells → HasCause words old_in new_in old new answer
   refused-cause told =
       let P : Writing → Type 0 = λ w. HasCause words old_in new_in old w answer in
       let Q : Outcome → Type 0 = λ a. HasCause words old_in new_in old old a in
       subst P (sym same) (subst Q (sym is) (refused_cause tells words old_in new_in old why refuses told))
 
-  pub refused-leaves : Leaves words old_in new_in old new answer
+  refused-leaves : Leaves words old_in new_in old new answer
   refused-leaves =
       let P : Writing → Type 0 = λ w. Leaves words old_in new_in old w answer in
       let Q : Outcome → Type 0 = λ a. Leaves words old_in new_in old old a in
       subst P (sym same) (subst Q (sym is) (refused_leaves tells words old_in new_in old why asked))
 
-  pub refused-exact : (ask : Outcome) → IsTrue tells → Asked old words ask → (Rose old_in.side.faults new_in.side.faults → ⊥)
+  refused-exact : (ask : Outcome) → IsTrue tells → Asked old words ask → (Rose old_in.side.faults new_in.side.faults → ⊥)
       → (Rose old.side.faults new.side.faults → ⊥) → (answer ≡ ask) ⊎ (answer ≡ outcome.NoMemory)
   refused-exact ask told asks reads writes = HasCause-asked old words old_in new_in new answer ask (refused-cause told) asks reads writes
 
-  pub refused-bounded : IsBehindAll (old.side.slots < new.side.slots) answer → IsBounded words old_in new_in old new
+  refused-bounded : IsBehindAll (old.side.slots < new.side.slots) answer → IsBounded words old_in new_in old new
   refused-bounded behind = Leaves-bounded words old_in new_in old new answer behind refused-leaves
 
-  pub refused-drained : IsDone answer → AreDrained words old_in new_in old new
+  refused-drained : IsDone answer → AreDrained words old_in new_in old new
   refused-drained done = absurd (refused_done tells words old_in new_in old why (subst IsDone is done))
+
+  pub refused-owes : Owes tells words old_in new_in old new answer
+  refused-owes = record {
+    read_fault = refused-read_fault;
+    write_fault = refused-write_fault;
+    usage = refused-usage;
+    cause = refused-cause;
+    leaves = λ told. refused-leaves;
+    exact = refused-exact;
+    asked_first = ([], asked);
+    asked_in = λ told. inl asked;
+    asked_out = λ told. inl (ap (λ (w : Writing). w.side.asked) same);
+    no_output = λ still. same;
+    untouched = λ refusal. same;
+    drained = λ done told. refused-drained done;
+    boundary = λ behind told. refused-bounded behind;
+  }
 
 no_read_usage : (tells : Bool) (words : List (List ℕ)) (domain : Domain) (mid_in new_in : Reading) (old new : Writing) (answer : Outcome)
     → Ends tells words domain mid_in new_in old new answer → answer ≡ outcome.Usage → ⊥
 no_read_usage tells words domain mid_in new_in old new answer ends is =
     let P : Outcome → Type 0 = λ a. Ends tells words domain mid_in new_in old new a in
     subst P is ends
+
+unwritten : (tells : Bool) (words : List (List ℕ)) (domain : Domain) (mid_in new_in : Reading) (old new : Writing) (answer : Outcome)
+    → Ends tells words domain mid_in new_in old new answer → IsRefusal answer → new ≡ old
+unwritten tells words domain mid_in new_in old new (outcome.Names name) ends refusal = ends.2
+unwritten tells words domain mid_in new_in old new (outcome.Domain fault) ends refusal = absurd ends
+unwritten tells words domain mid_in new_in old new (outcome.Readings fault) ends refusal = absurd ends
+unwritten tells words domain mid_in new_in old new outcome.Done ends refusal = absurd refusal
+unwritten tells words domain mid_in new_in old new outcome.Usage ends refusal = absurd refusal
+unwritten tells words domain mid_in new_in old new (outcome.Capture name at fault) ends refusal = absurd refusal
+unwritten tells words domain mid_in new_in old new (outcome.Packets limit) ends refusal = absurd refusal
+unwritten tells words domain mid_in new_in old new outcome.ReadFault ends refusal = absurd refusal
+unwritten tells words domain mid_in new_in old new outcome.WriteFault ends refusal = absurd refusal
+unwritten tells words domain mid_in new_in old new outcome.NoMemory ends refusal = absurd refusal
 
 done_is : (answer : Outcome) → IsDone answer → answer ≡ outcome.Done
 done_is outcome.Done done = refl
@@ -74,35 +105,38 @@ done_is outcome.NoMemory done = absurd done
 -- the domain and the readings were read by two slots, and then its files were run
 module _ (tells : Bool) (words : List (List ℕ)) (old_in mid_in new_in : Reading) (old mid new : Writing) (domain : Domain) (answer : Outcome)
     (opened : mid_in.side ≡ opened_each old_in.side (domain_file words ∷ readings_file words ∷ [])) (same : mid ≡ old)
-    (set : IsTrue tells → IsSet old words domain) (ended : Ends tells words domain mid_in new_in mid new answer) where
+    (samples : List (List Sample)) (setting : IsTrue tells → IsSetting old (domain_file words) (readings_file words) domain samples) (ended : Ends tells words domain mid_in new_in mid new answer) where
+  set : IsTrue tells → IsSet old words domain
+  set told = record { samples = samples; setting = setting told }
+
   ends : Ends tells words domain mid_in new_in old new answer
   ends = let P : Writing → Type 0 = λ w. Ends tells words domain mid_in new_in w new answer in subst P same ended
 
-  pub ended-read_fault : answer ≡ outcome.ReadFault → Rose old_in.side.faults new_in.side.faults
+  ended-read_fault : answer ≡ outcome.ReadFault → Rose old_in.side.faults new_in.side.faults
   ended-read_fault is =
       let P : Outcome → Type 0 = λ a. Ends tells words domain mid_in new_in old new a in
       omega (arith, (subst P is ends).1.0, same_faults words old_in mid_in opened)
 
-  pub ended-write_fault : answer ≡ outcome.WriteFault → Rose old.side.faults new.side.faults
+  ended-write_fault : answer ≡ outcome.WriteFault → Rose old.side.faults new.side.faults
   ended-write_fault is = let P : Outcome → Type 0 = λ a. Ends tells words domain mid_in new_in old new a in (subst P is ends).1.0
 
-  pub ended-usage : answer ≡ outcome.Usage → ⊥
+  ended-usage : answer ≡ outcome.Usage → ⊥
   ended-usage is = no_read_usage tells words domain mid_in new_in old new answer ends is
 
-  pub ended-cause : IsTrue tells → HasCause words old_in new_in old new answer
+  ended-cause : IsTrue tells → HasCause words old_in new_in old new answer
   ended-cause told = Ends-cause words old_in mid_in opened tells new_in old new domain told (set told) answer ends
 
-  pub ended-leaves : IsTrue tells → Leaves words old_in new_in old new answer
+  ended-leaves : IsTrue tells → Leaves words old_in new_in old new answer
   ended-leaves told = Ends-leaves words old_in mid_in opened tells new_in old new domain told (set told) answer ends
 
-  pub ended-exact : (ask : Outcome) → IsTrue tells → Asked old words ask → (Rose old_in.side.faults new_in.side.faults → ⊥)
+  ended-exact : (ask : Outcome) → IsTrue tells → Asked old words ask → (Rose old_in.side.faults new_in.side.faults → ⊥)
       → (Rose old.side.faults new.side.faults → ⊥) → (answer ≡ ask) ⊎ (answer ≡ outcome.NoMemory)
   ended-exact ask told asks reads writes = HasCause-asked old words old_in new_in new answer ask (ended-cause told) asks reads writes
 
-  pub ended-bounded : IsBehindAll (old.side.slots < new.side.slots) answer → IsTrue tells → IsBounded words old_in new_in old new
+  ended-bounded : IsBehindAll (old.side.slots < new.side.slots) answer → IsTrue tells → IsBounded words old_in new_in old new
   ended-bounded behind told = Leaves-bounded words old_in new_in old new answer behind (ended-leaves told)
 
-  pub ended-drained : (IsTrue tells → IsTrue (mid_in.ended old_in.side.slots) × IsTrue (mid_in.ended (old_in.side.slots + 1)))
+  ended-drained : (IsTrue tells → IsTrue (mid_in.ended old_in.side.slots) × IsTrue (mid_in.ended (old_in.side.slots + 1)))
       → EndsKept mid_in.side.slots mid_in new_in → IsDone answer → IsTrue tells → AreDrained words old_in new_in old new
   ended-drained both kept done told =
       let P : Outcome → Type 0 = λ a. Ends tells words domain mid_in new_in old new a in
@@ -118,18 +152,43 @@ module _ (tells : Bool) (words : List (List ℕ)) (old_in mid_in new_in : Readin
       (ap (λ (r : Reading). r.side.asked) still ∙ ap (λ (s : Side). s.asked) opened)
 
   module _ (asked : (new_in ≡ mid_in) ⊎ (AreApart (run_files words domain) × AsksFront mid_in.side.asked new_in.side.asked (run_inputs domain))) where
-    pub ended-asked_first : (names : List (List ℕ)) × AsksFront old_in.side.asked new_in.side.asked (domain_file words ∷ readings_file words ∷ names)
+    ended-asked_first : (names : List (List ℕ)) × AsksFront old_in.side.asked new_in.side.asked (domain_file words ∷ readings_file words ∷ names)
     ended-asked_first = ⊎_elim (λ still. ([], none_asked still)) (λ apart. (run_inputs domain, both_asked (run_inputs domain) apart.1)) asked
 
-    pub ended-asked_in : IsTrue tells → AsksIn words old_in new_in old new
+    ended-asked_in : IsTrue tells → AsksIn words old_in new_in old new
     ended-asked_in told = ⊎_elim (λ still. inl (none_asked still))
         (λ apart. inr (domain, record { set = set told; apart = apart.0 }, both_asked (run_inputs domain) apart.1)) asked
 
-  pub ended-asked_out : (new ≡ mid) ⊎ (AreApart (run_files words domain) × AsksFront mid.side.asked new.side.asked (run_outputs words domain))
+  ended-asked_out : (new ≡ mid) ⊎ (AreApart (run_files words domain) × AsksFront mid.side.asked new.side.asked (run_outputs words domain))
       → IsTrue tells → AsksOut words old_in new_in old new
   ended-asked_out asked told = ⊎_elim (λ still. inl (ap (λ (w : Writing). w.side.asked) (still ∙ same)))
       (λ apart. let P : Writing → Type 0 = λ w. AsksFront w.side.asked new.side.asked (run_outputs words domain) in
       inr (domain, record { set = set told; apart = apart.0 }, subst P same apart.1)) asked
 
-  pub ended-no_output : (new_in.side.slots < mid_in.side.slots + length (run_inputs domain) → new ≡ mid) → new_in.side.slots ≡ old_in.side.slots → new ≡ old
+  ended-no_output : (new_in.side.slots < mid_in.side.slots + length (run_inputs domain) → new ≡ mid) → new_in.side.slots ≡ old_in.side.slots → new ≡ old
   ended-no_output early still = early (omega (arith, still, ap (λ (s : Side). s.slots) opened)) ∙ same
+
+  ended-untouched : IsRefusal answer → new ≡ old
+  ended-untouched refusal = unwritten tells words domain mid_in new_in old new answer ends refusal
+
+  module _ (both : IsTrue tells → IsTrue (mid_in.ended old_in.side.slots) × IsTrue (mid_in.ended (old_in.side.slots + 1)))
+      (kept : EndsKept mid_in.side.slots mid_in new_in)
+      (asked_in : (new_in ≡ mid_in) ⊎ (AreApart (run_files words domain) × AsksFront mid_in.side.asked new_in.side.asked (run_inputs domain)))
+      (asked_out : (new ≡ mid) ⊎ (AreApart (run_files words domain) × AsksFront mid.side.asked new.side.asked (run_outputs words domain)))
+      (early : new_in.side.slots < mid_in.side.slots + length (run_inputs domain) → new ≡ mid) where
+    pub ended-owes : Owes tells words old_in new_in old new answer
+    ended-owes = record {
+      read_fault = ended-read_fault;
+      write_fault = ended-write_fault;
+      usage = ended-usage;
+      cause = ended-cause;
+      leaves = ended-leaves;
+      exact = ended-exact;
+      asked_first = ended-asked_first asked_in;
+      asked_in = ended-asked_in asked_in;
+      asked_out = ended-asked_out asked_out;
+      no_output = ended-no_output early;
+      untouched = ended-untouched;
+      drained = ended-drained both kept;
+      boundary = ended-bounded;
+    }

@@ -3,11 +3,12 @@ use Rattle.std.proofs.Common.{◌≡◌, ℕ, zero, suc, ◌+◌, ◌<◌, IsSom
 use Rattle.std.specs.Prelude.{map, slice_get}
 use Rattle.std.proofs.lemmas.Option.{none-some, same_Some}
 use Rattle.ioam_desk.specs.Desk.{Side, Reading, Writing, holds}
-use Rattle.ioam_forward.specs.Clean.{IsCleanCapture}
+use Rattle.ioam_ip.specs.Clean.{IsClean}
 use Rattle.ioam_forward.specs.Texts.{each_text, out_text, report_text}
 use Rattle.ioam_forward.proofs.CleanLaws.{outs-clean}
 use Rattle.ioam_outputs.specs.Held.{HoldTexts}
 use Rattle.ioam_pcap.specs.Merge.{Arrival}
+use Rattle.ioam_pcap.specs.Text.{IsCaptureOf}
 use Rattle.ioam_run.specs.Run.{IsBehindAll}
 use Rattle.ioam_run.specs.declared.outcome.Outcome.{Outcome}
 use Rattle.ioam_run.specs.declared.outcome.Outcome.TheVariants as outcome
@@ -36,7 +37,7 @@ module _ (words : List (List ℕ)) (old_in new_in : Reading) (old new : Writing)
     λ place port is.
         let text = held_at new (ports domain) 0 (λ k. out_text k all.fates) (report_file words ∷ exports_file words ∷ [])
         (report_text domain all.fates ∷ [] ∷ []) all.held place port is ∙ ap (λ (k : ℕ). Some (out_text k all.fates)) (omega arith) in
-        let P : Option (List ℕ) → Type 0 = λ o. IsSomeAnd o IsCleanCapture in
+        let P : Option (List ℕ) → Type 0 = λ o. IsSomeAnd o (IsCaptureOf IsClean) in
         subst P (sym text) (outs-clean domain (frames_of (start_for words old_in old domain).ports all.taken) all.fates all.become place),
   )
 

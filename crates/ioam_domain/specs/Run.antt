@@ -1,16 +1,18 @@
 -- What `run DOMAIN READINGS WORKERS REPORT EXPORTS` answers and leaves: the captures of the ports of
 -- the domain that DOMAIN describes are merged by time, and each port's capture of what leaves, the
 -- report and the exports are written.
-use Rattle.std.specs.Prelude.{◌≡◌, ℕ, ◌+◌, ◌<◌, ◌≤◌, ◌⊎◌, ⊤, Bool, IsTrue, IsSomeAnd, List, [], ◌∷◌, length, map, slice_get, Option, Some}
+use Rattle.std.specs.Prelude.{◌≡◌, ◌≢◌, ℕ, ◌+◌, ◌<◌, ◌≤◌, ◌⊎◌, ⊤, Bool, IsTrue, IsSomeAnd, List, [], ◌∷◌, length, map, slice_get, Option, Some}
 use Rattle.ioam_clock.specs.declared.sample.Sample.{Sample}
 use Rattle.ioam_desk.specs.Asked.{AsksFront}
 use Rattle.ioam_desk.specs.Desk.{Side, Reading, Writing, Rose, holds}
-use Rattle.ioam_forward.specs.Clean.{IsCleanCapture}
+use Rattle.ioam_ip.specs.Clean.{IsClean}
 use Rattle.ioam_merge.specs.Merging.{FilesArrive, FilesBegin, PartsArrive, start_of}
 use Rattle.ioam_outputs.specs.Names.{name_at, AreApart, IsFirstRepeat}
 use Rattle.ioam_pcap.specs.Merge.{Arrival}
+use Rattle.ioam_pcap.specs.Text.{IsCaptureOf}
 use Rattle.ioam_pcap.specs.declared.turns.Turn.{Turn}
 use Rattle.ioam_pcap.specs.declared.turns.Turn.TheVariants as turn
+use Rattle.ioam_run.specs.Run.{IsDone, IsBehindAll}
 use Rattle.ioam_run.specs.declared.outcome.Outcome.{Outcome}
 use Rattle.ioam_run.specs.declared.outcome.Outcome.TheVariants as outcome
 use Rattle.ioam_setting.specs.Names.{input_names, input_ports, output_names, file_names}
@@ -91,6 +93,19 @@ module _ (desk : Writing) (words : List (List ℕ)) where
   Asked outcome.WriteFault = ⊥
   Asked outcome.NoMemory = ⊥
 
+-- what `run` was given is refused before anything of its captures is looked at
+abbrev pub IsRefusal : Outcome → Type 0
+IsRefusal (outcome.Domain fault) = ⊤
+IsRefusal (outcome.Readings fault) = ⊤
+IsRefusal (outcome.Names name) = ⊤
+IsRefusal outcome.Done = ⊥
+IsRefusal outcome.Usage = ⊥
+IsRefusal (outcome.Capture name at fault) = ⊥
+IsRefusal (outcome.Packets limit) = ⊥
+IsRefusal outcome.ReadFault = ⊥
+IsRefusal outcome.WriteFault = ⊥
+IsRefusal outcome.NoMemory = ⊥
+
 -- where the traffic of a domain begins: DOMAIN and READINGS were read by two slots
 abbrev pub start_for : List (List ℕ) → Reading → Writing → Domain → Start
 start_for words reading writing domain = record {
@@ -156,4 +171,22 @@ module _ (words : List (List ℕ)) (old_in new_in : Reading) (old new : Writing)
   -- what leaves by each port of the domain is a capture of packets that may leave it
   abbrev pub IsBounded : Type 0
   IsBounded = OfTraffic (λ start. (place : ℕ) (port : Port) → slice_get (ports start.domain) place ≡ Some port
-      → IsSomeAnd (holds new port.output) IsCleanCapture)
+      → IsSomeAnd (holds new port.output) (IsCaptureOf IsClean))
+
+module _ (tells : Bool) (words : List (List ℕ)) (old_in new_in : Reading) (old new : Writing) where
+  -- what a run owes for its answer: its cause, what was opened and read, and what the files hold
+  pub record Owes (answer : Outcome) : Type 0 where
+    pub read_fault : answer ≡ outcome.ReadFault → Rose old_in.side.faults new_in.side.faults
+    pub write_fault : answer ≡ outcome.WriteFault → Rose old.side.faults new.side.faults
+    pub usage : answer ≢ outcome.Usage
+    pub cause : IsTrue tells → HasCause words old_in new_in old new answer
+    pub leaves : IsTrue tells → Leaves words old_in new_in old new answer
+    pub exact : (asked : Outcome) → IsTrue tells → Asked old words asked → (Rose old_in.side.faults new_in.side.faults → ⊥)
+        → (Rose old.side.faults new.side.faults → ⊥) → (answer ≡ asked) ⊎ (answer ≡ outcome.NoMemory)
+    pub asked_first : (names : List (List ℕ)) × AsksFront old_in.side.asked new_in.side.asked (domain_file words ∷ readings_file words ∷ names)
+    pub asked_in : IsTrue tells → AsksIn words old_in new_in old new
+    pub asked_out : IsTrue tells → AsksOut words old_in new_in old new
+    pub no_output : new_in.side.slots ≡ old_in.side.slots → new ≡ old
+    pub untouched : IsRefusal answer → new ≡ old
+    pub drained : IsDone answer → IsTrue tells → AreDrained words old_in new_in old new
+    pub boundary : IsBehindAll (old.side.slots < new.side.slots) answer → IsTrue tells → IsBounded words old_in new_in old new

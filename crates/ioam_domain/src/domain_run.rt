@@ -1,20 +1,24 @@
 //! `run DOMAIN READINGS WORKERS REPORT EXPORTS`.
-ghost use Rattle.std.specs.Prelude.{◌≡◌, ◌≢◌, ◌+◌, ◌<◌, ◌⊎◌, ◌∷◌, [], List, ℕ, IsTrue, length};
+ghost use Rattle.std.specs.Prelude.{◌≡◌, ◌≢◌, ◌+◌, ◌<◌, ◌⊎◌, ◌∷◌, [], List, ℕ, IsTrue, IfOk, IfErr, OnOk, length};
 ghost use Rattle.ioam_desk.specs.Asked.{AsksFront};
 ghost use Rattle.ioam_desk.specs.Desk.{Rose};
 ghost use Rattle.ioam_merge.specs.Merging.{EndsKept};
 ghost use Rattle.ioam_outputs.specs.Names.{AreApart};
+ghost use Rattle.ioam_outputs.specs.Told.{opened_each};
 ghost use Rattle.ioam_run.specs.Run.{IsDone, IsBehindAll};
 ghost use Rattle.ioam_run.specs.declared.outcome.Outcome.{Outcome};
+ghost use Rattle.ioam_setting.specs.Setting.{IsSetting, Refuses};
 ghost use Rattle.ioam_topo.specs.Domain.{ports};
 ghost use Rattle.ioam_domain.specs.Ends.{Ends};
-ghost use Rattle.ioam_domain.specs.Run.{HasCause, Asked, Leaves, AsksIn, AsksOut, AreDrained, IsBounded, domain_file, readings_file, run_files, run_inputs, run_outputs};
+ghost use Rattle.ioam_domain.specs.Run.{HasCause, Asked, Leaves, AsksIn, AsksOut, AreDrained, IsBounded, IsRefusal, Owes, domain_file, readings_file, run_files, run_inputs, run_outputs};
 
 use crate::answer::refused;
 use ioam_desk::{Desk, Name};
 use ioam_outputs::first_repeat;
 use ioam_run::Outcome;
-use ioam_setting::{file_names, input_names, input_ports, output_names, read_setting};
+use ioam_setting::{
+    Refusal, Setting, file_names, input_names, input_ports, output_names, read_setting,
+};
 use ioam_topo::Domain;
 use ioam_traffic::{Halt, run_traffic};
 use std::alloc::Global;
@@ -43,19 +47,42 @@ pub fn run_domain<D: Desk>(alloc: Global, words: &[Name], desk: &mut D) -> Outco
         (domain_file words.now ∷ readings_file words.now ∷ names) }
     ensures asked_in { IsTrue D.tells → AsksIn words.now (D.reading desk.old) (D.reading desk.new) (D.writing desk.old) (D.writing desk.new) }
     ensures asked_out { IsTrue D.tells → AsksOut words.now (D.reading desk.old) (D.reading desk.new) (D.writing desk.old) (D.writing desk.new) }
-    // No output is opened before an input.
+    // No output is opened before an input, nor where DOMAIN, READINGS or the names are refused.
     ensures no_output { (D.reading desk.new).side.slots ≡ (D.reading desk.old).side.slots → D.writing desk.new ≡ D.writing desk.old }
+    ensures untouched { IsRefusal result → D.writing desk.new ≡ D.writing desk.old }
     ensures drained { IsDone result → IsTrue D.tells
         → AreDrained words.now (D.reading desk.old) (D.reading desk.new) (D.writing desk.old) (D.writing desk.new) }
     // Each packet in a port's capture has a whole header chain without an IOAM option.
     ensures boundary { IsBehindAll ((D.writing desk.old).side.slots < (D.writing desk.new).side.slots) result → IsTrue D.tells
         → IsBounded words.now (D.reading desk.old) (D.reading desk.new) (D.writing desk.old) (D.writing desk.new) }
 {
-    let setting = match read_setting(alloc, desk, &words[1], &words[2]) {
-        Ok(setting) => setting,
-        Err(refusal) => return refused(refusal),
-    };
-    run_set(alloc, words, &setting.domain, desk)
+    run_words(alloc, words, desk)
+}
+
+// Reads the two files that the words name, and runs the domain.
+fn run_words<D: Desk>(alloc: Global, words: &[Name], desk: &mut D) -> Outcome
+    requires { length words.now ≡ 6 }
+    ensures owes { Owes D.tells words.now (D.reading desk.old) (D.reading desk.new) (D.writing desk.old) (D.writing desk.new) result }
+{
+    match read_words(alloc, words, desk) {
+        Ok(setting) => run_set(alloc, words, &setting.domain, desk),
+        Err(refusal) => refused(refusal),
+    }
+}
+
+// Reads the two files that the words name.
+fn read_words<D: Desk>(alloc: Global, words: &[Name], desk: &mut D) -> Result<Setting, Refusal>
+    requires { length words.now ≡ 6 }
+    ensures read { IfOk result (λ setting. IsTrue D.tells
+        → IsSetting (D.writing desk.old) (domain_file words.now) (readings_file words.now) setting.domain setting.readings) }
+    ensures refused { IfErr result (Refuses (D.writing desk.old) (domain_file words.now) (readings_file words.now) D.tells (D.reading desk.old) (D.reading desk.new)) }
+    ensures side { OnOk result ((D.reading desk.new).side ≡ opened_each (D.reading desk.old).side (domain_file words.now ∷ readings_file words.now ∷ [])) }
+    ensures ended { OnOk result (IsTrue D.tells → IsTrue ((D.reading desk.new).ended (D.reading desk.old).side.slots)
+        × IsTrue ((D.reading desk.new).ended ((D.reading desk.old).side.slots + 1))) }
+    ensures asked { AsksFront (D.reading desk.old).side.asked (D.reading desk.new).side.asked (domain_file words.now ∷ readings_file words.now ∷ []) }
+    ensures outputs { D.writing desk.new ≡ D.writing desk.old }
+{
+    read_setting(alloc, desk, &words[1], &words[2])
 }
 
 // Runs a domain that was read: its files have to differ.

@@ -10,14 +10,13 @@ use Rattle.ioam_ip.specs.Packet.{IsPacket}
 use Rattle.ioam_node.specs.Admission.{Admits}
 use Rattle.ioam_node.specs.declared.admitted.Admit.{Admit}
 use Rattle.ioam_node.specs.declared.admitted.Admit.TheVariants as admit
-use Rattle.ioam_pcap.specs.Text.{Sent}
+use Rattle.ioam_pcap.specs.Text.{Sent, Sends, IsCaptureOf}
 use Rattle.ioam_plan.specs.declared.itinerary.Visit.{Visit}
 use Rattle.ioam_plan.specs.declared.itinerary.End.{End}
 use Rattle.ioam_plan.specs.declared.itinerary.End.TheVariants.{Left, Drop}
 use Rattle.ioam_topo.specs.Domain.{ports}
 use Rattle.ioam_topo.specs.declared.domain.Domain.{Domain}
 use Rattle.ioam_topo.specs.declared.parts.Port.{Port}
-use Rattle.ioam_forward.specs.Clean.{SendsClean, IsCleanCapture}
 use Rattle.ioam_forward.specs.Fate.{Frame, Fate, HasFate, AreFates, packet_of, DropsAlike}
 use Rattle.ioam_forward.specs.Texts.{sent_at, sent_of, fate_sent, sent_by, out_text, each_text, of_outputs}
 use Rattle.ioam_forward.proofs.AnswerLaws.{plan-drops}
@@ -51,46 +50,46 @@ answer-clean : (domain : Domain) (at : Option Port) (framing : Framing) (answer 
 answer-clean domain (Some port) framing answer is admits = admits-clean domain port.node.0 framing answer is admits
 answer-clean domain None framing answer is admits = absurd admits
 
-one-clean : (b : Bool) (s : Sent) → SendsClean s → All SendsClean (if b then s ∷ [] else [])
-one-clean true s clean = All-cons SendsClean s [] clean (All-nil SendsClean)
-one-clean false s clean = All-nil SendsClean
+one-clean : (b : Bool) (s : Sent) → IsClean s.octets → All (Sends IsClean) (if b then s ∷ [] else [])
+one-clean true s clean = All-cons (Sends IsClean) s [] clean (All-nil (Sends IsClean))
+one-clean false s clean = All-nil (Sends IsClean)
 
 -- what is sent of a packet that may leave may leave
 left-clean : (port : ℕ) (packet : List ℕ) (visits : List Visit) (end : End) → IsPacket packet × IsClean packet
-    → All SendsClean (sent_at port packet visits end)
+    → All (Sends IsClean) (sent_at port packet visits end)
 left-clean port packet visits (Left exit) clean = one-clean (nat_eq port exit.0) (sent_of packet visits)
     (clean-lowered packet (slice_index packet 7 - length visits) clean.0 clean.1)
-left-clean port packet visits (Drop reason node) clean = All-nil SendsClean
+left-clean port packet visits (Drop reason node) clean = All-nil (Sends IsClean)
 
 sent-clean : (port : ℕ) (answer : Admit) (visits : List Visit) (end : End) → TakesClean answer → DropsAlike answer end
-    → All SendsClean (sent_at port (packet_of answer) visits end)
+    → All (Sends IsClean) (sent_at port (packet_of answer) visits end)
 sent-clean port (admit.Plain kept) visits end clean drops = left-clean port kept.now visits end clean
 sent-clean port (admit.Enclose flow kept limit) visits end clean drops = left-clean port kept.now visits end clean
 sent-clean port (admit.Drop reason) visits (Left exit) clean drops = absurd drops
-sent-clean port (admit.Drop reason) visits (Drop cause node) clean drops = All-nil SendsClean
+sent-clean port (admit.Drop reason) visits (Drop cause node) clean drops = All-nil (Sends IsClean)
 
-fate-clean : (domain : Domain) (frame : Frame) (fate : Fate) → HasFate domain frame fate → (port : ℕ) → All SendsClean (fate_sent port fate)
+fate-clean : (domain : Domain) (frame : Frame) (fate : Fate) → HasFate domain frame fate → (port : ℕ) → All (Sends IsClean) (fate_sent port fate)
 fate-clean domain frame fate has port =
     let cut : Bool = nat_lt (length frame.entry.octets) frame.entry.original in
     let at : Option Port = slice_get (ports domain) frame.port.0 in
-    subst (λ (packet : List ℕ). All SendsClean (sent_at port packet fate.visits fate.end)) (sym has.packet)
+    subst (λ (packet : List ℕ). All (Sends IsClean) (sent_at port packet fate.visits fate.end)) (sym has.packet)
     (sent-clean port has.answer fate.visits fate.end
     (answer-clean domain at (framing_of frame.ethernet cut frame.entry.octets) has.answer (framing-packet frame.ethernet cut frame.entry.octets) has.answered)
     (plan-drops domain at frame.entry.time has.answer fate.visits fate.end has.plans))
 
 -- every packet that leaves by a port has a whole chain and no IOAM option
 pub fates-clean : (domain : Domain) (frames : List Frame) (fates : List Fate) → AreFates domain frames fates → (port : ℕ)
-    → All SendsClean (sent_by port fates)
-fates-clean domain [] [] are port = All-nil SendsClean
+    → All (Sends IsClean) (sent_by port fates)
+fates-clean domain [] [] are port = All-nil (Sends IsClean)
 fates-clean domain [] (fate ∷ fates) are port = absurd are
 fates-clean domain (frame ∷ frames) [] are port = absurd are
 fates-clean domain (frame ∷ frames) (fate ∷ fates) are port =
-    All-append SendsClean (fate_sent port fate) (sent_by port fates) (fate-clean domain frame fate are.0 port) (fates-clean domain frames fates are.1 port)
+    All-append (Sends IsClean) (fate_sent port fate) (sent_by port fates) (fate-clean domain frame fate are.0 port) (fates-clean domain frames fates are.1 port)
 
 -- the capture of each port is one of such packets
 pub outs-clean : (domain : Domain) (frames : List Frame) (fates : List Fate) → AreFates domain frames fates → (port : ℕ)
-    → IsCleanCapture (out_text port fates)
-outs-clean domain frames fates are port = record { sent = sent_by port fates; is = refl; clean = fates-clean domain frames fates are port }
+    → IsCaptureOf IsClean (out_text port fates)
+outs-clean domain frames fates are port = record { sent = sent_by port fates; is = refl; so = fates-clean domain frames fates are port }
 
 each-text-at : (n from at : ℕ) (text : ℕ → List ℕ) (rest : List (List ℕ)) → at < n → slice_get (each_text n from text ++ rest) at ≡ Some (text (from + at))
 each-text-at zero from at text rest inside = absurd (omega (arith, inside))
@@ -108,8 +107,8 @@ port-text domain fates report port inside =
 -- so each port's text is a capture of packets that may leave, whatever the report says so far
 pub texts-clean : (domain : Domain) (frames : List Frame) (fates : List Fate) (report : List ℕ) (texts : List (List ℕ)) → AreFates domain frames fates
     → texts ≡ of_outputs domain (λ at. out_text at fates) report → (port : ℕ) → port < length (ports domain)
-    → IsSomeAnd (slice_get texts port) IsCleanCapture
+    → IsSomeAnd (slice_get texts port) (IsCaptureOf IsClean)
 texts-clean domain frames fates report texts are is port inside =
-    subst (λ (found : Option (List ℕ)). IsSomeAnd found IsCleanCapture)
+    subst (λ (found : Option (List ℕ)). IsSomeAnd found (IsCaptureOf IsClean))
     (sym (ap (λ (ts : List (List ℕ)). slice_get ts port) is ∙ port-text domain fates report port inside))
     (outs-clean domain frames fates are port)

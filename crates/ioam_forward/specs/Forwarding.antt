@@ -1,11 +1,12 @@
 -- What the texts that are gathered for a run stand for.
 use Rattle.std.specs.Prelude.{◌≡◌, ℕ, ◌<◌, List, IsSomeAnd, length, slice_get}
+use Rattle.ioam_ip.specs.Clean.{IsClean}
+use Rattle.ioam_pcap.specs.Text.{IsCaptureOf}
 use Rattle.ioam_plan.specs.declared.itinerary.Visit.{Visit}
 use Rattle.ioam_plan.specs.declared.itinerary.End.{End}
 use Rattle.ioam_report.specs.Sums.{StandFor}
 use Rattle.ioam_topo.specs.Domain.{ports}
 use Rattle.ioam_topo.specs.declared.domain.Domain.{Domain}
-use Rattle.ioam_forward.specs.Clean.{IsCleanCapture}
 use Rattle.ioam_forward.specs.Fate.{Frame, Fate, AreFates}
 use Rattle.ioam_forward.specs.Texts.{texts_of, texts_so_far, ways_of}
 use Rattle.ioam_forward.specs.declared.forwarding.Forwarding.{Forwarding}
@@ -23,7 +24,7 @@ pub record Forwarded (domain : Domain) (frames : List Frame) (texts : List (List
   pub fates : List Fate
   pub are : AreFates domain frames fates
   pub texts_are : texts ≡ texts_of domain fates
-  pub clean : (port : ℕ) → port < length (ports domain) → IsSomeAnd (slice_get texts port) IsCleanCapture
+  pub clean : (port : ℕ) → port < length (ports domain) → IsSomeAnd (slice_get texts port) (IsCaptureOf IsClean)
 
 -- how many arrivals were taken
 abbrev pub taken : Forwarding → ℕ

@@ -1,4 +1,3 @@
-pub mod Clean
 pub mod Fate
 pub mod Texts
 pub mod Forwarding

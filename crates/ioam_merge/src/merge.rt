@@ -3,13 +3,13 @@ ghost use Rattle.std.specs.Prelude.{◌≡◌, ◌<◌, ◌+◌, ◌++◌, ◌�
 ghost use Rattle.ioam_desk.specs.Asked.{IsFaultOf};
 ghost use Rattle.ioam_desk.specs.Desk.{Reading};
 ghost use Rattle.ioam_pcap.specs.Merge.{Arrival};
-ghost use Rattle.ioam_merge.specs.Merging.{Start, Merging, Comes, IsComing, IsMerging, AreKnown, Shows, Turns, EndsKept};
+ghost use Rattle.ioam_merge.specs.Merging.{Start, Merging, IsMerging, AreKnown, Shows, Turns, EndsKept};
 
 use crate::capture::Capture;
 use ioam_base::memory::NoMemory;
 use ioam_desk::{Desk, DeskFault, PIECE};
 use ioam_feed::Feed;
-use ioam_pcap::{CapStep, Due, Turn, next_turn};
+use ioam_pcap::{Due, Turn, next_turn};
 use std::alloc::Global;
 
 /// Several captures of a desk, merged by time.
@@ -142,19 +142,5 @@ impl Merge {
             self.dues[place] = Due::More;
         }
         Ok(turn)
-    }
-
-    /// Takes the record that comes next, of the capture that `turn` has named, and passes over its
-    /// octets. The answer is its time in nanoseconds.
-    pub fn pass(&mut self, place: usize) -> u64
-        requires { IsComing self.old place }
-        ensures { (tells : Bool) (start : Start) (inputs : Reading) (taken : List Arrival) (time : ℕ)
-            → Comes tells start inputs self.old taken place time
-            → (result ≡ time) × ((one : Arrival) × Merging tells start inputs self.new (taken ++ one ∷ [])) }
-    {
-        match self.captures[place].feed.reader.next() {
-            CapStep::Packet(packet) => packet.time,
-            _ => unreachable!(),
-        }
     }
 }

@@ -1,11 +1,11 @@
 -- Laws of what files hold of the texts that were said to their outputs.
-use Rattle.std.proofs.Common.{◌≡◌, ℕ, ◌+◌, Bool, IsTrue, IsSomeAnd, List, [], ◌∷◌, ◌++◌, Option, Some, All, refl, sym, ◌∙◌, ap, subst, append-nil}
+use Rattle.std.proofs.Common.{◌≡◌, ℕ, ◌+◌, Bool, IsTrue, IsSomeAnd, List, [], ◌∷◌, ◌++◌, length, Option, Some, None, All, refl, sym, ◌∙◌, ap, subst, append-nil, append_assoc, arith}
 use Rattle.std.proofs.lemmas.List.Elements.{All-head, All-tail}
 use Rattle.ioam_base.specs.Octets.{IsFront}
 use Rattle.ioam_desk.specs.Desk.{Writing, Written, holds}
 use Rattle.ioam_outputs.specs.declared.output.Output.{Output}
 use Rattle.ioam_outputs.specs.Held.{HoldTexts, HoldAllFronts, HoldFronts}
-use Rattle.ioam_outputs.specs.Told.{AreTold}
+use Rattle.ioam_outputs.specs.Told.{AreTold, said_more}
 
 -- a name that is tied to a slot holds what was written there
 pub holds_slot : (desk : Writing) (name : List ℕ) (slot : ℕ) → desk.files name ≡ Some (Written slot) → holds desk name ≡ Some (desk.written slot)
@@ -49,3 +49,28 @@ HoldAllFronts-holds old new k [] [] fronts = tt
 HoldAllFronts-holds old new k (name ∷ names) (text ∷ texts) fronts = ((λ opened. fronts.0), HoldAllFronts-holds old new (k + 1) names texts fronts.1)
 HoldAllFronts-holds old new k [] (text ∷ texts) fronts = absurd fronts
 HoldAllFronts-holds old new k (name ∷ names) [] fronts = absurd fronts
+
+-- a front is one of a longer text
+more_front : (held : Option (List ℕ)) (text more : List ℕ) → IsSomeAnd held (λ part. IsFront part text) → IsSomeAnd held (λ part. IsFront part (text ++ more))
+more_front None text more holds = absurd holds
+more_front (Some part) text more front = record {
+  rest = front.rest ++ more;
+  is = ap (λ (xs : List ℕ). xs ++ more) front.is ∙ append_assoc part front.rest more;
+}
+
+pub more_fronts : (desk : Writing) (names texts more : List (List ℕ)) → length more ≡ length names → HoldAllFronts desk names texts
+    → HoldAllFronts desk names (said_more texts more)
+more_fronts desk [] [] [] same fronts = tt
+more_fronts desk [] [] (m ∷ more) same fronts = absurd (omega (arith, same))
+more_fronts desk [] (text ∷ texts) more same fronts = absurd fronts
+more_fronts desk (name ∷ names) [] more same fronts = absurd fronts
+more_fronts desk (name ∷ names) (text ∷ texts) [] same fronts = absurd (omega (arith, same))
+more_fronts desk (name ∷ names) (text ∷ texts) (m ∷ more) same fronts =
+    (more_front (holds desk name) text m fronts.0, more_fronts desk names texts more (omega (arith, same)) fronts.1)
+
+-- as many names as texts of which fronts are held
+pub fronts_sized : (desk : Writing) (names texts : List (List ℕ)) → HoldAllFronts desk names texts → length texts ≡ length names
+fronts_sized desk [] [] fronts = refl
+fronts_sized desk [] (text ∷ texts) fronts = absurd fronts
+fronts_sized desk (name ∷ names) [] fronts = absurd fronts
+fronts_sized desk (name ∷ names) (text ∷ texts) fronts = omega (arith, fronts_sized desk names texts fronts.1)

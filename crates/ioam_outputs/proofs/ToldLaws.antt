@@ -1,9 +1,9 @@
 -- Laws of what was said to outputs.
-use Rattle.std.proofs.Common.{◌≡◌, ℕ, ◌+◌, ◌<◌, ◌≤◌, Bool, List, [], ◌∷◌, ◌++◌, length, Option, get_or, set, sym, ◌∙◌, ap, append_assoc, arith, zero, suc}
-use Rattle.std.proofs.lemmas.List.Elements.{All-nil, All-cons}
+use Rattle.std.proofs.Common.{◌≡◌, ℕ, ◌+◌, ◌<◌, ◌≤◌, Bool, List, [], ◌∷◌, ◌++◌, length, Option, get_or, set, refl, sym, ◌∙◌, ap, append_assoc, arith, zero, suc}
+use Rattle.std.proofs.lemmas.List.Elements.{All-nil, All-cons, All-head, All-tail}
 use Rattle.ioam_desk.specs.Desk.{Writing, Held}
 use Rattle.ioam_outputs.specs.declared.output.Output.{Output}
-use Rattle.ioam_outputs.specs.Told.{IsTold, AreTold, Adds, said_more, AreOpen}
+use Rattle.ioam_outputs.specs.Told.{IsTold, AreTold, Adds, said_more, unsaid, AreOpen}
 use Rattle.ioam_outputs.specs.Flush.{Moves}
 
 -- the slots of outputs that were told are open
@@ -107,3 +107,32 @@ AreTold-moves tells old new slot [] [] texts i d after inside moves told = absur
 AreTold-moves tells old new slot [] (output ∷ outputs) texts i d after inside moves told = absurd told
 AreTold-moves tells old new slot (name ∷ names) [] texts i d after inside moves told = absurd told
 AreTold-moves tells old new slot (name ∷ names) (output ∷ outputs) [] i d after inside moves told = absurd told
+
+-- as many names as outputs
+pub told_names : (tells : Bool) (desk : Writing) (slot : ℕ) (names : List (List ℕ)) (outputs : List Output) (texts : List (List ℕ))
+    → AreTold tells desk slot names outputs texts → length outputs ≡ length names
+told_names tells desk slot [] [] [] told = refl
+told_names tells desk slot (name ∷ names) (output ∷ outputs) (text ∷ texts) told = omega (arith, told_names tells desk (slot + 1) names outputs texts told.1)
+told_names tells desk slot [] [] (text ∷ texts) told = absurd told
+told_names tells desk slot [] (output ∷ outputs) texts told = absurd told
+told_names tells desk slot (name ∷ names) [] texts told = absurd told
+told_names tells desk slot (name ∷ names) (output ∷ outputs) [] told = absurd told
+
+-- what is said first is all that is said
+pub said_first : (names texts : List (List ℕ)) → length texts ≡ length names → said_more (unsaid names) texts ≡ texts
+said_first [] [] same = refl
+said_first [] (text ∷ texts) same = absurd (omega (arith, same))
+said_first (name ∷ names) [] same = absurd (omega (arith, same))
+said_first (name ∷ names) (text ∷ texts) same = ap (λ (more : List (List ℕ)). text ∷ more) (said_first names texts (omega (arith, same)))
+
+-- the slots stay open
+pub Adds-open : (desk : Writing) (old new : List Output) (added : List (List ℕ)) → Adds old new added → AreOpen desk old → AreOpen desk new
+Adds-open desk [] [] [] adds are = All-nil (λ output. output.slot < desk.side.slots)
+Adds-open desk (before ∷ old) (after ∷ new) (more ∷ added) adds are =
+    let here : before.slot < desk.side.slots = All-head (λ (output : Output). output.slot < desk.side.slots) before old are in
+    All-cons (λ output. output.slot < desk.side.slots) after new (omega (arith, here, adds.0))
+    (Adds-open desk old new added adds.2 (All-tail (λ (output : Output). output.slot < desk.side.slots) before old are))
+Adds-open desk [] [] (more ∷ added) adds are = absurd adds
+Adds-open desk [] (after ∷ new) added adds are = absurd adds
+Adds-open desk (before ∷ old) [] added adds are = absurd adds
+Adds-open desk (before ∷ old) (after ∷ new) [] adds are = absurd adds

@@ -1,4 +1,5 @@
 pub mod Form
+pub mod Link
 pub mod Entries
 pub mod Reads
 pub mod Pick

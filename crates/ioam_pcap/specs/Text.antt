@@ -1,6 +1,6 @@
 -- The captures that are written: big-endian, nanoseconds, version 2.4, no zone and no accuracy, at
 -- most 262,144 octets of a packet, packets that begin with an IP header (link type 101).
-use Rattle.std.specs.Prelude.{ℕ, ◌/◌, ◌%◌, ◌≤◌, List, [], ◌∷◌, ◌++◌, length}
+use Rattle.std.specs.Prelude.{◌≡◌, ℕ, ◌/◌, ◌%◌, ◌≤◌, List, [], ◌∷◌, ◌++◌, length, All}
 use Rattle.ioam_pcap.specs.Entries.{Entry, most}
 
 -- a packet that is written: its time in nanoseconds and its octets
@@ -39,6 +39,16 @@ records_text (s ∷ sent) = record_octets s.time s.octets ++ records_text sent
 -- a capture of these packets
 abbrev pub capture_text : List Sent → List ℕ
 capture_text sent = head_octets ++ records_text sent
+
+-- the packet that is sent is so
+abbrev pub Sends : (List ℕ → Type 0) → Sent → Type 0
+Sends IsSo s = IsSo s.octets
+
+-- the octets are a capture of packets each of which is so
+pub record IsCaptureOf (IsSo : List ℕ → Type 0) (octets : List ℕ) : Type 0 where
+  pub sent : List Sent
+  pub is : octets ≡ capture_text sent
+  pub so : All (Sends IsSo) sent
 
 -- what is read of a packet that was written: its time modulo 2^32 seconds
 abbrev pub entry_sent : Sent → Entry

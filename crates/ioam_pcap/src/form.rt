@@ -1,3 +1,6 @@
+ghost use Rattle.std.specs.Prelude.{◌≡◌};
+ghost use Rattle.ioam_pcap.specs.Link.{is_ethernet};
+
 /// The layer that the packets of a capture begin at.
 #[derive(Clone, Copy, Debug, PartialEq, Eq)]
 pub enum Link {
@@ -5,6 +8,13 @@ pub enum Link {
     Ethernet,
     /// An IP header (link types 101 and 229).
     Raw,
+}
+
+/// Whether the frames of a capture begin with an Ethernet header; not while its link isn't known.
+pub fn is_ethernet(link: Option<Link>) -> bool
+    ensures { result ≡ is_ethernet link }
+{
+    matches!(link, Some(Link::Ethernet))
 }
 
 /// The order of the octets of a capture's numbers.

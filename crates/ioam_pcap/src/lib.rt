@@ -12,7 +12,7 @@ pub mod reader;
 mod turns;
 
 pub use capture::{CapFault, CapLook, CapStep, Packet, RECORD_MOST};
-pub use form::Link;
+pub use form::{Link, is_ethernet};
 pub use merge::pick;
 pub use put::{put_head, put_record};
 pub use reader::CaptureReader;

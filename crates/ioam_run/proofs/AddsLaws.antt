@@ -41,15 +41,3 @@ Adds-both [] d e first second added more two slot is slots are = absurd (omega (
 Adds-both (x ∷ []) d e first second added more two slot is slots are = absurd (omega (arith, two))
 Adds-both (x ∷ y ∷ []) d e first second added more two slot is slots are = (slot, is, (slots, are, tt))
 Adds-both (x ∷ y ∷ z ∷ outputs) d e first second added more two slot is slots are = absurd (omega (arith, two))
-
--- the slots stay open
-pub Adds-open : (desk : Writing) (old new : List Output) (added : List (List ℕ)) → Adds old new added → AreOpen desk old → AreOpen desk new
-Adds-open desk [] [] [] adds are = All-nil (λ output. output.slot < desk.side.slots)
-Adds-open desk (before ∷ old) (after ∷ new) (more ∷ added) adds are =
-    let here : before.slot < desk.side.slots = All-head (λ (output : Output). output.slot < desk.side.slots) before old are in
-    All-cons (λ output. output.slot < desk.side.slots) after new (omega (arith, here, adds.0))
-    (Adds-open desk old new added adds.2 (All-tail (λ (output : Output). output.slot < desk.side.slots) before old are))
-Adds-open desk [] [] (more ∷ added) adds are = absurd adds
-Adds-open desk [] (after ∷ new) added adds are = absurd adds
-Adds-open desk (before ∷ old) [] added adds are = absurd adds
-Adds-open desk (before ∷ old) (after ∷ new) [] adds are = absurd adds

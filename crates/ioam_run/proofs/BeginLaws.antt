@@ -6,23 +6,16 @@ use Rattle.ioam_feed.specs.Feed.{Fed}
 use Rattle.ioam_outputs.specs.Held.{HoldAllFronts, HoldFronts}
 use Rattle.ioam_outputs.specs.Told.{AreTold, Adds, said_more, unsaid}
 use Rattle.ioam_outputs.specs.declared.output.Output.{Output}
-use Rattle.ioam_outputs.proofs.HeldLaws.{AreTold-fronts}
-use Rattle.ioam_outputs.proofs.ToldLaws.{AreTold-adds}
+use Rattle.ioam_outputs.proofs.HeldLaws.{AreTold-fronts, more_fronts}
+use Rattle.ioam_outputs.proofs.ToldLaws.{AreTold-adds, said_first, told_names}
 use Rattle.ioam_pcap.specs.Entries.{Entry}
 use Rattle.ioam_pcap.specs.Reading.{Reading}
 use Rattle.ioam_pcap.specs.Reader.{fresh, link_of}
 use Rattle.ioam_run.specs.Run.{HoldsFronts}
-use Rattle.ioam_run.specs.Verdict.{is_ethernet}
+use Rattle.ioam_pcap.specs.Link.{is_ethernet}
 use Rattle.ioam_run.specs.Streams.{Start, Streams, Fronts, Sticks}
-use Rattle.ioam_run.proofs.HaltsLaws.{held_so, more_fronts, told_names}
+use Rattle.ioam_run.proofs.HaltsLaws.{held_so}
 use Rattle.ioam_run.proofs.OnwardLaws.{reached_first}
-
--- what is said first is all that is said
-said_first : (names texts : List (List ℕ)) → length texts ≡ length names → said_more (unsaid names) texts ≡ texts
-said_first [] [] same = refl
-said_first [] (text ∷ texts) same = absurd (omega (arith, same))
-said_first (name ∷ names) [] same = absurd (omega (arith, same))
-said_first (name ∷ names) (text ∷ texts) same = ap (λ (more : List (List ℕ)). text ∷ more) (said_first names texts (omega (arith, same)))
 
 Adds-length : (old new : List Output) (added : List (List ℕ)) → Adds old new added → length added ≡ length old
 Adds-length [] [] [] adds = refl

@@ -11,7 +11,7 @@ use Rattle.ioam_pcap.specs.declared.form.Link.{Link}
 use Rattle.ioam_pcap.specs.Entries.{Entry}
 use Rattle.ioam_pcap.specs.Reads.{Whole, Faulty}
 use Rattle.ioam_run.specs.Run.{HoldsAll, HoldsFronts, EndsSo, ArePassed, AreWhole, IsInput, IsLong, FileCause, Leaves}
-use Rattle.ioam_run.specs.Verdict.{is_ethernet}
+use Rattle.ioam_pcap.specs.Link.{is_ethernet}
 use Rattle.ioam_run.specs.Streams.{Start, Halts, Fronts, Sticks, Stops, Finishes, IsBroken}
 use Rattle.ioam_run.specs.declared.outcome.Outcome.{Outcome}
 use Rattle.ioam_run.specs.declared.outcome.Outcome.TheVariants as outcome

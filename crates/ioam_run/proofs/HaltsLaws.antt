@@ -6,7 +6,7 @@ use Rattle.ioam_desk.specs.Desk.{Writing, holds}
 use Rattle.ioam_outputs.specs.Held.{HoldAllFronts}
 use Rattle.ioam_outputs.specs.Told.{AreTold, said_more}
 use Rattle.ioam_outputs.specs.declared.output.Output.{Output}
-use Rattle.ioam_outputs.proofs.HeldLaws.{AreTold-fronts}
+use Rattle.ioam_outputs.proofs.HeldLaws.{AreTold-fronts, more_fronts}
 use Rattle.ioam_pcap.specs.declared.capture.CapFault.{CapFault}
 use Rattle.ioam_pcap.specs.declared.form.Link.{Link}
 use Rattle.ioam_pcap.specs.Entries.{Entry}
@@ -14,8 +14,9 @@ use Rattle.ioam_pcap.specs.Reading.{Reading}
 use Rattle.ioam_pcap.specs.Reads.{Ending, Faulty, Reads}
 use Rattle.ioam_pcap.specs.Reader.{Stands, Waits, link_of}
 use Rattle.ioam_pcap.proofs.StandsLaws.{CutAt-waits}
+use Rattle.ioam_outputs.proofs.ToldLaws.{told_names}
 use Rattle.ioam_run.specs.Run.{most_packets, EndsSo, ArePassed, AreWhole}
-use Rattle.ioam_run.specs.Verdict.{is_ethernet}
+use Rattle.ioam_pcap.specs.Link.{is_ethernet}
 use Rattle.ioam_run.specs.Streams.{Start, Streams, Steps, Halts, Pauses, Fronts, Sticks}
 use Rattle.ioam_run.specs.declared.step.Pause.{Pause}
 use Rattle.ioam_run.specs.declared.step.Pause.TheVariants as pause
@@ -30,31 +31,6 @@ held_so held octets P is fact = let Q : Option (List ℕ) → Type 0 = λ o. IsS
 pub held_map : (held : Option (List ℕ)) (P Q : List ℕ → Type 0) → ((octets : List ℕ) → P octets → Q octets) → IsSomeAnd held P → IsSomeAnd held Q
 held_map None P Q f holds = absurd holds
 held_map (Some octets) P Q f holds = f octets holds
-
--- a front is one of a longer text
-more_front : (held : Option (List ℕ)) (text more : List ℕ) → IsSomeAnd held (λ part. IsFront part text) → IsSomeAnd held (λ part. IsFront part (text ++ more))
-more_front held text more = held_map held (λ part. IsFront part text) (λ part. IsFront part (text ++ more))
-    (λ part front. record { rest = front.rest ++ more; is = ap (λ (xs : List ℕ). xs ++ more) front.is ∙ append_assoc part front.rest more })
-
-pub more_fronts : (desk : Writing) (names texts more : List (List ℕ)) → length more ≡ length names → HoldAllFronts desk names texts
-    → HoldAllFronts desk names (said_more texts more)
-more_fronts desk [] [] [] same fronts = tt
-more_fronts desk [] [] (m ∷ more) same fronts = absurd (omega (arith, same))
-more_fronts desk [] (text ∷ texts) more same fronts = absurd fronts
-more_fronts desk (name ∷ names) [] more same fronts = absurd fronts
-more_fronts desk (name ∷ names) (text ∷ texts) [] same fronts = absurd (omega (arith, same))
-more_fronts desk (name ∷ names) (text ∷ texts) (m ∷ more) same fronts =
-    (more_front (holds desk name) text m fronts.0, more_fronts desk names texts more (omega (arith, same)) fronts.1)
-
--- as many names as outputs
-pub told_names : (tells : Bool) (desk : Writing) (slot : ℕ) (names : List (List ℕ)) (outputs : List Output) (texts : List (List ℕ))
-    → AreTold tells desk slot names outputs texts → length outputs ≡ length names
-told_names tells desk slot [] [] [] told = refl
-told_names tells desk slot (name ∷ names) (output ∷ outputs) (text ∷ texts) told = omega (arith, told_names tells desk (slot + 1) names outputs texts told.1)
-told_names tells desk slot [] [] (text ∷ texts) told = absurd told
-told_names tells desk slot [] (output ∷ outputs) texts told = absurd told
-told_names tells desk slot (name ∷ names) [] texts told = absurd told
-told_names tells desk slot (name ∷ names) (output ∷ outputs) [] told = absurd told
 
 module _ {G : Type 0} (gathers : Bool → List Entry → List (List ℕ) → G → Type 0) (count : G → ℕ) (tells : Bool) (start : Start) where
   same_halts : (Are : Option Link → List Entry → List ℕ → Type 0) (outputs : Writing) (g h : G) (tellers now : List Output) → h ≡ g → now ≡ tellers

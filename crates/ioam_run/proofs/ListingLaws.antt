@@ -10,11 +10,6 @@ use Rattle.ioam_run.specs.Listing.{Lists}
 use Rattle.ioam_run.specs.declared.listing.Listing.{Listing}
 use Rattle.ioam_run.specs.declared.reason.Reason.TheVariants as reason
 
--- what an Ok tells, passed on
-pub OnOk-map : {T E : Type 0} (r : Result T E) (P Q : Type 0) → OnOk r P → (P → Q) → OnOk r Q
-OnOk-map (Ok x) P Q holds f = f holds
-OnOk-map (Err e) P Q holds f = tt
-
 -- what was appended where it was
 pub appended : {T E : Type 0} (r : Result T E) (old new more : List ℕ) → new ≡ (if is_ok r then old ++ more else old) → OnOk r (new ≡ old ++ more)
 appended (Ok x) old new more is = is

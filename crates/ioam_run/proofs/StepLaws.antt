@@ -12,7 +12,7 @@ use Rattle.ioam_pcap.specs.Reading.{Reading}
 use Rattle.ioam_pcap.specs.Reads.{Reached, EntryAt, link_by}
 use Rattle.ioam_pcap.specs.Reader.{Stands, link_of}
 use Rattle.ioam_run.specs.Run.{most_packets}
-use Rattle.ioam_run.specs.Verdict.{is_ethernet}
+use Rattle.ioam_pcap.specs.Link.{is_ethernet}
 use Rattle.ioam_run.specs.Streams.{Start, Streams}
 
 -- a record has no more octets than may be

@@ -6,19 +6,20 @@ use Rattle.ioam_feed.specs.Feed.{FeedsPiece, FindsEnd}
 use Rattle.ioam_outputs.specs.Held.{HoldAllFronts}
 use Rattle.ioam_outputs.specs.Told.{said_more}
 use Rattle.ioam_outputs.specs.declared.output.Output.{Output}
-use Rattle.ioam_outputs.proofs.HeldLaws.{AreTold-fronts}
+use Rattle.ioam_outputs.proofs.HeldLaws.{AreTold-fronts, more_fronts}
 use Rattle.ioam_pcap.specs.declared.capture.CapFault.{CapFault}
 use Rattle.ioam_pcap.specs.declared.form.Link.{Link}
 use Rattle.ioam_pcap.specs.Entries.{Entry}
 use Rattle.ioam_pcap.specs.Reading.{Reading}
 use Rattle.ioam_pcap.specs.Reads.{Ending, Whole, Faulty, Reads}
 use Rattle.ioam_pcap.specs.Reader.{link_of}
+use Rattle.ioam_outputs.proofs.ToldLaws.{told_names}
 use Rattle.ioam_run.specs.Run.{EndsSo, AreFirst, ArePassed, AreWhole, outcome_of}
-use Rattle.ioam_run.specs.Verdict.{is_ethernet}
+use Rattle.ioam_pcap.specs.Link.{is_ethernet}
 use Rattle.ioam_run.specs.Streams.{Start, Streams, Halts, Fronts, Sticks, Stops}
 use Rattle.ioam_run.specs.declared.outcome.Outcome.{Outcome}
 use Rattle.ioam_run.specs.declared.outcome.Outcome.TheVariants as outcome
-use Rattle.ioam_run.proofs.HaltsLaws.{held_map, more_fronts, told_names}
+use Rattle.ioam_run.proofs.HaltsLaws.{held_map}
 use Rattle.ioam_run.proofs.OnwardLaws.{reached_first}
 
 -- these are the first records of the octets, whose link is this one if there is a record

@@ -1,18 +1,15 @@
 -- What a command over one capture answers and leaves. Its words are the command, the name of the
 -- capture, and the names of its outputs; `Texts ethernet entries texts` says which texts the outputs
 -- have for these records, whose frames begin with an Ethernet header or don't.
-use Rattle.std.specs.Prelude.{◌≡◌, ℕ, ◌<◌, ◌≤◌, ◌⊎◌, ⊤, Bool, IsTrue, IsSomeAnd, List, ◌++◌, length, drop, All, Option}
+use Rattle.std.specs.Prelude.{◌≡◌, ℕ, ◌<◌, ◌≤◌, ◌⊎◌, ⊤, Bool, IsTrue, IsSomeAnd, List, ◌++◌, length, drop, Option}
 use Rattle.ioam_desk.specs.Desk.{Reading, Writing, Rose, holds}
-use Rattle.ioam_ip.specs.Chain.{IsSound}
-use Rattle.ioam_ip.specs.ChainOptions.{CarriesIoam}
 use Rattle.ioam_outputs.specs.Held.{HoldTexts, HoldFronts}
 use Rattle.ioam_outputs.specs.Names.{name_at, AreApart, IsFirstRepeat}
 use Rattle.ioam_pcap.specs.Entries.{Entry}
 use Rattle.ioam_pcap.specs.Reads.{Ending, Whole, Faulty, Reached, CutAt, Reads, link_by}
-use Rattle.ioam_pcap.specs.Text.{Sent, capture_text}
 use Rattle.ioam_pcap.specs.declared.form.Form.{Form}
 use Rattle.ioam_pcap.specs.declared.form.Link.{Link}
-use Rattle.ioam_run.specs.Verdict.{is_ethernet}
+use Rattle.ioam_pcap.specs.Link.{is_ethernet}
 use Rattle.ioam_run.specs.declared.outcome.Outcome.{Outcome}
 use Rattle.ioam_run.specs.declared.outcome.Outcome.TheVariants as outcome
 
@@ -197,13 +194,3 @@ OpensNothing (outcome.Packets limit) = ⊥
 OpensNothing outcome.ReadFault = ⊥
 OpensNothing outcome.WriteFault = ⊥
 OpensNothing outcome.NoMemory = ⊥
-
--- a packet that may leave a domain: its chain is whole, and no header on it has an IOAM option
-abbrev pub IsClean : Sent → Type 0
-IsClean sent = IsSound sent.octets × (CarriesIoam sent.octets → ⊥)
-
--- the octets are a capture of packets that may leave a domain
-pub record IsCleanCapture (octets : List ℕ) : Type 0 where
-  pub sent : List Sent
-  pub is : octets ≡ capture_text sent
-  pub clean : All IsClean sent

@@ -11,7 +11,7 @@ use Rattle.ioam_pcap.specs.Reading.{Reading}
 use Rattle.ioam_pcap.specs.Reads.{Whole, Faulty, Reads}
 use Rattle.ioam_pcap.specs.Reader.{Stands, Waits, link_of}
 use Rattle.ioam_pcap.specs.declared.form.Link.{Link}
-use Rattle.ioam_run.specs.Verdict.{is_ethernet}
+use Rattle.ioam_pcap.specs.Link.{is_ethernet}
 use Rattle.ioam_run.specs.Run.{most_packets, HoldsAll, EndsSo, AreFirst, ArePassed, AreWhole}
 use Rattle.ioam_run.specs.declared.step.Pause.{Pause}
 use Rattle.ioam_run.specs.declared.step.Pause.TheVariants as pause

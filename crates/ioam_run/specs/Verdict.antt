@@ -5,8 +5,6 @@ use Rattle.ioam_ip.specs.Framing.{Framing, Holds, NoIpv6, CutShort, TooShort, fr
 use Rattle.ioam_ip.specs.Chain.{IsSound}
 use Rattle.ioam_ip.specs.ChainOptions.{CarriesIoam}
 use Rattle.ioam_pcap.specs.Entries.{Entry}
-use Rattle.ioam_pcap.specs.declared.form.Link.{Link}
-use Rattle.ioam_pcap.specs.declared.form.Link.TheVariants.{Ethernet, Raw}
 use Rattle.ioam_run.specs.declared.reason.Reason.{Reason}
 use Rattle.ioam_run.specs.declared.reason.Reason.TheVariants as reason
 
@@ -28,12 +26,6 @@ FramingVerdict (Holds packet) verdict = PacketVerdict packet verdict
 FramingVerdict NoIpv6 verdict = verdict ≡ Drops reason.NotIpv6
 FramingVerdict CutShort verdict = verdict ≡ Drops reason.Cut
 FramingVerdict TooShort verdict = verdict ≡ Drops reason.Length
-
--- the frames begin with an Ethernet header
-abbrev pub is_ethernet : Option Link → Bool
-is_ethernet None = false
-is_ethernet (Some Ethernet) = true
-is_ethernet (Some Raw) = false
 
 -- what a record of a capture gives: it is cut where it has fewer octets than the frame had
 abbrev pub entry_framing : Bool → Entry → Framing

@@ -1,10 +1,12 @@
 //! `filter IN OUT REPORT`: keeps the packets that may leave a domain.
 ghost use Rattle.std.specs.Prelude.{◌≡◌, ◌<◌, ◌⊎◌, ◌∷◌, [], IsSomeAnd, IsTrue, length};
+ghost use Rattle.ioam_ip.specs.Clean.{IsClean};
+ghost use Rattle.ioam_pcap.specs.Text.{IsCaptureOf};
 ghost use Rattle.ioam_desk.specs.Asked.{AsksFront};
 ghost use Rattle.ioam_desk.specs.Desk.{Rose, holds};
 ghost use Rattle.ioam_outputs.specs.Names.{name_at};
 ghost use Rattle.ioam_run.specs.FilterText.{FilterTexts};
-ghost use Rattle.ioam_run.specs.Run.{HasCause, Asked, Leaves, IsDone, IsBehindAll, OpensNothing, IsCleanCapture, file_names, input_name, output_names};
+ghost use Rattle.ioam_run.specs.Run.{HasCause, Asked, Leaves, IsDone, IsBehindAll, OpensNothing, file_names, input_name, output_names};
 ghost use Rattle.ioam_run.specs.declared.outcome.Outcome.{Outcome};
 
 use crate::filtering::Filtering;
@@ -32,7 +34,7 @@ pub fn run_filter<D: Desk>(alloc: Global, words: &[Name], desk: &mut D) -> Outco
         → (result ≡ asked) ⊎ (result ≡ Outcome.NoMemory) }
     // Each packet in OUT has a whole header chain without an IOAM option.
     ensures boundary { IsBehindAll ((D.reading desk.old).side.slots < (D.reading desk.new).side.slots) result → IsTrue D.tells
-        → IsSomeAnd (holds (D.writing desk.new) (name_at words.now 2)) IsCleanCapture }
+        → IsSomeAnd (holds (D.writing desk.new) (name_at words.now 2)) (IsCaptureOf IsClean) }
     // Before IN was opened nothing changed, told or not, and no output is opened before IN; behind all of IN it was read to its end.
     ensures unopened { OpensNothing result → D.reading desk.new ≡ D.reading desk.old }
     ensures no_output { (D.reading desk.new).side.slots ≡ (D.reading desk.old).side.slots → D.writing desk.new ≡ D.writing desk.old }

@@ -3,13 +3,13 @@ ghost use Rattle.std.specs.Prelude.{◌≡◌, ◌≤◌, IfOk, Some, length};
 ghost use Rattle.ioam_pcap.specs.Reader.{fed};
 ghost use Rattle.ioam_run.specs.Run.{most_packets};
 ghost use Rattle.ioam_run.specs.Streams.{HasStood, Steps};
-ghost use Rattle.ioam_run.specs.Verdict.{is_ethernet};
+ghost use Rattle.ioam_pcap.specs.Link.{is_ethernet};
 
 use crate::gather::Gather;
 use ioam_base::memory::NoMemory;
 use ioam_outputs::Output;
-use ioam_pcap::Link;
 use ioam_pcap::capture::{CapFault, CapStep};
+use ioam_pcap::is_ethernet;
 use ioam_pcap::reader::CaptureReader;
 
 /// The most records that are taken of a capture.
@@ -43,7 +43,7 @@ pub fn step<G: Gather>(
 {
     match reader.next() {
         CapStep::Head { link } => {
-            *ethernet = is_ethernet(link);
+            *ethernet = is_ethernet(Some(link));
             Ok(None)
         }
         CapStep::Packet(packet) => {
@@ -57,15 +57,5 @@ pub fn step<G: Gather>(
         }
         CapStep::More => Ok(Some(Pause::More)),
         CapStep::Bad { at, fault } => Ok(Some(Pause::Bad { at, fault })),
-    }
-}
-
-// Whether the frames of a capture begin with an Ethernet header.
-fn is_ethernet(link: Link) -> bool
-    ensures { result ≡ is_ethernet (Some link) }
-{
-    match link {
-        Link::Ethernet => true,
-        Link::Raw => false,
     }
 }

@@ -11,13 +11,13 @@ use Rattle.ioam_outputs.specs.Held.{HoldAllFronts, HoldFronts}
 use Rattle.ioam_outputs.specs.Told.{AreTold, Adds, unsaid}
 use Rattle.ioam_outputs.specs.declared.output.Output.{Output}
 use Rattle.ioam_outputs.proofs.HeldLaws.{AreTold-fronts}
-use Rattle.ioam_outputs.proofs.ToldLaws.{AreTold-adds}
+use Rattle.ioam_outputs.proofs.ToldLaws.{AreTold-adds, said_first, told_names}
 use Rattle.ioam_topo.specs.Domain.{ports as ports_of}
 use Rattle.ioam_topo.specs.declared.domain.Domain.{Domain}
 use Rattle.ioam_topo.specs.declared.ids.PortId.{PortId}
 use Rattle.ioam_traffic.specs.Traffic.{HoldsFronts, AreOpened}
 use Rattle.ioam_traffic.specs.Running.{Files, Fronts, Running, files_of, start_with}
-use Rattle.ioam_traffic.proofs.FrontsLaws.{longer_fronts, of_ports-length, said_first, told_names}
+use Rattle.ioam_traffic.proofs.FrontsLaws.{longer_fronts, of_ports-length}
 use Rattle.ioam_traffic.proofs.RunsLaws.{Merging-begins}
 
 -- a text for each output

@@ -23,7 +23,8 @@ use Rattle.ioam_pcap.specs.Merge.{Arrival, CanTake, IsNext, arrival, of_capture,
 use Rattle.ioam_pcap.proofs.MergeLaws.{Takes-push}
 use Rattle.ioam_topo.specs.declared.domain.Domain.{Domain}
 use Rattle.ioam_topo.specs.declared.ids.PortId.{PortId}
-use Rattle.ioam_traffic.specs.Traffic.{Start, ArePassed, frame_of, frames_of, is_ethernet, port_at}
+use Rattle.ioam_pcap.specs.Link.{is_ethernet}
+use Rattle.ioam_traffic.specs.Traffic.{Start, ArePassed, frame_of, frames_of, port_at}
 use Rattle.ioam_traffic.specs.Running.{Coming, Fronts, Halted, Running, Runs}
 use Rattle.ioam_traffic.specs.declared.stream.Stream.{Stream}
 use Rattle.ioam_traffic.proofs.FrontsLaws.{fronts_so_far}

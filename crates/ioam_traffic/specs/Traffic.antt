@@ -7,21 +7,14 @@ use Rattle.ioam_forward.specs.Texts.{texts_of}
 use Rattle.ioam_merge.specs.Merging as merging
 use Rattle.ioam_merge.specs.Merging.{FilesArrive, FilesBegin, PartsArrive, HaveEnded, start_of}
 use Rattle.ioam_outputs.specs.Held.{HoldTexts, HoldFronts}
+use Rattle.ioam_pcap.specs.Link.{is_ethernet}
 use Rattle.ioam_pcap.specs.Merge.{Arrival}
-use Rattle.ioam_pcap.specs.declared.form.Link.{Link}
-use Rattle.ioam_pcap.specs.declared.form.Link.TheVariants.{Ethernet, Raw}
 use Rattle.ioam_pcap.specs.declared.turns.Turn.{Turn}
 use Rattle.ioam_pcap.specs.declared.turns.Turn.TheVariants as turn
 use Rattle.ioam_topo.specs.declared.domain.Domain.{Domain}
 use Rattle.ioam_topo.specs.declared.ids.PortId.{PortId}
 use Rattle.ioam_traffic.specs.declared.halt.Halt.{Halt}
 use Rattle.ioam_traffic.specs.declared.halt.Halt.TheVariants.{Over, Broken, Limit, ReadFault, WriteFault, NoMemory}
-
--- frames that are captured for this link begin with an Ethernet header
-abbrev pub is_ethernet : Option Link → Bool
-is_ethernet None = false
-is_ethernet (Some Ethernet) = true
-is_ethernet (Some Raw) = false
 
 -- the port whose capture stands at a place among the captures
 abbrev pub port_at : List PortId → ℕ → PortId

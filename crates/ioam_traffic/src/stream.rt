@@ -5,13 +5,12 @@ ghost use Rattle.ioam_forward.specs.Forwarding.{IsOf, taken};
 ghost use Rattle.ioam_merge.specs.Merging.{IsComing};
 ghost use Rattle.ioam_topo.specs.Domain.{ports as ports_of};
 ghost use Rattle.ioam_traffic.specs.Running.{Coming, Files, Running, start_with};
-ghost use Rattle.ioam_traffic.specs.Traffic.{is_ethernet};
 
 use ioam_base::memory::NoMemory;
 use ioam_forward::Forwarding;
 use ioam_merge::Merge;
 use ioam_outputs::Output;
-use ioam_pcap::{CapStep, Link};
+use ioam_pcap::{CapStep, is_ethernet};
 use ioam_topo::{Domain, PortId};
 use std::alloc::Global;
 
@@ -20,13 +19,6 @@ use std::alloc::Global;
 pub struct Stream {
     pub merge: Merge,
     pub gathered: Forwarding,
-}
-
-// Whether the frames of a capture begin with an Ethernet header.
-fn is_ethernet(link: Option<Link>) -> bool
-    ensures { result ≡ is_ethernet link }
-{
-    matches!(link, Some(Link::Ethernet))
 }
 
 impl Stream {

@@ -1,7 +1,7 @@
 use Rattle.std.proofs.Common.{subst}
 use Rattle.ioam_ip.specs.Framing.{Framing}
+use Rattle.ioam_base.proofs.ResultLaws.{OnOk-map}
 use Rattle.ioam_run.specs.PathsText.{FramingLines}
-use Rattle.ioam_run.proofs.ListingLaws.{OnOk-map}
 use Rattle.ioam_run.proofs.listing.put_entry.Goals as goal
 
 pub returns-in-Packet : goal.returns-in-Packet

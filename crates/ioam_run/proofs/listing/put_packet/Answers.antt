@@ -1,7 +1,8 @@
 use Rattle.std.proofs.Common.{◌++◌, List, ℕ, ap, ◌∙◌, refl}
 use Rattle.std.proofs.lemmas.Bool.{false≢true}
 use Rattle.ioam_report.specs.TracesText.{traces_text}
-use Rattle.ioam_run.proofs.ListingLaws.{OnOk-map, appended, packet_listed, packet_skipped}
+use Rattle.ioam_base.proofs.ResultLaws.{OnOk-map}
+use Rattle.ioam_run.proofs.ListingLaws.{appended, packet_listed, packet_skipped}
 use Rattle.ioam_run.proofs.listing.put_packet.Goals as goal
 
 pub returns-in_ok-append_decimal-in-Whole : goal.returns-in_ok-append_decimal-in-Whole

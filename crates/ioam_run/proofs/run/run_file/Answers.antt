@@ -3,9 +3,9 @@ use Rattle.ioam_desk.specs.Desk as desk
 use Rattle.ioam_desk.specs.Desk.{Side, Writing, holds}
 use Rattle.ioam_feed.specs.Feed.{Fed}
 use Rattle.ioam_outputs.specs.declared.output.Output.{Output}
+use Rattle.ioam_outputs.proofs.ToldLaws.{told_names}
 use Rattle.ioam_run.specs.Streams.{Start, Finishes}
 use Rattle.ioam_run.proofs.BeginLaws.{Fed-start, told_start, unwritten}
-use Rattle.ioam_run.proofs.HaltsLaws.{told_names}
 use Rattle.ioam_run.proofs.FinishesLaws.{Finishes-cause, Finishes-leaves}
 use Rattle.ioam_run.proofs.run.run_file.Goals as goal
 

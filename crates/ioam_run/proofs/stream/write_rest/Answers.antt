@@ -1,9 +1,7 @@
 use Rattle.std.proofs.Common.{arith}
-use Rattle.ioam_outputs.proofs.HeldLaws.{AreTold-fronts}
-use Rattle.ioam_outputs.proofs.ToldLaws.{AreTold-adds}
-use Rattle.ioam_run.proofs.AddsLaws.{Adds-open}
-use Rattle.ioam_run.proofs.HaltsLaws.{more_fronts, told_names}
-use Rattle.ioam_run.proofs.ListingLaws.{OnOk-map}
+use Rattle.ioam_outputs.proofs.HeldLaws.{AreTold-fronts, more_fronts}
+use Rattle.ioam_outputs.proofs.ToldLaws.{AreTold-adds, Adds-open, told_names}
+use Rattle.ioam_base.proofs.ResultLaws.{OnOk-map}
 use Rattle.ioam_run.proofs.stream.write_rest.Goals as goal
 
 pub finish-requires : goal.finish-requires

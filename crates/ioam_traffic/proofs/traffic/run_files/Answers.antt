@@ -1,9 +1,9 @@
 use Rattle.std.proofs.Common.{◌≡◌, ◌+◌, List, length, rules, ap, sym, ◌∙◌, inl, inr, arith}
 use Rattle.ioam_desk.specs.Desk.{Reading, Writing, Side}
 use Rattle.ioam_outputs.specs.declared.output.Output.{Output}
+use Rattle.ioam_outputs.proofs.ToldLaws.{told_names}
 use Rattle.ioam_traffic.specs.Running.{Files, start_with}
 use Rattle.ioam_traffic.proofs.BeginLaws.{known_fronts, known_merging, known_opened, known_sized, known_told}
-use Rattle.ioam_traffic.proofs.FrontsLaws.{told_names}
 use Rattle.ioam_traffic.proofs.StopsLaws.{Ends-finishes}
 use Rattle.ioam_traffic.proofs.traffic.run_files.Goals as goal
 

@@ -1,8 +1,9 @@
 use Rattle.std.proofs.Common.{subst}
 use Rattle.ioam_outputs.specs.Held.{HoldAllFronts, HoldTexts}
 use Rattle.ioam_outputs.proofs.HeldLaws.{AreTold-fronts}
-use Rattle.ioam_outputs.proofs.ToldLaws.{AreTold-adds}
-use Rattle.ioam_traffic.proofs.FrontsLaws.{Adds-open, OnOk-map, fronts_so_far}
+use Rattle.ioam_outputs.proofs.ToldLaws.{AreTold-adds, Adds-open}
+use Rattle.ioam_base.proofs.ResultLaws.{OnOk-map}
+use Rattle.ioam_traffic.proofs.FrontsLaws.{fronts_so_far}
 use Rattle.ioam_traffic.proofs.turns.put_rest.Goals as goal
 
 pub finish-requires : goal.finish-requires

@@ -4,8 +4,8 @@ use Rattle.ioam_merge.specs.declared.capture.Capture.{Capture}
 use Rattle.ioam_merge.proofs.TakeLaws.{Comes-there, Comes-packet, Comes-take}
 use Rattle.ioam_pcap.specs.Reader.{entry_of}
 use Rattle.ioam_pcap.specs.Reads.{link_by}
+use Rattle.ioam_base.proofs.ResultLaws.{OnOk-map}
 use Rattle.ioam_traffic.specs.Running.{start_with}
-use Rattle.ioam_traffic.proofs.FrontsLaws.{OnOk-map}
 use Rattle.ioam_traffic.proofs.RunsLaws.{Runs-take}
 use Rattle.ioam_traffic.proofs.TakeLaws.{Comes-short}
 use Rattle.ioam_traffic.proofs.stream.Stream.take_next.Goals as goal
