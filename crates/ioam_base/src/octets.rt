@@ -1,4 +1,4 @@
-ghost use Rattle.std.specs.Prelude.{◌≡◌, ◌+◌, ◌≤◌, length};
+ghost use Rattle.std.specs.Prelude.{◌≡◌, ◌+◌, ◌≤◌, drop, length, vec_len};
 ghost use Rattle.ioam_base.specs.Octets.{u16_at, u32_at, written};
 
 /// The big-endian 16-bit number at a place of the octets.
@@ -23,4 +23,17 @@ pub fn put_at(octets: &mut [u8], at: usize, part: &[u8])
     ensures { octets.new ≡ written octets.old at part.now }
 {
     octets[at..at + part.len()].copy_from_slice(part);
+}
+
+/// Takes so many octets off the front of a buffer; those behind them move to its front.
+pub fn drop_front(buffer: &mut Vec<u8>, count: usize)
+    requires { count ≤ vec_len buffer.old }
+    ensures { buffer.new.items ≡ drop count buffer.old.items }
+{
+    if count == 0 {
+        return;
+    }
+    let len = buffer.len();
+    buffer.as_mut_slice().copy_within(count..len, 0);
+    buffer.truncate(len - count);
 }

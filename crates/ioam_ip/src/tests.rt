@@ -102,105 +102,109 @@ fn whole(ioam: bool, upper: u8, at: u32, limit: Option<u8>) -> Walk {
     }
 }
 
+// Whether a walk carries IOAM, the value and place with which its chain ends, and its limit.
+type Ends = (bool, u8, u32, Option<u8>);
+
+// Whole chains: the first next header value, the first header, what stands behind it, and how it ends.
+const WHOLE: [(u8, &[u8], &[u8], Ends); 11] = [
+    (17, &[4, 0, 4, 1, 0, 8, 0, 0], &[], (false, 17, 40, None)),
+    // Behind a Routing header.
+    (
+        43,
+        &[60, 0, 0, 0, 0, 0, 0, 0],
+        &[59, 0, 0x11, 4, 0, 0, 0, 0],
+        (true, 59, 56, None),
+    ),
+    // A fragment that isn't the first, and one that is.
+    (
+        44,
+        &[60, 0, 0, 8, 0, 0, 0, 1],
+        &[59, 0, 0x11, 4, 0, 0, 0, 0],
+        (false, 44, 40, None),
+    ),
+    (
+        44,
+        &[60, 0, 0, 1, 0, 0, 0, 1],
+        &[59, 0, 0x11, 4, 0, 0, 0, 0],
+        (true, 59, 56, None),
+    ),
+    // PadN without data.
+    (60, &[59, 0, 1, 0, 1, 2, 0, 0], &[], (false, 59, 48, None)),
+    // ESP and AH end the chain.
+    (50, &[0, 0, 0, 1, 0, 0, 0, 1], &[], (false, 50, 40, None)),
+    (
+        60,
+        &[51, 0, 1, 4, 0, 0, 0, 0],
+        &[59, 4, 0, 0],
+        (false, 51, 48, None),
+    ),
+    // The first Tunnel Encapsulation Limit of one data octet, in Destination Options alone.
+    (
+        60,
+        &[59, 1, 4, 2, 9, 9, 4, 1],
+        &[5, 4, 1, 6, 1, 2, 0, 0],
+        (false, 59, 56, Some(5)),
+    ),
+    (
+        0,
+        &[60, 0, 4, 1, 7, 1, 1, 0],
+        &[59, 0, 4, 1, 0, 1, 1, 0],
+        (false, 59, 56, Some(0)),
+    ),
+    (0, &[59, 0, 0x31, 1, 7, 1, 1, 0], &[], (true, 59, 48, None)),
+    (59, &[], &[], (false, 59, 40, None)),
+];
+
+// Chains that break, and the place of the header that breaks each.
+const BROKEN: [(u8, &[u8], &[u8], u32); 6] = [
+    // Hop-by-Hop Options behind Destination Options.
+    (
+        60,
+        &[0, 0, 1, 4, 0, 0, 0, 0],
+        &[59, 0, 1, 4, 0, 0, 0, 0],
+        48,
+    ),
+    // An option that runs one octet past its header, and past the packet.
+    (60, &[59, 0, 5, 5, 0, 0, 0, 0], &[0; 8], 40),
+    (60, &[59, 0, 5, 5, 0, 0, 0, 0], &[], 40),
+    (
+        43,
+        &[60, 0, 0, 0, 0, 0, 0, 0],
+        &[59, 1, 1, 4, 0, 0, 0, 0],
+        48,
+    ),
+    // A lone type octet at the end.
+    (60, &[59, 0, 1, 3, 0, 0, 0, 5], &[], 40),
+    // Too few octets for a Fragment header.
+    (44, &[60, 0, 0, 1], &[], 40),
+];
+
+// Whether each chain ends so.
+fn all_end(alloc: Global, cases: &[(u8, &[u8], &[u8], Ends)]) -> Result<bool, NoMemory> {
+    for (next, front, back, (ioam, upper, at, limit)) in cases {
+        let octets = packet(alloc, *next, front, &[], back)?;
+        if walked(octets.as_slice()) != Some(whole(*ioam, *upper, *at, *limit)) {
+            return Ok(false);
+        }
+    }
+    Ok(true)
+}
+
+// Whether each chain breaks there.
+fn all_break(alloc: Global, cases: &[(u8, &[u8], &[u8], u32)]) -> Result<bool, NoMemory> {
+    for (next, front, back, at) in cases {
+        let octets = packet(alloc, *next, front, &[], back)?;
+        if walked(octets.as_slice()) != Some(Walk::Bad { at: *at }) {
+            return Ok(false);
+        }
+    }
+    Ok(true)
+}
+
 #[test]
 fn walks(rt: HostRuntime) -> Result<(), Fail> {
-    let alloc = rt.alloc();
-    let cases: [(u8, &[u8], &[u8], Walk); 17] = [
-        (
-            17,
-            &[4, 0, 4, 1, 0, 8, 0, 0],
-            &[],
-            whole(false, 17, 40, None),
-        ),
-        // Behind a Routing header.
-        (
-            43,
-            &[60, 0, 0, 0, 0, 0, 0, 0],
-            &[59, 0, 0x11, 4, 0, 0, 0, 0],
-            whole(true, 59, 56, None),
-        ),
-        // Hop-by-Hop Options behind Destination Options.
-        (
-            60,
-            &[0, 0, 1, 4, 0, 0, 0, 0],
-            &[59, 0, 1, 4, 0, 0, 0, 0],
-            Walk::Bad { at: 48 },
-        ),
-        // A fragment that isn't the first, and one that is.
-        (
-            44,
-            &[60, 0, 0, 8, 0, 0, 0, 1],
-            &[59, 0, 0x11, 4, 0, 0, 0, 0],
-            whole(false, 44, 40, None),
-        ),
-        (
-            44,
-            &[60, 0, 0, 1, 0, 0, 0, 1],
-            &[59, 0, 0x11, 4, 0, 0, 0, 0],
-            whole(true, 59, 56, None),
-        ),
-        // An option that runs one octet past its header, and past the packet.
-        (
-            60,
-            &[59, 0, 5, 5, 0, 0, 0, 0],
-            &[0; 8],
-            Walk::Bad { at: 40 },
-        ),
-        (60, &[59, 0, 5, 5, 0, 0, 0, 0], &[], Walk::Bad { at: 40 }),
-        (
-            43,
-            &[60, 0, 0, 0, 0, 0, 0, 0],
-            &[59, 1, 1, 4, 0, 0, 0, 0],
-            Walk::Bad { at: 48 },
-        ),
-        // PadN without data, and a lone type octet at the end.
-        (
-            60,
-            &[59, 0, 1, 0, 1, 2, 0, 0],
-            &[],
-            whole(false, 59, 48, None),
-        ),
-        (60, &[59, 0, 1, 3, 0, 0, 0, 5], &[], Walk::Bad { at: 40 }),
-        // ESP and AH end the chain.
-        (
-            50,
-            &[0, 0, 0, 1, 0, 0, 0, 1],
-            &[],
-            whole(false, 50, 40, None),
-        ),
-        (
-            60,
-            &[51, 0, 1, 4, 0, 0, 0, 0],
-            &[59, 4, 0, 0],
-            whole(false, 51, 48, None),
-        ),
-        // The first Tunnel Encapsulation Limit of one data octet, in Destination Options alone.
-        (
-            60,
-            &[59, 1, 4, 2, 9, 9, 4, 1],
-            &[5, 4, 1, 6, 1, 2, 0, 0],
-            whole(false, 59, 56, Some(5)),
-        ),
-        (
-            0,
-            &[60, 0, 4, 1, 7, 1, 1, 0],
-            &[59, 0, 4, 1, 0, 1, 1, 0],
-            whole(false, 59, 56, Some(0)),
-        ),
-        (
-            0,
-            &[59, 0, 0x31, 1, 7, 1, 1, 0],
-            &[],
-            whole(true, 59, 48, None),
-        ),
-        // Too few octets for a Fragment header.
-        (44, &[60, 0, 0, 1], &[], Walk::Bad { at: 40 }),
-        (59, &[], &[], whole(false, 59, 40, None)),
-    ];
-    for (next, front, back, answer) in cases {
-        let octets = packet(alloc, next, front, &[], back)?;
-        assert_eq!(rt; walked(octets.as_slice()), Some(answer));
-    }
+    assert_eq!(rt; all_end(rt.alloc(), &WHOLE)?, true);
+    assert_eq!(rt; all_break(rt.alloc(), &BROKEN)?, true);
     Ok(())
 }
 

@@ -6,23 +6,11 @@ ghost use Rattle.ioam_outputs.specs.Held.{HoldTexts, HoldAllFronts};
 ghost use Rattle.ioam_outputs.specs.Told.{AreTold, AreOpen};
 
 use crate::output::Output;
+use ioam_base::octets::drop_front;
 use ioam_desk::{Desk, DeskFault, WriteAll, write_all};
 
 /// So many octets are gathered for an output before they are written.
 pub const GATHER: usize = 65_536;
-
-// Takes octets off the front of a buffer.
-fn drop_front(buffer: &mut Vec<u8>, count: usize)
-    requires { count ≤ vec_len buffer.old }
-    ensures { buffer.new.items ≡ drop count buffer.old.items }
-{
-    if count == 0 {
-        return;
-    }
-    let len = buffer.len();
-    buffer.as_mut_slice().copy_within(count..len, 0);
-    buffer.truncate(len - count);
-}
 
 // Writes all that is gathered for an output. What was written is no longer gathered, also behind a fault.
 fn flush<D: Desk>(desk: &mut D, output: &mut Output) -> Result<(), DeskFault>

@@ -7,6 +7,7 @@ use crate::form::Form;
 use crate::head::{HeadStep, head_step};
 use crate::turns::Due;
 use ioam_base::memory::NoMemory;
+use ioam_base::octets::drop_front;
 use std::alloc::Global;
 use std::marker::Model;
 
@@ -37,19 +38,6 @@ impl Model for CaptureReader {
     ghost view = { λ r. record { form = r.form; start = r.start; pending = drop r.taken r.buffer.items } };
 
     ghost invariant = { λ r. (r.taken ≤ length r.buffer.items) × (r.start + (length r.buffer.items - r.taken) < 2 ^ 63) };
-}
-
-// Takes octets off the front of a buffer.
-fn drop_front(buffer: &mut Vec<u8>, count: usize)
-    requires { count ≤ vec_len buffer.old }
-    ensures { buffer.new.items ≡ drop count buffer.old.items }
-{
-    if count == 0 {
-        return;
-    }
-    let len = buffer.len();
-    buffer.as_mut_slice().copy_within(count..len, 0);
-    buffer.truncate(len - count);
 }
 
 impl CaptureReader {

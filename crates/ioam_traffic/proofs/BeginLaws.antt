@@ -10,14 +10,14 @@ use Rattle.ioam_merge.specs.declared.merge.Merge.{Merge}
 use Rattle.ioam_outputs.specs.Held.{HoldAllFronts, HoldFronts}
 use Rattle.ioam_outputs.specs.Told.{AreTold, Adds, unsaid}
 use Rattle.ioam_outputs.specs.declared.output.Output.{Output}
-use Rattle.ioam_outputs.proofs.HeldLaws.{AreTold-fronts}
+use Rattle.ioam_outputs.proofs.HeldLaws.{AreTold-fronts, more_fronts}
 use Rattle.ioam_outputs.proofs.ToldLaws.{AreTold-adds, said_first, told_names}
 use Rattle.ioam_topo.specs.Domain.{ports as ports_of}
 use Rattle.ioam_topo.specs.declared.domain.Domain.{Domain}
 use Rattle.ioam_topo.specs.declared.ids.PortId.{PortId}
 use Rattle.ioam_traffic.specs.Traffic.{HoldsFronts, AreOpened}
 use Rattle.ioam_traffic.specs.Running.{Files, Fronts, Running, files_of, start_with}
-use Rattle.ioam_traffic.proofs.FrontsLaws.{longer_fronts, of_ports-length}
+use Rattle.ioam_traffic.proofs.FrontsLaws.{of_ports-length}
 use Rattle.ioam_traffic.proofs.RunsLaws.{Merging-begins}
 
 -- a text for each output
@@ -58,7 +58,7 @@ module _ (tells : Bool) (domain : Domain) (ports : List PortId) (files : Files) 
         fates = [];
         become = tt;
         held = subst (HoldAllFronts outputs files.names) (said_first files.names (texts_of domain []) size)
-            (longer_fronts outputs files.names (unsaid files.names) (texts_of domain []) size
+            (more_fronts outputs files.names (unsaid files.names) (texts_of domain []) size
             (AreTold-fronts tells outputs base files.names old (unsaid files.names) tells_so told));
       };
     }
