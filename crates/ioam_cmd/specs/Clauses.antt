@@ -1,10 +1,10 @@
 -- What the top call promises of each command, in the words of the command's own crate. `tells` says
 -- that the desk tells what its files hold.
-use Rattle.std.specs.Prelude.{◌≡◌, ℕ, ◌<◌, ⊤, Bool, IsTrue, IsSomeAnd, List, [], ◌∷◌}
+use Rattle.std.specs.Prelude.{◌≡◌, ℕ, ◌+◌, ◌<◌, ⊤, Bool, IsTrue, IsSomeAnd, List, [], ◌∷◌, ◌++◌}
 use Rattle.ioam_desk.specs.Asked.{AsksFront}
 use Rattle.ioam_desk.specs.Desk.{Reading, Writing, holds}
 use Rattle.ioam_domain.specs.Run as domain
-use Rattle.ioam_domain.specs.Run.{domain_file, readings_file}
+use Rattle.ioam_domain.specs.Run.{domain_file, readings_file, report_file, exports_file}
 use Rattle.ioam_ip.specs.Clean.{IsClean}
 use Rattle.ioam_outputs.specs.Names.{name_at}
 use Rattle.ioam_pcap.specs.Text.{IsCaptureOf}
@@ -27,7 +27,7 @@ module _ (tells : Bool) (words : List (List ℕ)) (old_in new_in : Reading) (old
   abbrev pub HasCause : Command → Outcome → Type 0
   HasCause Filter answer = capture.HasCause tells (file_names words) (input_name words) old_in old new_in new answer
   HasCause Paths answer = capture.HasCause tells (file_names words) (input_name words) old_in old new_in new answer
-  HasCause Run answer = IsTrue tells → domain.HasCause words old_in new_in old new answer
+  HasCause Run answer = domain.HaveDiffered words answer × (IsTrue tells → domain.HasCause words old_in new_in old new answer)
 
   -- what the files hold behind each answer
   abbrev pub Leaves : Command → Outcome → Type 0
@@ -46,14 +46,15 @@ module _ (tells : Bool) (words : List (List ℕ)) (old_in new_in : Reading) (old
   abbrev pub AsksOut : Command → Type 0
   AsksOut Filter = AsksFront old.side.asked new.side.asked (output_names words)
   AsksOut Paths = AsksFront old.side.asked new.side.asked (output_names words)
-  AsksOut Run = IsTrue tells → domain.AsksOut words old_in new_in old new
+  AsksOut Run = ((names : List (List ℕ)) × AsksFront old.side.asked new.side.asked (names ++ report_file words ∷ exports_file words ∷ []))
+      × (IsTrue tells → domain.AsksOut words old_in new_in old new)
 
   -- where the names are refused nothing was opened; `run` has read DOMAIN and READINGS before, and
-  -- opens no output where one of these or the names are refused
+  -- opens no output where one of these or the names are refused, nor before both were opened
   abbrev pub IsUntouched : Command → Outcome → Type 0
   IsUntouched Filter answer = OpensNothing answer → (new_in ≡ old_in) × (new ≡ old)
   IsUntouched Paths answer = OpensNothing answer → (new_in ≡ old_in) × (new ≡ old)
-  IsUntouched Run answer = domain.IsRefusal answer → new ≡ old
+  IsUntouched Run answer = (domain.IsRefusal answer → new ≡ old) × (new_in.side.slots < old_in.side.slots + 2 → new ≡ old)
 
   -- each input was read to its end
   abbrev pub AreDrained : Command → Type 0

@@ -1,5 +1,5 @@
 -- What a run owes for each of its answers: where it isn't set, and where its traffic ended.
-use Rattle.std.proofs.Common.{◌≡◌, ℕ, ◌+◌, ◌<◌, ◌⊎◌, Bool, IsTrue, List, [], ◌∷◌, length, refl, sym, ◌∙◌, ap, subst, inl, inr, ⊎_elim, arith}
+use Rattle.std.proofs.Common.{◌≡◌, ℕ, ◌+◌, ◌<◌, ◌⊎◌, Bool, IsTrue, List, [], ◌∷◌, ◌++◌, length, map, append-nil, refl, sym, ◌∙◌, ap, subst, inl, inr, ⊎_elim, arith}
 use Rattle.ioam_clock.specs.declared.sample.Sample.{Sample}
 use Rattle.ioam_desk.specs.Asked.{AsksFront}
 use Rattle.ioam_desk.specs.Desk.{Side, Reading, Writing, Rose}
@@ -11,12 +11,19 @@ use Rattle.ioam_run.specs.declared.outcome.Outcome.{Outcome}
 use Rattle.ioam_run.specs.declared.outcome.Outcome.TheVariants as outcome
 use Rattle.ioam_setting.specs.Setting.{IsSetting, Refuses}
 use Rattle.ioam_setting.specs.declared.setting.Refusal.{Refusal}
+use Rattle.ioam_topo.specs.Domain.{ports}
 use Rattle.ioam_topo.specs.declared.domain.Domain.{Domain}
+use Rattle.ioam_topo.specs.declared.parts.Port.{Port}
 use Rattle.ioam_domain.specs.Ends.{Ends, refused_as}
-use Rattle.ioam_domain.specs.Run.{HasCause, Asked, Leaves, AsksIn, AsksOut, AreDrained, IsBounded, IsRefusal, Owes, IsSet, IsReady, domain_file, readings_file, run_files, run_inputs, run_outputs}
+use Rattle.ioam_domain.specs.Run.{HasCause, Asked, Leaves, AsksIn, AsksOut, AreDrained, IsBounded, IsRefusal, HaveDiffered, Owes, IsSet, IsReady, domain_file, readings_file, report_file, exports_file, run_files, run_inputs, run_outputs}
 use Rattle.ioam_domain.proofs.AskedLaws.{HasCause-asked}
 use Rattle.ioam_domain.proofs.BoundLaws.{Leaves-bounded}
-use Rattle.ioam_domain.proofs.EndsLaws.{same_faults, Ends-cause, Ends-leaves, Ends-drained, asks_more, asks_both, refused_cause, refused_leaves, refused_read, refused_other, refused_done}
+use Rattle.ioam_domain.proofs.EndsLaws.{same_faults, Ends-cause, Ends-differed, Ends-leaves, Ends-drained, refused_differed, asks_more, asks_both, refused_cause, refused_leaves, refused_read, refused_other, refused_done}
+
+-- no output was asked for
+none_written : (words : List (List ℕ)) (old new : Writing) → new.side.asked ≡ old.side.asked
+    → AsksFront old.side.asked new.side.asked ([] ++ report_file words ∷ exports_file words ∷ [])
+none_written words old new same = (0, same ∙ sym (append-nil old.side.asked))
 
 -- the domain or the readings are refused
 module _ (tells : Bool) (words : List (List ℕ)) (old_in new_in : Reading) (old new : Writing) (why : Refusal) (answer : Outcome)
@@ -59,13 +66,15 @@ module _ (tells : Bool) (words : List (List ℕ)) (old_in new_in : Reading) (old
     read_fault = refused-read_fault;
     write_fault = refused-write_fault;
     usage = refused-usage;
+    differed = subst (HaveDiffered words) (sym is) (refused_differed tells words old_in new_in old why);
     cause = refused-cause;
     leaves = λ told. refused-leaves;
     exact = refused-exact;
     asked_first = ([], asked);
     asked_in = λ told. inl asked;
+    asked_last = ([], none_written words old new (ap (λ (w : Writing). w.side.asked) same));
     asked_out = λ told. inl (ap (λ (w : Writing). w.side.asked) same);
-    no_output = λ still. same;
+    no_output = λ early. same;
     untouched = λ refusal. same;
     drained = λ done told. refused-drained done;
     boundary = λ behind told. refused-bounded behind;
@@ -165,8 +174,14 @@ module _ (tells : Bool) (words : List (List ℕ)) (old_in mid_in new_in : Readin
       (λ apart. let P : Writing → Type 0 = λ w. AsksFront w.side.asked new.side.asked (run_outputs words domain) in
       inr (domain, record { set = set told; apart = apart.0 }, subst P same apart.1)) asked
 
-  ended-no_output : (new_in.side.slots < mid_in.side.slots + length (run_inputs domain) → new ≡ mid) → new_in.side.slots ≡ old_in.side.slots → new ≡ old
-  ended-no_output early still = early (omega (arith, still, ap (λ (s : Side). s.slots) opened)) ∙ same
+  ended-no_output : (new_in.side.slots < mid_in.side.slots + length (run_inputs domain) → new ≡ mid) → new_in.side.slots < old_in.side.slots + 2 → new ≡ old
+  ended-no_output early few = early (omega (arith, few, ap (λ (s : Side). s.slots) opened)) ∙ same
+
+  ended-asked_last : (new ≡ mid) ⊎ (AreApart (run_files words domain) × AsksFront mid.side.asked new.side.asked (run_outputs words domain))
+      → (names : List (List ℕ)) × AsksFront old.side.asked new.side.asked (names ++ report_file words ∷ exports_file words ∷ [])
+  ended-asked_last asked = ⊎_elim (λ still. ([], none_written words old new (ap (λ (w : Writing). w.side.asked) (still ∙ same))))
+      (λ apart. let P : Writing → Type 0 = λ w. AsksFront w.side.asked new.side.asked (run_outputs words domain) in
+      (map (λ (port : Port). port.output) (ports domain), subst P same apart.1)) asked
 
   ended-untouched : IsRefusal answer → new ≡ old
   ended-untouched refusal = unwritten tells words domain mid_in new_in old new answer ends refusal
@@ -181,11 +196,13 @@ module _ (tells : Bool) (words : List (List ℕ)) (old_in mid_in new_in : Readin
       read_fault = ended-read_fault;
       write_fault = ended-write_fault;
       usage = ended-usage;
+      differed = Ends-differed tells words domain mid_in new_in old new answer ends;
       cause = ended-cause;
       leaves = ended-leaves;
       exact = ended-exact;
       asked_first = ended-asked_first asked_in;
       asked_in = ended-asked_in asked_in;
+      asked_last = ended-asked_last asked_out;
       asked_out = ended-asked_out asked_out;
       no_output = ended-no_output early;
       untouched = ended-untouched;

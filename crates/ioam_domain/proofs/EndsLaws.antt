@@ -3,13 +3,15 @@ use Rattle.std.proofs.Common.{◌≡◌, ℕ, suc, ◌+◌, ◌-◌, ◌<◌, �
 use Rattle.std.proofs.lemmas.Bool.{cases_lt}
 use Rattle.ioam_desk.specs.Asked.{AsksFront}
 use Rattle.ioam_desk.specs.Desk.{Side, Reading, Writing, Rose}
-use Rattle.ioam_outputs.specs.Names.{AreApart}
+use Rattle.ioam_outputs.specs.Names.{AreApart, name_at}
 use Rattle.ioam_outputs.specs.Told.{opened_each}
 use Rattle.ioam_merge.specs.Merging.{EndsKept, PartsArrive, start_of}
+use Rattle.ioam_pcap.specs.Merge.{Arrival}
 use Rattle.ioam_pcap.specs.declared.turns.Turn.TheVariants as turn
 use Rattle.ioam_run.specs.declared.outcome.Outcome.{Outcome}
 use Rattle.ioam_run.specs.declared.outcome.Outcome.TheVariants as outcome
 use Rattle.ioam_run.specs.Run.{IsDone}
+use Rattle.ioam_setting.proofs.NamesLaws.{apart-words}
 use Rattle.ioam_setting.specs.Names.{input_ports}
 use Rattle.ioam_setting.specs.Setting.{Refuses}
 use Rattle.ioam_setting.specs.declared.setting.Refusal.{Refusal}
@@ -18,7 +20,8 @@ use Rattle.ioam_topo.specs.Domain.{ports}
 use Rattle.ioam_topo.specs.declared.domain.Domain.{Domain}
 use Rattle.ioam_traffic.specs.Traffic.{Start, HoldsAll, HoldsFronts, ArePassed, AreOpened, Arrive, Finishes}
 use Rattle.ioam_domain.specs.Ends.{Ends, begins, refused_as}
-use Rattle.ioam_domain.specs.Run.{HasCause, contents, Leaves, OfTraffic, StopsEarly, AsksIn, AreDrained, IsSet, IsReady, Exceeds, domain_file, readings_file, run_files, run_inputs, run_outputs, start_for}
+use Rattle.ioam_domain.specs.Run.{HasCause, HaveDiffered, HoldsFiles, contents, Leaves, OfTraffic, StopsEarly, AsksIn, AreDrained, IsSet, IsReady, Exceeds, domain_file, readings_file, run_files, run_inputs, run_outputs, word_files, start_for}
+use Rattle.ioam_domain.proofs.FilesLaws.{files_held}
 
 -- the two files were opened by two slots
 module _ (words : List (List ℕ)) (old_in mid_in : Reading) (opened : mid_in.side ≡ opened_each old_in.side (domain_file words ∷ readings_file words ∷ [])) where
@@ -66,14 +69,24 @@ module _ (words : List (List ℕ)) (old_in mid_in : Reading) (opened : mid_in.si
     Ends-cause (outcome.Domain fault) ends = absurd ends
     Ends-cause (outcome.Readings fault) ends = absurd ends
 
+    files : (Are : Start → List Arrival → Type 0) → HoldsAll (begins words domain mid_in old) (Are (begins words domain mid_in old)) new
+        → HoldsFiles words old_in new_in old new (begins words domain mid_in old) (Are (begins words domain mid_in old))
+    files Are all = files_held words old_in new_in old new (begins words domain mid_in old) (Are (begins words domain mid_in old)) refl all
+
     pub Ends-leaves : (answer : Outcome) → Ends tells words domain mid_in new_in old new answer → Leaves words old_in new_in old new answer
-    Ends-leaves outcome.Done ends = of_traffic (λ start. HoldsAll start (Arrive start turn.Over) new) ends.0 (ends.1 told).0
+    Ends-leaves outcome.Done ends = of_traffic (λ start. HoldsFiles words old_in new_in old new start (Arrive start turn.Over)) ends.0
+        (files (λ start. Arrive start turn.Over) (ends.1 told).0)
     Ends-leaves (outcome.Capture name at fault) ends =
-        of_traffic (λ start. (place : ℕ) × HoldsAll start (Arrive start (turn.Broken place at fault)) new) ends.0 (ends.1.0, ends.1.2.1 told)
-    Ends-leaves (outcome.Packets limit) ends = of_traffic (λ start. HoldsAll start (ArePassed start) new) ends.0 (ends.2 told)
+        of_traffic (λ start. (place : ℕ) × (name ≡ name_at (run_inputs start.domain) place)
+        × HoldsFiles words old_in new_in old new start (Arrive start (turn.Broken place at fault))) ends.0
+        (ends.1.0, ends.1.1, files (λ start. Arrive start (turn.Broken ends.1.0 at fault)) (ends.1.2.1 told))
+    Ends-leaves (outcome.Packets limit) ends = of_traffic (λ start. HoldsFiles words old_in new_in old new start (ArePassed start)) ends.0
+        (files (λ start. ArePassed start) (ends.2 told))
     Ends-leaves outcome.ReadFault ends = elim ends.1.1 [
       | inl early ↦ inl (inr (of_traffic (λ start. new_in.side.slots < start.lanes.base + length start.lanes.contents) ends.0 early.0), early.1)
-      | inr late ↦ inr (of_traffic (λ start. AreOpened start new_in × HoldsAll start (PartsArrive start.lanes.contents new_in start.lanes.base) new) ends.0 (late.0, late.1 told))
+      | inr late ↦ inr (of_traffic (λ start. AreOpened start new_in
+          × HoldsFiles words old_in new_in old new start (PartsArrive start.lanes.contents new_in start.lanes.base)) ends.0
+          (late.0, files (λ start. PartsArrive start.lanes.contents new_in start.lanes.base) (late.1 told)))
     ]
     Ends-leaves outcome.WriteFault ends = of_traffic (λ start. HoldsFronts start old new) ends.0 (ends.1.1 told)
     Ends-leaves outcome.NoMemory (inl same) = inl same
@@ -106,6 +119,20 @@ module _ (words : List (List ℕ)) (old_in mid_in : Reading) (opened : mid_in.si
           ]
         ]
 
+-- the names of the words differ where all files do
+pub Ends-differed : (tells : Bool) (words : List (List ℕ)) (domain : Domain) (mid_in new_in : Reading) (old new : Writing) (answer : Outcome)
+    → Ends tells words domain mid_in new_in old new answer → HaveDiffered words answer
+Ends-differed tells words domain mid_in new_in old new outcome.Done ends = apart-words (ports domain) (word_files words) ends.0
+Ends-differed tells words domain mid_in new_in old new (outcome.Capture name at fault) ends = apart-words (ports domain) (word_files words) ends.0
+Ends-differed tells words domain mid_in new_in old new (outcome.Packets limit) ends = apart-words (ports domain) (word_files words) ends.0
+Ends-differed tells words domain mid_in new_in old new outcome.Usage ends = tt
+Ends-differed tells words domain mid_in new_in old new (outcome.Domain fault) ends = tt
+Ends-differed tells words domain mid_in new_in old new (outcome.Readings fault) ends = tt
+Ends-differed tells words domain mid_in new_in old new (outcome.Names name) ends = tt
+Ends-differed tells words domain mid_in new_in old new outcome.ReadFault ends = tt
+Ends-differed tells words domain mid_in new_in old new outcome.WriteFault ends = tt
+Ends-differed tells words domain mid_in new_in old new outcome.NoMemory ends = tt
+
 -- names that were asked for, and then others
 pub asks_more : (start mid new : List (List ℕ)) (first second : List ℕ) (names : List (List ℕ)) → mid ≡ start ++ first ∷ second ∷ []
     → AsksFront mid new names → AsksFront start new (first ∷ second ∷ names)
@@ -131,6 +158,12 @@ module _ (tells : Bool) (words : List (List ℕ)) (old_in new_in : Reading) (old
   refused_leaves (refusal.Readings fault) asked = refl
   refused_leaves refusal.ReadFault asked = inl (inl asked, refl)
   refused_leaves refusal.NoMemory asked = inl refl
+
+  pub refused_differed : (why : Refusal) → HaveDiffered words (refused_as why)
+  refused_differed (refusal.Domain fault) = tt
+  refused_differed (refusal.Readings fault) = tt
+  refused_differed refusal.ReadFault = tt
+  refused_differed refusal.NoMemory = tt
 
   pub refused_read : (why : Refusal) → Refuses old (domain_file words) (readings_file words) tells old_in new_in why
       → refused_as why ≡ outcome.ReadFault → Rose old_in.side.faults new_in.side.faults

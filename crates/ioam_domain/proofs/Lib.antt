@@ -2,5 +2,6 @@ mod EndsLaws
 mod SameLaws
 mod AskedLaws
 mod BoundLaws
+mod FilesLaws
 mod WordsLaws
 mod AnswerLaws

@@ -1,10 +1,12 @@
 -- What `run DOMAIN READINGS WORKERS REPORT EXPORTS` answers and leaves: the captures of the ports of
 -- the domain that DOMAIN describes are merged by time, and each port's capture of what leaves, the
 -- report and the exports are written.
-use Rattle.std.specs.Prelude.{◌≡◌, ◌≢◌, ℕ, ◌+◌, ◌<◌, ◌≤◌, ◌⊎◌, ⊤, Bool, IsTrue, IsSomeAnd, List, [], ◌∷◌, length, map, slice_get, Option, Some}
+use Rattle.std.specs.Prelude.{◌≡◌, ◌≢◌, ℕ, ◌+◌, ◌<◌, ◌≤◌, ◌⊎◌, ⊤, Bool, IsTrue, IsSomeAnd, List, [], ◌∷◌, ◌++◌, length, map, slice_get, Option, Some}
 use Rattle.ioam_clock.specs.declared.sample.Sample.{Sample}
 use Rattle.ioam_desk.specs.Asked.{AsksFront}
 use Rattle.ioam_desk.specs.Desk.{Side, Reading, Writing, Rose, holds}
+use Rattle.ioam_forward.specs.Fate.{Fate, AreFates}
+use Rattle.ioam_forward.specs.Texts.{out_text, report_text}
 use Rattle.ioam_ip.specs.Clean.{IsClean}
 use Rattle.ioam_merge.specs.Merging.{FilesArrive, FilesBegin, PartsArrive, start_of}
 use Rattle.ioam_outputs.specs.Names.{name_at, AreApart, IsFirstRepeat}
@@ -20,7 +22,7 @@ use Rattle.ioam_setting.specs.Setting.{HasDomainFault, HasReadingsFault, IsSetti
 use Rattle.ioam_topo.specs.Domain.{ports}
 use Rattle.ioam_topo.specs.declared.domain.Domain.{Domain}
 use Rattle.ioam_topo.specs.declared.parts.Port.{Port}
-use Rattle.ioam_traffic.specs.Traffic.{Start, HoldsAll, HoldsFronts, ArePassed, AreOpened, Arrive}
+use Rattle.ioam_traffic.specs.Traffic.{Start, HoldsFronts, ArePassed, AreOpened, Arrive, frames_of}
 
 -- the files that the words name
 abbrev pub domain_file : List (List ℕ) → List ℕ
@@ -93,6 +95,20 @@ module _ (desk : Writing) (words : List (List ℕ)) where
   Asked outcome.WriteFault = ⊥
   Asked outcome.NoMemory = ⊥
 
+-- the files that the words name differ, where the captures were looked at; so much is known of real
+-- files too
+abbrev pub HaveDiffered : List (List ℕ) → Outcome → Type 0
+HaveDiffered words outcome.Done = AreApart (word_files words)
+HaveDiffered words (outcome.Capture name at fault) = AreApart (word_files words)
+HaveDiffered words (outcome.Packets limit) = AreApart (word_files words)
+HaveDiffered words outcome.Usage = ⊤
+HaveDiffered words (outcome.Domain fault) = ⊤
+HaveDiffered words (outcome.Readings fault) = ⊤
+HaveDiffered words (outcome.Names name) = ⊤
+HaveDiffered words outcome.ReadFault = ⊤
+HaveDiffered words outcome.WriteFault = ⊤
+HaveDiffered words outcome.NoMemory = ⊤
+
 -- what `run` was given is refused before anything of its captures is looked at
 abbrev pub IsRefusal : Outcome → Type 0
 IsRefusal (outcome.Domain fault) = ⊤
@@ -138,15 +154,29 @@ module _ (words : List (List ℕ)) (old_in new_in : Reading) (old new : Writing)
   StopsEarly = AsksFront old_in.side.asked new_in.side.asked (domain_file words ∷ readings_file words ∷ [])
       ⊎ OfTraffic (λ start. new_in.side.slots < start.lanes.base + length start.lanes.contents)
 
+  -- What the files hold of these arrivals: each port's capture has the packets that leave there,
+  -- REPORT the line of each arrival and the sums, and EXPORTS nothing. `Are` says which arrivals.
+  pub record HoldsFiles (start : Start) (Are : List Arrival → Type 0) : Type 0 where
+    pub taken : List Arrival
+    pub fates : List Fate
+    pub are : Are taken
+    pub few : length taken ≤ start.domain.packets
+    pub become : AreFates start.domain (frames_of start.ports taken) fates
+    pub outs : (place : ℕ) (port : Port) → slice_get (ports start.domain) place ≡ Some port
+        → holds new port.output ≡ Some (out_text place fates)
+    pub report : holds new (report_file words) ≡ Some (report_text start.domain fates)
+    pub exports : holds new (exports_file words) ≡ Some []
+
   -- What the files hold afterwards, where the desk tells: the texts of all arrivals, of as many as the
   -- domain allows, or of those that what was handed out of the captures shows; or nothing was opened
   -- for writing; or each output that was opened holds a front of its text.
   abbrev pub Leaves : Outcome → Type 0
-  Leaves outcome.Done = OfTraffic (λ start. HoldsAll start (Arrive start turn.Over) new)
-  Leaves (outcome.Capture name at fault) = OfTraffic (λ start. (place : ℕ) × HoldsAll start (Arrive start (turn.Broken place at fault)) new)
-  Leaves (outcome.Packets limit) = OfTraffic (λ start. HoldsAll start (ArePassed start) new)
+  Leaves outcome.Done = OfTraffic (λ start. HoldsFiles start (Arrive start turn.Over))
+  Leaves (outcome.Capture name at fault) = OfTraffic (λ start. (place : ℕ) × (name ≡ name_at (run_inputs start.domain) place)
+      × HoldsFiles start (Arrive start (turn.Broken place at fault)))
+  Leaves (outcome.Packets limit) = OfTraffic (λ start. HoldsFiles start (ArePassed start))
   Leaves outcome.ReadFault = (StopsEarly × (new ≡ old))
-      ⊎ OfTraffic (λ start. AreOpened start new_in × HoldsAll start (PartsArrive start.lanes.contents new_in start.lanes.base) new)
+      ⊎ OfTraffic (λ start. AreOpened start new_in × HoldsFiles start (PartsArrive start.lanes.contents new_in start.lanes.base))
   Leaves outcome.WriteFault = OfTraffic (λ start. HoldsFronts start old new)
   Leaves outcome.NoMemory = (new ≡ old) ⊎ OfTraffic (λ start. HoldsFronts start old new)
   Leaves outcome.Usage = new ≡ old
@@ -179,14 +209,16 @@ module _ (tells : Bool) (words : List (List ℕ)) (old_in new_in : Reading) (old
     pub read_fault : answer ≡ outcome.ReadFault → Rose old_in.side.faults new_in.side.faults
     pub write_fault : answer ≡ outcome.WriteFault → Rose old.side.faults new.side.faults
     pub usage : answer ≢ outcome.Usage
+    pub differed : HaveDiffered words answer
     pub cause : IsTrue tells → HasCause words old_in new_in old new answer
     pub leaves : IsTrue tells → Leaves words old_in new_in old new answer
     pub exact : (asked : Outcome) → IsTrue tells → Asked old words asked → (Rose old_in.side.faults new_in.side.faults → ⊥)
         → (Rose old.side.faults new.side.faults → ⊥) → (answer ≡ asked) ⊎ (answer ≡ outcome.NoMemory)
     pub asked_first : (names : List (List ℕ)) × AsksFront old_in.side.asked new_in.side.asked (domain_file words ∷ readings_file words ∷ names)
     pub asked_in : IsTrue tells → AsksIn words old_in new_in old new
+    pub asked_last : (names : List (List ℕ)) × AsksFront old.side.asked new.side.asked (names ++ report_file words ∷ exports_file words ∷ [])
     pub asked_out : IsTrue tells → AsksOut words old_in new_in old new
-    pub no_output : new_in.side.slots ≡ old_in.side.slots → new ≡ old
+    pub no_output : new_in.side.slots < old_in.side.slots + 2 → new ≡ old
     pub untouched : IsRefusal answer → new ≡ old
     pub drained : IsDone answer → IsTrue tells → AreDrained words old_in new_in old new
     pub boundary : IsBehindAll (old.side.slots < new.side.slots) answer → IsTrue tells → IsBounded words old_in new_in old new

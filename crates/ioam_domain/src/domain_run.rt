@@ -1,5 +1,5 @@
 //! `run DOMAIN READINGS WORKERS REPORT EXPORTS`.
-ghost use Rattle.std.specs.Prelude.{◌≡◌, ◌≢◌, ◌+◌, ◌<◌, ◌⊎◌, ◌∷◌, [], List, ℕ, IsTrue, IfOk, IfErr, OnOk, length};
+ghost use Rattle.std.specs.Prelude.{◌≡◌, ◌≢◌, ◌+◌, ◌<◌, ◌⊎◌, ◌∷◌, ◌++◌, [], List, ℕ, IsTrue, IfOk, IfErr, OnOk, length};
 ghost use Rattle.ioam_desk.specs.Asked.{AsksFront};
 ghost use Rattle.ioam_desk.specs.Desk.{Rose};
 ghost use Rattle.ioam_merge.specs.Merging.{EndsKept};
@@ -10,9 +10,10 @@ ghost use Rattle.ioam_run.specs.declared.outcome.Outcome.{Outcome};
 ghost use Rattle.ioam_setting.specs.Setting.{IsSetting, Refuses};
 ghost use Rattle.ioam_topo.specs.Domain.{ports};
 ghost use Rattle.ioam_domain.specs.Ends.{Ends};
-ghost use Rattle.ioam_domain.specs.Run.{HasCause, Asked, Leaves, AsksIn, AsksOut, AreDrained, IsBounded, IsRefusal, Owes, domain_file, readings_file, run_files, run_inputs, run_outputs};
+ghost use Rattle.ioam_domain.specs.Run.{HasCause, Asked, Leaves, AsksIn, AsksOut, AreDrained, IsBounded, IsRefusal, Owes, HaveDiffered, domain_file, readings_file, report_file, exports_file, run_files, run_inputs, run_outputs};
 
 use crate::answer::refused;
+use ioam_base::memory::NoMemory;
 use ioam_desk::{Desk, Name};
 use ioam_outputs::first_repeat;
 use ioam_run::Outcome;
@@ -35,6 +36,8 @@ pub fn run_domain<D: Desk>(alloc: Global, words: &[Name], desk: &mut D) -> Outco
     ensures read_fault { result ≡ Outcome.ReadFault → Rose (D.reading desk.old).side.faults (D.reading desk.new).side.faults }
     ensures write_fault { result ≡ Outcome.WriteFault → Rose (D.writing desk.old).side.faults (D.writing desk.new).side.faults }
     ensures usage { result ≢ Outcome.Usage }
+    // The words' own names differ where the captures were looked at, whether the desk tells or not.
+    ensures differed { HaveDiffered words.now result }
     ensures cause { IsTrue D.tells → HasCause words.now (D.reading desk.old) (D.reading desk.new) (D.writing desk.old) (D.writing desk.new) result }
     ensures leaves { IsTrue D.tells → Leaves words.now (D.reading desk.old) (D.reading desk.new) (D.writing desk.old) (D.writing desk.new) result }
     // What is asked for is answered, unless a call of the desk failed or no memory could be had.
@@ -46,9 +49,11 @@ pub fn run_domain<D: Desk>(alloc: Global, words: &[Name], desk: &mut D) -> Outco
     ensures asked_first { (names : List (List ℕ)) × AsksFront (D.reading desk.old).side.asked (D.reading desk.new).side.asked
         (domain_file words.now ∷ readings_file words.now ∷ names) }
     ensures asked_in { IsTrue D.tells → AsksIn words.now (D.reading desk.old) (D.reading desk.new) (D.writing desk.old) (D.writing desk.new) }
+    ensures asked_last { (names : List (List ℕ)) × AsksFront (D.writing desk.old).side.asked (D.writing desk.new).side.asked
+        (names ++ report_file words.now ∷ exports_file words.now ∷ []) }
     ensures asked_out { IsTrue D.tells → AsksOut words.now (D.reading desk.old) (D.reading desk.new) (D.writing desk.old) (D.writing desk.new) }
-    // No output is opened before an input, nor where DOMAIN, READINGS or the names are refused.
-    ensures no_output { (D.reading desk.new).side.slots ≡ (D.reading desk.old).side.slots → D.writing desk.new ≡ D.writing desk.old }
+    // No output is opened before DOMAIN and READINGS, nor where DOMAIN, READINGS or the names are refused.
+    ensures no_output { (D.reading desk.new).side.slots < (D.reading desk.old).side.slots + 2 → D.writing desk.new ≡ D.writing desk.old }
     ensures untouched { IsRefusal result → D.writing desk.new ≡ D.writing desk.old }
     ensures drained { IsDone result → IsTrue D.tells
         → AreDrained words.now (D.reading desk.old) (D.reading desk.new) (D.writing desk.old) (D.writing desk.new) }
@@ -85,6 +90,22 @@ fn read_words<D: Desk>(alloc: Global, words: &[Name], desk: &mut D) -> Result<Se
     read_setting(alloc, desk, &words[1], &words[2])
 }
 
+// All files of a run, in the order in which equal ones are looked for.
+fn run_files(alloc: Global, words: &[Name], domain: &Domain) -> Result<Vec<Name>, NoMemory>
+    requires { length words.now ≡ 6 }
+    ensures { IfOk result (λ files. files.items ≡ run_files words.now domain.now) }
+{
+    file_names(alloc, domain, &words[1], &words[2], &words[4], &words[5])
+}
+
+// Those that are written, in the order in which they are opened.
+fn run_outputs(alloc: Global, words: &[Name], domain: &Domain) -> Result<Vec<Name>, NoMemory>
+    requires { length words.now ≡ 6 }
+    ensures { IfOk result (λ outputs. outputs.items ≡ run_outputs words.now domain.now) }
+{
+    output_names(alloc, domain, &words[4], &words[5])
+}
+
 // Runs a domain that was read: its files have to differ.
 fn run_set<D: Desk>(alloc: Global, words: &[Name], domain: &Domain, desk: &mut D) -> Outcome
     requires { length words.now ≡ 6 }
@@ -97,7 +118,7 @@ fn run_set<D: Desk>(alloc: Global, words: &[Name], domain: &Domain, desk: &mut D
         → D.writing desk.new ≡ D.writing desk.old }
     ensures kept { EndsKept (D.reading desk.old).side.slots (D.reading desk.old) (D.reading desk.new) }
 {
-    let Ok(mut files) = file_names(alloc, domain, &words[1], &words[2], &words[4], &words[5]) else {
+    let Ok(mut files) = run_files(alloc, words, domain) else {
         return Outcome::NoMemory;
     };
     match first_repeat(&files) {
@@ -125,7 +146,7 @@ fn run_apart<D: Desk>(alloc: Global, words: &[Name], domain: &Domain, desk: &mut
     let Ok(mut inputs) = input_names(alloc, domain) else {
         return Outcome::NoMemory;
     };
-    let Ok(outputs) = output_names(alloc, domain, &words[4], &words[5]) else {
+    let Ok(outputs) = run_outputs(alloc, words, domain) else {
         return Outcome::NoMemory;
     };
     match run_traffic(alloc, desk, domain, &ports, &inputs, &outputs) {

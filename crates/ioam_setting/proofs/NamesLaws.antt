@@ -192,3 +192,12 @@ pub apart-outputs : (ports : List Port) (domain readings report exports : List �
 apart-outputs ports domain readings report exports apart =
     let differ = differ_from_apart (file_names ports (domain ∷ readings ∷ report ∷ exports ∷ [])) apart in
     apart_from_differ (output_names ports report exports) (written_differ ports report exports differ.1.1)
+
+-- the names before some
+differ_before : (front back : List (List ℕ)) → Differ (front ++ back) → Differ front
+differ_before [] back differ = tt
+differ_before (name ∷ front) back differ = (λ found. differ.0 (Contains-append_left front back name found), differ_before front back differ.1)
+
+-- names that are apart as all files are so by themselves where the words name them
+pub apart-words : (ports : List Port) (words : List (List ℕ)) → AreApart (file_names ports words) → AreApart words
+apart-words ports words apart = apart_from_differ words (differ_before words (flat_map names_of ports) (differ_from_apart (file_names ports words) apart))

@@ -8,17 +8,10 @@ use Rattle.ioam_domain.proofs.domain_run.run_set.Goals as goal
 pub returns-in-Some-clause-ends : goal.returns-in-Some-clause-ends
 returns-in-Some-clause-ends g c =
     let words = c.args.words.now in
-    let files : c.in-Ok.files.items ≡ run_files words c.args.domain.now
-    = files_read (ports c.args.domain.now) words c.in-Ok.files.items c.in-Ok.files.items c.index-words-1.result c.index-words-2.result c.index-words-4.result c.index-words-5.result
-    refl c.in-Ok.ensures
-    (found_name words 1 c.index-words-1.result c.index-words-1.is (omega (arith, c.requires)))
-    (found_name words 2 c.index-words-2.result c.index-words-2.is (omega (arith, c.requires)))
-    (found_name words 4 c.index-words-4.result c.index-words-4.is (omega (arith, c.requires)))
-    (found_name words 5 c.index-words-5.result c.index-words-5.is (omega (arith, c.requires))) in
-    let lent : c.deref.result.now ≡ run_files words c.args.domain.now = c.deref.ensures.value ∙ files in
+    let lent : c.deref.result.now ≡ run_files words c.args.domain.now = c.deref.ensures.value ∙ c.in-Ok.ensures in
     let P : List (List ℕ) → Type 0 = λ names. IsFirstRepeat names c.in-Some.at in
     let first : IsFirstRepeat (run_files words c.args.domain.now) c.in-Some.at = subst P lent c.in-Some.ensures in (
-      (c.in-Some.at, first, taken_name (run_files words c.args.domain.now) c.in-Ok.files.items c.in-Some.at c.swap_remove.result files c.swap_remove.ensures.value first.inside),
+      (c.in-Some.at, first, taken_name (run_files words c.args.domain.now) c.in-Ok.files.items c.in-Some.at c.swap_remove.result c.in-Ok.ensures c.swap_remove.ensures.value first.inside),
       refl,
       refl,
     )
@@ -26,38 +19,17 @@ returns-in-Some-clause-ends g c =
 pub run_apart-requires-clause-apart : goal.run_apart-requires-clause-apart
 run_apart-requires-clause-apart g c =
     let words = c.args.words.now in
-    let files : c.in-Ok.files.items ≡ run_files words c.args.domain.now
-    = files_read (ports c.args.domain.now) words c.in-Ok.files.items c.in-Ok.files.items c.index-words-1.result c.index-words-2.result c.index-words-4.result c.index-words-5.result
-    refl c.in-Ok.ensures
-    (found_name words 1 c.index-words-1.result c.index-words-1.is (omega (arith, c.requires)))
-    (found_name words 2 c.index-words-2.result c.index-words-2.is (omega (arith, c.requires)))
-    (found_name words 4 c.index-words-4.result c.index-words-4.is (omega (arith, c.requires)))
-    (found_name words 5 c.index-words-5.result c.index-words-5.is (omega (arith, c.requires))) in
-    let lent : c.deref.result.now ≡ run_files words c.args.domain.now = c.deref.ensures.value ∙ files in
+    let lent : c.deref.result.now ≡ run_files words c.args.domain.now = c.deref.ensures.value ∙ c.in-Ok.ensures in
     subst AreApart lent c.in-None.ensures
 
 pub returns-clause-asked_in : goal.returns-clause-asked_in
 returns-clause-asked_in g c =
     let words = c.args.words.now in
-    let files : c.in-Ok.files.items ≡ run_files words c.args.domain.now
-    = files_read (ports c.args.domain.now) words c.in-Ok.files.items c.in-Ok.files.items c.index-words-1.result c.index-words-2.result c.index-words-4.result c.index-words-5.result
-    refl c.in-Ok.ensures
-    (found_name words 1 c.index-words-1.result c.index-words-1.is (omega (arith, c.requires)))
-    (found_name words 2 c.index-words-2.result c.index-words-2.is (omega (arith, c.requires)))
-    (found_name words 4 c.index-words-4.result c.index-words-4.is (omega (arith, c.requires)))
-    (found_name words 5 c.index-words-5.result c.index-words-5.is (omega (arith, c.requires))) in
-    let lent : c.deref.result.now ≡ run_files words c.args.domain.now = c.deref.ensures.value ∙ files in
+    let lent : c.deref.result.now ≡ run_files words c.args.domain.now = c.deref.ensures.value ∙ c.in-Ok.ensures in
     inr (subst AreApart lent c.in-None.ensures, c.run_apart.ensures.asked_in)
 
 pub returns-clause-asked_out : goal.returns-clause-asked_out
 returns-clause-asked_out g c =
     let words = c.args.words.now in
-    let files : c.in-Ok.files.items ≡ run_files words c.args.domain.now
-    = files_read (ports c.args.domain.now) words c.in-Ok.files.items c.in-Ok.files.items c.index-words-1.result c.index-words-2.result c.index-words-4.result c.index-words-5.result
-    refl c.in-Ok.ensures
-    (found_name words 1 c.index-words-1.result c.index-words-1.is (omega (arith, c.requires)))
-    (found_name words 2 c.index-words-2.result c.index-words-2.is (omega (arith, c.requires)))
-    (found_name words 4 c.index-words-4.result c.index-words-4.is (omega (arith, c.requires)))
-    (found_name words 5 c.index-words-5.result c.index-words-5.is (omega (arith, c.requires))) in
-    let lent : c.deref.result.now ≡ run_files words c.args.domain.now = c.deref.ensures.value ∙ files in
+    let lent : c.deref.result.now ≡ run_files words c.args.domain.now = c.deref.ensures.value ∙ c.in-Ok.ensures in
     inr (subst AreApart lent c.in-None.ensures, c.run_apart.ensures.asked_out)
