@@ -1,15 +1,17 @@
 use Rattle.ioam_domain.proofs.AnswerLaws as laws
 use Rattle.ioam_domain.proofs.domain_run.run_words.Goals as goal
 
-pub returns-in-Err-clause : goal.returns-in-Err-clause
-returns-in-Err-clause g c =
-    laws.refused-owes g.D.Desk.tells c.args.words.now (g.D.Desk.reading c.args.desk.now) (g.D.Desk.reading c.read_words.new.desk)
-    (g.D.Desk.writing c.args.desk.now) (g.D.Desk.writing c.read_words.new.desk) c.in-Err.refusal c.refused.result c.in-Err.ensures.refused c.in-Err.ensures.asked
-    c.in-Err.ensures.outputs c.refused.ensures
+pub returns-in-Err : goal.returns-in-Err
+returns-in-Err g c = record {
+  owes = laws.refused-owes g.D.Desk.tells c.args.words.now (g.D.Desk.reading c.args.desk.now) (g.D.Desk.reading c.read_words.new.desk)
+      (g.D.Desk.writing c.args.desk.now) (g.D.Desk.writing c.read_words.new.desk) c.in-Err.refusal c.refused.result c.in-Err.ensures.refused c.in-Err.ensures.asked
+      c.in-Err.ensures.outputs c.refused.ensures;
+}
 
-pub returns-in-Ok-clause : goal.returns-in-Ok-clause
-returns-in-Ok-clause g c =
-    laws.ended-owes g.D.Desk.tells c.args.words.now (g.D.Desk.reading c.args.desk.now) (g.D.Desk.reading c.read_words.new.desk) (g.D.Desk.reading c.run_set.new.desk)
-    (g.D.Desk.writing c.args.desk.now) (g.D.Desk.writing c.read_words.new.desk) (g.D.Desk.writing c.run_set.new.desk) c.in-Ok.setting.domain c.run_set.result
-    c.in-Ok.ensures.side c.in-Ok.ensures.outputs c.in-Ok.setting.readings c.in-Ok.ensures.read c.run_set.ensures.ends c.in-Ok.ensures.ended c.run_set.ensures.kept
-    c.run_set.ensures.asked_in c.run_set.ensures.asked_out c.run_set.ensures.no_output
+pub returns-in-Ok : goal.returns-in-Ok
+returns-in-Ok g c = record {
+  owes = laws.ended-owes g.D.Desk.tells c.args.words.now (g.D.Desk.reading c.args.desk.now) (g.D.Desk.reading c.read_words.new.desk) (g.D.Desk.reading c.run_set.new.desk)
+      (g.D.Desk.writing c.args.desk.now) (g.D.Desk.writing c.read_words.new.desk) (g.D.Desk.writing c.run_set.new.desk) c.in-Ok.setting.domain c.run_set.result
+      c.in-Ok.ensures.side c.in-Ok.ensures.outputs c.in-Ok.setting.readings c.in-Ok.ensures.read c.run_set.ensures.ends c.in-Ok.ensures.ended c.run_set.ensures.kept
+      c.run_set.ensures.asked_in c.run_set.ensures.asked_out c.run_set.ensures.no_output;
+}
