@@ -74,7 +74,7 @@ want 3 'domain port 1 in range' run domain.toml "$readings" 1 report exports
 want 9 'read fault' run folder "$readings" 1 report exports
 want 9 'read fault' run "$domain" folder 1 report exports
 for file in text pcapng; do want 3 'domain top 0 - text' run "$file" "$readings" 1 report exports; done
-want 4 'readings 1 words' run "$domain" text 1 report exports
+want 4 'readings 1 words' run "$domain" text 1 report report # before equal names
 want 4 'readings 2 words' run "$domain" pcapng 1 report exports # its first octet is a line feed
 gone out report exports west-out.pcap east-out.pcap
 want 0 done run empty none 1 report exports && holds report 'packets 0 left 0 dropped 0\n' && holds exports ''
