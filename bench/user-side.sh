@@ -1,0 +1,119 @@
+#!/bin/sh
+# What a user meets at the command line: each command with files that are missing, faulty, locked or
+# full, and with wrong words. Prints a line for each case: ok or DIFFERS, the status, the answer and
+# the words. Ends with status 1 where one differs.
+#     bench/user-side.sh
+set -u
+top=$(cd "$(dirname "$0")/.." && pwd) || exit 1
+program=$top/crates/ioam_cmd/out/ioam_cmd
+"$top/ioam" >/dev/null # builds the program where that is needed
+work=$(mktemp -d) && cd "$work" || exit 1
+trap 'chmod -R u+rwX "$work"; rm -rf "$work"' EXIT
+cp "$program" ioam && cp -r "$top/examples" . || exit 1
+domain=examples/three/domain.toml readings=examples/three/readings real=examples/linux-ioam.pcap
+# The files. A file's name has at most 255 octets, and `long` has 256.
+long=$(printf '%0256d' 0)
+mkdir folder shut && : >empty && : >none
+printf 'hello, world\n' | tee text >locked
+printf '\012\015\015\012\034\0\0\0\115\074\053\032\001\0\0\0\377\377\377\377\377\377\377\377\034\0\0\0' >pcapng
+head -c 23 "$real" >cut-head
+head -c 100 "$real" >cut-record
+{ head -c 20 "$real" && printf '\0\0\0\161'; } >wrong-link
+{ head -c 24 "$real" && printf '\0\0\0\0\0\0\0\0\0\004\0\001\0\0\0\0'; } >too-long
+chmod 000 locked && chmod 555 shut
+as=
+if [ "$(id -u)" = 0 ]; then # root may open everything, so the program runs as nobody
+    chown -R 65534:65534 . && as='setpriv --reuid=65534 --regid=65534 --clear-groups'
+fi
+cases=0 wrong=0
+
+# judge GOT STATUS WORD..: stdout is to be as wanted, and nothing on stderr.
+judge() {
+    got=$1 said=DIFFERS
+    [ "$got" = "$2" ] && cmp -s stdout wanted && [ ! -s stderr ] && said=ok || wrong=$((wrong + 1))
+    cases=$((cases + 1)) && shift 2
+    printf '%-8s%3d  %-36.36s %.90s\n' $said "$got" "$(head -n 1 stdout | tr -cd ' -~')" "$*"
+}
+# want STATUS LINE WORD..: what the program ends with and prints on these words.
+want() {
+    status=$1 && printf '%s\n' "$2" >wanted && shift 2
+    timeout 60 $as ./ioam "$@" >stdout 2>stderr </dev/null
+    judge $? "$status" "$@"
+}
+# holds FILE TEXT: what a file has now, and removes it; gone FILE..: what isn't there.
+holds() { : >stderr && printf "$2" >wanted && cat "$1" >stdout 2>stderr; judge 0 0 "  in $1" && rm -f "$1"; }
+gone() { for name; do [ ! -e "$name" ] && : >stderr || echo >stderr; : >stdout && : >wanted && judge 0 0 "  no $name"; done; }
+# with_domain KEY NAME: the three nodes, with another name for `in`, or for each `out`.
+with_domain() { sed "s|$1 = \"[^\"]*\"|$1 = \"$2\"|" "$domain" >domain.toml; }
+# Words and names.
+for words in '' filter 'filter a b' 'filter a b c d' 'paths a' 'paths a b c' 'Filter a b c' --help 'run a b 1 c' \
+    'run a b 1 c d e' 'run a b 0 c d' 'run a b 01 c d' 'run a b x c d' 'run a b 2 c d' 'run a b 65 c d' 'run a b -1 c d'; do
+    want 1 usage $words
+done
+want 1 usage filter "$(printf 'a\377')" out report
+want 1 usage run "$domain" "$readings" '' report exports
+want 2 "names $real" filter "$real" "$real" report
+want 2 "names $real" filter "$real" out "$real"
+want 2 'names out' filter "$real" out out
+want 2 "names $real" paths "$real" "$real"
+want 2 'names empty' run empty empty 1 report exports
+want 2 "names $domain" run "$domain" "$readings" 1 "$domain" exports
+want 2 'names report' run "$domain" "$readings" 1 report report
+want 2 'names west-out.pcap' run "$domain" "$readings" 1 report west-out.pcap
+with_domain in west-out.pcap && want 2 'names west-out.pcap' run domain.toml "$readings" 1 report exports
+with_domain out domain.toml && want 2 'names domain.toml' run domain.toml "$readings" 1 report exports
+# Each kind of file as IN, a port's `in`, DOMAIN and READINGS, first those after which no output is opened.
+for file in missing locked "$long"; do
+    want 9 'read fault' filter "$file" out report
+    want 9 'read fault' paths "$file" report
+    want 9 'read fault' run "$file" "$readings" 1 report exports
+    want 9 'read fault' run "$domain" "$file" 1 report exports
+    with_domain in "$file" && [ "$file" != "$long" ] && want 9 'read fault' run domain.toml "$readings" 1 report exports
+done
+want 3 'domain port 1 in range' run domain.toml "$readings" 1 report exports
+want 9 'read fault' run folder "$readings" 1 report exports
+want 9 'read fault' run "$domain" folder 1 report exports
+for file in text pcapng; do want 3 'domain top 0 - text' run "$file" "$readings" 1 report exports; done
+want 4 'readings 1 words' run "$domain" text 1 report report # before equal names
+want 4 'readings 2 words' run "$domain" pcapng 1 report exports # its first octet is a line feed
+gone out report exports west-out.pcap east-out.pcap
+want 0 done run empty none 1 report exports && holds report 'packets 0 left 0 dropped 0\n' && holds exports ''
+want 0 done run "$domain" empty 1 report exports
+head='\241\262\074\115\0\002\0\004\0\0\0\0\0\0\0\0\0\004\0\0\0\0\0\145'
+nodes='node a seen 0 dropped 0\nnode b seen 0 dropped 0\nnode c seen 0 dropped 0\n'
+while read -r file status line; do
+    want "$status" "$line" filter "$file" out report && holds out "$head" && holds report 'packets 0 kept 0 dropped 0\n'
+    want "$status" "$line" paths "$file" report && holds report 'packets 0\n'
+    with_domain in "$file" && want "$status" "$line" run domain.toml none 1 report exports
+    holds report "packets 0 left 0 dropped 0\n$nodes" && holds exports '' && holds west-out.pcap "$head" && holds east-out.pcap "$head"
+done <<ends
+folder 9 read fault
+empty 5 capture empty 0 short 0
+text 5 capture text 0 magic 1751477356
+pcapng 5 capture pcapng 0 magic 168627466
+cut-head 5 capture cut-head 0 short 23
+cut-record 5 capture cut-record 24 short 76
+wrong-link 5 capture wrong-link 0 link 113
+too-long 5 capture too-long 24 long 262145
+ends
+
+# Each kind of name as an output.
+for file in shut/out folder missing/out "$long" /dev/full; do
+    want 10 'write fault' filter "$real" "$file" report
+    want 10 'write fault' filter "$real" out "$file"
+    want 10 'write fault' paths "$real" "$file"
+    want 10 'write fault' run "$domain" "$readings" 1 "$file" exports
+    [ "$file" = /dev/full ] || want 10 'write fault' run "$domain" "$readings" 1 report "$file" # EXPORTS is empty
+    with_domain out "$file" && sed -i 's|\(in = .*\)out = "[^"]*"|\1out = "west-out.pcap"|' domain.toml
+    [ "$file" = "$long" ] || want 10 'write fault' run domain.toml "$readings" 1 report exports
+done
+
+# An answer that can't be printed: the status says it, and the outputs are the same.
+want 0 done filter "$real" out report && cp out out-1 && cp report report-1
+for way in '>&-' '>/dev/full' '>&- <&-' '>&- 2>&- <&-' '| head -c 0'; do
+    rm -f out report && : >stdout && : >stderr && : >wanted
+    sh -c "{ timeout 60 $as ./ioam filter $real out report; echo \$? >&3; } 3>got $way" 2>stderr
+    judge "$(cat got)" 0 "filter $real out report $way"
+    cat out report >stdout && cat out-1 report-1 >wanted && judge 0 0 '  in out and report'
+done
+echo "$cases cases, $wrong differ" && [ "$wrong" = 0 ]
