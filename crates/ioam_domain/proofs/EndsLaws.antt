@@ -2,9 +2,8 @@
 use Rattle.std.proofs.Common.{◌≡◌, ℕ, suc, ◌+◌, ◌-◌, ◌<◌, ◌⊎◌, Bool, IsTrue, List, [], ◌∷◌, ◌++◌, length, refl, sym, ◌∙◌, ap, subst, inl, inr, take, append_assoc, length-append, arith}
 use Rattle.std.proofs.lemmas.Bool.{cases_lt}
 use Rattle.ioam_desk.specs.Asked.{AsksFront}
-use Rattle.ioam_desk.specs.Desk.{Side, Reading, Writing, Rose}
+use Rattle.ioam_desk.specs.Desk.{Side, Reading, Writing, Rose, opened_each}
 use Rattle.ioam_outputs.specs.Names.{AreApart}
-use Rattle.ioam_outputs.specs.Told.{opened_each}
 use Rattle.ioam_merge.specs.Merging.{EndsKept, PartsArrive, start_of}
 use Rattle.ioam_pcap.specs.declared.turns.Turn.TheVariants as turn
 use Rattle.ioam_run.specs.declared.outcome.Outcome.{Outcome}

@@ -5,7 +5,7 @@ use Rattle.std.proofs.lemmas.List.{take_more}
 use Rattle.std.proofs.lemmas.Option.{none-some, same_Some}
 use Rattle.ioam_desk.specs.Desk as desk
 use Rattle.ioam_desk.specs.Asked.{AsksFront}
-use Rattle.ioam_desk.specs.Desk.{Side, Writing, OpensInput, holds, opened_side}
+use Rattle.ioam_desk.specs.Desk.{Side, Writing, OpensInput, holds, opened_side, opened_each}
 use Rattle.ioam_desk.specs.declared.fault.DeskFault.{DeskFault}
 use Rattle.ioam_desk.specs.declared.fault.DeskFault.TheVariants.{Failed, NoMemory}
 use Rattle.ioam_feed.specs.Feed.{Fed, FailsOpening}
@@ -13,7 +13,7 @@ use Rattle.ioam_pcap.specs.Arrives.{Handed}
 use Rattle.ioam_pcap.specs.Reader.{fresh, link_of}
 use Rattle.ioam_pcap.specs.declared.turns.Due.TheVariants.{More}
 use Rattle.ioam_pcap.proofs.ArrivesLaws.{Arrives-total}
-use Rattle.ioam_merge.specs.Merging.{Begins, EndsKept, Start, Row, IsRow, Merging, with_content, start_of, opened_each}
+use Rattle.ioam_merge.specs.Merging.{Begins, EndsKept, Start, Row, IsRow, Merging, with_content, start_of}
 use Rattle.ioam_merge.specs.declared.capture.Capture.{Capture}
 use Rattle.ioam_merge.specs.declared.merge.Merge.{Merge}
 use Rattle.ioam_merge.proofs.MergingLaws.{Lane-other, map_length}

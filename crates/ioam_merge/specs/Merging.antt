@@ -72,10 +72,6 @@ with_content start content = record start { contents = start.contents ++ content
 abbrev pub start_of : ℕ → Writing → List (List ℕ) → Start
 start_of base outputs names = record { contents = map (holds outputs) names; base = base }
 
--- opening calls took these names and made as many slots
-abbrev pub opened_each : Side → List (List ℕ) → Side
-opened_each side names = record side { asked = side.asked ++ names; slots = side.slots + length names }
-
 -- one of the captures: what its name holds, itself, what is due of it as far as that is known, and
 -- as much of it as was handed out
 pub record Row : Type 0 where

@@ -2,13 +2,13 @@
 use Rattle.std.proofs.Common.{◌≡◌, ◌≢◌, ℕ, ◌+◌, ◌<◌, ◌≤◌, Bool, IsTrue, Contains, List, [], ◌∷◌, ◌++◌, length, take, drop, Some, Ok, Err, get_or, refl, sym, ◌∙◌, ap, subst, append-nil, append_assoc, arith, suc, length-append}
 use Rattle.std.proofs.lemmas.List.{get_or_default, take_more, take-append-drop}
 use Rattle.ioam_desk.specs.Asked.{IsFaultOf}
-use Rattle.ioam_desk.specs.Desk.{Side, Writing, Written, OpenOut, holds, opened_side}
+use Rattle.ioam_desk.specs.Desk.{Side, Writing, Written, OpenOut, holds, opened_side, opened_each}
 use Rattle.ioam_desk.specs.declared.fault.DeskFault.{DeskFault}
 use Rattle.ioam_desk.specs.declared.fault.DeskFault.TheVariants.{Failed, NoMemory}
 use Rattle.ioam_outputs.specs.declared.output.Output.{Output}
 use Rattle.ioam_outputs.specs.Held.{HoldFronts}
 use Rattle.ioam_outputs.specs.Names.{AreApart}
-use Rattle.ioam_outputs.specs.Told.{IsTold, AreTold, opened_each, unsaid}
+use Rattle.ioam_outputs.specs.Told.{IsTold, AreTold, unsaid}
 use Rattle.ioam_outputs.proofs.HeldLaws.{front_held, holds_slot}
 use Rattle.ioam_outputs.proofs.ToldLaws.{AreTold-unwritten}
 

@@ -37,7 +37,3 @@ AreOpen desk outputs = All (λ output. output.slot < desk.side.slots) outputs
 -- as many texts as names, in which nothing is said yet
 abbrev pub unsaid : List (List ℕ) → List (List ℕ)
 unsaid names = map (λ _. []) names
-
--- opening calls took these names and made as many slots
-abbrev pub opened_each : Side → List (List ℕ) → Side
-opened_each side names = record side { asked = side.asked ++ names; slots = side.slots + length names }

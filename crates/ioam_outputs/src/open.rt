@@ -1,9 +1,10 @@
 //! Opening of many outputs.
 ghost use Rattle.std.specs.Prelude.{◌≡◌, ◌+◌, ℕ, List, IsTrue, IfErr, IfOk, OnOk, length};
 ghost use Rattle.ioam_desk.specs.Asked.{AsksFront, IsFaultOf};
+ghost use Rattle.ioam_desk.specs.Desk.{opened_each};
 ghost use Rattle.ioam_outputs.specs.Held.{HoldFronts};
 ghost use Rattle.ioam_outputs.specs.Names.{AreApart};
-ghost use Rattle.ioam_outputs.specs.Told.{AreOpen, AreTold, opened_each, unsaid};
+ghost use Rattle.ioam_outputs.specs.Told.{AreOpen, AreTold, unsaid};
 
 use crate::output::Output;
 use ioam_desk::{Desk, DeskFault, Name};

@@ -1,5 +1,6 @@
 use Rattle.std.proofs.Common.{◌≡◌, take}
-use Rattle.ioam_outputs.specs.Told.{AreTold, opened_each, unsaid}
+use Rattle.ioam_desk.specs.Desk.{opened_each}
+use Rattle.ioam_outputs.specs.Told.{AreTold, unsaid}
 use Rattle.ioam_outputs.proofs.open.open_outputs.Given as goal
 
 -- the outputs so far are open, and nothing was said to them
