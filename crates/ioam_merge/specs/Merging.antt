@@ -4,6 +4,7 @@ use Rattle.std.specs.Prelude.{◌≡◌, ℕ, ◌+◌, ◌<◌, ⊤, Bool, true,
 use Rattle.std.specs.List.{AllZip}
 use Rattle.ioam_desk.specs.Desk as desk
 use Rattle.ioam_desk.specs.Desk.{Side, Writing, holds}
+use Rattle.ioam_desk.specs.Unread.{Unread}
 use Rattle.ioam_desk.specs.declared.fault.DeskFault.{DeskFault}
 use Rattle.ioam_desk.specs.declared.fault.DeskFault.TheVariants.{Failed, NoMemory}
 use Rattle.ioam_pcap.specs.Arrives.{Handed, IsStream, Arrives}
@@ -118,11 +119,6 @@ abbrev pub IsComing : Merge → ℕ → Type 0
 IsComing merge place = (tells : Bool) × (start : Start) × (inputs : desk.Reading) × (taken : List Arrival) × (time : ℕ)
     × Comes tells start inputs merge taken place time
 
--- a reader gave this record, the next of its capture
-abbrev pub GivesRecord : Reading → Entry → Reading → Type 0
-GivesRecord before entry after = (octets : List ℕ) (given : List Entry) → Stands before octets given
-    → EntryAt octets before.form before.start entry × Stands after octets (given ++ entry ∷ [])
-
 -- what is due of the first captures is known
 abbrev pub AreKnown : ℕ → Merge → Type 0
 AreKnown count merge = (k : ℕ) (due : Due) → k < count → slice_get merge.dues.items k ≡ Some due → due ≡ More → ⊥
@@ -138,9 +134,13 @@ abbrev pub LeavesFewer : DeskFault → ℕ → ℕ → Type 0
 LeavesFewer Failed slots most = slots < most
 LeavesFewer NoMemory slots most = ⊤
 
--- the slots below a number have ended where they had
+-- an input slot as it stands
+abbrev pub slot_of : desk.Reading → ℕ → Unread
+slot_of inputs k = record { left = inputs.left k; ended = inputs.ended k }
+
+-- the slots below a number are as they were: what is left of them, and whether they have ended
 abbrev pub EndsKept : ℕ → desk.Reading → desk.Reading → Type 0
-EndsKept base old new = (k : ℕ) → k < base → new.ended k ≡ old.ended k
+EndsKept base old new = (k : ℕ) → k < base → slot_of new k ≡ slot_of old k
 
 -- every slot has ended
 abbrev pub HaveEnded : Start → desk.Reading → Type 0
