@@ -5,7 +5,7 @@ ghost use Rattle.ioam_cmd.specs.Answers.{status_of, line_text, domain_text, read
 use crate::words::{field_text, read_why_text, table_text, why_text};
 use ioam_base::memory::NoMemory;
 use ioam_clock::ReadingsFault;
-use ioam_pcap::capture::CapFault;
+use ioam_pcap::CapFault;
 use ioam_run::Outcome;
 use ioam_topo::DomainFault;
 use std::alloc::Global;

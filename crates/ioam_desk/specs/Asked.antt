@@ -8,7 +8,7 @@ use Rattle.ioam_desk.specs.declared.fault.DeskFault.TheVariants.{Failed, NoMemor
 abbrev pub AsksFront : List (List ℕ) → List (List ℕ) → List (List ℕ) → Type 0
 AsksFront old new names = (count : ℕ) × (new ≡ old ++ take count names)
 
--- a fault of the outside came only where the count of faults rose
+-- a fault of the outside came only where the count of faults rose; want of memory leaves the count as it was
 abbrev pub IsFaultOf : Side → Side → DeskFault → Type 0
 IsFaultOf old new Failed = Rose old.faults new.faults
 IsFaultOf old new NoMemory = new.faults ≡ old.faults

@@ -44,6 +44,10 @@ Rose before now = min (before + 1) (2 ^ 64 - 1) ≤ now
 abbrev pub opened_side : Side → List ℕ → Side
 opened_side side name = record side { asked = side.asked ++ name ∷ []; slots = side.slots + 1 }
 
+-- opening calls took these names, and made one slot more for each
+abbrev pub opened_each : Side → List (List ℕ) → Side
+opened_each side names = record side { asked = side.asked ++ names; slots = side.slots + length names }
+
 -- the same but for the count of faults, which rose
 pub record Fails (old new : Side) : Type 0 where
   pub rose : Rose old.faults new.faults

@@ -20,7 +20,7 @@ AddsSlot old name (Ok slot) new = (slot ≡ old.slots) × (new ≡ opened_side o
 AddsSlot old name (Err Failed) new = new ≡ record (with_fault old) { asked = old.asked ++ name ∷ [] }
 AddsSlot old name (Err NoMemory) new = new ≡ old
 
--- what a read or a write did to the counts: one fault more where it failed. It never has no memory
+-- what a read or a write did to the counts: one fault more where it failed. Want of memory never comes
 abbrev pub HasCounted : Side → Result ℕ DeskFault → Side → Type 0
 HasCounted old (Ok _) new = new ≡ old
 HasCounted old (Err Failed) new = new ≡ with_fault old

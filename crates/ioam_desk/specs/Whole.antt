@@ -1,5 +1,5 @@
 -- A file read whole, and octets written whole.
-use Rattle.std.specs.Prelude.{◌≡◌, ℕ, ◌<◌, ◌≤◌, ◌⊎◌, Bool, IsTrue, IsSomeAnd, List, [], ◌∷◌, ◌++◌, length, take, Option, Some, None, Result, Ok, Err}
+use Rattle.std.specs.Prelude.{◌≡◌, ℕ, ◌+◌, ◌<◌, ◌≤◌, ◌⊎◌, Bool, IsTrue, IsSomeAnd, List, [], ◌∷◌, ◌++◌, length, take, Option, Some, None, Result, Ok, Err}
 use Rattle.ioam_desk.specs.Desk.{Side, Reading, Writing, Rose, Fails, SameBut, opened_side, Grows}
 use Rattle.ioam_desk.specs.declared.fault.WholeFault.{WholeFault}
 use Rattle.ioam_desk.specs.declared.fault.WholeFault.TheVariants.{Failed, TooLong, NoMemory}
@@ -44,13 +44,19 @@ pub record ReadsWhole (tells : Bool) (old new : Reading) (held : Option (List �
 abbrev pub Asks : Side → Side → List ℕ → Type 0
 Asks old new name = new.asked ≡ old.asked ++ name ∷ []
 
+-- the slots that were there are as they were, and at most one is new
+pub record KeepsSlots (old new : Reading) : Type 0 where
+  pub left : SameBut old.side.slots old.left new.left
+  pub ended : SameBut old.side.slots old.ended new.ended
+  pub slots : (new.side.slots ≡ old.side.slots) ⊎ (new.side.slots ≡ old.side.slots + 1)
+
 -- why a name was not read whole
 abbrev pub FailsWhole : Bool → Reading → Reading → Option (List ℕ) → List ℕ → ℕ → WholeFault → Type 0
-FailsWhole tells old new held name limit Failed = Rose old.side.faults new.side.faults × Asks old.side new.side name
+FailsWhole tells old new held name limit Failed = Rose old.side.faults new.side.faults × Asks old.side new.side name × KeepsSlots old new
 FailsWhole tells old new held name limit (TooLong most) = (most ≡ limit) × (new.side ≡ opened_side old.side name)
-    × (IsTrue tells → IsSomeAnd held (λ octets. limit < length octets))
+    × (IsTrue tells → IsSomeAnd held (λ octets. limit < length octets)) × KeepsSlots old new
 FailsWhole tells old new held name limit NoMemory = (new.side.faults ≡ old.side.faults)
-    × ((new.side.asked ≡ old.side.asked) ⊎ Asks old.side new.side name)
+    × ((new.side.asked ≡ old.side.asked) ⊎ Asks old.side new.side name) × KeepsSlots old new
 
 -- how many of so many octets were written
 abbrev pub sent : ℕ → Result (Unit {0}) WriteAll → ℕ

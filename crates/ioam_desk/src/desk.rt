@@ -15,7 +15,8 @@ pub trait Desk {
 
     ghost writing: { Self → Writing };
 
-    /// Opens a new input slot over the octets that the name holds. A missing name is a fault.
+    /// Opens a new input slot over the octets that the name holds. A missing name is a fault. The
+    /// name is listed also where the answer is `Failed`.
     fn open_in(&mut self, name: &str) -> Result<u32, DeskFault>
         ensures opened { OpenIn tells (reading self.old) (holds (writing self.old) name.now) name.now result (reading self.new) }
         ensures outputs { writing self.new ≡ writing self.old };
@@ -28,7 +29,8 @@ pub trait Desk {
         ensures read { ReadInto tells (reading self.old) slot into.new result (reading self.new) }
         ensures outputs { writing self.new ≡ writing self.old };
 
-    /// Opens a new output slot, empty. From then on the name holds what is written there.
+    /// Opens a new output slot, empty. From then on the name holds what is written there. The name
+    /// is listed also where the answer is `Failed`.
     fn open_out(&mut self, name: &str) -> Result<u32, DeskFault>
         ensures opened { OpenOut tells (writing self.old) name.now result (writing self.new) }
         ensures inputs { reading self.new ≡ reading self.old };

@@ -17,7 +17,7 @@ impl Model for Name {
 }
 
 impl Name {
-    /// A copy of the text.
+    /// A copy of the text. `NoMemory`: none could be had for it.
     pub fn new(alloc: Global, text: &str) -> Result<Name, NoMemory>
         ensures { IfOk result (λ name. name ≡ text.now) }
     {

@@ -54,7 +54,7 @@ impl SureDesk {
         self.outputs.put_file(self.alloc, name, octets)
     }
 
-    /// The octets that a name holds. There always are some, if only none.
+    /// The octets that a name holds. Never None: a name that was never put holds no octets.
     pub fn file(&self, name: &str) -> Option<&[u8]>
         ensures { option_copied result ≡ holds (writing_of self.now) name.now }
     {

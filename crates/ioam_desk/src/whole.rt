@@ -9,9 +9,11 @@ use std::alloc::Global;
 /// How many octets a read asks for.
 pub const PIECE: usize = 65536;
 
-/// The octets of a file that holds no more than `limit`. The name is opened once, and nothing else is.
+/// The octets of a file that holds no more than `limit`. The name is opened once, and nothing else
+/// is; other input slots are as before.
 ///
-/// A file that holds more answers `TooLong`, and a fault of the desk `Failed`.
+/// A file that holds more answers `TooLong`, a fault of the desk `Failed`, and want of memory
+/// `NoMemory`. The buffer for reading is taken before anything is opened.
 pub fn read_whole<D: Desk>(
     alloc: Global,
     desk: &mut D,
@@ -23,12 +25,18 @@ pub fn read_whole<D: Desk>(
         (FailsWhole D.tells (D.reading desk.old) (D.reading desk.new) (holds (D.writing desk.old) name.now) name.now limit) }
     ensures outputs { D.writing desk.new ≡ D.writing desk.old }
 {
+    let Ok(mut piece) = Vec::with_capacity(alloc, PIECE) else {
+        return Err(WholeFault::NoMemory);
+    };
+    if piece.resize(PIECE, 0).is_err() {
+        return Err(WholeFault::NoMemory);
+    }
     let slot = match desk.open_in(name) {
         Ok(slot) => slot,
         Err(DeskFault::Failed) => return Err(WholeFault::Failed),
         Err(DeskFault::NoMemory) => return Err(WholeFault::NoMemory),
     };
-    read_slot(alloc, desk, slot, limit)
+    read_slot(alloc, desk, slot, &mut piece, limit)
 }
 
 /// The octets that are left of an input slot, if they are no more than `limit`.
@@ -36,23 +44,19 @@ fn read_slot<D: Desk>(
     alloc: Global,
     desk: &mut D,
     slot: u32,
+    piece: &mut [u8],
     limit: usize,
 ) -> Result<Vec<u8>, WholeFault>
-    requires { slot < (D.reading desk.old).side.slots }
+    requires input { slot < (D.reading desk.old).side.slots }
+    requires room { 0 < length piece.old }
     ensures inputs { MatchResult result
         (λ octets. ReadsRest D.tells (D.reading desk.old) (D.reading desk.new) slot limit octets.items)
         (FailsRest D.tells (D.reading desk.old) (D.reading desk.new) slot limit) }
     ensures outputs { D.writing desk.new ≡ D.writing desk.old }
 {
     let mut octets = Vec::new(alloc);
-    let Ok(mut piece) = Vec::with_capacity(alloc, PIECE) else {
-        return Err(WholeFault::NoMemory);
-    };
-    if piece.resize(PIECE, 0).is_err() {
-        return Err(WholeFault::NoMemory);
-    }
     'pieces: loop {
-        match read_piece(desk, slot, &mut piece, limit, &mut octets) {
+        match read_piece(desk, slot, piece, limit, &mut octets) {
             Ok(true) => {}
             Ok(false) => return Ok(octets),
             Err(fault) => return Err(fault),
@@ -93,7 +97,10 @@ fn read_piece<D: Desk>(
     }
 }
 
-/// Writes all octets to an output slot. An error says how many were written.
+/// Writes all octets to an output slot.
+///
+/// `Failed`: a write failed, and the desk's count of faults rose. Either error says how many of the
+/// octets were appended: the first ones.
 pub fn write_all<D: Desk>(desk: &mut D, slot: u32, octets: &[u8]) -> Result<(), WriteAll>
     requires { slot < (D.writing desk.old).side.slots }
     ensures sent { sent (length octets.now) result ≤ length octets.now }

@@ -2,10 +2,9 @@
 use Rattle.std.proofs.Common.{◌≡◌, ℕ, ◌+◌, ◌<◌, ◌⊎◌, Bool, IsTrue, List, [], ◌∷◌, ◌++◌, length, map, append-nil, refl, sym, ◌∙◌, ap, subst, inl, inr, ⊎_elim, arith}
 use Rattle.ioam_clock.specs.declared.sample.Sample.{Sample}
 use Rattle.ioam_desk.specs.Asked.{AsksFront}
-use Rattle.ioam_desk.specs.Desk.{Side, Reading, Writing, Rose}
+use Rattle.ioam_desk.specs.Desk.{Side, Reading, Writing, Rose, opened_each}
 use Rattle.ioam_merge.specs.Merging.{EndsKept}
 use Rattle.ioam_outputs.specs.Names.{AreApart}
-use Rattle.ioam_outputs.specs.Told.{opened_each}
 use Rattle.ioam_run.specs.Run.{IsDone, IsBehindAll}
 use Rattle.ioam_run.specs.declared.outcome.Outcome.{Outcome}
 use Rattle.ioam_run.specs.declared.outcome.Outcome.TheVariants as outcome

@@ -2,9 +2,9 @@
 use Rattle.std.proofs.Common.{◌≡◌, ℕ, suc, ◌+◌, ◌-◌, ◌<◌, ◌⊎◌, Bool, IsTrue, List, [], ◌∷◌, ◌++◌, length, refl, sym, ◌∙◌, ap, subst, inl, inr, take, append_assoc, length-append, arith}
 use Rattle.std.proofs.lemmas.Bool.{cases_lt}
 use Rattle.ioam_desk.specs.Asked.{AsksFront}
-use Rattle.ioam_desk.specs.Desk.{Side, Reading, Writing, Rose}
+use Rattle.ioam_desk.specs.Desk.{Side, Reading, Writing, Rose, opened_each}
+use Rattle.ioam_desk.specs.Unread.{Unread}
 use Rattle.ioam_outputs.specs.Names.{AreApart, name_at}
-use Rattle.ioam_outputs.specs.Told.{opened_each}
 use Rattle.ioam_merge.specs.Merging.{EndsKept, PartsArrive, start_of}
 use Rattle.ioam_pcap.specs.Merge.{Arrival}
 use Rattle.ioam_pcap.specs.declared.turns.Turn.TheVariants as turn
@@ -105,7 +105,7 @@ module _ (words : List (List ℕ)) (old_in mid_in : Reading) (opened : mid_in.si
         E r n = IsTrue (r.ended n)
 
         early : (n : ℕ) → n < mid_in.side.slots → E mid_in n → E new_in n
-        early n below was = subst (λ b. IsTrue b) (sym (kept n below)) was
+        early n below was = subst (λ b. IsTrue b) (sym (ap (λ (s : Unread). s.ended) (kept n below))) was
 
         drained : (k : ℕ) → k < 2 + length (contents old words domain) → E new_in (old_in.side.slots + k)
         drained k below = elim (cases_lt k 1) [

@@ -1,10 +1,9 @@
 //! `run DOMAIN READINGS WORKERS REPORT EXPORTS`.
 ghost use Rattle.std.specs.Prelude.{◌≡◌, ◌≢◌, ◌+◌, ◌<◌, ◌⊎◌, ◌∷◌, ◌++◌, [], List, ℕ, IsTrue, IfOk, IfErr, OnOk, length};
 ghost use Rattle.ioam_desk.specs.Asked.{AsksFront};
-ghost use Rattle.ioam_desk.specs.Desk.{Rose};
+ghost use Rattle.ioam_desk.specs.Desk.{Rose, opened_each};
 ghost use Rattle.ioam_merge.specs.Merging.{EndsKept};
 ghost use Rattle.ioam_outputs.specs.Names.{AreApart};
-ghost use Rattle.ioam_outputs.specs.Told.{opened_each};
 ghost use Rattle.ioam_run.specs.Run.{IsDone, IsBehindAll};
 ghost use Rattle.ioam_run.specs.declared.outcome.Outcome.{Outcome};
 ghost use Rattle.ioam_setting.specs.Setting.{IsSetting, Refuses};

@@ -1,7 +1,7 @@
 -- One capture read in pieces from a desk.
 use Rattle.std.specs.Prelude.{◌≡◌, ℕ, ◌<◌, ◌≤◌, Bool, true, false, IsTrue, List, [], ◌++◌, length, Option, Some, Result, Ok, Err}
 use Rattle.ioam_desk.specs.Desk as desk
-use Rattle.ioam_desk.specs.Desk.{Fails, FailsToOpen, SameBut, Gives}
+use Rattle.ioam_desk.specs.Desk.{Fails, SameBut, Gives}
 use Rattle.ioam_desk.specs.declared.fault.DeskFault.{DeskFault}
 use Rattle.ioam_desk.specs.declared.fault.DeskFault.TheVariants.{Failed, NoMemory}
 use Rattle.ioam_pcap.specs.Entries.{Entry}
@@ -63,8 +63,3 @@ Refills tells old slot most reader (Ok true) new now = FeedsPiece tells old slot
 Refills tells old slot most reader (Ok false) new now = FindsEnd tells old slot reader new now
 Refills tells old slot most reader (Err Failed) new now = FailsToRead tells old slot reader new now
 Refills tells old slot most reader (Err NoMemory) new now = LacksMemory tells old slot reader new now
-
--- why a capture could not be opened: the name was asked for in vain, or nothing changed
-abbrev pub FailsOpening : desk.Reading → List ℕ → DeskFault → desk.Reading → Type 0
-FailsOpening old name Failed new = FailsToOpen old.side new.side name × (new.left ≡ old.left) × (new.ended ≡ old.ended)
-FailsOpening old name NoMemory new = new ≡ old

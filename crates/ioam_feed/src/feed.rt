@@ -1,8 +1,8 @@
-ghost use Rattle.std.specs.Prelude.{◌≡◌, ◌+◌, ◌<◌, ◌^◌, [], length, IfErr, IfOk};
+ghost use Rattle.std.specs.Prelude.{◌≡◌, ◌+◌, ◌<◌, ◌^◌, [], length, Err, IfErr, IfOk};
 ghost use Rattle.ioam_desk.specs.Asked.{IsFaultOf};
-ghost use Rattle.ioam_desk.specs.Desk.{OpensInput, holds};
+ghost use Rattle.ioam_desk.specs.Desk.{OpenIn, OpensInput, holds};
 ghost use Rattle.ioam_pcap.specs.Reader.{fed, fresh};
-ghost use Rattle.ioam_feed.specs.Feed.{Fed, FailsOpening, Refills};
+ghost use Rattle.ioam_feed.specs.Feed.{Fed, Refills};
 
 use ioam_base::memory::NoMemory;
 use ioam_desk::{Desk, DeskFault};
@@ -26,7 +26,8 @@ pub fn open_feed<D: Desk>(alloc: Global, desk: &mut D, name: &str) -> Result<Fee
     ensures fresh { IfOk result (λ feed. feed.reader ≡ fresh) }
     ensures fed { IfOk result (λ feed. Fed D.tells (holds (D.writing desk.old) name.now) (D.reading desk.new)
         feed.slot feed.reader [] []) }
-    ensures fault { IfErr result (λ fault. FailsOpening (D.reading desk.old) name.now fault (D.reading desk.new)) }
+    ensures fault { IfErr result (λ fault. OpenIn D.tells (D.reading desk.old)
+        (holds (D.writing desk.old) name.now) name.now (Err fault) (D.reading desk.new)) }
     ensures cause { IfErr result (IsFaultOf (D.reading desk.old).side (D.reading desk.new).side) }
     ensures outputs { D.writing desk.new ≡ D.writing desk.old }
 {

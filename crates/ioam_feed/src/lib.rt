@@ -1,5 +1,5 @@
-//! Captures that are read in pieces from a desk: what was handed out and what the reader has given
-//! of it are told of one by one, and a fault of the desk leaves both as they were.
+//! Captures that are read in pieces from a desk. What was handed out and what the reader has given
+//! of it stay tied, and a fault of the desk leaves both as they were.
 #![tactic(auto)]
 
 mod feed;

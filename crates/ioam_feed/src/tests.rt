@@ -2,8 +2,7 @@ ghost use Rattle.std.specs.Prelude.{◌≤◌};
 
 use crate::feed::open_feed;
 use ioam_desk::{DeskFault, MemoryDesk};
-use ioam_pcap::CaptureReader;
-use ioam_pcap::capture::CapStep;
+use ioam_pcap::{CapStep, CaptureReader};
 use std::alloc::Global;
 use std::test::Fail;
 

@@ -19,7 +19,8 @@ kind_of value =
     else (if value == 41 then Nested
     else Upper))))
 
--- the octets of a header that says its own length, in units of 8 octets past the first 8
+-- the octets of a header that says its own length, in units of 8 octets past the first 8 (Hdr
+-- Ext Len)
 abbrev pub said_size : List ℕ → ℕ → ℕ
 said_size p at = (slice_index p (at + 1) + 1) * 8
 

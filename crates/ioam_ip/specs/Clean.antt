@@ -1,4 +1,4 @@
--- The packets that may leave a domain: IOAM data stays inside it (RFC 9197 section 3, RFC 9486 section 3).
+-- The packets that may leave a domain: IOAM data stays inside it (RFC 9197 section 3).
 use Rattle.std.specs.Prelude.{ℕ, List}
 use Rattle.ioam_ip.specs.Chain.{IsSound}
 use Rattle.ioam_ip.specs.ChainOptions.{CarriesIoam}

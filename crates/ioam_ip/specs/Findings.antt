@@ -3,9 +3,13 @@ use Rattle.std.specs.Prelude.{ℕ, List, Bool, Option, ◌==◌, ◌||◌, ◌&&
 use Rattle.std.specs.List.{find, list_any}
 use Rattle.ioam_ip.specs.Options.{Item}
 
--- an IOAM option has type 0x11 or 0x31 (RFC 9486 section 3)
+-- the types of IOAM options (RFC 9486 section 3)
+abbrev pub is_ioam_type : ℕ → Bool
+is_ioam_type kind = (kind == 0x11) || (kind == 0x31)
+
+-- an IOAM option
 abbrev pub is_ioam : Item → Bool
-is_ioam item = (item.kind == 0x11) || (item.kind == 0x31)
+is_ioam item = is_ioam_type item.kind
 
 abbrev pub has_ioam : List Item → Bool
 has_ioam os = list_any is_ioam os

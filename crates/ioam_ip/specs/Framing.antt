@@ -18,10 +18,14 @@ framed cut octets =
     else (if nat_lt (length octets) 40 || nat_lt (length octets) (whole_length octets) then TooShort
     else Holds (take (whole_length octets) octets)))
 
--- an Ethernet header has 14 octets; its last two are the Ethertype, 0x86DD for IPv6
+-- an Ethernet header has 14 octets; its last two are the Ethertype, 0x86DD for IPv6 (RFC 2464
+-- section 3)
 abbrev pub is_ethernet_ipv6 : List ℕ → Bool
 is_ethernet_ipv6 frame = nat_le 14 (length frame) && (u16_at frame 12 == 0x86DD)
 
+-- What a captured frame gives. The first of these reasons counts: no Ethernet header with the
+-- Ethertype of IPv6 where there should be one, or no version 6; fewer octets captured than the frame
+-- had; fewer octets than the header, or than it says.
 abbrev pub framing_of : Bool → Bool → List ℕ → Framing
 framing_of ethernet cut frame =
     if not ethernet then framed cut frame

@@ -27,6 +27,7 @@ abbrev pub heads_from : ℕ → List ℕ → Spot → List Head
 heads_from zero p spot = []
 heads_from (suc steps) p spot = if goes_on p spot then head_at p spot ∷ heads_from steps p (behind p spot) else []
 
+-- the headers that an iterator has left
 abbrev pub heads_left : Heads → List Head
 heads_left it = heads_from (length it.packet.now) it.packet.now it.spot
 

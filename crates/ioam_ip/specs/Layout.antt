@@ -1,5 +1,6 @@
 -- The octets of an options header that is laid out (RFC 8200 section 4.2, RFC 9486 section 3).
-use Rattle.std.specs.Prelude.{◌≡◌, ℕ, zero, suc, ◌+◌, ◌-◌, ◌*◌, ◌/◌, ◌%◌, List, [], ◌∷◌, ◌++◌, Bool, ◌==◌, ◌||◌, if◌then◌else◌, length, replicate, slice_index, slice_set}
+use Rattle.std.specs.Prelude.{◌≡◌, ℕ, zero, suc, ◌+◌, ◌-◌, ◌*◌, ◌/◌, ◌%◌, List, [], ◌∷◌, ◌++◌, if◌then◌else◌, length, replicate, slice_index, slice_set}
+use Rattle.ioam_ip.specs.Findings.{is_ioam_type}
 use Rattle.ioam_ip.specs.Options.{Item, AreOptions}
 
 -- padding of so many octets: Pad1 for one, and PadN with zeros for more
@@ -8,13 +9,10 @@ padding zero = []
 padding (suc zero) = 0 ∷ []
 padding (suc (suc n)) = 1 ∷ n ∷ replicate n 0
 
--- an IOAM option stands at a multiple of 4 octets; the others stand anywhere
-abbrev pub is_aligned : ℕ → Bool
-is_aligned kind = (kind == 0x11) || (kind == 0x31)
-
--- the octets of padding between so many octets of a header and an option of this type
+-- The octets of padding between so many octets of a header and an option of this type: an IOAM
+-- option stands at a multiple of 4 octets, the others stand anywhere.
 abbrev pub gap_before : ℕ → ℕ → ℕ
-gap_before size kind = if is_aligned kind then (4 - size % 4) % 4 else 0
+gap_before size kind = if is_ioam_type kind then (4 - size % 4) % 4 else 0
 
 -- the header so far, with an option behind it
 abbrev pub with_option : List ℕ → ℕ → List ℕ → List ℕ

@@ -15,6 +15,7 @@ options_from (suc steps) head at =
     else options_from steps head (option_end head at))
     else []
 
+-- the options that an iterator has left
 abbrev pub options_left : Options → List Item
 options_left it = options_from (length it.head.now) it.head.now it.at
 

@@ -11,6 +11,7 @@ pub record IsFoundIn (os : List Item) (found : Found) : Type 0 where
   pub ioam : found.ioam ≡ has_ioam os
   pub limit : found.limit ≡ first_limit os
 
+-- what a look through a header told: its options fill it, and what they have; or the first misfit
 abbrev pub Scans : List ℕ → Scan → Type 0
 Scans head (Fills found) = (os : List Item) × AreOptions head os × IsFoundIn os found
 Scans head (Unfit at) = UnfitAt head at × (IsFilled head → ⊥)

@@ -9,6 +9,7 @@ use Rattle.ioam_ip.specs.declared.chain.Spot.{Spot}
 use Rattle.ioam_ip.specs.declared.steps.Step.{Step}
 use Rattle.ioam_ip.specs.declared.steps.Step.TheVariants.{On, Ends, Breaks}
 
+-- what stands at a spot: a header behind which the chain goes on, its end, or a break
 abbrev pub Steps : List ℕ → Spot → Step → Type 0
 Steps p spot (On next found) =
     CanPass p spot × (next ≡ behind p spot) × ((os : List Item) × HeadOptions p (head_at p spot) os × IsFoundIn os found)

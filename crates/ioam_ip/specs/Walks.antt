@@ -12,6 +12,7 @@ pub record IsWhole (p : List ℕ) (ioam : Bool) (upper at : ℕ) (limit : Option
   pub carries : IsTrue ioam ↔ CarriesIoam p
   pub first : LimitOf p limit
 
+-- what a walk answered: what it found along a sound packet, or the first break
 abbrev pub Tells : List ℕ → Walk → Type 0
 Tells p (Whole ioam upper at limit) = IsWhole p ioam upper at limit
 Tells p (Bad at) = BadAt p at × (IsSound p → ⊥)

@@ -1,7 +1,8 @@
 //! The kinds of header on the chain of a packet, and the spots at which they stand.
-ghost use Rattle.std.specs.Prelude.{◌≡◌};
-ghost use Rattle.ioam_ip.specs.Chain.{kind_of};
+ghost use Rattle.std.specs.Prelude.{◌≡◌, ◌≤◌, length};
+ghost use Rattle.ioam_ip.specs.Chain.{kind_of, start};
 
+use crate::packet::HEADER_OCTETS;
 use std::ops::Range;
 
 /// The kinds of header that a next header value names (RFC 8200 section 4).
@@ -35,16 +36,35 @@ pub(crate) struct Spot {
     pub(crate) behind_ip: bool,
 }
 
+/// The values of headers that more than [`kind_of`] asks for.
+pub(crate) const HOP_BY_HOP: u8 = 0;
+
+pub(crate) const NESTED: u8 = 41;
+
+pub(crate) const DESTINATION: u8 = 60;
+
+/// The spot behind the first IPv6 header of a packet.
+pub(crate) fn start(packet: &[u8]) -> Spot
+    requires { 40 ≤ length packet.now }
+    ensures { result ≡ start packet.now }
+{
+    Spot {
+        value: packet[6],
+        at: HEADER_OCTETS,
+        behind_ip: true,
+    }
+}
+
 /// The kind of header that a value names.
 pub(crate) fn kind_of(value: u8) -> Kind
     ensures { result ≡ kind_of value }
 {
     match value {
-        0 => Kind::HopByHop,
-        60 => Kind::Destination,
+        HOP_BY_HOP => Kind::HopByHop,
+        DESTINATION => Kind::Destination,
         43 => Kind::Routing,
         44 => Kind::Fragment,
-        41 => Kind::Nested,
+        NESTED => Kind::Nested,
         _ => Kind::Upper,
     }
 }

@@ -6,8 +6,9 @@ ghost use Rattle.ioam_ip.specs.Header.{HasFields, FieldsFit, header_octets};
 use crate::packet::{HEADER_OCTETS, Header};
 use ioam_base::octets::{put_at, u16_at, u32_at};
 
-/// The first of the fields of the header of these octets, if they are one IPv6 packet: at least 40
-/// octets, version 6, and as many octets as the payload length says besides these 40.
+/// The fields of the IPv6 header of these octets (RFC 8200 section 3). None exactly where they
+/// aren't one packet: fewer than 40 octets, another version than 6, or more or fewer octets than 40
+/// and the Payload Length.
 pub fn header(octets: &[u8]) -> Option<Header>
     ensures packet { IsSome result ↔ IsPacket octets.now }
     ensures fields { IfSome result (HasFields octets.now) }

@@ -1,6 +1,6 @@
 //! Where headers end, and what they name as the next.
 ghost use Rattle.std.specs.Prelude.{◌≡◌, ◌+◌, ◌<◌, ◌≤◌, length, MatchOption};
-ghost use Rattle.ioam_ip.specs.Chain.{said_size, size_by, next_by};
+ghost use Rattle.ioam_ip.specs.Chain.{said_size, size_by, next_by, fragment_offset};
 ghost use Rattle.ioam_ip.specs.HeadsLeft.{goes_on_by};
 
 use crate::chain::Kind;
@@ -61,6 +61,14 @@ pub(crate) fn next_value(packet: &[u8], at: usize, kind: Kind) -> u8
     }
 }
 
+// The offset of a whole Fragment header, in units of 8 octets.
+pub(crate) fn fragment_offset(packet: &[u8], at: usize) -> u16
+    requires { at + 8 ≤ length packet.now }
+    ensures { result ≡ fragment_offset packet.now at }
+{
+    u16_at(packet, at + 2) / 8
+}
+
 // Whether the chain of a sound packet goes on behind a whole header.
 pub(crate) fn goes_on(packet: &[u8], at: usize, kind: Kind) -> bool
     requires { at + size_by packet.now at kind ≤ length packet.now }
@@ -68,7 +76,7 @@ pub(crate) fn goes_on(packet: &[u8], at: usize, kind: Kind) -> bool
 {
     match kind {
         Kind::HopByHop | Kind::Destination | Kind::Routing | Kind::Nested => true,
-        Kind::Fragment => u16_at(packet, at + 2) / 8 == 0,
+        Kind::Fragment => fragment_offset(packet, at) == 0,
         Kind::Upper => false,
     }
 }

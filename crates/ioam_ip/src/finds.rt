@@ -5,9 +5,8 @@ ghost use Rattle.ioam_ip.specs.Chain.{IsSound};
 ghost use Rattle.ioam_ip.specs.ChainOptions.{HeadFits, IsFilledRange};
 ghost use Rattle.ioam_ip.specs.HeadsLeft.{AreHeads, heads_left, HopHeaderOf, TargetHeaderOf};
 
-use crate::chain::Spot;
+use crate::chain::{DESTINATION, HOP_BY_HOP, NESTED, start};
 use crate::headers::Heads;
-use crate::packet::HEADER_OCTETS;
 use std::ops::Range;
 
 /// The headers on the chain of a packet whose walk is whole, in order, nested ones included,
@@ -18,12 +17,10 @@ pub fn heads(packet: &[u8]) -> Heads<'_>
     ensures heads { AreHeads packet.now (heads_left result) }
     ensures fit { All (HeadFits packet.now) (heads_left result) }
 {
-    let spot = Spot {
-        value: packet[6],
-        at: HEADER_OCTETS,
-        behind_ip: true,
-    };
-    Heads { packet, spot }
+    Heads {
+        packet,
+        spot: start(packet),
+    }
 }
 
 /// Where the Hop-by-Hop Options header directly behind the outer IPv6 header stands, for a packet
@@ -38,7 +35,7 @@ pub fn hop_header(packet: &[u8]) -> Option<Range<usize>>
     let Some(first) = along.next() else {
         return None;
     };
-    if first.value != 0 {
+    if first.value != HOP_BY_HOP {
         return None;
     }
     Some(first.range)
@@ -53,10 +50,10 @@ pub fn target_header(packet: &[u8]) -> Option<Range<usize>>
     ensures filled { IfSome result (IsFilledRange packet.now) }
 {
     for head in heads(packet) {
-        if head.value == 41 {
+        if head.value == NESTED {
             return None;
         }
-        if head.value == 60 {
+        if head.value == DESTINATION {
             return Some(head.range);
         }
     }

@@ -4,12 +4,13 @@ ghost use Rattle.ioam_ip.specs.Framing.{framing_of, framed, is_ethernet_ipv6, If
 ghost use Rattle.ioam_ip.specs.Framed.{framing};
 ghost use Rattle.ioam_ip.specs.Packet.{IsPacket};
 
+use crate::packet::HEADER_OCTETS;
 use ioam_base::octets::u16_at;
 
-/// The octets of an Ethernet header; its last two are the Ethertype.
+/// The octets of an Ethernet header; its last two are the Ethertype (RFC 2464 section 3).
 const ETHERNET_OCTETS: usize = 14;
 
-/// The Ethertype of IPv6.
+/// The Ethertype of IPv6 (RFC 2464 section 3).
 const ETHERTYPE_IPV6: u16 = 0x86DD;
 
 /// What a frame gives.
@@ -61,10 +62,10 @@ fn packet_in(cut: bool, octets: &[u8]) -> Framed<'_>
     if cut {
         return Framed::Cut;
     }
-    if octets.len() < 40 {
+    if octets.len() < HEADER_OCTETS {
         return Framed::Length;
     }
-    let whole = 40 + u16_at(octets, 4) as usize;
+    let whole = HEADER_OCTETS + u16_at(octets, 4) as usize;
     if octets.len() < whole {
         return Framed::Length;
     }

@@ -1,8 +1,10 @@
 //! An options header that is laid out option by option (RFC 8200 section 4.2).
 ghost use Rattle.std.specs.Prelude.{◌≡◌, ◌↔◌, ◌+◌, ◌*◌, ◌%◌, ◌<◌, ◌≤◌, List, [], ◌∷◌, ◌++◌, length, take, slice_index, is_ok, if◌then◌else◌, OnOk, OnErr, IfOk, IsTrue};
-ghost use Rattle.ioam_ip.specs.Layout.{padding, gap_before, with_option, padded, finished, placed, is_aligned, AddsOption, KeepsOptions, IsSized};
+ghost use Rattle.ioam_ip.specs.Findings.{is_ioam_type};
+ghost use Rattle.ioam_ip.specs.Layout.{padding, gap_before, with_option, padded, finished, placed, AddsOption, KeepsOptions, IsSized};
 ghost use Rattle.ioam_ip.specs.Options.{Item, AreOptions};
 
+use crate::scan::is_ioam_type;
 use ioam_base::memory::NoMemory;
 use ioam_base::text::append;
 use std::alloc::Global;
@@ -38,7 +40,8 @@ impl Model for Layout {
 }
 
 impl Layout {
-    /// A header without options. `next` is the value that names what follows it.
+    /// A header without options. `next` is the value that names what follows it. `NoMemory`: none
+    /// could be had for it.
     pub fn new(alloc: Global, next: u8) -> Result<Layout, NoMemory>
         ensures octets { IfOk result (λ laid. laid ≡ next ∷ 0 ∷ []) }
         ensures options { IfOk result (λ laid. AreOptions laid []) }
@@ -59,7 +62,7 @@ impl Layout {
         ensures full { (result ≡ Err LayoutFault.Full) ↔ (2048 < padded (length (with_option self.old kind body.now))) }
         ensures octets { OnOk result (self.new ≡ with_option self.old kind body.now) }
         ensures options { OnOk result (AddsOption self.old self.new (placed self.old kind body.now)) }
-        ensures aligned { IsTrue (is_aligned kind) → (placed self.old kind body.now).at % 4 ≡ 0 }
+        ensures aligned { IsTrue (is_ioam_type kind) → (placed self.old kind body.now).at % 4 ≡ 0 }
         ensures err { OnErr result (self.new ≡ self.old) }
     {
         let size = self.octets.len();
@@ -76,7 +79,8 @@ impl Layout {
         }
     }
 
-    /// The whole header, padded to a multiple of 8 octets, with its length octet.
+    /// The whole header, padded to a multiple of 8 octets, with its Hdr Ext Len, which counts units
+    /// of 8 octets past the first 8 (RFC 8200 section 4.3). The layout is given up on either answer.
     pub fn finish(self) -> Result<Vec<u8>, NoMemory>
         ensures octets { IfOk result (λ head. head.items ≡ finished self) }
         ensures options { IfOk result (λ head. KeepsOptions self head.items) }
@@ -96,7 +100,7 @@ impl Layout {
 fn gap_before(size: usize, kind: u8) -> usize
     ensures { result ≡ gap_before size kind }
 {
-    if kind == 0x11 || kind == 0x31 {
+    if is_ioam_type(kind) {
         (4 - size % 4) % 4
     } else {
         0

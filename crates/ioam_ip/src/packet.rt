@@ -7,19 +7,19 @@ pub const HEADER_OCTETS: usize = 40;
 /// What an IPv6 header says besides its version, which is 6.
 #[derive(Clone, Copy, Debug, PartialEq, Eq)]
 pub struct Header {
-    /// The traffic class.
+    /// Traffic Class.
     pub class: u8,
-    /// The flow label, below 2^20.
+    /// Flow Label, below 2^20.
     pub label: u32,
-    /// The octets that follow the 40 octets of the header.
+    /// Payload Length: the octets behind the 40 of the header, extension headers included.
     pub payload: u16,
-    /// The value that names what follows the header.
+    /// Next Header, which names what follows.
     pub next: u8,
-    /// The hop limit.
+    /// Hop Limit.
     pub hops: u8,
-    /// The source address, its first octet the most significant.
+    /// Source Address, its first octet the most significant.
     pub source: u128,
-    /// The target address, its first octet the most significant.
+    /// Destination Address, its first octet the most significant.
     pub target: u128,
     pub ghost label_fits: { label < 2 ^ 20 },
 }

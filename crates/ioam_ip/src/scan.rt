@@ -1,7 +1,7 @@
 //! One look through an options header: do its options fill it, and what stands in it.
 ghost use Rattle.std.specs.Prelude.{◌≡◌, ◌+◌, ◌<◌, ◌≤◌, ◌∷◌, [], ◌||◌, length, MatchOption};
 ghost use Rattle.ioam_ip.specs.Options.{OptionFits, option_end, item_at};
-ghost use Rattle.ioam_ip.specs.Findings.{is_ioam, first_limit};
+ghost use Rattle.ioam_ip.specs.Findings.{is_ioam, is_ioam_type, first_limit};
 ghost use Rattle.std.specs.Option.{option_or};
 ghost use Rattle.ioam_ip.specs.Scan.{Scans};
 
@@ -76,10 +76,17 @@ impl Found {
         ensures limit { result.limit ≡ option_or self.limit (first_limit (item_at head.now at ∷ [])) }
     {
         let kind = head[at];
-        let ioam = self.ioam || kind == IOAM || kind == IOAM_CHANGING;
+        let ioam = self.ioam || is_ioam_type(kind);
         let limit = self.limit.or(limit_at(head, at));
         Found { ioam, limit }
     }
+}
+
+// Whether options of this type are IOAM options.
+pub(crate) fn is_ioam_type(kind: u8) -> bool
+    ensures { result ≡ is_ioam_type kind }
+{
+    kind == IOAM || kind == IOAM_CHANGING
 }
 
 // The encapsulation limit that the option at a place is, if it is one.

@@ -1,12 +1,11 @@
 //! One step along the chain of a packet (RFC 8200 section 4).
-ghost use Rattle.std.specs.Prelude.{◌≡◌, ◌+◌, ◌<◌, ◌≤◌, length, slice_index, false, MatchOption};
+ghost use Rattle.std.specs.Prelude.{◌≡◌, ◌⊎◌, IsTrue, ◌+◌, ◌<◌, ◌≤◌, length, slice_index, false, MatchOption};
 ghost use Rattle.ioam_ip.specs.Chain.{kind_of, said_size};
 ghost use Rattle.ioam_ip.specs.Steps.{Steps, OptionsAt};
 
 use crate::chain::{Kind, Spot, kind_of};
-use crate::extents::said_end;
+use crate::extents::{fragment_offset, said_end};
 use crate::scan::{Found, Scan, look_through};
-use ioam_base::octets::u16_at;
 
 /// What stands at a spot.
 #[derive(Clone, Copy)]
@@ -32,7 +31,7 @@ pub(crate) fn step_at(packet: &[u8], spot: Spot) -> Step
 {
     match kind_of(spot.value) {
         Kind::HopByHop => at_hop_by_hop(packet, spot),
-        Kind::Destination => at_destination(packet, spot),
+        Kind::Destination => on_options(packet, spot),
         Kind::Routing => at_routing(packet, spot),
         Kind::Fragment => at_fragment(packet, spot),
         Kind::Nested => at_nested(packet, spot),
@@ -63,17 +62,12 @@ fn at_hop_by_hop(packet: &[u8], spot: Spot) -> Step
     if !spot.behind_ip {
         return Step::Breaks;
     }
-    match options_at(packet, spot.at) {
-        Some((end, found)) => Step::On {
-            next: behind(packet, spot.at, end),
-            found,
-        },
-        None => Step::Breaks,
-    }
+    on_options(packet, spot)
 }
 
-fn at_destination(packet: &[u8], spot: Spot) -> Step
-    requires kind { kind_of spot.value ≡ Kind.Destination }
+// The step where nothing but whole options that fill their header is asked for.
+fn on_options(packet: &[u8], spot: Spot) -> Step
+    requires kind { (kind_of spot.value ≡ Kind.Destination) ⊎ ((kind_of spot.value ≡ Kind.HopByHop) × IsTrue spot.behind_ip) }
     requires within { spot.at ≤ length packet.now }
     ensures { Steps packet.now spot result }
 {
@@ -108,7 +102,7 @@ fn at_fragment(packet: &[u8], spot: Spot) -> Step
     if packet.len() - spot.at < 8 {
         return Step::Breaks;
     }
-    if u16_at(packet, spot.at + 2) / 8 != 0 {
+    if fragment_offset(packet, spot.at) != 0 {
         return Step::Ends;
     }
     Step::On {

@@ -5,8 +5,7 @@ ghost use Rattle.ioam_ip.specs.Packet.{IsPacket};
 ghost use Rattle.ioam_ip.specs.Chain.{IsSound};
 ghost use Rattle.ioam_ip.specs.Walks.{Tells, is_whole};
 
-use crate::chain::Spot;
-use crate::packet::HEADER_OCTETS;
+use crate::chain::{DESTINATION, NESTED, start};
 use crate::scan::Found;
 use crate::steps::{Step, step_at};
 use crate::walked::Walk;
@@ -29,9 +28,9 @@ impl Passed {
             (if (value == 60) && not self.inside then option_or self.limit found.limit else self.limit) }
     {
         Passed {
-            inside: self.inside || value == 41,
+            inside: self.inside || value == NESTED,
             ioam: self.ioam || found.ioam,
-            limit: if value == 60 && !self.inside {
+            limit: if value == DESTINATION && !self.inside {
                 self.limit.or(found.limit)
             } else {
                 self.limit
@@ -47,11 +46,7 @@ pub fn walk(packet: &[u8]) -> Walk
     ensures whole { IsTrue (is_whole result) ↔ IsSound packet.now }
     ensures tells { Tells packet.now result }
 {
-    let mut spot = Spot {
-        value: packet[6],
-        at: HEADER_OCTETS,
-        behind_ip: true,
-    };
+    let mut spot = start(packet);
     let mut passed = Passed {
         inside: false,
         ioam: false,

@@ -23,7 +23,7 @@ use Rattle.ioam_pcap.specs.declared.turns.Due.TheVariants.{More}
 use Rattle.ioam_pcap.proofs.ReadsLaws.{ends_front}
 use Rattle.ioam_pcap.proofs.StandsLaws.{ends_by_fault}
 use Rattle.ioam_pcap.proofs.StreamsLaws.{ShowsSo-total, Reached-begins}
-use Rattle.ioam_merge.specs.Capture.{HasHead, Lane, LaneOn, IsDue, ShowsDue}
+use Rattle.ioam_merge.specs.Capture.{HasReadHead, Lane, LaneOn, IsDue, ShowsDue}
 use Rattle.ioam_merge.specs.declared.capture.Capture.{Capture}
 
 -- of the records that a reader has not yet given, its octets show something
@@ -43,7 +43,7 @@ moved_fed old new (step.Bad at fault) moved = ap fed moved.0
 
 -- where the head is due, a step takes it
 module _ (octets : List ℕ) (given : List Entry) (old new : Reading) (due : IsHeadDue octets old) where
-  pub head_taken : (s : CapStep) → Told octets given old new s → (link : Link) × (s ≡ step.Head link) × HasHead new octets given (Some link)
+  pub head_taken : (s : CapStep) → Told octets given old new s → (link : Link) × (s ≡ step.Head link) × HasReadHead new octets given (Some link)
   head_taken (step.Head link) told =
       (link, refl, (told.1.1, λ none. let wrong : None ≡ Some link = sym (ap link_by none) ∙ told.1.0 in absurd (cc), sym told.1.0))
   head_taken (step.Packet p) told =
@@ -63,7 +63,7 @@ module _ (octets : List ℕ) (given : List Entry) (old new : Reading) (due : IsH
       let Q : Option Form → Type 0 = λ f. Shows octets f old.start (shown_by (step.Bad at fault)) in
       absurd (ends_front octets due.1.1.0 (Faulty 0 fault) due.1.1.1 (ends_by_fault octets None 0 fault (subst Q none told.0)))
 
-  pub head_given : (link : Link) → Told octets given old new (step.Head link) → HasHead new octets given (Some link)
+  pub head_given : (link : Link) → Told octets given old new (step.Head link) → HasReadHead new octets given (Some link)
   head_given link told = (told.1.1, λ none. let wrong : None ≡ Some link = sym (ap link_by none) ∙ told.1.0 in absurd (cc), sym told.1.0)
 
   pub head_other : (s : CapStep) → Told octets given old new s → ((link : Link) → s ≡ step.Head link → ⊥) → ⊥

@@ -5,6 +5,7 @@ use Rattle.std.specs.List.{AllZip}
 use Rattle.std.proofs.lemmas.List.{append-nil}
 use Rattle.std.proofs.lemmas.Option.{none-some, same_Some}
 use Rattle.ioam_desk.specs.Desk as desk
+use Rattle.ioam_desk.specs.Unread.{Unread}
 use Rattle.ioam_pcap.specs.Arrives.{Handed, HandsOn, IsStream, Arrives}
 use Rattle.ioam_pcap.specs.Entries.{Entry}
 use Rattle.ioam_pcap.specs.Merge.{Stream, due_by, due_of, turn, Arrival, of_capture, rest_by, rest, without_first, Takes, IsNext}
@@ -19,7 +20,7 @@ use Rattle.ioam_pcap.specs.declared.turns.Turn.TheVariants.{Next, Over, Broken, 
 use Rattle.ioam_pcap.proofs.ArrivesLaws.{Arrives-total, Arrives-known, Takes-streams, Takes-handed}
 use Rattle.ioam_pcap.proofs.TurnLaws.{turn_says}
 use Rattle.ioam_merge.specs.Capture.{Lane, IsDue, MovesOne}
-use Rattle.ioam_merge.specs.Merging.{Begins, IsFile, FilesArrive, FilesBegin, AreParts, PartsArrive, Start, Row, IsRow, Rows}
+use Rattle.ioam_merge.specs.Merging.{Begins, IsFile, FilesArrive, FilesBegin, AreParts, PartsArrive, Start, Row, IsRow, Rows, slot_of}
 use Rattle.ioam_merge.specs.declared.capture.Capture.{Capture}
 use Rattle.ioam_merge.proofs.ListLaws.{get-map, get-set, map-set_same, zip-set}
 
@@ -48,7 +49,7 @@ Arrives-on olds news taken last on arrives known =
 
 -- where it isn't known what is due of a capture, the turn isn't
 turn_unshown : (dues : List Due) (k : ℕ) (t : Turn) → slice_get dues k ≡ Some More → IsTurn dues t → t ≡ Unshown
-turn_unshown dues k (Next place time) is says = absurd (says.1 k More is)
+turn_unshown dues k (Next place time) is says = absurd (says.0 k More is)
 turn_unshown dues k Over is says = let wrong : ◌≡◌ {A = Due} More End = says k More is in absurd (cc)
 turn_unshown dues k (Broken place at fault) is says = absurd (says.1 k More is)
 turn_unshown dues k Unshown is says = refl
@@ -113,6 +114,12 @@ dues_same (row ∷ rows) (s ∷ ss) size same =
     let first = same 0 row s refl refl in
     let others = dues_same rows ss (omega (arith, size)) (λ k r t. same (suc k) r t) in
     cc
+
+-- a slot of which as much is left, and which has ended or not as before, is as it was
+pub same_slot : (old new : desk.Reading) (k : ℕ) → new.left k ≡ old.left k → new.ended k ≡ old.ended k → slot_of new k ≡ slot_of old k
+same_slot old new k left ended =
+    let slot : List ℕ → Bool → Unread = λ xs end. record { left = xs; ended = end } in
+    ap (λ xs. slot xs (new.ended k)) left ∙ ap (slot (old.left k)) ended
 
 -- a lane that nothing happened to
 module _ (tells : Bool) (old new : desk.Reading) (slot other : ℕ) (moves : MovesOne slot old new) (slots : old.side.slots ≤ new.side.slots) (apart : other ≡ slot → ⊥) where

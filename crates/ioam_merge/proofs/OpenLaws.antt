@@ -1,22 +1,22 @@
 -- Captures that are opened one behind the other, of which nothing was taken.
 use Rattle.std.proofs.Common.{◌≡◌, ℕ, zero, suc, ◌+◌, ◌<◌, ◌≤◌, ◌⊎◌, Bool, false, List, [], ◌∷◌, ◌++◌, length, Option, Some, None, arith, refl, sym, ap, ◌∙◌, subst, inl, inr, length-append, take, get_or, append-nil, append_assoc}
-use Rattle.std.specs.Prelude.{map, slice_get}
+use Rattle.std.specs.Prelude.{map, slice_get, Err}
 use Rattle.std.proofs.lemmas.List.{take_more}
 use Rattle.std.proofs.lemmas.Option.{none-some, same_Some}
 use Rattle.ioam_desk.specs.Desk as desk
 use Rattle.ioam_desk.specs.Asked.{AsksFront}
-use Rattle.ioam_desk.specs.Desk.{Side, Writing, OpensInput, holds, opened_side}
+use Rattle.ioam_desk.specs.Desk.{Side, Writing, OpensInput, OpenIn, holds, opened_side, opened_each}
 use Rattle.ioam_desk.specs.declared.fault.DeskFault.{DeskFault}
 use Rattle.ioam_desk.specs.declared.fault.DeskFault.TheVariants.{Failed, NoMemory}
-use Rattle.ioam_feed.specs.Feed.{Fed, FailsOpening}
+use Rattle.ioam_feed.specs.Feed.{Fed}
 use Rattle.ioam_pcap.specs.Arrives.{Handed}
 use Rattle.ioam_pcap.specs.Reader.{fresh, link_of}
 use Rattle.ioam_pcap.specs.declared.turns.Due.TheVariants.{More}
 use Rattle.ioam_pcap.proofs.ArrivesLaws.{Arrives-total}
-use Rattle.ioam_merge.specs.Merging.{Begins, EndsKept, Start, Row, IsRow, Merging, with_content, start_of, opened_each}
+use Rattle.ioam_merge.specs.Merging.{Begins, EndsKept, Start, Row, IsRow, Merging, with_content, start_of, slot_of}
 use Rattle.ioam_merge.specs.declared.capture.Capture.{Capture}
 use Rattle.ioam_merge.specs.declared.merge.Merge.{Merge}
-use Rattle.ioam_merge.proofs.MergingLaws.{Lane-other, map_length}
+use Rattle.ioam_merge.proofs.MergingLaws.{Lane-other, map_length, same_slot}
 
 -- of any captures nothing is taken first
 pub Begins-none : (captures : List Handed) → Begins captures []
@@ -149,11 +149,14 @@ asks_more start asked later names i name inside is was (suc n, here) = (
 -- an opening leaves the slots before it as they were
 pub opening_kept : (tells : Bool) (old new : desk.Reading) (held : Option (List ℕ)) (name : List ℕ) (slot : ℕ) → OpensInput tells old new held name slot
     → EndsKept old.side.slots old new
-opening_kept tells old new held name slot opens = λ k below. opens.other_ended k (λ at. omega (arith, at, below, opens.number))
+opening_kept tells old new held name slot opens = λ k below.
+    let other : k ≡ slot → ⊥ = λ at. omega (arith, at, below, opens.number) in
+    same_slot old new k (opens.other_left k other) (opens.other_ended k other)
 
-pub failing_kept : (old new : desk.Reading) (name : List ℕ) (fault : DeskFault) → FailsOpening old name fault new → EndsKept old.side.slots old new
-failing_kept old new name Failed fails = λ k below. ap (λ f. f k) fails.2
-failing_kept old new name NoMemory fails = λ k below. ap (λ (r : desk.Reading). r.ended k) fails
+pub failing_kept : (tells : Bool) (old new : desk.Reading) (held : Option (List ℕ)) (name : List ℕ) (fault : DeskFault) → OpenIn tells old held name (Err fault) new
+    → EndsKept old.side.slots old new
+failing_kept tells old new held name Failed fails = λ k below. same_slot old new k (ap (λ f. f k) fails.1) (ap (λ f. f k) fails.2)
+failing_kept tells old new held name NoMemory fails = λ k below. ap (λ (r : desk.Reading). slot_of r k) fails
 
 pub kept_on : (base : ℕ) (a b c : desk.Reading) → base ≤ b.side.slots → EndsKept base a b → EndsKept b.side.slots b c → EndsKept base a c
 kept_on base a b c inside first second = λ k below. second k (omega (arith, below, inside)) ∙ first k below

@@ -17,13 +17,13 @@ use Rattle.ioam_pcap.specs.declared.turns.Due.{Due}
 use Rattle.ioam_pcap.specs.declared.turns.Due.TheVariants.{Record, End, More, Bad}
 use Rattle.ioam_pcap.specs.declared.turns.Turn.{Turn}
 use Rattle.ioam_pcap.specs.declared.turns.Turn.TheVariants.{Next, Over, Broken, Unshown}
-use Rattle.ioam_pcap.proofs.TurnLaws.{turn_says}
+use Rattle.ioam_pcap.proofs.TurnLaws.{next_due, turn_says}
 use Rattle.ioam_merge.specs.Capture.{Lane, LaneOn, IsDue, ShowsDue, MovesOne}
 use Rattle.ioam_merge.specs.Merging.{Start, Row, IsRow, Rows, Merging, AreKnown, Stops, Turns, Comes, EndsKept}
 use Rattle.ioam_merge.specs.declared.capture.Capture.{Capture}
 use Rattle.ioam_merge.specs.declared.merge.Merge.{Merge}
 use Rattle.ioam_merge.proofs.ListLaws.{get-inside, get-map, get-set, get-set_here, map-set, map-set_same}
-use Rattle.ioam_merge.proofs.MergingLaws.{Rows-set, Rows-unshown, Rows-turn, Rows-begin, Rows-arrive, Rows-parts, Rows-ended, map_length, within}
+use Rattle.ioam_merge.proofs.MergingLaws.{same_slot, Rows-set, Rows-unshown, Rows-turn, Rows-begin, Rows-arrive, Rows-parts, Rows-ended, map_length, within}
 
 below_other : (k place : ℕ) → k < place + 1 → (k ≡ place → ⊥) → k < place
 below_other zero zero below other = absurd (other refl)
@@ -65,7 +65,8 @@ module _ (tells : Bool) (start : Start) (taken : List Arrival) (old new : desk.R
       → EndsKept start.base old new
   Merging-kept place before there moves = λ k below.
       let (row, is, same) = row_there place before there in
-      moves.1 k (λ at. omega (arith, at, below, (merging.are_rows.each place row is).0.number, ap (λ (c : Capture). c.feed.slot) same))
+      let other : k ≡ before.feed.slot → ⊥ = λ at. omega (arith, at, below, (merging.are_rows.each place row is).0.number, ap (λ (c : Capture). c.feed.slot) same) in
+      same_slot old new k (moves.0 k other) (moves.1 k other)
 
   -- its slot is open
   pub Merging-open : (place : ℕ) (before : Capture) → slice_get merge.captures.items place ≡ Some before → before.feed.slot < old.side.slots
@@ -173,10 +174,10 @@ module _ (tells : Bool) (start : Start) (taken : List Arrival) (new : desk.Readi
       → Comes tells start new later taken place time
   Turns-next later place time is captures dues room =
       let next = turn_is (Next place time) is in
-      let says : IsTurn merge.dues.items (Next place time) = subst (IsTurn merge.dues.items) is (turn_says merge.dues.items) in
+      let here : slice_get merge.dues.items place ≡ Some (Record time) = next_due merge.dues.items place time is in
       let (row, at) = get-inside merging.rows place (omega (
         arith,
-        within merge.dues.items place (Record time) says.0,
+        within merge.dues.items place (Record time) here,
         ap length merging.dues,
         map_length (λ (r : Row). r.due) merging.rows,
       )) in
@@ -201,7 +202,7 @@ module _ (tells : Bool) (start : Start) (taken : List Arrival) (new : desk.Readi
           are_rows = are;
         };
         next = next;
-        again = subst (λ ds. slice_get ds place ≡ Some More) (sym dues) (get-set_here merge.dues.items place (Record time) More says.0);
+        again = subst (λ ds. slice_get ds place ≡ Some More) (sym dues) (get-set_here merge.dues.items place (Record time) More here);
         headed = λ capture there.
             let P : List Capture → Type 0 = λ cs. slice_get cs place ≡ Some capture in
             let D : List Due → Type 0 = λ ds. slice_get ds place ≡ Some (Record time) in
@@ -209,7 +210,7 @@ module _ (tells : Bool) (start : Start) (taken : List Arrival) (new : desk.Readi
             let same : row.capture ≡ capture =
             same_Some row.capture capture (sym (get-map (λ (r : Row). r.capture) merging.rows place row at) ∙ subst P (captures ∙ merging.captures) there) in
             let due : row.due ≡ Record time =
-            same_Some row.due (Record time) (sym (get-map (λ (r : Row). r.due) merging.rows place row at) ∙ subst D merging.dues says.0) in
+            same_Some row.due (Record time) (sym (get-map (λ (r : Row). r.due) merging.rows place row at) ∙ subst D merging.dues here) in
             subst (Q (Record time)) same (subst (λ d. Q d row.capture) due (merging.are_rows.each place row at).2);
       }
     where

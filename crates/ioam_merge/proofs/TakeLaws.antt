@@ -19,7 +19,7 @@ use Rattle.ioam_pcap.specs.declared.turns.Due.TheVariants.{Record, More}
 use Rattle.ioam_pcap.proofs.MergeLaws.{Takes-push, Next-first, Next-due, of_capture-push_same, of_capture-push_other}
 use Rattle.ioam_pcap.proofs.StreamsLaws.{Streams-take, Streams-link, due-packet}
 use Rattle.ioam_merge.specs.Capture.{Lane}
-use Rattle.ioam_merge.specs.Merging.{Start, Row, IsRow, Rows, Merging, Comes, GivesRecord}
+use Rattle.ioam_merge.specs.Merging.{Start, Row, IsRow, Rows, Merging, Comes}
 use Rattle.ioam_merge.specs.declared.capture.Capture.{Capture}
 use Rattle.ioam_merge.specs.declared.merge.Merge.{Merge}
 use Rattle.ioam_merge.proofs.ListLaws.{get-map, get-set, map-set, map-set_same}
@@ -72,6 +72,11 @@ Comes-packet tells start taken inputs merge place time comes capture there new s
 linked_by : (octets : List ℕ) (form : Option Form) (at : ℕ) (entry : Entry) → EntryAt octets form at entry → (l : Link) × (link_by form ≡ Some l)
 linked_by octets None at entry here = absurd here
 linked_by octets (Some form) at entry here = (form.link, refl)
+
+-- a reader gave this record, the next of its capture
+abbrev pub GivesRecord : Reading → Entry → Reading → Type 0
+GivesRecord before entry after = (octets : List ℕ) (given : List Entry) → Stands before octets given
+    → EntryAt octets before.form before.start entry × Stands after octets (given ++ entry ∷ [])
 
 module _ (tells : Bool) (start : Start) (taken : List Arrival) (inputs : desk.Reading) (merge : Merge) (place time : ℕ) (comes : Comes tells start inputs merge taken place time) (capture after : Capture) (there : slice_get merge.captures.items place ≡ Some capture) (entry : Entry) (gives : GivesRecord capture.feed.reader entry after.feed.reader) (slots : after.feed.slot ≡ capture.feed.slot) (ends : after.ended ≡ capture.ended) (links : after.link ≡ capture.link) (linked : link_of after.feed.reader ≡ link_of capture.feed.reader) where
   abbrev rows : List Row

@@ -17,8 +17,8 @@ use Rattle.ioam_pcap.specs.declared.turns.Due.TheVariants.{More}
 use Rattle.ioam_merge.specs.declared.capture.Capture.{Capture}
 
 -- a reader has read its capture's head, for this link, and given these records
-abbrev pub HasHead : Reading → List ℕ → List Entry → Option Link → Type 0
-HasHead reader octets given link = Stands reader octets given × (reader.form ≡ None → ⊥) × (link ≡ link_of reader)
+abbrev pub HasReadHead : Reading → List ℕ → List Entry → Option Link → Type 0
+HasReadHead reader octets given link = Stands reader octets given × (reader.form ≡ None → ⊥) × (link ≡ link_of reader)
 
 -- So much of what a name holds was handed out, by the slot with this number, and these records were
 -- taken of it. The capture has ended exactly where the slot has, and then nothing is left.

@@ -4,6 +4,7 @@ use Rattle.std.specs.Prelude.{◌≡◌, ℕ, ◌+◌, ◌<◌, ⊤, Bool, true,
 use Rattle.std.specs.List.{AllZip}
 use Rattle.ioam_desk.specs.Desk as desk
 use Rattle.ioam_desk.specs.Desk.{Side, Writing, holds}
+use Rattle.ioam_desk.specs.Unread.{Unread}
 use Rattle.ioam_desk.specs.declared.fault.DeskFault.{DeskFault}
 use Rattle.ioam_desk.specs.declared.fault.DeskFault.TheVariants.{Failed, NoMemory}
 use Rattle.ioam_pcap.specs.Arrives.{Handed, IsStream, Arrives}
@@ -72,10 +73,6 @@ with_content start content = record start { contents = start.contents ++ content
 abbrev pub start_of : ℕ → Writing → List (List ℕ) → Start
 start_of base outputs names = record { contents = map (holds outputs) names; base = base }
 
--- opening calls took these names and made as many slots
-abbrev pub opened_each : Side → List (List ℕ) → Side
-opened_each side names = record side { asked = side.asked ++ names; slots = side.slots + length names }
-
 -- one of the captures: what its name holds, itself, what is due of it as far as that is known, and
 -- as much of it as was handed out
 pub record Row : Type 0 where
@@ -122,11 +119,6 @@ abbrev pub IsComing : Merge → ℕ → Type 0
 IsComing merge place = (tells : Bool) × (start : Start) × (inputs : desk.Reading) × (taken : List Arrival) × (time : ℕ)
     × Comes tells start inputs merge taken place time
 
--- a reader gave this record, the next of its capture
-abbrev pub GivesRecord : Reading → Entry → Reading → Type 0
-GivesRecord before entry after = (octets : List ℕ) (given : List Entry) → Stands before octets given
-    → EntryAt octets before.form before.start entry × Stands after octets (given ++ entry ∷ [])
-
 -- what is due of the first captures is known
 abbrev pub AreKnown : ℕ → Merge → Type 0
 AreKnown count merge = (k : ℕ) (due : Due) → k < count → slice_get merge.dues.items k ≡ Some due → due ≡ More → ⊥
@@ -142,9 +134,13 @@ abbrev pub LeavesFewer : DeskFault → ℕ → ℕ → Type 0
 LeavesFewer Failed slots most = slots < most
 LeavesFewer NoMemory slots most = ⊤
 
--- the slots below a number have ended where they had
+-- an input slot as it stands
+abbrev pub slot_of : desk.Reading → ℕ → Unread
+slot_of inputs k = record { left = inputs.left k; ended = inputs.ended k }
+
+-- the slots below a number are as they were: what is left of them, and whether they have ended
 abbrev pub EndsKept : ℕ → desk.Reading → desk.Reading → Type 0
-EndsKept base old new = (k : ℕ) → k < base → new.ended k ≡ old.ended k
+EndsKept base old new = (k : ℕ) → k < base → slot_of new k ≡ slot_of old k
 
 -- every slot has ended
 abbrev pub HaveEnded : Start → desk.Reading → Type 0

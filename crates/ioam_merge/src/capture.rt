@@ -6,7 +6,7 @@ ghost use Rattle.ioam_pcap.specs.Entries.{Entry};
 ghost use Rattle.ioam_pcap.specs.Merge.{Stream, due_of};
 ghost use Rattle.ioam_pcap.specs.Reader.{Stands, IsHeadDue, IsHeaded, fed, link_of};
 ghost use Rattle.ioam_pcap.specs.Streams.{Streams};
-ghost use Rattle.ioam_merge.specs.Capture.{HasHead, ShowsDue, MovesOne};
+ghost use Rattle.ioam_merge.specs.Capture.{HasReadHead, ShowsDue, MovesOne};
 
 use ioam_desk::{Desk, DeskFault, PIECE};
 use ioam_feed::Feed;
@@ -30,7 +30,7 @@ impl Capture {
     // Takes the head of the capture, where that is due.
     fn take_head(&mut self)
         ensures head { (octets : List ℕ) (given : List Entry) → Stands self.old.feed.reader octets given → IsHeadDue octets self.old.feed.reader
-            → HasHead self.new.feed.reader octets given self.new.link }
+            → HasReadHead self.new.feed.reader octets given self.new.link }
         ensures fed { fed self.new.feed.reader ≡ fed self.old.feed.reader }
         ensures slot { self.new.feed.slot ≡ self.old.feed.slot }
         ensures ended { self.new.ended ≡ self.old.ended }
@@ -84,12 +84,12 @@ impl Capture {
         self.feed.refill(desk, piece)
     }
 
-    /// Reads pieces of the capture until it is known what is due of it: its next record, its end or
-    /// its fault.
-    ///
-    /// `Failed`: a read failed, and the desk's count of faults rose; the capture is as before, but
-    /// that more of it may have been handed out. After `NoMemory` a piece of it may be lost.
-    pub fn show<D: Desk>(&mut self, desk: &mut D, piece: &mut [u8]) -> Result<Due, DeskFault>
+    // Reads pieces of the capture, of 65,536 octets at most, until it is known what is due of it:
+    // its next record, its end or its fault.
+    //
+    // `Failed`: a read failed, and the desk's count of faults rose; the capture is as before, but
+    // that more of it may have been handed out. After `NoMemory` a piece of it may be lost.
+    pub(crate) fn show<D: Desk>(&mut self, desk: &mut D, piece: &mut [u8]) -> Result<Due, DeskFault>
         requires open { self.old.feed.slot < (D.reading desk.old).side.slots }
         requires room { length piece.old ≡ PIECE }
         ensures shown { ShowsDue D.tells (D.reading desk.old) self.old result (D.reading desk.new) self.new }

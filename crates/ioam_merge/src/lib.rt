@@ -1,5 +1,5 @@
-//! Several captures that are read in pieces from a desk and merged by time: what was taken of them
-//! is told of by the octets that were handed out, and by the whole files where these are known.
+//! Several captures that are read in pieces from a desk and merged by time. What was taken is what
+//! the octets handed out so far, and so the whole files, give.
 #![tactic(auto)]
 
 mod capture;

@@ -119,8 +119,8 @@ impl Merge {
     /// its next record, its end or its fault. After `Next` the capture has to be asked again: its
     /// record is taken by its reader's `next`.
     ///
-    /// `Failed`: a read failed, and the desk's count of faults rose. After `NoMemory` octets of a
-    /// capture may be lost.
+    /// `Failed`: a read failed, and the desk's count of faults rose. `NoMemory`: octets of a capture
+    /// may be lost. After either the merge can't be asked again. `Unshown` is never the answer.
     pub fn turn<D: Desk>(&mut self, desk: &mut D) -> Result<Turn, DeskFault>
         requires { IsMerging D.tells (D.reading desk.old) self.old }
         ensures turns { (start : Start) (taken : List Arrival) → Merging D.tells start (D.reading desk.old) self.old taken

@@ -1,8 +1,8 @@
 //! Opening of several captures.
 ghost use Rattle.std.specs.Prelude.{◌≡◌, ◌+◌, ◌∷◌, [], IfErr, IfOk, OnOk, length, vec_len};
 ghost use Rattle.ioam_desk.specs.Asked.{AsksFront, IsFaultOf};
-ghost use Rattle.ioam_desk.specs.Desk.{holds, opened_side};
-ghost use Rattle.ioam_merge.specs.Merging.{Start, Merging, LeavesFewer, EndsKept, start_of, opened_each, with_content};
+ghost use Rattle.ioam_desk.specs.Desk.{holds, opened_side, opened_each};
+ghost use Rattle.ioam_merge.specs.Merging.{Start, Merging, LeavesFewer, EndsKept, start_of, with_content};
 
 use crate::merge::Merge;
 use ioam_base::memory::NoMemory;

@@ -1,5 +1,5 @@
 -- One output after another is written.
-use Rattle.std.proofs.Common.{◌≡◌, ℕ, ◌+◌, ◌<◌, ◌≤◌, Bool, List, [], ◌∷◌, ◌++◌, length, take, All, get_or, set, refl, sym, arith}
+use Rattle.std.proofs.Common.{◌≡◌, ◌≢◌, ℕ, ◌+◌, ◌<◌, ◌≤◌, Bool, List, [], ◌∷◌, ◌++◌, length, take, All, get_or, set, refl, sym, ◌∙◌, arith}
 use Rattle.std.proofs.lemmas.List.{take_more_set, take_all}
 use Rattle.std.proofs.lemmas.List.Elements.{All-set, All-push, All-same, All-weaker}
 use Rattle.ioam_desk.specs.Desk.{Writing}
@@ -22,6 +22,21 @@ module _ (tells : Bool) (old new : Writing) (outputs : List Output) (i : ℕ) (d
       All-set (λ (output : Output). output.slot < new.side.slots) outputs i after (omega (arith, here, moves.slot, moves.slots))
       (All-weaker (λ (output : Output). output.slot < old.side.slots) (λ (output : Output). output.slot < new.side.slots)
       (λ output open_before. omega (arith, open_before, moves.slots)) outputs are_open)
+
+-- a slot of no output is still one of none, and holds what it held
+abbrev pub KeepsOthers : Writing → Writing → List Output → List Output → Type 0
+KeepsOthers old new before after = (k : ℕ) → All (λ (output : Output). output.slot ≢ k) before
+    → All (λ (output : Output). output.slot ≢ k) after × (new.written k ≡ old.written k)
+
+pub others_more : (tells : Bool) (start old new : Writing) (first outputs : List Output) (i : ℕ) (d after : Output)
+    → i < length outputs → Moves tells old new (get_or outputs i d) after
+    → KeepsOthers start old first outputs → KeepsOthers start new first (set outputs i after)
+others_more tells start old new first outputs i d after inside moves keeps = λ k none.
+    let (still, same) = keeps k none in
+    let here : (get_or outputs i d).slot ≢ k = still i d inside in (
+      All-set (λ (output : Output). output.slot ≢ k) outputs i after (λ at. here (sym moves.slot ∙ at)) still,
+      moves.other_written k (λ at. here (sym at)) ∙ same,
+    )
 
 -- the outputs so far have too little
 pub few_more : (least : ℕ) (outputs : List Output) (i : ℕ) (after : Output) → i < length outputs → length after.gathered.items < least

@@ -1,5 +1,5 @@
 -- What a writing of gathered octets changes.
-use Rattle.std.specs.Prelude.{◌≡◌, ℕ, Bool, IsTrue, List, ◌++◌}
+use Rattle.std.specs.Prelude.{◌≡◌, ◌≢◌, ℕ, Bool, IsTrue, List, ◌++◌, All}
 use Rattle.ioam_desk.specs.Desk.{Writing, SameBut}
 use Rattle.ioam_outputs.specs.declared.output.Output.{Output}
 use Rattle.ioam_outputs.specs.Told.{AreTold}
@@ -16,3 +16,8 @@ pub record Moves (tells : Bool) (old new : Writing) (before after : Output) : Ty
 abbrev pub KeepsTold : Bool → Writing → Writing → List Output → List Output → Type 0
 KeepsTold tells old new before after = (slot : ℕ) (names texts : List (List ℕ))
     → AreTold tells old slot names before texts → AreTold tells new slot names after texts
+
+-- no name was tied anew, and what was written to the slots of no output is as it was
+pub record WritesTheirs (old new : Writing) (outputs : List Output) : Type 0 where
+  pub files : new.files ≡ old.files
+  pub written : (k : ℕ) → All (λ output. output.slot ≢ k) outputs → new.written k ≡ old.written k

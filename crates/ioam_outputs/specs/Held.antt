@@ -1,21 +1,16 @@
 -- What files hold of their texts, while and after they are written.
 use Rattle.std.specs.Prelude.{◌≡◌, ℕ, ◌+◌, ◌<◌, ⊤, IsSomeAnd, List, [], ◌∷◌, Some}
+use Rattle.std.specs.List.{AllZip}
 use Rattle.ioam_base.specs.Octets.{IsFront}
 use Rattle.ioam_desk.specs.Desk.{Writing, holds}
 
 -- each of these files holds its text
 abbrev pub HoldTexts : Writing → List (List ℕ) → List (List ℕ) → Type 0
-HoldTexts desk [] [] = ⊤
-HoldTexts desk [] (text ∷ texts) = ⊥
-HoldTexts desk (name ∷ names) [] = ⊥
-HoldTexts desk (name ∷ names) (text ∷ texts) = (holds desk name ≡ Some text) × HoldTexts desk names texts
+HoldTexts desk names texts = AllZip (λ name text. holds desk name ≡ Some text) names texts
 
 -- each of these files holds a front of its text
 abbrev pub HoldAllFronts : Writing → List (List ℕ) → List (List ℕ) → Type 0
-HoldAllFronts desk [] [] = ⊤
-HoldAllFronts desk [] (text ∷ texts) = ⊥
-HoldAllFronts desk (name ∷ names) [] = ⊥
-HoldAllFronts desk (name ∷ names) (text ∷ texts) = IsSomeAnd (holds desk name) (λ part. IsFront part text) × HoldAllFronts desk names texts
+HoldAllFronts desk names texts = AllZip (λ name text. IsSomeAnd (holds desk name) (λ part. IsFront part text)) names texts
 
 -- the file was the k-th that was opened since, or wasn't opened; where it was it holds a front of the text
 abbrev pub HoldsFront : Writing → Writing → ℕ → List ℕ → List ℕ → Type 0

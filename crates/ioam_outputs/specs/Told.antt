@@ -1,6 +1,6 @@
 -- What was said to outputs: what was written to their slots, and behind it what is gathered for them
 -- and not yet written. Gathering adds to it, and writing leaves it as it is.
-use Rattle.std.specs.Prelude.{◌≡◌, ℕ, ◌+◌, ◌<◌, ⊤, Bool, IsTrue, List, [], ◌∷◌, ◌++◌, length, map, All, Some}
+use Rattle.std.specs.Prelude.{◌≡◌, ℕ, ◌+◌, ◌<◌, ⊤, Bool, IsTrue, List, [], ◌∷◌, ◌++◌, length, map, All, Contains, Some}
 use Rattle.ioam_desk.specs.Desk.{Side, Writing, Written}
 use Rattle.ioam_outputs.specs.declared.output.Output.{Output}
 
@@ -38,6 +38,7 @@ AreOpen desk outputs = All (λ output. output.slot < desk.side.slots) outputs
 abbrev pub unsaid : List (List ℕ) → List (List ℕ)
 unsaid names = map (λ _. []) names
 
--- opening calls took these names and made as many slots
-abbrev pub opened_each : Side → List (List ℕ) → Side
-opened_each side names = record side { asked = side.asked ++ names; slots = side.slots + length names }
+-- no names but these were tied, and the slots that were there hold what they held
+pub record TiesAlone (old new : Writing) (names : List (List ℕ)) : Type 0 where
+  pub files : (name : List ℕ) → (Contains names name → ⊥) → new.files name ≡ old.files name
+  pub written : (k : ℕ) → k < old.side.slots → new.written k ≡ old.written k

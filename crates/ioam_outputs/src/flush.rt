@@ -1,7 +1,7 @@
 //! Writing of gathered octets.
 ghost use Rattle.std.specs.Prelude.{◌≡◌, ◌≤◌, ◌<◌, ◌+◌, [], ℕ, List, All, IsTrue, IfErr, OnOk, drop, length, vec_len};
 ghost use Rattle.ioam_desk.specs.Asked.{IsFaultOf};
-ghost use Rattle.ioam_outputs.specs.Flush.{Moves, KeepsTold};
+ghost use Rattle.ioam_outputs.specs.Flush.{Moves, KeepsTold, WritesTheirs};
 ghost use Rattle.ioam_outputs.specs.Held.{HoldTexts, HoldAllFronts};
 ghost use Rattle.ioam_outputs.specs.Told.{AreTold, AreOpen};
 
@@ -65,6 +65,7 @@ fn flush_each<D: Desk>(desk: &mut D, outputs: &mut [Output], least: usize) -> Re
     ensures asked { (D.writing desk.new).side.asked ≡ (D.writing desk.old).side.asked }
     ensures slots { (D.writing desk.new).side.slots ≡ (D.writing desk.old).side.slots }
     ensures open { AreOpen (D.writing desk.new) outputs.new }
+    ensures others { WritesTheirs (D.writing desk.old) (D.writing desk.new) outputs.old }
     ensures cause { IfErr result (IsFaultOf (D.writing desk.old).side (D.writing desk.new).side) }
     ensures inputs { D.reading desk.new ≡ D.reading desk.old }
 {
@@ -93,6 +94,7 @@ pub fn flush_full<D: Desk>(desk: &mut D, outputs: &mut [Output]) -> Result<(), D
     ensures asked { (D.writing desk.new).side.asked ≡ (D.writing desk.old).side.asked }
     ensures slots { (D.writing desk.new).side.slots ≡ (D.writing desk.old).side.slots }
     ensures open { AreOpen (D.writing desk.new) outputs.new }
+    ensures others { WritesTheirs (D.writing desk.old) (D.writing desk.new) outputs.old }
     ensures inputs { D.reading desk.new ≡ D.reading desk.old }
 {
     flush_each(desk, outputs, GATHER)
@@ -115,6 +117,7 @@ pub fn finish<D: Desk>(desk: &mut D, outputs: &mut [Output]) -> Result<(), DeskF
     ensures asked { (D.writing desk.new).side.asked ≡ (D.writing desk.old).side.asked }
     ensures slots { (D.writing desk.new).side.slots ≡ (D.writing desk.old).side.slots }
     ensures open { AreOpen (D.writing desk.new) outputs.new }
+    ensures others { WritesTheirs (D.writing desk.old) (D.writing desk.new) outputs.old }
     ensures inputs { D.reading desk.new ≡ D.reading desk.old }
 {
     flush_each(desk, outputs, 1)

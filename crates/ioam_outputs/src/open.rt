@@ -1,9 +1,10 @@
 //! Opening of many outputs.
 ghost use Rattle.std.specs.Prelude.{◌≡◌, ◌+◌, ℕ, List, IsTrue, IfErr, IfOk, OnOk, length};
 ghost use Rattle.ioam_desk.specs.Asked.{AsksFront, IsFaultOf};
+ghost use Rattle.ioam_desk.specs.Desk.{opened_each};
 ghost use Rattle.ioam_outputs.specs.Held.{HoldFronts};
 ghost use Rattle.ioam_outputs.specs.Names.{AreApart};
-ghost use Rattle.ioam_outputs.specs.Told.{AreOpen, AreTold, opened_each, unsaid};
+ghost use Rattle.ioam_outputs.specs.Told.{AreOpen, AreTold, TiesAlone, unsaid};
 
 use crate::output::Output;
 use ioam_desk::{Desk, DeskFault, Name};
@@ -12,21 +13,21 @@ use std::alloc::Global;
 /// Opens an output for each of these names, in their order. Nothing is said to them yet.
 ///
 /// No two of the names are equal, as `first_repeat` tells. Where a name can't be opened (`Failed`),
-/// or no memory can be had, the names behind it are not opened, and those before it stay open and empty.
+/// or no memory can be had, the names behind it are not opened, and those before it stay open and empty. Other names hold what they held.
 pub fn open_outputs<D: Desk>(
     alloc: Global,
     desk: &mut D,
     names: &[Name],
 ) -> Result<Vec<Output>, DeskFault>
     requires { AreApart names.now }
-    ensures opened { IfOk result (λ outputs. AreTold D.tells (D.writing desk.new) (D.writing desk.old).side.slots names.now outputs.items (unsaid names.now)
-        × ((D.writing desk.new).side.slots ≡ (D.writing desk.old).side.slots + length names.now)) }
+    ensures opened { IfOk result (λ outputs. AreTold D.tells (D.writing desk.new) (D.writing desk.old).side.slots names.now outputs.items (unsaid names.now)) }
     ensures open { IfOk result (λ outputs. AreOpen (D.writing desk.new) outputs.items) }
     ensures side { OnOk result ((D.writing desk.new).side ≡ opened_each (D.writing desk.old).side names.now) }
     ensures asked { AsksFront (D.writing desk.old).side.asked (D.writing desk.new).side.asked names.now }
     ensures fault { IfErr result (λ fault. IsFaultOf (D.writing desk.old).side (D.writing desk.new).side fault
         × (IsTrue D.tells → (texts : List (List ℕ)) → length texts ≡ length names.now
         → HoldFronts (D.writing desk.old) (D.writing desk.new) 0 names.now texts)) }
+    ensures others { IsTrue D.tells → TiesAlone (D.writing desk.old) (D.writing desk.new) names.now }
     ensures inputs { D.reading desk.new ≡ D.reading desk.old }
 {
     let Ok(mut outputs) = Vec::with_capacity(alloc, names.len()) else {

@@ -1,7 +1,7 @@
 -- Laws of what is taken of several captures, by the octets that were handed out.
 use Rattle.std.proofs.Common.{◌≡◌, ℕ, zero, suc, Bool, true, false, List, [], ◌∷◌, ◌++◌, Option, Some, None, arith, refl, sym, ◌∙◌, subst, inl, inr}
 use Rattle.std.specs.Prelude.{map, slice_get}
-use Rattle.std.specs.List.{AllZip}
+use Rattle.std.specs.List.{All, AllZip}
 use Rattle.std.proofs.lemmas.Bool.{false≢true}
 use Rattle.std.proofs.lemmas.Option.{none-some, same_Some}
 use Rattle.ioam_pcap.specs.declared.form.Link.{Link}
@@ -11,12 +11,16 @@ use Rattle.ioam_pcap.specs.declared.turns.Turn.TheVariants.{Next, Over, Broken, 
 use Rattle.ioam_pcap.specs.Entries.{Entry}
 use Rattle.ioam_pcap.specs.Reads.{Ending, Whole, Faulty}
 use Rattle.ioam_pcap.specs.Turn.{IsTurn}
-use Rattle.ioam_pcap.specs.Merge.{Stream, due_by, due_of, turn, Arrival, rest_by, rest, without_first, Takes, TakesAll, of_capture, Continues, ContinueAll}
+use Rattle.ioam_pcap.specs.Merge.{Stream, due_by, due_of, turn, Arrival, rest_by, rest, without_first, Takes, TakesAll, of_capture}
 use Rattle.ioam_pcap.specs.Streams.{known_ending, ShowsSo, Streams}
-use Rattle.ioam_pcap.specs.Arrives.{Handed, IsStream, Arrives, HandsOn, AreEnded}
+use Rattle.ioam_pcap.specs.Arrives.{Handed, IsStream, Arrives, HandsOn}
 use Rattle.ioam_pcap.proofs.TurnLaws.{turn_says}
-use Rattle.ioam_pcap.proofs.MergeLaws.{TakesAll-total, TakesAll-unique, Takes-later, Takes-front, Takes-of, turn-later}
+use Rattle.ioam_pcap.proofs.MergeLaws.{Continues, ContinueAll, TakesAll-total, TakesAll-unique, Takes-later, Takes-front, Takes-of, turn-later}
 use Rattle.ioam_pcap.proofs.StreamsLaws.{ShowsSo-unique, ShowsSo-total, Streams-later}
+
+-- each of the captures has ended
+abbrev pub AreEnded : List Handed → Type 0
+AreEnded captures = All (λ capture. capture.ended ≡ true) captures
 
 -- of any captures some records are taken
 streams_total : (captures : List Handed) → (streams : List Stream) × AllZip IsStream captures streams

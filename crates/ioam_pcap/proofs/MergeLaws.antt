@@ -1,6 +1,7 @@
 -- Laws of captures that are merged by time.
 use Rattle.std.proofs.Common.{◌≡◌, ℕ, zero, suc, ◌+◌, ◌≤◌, ◌⊎◌, List, [], ◌∷◌, ◌++◌, length, drop, Option, Some, None, arith, refl, sym, ap, ◌∙◌, subst, inl, inr}
 use Rattle.std.specs.Prelude.{Bool, true, false, ◌==◌, map, slice_get, if◌then◌else◌}
+use Rattle.std.specs.List.{AllZip}
 use Rattle.std.proofs.lemmas.Bool.{cases_eq, eq-eqb, ne_eqb}
 use Rattle.std.proofs.lemmas.Option.{none-some, same_Some}
 use Rattle.ioam_base.proofs.LeadsLaws.{Leads-append, Leads-push, Leads-unique}
@@ -11,8 +12,18 @@ use Rattle.ioam_pcap.specs.declared.turns.Turn.TheVariants.{Next, Over, Broken, 
 use Rattle.ioam_pcap.specs.Entries.{Entry}
 use Rattle.ioam_pcap.specs.Reads.{Ending, Whole, Faulty}
 use Rattle.ioam_pcap.specs.Turn.{ahead, turn_from, turn_of, IsTurn}
-use Rattle.ioam_pcap.specs.Merge.{Stream, due_by, due_of, turn, Arrival, stream_at, first_of, taken_at, of_capture, without_first, IsNext, CanTake, arrival_by, arrival, rest_by, rest, Takes, TakesAll, Continues, ContinueAll}
-use Rattle.ioam_pcap.proofs.TurnLaws.{turn_says, record_time}
+use Rattle.ioam_pcap.specs.Merge.{Stream, due_by, due_of, turn, Arrival, stream_at, first_of, taken_at, of_capture, without_first, IsNext, CanTake, arrival_by, arrival, rest_by, rest, Takes, TakesAll}
+use Rattle.ioam_pcap.proofs.TurnLaws.{next_due, turn_says, record_time}
+
+-- The second is what the first capture shows later. Where it wasn't known how it ends, there may be
+-- more records; and its head may have become whole, where there was no record.
+abbrev pub Continues : Stream → Stream → Type 0
+Continues old new = ((old.ending ≡ None) × (((old.link ≡ None) × (old.entries ≡ [])) ⊎ (new.link ≡ old.link))
+    × ((more : List Entry) × (new.entries ≡ old.entries ++ more))) ⊎ (new ≡ old)
+
+-- and so each of several captures
+abbrev pub ContinueAll : List Stream → List Stream → Type 0
+ContinueAll olds news = AllZip Continues olds news
 
 -- a record comes next, or not
 take_cases : (t : Turn) → ((place : ℕ) × (time : ℕ) × (t ≡ Next place time)) ⊎ (IsNext t → ⊥)
@@ -23,7 +34,7 @@ take_cases Unshown = inr (λ next. next)
 
 -- it is due of the capture at its place
 due_next : (streams : List Stream) (place time : ℕ) → turn streams ≡ Next place time → slice_get (map due_of streams) place ≡ Some (Record time)
-due_next streams place time next = (subst (IsTurn (map due_of streams)) next (turn_says (map due_of streams))).0
+due_next streams place time next = next_due (map due_of streams) place time next
 
 -- what is due as a record is the first one
 pub due_first : (entries : List Entry) (ending : Option Ending) (time : ℕ) → due_by entries ending ≡ Record time

@@ -18,10 +18,10 @@ use Rattle.ioam_pcap.specs.Entries.{Entry, IsWhole, entry_at, behind, Entries}
 use Rattle.ioam_pcap.specs.Reads.{Reached, FaultAt, CutAt, EntryAt, Ending, Whole, Faulty, EndsAt, Reads, link_by}
 use Rattle.ioam_pcap.specs.Reading.{Reading}
 use Rattle.ioam_pcap.specs.Reader.{Stands, Told, link_of}
-use Rattle.ioam_pcap.specs.Merge.{Stream, due_of, due_by, first_of, Continues}
+use Rattle.ioam_pcap.specs.Merge.{Stream, due_of, due_by, first_of}
 use Rattle.ioam_pcap.specs.Streams.{known_ending, ShowsSo, Streams}
 use Rattle.ioam_pcap.proofs.BehindLaws.{Reached-behind, FaultAt-behind}
-use Rattle.ioam_pcap.proofs.MergeLaws.{due_first}
+use Rattle.ioam_pcap.proofs.MergeLaws.{Continues, due_first}
 use Rattle.ioam_pcap.proofs.ReadsLaws.{Reads-unique, Reads-total, head_unique, ends_front, ends_no_record}
 use Rattle.ioam_pcap.proofs.StandsLaws.{ends_by_fault}
 

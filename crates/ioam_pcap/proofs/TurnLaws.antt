@@ -1,6 +1,6 @@
 -- The turn of several captures is what its words say.
-use Rattle.std.proofs.Common.{◌≡◌, ℕ, zero, suc, ◌+◌, ◌<◌, ◌≤◌, false, List, [], ◌∷◌, Some, arith, refl, sym, ap, subst, inl, inr}
-use Rattle.std.specs.Prelude.{if◌then◌else◌, slice_get, nat_lt}
+use Rattle.std.proofs.Common.{◌≡◌, ℕ, zero, suc, ◌+◌, ◌<◌, ◌≤◌, false, List, [], ◌∷◌, length, Option, Some, None, arith, refl, sym, ap, subst, inl, inr}
+use Rattle.std.specs.Prelude.{if◌then◌else◌, map, slice_get, nat_lt}
 use Rattle.std.proofs.lemmas.Bool.{cases_lt, ltb-true, lt-ltb, false_from_ne_true}
 use Rattle.std.proofs.lemmas.Option.{none-some, same_Some}
 use Rattle.ioam_pcap.specs.declared.capture.CapFault.{CapFault}
@@ -8,7 +8,7 @@ use Rattle.ioam_pcap.specs.declared.turns.Due.{Due}
 use Rattle.ioam_pcap.specs.declared.turns.Due.TheVariants.{Record, End, Bad, More}
 use Rattle.ioam_pcap.specs.declared.turns.Turn.{Turn}
 use Rattle.ioam_pcap.specs.declared.turns.Turn.TheVariants.{Next, Over, Broken, Unshown}
-use Rattle.ioam_pcap.specs.Turn.{ahead, turn_from, turn_of, IsReady, IsShown, IsTurn}
+use Rattle.ioam_pcap.specs.Turn.{ahead, turn_from, turn_of, IsReady, IsShown, IsTurn, time_of}
 
 -- the words, for captures that are counted from a place on
 abbrev TurnsSo : ℕ → List Due → Turn → Type 0
@@ -120,13 +120,32 @@ turns_so : (from : ℕ) (dues : List Due) → TurnsSo from dues (turn_from from 
 turns_so from [] = λ k due there. absurd (none-some due there)
 turns_so from (due ∷ dues) = so_ahead from dues due (turn_from (from + 1) dues) (turns_so (from + 1) dues)
 
+due_inside : (dues : List Due) (k : ℕ) (due : Due) → slice_get dues k ≡ Some due → k < length dues
+due_inside [] k due is = absurd (none-some due is)
+due_inside (d ∷ ds) zero due is = omega arith
+due_inside (d ∷ ds) (suc k) due is = let below = due_inside ds k due is in omega arith
+
+-- a capture has the time of a record exactly where that record is due of it
+time_there : (dues : List Due) (k time : ℕ) → slice_get dues k ≡ Some (Record time) → slice_get (map time_of dues) k ≡ Some (Some time)
+time_there [] k time is = absurd (none-some (Record time) is)
+time_there (d ∷ ds) zero time is = ap (λ due. Some (time_of due)) (same_Some d (Record time) is)
+time_there (d ∷ ds) (suc k) time is = time_there ds k time is
+
+pub record_there : (dues : List Due) (k time : ℕ) → slice_get (map time_of dues) k ≡ Some (Some time) → slice_get dues k ≡ Some (Record time)
+record_there [] k time is = absurd (none-some (Some time) is)
+record_there (Record t ∷ ds) zero time is = ap (λ n. Some (Record n)) (same_Some t time (same_Some (Some t) (Some time) is))
+record_there (End ∷ ds) zero time is = absurd (none-some time (same_Some None (Some time) is))
+record_there (Bad at fault ∷ ds) zero time is = absurd (none-some time (same_Some None (Some time) is))
+record_there (More ∷ ds) zero time is = absurd (none-some time (same_Some None (Some time) is))
+record_there (d ∷ ds) (suc k) time is = record_there ds k time is
+
 -- the words, from the front on
 from_front : (dues : List Due) (turn : Turn) → TurnsSo 0 dues turn → IsTurn dues turn
 from_front dues (Next place time) (i, here, is, ready, least) =
     let at : i ≡ place = omega arith in
     let P : ℕ → Type 0 = λ n. (slice_get dues n ≡ Some (Record time)) × ((k other : ℕ) → slice_get dues k ≡ Some (Record other) → (time ≤ other) × (k < n → time < other)) in
     let there : P place = subst P at (is, least) in
-    (there.0, ready, there.1)
+    (ready, (due_inside dues place (Record time) there.0, time_there dues place time there.0, λ k other below timed. there.1 k other (record_there dues k other timed)))
 from_front dues Over all = all
 from_front dues (Broken place at fault) (i, here, is, shown, ready) =
     let same : i ≡ place = omega arith in
@@ -137,3 +156,9 @@ from_front dues Unshown shown = shown
 
 pub turn_says : (dues : List Due) → IsTurn dues (turn_of dues)
 turn_says dues = from_front dues (turn_of dues) (turns_so 0 dues)
+
+-- the capture that comes next has the record due
+pub next_due : (dues : List Due) (place time : ℕ) → turn_of dues ≡ Next place time → slice_get dues place ≡ Some (Record time)
+next_due dues place time is =
+    let (ready, least) = subst (IsTurn dues) is (turn_says dues) in
+    record_there dues place time least.1

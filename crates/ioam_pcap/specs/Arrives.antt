@@ -1,7 +1,7 @@
 -- The records of several captures in the order in which they are taken, as far as the octets that
 -- were handed out show them.
 use Rattle.std.specs.Prelude.{◌≡◌, ℕ, ◌⊎◌, Bool, true, false, List, ◌++◌}
-use Rattle.std.specs.List.{All, AllZip}
+use Rattle.std.specs.List.{AllZip}
 use Rattle.ioam_pcap.specs.Merge.{Stream, Arrival, TakesAll}
 use Rattle.ioam_pcap.specs.Streams.{ShowsSo}
 use Rattle.ioam_pcap.specs.declared.turns.Turn.{Turn}
@@ -26,7 +26,3 @@ pub record Arrives (captures : List Handed) (taken : List Arrival) (last : Turn)
 -- more was handed out of a capture that had not ended, or nothing has changed
 abbrev pub HandsOn : Handed → Handed → Type 0
 HandsOn old new = ((old.ended ≡ false) × ((more : List ℕ) × (new.octets ≡ old.octets ++ more))) ⊎ (new ≡ old)
-
--- each of the captures has ended
-abbrev pub AreEnded : List Handed → Type 0
-AreEnded captures = All (λ capture. capture.ended ≡ true) captures

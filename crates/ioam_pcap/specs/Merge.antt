@@ -1,7 +1,6 @@
 -- Several captures merged by time: at each turn every capture that hasn't ended shows its next
 -- record; the one with the least time is taken, of several with the same time the first.
-use Rattle.std.specs.Prelude.{◌≡◌, ℕ, zero, suc, ⊤, ◌⊎◌, List, [], ◌∷◌, ◌++◌, map, drop, ◌==◌, if◌then◌else◌, Option, Some, None}
-use Rattle.std.specs.List.{AllZip}
+use Rattle.std.specs.Prelude.{◌≡◌, ℕ, zero, suc, ⊤, List, [], ◌∷◌, ◌++◌, map, drop, ◌==◌, if◌then◌else◌, Option, Some, None}
 use Rattle.ioam_base.specs.Leads.{Leads}
 use Rattle.ioam_pcap.specs.Entries.{Entry}
 use Rattle.ioam_pcap.specs.Reads.{Ending, Whole, Faulty}
@@ -63,6 +62,7 @@ IsNext Over = ⊥
 IsNext (Broken place at fault) = ⊥
 IsNext Unshown = ⊥
 
+-- a record of one of the captures comes next
 abbrev pub CanTake : List Stream → Type 0
 CanTake streams = IsNext (turn streams)
 
@@ -105,13 +105,3 @@ pub record TakesAll (streams : List Stream) (taken : List Arrival) (last : Turn)
 abbrev pub of_capture : ℕ → List Arrival → List Entry
 of_capture k [] = []
 of_capture k (a ∷ more) = if a.capture == k then a.entry ∷ of_capture k more else of_capture k more
-
--- The second is what the first capture shows later. Where it wasn't known how it ends, there may be
--- more records; and its head may have become whole, where there was no record.
-abbrev pub Continues : Stream → Stream → Type 0
-Continues old new = ((old.ending ≡ None) × (((old.link ≡ None) × (old.entries ≡ [])) ⊎ (new.link ≡ old.link))
-    × ((more : List Entry) × (new.entries ≡ old.entries ++ more))) ⊎ (new ≡ old)
-
--- and so each of several captures
-abbrev pub ContinueAll : List Stream → List Stream → Type 0
-ContinueAll olds news = AllZip Continues olds news

@@ -66,6 +66,7 @@ pub data Shown : Type 0 where
   CutShown : Shown
   FaultShown : CapFault → Shown
 
+-- this is what stands there
 abbrev pub Shows : List ℕ → Option Form → ℕ → Shown → Type 0
 Shows octets form at (HeadShown link) = (form ≡ None) × ((f : Form) × HasHead octets f × (f.link ≡ link))
 Shows octets form at (EntryShown entry) = EntryAt octets form at entry

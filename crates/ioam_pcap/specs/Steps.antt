@@ -9,11 +9,13 @@ use Rattle.ioam_pcap.specs.Form.{HasHead}
 use Rattle.ioam_pcap.specs.Entries.{IsWhole, entry_at, captured}
 use Rattle.ioam_pcap.specs.Reads.{HeadFault, IsHeadCut, EntryFault, IsEntryCut}
 
+-- what the front of octets shows of a head: a whole one, too few octets, or a fault
 abbrev pub TellsHead : List ℕ → HeadStep → Type 0
 TellsHead octets (head.Whole form) = HasHead octets form
 TellsHead octets head.Cut = IsHeadCut octets
 TellsHead octets (head.Bad fault) = HeadFault octets fault
 
+-- what the front of octets shows of a record: a whole one, too few octets, or a fault
 abbrev pub TellsEntry : Form → List ℕ → EntryStep → Type 0
 TellsEntry form octets (entry.Whole h) = IsWhole form octets 0 × (h.captured ≡ captured form octets 0)
     × (h.time ≡ (entry_at form octets 0).time) × (h.original ≡ (entry_at form octets 0).original)

@@ -1,5 +1,6 @@
 -- Which of several captures comes next, by what is due of each.
-use Rattle.std.specs.Prelude.{◌≡◌, ℕ, ◌+◌, ◌<◌, ◌≤◌, ⊤, List, [], ◌∷◌, Some, slice_get, nat_lt, if◌then◌else◌}
+use Rattle.std.specs.Prelude.{◌≡◌, ℕ, ◌+◌, ◌<◌, ⊤, List, [], ◌∷◌, length, map, Option, Some, None, slice_get, nat_lt, if◌then◌else◌}
+use Rattle.ioam_pcap.specs.Pick.{IsLeast}
 use Rattle.ioam_pcap.specs.declared.turns.Due.{Due}
 use Rattle.ioam_pcap.specs.declared.turns.Due.TheVariants.{Record, End, Bad, More}
 use Rattle.ioam_pcap.specs.declared.turns.Turn.{Turn}
@@ -41,13 +42,19 @@ IsShown End = ⊤
 IsShown (Bad at fault) = ⊤
 IsShown More = ⊥
 
+-- the time of the record that is due of a capture, or none
+abbrev pub time_of : Due → Option ℕ
+time_of (Record time) = Some time
+time_of End = None
+time_of (Bad at fault) = None
+time_of More = None
+
 -- The same in words of their own: of all captures something is known and none is faulty, and this
 -- one has the least time, the first of those that have it; all have ended; of all something is
 -- known, and this one is the first that is faulty; or of one it isn't known what is due.
 abbrev pub IsTurn : List Due → Turn → Type 0
-IsTurn dues (Next place time) = (slice_get dues place ≡ Some (Record time))
-    × ((k : ℕ) (due : Due) → slice_get dues k ≡ Some due → IsReady due)
-    × ((k other : ℕ) → slice_get dues k ≡ Some (Record other) → (time ≤ other) × (k < place → time < other))
+IsTurn dues (Next place time) = ((k : ℕ) (due : Due) → slice_get dues k ≡ Some due → IsReady due)
+    × IsLeast (length dues) (map time_of dues) place time
 IsTurn dues Over = (k : ℕ) (due : Due) → slice_get dues k ≡ Some due → due ≡ End
 IsTurn dues (Broken place at fault) = (slice_get dues place ≡ Some (Bad at fault))
     × ((k : ℕ) (due : Due) → slice_get dues k ≡ Some due → IsShown due)

@@ -19,9 +19,9 @@ pub struct Packet<'a> {
 pub enum CapFault {
     /// The first four octets, read big-endian, are none of the four magic numbers.
     Magic { found: u32 },
-    /// The link type is neither 1 nor 101 nor 229.
+    /// The link type, the whole 32-bit word at octet 20, is none of 1, 101 and 229.
     Link { found: u32 },
-    /// A record's captured length passes 262,144 octets.
+    /// A record's captured length passes 262,144 octets, and 16 octets of the record are there.
     RecordLong { found: u32 },
     /// The capture ends inside its head or a record, of which it has so many octets.
     Short { have: u32 },
@@ -36,7 +36,7 @@ pub enum CapStep<'a> {
     Packet(Packet<'a>),
     /// More octets are needed, or the capture's end.
     More,
-    /// At this place of the capture its head or a record is faulty.
+    /// At this place, in octets from the capture's first, its head or a record is faulty.
     Bad { at: u64, fault: CapFault },
 }
 
@@ -49,6 +49,6 @@ pub enum CapLook {
     Packet { time: u64, size: u32 },
     /// More octets are needed, or the capture's end.
     More,
-    /// At this place of the capture its head or a record is faulty.
+    /// At this place, in octets from the capture's first, its head or a record is faulty.
     Bad { at: u64, fault: CapFault },
 }

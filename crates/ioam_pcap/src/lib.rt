@@ -2,18 +2,18 @@
 //! written, and the choice of the next packet among several captures.
 #![tactic(auto)]
 
-pub mod capture;
+mod capture;
 mod entry;
 mod form;
 mod head;
-mod merge;
+mod picking;
 mod put;
-pub mod reader;
+mod reader;
 mod turns;
 
 pub use capture::{CapFault, CapLook, CapStep, Packet, RECORD_MOST};
 pub use form::{Link, is_ethernet};
-pub use merge::pick;
+pub use picking::pick;
 pub use put::{put_head, put_record};
 pub use reader::CaptureReader;
 pub use turns::{Due, Turn, next_turn};

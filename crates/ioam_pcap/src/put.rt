@@ -14,8 +14,9 @@ const HEAD: [u8; 24] = [
 
 const NANOSECONDS: u64 = 1_000_000_000;
 
-/// Appends the head of a capture: 24 octets, big-endian, nanoseconds, version 2.4, packets that
-/// begin with an IP header. Without memory `out` is as before.
+/// Appends the head of a capture: 24 octets, big-endian, nanoseconds, version 2.4, packets of at
+/// most 262,144 octets that begin with an IP header (link type 101). Without memory `out` is as
+/// before.
 pub fn put_head(out: &mut Vec<u8>) -> Result<(), NoMemory>
     ensures octets { out.new.items
         ≡ (if is_ok result then out.old.items ++ head_octets else out.old.items) }

@@ -151,8 +151,9 @@ impl CaptureReader {
         }
     }
 
-    /// What is due of the capture, of which all octets were fed if it has ended. None: its head is,
-    /// which `next` takes.
+    /// What is due of the capture, by the octets that were fed; `ended` says that these are all of
+    /// it. None exactly where the head is whole and not yet taken: `next` takes it. Behind the head
+    /// a record's time, the capture's end, its fault, or `More`.
     pub fn due(&self, ended: bool) -> Option<Due>
         ensures due { (octets : List ℕ) (taken : List Entry) (stream : Stream)
             → Stands self.now octets taken → Streams octets ended taken stream

@@ -10,7 +10,7 @@ pub enum Due {
     Record { time: u64 },
     /// Nothing: the capture has ended.
     End,
-    /// At this place of the capture its head or a record is faulty.
+    /// At this place, in octets from the capture's first, its head or a record is faulty.
     Bad { at: u64, fault: CapFault },
     /// It isn't known yet: what is due isn't whole so far, nor has the capture ended.
     More,
@@ -19,15 +19,16 @@ pub enum Due {
 /// What comes next of several captures.
 #[derive(Clone, Copy, Debug, PartialEq, Eq)]
 pub enum Turn {
-    /// The record that is due of the capture at this place, with the least time; of several such
-    /// captures it is the first.
+    /// The record that is due of the capture at this place among the captures, from 0, with the
+    /// least time, in nanoseconds; of several such captures it is the first.
     Next {
         place: usize,
         time: u64,
     },
     /// All captures have ended.
     Over,
-    /// The capture at this place is the first that is faulty.
+    /// The capture at this place among the captures, from 0, is the first that is faulty: at `at`,
+    /// in octets from its first.
     Broken {
         place: usize,
         at: u64,

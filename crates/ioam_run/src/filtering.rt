@@ -9,8 +9,7 @@ use crate::reason::Reason;
 use ioam_base::memory::NoMemory;
 use ioam_base::text::{append, append_decimal};
 use ioam_outputs::Output;
-use ioam_pcap::capture::Packet;
-use ioam_pcap::{put_head, put_record};
+use ioam_pcap::{Packet, put_head, put_record};
 
 /// How many packets are kept and dropped so far. Its outputs are the capture of the kept packets and
 /// the report.

@@ -7,7 +7,7 @@ ghost use Rattle.ioam_pcap.specs.Reader.{entry_of};
 ghost use Rattle.ioam_run.specs.Verdict.{entry_framing};
 
 use ioam_ip::{Framed, packet_of};
-use ioam_pcap::capture::Packet;
+use ioam_pcap::Packet;
 
 /// What a record of a capture gives; `ethernet` says that its frames begin with an Ethernet header.
 pub fn framed<'a>(ethernet: bool, packet: &Packet<'a>) -> Framed<'a>

@@ -6,7 +6,7 @@ ghost use Rattle.ioam_pcap.specs.Reader.{entry_of};
 
 use ioam_base::memory::NoMemory;
 use ioam_outputs::Output;
-use ioam_pcap::capture::Packet;
+use ioam_pcap::Packet;
 
 /// Texts that are gathered of the records of a capture, each for its output.
 pub trait Gather: Drop {

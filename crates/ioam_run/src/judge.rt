@@ -8,7 +8,7 @@ ghost use Rattle.ioam_run.specs.Judgement.{verdict_of, IsWithin};
 use crate::frame::framed;
 use crate::reason::Reason;
 use ioam_ip::{Framed, Walk, walk};
-use ioam_pcap::capture::Packet;
+use ioam_pcap::Packet;
 
 /// A frame's packet that is kept, or the first reason why the frame is dropped.
 #[derive(Clone, Copy, Debug, PartialEq, Eq)]

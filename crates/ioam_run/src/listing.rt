@@ -11,7 +11,7 @@ use ioam_base::memory::NoMemory;
 use ioam_base::text::{append, append_decimal};
 use ioam_ip::{Framed, Walk, walk};
 use ioam_outputs::Output;
-use ioam_pcap::capture::Packet;
+use ioam_pcap::Packet;
 use ioam_report::put_traces;
 
 /// How many packets were listed so far. Its output is the report.

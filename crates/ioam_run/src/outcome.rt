@@ -4,7 +4,7 @@ ghost use Rattle.ioam_run.specs.Run.{outcome_of};
 
 use ioam_clock::ReadingsFault;
 use ioam_desk::Name;
-use ioam_pcap::capture::CapFault;
+use ioam_pcap::CapFault;
 use ioam_topo::DomainFault;
 use std::alloc::Global;
 

@@ -8,9 +8,7 @@ ghost use Rattle.ioam_pcap.specs.Link.{is_ethernet};
 use crate::gather::Gather;
 use ioam_base::memory::NoMemory;
 use ioam_outputs::Output;
-use ioam_pcap::capture::{CapFault, CapStep};
-use ioam_pcap::is_ethernet;
-use ioam_pcap::reader::CaptureReader;
+use ioam_pcap::{CapFault, CapStep, CaptureReader, is_ethernet};
 
 /// The most records that are taken of a capture.
 pub const MOST_PACKETS: u32 = 16_777_216;

@@ -2,9 +2,8 @@
 ghost use Rattle.std.specs.Prelude.{◌≡◌, ◌+◌, ◌∷◌, [], IsTrue, IfOk, IfErr, OnOk, MatchResult};
 ghost use Rattle.ioam_clock.specs.Reading.{node_names};
 ghost use Rattle.ioam_desk.specs.Asked.{AsksFront};
-ghost use Rattle.ioam_desk.specs.Desk.{SameBut, holds, opened_side};
+ghost use Rattle.ioam_desk.specs.Desk.{SameBut, holds, opened_side, opened_each};
 ghost use Rattle.ioam_desk.specs.Whole.{ReadsWhole, FailsWhole};
-ghost use Rattle.ioam_outputs.specs.Told.{opened_each};
 ghost use Rattle.ioam_setting.specs.Reads.{IsDomainRead, AreReadingsRead};
 ghost use Rattle.ioam_setting.specs.Setting.{IsSetting, Refuses};
 

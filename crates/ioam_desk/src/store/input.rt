@@ -1,5 +1,6 @@
 ghost use Rattle.std.specs.Prelude.{◌≡◌, ◌++◌, ◌==◌, false, length, min, take};
 
+use ioam_base::octets::put_at;
 use std::marker::Model;
 
 /// An input slot: octets, of which those from `at` on are left to read.
@@ -42,7 +43,7 @@ impl Input {
     {
         let left = self.octets.len() - self.at;
         let count = most.min(into.len().min(left));
-        into[..count].copy_from_slice(&self.octets[self.at..self.at + count]);
+        put_at(into, 0, &self.octets[self.at..self.at + count]);
         self.at += count;
         self.ended = count == 0;
         count

@@ -1,4 +1,4 @@
-use Rattle.std.proofs.Common.{ℕ, ◌≡◌, ◌≤◌, ◌<◌, ◌-◌, vec_len}
+use Rattle.std.proofs.Common.{ℕ, ◌≡◌, ◌≤◌, ◌<◌, ◌-◌, vec_len, length}
 use Rattle.ioam_desk.specs.Whole.{Hands}
 use Rattle.ioam_desk.proofs.whole.read_slot.Given as goal
 
@@ -6,7 +6,7 @@ use Rattle.ioam_desk.proofs.whole.read_slot.Given as goal
 abbrev pub invariant-pieces : goal.invariant-pieces
 invariant-pieces g l = record {
   fits : vec_len l.octets ≤ l.limit;
-  room : 0 < vec_len l.piece;
+  room : 0 < length l.piece;
   hands : Hands g.D.Desk.tells (g.D.Desk.reading l.initial.desk) (g.D.Desk.reading l.desk) l.slot l.octets.items;
   outputs : g.D.Desk.writing l.desk ≡ g.D.Desk.writing l.initial.desk;
 }

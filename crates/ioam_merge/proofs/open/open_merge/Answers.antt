@@ -1,6 +1,6 @@
 use Rattle.std.proofs.Common.{◌≡◌, ◌<◌, ◌∙◌, ◌++◌, List, ℕ, length, append-nil, [], take, get_or, refl, sym, ap, subst, arith}
-use Rattle.ioam_desk.specs.Desk.{Side, Writing, holds}
-use Rattle.ioam_merge.specs.Merging.{Start, Merging, start_of, opened_each, with_content}
+use Rattle.ioam_desk.specs.Desk.{Side, Writing, holds, opened_each}
+use Rattle.ioam_merge.specs.Merging.{Start, Merging, start_of, with_content}
 use Rattle.ioam_merge.proofs.OpenLaws.{Merging-none, start_more, side_more, asks_more, kept_on}
 use Rattle.ioam_merge.proofs.open.open_merge.Goals as goal
 

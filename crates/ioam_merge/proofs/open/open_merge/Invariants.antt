@@ -1,5 +1,6 @@
 use Rattle.std.proofs.Common.{◌≡◌, ◌+◌, [], take, vec_len}
-use Rattle.ioam_merge.specs.Merging.{Merging, EndsKept, start_of, opened_each}
+use Rattle.ioam_desk.specs.Desk.{opened_each}
+use Rattle.ioam_merge.specs.Merging.{Merging, EndsKept, start_of}
 use Rattle.ioam_merge.proofs.open.open_merge.Given as goal
 
 -- the captures so far are open, and nothing was taken of them

@@ -19,4 +19,5 @@ returns-in-Err-add-clause-below g c = opening_kept g.D.Desk.tells (g.D.Desk.read
     (holds (g.D.Desk.writing c.args.desk.now) c.args.name.now) c.args.name.now c.in-Ok.feed.slot c.in-Ok.ensures.opened
 
 pub returns-in-Err-clause-below : goal.returns-in-Err-clause-below
-returns-in-Err-clause-below g c = failing_kept (g.D.Desk.reading c.args.desk.now) (g.D.Desk.reading c.open_feed.new.desk) c.args.name.now c.in-Err.fault c.in-Err.ensures.fault
+returns-in-Err-clause-below g c = failing_kept g.D.Desk.tells (g.D.Desk.reading c.args.desk.now) (g.D.Desk.reading c.open_feed.new.desk)
+    (holds (g.D.Desk.writing c.args.desk.now) c.args.name.now) c.args.name.now c.in-Err.fault c.in-Err.ensures.fault

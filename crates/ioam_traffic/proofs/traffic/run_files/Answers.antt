@@ -2,6 +2,7 @@ use Rattle.std.proofs.Common.{◌≡◌, ◌+◌, List, length, rules, ap, sym, 
 use Rattle.ioam_desk.specs.Desk.{Reading, Writing, Side}
 use Rattle.ioam_outputs.specs.declared.output.Output.{Output}
 use Rattle.ioam_outputs.proofs.ToldLaws.{told_names}
+use Rattle.ioam_merge.specs.Merging.{slot_of}
 use Rattle.ioam_traffic.specs.Running.{Files, start_with}
 use Rattle.ioam_traffic.proofs.BeginLaws.{known_fronts, known_merging, known_opened, known_sized, known_told}
 use Rattle.ioam_traffic.proofs.StopsLaws.{Ends-finishes}
@@ -81,4 +82,4 @@ returns-clause-finishes g c =
 pub returns-in-Ok-open_outputs-clause-kept : goal.returns-in-Ok-open_outputs-clause-kept
 returns-in-Ok-open_outputs-clause-kept g c = λ k lt.
     let base : g.files.lanes.base ≡ (g.D.Desk.reading c.args.desk.now).side.slots = ap (λ (f : Files). f.lanes.base) c.requires.1.0 in
-    c.run_open.ensures.kept k (omega (arith, lt, base)) ∙ ap (λ (r : Reading). r.ended k) c.in-Ok-open_outputs.ensures.inputs ∙ c.in-Ok.ensures.below k lt
+    c.run_open.ensures.kept k (omega (arith, lt, base)) ∙ ap (λ (r : Reading). slot_of r k) c.in-Ok-open_outputs.ensures.inputs ∙ c.in-Ok.ensures.below k lt

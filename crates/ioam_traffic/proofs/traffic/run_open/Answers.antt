@@ -1,6 +1,7 @@
 use Rattle.std.proofs.Common.{rules, ap, sym, ◌∙◌, subst, arith}
 use Rattle.std.proofs.lemmas.Bool.{false≢true}
 use Rattle.ioam_desk.specs.Desk.{Reading, Side}
+use Rattle.ioam_merge.specs.Merging.{slot_of}
 use Rattle.ioam_traffic.specs.Running.{Ends, IsBroken, start_with}
 use Rattle.ioam_traffic.proofs.BeginLaws.{Fronts-begin, Running-begin}
 use Rattle.ioam_traffic.proofs.StopsLaws.{Ends-written, Stops-fronts, Stops-open}
@@ -63,10 +64,10 @@ returns-clause-ends g c =
     c.carry_on-halt.result (λ broken. false≢true (sym c.if-is_broken.false ∙ c.is_broken.ensures.1 broken)) c.carry_on-halt.ensures.stops
 
 pub returns-in-Ok-put_rest-clause-kept : goal.returns-in-Ok-put_rest-clause-kept
-returns-in-Ok-put_rest-clause-kept g c = λ k lt. ap (λ (r : Reading). r.ended k) c.in-Ok-put_rest.ensures.inputs ∙ c.carry_on-halt.ensures.kept k lt
+returns-in-Ok-put_rest-clause-kept g c = λ k lt. ap (λ (r : Reading). slot_of r k) c.in-Ok-put_rest.ensures.inputs ∙ c.carry_on-halt.ensures.kept k lt
 
 pub returns-in-Err-Failed-clause-kept : goal.returns-in-Err-Failed-clause-kept
-returns-in-Err-Failed-clause-kept g c = λ k lt. ap (λ (r : Reading). r.ended k) c.put_rest.ensures.inputs ∙ c.carry_on-halt.ensures.kept k lt
+returns-in-Err-Failed-clause-kept g c = λ k lt. ap (λ (r : Reading). slot_of r k) c.put_rest.ensures.inputs ∙ c.carry_on-halt.ensures.kept k lt
 
 pub returns-clause-kept : goal.returns-clause-kept
-returns-clause-kept g c = λ k lt. ap (λ (r : Reading). r.ended k) c.put_rest.ensures.inputs ∙ c.carry_on-halt.ensures.kept k lt
+returns-clause-kept g c = λ k lt. ap (λ (r : Reading). slot_of r k) c.put_rest.ensures.inputs ∙ c.carry_on-halt.ensures.kept k lt

@@ -1,6 +1,6 @@
 use Rattle.std.proofs.Common.{refl, ◌∙◌, ap, rules, arith}
 use Rattle.ioam_desk.specs.Desk.{Reading, Writing, Side}
-use Rattle.ioam_merge.specs.Merging.{PartsArrive, HaveEnded}
+use Rattle.ioam_merge.specs.Merging.{PartsArrive, HaveEnded, slot_of}
 use Rattle.ioam_pcap.specs.declared.turns.Turn.TheVariants as turn
 use Rattle.ioam_traffic.specs.Running.{start_with}
 use Rattle.ioam_traffic.specs.Traffic.{Arrive}
@@ -85,7 +85,7 @@ turns-preserved g c = record {
   running = c.in-Ok.ensures.runs;
   width = omega (arith, c.turns.invariant.width, c.pass_on.auto.outputs);
   inputs = ap (λ (r : Reading). r.side) c.in-Ok.ensures.inputs ∙ c.in-Ok-Next.ensures.same ∙ c.turns.invariant.inputs;
-  kept = λ k lt. ap (λ (r : Reading). r.ended k) c.in-Ok.ensures.inputs
+  kept = λ k lt. ap (λ (r : Reading). slot_of r k) c.in-Ok.ensures.inputs
       ∙ c.in-Ok-Next.ensures.below g.files.lanes c.turns.invariant.running.taken c.turns.invariant.running.are k lt ∙ c.turns.invariant.kept k lt;
   side = c.in-Ok.ensures.same ∙ ap (λ (w : Writing). w.side) c.in-Ok-Next.ensures.outputs ∙ c.turns.invariant.side;
 }
@@ -117,5 +117,5 @@ returns-in-Err-NoMemory-clause-kept g c = λ k lt.
     c.in-Err-NoMemory.ensures.below g.files.lanes c.turns.invariant.running.taken c.turns.invariant.running.are k lt ∙ c.turns.invariant.kept k lt
 
 pub returns-in-Err-clause-kept : goal.returns-in-Err-clause-kept
-returns-in-Err-clause-kept g c = λ k lt. ap (λ (r : Reading). r.ended k) c.in-Err.ensures.inputs
+returns-in-Err-clause-kept g c = λ k lt. ap (λ (r : Reading). slot_of r k) c.in-Err.ensures.inputs
     ∙ c.in-Ok-Next.ensures.below g.files.lanes c.turns.invariant.running.taken c.turns.invariant.running.are k lt ∙ c.turns.invariant.kept k lt
