@@ -71,6 +71,7 @@ fn add(octets: &mut [u8], view: &View<'_>) -> Filled
 {
     let word = LengthWord(u16_at(octets, 2));
     let mut buffer = ElementBuf::new();
+    // It can't refuse: nodes add elements under this type and NodeLen.
     let _added = element(kind_at(octets), word.node_len(), view, &mut buffer);
     let words = (buffer.octets().len() / 4) as u8;
     if words > word.remaining() {
@@ -102,7 +103,7 @@ fn fill_octets(octets: &mut [u8], view: &View<'_>) -> Filled
 /// Unsuited; a set Overflow flag gives AlreadyOver; octets that are not whole words, a RemainingLen
 /// above the words behind the header, and a type or NodeLen under which nodes add nothing give
 /// Unsuited; an element longer than RemainingLen gives Overflowed, and only the flag changes. Else
-/// RemainingLen falls by the element's words, and it stands in the last of the free words.
+/// RemainingLen falls by the element's words, and the element stands in the last of the free words.
 pub fn fill(octets: &mut [u8], view: &View<'_>) -> Filled
     ensures filling { Filling octets.old (seen view.now) octets.new result }
     // A trace that an entry node began holds one element more, or Overflow.
