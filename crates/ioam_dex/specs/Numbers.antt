@@ -1,4 +1,4 @@
--- The Flow ID and the Sequence Number of direct export (RFC 9326 section 3.1.1): each is there exactly
+-- The Flow ID and the Sequence Number of direct export (RFC 9326 section 3.2): each is there exactly
 -- where the extension flags have it, the Flow ID first.
 use Rattle.std.specs.Prelude.{ℕ, ◌+◌, ◌*◌, ◌/◌, ◌%◌, Bool, ◌==◌, if◌then◌else◌, List, slice_index, Option, Some, None}
 use Rattle.ioam_base.specs.Octets.{u32_at}

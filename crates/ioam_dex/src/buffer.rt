@@ -6,7 +6,7 @@ use std::marker::Model;
 
 /// Room for the octets of one value, 16 at most. Contracts see the octets that it holds.
 #[derive(Drop)]
-pub struct Buffer {
+pub(crate) struct Buffer {
     octets: [u8; 16],
     len: usize,
 }
@@ -23,7 +23,7 @@ impl Model for Buffer {
 
 impl Buffer {
     /// An empty buffer.
-    pub fn new() -> Buffer
+    pub(crate) fn new() -> Buffer
         ensures { result ≡ [] }
     {
         Buffer {
@@ -33,14 +33,14 @@ impl Buffer {
     }
 
     /// The octets that it holds.
-    pub fn octets(&self) -> &[u8]
+    pub(crate) fn octets(&self) -> &[u8]
         ensures { result.now ≡ self.now }
     {
         &self.octets[..self.len]
     }
 
     /// Appends octets.
-    pub fn append(&mut self, octets: &[u8])
+    pub(crate) fn append(&mut self, octets: &[u8])
         requires { length self.old + length octets.now ≤ 16 }
         ensures value { self.new ≡ self.old ++ octets.now }
         ensures size { length self.new ≡ length self.old + length octets.now }
@@ -50,7 +50,7 @@ impl Buffer {
     }
 
     /// Appends a number as four octets, where it is there.
-    pub fn four_if(&mut self, number: Option<u32>)
+    pub(crate) fn four_if(&mut self, number: Option<u32>)
         requires { length self.old + 4 ≤ 16 }
         ensures value { self.new ≡ self.old ++ four_octets_if number }
         ensures size { length self.new ≤ length self.old + 4 }

@@ -14,7 +14,7 @@ mod room;
 mod step;
 
 pub use direct::{Direct, DirectFault};
-pub use export::{Export, ExportFault};
+pub use export::{ELEMENT_MOST, Export, ExportFault};
 pub use exporting::{export_of, put_export};
 pub use putting::put;
 pub use reader::{ExportReader, Step};

@@ -6,7 +6,7 @@ use ioam_data::TraceType;
 
 /// Whether the extension flags have a Flow ID.
 #[tactic(auto, unfolding(crate::specs::Numbers::has_flow))]
-pub fn has_flow(ext: u8) -> bool
+pub(crate) fn has_flow(ext: u8) -> bool
     ensures { result ≡ has_flow ext }
 {
     ext / 128 % 2 == 1
@@ -14,14 +14,14 @@ pub fn has_flow(ext: u8) -> bool
 
 /// Whether they have a Sequence Number.
 #[tactic(auto, unfolding(crate::specs::Numbers::has_seq))]
-pub fn has_seq(ext: u8) -> bool
+pub(crate) fn has_seq(ext: u8) -> bool
     ensures { result ≡ has_seq ext }
 {
     ext / 64 % 2 == 1
 }
 
 /// The octets of a number that is there or not.
-pub fn four_where(there: bool) -> usize
+pub(crate) fn four_where(there: bool) -> usize
     ensures value { result ≡ four_where there }
     ensures small { result ≤ 4 }
 {
@@ -29,7 +29,7 @@ pub fn four_where(there: bool) -> usize
 }
 
 /// The octets of the two.
-pub fn numbers_size(ext: u8) -> usize
+pub(crate) fn numbers_size(ext: u8) -> usize
     ensures value { result ≡ numbers_size ext }
     ensures small { result ≤ 8 }
 {
@@ -37,7 +37,7 @@ pub fn numbers_size(ext: u8) -> usize
 }
 
 /// The number at a place, where it is there.
-pub fn u32_where(there: bool, octets: &[u8], at: usize) -> Option<u32>
+pub(crate) fn u32_where(there: bool, octets: &[u8], at: usize) -> Option<u32>
     requires { at + four_where there ≤ length octets.now }
     ensures { result ≡ u32_where there octets.now at }
 {
@@ -49,7 +49,7 @@ pub fn u32_where(there: bool, octets: &[u8], at: usize) -> Option<u32>
 }
 
 /// The IOAM-Trace-Type at a place.
-pub fn kind_at(octets: &[u8], at: usize) -> TraceType
+pub(crate) fn kind_at(octets: &[u8], at: usize) -> TraceType
     requires { at + 3 ≤ length octets.now }
     ensures { result ≡ u24_at octets.now at }
 {

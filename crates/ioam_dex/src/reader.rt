@@ -101,15 +101,7 @@ impl ExportReader {
                 let to = self.taken + head.size;
                 self.taken = to;
                 self.start += head.size as u64;
-                Step::Export(Export {
-                    namespace: head.namespace,
-                    flags: head.flags,
-                    ext: head.ext,
-                    kind: head.kind,
-                    flow: head.flow,
-                    seq: head.seq,
-                    element: &self.buffer[from..to],
-                })
+                Step::Export(head.with_element(&self.buffer[from..to]))
             }
             RecordStep::Cut => Step::More,
             RecordStep::Bad(fault) => Step::Bad {

@@ -62,6 +62,7 @@ impl ExportRoom {
         requires { length part.now ≤ self.old.spare }
         ensures { self.new ≡ appended self.old part.now }
     {
+        // never refused: `new` took the memory for all that was given
         self.octets.extend_from_slice(part).unwrap();
     }
 

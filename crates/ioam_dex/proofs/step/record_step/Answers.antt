@@ -1,6 +1,7 @@
 use Rattle.std.proofs.Common.{◌≡◌, ◌-◌, List, ℕ, take, drop, ap, ◌∙◌, subst, arith}
-use Rattle.ioam_dex.specs.Record.{IsFilled, IsWhole, length_of, element_of, kind_of}
+use Rattle.ioam_dex.specs.Record.{IsFilled, length_of, element_of, kind_of}
 use Rattle.ioam_dex.specs.Faults.{said}
+use Rattle.ioam_dex.proofs.FaultLaws.{IsWhole}
 use Rattle.ioam_dex.proofs.RecordLaws.{step-whole}
 use Rattle.ioam_dex.proofs.step.record_step.Goals as goal
 
