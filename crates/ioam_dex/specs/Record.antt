@@ -2,11 +2,11 @@
 -- Namespace-ID 16, Flags 8, IOAM-Trace-Type 24, the Flow ID and the Sequence Number where the extension
 -- flags have them, and the element.
 use Rattle.std.specs.Prelude.{ℕ, ◌+◌, ◌-◌, ◌≡◌, ◌<◌, ◌≤◌, ◌⊎◌, false, List, [], ◌∷◌, ◌++◌, length, take, drop, slice_index, Option, is_some, IfSome}
-use Rattle.ioam_base.specs.Octets.{u16_at}
-use Rattle.ioam_dex.specs.Words.{two_octets, three_octets, four_octets_if}
+use Rattle.ioam_base.specs.Octets.{u16_at, u24_at}
+use Rattle.ioam_base.specs.Words.{two_octets, three_octets, four_octets_if}
 use Rattle.ioam_data.specs.Kind.{has, words}
 use Rattle.ioam_data.specs.Elements.{IsElement}
-use Rattle.ioam_dex.specs.Numbers.{has_flow, has_seq, four_where, numbers_size, u24_at, u32_where}
+use Rattle.ioam_dex.specs.Numbers.{has_flow, has_seq, four_where, numbers_size, u32_where}
 use Rattle.ioam_dex.specs.declared.export.Export.{Export}
 use Rattle.ioam_dex.specs.declared.export.TheConstants.{ELEMENT_MOST}
 

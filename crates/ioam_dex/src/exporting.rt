@@ -1,5 +1,5 @@
 ghost use Rattle.std.specs.Prelude.{◌≡◌, ◌<◌, ◌≤◌, ◌∷◌, ◌++◌, length, IsSomeAnd, MatchOption};
-ghost use Rattle.ioam_dex.specs.Words.{two_octets, three_octets};
+ghost use Rattle.ioam_base.specs.Words.{two_octets, three_octets};
 ghost use Rattle.ioam_dex.specs.Record.{Record, HasItsParts, Rec, record_of, record_octets, record_size};
 ghost use Rattle.ioam_dex.specs.Faults.{said};
 ghost use Rattle.ioam_dex.specs.declared.export.TheConstants.{ELEMENT_MOST};

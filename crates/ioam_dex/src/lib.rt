@@ -1,7 +1,6 @@
 //! IOAM direct export data (RFC 9326 section 3), and the records that nodes export.
 #![tactic(auto)]
 
-mod buffer;
 mod direct;
 mod export;
 mod exporting;

@@ -1,8 +1,7 @@
 ghost use Rattle.std.specs.Prelude.{◌≡◌, ◌+◌, ◌≤◌, ◌<◌, length};
-ghost use Rattle.ioam_dex.specs.Numbers.{has_flow, has_seq, four_where, numbers_size, u24_at, u32_where};
+ghost use Rattle.ioam_dex.specs.Numbers.{has_flow, has_seq, four_where, numbers_size, u32_where};
 
 use ioam_base::octets::u32_at;
-use ioam_data::TraceType;
 
 /// Whether the extension flags have a Flow ID.
 #[tactic(auto, unfolding(crate::specs::Numbers::has_flow))]
@@ -46,13 +45,4 @@ pub(crate) fn u32_where(there: bool, octets: &[u8], at: usize) -> Option<u32>
     } else {
         None
     }
-}
-
-/// The IOAM-Trace-Type at a place.
-pub(crate) fn kind_at(octets: &[u8], at: usize) -> TraceType
-    requires { at + 3 ≤ length octets.now }
-    ensures { result ≡ u24_at octets.now at }
-{
-    let [high, middle, low] = [octets[at], octets[at + 1], octets[at + 2]];
-    TraceType::new(u32::from(high) * 65536 + u32::from(middle) * 256 + u32::from(low))
 }

@@ -1,5 +1,5 @@
 ghost use Rattle.std.specs.Prelude.{◌≡◌, ◌+◌, ◌≤◌, [], IfOk, length};
-ghost use Rattle.ioam_dex.specs.Words.{four_octets_if};
+ghost use Rattle.ioam_base.specs.Words.{four_octets_if};
 
 use ioam_base::memory::NoMemory;
 use std::alloc::Global;

@@ -4,7 +4,7 @@ ghost use Rattle.ioam_dex.specs.Faults.{TellsSize, TellsRecord, said};
 
 use crate::export::{ELEMENT_MOST, Export, ExportFault};
 use crate::head::{RecordHead, RecordStep, Sizing};
-use crate::numbers::{four_where, has_flow, has_seq, kind_at, numbers_size, u32_where};
+use crate::numbers::{four_where, has_flow, has_seq, numbers_size, u32_where};
 use ioam_base::octets::u16_at;
 use ioam_data::{Namespace, TraceType, split};
 
@@ -69,7 +69,7 @@ fn head(octets: &[u8], front: usize, size: usize) -> RecordHead
         namespace: Namespace(u16_at(octets, 4)),
         flags: octets[6],
         ext,
-        kind: kind_at(octets, 7).bits(),
+        kind: TraceType::at(octets, 7).bits(),
         flow: u32_where(has_flow(ext), octets, 10),
         seq: u32_where(has_seq(ext), octets, 10 + four_where(has_flow(ext))),
         front,
@@ -88,7 +88,7 @@ pub(crate) fn record_step(octets: &[u8]) -> RecordStep
             if octets.len() < size {
                 return RecordStep::Cut;
             }
-            if is_filled(kind_at(octets, 7), &octets[front..size]) {
+            if is_filled(TraceType::at(octets, 7), &octets[front..size]) {
                 RecordStep::Whole(head(octets, front, size))
             } else {
                 RecordStep::Bad(ExportFault::Element { at: front as u32 })

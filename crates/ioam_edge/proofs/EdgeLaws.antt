@@ -1,7 +1,7 @@
 -- Laws of edge-to-edge data.
 use Rattle.std.proofs.Common.{◌≡◌, ℕ, List, ◌++◌, Ok, sym, ap, ◌∙◌, append_assoc}
-use Rattle.ioam_edge.proofs.WordsLaws.{two_octets-same, four_octets_if-same, eight_octets_if-same}
-use Rattle.ioam_edge.specs.Words.{two_octets, four_octets_if, eight_octets_if}
+use Rattle.ioam_base.proofs.WordsLaws.{two_octets-same, four_octets_if-same, eight_octets_if-same}
+use Rattle.ioam_base.specs.Words.{two_octets, four_octets_if, eight_octets_if}
 use Rattle.ioam_edge.specs.declared.edge.Edge.{Edge}
 use Rattle.ioam_edge.specs.Edge.{asks, HasItsFields, IsEdge, edge_octets, Begins, ReadsAgain}
 

@@ -2,7 +2,7 @@
 -- the type asks for.
 use Rattle.std.specs.Prelude.{ℕ, ◌+◌, ◌/◌, ◌%◌, ◌^◌, ◌≡◌, ◌<◌, ◌≤◌, Bool, nat_lt, ◌==◌, if◌then◌else◌, List, ◌++◌, length, is_some, IfSome, Result, Ok, Err, IsOkAnd}
 use Rattle.ioam_base.specs.Octets.{u16_at}
-use Rattle.ioam_edge.specs.Words.{two_octets, four_octets_if, eight_octets_if}
+use Rattle.ioam_base.specs.Words.{two_octets, four_octets_if, eight_octets_if}
 use Rattle.ioam_edge.specs.declared.edge.Edge.{Edge}
 use Rattle.ioam_edge.specs.declared.edge.EdgeFault.{EdgeFault}
 use Rattle.ioam_edge.specs.declared.edge.EdgeFault.TheVariants.{Short}

@@ -18,7 +18,7 @@ returns-then-is_filled c =
     let whole : IsWhole octets = record {
       sized = told.0;
       there = omega (arith, told.2);
-      filled = subst Q element (subst P c.kind_at.ensures filled);
+      filled = subst Q element (subst P c.at.ensures filled);
     } in
     let found = step-whole octets (λ i. omega (arith, c.type_inv.octets i)) whole (said c.head.result (element_of octets)) c.head.ensures.says
     c.head.result.size (c.head.ensures.size ∙ told.2) in
