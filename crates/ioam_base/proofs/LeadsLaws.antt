@@ -1,5 +1,5 @@
 -- Laws of things that stand one behind the other.
-use Rattle.std.proofs.Common.{◌≡◌, List, [], ◌∷◌, ◌++◌, refl, sym, ap, ◌∙◌, subst}
+use Rattle.std.proofs.Common.{◌≡◌, List, [], ◌∷◌, ◌++◌, refl, sym, ◌∙◌, subst}
 use Rattle.ioam_base.specs.Leads.{Leads}
 
 module _ {Place Thing : Type 0} (CanPass : Place → Type 0) (thing : Place → Thing) (behind : Place → Place) where

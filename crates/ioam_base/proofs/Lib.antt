@@ -1,3 +1,4 @@
 pub mod LeadsLaws
 pub mod OctetsLaws
 pub mod ResultLaws
+pub mod WordsLaws

@@ -1,7 +1,7 @@
 -- Laws of octets and their numbers.
-use Rattle.std.proofs.Common.{◌≡◌, ℕ, ◌+◌, ◌*◌, ◌-◌, ◌<◌, ◌≤◌, List, [], ◌∷◌, ◌++◌, length, take, drop, get_or, arith, refl}
+use Rattle.std.proofs.Common.{◌≡◌, ℕ, ◌+◌, ◌<◌, ◌≤◌, List, ◌++◌, length, arith}
 use Rattle.std.proofs.lemmas.Grind.{common_steps}
-use Rattle.ioam_base.specs.Octets.{u16_at, u32_at, written, IsOctets}
+use Rattle.ioam_base.specs.Octets.{u16_at, u32_at, IsOctets}
 
 -- what follows changes no number in front of it
 pub u16_at-append : (a b : List ℕ) (at : ℕ) → at + 2 ≤ length a → u16_at (a ++ b) at ≡ u16_at a at

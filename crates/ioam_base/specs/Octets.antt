@@ -10,6 +10,10 @@ IsOctets octets = (i : ℕ) → slice_index octets i < 256
 abbrev pub u16_at : List ℕ → ℕ → ℕ
 u16_at octets at = slice_index octets at * 256 + slice_index octets (at + 1)
 
+-- the 24-bit number at a place
+abbrev pub u24_at : List ℕ → ℕ → ℕ
+u24_at octets at = slice_index octets at * 65536 + slice_index octets (at + 1) * 256 + slice_index octets (at + 2)
+
 -- the 32-bit number at a place
 abbrev pub u32_at : List ℕ → ℕ → ℕ
 u32_at octets at = slice_index octets at * 16777216 + slice_index octets (at + 1) * 65536

@@ -5,4 +5,5 @@ pub mod Kind
 pub mod Shown
 pub mod Snapshot
 pub mod View
+pub mod Whole
 pub mod Written

@@ -38,7 +38,8 @@ seen view = record {
   snapshot = snapshot_data view.snapshot;
 }
 
--- the numbers of a view are within their types, its id is below 2^56, and its snapshot is right
+-- the numbers of a view are within their types (the delay may be any, since the greatest are written as
+-- one value), its id is below 2^56, and its snapshot is right
 pub record IsSeen (view : Seen) : Type 0 where
   pub hops_below : view.hops < 256
   pub id_below : view.id < 72057594037927936

@@ -1,13 +1,9 @@
 -- The element that a node writes (RFC 9197 section 4.4.2): its fields in bit order, filler words of all
 -- ones up to NodeLen, and the opaque state snapshot.
 use Rattle.std.specs.Prelude.{ℕ, ◌+◌, ◌-◌, ◌*◌, ◌/◌, ◌%◌, nat_lt, if◌then◌else◌, List, [], ◌++◌, length, replicate, Option, Some, None}
-use Rattle.std.specs.Int.{w32, to_be_bytes}
+use Rattle.ioam_base.specs.Words.{four_octets}
 use Rattle.ioam_data.specs.Kind.{has, words}
 use Rattle.ioam_data.specs.View.{Seen}
-
--- a number as a word of four octets
-abbrev pub word : ℕ → List ℕ
-word number = to_be_bytes w32 number
 
 -- octets that stand only where the type has a bit
 abbrev pub part : ℕ → ℕ → List ℕ → List ℕ
@@ -52,30 +48,30 @@ delay_of (Some delay) = if nat_lt 2147483647 delay then 2147483648 else delay
 
 -- Hop_Lim 8 bits and node id 24; ingress and egress interface, 16 each; timestamp seconds; fraction
 abbrev pub bits_0_to_3 : ℕ → Seen → List ℕ
-bits_0_to_3 kind view = part kind 0 (word (view.hops * 16777216 + narrow_id view.id))
-    ++ part kind 1 (word (narrow_face view.inward * 65536 + narrow_face view.outward))
-    ++ part kind 2 (word (seconds_of view.stamp))
-    ++ part kind 3 (word (fraction_of view.stamp))
+bits_0_to_3 kind view = part kind 0 (four_octets (view.hops * 16777216 + narrow_id view.id))
+    ++ part kind 1 (four_octets (narrow_face view.inward * 65536 + narrow_face view.outward))
+    ++ part kind 2 (four_octets (seconds_of view.stamp))
+    ++ part kind 3 (four_octets (fraction_of view.stamp))
 
 -- transit delay; namespace data; queue depth; checksum complement, which no node fills in
 abbrev pub bits_4_to_7 : ℕ → Seen → List ℕ
-bits_4_to_7 kind view = part kind 4 (word (delay_of view.delay))
-    ++ part kind 5 (word (or_ones view.short))
-    ++ part kind 6 (word (or_ones view.queue))
-    ++ part kind 7 (word 4294967295)
+bits_4_to_7 kind view = part kind 4 (four_octets (delay_of view.delay))
+    ++ part kind 5 (four_octets (or_ones view.short))
+    ++ part kind 6 (four_octets (or_ones view.queue))
+    ++ part kind 7 (four_octets 4294967295)
 
 -- Hop_Lim 8 bits and node id 56; ingress and egress interface, 32 each; namespace data of 64; buffer
 -- occupancy
 abbrev pub bits_8_to_11 : ℕ → Seen → List ℕ
-bits_8_to_11 kind view = part kind 8 (word (view.hops * 16777216 + view.id / 4294967296) ++ word (view.id % 4294967296))
-    ++ part kind 9 (word (or_ones view.inward) ++ word (or_ones view.outward))
-    ++ part kind 10 (word (or_wide_ones view.wide / 4294967296) ++ word (or_wide_ones view.wide % 4294967296))
-    ++ part kind 11 (word (or_ones view.buffer))
+bits_8_to_11 kind view = part kind 8 (four_octets (view.hops * 16777216 + view.id / 4294967296) ++ four_octets (view.id % 4294967296))
+    ++ part kind 9 (four_octets (or_ones view.inward) ++ four_octets (or_ones view.outward))
+    ++ part kind 10 (four_octets (or_wide_ones view.wide / 4294967296) ++ four_octets (or_wide_ones view.wide % 4294967296))
+    ++ part kind 11 (four_octets (or_ones view.buffer))
 
 -- Length, the words of the data, 8 bits and Schema ID 24, then the data
 abbrev pub snapshot_of : Option (ℕ × List ℕ) → List ℕ
-snapshot_of None = word 16777215
-snapshot_of (Some given) = word (length given.1 / 4 * 16777216 + given.0) ++ given.1
+snapshot_of None = four_octets 16777215
+snapshot_of (Some given) = four_octets (length given.1 / 4 * 16777216 + given.0) ++ given.1
 
 -- the element of a view under a type and NodeLen
 unfoldable pub element_of : ℕ → ℕ → Seen → List ℕ

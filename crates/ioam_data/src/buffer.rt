@@ -1,6 +1,7 @@
 ghost use Rattle.std.specs.Prelude.{◌≡◌, ℕ, ◌+◌, ◌*◌, ◌<◌, ◌≤◌, List, [], ◌++◌, length, take, replicate};
 ghost use Rattle.ioam_data.specs.Kind.{where_has};
-ghost use Rattle.ioam_data.specs.Written.{word, part};
+ghost use Rattle.ioam_data.specs.Written.{part};
+ghost use Rattle.ioam_base.specs.Words.{four_octets};
 
 use crate::kind::TraceType;
 use ioam_base::octets::put_at;
@@ -61,7 +62,7 @@ impl ElementBuf {
     // Appends a number as four octets.
     pub(crate) fn word(&mut self, number: u32)
         requires { length self.old + 4 ≤ 308 }
-        ensures value { self.new ≡ self.old ++ word number }
+        ensures value { self.new ≡ self.old ++ four_octets number }
         ensures size { length self.new ≡ length self.old + 4 }
     {
         self.append(&number.to_be_bytes());
@@ -71,7 +72,7 @@ impl ElementBuf {
     pub(crate) fn word_at(&mut self, kind: TraceType, bit: u8, number: u32)
         requires bit { bit < 24 }
         requires room { length self.old + 4 * where_has kind bit 1 ≤ 308 }
-        ensures value { self.new ≡ self.old ++ part kind bit (word number) }
+        ensures value { self.new ≡ self.old ++ part kind bit (four_octets number) }
         ensures size { length self.new ≡ length self.old + 4 * where_has kind bit 1 }
     {
         if kind.has(bit) {
@@ -83,7 +84,7 @@ impl ElementBuf {
     pub(crate) fn words_at(&mut self, kind: TraceType, bit: u8, first: u32, second: u32)
         requires bit { bit < 24 }
         requires room { length self.old + 4 * where_has kind bit 2 ≤ 308 }
-        ensures value { self.new ≡ self.old ++ part kind bit (word first ++ word second) }
+        ensures value { self.new ≡ self.old ++ part kind bit (four_octets first ++ four_octets second) }
         ensures size { length self.new ≡ length self.old + 4 * where_has kind bit 2 }
     {
         if kind.has(bit) {

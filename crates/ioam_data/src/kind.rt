@@ -1,5 +1,6 @@
-ghost use Rattle.std.specs.Prelude.{◌≡◌, ℕ, ◌+◌, ◌-◌, ◌*◌, ◌/◌, ◌%◌, ◌^◌, ◌<◌, ◌≤◌};
+ghost use Rattle.std.specs.Prelude.{◌≡◌, ℕ, ◌+◌, ◌-◌, ◌*◌, ◌/◌, ◌%◌, ◌^◌, ◌<◌, ◌≤◌, length};
 ghost use Rattle.std.specs.Bool.{OnTrue};
+ghost use Rattle.ioam_base.specs.Octets.{u24_at};
 ghost use Rattle.ioam_data.specs.Kind.{has, where_has, words, undefined, fits_type, can_add, is_entry_type};
 
 use std::marker::Model;
@@ -28,6 +29,15 @@ impl TraceType {
         ensures { result ≡ bits }
     {
         TraceType(bits)
+    }
+
+    /// The type at a place of the octets.
+    pub fn at(octets: &[u8], at: usize) -> TraceType
+        requires { at + 3 ≤ length octets.now }
+        ensures { result ≡ u24_at octets.now at }
+    {
+        let [high, middle, low] = [octets[at], octets[at + 1], octets[at + 2]];
+        TraceType(u32::from(high) * 65536 + u32::from(middle) * 256 + u32::from(low))
     }
 
     /// The 24 bits as a number.

@@ -2,6 +2,7 @@ ghost use Rattle.std.specs.Prelude.{◌≡◌, ℕ, ◌-◌, ◌*◌, ◌≤◌,
 ghost use Rattle.ioam_data.specs.Elements.{IsElement};
 ghost use Rattle.ioam_data.specs.Fields.{fields_of, held, when_has, snapshot_at};
 ghost use Rattle.ioam_data.specs.Shown.{ReadsBack};
+ghost use Rattle.ioam_data.specs.Whole.{held_octets};
 ghost use Rattle.ioam_data.specs.View.{snapshot_data};
 ghost use Rattle.ioam_data.specs.Kind.{words, where_has};
 
@@ -65,6 +66,8 @@ fn read_fields(kind: TraceType, node_len: u8, octets: &[u8]) -> Fields<'_>
 pub fn fields(kind: TraceType, node_len: u8, octets: &[u8]) -> Fields<'_>
     requires { IsElement kind node_len octets.now }
     ensures value { held result ≡ fields_of kind node_len octets.now }
+    // Nothing of the element is lost: its octets are those of the fields.
+    ensures whole { octets.now ≡ held_octets (held result) }
     // What `element` wrote for a view is read as that view shows.
     ensures back { ReadsBack kind node_len octets.now (held result) }
 {

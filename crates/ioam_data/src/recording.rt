@@ -147,9 +147,10 @@ fn write(kind: TraceType, node_len: u8, view: &View<'_>, into: &mut ElementBuf)
     put_snapshot(kind, view, into);
 }
 
-/// Writes into the buffer the element that a node adds for a view: the fields of bits 0 to 11 in
-/// bit order, words of all ones up to NodeLen, and with bit 22 the opaque state snapshot. False
-/// where a node adds nothing under this type and NodeLen; the buffer then stays as it was.
+/// Writes into the buffer the element that a node adds for a view (RFC 9197 section 4.4.2): the
+/// fields of bits 0 to 11 in bit order, words of all ones up to NodeLen, which is at most 31, and
+/// with bit 22 the opaque state snapshot. False where a node adds nothing under this type and
+/// NodeLen; the buffer then stays as it was.
 pub fn element(kind: TraceType, node_len: u8, view: &View<'_>, into: &mut ElementBuf) -> bool
     requires { node_len < 32 }
     ensures can { result ≡ can_add kind node_len }

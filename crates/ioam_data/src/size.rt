@@ -30,7 +30,7 @@ fn size_of(kind: TraceType, node_len: u8, octets: &[u8]) -> Option<usize>
     }
 }
 
-/// The number of octets of the element that the octets begin with. None where NodeLen is less than
+/// The number of octets of the element that the octets begin with (RFC 9197 section 4.4.1). None where NodeLen is less than
 /// the words of the type's defined fields, where the octets do not hold a whole element, or where it
 /// would be empty. What follows the element is not looked at.
 pub fn split(kind: TraceType, node_len: u8, octets: &[u8]) -> Option<usize>

@@ -1,12 +1,12 @@
 -- Laws of direct export data.
 use Rattle.std.proofs.Common.{◌≡◌, ℕ, ◌+◌, ◌≤◌, List, ◌∷◌, ◌++◌, length, drop, get_or, Ok, arith, sym, ap, ◌∙◌, append_assoc}
-use Rattle.ioam_base.specs.Octets.{IsOctets, u16_at}
-use Rattle.ioam_dex.specs.Words.{two_octets, three_octets, four_octets_if}
-use Rattle.ioam_dex.proofs.WordsLaws.{two_octets-same, three_octets-same, four_octets_if-same}
-use Rattle.ioam_dex.specs.Numbers.{has_flow, has_seq, four_where, numbers_size, u24_at, u32_where}
+use Rattle.ioam_base.specs.Octets.{IsOctets, u16_at, u24_at}
+use Rattle.ioam_base.specs.Words.{two_octets, three_octets, four_octets_if}
+use Rattle.ioam_base.proofs.WordsLaws.{octet-at, two-at, three-at, two_octets-same, three_octets-same, four_octets_if-same}
+use Rattle.ioam_dex.specs.Numbers.{has_flow, has_seq, four_where, numbers_size, u32_where}
 use Rattle.ioam_dex.specs.declared.direct.Direct.{Direct}
 use Rattle.ioam_dex.specs.Direct.{HasItsNumbers, IsDirect, direct_octets, Begins, ReadsAgain, direct_at}
-use Rattle.ioam_dex.proofs.NumbersLaws.{octet-at, two-at, three-at, four_where-at, u32_where-is_some}
+use Rattle.ioam_dex.proofs.NumbersLaws.{four_where-at, u32_where-is_some}
 
 -- the octets in groups of one field each, with what follows
 fields_of : (n k a b rest : List ℕ) (flags ext reserved : ℕ)

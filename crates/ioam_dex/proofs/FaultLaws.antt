@@ -5,8 +5,14 @@ use Rattle.std.proofs.lemmas.List.{get_or_append_left, drop-append-le, take-appe
 use Rattle.ioam_base.proofs.OctetsLaws.{u16_at-append}
 use Rattle.ioam_dex.specs.declared.export.ExportFault.{ExportFault}
 use Rattle.ioam_dex.specs.declared.export.ExportFault.TheVariants as fault
-use Rattle.ioam_dex.specs.Record.{IsFilled, front_size, length_of, front_of, element_of, kind_of, IsSized, IsWhole}
+use Rattle.ioam_dex.specs.Record.{IsFilled, front_size, length_of, front_of, element_of, kind_of, IsSized}
 use Rattle.ioam_dex.specs.Faults.{Fault, IsCut}
+
+-- a record is there whole, and has an element of its type
+pub record IsWhole (octets : List ℕ) : Type 0 where
+  pub sized : IsSized octets
+  pub there : length_of octets ≤ length octets
+  pub filled : IsFilled (kind_of octets) (element_of octets)
 
 module _ (octets : List ℕ) where
   pub whole-not-cut : IsWhole octets → IsCut octets → ⊥

@@ -5,4 +5,3 @@ pub mod ReaderLaws
 pub mod ReadsLaws
 pub mod RecordLaws
 pub mod TotalLaws
-pub mod WordsLaws

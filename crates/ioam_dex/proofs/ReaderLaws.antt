@@ -6,14 +6,14 @@ use Rattle.ioam_dex.specs.declared.head.RecordHead.{RecordHead}
 use Rattle.ioam_dex.specs.declared.head.RecordStep.TheVariants as step
 use Rattle.ioam_dex.specs.Record.{Record, IsRecord, record_of, record_octets, length_of, element_of}
 use Rattle.ioam_dex.specs.Faults.{Fault, TellsRecord, said}
-use Rattle.ioam_dex.specs.Reads.{records_octets, Faulty, Reads}
+use Rattle.ioam_dex.specs.Reads.{records_octets, Faulty, Reads, ReadsOnly}
 use Rattle.ioam_dex.specs.Reading.{Reading}
 use Rattle.ioam_dex.specs.declared.reader.Step.{Step}
 use Rattle.ioam_dex.specs.declared.reader.Step.TheVariants.{Export, More, Bad}
 use Rattle.ioam_dex.specs.Reader.{Stands, Waits, Moved}
 use Rattle.ioam_dex.proofs.FaultLaws.{cut-not-faulty, fault-unique}
 use Rattle.ioam_dex.proofs.RecordLaws.{front-length}
-use Rattle.ioam_dex.proofs.ReadsLaws.{records_octets-append, Splits-feed, Splits-push, Splits-unique, cut-no-record, fault-no-record, Reads-faulty}
+use Rattle.ioam_dex.proofs.ReadsLaws.{records_octets-append, Splits-feed, Splits-push, Splits-unique, cut-no-record, fault-no-record, Reads-unique, Reads-faulty}
 
 -- a piece more
 pub Stands-feed : (reader : Reading) (piece octets : List ℕ) (records : List Record) → Stands reader octets records
@@ -40,10 +40,11 @@ Stands-still old new same octets records stands = let S : Reading → Type 0 = �
 
 -- a fault
 pub Stands-faulty : (old : Reading) (place : ℕ) (f : ExportFault) → place ≡ old.start → Fault old.pending f → (octets : List ℕ) (records : List Record)
-    → Stands old octets records → (more : List ℕ) → Reads (octets ++ more) records (Faulty place f)
+    → Stands old octets records → (more : List ℕ) → Reads (octets ++ more) records (Faulty place f) × ReadsOnly (octets ++ more) records (Faulty place f)
 Stands-faulty old place f here bad octets records stands more =
     let P : ℕ → Type 0 = λ n. Reads (octets ++ more) records (Faulty n f) in
-    subst P (sym (here ∙ stands.place)) (Reads-faulty octets records old.pending f stands.splits bad more)
+    let so = subst P (sym (here ∙ stands.place)) (Reads-faulty octets records old.pending f stands.splits bad more) in
+    (so, λ others other reads. Reads-unique (octets ++ more) others records other (Faulty place f) reads so)
 
 -- After a fault every step answers the same.
 pub Bad-again : (old new : Reading) (step : Step) (f : ExportFault) → Fault old.pending f → Moved old new step → step ≡ Bad old.start f

@@ -3,12 +3,13 @@ use Rattle.std.proofs.Common.{◌≡◌, ℕ, ◌+◌, ◌-◌, ◌<◌, ◌≤�
 use Rattle.std.specs.Option.{is_some, IfSome}
 use Rattle.std.proofs.lemmas.List.{length-take-le, take-append-drop, take_at, drop_at, drop-drop, append-nil}
 use Rattle.ioam_base.specs.Octets.{IsOctets, u16_at}
-use Rattle.ioam_dex.specs.Words.{two_octets, three_octets, four_octets_if}
+use Rattle.ioam_base.specs.Words.{two_octets, three_octets, four_octets_if}
 use Rattle.ioam_base.proofs.OctetsLaws.{u32_at-fits}
-use Rattle.ioam_dex.proofs.WordsLaws.{two_octets-same, three_octets-same, four_octets_if-same}
+use Rattle.ioam_base.proofs.WordsLaws.{octet-at, two-at, three-at, two_octets-same, three_octets-same, four_octets_if-same}
 use Rattle.ioam_dex.specs.Numbers.{has_flow, has_seq, four_where, numbers_size, u32_where}
-use Rattle.ioam_dex.specs.Record.{Record, IsFilled, HasItsParts, front_size, record_size, record_octets, IsRecord, Rec, length_of, front_of, element_of, kind_of, record_at, IsSized, IsWhole}
-use Rattle.ioam_dex.proofs.NumbersLaws.{octet-at, two-at, three-at, four_where-at, u32_where-is_some}
+use Rattle.ioam_dex.specs.Record.{Record, IsFilled, HasItsParts, front_size, record_size, record_octets, IsRecord, Rec, length_of, front_of, element_of, kind_of, record_at, IsSized}
+use Rattle.ioam_dex.proofs.FaultLaws.{IsWhole}
+use Rattle.ioam_dex.proofs.NumbersLaws.{four_where-at, u32_where-is_some}
 
 -- the octets in groups of one field each, with what follows
 fields_of : (l n k a b e rest : List ℕ) (ext flags : ℕ)
@@ -72,6 +73,8 @@ module _ (octets : List ℕ) (small : IsOctets octets) (sized : IsSized octets) 
     };
     numbers = record {
       namespace_below = omega (arith, small 4, small 5);
+      flags_below = small 6;
+      ext_below = small 1;
       kind_below = omega (arith, small 7, small 8, small 9);
       flow_below = number-below (has_flow ext) 10;
       seq_below = number-below (has_seq ext) behind;

@@ -1,9 +1,9 @@
--- Direct export data (RFC 9326 section 3.1): Namespace-ID 16 bits, Flags 8, Extension-Flags 8,
+-- Direct export data (RFC 9326 section 3.2): Namespace-ID 16 bits, Flags 8, Extension-Flags 8,
 -- IOAM-Trace-Type 24, Reserved 8, and the numbers that the extension flags have.
 use Rattle.std.specs.Prelude.{ℕ, ◌+◌, ◌≡◌, ◌<◌, ◌≤◌, nat_lt, if◌then◌else◌, List, ◌∷◌, ◌++◌, length, slice_index, is_some, IfSome, Result, Ok, Err, IsOkAnd}
-use Rattle.ioam_base.specs.Octets.{u16_at}
-use Rattle.ioam_dex.specs.Words.{two_octets, three_octets, four_octets_if}
-use Rattle.ioam_dex.specs.Numbers.{has_flow, has_seq, four_where, numbers_size, u24_at, u32_where}
+use Rattle.ioam_base.specs.Octets.{u16_at, u24_at}
+use Rattle.ioam_base.specs.Words.{two_octets, three_octets, four_octets_if}
+use Rattle.ioam_dex.specs.Numbers.{has_flow, has_seq, four_where, numbers_size, u32_where}
 use Rattle.ioam_dex.specs.declared.direct.Direct.{Direct}
 use Rattle.ioam_dex.specs.declared.direct.DirectFault.{DirectFault}
 use Rattle.ioam_dex.specs.declared.direct.DirectFault.TheVariants.{Short}
@@ -13,9 +13,11 @@ pub record HasItsNumbers (direct : Direct) : Type 0 where
   pub flow : is_some direct.flow ≡ has_flow direct.ext
   pub seq : is_some direct.seq ≡ has_seq direct.ext
 
--- the numbers are within their types
+-- the numbers are within their fields
 pub record IsDirect (direct : Direct) : Type 0 where
   pub namespace_below : direct.namespace.0 < 65536
+  pub flags_below : direct.flags < 256
+  pub ext_below : direct.ext < 256
   pub kind_below : direct.kind < 16777216
   pub flow_below : IfSome direct.flow (λ number. number < 4294967296)
   pub seq_below : IfSome direct.seq (λ number. number < 4294967296)

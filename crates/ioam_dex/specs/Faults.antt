@@ -1,6 +1,7 @@
 -- What octets where a record is due show of it.
 use Rattle.std.specs.Prelude.{ℕ, ◌+◌, ◌≡◌, ◌≢◌, ◌<◌, ◌≤◌, ◌⊎◌, List, ◌++◌, length, drop, slice_index}
 use Rattle.ioam_dex.specs.declared.export.ExportFault.{ExportFault}
+use Rattle.ioam_dex.specs.declared.export.TheConstants.{ELEMENT_MOST}
 use Rattle.ioam_dex.specs.declared.export.ExportFault.TheVariants as fault
 use Rattle.ioam_dex.specs.declared.head.Sizing.{Sizing}
 use Rattle.ioam_dex.specs.declared.head.Sizing.TheVariants as sizing
@@ -13,7 +14,7 @@ use Rattle.ioam_dex.specs.Record.{Record, IsRecord, record_octets, IsFilled, len
 abbrev pub Fault : List ℕ → ExportFault → Type 0
 Fault octets (fault.Version found) = (1 ≤ length octets) × (found ≡ slice_index octets 0) × (found ≢ 1)
 Fault octets (fault.Length found) = (4 ≤ length octets) × (slice_index octets 0 ≡ 1) × (found ≡ length_of octets)
-    × ((found < front_of octets) ⊎ (front_of octets + 244 < found))
+    × ((found < front_of octets) ⊎ (front_of octets + ELEMENT_MOST < found))
 Fault octets (fault.Element at) = IsSized octets × (length_of octets ≤ length octets) × (at ≡ front_of octets)
     × (IsFilled (kind_of octets) (element_of octets) → ⊥)
 Fault octets (fault.Short have) = ⊥

@@ -6,4 +6,3 @@ pub mod Reading
 pub mod Reads
 pub mod Record
 pub mod Room
-pub mod Words

@@ -1,6 +1,6 @@
--- The Flow ID and the Sequence Number of direct export (RFC 9326 section 3.1.1): each is there exactly
+-- The Flow ID and the Sequence Number of direct export (RFC 9326 section 3.2): each is there exactly
 -- where the extension flags have it, the Flow ID first.
-use Rattle.std.specs.Prelude.{ℕ, ◌+◌, ◌*◌, ◌/◌, ◌%◌, Bool, ◌==◌, if◌then◌else◌, List, slice_index, Option, Some, None}
+use Rattle.std.specs.Prelude.{ℕ, ◌+◌, ◌/◌, ◌%◌, Bool, ◌==◌, if◌then◌else◌, List, Option, Some, None}
 use Rattle.ioam_base.specs.Octets.{u32_at}
 
 -- bit 0, the most significant
@@ -22,7 +22,3 @@ numbers_size ext = four_where (has_flow ext) + four_where (has_seq ext)
 -- the number that is read at a place, where it is there
 abbrev pub u32_where : Bool → List ℕ → ℕ → Option ℕ
 u32_where there octets at = if there then Some (u32_at octets at) else None
-
--- the number of 24 bits at a place
-abbrev pub u24_at : List ℕ → ℕ → ℕ
-u24_at octets at = slice_index octets at * 65536 + slice_index octets (at + 1) * 256 + slice_index octets (at + 2)

@@ -8,7 +8,7 @@ use Rattle.ioam_dex.specs.declared.reader.Step.TheVariants.{Export, More, Bad}
 use Rattle.ioam_dex.specs.contracts.reader.ExportReader.{the_row}
 use Rattle.ioam_dex.specs.Record.{Record, IsRecord, record_of, record_octets}
 use Rattle.ioam_dex.specs.Faults.{Fault, IsCut}
-use Rattle.ioam_dex.specs.Reads.{records_octets, Splits, Ending, Whole, Faulty, Reads}
+use Rattle.ioam_dex.specs.Reads.{records_octets, Splits, Ending, Whole, Faulty, Reads, ReadsOnly}
 use Rattle.ioam_dex.specs.Reading.{Reading}
 
 -- a reader that was fed these octets in all, in whatever pieces, and has given these records
@@ -36,12 +36,12 @@ Moved old new More = (new ≡ old) × Waits old
 Moved old new (Bad at fault) = (new ≡ old) × (at ≡ old.start) × Fault old.pending fault
 
 -- what the reader stands for behind a step, which was fed these octets and had given these records; an
--- input with a fault ends there, whatever is fed
+-- input with a fault ends there, whatever is fed, and reads in this way alone
 abbrev pub Leaves : List ℕ → List Record → Reading → Step → Type 0
 Leaves octets records new (Export e) = Stands new octets (records ++ record_of e ∷ [])
 Leaves octets records new More = Stands new octets records
 Leaves octets records new (Bad at fault) = Stands new octets records
-    × ((more : List ℕ) → Reads (octets ++ more) records (Faulty at fault))
+    × ((more : List ℕ) → Reads (octets ++ more) records (Faulty at fault) × ReadsOnly (octets ++ more) records (Faulty at fault))
 
 -- so the reader is once the step's octets are no longer lent
 abbrev pub RestsSo : MutBor Reading → Step → Fml

@@ -33,3 +33,8 @@ pub record Reads (octets : List ℕ) (records : List Record) (ending : Ending) :
   pub rest : List ℕ
   pub splits : Splits octets records rest
   pub ends : EndsAt (length (records_octets records)) rest ending
+
+-- and the octets read in no other way
+abbrev pub ReadsOnly : List ℕ → List Record → Ending → Type 0
+ReadsOnly octets records ending = (others : List Record) (other : Ending) → Reads octets others other
+    → (others ≡ records) × (other ≡ ending)

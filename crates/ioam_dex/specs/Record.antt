@@ -2,12 +2,13 @@
 -- Namespace-ID 16, Flags 8, IOAM-Trace-Type 24, the Flow ID and the Sequence Number where the extension
 -- flags have them, and the element.
 use Rattle.std.specs.Prelude.{ℕ, ◌+◌, ◌-◌, ◌≡◌, ◌<◌, ◌≤◌, ◌⊎◌, false, List, [], ◌∷◌, ◌++◌, length, take, drop, slice_index, Option, is_some, IfSome}
-use Rattle.ioam_base.specs.Octets.{u16_at}
-use Rattle.ioam_dex.specs.Words.{two_octets, three_octets, four_octets_if}
+use Rattle.ioam_base.specs.Octets.{u16_at, u24_at}
+use Rattle.ioam_base.specs.Words.{two_octets, three_octets, four_octets_if}
 use Rattle.ioam_data.specs.Kind.{has, words}
 use Rattle.ioam_data.specs.Elements.{IsElement}
-use Rattle.ioam_dex.specs.Numbers.{has_flow, has_seq, four_where, numbers_size, u24_at, u32_where}
+use Rattle.ioam_dex.specs.Numbers.{has_flow, has_seq, four_where, numbers_size, u32_where}
 use Rattle.ioam_dex.specs.declared.export.Export.{Export}
+use Rattle.ioam_dex.specs.declared.export.TheConstants.{ELEMENT_MOST}
 
 -- what a record says
 pub record Record : Type 0 where
@@ -47,11 +48,13 @@ pub record HasItsParts (x : Record) : Type 0 where
   pub flow : is_some x.flow ≡ has_flow x.ext
   pub seq : is_some x.seq ≡ has_seq x.ext
   pub filled : IsFilled x.kind x.element
-  pub short : length x.element ≤ 244
+  pub short : length x.element ≤ ELEMENT_MOST
 
 -- its numbers are within their fields
 pub record IsNumbered (x : Record) : Type 0 where
   pub namespace_below : x.namespace < 65536
+  pub flags_below : x.flags < 256
+  pub ext_below : x.ext < 256
   pub kind_below : x.kind < 16777216
   pub flow_below : IfSome x.flow (λ number. number < 4294967296)
   pub seq_below : IfSome x.seq (λ number. number < 4294967296)
@@ -115,10 +118,4 @@ pub record IsSized (octets : List ℕ) : Type 0 where
   pub begins : 4 ≤ length octets
   pub version : slice_index octets 0 ≡ 1
   pub least : front_of octets ≤ length_of octets
-  pub most : length_of octets ≤ front_of octets + 244
-
--- it is there whole, and has an element of its type
-pub record IsWhole (octets : List ℕ) : Type 0 where
-  pub sized : IsSized octets
-  pub there : length_of octets ≤ length octets
-  pub filled : IsFilled (kind_of octets) (element_of octets)
+  pub most : length_of octets ≤ front_of octets + ELEMENT_MOST

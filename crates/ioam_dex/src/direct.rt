@@ -1,6 +1,6 @@
 use ioam_data::{Namespace, TraceType};
 
-/// Direct export data (RFC 9326 section 3.1). The two optional fields are there exactly where the
+/// Direct export data (RFC 9326 section 3.2). The two optional fields are there exactly where the
 /// extension flags have them.
 #[derive(Clone, Copy, Debug, PartialEq, Eq)]
 pub struct Direct {

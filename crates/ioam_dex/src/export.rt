@@ -2,8 +2,11 @@ ghost use Rattle.std.specs.Prelude.{◌≡◌, ◌<◌};
 
 use ioam_data::{Namespace, TraceType};
 
+/// The most octets of an element: 61 words.
+pub const ELEMENT_MOST: usize = 244;
+
 /// What one record says: the data of the direct export option that a node met (RFC 9326 section
-/// 3.1) and the element that it exports (RFC 9197 section 4.4).
+/// 3.2) and the element that it exports (RFC 9197 section 4.4).
 #[derive(Clone, Copy, Debug)]
 pub struct Export<'a> {
     /// The namespace of the data.

@@ -1,7 +1,8 @@
 ghost use Rattle.std.specs.Prelude.{◌≡◌, ◌<◌, ◌≤◌, ◌∷◌, ◌++◌, length, IsSomeAnd, MatchOption};
-ghost use Rattle.ioam_dex.specs.Words.{two_octets, three_octets};
+ghost use Rattle.ioam_base.specs.Words.{two_octets, three_octets};
 ghost use Rattle.ioam_dex.specs.Record.{Record, HasItsParts, Rec, record_of, record_octets, record_size};
 ghost use Rattle.ioam_dex.specs.Faults.{said};
+ghost use Rattle.ioam_dex.specs.declared.export.TheConstants.{ELEMENT_MOST};
 ghost use Rattle.ioam_dex.specs.Room.{appended};
 
 use crate::export::Export;
@@ -12,7 +13,7 @@ use crate::step::record_step;
 
 // The numbers of a record and its sizes.
 fn head_of(export: &Export<'_>) -> RecordHead
-    requires { length export.now.element.now ≤ 244 }
+    requires { length export.now.element.now ≤ ELEMENT_MOST }
     ensures says { said result export.now.element.now ≡ record_of export.now }
     ensures size { result.size ≡ record_size (record_of export.now) }
 {

@@ -5,7 +5,7 @@ use ioam_data::Namespace;
 
 /// What the first octets of a record show of its size.
 #[derive(Clone, Copy)]
-pub enum Sizing {
+pub(crate) enum Sizing {
     Sized { front: usize, size: usize },
     Cut,
     Bad(ExportFault),
@@ -13,7 +13,7 @@ pub enum Sizing {
 
 /// What stands in front of an element, and the sizes of this front and of the whole record.
 #[derive(Clone, Copy)]
-pub struct RecordHead {
+pub(crate) struct RecordHead {
     pub namespace: Namespace,
     pub flags: u8,
     pub ext: u8,
@@ -27,7 +27,7 @@ pub struct RecordHead {
 
 /// What octets where a record is due show of it.
 #[derive(Clone, Copy)]
-pub enum RecordStep {
+pub(crate) enum RecordStep {
     Whole(RecordHead),
     Cut,
     Bad(ExportFault),

@@ -1,7 +1,6 @@
 //! IOAM direct export data (RFC 9326 section 3), and the records that nodes export.
 #![tactic(auto)]
 
-mod buffer;
 mod direct;
 mod export;
 mod exporting;
@@ -14,7 +13,7 @@ mod room;
 mod step;
 
 pub use direct::{Direct, DirectFault};
-pub use export::{Export, ExportFault};
+pub use export::{ELEMENT_MOST, Export, ExportFault};
 pub use exporting::{export_of, put_export};
 pub use putting::put;
 pub use reader::{ExportReader, Step};

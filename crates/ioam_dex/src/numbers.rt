@@ -1,12 +1,11 @@
 ghost use Rattle.std.specs.Prelude.{◌≡◌, ◌+◌, ◌≤◌, ◌<◌, length};
-ghost use Rattle.ioam_dex.specs.Numbers.{has_flow, has_seq, four_where, numbers_size, u24_at, u32_where};
+ghost use Rattle.ioam_dex.specs.Numbers.{has_flow, has_seq, four_where, numbers_size, u32_where};
 
 use ioam_base::octets::u32_at;
-use ioam_data::TraceType;
 
 /// Whether the extension flags have a Flow ID.
 #[tactic(auto, unfolding(crate::specs::Numbers::has_flow))]
-pub fn has_flow(ext: u8) -> bool
+pub(crate) fn has_flow(ext: u8) -> bool
     ensures { result ≡ has_flow ext }
 {
     ext / 128 % 2 == 1
@@ -14,14 +13,14 @@ pub fn has_flow(ext: u8) -> bool
 
 /// Whether they have a Sequence Number.
 #[tactic(auto, unfolding(crate::specs::Numbers::has_seq))]
-pub fn has_seq(ext: u8) -> bool
+pub(crate) fn has_seq(ext: u8) -> bool
     ensures { result ≡ has_seq ext }
 {
     ext / 64 % 2 == 1
 }
 
 /// The octets of a number that is there or not.
-pub fn four_where(there: bool) -> usize
+pub(crate) fn four_where(there: bool) -> usize
     ensures value { result ≡ four_where there }
     ensures small { result ≤ 4 }
 {
@@ -29,7 +28,7 @@ pub fn four_where(there: bool) -> usize
 }
 
 /// The octets of the two.
-pub fn numbers_size(ext: u8) -> usize
+pub(crate) fn numbers_size(ext: u8) -> usize
     ensures value { result ≡ numbers_size ext }
     ensures small { result ≤ 8 }
 {
@@ -37,7 +36,7 @@ pub fn numbers_size(ext: u8) -> usize
 }
 
 /// The number at a place, where it is there.
-pub fn u32_where(there: bool, octets: &[u8], at: usize) -> Option<u32>
+pub(crate) fn u32_where(there: bool, octets: &[u8], at: usize) -> Option<u32>
     requires { at + four_where there ≤ length octets.now }
     ensures { result ≡ u32_where there octets.now at }
 {
@@ -46,13 +45,4 @@ pub fn u32_where(there: bool, octets: &[u8], at: usize) -> Option<u32>
     } else {
         None
     }
-}
-
-/// The IOAM-Trace-Type at a place.
-pub fn kind_at(octets: &[u8], at: usize) -> TraceType
-    requires { at + 3 ≤ length octets.now }
-    ensures { result ≡ u24_at octets.now at }
-{
-    let [high, middle, low] = [octets[at], octets[at + 1], octets[at + 2]];
-    TraceType::new(u32::from(high) * 65536 + u32::from(middle) * 256 + u32::from(low))
 }

@@ -51,7 +51,7 @@ impl Model for ExportReader {
 impl ExportReader {
     ghost use Rattle.ioam_dex.specs.declared.export.ExportFault.TheVariants.{Short};
     ghost use Rattle.ioam_dex.specs.Record.{Record};
-    ghost use Rattle.ioam_dex.specs.Reads.{Reads};
+    ghost use Rattle.ioam_dex.specs.Reads.{Reads, ReadsOnly};
     ghost use Rattle.ioam_dex.specs.Reader.{Stands, Waits, RestsSo, fresh, fed, ending_of};
 
     /// A reader that was fed nothing.
@@ -101,15 +101,7 @@ impl ExportReader {
                 let to = self.taken + head.size;
                 self.taken = to;
                 self.start += head.size as u64;
-                Step::Export(Export {
-                    namespace: head.namespace,
-                    flags: head.flags,
-                    ext: head.ext,
-                    kind: head.kind,
-                    flow: head.flow,
-                    seq: head.seq,
-                    element: &self.buffer[from..to],
-                })
+                Step::Export(head.with_element(&self.buffer[from..to]))
             }
             RecordStep::Cut => Step::More,
             RecordStep::Bad(fault) => Step::Bad {
@@ -122,6 +114,20 @@ impl ExportReader {
     /// What an ended input leaves over, once `next` answered `More`: nothing where its last record is
     /// whole, else the place of the record that is cut, and how many octets of it are there.
     pub fn finish(&self) -> Option<(u64, ExportFault)>
+        requires { Waits self.now }
+        ensures left { MatchOption result (self.now.pending ≡ [])
+            (λ cut. (cut ≡ (self.now.start, Short (length self.now.pending))) × (0 < length self.now.pending)) }
+        ensures reads { (octets : List ℕ) (records : List Record) → Stands self.now octets records
+            → Reads octets records (ending_of result) }
+        // The records don't depend on the pieces in which the octets were fed: these alone are read of them.
+        ensures only { (octets : List ℕ) (records : List Record) → Stands self.now octets records
+            → ReadsOnly octets records (ending_of result) }
+    {
+        self.left_over()
+    }
+
+    // What an ended input leaves over, by the rules alone.
+    fn left_over(&self) -> Option<(u64, ExportFault)>
         requires { Waits self.now }
         ensures left { MatchOption result (self.now.pending ≡ [])
             (λ cut. (cut ≡ (self.now.start, Short (length self.now.pending))) × (0 < length self.now.pending)) }

@@ -2,9 +2,9 @@ ghost use Rattle.std.specs.Prelude.{◌≡◌, ◌≤◌, length};
 ghost use Rattle.ioam_dex.specs.Direct.{Reads, ReadsAgain, direct_at, wanted};
 
 use crate::direct::{Direct, DirectFault};
-use crate::numbers::{four_where, has_flow, has_seq, kind_at, numbers_size, u32_where};
+use crate::numbers::{four_where, has_flow, has_seq, numbers_size, u32_where};
 use ioam_base::octets::u16_at;
-use ioam_data::Namespace;
+use ioam_data::{Namespace, TraceType};
 
 // The octets that are wanted, as far as these tell.
 fn wanted(octets: &[u8]) -> usize
@@ -27,7 +27,7 @@ fn value(octets: &[u8]) -> Direct
         namespace: Namespace(u16_at(octets, 0)),
         flags: octets[2],
         ext,
-        kind: kind_at(octets, 4),
+        kind: TraceType::at(octets, 4),
         flow: u32_where(has_flow(ext), octets, 8),
         seq: u32_where(has_seq(ext), octets, 8 + four_where(has_flow(ext))),
     }

@@ -1,5 +1,5 @@
 ghost use Rattle.std.specs.Prelude.{◌≡◌, ◌+◌, ◌≤◌, [], IfOk, length};
-ghost use Rattle.ioam_dex.specs.Words.{four_octets_if};
+ghost use Rattle.ioam_base.specs.Words.{four_octets_if};
 
 use ioam_base::memory::NoMemory;
 use std::alloc::Global;
@@ -62,6 +62,7 @@ impl ExportRoom {
         requires { length part.now ≤ self.old.spare }
         ensures { self.new ≡ appended self.old part.now }
     {
+        // never refused: `new` took the memory for all that was given
         self.octets.extend_from_slice(part).unwrap();
     }
 

@@ -2,18 +2,15 @@ ghost use Rattle.std.specs.Prelude.{◌≡◌, ◌<◌, ◌≤◌, ◌↔◌, Is
 ghost use Rattle.ioam_dex.specs.Record.{IsFilled, record_at, record_of, element_of, front_of};
 ghost use Rattle.ioam_dex.specs.Faults.{TellsSize, TellsRecord, said};
 
-use crate::export::{Export, ExportFault};
+use crate::export::{ELEMENT_MOST, Export, ExportFault};
 use crate::head::{RecordHead, RecordStep, Sizing};
-use crate::numbers::{four_where, has_flow, has_seq, kind_at, numbers_size, u32_where};
+use crate::numbers::{four_where, has_flow, has_seq, numbers_size, u32_where};
 use ioam_base::octets::u16_at;
 use ioam_data::{Namespace, TraceType, split};
 
-/// The most octets of an element: 61 words.
-pub const ELEMENT_MOST: usize = 244;
-
 impl RecordHead {
     /// The record with its element.
-    pub fn with_element(self, element: &[u8]) -> Export<'_>
+    pub(crate) fn with_element(self, element: &[u8]) -> Export<'_>
         ensures { record_of result ≡ said self element.now }
     {
         Export {
@@ -72,7 +69,7 @@ fn head(octets: &[u8], front: usize, size: usize) -> RecordHead
         namespace: Namespace(u16_at(octets, 4)),
         flags: octets[6],
         ext,
-        kind: kind_at(octets, 7).bits(),
+        kind: TraceType::at(octets, 7).bits(),
         flow: u32_where(has_flow(ext), octets, 10),
         seq: u32_where(has_seq(ext), octets, 10 + four_where(has_flow(ext))),
         front,
@@ -81,7 +78,7 @@ fn head(octets: &[u8], front: usize, size: usize) -> RecordHead
 }
 
 /// What the octets show of the record that is due at their front.
-pub fn record_step(octets: &[u8]) -> RecordStep
+pub(crate) fn record_step(octets: &[u8]) -> RecordStep
     ensures { TellsRecord octets.now result }
 {
     match size_step(octets) {
@@ -91,7 +88,7 @@ pub fn record_step(octets: &[u8]) -> RecordStep
             if octets.len() < size {
                 return RecordStep::Cut;
             }
-            if is_filled(kind_at(octets, 7), &octets[front..size]) {
+            if is_filled(TraceType::at(octets, 7), &octets[front..size]) {
                 RecordStep::Whole(head(octets, front, size))
             } else {
                 RecordStep::Bad(ExportFault::Element { at: front as u32 })

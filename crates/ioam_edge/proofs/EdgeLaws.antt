@@ -1,7 +1,7 @@
 -- Laws of edge-to-edge data.
 use Rattle.std.proofs.Common.{◌≡◌, ℕ, List, ◌++◌, Ok, sym, ap, ◌∙◌, append_assoc}
-use Rattle.ioam_edge.proofs.WordsLaws.{two_octets-same, four_octets_if-same, eight_octets_if-same}
-use Rattle.ioam_edge.specs.Words.{two_octets, four_octets_if, eight_octets_if}
+use Rattle.ioam_base.proofs.WordsLaws.{two_octets-same, four_octets_if-same, eight_octets_if-same}
+use Rattle.ioam_base.specs.Words.{two_octets, four_octets_if, eight_octets_if}
 use Rattle.ioam_edge.specs.declared.edge.Edge.{Edge}
 use Rattle.ioam_edge.specs.Edge.{asks, HasItsFields, IsEdge, edge_octets, Begins, ReadsAgain}
 
@@ -29,10 +29,10 @@ edge_octets-same e f r s in_e in_f has_e has_f same =
     ∙ fields_of (two_octets f.namespace.0) (two_octets f.kind) (eight_octets_if f.seq64) (four_octets_if f.seq32) (four_octets_if f.seconds) (four_octets_if f.fraction) s in
     let namespace = two_octets-same e.namespace.0 f.namespace.0 _ _ in_e.namespace_below in_f.namespace_below whole in
     let kind = two_octets-same e.kind f.kind _ _ in_e.kind_below in_f.kind_below namespace.1 in
-    let seq64 = eight_octets_if-same e.seq64 f.seq64 _ _ (has_e.seq64 ∙ ap (λ k. asks k 15) kind.0 ∙ sym has_f.seq64) in_e.seq64_below in_f.seq64_below kind.1 in
-    let seq32 = four_octets_if-same e.seq32 f.seq32 _ _ (has_e.seq32 ∙ ap (λ k. asks k 14) kind.0 ∙ sym has_f.seq32) in_e.seq32_below in_f.seq32_below seq64.1 in
-    let seconds = four_octets_if-same e.seconds f.seconds _ _ (has_e.seconds ∙ ap (λ k. asks k 13) kind.0 ∙ sym has_f.seconds) in_e.seconds_below in_f.seconds_below seq32.1 in
-    let fraction = four_octets_if-same e.fraction f.fraction r s (has_e.fraction ∙ ap (λ k. asks k 12) kind.0 ∙ sym has_f.fraction) in_e.fraction_below in_f.fraction_below seconds.1 in
+    let seq64 = eight_octets_if-same e.seq64 f.seq64 _ _ (has_e.seq64 ∙ ap (λ k. asks k 0) kind.0 ∙ sym has_f.seq64) in_e.seq64_below in_f.seq64_below kind.1 in
+    let seq32 = four_octets_if-same e.seq32 f.seq32 _ _ (has_e.seq32 ∙ ap (λ k. asks k 1) kind.0 ∙ sym has_f.seq32) in_e.seq32_below in_f.seq32_below seq64.1 in
+    let seconds = four_octets_if-same e.seconds f.seconds _ _ (has_e.seconds ∙ ap (λ k. asks k 2) kind.0 ∙ sym has_f.seconds) in_e.seconds_below in_f.seconds_below seq32.1 in
+    let fraction = four_octets_if-same e.fraction f.fraction r s (has_e.fraction ∙ ap (λ k. asks k 3) kind.0 ∙ sym has_f.fraction) in_e.fraction_below in_f.fraction_below seconds.1 in
     (edge_by e f namespace.0 kind.0 seq64.0 seq32.0 seconds.0 fraction.0, fraction.1)
 
 -- what is read of octets of a value is that value

@@ -2,4 +2,3 @@ pub mod EdgeLaws
 pub mod NotedLaws
 pub mod ReceiverLaws
 pub mod WindowLaws
-pub mod WordsLaws

@@ -1,24 +1,24 @@
 -- Edge-to-edge data (RFC 9197 section 4.6): Namespace-ID 16 bits, IOAM-E2E-Type 16, and the fields that
 -- the type asks for.
-use Rattle.std.specs.Prelude.{ℕ, ◌+◌, ◌/◌, ◌%◌, ◌^◌, ◌≡◌, ◌<◌, ◌≤◌, Bool, nat_lt, ◌==◌, if◌then◌else◌, List, ◌++◌, length, is_some, IfSome, Result, Ok, Err, IsOkAnd}
+use Rattle.std.specs.Prelude.{ℕ, ◌+◌, ◌-◌, ◌/◌, ◌%◌, ◌^◌, ◌≡◌, ◌<◌, ◌≤◌, Bool, nat_lt, ◌==◌, if◌then◌else◌, List, ◌++◌, length, is_some, IfSome, Result, Ok, Err, IsOkAnd}
 use Rattle.ioam_base.specs.Octets.{u16_at}
-use Rattle.ioam_edge.specs.Words.{two_octets, four_octets_if, eight_octets_if}
+use Rattle.ioam_base.specs.Words.{two_octets, four_octets_if, eight_octets_if}
 use Rattle.ioam_edge.specs.declared.edge.Edge.{Edge}
 use Rattle.ioam_edge.specs.declared.edge.EdgeFault.{EdgeFault}
 use Rattle.ioam_edge.specs.declared.edge.EdgeFault.TheVariants.{Short}
 
--- whether a type asks for the field of a bit, the least significant bit 0: 15 is 0x8000
+-- whether a type asks for the field of a bit; of its 16 bits bit 0 is the most significant
 unfoldable pub asks : ℕ → ℕ → Bool
-asks kind bit = kind / 2 ^ bit % 2 == 1
+asks kind bit = kind / 2 ^ (15 - bit) % 2 == 1
 
 -- each field is there exactly where the type asks for it
 pub record HasItsFields (edge : Edge) : Type 0 where
-  pub seq64 : is_some edge.seq64 ≡ asks edge.kind 15
-  pub seq32 : is_some edge.seq32 ≡ asks edge.kind 14
-  pub seconds : is_some edge.seconds ≡ asks edge.kind 13
-  pub fraction : is_some edge.fraction ≡ asks edge.kind 12
+  pub seq64 : is_some edge.seq64 ≡ asks edge.kind 0
+  pub seq32 : is_some edge.seq32 ≡ asks edge.kind 1
+  pub seconds : is_some edge.seconds ≡ asks edge.kind 2
+  pub fraction : is_some edge.fraction ≡ asks edge.kind 3
 
--- the numbers are within their types
+-- the numbers are within their fields
 pub record IsEdge (edge : Edge) : Type 0 where
   pub namespace_below : edge.namespace.0 < 65536
   pub kind_below : edge.kind < 65536
@@ -44,7 +44,7 @@ where_asked kind bit amount = if asks kind bit then amount else 0
 
 -- the octets of the fields of the known bits
 abbrev pub fields_size : ℕ → ℕ
-fields_size kind = where_asked kind 15 8 + where_asked kind 14 4 + where_asked kind 13 4 + where_asked kind 12 4
+fields_size kind = where_asked kind 0 8 + where_asked kind 1 4 + where_asked kind 2 4 + where_asked kind 3 4
 
 -- the octets that are wanted, as far as these tell
 abbrev pub wanted : List ℕ → ℕ

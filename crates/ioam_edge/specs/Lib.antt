@@ -2,4 +2,3 @@ pub mod Edge
 pub mod Noted
 pub mod Receiver
 pub mod Window
-pub mod Words

@@ -86,10 +86,12 @@ due_in_64_bits noted = if nat_lt (due noted) 18446744073709551616 then Some (due
 
 -- what was noted in all
 abbrev pub tally_of : List ℕ → Tally
-tally_of noted = record {
-  next = due_in_64_bits noted;
-  gaps = capped (sum_by gaps_in (notes_of noted));
-  missed = capped (sum_by missed_in (notes_of noted));
-  late = capped (sum_by late_in (notes_of noted));
-  repeats = capped (sum_by repeats_in (notes_of noted));
-}
+tally_of noted =
+    let counts = counts_in (notes_of noted) in
+    record {
+      next = due_in_64_bits noted;
+      gaps = counts.gaps;
+      missed = counts.missed;
+      late = counts.late;
+      repeats = counts.repeats;
+    }

@@ -5,7 +5,7 @@ use crate::note::Note;
 
 /// How many of each kind were noted.
 #[derive(Clone, Copy, Debug, PartialEq, Eq)]
-pub struct Counts {
+pub(crate) struct Counts {
     pub gaps: u64,
     pub missed: u64,
     pub late: u64,
@@ -14,7 +14,7 @@ pub struct Counts {
 
 impl Counts {
     /// None of any kind.
-    pub fn none() -> Counts
+    pub(crate) fn none() -> Counts
         ensures { result ≡ no_counts }
     {
         Counts {
@@ -26,7 +26,7 @@ impl Counts {
     }
 
     /// One note more.
-    pub fn count(&mut self, note: Note)
+    pub(crate) fn count(&mut self, note: Note)
         ensures { self.new ≡ counted self.old note }
     {
         match note {

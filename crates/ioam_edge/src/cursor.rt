@@ -1,15 +1,15 @@
 ghost use Rattle.std.specs.Prelude.{◌≡◌, ◌+◌, ◌≤◌, ◌++◌, length, drop, is_some, if◌then◌else◌};
-ghost use Rattle.ioam_edge.specs.Words.{two_octets, four_octets, four_octets_if, eight_octets, eight_octets_if};
+ghost use Rattle.ioam_base.specs.Words.{two_octets, four_octets, four_octets_if, eight_octets, eight_octets_if};
 
 /// Octets that are read from the front.
 #[derive(Clone, Copy)]
-pub struct Cursor<'a> {
+pub(crate) struct Cursor<'a> {
     pub rest: &'a [u8],
 }
 
 impl<'a> Cursor<'a> {
     /// The number of 16 bits in front.
-    pub fn two(&mut self) -> u16
+    pub(crate) fn two(&mut self) -> u16
         requires { 2 ≤ length self.old.rest.now }
         ensures value { self.old.rest.now ≡ two_octets result ++ self.new.rest.now }
         ensures size { length self.new.rest.now + 2 ≡ length self.old.rest.now }
@@ -20,7 +20,7 @@ impl<'a> Cursor<'a> {
     }
 
     /// The number of 32 bits in front, where it is asked for.
-    pub fn four_if(&mut self, asked: bool) -> Option<u32>
+    pub(crate) fn four_if(&mut self, asked: bool) -> Option<u32>
         requires { (if asked then 4 else 0) ≤ length self.old.rest.now }
         ensures there { is_some result ≡ asked }
         ensures value { self.old.rest.now ≡ four_octets_if result ++ self.new.rest.now }
@@ -35,7 +35,7 @@ impl<'a> Cursor<'a> {
     }
 
     /// The number of 64 bits in front, where it is asked for.
-    pub fn eight_if(&mut self, asked: bool) -> Option<u64>
+    pub(crate) fn eight_if(&mut self, asked: bool) -> Option<u64>
         requires { (if asked then 8 else 0) ≤ length self.old.rest.now }
         ensures there { is_some result ≡ asked }
         ensures value { self.old.rest.now ≡ eight_octets_if result ++ self.new.rest.now }

@@ -1,7 +1,6 @@
 //! IOAM edge-to-edge data (RFC 9197 section 4.6), and what a receiver tells of its sequence numbers.
 #![tactic(auto)]
 
-mod buffer;
 mod counts;
 mod cursor;
 mod edge;

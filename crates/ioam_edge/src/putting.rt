@@ -1,8 +1,8 @@
 ghost use Rattle.std.specs.Prelude.{◌≡◌, ◌%◌, ◌++◌, is_ok, if◌then◌else◌};
 ghost use Rattle.ioam_edge.specs.Edge.{HasItsFields, edge_octets};
 
-use crate::buffer::Buffer;
 use crate::edge::Edge;
+use ioam_base::buffer::Buffer;
 use ioam_base::memory::NoMemory;
 use ioam_base::text::append;
 

@@ -6,13 +6,13 @@ use crate::edge::{Edge, EdgeFault};
 use ioam_base::octets::u16_at;
 use ioam_data::Namespace;
 
-// Whether a type asks for the field of a bit, the least significant bit 0.
+// Whether a type asks for the field of a bit, 0 to 15 and the most significant first.
 #[tactic(auto, unfolding(crate::specs::Edge::asks))]
-pub fn asks(kind: u16, bit: u8) -> bool
+pub(crate) fn asks(kind: u16, bit: u8) -> bool
     requires { bit ≤ 15 }
     ensures { result ≡ asks kind bit }
 {
-    (kind >> bit) % 2 == 1
+    (kind >> (15 - bit)) % 2 == 1
 }
 
 // The octets of the fields of the known bits.
@@ -20,10 +20,10 @@ fn fields_size(kind: u16) -> usize
     ensures value { result ≡ fields_size kind }
     ensures small { result ≤ 20 }
 {
-    let sequence = if asks(kind, 15) { 8 } else { 0 };
-    let short_sequence = if asks(kind, 14) { 4 } else { 0 };
-    let seconds = if asks(kind, 13) { 4 } else { 0 };
-    let fraction = if asks(kind, 12) { 4 } else { 0 };
+    let sequence = if asks(kind, 0) { 8 } else { 0 };
+    let short_sequence = if asks(kind, 1) { 4 } else { 0 };
+    let seconds = if asks(kind, 2) { 4 } else { 0 };
+    let fraction = if asks(kind, 3) { 4 } else { 0 };
     sequence + short_sequence + seconds + fraction
 }
 
@@ -46,10 +46,10 @@ fn value(octets: &[u8]) -> Edge
     let mut cursor = Cursor { rest: octets };
     let namespace = Namespace(cursor.two());
     let kind = cursor.two();
-    let seq64 = cursor.eight_if(asks(kind, 15));
-    let seq32 = cursor.four_if(asks(kind, 14));
-    let seconds = cursor.four_if(asks(kind, 13));
-    let fraction = cursor.four_if(asks(kind, 12));
+    let seq64 = cursor.eight_if(asks(kind, 0));
+    let seq32 = cursor.four_if(asks(kind, 1));
+    let seconds = cursor.four_if(asks(kind, 2));
+    let fraction = cursor.four_if(asks(kind, 3));
     Edge {
         namespace,
         kind,

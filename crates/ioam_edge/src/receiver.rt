@@ -6,7 +6,7 @@ use crate::note::{Note, Tally};
 use crate::window::{holds, moved, set};
 
 /// Sorts sequence numbers as they are received: in order, late, repeated, or behind a gap. Of the
-/// numbers below the greatest it remembers 64, those that are less than 64 below it.
+/// numbers up to the greatest it remembers the last 64: the greatest and those less than 64 below it.
 #[derive(Clone, Copy, Debug)]
 pub struct Receiver {
     greatest: Option<u64>,

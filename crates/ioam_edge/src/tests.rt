@@ -54,22 +54,22 @@ fn edge_of(kind: u16) -> Edge
     ensures fields { HasItsFields result }
     ensures kind { result.kind ≡ kind }
 {
-    let seq64 = if asks(kind, 15) {
+    let seq64 = if asks(kind, 0) {
         Some(0x0102_0304_0506_0708)
     } else {
         None
     };
-    let seq32 = if asks(kind, 14) {
+    let seq32 = if asks(kind, 1) {
         Some(0x1112_1314)
     } else {
         None
     };
-    let seconds = if asks(kind, 13) {
+    let seconds = if asks(kind, 2) {
         Some(0x2122_2324)
     } else {
         None
     };
-    let fraction = if asks(kind, 12) {
+    let fraction = if asks(kind, 3) {
         Some(0x3132_3334)
     } else {
         None

@@ -6,7 +6,12 @@ use Rattle.std.proofs.lemmas.Bool.Decides.{nat_tests}
 use Rattle.ioam_base.proofs.LeadsLaws.{Leads-push}
 use Rattle.ioam_data.specs.Kind.{has}
 use Rattle.ioam_data.specs.Elements.{size_at, Stands}
-use Rattle.ioam_trace.specs.Area.{behind, element_at, Runs, Holds, Stops, IsLast, Follows, stands, run_from, end_from, elements_of, end_of}
+use Rattle.ioam_trace.specs.Area.{behind, element_at, Runs, Holds, Stops, IsLast, stands, run_from, end_from, elements_of, end_of}
+
+-- the last place and size so far, where the elements were followed up to a place
+abbrev pub Follows : ℕ → ℕ → List ℕ → Option (ℕ × ℕ) → ℕ → Type 0
+Follows kind node_len used None at = at ≡ 0
+Follows kind node_len used (Some last) at = IsLast kind node_len used last.0 last.1 × (at ≡ last.0 + last.1)
 
 -- a part that lies in the front is the same part of the front
 part_of_front : (xs : List ℕ) (at size to : ℕ) → at + size ≤ to → take size (drop at (take to xs)) ≡ take size (drop at xs)

@@ -15,8 +15,8 @@ use Rattle.ioam_data.specs.Written.{element_of, element_words}
 use Rattle.ioam_data.proofs.KindLaws.{words-small, is_entry_type-can_add, can_add-fits}
 use Rattle.ioam_data.specs.Snapshot.{IsSnapshot}
 use Rattle.ioam_data.proofs.ElementLaws.{IsElement-element_of, length-element_of}
-use Rattle.ioam_trace.specs.Data.{header, words_in, recorded, is_over, trace_data, CanHold}
-use Rattle.ioam_trace.specs.Recorded.{ReadsRecorded, ReadsAgain}
+use Rattle.ioam_trace.specs.Data.{header, words_in, recorded, AreRecorded, is_over, trace_data, CanHold}
+use Rattle.ioam_trace.specs.Recorded.{ReadsAgain}
 use Rattle.ioam_trace.specs.Area.{Holds}
 use Rattle.ioam_trace.specs.Read.{IsHead, Carries, Reads, elements_in, fault_of, elements_behind}
 use Rattle.ioam_trace.specs.declared.head.TraceHead.{TraceHead}
@@ -30,7 +30,7 @@ use Rattle.ioam_trace.specs.declared.filled.Filled.{Filled}
 use Rattle.ioam_trace.specs.declared.filled.Filled.TheVariants.{Added, Overflowed, AlreadyOver, Unsuited}
 use Rattle.ioam_trace.proofs.AreaLaws.{size_at-in_words}
 use Rattle.ioam_trace.proofs.HeadLaws.{IsHead-octets, lengths-header, node_len_of-header, overflow_of-header, remaining_of-header, kind_of-header}
-use Rattle.ioam_trace.proofs.RecordedLaws.{total, total-cons, total-push, recorded-fits, recorded-all, total-recorded, recorded-push_over, recorded-push_not, recorded-push_fits}
+use Rattle.ioam_trace.proofs.RecordedLaws.{total, total-cons, total-push, recorded-fits, recorded-all, total-recorded, recorded-push_over, recorded-push_not, recorded-push_fits, AreRecorded-recorded}
 
 -- ---- lists
 
@@ -231,8 +231,16 @@ used_is namespace kind capacity over es =
     let front = header namespace (words kind) (if over then 8 else 0) free kind 0 ++ replicate (4 * free) 0 in
     drop_at front (concat (reverse es)) (8 + 4 * free) (omega (arith, length-replicate {A = ℕ} (4 * free) 0))
 
--- what was recorded is read again, in the order in which it was added
-pub ReadsRecorded-CanHold : (namespace kind capacity : ℕ) (es : List (List ℕ)) → CanHold namespace kind capacity es
+-- the octets of a trace are read as what was recorded, in the order in which it was added
+record ReadsRecorded (namespace kind capacity : ℕ) (given : List (List ℕ)) : Type 0 where
+  pub namespace_is : u16_at (trace_data namespace kind capacity given) 0 ≡ namespace
+  pub kind_is : kind_of (trace_data namespace kind capacity given) ≡ kind
+  pub overflow_is : overflow_of (trace_data namespace kind capacity given) ≡ (if is_over capacity given then 1 else 0)
+  pub no_fault : fault_of (remaining_of (trace_data namespace kind capacity given)) (trace_data namespace kind capacity given) ≡ None
+  pub elements : elements_behind (remaining_of (trace_data namespace kind capacity given)) (trace_data namespace kind capacity given)
+      ≡ recorded capacity given
+
+ReadsRecorded-CanHold : (namespace kind capacity : ℕ) (es : List (List ℕ)) → CanHold namespace kind capacity es
     → ReadsRecorded namespace kind capacity es
 ReadsRecorded-CanHold namespace kind capacity es holds =
     let kept = recorded capacity es in
@@ -293,12 +301,16 @@ ReadsAgain-Reads octets (Ok trace) reads namespace kind capacity es holds is =
     let recorded_is = ReadsRecorded-CanHold namespace kind capacity es holds in
     let head = reads.0.is_head in
     let P : ℕ → Type 0 = λ free. Carries free octets trace.head (elements_in trace) in
-    let carries = subst P head.remaining reads.0 in (
+    let carries = subst P head.remaining reads.0 in
+    let elements : elements_in trace ≡ recorded capacity es =
+    sym (elements_behind-Carries (remaining_of octets) octets trace.head (elements_in trace) carries)
+    ∙ ap (λ xs. elements_behind (remaining_of xs) xs) is ∙ recorded_is.elements in
+    let Q : List (List ℕ) → Type 0 = λ kept. AreRecorded capacity es kept in (
       head.namespace ∙ ap (λ xs. u16_at xs 0) is ∙ recorded_is.namespace_is,
       head.kind ∙ ap kind_of is ∙ recorded_is.kind_is,
       overflow_flag trace.head.flags octets head.flags ∙ ap overflow_of is ∙ recorded_is.overflow_is,
-      sym (elements_behind-Carries (remaining_of octets) octets trace.head (elements_in trace) carries)
-          ∙ ap (λ xs. elements_behind (remaining_of xs) xs) is ∙ recorded_is.elements,
+      elements,
+      subst Q (sym elements) (AreRecorded-recorded capacity es),
     )
   where
     overflow_flag : (flags : ℕ) (octets : List ℕ) → flags ≡ flags_of octets → flags / 8 ≡ overflow_of octets

@@ -1,9 +1,9 @@
 -- Laws of the elements that fit into a trace.
-use Rattle.std.proofs.Common.{◌≡◌, ℕ, ◌+◌, ◌-◌, ◌<◌, ◌≤◌, Bool, true, false, cond, List, [], ◌∷◌, ◌++◌, length, arith, refl, ap, ◌∙◌}
+use Rattle.std.proofs.Common.{◌≡◌, ℕ, ◌+◌, ◌-◌, ◌<◌, ◌≤◌, Bool, true, false, cond, List, [], ◌∷◌, ◌++◌, length, arith, refl, sym, ap, ◌∙◌, subst}
 use Rattle.std.specs.Prelude.{sum_by, nat_le}
 use Rattle.std.proofs.lemmas.List.Sums.{sum_by-append}
 use Rattle.std.proofs.lemmas.Bool.{leb-true, le-leb, lt-leb}
-use Rattle.ioam_trace.specs.Data.{words_in, recorded}
+use Rattle.ioam_trace.specs.Data.{words_in, recorded, AreRecorded}
 
 -- the words of a list of elements
 abbrev pub total : List (List ℕ) → ℕ
@@ -79,7 +79,7 @@ pub recorded-push_fits : (capacity : ℕ) (es : List (List ℕ)) (e : List ℕ) 
 recorded-push_fits capacity es e fits = recorded-all capacity (es ++ e ∷ []) (omega (arith, total-push es e))
 
 -- what is recorded is a front of what is given
-pub recorded-front : (capacity : ℕ) (es : List (List ℕ)) → (rest : List (List ℕ)) × (es ≡ recorded capacity es ++ rest)
+recorded-front : (capacity : ℕ) (es : List (List ℕ)) → (rest : List (List ℕ)) × (es ≡ recorded capacity es ++ rest)
 recorded-front capacity [] = ([], refl)
 recorded-front capacity (e ∷ es) = front_either (nat_le (words_in e) capacity) (recorded-front (capacity - words_in e) es)
   where
@@ -89,10 +89,22 @@ recorded-front capacity (e ∷ es) = front_either (nat_le (words_in e) capacity)
     front_either false shorter = (e ∷ es, refl)
 
 -- and no front that fits is longer
-pub recorded-longest : (capacity : ℕ) (front rest : List (List ℕ)) → total front ≤ capacity
+recorded-longest : (capacity : ℕ) (front rest : List (List ℕ)) → total front ≤ capacity
     → length front ≤ length (recorded capacity (front ++ rest))
 recorded-longest capacity [] rest fits = omega arith
 recorded-longest capacity (e ∷ front) rest fits =
     let sum = total-cons e front in
     let shorter = recorded-longest (capacity - words_in e) front rest (omega arith) in
     rw (le-leb (words_in e) capacity (omega arith)) (omega arith)
+
+pub AreRecorded-recorded : (capacity : ℕ) (es : List (List ℕ)) → AreRecorded capacity es (recorded capacity es)
+AreRecorded-recorded capacity es =
+    let found = recorded-front capacity es in
+    record {
+      behind = found.0;
+      front = found.1;
+      fits = recorded-fits capacity es;
+      longest = λ first others is few.
+          (let P : List (List ℕ) → Type 0 = λ xs. length first ≤ length (recorded capacity xs) in
+          subst P (sym is) (recorded-longest capacity first others few));
+    }

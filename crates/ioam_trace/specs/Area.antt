@@ -36,11 +36,6 @@ pub record IsLast (kind node_len : ℕ) (used : List ℕ) (at size : ℕ) : Type
   pub here : Stands kind node_len used at
   pub is_size : size ≡ size_at kind node_len used at
 
--- the last place and size so far, where the elements were followed up to a place
-abbrev pub Follows : ℕ → ℕ → List ℕ → Option (ℕ × ℕ) → ℕ → Type 0
-Follows kind node_len used None at = at ≡ 0
-Follows kind node_len used (Some last) at = IsLast kind node_len used last.0 last.1 × (at ≡ last.0 + last.1)
-
 -- the place and size of the last element that stands, if one does
 abbrev pub EndsWith : ℕ → ℕ → List ℕ → Option (ℕ × ℕ) → Type 0
 EndsWith kind node_len used None = ¬ Stands kind node_len used 0

@@ -26,6 +26,15 @@ recorded capacity (element ∷ elements) = if nat_le (words_in element) capacity
     then element ∷ recorded (capacity - words_in element) elements
     else []
 
+-- These are the elements that a trace with room for so many words keeps of those that nodes recorded: a
+-- front of them that fits, and no front that fits is longer.
+pub record AreRecorded (capacity : ℕ) (given kept : List (List ℕ)) : Type 0 where
+  pub behind : List (List ℕ)
+  pub front : given ≡ kept ++ behind
+  pub fits : sum_by words_in kept ≤ capacity
+  pub longest : (first others : List (List ℕ)) → given ≡ first ++ others → sum_by words_in first ≤ capacity
+      → length first ≤ length kept
+
 -- some of the elements did not fit
 abbrev pub is_over : ℕ → List (List ℕ) → Bool
 is_over capacity elements = nat_lt (length (recorded capacity elements)) (length elements)

@@ -1,7 +1,7 @@
 -- The eight octets of a trace header (RFC 9197 section 4.4.1): Namespace-ID 16 bits, NodeLen 5, Flags 4,
 -- RemainingLen 7, IOAM-Trace-Type 24, Reserved 8.
-use Rattle.std.specs.Prelude.{ℕ, ◌+◌, ◌*◌, ◌/◌, ◌%◌, List, slice_index}
-use Rattle.ioam_base.specs.Octets.{u16_at}
+use Rattle.std.specs.Prelude.{ℕ, ◌/◌, ◌%◌, List}
+use Rattle.ioam_base.specs.Octets.{u16_at, u24_at}
 
 -- NodeLen: the words that a node adds, the snapshot not counted
 abbrev pub node_len_of : List ℕ → ℕ
@@ -21,4 +21,4 @@ remaining_of octets = u16_at octets 2 % 128
 
 -- the IOAM-Trace-Type
 abbrev pub kind_of : List ℕ → ℕ
-kind_of octets = slice_index octets 4 * 65536 + slice_index octets 5 * 256 + slice_index octets 6
+kind_of octets = u24_at octets 4

@@ -15,6 +15,7 @@ fn put_empty(head: &TraceHead, words: u8, out: &mut Vec<u8>) -> Result<(), NoMem
         then out.old.items ++ (head_octets head.now ++ replicate (4 * words) 0)
         else out.old.items) }
 {
+    // a header and 61 words, the most that a capacity may be
     let mut octets = [0; 252];
     put_at(&mut octets, 0, &head.octets());
     append(out, &octets[..8 + 4 * usize::from(words)])

@@ -3,7 +3,7 @@
 pub enum Filled {
     /// It added its element.
     Added {
-        /// The words of the element.
+        /// The 4-octet words of the element, those of the snapshot included.
         words: u8,
     },
     /// The element did not fit: Overflow is set now, and nothing else changed.

@@ -6,9 +6,9 @@ ghost use Rattle.ioam_trace.specs.Head.{node_len_of, overflow_of, remaining_of, 
 ghost use Rattle.ioam_trace.specs.Filling.{Filling, IsOpen, IsSuited, words_to_add, with_lengths, less_remaining, AddsElement};
 
 use crate::filled::Filled;
-use crate::head::{LengthWord, kind_at};
+use crate::head::LengthWord;
 use ioam_base::octets::{put_at, u16_at};
-use ioam_data::{ElementBuf, View, element};
+use ioam_data::{ElementBuf, TraceType, View, element};
 
 // Whether Overflow is clear.
 fn is_open(octets: &[u8]) -> bool
@@ -27,7 +27,7 @@ fn is_suited(octets: &[u8]) -> bool
     let word = LengthWord(u16_at(octets, 2));
     octets.len() % 4 == 0
         && 8 + 4 * usize::from(word.remaining()) <= octets.len()
-        && kind_at(octets).can_add(word.node_len())
+        && TraceType::at(octets, 4).can_add(word.node_len())
 }
 
 // Sets Overflow, which is clear.
@@ -71,7 +71,8 @@ fn add(octets: &mut [u8], view: &View<'_>) -> Filled
 {
     let word = LengthWord(u16_at(octets, 2));
     let mut buffer = ElementBuf::new();
-    let _added = element(kind_at(octets), word.node_len(), view, &mut buffer);
+    // It can't refuse: nodes add elements under this type and NodeLen.
+    let _added = element(TraceType::at(octets, 4), word.node_len(), view, &mut buffer);
     let words = (buffer.octets().len() / 4) as u8;
     if words > word.remaining() {
         set_overflow(octets);
@@ -102,7 +103,7 @@ fn fill_octets(octets: &mut [u8], view: &View<'_>) -> Filled
 /// Unsuited; a set Overflow flag gives AlreadyOver; octets that are not whole words, a RemainingLen
 /// above the words behind the header, and a type or NodeLen under which nodes add nothing give
 /// Unsuited; an element longer than RemainingLen gives Overflowed, and only the flag changes. Else
-/// RemainingLen falls by the element's words, and it stands in the last of the free words.
+/// RemainingLen falls by the element's words, and the element stands in the last of the free words.
 pub fn fill(octets: &mut [u8], view: &View<'_>) -> Filled
     ensures filling { Filling octets.old (seen view.now) octets.new result }
     // A trace that an entry node began holds one element more, or Overflow.

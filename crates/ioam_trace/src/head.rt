@@ -1,5 +1,4 @@
 ghost use Rattle.std.specs.Prelude.{◌≡◌, ℕ, ◌+◌, ◌*◌, ◌/◌, ◌%◌, ◌<◌, ◌≤◌, ◌↔◌, IsTrue, length};
-ghost use Rattle.ioam_trace.specs.Head.{kind_of};
 
 use ioam_base::octets::u16_at;
 use ioam_data::{Namespace, TraceType};
@@ -74,7 +73,7 @@ impl TraceHead {
             node_len: word.node_len(),
             flags: word.flags(),
             remaining: word.remaining(),
-            kind: kind_at(octets),
+            kind: TraceType::at(octets, 4),
             reserved: octets[7],
         }
     }
@@ -107,13 +106,4 @@ fn last_word(kind: TraceType, reserved: u8) -> u32
     ensures { result ≡ kind * 256 + reserved }
 {
     kind.bits() * 256 + u32::from(reserved)
-}
-
-// The IOAM-Trace-Type in a trace header.
-pub(crate) fn kind_at(octets: &[u8]) -> TraceType
-    requires { 8 ≤ length octets.now }
-    ensures { result ≡ kind_of octets.now }
-{
-    let [high, middle, low] = [octets[4], octets[5], octets[6]];
-    TraceType::new(u32::from(high) * 65536 + u32::from(middle) * 256 + u32::from(low))
 }

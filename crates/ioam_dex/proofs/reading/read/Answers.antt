@@ -26,6 +26,8 @@ returns-clause-again c =
     let begins = subst P (sym c.value.ensures) (Begins-direct_at c.args.octets.now (λ i. omega (arith, c.type_inv.octets i)) (fits c.args.octets.now enough)) in
     ReadsAgain-Begins c.args.octets.now c.value.result (record {
       namespace_below = search rules;
+      flags_below = search rules;
+      ext_below = search rules;
       kind_below = search rules;
       flow_below = search rules;
       seq_below = search rules;

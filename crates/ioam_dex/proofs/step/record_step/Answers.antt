@@ -1,6 +1,7 @@
 use Rattle.std.proofs.Common.{◌≡◌, ◌-◌, List, ℕ, take, drop, ap, ◌∙◌, subst, arith}
-use Rattle.ioam_dex.specs.Record.{IsFilled, IsWhole, length_of, element_of, kind_of}
+use Rattle.ioam_dex.specs.Record.{IsFilled, length_of, element_of, kind_of}
 use Rattle.ioam_dex.specs.Faults.{said}
+use Rattle.ioam_dex.proofs.FaultLaws.{IsWhole}
 use Rattle.ioam_dex.proofs.RecordLaws.{step-whole}
 use Rattle.ioam_dex.proofs.step.record_step.Goals as goal
 
@@ -17,7 +18,7 @@ returns-then-is_filled c =
     let whole : IsWhole octets = record {
       sized = told.0;
       there = omega (arith, told.2);
-      filled = subst Q element (subst P c.kind_at.ensures filled);
+      filled = subst Q element (subst P c.at.ensures filled);
     } in
     let found = step-whole octets (λ i. omega (arith, c.type_inv.octets i)) whole (said c.head.result (element_of octets)) c.head.ensures.says
     c.head.result.size (c.head.ensures.size ∙ told.2) in

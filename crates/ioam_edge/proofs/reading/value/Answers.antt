@@ -1,5 +1,5 @@
 use Rattle.std.proofs.Common.{rules}
-use Rattle.ioam_edge.specs.Words.{two_octets, four_octets_if, eight_octets_if}
+use Rattle.ioam_base.specs.Words.{two_octets, four_octets_if, eight_octets_if}
 use Rattle.ioam_edge.proofs.EdgeLaws.{whole_of}
 use Rattle.ioam_edge.proofs.reading.value.Goals as goal
 

@@ -1,5 +1,5 @@
 use Rattle.std.proofs.Common.{◌-◌, ◌≤◌, length}
-use Rattle.ioam_trace.specs.Area.{Follows}
+use Rattle.ioam_trace.proofs.AreaLaws.{Follows}
 use Rattle.ioam_trace.proofs.elements.last_element.Given as goal
 
 abbrev pub invariant-elements : goal.invariant-elements

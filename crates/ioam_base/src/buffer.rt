@@ -1,13 +1,13 @@
 ghost use Rattle.std.specs.Prelude.{◌≡◌, ◌+◌, ◌≤◌, [], ◌++◌, length};
-ghost use Rattle.ioam_dex.specs.Words.{four_octets_if};
+ghost use Rattle.ioam_base.specs.Words.{four_octets_if, eight_octets_if};
 
-use ioam_base::octets::put_at;
+use crate::octets::put_at;
 use std::marker::Model;
 
-/// Room for the octets of one value, 16 at most. Contracts see the octets that it holds.
+/// Room for the octets of one value, 24 at most. Contracts see the octets that it holds.
 #[derive(Drop)]
 pub struct Buffer {
-    octets: [u8; 16],
+    octets: [u8; 24],
     len: usize,
 }
 
@@ -18,7 +18,7 @@ impl Model for Buffer {
 
     ghost view = { λ buffer. take buffer.len buffer.octets };
 
-    ghost invariant = { λ buffer. buffer.len ≤ 16 };
+    ghost invariant = { λ buffer. buffer.len ≤ 24 };
 }
 
 impl Buffer {
@@ -27,7 +27,7 @@ impl Buffer {
         ensures { result ≡ [] }
     {
         Buffer {
-            octets: [0; 16],
+            octets: [0; 24],
             len: 0,
         }
     }
@@ -41,7 +41,7 @@ impl Buffer {
 
     /// Appends octets.
     pub fn append(&mut self, octets: &[u8])
-        requires { length self.old + length octets.now ≤ 16 }
+        requires { length self.old + length octets.now ≤ 24 }
         ensures value { self.new ≡ self.old ++ octets.now }
         ensures size { length self.new ≡ length self.old + length octets.now }
     {
@@ -51,9 +51,20 @@ impl Buffer {
 
     /// Appends a number as four octets, where it is there.
     pub fn four_if(&mut self, number: Option<u32>)
-        requires { length self.old + 4 ≤ 16 }
+        requires { length self.old + 4 ≤ 24 }
         ensures value { self.new ≡ self.old ++ four_octets_if number }
         ensures size { length self.new ≤ length self.old + 4 }
+    {
+        if let Some(number) = number {
+            self.append(&number.to_be_bytes());
+        }
+    }
+
+    /// Appends a number as eight octets, where it is there.
+    pub fn eight_if(&mut self, number: Option<u64>)
+        requires { length self.old + 8 ≤ 24 }
+        ensures value { self.new ≡ self.old ++ eight_octets_if number }
+        ensures size { length self.new ≤ length self.old + 8 }
     {
         if let Some(number) = number {
             self.append(&number.to_be_bytes());
