@@ -12,7 +12,7 @@ plan-requires-clause-admitted c = answer-plannable c.args.domain.now _ _ c.admit
 
 pub put_fate-requires-clause-short : goal.put_fate-requires-clause-short
 put_fate-requires-clause-short c =
-    let within = answer-within c.args.domain.now _ c.args.ethernet _ c.args.packet.now.octets.now c.admit-admitted.result c.admit-admitted.ensures.admits in
+    let within = answer-within c.args.domain.now _ c.args.ethernet _ c.args.record.now.octets.now c.admit-admitted.result c.admit-admitted.ensures.admits in
     omega (arith, within, c.requires.short)
 
 pub returns-clause-of : goal.returns-clause-of
