@@ -18,7 +18,7 @@ use Rattle.ioam_setting.specs.declared.setting.Refusal.{Refusal}
 use Rattle.ioam_setting.specs.declared.setting.Refusal.TheVariants as refusal
 use Rattle.ioam_topo.specs.Domain.{ports}
 use Rattle.ioam_topo.specs.declared.domain.Domain.{Domain}
-use Rattle.ioam_traffic.specs.Traffic.{Start, HoldsAll, HoldsFronts, ArePassed, AreOpened, Arrive, Finishes}
+use Rattle.ioam_traffic.specs.Traffic.{Course, HoldsAll, HoldsFronts, ArePassed, AreOpened, Arrive, Finishes}
 use Rattle.ioam_domain.specs.Ends.{Ends, begins, refused_as}
 use Rattle.ioam_domain.specs.Run.{HasCause, HaveDiffered, HoldsFiles, contents, Leaves, OfTraffic, StopsEarly, AsksIn, AreDrained, IsSet, IsReady, Exceeds, domain_file, readings_file, run_files, run_inputs, run_outputs, word_files, start_for}
 use Rattle.ioam_domain.proofs.FilesLaws.{files_held}
@@ -43,7 +43,7 @@ module _ (words : List (List ℕ)) (old_in mid_in : Reading) (opened : mid_in.si
     ready : AreApart (run_files words domain) → IsReady old words domain
     ready apart = record { set = set; apart = apart }
 
-    of_traffic : (P : Start → Type 0) → AreApart (run_files words domain) → P (begins words domain mid_in old) → OfTraffic words old_in new_in old new P
+    of_traffic : (P : Course → Type 0) → AreApart (run_files words domain) → P (begins words domain mid_in old) → OfTraffic words old_in new_in old new P
     of_traffic P apart holds = (domain, ready apart, subst P (same_start old domain) holds)
 
     pub Ends-cause : (answer : Outcome) → Ends tells words domain mid_in new_in old new answer → HasCause words old_in new_in old new answer

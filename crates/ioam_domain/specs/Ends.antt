@@ -9,7 +9,7 @@ use Rattle.ioam_setting.specs.declared.setting.Refusal.TheVariants as refusal
 use Rattle.ioam_setting.specs.Names.{input_ports}
 use Rattle.ioam_topo.specs.Domain.{ports}
 use Rattle.ioam_topo.specs.declared.domain.Domain.{Domain}
-use Rattle.ioam_traffic.specs.Traffic.{Start, begun, Finishes}
+use Rattle.ioam_traffic.specs.Traffic.{Course, begun, Finishes}
 use Rattle.ioam_traffic.specs.declared.halt.Halt.TheVariants as halt
 use Rattle.ioam_domain.specs.Run.{run_files, run_outputs, run_inputs}
 
@@ -21,7 +21,7 @@ refused_as refusal.ReadFault = outcome.ReadFault
 refused_as refusal.NoMemory = outcome.NoMemory
 
 -- where the traffic of a domain begins that was read
-abbrev pub begins : List (List ℕ) → Domain → Reading → Writing → Start
+abbrev pub begins : List (List ℕ) → Domain → Reading → Writing → Course
 begins words domain reading writing = begun domain (input_ports (ports domain)) (run_inputs domain) (run_outputs words domain) reading writing
 
 module _ (tells : Bool) (words : List (List ℕ)) (domain : Domain) (old_in new_in : Reading) (old new : Writing) where

@@ -22,7 +22,7 @@ use Rattle.ioam_setting.specs.Setting.{HasDomainFault, HasReadingsFault, IsSetti
 use Rattle.ioam_topo.specs.Domain.{ports}
 use Rattle.ioam_topo.specs.declared.domain.Domain.{Domain}
 use Rattle.ioam_topo.specs.declared.parts.Port.{Port}
-use Rattle.ioam_traffic.specs.Traffic.{Start, HoldsFronts, ArePassed, AreOpened, Arrive, frames_of}
+use Rattle.ioam_traffic.specs.Traffic.{Course, HoldsFronts, ArePassed, AreOpened, Arrive, frames_of}
 
 -- the files that the words name
 abbrev pub domain_file : List (List ℕ) → List ℕ
@@ -123,7 +123,7 @@ IsRefusal outcome.WriteFault = ⊥
 IsRefusal outcome.NoMemory = ⊥
 
 -- where the traffic of a domain begins: DOMAIN and READINGS were read by two slots
-abbrev pub start_for : List (List ℕ) → Reading → Writing → Domain → Start
+abbrev pub start_for : List (List ℕ) → Reading → Writing → Domain → Course
 start_for words reading writing domain = record {
   domain = domain;
   ports = input_ports (ports domain);
@@ -146,7 +146,7 @@ module _ (words : List (List ℕ)) (old_in new_in : Reading) (old new : Writing)
   HasCause (outcome.Capture name at fault) = Asked old words (outcome.Capture name at fault)
 
   -- so it is of the traffic of the domain that is held
-  abbrev pub OfTraffic : (Start → Type 0) → Type 0
+  abbrev pub OfTraffic : (Course → Type 0) → Type 0
   OfTraffic P = (domain : Domain) × IsReady old words domain × P (start_for words old_in old domain)
 
   -- no capture was opened yet, or not all of them

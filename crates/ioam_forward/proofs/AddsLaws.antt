@@ -14,7 +14,11 @@ use Rattle.ioam_plan.specs.declared.itinerary.End.TheVariants.{Left, Drop}
 use Rattle.ioam_topo.specs.declared.ids.NodeId.{NodeId}
 use Rattle.ioam_topo.specs.declared.ids.PortId.{PortId}
 use Rattle.ioam_forward.specs.Fate.{DropsAlike}
-use Rattle.ioam_forward.specs.Texts.{each_text, sent_at, sent_of, last_time, lowered, head_below}
+use Rattle.ioam_forward.specs.Texts.{each_text, sent_at, sent_of, last_time, lowered}
+
+-- the head of a capture for each port in front of a place
+abbrev pub head_below : ℕ → ℕ → List ℕ
+head_below at port = if nat_lt port at then capture_text [] else []
 
 -- texts that are equal place by place
 pub same-each : (n from : ℕ) (f g : ℕ → List ℕ) → ((k : ℕ) → from ≤ k → k < from + n → f k ≡ g k) → each_text n from f ≡ each_text n from g

@@ -9,7 +9,6 @@ use Rattle.std.specs.Prelude.{All}
 use Rattle.std.proofs.lemmas.List.Elements.{All-weaker}
 use Rattle.ioam_plan.specs.Inside.{IsVisitOf, EndsInside}
 use Rattle.ioam_plan.specs.declared.itinerary.End.TheVariants.{Left, Drop}
-use Rattle.ioam_report.specs.RunText.{IsEndOf}
 use Rattle.ioam_report.specs.Sums.{StandFor, IsEndBelow}
 use Rattle.ioam_report.specs.SumsText.{sums_text, arrivals_text}
 use Rattle.ioam_topo.specs.Domain.{ports, nodes as nodes_of}
@@ -123,7 +122,3 @@ visits-counted domain count visits is inside = All-weaker (IsVisitOf domain) (λ
 pub end-counted : (domain : Domain) (count : ℕ) (end : End) → count ≡ length (nodes_of domain) → EndsInside domain end → IsEndBelow count end
 end-counted domain count (Left port) is inside = tt
 end-counted domain count (Drop reason node) is inside = omega (arith, inside, is)
-
-pub end-inside : (domain : Domain) (end : End) → EndsInside domain end → IsEndOf domain end
-end-inside domain (Left port) inside = inside
-end-inside domain (Drop reason node) inside = inside

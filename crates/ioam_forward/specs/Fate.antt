@@ -1,9 +1,10 @@
 -- What becomes of the arrivals of a domain whose packets aren't put into tunnels.
-use Rattle.std.specs.Prelude.{◌≡◌, ℕ, ⊤, Bool, IsSomeAnd, List, [], ◌∷◌, nat_lt, length, slice_get}
+use Rattle.std.specs.Prelude.{◌≡◌, ℕ, ⊤, Bool, IsSomeAnd, List, [], ◌∷◌, slice_get}
 use Rattle.ioam_ip.specs.Framing.{framing_of}
 use Rattle.ioam_node.specs.Admission.{Admits}
 use Rattle.ioam_node.specs.declared.admitted.Admit.{Admit}
 use Rattle.ioam_node.specs.declared.admitted.Admit.TheVariants as admit
+use Rattle.ioam_pcap.specs.Cut.{is_cut}
 use Rattle.ioam_pcap.specs.Entries.{Entry}
 use Rattle.ioam_plan.specs.Plans.{Plans}
 use Rattle.ioam_plan.specs.declared.itinerary.Visit.{Visit}
@@ -35,8 +36,8 @@ packet_of (admit.Drop reason) = []
 -- what is answered of a frame at the port where it arrives; it is cut where its record has fewer
 -- octets than the frame had
 abbrev pub IsAnswered : Domain → Frame → Admit → Type 0
-IsAnswered domain frame answer = IsSomeAnd (slice_get (ports domain) frame.port.0) (λ at. Admits domain at.node.0
-    (framing_of frame.ethernet (nat_lt (length frame.entry.octets) frame.entry.original) frame.entry.octets) answer)
+IsAnswered domain frame answer = IsSomeAnd (slice_get (ports domain) frame.port.0)
+    (λ at. Admits domain at.node.0 (framing_of frame.ethernet (is_cut frame.entry) frame.entry.octets) answer)
 
 pub record HasFate (domain : Domain) (frame : Frame) (fate : Fate) : Type 0 where
   pub answer : Admit

@@ -1,5 +1,5 @@
 -- What the outputs of a run are told of the arrivals: one capture a port, and the report.
-use Rattle.std.specs.Prelude.{ℕ, zero, suc, ◌+◌, ◌-◌, nat_eq, nat_lt, if◌then◌else◌, List, [], ◌∷◌, ◌++◌, length, map, slice_index}
+use Rattle.std.specs.Prelude.{ℕ, zero, suc, ◌+◌, ◌-◌, nat_eq, if◌then◌else◌, List, [], ◌∷◌, ◌++◌, length, map, slice_index}
 use Rattle.std.specs.List.{flat_map}
 use Rattle.ioam_base.specs.Octets.{written}
 use Rattle.ioam_pcap.specs.Text.{Sent, records_text, capture_text}
@@ -96,7 +96,3 @@ sums_by domain sums = of_outputs domain (λ port. []) (sums_text domain sums)
 -- the heads of captures
 abbrev pub heads : ℕ → List (List ℕ)
 heads count = of_ports count (λ port. capture_text []) []
-
--- the head of a capture for each port in front of a place
-abbrev pub head_below : ℕ → ℕ → List ℕ
-head_below at port = if nat_lt port at then capture_text [] else []

@@ -40,8 +40,8 @@ pub record CanEnter (domain : Domain) (packet : List ℕ) (header : Header) : Ty
   pub hops : 2 ≤ header.hops
 
 module _ (domain : Domain) (packet : List ℕ) where
-  -- a reason holds of a packet that arrives. The first three are those of a frame that holds none, and
-  -- the last four are found where its way is chosen
+  -- a reason holds of a packet that arrives. The first three are those of a frame that holds none;
+  -- NoRoute, TooBig and IoamOut are found where its way is chosen, EncapLimit where it is to be enclosed
   abbrev pub Refuses : Reason → Type 0
   Refuses reason.Chain = IsSound packet → ⊥
   Refuses reason.IoamIn = CarriesIoam packet

@@ -16,15 +16,15 @@ abbrev pub mtu_of : Domain → LinkId → ℕ
 mtu_of domain link = option_map_or (λ l. l.mtu) (slice_get (links domain) link.0) 0
 
 -- where a packet of this size goes whose way is this: one that is enclosed leaves the domain at its exit only
-abbrev pub sent_by : Domain → Bool → ℕ → Option Way → Result Way Reason
-sent_by domain enclosed size None = Err reason.NoRoute
-sent_by domain enclosed size (Some (way.Link link)) = if nat_lt (mtu_of domain link) size then Err reason.TooBig else Ok (way.Link link)
-sent_by domain enclosed size (Some (way.Port port)) = if enclosed then Err reason.IoamOut else Ok (way.Port port)
+abbrev pub way_by : Domain → Bool → ℕ → Option Way → Result Way Reason
+way_by domain enclosed size None = Err reason.NoRoute
+way_by domain enclosed size (Some (way.Link link)) = if nat_lt (mtu_of domain link) size then Err reason.TooBig else Ok (way.Link link)
+way_by domain enclosed size (Some (way.Port port)) = if enclosed then Err reason.IoamOut else Ok (way.Port port)
 
 module _ (domain : Domain) (node : ℕ) (enclosed : Bool) (hops target size : ℕ) where
   -- where the packet is sent: `hops` is the hop limit that the node would lower, `size` what it has as it is sent
   abbrev pub choice : Result Way Reason
-  choice = if nat_le hops 1 then Err reason.HopLimit else sent_by domain enclosed size (way_to (routes domain) node target)
+  choice = if nat_le hops 1 then Err reason.HopLimit else way_by domain enclosed size (way_to (routes domain) node target)
 
   -- a reason holds
   abbrev pub Stops : Reason → Type 0

@@ -1,5 +1,5 @@
 //! Whether a packet that arrives at a port is taken in.
-ghost use Rattle.std.specs.Prelude.{◌≡◌, ◌<◌, IsSomeAnd, length, slice_get};
+ghost use Rattle.std.specs.Prelude.{◌<◌, IsSomeAnd, length, slice_get};
 ghost use Rattle.ioam_ip.specs.ChainOptions.{LimitOf};
 ghost use Rattle.ioam_ip.specs.Framing.{framing_of};
 ghost use Rattle.ioam_ip.specs.Packet.{IsPacket};

@@ -2,7 +2,7 @@
 ghost use Rattle.std.specs.Prelude.{◌≡◌, ◌≤◌, IfOk, MatchResult};
 ghost use Rattle.ioam_topo.specs.Domain.{links, ports};
 ghost use Rattle.ioam_topo.specs.Forward.{IsWayFrom};
-ghost use Rattle.ioam_node.specs.Choice.{choice, sent_by, mtu_of, Stops, Goes};
+ghost use Rattle.ioam_node.specs.Choice.{choice, Stops, Goes};
 ghost use Rattle.ioam_node.specs.Order.{IsFirst};
 
 use crate::reason::Reason;

@@ -1,7 +1,8 @@
 /// Why a packet is dropped, in the order in which the reasons are looked for.
 #[derive(Clone, Copy, Debug, PartialEq, Eq)]
 pub enum Reason {
-    /// The frame holds no IPv6: another Ethertype, nothing at all, or another version.
+    /// The frame holds no IPv6: its Ethernet header is shorter than 14 octets or has another Ethertype
+    /// than 0x86DD, nothing is behind it, or the version isn't 6.
     NotIpv6,
     /// Fewer octets were captured than the frame had.
     Cut,

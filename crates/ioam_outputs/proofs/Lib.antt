@@ -1,4 +1,5 @@
 pub mod ToldLaws
 pub mod HeldLaws
+pub mod NamesLaws
 mod FlushLaws
 mod OpenLaws

@@ -1,6 +1,7 @@
 pub mod Form
 pub mod Link
 pub mod Entries
+pub mod Cut
 pub mod Reads
 pub mod Pick
 pub mod Steps

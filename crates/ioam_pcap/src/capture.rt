@@ -1,3 +1,6 @@
+ghost use Rattle.std.specs.Prelude.{◌≡◌};
+ghost use Rattle.ioam_pcap.specs.Cut.{is_cut};
+
 use crate::form::Link;
 
 /// The most octets that a record of a capture may have.
@@ -12,6 +15,15 @@ pub struct Packet<'a> {
     pub original: u32,
     /// The octets that were captured.
     pub octets: &'a [u8],
+}
+
+impl Packet<'_> {
+    /// Whether fewer octets were captured than the packet had.
+    pub fn is_cut(&self) -> bool
+        ensures { result ≡ is_cut (record { time = self.now.time; original = self.now.original; octets = self.now.octets.now }) }
+    {
+        self.octets.len() < self.original as usize
+    }
 }
 
 /// Why a capture cannot be read on.

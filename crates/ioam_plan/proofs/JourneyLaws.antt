@@ -1,5 +1,5 @@
 -- Laws of journeys.
-use Rattle.std.proofs.Common.{◌≡◌, ℕ, List, [], ◌∷◌, ◌++◌, Some, Ok, IsOk, slice_get, refl, sym, ap, ◌∙◌, subst}
+use Rattle.std.proofs.Common.{◌≡◌, ℕ, true, false, List, [], ◌∷◌, ◌++◌, Some, Ok, Err, IsOk, slice_get, refl, sym, ap, ◌∙◌, subst}
 use Rattle.ioam_base.specs.Leads.{Leads}
 use Rattle.ioam_base.proofs.LeadsLaws.{Leads-push, Leads-unique}
 use Rattle.ioam_topo.specs.declared.domain.Domain.{Domain}
@@ -9,6 +9,7 @@ use Rattle.ioam_topo.specs.declared.ids.Way.TheVariants as way
 use Rattle.ioam_topo.specs.Domain.{links}
 use Rattle.ioam_plan.specs.declared.itinerary.Visit.{Visit}
 use Rattle.ioam_plan.specs.declared.itinerary.End.{End}
+use Rattle.ioam_plan.specs.declared.itinerary.End.TheVariants.{Left, Drop}
 use Rattle.ioam_plan.specs.declared.spot.Spot.{Spot}
 use Rattle.ioam_plan.specs.Journey.{Stage, At, Gone, Journey, CanSend, visit_at, visit_by, next_stage, crossed, way_at, EndsAs}
 
@@ -39,3 +40,31 @@ module _ (domain : Domain) (target size : ℕ) where
       let P : List Visit → Type 0 = λ vs. Leads (CanSend domain target size) (visit_at domain target size) (next_stage domain target size) (At start) vs stage in
       let Q : End → Type 0 = λ e. EndsAs domain target size stage e in
       record { last = stage; leads = subst P (sym same) leads; ends = subst Q (sym also) ends }
+
+  -- a journey ends where the packet isn't sent on
+  ends_last : (stage : Stage) (end : End) → EndsAs domain target size stage end → CanSend domain target size stage → ⊥
+  ends_last (At spot) (Drop reason node) ends can =
+      let never : false ≡ true = subst IsOk ends.0 can in cc
+  ends_last (At spot) (Left port) ends can = ends
+  ends_last (Gone spot port) end ends can = can
+
+  -- it ends in one way there
+  one_end : (stage : Stage) (end other : End) → EndsAs domain target size stage end → EndsAs domain target size stage other → end ≡ other
+  one_end (At spot) (Drop reason node) (Drop cause at) first second =
+      let same : Err reason ≡ Err cause = sym first.0 ∙ second.0 in
+      let nodes : node ≡ at = first.1 ∙ sym second.1 in cc
+  one_end (At spot) (Left port) other first second = absurd first
+  one_end (At spot) (Drop reason node) (Left port) first second = absurd second
+  one_end (Gone spot gone) (Left port) (Left exit) first second = let same : port ≡ exit = first ∙ sym second in cc
+  one_end (Gone spot gone) (Drop reason node) other first second = absurd first
+  one_end (Gone spot gone) (Left port) (Drop reason node) first second = absurd second
+
+  -- from a spot on there is one journey only
+  pub Journey-unique : (start : Spot) (visits : List Visit) (end : End) (others : List Visit) (other : End)
+      → Journey domain target size start visits end → Journey domain target size start others other → (visits ≡ others) × (end ≡ other)
+  Journey-unique start visits end others other first second =
+      let same : (visits ≡ others) × (first.last ≡ second.last)
+      = Leads-unique (CanSend domain target size) (visit_at domain target size) (next_stage domain target size) (At start)
+      visits first.last others second.last first.leads (ends_last first.last end first.ends) second.leads (ends_last second.last other second.ends) in
+      let P : Stage → Type 0 = λ stage. EndsAs domain target size stage end in
+      (same.0, one_end second.last end other (subst P same.1 first.ends) second.ends)

@@ -1,1 +1,2 @@
 pub mod JourneyLaws
+pub mod PlansLaws

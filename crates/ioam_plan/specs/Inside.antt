@@ -1,5 +1,5 @@
 -- A journey stays inside its domain: its nodes and its ports are those of the domain.
-use Rattle.std.specs.Prelude.{◌≡◌, ℕ, ◌<◌, ⊤, List, length, All}
+use Rattle.std.specs.Prelude.{◌≡◌, ◌<◌, ⊤, List, length, All}
 use Rattle.ioam_topo.specs.declared.domain.Domain.{Domain}
 use Rattle.ioam_topo.specs.Domain.{nodes, ports}
 use Rattle.ioam_plan.specs.declared.itinerary.Visit.{Visit}

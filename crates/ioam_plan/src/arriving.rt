@@ -1,8 +1,10 @@
-ghost use Rattle.std.specs.Prelude.{◌≡◌, ◌+◌, ◌≤◌, ◌<◌, ◌^◌, IfOk, length, slice_get, Some};
+ghost use Rattle.std.specs.Prelude.{◌≡◌, ◌≤◌, ◌<◌, ◌^◌, List, false, IfOk, length, slice_get, Some};
 ghost use Rattle.ioam_ip.specs.Packet.{IsPacket};
 ghost use Rattle.ioam_topo.specs.Domain.{nodes, ports};
 ghost use Rattle.ioam_topo.specs.Kept.{IsAtNode};
 ghost use Rattle.ioam_plan.specs.Inside.{StaysInside};
+ghost use Rattle.ioam_plan.specs.declared.itinerary.Visit.{Visit};
+ghost use Rattle.ioam_plan.specs.declared.itinerary.End.{End};
 ghost use Rattle.ioam_plan.specs.Plans.{Plans, IsPlannable, PlansPacket, PlansDrop};
 
 use crate::itinerary::{End, Itinerary};
@@ -15,8 +17,8 @@ use ioam_topo::{Domain, Port, PortId};
 use std::alloc::Global;
 
 /// What becomes of a frame that arrives at a port at a time (nanoseconds, below 2^62), by what
-/// [`ioam_node::admit`] answered of it: the visits of its packet, and how its journey ends. There are
-/// at most 256 visits, since each lowers the packet's hop limit (RFC 8200 section 3), all at nodes of
+/// [`ioam_node::admit`] answered of it: the visits of its packet, and how its journey ends. No packet
+/// goes through a tunnel. There are at most 256 visits, since each lowers the packet's hop limit (RFC 8200 section 3), all at nodes of
 /// the domain.
 pub fn plan(
     alloc: Global,
@@ -29,6 +31,10 @@ pub fn plan(
     requires time { time < 2 ^ 62 }
     requires admitted { IsPlannable admitted.now }
     ensures plans { IfOk result (λ it. Plans domain.now port time admitted.now it.visits it.end) }
+    // Nothing else is planned for it.
+    ensures only { (visits : List Visit) (end : End) → Plans domain.now port time admitted.now visits end
+        → IfOk result (λ it. (it.visits ≡ visits) × (it.end ≡ end)) }
+    ensures exited { IfOk result (λ it. it.exited ≡ false) }
     ensures few { IfOk result (λ it. length it.visits ≤ 256) }
     ensures inside { IfOk result (λ it. StaysInside domain.now it.visits it.end) }
 {
@@ -61,6 +67,7 @@ fn plan_packet(
     requires packet { IsPacket packet.now }
     requires place { IsAtNode (length (nodes domain.now)) port.now }
     ensures plans { IfOk result (λ it. PlansPacket domain.now port.now time packet.now it.visits it.end) }
+    ensures exited { IfOk result (λ it. it.exited ≡ false) }
     ensures few { IfOk result (λ it. length it.visits ≤ 256) }
     ensures inside { IfOk result (λ it. StaysInside domain.now it.visits it.end) }
 {
@@ -73,9 +80,10 @@ fn plan_packet(
         time,
         hops: header.hops,
     };
+    // Apart, since what is said of an Ok says so of the answer only once it is known to be one.
     match travel(alloc, domain, start, header.target, packet.len()) {
         Ok(itinerary) => Ok(itinerary),
-        Err(_) => Err(NoMemory),
+        Err(NoMemory) => Err(NoMemory),
     }
 }
 
@@ -83,6 +91,7 @@ fn plan_packet(
 fn dropped(alloc: Global, domain: &Domain, port: &Port, reason: Reason) -> Itinerary
     requires { IsAtNode (length (nodes domain.now)) port.now }
     ensures plans { PlansDrop port.now reason result.visits result.end }
+    ensures exited { result.exited ≡ false }
     ensures inside { StaysInside domain.now result.visits result.end }
 {
     let end = End::Drop {

@@ -1,4 +1,4 @@
-ghost use Rattle.std.specs.Prelude.{◌≡◌};
+ghost use Rattle.std.specs.Prelude.{◌≡◌, false};
 
 use ioam_node::{Place, Reason};
 use ioam_topo::{NodeId, PortId, Way};
@@ -11,7 +11,7 @@ pub struct Visit {
     pub place: Place,
     /// Where it is sent.
     pub way: Option<Way>,
-    /// When it comes, in nanoseconds.
+    /// When it comes, in nanoseconds since the epoch of the captures, below 2^63.
     pub time: u64,
 }
 
@@ -51,7 +51,9 @@ impl Visits {
 /// What becomes of an arrival: the visits at which it is sent on, and how its journey ends.
 #[derive(Debug, Drop)]
 pub struct Itinerary {
+    /// The visits, in their order. One that drops the packet isn't among them.
     pub visits: Visits,
+    /// By which port the packet leaves, or which node drops it and why.
     pub end: End,
     /// Whether it reached the exit of a flow's tunnel.
     pub exited: bool,
@@ -61,6 +63,7 @@ impl Itinerary {
     pub(crate) fn of(visits: Vec<Visit>, end: End) -> Itinerary
         ensures visits { result.visits ≡ visits.items }
         ensures end { result.end ≡ end }
+        ensures exited { result.exited ≡ false }
     {
         Itinerary {
             visits: Visits { held: visits },

@@ -9,4 +9,3 @@ mod spot;
 
 pub use arriving::plan;
 pub use itinerary::{End, Itinerary, Visit, Visits};
-pub use spot::Spot;

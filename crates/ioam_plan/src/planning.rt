@@ -1,11 +1,11 @@
-ghost use Rattle.std.specs.Prelude.{◌≡◌, ◌+◌, ◌≤◌, ◌<◌, ◌^◌, ◌*◌, IfOk, Some, length, slice_get};
+ghost use Rattle.std.specs.Prelude.{◌≡◌, ◌≤◌, ◌<◌, false, IfOk, Some, length, slice_get};
 ghost use Rattle.ioam_topo.specs.Domain.{nodes, links};
 ghost use Rattle.ioam_topo.specs.Kept.{JoinsNodes};
 ghost use Rattle.ioam_plan.specs.Inside.{StaysInside, StepsInside};
 ghost use Rattle.ioam_plan.specs.Journey.{Journey};
 ghost use Rattle.ioam_plan.specs.Steps.{Steps, IsInTime};
 
-use crate::itinerary::{End, Itinerary, Visit, Visits};
+use crate::itinerary::{End, Itinerary, Visit};
 use crate::spot::Spot;
 use ioam_base::memory::NoMemory;
 use ioam_node::{Reason, choose};
@@ -55,6 +55,7 @@ pub(crate) fn travel(
     requires time { IsInTime start }
     requires node { start.node.0 < length (nodes domain.now) }
     ensures journey { IfOk result (λ it. Journey domain.now target size start it.visits it.end) }
+    ensures exited { IfOk result (λ it. it.exited ≡ false) }
     ensures few { IfOk result (λ it. length it.visits ≤ start.hops) }
     ensures inside { IfOk result (λ it. StaysInside domain.now it.visits it.end) }
 {

@@ -10,7 +10,7 @@ use ioam_topo::{Domain, Link, NodeId, Way};
 pub struct Spot {
     pub node: NodeId,
     pub inward: u32,
-    /// In nanoseconds.
+    /// In nanoseconds since the epoch of the captures, below 2^63.
     pub time: u64,
     pub hops: u8,
 }

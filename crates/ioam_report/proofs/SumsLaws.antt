@@ -17,12 +17,6 @@ use Rattle.ioam_report.specs.declared.sums.NodeSum.{NodeSum}
 use Rattle.ioam_report.specs.declared.sums.Sums.{Sums}
 use Rattle.ioam_report.specs.Sums.{is_at, has_left, is_dropped, is_dropped_at, seen_of, node_sum, IsEndBelow, StandFor, Raised}
 use Rattle.ioam_report.specs.SumsText.{packets_line, node_line, node_lines, sums_text, arrivals_text}
-use Rattle.ioam_report.specs.RunText.{IsEndOf}
-
--- an end of the domain is below the count of the sums' nodes
-pub IsEndBelow-of : (domain : Domain) (sums : List NodeSum) (end : End) → length sums ≡ length (nodes domain) → IsEndOf domain end → IsEndBelow (length sums) end
-IsEndBelow-of domain sums (Left port) count is = tt
-IsEndBelow-of domain sums (Drop reason node) count is = omega arith
 
 abbrev sum_of : ℕ → ℕ → NodeSum
 sum_of seen dropped = record { seen = seen; dropped = dropped }

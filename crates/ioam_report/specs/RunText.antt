@@ -1,5 +1,5 @@
 -- The report of a run: a line for each arrival, which says by which port it came and what became of it.
-use Rattle.std.specs.Prelude.{ℕ, ◌<◌, List, [], ◌++◌, length, slice_get, decimal, codes}
+use Rattle.std.specs.Prelude.{ℕ, List, [], ◌++◌, slice_get, decimal, codes}
 use Rattle.std.specs.Option.{option_map_or}
 use Rattle.ioam_topo.specs.declared.domain.Domain.{Domain}
 use Rattle.ioam_topo.specs.Domain.{nodes, ports}
@@ -29,11 +29,6 @@ node_name domain place = option_map_or (λ node. node.name) (slice_get (nodes do
 
 abbrev pub port_name : Domain → ℕ → List ℕ
 port_name domain place = option_map_or (λ port. port.name) (slice_get (ports domain) place) []
-
--- the port or the node where a journey ends is one of the domain
-abbrev pub IsEndOf : Domain → End → Type 0
-IsEndOf domain (Left port) = port.0 < length (ports domain)
-IsEndOf domain (Drop reason node) = node.0 < length (nodes domain)
 
 -- what became of a packet
 abbrev pub end_text : Domain → End → List ℕ

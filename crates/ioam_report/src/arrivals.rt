@@ -1,7 +1,8 @@
 //! The lines of arrivals.
 ghost use Rattle.std.specs.Prelude.{◌≡◌, ◌++◌, ◌<◌, length, is_ok, if◌then◌else◌};
 ghost use Rattle.ioam_topo.specs.Domain.{nodes, ports};
-ghost use Rattle.ioam_report.specs.RunText.{node_name, port_name, IsEndOf, arrival_line};
+ghost use Rattle.ioam_plan.specs.Inside.{EndsInside};
+ghost use Rattle.ioam_report.specs.RunText.{node_name, port_name, arrival_line};
 
 use crate::piece::Piece;
 use crate::put::put_pieces;
@@ -35,7 +36,7 @@ pub(crate) fn put_line(
     out: &mut Vec<u8>,
 ) -> Result<(), NoMemory>
     requires port { port.0 < length (ports domain.now) }
-    requires ends { IsEndOf domain.now end }
+    requires ends { EndsInside domain.now end }
     ensures { out.new.items ≡ (if is_ok result then out.old.items ++ arrival_line domain.now number port.0 end else out.old.items) }
 {
     match end {
@@ -66,9 +67,9 @@ pub(crate) fn put_line(
     }
 }
 
-/// Appends the line of an arrival: its number, the port by which it came, and either `left` and the
-/// port by which it left the domain, or `drop`, the reason, and the node that dropped it. The ports
-/// and the node are those of the domain. Without memory nothing is appended.
+/// Appends the line of an arrival: its number, counted from 1, the port by which it came, and either
+/// `left` and the port by which it left the domain, or `drop`, the reason, and the node that dropped
+/// it. The ports and the node are those of the domain. Without memory nothing is appended.
 pub fn put_arrival(
     domain: &Domain,
     number: u64,
@@ -77,7 +78,7 @@ pub fn put_arrival(
     out: &mut Vec<u8>,
 ) -> Result<(), NoMemory>
     requires port { port.0 < length (ports domain.now) }
-    requires ends { IsEndOf domain.now itinerary.now.end }
+    requires ends { EndsInside domain.now itinerary.now.end }
     ensures { out.new.items ≡ (if is_ok result
         then out.old.items ++ arrival_line domain.now number port.0 itinerary.now.end
         else out.old.items) }

@@ -1,5 +1,5 @@
-//! The texts of reports: what traces hold, line by line. Words are separated by one space, and every
-//! line ends with a line feed.
+//! The texts of reports: what traces hold, what became of each arrival, and the sums of a run. Words
+//! are separated by one space, and every line ends with a line feed.
 #![tactic(auto)]
 
 mod arrivals;

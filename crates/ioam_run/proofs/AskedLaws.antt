@@ -1,7 +1,6 @@
 -- At most one answer is asked for, and the packets that are kept may leave a domain.
 use Rattle.std.proofs.Common.{◌≡◌, ℕ, ◌<◌, ◌⊎◌, Bool, IsTrue, IsSomeAnd, List, [], ◌∷◌, length, Option, Some, None, refl, sym, ◌∙◌, ap, subst, inl, inr, ⊎_elim, arith}
 use Rattle.std.specs.List.{AllByRecursion}
-use Rattle.std.proofs.lemmas.Bool.{cases_lt}
 use Rattle.std.proofs.lemmas.List.Elements.{All-from_recursion}
 use Rattle.ioam_desk.specs.Desk.{Reading, Writing, Rose, holds}
 use Rattle.ioam_ip.specs.Clean.{IsClean}
@@ -9,6 +8,7 @@ use Rattle.ioam_ip.specs.Framing.{Framing, Holds, NoIpv6, CutShort, TooShort}
 use Rattle.ioam_pcap.specs.Entries.{Entry}
 use Rattle.ioam_pcap.specs.Reads.{Ending, Whole, Faulty}
 use Rattle.ioam_pcap.proofs.ReadsLaws.{Reads-unique}
+use Rattle.ioam_outputs.proofs.NamesLaws.{first_unique}
 use Rattle.ioam_outputs.specs.Held.{HoldTexts}
 use Rattle.ioam_outputs.specs.Names.{AreApart, IsFirstRepeat, name_at}
 use Rattle.ioam_pcap.specs.Text.{Sends, IsCaptureOf}
@@ -17,17 +17,12 @@ use Rattle.ioam_run.specs.FilterText.{Filtered, FilterTexts, kept_of}
 use Rattle.ioam_run.specs.Run.{HasCause, Asked, IsInput, IsLong, HoldsAll, EndsSo, ArePassed, AreWhole, Leaves, IsBehindAll, output_names}
 use Rattle.ioam_pcap.specs.Link.{is_ethernet}
 use Rattle.ioam_run.specs.Verdict.{Verdict, Keeps, Drops, FramingVerdict, AreVerdicts}
-use Rattle.ioam_run.specs.declared.reason.Reason.{Reason}
+use Rattle.ioam_node.specs.declared.reason.Reason.{Reason}
 use Rattle.ioam_run.specs.declared.outcome.Outcome.{Outcome}
 use Rattle.ioam_run.specs.declared.outcome.Outcome.TheVariants as outcome
 
 not_apart : (names : List (List ℕ)) (at : ℕ) → IsFirstRepeat names at → AreApart names → ⊥
 not_apart names at first apart = apart at first.inside first.repeats
-
-first_unique : (names : List (List ℕ)) (a b : ℕ) → IsFirstRepeat names a → IsFirstRepeat names b → a ≡ b
-first_unique names a b x y = ⊎_elim (λ below. absurd (y.none_before a below x.repeats))
-    (λ not_below. ⊎_elim (λ above. absurd (x.none_before b above y.repeats)) (λ not_above. omega (arith, not_below, not_above)) (cases_lt b a))
-    (cases_lt a b)
 
 -- what is held is both
 both : (held : Option (List ℕ)) (P Q : List ℕ → Type 0) → IsSomeAnd held P → IsSomeAnd held Q → (octets : List ℕ) × P octets × Q octets

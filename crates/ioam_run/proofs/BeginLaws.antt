@@ -62,6 +62,7 @@ Sticks-begin tells start Texts empty inputs outputs slot reader old of_none size
       entries = [];
       texts = empty;
       are = first;
+      few = omega arith;
       texts_are = of_none (is_ethernet link);
       held = subst P (said_first start.names empty size) (more_fronts outputs start.names (unsaid start.names) empty size
           (AreTold-fronts tells outputs start.base start.names old (unsaid start.names) tells_so told));
@@ -80,6 +81,7 @@ unwritten Texts empty names old mid new held left of_none sized is same fronts =
       entries = [];
       texts = empty;
       are = first;
+      few = omega arith;
       texts_are = of_none (is_ethernet link);
       held = subst P same (fronts empty sized);
     })

@@ -6,7 +6,7 @@ use Rattle.ioam_run.specs.Verdict.{Verdict, Keeps, Drops, HasVerdict, AreVerdict
 use Rattle.ioam_run.specs.FilterText.{kept_of, verdict_line, verdict_lines, count_kept, count_dropped}
 use Rattle.ioam_outputs.specs.Told.{said_more}
 use Rattle.ioam_run.specs.Filtering.{Gathers, Sorts}
-use Rattle.ioam_run.specs.declared.reason.Reason.{Reason}
+use Rattle.ioam_node.specs.declared.reason.Reason.{Reason}
 use Rattle.ioam_run.specs.declared.filtering.Filtering.{Filtering}
 
 AreVerdicts-push : (ethernet : Bool) (es : List Entry) (vs : List Verdict) (e : Entry) (v : Verdict)

@@ -144,6 +144,7 @@ module _ (tells : Bool) (base : ℕ) (names : List (List ℕ)) (Texts : Bool →
         entries = fronts.entries;
         texts = fronts.texts;
         are = fronts.are;
+        few = fronts.few;
         texts_are = fronts.texts_are;
         held = HoldAllFronts-holds first_out new_out 0 names fronts.texts fronts.held;
       })

@@ -130,6 +130,7 @@ module _ {G : Type 0} (gathers : Bool → List Entry → List (List ℕ) → G �
           entries = streams.entries;
           texts = said_more streams.texts (sums gathered);
           are = first;
+          few = streams.few;
           texts_are = ends (is_ethernet link) streams.entries streams.texts gathered are;
           held = more_fronts now start.names streams.texts (sums gathered)
               (sized ∙ told_names tells outputs start.base start.names tellers streams.texts streams.told) (fronts told);

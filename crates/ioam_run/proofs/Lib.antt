@@ -10,3 +10,4 @@ pub mod BeginLaws
 pub mod FinishesLaws
 pub mod WordsLaws
 pub mod AskedLaws
+mod VerdictLaws

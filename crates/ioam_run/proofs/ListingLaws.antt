@@ -8,7 +8,7 @@ use Rattle.ioam_run.specs.PathsText.{PacketLines, EntryLines, Lines, skip_line}
 use Rattle.ioam_outputs.specs.Told.{said_more}
 use Rattle.ioam_run.specs.Listing.{Lists}
 use Rattle.ioam_run.specs.declared.listing.Listing.{Listing}
-use Rattle.ioam_run.specs.declared.reason.Reason.TheVariants as reason
+use Rattle.ioam_node.specs.declared.reason.Reason.TheVariants as reason
 
 -- what was appended where it was
 pub appended : {T E : Type 0} (r : Result T E) (old new more : List ℕ) → new ≡ (if is_ok r then old ++ more else old) → OnOk r (new ≡ old ++ more)

@@ -69,6 +69,7 @@ module _ {G : Type 0} (gathers : Bool → List Entry → List (List ℕ) → G �
           entries = halts.entries;
           texts = said_more halts.texts (sums gathered);
           are = first;
+          few = halts.few;
           texts_are = ends (is_ethernet link) halts.entries halts.texts gathered so;
           held = fronts told;
         })

@@ -27,10 +27,6 @@ apart_outputs [] apart = λ at inside repeats. absurd (omega (arith, inside))
 apart_outputs (a ∷ []) apart = λ at inside repeats. absurd (omega (arith, inside))
 apart_outputs (a ∷ b ∷ names) apart = apart_tail b names apart
 
--- the name at a place, at whatever default it was read
-pub name_read : (words : List (List ℕ)) (at : ℕ) (name : List ℕ) → name ≡ get_or words at name → at < length words → name ≡ name_at words at
-name_read words at name is inside = is ∙ get_or_default words at name [] inside
-
 -- the name at a place behind the command
 pub name_behind : (words : List (List ℕ)) (at : ℕ) (name : List ℕ) → at < length (file_names words)
     → name ≡ get_or words (1 + at) name → name ≡ name_at (file_names words) at

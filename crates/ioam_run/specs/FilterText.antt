@@ -2,7 +2,8 @@
 use Rattle.std.specs.Prelude.{◌≡◌, ℕ, ◌+◌, List, [], ◌∷◌, ◌++◌, Bool, codes, decimal}
 use Rattle.ioam_pcap.specs.Entries.{Entry}
 use Rattle.ioam_pcap.specs.Text.{Sent, capture_text}
-use Rattle.ioam_run.specs.Verdict.{Verdict, Keeps, Drops, AreVerdicts, reason_text}
+use Rattle.ioam_report.specs.RunText.{reason_name}
+use Rattle.ioam_run.specs.Verdict.{Verdict, Keeps, Drops, AreVerdicts}
 
 -- the kept packets, each with its time, in order
 abbrev pub kept_of : List Entry → List Verdict → List Sent
@@ -13,7 +14,7 @@ kept_of (e ∷ es) (Drops reason ∷ vs) = kept_of es vs
 
 abbrev pub verdict_line : ℕ → Verdict → List ℕ
 verdict_line number (Keeps packet) = decimal number ++ codes " kept\n"
-verdict_line number (Drops reason) = decimal number ++ codes " drop " ++ reason_text reason ++ codes "\n"
+verdict_line number (Drops reason) = decimal number ++ codes " drop " ++ reason_name reason ++ codes "\n"
 
 -- a line for each packet, counted from a number
 abbrev pub verdict_lines : ℕ → List Verdict → List ℕ

@@ -40,6 +40,8 @@ empty = capture_text [] ∷ sums_line 0 0 ∷ []
 abbrev pub taken : Filtering → ℕ
 taken gathered = gathered.kept + gathered.dropped
 
+-- The laws from here on stand among the definitions, since a ghost member of an `impl` cites specs/ alone.
+
 -- before the first record it doesn't matter what the frames begin with
 no_verdicts : (ethernet other : Bool) (vs : List Verdict) → AreVerdicts ethernet [] vs → AreVerdicts other [] vs
 no_verdicts ethernet other [] are = tt

@@ -33,6 +33,8 @@ empty = packets_line 0 ∷ []
 abbrev pub listed : Listing → ℕ
 listed gathered = gathered.packets
 
+-- The laws from here on stand among the definitions, since a ghost member of an `impl` cites specs/ alone.
+
 -- before the first record it doesn't matter what the frames begin with
 pub Lists-any_link : (ethernet other : Bool) (texts : List (List ℕ)) (gathered : Listing) → Lists ethernet [] texts gathered → Lists other [] texts gathered
 Lists-any_link ethernet other [] gathered lists = absurd lists

@@ -3,13 +3,14 @@ use Rattle.std.specs.Prelude.{◌≡◌, ℕ, ◌+◌, ◌⊎◌, Bool, List, []
 use Rattle.ioam_ip.specs.Framing.{Framing, Holds, NoIpv6, CutShort, TooShort}
 use Rattle.ioam_ip.specs.Chain.{IsSound}
 use Rattle.ioam_pcap.specs.Entries.{Entry}
+use Rattle.ioam_report.specs.RunText.{reason_name}
 use Rattle.ioam_report.specs.TracesText.{TracesText}
-use Rattle.ioam_run.specs.Verdict.{entry_framing, reason_text}
-use Rattle.ioam_run.specs.declared.reason.Reason.{Reason}
-use Rattle.ioam_run.specs.declared.reason.Reason.TheVariants as reason
+use Rattle.ioam_run.specs.Verdict.{entry_framing}
+use Rattle.ioam_node.specs.declared.reason.Reason.{Reason}
+use Rattle.ioam_node.specs.declared.reason.Reason.TheVariants as reason
 
 abbrev pub skip_line : ℕ → Reason → List ℕ
-skip_line number reason = decimal number ++ codes " skip " ++ reason_text reason ++ codes "\n"
+skip_line number reason = decimal number ++ codes " skip " ++ reason_name reason ++ codes "\n"
 
 -- a packet whose chain isn't whole is skipped; of another its number and its traces are written
 abbrev pub PacketLines : ℕ → List ℕ → List ℕ → Type 0

@@ -124,12 +124,13 @@ module _ (Texts : Bool → List Entry → List (List ℕ) → Type 0) (outputs :
     pub texts_are : Texts (is_ethernet link) entries texts
     pub held : HoldTexts new outputs texts
 
-  -- each output that was opened holds a front of its text of some first records of IN
+  -- each output that was opened holds a front of its text of some first records of IN, no more than may be
   pub record HoldsFronts (old new : Writing) (octets : List ℕ) : Type 0 where
     pub link : Option Link
     pub entries : List Entry
     pub texts : List (List ℕ)
     pub are : AreFirst link entries octets
+    pub few : length entries ≤ most_packets
     pub texts_are : Texts (is_ethernet link) entries texts
     pub held : HoldFronts old new 0 outputs texts
 
@@ -169,7 +170,8 @@ IsDone outcome.ReadFault = ⊥
 IsDone outcome.WriteFault = ⊥
 IsDone outcome.NoMemory = ⊥
 
--- the answer comes once the outputs were written; `opened` says that IN was opened
+-- the answer comes once the outputs were written; `opened` says that the files were: IN for `filter` and
+-- `paths`, an output for `run`
 abbrev pub IsBehindAll : Type 0 → Outcome → Type 0
 IsBehindAll opened outcome.Done = ⊤
 IsBehindAll opened (outcome.Capture name at fault) = ⊤

@@ -29,7 +29,7 @@ pub record Start : Type 0 where
 abbrev pub most_size : ℕ
 most_size = 262160
 
--- the place behind so many records, at most
+-- the place behind so many records, at most, so that what is fed stays below 2^63
 abbrev pub most_start : ℕ → ℕ
 most_start count = 24 + count * most_size
 
@@ -96,6 +96,7 @@ module _ (tells : Bool) (start : Start) (Texts : Bool → List Entry → List (L
     pub entries : List Entry
     pub texts : List (List ℕ)
     pub are : AreFirst link entries octets
+    pub few : length entries ≤ most_packets
     pub texts_are : Texts (is_ethernet link) entries texts
     pub held : HoldAllFronts outputs start.names texts
 

@@ -1,12 +1,13 @@
 -- What becomes of a captured frame at the boundary of a domain: the first reason why it is dropped,
 -- or its packet.
-use Rattle.std.specs.Prelude.{◌≡◌, ℕ, List, [], ◌∷◌, Bool, true, false, nat_lt, length, codes, Option, Some, None}
+use Rattle.std.specs.Prelude.{◌≡◌, ℕ, List, [], ◌∷◌, Bool, true, false, Option, Some, None}
 use Rattle.ioam_ip.specs.Framing.{Framing, Holds, NoIpv6, CutShort, TooShort, framing_of}
 use Rattle.ioam_ip.specs.Chain.{IsSound}
 use Rattle.ioam_ip.specs.ChainOptions.{CarriesIoam}
+use Rattle.ioam_pcap.specs.Cut.{is_cut}
 use Rattle.ioam_pcap.specs.Entries.{Entry}
-use Rattle.ioam_run.specs.declared.reason.Reason.{Reason}
-use Rattle.ioam_run.specs.declared.reason.Reason.TheVariants as reason
+use Rattle.ioam_node.specs.declared.reason.Reason.{Reason}
+use Rattle.ioam_node.specs.declared.reason.Reason.TheVariants as reason
 
 pub data Verdict : Type 0 where
   Keeps : (packet : List ℕ) → Verdict
@@ -20,6 +21,12 @@ PacketVerdict packet (Drops reason.Cut) = ⊥
 PacketVerdict packet (Drops reason.Length) = ⊥
 PacketVerdict packet (Drops reason.Chain) = IsSound packet → ⊥
 PacketVerdict packet (Drops reason.IoamIn) = IsSound packet × CarriesIoam packet
+PacketVerdict packet (Drops reason.Local) = ⊥
+PacketVerdict packet (Drops reason.HopLimit) = ⊥
+PacketVerdict packet (Drops reason.NoRoute) = ⊥
+PacketVerdict packet (Drops reason.EncapLimit) = ⊥
+PacketVerdict packet (Drops reason.TooBig) = ⊥
+PacketVerdict packet (Drops reason.IoamOut) = ⊥
 
 abbrev pub FramingVerdict : Framing → Verdict → Type 0
 FramingVerdict (Holds packet) verdict = PacketVerdict packet verdict
@@ -29,7 +36,7 @@ FramingVerdict TooShort verdict = verdict ≡ Drops reason.Length
 
 -- what a record of a capture gives: it is cut where it has fewer octets than the frame had
 abbrev pub entry_framing : Bool → Entry → Framing
-entry_framing ethernet entry = framing_of ethernet (nat_lt (length entry.octets) entry.original) entry.octets
+entry_framing ethernet entry = framing_of ethernet (is_cut entry) entry.octets
 
 -- what becomes of one record of a capture
 abbrev pub HasVerdict : Bool → Entry → Verdict → Type 0
@@ -41,11 +48,3 @@ AreVerdicts ethernet [] [] = Unit {0}
 AreVerdicts ethernet [] (v ∷ vs) = ⊥
 AreVerdicts ethernet (e ∷ es) [] = ⊥
 AreVerdicts ethernet (e ∷ es) (v ∷ vs) = HasVerdict ethernet e v × AreVerdicts ethernet es vs
-
--- the words of the reports
-abbrev pub reason_text : Reason → List ℕ
-reason_text reason.NotIpv6 = codes "not-ipv6"
-reason_text reason.Cut = codes "cut"
-reason_text reason.Length = codes "length"
-reason_text reason.Chain = codes "chain"
-reason_text reason.IoamIn = codes "ioam-in"

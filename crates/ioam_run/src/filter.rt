@@ -11,12 +11,13 @@ ghost use Rattle.ioam_run.specs.declared.outcome.Outcome.{Outcome};
 
 use crate::filtering::Filtering;
 use crate::outcome::Outcome;
-use crate::run::run_words;
+use crate::over_capture::run_over_capture;
 use ioam_desk::{Desk, Name};
 use std::alloc::Global;
 
 /// Runs `filter IN OUT REPORT`: OUT becomes the capture of the packets of IN whose header chain is
-/// whole and has no IOAM option, unchanged, each with its time, and REPORT says what became of each.
+/// whole and has no IOAM option (RFC 8200 section 4, RFC 9486 section 3), unchanged, each with its time,
+/// and REPORT says what became of each.
 ///
 /// The words are the command and the three names. IN is read in pieces, up to 16,777,216 records.
 pub fn run_filter<D: Desk>(alloc: Global, words: &[Name], desk: &mut D) -> Outcome
@@ -40,5 +41,5 @@ pub fn run_filter<D: Desk>(alloc: Global, words: &[Name], desk: &mut D) -> Outco
     ensures no_output { (D.reading desk.new).side.slots ≡ (D.reading desk.old).side.slots → D.writing desk.new ≡ D.writing desk.old }
     ensures drained { IsDone result → IsTrue D.tells → IsTrue ((D.reading desk.new).ended (D.reading desk.old).side.slots) }
 {
-    run_words::<Filtering, D>(alloc, words, desk)
+    run_over_capture::<Filtering, D>(alloc, words, desk)
 }

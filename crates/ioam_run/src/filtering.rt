@@ -5,11 +5,12 @@ ghost use Rattle.ioam_run.specs.Verdict.{Verdict};
 
 use crate::gather::Gather;
 use crate::judge::{Judgement, judge};
-use crate::reason::Reason;
 use ioam_base::memory::NoMemory;
 use ioam_base::text::{append, append_decimal};
+use ioam_node::Reason;
 use ioam_outputs::Output;
 use ioam_pcap::{Packet, put_head, put_record};
+use ioam_report::reason_text;
 
 /// How many packets are kept and dropped so far. Its outputs are the capture of the kept packets and
 /// the report.
@@ -52,13 +53,13 @@ impl Gather for Filtering {
     fn take(
         &mut self,
         ethernet: bool,
-        packet: &Packet<'_>,
+        record: &Packet<'_>,
         outputs: &mut [Output],
     ) -> Result<(), NoMemory> {
         let number = self.kept + self.dropped + 1;
-        match judge(ethernet, packet) {
+        match judge(ethernet, record) {
             Judgement::Kept(octets) => {
-                put_record(packet.time, octets, &mut outputs[0].gathered)?;
+                put_record(record.time, octets, &mut outputs[0].gathered)?;
                 put_kept(number, &mut outputs[1].gathered)?;
                 self.kept += 1;
             }
@@ -99,7 +100,7 @@ fn put_dropped(number: u64, reason: Reason, out: &mut Vec<u8>) -> Result<(), NoM
 {
     append_decimal(out, number)?;
     append(out, b" drop ")?;
-    append(out, reason.text().as_bytes())?;
+    append(out, reason_text(reason).as_bytes())?;
     append(out, b"\n")
 }
 

@@ -2,12 +2,12 @@
 ghost use Rattle.std.specs.Prelude.{◌≡◌, ◌≤◌, length};
 ghost use Rattle.ioam_ip.specs.Packet.{IsPacket};
 ghost use Rattle.ioam_pcap.specs.Reader.{entry_of};
-ghost use Rattle.ioam_run.specs.Verdict.{HasVerdict, PacketVerdict};
+ghost use Rattle.ioam_run.specs.Verdict.{Verdict, HasVerdict, PacketVerdict};
 ghost use Rattle.ioam_run.specs.Judgement.{verdict_of, IsWithin};
 
 use crate::frame::framed;
-use crate::reason::Reason;
 use ioam_ip::{Framed, Walk, walk};
+use ioam_node::Reason;
 use ioam_pcap::Packet;
 
 /// A frame's packet that is kept, or the first reason why the frame is dropped.
@@ -15,15 +15,18 @@ use ioam_pcap::Packet;
 pub enum Judgement<'a> {
     /// The packet, without what follows it in the frame.
     Kept(&'a [u8]),
+    /// Why it is dropped.
     Dropped(Reason),
 }
 
 /// What becomes of a record of a capture; `ethernet` says that its frames begin with an Ethernet header.
-pub fn judge<'a>(ethernet: bool, packet: &Packet<'a>) -> Judgement<'a>
-    ensures verdict { HasVerdict ethernet (entry_of packet.now) (verdict_of result) }
-    ensures within { IsWithin (verdict_of result) packet.now.octets.now }
+pub fn judge<'a>(ethernet: bool, record: &Packet<'a>) -> Judgement<'a>
+    ensures verdict { HasVerdict ethernet (entry_of record.now) (verdict_of result) }
+    // It has no other.
+    ensures only { (verdict : Verdict) → HasVerdict ethernet (entry_of record.now) verdict → verdict_of result ≡ verdict }
+    ensures within { IsWithin (verdict_of result) record.now.octets.now }
 {
-    match framed(ethernet, packet) {
+    match framed(ethernet, record) {
         Framed::Packet(octets) => judge_packet(octets),
         Framed::NotIpv6 => Judgement::Dropped(Reason::NotIpv6),
         Framed::Cut => Judgement::Dropped(Reason::Cut),

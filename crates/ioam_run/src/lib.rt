@@ -1,4 +1,7 @@
-//! The commands, as runs over a desk: what each reads, answers and leaves.
+//! The commands over one capture, `filter` and `paths`, and what every command answers.
+//!
+//! A record's way: `run_over_capture` looks at the names and opens the files, `read_on` reads pieces,
+//! `step` takes a record, and the command's `Gather` adds what it says of it to each output.
 #![tactic(auto)]
 
 mod filter;
@@ -8,9 +11,8 @@ mod gather;
 mod judge;
 mod listing;
 mod outcome;
+mod over_capture;
 mod paths;
-mod reason;
-mod run;
 mod step;
 mod stream;
 

@@ -6,13 +6,13 @@ ghost use Rattle.ioam_run.specs.PathsText.{EntryLines, PacketLines, skip_line, p
 
 use crate::frame::framed;
 use crate::gather::Gather;
-use crate::reason::Reason;
 use ioam_base::memory::NoMemory;
 use ioam_base::text::{append, append_decimal};
 use ioam_ip::{Framed, Walk, walk};
+use ioam_node::Reason;
 use ioam_outputs::Output;
 use ioam_pcap::Packet;
-use ioam_report::put_traces;
+use ioam_report::{put_traces, reason_text};
 
 /// How many packets were listed so far. Its output is the report.
 #[derive(Drop)]
@@ -49,10 +49,10 @@ impl Gather for Listing {
     fn take(
         &mut self,
         ethernet: bool,
-        packet: &Packet<'_>,
+        record: &Packet<'_>,
         outputs: &mut [Output],
     ) -> Result<(), NoMemory> {
-        put_entry(self.packets + 1, ethernet, packet, &mut outputs[0].gathered)?;
+        put_entry(self.packets + 1, ethernet, record, &mut outputs[0].gathered)?;
         self.packets += 1;
         Ok(())
     }
@@ -85,13 +85,13 @@ fn put_count(packets: u64, out: &mut Vec<u8>) -> Result<(), NoMemory>
 fn put_entry(
     number: u64,
     ethernet: bool,
-    packet: &Packet<'_>,
+    record: &Packet<'_>,
     out: &mut Vec<u8>,
 ) -> Result<(), NoMemory>
-    ensures { OnOk result ((text : List _) × EntryLines ethernet number (entry_of packet.now) text
+    ensures { OnOk result ((text : List _) × EntryLines ethernet number (entry_of record.now) text
         × (out.new.items ≡ out.old.items ++ text)) }
 {
-    match framed(ethernet, packet) {
+    match framed(ethernet, record) {
         Framed::Packet(octets) => put_packet(number, octets, out),
         Framed::NotIpv6 => put_skip(number, Reason::NotIpv6, out),
         Framed::Cut => put_skip(number, Reason::Cut, out),
@@ -120,6 +120,6 @@ fn put_skip(number: u64, reason: Reason, out: &mut Vec<u8>) -> Result<(), NoMemo
 {
     append_decimal(out, number)?;
     append(out, b" skip ")?;
-    append(out, reason.text().as_bytes())?;
+    append(out, reason_text(reason).as_bytes())?;
     append(out, b"\n")
 }

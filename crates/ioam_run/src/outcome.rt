@@ -8,14 +8,14 @@ use ioam_pcap::CapFault;
 use ioam_topo::DomainFault;
 use std::alloc::Global;
 
-/// What a run answers. Its numbers are the program's exit statuses.
+/// What a run answers. `status` of `ioam_cmd` gives each its exit status.
 #[derive(Debug, Drop)]
 pub enum Outcome {
     /// Every input was read to its end and every output written.
     Done,
     /// The words are none of the forms; nothing was opened.
     Usage,
-    /// Two files have the same name: this one equals an earlier one.
+    /// Two files have the same name: the first that equals an earlier one.
     Names {
         name: Name,
     },
@@ -27,13 +27,13 @@ pub enum Outcome {
     Readings {
         fault: ReadingsFault,
     },
-    /// A capture's head or record is faulty, at this octet of the file.
+    /// A capture's head or record is faulty, at this octet of the file, counted from 0.
     Capture {
         name: Name,
         at: u64,
         fault: CapFault,
     },
-    /// An input has more than this many records.
+    /// More packets arrive than this many: in IN, or of `run` in all captures together.
     Packets {
         limit: u32,
     },

@@ -44,11 +44,11 @@ pub fn step<G: Gather>(
             *ethernet = is_ethernet(Some(link));
             Ok(None)
         }
-        CapStep::Packet(packet) => {
+        CapStep::Packet(record) => {
             if gathered.taken() >= u64::from(MOST_PACKETS) {
                 return Ok(Some(Pause::Limit));
             }
-            match gathered.take(*ethernet, &packet, outputs) {
+            match gathered.take(*ethernet, &record, outputs) {
                 Ok(()) => Ok(None),
                 Err(NoMemory) => Err(NoMemory),
             }

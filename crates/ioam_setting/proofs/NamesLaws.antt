@@ -1,12 +1,15 @@
 -- Laws of the names of a run's files.
-use Rattle.std.proofs.Common.{◌≡◌, ℕ, zero, suc, ◌+◌, ◌<◌, ◌⊎◌, List, [], ◌∷◌, ◌++◌, map, length, take, get_or, Option, Some, None, refl, sym, ◌∙◌, ap, subst, inl, inr, ⊎_elim, append-nil, append_assoc, length-append, arith}
+use Rattle.std.proofs.Common.{◌≡◌, ℕ, zero, suc, ◌+◌, ◌<◌, ◌⊎◌, List, [], ◌∷◌, ◌++◌, map, length, take, get_or, slice_get, Option, Some, None, refl, sym, ◌∙◌, ap, subst, inl, inr, ⊎_elim, append-nil, append_assoc, length-append, arith}
 use Rattle.std.specs.List.{All, Contains, flat_map}
-use Rattle.std.proofs.lemmas.List.{get_or_default, length-map, length-take-le, take_more}
+use Rattle.std.specs.Option.{option_map_or}
+use Rattle.std.proofs.Math.Seq.{get_or-append_seam}
+use Rattle.std.proofs.lemmas.Option.{slice_get-get_or}
+use Rattle.std.proofs.lemmas.List.{map-append, get_or_default, length-map, length-take-le, take_more}
 use Rattle.std.proofs.lemmas.List.Elements.{All-nil, All-cons, All-append, Contains-append_left, Contains-append_right, Contains-append_cases}
 use Rattle.ioam_outputs.specs.Names.{name_at, Repeats, AreApart}
 use Rattle.ioam_topo.specs.declared.ids.PortId.{PortId}
 use Rattle.ioam_topo.specs.declared.parts.Port.{Port}
-use Rattle.ioam_setting.specs.Names.{input_of, input_names, port_with, ports_from, input_ports, output_names, file_names}
+use Rattle.ioam_setting.specs.Names.{input_of, input_names, port_with, ports_from, input_ports, inputs_at, output_names, file_names}
 
 -- one port more at the end
 pub ports_more : (place : ℕ) (ports : List Port) (port : Port)
@@ -46,6 +49,38 @@ as_many place (port ∷ ports) = omega (
 
 pub length-input_ports : (ports : List Port) → length (input_ports ports) ≡ length (input_names ports)
 length-input_ports ports = as_many 0 ports
+
+-- the capture of the port at a place
+inputs_one : (all : List Port) (place : ℕ) (port : Port) (input : Option (List ℕ)) → slice_get all place ≡ Some port → port.input ≡ input
+    → inputs_at all (port_with place input) ≡ map (λ name. Some name) (input_of input)
+inputs_one all place port None found is = refl
+inputs_one all place port (Some name) found is =
+    ap (λ (at : Option Port). option_map_or (λ p. p.input) at None ∷ []) found ∙ ap (λ (held : Option (List ℕ)). held ∷ []) is
+
+inputs_from : (front ports : List Port)
+    → inputs_at (front ++ ports) (ports_from (length front) ports) ≡ map (λ name. Some name) (input_names ports)
+inputs_from front [] = refl
+inputs_from front (port ∷ ports) =
+    let all = front ++ port ∷ ports in
+    let f : PortId → Option (List ℕ) = λ id. option_map_or (λ p. p.input) (slice_get all id.0) None in
+    let some : List ℕ → Option (List ℕ) = λ name. Some name in
+    let there : slice_get all (length front) ≡ Some port
+    = slice_get-get_or all (length front) port (omega (arith, length-append front (port ∷ ports)))
+    ∙ ap (λ (p : Port). Some p) (get_or-append_seam front port ports port) in
+    let grown : (front ++ port ∷ []) ++ ports ≡ all = append_assoc front (port ∷ []) ports in
+    let count : length (front ++ port ∷ []) ≡ suc (length front) = omega (arith, length-append front (port ∷ [])) in
+    let P : ℕ → Type 0 = λ n. inputs_at ((front ++ port ∷ []) ++ ports) (ports_from n ports) ≡ map some (input_names ports) in
+    let Q : List Port → Type 0 = λ l. inputs_at l (ports_from (suc (length front)) ports) ≡ map some (input_names ports) in
+    let behind : inputs_at all (ports_from (suc (length front)) ports) ≡ map some (input_names ports)
+    = subst Q grown (subst P count (inputs_from (front ++ port ∷ []) ports)) in
+    map-append f (port_with (length front) port.input) (ports_from (suc (length front)) ports)
+    ∙ ap (λ (l : List (Option (List ℕ))). l ++ map f (ports_from (suc (length front)) ports)) (inputs_one all (length front) port port.input there refl)
+    ∙ ap (λ (l : List (Option (List ℕ))). map some (input_of port.input) ++ l) behind
+    ∙ sym (map-append some (input_of port.input) (input_names ports))
+
+-- the k-th of the ports with a capture has the k-th capture
+pub inputs-input_ports : (ports : List Port) → inputs_at ports (input_ports ports) ≡ map (λ name. Some name) (input_names ports)
+inputs-input_ports ports = inputs_from [] ports
 
 pub length-output_names : (ports : List Port) (report exports : List ℕ) → length (output_names ports report exports) ≡ length ports + 2
 length-output_names ports report exports = omega (

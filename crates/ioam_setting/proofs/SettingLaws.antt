@@ -1,9 +1,10 @@
 -- Laws of the two files that a run is set by: what the second one's reading says once the first was read.
-use Rattle.std.proofs.Common.{◌≡◌, ℕ, suc, Bool, IsSomeAnd, List, [], ◌∷◌, ◌++◌, take, Ok, Err, ◌∙◌, ap, subst, append_assoc}
+use Rattle.std.proofs.Common.{◌≡◌, ℕ, suc, Bool, IsSomeAnd, Option, List, [], ◌∷◌, ◌++◌, take, Ok, Err, ◌∙◌, ap, subst, append_assoc}
 use Rattle.ioam_clock.specs.Reading.{readings_of, node_names}
 use Rattle.ioam_desk.specs.Asked.{AsksFront}
 use Rattle.ioam_desk.specs.Desk.{Side, Reading, Writing, Rose, holds, opened_side}
 use Rattle.ioam_topo.specs.declared.domain.Domain.{Domain}
+use Rattle.ioam_topo.specs.declared.fault.DomainFault.{DomainFault}
 use Rattle.ioam_setting.specs.Reads.{IsDomainRead, AreReadingsRead}
 use Rattle.ioam_setting.specs.Setting.{Refuses}
 use Rattle.ioam_setting.specs.declared.setting.Refusal.{Refusal}
@@ -32,3 +33,9 @@ module _ (tells : Bool) (old mid new : Reading) (desk next : Writing) (domain_fi
   refuses_next read opened same refusal.ReadFault refused =
       subst (λ (s : Side). Rose s.faults new.side.faults) opened refused
   refuses_next read opened same refusal.NoMemory refused = tt
+
+-- the readings' file has no fault of the domain file
+pub none_of_domain : (tells : Bool) (mid new : Reading) (held : Option (List ℕ)) (names : List (List ℕ)) (why : Refusal) (fault : DomainFault)
+    → AreReadingsRead tells mid new held names (Err why) → why ≡ refusal.Domain fault → ⊥
+none_of_domain tells mid new held names why fault read is =
+    subst (λ (reason : Refusal). AreReadingsRead tells mid new held names (Err reason)) is read

@@ -1,7 +1,8 @@
 -- The files of a run over a domain: the words of the command name four, and each port of the domain
 -- the capture of the packets that leave by it and perhaps one of the packets that arrive at it.
-use Rattle.std.specs.Prelude.{ℕ, suc, List, [], ◌∷◌, ◌++◌, map, Option, Some, None}
+use Rattle.std.specs.Prelude.{ℕ, suc, List, [], ◌∷◌, ◌++◌, map, slice_get, Option, Some, None}
 use Rattle.std.specs.List.{flat_map}
+use Rattle.std.specs.Option.{option_map_or}
 use Rattle.ioam_topo.specs.declared.ids.PortId.{PortId}
 use Rattle.ioam_topo.specs.declared.parts.Port.{Port}
 
@@ -26,6 +27,10 @@ ports_from place (port ∷ ports) = port_with place port.input ++ ports_from (su
 
 abbrev pub input_ports : List Port → List PortId
 input_ports ports = ports_from 0 ports
+
+-- the captures of the packets that arrive at the ports at these places
+abbrev pub inputs_at : List Port → List PortId → List (Option (List ℕ))
+inputs_at ports ids = map (λ id. option_map_or (λ port. port.input) (slice_get ports id.0) None) ids
 
 -- the files that are written: a capture for each port, in file order, the report and the exports
 abbrev pub output_names : List Port → List ℕ → List ℕ → List (List ℕ)

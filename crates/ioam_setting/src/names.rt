@@ -1,7 +1,7 @@
 //! The names of a run's files.
-ghost use Rattle.std.specs.Prelude.{◌≡◌, ◌<◌, ◌∷◌, ◌++◌, [], length, All, IfOk, OnOk};
+ghost use Rattle.std.specs.Prelude.{◌≡◌, ◌<◌, ◌∷◌, ◌++◌, [], length, map, Some, All, IfOk, OnOk};
 ghost use Rattle.ioam_topo.specs.Domain.{ports};
-ghost use Rattle.ioam_setting.specs.Names.{input_of, input_names, port_with, input_ports, output_names, file_names};
+ghost use Rattle.ioam_setting.specs.Names.{input_of, input_names, port_with, input_ports, inputs_at, output_names, file_names};
 
 use ioam_base::memory::NoMemory;
 use ioam_desk::Name;
@@ -51,10 +51,13 @@ pub fn input_names(alloc: Global, domain: &Domain) -> Result<Vec<Name>, NoMemory
     Ok(names)
 }
 
-/// The ports that have one, in the same order.
+/// The ports that have a capture of arriving packets (`in`), in file order: the k-th is the port of the
+/// k-th of [`input_names`].
 pub fn input_ports(alloc: Global, domain: &Domain) -> Result<Vec<PortId>, NoMemory>
     ensures value { IfOk result (λ ids. ids.items ≡ input_ports (ports domain.now)) }
     ensures inside { IfOk result (λ ids. All (λ port. port.0 < length (ports domain.now)) ids.items) }
+    ensures named { IfOk result (λ ids. inputs_at (ports domain.now) ids.items
+        ≡ map (λ name. Some name) (input_names (ports domain.now))) }
     ensures sized { IfOk result (λ ids. length ids.items ≡ length (input_names (ports domain.now))) }
 {
     let mut ids = Vec::new(alloc);

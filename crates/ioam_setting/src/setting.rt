@@ -1,11 +1,13 @@
 //! The two files that a run is set by.
-ghost use Rattle.std.specs.Prelude.{◌≡◌, ◌+◌, ◌∷◌, [], IsTrue, IfOk, IfErr, OnOk, MatchResult};
+ghost use Rattle.std.specs.Prelude.{◌≡◌, ◌+◌, ◌∷◌, [], IsTrue, Err, IfOk, IfErr, OnOk, MatchResult};
 ghost use Rattle.ioam_clock.specs.Reading.{node_names};
 ghost use Rattle.ioam_desk.specs.Asked.{AsksFront};
 ghost use Rattle.ioam_desk.specs.Desk.{SameBut, holds, opened_side, opened_each};
 ghost use Rattle.ioam_desk.specs.Whole.{ReadsWhole, FailsWhole};
+ghost use Rattle.ioam_topo.specs.declared.fault.DomainFault.{DomainFault};
 ghost use Rattle.ioam_setting.specs.Reads.{IsDomainRead, AreReadingsRead};
 ghost use Rattle.ioam_setting.specs.Setting.{IsSetting, Refuses};
+ghost use Rattle.ioam_setting.specs.declared.setting.Refusal.{Refusal};
 
 use ioam_clock::{ReadWhy, Readings, ReadingsFault, ReadingsRefused, read_readings};
 use ioam_desk::{Desk, Name, WholeFault, read_whole};
@@ -15,11 +17,13 @@ use std::alloc::Global;
 /// A domain, and the readings of its nodes' clocks.
 #[derive(Drop)]
 pub struct Setting {
+    /// What the domain file says.
     pub domain: Domain,
+    /// The samples of each of its nodes.
     pub readings: Readings,
 }
 
-/// Why there is no setting, in the order in which the reasons are looked for.
+/// Why there is no setting. DOMAIN is opened, read and judged before READINGS is opened.
 #[derive(Clone, Copy, Debug, PartialEq, Eq)]
 pub enum Refusal {
     /// The domain file is faulty: its first fault.
@@ -118,6 +122,9 @@ pub fn read_setting<D: Desk>(
     ensures ended { OnOk result (IsTrue D.tells → IsTrue ((D.reading desk.new).ended (D.reading desk.old).side.slots)
         × IsTrue ((D.reading desk.new).ended ((D.reading desk.old).side.slots + 1))) }
     ensures asked { AsksFront (D.reading desk.old).side.asked (D.reading desk.new).side.asked (domain.now ∷ readings.now ∷ []) }
+    // After a fault of the domain file the readings weren't opened.
+    ensures domain_first { (fault : DomainFault) → result ≡ Err (Refusal.Domain fault)
+        → AsksFront (D.reading desk.old).side.asked (D.reading desk.new).side.asked (domain.now ∷ []) }
     ensures outputs { D.writing desk.new ≡ D.writing desk.old }
 {
     let domain = match read_domain_file(alloc, desk, domain) {

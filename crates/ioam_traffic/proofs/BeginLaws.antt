@@ -15,8 +15,8 @@ use Rattle.ioam_outputs.proofs.ToldLaws.{AreTold-adds, said_first, told_names}
 use Rattle.ioam_topo.specs.Domain.{ports as ports_of}
 use Rattle.ioam_topo.specs.declared.domain.Domain.{Domain}
 use Rattle.ioam_topo.specs.declared.ids.PortId.{PortId}
-use Rattle.ioam_traffic.specs.Traffic.{HoldsFronts, AreOpened}
-use Rattle.ioam_traffic.specs.Running.{Files, Fronts, Running, files_of, start_with}
+use Rattle.ioam_traffic.specs.Traffic.{HoldsFronts, AreOpened, Files, files_of, course_with}
+use Rattle.ioam_traffic.specs.Running.{Fronts, Running}
 use Rattle.ioam_traffic.proofs.FrontsLaws.{of_ports-length}
 use Rattle.ioam_traffic.proofs.RunsLaws.{Merging-begins}
 
@@ -34,7 +34,7 @@ module _ (tells : Bool) (domain : Domain) (ports : List PortId) (files : Files) 
 
     -- the heads were told
     pub Running-begin : (gathered : Forwarding) (tellers : List Output) → Adds old tellers (texts_so_far domain []) → Forwards domain [] (texts_so_far domain []) gathered
-        → Running tells (start_with domain ports files) inputs outputs (record { merge = merge; gathered = gathered }) tellers
+        → Running tells (course_with domain ports files) inputs outputs (record { merge = merge; gathered = gathered }) tellers
     Running-begin gathered tellers adds forwards =
         let P : List (List ℕ) → Type 0 = λ texts. AreTold tells outputs base files.names tellers texts in
         record {
@@ -49,7 +49,7 @@ module _ (tells : Bool) (domain : Domain) (ports : List PortId) (files : Files) 
         }
 
     -- each output is empty
-    pub Fronts-begin : IsTrue tells → Fronts tells (start_with domain ports files) outputs
+    pub Fronts-begin : IsTrue tells → Fronts tells (course_with domain ports files) outputs
     Fronts-begin tells_so = record {
       taken = [];
       begin = Merging-begins tells files.lanes inputs merge [] are tells_so;
@@ -69,7 +69,7 @@ module _ (tells : Bool) (domain : Domain) (ports : List PortId) (files : Files) 
   -- not all outputs were opened
   pub HoldsFronts-begin : (first mid new : Writing) → mid ≡ first → length files.names ≡ length (ports_of domain) + 2
       → ((texts : List (List ℕ)) → length texts ≡ length files.names → HoldFronts mid new 0 files.names texts)
-      → IsTrue tells → HoldsFronts (start_with domain ports files) first new
+      → IsTrue tells → HoldsFronts (course_with domain ports files) first new
   HoldsFronts-begin first mid new same width fronts tells_so =
       let P : Writing → Type 0 = λ w. HoldFronts w new 0 files.names (texts_of domain []) in
       record {
@@ -90,7 +90,7 @@ module _ (files : Files) (ins outs : List (List ℕ)) (reading : Reading) (writi
   known_sized = ap (λ (f : Files). length f.lanes.contents) known ∙ length-map ins (holds writing)
 
   pub known_opened : (domain : Domain) (ports : List PortId) (new : Reading) → new.side.slots ≡ reading.side.slots + length ins
-      → AreOpened (start_with domain ports files) new
+      → AreOpened (course_with domain ports files) new
   known_opened domain ports new slots = omega (arith, slots, known_sized, ap (λ (f : Files). f.lanes.base) known)
 
   pub known_fewer : (new : Reading) → new.side.slots < reading.side.slots + length ins → new.side.slots < files.lanes.base + length files.lanes.contents
@@ -115,7 +115,7 @@ module _ (files : Files) (ins outs : List (List ℕ)) (reading : Reading) (writi
       → Merging tells (start_of reading.side.slots writing ins) inputs merge [] → (mid new : Writing) → mid ≡ writing
       → length outs ≡ length (ports_of domain) + 2
       → ((texts : List (List ℕ)) → length texts ≡ length outs → HoldFronts mid new 0 outs texts)
-      → IsTrue tells → HoldsFronts (start_with domain ports files) writing new
+      → IsTrue tells → HoldsFronts (course_with domain ports files) writing new
   known_fronts tells domain ports inputs merge are mid new same width fronts tells_so =
-      let P : Files → Type 0 = λ f. HoldsFronts (start_with domain ports f) writing new in
+      let P : Files → Type 0 = λ f. HoldsFronts (course_with domain ports f) writing new in
       subst P (sym known) (HoldsFronts-begin tells domain ports (files_of ins outs reading writing) inputs merge are writing mid new same width fronts tells_so)

@@ -24,9 +24,9 @@ use Rattle.ioam_pcap.proofs.MergeLaws.{Takes-push}
 use Rattle.ioam_topo.specs.declared.domain.Domain.{Domain}
 use Rattle.ioam_topo.specs.declared.ids.PortId.{PortId}
 use Rattle.ioam_pcap.specs.Link.{is_ethernet}
-use Rattle.ioam_traffic.specs.Traffic.{Start, ArePassed, frame_of, frames_of, port_at}
+use Rattle.ioam_traffic.specs.Traffic.{Course, ArePassed, frame_of, frames_of, port_at}
 use Rattle.ioam_traffic.specs.Running.{Coming, Fronts, Halted, Running, Runs}
-use Rattle.ioam_traffic.specs.declared.stream.Stream.{Stream}
+use Rattle.ioam_traffic.specs.declared.progress.Progress.{Progress}
 use Rattle.ioam_traffic.proofs.FrontsLaws.{fronts_so_far}
 
 AreFates-length : (domain : Domain) (frames : List Frame) (fates : List Fate) → AreFates domain frames fates → length fates ≡ length frames
@@ -54,21 +54,21 @@ frames-push : (ports : List PortId) (arrivals : List Arrival) (one : Arrival)
     → frames_of ports (arrivals ++ one ∷ []) ≡ frames_of ports arrivals ++ frame_of ports one ∷ []
 frames-push ports arrivals one = map-append (frame_of ports) arrivals (one ∷ [])
 
-module _ (tells : Bool) (start : Start) (Were : List Arrival → Type 0) (outputs : Writing) (gathered : Forwarding) (tellers : List Output)
-    (runs : Runs tells start Were outputs gathered tellers) where
+module _ (tells : Bool) (course : Course) (Were : List Arrival → Type 0) (outputs : Writing) (gathered : Forwarding) (tellers : List Output)
+    (runs : Runs tells course Were outputs gathered tellers) where
   -- so many were taken
   pub Runs-count : taken gathered ≡ length runs.taken
   Runs-count = omega (
     arith,
-    Forwards-count start.domain (frames_of start.ports runs.taken) runs.texts gathered runs.forwards,
-    length-map runs.taken (frame_of start.ports),
+    Forwards-count course.domain (frames_of course.ports runs.taken) runs.texts gathered runs.forwards,
+    length-map runs.taken (frame_of course.ports),
   )
 
-  pub Runs-of : IsOf start.domain gathered
-  Runs-of = Forwards-of start.domain (frames_of start.ports runs.taken) runs.texts gathered runs.forwards
+  pub Runs-of : IsOf course.domain gathered
+  Runs-of = Forwards-of course.domain (frames_of course.ports runs.taken) runs.texts gathered runs.forwards
 
   -- something else is known of what was taken
-  pub Runs-so : (Are : List Arrival → Type 0) → Are runs.taken → Runs tells start Are outputs gathered tellers
+  pub Runs-so : (Are : List Arrival → Type 0) → Are runs.taken → Runs tells course Are outputs gathered tellers
   Runs-so Are are = record {
     taken = runs.taken;
     texts = runs.texts;
@@ -82,34 +82,34 @@ module _ (tells : Bool) (start : Start) (Were : List Arrival → Type 0) (output
   -- what was gathered was written
   pub Runs-written : (now : Writing) (later : List Output)
       → ((slot : ℕ) (names texts : List (List ℕ)) → AreTold tells outputs slot names tellers texts → AreTold tells now slot names later texts)
-      → Runs tells start Were now gathered later
+      → Runs tells course Were now gathered later
   Runs-written now later told = record {
     taken = runs.taken;
     texts = runs.texts;
     base = runs.base;
     are = runs.are;
-    told = told runs.base start.names runs.texts runs.told;
+    told = told runs.base course.names runs.texts runs.told;
     forwards = runs.forwards;
     few = runs.few;
   }
 
   -- one record more was taken
   pub Runs-take : (Are : List Arrival → Type 0) (one : Arrival) (new : Forwarding) (later : List Output) (added : List (List ℕ)) (port : PortId) (ethernet : Bool)
-      → Are (runs.taken ++ one ∷ []) → Adds tellers later added → port ≡ port_at start.ports one.capture → ethernet ≡ is_ethernet one.link
-      → ((frames : List Frame) (so_far : List (List ℕ)) → Forwards start.domain frames so_far gathered
-      → Forwards start.domain (frames ++ record { port = port; ethernet = ethernet; entry = one.entry } ∷ []) (said_more so_far added) new)
-      → taken gathered < start.domain.packets → Runs tells start Are outputs new later
+      → Are (runs.taken ++ one ∷ []) → Adds tellers later added → port ≡ port_at course.ports one.capture → ethernet ≡ is_ethernet one.link
+      → ((frames : List Frame) (so_far : List (List ℕ)) → Forwards course.domain frames so_far gathered
+      → Forwards course.domain (frames ++ record { port = port; ethernet = ethernet; entry = one.entry } ∷ []) (said_more so_far added) new)
+      → taken gathered < course.domain.packets → Runs tells course Are outputs new later
   Runs-take Are one new later added port ethernet are adds at link gathers room =
-      let frames = frames_of start.ports runs.taken in
-      let P : PortId → Bool → Type 0 = λ p e. Forwards start.domain (frames ++ record { port = p; ethernet = e; entry = one.entry } ∷ []) (said_more runs.texts added) new in
-      let Q : List Frame → Type 0 = λ fs. Forwards start.domain fs (said_more runs.texts added) new in
+      let frames = frames_of course.ports runs.taken in
+      let P : PortId → Bool → Type 0 = λ p e. Forwards course.domain (frames ++ record { port = p; ethernet = e; entry = one.entry } ∷ []) (said_more runs.texts added) new in
+      let Q : List Frame → Type 0 = λ fs. Forwards course.domain fs (said_more runs.texts added) new in
       record {
         taken = runs.taken ++ one ∷ [];
         texts = said_more runs.texts added;
         base = runs.base;
         are = are;
-        told = AreTold-adds tells outputs runs.base start.names tellers later runs.texts added runs.told adds;
-        forwards = subst Q (sym (frames-push start.ports runs.taken one))
+        told = AreTold-adds tells outputs runs.base course.names tellers later runs.texts added runs.told adds;
+        forwards = subst Q (sym (frames-push course.ports runs.taken one))
             (subst (λ p. P p (is_ethernet one.link)) at (subst (λ e. P port e) link (gathers frames runs.texts runs.forwards)));
         few = omega (arith, room, Runs-count, pushed runs.taken one);
       }
@@ -119,7 +119,7 @@ module _ (tells : Bool) (start : Start) (Were : List Arrival → Type 0) (output
       pushed (a ∷ arrivals) x = omega (arith, pushed arrivals x)
 
   -- each output holds a front of its text
-  pub Runs-fronts : (now : Writing) → FilesBegin start.lanes.contents runs.taken → HoldAllFronts now start.names runs.texts → Fronts tells start now
+  pub Runs-fronts : (now : Writing) → FilesBegin course.lanes.contents runs.taken → HoldAllFronts now course.names runs.texts → Fronts tells course now
   Runs-fronts now begin fronts = record {
     taken = runs.taken;
     begin = begin;
@@ -127,13 +127,13 @@ module _ (tells : Bool) (start : Start) (Were : List Arrival → Type 0) (output
     hold = record {
       fates = runs.forwards.fates;
       become = runs.forwards.are;
-      held = fronts_so_far now start.names start.domain runs.forwards.fates (subst (HoldAllFronts now start.names) runs.forwards.texts_are fronts);
+      held = fronts_so_far now course.names course.domain runs.forwards.fates (subst (HoldAllFronts now course.names) runs.forwards.texts_are fronts);
     };
   }
 
   -- as nothing was written since
-  pub Runs-fronts_here : FilesBegin start.lanes.contents runs.taken → IsTrue tells → Fronts tells start outputs
-  Runs-fronts_here begin told = Runs-fronts outputs begin (AreTold-fronts tells outputs runs.base start.names tellers runs.texts told runs.told)
+  pub Runs-fronts_here : FilesBegin course.lanes.contents runs.taken → IsTrue tells → Fronts tells course outputs
+  Runs-fronts_here begin told = Runs-fronts outputs begin (AreTold-fronts tells outputs runs.base course.names tellers runs.texts told runs.told)
 
 module _ (tells : Bool) (lanes : merging.Start) (inputs : Reading) (merge : Merge) (arrivals : List Arrival) where
   -- what was taken comes first
@@ -164,50 +164,50 @@ module _ (tells : Bool) (lanes : merging.Start) (inputs : Reading) (merge : Merg
       (files_are tells inputs told lanes.base is.rows given are.each) (files_on tells inputs told lanes.base is.rows given are.each) longer in
       (arrival now, subst (λ cs. FilesBegin cs (arrivals ++ arrival now ∷ [])) (sym are.contents) of_rows)
 
-module _ (tells : Bool) (start : Start) (inputs : Reading) (outputs : Writing) (stream : Stream) (tellers : List Output) where
+module _ (tells : Bool) (course : Course) (inputs : Reading) (outputs : Writing) (progress : Progress) (tellers : List Output) where
   -- while traffic runs no output holds more than a front
-  pub Running-fronts : Running tells start inputs outputs stream tellers → IsTrue tells → Fronts tells start outputs
-  Running-fronts runs told = Runs-fronts_here tells start (Merging tells start.lanes inputs stream.merge) outputs stream.gathered tellers runs
-      (Merging-begins tells start.lanes inputs stream.merge runs.taken runs.are told) told
+  pub Running-fronts : Running tells course inputs outputs progress tellers → IsTrue tells → Fronts tells course outputs
+  Running-fronts runs told = Runs-fronts_here tells course (Merging tells course.lanes inputs progress.merge) outputs progress.gathered tellers runs
+      (Merging-begins tells course.lanes inputs progress.merge runs.taken runs.are told) told
 
-  module _ (place : ℕ) (coming : Coming tells start place inputs outputs stream tellers) where
-    pub Coming-running : Running tells start inputs outputs stream tellers
-    Coming-running = Runs-so tells start (λ arrivals. (time : ℕ) × Comes tells start.lanes inputs stream.merge arrivals place time)
-        outputs stream.gathered tellers coming (Merging tells start.lanes inputs stream.merge) coming.are.1.merging
+  module _ (place : ℕ) (coming : Coming tells course place inputs outputs progress tellers) where
+    pub Coming-running : Running tells course inputs outputs progress tellers
+    Coming-running = Runs-so tells course (λ arrivals. (time : ℕ) × Comes tells course.lanes inputs progress.merge arrivals place time)
+        outputs progress.gathered tellers coming (Merging tells course.lanes inputs progress.merge) coming.are.1.merging
 
     -- as many were taken as may be
-    pub Coming-passed : start.domain.packets ≤ taken stream.gathered → Halted tells start (ArePassed start) outputs stream.gathered tellers
+    pub Coming-passed : course.domain.packets ≤ taken progress.gathered → Halted tells course (ArePassed course) outputs progress.gathered tellers
     Coming-passed full =
         let (time, comes) = coming.are in
-        let count = Runs-count tells start (λ arrivals. (time : ℕ) × Comes tells start.lanes inputs stream.merge arrivals place time)
-        outputs stream.gathered tellers coming in
-        Runs-so tells start (λ arrivals. (time : ℕ) × Comes tells start.lanes inputs stream.merge arrivals place time)
-        outputs stream.gathered tellers coming (λ arrivals. IsTrue tells → FilesBegin start.lanes.contents arrivals × ArePassed start arrivals)
+        let count = Runs-count tells course (λ arrivals. (time : ℕ) × Comes tells course.lanes inputs progress.merge arrivals place time)
+        outputs progress.gathered tellers coming in
+        Runs-so tells course (λ arrivals. (time : ℕ) × Comes tells course.lanes inputs progress.merge arrivals place time)
+        outputs progress.gathered tellers coming (λ arrivals. IsTrue tells → FilesBegin course.lanes.contents arrivals × ArePassed course arrivals)
         (λ told.
-        let (next, begin) = Comes-begins tells start.lanes inputs stream.merge coming.taken place time comes told in (
-          Merging-begins tells start.lanes inputs stream.merge coming.taken comes.merging told,
+        let (next, begin) = Comes-begins tells course.lanes inputs progress.merge coming.taken place time comes told in (
+          Merging-begins tells course.lanes inputs progress.merge coming.taken comes.merging told,
           record { all = omega (arith, full, count, coming.few); next = next; begin = begin },
         ))
 
 -- a turn of the captures leaves what was told
-module _ (tells : Bool) (start : Start) (inputs : Reading) (outputs now : Writing) (stream : Stream) (tellers : List Output)
-    (running : Running tells start inputs outputs stream tellers) (same : now ≡ outputs) where
+module _ (tells : Bool) (course : Course) (inputs : Reading) (outputs now : Writing) (progress : Progress) (tellers : List Output)
+    (running : Running tells course inputs outputs progress tellers) (same : now ≡ outputs) where
   -- no record comes next, for this reason
-  pub Running-halted : (Are : List Arrival → Type 0) → (IsTrue tells → Are running.taken) → Halted tells start Are now stream.gathered tellers
+  pub Running-halted : (Are : List Arrival → Type 0) → (IsTrue tells → Are running.taken) → Halted tells course Are now progress.gathered tellers
   Running-halted Are are =
-      let P : Writing → Type 0 = λ w. Halted tells start Are w stream.gathered tellers in
-      subst P (sym same) (Runs-so tells start (Merging tells start.lanes inputs stream.merge) outputs stream.gathered tellers running
-      (λ arrivals. IsTrue tells → FilesBegin start.lanes.contents arrivals × Are arrivals)
-      (λ told. (Merging-begins tells start.lanes inputs stream.merge running.taken running.are told, are told)))
+      let P : Writing → Type 0 = λ w. Halted tells course Are w progress.gathered tellers in
+      subst P (sym same) (Runs-so tells course (Merging tells course.lanes inputs progress.merge) outputs progress.gathered tellers running
+      (λ arrivals. IsTrue tells → FilesBegin course.lanes.contents arrivals × Are arrivals)
+      (λ told. (Merging-begins tells course.lanes inputs progress.merge running.taken running.are told, are told)))
 
   -- a record comes next
-  pub Running-coming : (later : Reading) (merge : Merge) (place time : ℕ) → Comes tells start.lanes later merge running.taken place time
-      → Runs tells start (λ arrivals. (time : ℕ) × Comes tells start.lanes later merge arrivals place time) now stream.gathered tellers
+  pub Running-coming : (later : Reading) (merge : Merge) (place time : ℕ) → Comes tells course.lanes later merge running.taken place time
+      → Runs tells course (λ arrivals. (time : ℕ) × Comes tells course.lanes later merge arrivals place time) now progress.gathered tellers
   Running-coming later merge place time comes =
-      let Q : List Arrival → Type 0 = λ arrivals. (time : ℕ) × Comes tells start.lanes later merge arrivals place time in
-      let P : Writing → Type 0 = λ w. Runs tells start Q w stream.gathered tellers in
-      subst P (sym same) (Runs-so tells start (Merging tells start.lanes inputs stream.merge) outputs stream.gathered tellers running Q (time, comes))
+      let Q : List Arrival → Type 0 = λ arrivals. (time : ℕ) × Comes tells course.lanes later merge arrivals place time in
+      let P : Writing → Type 0 = λ w. Runs tells course Q w progress.gathered tellers in
+      subst P (sym same) (Runs-so tells course (Merging tells course.lanes inputs progress.merge) outputs progress.gathered tellers running Q (time, comes))
 
   -- no output holds more than a front
-  pub Running-fronts_now : IsTrue tells → Fronts tells start now
-  Running-fronts_now told = subst (Fronts tells start) (sym same) (Running-fronts tells start inputs outputs stream tellers running told)
+  pub Running-fronts_now : IsTrue tells → Fronts tells course now
+  Running-fronts_now told = subst (Fronts tells course) (sym same) (Running-fronts tells course inputs outputs progress tellers running told)

@@ -12,17 +12,17 @@ use Rattle.ioam_outputs.proofs.HeldLaws.{HoldAllFronts-holds}
 use Rattle.ioam_outputs.proofs.ToldLaws.{AreTold-open}
 use Rattle.ioam_pcap.specs.Merge.{Arrival}
 use Rattle.ioam_pcap.specs.declared.turns.Turn.TheVariants as turn
-use Rattle.ioam_traffic.specs.Traffic.{Start, HoldsAll, HoldsFronts, ArePassed, Arrive, AreOpened, Finishes, frames_of}
+use Rattle.ioam_traffic.specs.Traffic.{Course, HoldsAll, HoldsFronts, ArePassed, Arrive, AreOpened, Finishes, frames_of}
 use Rattle.ioam_traffic.specs.Running.{Ends, Fronts, Halted, HoldSo, IsBroken, Stops}
 use Rattle.ioam_traffic.specs.declared.halt.Halt.{Halt}
 use Rattle.ioam_traffic.specs.declared.halt.Halt.TheVariants.{Over, Broken, Limit, ReadFault, WriteFault, NoMemory}
 
-module _ (tells : Bool) (start : Start) where
+module _ (tells : Bool) (course : Course) where
   -- the same since earlier, where no call failed before
   pub Stops-since : (first_in old_in new_in : Reading) (first_out old_out new_out : Writing) (gathered : Forwarding) (tellers : List Output)
       → old_in.side ≡ first_in.side → old_out.side ≡ first_out.side
-      → (halt : Halt) → Stops tells start old_in new_in old_out new_out gathered tellers halt
-      → Stops tells start first_in new_in first_out new_out gathered tellers halt
+      → (halt : Halt) → Stops tells course old_in new_in old_out new_out gathered tellers halt
+      → Stops tells course first_in new_in first_out new_out gathered tellers halt
   Stops-since first_in old_in new_in first_out old_out new_out gathered tellers reads writes Over stops = (stops.0, stops.1 ∙ writes)
   Stops-since first_in old_in new_in first_out old_out new_out gathered tellers reads writes (Broken place at fault) stops = (stops.0, (stops.1.0, stops.1.1 ∙ writes))
   Stops-since first_in old_in new_in first_out old_out new_out gathered tellers reads writes Limit stops = (stops.0, stops.1 ∙ writes)
@@ -33,16 +33,16 @@ module _ (tells : Bool) (start : Start) where
   Stops-since first_in old_in new_in first_out old_out new_out gathered tellers reads writes NoMemory stops = stops
 
   module _ (old_in new_in : Reading) (old_out mid_out : Writing) (gathered : Forwarding) (tellers : List Output) where
-    halted : (Are : List Arrival → Type 0) → Halted tells start Are mid_out gathered tellers → AreOpen mid_out tellers
-    halted Are halts = AreTold-open tells mid_out halts.base start.names tellers halts.texts halts.told
+    halted : (Are : List Arrival → Type 0) → Halted tells course Are mid_out gathered tellers → AreOpen mid_out tellers
+    halted Are halts = AreTold-open tells mid_out halts.base course.names tellers halts.texts halts.told
 
     -- the outputs are open, and nothing failed
-    pub Stops-open : (halt : Halt) → (IsBroken halt → ⊥) → Stops tells start old_in new_in old_out mid_out gathered tellers halt
+    pub Stops-open : (halt : Halt) → (IsBroken halt → ⊥) → Stops tells course old_in new_in old_out mid_out gathered tellers halt
         → AreOpen mid_out tellers × (mid_out.side ≡ old_out.side)
-    Stops-open Over whole stops = (halted (λ arrivals. Arrive start turn.Over arrivals × HaveEnded start.lanes new_in) stops.0, stops.1)
-    Stops-open (Broken place at fault) whole stops = (halted (Arrive start (turn.Broken place at fault)) stops.1.0, stops.1.1)
-    Stops-open Limit whole stops = (halted (ArePassed start) stops.0, stops.1)
-    Stops-open ReadFault whole stops = (halted (PartsArrive start.lanes.contents new_in start.lanes.base) stops.1.0, stops.1.1)
+    Stops-open Over whole stops = (halted (λ arrivals. Arrive course turn.Over arrivals × HaveEnded course.lanes new_in) stops.0, stops.1)
+    Stops-open (Broken place at fault) whole stops = (halted (Arrive course (turn.Broken place at fault)) stops.1.0, stops.1.1)
+    Stops-open Limit whole stops = (halted (ArePassed course) stops.0, stops.1)
+    Stops-open ReadFault whole stops = (halted (PartsArrive course.lanes.contents new_in course.lanes.base) stops.1.0, stops.1.1)
     Stops-open WriteFault whole stops = absurd (whole tt)
     Stops-open NoMemory whole stops = absurd (whole tt)
 
@@ -50,14 +50,14 @@ module _ (tells : Bool) (start : Start) where
       -- what is held of texts that were told
       abbrev Puts : (List (List ℕ) → List (List ℕ) → Type 0) → Type 0
       Puts Hold = IsTrue tells → (base : ℕ) (names texts : List (List ℕ)) (frames : List Frame) → AreTold tells mid_out base names tellers texts
-          → Forwards start.domain frames texts gathered → HoldSo start.domain frames (Hold names)
+          → Forwards course.domain frames texts gathered → HoldSo course.domain frames (Hold names)
 
       module _ (put : Puts (HoldTexts now)) where
         -- all was written
         written : (Were Are : List Arrival → Type 0) → ((arrivals : List Arrival) → Were arrivals → Are arrivals)
-            → Halted tells start Were mid_out gathered tellers → IsTrue tells → HoldsAll start Are now
+            → Halted tells course Were mid_out gathered tellers → IsTrue tells → HoldsAll course Are now
         written Were Are so halts told =
-            let hold = put told halts.base start.names halts.texts (frames_of start.ports halts.taken) halts.told halts.forwards in
+            let hold = put told halts.base course.names halts.texts (frames_of course.ports halts.taken) halts.told halts.forwards in
             record {
               taken = halts.taken;
               fates = hold.fates;
@@ -67,44 +67,44 @@ module _ (tells : Bool) (start : Start) where
               held = hold.held;
             }
 
-        pub Ends-written : (halt : Halt) → (IsBroken halt → ⊥) → Stops tells start old_in new_in old_out mid_out gathered tellers halt
-            → Ends tells start old_in new_in old_out now halt
+        pub Ends-written : (halt : Halt) → (IsBroken halt → ⊥) → Stops tells course old_in new_in old_out mid_out gathered tellers halt
+            → Ends tells course old_in new_in old_out now halt
         Ends-written Over whole stops = λ told. (
-          written (λ arrivals. Arrive start turn.Over arrivals × HaveEnded start.lanes new_in) (Arrive start turn.Over) (λ arrivals are. are.0) stops.0 told,
+          written (λ arrivals. Arrive course turn.Over arrivals × HaveEnded course.lanes new_in) (Arrive course turn.Over) (λ arrivals are. are.0) stops.0 told,
           (stops.0.are told).1.1,
         )
         Ends-written (Broken place at fault) whole stops =
-            (stops.0, written (Arrive start (turn.Broken place at fault)) (Arrive start (turn.Broken place at fault)) (λ arrivals are. are) stops.1.0)
-        Ends-written Limit whole stops = written (ArePassed start) (ArePassed start) (λ arrivals are. are) stops.0
+            (stops.0, written (Arrive course (turn.Broken place at fault)) (Arrive course (turn.Broken place at fault)) (λ arrivals are. are) stops.1.0)
+        Ends-written Limit whole stops = written (ArePassed course) (ArePassed course) (λ arrivals are. are) stops.0
         Ends-written ReadFault whole stops = (
           stops.0,
-          written (PartsArrive start.lanes.contents new_in start.lanes.base) (PartsArrive start.lanes.contents new_in start.lanes.base) (λ arrivals are. are) stops.1.0,
+          written (PartsArrive course.lanes.contents new_in course.lanes.base) (PartsArrive course.lanes.contents new_in course.lanes.base) (λ arrivals are. are) stops.1.0,
         )
         Ends-written WriteFault whole stops = absurd (whole tt)
         Ends-written NoMemory whole stops = absurd (whole tt)
 
       module _ (put : Puts (HoldAllFronts now)) where
         -- some was written
-        broken : (Are : List Arrival → Type 0) → Halted tells start Are mid_out gathered tellers → IsTrue tells → Fronts tells start now
+        broken : (Are : List Arrival → Type 0) → Halted tells course Are mid_out gathered tellers → IsTrue tells → Fronts tells course now
         broken Are halts told = record {
           taken = halts.taken;
           begin = (halts.are told).0;
           few = halts.few;
-          hold = put told halts.base start.names halts.texts (frames_of start.ports halts.taken) halts.told halts.forwards;
+          hold = put told halts.base course.names halts.texts (frames_of course.ports halts.taken) halts.told halts.forwards;
         }
 
-        pub Stops-fronts : (halt : Halt) → (IsBroken halt → ⊥) → Stops tells start old_in new_in old_out mid_out gathered tellers halt
-            → IsTrue tells → Fronts tells start now
-        Stops-fronts Over whole stops = broken (λ arrivals. Arrive start turn.Over arrivals × HaveEnded start.lanes new_in) stops.0
-        Stops-fronts (Broken place at fault) whole stops = broken (Arrive start (turn.Broken place at fault)) stops.1.0
-        Stops-fronts Limit whole stops = broken (ArePassed start) stops.0
-        Stops-fronts ReadFault whole stops = broken (PartsArrive start.lanes.contents new_in start.lanes.base) stops.1.0
+        pub Stops-fronts : (halt : Halt) → (IsBroken halt → ⊥) → Stops tells course old_in new_in old_out mid_out gathered tellers halt
+            → IsTrue tells → Fronts tells course now
+        Stops-fronts Over whole stops = broken (λ arrivals. Arrive course turn.Over arrivals × HaveEnded course.lanes new_in) stops.0
+        Stops-fronts (Broken place at fault) whole stops = broken (Arrive course (turn.Broken place at fault)) stops.1.0
+        Stops-fronts Limit whole stops = broken (ArePassed course) stops.0
+        Stops-fronts ReadFault whole stops = broken (PartsArrive course.lanes.contents new_in course.lanes.base) stops.1.0
         Stops-fronts WriteFault whole stops = absurd (whole tt)
         Stops-fronts NoMemory whole stops = absurd (whole tt)
 
   -- from where the files were opened to before that
   module _ (first_in old_in new_in : Reading) (first_out old_out new_out : Writing) where
-    fronts : (IsTrue tells → Fronts tells start new_out) → IsTrue tells → HoldsFronts start first_out new_out
+    fronts : (IsTrue tells → Fronts tells course new_out) → IsTrue tells → HoldsFronts course first_out new_out
     fronts are told =
         let front = are told in
         record {
@@ -113,11 +113,11 @@ module _ (tells : Bool) (start : Start) where
           begin = front.begin;
           few = front.few;
           become = front.hold.become;
-          held = HoldAllFronts-holds first_out new_out 0 start.names _ front.hold.held;
+          held = HoldAllFronts-holds first_out new_out 0 course.names _ front.hold.held;
         }
 
-    pub Ends-finishes : old_in.side.faults ≡ first_in.side.faults → old_out.side.faults ≡ first_out.side.faults → AreOpened start new_in
-        → (halt : Halt) → Ends tells start old_in new_in old_out new_out halt → Finishes start tells first_in new_in first_out new_out halt
+    pub Ends-finishes : old_in.side.faults ≡ first_in.side.faults → old_out.side.faults ≡ first_out.side.faults → AreOpened course new_in
+        → (halt : Halt) → Ends tells course old_in new_in old_out new_out halt → Finishes course tells first_in new_in first_out new_out halt
     Ends-finishes reads writes opened Over ends = ends
     Ends-finishes reads writes opened (Broken place at fault) ends = ends
     Ends-finishes reads writes opened Limit ends = ends

@@ -14,23 +14,10 @@ use Rattle.ioam_pcap.specs.Merge.{Arrival}
 use Rattle.ioam_pcap.specs.declared.turns.Turn.TheVariants as turn
 use Rattle.ioam_topo.specs.declared.domain.Domain.{Domain}
 use Rattle.ioam_topo.specs.declared.ids.PortId.{PortId}
-use Rattle.ioam_traffic.specs.Traffic.{Start, frames_of, HoldsAll, ArePassed, Arrive}
+use Rattle.ioam_traffic.specs.Traffic.{Course, frames_of, HoldsAll, ArePassed, Arrive}
 use Rattle.ioam_traffic.specs.declared.halt.Halt.{Halt}
 use Rattle.ioam_traffic.specs.declared.halt.Halt.TheVariants.{Over, Broken, Limit, ReadFault, WriteFault, NoMemory}
-use Rattle.ioam_traffic.specs.declared.stream.Stream.{Stream}
-
--- the files of the traffic: the captures where they were opened, and the names of the outputs
-pub record Files : Type 0 where
-  pub lanes : merging.Start
-  pub names : List (List ℕ)
-
--- captures and outputs of these names on a desk
-abbrev pub files_of : List (List ℕ) → List (List ℕ) → Reading → Writing → Files
-files_of inputs names reading writing = record { lanes = start_of reading.side.slots writing inputs; names = names }
-
--- where the traffic of a domain over these files begins
-abbrev pub start_with : Domain → List PortId → Files → Start
-start_with domain ports files = record { domain = domain; ports = ports; lanes = files.lanes; names = files.names }
+use Rattle.ioam_traffic.specs.declared.progress.Progress.{Progress}
 
 -- something is held of the texts of what becomes of these arrivals
 pub record HoldSo (domain : Domain) (frames : List Frame) (Hold : List (List ℕ) → Type 0) : Type 0 where
@@ -38,36 +25,36 @@ pub record HoldSo (domain : Domain) (frames : List Frame) (Hold : List (List ℕ
   pub become : AreFates domain frames fates
   pub held : Hold (texts_of domain fates)
 
-module _ (tells : Bool) (start : Start) where
+module _ (tells : Bool) (course : Course) where
   -- the outputs were told the texts so far of some arrivals, no more than may be; `Are` says which they are
   pub record Runs (Are : List Arrival → Type 0) (outputs : Writing) (gathered : Forwarding) (tellers : List Output) : Type 0 where
     pub taken : List Arrival
     pub texts : List (List ℕ)
     pub base : ℕ
     pub are : Are taken
-    pub told : AreTold tells outputs base start.names tellers texts
-    pub forwards : Forwards start.domain (frames_of start.ports taken) texts gathered
-    pub few : length taken ≤ start.domain.packets
+    pub told : AreTold tells outputs base course.names tellers texts
+    pub forwards : Forwards course.domain (frames_of course.ports taken) texts gathered
+    pub few : length taken ≤ course.domain.packets
 
   -- they were taken of the captures
-  abbrev pub Running : Reading → Writing → Stream → List Output → Type 0
-  Running inputs outputs stream tellers = Runs (Merging tells start.lanes inputs stream.merge) outputs stream.gathered tellers
+  abbrev pub Running : Reading → Writing → Progress → List Output → Type 0
+  Running inputs outputs progress tellers = Runs (Merging tells course.lanes inputs progress.merge) outputs progress.gathered tellers
 
   -- and the next record is of the capture at this place
-  abbrev pub Coming : ℕ → Reading → Writing → Stream → List Output → Type 0
-  Coming place inputs outputs stream tellers = Runs (λ taken. (time : ℕ) × Comes tells start.lanes inputs stream.merge taken place time)
-      outputs stream.gathered tellers
+  abbrev pub Coming : ℕ → Reading → Writing → Progress → List Output → Type 0
+  Coming place inputs outputs progress tellers = Runs (λ taken. (time : ℕ) × Comes tells course.lanes inputs progress.merge taken place time)
+      outputs progress.gathered tellers
 
   -- where the desk tells they are the first that the files hold, and so on
   abbrev pub Halted : (List Arrival → Type 0) → Writing → Forwarding → List Output → Type 0
-  Halted Are outputs gathered tellers = Runs (λ taken. IsTrue tells → FilesBegin start.lanes.contents taken × Are taken) outputs gathered tellers
+  Halted Are outputs gathered tellers = Runs (λ taken. IsTrue tells → FilesBegin course.lanes.contents taken × Are taken) outputs gathered tellers
 
   -- each output holds a front of its text of some first arrivals
   pub record Fronts (outputs : Writing) : Type 0 where
     pub taken : List Arrival
-    pub begin : FilesBegin start.lanes.contents taken
-    pub few : length taken ≤ start.domain.packets
-    pub hold : HoldSo start.domain (frames_of start.ports taken) (HoldAllFronts outputs start.names)
+    pub begin : FilesBegin course.lanes.contents taken
+    pub few : length taken ≤ course.domain.packets
+    pub hold : HoldSo course.domain (frames_of course.ports taken) (HoldAllFronts outputs course.names)
 
   module _ (old_in new_in : Reading) (old_out new_out : Writing) where
     -- what the taking of arrivals answered, to the end of all or to what stopped it
@@ -77,21 +64,21 @@ module _ (tells : Bool) (start : Start) where
       Tells Are = Halted Are new_out gathered tellers × (new_out.side ≡ old_out.side)
 
       abbrev pub Stops : Halt → Type 0
-      Stops Over = Tells (λ taken. Arrive start turn.Over taken × HaveEnded start.lanes new_in)
-      Stops (Broken place at fault) = (place < length start.lanes.contents) × Tells (Arrive start (turn.Broken place at fault))
-      Stops Limit = Tells (ArePassed start)
-      Stops ReadFault = Rose old_in.side.faults new_in.side.faults × Tells (PartsArrive start.lanes.contents new_in start.lanes.base)
+      Stops Over = Tells (λ taken. Arrive course turn.Over taken × HaveEnded course.lanes new_in)
+      Stops (Broken place at fault) = (place < length course.lanes.contents) × Tells (Arrive course (turn.Broken place at fault))
+      Stops Limit = Tells (ArePassed course)
+      Stops ReadFault = Rose old_in.side.faults new_in.side.faults × Tells (PartsArrive course.lanes.contents new_in course.lanes.base)
       Stops WriteFault = Rose old_out.side.faults new_out.side.faults × (IsTrue tells → Fronts new_out)
       Stops NoMemory = IsTrue tells → Fronts new_out
 
     -- what the traffic of opened files answered, and what they hold then
     abbrev pub Ends : Halt → Type 0
-    Ends Over = IsTrue tells → HoldsAll start (Arrive start turn.Over) new_out × HaveEnded start.lanes new_in
-    Ends (Broken place at fault) = (place < length start.lanes.contents)
-        × (IsTrue tells → HoldsAll start (Arrive start (turn.Broken place at fault)) new_out)
-    Ends Limit = IsTrue tells → HoldsAll start (ArePassed start) new_out
+    Ends Over = IsTrue tells → HoldsAll course (Arrive course turn.Over) new_out × HaveEnded course.lanes new_in
+    Ends (Broken place at fault) = (place < length course.lanes.contents)
+        × (IsTrue tells → HoldsAll course (Arrive course (turn.Broken place at fault)) new_out)
+    Ends Limit = IsTrue tells → HoldsAll course (ArePassed course) new_out
     Ends ReadFault = Rose old_in.side.faults new_in.side.faults
-        × (IsTrue tells → HoldsAll start (PartsArrive start.lanes.contents new_in start.lanes.base) new_out)
+        × (IsTrue tells → HoldsAll course (PartsArrive course.lanes.contents new_in course.lanes.base) new_out)
     Ends WriteFault = Rose old_out.side.faults new_out.side.faults × (IsTrue tells → Fronts new_out)
     Ends NoMemory = IsTrue tells → Fronts new_out
 

@@ -29,63 +29,71 @@ frames_of ports taken = map (frame_of ports) taken
 
 -- Where the traffic begins: the domain, the ports that have a capture, what these captures hold and
 -- the number of the first one's slot, and the names of the outputs.
-pub record Start : Type 0 where
+pub record Course : Type 0 where
   pub domain : Domain
   pub ports : List PortId
   pub lanes : merging.Start
   pub names : List (List ℕ)
 
--- on a desk, with captures and outputs of these names
-abbrev pub begun : Domain → List PortId → List (List ℕ) → List (List ℕ) → Reading → Writing → Start
-begun domain ports inputs names reading writing = record {
-  domain = domain;
-  ports = ports;
-  lanes = start_of reading.side.slots writing inputs;
-  names = names;
-}
+-- the files of the traffic: the captures where they were opened, and the names of the outputs
+pub record Files : Type 0 where
+  pub lanes : merging.Start
+  pub names : List (List ℕ)
 
-module _ (start : Start) where
+-- captures and outputs of these names on a desk
+abbrev pub files_of : List (List ℕ) → List (List ℕ) → Reading → Writing → Files
+files_of inputs names reading writing = record { lanes = start_of reading.side.slots writing inputs; names = names }
+
+-- where the traffic of a domain over these files begins
+abbrev pub course_with : Domain → List PortId → Files → Course
+course_with domain ports files = record { domain = domain; ports = ports; lanes = files.lanes; names = files.names }
+
+-- on a desk, with captures and outputs of these names
+abbrev pub begun : Domain → List PortId → List (List ℕ) → List (List ℕ) → Reading → Writing → Course
+begun domain ports inputs names reading writing = course_with domain ports (files_of inputs names reading writing)
+
+module _ (course : Course) where
   -- these are as many of the first records as may be taken, and one more comes behind them
   pub record ArePassed (taken : List Arrival) : Type 0 where
-    pub all : length taken ≡ start.domain.packets
+    pub all : length taken ≡ course.domain.packets
     pub next : Arrival
-    pub begin : FilesBegin start.lanes.contents (taken ++ next ∷ [])
+    pub begin : FilesBegin course.lanes.contents (taken ++ next ∷ [])
 
   -- the outputs hold the texts of what becomes of these arrivals; `Are` says which they are
   pub record HoldsAll (Are : List Arrival → Type 0) (new : Writing) : Type 0 where
     pub taken : List Arrival
     pub fates : List Fate
     pub are : Are taken
-    pub few : length taken ≤ start.domain.packets
-    pub become : AreFates start.domain (frames_of start.ports taken) fates
-    pub held : HoldTexts new start.names (texts_of start.domain fates)
+    pub few : length taken ≤ course.domain.packets
+    pub become : AreFates course.domain (frames_of course.ports taken) fates
+    pub held : HoldTexts new course.names (texts_of course.domain fates)
 
   -- each output that was opened holds a front of its text of some first arrivals
   pub record HoldsFronts (old new : Writing) : Type 0 where
     pub taken : List Arrival
     pub fates : List Fate
-    pub begin : FilesBegin start.lanes.contents taken
-    pub few : length taken ≤ start.domain.packets
-    pub become : AreFates start.domain (frames_of start.ports taken) fates
-    pub held : HoldFronts old new 0 start.names (texts_of start.domain fates)
+    pub begin : FilesBegin course.lanes.contents taken
+    pub few : length taken ≤ course.domain.packets
+    pub become : AreFates course.domain (frames_of course.ports taken) fates
+    pub held : HoldFronts old new 0 course.names (texts_of course.domain fates)
 
   -- all captures were opened
   abbrev pub AreOpened : Reading → Type 0
-  AreOpened inputs = inputs.side.slots ≡ start.lanes.base + length start.lanes.contents
+  AreOpened inputs = inputs.side.slots ≡ course.lanes.base + length course.lanes.contents
 
   -- these are all the arrivals of the captures, and the turn behind them is this
   abbrev pub Arrive : Turn → List Arrival → Type 0
-  Arrive last taken = FilesArrive start.lanes.contents taken last
+  Arrive last taken = FilesArrive course.lanes.contents taken last
 
   -- what the end of the traffic says; where the desk tells, also what the outputs hold then
   module _ (tells : Bool) (old_in new_in : Reading) (old_out new_out : Writing) where
     abbrev pub Finishes : Halt → Type 0
-    Finishes Over = IsTrue tells → HoldsAll (Arrive turn.Over) new_out × HaveEnded start.lanes new_in
-    Finishes (Broken place at fault) = (place < length start.lanes.contents)
+    Finishes Over = IsTrue tells → HoldsAll (Arrive turn.Over) new_out × HaveEnded course.lanes new_in
+    Finishes (Broken place at fault) = (place < length course.lanes.contents)
         × (IsTrue tells → HoldsAll (Arrive (turn.Broken place at fault)) new_out)
     Finishes Limit = IsTrue tells → HoldsAll ArePassed new_out
     Finishes ReadFault = Rose old_in.side.faults new_in.side.faults
-        × ((((new_in.side.slots < start.lanes.base + length start.lanes.contents) × (new_out ≡ old_out)))
-        ⊎ (AreOpened new_in × (IsTrue tells → HoldsAll (PartsArrive start.lanes.contents new_in start.lanes.base) new_out)))
+        × ((((new_in.side.slots < course.lanes.base + length course.lanes.contents) × (new_out ≡ old_out)))
+        ⊎ (AreOpened new_in × (IsTrue tells → HoldsAll (PartsArrive course.lanes.contents new_in course.lanes.base) new_out)))
     Finishes WriteFault = Rose old_out.side.faults new_out.side.faults × (IsTrue tells → HoldsFronts old_out new_out)
     Finishes NoMemory = (new_out ≡ old_out) ⊎ (IsTrue tells → HoldsFronts old_out new_out)

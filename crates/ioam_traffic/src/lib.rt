@@ -3,7 +3,7 @@
 #![tactic(auto)]
 
 mod halt;
-mod stream;
+mod progress;
 mod traffic;
 mod turns;
 

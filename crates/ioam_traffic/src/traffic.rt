@@ -5,11 +5,11 @@ ghost use Rattle.ioam_merge.specs.Merging.{EndsKept, Merging};
 ghost use Rattle.ioam_outputs.specs.Names.{AreApart};
 ghost use Rattle.ioam_outputs.specs.Told.{AreTold, unsaid};
 ghost use Rattle.ioam_topo.specs.Domain.{ports as ports_of};
-ghost use Rattle.ioam_traffic.specs.Running.{Ends, Files, IsBroken, files_of, start_with};
-ghost use Rattle.ioam_traffic.specs.Traffic.{begun, Finishes};
+ghost use Rattle.ioam_traffic.specs.Running.{Ends, IsBroken};
+ghost use Rattle.ioam_traffic.specs.Traffic.{Files, files_of, course_with, begun, Finishes};
 
 use crate::halt::Halt;
-use crate::stream::Stream;
+use crate::progress::Progress;
 use crate::turns::{carry_on, put_rest};
 use ioam_desk::{Desk, DeskFault, Name};
 use ioam_forward::Forwarding;
@@ -49,7 +49,8 @@ pub fn run_traffic<D: Desk>(
     run_files(alloc, desk, domain, ports, inputs, outputs)
 }
 
-// The same, over files of which it is known what they hold before anything is opened.
+// The same, over files of which it is known what they hold before anything is opened, so that a ghost
+// value can name them.
 fn run_files<D: Desk>(
     alloc: Global,
     desk: &mut D,
@@ -64,7 +65,7 @@ fn run_files<D: Desk>(
     requires inside { All (λ port. port.0 < length (ports_of domain.now)) ports.now }
     requires width { length outputs.now ≡ length (ports_of domain.now) + 2 }
     requires apart { AreApart outputs.now }
-    ensures finishes { Finishes (start_with domain.now ports.now files) D.tells
+    ensures finishes { Finishes (course_with domain.now ports.now files) D.tells
         (D.reading desk.old) (D.reading desk.new) (D.writing desk.old) (D.writing desk.new) result }
     ensures asked_in { AsksFront (D.reading desk.old).side.asked (D.reading desk.new).side.asked inputs.now }
     ensures asked_out { AsksFront (D.writing desk.old).side.asked (D.writing desk.new).side.asked outputs.now }
@@ -99,7 +100,7 @@ fn run_open<D: Desk>(
     requires sized { length ports.now ≡ length files.lanes.contents }
     requires inside { All (λ port. port.0 < length (ports_of domain.now)) ports.now }
     requires width { length outputs.old ≡ length (ports_of domain.now) + 2 }
-    ensures ends { Ends D.tells (start_with domain.now ports.now files) (D.reading desk.old) (D.reading desk.new)
+    ensures ends { Ends D.tells (course_with domain.now ports.now files) (D.reading desk.old) (D.reading desk.new)
         (D.writing desk.old) (D.writing desk.new) result }
     ensures asked_in { (D.reading desk.new).side.asked ≡ (D.reading desk.old).side.asked }
     ensures slots_in { (D.reading desk.new).side.slots ≡ (D.reading desk.old).side.slots }
@@ -110,12 +111,12 @@ fn run_open<D: Desk>(
     let Ok(gathered) = Forwarding::begin(alloc, domain, outputs) else {
         return Halt::NoMemory;
     };
-    let mut stream = Stream { merge, gathered };
-    let halt = carry_on(alloc, desk, domain, ports, &mut stream, outputs);
+    let mut progress = Progress { merge, gathered };
+    let halt = carry_on(alloc, desk, domain, ports, &mut progress, outputs);
     if is_broken(halt) {
         return halt;
     }
-    match put_rest(desk, domain, &stream.gathered, outputs) {
+    match put_rest(desk, domain, &progress.gathered, outputs) {
         Ok(()) => halt,
         Err(DeskFault::Failed) => Halt::WriteFault,
         Err(DeskFault::NoMemory) => Halt::NoMemory,

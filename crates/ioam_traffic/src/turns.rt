@@ -7,10 +7,11 @@ ghost use Rattle.ioam_merge.specs.Merging.{EndsKept};
 ghost use Rattle.ioam_outputs.specs.Held.{HoldAllFronts, HoldTexts};
 ghost use Rattle.ioam_outputs.specs.Told.{AreTold, AreOpen};
 ghost use Rattle.ioam_topo.specs.Domain.{ports as ports_of};
-ghost use Rattle.ioam_traffic.specs.Running.{Coming, Files, HoldSo, Running, Stops, start_with};
+ghost use Rattle.ioam_traffic.specs.Running.{Coming, HoldSo, Running, Stops};
+ghost use Rattle.ioam_traffic.specs.Traffic.{Files, course_with};
 
 use crate::halt::Halt;
-use crate::stream::Stream;
+use crate::progress::Progress;
 use ioam_base::memory::NoMemory;
 use ioam_desk::{Desk, DeskFault};
 use ioam_forward::Forwarding;
@@ -27,30 +28,30 @@ fn pass_on<D: Desk>(
     domain: &Domain,
     ports: &[PortId],
     place: usize,
-    stream: &mut Stream,
+    progress: &mut Progress,
     outputs: &mut [Output],
 ) -> Result<(), Halt>
     ghost files: { Files }
-    requires coming { Coming D.tells (start_with domain.now ports.now files) place (D.reading desk.old) (D.writing desk.old)
-        stream.old outputs.old }
+    requires coming { Coming D.tells (course_with domain.now ports.now files) place (D.reading desk.old) (D.writing desk.old)
+        progress.old outputs.old }
     requires sized { length ports.now ≡ length files.lanes.contents }
     requires inside { All (λ port. port.0 < length (ports_of domain.now)) ports.now }
     requires width { length outputs.old ≡ length (ports_of domain.now) + 2 }
-    ensures runs { OnOk result (Running D.tells (start_with domain.now ports.now files) (D.reading desk.new) (D.writing desk.new)
-        stream.new outputs.new) }
-    ensures counted { OnOk result (taken stream.new.gathered ≡ taken stream.old.gathered + 1) }
-    ensures few { OnOk result (taken stream.old.gathered < domain.now.packets) }
+    ensures runs { OnOk result (Running D.tells (course_with domain.now ports.now files) (D.reading desk.new) (D.writing desk.new)
+        progress.new outputs.new) }
+    ensures counted { OnOk result (taken progress.new.gathered ≡ taken progress.old.gathered + 1) }
+    ensures few { OnOk result (taken progress.old.gathered < domain.now.packets) }
     ensures same { OnOk result ((D.writing desk.new).side ≡ (D.writing desk.old).side) }
-    ensures stops { IfErr result (Stops D.tells (start_with domain.now ports.now files) (D.reading desk.old) (D.reading desk.new)
-        (D.writing desk.old) (D.writing desk.new) stream.new.gathered outputs.new) }
+    ensures stops { IfErr result (Stops D.tells (course_with domain.now ports.now files) (D.reading desk.old) (D.reading desk.new)
+        (D.writing desk.old) (D.writing desk.new) progress.new.gathered outputs.new) }
     ensures asked { (D.writing desk.new).side.asked ≡ (D.writing desk.old).side.asked }
     ensures slots { (D.writing desk.new).side.slots ≡ (D.writing desk.old).side.slots }
     ensures inputs { D.reading desk.new ≡ D.reading desk.old }
 {
-    if stream.gathered.taken() >= u64::from(domain.packets()) {
+    if progress.gathered.taken() >= u64::from(domain.packets()) {
         return Err(Halt::Limit);
     }
-    match stream.take_next(alloc, domain, ports, place, outputs) {
+    match progress.take_next(alloc, domain, ports, place, outputs) {
         Ok(()) => {}
         Err(NoMemory) => return Err(Halt::NoMemory),
     }
@@ -68,17 +69,17 @@ pub fn carry_on<D: Desk>(
     desk: &mut D,
     domain: &Domain,
     ports: &[PortId],
-    stream: &mut Stream,
+    progress: &mut Progress,
     outputs: &mut [Output],
 ) -> Halt
     ghost files: { Files }
-    requires running { Running D.tells (start_with domain.now ports.now files) (D.reading desk.old) (D.writing desk.old)
-        stream.old outputs.old }
+    requires running { Running D.tells (course_with domain.now ports.now files) (D.reading desk.old) (D.writing desk.old)
+        progress.old outputs.old }
     requires sized { length ports.now ≡ length files.lanes.contents }
     requires inside { All (λ port. port.0 < length (ports_of domain.now)) ports.now }
     requires width { length outputs.old ≡ length (ports_of domain.now) + 2 }
-    ensures stops { Stops D.tells (start_with domain.now ports.now files) (D.reading desk.old) (D.reading desk.new)
-        (D.writing desk.old) (D.writing desk.new) stream.new.gathered outputs.new result }
+    ensures stops { Stops D.tells (course_with domain.now ports.now files) (D.reading desk.old) (D.reading desk.new)
+        (D.writing desk.old) (D.writing desk.new) progress.new.gathered outputs.new result }
     ensures asked_in { (D.reading desk.new).side.asked ≡ (D.reading desk.old).side.asked }
     ensures slots_in { (D.reading desk.new).side.slots ≡ (D.reading desk.old).side.slots }
     ensures asked_out { (D.writing desk.new).side.asked ≡ (D.writing desk.old).side.asked }
@@ -86,7 +87,7 @@ pub fn carry_on<D: Desk>(
     ensures kept { EndsKept files.lanes.base (D.reading desk.old) (D.reading desk.new) }
 {
     'turns: loop {
-        let place = match stream.merge.turn(desk) {
+        let place = match progress.merge.turn(desk) {
             Ok(Turn::Next { place, .. }) => place,
             Ok(Turn::Over) => return Halt::Over,
             Ok(Turn::Broken { place, at, fault }) => return Halt::Broken { place, at, fault },
@@ -94,7 +95,7 @@ pub fn carry_on<D: Desk>(
             Err(DeskFault::Failed) => return Halt::ReadFault,
             Err(DeskFault::NoMemory) => return Halt::NoMemory,
         };
-        match pass_on(alloc, desk, domain, ports, place, stream, outputs) {
+        match pass_on(alloc, desk, domain, ports, place, progress, outputs) {
             Ok(()) => {}
             Err(halt) => return halt,
         }

@@ -1,7 +1,7 @@
 use Rattle.std.proofs.Common.{refl, ◌≡◌, [], ℕ, subst, arith}
 use Rattle.ioam_outputs.specs.Told.{Adds}
-use Rattle.ioam_forward.specs.Texts.{of_ports, head_below}
-use Rattle.ioam_forward.proofs.AddsLaws.{heads-begin, heads-more, heads-end}
+use Rattle.ioam_forward.specs.Texts.{of_ports}
+use Rattle.ioam_forward.proofs.AddsLaws.{head_below, heads-begin, heads-more, heads-end}
 use Rattle.ioam_forward.proofs.forwarding.put_heads.Goals as goal
 
 pub loop-at-init : goal.loop-at-init

@@ -8,13 +8,13 @@ use Rattle.ioam_run.proofs.filter.run_filter.Goals as goal
 pub returns-clause-exact : goal.returns-clause-exact
 returns-clause-exact g c = λ asked told asks reads writes.
     HasCause-asked g.D.Desk.tells (g.D.Desk.writing c.args.desk.now) (file_names c.args.words.now) (input_name c.args.words.now) told
-    (g.D.Desk.reading c.args.desk.now) (g.D.Desk.reading c.run_words.new.desk) (g.D.Desk.writing c.run_words.new.desk)
-    c.run_words.result asked c.run_words.ensures.cause asks reads writes
+    (g.D.Desk.reading c.args.desk.now) (g.D.Desk.reading c.run_over_capture.new.desk) (g.D.Desk.writing c.run_over_capture.new.desk)
+    c.run_over_capture.result asked c.run_over_capture.ensures.cause asks reads writes
 
 pub returns-clause-boundary : goal.returns-clause-boundary
 returns-clause-boundary g c = λ behind told.
-    let P : List (List ℕ) → Type 0 = λ outputs. Leaves FilterTexts outputs (input_name c.args.words.now) (g.D.Desk.reading c.args.desk.now) (g.D.Desk.reading c.run_words.new.desk)
-    (g.D.Desk.writing c.args.desk.now) (g.D.Desk.writing c.run_words.new.desk) c.run_words.result in
+    let P : List (List ℕ) → Type 0 = λ outputs. Leaves FilterTexts outputs (input_name c.args.words.now) (g.D.Desk.reading c.args.desk.now) (g.D.Desk.reading c.run_over_capture.new.desk)
+    (g.D.Desk.writing c.args.desk.now) (g.D.Desk.writing c.run_over_capture.new.desk) c.run_over_capture.result in
     Leaves-clean (input_name c.args.words.now) (name_at c.args.words.now 2) (name_at c.args.words.now 3)
-    (g.D.Desk.reading c.args.desk.now) (g.D.Desk.reading c.run_words.new.desk) (g.D.Desk.writing c.args.desk.now) (g.D.Desk.writing c.run_words.new.desk) c.run_words.result
-    (subst P (two_outputs c.args.words.now c.requires) (c.run_words.ensures.leaves told)) behind
+    (g.D.Desk.reading c.args.desk.now) (g.D.Desk.reading c.run_over_capture.new.desk) (g.D.Desk.writing c.args.desk.now) (g.D.Desk.writing c.run_over_capture.new.desk) c.run_over_capture.result
+    (subst P (two_outputs c.args.words.now c.requires) (c.run_over_capture.ensures.leaves told)) behind

@@ -3,7 +3,7 @@ use Rattle.ioam_desk.specs.Desk.{Reading, Writing, Side}
 use Rattle.ioam_outputs.specs.declared.output.Output.{Output}
 use Rattle.ioam_outputs.proofs.ToldLaws.{told_names}
 use Rattle.ioam_merge.specs.Merging.{slot_of}
-use Rattle.ioam_traffic.specs.Running.{Files, start_with}
+use Rattle.ioam_traffic.specs.Traffic.{Files, course_with}
 use Rattle.ioam_traffic.proofs.BeginLaws.{known_fronts, known_merging, known_opened, known_sized, known_told}
 use Rattle.ioam_traffic.proofs.StopsLaws.{Ends-finishes}
 use Rattle.ioam_traffic.proofs.traffic.run_files.Goals as goal
@@ -54,7 +54,7 @@ returns-in-Ok-open_outputs-clause-finishes g c =
     let reads = c.in-Ok-open_outputs.ensures.inputs in
     let slots : (g.D.Desk.reading c.run_open.new.desk).side.slots ≡ (g.D.Desk.reading c.args.desk.now).side.slots + length c.args.inputs.now =
     c.run_open.ensures.slots_in ∙ ap (λ (r : Reading). r.side.slots) reads ∙ ap (λ (s : Side). s.slots) c.in-Ok.ensures.side in
-    Ends-finishes g.D.Desk.tells (start_with c.args.domain.now c.args.ports.now g.files)
+    Ends-finishes g.D.Desk.tells (course_with c.args.domain.now c.args.ports.now g.files)
     (g.D.Desk.reading c.args.desk.now) (g.D.Desk.reading c.open_outputs.new.desk) (g.D.Desk.reading c.run_open.new.desk)
     (g.D.Desk.writing c.args.desk.now) (g.D.Desk.writing c.open_outputs.new.desk) (g.D.Desk.writing c.run_open.new.desk)
     (ap (λ (r : Reading). r.side.faults) reads ∙ ap (λ (s : Side). s.faults) c.in-Ok.ensures.side)

@@ -2,7 +2,8 @@ use Rattle.std.proofs.Common.{rules, ap, sym, ◌∙◌, subst, arith}
 use Rattle.std.proofs.lemmas.Bool.{false≢true}
 use Rattle.ioam_desk.specs.Desk.{Reading, Side}
 use Rattle.ioam_merge.specs.Merging.{slot_of}
-use Rattle.ioam_traffic.specs.Running.{Ends, IsBroken, start_with}
+use Rattle.ioam_traffic.specs.Running.{Ends, IsBroken}
+use Rattle.ioam_traffic.specs.Traffic.{course_with}
 use Rattle.ioam_traffic.proofs.BeginLaws.{Fronts-begin, Running-begin}
 use Rattle.ioam_traffic.proofs.StopsLaws.{Ends-written, Stops-fronts, Stops-open}
 use Rattle.ioam_traffic.proofs.traffic.run_open.Goals as goal
@@ -25,42 +26,42 @@ carry_on-halt-requires g c κs within = (
 
 pub put_rest-requires-clause-open : goal.put_rest-requires-clause-open
 put_rest-requires-clause-open g c =
-    (Stops-open g.D.Desk.tells (start_with c.args.domain.now c.args.ports.now g.files)
+    (Stops-open g.D.Desk.tells (course_with c.args.domain.now c.args.ports.now g.files)
     (g.D.Desk.reading c.args.desk.now) (g.D.Desk.reading c.carry_on-halt.new.desk) (g.D.Desk.writing c.args.desk.now) (g.D.Desk.writing c.carry_on-halt.new.desk)
-    c.carry_on-halt.new.stream.gathered c.carry_on-halt.new.outputs
+    c.carry_on-halt.new.progress.gathered c.carry_on-halt.new.outputs
     c.carry_on-halt.result (λ broken. false≢true (sym c.if-is_broken.false ∙ c.is_broken.ensures.1 broken)) c.carry_on-halt.ensures.stops).0
 
 pub returns-in-Ok-put_rest-clause-ends : goal.returns-in-Ok-put_rest-clause-ends
 returns-in-Ok-put_rest-clause-ends g c =
-    let start = start_with c.args.domain.now c.args.ports.now g.files in
-    let P : Reading → Type 0 = λ r. Ends g.D.Desk.tells start (g.D.Desk.reading c.args.desk.now) r
+    let course = course_with c.args.domain.now c.args.ports.now g.files in
+    let P : Reading → Type 0 = λ r. Ends g.D.Desk.tells course (g.D.Desk.reading c.args.desk.now) r
     (g.D.Desk.writing c.args.desk.now) (g.D.Desk.writing c.put_rest.new.desk) c.carry_on-halt.result in
     subst P (sym c.in-Ok-put_rest.ensures.inputs)
-    (Ends-written g.D.Desk.tells start
+    (Ends-written g.D.Desk.tells course
     (g.D.Desk.reading c.args.desk.now) (g.D.Desk.reading c.carry_on-halt.new.desk) (g.D.Desk.writing c.args.desk.now) (g.D.Desk.writing c.carry_on-halt.new.desk)
-    c.carry_on-halt.new.stream.gathered c.carry_on-halt.new.outputs (g.D.Desk.writing c.put_rest.new.desk) c.in-Ok-put_rest.ensures.texts
+    c.carry_on-halt.new.progress.gathered c.carry_on-halt.new.outputs (g.D.Desk.writing c.put_rest.new.desk) c.in-Ok-put_rest.ensures.texts
     c.carry_on-halt.result (λ broken. false≢true (sym c.if-is_broken.false ∙ c.is_broken.ensures.1 broken)) c.carry_on-halt.ensures.stops)
 
 pub returns-in-Err-Failed-clause-ends : goal.returns-in-Err-Failed-clause-ends
 returns-in-Err-Failed-clause-ends g c =
-    let start = start_with c.args.domain.now c.args.ports.now g.files in
+    let course = course_with c.args.domain.now c.args.ports.now g.files in
     let whole : IsBroken c.carry_on-halt.result → ⊥ = λ broken. false≢true (sym c.if-is_broken.false ∙ c.is_broken.ensures.1 broken) in
     let rose = rw c.in-Err-Failed.field-0-is at c.in-Err-Failed.ensures.cause in
-    let known = Stops-open g.D.Desk.tells start
+    let known = Stops-open g.D.Desk.tells course
     (g.D.Desk.reading c.args.desk.now) (g.D.Desk.reading c.carry_on-halt.new.desk) (g.D.Desk.writing c.args.desk.now) (g.D.Desk.writing c.carry_on-halt.new.desk)
-    c.carry_on-halt.new.stream.gathered c.carry_on-halt.new.outputs c.carry_on-halt.result whole c.carry_on-halt.ensures.stops in (
+    c.carry_on-halt.new.progress.gathered c.carry_on-halt.new.outputs c.carry_on-halt.result whole c.carry_on-halt.ensures.stops in (
       omega (arith, rose, ap (λ (s : Side). s.faults) known.1),
-      Stops-fronts g.D.Desk.tells start
+      Stops-fronts g.D.Desk.tells course
           (g.D.Desk.reading c.args.desk.now) (g.D.Desk.reading c.carry_on-halt.new.desk) (g.D.Desk.writing c.args.desk.now) (g.D.Desk.writing c.carry_on-halt.new.desk)
-          c.carry_on-halt.new.stream.gathered c.carry_on-halt.new.outputs (g.D.Desk.writing c.put_rest.new.desk) c.put_rest.ensures.fronts
+          c.carry_on-halt.new.progress.gathered c.carry_on-halt.new.outputs (g.D.Desk.writing c.put_rest.new.desk) c.put_rest.ensures.fronts
           c.carry_on-halt.result whole c.carry_on-halt.ensures.stops,
     )
 
 pub returns-clause-ends : goal.returns-clause-ends
 returns-clause-ends g c =
-    Stops-fronts g.D.Desk.tells (start_with c.args.domain.now c.args.ports.now g.files)
+    Stops-fronts g.D.Desk.tells (course_with c.args.domain.now c.args.ports.now g.files)
     (g.D.Desk.reading c.args.desk.now) (g.D.Desk.reading c.carry_on-halt.new.desk) (g.D.Desk.writing c.args.desk.now) (g.D.Desk.writing c.carry_on-halt.new.desk)
-    c.carry_on-halt.new.stream.gathered c.carry_on-halt.new.outputs (g.D.Desk.writing c.put_rest.new.desk) c.put_rest.ensures.fronts
+    c.carry_on-halt.new.progress.gathered c.carry_on-halt.new.outputs (g.D.Desk.writing c.put_rest.new.desk) c.put_rest.ensures.fronts
     c.carry_on-halt.result (λ broken. false≢true (sym c.if-is_broken.false ∙ c.is_broken.ensures.1 broken)) c.carry_on-halt.ensures.stops
 
 pub returns-in-Ok-put_rest-clause-kept : goal.returns-in-Ok-put_rest-clause-kept

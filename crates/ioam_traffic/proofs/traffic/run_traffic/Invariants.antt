@@ -1,4 +1,4 @@
-use Rattle.ioam_traffic.specs.Running.{files_of}
+use Rattle.ioam_traffic.specs.Traffic.{files_of}
 use Rattle.ioam_traffic.proofs.traffic.run_traffic.Given as goal
 
 -- the files before anything is opened

@@ -2,8 +2,7 @@ use Rattle.std.proofs.Common.{refl, ◌∙◌, ap, rules, arith}
 use Rattle.ioam_desk.specs.Desk.{Reading, Writing, Side}
 use Rattle.ioam_merge.specs.Merging.{PartsArrive, HaveEnded, slot_of}
 use Rattle.ioam_pcap.specs.declared.turns.Turn.TheVariants as turn
-use Rattle.ioam_traffic.specs.Running.{start_with}
-use Rattle.ioam_traffic.specs.Traffic.{Arrive}
+use Rattle.ioam_traffic.specs.Traffic.{course_with, Arrive}
 use Rattle.ioam_traffic.proofs.RunsLaws.{Running-coming, Running-fronts_now, Running-halted}
 use Rattle.ioam_traffic.proofs.StopsLaws.{Stops-since}
 use Rattle.ioam_traffic.proofs.turns.carry_on.Goals as goal
@@ -16,25 +15,25 @@ turn-requires g c = (g.files.lanes, c.turns.invariant.running.taken, c.turns.inv
 
 pub returns-in-Ok-Over-clause-stops : goal.returns-in-Ok-Over-clause-stops
 returns-in-Ok-Over-clause-stops g c =
-    let start = start_with c.args.domain.now c.args.ports.now g.files in
+    let course = course_with c.args.domain.now c.args.ports.now g.files in
     let running = c.turns.invariant.running in
     let turned = rw c.in-Ok-Over.field-0-is at (c.in-Ok-Over.ensures.turns g.files.lanes running.taken running.are) in (
-      Running-halted g.D.Desk.tells start (g.D.Desk.reading c.turns.desk) (g.D.Desk.writing c.turns.desk) (g.D.Desk.writing c.turn.new.desk)
-          c.turns.stream c.turns.outputs running c.in-Ok-Over.ensures.outputs
-          (λ arrivals. Arrive start turn.Over arrivals × HaveEnded g.files.lanes (g.D.Desk.reading c.turn.new.desk)) turned,
+      Running-halted g.D.Desk.tells course (g.D.Desk.reading c.turns.desk) (g.D.Desk.writing c.turns.desk) (g.D.Desk.writing c.turn.new.desk)
+          c.turns.progress c.turns.outputs running c.in-Ok-Over.ensures.outputs
+          (λ arrivals. Arrive course turn.Over arrivals × HaveEnded g.files.lanes (g.D.Desk.reading c.turn.new.desk)) turned,
       ap (λ (w : Writing). w.side) c.in-Ok-Over.ensures.outputs ∙ c.turns.invariant.side,
     )
 
 pub returns-in-Ok-Broken-clause-stops : goal.returns-in-Ok-Broken-clause-stops
 returns-in-Ok-Broken-clause-stops g c =
-    let start = start_with c.args.domain.now c.args.ports.now g.files in
+    let course = course_with c.args.domain.now c.args.ports.now g.files in
     let running = c.turns.invariant.running in
     let turned = rw c.in-Ok-Broken.field-0-is at (c.in-Ok-Broken.ensures.turns g.files.lanes running.taken running.are) in (
       turned.0,
       (
-        Running-halted g.D.Desk.tells start (g.D.Desk.reading c.turns.desk) (g.D.Desk.writing c.turns.desk) (g.D.Desk.writing c.turn.new.desk)
-            c.turns.stream c.turns.outputs running c.in-Ok-Broken.ensures.outputs
-            (Arrive start (turn.Broken c.in-Ok-Broken.place c.in-Ok-Broken.at c.in-Ok-Broken.fault)) turned.1,
+        Running-halted g.D.Desk.tells course (g.D.Desk.reading c.turns.desk) (g.D.Desk.writing c.turns.desk) (g.D.Desk.writing c.turn.new.desk)
+            c.turns.progress c.turns.outputs running c.in-Ok-Broken.ensures.outputs
+            (Arrive course (turn.Broken c.in-Ok-Broken.place c.in-Ok-Broken.at c.in-Ok-Broken.fault)) turned.1,
         ap (λ (w : Writing). w.side) c.in-Ok-Broken.ensures.outputs ∙ c.turns.invariant.side,
       ),
     )
@@ -46,14 +45,14 @@ unreachable-requires g c =
 
 pub returns-in-Err-Failed-clause-stops : goal.returns-in-Err-Failed-clause-stops
 returns-in-Err-Failed-clause-stops g c =
-    let start = start_with c.args.domain.now c.args.ports.now g.files in
+    let course = course_with c.args.domain.now c.args.ports.now g.files in
     let running = c.turns.invariant.running in
     let turned = rw c.in-Err-Failed.field-0-is at (c.in-Err-Failed.ensures.turns g.files.lanes running.taken running.are) in
     let rose = rw c.in-Err-Failed.field-0-is at c.in-Err-Failed.ensures.cause in (
       omega (arith, rose, ap (λ (s : Side). s.faults) c.turns.invariant.inputs),
       (
-        Running-halted g.D.Desk.tells start (g.D.Desk.reading c.turns.desk) (g.D.Desk.writing c.turns.desk) (g.D.Desk.writing c.turn.new.desk)
-            c.turns.stream c.turns.outputs running c.in-Err-Failed.ensures.outputs
+        Running-halted g.D.Desk.tells course (g.D.Desk.reading c.turns.desk) (g.D.Desk.writing c.turns.desk) (g.D.Desk.writing c.turn.new.desk)
+            c.turns.progress c.turns.outputs running c.in-Err-Failed.ensures.outputs
             (PartsArrive g.files.lanes.contents (g.D.Desk.reading c.turn.new.desk) g.files.lanes.base) turned,
         ap (λ (w : Writing). w.side) c.in-Err-Failed.ensures.outputs ∙ c.turns.invariant.side,
       ),
@@ -61,8 +60,8 @@ returns-in-Err-Failed-clause-stops g c =
 
 pub returns-in-Err-NoMemory-clause-stops : goal.returns-in-Err-NoMemory-clause-stops
 returns-in-Err-NoMemory-clause-stops g c =
-    Running-fronts_now g.D.Desk.tells (start_with c.args.domain.now c.args.ports.now g.files) (g.D.Desk.reading c.turns.desk)
-    (g.D.Desk.writing c.turns.desk) (g.D.Desk.writing c.turn.new.desk) c.turns.stream c.turns.outputs c.turns.invariant.running c.in-Err-NoMemory.ensures.outputs
+    Running-fronts_now g.D.Desk.tells (course_with c.args.domain.now c.args.ports.now g.files) (g.D.Desk.reading c.turns.desk)
+    (g.D.Desk.writing c.turns.desk) (g.D.Desk.writing c.turn.new.desk) c.turns.progress c.turns.outputs c.turns.invariant.running c.in-Err-NoMemory.ensures.outputs
 
 pub pass_on-requires : goal.pass_on-requires
 pass_on-requires g c κs within =
@@ -70,8 +69,8 @@ pass_on-requires g c κs within =
     let comes = rw c.in-Ok-Next.field-0-is at (c.in-Ok-Next.ensures.turns g.files.lanes running.taken running.are) in (
       search rules,
       (
-        Running-coming g.D.Desk.tells (start_with c.args.domain.now c.args.ports.now g.files) (g.D.Desk.reading c.turns.desk)
-            (g.D.Desk.writing c.turns.desk) (g.D.Desk.writing c.turn.new.desk) c.turns.stream c.turns.outputs running c.in-Ok-Next.ensures.outputs
+        Running-coming g.D.Desk.tells (course_with c.args.domain.now c.args.ports.now g.files) (g.D.Desk.reading c.turns.desk)
+            (g.D.Desk.writing c.turns.desk) (g.D.Desk.writing c.turn.new.desk) c.turns.progress c.turns.outputs running c.in-Ok-Next.ensures.outputs
             (g.D.Desk.reading c.turn.new.desk) c.turn.new.self c.in-Ok-Next.place _ comes,
         (c.requires.1.1.0, (c.requires.1.1.1.0, c.turns.invariant.width)),
       ),
@@ -92,10 +91,10 @@ turns-preserved g c = record {
 
 pub returns-in-Err-clause-stops : goal.returns-in-Err-clause-stops
 returns-in-Err-clause-stops g c =
-    Stops-since g.D.Desk.tells (start_with c.args.domain.now c.args.ports.now g.files)
+    Stops-since g.D.Desk.tells (course_with c.args.domain.now c.args.ports.now g.files)
     (g.D.Desk.reading c.args.desk.now) (g.D.Desk.reading c.turn.new.desk) (g.D.Desk.reading c.pass_on.new.desk)
     (g.D.Desk.writing c.args.desk.now) (g.D.Desk.writing c.turn.new.desk) (g.D.Desk.writing c.pass_on.new.desk)
-    c.pass_on.new.stream.gathered c.pass_on.new.outputs
+    c.pass_on.new.progress.gathered c.pass_on.new.outputs
     (c.in-Ok-Next.ensures.same ∙ c.turns.invariant.inputs)
     (ap (λ (w : Writing). w.side) c.in-Ok-Next.ensures.outputs ∙ c.turns.invariant.side)
     c.in-Err.halt c.in-Err.ensures.stops

@@ -2,13 +2,14 @@ use Rattle.std.proofs.Common.{◌≡◌, ◌+◌, ◌-◌, length}
 use Rattle.ioam_forward.specs.Forwarding.{taken}
 use Rattle.ioam_merge.specs.Merging.{EndsKept}
 use Rattle.ioam_topo.specs.Domain.{ports as ports_of}
-use Rattle.ioam_traffic.specs.Running.{Running, start_with}
+use Rattle.ioam_traffic.specs.Running.{Running}
+use Rattle.ioam_traffic.specs.Traffic.{course_with}
 use Rattle.ioam_traffic.proofs.turns.carry_on.Given as goal
 
 -- the outputs were told the texts so far of what was taken
 abbrev pub invariant-turns : goal.invariant-turns
 invariant-turns g l = record {
-  running : Running g.D.Desk.tells (start_with l.initial.domain l.initial.ports g.files) (g.D.Desk.reading l.desk) (g.D.Desk.writing l.desk) l.stream l.outputs;
+  running : Running g.D.Desk.tells (course_with l.initial.domain l.initial.ports g.files) (g.D.Desk.reading l.desk) (g.D.Desk.writing l.desk) l.progress l.outputs;
   width : length l.outputs ≡ length (ports_of l.initial.domain) + 2;
   inputs : (g.D.Desk.reading l.desk).side ≡ (g.D.Desk.reading l.initial.desk).side;
   kept : EndsKept g.files.lanes.base (g.D.Desk.reading l.initial.desk) (g.D.Desk.reading l.desk);
@@ -17,7 +18,7 @@ invariant-turns g l = record {
 
 -- how many more may be taken
 abbrev pub decreases-turns : goal.decreases-turns
-decreases-turns g l = l.initial.domain.packets - taken l.stream.gathered
+decreases-turns g l = l.initial.domain.packets - taken l.progress.gathered
 
 abbrev pub ghost-pass_on : goal.ghost-pass_on
 ghost-pass_on g a = g.files

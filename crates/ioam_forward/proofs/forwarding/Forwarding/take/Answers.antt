@@ -1,4 +1,7 @@
-use Rattle.std.proofs.Common.{refl, ◌+◌, arith}
+use Rattle.std.proofs.Common.{refl, ◌+◌, Bool, IsSomeAnd, slice_get, subst, arith}
+use Rattle.ioam_ip.specs.Framing.{framing_of}
+use Rattle.ioam_node.specs.Admission.{Admits}
+use Rattle.ioam_topo.specs.Domain.{ports}
 use Rattle.ioam_forward.specs.Fate.{packet_of}
 use Rattle.ioam_forward.specs.Texts.{added_by}
 use Rattle.ioam_forward.proofs.AnswerLaws.{answer-within, answer-plannable}
@@ -12,7 +15,7 @@ plan-requires-clause-admitted c = answer-plannable c.args.domain.now _ _ c.admit
 
 pub put_fate-requires-clause-short : goal.put_fate-requires-clause-short
 put_fate-requires-clause-short c =
-    let within = answer-within c.args.domain.now _ c.args.ethernet _ c.args.packet.now.octets.now c.admit-admitted.result c.admit-admitted.ensures.admits in
+    let within = answer-within c.args.domain.now _ c.args.ethernet _ c.args.record.now.octets.now c.admit-admitted.result c.admit-admitted.ensures.admits in
     omega (arith, within, c.requires.short)
 
 pub returns-clause-of : goal.returns-clause-of
@@ -24,11 +27,13 @@ returns-clause-counted c = (IsOf-push c.args.domain.now c.args.self.now (record 
     (c.note.ensures c.args.domain.now) c.requires.of).1
 
 pub returns-clause-gathers : goal.returns-clause-gathers
-returns-clause-gathers c = (
+returns-clause-gathers c =
+    let P : Bool → Type 0 = λ cut. IsSomeAnd (slice_get (ports c.args.domain.now) c.args.port.0)
+    (λ at. Admits c.args.domain.now at.node.0 (framing_of c.args.ethernet cut c.args.record.now.octets.now) c.admit-admitted.result) in (
   added_by c.args.domain.now (c.args.self.now.sums.packets + 1)
       (record { port = c.args.port; packet = packet_of c.admit-admitted.result; visits = c.in_ok-itinerary.itinerary.visits; end = c.in_ok-itinerary.itinerary.end }),
   c.in_ok-put_fate.ensures,
   Forwards-push c.args.domain.now _ _ c.args.self.now _ (c.args.self.now.sums.packets + 1) refl
-      (record { answer = c.admit-admitted.result; answered = c.admit-admitted.ensures.admits; plans = c.in_ok-itinerary.ensures.plans; port = refl; packet = refl })
+      (record { answer = c.admit-admitted.result; answered = subst P c.is_cut.ensures c.admit-admitted.ensures.admits; plans = c.in_ok-itinerary.ensures.plans; port = refl; packet = refl })
       (c.note.ensures c.args.domain.now),
 )

@@ -5,7 +5,7 @@ use Rattle.ioam_desk.specs.Desk.{Side, Writing}
 use Rattle.ioam_run.specs.Streams.{Finishes, IsBroken}
 use Rattle.ioam_run.proofs.BeginLaws.{Streams-begin, Sticks-begin}
 use Rattle.ioam_run.proofs.FinishesLaws.{Stops-open, Finishes-written, Stops-sticks}
-use Rattle.ioam_run.proofs.run.run_open.Goals as goal
+use Rattle.ioam_run.proofs.over_capture.run_open.Goals as goal
 
 pub returns-in_default-clause-finishes : goal.returns-in_default-clause-finishes
 returns-in_default-clause-finishes g c =

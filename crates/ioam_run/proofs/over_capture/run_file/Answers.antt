@@ -7,7 +7,7 @@ use Rattle.ioam_outputs.proofs.ToldLaws.{told_names}
 use Rattle.ioam_run.specs.Streams.{Start, Finishes}
 use Rattle.ioam_run.proofs.BeginLaws.{Fed-start, told_start, unwritten}
 use Rattle.ioam_run.proofs.FinishesLaws.{Finishes-cause, Finishes-leaves}
-use Rattle.ioam_run.proofs.run.run_file.Goals as goal
+use Rattle.ioam_run.proofs.over_capture.run_file.Goals as goal
 
 pub run_open-requires : goal.run_open-requires
 run_open-requires g c κs within =

@@ -23,7 +23,7 @@ use std::alloc::Global;
 /// Two names that are equal are refused first; then the capture is opened, and the outputs are. It is
 /// read in pieces, and what is gathered of its records is written in pieces: also before a fault of the
 /// capture, a fault of reading or the limit is answered, and at the end.
-pub fn run_words<G: Gather, D: Desk>(alloc: Global, words: &[Name], desk: &mut D) -> Outcome
+pub fn run_over_capture<G: Gather, D: Desk>(alloc: Global, words: &[Name], desk: &mut D) -> Outcome
     requires { length words.now ≡ 2 + G.width }
     ensures cause { HasCause D.tells (file_names words.now) (input_name words.now) (D.reading desk.old) (D.writing desk.old)
         (D.reading desk.new) (D.writing desk.new) result }

@@ -5,10 +5,10 @@ use Rattle.ioam_merge.proofs.TakeLaws.{Comes-there, Comes-packet, Comes-take}
 use Rattle.ioam_pcap.specs.Reader.{entry_of}
 use Rattle.ioam_pcap.specs.Reads.{link_by}
 use Rattle.ioam_base.proofs.ResultLaws.{OnOk-map}
-use Rattle.ioam_traffic.specs.Running.{start_with}
+use Rattle.ioam_traffic.specs.Traffic.{course_with}
 use Rattle.ioam_traffic.proofs.RunsLaws.{Runs-take}
 use Rattle.ioam_traffic.proofs.TakeLaws.{Comes-short}
-use Rattle.ioam_traffic.proofs.stream.Stream.take_next.Goals as goal
+use Rattle.ioam_traffic.proofs.progress.Progress.take_next.Goals as goal
 
 pub take-requires-clause-short : goal.take-requires-clause-short
 take-requires-clause-short c =
@@ -40,7 +40,7 @@ returns-clause-runs c = OnOk-map c.take.result _ _ c.take.ensures.gathers
     let taken_so = Comes-take tells files.lanes coming.taken inputs c.args.self.now.merge c.args.place time comes before after there (entry_of c.in-Packet.packet)
     (λ octets given stands. let t = told.1 octets given stands in (t.0, t.1)) refl refl refl (ap link_by told.0.0)
     _ refl refl refl in
-    Runs-take tells (start_with c.args.domain.now c.args.ports.now files)
+    Runs-take tells (course_with c.args.domain.now c.args.ports.now files)
     (λ arrivals. (time : ℕ) × Comes tells files.lanes inputs c.args.self.now.merge arrivals c.args.place time)
     writing c.args.self.now.gathered c.args.outputs.now coming (Merging tells files.lanes inputs _)
     (record { capture = c.args.place; link = before.link; entry = entry_of c.in-Packet.packet }) c.take.new.self c.take.new.outputs added _ _

@@ -1,5 +1,5 @@
 use Rattle.ioam_desk.specs.Desk.{holds}
-use Rattle.ioam_run.proofs.run.run_words.Given as goal
+use Rattle.ioam_run.proofs.over_capture.run_over_capture.Given as goal
 
 -- what IN holds before anything is opened
 abbrev pub ghost-run_file : goal.ghost-run_file

@@ -4,7 +4,8 @@ ghost use Rattle.ioam_desk.specs.Desk.{Reading, Writing};
 ghost use Rattle.ioam_forward.specs.Forwarding.{IsOf, taken};
 ghost use Rattle.ioam_merge.specs.Merging.{IsComing};
 ghost use Rattle.ioam_topo.specs.Domain.{ports as ports_of};
-ghost use Rattle.ioam_traffic.specs.Running.{Coming, Files, Running, start_with};
+ghost use Rattle.ioam_traffic.specs.Running.{Coming, Running};
+ghost use Rattle.ioam_traffic.specs.Traffic.{Files, course_with};
 
 use ioam_base::memory::NoMemory;
 use ioam_forward::Forwarding;
@@ -16,12 +17,12 @@ use std::alloc::Global;
 
 /// The captures that are merged, and what is gathered of their records.
 #[derive(Drop)]
-pub struct Stream {
+pub struct Progress {
     pub merge: Merge,
     pub gathered: Forwarding,
 }
 
-impl Stream {
+impl Progress {
     /// Takes the record that comes next, of the capture at a place, and sends it through the domain.
     pub fn take_next(
         &mut self,
@@ -39,8 +40,8 @@ impl Stream {
         requires width { length outputs.old ≡ length (ports_of domain.now) + 2 }
         ensures counted { OnOk result (taken self.new.gathered ≡ taken self.old.gathered + 1) }
         ensures runs { OnOk result ((tells : Bool) (files : Files) (inputs : Reading) (writing : Writing) → taken self.old.gathered < domain.now.packets
-            → Coming tells (start_with domain.now ports.now files) place inputs writing self.old outputs.old
-            → Running tells (start_with domain.now ports.now files) inputs writing self.new outputs.new) }
+            → Coming tells (course_with domain.now ports.now files) place inputs writing self.old outputs.old
+            → Running tells (course_with domain.now ports.now files) inputs writing self.new outputs.new) }
     {
         let port = ports[place];
         let capture = &mut self.merge.captures[place];

@@ -1,8 +1,9 @@
 use Rattle.std.proofs.Common.{ℕ, List, rules, sym, subst, refl, arith}
 use Rattle.ioam_outputs.specs.Names.{AreApart}
 use Rattle.ioam_run.specs.Run.{FileCause, file_names, input_name, output_names}
-use Rattle.ioam_run.proofs.WordsLaws.{names_behind, outputs_behind, apart_outputs, name_read, cause_of_file}
-use Rattle.ioam_run.proofs.run.run_words.Goals as goal
+use Rattle.ioam_outputs.proofs.NamesLaws.{found_name}
+use Rattle.ioam_run.proofs.WordsLaws.{names_behind, outputs_behind, apart_outputs, cause_of_file}
+use Rattle.ioam_run.proofs.over_capture.run_over_capture.Goals as goal
 
 pub run_file-requires : goal.run_file-requires
 run_file-requires g c κs within =
@@ -29,4 +30,4 @@ returns-in-None-clause-cause g c =
     cause_of_file g.D.Desk.tells (file_names c.args.words.now) (input_name c.args.words.now) (g.D.Desk.reading c.args.desk.now)
     (g.D.Desk.writing c.args.desk.now) (g.D.Desk.reading c.run_file.new.desk) (g.D.Desk.writing c.run_file.new.desk) c.run_file.result
     (subst Q (names_behind c.args.words.now) c.in-None.ensures)
-    (subst P (name_read c.args.words.now 1 _ c.index-words-1.is (omega (arith, c.requires))) c.run_file.ensures.cause)
+    (subst P (found_name c.args.words.now 1 _ c.index-words-1.is (omega (arith, c.requires))) c.run_file.ensures.cause)
