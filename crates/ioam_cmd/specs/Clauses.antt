@@ -13,6 +13,8 @@ use Rattle.ioam_run.specs.PathsText.{PathsTexts}
 use Rattle.ioam_run.specs.Run as capture
 use Rattle.ioam_run.specs.Run.{IsBehindAll, OpensNothing, file_names, input_name, output_names}
 use Rattle.ioam_run.specs.declared.outcome.Outcome.{Outcome}
+use Rattle.ioam_run.specs.declared.outcome.Outcome.TheVariants as outcome
+use Rattle.ioam_topo.specs.declared.fault.DomainFault.{DomainFault}
 use Rattle.ioam_cmd.specs.declared.command.Command.{Command}
 use Rattle.ioam_cmd.specs.declared.command.Command.TheVariants.{Filter, Paths, Run}
 
@@ -50,11 +52,13 @@ module _ (tells : Bool) (words : List (List ℕ)) (old_in new_in : Reading) (old
       × (IsTrue tells → domain.AsksOut words old_in new_in old new)
 
   -- where the names are refused nothing was opened; `run` has read DOMAIN and READINGS before, and
-  -- opens no output where one of these or the names are refused, nor before both were opened
+  -- opens no output where one of these or the names are refused, nor before both were opened; where
+  -- DOMAIN is refused READINGS wasn't opened
   abbrev pub IsUntouched : Command → Outcome → Type 0
   IsUntouched Filter answer = OpensNothing answer → (new_in ≡ old_in) × (new ≡ old)
   IsUntouched Paths answer = OpensNothing answer → (new_in ≡ old_in) × (new ≡ old)
   IsUntouched Run answer = (domain.IsRefusal answer → new ≡ old) × (new_in.side.slots < old_in.side.slots + 2 → new ≡ old)
+      × ((fault : DomainFault) → answer ≡ outcome.Domain fault → AsksFront old_in.side.asked new_in.side.asked (domain_file words ∷ []))
 
   -- each input was read to its end
   abbrev pub AreDrained : Command → Type 0

@@ -10,14 +10,16 @@ use Rattle.ioam_run.specs.declared.outcome.Outcome.{Outcome}
 use Rattle.ioam_run.specs.declared.outcome.Outcome.TheVariants as outcome
 use Rattle.ioam_setting.specs.Setting.{IsSetting, Refuses}
 use Rattle.ioam_setting.specs.declared.setting.Refusal.{Refusal}
+use Rattle.ioam_setting.specs.declared.setting.Refusal.TheVariants as refusal
 use Rattle.ioam_topo.specs.Domain.{ports}
 use Rattle.ioam_topo.specs.declared.domain.Domain.{Domain}
+use Rattle.ioam_topo.specs.declared.fault.DomainFault.{DomainFault}
 use Rattle.ioam_topo.specs.declared.parts.Port.{Port}
 use Rattle.ioam_domain.specs.Ends.{Ends, refused_as}
 use Rattle.ioam_domain.specs.Run.{HasCause, Asked, Leaves, AsksIn, AsksOut, AreDrained, IsBounded, IsRefusal, HaveDiffered, Owes, IsSet, IsReady, domain_file, readings_file, report_file, exports_file, run_files, run_inputs, run_outputs}
 use Rattle.ioam_domain.proofs.AskedLaws.{HasCause-asked}
 use Rattle.ioam_domain.proofs.BoundLaws.{Leaves-bounded}
-use Rattle.ioam_domain.proofs.EndsLaws.{same_faults, Ends-cause, Ends-differed, Ends-leaves, Ends-drained, refused_differed, asks_more, asks_both, refused_cause, refused_leaves, refused_read, refused_other, refused_done}
+use Rattle.ioam_domain.proofs.EndsLaws.{same_faults, Ends-cause, Ends-differed, Ends-leaves, Ends-drained, refused_differed, refused_domain, asks_more, asks_both, refused_cause, refused_leaves, refused_read, refused_other, refused_done}
 
 -- no output was asked for
 none_written : (words : List (List ℕ)) (old new : Writing) → new.side.asked ≡ old.side.asked
@@ -28,6 +30,7 @@ none_written words old new same = (0, same ∙ sym (append-nil old.side.asked))
 module _ (tells : Bool) (words : List (List ℕ)) (old_in new_in : Reading) (old new : Writing) (why : Refusal) (answer : Outcome)
     (refuses : Refuses old (domain_file words) (readings_file words) tells old_in new_in why)
     (asked : AsksFront old_in.side.asked new_in.side.asked (domain_file words ∷ readings_file words ∷ []))
+    (first : (fault : DomainFault) → why ≡ refusal.Domain fault → AsksFront old_in.side.asked new_in.side.asked (domain_file words ∷ []))
     (same : new ≡ old) (is : answer ≡ refused_as why) where
   refused-read_fault : answer ≡ outcome.ReadFault → Rose old_in.side.faults new_in.side.faults
   refused-read_fault read = refused_read tells words old_in new_in old why refuses (sym is ∙ read)
@@ -69,6 +72,7 @@ module _ (tells : Bool) (words : List (List ℕ)) (old_in new_in : Reading) (old
     cause = refused-cause;
     leaves = λ told. refused-leaves;
     exact = refused-exact;
+    domain_first = λ fault so. first fault (refused_domain tells words old_in new_in old why fault (sym is ∙ so));
     asked_first = ([], asked);
     asked_in = λ told. inl asked;
     asked_last = ([], none_written words old new (ap (λ (w : Writing). w.side.asked) same));
@@ -199,6 +203,7 @@ module _ (tells : Bool) (words : List (List ℕ)) (old_in mid_in new_in : Readin
       cause = ended-cause;
       leaves = ended-leaves;
       exact = ended-exact;
+      domain_first = λ fault so. absurd (subst (λ (a : Outcome). Ends tells words domain mid_in new_in old new a) so ends);
       asked_first = ended-asked_first asked_in;
       asked_in = ended-asked_in asked_in;
       asked_last = ended-asked_last asked_out;

@@ -10,17 +10,17 @@ use Rattle.ioam_run.specs.declared.outcome.Outcome.{Outcome}
 use Rattle.ioam_run.specs.declared.outcome.Outcome.TheVariants as outcome
 use Rattle.ioam_topo.specs.declared.domain.Domain.{Domain}
 use Rattle.ioam_traffic.specs.Traffic.{frames_of}
-use Rattle.ioam_domain.specs.Run.{HoldsFiles, IsReady, Leaves, IsBounded, start_for}
+use Rattle.ioam_domain.specs.Run.{HoldsFiles, IsReady, Leaves, IsBounded, course_for}
 
 module _ (words : List (List ℕ)) (old_in new_in : Reading) (old new : Writing) where
   bounded : (domain : Domain) → IsReady old words domain → (Are : List Arrival → Type 0)
-      → HoldsFiles words old_in new_in old new (start_for words old_in old domain) Are → IsBounded words old_in new_in old new
+      → HoldsFiles words old_in new_in old new (course_for words old_in old domain) Are → IsBounded words old_in new_in old new
   bounded domain ready Are all = (
     domain,
     ready,
     λ place port is.
         let P : Option (List ℕ) → Type 0 = λ o. IsSomeAnd o (IsCaptureOf IsClean) in
-        subst P (sym (all.outs place port is)) (outs-clean domain (frames_of (start_for words old_in old domain).ports all.taken) all.fates all.become place),
+        subst P (sym (all.outs place port is)) (outs-clean domain (frames_of (course_for words old_in old domain).ports all.taken) all.fates all.become place),
   )
 
   pub Leaves-bounded : (answer : Outcome) → IsBehindAll (old.side.slots < new.side.slots) answer → Leaves words old_in new_in old new answer

@@ -18,9 +18,10 @@ use Rattle.ioam_setting.specs.declared.setting.Refusal.{Refusal}
 use Rattle.ioam_setting.specs.declared.setting.Refusal.TheVariants as refusal
 use Rattle.ioam_topo.specs.Domain.{ports}
 use Rattle.ioam_topo.specs.declared.domain.Domain.{Domain}
+use Rattle.ioam_topo.specs.declared.fault.DomainFault.{DomainFault}
 use Rattle.ioam_traffic.specs.Traffic.{Course, HoldsAll, HoldsFronts, ArePassed, AreOpened, Arrive, Finishes}
 use Rattle.ioam_domain.specs.Ends.{Ends, begins, refused_as}
-use Rattle.ioam_domain.specs.Run.{HasCause, HaveDiffered, HoldsFiles, contents, Leaves, OfTraffic, StopsEarly, AsksIn, AreDrained, IsSet, IsReady, Exceeds, domain_file, readings_file, run_files, run_inputs, run_outputs, word_files, start_for}
+use Rattle.ioam_domain.specs.Run.{HasCause, HaveDiffered, HoldsFiles, contents, Leaves, OfTraffic, StopsEarly, AsksIn, AreDrained, IsSet, IsReady, Exceeds, domain_file, readings_file, run_files, run_inputs, run_outputs, word_files, course_for}
 use Rattle.ioam_domain.proofs.FilesLaws.{files_held}
 
 -- the two files were opened by two slots
@@ -31,8 +32,8 @@ module _ (words : List (List ℕ)) (old_in mid_in : Reading) (opened : mid_in.si
   two_slots : mid_in.side.slots ≡ old_in.side.slots + 2
   two_slots = ap (λ (s : Side). s.slots) opened
 
-  pub same_start : (old : Writing) (domain : Domain) → begins words domain mid_in old ≡ start_for words old_in old domain
-  same_start old domain = ap (λ (base : ℕ). record {
+  pub same_course : (old : Writing) (domain : Domain) → begins words domain mid_in old ≡ course_for words old_in old domain
+  same_course old domain = ap (λ (base : ℕ). record {
     domain = domain;
     ports = input_ports (ports domain);
     lanes = start_of base old (run_inputs domain);
@@ -44,7 +45,7 @@ module _ (words : List (List ℕ)) (old_in mid_in : Reading) (opened : mid_in.si
     ready apart = record { set = set; apart = apart }
 
     of_traffic : (P : Course → Type 0) → AreApart (run_files words domain) → P (begins words domain mid_in old) → OfTraffic words old_in new_in old new P
-    of_traffic P apart holds = (domain, ready apart, subst P (same_start old domain) holds)
+    of_traffic P apart holds = (domain, ready apart, subst P (same_course old domain) holds)
 
     pub Ends-cause : (answer : Outcome) → Ends tells words domain mid_in new_in old new answer → HasCause words old_in new_in old new answer
     Ends-cause outcome.Done ends =
@@ -69,29 +70,29 @@ module _ (words : List (List ℕ)) (old_in mid_in : Reading) (opened : mid_in.si
     Ends-cause (outcome.Domain fault) ends = absurd ends
     Ends-cause (outcome.Readings fault) ends = absurd ends
 
-    files : (Are : Start → List Arrival → Type 0) → HoldsAll (begins words domain mid_in old) (Are (begins words domain mid_in old)) new
+    files : (Are : Course → List Arrival → Type 0) → HoldsAll (begins words domain mid_in old) (Are (begins words domain mid_in old)) new
         → HoldsFiles words old_in new_in old new (begins words domain mid_in old) (Are (begins words domain mid_in old))
     files Are all = files_held words old_in new_in old new (begins words domain mid_in old) (Are (begins words domain mid_in old)) refl all
 
     pub Ends-leaves : (answer : Outcome) → Ends tells words domain mid_in new_in old new answer → Leaves words old_in new_in old new answer
-    Ends-leaves outcome.Done ends = of_traffic (λ start. HoldsFiles words old_in new_in old new start (Arrive start turn.Over)) ends.0
-        (files (λ start. Arrive start turn.Over) (ends.1 told).0)
+    Ends-leaves outcome.Done ends = of_traffic (λ course. HoldsFiles words old_in new_in old new course (Arrive course turn.Over)) ends.0
+        (files (λ course. Arrive course turn.Over) (ends.1 told).0)
     Ends-leaves (outcome.Capture name at fault) ends =
-        of_traffic (λ start. (place : ℕ) × (name ≡ name_at (run_inputs start.domain) place)
-        × HoldsFiles words old_in new_in old new start (Arrive start (turn.Broken place at fault))) ends.0
-        (ends.1.0, ends.1.1, files (λ start. Arrive start (turn.Broken ends.1.0 at fault)) (ends.1.2.1 told))
-    Ends-leaves (outcome.Packets limit) ends = of_traffic (λ start. HoldsFiles words old_in new_in old new start (ArePassed start)) ends.0
-        (files (λ start. ArePassed start) (ends.2 told))
+        of_traffic (λ course. (place : ℕ) × (name ≡ name_at (run_inputs course.domain) place)
+        × HoldsFiles words old_in new_in old new course (Arrive course (turn.Broken place at fault))) ends.0
+        (ends.1.0, ends.1.1, files (λ course. Arrive course (turn.Broken ends.1.0 at fault)) (ends.1.2.1 told))
+    Ends-leaves (outcome.Packets limit) ends = of_traffic (λ course. HoldsFiles words old_in new_in old new course (ArePassed course)) ends.0
+        (files (λ course. ArePassed course) (ends.2 told))
     Ends-leaves outcome.ReadFault ends = elim ends.1.1 [
-      | inl early ↦ inl (inr (of_traffic (λ start. new_in.side.slots < start.lanes.base + length start.lanes.contents) ends.0 early.0), early.1)
-      | inr late ↦ inr (of_traffic (λ start. AreOpened start new_in
-          × HoldsFiles words old_in new_in old new start (PartsArrive start.lanes.contents new_in start.lanes.base)) ends.0
-          (late.0, files (λ start. PartsArrive start.lanes.contents new_in start.lanes.base) (late.1 told)))
+      | inl early ↦ inl (inr (of_traffic (λ course. new_in.side.slots < course.lanes.base + length course.lanes.contents) ends.0 early.0), early.1)
+      | inr late ↦ inr (of_traffic (λ course. AreOpened course new_in
+          × HoldsFiles words old_in new_in old new course (PartsArrive course.lanes.contents new_in course.lanes.base)) ends.0
+          (late.0, files (λ course. PartsArrive course.lanes.contents new_in course.lanes.base) (late.1 told)))
     ]
-    Ends-leaves outcome.WriteFault ends = of_traffic (λ start. HoldsFronts start old new) ends.0 (ends.1.1 told)
+    Ends-leaves outcome.WriteFault ends = of_traffic (λ course. HoldsFronts course old new) ends.0 (ends.1.1 told)
     Ends-leaves outcome.NoMemory (inl same) = inl same
     Ends-leaves outcome.NoMemory (inr (apart, inl same)) = inl same
-    Ends-leaves outcome.NoMemory (inr (apart, inr fronts)) = inr (of_traffic (λ start. HoldsFronts start old new) apart (fronts told))
+    Ends-leaves outcome.NoMemory (inr (apart, inr fronts)) = inr (of_traffic (λ course. HoldsFronts course old new) apart (fronts told))
     Ends-leaves outcome.Usage ends = absurd ends
     Ends-leaves (outcome.Names name) ends = ends.2
     Ends-leaves (outcome.Domain fault) ends = absurd ends
@@ -164,6 +165,12 @@ module _ (tells : Bool) (words : List (List ℕ)) (old_in new_in : Reading) (old
   refused_differed (refusal.Readings fault) = tt
   refused_differed refusal.ReadFault = tt
   refused_differed refusal.NoMemory = tt
+
+  pub refused_domain : (why : Refusal) (fault : DomainFault) → refused_as why ≡ outcome.Domain fault → why ≡ refusal.Domain fault
+  refused_domain (refusal.Domain other) fault is = cc
+  refused_domain (refusal.Readings other) fault is = absurd (cc)
+  refused_domain refusal.ReadFault fault is = absurd (cc)
+  refused_domain refusal.NoMemory fault is = absurd (cc)
 
   pub refused_read : (why : Refusal) → Refuses old (domain_file words) (readings_file words) tells old_in new_in why
       → refused_as why ≡ outcome.ReadFault → Rose old_in.side.faults new_in.side.faults

@@ -8,7 +8,7 @@ use Rattle.ioam_outputs.specs.Held.{HoldTexts}
 use Rattle.ioam_pcap.specs.Merge.{Arrival}
 use Rattle.ioam_topo.specs.Domain.{ports}
 use Rattle.ioam_topo.specs.declared.parts.Port.{Port}
-use Rattle.ioam_traffic.specs.Traffic.{Start, HoldsAll}
+use Rattle.ioam_traffic.specs.Traffic.{Course, HoldsAll}
 use Rattle.ioam_domain.specs.Run.{HoldsFiles, report_file, exports_file, run_outputs}
 
 -- the capture of the port at a place holds the text of that place
@@ -27,24 +27,24 @@ held_behind : (new : Writing) (all : List Port) (from : ℕ) (f : ℕ → List �
 held_behind new [] from f names texts held = held
 held_behind new (p ∷ all) from f names texts held = held_behind new all (suc from) f names texts held.1
 
-module _ (words : List (List ℕ)) (old_in new_in : Reading) (old new : Writing) (start : Start) (Are : List Arrival → Type 0)
-    (names : start.names ≡ run_outputs words start.domain) (all : HoldsAll start Are new) where
-  in_order : HoldTexts new (run_outputs words start.domain) (texts_of start.domain all.fates)
-  in_order = subst (λ (ns : List (List ℕ)). HoldTexts new ns (texts_of start.domain all.fates)) names all.held
+module _ (words : List (List ℕ)) (old_in new_in : Reading) (old new : Writing) (course : Course) (Are : List Arrival → Type 0)
+    (names : course.names ≡ run_outputs words course.domain) (all : HoldsAll course Are new) where
+  in_order : HoldTexts new (run_outputs words course.domain) (texts_of course.domain all.fates)
+  in_order = subst (λ (ns : List (List ℕ)). HoldTexts new ns (texts_of course.domain all.fates)) names all.held
 
-  behind : HoldTexts new (report_file words ∷ exports_file words ∷ []) (report_text start.domain all.fates ∷ [] ∷ [])
-  behind = held_behind new (ports start.domain) 0 (λ k. out_text k all.fates) (report_file words ∷ exports_file words ∷ [])
-      (report_text start.domain all.fates ∷ [] ∷ []) in_order
+  behind : HoldTexts new (report_file words ∷ exports_file words ∷ []) (report_text course.domain all.fates ∷ [] ∷ [])
+  behind = held_behind new (ports course.domain) 0 (λ k. out_text k all.fates) (report_file words ∷ exports_file words ∷ [])
+      (report_text course.domain all.fates ∷ [] ∷ []) in_order
 
-  pub files_held : HoldsFiles words old_in new_in old new start Are
+  pub files_held : HoldsFiles words old_in new_in old new course Are
   files_held = record {
     taken = all.taken;
     fates = all.fates;
     are = all.are;
     few = all.few;
     become = all.become;
-    outs = λ place port is. held_at new (ports start.domain) 0 (λ k. out_text k all.fates) (report_file words ∷ exports_file words ∷ [])
-        (report_text start.domain all.fates ∷ [] ∷ []) in_order place port is
+    outs = λ place port is. held_at new (ports course.domain) 0 (λ k. out_text k all.fates) (report_file words ∷ exports_file words ∷ [])
+        (report_text course.domain all.fates ∷ [] ∷ []) in_order place port is
         ∙ ap (λ (k : ℕ). Some (out_text k all.fates)) (omega arith);
     report = behind.0;
     exports = behind.1.0;

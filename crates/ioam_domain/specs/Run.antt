@@ -21,6 +21,7 @@ use Rattle.ioam_setting.specs.Names.{input_names, input_ports, output_names, fil
 use Rattle.ioam_setting.specs.Setting.{HasDomainFault, HasReadingsFault, IsSetting}
 use Rattle.ioam_topo.specs.Domain.{ports}
 use Rattle.ioam_topo.specs.declared.domain.Domain.{Domain}
+use Rattle.ioam_topo.specs.declared.fault.DomainFault.{DomainFault}
 use Rattle.ioam_topo.specs.declared.parts.Port.{Port}
 use Rattle.ioam_traffic.specs.Traffic.{Course, HoldsFronts, ArePassed, AreOpened, Arrive, frames_of}
 
@@ -123,8 +124,8 @@ IsRefusal outcome.WriteFault = ⊥
 IsRefusal outcome.NoMemory = ⊥
 
 -- where the traffic of a domain begins: DOMAIN and READINGS were read by two slots
-abbrev pub start_for : List (List ℕ) → Reading → Writing → Domain → Course
-start_for words reading writing domain = record {
+abbrev pub course_for : List (List ℕ) → Reading → Writing → Domain → Course
+course_for words reading writing domain = record {
   domain = domain;
   ports = input_ports (ports domain);
   lanes = start_of (reading.side.slots + 2) writing (run_inputs domain);
@@ -147,38 +148,38 @@ module _ (words : List (List ℕ)) (old_in new_in : Reading) (old new : Writing)
 
   -- so it is of the traffic of the domain that is held
   abbrev pub OfTraffic : (Course → Type 0) → Type 0
-  OfTraffic P = (domain : Domain) × IsReady old words domain × P (start_for words old_in old domain)
+  OfTraffic P = (domain : Domain) × IsReady old words domain × P (course_for words old_in old domain)
 
   -- no capture was opened yet, or not all of them
   abbrev pub StopsEarly : Type 0
   StopsEarly = AsksFront old_in.side.asked new_in.side.asked (domain_file words ∷ readings_file words ∷ [])
-      ⊎ OfTraffic (λ start. new_in.side.slots < start.lanes.base + length start.lanes.contents)
+      ⊎ OfTraffic (λ course. new_in.side.slots < course.lanes.base + length course.lanes.contents)
 
   -- What the files hold of these arrivals: each port's capture has the packets that leave there,
   -- REPORT the line of each arrival and the sums, and EXPORTS nothing. `Are` says which arrivals.
-  pub record HoldsFiles (start : Start) (Are : List Arrival → Type 0) : Type 0 where
+  pub record HoldsFiles (course : Course) (Are : List Arrival → Type 0) : Type 0 where
     pub taken : List Arrival
     pub fates : List Fate
     pub are : Are taken
-    pub few : length taken ≤ start.domain.packets
-    pub become : AreFates start.domain (frames_of start.ports taken) fates
-    pub outs : (place : ℕ) (port : Port) → slice_get (ports start.domain) place ≡ Some port
+    pub few : length taken ≤ course.domain.packets
+    pub become : AreFates course.domain (frames_of course.ports taken) fates
+    pub outs : (place : ℕ) (port : Port) → slice_get (ports course.domain) place ≡ Some port
         → holds new port.output ≡ Some (out_text place fates)
-    pub report : holds new (report_file words) ≡ Some (report_text start.domain fates)
+    pub report : holds new (report_file words) ≡ Some (report_text course.domain fates)
     pub exports : holds new (exports_file words) ≡ Some []
 
   -- What the files hold afterwards, where the desk tells: the texts of all arrivals, of as many as the
   -- domain allows, or of those that what was handed out of the captures shows; or nothing was opened
   -- for writing; or each output that was opened holds a front of its text.
   abbrev pub Leaves : Outcome → Type 0
-  Leaves outcome.Done = OfTraffic (λ start. HoldsFiles start (Arrive start turn.Over))
-  Leaves (outcome.Capture name at fault) = OfTraffic (λ start. (place : ℕ) × (name ≡ name_at (run_inputs start.domain) place)
-      × HoldsFiles start (Arrive start (turn.Broken place at fault)))
-  Leaves (outcome.Packets limit) = OfTraffic (λ start. HoldsFiles start (ArePassed start))
+  Leaves outcome.Done = OfTraffic (λ course. HoldsFiles course (Arrive course turn.Over))
+  Leaves (outcome.Capture name at fault) = OfTraffic (λ course. (place : ℕ) × (name ≡ name_at (run_inputs course.domain) place)
+      × HoldsFiles course (Arrive course (turn.Broken place at fault)))
+  Leaves (outcome.Packets limit) = OfTraffic (λ course. HoldsFiles course (ArePassed course))
   Leaves outcome.ReadFault = (StopsEarly × (new ≡ old))
-      ⊎ OfTraffic (λ start. AreOpened start new_in × HoldsFiles start (PartsArrive start.lanes.contents new_in start.lanes.base))
-  Leaves outcome.WriteFault = OfTraffic (λ start. HoldsFronts start old new)
-  Leaves outcome.NoMemory = (new ≡ old) ⊎ OfTraffic (λ start. HoldsFronts start old new)
+      ⊎ OfTraffic (λ course. AreOpened course new_in × HoldsFiles course (PartsArrive course.lanes.contents new_in course.lanes.base))
+  Leaves outcome.WriteFault = OfTraffic (λ course. HoldsFronts course old new)
+  Leaves outcome.NoMemory = (new ≡ old) ⊎ OfTraffic (λ course. HoldsFronts course old new)
   Leaves outcome.Usage = new ≡ old
   Leaves (outcome.Domain fault) = new ≡ old
   Leaves (outcome.Readings fault) = new ≡ old
@@ -196,11 +197,11 @@ module _ (words : List (List ℕ)) (old_in new_in : Reading) (old new : Writing)
 
   -- DOMAIN, READINGS and each of the captures were read to their ends
   abbrev pub AreDrained : Type 0
-  AreDrained = OfTraffic (λ start. (k : ℕ) → k < 2 + length start.lanes.contents → IsTrue (new_in.ended (old_in.side.slots + k)))
+  AreDrained = OfTraffic (λ course. (k : ℕ) → k < 2 + length course.lanes.contents → IsTrue (new_in.ended (old_in.side.slots + k)))
 
   -- what leaves by each port of the domain is a capture of packets that may leave it
   abbrev pub IsBounded : Type 0
-  IsBounded = OfTraffic (λ start. (place : ℕ) (port : Port) → slice_get (ports start.domain) place ≡ Some port
+  IsBounded = OfTraffic (λ course. (place : ℕ) (port : Port) → slice_get (ports course.domain) place ≡ Some port
       → IsSomeAnd (holds new port.output) (IsCaptureOf IsClean))
 
 module _ (tells : Bool) (words : List (List ℕ)) (old_in new_in : Reading) (old new : Writing) where
@@ -214,6 +215,7 @@ module _ (tells : Bool) (words : List (List ℕ)) (old_in new_in : Reading) (old
     pub leaves : IsTrue tells → Leaves words old_in new_in old new answer
     pub exact : (asked : Outcome) → IsTrue tells → Asked old words asked → (Rose old_in.side.faults new_in.side.faults → ⊥)
         → (Rose old.side.faults new.side.faults → ⊥) → (answer ≡ asked) ⊎ (answer ≡ outcome.NoMemory)
+    pub domain_first : (fault : DomainFault) → answer ≡ outcome.Domain fault → AsksFront old_in.side.asked new_in.side.asked (domain_file words ∷ [])
     pub asked_first : (names : List (List ℕ)) × AsksFront old_in.side.asked new_in.side.asked (domain_file words ∷ readings_file words ∷ names)
     pub asked_in : IsTrue tells → AsksIn words old_in new_in old new
     pub asked_last : (names : List (List ℕ)) × AsksFront old.side.asked new.side.asked (names ++ report_file words ∷ exports_file words ∷ [])

@@ -1,5 +1,5 @@
 //! `run DOMAIN READINGS WORKERS REPORT EXPORTS`.
-ghost use Rattle.std.specs.Prelude.{◌≡◌, ◌≢◌, ◌+◌, ◌<◌, ◌⊎◌, ◌∷◌, ◌++◌, [], List, ℕ, IsTrue, IfOk, IfErr, OnOk, length};
+ghost use Rattle.std.specs.Prelude.{◌≡◌, ◌≢◌, ◌+◌, ◌<◌, ◌⊎◌, ◌∷◌, ◌++◌, [], List, ℕ, IsTrue, Err, IfOk, IfErr, OnOk, length};
 ghost use Rattle.ioam_desk.specs.Asked.{AsksFront};
 ghost use Rattle.ioam_desk.specs.Desk.{Rose, opened_each};
 ghost use Rattle.ioam_merge.specs.Merging.{EndsKept};
@@ -7,7 +7,9 @@ ghost use Rattle.ioam_outputs.specs.Names.{AreApart};
 ghost use Rattle.ioam_run.specs.Run.{IsDone, IsBehindAll};
 ghost use Rattle.ioam_run.specs.declared.outcome.Outcome.{Outcome};
 ghost use Rattle.ioam_setting.specs.Setting.{IsSetting, Refuses};
+ghost use Rattle.ioam_setting.specs.declared.setting.Refusal.{Refusal};
 ghost use Rattle.ioam_topo.specs.Domain.{ports};
+ghost use Rattle.ioam_topo.specs.declared.fault.DomainFault.{DomainFault};
 ghost use Rattle.ioam_domain.specs.Ends.{Ends};
 ghost use Rattle.ioam_domain.specs.Run.{HasCause, Asked, Leaves, AsksIn, AsksOut, AreDrained, IsBounded, IsRefusal, Owes, HaveDiffered, domain_file, readings_file, report_file, exports_file, run_files, run_inputs, run_outputs};
 
@@ -44,7 +46,9 @@ pub fn run_domain<D: Desk>(alloc: Global, words: &[Name], desk: &mut D) -> Outco
         → (Rose (D.reading desk.old).side.faults (D.reading desk.new).side.faults → ⊥)
         → (Rose (D.writing desk.old).side.faults (D.writing desk.new).side.faults → ⊥)
         → (result ≡ asked) ⊎ (result ≡ Outcome.NoMemory) }
-    // The names that were opened; those out of the domain file are spoken of where the desk tells.
+    // The names that were opened: READINGS isn't where DOMAIN is refused. Those out of the domain file are spoken of where the desk tells.
+    ensures domain_first { (fault : DomainFault) → result ≡ Outcome.Domain fault
+        → AsksFront (D.reading desk.old).side.asked (D.reading desk.new).side.asked (domain_file words.now ∷ []) }
     ensures asked_first { (names : List (List ℕ)) × AsksFront (D.reading desk.old).side.asked (D.reading desk.new).side.asked
         (domain_file words.now ∷ readings_file words.now ∷ names) }
     ensures asked_in { IsTrue D.tells → AsksIn words.now (D.reading desk.old) (D.reading desk.new) (D.writing desk.old) (D.writing desk.new) }
@@ -84,6 +88,8 @@ fn read_words<D: Desk>(alloc: Global, words: &[Name], desk: &mut D) -> Result<Se
     ensures ended { OnOk result (IsTrue D.tells → IsTrue ((D.reading desk.new).ended (D.reading desk.old).side.slots)
         × IsTrue ((D.reading desk.new).ended ((D.reading desk.old).side.slots + 1))) }
     ensures asked { AsksFront (D.reading desk.old).side.asked (D.reading desk.new).side.asked (domain_file words.now ∷ readings_file words.now ∷ []) }
+    ensures domain_first { (fault : DomainFault) → result ≡ Err (Refusal.Domain fault)
+        → AsksFront (D.reading desk.old).side.asked (D.reading desk.new).side.asked (domain_file words.now ∷ []) }
     ensures outputs { D.writing desk.new ≡ D.writing desk.old }
 {
     read_setting(alloc, desk, &words[1], &words[2])

@@ -1,10 +1,11 @@
+use Rattle.std.proofs.Common.{ap, Err}
 use Rattle.ioam_domain.proofs.AnswerLaws as laws
 use Rattle.ioam_domain.proofs.domain_run.run_words.Goals as goal
 
 pub returns-in-Err : goal.returns-in-Err
 returns-in-Err g c = record {
   owes = laws.refused-owes g.D.Desk.tells c.args.words.now (g.D.Desk.reading c.args.desk.now) (g.D.Desk.reading c.read_words.new.desk)
-      (g.D.Desk.writing c.args.desk.now) (g.D.Desk.writing c.read_words.new.desk) c.in-Err.refusal c.refused.result c.in-Err.ensures.refused c.in-Err.ensures.asked
+      (g.D.Desk.writing c.args.desk.now) (g.D.Desk.writing c.read_words.new.desk) c.in-Err.refusal c.refused.result c.in-Err.ensures.refused c.in-Err.ensures.asked (λ fault is. c.in-Err.ensures.domain_first fault (ap Err is))
       c.in-Err.ensures.outputs c.refused.ensures;
 }
 
