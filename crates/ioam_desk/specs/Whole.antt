@@ -1,6 +1,6 @@
 -- A file read whole, and octets written whole.
-use Rattle.std.specs.Prelude.{◌≡◌, ℕ, ◌+◌, ◌<◌, ◌≤◌, ◌⊎◌, Bool, IsTrue, IsSomeAnd, List, [], ◌∷◌, ◌++◌, length, take, Option, Some, None, Result, Ok, Err}
-use Rattle.ioam_desk.specs.Desk.{Side, Reading, Writing, Rose, Fails, SameBut, opened_side, Grows}
+use Rattle.std.specs.Prelude.{◌≡◌, ℕ, ◌+◌, ◌<◌, ◌≤◌, ◌⊎◌, Bool, IsTrue, IsSomeAnd, List, [], ◌∷◌, ◌++◌, length, Option, Some, Result, Ok, Err}
+use Rattle.ioam_desk.specs.Desk.{Side, Reading, Rose, Fails, SameBut, opened_side}
 use Rattle.ioam_desk.specs.declared.fault.WholeFault.{WholeFault}
 use Rattle.ioam_desk.specs.declared.fault.WholeFault.TheVariants.{Failed, TooLong, NoMemory}
 use Rattle.ioam_desk.specs.declared.fault.WriteAll.{WriteAll}

@@ -1,5 +1,5 @@
 //! The headers on the chain of a packet, one after the other.
-ghost use Rattle.std.specs.Prelude.{◌≡◌, MatchOption, IsTrue, false, ◌≤◌, length};
+ghost use Rattle.std.specs.Prelude.{◌≡◌, MatchOption, IsTrue, false};
 ghost use Rattle.ioam_ip.specs.Chain.{behind};
 ghost use Rattle.ioam_ip.specs.HeadsLeft.{goes_on};
 

@@ -1,8 +1,8 @@
 //! An options header that is laid out option by option (RFC 8200 section 4.2).
-ghost use Rattle.std.specs.Prelude.{◌≡◌, ◌↔◌, ◌+◌, ◌*◌, ◌%◌, ◌<◌, ◌≤◌, List, [], ◌∷◌, ◌++◌, length, take, slice_index, is_ok, if◌then◌else◌, OnOk, OnErr, IfOk, IsTrue};
+ghost use Rattle.std.specs.Prelude.{◌≡◌, ◌↔◌, ◌+◌, ◌*◌, ◌%◌, ◌<◌, ◌≤◌, List, [], ◌∷◌, ◌++◌, length, take, is_ok, if◌then◌else◌, OnOk, OnErr, IfOk, IsTrue};
 ghost use Rattle.ioam_ip.specs.Findings.{is_ioam_type};
 ghost use Rattle.ioam_ip.specs.Layout.{padding, gap_before, with_option, padded, finished, placed, AddsOption, KeepsOptions, IsSized};
-ghost use Rattle.ioam_ip.specs.Options.{Item, AreOptions};
+ghost use Rattle.ioam_ip.specs.Options.{AreOptions};
 
 use crate::scan::is_ioam_type;
 use ioam_base::memory::NoMemory;

@@ -1,5 +1,5 @@
 //! The IPv6 header (RFC 8200 section 3): 40 octets in front of every packet.
-ghost use Rattle.std.specs.Prelude.{◌≡◌, ◌↔◌, IsSome, IfSome, IfNone, ◌<◌, ◌+◌, ◌^◌, take};
+ghost use Rattle.std.specs.Prelude.{◌<◌, ◌^◌};
 
 /// The octets of an IPv6 header.
 pub const HEADER_OCTETS: usize = 40;

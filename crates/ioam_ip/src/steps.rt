@@ -1,6 +1,6 @@
 //! One step along the chain of a packet (RFC 8200 section 4).
-ghost use Rattle.std.specs.Prelude.{◌≡◌, ◌⊎◌, IsTrue, ◌+◌, ◌<◌, ◌≤◌, length, slice_index, false, MatchOption};
-ghost use Rattle.ioam_ip.specs.Chain.{kind_of, said_size};
+ghost use Rattle.std.specs.Prelude.{◌≡◌, ◌⊎◌, IsTrue, ◌+◌, ◌<◌, ◌≤◌, length, slice_index, false};
+ghost use Rattle.ioam_ip.specs.Chain.{kind_of};
 ghost use Rattle.ioam_ip.specs.Steps.{Steps, OptionsAt};
 
 use crate::chain::{Kind, Spot, kind_of};

@@ -10,9 +10,7 @@ use Rattle.ioam_desk.specs.declared.fault.DeskFault.TheVariants.{Failed, NoMemor
 use Rattle.ioam_pcap.specs.Arrives.{Handed, IsStream, Arrives}
 use Rattle.ioam_pcap.specs.Entries.{Entry}
 use Rattle.ioam_pcap.specs.Merge.{Stream, Arrival, turn, of_capture, Takes}
-use Rattle.ioam_pcap.specs.Reader.{Stands, IsHeaded}
-use Rattle.ioam_pcap.specs.Reading.{Reading}
-use Rattle.ioam_pcap.specs.Reads.{EntryAt}
+use Rattle.ioam_pcap.specs.Reader.{IsHeaded}
 use Rattle.ioam_pcap.specs.declared.turns.Due.{Due}
 use Rattle.ioam_pcap.specs.declared.turns.Due.TheVariants.{More}
 use Rattle.ioam_pcap.specs.declared.turns.Turn.{Turn}

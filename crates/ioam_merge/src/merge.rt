@@ -1,7 +1,6 @@
 //! Several captures that are merged by time.
-ghost use Rattle.std.specs.Prelude.{◌≡◌, ◌<◌, ◌+◌, ◌++◌, ◌∷◌, [], Bool, List, ℕ, None, false, IfErr, IfOk, OnOk, length, vec_len};
+ghost use Rattle.std.specs.Prelude.{◌≡◌, ◌<◌, ◌+◌, ◌++◌, ◌∷◌, [], List, None, false, IfErr, IfOk, OnOk, length, vec_len};
 ghost use Rattle.ioam_desk.specs.Asked.{IsFaultOf};
-ghost use Rattle.ioam_desk.specs.Desk.{Reading};
 ghost use Rattle.ioam_pcap.specs.Merge.{Arrival};
 ghost use Rattle.ioam_merge.specs.Merging.{Start, Merging, IsMerging, AreKnown, Shows, Turns, EndsKept};
 

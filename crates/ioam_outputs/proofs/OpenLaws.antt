@@ -167,10 +167,10 @@ pub ties_more : (tells : Bool) (start mid new : Writing) (names : List (List ℕ
     → (IsTrue tells → TiesAlone start mid names) → IsTrue tells → TiesAlone start new names
 ties_more tells start mid new names i slot name inside is opened before ties told = record {
   files = λ other outside. (opened.2 told).other_files other
-          (λ same. outside (let P : List ℕ → Type 0 = λ (x : List ℕ). Contains names x in subst P (sym same) (i, inside, sym is)))
+      (λ same. outside (let P : List ℕ → Type 0 = λ (x : List ℕ). Contains names x in subst P (sym same) (i, inside, sym is)))
       ∙ (ties told).files other outside;
   written = λ k below. (opened.2 told).other_written k
-          (λ same. absurd (omega (arith, same, below, opened.0, ap (λ (s : Side). s.slots) before)))
+      (λ same. absurd (omega (arith, same, below, opened.0, ap (λ (s : Side). s.slots) before)))
       ∙ (ties told).written k below;
 }
 

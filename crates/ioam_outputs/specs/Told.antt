@@ -1,7 +1,7 @@
 -- What was said to outputs: what was written to their slots, and behind it what is gathered for them
 -- and not yet written. Gathering adds to it, and writing leaves it as it is.
-use Rattle.std.specs.Prelude.{◌≡◌, ℕ, ◌+◌, ◌<◌, ⊤, Bool, IsTrue, List, [], ◌∷◌, ◌++◌, length, map, All, Contains, Some}
-use Rattle.ioam_desk.specs.Desk.{Side, Writing, Written}
+use Rattle.std.specs.Prelude.{◌≡◌, ℕ, ◌+◌, ◌<◌, ⊤, Bool, IsTrue, List, [], ◌∷◌, ◌++◌, map, All, Contains, Some}
+use Rattle.ioam_desk.specs.Desk.{Writing, Written}
 use Rattle.ioam_outputs.specs.declared.output.Output.{Output}
 
 -- the name is tied to the output, whose slot has this number, and this text was said to it

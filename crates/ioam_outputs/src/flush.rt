@@ -1,5 +1,5 @@
 //! Writing of gathered octets.
-ghost use Rattle.std.specs.Prelude.{◌≡◌, ◌≤◌, ◌<◌, ◌+◌, [], ℕ, List, All, IsTrue, IfErr, OnOk, drop, length, vec_len};
+ghost use Rattle.std.specs.Prelude.{◌≡◌, ◌≤◌, ◌<◌, [], ℕ, List, All, IsTrue, IfErr, OnOk, length};
 ghost use Rattle.ioam_desk.specs.Asked.{IsFaultOf};
 ghost use Rattle.ioam_outputs.specs.Flush.{Moves, KeepsTold, WritesTheirs};
 ghost use Rattle.ioam_outputs.specs.Held.{HoldTexts, HoldAllFronts};

@@ -11,9 +11,9 @@ use Rattle.ioam_pcap.specs.declared.turns.Turn.{Turn}
 use Rattle.ioam_pcap.specs.declared.turns.Turn.TheVariants.{Next, Over, Broken, Unshown}
 use Rattle.ioam_pcap.specs.Entries.{Entry}
 use Rattle.ioam_pcap.specs.Reads.{Ending, Whole, Faulty}
-use Rattle.ioam_pcap.specs.Turn.{ahead, turn_from, turn_of, IsTurn}
+use Rattle.ioam_pcap.specs.Turn.{ahead, turn_from, turn_of}
 use Rattle.ioam_pcap.specs.Merge.{Stream, due_by, due_of, turn, Arrival, stream_at, first_of, taken_at, of_capture, without_first, IsNext, CanTake, arrival_by, arrival, rest_by, rest, Takes, TakesAll}
-use Rattle.ioam_pcap.proofs.TurnLaws.{next_due, turn_says, record_time}
+use Rattle.ioam_pcap.proofs.TurnLaws.{next_due, record_time}
 
 -- The second is what the first capture shows later. Where it wasn't known how it ends, there may be
 -- more records; and its head may have become whole, where there was no record.

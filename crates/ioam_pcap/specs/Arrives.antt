@@ -1,6 +1,6 @@
 -- The records of several captures in the order in which they are taken, as far as the octets that
 -- were handed out show them.
-use Rattle.std.specs.Prelude.{◌≡◌, ℕ, ◌⊎◌, Bool, true, false, List, ◌++◌}
+use Rattle.std.specs.Prelude.{◌≡◌, ℕ, ◌⊎◌, Bool, false, List, ◌++◌}
 use Rattle.std.specs.List.{AllZip}
 use Rattle.ioam_pcap.specs.Merge.{Stream, Arrival, TakesAll}
 use Rattle.ioam_pcap.specs.Streams.{ShowsSo}

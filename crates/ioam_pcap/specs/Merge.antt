@@ -1,6 +1,6 @@
 -- Several captures merged by time: at each turn every capture that hasn't ended shows its next
 -- record; the one with the least time is taken, of several with the same time the first.
-use Rattle.std.specs.Prelude.{◌≡◌, ℕ, zero, suc, ⊤, List, [], ◌∷◌, ◌++◌, map, drop, ◌==◌, if◌then◌else◌, Option, Some, None}
+use Rattle.std.specs.Prelude.{◌≡◌, ℕ, zero, suc, ⊤, List, [], ◌∷◌, map, drop, ◌==◌, if◌then◌else◌, Option, Some, None}
 use Rattle.ioam_base.specs.Leads.{Leads}
 use Rattle.ioam_pcap.specs.Entries.{Entry}
 use Rattle.ioam_pcap.specs.Reads.{Ending, Whole, Faulty}

@@ -1,4 +1,4 @@
-ghost use Rattle.std.specs.Prelude.{◌≡◌, ◌+◌, ◌≤◌, length};
+ghost use Rattle.std.specs.Prelude.{◌+◌};
 ghost use Rattle.ioam_pcap.specs.Steps.{IsTimely, TellsEntry};
 
 use crate::capture::{CapFault, RECORD_MOST};

@@ -1,4 +1,4 @@
-ghost use Rattle.std.specs.Prelude.{◌≡◌, ◌+◌, ◌≤◌, ◌<◌, ◌^◌, ◌++◌, [], List, ℕ, length, drop, IfOk, IfSome, IsSome, MatchOption, OnErr, OnOk, vec_len};
+ghost use Rattle.std.specs.Prelude.{◌≡◌, ◌+◌, ◌≤◌, ◌<◌, ◌^◌, ◌++◌, [], List, ℕ, length, drop, IfOk, IfSome, IsSome, MatchOption, OnErr, OnOk};
 ghost use Rattle.std.specs.Borrow.{sem};
 
 use crate::capture::{CapFault, CapLook, CapStep, Packet};
@@ -30,7 +30,7 @@ pub struct CaptureReader {
 }
 
 impl Model for CaptureReader {
-    ghost use Rattle.std.specs.Prelude.{◌+◌, ◌-◌, ◌<◌, ◌≤◌, ◌^◌, drop, length, vec_len};
+    ghost use Rattle.std.specs.Prelude.{◌+◌, ◌-◌, ◌<◌, ◌≤◌, ◌^◌, drop, length};
     ghost use Rattle.ioam_pcap.specs.Reading.{Reading};
 
     ghost Value = { Reading };

@@ -1,4 +1,4 @@
-use Rattle.std.proofs.Common.{ℕ, ◌≡◌, ◌≤◌, ◌<◌, ◌-◌, vec_len, length}
+use Rattle.std.proofs.Common.{◌≡◌, ◌≤◌, ◌<◌, ◌-◌, vec_len, length}
 use Rattle.ioam_desk.specs.Whole.{Hands}
 use Rattle.ioam_desk.proofs.whole.read_slot.Given as goal
 

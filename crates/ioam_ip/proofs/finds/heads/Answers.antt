@@ -1,4 +1,4 @@
-use Rattle.std.proofs.Common.{List, ℕ, length, sym, subst}
+use Rattle.std.proofs.Common.{length, sym, subst}
 use Rattle.std.specs.List.{All}
 use Rattle.ioam_ip.specs.ChainOptions.{HeadFits}
 use Rattle.ioam_ip.specs.HeadsLeft.{AreHeads, heads_from}
