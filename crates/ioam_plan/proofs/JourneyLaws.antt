@@ -1,5 +1,5 @@
 -- Laws of journeys.
-use Rattle.std.proofs.Common.{◌≡◌, ℕ, true, false, List, [], ◌∷◌, ◌++◌, Some, Ok, Err, IsOk, slice_get, refl, sym, ap, ◌∙◌, subst}
+use Rattle.std.proofs.Common.{◌≡◌, ℕ, true, false, List, [], ◌∷◌, ◌++◌, Some, Ok, Err, IsOk, slice_get, refl, sym, ◌∙◌, subst}
 use Rattle.ioam_base.specs.Leads.{Leads}
 use Rattle.ioam_base.proofs.LeadsLaws.{Leads-push, Leads-unique}
 use Rattle.ioam_topo.specs.declared.domain.Domain.{Domain}

@@ -1,5 +1,5 @@
 -- What is planned for a frame is one thing only.
-use Rattle.std.proofs.Common.{◌≡◌, ℕ, List, Result, Ok, Err, IfOk, Option, Some, None, IsSomeAnd, slice_get, length, sym, ◌∙◌, ap, subst}
+use Rattle.std.proofs.Common.{◌≡◌, ℕ, List, Result, Ok, Err, IfOk, Option, Some, None, IsSomeAnd, slice_get, length, sym, ◌∙◌, subst}
 use Rattle.ioam_topo.specs.declared.domain.Domain.{Domain}
 use Rattle.ioam_topo.specs.declared.parts.Port.{Port}
 use Rattle.ioam_topo.specs.declared.ids.PortId.{PortId}
@@ -10,7 +10,7 @@ use Rattle.ioam_plan.specs.declared.itinerary.Visit.{Visit}
 use Rattle.ioam_plan.specs.declared.itinerary.End.{End}
 use Rattle.ioam_plan.specs.declared.itinerary.Itinerary.{Itinerary}
 use Rattle.ioam_plan.specs.Journey.{Journey}
-use Rattle.ioam_plan.specs.Plans.{Plans, PlansBy, PlansPacket, PlansDrop, start_of}
+use Rattle.ioam_plan.specs.Plans.{Plans, PlansBy, PlansPacket, start_of}
 use Rattle.ioam_plan.proofs.JourneyLaws.{Journey-unique}
 
 module _ (domain : Domain) (time : ℕ) (visits others : List Visit) (end other : End) where

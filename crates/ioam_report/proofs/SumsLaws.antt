@@ -15,7 +15,7 @@ use Rattle.ioam_plan.specs.declared.itinerary.End.{End}
 use Rattle.ioam_plan.specs.declared.itinerary.End.TheVariants.{Left, Drop}
 use Rattle.ioam_report.specs.declared.sums.NodeSum.{NodeSum}
 use Rattle.ioam_report.specs.declared.sums.Sums.{Sums}
-use Rattle.ioam_report.specs.Sums.{is_at, has_left, is_dropped, is_dropped_at, seen_of, node_sum, IsEndBelow, StandFor, Raised}
+use Rattle.ioam_report.specs.Sums.{is_at, has_left, is_dropped, is_dropped_at, seen_of, node_sum, StandFor, Raised}
 use Rattle.ioam_report.specs.SumsText.{packets_line, node_line, node_lines, sums_text, arrivals_text}
 
 abbrev sum_of : ℕ → ℕ → NodeSum

@@ -1,4 +1,4 @@
-use Rattle.std.proofs.Common.{rules, ◌≡◌, ℕ, ◌+◌, ◌≤◌, ◌<◌, ◌^◌, ◌*◌, ◌∙◌, sym, ap, arith, Ok, Some}
+use Rattle.std.proofs.Common.{◌≡◌, ◌∙◌, sym, ap, arith, Ok}
 use Rattle.ioam_plan.specs.declared.spot.Spot.{Spot}
 use Rattle.ioam_topo.specs.declared.ids.Way.TheVariants as way
 use Rattle.ioam_plan.specs.Journey.{way_at, At}

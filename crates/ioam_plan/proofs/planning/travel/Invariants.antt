@@ -1,10 +1,10 @@
-use Rattle.std.proofs.Common.{◌≡◌, ◌+◌, ◌≤◌, ◌<◌, ◌^◌, ◌*◌, IfOk, length, ℕ, ◌-◌}
+use Rattle.std.proofs.Common.{◌+◌, ◌≤◌, ◌<◌, length}
 use Rattle.std.specs.Prelude.{All}
 use Rattle.ioam_topo.specs.Domain.{nodes}
 use Rattle.ioam_plan.specs.Inside.{IsVisitOf}
 use Rattle.ioam_base.specs.Leads.{Leads}
-use Rattle.ioam_plan.specs.Journey.{Journey, At, CanSend, visit_at, next_stage}
-use Rattle.ioam_plan.specs.Steps.{Steps, IsInTime}
+use Rattle.ioam_plan.specs.Journey.{At, CanSend, visit_at, next_stage}
+use Rattle.ioam_plan.specs.Steps.{IsInTime}
 use Rattle.ioam_plan.proofs.planning.travel.Given as goal
 
 -- the visits so far lead to the spot

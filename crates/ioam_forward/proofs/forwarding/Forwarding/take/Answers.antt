@@ -30,10 +30,10 @@ pub returns-clause-gathers : goal.returns-clause-gathers
 returns-clause-gathers c =
     let P : Bool → Type 0 = λ cut. IsSomeAnd (slice_get (ports c.args.domain.now) c.args.port.0)
     (λ at. Admits c.args.domain.now at.node.0 (framing_of c.args.ethernet cut c.args.record.now.octets.now) c.admit-admitted.result) in (
-  added_by c.args.domain.now (c.args.self.now.sums.packets + 1)
-      (record { port = c.args.port; packet = packet_of c.admit-admitted.result; visits = c.in_ok-itinerary.itinerary.visits; end = c.in_ok-itinerary.itinerary.end }),
-  c.in_ok-put_fate.ensures,
-  Forwards-push c.args.domain.now _ _ c.args.self.now _ (c.args.self.now.sums.packets + 1) refl
-      (record { answer = c.admit-admitted.result; answered = subst P c.is_cut.ensures c.admit-admitted.ensures.admits; plans = c.in_ok-itinerary.ensures.plans; port = refl; packet = refl })
-      (c.note.ensures c.args.domain.now),
-)
+      added_by c.args.domain.now (c.args.self.now.sums.packets + 1)
+          (record { port = c.args.port; packet = packet_of c.admit-admitted.result; visits = c.in_ok-itinerary.itinerary.visits; end = c.in_ok-itinerary.itinerary.end }),
+      c.in_ok-put_fate.ensures,
+      Forwards-push c.args.domain.now _ _ c.args.self.now _ (c.args.self.now.sums.packets + 1) refl
+          (record { answer = c.admit-admitted.result; answered = subst P c.is_cut.ensures c.admit-admitted.ensures.admits; plans = c.in_ok-itinerary.ensures.plans; port = refl; packet = refl })
+          (c.note.ensures c.args.domain.now),
+    )
