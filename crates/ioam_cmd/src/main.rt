@@ -1,15 +1,12 @@
 //! `ioam`: packets with In Situ OAM (RFC 9197), read from and written to packet captures.
 #![tactic(auto)]
 
-mod answer;
 mod command;
 mod program;
-mod words;
 
-use answer::{line, status};
+use ioam_answer::{Outcome, line, status};
 use ioam_base::memory::NoMemory;
 use ioam_desk::{HostDesk, Name};
-use ioam_run::Outcome;
 use program::ioam;
 use std::env;
 use std::io::ErrorKind;

@@ -5,13 +5,14 @@ ghost use Rattle.ioam_cmd.specs.Words.{IsForm, IsNoForm};
 ghost use Rattle.ioam_cmd.specs.declared.command.Command.{Command};
 ghost use Rattle.ioam_desk.specs.Desk.{Rose};
 ghost use Rattle.ioam_desk.specs.SureDesk.{reading_of, writing_of};
-ghost use Rattle.ioam_run.specs.Run.{IsDone};
-ghost use Rattle.ioam_run.specs.declared.outcome.Outcome.{Outcome};
+ghost use Rattle.ioam_answer.specs.Outcomes.{IsDone};
+ghost use Rattle.ioam_answer.specs.declared.outcome.Outcome.{Outcome};
 
 use crate::command::{Command, parse};
+use ioam_answer::Outcome;
 use ioam_desk::{Desk, Name, SureDesk};
 use ioam_domain::run_domain;
-use ioam_run::{Outcome, run_filter, run_paths};
+use ioam_run::{run_filter, run_paths};
 use std::alloc::Global;
 
 /// Runs the command that the words ask for over a desk, and answers.

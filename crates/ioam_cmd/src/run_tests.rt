@@ -1,9 +1,8 @@
 //! Runs of whole domains over desks in memory. Octets and texts are written out by the rules.
-use crate::answer::line;
 use crate::program::{ioam, ioam_surely};
+use ioam_answer::{Outcome, line};
 use ioam_base::memory::NoMemory;
 use ioam_desk::{MemoryDesk, Name, SureDesk};
-use ioam_run::Outcome;
 use std::alloc::Global;
 
 /// The head of each capture that is written: big-endian, nanoseconds, version 2.4, link type 101.

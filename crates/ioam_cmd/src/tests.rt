@@ -1,9 +1,8 @@
 //! Whole runs over desks in memory. Octets are written out by the formats' own tables.
-use crate::answer::line;
 use crate::program::{ioam, ioam_surely};
+use ioam_answer::{Outcome, line};
 use ioam_base::memory::NoMemory;
 use ioam_desk::{MemoryDesk, Name, SureDesk};
-use ioam_run::Outcome;
 use std::alloc::Global;
 
 /// The head of each capture that is written: big-endian, nanoseconds, version 2.4, link type 101.

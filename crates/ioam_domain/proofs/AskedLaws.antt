@@ -8,8 +8,8 @@ use Rattle.ioam_outputs.specs.Names.{AreApart, IsFirstRepeat, name_at}
 use Rattle.ioam_pcap.specs.declared.capture.CapFault.{CapFault}
 use Rattle.ioam_pcap.specs.declared.turns.Turn.{Turn}
 use Rattle.ioam_pcap.specs.declared.turns.Turn.TheVariants.{Over, Broken}
-use Rattle.ioam_run.specs.declared.outcome.Outcome.{Outcome}
-use Rattle.ioam_run.specs.declared.outcome.Outcome.TheVariants as outcome
+use Rattle.ioam_answer.specs.declared.outcome.Outcome.{Outcome}
+use Rattle.ioam_answer.specs.declared.outcome.Outcome.TheVariants as outcome
 use Rattle.ioam_topo.specs.File.{Agree}
 use Rattle.ioam_topo.specs.declared.domain.Domain.{Domain}
 use Rattle.ioam_domain.specs.Run.{HasCause, Asked, IsSet, IsReady, Arrives, Exceeds, contents, run_files, run_inputs}

@@ -5,9 +5,9 @@ use Rattle.ioam_ip.specs.Clean.{IsClean}
 use Rattle.ioam_forward.proofs.CleanLaws.{outs-clean}
 use Rattle.ioam_pcap.specs.Merge.{Arrival}
 use Rattle.ioam_pcap.specs.Text.{IsCaptureOf}
-use Rattle.ioam_run.specs.Run.{IsBehindAll}
-use Rattle.ioam_run.specs.declared.outcome.Outcome.{Outcome}
-use Rattle.ioam_run.specs.declared.outcome.Outcome.TheVariants as outcome
+use Rattle.ioam_answer.specs.Outcomes.{IsBehindAll}
+use Rattle.ioam_answer.specs.declared.outcome.Outcome.{Outcome}
+use Rattle.ioam_answer.specs.declared.outcome.Outcome.TheVariants as outcome
 use Rattle.ioam_topo.specs.declared.domain.Domain.{Domain}
 use Rattle.ioam_traffic.specs.Traffic.{frames_of}
 use Rattle.ioam_domain.specs.Run.{HoldsFiles, IsReady, Leaves, IsBounded, course_for}

@@ -8,9 +8,9 @@ use Rattle.ioam_outputs.specs.Names.{AreApart, name_at}
 use Rattle.ioam_merge.specs.Merging.{EndsKept, PartsArrive, start_of}
 use Rattle.ioam_pcap.specs.Merge.{Arrival}
 use Rattle.ioam_pcap.specs.declared.turns.Turn.TheVariants as turn
-use Rattle.ioam_run.specs.declared.outcome.Outcome.{Outcome}
-use Rattle.ioam_run.specs.declared.outcome.Outcome.TheVariants as outcome
-use Rattle.ioam_run.specs.Run.{IsDone}
+use Rattle.ioam_answer.specs.declared.outcome.Outcome.{Outcome}
+use Rattle.ioam_answer.specs.declared.outcome.Outcome.TheVariants as outcome
+use Rattle.ioam_answer.specs.Outcomes.{IsDone}
 use Rattle.ioam_setting.proofs.NamesLaws.{apart-words}
 use Rattle.ioam_setting.specs.Names.{input_ports}
 use Rattle.ioam_setting.specs.Setting.{Refuses}

@@ -5,7 +5,7 @@ use Rattle.std.proofs.lemmas.Option.{none-some, same_Some}
 use Rattle.std.proofs.lemmas.List.{get_or_default}
 use Rattle.ioam_desk.specs.Desk.{Reading, Writing}
 use Rattle.ioam_outputs.specs.Names.{AreApart, IsFirstRepeat, name_at}
-use Rattle.ioam_run.specs.declared.outcome.Outcome.TheVariants as outcome
+use Rattle.ioam_answer.specs.declared.outcome.Outcome.TheVariants as outcome
 use Rattle.ioam_setting.specs.Names.{output_names, file_names}
 use Rattle.ioam_topo.specs.declared.domain.Domain.{Domain}
 use Rattle.ioam_topo.specs.declared.parts.Port.{Port}

@@ -1,7 +1,7 @@
 ghost use Rattle.std.specs.Prelude.{◌≡◌};
 ghost use Rattle.ioam_domain.specs.Ends.{refused_as};
 
-use ioam_run::Outcome;
+use ioam_answer::Outcome;
 use ioam_setting::Refusal;
 
 /// The answer to a refusal of the domain file or of the readings.

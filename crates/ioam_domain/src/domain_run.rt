@@ -4,8 +4,8 @@ ghost use Rattle.ioam_desk.specs.Asked.{AsksFront};
 ghost use Rattle.ioam_desk.specs.Desk.{Rose, opened_each};
 ghost use Rattle.ioam_merge.specs.Merging.{EndsKept};
 ghost use Rattle.ioam_outputs.specs.Names.{AreApart};
-ghost use Rattle.ioam_run.specs.Run.{IsDone, IsBehindAll};
-ghost use Rattle.ioam_run.specs.declared.outcome.Outcome.{Outcome};
+ghost use Rattle.ioam_answer.specs.Outcomes.{IsDone, IsBehindAll};
+ghost use Rattle.ioam_answer.specs.declared.outcome.Outcome.{Outcome};
 ghost use Rattle.ioam_setting.specs.Setting.{IsSetting, Refuses};
 ghost use Rattle.ioam_setting.specs.declared.setting.Refusal.{Refusal};
 ghost use Rattle.ioam_topo.specs.Domain.{ports};
@@ -14,10 +14,10 @@ ghost use Rattle.ioam_domain.specs.Ends.{Ends};
 ghost use Rattle.ioam_domain.specs.Run.{HasCause, Asked, Leaves, AsksIn, AsksOut, AreDrained, IsBounded, IsRefusal, Owes, HaveDiffered, domain_file, readings_file, report_file, exports_file, run_files, run_inputs, run_outputs};
 
 use crate::answer::refused;
+use ioam_answer::Outcome;
 use ioam_base::memory::NoMemory;
 use ioam_desk::{Desk, Name};
 use ioam_outputs::first_repeat;
-use ioam_run::Outcome;
 use ioam_setting::{
     Refusal, Setting, file_names, input_names, input_ports, output_names, read_setting,
 };

@@ -14,12 +14,13 @@ use Rattle.ioam_outputs.specs.Names.{AreApart, IsFirstRepeat, name_at}
 use Rattle.ioam_pcap.specs.Text.{Sends, IsCaptureOf}
 use Rattle.ioam_pcap.specs.declared.form.Link.{Link}
 use Rattle.ioam_run.specs.FilterText.{Filtered, FilterTexts, kept_of}
-use Rattle.ioam_run.specs.Run.{HasCause, Asked, IsInput, IsLong, HoldsAll, EndsSo, ArePassed, AreWhole, Leaves, IsBehindAll, output_names}
+use Rattle.ioam_answer.specs.Outcomes.{IsBehindAll}
+use Rattle.ioam_run.specs.Run.{HasCause, Asked, IsInput, IsLong, HoldsAll, EndsSo, ArePassed, AreWhole, Leaves, output_names}
 use Rattle.ioam_pcap.specs.Link.{is_ethernet}
 use Rattle.ioam_run.specs.Verdict.{Verdict, Keeps, Drops, FramingVerdict, AreVerdicts}
 use Rattle.ioam_node.specs.declared.reason.Reason.{Reason}
-use Rattle.ioam_run.specs.declared.outcome.Outcome.{Outcome}
-use Rattle.ioam_run.specs.declared.outcome.Outcome.TheVariants as outcome
+use Rattle.ioam_answer.specs.declared.outcome.Outcome.{Outcome}
+use Rattle.ioam_answer.specs.declared.outcome.Outcome.TheVariants as outcome
 
 not_apart : (names : List (List ℕ)) (at : ℕ) → IsFirstRepeat names at → AreApart names → ⊥
 not_apart names at first apart = apart at first.inside first.repeats

@@ -13,8 +13,8 @@ use Rattle.ioam_pcap.specs.Reads.{Whole, Faulty}
 use Rattle.ioam_run.specs.Run.{HoldsAll, HoldsFronts, EndsSo, ArePassed, AreWhole, IsInput, IsLong, FileCause, Leaves}
 use Rattle.ioam_pcap.specs.Link.{is_ethernet}
 use Rattle.ioam_run.specs.Streams.{Start, Halts, Fronts, Sticks, Stops, Finishes, IsBroken}
-use Rattle.ioam_run.specs.declared.outcome.Outcome.{Outcome}
-use Rattle.ioam_run.specs.declared.outcome.Outcome.TheVariants as outcome
+use Rattle.ioam_answer.specs.declared.outcome.Outcome.{Outcome}
+use Rattle.ioam_answer.specs.declared.outcome.Outcome.TheVariants as outcome
 use Rattle.ioam_run.proofs.HaltsLaws.{held_map}
 use Rattle.ioam_run.proofs.StopsLaws.{Begins, begins_ends, begins_passed, begins_whole, Halts-sticks}
 

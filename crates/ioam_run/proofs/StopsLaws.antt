@@ -17,8 +17,8 @@ use Rattle.ioam_outputs.proofs.ToldLaws.{told_names}
 use Rattle.ioam_run.specs.Run.{EndsSo, AreFirst, ArePassed, AreWhole, outcome_of}
 use Rattle.ioam_pcap.specs.Link.{is_ethernet}
 use Rattle.ioam_run.specs.Streams.{Start, Streams, Halts, Fronts, Sticks, Stops}
-use Rattle.ioam_run.specs.declared.outcome.Outcome.{Outcome}
-use Rattle.ioam_run.specs.declared.outcome.Outcome.TheVariants as outcome
+use Rattle.ioam_answer.specs.declared.outcome.Outcome.{Outcome}
+use Rattle.ioam_answer.specs.declared.outcome.Outcome.TheVariants as outcome
 use Rattle.ioam_run.proofs.HaltsLaws.{held_map}
 use Rattle.ioam_run.proofs.OnwardLaws.{reached_first}
 

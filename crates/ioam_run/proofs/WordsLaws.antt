@@ -5,8 +5,8 @@ use Rattle.std.proofs.lemmas.List.Elements.{Contains-append_right}
 use Rattle.ioam_desk.specs.Desk.{Reading, Writing}
 use Rattle.ioam_run.specs.Run.{HasCause, FileCause, file_names, output_names}
 use Rattle.ioam_outputs.specs.Names.{name_at, AreApart, IsFirstRepeat}
-use Rattle.ioam_run.specs.declared.outcome.Outcome.{Outcome}
-use Rattle.ioam_run.specs.declared.outcome.Outcome.TheVariants as outcome
+use Rattle.ioam_answer.specs.declared.outcome.Outcome.{Outcome}
+use Rattle.ioam_answer.specs.declared.outcome.Outcome.TheVariants as outcome
 
 -- the slice behind the command
 pub names_behind : (words : List (List ℕ)) → take (length words - 1) (drop 1 words) ≡ file_names words

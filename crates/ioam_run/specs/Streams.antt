@@ -16,8 +16,8 @@ use Rattle.ioam_run.specs.Run.{most_packets, HoldsAll, EndsSo, AreFirst, ArePass
 use Rattle.ioam_run.specs.declared.step.Pause.{Pause}
 use Rattle.ioam_run.specs.declared.step.Pause.TheVariants as pause
 use Rattle.ioam_run.specs.declared.stream.Stream.{Stream}
-use Rattle.ioam_run.specs.declared.outcome.Outcome.{Outcome}
-use Rattle.ioam_run.specs.declared.outcome.Outcome.TheVariants as outcome
+use Rattle.ioam_answer.specs.declared.outcome.Outcome.{Outcome}
+use Rattle.ioam_answer.specs.declared.outcome.Outcome.TheVariants as outcome
 
 -- where a run began: what IN holds, the number of the first output's slot, and the outputs' names
 pub record Start : Type 0 where

@@ -6,12 +6,13 @@ ghost use Rattle.ioam_desk.specs.Asked.{AsksFront};
 ghost use Rattle.ioam_desk.specs.Desk.{Rose, holds};
 ghost use Rattle.ioam_outputs.specs.Names.{name_at};
 ghost use Rattle.ioam_run.specs.FilterText.{FilterTexts};
-ghost use Rattle.ioam_run.specs.Run.{HasCause, Asked, Leaves, IsDone, IsBehindAll, OpensNothing, file_names, input_name, output_names};
-ghost use Rattle.ioam_run.specs.declared.outcome.Outcome.{Outcome};
+ghost use Rattle.ioam_answer.specs.Outcomes.{IsDone, IsBehindAll, OpensNothing};
+ghost use Rattle.ioam_run.specs.Run.{HasCause, Asked, Leaves, file_names, input_name, output_names};
+ghost use Rattle.ioam_answer.specs.declared.outcome.Outcome.{Outcome};
 
 use crate::filtering::Filtering;
-use crate::outcome::Outcome;
 use crate::over_capture::run_over_capture;
+use ioam_answer::Outcome;
 use ioam_desk::{Desk, Name};
 use std::alloc::Global;
 

@@ -1,21 +1,20 @@
-//! The commands over one capture, `filter` and `paths`, and what every command answers.
+//! The commands over one capture, `filter` and `paths`.
 //!
 //! A record's way: `run_over_capture` looks at the names and opens the files, `read_on` reads pieces,
 //! `step` takes a record, and the command's `Gather` adds what it says of it to each output.
 #![tactic(auto)]
 
+mod ending;
 mod filter;
 mod filtering;
 mod frame;
 mod gather;
 mod judge;
 mod listing;
-mod outcome;
 mod over_capture;
 mod paths;
 mod step;
 mod stream;
 
 pub use filter::run_filter;
-pub use outcome::Outcome;
 pub use paths::run_paths;

@@ -6,12 +6,13 @@ ghost use Rattle.ioam_feed.specs.Feed.{Fed};
 ghost use Rattle.ioam_outputs.specs.Names.{AreApart};
 ghost use Rattle.ioam_outputs.specs.Told.{AreTold, unsaid};
 ghost use Rattle.ioam_pcap.specs.Reader.{fresh};
-ghost use Rattle.ioam_run.specs.Run.{HasCause, FileCause, Leaves, IsDone, OpensNothing, file_names, input_name, output_names};
+ghost use Rattle.ioam_answer.specs.Outcomes.{IsDone, OpensNothing};
+ghost use Rattle.ioam_run.specs.Run.{HasCause, FileCause, Leaves, file_names, input_name, output_names};
 ghost use Rattle.ioam_run.specs.Streams.{Start, Finishes, IsBroken};
 
 use crate::gather::Gather;
-use crate::outcome::{Outcome, names_outcome};
 use crate::stream::{Stream, read_on, write_rest};
+use ioam_answer::{Outcome, names_outcome};
 use ioam_base::memory::NoMemory;
 use ioam_desk::{Desk, DeskFault, Name, PIECE};
 use ioam_feed::{Feed, open_feed};

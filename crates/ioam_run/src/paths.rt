@@ -3,12 +3,13 @@ ghost use Rattle.std.specs.Prelude.{◌≡◌, ◌⊎◌, ◌∷◌, [], IsTrue,
 ghost use Rattle.ioam_desk.specs.Asked.{AsksFront};
 ghost use Rattle.ioam_desk.specs.Desk.{Rose};
 ghost use Rattle.ioam_run.specs.PathsText.{PathsTexts};
-ghost use Rattle.ioam_run.specs.Run.{HasCause, Asked, Leaves, IsDone, OpensNothing, file_names, input_name, output_names};
-ghost use Rattle.ioam_run.specs.declared.outcome.Outcome.{Outcome};
+ghost use Rattle.ioam_answer.specs.Outcomes.{IsDone, OpensNothing};
+ghost use Rattle.ioam_run.specs.Run.{HasCause, Asked, Leaves, file_names, input_name, output_names};
+ghost use Rattle.ioam_answer.specs.declared.outcome.Outcome.{Outcome};
 
 use crate::listing::Listing;
-use crate::outcome::Outcome;
 use crate::over_capture::run_over_capture;
+use ioam_answer::Outcome;
 use ioam_desk::{Desk, Name};
 use std::alloc::Global;
 

@@ -6,9 +6,10 @@ ghost use Rattle.ioam_outputs.specs.Told.{AreTold, AreOpen, said_more};
 ghost use Rattle.ioam_pcap.specs.Reader.{fed};
 ghost use Rattle.ioam_run.specs.Streams.{Start, IsStreaming, Pauses, Sticks, Stops};
 
+use crate::ending::end_outcome;
 use crate::gather::Gather;
-use crate::outcome::{Outcome, capture_outcome, end_outcome};
 use crate::step::{MOST_PACKETS, Pause, step};
+use ioam_answer::{Outcome, capture_outcome};
 use ioam_base::memory::NoMemory;
 use ioam_desk::{Desk, DeskFault, Name, PIECE};
 use ioam_feed::Feed;

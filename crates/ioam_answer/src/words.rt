@@ -1,6 +1,6 @@
 //! The words for faults of the domain file and of readings.
 ghost use Rattle.std.specs.Prelude.{◌≡◌};
-ghost use Rattle.ioam_cmd.specs.Answers.{table_text, field_text, why_text, read_why_text};
+ghost use Rattle.ioam_answer.specs.Answers.{table_text, field_text, why_text, read_why_text};
 
 use ioam_clock::ReadWhy;
 use ioam_topo::{Field, Table, Why};

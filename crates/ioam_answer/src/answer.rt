@@ -1,12 +1,12 @@
 //! The exit status and the line of an answer.
 ghost use Rattle.std.specs.Prelude.{◌≡◌, ◌++◌, IfOk, codes, decimal, string_bytes};
-ghost use Rattle.ioam_cmd.specs.Answers.{status_of, line_text, domain_text, readings_text, fault_text};
+ghost use Rattle.ioam_answer.specs.Answers.{status_of, line_text, domain_text, readings_text, fault_text};
 
+use crate::outcome::Outcome;
 use crate::words::{field_text, read_why_text, table_text, why_text};
 use ioam_base::memory::NoMemory;
 use ioam_clock::ReadingsFault;
 use ioam_pcap::CapFault;
-use ioam_run::Outcome;
 use ioam_topo::DomainFault;
 use std::alloc::Global;
 

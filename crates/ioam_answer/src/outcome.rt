@@ -1,6 +1,4 @@
 ghost use Rattle.std.specs.Prelude.{◌≡◌, ◌⊎◌};
-ghost use Rattle.ioam_pcap.specs.Reader.{ending_of as ending};
-ghost use Rattle.ioam_run.specs.Run.{outcome_of};
 
 use ioam_clock::ReadingsFault;
 use ioam_desk::Name;
@@ -8,7 +6,7 @@ use ioam_pcap::CapFault;
 use ioam_topo::DomainFault;
 use std::alloc::Global;
 
-/// What a run answers. `status` of `ioam_cmd` gives each its exit status.
+/// What a command answers. [`status`](crate::status) gives each its exit status.
 #[derive(Debug, Drop)]
 pub enum Outcome {
     /// Every input was read to its end and every output written.
@@ -62,15 +60,5 @@ pub fn capture_outcome(alloc: Global, name: &Name, at: u64, fault: CapFault) -> 
     match Name::new(alloc, name.text()) {
         Ok(name) => Outcome::Capture { name, at, fault },
         Err(_) => Outcome::NoMemory,
-    }
-}
-
-/// The answer behind all records of a capture, of which the last may be cut.
-pub fn end_outcome(alloc: Global, name: &Name, cut: Option<(u64, CapFault)>) -> Outcome
-    ensures { (result ≡ outcome_of name.now (ending cut)) ⊎ (result ≡ Outcome.NoMemory) }
-{
-    match cut {
-        Some((at, fault)) => capture_outcome(alloc, name, at, fault),
-        None => Outcome::Done,
     }
 }

@@ -12,8 +12,8 @@ use Rattle.ioam_topo.specs.declared.words.Field.{Field}
 use Rattle.ioam_topo.specs.declared.words.Field.TheVariants as field
 use Rattle.ioam_topo.specs.declared.words.Table.{Table}
 use Rattle.ioam_topo.specs.declared.words.Table.TheVariants as table
-use Rattle.ioam_run.specs.declared.outcome.Outcome.{Outcome}
-use Rattle.ioam_run.specs.declared.outcome.Outcome.TheVariants.{Done, Usage, Names, Domain, Readings, Capture, Packets, ReadFault, WriteFault, NoMemory}
+use Rattle.ioam_answer.specs.declared.outcome.Outcome.{Outcome}
+use Rattle.ioam_answer.specs.declared.outcome.Outcome.TheVariants.{Done, Usage, Names, Domain, Readings, Capture, Packets, ReadFault, WriteFault, NoMemory}
 
 -- 6 and 8 are kept for the answers of commands to come
 abbrev pub status_of : Outcome → ℕ

@@ -1,0 +1,19 @@
+ghost use Rattle.std.specs.Prelude.{◌≡◌, ◌⊎◌};
+ghost use Rattle.ioam_answer.specs.declared.outcome.Outcome.{Outcome};
+ghost use Rattle.ioam_pcap.specs.Reader.{ending_of as ending};
+ghost use Rattle.ioam_run.specs.Run.{outcome_of};
+
+use ioam_answer::{Outcome, capture_outcome};
+use ioam_desk::Name;
+use ioam_pcap::CapFault;
+use std::alloc::Global;
+
+/// The answer behind all records of a capture, of which the last may be cut.
+pub fn end_outcome(alloc: Global, name: &Name, cut: Option<(u64, CapFault)>) -> Outcome
+    ensures { (result ≡ outcome_of name.now (ending cut)) ⊎ (result ≡ Outcome.NoMemory) }
+{
+    match cut {
+        Some((at, fault)) => capture_outcome(alloc, name, at, fault),
+        None => Outcome::Done,
+    }
+}
