@@ -153,7 +153,8 @@ pub(crate) fn address_of(text: &[u8]) -> Option<u128>
 
 /// The IPv6 address at a key that is needed: eight groups of one to four hexadecimal digits with
 /// `:` between them, where `::` may stand once for one or more groups of zero (RFC 4291 section
-/// 2.2). There is no dotted form and no zone. The first group is the most significant.
+/// 2.2). There is no dotted form and no zone. The first group is the most significant. Missing
+/// where the key is absent, Kind where it is no text, Range where the text is no address.
 pub fn address(entry: &Table, key: &str) -> Result<u128, Why>
     ensures { result ≡ needed address (get_member key.now (table_view entry.now)) }
 {
