@@ -2,3 +2,4 @@ mod NumberLaws
 mod TrackLaws
 mod LineLaws
 mod ReadingLaws
+mod FileLaws

@@ -4,4 +4,5 @@ pub mod Numbers
 pub mod Samples
 pub mod Reading
 pub mod Adding
+pub mod File
 pub mod Stamp

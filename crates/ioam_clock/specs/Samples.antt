@@ -1,7 +1,7 @@
 -- The samples of a node, the oldest first.
-use Rattle.std.specs.Prelude.{◌≡◌, ℕ, ◌+◌, ◌-◌, ◌<◌, ◌^◌, Bool, true, false, nat_lt, nat_le, List, length, filter, Option, All, slice_get, option_map}
+use Rattle.std.specs.Prelude.{◌≡◌, ℕ, ◌+◌, ◌-◌, ◌<◌, ◌^◌, Bool, true, false, nat_lt, nat_le, List, length, filter, Option, All, slice_get, option_map, IfSome, slice_index_or}
 use Rattle.std.specs.Option.{option_map_or}
-use Rattle.std.specs.List.Sorted.{IsNonDecreasingBy, IsPartitionPoint}
+use Rattle.std.specs.List.Sorted.{IsPartitionPoint}
 use Rattle.ioam_clock.specs.declared.sample.Sample.{Sample}
 
 -- the last of a list
@@ -27,10 +27,15 @@ follows samples sample = option_map_or (λ before. nat_lt before.time sample.tim
 pub record IsSmall (sample : Sample) : Type 0 where
   pub time : sample.time < 2 ^ 63
   pub clock : sample.clock < 2 ^ 63
+  pub delay : IfSome sample.delay (λ delay. delay < 2 ^ 63)
 
--- times that don't fall, and numbers in their ranges
+-- the time of each is before that of any behind it
+abbrev pub Rise : List Sample → Type 0
+Rise samples = (i j : ℕ) (d : Sample) → i < j → j < length samples → (slice_index_or samples i d).time < (slice_index_or samples j d).time
+
+-- times that rise, and numbers in their ranges
 pub record AreSamples (samples : List Sample) : Type 0 where
-  pub rising : IsNonDecreasingBy (λ sample. sample.time) samples
+  pub rising : Rise samples
   pub small : All IsSmall samples
 
 -- so many samples aren't after a time, and the rest is

@@ -1,10 +1,9 @@
-use crate::domain_tests::NODES;
-use crate::fault_tests::{first_wrong, has_fault, joined};
+use crate::domain_tests::{NODES, domain};
+use crate::fault_tests::{has_fault, joined};
 use ioam_base::memory::NoMemory;
 use ioam_data::Namespace;
 use ioam_topo::{Domain, NodeData, NodeId, read_domain};
 use std::alloc::Global;
-use std::process::Abort;
 
 // The data of two nodes: their greatest numbers, digits in either case, and a snapshot of nothing.
 const DATA: &str = "data = [
@@ -16,7 +15,7 @@ const DATA: &str = "data = [
 ";
 
 // Each row is a fault, and behind ` # ` node data of two nodes of which it is the first.
-const OF_DATA: &str =
+pub(crate) const OF_DATA: &str =
     "table: DataTable, place: 1, field: OtherKey, why: Unknown # data = [{ colour = 1 }]|\
 table: DataTable, place: 1, field: OtherKey, why: Unknown # data = [{ node = 1, namespaces = [7] }]|\
 table: DataTable, place: 1, field: NodeKey, why: Missing # data = [{ namespace = -1 }]|\
@@ -198,47 +197,35 @@ fn has_snapshot(row: Option<&NodeData>, wanted: &[u8]) -> bool {
     }
 }
 
-// The domain of two nodes with these data.
-fn domain<R: Abort + AllocGlobal>(rt: &R, data: &str) -> Domain {
-    let file = joined(rt.alloc(), [NODES, data, "", ""]).expect(rt, "there is memory");
-    read_domain(rt.alloc(), file.as_bytes()).expect(rt, "the domain is read")
+// Whether the nodes have these data, and no others.
+fn has_data(domain: &Domain) -> bool {
+    let greatest = domain.node_data(NodeId(0), Namespace(7));
+    let spelled = domain.node_data(NodeId(1), Namespace(7));
+    let empty = domain.node_data(NodeId(0), Namespace(65535));
+    let least = domain.node_data(NodeId(0), Namespace(0));
+    has_numbers(
+        greatest,
+        (Some(4_294_967_295), Some(9_223_372_036_854_775_807), None),
+    ) && has_numbers(spelled, (None, None, Some(16_777_214)))
+        && has_snapshot(spelled, &SPELLED)
+        && has_numbers(empty, (None, None, Some(0)))
+        && has_snapshot(empty, &[])
+        && has_numbers(least, (Some(0), Some(0), None))
+        && has_no_others(domain)
 }
 
-#[test]
-fn names_the_first_fault_of_node_data(rt: HostRuntime) {
-    let wrong = first_wrong(rt.alloc(), NODES, "", "", OF_DATA);
-    assert!(rt; wrong.is_none());
+// Whether no node has data besides those.
+fn has_no_others(domain: &Domain) -> bool {
+    domain.data().len() == 4
+        && domain.node_data(NodeId(0), Namespace(8)).is_none()
+        && domain.node_data(NodeId(1), Namespace(0)).is_none()
+        && domain.node_data(NodeId(2), Namespace(7)).is_none()
 }
 
 #[test]
 fn reads_node_data(rt: HostRuntime) {
-    let domain = domain(&rt, DATA);
-    let row = domain.node_data(NodeId(0), Namespace(7));
-    assert!(rt;
-        has_numbers(
-            row,
-            (Some(4_294_967_295), Some(9_223_372_036_854_775_807), None)
-        )
-    );
-    let row = domain.node_data(NodeId(1), Namespace(7));
-    assert!(rt; has_numbers(row, (None, None, Some(16_777_214))) && has_snapshot(row, &SPELLED));
-    let row = domain.node_data(NodeId(0), Namespace(65535));
-    assert!(rt; has_numbers(row, (None, None, Some(0))) && has_snapshot(row, &[]));
-    let row = domain.node_data(NodeId(0), Namespace(0));
-    assert!(rt; has_numbers(row, (Some(0), Some(0), None)));
-}
-
-#[test]
-fn finds_no_data_of_others(rt: HostRuntime) {
-    let domain = domain(&rt, DATA);
-    assert!(rt; domain.data().len() == 4);
-    assert!(rt; domain.node_data(NodeId(0), Namespace(8)).is_none());
-    assert!(rt; domain.node_data(NodeId(1), Namespace(0)).is_none());
-    assert!(rt; domain.node_data(NodeId(2), Namespace(7)).is_none());
-}
-
-#[test]
-fn has_room_for_so_many(rt: HostRuntime) {
+    let file = joined(rt.alloc(), [NODES, DATA, "", ""]).expect(&rt, "there is memory");
+    assert!(rt; has_data(&domain(&rt, file.as_str())));
     assert!(rt; are_most(rt.alloc(), &ROOMS));
     assert!(rt; is_read(rt.alloc(), 45) && is_long(rt.alloc(), 46));
 }

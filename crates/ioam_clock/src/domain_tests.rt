@@ -1,13 +1,13 @@
 use ioam_topo::{Domain, LinkId, NodeId, PortId, Way, read_domain};
 use std::process::Abort;
 
-pub const NODES: &str =
+pub(crate) const NODES: &str =
     "node = [{ name = \"a\", id = 1, address = \"2001:db8::a\" }, { name = \"b\", id = 2, address = \"2001:db8::b\" }]\n";
 
-pub const LINKS: &str =
+pub(crate) const LINKS: &str =
     "link = [{ name = \"ab\", from = \"a\", to = \"b\", out_id = 1, in_id = 2, delay = 0, mtu = 1500 }]\n";
 
-pub const PORTS: &str =
+pub(crate) const PORTS: &str =
     "port = [{ name = \"west\", node = \"a\", id = 1, out = \"w\" }, { name = \"east\", node = \"b\", id = 1, out = \"e\" }]\n";
 
 // Three nodes in a row, a port at each end, and routes from the first to the last and out there.
@@ -54,44 +54,60 @@ const ADDRESSES: &str = "node = [
 ]
 ";
 
-fn domain<R: Abort + AllocGlobal>(rt: &R, file: &str) -> Domain {
+// The domain of a file that has no fault.
+pub(crate) fn domain<R: Abort + AllocGlobal>(rt: &R, file: &str) -> Domain {
     read_domain(rt.alloc(), file.as_bytes()).expect(rt, "the domain is read")
 }
 
-#[test]
-fn reads_addresses(rt: HostRuntime) {
-    let domain = domain(&rt, ADDRESSES);
-    assert!(rt; domain.is_local(0) && domain.is_local(1));
-    assert!(rt; domain.is_local(0x0001_0000_0000_0000_0000_0000_0000_0000));
-    assert!(rt; domain.is_local(0x0001_0002_0003_0004_0005_0006_0007_0000));
-    assert!(rt; domain.is_local(0x0001_0002_0003_0004_0005_0006_0007_0008));
-    assert!(rt; domain.is_local(0xfe80_0000_0000_0000_0000_0000_0000_abcd));
-    assert!(rt; !domain.is_local(2));
+// Whether these are the nodes' addresses, in the forms that are read.
+fn has_addresses(domain: &Domain) -> bool {
+    domain.is_local(0)
+        && domain.is_local(1)
+        && domain.is_local(0x0001_0000_0000_0000_0000_0000_0000_0000)
+        && domain.is_local(0x0001_0002_0003_0004_0005_0006_0007_0000)
+        && domain.is_local(0x0001_0002_0003_0004_0005_0006_0007_0008)
+        && domain.is_local(0xfe80_0000_0000_0000_0000_0000_0000_abcd)
+        && !domain.is_local(2)
 }
 
-#[test]
-fn reads_a_row_of_nodes(rt: HostRuntime) {
-    let domain = domain(&rt, ROW);
+// Whether the row's nodes and links have their names, numbers and defaults.
+fn has_names(domain: &Domain) -> bool {
+    domain.packets() == 1_000_000
+        && domain.nodes().len() == 3
+        && domain.node_named("c") == Some(NodeId(2))
+        && domain.link_named("bc") == Some(LinkId(1))
+}
+
+// Whether the row's nodes send towards its last node, and from there out by its port.
+fn leads_through(domain: &Domain) -> bool {
     let c = 0x2001_0db8_0000_0000_0000_0000_0000_000c;
     let out = 0x2001_0db8_0002_0000_0000_0000_0000_0001;
-    assert!(rt; domain.packets() == 1_000_000 && domain.nodes().len() == 3);
-    assert!(rt; domain.is_local(c) && !domain.is_local(out));
-    assert!(rt;
-        domain.node_named("c") == Some(NodeId(2)) && domain.link_named("bc") == Some(LinkId(1))
-    );
-    assert!(rt; domain.forward(NodeId(0), c) == Some(Way::Link(LinkId(0))));
-    assert!(rt; domain.forward(NodeId(1), c) == Some(Way::Link(LinkId(1))));
-    assert!(rt; domain.forward(NodeId(2), out) == Some(Way::Port(PortId(1))));
-    assert!(rt; domain.forward(NodeId(0), out) == None);
+    domain.is_local(c)
+        && !domain.is_local(out)
+        && domain.forward(NodeId(0), c) == Some(Way::Link(LinkId(0)))
+        && domain.forward(NodeId(1), c) == Some(Way::Link(LinkId(1)))
+        && domain.forward(NodeId(2), out) == Some(Way::Port(PortId(1)))
+        && domain.forward(NodeId(0), out) == None
 }
 
-#[test]
-fn takes_the_longest_prefix(rt: HostRuntime) {
-    let domain = domain(&rt, NESTED);
+// Whether the longest of the nested prefixes decides.
+fn takes_the_longest(domain: &Domain) -> bool {
     let inside = 0x2001_0db8_ffff_0000_0000_0000_0000_0000;
     let beside = 0x2001_0db9_ffff_0000_0000_0000_0000_0000;
-    assert!(rt; domain.forward(NodeId(0), inside) == Some(Way::Link(LinkId(0))));
-    assert!(rt; domain.forward(NodeId(0), beside) == Some(Way::Port(PortId(0))));
-    assert!(rt; domain.forward(NodeId(0), 0) == Some(Way::Port(PortId(0))));
-    assert!(rt; domain.forward(NodeId(1), 0) == None);
+    domain.forward(NodeId(0), inside) == Some(Way::Link(LinkId(0)))
+        && domain.forward(NodeId(0), beside) == Some(Way::Port(PortId(0)))
+        && domain.forward(NodeId(0), 0) == Some(Way::Port(PortId(0)))
+        && domain.forward(NodeId(1), 0) == None
+}
+
+// Compiles only where threads may share the value.
+pub(crate) fn shared<T: Sync>(_value: &T) {}
+
+#[test]
+fn reads_domains(rt: HostRuntime) {
+    assert!(rt; has_addresses(&domain(&rt, ADDRESSES)));
+    let row = domain(&rt, ROW);
+    shared(&row);
+    assert!(rt; has_names(&row) && leads_through(&row));
+    assert!(rt; takes_the_longest(&domain(&rt, NESTED)));
 }

@@ -1,3 +1,4 @@
+use crate::data_tests::OF_DATA;
 use crate::domain_tests::{LINKS, NODES, PORTS};
 use ioam_base::memory::NoMemory;
 use ioam_topo::{DomainRefused, read_domain};
@@ -133,8 +134,18 @@ table: RouteTable, place: 1, field: PortKey, why: Unknown # route = [{ node = \"
 table: RouteTable, place: 1, field: PortKey, why: Range # route = [{ node = \"a\", prefix = \"::/128\", port = \"east\" }]|\
 table: RouteTable, place: 2, field: PrefixKey, why: Twice # route = [{ node = \"a\", prefix = \"1::/8\", link = \"ab\" }, { node = \"a\", prefix = \"2::/8\", link = \"ab\" }]";
 
+// Tables of rows, and in front of each the nodes, links and ports that stand before its files.
+const TABLES: [(&str, &str, &str, &str); 6] = [
+    ("", "", "", OF_FILES),
+    ("", "", "", OF_NODES),
+    (NODES, "", "", OF_LINKS),
+    (NODES, "", "", OF_PORTS),
+    (NODES, LINKS, PORTS, OF_ROUTES),
+    (NODES, "", "", OF_DATA),
+];
+
 // The four texts, one behind the other.
-pub fn joined(alloc: Global, parts: [&str; 4]) -> Result<String, NoMemory> {
+pub(crate) fn joined(alloc: Global, parts: [&str; 4]) -> Result<String, NoMemory> {
     let mut file = String::new(alloc);
     for part in parts {
         file.push_str(part)?;
@@ -151,7 +162,7 @@ fn fault_of(alloc: Global, file: &str) -> Result<String, NoMemory> {
 }
 
 // Whether a file has this fault.
-pub fn has_fault(alloc: Global, file: &str, wanted: &str) -> bool {
+pub(crate) fn has_fault(alloc: Global, file: &str, wanted: &str) -> bool {
     match fault_of(alloc, file) {
         Ok(fault) => fault.as_str().contains(wanted),
         Err(NoMemory) => false,
@@ -170,7 +181,7 @@ fn is_so(alloc: Global, nodes: &str, links: &str, ports: &str, row: &str) -> boo
 }
 
 // The first of the rows whose fault isn't so.
-pub fn first_wrong<'a>(
+fn first_wrong<'a>(
     alloc: Global,
     nodes: &str,
     links: &str,
@@ -185,28 +196,19 @@ pub fn first_wrong<'a>(
     None
 }
 
-#[test]
-fn names_the_first_fault_of_a_file(rt: HostRuntime) {
-    let wrong = first_wrong(rt.alloc(), "", "", "", OF_FILES);
-    assert!(rt; wrong.is_none());
+// The first row of the tables whose fault isn't so.
+fn first_wrong_of<'a>(alloc: Global, tables: &[(&str, &str, &str, &'a str)]) -> Option<&'a str> {
+    for table in tables {
+        match first_wrong(alloc, table.0, table.1, table.2, table.3) {
+            Some(row) => return Some(row),
+            None => {}
+        }
+    }
+    None
 }
 
 #[test]
-fn names_the_first_fault_of_nodes(rt: HostRuntime) {
-    let wrong = first_wrong(rt.alloc(), "", "", "", OF_NODES);
-    assert!(rt; wrong.is_none());
-}
-
-#[test]
-fn names_the_first_fault_of_links_and_ports(rt: HostRuntime) {
-    let wrong = first_wrong(rt.alloc(), NODES, "", "", OF_LINKS);
-    assert!(rt; wrong.is_none());
-    let wrong = first_wrong(rt.alloc(), NODES, "", "", OF_PORTS);
-    assert!(rt; wrong.is_none());
-}
-
-#[test]
-fn names_the_first_fault_of_routes(rt: HostRuntime) {
-    let wrong = first_wrong(rt.alloc(), NODES, LINKS, PORTS, OF_ROUTES);
+fn names_the_first_fault(rt: HostRuntime) {
+    let wrong = first_wrong_of(rt.alloc(), &TABLES);
     assert!(rt; wrong.is_none());
 }

@@ -4,7 +4,7 @@ ghost use Rattle.ioam_clock.specs.Numbers.{is_digit, is_ill, value_from, below, 
 use crate::fault::ReadWhy;
 
 // A number with one digit more behind it; None where the octet is no digit or the number is past
-// its limit.
+// its limit. Ten times a number below 2^63 takes more than 64 bits.
 fn with_digit(value: u64, octet: u8, limit: u64) -> Option<u64>
     requires { limit ≤ 2 ^ 63 }
     ensures { result ≡ (if is_digit octet && nat_lt (value * 10 + (octet - 48)) limit

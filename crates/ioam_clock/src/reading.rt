@@ -1,8 +1,10 @@
 ghost use Rattle.std.specs.Prelude.{◌≡◌, ◌≤◌, ◌<◌, length, replicate, [], IfOk, vec_len};
 ghost use Rattle.ioam_topo.specs.Domain.{nodes};
+ghost use Rattle.ioam_clock.specs.declared.reading.TheConstants.{FILE_MOST};
 ghost use Rattle.ioam_clock.specs.Lines.{lines};
 ghost use Rattle.ioam_clock.specs.Reading.{node_of, node_names, line_added, lines_added, readings_of, IsReading};
 ghost use Rattle.ioam_clock.specs.Adding.{Adds, AddsLines, refused_at};
+ghost use Rattle.ioam_clock.specs.File.{IsFileRead};
 
 use crate::adding::{add_sample, sample_of};
 use crate::fault::{ReadWhy, ReadingsFault, ReadingsRefused};
@@ -68,7 +70,7 @@ fn refused_at(line: u32, refused: Refused) -> ReadingsRefused
 // Adds the samples of the lines of a file.
 fn add_lines(domain: &Domain, tracks: &mut Vec<Track>, octets: &[u8]) -> Result<(), ReadingsRefused>
     requires len { vec_len tracks.old ≡ length (node_names domain.now) }
-    requires few { length octets.now ≤ 67108864 }
+    requires few { length octets.now ≤ FILE_MOST }
     ensures len { vec_len tracks.new ≡ vec_len tracks.old }
     ensures adds { AddsLines result tracks.new.items (lines_added (node_names domain.now) 1 tracks.old.items (lines octets.now)) }
 {
@@ -104,9 +106,10 @@ fn no_samples(alloc: Global, nodes: usize) -> Result<Vec<Track>, NoMemory>
 /// NODE TIME CLOCK DELAY QUEUE BUFFER
 /// ```
 ///
-/// NODE is the name of a node. The others are numbers in decimal digits, without a zero in front save
-/// `0` itself; the last three may be `-` where the node can't fill the field. Each line's TIME is
-/// after that of the same node's line before.
+/// NODE is the name of a node. TIME, CLOCK and DELAY are nanoseconds below 2^63, QUEUE and BUFFER are
+/// below 2^32, in decimal digits without a zero in front save `0` itself; the last three may be `-`
+/// where the node can't fill the field. Each line's TIME is after that of the same node's line before.
+/// The samples of a node are those of the lines that name it, in their order.
 ///
 /// Of the faults of a file the first line's is answered, and of that line's the first in the order
 /// Words, Node, Number, Order; before all of them Long, for more than 64 MiB. Where there is no
@@ -118,6 +121,7 @@ pub fn read_readings(
 ) -> Result<Readings, ReadingsRefused>
     ensures reads { IsReading result (readings_of (node_names domain.now) octets.now) }
     ensures nodes { IfOk result (λ readings. length readings ≡ length (nodes domain.now)) }
+    ensures file { IsFileRead (node_names domain.now) octets.now result }
 {
     if octets.len() > FILE_MOST {
         return Err(ReadingsRefused::Fault(ReadingsFault {

@@ -9,9 +9,10 @@ pub struct Sample {
     /// The transit delay in nanoseconds, below 2^63 (RFC 9197 section 4.4.2.5); None where the node
     /// can't fill the field.
     pub delay: Option<u64>,
-    /// The depth of the queue (RFC 9197 section 4.4.2.7); None where the node can't fill the field.
+    /// The depth of the queue in memory buffers used (RFC 9197 section 4.4.2.7); None where the node
+    /// can't fill the field.
     pub queue: Option<u32>,
-    /// The occupancy of the buffer (RFC 9197 section 4.4.2.12); None where the node can't fill the
-    /// field.
+    /// The occupancy of the buffer in units of the node's own (RFC 9197 section 4.4.2.12); None where
+    /// the node can't fill the field.
     pub buffer: Option<u32>,
 }

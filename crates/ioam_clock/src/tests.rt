@@ -1,10 +1,7 @@
-use crate::{ReadWhy, ReadingsRefused, Sample, read_readings, stamp};
-use ioam_topo::{Domain, Format, NodeId, read_domain};
+use crate::domain_tests::{NODES, domain, shared};
+use crate::{ReadWhy, Readings, ReadingsRefused, Sample, read_readings, stamp};
+use ioam_topo::{Domain, Format, NodeId};
 use std::alloc::Global;
-use std::process::Abort;
-
-const NODES: &str =
-    "node = [{ name = \"a\", id = 1, address = \"2001:db8::a\" }, { name = \"b\", id = 2, address = \"2001:db8::b\" }]\n";
 
 // Files, one behind another.
 const GOOD: &str =
@@ -18,9 +15,16 @@ const NO_NODE: &str = "c 00 0 - - -|a\t 0 0 - - -|A 0 0 - - -";
 const NO_NUMBER: &str =
     "a 00 0 - - -|a +1 0 - - -|a 9223372036854775808 0 - - -|a 0 9223372036854775808 - - -|a 0 0 9223372036854775808 - -|a 0 0 - 4294967296 -|a 0 0 - - 4294967296|a - 0 - - -|a 0 - - - -|a 0 0 - - --";
 
-fn domain<R: Abort + AllocGlobal>(rt: &R) -> Domain {
-    read_domain(rt.alloc(), NODES.as_bytes()).expect(rt, "the domain is read")
-}
+// Files whose fault isn't in their first line, with the line and the fault.
+const LATER: [(&str, u32, ReadWhy); 3] = [
+    ("a 0 0 - - -\na 0 0 - - -", 2, ReadWhy::Order),
+    (
+        "\na 5 0 - - -\nb 1 0 - - -\na 5 0 - - -\n-",
+        4,
+        ReadWhy::Order,
+    ),
+    ("a 0 0 - - -\n\nc", 3, ReadWhy::Words),
+];
 
 // Whether a file is refused at a line for a reason.
 fn is_refused(alloc: Global, domain: &Domain, file: &[u8], line: u32, why: ReadWhy) -> bool {
@@ -30,57 +34,38 @@ fn is_refused(alloc: Global, domain: &Domain, file: &[u8], line: u32, why: ReadW
     }
 }
 
-fn shared<T: Sync>(_value: &T) {}
-
-#[test]
-fn reads_the_forms_of_a_line(rt: HostRuntime) {
-    let domain = domain(&rt);
-    for file in GOOD.split('|') {
-        let readings = read_readings(rt.alloc(), &domain, file.as_bytes());
-        assert!(rt; readings.is_ok());
+// Whether each of these files is read.
+fn are_read(alloc: Global, domain: &Domain, files: &str) -> bool {
+    for file in files.split('|') {
+        if read_readings(alloc, domain, file.as_bytes()).is_err() {
+            return false;
+        }
     }
+    true
 }
 
-#[test]
-fn names_what_is_wrong_in_a_line(rt: HostRuntime) {
-    let domain = domain(&rt);
-    for file in NOT_SIX_WORDS.split('|') {
-        assert!(rt; is_refused(rt.alloc(), &domain, file.as_bytes(), 1, ReadWhy::Words));
+// Whether each of these files is refused at its first line for a reason.
+fn are_refused(alloc: Global, domain: &Domain, files: &str, why: ReadWhy) -> bool {
+    for file in files.split('|') {
+        if !is_refused(alloc, domain, file.as_bytes(), 1, why) {
+            return false;
+        }
     }
-    for file in NO_NODE.split('|') {
-        assert!(rt; is_refused(rt.alloc(), &domain, file.as_bytes(), 1, ReadWhy::Node));
-    }
-    for file in NO_NUMBER.split('|') {
-        assert!(rt; is_refused(rt.alloc(), &domain, file.as_bytes(), 1, ReadWhy::Number));
-    }
+    true
 }
 
-#[test]
-fn names_the_first_faulty_line(rt: HostRuntime) {
-    let domain = domain(&rt);
-    let same = "a 0 0 - - -\na 0 0 - - -".as_bytes();
-    assert!(rt; is_refused(rt.alloc(), &domain, same, 2, ReadWhy::Order));
-    let between = "\na 5 0 - - -\nb 1 0 - - -\na 5 0 - - -\n-".as_bytes();
-    assert!(rt; is_refused(rt.alloc(), &domain, between, 4, ReadWhy::Order));
-    let later = "a 0 0 - - -\n\nc".as_bytes();
-    assert!(rt; is_refused(rt.alloc(), &domain, later, 3, ReadWhy::Words));
-    let no_text = b"\xff 0 0 - - -".as_slice();
-    assert!(rt; is_refused(rt.alloc(), &domain, no_text, 1, ReadWhy::Node));
+// Whether each of these files is refused at its line for its reason.
+fn are_refused_later(alloc: Global, domain: &Domain, files: &[(&str, u32, ReadWhy)]) -> bool {
+    for file in files {
+        if !is_refused(alloc, domain, file.0.as_bytes(), file.1, file.2) {
+            return false;
+        }
+    }
+    true
 }
 
-#[test]
-fn a_line_may_be_long(rt: HostRuntime) {
-    let domain = domain(&rt);
-    let line = vec![in rt.alloc(); b'7'; 1 << 20].expect(&rt, "memory");
-    assert!(rt; is_refused(rt.alloc(), &domain, line.as_slice(), 1, ReadWhy::Words));
-}
-
-#[test]
-fn shows_the_sample_in_force(rt: HostRuntime) {
-    let domain = domain(&rt);
-    let file = "a 10 5 2147483648 3 4\na 100 1000 - - -".as_bytes();
-    let readings = read_readings(rt.alloc(), &domain, file).expect(&rt, "the readings are read");
-    shared(&readings);
+// Whether the samples of two lines are in force from their times on.
+fn has_samples(readings: &Readings) -> bool {
     let first = Sample {
         time: 10,
         clock: 5,
@@ -88,15 +73,39 @@ fn shows_the_sample_in_force(rt: HostRuntime) {
         queue: Some(3),
         buffer: Some(4),
     };
-    assert!(rt; readings.view(NodeId(0), 9).is_none());
-    assert!(rt; readings.view(NodeId(0), 99) == Some(first));
-    assert!(rt; readings.clock_at(NodeId(0), 150) == Some(1050));
-    assert!(rt; readings.clock_at(NodeId(1), 150).is_none());
+    readings.view(NodeId(0), 9).is_none()
+        && readings.view(NodeId(0), 99) == Some(first)
+        && readings.clock_at(NodeId(0), 150) == Some(1050)
+        && readings.clock_at(NodeId(1), 150).is_none()
+}
+
+// Whether a time has these words in each format.
+fn has_stamps(time: u64) -> bool {
+    stamp(Format::Ptp, time) == (1, 500_000_000)
+        && stamp(Format::Ntp, time) == (1, 2_147_483_648)
+        && stamp(Format::Posix, time) == (1, 500_000)
 }
 
 #[test]
-fn stamps_a_time_in_each_format(rt: HostRuntime) {
-    assert_eq!(rt; stamp(Format::Ptp, 1_500_000_000), (1, 500_000_000));
-    assert_eq!(rt; stamp(Format::Ntp, 1_500_000_000), (1, 2_147_483_648));
-    assert_eq!(rt; stamp(Format::Posix, 1_500_000_000), (1, 500_000));
+fn reads_readings(rt: HostRuntime) {
+    let domain = domain(&rt, NODES);
+    assert!(rt; are_read(rt.alloc(), &domain, GOOD));
+    assert!(rt; are_refused(rt.alloc(), &domain, NOT_SIX_WORDS, ReadWhy::Words));
+    assert!(rt; are_refused(rt.alloc(), &domain, NO_NODE, ReadWhy::Node));
+    assert!(rt; are_refused(rt.alloc(), &domain, NO_NUMBER, ReadWhy::Number));
+    assert!(rt; are_refused_later(rt.alloc(), &domain, &LATER));
+    let no_text = b"\xff 0 0 - - -".as_slice();
+    assert!(rt; is_refused(rt.alloc(), &domain, no_text, 1, ReadWhy::Node));
+    let long_line = vec![in rt.alloc(); b'7'; 1 << 20].expect(&rt, "memory");
+    assert!(rt; is_refused(rt.alloc(), &domain, long_line.as_slice(), 1, ReadWhy::Words));
+}
+
+#[test]
+fn shows_what_is_in_force(rt: HostRuntime) {
+    let domain = domain(&rt, NODES);
+    let file = "a 10 5 2147483648 3 4\na 100 1000 - - -".as_bytes();
+    let readings = read_readings(rt.alloc(), &domain, file).expect(&rt, "the readings are read");
+    shared(&readings);
+    assert!(rt; has_samples(&readings));
+    assert!(rt; has_stamps(1_500_000_000));
 }

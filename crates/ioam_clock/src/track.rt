@@ -1,6 +1,5 @@
 ghost use Rattle.std.specs.Prelude.{◌≡◌, ◌++◌, ◌∷◌, ◌≤◌, [], length, IsTrue, IfSome, OnOk, OnErr};
-ghost use Rattle.std.specs.List.Sorted.{IsNonDecreasingBy};
-ghost use Rattle.ioam_clock.specs.Samples.{sample_at, follows, IsSmall, IsCut};
+ghost use Rattle.ioam_clock.specs.Samples.{sample_at, follows, IsSmall, IsCut, Rise};
 
 use crate::sample::Sample;
 use ioam_base::memory::NoMemory;
@@ -25,9 +24,9 @@ impl Model for Track {
     ghost invariant = { λ track. AreSamples track.samples.items };
 }
 
-// How many samples aren't after a time, where the times don't fall.
+// How many samples aren't after a time, where the times rise.
 fn count_until(samples: &[Sample], time: u64) -> usize
-    requires { IsNonDecreasingBy (λ sample. sample.time) samples.now }
+    requires { Rise samples.now }
     ensures within { result ≤ length samples.now }
     ensures cut { IsCut samples.now time result }
 {

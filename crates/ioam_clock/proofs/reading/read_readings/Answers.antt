@@ -1,0 +1,11 @@
+use Rattle.std.proofs.Common.{Ok, Err, arith}
+use Rattle.std.proofs.lemmas.Grind.{common_steps}
+use Rattle.ioam_clock.specs.Reading.{node_names}
+use Rattle.ioam_clock.proofs.FileLaws.{file_read}
+use Rattle.ioam_clock.proofs.reading.read_readings.Goals as goal
+
+pub returns-in-Ok-add_lines-clause-file : goal.returns-in-Ok-add_lines-clause-file
+returns-in-Ok-add_lines-clause-file c = file_read (node_names c.args.domain.now) c.args.octets.now (Ok c.add_lines.new.tracks.items) (grind (arith, common_steps))
+
+pub returns-in-Err-add_lines-clause-file : goal.returns-in-Err-add_lines-clause-file
+returns-in-Err-add_lines-clause-file c = file_read (node_names c.args.domain.now) c.args.octets.now (Err c.in-Err-add_lines.refused) (grind (arith, common_steps))
