@@ -1,5 +1,5 @@
 use ioam_topo::{Domain, LinkId, NodeId, PortId, Way, read_domain};
-use std::process::Abort;
+use std::alloc::Global;
 
 pub(crate) const NODES: &str =
     "node = [{ name = \"a\", id = 1, address = \"2001:db8::a\" }, { name = \"b\", id = 2, address = \"2001:db8::b\" }]\n";
@@ -54,11 +54,6 @@ const ADDRESSES: &str = "node = [
 ]
 ";
 
-// The domain of a file that has no fault.
-pub(crate) fn domain<R: Abort + AllocGlobal>(rt: &R, file: &str) -> Domain {
-    read_domain(rt.alloc(), file.as_bytes()).expect(rt, "the domain is read")
-}
-
 // Whether these are the nodes' addresses, in the forms that are read.
 fn has_addresses(domain: &Domain) -> bool {
     domain.is_local(0)
@@ -103,11 +98,35 @@ fn takes_the_longest(domain: &Domain) -> bool {
 // Compiles only where threads may share the value.
 pub(crate) fn shared<T: Sync>(_value: &T) {}
 
+// Whether the file of addresses is read, and has them.
+fn reads_addresses(alloc: Global) -> bool {
+    match read_domain(alloc, ADDRESSES.as_bytes()) {
+        Ok(domain) => has_addresses(&domain),
+        Err(_) => false,
+    }
+}
+
+// Whether the row of nodes is read, and leads through.
+fn reads_row(alloc: Global) -> bool {
+    match read_domain(alloc, ROW.as_bytes()) {
+        Ok(domain) => {
+            shared(&domain);
+            has_names(&domain) && leads_through(&domain)
+        }
+        Err(_) => false,
+    }
+}
+
+// Whether the nested prefixes are read, and the longest decides.
+fn reads_nested(alloc: Global) -> bool {
+    match read_domain(alloc, NESTED.as_bytes()) {
+        Ok(domain) => takes_the_longest(&domain),
+        Err(_) => false,
+    }
+}
+
 #[test]
 fn reads_domains(rt: HostRuntime) {
-    assert!(rt; has_addresses(&domain(&rt, ADDRESSES)));
-    let row = domain(&rt, ROW);
-    shared(&row);
-    assert!(rt; has_names(&row) && leads_through(&row));
-    assert!(rt; takes_the_longest(&domain(&rt, NESTED)));
+    let alloc = rt.alloc();
+    assert!(rt; reads_addresses(alloc) && reads_row(alloc) && reads_nested(alloc));
 }

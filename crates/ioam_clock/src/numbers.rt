@@ -1,4 +1,5 @@
-ghost use Rattle.std.specs.Prelude.{◌≡◌, ◌≤◌, ◌<◌, ◌^◌, ◌+◌, ◌*◌, ◌-◌, ◌∷◌, ◌&&◌, [], nat_lt, length, IfOk, IfSome, Some, None, if◌then◌else◌};
+ghost use Rattle.std.specs.Prelude.{◌≡◌, ◌≤◌, ◌<◌, ◌^◌, ◌+◌, ◌*◌, ◌-◌, ◌∷◌, ◌&&◌, [], nat_lt, length, IfOk, IfSome, Some, None, Ok, ℕ, if◌then◌else◌};
+ghost use Rattle.std.specs.Fmt.{decimal};
 ghost use Rattle.ioam_clock.specs.Numbers.{is_digit, is_ill, value_from, below, number, maybe};
 
 use crate::fault::ReadWhy;
@@ -47,6 +48,7 @@ pub(crate) fn number(word: &[u8], limit: u64) -> Result<u64, ReadWhy>
     requires room { limit ≤ 2 ^ 63 }
     requires some { 0 < limit }
     ensures value { result ≡ number limit word.now }
+    ensures written { (n : ℕ) → n < limit → word.now ≡ decimal n → result ≡ Ok n }
     ensures small { IfOk result (λ n. n < limit) }
 {
     if word.is_empty() || (word.len() > 1 && word[0] == b'0') {

@@ -1,6 +1,6 @@
-use crate::domain_tests::{NODES, domain, shared};
+use crate::domain_tests::{NODES, shared};
 use crate::{ReadWhy, Readings, ReadingsRefused, Sample, read_readings, stamp};
-use ioam_topo::{Domain, Format, NodeId};
+use ioam_topo::{Domain, Format, NodeId, read_domain};
 use std::alloc::Global;
 
 // Files, one behind another.
@@ -86,26 +86,52 @@ fn has_stamps(time: u64) -> bool {
         && stamp(Format::Posix, time) == (1, 500_000)
 }
 
-#[test]
-fn reads_readings(rt: HostRuntime) {
-    let domain = domain(&rt, NODES);
-    assert!(rt; are_read(rt.alloc(), &domain, GOOD));
-    assert!(rt; are_refused(rt.alloc(), &domain, NOT_SIX_WORDS, ReadWhy::Words));
-    assert!(rt; are_refused(rt.alloc(), &domain, NO_NODE, ReadWhy::Node));
-    assert!(rt; are_refused(rt.alloc(), &domain, NO_NUMBER, ReadWhy::Number));
-    assert!(rt; are_refused_later(rt.alloc(), &domain, &LATER));
-    let no_text = b"\xff 0 0 - - -".as_slice();
-    assert!(rt; is_refused(rt.alloc(), &domain, no_text, 1, ReadWhy::Node));
-    let long_line = vec![in rt.alloc(); b'7'; 1 << 20].expect(&rt, "memory");
-    assert!(rt; is_refused(rt.alloc(), &domain, long_line.as_slice(), 1, ReadWhy::Words));
+// Whether a line of a MiB is refused as no six words.
+fn is_long_line_refused(alloc: Global, domain: &Domain) -> bool {
+    match vec![in alloc; b'7'; 1 << 20] {
+        Ok(line) => is_refused(alloc, domain, line.as_slice(), 1, ReadWhy::Words),
+        Err(_) => false,
+    }
+}
+
+// Whether the files above are read or refused as they should be.
+fn are_all_so(alloc: Global, domain: &Domain) -> bool {
+    are_read(alloc, domain, GOOD)
+        && are_refused(alloc, domain, NOT_SIX_WORDS, ReadWhy::Words)
+        && are_refused(alloc, domain, NO_NODE, ReadWhy::Node)
+        && are_refused(alloc, domain, NO_NUMBER, ReadWhy::Number)
+        && are_refused_later(alloc, domain, &LATER)
+        && is_refused(
+            alloc,
+            domain,
+            b"\xff 0 0 - - -".as_slice(),
+            1,
+            ReadWhy::Node,
+        )
+        && is_long_line_refused(alloc, domain)
+}
+
+// Whether the samples of two lines are read, and are in force from their times on.
+fn reads_samples(alloc: Global, domain: &Domain) -> bool {
+    let file = "a 10 5 2147483648 3 4\na 100 1000 - - -".as_bytes();
+    match read_readings(alloc, domain, file) {
+        Ok(readings) => {
+            shared(&readings);
+            has_samples(&readings)
+        }
+        Err(_) => false,
+    }
+}
+
+// Whether files of the nodes' readings are read or refused as they should be.
+fn reads_files(alloc: Global) -> bool {
+    match read_domain(alloc, NODES.as_bytes()) {
+        Ok(domain) => are_all_so(alloc, &domain) && reads_samples(alloc, &domain),
+        Err(_) => false,
+    }
 }
 
 #[test]
-fn shows_what_is_in_force(rt: HostRuntime) {
-    let domain = domain(&rt, NODES);
-    let file = "a 10 5 2147483648 3 4\na 100 1000 - - -".as_bytes();
-    let readings = read_readings(rt.alloc(), &domain, file).expect(&rt, "the readings are read");
-    shared(&readings);
-    assert!(rt; has_samples(&readings));
-    assert!(rt; has_stamps(1_500_000_000));
+fn reads_readings(rt: HostRuntime) {
+    assert!(rt; reads_files(rt.alloc()) && has_stamps(1_500_000_000));
 }

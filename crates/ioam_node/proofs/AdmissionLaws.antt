@@ -4,7 +4,8 @@ use Rattle.ioam_ip.specs.Header.{HasFields}
 use Rattle.ioam_ip.specs.declared.packet.Header.{Header}
 use Rattle.ioam_topo.specs.declared.domain.Domain.{Domain}
 use Rattle.ioam_topo.specs.declared.ids.FlowId.{FlowId}
-use Rattle.ioam_node.specs.Admission.{Refuses, IsFree, CanEnter, is_local, flow_for}
+use Rattle.ioam_topo.specs.Domain.{is_local}
+use Rattle.ioam_node.specs.Admission.{Refuses, IsFree, CanEnter, flow_for}
 use Rattle.ioam_node.specs.Order.{IsFirst, rank}
 use Rattle.ioam_node.specs.declared.reason.Reason.{Reason}
 use Rattle.ioam_node.specs.declared.reason.Reason.TheVariants as reason

@@ -1,7 +1,6 @@
 -- What becomes of a frame at the port where it arrives: the first reason why it is dropped, or its
 -- packet, which is enclosed in the flow that it matches, or sent on as it is.
-use Rattle.std.specs.Prelude.{◌≡◌, ◌≤◌, ⊤, ℕ, nat_eq, false, IsTrue, List, Bool, Option, Some, None}
-use Rattle.std.specs.List.{list_any}
+use Rattle.std.specs.Prelude.{◌≡◌, ◌≤◌, ⊤, ℕ, false, IsTrue, List, Option, Some, None}
 use Rattle.ioam_ip.specs.Chain.{IsSound}
 use Rattle.ioam_ip.specs.ChainOptions.{CarriesIoam, LimitOf}
 use Rattle.ioam_ip.specs.Framing.{Framing, Holds, NoIpv6, CutShort, TooShort}
@@ -10,18 +9,13 @@ use Rattle.ioam_ip.specs.Packet.{IsPacket}
 use Rattle.ioam_ip.specs.declared.packet.Header.{Header}
 use Rattle.ioam_topo.specs.declared.domain.Domain.{Domain}
 use Rattle.ioam_topo.specs.declared.ids.FlowId.{FlowId}
-use Rattle.ioam_topo.specs.declared.parts.Node.{Node}
-use Rattle.ioam_topo.specs.Domain.{nodes, flows}
+use Rattle.ioam_topo.specs.Domain.{flows, is_local}
 use Rattle.ioam_topo.specs.Finding.{flow_at}
 use Rattle.ioam_node.specs.Order.{IsFirst}
 use Rattle.ioam_node.specs.declared.admitted.Admit.{Admit}
 use Rattle.ioam_node.specs.declared.admitted.Admit.TheVariants as admit
 use Rattle.ioam_node.specs.declared.reason.Reason.{Reason}
 use Rattle.ioam_node.specs.declared.reason.Reason.TheVariants as reason
-
--- some node of the domain has the address
-abbrev pub is_local : Domain → ℕ → Bool
-is_local domain target = list_any (λ (node : Node). nat_eq target node.address) (nodes domain)
 
 -- the flow in which a node encloses a packet with this header, if there is one
 abbrev pub flow_for : Domain → ℕ → Header → Option FlowId

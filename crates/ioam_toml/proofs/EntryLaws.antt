@@ -6,7 +6,12 @@ use Rattle.toml.specs.declared.value.Value.{Value}
 use Rattle.ioam_data.specs.declared.namespace.Namespace.{Namespace}
 use Rattle.ioam_toml.specs.declared.why.Why.{Why}
 use Rattle.ioam_toml.specs.Numbers.{number}
-use Rattle.ioam_toml.specs.Entries.{spaces, in_front, all_front, namespace}
+use Rattle.ioam_toml.specs.Entries.{spaces, in_front, namespace}
+
+-- several in front of what was read
+abbrev pub all_front : {A : Type 0} → List A → Result (List A) Why → Result (List A) Why
+all_front front (Ok xs) = Ok (front ++ xs)
+all_front front (Err why) = Err why
 
 front_more : (out : List Namespace) (x : Namespace) (r : Result (List Namespace) Why) → all_front out (in_front x r) ≡ all_front (out ++ x ∷ []) r
 front_more out x (Ok xs) = ap Ok (sym (append_assoc out (x ∷ []) xs))

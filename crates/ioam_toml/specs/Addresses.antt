@@ -1,5 +1,6 @@
 -- IPv6 addresses as texts: the form of RFC 4291 section 2.2 without dotted parts and zones.
-use Rattle.std.specs.Prelude.{ℕ, suc, ◌+◌, ◌-◌, ◌*◌, Bool, nat_le, ◌==◌, ◌&&◌, List, [], ◌∷◌, ◌++◌, length, take, drop, slice_index, replicate, Option, Some, None, option_map, option_and_then, Result, Ok, Err, if◌then◌else◌}
+use Rattle.std.specs.Prelude.{◌≡◌, ◌≤◌, ◌⊎◌, ℕ, suc, ◌+◌, ◌-◌, ◌*◌, Bool, nat_le, ◌==◌, ◌&&◌, List, [], ◌∷◌, ◌++◌, length, take, drop, slice_index, replicate, Option, Some, None, option_map, option_and_then, Result, Ok, Err, if◌then◌else◌}
+use Rattle.std.specs.List.{join_with_byte}
 use Rattle.toml.specs.Data.{Data}
 use Rattle.ioam_toml.specs.declared.why.Why.{Why}
 use Rattle.ioam_toml.specs.declared.why.Why.TheVariants.{Range}
@@ -90,3 +91,38 @@ few (Some gs) = if nat_le (length gs) 8 then Some gs else None
 abbrev pub with_front : List ℕ → Option (List ℕ) → Option (List ℕ)
 with_front front None = None
 with_front front (Some gs) = Some (front ++ gs)
+
+-- the groups that these texts spell, one each
+abbrev pub each_group : List (List ℕ) → Option (List ℕ)
+each_group [] = Some []
+each_group (part ∷ parts) = with_group (group_of part) (each_group parts)
+
+-- a text spells these groups, with `:` between each two
+pub record SpellsGroups (s groups : List ℕ) : Type 0 where
+  pub parts : List (List ℕ)
+  pub joins : s ≡ join_with_byte 58 parts
+  pub spells : each_group parts ≡ Some groups
+
+-- a text spells all eight groups of an address (RFC 4291 section 2.2, form 1)
+pub record SpellsAll (s : List ℕ) (address : ℕ) : Type 0 where
+  pub groups : List ℕ
+  pub spells : SpellsGroups s groups
+  pub eight : length groups ≡ 8
+  pub is : address ≡ number_of groups
+
+-- a text spells some of the groups in front of `::` and some behind it, perhaps none, and the one or more groups of zero
+-- that `::` stands for make them eight (form 2)
+pub record SpellsShort (s : List ℕ) (address : ℕ) : Type 0 where
+  pub before : List ℕ
+  pub behind : List ℕ
+  pub front : List ℕ
+  pub back : List ℕ
+  pub gap : s ≡ before ++ 58 ∷ 58 ∷ behind
+  pub spells_front : SpellsGroups before front
+  pub spells_back : SpellsGroups behind back
+  pub room : length front + length back ≤ 7
+  pub is : address ≡ number_of (front ++ (replicate (8 - (length front + length back)) 0 ++ back))
+
+-- a text spells an address
+abbrev pub Spells : List ℕ → ℕ → Type 0
+Spells s address = SpellsAll s address ⊎ SpellsShort s address

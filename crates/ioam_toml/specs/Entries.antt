@@ -3,6 +3,7 @@ use Rattle.std.specs.Prelude.{ℕ, Bool, true, false, not, nat_le, nat_eq, ◌&&
 use Rattle.std.specs.List.{list_any}
 use Rattle.toml.specs.Data.{Data, array, table, integer, Items, no_items, item, Members}
 use Rattle.ioam_data.specs.declared.namespace.Namespace.{Namespace}
+use Rattle.ioam_toml.specs.declared.spaces.TheConstants.{SPACES_MOST}
 use Rattle.ioam_toml.specs.declared.why.Why.{Why}
 use Rattle.ioam_toml.specs.declared.why.Why.TheVariants.{Kind, Twice, TooMany}
 use Rattle.ioam_toml.specs.Reads.{◌▷◌}
@@ -12,11 +13,6 @@ use Rattle.ioam_toml.specs.Numbers.{number}
 abbrev pub in_front : {A : Type 0} → A → Result (List A) Why → Result (List A) Why
 in_front x (Ok xs) = Ok (x ∷ xs)
 in_front x (Err why) = Err why
-
--- several in front of what was read
-abbrev pub all_front : {A : Type 0} → List A → Result (List A) Why → Result (List A) Why
-all_front front (Ok xs) = Ok (front ++ xs)
-all_front front (Err why) = Err why
 
 -- items that are all tables
 abbrev pub tables : Items → Result (List Members) Why
@@ -78,7 +74,7 @@ apart_from seen (s ∷ ss) = not (list_any (nat_eq s.0) seen) && apart_from (see
 abbrev pub apart : List Namespace → Result (List Namespace) Why
 apart ss = if apart_from [] ss then Ok ss else Err Twice
 
--- a list of at most 16 namespaces, no two equal
+-- a list of no more namespaces than a node may list, no two equal
 abbrev pub namespaces : Data → Result (List Namespace) Why
-namespaces (array ds) = if are_whole ds then spaces ds ▷ apart ▷ at_most 16 else Err Kind
+namespaces (array ds) = if are_whole ds then spaces ds ▷ apart ▷ at_most SPACES_MOST else Err Kind
 namespaces _ = Err Kind

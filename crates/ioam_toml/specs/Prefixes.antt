@@ -1,4 +1,4 @@
--- Prefixes: an address, `/` and the number of its bits that count.
+-- Prefixes: an address, `/` and a prefix length, which is how many of its bits count (RFC 4291 section 2.3).
 use Rattle.std.specs.Prelude.{ℕ, ◌+◌, ◌-◌, ◌*◌, ◌%◌, ◌^◌, Bool, not, nat_le, ◌==◌, ◌&&◌, List, [], ◌∷◌, length, take, drop, slice_index, position, Option, Some, None, option_and_then, Result, if◌then◌else◌}
 use Rattle.toml.specs.Data.{Data}
 use Rattle.ioam_toml.specs.declared.why.Why.{Why}
@@ -9,7 +9,7 @@ use Rattle.ioam_toml.specs.Addresses.{address_of, ranged}
 
 -- the bits of an address of which only so many count, the others 0
 abbrev pub masked : ℕ → ℕ → ℕ
-masked size bits = bits - bits % 2 ^ (128 - size)
+masked n bits = bits - bits % 2 ^ (128 - n)
 
 -- the value of a decimal digit
 abbrev pub digit : ℕ → Option ℕ
@@ -28,18 +28,18 @@ is_plain s = nat_le 1 (length s) && nat_le (length s) 3 && not (nat_le 2 (length
 abbrev pub at_most_128 : ℕ → Option ℕ
 at_most_128 n = if nat_le n 128 then Some n else None
 
--- the number of bits that a text spells
-abbrev pub size_of : List ℕ → Option ℕ
-size_of s = if is_plain s then option_and_then at_most_128 (decimal_value 0 s) else None
+-- the prefix length that a text spells
+abbrev pub length_of : List ℕ → Option ℕ
+length_of s = if is_plain s then option_and_then at_most_128 (decimal_value 0 s) else None
 
 abbrev pub prefix_of : Option ℕ → Option ℕ → Option Prefix
-prefix_of (Some bits) (Some size) = Some (record { bits = masked size bits; length = size })
+prefix_of (Some bits) (Some n) = Some (record { bits = masked n bits; length = n })
 prefix_of _ _ = None
 
 -- the parts before and behind the first `/`
 abbrev pub parted : Option ℕ → List ℕ → Option Prefix
 parted None s = None
-parted (Some i) s = prefix_of (address_of (take i s)) (size_of (drop (i + 1) s))
+parted (Some i) s = prefix_of (address_of (take i s)) (length_of (drop (i + 1) s))
 
 abbrev pub slash_at : List ℕ → Option ℕ
 slash_at s = position (λ b. b == 47) s

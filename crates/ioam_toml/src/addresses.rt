@@ -1,9 +1,9 @@
-ghost use Rattle.std.specs.Prelude.{◌≡◌, ◌<◌, ◌≤◌, ◌+◌, [], Some, length, drop, IfSome};
+ghost use Rattle.std.specs.Prelude.{◌≡◌, ◌<◌, ◌≤◌, ◌+◌, [], Some, length, drop, IfSome, List, ℕ, Ok};
 ghost use Rattle.std.specs.Bool.{OnTrue};
-ghost use Rattle.toml.specs.Data.{get_member};
+ghost use Rattle.toml.specs.Data.{get_member, string};
 ghost use Rattle.toml.specs.View.{view, table_view};
 ghost use Rattle.ioam_toml.specs.Reads.{needed};
-ghost use Rattle.ioam_toml.specs.Addresses.{hex_digit, hex_value, group_of, groups_of, side_of, begins_gap, gap_at, joined, address_of, address, few, with_front, with_group};
+ghost use Rattle.ioam_toml.specs.Addresses.{hex_digit, hex_value, group_of, groups_of, side_of, begins_gap, gap_at, joined, address_of, address, few, with_front, with_group, Spells};
 
 use crate::finding::find;
 use crate::groups::{Groups, MOST};
@@ -153,9 +153,12 @@ pub(crate) fn address_of(text: &[u8]) -> Option<u128>
 
 /// The IPv6 address at a key that is needed: eight groups of one to four hexadecimal digits with
 /// `:` between them, where `::` may stand once for one or more groups of zero (RFC 4291 section
-/// 2.2). There is no dotted form and no zone. The first group is the most significant.
+/// 2.2). There is no dotted form and no zone. The first group is the most significant. Missing
+/// where the key is absent, Kind where it is no text, Range where the text is no address.
+#[tactic(auto, using(crate::proofs::SpelledLaws::key_spells))]
 pub fn address(entry: &Table, key: &str) -> Result<u128, Why>
-    ensures { result ≡ needed address (get_member key.now (table_view entry.now)) }
+    ensures value { result ≡ needed address (get_member key.now (table_view entry.now)) }
+    ensures spelled { (s : List ℕ) (n : ℕ) → get_member key.now (table_view entry.now) ≡ Some (string s) → result ≡ Ok n → Spells s n }
 {
     match find(entry, key) {
         Some(value) => match text_of(value) {

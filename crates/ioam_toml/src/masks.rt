@@ -1,4 +1,5 @@
-/// A prefix of addresses: the bits past its length are 0, and its length is at most 128.
+/// A prefix of addresses. In one that [`prefix`](crate::prefix) reads, the length is at most 128 and
+/// the bits past it are 0.
 #[derive(Clone, Copy, Debug, PartialEq, Eq, Hash)]
 pub struct Prefix {
     /// The bits, the first group the most significant.

@@ -35,7 +35,8 @@ pub(crate) fn number_of(low: u64, high: u64, value: &Value) -> Result<u64, Why>
     }
 }
 
-/// The whole number at a key that is needed, between two bounds, both allowed.
+/// The whole number at a key that is needed, between two bounds, both allowed: Missing where it is
+/// absent, Kind where it is no whole number, Range outside the bounds.
 pub fn number(entry: &Table, key: &str, low: u64, high: u64) -> Result<u64, Why>
     ensures value { result ≡ needed (number low high) (get_member key.now (table_view entry.now)) }
     ensures small { IfOk result (λ n. (low ≤ n) × (n ≤ high)) }
@@ -46,7 +47,8 @@ pub fn number(entry: &Table, key: &str, low: u64, high: u64) -> Result<u64, Why>
     }
 }
 
-/// The whole number at a key, between two bounds, both allowed, or a default where it is absent.
+/// The whole number at a key, between two bounds, both allowed, or a default where it is absent:
+/// Kind where it is no whole number, Range outside the bounds.
 pub fn number_or(entry: &Table, key: &str, low: u64, high: u64, default: u64) -> Result<u64, Why>
     requires low { low ≤ default }
     requires high { default ≤ high }
@@ -59,7 +61,8 @@ pub fn number_or(entry: &Table, key: &str, low: u64, high: u64, default: u64) ->
     }
 }
 
-/// The whole number at a key that may be absent, between two bounds, both allowed.
+/// The whole number at a key that may be absent, between two bounds, both allowed: Kind where it is
+/// no whole number, Range outside the bounds.
 pub fn maybe_number(entry: &Table, key: &str, low: u64, high: u64) -> Result<Option<u64>, Why>
     ensures value { result ≡ maybe (number low high) (get_member key.now (table_view entry.now)) }
     ensures small { IfOk result (λ held. IfSome held (λ n. (low ≤ n) × (n ≤ high))) }

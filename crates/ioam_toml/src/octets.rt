@@ -65,7 +65,7 @@ fn octets_in(alloc: Global, value: &Value) -> Result<Octets, Refused>
 }
 
 /// The octets at a key that may be absent: a text of hexadecimal digits in either case, in whole
-/// words of 8 digits, at most 360 digits and perhaps none.
+/// words of 8 digits, at most 360 digits and perhaps none. Kind where it is no text, else Range.
 pub fn maybe_octets(alloc: Global, entry: &Table, key: &str) -> Result<Option<Octets>, Refused>
     ensures { ReadsOr (λ held. held) result (maybe octets (get_member key.now (table_view entry.now))) }
 {

@@ -2,7 +2,7 @@ ghost use Rattle.std.specs.Prelude.{◌≡◌, ◌+◌, ◌-◌, ◌%◌, ◌^�
 ghost use Rattle.toml.specs.Data.{get_member};
 ghost use Rattle.toml.specs.View.{view, table_view};
 ghost use Rattle.ioam_toml.specs.Reads.{needed};
-ghost use Rattle.ioam_toml.specs.Prefixes.{masked, digit, decimal_value, size_of, prefix_of, parted, slash_at, prefix, matches};
+ghost use Rattle.ioam_toml.specs.Prefixes.{masked, digit, decimal_value, length_of, prefix_of, parted, slash_at, prefix, matches};
 
 use crate::addresses::address_of;
 use crate::finding::find;
@@ -12,13 +12,13 @@ use crate::why::Why;
 use toml::{Table, Value};
 
 /// The bits of an address of which only so many count, from 128 on all; the others are 0.
-pub fn masked(size: u8, bits: u128) -> u128
-    ensures { result ≡ masked size bits }
+pub fn masked(length: u8, bits: u128) -> u128
+    ensures { result ≡ masked length bits }
 {
-    if size == 0 {
+    if length == 0 {
         0
     } else {
-        bits - bits % power(128_u8.saturating_sub(size))
+        bits - bits % power(128_u8.saturating_sub(length))
     }
 }
 
@@ -65,16 +65,16 @@ fn decimal_value(digits: &[u8]) -> Option<u32>
     Some(value)
 }
 
-// The number of bits that a text spells.
-fn size_of(text: &[u8]) -> Option<u8>
-    ensures value { result ≡ size_of text.now }
+// The prefix length that a text spells.
+fn length_of(text: &[u8]) -> Option<u8>
+    ensures value { result ≡ length_of text.now }
     ensures small { IfSome result (λ n. n ≤ 128) }
 {
     if text.is_empty() || text.len() > 3 || text.len() >= 2 && text[0] == b'0' {
         return None;
     }
     match decimal_value(text) {
-        Some(size) if size <= 128 => Some(size as u8),
+        Some(length) if length <= 128 => Some(length as u8),
         _ => None,
     }
 }
@@ -87,13 +87,13 @@ fn slash_at(text: &[u8]) -> Option<usize>
     text.iter().position(|octet| *octet == b'/')
 }
 
-// The prefix of an address and a number of bits.
-fn prefix_of(bits: Option<u128>, size: Option<u8>) -> Option<Prefix>
-    requires { IfSome size (λ n. n ≤ 128) }
-    ensures value { result ≡ prefix_of bits size }
+// The prefix of an address and a prefix length.
+fn prefix_of(bits: Option<u128>, length: Option<u8>) -> Option<Prefix>
+    requires { IfSome length (λ n. n ≤ 128) }
+    ensures value { result ≡ prefix_of bits length }
     ensures small { IfSome result (λ p. p.length ≤ 128) }
 {
-    match (bits, size) {
+    match (bits, length) {
         (Some(bits), Some(length)) => Some(Prefix {
             bits: masked(length, bits),
             length,
@@ -114,7 +114,7 @@ fn prefix_in(value: &Value) -> Result<Prefix, Why>
     let Some(at) = slash_at(octets) else {
         return Err(Why::Range);
     };
-    match prefix_of(address_of(&octets[..at]), size_of(&octets[at + 1..])) {
+    match prefix_of(address_of(&octets[..at]), length_of(&octets[at + 1..])) {
         Some(prefix) => Ok(prefix),
         None => Err(Why::Range),
     }
@@ -122,6 +122,7 @@ fn prefix_in(value: &Value) -> Result<Prefix, Why>
 
 /// The prefix at a key that is needed: an address, `/` and a decimal number from 0 to 128 without
 /// a leading zero save `0` itself. Bits past that number are ignored, and are 0 in what is read.
+/// Missing where the key is absent, Kind where it is no text, Range where the text is no prefix.
 pub fn prefix(entry: &Table, key: &str) -> Result<Prefix, Why>
     ensures value { result ≡ needed prefix (get_member key.now (table_view entry.now)) }
     ensures small { IfOk result (λ p. p.length ≤ 128) }

@@ -2,6 +2,7 @@ ghost use Rattle.std.specs.Prelude.{◌≡◌, [], map, not, nat_eq, IfOk};
 ghost use Rattle.std.specs.List.{list_any};
 ghost use Rattle.toml.specs.Data.{get_member};
 ghost use Rattle.toml.specs.View.{view, table_view, array_view};
+ghost use Rattle.ioam_toml.specs.declared.spaces.TheConstants.{SPACES_MOST};
 ghost use Rattle.ioam_toml.specs.Reads.{ReadsOr, optional, ◌▷◌};
 ghost use Rattle.ioam_toml.specs.Entries.{are_whole, spaces, apart_from, apart, at_most, namespaces};
 
@@ -16,11 +17,11 @@ use std::marker::Model;
 use toml::value::Array;
 use toml::{Table, Value};
 
-/// The most namespaces that a node may know besides namespace 0.
+/// The most namespaces that a node may list.
 pub const SPACES_MOST: usize = 16;
 
-/// The namespaces that a node knows besides namespace 0, in the order of the file; no two are
-/// equal. Contracts see them as a list.
+/// The namespaces that a node lists, in the order of the file; no two are equal. It knows namespace
+/// 0 whether or not it lists it. Contracts see them as a list.
 #[derive(Debug, Drop)]
 pub struct Spaces {
     held: Vec<Namespace>,
@@ -94,7 +95,7 @@ fn are_apart(alloc: Global, spaces: &[Namespace]) -> Result<bool, Refused>
 
 // The namespaces of these numbers, where there are at most 16 and no two are equal.
 fn apart_spaces(alloc: Global, array: &Array) -> Result<Spaces, Refused>
-    ensures { ReadsOr (λ held. held) result (spaces (array_view array.now) ▷ apart ▷ at_most 16) }
+    ensures { ReadsOr (λ held. held) result (spaces (array_view array.now) ▷ apart ▷ at_most SPACES_MOST) }
 {
     let held = match small_spaces(alloc, array) {
         Ok(held) => held,

@@ -15,7 +15,7 @@ pub const NAME_MOST: usize = 32;
 /// The most octets of a file name.
 pub const FILE_NAME_MOST: usize = 255;
 
-/// A value that is to be a text.
+/// A value that is to be a text, else Kind.
 pub fn text_of(value: &Value) -> Result<&str, Why>
     ensures { Reads (λ t. t.now) result (text (view value.now)) }
 {
@@ -84,7 +84,8 @@ fn file_name_of(value: &Value) -> Result<&str, Why>
     }
 }
 
-/// The name at a key that is needed.
+/// The name at a key that is needed: 1 to 32 characters out of a to z, A to Z, 0 to 9, `-`, `_` and
+/// `.`. Missing where it is absent, Kind where it is no text, Range where it has another form.
 pub fn name<'a>(entry: &'a Table, key: &str) -> Result<&'a str, Why>
     ensures { Reads (λ t. t.now) result (needed name (get_member key.now (table_view entry.now))) }
 {
@@ -94,7 +95,8 @@ pub fn name<'a>(entry: &'a Table, key: &str) -> Result<&'a str, Why>
     }
 }
 
-/// The name at a key that may be absent.
+/// The name at a key that may be absent, of the form that [`name`] has: Kind where it is no text,
+/// Range where it has another form.
 pub fn maybe_name<'a>(entry: &'a Table, key: &str) -> Result<Option<&'a str>, Why>
     ensures { Reads (option_map (λ t. t.now)) result (maybe name (get_member key.now (table_view entry.now))) }
 {
@@ -107,7 +109,8 @@ pub fn maybe_name<'a>(entry: &'a Table, key: &str) -> Result<Option<&'a str>, Wh
     }
 }
 
-/// The file name at a key that is needed.
+/// The file name at a key that is needed: 1 to 255 octets, none of them 0. Missing where it is
+/// absent, Kind where it is no text, Range where it has another form.
 pub fn file_name<'a>(entry: &'a Table, key: &str) -> Result<&'a str, Why>
     ensures { Reads (λ t. t.now) result (needed file_name (get_member key.now (table_view entry.now))) }
 {
@@ -117,7 +120,8 @@ pub fn file_name<'a>(entry: &'a Table, key: &str) -> Result<&'a str, Why>
     }
 }
 
-/// The file name at a key that may be absent.
+/// The file name at a key that may be absent, of the form that [`file_name`] has: Kind where it is
+/// no text, Range where it has another form.
 pub fn maybe_file_name<'a>(entry: &'a Table, key: &str) -> Result<Option<&'a str>, Why>
     ensures { Reads (option_map (λ t. t.now)) result (maybe file_name (get_member key.now (table_view entry.now))) }
 {

@@ -72,7 +72,8 @@ fn edge_type_of(value: &Value) -> Result<u16, Why>
 }
 
 /// The IOAM-Trace-Type at a key that may be absent, a number below 2^24 of which bit 0 is the most
-/// significant: only bits 0 to 11 and 22, and one of them at least (RFC 9197 section 4.4.1).
+/// significant: only bits 0 to 11 and 22, and one of them at least (RFC 9197 section 4.4.1). Kind
+/// where it is no whole number, else Range.
 pub fn maybe_trace_type(entry: &Table, key: &str) -> Result<Option<TraceType>, Why>
     ensures { result ≡ maybe trace_type (get_member key.now (table_view entry.now)) }
 {
@@ -86,7 +87,8 @@ pub fn maybe_trace_type(entry: &Table, key: &str) -> Result<Option<TraceType>, W
 }
 
 /// The IOAM-Trace-Type of direct exports at a key that may be absent: only bits 0 to 6, 8 to 11
-/// and 22, with bit 0 or bit 8, the hop limits by which exports are put in order (RFC 9326).
+/// and 22, with bit 0 or bit 8, the hop limits by which exports are put in order (RFC 9326 section
+/// 3.2). Kind where it is no whole number, else Range.
 pub fn maybe_direct_type(entry: &Table, key: &str) -> Result<Option<TraceType>, Why>
     ensures { result ≡ maybe direct_type (get_member key.now (table_view entry.now)) }
 {
@@ -101,7 +103,7 @@ pub fn maybe_direct_type(entry: &Table, key: &str) -> Result<Option<TraceType>, 
 
 /// The IOAM-E2E-Type at a key that may be absent: not 0, only the bits 0x8000, 0x4000, 0x2000 and
 /// 0x1000, and not both of the first two, the sequence numbers of 64 and of 32 bits (RFC 9197
-/// section 4.6).
+/// section 4.6). Kind where it is no whole number, else Range.
 pub fn maybe_edge_type(entry: &Table, key: &str) -> Result<Option<u16>, Why>
     ensures { result ≡ maybe edge_type (get_member key.now (table_view entry.now)) }
 {

@@ -13,6 +13,7 @@ pub mod LongestLaws
 pub mod KeptLaws
 pub mod ForwardLaws
 pub mod FlowKept
+pub mod PartFacts
 pub mod SoundLaws
 pub mod FileLaws
 pub mod DataKept

@@ -18,6 +18,7 @@ use Rattle.ioam_topo.specs.DataTable.{data_of, data_faults}
 use Rattle.ioam_topo.proofs.DataKept.{data_placed}
 use Rattle.ioam_topo.specs.FlowTable.{flow_of, flow_faults}
 use Rattle.ioam_topo.proofs.FlowKept.{flow_joins}
+use Rattle.ioam_topo.proofs.PartFacts.{nodes_sound, links_sound}
 use Rattle.ioam_topo.specs.declared.route_table.Parts.{Parts}
 use Rattle.ioam_topo.specs.declared.route_table.Routes.{Routes}
 use Rattle.ioam_topo.specs.Goods.{goods}
@@ -59,6 +60,7 @@ module _ (t : Members) (parts : Parts) (holds : HoldsParts t parts) (clear : par
   nodes_kept = record {
     named = holds.nodes.named;
     placed = holds.nodes.placed;
+    sound = nodes_sound (node_entries t) parts.nodes.items.items holds.nodes.items;
     few = let f : length (goods node_of (node_entries t)) ≤ MOST_NODES = few_entries node_of NodeTable MOST_NODES (get_member (codes "node") t) node_faults
         (none_front node_part (link_part ++ port_part) clear) in
         let e : length parts.nodes.items.items ≡ length (goods node_of (node_entries t)) = ap length holds.nodes.items in omega (arith, f, e);
@@ -70,6 +72,7 @@ module _ (t : Members) (parts : Parts) (holds : HoldsParts t parts) (clear : par
     joined = let all : All (JoinsNodes (length (node_names t))) (goods (link_of (node_names t)) (link_entries t)) = goods_all (JoinsNodes (length (node_names t))) (link_of (node_names t)) (link_entries t) (link_joins (node_names t)) in
         let P : List Link → Type 0 = All (JoinsNodes (length (node_names t))) in let Q : ℕ → Type 0 = λ n. All (JoinsNodes n) parts.links.items.items in
         subst Q node_count (subst P (sym holds.links.items) all);
+    sound = links_sound (node_names t) (link_entries t) parts.links.items.items holds.links.items;
     few = let f : length (goods (link_of (node_names t)) (link_entries t)) ≤ MOST_LINKS = few_entries (link_of (node_names t)) LinkTable MOST_LINKS (get_member (codes "link") t) (link_faults (node_names t))
         (none_front link_part port_part (none_behind node_part (link_part ++ port_part) clear)) in
         let e : length parts.links.items.items ≡ length (goods (link_of (node_names t)) (link_entries t)) = ap length holds.links.items in omega (arith, f, e);

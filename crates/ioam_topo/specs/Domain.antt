@@ -1,7 +1,8 @@
 -- A domain, and what it is of a file.
-use Rattle.std.specs.Prelude.{◌≡◌, List, Ok, ℕ, Bool, false, nat_eq, Option, Some, None, map, option_map}
+use Rattle.std.specs.Prelude.{◌≡◌, List, [], Ok, ℕ, Bool, nat_eq, Option, Some, None, map, option_map}
 use Rattle.std.specs.List.{list_any}
 use Rattle.toml.specs.Data.{Members}
+use Rattle.ioam_data.specs.declared.namespace.Namespace.{Namespace}
 use Rattle.ioam_topo.specs.declared.domain.Domain.{Domain}
 use Rattle.ioam_topo.specs.declared.parts.Node.{Node}
 use Rattle.ioam_topo.specs.declared.parts.Link.{Link}
@@ -56,7 +57,11 @@ pub record IsDomain (t : Members) (domain : Domain) : Type 0 where
   pub has_data : node_data domain ≡ node_data_of t
   pub has_flows : flows domain ≡ flows_of t
 
--- whether a node, where it is there, lists a namespace
-abbrev pub lists_space : Option Node → ℕ → Bool
-lists_space None namespace = false
-lists_space (Some node) namespace = list_any (λ space. nat_eq namespace space.0) node.namespaces
+-- the namespaces that a node, where it is there, lists
+abbrev pub spaces_of : Option Node → List Namespace
+spaces_of None = []
+spaces_of (Some node) = node.namespaces
+
+-- whether a target is an address of a node of the domain
+abbrev pub is_local : Domain → ℕ → Bool
+is_local domain target = list_any (λ (node : Node). nat_eq target node.address) (nodes domain)

@@ -4,6 +4,7 @@ use Rattle.std.specs.Str.{IsUtf8}
 use Rattle.toml.specs.Data.{Members}
 use Rattle.toml.specs.Parse.{parse_document}
 use Rattle.ioam_toml.specs.declared.why.Why.TheVariants.{Long, Text}
+use Rattle.ioam_topo.specs.declared.reading.TheConstants.{FILE_MOST}
 use Rattle.ioam_topo.specs.declared.words.Table.TheVariants.{Top}
 use Rattle.ioam_topo.specs.declared.words.Field.TheVariants.{NoKey}
 use Rattle.ioam_topo.specs.declared.fault.DomainFault.{DomainFault}
@@ -16,13 +17,13 @@ use Rattle.ioam_topo.specs.Domain.{IsDomain, nodes, links, ports, routes, node_d
 
 -- these octets, no more than a file may have, are the text of a table
 pub record IsTextOf (octets : List ℕ) (table : Members) : Type 0 where
-  pub few : length octets ≤ 1048576
+  pub few : length octets ≤ FILE_MOST
   pub utf8 : IsUtf8 octets
   pub parsed : parse_document octets ≡ Some table
 
 -- these octets, no more than a file may have, are the text of none
 pub record IsNoText (octets : List ℕ) : Type 0 where
-  pub few : length octets ≤ 1048576
+  pub few : length octets ≤ FILE_MOST
   pub unparsed : IsUtf8 octets → parse_document octets ≡ None
 
 -- this is the domain of a file of these octets, which has no fault
@@ -34,7 +35,7 @@ pub record IsDomainOf (octets : List ℕ) (domain : Domain) : Type 0 where
 
 -- the fault of a file of too many octets, and of one that is no text
 pub record IsLongFile (octets : List ℕ) (found : DomainFault) : Type 0 where
-  pub many : 1048576 < length octets
+  pub many : FILE_MOST < length octets
   pub is : found ≡ fault Top 0 NoKey Long
 
 pub record IsFaultyText (octets : List ℕ) (found : DomainFault) : Type 0 where

@@ -1,4 +1,4 @@
--- Where a node sends a target: the way of the route with the longest prefix (RFC 1812 section 5.2.4.3).
+-- Where a node sends a target: the way of the route with the longest prefix, of whatever length (RFC 7608 section 2).
 use Rattle.std.specs.Prelude.{◌≡◌, ◌<◌, ◌≤◌, ℕ, Bool, true, false, nat_eq, nat_lt, ◌&&◌, List, [], ◌∷◌, length, Option, Some, None, option_map, slice_get, if◌then◌else◌}
 use Rattle.std.specs.List.{All, Contains}
 use Rattle.std.specs.Option.{ForSome}

@@ -24,6 +24,7 @@ use Rattle.ioam_topo.specs.LinkRead.{name_of_link}
 use Rattle.ioam_topo.specs.PortRead.{name_of_port}
 use Rattle.ioam_topo.specs.RouteRead.{key_of_route, IsSized}
 use Rattle.ioam_topo.specs.DataRead.{key_of_data}
+use Rattle.ioam_topo.specs.Sound.{IsNode, IsLink}
 
 -- the ends of a link are two of so many nodes
 pub record JoinsNodes (nodes : ℕ) (link : Link) : Type 0 where
@@ -50,7 +51,7 @@ abbrev pub is_of : {A : Type 0} → (A → ℕ) → ℕ → Option A → Bool
 is_of node_of node None = false
 is_of node_of node (Some x) = nat_eq node (node_of x)
 
--- whether a way is from a node
+-- whether a way is from a node; a test, since a domain keeps only what has one proof
 abbrev pub is_way_from : List Link → List Port → ℕ → Way → Bool
 is_way_from links ports node (ByLink link) = is_of (λ l. l.from.0) node (slice_get links link.0)
 is_way_from links ports node (ByPort port) = is_of (λ p. p.node.0) node (slice_get ports port.0)
@@ -63,11 +64,13 @@ pub record IsRouteOf (nodes : ℕ) (links : List Link) (ports : List Port) (rout
 pub record NodesKept (nodes : Nodes) : Type 0 where
   pub named : nodes.names ≡ map name_of_node nodes.items.items
   pub placed : nodes.addresses.keys ≡ map address_of_node nodes.items.items
+  pub sound : All IsNode nodes.items.items
   pub few : length nodes.items.items ≤ MOST_NODES
 
 pub record LinksKept (nodes : ℕ) (links : Links) : Type 0 where
   pub named : links.names ≡ map name_of_link links.items.items
   pub joined : All (JoinsNodes nodes) links.items.items
+  pub sound : All IsLink links.items.items
   pub few : length links.items.items ≤ MOST_LINKS
 
 pub record PortsKept (nodes : ℕ) (ports : Ports) : Type 0 where

@@ -63,7 +63,7 @@ module _ (nodes : List (List ℕ)) where
   abbrev pub link_end : Members → Result (Result ℕ Why) Why
   link_end m = link_name m ▷ (λ name. Ok (link_from m))
 
-  -- a link, apart from its tap
+  -- a link, whether or not its tap is one too many
   abbrev pub link_of : Members → Result Link Why
   link_of m = link_name m ▷ (λ name. link_from m ▷ (λ from. link_to m ▷ (λ to.
       link_out_id m ▷ (λ out_id. link_in_id m ▷ (λ in_id. link_delay m ▷ (λ delay. link_mtu m ▷ (λ mtu.

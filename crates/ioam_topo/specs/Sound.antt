@@ -1,10 +1,24 @@
--- What is true of each flow and of a node's data, whatever file they are of.
-use Rattle.std.specs.Prelude.{◌≡◌, ◌≤◌, ◌%◌, true, is_some, length}
+-- What is true of each node, link and flow, and of a node's data, whatever file they are of.
+use Rattle.std.specs.Prelude.{◌≡◌, ◌<◌, ◌≤◌, ◌%◌, ◌^◌, true, is_some, length}
 use Rattle.std.specs.Option.{ForSome}
 use Rattle.ioam_data.specs.Kind.{is_entry_type}
 use Rattle.ioam_toml.specs.Types.{is_direct_type, is_edge_type}
+use Rattle.ioam_toml.specs.declared.spaces.TheConstants.{SPACES_MOST}
+use Rattle.ioam_topo.specs.declared.parts.Node.{Node}
+use Rattle.ioam_topo.specs.declared.parts.Link.{Link}
 use Rattle.ioam_topo.specs.declared.parts.NodeData.{NodeData}
 use Rattle.ioam_topo.specs.declared.parts.Flow.{Flow}
+
+-- its id is one of 56 bits, and its list of namespaces is no longer than such a list may be
+pub record IsNode (node : Node) : Type 0 where
+  pub id_below : node.id < 2 ^ 56
+  pub few_spaces : length node.namespaces ≤ SPACES_MOST
+
+-- its delay and its MTU are within their bounds
+pub record IsLink (link : Link) : Type 0 where
+  pub delay_most : link.delay ≤ 1000000000
+  pub mtu_least : 1280 ≤ link.mtu
+  pub mtu_most : link.mtu ≤ 65575
 
 -- its numbers are within their bounds and its types are allowed, and what goes together is there together
 pub record IsFlow (flow : Flow) : Type 0 where

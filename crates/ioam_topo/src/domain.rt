@@ -46,6 +46,8 @@ pub struct Domain {
     pub(crate) parts: Parts,
     pub(crate) routes: Routes,
     pub(crate) telemetry: Telemetry,
+    ghost packets_some: { 1 ≤ packets },
+    ghost packets_most: { packets ≤ 16777216 },
     ghost nodes_kept: { NodesKept parts.nodes },
     ghost links_kept: { LinksKept (length parts.nodes.items.items) parts.links },
     ghost ports_kept: { PortsKept (length parts.nodes.items.items) parts.ports },

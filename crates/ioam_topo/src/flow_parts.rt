@@ -14,7 +14,6 @@ use crate::fault::DomainRefused;
 use crate::keys::Spot;
 use crate::node_table::Nodes;
 use crate::numbers::{maybe_number8, maybe_number32, number8, number16, number32_or_0};
-use crate::parts::Node;
 use crate::words::{Field, Table};
 use ioam_data::{Namespace, TraceType};
 use ioam_toml::{
@@ -62,11 +61,11 @@ fn is_listed(spaces: &[Namespace], space: u16) -> bool
     spaces.iter().any(|known| space == known.0)
 }
 
-// Whether a node knows a namespace.
-fn knows_space(node: &Node, space: u16) -> bool
-    ensures { result ≡ knows_space node.now.namespaces space }
+// Whether a node that lists these knows a namespace.
+pub(crate) fn knows_space(spaces: &[Namespace], space: u16) -> bool
+    ensures { result ≡ knows_space spaces.now space }
 {
-    space == 0 || is_listed(node.namespaces.list(), space)
+    space == 0 || is_listed(spaces, space)
 }
 
 // A namespace that was read, where a node knows it.
@@ -75,20 +74,10 @@ fn known_at(nodes: &Nodes, node: u32, read: Result<u16, Why>) -> Result<u16, Why
 {
     match read {
         Ok(space) => match nodes.items.get(node as usize) {
-            Some(known) if !knows_space(known, space) => Err(Why::Range),
+            Some(known) if !knows_space(known.namespaces.list(), space) => Err(Why::Range),
             _ => Ok(space),
         },
         Err(why) => Err(why),
-    }
-}
-
-// The node at which a flow's packets are taken out, another than the one that encloses them.
-fn exit_node(nodes: &Nodes, entry: &toml::Table, first: u32) -> Result<u32, Why>
-    ensures { result ≡ needed name (get_member (codes "exit") (table_view entry.now)) ▷ known nodes.now.names ▷ differs (Ok first) }
-{
-    match nodes.names.known(entry, "exit") {
-        Ok(exit) if exit == first => Err(Why::Range),
-        other => other,
     }
 }
 
@@ -103,7 +92,10 @@ pub(crate) fn read_selection(
         × (flow_space nodes.now.names (map list_of nodes.now.items.items) (table_view entry.now) ≡ Ok s.namespace)) }
 {
     let first = spot.key(Field::EntryKey, nodes.names.known(entry, "entry"))?;
-    let exit = spot.key(Field::ExitKey, exit_node(nodes, entry, first))?;
+    let exit = spot.key(
+        Field::ExitKey,
+        nodes.names.known_other(entry, "exit", first),
+    )?;
     let source = spot.key(Field::SourceKey, prefix(entry, "source"))?;
     let target = spot.key(Field::TargetKey, prefix(entry, "target"))?;
     let known = known_at(nodes, first, number16(entry, "namespace"));

@@ -49,7 +49,7 @@ impl Domain {
     }
 
     /// Where a node sends a target: the way of the longest of the node's routes whose prefix the
-    /// target has (RFC 1812 section 5.2.4.3); none where there is none, and none for a node that
+    /// target has (RFC 7608 section 2); none where there is none, and none for a node that
     /// is not of the domain.
     pub fn forward(&self, node: NodeId, target: u128) -> Option<Way>
         ensures value { result ≡ way_to (routes self.now) node.0 target }

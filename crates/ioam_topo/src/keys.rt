@@ -10,7 +10,7 @@ use crate::fault::{DomainFault, DomainRefused};
 use crate::words::{Field, Table};
 use ioam_toml::{Refused, Why};
 
-// A table and the place of an entry in it, from 1.
+// A table and the place of an entry in it, from 1; 0 for the table as a whole.
 #[derive(Clone, Copy)]
 pub(crate) struct Spot {
     pub(crate) table: Table,

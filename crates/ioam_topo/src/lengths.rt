@@ -1,14 +1,16 @@
-ghost use Rattle.std.specs.Prelude.{◌≡◌, ◌≤◌, slice_get, Some};
+ghost use Rattle.std.specs.Prelude.{◌≡◌, ◌≤◌, false, replicate, slice_get, Some};
 ghost use Rattle.ioam_topo.specs.Lengths.{Occurs, Marks};
 
-// The lengths that prefixes have.
+// The lengths that prefixes have, so that a look-up costs one hash for each length that occurs.
 #[derive(Drop)]
 pub(crate) struct Lengths {
     pub(crate) held: [bool; 129],
 }
 
 impl Lengths {
-    pub(crate) fn new() -> Lengths {
+    pub(crate) fn new() -> Lengths
+        ensures { result.held ≡ replicate 129 false }
+    {
         Lengths { held: [false; 129] }
     }
 

@@ -1,5 +1,5 @@
-//! The domain file: nodes, links, ports and routes in TOML, read with each fault at its place, and
-//! the look-ups in a domain.
+//! The domain file: nodes, links, ports, routes, node data and flows in TOML, read with each fault
+//! at its place, and the look-ups in a domain.
 #![tactic(auto)]
 
 mod collecting;

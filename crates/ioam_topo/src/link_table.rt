@@ -54,23 +54,13 @@ struct Numbers {
     mtu: u32,
 }
 
-// The node that a link leads to, another than it is from.
-fn to_node(nodes: &Nodes, entry: &toml::Table, from: u32) -> Result<u32, Why>
-    ensures { result ≡ needed name (get_member (codes "to") (table_view entry.now)) ▷ known nodes.now.names ▷ differs (Ok from) }
-{
-    match nodes.names.known(entry, "to") {
-        Ok(to) if to == from => Err(Why::Range),
-        other => other,
-    }
-}
-
 fn link_ends(spot: Spot, nodes: &Nodes, entry: &toml::Table) -> Result<Ends, DomainRefused>
     requires { spot.table ≡ Table.LinkTable }
     ensures { Gives result (end_keys nodes.now.names spot.place (table_view entry.now))
         (λ ends. (link_from nodes.now.names (table_view entry.now) ≡ Ok ends.from) × (link_to nodes.now.names (table_view entry.now) ≡ Ok ends.to)) }
 {
     let from = spot.key(Field::FromKey, nodes.names.known(entry, "from"))?;
-    let to = spot.key(Field::ToKey, to_node(nodes, entry, from))?;
+    let to = spot.key(Field::ToKey, nodes.names.known_other(entry, "to", from))?;
     Ok(Ends { from, to })
 }
 
@@ -182,6 +172,7 @@ impl Links {
         ensures taps { OnOk result (self.new.taps ≡ self.old.taps + count_of link.tap) }
     {
         let more = if link.tap.is_some() { 1 } else { 0 };
+        // Never None: there are at most 1,024 links.
         let Some(taps) = self.taps.checked_add(more) else {
             return Err(NoMemory);
         };

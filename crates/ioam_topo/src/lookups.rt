@@ -1,10 +1,12 @@
-ghost use Rattle.std.specs.Prelude.{◌≡◌, ◌<◌, ◌≤◌, ◌||◌, nat_eq, length, slice_get, Some, IfSome};
-ghost use Rattle.std.specs.List.{All, list_any};
-ghost use Rattle.std.specs.Option.{option_copied};
-ghost use Rattle.ioam_topo.specs.Domain.{lists_space};
+ghost use Rattle.std.specs.Prelude.{◌≡◌, ◌<◌, ◌≤◌, length, slice_get, Some, IfSome};
+ghost use Rattle.std.specs.List.{All};
+ghost use Rattle.ioam_topo.specs.Domain.{is_local, spaces_of};
+ghost use Rattle.ioam_topo.specs.Sound.{IsNode, IsLink};
+ghost use Rattle.ioam_topo.specs.Spaces.{knows_space};
 ghost use Rattle.ioam_topo.specs.Kept.{JoinsNodes, IsAtNode, IsRouteOf};
 
 use crate::domain::Domain;
+use crate::flow_parts::knows_space;
 use crate::ids::{LinkId, NodeId, PortId};
 use crate::parts::{Link, Node, Port, Route};
 use crate::words::Format;
@@ -13,18 +15,22 @@ use ioam_data::Namespace;
 impl Domain {
     ghost use Rattle.ioam_topo.specs.Domain.{nodes, links, ports, routes, node_of_name, link_of_name};
 
-    /// The nodes, in file order: at most 256.
+    /// The nodes, in file order: at most 256, each with an id below 2^56 and a list of at most 16
+    /// namespaces.
     pub fn nodes(&self) -> &[Node]
         ensures few { length (nodes self.now) ≤ 256 }
+        ensures sound { All IsNode result.now }
         ensures value { result.now ≡ nodes self.now }
     {
         self.parts.nodes.items.as_slice()
     }
 
-    /// The links, in file order: at most 1,024, each from a node of the domain to another.
+    /// The links, in file order: at most 1,024, each from a node of the domain to another, with a
+    /// delay of at most 1,000,000,000 ns and an MTU from 1,280 to 65,575.
     pub fn links(&self) -> &[Link]
         ensures few { length (links self.now) ≤ 1024 }
         ensures ends { All (JoinsNodes (length (nodes self.now))) result.now }
+        ensures sound { All IsLink result.now }
         ensures value { result.now ≡ links self.now }
     {
         self.parts.links.items.as_slice()
@@ -52,7 +58,8 @@ impl Domain {
     /// A node by its id.
     pub fn node(&self, id: NodeId) -> &Node
         requires { id.0 < length (nodes self.now) }
-        ensures { slice_get (nodes self.now) id.0 ≡ Some result.now }
+        ensures value { slice_get (nodes self.now) id.0 ≡ Some result.now }
+        ensures sound { IsNode result.now }
     {
         &self.parts.nodes.items[id.0 as usize]
     }
@@ -62,6 +69,7 @@ impl Domain {
         requires { id.0 < length (links self.now) }
         ensures value { slice_get (links self.now) id.0 ≡ Some result.now }
         ensures ends { JoinsNodes (length (nodes self.now)) result.now }
+        ensures sound { IsLink result.now }
     {
         &self.parts.links.items[id.0 as usize]
     }
@@ -106,39 +114,27 @@ impl Domain {
 
     /// The most packets of a run, 1 to 16,777,216.
     pub fn packets(&self) -> u32
-        ensures { result ≡ self.now.packets }
+        ensures value { result ≡ self.now.packets }
+        ensures some { 1 ≤ result }
+        ensures most { result ≤ 16777216 }
     {
         self.packets
     }
 
     /// Whether a target is an address of a node of the domain.
     pub fn is_local(&self, target: u128) -> bool
-        ensures { result ≡ list_any (λ node. nat_eq target node.address) (nodes self.now) }
+        ensures { result ≡ is_local self.now target }
     {
         self.parts.nodes.addresses.contains(&target)
     }
 
     /// Whether a node knows a namespace; every node knows namespace 0.
     pub fn knows(&self, node: NodeId, namespace: Namespace) -> bool
-        ensures { result ≡ (nat_eq namespace.0 0 || lists_space (slice_get (nodes self.now) node.0) namespace.0) }
+        ensures { result ≡ knows_space (spaces_of (slice_get (nodes self.now) node.0)) namespace.0 }
     {
-        namespace.0 == 0 || lists_space(self.nodes().get(node.0 as usize), namespace)
+        match self.nodes().get(node.0 as usize) {
+            Some(known) => knows_space(known.namespaces.list(), namespace.0),
+            None => namespace.0 == 0,
+        }
     }
-}
-
-// Whether a node, where it is there, lists a namespace.
-fn lists_space(node: Option<&Node>, namespace: Namespace) -> bool
-    ensures { result ≡ lists_space (option_copied node.entry) namespace.0 }
-{
-    match node {
-        Some(node) => is_among(node.namespaces.list(), namespace),
-        None => false,
-    }
-}
-
-// Whether a namespace is one of these.
-fn is_among(spaces: &[Namespace], namespace: Namespace) -> bool
-    ensures { result ≡ list_any (λ space. nat_eq namespace.0 space.0) spaces.now }
-{
-    spaces.iter().any(|space| namespace.0 == space.0)
 }

@@ -6,7 +6,7 @@ ghost use Rattle.toml.specs.Data.{get_member};
 ghost use Rattle.toml.specs.View.{table_view};
 ghost use Rattle.ioam_toml.specs.Reads.{Reads, ◌▷◌, needed};
 ghost use Rattle.ioam_toml.specs.Texts.{name};
-ghost use Rattle.ioam_topo.specs.Goods.{place_of, fresh, known};
+ghost use Rattle.ioam_topo.specs.Goods.{place_of, fresh, known, differs};
 
 use indexmap::IndexSet;
 use ioam_base::memory::NoMemory;
@@ -78,6 +78,16 @@ impl Names {
         match name(entry, key) {
             Ok(name) => self.known_name(name),
             Err(why) => Err(why),
+        }
+    }
+
+    // The place of the name at a key of an entry, another than a place.
+    pub(crate) fn known_other(&self, entry: &Table, key: &str, place: u32) -> Result<u32, Why>
+        ensures { result ≡ needed name (get_member key.now (table_view entry.now)) ▷ known self.now ▷ differs (Ok place) }
+    {
+        match self.known(entry, key) {
+            Ok(at) if at == place => Err(Why::Range),
+            other => other,
         }
     }
 

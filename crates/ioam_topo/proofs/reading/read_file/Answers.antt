@@ -2,6 +2,7 @@ use Rattle.std.proofs.Common.{refl}
 use Rattle.ioam_topo.proofs.FaultLaws.{gives_first}
 use Rattle.ioam_topo.proofs.PartsLaws.{third_of_four, last_of_four, routes_same}
 use Rattle.toml.specs.View.{table_view}
+use Rattle.ioam_topo.proofs.PartFacts.{packets_bounds}
 use Rattle.ioam_topo.proofs.SoundLaws.{nodes_kept, links_kept, ports_kept, routes_kept, data_kept, flows_kept}
 use Rattle.ioam_topo.proofs.reading.read_file.Goals as goal
 
@@ -21,6 +22,8 @@ returns-in-Err-read_telemetry c = gives_first c.in-Err-read_telemetry.refused _ 
 
 pub invariant_of-result : goal.invariant_of-result
 invariant_of-result c = record {
+  packets_some = (packets_bounds (table_view c.args.top.now) c.in-Ok.own.packets c.in-Ok.ensures.1.1).0;
+  packets_most = (packets_bounds (table_view c.args.top.now) c.in-Ok.own.packets c.in-Ok.ensures.1.1).1;
   nodes_kept = nodes_kept (table_view c.args.top.now) c.in-Ok-read_parts.parts c.in-Ok-read_parts.ensures.1 c.in-Ok-read_parts.ensures.0;
   links_kept = links_kept (table_view c.args.top.now) c.in-Ok-read_parts.parts c.in-Ok-read_parts.ensures.1 c.in-Ok-read_parts.ensures.0;
   ports_kept = ports_kept (table_view c.args.top.now) c.in-Ok-read_parts.parts c.in-Ok-read_parts.ensures.1 c.in-Ok-read_parts.ensures.0;
