@@ -98,13 +98,13 @@ impl Forwarding {
         domain: &Domain,
         port: PortId,
         ethernet: bool,
-        record: &Packet<'_>,
+        captured: &Packet<'_>,
         outputs: &mut [Output],
     ) -> Result<(), NoMemory>
         requires of { IsOf domain.now self.old }
         requires port { port.0 < length (ports domain.now) }
-        requires time { record.now.time < 2 ^ 62 }
-        requires short { length record.now.octets.now ≤ most }
+        requires time { captured.now.time < 2 ^ 62 }
+        requires short { length captured.now.octets.now ≤ most }
         requires few { taken self.old < 2 ^ 32 }
         requires width { length outputs.old ≡ length (ports domain.now) + 2 }
         ensures of { OnOk result (IsOf domain.now self.new) }
@@ -112,11 +112,11 @@ impl Forwarding {
         ensures gathers { OnOk result ((added : List (List ℕ)) × Adds outputs.old outputs.new added
             × ((frames : List Frame) (so_far : List (List ℕ)) → Forwards domain.now frames so_far self.old
             → Forwards domain.now
-            (frames ++ record { port = port; ethernet = ethernet; entry = entry_of record.now } ∷ [])
+            (frames ++ record { port = port; ethernet = ethernet; entry = entry_of captured.now } ∷ [])
             (said_more so_far added) self.new)) }
     {
-        let admitted = admit(domain, port, ethernet, record.is_cut(), record.octets);
-        let itinerary = plan(alloc, domain, port, record.time, &admitted)?;
+        let admitted = admit(domain, port, ethernet, captured.is_cut(), captured.octets);
+        let itinerary = plan(alloc, domain, port, captured.time, &admitted)?;
         let number = self.sums.packets + 1;
         put_fate(domain, number, port, &admitted, &itinerary, outputs)?;
         self.sums.note(&itinerary);

@@ -53,13 +53,13 @@ impl Gather for Filtering {
     fn take(
         &mut self,
         ethernet: bool,
-        record: &Packet<'_>,
+        captured: &Packet<'_>,
         outputs: &mut [Output],
     ) -> Result<(), NoMemory> {
         let number = self.kept + self.dropped + 1;
-        match judge(ethernet, record) {
+        match judge(ethernet, captured) {
             Judgement::Kept(octets) => {
-                put_record(record.time, octets, &mut outputs[0].gathered)?;
+                put_record(captured.time, octets, &mut outputs[0].gathered)?;
                 put_kept(number, &mut outputs[1].gathered)?;
                 self.kept += 1;
             }

@@ -10,9 +10,9 @@ use ioam_ip::{Framed, packet_of};
 use ioam_pcap::Packet;
 
 /// What a record of a capture gives; `ethernet` says that its frames begin with an Ethernet header.
-pub fn framed<'a>(ethernet: bool, record: &Packet<'a>) -> Framed<'a>
-    ensures framing { framing result ≡ entry_framing ethernet (entry_of record.now) }
+pub fn framed<'a>(ethernet: bool, captured: &Packet<'a>) -> Framed<'a>
+    ensures framing { framing result ≡ entry_framing ethernet (entry_of captured.now) }
     ensures packet { IfHolds (framing result) IsPacket }
 {
-    packet_of(ethernet, record.is_cut(), record.octets)
+    packet_of(ethernet, captured.is_cut(), captured.octets)
 }

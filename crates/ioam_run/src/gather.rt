@@ -47,16 +47,16 @@ pub trait Gather: Drop {
     fn take(
         &mut self,
         ethernet: bool,
-        record: &Packet<'_>,
+        captured: &Packet<'_>,
         outputs: &mut [Output],
     ) -> Result<(), NoMemory>
-        requires short { length record.now.octets.now ≤ most }
+        requires short { length captured.now.octets.now ≤ most }
         requires few { count self.old < 2 ^ 32 }
         requires width { length outputs.old ≡ width }
         ensures counted { OnOk result (count self.new ≡ count self.old + 1) }
         ensures gathers { OnOk result ((added : List (List ℕ)) × Adds outputs.old outputs.new added
             × ((entries : List Entry) (so_far : List (List ℕ)) → gathers ethernet entries so_far self.old
-            → gathers ethernet (entries ++ entry_of record.now ∷ []) (said_more so_far added) self.new)) };
+            → gathers ethernet (entries ++ entry_of captured.now ∷ []) (said_more so_far added) self.new)) };
 
     /// Adds what stands behind the last record.
     fn put_sums(&self, outputs: &mut [Output]) -> Result<(), NoMemory>

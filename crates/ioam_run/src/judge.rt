@@ -20,13 +20,13 @@ pub enum Judgement<'a> {
 }
 
 /// What becomes of a record of a capture; `ethernet` says that its frames begin with an Ethernet header.
-pub fn judge<'a>(ethernet: bool, record: &Packet<'a>) -> Judgement<'a>
-    ensures verdict { HasVerdict ethernet (entry_of record.now) (verdict_of result) }
+pub fn judge<'a>(ethernet: bool, captured: &Packet<'a>) -> Judgement<'a>
+    ensures verdict { HasVerdict ethernet (entry_of captured.now) (verdict_of result) }
     // It has no other.
-    ensures only { (verdict : Verdict) → HasVerdict ethernet (entry_of record.now) verdict → verdict_of result ≡ verdict }
-    ensures within { IsWithin (verdict_of result) record.now.octets.now }
+    ensures only { (verdict : Verdict) → HasVerdict ethernet (entry_of captured.now) verdict → verdict_of result ≡ verdict }
+    ensures within { IsWithin (verdict_of result) captured.now.octets.now }
 {
-    match framed(ethernet, record) {
+    match framed(ethernet, captured) {
         Framed::Packet(octets) => judge_packet(octets),
         Framed::NotIpv6 => Judgement::Dropped(Reason::NotIpv6),
         Framed::Cut => Judgement::Dropped(Reason::Cut),

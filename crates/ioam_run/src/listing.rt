@@ -49,10 +49,15 @@ impl Gather for Listing {
     fn take(
         &mut self,
         ethernet: bool,
-        record: &Packet<'_>,
+        captured: &Packet<'_>,
         outputs: &mut [Output],
     ) -> Result<(), NoMemory> {
-        put_entry(self.packets + 1, ethernet, record, &mut outputs[0].gathered)?;
+        put_entry(
+            self.packets + 1,
+            ethernet,
+            captured,
+            &mut outputs[0].gathered,
+        )?;
         self.packets += 1;
         Ok(())
     }
@@ -85,13 +90,13 @@ fn put_count(packets: u64, out: &mut Vec<u8>) -> Result<(), NoMemory>
 fn put_entry(
     number: u64,
     ethernet: bool,
-    record: &Packet<'_>,
+    captured: &Packet<'_>,
     out: &mut Vec<u8>,
 ) -> Result<(), NoMemory>
-    ensures { OnOk result ((text : List _) × EntryLines ethernet number (entry_of record.now) text
+    ensures { OnOk result ((text : List _) × EntryLines ethernet number (entry_of captured.now) text
         × (out.new.items ≡ out.old.items ++ text)) }
 {
-    match framed(ethernet, record) {
+    match framed(ethernet, captured) {
         Framed::Packet(octets) => put_packet(number, octets, out),
         Framed::NotIpv6 => put_skip(number, Reason::NotIpv6, out),
         Framed::Cut => put_skip(number, Reason::Cut, out),

@@ -44,11 +44,11 @@ pub fn step<G: Gather>(
             *ethernet = is_ethernet(Some(link));
             Ok(None)
         }
-        CapStep::Packet(record) => {
+        CapStep::Packet(captured) => {
             if gathered.taken() >= u64::from(MOST_PACKETS) {
                 return Ok(Some(Pause::Limit));
             }
-            match gathered.take(*ethernet, &record, outputs) {
+            match gathered.take(*ethernet, &captured, outputs) {
                 Ok(()) => Ok(None),
                 Err(NoMemory) => Err(NoMemory),
             }

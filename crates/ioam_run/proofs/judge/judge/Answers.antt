@@ -13,17 +13,17 @@ returns-in-Packet-clause-within c = IsWithin-le _ _ _ (held_within _ _ _ _ c.in-
 
 pub returns-in-Packet-clause-only : goal.returns-in-Packet-clause-only
 returns-in-Packet-clause-only c = λ verdict has.
-    only_verdict c.args.ethernet (entry_of c.args.record.now) (Holds c.in-Packet.octets.now) (verdict_of c.judge_packet.result) verdict
+    only_verdict c.args.ethernet (entry_of c.args.captured.now) (Holds c.in-Packet.octets.now) (verdict_of c.judge_packet.result) verdict
     c.in-Packet.ensures.framing c.judge_packet.ensures.verdict has
 
 pub returns-in-NotIpv6-clause-only : goal.returns-in-NotIpv6-clause-only
 returns-in-NotIpv6-clause-only c = λ verdict has.
-    only_verdict c.args.ethernet (entry_of c.args.record.now) NoIpv6 (Drops reason.NotIpv6) verdict c.in-NotIpv6.ensures.framing refl has
+    only_verdict c.args.ethernet (entry_of c.args.captured.now) NoIpv6 (Drops reason.NotIpv6) verdict c.in-NotIpv6.ensures.framing refl has
 
 pub returns-in-Cut-clause-only : goal.returns-in-Cut-clause-only
 returns-in-Cut-clause-only c = λ verdict has.
-    only_verdict c.args.ethernet (entry_of c.args.record.now) CutShort (Drops reason.Cut) verdict c.in-Cut.ensures.framing refl has
+    only_verdict c.args.ethernet (entry_of c.args.captured.now) CutShort (Drops reason.Cut) verdict c.in-Cut.ensures.framing refl has
 
 pub returns-in-Length-clause-only : goal.returns-in-Length-clause-only
 returns-in-Length-clause-only c = λ verdict has.
-    only_verdict c.args.ethernet (entry_of c.args.record.now) TooShort (Drops reason.Length) verdict c.in-Length.ensures.framing refl has
+    only_verdict c.args.ethernet (entry_of c.args.captured.now) TooShort (Drops reason.Length) verdict c.in-Length.ensures.framing refl has

@@ -10,7 +10,7 @@ returns-then-taken-from-clause-stepped g c =
       (refl, refl, refl),
       omega arith,
       ap link_by told.0.0,
-      (entry_of c.in-Packet.record, λ octets entries stands. (told.1 octets entries stands).1),
+      (entry_of c.in-Packet.captured, λ octets entries stands. (told.1 octets entries stands).1),
     )
 
 pub returns-in-Head-clause-stepped : goal.returns-in-Head-clause-stepped
@@ -30,6 +30,6 @@ returns-in-Ok-clause-stepped g c =
       omega (arith, told.0.3),
       λ tells start inputs outputs slot.
           Streams-record g.G.Gather.gathers g.G.Gather.count tells start inputs outputs slot c.args.reader.now c.next.follows.lender-at-none
-          c.args.ethernet.now c.args.gathered.now c.take.new.self c.args.outputs.now c.take.new.outputs (entry_of c.in-Packet.record)
+          c.args.ethernet.now c.args.gathered.now c.take.new.self c.args.outputs.now c.take.new.outputs (entry_of c.in-Packet.captured)
           (omega arith) c.in-Ok.ensures.counted told.0.1 told.0.0 told.1 c.in-Ok.ensures.gathers,
     )

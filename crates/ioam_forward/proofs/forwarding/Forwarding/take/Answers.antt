@@ -15,7 +15,7 @@ plan-requires-clause-admitted c = answer-plannable c.args.domain.now _ _ c.admit
 
 pub put_fate-requires-clause-short : goal.put_fate-requires-clause-short
 put_fate-requires-clause-short c =
-    let within = answer-within c.args.domain.now _ c.args.ethernet _ c.args.record.now.octets.now c.admit-admitted.result c.admit-admitted.ensures.admits in
+    let within = answer-within c.args.domain.now _ c.args.ethernet _ c.args.captured.now.octets.now c.admit-admitted.result c.admit-admitted.ensures.admits in
     omega (arith, within, c.requires.short)
 
 pub returns-clause-of : goal.returns-clause-of
@@ -29,7 +29,7 @@ returns-clause-counted c = (IsOf-push c.args.domain.now c.args.self.now (record 
 pub returns-clause-gathers : goal.returns-clause-gathers
 returns-clause-gathers c =
     let P : Bool → Type 0 = λ cut. IsSomeAnd (slice_get (ports c.args.domain.now) c.args.port.0)
-    (λ at. Admits c.args.domain.now at.node.0 (framing_of c.args.ethernet cut c.args.record.now.octets.now) c.admit-admitted.result) in (
+    (λ at. Admits c.args.domain.now at.node.0 (framing_of c.args.ethernet cut c.args.captured.now.octets.now) c.admit-admitted.result) in (
       added_by c.args.domain.now (c.args.self.now.sums.packets + 1)
           (record { port = c.args.port; packet = packet_of c.admit-admitted.result; visits = c.in_ok-itinerary.itinerary.visits; end = c.in_ok-itinerary.itinerary.end }),
       c.in_ok-put_fate.ensures,

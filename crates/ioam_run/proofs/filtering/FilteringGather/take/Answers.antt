@@ -8,7 +8,7 @@ use Rattle.ioam_run.proofs.filtering.FilteringGather.take.Goals as goal
 
 pub returns-in_ok-put_kept-in-Kept-clause-gathers : goal.returns-in_ok-put_kept-in-Kept-clause-gathers
 returns-in_ok-put_kept-in-Kept-clause-gathers c = (
-  record_octets c.args.record.now.time c.in-Kept.octets.now ∷ verdict_line (c.args.self.now.kept + c.args.self.now.dropped + 1) (Keeps c.in-Kept.octets.now) ∷ [],
+  record_octets c.args.captured.now.time c.in-Kept.octets.now ∷ verdict_line (c.args.self.now.kept + c.args.self.now.dropped + 1) (Keeps c.in-Kept.octets.now) ∷ [],
   Adds-both _ _ _ _ _ _ _ c.requires.width refl c.in_ok-put_record-in-Kept.ensures.octets refl c.in_ok-put_kept-in-Kept.ensures,
   Gathers-keep _ _ _ _ _ _ refl c.in-Kept.ensures.verdict refl refl,
 )
