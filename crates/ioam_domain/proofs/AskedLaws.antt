@@ -4,6 +4,7 @@ use Rattle.std.specs.Prelude.{map}
 use Rattle.std.proofs.lemmas.Bool.{cases_lt}
 use Rattle.ioam_desk.specs.Desk.{Reading, Writing, Rose, holds}
 use Rattle.ioam_merge.specs.Merging.{FilesArrive, FilesBegin}
+use Rattle.ioam_outputs.proofs.NamesLaws.{first_unique}
 use Rattle.ioam_outputs.specs.Names.{AreApart, IsFirstRepeat, name_at}
 use Rattle.ioam_pcap.specs.declared.capture.CapFault.{CapFault}
 use Rattle.ioam_pcap.specs.declared.turns.Turn.{Turn}
@@ -14,11 +15,6 @@ use Rattle.ioam_topo.specs.File.{Agree}
 use Rattle.ioam_topo.specs.declared.domain.Domain.{Domain}
 use Rattle.ioam_domain.specs.Run.{HasCause, Asked, IsSet, IsReady, Arrives, Exceeds, contents, run_files, run_inputs}
 use Rattle.ioam_domain.proofs.SameLaws.{FilesArrive-unique, FilesBegin-few, one_set, one_domain_fault, fault_or_set, fault_or_readings, one_readings_fault, readings_or_set, same_files, same_inputs}
-
-first_unique : (names : List (List ℕ)) (a b : ℕ) → IsFirstRepeat names a → IsFirstRepeat names b → a ≡ b
-first_unique names a b x y = ⊎_elim (λ below. absurd (y.none_before a below x.repeats))
-    (λ not_below. ⊎_elim (λ above. absurd (x.none_before b above y.repeats)) (λ not_above. omega (arith, not_below, not_above)) (cases_lt b a))
-    (cases_lt a b)
 
 broken_or_over : (place at : ℕ) (fault : CapFault) → Broken place at fault ≡ Over → ⊥
 broken_or_over place at fault same = cc

@@ -4,6 +4,7 @@ use Rattle.std.specs.Prelude.{slice_get, slice_index_or}
 use Rattle.std.proofs.lemmas.Option.{none-some, same_Some}
 use Rattle.std.proofs.lemmas.List.{get_or_default}
 use Rattle.ioam_desk.specs.Desk.{Reading, Writing}
+use Rattle.ioam_outputs.proofs.NamesLaws.{found_name}
 use Rattle.ioam_outputs.specs.Names.{AreApart, IsFirstRepeat, name_at}
 use Rattle.ioam_answer.specs.declared.outcome.Outcome.TheVariants as outcome
 use Rattle.ioam_setting.specs.Names.{output_names, file_names}
@@ -13,10 +14,6 @@ use Rattle.ioam_topo.specs.declared.ids.PortId.{PortId}
 use Rattle.ioam_traffic.specs.Traffic.{begun, Finishes}
 use Rattle.ioam_traffic.specs.declared.halt.Halt.{Halt}
 use Rattle.ioam_domain.specs.Run.{domain_file, readings_file, report_file, exports_file, word_files}
-
--- what was found at a place of names
-pub found_name : (names : List (List ℕ)) (at : ℕ) (name : List ℕ) → name ≡ get_or names at name → at < length names → name ≡ name_at names at
-found_name names at name is inside = is ∙ get_or_default names at name [] inside
 
 -- the traffic ended so, whatever equal lists it was begun with
 pub finishes_alike : (tells : Bool) (domain : Domain) (ports other_ports : List PortId) (inputs other_inputs names other_names : List (List ℕ))
@@ -28,20 +25,6 @@ finishes_alike tells domain ports other_ports inputs other_inputs names other_na
     let Q : List (List ℕ) → Type 0 = λ is. Finishes (begun domain other_ports is names old_in old) tells old_in new_in old new halt in
     let R : List (List ℕ) → Type 0 = λ ns. Finishes (begun domain other_ports other_inputs ns old_in old) tells old_in new_in old new halt in
     subst R same_names (subst Q same_inputs (subst P same_ports ends))
-
--- the lists of names that were made of words and of a domain's ports
-pub outputs_read : (all : List Port) (words lent items : List (List ℕ)) (report exports : List ℕ) → lent ≡ items → items ≡ output_names all report exports
-    → report ≡ name_at words 4 → exports ≡ name_at words 5 → lent ≡ output_names all (report_file words) (exports_file words)
-outputs_read all words lent items report exports same is first second =
-    same ∙ is ∙ ap (λ r. output_names all r exports) first ∙ ap (output_names all (report_file words)) second
-
-pub files_read : (all : List Port) (words lent items : List (List ℕ)) (domain readings report exports : List ℕ) → lent ≡ items
-    → items ≡ file_names all (domain ∷ readings ∷ report ∷ exports ∷ []) → domain ≡ name_at words 1 → readings ≡ name_at words 2
-    → report ≡ name_at words 4 → exports ≡ name_at words 5 → lent ≡ file_names all (word_files words)
-files_read all words lent items domain readings report exports same is a b c d =
-    same ∙ is ∙ ap (λ n. file_names all (n ∷ readings ∷ report ∷ exports ∷ [])) a ∙ ap (λ n. file_names all (domain_file words ∷ n ∷ report ∷ exports ∷ [])) b
-    ∙ ap (λ n. file_names all (domain_file words ∷ readings_file words ∷ n ∷ exports ∷ [])) c
-    ∙ ap (λ n. file_names all (domain_file words ∷ readings_file words ∷ report_file words ∷ n ∷ [])) d
 
 -- what was taken out of a list that has these names
 pub taken_name : (names items : List (List ℕ)) (at : ℕ) (name : List ℕ) → items ≡ names → name ≡ get_or items at name → at < length names → name ≡ name_at names at

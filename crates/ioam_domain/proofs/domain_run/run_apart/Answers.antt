@@ -6,7 +6,7 @@ use Rattle.ioam_setting.proofs.NamesLaws.{apart-outputs}
 use Rattle.ioam_topo.specs.Domain.{ports}
 use Rattle.ioam_traffic.specs.declared.halt.Halt.TheVariants as halt
 use Rattle.ioam_domain.specs.Run.{domain_file, readings_file, report_file, exports_file, run_outputs, run_inputs}
-use Rattle.ioam_domain.proofs.WordsLaws.{found_name, outputs_read, taken_name, finishes_alike}
+use Rattle.ioam_domain.proofs.WordsLaws.{taken_name, finishes_alike}
 use Rattle.ioam_domain.proofs.domain_run.run_apart.Goals as goal
 
 pub run_traffic-requires-clause-apart : goal.run_traffic-requires-clause-apart

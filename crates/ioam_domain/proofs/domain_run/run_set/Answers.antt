@@ -2,7 +2,7 @@ use Rattle.std.proofs.Common.{◌≡◌, ℕ, List, length, refl, sym, ◌∙◌
 use Rattle.ioam_outputs.specs.Names.{AreApart, IsFirstRepeat}
 use Rattle.ioam_topo.specs.Domain.{ports}
 use Rattle.ioam_domain.specs.Run.{run_files}
-use Rattle.ioam_domain.proofs.WordsLaws.{found_name, files_read, taken_name}
+use Rattle.ioam_domain.proofs.WordsLaws.{taken_name}
 use Rattle.ioam_domain.proofs.domain_run.run_set.Goals as goal
 
 pub returns-in-Some-clause-ends : goal.returns-in-Some-clause-ends
