@@ -15,7 +15,7 @@ run_open-requires g c κs within =
     ap (λ (w : Writing). w.side.slots) c.in-Ok-open_feed.ensures.outputs in
     let P : List ℕ → Type 0 = λ name. Fed g.D.Desk.tells (holds (g.D.Desk.writing c.args.desk.now) name) (g.D.Desk.reading c.open_feed.new.desk)
     c.in-Ok-open_feed.feed.slot c.in-Ok-open_feed.feed.reader [] [] in
-    let told = c.in-Ok-open_outputs.ensures.opened.0 in (
+    let told = c.in-Ok-open_outputs.ensures.opened in (
       search rules,
       (
         search rules,

@@ -24,7 +24,7 @@ run_open-requires g c κs within =
     let outs = c.args.outputs.now in
     let reading = g.D.Desk.reading c.args.desk.now in
     let writing = g.D.Desk.writing c.args.desk.now in
-    let told = c.in-Ok-open_outputs.ensures.opened.0 in (
+    let told = c.in-Ok-open_outputs.ensures.opened in (
       search rules,
       (
         known_merging g.files ins outs reading writing c.requires.1.0 g.D.Desk.tells (g.D.Desk.reading c.open_merge.new.desk) (g.D.Desk.reading c.open_outputs.new.desk)
