@@ -6,6 +6,3 @@ mod setting;
 
 pub use names::{file_names, input_names, input_ports, output_names};
 pub use setting::{Refusal, Setting, read_setting};
-
-#[cfg(test)]
-mod tests;
