@@ -14,7 +14,7 @@ pub const UDP: &str =
     "6000000000081140 20010db8000100000000000000000001 20010db8000200000000000000000001 0400040100080000";
 
 // The octets of hexadecimal digits; `z` is 16 octets of zero, and blanks are for reading.
-pub fn octets(alloc: Global, parts: &[&str]) -> Result<Vec<u8>, NoMemory> {
+pub(crate) fn octets(alloc: Global, parts: &[&str]) -> Result<Vec<u8>, NoMemory> {
     let mut digits = Vec::new(alloc);
     for part in parts {
         for digit in part.bytes() {
@@ -29,7 +29,7 @@ pub fn octets(alloc: Global, parts: &[&str]) -> Result<Vec<u8>, NoMemory> {
 }
 
 // Words as the program has them.
-pub fn words(alloc: Global, texts: &[&str]) -> Result<Vec<Name>, NoMemory> {
+pub(crate) fn words(alloc: Global, texts: &[&str]) -> Result<Vec<Name>, NoMemory> {
     let mut words = Vec::new(alloc);
     for text in texts {
         words.push(Name::new(alloc, text)?)?;
@@ -38,7 +38,7 @@ pub fn words(alloc: Global, texts: &[&str]) -> Result<Vec<Name>, NoMemory> {
 }
 
 // Whether a file, if it is there, is a front of these octets.
-pub fn is_front(file: Option<&[u8]>, whole: &[u8]) -> bool {
+pub(crate) fn is_front(file: Option<&[u8]>, whole: &[u8]) -> bool {
     match file {
         Some(octets) => whole.starts_with(octets),
         None => true,
