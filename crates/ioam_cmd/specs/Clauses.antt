@@ -4,7 +4,7 @@ use Rattle.std.specs.Prelude.{◌≡◌, ℕ, ◌+◌, ◌<◌, ⊤, Bool, IsTru
 use Rattle.ioam_desk.specs.Asked.{AsksFront}
 use Rattle.ioam_desk.specs.Desk.{Reading, Writing, holds}
 use Rattle.ioam_domain.specs.Run as domain
-use Rattle.ioam_domain.specs.Run.{domain_file, readings_file, report_file, exports_file}
+use Rattle.ioam_domain.specs.Run.{domain_file, readings_file}
 use Rattle.ioam_ip.specs.Clean.{IsClean}
 use Rattle.ioam_outputs.specs.Names.{name_at}
 use Rattle.ioam_pcap.specs.Text.{IsCaptureOf}
@@ -43,13 +43,18 @@ module _ (tells : Bool) (words : List (List ℕ)) (old_in new_in : Reading) (old
   abbrev pub AsksIn : Command → Type 0
   AsksIn Filter = AsksFront old_in.side.asked new_in.side.asked (input_name words ∷ [])
   AsksIn Paths = AsksFront old_in.side.asked new_in.side.asked (input_name words ∷ [])
-  AsksIn Run = ((names : List (List ℕ)) × AsksFront old_in.side.asked new_in.side.asked (domain_file words ∷ readings_file words ∷ names))
-      × (IsTrue tells → domain.AsksIn words old_in new_in old new)
+  AsksIn Run = domain.AsksFirst words old_in new_in old new × (IsTrue tells → domain.AsksIn words old_in new_in old new)
 
-  abbrev pub AsksOut : Command → Type 0
-  AsksOut Filter = AsksFront old.side.asked new.side.asked (output_names words)
-  AsksOut Paths = AsksFront old.side.asked new.side.asked (output_names words)
-  AsksOut Run = ((names : List (List ℕ)) × AsksFront old.side.asked new.side.asked (names ++ report_file words ∷ exports_file words ∷ []))
+  -- the outputs that the words name: a front of them was asked for, and all where the answer comes once they were written
+  abbrev pub AsksNamed : Outcome → Type 0
+  AsksNamed answer = AsksFront old.side.asked new.side.asked (output_names words)
+      × (IsBehindAll ⊥ answer → new.side.asked ≡ old.side.asked ++ output_names words)
+
+  -- the names that were given to the opening calls of outputs: a front of these, or all of them where the answer comes once they were written
+  abbrev pub AsksOut : Command → Outcome → Type 0
+  AsksOut Filter answer = AsksNamed answer
+  AsksOut Paths answer = AsksNamed answer
+  AsksOut Run answer = domain.AsksLast words old_in new_in old new × (IsBehindAll ⊥ answer → domain.AsksAll words old_in new_in old new)
       × (IsTrue tells → domain.AsksOut words old_in new_in old new)
 
   -- where the names are refused nothing was opened; `run` has read DOMAIN and READINGS before, and

@@ -1,5 +1,5 @@
 -- What a run owes for each of its answers: where it isn't set, and where its traffic ended.
-use Rattle.std.proofs.Common.{◌≡◌, ℕ, ◌+◌, ◌<◌, ◌⊎◌, Bool, IsTrue, List, [], ◌∷◌, ◌++◌, length, map, append-nil, refl, sym, ◌∙◌, ap, subst, inl, inr, ⊎_elim, arith}
+use Rattle.std.proofs.Common.{◌≡◌, ℕ, ◌+◌, ◌<◌, ◌⊎◌, Bool, IsTrue, List, [], ◌∷◌, ◌++◌, length, map, refl, sym, ◌∙◌, ap, subst, inl, inr, ⊎_elim, arith}
 use Rattle.ioam_clock.specs.declared.sample.Sample.{Sample}
 use Rattle.ioam_desk.specs.Asked.{AsksFront}
 use Rattle.ioam_desk.specs.Desk.{Side, Reading, Writing, Rose, opened_each}
@@ -8,6 +8,7 @@ use Rattle.ioam_outputs.specs.Names.{AreApart}
 use Rattle.ioam_answer.specs.Outcomes.{IsDone, IsBehindAll}
 use Rattle.ioam_answer.specs.declared.outcome.Outcome.{Outcome}
 use Rattle.ioam_answer.specs.declared.outcome.Outcome.TheVariants as outcome
+use Rattle.ioam_setting.proofs.NamesLaws.{apart-with_inputs, apart-with_outputs}
 use Rattle.ioam_setting.specs.Setting.{IsSetting, Refuses}
 use Rattle.ioam_setting.specs.declared.setting.Refusal.{Refusal}
 use Rattle.ioam_setting.specs.declared.setting.Refusal.TheVariants as refusal
@@ -16,15 +17,10 @@ use Rattle.ioam_topo.specs.declared.domain.Domain.{Domain}
 use Rattle.ioam_topo.specs.declared.fault.DomainFault.{DomainFault}
 use Rattle.ioam_topo.specs.declared.parts.Port.{Port}
 use Rattle.ioam_domain.specs.Ends.{Ends, refused_as}
-use Rattle.ioam_domain.specs.Run.{HasCause, Asked, Leaves, AsksIn, AsksOut, AreDrained, IsBounded, IsRefusal, HaveDiffered, Owes, IsSet, IsReady, domain_file, readings_file, report_file, exports_file, run_files, run_inputs, run_outputs}
+use Rattle.ioam_domain.specs.Run.{HasCause, Asked, Leaves, AsksFirst, AsksIn, AsksLast, AsksAll, AsksOut, AreDrained, IsBounded, IsRefusal, HaveDiffered, Owes, IsSet, IsReady, domain_file, readings_file, report_file, exports_file, run_files, run_inputs, run_outputs, word_files}
 use Rattle.ioam_domain.proofs.AskedLaws.{HasCause-asked}
 use Rattle.ioam_domain.proofs.BoundLaws.{Leaves-bounded}
-use Rattle.ioam_domain.proofs.EndsLaws.{same_faults, Ends-cause, Ends-differed, Ends-leaves, Ends-drained, refused_differed, refused_domain, asks_more, asks_both, refused_cause, refused_leaves, refused_read, refused_other, refused_done}
-
--- no output was asked for
-none_written : (words : List (List ℕ)) (old new : Writing) → new.side.asked ≡ old.side.asked
-    → AsksFront old.side.asked new.side.asked ([] ++ report_file words ∷ exports_file words ∷ [])
-none_written words old new same = (0, same ∙ sym (append-nil old.side.asked))
+use Rattle.ioam_domain.proofs.EndsLaws.{same_faults, Ends-cause, Ends-differed, Ends-leaves, Ends-drained, refused_differed, refused_domain, asks_more, asks_both, refused_cause, refused_leaves, refused_read, refused_other, refused_done, refused_short}
 
 -- the domain or the readings are refused
 module _ (tells : Bool) (words : List (List ℕ)) (old_in new_in : Reading) (old new : Writing) (why : Refusal) (answer : Outcome)
@@ -63,6 +59,9 @@ module _ (tells : Bool) (words : List (List ℕ)) (old_in new_in : Reading) (old
   refused-drained : IsDone answer → AreDrained words old_in new_in old new
   refused-drained done = absurd (refused_done tells words old_in new_in old why (subst IsDone is done))
 
+  refused-all : IsBehindAll ⊥ answer → AsksAll words old_in new_in old new
+  refused-all all = absurd (refused_short tells words old_in new_in old why (subst (IsBehindAll ⊥) is all))
+
   pub refused-owes : Owes tells words old_in new_in old new answer
   refused-owes = record {
     read_fault = refused-read_fault;
@@ -73,9 +72,10 @@ module _ (tells : Bool) (words : List (List ℕ)) (old_in new_in : Reading) (old
     leaves = λ told. refused-leaves;
     exact = refused-exact;
     domain_first = λ fault so. first fault (refused_domain tells words old_in new_in old why fault (sym is ∙ so));
-    asked_first = ([], asked);
+    asked_first = inl asked;
     asked_in = λ told. inl asked;
-    asked_last = ([], none_written words old new (ap (λ (w : Writing). w.side.asked) same));
+    asked_last = inl (ap (λ (w : Writing). w.side.asked) same);
+    asked_all = refused-all;
     asked_out = λ told. inl (ap (λ (w : Writing). w.side.asked) same);
     no_output = λ early. same;
     untouched = λ refusal. same;
@@ -164,8 +164,9 @@ module _ (tells : Bool) (words : List (List ℕ)) (old_in mid_in new_in : Readin
       (ap (λ (r : Reading). r.side.asked) still ∙ ap (λ (s : Side). s.asked) opened)
 
   module _ (asked : (new_in ≡ mid_in) ⊎ (AreApart (run_files words domain) × AsksFront mid_in.side.asked new_in.side.asked (run_inputs domain))) where
-    ended-asked_first : (names : List (List ℕ)) × AsksFront old_in.side.asked new_in.side.asked (domain_file words ∷ readings_file words ∷ names)
-    ended-asked_first = ⊎_elim (λ still. ([], none_asked still)) (λ apart. (run_inputs domain, both_asked (run_inputs domain) apart.1)) asked
+    ended-asked_first : AsksFirst words old_in new_in old new
+    ended-asked_first = ⊎_elim (λ still. inl (none_asked still))
+        (λ apart. inr (run_inputs domain, apart-with_inputs (ports domain) (word_files words) apart.0, both_asked (run_inputs domain) apart.1)) asked
 
     ended-asked_in : IsTrue tells → AsksIn words old_in new_in old new
     ended-asked_in told = ⊎_elim (λ still. inl (none_asked still))
@@ -181,10 +182,16 @@ module _ (tells : Bool) (words : List (List ℕ)) (old_in mid_in new_in : Readin
   ended-no_output early few = early (omega (arith, few, ap (λ (s : Side). s.slots) opened)) ∙ same
 
   ended-asked_last : (new ≡ mid) ⊎ (AreApart (run_files words domain) × AsksFront mid.side.asked new.side.asked (run_outputs words domain))
-      → (names : List (List ℕ)) × AsksFront old.side.asked new.side.asked (names ++ report_file words ∷ exports_file words ∷ [])
-  ended-asked_last asked = ⊎_elim (λ still. ([], none_written words old new (ap (λ (w : Writing). w.side.asked) (still ∙ same))))
+      → AsksLast words old_in new_in old new
+  ended-asked_last asked = ⊎_elim (λ still. inl (ap (λ (w : Writing). w.side.asked) (still ∙ same)))
       (λ apart. let P : Writing → Type 0 = λ w. AsksFront w.side.asked new.side.asked (run_outputs words domain) in
-      (map (λ (port : Port). port.output) (ports domain), subst P same apart.1)) asked
+      inr (map (λ (port : Port). port.output) (ports domain), apart-with_outputs (ports domain) (word_files words) apart.0, subst P same apart.1)) asked
+
+  ended-asked_all : (IsBehindAll ⊥ answer → AreApart (run_files words domain) × (new.side.asked ≡ mid.side.asked ++ run_outputs words domain))
+      → IsBehindAll ⊥ answer → AsksAll words old_in new_in old new
+  ended-asked_all asked all =
+      let P : Writing → Type 0 = λ w. new.side.asked ≡ w.side.asked ++ run_outputs words domain in
+      (map (λ (port : Port). port.output) (ports domain), apart-with_outputs (ports domain) (word_files words) (asked all).0, subst P same (asked all).1)
 
   ended-untouched : IsRefusal answer → new ≡ old
   ended-untouched refusal = unwritten tells words domain mid_in new_in old new answer ends refusal
@@ -193,6 +200,7 @@ module _ (tells : Bool) (words : List (List ℕ)) (old_in mid_in new_in : Readin
       (kept : EndsKept mid_in.side.slots mid_in new_in)
       (asked_in : (new_in ≡ mid_in) ⊎ (AreApart (run_files words domain) × AsksFront mid_in.side.asked new_in.side.asked (run_inputs domain)))
       (asked_out : (new ≡ mid) ⊎ (AreApart (run_files words domain) × AsksFront mid.side.asked new.side.asked (run_outputs words domain)))
+      (all_out : IsBehindAll ⊥ answer → AreApart (run_files words domain) × (new.side.asked ≡ mid.side.asked ++ run_outputs words domain))
       (early : new_in.side.slots < mid_in.side.slots + length (run_inputs domain) → new ≡ mid) where
     pub ended-owes : Owes tells words old_in new_in old new answer
     ended-owes = record {
@@ -207,6 +215,7 @@ module _ (tells : Bool) (words : List (List ℕ)) (old_in mid_in new_in : Readin
       asked_first = ended-asked_first asked_in;
       asked_in = ended-asked_in asked_in;
       asked_last = ended-asked_last asked_out;
+      asked_all = ended-asked_all all_out;
       asked_out = ended-asked_out asked_out;
       no_output = ended-no_output early;
       untouched = ended-untouched;

@@ -10,7 +10,7 @@ use Rattle.ioam_pcap.specs.Merge.{Arrival}
 use Rattle.ioam_pcap.specs.declared.turns.Turn.TheVariants as turn
 use Rattle.ioam_answer.specs.declared.outcome.Outcome.{Outcome}
 use Rattle.ioam_answer.specs.declared.outcome.Outcome.TheVariants as outcome
-use Rattle.ioam_answer.specs.Outcomes.{IsDone}
+use Rattle.ioam_answer.specs.Outcomes.{IsDone, IsBehindAll}
 use Rattle.ioam_setting.proofs.NamesLaws.{apart-words}
 use Rattle.ioam_setting.specs.Names.{input_ports}
 use Rattle.ioam_setting.specs.Setting.{Refuses}
@@ -190,6 +190,12 @@ module _ (tells : Bool) (words : List (List ℕ)) (old_in new_in : Reading) (old
   refused_done (refusal.Readings fault) done = done
   refused_done refusal.ReadFault done = done
   refused_done refusal.NoMemory done = done
+
+  pub refused_short : (why : Refusal) → IsBehindAll ⊥ (refused_as why) → ⊥
+  refused_short (refusal.Domain fault) all = all
+  refused_short (refusal.Readings fault) all = all
+  refused_short refusal.ReadFault all = all
+  refused_short refusal.NoMemory all = all
 
 -- a read fault, and a write fault, of the whole run
 module _ (tells : Bool) (words : List (List ℕ)) (domain : Domain) (mid_in new_in : Reading) (old new : Writing) where

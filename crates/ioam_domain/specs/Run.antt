@@ -185,7 +185,26 @@ module _ (words : List (List ℕ)) (old_in new_in : Reading) (old new : Writing)
   Leaves (outcome.Readings fault) = new ≡ old
   Leaves (outcome.Names name) = new ≡ old
 
-  -- the names that were given to the opening calls: DOMAIN, READINGS and the captures; and the outputs
+  -- The names that were given to the opening calls, whatever the desk tells. Of those out of the domain
+  -- file so much: none is a file that the words name, nor is one there twice. The inputs are DOMAIN,
+  -- READINGS and some captures, or a front of these.
+  abbrev pub AsksFirst : Type 0
+  AsksFirst = AsksFront old_in.side.asked new_in.side.asked (domain_file words ∷ readings_file words ∷ [])
+      ⊎ ((names : List (List ℕ)) × AreApart (word_files words ++ names)
+      × AsksFront old_in.side.asked new_in.side.asked (domain_file words ∷ readings_file words ∷ names))
+
+  -- the outputs are none, or some captures, REPORT and EXPORTS, or a front of these
+  abbrev pub AsksLast : Type 0
+  AsksLast = (new.side.asked ≡ old.side.asked)
+      ⊎ ((names : List (List ℕ)) × AreApart (word_files words ++ names)
+      × AsksFront old.side.asked new.side.asked (names ++ report_file words ∷ exports_file words ∷ []))
+
+  -- or all of them
+  abbrev pub AsksAll : Type 0
+  AsksAll = (names : List (List ℕ)) × AreApart (word_files words ++ names)
+      × (new.side.asked ≡ old.side.asked ++ (names ++ report_file words ∷ exports_file words ∷ []))
+
+  -- where the desk tells, the captures are those of the domain that DOMAIN holds
   abbrev pub AsksIn : Type 0
   AsksIn = AsksFront old_in.side.asked new_in.side.asked (domain_file words ∷ readings_file words ∷ [])
       ⊎ ((domain : Domain) × IsReady old words domain
@@ -216,9 +235,10 @@ module _ (tells : Bool) (words : List (List ℕ)) (old_in new_in : Reading) (old
     pub exact : (asked : Outcome) → IsTrue tells → Asked old words asked → (Rose old_in.side.faults new_in.side.faults → ⊥)
         → (Rose old.side.faults new.side.faults → ⊥) → (answer ≡ asked) ⊎ (answer ≡ outcome.NoMemory)
     pub domain_first : (fault : DomainFault) → answer ≡ outcome.Domain fault → AsksFront old_in.side.asked new_in.side.asked (domain_file words ∷ [])
-    pub asked_first : (names : List (List ℕ)) × AsksFront old_in.side.asked new_in.side.asked (domain_file words ∷ readings_file words ∷ names)
+    pub asked_first : AsksFirst words old_in new_in old new
     pub asked_in : IsTrue tells → AsksIn words old_in new_in old new
-    pub asked_last : (names : List (List ℕ)) × AsksFront old.side.asked new.side.asked (names ++ report_file words ∷ exports_file words ∷ [])
+    pub asked_last : AsksLast words old_in new_in old new
+    pub asked_all : IsBehindAll ⊥ answer → AsksAll words old_in new_in old new
     pub asked_out : IsTrue tells → AsksOut words old_in new_in old new
     pub no_output : new_in.side.slots < old_in.side.slots + 2 → new ≡ old
     pub untouched : IsRefusal answer → new ≡ old

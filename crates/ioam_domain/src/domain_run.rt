@@ -11,7 +11,7 @@ ghost use Rattle.ioam_setting.specs.declared.setting.Refusal.{Refusal};
 ghost use Rattle.ioam_topo.specs.Domain.{ports};
 ghost use Rattle.ioam_topo.specs.declared.fault.DomainFault.{DomainFault};
 ghost use Rattle.ioam_domain.specs.Ends.{Ends};
-ghost use Rattle.ioam_domain.specs.Run.{HasCause, Asked, Leaves, AsksIn, AsksOut, AreDrained, IsBounded, IsRefusal, Owes, HaveDiffered, domain_file, readings_file, report_file, exports_file, run_files, run_inputs, run_outputs};
+ghost use Rattle.ioam_domain.specs.Run.{HasCause, Asked, Leaves, AsksFirst, AsksIn, AsksLast, AsksAll, AsksOut, AreDrained, IsBounded, IsRefusal, Owes, HaveDiffered, domain_file, readings_file, report_file, exports_file, run_files, run_inputs, run_outputs};
 
 use crate::answer::refused;
 use ioam_answer::Outcome;
@@ -46,14 +46,13 @@ pub fn run_domain<D: Desk>(alloc: Global, words: &[Name], desk: &mut D) -> Outco
         → (Rose (D.reading desk.old).side.faults (D.reading desk.new).side.faults → ⊥)
         → (Rose (D.writing desk.old).side.faults (D.writing desk.new).side.faults → ⊥)
         → (result ≡ asked) ⊎ (result ≡ Outcome.NoMemory) }
-    // The names that were opened: READINGS isn't where DOMAIN is refused. Those out of the domain file are spoken of where the desk tells.
+    // The names that were opened: READINGS isn't where DOMAIN is refused. Those out of the domain file are none of the words' files, and named where the desk tells.
     ensures domain_first { (fault : DomainFault) → result ≡ Outcome.Domain fault
         → AsksFront (D.reading desk.old).side.asked (D.reading desk.new).side.asked (domain_file words.now ∷ []) }
-    ensures asked_first { (names : List (List ℕ)) × AsksFront (D.reading desk.old).side.asked (D.reading desk.new).side.asked
-        (domain_file words.now ∷ readings_file words.now ∷ names) }
+    ensures asked_first { AsksFirst words.now (D.reading desk.old) (D.reading desk.new) (D.writing desk.old) (D.writing desk.new) }
     ensures asked_in { IsTrue D.tells → AsksIn words.now (D.reading desk.old) (D.reading desk.new) (D.writing desk.old) (D.writing desk.new) }
-    ensures asked_last { (names : List (List ℕ)) × AsksFront (D.writing desk.old).side.asked (D.writing desk.new).side.asked
-        (names ++ report_file words.now ∷ exports_file words.now ∷ []) }
+    ensures asked_last { AsksLast words.now (D.reading desk.old) (D.reading desk.new) (D.writing desk.old) (D.writing desk.new) }
+    ensures asked_all { IsBehindAll ⊥ result → AsksAll words.now (D.reading desk.old) (D.reading desk.new) (D.writing desk.old) (D.writing desk.new) }
     ensures asked_out { IsTrue D.tells → AsksOut words.now (D.reading desk.old) (D.reading desk.new) (D.writing desk.old) (D.writing desk.new) }
     // No output is opened before DOMAIN and READINGS, nor where DOMAIN, READINGS or the names are refused.
     ensures no_output { (D.reading desk.new).side.slots < (D.reading desk.old).side.slots + 2 → D.writing desk.new ≡ D.writing desk.old }
@@ -119,6 +118,8 @@ fn run_set<D: Desk>(alloc: Global, words: &[Name], domain: &Domain, desk: &mut D
         × AsksFront (D.reading desk.old).side.asked (D.reading desk.new).side.asked (run_inputs domain.now)) }
     ensures asked_out { (D.writing desk.new ≡ D.writing desk.old) ⊎ (AreApart (run_files words.now domain.now)
         × AsksFront (D.writing desk.old).side.asked (D.writing desk.new).side.asked (run_outputs words.now domain.now)) }
+    ensures all_out { IsBehindAll ⊥ result → AreApart (run_files words.now domain.now)
+        × ((D.writing desk.new).side.asked ≡ (D.writing desk.old).side.asked ++ run_outputs words.now domain.now) }
     ensures no_output { (D.reading desk.new).side.slots < (D.reading desk.old).side.slots + length (run_inputs domain.now)
         → D.writing desk.new ≡ D.writing desk.old }
     ensures kept { EndsKept (D.reading desk.old).side.slots (D.reading desk.old) (D.reading desk.new) }
@@ -141,6 +142,7 @@ fn run_apart<D: Desk>(alloc: Global, words: &[Name], domain: &Domain, desk: &mut
     ensures ends { Ends D.tells words.now domain.now (D.reading desk.old) (D.reading desk.new) (D.writing desk.old) (D.writing desk.new) result }
     ensures asked_in { AsksFront (D.reading desk.old).side.asked (D.reading desk.new).side.asked (run_inputs domain.now) }
     ensures asked_out { AsksFront (D.writing desk.old).side.asked (D.writing desk.new).side.asked (run_outputs words.now domain.now) }
+    ensures all_out { IsBehindAll ⊥ result → (D.writing desk.new).side.asked ≡ (D.writing desk.old).side.asked ++ run_outputs words.now domain.now }
     ensures no_output { (D.reading desk.new).side.slots < (D.reading desk.old).side.slots + length (run_inputs domain.now)
         → D.writing desk.new ≡ D.writing desk.old }
     ensures kept { EndsKept (D.reading desk.old).side.slots (D.reading desk.old) (D.reading desk.new) }

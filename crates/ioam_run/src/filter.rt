@@ -1,5 +1,5 @@
 //! `filter IN OUT REPORT`: keeps the packets that may leave a domain.
-ghost use Rattle.std.specs.Prelude.{◌≡◌, ◌<◌, ◌⊎◌, ◌∷◌, [], IsSomeAnd, IsTrue, length};
+ghost use Rattle.std.specs.Prelude.{◌≡◌, ◌<◌, ◌⊎◌, ◌∷◌, ◌++◌, [], IsSomeAnd, IsTrue, length};
 ghost use Rattle.ioam_ip.specs.Clean.{IsClean};
 ghost use Rattle.ioam_pcap.specs.Text.{IsCaptureOf};
 ghost use Rattle.ioam_desk.specs.Asked.{AsksFront};
@@ -29,6 +29,7 @@ pub fn run_filter<D: Desk>(alloc: Global, words: &[Name], desk: &mut D) -> Outco
         (D.writing desk.old) (D.writing desk.new) result }
     ensures asked_in { AsksFront (D.reading desk.old).side.asked (D.reading desk.new).side.asked (input_name words.now ∷ []) }
     ensures asked_out { AsksFront (D.writing desk.old).side.asked (D.writing desk.new).side.asked (output_names words.now) }
+    ensures all_out { IsBehindAll ⊥ result → (D.writing desk.new).side.asked ≡ (D.writing desk.old).side.asked ++ output_names words.now }
     // What is asked for is answered, unless a call of the desk failed or no memory could be had.
     ensures exact { (asked : Outcome) → IsTrue D.tells → Asked D.tells (D.writing desk.old) (file_names words.now) (input_name words.now) asked
         → (Rose (D.reading desk.old).side.faults (D.reading desk.new).side.faults → ⊥)

@@ -1,12 +1,12 @@
 //! A command over one capture: its names, its files and its answer.
-ghost use Rattle.std.specs.Prelude.{◌≡◌, ◌≢◌, ◌↔◌, ◌∷◌, ◌+◌, ◌<◌, [], IfOk, IsTrue, length};
+ghost use Rattle.std.specs.Prelude.{◌≡◌, ◌≢◌, ◌↔◌, ◌∷◌, ◌++◌, ◌+◌, ◌<◌, [], IfOk, IsTrue, length};
 ghost use Rattle.ioam_desk.specs.Asked.{AsksFront};
 ghost use Rattle.ioam_desk.specs.Desk.{holds};
 ghost use Rattle.ioam_feed.specs.Feed.{Fed};
 ghost use Rattle.ioam_outputs.specs.Names.{AreApart};
 ghost use Rattle.ioam_outputs.specs.Told.{AreTold, unsaid};
 ghost use Rattle.ioam_pcap.specs.Reader.{fresh};
-ghost use Rattle.ioam_answer.specs.Outcomes.{IsDone, OpensNothing};
+ghost use Rattle.ioam_answer.specs.Outcomes.{IsDone, IsBehindAll, OpensNothing};
 ghost use Rattle.ioam_run.specs.Run.{HasCause, FileCause, Leaves, file_names, input_name, output_names};
 ghost use Rattle.ioam_run.specs.Streams.{Start, Finishes, IsBroken};
 
@@ -32,6 +32,7 @@ pub fn run_over_capture<G: Gather, D: Desk>(alloc: Global, words: &[Name], desk:
         (D.writing desk.old) (D.writing desk.new) result }
     ensures asked_in { AsksFront (D.reading desk.old).side.asked (D.reading desk.new).side.asked (input_name words.now ∷ []) }
     ensures asked_out { AsksFront (D.writing desk.old).side.asked (D.writing desk.new).side.asked (output_names words.now) }
+    ensures all_out { IsBehindAll ⊥ result → (D.writing desk.new).side.asked ≡ (D.writing desk.old).side.asked ++ output_names words.now }
     ensures unopened { OpensNothing result → D.reading desk.new ≡ D.reading desk.old }
     ensures no_output { (D.reading desk.new).side.slots ≡ (D.reading desk.old).side.slots → D.writing desk.new ≡ D.writing desk.old }
     ensures drained { IsDone result → IsTrue D.tells → IsTrue ((D.reading desk.new).ended (D.reading desk.old).side.slots) }
@@ -58,6 +59,7 @@ fn run_file<G: Gather, D: Desk>(
         (D.writing desk.old) (D.writing desk.new) result }
     ensures asked_in { AsksFront (D.reading desk.old).side.asked (D.reading desk.new).side.asked (input.now ∷ []) }
     ensures asked_out { AsksFront (D.writing desk.old).side.asked (D.writing desk.new).side.asked names.now }
+    ensures all_out { IsBehindAll ⊥ result → (D.writing desk.new).side.asked ≡ (D.writing desk.old).side.asked ++ names.now }
     ensures no_output { (D.reading desk.new).side.slots ≡ (D.reading desk.old).side.slots → D.writing desk.new ≡ D.writing desk.old }
     ensures drained { IsDone result → IsTrue D.tells → IsTrue ((D.reading desk.new).ended (D.reading desk.old).side.slots) }
 {

@@ -1,9 +1,9 @@
 //! `paths IN REPORT`: lists the traces of each packet.
-ghost use Rattle.std.specs.Prelude.{◌≡◌, ◌⊎◌, ◌∷◌, [], IsTrue, length};
+ghost use Rattle.std.specs.Prelude.{◌≡◌, ◌⊎◌, ◌∷◌, ◌++◌, [], IsTrue, length};
 ghost use Rattle.ioam_desk.specs.Asked.{AsksFront};
 ghost use Rattle.ioam_desk.specs.Desk.{Rose};
 ghost use Rattle.ioam_run.specs.PathsText.{PathsTexts};
-ghost use Rattle.ioam_answer.specs.Outcomes.{IsDone, OpensNothing};
+ghost use Rattle.ioam_answer.specs.Outcomes.{IsDone, IsBehindAll, OpensNothing};
 ghost use Rattle.ioam_run.specs.Run.{HasCause, Asked, Leaves, file_names, input_name, output_names};
 ghost use Rattle.ioam_answer.specs.declared.outcome.Outcome.{Outcome};
 
@@ -26,6 +26,7 @@ pub fn run_paths<D: Desk>(alloc: Global, words: &[Name], desk: &mut D) -> Outcom
         (D.writing desk.old) (D.writing desk.new) result }
     ensures asked_in { AsksFront (D.reading desk.old).side.asked (D.reading desk.new).side.asked (input_name words.now ∷ []) }
     ensures asked_out { AsksFront (D.writing desk.old).side.asked (D.writing desk.new).side.asked (output_names words.now) }
+    ensures all_out { IsBehindAll ⊥ result → (D.writing desk.new).side.asked ≡ (D.writing desk.old).side.asked ++ output_names words.now }
     // What is asked for is answered, unless a call of the desk failed or no memory could be had.
     ensures exact { (asked : Outcome) → IsTrue D.tells → Asked D.tells (D.writing desk.old) (file_names words.now) (input_name words.now) asked
         → (Rose (D.reading desk.old).side.faults (D.reading desk.new).side.faults → ⊥)

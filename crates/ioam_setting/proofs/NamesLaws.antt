@@ -172,6 +172,14 @@ differ_join (name ∷ front) back differ rest none = (
   differ_join front back differ.1 rest (λ other near far. none other (Contains-append_right (name ∷ []) front other near) far),
 )
 
+-- no name is in both of two lists that differ together
+differ_apart : (front back : List (List ℕ)) → Differ (front ++ back) → (name : List ℕ) → Contains front name → Contains back name → ⊥
+differ_apart [] back differ name near far = absurd (omega (arith, near.1))
+differ_apart (first ∷ front) back differ name near far =
+    ⊎_elim (λ (is : first ≡ name). differ.0 (subst (λ (n : List ℕ). Contains (front ++ back) n) (sym is) (Contains-append_right front back name far)))
+    (λ (behind : Contains front name). differ_apart front back differ.1 name behind far)
+    (first_or_behind first front name near)
+
 -- the captures of a port
 abbrev names_of : Port → List (List ℕ)
 names_of port = input_of port.input ++ port.output ∷ []
@@ -203,15 +211,7 @@ module _ (ports : List Port) (report exports : List ℕ) where
   -- the report and the exports are none of the ports' captures
   apart_from_ports : Differ (report ∷ exports ∷ flat_map names_of ports)
       → (name : List ℕ) → Contains (outputs_of ports) name → Contains (report ∷ exports ∷ []) name → ⊥
-  apart_from_ports differ name near far =
-      let behind = flat_map names_of ports in
-      let held : Contains behind name = among_ports ports name near in
-      ⊎_elim (λ (is : report ≡ name). differ.0 (Contains-append_right (exports ∷ []) behind report
-      (subst (λ (n : List ℕ). Contains behind n) (sym is) held)))
-      (λ (last : Contains (exports ∷ []) name). ⊎_elim (λ (is : exports ≡ name). differ.1.0 (subst (λ (n : List ℕ). Contains behind n) (sym is) held))
-      (λ (none : Contains [] name). absurd (omega (arith, none.1)))
-      (first_or_behind exports [] name last))
-      (first_or_behind report (exports ∷ []) name far)
+  apart_from_ports differ name near far = differ_apart (report ∷ exports ∷ []) (flat_map names_of ports) differ name far (among_ports ports name near)
 
   written_differ : Differ (report ∷ exports ∷ flat_map names_of ports) → Differ (output_names ports report exports)
   written_differ differ =
@@ -236,3 +236,36 @@ differ_before (name ∷ front) back differ = (λ found. differ.0 (Contains-appen
 -- names that are apart as all files are so by themselves where the words name them
 pub apart-words : (ports : List Port) (words : List (List ℕ)) → AreApart (file_names ports words) → AreApart words
 apart-words ports words apart = apart_from_differ words (differ_before words (flat_map names_of ports) (differ_from_apart (file_names ports words) apart))
+
+-- the captures of the packets that arrive are among those of the ports, and differ where these do
+inputs_among : (ports : List Port) (name : List ℕ) → Contains (input_names ports) name → Contains (flat_map names_of ports) name
+inputs_among [] name found = found
+inputs_among (port ∷ ports) name found =
+    ⊎_elim (λ (first : Contains (input_of port.input) name). Contains-append_left (names_of port) (flat_map names_of ports) name
+    (Contains-append_left (input_of port.input) (port.output ∷ []) name first))
+    (λ (behind : Contains (input_names ports) name). Contains-append_right (names_of port) (flat_map names_of ports) name (inputs_among ports name behind))
+    (Contains-append_cases (input_of port.input) (input_names ports) name found)
+
+inputs_differ : (ports : List Port) → Differ (flat_map names_of ports) → Differ (input_names ports)
+inputs_differ [] differ = tt
+inputs_differ (port ∷ ports) differ =
+    let rest = flat_map names_of ports in
+    differ_join (input_of port.input) (input_names ports) (differ_before (input_of port.input) (port.output ∷ []) (differ_before (names_of port) rest differ))
+    (inputs_differ ports (differ_behind (names_of port) rest differ))
+    (λ name near far. differ_apart (names_of port) rest differ name (Contains-append_left (input_of port.input) (port.output ∷ []) name near)
+    (inputs_among ports name far))
+
+-- where all files are apart, those that the words name are so together with what leaves, and with what arrives
+module _ (ports : List Port) (words : List (List ℕ)) (apart : AreApart (file_names ports words)) where
+  all_differ : Differ (words ++ flat_map names_of ports)
+  all_differ = differ_from_apart (file_names ports words) apart
+
+  apart_with : (names : List (List ℕ)) → Differ names → ((name : List ℕ) → Contains names name → Contains (flat_map names_of ports) name) → AreApart (words ++ names)
+  apart_with names differ among = apart_from_differ (words ++ names) (differ_join words names (differ_before words (flat_map names_of ports) all_differ) differ
+      (λ name near far. differ_apart words (flat_map names_of ports) all_differ name near (among name far)))
+
+  pub apart-with_outputs : AreApart (words ++ map (λ (port : Port). port.output) ports)
+  apart-with_outputs = apart_with (outputs_of ports) (outputs_differ ports (differ_behind words (flat_map names_of ports) all_differ)) (among_ports ports)
+
+  pub apart-with_inputs : AreApart (words ++ input_names ports)
+  apart-with_inputs = apart_with (input_names ports) (inputs_differ ports (differ_behind words (flat_map names_of ports) all_differ)) (inputs_among ports)

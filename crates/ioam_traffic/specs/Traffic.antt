@@ -97,3 +97,12 @@ module _ (course : Course) where
         ⊎ (AreOpened new_in × (IsTrue tells → HoldsAll (PartsArrive course.lanes.contents new_in course.lanes.base) new_out)))
     Finishes WriteFault = Rose old_out.side.faults new_out.side.faults × (IsTrue tells → HoldsFronts old_out new_out)
     Finishes NoMemory = (new_out ≡ old_out) ⊎ (IsTrue tells → HoldsFronts old_out new_out)
+
+-- the captures were taken to their end, to a fault in one of them, or to as many records as may be
+abbrev pub IsEnd : Halt → Type 0
+IsEnd Over = Unit {0}
+IsEnd (Broken place at fault) = Unit {0}
+IsEnd Limit = Unit {0}
+IsEnd ReadFault = ⊥
+IsEnd WriteFault = ⊥
+IsEnd NoMemory = ⊥

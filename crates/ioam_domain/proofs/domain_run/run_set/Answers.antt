@@ -33,3 +33,9 @@ returns-clause-asked_out g c =
     let words = c.args.words.now in
     let lent : c.deref.result.now ≡ run_files words c.args.domain.now = c.deref.ensures.value ∙ c.in-Ok.ensures in
     inr (subst AreApart lent c.in-None.ensures, c.run_apart.ensures.asked_out)
+
+pub returns-clause-all_out : goal.returns-clause-all_out
+returns-clause-all_out g c = λ all.
+    let words = c.args.words.now in
+    let lent : c.deref.result.now ≡ run_files words c.args.domain.now = c.deref.ensures.value ∙ c.in-Ok.ensures in
+    (subst AreApart lent c.in-None.ensures, c.run_apart.ensures.all_out all)

@@ -1,4 +1,4 @@
-use Rattle.std.proofs.Common.{◌≡◌, ℕ, ◌+◌, List, [], length, Some, rules, ap, ◌∙◌, subst, inr, arith}
+use Rattle.std.proofs.Common.{◌≡◌, ℕ, ◌+◌, ◌++◌, List, [], length, Some, rules, ap, ◌∙◌, subst, inr, arith}
 use Rattle.ioam_desk.specs.Desk as desk
 use Rattle.ioam_desk.specs.Desk.{Side, Writing, holds}
 use Rattle.ioam_feed.specs.Feed.{Fed}
@@ -78,3 +78,8 @@ returns-clause-leaves g c = λ told.
     (holds (g.D.Desk.writing c.args.desk.now) c.args.input.now) ((g.D.Desk.reading c.open_feed.new.desk).left c.in-Ok-open_feed.feed.slot)
     g.met.G.Gather.of_none (omega (arith, g.met.G.Gather.empty_sized, c.requires.1.1.1.1)) (subst P c.text.ensures (c.in-Ok-open_feed.ensures.fed.held told)) c.in-Ok-open_feed.ensures.outputs
     ((rw c.in-Err-NoMemory-open_outputs.field-0-is at c.in-Err-NoMemory-open_outputs.ensures.fault).1 told))
+
+pub returns-in-Ok-open_outputs-clause-all_out : goal.returns-in-Ok-open_outputs-clause-all_out
+returns-in-Ok-open_outputs-clause-all_out g c = λ all.
+    c.run_open.ensures.asked_out ∙ ap (λ (s : Side). s.asked) c.in-Ok-open_outputs.ensures.side
+    ∙ ap (λ (w : Writing). w.side.asked ++ c.args.names.now) c.in-Ok-open_feed.ensures.outputs

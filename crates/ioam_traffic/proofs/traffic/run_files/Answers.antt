@@ -1,4 +1,4 @@
-use Rattle.std.proofs.Common.{◌≡◌, ◌+◌, List, length, rules, ap, sym, ◌∙◌, inl, inr, arith}
+use Rattle.std.proofs.Common.{◌≡◌, ◌+◌, ◌++◌, List, length, rules, ap, sym, ◌∙◌, inl, inr, arith}
 use Rattle.ioam_desk.specs.Desk.{Reading, Writing, Side}
 use Rattle.ioam_outputs.specs.declared.output.Output.{Output}
 use Rattle.ioam_outputs.proofs.ToldLaws.{told_names}
@@ -83,3 +83,8 @@ pub returns-in-Ok-open_outputs-clause-kept : goal.returns-in-Ok-open_outputs-cla
 returns-in-Ok-open_outputs-clause-kept g c = λ k lt.
     let base : g.files.lanes.base ≡ (g.D.Desk.reading c.args.desk.now).side.slots = ap (λ (f : Files). f.lanes.base) c.requires.1.0 in
     c.run_open.ensures.kept k (omega (arith, lt, base)) ∙ ap (λ (r : Reading). slot_of r k) c.in-Ok-open_outputs.ensures.inputs ∙ c.in-Ok.ensures.below k lt
+
+pub returns-in-Ok-open_outputs-clause-all_out : goal.returns-in-Ok-open_outputs-clause-all_out
+returns-in-Ok-open_outputs-clause-all_out g c = λ end.
+    c.run_open.ensures.asked_out ∙ ap (λ (s : Side). s.asked) c.in-Ok-open_outputs.ensures.side
+    ∙ ap (λ (w : Writing). w.side.asked ++ c.args.outputs.now) c.in-Ok.ensures.outputs
