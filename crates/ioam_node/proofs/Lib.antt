@@ -1,1 +1,2 @@
 mod AdmissionLaws
+pub mod OneAnswerLaws
