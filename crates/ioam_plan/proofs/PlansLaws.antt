@@ -6,11 +6,13 @@ use Rattle.ioam_topo.specs.declared.ids.PortId.{PortId}
 use Rattle.ioam_topo.specs.Domain.{ports}
 use Rattle.ioam_node.specs.declared.admitted.Admit.{Admit}
 use Rattle.ioam_node.specs.declared.admitted.Admit.TheVariants as admit
+use Rattle.ioam_node.specs.declared.reason.Reason.{Reason}
+use Rattle.ioam_node.proofs.OneAnswerLaws.{IsSame}
 use Rattle.ioam_plan.specs.declared.itinerary.Visit.{Visit}
 use Rattle.ioam_plan.specs.declared.itinerary.End.{End}
 use Rattle.ioam_plan.specs.declared.itinerary.Itinerary.{Itinerary}
 use Rattle.ioam_plan.specs.Journey.{Journey}
-use Rattle.ioam_plan.specs.Plans.{Plans, PlansBy, PlansPacket, start_of}
+use Rattle.ioam_plan.specs.Plans.{Plans, PlansBy, PlansPacket, PlansDrop, start_of}
 use Rattle.ioam_plan.proofs.JourneyLaws.{Journey-unique}
 
 module _ (domain : Domain) (time : ℕ) (visits others : List Visit) (end other : End) where
@@ -38,6 +40,32 @@ module _ (domain : Domain) (time : ℕ) (visits others : List Visit) (end other 
   pub Plans-unique : (port : PortId) (admitted : Admit) → Plans domain port time admitted visits end → Plans domain port time admitted others other
       → (visits ≡ others) × (end ≡ other)
   Plans-unique port admitted first second = same_at admitted (slice_get (ports domain) port.0) first second
+
+-- and so it is by two answers that are the same
+plans_same : (domain : Domain) (time : ℕ) (visits others : List Visit) (end other : End) (a b : Admit) (port : Port) → IsSame a b
+    → PlansBy domain time a visits end port → PlansBy domain time b others other port → (visits ≡ others) × (end ≡ other)
+plans_same domain time visits others end other (admit.Plain packet) (admit.Plain kept) port same first second =
+    let P : List ℕ → Type 0 = λ octets. PlansPacket domain port time octets visits end in
+    same_packet domain time visits others end other port kept.now (subst P same first) second
+plans_same domain time visits others end other (admit.Drop reason) (admit.Drop cause) port same first second =
+    let P : Reason → Type 0 = λ why. PlansDrop port why visits end in
+    let moved : PlansDrop port cause visits end = subst P same first in
+    (moved.none ∙ sym second.none, moved.ends ∙ sym second.ends)
+plans_same domain time visits others end other (admit.Enclose flow packet limit) b port same first second = absurd first
+plans_same domain time visits others end other a (admit.Enclose flow packet limit) port same first second = absurd second
+plans_same domain time visits others end other (admit.Plain packet) (admit.Drop cause) port same first second = absurd same
+plans_same domain time visits others end other (admit.Drop reason) (admit.Plain kept) port same first second = absurd same
+
+same_by_answers : (domain : Domain) (time : ℕ) (visits others : List Visit) (end other : End) (a b : Admit) (at : Option Port) → IsSame a b
+    → IsSomeAnd at (PlansBy domain time a visits end) → IsSomeAnd at (PlansBy domain time b others other) → (visits ≡ others) × (end ≡ other)
+same_by_answers domain time visits others end other a b None same first second = absurd first
+same_by_answers domain time visits others end other a b (Some port) same first second =
+    plans_same domain time visits others end other a b port same first second
+
+pub Plans-same : (domain : Domain) (port : PortId) (time : ℕ) (visits others : List Visit) (end other : End) (a b : Admit) → IsSame a b
+    → Plans domain port time a visits end → Plans domain port time b others other → (visits ≡ others) × (end ≡ other)
+Plans-same domain port time visits others end other a b same first second =
+    same_by_answers domain time visits others end other a b (slice_get (ports domain) port.0) same first second
 
 -- so what is planned for a frame is what an itinerary says that was planned for it
 pub planned_only : {E : Type 0} (domain : Domain) (time : ℕ) (admitted held : Admit) (at : Option Port) (port : Port) (answer : Result Itinerary E)
