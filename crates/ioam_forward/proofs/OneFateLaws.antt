@@ -1,0 +1,63 @@
+-- What becomes of an arrival is one thing only.
+use Rattle.std.proofs.Common.{◌≡◌, ℕ, Bool, IsSomeAnd, List, [], ◌∷◌, Option, Some, None, slice_get, refl, sym, ◌∙◌, ap}
+use Rattle.ioam_ip.specs.Framing.{framing_of}
+use Rattle.ioam_node.specs.Admission.{Admits}
+use Rattle.ioam_node.specs.declared.admitted.Admit.{Admit}
+use Rattle.ioam_node.specs.declared.admitted.Admit.TheVariants as admit
+use Rattle.ioam_node.proofs.OneAnswerLaws.{IsSame, Admits-unique}
+use Rattle.ioam_pcap.specs.Cut.{is_cut}
+use Rattle.ioam_plan.specs.declared.itinerary.Visit.{Visit}
+use Rattle.ioam_plan.specs.declared.itinerary.End.{End}
+use Rattle.ioam_plan.proofs.PlansLaws.{Plans-same}
+use Rattle.ioam_topo.specs.Domain.{ports}
+use Rattle.ioam_topo.specs.declared.domain.Domain.{Domain}
+use Rattle.ioam_topo.specs.declared.ids.PortId.{PortId}
+use Rattle.ioam_topo.specs.declared.parts.Port.{Port}
+use Rattle.ioam_forward.specs.Fate.{Frame, Fate, HasFate, AreFates, packet_of}
+
+one_answer : (domain : Domain) (at : Option Port) (ethernet cut : Bool) (frame : List ℕ) (a b : Admit)
+    → IsSomeAnd at (λ port. Admits domain port.node.0 (framing_of ethernet cut frame) a)
+    → IsSomeAnd at (λ port. Admits domain port.node.0 (framing_of ethernet cut frame) b) → IsSame a b
+one_answer domain None ethernet cut frame a b first second = absurd first
+one_answer domain (Some port) ethernet cut frame a b first second =
+    Admits-unique domain port.node.0 (framing_of ethernet cut frame) a b first second
+
+one_packet : (a b : Admit) → IsSame a b → packet_of a ≡ packet_of b
+one_packet (admit.Plain packet) (admit.Plain other) same = same
+one_packet (admit.Enclose flow packet limit) (admit.Enclose way other bound) same = same.1
+one_packet (admit.Drop reason) (admit.Drop cause) same = refl
+one_packet (admit.Plain packet) (admit.Drop cause) same = absurd same
+one_packet (admit.Plain packet) (admit.Enclose way other bound) same = absurd same
+one_packet (admit.Drop reason) (admit.Plain other) same = absurd same
+one_packet (admit.Drop reason) (admit.Enclose way other bound) same = absurd same
+one_packet (admit.Enclose flow packet limit) (admit.Plain other) same = absurd same
+one_packet (admit.Enclose flow packet limit) (admit.Drop cause) same = absurd same
+
+same_fate : (a b : Fate) → a.port ≡ b.port → a.packet ≡ b.packet → a.visits ≡ b.visits → a.end ≡ b.end → a ≡ b
+same_fate a b ports packets visits ends =
+    let F : PortId → List ℕ → List Visit → End → Fate = λ port packet visits end. record { port = port; packet = packet; visits = visits; end = end } in
+    ap (λ port. F port a.packet a.visits a.end) ports ∙ ap (λ packet. F b.port packet a.visits a.end) packets
+    ∙ ap (λ visits. F b.port b.packet visits a.end) visits ∙ ap (λ end. F b.port b.packet b.visits end) ends
+
+-- one fate of an arrival
+pub HasFate-unique : (domain : Domain) (frame : Frame) (fate other : Fate) → HasFate domain frame fate → HasFate domain frame other → fate ≡ other
+HasFate-unique domain frame fate other first second =
+    let same : IsSame first.answer second.answer = one_answer domain (slice_get (ports domain) frame.port.0) frame.ethernet (is_cut frame.entry)
+    frame.entry.octets first.answer second.answer first.answered second.answered in
+    let plans : (fate.visits ≡ other.visits) × (fate.end ≡ other.end) = Plans-same domain frame.port frame.entry.time fate.visits other.visits
+    fate.end other.end first.answer second.answer same first.plans second.plans in
+    same_fate fate other (first.port ∙ sym second.port) (first.packet ∙ one_packet first.answer second.answer same ∙ sym second.packet)
+    plans.0 plans.1
+
+-- and one list of fates of arrivals
+pub AreFates-unique : (domain : Domain) (frames : List Frame) (fates others : List Fate) → AreFates domain frames fates → AreFates domain frames others
+    → fates ≡ others
+AreFates-unique domain [] [] [] first second = refl
+AreFates-unique domain [] [] (other ∷ others) first second = absurd second
+AreFates-unique domain [] (fate ∷ fates) others first second = absurd first
+AreFates-unique domain (frame ∷ frames) [] others first second = absurd first
+AreFates-unique domain (frame ∷ frames) (fate ∷ fates) [] first second = absurd second
+AreFates-unique domain (frame ∷ frames) (fate ∷ fates) (other ∷ others) first second =
+    let here : fate ≡ other = HasFate-unique domain frame fate other first.0 second.0 in
+    let behind : fates ≡ others = AreFates-unique domain frames fates others first.1 second.1 in
+    cc
