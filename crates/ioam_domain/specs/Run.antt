@@ -155,14 +155,16 @@ module _ (words : List (List ℕ)) (old_in new_in : Reading) (old new : Writing)
   StopsEarly = AsksFront old_in.side.asked new_in.side.asked (domain_file words ∷ readings_file words ∷ [])
       ⊎ OfTraffic (λ course. new_in.side.slots < course.lanes.base + length course.lanes.contents)
 
-  -- What the files hold of these arrivals: each port's capture has the packets that leave there,
-  -- REPORT the line of each arrival and the sums, and EXPORTS nothing. `Are` says which arrivals.
+  -- What the files hold of these arrivals, of which nothing else becomes: each port's capture has the
+  -- packets that leave there, REPORT the line of each arrival and the sums, and EXPORTS nothing. `Are`
+  -- says which arrivals.
   pub record HoldsFiles (course : Course) (Are : List Arrival → Type 0) : Type 0 where
     pub taken : List Arrival
     pub fates : List Fate
     pub are : Are taken
     pub few : length taken ≤ course.domain.packets
     pub become : AreFates course.domain (frames_of course.ports taken) fates
+    pub only : (others : List Fate) → AreFates course.domain (frames_of course.ports taken) others → others ≡ fates
     pub outs : (place : ℕ) (port : Port) → slice_get (ports course.domain) place ≡ Some port
         → holds new port.output ≡ Some (out_text place fates)
     pub report : holds new (report_file words) ≡ Some (report_text course.domain fates)
