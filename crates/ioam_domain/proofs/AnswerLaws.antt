@@ -17,7 +17,7 @@ use Rattle.ioam_topo.specs.declared.domain.Domain.{Domain}
 use Rattle.ioam_topo.specs.declared.fault.DomainFault.{DomainFault}
 use Rattle.ioam_topo.specs.declared.parts.Port.{Port}
 use Rattle.ioam_domain.specs.Ends.{Ends, refused_as}
-use Rattle.ioam_domain.specs.Run.{HasCause, Asked, Leaves, AsksFirst, AsksIn, AsksLast, AsksAll, AsksOut, AreDrained, IsBounded, IsRefusal, HaveDiffered, Owes, IsSet, IsReady, domain_file, readings_file, report_file, exports_file, run_files, run_inputs, run_outputs, word_files}
+use Rattle.ioam_domain.specs.Run.{HasCause, Asked, Leaves, AsksFirst, AsksIn, AsksLast, AsksAll, AsksOut, AreDrained, IsBounded, IsRefusal, HaveDiffered, Owes, IsSet, domain_file, readings_file, run_files, run_inputs, run_outputs, word_files}
 use Rattle.ioam_domain.proofs.AskedLaws.{HasCause-asked}
 use Rattle.ioam_domain.proofs.BoundLaws.{Leaves-bounded}
 use Rattle.ioam_domain.proofs.EndsLaws.{same_faults, Ends-cause, Ends-differed, Ends-leaves, Ends-drained, refused_differed, refused_domain, asks_more, asks_both, refused_cause, refused_leaves, refused_read, refused_other, refused_done, refused_short}

@@ -1,11 +1,10 @@
 -- At most one answer is asked for.
-use Rattle.std.proofs.Common.{◌≡◌, ℕ, ◌<◌, ◌≤◌, ◌⊎◌, IsTrue, List, length, Option, refl, sym, ◌∙◌, ap, subst, inl, inr, ⊎_elim, arith}
+use Rattle.std.proofs.Common.{◌≡◌, ℕ, ◌⊎◌, List, refl, sym, ◌∙◌, ap, subst, inl, inr, arith}
 use Rattle.std.specs.Prelude.{map}
-use Rattle.std.proofs.lemmas.Bool.{cases_lt}
 use Rattle.ioam_desk.specs.Desk.{Reading, Writing, Rose, holds}
 use Rattle.ioam_merge.specs.Merging.{FilesArrive, FilesBegin}
 use Rattle.ioam_outputs.proofs.NamesLaws.{first_unique}
-use Rattle.ioam_outputs.specs.Names.{AreApart, IsFirstRepeat, name_at}
+use Rattle.ioam_outputs.specs.Names.{IsFirstRepeat, name_at}
 use Rattle.ioam_pcap.specs.declared.capture.CapFault.{CapFault}
 use Rattle.ioam_pcap.specs.declared.turns.Turn.{Turn}
 use Rattle.ioam_pcap.specs.declared.turns.Turn.TheVariants.{Over, Broken}

@@ -1,6 +1,6 @@
 -- What leaves by the ports of a domain may leave it.
-use Rattle.std.proofs.Common.{◌≡◌, ℕ, ◌<◌, IsSomeAnd, List, Option, Some, sym, ap, subst, inl, inr, arith}
-use Rattle.ioam_desk.specs.Desk.{Side, Reading, Writing}
+use Rattle.std.proofs.Common.{ℕ, ◌<◌, IsSomeAnd, List, Option, sym, ap, subst, inl, inr, arith}
+use Rattle.ioam_desk.specs.Desk.{Reading, Writing}
 use Rattle.ioam_ip.specs.Clean.{IsClean}
 use Rattle.ioam_forward.proofs.CleanLaws.{outs-clean}
 use Rattle.ioam_pcap.specs.Merge.{Arrival}

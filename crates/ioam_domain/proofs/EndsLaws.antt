@@ -1,5 +1,5 @@
 -- From how a run ended whose domain and readings were read to what the whole run answers and leaves.
-use Rattle.std.proofs.Common.{◌≡◌, ℕ, suc, ◌+◌, ◌-◌, ◌<◌, ◌⊎◌, Bool, IsTrue, List, [], ◌∷◌, ◌++◌, length, refl, sym, ◌∙◌, ap, subst, inl, inr, take, append_assoc, length-append, arith}
+use Rattle.std.proofs.Common.{◌≡◌, ℕ, suc, ◌+◌, ◌-◌, ◌<◌, Bool, IsTrue, List, [], ◌∷◌, ◌++◌, length, refl, sym, ◌∙◌, ap, subst, inl, inr, take, append_assoc, length-append, arith}
 use Rattle.std.proofs.lemmas.Bool.{cases_lt}
 use Rattle.ioam_desk.specs.Asked.{AsksFront}
 use Rattle.ioam_desk.specs.Desk.{Side, Reading, Writing, Rose, opened_each}
@@ -19,9 +19,9 @@ use Rattle.ioam_setting.specs.declared.setting.Refusal.TheVariants as refusal
 use Rattle.ioam_topo.specs.Domain.{ports}
 use Rattle.ioam_topo.specs.declared.domain.Domain.{Domain}
 use Rattle.ioam_topo.specs.declared.fault.DomainFault.{DomainFault}
-use Rattle.ioam_traffic.specs.Traffic.{Course, HoldsAll, HoldsFronts, ArePassed, AreOpened, Arrive, Finishes}
+use Rattle.ioam_traffic.specs.Traffic.{Course, HoldsAll, HoldsFronts, ArePassed, AreOpened, Arrive}
 use Rattle.ioam_domain.specs.Ends.{Ends, begins, refused_as}
-use Rattle.ioam_domain.specs.Run.{HasCause, HaveDiffered, HoldsFiles, contents, Leaves, OfTraffic, StopsEarly, AsksIn, AreDrained, IsSet, IsReady, Exceeds, domain_file, readings_file, run_files, run_inputs, run_outputs, word_files, course_for}
+use Rattle.ioam_domain.specs.Run.{HasCause, HaveDiffered, HoldsFiles, contents, Leaves, OfTraffic, AreDrained, IsSet, IsReady, domain_file, readings_file, run_files, run_inputs, run_outputs, word_files, course_for}
 use Rattle.ioam_domain.proofs.FilesLaws.{files_held}
 
 -- the two files were opened by two slots

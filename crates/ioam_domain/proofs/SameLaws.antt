@@ -1,11 +1,10 @@
 -- What a desk holds asks for one domain, and its captures for one order of arrivals.
-use Rattle.std.proofs.Common.{◌≡◌, ℕ, ◌+◌, ◌<◌, ◌≤◌, Bool, true, IsSomeAnd, List, [], ◌∷◌, ◌++◌, length, Option, Some, None, Ok, Err, refl, sym, ◌∙◌, ap, subst, length-append, arith}
+use Rattle.std.proofs.Common.{◌≡◌, ℕ, ◌≤◌, Bool, IsSomeAnd, List, [], ◌∷◌, ◌++◌, length, Option, Some, None, Ok, Err, refl, sym, ◌∙◌, ap, subst, length-append, arith}
 use Rattle.std.specs.Prelude.{map}
 use Rattle.std.specs.List.{AllZip}
 use Rattle.std.proofs.lemmas.Option.{same_Some}
 use Rattle.ioam_clock.specs.Reading.{readings_of, node_names}
 use Rattle.ioam_clock.specs.declared.fault.ReadingsFault.{ReadingsFault}
-use Rattle.ioam_clock.specs.declared.sample.Sample.{Sample}
 use Rattle.ioam_desk.specs.Desk.{Writing, holds}
 use Rattle.ioam_merge.specs.Merging.{Begins, IsFile, FilesArrive, FilesBegin}
 use Rattle.ioam_pcap.specs.Arrives.{Handed, Arrives}
@@ -13,9 +12,8 @@ use Rattle.ioam_pcap.specs.Merge.{Arrival}
 use Rattle.ioam_pcap.specs.declared.turns.Turn.{Turn}
 use Rattle.ioam_pcap.proofs.ArrivesLaws.{Arrives-unique}
 use Rattle.ioam_pcap.proofs.MergeLaws.{TakesAll-total, Takes-append}
-use Rattle.ioam_setting.specs.Names.{input_names, output_names, file_names}
+use Rattle.ioam_setting.specs.Names.{input_names, file_names}
 use Rattle.ioam_setting.specs.Setting.{HasDomainFault, HasReadingsFault}
-use Rattle.ioam_topo.specs.Domain.{nodes, ports}
 use Rattle.ioam_topo.specs.File.{IsDomainOf, HasFault, Agree}
 use Rattle.ioam_topo.specs.NodeRead.{name_of_node}
 use Rattle.ioam_topo.specs.declared.domain.Domain.{Domain}

@@ -1,19 +1,12 @@
 -- From what a run found among its names to the names of the words and of the domain.
-use Rattle.std.proofs.Common.{◌≡◌, ℕ, ◌<◌, ◌⊎◌, Bool, List, [], ◌∷◌, length, get_or, Some, refl, sym, ◌∙◌, ap, subst, inl, inr}
-use Rattle.std.specs.Prelude.{slice_get, slice_index_or}
-use Rattle.std.proofs.lemmas.Option.{none-some, same_Some}
-use Rattle.std.proofs.lemmas.List.{get_or_default}
+use Rattle.std.proofs.Common.{◌≡◌, ℕ, ◌<◌, Bool, List, length, get_or, subst}
 use Rattle.ioam_desk.specs.Desk.{Reading, Writing}
 use Rattle.ioam_outputs.proofs.NamesLaws.{found_name}
-use Rattle.ioam_outputs.specs.Names.{AreApart, IsFirstRepeat, name_at}
-use Rattle.ioam_answer.specs.declared.outcome.Outcome.TheVariants as outcome
-use Rattle.ioam_setting.specs.Names.{output_names, file_names}
+use Rattle.ioam_outputs.specs.Names.{name_at}
 use Rattle.ioam_topo.specs.declared.domain.Domain.{Domain}
-use Rattle.ioam_topo.specs.declared.parts.Port.{Port}
 use Rattle.ioam_topo.specs.declared.ids.PortId.{PortId}
 use Rattle.ioam_traffic.specs.Traffic.{begun, Finishes}
 use Rattle.ioam_traffic.specs.declared.halt.Halt.{Halt}
-use Rattle.ioam_domain.specs.Run.{domain_file, readings_file, report_file, exports_file, word_files}
 
 -- the traffic ended so, whatever equal lists it was begun with
 pub finishes_alike : (tells : Bool) (domain : Domain) (ports other_ports : List PortId) (inputs other_inputs names other_names : List (List ℕ))

@@ -1,5 +1,5 @@
 -- What a run answers whose domain and readings were read.
-use Rattle.std.specs.Prelude.{◌≡◌, ℕ, ◌⊎◌, Bool, IsTrue, List}
+use Rattle.std.specs.Prelude.{◌≡◌, ℕ, ◌⊎◌, Bool, List}
 use Rattle.ioam_desk.specs.Desk.{Reading, Writing}
 use Rattle.ioam_outputs.specs.Names.{name_at, AreApart, IsFirstRepeat}
 use Rattle.ioam_answer.specs.declared.outcome.Outcome.{Outcome}

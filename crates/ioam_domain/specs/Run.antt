@@ -4,7 +4,7 @@
 use Rattle.std.specs.Prelude.{◌≡◌, ◌≢◌, ℕ, ◌+◌, ◌<◌, ◌≤◌, ◌⊎◌, ⊤, Bool, IsTrue, IsSomeAnd, List, [], ◌∷◌, ◌++◌, length, map, slice_get, Option, Some}
 use Rattle.ioam_clock.specs.declared.sample.Sample.{Sample}
 use Rattle.ioam_desk.specs.Asked.{AsksFront}
-use Rattle.ioam_desk.specs.Desk.{Side, Reading, Writing, Rose, holds}
+use Rattle.ioam_desk.specs.Desk.{Reading, Writing, Rose, holds}
 use Rattle.ioam_forward.specs.Fate.{Fate, AreFates}
 use Rattle.ioam_forward.specs.Texts.{out_text, report_text}
 use Rattle.ioam_ip.specs.Clean.{IsClean}

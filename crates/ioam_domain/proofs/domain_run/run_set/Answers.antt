@@ -1,6 +1,5 @@
-use Rattle.std.proofs.Common.{◌≡◌, ℕ, List, length, refl, sym, ◌∙◌, ap, subst, inr, arith}
+use Rattle.std.proofs.Common.{◌≡◌, ℕ, List, refl, ◌∙◌, subst, inr}
 use Rattle.ioam_outputs.specs.Names.{AreApart, IsFirstRepeat}
-use Rattle.ioam_topo.specs.Domain.{ports}
 use Rattle.ioam_domain.specs.Run.{run_files}
 use Rattle.ioam_domain.proofs.WordsLaws.{taken_name}
 use Rattle.ioam_domain.proofs.domain_run.run_set.Goals as goal
