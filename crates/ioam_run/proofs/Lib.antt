@@ -2,6 +2,7 @@ pub mod FramingLaws
 pub mod AddsLaws
 pub mod FilteringLaws
 pub mod ListingLaws
+pub mod OneTextLaws
 pub mod OnwardLaws
 pub mod StepLaws
 pub mod HaltsLaws

@@ -8,6 +8,7 @@ use Rattle.ioam_run.specs.PathsText.{PacketLines, EntryLines, Lines, skip_line}
 use Rattle.ioam_outputs.specs.Told.{said_more}
 use Rattle.ioam_run.specs.Listing.{Lists}
 use Rattle.ioam_run.specs.declared.listing.Listing.{Listing}
+use Rattle.ioam_run.proofs.OneTextLaws.{Lines-unique}
 use Rattle.ioam_node.specs.declared.reason.Reason.TheVariants as reason
 
 -- what was appended where it was
@@ -48,8 +49,10 @@ Lists-push ethernet old new e number added is lines counted es [] lists = absurd
 Lists-push ethernet old new e number added is lines counted es (text ∷ []) lists =
     let P : ℕ → Type 0 = λ n. EntryLines ethernet n e added in
     let place : number ≡ 1 + length es = omega (arith, is, lists.count) in
+    let more : Lines ethernet 1 (es ++ e ∷ []) (text ++ added) = Lines-push ethernet 1 es text e added lists.lines (subst P place lines) in
     record {
-      lines = Lines-push ethernet 1 es text e added lists.lines (subst P place lines);
+      lines = more;
+      only = λ others are. Lines-unique ethernet 1 (es ++ e ∷ []) others (text ++ added) are more;
       count = omega (arith, counted, lists.count, length-append es (e ∷ []));
     }
 Lists-push ethernet old new e number added is lines counted es (text ∷ more ∷ texts) lists = absurd lists

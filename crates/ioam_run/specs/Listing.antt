@@ -6,9 +6,10 @@ use Rattle.ioam_pcap.specs.Entries.{Entry}
 use Rattle.ioam_run.specs.PathsText.{Lines, PathsTexts, packets_line}
 use Rattle.ioam_run.specs.declared.listing.Listing.{Listing}
 
--- the lines of these records, and how many they are
+-- the lines of these records, which have no others, and how many they are
 pub record ListsIn (ethernet : Bool) (entries : List Entry) (text : List ℕ) (gathered : Listing) : Type 0 where
   pub lines : Lines ethernet 1 entries text
+  pub only : (others : List ℕ) → Lines ethernet 1 entries others → others ≡ text
   pub count : gathered.packets ≡ length entries
 
 -- REPORT so far, without the count
@@ -38,7 +39,7 @@ listed gathered = gathered.packets
 -- before the first record it doesn't matter what the frames begin with
 pub Lists-any_link : (ethernet other : Bool) (texts : List (List ℕ)) (gathered : Listing) → Lists ethernet [] texts gathered → Lists other [] texts gathered
 Lists-any_link ethernet other [] gathered lists = absurd lists
-Lists-any_link ethernet other (text ∷ []) gathered lists = record { lines = lists.lines; count = lists.count }
+Lists-any_link ethernet other (text ∷ []) gathered lists = record { lines = lists.lines; only = lists.only; count = lists.count }
 Lists-any_link ethernet other (text ∷ more ∷ texts) gathered lists = absurd lists
 
 -- the text is whole with the count
@@ -48,6 +49,7 @@ Lists-ends ethernet entries [] gathered lists = absurd lists
 Lists-ends ethernet entries (text ∷ []) gathered lists = record {
   lines = text;
   are_lines = lists.lines;
+  only = lists.only;
   text_is = ap (λ (count : ℕ). text ++ packets_line count) lists.count;
 }
 Lists-ends ethernet entries (text ∷ more ∷ texts) gathered lists = absurd lists
@@ -56,7 +58,7 @@ pub sums-sized : (gathered : Listing) → length (sums gathered) ≡ 1
 sums-sized gathered = refl
 
 pub empty-texts : (ethernet : Bool) → PathsTexts ethernet [] empty
-empty-texts ethernet = record { lines = []; are_lines = refl; text_is = refl }
+empty-texts ethernet = record { lines = []; are_lines = refl; only = λ others are. are; text_is = refl }
 
 pub empty-sized : length empty ≡ 1
 empty-sized = refl

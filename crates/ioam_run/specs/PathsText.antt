@@ -36,10 +36,12 @@ Lines ethernet number (e ∷ es) text = (first : List ℕ) × (others : List ℕ
 abbrev pub packets_line : ℕ → List ℕ
 packets_line count = codes "packets " ++ decimal count ++ codes "\n"
 
--- this is the report of these records, whose frames begin with an Ethernet header or don't
+-- this is the report of these records, whose frames begin with an Ethernet header or don't, and they
+-- have no other lines
 pub record Listed (ethernet : Bool) (entries : List Entry) (text : List ℕ) : Type 0 where
   pub lines : List ℕ
   pub are_lines : Lines ethernet 1 entries lines
+  pub only : (others : List ℕ) → Lines ethernet 1 entries others → others ≡ lines
   pub text_is : text ≡ lines ++ packets_line (length entries)
 
 -- REPORT
