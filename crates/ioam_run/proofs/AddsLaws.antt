@@ -1,9 +1,7 @@
 -- Octets that are gathered for one output or for two.
-use Rattle.std.proofs.Common.{◌≡◌, ℕ, ◌<◌, List, [], ◌∷◌, ◌++◌, length, get_or, set, refl, sym, append-nil, arith}
-use Rattle.std.proofs.lemmas.List.Elements.{All-nil, All-cons, All-head, All-tail}
-use Rattle.ioam_desk.specs.Desk.{Writing}
+use Rattle.std.proofs.Common.{◌≡◌, ℕ, List, [], ◌∷◌, ◌++◌, length, get_or, set, refl, sym, append-nil, arith}
 use Rattle.ioam_outputs.specs.declared.output.Output.{Output}
-use Rattle.ioam_outputs.specs.Told.{Adds, AreOpen}
+use Rattle.ioam_outputs.specs.Told.{Adds}
 
 pub Adds-one : (outputs : List Output) (d after : Output) (added : List ℕ) → length outputs ≡ 1
     → after.slot ≡ (get_or outputs 0 d).slot → after.gathered.items ≡ (get_or outputs 0 d).gathered.items ++ added

@@ -4,7 +4,7 @@ use Rattle.ioam_desk.specs.Desk as desk
 use Rattle.ioam_desk.specs.Desk.{Writing}
 use Rattle.ioam_feed.specs.Feed.{Fed}
 use Rattle.ioam_outputs.specs.Held.{HoldAllFronts, HoldFronts}
-use Rattle.ioam_outputs.specs.Told.{AreTold, Adds, said_more, unsaid}
+use Rattle.ioam_outputs.specs.Told.{AreTold, Adds, unsaid}
 use Rattle.ioam_outputs.specs.declared.output.Output.{Output}
 use Rattle.ioam_outputs.proofs.HeldLaws.{AreTold-fronts, more_fronts}
 use Rattle.ioam_outputs.proofs.ToldLaws.{AreTold-adds, said_first, told_names}

@@ -1,10 +1,9 @@
 -- What is known of the records and of the outputs where the taking of records halts.
-use Rattle.std.proofs.Common.{◌≡◌, ℕ, ◌+◌, ◌≤◌, Bool, IsTrue, IsSomeAnd, List, [], ◌∷◌, ◌++◌, length, Option, Some, None, refl, sym, ◌∙◌, ap, subst, ⊎_elim, append-nil, append_assoc, length-append, arith}
-use Rattle.ioam_base.specs.Octets.{IsFront}
+use Rattle.std.proofs.Common.{◌≡◌, ℕ, ◌≤◌, Bool, IsTrue, IsSomeAnd, List, [], ◌∷◌, ◌++◌, length, Option, Some, None, refl, sym, ◌∙◌, ap, subst, ⊎_elim, append-nil, append_assoc, length-append, arith}
 use Rattle.ioam_desk.specs.Desk as desk
 use Rattle.ioam_desk.specs.Desk.{Writing, holds}
 use Rattle.ioam_outputs.specs.Held.{HoldAllFronts}
-use Rattle.ioam_outputs.specs.Told.{AreTold, said_more}
+use Rattle.ioam_outputs.specs.Told.{said_more}
 use Rattle.ioam_outputs.specs.declared.output.Output.{Output}
 use Rattle.ioam_outputs.proofs.HeldLaws.{AreTold-fronts, more_fronts}
 use Rattle.ioam_pcap.specs.declared.capture.CapFault.{CapFault}

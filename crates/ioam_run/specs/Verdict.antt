@@ -1,6 +1,6 @@
 -- What becomes of a captured frame at the boundary of a domain: the first reason why it is dropped,
 -- or its packet.
-use Rattle.std.specs.Prelude.{◌≡◌, ℕ, List, [], ◌∷◌, Bool, true, false, Option, Some, None}
+use Rattle.std.specs.Prelude.{◌≡◌, ℕ, List, [], ◌∷◌, Bool}
 use Rattle.ioam_ip.specs.Framing.{Framing, Holds, NoIpv6, CutShort, TooShort, framing_of}
 use Rattle.ioam_ip.specs.Chain.{IsSound}
 use Rattle.ioam_ip.specs.ChainOptions.{CarriesIoam}
