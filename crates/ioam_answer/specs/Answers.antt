@@ -7,11 +7,11 @@ use Rattle.ioam_pcap.specs.declared.capture.CapFault.{CapFault}
 use Rattle.ioam_pcap.specs.declared.capture.CapFault.TheVariants as fault
 use Rattle.ioam_toml.specs.declared.why.Why.{Why}
 use Rattle.ioam_toml.specs.declared.why.Why.TheVariants as why
-use Rattle.ioam_topo.specs.declared.fault.DomainFault.{DomainFault}
-use Rattle.ioam_topo.specs.declared.words.Field.{Field}
-use Rattle.ioam_topo.specs.declared.words.Field.TheVariants as field
-use Rattle.ioam_topo.specs.declared.words.Table.{Table}
-use Rattle.ioam_topo.specs.declared.words.Table.TheVariants as table
+use Rattle.ioam_domain_file.specs.declared.fault.DomainFault.{DomainFault}
+use Rattle.ioam_domain_file.specs.declared.words.Field.{Field}
+use Rattle.ioam_domain_file.specs.declared.words.Field.TheVariants as field
+use Rattle.ioam_domain_file.specs.declared.words.Table.{Table}
+use Rattle.ioam_domain_file.specs.declared.words.Table.TheVariants as table
 use Rattle.ioam_answer.specs.declared.outcome.Outcome.{Outcome}
 use Rattle.ioam_answer.specs.declared.outcome.Outcome.TheVariants.{Done, Usage, Names, Domain, Readings, Capture, Packets, ReadFault, WriteFault, NoMemory}
 

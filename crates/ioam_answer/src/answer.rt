@@ -6,8 +6,8 @@ use crate::outcome::Outcome;
 use crate::words::{field_text, read_why_text, table_text, why_text};
 use ioam_base::memory::NoMemory;
 use ioam_clock::ReadingsFault;
+use ioam_domain_file::DomainFault;
 use ioam_pcap::CapFault;
-use ioam_topo::DomainFault;
 use std::alloc::Global;
 
 /// The program's exit status for an answer.

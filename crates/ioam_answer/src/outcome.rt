@@ -2,8 +2,8 @@ ghost use Rattle.std.specs.Prelude.{◌≡◌, ◌⊎◌};
 
 use ioam_clock::ReadingsFault;
 use ioam_desk::Name;
+use ioam_domain_file::DomainFault;
 use ioam_pcap::CapFault;
-use ioam_topo::DomainFault;
 use std::alloc::Global;
 
 /// What a command answers. [`status`](crate::status) gives each its exit status.

@@ -3,7 +3,7 @@ ghost use Rattle.std.specs.Prelude.{◌≡◌};
 ghost use Rattle.ioam_answer.specs.Answers.{table_text, field_text, why_text, read_why_text};
 
 use ioam_clock::ReadWhy;
-use ioam_topo::{Field, Table, Why};
+use ioam_domain_file::{Field, Table, Why};
 
 /// The word for a table of the domain file.
 pub fn table_text(table: Table) -> &'static str

@@ -10,7 +10,7 @@ use Rattle.ioam_clock.specs.declared.fault.ReadingsRefused.TheVariants.{Fault, N
 use Rattle.ioam_clock.specs.declared.sample.Sample.{Sample}
 use Rattle.ioam_topo.specs.declared.domain.Domain.{Domain}
 use Rattle.ioam_topo.specs.Domain.{nodes}
-use Rattle.ioam_topo.specs.NodeRead.{name_of_node}
+use Rattle.ioam_topo.specs.Keyed.{name_of_node}
 use Rattle.ioam_clock.specs.Lines.{Line, words_of, lines}
 use Rattle.ioam_clock.specs.Numbers.{◌▷◌, number, maybe}
 use Rattle.ioam_clock.specs.Samples.{follows}

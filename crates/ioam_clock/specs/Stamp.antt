@@ -1,7 +1,7 @@
 -- Timestamps (RFC 9197 section 5): seconds, and what is below a second.
 use Rattle.std.specs.Prelude.{ℕ, ◌*◌, ◌/◌, ◌%◌, ◌^◌}
-use Rattle.ioam_topo.specs.declared.words.Format.{Format}
-use Rattle.ioam_topo.specs.declared.words.Format.TheVariants.{Ptp, Ntp, Posix}
+use Rattle.ioam_topo.specs.declared.format.Format.{Format}
+use Rattle.ioam_topo.specs.declared.format.Format.TheVariants.{Ptp, Ntp, Posix}
 
 -- nanoseconds below a second, as a format counts them: in nanoseconds, in 2^-32 of a second or in
 -- microseconds, rounded down

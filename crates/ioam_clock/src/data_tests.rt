@@ -2,7 +2,8 @@ use crate::domain_tests::NODES;
 use crate::fault_tests::{has_fault, joined};
 use ioam_base::memory::NoMemory;
 use ioam_data::Namespace;
-use ioam_topo::{Domain, NodeData, NodeId, read_domain};
+use ioam_domain_file::read_domain;
+use ioam_topo::{Domain, NodeData, NodeId};
 use std::alloc::Global;
 
 // The data of two nodes: their greatest numbers, digits in either case, and a snapshot of nothing.

@@ -1,4 +1,5 @@
-use ioam_topo::{Domain, LinkId, NodeId, PortId, Way, read_domain};
+use ioam_domain_file::read_domain;
+use ioam_topo::{Domain, LinkId, NodeId, PortId, Way};
 use std::alloc::Global;
 
 pub(crate) const NODES: &str =

@@ -1,7 +1,7 @@
 use crate::data_tests::OF_DATA;
 use crate::domain_tests::{LINKS, NODES, PORTS};
 use ioam_base::memory::NoMemory;
-use ioam_topo::{DomainRefused, read_domain};
+use ioam_domain_file::{DomainRefused, read_domain};
 use std::alloc::Global;
 
 // Each row is a fault, and behind ` # ` a file of which it is the first.

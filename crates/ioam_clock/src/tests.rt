@@ -1,6 +1,7 @@
 use crate::domain_tests::{NODES, shared};
 use crate::{ReadWhy, Readings, ReadingsRefused, Sample, read_readings, stamp};
-use ioam_topo::{Domain, Format, NodeId, read_domain};
+use ioam_domain_file::read_domain;
+use ioam_topo::{Domain, Format, NodeId};
 use std::alloc::Global;
 
 // Files, one behind another.

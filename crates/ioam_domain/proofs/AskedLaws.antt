@@ -10,7 +10,7 @@ use Rattle.ioam_pcap.specs.declared.turns.Turn.{Turn}
 use Rattle.ioam_pcap.specs.declared.turns.Turn.TheVariants.{Over, Broken}
 use Rattle.ioam_answer.specs.declared.outcome.Outcome.{Outcome}
 use Rattle.ioam_answer.specs.declared.outcome.Outcome.TheVariants as outcome
-use Rattle.ioam_topo.specs.File.{Agree}
+use Rattle.ioam_domain_file.specs.File.{Agree}
 use Rattle.ioam_topo.specs.declared.domain.Domain.{Domain}
 use Rattle.ioam_domain.specs.Run.{HasCause, Asked, IsSet, IsReady, Arrives, Exceeds, contents, run_files, run_inputs}
 use Rattle.ioam_domain.proofs.SameLaws.{FilesArrive-unique, FilesBegin-few, one_set, one_domain_fault, fault_or_set, fault_or_readings, one_readings_fault, readings_or_set, same_files, same_inputs}

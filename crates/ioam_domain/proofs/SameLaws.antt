@@ -14,13 +14,13 @@ use Rattle.ioam_pcap.proofs.ArrivesLaws.{Arrives-unique}
 use Rattle.ioam_pcap.proofs.MergeLaws.{TakesAll-total, Takes-append}
 use Rattle.ioam_setting.specs.Names.{input_names, file_names}
 use Rattle.ioam_setting.specs.Setting.{HasDomainFault, HasReadingsFault}
-use Rattle.ioam_topo.specs.File.{IsDomainOf, HasFault, Agree}
-use Rattle.ioam_topo.specs.NodeRead.{name_of_node}
+use Rattle.ioam_domain_file.specs.File.{IsDomainOf, HasFault, Agree}
+use Rattle.ioam_topo.specs.Keyed.{name_of_node}
 use Rattle.ioam_topo.specs.declared.domain.Domain.{Domain}
-use Rattle.ioam_topo.specs.declared.fault.DomainFault.{DomainFault}
+use Rattle.ioam_domain_file.specs.declared.fault.DomainFault.{DomainFault}
 use Rattle.ioam_topo.specs.declared.parts.Node.{Node}
 use Rattle.ioam_topo.specs.declared.parts.Port.{Port}
-use Rattle.ioam_topo.proofs.FileLaws.{one_domain, one_fault, domain_or_fault}
+use Rattle.ioam_domain_file.proofs.FileLaws.{one_domain, one_fault, domain_or_fault}
 use Rattle.ioam_domain.specs.Run.{IsSet, domain_file, readings_file, word_files, run_files, run_inputs}
 
 -- what is held is both

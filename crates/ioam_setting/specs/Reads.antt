@@ -3,7 +3,7 @@ use Rattle.std.specs.Prelude.{◌≡◌, ℕ, ⊤, Bool, IsTrue, IsSomeAnd, List
 use Rattle.ioam_clock.specs.Reading.{readings_of}
 use Rattle.ioam_clock.specs.declared.sample.Sample.{Sample}
 use Rattle.ioam_desk.specs.Desk.{Reading, Rose}
-use Rattle.ioam_topo.specs.File.{IsDomainOf, HasFault}
+use Rattle.ioam_domain_file.specs.File.{IsDomainOf, HasFault}
 use Rattle.ioam_topo.specs.declared.domain.Domain.{Domain}
 use Rattle.ioam_setting.specs.declared.setting.Refusal.{Refusal}
 use Rattle.ioam_setting.specs.declared.setting.Refusal.TheVariants as refusal

@@ -4,14 +4,15 @@ ghost use Rattle.ioam_clock.specs.Reading.{node_names};
 ghost use Rattle.ioam_desk.specs.Asked.{AsksFront};
 ghost use Rattle.ioam_desk.specs.Desk.{SameBut, holds, opened_side, opened_each};
 ghost use Rattle.ioam_desk.specs.Whole.{ReadsWhole, FailsWhole};
-ghost use Rattle.ioam_topo.specs.declared.fault.DomainFault.{DomainFault};
+ghost use Rattle.ioam_domain_file.specs.declared.fault.DomainFault.{DomainFault};
 ghost use Rattle.ioam_setting.specs.Reads.{IsDomainRead, AreReadingsRead};
 ghost use Rattle.ioam_setting.specs.Setting.{IsSetting, Refuses};
 ghost use Rattle.ioam_setting.specs.declared.setting.Refusal.{Refusal};
 
 use ioam_clock::{ReadWhy, Readings, ReadingsFault, ReadingsRefused, read_readings};
 use ioam_desk::{Desk, Name, WholeFault, read_whole};
-use ioam_topo::{Domain, DomainFault, DomainRefused, long_file, read_domain};
+use ioam_domain_file::{DomainFault, DomainRefused, long_file, read_domain};
+use ioam_topo::Domain;
 use std::alloc::Global;
 
 /// A domain, and the readings of its nodes' clocks.
@@ -60,7 +61,7 @@ fn read_domain_file<D: Desk>(alloc: Global, desk: &mut D, name: &Name) -> Result
     ensures asked { AsksFront (D.reading desk.old).side.asked (D.reading desk.new).side.asked (name.now ∷ []) }
     ensures outputs { D.writing desk.new ≡ D.writing desk.old }
 {
-    let octets = match read_file(alloc, desk, name, ioam_topo::FILE_MOST) {
+    let octets = match read_file(alloc, desk, name, ioam_domain_file::FILE_MOST) {
         Ok(octets) => octets,
         Err(WholeFault::TooLong { .. }) => return Err(Refusal::Domain(long_file())),
         Err(WholeFault::Failed) => return Err(Refusal::ReadFault),

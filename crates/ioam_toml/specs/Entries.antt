@@ -3,7 +3,7 @@ use Rattle.std.specs.Prelude.{ℕ, Bool, true, false, not, nat_le, nat_eq, ◌&&
 use Rattle.std.specs.List.{list_any}
 use Rattle.toml.specs.Data.{Data, array, table, integer, Items, no_items, item, Members}
 use Rattle.ioam_data.specs.declared.namespace.Namespace.{Namespace}
-use Rattle.ioam_toml.specs.declared.spaces.TheConstants.{SPACES_MOST}
+use Rattle.ioam_topo.specs.declared.spaces.TheConstants.{SPACES_MOST}
 use Rattle.ioam_toml.specs.declared.why.Why.{Why}
 use Rattle.ioam_toml.specs.declared.why.Why.TheVariants.{Kind, Twice, TooMany}
 use Rattle.ioam_toml.specs.Reads.{◌▷◌}

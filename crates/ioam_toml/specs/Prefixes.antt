@@ -1,15 +1,12 @@
 -- Prefixes: an address, `/` and a prefix length, which is how many of its bits count (RFC 4291 section 2.3).
-use Rattle.std.specs.Prelude.{ℕ, ◌+◌, ◌-◌, ◌*◌, ◌%◌, ◌^◌, Bool, not, nat_le, ◌==◌, ◌&&◌, List, [], ◌∷◌, length, take, drop, slice_index, position, Option, Some, None, option_and_then, Result, if◌then◌else◌}
+use Rattle.std.specs.Prelude.{ℕ, ◌+◌, ◌-◌, ◌*◌, Bool, not, nat_le, ◌==◌, ◌&&◌, List, [], ◌∷◌, length, take, drop, slice_index, position, Option, Some, None, option_and_then, Result, if◌then◌else◌}
 use Rattle.toml.specs.Data.{Data}
 use Rattle.ioam_toml.specs.declared.why.Why.{Why}
-use Rattle.ioam_toml.specs.declared.masks.Prefix.{Prefix}
+use Rattle.ioam_topo.specs.declared.prefix.Prefix.{Prefix}
+use Rattle.ioam_topo.specs.Prefixes.{masked}
 use Rattle.ioam_toml.specs.Reads.{◌▷◌}
 use Rattle.ioam_toml.specs.Texts.{text}
 use Rattle.ioam_toml.specs.Addresses.{address_of, ranged}
-
--- the bits of an address of which only so many count, the others 0
-abbrev pub masked : ℕ → ℕ → ℕ
-masked n bits = bits - bits % 2 ^ (128 - n)
 
 -- the value of a decimal digit
 abbrev pub digit : ℕ → Option ℕ
@@ -46,7 +43,3 @@ slash_at s = position (λ b. b == 47) s
 
 abbrev pub prefix : Data → Result Prefix Why
 prefix d = text d ▷ (λ s. ranged (parted (slash_at s) s))
-
--- whether an address has these bits
-abbrev pub matches : Prefix → ℕ → Bool
-matches p target = masked p.length target == p.bits

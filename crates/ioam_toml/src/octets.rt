@@ -9,35 +9,12 @@ use crate::refused::Refused;
 use crate::texts::text_of;
 use crate::why::Why;
 use hex::FromHexError;
+use ioam_topo::Octets;
 use std::alloc::Global;
-use std::marker::Model;
 use toml::{Table, Value};
 
 /// The most hexadecimal digits of a text of octets.
 pub const DIGITS_MOST: usize = 360;
-
-/// Octets that a text of hexadecimal digits spells. Contracts see them as a list.
-#[derive(Debug, Drop)]
-pub struct Octets {
-    held: Vec<u8>,
-}
-
-impl Model for Octets {
-    ghost use Rattle.std.specs.Prelude.{List, ℕ};
-
-    ghost Value = { List ℕ };
-
-    ghost view = { λ octets. octets.held.items };
-}
-
-impl Octets {
-    /// The octets.
-    pub fn list(&self) -> &[u8]
-        ensures { result.now ≡ self.now }
-    {
-        self.held.as_slice()
-    }
-}
 
 // The octets that a text spells.
 fn octets_of(alloc: Global, text: &str) -> Result<Octets, Refused>
@@ -48,7 +25,7 @@ fn octets_of(alloc: Global, text: &str) -> Result<Octets, Refused>
         return Err(Refused::Because(Why::Range));
     }
     match hex::decode(alloc, digits) {
-        Ok(held) => Ok(Octets { held }),
+        Ok(held) => Ok(Octets::new(held)),
         Err(FromHexError::OutOfMemory) => Err(Refused::NoMemory),
         Err(_) => Err(Refused::Because(Why::Range)),
     }

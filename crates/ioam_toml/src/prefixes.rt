@@ -2,41 +2,14 @@ ghost use Rattle.std.specs.Prelude.{◌≡◌, ◌+◌, ◌-◌, ◌%◌, ◌^�
 ghost use Rattle.toml.specs.Data.{get_member};
 ghost use Rattle.toml.specs.View.{view, table_view};
 ghost use Rattle.ioam_toml.specs.Reads.{needed};
-ghost use Rattle.ioam_toml.specs.Prefixes.{masked, digit, decimal_value, length_of, prefix_of, parted, slash_at, prefix, matches};
+ghost use Rattle.ioam_toml.specs.Prefixes.{digit, decimal_value, length_of, prefix_of, parted, slash_at, prefix};
 
 use crate::addresses::address_of;
 use crate::finding::find;
-use crate::masks::Prefix;
 use crate::texts::text_of;
 use crate::why::Why;
+use ioam_topo::{Prefix, masked};
 use toml::{Table, Value};
-
-/// The bits of an address of which only so many count, from 128 on all; the others are 0.
-pub fn masked(length: u8, bits: u128) -> u128
-    ensures { result ≡ masked length bits }
-{
-    if length == 0 {
-        0
-    } else {
-        bits - bits % power(128_u8.saturating_sub(length))
-    }
-}
-
-// A power of two.
-fn power(exponent: u8) -> u128
-    requires { exponent < 128 }
-    ensures value { result ≡ 2 ^ exponent }
-    ensures some { 0 < result }
-{
-    1 << exponent
-}
-
-/// Whether an address has the bits of a prefix.
-pub fn matches(prefix: Prefix, target: u128) -> bool
-    ensures { result ≡ matches prefix target }
-{
-    masked(prefix.length, target) == prefix.bits
-}
 
 // The value of a decimal digit.
 fn digit(octet: u8) -> Option<u8>

@@ -2,7 +2,7 @@ ghost use Rattle.std.specs.Prelude.{◌≡◌, [], map, not, nat_eq, IfOk};
 ghost use Rattle.std.specs.List.{list_any};
 ghost use Rattle.toml.specs.Data.{get_member};
 ghost use Rattle.toml.specs.View.{view, table_view, array_view};
-ghost use Rattle.ioam_toml.specs.declared.spaces.TheConstants.{SPACES_MOST};
+ghost use Rattle.ioam_topo.specs.declared.spaces.TheConstants.{SPACES_MOST};
 ghost use Rattle.ioam_toml.specs.Reads.{ReadsOr, optional, ◌▷◌};
 ghost use Rattle.ioam_toml.specs.Entries.{are_whole, spaces, apart_from, apart, at_most, namespaces};
 
@@ -12,38 +12,10 @@ use crate::refused::Refused;
 use crate::why::Why;
 use indexmap::IndexSet;
 use ioam_data::Namespace;
+use ioam_topo::{SPACES_MOST, Spaces};
 use std::alloc::Global;
-use std::marker::Model;
 use toml::value::Array;
 use toml::{Table, Value};
-
-/// The most namespaces that a node may list.
-pub const SPACES_MOST: usize = 16;
-
-/// The namespaces that a node lists, in the order of the file; no two are equal. It knows namespace
-/// 0 whether or not it lists it. Contracts see them as a list.
-#[derive(Debug, Drop)]
-pub struct Spaces {
-    held: Vec<Namespace>,
-}
-
-impl Model for Spaces {
-    ghost use Rattle.std.specs.Prelude.{List};
-    ghost use Rattle.ioam_data.specs.declared.namespace.Namespace.{Namespace};
-
-    ghost Value = { List Namespace };
-
-    ghost view = { λ spaces. spaces.held.items };
-}
-
-impl Spaces {
-    /// The namespaces.
-    pub fn list(&self) -> &[Namespace]
-        ensures { result.now ≡ self.now }
-    {
-        self.held.as_slice()
-    }
-}
 
 // Whether all items of an array are whole numbers.
 fn are_whole(array: &Array) -> bool
@@ -102,7 +74,7 @@ fn apart_spaces(alloc: Global, array: &Array) -> Result<Spaces, Refused>
         Err(refused) => return Err(refused),
     };
     match are_apart(alloc, held.as_slice()) {
-        Ok(true) if held.len() <= SPACES_MOST => Ok(Spaces { held }),
+        Ok(true) if held.len() <= SPACES_MOST => Ok(Spaces::new(held)),
         Ok(true) => Err(Refused::Because(Why::TooMany)),
         Ok(false) => Err(Refused::Because(Why::Twice)),
         Err(_) => Err(Refused::NoMemory),
@@ -128,8 +100,6 @@ pub fn namespaces(alloc: Global, entry: &Table, key: &str) -> Result<Spaces, Ref
 {
     match find(entry, key) {
         Some(value) => spaces_of(alloc, value),
-        None => Ok(Spaces {
-            held: Vec::new(alloc),
-        }),
+        None => Ok(Spaces::new(Vec::new(alloc))),
     }
 }

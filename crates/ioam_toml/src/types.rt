@@ -2,7 +2,8 @@ ghost use Rattle.std.specs.Prelude.{◌≡◌};
 ghost use Rattle.toml.specs.Data.{get_member};
 ghost use Rattle.toml.specs.View.{view, table_view};
 ghost use Rattle.ioam_toml.specs.Reads.{maybe};
-ghost use Rattle.ioam_toml.specs.Types.{trace_type, is_direct_type, direct_type, is_edge_type, edge_type};
+ghost use Rattle.ioam_toml.specs.Types.{trace_type, direct_type, edge_type};
+ghost use Rattle.ioam_topo.specs.Types.{is_direct_type, is_edge_type};
 
 use crate::finding::find;
 use crate::numbers::number_of;

@@ -4,8 +4,7 @@ use Rattle.std.specs.List.{position, position_or_len}
 use Rattle.std.proofs.lemmas.Option.{slice_get_past}
 use Rattle.std.proofs.lemmas.List.Folds.{find_at}
 use Rattle.ioam_topo.specs.declared.parts.NodeData.{NodeData}
-use Rattle.ioam_topo.specs.Apart.{is_pair}
-use Rattle.ioam_topo.specs.DataRead.{key_of_data}
+use Rattle.ioam_topo.specs.Keyed.{is_pair, key_of_data}
 use Rattle.ioam_topo.specs.Finding.{is_data_of, data_at}
 use Rattle.ioam_topo.proofs.KeyLaws.{place_map, length_map}
 use Rattle.ioam_topo.proofs.LongestLaws.{found_at, found_nowhere}

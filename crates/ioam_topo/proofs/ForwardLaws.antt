@@ -4,16 +4,15 @@ use Rattle.std.specs.List.{All, Contains, position, position_or_len}
 use Rattle.std.specs.Option.{ForSome}
 use Rattle.std.proofs.lemmas.Bool.Decides.{nat_tests}
 use Rattle.std.proofs.lemmas.Option.{slice_get_past}
-use Rattle.ioam_toml.specs.declared.masks.Prefix.{Prefix}
-use Rattle.ioam_toml.specs.Prefixes.{masked, matches}
+use Rattle.ioam_topo.specs.declared.prefix.Prefix.{Prefix}
+use Rattle.ioam_topo.specs.Prefixes.{masked, matches}
 use Rattle.ioam_topo.specs.declared.ids.Way.{Way}
 use Rattle.ioam_topo.specs.declared.ids.Way.TheVariants.{Link as ByLink, Port as ByPort}
 use Rattle.ioam_topo.specs.declared.parts.Link.{Link}
 use Rattle.ioam_topo.specs.declared.parts.Port.{Port}
 use Rattle.ioam_topo.specs.declared.parts.Route.{Route}
-use Rattle.ioam_topo.specs.Lengths.{Occurs}
-use Rattle.ioam_topo.specs.RouteTable.{is_route}
-use Rattle.ioam_topo.specs.RouteRead.{key_of_route, IsSized}
+use Rattle.ioam_topo.specs.Lengths.{Occurs, IsSized}
+use Rattle.ioam_topo.specs.Keyed.{is_route, key_of_route}
 use Rattle.ioam_topo.specs.Kept.{IsRouteOf, is_of, is_way_from}
 use Rattle.ioam_topo.specs.Forward.{longest, bits_of, fits, IsWayTo, IsWayFrom}
 use Rattle.ioam_topo.proofs.KeyLaws.{place_map, length_map}

@@ -1,16 +1,7 @@
--- Laws of keys and of names.
-use Rattle.std.proofs.Common.{◌≡◌, ℕ, Bool, false, ◌&&◌, ◌||◌, cond, List, [], ◌∷◌, ◌++◌, map, String, Global, length, refl, ap, sym, ◌∙◌, string_bytes}
-use Rattle.std.specs.List.{list_any, list_all, position, position_or_len}
-use Rattle.std.specs.Map.{keys_of}
+-- Laws of names and of lists that are mapped.
+use Rattle.std.proofs.Common.{◌≡◌, ℕ, Bool, false, ◌||◌, cond, List, [], ◌∷◌, ◌++◌, map, String, Global, length, refl, ap, ◌∙◌, string_bytes}
+use Rattle.std.specs.List.{list_any, position, position_or_len}
 use Rattle.std.specs.Str.{bytes_eq}
-use Rattle.toml.specs.View.{members_view}
-use Rattle.toml.specs.declared.value.Value.{Value}
-use Rattle.ioam_topo.specs.declared.words.Table.{Table}
-use Rattle.ioam_topo.specs.Keys.{is_listed, all_listed}
-
-pub listed_keys : (table : Table) (es : List (String Global × Value)) → list_all (λ k. is_listed table (string_bytes k)) (keys_of es) ≡ all_listed table (members_view es)
-listed_keys table [] = refl
-listed_keys table (e ∷ es) = ap (λ b. is_listed table (string_bytes e.0) && b) (listed_keys table es)
 
 pub any_map : {A B : Type 0} (p : B → Bool) (f : A → B) (xs : List A) → list_any (λ x. p (f x)) xs ≡ list_any p (map f xs)
 any_map p f [] = refl
@@ -30,11 +21,6 @@ position_map p f xs = rw (place_map p f xs, length_map f xs)
 pub map_append : {A B : Type 0} (f : A → B) (xs ys : List A) → map f (xs ++ ys) ≡ map f xs ++ map f ys
 map_append f [] ys = refl
 map_append f (x ∷ xs) ys = ap (λ zs. f x ∷ zs) (map_append f xs ys)
-
--- what is kept beside a list is still what its items have, after one item more
-pub kept_by : {A B : Type 0} (f : A → B) (xs new : List A) (x : A) (ys more : List B) → ys ≡ map f xs → new ≡ xs ++ x ∷ [] → more ≡ ys ++ f x ∷ []
-    → more ≡ map f new
-kept_by f xs new x ys more are items also = also ∙ ap (λ l. l ++ f x ∷ []) are ∙ sym (ap (map f) items ∙ map_append f xs (x ∷ []))
 
 -- a name that isn't there is added behind the others
 pub added : (ks new : List (String Global)) (k : String Global) (name : List ℕ) → string_bytes k ≡ name

@@ -1,7 +1,6 @@
--- A domain, and what it is of a file.
-use Rattle.std.specs.Prelude.{◌≡◌, List, [], Ok, ℕ, Bool, nat_eq, Option, Some, None, map, option_map}
+-- What a domain has, in file order.
+use Rattle.std.specs.Prelude.{List, [], ℕ, Bool, nat_eq, Option, Some, None, map, option_map}
 use Rattle.std.specs.List.{list_any}
-use Rattle.toml.specs.Data.{Members}
 use Rattle.ioam_data.specs.declared.namespace.Namespace.{Namespace}
 use Rattle.ioam_topo.specs.declared.domain.Domain.{Domain}
 use Rattle.ioam_topo.specs.declared.parts.Node.{Node}
@@ -10,13 +9,9 @@ use Rattle.ioam_topo.specs.declared.parts.Port.{Port}
 use Rattle.ioam_topo.specs.declared.parts.Route.{Route}
 use Rattle.ioam_topo.specs.declared.ids.NodeId.{NodeId}
 use Rattle.ioam_topo.specs.declared.ids.LinkId.{LinkId}
-use Rattle.ioam_topo.specs.Goods.{goods, place_of}
-use Rattle.ioam_topo.specs.NodeRead.{name_of_node}
-use Rattle.ioam_topo.specs.LinkRead.{name_of_link}
+use Rattle.ioam_topo.specs.Keyed.{place_of, name_of_node, name_of_link}
 use Rattle.ioam_topo.specs.declared.parts.NodeData.{NodeData}
 use Rattle.ioam_topo.specs.declared.parts.Flow.{Flow}
-use Rattle.ioam_topo.specs.NodeTable.{node_of}
-use Rattle.ioam_topo.specs.Top.{format_of, packets_of, node_entries, links_of, ports_of, routes_of, node_data_of, flows_of}
 
 -- the nodes, links, ports and routes of a domain, in file order
 abbrev pub nodes : Domain → List Node
@@ -45,17 +40,6 @@ node_of_name domain name = option_map (λ at. record { 0 = at }) (place_of (map 
 -- the link of a name, by its place
 abbrev pub link_of_name : Domain → List ℕ → Option LinkId
 link_of_name domain name = option_map (λ at. record { 0 = at }) (place_of (map name_of_link (links domain)) name)
-
--- this is the domain of a file
-pub record IsDomain (t : Members) (domain : Domain) : Type 0 where
-  pub format : format_of t ≡ Ok domain.format
-  pub packets : packets_of t ≡ Ok domain.packets
-  pub has_nodes : nodes domain ≡ goods node_of (node_entries t)
-  pub has_links : links domain ≡ links_of t
-  pub has_ports : ports domain ≡ ports_of t
-  pub has_routes : routes domain ≡ routes_of t
-  pub has_data : node_data domain ≡ node_data_of t
-  pub has_flows : flows domain ≡ flows_of t
 
 -- the namespaces that a node, where it is there, lists
 abbrev pub spaces_of : Option Node → List Namespace

@@ -1,6 +1,6 @@
 -- What is looked up among the node data and the flows of a domain.
 use Rattle.std.specs.Prelude.{ℕ, Bool, nat_eq, ◌&&◌, List, Option, option_map, position, find}
-use Rattle.ioam_toml.specs.Prefixes.{matches}
+use Rattle.ioam_topo.specs.Prefixes.{matches}
 use Rattle.ioam_topo.specs.declared.ids.FlowId.{FlowId}
 use Rattle.ioam_topo.specs.declared.parts.NodeData.{NodeData}
 use Rattle.ioam_topo.specs.declared.parts.Flow.{Flow}

@@ -2,7 +2,7 @@
 use Rattle.std.specs.Prelude.{◌≡◌, ◌<◌, ◌≤◌, ℕ, Bool, true, false, nat_eq, nat_lt, ◌&&◌, List, [], ◌∷◌, length, Option, Some, None, option_map, slice_get, if◌then◌else◌}
 use Rattle.std.specs.List.{All, Contains}
 use Rattle.std.specs.Option.{ForSome}
-use Rattle.ioam_toml.specs.Prefixes.{matches}
+use Rattle.ioam_topo.specs.Prefixes.{matches}
 use Rattle.ioam_topo.specs.declared.ids.Way.{Way}
 use Rattle.ioam_topo.specs.declared.ids.Way.TheVariants.{Link as ByLink, Port as ByPort}
 use Rattle.ioam_topo.specs.declared.parts.Link.{Link}

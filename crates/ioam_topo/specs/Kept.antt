@@ -1,9 +1,9 @@
 -- What is true of a domain's tables, whatever file they are of.
 use Rattle.std.specs.Prelude.{◌≡◌, ◌≢◌, ◌<◌, ◌≤◌, ℕ, Bool, true, false, nat_eq, List, map, length, Option, Some, None, slice_get}
 use Rattle.std.specs.List.{All}
-use Rattle.ioam_topo.specs.declared.node_table.TheConstants.{MOST_NODES}
-use Rattle.ioam_topo.specs.declared.link_table.TheConstants.{MOST_LINKS}
-use Rattle.ioam_topo.specs.declared.port_table.TheConstants.{MOST_PORTS}
+use Rattle.ioam_topo.specs.declared.nodes.TheConstants.{MOST_NODES}
+use Rattle.ioam_topo.specs.declared.links.TheConstants.{MOST_LINKS}
+use Rattle.ioam_topo.specs.declared.ports.TheConstants.{MOST_PORTS}
 use Rattle.ioam_topo.specs.declared.domain.TheConstants.{MOST_ROUTES, MOST_DATA, MOST_FLOWS}
 use Rattle.ioam_topo.specs.declared.ids.Way.{Way}
 use Rattle.ioam_topo.specs.declared.ids.Way.TheVariants.{Link as ByLink, Port as ByPort}
@@ -12,18 +12,15 @@ use Rattle.ioam_topo.specs.declared.parts.Port.{Port}
 use Rattle.ioam_topo.specs.declared.parts.Route.{Route}
 use Rattle.ioam_topo.specs.declared.parts.NodeData.{NodeData}
 use Rattle.ioam_topo.specs.declared.parts.Flow.{Flow}
-use Rattle.ioam_topo.specs.declared.data_table.DataRows.{DataRows}
-use Rattle.ioam_topo.specs.declared.flow_table.Flows.{Flows}
-use Rattle.ioam_topo.specs.declared.node_table.Nodes.{Nodes}
-use Rattle.ioam_topo.specs.declared.link_table.Links.{Links}
-use Rattle.ioam_topo.specs.declared.port_table.Ports.{Ports}
-use Rattle.ioam_topo.specs.declared.route_table.Parts.{Parts}
-use Rattle.ioam_topo.specs.declared.route_table.Routes.{Routes}
-use Rattle.ioam_topo.specs.NodeRead.{name_of_node, address_of_node}
-use Rattle.ioam_topo.specs.LinkRead.{name_of_link}
-use Rattle.ioam_topo.specs.PortRead.{name_of_port}
-use Rattle.ioam_topo.specs.RouteRead.{key_of_route, IsSized}
-use Rattle.ioam_topo.specs.DataRead.{key_of_data}
+use Rattle.ioam_topo.specs.declared.data_rows.DataRows.{DataRows}
+use Rattle.ioam_topo.specs.declared.flows.Flows.{Flows}
+use Rattle.ioam_topo.specs.declared.nodes.Nodes.{Nodes}
+use Rattle.ioam_topo.specs.declared.links.Links.{Links}
+use Rattle.ioam_topo.specs.declared.ports.Ports.{Ports}
+use Rattle.ioam_topo.specs.declared.routes.Parts.{Parts}
+use Rattle.ioam_topo.specs.declared.routes.Routes.{Routes}
+use Rattle.ioam_topo.specs.Keyed.{name_of_node, address_of_node, name_of_link, name_of_port, key_of_route, key_of_data}
+use Rattle.ioam_topo.specs.Lengths.{IsSized}
 use Rattle.ioam_topo.specs.Sound.{IsNode, IsLink}
 
 -- the ends of a link are two of so many nodes

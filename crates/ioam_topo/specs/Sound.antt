@@ -2,8 +2,8 @@
 use Rattle.std.specs.Prelude.{◌≡◌, ◌<◌, ◌≤◌, ◌%◌, ◌^◌, true, is_some, length}
 use Rattle.std.specs.Option.{ForSome}
 use Rattle.ioam_data.specs.Kind.{is_entry_type}
-use Rattle.ioam_toml.specs.Types.{is_direct_type, is_edge_type}
-use Rattle.ioam_toml.specs.declared.spaces.TheConstants.{SPACES_MOST}
+use Rattle.ioam_topo.specs.Types.{is_direct_type, is_edge_type}
+use Rattle.ioam_topo.specs.declared.spaces.TheConstants.{SPACES_MOST}
 use Rattle.ioam_topo.specs.declared.parts.Node.{Node}
 use Rattle.ioam_topo.specs.declared.parts.Link.{Link}
 use Rattle.ioam_topo.specs.declared.parts.NodeData.{NodeData}

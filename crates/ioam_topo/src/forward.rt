@@ -3,8 +3,9 @@ ghost use Rattle.ioam_topo.specs.Forward.{longest, bits_of, fits, way_to, IsWayT
 
 use crate::domain::Domain;
 use crate::ids::{NodeId, Way};
+use crate::masks::masked;
 use crate::parts::Route;
-use ioam_toml::{Prefix, masked};
+use crate::prefix::Prefix;
 
 impl Domain {
     ghost use Rattle.ioam_topo.specs.Domain.{links, ports, routes};

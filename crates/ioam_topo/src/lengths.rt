@@ -1,10 +1,11 @@
 ghost use Rattle.std.specs.Prelude.{◌≡◌, ◌≤◌, false, replicate, slice_get, Some};
 ghost use Rattle.ioam_topo.specs.Lengths.{Occurs, Marks};
 
-// The lengths that prefixes have, so that a look-up costs one hash for each length that occurs.
+/// The lengths that prefixes have, so that a look-up costs one hash for each length that occurs.
 #[derive(Drop)]
-pub(crate) struct Lengths {
-    pub(crate) held: [bool; 129],
+pub struct Lengths {
+    /// Whether a prefix has the length of a place.
+    pub held: [bool; 129],
 }
 
 impl Lengths {

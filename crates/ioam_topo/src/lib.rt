@@ -1,33 +1,39 @@
-//! The domain file: nodes, links, ports, routes, node data and flows in TOML, read with each fault
-//! at its place, and the look-ups in a domain.
+//! A domain: its nodes, links, ports, routes, node data and flows, how it is put together, and the
+//! look-ups in it.
 #![tactic(auto)]
 
-mod collecting;
-mod data_table;
+mod data_rows;
 mod domain;
-mod fault;
-mod flow_parts;
-mod flow_table;
+mod flows;
+mod format;
 mod forward;
 mod ids;
-mod keys;
 mod lengths;
-mod link_table;
+mod links;
 mod lookups;
 mod lookups_data;
-mod name_list;
-mod node_table;
-mod numbers;
+mod masks;
+mod names;
+mod nodes;
+mod octets;
 mod parts;
-mod port_table;
-mod reading;
-mod route_table;
-mod words;
+mod ports;
+mod prefix;
+mod routes;
+mod spaces;
 
-pub use domain::{Domain, MOST_DATA, MOST_FLOWS, MOST_ROUTES};
-pub use fault::{DomainFault, DomainRefused};
+pub use data_rows::DataRows;
+pub use domain::{Domain, MOST_DATA, MOST_FLOWS, MOST_ROUTES, Telemetry};
+pub use flows::Flows;
+pub use format::Format;
 pub use ids::{FlowId, LinkId, NodeId, PortId, Way};
-pub use ioam_toml::{Octets, Prefix, Spaces, Why};
+pub use links::{Links, MOST_LINKS, MOST_TAPS};
+pub use masks::{masked, matches};
+pub use names::Names;
+pub use nodes::{MOST_NODES, Nodes};
+pub use octets::Octets;
 pub use parts::{Flow, Link, Node, NodeData, Port, Route};
-pub use reading::{FILE_MOST, long_file, read_domain};
-pub use words::{Field, Format, Table};
+pub use ports::{MOST_PORTS, Ports};
+pub use prefix::Prefix;
+pub use routes::{Parts, Routes};
+pub use spaces::{SPACES_MOST, Spaces};

@@ -6,10 +6,9 @@ ghost use Rattle.ioam_topo.specs.Spaces.{knows_space};
 ghost use Rattle.ioam_topo.specs.Kept.{JoinsNodes, IsAtNode, IsRouteOf};
 
 use crate::domain::Domain;
-use crate::flow_parts::knows_space;
+use crate::format::Format;
 use crate::ids::{LinkId, NodeId, PortId};
 use crate::parts::{Link, Node, Port, Route};
-use crate::words::Format;
 use ioam_data::Namespace;
 
 impl Domain {
@@ -133,7 +132,7 @@ impl Domain {
         ensures { result ≡ knows_space (spaces_of (slice_get (nodes self.now) node.0)) namespace.0 }
     {
         match self.nodes().get(node.0 as usize) {
-            Some(known) => knows_space(known.namespaces.list(), namespace.0),
+            Some(known) => known.namespaces.knows(namespace.0),
             None => namespace.0 == 0,
         }
     }

@@ -8,10 +8,10 @@ ghost use Rattle.ioam_topo.specs.Kept.{IsOfNode, JoinsEnds};
 
 use crate::domain::Domain;
 use crate::ids::{FlowId, NodeId};
+use crate::masks::matches;
 use crate::parts::{Flow, NodeData};
 use ioam_data::Namespace;
 use ioam_ip::Header;
-use ioam_toml::matches;
 
 // Whether a node encloses, for this flow, packets from a source to a target.
 fn encloses(node: NodeId, source: u128, target: u128, flow: &Flow) -> bool

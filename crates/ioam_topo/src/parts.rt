@@ -1,7 +1,9 @@
 use crate::ids::{NodeId, Way};
+use crate::octets::Octets;
+use crate::prefix::Prefix;
+use crate::spaces::Spaces;
 use ioam_data::{Namespace, TraceType};
 use ioam_desk::Name;
-use ioam_toml::{Octets, Prefix, Spaces};
 
 /// A node of the domain.
 #[derive(Debug, Drop)]

@@ -1,6 +1,6 @@
 use Rattle.std.proofs.Common.{nat_eq, ap, sym, ◌∙◌}
 use Rattle.std.specs.List.{list_any}
-use Rattle.ioam_topo.specs.NodeRead.{address_of_node}
+use Rattle.ioam_topo.specs.Keyed.{address_of_node}
 use Rattle.ioam_topo.proofs.KeyLaws.{any_map}
 use Rattle.ioam_topo.proofs.domain.Domain.is_local.Goals as goal
 

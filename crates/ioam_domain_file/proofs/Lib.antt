@@ -1,0 +1,17 @@
+pub mod KeyLaws
+pub mod FaultLaws
+pub mod GoodsLaws
+pub mod NodeLaws
+pub mod LinkLaws
+pub mod PortLaws
+pub mod RouteLaws
+pub mod DataLaws
+pub mod FlowLaws
+pub mod FlowFacts
+pub mod PartsLaws
+pub mod KeptLaws
+pub mod FlowKept
+pub mod PartFacts
+pub mod SoundLaws
+pub mod FileLaws
+pub mod DataKept

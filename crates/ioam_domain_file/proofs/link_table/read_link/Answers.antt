@@ -1,0 +1,52 @@
+use Rattle.std.proofs.Common.{rules, ◌≡◌, ◌++◌, [], Ok, codes}
+use Rattle.std.specs.Str.{bytes_eq}
+use Rattle.toml.specs.View.{table_view}
+use Rattle.toml.specs.Data.{get_member}
+use Rattle.ioam_toml.specs.Reads.{◌▷◌, maybe}
+use Rattle.ioam_toml.specs.Texts.{file_name}
+use Rattle.ioam_domain_file.specs.declared.words.Table.TheVariants.{LinkTable}
+use Rattle.ioam_domain_file.specs.declared.words.Field.TheVariants.{OtherKey, NameKey, TapKey}
+use Rattle.ioam_domain_file.specs.Faults.{at}
+use Rattle.ioam_domain_file.specs.Goods.{fresh}
+use Rattle.ioam_domain_file.specs.Keys.{own_keys}
+use Rattle.ioam_domain_file.specs.LinkTable.{link_name, link_tap, end_keys, number_keys}
+use Rattle.ioam_domain_file.proofs.GoodsLaws.{fresh_new}
+use Rattle.ioam_domain_file.proofs.FaultLaws.{gives_first}
+use Rattle.ioam_domain_file.proofs.LinkLaws.{tap_read, tap_counts}
+use Rattle.ioam_domain_file.proofs.link_table.read_link.Goals as goal
+
+pub returns-in-Err : goal.returns-in-Err
+returns-in-Err c =
+    let a : at LinkTable c.args.place OtherKey (own_keys LinkTable (table_view c.args.entry.now)) ≡ [] = search rules in
+    let b : at LinkTable c.args.place NameKey (link_name (table_view c.args.entry.now) ▷ fresh bytes_eq c.args.links.now.names) ≡ [] = search rules in
+    gives_first c.in-Err.refused _ (number_keys c.args.place (table_view c.args.entry.now) ++ at LinkTable c.args.place TapKey (link_tap c.args.links.now.taps (table_view c.args.entry.now))) _ _ _
+    (rw (a, b)) c.in-Err.ensures
+
+pub returns-in-Err-link_numbers : goal.returns-in-Err-link_numbers
+returns-in-Err-link_numbers c =
+    let a : at LinkTable c.args.place OtherKey (own_keys LinkTable (table_view c.args.entry.now)) ≡ [] = search rules in
+    let b : at LinkTable c.args.place NameKey (link_name (table_view c.args.entry.now) ▷ fresh bytes_eq c.args.links.now.names) ≡ [] = search rules in
+    let e : end_keys c.args.nodes.now.names c.args.place (table_view c.args.entry.now) ≡ [] = c.in-Ok.ensures.0 in
+    gives_first c.in-Err-link_numbers.refused _ (at LinkTable c.args.place TapKey (link_tap c.args.links.now.taps (table_view c.args.entry.now))) _ _ _
+    (rw (a, b, e)) c.in-Err-link_numbers.ensures
+
+pub returns-in-Ok-Ok : goal.returns-in-Ok-Ok
+returns-in-Ok-Ok c =
+    let a : at LinkTable c.args.place OtherKey (own_keys LinkTable (table_view c.args.entry.now)) ≡ [] = search rules in
+    let b : at LinkTable c.args.place NameKey (link_name (table_view c.args.entry.now) ▷ fresh bytes_eq c.args.links.now.names) ≡ [] = search rules in
+    let e : end_keys c.args.nodes.now.names c.args.place (table_view c.args.entry.now) ≡ [] = c.in-Ok.ensures.0 in
+    let n : number_keys c.args.place (table_view c.args.entry.now) ≡ [] = c.in-Ok-link_numbers.ensures.0 in
+    let t : link_tap c.args.links.now.taps (table_view c.args.entry.now) ≡ Ok c.in-Ok-Ok.tap = search rules in
+    let none : at LinkTable c.args.place TapKey (link_tap c.args.links.now.taps (table_view c.args.entry.now)) ≡ [] = rw t in
+    let tap : maybe file_name (get_member (codes "tap") (table_view c.args.entry.now)) ≡ Ok c.in-Ok-Ok.tap = tap_read c.args.links.now.taps _ _ t in
+    let f : link_name (table_view c.args.entry.now) ▷ fresh bytes_eq c.args.links.now.names ≡ Ok c.in_ok-text.text.now = search rules in (
+      rw (a, b, e, n, none),
+      record {
+        name = search rules;
+        is = search rules;
+        end_is = search rules;
+        name_is = search rules;
+        new_name = fresh_new bytes_eq c.args.links.now.names _ c.in_ok-text.text.now f;
+        tap_is = tap_counts (get_member (codes "tap") (table_view c.args.entry.now)) _ tap;
+      },
+    )

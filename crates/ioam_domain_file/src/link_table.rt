@@ -1,0 +1,158 @@
+ghost use Rattle.std.specs.Prelude.{◌≡◌, Ok, option_map};
+ghost use Rattle.toml.specs.View.{table_view};
+ghost use Rattle.std.specs.Prelude.{codes, IfOk};
+ghost use Rattle.toml.specs.Data.{get_member};
+ghost use Rattle.ioam_toml.specs.Reads.{Reads, ◌▷◌, needed};
+ghost use Rattle.ioam_toml.specs.Texts.{name};
+ghost use Rattle.ioam_domain_file.specs.Goods.{known, differs};
+ghost use Rattle.ioam_domain_file.specs.LinkTable.{link_from, link_to, link_tap, end_keys, number_keys, link_out_id, link_in_id, link_delay, link_mtu, link_keys};
+ghost use Rattle.ioam_domain_file.specs.Faults.{Gives};
+ghost use Rattle.ioam_domain_file.specs.LinkRead.{IsNewLink};
+
+use crate::collecting::Collects;
+use crate::fault::DomainRefused;
+use crate::keys::{Spot, own_keys};
+use crate::names::{known, known_other, new_name};
+use crate::numbers::number32;
+use crate::words::{Field, Table};
+use ioam_base::memory::NoMemory;
+use ioam_desk::Name;
+use ioam_toml::{Why, maybe_file_name};
+use ioam_topo::{Link, Links, MOST_TAPS, NodeId, Nodes};
+use std::alloc::Global;
+
+// The ends of a link.
+#[derive(Clone, Copy)]
+struct Ends {
+    from: u32,
+    to: u32,
+}
+
+// The numbers of a link.
+#[derive(Clone, Copy)]
+struct Numbers {
+    out_id: u32,
+    in_id: u32,
+    delay: u32,
+    mtu: u32,
+}
+
+fn link_ends(spot: Spot, nodes: &Nodes, entry: &toml::Table) -> Result<Ends, DomainRefused>
+    requires { spot.table ≡ Table.LinkTable }
+    ensures { Gives result (end_keys nodes.now.names spot.place (table_view entry.now))
+        (λ ends. (link_from nodes.now.names (table_view entry.now) ≡ Ok ends.from) × (link_to nodes.now.names (table_view entry.now) ≡ Ok ends.to)) }
+{
+    let from = spot.key(Field::FromKey, known(&nodes.names, entry, "from"))?;
+    let to = spot.key(Field::ToKey, known_other(&nodes.names, entry, "to", from))?;
+    Ok(Ends { from, to })
+}
+
+fn link_numbers(spot: Spot, entry: &toml::Table) -> Result<Numbers, DomainRefused>
+    requires { spot.table ≡ Table.LinkTable }
+    ensures { Gives result (number_keys spot.place (table_view entry.now)) (λ n. (link_out_id (table_view entry.now) ≡ Ok n.out_id)
+        × (link_in_id (table_view entry.now) ≡ Ok n.in_id) × (link_delay (table_view entry.now) ≡ Ok n.delay) × (link_mtu (table_view entry.now) ≡ Ok n.mtu)) }
+{
+    let out_id = spot.key(Field::OutIdKey, number32(entry, "out_id", 0, 4_294_967_295))?;
+    let in_id = spot.key(Field::InIdKey, number32(entry, "in_id", 0, 4_294_967_295))?;
+    let delay = spot.key(Field::DelayKey, number32(entry, "delay", 0, 1_000_000_000))?;
+    let mtu = spot.key(Field::MtuKey, number32(entry, "mtu", 1280, 65575))?;
+    Ok(Numbers {
+        out_id,
+        in_id,
+        delay,
+        mtu,
+    })
+}
+
+// The tap of an entry behind so many.
+fn tap<'a>(taps: u32, entry: &'a toml::Table) -> Result<Option<&'a str>, Why>
+    ensures { Reads (option_map (λ t. t.now)) result (link_tap taps (table_view entry.now)) }
+{
+    match maybe_file_name(entry, "tap") {
+        Ok(Some(_)) if taps >= MOST_TAPS => Err(Why::TooMany),
+        other => other,
+    }
+}
+
+// A copy of a name that may be there.
+pub(crate) fn maybe_copied(alloc: Global, text: Option<&str>) -> Result<Option<Name>, NoMemory>
+    ensures { IfOk result (λ name. name ≡ option_map (λ t. t.now) text.entry) }
+{
+    match text {
+        Some(text) => match Name::new(alloc, text) {
+            Ok(name) => Ok(Some(name)),
+            Err(refused) => Err(refused),
+        },
+        None => Ok(None),
+    }
+}
+
+// The link of an entry, with its name.
+fn read_link<'a>(
+    alloc: Global,
+    links: &Links,
+    nodes: &Nodes,
+    place: u32,
+    entry: &'a toml::Table,
+) -> Result<(&'a str, Link), DomainRefused>
+    ensures { Gives result (link_keys nodes.now.names place links.now.names links.now.taps (table_view entry.now))
+        (λ row. IsNewLink nodes.now.names links.now (table_view entry.now) row.0.now row.1) }
+{
+    let spot = Spot {
+        table: Table::LinkTable,
+        place,
+    };
+    spot.key(Field::OtherKey, own_keys(Table::LinkTable, entry))?;
+    let text = spot.key(Field::NameKey, new_name(&links.names, entry, "name"))?;
+    let ends = match link_ends(spot, nodes, entry) {
+        Ok(ends) => ends,
+        Err(refused) => return Err(refused),
+    };
+    let numbers = match link_numbers(spot, entry) {
+        Ok(numbers) => numbers,
+        Err(refused) => return Err(refused),
+    };
+    let tap = spot.key(Field::TapKey, tap(links.taps, entry))?;
+    match (Name::new(alloc, text), maybe_copied(alloc, tap)) {
+        (Ok(name), Ok(tap)) => Ok((
+            text,
+            Link {
+                name,
+                from: NodeId(ends.from),
+                to: NodeId(ends.to),
+                out_id: numbers.out_id,
+                in_id: numbers.in_id,
+                delay: numbers.delay,
+                mtu: numbers.mtu,
+                tap,
+            },
+        )),
+        _ => Err(DomainRefused::NoMemory),
+    }
+}
+
+impl Collects<Nodes> for Links {
+    ghost use Rattle.ioam_domain_file.specs.LinkTable.{link_faults};
+    ghost use Rattle.ioam_domain_file.specs.LinkRead.{HoldsLinks};
+
+    ghost faults = { λ nodes. link_faults nodes.names };
+
+    ghost Holds = { λ nodes. HoldsLinks nodes.names };
+
+    fn take(
+        &mut self,
+        alloc: Global,
+        before: &Nodes,
+        place: u32,
+        entry: &toml::Table,
+    ) -> Result<(), DomainRefused> {
+        let (text, link) = match read_link(alloc, self, before, place, entry) {
+            Ok(row) => row,
+            Err(refused) => return Err(refused),
+        };
+        match self.add(alloc, text, link) {
+            Ok(()) => Ok(()),
+            Err(_) => Err(DomainRefused::NoMemory),
+        }
+    }
+}

@@ -1,9 +1,0 @@
-/// A prefix of addresses. In one that [`prefix`](crate::prefix) reads, the length is at most 128 and
-/// the bits past it are 0.
-#[derive(Clone, Copy, Debug, PartialEq, Eq, Hash)]
-pub struct Prefix {
-    /// The bits, the first group the most significant.
-    pub bits: u128,
-    /// How many of the bits count, from the most significant on.
-    pub length: u8,
-}

@@ -1,0 +1,11 @@
+-- Prefixes: an address of which only the first bits count (RFC 4291 section 2.3).
+use Rattle.std.specs.Prelude.{ℕ, ◌-◌, ◌%◌, ◌^◌, Bool, ◌==◌}
+use Rattle.ioam_topo.specs.declared.prefix.Prefix.{Prefix}
+
+-- the bits of an address of which only so many count, the others 0
+abbrev pub masked : ℕ → ℕ → ℕ
+masked n bits = bits - bits % 2 ^ (128 - n)
+
+-- whether an address has these bits
+abbrev pub matches : Prefix → ℕ → Bool
+matches p target = masked p.length target == p.bits
