@@ -1,5 +1,6 @@
 ghost use Rattle.std.specs.Prelude.{◌≡◌, MatchResult, string_bytes, Ok, Err};
-ghost use Rattle.std.specs.List.{list_all};
+ghost use Rattle.std.specs.List.{list_all, list_any};
+ghost use Rattle.std.specs.Str.{bytes_eq};
 ghost use Rattle.std.specs.BTreeMap.{keys};
 ghost use Rattle.toml.specs.View.{table_view};
 ghost use Rattle.ioam_domain_file.specs.declared.fault.DomainRefused.TheVariants.{Fault};
@@ -55,66 +56,58 @@ impl Spot {
     }
 }
 
+// Whether a key is one of these.
+fn is_one(key: &str, keys: &[&str]) -> bool
+    ensures { result ≡ list_any (λ it. bytes_eq key.now it.now) keys.now }
+{
+    keys.iter().any(|it| key == *it)
+}
+
 // Whether a table lists a key.
 fn is_listed(table: Table, key: &str) -> bool
     ensures { result ≡ is_listed table key.now }
 {
     match table {
-        Table::Top => { is_top_key(key) }
-        Table::NodeTable => key == "name" || key == "id" || key == "address" || key == "namespaces",
-        Table::LinkTable => is_link_key(key),
-        Table::PortTable => key == "name"
-            || key == "node"
-            || key == "id"
-            || key == "in"
-            || key == "out",
-        Table::RouteTable => key == "node" || key == "prefix" || key == "link" || key == "port",
-        Table::DataTable => is_data_key(key),
-        Table::FlowTable => is_flow_key(key),
+        Table::Top => is_one(
+            key,
+            &[
+                "format", "packets", "node", "link", "port", "route", "data", "flow",
+            ],
+        ),
+        Table::NodeTable => is_one(key, &["name", "id", "address", "namespaces"]),
+        Table::LinkTable => is_one(
+            key,
+            &[
+                "name", "from", "to", "out_id", "in_id", "delay", "mtu", "tap",
+            ],
+        ),
+        Table::PortTable => is_one(key, &["name", "node", "id", "in", "out"]),
+        Table::RouteTable => is_one(key, &["node", "prefix", "link", "port"]),
+        Table::DataTable => is_one(
+            key,
+            &["node", "namespace", "short", "wide", "schema", "snapshot"],
+        ),
+        Table::FlowTable => is_one(
+            key,
+            &[
+                "name",
+                "entry",
+                "exit",
+                "source",
+                "target",
+                "namespace",
+                "hops",
+                "label",
+                "trace",
+                "capacity",
+                "edge",
+                "direct",
+                "every",
+                "flow_id",
+                "limit",
+            ],
+        ),
     }
-}
-
-fn is_top_key(key: &str) -> bool
-    ensures { result ≡ is_listed Table.Top key.now }
-{
-    let own = key == "format" || key == "packets" || key == "node" || key == "link";
-    own || key == "port" || key == "route" || key == "data" || key == "flow"
-}
-
-fn is_link_key(key: &str) -> bool
-    ensures { result ≡ is_listed Table.LinkTable key.now }
-{
-    let ends = key == "name" || key == "from" || key == "to" || key == "out_id" || key == "in_id";
-    ends || key == "delay" || key == "mtu" || key == "tap"
-}
-
-fn is_data_key(key: &str) -> bool
-    ensures { result ≡ is_listed Table.DataTable key.now }
-{
-    let numbers = key == "node" || key == "namespace" || key == "short" || key == "wide";
-    numbers || key == "schema" || key == "snapshot"
-}
-
-fn is_flow_key(key: &str) -> bool
-    ensures { result ≡ is_listed Table.FlowTable key.now }
-{
-    let packets = key == "name"
-        || key == "entry"
-        || key == "exit"
-        || key == "source"
-        || key == "target";
-    let headers = key == "namespace"
-        || key == "hops"
-        || key == "label"
-        || key == "trace"
-        || key == "capacity";
-    packets
-        || headers
-        || key == "edge"
-        || key == "direct"
-        || key == "every"
-        || key == "flow_id"
-        || key == "limit"
 }
 
 // Whether each key of an entry is listed.

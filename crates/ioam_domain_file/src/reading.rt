@@ -1,12 +1,17 @@
-ghost use Rattle.std.specs.Prelude.{◌≡◌, ◌<◌, ◌^◌, []};
+ghost use Rattle.std.specs.Prelude.{◌≡◌, ◌<◌, ◌^◌, [], codes};
 ghost use Rattle.toml.specs.Data.{get_member};
 ghost use Rattle.toml.specs.View.{table_view};
 ghost use Rattle.ioam_toml.specs.Entries.{entries};
-ghost use Rattle.ioam_domain_file.specs.declared.words.Table.TheVariants.{Top};
+ghost use Rattle.ioam_domain_file.specs.declared.words.Table.TheVariants.{Top, NodeTable, LinkTable, PortTable};
 ghost use Rattle.ioam_domain_file.specs.declared.words.Field.TheVariants.{NoKey};
 ghost use Rattle.ioam_domain_file.specs.Faults.{Gives, fault};
-ghost use Rattle.ioam_domain_file.specs.Top.{part_faults, telemetry_faults, faults_of, node_entries, table_faults};
+ghost use Rattle.ioam_domain_file.specs.Top.{part_faults, telemetry_faults, faults_of, node_entries, link_entries, port_entries, table_faults};
+ghost use Rattle.ioam_domain_file.specs.NodeTable.{node_faults};
 ghost use Rattle.ioam_domain_file.specs.NodeRead.{HoldsNodes};
+ghost use Rattle.ioam_domain_file.specs.LinkTable.{link_faults};
+ghost use Rattle.ioam_domain_file.specs.LinkRead.{HoldsLinks};
+ghost use Rattle.ioam_domain_file.specs.PortTable.{port_faults};
+ghost use Rattle.ioam_domain_file.specs.PortRead.{HoldsPorts};
 ghost use Rattle.ioam_domain_file.specs.PartsRead.{HoldsParts, HoldsTelemetry};
 ghost use Rattle.ioam_domain_file.specs.File.{IsDomain, IsFileRead};
 
@@ -48,52 +53,71 @@ fn read_entries<C, T: Collects<C>>(
     collect(alloc, before, found.as_slice(), none)
 }
 
+// The nodes of a file.
+fn read_nodes(alloc: Global, top: &toml::Table) -> Result<Nodes, DomainRefused>
+    ensures { Gives result (table_faults NodeTable MOST_NODES (get_member (codes "node") (table_view top.now)) node_faults)
+        (HoldsNodes (node_entries (table_view top.now))) }
+{
+    let spot = Spot {
+        table: Table::NodeTable,
+        place: 0,
+    };
+    read_entries(alloc, top, spot, "node", MOST_NODES, &(), Nodes::new(alloc))
+}
+
+// The links of a file, whose nodes these are.
+fn read_links(alloc: Global, top: &toml::Table, nodes: &Nodes) -> Result<Links, DomainRefused>
+    ensures { Gives result (table_faults LinkTable MOST_LINKS (get_member (codes "link") (table_view top.now)) (link_faults nodes.now.names))
+        (HoldsLinks nodes.now.names (link_entries (table_view top.now))) }
+{
+    let spot = Spot {
+        table: Table::LinkTable,
+        place: 0,
+    };
+    read_entries(
+        alloc,
+        top,
+        spot,
+        "link",
+        MOST_LINKS,
+        nodes,
+        Links::new(alloc),
+    )
+}
+
+// The ports of a file, whose nodes these are.
+fn read_ports(alloc: Global, top: &toml::Table, nodes: &Nodes) -> Result<Ports, DomainRefused>
+    ensures { Gives result (table_faults PortTable MOST_PORTS (get_member (codes "port") (table_view top.now)) (port_faults nodes.now.names))
+        (HoldsPorts nodes.now.names (port_entries (table_view top.now))) }
+{
+    let spot = Spot {
+        table: Table::PortTable,
+        place: 0,
+    };
+    read_entries(
+        alloc,
+        top,
+        spot,
+        "port",
+        MOST_PORTS,
+        nodes,
+        Ports::new(alloc),
+    )
+}
+
 // The nodes, links and ports of a file.
 fn read_parts(alloc: Global, top: &toml::Table) -> Result<Parts, DomainRefused>
     ensures { Gives result (part_faults (table_view top.now)) (HoldsParts (table_view top.now)) }
 {
-    let nodes = match read_entries(
-        alloc,
-        top,
-        Spot {
-            table: Table::NodeTable,
-            place: 0,
-        },
-        "node",
-        MOST_NODES,
-        &(),
-        Nodes::new(alloc),
-    ) {
+    let nodes = match read_nodes(alloc, top) {
         Ok(nodes) => nodes,
         Err(refused) => return Err(refused),
     };
-    let links = match read_entries(
-        alloc,
-        top,
-        Spot {
-            table: Table::LinkTable,
-            place: 0,
-        },
-        "link",
-        MOST_LINKS,
-        &nodes,
-        Links::new(alloc),
-    ) {
+    let links = match read_links(alloc, top, &nodes) {
         Ok(links) => links,
         Err(refused) => return Err(refused),
     };
-    let ports = match read_entries(
-        alloc,
-        top,
-        Spot {
-            table: Table::PortTable,
-            place: 0,
-        },
-        "port",
-        MOST_PORTS,
-        &nodes,
-        Ports::new(alloc),
-    ) {
+    let ports = match read_ports(alloc, top, &nodes) {
         Ok(ports) => ports,
         Err(refused) => return Err(refused),
     };
