@@ -4,12 +4,11 @@ use Rattle.std.specs.Prelude.{map, slice_get}
 use Rattle.std.proofs.lemmas.Option.{none-some, same_Some}
 use Rattle.ioam_desk.specs.Desk.{Reading, Writing, holds}
 use Rattle.ioam_forward.specs.Texts.{each_text, out_text, report_text, texts_of}
-use Rattle.ioam_forward.proofs.OneFateLaws.{AreFates-unique}
 use Rattle.ioam_outputs.specs.Held.{HoldTexts}
 use Rattle.ioam_pcap.specs.Merge.{Arrival}
 use Rattle.ioam_topo.specs.Domain.{ports}
 use Rattle.ioam_topo.specs.declared.parts.Port.{Port}
-use Rattle.ioam_traffic.specs.Traffic.{Course, HoldsAll, frames_of}
+use Rattle.ioam_traffic.specs.Traffic.{Course, HoldsAll}
 use Rattle.ioam_domain.specs.Run.{HoldsFiles, report_file, exports_file, run_outputs}
 
 -- the capture of the port at a place holds the text of that place
@@ -44,7 +43,7 @@ module _ (words : List (List ℕ)) (old_in new_in : Reading) (old new : Writing)
     are = all.are;
     few = all.few;
     become = all.become;
-    only = λ others become. AreFates-unique course.domain (frames_of course.ports all.taken) others all.fates become all.become;
+    only = all.only;
     outs = λ place port is. held_at new (ports course.domain) 0 (λ k. out_text k all.fates) (report_file words ∷ exports_file words ∷ [])
         (report_text course.domain all.fates ∷ [] ∷ []) in_order place port is
         ∙ ap (λ (k : ℕ). Some (out_text k all.fates)) (omega arith);

@@ -8,6 +8,7 @@ use Rattle.ioam_outputs.specs.Told.{said_more}
 use Rattle.ioam_run.specs.Filtering.{Gathers, Sorts}
 use Rattle.ioam_node.specs.declared.reason.Reason.{Reason}
 use Rattle.ioam_run.specs.declared.filtering.Filtering.{Filtering}
+use Rattle.ioam_run.proofs.VerdictLaws.{AreVerdicts-unique}
 
 AreVerdicts-push : (ethernet : Bool) (es : List Entry) (vs : List Verdict) (e : Entry) (v : Verdict)
     → AreVerdicts ethernet es vs → HasVerdict ethernet e v → AreVerdicts ethernet (es ++ e ∷ []) (vs ++ v ∷ [])
@@ -73,6 +74,12 @@ count_dropped-drop [] r = refl
 count_dropped-drop (Keeps q ∷ vs) r = count_dropped-drop vs r
 count_dropped-drop (Drops s ∷ vs) r = omega (arith, count_dropped-drop vs r)
 
+-- with the next record there are no other verdicts either
+only_push : (ethernet : Bool) (es : List Entry) (vs : List Verdict) (e : Entry) (v : Verdict) → AreVerdicts ethernet es vs → HasVerdict ethernet e v
+    → (others : List Verdict) → AreVerdicts ethernet (es ++ e ∷ []) others → others ≡ vs ++ v ∷ []
+only_push ethernet es vs e v are has others have =
+    AreVerdicts-unique ethernet (es ++ e ∷ []) others (vs ++ v ∷ []) have (AreVerdicts-push ethernet es vs e v are has)
+
 -- the line of the next record
 next_line : (es : List Entry) (ethernet : Bool) (g : Filtering) (out report now : List ℕ) (number : ℕ) (sorts : Sorts ethernet es out report g) (v : Verdict)
     → number ≡ g.kept + g.dropped + 1 → now ≡ report ++ verdict_line number v
@@ -91,6 +98,7 @@ keep : (ethernet : Bool) (es : List Entry) (old new : Filtering) (out report : L
 keep ethernet es old new out report e p number is has kept dropped sorts = record {
   verdicts = sorts.verdicts ++ Keeps p ∷ [];
   are = AreVerdicts-push ethernet es sorts.verdicts e (Keeps p) sorts.are has;
+  only = only_push ethernet es sorts.verdicts e (Keeps p) sorts.are has;
   out_is = ap (λ (front : List ℕ). front ++ record_octets e.time p) sorts.out_is
       ∙ sym (capture_text-push (kept_of es sorts.verdicts) (record { time = e.time; octets = p }))
       ∙ ap capture_text (sym (kept_of-keep ethernet es sorts.verdicts e p sorts.are));
@@ -107,6 +115,7 @@ drop_one : (ethernet : Bool) (es : List Entry) (old new : Filtering) (out report
 drop_one ethernet es old new out report e r number is has kept dropped sorts = record {
   verdicts = sorts.verdicts ++ Drops r ∷ [];
   are = AreVerdicts-push ethernet es sorts.verdicts e (Drops r) sorts.are has;
+  only = only_push ethernet es sorts.verdicts e (Drops r) sorts.are has;
   out_is = append-nil out ∙ sorts.out_is ∙ ap capture_text (sym (kept_of-drop ethernet es sorts.verdicts e r sorts.are));
   report_is = next_line es ethernet old out report (report ++ verdict_line number (Drops r)) number sorts (Drops r) is refl;
   kept_is = omega (arith, kept, sorts.kept_is, count_kept-drop sorts.verdicts r);

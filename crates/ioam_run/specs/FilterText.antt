@@ -39,10 +39,11 @@ abbrev pub report_text : List Verdict → List ℕ
 report_text vs = verdict_lines 1 vs ++ sums_line (count_kept vs) (count_dropped vs)
 
 -- these are the capture of the kept packets and the report, of these records, whose frames begin
--- with an Ethernet header or don't
+-- with an Ethernet header or don't, and which have no other verdicts
 pub record Filtered (ethernet : Bool) (entries : List Entry) (out report : List ℕ) : Type 0 where
   pub verdicts : List Verdict
   pub are : AreVerdicts ethernet entries verdicts
+  pub only : (others : List Verdict) → AreVerdicts ethernet entries others → others ≡ verdicts
   pub out_is : out ≡ capture_text (kept_of entries verdicts)
   pub report_is : report ≡ report_text verdicts
 

@@ -8,10 +8,12 @@ use Rattle.ioam_run.specs.Verdict.{Verdict, AreVerdicts}
 use Rattle.ioam_run.specs.FilterText.{kept_of, verdict_lines, count_kept, count_dropped, sums_line, FilterTexts}
 use Rattle.ioam_run.specs.declared.filtering.Filtering.{Filtering}
 
--- the capture and the lines of these records, and how many of them are kept and dropped
+-- the capture and the lines of these records, which have no other verdicts, and how many of them are
+-- kept and dropped
 pub record Sorts (ethernet : Bool) (entries : List Entry) (out report : List ℕ) (gathered : Filtering) : Type 0 where
   pub verdicts : List Verdict
   pub are : AreVerdicts ethernet entries verdicts
+  pub only : (others : List Verdict) → AreVerdicts ethernet entries others → others ≡ verdicts
   pub out_is : out ≡ capture_text (kept_of entries verdicts)
   pub report_is : report ≡ verdict_lines 1 verdicts
   pub kept_is : gathered.kept ≡ count_kept verdicts
@@ -42,6 +44,11 @@ taken gathered = gathered.kept + gathered.dropped
 
 -- The laws from here on stand among the definitions, since a ghost member of an `impl` cites specs/ alone.
 
+-- of no records there are no verdicts
+no_others : (ethernet : Bool) (others : List Verdict) → AreVerdicts ethernet [] others → others ≡ []
+no_others ethernet [] are = refl
+no_others ethernet (v ∷ vs) are = absurd are
+
 -- before the first record it doesn't matter what the frames begin with
 no_verdicts : (ethernet other : Bool) (vs : List Verdict) → AreVerdicts ethernet [] vs → AreVerdicts other [] vs
 no_verdicts ethernet other [] are = tt
@@ -53,6 +60,7 @@ Gathers-any_link ethernet other (out ∷ []) gathered gathers = absurd gathers
 Gathers-any_link ethernet other (out ∷ report ∷ []) gathered gathers = record {
   verdicts = gathers.verdicts;
   are = no_verdicts ethernet other gathers.verdicts gathers.are;
+  only = λ others are. gathers.only others (no_verdicts other ethernet others are);
   out_is = gathers.out_is;
   report_is = gathers.report_is;
   kept_is = gathers.kept_is;
@@ -68,6 +76,7 @@ Gathers-ends ethernet entries (out ∷ []) gathered gathers = absurd gathers
 Gathers-ends ethernet entries (out ∷ report ∷ []) gathered gathers = record {
   verdicts = gathers.verdicts;
   are = gathers.are;
+  only = gathers.only;
   out_is = append-nil out ∙ gathers.out_is;
   report_is = ap (λ (lines : List ℕ). lines ++ sums_line gathered.kept gathered.dropped) gathers.report_is
       ∙ ap (λ (kept : ℕ). verdict_lines 1 gathers.verdicts ++ sums_line kept gathered.dropped) gathers.kept_is
@@ -79,7 +88,7 @@ pub sums-sized : (gathered : Filtering) → length (sums gathered) ≡ 2
 sums-sized gathered = refl
 
 pub empty-texts : (ethernet : Bool) → FilterTexts ethernet [] empty
-empty-texts ethernet = record { verdicts = []; are = tt; out_is = refl; report_is = refl }
+empty-texts ethernet = record { verdicts = []; are = tt; only = no_others ethernet; out_is = refl; report_is = refl }
 
 pub empty-sized : length empty ≡ 2
 empty-sized = refl

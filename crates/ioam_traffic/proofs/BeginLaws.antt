@@ -5,6 +5,7 @@ use Rattle.ioam_desk.specs.Desk.{Reading, Writing, holds}
 use Rattle.ioam_forward.specs.Forwarding.{Forwards}
 use Rattle.ioam_forward.specs.Texts.{of_ports, texts_so_far, texts_of}
 use Rattle.ioam_forward.specs.declared.forwarding.Forwarding.{Forwarding}
+use Rattle.ioam_forward.proofs.OneFateLaws.{AreFates-unique}
 use Rattle.ioam_merge.specs.Merging.{Merging, start_of}
 use Rattle.ioam_merge.specs.declared.merge.Merge.{Merge}
 use Rattle.ioam_outputs.specs.Held.{HoldAllFronts, HoldFronts}
@@ -78,6 +79,7 @@ module _ (tells : Bool) (domain : Domain) (ports : List PortId) (files : Files) 
         begin = Merging-begins tells files.lanes inputs merge [] are tells_so;
         few = omega arith;
         become = tt;
+        only = λ others become. AreFates-unique domain [] others [] become tt;
         held = subst P same (fronts (texts_of domain []) (all_texts domain _ _ files.names width));
       }
 

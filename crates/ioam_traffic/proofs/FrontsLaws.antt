@@ -1,15 +1,11 @@
 -- Texts that outputs were told, and what their files hold of them.
-use Rattle.std.proofs.Common.{◌≡◌, ℕ, zero, suc, ◌+◌, ◌<◌, Bool, IsSomeAnd, List, [], ◌∷◌, ◌++◌, length, Option, Some, None, refl, ◌∙◌, ap, subst, append-nil, append_assoc, length-append, arith}
-use Rattle.std.specs.Prelude.{OnOk, Result, Ok, Err}
-use Rattle.std.proofs.lemmas.List.Elements.{All-nil, All-cons, All-head, All-tail}
-use Rattle.ioam_base.specs.Octets.{IsFront}
-use Rattle.ioam_desk.specs.Desk.{Writing, holds}
+use Rattle.std.proofs.Common.{◌≡◌, ℕ, zero, suc, ◌+◌, List, [], ◌∷◌, ◌++◌, length, refl, ◌∙◌, ap, subst, append-nil, length-append, arith}
+use Rattle.ioam_desk.specs.Desk.{Writing}
 use Rattle.ioam_forward.specs.Fate.{Fate}
 use Rattle.ioam_forward.specs.Texts.{each_text, of_ports, of_outputs, out_text, report_lines, texts_so_far, texts_of}
 use Rattle.ioam_forward.proofs.AddsLaws.{same-each, said-each}
 use Rattle.ioam_outputs.specs.Held.{HoldAllFronts}
-use Rattle.ioam_outputs.specs.Told.{AreTold, AreOpen, Adds, said_more, unsaid}
-use Rattle.ioam_outputs.specs.declared.output.Output.{Output}
+use Rattle.ioam_outputs.specs.Told.{said_more}
 use Rattle.ioam_topo.specs.Domain.{ports as ports_of}
 use Rattle.ioam_topo.specs.declared.domain.Domain.{Domain}
 use Rattle.ioam_outputs.proofs.HeldLaws.{fronts_sized, more_fronts}

@@ -4,6 +4,7 @@ use Rattle.ioam_desk.specs.Desk.{Reading, Writing, Side}
 use Rattle.ioam_forward.specs.Fate.{Frame}
 use Rattle.ioam_forward.specs.Forwarding.{Forwards}
 use Rattle.ioam_forward.specs.declared.forwarding.Forwarding.{Forwarding}
+use Rattle.ioam_forward.proofs.OneFateLaws.{AreFates-unique}
 use Rattle.ioam_merge.specs.Merging.{PartsArrive, HaveEnded}
 use Rattle.ioam_outputs.specs.Held.{HoldTexts, HoldAllFronts}
 use Rattle.ioam_outputs.specs.Told.{AreTold, AreOpen}
@@ -64,6 +65,7 @@ module _ (tells : Bool) (course : Course) where
               are = so halts.taken (halts.are told).1;
               few = halts.few;
               become = hold.become;
+              only = λ others become. AreFates-unique course.domain (frames_of course.ports halts.taken) others hold.fates become hold.become;
               held = hold.held;
             }
 
@@ -113,6 +115,7 @@ module _ (tells : Bool) (course : Course) where
           begin = front.begin;
           few = front.few;
           become = front.hold.become;
+          only = λ others become. AreFates-unique course.domain (frames_of course.ports front.taken) others front.hold.fates become front.hold.become;
           held = HoldAllFronts-holds first_out new_out 0 course.names _ front.hold.held;
         }
 

@@ -5,15 +5,13 @@ use Rattle.ioam_forward.specs.Fate.{Frame, Fate, AreFates}
 use Rattle.ioam_forward.specs.Forwarding.{Forwards}
 use Rattle.ioam_forward.specs.Texts.{texts_of}
 use Rattle.ioam_forward.specs.declared.forwarding.Forwarding.{Forwarding}
-use Rattle.ioam_merge.specs.Merging as merging
-use Rattle.ioam_merge.specs.Merging.{Merging, Comes, FilesBegin, PartsArrive, HaveEnded, start_of}
+use Rattle.ioam_merge.specs.Merging.{Merging, Comes, FilesBegin, PartsArrive, HaveEnded}
 use Rattle.ioam_outputs.specs.Held.{HoldAllFronts}
 use Rattle.ioam_outputs.specs.Told.{AreTold}
 use Rattle.ioam_outputs.specs.declared.output.Output.{Output}
 use Rattle.ioam_pcap.specs.Merge.{Arrival}
 use Rattle.ioam_pcap.specs.declared.turns.Turn.TheVariants as turn
 use Rattle.ioam_topo.specs.declared.domain.Domain.{Domain}
-use Rattle.ioam_topo.specs.declared.ids.PortId.{PortId}
 use Rattle.ioam_traffic.specs.Traffic.{Course, frames_of, HoldsAll, ArePassed, Arrive}
 use Rattle.ioam_traffic.specs.declared.halt.Halt.{Halt}
 use Rattle.ioam_traffic.specs.declared.halt.Halt.TheVariants.{Over, Broken, Limit, ReadFault, WriteFault, NoMemory}

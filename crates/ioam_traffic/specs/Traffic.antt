@@ -1,6 +1,6 @@
 -- The traffic of a domain: the captures of its ports are merged by time, each arrival is sent through
 -- the domain, and the outputs are told what becomes of it.
-use Rattle.std.specs.Prelude.{◌≡◌, ℕ, ◌+◌, ◌<◌, ◌≤◌, ◌⊎◌, Bool, true, false, IsTrue, List, [], ◌∷◌, ◌++◌, length, map, slice_index_or, Option, Some, None}
+use Rattle.std.specs.Prelude.{◌≡◌, ℕ, ◌+◌, ◌<◌, ◌≤◌, ◌⊎◌, Bool, IsTrue, List, [], ◌∷◌, ◌++◌, length, map, slice_index_or}
 use Rattle.ioam_desk.specs.Desk.{Reading, Writing, Rose}
 use Rattle.ioam_forward.specs.Fate.{Frame, Fate, AreFates}
 use Rattle.ioam_forward.specs.Texts.{texts_of}
@@ -59,22 +59,26 @@ module _ (course : Course) where
     pub next : Arrival
     pub begin : FilesBegin course.lanes.contents (taken ++ next ∷ [])
 
-  -- the outputs hold the texts of what becomes of these arrivals; `Are` says which they are
+  -- the outputs hold the texts of what becomes of these arrivals, of which nothing else becomes; `Are`
+  -- says which they are
   pub record HoldsAll (Are : List Arrival → Type 0) (new : Writing) : Type 0 where
     pub taken : List Arrival
     pub fates : List Fate
     pub are : Are taken
     pub few : length taken ≤ course.domain.packets
     pub become : AreFates course.domain (frames_of course.ports taken) fates
+    pub only : (others : List Fate) → AreFates course.domain (frames_of course.ports taken) others → others ≡ fates
     pub held : HoldTexts new course.names (texts_of course.domain fates)
 
-  -- each output that was opened holds a front of its text of some first arrivals
+  -- each output that was opened holds a front of its text of some first arrivals, of which nothing else
+  -- becomes
   pub record HoldsFronts (old new : Writing) : Type 0 where
     pub taken : List Arrival
     pub fates : List Fate
     pub begin : FilesBegin course.lanes.contents taken
     pub few : length taken ≤ course.domain.packets
     pub become : AreFates course.domain (frames_of course.ports taken) fates
+    pub only : (others : List Fate) → AreFates course.domain (frames_of course.ports taken) others → others ≡ fates
     pub held : HoldFronts old new 0 course.names (texts_of course.domain fates)
 
   -- all captures were opened
