@@ -1,12 +1,11 @@
 -- What a number is written as in decimal digits reads as that number.
-use Rattle.std.proofs.Common.{◌≡◌, ◌⊎◌, ⊎_elim, ℕ, zero, suc, ◌+◌, ◌-◌, ◌*◌, ◌/◌, ◌%◌, ◌^◌, ◌<◌, ◌≤◌, Bool, true, false, nat_le, nat_lt, ◌==◌, ◌&&◌, ◌||◌, cond, List, [], ◌∷◌, ◌++◌, length, slice_index, get_or, Option, Some, None, Result, Ok, Err, arith, refl, ap, sym, subst, ◌∙◌}
+use Rattle.std.proofs.Common.{◌≡◌, ⊎_elim, ℕ, ◌+◌, ◌-◌, ◌*◌, ◌/◌, ◌%◌, ◌^◌, ◌<◌, ◌≤◌, Bool, true, false, nat_lt, cond, List, [], ◌∷◌, ◌++◌, Some, None, Result, Ok, arith, refl, ap, ◌∙◌}
 use Rattle.std.specs.Fmt.{decimal}
 use Rattle.std.proofs.lemmas.Bool.{cases_eq}
 use Rattle.std.proofs.lemmas.Bool.Decides.{nat_tests}
 use Rattle.std.proofs.lemmas.Fmt.{decimal_by_steps, decimal_digit, decimal_nonempty, first_decimal}
 use Rattle.ioam_clock.specs.declared.fault.ReadWhy.{ReadWhy}
-use Rattle.ioam_clock.specs.declared.fault.ReadWhy.TheVariants.{Number}
-use Rattle.ioam_clock.specs.Numbers.{is_digit, value_from, is_ill, below, number}
+use Rattle.ioam_clock.specs.Numbers.{is_digit, value_from, is_ill, number}
 
 digit_behind : (m c d : ℕ) (ds : List ℕ) (v : ℕ) (t : Bool) → (value_from (m * 10 + (d - 48)) ds ≡ Some v → value_from (m * 10 + (d - 48)) (ds ++ c ∷ []) ≡ Some (v * 10 + (c - 48)))
     → cond t (value_from (m * 10 + (d - 48)) ds) None ≡ Some v → cond t (value_from (m * 10 + (d - 48)) (ds ++ c ∷ [])) None ≡ Some (v * 10 + (c - 48))

@@ -1,12 +1,12 @@
 -- What the loop over the lines gives is what the file says.
-use Rattle.std.proofs.Common.{◌≡◌, ◌⊎◌, inl, inr, ⊎_elim, ℕ, zero, suc, ◌+◌, ◌<◌, ◌≤◌, Bool, true, false, nat_lt, nat_eq, ◌==◌, cond, IsTrue, List, [], ◌∷◌, ◌++◌, length, take, replicate, position, slice_index_or, slice_set, Option, Some, None, Result, Ok, Err, arith, refl, ap, sym, subst, ◌∙◌, append_assoc, length-append}
+use Rattle.std.proofs.Common.{◌≡◌, inl, inr, ⊎_elim, ℕ, ◌+◌, ◌<◌, ◌≤◌, Bool, true, false, nat_lt, nat_eq, ◌==◌, cond, List, [], ◌∷◌, ◌++◌, length, take, replicate, position, slice_index_or, slice_set, Some, None, Result, Ok, Err, arith, refl, ap, sym, subst, ◌∙◌, append_assoc, length-append}
 use Rattle.std.specs.List.{All, position_or_len}
 use Rattle.std.specs.Str.{bytes_eq, is_utf8}
 use Rattle.std.proofs.lemmas.Bool.{cases_eq}
 use Rattle.std.proofs.lemmas.Bool.Decides.{nat_tests}
 use Rattle.std.proofs.lemmas.List.{append-nil, length_push, length-set, length-replicate, get_or-replicate, get_or_append_left, get_or_push, get_or-set_same, get_or-set_other, take_at, take-append-le}
 use Rattle.std.proofs.lemmas.List.Elements.{All-replicate, All-set}
-use Rattle.std.proofs.Math.Seq.{get_or-append_seam, take-length}
+use Rattle.std.proofs.Math.Seq.{get_or-append_seam}
 use Rattle.ioam_clock.specs.declared.reading.TheConstants.{FILE_MOST}
 use Rattle.ioam_clock.specs.declared.fault.ReadWhy.{ReadWhy}
 use Rattle.ioam_clock.specs.declared.fault.ReadWhy.TheVariants.{Long, Node, Order}
@@ -18,7 +18,7 @@ use Rattle.ioam_clock.specs.Lines.{Line, words_of, lines}
 use Rattle.ioam_clock.specs.Numbers.{◌▷◌}
 use Rattle.ioam_clock.specs.Samples.{follows, Rise}
 use Rattle.ioam_clock.specs.Reading.{placed, node_of, sample_of, samples_of, added, said, line_added, lines_added, readings_of, IsReading}
-use Rattle.ioam_clock.specs.File.{line_says, of_node, samples_in, IsLine, AreLines, IsWrong, IsFirstWrong, IsLongFile, IsFaultyFile, AreSaid, IsFileRead}
+use Rattle.ioam_clock.specs.File.{line_says, of_node, samples_in, IsLine, AreLines, IsWrong, IsFirstWrong, IsFileRead}
 use Rattle.ioam_clock.proofs.TrackLaws.{Rise-push}
 
 -- a place that is there is one of the names'

@@ -1,7 +1,6 @@
-use Rattle.std.proofs.Common.{◌≡◌, Err, arith}
+use Rattle.std.proofs.Common.{Err, arith}
 use Rattle.std.proofs.lemmas.Grind.{common_steps}
 use Rattle.ioam_clock.specs.declared.fault.ReadWhy.TheVariants.{Number}
-use Rattle.ioam_clock.specs.Numbers.{number}
 use Rattle.ioam_clock.proofs.DecimalLaws.{number_decimal}
 use Rattle.ioam_clock.proofs.numbers.number.Goals as goal
 
