@@ -18,12 +18,3 @@ pub use reading::{FILE_MOST, read_readings};
 pub use readings::Readings;
 pub use sample::Sample;
 pub use timestamp::stamp;
-
-#[cfg(test)]
-mod data_tests;
-#[cfg(test)]
-mod domain_tests;
-#[cfg(test)]
-mod fault_tests;
-#[cfg(test)]
-mod tests;

@@ -46,16 +46,6 @@ fn words_of<R: std::rt::Env + AllocGlobal>(rt: &R) -> Result<Vec<Name>, Outcome>
 }
 
 #[cfg(test)]
-mod capture_rows;
-#[cfg(test)]
-mod desk_tests;
-#[cfg(test)]
-mod run_refusals;
-#[cfg(test)]
-mod run_rows;
-#[cfg(test)]
-mod run_tests;
-#[cfg(test)]
-mod test_octets;
+mod refusals;
 #[cfg(test)]
 mod tests;

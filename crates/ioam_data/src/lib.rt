@@ -19,6 +19,3 @@ pub use reading::fields;
 pub use recording::element;
 pub use size::split;
 pub use view::View;
-
-#[cfg(test)]
-mod tests;

@@ -94,31 +94,3 @@ impl<'a, R: Files> Desk for HostDesk<'a, R> {
         self.outputs.write(slot, from)
     }
 }
-
-#[cfg(test)]
-mod tests {
-    use super::*;
-    use std::test::Fail;
-
-    #[test]
-    fn real_files(rt: HostRuntime) -> Result<(), Fail> {
-        let name = "ioam_desk_real_files.bin";
-        let mut desk = HostDesk::new(&rt, rt.alloc());
-        let output = desk.open_out(name)?;
-        assert_eq!(rt; desk.write(output, b"octets"), Ok(6));
-
-        let input = desk.open_in(name)?;
-        let mut into = [0u8; 8];
-        assert_eq!(rt; desk.read(input, &mut into), Ok(6));
-        assert_eq!(rt; into, *b"octets\0\0");
-        assert_eq!(rt; desk.read(input, &mut into), Ok(0));
-
-        assert_eq!(rt;
-            desk.open_in("ioam_desk_no_file.bin"),
-            Err(DeskFault::Failed)
-        );
-        assert_eq!(rt; (desk.inputs.faults, desk.outputs.faults), (1, 0));
-        fs::remove_file(&rt, name)?;
-        Ok(())
-    }
-}

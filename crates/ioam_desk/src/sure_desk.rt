@@ -159,27 +159,3 @@ impl Desk for SureDesk {
         }
     }
 }
-
-#[cfg(test)]
-mod tests {
-    use super::*;
-    use std::test::Fail;
-
-    #[test]
-    fn no_name_is_missing(rt: HostRuntime) -> Result<(), Fail> {
-        let mut desk = SureDesk::new(rt.alloc())?;
-        desk.put_file("in", b"01234")?;
-        desk.set_piece(4);
-        let empty = desk.open_in("none")?;
-        let input = desk.open_in("in")?;
-        let mut into = [0u8; 8];
-        assert_eq!(rt; desk.read(empty, &mut into), Ok(0));
-        assert_eq!(rt; desk.read(input, &mut into), Ok(4));
-
-        let output = desk.open_out("out")?;
-        assert_eq!(rt; desk.write(output, b"56789"), Ok(4));
-        assert_eq!(rt; desk.file("out"), Some(&b"5678"[..]));
-        assert_eq!(rt; desk.file("none"), Some(&b""[..]));
-        Ok(())
-    }
-}

@@ -19,6 +19,3 @@ pub use putting::put;
 pub use reader::{ExportReader, Step};
 pub use reading::read;
 pub use room::ExportRoom;
-
-#[cfg(test)]
-mod tests;

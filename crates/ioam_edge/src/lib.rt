@@ -15,6 +15,3 @@ pub use note::{Note, Tally};
 pub use putting::put;
 pub use reading::read;
 pub use receiver::Receiver;
-
-#[cfg(test)]
-mod tests;

@@ -5,6 +5,3 @@
 mod feed;
 
 pub use feed::{Feed, open_feed};
-
-#[cfg(test)]
-mod tests;

@@ -27,6 +27,3 @@ pub use layout::{Layout, LayoutFault, MOST_OCTETS};
 pub use packet::{HEADER_OCTETS, Header};
 pub use walked::Walk;
 pub use walking::walk;
-
-#[cfg(test)]
-mod tests;

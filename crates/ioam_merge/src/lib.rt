@@ -9,6 +9,3 @@ mod open;
 pub use capture::Capture;
 pub use merge::Merge;
 pub use open::open_merge;
-
-#[cfg(test)]
-mod tests;

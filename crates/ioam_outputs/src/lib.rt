@@ -10,6 +10,3 @@ pub use flush::{GATHER, finish, flush_full};
 pub use names::first_repeat;
 pub use open::open_outputs;
 pub use output::Output;
-
-#[cfg(test)]
-mod tests;

@@ -17,6 +17,3 @@ pub use picking::pick;
 pub use put::{put_head, put_record};
 pub use reader::CaptureReader;
 pub use turns::{Due, Turn, next_turn};
-
-#[cfg(test)]
-mod tests;

@@ -23,6 +23,3 @@ pub use reasons::reason_text;
 pub use sums::{NodeSum, NodeSums, Sums};
 pub use totals::put_sums;
 pub use traces::put_traces;
-
-#[cfg(test)]
-mod tests;

@@ -20,6 +20,3 @@ pub use filling::fill;
 pub use head::TraceHead;
 pub use incremental::Incremental;
 pub use trace::Trace;
-
-#[cfg(test)]
-mod tests;

@@ -1,0 +1,21 @@
+//! Desks with one capture, and runs of `filter` over them.
+use ioam_answer::line;
+use ioam_base::memory::NoMemory;
+use ioam_desk::MemoryDesk;
+use ioam_run::run_filter;
+use ioam_test_rows::digits::words;
+use std::alloc::Global;
+
+// A desk with this capture, of which the numbered call fails.
+pub(crate) fn desk_with(alloc: Global, input: &[u8], call: u64) -> Result<MemoryDesk, NoMemory> {
+    let mut desk = MemoryDesk::new(alloc)?;
+    desk.put_file("in.pcap", input)?;
+    desk.fail_call(call)?;
+    Ok(desk)
+}
+
+// The line of a run of `filter` over these files.
+pub(crate) fn filtered(alloc: Global, desk: &mut MemoryDesk) -> Result<String, NoMemory> {
+    let filter = words(alloc, &["filter", "in.pcap", "out.pcap", "report.txt"])?;
+    line(alloc, &run_filter(alloc, &filter, desk))
+}

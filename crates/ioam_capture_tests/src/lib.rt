@@ -1,0 +1,12 @@
+//! The tests of the commands over one capture: whole runs of `filter` and of `paths` (`ioam_run`)
+//! over desks in memory. What they read and have to write stands in `ioam_test_rows`.
+#![tactic(auto)]
+
+#[cfg(test)]
+mod desks;
+#[cfg(test)]
+mod filter;
+#[cfg(test)]
+mod filter_faults;
+#[cfg(test)]
+mod paths;

@@ -1,0 +1,54 @@
+//! Command lines that are refused before anything is opened, as rows: the words and the line.
+
+pub struct Refusal {
+    pub words: &'static [&'static str],
+    pub line: &'static str,
+}
+
+const REFUSALS: [Refusal; 10] = [
+    Refusal {
+        words: &["paths", "a", "a"],
+        line: "names a",
+    },
+    Refusal {
+        words: &["paths", "a"],
+        line: "usage",
+    },
+    Refusal {
+        words: &["filter", "a", "a", "r"],
+        line: "names a",
+    },
+    Refusal {
+        words: &["filter", "a", "b", "a"],
+        line: "names a",
+    },
+    Refusal {
+        words: &["filter", "a", "b", "b"],
+        line: "names b",
+    },
+    Refusal {
+        words: &["filter", "a", "a", "a"],
+        line: "names a",
+    },
+    Refusal {
+        words: &["filter", "a", "b"],
+        line: "usage",
+    },
+    Refusal {
+        words: &["filter", "a", "b", "c", "d"],
+        line: "usage",
+    },
+    Refusal {
+        words: &["Filter", "a", "b", "c"],
+        line: "usage",
+    },
+    Refusal {
+        words: &[],
+        line: "usage",
+    },
+];
+
+/// These command lines. A function, so that the proof of a test doesn't look into them.
+pub fn refusals() -> &'static [Refusal] {
+    &REFUSALS
+}

@@ -1,0 +1,237 @@
+ghost use Rattle.std.specs.Prelude.{◌<◌, ◌≡◌};
+ghost use Rattle.ioam_dex.specs.Direct.{HasItsNumbers};
+ghost use Rattle.ioam_dex.specs.Numbers.{has_flow, has_seq};
+
+use ioam_data::{Namespace, TraceType};
+use ioam_dex::{
+    Direct, DirectFault, ExportReader, ExportRoom, Step, export_of, put, put_export, read,
+};
+use std::alloc::Global;
+use std::test::Fail;
+
+// Namespace 7, type 0x800000, with the extension flags 0, 0x40, 0x80 and 0xC0.
+const DIRECT: [&[u8]; 4] = [
+    &[0, 7, 1, 0x00, 0x80, 0, 0, 0],
+    &[0, 7, 1, 0x40, 0x80, 0, 0, 0, 0, 0, 0, 5],
+    &[0, 7, 1, 0x80, 0x80, 0, 0, 0, 0, 0, 0, 9],
+    &[0, 7, 1, 0xC0, 0x80, 0, 0, 0, 0, 0, 0, 9, 0, 0, 0, 5],
+];
+
+// Whether the extension flags have a Flow ID.
+#[tactic(auto, unfolding(ioam_dex::specs::Numbers::has_flow))]
+fn has_flow(ext: u8) -> bool
+    ensures { result ≡ has_flow ext }
+{
+    ext / 128 % 2 == 1
+}
+
+// Whether they have a Sequence Number.
+#[tactic(auto, unfolding(ioam_dex::specs::Numbers::has_seq))]
+fn has_seq(ext: u8) -> bool
+    ensures { result ≡ has_seq ext }
+{
+    ext / 64 % 2 == 1
+}
+
+// The value of extension flags, its numbers those of DIRECT.
+fn direct_of(ext: u8) -> Direct
+    ensures { HasItsNumbers result }
+{
+    let flow = if has_flow(ext) { Some(9) } else { None };
+    let seq = if has_seq(ext) { Some(5) } else { None };
+    Direct {
+        namespace: Namespace(7),
+        flags: 1,
+        ext,
+        kind: TraceType::new(0x80_0000),
+        flow,
+        seq,
+    }
+}
+
+#[test]
+fn direct_data_is_written_and_read(rt: HostRuntime) -> Result<(), Fail> {
+    for (octets, ext) in DIRECT.iter().zip([0, 0x40, 0x80, 0xC0]) {
+        let direct = direct_of(ext);
+        let mut out = Vec::new(rt.alloc());
+        put(&direct, &mut out)?;
+        assert_eq!(rt; out.as_slice(), *octets);
+        assert_eq!(rt; read(octets), Ok(direct));
+    }
+    let short: [(&[u8], u32, u32); 3] = [
+        (&[0, 7, 0, 0xC0, 0x80, 0, 0, 0, 0, 0, 0, 9], 12, 16),
+        (&[0, 7, 0, 0xC0, 0x80, 0, 0], 7, 8),
+        (&[0, 7, 0, 0x40, 0x80, 0, 0, 0, 1, 2, 3], 11, 12),
+    ];
+    for (octets, have, wanted) in short {
+        assert_eq!(rt; read(octets), Err(DirectFault::Short { have, wanted }));
+    }
+    // The reserved octet is not tested, and what follows is left unread.
+    let direct = read(&[0, 7, 1, 0, 0x80, 0, 0, 0xFF, 1, 2])?;
+    assert_eq!(rt; direct, direct_of(0));
+    Ok(())
+}
+
+// One record of namespace 7, type 0x800000, flow 9 and sequence number 0: hop limit 64, node 1.
+const RECORD: [u8; 22] = [
+    1, 0xC0, 0, 0x16, 0, 7, 0, 0x80, 0, 0, 0, 0, 0, 9, 0, 0, 0, 0, 0x40, 0, 0, 1,
+];
+
+const RECORD_READ: &str =
+    "Export(Export { namespace: Namespace(7), flags: 0, ext: 192, kind: 8388608, flow: Some(9), seq: Some(0), element: [64, 0, 0, 1] })
+";
+
+// Records without numbers: of a type with no bit, of one with only an undefined bit, of one with an
+// undefined bit more, and with a snapshot of one word, schema 5.
+const BARE: [u8; 10] = [1, 0, 0, 10, 0, 7, 2, 0, 0, 0];
+
+const UNDEFINED: [u8; 10] = [1, 0, 0, 10, 0, 7, 2, 0, 8, 0];
+
+const MORE_UNDEFINED: [u8; 14] = [1, 0, 0, 14, 0, 7, 2, 0x80, 8, 0, 0x40, 0, 0, 1];
+
+const SNAPSHOT: [u8; 22] = [
+    1, 0, 0, 22, 0, 7, 2, 0x80, 0, 2, 0x40, 0, 0, 1, 1, 0, 0, 5, 0xAA, 0xBB, 0xCC, 0xDD,
+];
+
+// All of them.
+fn records() -> [&'static [u8]; 5] {
+    [&RECORD, &BARE, &UNDEFINED, &MORE_UNDEFINED, &SNAPSHOT]
+}
+
+#[test]
+fn records_are_written_and_read(rt: HostRuntime) -> Result<(), Fail> {
+    let mut room = ExportRoom::new(rt.alloc(), 600)?;
+    for record in records() {
+        let export = export_of(record).ok_or("no record")?;
+        if room.spare() < 262 {
+            return Err(Fail::from("too little room"));
+        }
+        let before = room.octets().len();
+        put_export(&export, &mut room);
+        assert_eq!(rt; room.octets().get(before..), Some(record));
+    }
+    assert_eq!(rt; room.octets().len(), 78);
+    assert_eq!(rt; room.spare(), 522);
+    room.clear();
+    assert_eq!(rt; room.octets().len(), 0);
+    assert_eq!(rt; room.spare(), 600);
+    let export = export_of(&SNAPSHOT).ok_or("no record")?;
+    assert_eq!(rt; export.trace_type(), TraceType::new(0x80_0002));
+    assert!(rt; export_of(&RECORD[..21]).is_none());
+    Ok(())
+}
+
+// Shows the records that are there.
+fn show(alloc: Global, reader: &mut ExportReader, text: &mut String) -> Result<(), Fail> {
+    for _ in 0..100 {
+        let step = reader.next();
+        if matches!(step, Step::More | Step::Bad { .. }) {
+            return Ok(());
+        }
+        text.push_str(&format!(in alloc; "{step:?}\n")?)?;
+    }
+    Err(Fail::from("too many records"))
+}
+
+// Shows an input that is fed in pieces of one size, and how it ends.
+fn outline(alloc: Global, input: &[u8], size: usize) -> Result<String, Fail>
+    requires { 0 < size }
+{
+    let mut reader = ExportReader::new(alloc)?;
+    let mut text = String::new(alloc);
+    for piece in input.chunks(size) {
+        if reader.fed() > 1_000_000 || piece.len() > 65_536 {
+            return Err(Fail::from("too many octets"));
+        }
+        reader.feed(piece)?;
+        show(alloc, &mut reader, &mut text)?;
+    }
+    let end = match reader.next() {
+        Step::More => reader.finish(),
+        Step::Bad { at, fault } => Some((at, fault)),
+        Step::Export(_) => return Err(Fail::from("not at its end")),
+    };
+    match end {
+        None => text.push_str("whole\n")?,
+        Some((at, fault)) => text.push_str(&format!(in alloc; "{fault:?} at {at}\n")?)?,
+    }
+    Ok(text)
+}
+
+// Whole records and what stands behind them, what is shown of the records, and how they end.
+const CASES: [(&[u8], &[u8], &str, &str); 16] = [
+    (&[], &[], "", "whole\n"),
+    (&RECORD, &[], RECORD_READ, "whole\n"),
+    (&RECORD, &[3], RECORD_READ, "Version { found: 3 } at 22\n"),
+    (
+        &[],
+        &[
+            1, 0xC0, 0, 0x16, 0, 7, 0, 0x80, 0, 0, 0, 0, 0, 9, 0, 0, 0, 0, 0x40, 0, 0,
+        ],
+        "",
+        "Short { have: 21 } at 0\n",
+    ),
+    (&[], &[1, 0xC0, 0, 17], "", "Length { found: 17 } at 0\n"),
+    (&[], &[1, 0xC0, 0, 18], "", "Short { have: 4 } at 0\n"),
+    (&[], &[1, 0xC0, 1, 6], "", "Short { have: 4 } at 0\n"),
+    (&[], &[1, 0xC0, 1, 7], "", "Length { found: 263 } at 0\n"),
+    (
+        &RECORD,
+        &[1, 0, 0, 9],
+        RECORD_READ,
+        "Length { found: 9 } at 22\n",
+    ),
+    (&[], &[1, 0x40, 1, 2], "", "Short { have: 4 } at 0\n"),
+    (&[], &[1, 0x80, 1, 3], "", "Length { found: 259 } at 0\n"),
+    (
+        &BARE,
+        &[],
+        "Export(Export { namespace: Namespace(7), flags: 2, ext: 0, kind: 0, flow: None, seq: None, element: [] })\n",
+        "whole\n",
+    ),
+    (
+        &SNAPSHOT,
+        &[],
+        "Export(Export { namespace: Namespace(7), flags: 2, ext: 0, kind: 8388610, flow: None, seq: None, element: [64, 0, 0, 1, 1, 0, 0, 5, 170, 187, 204, 221] })\n",
+        "whole\n",
+    ),
+    (
+        &[],
+        &[1, 0, 0, 10, 0, 7, 2, 0x80, 0, 0],
+        "",
+        "Element { at: 10 } at 0\n",
+    ),
+    (
+        &[],
+        &[1, 0, 0, 14, 0, 7, 2, 0, 8, 0, 0, 0, 0, 0],
+        "",
+        "Element { at: 10 } at 0\n",
+    ),
+    (
+        &[],
+        &[1, 0, 0, 18, 0, 7, 2, 0x80, 0, 2, 0x40, 0, 0, 1, 1, 0, 0, 5],
+        "",
+        "Element { at: 10 } at 0\n",
+    ),
+];
+
+// These. A function hands them out, so that the proof of the test doesn't look into them.
+fn cases() -> [(&'static [u8], &'static [u8], &'static str, &'static str); 16] {
+    CASES
+}
+
+#[test]
+fn records_are_read_in_any_pieces(rt: HostRuntime) -> Result<(), Fail> {
+    for (first, rest, read, end) in cases() {
+        let mut input = first.to_vec(rt.alloc())?;
+        input.extend_from_slice(rest)?;
+        let mut expected = String::new(rt.alloc());
+        expected.push_str(read)?;
+        expected.push_str(end)?;
+        for size in [1, 3, 65_536] {
+            let text = outline(rt.alloc(), &input, size)?;
+            assert_eq!(rt; text.as_str(), expected.as_str());
+        }
+    }
+    Ok(())
+}

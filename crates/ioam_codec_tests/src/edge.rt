@@ -1,0 +1,182 @@
+ghost use Rattle.std.specs.Prelude.{◌≡◌, ◌≤◌};
+ghost use Rattle.ioam_edge.specs.Edge.{HasItsFields, asks};
+
+use ioam_data::Namespace;
+use ioam_edge::{Edge, EdgeFault, Note, Receiver, Tally, put, read};
+use std::test::Fail;
+
+// The octets of namespace 7 and the types 0x0000, 0x1000, .. 0xF000.
+const OCTETS: [&[u8]; 16] = [
+    &[0, 7, 0x00, 0],
+    &[0, 7, 0x10, 0, 0x31, 0x32, 0x33, 0x34],
+    &[0, 7, 0x20, 0, 0x21, 0x22, 0x23, 0x24],
+    &[
+        0, 7, 0x30, 0, 0x21, 0x22, 0x23, 0x24, 0x31, 0x32, 0x33, 0x34,
+    ],
+    &[0, 7, 0x40, 0, 0x11, 0x12, 0x13, 0x14],
+    &[
+        0, 7, 0x50, 0, 0x11, 0x12, 0x13, 0x14, 0x31, 0x32, 0x33, 0x34,
+    ],
+    &[
+        0, 7, 0x60, 0, 0x11, 0x12, 0x13, 0x14, 0x21, 0x22, 0x23, 0x24,
+    ],
+    &[
+        0, 7, 0x70, 0, 0x11, 0x12, 0x13, 0x14, 0x21, 0x22, 0x23, 0x24, 0x31, 0x32, 0x33, 0x34,
+    ],
+    &[0, 7, 0x80, 0, 1, 2, 3, 4, 5, 6, 7, 8],
+    &[
+        0, 7, 0x90, 0, 1, 2, 3, 4, 5, 6, 7, 8, 0x31, 0x32, 0x33, 0x34,
+    ],
+    &[
+        0, 7, 0xA0, 0, 1, 2, 3, 4, 5, 6, 7, 8, 0x21, 0x22, 0x23, 0x24,
+    ],
+    &[
+        0, 7, 0xB0, 0, 1, 2, 3, 4, 5, 6, 7, 8, 0x21, 0x22, 0x23, 0x24, 0x31, 0x32, 0x33, 0x34,
+    ],
+    &[
+        0, 7, 0xC0, 0, 1, 2, 3, 4, 5, 6, 7, 8, 0x11, 0x12, 0x13, 0x14,
+    ],
+    &[
+        0, 7, 0xD0, 0, 1, 2, 3, 4, 5, 6, 7, 8, 0x11, 0x12, 0x13, 0x14, 0x31, 0x32, 0x33, 0x34,
+    ],
+    &[
+        0, 7, 0xE0, 0, 1, 2, 3, 4, 5, 6, 7, 8, 0x11, 0x12, 0x13, 0x14, 0x21, 0x22, 0x23, 0x24,
+    ],
+    &[
+        0, 7, 0xF0, 0, 1, 2, 3, 4, 5, 6, 7, 8, 0x11, 0x12, 0x13, 0x14, 0x21, 0x22, 0x23, 0x24,
+        0x31, 0x32, 0x33, 0x34,
+    ],
+];
+
+// Whether a type asks for the field of a bit, 0 to 15 and the most significant first.
+#[tactic(auto, unfolding(ioam_edge::specs::Edge::asks))]
+fn asks(kind: u16, bit: u8) -> bool
+    requires { bit ≤ 15 }
+    ensures { result ≡ asks kind bit }
+{
+    (kind >> (15 - bit)) % 2 == 1
+}
+
+// The value of a type, its numbers those of OCTETS.
+fn edge_of(kind: u16) -> Edge
+    ensures fields { HasItsFields result }
+    ensures kind { result.kind ≡ kind }
+{
+    let seq64 = if asks(kind, 0) {
+        Some(0x0102_0304_0506_0708)
+    } else {
+        None
+    };
+    let seq32 = if asks(kind, 1) {
+        Some(0x1112_1314)
+    } else {
+        None
+    };
+    let seconds = if asks(kind, 2) {
+        Some(0x2122_2324)
+    } else {
+        None
+    };
+    let fraction = if asks(kind, 3) {
+        Some(0x3132_3334)
+    } else {
+        None
+    };
+    Edge {
+        namespace: Namespace(7),
+        kind,
+        seq64,
+        seq32,
+        seconds,
+        fraction,
+    }
+}
+
+#[test]
+fn each_type_is_written_and_read(rt: HostRuntime) -> Result<(), Fail> {
+    for (octets, kind) in OCTETS.iter().zip(0..16) {
+        if kind >= 16 {
+            return Err(Fail::from("not a type"));
+        }
+        let edge = edge_of(kind * 4096);
+        let mut out = Vec::new(rt.alloc());
+        put(&edge, &mut out)?;
+        assert_eq!(rt; out.as_slice(), *octets);
+        assert_eq!(rt; read(octets), Ok(edge));
+    }
+    Ok(())
+}
+
+#[test]
+fn short_data_is_refused(rt: HostRuntime) -> Result<(), Fail> {
+    let cases: [(&[u8], u32, u32); 5] = [
+        (&[], 0, 4),
+        (&[0, 7, 0x40], 3, 4),
+        (&[0, 7, 0x40, 0, 0, 0], 6, 8),
+        (OCTETS[15].split_at(23).0, 23, 24),
+        (&[0, 7, 0x8F, 0xFF, 1, 2, 3, 4, 5, 6, 7], 11, 12),
+    ];
+    for (octets, have, wanted) in cases {
+        assert_eq!(rt; read(octets), Err(EdgeFault::Short { have, wanted }));
+    }
+    // What follows for bits that are not known is left unread.
+    let edge = read(&[0, 7, 0x4F, 0xFF, 0, 0, 0, 9, 0xAA])?;
+    assert_eq!(rt; edge.seq32, Some(9));
+    assert_eq!(rt; edge.kind, 0x4FFF);
+    Ok(())
+}
+
+#[test]
+fn numbers_are_noted(rt: HostRuntime) -> Result<(), Fail> {
+    let in_order: [(u64, Note); 5] = [
+        (0, Note::Next),
+        (2, Note::Gap { missed: 1 }),
+        (1, Note::Late),
+        (1, Note::Repeat),
+        (5, Note::Gap { missed: 2 }),
+    ];
+    let mut receiver = Receiver::new();
+    for (number, note) in in_order {
+        assert_eq!(rt; receiver.note(number), note);
+    }
+    let tally = Tally {
+        next: Some(6),
+        gaps: 2,
+        missed: 3,
+        late: 1,
+        repeats: 1,
+    };
+    assert_eq!(rt; receiver.tally(), tally);
+
+    let far: [(u64, Note); 11] = [
+        (37, Note::Gap { missed: 37 }),
+        (36, Note::Late),
+        (100, Note::Gap { missed: 62 }),
+        (100, Note::Repeat),
+        (37, Note::Repeat),
+        (36, Note::Late),
+        (38, Note::Late),
+        (38, Note::Repeat),
+        (
+            u64::MAX,
+            Note::Gap {
+                missed: u64::MAX - 101,
+            },
+        ),
+        (u64::MAX, Note::Repeat),
+        (u64::MAX - 64, Note::Late),
+    ];
+    let mut receiver = Receiver::new();
+    for (number, note) in far {
+        assert_eq!(rt; receiver.note(number), note);
+    }
+    let tally = Tally {
+        next: None,
+        gaps: 3,
+        missed: u64::MAX - 2,
+        late: 4,
+        repeats: 4,
+    };
+    assert_eq!(rt; receiver.tally(), tally);
+    Ok(())
+}

@@ -1,0 +1,323 @@
+//! Octets by hand, from the RFCs' formats.
+ghost use Rattle.std.specs.Prelude.{◌<◌, ◌^◌};
+
+use ioam_base::memory::NoMemory;
+use ioam_base::text::append;
+use ioam_ip::{
+    Framed, Header, Layout, LayoutFault, Walk, check_options, header, heads, hop_header, options,
+    packet_of, put_header, target_header, walk,
+};
+use std::alloc::Global;
+use std::test::Fail;
+
+/// A packet of 48 octets with 8 octets of UDP header.
+const UDP: [u8; 48] = [
+    0x60, 0, 0, 0, 0, 8, 17, 64, 0x20, 0x01, 0x0D, 0xB8, 0, 1, 0, 0, 0, 0, 0, 0, 0, 0, 0, 1, 0x20,
+    0x01, 0x0D, 0xB8, 0, 2, 0, 0, 0, 0, 0, 0, 0, 0, 0, 1, 4, 0, 4, 1, 0, 8, 0, 0,
+];
+
+// The same. A function hands it out, so that the proof of a test doesn't look into it.
+fn udp() -> &'static [u8; 48] {
+    &UDP
+}
+
+/// A header with 32 octets of 0 as its addresses: its first 8 octets.
+const NESTED_HOP: [u8; 8] = [0x60, 0, 0, 0, 0, 8, 0, 64];
+
+const NESTED_TARGET: [u8; 8] = [0x60, 0, 0, 0, 0, 8, 60, 64];
+
+const NESTED_LONG: [u8; 8] = [0x60, 0, 0, 0, 0xFF, 0xFF, 59, 64];
+
+const NESTED_FOUR: [u8; 8] = [0x45, 0, 0, 0, 0, 8, 59, 64];
+
+const ADDRESSES: [u8; 32] = [0; 32];
+
+// A packet with these octets behind its header.
+fn packet(
+    alloc: Global,
+    next: u8,
+    front: &[u8],
+    middle: &[u8],
+    back: &[u8],
+) -> Result<Vec<u8>, NoMemory> {
+    let mut octets = Vec::new(alloc);
+    let size = (front.len() % 16384 + middle.len() % 16384 + back.len() % 16384) as u16;
+    append(&mut octets, &[0x60, 0, 0, 0])?;
+    append(&mut octets, &size.to_be_bytes())?;
+    append(&mut octets, &[next, 64])?;
+    append(&mut octets, &ADDRESSES)?;
+    append(&mut octets, front)?;
+    append(&mut octets, middle)?;
+    append(&mut octets, back)?;
+    Ok(octets)
+}
+
+fn walked(octets: &[u8]) -> Option<Walk> {
+    match packet_of(false, false, octets) {
+        Framed::Packet(packet) => Some(walk(packet)),
+        _ => None,
+    }
+}
+
+// The header of the UDP packet, with this class and label.
+fn udp_header(class: u8, label: u32) -> Header
+    requires { label < 2 ^ 20 }
+{
+    Header {
+        class,
+        label,
+        payload: 8,
+        next: 17,
+        hops: 64,
+        source: 0x2001_0DB8_0001_0000_0000_0000_0000_0001,
+        target: 0x2001_0DB8_0002_0000_0000_0000_0000_0001,
+    }
+}
+
+// Where the outer Destination Options header stands, each option of the Hop-by-Hop header with its
+// place and the octets of its data, and each header with its range.
+fn outline(alloc: Global, octets: &[u8]) -> Result<Vec<(usize, usize, usize)>, NoMemory> {
+    let mut seen = Vec::new(alloc);
+    let Framed::Packet(packet) = packet_of(false, false, octets) else {
+        return Ok(seen);
+    };
+    let Walk::Whole { .. } = walk(packet) else {
+        return Ok(seen);
+    };
+    if let Some(target) = target_header(packet) {
+        seen.push((target.start, target.end, 0))?;
+    }
+    if let Some(hop) = hop_header(packet) {
+        for option in options(&packet[hop.start..hop.end]) {
+            seen.push((option.kind as usize, option.at, option.body.len()))?;
+        }
+    }
+    for head in heads(packet) {
+        seen.push((head.value as usize, head.range.start, head.range.end))?;
+    }
+    Ok(seen)
+}
+
+fn whole(ioam: bool, upper: u8, at: u32, limit: Option<u8>) -> Walk {
+    Walk::Whole {
+        ioam,
+        upper,
+        at,
+        limit,
+    }
+}
+
+// Whether a walk carries IOAM, the value and place with which its chain ends, and its limit.
+type Ends = (bool, u8, u32, Option<u8>);
+
+// Whole chains: the first next header value, the first header, what stands behind it, and how it ends.
+const WHOLE: [(u8, &[u8], &[u8], Ends); 11] = [
+    (17, &[4, 0, 4, 1, 0, 8, 0, 0], &[], (false, 17, 40, None)),
+    // Behind a Routing header.
+    (
+        43,
+        &[60, 0, 0, 0, 0, 0, 0, 0],
+        &[59, 0, 0x11, 4, 0, 0, 0, 0],
+        (true, 59, 56, None),
+    ),
+    // A fragment that isn't the first, and one that is.
+    (
+        44,
+        &[60, 0, 0, 8, 0, 0, 0, 1],
+        &[59, 0, 0x11, 4, 0, 0, 0, 0],
+        (false, 44, 40, None),
+    ),
+    (
+        44,
+        &[60, 0, 0, 1, 0, 0, 0, 1],
+        &[59, 0, 0x11, 4, 0, 0, 0, 0],
+        (true, 59, 56, None),
+    ),
+    // PadN without data.
+    (60, &[59, 0, 1, 0, 1, 2, 0, 0], &[], (false, 59, 48, None)),
+    // ESP and AH end the chain.
+    (50, &[0, 0, 0, 1, 0, 0, 0, 1], &[], (false, 50, 40, None)),
+    (
+        60,
+        &[51, 0, 1, 4, 0, 0, 0, 0],
+        &[59, 4, 0, 0],
+        (false, 51, 48, None),
+    ),
+    // The first Tunnel Encapsulation Limit of one data octet, in Destination Options alone.
+    (
+        60,
+        &[59, 1, 4, 2, 9, 9, 4, 1],
+        &[5, 4, 1, 6, 1, 2, 0, 0],
+        (false, 59, 56, Some(5)),
+    ),
+    (
+        0,
+        &[60, 0, 4, 1, 7, 1, 1, 0],
+        &[59, 0, 4, 1, 0, 1, 1, 0],
+        (false, 59, 56, Some(0)),
+    ),
+    (0, &[59, 0, 0x31, 1, 7, 1, 1, 0], &[], (true, 59, 48, None)),
+    (59, &[], &[], (false, 59, 40, None)),
+];
+
+// Chains that break, and the place of the header that breaks each.
+const BROKEN: [(u8, &[u8], &[u8], u32); 6] = [
+    // Hop-by-Hop Options behind Destination Options.
+    (
+        60,
+        &[0, 0, 1, 4, 0, 0, 0, 0],
+        &[59, 0, 1, 4, 0, 0, 0, 0],
+        48,
+    ),
+    // An option that runs one octet past its header, and past the packet.
+    (60, &[59, 0, 5, 5, 0, 0, 0, 0], &[0; 8], 40),
+    (60, &[59, 0, 5, 5, 0, 0, 0, 0], &[], 40),
+    (
+        43,
+        &[60, 0, 0, 0, 0, 0, 0, 0],
+        &[59, 1, 1, 4, 0, 0, 0, 0],
+        48,
+    ),
+    // A lone type octet at the end.
+    (60, &[59, 0, 1, 3, 0, 0, 0, 5], &[], 40),
+    // Too few octets for a Fragment header.
+    (44, &[60, 0, 0, 1], &[], 40),
+];
+
+// Whether each chain ends so.
+fn all_end(alloc: Global, cases: &[(u8, &[u8], &[u8], Ends)]) -> Result<bool, NoMemory> {
+    for (next, front, back, (ioam, upper, at, limit)) in cases {
+        let octets = packet(alloc, *next, front, &[], back)?;
+        if walked(octets.as_slice()) != Some(whole(*ioam, *upper, *at, *limit)) {
+            return Ok(false);
+        }
+    }
+    Ok(true)
+}
+
+// Whether each chain breaks there.
+fn all_break(alloc: Global, cases: &[(u8, &[u8], &[u8], u32)]) -> Result<bool, NoMemory> {
+    for (next, front, back, at) in cases {
+        let octets = packet(alloc, *next, front, &[], back)?;
+        if walked(octets.as_slice()) != Some(Walk::Bad { at: *at }) {
+            return Ok(false);
+        }
+    }
+    Ok(true)
+}
+
+#[test]
+fn walks(rt: HostRuntime) -> Result<(), Fail> {
+    assert_eq!(rt; all_end(rt.alloc(), &WHOLE)?, true);
+    assert_eq!(rt; all_break(rt.alloc(), &BROKEN)?, true);
+    Ok(())
+}
+
+#[test]
+fn nested(rt: HostRuntime) -> Result<(), Fail> {
+    let alloc = rt.alloc();
+    let cases: [(&[u8], &[u8], Walk); 4] = [
+        (
+            &NESTED_HOP,
+            &[59, 0, 0x31, 4, 0, 0, 0, 0],
+            whole(true, 59, 88, None),
+        ),
+        // Its payload length isn't compared; its version is.
+        (&NESTED_LONG, &[], whole(false, 59, 80, None)),
+        (&NESTED_FOUR, &[], Walk::Bad { at: 40 }),
+        // A limit behind it isn't the packet's.
+        (
+            &NESTED_TARGET,
+            &[59, 0, 4, 1, 7, 1, 1, 0],
+            whole(false, 59, 88, None),
+        ),
+    ];
+    for (front, back, answer) in cases {
+        let octets = packet(alloc, 41, front, &ADDRESSES, back)?;
+        assert_eq!(rt; walked(octets.as_slice()), Some(answer));
+    }
+    // 2,048 octets of options, all Pad1.
+    let octets = packet(alloc, 0, &[59, 255], &[0; 2046], &[])?;
+    assert_eq!(rt;
+        walked(octets.as_slice()),
+        Some(whole(false, 59, 2088, None))
+    );
+    Ok(())
+}
+
+#[test]
+fn frames_and_headers(rt: HostRuntime) -> Result<(), Fail> {
+    let alloc = rt.alloc();
+    let udp = udp();
+    let mut frame = Vec::new(alloc);
+    append(
+        &mut frame,
+        &[2, 0, 0, 0, 0, 1, 2, 0, 0, 0, 0, 2, 0x86, 0xDD],
+    )?;
+    append(&mut frame, udp)?;
+    append(&mut frame, &[0; 4])?;
+    assert_eq!(rt;
+        packet_of(true, false, frame.as_slice()),
+        Framed::Packet(udp)
+    );
+    assert_eq!(rt; packet_of(true, true, frame.as_slice()), Framed::Cut);
+    frame[12] = 0x08;
+    frame[13] = 0x00;
+    assert_eq!(rt; packet_of(true, false, frame.as_slice()), Framed::NotIpv6);
+    assert_eq!(rt; packet_of(true, true, &udp[..13]), Framed::NotIpv6);
+    assert_eq!(rt; packet_of(false, false, &udp[..47]), Framed::Length);
+    assert_eq!(rt; packet_of(false, false, &udp[..39]), Framed::Length);
+    assert_eq!(rt; packet_of(false, true, &[]), Framed::NotIpv6);
+    let mut octets = [0; 40];
+    put_header(&mut octets, &udp_header(0xAB, 0xC_DE12));
+    assert_eq!(rt; octets[..4], *[0x6A, 0xBC, 0xDE, 0x12].as_slice());
+    assert_eq!(rt; octets[4..], udp[4..40]);
+    assert_eq!(rt; header(&octets), None);
+    assert_eq!(rt; header(udp), Some(udp_header(0, 0)));
+    Ok(())
+}
+
+#[test]
+fn options_and_layouts(rt: HostRuntime) -> Result<(), Fail> {
+    let alloc = rt.alloc();
+    let mut outer = Layout::new(alloc, 60)?;
+    outer.add(5, &[0, 0])?;
+    outer.add(0x31, &[0, 0, 7])?;
+    outer.add(4, &[3])?;
+    let outer = outer.finish()?;
+    let wanted = [60, 1, 5, 2, 0, 0, 1, 0, 0x31, 3, 0, 0, 7, 4, 1, 3];
+    assert_eq!(rt; outer.as_slice(), wanted.as_slice());
+    assert_eq!(rt; check_options(&wanted), Ok(()));
+    let octets = packet(alloc, 0, &wanted, &[41, 0, 1, 4, 0, 0, 0, 0], &UDP)?;
+    assert_eq!(rt; walked(octets.as_slice()), Some(whole(true, 17, 104, None)));
+    let seen = outline(alloc, octets.as_slice())?;
+    let wanted = [
+        (56, 64, 0),
+        (5, 2, 2),
+        (0x31, 8, 3),
+        (4, 13, 1),
+        (0, 40, 56),
+        (60, 56, 64),
+        (41, 64, 104),
+    ];
+    assert_eq!(rt; seen.as_slice(), wanted.as_slice());
+    Ok(())
+}
+
+#[test]
+fn full_layout(rt: HostRuntime) -> Result<(), Fail> {
+    let alloc = rt.alloc();
+    let body = [0; 255];
+    let mut layout = Layout::new(alloc, 59)?;
+    for _count in 0..7 {
+        assert_eq!(rt; layout.add(0x11, &body), Ok(()));
+    }
+    assert_eq!(rt; layout.add(0x11, &body), Err(LayoutFault::Full));
+    let head = layout.finish()?;
+    assert_eq!(rt; head.len(), 1824);
+    assert_eq!(rt; head[1564..1566], *[0x11, 255].as_slice());
+    assert_eq!(rt; check_options(head.as_slice()), Ok(()));
+    assert_eq!(rt; check_options(&[59, 0, 5, 5, 0, 0, 0, 0]), Err(2));
+    assert_eq!(rt; check_options(&[59, 0, 1, 3, 0, 0, 0, 5]), Err(7));
+    Ok(())
+}

@@ -1,0 +1,14 @@
+//! The tests of a domain's parts: its file and its nodes' data (`ioam_domain_file`), its readings
+//! (`ioam_clock`) and the texts of its reports (`ioam_report`).
+#![tactic(auto)]
+
+#[cfg(test)]
+mod domains;
+#[cfg(test)]
+mod faults;
+#[cfg(test)]
+mod node_data;
+#[cfg(test)]
+mod readings;
+#[cfg(test)]
+mod report;

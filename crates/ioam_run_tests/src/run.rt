@@ -1,0 +1,60 @@
+//! What `run` writes. Octets and texts are written out by the rules.
+use crate::desks::{desk_for, run_line};
+use crate::run_refusals::refusals;
+use ioam_desk::MemoryDesk;
+use ioam_test_rows::digits::{HEAD, octets, text};
+use ioam_test_rows::run_rows::{RUN, rows};
+
+#[test]
+fn run_writes_what_becomes_of_arrivals(rt: HostRuntime) {
+    let alloc = rt.alloc();
+    let head = octets(alloc, &[HEAD]).expect(&rt, "octets");
+    for row in rows() {
+        let east = octets(alloc, row.east_out).expect(&rt, "octets");
+        for piece in [65536usize, 7] {
+            let mut desk = desk_for(alloc, row).expect(&rt, "memory");
+            desk.set_piece(piece.max(1));
+            let line = run_line(alloc, &RUN, &mut desk).expect(&rt, "memory");
+            assert_eq!(rt; line.as_str(), row.line);
+            assert!(rt;
+                desk.file("east-out.pcap") == Some(east.as_slice()),
+                "east at {}",
+                row.report
+            );
+            assert!(rt;
+                desk.file("west-out.pcap") == Some(head.as_slice()),
+                "west at {}",
+                row.report
+            );
+            assert!(rt;
+                desk.file("report.txt") == Some(row.report.as_bytes()),
+                "at {}",
+                row.report
+            );
+            assert!(rt;
+                desk.file("exports") == Some(b"".as_slice()),
+                "exports at {}",
+                row.report
+            );
+        }
+    }
+}
+
+#[test]
+fn a_refused_run_writes_nothing(rt: HostRuntime) {
+    let alloc = rt.alloc();
+    for row in refusals() {
+        let mut desk = MemoryDesk::new(alloc).expect(&rt, "memory");
+        desk.put_file("domain.toml", &text(alloc, row.domain).expect(&rt, "text"))
+            .expect(&rt, "memory");
+        desk.put_file("readings", row.readings.as_bytes())
+            .expect(&rt, "memory");
+        desk.put_file("west.pcap", b"as it was")
+            .expect(&rt, "memory");
+        let line = run_line(alloc, &row.words, &mut desk).expect(&rt, "memory");
+        assert_eq!(rt; line.as_str(), row.line);
+        assert!(rt; desk.file("west.pcap") == Some(b"as it was".as_slice()));
+        assert!(rt; desk.file("east-out.pcap").is_none() && desk.file("report.txt").is_none());
+        assert!(rt; desk.file("exports").is_none());
+    }
+}

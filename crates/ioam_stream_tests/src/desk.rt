@@ -1,0 +1,91 @@
+//! The three desks: in memory with pieces and failures that are chosen, in memory without failures,
+//! and over real files.
+ghost use Rattle.std.specs.Prelude.{◌≡◌};
+
+use ioam_desk::{Desk, DeskFault, HostDesk, MemoryDesk, SureDesk};
+use std::fs;
+use std::test::Fail;
+
+// How many calls of a desk failed, of those that open or read inputs and of those that open or write
+// outputs: no call tells these counts, so they are proved where this is called, and not looked at.
+fn are_counted<D: Desk>(desk: &D, read_faults: u64, write_faults: u64)
+    requires reads { (D.reading desk.now).side.faults ≡ read_faults }
+    requires writes { (D.writing desk.now).side.faults ≡ write_faults }
+    ensures reads { (D.reading desk.now).side.faults ≡ read_faults }
+    ensures writes { (D.writing desk.now).side.faults ≡ write_faults }
+{}
+
+#[test]
+fn chosen_pieces_and_failures(rt: HostRuntime) -> Result<(), Fail> {
+    let mut desk = MemoryDesk::new(rt.alloc())?;
+    desk.put_file("in", b"01234")?;
+    desk.set_piece(4);
+    desk.fail_call(4)?;
+
+    // Calls 1 to 6: the first finds no such name, the fourth is the listed one.
+    assert_eq!(rt; desk.open_in("none"), Err(DeskFault::Failed));
+    are_counted(&desk, 1, 0);
+    let input = desk.open_in("in")?;
+    let mut into = [0u8; 8];
+    assert_eq!(rt; desk.read(input, &mut into), Ok(4));
+    assert_eq!(rt; desk.read(input, &mut into), Err(DeskFault::Failed));
+    are_counted(&desk, 2, 0);
+    assert_eq!(rt; desk.read(input, &mut into), Ok(1));
+    assert_eq!(rt; desk.read(input, &mut into), Ok(0));
+    assert_eq!(rt; into, *b"4123\0\0\0\0");
+    are_counted(&desk, 2, 0);
+    Ok(())
+}
+
+#[test]
+fn names_hold_what_is_written(rt: HostRuntime) -> Result<(), Fail> {
+    let mut desk = MemoryDesk::new(rt.alloc())?;
+    desk.set_piece(4);
+    let output = desk.open_out("out")?;
+    assert_eq!(rt; desk.write(output, b"0123456789"), Ok(4));
+    assert_eq!(rt; desk.file("out"), Some(&b"0123"[..]));
+    desk.put_file("out", b"own")?;
+    assert_eq!(rt; desk.write(output, b"45"), Ok(2));
+    assert_eq!(rt; desk.file("out"), Some(&b"own"[..]));
+    Ok(())
+}
+
+#[test]
+fn no_name_is_missing(rt: HostRuntime) -> Result<(), Fail> {
+    let mut desk = SureDesk::new(rt.alloc())?;
+    desk.put_file("in", b"01234")?;
+    desk.set_piece(4);
+    let empty = desk.open_in("none")?;
+    let input = desk.open_in("in")?;
+    let mut into = [0u8; 8];
+    assert_eq!(rt; desk.read(empty, &mut into), Ok(0));
+    assert_eq!(rt; desk.read(input, &mut into), Ok(4));
+
+    let output = desk.open_out("out")?;
+    assert_eq!(rt; desk.write(output, b"56789"), Ok(4));
+    assert_eq!(rt; desk.file("out"), Some(&b"5678"[..]));
+    assert_eq!(rt; desk.file("none"), Some(&b""[..]));
+    Ok(())
+}
+
+#[test]
+fn real_files(rt: HostRuntime) -> Result<(), Fail> {
+    let name = "ioam_desk_real_files.bin";
+    let mut desk = HostDesk::new(&rt, rt.alloc());
+    let output = desk.open_out(name)?;
+    assert_eq!(rt; desk.write(output, b"octets"), Ok(6));
+
+    let input = desk.open_in(name)?;
+    let mut into = [0u8; 8];
+    assert_eq!(rt; desk.read(input, &mut into), Ok(6));
+    assert_eq!(rt; into, *b"octets\0\0");
+    assert_eq!(rt; desk.read(input, &mut into), Ok(0));
+
+    assert_eq!(rt;
+        desk.open_in("ioam_desk_no_file.bin"),
+        Err(DeskFault::Failed)
+    );
+    are_counted(&desk, 1, 0);
+    fs::remove_file(&rt, name)?;
+    Ok(())
+}

@@ -1,0 +1,188 @@
+ghost use Rattle.std.specs.Prelude.{◌<◌};
+
+use crate::captures::{TWO, TWO_READ, show};
+use ioam_pcap::{
+    CapFault, CapLook, CapStep, CaptureReader, Due, Link, Turn, next_turn, pick, put_head,
+    put_record,
+};
+use std::alloc::Global;
+use std::test::Fail;
+
+// Shows a capture that is fed in pieces of one size, and how it ends.
+fn outline(alloc: Global, capture: &[u8], size: usize) -> Result<String, Fail>
+    requires { 0 < size }
+{
+    let mut reader = CaptureReader::new(alloc)?;
+    let mut text = String::new(alloc);
+    for piece in capture.chunks(size) {
+        if reader.fed() > 1_000_000 || piece.len() > 65_536 {
+            return Err(Fail::from("too many octets"));
+        }
+        reader.feed(piece)?;
+        show(alloc, &mut reader, &mut text)?;
+    }
+    let end = match reader.next() {
+        CapStep::More => reader.finish(),
+        CapStep::Bad { at, fault } => Some((at, fault)),
+        _ => return Err(Fail::from("not at its end")),
+    };
+    match end {
+        None => text.push_str("whole\n")?,
+        Some((at, fault)) => text.push_str(&format!(in alloc; "{fault:?} at {at}\n")?)?,
+    }
+    Ok(text)
+}
+
+// A head, big-endian, nanoseconds, IP (link type 101).
+const HEAD: [u8; 24] = [
+    0xa1, 0xb2, 0x3c, 0x4d, 0, 2, 0, 4, 0, 0, 0, 0, 0, 0, 0, 0, 0, 4, 0, 0, 0, 0, 0, 0x65,
+];
+
+// Little-endian, microseconds, Ethernet.
+const LITTLE: [u8; 24] = [
+    0xd4, 0xc3, 0xb2, 0xa1, 2, 0, 4, 0, 0, 0, 0, 0, 0, 0, 0, 0, 0, 0, 4, 0, 1, 0, 0, 0,
+];
+
+// The head of LITTLE with its magic number's nanoseconds, and the link type 113.
+const COOKED: [u8; 24] = [
+    0x4d, 0x3c, 0xb2, 0xa1, 2, 0, 4, 0, 0, 0, 0, 0, 0, 0, 0, 0, 0, 0, 4, 0, 113, 0, 0, 0,
+];
+
+#[test]
+fn reads_in_any_pieces(rt: HostRuntime) -> Result<(), Fail> {
+    for size in [1, 2, 3, 7, 16, 24, 65_536] {
+        let text = outline(rt.alloc(), &TWO, size)?;
+        assert_eq!(rt; text.as_str(), TWO_READ);
+    }
+    Ok(())
+}
+
+#[test]
+fn looks_ahead(rt: HostRuntime) -> Result<(), Fail> {
+    let mut reader = CaptureReader::new(rt.alloc())?;
+    assert_eq!(rt; reader.look(), CapLook::More);
+    reader.feed(&TWO)?;
+    assert_eq!(rt; reader.fed(), 59);
+    assert_eq!(rt; reader.look(), CapLook::Head { link: Link::Raw });
+    assert!(rt; matches!(reader.next(), CapStep::Head { .. }));
+    let first = CapLook::Packet {
+        time: 2_000_007_000,
+        size: 3,
+    };
+    assert_eq!(rt; reader.look(), first);
+    Ok(())
+}
+
+#[test]
+fn reads_each_form_and_fault(rt: HostRuntime) -> Result<(), Fail> {
+    let little = [1, 0, 0, 0, 0x20, 0xa1, 7, 0, 2, 0, 0, 0, 62, 0, 0, 0, 8, 9];
+    let nanoseconds = [0, 0, 0, 1, 0x77, 0x35, 0x94, 0, 0, 0, 0, 1, 0, 0, 0, 1, 5];
+    let long = [0, 0, 0, 1, 0, 0, 0, 0, 0, 4, 0, 1, 0, 4, 0, 1];
+    let section = [0x0a, 0x0d, 0x0d, 0x0a];
+    let cases: [(&[u8], &[u8], &str); 9] = [
+        (
+            &LITTLE,
+            &little,
+            "Head { link: Ethernet }\nPacket(Packet { time: 1500000000, original: 62, octets: [8, 9] })\nwhole\n",
+        ),
+        (
+            &HEAD,
+            &nanoseconds,
+            "Head { link: Raw }\nPacket(Packet { time: 3000000000, original: 1, octets: [5] })\nwhole\n",
+        ),
+        (&HEAD, &[], "Head { link: Raw }\nwhole\n"),
+        (&section, &[], "Magic { found: 168627466 } at 0\n"),
+        (&COOKED, &[], "Link { found: 113 } at 0\n"),
+        (
+            &HEAD,
+            &long,
+            "Head { link: Raw }\nRecordLong { found: 262145 } at 24\n",
+        ),
+        (&HEAD[..23], &[], "Short { have: 23 } at 0\n"),
+        (
+            &HEAD,
+            &long[..15],
+            "Head { link: Raw }\nShort { have: 15 } at 24\n",
+        ),
+        (&[], &[], "Short { have: 0 } at 0\n"),
+    ];
+    for (head, rest, expected) in cases {
+        let mut capture = head.to_vec(rt.alloc())?;
+        capture.extend_from_slice(rest)?;
+        for size in [1, 65_536] {
+            let text = outline(rt.alloc(), &capture, size)?;
+            assert_eq!(rt; text.as_str(), expected);
+        }
+    }
+    Ok(())
+}
+
+#[test]
+fn writes_and_picks(rt: HostRuntime) -> Result<(), Fail> {
+    let mut out = Vec::new(rt.alloc());
+    put_head(&mut out)?;
+    put_record(1_000_002_000, &[7, 8], &mut out)?;
+    put_record(4_294_967_297_000_000_001, &[], &mut out)?;
+    let records = [
+        0, 0, 0, 1, 0, 0, 7, 0xd0, 0, 0, 0, 2, 0, 0, 0, 2, 7, 8, //
+        0, 0, 0, 1, 0, 0, 0, 1, 0, 0, 0, 0, 0, 0, 0, 0,
+    ];
+    let mut expected = HEAD.to_vec(rt.alloc())?;
+    expected.extend_from_slice(&records)?;
+    assert_eq!(rt; out.as_slice(), expected.as_slice());
+
+    assert_eq!(rt; pick(&[Some(5), None, Some(5), Some(4)]), Some(3));
+    assert_eq!(rt; pick(&[Some(5), None, Some(5)]), Some(0));
+    assert_eq!(rt; pick(&[None]), None);
+    Ok(())
+}
+
+#[test]
+fn takes_the_first_of_the_least(rt: HostRuntime) -> Result<(), Fail> {
+    let soon = Due::Record { time: 4 };
+    let late = Due::Record { time: 5 };
+    let fault = CapFault::Short { have: 7 };
+    let bad = Due::Bad { at: 24, fault };
+    let cases: [(&[Due], Turn); 8] = [
+        (&[], Turn::Over),
+        (&[Due::End, Due::End], Turn::Over),
+        (
+            &[late, soon, Due::End, soon],
+            Turn::Next { place: 1, time: 4 },
+        ),
+        (&[soon, late, soon], Turn::Next { place: 0, time: 4 }),
+        (
+            &[soon, bad, Due::Bad { at: 0, fault }],
+            Turn::Broken {
+                place: 1,
+                at: 24,
+                fault,
+            },
+        ),
+        (&[soon, Due::More], Turn::Unshown),
+        (&[bad, Due::More], Turn::Unshown),
+        (&[Due::More, bad, soon], Turn::Unshown),
+    ];
+    for (dues, turn) in cases {
+        assert_eq!(rt; next_turn(dues), turn);
+    }
+    Ok(())
+}
+
+#[test]
+fn tells_what_is_due(rt: HostRuntime) -> Result<(), Fail> {
+    let mut reader = CaptureReader::new(rt.alloc())?;
+    assert_eq!(rt; reader.due(false), Some(Due::More));
+    reader.feed(&TWO)?;
+    assert_eq!(rt; reader.due(false), None);
+    assert!(rt; matches!(reader.next(), CapStep::Head { .. }));
+    let first = Due::Record {
+        time: 2_000_007_000,
+    };
+    assert_eq!(rt; reader.due(true), Some(first));
+    assert!(rt; matches!(reader.next(), CapStep::Packet { .. }));
+    assert!(rt; matches!(reader.next(), CapStep::Packet { .. }));
+    assert_eq!(rt; reader.due(false), Some(Due::More));
+    assert_eq!(rt; reader.due(true), Some(Due::End));
+    Ok(())
+}
