@@ -1,9 +1,12 @@
 //! What `run` writes. Octets and texts are written out by the rules.
 use crate::desks::{desk_for, run_line};
-use crate::run_refusals::refusals;
+use crate::run_refusals::{REFUSALS, Refusal};
+use ioam_base::memory::NoMemory;
 use ioam_desk::MemoryDesk;
 use ioam_test_rows::digits::{HEAD, octets, text};
 use ioam_test_rows::run_rows::{RUN, rows};
+use std::alloc::Global;
+use std::process::Abort;
 
 #[test]
 fn run_writes_what_becomes_of_arrivals(rt: HostRuntime) {
@@ -40,21 +43,28 @@ fn run_writes_what_becomes_of_arrivals(rt: HostRuntime) {
     }
 }
 
-#[test]
-fn a_refused_run_writes_nothing(rt: HostRuntime) {
-    let alloc = rt.alloc();
-    for row in refusals() {
-        let mut desk = MemoryDesk::new(alloc).expect(&rt, "memory");
-        desk.put_file("domain.toml", &text(alloc, row.domain).expect(&rt, "text"))
-            .expect(&rt, "memory");
-        desk.put_file("readings", row.readings.as_bytes())
-            .expect(&rt, "memory");
-        desk.put_file("west.pcap", b"as it was")
-            .expect(&rt, "memory");
-        let line = run_line(alloc, &row.words, &mut desk).expect(&rt, "memory");
+// A desk with the files of a refused run.
+fn refused_desk(alloc: Global, row: &Refusal) -> Result<MemoryDesk, NoMemory> {
+    let mut desk = MemoryDesk::new(alloc)?;
+    desk.put_file("domain.toml", &text(alloc, row.domain)?)?;
+    desk.put_file("readings", row.readings.as_bytes())?;
+    desk.put_file("west.pcap", b"as it was")?;
+    Ok(desk)
+}
+
+// Each of these runs is refused, and writes nothing.
+fn are_refused(rt: &impl Abort, alloc: Global, rows: &[Refusal]) {
+    for row in rows {
+        let mut desk = refused_desk(alloc, row).expect(rt, "memory");
+        let line = run_line(alloc, &row.words, &mut desk).expect(rt, "memory");
         assert_eq!(rt; line.as_str(), row.line);
         assert!(rt; desk.file("west.pcap") == Some(b"as it was".as_slice()));
         assert!(rt; desk.file("east-out.pcap").is_none() && desk.file("report.txt").is_none());
         assert!(rt; desk.file("exports").is_none());
     }
+}
+
+#[test]
+fn a_refused_run_writes_nothing(rt: HostRuntime) {
+    are_refused(&rt, rt.alloc(), &REFUSALS);
 }

@@ -8,7 +8,7 @@ pub struct Refusal {
     pub line: &'static str,
 }
 
-const REFUSALS: [Refusal; 12] = [
+pub const REFUSALS: [Refusal; 12] = [
     Refusal {
         words: [
             "run",
@@ -117,8 +117,3 @@ const REFUSALS: [Refusal; 12] = [
         line: "domain top 0 - text",
     },
 ];
-
-/// These runs.
-pub fn refusals() -> &'static [Refusal] {
-    &REFUSALS
-}
