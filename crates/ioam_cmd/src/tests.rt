@@ -1,13 +1,13 @@
-//! The top call over desks in memory. Whole runs of each command stand in `ioam_capture_tests` and
-//! `ioam_run_tests`.
+//! The top call over desks in memory: each command once, and the words that it refuses. Whole runs of
+//! each command stand in `ioam_capture_tests` and `ioam_run_tests`.
 use crate::program::{ioam, ioam_surely};
 use crate::refusals::refusals;
 use ioam_answer::{Outcome, line};
 use ioam_base::memory::NoMemory;
 use ioam_desk::{MemoryDesk, SureDesk};
-use ioam_test_rows::capture_rows::{Listing, Run, listings, runs};
+use ioam_test_rows::capture_rows::{listings, runs};
 use ioam_test_rows::digits::{octets, text, words};
-use ioam_test_rows::run_rows::{DOMAIN, RUN, Row, rows};
+use ioam_test_rows::run_rows::{DOMAIN, RUN, rows};
 use std::alloc::Global;
 
 // The line of a run of these words over a desk.
@@ -22,45 +22,17 @@ fn is_done(alloc: Global, texts: &[&str], desk: &mut SureDesk) -> Result<bool, N
     Ok(matches!(ioam_surely(alloc, &words, desk), Outcome::Done))
 }
 
-// A desk with what one row of each command reads.
-fn desk_of_rows(
-    alloc: Global,
-    run: &Run,
-    listing: &Listing,
-    row: &Row,
-) -> Result<MemoryDesk, NoMemory> {
-    let mut desk = MemoryDesk::new(alloc)?;
-    desk.put_file("in.pcap", &octets(alloc, run.input)?)?;
-    desk.put_file("traced.pcap", &octets(alloc, listing.input)?)?;
-    desk.put_file("domain.toml", &text(alloc, row.domain)?)?;
-    desk.put_file("readings", b"")?;
-    desk.put_file("west.pcap", &octets(alloc, row.west)?)?;
-    Ok(desk)
-}
-
 #[test]
-fn each_command_is_done(rt: HostRuntime) {
+fn paths_over_a_desk_in_memory(rt: HostRuntime) {
     let alloc = rt.alloc();
-    let run = runs().first().expect(&rt, "a row");
     let listing = listings().first().expect(&rt, "a row");
-    let row = rows().first().expect(&rt, "a row");
-    let mut desk = desk_of_rows(alloc, run, listing, row).expect(&rt, "memory");
-    let commands: [&[&str]; 3] = [
-        &["filter", "in.pcap", "out.pcap", "filter.txt"],
-        &["paths", "traced.pcap", "paths.txt"],
-        &RUN,
-    ];
-    for command in commands {
-        let line = line_of(alloc, command, &mut desk).expect(&rt, "memory");
-        assert_eq!(rt; line.as_str(), "done");
-    }
-    let out = octets(alloc, run.output).expect(&rt, "octets");
-    let east = octets(alloc, row.east_out).expect(&rt, "octets");
-    assert!(rt; desk.file("out.pcap") == Some(out.as_slice()));
-    assert!(rt; desk.file("filter.txt") == Some(run.report.as_bytes()));
-    assert!(rt; desk.file("paths.txt") == Some(listing.report.as_bytes()));
-    assert!(rt; desk.file("east-out.pcap") == Some(east.as_slice()));
-    assert!(rt; desk.file("report.txt") == Some(row.report.as_bytes()));
+    let input = octets(alloc, listing.input).expect(&rt, "octets");
+    let mut desk = MemoryDesk::new(alloc).expect(&rt, "memory");
+    desk.put_file("in.pcap", &input).expect(&rt, "memory");
+    let paths = ["paths", "in.pcap", "report.txt"];
+    let line = line_of(alloc, &paths, &mut desk).expect(&rt, "memory");
+    assert_eq!(rt; line.as_str(), "done");
+    assert!(rt; desk.file("report.txt") == Some(listing.report.as_bytes()));
 }
 
 #[test]

@@ -93,15 +93,11 @@ const SNAPSHOT: [u8; 22] = [
     1, 0, 0, 22, 0, 7, 2, 0x80, 0, 2, 0x40, 0, 0, 1, 1, 0, 0, 5, 0xAA, 0xBB, 0xCC, 0xDD,
 ];
 
-// All of them.
-fn records() -> [&'static [u8]; 5] {
-    [&RECORD, &BARE, &UNDEFINED, &MORE_UNDEFINED, &SNAPSHOT]
-}
-
 #[test]
 fn records_are_written_and_read(rt: HostRuntime) -> Result<(), Fail> {
+    let records: [&[u8]; 5] = [&RECORD, &BARE, &UNDEFINED, &MORE_UNDEFINED, &SNAPSHOT];
     let mut room = ExportRoom::new(rt.alloc(), 600)?;
-    for record in records() {
+    for record in records {
         let export = export_of(record).ok_or("no record")?;
         if room.spare() < 262 {
             return Err(Fail::from("too little room"));

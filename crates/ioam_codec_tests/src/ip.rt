@@ -16,11 +16,6 @@ const UDP: [u8; 48] = [
     0x01, 0x0D, 0xB8, 0, 2, 0, 0, 0, 0, 0, 0, 0, 0, 0, 1, 4, 0, 4, 1, 0, 8, 0, 0,
 ];
 
-// The same. A function hands it out, so that the proof of a test doesn't look into it.
-fn udp() -> &'static [u8; 48] {
-    &UDP
-}
-
 /// A header with 32 octets of 0 as its addresses: its first 8 octets.
 const NESTED_HOP: [u8; 8] = [0x60, 0, 0, 0, 0, 8, 0, 64];
 
@@ -248,32 +243,31 @@ fn nested(rt: HostRuntime) -> Result<(), Fail> {
 #[test]
 fn frames_and_headers(rt: HostRuntime) -> Result<(), Fail> {
     let alloc = rt.alloc();
-    let udp = udp();
     let mut frame = Vec::new(alloc);
     append(
         &mut frame,
         &[2, 0, 0, 0, 0, 1, 2, 0, 0, 0, 0, 2, 0x86, 0xDD],
     )?;
-    append(&mut frame, udp)?;
+    append(&mut frame, &UDP)?;
     append(&mut frame, &[0; 4])?;
     assert_eq!(rt;
         packet_of(true, false, frame.as_slice()),
-        Framed::Packet(udp)
+        Framed::Packet(&UDP)
     );
     assert_eq!(rt; packet_of(true, true, frame.as_slice()), Framed::Cut);
     frame[12] = 0x08;
     frame[13] = 0x00;
     assert_eq!(rt; packet_of(true, false, frame.as_slice()), Framed::NotIpv6);
-    assert_eq!(rt; packet_of(true, true, &udp[..13]), Framed::NotIpv6);
-    assert_eq!(rt; packet_of(false, false, &udp[..47]), Framed::Length);
-    assert_eq!(rt; packet_of(false, false, &udp[..39]), Framed::Length);
+    assert_eq!(rt; packet_of(true, true, &UDP[..13]), Framed::NotIpv6);
+    assert_eq!(rt; packet_of(false, false, &UDP[..47]), Framed::Length);
+    assert_eq!(rt; packet_of(false, false, &UDP[..39]), Framed::Length);
     assert_eq!(rt; packet_of(false, true, &[]), Framed::NotIpv6);
     let mut octets = [0; 40];
     put_header(&mut octets, &udp_header(0xAB, 0xC_DE12));
     assert_eq!(rt; octets[..4], *[0x6A, 0xBC, 0xDE, 0x12].as_slice());
-    assert_eq!(rt; octets[4..], udp[4..40]);
+    assert_eq!(rt; octets[4..], UDP[4..40]);
     assert_eq!(rt; header(&octets), None);
-    assert_eq!(rt; header(udp), Some(udp_header(0, 0)));
+    assert_eq!(rt; header(&UDP), Some(udp_header(0, 0)));
     Ok(())
 }
 

@@ -1,15 +1,8 @@
-//! The tests of the crates that read and write single headers, options and fields: `ioam_ip`,
-//! `ioam_data`, `ioam_trace`, `ioam_edge` and `ioam_dex`, a file for each. Octets are by hand, from
-//! the formats of RFC 8200, RFC 9197 and RFC 9326.
+//! The tests of packets and their header chains (`ioam_ip`, RFC 8200), and of direct export data and
+//! export records (`ioam_dex`, RFC 9326), a file for each. Octets are by hand, from the RFCs' formats.
 #![tactic(auto)]
 
 #[cfg(test)]
-mod data;
-#[cfg(test)]
 mod dex;
 #[cfg(test)]
-mod edge;
-#[cfg(test)]
 mod ip;
-#[cfg(test)]
-mod trace;

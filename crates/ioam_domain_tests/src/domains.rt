@@ -1,4 +1,4 @@
-use ioam_domain_file::read_domain;
+use ioam_domain_file::{DomainRefused, read_domain};
 use ioam_topo::{Domain, LinkId, NodeId, PortId, Way};
 use std::alloc::Global;
 
@@ -55,21 +55,20 @@ const ADDRESSES: &str = "node = [
 ]
 ";
 
-// These files. Functions hand them out, so that no proof looks into them.
-pub(crate) fn nodes() -> &'static str {
-    NODES
+// Whether a file is read, and so is its domain. The proof of a function that owns a domain takes
+// long: so each test looks through here.
+pub(crate) fn is_read_so<F: Fn(&Domain) -> bool + Copy>(alloc: Global, file: &str, look: F) -> bool
+    requires { F.IsAlwaysCallable look }
+{
+    match read_domain(alloc, file.as_bytes()) {
+        Ok(domain) => look(&domain),
+        Err(_) => false,
+    }
 }
 
-fn row() -> &'static str {
-    ROW
-}
-
-fn nested() -> &'static str {
-    NESTED
-}
-
-fn addresses() -> &'static str {
-    ADDRESSES
+// Why a file is refused, if it is.
+pub(crate) fn refusal_of(alloc: Global, file: &str) -> Option<DomainRefused> {
+    read_domain(alloc, file.as_bytes()).err()
 }
 
 // Whether these are the nodes' addresses, in the forms that are read.
@@ -118,29 +117,20 @@ pub(crate) fn shared<T: Sync>(_value: &T) {}
 
 // Whether the file of addresses is read, and has them.
 fn reads_addresses(alloc: Global) -> bool {
-    match read_domain(alloc, addresses().as_bytes()) {
-        Ok(domain) => has_addresses(&domain),
-        Err(_) => false,
-    }
+    is_read_so(alloc, ADDRESSES, has_addresses)
 }
 
 // Whether the row of nodes is read, and leads through.
 fn reads_row(alloc: Global) -> bool {
-    match read_domain(alloc, row().as_bytes()) {
-        Ok(domain) => {
-            shared(&domain);
-            has_names(&domain) && leads_through(&domain)
-        }
-        Err(_) => false,
-    }
+    is_read_so(alloc, ROW, |domain| {
+        shared(domain);
+        has_names(domain) && leads_through(domain)
+    })
 }
 
 // Whether the nested prefixes are read, and the longest decides.
 fn reads_nested(alloc: Global) -> bool {
-    match read_domain(alloc, nested().as_bytes()) {
-        Ok(domain) => takes_the_longest(&domain),
-        Err(_) => false,
-    }
+    is_read_so(alloc, NESTED, takes_the_longest)
 }
 
 #[test]

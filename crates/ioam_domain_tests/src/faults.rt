@@ -1,7 +1,7 @@
-use crate::domains::{LINKS, NODES, PORTS};
+use crate::domains::{LINKS, NODES, PORTS, refusal_of};
 use crate::node_data::OF_DATA;
 use ioam_base::memory::NoMemory;
-use ioam_domain_file::{DomainRefused, read_domain};
+use ioam_domain_file::DomainRefused;
 use std::alloc::Global;
 
 // Each row is a fault, and behind ` # ` a file of which it is the first.
@@ -144,11 +144,6 @@ const TABLES: [(&str, &str, &str, &str); 6] = [
     (NODES, "", "", OF_DATA),
 ];
 
-// These tables.
-fn tables() -> &'static [(&'static str, &'static str, &'static str, &'static str)] {
-    &TABLES
-}
-
 // The four texts, one behind the other.
 pub(crate) fn joined(alloc: Global, parts: [&str; 4]) -> Result<String, NoMemory> {
     let mut file = String::new(alloc);
@@ -160,8 +155,8 @@ pub(crate) fn joined(alloc: Global, parts: [&str; 4]) -> Result<String, NoMemory
 
 // The first fault of a file, in words.
 fn fault_of(alloc: Global, file: &str) -> Result<String, NoMemory> {
-    match read_domain(alloc, file.as_bytes()) {
-        Err(DomainRefused::Fault(fault)) => Ok(format!(in alloc; "{fault:?}")?),
+    match refusal_of(alloc, file) {
+        Some(DomainRefused::Fault(fault)) => Ok(format!(in alloc; "{fault:?}")?),
         _ => Err(NoMemory),
     }
 }
@@ -214,6 +209,6 @@ fn first_wrong_of<'a>(alloc: Global, tables: &[(&str, &str, &str, &'a str)]) -> 
 
 #[test]
 fn names_the_first_fault(rt: HostRuntime) {
-    let wrong = first_wrong_of(rt.alloc(), tables());
+    let wrong = first_wrong_of(rt.alloc(), &TABLES);
     assert!(rt; wrong.is_none());
 }

@@ -1,8 +1,7 @@
-use crate::domains::nodes;
+use crate::domains::{NODES, is_read_so};
 use crate::faults::{has_fault, joined};
 use ioam_base::memory::NoMemory;
 use ioam_data::Namespace;
-use ioam_domain_file::read_domain;
 use ioam_topo::{Domain, NodeData, NodeId};
 use std::alloc::Global;
 
@@ -97,15 +96,6 @@ const SPELLED: [u8; 12] = [
     0x01, 0x23, 0x45, 0x67, 0x89, 0xab, 0xcd, 0xef, 0xab, 0xcd, 0xef, 0xab,
 ];
 
-// The data, and the tables.
-fn data() -> &'static str {
-    DATA
-}
-
-fn rooms() -> &'static [(&'static str, u16, &'static str, &'static str)] {
-    &ROOMS
-}
-
 // The first text, the second so often, and the third.
 fn repeated(
     alloc: Global,
@@ -155,10 +145,9 @@ fn are_most(alloc: Global, rooms: &[(&str, u16, &str, &str)]) -> bool {
 
 // Whether the first node's snapshot in namespace 7 has so many octets.
 fn has_octets(alloc: Global, file: &str, count: usize) -> bool {
-    match read_domain(alloc, file.as_bytes()) {
-        Ok(domain) => size_of(domain.node_data(NodeId(0), Namespace(7))) == count,
-        Err(_) => false,
-    }
+    is_read_so(alloc, file, |domain| {
+        size_of(domain.node_data(NodeId(0), Namespace(7))) == count
+    })
 }
 
 // How many octets a snapshot has.
@@ -234,11 +223,8 @@ fn has_no_others(domain: &Domain) -> bool {
 
 // Whether the file of node data is read, and has them.
 fn reads_data(alloc: Global) -> bool {
-    match joined(alloc, [nodes(), data(), "", ""]) {
-        Ok(file) => match read_domain(alloc, file.as_bytes()) {
-            Ok(domain) => has_data(&domain),
-            Err(_) => false,
-        },
+    match joined(alloc, [NODES, DATA, "", ""]) {
+        Ok(file) => is_read_so(alloc, file.as_str(), has_data),
         Err(NoMemory) => false,
     }
 }
@@ -247,6 +233,6 @@ fn reads_data(alloc: Global) -> bool {
 fn reads_node_data(rt: HostRuntime) {
     let alloc = rt.alloc();
     assert!(rt;
-        reads_data(alloc) && are_most(alloc, rooms()) && is_read(alloc, 45) && is_long(alloc, 46)
+        reads_data(alloc) && are_most(alloc, &ROOMS) && is_read(alloc, 45) && is_long(alloc, 46)
     );
 }

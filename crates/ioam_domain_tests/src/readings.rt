@@ -1,6 +1,5 @@
-use crate::domains::{nodes, shared};
+use crate::domains::{NODES, is_read_so, shared};
 use ioam_clock::{ReadWhy, Readings, ReadingsRefused, Sample, read_readings, stamp};
-use ioam_domain_file::read_domain;
 use ioam_topo::{Domain, Format, NodeId};
 use std::alloc::Global;
 
@@ -112,14 +111,10 @@ fn are_all_so(alloc: Global, domain: &Domain) -> bool {
         && is_long_line_refused(alloc, domain)
 }
 
-// Two lines. A function hands them out, so that no proof looks into them.
-fn two_lines() -> &'static str {
-    "a 10 5 2147483648 3 4\na 100 1000 - - -"
-}
-
 // Whether the samples of two lines are read, and are in force from their times on.
 fn reads_samples(alloc: Global, domain: &Domain) -> bool {
-    match read_readings(alloc, domain, two_lines().as_bytes()) {
+    let file = "a 10 5 2147483648 3 4\na 100 1000 - - -".as_bytes();
+    match read_readings(alloc, domain, file) {
         Ok(readings) => {
             shared(&readings);
             has_samples(&readings)
@@ -130,10 +125,9 @@ fn reads_samples(alloc: Global, domain: &Domain) -> bool {
 
 // Whether files of the nodes' readings are read or refused as they should be.
 fn reads_files(alloc: Global) -> bool {
-    match read_domain(alloc, nodes().as_bytes()) {
-        Ok(domain) => are_all_so(alloc, &domain) && reads_samples(alloc, &domain),
-        Err(_) => false,
-    }
+    is_read_so(alloc, NODES, |domain| {
+        are_all_so(alloc, domain) && reads_samples(alloc, domain)
+    })
 }
 
 #[test]
