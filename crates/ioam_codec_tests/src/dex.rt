@@ -9,12 +9,22 @@ use ioam_dex::{
 use std::alloc::Global;
 use std::test::Fail;
 
-// Namespace 7, type 0x800000, with the extension flags 0, 0x40, 0x80 and 0xC0.
-const DIRECT: [&[u8]; 4] = [
-    &[0, 7, 1, 0x00, 0x80, 0, 0, 0],
-    &[0, 7, 1, 0x40, 0x80, 0, 0, 0, 0, 0, 0, 5],
-    &[0, 7, 1, 0x80, 0x80, 0, 0, 0, 0, 0, 0, 9],
-    &[0, 7, 1, 0xC0, 0x80, 0, 0, 0, 0, 0, 0, 9, 0, 0, 0, 5],
+// Octets of namespace 7 and type 0x800000, and their extension flags.
+const DIRECT: [(&[u8], u8); 4] = [
+    (&[0, 7, 1, 0x00, 0x80, 0, 0, 0], 0),
+    (&[0, 7, 1, 0x40, 0x80, 0, 0, 0, 0, 0, 0, 5], 0x40),
+    (&[0, 7, 1, 0x80, 0x80, 0, 0, 0, 0, 0, 0, 9], 0x80),
+    (
+        &[0, 7, 1, 0xC0, 0x80, 0, 0, 0, 0, 0, 0, 9, 0, 0, 0, 5],
+        0xC0,
+    ),
+];
+
+// Octets that are cut off, how many there are, and how many are wanted.
+const SHORT: [(&[u8], u32, u32); 3] = [
+    (&[0, 7, 0, 0xC0, 0x80, 0, 0, 0, 0, 0, 0, 9], 12, 16),
+    (&[0, 7, 0, 0xC0, 0x80, 0, 0], 7, 8),
+    (&[0, 7, 0, 0x40, 0x80, 0, 0, 0, 1, 2, 3], 11, 12),
 ];
 
 // Whether the extension flags have a Flow ID.
@@ -49,23 +59,37 @@ fn direct_of(ext: u8) -> Direct
     }
 }
 
+// Whether the values of these flags are written so, and read again.
+fn all_are_direct(alloc: Global, cases: &[(&[u8], u8)]) -> Result<bool, Fail> {
+    for (octets, ext) in cases {
+        let direct = direct_of(*ext);
+        let mut out = Vec::new(alloc);
+        put(&direct, &mut out)?;
+        if out.as_slice() != *octets || read(octets) != Ok(direct) {
+            return Ok(false);
+        }
+    }
+    Ok(true)
+}
+
+// Whether each of these is refused so.
+fn all_are_short(cases: &[(&[u8], u32, u32)]) -> bool {
+    for (octets, have, wanted) in cases {
+        let fault = DirectFault::Short {
+            have: *have,
+            wanted: *wanted,
+        };
+        if read(octets) != Err(fault) {
+            return false;
+        }
+    }
+    true
+}
+
 #[test]
 fn direct_data_is_written_and_read(rt: HostRuntime) -> Result<(), Fail> {
-    for (octets, ext) in DIRECT.iter().zip([0, 0x40, 0x80, 0xC0]) {
-        let direct = direct_of(ext);
-        let mut out = Vec::new(rt.alloc());
-        put(&direct, &mut out)?;
-        assert_eq!(rt; out.as_slice(), *octets);
-        assert_eq!(rt; read(octets), Ok(direct));
-    }
-    let short: [(&[u8], u32, u32); 3] = [
-        (&[0, 7, 0, 0xC0, 0x80, 0, 0, 0, 0, 0, 0, 9], 12, 16),
-        (&[0, 7, 0, 0xC0, 0x80, 0, 0], 7, 8),
-        (&[0, 7, 0, 0x40, 0x80, 0, 0, 0, 1, 2, 3], 11, 12),
-    ];
-    for (octets, have, wanted) in short {
-        assert_eq!(rt; read(octets), Err(DirectFault::Short { have, wanted }));
-    }
+    assert!(rt; all_are_direct(rt.alloc(), &DIRECT)?);
+    assert!(rt; all_are_short(&SHORT));
     // The reserved octet is not tested, and what follows is left unread.
     let direct = read(&[0, 7, 1, 0, 0x80, 0, 0, 0xFF, 1, 2])?;
     assert_eq!(rt; direct, direct_of(0));
@@ -93,19 +117,28 @@ const SNAPSHOT: [u8; 22] = [
     1, 0, 0, 22, 0, 7, 2, 0x80, 0, 2, 0x40, 0, 0, 1, 1, 0, 0, 5, 0xAA, 0xBB, 0xCC, 0xDD,
 ];
 
-#[test]
-fn records_are_written_and_read(rt: HostRuntime) -> Result<(), Fail> {
-    let records: [&[u8]; 5] = [&RECORD, &BARE, &UNDEFINED, &MORE_UNDEFINED, &SNAPSHOT];
-    let mut room = ExportRoom::new(rt.alloc(), 600)?;
+const RECORDS: [&[u8]; 5] = [&RECORD, &BARE, &UNDEFINED, &MORE_UNDEFINED, &SNAPSHOT];
+
+// Whether each record is written as it was read, behind those before it.
+fn all_are_written(room: &mut ExportRoom, records: &[&[u8]]) -> Result<bool, Fail> {
     for record in records {
         let export = export_of(record).ok_or("no record")?;
         if room.spare() < 262 {
             return Err(Fail::from("too little room"));
         }
         let before = room.octets().len();
-        put_export(&export, &mut room);
-        assert_eq!(rt; room.octets().get(before..), Some(record));
+        put_export(&export, room);
+        if room.octets().get(before..) != Some(*record) {
+            return Ok(false);
+        }
     }
+    Ok(true)
+}
+
+#[test]
+fn records_are_written_and_read(rt: HostRuntime) -> Result<(), Fail> {
+    let mut room = ExportRoom::new(rt.alloc(), 600)?;
+    assert!(rt; all_are_written(&mut room, &RECORDS)?);
     assert_eq!(rt; room.octets().len(), 78);
     assert_eq!(rt; room.spare(), 522);
     room.clear();
@@ -211,23 +244,26 @@ const CASES: [(&[u8], &[u8], &str, &str); 16] = [
     ),
 ];
 
-// These. A function hands them out, so that the proof of the test doesn't look into them.
-fn cases() -> [(&'static [u8], &'static [u8], &'static str, &'static str); 16] {
-    CASES
+// Whether each of these is shown so, in pieces of one octet, of three, and whole.
+fn all_are_read(alloc: Global, cases: &[(&[u8], &[u8], &str, &str)]) -> Result<bool, Fail> {
+    for (first, rest, read, end) in cases {
+        let mut input = first.to_vec(alloc)?;
+        input.extend_from_slice(rest)?;
+        let mut expected = String::new(alloc);
+        expected.push_str(read)?;
+        expected.push_str(end)?;
+        for size in [1, 3, 65_536] {
+            let text = outline(alloc, &input, size)?;
+            if text.as_str() != expected.as_str() {
+                return Ok(false);
+            }
+        }
+    }
+    Ok(true)
 }
 
 #[test]
 fn records_are_read_in_any_pieces(rt: HostRuntime) -> Result<(), Fail> {
-    for (first, rest, read, end) in cases() {
-        let mut input = first.to_vec(rt.alloc())?;
-        input.extend_from_slice(rest)?;
-        let mut expected = String::new(rt.alloc());
-        expected.push_str(read)?;
-        expected.push_str(end)?;
-        for size in [1, 3, 65_536] {
-            let text = outline(rt.alloc(), &input, size)?;
-            assert_eq!(rt; text.as_str(), expected.as_str());
-        }
-    }
+    assert!(rt; all_are_read(rt.alloc(), &CASES)?);
     Ok(())
 }

@@ -241,7 +241,7 @@ fn nested(rt: HostRuntime) -> Result<(), Fail> {
 }
 
 #[test]
-fn frames_and_headers(rt: HostRuntime) -> Result<(), Fail> {
+fn frames(rt: HostRuntime) -> Result<(), Fail> {
     let alloc = rt.alloc();
     let mut frame = Vec::new(alloc);
     append(
@@ -262,27 +262,39 @@ fn frames_and_headers(rt: HostRuntime) -> Result<(), Fail> {
     assert_eq!(rt; packet_of(false, false, &UDP[..47]), Framed::Length);
     assert_eq!(rt; packet_of(false, false, &UDP[..39]), Framed::Length);
     assert_eq!(rt; packet_of(false, true, &[]), Framed::NotIpv6);
+    Ok(())
+}
+
+#[test]
+fn headers(rt: HostRuntime) {
     let mut octets = [0; 40];
     put_header(&mut octets, &udp_header(0xAB, 0xC_DE12));
     assert_eq!(rt; octets[..4], *[0x6A, 0xBC, 0xDE, 0x12].as_slice());
     assert_eq!(rt; octets[4..], UDP[4..40]);
     assert_eq!(rt; header(&octets), None);
     assert_eq!(rt; header(&UDP), Some(udp_header(0, 0)));
-    Ok(())
 }
 
+/// A header with the option 5 at a multiple of two octets, the option 0x31, and the option 4.
+const LAID_OUT: [u8; 16] = [60, 1, 5, 2, 0, 0, 1, 0, 0x31, 3, 0, 0, 7, 4, 1, 3];
+
 #[test]
-fn options_and_layouts(rt: HostRuntime) -> Result<(), Fail> {
+fn options_are_laid_out(rt: HostRuntime) -> Result<(), Fail> {
     let alloc = rt.alloc();
     let mut outer = Layout::new(alloc, 60)?;
     outer.add(5, &[0, 0])?;
     outer.add(0x31, &[0, 0, 7])?;
     outer.add(4, &[3])?;
     let outer = outer.finish()?;
-    let wanted = [60, 1, 5, 2, 0, 0, 1, 0, 0x31, 3, 0, 0, 7, 4, 1, 3];
-    assert_eq!(rt; outer.as_slice(), wanted.as_slice());
-    assert_eq!(rt; check_options(&wanted), Ok(()));
-    let octets = packet(alloc, 0, &wanted, &[41, 0, 1, 4, 0, 0, 0, 0], &UDP)?;
+    assert_eq!(rt; outer.as_slice(), LAID_OUT.as_slice());
+    assert_eq!(rt; check_options(&LAID_OUT), Ok(()));
+    Ok(())
+}
+
+#[test]
+fn options_have_places(rt: HostRuntime) -> Result<(), Fail> {
+    let alloc = rt.alloc();
+    let octets = packet(alloc, 0, &LAID_OUT, &[41, 0, 1, 4, 0, 0, 0, 0], &UDP)?;
     assert_eq!(rt; walked(octets.as_slice()), Some(whole(true, 17, 104, None)));
     let seen = outline(alloc, octets.as_slice())?;
     let wanted = [
@@ -304,14 +316,18 @@ fn full_layout(rt: HostRuntime) -> Result<(), Fail> {
     let body = [0; 255];
     let mut layout = Layout::new(alloc, 59)?;
     for _count in 0..7 {
-        assert_eq!(rt; layout.add(0x11, &body), Ok(()));
+        layout.add(0x11, &body)?;
     }
     assert_eq!(rt; layout.add(0x11, &body), Err(LayoutFault::Full));
     let head = layout.finish()?;
     assert_eq!(rt; head.len(), 1824);
     assert_eq!(rt; head[1564..1566], *[0x11, 255].as_slice());
     assert_eq!(rt; check_options(head.as_slice()), Ok(()));
+    Ok(())
+}
+
+#[test]
+fn options_that_break(rt: HostRuntime) {
     assert_eq!(rt; check_options(&[59, 0, 5, 5, 0, 0, 0, 0]), Err(2));
     assert_eq!(rt; check_options(&[59, 0, 1, 3, 0, 0, 0, 5]), Err(7));
-    Ok(())
 }

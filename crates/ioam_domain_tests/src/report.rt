@@ -40,6 +40,60 @@ fn packet(alloc: Global, next: u8, body: &[u8]) -> Result<Vec<u8>, NoMemory> {
     Ok(octets)
 }
 
+// What a packet's header names as next, the octets behind it, and the text of its traces.
+const PACKETS: [(u8, &[u8], &[u8]); 6] = [
+    // Two traces in one Hop-by-Hop Options header, the second of type 0x11 and with Overflow.
+    (
+        0,
+        &[
+            59, 4, 1, 0, 0x31, 14, 0, 0, 0, 7, 0x08, 0, 0x80, 0, 0, 0, 64, 0, 0, 1, 0x11, 14, 0, 0,
+            0, 8, 0x0C, 0, 0x80, 0, 0, 0, 255, 0, 0, 1, 1, 2, 0, 0,
+        ],
+        b" traces 2\n  trace 7 800000 whole 1\n    hop=64 node=1\n  trace 8 800000 overflow 1\n    hop=255 node=1\n",
+    ),
+    // One in Destination Options, with fewer words than RemainingLen tells.
+    (
+        60,
+        &[
+            59, 2, 1, 0, 0x31, 14, 0, 0, 0, 7, 0x08, 0x05, 0x80, 0, 0, 0, 0, 0, 0, 0, 1, 2, 0, 0,
+        ],
+        b" traces 1\n  trace bad space 5\n",
+    ),
+    // IOAM-Option-Type 1.
+    (
+        60,
+        &[
+            59, 2, 1, 0, 0x31, 14, 0, 1, 0, 7, 0x08, 0, 0x80, 0, 0, 0, 64, 0, 0, 1, 1, 2, 0, 0,
+        ],
+        b" traces 0\n",
+    ),
+    // Data of one octet.
+    (60, &[59, 0, 0x31, 1, 0, 1, 1, 0], b" traces 0\n"),
+    // Another option.
+    (60, &[59, 0, 0x12, 2, 0, 0, 0, 0], b" traces 0\n"),
+    // A trace behind a nested header.
+    (
+        41,
+        &[
+            0x60, 0, 0, 0, 0, 8, 0, 64, 0, 0, 0, 0, 0, 0, 0, 0, 0, 0, 0, 0, 0, 0, 0, 0, 0, 0, 0, 0,
+            0, 0, 0, 0, 0, 0, 0, 0, 0, 0, 0, 0, 59, 0, 0x31, 2, 0, 0, 0, 0,
+        ],
+        b" traces 0\n",
+    ),
+];
+
+// Whether each packet's traces have that text.
+fn all_are_listed(alloc: Global, cases: &[(u8, &[u8], &[u8])]) -> Result<bool, NoMemory> {
+    for (next, body, text) in cases {
+        let octets = packet(alloc, *next, body)?;
+        let found = listed(alloc, octets.as_slice())?;
+        if found.as_slice() != *text {
+            return Ok(false);
+        }
+    }
+    Ok(true)
+}
+
 #[test]
 fn traces_of_packets(rt: HostRuntime) -> Result<(), Fail> {
     let alloc = rt.alloc();
@@ -48,102 +102,66 @@ fn traces_of_packets(rt: HostRuntime) -> Result<(), Fail> {
         carried.as_slice(),
         b" traces 1\n  trace 7 800000 whole 2\n    hop=64 node=1\n    hop=63 node=2\n".as_slice()
     );
-    let cases: [(u8, &[u8], &[u8]); 6] = [
-        // Two traces in one Hop-by-Hop Options header, the second of type 0x11 and with Overflow.
-        (
-            0,
-            &[
-                59, 4, 1, 0, 0x31, 14, 0, 0, 0, 7, 0x08, 0, 0x80, 0, 0, 0, 64, 0, 0, 1, 0x11, 14,
-                0, 0, 0, 8, 0x0C, 0, 0x80, 0, 0, 0, 255, 0, 0, 1, 1, 2, 0, 0,
-            ],
-            b" traces 2\n  trace 7 800000 whole 1\n    hop=64 node=1\n  trace 8 800000 overflow 1\n    hop=255 node=1\n",
-        ),
-        // One in Destination Options, with fewer words than RemainingLen tells.
-        (
-            60,
-            &[
-                59, 2, 1, 0, 0x31, 14, 0, 0, 0, 7, 0x08, 0x05, 0x80, 0, 0, 0, 0, 0, 0, 0, 1, 2, 0,
-                0,
-            ],
-            b" traces 1\n  trace bad space 5\n",
-        ),
-        // IOAM-Option-Type 1.
-        (
-            60,
-            &[
-                59, 2, 1, 0, 0x31, 14, 0, 1, 0, 7, 0x08, 0, 0x80, 0, 0, 0, 64, 0, 0, 1, 1, 2, 0, 0,
-            ],
-            b" traces 0\n",
-        ),
-        // Data of one octet.
-        (60, &[59, 0, 0x31, 1, 0, 1, 1, 0], b" traces 0\n"),
-        // Another option.
-        (60, &[59, 0, 0x12, 2, 0, 0, 0, 0], b" traces 0\n"),
-        // A trace behind a nested header.
-        (
-            41,
-            &[
-                0x60, 0, 0, 0, 0, 8, 0, 64, 0, 0, 0, 0, 0, 0, 0, 0, 0, 0, 0, 0, 0, 0, 0, 0, 0, 0,
-                0, 0, 0, 0, 0, 0, 0, 0, 0, 0, 0, 0, 0, 0, 59, 0, 0x31, 2, 0, 0, 0, 0,
-            ],
-            b" traces 0\n",
-        ),
-    ];
-    for (next, body, text) in cases {
-        let octets = packet(alloc, next, body)?;
-        let found = listed(alloc, octets.as_slice())?;
-        assert_eq!(rt; found.as_slice(), text);
-    }
+    assert!(rt; all_are_listed(alloc, &PACKETS)?);
     Ok(())
+}
+
+// The data of a trace, and its lines.
+const TRACES: [(&[u8], &[u8]); 8] = [
+    (&[0; 7], b"  trace bad short 7\n"),
+    (
+        &[0, 7, 8, 0, 0x80, 0, 0, 0, 64, 0],
+        b"  trace bad short 10\n",
+    ),
+    (&[0, 7, 8, 1, 0x80, 0, 0, 0], b"  trace bad space 1\n"),
+    (
+        &[0, 7, 0x10, 0, 0x80, 0, 0, 0],
+        b"  trace bad node-len 2 1\n",
+    ),
+    // A snapshot of which one word is missing.
+    (
+        &[
+            0, 7, 8, 0, 0x80, 0, 2, 0, 64, 0, 0, 1, 2, 0, 0, 9, 1, 2, 3, 4,
+        ],
+        b"  trace bad element 8\n",
+    ),
+    // RemainingLen equal to the space, and no element.
+    (
+        &[255, 255, 8, 1, 0x80, 0, 0, 0, 64, 0, 0, 1],
+        b"  trace 65535 800000 whole 0\n",
+    ),
+    // An undefined bit, and a word more than the fields and that bit ask for.
+    (
+        &[
+            0, 0, 0x18, 0, 0x80, 8, 0, 0, 64, 0, 0, 1, 255, 255, 255, 255, 0, 0xAB, 0xCD, 0xEF,
+        ],
+        b"  trace 0 800800 whole 1\n    hop=64 node=1 fill=ffffffff fill=00abcdef\n",
+    ),
+    // Snapshots of two lengths; the oldest element stands last.
+    (
+        &[
+            0, 7, 8, 0, 0x80, 0, 2, 0, 63, 0, 0, 2, 0, 255, 255, 255, 64, 0, 0, 1, 1, 0, 0, 9,
+            0xAA, 0xBB, 0xCC, 0xDD,
+        ],
+        b"  trace 7 800002 whole 2\n    hop=64 node=1 schema=000009 opaque=aabbccdd\n    hop=63 node=2 schema=- opaque=-\n",
+    ),
+];
+
+// Whether each trace has those lines.
+fn all_have_lines(alloc: Global, cases: &[(&[u8], &[u8])]) -> Result<bool, NoMemory> {
+    for (octets, text) in cases {
+        let mut out = Vec::new(alloc);
+        put_trace_lines(octets, &mut out)?;
+        if out.as_slice() != *text {
+            return Ok(false);
+        }
+    }
+    Ok(true)
 }
 
 #[test]
 fn lines_of_traces(rt: HostRuntime) -> Result<(), Fail> {
-    let alloc = rt.alloc();
-    let cases: [(&[u8], &[u8]); 8] = [
-        (&[0; 7], b"  trace bad short 7\n"),
-        (
-            &[0, 7, 8, 0, 0x80, 0, 0, 0, 64, 0],
-            b"  trace bad short 10\n",
-        ),
-        (&[0, 7, 8, 1, 0x80, 0, 0, 0], b"  trace bad space 1\n"),
-        (
-            &[0, 7, 0x10, 0, 0x80, 0, 0, 0],
-            b"  trace bad node-len 2 1\n",
-        ),
-        // A snapshot of which one word is missing.
-        (
-            &[
-                0, 7, 8, 0, 0x80, 0, 2, 0, 64, 0, 0, 1, 2, 0, 0, 9, 1, 2, 3, 4,
-            ],
-            b"  trace bad element 8\n",
-        ),
-        // RemainingLen equal to the space, and no element.
-        (
-            &[255, 255, 8, 1, 0x80, 0, 0, 0, 64, 0, 0, 1],
-            b"  trace 65535 800000 whole 0\n",
-        ),
-        // An undefined bit, and a word more than the fields and that bit ask for.
-        (
-            &[
-                0, 0, 0x18, 0, 0x80, 8, 0, 0, 64, 0, 0, 1, 255, 255, 255, 255, 0, 0xAB, 0xCD, 0xEF,
-            ],
-            b"  trace 0 800800 whole 1\n    hop=64 node=1 fill=ffffffff fill=00abcdef\n",
-        ),
-        // Snapshots of two lengths; the oldest element stands last.
-        (
-            &[
-                0, 7, 8, 0, 0x80, 0, 2, 0, 63, 0, 0, 2, 0, 255, 255, 255, 64, 0, 0, 1, 1, 0, 0, 9,
-                0xAA, 0xBB, 0xCC, 0xDD,
-            ],
-            b"  trace 7 800002 whole 2\n    hop=64 node=1 schema=000009 opaque=aabbccdd\n    hop=63 node=2 schema=- opaque=-\n",
-        ),
-    ];
-    for (octets, text) in cases {
-        let mut out = Vec::new(alloc);
-        put_trace_lines(octets, &mut out)?;
-        assert_eq!(rt; out.as_slice(), text);
-    }
+    assert!(rt; all_have_lines(rt.alloc(), &TRACES)?);
     Ok(())
 }
 
@@ -159,43 +177,52 @@ fn fields_text(alloc: Global, kind: u32, node_len: u8, octets: &[u8]) -> Result<
     Ok(out)
 }
 
+// A trace type, its NodeLen, an element, and its text.
+const ELEMENTS: [(u32, u8, &[u8], &[u8]); 7] = [
+    (
+        0xC0_4002,
+        4,
+        &[
+            0x3D, 0, 0, 5, 0xFF, 0xFF, 0, 2, 0, 1, 0x11, 0x70, 0, 0, 0, 2, 1, 0, 0, 9, 0xAA, 0xBB,
+            0xCC, 0xDD,
+        ],
+        b"hop=61 node=5 in=- out=2 win=70000 wout=2 schema=000009 opaque=aabbccdd",
+    ),
+    (0x08_0000, 1, &[0x7F, 255, 255, 255], b"delay=2147483647"),
+    (0x08_0000, 1, &[0x80, 0, 0, 0], b"delay=2147483648"),
+    (0x08_0000, 1, &[255; 4], b"delay=-"),
+    (
+        0xFF_F000,
+        16,
+        &[255; 64],
+        b"hop=255 node=- in=- out=- sec=- frac=- delay=- data=- queue=- check=- whop=255 wnode=- win=- wout=- wdata=- buffer=- fill=ffffffff",
+    ),
+    (
+        0xFF_F002,
+        15,
+        &[
+            1, 0, 0, 2, 0, 3, 0, 4, 0, 0, 0, 5, 0, 0, 0, 6, 0, 0, 0, 7, 0, 0, 0, 8, 0, 0, 0, 9, 0,
+            0, 0, 10, 11, 0, 0, 0, 0, 0, 0, 12, 0, 0, 0, 13, 0, 0, 0, 14, 0, 0, 0, 0, 0, 0, 0, 15,
+            0, 0, 0, 16, 0, 0, 0, 9,
+        ],
+        b"hop=1 node=2 in=3 out=4 sec=5 frac=6 delay=7 data=00000008 queue=9 check=0000000a whop=11 wnode=12 win=13 wout=14 wdata=000000000000000f buffer=16 schema=000009 opaque=-",
+    ),
+    (0x80_0000, 1, &[], b""),
+];
+
+// Whether each element has that text.
+fn all_have_text(alloc: Global, cases: &[(u32, u8, &[u8], &[u8])]) -> Result<bool, NoMemory> {
+    for (kind, node_len, octets, text) in cases {
+        let found = fields_text(alloc, *kind, *node_len, octets)?;
+        if found.as_slice() != *text {
+            return Ok(false);
+        }
+    }
+    Ok(true)
+}
+
 #[test]
 fn fields_of_elements(rt: HostRuntime) -> Result<(), Fail> {
-    let alloc = rt.alloc();
-    let cases: [(u32, u8, &[u8], &[u8]); 7] = [
-        (
-            0xC0_4002,
-            4,
-            &[
-                0x3D, 0, 0, 5, 0xFF, 0xFF, 0, 2, 0, 1, 0x11, 0x70, 0, 0, 0, 2, 1, 0, 0, 9, 0xAA,
-                0xBB, 0xCC, 0xDD,
-            ],
-            b"hop=61 node=5 in=- out=2 win=70000 wout=2 schema=000009 opaque=aabbccdd",
-        ),
-        (0x08_0000, 1, &[0x7F, 255, 255, 255], b"delay=2147483647"),
-        (0x08_0000, 1, &[0x80, 0, 0, 0], b"delay=2147483648"),
-        (0x08_0000, 1, &[255; 4], b"delay=-"),
-        (
-            0xFF_F000,
-            16,
-            &[255; 64],
-            b"hop=255 node=- in=- out=- sec=- frac=- delay=- data=- queue=- check=- whop=255 wnode=- win=- wout=- wdata=- buffer=- fill=ffffffff",
-        ),
-        (
-            0xFF_F002,
-            15,
-            &[
-                1, 0, 0, 2, 0, 3, 0, 4, 0, 0, 0, 5, 0, 0, 0, 6, 0, 0, 0, 7, 0, 0, 0, 8, 0, 0, 0, 9,
-                0, 0, 0, 10, 11, 0, 0, 0, 0, 0, 0, 12, 0, 0, 0, 13, 0, 0, 0, 14, 0, 0, 0, 0, 0, 0,
-                0, 15, 0, 0, 0, 16, 0, 0, 0, 9,
-            ],
-            b"hop=1 node=2 in=3 out=4 sec=5 frac=6 delay=7 data=00000008 queue=9 check=0000000a whop=11 wnode=12 win=13 wout=14 wdata=000000000000000f buffer=16 schema=000009 opaque=-",
-        ),
-        (0x80_0000, 1, &[], b""),
-    ];
-    for (kind, node_len, octets, text) in cases {
-        let found = fields_text(alloc, kind, node_len, octets)?;
-        assert_eq!(rt; found.as_slice(), text);
-    }
+    assert!(rt; all_have_text(rt.alloc(), &ELEMENTS)?);
     Ok(())
 }

@@ -26,31 +26,53 @@ fn delayed(delay: Option<u64>) -> View<'static> {
     }
 }
 
+// A trace type, how many words its fields take, and how many undefined bits it has.
+const TYPES: [(u32, u8, u8); 4] = [
+    (0xfff000, 15, 0),
+    (0x000ffc, 0, 10),
+    (0x800800, 1, 1),
+    (0x00e003, 6, 0),
+];
+
+// Whether each type takes so many words and has so many undefined bits.
+fn all_count(cases: &[(u32, u8, u8)]) -> bool {
+    for (bits, words, undefined) in cases {
+        let kind = TraceType::new(*bits % 0x100_0000);
+        if kind.words() != *words || kind.undefined() != *undefined {
+            return false;
+        }
+    }
+    true
+}
+
+// A trace type, a NodeLen, and whether the one fits the other.
+const FITS: [(u32, u8, bool); 6] = [
+    (0x800800, 2, true),
+    (0x800800, 31, true),
+    (0x800800, 1, false),
+    (0xc00000, 2, true),
+    (0xc00000, 3, false),
+    (1, 0, true),
+];
+
+// Whether each fits so.
+fn all_fit(cases: &[(u32, u8, bool)]) -> bool {
+    for (bits, node_len, fits) in cases {
+        if TraceType::new(*bits % 0x100_0000).fits(*node_len) != *fits {
+            return false;
+        }
+    }
+    true
+}
+
 #[test]
 fn types(rt: HostRuntime) {
-    // Type, words, undefined bits.
-    assert_eq!(rt;
-        (kind(0xfff000).words(), kind(0xfff000).undefined()),
-        (15, 0)
-    );
-    assert_eq!(rt;
-        (kind(0x000ffc).words(), kind(0x000ffc).undefined()),
-        (0, 10)
-    );
-    assert_eq!(rt;
-        (kind(0x800800).words(), kind(0x800800).undefined()),
-        (1, 1)
-    );
-    assert_eq!(rt;
-        (kind(0x00e003).words(), kind(0x00e003).undefined()),
-        (6, 0)
-    );
+    assert!(rt; all_count(&TYPES));
+    assert!(rt; all_fit(&FITS));
+    assert!(rt; !kind(1).can_add(0) && kind(2).can_add(0));
     assert!(rt; kind(0x000002).has_snapshot());
     assert!(rt; !kind(0xfffffd).has_snapshot());
     assert!(rt; kind(0x800000).has(0) && !kind(0x800000).has(1));
-    assert!(rt; kind(0x800800).fits(2) && kind(0x800800).fits(31) && !kind(0x800800).fits(1));
-    assert!(rt; kind(0xc00000).fits(2) && !kind(0xc00000).fits(3));
-    assert!(rt; kind(1).fits(0) && !kind(1).can_add(0) && kind(2).can_add(0));
     assert!(rt;
         kind(0xc04002).is_entry_type()
             && !kind(0x800800).is_entry_type()
@@ -59,46 +81,59 @@ fn types(rt: HostRuntime) {
     assert_eq!(rt; kind(0x800800).bits(), 0x800800);
 }
 
+// A trace type, a NodeLen, octets, and the size of the element with which they begin.
+const SIZES: [(u32, u8, &[u8], Option<usize>); 8] = [
+    (0x800000, 1, &[255; 16], Some(4)),
+    (0x800000, 1, &[255; 3], None),
+    (0xc00000, 1, &[255; 16], None),
+    (0x000001, 0, &[255; 16], None),
+    // Undefined bits, and NodeLen above the words.
+    (0x800800, 3, &[255; 16], Some(12)),
+    // A snapshot without data, with one word, and with one that is cut.
+    (0x000002, 0, &[0, 255, 255, 255, 9], Some(4)),
+    (0x000002, 0, &[1, 0, 0, 9, 1, 2, 3, 4], Some(8)),
+    (0x000002, 0, &[1, 0, 0, 9, 1, 2, 3], None),
+];
+
+// Whether each element has that size.
+fn all_split(cases: &[(u32, u8, &[u8], Option<usize>)]) -> bool {
+    for (bits, node_len, octets, size) in cases {
+        if split(TraceType::new(*bits % 0x100_0000), *node_len, octets) != *size {
+            return false;
+        }
+    }
+    true
+}
+
 #[test]
 fn sizes(rt: HostRuntime) {
-    let ones = [255; 16];
-    assert_eq!(rt; split(kind(0x800000), 1, &ones), Some(4));
-    assert_eq!(rt; split(kind(0x800000), 1, &ones[..3]), None);
-    assert_eq!(rt; split(kind(0xc00000), 1, &ones), None);
-    assert_eq!(rt; split(kind(0x000001), 0, &ones), None);
-    // Undefined bits, and NodeLen above the words.
-    assert_eq!(rt; split(kind(0x800800), 3, &ones), Some(12));
-    // A snapshot without data, with one word, and with one that is cut.
-    assert_eq!(rt; split(kind(0x000002), 0, &[0, 255, 255, 255, 9]), Some(4));
-    assert_eq!(rt;
-        split(kind(0x000002), 0, &[1, 0, 0, 9, 1, 2, 3, 4]),
-        Some(8)
-    );
-    assert_eq!(rt; split(kind(0x000002), 0, &[1, 0, 0, 9, 1, 2, 3]), None);
-    // One of 45 words behind a field.
+    assert!(rt; all_split(&SIZES));
+    // A snapshot of 45 words behind a field.
     let mut long = [0; 188];
     long[4] = 45;
     assert_eq!(rt; split(kind(0x800002), 1, &long), Some(188));
     assert_eq!(rt; split(kind(0x800002), 1, &long[..187]), None);
 }
 
+// What a node knows where nothing is unknown to it.
+const ALL: View<'static> = View {
+    hops: 61,
+    id: 5,
+    inward: Some(70000),
+    outward: Some(2),
+    stamp: Some((2, 3)),
+    delay: Some(4),
+    queue: Some(5),
+    buffer: Some(6),
+    short: Some(0x01020304),
+    wide: Some(0x0102030405060708),
+    snapshot: Some((9, &[0xaa, 0xbb, 0xcc, 0xdd])),
+};
+
 #[test]
 fn elements(rt: HostRuntime) {
     let mut buffer = ElementBuf::new();
-    let view = View {
-        hops: 61,
-        id: 5,
-        inward: Some(70000),
-        outward: Some(2),
-        stamp: Some((2, 3)),
-        delay: Some(4),
-        queue: Some(5),
-        buffer: Some(6),
-        short: Some(0x01020304),
-        wide: Some(0x0102030405060708),
-        snapshot: Some((9, &[0xaa, 0xbb, 0xcc, 0xdd])),
-    };
-    assert!(rt; element(kind(0xc04002), 4, &view, &mut buffer));
+    assert!(rt; element(kind(0xc04002), 4, &ALL, &mut buffer));
     assert_eq!(rt;
         buffer.octets(),
         [
@@ -114,12 +149,10 @@ fn elements(rt: HostRuntime) {
     );
     assert_eq!(rt; (read.wide_faces, read.seconds), (Some((70000, 2)), None));
     assert_eq!(rt; read.fill.len(), 0);
-    assert_eq!(rt;
-        read.snapshot.map(|given| (given.0, given.1.len())),
-        Some((9, 4))
-    );
+    let opaque = [0xaa, 0xbb, 0xcc, 0xdd];
+    assert_eq!(rt; read.snapshot, Some((9, opaque.as_slice())));
     // The fields behind these, and three words of filler, one of them for an undefined bit.
-    assert!(rt; element(kind(0x3fb800), 14, &view, &mut buffer));
+    assert!(rt; element(kind(0x3fb800), 14, &ALL, &mut buffer));
     assert_eq!(rt;
         buffer.octets(),
         [

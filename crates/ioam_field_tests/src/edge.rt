@@ -107,18 +107,33 @@ fn each_type_is_written_and_read(rt: HostRuntime) -> Result<(), Fail> {
     Ok(())
 }
 
+// Octets that are cut off, how many there are, and how many are wanted.
+const SHORT: [(&[u8], u32, u32); 4] = [
+    (&[], 0, 4),
+    (&[0, 7, 0x40], 3, 4),
+    (&[0, 7, 0x40, 0, 0, 0], 6, 8),
+    (&[0, 7, 0x8F, 0xFF, 1, 2, 3, 4, 5, 6, 7], 11, 12),
+];
+
+// Whether each of these is refused so.
+fn all_are_short(cases: &[(&[u8], u32, u32)]) -> bool {
+    for (octets, have, wanted) in cases {
+        let fault = EdgeFault::Short {
+            have: *have,
+            wanted: *wanted,
+        };
+        if read(octets) != Err(fault) {
+            return false;
+        }
+    }
+    true
+}
+
 #[test]
 fn short_data_is_refused(rt: HostRuntime) -> Result<(), Fail> {
-    let cases: [(&[u8], u32, u32); 5] = [
-        (&[], 0, 4),
-        (&[0, 7, 0x40], 3, 4),
-        (&[0, 7, 0x40, 0, 0, 0], 6, 8),
-        (OCTETS[15].split_at(23).0, 23, 24),
-        (&[0, 7, 0x8F, 0xFF, 1, 2, 3, 4, 5, 6, 7], 11, 12),
-    ];
-    for (octets, have, wanted) in cases {
-        assert_eq!(rt; read(octets), Err(EdgeFault::Short { have, wanted }));
-    }
+    assert!(rt; all_are_short(&SHORT));
+    let cut = OCTETS[15].split_at(23).0;
+    assert!(rt; all_are_short(&[(cut, 23, 24)]));
     // What follows for bits that are not known is left unread.
     let edge = read(&[0, 7, 0x4F, 0xFF, 0, 0, 0, 9, 0xAA])?;
     assert_eq!(rt; edge.seq32, Some(9));
@@ -126,19 +141,49 @@ fn short_data_is_refused(rt: HostRuntime) -> Result<(), Fail> {
     Ok(())
 }
 
-#[test]
-fn numbers_are_noted(rt: HostRuntime) -> Result<(), Fail> {
-    let in_order: [(u64, Note); 5] = [
-        (0, Note::Next),
-        (2, Note::Gap { missed: 1 }),
-        (1, Note::Late),
-        (1, Note::Repeat),
-        (5, Note::Gap { missed: 2 }),
-    ];
-    let mut receiver = Receiver::new();
-    for (number, note) in in_order {
-        assert_eq!(rt; receiver.note(number), note);
+// Numbers near one another, and what is noted of each.
+const NEAR: [(u64, Note); 5] = [
+    (0, Note::Next),
+    (2, Note::Gap { missed: 1 }),
+    (1, Note::Late),
+    (1, Note::Repeat),
+    (5, Note::Gap { missed: 2 }),
+];
+
+// Numbers far apart, and what is noted of each.
+const FAR: [(u64, Note); 11] = [
+    (37, Note::Gap { missed: 37 }),
+    (36, Note::Late),
+    (100, Note::Gap { missed: 62 }),
+    (100, Note::Repeat),
+    (37, Note::Repeat),
+    (36, Note::Late),
+    (38, Note::Late),
+    (38, Note::Repeat),
+    (
+        u64::MAX,
+        Note::Gap {
+            missed: u64::MAX - 101,
+        },
+    ),
+    (u64::MAX, Note::Repeat),
+    (u64::MAX - 64, Note::Late),
+];
+
+// Whether a receiver notes this of each number.
+fn all_noted(receiver: &mut Receiver, cases: &[(u64, Note)]) -> bool {
+    for (number, note) in cases {
+        if receiver.note(*number) != *note {
+            return false;
+        }
     }
+    true
+}
+
+#[test]
+fn numbers_are_noted(rt: HostRuntime) {
+    let mut receiver = Receiver::new();
+    assert!(rt; all_noted(&mut receiver, &NEAR));
     let tally = Tally {
         next: Some(6),
         gaps: 2,
@@ -148,28 +193,8 @@ fn numbers_are_noted(rt: HostRuntime) -> Result<(), Fail> {
     };
     assert_eq!(rt; receiver.tally(), tally);
 
-    let far: [(u64, Note); 11] = [
-        (37, Note::Gap { missed: 37 }),
-        (36, Note::Late),
-        (100, Note::Gap { missed: 62 }),
-        (100, Note::Repeat),
-        (37, Note::Repeat),
-        (36, Note::Late),
-        (38, Note::Late),
-        (38, Note::Repeat),
-        (
-            u64::MAX,
-            Note::Gap {
-                missed: u64::MAX - 101,
-            },
-        ),
-        (u64::MAX, Note::Repeat),
-        (u64::MAX - 64, Note::Late),
-    ];
     let mut receiver = Receiver::new();
-    for (number, note) in far {
-        assert_eq!(rt; receiver.note(number), note);
-    }
+    assert!(rt; all_noted(&mut receiver, &FAR));
     let tally = Tally {
         next: None,
         gaps: 3,
@@ -178,5 +203,4 @@ fn numbers_are_noted(rt: HostRuntime) -> Result<(), Fail> {
         repeats: 4,
     };
     assert_eq!(rt; receiver.tally(), tally);
-    Ok(())
 }

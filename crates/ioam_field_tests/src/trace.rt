@@ -10,46 +10,58 @@ fn fault(octets: &[u8]) -> Option<TraceFault> {
     }
 }
 
+// Octets that are no trace, and why.
+const FAULTS: [(&[u8], TraceFault); 7] = [
+    (&[0, 7, 8, 0, 0x80, 0, 0], TraceFault::Short { have: 7 }),
+    (
+        &[0, 7, 8, 0, 0x80, 0, 0, 0, 0],
+        TraceFault::Short { have: 9 },
+    ),
+    (
+        &[0, 7, 8, 5, 0x80, 0, 0, 0, 0, 0, 0, 0],
+        TraceFault::Space { remaining: 5 },
+    ),
+    (
+        &[0, 7, 0x10, 0, 0x80, 0, 0, 0],
+        TraceFault::NodeLen {
+            found: 2,
+            wanted: 1,
+        },
+    ),
+    (
+        &[0, 7, 8, 0, 0x80, 8, 0, 0],
+        TraceFault::NodeLen {
+            found: 1,
+            wanted: 2,
+        },
+    ),
+    // A third word where each element has two.
+    (
+        &[
+            0, 7, 0x10, 0, 0xc0, 0, 0, 0, 1, 0, 0, 1, 0, 1, 0, 1, 1, 0, 0, 1,
+        ],
+        TraceFault::Element { at: 16 },
+    ),
+    // A snapshot that is not there.
+    (
+        &[0, 7, 8, 0, 0x80, 0, 2, 0, 1, 0, 0, 1],
+        TraceFault::Element { at: 8 },
+    ),
+];
+
+// Whether each of these is no trace for that reason.
+fn all_fail(cases: &[(&[u8], TraceFault)]) -> bool {
+    for (octets, found) in cases {
+        if fault(octets) != Some(*found) {
+            return false;
+        }
+    }
+    true
+}
+
 #[test]
 fn faults(rt: HostRuntime) {
-    assert_eq!(rt;
-        fault(&[0, 7, 8, 0, 0x80, 0, 0]),
-        Some(TraceFault::Short { have: 7 })
-    );
-    assert_eq!(rt;
-        fault(&[0, 7, 8, 0, 0x80, 0, 0, 0, 0]),
-        Some(TraceFault::Short { have: 9 })
-    );
-    assert_eq!(rt;
-        fault(&[0, 7, 8, 5, 0x80, 0, 0, 0, 0, 0, 0, 0]),
-        Some(TraceFault::Space { remaining: 5 })
-    );
-    assert_eq!(rt;
-        fault(&[0, 7, 0x10, 0, 0x80, 0, 0, 0]),
-        Some(TraceFault::NodeLen {
-            found: 2,
-            wanted: 1
-        })
-    );
-    assert_eq!(rt;
-        fault(&[0, 7, 8, 0, 0x80, 8, 0, 0]),
-        Some(TraceFault::NodeLen {
-            found: 1,
-            wanted: 2
-        })
-    );
-    // A third word where each element has two.
-    assert_eq!(rt;
-        fault(&[
-            0, 7, 0x10, 0, 0xc0, 0, 0, 0, 1, 0, 0, 1, 0, 1, 0, 1, 1, 0, 0, 1
-        ]),
-        Some(TraceFault::Element { at: 16 })
-    );
-    // A snapshot that is not there.
-    assert_eq!(rt;
-        fault(&[0, 7, 8, 0, 0x80, 0, 2, 0, 1, 0, 0, 1]),
-        Some(TraceFault::Element { at: 8 })
-    );
+    assert!(rt; all_fail(&FAULTS));
 }
 
 // The length and the first octet of the first two elements, the oldest first, and how many there
@@ -114,6 +126,24 @@ fn node(hops: u8, id: u32) -> View<'static> {
     }
 }
 
+// The hop limits and ids of nodes that come to one trace, and what each does.
+const FILLED: [(u8, u32, Filled); 4] = [
+    (64, 1, Filled::Added { words: 1 }),
+    (63, 2, Filled::Added { words: 1 }),
+    (62, 3, Filled::Overflowed),
+    (61, 4, Filled::AlreadyOver),
+];
+
+// Whether each does that.
+fn all_fill(octets: &mut [u8], nodes: &[(u8, u32, Filled)]) -> bool {
+    for (hops, id, filled) in nodes {
+        if fill(octets, &node(*hops, *id)) != *filled {
+            return false;
+        }
+    }
+    true
+}
+
 #[test]
 fn filling(rt: HostRuntime) -> Result<(), Fail> {
     let mut octets = Vec::new(rt.alloc());
@@ -124,14 +154,16 @@ fn filling(rt: HostRuntime) -> Result<(), Fail> {
         octets.as_slice(),
         [0, 7, 8, 2, 0x80, 0, 0, 0, 0, 0, 0, 0, 0, 0, 0, 0].as_slice()
     );
-    assert_eq!(rt; fill(&mut octets, &node(64, 1)), Filled::Added { words: 1 });
-    assert_eq!(rt; fill(&mut octets, &node(63, 2)), Filled::Added { words: 1 });
-    assert_eq!(rt; fill(&mut octets, &node(62, 3)), Filled::Overflowed);
-    assert_eq!(rt; fill(&mut octets, &node(61, 4)), Filled::AlreadyOver);
+    assert!(rt; all_fill(&mut octets, &FILLED));
     assert_eq!(rt;
         octets.as_slice(),
         [0, 7, 0x0c, 0, 0x80, 0, 0, 0, 0x3f, 0, 0, 2, 0x40, 0, 0, 1].as_slice()
     );
+    Ok(())
+}
+
+#[test]
+fn filling_at_odds(rt: HostRuntime) {
     // RemainingLen above the space; and undefined bits, for which a word of all ones is added.
     let mut cut = [0, 7, 8, 9, 0x80, 0, 0, 0, 0, 0, 0, 0];
     assert_eq!(rt; fill(&mut cut, &node(63, 2)), Filled::Unsuited);
@@ -148,12 +180,14 @@ fn filling(rt: HostRuntime) -> Result<(), Fail> {
             0, 7, 0x10, 0, 0x80, 8, 0, 0, 0x3f, 0, 0, 2, 0xff, 0xff, 0xff, 0xff
         ]
     );
-    Ok(())
 }
+
+// The length and the first octet of a trace's oldest element, or why there is none.
+type Encoded = Result<(usize, u8), Option<TraceFault>>;
 
 // Decodes the octets of an incremental trace and encodes it again: the length and the first octet
 // of its oldest element, and the octets.
-fn encoded_again(octets: &[u8], out: &mut Vec<u8>) -> Result<(usize, u8), Option<TraceFault>> {
+fn encoded_again(octets: &[u8], out: &mut Vec<u8>) -> Encoded {
     match Incremental::decode(octets) {
         Ok(trace) => {
             if trace.encode(out).is_err() {
@@ -166,32 +200,41 @@ fn encoded_again(octets: &[u8], out: &mut Vec<u8>) -> Result<(usize, u8), Option
     }
 }
 
+// Octets of incremental traces, and what is answered of each.
+const AGAIN: [(&[u8], Encoded); 4] = [
+    (
+        &[0, 7, 0x10, 0, 0x80, 0, 0, 0],
+        Err(Some(TraceFault::NodeLen {
+            found: 2,
+            wanted: 1,
+        })),
+    ),
+    (
+        &[0, 7, 8, 0, 0x80, 0, 0],
+        Err(Some(TraceFault::Short { have: 7 })),
+    ),
+    (&[0, 7, 8, 0, 0x80, 0, 0, 0], Ok((0, 0))),
+    // RemainingLen is not compared.
+    (
+        &[0, 7, 8, 5, 0x80, 0, 0, 0, 0x3f, 0, 0, 2, 0x40, 0, 0, 1],
+        Ok((4, 0x40)),
+    ),
+];
+
+// Whether that is answered of each.
+fn all_are_encoded(cases: &[(&[u8], Encoded)], out: &mut Vec<u8>) -> bool {
+    for (octets, answer) in cases {
+        if encoded_again(octets, out) != *answer {
+            return false;
+        }
+    }
+    true
+}
+
 #[test]
 fn incremental(rt: HostRuntime) {
     let mut out = Vec::new(rt.alloc());
-    assert_eq!(rt;
-        encoded_again(&[0, 7, 0x10, 0, 0x80, 0, 0, 0], &mut out),
-        Err(Some(TraceFault::NodeLen {
-            found: 2,
-            wanted: 1
-        }))
-    );
-    assert_eq!(rt;
-        encoded_again(&[0, 7, 8, 0, 0x80, 0, 0], &mut out),
-        Err(Some(TraceFault::Short { have: 7 }))
-    );
-    assert_eq!(rt;
-        encoded_again(&[0, 7, 8, 0, 0x80, 0, 0, 0], &mut out),
-        Ok((0, 0))
-    );
-    // RemainingLen is not compared.
-    assert_eq!(rt;
-        encoded_again(
-            &[0, 7, 8, 5, 0x80, 0, 0, 0, 0x3f, 0, 0, 2, 0x40, 0, 0, 1],
-            &mut out
-        ),
-        Ok((4, 0x40))
-    );
+    assert!(rt; all_are_encoded(&AGAIN, &mut out));
     assert_eq!(rt;
         out.as_slice(),
         [

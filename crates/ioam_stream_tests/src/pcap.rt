@@ -73,52 +73,77 @@ fn looks_ahead(rt: HostRuntime) -> Result<(), Fail> {
     Ok(())
 }
 
-#[test]
-fn reads_each_form_and_fault(rt: HostRuntime) -> Result<(), Fail> {
-    let little = [1, 0, 0, 0, 0x20, 0xa1, 7, 0, 2, 0, 0, 0, 62, 0, 0, 0, 8, 9];
-    let nanoseconds = [0, 0, 0, 1, 0x77, 0x35, 0x94, 0, 0, 0, 0, 1, 0, 0, 0, 1, 5];
-    let long = [0, 0, 0, 1, 0, 0, 0, 0, 0, 4, 0, 1, 0, 4, 0, 1];
-    let section = [0x0a, 0x0d, 0x0d, 0x0a];
-    let cases: [(&[u8], &[u8], &str); 9] = [
-        (
-            &LITTLE,
-            &little,
-            "Head { link: Ethernet }\nPacket(Packet { time: 1500000000, original: 62, octets: [8, 9] })\nwhole\n",
-        ),
-        (
-            &HEAD,
-            &nanoseconds,
-            "Head { link: Raw }\nPacket(Packet { time: 3000000000, original: 1, octets: [5] })\nwhole\n",
-        ),
-        (&HEAD, &[], "Head { link: Raw }\nwhole\n"),
-        (&section, &[], "Magic { found: 168627466 } at 0\n"),
-        (&COOKED, &[], "Link { found: 113 } at 0\n"),
-        (
-            &HEAD,
-            &long,
-            "Head { link: Raw }\nRecordLong { found: 262145 } at 24\n",
-        ),
-        (&HEAD[..23], &[], "Short { have: 23 } at 0\n"),
-        (
-            &HEAD,
-            &long[..15],
-            "Head { link: Raw }\nShort { have: 15 } at 24\n",
-        ),
-        (&[], &[], "Short { have: 0 } at 0\n"),
-    ];
-    for (head, rest, expected) in cases {
-        let mut capture = head.to_vec(rt.alloc())?;
-        capture.extend_from_slice(rest)?;
-        for size in [1, 65_536] {
-            let text = outline(rt.alloc(), &capture, size)?;
-            assert_eq!(rt; text.as_str(), expected);
+// A little-endian record at one second and 500,000 microseconds.
+const MICROSECONDS: [u8; 18] = [1, 0, 0, 0, 0x20, 0xa1, 7, 0, 2, 0, 0, 0, 62, 0, 0, 0, 8, 9];
+
+// A record at one second and 2,000,000,000 nanoseconds.
+const NANOSECONDS: [u8; 17] = [0, 0, 0, 1, 0x77, 0x35, 0x94, 0, 0, 0, 0, 1, 0, 0, 0, 1, 5];
+
+// The head of a record that says that it has 262,145 octets.
+const LONG: [u8; 16] = [0, 0, 0, 1, 0, 0, 0, 0, 0, 4, 0, 1, 0, 4, 0, 1];
+
+// What a pcapng file begins with.
+const SECTION: [u8; 4] = [0x0a, 0x0d, 0x0d, 0x0a];
+
+// Heads of captures, what stands behind them, and what is shown of both.
+const FORMS: [(&[u8], &[u8], &str); 7] = [
+    (
+        &LITTLE,
+        &MICROSECONDS,
+        "Head { link: Ethernet }\nPacket(Packet { time: 1500000000, original: 62, octets: [8, 9] })\nwhole\n",
+    ),
+    (
+        &HEAD,
+        &NANOSECONDS,
+        "Head { link: Raw }\nPacket(Packet { time: 3000000000, original: 1, octets: [5] })\nwhole\n",
+    ),
+    (&HEAD, &[], "Head { link: Raw }\nwhole\n"),
+    (&SECTION, &[], "Magic { found: 168627466 } at 0\n"),
+    (&COOKED, &[], "Link { found: 113 } at 0\n"),
+    (
+        &HEAD,
+        &LONG,
+        "Head { link: Raw }\nRecordLong { found: 262145 } at 24\n",
+    ),
+    (&[], &[], "Short { have: 0 } at 0\n"),
+];
+
+// Whether a head and what stands behind it are shown so, whole and octet by octet.
+fn is_shown(alloc: Global, head: &[u8], rest: &[u8], expected: &str) -> Result<bool, Fail> {
+    let mut capture = head.to_vec(alloc)?;
+    capture.extend_from_slice(rest)?;
+    for size in [1, 65_536] {
+        let text = outline(alloc, &capture, size)?;
+        if text.as_str() != expected {
+            return Ok(false);
         }
     }
+    Ok(true)
+}
+
+// Whether each of these is.
+fn all_are_shown(alloc: Global, cases: &[(&[u8], &[u8], &str)]) -> Result<bool, Fail> {
+    for (head, rest, expected) in cases {
+        if !is_shown(alloc, head, rest, expected)? {
+            return Ok(false);
+        }
+    }
+    Ok(true)
+}
+
+#[test]
+fn reads_each_form_and_fault(rt: HostRuntime) -> Result<(), Fail> {
+    let alloc = rt.alloc();
+    assert!(rt; all_are_shown(alloc, &FORMS)?);
+    let cut_head = "Short { have: 23 } at 0\n";
+    assert!(rt; is_shown(alloc, &HEAD[..23], &[], cut_head)?);
+    let cut_record = "Head { link: Raw }\nShort { have: 15 } at 24\n";
+    assert!(rt; is_shown(alloc, &HEAD, &LONG[..15], cut_record)?);
     Ok(())
 }
 
 #[test]
-fn writes_and_picks(rt: HostRuntime) -> Result<(), Fail> {
+fn writes(rt: HostRuntime) -> Result<(), Fail> {
     let mut out = Vec::new(rt.alloc());
     put_head(&mut out)?;
     put_record(1_000_002_000, &[7, 8], &mut out)?;
@@ -130,11 +155,14 @@ fn writes_and_picks(rt: HostRuntime) -> Result<(), Fail> {
     let mut expected = HEAD.to_vec(rt.alloc())?;
     expected.extend_from_slice(&records)?;
     assert_eq!(rt; out.as_slice(), expected.as_slice());
+    Ok(())
+}
 
+#[test]
+fn picks_the_first_of_the_least(rt: HostRuntime) {
     assert_eq!(rt; pick(&[Some(5), None, Some(5), Some(4)]), Some(3));
     assert_eq!(rt; pick(&[Some(5), None, Some(5)]), Some(0));
     assert_eq!(rt; pick(&[None]), None);
-    Ok(())
 }
 
 #[test]
@@ -169,20 +197,25 @@ fn takes_the_first_of_the_least(rt: HostRuntime) -> Result<(), Fail> {
     Ok(())
 }
 
+// Whether a reader that holds TWO tells when its first record is due, and when no record is.
+fn tells_of_two(reader: &mut CaptureReader) -> bool {
+    let first = Due::Record {
+        time: 2_000_007_000,
+    };
+    reader.due(false).is_none()
+        && matches!(reader.next(), CapStep::Head { .. })
+        && reader.due(true) == Some(first)
+        && matches!(reader.next(), CapStep::Packet { .. })
+        && matches!(reader.next(), CapStep::Packet { .. })
+        && reader.due(false) == Some(Due::More)
+        && reader.due(true) == Some(Due::End)
+}
+
 #[test]
 fn tells_what_is_due(rt: HostRuntime) -> Result<(), Fail> {
     let mut reader = CaptureReader::new(rt.alloc())?;
     assert_eq!(rt; reader.due(false), Some(Due::More));
     reader.feed(&TWO)?;
-    assert_eq!(rt; reader.due(false), None);
-    assert!(rt; matches!(reader.next(), CapStep::Head { .. }));
-    let first = Due::Record {
-        time: 2_000_007_000,
-    };
-    assert_eq!(rt; reader.due(true), Some(first));
-    assert!(rt; matches!(reader.next(), CapStep::Packet { .. }));
-    assert!(rt; matches!(reader.next(), CapStep::Packet { .. }));
-    assert_eq!(rt; reader.due(false), Some(Due::More));
-    assert_eq!(rt; reader.due(true), Some(Due::End));
+    assert!(rt; tells_of_two(&mut reader));
     Ok(())
 }
