@@ -15,3 +15,5 @@ pub mod PartFacts
 pub mod SoundLaws
 pub mod FileLaws
 pub mod DataKept
+pub mod TopLaws
+pub mod RowLaws

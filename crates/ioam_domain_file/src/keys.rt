@@ -63,6 +63,28 @@ fn is_one(key: &str, keys: &[&str]) -> bool
     keys.iter().any(|it| key == *it)
 }
 
+const LINK_KEYS: [&str; 8] = [
+    "name", "from", "to", "out_id", "in_id", "delay", "mtu", "tap",
+];
+
+const FLOW_KEYS: [&str; 15] = [
+    "name",
+    "entry",
+    "exit",
+    "source",
+    "target",
+    "namespace",
+    "hops",
+    "label",
+    "trace",
+    "capacity",
+    "edge",
+    "direct",
+    "every",
+    "flow_id",
+    "limit",
+];
+
 // Whether a table lists a key.
 fn is_listed(table: Table, key: &str) -> bool
     ensures { result ≡ is_listed table key.now }
@@ -75,38 +97,14 @@ fn is_listed(table: Table, key: &str) -> bool
             ],
         ),
         Table::NodeTable => is_one(key, &["name", "id", "address", "namespaces"]),
-        Table::LinkTable => is_one(
-            key,
-            &[
-                "name", "from", "to", "out_id", "in_id", "delay", "mtu", "tap",
-            ],
-        ),
+        Table::LinkTable => is_one(key, &LINK_KEYS),
         Table::PortTable => is_one(key, &["name", "node", "id", "in", "out"]),
         Table::RouteTable => is_one(key, &["node", "prefix", "link", "port"]),
         Table::DataTable => is_one(
             key,
             &["node", "namespace", "short", "wide", "schema", "snapshot"],
         ),
-        Table::FlowTable => is_one(
-            key,
-            &[
-                "name",
-                "entry",
-                "exit",
-                "source",
-                "target",
-                "namespace",
-                "hops",
-                "label",
-                "trace",
-                "capacity",
-                "edge",
-                "direct",
-                "every",
-                "flow_id",
-                "limit",
-            ],
-        ),
+        Table::FlowTable => is_one(key, &FLOW_KEYS),
     }
 }
 

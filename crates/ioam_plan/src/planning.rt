@@ -13,7 +13,7 @@ use ioam_topo::{Domain, Link, LinkId, PortId, Way};
 use std::alloc::Global;
 
 // What comes at a spot: the packet crosses to another, leaves by a port, or is dropped.
-#[derive(Clone, Copy, Debug, PartialEq, Eq)]
+#[derive(Clone, Copy)]
 pub(crate) enum Step {
     Cross(Visit, Spot),
     Leave(Visit, PortId),

@@ -6,7 +6,7 @@ use ioam_node::Place;
 use ioam_topo::{Domain, Link, NodeId, Way};
 
 /// Where a packet is: a node, the interface by which it came, when, and its hop limit there.
-#[derive(Clone, Copy, Debug, PartialEq, Eq)]
+#[derive(Clone, Copy)]
 pub struct Spot {
     pub node: NodeId,
     pub inward: u32,

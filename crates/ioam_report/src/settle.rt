@@ -11,8 +11,11 @@ pub(crate) fn settle(
     ensures answer { is_ok result ≡ is_ok answer }
     ensures kept { out.new.items ≡ (if is_ok result then out.old.items else take before out.old.items) }
 {
-    if answer.is_err() {
-        out.truncate(before);
+    match answer {
+        Ok(()) => Ok(()),
+        Err(NoMemory) => {
+            out.truncate(before);
+            Err(NoMemory)
+        }
     }
-    answer
 }

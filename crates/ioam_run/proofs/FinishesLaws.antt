@@ -13,6 +13,7 @@ use Rattle.ioam_pcap.specs.Reads.{Whole, Faulty}
 use Rattle.ioam_run.specs.Run.{HoldsAll, HoldsFronts, EndsSo, ArePassed, AreWhole, IsInput, IsLong, FileCause, Leaves}
 use Rattle.ioam_pcap.specs.Link.{is_ethernet}
 use Rattle.ioam_run.specs.Streams.{Start, Halts, Fronts, Sticks, Stops, Finishes, IsBroken}
+use Rattle.ioam_answer.specs.Outcomes.{IsDone}
 use Rattle.ioam_answer.specs.declared.outcome.Outcome.{Outcome}
 use Rattle.ioam_answer.specs.declared.outcome.Outcome.TheVariants as outcome
 use Rattle.ioam_run.proofs.HaltsLaws.{held_map}
@@ -163,3 +164,19 @@ module _ (tells : Bool) (base : ℕ) (names : List (List ℕ)) (Texts : Bool →
   Finishes-leaves (outcome.Domain why) finishes = absurd finishes
   Finishes-leaves (outcome.Readings why) finishes = absurd finishes
   Finishes-leaves (outcome.Names name) finishes = absurd finishes
+
+-- all of IN was read where the answer is Done
+pub Finishes-drained : (tells : Bool) (start : Start) (Texts : Bool → List Entry → List (List ℕ) → Type 0) (input : List ℕ) (slot number : ℕ)
+    (old_in new_in : desk.Reading) (old_out new_out : Writing) → slot ≡ number → (answer : Outcome)
+    → Finishes tells start Texts input slot old_in new_in old_out new_out answer → IsDone answer → IsTrue tells → IsTrue (new_in.ended number)
+Finishes-drained tells start Texts input slot number old_in new_in old_out new_out same outcome.Done finishes done told =
+    let P : ℕ → Type 0 = λ k. IsTrue (new_in.ended k) in subst P same (finishes.1 told)
+Finishes-drained tells start Texts input slot number old_in new_in old_out new_out same outcome.Usage finishes done told = absurd done
+Finishes-drained tells start Texts input slot number old_in new_in old_out new_out same (outcome.Domain why) finishes done told = absurd done
+Finishes-drained tells start Texts input slot number old_in new_in old_out new_out same (outcome.Readings why) finishes done told = absurd done
+Finishes-drained tells start Texts input slot number old_in new_in old_out new_out same (outcome.Names name) finishes done told = absurd done
+Finishes-drained tells start Texts input slot number old_in new_in old_out new_out same (outcome.Capture name at fault) finishes done told = absurd done
+Finishes-drained tells start Texts input slot number old_in new_in old_out new_out same (outcome.Packets limit) finishes done told = absurd done
+Finishes-drained tells start Texts input slot number old_in new_in old_out new_out same outcome.ReadFault finishes done told = absurd done
+Finishes-drained tells start Texts input slot number old_in new_in old_out new_out same outcome.WriteFault finishes done told = absurd done
+Finishes-drained tells start Texts input slot number old_in new_in old_out new_out same outcome.NoMemory finishes done told = absurd done

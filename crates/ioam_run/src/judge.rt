@@ -11,7 +11,7 @@ use ioam_node::Reason;
 use ioam_pcap::Packet;
 
 /// A frame's packet that is kept, or the first reason why the frame is dropped.
-#[derive(Clone, Copy, Debug, PartialEq, Eq)]
+#[derive(Clone, Copy)]
 pub enum Judgement<'a> {
     /// The packet, without what follows it in the frame.
     Kept(&'a [u8]),

@@ -32,7 +32,6 @@ fn are_whole(array: &Array) -> bool
 }
 
 // The namespaces of an array of numbers.
-#[tactic(auto, using(crate::proofs::EntryLaws::space_turn, crate::proofs::EntryLaws::space_stop))]
 fn small_spaces(alloc: Global, array: &Array) -> Result<Vec<Namespace>, Refused>
     ensures { ReadsOr (λ v. v.items) result (spaces (array_view array.now)) }
 {

@@ -1,12 +1,12 @@
-use Rattle.std.proofs.Common.{◌≡◌, ℕ, ◌+◌, ◌++◌, List, [], length, Some, rules, ap, ◌∙◌, subst, inr, arith}
+use Rattle.std.proofs.Common.{◌≡◌, ℕ, ◌+◌, ◌++◌, ◌∷◌, List, [], length, take, Some, rules, refl, ap, sym, ◌∙◌, subst, inl, inr, append-nil, arith}
 use Rattle.ioam_desk.specs.Desk as desk
-use Rattle.ioam_desk.specs.Desk.{Side, Writing, holds}
+use Rattle.ioam_desk.specs.Desk.{Side, Writing, Rose, holds}
 use Rattle.ioam_feed.specs.Feed.{Fed}
 use Rattle.ioam_outputs.specs.declared.output.Output.{Output}
 use Rattle.ioam_outputs.proofs.ToldLaws.{told_names}
 use Rattle.ioam_run.specs.Streams.{Start, Finishes}
 use Rattle.ioam_run.proofs.BeginLaws.{Fed-start, told_start, unwritten}
-use Rattle.ioam_run.proofs.FinishesLaws.{Finishes-cause, Finishes-leaves}
+use Rattle.ioam_run.proofs.FinishesLaws.{Finishes-drained, Finishes-cause, Finishes-leaves}
 use Rattle.ioam_run.proofs.over_capture.run_file.Goals as goal
 
 pub run_open-requires : goal.run_open-requires
@@ -83,3 +83,138 @@ pub returns-in-Ok-open_outputs-clause-all_out : goal.returns-in-Ok-open_outputs-
 returns-in-Ok-open_outputs-clause-all_out g c = λ all.
     c.run_open.ensures.asked_out ∙ ap (λ (s : Side). s.asked) c.in-Ok-open_outputs.ensures.side
     ∙ ap (λ (w : Writing). w.side.asked ++ c.args.names.now) c.in-Ok-open_feed.ensures.outputs
+
+pub returns-in_default-clause-leaves : goal.returns-in_default-clause-leaves
+returns-in_default-clause-leaves g c = λ told. inl refl
+
+pub returns-in_default-clause-asked_in : goal.returns-in_default-clause-asked_in
+returns-in_default-clause-asked_in g c = (0, sym (append-nil (g.D.Desk.reading c.args.desk.now).side.asked))
+
+pub returns-in_default-clause-asked_out : goal.returns-in_default-clause-asked_out
+returns-in_default-clause-asked_out g c = (0, sym (append-nil (g.D.Desk.writing c.args.desk.now).side.asked))
+
+pub returns-in_default-clause-all_out : goal.returns-in_default-clause-all_out
+returns-in_default-clause-all_out g c = λ none. absurd none
+
+pub returns-in_default-clause-no_output : goal.returns-in_default-clause-no_output
+returns-in_default-clause-no_output g c = λ same. refl
+
+pub returns-in_default-clause-drained : goal.returns-in_default-clause-drained
+returns-in_default-clause-drained g c = λ none told. absurd none
+
+pub returns-in-Err-Failed-clause-cause : goal.returns-in-Err-Failed-clause-cause
+returns-in-Err-Failed-clause-cause g c = rw c.in-Err-Failed.field-0-is at c.in-Err-Failed.ensures.cause
+
+pub returns-in-Err-Failed-clause-leaves : goal.returns-in-Err-Failed-clause-leaves
+returns-in-Err-Failed-clause-leaves g c =
+    let failed = rw c.in-Err-Failed.field-0-is at c.in-Err-Failed.ensures.fault in
+    λ told. inl (failed.0.slots, c.in-Err-Failed.ensures.outputs)
+
+pub returns-in-Err-Failed-clause-asked_in : goal.returns-in-Err-Failed-clause-asked_in
+returns-in-Err-Failed-clause-asked_in g c =
+    let failed = rw c.in-Err-Failed.field-0-is at c.in-Err-Failed.ensures.fault in
+    (1, failed.0.asked ∙ ap (λ (name : List ℕ). (g.D.Desk.reading c.args.desk.now).side.asked ++ name ∷ []) c.text.ensures)
+
+pub returns-in-Err-Failed-clause-asked_out : goal.returns-in-Err-Failed-clause-asked_out
+returns-in-Err-Failed-clause-asked_out g c = (0, ap (λ (w : Writing). w.side.asked) c.in-Err-Failed.ensures.outputs ∙ sym (append-nil (g.D.Desk.writing c.args.desk.now).side.asked))
+
+pub returns-in-Err-Failed-clause-all_out : goal.returns-in-Err-Failed-clause-all_out
+returns-in-Err-Failed-clause-all_out g c = λ none. absurd none
+
+pub returns-in-Err-Failed-clause-no_output : goal.returns-in-Err-Failed-clause-no_output
+returns-in-Err-Failed-clause-no_output g c = λ same. c.in-Err-Failed.ensures.outputs
+
+pub returns-in-Err-Failed-clause-drained : goal.returns-in-Err-Failed-clause-drained
+returns-in-Err-Failed-clause-drained g c = λ none told. absurd none
+
+pub returns-in-Err-NoMemory-clause-leaves : goal.returns-in-Err-NoMemory-clause-leaves
+returns-in-Err-NoMemory-clause-leaves g c = λ told. inl c.in-Err-NoMemory.ensures.outputs
+
+pub returns-in-Err-NoMemory-clause-asked_in : goal.returns-in-Err-NoMemory-clause-asked_in
+returns-in-Err-NoMemory-clause-asked_in g c =
+    let same = rw c.in-Err-NoMemory.field-0-is at c.in-Err-NoMemory.ensures.fault in
+    (0, ap (λ (r : desk.Reading). r.side.asked) same ∙ sym (append-nil (g.D.Desk.reading c.args.desk.now).side.asked))
+
+pub returns-in-Err-NoMemory-clause-asked_out : goal.returns-in-Err-NoMemory-clause-asked_out
+returns-in-Err-NoMemory-clause-asked_out g c = (0, ap (λ (w : Writing). w.side.asked) c.in-Err-NoMemory.ensures.outputs ∙ sym (append-nil (g.D.Desk.writing c.args.desk.now).side.asked))
+
+pub returns-in-Err-NoMemory-clause-all_out : goal.returns-in-Err-NoMemory-clause-all_out
+returns-in-Err-NoMemory-clause-all_out g c = λ none. absurd none
+
+pub returns-in-Err-NoMemory-clause-no_output : goal.returns-in-Err-NoMemory-clause-no_output
+returns-in-Err-NoMemory-clause-no_output g c = λ same. c.in-Err-NoMemory.ensures.outputs
+
+pub returns-in-Err-NoMemory-clause-drained : goal.returns-in-Err-NoMemory-clause-drained
+returns-in-Err-NoMemory-clause-drained g c = λ none told. absurd none
+
+pub returns-in-Ok-open_outputs-clause-asked_in : goal.returns-in-Ok-open_outputs-clause-asked_in
+returns-in-Ok-open_outputs-clause-asked_in g c = (
+  1,
+  c.run_open.ensures.asked_in ∙ ap (λ (r : desk.Reading). r.side.asked) c.in-Ok-open_outputs.ensures.inputs
+      ∙ ap (λ (s : Side). s.asked) c.in-Ok-open_feed.ensures.opened.side ∙ ap (λ (name : List ℕ). (g.D.Desk.reading c.args.desk.now).side.asked ++ name ∷ []) c.text.ensures,
+)
+
+pub returns-in-Ok-open_outputs-clause-asked_out : goal.returns-in-Ok-open_outputs-clause-asked_out
+returns-in-Ok-open_outputs-clause-asked_out g c =
+    let asks = c.in-Ok-open_outputs.ensures.asked in
+    (asks.0, c.run_open.ensures.asked_out ∙ asks.1 ∙ ap (λ (w : Writing). w.side.asked ++ take asks.0 c.args.names.now) c.in-Ok-open_feed.ensures.outputs)
+
+pub returns-in-Ok-open_outputs-clause-no_output : goal.returns-in-Ok-open_outputs-clause-no_output
+returns-in-Ok-open_outputs-clause-no_output g c =
+    let slots : (g.D.Desk.reading c.open_outputs.new.desk).side.slots ≡ (g.D.Desk.reading c.args.desk.now).side.slots + 1 =
+    ap (λ (r : desk.Reading). r.side.slots) c.in-Ok-open_outputs.ensures.inputs ∙ ap (λ (s : Side). s.slots) c.in-Ok-open_feed.ensures.opened.side in
+    λ same. absurd (omega (arith, slots, c.run_open.ensures.slots_in, same))
+
+pub returns-in-Ok-open_outputs-clause-drained : goal.returns-in-Ok-open_outputs-clause-drained
+returns-in-Ok-open_outputs-clause-drained g c =
+    Finishes-drained g.D.Desk.tells g.start g.G.Gather.texts c.args.input.now c.in-Ok-open_feed.feed.slot (g.D.Desk.reading c.args.desk.now).side.slots
+    (g.D.Desk.reading c.open_outputs.new.desk) (g.D.Desk.reading c.run_open.new.desk) (g.D.Desk.writing c.open_outputs.new.desk) (g.D.Desk.writing c.run_open.new.desk)
+    c.in-Ok-open_feed.ensures.opened.number c.run_open.result c.run_open.ensures.finishes
+
+pub returns-in-Err-Failed-open_outputs-clause-cause : goal.returns-in-Err-Failed-open_outputs-clause-cause
+returns-in-Err-Failed-open_outputs-clause-cause g c =
+    let P : Writing → Type 0 = λ w. Rose w.side.faults (g.D.Desk.writing c.open_outputs.new.desk).side.faults in
+    let failed = rw c.in-Err-Failed-open_outputs.field-0-is at c.in-Err-Failed-open_outputs.ensures.fault in
+    subst P c.in-Ok-open_feed.ensures.outputs failed.0
+
+pub returns-in-Err-Failed-open_outputs-clause-asked_in : goal.returns-in-Err-Failed-open_outputs-clause-asked_in
+returns-in-Err-Failed-open_outputs-clause-asked_in g c =
+    (1, ap (λ (r : desk.Reading). r.side.asked) c.in-Err-Failed-open_outputs.ensures.inputs ∙ ap (λ (s : Side). s.asked) c.in-Ok-open_feed.ensures.opened.side ∙ ap (λ (name : List ℕ). (g.D.Desk.reading c.args.desk.now).side.asked ++ name ∷ []) c.text.ensures)
+
+pub returns-in-Err-Failed-open_outputs-clause-asked_out : goal.returns-in-Err-Failed-open_outputs-clause-asked_out
+returns-in-Err-Failed-open_outputs-clause-asked_out g c =
+    let asks = c.in-Err-Failed-open_outputs.ensures.asked in
+    (asks.0, asks.1 ∙ ap (λ (w : Writing). w.side.asked ++ take asks.0 c.args.names.now) c.in-Ok-open_feed.ensures.outputs)
+
+pub returns-in-Err-Failed-open_outputs-clause-all_out : goal.returns-in-Err-Failed-open_outputs-clause-all_out
+returns-in-Err-Failed-open_outputs-clause-all_out g c = λ none. absurd none
+
+pub returns-in-Err-Failed-open_outputs-clause-no_output : goal.returns-in-Err-Failed-open_outputs-clause-no_output
+returns-in-Err-Failed-open_outputs-clause-no_output g c =
+    let slots : (g.D.Desk.reading c.open_outputs.new.desk).side.slots ≡ (g.D.Desk.reading c.args.desk.now).side.slots + 1 =
+    ap (λ (r : desk.Reading). r.side.slots) c.in-Err-Failed-open_outputs.ensures.inputs ∙ ap (λ (s : Side). s.slots) c.in-Ok-open_feed.ensures.opened.side in
+    λ same. absurd (omega (arith, slots, same))
+
+pub returns-in-Err-Failed-open_outputs-clause-drained : goal.returns-in-Err-Failed-open_outputs-clause-drained
+returns-in-Err-Failed-open_outputs-clause-drained g c = λ none told. absurd none
+
+pub returns-clause-asked_in : goal.returns-clause-asked_in
+returns-clause-asked_in g c =
+    (1, ap (λ (r : desk.Reading). r.side.asked) c.in-Err-NoMemory-open_outputs.ensures.inputs ∙ ap (λ (s : Side). s.asked) c.in-Ok-open_feed.ensures.opened.side ∙ ap (λ (name : List ℕ). (g.D.Desk.reading c.args.desk.now).side.asked ++ name ∷ []) c.text.ensures)
+
+pub returns-clause-asked_out : goal.returns-clause-asked_out
+returns-clause-asked_out g c =
+    let asks = c.in-Err-NoMemory-open_outputs.ensures.asked in
+    (asks.0, asks.1 ∙ ap (λ (w : Writing). w.side.asked ++ take asks.0 c.args.names.now) c.in-Ok-open_feed.ensures.outputs)
+
+pub returns-clause-all_out : goal.returns-clause-all_out
+returns-clause-all_out g c = λ none. absurd none
+
+pub returns-clause-no_output : goal.returns-clause-no_output
+returns-clause-no_output g c =
+    let slots : (g.D.Desk.reading c.open_outputs.new.desk).side.slots ≡ (g.D.Desk.reading c.args.desk.now).side.slots + 1 =
+    ap (λ (r : desk.Reading). r.side.slots) c.in-Err-NoMemory-open_outputs.ensures.inputs ∙ ap (λ (s : Side). s.slots) c.in-Ok-open_feed.ensures.opened.side in
+    λ same. absurd (omega (arith, slots, same))
+
+pub returns-clause-drained : goal.returns-clause-drained
+returns-clause-drained g c = λ none told. absurd none

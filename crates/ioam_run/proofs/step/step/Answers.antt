@@ -1,7 +1,7 @@
 use Rattle.std.proofs.Common.{ap, refl, arith}
 use Rattle.ioam_pcap.specs.Reads.{link_by}
-use Rattle.ioam_pcap.specs.Reader.{entry_of}
-use Rattle.ioam_run.proofs.StepLaws.{Streams-head, Streams-record}
+use Rattle.ioam_pcap.specs.Reader.{entry_of, fed}
+use Rattle.ioam_run.proofs.StepLaws.{entry_short, Streams-head, Streams-record}
 use Rattle.ioam_run.proofs.step.step.Goals as goal
 
 pub returns-then-taken-from-clause-stepped : goal.returns-then-taken-from-clause-stepped
@@ -33,3 +33,41 @@ returns-in-Ok-clause-stepped g c =
           c.args.ethernet.now c.args.gathered.now c.take.new.self c.args.outputs.now c.take.new.outputs (entry_of c.in-Packet.captured)
           (omega arith) c.in-Ok.ensures.counted told.0.1 told.0.0 told.1 c.in-Ok.ensures.gathers,
     )
+
+pub taken-requires : goal.taken-requires
+taken-requires g c = omega (arith, c.requires.few)
+
+pub take-requires-clause-short : goal.take-requires-clause-short
+take-requires-clause-short g c =
+    let told = rw c.in-Packet.is at c.next.follows.holds-at-none in
+    let (octets, entries, stands) = c.requires.stood in
+    entry_short octets c.args.reader.now.form c.args.reader.now.start (entry_of c.in-Packet.captured) (told.1 octets entries stands).0
+
+pub take-requires-clause-few : goal.take-requires-clause-few
+take-requires-clause-few g c = omega (arith, c.requires.few)
+
+pub returns-then-taken-from-clause-fed : goal.returns-then-taken-from-clause-fed
+returns-then-taken-from-clause-fed g c = let told = rw c.in-Packet.is at c.next.follows.holds-at-none in omega (arith, told.0.1, told.0.3)
+
+pub returns-in-Head-clause-fed : goal.returns-in-Head-clause-fed
+returns-in-Head-clause-fed g c = let told = rw c.in-Head.is at c.next.follows.holds-at-none in omega (arith, told.0.0, told.0.2)
+
+pub returns-in-Ok-clause-fed : goal.returns-in-Ok-clause-fed
+returns-in-Ok-clause-fed g c = let told = rw c.in-Packet.is at c.next.follows.holds-at-none in omega (arith, told.0.1, told.0.3)
+
+pub returns-in-Err-clause-fed : goal.returns-in-Err-clause-fed
+returns-in-Err-clause-fed g c = let told = rw c.in-Packet.is at c.next.follows.holds-at-none in omega (arith, told.0.1, told.0.3)
+
+pub returns-in-More-clause-stepped : goal.returns-in-More-clause-stepped
+returns-in-More-clause-stepped g c = let told = rw c.in-More.is at c.next.follows.holds-at-none in ((refl, refl, refl), told.0.0, told.0.1)
+
+pub returns-in-More-clause-fed : goal.returns-in-More-clause-fed
+returns-in-More-clause-fed g c = let told = rw c.in-More.is at c.next.follows.holds-at-none in ap fed told.0.0
+
+pub returns-in-Bad-clause-stepped : goal.returns-in-Bad-clause-stepped
+returns-in-Bad-clause-stepped g c =
+    let told = rw c.in-Bad.is at c.next.follows.holds-at-none in
+    ((refl, refl, refl), told.0.0, λ octets entries stands more. (told.1 octets entries stands).1.3 more)
+
+pub returns-in-Bad-clause-fed : goal.returns-in-Bad-clause-fed
+returns-in-Bad-clause-fed g c = let told = rw c.in-Bad.is at c.next.follows.holds-at-none in ap fed told.0.0

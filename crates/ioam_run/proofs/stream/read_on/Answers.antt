@@ -16,7 +16,8 @@ returns-in-Ok-Bad-clause-stopped g c =
     (g.D.Desk.reading c.args.desk.now) (g.D.Desk.reading c.take_shown.new.desk) (g.D.Desk.writing c.args.desk.now) (g.D.Desk.writing c.take_shown.new.desk)
     c.take_shown.new.stream.gathered c.take_shown.new.outputs c.in-Ok-Bad.at c.in-Ok-Bad.fault c.capture_outcome.result c.capture_outcome.ensures halts
     (c.in-Ok-Bad.ensures.same ∙ c.pieces.invariant.side)
-    (Halts-sticks_here _ _ _ _ g.G.Gather.texts g.G.Gather.sums g.met.G.Gather.any_link g.met.G.Gather.ends _ (begins_ends (Faulty c.in-Ok-Bad.at c.in-Ok-Bad.fault)) _ _ _ halts
+    (Halts-sticks_here g.G.Gather.gathers g.G.Gather.count g.D.Desk.tells g.start g.G.Gather.texts g.G.Gather.sums g.met.G.Gather.any_link g.met.G.Gather.ends
+    (EndsSo (Faulty c.in-Ok-Bad.at c.in-Ok-Bad.fault)) (begins_ends (Faulty c.in-Ok-Bad.at c.in-Ok-Bad.fault)) (g.D.Desk.writing c.take_shown.new.desk) c.take_shown.new.stream.gathered c.take_shown.new.outputs halts
     (omega (arith, g.met.G.Gather.sized c.take_shown.new.stream.gathered, c.pieces.invariant.width, c.take_shown.auto.outputs)))
 
 pub pieces-preserved : goal.pieces-preserved
@@ -24,7 +25,8 @@ pieces-preserved g c =
     let streams = (rw c.in-Ok-More.field-0-is at c.in-Ok-More.ensures.paused).0 in
     let feeds = rw c.in-Ok-true.field-0-test at c.in-Ok-true.ensures.read in
     record {
-      streams = Streams-fed _ _ _ _ _ _ _ _ _ _ _ _ _ _ _ _ c.in-Ok-true.ensures.outputs c.in-Ok-true.ensures.slot feeds streams;
+      streams = Streams-fed g.G.Gather.gathers g.G.Gather.count g.D.Desk.tells g.start (g.D.Desk.reading c.take_shown.new.desk) (g.D.Desk.reading c.refill.new.desk) (g.D.Desk.writing c.take_shown.new.desk) (g.D.Desk.writing c.refill.new.desk) c.take_shown.new.stream.feed.slot c.refill.new.self.slot _
+          c.take_shown.new.stream.feed.reader c.refill.new.self.reader c.take_shown.new.stream.ethernet c.take_shown.new.stream.gathered c.take_shown.new.outputs c.in-Ok-true.ensures.outputs c.in-Ok-true.ensures.slot feeds streams;
       width = omega (arith, c.pieces.invariant.width, c.take_shown.auto.outputs);
       room = omega (arith, c.pieces.invariant.room, c.refill.auto.piece);
       inputs = feeds.gives.side ∙ ap (λ (r : desk.Reading). r.side) c.in-Ok-More.ensures.inputs ∙ c.pieces.invariant.inputs;
@@ -64,9 +66,11 @@ returns-in-Err-Failed-refill-clause-stopped g c =
     let slot : c.args.stream.now.feed.slot ≡ c.take_shown.new.stream.feed.slot = sym (c.in-Ok-More.ensures.slot ∙ c.pieces.invariant.slot) in (
       omega (arith, rose, ap (λ (s : Side). s.faults) side),
       (
-        Halts-left _ _ _ _ _ _ _ _ _ _ c.in-Err-Failed-refill.ensures.outputs
+        Halts-left g.G.Gather.gathers g.G.Gather.count g.D.Desk.tells g.start (g.D.Desk.writing c.take_shown.new.desk) (g.D.Desk.writing c.refill.new.desk) c.take_shown.new.stream.gathered c.take_shown.new.outputs
+            ((g.D.Desk.reading c.take_shown.new.desk).left c.take_shown.new.stream.feed.slot) ((g.D.Desk.reading c.refill.new.desk).left c.args.stream.now.feed.slot) c.in-Err-Failed-refill.ensures.outputs
             (ap (λ (left : ℕ → List ℕ). left c.args.stream.now.feed.slot) fails.left ∙ ap (g.D.Desk.reading c.take_shown.new.desk).left slot)
-            (halts_waiting _ _ _ _ _ _ _ _ _ _ _ paused.0 paused.1),
+            (halts_waiting g.G.Gather.gathers g.G.Gather.count g.D.Desk.tells g.start (g.D.Desk.reading c.take_shown.new.desk) (g.D.Desk.writing c.take_shown.new.desk)
+            c.take_shown.new.stream.feed.slot c.take_shown.new.stream.feed.reader c.take_shown.new.stream.ethernet c.take_shown.new.stream.gathered c.take_shown.new.outputs paused.0 paused.1),
         ap (λ (w : Writing). w.side) c.in-Err-Failed-refill.ensures.outputs ∙ c.in-Ok-More.ensures.same ∙ c.pieces.invariant.side,
       ),
     )
@@ -81,3 +85,99 @@ returns-in-Err-NoMemory-refill-clause-stopped g c =
     (λ told. subst P (sym c.in-Err-NoMemory-refill.ensures.outputs)
     (Streams-fronts g.G.Gather.gathers g.G.Gather.count g.D.Desk.tells g.start (g.D.Desk.reading c.take_shown.new.desk) (g.D.Desk.writing c.take_shown.new.desk)
     c.take_shown.new.stream.feed.slot c.take_shown.new.stream.feed.reader c.take_shown.new.stream.ethernet c.take_shown.new.stream.gathered c.take_shown.new.outputs streams told))
+
+pub returns-in-Ok-Bad-clause-asked_in : goal.returns-in-Ok-Bad-clause-asked_in
+returns-in-Ok-Bad-clause-asked_in g c = ap (λ (r : desk.Reading). r.side.asked) c.in-Ok-Bad.ensures.inputs ∙ ap (λ (s : Side). s.asked) c.pieces.invariant.inputs
+
+pub returns-in-Ok-Bad-clause-asked_out : goal.returns-in-Ok-Bad-clause-asked_out
+returns-in-Ok-Bad-clause-asked_out g c = c.in-Ok-Bad.ensures.asked ∙ ap (λ (s : Side). s.asked) c.pieces.invariant.side
+
+pub returns-in-Ok-Bad-clause-slots_in : goal.returns-in-Ok-Bad-clause-slots_in
+returns-in-Ok-Bad-clause-slots_in g c = ap (λ (r : desk.Reading). r.side.slots) c.in-Ok-Bad.ensures.inputs ∙ ap (λ (s : Side). s.slots) c.pieces.invariant.inputs
+
+pub returns-in-Ok-Bad-clause-slots_out : goal.returns-in-Ok-Bad-clause-slots_out
+returns-in-Ok-Bad-clause-slots_out g c = c.in-Ok-Bad.ensures.slots ∙ ap (λ (s : Side). s.slots) c.pieces.invariant.side
+
+pub returns-in-Ok-Limit-clause-asked_in : goal.returns-in-Ok-Limit-clause-asked_in
+returns-in-Ok-Limit-clause-asked_in g c = ap (λ (r : desk.Reading). r.side.asked) c.in-Ok-Limit.ensures.inputs ∙ ap (λ (s : Side). s.asked) c.pieces.invariant.inputs
+
+pub returns-in-Ok-Limit-clause-asked_out : goal.returns-in-Ok-Limit-clause-asked_out
+returns-in-Ok-Limit-clause-asked_out g c = c.in-Ok-Limit.ensures.asked ∙ ap (λ (s : Side). s.asked) c.pieces.invariant.side
+
+pub returns-in-Ok-Limit-clause-slots_in : goal.returns-in-Ok-Limit-clause-slots_in
+returns-in-Ok-Limit-clause-slots_in g c = ap (λ (r : desk.Reading). r.side.slots) c.in-Ok-Limit.ensures.inputs ∙ ap (λ (s : Side). s.slots) c.pieces.invariant.inputs
+
+pub returns-in-Ok-Limit-clause-slots_out : goal.returns-in-Ok-Limit-clause-slots_out
+returns-in-Ok-Limit-clause-slots_out g c = c.in-Ok-Limit.ensures.slots ∙ ap (λ (s : Side). s.slots) c.pieces.invariant.side
+
+pub returns-in-Err-Failed-clause-asked_in : goal.returns-in-Err-Failed-clause-asked_in
+returns-in-Err-Failed-clause-asked_in g c = ap (λ (r : desk.Reading). r.side.asked) c.in-Err-Failed.ensures.inputs ∙ ap (λ (s : Side). s.asked) c.pieces.invariant.inputs
+
+pub returns-in-Err-Failed-clause-asked_out : goal.returns-in-Err-Failed-clause-asked_out
+returns-in-Err-Failed-clause-asked_out g c = c.in-Err-Failed.ensures.asked ∙ ap (λ (s : Side). s.asked) c.pieces.invariant.side
+
+pub returns-in-Err-Failed-clause-slots_in : goal.returns-in-Err-Failed-clause-slots_in
+returns-in-Err-Failed-clause-slots_in g c = ap (λ (r : desk.Reading). r.side.slots) c.in-Err-Failed.ensures.inputs ∙ ap (λ (s : Side). s.slots) c.pieces.invariant.inputs
+
+pub returns-in-Err-Failed-clause-slots_out : goal.returns-in-Err-Failed-clause-slots_out
+returns-in-Err-Failed-clause-slots_out g c = c.in-Err-Failed.ensures.slots ∙ ap (λ (s : Side). s.slots) c.pieces.invariant.side
+
+pub returns-in-Err-NoMemory-clause-asked_in : goal.returns-in-Err-NoMemory-clause-asked_in
+returns-in-Err-NoMemory-clause-asked_in g c = ap (λ (r : desk.Reading). r.side.asked) c.in-Err-NoMemory.ensures.inputs ∙ ap (λ (s : Side). s.asked) c.pieces.invariant.inputs
+
+pub returns-in-Err-NoMemory-clause-asked_out : goal.returns-in-Err-NoMemory-clause-asked_out
+returns-in-Err-NoMemory-clause-asked_out g c = c.in-Err-NoMemory.ensures.asked ∙ ap (λ (s : Side). s.asked) c.pieces.invariant.side
+
+pub returns-in-Err-NoMemory-clause-slots_in : goal.returns-in-Err-NoMemory-clause-slots_in
+returns-in-Err-NoMemory-clause-slots_in g c = ap (λ (r : desk.Reading). r.side.slots) c.in-Err-NoMemory.ensures.inputs ∙ ap (λ (s : Side). s.slots) c.pieces.invariant.inputs
+
+pub returns-in-Err-NoMemory-clause-slots_out : goal.returns-in-Err-NoMemory-clause-slots_out
+returns-in-Err-NoMemory-clause-slots_out g c = c.in-Err-NoMemory.ensures.slots ∙ ap (λ (s : Side). s.slots) c.pieces.invariant.side
+
+pub returns-in-Ok-false-clause-asked_in : goal.returns-in-Ok-false-clause-asked_in
+returns-in-Ok-false-clause-asked_in g c =
+    c.in-Ok-false.ensures.asked ∙ ap (λ (r : desk.Reading). r.side.asked) c.in-Ok-More.ensures.inputs ∙ ap (λ (s : Side). s.asked) c.pieces.invariant.inputs
+
+pub returns-in-Ok-false-clause-asked_out : goal.returns-in-Ok-false-clause-asked_out
+returns-in-Ok-false-clause-asked_out g c =
+    ap (λ (w : Writing). w.side.asked) c.in-Ok-false.ensures.outputs ∙ c.in-Ok-More.ensures.asked ∙ ap (λ (s : Side). s.asked) c.pieces.invariant.side
+
+pub returns-in-Ok-false-clause-slots_in : goal.returns-in-Ok-false-clause-slots_in
+returns-in-Ok-false-clause-slots_in g c =
+    c.in-Ok-false.ensures.slots ∙ ap (λ (r : desk.Reading). r.side.slots) c.in-Ok-More.ensures.inputs ∙ ap (λ (s : Side). s.slots) c.pieces.invariant.inputs
+
+pub returns-in-Ok-false-clause-slots_out : goal.returns-in-Ok-false-clause-slots_out
+returns-in-Ok-false-clause-slots_out g c =
+    ap (λ (w : Writing). w.side.slots) c.in-Ok-false.ensures.outputs ∙ c.in-Ok-More.ensures.slots ∙ ap (λ (s : Side). s.slots) c.pieces.invariant.side
+
+pub returns-in-Err-Failed-refill-clause-asked_in : goal.returns-in-Err-Failed-refill-clause-asked_in
+returns-in-Err-Failed-refill-clause-asked_in g c =
+    c.in-Err-Failed-refill.ensures.asked ∙ ap (λ (r : desk.Reading). r.side.asked) c.in-Ok-More.ensures.inputs ∙ ap (λ (s : Side). s.asked) c.pieces.invariant.inputs
+
+pub returns-in-Err-Failed-refill-clause-asked_out : goal.returns-in-Err-Failed-refill-clause-asked_out
+returns-in-Err-Failed-refill-clause-asked_out g c =
+    ap (λ (w : Writing). w.side.asked) c.in-Err-Failed-refill.ensures.outputs ∙ c.in-Ok-More.ensures.asked ∙ ap (λ (s : Side). s.asked) c.pieces.invariant.side
+
+pub returns-in-Err-Failed-refill-clause-slots_in : goal.returns-in-Err-Failed-refill-clause-slots_in
+returns-in-Err-Failed-refill-clause-slots_in g c =
+    c.in-Err-Failed-refill.ensures.slots ∙ ap (λ (r : desk.Reading). r.side.slots) c.in-Ok-More.ensures.inputs ∙ ap (λ (s : Side). s.slots) c.pieces.invariant.inputs
+
+pub returns-in-Err-Failed-refill-clause-slots_out : goal.returns-in-Err-Failed-refill-clause-slots_out
+returns-in-Err-Failed-refill-clause-slots_out g c =
+    ap (λ (w : Writing). w.side.slots) c.in-Err-Failed-refill.ensures.outputs ∙ c.in-Ok-More.ensures.slots ∙ ap (λ (s : Side). s.slots) c.pieces.invariant.side
+
+pub returns-in-Err-NoMemory-refill-clause-asked_in : goal.returns-in-Err-NoMemory-refill-clause-asked_in
+returns-in-Err-NoMemory-refill-clause-asked_in g c =
+    c.in-Err-NoMemory-refill.ensures.asked ∙ ap (λ (r : desk.Reading). r.side.asked) c.in-Ok-More.ensures.inputs ∙ ap (λ (s : Side). s.asked) c.pieces.invariant.inputs
+
+pub returns-in-Err-NoMemory-refill-clause-asked_out : goal.returns-in-Err-NoMemory-refill-clause-asked_out
+returns-in-Err-NoMemory-refill-clause-asked_out g c =
+    ap (λ (w : Writing). w.side.asked) c.in-Err-NoMemory-refill.ensures.outputs ∙ c.in-Ok-More.ensures.asked ∙ ap (λ (s : Side). s.asked) c.pieces.invariant.side
+
+pub returns-in-Err-NoMemory-refill-clause-slots_in : goal.returns-in-Err-NoMemory-refill-clause-slots_in
+returns-in-Err-NoMemory-refill-clause-slots_in g c =
+    c.in-Err-NoMemory-refill.ensures.slots ∙ ap (λ (r : desk.Reading). r.side.slots) c.in-Ok-More.ensures.inputs ∙ ap (λ (s : Side). s.slots) c.pieces.invariant.inputs
+
+pub returns-in-Err-NoMemory-refill-clause-slots_out : goal.returns-in-Err-NoMemory-refill-clause-slots_out
+returns-in-Err-NoMemory-refill-clause-slots_out g c =
+    ap (λ (w : Writing). w.side.slots) c.in-Err-NoMemory-refill.ensures.outputs ∙ c.in-Ok-More.ensures.slots ∙ ap (λ (s : Side). s.slots) c.pieces.invariant.side

@@ -1,0 +1,25 @@
+-- Laws of the file's own keys.
+use Rattle.std.proofs.Common.{◌≡◌, ℕ, Bool, true, false, List, Ok, Err, codes, sym, ◌∙◌}
+use Rattle.std.proofs.lemmas.Bool.{cond-true, cond-false}
+use Rattle.std.specs.Str.{bytes_eq}
+use Rattle.ioam_topo.specs.declared.format.Format.TheVariants.{Ptp, Ntp, Posix}
+use Rattle.ioam_toml.specs.declared.why.Why.TheVariants.{Range}
+use Rattle.ioam_domain_file.specs.Top.{format_named}
+
+-- the format of a name, by what its comparisons answer
+pub named_ptp : (s : List ℕ) (p : Bool) → p ≡ bytes_eq s (codes "ptp") → p ≡ true → Ok Ptp ≡ format_named s
+named_ptp s p is_p here = sym (cond-true _ _ _ (sym is_p ∙ here))
+
+pub named_ntp : (s : List ℕ) (p n : Bool) → p ≡ bytes_eq s (codes "ptp") → n ≡ bytes_eq s (codes "ntp")
+    → p ≡ false → n ≡ true → Ok Ntp ≡ format_named s
+named_ntp s p n is_p is_n not_p here = sym (cond-false _ _ _ (sym is_p ∙ not_p) ∙ cond-true _ _ _ (sym is_n ∙ here))
+
+pub named_posix : (s : List ℕ) (p n x : Bool) → p ≡ bytes_eq s (codes "ptp") → n ≡ bytes_eq s (codes "ntp")
+    → x ≡ bytes_eq s (codes "posix") → p ≡ false → n ≡ false → x ≡ true → Ok Posix ≡ format_named s
+named_posix s p n x is_p is_n is_x not_p not_n here = sym (cond-false _ _ _ (sym is_p ∙ not_p)
+    ∙ cond-false _ _ _ (sym is_n ∙ not_n) ∙ cond-true _ _ _ (sym is_x ∙ here))
+
+pub named_none : (s : List ℕ) (p n x : Bool) → p ≡ bytes_eq s (codes "ptp") → n ≡ bytes_eq s (codes "ntp")
+    → x ≡ bytes_eq s (codes "posix") → p ≡ false → n ≡ false → x ≡ false → Err Range ≡ format_named s
+named_none s p n x is_p is_n is_x not_p not_n not_x = sym (cond-false _ _ _ (sym is_p ∙ not_p)
+    ∙ cond-false _ _ _ (sym is_n ∙ not_n) ∙ cond-false _ _ _ (sym is_x ∙ not_x))
