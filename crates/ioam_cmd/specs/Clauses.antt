@@ -1,12 +1,12 @@
 -- What the top call promises of each command, in the words of the command's own crate. `tells` says
 -- that the desk tells what its files hold.
-use Rattle.std.specs.Prelude.{◌≡◌, ℕ, ◌+◌, ◌<◌, ⊤, Bool, IsTrue, IsSomeAnd, List, [], ◌∷◌, ◌++◌}
+use Rattle.std.specs.Prelude.{◌≡◌, ℕ, ◌+◌, ◌<◌, ◌⊎◌, ⊤, Bool, IsTrue, IsSomeAnd, List, [], ◌∷◌, ◌++◌}
 use Rattle.ioam_desk.specs.Asked.{AsksFront}
 use Rattle.ioam_desk.specs.Desk.{Reading, Writing, holds}
 use Rattle.ioam_domain.specs.Run as domain
 use Rattle.ioam_domain.specs.Run.{domain_file, readings_file}
 use Rattle.ioam_ip.specs.Clean.{IsClean}
-use Rattle.ioam_outputs.specs.Names.{name_at}
+use Rattle.ioam_outputs.specs.Names.{name_at, AreApart}
 use Rattle.ioam_pcap.specs.Text.{IsCaptureOf}
 use Rattle.ioam_run.specs.FilterText.{FilterTexts}
 use Rattle.ioam_run.specs.PathsText.{PathsTexts}
@@ -38,32 +38,29 @@ module _ (tells : Bool) (words : List (List ℕ)) (old_in new_in : Reading) (old
   Leaves Paths answer = capture.Leaves PathsTexts (output_names words) (input_name words) old_in new_in old new answer
   Leaves Run answer = domain.Leaves words old_in new_in old new answer
 
-  -- the names that were given to the opening calls; those out of a domain file are spoken of where the
-  -- desk tells what it holds
-  abbrev pub AsksIn : Command → Type 0
-  AsksIn Filter = AsksFront old_in.side.asked new_in.side.asked (input_name words ∷ [])
-  AsksIn Paths = AsksFront old_in.side.asked new_in.side.asked (input_name words ∷ [])
-  AsksIn Run = domain.AsksFirst words old_in new_in old new × (IsTrue tells → domain.AsksIn words old_in new_in old new)
-
-  -- the outputs that the words name: a front of them was asked for, and all where the answer comes once they were written
+  -- the names that the words give to the opening calls: IN, unless two of them are equal, and a front
+  -- of the outputs, or all of them where the answer comes once they were written
   abbrev pub AsksNamed : Outcome → Type 0
-  AsksNamed answer = AsksFront old.side.asked new.side.asked (output_names words)
+  AsksNamed answer = ((new_in ≡ old_in) ⊎ AreApart (file_names words))
+      × AsksFront old_in.side.asked new_in.side.asked (input_name words ∷ [])
+      × AsksFront old.side.asked new.side.asked (output_names words)
       × (IsBehindAll ⊥ answer → new.side.asked ≡ old.side.asked ++ output_names words)
 
-  -- the names that were given to the opening calls of outputs: a front of these, or all of them where the answer comes once they were written
-  abbrev pub AsksOut : Command → Outcome → Type 0
-  AsksOut Filter answer = AsksNamed answer
-  AsksOut Paths answer = AsksNamed answer
-  AsksOut Run answer = domain.AsksLast words old_in new_in old new × (IsBehindAll ⊥ answer → domain.AsksAll words old_in new_in old new)
-      × (IsTrue tells → domain.AsksOut words old_in new_in old new)
+  -- the names that were given to the opening calls; those out of a domain file differ from each other
+  -- and from those of the words, and are named where the desk tells what it holds
+  abbrev pub Asks : Command → Outcome → Type 0
+  Asks Filter answer = AsksNamed answer
+  Asks Paths answer = AsksNamed answer
+  Asks Run answer = domain.AsksApart words old_in new_in old new × (IsBehindAll ⊥ answer → domain.AsksAll words old_in new_in old new)
+      × (IsTrue tells → domain.AsksIn words old_in new_in old new × domain.AsksOut words old_in new_in old new)
 
   -- where the names are refused nothing was opened; `run` has read DOMAIN and READINGS before, and
-  -- opens no output where one of these or the names are refused, nor before both were opened; where
-  -- DOMAIN is refused READINGS wasn't opened
+  -- opens no capture and no output where one of these or the names are refused, nor an output before
+  -- both were opened; where DOMAIN is refused READINGS wasn't opened
   abbrev pub IsUntouched : Command → Outcome → Type 0
   IsUntouched Filter answer = OpensNothing answer → (new_in ≡ old_in) × (new ≡ old)
   IsUntouched Paths answer = OpensNothing answer → (new_in ≡ old_in) × (new ≡ old)
-  IsUntouched Run answer = (domain.IsRefusal answer → new ≡ old) × (new_in.side.slots < old_in.side.slots + 2 → new ≡ old)
+  IsUntouched Run answer = (domain.IsRefusal answer → domain.OpensNone words old_in new_in old new) × (new_in.side.slots < old_in.side.slots + 2 → new ≡ old)
       × ((fault : DomainFault) → answer ≡ outcome.Domain fault → AsksFront old_in.side.asked new_in.side.asked (domain_file words ∷ []))
 
   -- each input was read to its end

@@ -1,6 +1,6 @@
 //! The top call: one run of a command over a desk.
 ghost use Rattle.std.specs.Prelude.{true, ◌≡◌, ◌≢◌, ◌↔◌, ◌⊎◌, IsTrue};
-ghost use Rattle.ioam_cmd.specs.Clauses.{Asked, HasCause, Leaves, AsksIn, AsksOut, AreDrained, AreWritten, IsBounded, IsUntouched};
+ghost use Rattle.ioam_cmd.specs.Clauses.{Asked, HasCause, Leaves, Asks, AreDrained, AreWritten, IsBounded, IsUntouched};
 ghost use Rattle.ioam_cmd.specs.Words.{IsForm, IsNoForm};
 ghost use Rattle.ioam_cmd.specs.declared.command.Command.{Command};
 ghost use Rattle.ioam_desk.specs.Desk.{Rose};
@@ -37,8 +37,7 @@ pub fn ioam<D: Desk>(alloc: Global, words: &[Name], desk: &mut D) -> Outcome
 
     // What its files hold, the names that it opened, and that its inputs were read to their ends where all is done.
     ensures leaves { (command : Command) → IsForm command words.now → IsTrue D.tells → Leaves D.tells words.now (D.reading desk.old) (D.reading desk.new) (D.writing desk.old) (D.writing desk.new) command result }
-    ensures asked_in { (command : Command) → IsForm command words.now → AsksIn D.tells words.now (D.reading desk.old) (D.reading desk.new) (D.writing desk.old) (D.writing desk.new) command }
-    ensures asked_out { (command : Command) → IsForm command words.now → AsksOut D.tells words.now (D.reading desk.old) (D.reading desk.new) (D.writing desk.old) (D.writing desk.new) command result }
+    ensures asked { (command : Command) → IsForm command words.now → Asks D.tells words.now (D.reading desk.old) (D.reading desk.new) (D.writing desk.old) (D.writing desk.new) command result }
     ensures drained { (command : Command) → IsForm command words.now → IsDone result → IsTrue D.tells → AreDrained D.tells words.now (D.reading desk.old) (D.reading desk.new) (D.writing desk.old) (D.writing desk.new) command }
 
     // Each packet in a capture of what leaves a domain, OUT of `filter` and those of the ports of `run`, has a whole header chain without an IOAM option.

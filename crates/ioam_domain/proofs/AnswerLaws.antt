@@ -8,7 +8,7 @@ use Rattle.ioam_outputs.specs.Names.{AreApart}
 use Rattle.ioam_answer.specs.Outcomes.{IsDone, IsBehindAll}
 use Rattle.ioam_answer.specs.declared.outcome.Outcome.{Outcome}
 use Rattle.ioam_answer.specs.declared.outcome.Outcome.TheVariants as outcome
-use Rattle.ioam_setting.proofs.NamesLaws.{apart-with_inputs, apart-with_outputs}
+use Rattle.ioam_setting.proofs.NamesLaws.{apart-with_captures}
 use Rattle.ioam_setting.specs.Setting.{IsSetting, Refuses}
 use Rattle.ioam_setting.specs.declared.setting.Refusal.{Refusal}
 use Rattle.ioam_setting.specs.declared.setting.Refusal.TheVariants as refusal
@@ -17,10 +17,10 @@ use Rattle.ioam_topo.specs.declared.domain.Domain.{Domain}
 use Rattle.ioam_domain_file.specs.declared.fault.DomainFault.{DomainFault}
 use Rattle.ioam_topo.specs.declared.parts.Port.{Port}
 use Rattle.ioam_domain.specs.Ends.{Ends, refused_as}
-use Rattle.ioam_domain.specs.Run.{HasCause, Asked, Leaves, AsksFirst, AsksIn, AsksLast, AsksAll, AsksOut, AreDrained, IsBounded, IsRefusal, HaveDiffered, Owes, IsSet, domain_file, readings_file, run_files, run_inputs, run_outputs, word_files}
+use Rattle.ioam_domain.specs.Run.{HasCause, Asked, Leaves, AsksApart, AsksIn, AsksAll, AsksOut, OpensNone, AreDrained, IsBounded, IsRefusal, HaveDiffered, Owes, IsSet, domain_file, readings_file, run_files, run_inputs, run_outputs, word_files}
 use Rattle.ioam_domain.proofs.AskedLaws.{HasCause-asked}
 use Rattle.ioam_domain.proofs.BoundLaws.{Leaves-bounded}
-use Rattle.ioam_domain.proofs.EndsLaws.{same_faults, Ends-cause, Ends-differed, Ends-leaves, Ends-drained, refused_differed, refused_domain, asks_more, asks_both, refused_cause, refused_leaves, refused_read, refused_other, refused_done, refused_short}
+use Rattle.ioam_domain.proofs.EndsLaws.{same_faults, Ends-cause, Ends-differed, Ends-leaves, Ends-drained, refused_differed, refused_domain, asks_more, asks_both, asks_none, refused_cause, refused_leaves, refused_read, refused_other, refused_done, refused_short}
 
 -- the domain or the readings are refused
 module _ (tells : Bool) (words : List (List ℕ)) (old_in new_in : Reading) (old new : Writing) (why : Refusal) (answer : Outcome)
@@ -72,13 +72,12 @@ module _ (tells : Bool) (words : List (List ℕ)) (old_in new_in : Reading) (old
     leaves = λ told. refused-leaves;
     exact = refused-exact;
     domain_first = λ fault so. first fault (refused_domain tells words old_in new_in old why fault (sym is ∙ so));
-    asked_first = inl asked;
+    asked_apart = inl (asked, same);
     asked_in = λ told. inl asked;
-    asked_last = inl (ap (λ (w : Writing). w.side.asked) same);
     asked_all = refused-all;
     asked_out = λ told. inl (ap (λ (w : Writing). w.side.asked) same);
     no_output = λ early. same;
-    untouched = λ refusal. same;
+    untouched = λ refusal. (asked, same);
     drained = λ done told. refused-drained done;
     boundary = λ behind told. refused-bounded behind;
   }
@@ -90,8 +89,8 @@ no_read_usage tells words domain mid_in new_in old new answer ends is =
     subst P is ends
 
 unwritten : (tells : Bool) (words : List (List ℕ)) (domain : Domain) (mid_in new_in : Reading) (old new : Writing) (answer : Outcome)
-    → Ends tells words domain mid_in new_in old new answer → IsRefusal answer → new ≡ old
-unwritten tells words domain mid_in new_in old new (outcome.Names name) ends refusal = ends.2
+    → Ends tells words domain mid_in new_in old new answer → IsRefusal answer → (new_in ≡ mid_in) × (new ≡ old)
+unwritten tells words domain mid_in new_in old new (outcome.Names name) ends refusal = (ends.1, ends.2)
 unwritten tells words domain mid_in new_in old new (outcome.Domain fault) ends refusal = absurd ends
 unwritten tells words domain mid_in new_in old new (outcome.Readings fault) ends refusal = absurd ends
 unwritten tells words domain mid_in new_in old new outcome.Done ends refusal = absurd refusal
@@ -163,38 +162,47 @@ module _ (tells : Bool) (words : List (List ℕ)) (old_in mid_in new_in : Readin
   none_asked still = asks_both old_in.side.asked new_in.side.asked (domain_file words) (readings_file words)
       (ap (λ (r : Reading). r.side.asked) still ∙ ap (λ (s : Side). s.asked) opened)
 
-  module _ (asked : (new_in ≡ mid_in) ⊎ (AreApart (run_files words domain) × AsksFront mid_in.side.asked new_in.side.asked (run_inputs domain))) where
-    ended-asked_first : AsksFirst words old_in new_in old new
-    ended-asked_first = ⊎_elim (λ still. inl (none_asked still))
-        (λ apart. inr (run_inputs domain, apart-with_inputs (ports domain) (word_files words) apart.0, both_asked (run_inputs domain) apart.1)) asked
+  -- the captures, where they were looked at
+  abbrev captures_out : List (List ℕ)
+  captures_out = map (λ (port : Port). port.output) (ports domain)
+
+  module _ (asked_in : (new_in ≡ mid_in) ⊎ (AreApart (run_files words domain) × AsksFront mid_in.side.asked new_in.side.asked (run_inputs domain)))
+      (asked_out : (new ≡ mid) ⊎ (AreApart (run_files words domain) × AsksFront mid.side.asked new.side.asked (run_outputs words domain))) where
+    front_in : AsksFront old_in.side.asked new_in.side.asked (domain_file words ∷ readings_file words ∷ run_inputs domain)
+    front_in = both_asked (run_inputs domain)
+        (⊎_elim (λ still. asks_none mid_in.side.asked new_in.side.asked (run_inputs domain) (ap (λ (r : Reading). r.side.asked) still)) (λ apart. apart.1) asked_in)
+
+    front_out : AsksFront old.side.asked new.side.asked (run_outputs words domain)
+    front_out = let P : Writing → Type 0 = λ w. AsksFront w.side.asked new.side.asked (run_outputs words domain) in
+        subst P same (⊎_elim (λ still. asks_none mid.side.asked new.side.asked (run_outputs words domain) (ap (λ (w : Writing). w.side.asked) still)) (λ apart. apart.1) asked_out)
+
+    asked_where_apart : AreApart (run_files words domain) → AsksApart words old_in new_in old new
+    asked_where_apart apart = inr (run_inputs domain, (captures_out, (apart-with_captures (ports domain) (word_files words) apart, front_in), front_out))
+
+    ended-asked_apart : AsksApart words old_in new_in old new
+    ended-asked_apart = ⊎_elim
+        (λ still. ⊎_elim (λ unwritten. inl (none_asked still, unwritten ∙ same)) (λ apart. asked_where_apart apart.0) asked_out)
+        (λ apart. asked_where_apart apart.0) asked_in
+
+    ended-asked_all : (IsBehindAll ⊥ answer → AreApart (run_files words domain) × (new.side.asked ≡ mid.side.asked ++ run_outputs words domain))
+        → IsBehindAll ⊥ answer → AsksAll words old_in new_in old new
+    ended-asked_all asked all =
+        let P : Writing → Type 0 = λ w. new.side.asked ≡ w.side.asked ++ run_outputs words domain in
+        (run_inputs domain, (captures_out, (apart-with_captures (ports domain) (word_files words) (asked all).0, front_in), subst P same (asked all).1))
 
     ended-asked_in : IsTrue tells → AsksIn words old_in new_in old new
     ended-asked_in told = ⊎_elim (λ still. inl (none_asked still))
-        (λ apart. inr (domain, record { set = set told; apart = apart.0 }, both_asked (run_inputs domain) apart.1)) asked
+        (λ apart. inr (domain, record { set = set told; apart = apart.0 }, front_in)) asked_in
 
-  ended-asked_out : (new ≡ mid) ⊎ (AreApart (run_files words domain) × AsksFront mid.side.asked new.side.asked (run_outputs words domain))
-      → IsTrue tells → AsksOut words old_in new_in old new
-  ended-asked_out asked told = ⊎_elim (λ still. inl (ap (λ (w : Writing). w.side.asked) (still ∙ same)))
-      (λ apart. let P : Writing → Type 0 = λ w. AsksFront w.side.asked new.side.asked (run_outputs words domain) in
-      inr (domain, record { set = set told; apart = apart.0 }, subst P same apart.1)) asked
+    ended-asked_out : IsTrue tells → AsksOut words old_in new_in old new
+    ended-asked_out told = ⊎_elim (λ still. inl (ap (λ (w : Writing). w.side.asked) (still ∙ same)))
+        (λ apart. inr (domain, record { set = set told; apart = apart.0 }, front_out)) asked_out
 
   ended-no_output : (new_in.side.slots < mid_in.side.slots + length (run_inputs domain) → new ≡ mid) → new_in.side.slots < old_in.side.slots + 2 → new ≡ old
   ended-no_output early few = early (omega (arith, few, ap (λ (s : Side). s.slots) opened)) ∙ same
 
-  ended-asked_last : (new ≡ mid) ⊎ (AreApart (run_files words domain) × AsksFront mid.side.asked new.side.asked (run_outputs words domain))
-      → AsksLast words old_in new_in old new
-  ended-asked_last asked = ⊎_elim (λ still. inl (ap (λ (w : Writing). w.side.asked) (still ∙ same)))
-      (λ apart. let P : Writing → Type 0 = λ w. AsksFront w.side.asked new.side.asked (run_outputs words domain) in
-      inr (map (λ (port : Port). port.output) (ports domain), apart-with_outputs (ports domain) (word_files words) apart.0, subst P same apart.1)) asked
-
-  ended-asked_all : (IsBehindAll ⊥ answer → AreApart (run_files words domain) × (new.side.asked ≡ mid.side.asked ++ run_outputs words domain))
-      → IsBehindAll ⊥ answer → AsksAll words old_in new_in old new
-  ended-asked_all asked all =
-      let P : Writing → Type 0 = λ w. new.side.asked ≡ w.side.asked ++ run_outputs words domain in
-      (map (λ (port : Port). port.output) (ports domain), apart-with_outputs (ports domain) (word_files words) (asked all).0, subst P same (asked all).1)
-
-  ended-untouched : IsRefusal answer → new ≡ old
-  ended-untouched refusal = unwritten tells words domain mid_in new_in old new answer ends refusal
+  ended-untouched : IsRefusal answer → OpensNone words old_in new_in old new
+  ended-untouched refusal = let none = unwritten tells words domain mid_in new_in old new answer ends refusal in (none_asked none.0, none.1)
 
   module _ (both : IsTrue tells → IsTrue (mid_in.ended old_in.side.slots) × IsTrue (mid_in.ended (old_in.side.slots + 1)))
       (kept : EndsKept mid_in.side.slots mid_in new_in)
@@ -212,11 +220,10 @@ module _ (tells : Bool) (words : List (List ℕ)) (old_in mid_in new_in : Readin
       leaves = ended-leaves;
       exact = ended-exact;
       domain_first = λ fault so. absurd (subst (λ (a : Outcome). Ends tells words domain mid_in new_in old new a) so ends);
-      asked_first = ended-asked_first asked_in;
-      asked_in = ended-asked_in asked_in;
-      asked_last = ended-asked_last asked_out;
-      asked_all = ended-asked_all all_out;
-      asked_out = ended-asked_out asked_out;
+      asked_apart = ended-asked_apart asked_in asked_out;
+      asked_in = ended-asked_in asked_in asked_out;
+      asked_all = ended-asked_all asked_in asked_out all_out;
+      asked_out = ended-asked_out asked_in asked_out;
       no_output = ended-no_output early;
       untouched = ended-untouched;
       drained = ended-drained both kept;

@@ -1,5 +1,5 @@
 -- From how a run ended whose domain and readings were read to what the whole run answers and leaves.
-use Rattle.std.proofs.Common.{◌≡◌, ℕ, suc, ◌+◌, ◌-◌, ◌<◌, Bool, IsTrue, List, [], ◌∷◌, ◌++◌, length, refl, sym, ◌∙◌, ap, subst, inl, inr, take, append_assoc, length-append, arith}
+use Rattle.std.proofs.Common.{◌≡◌, ℕ, suc, ◌+◌, ◌-◌, ◌<◌, Bool, IsTrue, List, [], ◌∷◌, ◌++◌, length, refl, sym, ◌∙◌, ap, subst, inl, inr, take, append-nil, append_assoc, length-append, arith}
 use Rattle.std.proofs.lemmas.Bool.{cases_lt}
 use Rattle.ioam_desk.specs.Asked.{AsksFront}
 use Rattle.ioam_desk.specs.Desk.{Side, Reading, Writing, Rose, opened_each}
@@ -143,6 +143,10 @@ asks_more start mid new first second names is (count, asked) =
 -- both were asked for, and no others
 pub asks_both : (start new : List (List ℕ)) (first second : List ℕ) → new ≡ start ++ first ∷ second ∷ [] → AsksFront start new (first ∷ second ∷ [])
 asks_both start new first second is = (2, is)
+
+-- none was asked for
+pub asks_none : (start new names : List (List ℕ)) → new ≡ start → AsksFront start new names
+asks_none start new names is = (0, is ∙ sym (append-nil start))
 
 -- a refusal of what a run is set by
 module _ (tells : Bool) (words : List (List ℕ)) (old_in new_in : Reading) (old : Writing) where

@@ -187,24 +187,27 @@ module _ (words : List (List ℕ)) (old_in new_in : Reading) (old new : Writing)
   Leaves (outcome.Readings fault) = new ≡ old
   Leaves (outcome.Names name) = new ≡ old
 
-  -- The names that were given to the opening calls, whatever the desk tells. Of those out of the domain
-  -- file so much: none is a file that the words name, nor is one there twice. The inputs are DOMAIN,
-  -- READINGS and some captures, or a front of these.
-  abbrev pub AsksFirst : Type 0
-  AsksFirst = AsksFront old_in.side.asked new_in.side.asked (domain_file words ∷ readings_file words ∷ [])
-      ⊎ ((names : List (List ℕ)) × AreApart (word_files words ++ names)
-      × AsksFront old_in.side.asked new_in.side.asked (domain_file words ∷ readings_file words ∷ names))
+  -- no capture was opened, and no output
+  abbrev pub OpensNone : Type 0
+  OpensNone = AsksFront old_in.side.asked new_in.side.asked (domain_file words ∷ readings_file words ∷ []) × (new ≡ old)
 
-  -- the outputs are none, or some captures, REPORT and EXPORTS, or a front of these
-  abbrev pub AsksLast : Type 0
-  AsksLast = (new.side.asked ≡ old.side.asked)
-      ⊎ ((names : List (List ℕ)) × AreApart (word_files words ++ names)
-      × AsksFront old.side.asked new.side.asked (names ++ report_file words ∷ exports_file words ∷ []))
+  -- these captures and the files that the words name all differ, and the inputs are DOMAIN, READINGS
+  -- and the first of the two lists, or a front of these
+  abbrev pub Reads : List (List ℕ) → List (List ℕ) → Type 0
+  Reads inputs outputs = AreApart (word_files words ++ (inputs ++ outputs))
+      × AsksFront old_in.side.asked new_in.side.asked (domain_file words ∷ readings_file words ∷ inputs)
 
-  -- or all of them
+  -- The names that were given to the opening calls, whatever the desk tells: no capture's and no
+  -- output's; or those of some captures that are read and of others that are written, with REPORT and
+  -- EXPORTS last of the outputs, or fronts of these. No two of all these files have one name.
+  abbrev pub AsksApart : Type 0
+  AsksApart = OpensNone ⊎ ((inputs : List (List ℕ)) × ((outputs : List (List ℕ)) × Reads inputs outputs
+      × AsksFront old.side.asked new.side.asked (outputs ++ report_file words ∷ exports_file words ∷ [])))
+
+  -- the same, and all outputs were asked for
   abbrev pub AsksAll : Type 0
-  AsksAll = (names : List (List ℕ)) × AreApart (word_files words ++ names)
-      × (new.side.asked ≡ old.side.asked ++ (names ++ report_file words ∷ exports_file words ∷ []))
+  AsksAll = (inputs : List (List ℕ)) × ((outputs : List (List ℕ)) × Reads inputs outputs
+      × (new.side.asked ≡ old.side.asked ++ (outputs ++ report_file words ∷ exports_file words ∷ [])))
 
   -- where the desk tells, the captures are those of the domain that DOMAIN holds
   abbrev pub AsksIn : Type 0
@@ -237,12 +240,11 @@ module _ (tells : Bool) (words : List (List ℕ)) (old_in new_in : Reading) (old
     pub exact : (asked : Outcome) → IsTrue tells → Asked old words asked → (Rose old_in.side.faults new_in.side.faults → ⊥)
         → (Rose old.side.faults new.side.faults → ⊥) → (answer ≡ asked) ⊎ (answer ≡ outcome.NoMemory)
     pub domain_first : (fault : DomainFault) → answer ≡ outcome.Domain fault → AsksFront old_in.side.asked new_in.side.asked (domain_file words ∷ [])
-    pub asked_first : AsksFirst words old_in new_in old new
+    pub asked_apart : AsksApart words old_in new_in old new
     pub asked_in : IsTrue tells → AsksIn words old_in new_in old new
-    pub asked_last : AsksLast words old_in new_in old new
     pub asked_all : IsBehindAll ⊥ answer → AsksAll words old_in new_in old new
     pub asked_out : IsTrue tells → AsksOut words old_in new_in old new
     pub no_output : new_in.side.slots < old_in.side.slots + 2 → new ≡ old
-    pub untouched : IsRefusal answer → new ≡ old
+    pub untouched : IsRefusal answer → OpensNone words old_in new_in old new
     pub drained : IsDone answer → IsTrue tells → AreDrained words old_in new_in old new
     pub boundary : IsBehindAll (old.side.slots < new.side.slots) answer → IsTrue tells → IsBounded words old_in new_in old new

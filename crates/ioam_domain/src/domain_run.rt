@@ -11,7 +11,7 @@ ghost use Rattle.ioam_setting.specs.declared.setting.Refusal.{Refusal};
 ghost use Rattle.ioam_topo.specs.Domain.{ports};
 ghost use Rattle.ioam_domain_file.specs.declared.fault.DomainFault.{DomainFault};
 ghost use Rattle.ioam_domain.specs.Ends.{Ends};
-ghost use Rattle.ioam_domain.specs.Run.{HasCause, Asked, Leaves, AsksFirst, AsksIn, AsksLast, AsksAll, AsksOut, AreDrained, IsBounded, IsRefusal, Owes, HaveDiffered, domain_file, readings_file, report_file, exports_file, run_files, run_inputs, run_outputs};
+ghost use Rattle.ioam_domain.specs.Run.{HasCause, Asked, Leaves, AsksApart, AsksIn, AsksAll, AsksOut, OpensNone, AreDrained, IsBounded, IsRefusal, Owes, HaveDiffered, domain_file, readings_file, report_file, exports_file, run_files, run_inputs, run_outputs};
 
 use crate::answer::refused;
 use ioam_answer::Outcome;
@@ -46,17 +46,16 @@ pub fn run_domain<D: Desk>(alloc: Global, words: &[Name], desk: &mut D) -> Outco
         → (Rose (D.reading desk.old).side.faults (D.reading desk.new).side.faults → ⊥)
         → (Rose (D.writing desk.old).side.faults (D.writing desk.new).side.faults → ⊥)
         → (result ≡ asked) ⊎ (result ≡ Outcome.NoMemory) }
-    // The names that were opened: READINGS isn't where DOMAIN is refused. Those out of the domain file are none of the words' files, and named where the desk tells.
+    // The names that were opened: READINGS isn't where DOMAIN is refused. Those out of the domain file and the words' files all differ, and are named where the desk tells.
     ensures domain_first { (fault : DomainFault) → result ≡ Outcome.Domain fault
         → AsksFront (D.reading desk.old).side.asked (D.reading desk.new).side.asked (domain_file words.now ∷ []) }
-    ensures asked_first { AsksFirst words.now (D.reading desk.old) (D.reading desk.new) (D.writing desk.old) (D.writing desk.new) }
+    ensures asked_apart { AsksApart words.now (D.reading desk.old) (D.reading desk.new) (D.writing desk.old) (D.writing desk.new) }
     ensures asked_in { IsTrue D.tells → AsksIn words.now (D.reading desk.old) (D.reading desk.new) (D.writing desk.old) (D.writing desk.new) }
-    ensures asked_last { AsksLast words.now (D.reading desk.old) (D.reading desk.new) (D.writing desk.old) (D.writing desk.new) }
     ensures asked_all { IsBehindAll ⊥ result → AsksAll words.now (D.reading desk.old) (D.reading desk.new) (D.writing desk.old) (D.writing desk.new) }
     ensures asked_out { IsTrue D.tells → AsksOut words.now (D.reading desk.old) (D.reading desk.new) (D.writing desk.old) (D.writing desk.new) }
-    // No output is opened before DOMAIN and READINGS, nor where DOMAIN, READINGS or the names are refused.
+    // No output is opened before DOMAIN and READINGS, nor an output or a capture where DOMAIN, READINGS or the names are refused.
     ensures no_output { (D.reading desk.new).side.slots < (D.reading desk.old).side.slots + 2 → D.writing desk.new ≡ D.writing desk.old }
-    ensures untouched { IsRefusal result → D.writing desk.new ≡ D.writing desk.old }
+    ensures untouched { IsRefusal result → OpensNone words.now (D.reading desk.old) (D.reading desk.new) (D.writing desk.old) (D.writing desk.new) }
     ensures drained { IsDone result → IsTrue D.tells
         → AreDrained words.now (D.reading desk.old) (D.reading desk.new) (D.writing desk.old) (D.writing desk.new) }
     // Each packet in a port's capture has a whole header chain without an IOAM option.

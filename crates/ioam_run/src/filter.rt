@@ -4,7 +4,7 @@ ghost use Rattle.ioam_ip.specs.Clean.{IsClean};
 ghost use Rattle.ioam_pcap.specs.Text.{IsCaptureOf};
 ghost use Rattle.ioam_desk.specs.Asked.{AsksFront};
 ghost use Rattle.ioam_desk.specs.Desk.{Rose, holds};
-ghost use Rattle.ioam_outputs.specs.Names.{name_at};
+ghost use Rattle.ioam_outputs.specs.Names.{name_at, AreApart};
 ghost use Rattle.ioam_run.specs.FilterText.{FilterTexts};
 ghost use Rattle.ioam_answer.specs.Outcomes.{IsDone, IsBehindAll, OpensNothing};
 ghost use Rattle.ioam_run.specs.Run.{HasCause, Asked, Leaves, file_names, input_name, output_names};
@@ -38,8 +38,9 @@ pub fn run_filter<D: Desk>(alloc: Global, words: &[Name], desk: &mut D) -> Outco
     // Each packet in OUT has a whole header chain without an IOAM option.
     ensures boundary { IsBehindAll ((D.reading desk.old).side.slots < (D.reading desk.new).side.slots) result → IsTrue D.tells
         → IsSomeAnd (holds (D.writing desk.new) (name_at words.now 2)) (IsCaptureOf IsClean) }
-    // Before IN was opened nothing changed, told or not, and no output is opened before IN; behind all of IN it was read to its end.
+    // Before IN was opened nothing changed, told or not; IN is opened only where the names differ, and no output before IN; behind all of IN it was read to its end.
     ensures unopened { OpensNothing result → D.reading desk.new ≡ D.reading desk.old }
+    ensures differed { (D.reading desk.new ≡ D.reading desk.old) ⊎ AreApart (file_names words.now) }
     ensures no_output { (D.reading desk.new).side.slots ≡ (D.reading desk.old).side.slots → D.writing desk.new ≡ D.writing desk.old }
     ensures drained { IsDone result → IsTrue D.tells → IsTrue ((D.reading desk.new).ended (D.reading desk.old).side.slots) }
 {

@@ -1,5 +1,5 @@
 //! A command over one capture: its names, its files and its answer.
-ghost use Rattle.std.specs.Prelude.{◌≡◌, ◌≢◌, ◌↔◌, ◌∷◌, ◌++◌, ◌+◌, ◌<◌, [], IfOk, IsTrue, length};
+ghost use Rattle.std.specs.Prelude.{◌≡◌, ◌≢◌, ◌↔◌, ◌∷◌, ◌++◌, ◌+◌, ◌<◌, ◌⊎◌, [], IfOk, IsTrue, length};
 ghost use Rattle.ioam_desk.specs.Asked.{AsksFront};
 ghost use Rattle.ioam_desk.specs.Desk.{holds};
 ghost use Rattle.ioam_feed.specs.Feed.{Fed};
@@ -34,6 +34,7 @@ pub fn run_over_capture<G: Gather, D: Desk>(alloc: Global, words: &[Name], desk:
     ensures asked_out { AsksFront (D.writing desk.old).side.asked (D.writing desk.new).side.asked (output_names words.now) }
     ensures all_out { IsBehindAll ⊥ result → (D.writing desk.new).side.asked ≡ (D.writing desk.old).side.asked ++ output_names words.now }
     ensures unopened { OpensNothing result → D.reading desk.new ≡ D.reading desk.old }
+    ensures differed { (D.reading desk.new ≡ D.reading desk.old) ⊎ AreApart (file_names words.now) }
     ensures no_output { (D.reading desk.new).side.slots ≡ (D.reading desk.old).side.slots → D.writing desk.new ≡ D.writing desk.old }
     ensures drained { IsDone result → IsTrue D.tells → IsTrue ((D.reading desk.new).ended (D.reading desk.old).side.slots) }
 {

@@ -2,6 +2,7 @@
 ghost use Rattle.std.specs.Prelude.{◌≡◌, ◌⊎◌, ◌∷◌, ◌++◌, [], IsTrue, length};
 ghost use Rattle.ioam_desk.specs.Asked.{AsksFront};
 ghost use Rattle.ioam_desk.specs.Desk.{Rose};
+ghost use Rattle.ioam_outputs.specs.Names.{AreApart};
 ghost use Rattle.ioam_run.specs.PathsText.{PathsTexts};
 ghost use Rattle.ioam_answer.specs.Outcomes.{IsDone, IsBehindAll, OpensNothing};
 ghost use Rattle.ioam_run.specs.Run.{HasCause, Asked, Leaves, file_names, input_name, output_names};
@@ -32,8 +33,9 @@ pub fn run_paths<D: Desk>(alloc: Global, words: &[Name], desk: &mut D) -> Outcom
         → (Rose (D.reading desk.old).side.faults (D.reading desk.new).side.faults → ⊥)
         → (Rose (D.writing desk.old).side.faults (D.writing desk.new).side.faults → ⊥)
         → (result ≡ asked) ⊎ (result ≡ Outcome.NoMemory) }
-    // Before IN was opened nothing changed, told or not, and no output is opened before IN; behind all of IN it was read to its end.
+    // Before IN was opened nothing changed, told or not; IN is opened only where the names differ, and no output before IN; behind all of IN it was read to its end.
     ensures unopened { OpensNothing result → D.reading desk.new ≡ D.reading desk.old }
+    ensures differed { (D.reading desk.new ≡ D.reading desk.old) ⊎ AreApart (file_names words.now) }
     ensures no_output { (D.reading desk.new).side.slots ≡ (D.reading desk.old).side.slots → D.writing desk.new ≡ D.writing desk.old }
     ensures drained { IsDone result → IsTrue D.tells → IsTrue ((D.reading desk.new).ended (D.reading desk.old).side.slots) }
 {

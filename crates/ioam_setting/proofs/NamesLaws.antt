@@ -255,17 +255,41 @@ inputs_differ (port ∷ ports) differ =
     (λ name near far. differ_apart (names_of port) rest differ name (Contains-append_left (input_of port.input) (port.output ∷ []) name near)
     (inputs_among ports name far))
 
--- where all files are apart, those that the words name are so together with what leaves, and with what arrives
+-- no capture of what arrives is one of what leaves
+arrives_or_leaves : (ports : List Port) → Differ (flat_map names_of ports) → (name : List ℕ) → Contains (input_names ports) name → Contains (outputs_of ports) name → ⊥
+arrives_or_leaves [] differ name near far = absurd (omega (arith, near.1))
+arrives_or_leaves (port ∷ ports) differ name near far =
+    let rest = flat_map names_of ports in
+    let own = input_of port.input in
+    let mine : port.output ≡ name → Contains (port.output ∷ []) name = λ is. (0, omega arith, is) in
+    ⊎_elim
+    (λ (here : Contains own name). ⊎_elim
+    (λ (is : port.output ≡ name). differ_apart own (port.output ∷ []) (differ_before (names_of port) rest differ) name here (mine is))
+    (λ (behind : Contains (outputs_of ports) name). differ_apart (names_of port) rest differ name
+    (Contains-append_left own (port.output ∷ []) name here) (among_ports ports name behind))
+    (first_or_behind port.output (outputs_of ports) name far))
+    (λ (later : Contains (input_names ports) name). ⊎_elim
+    (λ (is : port.output ≡ name). differ_apart (names_of port) rest differ name
+    (Contains-append_right own (port.output ∷ []) name (mine is)) (inputs_among ports name later))
+    (λ (behind : Contains (outputs_of ports) name). arrives_or_leaves ports (differ_behind (names_of port) rest differ) name later behind)
+    (first_or_behind port.output (outputs_of ports) name far))
+    (Contains-append_cases own (input_names ports) name near)
+
+captures_differ : (ports : List Port) → Differ (flat_map names_of ports) → Differ (input_names ports ++ outputs_of ports)
+captures_differ ports differ =
+    differ_join (input_names ports) (outputs_of ports) (inputs_differ ports differ) (outputs_differ ports differ) (arrives_or_leaves ports differ)
+
+captures_among : (ports : List Port) (name : List ℕ) → Contains (input_names ports ++ outputs_of ports) name → Contains (flat_map names_of ports) name
+captures_among ports name found =
+    ⊎_elim (inputs_among ports name) (among_ports ports name) (Contains-append_cases (input_names ports) (outputs_of ports) name found)
+
+-- where all files are apart, so are those that the words name, the captures of what arrives and those of what leaves
 module _ (ports : List Port) (words : List (List ℕ)) (apart : AreApart (file_names ports words)) where
   all_differ : Differ (words ++ flat_map names_of ports)
   all_differ = differ_from_apart (file_names ports words) apart
 
-  apart_with : (names : List (List ℕ)) → Differ names → ((name : List ℕ) → Contains names name → Contains (flat_map names_of ports) name) → AreApart (words ++ names)
-  apart_with names differ among = apart_from_differ (words ++ names) (differ_join words names (differ_before words (flat_map names_of ports) all_differ) differ
-      (λ name near far. differ_apart words (flat_map names_of ports) all_differ name near (among name far)))
-
-  pub apart-with_outputs : AreApart (words ++ map (λ (port : Port). port.output) ports)
-  apart-with_outputs = apart_with (outputs_of ports) (outputs_differ ports (differ_behind words (flat_map names_of ports) all_differ)) (among_ports ports)
-
-  pub apart-with_inputs : AreApart (words ++ input_names ports)
-  apart-with_inputs = apart_with (input_names ports) (inputs_differ ports (differ_behind words (flat_map names_of ports) all_differ)) (inputs_among ports)
+  pub apart-with_captures : AreApart (words ++ (input_names ports ++ outputs_of ports))
+  apart-with_captures = apart_from_differ (words ++ (input_names ports ++ outputs_of ports))
+      (differ_join words (input_names ports ++ outputs_of ports) (differ_before words (flat_map names_of ports) all_differ)
+      (captures_differ ports (differ_behind words (flat_map names_of ports) all_differ))
+      (λ name near far. differ_apart words (flat_map names_of ports) all_differ name near (captures_among ports name far)))

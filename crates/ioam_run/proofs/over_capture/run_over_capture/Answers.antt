@@ -1,4 +1,4 @@
-use Rattle.std.proofs.Common.{ℕ, List, rules, sym, subst, refl, arith}
+use Rattle.std.proofs.Common.{ℕ, List, rules, inr, sym, subst, refl, arith}
 use Rattle.ioam_outputs.specs.Names.{AreApart}
 use Rattle.ioam_run.specs.Run.{FileCause, file_names, input_name, output_names}
 use Rattle.ioam_outputs.proofs.NamesLaws.{found_name}
@@ -31,3 +31,8 @@ returns-in-None-clause-cause g c =
     (g.D.Desk.writing c.args.desk.now) (g.D.Desk.reading c.run_file.new.desk) (g.D.Desk.writing c.run_file.new.desk) c.run_file.result
     (subst Q (names_behind c.args.words.now) c.in-None.ensures)
     (subst P (found_name c.args.words.now 1 _ c.index-words-1.is (omega (arith, c.requires))) c.run_file.ensures.cause)
+
+pub returns-in-None-clause-differed : goal.returns-in-None-clause-differed
+returns-in-None-clause-differed g c =
+    let Q : List (List ℕ) → Type 0 = λ names. AreApart names in
+    inr (subst Q (names_behind c.args.words.now) c.in-None.ensures)
