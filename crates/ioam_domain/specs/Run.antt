@@ -191,22 +191,22 @@ module _ (words : List (List ℕ)) (old_in new_in : Reading) (old new : Writing)
   abbrev pub OpensNone : Type 0
   OpensNone = AsksFront old_in.side.asked new_in.side.asked (domain_file words ∷ readings_file words ∷ []) × (new ≡ old)
 
-  -- these captures and the files that the words name all differ, and the inputs are DOMAIN, READINGS
-  -- and the first of the two lists, or a front of these
-  abbrev pub Reads : List (List ℕ) → List (List ℕ) → Type 0
-  Reads inputs outputs = AreApart (word_files words ++ (inputs ++ outputs))
+  -- the captures of these two lists and the files that the words name all differ, and the inputs that
+  -- were asked for are DOMAIN, READINGS and the first list, or a front of these
+  abbrev pub AsksWith : List (List ℕ) → List (List ℕ) → Type 0
+  AsksWith inputs outputs = AreApart (word_files words ++ (inputs ++ outputs))
       × AsksFront old_in.side.asked new_in.side.asked (domain_file words ∷ readings_file words ∷ inputs)
 
   -- The names that were given to the opening calls, whatever the desk tells: no capture's and no
   -- output's; or those of some captures that are read and of others that are written, with REPORT and
   -- EXPORTS last of the outputs, or fronts of these. No two of all these files have one name.
   abbrev pub AsksApart : Type 0
-  AsksApart = OpensNone ⊎ ((inputs : List (List ℕ)) × ((outputs : List (List ℕ)) × Reads inputs outputs
+  AsksApart = OpensNone ⊎ ((inputs : List (List ℕ)) × ((outputs : List (List ℕ)) × AsksWith inputs outputs
       × AsksFront old.side.asked new.side.asked (outputs ++ report_file words ∷ exports_file words ∷ [])))
 
   -- the same, and all outputs were asked for
   abbrev pub AsksAll : Type 0
-  AsksAll = (inputs : List (List ℕ)) × ((outputs : List (List ℕ)) × Reads inputs outputs
+  AsksAll = (inputs : List (List ℕ)) × ((outputs : List (List ℕ)) × AsksWith inputs outputs
       × (new.side.asked ≡ old.side.asked ++ (outputs ++ report_file words ∷ exports_file words ∷ [])))
 
   -- where the desk tells, the captures are those of the domain that DOMAIN holds
