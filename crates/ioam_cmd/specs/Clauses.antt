@@ -39,12 +39,13 @@ module _ (tells : Bool) (words : List (List ℕ)) (old_in new_in : Reading) (old
   Leaves Run answer = domain.Leaves words old_in new_in old new answer
 
   -- the names that the words give to the opening calls: IN, unless two of them are equal, and a front
-  -- of the outputs, or all of them where the answer comes once they were written
+  -- of the outputs; IN and all of them where the answer comes once they were written
   abbrev pub AsksNamed : Outcome → Type 0
   AsksNamed answer = ((new_in ≡ old_in) ⊎ AreApart (file_names words))
       × AsksFront old_in.side.asked new_in.side.asked (input_name words ∷ [])
       × AsksFront old.side.asked new.side.asked (output_names words)
-      × (IsBehindAll ⊥ answer → new.side.asked ≡ old.side.asked ++ output_names words)
+      × (IsBehindAll ⊥ answer → (new_in.side.asked ≡ old_in.side.asked ++ input_name words ∷ [])
+      × (new.side.asked ≡ old.side.asked ++ output_names words))
 
   -- the names that were given to the opening calls; those out of a domain file differ from each other
   -- and from those of the words, and are named where the desk tells what it holds

@@ -1,5 +1,5 @@
 -- What a run owes for each of its answers: where it isn't set, and where its traffic ended.
-use Rattle.std.proofs.Common.{◌≡◌, ℕ, ◌+◌, ◌<◌, ◌⊎◌, Bool, IsTrue, List, [], ◌∷◌, ◌++◌, length, map, refl, sym, ◌∙◌, ap, subst, inl, inr, ⊎_elim, arith}
+use Rattle.std.proofs.Common.{◌≡◌, ℕ, ◌+◌, ◌<◌, ◌⊎◌, Bool, IsTrue, List, [], ◌∷◌, ◌++◌, length, map, refl, sym, ◌∙◌, ap, subst, inl, inr, ⊎_elim, append_assoc, arith}
 use Rattle.ioam_clock.specs.declared.sample.Sample.{Sample}
 use Rattle.ioam_desk.specs.Asked.{AsksFront}
 use Rattle.ioam_desk.specs.Desk.{Side, Reading, Writing, Rose, opened_each}
@@ -158,6 +158,12 @@ module _ (tells : Bool) (words : List (List ℕ)) (old_in mid_in new_in : Readin
   both_asked names asks = asks_more old_in.side.asked mid_in.side.asked new_in.side.asked (domain_file words) (readings_file words) names
       (ap (λ (s : Side). s.asked) opened) asks
 
+  -- the captures were asked for behind DOMAIN and READINGS
+  all_read : new_in.side.asked ≡ mid_in.side.asked ++ run_inputs domain
+      → new_in.side.asked ≡ old_in.side.asked ++ domain_file words ∷ readings_file words ∷ run_inputs domain
+  all_read read = read ∙ ap (λ (s : Side). s.asked ++ run_inputs domain) opened
+      ∙ append_assoc old_in.side.asked (domain_file words ∷ readings_file words ∷ []) (run_inputs domain)
+
   none_asked : new_in ≡ mid_in → AsksFront old_in.side.asked new_in.side.asked (domain_file words ∷ readings_file words ∷ [])
   none_asked still = asks_both old_in.side.asked new_in.side.asked (domain_file words) (readings_file words)
       (ap (λ (r : Reading). r.side.asked) still ∙ ap (λ (s : Side). s.asked) opened)
@@ -184,11 +190,14 @@ module _ (tells : Bool) (words : List (List ℕ)) (old_in mid_in new_in : Readin
         (λ still. ⊎_elim (λ unwritten. inl (none_asked still, unwritten ∙ same)) (λ apart. asked_where_apart apart.0) asked_out)
         (λ apart. asked_where_apart apart.0) asked_in
 
-    ended-asked_all : (IsBehindAll ⊥ answer → AreApart (run_files words domain) × (new.side.asked ≡ mid.side.asked ++ run_outputs words domain))
+    ended-asked_all : (IsBehindAll ⊥ answer → new_in.side.asked ≡ mid_in.side.asked ++ run_inputs domain)
+        → (IsBehindAll ⊥ answer → AreApart (run_files words domain) × (new.side.asked ≡ mid.side.asked ++ run_outputs words domain))
         → IsBehindAll ⊥ answer → AsksAll words old_in new_in old new
-    ended-asked_all asked all =
-        let P : Writing → Type 0 = λ w. new.side.asked ≡ w.side.asked ++ run_outputs words domain in
-        (run_inputs domain, (captures_out, (apart-with_captures (ports domain) (word_files words) (asked all).0, front_in), subst P same (asked all).1))
+    ended-asked_all read asked all =
+        let P : Writing → Type 0 = λ w. new.side.asked ≡ w.side.asked ++ run_outputs words domain in (
+          run_inputs domain,
+          (captures_out, apart-with_captures (ports domain) (word_files words) (asked all).0, (all_read (read all), subst P same (asked all).1)),
+        )
 
     ended-asked_in : IsTrue tells → AsksIn words old_in new_in old new
     ended-asked_in told = ⊎_elim (λ still. inl (none_asked still))
@@ -208,6 +217,7 @@ module _ (tells : Bool) (words : List (List ℕ)) (old_in mid_in new_in : Readin
       (kept : EndsKept mid_in.side.slots mid_in new_in)
       (asked_in : (new_in ≡ mid_in) ⊎ (AreApart (run_files words domain) × AsksFront mid_in.side.asked new_in.side.asked (run_inputs domain)))
       (asked_out : (new ≡ mid) ⊎ (AreApart (run_files words domain) × AsksFront mid.side.asked new.side.asked (run_outputs words domain)))
+      (all_in : IsBehindAll ⊥ answer → new_in.side.asked ≡ mid_in.side.asked ++ run_inputs domain)
       (all_out : IsBehindAll ⊥ answer → AreApart (run_files words domain) × (new.side.asked ≡ mid.side.asked ++ run_outputs words domain))
       (early : new_in.side.slots < mid_in.side.slots + length (run_inputs domain) → new ≡ mid) where
     pub ended-owes : Owes tells words old_in new_in old new answer
@@ -222,7 +232,7 @@ module _ (tells : Bool) (words : List (List ℕ)) (old_in mid_in new_in : Readin
       domain_first = λ fault so. absurd (subst (λ (a : Outcome). Ends tells words domain mid_in new_in old new a) so ends);
       asked_apart = ended-asked_apart asked_in asked_out;
       asked_in = ended-asked_in asked_in asked_out;
-      asked_all = ended-asked_all asked_in asked_out all_out;
+      asked_all = ended-asked_all asked_in asked_out all_in all_out;
       asked_out = ended-asked_out asked_in asked_out;
       no_output = ended-no_output early;
       untouched = ended-untouched;

@@ -204,10 +204,11 @@ module _ (words : List (List ℕ)) (old_in new_in : Reading) (old new : Writing)
   AsksApart = OpensNone ⊎ ((inputs : List (List ℕ)) × ((outputs : List (List ℕ)) × AsksWith inputs outputs
       × AsksFront old.side.asked new.side.asked (outputs ++ report_file words ∷ exports_file words ∷ [])))
 
-  -- the same, and all outputs were asked for
+  -- the same, and all of these captures and outputs were asked for
   abbrev pub AsksAll : Type 0
-  AsksAll = (inputs : List (List ℕ)) × ((outputs : List (List ℕ)) × AsksWith inputs outputs
-      × (new.side.asked ≡ old.side.asked ++ (outputs ++ report_file words ∷ exports_file words ∷ [])))
+  AsksAll = (inputs : List (List ℕ)) × ((outputs : List (List ℕ)) × AreApart (word_files words ++ (inputs ++ outputs))
+      × ((new_in.side.asked ≡ old_in.side.asked ++ domain_file words ∷ readings_file words ∷ inputs)
+      × (new.side.asked ≡ old.side.asked ++ (outputs ++ report_file words ∷ exports_file words ∷ []))))
 
   -- where the desk tells, the captures are those of the domain that DOMAIN holds
   abbrev pub AsksIn : Type 0

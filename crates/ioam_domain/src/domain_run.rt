@@ -117,6 +117,7 @@ fn run_set<D: Desk>(alloc: Global, words: &[Name], domain: &Domain, desk: &mut D
         × AsksFront (D.reading desk.old).side.asked (D.reading desk.new).side.asked (run_inputs domain.now)) }
     ensures asked_out { (D.writing desk.new ≡ D.writing desk.old) ⊎ (AreApart (run_files words.now domain.now)
         × AsksFront (D.writing desk.old).side.asked (D.writing desk.new).side.asked (run_outputs words.now domain.now)) }
+    ensures all_in { IsBehindAll ⊥ result → (D.reading desk.new).side.asked ≡ (D.reading desk.old).side.asked ++ run_inputs domain.now }
     ensures all_out { IsBehindAll ⊥ result → AreApart (run_files words.now domain.now)
         × ((D.writing desk.new).side.asked ≡ (D.writing desk.old).side.asked ++ run_outputs words.now domain.now) }
     ensures no_output { (D.reading desk.new).side.slots < (D.reading desk.old).side.slots + length (run_inputs domain.now)
@@ -141,6 +142,7 @@ fn run_apart<D: Desk>(alloc: Global, words: &[Name], domain: &Domain, desk: &mut
     ensures ends { Ends D.tells words.now domain.now (D.reading desk.old) (D.reading desk.new) (D.writing desk.old) (D.writing desk.new) result }
     ensures asked_in { AsksFront (D.reading desk.old).side.asked (D.reading desk.new).side.asked (run_inputs domain.now) }
     ensures asked_out { AsksFront (D.writing desk.old).side.asked (D.writing desk.new).side.asked (run_outputs words.now domain.now) }
+    ensures all_in { IsBehindAll ⊥ result → (D.reading desk.new).side.asked ≡ (D.reading desk.old).side.asked ++ run_inputs domain.now }
     ensures all_out { IsBehindAll ⊥ result → (D.writing desk.new).side.asked ≡ (D.writing desk.old).side.asked ++ run_outputs words.now domain.now }
     ensures no_output { (D.reading desk.new).side.slots < (D.reading desk.old).side.slots + length (run_inputs domain.now)
         → D.writing desk.new ≡ D.writing desk.old }

@@ -87,6 +87,23 @@ pub(crate) fn maybe_copied(alloc: Global, text: Option<&str>) -> Result<Option<N
     }
 }
 
+// A link of these parts.
+fn link_of(name: Name, ends: Ends, numbers: Numbers, tap: Option<Name>) -> Link
+    ensures { result ≡ record { name = name; from = record { 0 = ends.from }; to = record { 0 = ends.to }; out_id = numbers.out_id;
+        in_id = numbers.in_id; delay = numbers.delay; mtu = numbers.mtu; tap = tap } }
+{
+    Link {
+        name,
+        from: NodeId(ends.from),
+        to: NodeId(ends.to),
+        out_id: numbers.out_id,
+        in_id: numbers.in_id,
+        delay: numbers.delay,
+        mtu: numbers.mtu,
+        tap,
+    }
+}
+
 // The link of an entry, with its name.
 fn read_link<'a>(
     alloc: Global,
@@ -114,19 +131,7 @@ fn read_link<'a>(
     };
     let tap = spot.key(Field::TapKey, tap(links.taps, entry))?;
     match (Name::new(alloc, text), maybe_copied(alloc, tap)) {
-        (Ok(name), Ok(tap)) => Ok((
-            text,
-            Link {
-                name,
-                from: NodeId(ends.from),
-                to: NodeId(ends.to),
-                out_id: numbers.out_id,
-                in_id: numbers.in_id,
-                delay: numbers.delay,
-                mtu: numbers.mtu,
-                tap,
-            },
-        )),
+        (Ok(name), Ok(tap)) => Ok((text, link_of(name, ends, numbers, tap))),
         _ => Err(DomainRefused::NoMemory),
     }
 }

@@ -32,6 +32,7 @@ pub fn run_over_capture<G: Gather, D: Desk>(alloc: Global, words: &[Name], desk:
         (D.writing desk.old) (D.writing desk.new) result }
     ensures asked_in { AsksFront (D.reading desk.old).side.asked (D.reading desk.new).side.asked (input_name words.now ∷ []) }
     ensures asked_out { AsksFront (D.writing desk.old).side.asked (D.writing desk.new).side.asked (output_names words.now) }
+    ensures all_in { IsBehindAll ⊥ result → (D.reading desk.new).side.asked ≡ (D.reading desk.old).side.asked ++ input_name words.now ∷ [] }
     ensures all_out { IsBehindAll ⊥ result → (D.writing desk.new).side.asked ≡ (D.writing desk.old).side.asked ++ output_names words.now }
     ensures unopened { OpensNothing result → D.reading desk.new ≡ D.reading desk.old }
     ensures differed { (D.reading desk.new ≡ D.reading desk.old) ⊎ AreApart (file_names words.now) }
@@ -60,6 +61,7 @@ fn run_file<G: Gather, D: Desk>(
         (D.writing desk.old) (D.writing desk.new) result }
     ensures asked_in { AsksFront (D.reading desk.old).side.asked (D.reading desk.new).side.asked (input.now ∷ []) }
     ensures asked_out { AsksFront (D.writing desk.old).side.asked (D.writing desk.new).side.asked names.now }
+    ensures all_in { IsBehindAll ⊥ result → (D.reading desk.new).side.asked ≡ (D.reading desk.old).side.asked ++ input.now ∷ [] }
     ensures all_out { IsBehindAll ⊥ result → (D.writing desk.new).side.asked ≡ (D.writing desk.old).side.asked ++ names.now }
     ensures no_output { (D.reading desk.new).side.slots ≡ (D.reading desk.old).side.slots → D.writing desk.new ≡ D.writing desk.old }
     ensures drained { IsDone result → IsTrue D.tells → IsTrue ((D.reading desk.new).ended (D.reading desk.old).side.slots) }

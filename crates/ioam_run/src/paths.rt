@@ -27,6 +27,7 @@ pub fn run_paths<D: Desk>(alloc: Global, words: &[Name], desk: &mut D) -> Outcom
         (D.writing desk.old) (D.writing desk.new) result }
     ensures asked_in { AsksFront (D.reading desk.old).side.asked (D.reading desk.new).side.asked (input_name words.now ∷ []) }
     ensures asked_out { AsksFront (D.writing desk.old).side.asked (D.writing desk.new).side.asked (output_names words.now) }
+    ensures all_in { IsBehindAll ⊥ result → (D.reading desk.new).side.asked ≡ (D.reading desk.old).side.asked ++ input_name words.now ∷ [] }
     ensures all_out { IsBehindAll ⊥ result → (D.writing desk.new).side.asked ≡ (D.writing desk.old).side.asked ++ output_names words.now }
     // What is asked for is answered, unless a call of the desk failed or no memory could be had.
     ensures exact { (asked : Outcome) → IsTrue D.tells → Asked D.tells (D.writing desk.old) (file_names words.now) (input_name words.now) asked

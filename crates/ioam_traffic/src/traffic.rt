@@ -42,6 +42,7 @@ pub fn run_traffic<D: Desk>(
         (D.reading desk.old) (D.reading desk.new) (D.writing desk.old) (D.writing desk.new) result }
     ensures asked_in { AsksFront (D.reading desk.old).side.asked (D.reading desk.new).side.asked inputs.now }
     ensures asked_out { AsksFront (D.writing desk.old).side.asked (D.writing desk.new).side.asked outputs.now }
+    ensures all_in { IsEnd result → (D.reading desk.new).side.asked ≡ (D.reading desk.old).side.asked ++ inputs.now }
     ensures all_out { IsEnd result → (D.writing desk.new).side.asked ≡ (D.writing desk.old).side.asked ++ outputs.now }
     ensures no_output { (D.reading desk.new).side.slots < (D.reading desk.old).side.slots + length inputs.now
         → D.writing desk.new ≡ D.writing desk.old }
@@ -70,6 +71,7 @@ fn run_files<D: Desk>(
         (D.reading desk.old) (D.reading desk.new) (D.writing desk.old) (D.writing desk.new) result }
     ensures asked_in { AsksFront (D.reading desk.old).side.asked (D.reading desk.new).side.asked inputs.now }
     ensures asked_out { AsksFront (D.writing desk.old).side.asked (D.writing desk.new).side.asked outputs.now }
+    ensures all_in { IsEnd result → (D.reading desk.new).side.asked ≡ (D.reading desk.old).side.asked ++ inputs.now }
     ensures all_out { IsEnd result → (D.writing desk.new).side.asked ≡ (D.writing desk.old).side.asked ++ outputs.now }
     ensures no_output { (D.reading desk.new).side.slots < (D.reading desk.old).side.slots + length inputs.now
         → D.writing desk.new ≡ D.writing desk.old }

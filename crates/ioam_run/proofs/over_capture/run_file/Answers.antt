@@ -79,6 +79,11 @@ returns-clause-leaves g c = λ told.
     g.met.G.Gather.of_none (omega (arith, g.met.G.Gather.empty_sized, c.requires.1.1.1.1)) (subst P c.text.ensures (c.in-Ok-open_feed.ensures.fed.held told)) c.in-Ok-open_feed.ensures.outputs
     ((rw c.in-Err-NoMemory-open_outputs.field-0-is at c.in-Err-NoMemory-open_outputs.ensures.fault).1 told))
 
+pub returns-in-Ok-open_outputs-clause-all_in : goal.returns-in-Ok-open_outputs-clause-all_in
+returns-in-Ok-open_outputs-clause-all_in g c = λ all.
+    c.run_open.ensures.asked_in ∙ ap (λ (r : desk.Reading). r.side.asked) c.in-Ok-open_outputs.ensures.inputs
+    ∙ ap (λ (s : Side). s.asked) c.in-Ok-open_feed.ensures.opened.side ∙ ap (λ (name : List ℕ). (g.D.Desk.reading c.args.desk.now).side.asked ++ name ∷ []) c.text.ensures
+
 pub returns-in-Ok-open_outputs-clause-all_out : goal.returns-in-Ok-open_outputs-clause-all_out
 returns-in-Ok-open_outputs-clause-all_out g c = λ all.
     c.run_open.ensures.asked_out ∙ ap (λ (s : Side). s.asked) c.in-Ok-open_outputs.ensures.side
@@ -92,6 +97,9 @@ returns-in_default-clause-asked_in g c = (0, sym (append-nil (g.D.Desk.reading c
 
 pub returns-in_default-clause-asked_out : goal.returns-in_default-clause-asked_out
 returns-in_default-clause-asked_out g c = (0, sym (append-nil (g.D.Desk.writing c.args.desk.now).side.asked))
+
+pub returns-in_default-clause-all_in : goal.returns-in_default-clause-all_in
+returns-in_default-clause-all_in g c = λ none. absurd none
 
 pub returns-in_default-clause-all_out : goal.returns-in_default-clause-all_out
 returns-in_default-clause-all_out g c = λ none. absurd none
@@ -118,6 +126,9 @@ returns-in-Err-Failed-clause-asked_in g c =
 pub returns-in-Err-Failed-clause-asked_out : goal.returns-in-Err-Failed-clause-asked_out
 returns-in-Err-Failed-clause-asked_out g c = (0, ap (λ (w : Writing). w.side.asked) c.in-Err-Failed.ensures.outputs ∙ sym (append-nil (g.D.Desk.writing c.args.desk.now).side.asked))
 
+pub returns-in-Err-Failed-clause-all_in : goal.returns-in-Err-Failed-clause-all_in
+returns-in-Err-Failed-clause-all_in g c = λ none. absurd none
+
 pub returns-in-Err-Failed-clause-all_out : goal.returns-in-Err-Failed-clause-all_out
 returns-in-Err-Failed-clause-all_out g c = λ none. absurd none
 
@@ -137,6 +148,9 @@ returns-in-Err-NoMemory-clause-asked_in g c =
 
 pub returns-in-Err-NoMemory-clause-asked_out : goal.returns-in-Err-NoMemory-clause-asked_out
 returns-in-Err-NoMemory-clause-asked_out g c = (0, ap (λ (w : Writing). w.side.asked) c.in-Err-NoMemory.ensures.outputs ∙ sym (append-nil (g.D.Desk.writing c.args.desk.now).side.asked))
+
+pub returns-in-Err-NoMemory-clause-all_in : goal.returns-in-Err-NoMemory-clause-all_in
+returns-in-Err-NoMemory-clause-all_in g c = λ none. absurd none
 
 pub returns-in-Err-NoMemory-clause-all_out : goal.returns-in-Err-NoMemory-clause-all_out
 returns-in-Err-NoMemory-clause-all_out g c = λ none. absurd none
@@ -186,6 +200,9 @@ returns-in-Err-Failed-open_outputs-clause-asked_out g c =
     let asks = c.in-Err-Failed-open_outputs.ensures.asked in
     (asks.0, asks.1 ∙ ap (λ (w : Writing). w.side.asked ++ take asks.0 c.args.names.now) c.in-Ok-open_feed.ensures.outputs)
 
+pub returns-in-Err-Failed-open_outputs-clause-all_in : goal.returns-in-Err-Failed-open_outputs-clause-all_in
+returns-in-Err-Failed-open_outputs-clause-all_in g c = λ none. absurd none
+
 pub returns-in-Err-Failed-open_outputs-clause-all_out : goal.returns-in-Err-Failed-open_outputs-clause-all_out
 returns-in-Err-Failed-open_outputs-clause-all_out g c = λ none. absurd none
 
@@ -206,6 +223,9 @@ pub returns-clause-asked_out : goal.returns-clause-asked_out
 returns-clause-asked_out g c =
     let asks = c.in-Err-NoMemory-open_outputs.ensures.asked in
     (asks.0, asks.1 ∙ ap (λ (w : Writing). w.side.asked ++ take asks.0 c.args.names.now) c.in-Ok-open_feed.ensures.outputs)
+
+pub returns-clause-all_in : goal.returns-clause-all_in
+returns-clause-all_in g c = λ none. absurd none
 
 pub returns-clause-all_out : goal.returns-clause-all_out
 returns-clause-all_out g c = λ none. absurd none

@@ -88,3 +88,8 @@ pub returns-in-Ok-open_outputs-clause-all_out : goal.returns-in-Ok-open_outputs-
 returns-in-Ok-open_outputs-clause-all_out g c = λ end.
     c.run_open.ensures.asked_out ∙ ap (λ (s : Side). s.asked) c.in-Ok-open_outputs.ensures.side
     ∙ ap (λ (w : Writing). w.side.asked ++ c.args.outputs.now) c.in-Ok.ensures.outputs
+
+pub returns-in-Ok-open_outputs-clause-all_in : goal.returns-in-Ok-open_outputs-clause-all_in
+returns-in-Ok-open_outputs-clause-all_in g c = λ end.
+    c.run_open.ensures.asked_in ∙ ap (λ (r : Reading). r.side.asked) c.in-Ok-open_outputs.ensures.inputs
+    ∙ ap (λ (s : Side). s.asked) c.in-Ok.ensures.side
