@@ -9,11 +9,11 @@ use Rattle.ioam_toml.specs.declared.why.Why.{Why}
 use Rattle.ioam_toml.specs.Reads.{needed}
 use Rattle.ioam_toml.specs.Addresses.{group_of, groups_of, with_group, side_of, begins_gap, gap_at, number_of, whole_of, joined, cut_at, address_of, ranged, address, each_group, SpellsGroups, SpellsAll, SpellsShort, Spells}
 
-abbrev is_colon : ℕ → Bool
+abbrev pub is_colon : ℕ → Bool
 is_colon b = eqb b 58
 
 -- octets in front of the first part
-abbrev before_first_part : List ℕ → List (List ℕ) → List (List ℕ)
+abbrev pub before_first_part : List ℕ → List (List ℕ) → List (List ℕ)
 before_first_part digits [] = digits ∷ []
 before_first_part digits (part ∷ parts) = (digits ++ part) ∷ parts
 
@@ -26,7 +26,7 @@ some_part b bs false = by_parts (slice_split is_colon bs) where
   by_parts (part ∷ parts) = refl
 
 -- a text has a part at least
-parts_there : (s : List ℕ) → slice_split is_colon s ≡ before_first_part [] (slice_split is_colon s)
+pub parts_there : (s : List ℕ) → slice_split is_colon s ≡ before_first_part [] (slice_split is_colon s)
 parts_there [] = refl
 parts_there (b ∷ bs) = some_part b bs (eqb b 58)
 
@@ -43,7 +43,7 @@ at_octet digits b bs true rest more = ap (with_group (group_of digits)) (rest �
 at_octet digits b bs false rest more = more ∙ ap each_group (one_octet digits b (slice_split is_colon bs))
 
 -- the groups of a text are those of its parts
-split_groups : (digits s : List ℕ) → groups_of digits s ≡ each_group (before_first_part digits (slice_split is_colon s))
+pub split_groups : (digits s : List ℕ) → groups_of digits s ≡ each_group (before_first_part digits (slice_split is_colon s))
 split_groups digits [] = sym (ap (λ d. with_group (group_of d) (Some [])) (append-nil digits))
 split_groups digits (b ∷ bs) = at_octet digits b bs (eqb b 58) (split_groups [] bs) (split_groups (digits ++ b ∷ []) bs)
 

@@ -1,12 +1,12 @@
 -- Prefixes: an address, `/` and a prefix length, which is how many of its bits count (RFC 4291 section 2.3).
-use Rattle.std.specs.Prelude.{ℕ, ◌+◌, ◌-◌, ◌*◌, Bool, not, nat_le, ◌==◌, ◌&&◌, List, [], ◌∷◌, length, take, drop, slice_index, position, Option, Some, None, option_and_then, Result, if◌then◌else◌}
+use Rattle.std.specs.Prelude.{◌≡◌, ◌≤◌, ℕ, ◌+◌, ◌-◌, ◌*◌, Bool, not, nat_le, ◌==◌, ◌&&◌, List, [], ◌∷◌, ◌++◌, decimal, length, take, drop, slice_index, position, Option, Some, None, option_and_then, Result, if◌then◌else◌}
 use Rattle.toml.specs.Data.{Data}
 use Rattle.ioam_toml.specs.declared.why.Why.{Why}
 use Rattle.ioam_topo.specs.declared.prefix.Prefix.{Prefix}
 use Rattle.ioam_topo.specs.Prefixes.{masked}
 use Rattle.ioam_toml.specs.Reads.{◌▷◌}
 use Rattle.ioam_toml.specs.Texts.{text}
-use Rattle.ioam_toml.specs.Addresses.{address_of, ranged}
+use Rattle.ioam_toml.specs.Addresses.{address_of, ranged, Spells}
 
 -- the value of a decimal digit
 abbrev pub digit : ℕ → Option ℕ
@@ -43,3 +43,17 @@ slash_at s = position (λ b. b == 47) s
 
 abbrev pub prefix : Data → Result Prefix Why
 prefix d = text d ▷ (λ s. ranged (parted (slash_at s) s))
+
+-- a text is this prefix length, in decimal digits without a zero in front save `0` itself
+abbrev pub IsLength : List ℕ → ℕ → Type 0
+IsLength s n = (n ≤ 128) × (s ≡ decimal n)
+
+-- a text spells a prefix: an address, then `/`, then the prefix's length, and the prefix has the bits of that address within its length
+pub record SpellsPrefix (s : List ℕ) (p : Prefix) : Type 0 where
+  pub before : List ℕ
+  pub bits : ℕ
+  pub behind : List ℕ
+  pub slash : s ≡ before ++ 47 ∷ behind
+  pub spells : Spells before bits
+  pub is_length : IsLength behind p.length
+  pub is : p.bits ≡ masked p.length bits

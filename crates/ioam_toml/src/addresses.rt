@@ -159,6 +159,7 @@ pub(crate) fn address_of(text: &[u8]) -> Option<u128>
 pub fn address(entry: &Table, key: &str) -> Result<u128, Why>
     ensures value { result ≡ needed address (get_member key.now (table_view entry.now)) }
     ensures spelled { (s : List ℕ) (n : ℕ) → get_member key.now (table_view entry.now) ≡ Some (string s) → result ≡ Ok n → Spells s n }
+    ensures every { (s : List ℕ) (n : ℕ) → get_member key.now (table_view entry.now) ≡ Some (string s) → Spells s n → result ≡ Ok n }
 {
     match find(entry, key) {
         Some(value) => match text_of(value) {

@@ -1,8 +1,9 @@
-ghost use Rattle.std.specs.Prelude.{◌≡◌, ◌+◌, ◌-◌, ◌%◌, ◌^◌, ◌<◌, ◌≤◌, length, IfOk, IfSome};
-ghost use Rattle.toml.specs.Data.{get_member};
+ghost use Rattle.std.specs.Prelude.{◌≡◌, ◌+◌, ◌-◌, ◌%◌, ◌^◌, ◌<◌, ◌≤◌, ℕ, List, length, Some, Ok, IfOk, IfSome};
+ghost use Rattle.toml.specs.Data.{get_member, string};
 ghost use Rattle.toml.specs.View.{view, table_view};
 ghost use Rattle.ioam_toml.specs.Reads.{needed};
-ghost use Rattle.ioam_toml.specs.Prefixes.{digit, decimal_value, length_of, prefix_of, parted, slash_at, prefix};
+ghost use Rattle.ioam_toml.specs.Prefixes.{digit, decimal_value, length_of, prefix_of, parted, slash_at, prefix, SpellsPrefix};
+ghost use Rattle.ioam_topo.specs.declared.prefix.Prefix.{Prefix};
 
 use crate::addresses::address_of;
 use crate::finding::find;
@@ -96,9 +97,12 @@ fn prefix_in(value: &Value) -> Result<Prefix, Why>
 /// The prefix at a key that is needed: an address, `/` and a decimal number from 0 to 128 without
 /// a leading zero save `0` itself. Bits past that number are ignored, and are 0 in what is read.
 /// Missing where the key is absent, Kind where it is no text, Range where the text is no prefix.
+#[tactic(auto, using(crate::proofs::PrefixSpelledLaws::key_spells_prefix))]
 pub fn prefix(entry: &Table, key: &str) -> Result<Prefix, Why>
     ensures value { result ≡ needed prefix (get_member key.now (table_view entry.now)) }
     ensures small { IfOk result (λ p. p.length ≤ 128) }
+    ensures spelled { (s : List ℕ) (p : Prefix) → get_member key.now (table_view entry.now) ≡ Some (string s) → result ≡ Ok p → SpellsPrefix s p }
+    ensures every { (s : List ℕ) (p : Prefix) → get_member key.now (table_view entry.now) ≡ Some (string s) → SpellsPrefix s p → result ≡ Ok p }
 {
     match find(entry, key) {
         Some(value) => prefix_in(value),

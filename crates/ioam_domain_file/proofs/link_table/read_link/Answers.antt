@@ -47,6 +47,6 @@ returns-in-Ok-Ok c =
         end_is = search rules;
         name_is = search rules;
         new_name = fresh_new bytes_eq c.args.links.now.names _ c.in_ok-text.text.now f;
-        tap_is = tap_counts (get_member (codes "tap") (table_view c.args.entry.now)) _ tap;
+        tap_is = rw c.link_of.ensures (tap_counts (get_member (codes "tap") (table_view c.args.entry.now)) _ tap);
       },
     )
