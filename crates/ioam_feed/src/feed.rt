@@ -59,10 +59,7 @@ impl Feed {
         ensures slots { (D.reading desk.new).side.slots ≡ (D.reading desk.old).side.slots }
         ensures outputs { D.writing desk.new ≡ D.writing desk.old }
     {
-        let count = match desk.read(self.slot, piece) {
-            Ok(count) => count,
-            Err(fault) => return Err(fault),
-        };
+        let count = desk.read(self.slot, piece)?;
         if count == 0 {
             return Ok(false);
         }

@@ -106,10 +106,7 @@ impl Merge {
             → EndsKept start.base (D.reading desk.old) (D.reading desk.new) }
     {
         'captures: for place in 0..self.captures.len() {
-            match self.show_one(desk, place) {
-                Ok(()) => {}
-                Err(fault) => return Err(fault),
-            }
+            self.show_one(desk, place)?;
         }
         Ok(())
     }
@@ -132,10 +129,7 @@ impl Merge {
         ensures below { (start : Start) (taken : List Arrival) → Merging D.tells start (D.reading desk.old) self.old taken
             → EndsKept start.base (D.reading desk.old) (D.reading desk.new) }
     {
-        match self.show_all(desk) {
-            Ok(()) => {}
-            Err(fault) => return Err(fault),
-        }
+        self.show_all(desk)?;
         let turn = next_turn(&self.dues);
         if let Turn::Next { place, .. } = turn {
             self.dues[place] = Due::More;

@@ -28,10 +28,7 @@ fn open_one<D: Desk>(
     ensures outputs { D.writing desk.new ≡ D.writing desk.old }
     ensures below { EndsKept (D.reading desk.old).side.slots (D.reading desk.old) (D.reading desk.new) }
 {
-    let feed = match open_feed(alloc, desk, name) {
-        Ok(feed) => feed,
-        Err(fault) => return Err(fault),
-    };
+    let feed = open_feed(alloc, desk, name)?;
     match merge.add(feed) {
         Ok(()) => Ok(()),
         Err(NoMemory) => Err(DeskFault::NoMemory),
@@ -57,10 +54,7 @@ pub fn open_merge<D: Desk>(alloc: Global, desk: &mut D, names: &[Name]) -> Resul
         Err(NoMemory) => return Err(DeskFault::NoMemory),
     };
     'names: for name in names {
-        match open_one(alloc, &mut merge, desk, name.text()) {
-            Ok(()) => {}
-            Err(fault) => return Err(fault),
-        }
+        open_one(alloc, &mut merge, desk, name.text())?;
     }
     Ok(merge)
 }

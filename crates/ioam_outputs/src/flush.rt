@@ -70,10 +70,7 @@ fn flush_each<D: Desk>(desk: &mut D, outputs: &mut [Output], least: usize) -> Re
     ensures inputs { D.reading desk.new ≡ D.reading desk.old }
 {
     'outputs: for output in outputs.iter_mut() {
-        match flush_from(desk, output, least) {
-            Ok(()) => {}
-            Err(fault) => return Err(fault),
-        }
+        flush_from(desk, output, least)?;
     }
     Ok(())
 }

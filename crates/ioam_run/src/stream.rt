@@ -55,10 +55,7 @@ fn take_shown<G: Gather, D: Desk>(
             Ok(Some(pause)) => return Ok(pause),
             Err(NoMemory) => return Err(DeskFault::NoMemory),
         }
-        match flush_full(desk, outputs) {
-            Ok(()) => {}
-            Err(fault) => return Err(fault),
-        }
+        flush_full(desk, outputs)?;
     }
 }
 

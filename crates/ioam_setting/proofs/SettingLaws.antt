@@ -1,5 +1,5 @@
 -- Laws of the two files that a run is set by: what the second one's reading says once the first was read.
-use Rattle.std.proofs.Common.{◌≡◌, ℕ, suc, Bool, IsSomeAnd, Option, List, [], ◌∷◌, ◌++◌, take, Ok, Err, ◌∙◌, ap, subst, append_assoc}
+use Rattle.std.proofs.Common.{◌≡◌, ℕ, suc, Bool, IsSomeAnd, Option, List, [], ◌∷◌, ◌++◌, take, Result, Ok, Err, ◌∙◌, ap, subst, append_assoc}
 use Rattle.ioam_clock.specs.Reading.{readings_of, node_names}
 use Rattle.ioam_desk.specs.Asked.{AsksFront}
 use Rattle.ioam_desk.specs.Desk.{Side, Reading, Writing, Rose, holds, opened_side}
@@ -9,6 +9,10 @@ use Rattle.ioam_setting.specs.Reads.{IsDomainRead, AreReadingsRead}
 use Rattle.ioam_setting.specs.Setting.{Refuses}
 use Rattle.ioam_setting.specs.declared.setting.Refusal.{Refusal}
 use Rattle.ioam_setting.specs.declared.setting.Refusal.TheVariants as refusal
+
+-- the refusal of an answer is one only
+pub same_refusal : {T : Type 0} {answer : Result T Refusal} {why first last : Refusal} → answer ≡ Err why → why ≡ first → answer ≡ Err last → first ≡ last
+same_refusal is why_is so = cc
 
 -- one name was asked for, and then perhaps the next
 pub asks_next : (old mid new : Side) (first second : List ℕ) → mid ≡ opened_side old first

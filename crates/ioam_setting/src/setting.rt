@@ -128,13 +128,7 @@ pub fn read_setting<D: Desk>(
         → AsksFront (D.reading desk.old).side.asked (D.reading desk.new).side.asked (domain.now ∷ []) }
     ensures outputs { D.writing desk.new ≡ D.writing desk.old }
 {
-    let domain = match read_domain_file(alloc, desk, domain) {
-        Ok(domain) => domain,
-        Err(refusal) => return Err(refusal),
-    };
-    let readings = match read_readings_file(alloc, desk, &domain, readings) {
-        Ok(readings) => readings,
-        Err(refusal) => return Err(refusal),
-    };
+    let domain = read_domain_file(alloc, desk, domain)?;
+    let readings = read_readings_file(alloc, desk, &domain, readings)?;
     Ok(Setting { domain, readings })
 }

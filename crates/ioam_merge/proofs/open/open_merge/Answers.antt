@@ -18,13 +18,13 @@ names-init g c = record {
     side_none s = let P : List (List ℕ) → ℕ → Side = λ xs n. record { faults = s.faults; asked = xs; slots = n } in
         ap (λ xs. P xs s.slots) (sym (append-nil s.asked)) ∙ ap (P (s.asked ++ [])) (omega arith)
 
-pub returns-in-Err-open_one-clause-asked : goal.returns-in-Err-open_one-clause-asked
-returns-in-Err-open_one-clause-asked g c =
+pub returns-in_err-open_one-clause-asked : goal.returns-in_err-open_one-clause-asked
+returns-in_err-open_one-clause-asked g c =
     let name = c.text.result.now in
     let inside : c.names.name-index < length c.args.names.now = omega arith in
     let is : name ≡ get_or c.args.names.now c.names.name-index name = subst (λ (x : List ℕ). x ≡ get_or c.args.names.now c.names.name-index x) (sym c.text.ensures) c.name-item.is in
     asks_more (g.D.Desk.reading c.args.desk.now).side.asked (g.D.Desk.reading c.names.desk).side.asked (g.D.Desk.reading c.open_one.new.desk).side.asked
-    c.args.names.now c.names.name-index name inside is (ap (λ (s : Side). s.asked) c.names.invariant.side) c.in-Err-open_one.ensures.asked
+    c.args.names.now c.names.name-index name inside is (ap (λ (s : Side). s.asked) c.names.invariant.side) c.in_err-open_one.ensures.asked
 
 pub names-preserved : goal.names-preserved
 names-preserved g c =
@@ -35,19 +35,19 @@ names-preserved g c =
     let writing = g.D.Desk.writing c.args.desk.now in
     let inside : i < length names = omega arith in
     let is : name ≡ get_or names i name = subst (λ (x : List ℕ). x ≡ get_or names i x) (sym c.text.ensures) c.name-item.is in
-    let opened = c.in-Ok-open_one.ensures.opened (start_of base writing (take i names)) c.names.invariant.merging c.names.invariant.count in
+    let opened = c.in_ok-open_one.ensures.opened (start_of base writing (take i names)) c.names.invariant.merging c.names.invariant.count in
     let P : Writing → Type 0 = λ w. Merging g.D.Desk.tells (with_content (start_of base writing (take i names)) (holds w name)) (g.D.Desk.reading c.open_one.new.desk) c.open_one.new.merge [] in
     let Q : Start → Type 0 = λ s. Merging g.D.Desk.tells s (g.D.Desk.reading c.open_one.new.desk) c.open_one.new.merge [] in
     record {
       merging = subst Q (start_more base writing names i name inside is) (subst P c.names.invariant.outputs opened);
-      count = omega (arith, c.names.invariant.count, c.in-Ok-open_one.ensures.count, ap (λ (s : Side). s.slots) c.in-Ok-open_one.ensures.side);
+      count = omega (arith, c.names.invariant.count, c.in_ok-open_one.ensures.count, ap (λ (s : Side). s.slots) c.in_ok-open_one.ensures.side);
       side = side_more (g.D.Desk.reading c.args.desk.now).side (g.D.Desk.reading c.names.desk).side (g.D.Desk.reading c.open_one.new.desk).side names i name inside is
-          c.names.invariant.side c.in-Ok-open_one.ensures.side;
+          c.names.invariant.side c.in_ok-open_one.ensures.side;
       below = kept_on base (g.D.Desk.reading c.args.desk.now) (g.D.Desk.reading c.names.desk) (g.D.Desk.reading c.open_one.new.desk)
-          (omega (arith, c.names.invariant.count)) c.names.invariant.below c.in-Ok-open_one.ensures.below;
-      outputs = c.in-Ok-open_one.ensures.outputs ∙ c.names.invariant.outputs;
+          (omega (arith, c.names.invariant.count)) c.names.invariant.below c.in_ok-open_one.ensures.below;
+      outputs = c.in_ok-open_one.ensures.outputs ∙ c.names.invariant.outputs;
     }
 
-pub returns-in-Err-open_one-clause-below : goal.returns-in-Err-open_one-clause-below
-returns-in-Err-open_one-clause-below g c = kept_on (g.D.Desk.reading c.args.desk.now).side.slots (g.D.Desk.reading c.args.desk.now) (g.D.Desk.reading c.names.desk)
-    (g.D.Desk.reading c.open_one.new.desk) (omega (arith, c.names.invariant.count)) c.names.invariant.below c.in-Err-open_one.ensures.below
+pub returns-in_err-open_one-clause-below : goal.returns-in_err-open_one-clause-below
+returns-in_err-open_one-clause-below g c = kept_on (g.D.Desk.reading c.args.desk.now).side.slots (g.D.Desk.reading c.args.desk.now) (g.D.Desk.reading c.names.desk)
+    (g.D.Desk.reading c.open_one.new.desk) (omega (arith, c.names.invariant.count)) c.names.invariant.below c.in_err-open_one.ensures.below

@@ -1,4 +1,5 @@
 use Rattle.std.proofs.Common.{arith}
+use Rattle.std.proofs.lemmas.Result.{err_from_is_err_and}
 use Rattle.ioam_outputs.proofs.ToldLaws.{AreTold-open}
 use Rattle.ioam_run.proofs.HaltsLaws.{Streams-sticks, Streams-fronts, Pauses-step}
 use Rattle.ioam_run.proofs.stream.take_shown.Goals as goal
@@ -22,11 +23,14 @@ flush_full-requires g c =
     let streams = stepped.1 g.D.Desk.tells g.start (g.D.Desk.reading c.records.desk) (g.D.Desk.writing c.records.desk) c.records.stream.feed.slot c.records.invariant.streams in
     AreTold-open g.D.Desk.tells (g.D.Desk.writing c.records.desk) g.start.base g.start.names c.step.new.outputs streams.texts streams.told
 
-pub returns-in-Err-flush_full-clause-sticks : goal.returns-in-Err-flush_full-clause-sticks
-returns-in-Err-flush_full-clause-sticks g c =
+pub returns-in_err-flush_full-clause-sticks : goal.returns-in_err-flush_full-clause-sticks
+returns-in_err-flush_full-clause-sticks g c =
     let stepped = rw c.in-Ok-None.field-0-is at c.in-Ok-None.ensures.stepped in
     let streams = stepped.1 g.D.Desk.tells g.start (g.D.Desk.reading c.records.desk) (g.D.Desk.writing c.records.desk) c.records.stream.feed.slot c.records.invariant.streams in
+    let p = err_from_is_err_and c.from_residual.result c.from_residual.ensures.1 in
+    rw p.1 (
     Streams-sticks g.G.Gather.gathers g.G.Gather.count g.D.Desk.tells g.start
     (g.D.Desk.reading c.records.desk) (g.D.Desk.writing c.records.desk) c.records.stream.feed.slot c.step.new.reader c.step.new.ethernet c.step.new.gathered c.step.new.outputs streams g.G.Gather.texts g.G.Gather.sums g.met.G.Gather.any_link g.met.G.Gather.ends
     (omega (arith, g.met.G.Gather.sized c.step.new.gathered, c.records.invariant.width, c.step.auto.outputs)) (g.D.Desk.writing c.flush_full.new.desk)
-    (λ told. c.in-Err-flush_full.ensures.fronts told g.start.base g.start.names streams.texts streams.told)
+    (λ told. c.in_err-flush_full.ensures.fronts told g.start.base g.start.names streams.texts streams.told)
+    )

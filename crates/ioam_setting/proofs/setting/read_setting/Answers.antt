@@ -1,34 +1,37 @@
 use Rattle.std.proofs.Common.{◌≡◌}
+use Rattle.std.proofs.lemmas.Result.{err_from_is_err_and}
 use Rattle.ioam_clock.specs.Reading.{node_names}
 use Rattle.ioam_desk.specs.Desk.{holds}
 use Rattle.ioam_setting.specs.declared.setting.Refusal.TheVariants as refusal
-use Rattle.ioam_setting.proofs.SettingLaws.{asks_next, refuses_next, none_of_domain}
+use Rattle.ioam_setting.proofs.SettingLaws.{asks_next, refuses_next, none_of_domain, same_refusal}
 use Rattle.ioam_setting.proofs.setting.read_setting.Goals as goal
 
-pub returns-in-Err-read_readings_file-clause-refused :
-    goal.returns-in-Err-read_readings_file-clause-refused
-returns-in-Err-read_readings_file-clause-refused g c =
-    refuses_next g.D.Desk.tells (g.D.Desk.reading c.args.desk.now) (g.D.Desk.reading c.read_domain_file.new.desk)
+pub returns-in_err-readings-clause-refused :
+    goal.returns-in_err-readings-clause-refused
+returns-in_err-readings-clause-refused g c =
+    let p = err_from_is_err_and c.from_residual-in_err-readings.result c.from_residual-in_err-readings.ensures.1 in
+    rw (p.1, p.2) (refuses_next g.D.Desk.tells (g.D.Desk.reading c.args.desk.now) (g.D.Desk.reading c.read_domain_file.new.desk)
     (g.D.Desk.reading c.read_readings_file.new.desk) (g.D.Desk.writing c.args.desk.now) (g.D.Desk.writing c.read_domain_file.new.desk)
-    c.args.domain.now c.args.readings.now c.in-Ok.domain c.in-Ok.ensures.read c.in-Ok.ensures.side c.in-Ok.ensures.outputs
-    c.in-Err-read_readings_file.refusal c.in-Err-read_readings_file.ensures.read
+    c.args.domain.now c.args.readings.now c.in_ok-domain.domain c.in_ok-domain.ensures.read c.in_ok-domain.ensures.side c.in_ok-domain.ensures.outputs
+    c.in_err-readings.field-0.0 c.in_err-readings.ensures.read)
 
-pub returns-in-Err-read_readings_file-clause-asked :
-    goal.returns-in-Err-read_readings_file-clause-asked
-returns-in-Err-read_readings_file-clause-asked g c =
+pub returns-in_err-readings-clause-asked :
+    goal.returns-in_err-readings-clause-asked
+returns-in_err-readings-clause-asked g c =
     asks_next (g.D.Desk.reading c.args.desk.now).side (g.D.Desk.reading c.read_domain_file.new.desk).side
-    (g.D.Desk.reading c.read_readings_file.new.desk).side c.args.domain.now c.args.readings.now c.in-Ok.ensures.side
-    c.in-Err-read_readings_file.ensures.asked
+    (g.D.Desk.reading c.read_readings_file.new.desk).side c.args.domain.now c.args.readings.now c.in_ok-domain.ensures.side
+    c.in_err-readings.ensures.asked
 
 pub returns-clause-asked : goal.returns-clause-asked
 returns-clause-asked g c =
     asks_next (g.D.Desk.reading c.args.desk.now).side (g.D.Desk.reading c.read_domain_file.new.desk).side
-    (g.D.Desk.reading c.read_readings_file.new.desk).side c.args.domain.now c.args.readings.now c.in-Ok.ensures.side
-    c.in-Ok-read_readings_file.ensures.asked
+    (g.D.Desk.reading c.read_readings_file.new.desk).side c.args.domain.now c.args.readings.now c.in_ok-domain.ensures.side
+    c.in_ok-readings.ensures.asked
 
-pub returns-in-Err-read_readings_file-clause-domain_first :
-    goal.returns-in-Err-read_readings_file-clause-domain_first
-returns-in-Err-read_readings_file-clause-domain_first g c = λ fault is.
-    let same : c.in-Err-read_readings_file.refusal ≡ refusal.Domain fault = cc in
+pub returns-in_err-readings-clause-domain_first :
+    goal.returns-in_err-readings-clause-domain_first
+returns-in_err-readings-clause-domain_first g c = λ fault is.
+    let p = err_from_is_err_and c.from_residual-in_err-readings.result c.from_residual-in_err-readings.ensures.1 in
+    let same = same_refusal p.1 p.2 is in
     absurd (none_of_domain g.D.Desk.tells (g.D.Desk.reading c.read_domain_file.new.desk) (g.D.Desk.reading c.read_readings_file.new.desk)
-    (holds (g.D.Desk.writing c.read_domain_file.new.desk) c.args.readings.now) (node_names c.in-Ok.domain) c.in-Err-read_readings_file.refusal fault c.in-Err-read_readings_file.ensures.read same)
+    (holds (g.D.Desk.writing c.read_domain_file.new.desk) c.args.readings.now) (node_names c.in_ok-domain.domain) c.in_err-readings.field-0.0 fault c.in_err-readings.ensures.read same)
