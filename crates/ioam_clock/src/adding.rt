@@ -19,26 +19,11 @@ pub(crate) fn sample_of(words: &Words<'_>) -> Result<Sample, ReadWhy>
     ensures value { result ≡ sample_of (line_of words.now) }
     ensures small { IfOk result IsSmall }
 {
-    let time = match number(words.time, PAST_TIMES) {
-        Ok(time) => time,
-        Err(why) => return Err(why),
-    };
-    let clock = match number(words.clock, PAST_TIMES) {
-        Ok(clock) => clock,
-        Err(why) => return Err(why),
-    };
-    let delay = match maybe(words.delay, PAST_TIMES) {
-        Ok(delay) => delay,
-        Err(why) => return Err(why),
-    };
-    let queue = match maybe_u32(words.queue) {
-        Ok(queue) => queue,
-        Err(why) => return Err(why),
-    };
-    let buffer = match maybe_u32(words.buffer) {
-        Ok(buffer) => buffer,
-        Err(why) => return Err(why),
-    };
+    let time = number(words.time, PAST_TIMES)?;
+    let clock = number(words.clock, PAST_TIMES)?;
+    let delay = maybe(words.delay, PAST_TIMES)?;
+    let queue = maybe_u32(words.queue)?;
+    let buffer = maybe_u32(words.buffer)?;
     Ok(Sample {
         time,
         clock,

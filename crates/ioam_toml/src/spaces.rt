@@ -68,10 +68,7 @@ fn are_apart(alloc: Global, spaces: &[Namespace]) -> Result<bool, Refused>
 fn apart_spaces(alloc: Global, array: &Array) -> Result<Spaces, Refused>
     ensures { ReadsOr (λ held. held) result (spaces (array_view array.now) ▷ apart ▷ at_most SPACES_MOST) }
 {
-    let held = match small_spaces(alloc, array) {
-        Ok(held) => held,
-        Err(refused) => return Err(refused),
-    };
+    let held = small_spaces(alloc, array)?;
     match are_apart(alloc, held.as_slice()) {
         Ok(true) if held.len() <= SPACES_MOST => Ok(Spaces::new(held)),
         Ok(true) => Err(Refused::Because(Why::TooMany)),
