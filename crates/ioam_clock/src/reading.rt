@@ -91,10 +91,7 @@ fn no_samples(alloc: Global, nodes: usize) -> Result<Vec<Track>, NoMemory>
 {
     let mut tracks = Vec::new(alloc);
     for _ in 0..nodes {
-        match tracks.push(Track::new(alloc)) {
-            Ok(()) => {}
-            Err(_) => return Err(NoMemory),
-        }
+        tracks.push(Track::new(alloc))?;
     }
     Ok(tracks)
 }

@@ -52,14 +52,9 @@ impl Merge {
             link: None,
             ended: false,
         };
-        match self.captures.push(capture) {
-            Ok(()) => {}
-            Err(_) => return Err(NoMemory),
-        }
-        match self.dues.push(Due::More) {
-            Ok(()) => Ok(()),
-            Err(_) => Err(NoMemory),
-        }
+        self.captures.push(capture)?;
+        self.dues.push(Due::More)?;
+        Ok(())
     }
 
     // Asks one capture what is due of it, if that isn't known.

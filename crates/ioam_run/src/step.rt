@@ -48,10 +48,8 @@ pub fn step<G: Gather>(
             if gathered.taken() >= u64::from(MOST_PACKETS) {
                 return Ok(Some(Pause::Limit));
             }
-            match gathered.take(*ethernet, &captured, outputs) {
-                Ok(()) => Ok(None),
-                Err(NoMemory) => Err(NoMemory),
-            }
+            gathered.take(*ethernet, &captured, outputs)?;
+            Ok(None)
         }
         CapStep::More => Ok(Some(Pause::More)),
         CapStep::Bad { at, fault } => Ok(Some(Pause::Bad { at, fault })),

@@ -58,17 +58,11 @@ impl Names {
         requires { list_any (bytes_eq name.now) self.old ≡ false }
         ensures { OnOk result (self.new ≡ self.old ++ name.now ∷ []) }
     {
-        let name = match String::from_str(alloc, name) {
-            Ok(name) => name,
-            Err(_) => return Err(NoMemory),
-        };
+        let name = String::from_str(alloc, name)?;
         if self.held.len() >= MOST_NAMES {
             return Err(NoMemory);
         }
-        match self.held.insert_full(name) {
-            Ok(_) => {}
-            Err(_) => return Err(NoMemory),
-        }
+        self.held.insert_full(name)?;
         Ok(())
     }
 }

@@ -24,14 +24,14 @@ returns-in-Head-clause-stepped g c =
           (λ octets entries stands. let here = told.1 octets entries stands in (here.0.0, here.1.0, here.1.1)),
     )
 
-pub returns-in-Ok-clause-stepped : goal.returns-in-Ok-clause-stepped
-returns-in-Ok-clause-stepped g c =
+pub returns-in_ok-take-in-Packet-clause-stepped : goal.returns-in_ok-take-in-Packet-clause-stepped
+returns-in_ok-take-in-Packet-clause-stepped g c =
     let told = rw c.in-Packet.is at c.next.follows.holds-at-none in (
       omega (arith, told.0.3),
       λ tells start inputs outputs slot.
           Streams-record g.G.Gather.gathers g.G.Gather.count tells start inputs outputs slot c.args.reader.now c.next.follows.lender-at-none
           c.args.ethernet.now c.args.gathered.now c.take.new.self c.args.outputs.now c.take.new.outputs (entry_of c.in-Packet.captured)
-          (omega arith) c.in-Ok.ensures.counted told.0.1 told.0.0 told.1 c.in-Ok.ensures.gathers,
+          (omega arith) c.in_ok-take-in-Packet.ensures.counted told.0.1 told.0.0 told.1 c.in_ok-take-in-Packet.ensures.gathers,
     )
 
 pub taken-requires : goal.taken-requires
@@ -52,11 +52,11 @@ returns-then-taken-from-clause-fed g c = let told = rw c.in-Packet.is at c.next.
 pub returns-in-Head-clause-fed : goal.returns-in-Head-clause-fed
 returns-in-Head-clause-fed g c = let told = rw c.in-Head.is at c.next.follows.holds-at-none in omega (arith, told.0.0, told.0.2)
 
-pub returns-in-Ok-clause-fed : goal.returns-in-Ok-clause-fed
-returns-in-Ok-clause-fed g c = let told = rw c.in-Packet.is at c.next.follows.holds-at-none in omega (arith, told.0.1, told.0.3)
+pub returns-in_ok-take-in-Packet-clause-fed : goal.returns-in_ok-take-in-Packet-clause-fed
+returns-in_ok-take-in-Packet-clause-fed g c = let told = rw c.in-Packet.is at c.next.follows.holds-at-none in omega (arith, told.0.1, told.0.3)
 
-pub returns-in-Err-clause-fed : goal.returns-in-Err-clause-fed
-returns-in-Err-clause-fed g c = let told = rw c.in-Packet.is at c.next.follows.holds-at-none in omega (arith, told.0.1, told.0.3)
+pub returns-in_err-take-in-Packet-clause-fed : goal.returns-in_err-take-in-Packet-clause-fed
+returns-in_err-take-in-Packet-clause-fed g c = let told = rw c.in-Packet.is at c.next.follows.holds-at-none in omega (arith, told.0.1, told.0.3)
 
 pub returns-in-More-clause-stepped : goal.returns-in-More-clause-stepped
 returns-in-More-clause-stepped g c = let told = rw c.in-More.is at c.next.follows.holds-at-none in ((refl, refl, refl), told.0.0, told.0.1)
