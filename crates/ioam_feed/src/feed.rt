@@ -35,10 +35,8 @@ pub fn open_feed<D: Desk>(alloc: Global, desk: &mut D, name: &str) -> Result<Fee
         Ok(reader) => reader,
         Err(NoMemory) => return Err(DeskFault::NoMemory),
     };
-    match desk.open_in(name) {
-        Ok(slot) => Ok(Feed { slot, reader }),
-        Err(fault) => Err(fault),
-    }
+    let slot = desk.open_in(name)?;
+    Ok(Feed { slot, reader })
 }
 
 impl Feed {

@@ -68,10 +68,7 @@ pub fn maybe_number(entry: &Table, key: &str, low: u64, high: u64) -> Result<Opt
     ensures small { IfOk result (λ held. IfSome held (λ n. (low ≤ n) × (n ≤ high))) }
 {
     match find(entry, key) {
-        Some(value) => match number_of(low, high, value) {
-            Ok(number) => Ok(Some(number)),
-            Err(why) => Err(why),
-        },
+        Some(value) => Ok(Some(number_of(low, high, value)?)),
         None => Ok(None),
     }
 }

@@ -47,10 +47,7 @@ pub fn maybe_octets(alloc: Global, entry: &Table, key: &str) -> Result<Option<Oc
     ensures { ReadsOr (λ held. held) result (maybe octets (get_member key.now (table_view entry.now))) }
 {
     match find(entry, key) {
-        Some(value) => match octets_in(alloc, value) {
-            Ok(octets) => Ok(Some(octets)),
-            Err(refused) => Err(refused),
-        },
+        Some(value) => Ok(Some(octets_in(alloc, value)?)),
         None => Ok(None),
     }
 }

@@ -101,10 +101,7 @@ pub fn maybe_name<'a>(entry: &'a Table, key: &str) -> Result<Option<&'a str>, Wh
     ensures { Reads (option_map (λ t. t.now)) result (maybe name (get_member key.now (table_view entry.now))) }
 {
     match find(entry, key) {
-        Some(value) => match name_of(value) {
-            Ok(text) => Ok(Some(text)),
-            Err(why) => Err(why),
-        },
+        Some(value) => Ok(Some(name_of(value)?)),
         None => Ok(None),
     }
 }
@@ -126,10 +123,7 @@ pub fn maybe_file_name<'a>(entry: &'a Table, key: &str) -> Result<Option<&'a str
     ensures { Reads (option_map (λ t. t.now)) result (maybe file_name (get_member key.now (table_view entry.now))) }
 {
     match find(entry, key) {
-        Some(value) => match file_name_of(value) {
-            Ok(text) => Ok(Some(text)),
-            Err(why) => Err(why),
-        },
+        Some(value) => Ok(Some(file_name_of(value)?)),
         None => Ok(None),
     }
 }

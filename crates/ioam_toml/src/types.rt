@@ -17,16 +17,11 @@ const TYPE_MOST: u64 = 16_777_215;
 fn trace_type_of(value: &Value) -> Result<TraceType, Why>
     ensures { result ≡ trace_type (view value.now) }
 {
-    match number_of(0, TYPE_MOST, value) {
-        Ok(bits) => {
-            let kind = TraceType::new(bits as u32);
-            if kind.is_entry_type() {
-                Ok(kind)
-            } else {
-                Err(Why::Range)
-            }
-        }
-        Err(why) => Err(why),
+    let kind = TraceType::new(number_of(0, TYPE_MOST, value)? as u32);
+    if kind.is_entry_type() {
+        Ok(kind)
+    } else {
+        Err(Why::Range)
     }
 }
 
@@ -41,16 +36,11 @@ fn is_direct_type(kind: TraceType) -> bool
 fn direct_type_of(value: &Value) -> Result<TraceType, Why>
     ensures { result ≡ direct_type (view value.now) }
 {
-    match number_of(0, TYPE_MOST, value) {
-        Ok(bits) => {
-            let kind = TraceType::new(bits as u32);
-            if is_direct_type(kind) {
-                Ok(kind)
-            } else {
-                Err(Why::Range)
-            }
-        }
-        Err(why) => Err(why),
+    let kind = TraceType::new(number_of(0, TYPE_MOST, value)? as u32);
+    if is_direct_type(kind) {
+        Ok(kind)
+    } else {
+        Err(Why::Range)
     }
 }
 
@@ -79,10 +69,7 @@ pub fn maybe_trace_type(entry: &Table, key: &str) -> Result<Option<TraceType>, W
     ensures { result ≡ maybe trace_type (get_member key.now (table_view entry.now)) }
 {
     match find(entry, key) {
-        Some(value) => match trace_type_of(value) {
-            Ok(kind) => Ok(Some(kind)),
-            Err(why) => Err(why),
-        },
+        Some(value) => Ok(Some(trace_type_of(value)?)),
         None => Ok(None),
     }
 }
@@ -94,10 +81,7 @@ pub fn maybe_direct_type(entry: &Table, key: &str) -> Result<Option<TraceType>, 
     ensures { result ≡ maybe direct_type (get_member key.now (table_view entry.now)) }
 {
     match find(entry, key) {
-        Some(value) => match direct_type_of(value) {
-            Ok(kind) => Ok(Some(kind)),
-            Err(why) => Err(why),
-        },
+        Some(value) => Ok(Some(direct_type_of(value)?)),
         None => Ok(None),
     }
 }
@@ -109,10 +93,7 @@ pub fn maybe_edge_type(entry: &Table, key: &str) -> Result<Option<u16>, Why>
     ensures { result ≡ maybe edge_type (get_member key.now (table_view entry.now)) }
 {
     match find(entry, key) {
-        Some(value) => match edge_type_of(value) {
-            Ok(kind) => Ok(Some(kind)),
-            Err(why) => Err(why),
-        },
+        Some(value) => Ok(Some(edge_type_of(value)?)),
         None => Ok(None),
     }
 }

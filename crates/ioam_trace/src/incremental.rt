@@ -68,11 +68,9 @@ impl<'a> Incremental<'a> {
 fn decode_octets(octets: &[u8]) -> Result<Incremental<'_>, TraceFault>
     ensures { Decodes octets.now result }
 {
-    match survey(octets, true) {
-        Ok(head) => Ok(Incremental {
-            head,
-            area: &octets[8..],
-        }),
-        Err(fault) => Err(fault),
-    }
+    let head = survey(octets, true)?;
+    Ok(Incremental {
+        head,
+        area: &octets[8..],
+    })
 }

@@ -56,11 +56,9 @@ impl<'a> Trace<'a> {
 fn read_octets(octets: &[u8]) -> Result<Trace<'_>, TraceFault>
     ensures { Reads octets.now result }
 {
-    match survey(octets, false) {
-        Ok(head) => Ok(Trace {
-            head,
-            area: &octets[8..],
-        }),
-        Err(fault) => Err(fault),
-    }
+    let head = survey(octets, false)?;
+    Ok(Trace {
+        head,
+        area: &octets[8..],
+    })
 }
