@@ -56,12 +56,10 @@ pub(crate) struct Exporting {
 fn known_at(nodes: &Nodes, node: u32, read: Result<u16, Why>) -> Result<u16, Why>
     ensures { result ≡ read ▷ known_at (map list_of nodes.now.items.items) (Ok node) }
 {
-    match read {
-        Ok(space) => match nodes.items.get(node as usize) {
-            Some(known) if !known.namespaces.knows(space) => Err(Why::Range),
-            _ => Ok(space),
-        },
-        Err(why) => Err(why),
+    let space = read?;
+    match nodes.items.get(node as usize) {
+        Some(known) if !known.namespaces.knows(space) => Err(Why::Range),
+        _ => Ok(space),
     }
 }
 

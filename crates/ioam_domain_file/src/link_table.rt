@@ -79,18 +79,23 @@ pub(crate) fn maybe_copied(alloc: Global, text: Option<&str>) -> Result<Option<N
     ensures { IfOk result (λ name. name ≡ option_map (λ t. t.now) text.entry) }
 {
     match text {
-        Some(text) => match Name::new(alloc, text) {
-            Ok(name) => Ok(Some(name)),
-            Err(refused) => Err(refused),
-        },
+        Some(text) => Ok(Some(Name::new(alloc, text)?)),
         None => Ok(None),
     }
 }
 
 // A link of these parts.
 fn link_of(name: Name, ends: Ends, numbers: Numbers, tap: Option<Name>) -> Link
-    ensures { result ≡ record { name = name; from = record { 0 = ends.from }; to = record { 0 = ends.to }; out_id = numbers.out_id;
-        in_id = numbers.in_id; delay = numbers.delay; mtu = numbers.mtu; tap = tap } }
+    ensures { result ≡ record {
+      name = name;
+      from = record { 0 = ends.from };
+      to = record { 0 = ends.to };
+      out_id = numbers.out_id;
+      in_id = numbers.in_id;
+      delay = numbers.delay;
+      mtu = numbers.mtu;
+      tap = tap;
+    } }
 {
     Link {
         name,

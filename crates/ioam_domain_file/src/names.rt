@@ -26,10 +26,7 @@ pub(crate) fn known(names: &Names, entry: &Table, key: &str) -> Result<u32, Why>
     ensures value { result ≡ needed name (get_member key.now (table_view entry.now)) ▷ known names.now }
     ensures within { IfOk result (λ at. at < length names.now) }
 {
-    match name(entry, key) {
-        Ok(name) => known_name(names, name),
-        Err(why) => Err(why),
-    }
+    known_name(names, name(entry, key)?)
 }
 
 // The place of the name at a key of an entry, another than a place.

@@ -12,20 +12,14 @@ pub(crate) fn number32(entry: &Table, key: &str, low: u64, high: u64) -> Result<
     requires { high < 2 ^ 32 }
     ensures { result ≡ needed (number low high) (get_member key.now (table_view entry.now)) }
 {
-    match number(entry, key, low, high) {
-        Ok(number) => Ok(number as u32),
-        Err(why) => Err(why),
-    }
+    Ok(number(entry, key, low, high)? as u32)
 }
 
 // The 16-bit number at a key that is needed.
 pub(crate) fn number16(entry: &Table, key: &str) -> Result<u16, Why>
     ensures { result ≡ needed (number 0 65535) (get_member key.now (table_view entry.now)) }
 {
-    match number(entry, key, 0, 65535) {
-        Ok(number) => Ok(number as u16),
-        Err(why) => Err(why),
-    }
+    Ok(number(entry, key, 0, 65535)? as u16)
 }
 
 // The 8-bit number at a key that is needed.
@@ -33,10 +27,7 @@ pub(crate) fn number8(entry: &Table, key: &str, low: u64, high: u64) -> Result<u
     requires { high < 2 ^ 8 }
     ensures { result ≡ needed (number low high) (get_member key.now (table_view entry.now)) }
 {
-    match number(entry, key, low, high) {
-        Ok(number) => Ok(number as u8),
-        Err(why) => Err(why),
-    }
+    Ok(number(entry, key, low, high)? as u8)
 }
 
 // The 32-bit number at a key, 0 where it is absent.
@@ -44,10 +35,7 @@ pub(crate) fn number32_or_0(entry: &Table, key: &str, high: u64) -> Result<u32, 
     requires { high < 2 ^ 32 }
     ensures { result ≡ optional 0 (number 0 high) (get_member key.now (table_view entry.now)) }
 {
-    match number_or(entry, key, 0, high, 0) {
-        Ok(number) => Ok(number as u32),
-        Err(why) => Err(why),
-    }
+    Ok(number_or(entry, key, 0, high, 0)? as u32)
 }
 
 // The 32-bit number at a key that may be absent.
@@ -60,10 +48,9 @@ pub(crate) fn maybe_number32(
     requires { high < 2 ^ 32 }
     ensures { result ≡ maybe (number low high) (get_member key.now (table_view entry.now)) }
 {
-    match maybe_number(entry, key, low, high) {
-        Ok(Some(number)) => Ok(Some(number as u32)),
-        Ok(None) => Ok(None),
-        Err(why) => Err(why),
+    match maybe_number(entry, key, low, high)? {
+        Some(number) => Ok(Some(number as u32)),
+        None => Ok(None),
     }
 }
 
@@ -77,9 +64,8 @@ pub(crate) fn maybe_number8(
     requires { high < 2 ^ 8 }
     ensures { result ≡ maybe (number low high) (get_member key.now (table_view entry.now)) }
 {
-    match maybe_number(entry, key, low, high) {
-        Ok(Some(number)) => Ok(Some(number as u8)),
-        Ok(None) => Ok(None),
-        Err(why) => Err(why),
+    match maybe_number(entry, key, low, high)? {
+        Some(number) => Ok(Some(number as u8)),
+        None => Ok(None),
     }
 }

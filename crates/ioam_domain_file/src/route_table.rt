@@ -31,12 +31,10 @@ fn route_node(parts: &Parts, entry: &toml::Table) -> Result<u32, Why>
 fn link_from(parts: &Parts, node: u32, name: &str) -> Result<u32, Why>
     ensures { result ≡ known parts.now.links.names name.now ▷ (λ i. agrees (Ok node) (read_at (map from_of parts.now.links.items.items) i) i) }
 {
-    match known_name(&parts.links.names, name) {
-        Ok(at) => match parts.links.items.get(at as usize) {
-            Some(link) if link.from.0 != node => Err(Why::Range),
-            _ => Ok(at),
-        },
-        Err(why) => Err(why),
+    let at = known_name(&parts.links.names, name)?;
+    match parts.links.items.get(at as usize) {
+        Some(link) if link.from.0 != node => Err(Why::Range),
+        _ => Ok(at),
     }
 }
 
@@ -44,12 +42,10 @@ fn link_from(parts: &Parts, node: u32, name: &str) -> Result<u32, Why>
 fn port_at(parts: &Parts, node: u32, name: &str) -> Result<u32, Why>
     ensures { result ≡ known parts.now.ports.names name.now ▷ (λ i. agrees (Ok node) (read_at (map node_of_port parts.now.ports.items.items) i) i) }
 {
-    match known_name(&parts.ports.names, name) {
-        Ok(at) => match parts.ports.items.get(at as usize) {
-            Some(port) if port.node.0 != node => Err(Why::Range),
-            _ => Ok(at),
-        },
-        Err(why) => Err(why),
+    let at = known_name(&parts.ports.names, name)?;
+    match parts.ports.items.get(at as usize) {
+        Some(port) if port.node.0 != node => Err(Why::Range),
+        _ => Ok(at),
     }
 }
 
@@ -58,14 +54,10 @@ fn route_link(parts: &Parts, node: u32, entry: &toml::Table) -> Result<Option<u3
     ensures { result ≡ link_part (λ d. name d ▷ known parts.now.links.names ▷ (λ i. agrees (Ok node) (read_at (map from_of parts.now.links.items.items) i) i))
         (get_member (codes "link") (table_view entry.now)) (is_some (get_member (codes "port") (table_view entry.now))) }
 {
-    match maybe_name(entry, "link") {
-        Ok(Some(name)) => match link_from(parts, node, name) {
-            Ok(at) => Ok(Some(at)),
-            Err(why) => Err(why),
-        },
-        Ok(None) if has(entry, "port") => Ok(None),
-        Ok(None) => Err(Why::Missing),
-        Err(why) => Err(why),
+    match maybe_name(entry, "link")? {
+        Some(name) => Ok(Some(link_from(parts, node, name)?)),
+        None if has(entry, "port") => Ok(None),
+        None => Err(Why::Missing),
     }
 }
 
@@ -74,14 +66,12 @@ fn route_port(parts: &Parts, node: u32, entry: &toml::Table) -> Result<Option<u3
     ensures { result ≡ port_part (λ d. name d ▷ known parts.now.ports.names ▷ (λ i. agrees (Ok node) (read_at (map node_of_port parts.now.ports.items.items) i) i))
         (get_member (codes "port") (table_view entry.now)) (is_some (get_member (codes "link") (table_view entry.now))) }
 {
-    match maybe_name(entry, "port") {
-        Ok(Some(name)) => match port_at(parts, node, name) {
-            Ok(_) if has(entry, "link") => Err(Why::Twice),
-            Ok(at) => Ok(Some(at)),
-            Err(why) => Err(why),
+    match maybe_name(entry, "port")? {
+        Some(name) => match port_at(parts, node, name)? {
+            _ if has(entry, "link") => Err(Why::Twice),
+            at => Ok(Some(at)),
         },
-        Ok(None) => Ok(None),
-        Err(why) => Err(why),
+        None => Ok(None),
     }
 }
 

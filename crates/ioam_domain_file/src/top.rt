@@ -37,10 +37,7 @@ fn format_of(top: &toml::Table) -> Result<Format, Why>
     ensures { result ≡ format_of (table_view top.now) }
 {
     match find(top, "format") {
-        Some(value) => match text_of(value) {
-            Ok(name) => format_named(name),
-            Err(why) => Err(why),
-        },
+        Some(value) => format_named(text_of(value)?),
         None => Ok(Format::Ptp),
     }
 }
@@ -49,10 +46,7 @@ fn format_of(top: &toml::Table) -> Result<Format, Why>
 fn packets_of(top: &toml::Table) -> Result<u32, Why>
     ensures { result ≡ packets_of (table_view top.now) }
 {
-    match number_or(top, "packets", 1, 16_777_216, 1_000_000) {
-        Ok(number) => Ok(number as u32),
-        Err(why) => Err(why),
-    }
+    Ok(number_or(top, "packets", 1, 16_777_216, 1_000_000)? as u32)
 }
 
 // The file's own keys.
