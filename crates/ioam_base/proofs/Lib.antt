@@ -2,3 +2,4 @@ pub mod LeadsLaws
 pub mod OctetsLaws
 pub mod ResultLaws
 pub mod WordsLaws
+pub mod DecimalLaws

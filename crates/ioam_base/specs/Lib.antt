@@ -1,3 +1,4 @@
 pub mod Leads
 pub mod Octets
 pub mod Words
+pub mod Decimal

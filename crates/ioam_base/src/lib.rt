@@ -1,8 +1,10 @@
 //! What every other crate stands on: the one refusal for want of memory, numbers in octets,
-//! room for the octets of one value, and texts that are appended whole or not at all.
+//! numbers in decimal digits, room for the octets of one value, and texts that are appended whole
+//! or not at all.
 #![tactic(auto)]
 
 pub mod buffer;
+pub mod digits;
 pub mod memory;
 pub mod octets;
 pub mod text;

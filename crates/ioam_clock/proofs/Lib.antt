@@ -3,4 +3,4 @@ mod TrackLaws
 mod LineLaws
 mod ReadingLaws
 mod FileLaws
-mod DecimalLaws
+mod SpelledLaws

@@ -6,3 +6,4 @@ pub mod Reading
 pub mod Adding
 pub mod File
 pub mod Stamp
+pub mod Spelled

@@ -1,5 +1,6 @@
 -- The numbers of a line.
-use Rattle.std.specs.Prelude.{ℕ, ◌+◌, ◌-◌, ◌*◌, Bool, nat_lt, nat_le, ◌==◌, ◌&&◌, ◌||◌, List, [], ◌∷◌, length, slice_index, Option, Some, None, Result, Ok, Err, if◌then◌else◌}
+use Rattle.std.specs.Prelude.{ℕ, ◌==◌, ◌&&◌, Bool, List, length, slice_index, Option, Some, None, Result, Ok, Err, if◌then◌else◌}
+use Rattle.ioam_base.specs.Decimal.{decimal_below}
 use Rattle.ioam_clock.specs.declared.fault.ReadWhy.{ReadWhy}
 use Rattle.ioam_clock.specs.declared.fault.ReadWhy.TheVariants.{Number}
 
@@ -9,27 +10,14 @@ abbrev pub ◌▷◌ : {A B : Type 0} → Result A ReadWhy → (A → Result B R
 Ok x ▷ f = f x
 Err why ▷ f = Err why
 
--- a decimal digit, 0 to 9
-abbrev pub is_digit : ℕ → Bool
-is_digit octet = nat_le 48 octet && nat_le octet 57
-
--- the number that decimal digits write behind those that were read; None where an octet is no digit
-abbrev pub value_from : ℕ → List ℕ → Option ℕ
-value_from n [] = Some n
-value_from n (c ∷ cs) = if is_digit c then value_from (n * 10 + (c - 48)) cs else None
-
--- no digits, or a zero in front of others
-abbrev pub is_ill : List ℕ → Bool
-is_ill word = (length word == 0) || (nat_lt 1 (length word) && (slice_index word 0 == 48))
-
--- a number that is below a limit
-abbrev pub below : ℕ → Option ℕ → Result ℕ ReadWhy
-below limit None = Err Number
-below limit (Some n) = if nat_lt n limit then Ok n else Err Number
+-- a number, where there is one
+abbrev pub numbered : Option ℕ → Result ℕ ReadWhy
+numbered None = Err Number
+numbered (Some n) = Ok n
 
 -- decimal digits without a zero in front, save `0` itself, of a number below a limit
 abbrev pub number : ℕ → List ℕ → Result ℕ ReadWhy
-number limit word = if is_ill word then Err Number else below limit (value_from 0 word)
+number limit word = numbered (decimal_below limit word)
 
 -- what was read, as what is there
 abbrev pub there : Result ℕ ReadWhy → Result (Option ℕ) ReadWhy

@@ -1,10 +1,12 @@
-ghost use Rattle.std.specs.Prelude.{◌≡◌, ◌≤◌, ◌<◌, length, replicate, [], IfOk, vec_len};
+ghost use Rattle.std.specs.Prelude.{◌≡◌, ◌↔◌, ◌≤◌, ◌<◌, ℕ, List, length, replicate, [], Ok, IfOk, vec_len};
 ghost use Rattle.ioam_topo.specs.Domain.{nodes};
 ghost use Rattle.ioam_clock.specs.declared.reading.TheConstants.{FILE_MOST};
 ghost use Rattle.ioam_clock.specs.Lines.{lines};
 ghost use Rattle.ioam_clock.specs.Reading.{node_of, node_names, line_added, lines_added, readings_of, IsReading};
 ghost use Rattle.ioam_clock.specs.Adding.{Adds, AddsLines, refused_at};
-ghost use Rattle.ioam_clock.specs.File.{IsFileRead};
+ghost use Rattle.ioam_clock.specs.File.{line_says, IsFileRead};
+ghost use Rattle.ioam_clock.specs.Spelled.{SpellsLine};
+ghost use Rattle.ioam_clock.specs.declared.sample.Sample.{Sample};
 
 use crate::adding::{add_sample, sample_of};
 use crate::fault::{ReadWhy, ReadingsFault, ReadingsRefused};
@@ -119,6 +121,7 @@ pub fn read_readings(
     ensures reads { IsReading result (readings_of (node_names domain.now) octets.now) }
     ensures nodes { IfOk result (λ readings. length readings ≡ length (nodes domain.now)) }
     ensures file { IsFileRead (node_names domain.now) octets.now result }
+    ensures spelled { (line : List ℕ) (node : ℕ) (sample : Sample) → (line_says (node_names domain.now) line ≡ Ok (node, sample)) ↔ SpellsLine (node_names domain.now) line node sample }
 {
     if octets.len() > FILE_MOST {
         return Err(ReadingsRefused::Fault(ReadingsFault {

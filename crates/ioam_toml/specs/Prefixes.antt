@@ -1,33 +1,17 @@
 -- Prefixes: an address, `/` and a prefix length, which is how many of its bits count (RFC 4291 section 2.3).
-use Rattle.std.specs.Prelude.{◌≡◌, ◌≤◌, ℕ, ◌+◌, ◌-◌, ◌*◌, Bool, not, nat_le, ◌==◌, ◌&&◌, List, [], ◌∷◌, ◌++◌, decimal, length, take, drop, slice_index, position, Option, Some, None, option_and_then, Result, if◌then◌else◌}
+use Rattle.std.specs.Prelude.{◌≡◌, ◌≤◌, ℕ, ◌+◌, ◌==◌, List, ◌∷◌, ◌++◌, decimal, take, drop, position, Option, Some, None, Result}
 use Rattle.toml.specs.Data.{Data}
 use Rattle.ioam_toml.specs.declared.why.Why.{Why}
+use Rattle.ioam_base.specs.Decimal.{decimal_below}
 use Rattle.ioam_topo.specs.declared.prefix.Prefix.{Prefix}
 use Rattle.ioam_topo.specs.Prefixes.{masked}
 use Rattle.ioam_toml.specs.Reads.{◌▷◌}
 use Rattle.ioam_toml.specs.Texts.{text}
 use Rattle.ioam_toml.specs.Addresses.{address_of, ranged, Spells}
 
--- the value of a decimal digit
-abbrev pub digit : ℕ → Option ℕ
-digit b = if nat_le 48 b && nat_le b 57 then Some (b - 48) else None
-
--- decimal digits behind others of a value
-abbrev pub decimal_value : ℕ → List ℕ → Option ℕ
-decimal_value n [] = Some n
-decimal_value n (b ∷ bs) = option_and_then (λ d. decimal_value (n * 10 + d) bs) (digit b)
-
--- one to three digits, the first of several not 0
-abbrev pub is_plain : List ℕ → Bool
-is_plain s = nat_le 1 (length s) && nat_le (length s) 3 && not (nat_le 2 (length s) && (slice_index s 0 == 48))
-
--- no more than 128
-abbrev pub at_most_128 : ℕ → Option ℕ
-at_most_128 n = if nat_le n 128 then Some n else None
-
 -- the prefix length that a text spells
 abbrev pub length_of : List ℕ → Option ℕ
-length_of s = if is_plain s then option_and_then at_most_128 (decimal_value 0 s) else None
+length_of s = decimal_below 129 s
 
 abbrev pub prefix_of : Option ℕ → Option ℕ → Option Prefix
 prefix_of (Some bits) (Some n) = Some (record { bits = masked n bits; length = n })

@@ -1,55 +1,26 @@
-ghost use Rattle.std.specs.Prelude.{◌≡◌, ◌+◌, ◌-◌, ◌%◌, ◌^◌, ◌<◌, ◌≤◌, ℕ, List, length, Some, Ok, IfOk, IfSome};
+ghost use Rattle.std.specs.Prelude.{◌≡◌, ◌+◌, ◌<◌, ◌≤◌, ℕ, List, length, Some, Ok, IfOk, IfSome};
 ghost use Rattle.toml.specs.Data.{get_member, string};
 ghost use Rattle.toml.specs.View.{view, table_view};
 ghost use Rattle.ioam_toml.specs.Reads.{needed};
-ghost use Rattle.ioam_toml.specs.Prefixes.{digit, decimal_value, length_of, prefix_of, parted, slash_at, prefix, SpellsPrefix};
+ghost use Rattle.ioam_toml.specs.Prefixes.{length_of, prefix_of, parted, slash_at, prefix, SpellsPrefix};
 ghost use Rattle.ioam_topo.specs.declared.prefix.Prefix.{Prefix};
 
 use crate::addresses::address_of;
 use crate::finding::find;
 use crate::texts::text_of;
 use crate::why::Why;
+use ioam_base::digits::decimal_below;
 use ioam_topo::{Prefix, masked};
 use toml::{Table, Value};
-
-// The value of a decimal digit.
-fn digit(octet: u8) -> Option<u8>
-    ensures value { result ≡ digit octet }
-    ensures small { IfSome result (λ d. d < 10) }
-{
-    match octet {
-        b'0'..=b'9' => Some(octet - b'0'),
-        _ => None,
-    }
-}
-
-// The value of at most three decimal digits.
-#[tactic(auto, using(crate::proofs::PrefixLaws::decimal_step, crate::proofs::PrefixLaws::decimal_stop, crate::proofs::PrefixLaws::ten_step))]
-fn decimal_value(digits: &[u8]) -> Option<u32>
-    requires { length digits.now ≤ 3 }
-    ensures { result ≡ decimal_value 0 digits.now }
-{
-    let mut value: u32 = 0;
-    for octet in digits {
-        match digit(*octet) {
-            Some(digit) => value = value * 10 + u32::from(digit),
-            None => return None,
-        }
-    }
-    Some(value)
-}
 
 // The prefix length that a text spells.
 fn length_of(text: &[u8]) -> Option<u8>
     ensures value { result ≡ length_of text.now }
     ensures small { IfSome result (λ n. n ≤ 128) }
 {
-    if text.is_empty() || text.len() > 3 || text.len() >= 2 && text[0] == b'0' {
-        return None;
-    }
-    match decimal_value(text) {
-        Some(length) if length <= 128 => Some(length as u8),
-        _ => None,
+    match decimal_below(text, 129) {
+        Some(length) => Some(length as u8),
+        None => None,
     }
 }
 
