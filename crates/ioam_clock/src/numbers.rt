@@ -12,10 +12,7 @@ pub(crate) fn number(word: &[u8], limit: u64) -> Result<u64, ReadWhy>
     ensures written { (n : ℕ) → (result ≡ Ok n) ↔ ((n < limit) × (word.now ≡ decimal n)) }
     ensures small { IfOk result (λ n. n < limit) }
 {
-    match decimal_below(word, limit) {
-        Some(number) => Ok(number),
-        None => Err(ReadWhy::Number),
-    }
+    decimal_below(word, limit).ok_or(ReadWhy::Number)
 }
 
 // The number that a word writes, or None where the word is `-`.
@@ -26,19 +23,15 @@ pub(crate) fn maybe(word: &[u8], limit: u64) -> Result<Option<u64>, ReadWhy>
     if word.len() == 1 && word[0] == b'-' {
         return Ok(None);
     }
-    match number(word, limit) {
-        Ok(number) => Ok(Some(number)),
-        Err(why) => Err(why),
-    }
+    Ok(Some(number(word, limit)?))
 }
 
 // The 32-bit number that a word writes, or None where the word is `-`.
 pub(crate) fn maybe_u32(word: &[u8]) -> Result<Option<u32>, ReadWhy>
     ensures { result ≡ maybe (2 ^ 32) word.now }
 {
-    match maybe(word, 1 << 32) {
-        Ok(Some(number)) => Ok(Some(number as u32)),
-        Ok(None) => Ok(None),
-        Err(why) => Err(why),
+    match maybe(word, 1 << 32)? {
+        Some(number) => Ok(Some(number as u32)),
+        None => Ok(None),
     }
 }

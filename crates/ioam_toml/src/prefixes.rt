@@ -52,10 +52,7 @@ fn prefix_in(value: &Value) -> Result<Prefix, Why>
     ensures value { result ≡ prefix (view value.now) }
     ensures small { IfOk result (λ p. p.length ≤ 128) }
 {
-    let octets = match text_of(value) {
-        Ok(text) => text.as_bytes(),
-        Err(why) => return Err(why),
-    };
+    let octets = text_of(value)?.as_bytes();
     let Some(at) = slash_at(octets) else {
         return Err(Why::Range);
     };
