@@ -67,10 +67,14 @@ fn route_port(parts: &Parts, node: u32, entry: &toml::Table) -> Result<Option<u3
         (get_member (codes "port") (table_view entry.now)) (is_some (get_member (codes "link") (table_view entry.now))) }
 {
     match maybe_name(entry, "port")? {
-        Some(name) => match port_at(parts, node, name)? {
-            _ if has(entry, "link") => Err(Why::Twice),
-            at => Ok(Some(at)),
-        },
+        Some(name) => {
+            let at = port_at(parts, node, name)?;
+            if has(entry, "link") {
+                Err(Why::Twice)
+            } else {
+                Ok(Some(at))
+            }
+        }
         None => Ok(None),
     }
 }
