@@ -89,8 +89,16 @@ pub(crate) fn maybe_copied(alloc: Global, text: Option<&str>) -> Result<Option<N
 
 // A link of these parts.
 fn link_of(name: Name, ends: Ends, numbers: Numbers, tap: Option<Name>) -> Link
-    ensures { result ≡ record { name = name; from = record { 0 = ends.from }; to = record { 0 = ends.to }; out_id = numbers.out_id;
-        in_id = numbers.in_id; delay = numbers.delay; mtu = numbers.mtu; tap = tap } }
+    ensures { result ≡ record {
+      name = name;
+      from = record { 0 = ends.from };
+      to = record { 0 = ends.to };
+      out_id = numbers.out_id;
+      in_id = numbers.in_id;
+      delay = numbers.delay;
+      mtu = numbers.mtu;
+      tap = tap;
+    } }
 {
     Link {
         name,
@@ -121,14 +129,8 @@ fn read_link<'a>(
     };
     spot.key(Field::OtherKey, own_keys(Table::LinkTable, entry))?;
     let text = spot.key(Field::NameKey, new_name(&links.names, entry, "name"))?;
-    let ends = match link_ends(spot, nodes, entry) {
-        Ok(ends) => ends,
-        Err(refused) => return Err(refused),
-    };
-    let numbers = match link_numbers(spot, entry) {
-        Ok(numbers) => numbers,
-        Err(refused) => return Err(refused),
-    };
+    let ends = link_ends(spot, nodes, entry)?;
+    let numbers = link_numbers(spot, entry)?;
     let tap = spot.key(Field::TapKey, tap(links.taps, entry))?;
     match (Name::new(alloc, text), maybe_copied(alloc, tap)) {
         (Ok(name), Ok(tap)) => Ok((text, link_of(name, ends, numbers, tap))),
