@@ -46,10 +46,7 @@ pub(crate) fn collect<C, T: Collects<C>>(
 {
     let mut out = none;
     for (at, entry) in entries.iter().enumerate() {
-        match out.take(alloc, before, at as u32 + 1, entry) {
-            Ok(()) => {}
-            Err(refused) => return Err(refused),
-        }
+        out.take(alloc, before, at as u32 + 1, entry)?;
     }
     Ok(out)
 }

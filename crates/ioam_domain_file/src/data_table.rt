@@ -92,10 +92,7 @@ impl Collects<Nodes> for DataRows {
         place: u32,
         entry: &toml::Table,
     ) -> Result<(), DomainRefused> {
-        let row = match read_row(alloc, self, before, place, entry) {
-            Ok(row) => row,
-            Err(refused) => return Err(refused),
-        };
+        let row = read_row(alloc, self, before, place, entry)?;
         match self.add(row) {
             Ok(()) => Ok(()),
             Err(_) => Err(DomainRefused::NoMemory),

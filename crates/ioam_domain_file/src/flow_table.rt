@@ -106,22 +106,10 @@ fn read_flow<'a>(
     };
     spot.key(Field::OtherKey, own_keys(Table::FlowTable, entry))?;
     let text = spot.key(Field::NameKey, new_name(&flows.names, entry, "name"))?;
-    let selection = match read_selection(spot, nodes, entry) {
-        Ok(selection) => selection,
-        Err(refused) => return Err(refused),
-    };
-    let outer = match read_outer(spot, entry) {
-        Ok(outer) => outer,
-        Err(refused) => return Err(refused),
-    };
-    let tracing = match read_tracing(spot, entry) {
-        Ok(tracing) => tracing,
-        Err(refused) => return Err(refused),
-    };
-    let exporting = match exporting(flows, spot, selection.namespace, entry) {
-        Ok(exporting) => exporting,
-        Err(refused) => return Err(refused),
-    };
+    let selection = read_selection(spot, nodes, entry)?;
+    let outer = read_outer(spot, entry)?;
+    let tracing = read_tracing(spot, entry)?;
+    let exporting = exporting(flows, spot, selection.namespace, entry)?;
     match Name::new(alloc, text) {
         Ok(name) => Ok((text, flow_with(name, selection, outer, tracing, exporting))),
         Err(_) => Err(DomainRefused::NoMemory),

@@ -126,14 +126,8 @@ fn read_link<'a>(
     };
     spot.key(Field::OtherKey, own_keys(Table::LinkTable, entry))?;
     let text = spot.key(Field::NameKey, new_name(&links.names, entry, "name"))?;
-    let ends = match link_ends(spot, nodes, entry) {
-        Ok(ends) => ends,
-        Err(refused) => return Err(refused),
-    };
-    let numbers = match link_numbers(spot, entry) {
-        Ok(numbers) => numbers,
-        Err(refused) => return Err(refused),
-    };
+    let ends = link_ends(spot, nodes, entry)?;
+    let numbers = link_numbers(spot, entry)?;
     let tap = spot.key(Field::TapKey, tap(links.taps, entry))?;
     match (Name::new(alloc, text), maybe_copied(alloc, tap)) {
         (Ok(name), Ok(tap)) => Ok((text, link_of(name, ends, numbers, tap))),

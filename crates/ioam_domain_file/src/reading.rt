@@ -46,10 +46,7 @@ fn read_entries<C, T: Collects<C>>(
     ensures { Gives result (table_faults spot.table most (get_member key.now (table_view top.now)) (T.faults before.now))
         (T.Holds before.now (entries (get_member key.now (table_view top.now)))) }
 {
-    let found = match spot.key_or(Field::NoKey, rows(alloc, top, key, most)) {
-        Ok(found) => found,
-        Err(refused) => return Err(refused),
-    };
+    let found = spot.key_or(Field::NoKey, rows(alloc, top, key, most))?;
     collect(alloc, before, found.as_slice(), none)
 }
 
@@ -109,18 +106,9 @@ fn read_ports(alloc: Global, top: &toml::Table, nodes: &Nodes) -> Result<Ports, 
 fn read_parts(alloc: Global, top: &toml::Table) -> Result<Parts, DomainRefused>
     ensures { Gives result (part_faults (table_view top.now)) (HoldsParts (table_view top.now)) }
 {
-    let nodes = match read_nodes(alloc, top) {
-        Ok(nodes) => nodes,
-        Err(refused) => return Err(refused),
-    };
-    let links = match read_links(alloc, top, &nodes) {
-        Ok(links) => links,
-        Err(refused) => return Err(refused),
-    };
-    let ports = match read_ports(alloc, top, &nodes) {
-        Ok(ports) => ports,
-        Err(refused) => return Err(refused),
-    };
+    let nodes = read_nodes(alloc, top)?;
+    let links = read_links(alloc, top, &nodes)?;
+    let ports = read_ports(alloc, top, &nodes)?;
     Ok(Parts {
         nodes,
         links,
@@ -137,7 +125,7 @@ fn read_telemetry(
     requires { HoldsNodes (node_entries (table_view top.now)) nodes.now }
     ensures { Gives result (telemetry_faults (table_view top.now)) (HoldsTelemetry (table_view top.now)) }
 {
-    let rows = match read_entries(
+    let rows = read_entries(
         alloc,
         top,
         Spot {
@@ -148,11 +136,8 @@ fn read_telemetry(
         MOST_DATA,
         nodes,
         DataRows::new(alloc),
-    ) {
-        Ok(rows) => rows,
-        Err(refused) => return Err(refused),
-    };
-    let flows = match read_entries(
+    )?;
+    let flows = read_entries(
         alloc,
         top,
         Spot {
@@ -163,10 +148,7 @@ fn read_telemetry(
         MOST_FLOWS,
         nodes,
         Flows::new(alloc),
-    ) {
-        Ok(flows) => flows,
-        Err(refused) => return Err(refused),
-    };
+    )?;
     Ok(Telemetry::new(rows, flows))
 }
 
@@ -174,15 +156,9 @@ fn read_telemetry(
 fn read_file(alloc: Global, top: &toml::Table) -> Result<Domain, DomainRefused>
     ensures { Gives result (faults_of (table_view top.now)) (IsDomain (table_view top.now)) }
 {
-    let own = match read_own(top) {
-        Ok(own) => own,
-        Err(refused) => return Err(refused),
-    };
-    let parts = match read_parts(alloc, top) {
-        Ok(parts) => parts,
-        Err(refused) => return Err(refused),
-    };
-    let routes = match read_entries(
+    let own = read_own(top)?;
+    let parts = read_parts(alloc, top)?;
+    let routes = read_entries(
         alloc,
         top,
         Spot {
@@ -193,14 +169,8 @@ fn read_file(alloc: Global, top: &toml::Table) -> Result<Domain, DomainRefused>
         MOST_ROUTES,
         &parts,
         Routes::new(alloc),
-    ) {
-        Ok(routes) => routes,
-        Err(refused) => return Err(refused),
-    };
-    let telemetry = match read_telemetry(alloc, top, &parts.nodes) {
-        Ok(telemetry) => telemetry,
-        Err(refused) => return Err(refused),
-    };
+    )?;
+    let telemetry = read_telemetry(alloc, top, &parts.nodes)?;
     Ok(Domain::new(own.format, own.packets, parts, routes, telemetry))
 }
 

@@ -142,10 +142,7 @@ impl Collects<Parts> for Routes {
         place: u32,
         entry: &toml::Table,
     ) -> Result<(), DomainRefused> {
-        let route = match read_route(self, before, place, entry) {
-            Ok(route) => route,
-            Err(refused) => return Err(refused),
-        };
+        let route = read_route(self, before, place, entry)?;
         match self.add(route) {
             Ok(()) => Ok(()),
             Err(_) => Err(DomainRefused::NoMemory),

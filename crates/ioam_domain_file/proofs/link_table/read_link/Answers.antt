@@ -1,4 +1,5 @@
 use Rattle.std.proofs.Common.{rules, ◌≡◌, ◌++◌, [], Ok, codes}
+use Rattle.std.proofs.lemmas.Result.{err_from_is_err_and}
 use Rattle.std.specs.Str.{bytes_eq}
 use Rattle.toml.specs.View.{table_view}
 use Rattle.toml.specs.Data.{get_member}
@@ -15,27 +16,29 @@ use Rattle.ioam_domain_file.proofs.FaultLaws.{gives_first}
 use Rattle.ioam_domain_file.proofs.LinkLaws.{tap_read, tap_counts}
 use Rattle.ioam_domain_file.proofs.link_table.read_link.Goals as goal
 
-pub returns-in-Err : goal.returns-in-Err
-returns-in-Err c =
+pub returns-in_err-ends : goal.returns-in_err-ends
+returns-in_err-ends c =
     let a : at LinkTable c.args.place OtherKey (own_keys LinkTable (table_view c.args.entry.now)) ≡ [] = search rules in
     let b : at LinkTable c.args.place NameKey (link_name (table_view c.args.entry.now) ▷ fresh bytes_eq c.args.links.now.names) ≡ [] = search rules in
-    gives_first c.in-Err.refused _ (number_keys c.args.place (table_view c.args.entry.now) ++ at LinkTable c.args.place TapKey (link_tap c.args.links.now.taps (table_view c.args.entry.now))) _ _ _
-    (rw (a, b)) c.in-Err.ensures
+    let p = err_from_is_err_and c.from_residual-in_err-ends.result c.from_residual-in_err-ends.ensures.1 in
+    rw (p.1, p.2) (gives_first c.in_err-ends.field-0.0 _ (number_keys c.args.place (table_view c.args.entry.now) ++ at LinkTable c.args.place TapKey (link_tap c.args.links.now.taps (table_view c.args.entry.now))) _ _ _
+    (rw (a, b)) c.in_err-ends.ensures)
 
-pub returns-in-Err-link_numbers : goal.returns-in-Err-link_numbers
-returns-in-Err-link_numbers c =
+pub returns-in_err-numbers : goal.returns-in_err-numbers
+returns-in_err-numbers c =
     let a : at LinkTable c.args.place OtherKey (own_keys LinkTable (table_view c.args.entry.now)) ≡ [] = search rules in
     let b : at LinkTable c.args.place NameKey (link_name (table_view c.args.entry.now) ▷ fresh bytes_eq c.args.links.now.names) ≡ [] = search rules in
-    let e : end_keys c.args.nodes.now.names c.args.place (table_view c.args.entry.now) ≡ [] = c.in-Ok.ensures.0 in
-    gives_first c.in-Err-link_numbers.refused _ (at LinkTable c.args.place TapKey (link_tap c.args.links.now.taps (table_view c.args.entry.now))) _ _ _
-    (rw (a, b, e)) c.in-Err-link_numbers.ensures
+    let e : end_keys c.args.nodes.now.names c.args.place (table_view c.args.entry.now) ≡ [] = c.in_ok-ends.ensures.0 in
+    let p = err_from_is_err_and c.from_residual-in_err-numbers.result c.from_residual-in_err-numbers.ensures.1 in
+    rw (p.1, p.2) (gives_first c.in_err-numbers.field-0.0 _ (at LinkTable c.args.place TapKey (link_tap c.args.links.now.taps (table_view c.args.entry.now))) _ _ _
+    (rw (a, b, e)) c.in_err-numbers.ensures)
 
 pub returns-in-Ok-Ok : goal.returns-in-Ok-Ok
 returns-in-Ok-Ok c =
     let a : at LinkTable c.args.place OtherKey (own_keys LinkTable (table_view c.args.entry.now)) ≡ [] = search rules in
     let b : at LinkTable c.args.place NameKey (link_name (table_view c.args.entry.now) ▷ fresh bytes_eq c.args.links.now.names) ≡ [] = search rules in
-    let e : end_keys c.args.nodes.now.names c.args.place (table_view c.args.entry.now) ≡ [] = c.in-Ok.ensures.0 in
-    let n : number_keys c.args.place (table_view c.args.entry.now) ≡ [] = c.in-Ok-link_numbers.ensures.0 in
+    let e : end_keys c.args.nodes.now.names c.args.place (table_view c.args.entry.now) ≡ [] = c.in_ok-ends.ensures.0 in
+    let n : number_keys c.args.place (table_view c.args.entry.now) ≡ [] = c.in_ok-numbers.ensures.0 in
     let t : link_tap c.args.links.now.taps (table_view c.args.entry.now) ≡ Ok c.in-Ok-Ok.tap = search rules in
     let none : at LinkTable c.args.place TapKey (link_tap c.args.links.now.taps (table_view c.args.entry.now)) ≡ [] = rw t in
     let tap : maybe file_name (get_member (codes "tap") (table_view c.args.entry.now)) ≡ Ok c.in-Ok-Ok.tap = tap_read c.args.links.now.taps _ _ t in

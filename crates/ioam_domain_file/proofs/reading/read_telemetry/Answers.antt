@@ -1,4 +1,5 @@
 use Rattle.std.proofs.Common.{◌≡◌, ◌++◌, [], List, ap, sym, ◌∙◌}
+use Rattle.std.proofs.lemmas.Result.{err_from_is_err_and}
 use Rattle.toml.specs.View.{table_view}
 use Rattle.ioam_domain_file.specs.declared.fault.DomainFault.{DomainFault}
 use Rattle.ioam_domain_file.specs.Top.{data_table_faults, flow_table_faults}
@@ -15,26 +16,29 @@ use Rattle.ioam_domain_file.proofs.DataKept.{data_sound}
 use Rattle.ioam_domain_file.proofs.FlowFacts.{flows_sound}
 use Rattle.ioam_domain_file.proofs.reading.read_telemetry.Goals as goal
 
-pub returns-in-Err : goal.returns-in-Err
-returns-in-Err c = gives_first c.in-Err.refused _ (flow_table_faults (table_view c.args.top.now)) _ _ _
+pub returns-in_err-rows : goal.returns-in_err-rows
+returns-in_err-rows c =
+    let p = err_from_is_err_and c.from_residual.result c.from_residual.ensures.1 in
+    rw (p.1, p.2) (gives_first c.in_err-rows.field-0.0 _ (flow_table_faults (table_view c.args.top.now)) _ _ _
     (ap (λ (l : List DomainFault). l ++ flow_table_faults (table_view c.args.top.now)) (sym (data_same (table_view c.args.top.now) c.args.nodes.now c.requires)))
-    c.in-Err.ensures
+    c.in_err-rows.ensures)
 
-pub returns-in-Err-read_entries : goal.returns-in-Err-read_entries
-returns-in-Err-read_entries c =
-    let none : data_table_faults (table_view c.args.top.now) ≡ [] = sym (data_same (table_view c.args.top.now) c.args.nodes.now c.requires) ∙ c.in-Ok.ensures.0 in
-    gives_same c.in-Err-read_entries.refused _ _ _ _
+pub returns-in_err-flows : goal.returns-in_err-flows
+returns-in_err-flows c =
+    let none : data_table_faults (table_view c.args.top.now) ≡ [] = sym (data_same (table_view c.args.top.now) c.args.nodes.now c.requires) ∙ c.in_ok-rows.ensures.0 in
+    let p = err_from_is_err_and c.from_residual-in_err-flows.result c.from_residual-in_err-flows.ensures.1 in
+    rw (p.1, p.2) (gives_same c.in_err-flows.field-0.0 _ _ _ _
     (flows_same (table_view c.args.top.now) c.args.nodes.now c.requires ∙ sym (ap (λ (l : List DomainFault). l ++ flow_table_faults (table_view c.args.top.now)) none))
-    c.in-Err-read_entries.ensures
+    c.in_err-flows.ensures)
 
 pub new-requires-3-clause-sound_data : goal.new-requires-3-clause-sound_data
-new-requires-3-clause-sound_data c = data_sound c.args.nodes.now.names (entries (get_member (codes "data") (table_view c.args.top.now))) c.in-Ok.rows.items.items c.in-Ok.ensures.1.items
+new-requires-3-clause-sound_data c = data_sound c.args.nodes.now.names (entries (get_member (codes "data") (table_view c.args.top.now))) c.in_ok-rows.rows.items.items c.in_ok-rows.ensures.1.items
 
 pub new-requires-3-clause-few_flows : goal.new-requires-3-clause-few_flows
 new-requires-3-clause-few_flows c = few_goods (flow_of c.args.nodes.now.names (map list_of c.args.nodes.now.items.items)) FlowTable MOST_FLOWS (get_member (codes "flow") (table_view c.args.top.now))
-    (flow_faults c.args.nodes.now.names (map list_of c.args.nodes.now.items.items)) c.in-Ok-read_entries.flows.items.items
-    c.in-Ok-read_entries.ensures.0 c.in-Ok-read_entries.ensures.1.items
+    (flow_faults c.args.nodes.now.names (map list_of c.args.nodes.now.items.items)) c.in_ok-flows.flows.items.items
+    c.in_ok-flows.ensures.0 c.in_ok-flows.ensures.1.items
 
 pub new-requires-3-clause-sound_flows : goal.new-requires-3-clause-sound_flows
 new-requires-3-clause-sound_flows c = flows_sound c.args.nodes.now.names (map list_of c.args.nodes.now.items.items) (entries (get_member (codes "flow") (table_view c.args.top.now)))
-    c.in-Ok-read_entries.flows.items.items c.in-Ok-read_entries.ensures.1.items
+    c.in_ok-flows.flows.items.items c.in_ok-flows.ensures.1.items
