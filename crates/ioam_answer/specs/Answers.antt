@@ -1,5 +1,5 @@
 -- The exit status and the line of an answer.
-use Rattle.std.specs.Prelude.{ℕ, List, ◌++◌, codes, decimal}
+use Rattle.std.specs.Prelude.{ℕ, Bool, true, false, List, ◌++◌, codes, decimal}
 use Rattle.ioam_clock.specs.declared.fault.ReadWhy.{ReadWhy}
 use Rattle.ioam_clock.specs.declared.fault.ReadWhy.TheVariants as read
 use Rattle.ioam_clock.specs.declared.fault.ReadingsFault.{ReadingsFault}
@@ -78,6 +78,23 @@ field_text field.FlowIdKey = codes "flow_id"
 field_text field.LimitKey = codes "limit"
 field_text field.OtherKey = codes "other"
 field_text field.NoKey = codes "-"
+
+-- whether a key is one that flows alone have
+abbrev pub is_flow_key : Field → Bool
+is_flow_key field.EntryKey = true
+is_flow_key field.ExitKey = true
+is_flow_key field.SourceKey = true
+is_flow_key field.TargetKey = true
+is_flow_key field.HopsKey = true
+is_flow_key field.LabelKey = true
+is_flow_key field.TraceKey = true
+is_flow_key field.CapacityKey = true
+is_flow_key field.EdgeKey = true
+is_flow_key field.DirectKey = true
+is_flow_key field.EveryKey = true
+is_flow_key field.FlowIdKey = true
+is_flow_key field.LimitKey = true
+is_flow_key _ = false
 
 abbrev pub why_text : Why → List ℕ
 why_text why.Text = codes "text"

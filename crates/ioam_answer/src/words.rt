@@ -1,6 +1,6 @@
 //! The words for faults of the domain file and of readings.
-ghost use Rattle.std.specs.Prelude.{◌≡◌};
-ghost use Rattle.ioam_answer.specs.Answers.{table_text, field_text, why_text, read_why_text};
+ghost use Rattle.std.specs.Prelude.{◌≡◌, true};
+ghost use Rattle.ioam_answer.specs.Answers.{table_text, field_text, is_flow_key, why_text, read_why_text};
 
 use ioam_clock::ReadWhy;
 use ioam_domain_file::{Field, Table, Why};
@@ -49,6 +49,18 @@ pub fn field_text(field: Field) -> &'static str
         Field::WideKey => "wide",
         Field::SchemaKey => "schema",
         Field::SnapshotKey => "snapshot",
+        Field::OtherKey => "other",
+        Field::NoKey => "-",
+        flow_key => flow_key_text(flow_key),
+    }
+}
+
+// The word for a key that flows alone have.
+fn flow_key_text(field: Field) -> &'static str
+    requires { is_flow_key field ≡ true }
+    ensures { result.now ≡ field_text field }
+{
+    match field {
         Field::EntryKey => "entry",
         Field::ExitKey => "exit",
         Field::SourceKey => "source",
@@ -62,8 +74,7 @@ pub fn field_text(field: Field) -> &'static str
         Field::EveryKey => "every",
         Field::FlowIdKey => "flow_id",
         Field::LimitKey => "limit",
-        Field::OtherKey => "other",
-        Field::NoKey => "-",
+        _ => unreachable!(),
     }
 }
 
