@@ -1,7 +1,7 @@
 //! Texts that go out in pieces, over the desk in memory.
 ghost use Rattle.std.specs.Prelude.{◌<◌, ℕ, All};
 
-use ioam_desk::{DeskFault, MemoryDesk, Name};
+use ioam_desk::{MemoryDesk, Name};
 use ioam_outputs::{GATHER, Output, finish, first_repeat, flush_full, open_outputs};
 use std::alloc::{AllocError, Global};
 use std::test::Fail;
@@ -41,22 +41,5 @@ fn full_pieces_go_out(rt: HostRuntime) -> Result<(), Fail> {
     finish(&mut desk, outputs)?;
     assert_eq!(rt; desk.file("a"), Some(large.as_slice()));
     assert_eq!(rt; desk.file("b"), Some(&b"0123456789"[..]));
-    Ok(())
-}
-
-#[test]
-fn nothing_is_written_twice_behind_a_fault(rt: HostRuntime) -> Result<(), Fail> {
-    let mut desk = MemoryDesk::new(rt.alloc())?;
-    desk.set_piece(7);
-    desk.fail_call(3)?;
-    let names = vec![in rt.alloc(); Name::new(rt.alloc(), "a")?]?;
-    assert_eq!(rt; first_repeat(&names), None);
-    let mut opened = open_outputs(rt.alloc(), &mut desk, &names)?;
-    let outputs = opened.as_mut_slice();
-    gather(outputs, 0, b"0123456789")?;
-    assert_eq!(rt; finish(&mut desk, outputs), Err(DeskFault::Failed));
-    assert_eq!(rt; desk.file("a"), Some(&b"0123456"[..]));
-    finish(&mut desk, outputs)?;
-    assert_eq!(rt; desk.file("a"), Some(&b"0123456789"[..]));
     Ok(())
 }
