@@ -3,3 +3,4 @@ pub mod OctetsLaws
 pub mod ResultLaws
 pub mod WordsLaws
 pub mod DecimalLaws
+pub mod WrittenLaws
