@@ -1,6 +1,6 @@
 -- Laws of octets that are written over as many octets at a place.
-use Rattle.std.proofs.Common.{◌≡◌, ℕ, ◌+◌, ◌-◌, ◌<◌, ◌≤◌, List, ◌++◌, length, take, drop, slice_index, ap, sym, ◌∙◌, arith, append_assoc, length-append, length-take, length-drop, get_or-take, refl}
-use Rattle.std.proofs.lemmas.List.{drop-drop, drop_at, take_at, get_or_append_left}
+use Rattle.std.proofs.Common.{◌≡◌, ℕ, ◌+◌, ◌-◌, ◌<◌, ◌≤◌, List, [], ◌++◌, length, take, drop, slice_index, ap, sym, ◌∙◌, arith, append_assoc, length-append, length-take, length-drop, get_or-take, refl}
+use Rattle.std.proofs.lemmas.List.{append-nil, drop-drop, drop_all, drop_at, take_all, take_at, get_or_append_left}
 use Rattle.std.proofs.Math.Seq.{drop-append-add}
 use borrow.Rule.Slice.PartMut.{put_mid}
 use Rattle.ioam_base.specs.Octets.{written}
@@ -50,3 +50,21 @@ pub written-mid : (octets part : List ℕ) (from to : ℕ) → from ≤ to → l
 written-mid octets part from to ordered long =
     let end : from + (to - from) ≡ from + length part = omega arith in
     ap (λ rest. take from octets ++ (part ++ rest)) (drop-drop (to - from) from octets ∙ ap (λ n. drop n octets) end)
+
+-- the octets up to the part's end
+pub written-ahead : (octets part : List ℕ) (at : ℕ) → at ≤ length octets → take (at + length part) (written octets at part) ≡ take at octets ++ part
+written-ahead octets part at within =
+    let long : at + length part ≡ length (take at octets ++ part) = omega (arith, length-append (take at octets) part, length-take at octets) in
+    ap (take (at + length part)) (sym (append_assoc (take at octets) part (drop (at + length part) octets)))
+    ∙ take_at (take at octets ++ part) (drop (at + length part) octets) (at + length part) (sym long)
+
+-- over the front of all octets from a place on, which are lent
+pub written-from : (octets part : List ℕ) (at n : ℕ) (new : List ℕ) → length part ≡ n → at + n ≤ length octets
+    → new ≡ part ++ drop n (take (length octets - at) (drop at octets)) → put_mid at (length octets - at) octets new ≡ written octets at part
+written-from octets part at n new long fits is =
+    let count : at + n ≡ at + length part = omega arith in
+    let none : drop (length octets - at) (drop at octets) ≡ [] = drop_all (length octets - at) (drop at octets) (omega (arith, length-drop at octets)) in
+    let whole : take (length octets - at) (drop at octets) ≡ drop at octets = take_all (length octets - at) (drop at octets) (omega (arith, length-drop at octets)) in
+    let behind : drop n (take (length octets - at) (drop at octets)) ≡ drop (at + length part) octets = ap (drop n) whole ∙ drop-drop n at octets ∙ ap (λ m. drop m octets) count in
+    ap (λ rest. take at octets ++ (new ++ rest)) none
+    ∙ ap (λ ys. take at octets ++ ys) (append-nil new ∙ is ∙ ap (λ ys. part ++ ys) behind)

@@ -1,7 +1,7 @@
-ghost use Rattle.std.specs.Prelude.{◌≡◌, ◌+◌, ◌≤◌, [], ◌++◌, length};
-ghost use Rattle.ioam_base.specs.Words.{four_octets_if, eight_octets_if};
+ghost use Rattle.std.specs.Prelude.{◌≡◌, ◌+◌, ◌≤◌, ◌<◌, [], ◌++◌, length};
+ghost use Rattle.ioam_base.specs.Words.{two_octets, three_octets, four_octets, eight_octets, four_octets_if, eight_octets_if};
 
-use crate::octets::put_at;
+use crate::octets::{put_at, put_u16_at, put_u24_at, put_u32_at, put_u64_at};
 use std::marker::Model;
 
 /// Room for the octets of one value, 24 at most. Contracts see the octets that it holds.
@@ -49,6 +49,47 @@ impl Buffer {
         self.len += octets.len();
     }
 
+    /// Appends a number as two octets.
+    pub fn two(&mut self, number: u16)
+        requires { length self.old + 2 ≤ 24 }
+        ensures value { self.new ≡ self.old ++ two_octets number }
+        ensures size { length self.new ≡ length self.old + 2 }
+    {
+        put_u16_at(&mut self.octets, self.len, number);
+        self.len += 2;
+    }
+
+    /// Appends a number of 24 bits as three octets.
+    pub fn three(&mut self, number: u32)
+        requires room { length self.old + 3 ≤ 24 }
+        requires fits { number < 16777216 }
+        ensures value { self.new ≡ self.old ++ three_octets number }
+        ensures size { length self.new ≡ length self.old + 3 }
+    {
+        put_u24_at(&mut self.octets, self.len, number);
+        self.len += 3;
+    }
+
+    /// Appends a number as four octets.
+    pub fn four(&mut self, number: u32)
+        requires { length self.old + 4 ≤ 24 }
+        ensures value { self.new ≡ self.old ++ four_octets number }
+        ensures size { length self.new ≡ length self.old + 4 }
+    {
+        put_u32_at(&mut self.octets, self.len, number);
+        self.len += 4;
+    }
+
+    /// Appends a number as eight octets.
+    pub fn eight(&mut self, number: u64)
+        requires { length self.old + 8 ≤ 24 }
+        ensures value { self.new ≡ self.old ++ eight_octets number }
+        ensures size { length self.new ≡ length self.old + 8 }
+    {
+        put_u64_at(&mut self.octets, self.len, number);
+        self.len += 8;
+    }
+
     /// Appends a number as four octets, where it is there.
     pub fn four_if(&mut self, number: Option<u32>)
         requires { length self.old + 4 ≤ 24 }
@@ -56,7 +97,7 @@ impl Buffer {
         ensures size { length self.new ≤ length self.old + 4 }
     {
         if let Some(number) = number {
-            self.append(&number.to_be_bytes());
+            self.four(number);
         }
     }
 
@@ -67,7 +108,7 @@ impl Buffer {
         ensures size { length self.new ≤ length self.old + 8 }
     {
         if let Some(number) = number {
-            self.append(&number.to_be_bytes());
+            self.eight(number);
         }
     }
 }
