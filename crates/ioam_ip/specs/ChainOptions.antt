@@ -1,5 +1,5 @@
 -- The options on the chain of a packet, and what they say of it.
-use Rattle.std.specs.Prelude.{◌≡◌, ℕ, List, [], ◌∷◌, ◌++◌, Bool, IsTrue, Option, ◌==◌, ◌||◌, if◌then◌else◌, ◌≤◌, length, slice_range}
+use Rattle.std.specs.Prelude.{◌≡◌, ℕ, List, [], ◌∷◌, ◌++◌, Bool, not, IsTrue, Option, ◌==◌, ◌||◌, if◌then◌else◌, ◌≤◌, length, slice_range}
 use Rattle.std.specs.declared.ops.Range.{Range}
 use Rattle.std.specs.Bool.{MatchBool}
 use Rattle.std.specs.List.{Any}
@@ -15,6 +15,10 @@ octets_of p head = slice_range p head.range.start head.range.end
 -- Hop-by-Hop Options and Destination Options
 abbrev pub is_options_head : Head → Bool
 is_options_head head = (head.value == 0) || (head.value == 60)
+
+-- any other header
+abbrev pub is_other : Head → Bool
+is_other head = not (is_options_head head)
 
 -- the options of one header; another kind of header has none
 abbrev pub HeadOptions : List ℕ → Head → List Item → Type 0

@@ -6,10 +6,16 @@ pub mod Framed
 pub mod Framing
 pub mod Header
 pub mod HeadsLeft
+pub mod Hop
+pub mod Laid
 pub mod Layout
+pub mod Lowered
 pub mod Options
 pub mod OptionsLeft
 pub mod Packet
+pub mod Rewriting
 pub mod Scan
+pub mod Sizes
+pub mod Spot
 pub mod Steps
 pub mod Walks

@@ -3,6 +3,7 @@ ghost use Rattle.std.specs.Prelude.{◌≡◌, ◌↔◌, ◌+◌, ◌*◌, ◌%
 ghost use Rattle.ioam_ip.specs.Findings.{is_ioam_type};
 ghost use Rattle.ioam_ip.specs.Layout.{padding, gap_before, with_option, padded, finished, placed, AddsOption, KeepsOptions, IsSized};
 ghost use Rattle.ioam_ip.specs.Options.{AreOptions};
+ghost use Rattle.ioam_ip.specs.Sizes.{size_with};
 
 use crate::scan::is_ioam_type;
 use ioam_base::memory::NoMemory;
@@ -55,13 +56,16 @@ impl Layout {
     /// is put at a multiple of 4 octets from the header's first (RFC 9486 section 3); no other is
     /// aligned. Padding is Pad1 for one octet and PadN with zeros for more. Full comes exactly where
     /// the header, padded to a multiple of 8 octets, would pass 2,048 octets. After an `Err` the
-    /// header is as before.
+    /// header is as before. An option takes its data and at most 5 octets: its type, its length and
+    /// up to 3 of padding.
+    #[tactic(auto, using(crate::proofs::LayLaws::length_with_option))]
     pub fn add(&mut self, kind: u8, body: &[u8]) -> Result<(), LayoutFault>
         requires kind { 1 < kind }
         requires short { length body.now ≤ 255 }
         ensures full { (result ≡ Err LayoutFault.Full) ↔ (2048 < padded (length (with_option self.old kind body.now))) }
         ensures octets { OnOk result (self.new ≡ with_option self.old kind body.now) }
         ensures options { OnOk result (AddsOption self.old self.new (placed self.old kind body.now)) }
+        ensures size { length (with_option self.old kind body.now) ≤ length self.old + length body.now + 5 }
         ensures aligned { IsTrue (is_ioam_type kind) → (placed self.old kind body.now).at % 4 ≡ 0 }
         ensures err { OnErr result (self.new ≡ self.old) }
     {
@@ -89,11 +93,29 @@ impl Layout {
     {
         let Layout { mut octets } = self;
         let size = octets.len();
-        let whole = (size + 7) / 8 * 8;
+        let whole = padded(size);
         pad(&mut octets, whole - size)?;
         octets[1] = (whole / 8 - 1) as u8;
         Ok(octets)
     }
+}
+
+/// The size of a header with an option of this type and so many octets of data behind `size`
+/// octets: padding, type, length and data.
+pub fn size_with(size: usize, kind: u8, data_size: usize) -> usize
+    requires small { size ≤ 4096 }
+    requires short { data_size ≤ 255 }
+    ensures { result ≡ size_with size kind data_size }
+{
+    size + gap_before(size, kind) + 2 + data_size
+}
+
+/// A size padded to a multiple of 8 octets.
+pub fn padded(size: usize) -> usize
+    requires { size ≤ 4096 }
+    ensures { result ≡ padded size }
+{
+    (size + 7) / 8 * 8
 }
 
 // The octets of padding in front of an option.
