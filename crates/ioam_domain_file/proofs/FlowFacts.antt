@@ -23,6 +23,7 @@ use Rattle.ioam_domain_file.specs.Goods.{goods, kept}
 use Rattle.ioam_domain_file.specs.FlowParts.{flow_hops, flow_label, flow_trace, flow_capacity, flow_edge, flow_direct, flow_every, flow_id, flow_limit, selection_of, outer_of, tracing_of, exporting_of}
 use Rattle.ioam_domain_file.specs.FlowTable.{flow_name, flow_of, flow_with}
 use Rattle.ioam_topo.specs.Sound.{IsFlow}
+use Rattle.ioam_topo.proofs.TracesLaws.{own_first, own_few, own_sound, own_apart}
 
 tested : (b : Bool) (n x : ℕ) → cond b (Ok n) (Err Range) ≡ Ok x → (b ≡ true) × (n ≡ x)
 tested true n x is = (refl, cc)
@@ -191,6 +192,10 @@ flow_read (Ok n) (Ok s) (Ok o) (Ok t) (Ok x) flow around traced exported is =
       capacity_some = g.least;
       capacity_most = g.most;
       trace_room = g.both;
+      own_first = own_first (record { 0 = s.namespace }) t.trace t.capacity;
+      few_traces = let few = own_few (record { 0 = s.namespace }) t.trace t.capacity in omega (arith, few);
+      traces_sound = own_sound (record { 0 = s.namespace }) t.trace t.capacity g.kind g.least g.most;
+      traces_apart = own_apart (record { 0 = s.namespace }) t.trace t.capacity;
       edge_type = g.edge_kind;
       direct_type = h.kind;
       every_some = h.least;

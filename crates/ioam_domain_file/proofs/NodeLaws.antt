@@ -8,7 +8,7 @@ use Rattle.ioam_topo.specs.declared.nodes.Nodes.{Nodes}
 use Rattle.ioam_topo.specs.declared.parts.Node.{Node}
 use Rattle.ioam_domain_file.specs.NodeTable.{node_keys, node_faults, node_of, node_name, node_id, node_address, node_spaces, node_list}
 use Rattle.ioam_domain_file.specs.NodeRead.{HoldsNodes, IsNewNode, list_of}
-use Rattle.ioam_topo.specs.Keyed.{name_of_node, address_of_node}
+use Rattle.ioam_topo.specs.Keyed.{name_of_node, id_of_node, address_of_node}
 use Rattle.ioam_domain_file.proofs.GoodsLaws.{goods_push}
 use Rattle.ioam_topo.proofs.KeyLaws.{map_append}
 use Rattle.ioam_domain_file.proofs.KeyLaws.{kept_by}
@@ -43,6 +43,7 @@ node_added earlier m text node old new holds fits items names ids addresses = re
   ids = goods_push node_id earlier m node.id _ _ fits.id_is holds.ids ids;
   addresses = goods_push node_address earlier m node.address _ _ fits.address_is holds.addresses addresses;
   named = kept_by name_of_node old.items.items new.items.items node _ _ holds.named items names;
+  numbered = kept_by id_of_node old.items.items new.items.items node _ _ holds.numbered items ids;
   placed = kept_by address_of_node old.items.items new.items.items node _ _ holds.placed items addresses;
   lists = goods_push node_list earlier m (list_of node) _ _ (list_is m node fits.is) holds.lists
       (ap (map list_of) items ∙ map_append list_of old.items.items (node ∷ []));

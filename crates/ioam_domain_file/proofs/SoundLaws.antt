@@ -1,5 +1,5 @@
 -- A domain that was read without faults keeps what is true of its tables.
-use Rattle.std.proofs.Common.{◌≡◌, ◌≤◌, ℕ, List, [], ◌∷◌, ◌++◌, length, codes, refl, ap, sym, subst, ◌∙◌, arith}
+use Rattle.std.proofs.Common.{◌≡◌, ◌≤◌, ℕ, List, [], ◌∷◌, ◌++◌, map, length, codes, refl, ap, sym, subst, ◌∙◌, arith}
 use Rattle.std.specs.List.{All}
 use Rattle.toml.specs.Data.{Members, get_member}
 use Rattle.ioam_topo.specs.declared.domain.TheConstants.{MOST_ROUTES, MOST_DATA, MOST_FLOWS}
@@ -16,8 +16,10 @@ use Rattle.ioam_topo.specs.declared.domain.Telemetry.{Telemetry}
 use Rattle.ioam_topo.specs.declared.parts.NodeData.{NodeData}
 use Rattle.ioam_domain_file.specs.DataTable.{data_of, data_faults}
 use Rattle.ioam_domain_file.proofs.DataKept.{data_placed}
-use Rattle.ioam_domain_file.specs.FlowTable.{flow_of, flow_faults}
-use Rattle.ioam_domain_file.proofs.FlowKept.{flow_joins}
+use Rattle.ioam_domain_file.specs.FlowTable.{flow_of, flow_name, flow_key, flow_faults}
+use Rattle.ioam_topo.specs.Flows.{name_of_flow, ids_of_flows}
+use Rattle.ioam_topo.specs.Known.{IsKnownAtEnds}
+use Rattle.std.proofs.lemmas.List.Elements.{All-nil}
 use Rattle.ioam_domain_file.proofs.PartFacts.{nodes_sound, links_sound}
 use Rattle.ioam_topo.specs.declared.routes.Parts.{Parts}
 use Rattle.ioam_topo.specs.declared.routes.Routes.{Routes}
@@ -31,7 +33,7 @@ use Rattle.ioam_domain_file.specs.PartsRead.{HoldsParts, HoldsTelemetry}
 use Rattle.ioam_domain_file.specs.Top.{node_entries, link_entries, port_entries, route_entries, data_entries, flow_entries, node_names, node_lists, part_faults, table_faults, data_table_faults, flow_table_faults, telemetry_faults}
 use Rattle.ioam_topo.specs.Kept.{JoinsNodes, JoinsEnds, IsAtNode, IsRouteOf, NodesKept, LinksKept, PortsKept, RoutesKept, DataKept, FlowsKept, IsOfNode}
 use Rattle.ioam_topo.proofs.KeyLaws.{length_map}
-use Rattle.ioam_domain_file.proofs.KeptLaws.{goods_all, few_entries, link_joins, port_placed, route_leads}
+use Rattle.ioam_domain_file.proofs.KeptLaws.{goods_all, few_entries, entries_few, link_joins, port_placed, route_leads}
 
 none_front : (xs ys : List DomainFault) → xs ++ ys ≡ [] → xs ≡ []
 none_front [] ys is = refl
@@ -40,6 +42,10 @@ none_front (x ∷ xs) ys is = cc
 none_behind : (xs ys : List DomainFault) → xs ++ ys ≡ [] → ys ≡ []
 none_behind [] ys is = is
 none_behind (x ∷ xs) ys is = cc
+
+none_of_none : (ms : List Members) → length ms ≤ 0 → ms ≡ []
+none_of_none [] few = refl
+none_of_none (m ∷ ms) few = absurd (omega (arith, few))
 
 module _ (t : Members) (parts : Parts) (holds : HoldsParts t parts) (clear : part_faults t ≡ []) where
   abbrev node_part : List DomainFault
@@ -57,9 +63,10 @@ module _ (t : Members) (parts : Parts) (holds : HoldsParts t parts) (clear : par
   pub nodes_kept : NodesKept parts.nodes
   nodes_kept = record {
     named = holds.nodes.named;
+    numbered = holds.nodes.numbered;
     placed = holds.nodes.placed;
     sound = nodes_sound (node_entries t) parts.nodes.items.items holds.nodes.items;
-    few = let f : length (goods node_of (node_entries t)) ≤ MOST_NODES = few_entries node_of NodeTable MOST_NODES (get_member (codes "node") t) node_faults
+    few = let f : length (goods node_of (node_entries t)) ≤ 256 = few_entries node_of NodeTable MOST_NODES (get_member (codes "node") t) node_faults
         (none_front node_part (link_part ++ port_part) clear) in
         let e : length parts.nodes.items.items ≡ length (goods node_of (node_entries t)) = ap length holds.nodes.items in omega (arith, f, e);
   }
@@ -71,7 +78,7 @@ module _ (t : Members) (parts : Parts) (holds : HoldsParts t parts) (clear : par
         let P : List Link → Type 0 = All (JoinsNodes (length (node_names t))) in let Q : ℕ → Type 0 = λ n. All (JoinsNodes n) parts.links.items.items in
         subst Q node_count (subst P (sym holds.links.items) all);
     sound = links_sound (node_names t) (link_entries t) parts.links.items.items holds.links.items;
-    few = let f : length (goods (link_of (node_names t)) (link_entries t)) ≤ MOST_LINKS = few_entries (link_of (node_names t)) LinkTable MOST_LINKS (get_member (codes "link") t) (link_faults (node_names t))
+    few = let f : length (goods (link_of (node_names t)) (link_entries t)) ≤ 1024 = few_entries (link_of (node_names t)) LinkTable MOST_LINKS (get_member (codes "link") t) (link_faults (node_names t))
         (none_front link_part port_part (none_behind node_part (link_part ++ port_part) clear)) in
         let e : length parts.links.items.items ≡ length (goods (link_of (node_names t)) (link_entries t)) = ap length holds.links.items in omega (arith, f, e);
   }
@@ -82,21 +89,24 @@ module _ (t : Members) (parts : Parts) (holds : HoldsParts t parts) (clear : par
     placed = let all : All (IsAtNode (length (node_names t))) (goods (port_of (node_names t)) (port_entries t)) = goods_all (IsAtNode (length (node_names t))) (port_of (node_names t)) (port_entries t) (port_placed (node_names t)) in
         let P : List Port → Type 0 = All (IsAtNode (length (node_names t))) in let Q : ℕ → Type 0 = λ n. All (IsAtNode n) parts.ports.items.items in
         subst Q node_count (subst P (sym holds.ports.items) all);
-    few = let f : length (goods (port_of (node_names t)) (port_entries t)) ≤ MOST_PORTS = few_entries (port_of (node_names t)) PortTable MOST_PORTS (get_member (codes "port") t) (port_faults (node_names t))
+    few = let f : length (goods (port_of (node_names t)) (port_entries t)) ≤ 64 = few_entries (port_of (node_names t)) PortTable MOST_PORTS (get_member (codes "port") t) (port_faults (node_names t))
         (none_behind link_part port_part (none_behind node_part (link_part ++ port_part) clear)) in
         let e : length parts.ports.items.items ≡ length (goods (port_of (node_names t)) (port_entries t)) = ap length holds.ports.items in omega (arith, f, e);
   }
 
-  pub flows_kept : (telemetry : Telemetry) → HoldsTelemetry t telemetry → telemetry_faults t ≡ [] → FlowsKept (length parts.nodes.items.items) telemetry.flows
-  flows_kept telemetry are none = record {
-    joined = let all : All (JoinsEnds (length (node_names t))) (goods (flow_of (node_names t) (node_lists t)) (flow_entries t)) =
-        goods_all (JoinsEnds (length (node_names t))) (flow_of (node_names t) (node_lists t)) (flow_entries t) (flow_joins (node_names t) (node_lists t)) in
-        let P : List Flow → Type 0 = All (JoinsEnds (length (node_names t))) in let Q : ℕ → Type 0 = λ n. All (JoinsEnds n) telemetry.flows.items.items in
-        subst Q node_count (subst P (sym are.flows.items) all);
-    few = let f : length (goods (flow_of (node_names t) (node_lists t)) (flow_entries t)) ≤ MOST_FLOWS = few_entries (flow_of (node_names t) (node_lists t)) FlowTable MOST_FLOWS
-        (get_member (codes "flow") t) (flow_faults (node_names t) (node_lists t)) (none_behind (data_table_faults t) (flow_table_faults t) none) in
-        let e : length telemetry.flows.items.items ≡ length (goods (flow_of (node_names t) (node_lists t)) (flow_entries t)) = ap length are.flows.items in omega (arith, f, e);
-  }
+  -- there are no flows yet, and of none all is true
+  pub flows_kept : (telemetry : Telemetry) → HoldsTelemetry t telemetry → telemetry_faults t ≡ [] → FlowsKept parts.nodes.items.items telemetry.flows
+  flows_kept telemetry are none =
+      let no_entries : flow_entries t ≡ [] = none_of_none (flow_entries t) (entries_few FlowTable MOST_FLOWS (get_member (codes "flow") t)
+      (flow_faults (node_names t) (node_lists t)) (none_behind (data_table_faults t) (flow_table_faults t) none)) in
+      let no_items : telemetry.flows.items.items ≡ [] = are.flows.items ∙ ap (goods (flow_of (node_names t) (node_lists t))) no_entries in
+      record {
+        named = are.flows.names ∙ ap (goods flow_name) no_entries ∙ sym (ap (map name_of_flow) no_items);
+        keyed = are.flows.keys ∙ ap (goods (flow_key (node_names t) (node_lists t))) no_entries ∙ sym (ap ids_of_flows no_items);
+        joined = let P : List Flow → Type 0 = All (JoinsEnds (length parts.nodes.items.items)) in subst P (sym no_items) (All-nil (JoinsEnds (length parts.nodes.items.items)));
+        known = let P : List Flow → Type 0 = All (IsKnownAtEnds parts.nodes.items.items) in subst P (sym no_items) (All-nil (IsKnownAtEnds parts.nodes.items.items));
+        few = let e : length telemetry.flows.items.items ≡ 0 = ap length no_items in omega (arith, e);
+      }
 
   pub data_kept : (telemetry : Telemetry) → HoldsTelemetry t telemetry → telemetry_faults t ≡ [] → DataKept (length parts.nodes.items.items) telemetry.rows
   data_kept telemetry are none = record {
@@ -105,7 +115,7 @@ module _ (t : Members) (parts : Parts) (holds : HoldsParts t parts) (clear : par
         goods_all (IsOfNode (length (node_names t))) (data_of (node_names t)) (data_entries t) (data_placed (node_names t)) in
         let P : List NodeData → Type 0 = All (IsOfNode (length (node_names t))) in let Q : ℕ → Type 0 = λ n. All (IsOfNode n) telemetry.rows.items.items in
         subst Q node_count (subst P (sym are.rows.items) all);
-    few = let f : length (goods (data_of (node_names t)) (data_entries t)) ≤ MOST_DATA = few_entries (data_of (node_names t)) DataTable MOST_DATA
+    few = let f : length (goods (data_of (node_names t)) (data_entries t)) ≤ 4096 = few_entries (data_of (node_names t)) DataTable MOST_DATA
         (get_member (codes "data") t) (data_faults (node_names t)) (none_front (data_table_faults t) (flow_table_faults t) none) in
         let e : length telemetry.rows.items.items ≡ length (goods (data_of (node_names t)) (data_entries t)) = ap length are.rows.items in omega (arith, f, e);
   }
@@ -123,7 +133,7 @@ module _ (t : Members) (parts : Parts) (holds : HoldsParts t parts) (clear : par
         let P : List Route → Type 0 = All (IsRouteOf (length parts.nodes.names) parts.links.items.items parts.ports.items.items) in
         let Q : ℕ → Type 0 = λ n. All (IsRouteOf n parts.links.items.items parts.ports.items.items) routes.items.items in
         subst Q count (subst P (sym are.items) all);
-    few = let f : length (goods (route_behind parts) (route_entries t)) ≤ MOST_ROUTES = few_entries (route_behind parts) RouteTable MOST_ROUTES (get_member (codes "route") t) (faults_behind parts) none in
+    few = let f : length (goods (route_behind parts) (route_entries t)) ≤ 16384 = few_entries (route_behind parts) RouteTable MOST_ROUTES (get_member (codes "route") t) (faults_behind parts) none in
         let e : length routes.items.items ≡ length (goods (route_behind parts) (route_entries t)) = ap length are.items in omega (arith, f, e);
   } where
     port_count : length parts.ports.names ≡ length parts.ports.items.items

@@ -10,6 +10,7 @@ use Rattle.ioam_toml.specs.Texts.{name}
 use Rattle.ioam_domain_file.specs.declared.words.Table.TheVariants.{FlowTable}
 use Rattle.ioam_domain_file.specs.declared.words.Field.TheVariants.{OtherKey, NameKey}
 use Rattle.ioam_domain_file.specs.declared.fault.DomainFault.{DomainFault}
+use Rattle.ioam_topo.specs.Traces.{own_traces}
 use Rattle.ioam_topo.specs.declared.parts.Flow.{Flow}
 use Rattle.ioam_domain_file.specs.declared.flow_parts.Selection.{Selection}
 use Rattle.ioam_domain_file.specs.declared.flow_parts.Outer.{Outer}
@@ -40,6 +41,7 @@ flow_with name s o t e = record {
   label = o.label;
   trace = t.trace;
   capacity = t.capacity;
+  traces = own_traces (record { 0 = s.namespace }) t.trace t.capacity;
   edge = t.edge;
   direct = e.direct;
   every = e.every;

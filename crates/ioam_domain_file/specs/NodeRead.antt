@@ -9,7 +9,7 @@ use Rattle.ioam_topo.specs.declared.parts.Node.{Node}
 use Rattle.ioam_topo.specs.declared.nodes.Nodes.{Nodes}
 use Rattle.ioam_domain_file.specs.Goods.{goods}
 use Rattle.ioam_domain_file.specs.NodeTable.{node_of, node_name, node_id, node_address, node_list}
-use Rattle.ioam_topo.specs.Keyed.{name_of_node, address_of_node}
+use Rattle.ioam_topo.specs.Keyed.{name_of_node, id_of_node, address_of_node}
 
 -- the namespaces that a node lists
 abbrev pub list_of : Node → Result (List Namespace) Why
@@ -22,6 +22,7 @@ pub record HoldsNodes (entries : List Members) (nodes : Nodes) : Type 0 where
   pub ids : nodes.ids.keys ≡ goods node_id entries
   pub addresses : nodes.addresses.keys ≡ goods node_address entries
   pub named : nodes.names ≡ map name_of_node nodes.items.items
+  pub numbered : nodes.ids.keys ≡ map id_of_node nodes.items.items
   pub placed : nodes.addresses.keys ≡ map address_of_node nodes.items.items
   pub lists : map list_of nodes.items.items ≡ goods node_list entries
 

@@ -3,6 +3,7 @@ ghost use Rattle.toml.specs.View.{table_view};
 ghost use Rattle.ioam_toml.specs.Reads.{◌▷◌};
 ghost use Rattle.ioam_domain_file.specs.Faults.{Gives};
 ghost use Rattle.ioam_topo.specs.Keyed.{IsNewId};
+ghost use Rattle.ioam_topo.specs.Traces.{own_traces};
 ghost use Rattle.ioam_domain_file.specs.Apart.{fresh_some};
 ghost use Rattle.ioam_domain_file.specs.NodeRead.{list_of};
 ghost use Rattle.ioam_domain_file.specs.FlowParts.{flow_id, exporting_keys};
@@ -21,7 +22,7 @@ use crate::words::{Field, Table};
 use ioam_data::Namespace;
 use ioam_desk::Name;
 use ioam_toml::{Why, beside, has};
-use ioam_topo::{Flow, Flows, NodeId, Nodes};
+use ioam_topo::{Flow, Flows, NodeId, Nodes, Traces};
 use std::alloc::Global;
 
 // The flow of these parts.
@@ -30,8 +31,10 @@ fn flow_with(
     selection: Selection,
     outer: Outer,
     tracing: Tracing,
+    traces: Traces,
     exporting: Exporting,
 ) -> Flow
+    requires { traces ≡ own_traces (record { 0 = selection.namespace }) tracing.trace tracing.capacity }
     ensures { result ≡ flow_with name selection outer tracing exporting }
 {
     Flow {
@@ -45,6 +48,7 @@ fn flow_with(
         label: outer.label,
         trace: tracing.trace,
         capacity: tracing.capacity,
+        traces,
         edge: tracing.edge,
         direct: exporting.direct,
         every: exporting.every,
@@ -110,9 +114,14 @@ fn read_flow<'a>(
     let outer = read_outer(spot, entry)?;
     let tracing = read_tracing(spot, entry)?;
     let exporting = exporting(flows, spot, selection.namespace, entry)?;
-    match Name::new(alloc, text) {
-        Ok(name) => Ok((text, flow_with(name, selection, outer, tracing, exporting))),
-        Err(_) => Err(DomainRefused::NoMemory),
+    let space = Namespace(selection.namespace);
+    let traces = Traces::own(alloc, space, tracing.trace, tracing.capacity);
+    match (Name::new(alloc, text), traces) {
+        (Ok(name), Ok(traces)) => {
+            let flow = flow_with(name, selection, outer, tracing, traces, exporting);
+            Ok((text, flow))
+        }
+        _ => Err(DomainRefused::NoMemory),
     }
 }
 

@@ -2,3 +2,5 @@ pub mod KeyLaws
 pub mod LongestLaws
 pub mod ForwardLaws
 pub mod FindingLaws
+pub mod ApartLaws
+pub mod TracesLaws

@@ -1,7 +1,6 @@
 -- What a domain has, in file order.
-use Rattle.std.specs.Prelude.{List, [], ℕ, Bool, nat_eq, Option, Some, None, map, option_map}
+use Rattle.std.specs.Prelude.{List, ℕ, Bool, nat_eq, Option, map, option_map}
 use Rattle.std.specs.List.{list_any}
-use Rattle.ioam_data.specs.declared.namespace.Namespace.{Namespace}
 use Rattle.ioam_topo.specs.declared.domain.Domain.{Domain}
 use Rattle.ioam_topo.specs.declared.parts.Node.{Node}
 use Rattle.ioam_topo.specs.declared.parts.Link.{Link}
@@ -9,6 +8,7 @@ use Rattle.ioam_topo.specs.declared.parts.Port.{Port}
 use Rattle.ioam_topo.specs.declared.parts.Route.{Route}
 use Rattle.ioam_topo.specs.declared.ids.NodeId.{NodeId}
 use Rattle.ioam_topo.specs.declared.ids.LinkId.{LinkId}
+pub use Rattle.ioam_topo.specs.Known.{spaces_of}
 use Rattle.ioam_topo.specs.Keyed.{place_of, name_of_node, name_of_link}
 use Rattle.ioam_topo.specs.declared.parts.NodeData.{NodeData}
 use Rattle.ioam_topo.specs.declared.parts.Flow.{Flow}
@@ -40,11 +40,6 @@ node_of_name domain name = option_map (λ at. record { 0 = at }) (place_of (map 
 -- the link of a name, by its place
 abbrev pub link_of_name : Domain → List ℕ → Option LinkId
 link_of_name domain name = option_map (λ at. record { 0 = at }) (place_of (map name_of_link (links domain)) name)
-
--- the namespaces that a node, where it is there, lists
-abbrev pub spaces_of : Option Node → List Namespace
-spaces_of None = []
-spaces_of (Some node) = node.namespaces
 
 -- whether a target is an address of a node of the domain
 abbrev pub is_local : Domain → ℕ → Bool

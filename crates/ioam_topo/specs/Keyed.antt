@@ -20,6 +20,10 @@ name_of_node node = node.name
 abbrev pub address_of_node : Node → ℕ
 address_of_node node = node.address
 
+-- the id of a node
+abbrev pub id_of_node : Node → ℕ
+id_of_node node = node.id
+
 -- the name of a link
 abbrev pub name_of_link : Link → List ℕ
 name_of_link link = link.name

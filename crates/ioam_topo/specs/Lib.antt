@@ -1,9 +1,13 @@
 pub mod Prefixes
 pub mod Types
 pub mod Spaces
+pub mod Traces
 pub mod Keyed
 pub mod Lengths
 pub mod Forward
+pub mod Flows
+pub mod Known
+pub mod Apart
 pub mod Sound
 pub mod Kept
 pub mod Domain

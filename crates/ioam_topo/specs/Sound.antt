@@ -1,9 +1,10 @@
 -- What is true of each node, link and flow, and of a node's data, whatever file they are of.
-use Rattle.std.specs.Prelude.{◌≡◌, ◌<◌, ◌≤◌, ◌%◌, ◌^◌, true, is_some, length}
+use Rattle.std.specs.Prelude.{◌≡◌, ◌<◌, ◌≤◌, ◌%◌, ◌^◌, true, is_some, length, take}
+use Rattle.std.specs.List.{All}
 use Rattle.std.specs.Option.{ForSome}
 use Rattle.ioam_data.specs.Kind.{is_entry_type}
 use Rattle.ioam_topo.specs.Types.{is_direct_type, is_edge_type}
-use Rattle.ioam_topo.specs.declared.spaces.TheConstants.{SPACES_MOST}
+use Rattle.ioam_topo.specs.Traces.{own_traces, IsFlowTrace, AreOfOwnSpaces}
 use Rattle.ioam_topo.specs.declared.parts.Node.{Node}
 use Rattle.ioam_topo.specs.declared.parts.Link.{Link}
 use Rattle.ioam_topo.specs.declared.parts.NodeData.{NodeData}
@@ -12,7 +13,7 @@ use Rattle.ioam_topo.specs.declared.parts.Flow.{Flow}
 -- its id is one of 56 bits, and its list of namespaces is no longer than such a list may be
 pub record IsNode (node : Node) : Type 0 where
   pub id_below : node.id < 2 ^ 56
-  pub few_spaces : length node.namespaces ≤ SPACES_MOST
+  pub few_spaces : length node.namespaces ≤ 16
 
 -- its delay and its MTU are within their bounds
 pub record IsLink (link : Link) : Type 0 where
@@ -20,7 +21,8 @@ pub record IsLink (link : Link) : Type 0 where
   pub mtu_least : 1280 ≤ link.mtu
   pub mtu_most : link.mtu ≤ 65575
 
--- its numbers are within their bounds and its types are allowed, and what goes together is there together
+-- its numbers are within their bounds and its types are allowed, what goes together is there together, and its traces, of which
+-- the first is its own, are at most three, each of another namespace; it has none where it has no trace of its own
 pub record IsFlow (flow : Flow) : Type 0 where
   pub hops_some : 1 ≤ flow.hops
   pub label_most : flow.label ≤ 1048575
@@ -28,6 +30,10 @@ pub record IsFlow (flow : Flow) : Type 0 where
   pub capacity_some : ForSome flow.capacity (λ n. 1 ≤ n)
   pub capacity_most : ForSome flow.capacity (λ n. n ≤ 61)
   pub trace_room : is_some flow.capacity ≡ is_some flow.trace
+  pub own_first : take 1 flow.traces ≡ own_traces flow.namespace flow.trace flow.capacity
+  pub few_traces : length flow.traces ≤ 3
+  pub traces_sound : All IsFlowTrace flow.traces
+  pub traces_apart : AreOfOwnSpaces flow.traces
   pub edge_type : ForSome flow.edge (λ kind. is_edge_type kind ≡ true)
   pub direct_type : ForSome flow.direct (λ kind. is_direct_type kind ≡ true)
   pub every_some : ForSome flow.every (λ n. 1 ≤ n)

@@ -3,6 +3,8 @@ ghost use Rattle.ioam_topo.specs.declared.domain.TheConstants.{MOST_FLOWS};
 ghost use Rattle.std.specs.List.{All};
 ghost use Rattle.ioam_topo.specs.Kept.{NodesKept, LinksKept, PortsKept, RoutesKept, DataKept, FlowsKept};
 ghost use Rattle.ioam_topo.specs.Sound.{IsNodeData, IsFlow};
+ghost use Rattle.ioam_topo.specs.Apart.{AreApart, NodesApart, FlowsApart};
+ghost use Rattle.ioam_topo.specs.Keyed.{name_of_link, name_of_port};
 
 use crate::data_rows::DataRows;
 use crate::flows::Flows;
@@ -56,7 +58,11 @@ pub struct Domain {
     ghost ports_kept: { PortsKept (length parts.nodes.items.items) parts.ports },
     ghost routes_kept: { RoutesKept parts routes },
     ghost data_kept: { DataKept (length parts.nodes.items.items) telemetry.rows },
-    ghost flows_kept: { FlowsKept (length parts.nodes.items.items) telemetry.flows },
+    ghost flows_kept: { FlowsKept parts.nodes.items.items telemetry.flows },
+    ghost nodes_apart: { NodesApart parts.nodes.items.items },
+    ghost links_apart: { AreApart name_of_link parts.links.items.items },
+    ghost ports_apart: { AreApart name_of_port parts.ports.items.items },
+    ghost flows_apart: { FlowsApart telemetry.flows.items.items },
 }
 
 impl Domain {
@@ -78,7 +84,7 @@ impl Domain {
         requires ports_kept { PortsKept (length parts.nodes.items.items) parts.ports }
         requires routes_kept { RoutesKept parts routes }
         requires data_kept { DataKept (length parts.nodes.items.items) telemetry.rows }
-        requires flows_kept { FlowsKept (length parts.nodes.items.items) telemetry.flows }
+        requires flows_kept { FlowsKept parts.nodes.items.items telemetry.flows }
 
         ensures format { result.format ≡ format }
         ensures packets { result.packets ≡ packets }
@@ -89,6 +95,14 @@ impl Domain {
         ensures data { node_data result ≡ telemetry.rows.items.items }
         ensures flows { flows result ≡ telemetry.flows.items.items }
     {
+        // A set has no key twice, and says so where it is asked for its length.
+        prove!(parts.nodes.names.len() == parts.nodes.items.len());
+        prove!(parts.nodes.ids.len() == parts.nodes.items.len());
+        prove!(parts.nodes.addresses.len() == parts.nodes.items.len());
+        prove!(parts.links.names.len() == parts.links.items.len());
+        prove!(parts.ports.names.len() == parts.ports.items.len());
+        prove!(telemetry.flows.names.len() == telemetry.flows.items.len());
+        prove!(telemetry.flows.taken.len() <= telemetry.flows.items.len());
         Domain {
             format,
             packets,

@@ -1,10 +1,12 @@
-ghost use Rattle.std.specs.Prelude.{◌≡◌, ◌++◌, ◌∷◌, [], OnOk, false};
+ghost use Rattle.std.specs.Prelude.{◌≡◌, ◌<◌, ◌++◌, ◌∷◌, [], OnOk, IsSomeAnd, false, length, slice_get, slice_set};
 ghost use Rattle.std.specs.List.{list_any};
 ghost use Rattle.std.specs.Str.{bytes_eq};
 ghost use Rattle.ioam_topo.specs.Keyed.{is_pair, pairs_of, IsNewId};
+ghost use Rattle.ioam_topo.specs.Flows.{with_trace};
 
 use crate::names::Names;
 use crate::parts::Flow;
+use crate::traces::FlowTrace;
 use indexmap::IndexSet;
 use ioam_base::memory::NoMemory;
 use std::alloc::Global;
@@ -51,6 +53,18 @@ impl Flows {
             self.taken.insert_full((space, id))?;
         }
         Ok(())
+    }
+
+    /// Adds a trace to the flow of this place, behind its others. After NoMemory nothing is known of the
+    /// flows.
+    pub fn add_trace(&mut self, at: usize, trace: FlowTrace) -> Result<(), NoMemory>
+        requires { at < length self.old.items.items }
+        ensures items { OnOk result (IsSomeAnd (slice_get self.old.items.items at)
+            (λ flow. self.new.items.items ≡ slice_set self.old.items.items at (with_trace flow trace))) }
+        ensures names { self.new.names ≡ self.old.names }
+        ensures keys { self.new.taken.keys ≡ self.old.taken.keys }
+    {
+        self.items[at].traces.add(trace)
     }
 
     /// Adds a flow of this name. After NoMemory nothing is known of the flows.

@@ -21,6 +21,7 @@ mod ports;
 mod prefix;
 mod routes;
 mod spaces;
+mod traces;
 
 pub use data_rows::DataRows;
 pub use domain::{Domain, MOST_DATA, MOST_FLOWS, MOST_ROUTES, Telemetry};
@@ -37,3 +38,4 @@ pub use ports::{MOST_PORTS, Ports};
 pub use prefix::Prefix;
 pub use routes::{Parts, Routes};
 pub use spaces::{SPACES_MOST, Spaces};
+pub use traces::{FlowTrace, Traces};

@@ -3,6 +3,8 @@ ghost use Rattle.std.specs.List.{All};
 ghost use Rattle.ioam_topo.specs.Domain.{is_local, spaces_of};
 ghost use Rattle.ioam_topo.specs.Sound.{IsNode, IsLink};
 ghost use Rattle.ioam_topo.specs.Spaces.{knows_space};
+ghost use Rattle.ioam_topo.specs.Apart.{AreApart, NodesApart};
+ghost use Rattle.ioam_topo.specs.Keyed.{name_of_link, name_of_port};
 ghost use Rattle.ioam_topo.specs.Kept.{JoinsNodes, IsAtNode, IsRouteOf};
 
 use crate::domain::Domain;
@@ -19,6 +21,7 @@ impl Domain {
     pub fn nodes(&self) -> &[Node]
         ensures few { length (nodes self.now) ≤ 256 }
         ensures sound { All IsNode result.now }
+        ensures apart { NodesApart result.now }
         ensures value { result.now ≡ nodes self.now }
     {
         self.parts.nodes.items.as_slice()
@@ -30,6 +33,7 @@ impl Domain {
         ensures few { length (links self.now) ≤ 1024 }
         ensures ends { All (JoinsNodes (length (nodes self.now))) result.now }
         ensures sound { All IsLink result.now }
+        ensures apart { AreApart name_of_link result.now }
         ensures value { result.now ≡ links self.now }
     {
         self.parts.links.items.as_slice()
@@ -39,6 +43,7 @@ impl Domain {
     pub fn ports(&self) -> &[Port]
         ensures few { length (ports self.now) ≤ 64 }
         ensures places { All (IsAtNode (length (nodes self.now))) result.now }
+        ensures apart { AreApart name_of_port result.now }
         ensures value { result.now ≡ ports self.now }
     {
         self.parts.ports.items.as_slice()

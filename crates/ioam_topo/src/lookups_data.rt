@@ -1,10 +1,12 @@
 ghost use Rattle.std.specs.Prelude.{◌≡◌, ◌<◌, ◌≤◌, length, position, slice_get, Some, IfSome};
 ghost use Rattle.std.specs.List.{All};
 ghost use Rattle.std.specs.Option.{option_copied};
-ghost use Rattle.ioam_topo.specs.declared.domain.TheConstants.{MOST_DATA, MOST_FLOWS};
+ghost use Rattle.ioam_topo.specs.declared.domain.TheConstants.{MOST_FLOWS};
 ghost use Rattle.ioam_topo.specs.Sound.{IsNodeData, IsFlow};
 ghost use Rattle.ioam_topo.specs.Finding.{data_at, encloses, flow_at};
 ghost use Rattle.ioam_topo.specs.Kept.{IsOfNode, JoinsEnds};
+ghost use Rattle.ioam_topo.specs.Known.{IsKnownAtEnds};
+ghost use Rattle.ioam_topo.specs.Apart.{FlowsApart};
 
 use crate::domain::Domain;
 use crate::ids::{FlowId, NodeId};
@@ -33,22 +35,36 @@ fn place_at(flows: &[Flow], node: NodeId, source: u128, target: u128) -> Option<
 impl Domain {
     ghost use Rattle.ioam_topo.specs.Domain.{nodes, node_data, flows};
 
-    /// The flows, in file order: at most `MOST_FLOWS`, each from a node of the domain to another and within its bounds, a
-    /// trace there exactly where its capacity is, and direct exports exactly where their rate and
-    /// their id are.
+    /// The flows, in file order: at most `MOST_FLOWS`, each from a node of the domain to another, which
+    /// both know its namespaces, and within its bounds, a trace there exactly where its capacity is,
+    /// and direct exports exactly where their rate and their id are. No two have one name, and no
+    /// two of one namespace have one id.
     pub fn flows(&self) -> &[Flow]
         ensures few { length (flows self.now) ≤ MOST_FLOWS }
         ensures value { result.now ≡ flows self.now }
         ensures ends { All (JoinsEnds (length (nodes self.now))) result.now }
+        ensures known { All (IsKnownAtEnds (nodes self.now)) result.now }
         ensures sound { All IsFlow result.now }
+        ensures apart { FlowsApart result.now }
     {
         self.telemetry.flows.items.as_slice()
+    }
+
+    /// A flow by its id.
+    pub fn flow(&self, id: FlowId) -> &Flow
+        requires { id.0 < length (flows self.now) }
+        ensures value { slice_get (flows self.now) id.0 ≡ Some result.now }
+        ensures ends { JoinsEnds (length (nodes self.now)) result.now }
+        ensures known { IsKnownAtEnds (nodes self.now) result.now }
+        ensures sound { IsFlow result.now }
+    {
+        &self.telemetry.flows.items[id.0 as usize]
     }
 
     /// The data of the nodes, in file order: at most 4,096, each of a node of the domain and within
     /// its bounds, a schema there exactly where its snapshot is.
     pub fn data(&self) -> &[NodeData]
-        ensures few { length (node_data self.now) ≤ MOST_DATA }
+        ensures few { length (node_data self.now) ≤ 4096 }
         ensures value { result.now ≡ node_data self.now }
         ensures places { All (IsOfNode (length (nodes self.now))) result.now }
         ensures sound { All IsNodeData result.now }

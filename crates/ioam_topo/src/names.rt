@@ -1,5 +1,5 @@
-ghost use Rattle.std.specs.Prelude.{◌≡◌, ◌++◌, ◌∷◌, ◌<◌, ◌^◌, [], length, OnOk, IfSome, false};
-ghost use Rattle.std.specs.List.{list_any};
+ghost use Rattle.std.specs.Prelude.{◌≡◌, ◌≢◌, ◌++◌, ◌∷◌, ◌<◌, ◌^◌, [], length, OnOk, IfSome, false};
+ghost use Rattle.std.specs.List.{list_any, AllPairs};
 ghost use Rattle.std.specs.Str.{bytes_eq};
 ghost use Rattle.ioam_topo.specs.Keyed.{place_of};
 
@@ -35,6 +35,14 @@ impl Names {
         Names {
             held: IndexSet::new(alloc),
         }
+    }
+
+    /// How many there are; no two are equal.
+    pub fn len(&self) -> usize
+        ensures value { result ≡ length self.now }
+        ensures apart { AllPairs (λ a b. a ≢ b) self.now }
+    {
+        self.held.len()
     }
 
     /// The place of a name.

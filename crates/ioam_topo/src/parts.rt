@@ -1,7 +1,10 @@
+ghost use Rattle.std.specs.Prelude.{◌≡◌};
+
 use crate::ids::{NodeId, Way};
 use crate::octets::Octets;
 use crate::prefix::Prefix;
 use crate::spaces::Spaces;
+use crate::traces::{FlowTrace, Traces};
 use ioam_data::{Namespace, TraceType};
 use ioam_desk::Name;
 
@@ -109,6 +112,10 @@ pub struct Flow {
     pub trace: Option<TraceType>,
     /// The trace's free words of 4 octets, 1 to 61; there is one exactly where there is a trace.
     pub capacity: Option<u8>,
+    /// All traces that the packets carry, at most three, each of another namespace: first the one of
+    /// `namespace`, `trace` and `capacity`, then those of other namespaces. There are none without
+    /// `trace`.
+    pub traces: Traces,
     /// The type of the edge-to-edge option, of the bits 0x8000, 0x4000, 0x2000 and 0x1000: not 0,
     /// and not both 0x8000 and 0x4000 (RFC 9197 section 4.6).
     pub edge: Option<u16>,
@@ -123,4 +130,14 @@ pub struct Flow {
     pub flow_id: Option<u32>,
     /// The tunnel's encapsulation limit (RFC 2473 section 4.1.1).
     pub limit: Option<u8>,
+}
+
+impl Flow {
+    /// The traces that the packets carry, in the order in which they stand in a packet: the flow's
+    /// own first, then those of other namespaces.
+    pub fn traces(&self) -> &[FlowTrace]
+        ensures { result.now ≡ self.now.traces }
+    {
+        self.traces.list()
+    }
 }
