@@ -102,8 +102,23 @@ const RECORD: [u8; 22] = [
 ];
 
 const RECORD_READ: &str =
-    "Export(Export { namespace: Namespace(7), flags: 0, ext: 192, kind: 8388608, flow: Some(9), seq: Some(0), element: [64, 0, 0, 1] })
+    "Export(Export { namespace: Namespace(7), flags: 0, ext: 192, kind: 8388608, visit: None, flow: Some(9), seq: Some(0), element: [64, 0, 0, 1] })
 ";
+
+// The same of version 2: at the time 1,000,000,000, by the interface 10.
+const SECOND: [u8; 34] = [
+    2, 0xC0, 0, 0x22, 0, 7, 0, 0x80, 0, 0, 0, 0, 0, 0, 0x3B, 0x9A, 0xCA, 0, 0, 0, 0, 10, 0, 0, 0,
+    9, 0, 0, 0, 0, 0x40, 0, 0, 1,
+];
+
+const SECOND_READ: &str =
+    "Export(Export { namespace: Namespace(7), flags: 0, ext: 192, kind: 8388608, visit: Some((1000000000, 10)), flow: Some(9), seq: Some(0), element: [64, 0, 0, 1] })
+";
+
+// One without numbers: hop limit 63, node 2, by the interface 21.
+const SECOND_BARE: [u8; 26] = [
+    2, 0, 0, 0x1A, 0, 7, 0, 0x80, 0, 0, 0, 0, 0, 0, 0, 0, 0, 5, 0, 0, 0, 0x15, 0x3F, 0, 0, 2,
+];
 
 // Records without numbers: of a type with no bit, of one with only an undefined bit, of one with an
 // undefined bit more, and with a snapshot of one word, schema 5.
@@ -117,13 +132,21 @@ const SNAPSHOT: [u8; 22] = [
     1, 0, 0, 22, 0, 7, 2, 0x80, 0, 2, 0x40, 0, 0, 1, 1, 0, 0, 5, 0xAA, 0xBB, 0xCC, 0xDD,
 ];
 
-const RECORDS: [&[u8]; 5] = [&RECORD, &BARE, &UNDEFINED, &MORE_UNDEFINED, &SNAPSHOT];
+const RECORDS: [&[u8]; 7] = [
+    &RECORD,
+    &BARE,
+    &UNDEFINED,
+    &MORE_UNDEFINED,
+    &SNAPSHOT,
+    &SECOND,
+    &SECOND_BARE,
+];
 
 // Whether each record is written as it was read, behind those before it.
 fn all_are_written(room: &mut ExportRoom, records: &[&[u8]]) -> Result<bool, Fail> {
     for record in records {
         let export = export_of(record).ok_or("no record")?;
-        if room.spare() < 262 {
+        if room.spare() < 274 {
             return Err(Fail::from("too little room"));
         }
         let before = room.octets().len();
@@ -139,8 +162,8 @@ fn all_are_written(room: &mut ExportRoom, records: &[&[u8]]) -> Result<bool, Fai
 fn records_are_written_and_read(rt: HostRuntime) -> Result<(), Fail> {
     let mut room = ExportRoom::new(rt.alloc(), 600)?;
     assert!(rt; all_are_written(&mut room, &RECORDS)?);
-    assert_eq!(rt; room.octets().len(), 78);
-    assert_eq!(rt; room.spare(), 522);
+    assert_eq!(rt; room.octets().len(), 138);
+    assert_eq!(rt; room.spare(), 462);
     room.clear();
     assert_eq!(rt; room.octets().len(), 0);
     assert_eq!(rt; room.spare(), 600);
@@ -188,7 +211,7 @@ fn outline(alloc: Global, input: &[u8], size: usize) -> Result<String, Fail>
 }
 
 // Whole records and what stands behind them, what is shown of the records, and how they end.
-const CASES: [(&[u8], &[u8], &str, &str); 16] = [
+const CASES: [(&[u8], &[u8], &str, &str); 22] = [
     (&[], &[], "", "whole\n"),
     (&RECORD, &[], RECORD_READ, "whole\n"),
     (&RECORD, &[3], RECORD_READ, "Version { found: 3 } at 22\n"),
@@ -215,13 +238,13 @@ const CASES: [(&[u8], &[u8], &str, &str); 16] = [
     (
         &BARE,
         &[],
-        "Export(Export { namespace: Namespace(7), flags: 2, ext: 0, kind: 0, flow: None, seq: None, element: [] })\n",
+        "Export(Export { namespace: Namespace(7), flags: 2, ext: 0, kind: 0, visit: None, flow: None, seq: None, element: [] })\n",
         "whole\n",
     ),
     (
         &SNAPSHOT,
         &[],
-        "Export(Export { namespace: Namespace(7), flags: 2, ext: 0, kind: 8388610, flow: None, seq: None, element: [64, 0, 0, 1, 1, 0, 0, 5, 170, 187, 204, 221] })\n",
+        "Export(Export { namespace: Namespace(7), flags: 2, ext: 0, kind: 8388610, visit: None, flow: None, seq: None, element: [64, 0, 0, 1, 1, 0, 0, 5, 170, 187, 204, 221] })\n",
         "whole\n",
     ),
     (
@@ -241,6 +264,19 @@ const CASES: [(&[u8], &[u8], &str, &str); 16] = [
         &[1, 0, 0, 18, 0, 7, 2, 0x80, 0, 2, 0x40, 0, 0, 1, 1, 0, 0, 5],
         "",
         "Element { at: 10 } at 0\n",
+    ),
+    (&SECOND, &[], SECOND_READ, "whole\n"),
+    (&SECOND, &[0], SECOND_READ, "Version { found: 0 } at 34\n"),
+    (&[], &[2, 0xC0, 0, 29], "", "Length { found: 29 } at 0\n"),
+    (&[], &[2, 0xC0, 1, 18], "", "Short { have: 4 } at 0\n"),
+    (&[], &[2, 0xC0, 1, 19], "", "Length { found: 275 } at 0\n"),
+    (
+        &SECOND,
+        &[
+            2, 0, 0, 0x16, 0, 7, 0, 0x80, 0, 0, 0, 0, 0, 0, 0, 0, 0, 5, 0, 0, 0, 0x15,
+        ],
+        SECOND_READ,
+        "Element { at: 22 } at 34\n",
     ),
 ];
 

@@ -3,14 +3,15 @@ use Rattle.std.proofs.Common.{◌≡◌, ℕ, ◌+◌, ◌*◌, ◌-◌, ◌/◌
 use Rattle.std.specs.Prelude.{IfSome, MatchOption}
 use Rattle.std.specs.Option.{ForSome}
 use Rattle.std.specs.Borrow.{Bor}
-use Rattle.std.proofs.lemmas.List.{length-append, length-replicate, get_or-append-add, get_or_append_left}
+use Rattle.std.proofs.lemmas.List.{length-append, length-replicate, get_or-append-add, get_or_append_left, nil_from_length}
 use Rattle.std.proofs.lemmas.Nat.{le-div, div_below}
 use Rattle.std.proofs.lemmas.Bool.{cases_lt, cases_Bool, cond-true, eq-eqb, and_parts}
 use Rattle.std.proofs.lemmas.Bool.Decides.{nat_tests}
 use Rattle.ioam_data.specs.Kind.{has, where_has, words, undefined, fits_type, can_add}
-use Rattle.ioam_data.specs.Elements.{size_at, Stands, IsElement, FindsElement}
+use Rattle.ioam_data.specs.Elements.{size_at, Stands, IsElement, IsFilled, FindsElement}
 use Rattle.ioam_data.specs.Snapshot.{IsSnapshot}
 use Rattle.ioam_data.specs.View.{Seen, snapshot_data}
+use Rattle.ioam_data.proofs.KindLaws.{words-small}
 use Rattle.ioam_data.specs.Written.{bits_0_to_3, bits_4_to_7, bits_8_to_11, snapshot_of, element_of, element_words}
 
 -- an element has NodeLen words, and with bit 22 a word more
@@ -214,6 +215,50 @@ IsElement-element_of kind node_len view below can snapshot =
       };
       whole = whole;
     }
+
+-- a snapshot takes a word at least
+snapshot_some : (given : Option (ℕ × List ℕ)) → 1 ≤ length (snapshot_of given) / 4
+snapshot_some None = omega arith
+snapshot_some (Some given) = omega arith
+
+-- what is exported for a view is filled, and not longer than 61 words
+module _ (kind : ℕ) (view : Seen) (snapshot : IfSome view.snapshot (λ s. IsSnapshot s.0 s.1)) where
+  abbrev exported : List ℕ
+  exported = element_of kind (words kind) view
+
+  abbrev data_words : ℕ
+  data_words = length (snapshot_of view.snapshot) / 4
+
+  exported-long : length exported ≡ 4 * (words kind + cond (has kind 22) data_words 0)
+  exported-long = length-element_of kind (words kind) view (omega arith) snapshot
+
+  plain_by : (b : Bool) → words kind + cond b data_words 0 ≡ 0 → b ≡ false
+  plain_by true none = absurd (omega (arith, snapshot_some view.snapshot))
+  plain_by false none = refl
+
+  pub exported-filled : IsFilled kind exported
+  exported-filled =
+      let whole = size_at-element_of kind (words kind) view (omega arith) snapshot in
+      elim (cases_lt 0 (length exported)) [
+        | inl some ↦ inl (record {
+          stands = record { room = omega arith; filled = omega (arith, whole); inside = omega (arith, whole) };
+          whole = whole;
+        })
+        | inr none ↦
+            let nothing : words kind + cond (has kind 22) data_words 0 ≡ 0 = omega (arith, exported-long) in
+            inr (record {
+              wordless = omega (arith, nothing);
+              plain = plain_by (has kind 22) nothing;
+              nothing = nil_from_length exported (omega arith);
+            })
+      ]
+
+  short_by : (b : Bool) → 4 * (words kind + cond b data_words 0) ≤ 244
+  short_by true = omega (arith, words-small kind, snapshot_words view.snapshot snapshot)
+  short_by false = omega (arith, words-small kind)
+
+  pub exported-short : length exported ≤ 244
+  exported-short = omega (arith, exported-long, short_by (has kind 22))
 
 -- a snapshot that is lent is right as its octets are
 pub IsSnapshot-lent : (given : Option (ℕ × Bor (List ℕ))) → ForSome given (λ s. IsSnapshot s.0 s.1.now)

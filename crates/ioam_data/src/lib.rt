@@ -3,6 +3,7 @@
 
 mod buffer;
 mod cursor;
+mod exported;
 mod held;
 mod kind;
 mod namespace;
@@ -12,6 +13,7 @@ mod size;
 mod view;
 
 pub use buffer::ElementBuf;
+pub use exported::put_exported;
 pub use held::Fields;
 pub use kind::TraceType;
 pub use namespace::Namespace;

@@ -133,7 +133,7 @@ fn put_snapshot(kind: TraceType, view: &View<'_>, into: &mut ElementBuf)
 
 // Writes the element of a view in place of what the buffer holds.
 #[tactic(auto, unfolding(crate::specs::Kind::words, crate::specs::Written::element_of))]
-fn write(kind: TraceType, node_len: u8, view: &View<'_>, into: &mut ElementBuf)
+pub(crate) fn write(kind: TraceType, node_len: u8, view: &View<'_>, into: &mut ElementBuf)
     requires below { node_len < 32 }
     requires room { words kind ≤ node_len }
     ensures { into.new ≡ element_of kind node_len (seen view.now) }

@@ -5,8 +5,15 @@ use Rattle.std.proofs.lemmas.List.{get_or_append_left, drop-append-le, take-appe
 use Rattle.ioam_base.proofs.OctetsLaws.{u16_at-append}
 use Rattle.ioam_dex.specs.declared.export.ExportFault.{ExportFault}
 use Rattle.ioam_dex.specs.declared.export.ExportFault.TheVariants as fault
-use Rattle.ioam_dex.specs.Record.{IsFilled, front_size, length_of, front_of, element_of, kind_of, IsSized}
+use Rattle.ioam_data.specs.Elements.{IsFilled}
+use Rattle.ioam_dex.specs.Visit.{IsVersion}
+use Rattle.ioam_dex.specs.Record.{front_size, length_of, front_of, element_of, kind_of, IsSized}
 use Rattle.ioam_dex.specs.Faults.{Fault, IsCut}
+
+-- a version is no other number
+no_version : (version found : ℕ) → IsVersion version → found ≡ version → (found ≡ 1 → ⊥) → (found ≡ 2 → ⊥) → ⊥
+no_version version found (inl one) same not_one not_two = not_one (same ∙ one)
+no_version version found (inr two) same not_one not_two = not_two (same ∙ two)
 
 -- a record is there whole, and has an element of its type
 pub record IsWhole (octets : List ℕ) : Type 0 where
@@ -21,7 +28,7 @@ module _ (octets : List ℕ) where
   whole-not-cut whole (inr (inr few)) = omega (arith, whole.there, few.1)
 
   pub whole-not-faulty : (f : ExportFault) → IsWhole octets → Fault octets f → ⊥
-  whole-not-faulty (fault.Version found) whole bad = bad.2 (bad.1 ∙ whole.sized.version)
+  whole-not-faulty (fault.Version found) whole bad = no_version (get_or octets 0 0) found whole.sized.version bad.1 bad.2 bad.3
   whole-not-faulty (fault.Length found) whole bad = elim bad.3 [
     | inl low ↦ omega (arith, whole.sized.least, bad.2)
     | inr high ↦ omega (arith, whole.sized.most, bad.2)
@@ -31,8 +38,8 @@ module _ (octets : List ℕ) where
 
   pub cut-not-faulty : (f : ExportFault) → IsCut octets → Fault octets f → ⊥
   cut-not-faulty (fault.Version found) (inl few) bad = omega (arith, bad.0)
-  cut-not-faulty (fault.Version found) (inr (inl few)) bad = bad.2 (bad.1 ∙ few.0)
-  cut-not-faulty (fault.Version found) (inr (inr few)) bad = bad.2 (bad.1 ∙ few.0.version)
+  cut-not-faulty (fault.Version found) (inr (inl few)) bad = no_version (get_or octets 0 0) found few.0 bad.1 bad.2 bad.3
+  cut-not-faulty (fault.Version found) (inr (inr few)) bad = no_version (get_or octets 0 0) found few.0.version bad.1 bad.2 bad.3
   cut-not-faulty (fault.Length found) (inl few) bad = omega (arith, bad.0)
   cut-not-faulty (fault.Length found) (inr (inl few)) bad = omega (arith, bad.0, few.1)
   cut-not-faulty (fault.Length found) (inr (inr few)) bad = elim bad.3 [
@@ -47,17 +54,17 @@ module _ (octets : List ℕ) where
   -- a record has one fault
   pub fault-unique : (f g : ExportFault) → Fault octets f → Fault octets g → f ≡ g
   fault-unique (fault.Version m) (fault.Version n) x y = ap fault.Version (x.1 ∙ sym y.1)
-  fault-unique (fault.Version m) (fault.Length n) x y = absurd (x.2 (x.1 ∙ y.1))
-  fault-unique (fault.Version m) (fault.Element n) x y = absurd (x.2 (x.1 ∙ y.0.version))
+  fault-unique (fault.Version m) (fault.Length n) x y = absurd (no_version (get_or octets 0 0) m y.1 x.1 x.2 x.3)
+  fault-unique (fault.Version m) (fault.Element n) x y = absurd (no_version (get_or octets 0 0) m y.0.version x.1 x.2 x.3)
   fault-unique (fault.Version m) (fault.Short n) x y = absurd y
-  fault-unique (fault.Length m) (fault.Version n) x y = absurd (y.2 (y.1 ∙ x.1))
+  fault-unique (fault.Length m) (fault.Version n) x y = absurd (no_version (get_or octets 0 0) n x.1 y.1 y.2 y.3)
   fault-unique (fault.Length m) (fault.Length n) x y = ap fault.Length (x.2 ∙ sym y.2)
   fault-unique (fault.Length m) (fault.Element n) x y = absurd (elim x.3 [
     | inl low ↦ omega (arith, y.0.least, x.2)
     | inr high ↦ omega (arith, y.0.most, x.2)
   ])
   fault-unique (fault.Length m) (fault.Short n) x y = absurd y
-  fault-unique (fault.Element m) (fault.Version n) x y = absurd (y.2 (y.1 ∙ x.0.version))
+  fault-unique (fault.Element m) (fault.Version n) x y = absurd (no_version (get_or octets 0 0) n x.0.version y.1 y.2 y.3)
   fault-unique (fault.Element m) (fault.Length n) x y = absurd (elim y.3 [
     | inl low ↦ omega (arith, x.0.least, y.2)
     | inr high ↦ omega (arith, x.0.most, y.2)
@@ -86,7 +93,12 @@ module _ (octets more : List ℕ) where
   length_of-behind fits = u16_at-append octets more 2 fits
 
   front_of-behind : 4 ≤ length octets → front_of (octets ++ more) ≡ front_of octets
-  front_of-behind fits = ap front_size (index-behind 1 (omega arith))
+  front_of-behind fits =
+      ap (λ n. front_size n (get_or (octets ++ more) 1 0)) (index-behind 0 (omega arith))
+      ∙ ap (front_size (get_or octets 0 0)) (index-behind 1 (omega arith))
+
+  version-behind : 1 ≤ length octets → IsVersion (get_or octets 0 0) → IsVersion (get_or (octets ++ more) 0 0)
+  version-behind fits is = let P : ℕ → Type 0 = λ n. IsVersion n in subst P (sym (index-behind 0 fits)) is
 
   kind_of-behind : 10 ≤ length octets → kind_of (octets ++ more) ≡ kind_of octets
   kind_of-behind fits = omega (arith, index-behind 7 (omega arith), index-behind 8 (omega arith), index-behind 9 (omega arith))
@@ -97,7 +109,7 @@ module _ (octets more : List ℕ) where
       let front = front_of-behind sized.begins in
       record {
         begins = longer 4 sized.begins;
-        version = index-behind 0 (omega (arith, sized.begins)) ∙ sized.version;
+        version = version-behind (omega (arith, sized.begins)) sized.version;
         least = omega (arith, sized.least);
         most = omega (arith, sized.most);
       }
@@ -112,11 +124,11 @@ module _ (octets more : List ℕ) where
 
   -- a fault stays
   pub Fault-behind : (f : ExportFault) → Fault octets f → Fault (octets ++ more) f
-  Fault-behind (fault.Version found) bad = (longer 1 bad.0, bad.1 ∙ sym (index-behind 0 bad.0), bad.2)
+  Fault-behind (fault.Version found) bad = (longer 1 bad.0, bad.1 ∙ sym (index-behind 0 bad.0), bad.2, bad.3)
   Fault-behind (fault.Length found) bad =
       let front = front_of-behind bad.0 in (
         longer 4 bad.0,
-        index-behind 0 (omega (arith, bad.0)) ∙ bad.1,
+        version-behind (omega (arith, bad.0)) bad.1,
         bad.2 ∙ sym (length_of-behind bad.0),
         elim bad.3 [
           | inl low ↦ inl (omega arith)

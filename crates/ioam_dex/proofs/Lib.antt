@@ -5,3 +5,4 @@ pub mod ReaderLaws
 pub mod ReadsLaws
 pub mod RecordLaws
 pub mod TotalLaws
+pub mod VisitLaws

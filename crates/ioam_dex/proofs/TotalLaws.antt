@@ -5,11 +5,11 @@ use Rattle.std.proofs.lemmas.List.{get_or-drop, nil_from_length}
 use Rattle.std.proofs.lemmas.List.Elements.{All-nil}
 use Rattle.ioam_base.specs.Octets.{IsOctets}
 use Rattle.ioam_data.specs.Kind.{has, words}
-use Rattle.ioam_data.specs.Elements.{size_at, IsElement}
+use Rattle.ioam_data.specs.Elements.{size_at, IsElement, IsVoid, IsFilled}
 use Rattle.ioam_dex.specs.declared.export.ExportFault.{ExportFault}
-use Rattle.ioam_dex.specs.declared.export.TheConstants.{ELEMENT_MOST}
 use Rattle.ioam_dex.specs.declared.export.ExportFault.TheVariants as fault
-use Rattle.ioam_dex.specs.Record.{Record, IsVoid, IsFilled, IsRecord, record_octets, length_of, front_of, element_of, kind_of, record_at, IsSized}
+use Rattle.ioam_dex.specs.Visit.{IsVersion}
+use Rattle.ioam_dex.specs.Record.{Record, IsRecord, record_octets, length_of, front_of, element_of, kind_of, record_at, IsSized}
 use Rattle.ioam_dex.specs.Faults.{Fault, IsCut}
 use Rattle.ioam_dex.specs.Reads.{records_octets, Splits, Ending, Whole, Faulty, Reads}
 use Rattle.ioam_dex.proofs.RecordLaws.{octets-record_at, IsRecord-record_at, record_octets-length}
@@ -48,6 +48,15 @@ filled_or_not kind e = elim (element_or_not kind e) [
     neither never none (inl element) = never element
     neither never none (inr void) = none void
 
+version_or_not : (n : ℕ) → IsVersion n ⊎ ((n ≡ 1 → ⊥) × (n ≡ 2 → ⊥))
+version_or_not n = elim (cases_eq n 1) [
+  | inl one ↦ inl (inl one)
+  | inr not_one ↦ elim (cases_eq n 2) [
+    | inl two ↦ inl (inr two)
+    | inr not_two ↦ inr (not_one, not_two)
+  ]
+]
+
 -- where a record is due stands a whole one, the front of one, or a fault
 abbrev At : List ℕ → Type 0
 At octets = ((x : Record) × (behind : List ℕ) × IsRecord x × (octets ≡ record_octets x ++ behind) × IsOctets behind)
@@ -69,13 +78,13 @@ module _ (octets : List ℕ) (small : IsOctets octets) where
   some_at : At octets
   some_at = elim (cases_lt (length octets) 1) [
     | inl none ↦ inr (inl (inl none))
-    | inr some ↦ elim (cases_eq (get_or octets 0 0) 1) [
-      | inr other ↦ inr (inr (fault.Version (get_or octets 0 0), (some, refl, other)))
+    | inr some ↦ elim (version_or_not (get_or octets 0 0)) [
+      | inr other ↦ inr (inr (fault.Version (get_or octets 0 0), (some, refl, other.0, other.1)))
       | inl version ↦ elim (cases_lt (length octets) 4) [
         | inl few ↦ inr (inl (inr (inl (version, few))))
         | inr begins ↦ elim (cases_lt (length_of octets) (front_of octets)) [
           | inl low ↦ inr (inr (fault.Length (length_of octets), (begins, version, refl, inl low)))
-          | inr least ↦ elim (cases_lt (front_of octets + ELEMENT_MOST) (length_of octets)) [
+          | inr least ↦ elim (cases_lt (front_of octets + 244) (length_of octets)) [
             | inl high ↦ inr (inr (fault.Length (length_of octets), (begins, version, refl, inr high)))
             | inr most ↦ sized_at (record { begins = begins; version = version; least = least; most = most })
           ]

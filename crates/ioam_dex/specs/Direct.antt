@@ -48,6 +48,8 @@ abbrev pub ReadsAgain : List ℕ → Result Direct DirectFault → Type 0
 ReadsAgain octets result = (direct : Direct) (reserved : ℕ) (rest : List ℕ) → IsDirect direct → HasItsNumbers direct
     → octets ≡ direct_octets direct reserved ++ rest → IsOkAnd result (λ read. read ≡ direct)
 
+-- ---- the same by places
+
 -- the value by the places of its fields
 abbrev pub direct_at : List ℕ → Direct
 direct_at octets =
@@ -60,3 +62,7 @@ direct_at octets =
       flow = u32_where (has_flow ext) octets 8;
       seq = u32_where (has_seq ext) octets (8 + four_where (has_flow ext));
     }
+
+-- what is read, as a function of the octets
+abbrev pub read_of : List ℕ → Result Direct DirectFault
+read_of octets = if nat_lt (length octets) (wanted octets) then Err (Short (length octets) (wanted octets)) else Ok (direct_at octets)

@@ -1,27 +1,28 @@
 -- What octets where a record is due show of it.
 use Rattle.std.specs.Prelude.{ℕ, ◌+◌, ◌≡◌, ◌≢◌, ◌<◌, ◌≤◌, ◌⊎◌, List, ◌++◌, length, drop, slice_index}
 use Rattle.ioam_dex.specs.declared.export.ExportFault.{ExportFault}
-use Rattle.ioam_dex.specs.declared.export.TheConstants.{ELEMENT_MOST}
 use Rattle.ioam_dex.specs.declared.export.ExportFault.TheVariants as fault
 use Rattle.ioam_dex.specs.declared.head.Sizing.{Sizing}
 use Rattle.ioam_dex.specs.declared.head.Sizing.TheVariants as sizing
 use Rattle.ioam_dex.specs.declared.head.RecordHead.{RecordHead}
 use Rattle.ioam_dex.specs.declared.head.RecordStep.{RecordStep}
 use Rattle.ioam_dex.specs.declared.head.RecordStep.TheVariants as step
-use Rattle.ioam_dex.specs.Record.{Record, IsRecord, record_octets, IsFilled, length_of, front_of, element_of, kind_of, IsSized}
+use Rattle.ioam_data.specs.Elements.{IsFilled}
+use Rattle.ioam_dex.specs.Visit.{IsVersion}
+use Rattle.ioam_dex.specs.Record.{Record, IsRecord, record_octets, length_of, front_of, element_of, kind_of, IsSized}
 
 -- the record that is due has this fault, whatever stands behind the octets
 abbrev pub Fault : List ℕ → ExportFault → Type 0
-Fault octets (fault.Version found) = (1 ≤ length octets) × (found ≡ slice_index octets 0) × (found ≢ 1)
-Fault octets (fault.Length found) = (4 ≤ length octets) × (slice_index octets 0 ≡ 1) × (found ≡ length_of octets)
-    × ((found < front_of octets) ⊎ (front_of octets + ELEMENT_MOST < found))
+Fault octets (fault.Version found) = (1 ≤ length octets) × (found ≡ slice_index octets 0) × (found ≢ 1) × (found ≢ 2)
+Fault octets (fault.Length found) = (4 ≤ length octets) × IsVersion (slice_index octets 0) × (found ≡ length_of octets)
+    × ((found < front_of octets) ⊎ (front_of octets + 244 < found))
 Fault octets (fault.Element at) = IsSized octets × (length_of octets ≤ length octets) × (at ≡ front_of octets)
     × (IsFilled (kind_of octets) (element_of octets) → ⊥)
 Fault octets (fault.Short have) = ⊥
 
 -- it is not whole, and has no fault so far
 abbrev pub IsCut : List ℕ → Type 0
-IsCut octets = (length octets < 1) ⊎ (((slice_index octets 0 ≡ 1) × (length octets < 4)) ⊎ (IsSized octets × (length octets < length_of octets)))
+IsCut octets = (length octets < 1) ⊎ ((IsVersion (slice_index octets 0) × (length octets < 4)) ⊎ (IsSized octets × (length octets < length_of octets)))
 
 -- ---- what the steps tell
 
@@ -37,6 +38,7 @@ said head element = record {
   flags = head.flags;
   ext = head.ext;
   kind = head.kind;
+  visit = head.visit;
   flow = head.flow;
   seq = head.seq;
   element = element;

@@ -6,3 +6,4 @@ pub mod Reading
 pub mod Reads
 pub mod Record
 pub mod Room
+pub mod Visit

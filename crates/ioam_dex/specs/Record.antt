@@ -1,14 +1,13 @@
--- Export records, version 1: version 8 bits, Extension-Flags 8, length of the whole record 16,
--- Namespace-ID 16, Flags 8, IOAM-Trace-Type 24, the Flow ID and the Sequence Number where the extension
--- flags have them, and the element.
-use Rattle.std.specs.Prelude.{ℕ, ◌+◌, ◌-◌, ◌≡◌, ◌<◌, ◌≤◌, ◌⊎◌, false, List, [], ◌∷◌, ◌++◌, length, take, drop, slice_index, Option, is_some, IfSome}
+-- Export records: version 8 bits, 1 or 2, Extension-Flags 8, length of the whole record 16, Namespace-ID
+-- 16, Flags 8, IOAM-Trace-Type 24, in version 2 the time at the node 64 and the interface by which the
+-- packet came 32, the Flow ID and the Sequence Number where the extension flags have them, and the element.
+use Rattle.std.specs.Prelude.{ℕ, ◌+◌, ◌-◌, ◌≡◌, ◌<◌, ◌≤◌, List, ◌∷◌, ◌++◌, length, take, drop, slice_index, Option, is_some, IfSome}
 use Rattle.ioam_base.specs.Octets.{u16_at, u24_at}
 use Rattle.ioam_base.specs.Words.{two_octets, three_octets, four_octets_if}
-use Rattle.ioam_data.specs.Kind.{has, words}
-use Rattle.ioam_data.specs.Elements.{IsElement}
+use Rattle.ioam_data.specs.Elements.{IsFilled}
 use Rattle.ioam_dex.specs.Numbers.{has_flow, has_seq, four_where, numbers_size, u32_where}
 use Rattle.ioam_dex.specs.declared.export.Export.{Export}
-use Rattle.ioam_dex.specs.declared.export.TheConstants.{ELEMENT_MOST}
+use Rattle.ioam_dex.specs.Visit.{IsVersion, has_visit, version_of, visit_octets, twelve_where, visit_where, IsVisitBelow}
 
 -- what a record says
 pub record Record : Type 0 where
@@ -16,6 +15,7 @@ pub record Record : Type 0 where
   pub flags : ℕ
   pub ext : ℕ
   pub kind : ℕ
+  pub visit : Option (ℕ × ℕ)
   pub flow : Option ℕ
   pub seq : Option ℕ
   pub element : List ℕ
@@ -27,28 +27,19 @@ record_of export = record {
   flags = export.flags;
   ext = export.ext;
   kind = export.kind;
+  visit = export.visit;
   flow = export.flow;
   seq = export.seq;
   element = export.element.now;
 }
 
--- the type asks for nothing, and nothing is there
-pub record IsVoid (kind : ℕ) (element : List ℕ) : Type 0 where
-  pub wordless : words kind ≡ 0
-  pub plain : has kind 22 ≡ false
-  pub nothing : element ≡ []
-
--- one element of the type, whole, or nothing where the type asks for nothing
-abbrev pub IsFilled : ℕ → List ℕ → Type 0
-IsFilled kind element = IsElement kind (words kind) element ⊎ IsVoid kind element
-
 -- the parts of a record: each number is there exactly where the extension flags have it, and the element
--- is one of the type with at most 61 words
+-- is one of the type with at most 61 words of 4 octets
 pub record HasItsParts (x : Record) : Type 0 where
   pub flow : is_some x.flow ≡ has_flow x.ext
   pub seq : is_some x.seq ≡ has_seq x.ext
   pub filled : IsFilled x.kind x.element
-  pub short : length x.element ≤ ELEMENT_MOST
+  pub short : length x.element ≤ 244
 
 -- its numbers are within their fields
 pub record IsNumbered (x : Record) : Type 0 where
@@ -56,20 +47,21 @@ pub record IsNumbered (x : Record) : Type 0 where
   pub flags_below : x.flags < 256
   pub ext_below : x.ext < 256
   pub kind_below : x.kind < 16777216
+  pub visit_below : IsVisitBelow x.visit
   pub flow_below : IfSome x.flow (λ number. number < 4294967296)
   pub seq_below : IfSome x.seq (λ number. number < 4294967296)
 
 -- the octets in front of the element
-abbrev pub front_size : ℕ → ℕ
-front_size ext = 10 + numbers_size ext
+abbrev pub front_size : ℕ → ℕ → ℕ
+front_size version ext = 10 + twelve_where (has_visit version) + numbers_size ext
 
 -- those of the whole record
 abbrev pub record_size : Record → ℕ
-record_size x = front_size x.ext + length x.element
+record_size x = front_size (version_of x.visit) x.ext + length x.element
 
 abbrev pub record_octets : Record → List ℕ
-record_octets x = 1 ∷ x.ext ∷ (two_octets (record_size x) ++ (two_octets x.namespace ++ (x.flags ∷ (three_octets x.kind
-    ++ (four_octets_if x.flow ++ (four_octets_if x.seq ++ x.element))))))
+record_octets x = version_of x.visit ∷ x.ext ∷ (two_octets (record_size x) ++ (two_octets x.namespace ++ (x.flags
+    ∷ (three_octets x.kind ++ (visit_octets x.visit ++ (four_octets_if x.flow ++ (four_octets_if x.seq ++ x.element)))))))
 
 -- what may be said by a record
 pub record IsRecord (x : Record) : Type 0 where
@@ -88,7 +80,7 @@ abbrev pub length_of : List ℕ → ℕ
 length_of octets = u16_at octets 2
 
 abbrev pub front_of : List ℕ → ℕ
-front_of octets = front_size (slice_index octets 1)
+front_of octets = front_size (slice_index octets 0) (slice_index octets 1)
 
 -- the octets of its element
 abbrev pub element_of : List ℕ → List ℕ
@@ -101,21 +93,24 @@ kind_of octets = u24_at octets 7
 -- what it says
 abbrev pub record_at : List ℕ → Record
 record_at octets =
+    let second = has_visit (slice_index octets 0) in
     let ext = slice_index octets 1 in
+    let numbers = 10 + twelve_where second in
     record {
       namespace = u16_at octets 4;
       flags = slice_index octets 6;
       ext = ext;
       kind = kind_of octets;
-      flow = u32_where (has_flow ext) octets 10;
-      seq = u32_where (has_seq ext) octets (10 + four_where (has_flow ext));
+      visit = visit_where second octets 10;
+      flow = u32_where (has_flow ext) octets numbers;
+      seq = u32_where (has_seq ext) octets (numbers + four_where (has_flow ext));
       element = element_of octets;
     }
 
--- its first four octets are there, with version 1 and a length that has room for its front and at most 61
--- words behind it
+-- its first four octets are there, with one of the versions and a length that has room for its front and at
+-- most 61 words behind it
 pub record IsSized (octets : List ℕ) : Type 0 where
   pub begins : 4 ≤ length octets
-  pub version : slice_index octets 0 ≡ 1
+  pub version : IsVersion (slice_index octets 0)
   pub least : front_of octets ≤ length_of octets
-  pub most : length_of octets ≤ front_of octets + ELEMENT_MOST
+  pub most : length_of octets ≤ front_of octets + 244

@@ -17,6 +17,9 @@ pub struct Export<'a> {
     pub ext: u8,
     /// The 24 bits of the IOAM-Trace-Type of the element.
     pub kind: u32,
+    /// The time at the node, in nanoseconds, and the id of the interface by which the packet came.
+    /// None for a record of version 1.
+    pub visit: Option<(u64, u32)>,
     /// The Flow ID, where the extension flags have 0x80.
     pub flow: Option<u32>,
     /// The Sequence Number, where they have 0x40.
@@ -39,7 +42,7 @@ impl Export<'_> {
 /// Why octets are no export record.
 #[derive(Clone, Copy, Debug, PartialEq, Eq)]
 pub enum ExportFault {
-    /// The first octet is not 1.
+    /// The first octet is neither 1 nor 2.
     Version { found: u8 },
     /// The record's length is less than its front needs, or leaves more than 244 octets behind it.
     Length { found: u16 },

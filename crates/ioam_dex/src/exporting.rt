@@ -1,8 +1,8 @@
-ghost use Rattle.std.specs.Prelude.{◌≡◌, ◌<◌, ◌≤◌, ◌∷◌, ◌++◌, length, IsSomeAnd, MatchOption};
+ghost use Rattle.std.specs.Prelude.{◌≡◌, ◌+◌, ◌<◌, ◌≤◌, ◌∷◌, ◌++◌, length, IsSomeAnd, MatchOption};
 ghost use Rattle.ioam_base.specs.Words.{two_octets, three_octets};
-ghost use Rattle.ioam_dex.specs.Record.{Record, HasItsParts, Rec, record_of, record_octets, record_size};
+ghost use Rattle.ioam_dex.specs.Visit.{version_of};
+ghost use Rattle.ioam_dex.specs.Record.{Record, HasItsParts, IsNumbered, Rec, record_of, record_octets, record_size};
 ghost use Rattle.ioam_dex.specs.Faults.{said};
-ghost use Rattle.ioam_dex.specs.declared.export.TheConstants.{ELEMENT_MOST};
 ghost use Rattle.ioam_dex.specs.Room.{appended};
 
 use crate::export::Export;
@@ -10,19 +10,23 @@ use crate::head::{RecordHead, RecordStep};
 use crate::numbers::numbers_size;
 use crate::room::ExportRoom;
 use crate::step::record_step;
+use crate::visit::{has_visit, twelve_where, version_of};
+use ioam_base::buffer::Buffer;
 
 // The numbers of a record and its sizes.
 fn head_of(export: &Export<'_>) -> RecordHead
-    requires { length export.now.element.now ≤ ELEMENT_MOST }
+    requires { length export.now.element.now ≤ 244 }
     ensures says { said result export.now.element.now ≡ record_of export.now }
     ensures size { result.size ≡ record_size (record_of export.now) }
 {
-    let front = 10 + numbers_size(export.ext);
+    let version = version_of(export.visit);
+    let front = 10 + twelve_where(has_visit(version)) + numbers_size(export.ext);
     RecordHead {
         namespace: export.namespace,
         flags: export.flags,
         ext: export.ext,
         kind: export.kind,
+        visit: export.visit,
         flow: export.flow,
         seq: export.seq,
         front,
@@ -30,44 +34,51 @@ fn head_of(export: &Export<'_>) -> RecordHead
     }
 }
 
-// The octets in front of the numbers.
-fn front(head: &RecordHead) -> [u8; 10]
-    requires { head.now.size < 65536 }
-    ensures { result ≡ 1 ∷ head.now.ext ∷ (two_octets head.now.size
-        ++ (two_octets head.now.namespace.0 ++ (head.now.flags ∷ three_octets head.now.kind))) }
+// Appends the octets in front of the visit.
+fn put_front(head: &RecordHead, room: &mut ExportRoom)
+    requires size { head.now.size < 65536 }
+    requires spare { 10 ≤ room.old.spare }
+    ensures { room.new ≡ appended room.old (version_of head.now.visit ∷ head.now.ext ∷ (two_octets head.now.size
+        ++ (two_octets head.now.namespace.0 ++ (head.now.flags ∷ three_octets head.now.kind)))) }
 {
-    let [size_high, size_low] = (head.size as u16).to_be_bytes();
-    let [namespace_high, namespace_low] = head.namespace.0.to_be_bytes();
-    let [_, high, middle, low] = head.kind.to_be_bytes();
-    [
-        1,
-        head.ext,
-        size_high,
-        size_low,
-        namespace_high,
-        namespace_low,
-        head.flags,
-        high,
-        middle,
-        low,
-    ]
+    let mut front = Buffer::new();
+    front.append(&[version_of(head.visit), head.ext]);
+    front.two(head.size as u16);
+    front.two(head.namespace.0);
+    front.append(&[head.flags]);
+    front.three(head.kind);
+    room.append(front.octets());
 }
 
-/// Appends a record, version 1, to the room, and takes no memory. Each number is there exactly where
-/// the extension flags have it; the element is one of the type, NodeLen being its defined words, with
-/// at most 61 words, or empty where the type has neither a defined word nor bit 22.
-pub fn put_export(export: &Export<'_>, room: &mut ExportRoom)
+// Appends a record to the room.
+fn append_record(export: &Export<'_>, room: &mut ExportRoom)
     requires parts { HasItsParts (record_of export.now) }
-    requires spare { 262 ≤ room.old.spare }
+    requires spare { 274 ≤ room.old.spare }
     ensures appended { room.new ≡ appended room.old (record_octets (record_of export.now)) }
-    // What was appended is one record with these contents.
-    ensures says { Rec (record_octets (record_of export.now)) (record_of export.now) }
+    ensures numbers { IsNumbered (record_of export.now) }
 {
     let head = head_of(export);
-    room.append(&front(&head));
+    put_front(&head, room);
+    room.visit_if(head.visit);
     room.four_if(head.flow);
     room.four_if(head.seq);
     room.append(export.element);
+}
+
+/// Appends a record to the room, and takes no memory: of version 2 where a visit is there, else of
+/// version 1. Each number is there exactly where the extension flags have it; the element is one of
+/// the type, NodeLen being its defined words, with at most 61 words, or empty where the type has
+/// neither a defined word nor bit 22.
+pub fn put_export(export: &Export<'_>, room: &mut ExportRoom)
+    requires parts { HasItsParts (record_of export.now) }
+    requires spare { 274 ≤ room.old.spare }
+    ensures appended { room.new ≡ appended room.old (record_octets (record_of export.now)) }
+    ensures spare { room.new.spare + length (record_octets (record_of export.now)) ≡ room.old.spare }
+    ensures size { length (record_octets (record_of export.now)) ≤ 274 }
+    // What was appended is one record with these contents.
+    ensures says { Rec (record_octets (record_of export.now)) (record_of export.now) }
+{
+    append_record(export, room);
 }
 
 /// The contents of one record. None exactly where the octets are not one record, whole and with

@@ -18,6 +18,7 @@ pub(crate) struct RecordHead {
     pub flags: u8,
     pub ext: u8,
     pub kind: u32,
+    pub visit: Option<(u64, u32)>,
     pub flow: Option<u32>,
     pub seq: Option<u32>,
     pub front: usize,

@@ -11,6 +11,7 @@ mod reader;
 mod reading;
 mod room;
 mod step;
+mod visit;
 
 pub use direct::{Direct, DirectFault};
 pub use export::{ELEMENT_MOST, Export, ExportFault};

@@ -1,5 +1,6 @@
-ghost use Rattle.std.specs.Prelude.{◌≡◌, ◌++◌, is_ok, if◌then◌else◌};
+ghost use Rattle.std.specs.Prelude.{◌≡◌, ◌+◌, ◌++◌, OnOk, is_ok, length, if◌then◌else◌};
 ghost use Rattle.ioam_dex.specs.Direct.{HasItsNumbers, direct_octets};
+ghost use Rattle.ioam_dex.specs.Numbers.{numbers_size};
 
 use crate::direct::Direct;
 use ioam_base::buffer::Buffer;
@@ -11,12 +12,14 @@ use ioam_base::text::append;
 /// `out` is as before.
 pub fn put(direct: &Direct, out: &mut Vec<u8>) -> Result<(), NoMemory>
     requires { HasItsNumbers direct.now }
-    ensures { out.new.items ≡ (if is_ok result then out.old.items ++ direct_octets direct.now 0 else out.old.items) }
+    ensures octets { out.new.items ≡ (if is_ok result then out.old.items ++ direct_octets direct.now 0 else out.old.items) }
+    ensures size { OnOk result (length out.new.items ≡ length out.old.items + (8 + numbers_size direct.now.ext)) }
 {
-    let [_, high, middle, low] = direct.kind.bits().to_be_bytes();
     let mut buffer = Buffer::new();
-    buffer.append(&direct.namespace.0.to_be_bytes());
-    buffer.append(&[direct.flags, direct.ext, high, middle, low, 0]);
+    buffer.two(direct.namespace.0);
+    buffer.append(&[direct.flags, direct.ext]);
+    buffer.three(direct.kind.bits());
+    buffer.append(&[0]);
     buffer.four_if(direct.flow);
     buffer.four_if(direct.seq);
     append(out, buffer.octets())

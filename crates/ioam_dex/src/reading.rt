@@ -1,5 +1,5 @@
 ghost use Rattle.std.specs.Prelude.{◌≡◌, ◌≤◌, length};
-ghost use Rattle.ioam_dex.specs.Direct.{Reads, ReadsAgain, direct_at, wanted};
+ghost use Rattle.ioam_dex.specs.Direct.{Reads, ReadsAgain, direct_at, read_of, wanted};
 
 use crate::direct::{Direct, DirectFault};
 use crate::numbers::{four_where, has_flow, has_seq, numbers_size, u32_where};
@@ -39,6 +39,8 @@ pub fn read(octets: &[u8]) -> Result<Direct, DirectFault>
     ensures reads { Reads octets.now result }
     // What `put` wrote is read as the same value.
     ensures again { ReadsAgain octets.now result }
+    // What is read depends on the octets alone.
+    ensures value { result ≡ read_of octets.now }
 {
     let wanted = wanted(octets);
     if octets.len() < wanted {

@@ -1,6 +1,8 @@
 ghost use Rattle.std.specs.Prelude.{◌≡◌, ◌+◌, ◌≤◌, [], IfOk, length};
 ghost use Rattle.ioam_base.specs.Words.{four_octets_if};
+ghost use Rattle.ioam_dex.specs.Visit.{visit_octets};
 
+use ioam_base::buffer::Buffer;
 use ioam_base::memory::NoMemory;
 use std::alloc::Global;
 use std::marker::Model;
@@ -71,8 +73,21 @@ impl ExportRoom {
         requires { 4 ≤ self.old.spare }
         ensures { self.new ≡ appended self.old (four_octets_if number) }
     {
-        if let Some(number) = number {
-            self.append(&number.to_be_bytes());
+        let mut buffer = Buffer::new();
+        buffer.four_if(number);
+        self.append(buffer.octets());
+    }
+
+    // Appends a visit, where it is there.
+    pub(crate) fn visit_if(&mut self, visit: Option<(u64, u32)>)
+        requires { 12 ≤ self.old.spare }
+        ensures { self.new ≡ appended self.old (visit_octets visit) }
+    {
+        if let Some(visit) = visit {
+            let mut buffer = Buffer::new();
+            buffer.eight(visit.0);
+            buffer.four(visit.1);
+            self.append(buffer.octets());
         }
     }
 }

@@ -1,10 +1,12 @@
 ghost use Rattle.std.specs.Prelude.{◌≡◌, ◌<◌, ◌≤◌, ◌↔◌, IsTrue, length};
-ghost use Rattle.ioam_dex.specs.Record.{IsFilled, record_at, record_of, element_of, front_of};
+ghost use Rattle.ioam_data.specs.Elements.{IsFilled};
+ghost use Rattle.ioam_dex.specs.Record.{record_at, record_of, element_of, front_of};
 ghost use Rattle.ioam_dex.specs.Faults.{TellsSize, TellsRecord, said};
 
 use crate::export::{ELEMENT_MOST, Export, ExportFault};
 use crate::head::{RecordHead, RecordStep, Sizing};
 use crate::numbers::{four_where, has_flow, has_seq, numbers_size, u32_where};
+use crate::visit::{has_visit, twelve_where, visit_where};
 use ioam_base::octets::u16_at;
 use ioam_data::{Namespace, TraceType, split};
 
@@ -18,6 +20,7 @@ impl RecordHead {
             flags: self.flags,
             ext: self.ext,
             kind: self.kind,
+            visit: self.visit,
             flow: self.flow,
             seq: self.seq,
             element,
@@ -42,13 +45,13 @@ fn size_step(octets: &[u8]) -> Sizing
     if octets.is_empty() {
         return Sizing::Cut;
     }
-    if octets[0] != 1 {
+    if octets[0] != 1 && octets[0] != 2 {
         return Sizing::Bad(ExportFault::Version { found: octets[0] });
     }
     if octets.len() < 4 {
         return Sizing::Cut;
     }
-    let front = 10 + numbers_size(octets[1]);
+    let front = 10 + twelve_where(has_visit(octets[0])) + numbers_size(octets[1]);
     let found = u16_at(octets, 2);
     let size = usize::from(found);
     if size < front || size > front + ELEMENT_MOST {
@@ -64,14 +67,17 @@ fn head(octets: &[u8], front: usize, size: usize) -> RecordHead
     ensures front { result.front ≡ front }
     ensures size { result.size ≡ size }
 {
+    let second = has_visit(octets[0]);
     let ext = octets[1];
+    let numbers = 10 + twelve_where(second);
     RecordHead {
         namespace: Namespace(u16_at(octets, 4)),
         flags: octets[6],
         ext,
         kind: TraceType::at(octets, 7).bits(),
-        flow: u32_where(has_flow(ext), octets, 10),
-        seq: u32_where(has_seq(ext), octets, 10 + four_where(has_flow(ext))),
+        visit: visit_where(second, octets, 10),
+        flow: u32_where(has_flow(ext), octets, numbers),
+        seq: u32_where(has_seq(ext), octets, numbers + four_where(has_flow(ext))),
         front,
         size,
     }

@@ -384,3 +384,16 @@ written-zeros octets words long below =
     ∙ take-append-add octets (drop (0 + length octets) (replicate 252 0)) (4 * words)
     ∙ ap (λ xs. octets ++ take (4 * words) xs) rest
     ∙ ap (λ xs. octets ++ xs) (take-replicate (4 * words) 244 0 (omega arith))
+
+-- how long the data of a trace are, whatever was added
+pub length-trace_data : (namespace kind capacity : ℕ) (es : List (List ℕ)) → CanHold namespace kind capacity es
+    → length (trace_data namespace kind capacity es) ≡ 8 + 4 * capacity
+length-trace_data namespace kind capacity es holds =
+    let kept = recorded capacity es in
+    let can : can_add kind (words kind) ≡ true = is_entry_type-can_add kind holds.entry in
+    let all = All-recorded (IsElement kind (words kind)) capacity es holds.elements in
+    let below : capacity < 128 = omega (arith, holds.capacity_below) in
+    let fits : total kept ≤ capacity = recorded-fits capacity es in
+    ap length (trace_data-is namespace kind capacity es)
+    ∙ length_is namespace kind capacity kept holds.namespace_below holds.kind_below below can fits all (is_over capacity es)
+    ∙ omega (arith, fits)

@@ -1,4 +1,5 @@
 pub mod AreaLaws
+pub mod FilledLaws
 pub mod ReadLaws
 pub mod RecordedLaws
 pub mod HeadLaws

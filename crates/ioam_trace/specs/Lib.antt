@@ -1,5 +1,6 @@
 pub mod Area
 pub mod Data
+pub mod Filled
 pub mod Filling
 pub mod Head
 pub mod Incremental

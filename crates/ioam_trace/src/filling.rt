@@ -3,6 +3,7 @@ ghost use Rattle.ioam_base.specs.Octets.{u16_at, written};
 ghost use Rattle.ioam_data.specs.View.{seen};
 ghost use Rattle.ioam_data.specs.Written.{element_of};
 ghost use Rattle.ioam_trace.specs.Head.{node_len_of, overflow_of, remaining_of, kind_of};
+ghost use Rattle.ioam_trace.specs.Filled.{answer_of, filled};
 ghost use Rattle.ioam_trace.specs.Filling.{Filling, IsOpen, IsSuited, words_to_add, with_lengths, less_remaining, AddsElement};
 
 use crate::filled::Filled;
@@ -106,6 +107,9 @@ fn fill_octets(octets: &mut [u8], view: &View<'_>) -> Filled
 /// RemainingLen falls by the element's words, and the element stands in the last of the free words.
 pub fn fill(octets: &mut [u8], view: &View<'_>) -> Filled
     ensures filling { Filling octets.old (seen view.now) octets.new result }
+    // What is answered and what is left depend on the octets and the view alone.
+    ensures answer { result ≡ answer_of octets.old (seen view.now) }
+    ensures octets { octets.new ≡ filled octets.old (seen view.now) }
     // A trace that an entry node began holds one element more, or Overflow.
     ensures adds { AddsElement octets.old (seen view.now) octets.new }
 {

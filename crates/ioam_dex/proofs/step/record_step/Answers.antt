@@ -1,5 +1,6 @@
 use Rattle.std.proofs.Common.{◌≡◌, ◌-◌, List, ℕ, take, drop, ap, ◌∙◌, subst, arith}
-use Rattle.ioam_dex.specs.Record.{IsFilled, length_of, element_of, kind_of}
+use Rattle.ioam_data.specs.Elements.{IsFilled}
+use Rattle.ioam_dex.specs.Record.{length_of, element_of, kind_of}
 use Rattle.ioam_dex.specs.Faults.{said}
 use Rattle.ioam_dex.proofs.FaultLaws.{IsWhole}
 use Rattle.ioam_dex.proofs.RecordLaws.{step-whole}
