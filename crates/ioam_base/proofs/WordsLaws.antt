@@ -1,11 +1,12 @@
 -- Laws of numbers as octets.
-use Rattle.std.proofs.Common.{◌≡◌, ℕ, ◌+◌, ◌*◌, ◌/◌, ◌%◌, ◌<◌, ◌≤◌, List, ◌∷◌, ◌++◌, length, take, drop, get_or, Option, Some, None, arith, refl, sym, ap, ◌∙◌}
+use Rattle.std.proofs.Common.{◌≡◌, ℕ, ◌+◌, ◌*◌, ◌/◌, ◌%◌, ◌<◌, ◌≤◌, List, [], ◌∷◌, ◌++◌, length, take, drop, get_or, Option, Some, None, arith, refl, sym, ap, ◌∙◌}
 use Rattle.std.specs.Option.{IfSome, is_some}
 use Rattle.std.specs.Int.{w64, to_be_bytes, from_be_bytes}
 use Rattle.std.proofs.lemmas.List.{drop_more}
 use Rattle.std.proofs.lemmas.Nat.{from_be_bytes-to_be_bytes_8}
-use Rattle.ioam_base.specs.Octets.{IsOctets, u16_at, u24_at, u32_at}
+use Rattle.ioam_base.specs.Octets.{IsOctets, u16_at, u24_at, u32_at, u64_at}
 use Rattle.ioam_base.specs.Words.{two_octets, three_octets, four_octets, eight_octets, four_octets_if, eight_octets_if}
+use Rattle.ioam_base.proofs.OctetsLaws.{u32_at-fits}
 
 -- ---- octets begin with those of the number that is read there
 
@@ -61,6 +62,27 @@ module _ (octets : List ℕ) (at : ℕ) where
       ∙ ap (λ n. get_or octets (at + 2) 0 ∷ drop n octets) (let there : at + 2 + 1 ≡ at + 3 = omega arith in there)
       ∙ ap (λ r. get_or octets (at + 2) 0 ∷ r) (drop_more octets (at + 3) 0 (omega arith) ∙ ap (λ n. get_or octets (at + 3) 0 ∷ drop n octets) (omega arith))))
       ∙ four_octets-front (get_or octets at 0) (get_or octets (at + 1) 0) (get_or octets (at + 2) 0) (get_or octets (at + 3) 0) (drop (at + 4) octets) (small at) (small (at + 1)) (small (at + 2)) (small (at + 3))
+
+-- the octets of a number of two halves are those of the halves
+pub eight_octets-halves : (high low : ℕ) → high < 4294967296 → low < 4294967296 → eight_octets (high * 4294967296 + low) ≡ four_octets high ++ four_octets low
+eight_octets-halves high low above below =
+    let cell_7 : (high * 4294967296 + low) / 72057594037927936 % 256 ≡ high / 16777216 % 256 = omega arith in
+    let cell_6 : (high * 4294967296 + low) / 281474976710656 % 256 ≡ high / 65536 % 256 = omega arith in
+    let cell_5 : (high * 4294967296 + low) / 1099511627776 % 256 ≡ high / 256 % 256 = omega arith in
+    let cell_4 : (high * 4294967296 + low) / 4294967296 % 256 ≡ high % 256 = omega arith in
+    let cell_3 : (high * 4294967296 + low) / 16777216 % 256 ≡ low / 16777216 % 256 = omega arith in
+    let cell_2 : (high * 4294967296 + low) / 65536 % 256 ≡ low / 65536 % 256 = omega arith in
+    let cell_1 : (high * 4294967296 + low) / 256 % 256 ≡ low / 256 % 256 = omega arith in
+    let cell_0 : (high * 4294967296 + low) % 256 ≡ low % 256 = omega arith in
+    λ i. cell_7 i ∷ cell_6 i ∷ cell_5 i ∷ cell_4 i ∷ cell_3 i ∷ cell_2 i ∷ cell_1 i ∷ cell_0 i ∷ []
+
+pub eight-at : (octets : List ℕ) (at : ℕ) → IsOctets octets → at + 8 ≤ length octets → drop at octets ≡ eight_octets (u64_at octets at) ++ drop (at + 8) octets
+eight-at octets at small fits =
+    let behind : at + 4 + 4 ≡ at + 8 = omega arith in
+    let halves = eight_octets-halves (u32_at octets at) (u32_at octets (at + 4)) (u32_at-fits octets at small) (u32_at-fits octets (at + 4) small) in
+    four-at octets at small (omega arith)
+    ∙ ap (λ rest. four_octets (u32_at octets at) ++ rest) (four-at octets (at + 4) small (omega arith) ∙ ap (λ n. four_octets (u32_at octets (at + 4)) ++ drop n octets) behind)
+    ∙ ap (λ front. front ++ drop (at + 8) octets) (sym halves)
 
 -- ---- two numbers with the same octets are equal, and so is what follows
 

@@ -68,3 +68,14 @@ written-from octets part at n new long fits is =
     let behind : drop n (take (length octets - at) (drop at octets)) ≡ drop (at + length part) octets = ap (drop n) whole ∙ drop-drop n at octets ∙ ap (λ m. drop m octets) count in
     ap (λ rest. take at octets ++ (new ++ rest)) none
     ∙ ap (λ ys. take at octets ++ ys) (append-nil new ∙ is ∙ ap (λ ys. part ++ ys) behind)
+
+-- two parts that are written one behind the other are written as one
+pub written-next : (octets first second : List ℕ) (at : ℕ) → at + length first ≤ length octets
+    → written (written octets at first) (at + length first) second ≡ written octets at (first ++ second)
+written-next octets first second at fits =
+    let end : at + length first + length second ≡ at + length (first ++ second) = omega (arith, length-append first second) in
+    let front = written-ahead octets first at (omega arith) in
+    let behind = written-behind octets first at (at + length first + length second) (omega arith) (omega arith) ∙ ap (λ n. drop n octets) end in
+    (λ i. front i ++ (second ++ behind i))
+    ∙ append_assoc (take at octets) first (second ++ drop (at + length (first ++ second)) octets)
+    ∙ ap (λ ys. take at octets ++ ys) (sym (append_assoc first second (drop (at + length (first ++ second)) octets)))

@@ -15,7 +15,8 @@ pub fn u16_at(octets: &[u8], at: usize) -> u16
 /// The big-endian 24-bit number at a place of the octets.
 pub fn u24_at(octets: &[u8], at: usize) -> u32
     requires { at + 3 ≤ length octets.now }
-    ensures { result ≡ u24_at octets.now at }
+    ensures value { result ≡ u24_at octets.now at }
+    ensures fits { result < 16777216 }
 {
     BigEndian::read_u24(&octets[at..])
 }

@@ -4,7 +4,7 @@ ghost use Rattle.ioam_data.specs.Written.{part};
 ghost use Rattle.ioam_base.specs.Words.{four_octets};
 
 use crate::kind::TraceType;
-use ioam_base::octets::put_at;
+use ioam_base::octets::{put_at, put_u32_at};
 use std::marker::Model;
 
 /// Room for one element: 77 words of four octets. It takes no memory. Contracts see the octets that
@@ -65,7 +65,8 @@ impl ElementBuf {
         ensures value { self.new ≡ self.old ++ four_octets number }
         ensures size { length self.new ≡ length self.old + 4 }
     {
-        self.append(&number.to_be_bytes());
+        put_u32_at(&mut self.octets, self.len, number);
+        self.len += 4;
     }
 
     // Appends a word where the type has the bit.

@@ -3,6 +3,7 @@ ghost use Rattle.std.specs.Bool.{OnTrue};
 ghost use Rattle.ioam_base.specs.Octets.{u24_at};
 ghost use Rattle.ioam_data.specs.Kind.{has, where_has, words, undefined, fits_type, can_add, is_entry_type};
 
+use ioam_base::octets::u24_at;
 use std::marker::Model;
 
 /// An IOAM-Trace-Type (RFC 9197 section 4.4.1): 24 bits, of which bit 0 is the most significant.
@@ -36,8 +37,7 @@ impl TraceType {
         requires { at + 3 ≤ length octets.now }
         ensures { result ≡ u24_at octets.now at }
     {
-        let [high, middle, low] = [octets[at], octets[at + 1], octets[at + 2]];
-        TraceType(u32::from(high) * 65536 + u32::from(middle) * 256 + u32::from(low))
+        TraceType(u24_at(octets, at))
     }
 
     /// The 24 bits as a number.

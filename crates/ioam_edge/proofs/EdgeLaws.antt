@@ -1,9 +1,12 @@
 -- Laws of edge-to-edge data.
-use Rattle.std.proofs.Common.{◌≡◌, ℕ, List, ◌++◌, Ok, sym, ap, ◌∙◌, append_assoc}
+use Rattle.std.proofs.Common.{◌≡◌, ℕ, ◌+◌, Bool, List, ◌++◌, length, Option, Some, None, Result, Ok, Err, arith, sym, ap, ◌∙◌, append_assoc, length-append}
+use Rattle.std.specs.Prelude.{if◌then◌else◌}
+use Rattle.std.specs.Option.{is_some}
+use Rattle.std.specs.Result.{OnOk, is_ok}
 use Rattle.ioam_base.proofs.WordsLaws.{two_octets-same, four_octets_if-same, eight_octets_if-same}
 use Rattle.ioam_base.specs.Words.{two_octets, four_octets_if, eight_octets_if}
 use Rattle.ioam_edge.specs.declared.edge.Edge.{Edge}
-use Rattle.ioam_edge.specs.Edge.{asks, HasItsFields, IsEdge, edge_octets, Begins, ReadsAgain}
+use Rattle.ioam_edge.specs.Edge.{asks, HasItsFields, IsEdge, edge_octets, Begins, fields_size, ReadsAgain}
 
 -- the octets in groups of one field each, with what follows
 pub fields_of : (n k a b c d rest : List ℕ) → (n ++ (k ++ (a ++ (b ++ (c ++ d))))) ++ rest ≡ n ++ (k ++ (a ++ (b ++ (c ++ (d ++ rest)))))
@@ -46,3 +49,36 @@ pub whole_of : (octets n k a b c d r0 r1 r2 r3 r4 r5 : List ℕ) → octets ≡ 
 whole_of octets n k a b c d r0 r1 r2 r3 r4 r5 e0 e1 e2 e3 e4 e5 =
     e0 ∙ ap (λ r. n ++ r) (e1 ∙ ap (λ r. k ++ r) (e2 ∙ ap (λ r. a ++ r) (e3 ∙ ap (λ r. b ++ r) (e4 ∙ ap (λ r. c ++ r) e5))))
     ∙ sym (fields_of n k a b c d r5)
+
+-- ---- how many octets a value has
+
+eight_size : (field : Option ℕ) (asked : Bool) → is_some field ≡ asked → length (eight_octets_if field) ≡ (if asked then 8 else 0)
+eight_size None asked is = ap (λ b. if b then 8 else 0) is
+eight_size (Some n) asked is = ap (λ b. if b then 8 else 0) is
+
+four_size : (field : Option ℕ) (asked : Bool) → is_some field ≡ asked → length (four_octets_if field) ≡ (if asked then 4 else 0)
+four_size None asked is = ap (λ b. if b then 4 else 0) is
+four_size (Some n) asked is = ap (λ b. if b then 4 else 0) is
+
+length-edge_octets : (edge : Edge) → HasItsFields edge → length (edge_octets edge) ≡ 4 + fields_size edge.kind
+length-edge_octets edge has =
+    let a = eight_octets_if edge.seq64 in
+    let b = four_octets_if edge.seq32 in
+    let c = four_octets_if edge.seconds in
+    let d = four_octets_if edge.fraction in
+    omega (
+      arith,
+      length-append a (b ++ (c ++ d)),
+      length-append b (c ++ d),
+      length-append c d,
+      eight_size edge.seq64 _ has.seq64,
+      four_size edge.seq32 _ has.seq32,
+      four_size edge.seconds _ has.seconds,
+      four_size edge.fraction _ has.fraction,
+    )
+
+-- what was appended
+pub appended_size : {E : Type 0} (r : Result (Unit {0}) E) (old new : List ℕ) (edge : Edge) → HasItsFields edge
+    → new ≡ (if is_ok r then old ++ edge_octets edge else old) → OnOk r (length new ≡ length old + (4 + fields_size edge.kind))
+appended_size (Ok u) old new edge has made = ap length made ∙ omega (arith, length-append old (edge_octets edge), length-edge_octets edge has)
+appended_size (Err e) old new edge has made = tt

@@ -1,6 +1,8 @@
 ghost use Rattle.std.specs.Prelude.{◌≡◌, ◌+◌, ◌≤◌, ◌++◌, length, drop, is_some, if◌then◌else◌};
 ghost use Rattle.ioam_base.specs.Words.{two_octets, four_octets, four_octets_if, eight_octets, eight_octets_if};
 
+use ioam_base::octets::{u16_at, u32_at, u64_at};
+
 /// Octets that are read from the front.
 #[derive(Clone, Copy)]
 pub(crate) struct Cursor<'a> {
@@ -55,7 +57,7 @@ fn u16_in_front(octets: &[u8]) -> u16
     requires { 2 ≤ length octets.now }
     ensures { octets.now ≡ two_octets result ++ drop 2 octets.now }
 {
-    u16::from_be_bytes(octets[..2].try_into().unwrap())
+    u16_at(octets, 0)
 }
 
 // The number of 32 bits in front.
@@ -63,7 +65,7 @@ fn u32_in_front(octets: &[u8]) -> u32
     requires { 4 ≤ length octets.now }
     ensures { octets.now ≡ four_octets result ++ drop 4 octets.now }
 {
-    u32::from_be_bytes(octets[..4].try_into().unwrap())
+    u32_at(octets, 0)
 }
 
 // The number of 64 bits in front.
@@ -71,5 +73,5 @@ fn u64_in_front(octets: &[u8]) -> u64
     requires { 8 ≤ length octets.now }
     ensures { octets.now ≡ eight_octets result ++ drop 8 octets.now }
 {
-    u64::from_be_bytes(octets[..8].try_into().unwrap())
+    u64_at(octets, 0)
 }

@@ -2,6 +2,7 @@
 use Rattle.std.proofs.Common.{◌≡◌, ℕ, List, sym, ap, ◌∙◌, subst}
 use Rattle.ioam_base.proofs.LeadsLaws.{Leads-unique}
 use Rattle.ioam_ip.specs.Chain.{kind_of, Admits, CanPass, EndsBy, EndsAt, head_at, behind, start, Reaches, Chain, IsSound, BadAt}
+use Rattle.ioam_ip.specs.HeadsLeft.{AreHeads, OnlyHeads}
 use Rattle.ioam_ip.specs.declared.chain.Kind.{Kind}
 use Rattle.ioam_ip.specs.declared.chain.Kind.TheVariants.{HopByHop, Destination, Routing, Fragment, Nested, Upper}
 use Rattle.ioam_ip.specs.declared.chain.Spot.{Spot}
@@ -32,6 +33,9 @@ Chain-unique p hs upper at others upper' at' a b =
     let same : (hs ≡ others) × (a.last ≡ b.last) = Reaches-unique p hs a.last others b.last a.reaches (ends_no_pass p a.last a.ends)
     b.reaches (ends_no_pass p b.last b.ends) in
     (same.0, sym a.value ∙ ap (λ (spot : Spot). spot.value) same.1 ∙ b.value, sym a.place ∙ ap (λ (spot : Spot). spot.at) same.1 ∙ b.place)
+
+pub heads_only : (p : List ℕ) (hs : List Head) → AreHeads p hs → OnlyHeads p hs
+heads_only p hs are others heads = (Chain-unique p others heads.upper heads.at hs are.upper are.at heads.chain are.chain).0
 
 -- where a header breaks the chain, the packet isn't sound
 pub bad_not_sound : (p : List ℕ) (at : ℕ) → BadAt p at → IsSound p → ⊥

@@ -2,30 +2,22 @@
 use Rattle.std.proofs.Common.{◌≡◌, ℕ, ◌+◌, ◌*◌, ◌/◌, ◌%◌, ◌^◌, ◌<◌, List, [], ◌∷◌, ◌++◌, length, get_or, take, drop, refl, sym, ap, ◌∙◌, inl, inr, arith}
 use Rattle.std.specs.Int.{w64, w128, to_be_bytes, from_be_bytes}
 use Rattle.std.proofs.Math.Nat.{div-div-eq-div-mul, mul-add-div_right, add-mul-mod_self_right, add_comm}
-use Rattle.std.proofs.lemmas.List.{length-take, length-drop, get_or-take, get_or-drop, get_or_past, take-append-drop}
+use Rattle.std.proofs.lemmas.List.{append-nil, length-take, length-drop, get_or-take, get_or-drop, get_or_past, take-append-drop}
 use Rattle.std.proofs.lemmas.Bool.{cases_lt}
 use Rattle.std.proofs.lemmas.Nat.{div-mul-add, be_bytes_8}
+use Rattle.byteorder.specs.Endian.{big_number}
+use Rattle.byteorder.specs.Numbers.{big_number-reads_back}
 
-byte_and_rest : (n p : ℕ) → n / p ≡ n / p % 256 + n / (p * 256) * 256
-byte_and_rest n p = omega (arith, div-div-eq-div-mul n p 256)
-
-joined_8 : (a b c d e f g h n p q r s t u v w : ℕ) → n ≡ a + p * 256 → p ≡ b + q * 256 → q ≡ c + r * 256 → r ≡ d + s * 256 → s ≡ e + t * 256 → t ≡ f + u * 256 → u ≡ g + v * 256 → v ≡ h + w * 256
-    → a + b * 256 + c * 65536 + d * 16777216 + e * 4294967296 + f * 1099511627776 + g * 281474976710656 + h * 72057594037927936 + w * 18446744073709551616 ≡ n
-joined_8 a b c d e f g h n p q r s t u v w at_0 at_1 at_2 at_3 at_4 at_5 at_6 at_7 = omega arith
-
-turned_16 : (x0 x1 x2 x3 x4 x5 x6 x7 x8 x9 x10 x11 x12 x13 x14 x15 w n : ℕ) → x15 + x14 * 256 + x13 * 65536 + x12 * 16777216 + x11 * 4294967296 + x10 * 1099511627776 + x9 * 281474976710656 + x8 * 72057594037927936 + w * 18446744073709551616 ≡ n
-    → x7 + x6 * 256 + x5 * 65536 + x4 * 16777216 + x3 * 4294967296 + x2 * 1099511627776 + x1 * 281474976710656 + x0 * 72057594037927936 + 0 * 18446744073709551616 ≡ w
-    → x0 * 1329227995784915872903807060280344576 + x1 * 5192296858534827628530496329220096 + x2 * 20282409603651670423947251286016 + x3 * 79228162514264337593543950336 + x4 * 309485009821345068724781056 + x5 * 1208925819614629174706176 + x6 * 4722366482869645213696 + x7 * 18446744073709551616 + x8 * 72057594037927936 + x9 * 281474976710656 + x10 * 1099511627776 + x11 * 4294967296 + x12 * 16777216 + x13 * 65536 + x14 * 256 + x15 ≡ n
-turned_16 x0 x1 x2 x3 x4 x5 x6 x7 x8 x9 x10 x11 x12 x13 x14 x15 w n low high = omega arith
+-- the number of sixteen octets is the one that the crate byteorder reads
+wide_number : (bs : List ℕ) → from_be_bytes w128 bs ≡ big_number 16 bs
+wide_number bs = omega arith
 
 -- a number of sixteen octets is read as it was written
 pub from_be_bytes-to_be_bytes_16 : (n : ℕ) → n < 2 ^ 128 → from_be_bytes w128 (to_be_bytes w128 n) ≡ n
 from_be_bytes-to_be_bytes_16 n fits =
-    let first : n ≡ n % 256 + n / 256 * 256 = omega arith in
-    let last : n / 1329227995784915872903807060280344576 ≡ n / 1329227995784915872903807060280344576 % 256 + 0 * 256 = omega arith in
-    turned_16 (n / 1329227995784915872903807060280344576 % 256) (n / 5192296858534827628530496329220096 % 256) (n / 20282409603651670423947251286016 % 256) (n / 79228162514264337593543950336 % 256) (n / 309485009821345068724781056 % 256) (n / 1208925819614629174706176 % 256) (n / 4722366482869645213696 % 256) (n / 18446744073709551616 % 256) (n / 72057594037927936 % 256) (n / 281474976710656 % 256) (n / 1099511627776 % 256) (n / 4294967296 % 256) (n / 16777216 % 256) (n / 65536 % 256) (n / 256 % 256) (n % 256) (n / 18446744073709551616) n
-    (joined_8 (n % 256) (n / 256 % 256) (n / 65536 % 256) (n / 16777216 % 256) (n / 4294967296 % 256) (n / 1099511627776 % 256) (n / 281474976710656 % 256) (n / 72057594037927936 % 256) (n) (n / 256) (n / 65536) (n / 16777216) (n / 4294967296) (n / 1099511627776) (n / 281474976710656) (n / 72057594037927936) (n / 18446744073709551616) first (byte_and_rest n 256) (byte_and_rest n 65536) (byte_and_rest n 16777216) (byte_and_rest n 4294967296) (byte_and_rest n 1099511627776) (byte_and_rest n 281474976710656) (byte_and_rest n 72057594037927936))
-    (joined_8 (n / 18446744073709551616 % 256) (n / 4722366482869645213696 % 256) (n / 1208925819614629174706176 % 256) (n / 309485009821345068724781056 % 256) (n / 79228162514264337593543950336 % 256) (n / 20282409603651670423947251286016 % 256) (n / 5192296858534827628530496329220096 % 256) (n / 1329227995784915872903807060280344576 % 256) (n / 18446744073709551616) (n / 4722366482869645213696) (n / 1208925819614629174706176) (n / 309485009821345068724781056) (n / 79228162514264337593543950336) (n / 20282409603651670423947251286016) (n / 5192296858534827628530496329220096) (n / 1329227995784915872903807060280344576) 0 (byte_and_rest n 18446744073709551616) (byte_and_rest n 4722366482869645213696) (byte_and_rest n 1208925819614629174706176) (byte_and_rest n 309485009821345068724781056) (byte_and_rest n 79228162514264337593543950336) (byte_and_rest n 20282409603651670423947251286016) (byte_and_rest n 5192296858534827628530496329220096) last)
+    wide_number (to_be_bytes w128 n)
+    ∙ ap (big_number 16) (sym (append-nil (to_be_bytes w128 n)))
+    ∙ big_number-reads_back 16 n [] fits
 
 -- the low octets of a number of two halves are those of the low half
 low_cell : (n high low p k : ℕ) → 0 < p → n ≡ (high * k) * 256 * p + low → n / p % 256 ≡ low / p % 256

@@ -38,6 +38,10 @@ pub record AreHeads (p : List ℕ) (hs : List Head) : Type 0 where
   pub at : ℕ
   pub chain : Chain p hs upper at
 
+-- and no others are
+abbrev pub OnlyHeads : List ℕ → List Head → Type 0
+OnlyHeads p hs = (others : List Head) → AreHeads p others → others ≡ hs
+
 abbrev pub is_hop_by_hop : Head → Bool
 is_hop_by_hop head = head.value == 0
 

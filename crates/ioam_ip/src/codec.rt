@@ -1,10 +1,13 @@
 //! Reading and writing the IPv6 header (RFC 8200 section 3).
-ghost use Rattle.std.specs.Prelude.{◌≡◌, ◌↔◌, IsTrue, IsSome, IfSome, ℕ, List, ◌++◌, length, take};
+ghost use Rattle.std.specs.Prelude.{◌≡◌, ◌↔◌, IsTrue, IsSome, IfSome, ℕ, List, ◌+◌, ◌≤◌, ◌++◌, length, slice_range, take};
+ghost use Rattle.std.specs.Int.{w128, from_be_bytes, to_be_bytes};
+ghost use Rattle.ioam_base.specs.Octets.{written};
 ghost use Rattle.ioam_ip.specs.Packet.{IsPacket};
 ghost use Rattle.ioam_ip.specs.Header.{HasFields, FieldsFit, header_octets};
 
 use crate::packet::{HEADER_OCTETS, Header};
-use ioam_base::octets::{put_at, u16_at, u32_at};
+use byteorder::{BigEndian, ByteOrder};
+use ioam_base::octets::{put_at, put_u16_at, put_u32_at, u16_at, u32_at};
 
 /// The fields of the IPv6 header of these octets (RFC 8200 section 3). None exactly where they
 /// aren't one packet: fewer than 40 octets, another version than 6, or more or fewer octets than 40
@@ -31,9 +34,25 @@ fn read_fields(octets: &[u8]) -> Header
         payload: u16_at(octets, 4),
         next: octets[6],
         hops: octets[7],
-        source: u128::from_be_bytes(octets[8..24].try_into().unwrap()),
-        target: u128::from_be_bytes(octets[24..40].try_into().unwrap()),
+        source: u128_at(octets, 8),
+        target: u128_at(octets, 24),
     }
+}
+
+// The number of 128 bits at a place, an address.
+fn u128_at(octets: &[u8], at: usize) -> u128
+    requires { at + 16 ≤ length octets.now }
+    ensures { result ≡ from_be_bytes w128 (slice_range octets.now at (at + 16)) }
+{
+    BigEndian::read_u128(&octets[at..])
+}
+
+// Writes a number of 128 bits over the sixteen octets at a place.
+fn put_u128_at(octets: &mut [u8], at: usize, number: u128)
+    requires { at + 16 ≤ length octets.old }
+    ensures { octets.new ≡ written octets.old at (to_be_bytes w128 number) }
+{
+    BigEndian::write_u128(&mut octets[at..], number);
 }
 
 // Whether octets are one IPv6 packet.
@@ -59,9 +78,9 @@ fn write_fields(into: &mut [u8; 40], header: Header)
     ensures fit { FieldsFit header }
 {
     let word = (6 * 256 + header.class as u32) * 0x10_0000 + header.label;
-    put_at(into, 0, &word.to_be_bytes());
-    put_at(into, 4, &header.payload.to_be_bytes());
+    put_u32_at(into, 0, word);
+    put_u16_at(into, 4, header.payload);
     put_at(into, 6, &[header.next, header.hops]);
-    put_at(into, 8, &header.source.to_be_bytes());
-    put_at(into, 24, &header.target.to_be_bytes());
+    put_u128_at(into, 8, header.source);
+    put_u128_at(into, 24, header.target);
 }

@@ -3,7 +3,7 @@ ghost use Rattle.std.specs.Prelude.{All, IfSome};
 ghost use Rattle.ioam_ip.specs.Packet.{IsPacket};
 ghost use Rattle.ioam_ip.specs.Chain.{IsSound};
 ghost use Rattle.ioam_ip.specs.ChainOptions.{HeadFits, IsFilledRange};
-ghost use Rattle.ioam_ip.specs.HeadsLeft.{AreHeads, heads_left, HopHeaderOf, TargetHeaderOf};
+ghost use Rattle.ioam_ip.specs.HeadsLeft.{AreHeads, OnlyHeads, heads_left, HopHeaderOf, TargetHeaderOf};
 
 use crate::chain::{DESTINATION, HOP_BY_HOP, NESTED, start};
 use crate::headers::Heads;
@@ -16,6 +16,8 @@ pub fn heads(packet: &[u8]) -> Heads<'_>
     requires sound { IsSound packet.now }
     ensures heads { AreHeads packet.now (heads_left result) }
     ensures fit { All (HeadFits packet.now) (heads_left result) }
+    // A packet has one chain.
+    ensures only { OnlyHeads packet.now (heads_left result) }
 {
     Heads {
         packet,
