@@ -14,7 +14,8 @@ use Rattle.ioam_plan.specs.declared.itinerary.End.TheVariants.{Left, Drop}
 use Rattle.ioam_topo.specs.declared.ids.NodeId.{NodeId}
 use Rattle.ioam_topo.specs.declared.ids.PortId.{PortId}
 use Rattle.ioam_forward.specs.Fate.{DropsAlike}
-use Rattle.ioam_forward.specs.Texts.{each_text, sent_at, sent_of, last_time, lowered}
+use Rattle.ioam_ip.specs.Lowered.{lowered}
+use Rattle.ioam_forward.specs.Texts.{each_text, sent_at, sent_of, last_time}
 
 -- the head of a capture for each port in front of a place
 abbrev pub head_below : ℕ → ℕ → List ℕ

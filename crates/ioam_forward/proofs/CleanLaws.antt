@@ -58,7 +58,7 @@ one-clean false s clean = All-nil (Sends IsClean)
 left-clean : (port : ℕ) (packet : List ℕ) (visits : List Visit) (end : End) → IsPacket packet × IsClean packet
     → All (Sends IsClean) (sent_at port packet visits end)
 left-clean port packet visits (Left exit) clean = one-clean (nat_eq port exit.0) (sent_of packet visits)
-    (clean-lowered packet (slice_index packet 7 - length visits) clean.0 clean.1)
+    (clean-lowered packet (slice_index packet 7 - length visits) clean.1)
 left-clean port packet visits (Drop reason node) clean = All-nil (Sends IsClean)
 
 sent-clean : (port : ℕ) (answer : Admit) (visits : List Visit) (end : End) → TakesClean answer → DropsAlike answer end

@@ -1,22 +1,10 @@
 -- The hop limit of a packet, lowered where the packet stands.
 use Rattle.std.proofs.Common.{◌≡◌, ℕ, zero, suc, ◌+◌, ◌-◌, ◌≤◌, List, [], ◌∷◌, ◌++◌, length, set, length-set, Some, slice_get, refl, sym, ◌∙◌, ap, arith, append_assoc, length-append}
 use Rattle.std.specs.Prelude.{slice_index}
-use Rattle.ioam_base.specs.Octets.{written}
 use Rattle.ioam_pcap.specs.Text.{record_head, record_octets}
 use Rattle.ioam_plan.specs.declared.itinerary.Visit.{Visit}
-use Rattle.ioam_forward.specs.Texts.{lowered, last_time}
-
--- octet 7 is set
-set-seventh : (p : List ℕ) (hops : ℕ) → 8 ≤ length p → set p 7 hops ≡ written p 7 (hops ∷ [])
-set-seventh (a ∷ b ∷ c ∷ d ∷ e ∷ f ∷ g ∷ h ∷ rest) hops long = refl
-set-seventh [] hops long = absurd (omega (arith, long))
-set-seventh (a ∷ []) hops long = absurd (omega (arith, long))
-set-seventh (a ∷ b ∷ []) hops long = absurd (omega (arith, long))
-set-seventh (a ∷ b ∷ c ∷ []) hops long = absurd (omega (arith, long))
-set-seventh (a ∷ b ∷ c ∷ d ∷ []) hops long = absurd (omega (arith, long))
-set-seventh (a ∷ b ∷ c ∷ d ∷ e ∷ []) hops long = absurd (omega (arith, long))
-set-seventh (a ∷ b ∷ c ∷ d ∷ e ∷ f ∷ []) hops long = absurd (omega (arith, long))
-set-seventh (a ∷ b ∷ c ∷ d ∷ e ∷ f ∷ g ∷ []) hops long = absurd (omega (arith, long))
+use Rattle.ioam_ip.specs.Lowered.{lowered}
+use Rattle.ioam_forward.specs.Texts.{last_time}
 
 set-behind : (front back : List ℕ) (at v : ℕ) → set (front ++ back) (length front + at) v ≡ front ++ set back at v
 set-behind [] back at v = ap (λ (k : ℕ). set back k v) (omega arith)
@@ -25,10 +13,10 @@ set-behind (x ∷ front) back at v =
     ap (λ (k : ℕ). set (x ∷ (front ++ back)) k v) place ∙ ap (λ (rest : List ℕ). x ∷ rest) (set-behind front back at v)
 
 -- a record whose packet is lowered in its place
-pub record-lowered : (old packet items : List ℕ) (time count hops at : ℕ) → 8 ≤ length packet → items ≡ old ++ record_octets time packet
+pub record-lowered : (old packet items : List ℕ) (time count hops at : ℕ) → items ≡ old ++ record_octets time packet
     → at ≡ length items - length packet + 7 → hops ≡ slice_index packet 7 - count
     → set items at hops ≡ old ++ record_octets time (lowered count packet)
-record-lowered old packet items time count hops at long is place less =
+record-lowered old packet items time count hops at is place less =
     let head : List ℕ = record_head time (length packet) in
     let whole : length items ≡ length (old ++ (head ++ packet)) = ap length is in
     let long_front = length-append old (head ++ packet) in
@@ -36,7 +24,7 @@ record-lowered old packet items time count hops at long is place less =
     let long_head = length-append old head in
     let there : at ≡ length (old ++ head) + 7 = omega (arith, place, whole, long_front, long_back, long_head) in
     let same : length (set packet 7 hops) ≡ length packet = length-set packet 7 hops in
-    let turned : set packet 7 hops ≡ lowered count packet = set-seventh packet hops long ∙ ap (λ (h : ℕ). written packet 7 (h ∷ [])) less in
+    let turned : set packet 7 hops ≡ lowered count packet = ap (λ (h : ℕ). set packet 7 h) less in
     ap (λ (xs : List ℕ). set xs at hops) is
     ∙ ap (λ (xs : List ℕ). set xs at hops) (sym (append_assoc old head packet))
     ∙ ap (λ (k : ℕ). set ((old ++ head) ++ packet) k hops) there

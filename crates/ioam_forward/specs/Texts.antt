@@ -1,7 +1,7 @@
 -- What the outputs of a run are told of the arrivals: one capture a port, and the report.
 use Rattle.std.specs.Prelude.{ℕ, zero, suc, ◌+◌, ◌-◌, nat_eq, if◌then◌else◌, List, [], ◌∷◌, ◌++◌, length, map, slice_index}
 use Rattle.std.specs.List.{flat_map}
-use Rattle.ioam_base.specs.Octets.{written}
+use Rattle.ioam_ip.specs.Lowered.{lowered}
 use Rattle.ioam_pcap.specs.Text.{Sent, records_text, capture_text}
 use Rattle.ioam_plan.specs.declared.itinerary.Visit.{Visit}
 use Rattle.ioam_plan.specs.declared.itinerary.End.{End}
@@ -12,10 +12,6 @@ use Rattle.ioam_report.specs.declared.sums.Sums.{Sums}
 use Rattle.ioam_topo.specs.Domain.{ports}
 use Rattle.ioam_topo.specs.declared.domain.Domain.{Domain}
 use Rattle.ioam_forward.specs.Fate.{Fate}
-
--- the packet with its hop limit, octet 7, less a count (RFC 8200 section 3)
-abbrev pub lowered : ℕ → List ℕ → List ℕ
-lowered count packet = written packet 7 ((slice_index packet 7 - count) ∷ [])
 
 -- when the last visit was
 abbrev pub last_time : List Visit → ℕ

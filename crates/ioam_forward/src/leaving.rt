@@ -8,7 +8,8 @@ ghost use Rattle.ioam_pcap.specs.Text.{record_octets, records_text};
 ghost use Rattle.ioam_plan.specs.Inside.{EndsInside};
 ghost use Rattle.ioam_topo.specs.Domain.{ports};
 ghost use Rattle.ioam_forward.specs.Fate.{packet_of, DropsAlike};
-ghost use Rattle.ioam_forward.specs.Texts.{lowered, last_time, sent_at, of_outputs};
+ghost use Rattle.ioam_ip.specs.Lowered.{lowered};
+ghost use Rattle.ioam_forward.specs.Texts.{last_time, sent_at, of_outputs};
 
 use ioam_base::memory::NoMemory;
 use ioam_node::Admit;

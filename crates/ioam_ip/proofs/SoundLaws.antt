@@ -1,5 +1,5 @@
 -- A packet whose chain is whole keeps its chain when the data of options of its outer Hop-by-Hop header is replaced.
-use Rattle.std.proofs.Common.{◌≡◌, ℕ, ◌+◌, ◌-◌, ◌*◌, ◌<◌, ◌≤◌, Bool, true, false, cond, eqb, List, [], ◌∷◌, ◌++◌, length, take, drop, set, map, slice_index, slice_range, get_or, refl, sym, ap, ◌∙◌, subst, arith, length-take, length-drop, get_or-take, get_or-drop}
+use Rattle.std.proofs.Common.{◌≡◌, ℕ, ◌+◌, ◌-◌, ◌*◌, ◌/◌, ◌<◌, ◌≤◌, Bool, true, false, cond, eqb, List, [], ◌∷◌, ◌++◌, length, take, drop, set, map, slice_index, slice_range, get_or, refl, sym, ap, ◌∙◌, subst, arith, length-take, length-drop, get_or-take, get_or-drop}
 use Rattle.std.proofs.lemmas.List.{drop-set-lt, length-set, get_or-set_other, take_at, drop_at, get_or_append_left, get_or-append-add}
 use Rattle.std.proofs.lemmas.Bool.Decides.{nat_tests}
 use Rattle.ioam_base.specs.Leads.{Leads}
@@ -196,6 +196,17 @@ IsSound-lowered p limit sound =
     let are = heads_behind p (set p 7 limit) sound.heads (length-set p 7 limit) (get_or-set_other p 7 6 limit 0 (omega arith)) (drop-set-lt 40 p 7 limit (omega arith))
     (record { upper = sound.upper; at = sound.at; chain = sound.chain }) in
     record { heads = sound.heads; upper = are.upper; at = are.at; chain = are.chain }
+
+pub IsPacket-lowered : (p : List ℕ) (limit : ℕ) → IsPacket p → IsPacket (set p 7 limit)
+IsPacket-lowered p limit is =
+    let first : slice_index (set p 7 limit) 0 ≡ slice_index p 0 = get_or-set_other p 7 0 limit 0 (omega arith) in
+    let high : slice_index (set p 7 limit) 4 ≡ slice_index p 4 = get_or-set_other p 7 4 limit 0 (omega arith) in
+    let low : slice_index (set p 7 limit) 5 ≡ slice_index p 5 = get_or-set_other p 7 5 limit 0 (omega arith) in
+    record {
+      header_there = omega (arith, is.header_there, length-set p 7 limit);
+      version = ap (λ n. n / 16) first ∙ is.version;
+      whole = length-set p 7 limit ∙ is.whole ∙ sym (λ i. 40 + (high i * 256 + low i));
+    }
 
 pub option_count-lowered : (p : List ℕ) (limit : ℕ) → option_count (set p 7 limit) ≡ option_count p
 option_count-lowered p limit =

@@ -4,4 +4,4 @@ use Rattle.ioam_forward.proofs.leaving.put_lowered.Goals as goal
 
 pub returns : goal.returns
 returns c = record-lowered c.args.out.now.items c.args.packet.now c.put_record.new.out.items c.args.time c.args.count _ _
-    (omega (arith, c.requires.packet.header_there)) c.in_ok-put_record.ensures.octets (omega arith) c.hops_less.ensures
+    c.in_ok-put_record.ensures.octets (omega arith) c.hops_less.ensures
