@@ -1,3 +1,5 @@
 pub mod DeskLaws
+mod HostLaws
+pub mod KeptLaws
 mod MovesLaws
 pub mod StoreLaws

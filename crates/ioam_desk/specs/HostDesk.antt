@@ -1,7 +1,10 @@
 -- The desk over real files, in the desk's words: it tells its counts, its names and its slots.
-use Rattle.std.specs.Prelude.{[], false, None}
+use Rattle.std.specs.Prelude.{◌≡◌, ◌++◌, ◌∷◌, [], ℕ, List, ⊤, false, None, Option, MatchOption, Result, Ok, Err}
 use Rattle.ioam_desk.specs.Desk.{Side, Reading, Writing}
-use Rattle.ioam_desk.specs.HostSide.{side_of}
+use Rattle.ioam_desk.specs.HostSide.{side_of, fault_name, IsApart}
+use Rattle.ioam_desk.specs.declared.host_side.Slot.{Slot}
+use Rattle.ioam_desk.specs.declared.host_side.Opened.{Opened}
+use Rattle.ioam_desk.specs.declared.fault.DeskFault.{DeskFault}
 use Rattle.ioam_desk.specs.declared.host_desk.HostDesk.{HostDesk}
 
 -- what the slots hold isn't told
@@ -12,9 +15,33 @@ untold_reading side = record { side = side; left = λ _. []; ended = λ _. false
 abbrev pub untold_writing : Side → Writing
 untold_writing side = record { side = side; written = λ _. []; files = λ _. None }
 
--- R is the type of the runtime, F and D are those of its files and folders.
-abbrev pub reading_of : {R F D : Type 0} → HostDesk R F D → Reading
+-- R is the type of the file system, F that of its files.
+abbrev pub reading_of : {R F : Type 0} → HostDesk R F → Reading
 reading_of desk = untold_reading (side_of desk.inputs)
 
-abbrev pub writing_of : {R F D : Type 0} → HostDesk R F D → Writing
+abbrev pub writing_of : {R F : Type 0} → HostDesk R F → Writing
 writing_of desk = untold_writing (side_of desk.outputs)
+
+-- the slots of either kind
+abbrev pub inputs_of : {R F : Type 0} → HostDesk R F → List (Slot F)
+inputs_of desk = desk.inputs.slots.items
+
+abbrev pub outputs_of : {R F : Type 0} → HostDesk R F → List (Slot F)
+outputs_of desk = desk.outputs.slots.items
+
+-- the name of the last call of either kind that failed
+abbrev pub read_fault_name : {R F : Type 0} → HostDesk R F → Option (List ℕ)
+read_fault_name desk = fault_name desk.inputs
+
+abbrev pub write_fault_name : {R F : Type 0} → HostDesk R F → Option (List ℕ)
+write_fault_name desk = fault_name desk.outputs
+
+-- a new slot stands behind those that were there; it is of this name, and what was opened is as this says
+abbrev pub AddsOpened : {F : Type 0} → List (Slot F) → List ℕ → (Opened F → Type 0) → Result ℕ DeskFault → List (Slot F) → Type 0
+AddsOpened {F} old name so (Ok slot) new = (opened : Opened F) × (new ≡ old ++ record { name = name; opened = opened } ∷ []) × so opened
+AddsOpened {F} old name so (Err _) new = new ≡ old
+
+-- a file that was opened to be written is none of those that are open, and was emptied; or it isn't a regular file
+abbrev pub IsTakenAnew : {F : Type 0} → (F → Type 0) → List (Slot F) → List (Slot F) → Opened F → Type 0
+IsTakenAnew emptied inputs outputs opened = MatchOption opened.identity ⊤
+    (λ identity. IsApart identity inputs × IsApart identity outputs × emptied opened.file)

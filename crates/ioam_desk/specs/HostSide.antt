@@ -1,13 +1,19 @@
 -- One kind of slots over real files.
-use Rattle.std.specs.Prelude.{◌≡◌, ◌++◌, ◌∷◌, [], ℕ, List, Result, Ok, Err, vec_len}
+use Rattle.std.specs.Prelude.{◌≡◌, ◌≢◌, ◌++◌, ◌∷◌, [], ℕ, List, All, length, Option, Some, option_map, option_and_then, Result, Ok, Err, vec_len}
+use Rattle.std.specs.List.{slice_get}
 use Rattle.ioam_desk.specs.Desk.{Side, opened_side}
+use Rattle.ioam_desk.specs.declared.file_system.Identity.{Identity}
 use Rattle.ioam_desk.specs.declared.host_side.HostSide.{HostSide}
+use Rattle.ioam_desk.specs.declared.host_side.Slot.{Slot}
+use Rattle.ioam_desk.specs.declared.host_side.Failure.{Failure}
+use Rattle.ioam_desk.specs.declared.host_side.Place.{Place}
+use Rattle.ioam_desk.specs.declared.host_side.Place.TheVariants as place
 use Rattle.ioam_desk.specs.Faults.{with_fault}
 use Rattle.ioam_desk.specs.declared.fault.DeskFault.{DeskFault}
 use Rattle.ioam_desk.specs.declared.fault.DeskFault.TheVariants.{Failed, NoMemory}
 
 abbrev pub side_of : {F : Type 0} → HostSide F → Side
-side_of side = record { faults = side.faults; asked = side.asked.items; slots = vec_len side.files }
+side_of side = record { faults = side.faults; asked = side.asked.items; slots = vec_len side.slots }
 
 -- nothing was opened, and nothing failed
 abbrev pub no_side : Side
@@ -25,3 +31,29 @@ abbrev pub HasCounted : Side → Result ℕ DeskFault → Side → Type 0
 HasCounted old (Ok _) new = new ≡ old
 HasCounted old (Err Failed) new = new ≡ with_fault old
 HasCounted old (Err NoMemory) new = ⊥
+
+-- the file of a slot is another one from now on, which stands to the former as this says; its name,
+-- which file it is, and all other slots are as they were
+pub record ChangesFile {F : Type 0} (old new : List (Slot F)) (slot : ℕ) (to : F → F → Type 0) : Type 0 where
+  pub slots : length new ≡ length old
+  pub others : (k : ℕ) → k ≢ slot → slice_get new k ≡ slice_get old k
+  pub name : option_map (λ (one : Slot F). one.name) (slice_get new slot) ≡ option_map (λ (one : Slot F). one.name) (slice_get old slot)
+  pub identity : option_map (λ (one : Slot F). one.opened.identity) (slice_get new slot) ≡ option_map (λ (one : Slot F). one.opened.identity) (slice_get old slot)
+  pub file : (before after : Slot F) → slice_get old slot ≡ Some before → slice_get new slot ≡ Some after → to before.opened.file after.opened.file
+
+-- none of the slots is over this file
+abbrev pub IsApart : {F : Type 0} → Identity → List (Slot F) → Type 0
+IsApart identity slots = All (λ slot. slot.opened.identity ≢ Some identity) slots
+
+-- the name by which a slot was opened
+abbrev pub slot_name : {F : Type 0} → HostSide F → ℕ → Option (List ℕ)
+slot_name side k = option_map (λ slot. slot.name) (slice_get side.slots.items k)
+
+-- the name that belongs to a call
+abbrev pub name_of : {F : Type 0} → HostSide F → Place → Option (List ℕ)
+name_of side (place.Opening at) = slice_get side.asked.items at
+name_of side (place.Slot k) = slot_name side k
+
+-- the name of the last call that failed
+abbrev pub fault_name : {F : Type 0} → HostSide F → Option (List ℕ)
+fault_name side = option_and_then (λ (last : Failure). name_of side last.place) side.last

@@ -1,5 +1,6 @@
 pub mod Desk
 pub mod Asked
+pub mod Kept
 pub mod Whole
 pub mod Faults
 pub mod Files

@@ -1,42 +1,88 @@
-ghost use Rattle.std.specs.Prelude.{◌≡◌, ◌≢◌, ◌<◌, false, length};
+ghost use Rattle.std.specs.Prelude.{◌≡◌, ◌≢◌, ◌<◌, Err, Some, false, length, IfOk, IfErr, OnErr, option_map};
+ghost use Rattle.std.specs.Io.KnownBytes.{ReadConsumes, WriteAppends};
 ghost use Rattle.ioam_desk.specs.Desk.{OpenIn, ReadInto, OpenOut, WriteFrom, holds};
-ghost use Rattle.ioam_desk.specs.HostDesk.{untold_reading, untold_writing, reading_of, writing_of};
-ghost use Rattle.ioam_desk.specs.HostSide.{no_side};
+ghost use Rattle.ioam_desk.specs.HostDesk.{untold_reading, untold_writing, reading_of, writing_of, inputs_of, outputs_of, read_fault_name, write_fault_name, AddsOpened, IsTakenAnew};
+ghost use Rattle.ioam_desk.specs.HostSide.{no_side, slot_name, IsApart, ChangesFile};
 ghost use Rattle.ioam_desk.specs.Faults.{faults_after};
 
 use crate::desk::Desk;
 use crate::fault::DeskFault;
-use crate::host_side::HostSide;
+use crate::file_system::FileSystem;
+use crate::host_fault::{Fault, Reason};
+use crate::host_side::{HostSide, Opened};
 use ioam_base::memory::NoMemory;
 use std::alloc::Global;
-use std::fs;
-use std::rt::Files;
 
 /// Real files. What they hold isn't told.
+///
+/// No output is opened over a regular file that is an input or an output already, by whatever name:
+/// that is a fault of writing, and the file stays as it is.
 #[derive(Drop)]
-pub struct HostDesk<'a, R: Files> {
-    rt: &'a R,
+pub struct HostDesk<'a, R: FileSystem> {
+    files: &'a R,
     alloc: Global,
     inputs: HostSide<R::File>,
     outputs: HostSide<R::File>,
 }
 
-impl<'a, R: Files> HostDesk<'a, R> {
+impl<'a, R: FileSystem> HostDesk<'a, R> {
     /// A desk with no slots, which takes no memory.
-    pub fn new(rt: &'a R, alloc: Global) -> HostDesk<'a, R>
+    pub fn new(files: &'a R, alloc: Global) -> HostDesk<'a, R>
         ensures reading { reading_of result ≡ untold_reading no_side }
         ensures writing { writing_of result ≡ untold_writing no_side }
     {
         HostDesk {
-            rt,
+            files,
             alloc,
             inputs: HostSide::new(alloc),
             outputs: HostSide::new(alloc),
         }
     }
+
+    /// The last call that failed, of those that open or read an input.
+    pub fn read_fault(&self) -> Option<Fault<'_>>
+        ensures { option_map (λ fault. fault.name.now) result ≡ read_fault_name self.now }
+    {
+        self.inputs.fault()
+    }
+
+    /// The last call that failed, of those that open or write an output.
+    pub fn write_fault(&self) -> Option<Fault<'_>>
+        ensures { option_map (λ fault. fault.name.now) result ≡ write_fault_name self.now }
+    {
+        self.outputs.fault()
+    }
+
+    // Opens a file to be read.
+    fn opened(&self, name: &str) -> Result<Opened<R::File>, Reason>
+        ensures { IfOk result (λ opened. R.is_opened opened.file name.now) }
+    {
+        let file = self.files.open(name)?;
+        let identity = self.files.identity(&file)?;
+        Ok(Opened { file, identity })
+    }
+
+    // Opens a file to be written and empties it, unless it is one that is open.
+    fn created(&self, name: &str) -> Result<Opened<R::File>, Reason>
+        ensures created { IfOk result (λ opened. R.is_created opened.file name.now) }
+        ensures anew { IfOk result (IsTakenAnew R.is_emptied (inputs_of self.now) (outputs_of self.now)) }
+    {
+        let file = self.files.create(name)?;
+        let identity = self.files.identity(&file)?;
+        if let Some(identity) = identity {
+            if !self.inputs.is_apart(identity) {
+                return Err(Reason::IsInput);
+            }
+            if !self.outputs.is_apart(identity) {
+                return Err(Reason::IsOutput);
+            }
+            self.files.empty(&file)?;
+        }
+        Ok(Opened { file, identity })
+    }
 }
 
-impl<'a, R: Files> Desk for HostDesk<'a, R> {
+impl<'a, R: FileSystem> Desk for HostDesk<'a, R> {
     ghost tells = { false };
 
     ghost reading = { reading_of };
@@ -49,9 +95,16 @@ impl<'a, R: Files> Desk for HostDesk<'a, R> {
         ensures outputs { writing_of self.new ≡ writing_of self.old }
         ensures faults { (reading_of self.new).side.faults
             ≡ faults_after (reading_of self.old).side.faults result }
+        ensures file { AddsOpened (inputs_of self.old) name.now (λ opened. R.is_opened opened.file name.now)
+            result (inputs_of self.new) }
+        ensures others { outputs_of self.new ≡ outputs_of self.old }
+        ensures named { result ≡ Err DeskFault.Failed → read_fault_name self.new ≡ Some name.now }
     {
         match self.inputs.make_room(self.alloc, name) {
-            Ok(asked) => self.inputs.add(asked, fs::open(self.rt, name)),
+            Ok(names) => {
+                let opened = self.opened(name);
+                self.inputs.add(names, opened)
+            }
             Err(NoMemory) => Err(DeskFault::NoMemory),
         }
     }
@@ -65,6 +118,10 @@ impl<'a, R: Files> Desk for HostDesk<'a, R> {
         ensures faults { (reading_of self.new).side.faults
             ≡ faults_after (reading_of self.old).side.faults result }
         ensures memory { result ≢ Err DeskFault.NoMemory }
+        ensures file { ChangesFile (inputs_of self.old) (inputs_of self.new) slot
+            (λ before after. ReadConsumes (R.File.remaining before) (R.File.remaining after) result into.new) }
+        ensures others { outputs_of self.new ≡ outputs_of self.old }
+        ensures named { OnErr result (read_fault_name self.new ≡ slot_name self.old.inputs slot) }
     {
         self.inputs.read(slot, into)
     }
@@ -74,9 +131,18 @@ impl<'a, R: Files> Desk for HostDesk<'a, R> {
         ensures inputs { reading_of self.new ≡ reading_of self.old }
         ensures faults { (writing_of self.new).side.faults
             ≡ faults_after (writing_of self.old).side.faults result }
+        ensures file { AddsOpened (outputs_of self.old) name.now
+            (λ opened. R.is_created opened.file name.now
+            × IsTakenAnew R.is_emptied (inputs_of self.old) (outputs_of self.old) opened)
+            result (outputs_of self.new) }
+        ensures others { inputs_of self.new ≡ inputs_of self.old }
+        ensures named { result ≡ Err DeskFault.Failed → write_fault_name self.new ≡ Some name.now }
     {
         match self.outputs.make_room(self.alloc, name) {
-            Ok(asked) => self.outputs.add(asked, fs::create(self.rt, name)),
+            Ok(names) => {
+                let opened = self.created(name);
+                self.outputs.add(names, opened)
+            }
             Err(NoMemory) => Err(DeskFault::NoMemory),
         }
     }
@@ -90,6 +156,10 @@ impl<'a, R: Files> Desk for HostDesk<'a, R> {
         ensures faults { (writing_of self.new).side.faults
             ≡ faults_after (writing_of self.old).side.faults result }
         ensures memory { result ≢ Err DeskFault.NoMemory }
+        ensures file { ChangesFile (outputs_of self.old) (outputs_of self.new) slot
+            (λ before after. WriteAppends (R.File.contents before) (R.File.contents after) result from.now) }
+        ensures others { inputs_of self.new ≡ inputs_of self.old }
+        ensures named { OnErr result (write_fault_name self.new ≡ slot_name self.old.outputs slot) }
     {
         self.outputs.write(slot, from)
     }

@@ -1,78 +1,153 @@
-ghost use Rattle.std.specs.Prelude.{◌≡◌, ◌<◌, ◌^◌, ◌≤◌, OnOk, IfOk, vec_len, vec_capacity, length};
-ghost use Rattle.ioam_desk.specs.HostSide.{side_of, no_side, AddsSlot, HasCounted};
+ghost use Rattle.std.specs.Prelude.{◌≡◌, ◌<◌, ◌^◌, ◌≤◌, ◌∷◌, ◌++◌, [], ◌↔◌, None, Some, IsTrue, OnOk, OnErr, IfOk, MatchResult, vec_len, vec_capacity, length, option_map};
+ghost use Rattle.std.specs.Io.KnownBytes.{ReadConsumes, WriteAppends};
+ghost use Rattle.ioam_desk.specs.HostSide.{side_of, no_side, AddsSlot, HasCounted, ChangesFile, IsApart, slot_name, fault_name, name_of};
 ghost use Rattle.ioam_desk.specs.Faults.{with_fault};
 ghost use Rattle.ioam_desk.specs.declared.fault.DeskFault.TheVariants.{Failed};
 
 use crate::fault::DeskFault;
+use crate::file_system::Identity;
+use crate::host_fault::{Fault, Reason};
 use crate::name::Name;
 use crate::room::put;
 use ioam_base::memory::NoMemory;
 use std::alloc::Global;
-use std::io;
 use std::io::{Read, Write};
 
-/// One kind of slots over real files: the opened files, the names that were given to the opening
-/// call, and how many calls failed.
+/// A file that was opened, and which one it is: None where it isn't a regular one.
+#[derive(Drop)]
+pub(crate) struct Opened<F> {
+    pub(crate) file: F,
+    pub(crate) identity: Option<Identity>,
+}
+
+/// A slot over a real file: the name by which it was opened, and the file.
+#[derive(Drop)]
+pub(crate) struct Slot<F> {
+    name: Name,
+    opened: Opened<F>,
+}
+
+/// Which call failed: the opening one that was asked so many names before, or one on a slot.
+#[derive(Clone, Copy)]
+pub(crate) enum Place {
+    Opening(usize),
+    Slot(u32),
+}
+
+/// A call that failed, and why.
+#[derive(Clone, Copy)]
+pub(crate) struct Failure {
+    place: Place,
+    reason: Reason,
+}
+
+/// One kind of slots over real files: the slots, the names that were given to the opening call, how
+/// many calls failed, and which of them was the last.
 #[derive(Drop)]
 pub(crate) struct HostSide<F> {
     asked: Vec<Name>,
-    files: Vec<F>,
-    pub(crate) faults: u64,
+    slots: Vec<Slot<F>>,
+    faults: u64,
+    last: Option<Failure>,
 }
 
 impl<F: Drop> HostSide<F> {
     pub(crate) fn new(alloc: Global) -> HostSide<F>
-        ensures { side_of result ≡ no_side }
+        ensures side { side_of result ≡ no_side }
+        ensures slots { result.slots.items ≡ [] }
+        ensures fault { fault_name result ≡ None }
     {
         HostSide {
             asked: Vec::new(alloc),
-            files: Vec::new(alloc),
+            slots: Vec::new(alloc),
             faults: 0,
+            last: None,
         }
     }
 
-    /// Makes room for one slot more, before the outside is asked. The answer is the name, to be
-    /// taken whatever the outside says.
-    pub(crate) fn make_room(&mut self, alloc: Global, name: &str) -> Result<Name, NoMemory>
-        ensures name { IfOk result (λ asked. asked ≡ name.now) }
+    /// Makes room for one slot more, before the outside is asked. The answer is the name twice, for
+    /// the list of those that were asked for and for the slot.
+    pub(crate) fn make_room(&mut self, alloc: Global, name: &str) -> Result<(Name, Name), NoMemory>
+        ensures asked { IfOk result (λ names. names.0 ≡ name.now) }
+        ensures slot { IfOk result (λ names. names.1 ≡ name.now) }
         ensures asked_room { OnOk result (vec_len self.new.asked < vec_capacity self.new.asked) }
-        ensures files_room { OnOk result (vec_len self.new.files < vec_capacity self.new.files) }
-        ensures numbers { OnOk result (vec_len self.new.files < 2 ^ 32) }
+        ensures slots_room { OnOk result (vec_len self.new.slots < vec_capacity self.new.slots) }
+        ensures numbers { OnOk result (vec_len self.new.slots < 2 ^ 32) }
         ensures unchanged { side_of self.new ≡ side_of self.old }
+        ensures slots { self.new.slots.items ≡ self.old.slots.items }
     {
-        if u32::try_from(self.files.len()).is_err() {
+        if u32::try_from(self.slots.len()).is_err() {
             return Err(NoMemory);
         }
+        let asked = Name::new(alloc, name)?;
         let name = Name::new(alloc, name)?;
         self.asked.reserve(1)?;
-        self.files.reserve(1)?;
-        Ok(name)
+        self.slots.reserve(1)?;
+        Ok((asked, name))
     }
 
     /// Takes the name, and what the outside answered to it.
-    pub(crate) fn add(&mut self, name: Name, opened: io::Result<F>) -> Result<u32, DeskFault>
+    pub(crate) fn add(
+        &mut self,
+        names: (Name, Name),
+        opened: Result<Opened<F>, Reason>,
+    ) -> Result<u32, DeskFault>
         requires asked_room { vec_len self.old.asked < vec_capacity self.old.asked }
-        requires files_room { vec_len self.old.files < vec_capacity self.old.files }
-        requires numbers { vec_len self.old.files < 2 ^ 32 }
-        ensures { AddsSlot (side_of self.old) name result (side_of self.new) }
+        requires slots_room { vec_len self.old.slots < vec_capacity self.old.slots }
+        requires numbers { vec_len self.old.slots < 2 ^ 32 }
+        ensures side { AddsSlot (side_of self.old) names.0 result (side_of self.new) }
+        ensures slots { MatchResult opened
+            (λ opened. (result ≡ Ok (vec_len self.old.slots))
+            × (self.new.slots.items ≡ self.old.slots.items ++ record { name = names.1; opened = opened } ∷ []))
+            (λ _. (result ≡ Err Failed) × (self.new.slots.items ≡ self.old.slots.items)) }
+        ensures fault { OnErr opened (fault_name self.new ≡ Some names.0) }
     {
-        put(&mut self.asked, name);
+        let (asked, name) = names;
+        let at = self.asked.len();
+        put(&mut self.asked, asked);
         match opened {
-            Ok(file) => {
-                let slot = self.files.len() as u32;
-                put(&mut self.files, file);
+            Ok(opened) => {
+                let slot = self.slots.len() as u32;
+                put(&mut self.slots, Slot { name, opened });
                 Ok(slot)
             }
-            Err(_) => Err(self.failed()),
+            Err(reason) => Err(self.failed(Place::Opening(at), reason)),
         }
     }
 
+    /// Whether no slot is over this file.
+    pub(crate) fn is_apart(&self, identity: Identity) -> bool
+        ensures { IsTrue result ↔ IsApart identity self.now.slots.items }
+    {
+        self.slots
+            .iter()
+            .all(|slot| slot.opened.identity != Some(identity))
+    }
+
+    /// The last call that failed.
+    pub(crate) fn fault(&self) -> Option<Fault<'_>>
+        ensures { option_map (λ fault. fault.name.now) result ≡ fault_name self.now }
+    {
+        let Failure { place, reason } = self.last?;
+        let name = match place {
+            Place::Opening(at) => self.asked.get(at)?,
+            Place::Slot(slot) => &self.slots.get(slot as usize)?.name,
+        };
+        Some(Fault {
+            name: name.text(),
+            reason,
+        })
+    }
+
     /// Counts a call that failed.
-    fn failed(&mut self) -> DeskFault
+    fn failed(&mut self, place: Place, reason: Reason) -> DeskFault
         ensures fault { result ≡ Failed }
         ensures side { side_of self.new ≡ with_fault (side_of self.old) }
+        ensures slots { self.new.slots.items ≡ self.old.slots.items }
+        ensures name { fault_name self.new ≡ name_of self.old place }
     {
         self.faults = self.faults.saturating_add(1);
+        self.last = Some(Failure { place, reason });
         DeskFault::Failed
     }
 }
@@ -80,13 +155,16 @@ impl<F: Drop> HostSide<F> {
 impl<F: Read + Drop> HostSide<F> {
     /// Reads from a slot.
     pub(crate) fn read(&mut self, slot: u32, into: &mut [u8]) -> Result<usize, DeskFault>
-        requires { slot < vec_len self.old.files }
+        requires { slot < vec_len self.old.slots }
         ensures count { IfOk result (λ count. count ≤ length into.new) }
         ensures side { HasCounted (side_of self.old) result (side_of self.new) }
+        ensures octets { ChangesFile self.old.slots.items self.new.slots.items slot
+            (λ before after. ReadConsumes (F.remaining before) (F.remaining after) result into.new) }
+        ensures fault { OnErr result (fault_name self.new ≡ slot_name self.old slot) }
     {
-        match self.files[slot as usize].read(into) {
+        match self.slots[slot as usize].opened.file.read(into) {
             Ok(count) => Ok(count),
-            Err(_) => Err(self.failed()),
+            Err(error) => Err(self.failed(Place::Slot(slot), Reason::System(error))),
         }
     }
 }
@@ -94,13 +172,17 @@ impl<F: Read + Drop> HostSide<F> {
 impl<F: Write + Drop> HostSide<F> {
     /// Writes to a slot. A write that takes nothing has failed.
     pub(crate) fn write(&mut self, slot: u32, from: &[u8]) -> Result<usize, DeskFault>
-        requires { slot < vec_len self.old.files }
+        requires { slot < vec_len self.old.slots }
         ensures count { IfOk result (λ count. (1 ≤ count) × (count ≤ length from.now)) }
         ensures side { HasCounted (side_of self.old) result (side_of self.new) }
+        ensures octets { ChangesFile self.old.slots.items self.new.slots.items slot
+            (λ before after. WriteAppends (F.contents before) (F.contents after) result from.now) }
+        ensures fault { OnErr result (fault_name self.new ≡ slot_name self.old slot) }
     {
-        match self.files[slot as usize].write(from) {
-            Ok(0) | Err(_) => Err(self.failed()),
+        match self.slots[slot as usize].opened.file.write(from) {
+            Ok(0) => Err(self.failed(Place::Slot(slot), Reason::TakesNone)),
             Ok(count) => Ok(count),
+            Err(why) => Err(self.failed(Place::Slot(slot), Reason::System(why))),
         }
     }
 }

@@ -5,7 +5,9 @@
 mod calls;
 mod desk;
 mod fault;
+mod file_system;
 mod host_desk;
+mod host_fault;
 mod host_side;
 mod memory_desk;
 mod name;
@@ -16,7 +18,9 @@ mod whole;
 
 pub use desk::Desk;
 pub use fault::{DeskFault, WholeFault, WriteAll};
+pub use file_system::{FileSystem, Identity};
 pub use host_desk::HostDesk;
+pub use host_fault::{Fault, Reason};
 pub use memory_desk::MemoryDesk;
 pub use name::Name;
 pub use sure_desk::SureDesk;

@@ -1,9 +1,7 @@
-//! The three desks: in memory with pieces and failures that are chosen, in memory without failures,
-//! and over real files.
+//! The desks in memory: with pieces and failures that are chosen, and without failures.
 ghost use Rattle.std.specs.Prelude.{◌≡◌};
 
-use ioam_desk::{Desk, DeskFault, HostDesk, MemoryDesk, SureDesk};
-use std::fs;
+use ioam_desk::{Desk, DeskFault, MemoryDesk, SureDesk};
 use std::test::Fail;
 
 // How many calls of a desk failed, of those that open or read inputs and of those that open or write
@@ -65,27 +63,5 @@ fn no_name_is_missing(rt: HostRuntime) -> Result<(), Fail> {
     assert_eq!(rt; desk.write(output, b"56789"), Ok(4));
     assert_eq!(rt; desk.file("out"), Some(&b"5678"[..]));
     assert_eq!(rt; desk.file("none"), Some(&b""[..]));
-    Ok(())
-}
-
-#[test]
-fn real_files(rt: HostRuntime) -> Result<(), Fail> {
-    let name = "ioam_desk_real_files.bin";
-    let mut desk = HostDesk::new(&rt, rt.alloc());
-    let output = desk.open_out(name)?;
-    assert_eq!(rt; desk.write(output, b"octets"), Ok(6));
-
-    let input = desk.open_in(name)?;
-    let mut into = [0u8; 8];
-    assert_eq!(rt; desk.read(input, &mut into), Ok(6));
-    assert_eq!(rt; into, *b"octets\0\0");
-    assert_eq!(rt; desk.read(input, &mut into), Ok(0));
-
-    assert_eq!(rt;
-        desk.open_in("ioam_desk_no_file.bin"),
-        Err(DeskFault::Failed)
-    );
-    are_counted(&desk, 1, 0);
-    fs::remove_file(&rt, name)?;
     Ok(())
 }

@@ -1,14 +1,14 @@
 -- One output after another is opened.
-use Rattle.std.proofs.Common.{◌≡◌, ◌≢◌, ℕ, ◌+◌, ◌<◌, ◌≤◌, Bool, IsTrue, Contains, List, [], ◌∷◌, ◌++◌, length, take, drop, Option, Some, Ok, Err, get_or, refl, sym, ◌∙◌, ap, subst, append-nil, append_assoc, arith, suc, length-append}
+use Rattle.std.proofs.Common.{◌≡◌, ◌≢◌, ℕ, ◌+◌, ◌<◌, ◌≤◌, Bool, IsTrue, Contains, List, [], ◌∷◌, ◌++◌, length, take, drop, Some, Ok, Err, get_or, refl, sym, ◌∙◌, ap, subst, append-nil, append_assoc, arith, suc, length-append}
 use Rattle.std.proofs.lemmas.List.{get_or_default, take_more, take-append-drop}
 use Rattle.ioam_desk.specs.Asked.{IsFaultOf}
-use Rattle.ioam_desk.specs.Desk.{Side, Writing, Held, Written, OpenOut, holds, opened_side, opened_each}
+use Rattle.ioam_desk.specs.Desk.{Side, Writing, Written, OpenOut, holds, opened_side, opened_each}
 use Rattle.ioam_desk.specs.declared.fault.DeskFault.{DeskFault}
 use Rattle.ioam_desk.specs.declared.fault.DeskFault.TheVariants.{Failed, NoMemory}
 use Rattle.ioam_outputs.specs.declared.output.Output.{Output}
 use Rattle.ioam_outputs.specs.Held.{HoldFronts}
 use Rattle.ioam_outputs.specs.Names.{AreApart}
-use Rattle.ioam_outputs.specs.Told.{IsTold, AreTold, TiesAlone, unsaid}
+use Rattle.ioam_outputs.specs.Told.{IsTold, AreTold, unsaid}
 use Rattle.ioam_outputs.proofs.HeldLaws.{front_held, holds_slot}
 use Rattle.ioam_outputs.proofs.ToldLaws.{AreTold-unwritten}
 
@@ -159,28 +159,3 @@ stops_more tells start mid new names i outputs name output apart inside is opene
           (told_more tells start mid new names i outputs name output apart inside is opened nothing before told)
           (ap (λ (s : Side). s.slots) side),
     )
-
--- one name more was tied, and nothing else moved
-pub ties_more : (tells : Bool) (start mid new : Writing) (names : List (List ℕ)) (i slot : ℕ) (name : List ℕ)
-    → i < length names → name ≡ get_or names i name → OpenOut tells mid name (Ok slot) new
-    → mid.side ≡ opened_each start.side (take i names)
-    → (IsTrue tells → TiesAlone start mid names) → IsTrue tells → TiesAlone start new names
-ties_more tells start mid new names i slot name inside is opened before ties told = record {
-  files = λ other outside. (opened.2 told).other_files other
-      (λ same. outside (let P : List ℕ → Type 0 = λ (x : List ℕ). Contains names x in subst P (sym same) (i, inside, sym is)))
-      ∙ (ties told).files other outside;
-  written = λ k below. (opened.2 told).other_written k
-      (λ same. absurd (omega (arith, same, below, opened.0, ap (λ (s : Side). s.slots) before)))
-      ∙ (ties told).written k below;
-}
-
--- an opening that failed tied nothing
-pub ties_still : (tells : Bool) (start mid new : Writing) (names : List (List ℕ)) (name : List ℕ) (fault : DeskFault)
-    → OpenOut tells mid name (Err fault) new
-    → (IsTrue tells → TiesAlone start mid names) → IsTrue tells → TiesAlone start new names
-ties_still tells start mid new names name Failed failed ties told = record {
-  files = λ other outside. ap (λ (f : List ℕ → Option Held). f other) failed.2 ∙ (ties told).files other outside;
-  written = λ k below. ap (λ (w : ℕ → List ℕ). w k) failed.1 ∙ (ties told).written k below;
-}
-ties_still tells start mid new names name NoMemory same ties told =
-    let P : Writing → Type 0 = λ w. TiesAlone start w names in subst P (sym same) (ties told)

@@ -1,10 +1,11 @@
 -- Laws of what was said to outputs.
-use Rattle.std.proofs.Common.{◌≡◌, ℕ, ◌+◌, ◌<◌, ◌≤◌, Bool, List, [], ◌∷◌, ◌++◌, length, Option, get_or, set, refl, sym, ◌∙◌, ap, append_assoc, arith, zero, suc}
+use Rattle.std.proofs.Common.{◌≡◌, ◌≢◌, ℕ, ◌+◌, ◌<◌, ◌≤◌, Bool, All, List, [], ◌∷◌, ◌++◌, length, Option, get_or, set, refl, sym, ◌∙◌, ap, append_assoc, arith, zero, suc}
 use Rattle.std.proofs.lemmas.List.Elements.{All-nil, All-cons, All-head, All-tail}
 use Rattle.ioam_desk.specs.Desk.{Writing, Held}
 use Rattle.ioam_outputs.specs.declared.output.Output.{Output}
 use Rattle.ioam_outputs.specs.Told.{IsTold, AreTold, Adds, said_more, unsaid, AreOpen}
-use Rattle.ioam_outputs.specs.Flush.{Moves}
+use Rattle.ioam_desk.specs.Kept.{WritesFrom}
+use Rattle.ioam_outputs.specs.Flush.{Moves, WritesTheirs}
 
 -- the slots of outputs that were told are open
 pub AreTold-open : (tells : Bool) (desk : Writing) (slot : ℕ) (names : List (List ℕ)) (outputs : List Output) (texts : List (List ℕ))
@@ -136,3 +137,23 @@ Adds-open desk [] [] (more ∷ added) adds are = absurd adds
 Adds-open desk [] (after ∷ new) added adds are = absurd adds
 Adds-open desk (before ∷ old) [] added adds are = absurd adds
 Adds-open desk (before ∷ old) (after ∷ new) [] adds are = absurd adds
+
+-- the slots of outputs that were told are numbered from this one on
+AreTold-above : (tells : Bool) (desk : Writing) (slot : ℕ) (names : List (List ℕ)) (outputs : List Output) (texts : List (List ℕ))
+    → AreTold tells desk slot names outputs texts → (k : ℕ) → k < slot → All (λ (output : Output). output.slot ≢ k) outputs
+AreTold-above tells desk slot [] [] [] told k below = All-nil (λ (output : Output). output.slot ≢ k)
+AreTold-above tells desk slot (name ∷ names) (output ∷ outputs) (text ∷ texts) told k below =
+    All-cons (λ (output : Output). output.slot ≢ k) output outputs (λ same. absurd (omega (arith, same, told.0.number, below)))
+    (AreTold-above tells desk (slot + 1) names outputs texts told.1 k (omega (arith, below)))
+AreTold-above tells desk slot [] [] (text ∷ texts) told k below = absurd told
+AreTold-above tells desk slot [] (output ∷ outputs) texts told k below = absurd told
+AreTold-above tells desk slot (name ∷ names) [] texts told k below = absurd told
+AreTold-above tells desk slot (name ∷ names) (output ∷ outputs) [] told k below = absurd told
+
+-- so a writing of theirs leaves the slots before these as they are
+pub told_writes : (tells : Bool) (old new : Writing) (slot : ℕ) (names : List (List ℕ)) (outputs : List Output) (texts : List (List ℕ))
+    → AreTold tells old slot names outputs texts → WritesTheirs old new outputs → WritesFrom slot old new
+told_writes tells old new slot names outputs texts told writes = record {
+  files = writes.files;
+  written = λ k below. writes.written k (AreTold-above tells old slot names outputs texts told k below);
+}

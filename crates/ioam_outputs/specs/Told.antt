@@ -1,6 +1,6 @@
 -- What was said to outputs: what was written to their slots, and behind it what is gathered for them
 -- and not yet written. Gathering adds to it, and writing leaves it as it is.
-use Rattle.std.specs.Prelude.{◌≡◌, ℕ, ◌+◌, ◌<◌, ⊤, Bool, IsTrue, List, [], ◌∷◌, ◌++◌, map, All, Contains, Some}
+use Rattle.std.specs.Prelude.{◌≡◌, ℕ, ◌+◌, ◌<◌, ⊤, Bool, IsTrue, List, [], ◌∷◌, ◌++◌, map, All, Some}
 use Rattle.ioam_desk.specs.Desk.{Writing, Written}
 use Rattle.ioam_outputs.specs.declared.output.Output.{Output}
 
@@ -37,8 +37,3 @@ AreOpen desk outputs = All (λ output. output.slot < desk.side.slots) outputs
 -- as many texts as names, in which nothing is said yet
 abbrev pub unsaid : List (List ℕ) → List (List ℕ)
 unsaid names = map (λ _. []) names
-
--- no names but these were tied, and the slots that were there hold what they held
-pub record TiesAlone (old new : Writing) (names : List (List ℕ)) : Type 0 where
-  pub files : (name : List ℕ) → (Contains names name → ⊥) → new.files name ≡ old.files name
-  pub written : (k : ℕ) → k < old.side.slots → new.written k ≡ old.written k

@@ -2,9 +2,10 @@
 ghost use Rattle.std.specs.Prelude.{◌≡◌, ℕ, List, IsTrue, IfErr, IfOk, OnOk, length};
 ghost use Rattle.ioam_desk.specs.Asked.{AsksFront, IsFaultOf};
 ghost use Rattle.ioam_desk.specs.Desk.{opened_each};
+ghost use Rattle.ioam_desk.specs.Kept.{KeepsOutputs};
 ghost use Rattle.ioam_outputs.specs.Held.{HoldFronts};
 ghost use Rattle.ioam_outputs.specs.Names.{AreApart};
-ghost use Rattle.ioam_outputs.specs.Told.{AreOpen, AreTold, TiesAlone, unsaid};
+ghost use Rattle.ioam_outputs.specs.Told.{AreOpen, AreTold, unsaid};
 
 use crate::output::Output;
 use ioam_desk::{Desk, DeskFault, Name};
@@ -13,7 +14,8 @@ use std::alloc::Global;
 /// Opens an output for each of these names, in their order. Nothing is said to them yet.
 ///
 /// No two of the names are equal, as `first_repeat` tells. Where a name can't be opened (`Failed`),
-/// or no memory can be had, the names behind it are not opened, and those before it stay open and empty. Other names hold what they held.
+/// or no memory can be had, the names behind it are not opened, and those before it stay open and
+/// empty. Names that were not given to the opening call, and slots that were there, are as they were.
 pub fn open_outputs<D: Desk>(
     alloc: Global,
     desk: &mut D,
@@ -27,7 +29,7 @@ pub fn open_outputs<D: Desk>(
     ensures fault { IfErr result (λ fault. IsFaultOf (D.writing desk.old).side (D.writing desk.new).side fault
         × (IsTrue D.tells → (texts : List (List ℕ)) → length texts ≡ length names.now
         → HoldFronts (D.writing desk.old) (D.writing desk.new) 0 names.now texts)) }
-    ensures others { IsTrue D.tells → TiesAlone (D.writing desk.old) (D.writing desk.new) names.now }
+    ensures kept { IsTrue D.tells → KeepsOutputs (D.writing desk.old) (D.writing desk.new) }
     ensures inputs { D.reading desk.new ≡ D.reading desk.old }
 {
     let Ok(mut outputs) = Vec::with_capacity(alloc, names.len()) else {

@@ -1,7 +1,8 @@
-use Rattle.std.proofs.Common.{◌≡◌, ◌<◌, ◌+◌, ℕ, List, length, take, get_or, refl, sym, ◌∙◌, subst, arith}
+use Rattle.std.proofs.Common.{◌≡◌, ◌<◌, ◌+◌, ℕ, List, length, take, Ok, Err, get_or, refl, sym, ◌∙◌, subst, arith}
 use Rattle.ioam_outputs.specs.declared.output.Output.{Output}
 use Rattle.ioam_outputs.specs.Told.{AreTold, unsaid}
-use Rattle.ioam_outputs.proofs.OpenLaws.{side_more, told_more, stops_more, fails_more, unopened, ties_more, ties_still}
+use Rattle.ioam_outputs.proofs.OpenLaws.{side_more, told_more, stops_more, fails_more, unopened}
+use Rattle.ioam_desk.proofs.KeptLaws.{KeepsOutputs-same, KeepsOutputs-then, KeepsOutputs-asked}
 use Rattle.ioam_outputs.proofs.ToldLaws.{AreTold-open}
 use Rattle.ioam_outputs.proofs.open.open_outputs.Goals as goal
 
@@ -27,24 +28,21 @@ names-preserved g c =
           c.in-Ok-open_out.ensures.opened c.new-gathered.ensures.items c.names.invariant.side c.names.invariant.told);
       side = side_more start.side (g.D.Desk.writing c.names.desk).side new.side names i name inside is
           c.names.invariant.side c.in-Ok-open_out.ensures.opened.1;
-      others = ties_more g.D.Desk.tells start (g.D.Desk.writing c.names.desk) new names i c.in-Ok-open_out.slot name inside is
-          c.in-Ok-open_out.ensures.opened c.names.invariant.side c.names.invariant.others;
+      kept = λ told. KeepsOutputs-then start (g.D.Desk.writing c.names.desk) new (c.names.invariant.kept told)
+          (KeepsOutputs-asked g.D.Desk.tells (g.D.Desk.writing c.names.desk) new name (Ok c.in-Ok-open_out.slot) c.in-Ok-open_out.ensures.opened told);
       inputs = c.open_out.ensures.inputs ∙ c.names.invariant.inputs;
     }
 
-pub returns-in-Err-push-clause-others : goal.returns-in-Err-push-clause-others
-returns-in-Err-push-clause-others g c =
-    let names = c.args.names.now in
-    let name = c.text.result.now in
-    let i = c.names.name-index in
-    let inside : i < length names = omega arith in
-    let is : name ≡ get_or names i name = subst (λ (x : List ℕ). x ≡ get_or names i x) (sym c.text.ensures) c.name-item.is in
-    ties_more g.D.Desk.tells (g.D.Desk.writing c.args.desk.now) (g.D.Desk.writing c.names.desk) (g.D.Desk.writing c.open_out.new.self)
-    names i c.in-Ok-open_out.slot name inside is c.in-Ok-open_out.ensures.opened c.names.invariant.side c.names.invariant.others
+pub returns-in_default-clause-kept : goal.returns-in_default-clause-kept
+returns-in_default-clause-kept g c = λ told. KeepsOutputs-same (g.D.Desk.writing c.args.desk.now) _ refl
 
-pub returns-in-Err-clause-others : goal.returns-in-Err-clause-others
-returns-in-Err-clause-others g c = ties_still g.D.Desk.tells (g.D.Desk.writing c.args.desk.now) (g.D.Desk.writing c.names.desk) _ c.args.names.now _ _
-    c.in-Err.ensures.opened c.names.invariant.others
+pub returns-in-Err-push-clause-kept : goal.returns-in-Err-push-clause-kept
+returns-in-Err-push-clause-kept g c = λ told. KeepsOutputs-then (g.D.Desk.writing c.args.desk.now) (g.D.Desk.writing c.names.desk) (g.D.Desk.writing c.open_out.new.self) (c.names.invariant.kept told)
+    (KeepsOutputs-asked g.D.Desk.tells (g.D.Desk.writing c.names.desk) (g.D.Desk.writing c.open_out.new.self) c.text.result.now (Ok c.in-Ok-open_out.slot) c.in-Ok-open_out.ensures.opened told)
+
+pub returns-in-Err-clause-kept : goal.returns-in-Err-clause-kept
+returns-in-Err-clause-kept g c = λ told. KeepsOutputs-then (g.D.Desk.writing c.args.desk.now) (g.D.Desk.writing c.names.desk) (g.D.Desk.writing c.open_out.new.self) (c.names.invariant.kept told)
+    (KeepsOutputs-asked g.D.Desk.tells (g.D.Desk.writing c.names.desk) (g.D.Desk.writing c.open_out.new.self) c.text.result.now (Err c.in-Err.fault) c.in-Err.ensures.opened told)
 
 pub returns-in-Err-push-clause-fault : goal.returns-in-Err-push-clause-fault
 returns-in-Err-push-clause-fault g c =

@@ -1,0 +1,13 @@
+use Rattle.std.proofs.Common.{List, IfOk, subst}
+use Rattle.ioam_desk.specs.HostDesk.{IsTakenAnew}
+use Rattle.ioam_desk.specs.declared.host_side.Slot.{Slot}
+use Rattle.ioam_desk.proofs.HostLaws.{adds_opened, if_ok_both}
+use Rattle.ioam_desk.proofs.host_desk.HostDeskDesk.open_out.Goals as goal
+
+pub returns-in-Ok-clause-file : goal.returns-in-Ok-clause-file
+returns-in-Ok-clause-file g c = adds_opened _ c.make_room.new.self.slots.items _ _ _ _ _ _ _
+    c.make_room.ensures.slots c.in-Ok.ensures.slot
+    (if_ok_both c.created-opened.result _ _ c.created-opened.ensures.created
+    (subst (λ (outputs : List (Slot _)). IfOk c.created-opened.result (IsTakenAnew g.R.FileSystem.is_emptied c.args.self.now.inputs.slots.items outputs))
+    c.make_room.ensures.slots c.created-opened.ensures.anew))
+    c.add.ensures.slots
