@@ -7,11 +7,11 @@ use Rattle.ioam_pcap.specs.declared.capture.CapFault.{CapFault}
 use Rattle.ioam_pcap.specs.declared.capture.CapFault.TheVariants as fault
 use Rattle.ioam_toml.specs.declared.why.Why.{Why}
 use Rattle.ioam_toml.specs.declared.why.Why.TheVariants as why
-use Rattle.ioam_domain_file.specs.declared.fault.DomainFault.{DomainFault}
-use Rattle.ioam_domain_file.specs.declared.words.Field.{Field}
-use Rattle.ioam_domain_file.specs.declared.words.Field.TheVariants as field
-use Rattle.ioam_domain_file.specs.declared.words.Table.{Table}
-use Rattle.ioam_domain_file.specs.declared.words.Table.TheVariants as table
+use Rattle.ioam_entries.specs.declared.fault.DomainFault.{DomainFault}
+use Rattle.ioam_entries.specs.declared.words.Field.{Field}
+use Rattle.ioam_entries.specs.declared.words.Field.TheVariants as field
+use Rattle.ioam_entries.specs.declared.words.Table.{Table}
+use Rattle.ioam_entries.specs.declared.words.Table.TheVariants as table
 use Rattle.ioam_answer.specs.declared.outcome.Outcome.{Outcome}
 use Rattle.ioam_answer.specs.declared.outcome.Outcome.TheVariants.{Done, Usage, Names, Domain, Readings, Capture, Packets, ReadFault, WriteFault, NoMemory}
 
@@ -37,6 +37,7 @@ table_text table.PortTable = codes "port"
 table_text table.RouteTable = codes "route"
 table_text table.DataTable = codes "data"
 table_text table.FlowTable = codes "flow"
+table_text table.ExtraTable = codes "extra"
 
 abbrev pub field_text : Field → List ℕ
 field_text field.FormatKey = codes "format"
@@ -76,6 +77,7 @@ field_text field.DirectKey = codes "direct"
 field_text field.EveryKey = codes "every"
 field_text field.FlowIdKey = codes "flow_id"
 field_text field.LimitKey = codes "limit"
+field_text field.FlowKey = codes "flow"
 field_text field.OtherKey = codes "other"
 field_text field.NoKey = codes "-"
 
@@ -94,6 +96,7 @@ is_flow_key field.DirectKey = true
 is_flow_key field.EveryKey = true
 is_flow_key field.FlowIdKey = true
 is_flow_key field.LimitKey = true
+is_flow_key field.FlowKey = true
 is_flow_key _ = false
 
 abbrev pub why_text : Why → List ℕ

@@ -6,7 +6,7 @@ use crate::outcome::Outcome;
 use crate::words::{field_text, read_why_text, table_text, why_text};
 use ioam_base::memory::NoMemory;
 use ioam_clock::ReadingsFault;
-use ioam_domain_file::DomainFault;
+use ioam_entries::DomainFault;
 use ioam_pcap::CapFault;
 use std::alloc::Global;
 

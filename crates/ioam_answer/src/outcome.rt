@@ -2,7 +2,7 @@ ghost use Rattle.std.specs.Prelude.{◌≡◌, ◌⊎◌};
 
 use ioam_clock::ReadingsFault;
 use ioam_desk::Name;
-use ioam_domain_file::DomainFault;
+use ioam_entries::DomainFault;
 use ioam_pcap::CapFault;
 use std::alloc::Global;
 

@@ -3,7 +3,7 @@ ghost use Rattle.std.specs.Prelude.{◌≡◌, true};
 ghost use Rattle.ioam_answer.specs.Answers.{table_text, field_text, is_flow_key, why_text, read_why_text};
 
 use ioam_clock::ReadWhy;
-use ioam_domain_file::{Field, Table, Why};
+use ioam_entries::{Field, Table, Why};
 
 /// The word for a table of the domain file.
 pub fn table_text(table: Table) -> &'static str
@@ -17,6 +17,7 @@ pub fn table_text(table: Table) -> &'static str
         Table::RouteTable => "route",
         Table::DataTable => "data",
         Table::FlowTable => "flow",
+        Table::ExtraTable => "extra",
     }
 }
 
@@ -55,7 +56,7 @@ pub fn field_text(field: Field) -> &'static str
     }
 }
 
-// The word for a key that flows alone have.
+// The word for a key that flows and their extra traces alone have.
 fn flow_key_text(field: Field) -> &'static str
     requires { is_flow_key field ≡ true }
     ensures { result.now ≡ field_text field }
@@ -74,6 +75,7 @@ fn flow_key_text(field: Field) -> &'static str
         Field::EveryKey => "every",
         Field::FlowIdKey => "flow_id",
         Field::LimitKey => "limit",
+        Field::FlowKey => "flow",
         _ => unreachable!(),
     }
 }

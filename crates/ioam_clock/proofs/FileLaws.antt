@@ -7,7 +7,6 @@ use Rattle.std.proofs.lemmas.Bool.Decides.{nat_tests}
 use Rattle.std.proofs.lemmas.List.{append-nil, length_push, length-set, length-replicate, get_or-replicate, get_or_append_left, get_or_push, get_or-set_same, get_or-set_other, take_at, take-append-le}
 use Rattle.std.proofs.lemmas.List.Elements.{All-replicate, All-set}
 use Rattle.std.proofs.Math.Seq.{get_or-append_seam}
-use Rattle.ioam_clock.specs.declared.reading.TheConstants.{FILE_MOST}
 use Rattle.ioam_clock.specs.declared.fault.ReadWhy.{ReadWhy}
 use Rattle.ioam_clock.specs.declared.fault.ReadWhy.TheVariants.{Long, Node, Order}
 use Rattle.ioam_clock.specs.declared.fault.ReadingsFault.{ReadingsFault}
@@ -182,19 +181,19 @@ module _ (names : List (List ℕ)) where
     right = λ k lt. absurd (omega arith);
   }
 
-  told_of : (octets : List ℕ) → length octets ≤ FILE_MOST → (r : Result (List (List Sample)) ReadingsRefused) (reading : Result (List (List Sample)) ReadingsFault)
+  told_of : (octets : List ℕ) → length octets ≤ 67108864 → (r : Result (List (List Sample)) ReadingsRefused) (reading : Result (List (List Sample)) ReadingsFault)
       → Told (lines octets) reading → IsReading r reading → IsFileRead names octets r
   told_of octets few (Ok all) reading told is = let held : Held (lines octets) all = subst (Told (lines octets)) is told in
       record { few = few; right = held.right; count = held.count; samples = held.samples; rising = held.rising }
   told_of octets few (Err (Fault fault)) reading told is = inr (record { few = few; first = subst (Told (lines octets)) is told })
   told_of octets few (Err NoMemory) reading told is = tt
 
-  long_of : (octets : List ℕ) → FILE_MOST < length octets → (r : Result (List (List Sample)) ReadingsRefused) → IsReading r (Err (record { line = 0; why = Long })) → IsFileRead names octets r
+  long_of : (octets : List ℕ) → 67108864 < length octets → (r : Result (List (List Sample)) ReadingsRefused) → IsReading r (Err (record { line = 0; why = Long })) → IsFileRead names octets r
   long_of octets many (Ok all) is = cc
   long_of octets many (Err (Fault fault)) is = inl (record { many = many; is = cc })
   long_of octets many (Err NoMemory) is = tt
 
-  by_size : (octets : List ℕ) (r : Result (List (List Sample)) ReadingsRefused) (b : Bool) → nat_lt FILE_MOST (length octets) ≡ b
+  by_size : (octets : List ℕ) (r : Result (List (List Sample)) ReadingsRefused) (b : Bool) → nat_lt 67108864 (length octets) ≡ b
       → IsReading r (cond b (Err (record { line = 0; why = Long })) (lines_added names 1 (replicate (length names) []) (lines octets))) → IsFileRead names octets r
   by_size octets r true many is = long_of octets (grind (arith, nat_tests, many)) r is
   by_size octets r false few is = told_of octets (grind (arith, nat_tests, few)) r (lines_added names 1 (replicate (length names) []) (lines octets))
@@ -202,4 +201,4 @@ module _ (names : List (List ℕ)) where
 
   -- what is answered of a file is what it says
   pub file_read : (octets : List ℕ) (r : Result (List (List Sample)) ReadingsRefused) → IsReading r (readings_of names octets) → IsFileRead names octets r
-  file_read octets r is = by_size octets r (nat_lt FILE_MOST (length octets)) refl is
+  file_read octets r is = by_size octets r (nat_lt 67108864 (length octets)) refl is

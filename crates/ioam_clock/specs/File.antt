@@ -1,7 +1,6 @@
 -- What a file of readings says: of each node the samples of the lines that name it, or its first fault.
 use Rattle.std.specs.Prelude.{◌≡◌, ⊤, ◌⊎◌, ℕ, ◌+◌, ◌<◌, ◌≤◌, false, nat_eq, IsTrue, List, [], ◌∷◌, ◌++◌, length, take, slice_index_or, Result, Ok, Err, if◌then◌else◌}
 use Rattle.std.specs.List.{All}
-use Rattle.ioam_clock.specs.declared.reading.TheConstants.{FILE_MOST}
 use Rattle.ioam_clock.specs.declared.fault.ReadWhy.{ReadWhy}
 use Rattle.ioam_clock.specs.declared.fault.ReadWhy.TheVariants.{Long, Order}
 use Rattle.ioam_clock.specs.declared.fault.ReadingsFault.{ReadingsFault}
@@ -51,17 +50,17 @@ pub record IsFirstWrong (names ls : List (List ℕ)) (fault : ReadingsFault) : T
 
 -- the fault of a file of too many octets
 pub record IsLongFile (octets : List ℕ) (fault : ReadingsFault) : Type 0 where
-  pub many : FILE_MOST < length octets
+  pub many : 67108864 < length octets
   pub is : fault ≡ record { line = 0; why = Long }
 
 -- the first fault of the lines of a file, which has no more octets than a file may
 pub record IsFaultyFile (names : List (List ℕ)) (octets : List ℕ) (fault : ReadingsFault) : Type 0 where
-  pub few : length octets ≤ FILE_MOST
+  pub few : length octets ≤ 67108864
   pub first : IsFirstWrong names (lines octets) fault
 
 -- the samples of each node are those of the lines that name it, none of which is wrong; so the times of each rise
 pub record AreSaid (names : List (List ℕ)) (octets : List ℕ) (readings : List (List Sample)) : Type 0 where
-  pub few : length octets ≤ FILE_MOST
+  pub few : length octets ≤ 67108864
   pub right : AreLines names (lines octets)
   pub count : length readings ≡ length names
   pub samples : (node : ℕ) → node < length names → samples_of readings node ≡ samples_in names node (lines octets)

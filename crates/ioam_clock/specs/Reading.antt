@@ -1,7 +1,6 @@
 -- A file of readings: each line by itself and by what stands before it.
 use Rattle.std.specs.Prelude.{◌≡◌, ⊤, ℕ, ◌+◌, ◌^◌, nat_lt, ◌==◌, List, [], ◌∷◌, ◌++◌, length, map, replicate, slice_index_or, slice_set, position, Option, Some, None, Result, Ok, Err, if◌then◌else◌}
 use Rattle.std.specs.Str.{bytes_eq, is_utf8}
-use Rattle.ioam_clock.specs.declared.reading.TheConstants.{FILE_MOST}
 use Rattle.ioam_clock.specs.declared.fault.ReadWhy.{ReadWhy}
 use Rattle.ioam_clock.specs.declared.fault.ReadWhy.TheVariants.{Long, Node, Order}
 use Rattle.ioam_clock.specs.declared.fault.ReadingsFault.{ReadingsFault}
@@ -59,7 +58,7 @@ lines_added names number all (line ∷ more) = at_line number (line_added names 
 
 -- the samples of each node of a file of readings, or the file's first fault
 abbrev pub readings_of : List (List ℕ) → List ℕ → Result (List (List Sample)) ReadingsFault
-readings_of names octets = if nat_lt FILE_MOST (length octets) then Err (record { line = 0; why = Long })
+readings_of names octets = if nat_lt 67108864 (length octets) then Err (record { line = 0; why = Long })
     else lines_added names 1 (replicate (length names) []) (lines octets)
 
 -- the names of a domain's nodes

@@ -1,6 +1,5 @@
 ghost use Rattle.std.specs.Prelude.{◌≡◌, ◌↔◌, ◌≤◌, ◌<◌, ℕ, List, length, replicate, [], Ok, IfOk, vec_len};
 ghost use Rattle.ioam_topo.specs.Domain.{nodes};
-ghost use Rattle.ioam_clock.specs.declared.reading.TheConstants.{FILE_MOST};
 ghost use Rattle.ioam_clock.specs.Lines.{lines};
 ghost use Rattle.ioam_clock.specs.Reading.{node_of, node_names, line_added, lines_added, readings_of, IsReading};
 ghost use Rattle.ioam_clock.specs.Adding.{Adds, AddsLines, refused_at};
@@ -72,7 +71,7 @@ fn refused_at(line: u32, refused: Refused) -> ReadingsRefused
 // Adds the samples of the lines of a file.
 fn add_lines(domain: &Domain, tracks: &mut Vec<Track>, octets: &[u8]) -> Result<(), ReadingsRefused>
     requires len { vec_len tracks.old ≡ length (node_names domain.now) }
-    requires few { length octets.now ≤ FILE_MOST }
+    requires few { length octets.now ≤ 67108864 }
     ensures len { vec_len tracks.new ≡ vec_len tracks.old }
     ensures adds { AddsLines result tracks.new.items (lines_added (node_names domain.now) 1 tracks.old.items (lines octets.now)) }
 {

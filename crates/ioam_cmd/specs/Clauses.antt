@@ -15,7 +15,7 @@ use Rattle.ioam_answer.specs.Outcomes.{IsBehindAll, OpensNothing}
 use Rattle.ioam_run.specs.Run.{file_names, input_name, output_names}
 use Rattle.ioam_answer.specs.declared.outcome.Outcome.{Outcome}
 use Rattle.ioam_answer.specs.declared.outcome.Outcome.TheVariants as outcome
-use Rattle.ioam_domain_file.specs.declared.fault.DomainFault.{DomainFault}
+use Rattle.ioam_entries.specs.declared.fault.DomainFault.{DomainFault}
 use Rattle.ioam_cmd.specs.declared.command.Command.{Command}
 use Rattle.ioam_cmd.specs.declared.command.Command.TheVariants.{Filter, Paths, Run}
 

@@ -14,7 +14,7 @@ use Rattle.ioam_setting.specs.declared.setting.Refusal.{Refusal}
 use Rattle.ioam_setting.specs.declared.setting.Refusal.TheVariants as refusal
 use Rattle.ioam_topo.specs.Domain.{ports}
 use Rattle.ioam_topo.specs.declared.domain.Domain.{Domain}
-use Rattle.ioam_domain_file.specs.declared.fault.DomainFault.{DomainFault}
+use Rattle.ioam_entries.specs.declared.fault.DomainFault.{DomainFault}
 use Rattle.ioam_topo.specs.declared.parts.Port.{Port}
 use Rattle.ioam_domain.specs.Ends.{Ends, refused_as}
 use Rattle.ioam_domain.specs.Run.{HasCause, Asked, Leaves, AsksApart, AsksIn, AsksAll, AsksOut, OpensNone, AreDrained, IsBounded, IsRefusal, HaveDiffered, Owes, IsSet, domain_file, readings_file, run_files, run_inputs, run_outputs, word_files}

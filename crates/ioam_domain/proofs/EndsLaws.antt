@@ -18,7 +18,7 @@ use Rattle.ioam_setting.specs.declared.setting.Refusal.{Refusal}
 use Rattle.ioam_setting.specs.declared.setting.Refusal.TheVariants as refusal
 use Rattle.ioam_topo.specs.Domain.{ports}
 use Rattle.ioam_topo.specs.declared.domain.Domain.{Domain}
-use Rattle.ioam_domain_file.specs.declared.fault.DomainFault.{DomainFault}
+use Rattle.ioam_entries.specs.declared.fault.DomainFault.{DomainFault}
 use Rattle.ioam_traffic.specs.Traffic.{Course, HoldsAll, HoldsFronts, ArePassed, AreOpened, Arrive}
 use Rattle.ioam_domain.specs.Ends.{Ends, begins, refused_as}
 use Rattle.ioam_domain.specs.Run.{HasCause, HaveDiffered, HoldsFiles, contents, Leaves, OfTraffic, AreDrained, IsSet, IsReady, domain_file, readings_file, run_files, run_inputs, run_outputs, word_files, course_for}

@@ -17,7 +17,7 @@ use Rattle.ioam_setting.specs.Setting.{HasDomainFault, HasReadingsFault}
 use Rattle.ioam_domain_file.specs.File.{IsDomainOf, HasFault, Agree}
 use Rattle.ioam_topo.specs.Keyed.{name_of_node}
 use Rattle.ioam_topo.specs.declared.domain.Domain.{Domain}
-use Rattle.ioam_domain_file.specs.declared.fault.DomainFault.{DomainFault}
+use Rattle.ioam_entries.specs.declared.fault.DomainFault.{DomainFault}
 use Rattle.ioam_topo.specs.declared.parts.Node.{Node}
 use Rattle.ioam_topo.specs.declared.parts.Port.{Port}
 use Rattle.ioam_domain_file.proofs.FileLaws.{one_domain, one_fault, domain_or_fault}

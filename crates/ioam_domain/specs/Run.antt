@@ -21,7 +21,7 @@ use Rattle.ioam_setting.specs.Names.{input_names, input_ports, output_names, fil
 use Rattle.ioam_setting.specs.Setting.{HasDomainFault, HasReadingsFault, IsSetting}
 use Rattle.ioam_topo.specs.Domain.{ports}
 use Rattle.ioam_topo.specs.declared.domain.Domain.{Domain}
-use Rattle.ioam_domain_file.specs.declared.fault.DomainFault.{DomainFault}
+use Rattle.ioam_entries.specs.declared.fault.DomainFault.{DomainFault}
 use Rattle.ioam_topo.specs.declared.parts.Port.{Port}
 use Rattle.ioam_traffic.specs.Traffic.{Course, HoldsFronts, ArePassed, AreOpened, Arrive, frames_of}
 

@@ -9,7 +9,7 @@ ghost use Rattle.ioam_answer.specs.declared.outcome.Outcome.{Outcome};
 ghost use Rattle.ioam_setting.specs.Setting.{IsSetting, Refuses};
 ghost use Rattle.ioam_setting.specs.declared.setting.Refusal.{Refusal};
 ghost use Rattle.ioam_topo.specs.Domain.{ports};
-ghost use Rattle.ioam_domain_file.specs.declared.fault.DomainFault.{DomainFault};
+ghost use Rattle.ioam_entries.specs.declared.fault.DomainFault.{DomainFault};
 ghost use Rattle.ioam_domain.specs.Ends.{Ends};
 ghost use Rattle.ioam_domain.specs.Run.{HasCause, Asked, Leaves, AsksApart, AsksIn, AsksAll, AsksOut, OpensNone, AreDrained, IsBounded, IsRefusal, Owes, HaveDiffered, domain_file, readings_file, report_file, exports_file, run_files, run_inputs, run_outputs};
 

@@ -4,9 +4,9 @@ use Rattle.std.proofs.lemmas.Option.{same_Some}
 use Rattle.toml.specs.Data.{Members}
 use Rattle.toml.specs.Parse.{parse_document}
 use Rattle.ioam_toml.specs.declared.why.Why.{Why}
-use Rattle.ioam_domain_file.specs.declared.fault.DomainFault.{DomainFault}
+use Rattle.ioam_entries.specs.declared.fault.DomainFault.{DomainFault}
 use Rattle.ioam_topo.specs.declared.domain.Domain.{Domain}
-use Rattle.ioam_domain_file.specs.Faults.{first}
+use Rattle.ioam_entries.specs.Faults.{first}
 use Rattle.ioam_domain_file.specs.Top.{faults_of}
 use Rattle.ioam_domain_file.specs.File.{IsDomain, IsTextOf, IsNoText, IsDomainOf, IsFirstFault, HasFault, Agree}
 

@@ -1,10 +1,14 @@
 -- Laws of the file's own keys.
-use Rattle.std.proofs.Common.{◌≡◌, ℕ, Bool, true, false, List, Ok, Err, codes, sym, ◌∙◌}
+use Rattle.std.proofs.Common.{◌≡◌, ◌≤◌, ℕ, Bool, true, false, List, Option, Some, None, Ok, Err, codes, sym, ◌∙◌, arith}
+use Rattle.toml.specs.Data.{Data, Members, get_member}
+use Rattle.ioam_toml.specs.Reads.{optional}
+use Rattle.ioam_toml.specs.Numbers.{number}
+use Rattle.ioam_entries.proofs.ReadLaws.{number_bounds}
 use Rattle.std.proofs.lemmas.Bool.{cond-true, cond-false}
 use Rattle.std.specs.Str.{bytes_eq}
 use Rattle.ioam_topo.specs.declared.format.Format.TheVariants.{Ptp, Ntp, Posix}
 use Rattle.ioam_toml.specs.declared.why.Why.TheVariants.{Range}
-use Rattle.ioam_domain_file.specs.Top.{format_named}
+use Rattle.ioam_domain_file.specs.Top.{format_named, packets_of}
 
 -- the format of a name, by what its comparisons answer
 pub named_ptp : (s : List ℕ) (p : Bool) → p ≡ bytes_eq s (codes "ptp") → p ≡ true → Ok Ptp ≡ format_named s
@@ -23,3 +27,11 @@ pub named_none : (s : List ℕ) (p n x : Bool) → p ≡ bytes_eq s (codes "ptp"
     → x ≡ bytes_eq s (codes "posix") → p ≡ false → n ≡ false → x ≡ false → Err Range ≡ format_named s
 named_none s p n x is_p is_n is_x not_p not_n not_x = sym (cond-false _ _ _ (sym is_p ∙ not_p)
     ∙ cond-false _ _ _ (sym is_n ∙ not_n) ∙ cond-false _ _ _ (sym is_x ∙ not_x))
+
+packets_read : (o : Option Data) (x : ℕ) → optional 1000000 (number 1 16777216) o ≡ Ok x → (1 ≤ x) × (x ≤ 16777216)
+packets_read None x is = let same : 1000000 ≡ x = cc in (omega (arith, same), omega (arith, same))
+packets_read (Some d) x is = number_bounds 1 16777216 d x is
+
+-- the bounds of the most packets
+pub packets_bounds : (t : Members) (x : ℕ) → packets_of t ≡ Ok x → (1 ≤ x) × (x ≤ 16777216)
+packets_bounds t x is = packets_read (get_member (codes "packets") t) x is

@@ -4,24 +4,22 @@ use Rattle.std.specs.Str.{IsUtf8}
 use Rattle.toml.specs.Data.{Members}
 use Rattle.toml.specs.Parse.{parse_document}
 use Rattle.ioam_toml.specs.declared.why.Why.TheVariants.{Long, Text}
-use Rattle.ioam_domain_file.specs.declared.reading.TheConstants.{FILE_MOST}
-use Rattle.ioam_domain_file.specs.declared.words.Table.TheVariants.{Top}
-use Rattle.ioam_domain_file.specs.declared.words.Field.TheVariants.{NoKey}
-use Rattle.ioam_domain_file.specs.declared.fault.DomainFault.{DomainFault}
-use Rattle.ioam_domain_file.specs.declared.fault.DomainRefused.{DomainRefused}
-use Rattle.ioam_domain_file.specs.declared.fault.DomainRefused.TheVariants.{Fault, NoMemory}
+use Rattle.ioam_entries.specs.declared.words.Table.TheVariants.{Top}
+use Rattle.ioam_entries.specs.declared.words.Field.TheVariants.{NoKey}
+use Rattle.ioam_entries.specs.declared.fault.DomainFault.{DomainFault}
+use Rattle.ioam_entries.specs.declared.fault.DomainRefused.{DomainRefused}
+use Rattle.ioam_entries.specs.declared.fault.DomainRefused.TheVariants.{Fault, NoMemory}
 use Rattle.ioam_topo.specs.declared.domain.Domain.{Domain}
-use Rattle.ioam_domain_file.specs.Faults.{fault, first}
-use Rattle.ioam_domain_file.specs.Goods.{goods}
-use Rattle.ioam_domain_file.specs.NodeTable.{node_of}
-use Rattle.ioam_domain_file.specs.Top.{faults_of, format_of, packets_of, node_entries, links_of, ports_of, routes_of, node_data_of, flows_of}
+use Rattle.ioam_entries.specs.Faults.{fault, first}
+use Rattle.ioam_places.specs.Places.{nodes_of, links_of, ports_of, routes_of}
+use Rattle.ioam_domain_file.specs.Top.{faults_of, format_of, packets_of, node_data_of, flows_of}
 use Rattle.ioam_topo.specs.Domain.{nodes, links, ports, routes, node_data, flows}
 
 -- this is the domain of a file's table
 pub record IsDomain (t : Members) (domain : Domain) : Type 0 where
   pub format : format_of t ≡ Ok domain.format
   pub packets : packets_of t ≡ Ok domain.packets
-  pub has_nodes : nodes domain ≡ goods node_of (node_entries t)
+  pub has_nodes : nodes domain ≡ nodes_of t
   pub has_links : links domain ≡ links_of t
   pub has_ports : ports domain ≡ ports_of t
   pub has_routes : routes domain ≡ routes_of t
@@ -30,13 +28,13 @@ pub record IsDomain (t : Members) (domain : Domain) : Type 0 where
 
 -- these octets, no more than a file may have, are the text of a table
 pub record IsTextOf (octets : List ℕ) (table : Members) : Type 0 where
-  pub few : length octets ≤ FILE_MOST
+  pub few : length octets ≤ 1048576
   pub utf8 : IsUtf8 octets
   pub parsed : parse_document octets ≡ Some table
 
 -- these octets, no more than a file may have, are the text of none
 pub record IsNoText (octets : List ℕ) : Type 0 where
-  pub few : length octets ≤ FILE_MOST
+  pub few : length octets ≤ 1048576
   pub unparsed : IsUtf8 octets → parse_document octets ≡ None
 
 -- this is the domain of a file of these octets, which has no fault
@@ -48,7 +46,7 @@ pub record IsDomainOf (octets : List ℕ) (domain : Domain) : Type 0 where
 
 -- the fault of a file of too many octets, and of one that is no text
 pub record IsLongFile (octets : List ℕ) (found : DomainFault) : Type 0 where
-  pub many : FILE_MOST < length octets
+  pub many : 1048576 < length octets
   pub is : found ≡ fault Top 0 NoKey Long
 
 pub record IsFaultyText (octets : List ℕ) (found : DomainFault) : Type 0 where

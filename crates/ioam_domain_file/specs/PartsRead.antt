@@ -1,19 +1,11 @@
--- What is known of the nodes, links and ports of a file, and of its node data and flows.
+-- What is known of the node data and the flows of a file.
 use Rattle.toml.specs.Data.{Members}
-use Rattle.ioam_topo.specs.declared.routes.Parts.{Parts}
 use Rattle.ioam_topo.specs.declared.domain.Telemetry.{Telemetry}
-use Rattle.ioam_domain_file.specs.NodeRead.{HoldsNodes}
-use Rattle.ioam_domain_file.specs.LinkRead.{HoldsLinks}
-use Rattle.ioam_domain_file.specs.PortRead.{HoldsPorts}
-use Rattle.ioam_domain_file.specs.DataRead.{HoldsData}
-use Rattle.ioam_domain_file.specs.FlowRead.{HoldsFlows}
-use Rattle.ioam_domain_file.specs.Top.{node_entries, link_entries, port_entries, data_entries, flow_entries, node_names, node_lists}
-
--- these are the nodes, links and ports of a file
-pub record HoldsParts (t : Members) (parts : Parts) : Type 0 where
-  pub nodes : HoldsNodes (node_entries t) parts.nodes
-  pub links : HoldsLinks (node_names t) (link_entries t) parts.links
-  pub ports : HoldsPorts (node_names t) (port_entries t) parts.ports
+use Rattle.ioam_places.specs.Places.{node_names, node_lists}
+use Rattle.ioam_telemetry.specs.DataTable.{data_entries}
+use Rattle.ioam_telemetry.specs.DataRead.{HoldsData}
+use Rattle.ioam_telemetry.specs.FlowTable.{flow_entries}
+use Rattle.ioam_telemetry.specs.FlowRead.{HoldsFlows}
 
 -- these are the node data and the flows of a file
 pub record HoldsTelemetry (t : Members) (telemetry : Telemetry) : Type 0 where

@@ -1,12 +1,10 @@
 ghost use Rattle.std.specs.Prelude.{◌≡◌, Ok, codes};
 ghost use Rattle.toml.specs.Data.{get_member};
 ghost use Rattle.toml.specs.View.{table_view};
-ghost use Rattle.ioam_domain_file.specs.Faults.{Gives};
+ghost use Rattle.ioam_entries.specs.Faults.{Gives};
 ghost use Rattle.ioam_domain_file.specs.Top.{format_of, format_named, packets_of, top_keys};
 
-use crate::fault::DomainRefused;
-use crate::keys::{Spot, own_keys};
-use crate::words::{Field, Table};
+use ioam_entries::{DomainRefused, Field, Spot, Table, own_keys};
 use ioam_toml::{Why, find, number_or, text_of};
 use ioam_topo::Format;
 

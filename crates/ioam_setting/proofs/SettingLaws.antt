@@ -4,7 +4,7 @@ use Rattle.ioam_clock.specs.Reading.{readings_of, node_names}
 use Rattle.ioam_desk.specs.Asked.{AsksFront}
 use Rattle.ioam_desk.specs.Desk.{Side, Reading, Writing, Rose, holds, opened_side}
 use Rattle.ioam_topo.specs.declared.domain.Domain.{Domain}
-use Rattle.ioam_domain_file.specs.declared.fault.DomainFault.{DomainFault}
+use Rattle.ioam_entries.specs.declared.fault.DomainFault.{DomainFault}
 use Rattle.ioam_setting.specs.Reads.{IsDomainRead, AreReadingsRead}
 use Rattle.ioam_setting.specs.Setting.{Refuses}
 use Rattle.ioam_setting.specs.declared.setting.Refusal.{Refusal}

@@ -4,7 +4,7 @@ ghost use Rattle.ioam_clock.specs.Reading.{node_names};
 ghost use Rattle.ioam_desk.specs.Asked.{AsksFront};
 ghost use Rattle.ioam_desk.specs.Desk.{SameBut, holds, opened_side, opened_each};
 ghost use Rattle.ioam_desk.specs.Whole.{ReadsWhole, FailsWhole};
-ghost use Rattle.ioam_domain_file.specs.declared.fault.DomainFault.{DomainFault};
+ghost use Rattle.ioam_entries.specs.declared.fault.DomainFault.{DomainFault};
 ghost use Rattle.ioam_setting.specs.Reads.{IsDomainRead, AreReadingsRead};
 ghost use Rattle.ioam_setting.specs.Setting.{IsSetting, Refuses};
 ghost use Rattle.ioam_setting.specs.declared.setting.Refusal.{Refusal};

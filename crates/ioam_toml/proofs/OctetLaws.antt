@@ -7,7 +7,6 @@ use Rattle.hex.proofs.HexLemmas.{decode_of-ok}
 use Rattle.toml.specs.Data.{Data}
 use Rattle.ioam_toml.specs.declared.why.Why.{Why}
 use Rattle.ioam_toml.specs.declared.why.Why.TheVariants.{Range}
-use Rattle.ioam_toml.specs.declared.octets.TheConstants.{DIGITS_MOST}
 use Rattle.ioam_toml.specs.Reads.{◌▷◌}
 use Rattle.ioam_toml.specs.Texts.{text}
 use Rattle.ioam_toml.specs.Octets.{decoded, octets_of, octets}
@@ -16,19 +15,19 @@ decoded_ok : (r : Result (List ℕ) FromHexError) (s : List ℕ) → decoded r �
 decoded_ok (Ok octets) s is = cc
 decoded_ok (Err e) s is = cc
 
-spelled : (t s : List ℕ) → length t % 8 ≡ 0 → length t ≤ DIGITS_MOST → decode_of t ≡ Ok s → (length s % 4 ≡ 0) × (length s ≤ 180)
+spelled : (t s : List ℕ) → length t % 8 ≡ 0 → length t ≤ 360 → decode_of t ≡ Ok s → (length s % 4 ≡ 0) × (length s ≤ 180)
 spelled t s whole few is = let twice : length t ≡ 2 * length s = (decode_of-ok t s is).2 in (omega (arith, twice, whole), omega (arith, twice, few))
 
-tested : (t s : List ℕ) (b c : Bool) → (length t % 8 == 0) ≡ b → nat_le (length t) DIGITS_MOST ≡ c
+tested : (t s : List ℕ) (b c : Bool) → (length t % 8 == 0) ≡ b → nat_le (length t) 360 ≡ c
     → cond (b && c) (decoded (decode_of t)) (Err Range) ≡ Ok s → (length s % 4 ≡ 0) × (length s ≤ 180)
 tested t s true true whole few is =
-    let w : length t % 8 ≡ 0 = grind (arith, nat_tests, whole) in let f : length t ≤ DIGITS_MOST = grind (arith, nat_tests, few) in
+    let w : length t % 8 ≡ 0 = grind (arith, nat_tests, whole) in let f : length t ≤ 360 = grind (arith, nat_tests, few) in
     spelled t s w f (decoded_ok (decode_of t) s is)
 tested t s true false whole few is = cc
 tested t s false c whole few is = cc
 
 read_of : (r : Result (List ℕ) Why) (s : List ℕ) → r ▷ octets_of ≡ Ok s → (length s % 4 ≡ 0) × (length s ≤ 180)
-read_of (Ok t) s is = tested t s (length t % 8 == 0) (nat_le (length t) DIGITS_MOST) refl refl is
+read_of (Ok t) s is = tested t s (length t % 8 == 0) (nat_le (length t) 360) refl refl is
 read_of (Err why) s is = cc
 
 -- octets are whole words of 4, and few

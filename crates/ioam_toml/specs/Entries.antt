@@ -3,7 +3,6 @@ use Rattle.std.specs.Prelude.{ℕ, Bool, true, false, not, nat_le, nat_eq, ◌&&
 use Rattle.std.specs.List.{list_any}
 use Rattle.toml.specs.Data.{Data, array, table, integer, Items, no_items, item, Members}
 use Rattle.ioam_data.specs.declared.namespace.Namespace.{Namespace}
-use Rattle.ioam_topo.specs.declared.spaces.TheConstants.{SPACES_MOST}
 use Rattle.ioam_toml.specs.declared.why.Why.{Why}
 use Rattle.ioam_toml.specs.declared.why.Why.TheVariants.{Kind, Twice, TooMany}
 use Rattle.ioam_toml.specs.Reads.{◌▷◌}
@@ -76,5 +75,5 @@ apart ss = if apart_from [] ss then Ok ss else Err Twice
 
 -- a list of no more namespaces than a node may list, no two equal
 abbrev pub namespaces : Data → Result (List Namespace) Why
-namespaces (array ds) = if are_whole ds then spaces ds ▷ apart ▷ at_most SPACES_MOST else Err Kind
+namespaces (array ds) = if are_whole ds then spaces ds ▷ apart ▷ at_most 16 else Err Kind
 namespaces _ = Err Kind

@@ -5,7 +5,6 @@ use Rattle.hex.specs.declared.error.FromHexError.{FromHexError}
 use Rattle.toml.specs.Data.{Data}
 use Rattle.ioam_toml.specs.declared.why.Why.{Why}
 use Rattle.ioam_toml.specs.declared.why.Why.TheVariants.{Range}
-use Rattle.ioam_toml.specs.declared.octets.TheConstants.{DIGITS_MOST}
 use Rattle.ioam_toml.specs.Reads.{◌▷◌}
 use Rattle.ioam_toml.specs.Texts.{text}
 
@@ -14,9 +13,9 @@ abbrev pub decoded : Result (List ℕ) FromHexError → Result (List ℕ) Why
 decoded (Ok octets) = Ok octets
 decoded (Err e) = Err Range
 
--- whole words of 8 hexadecimal digits, no more than the most, perhaps none
+-- whole words of 8 hexadecimal digits, no more than 360 digits, perhaps none
 abbrev pub octets_of : List ℕ → Result (List ℕ) Why
-octets_of s = if (length s % 8 == 0) && nat_le (length s) DIGITS_MOST then decoded (decode_of s) else Err Range
+octets_of s = if (length s % 8 == 0) && nat_le (length s) 360 then decoded (decode_of s) else Err Range
 
 abbrev pub octets : Data → Result (List ℕ) Why
 octets d = text d ▷ octets_of

@@ -4,7 +4,6 @@ use Rattle.std.specs.List.{list_all}
 use Rattle.toml.specs.Data.{Data, string}
 use Rattle.ioam_toml.specs.declared.why.Why.{Why}
 use Rattle.ioam_toml.specs.declared.why.Why.TheVariants.{Kind, Range}
-use Rattle.ioam_toml.specs.declared.texts.TheConstants.{NAME_MOST, FILE_NAME_MOST}
 use Rattle.ioam_toml.specs.Reads.{◌▷◌}
 
 abbrev pub text : Data → Result (List ℕ) Why
@@ -18,11 +17,11 @@ is_name_octet b = (nat_le 97 b && nat_le b 122) || (nat_le 65 b && nat_le b 90) 
 
 -- 1 to 32 such characters
 abbrev pub is_name : List ℕ → Bool
-is_name s = nat_le 1 (length s) && nat_le (length s) NAME_MOST && list_all is_name_octet s
+is_name s = nat_le 1 (length s) && nat_le (length s) 32 && list_all is_name_octet s
 
 -- 1 to 255 octets without a zero octet
 abbrev pub is_file_name : List ℕ → Bool
-is_file_name s = nat_le 1 (length s) && nat_le (length s) FILE_NAME_MOST && list_all (λ b. not (b == 0)) s
+is_file_name s = nat_le 1 (length s) && nat_le (length s) 255 && list_all (λ b. not (b == 0)) s
 
 -- a text of this form
 abbrev pub formed : (List ℕ → Bool) → List ℕ → Result (List ℕ) Why

@@ -2,7 +2,6 @@ ghost use Rattle.std.specs.Prelude.{◌≡◌, [], map, not, nat_eq, IfOk};
 ghost use Rattle.std.specs.List.{list_any};
 ghost use Rattle.toml.specs.Data.{get_member};
 ghost use Rattle.toml.specs.View.{view, table_view, array_view};
-ghost use Rattle.ioam_topo.specs.declared.spaces.TheConstants.{SPACES_MOST};
 ghost use Rattle.ioam_toml.specs.Reads.{ReadsOr, optional, ◌▷◌};
 ghost use Rattle.ioam_toml.specs.Entries.{are_whole, spaces, apart_from, apart, at_most, namespaces};
 
@@ -66,7 +65,7 @@ fn are_apart(alloc: Global, spaces: &[Namespace]) -> Result<bool, Refused>
 
 // The namespaces of these numbers, where there are at most 16 and no two are equal.
 fn apart_spaces(alloc: Global, array: &Array) -> Result<Spaces, Refused>
-    ensures { ReadsOr (λ held. held) result (spaces (array_view array.now) ▷ apart ▷ at_most SPACES_MOST) }
+    ensures { ReadsOr (λ held. held) result (spaces (array_view array.now) ▷ apart ▷ at_most 16) }
 {
     let held = small_spaces(alloc, array)?;
     match are_apart(alloc, held.as_slice()) {

@@ -1,19 +1,18 @@
-use Rattle.std.proofs.Common.{◌≡◌, ◌++◌, [], List, ap, sym, ◌∙◌}
+use Rattle.std.proofs.Common.{◌≡◌, ◌++◌, [], List, ap, sym, ◌∙◌, codes, map}
 use Rattle.std.proofs.lemmas.Result.{err_from_is_err_and}
-use Rattle.toml.specs.View.{table_view}
-use Rattle.ioam_domain_file.specs.declared.fault.DomainFault.{DomainFault}
-use Rattle.ioam_domain_file.specs.Top.{data_table_faults, flow_table_faults}
-use Rattle.ioam_domain_file.proofs.FaultLaws.{gives_first, gives_same}
-use Rattle.ioam_domain_file.proofs.PartsLaws.{data_same, flows_same, few_goods}
-use Rattle.std.proofs.Common.{codes, map}
 use Rattle.toml.specs.Data.{get_member}
-use Rattle.ioam_topo.specs.declared.domain.TheConstants.{MOST_FLOWS}
-use Rattle.ioam_domain_file.specs.declared.words.Table.TheVariants.{FlowTable}
-use Rattle.ioam_domain_file.specs.NodeRead.{list_of}
-use Rattle.ioam_domain_file.specs.FlowTable.{flow_of, flow_faults}
-use Rattle.ioam_toml.specs.Entries.{entries}
-use Rattle.ioam_domain_file.proofs.DataKept.{data_sound}
-use Rattle.ioam_domain_file.proofs.FlowFacts.{flows_sound}
+use Rattle.toml.specs.View.{table_view}
+use Rattle.ioam_entries.specs.declared.fault.DomainFault.{DomainFault}
+use Rattle.ioam_entries.specs.declared.words.Table.TheVariants.{FlowTable}
+use Rattle.ioam_entries.specs.Goods.{list_of}
+use Rattle.ioam_entries.proofs.FaultLaws.{gives_first, gives_same}
+use Rattle.ioam_entries.proofs.TableLaws.{few_items}
+use Rattle.ioam_telemetry.specs.DataTable.{data_entries}
+use Rattle.ioam_telemetry.specs.FlowTable.{flow_of, flow_faults, flow_entries}
+use Rattle.ioam_telemetry.proofs.DataKept.{data_sound}
+use Rattle.ioam_telemetry.proofs.FlowFacts.{flows_sound}
+use Rattle.ioam_domain_file.specs.Top.{data_table_faults, flow_table_faults}
+use Rattle.ioam_domain_file.proofs.TelemetryLaws.{data_same, flows_same}
 use Rattle.ioam_domain_file.proofs.reading.read_telemetry.Goals as goal
 
 pub returns-in_err-rows : goal.returns-in_err-rows
@@ -31,14 +30,14 @@ returns-in_err-flows c =
     (flows_same (table_view c.args.top.now) c.args.nodes.now c.requires ∙ sym (ap (λ (l : List DomainFault). l ++ flow_table_faults (table_view c.args.top.now)) none))
     c.in_err-flows.ensures)
 
-pub new-requires-3-clause-sound_data : goal.new-requires-3-clause-sound_data
-new-requires-3-clause-sound_data c = data_sound c.args.nodes.now.names (entries (get_member (codes "data") (table_view c.args.top.now))) c.in_ok-rows.rows.items.items c.in_ok-rows.ensures.1.items
+pub new-requires-clause-sound_data : goal.new-requires-clause-sound_data
+new-requires-clause-sound_data c = data_sound c.args.nodes.now.names (data_entries (table_view c.args.top.now)) c.in_ok-rows.rows.items.items c.in_ok-rows.ensures.1.items
 
-pub new-requires-3-clause-few_flows : goal.new-requires-3-clause-few_flows
-new-requires-3-clause-few_flows c = few_goods (flow_of c.args.nodes.now.names (map list_of c.args.nodes.now.items.items)) FlowTable MOST_FLOWS (get_member (codes "flow") (table_view c.args.top.now))
+pub new-requires-clause-few_flows : goal.new-requires-clause-few_flows
+new-requires-clause-few_flows c = few_items (flow_of c.args.nodes.now.names (map list_of c.args.nodes.now.items.items)) FlowTable 0 (get_member (codes "flow") (table_view c.args.top.now))
     (flow_faults c.args.nodes.now.names (map list_of c.args.nodes.now.items.items)) c.in_ok-flows.flows.items.items
-    c.in_ok-flows.ensures.0 c.in_ok-flows.ensures.1.items
+    c.in_ok-flows.ensures.1.items c.in_ok-flows.ensures.0
 
-pub new-requires-3-clause-sound_flows : goal.new-requires-3-clause-sound_flows
-new-requires-3-clause-sound_flows c = flows_sound c.args.nodes.now.names (map list_of c.args.nodes.now.items.items) (entries (get_member (codes "flow") (table_view c.args.top.now)))
+pub new-requires-clause-sound_flows : goal.new-requires-clause-sound_flows
+new-requires-clause-sound_flows c = flows_sound c.args.nodes.now.names (map list_of c.args.nodes.now.items.items) (flow_entries (table_view c.args.top.now))
     c.in_ok-flows.flows.items.items c.in_ok-flows.ensures.1.items

@@ -1,0 +1,9 @@
+pub mod NodeTable
+pub mod NodeRead
+pub mod LinkTable
+pub mod LinkRead
+pub mod PortTable
+pub mod PortRead
+pub mod RouteTable
+pub mod RouteRead
+pub mod Places

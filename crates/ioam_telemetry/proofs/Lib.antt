@@ -1,0 +1,5 @@
+pub mod DataLaws
+pub mod DataKept
+pub mod FlowLaws
+pub mod FlowFacts
+pub mod FlowKept

@@ -1,0 +1,36 @@
+-- What is known of the flows of the entries so far, and of one that was read.
+use Rattle.std.specs.Prelude.{◌≡◌, ℕ, false, List, [], Result, Ok}
+use Rattle.std.specs.List.{list_any}
+use Rattle.std.specs.Str.{bytes_eq}
+use Rattle.toml.specs.Data.{Members}
+use Rattle.ioam_data.specs.declared.namespace.Namespace.{Namespace}
+use Rattle.ioam_toml.specs.declared.why.Why.{Why}
+use Rattle.ioam_topo.specs.declared.parts.Flow.{Flow}
+use Rattle.ioam_topo.specs.declared.flows.Flows.{Flows}
+use Rattle.ioam_telemetry.specs.declared.flow_parts.Exporting.{Exporting}
+use Rattle.ioam_entries.specs.Goods.{goods, kept}
+use Rattle.ioam_topo.specs.Keyed.{pairs_of, IsNewId}
+use Rattle.ioam_telemetry.specs.FlowParts.{exporting_of}
+use Rattle.ioam_telemetry.specs.FlowTable.{flow_of, flow_name, flow_key, id_key}
+
+-- these are the exports of an entry in a namespace, and their id is not among those of the namespace
+pub record IsNewExport (space : ℕ) (seen : List (ℕ × ℕ)) (m : Members) (e : Exporting) : Type 0 where
+  pub is : exporting_of m ≡ Ok e
+  pub key_is : kept (id_key (Ok space) m) [] ≡ pairs_of space e.flow_id
+  pub new_id : IsNewId space e.flow_id seen
+
+module _ (nodes : List (List ℕ)) (lists : List (Result (List Namespace) Why)) where
+  -- these are the flows of these entries
+  pub record HoldsFlows (entries : List Members) (flows : Flows) : Type 0 where
+    pub items : flows.items.items ≡ goods (flow_of nodes lists) entries
+    pub names : flows.names ≡ goods flow_name entries
+    pub keys : flows.taken.keys ≡ goods (flow_key nodes lists) entries
+
+  -- this is the flow of an entry, and nothing of it is among the others
+  pub record IsNewFlow (flows : Flows) (m : Members) (text : List ℕ) (flow : Flow) : Type 0 where
+    pub name : flow.name ≡ text
+    pub is : flow_of nodes lists m ≡ Ok flow
+    pub name_is : flow_name m ≡ Ok flow.name
+    pub new_name : list_any (bytes_eq text) flows.names ≡ false
+    pub key_is : kept (flow_key nodes lists m) [] ≡ pairs_of flow.namespace.0 flow.flow_id
+    pub new_id : IsNewId flow.namespace.0 flow.flow_id flows.taken.keys
