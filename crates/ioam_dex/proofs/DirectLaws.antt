@@ -1,11 +1,15 @@
 -- Laws of direct export data.
-use Rattle.std.proofs.Common.{◌≡◌, ℕ, ◌+◌, ◌≤◌, List, ◌∷◌, ◌++◌, length, drop, get_or, Ok, arith, sym, ap, ◌∙◌, append_assoc}
+use Rattle.std.proofs.Common.{◌≡◌, ℕ, ◌+◌, ◌<◌, ◌≤◌, Bool, true, false, cond, nat_lt, List, ◌∷◌, ◌++◌, length, drop, get_or, Option, Some, None, Result, Ok, Err, arith, refl, sym, ap, ◌∙◌, append_assoc}
+use Rattle.std.specs.Option.{is_some, IfSome}
+use Rattle.std.proofs.lemmas.Bool.Decides.{nat_tests}
 use Rattle.ioam_base.specs.Octets.{IsOctets, u16_at, u24_at}
 use Rattle.ioam_base.specs.Words.{two_octets, three_octets, four_octets_if}
 use Rattle.ioam_base.proofs.WordsLaws.{octet-at, two-at, three-at, two_octets-same, three_octets-same, four_octets_if-same}
 use Rattle.ioam_dex.specs.Numbers.{has_flow, has_seq, four_where, numbers_size, u32_where}
 use Rattle.ioam_dex.specs.declared.direct.Direct.{Direct}
-use Rattle.ioam_dex.specs.Direct.{HasItsNumbers, IsDirect, direct_octets, Begins, ReadsAgain, direct_at}
+use Rattle.ioam_dex.specs.declared.direct.DirectFault.{DirectFault}
+use Rattle.ioam_dex.specs.declared.direct.DirectFault.TheVariants.{Short}
+use Rattle.ioam_dex.specs.Direct.{HasItsNumbers, IsDirect, direct_octets, wanted, Begins, ReadsAgain, direct_at, read_of}
 use Rattle.ioam_dex.proofs.NumbersLaws.{four_where-at, u32_where-is_some}
 
 -- the octets in groups of one field each, with what follows
@@ -63,3 +67,75 @@ direct_octets-same d e m n r s in_d in_e has_d has_e same =
 pub ReadsAgain-Begins : (octets : List ℕ) (read : Direct) → IsDirect read → Begins read octets → ReadsAgain octets (Ok read)
 ReadsAgain-Begins octets read in_read begins = λ direct reserved rest in_direct has_direct is.
     (direct_octets-same read direct begins.reserved reserved begins.rest rest in_read in_direct begins.numbers has_direct (sym begins.is ∙ is)).0
+
+-- ---- what was written is read, as a function of the octets
+
+module _ (a b c e f g h i : ℕ) (flow seq : Option ℕ) where
+  abbrev eight_and : List ℕ
+  eight_and = a ∷ b ∷ c ∷ e ∷ f ∷ g ∷ h ∷ i ∷ (four_octets_if flow ++ four_octets_if seq)
+
+number_first : (a b c e f g h i : ℕ) (flow seq : Option ℕ) (there : Bool) → is_some flow ≡ there → IfSome flow (λ number. number < 4294967296)
+    → u32_where there (eight_and a b c e f g h i flow seq) 8 ≡ flow
+number_first a b c e f g h i None seq true is below = absurd (cc is)
+number_first a b c e f g h i None seq false is below = refl
+number_first a b c e f g h i (Some n) seq false is below = absurd (cc is)
+number_first a b c e f g h i (Some n) seq true is below = ap Some (omega (arith, below))
+
+number_second : (a b c e f g h i : ℕ) (flow seq : Option ℕ) (one other : Bool) → is_some flow ≡ one → is_some seq ≡ other
+    → IfSome seq (λ number. number < 4294967296) → u32_where other (eight_and a b c e f g h i flow seq) (8 + four_where one) ≡ seq
+number_second a b c e f g h i None seq true other is also below = absurd (cc is)
+number_second a b c e f g h i None None false true is also below = absurd (cc also)
+number_second a b c e f g h i None None false false is also below = refl
+number_second a b c e f g h i None (Some n) false true is also below = ap Some (omega (arith, below))
+number_second a b c e f g h i None (Some n) false false is also below = absurd (cc also)
+number_second a b c e f g h i (Some m) seq false other is also below = absurd (cc is)
+number_second a b c e f g h i (Some m) None true true is also below = absurd (cc also)
+number_second a b c e f g h i (Some m) None true false is also below = refl
+number_second a b c e f g h i (Some m) (Some n) true true is also below = ap Some (omega (arith, below))
+number_second a b c e f g h i (Some m) (Some n) true false is also below = absurd (cc also)
+
+length_numbers : (flow seq : Option ℕ) (one other : Bool) → is_some flow ≡ one → is_some seq ≡ other
+    → length (four_octets_if flow ++ four_octets_if seq) ≡ four_where one + four_where other
+length_numbers None seq true other is also = absurd (cc is)
+length_numbers None None false true is also = absurd (cc also)
+length_numbers None None false false is also = refl
+length_numbers None (Some n) false true is also = refl
+length_numbers None (Some n) false false is also = absurd (cc also)
+length_numbers (Some m) seq false other is also = absurd (cc is)
+length_numbers (Some m) None true true is also = absurd (cc also)
+length_numbers (Some m) None true false is also = refl
+length_numbers (Some m) (Some n) true true is also = refl
+length_numbers (Some m) (Some n) true false is also = absurd (cc also)
+
+not_less : (long wanted : ℕ) (result other : Result Direct DirectFault) → wanted ≤ long → cond (nat_lt long wanted) other result ≡ result
+not_less long wanted result other fits = by_test (nat_lt long wanted) refl where
+  by_test : (b : Bool) → nat_lt long wanted ≡ b → cond b other result ≡ result
+  by_test true is = absurd (grind (arith, nat_tests))
+  by_test false is = refl
+
+not_few : (long some : ℕ) → 8 ≤ long → cond (nat_lt long 8) 8 some ≡ some
+not_few long some fits = by_test (nat_lt long 8) refl where
+  by_test : (b : Bool) → nat_lt long 8 ≡ b → cond b 8 some ≡ some
+  by_test true is = absurd (grind (arith, nat_tests))
+  by_test false is = refl
+
+module _ (d : Direct) (is : IsDirect d) (has : HasItsNumbers d) where
+  abbrev written : List ℕ
+  written = direct_octets d 0
+
+  abbrev octet : ℕ → ℕ
+  octet i = get_or written i 0
+
+  direct_at-octets : direct_at written ≡ d
+  direct_at-octets = direct_by (direct_at written) d (omega (arith, is.namespace_below)) refl refl (omega (arith, is.kind_below))
+      (number_first (octet 0) (octet 1) (octet 2) (octet 3) (octet 4) (octet 5) (octet 6) (octet 7) d.flow d.seq (has_flow d.ext) has.flow is.flow_below)
+      (number_second (octet 0) (octet 1) (octet 2) (octet 3) (octet 4) (octet 5) (octet 6) (octet 7) d.flow d.seq (has_flow d.ext) (has_seq d.ext) has.flow has.seq is.seq_below)
+
+  -- octets of a value are read as that value
+  pub read_of-octets : read_of written ≡ Ok d
+  read_of-octets =
+      let numbers = length_numbers d.flow d.seq (has_flow d.ext) (has_seq d.ext) has.flow has.seq in
+      let long : length written ≡ 8 + numbers_size d.ext = omega (arith, numbers) in
+      let wants : wanted written ≡ 8 + numbers_size d.ext = not_few (length written) (8 + numbers_size d.ext) (omega (arith, long)) in
+      not_less (length written) (wanted written) (Ok (direct_at written)) (Err (Short (length written) (wanted written))) (omega (arith, long, wants))
+      ∙ ap Ok direct_at-octets

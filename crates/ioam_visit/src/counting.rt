@@ -1,0 +1,53 @@
+ghost use Rattle.std.specs.Prelude.{◌≡◌, ◌≤◌, if◌then◌else◌, length};
+ghost use Rattle.ioam_ip.specs.Chain.{IsSound};
+ghost use Rattle.ioam_ip.specs.Findings.{is_ioam_type};
+ghost use Rattle.ioam_ip.specs.Hop.{HopFits, ioam_count, option_count};
+ghost use Rattle.ioam_ip.specs.Packet.{IsPacket};
+ghost use Rattle.ioam_ip.specs.Rewriting.{options_in};
+
+use crate::met::is_ioam_type;
+use ioam_ip::next_option;
+
+// 1 for an IOAM option, 0 for another.
+fn counted(kind: u8) -> u32
+    ensures value { result ≡ (if is_ioam_type kind then 1 else 0) }
+    ensures small { result ≤ 1 }
+{
+    if is_ioam_type(kind) { 1 } else { 0 }
+}
+
+// How many IOAM options a header has.
+fn count_in(head: &[u8]) -> u32
+    requires { length head.now ≤ 2048 }
+    ensures { result ≡ ioam_count (options_in head.now) }
+{
+    let mut count = 0;
+    let mut at = 2;
+    'options: while let Some(spot) = next_option(head, at) {
+        count += counted(spot.kind);
+        at = spot.at + 2 + spot.size;
+    }
+    count
+}
+
+// How many that of a packet has, where it lies within the packet.
+fn count_hop(packet: &[u8]) -> u32
+    requires { HopFits packet.now }
+    ensures { result ≡ option_count packet.now }
+{
+    if packet[6] != 0 {
+        return 0;
+    }
+    let end = 40 + (usize::from(packet[41]) + 1) * 8;
+    count_in(&packet[40..end])
+}
+
+/// How many IOAM options the outer Hop-by-Hop Options header of a packet has. The chain of its headers
+/// is whole.
+pub fn option_count(packet: &[u8]) -> u32
+    requires packet { IsPacket packet.now }
+    requires sound { IsSound packet.now }
+    ensures { result ≡ option_count packet.now }
+{
+    count_hop(packet)
+}
