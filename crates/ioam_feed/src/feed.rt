@@ -1,7 +1,7 @@
 ghost use Rattle.std.specs.Prelude.{◌≡◌, ◌+◌, ◌<◌, ◌^◌, [], length, Err, IfErr, IfOk};
 ghost use Rattle.ioam_desk.specs.Asked.{IsFaultOf};
 ghost use Rattle.ioam_desk.specs.Desk.{OpenIn, OpensInput, holds};
-ghost use Rattle.ioam_pcap.specs.Reader.{fed, fresh};
+ghost use Rattle.ioam_pcap.specs.Reader.{HoldsFew, fed, fresh, most_size};
 ghost use Rattle.ioam_feed.specs.Feed.{Fed, Refills};
 
 use ioam_base::memory::NoMemory;
@@ -41,17 +41,20 @@ pub fn open_feed<D: Desk>(alloc: Global, desk: &mut D, name: &str) -> Result<Fee
 
 impl Feed {
     /// Reads the next piece of the capture into a buffer, and feeds it. The answer is false exactly
-    /// where the capture has ended.
+    /// where the capture has ended. A reader is fed only where its next record isn't whole, as its
+    /// `More` says; so it holds back less than a record, of 262,160 octets, and a piece.
     ///
     /// After `Failed` the reader is as it was, and nothing was handed out. After `NoMemory` the
     /// reader is as it was too, but a piece of the capture may be lost.
     pub fn refill<D: Desk>(&mut self, desk: &mut D, piece: &mut [u8]) -> Result<bool, DeskFault>
         requires open { self.old.slot < (D.reading desk.old).side.slots }
         requires room { 0 < length piece.old }
+        requires few { HoldsFew self.old.reader }
         requires fits { fed self.old.reader + length piece.old < 2 ^ 63 }
         ensures slot { self.new.slot ≡ self.old.slot }
         ensures read { Refills D.tells (D.reading desk.old) self.old.slot (length piece.old) self.old.reader
             result (D.reading desk.new) self.new.reader }
+        ensures kept { length self.new.reader.pending < most_size + length piece.old }
         ensures cause { IfErr result (IsFaultOf (D.reading desk.old).side (D.reading desk.new).side) }
         ensures asked { (D.reading desk.new).side.asked ≡ (D.reading desk.old).side.asked }
         ensures slots { (D.reading desk.new).side.slots ≡ (D.reading desk.old).side.slots }

@@ -1,5 +1,5 @@
 -- Laws of a capture that is read in pieces until it is known what is due of it.
-use Rattle.std.proofs.Common.{◌≡◌, ℕ, ◌<◌, ◌⊎◌, Bool, true, false, IsTrue, List, [], ◌∷◌, ◌++◌, length, Option, Some, None, arith, refl, sym, ap, ◌∙◌, subst, inl, inr, append_assoc}
+use Rattle.std.proofs.Common.{◌≡◌, ℕ, ◌+◌, ◌<◌, ◌≤◌, ◌^◌, ◌⊎◌, Bool, true, false, IsTrue, List, [], ◌∷◌, ◌++◌, length, Option, Some, None, arith, refl, sym, ap, ◌∙◌, subst, inl, inr, append_assoc}
 use Rattle.std.specs.Prelude.{⊤, Err}
 use Rattle.std.proofs.lemmas.Bool.{false_from_ne_true}
 use Rattle.std.proofs.lemmas.List.{append-nil}
@@ -10,7 +10,7 @@ use Rattle.ioam_feed.specs.Feed.{Fed, FeedsPiece, FindsEnd, FailsToRead, Refills
 use Rattle.ioam_pcap.specs.Arrives.{Handed, HandsOn}
 use Rattle.ioam_pcap.specs.Entries.{Entry}
 use Rattle.ioam_pcap.specs.Merge.{Stream, due_by, due_of}
-use Rattle.ioam_pcap.specs.Reader.{Stands, IsHeadDue, Told, Moved, fed, link_of, shown_by}
+use Rattle.ioam_pcap.specs.Reader.{Stands, HoldsFew, IsHeadDue, Told, Moved, fed, link_of, shown_by}
 use Rattle.ioam_pcap.specs.Reading.{Reading}
 use Rattle.ioam_pcap.specs.Reads.{Ending, Whole, Faulty, Shows, link_by}
 use Rattle.ioam_pcap.specs.Streams.{known_ending, ShowsSo, Streams}
@@ -21,9 +21,9 @@ use Rattle.ioam_pcap.specs.declared.form.Link.{Link}
 use Rattle.ioam_pcap.specs.declared.turns.Due.{Due}
 use Rattle.ioam_pcap.specs.declared.turns.Due.TheVariants.{More}
 use Rattle.ioam_pcap.proofs.ReadsLaws.{ends_front}
-use Rattle.ioam_pcap.proofs.StandsLaws.{ends_by_fault}
+use Rattle.ioam_pcap.proofs.StandsLaws.{Stands-start, ends_by_fault}
 use Rattle.ioam_pcap.proofs.StreamsLaws.{ShowsSo-total, Reached-begins}
-use Rattle.ioam_merge.specs.Capture.{HasReadHead, Lane, LaneOn, IsDue, ShowsDue}
+use Rattle.ioam_merge.specs.Capture.{HasReadHead, Lane, IsLane, LaneOn, IsDue, ShowsDue, most_taken}
 use Rattle.ioam_merge.specs.declared.capture.Capture.{Capture}
 
 -- of the records that a reader has not yet given, its octets show something
@@ -40,6 +40,13 @@ moved_fed old new (step.Head link) moved = omega (arith, moved.0, moved.2)
 moved_fed old new (step.Packet p) moved = omega (arith, moved.1, moved.3)
 moved_fed old new step.More moved = ap fed moved.0
 moved_fed old new (step.Bad at fault) moved = ap fed moved.0
+
+-- and holds back no more
+pub moved_kept : (old new : Reading) (s : CapStep) → Moved old new s → length new.pending ≤ length old.pending
+moved_kept old new (step.Head link) moved = omega (arith, moved.2)
+moved_kept old new (step.Packet p) moved = omega (arith, moved.3)
+moved_kept old new step.More moved = omega (arith, ap (λ (r : Reading). length r.pending) moved.0)
+moved_kept old new (step.Bad at fault) moved = omega (arith, ap (λ (r : Reading). length r.pending) moved.0)
 
 -- where the head is due, a step takes it
 module _ (octets : List ℕ) (given : List Entry) (old new : Reading) (due : IsHeadDue octets old) where
@@ -95,22 +102,29 @@ module _ (tells : Bool) (content : Option (List ℕ)) (slot : ℕ) (given : List
   -- the reader took a step that gave no record
   pub Lane-step : (inputs : desk.Reading) (before after : Capture) (handed : Handed) → Lane tells content inputs slot before handed given
       → Stands after.feed.reader handed.octets given → after.link ≡ link_of after.feed.reader → after.feed.slot ≡ before.feed.slot → after.ended ≡ before.ended
+      → length after.feed.reader.pending ≤ length before.feed.reader.pending
       → Lane tells content inputs slot after handed given
-  Lane-step inputs before after handed lane stands links slots ends = record {
+  Lane-step inputs before after handed lane stands links slots ends kept = record {
     fed = record { stands = stands; is_open = lane.fed.is_open; held = lane.fed.held };
     number = slots ∙ lane.number;
     linked = links;
     same_end = lane.same_end ∙ sym ends;
     slot_end = lane.slot_end;
     none_left = lane.none_left;
+    held_back = omega (arith, kept, lane.held_back);
   }
+
+  -- a piece can be fed where less than a record is held back
+  pub Lane-fits : (inputs : desk.Reading) (capture : Capture) (handed : Handed) → Lane tells content inputs slot capture handed given
+      → length given ≤ most_taken → HoldsFew capture.feed.reader → fed capture.feed.reader + 65536 < 2 ^ 63
+  Lane-fits inputs capture handed lane many few = omega (arith, many, few, Stands-start capture.feed.reader handed.octets given lane.fed.stands)
 
   -- a piece was handed out
   pub Lane-piece : (old new : desk.Reading) (before after : Capture) (handed : Handed) (most : ℕ) → Lane tells content old slot before handed given
       → before.ended ≡ false → FeedsPiece tells old before.feed.slot most before.feed.reader new after.feed.reader
-      → after.feed.slot ≡ before.feed.slot → after.ended ≡ before.ended → after.link ≡ before.link
+      → after.feed.slot ≡ before.feed.slot → after.ended ≡ before.ended → after.link ≡ before.link → length after.feed.reader.pending < 327696
       → (more : Handed) × HandsOn handed more × Lane tells content new slot after more given
-  Lane-piece old new before after handed most lane unended feeds slots ends links =
+  Lane-piece old new before after handed most lane unended feeds slots ends links held =
       let P : ℕ → Type 0 = λ s. Fed tells content new s after.feed.reader (handed.octets ++ feeds.piece) given in
       let Q : ℕ → Type 0 = λ s. Fed tells content old s before.feed.reader handed.octets given in
       let fed = subst P lane.number (feeds.kept content handed.octets given (subst Q (sym lane.number) lane.fed)) in (
@@ -123,6 +137,7 @@ module _ (tells : Bool) (content : Option (List ℕ)) (slot : ℕ) (given : List
           same_end = lane.same_end ∙ sym ends;
           slot_end = λ told. still_open told;
           none_left = λ told end. let wrong : false ≡ true = sym (lane.same_end ∙ unended) ∙ end in absurd (cc);
+          held_back = held;
         },
       )
     where
@@ -149,6 +164,7 @@ module _ (tells : Bool) (content : Option (List ℕ)) (slot : ℕ) (given : List
           same_end = sym ends;
           slot_end = λ told. subst (λ s. new.ended s ≡ true) lane.number (finds.ended told);
           none_left = λ told end. subst (λ s. new.left s ≡ []) lane.number (finds.left told);
+          held_back = omega (arith, lane.held_back, ap (λ (r : Reading). length r.pending) finds.same);
         },
       )
 
@@ -168,17 +184,18 @@ module _ (tells : Bool) (content : Option (List ℕ)) (slot : ℕ) (given : List
         same_end = lane.same_end ∙ sym ends;
         slot_end = λ told. ap (λ f. f slot) fails.ended ∙ lane.slot_end told;
         none_left = λ told end. ap (λ f. f slot) fails.left ∙ lane.none_left told end;
+        held_back = omega (arith, lane.held_back, ap (λ (r : Reading). length r.pending) fails.same);
       }
 
 -- one round of showing what is due: more was handed out before it, and it is asked what is due
-module _ (tells : Bool) (old now : desk.Reading) (first before mid : Capture) (due : Due) (lane : LaneOn tells old first now before (λ handed given. ⊤)) (says : (octets : List ℕ) (given : List Entry) (stream : Stream) → Stands before.feed.reader octets given → Streams octets before.ended given stream → due ≡ due_of stream) (stands : (octets : List ℕ) (given : List Entry) → Stands before.feed.reader octets given → before.link ≡ link_of before.feed.reader → Stands mid.feed.reader octets given × (mid.link ≡ link_of mid.feed.reader)) (slots : mid.feed.slot ≡ before.feed.slot) (ends : mid.ended ≡ before.ended) where
+module _ (tells : Bool) (old now : desk.Reading) (first before mid : Capture) (due : Due) (lane : LaneOn tells old first now before (λ handed given. ⊤)) (says : (octets : List ℕ) (given : List Entry) (stream : Stream) → Stands before.feed.reader octets given → Streams octets before.ended given stream → due ≡ due_of stream) (stands : (octets : List ℕ) (given : List Entry) → Stands before.feed.reader octets given → before.link ≡ link_of before.feed.reader → Stands mid.feed.reader octets given × (mid.link ≡ link_of mid.feed.reader)) (slots : mid.feed.slot ≡ before.feed.slot) (ends : mid.ended ≡ before.ended) (kept : length mid.feed.reader.pending ≤ length before.feed.reader.pending) where
   pub at_due : LaneOn tells old first now mid (λ handed given. IsDue handed given due)
   at_due content slot handed given start =
       let (more, on, here, done) = lane content slot handed given start in
       let stood = stands more.octets given here.fed.stands here.linked in (
         more,
         on,
-        Lane-step tells content slot given now before mid more here stood.0 stood.1 slots ends,
+        Lane-step tells content slot given now before mid more here stood.0 stood.1 slots ends kept,
         λ stream shows. says more.octets given stream here.fed.stands (subst (λ b. Streams more.octets b given stream) here.same_end shows),
       )
 
@@ -194,13 +211,25 @@ module _ (tells : Bool) (old now : desk.Reading) (first before mid : Capture) (d
       ] in
       (more, on, here, (is, known))
 
+  -- its slot is open, and where more is needed a piece can be fed
+  pub fits_due : ((octets : List ℕ) (given : List Entry) → Stands before.feed.reader octets given → due ≡ More → HoldsFew mid.feed.reader) → due ≡ More
+      → IsLane tells old first → (mid.feed.slot < now.side.slots) × HoldsFew mid.feed.reader × (fed mid.feed.reader + 65536 < 2 ^ 63)
+  fits_due few un (content, slot, handed, given, start, many) =
+      let (was, since, there, done) = lane content slot handed given start in
+      let (more, on, here, is) = at_due content slot handed given start in
+      let held = few was.octets given there.fed.stands un in (
+        omega (arith, here.number, here.fed.is_open),
+        held,
+        Lane-fits tells content slot given now mid more here many held,
+      )
+
   -- a piece came, or the end
   pub piece_due : (new : desk.Reading) (after : Capture) (most : ℕ) → mid.ended ≡ false
       → FeedsPiece tells now mid.feed.slot most mid.feed.reader new after.feed.reader → after.feed.slot ≡ mid.feed.slot → after.ended ≡ mid.ended → after.link ≡ mid.link
-      → LaneOn tells old first new after (λ handed given. ⊤)
-  piece_due new after most unended feeds same_slot same_end same_link content slot handed given start =
+      → length after.feed.reader.pending < 327696 → LaneOn tells old first new after (λ handed given. ⊤)
+  piece_due new after most unended feeds same_slot same_end same_link held content slot handed given start =
       let (more, on, here, is) = at_due content slot handed given start in
-      let (later, again, there) = Lane-piece tells content slot given now new mid after more most here unended feeds same_slot same_end same_link in
+      let (later, again, there) = Lane-piece tells content slot given now new mid after more most here unended feeds same_slot same_end same_link held in
       (later, HandsOn-trans handed more later on again, there, tt)
 
   pub end_due : (new : desk.Reading) (after : Capture) → mid.ended ≡ false

@@ -136,6 +136,7 @@ module _ (tells : Bool) (old new : desk.Reading) (slot other : ℕ) (moves : Mov
     same_end = lane.same_end;
     slot_end = λ told. moves.1 other apart ∙ lane.slot_end told;
     none_left = λ told end. moves.0 other apart ∙ lane.none_left told end;
+    held_back = lane.held_back;
   }
 
 module _ (tells : Bool) (start : Start) (taken : List Arrival) where

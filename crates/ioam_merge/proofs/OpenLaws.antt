@@ -11,6 +11,7 @@ use Rattle.ioam_desk.specs.declared.fault.DeskFault.TheVariants.{Failed, NoMemor
 use Rattle.ioam_feed.specs.Feed.{Fed}
 use Rattle.ioam_pcap.specs.Arrives.{Handed}
 use Rattle.ioam_pcap.specs.Reader.{fresh, link_of}
+use Rattle.ioam_pcap.specs.Reading.{Reading}
 use Rattle.ioam_pcap.specs.declared.turns.Due.TheVariants.{More}
 use Rattle.ioam_pcap.proofs.ArrivesLaws.{Arrives-total}
 use Rattle.ioam_merge.specs.Merging.{Begins, EndsKept, Start, Row, IsRow, Merging, with_content, start_of, slot_of}
@@ -102,6 +103,7 @@ module _ (tells : Bool) (start : Start) (old new : desk.Reading) (merge : Merge)
               same_end = sym unended;
               slot_end = λ told. subst E place opens.ended;
               none_left = λ told end. absurd (cc);
+              held_back = omega (arith, ap (λ (r : Reading). length r.pending) unread);
             },
             λ shown. absurd (shown refl),
             tt,

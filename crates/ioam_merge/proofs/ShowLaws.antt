@@ -1,5 +1,5 @@
 -- Laws of captures that are asked one by one what is due of them, and of the turn of all.
-use Rattle.std.proofs.Common.{◌≡◌, ℕ, ◌+◌, ◌<◌, IsTrue, List, ◌++◌, length, take, drop, length-take, length-append, Bool, Option, Some, arith, refl, sym, ap, ◌∙◌, subst, set, inl, inr, zero, suc, ◌⊎◌}
+use Rattle.std.proofs.Common.{◌≡◌, ℕ, ◌+◌, ◌<◌, ◌≤◌, IsTrue, List, ◌++◌, length, take, drop, length-take, length-append, Bool, Option, Some, arith, refl, sym, ap, ◌∙◌, subst, set, inl, inr, zero, suc, ◌⊎◌}
 use Rattle.std.specs.Prelude.{map, slice_get, Ok, Err}
 use Rattle.std.specs.List.{AllZip}
 use Rattle.std.proofs.lemmas.Bool.{cases_eq}
@@ -17,8 +17,9 @@ use Rattle.ioam_pcap.specs.declared.turns.Due.{Due}
 use Rattle.ioam_pcap.specs.declared.turns.Due.TheVariants.{Record, End, More, Bad}
 use Rattle.ioam_pcap.specs.declared.turns.Turn.{Turn}
 use Rattle.ioam_pcap.specs.declared.turns.Turn.TheVariants.{Next, Over, Broken, Unshown}
+use Rattle.ioam_pcap.proofs.MergeLaws.{of_capture-few}
 use Rattle.ioam_pcap.proofs.TurnLaws.{next_due, turn_says}
-use Rattle.ioam_merge.specs.Capture.{Lane, LaneOn, IsDue, ShowsDue, MovesOne}
+use Rattle.ioam_merge.specs.Capture.{Lane, IsLane, LaneOn, IsDue, ShowsDue, MovesOne, most_taken}
 use Rattle.ioam_merge.specs.Merging.{Start, Row, IsRow, Rows, Merging, AreKnown, Stops, Turns, Comes, EndsKept}
 use Rattle.ioam_merge.specs.declared.capture.Capture.{Capture}
 use Rattle.ioam_merge.specs.declared.merge.Merge.{Merge}
@@ -68,12 +69,18 @@ module _ (tells : Bool) (start : Start) (taken : List Arrival) (old new : desk.R
       let other : k ≡ before.feed.slot → ⊥ = λ at. omega (arith, at, below, (merging.are_rows.each place row is).0.number, ap (λ (c : Capture). c.feed.slot) same) in
       same_slot old new k (moves.0 k other) (moves.1 k other)
 
-  -- its slot is open
-  pub Merging-open : (place : ℕ) (before : Capture) → slice_get merge.captures.items place ≡ Some before → before.feed.slot < old.side.slots
-  Merging-open place before there =
+  -- and no more records were taken of it than may be of all
+  pub Merging-lane : length taken ≤ most_taken → (place : ℕ) (before : Capture) → slice_get merge.captures.items place ≡ Some before → IsLane tells old before
+  Merging-lane many place before there =
       let (row, is, same) = row_there place before there in
-      let lane = (merging.are_rows.each place row is).0 in
-      omega (arith, lane.number, lane.fed.is_open, ap (λ (c : Capture). c.feed.slot) same)
+      let P : Capture → Type 0 = λ c. Lane tells row.content old (start.base + place) c row.handed (of_capture place taken) in (
+        row.content,
+        start.base + place,
+        row.handed,
+        of_capture place taken,
+        subst P same (merging.are_rows.each place row is).0,
+        omega (arith, many, of_capture-few place taken),
+      )
 
   module _ (place : ℕ) (before after : Capture) (there : slice_get merge.captures.items place ≡ Some before) (moves : MovesOne before.feed.slot old new) (slots : new.side.slots ≡ old.side.slots) where
     abbrev Asked : (Handed → List Entry → Type 0) → Due → Type 0

@@ -1,5 +1,5 @@
 -- A record is taken of one of several captures that are merged by time.
-use Rattle.std.proofs.Common.{◌≡◌, ℕ, ◌+◌, ◌<◌, Bool, List, [], ◌∷◌, ◌++◌, length, Option, Some, None, arith, refl, sym, ap, ◌∙◌, subst, set, get_or, inl, inr, ◌⊎◌}
+use Rattle.std.proofs.Common.{◌≡◌, ℕ, ◌+◌, ◌<◌, ◌≤◌, Bool, List, [], ◌∷◌, ◌++◌, length, Option, Some, None, arith, refl, sym, ap, ◌∙◌, subst, set, get_or, inl, inr, ◌⊎◌}
 use Rattle.std.specs.Prelude.{slice_get}
 use Rattle.std.specs.List.{AllZip}
 use Rattle.std.proofs.lemmas.Option.{same_Some, slice_get_read}
@@ -78,7 +78,7 @@ abbrev pub GivesRecord : Reading → Entry → Reading → Type 0
 GivesRecord before entry after = (octets : List ℕ) (given : List Entry) → Stands before octets given
     → EntryAt octets before.form before.start entry × Stands after octets (given ++ entry ∷ [])
 
-module _ (tells : Bool) (start : Start) (taken : List Arrival) (inputs : desk.Reading) (merge : Merge) (place time : ℕ) (comes : Comes tells start inputs merge taken place time) (capture after : Capture) (there : slice_get merge.captures.items place ≡ Some capture) (entry : Entry) (gives : GivesRecord capture.feed.reader entry after.feed.reader) (slots : after.feed.slot ≡ capture.feed.slot) (ends : after.ended ≡ capture.ended) (links : after.link ≡ capture.link) (linked : link_of after.feed.reader ≡ link_of capture.feed.reader) where
+module _ (tells : Bool) (start : Start) (taken : List Arrival) (inputs : desk.Reading) (merge : Merge) (place time : ℕ) (comes : Comes tells start inputs merge taken place time) (capture after : Capture) (there : slice_get merge.captures.items place ≡ Some capture) (entry : Entry) (gives : GivesRecord capture.feed.reader entry after.feed.reader) (slots : after.feed.slot ≡ capture.feed.slot) (ends : after.ended ≡ capture.ended) (links : after.link ≡ capture.link) (linked : link_of after.feed.reader ≡ link_of capture.feed.reader) (kept : length after.feed.reader.pending ≤ length capture.feed.reader.pending) where
   abbrev rows : List Row
   rows = comes.merging.rows
 
@@ -129,6 +129,7 @@ module _ (tells : Bool) (start : Start) (taken : List Arrival) (inputs : desk.Re
         same_end = was.same_end ∙ sym ends;
         slot_end = was.slot_end;
         none_left = was.none_left;
+        held_back = omega (arith, kept, was.held_back);
       } in
       let G : List Entry → Type 0 = λ given. Lane tells row.content inputs (start.base + place) after row.handed given in
       let pushed = subst G (sym (of_capture-push_same place one taken refl)) lane in

@@ -1,5 +1,5 @@
 -- One of several captures that are read in pieces: what was handed out of it, and what was taken.
-use Rattle.std.specs.Prelude.{◌≡◌, ⊤, ℕ, Bool, true, IsTrue, List, [], Option, None, Result, Ok, Err}
+use Rattle.std.specs.Prelude.{◌≡◌, ⊤, ℕ, ◌<◌, ◌≤◌, Bool, true, IsTrue, List, [], length, Option, None, Result, Ok, Err}
 use Rattle.ioam_desk.specs.Desk as desk
 use Rattle.ioam_desk.specs.Desk.{SameBut}
 use Rattle.ioam_desk.specs.declared.fault.DeskFault.{DeskFault}
@@ -21,7 +21,8 @@ abbrev pub HasReadHead : Reading → List ℕ → List Entry → Option Link →
 HasReadHead reader octets given link = Stands reader octets given × (reader.form ≡ None → ⊥) × (link ≡ link_of reader)
 
 -- So much of what a name holds was handed out, by the slot with this number, and these records were
--- taken of it. The capture has ended exactly where the slot has, and then nothing is left.
+-- taken of it. The capture has ended exactly where the slot has, and then nothing is left. Less than
+-- a record, of 262,160 octets, and a piece of 65,536 is held back in memory.
 pub record Lane (tells : Bool) (content : Option (List ℕ)) (inputs : desk.Reading) (slot : ℕ) (capture : Capture) (handed : Handed) (given : List Entry) : Type 0 where
   pub fed : Fed tells content inputs slot capture.feed.reader handed.octets given
   pub number : capture.feed.slot ≡ slot
@@ -29,6 +30,16 @@ pub record Lane (tells : Bool) (content : Option (List ℕ)) (inputs : desk.Read
   pub same_end : handed.ended ≡ capture.ended
   pub slot_end : IsTrue tells → inputs.ended slot ≡ handed.ended
   pub none_left : IsTrue tells → handed.ended ≡ true → inputs.left slot ≡ []
+  pub held_back : length capture.feed.reader.pending < 327696
+
+-- the most records that are taken of captures that are merged
+abbrev pub most_taken : ℕ
+most_taken = 16777216
+
+-- the same, of some of what a name holds and of no more records than may be taken
+abbrev pub IsLane : Bool → desk.Reading → Capture → Type 0
+IsLane tells inputs capture = (content : Option (List ℕ)) × (slot : ℕ) × (handed : Handed) × (given : List Entry)
+    × Lane tells content inputs slot capture handed given × (length given ≤ most_taken)
 
 -- this is due of a capture of which so much was handed out and these records were taken
 abbrev pub IsDue : Handed → List Entry → Due → Type 0

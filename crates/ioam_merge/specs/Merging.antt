@@ -1,6 +1,6 @@
 -- Several captures of a desk that are merged by time: what was handed out of them, and what was
 -- taken of what that shows.
-use Rattle.std.specs.Prelude.{◌≡◌, ℕ, ◌+◌, ◌<◌, ⊤, Bool, true, IsTrue, List, [], ◌∷◌, ◌++◌, length, map, slice_get, Option, Some, None, Result, Ok, Err}
+use Rattle.std.specs.Prelude.{◌≡◌, ℕ, ◌+◌, ◌<◌, ◌≤◌, ⊤, Bool, true, IsTrue, List, [], ◌∷◌, ◌++◌, length, map, slice_get, Option, Some, None, Result, Ok, Err}
 use Rattle.std.specs.List.{AllZip}
 use Rattle.ioam_desk.specs.Desk as desk
 use Rattle.ioam_desk.specs.Desk.{Side, Writing, holds}
@@ -15,7 +15,7 @@ use Rattle.ioam_pcap.specs.declared.turns.Due.{Due}
 use Rattle.ioam_pcap.specs.declared.turns.Due.TheVariants.{More}
 use Rattle.ioam_pcap.specs.declared.turns.Turn.{Turn}
 use Rattle.ioam_pcap.specs.declared.turns.Turn.TheVariants.{Next, Over, Broken, Unshown}
-use Rattle.ioam_merge.specs.Capture.{Lane, IsDue}
+use Rattle.ioam_merge.specs.Capture.{Lane, IsDue, most_taken}
 use Rattle.ioam_merge.specs.declared.capture.Capture.{Capture}
 use Rattle.ioam_merge.specs.declared.merge.Merge.{Merge}
 
@@ -100,9 +100,10 @@ pub record Merging (tells : Bool) (start : Start) (inputs : desk.Reading) (merge
   pub room : length merge.piece.items ≡ 65536
   pub are_rows : Rows tells start inputs rows taken
 
--- the same, of some that were opened
+-- the same, of some that were opened, and of no more records than may be taken
 abbrev pub IsMerging : Bool → desk.Reading → Merge → Type 0
 IsMerging tells inputs merge = (start : Start) × (taken : List Arrival) × Merging tells start inputs merge taken
+    × (length taken ≤ most_taken)
 
 -- and the next record is of the capture at this place, with this time; the capture has to be asked
 -- again behind it; its head was read

@@ -1,19 +1,15 @@
 //! One of several captures that are read in pieces.
-ghost use Rattle.std.specs.Prelude.{◌≡◌, ◌<◌, ◌≤◌, List, ℕ, IfErr, IfOk, OnOk, length};
+ghost use Rattle.std.specs.Prelude.{◌≡◌, ◌≤◌, List, ℕ, IfErr, IfOk, OnOk, length};
 ghost use Rattle.ioam_desk.specs.Asked.{IsFaultOf};
-ghost use Rattle.ioam_feed.specs.Feed.{Refills};
 ghost use Rattle.ioam_pcap.specs.Entries.{Entry};
 ghost use Rattle.ioam_pcap.specs.Merge.{Stream, due_of};
-ghost use Rattle.ioam_pcap.specs.Reader.{Stands, IsHeadDue, IsHeaded, fed, link_of};
+ghost use Rattle.ioam_pcap.specs.Reader.{Stands, HoldsFew, IsHeadDue, IsHeaded, fed, link_of};
 ghost use Rattle.ioam_pcap.specs.Streams.{Streams};
-ghost use Rattle.ioam_merge.specs.Capture.{HasReadHead, ShowsDue, MovesOne};
+ghost use Rattle.ioam_merge.specs.Capture.{HasReadHead, IsLane, ShowsDue, MovesOne};
 
 use ioam_desk::{Desk, DeskFault, PIECE};
 use ioam_feed::Feed;
 use ioam_pcap::{CapStep, Due, Link};
-
-// More octets than these are fed to no reader: with a piece behind them they are below 2^63.
-const MOST_FED: u64 = 0x7fff_ffff_0000_0000;
 
 /// A capture that is read in pieces, and whether its end was found.
 #[derive(Drop)]
@@ -32,6 +28,7 @@ impl Capture {
         ensures head { (octets : List ℕ) (given : List Entry) → Stands self.old.feed.reader octets given → IsHeadDue octets self.old.feed.reader
             → HasReadHead self.new.feed.reader octets given self.new.link }
         ensures fed { fed self.new.feed.reader ≡ fed self.old.feed.reader }
+        ensures kept { length self.new.feed.reader.pending ≤ length self.old.feed.reader.pending }
         ensures slot { self.new.feed.slot ≡ self.old.feed.slot }
         ensures ended { self.new.ended ≡ self.old.ended }
     {
@@ -49,7 +46,10 @@ impl Capture {
         ensures stands { (octets : List ℕ) (given : List Entry) → Stands self.old.feed.reader octets given
             → self.old.link ≡ link_of self.old.feed.reader
             → Stands self.new.feed.reader octets given × (self.new.link ≡ link_of self.new.feed.reader) }
+        ensures few { (octets : List ℕ) (given : List Entry) → Stands self.old.feed.reader octets given
+            → result ≡ Due.More → HoldsFew self.new.feed.reader }
         ensures fed { fed self.new.feed.reader ≡ fed self.old.feed.reader }
+        ensures kept { length self.new.feed.reader.pending ≤ length self.old.feed.reader.pending }
         ensures slot { self.new.feed.slot ≡ self.old.feed.slot }
         ensures ended { self.new.ended ≡ self.old.ended }
     {
@@ -63,34 +63,13 @@ impl Capture {
         }
     }
 
-    // Reads the next piece, unless so much was fed that no more may be.
-    fn refill<D: Desk>(&mut self, desk: &mut D, piece: &mut [u8]) -> Result<bool, DeskFault>
-        requires open { self.old.feed.slot < (D.reading desk.old).side.slots }
-        requires room { length piece.old ≡ PIECE }
-        ensures read { Refills D.tells (D.reading desk.old) self.old.feed.slot (length piece.old) self.old.feed.reader
-            result (D.reading desk.new) self.new.feed.reader }
-        ensures few { OnOk result (fed self.old.feed.reader ≤ MOST_FED) }
-        ensures cause { IfErr result (IsFaultOf (D.reading desk.old).side (D.reading desk.new).side) }
-        ensures asked { (D.reading desk.new).side.asked ≡ (D.reading desk.old).side.asked }
-        ensures slots { (D.reading desk.new).side.slots ≡ (D.reading desk.old).side.slots }
-        ensures outputs { D.writing desk.new ≡ D.writing desk.old }
-        ensures slot { self.new.feed.slot ≡ self.old.feed.slot }
-        ensures ended { self.new.ended ≡ self.old.ended }
-        ensures link { self.new.link ≡ self.old.link }
-    {
-        if self.feed.reader.fed() > MOST_FED {
-            return Err(DeskFault::NoMemory);
-        }
-        self.feed.refill(desk, piece)
-    }
-
     // Reads pieces of the capture, of 65,536 octets at most, until it is known what is due of it:
-    // its next record, its end or its fault.
+    // its next record, its end or its fault. No more are read than that takes.
     //
     // `Failed`: a read failed, and the desk's count of faults rose; the capture is as before, but
     // that more of it may have been handed out. After `NoMemory` a piece of it may be lost.
     pub(crate) fn show<D: Desk>(&mut self, desk: &mut D, piece: &mut [u8]) -> Result<Due, DeskFault>
-        requires open { self.old.feed.slot < (D.reading desk.old).side.slots }
+        requires lane { IsLane D.tells (D.reading desk.old) self.old }
         requires room { length piece.old ≡ PIECE }
         ensures shown { ShowsDue D.tells (D.reading desk.old) self.old result (D.reading desk.new) self.new }
         ensures headed { IfOk result (λ due. IsHeaded due self.new.feed.reader) }
@@ -107,7 +86,7 @@ impl Capture {
                 Due::More if !self.ended => {}
                 due => return Ok(due),
             }
-            match self.refill(desk, piece) {
+            match self.feed.refill(desk, piece) {
                 Ok(true) => {}
                 Ok(false) => self.ended = true,
                 Err(fault) => return Err(fault),

@@ -106,9 +106,12 @@ impl Merge {
         Ok(())
     }
 
-    /// What comes next. Captures are asked in order, and pieces of them are read, until each shows
-    /// its next record, its end or its fault. After `Next` the capture has to be asked again: its
-    /// record is taken by its reader's `next`.
+    /// What comes next, behind 16,777,216 records at most. Captures are asked in order, and pieces
+    /// of them are read, until each shows its next record, its end or its fault. After `Next` the
+    /// capture has to be asked again: its record is taken by its reader's `next`.
+    ///
+    /// A piece is read only where the octets of a capture show nothing more, so that less than a
+    /// record and a piece of each capture is in memory.
     ///
     /// `Failed`: a read failed, and the desk's count of faults rose. `NoMemory`: octets of a capture
     /// may be lost. After either the merge can't be asked again. `Unshown` is never the answer.

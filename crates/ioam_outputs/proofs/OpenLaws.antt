@@ -1,6 +1,7 @@
 -- One output after another is opened.
 use Rattle.std.proofs.Common.{◌≡◌, ◌≢◌, ℕ, ◌+◌, ◌<◌, ◌≤◌, Bool, IsTrue, Contains, List, [], ◌∷◌, ◌++◌, length, take, drop, Some, Ok, Err, get_or, refl, sym, ◌∙◌, ap, subst, append-nil, append_assoc, arith, suc, length-append}
 use Rattle.std.proofs.lemmas.List.{get_or_default, take_more, take-append-drop}
+use Rattle.std.proofs.lemmas.List.Elements.{All-push, All-same}
 use Rattle.ioam_desk.specs.Asked.{IsFaultOf}
 use Rattle.ioam_desk.specs.Desk.{Side, Writing, Written, OpenOut, holds, opened_side, opened_each}
 use Rattle.ioam_desk.specs.declared.fault.DeskFault.{DeskFault}
@@ -8,12 +9,19 @@ use Rattle.ioam_desk.specs.declared.fault.DeskFault.TheVariants.{Failed, NoMemor
 use Rattle.ioam_outputs.specs.declared.output.Output.{Output}
 use Rattle.ioam_outputs.specs.Held.{HoldFronts}
 use Rattle.ioam_outputs.specs.Names.{AreApart}
-use Rattle.ioam_outputs.specs.Told.{IsTold, AreTold, unsaid}
+use Rattle.ioam_outputs.specs.Told.{IsTold, AreTold, GathersNothing, unsaid}
 use Rattle.ioam_outputs.proofs.HeldLaws.{front_held, holds_slot}
 use Rattle.ioam_outputs.proofs.ToldLaws.{AreTold-unwritten}
 
 one_more : (names : List (List ℕ)) (i : ℕ) (name : List ℕ) → i < length names → name ≡ get_or names i name → take (i + 1) names ≡ take i names ++ name ∷ []
 one_more names i name inside is = take_more names i name inside ∙ ap (λ (x : List ℕ). take i names ++ x ∷ []) (sym is)
+
+-- nothing is gathered for one output more
+pub nothing_more : (outputs later : List Output) (output : Output) → GathersNothing outputs → output.gathered.items ≡ []
+    → later ≡ outputs ++ output ∷ [] → GathersNothing later
+nothing_more outputs later output nothing none is =
+    All-same (λ (o : Output). o.gathered.items ≡ []) later (outputs ++ output ∷ []) is
+    (All-push (λ (o : Output). o.gathered.items ≡ []) outputs output nothing none)
 
 -- the new output of an opening call
 IsTold-new : (tells : Bool) (old new : Writing) (slot : ℕ) (name : List ℕ) (output : Output)

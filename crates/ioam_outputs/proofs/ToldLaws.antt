@@ -1,9 +1,9 @@
 -- Laws of what was said to outputs.
-use Rattle.std.proofs.Common.{◌≡◌, ◌≢◌, ℕ, ◌+◌, ◌<◌, ◌≤◌, Bool, All, List, [], ◌∷◌, ◌++◌, length, Option, get_or, set, refl, sym, ◌∙◌, ap, append_assoc, arith, zero, suc}
-use Rattle.std.proofs.lemmas.List.Elements.{All-nil, All-cons, All-head, All-tail}
+use Rattle.std.proofs.Common.{◌≡◌, ◌≢◌, ℕ, ◌+◌, ◌<◌, ◌≤◌, Bool, All, List, [], ◌∷◌, ◌++◌, length, Option, get_or, set, refl, sym, ◌∙◌, ap, append_assoc, length-append, arith, zero, suc}
+use Rattle.std.proofs.lemmas.List.Elements.{All-nil, All-cons, All-head, All-tail, All-weaker}
 use Rattle.ioam_desk.specs.Desk.{Writing, Held}
 use Rattle.ioam_outputs.specs.declared.output.Output.{Output}
-use Rattle.ioam_outputs.specs.Told.{IsTold, AreTold, Adds, said_more, unsaid, AreOpen}
+use Rattle.ioam_outputs.specs.Told.{IsTold, AreTold, Adds, said_more, unsaid, AreOpen, GathersFew, GathersNothing}
 use Rattle.ioam_desk.specs.Kept.{WritesFrom}
 use Rattle.ioam_outputs.specs.Flush.{Moves, WritesTheirs}
 
@@ -18,6 +18,27 @@ AreTold-open tells desk slot [] [] (text ∷ texts) told = absurd told
 AreTold-open tells desk slot [] (output ∷ outputs) texts told = absurd told
 AreTold-open tells desk slot (name ∷ names) [] texts told = absurd told
 AreTold-open tells desk slot (name ∷ names) (output ∷ outputs) [] told = absurd told
+
+-- nothing is less than a piece
+pub Nothing-few : (outputs : List Output) → GathersNothing outputs → GathersFew outputs
+Nothing-few outputs nothing = All-weaker (λ (output : Output). output.gathered.items ≡ []) (λ (output : Output). length output.gathered.items < 65536)
+    (λ output none. omega (arith, ap length none)) outputs nothing
+
+-- where nothing was gathered, what is added is all that is
+pub Adds-few : (old new : List Output) (added : List (List ℕ)) → GathersNothing old → Adds old new added
+    → All (λ (text : List ℕ). length text < 65536) added → GathersFew new
+Adds-few [] [] [] nothing adds few = All-nil (λ (output : Output). length output.gathered.items < 65536)
+Adds-few (before ∷ old) (after ∷ new) (text ∷ added) nothing adds few =
+    let none = All-head (λ (output : Output). output.gathered.items ≡ []) before old nothing in
+    let short = All-head (λ (text : List ℕ). length text < 65536) text added few in
+    All-cons (λ (output : Output). length output.gathered.items < 65536) after new
+    (omega (arith, short, ap length adds.1, ap length none, length-append before.gathered.items text))
+    (Adds-few old new added (All-tail (λ (output : Output). output.gathered.items ≡ []) before old nothing) adds.2
+    (All-tail (λ (text : List ℕ). length text < 65536) text added few))
+Adds-few [] [] (text ∷ added) nothing adds few = absurd adds
+Adds-few [] (after ∷ new) added nothing adds few = absurd adds
+Adds-few (before ∷ old) [] added nothing adds few = absurd adds
+Adds-few (before ∷ old) (after ∷ new) [] nothing adds few = absurd adds
 
 -- octets that are gathered were said
 pub AreTold-adds : (tells : Bool) (desk : Writing) (slot : ℕ) (names : List (List ℕ)) (old new : List Output) (texts added : List (List ℕ))

@@ -1,6 +1,6 @@
 -- What was said to outputs: what was written to their slots, and behind it what is gathered for them
 -- and not yet written. Gathering adds to it, and writing leaves it as it is.
-use Rattle.std.specs.Prelude.{◌≡◌, ℕ, ◌+◌, ◌<◌, ⊤, Bool, IsTrue, List, [], ◌∷◌, ◌++◌, map, All, Some}
+use Rattle.std.specs.Prelude.{◌≡◌, ℕ, ◌+◌, ◌<◌, ⊤, Bool, IsTrue, List, [], ◌∷◌, ◌++◌, length, map, All, Some}
 use Rattle.ioam_desk.specs.Desk.{Writing, Written}
 use Rattle.ioam_outputs.specs.declared.output.Output.{Output}
 
@@ -33,6 +33,14 @@ said_more texts added = []
 -- the slots of the outputs are open
 abbrev pub AreOpen : Writing → List Output → Type 0
 AreOpen desk outputs = All (λ output. output.slot < desk.side.slots) outputs
+
+-- nothing is gathered for any output
+abbrev pub GathersNothing : List Output → Type 0
+GathersNothing outputs = All (λ output. output.gathered.items ≡ []) outputs
+
+-- for each output less is gathered than the piece, of 65,536 octets, that is written at a time
+abbrev pub GathersFew : List Output → Type 0
+GathersFew outputs = All (λ output. length output.gathered.items < 65536) outputs
 
 -- as many texts as names, in which nothing is said yet
 abbrev pub unsaid : List (List ℕ) → List (List ℕ)

@@ -3,7 +3,7 @@ ghost use Rattle.std.specs.Prelude.{◌≡◌, ◌≤◌, ◌<◌, [], ℕ, List
 ghost use Rattle.ioam_desk.specs.Asked.{IsFaultOf};
 ghost use Rattle.ioam_outputs.specs.Flush.{Moves, KeepsTold, WritesTheirs};
 ghost use Rattle.ioam_outputs.specs.Held.{HoldTexts, HoldAllFronts};
-ghost use Rattle.ioam_outputs.specs.Told.{AreTold, AreOpen};
+ghost use Rattle.ioam_outputs.specs.Told.{AreTold, AreOpen, GathersFew, GathersNothing};
 
 use crate::output::Output;
 use ioam_base::octets::drop_front;
@@ -85,7 +85,7 @@ pub fn flush_full<D: Desk>(desk: &mut D, outputs: &mut [Output]) -> Result<(), D
         → AreTold D.tells (D.writing desk.new) slot names outputs.new texts }
     ensures fronts { IsTrue D.tells → (slot : ℕ) (names texts : List (List ℕ))
         → AreTold D.tells (D.writing desk.old) slot names outputs.old texts → HoldAllFronts (D.writing desk.new) names texts }
-    ensures few { OnOk result (All (λ output. length output.gathered.items < GATHER) outputs.new) }
+    ensures few { OnOk result (GathersFew outputs.new) }
     ensures cause { IfErr result (IsFaultOf (D.writing desk.old).side (D.writing desk.new).side) }
     ensures same { OnOk result ((D.writing desk.new).side ≡ (D.writing desk.old).side) }
     ensures asked { (D.writing desk.new).side.asked ≡ (D.writing desk.old).side.asked }
@@ -108,7 +108,7 @@ pub fn finish<D: Desk>(desk: &mut D, outputs: &mut [Output]) -> Result<(), DeskF
         → AreTold D.tells (D.writing desk.new) slot names outputs.new texts }
     ensures fronts { IsTrue D.tells → (slot : ℕ) (names texts : List (List ℕ))
         → AreTold D.tells (D.writing desk.old) slot names outputs.old texts → HoldAllFronts (D.writing desk.new) names texts }
-    ensures all { OnOk result (All (λ output. output.gathered.items ≡ []) outputs.new) }
+    ensures all { OnOk result (GathersNothing outputs.new) }
     ensures cause { IfErr result (IsFaultOf (D.writing desk.old).side (D.writing desk.new).side) }
     ensures same { OnOk result ((D.writing desk.new).side ≡ (D.writing desk.old).side) }
     ensures asked { (D.writing desk.new).side.asked ≡ (D.writing desk.old).side.asked }

@@ -5,7 +5,7 @@ ghost use Rattle.ioam_desk.specs.Desk.{opened_each};
 ghost use Rattle.ioam_desk.specs.Kept.{KeepsOutputs};
 ghost use Rattle.ioam_outputs.specs.Held.{HoldFronts};
 ghost use Rattle.ioam_outputs.specs.Names.{AreApart};
-ghost use Rattle.ioam_outputs.specs.Told.{AreOpen, AreTold, unsaid};
+ghost use Rattle.ioam_outputs.specs.Told.{AreOpen, AreTold, GathersNothing, unsaid};
 
 use crate::output::Output;
 use ioam_desk::{Desk, DeskFault, Name};
@@ -24,6 +24,7 @@ pub fn open_outputs<D: Desk>(
     requires { AreApart names.now }
     ensures opened { IfOk result (λ outputs. AreTold D.tells (D.writing desk.new) (D.writing desk.old).side.slots names.now outputs.items (unsaid names.now)) }
     ensures open { IfOk result (λ outputs. AreOpen (D.writing desk.new) outputs.items) }
+    ensures nothing { IfOk result (λ outputs. GathersNothing outputs.items) }
     ensures side { OnOk result ((D.writing desk.new).side ≡ opened_each (D.writing desk.old).side names.now) }
     ensures asked { AsksFront (D.writing desk.old).side.asked (D.writing desk.new).side.asked names.now }
     ensures fault { IfErr result (λ fault. IsFaultOf (D.writing desk.old).side (D.writing desk.new).side fault

@@ -307,6 +307,15 @@ module _ (k : ℕ) (a : Arrival) where
   of_capture-push_other [] other = ap (λ b. if b then a.entry ∷ [] else []) (ne_eqb a.capture k other)
   of_capture-push_other (x ∷ xs) other = ap (λ es. if x.capture == k then x.entry ∷ es else es) (of_capture-push_other xs other)
 
+few_behind : (b : Bool) (x : Entry) (es : List Entry) (n : ℕ) → length es ≤ n → length (if b then x ∷ es else es) ≤ n + 1
+few_behind true x es n few = omega (arith, few)
+few_behind false x es n few = omega (arith, few)
+
+-- no more were taken of one capture than of all
+pub of_capture-few : (k : ℕ) (taken : List Arrival) → length (of_capture k taken) ≤ length taken
+of_capture-few k [] = omega arith
+of_capture-few k (x ∷ xs) = omega (arith, few_behind (x.capture == k) x.entry (of_capture k xs) (length xs) (of_capture-few k xs))
+
 stream_due : (streams : List Stream) (place : ℕ) (due : Due) → slice_get (map due_of streams) place ≡ Some due
     → (s : Stream) × (slice_get streams place ≡ Some s) × (due_of s ≡ due)
 stream_due [] place due is = absurd (none-some due is)

@@ -1,5 +1,5 @@
 -- What a reader stands for after a piece or a step.
-use Rattle.std.proofs.Common.{◌≡◌, ℕ, ◌+◌, ◌-◌, ◌≤◌, List, [], ◌∷◌, ◌++◌, length, take, drop, Option, Some, None, arith, refl, sym, ap, ◌∙◌, subst, length-drop, length-take-le, length-append}
+use Rattle.std.proofs.Common.{◌≡◌, ℕ, ◌+◌, ◌*◌, ◌-◌, ◌≤◌, List, [], ◌∷◌, ◌++◌, length, take, drop, Option, Some, None, arith, refl, sym, ap, ◌∙◌, subst, length-drop, length-take-le, length-append, inl, inr}
 use Rattle.std.proofs.lemmas.List.{append-nil, drop-drop, drop-append-le, take_rest}
 use Rattle.ioam_base.proofs.LeadsLaws.{Leads-push}
 use Rattle.ioam_pcap.specs.declared.form.Form.{Form}
@@ -7,10 +7,10 @@ use Rattle.ioam_pcap.specs.declared.form.Link.{Link}
 use Rattle.ioam_pcap.specs.declared.capture.CapFault.{CapFault}
 use Rattle.ioam_pcap.specs.declared.capture.CapFault.TheVariants as fault
 use Rattle.ioam_pcap.specs.Form.{HasHead}
-use Rattle.ioam_pcap.specs.Entries.{Entry, captured, IsWhole, entry_at, behind}
+use Rattle.ioam_pcap.specs.Entries.{Entry, Entries, captured, IsWhole, entry_at, behind}
 use Rattle.ioam_pcap.specs.Reads.{HeadFault, EntryFault, IsHeadCut, IsEntryCut, Reached, EntryAt, FaultAt, CutAt, Faulty, EndsAt, Reads, link_by}
 use Rattle.ioam_pcap.specs.Reading.{Reading}
-use Rattle.ioam_pcap.specs.Reader.{Stands, Waits, IsCap, link_of}
+use Rattle.ioam_pcap.specs.Reader.{Stands, Waits, HoldsFew, IsCap, link_of, most_size, most_start}
 use Rattle.ioam_pcap.proofs.DropLaws.{captured-drop, IsWhole-drop, entry_at-drop, EntryFault-drop, IsEntryCut-drop}
 use Rattle.ioam_pcap.proofs.BehindLaws.{Reached-behind, FaultAt-behind}
 use Rattle.ioam_pcap.proofs.ReadsLaws.{entry_uncut, entry_sound}
@@ -50,6 +50,30 @@ module _ (reader : Reading) (octets : List ℕ) (entries : List Entry) (stands :
       fault_by None none bad = let Q : List ℕ → Type 0 = λ p. HeadFault p f in subst Q (front_pending reader octets entries none stands).0 bad
       fault_by (Some form) some bad = let Q : List ℕ → Type 0 = λ p. EntryFault form p 0 f in
           EntryFault-drop form octets reader.start stands.inside f (subst Q stands.left bad)
+
+-- what waits for octets has fewer than a record
+pub Waits-few : (reader : Reading) → Waits reader → HoldsFew reader
+Waits-few reader waits = few_by reader.form waits
+  where
+    few_by : (form : Option Form) → CutAt reader.pending form 0 → HoldsFew reader
+    few_by None (inl short) = omega (arith, short)
+    few_by None (inr short) = omega (arith, short.0)
+    few_by (Some form) (inl short) = omega (arith, short)
+    few_by (Some form) (inr short) = omega (arith, short.0, short.1)
+
+-- records that stand one behind the other take no more octets than so many may
+Entries-most : (form : Form) (octets : List ℕ) (from : ℕ) (entries : List Entry) (to : ℕ) → Entries form octets from entries to
+    → to ≤ from + length entries * most_size
+Entries-most form octets from [] to same = omega (arith, same)
+Entries-most form octets from (e ∷ entries) to leads = omega (arith, leads.0.0, Entries-most form octets (behind form octets from) entries to leads.2)
+
+-- so many octets were taken at most
+pub Stands-start : (reader : Reading) (octets : List ℕ) (entries : List Entry) → Stands reader octets entries → reader.start ≤ most_start (length entries)
+Stands-start reader octets entries stands = start_by reader.form stands.reached
+  where
+    start_by : (form : Option Form) → Reached octets form entries reader.start → reader.start ≤ most_start (length entries)
+    start_by None reached = omega (arith, reached.1)
+    start_by (Some form) reached = Entries-most form octets 24 entries reader.start reached.1
 
 -- a fault ends the capture, whatever stands behind
 pub ends_by_fault : (octets : List ℕ) (form : Option Form) (at : ℕ) (f : CapFault) → FaultAt octets form at f → EndsAt octets form at (Faulty at f)

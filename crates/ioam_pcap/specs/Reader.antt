@@ -1,5 +1,5 @@
 -- What a reader stands for, and what its steps tell of the octets that it was fed.
-use Rattle.std.specs.Prelude.{◌≡◌, ⊤, ℕ, ◌+◌, ◌<◌, ◌≤◌, ◌^◌, List, [], ◌∷◌, ◌++◌, length, drop, Option, Some, None}
+use Rattle.std.specs.Prelude.{◌≡◌, ⊤, ℕ, ◌+◌, ◌*◌, ◌<◌, ◌≤◌, ◌^◌, List, [], ◌∷◌, ◌++◌, length, drop, Option, Some, None}
 use Rattle.std.specs.Io.BufRead.{Rests}
 use Rattle.std.specs.Borrow.{Fml, MutBor}
 use Rattle.ioam_pcap.specs.declared.form.Link.{Link}
@@ -30,6 +30,18 @@ fresh = record { form = None; start = 0; pending = [] }
 abbrev pub fed : Reading → ℕ
 fed reader = reader.start + length reader.pending
 
+-- the most octets that a record has, its head included
+abbrev pub most_size : ℕ
+most_size = 262160
+
+-- a reader that has given so many records has taken no more octets than these
+abbrev pub most_start : ℕ → ℕ
+most_start count = 24 + count * most_size
+
+-- a reader holds back less than the octets of a record
+abbrev pub HoldsFew : Reading → Type 0
+HoldsFew reader = length reader.pending < most_size
+
 -- the layer that the packets begin at, once the head was read
 abbrev pub link_of : Reading → Option Link
 link_of reader = link_by reader.form
@@ -42,14 +54,15 @@ entry_of p = record { time = p.time; original = p.original; octets = p.octets.no
 abbrev pub Waits : Reading → Type 0
 Waits reader = CutAt reader.pending reader.form 0
 
--- the octets that a step takes off; the time of a record is below 2^62
+-- the octets that a step takes off; the time of a record is below 2^62; where more octets are needed
+-- there are fewer than a record has
 abbrev pub Moved : Reading → Reading → CapStep → Type 0
 Moved old new (Head link) = (new.start ≡ old.start + 24) × (new.pending ≡ drop 24 old.pending) × (length new.pending + 24 ≡ length old.pending)
 Moved old new (Packet p) = (new.form ≡ old.form) × (new.start ≡ old.start + (16 + length p.octets.now))
     × (new.pending ≡ drop (16 + length p.octets.now) old.pending)
     × (length new.pending + (16 + length p.octets.now) ≡ length old.pending)
     × (p.time < 2 ^ 62)
-Moved old new More = (new ≡ old) × Waits old
+Moved old new More = (new ≡ old) × Waits old × HoldsFew old
 Moved old new (Bad at fault) = (new ≡ old) × (at ≡ old.start)
 
 -- what a step shows of the octets fed so far

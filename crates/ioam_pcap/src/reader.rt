@@ -16,9 +16,10 @@ const ROOM: usize = 65_536;
 
 /// Reads a classic capture file out of any pieces of it.
 ///
-/// It keeps the octets that were fed and not yet taken: no more than one record and one piece,
-/// where each piece is fed after `next` answered `More`. Each octet is copied into the buffer once,
-/// and moved to its front at most once.
+/// It keeps the octets that were fed and not yet taken. Where `next` answers `More` these are fewer
+/// than the 262,160 of the greatest record, so that a reader which is fed only then keeps less than
+/// a record and a piece. Each octet is copied into the buffer once, and moved to its front at most
+/// once.
 #[derive(Drop)]
 pub struct CaptureReader {
     buffer: Vec<u8>,
@@ -46,7 +47,7 @@ impl CaptureReader {
     ghost use Rattle.ioam_pcap.specs.Merge.{Stream, due_of};
     ghost use Rattle.ioam_pcap.specs.Reads.{Reads};
     ghost use Rattle.ioam_pcap.specs.Streams.{Streams};
-    ghost use Rattle.ioam_pcap.specs.Reader.{Stands, IsHeadDue, IsHeaded, Waits, Looks, RestsSo, fresh, fed, link_of, ending_of};
+    ghost use Rattle.ioam_pcap.specs.Reader.{Stands, HoldsFew, IsHeadDue, IsHeaded, Waits, Looks, RestsSo, fresh, fed, link_of, ending_of};
 
     /// A reader that was fed nothing.
     pub fn new(alloc: Global) -> Result<CaptureReader, NoMemory>
@@ -128,6 +129,7 @@ impl CaptureReader {
     /// What `next` will answer, while no more octets are fed.
     pub fn look(&self) -> CapLook
         ensures waits { result ≡ CapLook.More → Waits self.now }
+        ensures few { result ≡ CapLook.More → HoldsFew self.now }
         ensures headed { (time size : ℕ) → result ≡ CapLook.Packet time size → self.now.form ≡ None → ⊥ }
         ensures shows { (octets : List ℕ) (entries : List Entry) → Stands self.now octets entries
             → Looks octets self.now result }
@@ -159,6 +161,7 @@ impl CaptureReader {
             → Stands self.now octets taken → Streams octets ended taken stream
             → MatchOption result (IsHeadDue octets self.now) (λ due. due ≡ due_of stream) }
         ensures headed { IfSome result (λ due. IsHeaded due self.now) }
+        ensures few { IfSome result (λ due. due ≡ Due.More → HoldsFew self.now) }
     {
         match self.look() {
             CapLook::Head { .. } => None,

@@ -44,7 +44,7 @@ Streams-begin gathers count tells start inputs outputs slot reader gathered old 
       link_is = ap (λ (r : Reading). is_ethernet (link_of r)) (sym new);
       count_is = none;
       few = omega arith;
-      reach = omega (arith, ap (λ (r : Reading). r.start) new);
+      held_back = omega (arith, ap (λ (r : Reading). length r.pending) new);
     }
 
 -- each output is empty

@@ -1,14 +1,22 @@
 -- The texts of `filter`, with one record more.
-use Rattle.std.proofs.Common.{◌≡◌, ℕ, ◌+◌, Bool, List, [], ◌∷◌, ◌++◌, length, refl, sym, ◌∙◌, ap, append_assoc, append-nil, arith}
+use Rattle.std.proofs.Common.{◌≡◌, ℕ, ◌+◌, ◌<◌, Bool, All, List, [], ◌∷◌, ◌++◌, length, refl, sym, ◌∙◌, ap, append_assoc, append-nil, arith}
+use Rattle.std.proofs.lemmas.List.Elements.{All-nil, All-cons}
 use Rattle.ioam_pcap.specs.Entries.{Entry}
 use Rattle.ioam_pcap.specs.Text.{Sent, records_text, record_octets, capture_text, head_octets}
 use Rattle.ioam_run.specs.Verdict.{Verdict, Keeps, Drops, HasVerdict, AreVerdicts}
 use Rattle.ioam_run.specs.FilterText.{kept_of, verdict_line, verdict_lines, count_kept, count_dropped}
 use Rattle.ioam_outputs.specs.Told.{said_more}
-use Rattle.ioam_run.specs.Filtering.{Gathers, Sorts}
+use Rattle.ioam_run.specs.Filtering.{Gathers, Sorts, heads}
 use Rattle.ioam_node.specs.declared.reason.Reason.{Reason}
 use Rattle.ioam_run.specs.declared.filtering.Filtering.{Filtering}
 use Rattle.ioam_run.proofs.VerdictLaws.{AreVerdicts-unique}
+
+-- the head of a capture is less than a piece
+pub heads-few : All (λ (text : List ℕ). length text < 65536) heads
+heads-few =
+    let P : List ℕ → Type 0 = λ text. length text < 65536 in
+    let head : length (capture_text []) ≡ 24 = refl in
+    All-cons P (capture_text []) ([] ∷ []) (omega (arith, head)) (All-cons P [] [] (omega arith) (All-nil P))
 
 AreVerdicts-push : (ethernet : Bool) (es : List Entry) (vs : List Verdict) (e : Entry) (v : Verdict)
     → AreVerdicts ethernet es vs → HasVerdict ethernet e v → AreVerdicts ethernet (es ++ e ∷ []) (vs ++ v ∷ [])

@@ -139,6 +139,13 @@ module _ {G : Type 0} (gathers : Bool → List Entry → List (List ℕ) → G �
     pub Streams-fronts : IsTrue tells → HoldAllFronts outputs start.names streams.texts
     Streams-fronts told = AreTold-fronts tells outputs start.base start.names tellers streams.texts told streams.told
 
+  -- a step that takes nothing leaves the outputs as they are
+  pub Steps-still : (old new : Reading) (ethernet later : Bool) (before after : G) (tellers now : List Output) (pause : Pause)
+      → Steps gathers count old new ethernet later before after tellers now (Some pause) → now ≡ tellers
+  Steps-still old new ethernet later before after tellers now pause.More steps = steps.0.2
+  Steps-still old new ethernet later before after tellers now (pause.Bad at fault) steps = steps.0.2
+  Steps-still old new ethernet later before after tellers now pause.Limit steps = steps.0.2
+
   -- what stopped the taking
   pub Pauses-step : (inputs : desk.Reading) (outputs : Writing) (s : Stream G) (now : List Output) (reader : Reading) (ethernet : Bool) (gathered : G) (tellers : List Output) (pause : Pause)
       → Streams gathers count tells start inputs outputs s.feed.slot reader ethernet gathered tellers

@@ -32,11 +32,11 @@ module _ {G : Type 0} (gathers : Bool → List Entry → List (List ℕ) → G �
   -- the head was read
   pub Streams-head : (ethernet : Bool) (g : G) (tellers : List Output) (link : Link) (now : Bool)
       → ((e f : Bool) (texts : List (List ℕ)) (x : G) → gathers e [] texts x → gathers f [] texts x)
-      → now ≡ is_ethernet (Some link) → new.start ≡ old.start + 24
+      → now ≡ is_ethernet (Some link) → length new.pending ≤ length old.pending
       → ((octets : List ℕ) (entries : List Entry) → Stands old octets entries → (old.form ≡ None) × (link_of new ≡ Some link) × Stands new octets entries)
       → Streams gathers count tells start inputs outputs slot old ethernet g tellers
       → Streams gathers count tells start inputs outputs slot new now g tellers
-  Streams-head ethernet g tellers link now any_link is later reads streams =
+  Streams-head ethernet g tellers link now any_link is kept reads streams =
       let here = reads streams.octets streams.entries streams.given.stands in
       let none = none_yet streams.octets old streams.entries here.0 streams.given.stands in
       let P : List Entry → Type 0 = λ es. gathers ethernet es streams.texts g in
@@ -51,21 +51,20 @@ module _ {G : Type 0} (gathers : Bool → List Entry → List (List ℕ) → G �
         link_is = is ∙ ap is_ethernet (sym here.1);
         count_is = streams.count_is;
         few = streams.few;
-        reach = omega (arith, later, none.1);
+        held_back = omega (arith, kept, streams.held_back);
       }
 
   -- a record was taken
   pub Streams-record : (ethernet : Bool) (before after : G) (tellers now : List Output) (e : Entry)
       → count before < most_packets → count after ≡ count before + 1
-      → new.start ≡ old.start + (16 + length e.octets) → new.form ≡ old.form
+      → length new.pending ≤ length old.pending → new.form ≡ old.form
       → ((octets : List ℕ) (entries : List Entry) → Stands old octets entries → EntryAt octets old.form old.start e × Stands new octets (entries ++ e ∷ []))
       → (added : List (List ℕ)) × Adds tellers now added
       × ((entries : List Entry) (so_far : List (List ℕ)) → gathers ethernet entries so_far before → gathers ethernet (entries ++ e ∷ []) (said_more so_far added) after)
       → Streams gathers count tells start inputs outputs slot old ethernet before tellers
       → Streams gathers count tells start inputs outputs slot new ethernet after now
-  Streams-record ethernet before after tellers now e room counted later form reads added streams =
+  Streams-record ethernet before after tellers now e room counted kept form reads added streams =
       let here = reads streams.octets streams.entries streams.given.stands in
-      let short : length e.octets ≤ most = entry_short streams.octets old.form old.start e here.0 in
       let size : length (streams.entries ++ e ∷ []) ≡ length streams.entries + 1 = length-append streams.entries (e ∷ []) in
       record {
         octets = streams.octets;
@@ -77,5 +76,5 @@ module _ {G : Type 0} (gathers : Bool → List Entry → List (List ℕ) → G �
         link_is = streams.link_is ∙ ap (λ (f : Option Form). is_ethernet (link_by f)) (sym form);
         count_is = omega (arith, counted, streams.count_is, size);
         few = omega (arith, room, streams.count_is, size);
-        reach = omega (arith, later, streams.reach, short, size);
+        held_back = omega (arith, kept, streams.held_back);
       }

@@ -1,5 +1,5 @@
 -- From where reading halted to what is answered.
-use Rattle.std.proofs.Common.{◌≡◌, ℕ, ◌⊎◌, Bool, IsTrue, List, [], ◌++◌, length, Option, refl, sym, ◌∙◌, ap, subst, inl, inr, ⊎_elim, append-nil, arith}
+use Rattle.std.proofs.Common.{◌≡◌, ℕ, ◌<◌, ◌≤◌, ◌⊎◌, Bool, IsTrue, List, [], ◌++◌, length, Option, refl, sym, ◌∙◌, ap, subst, inl, inr, ⊎_elim, append-nil, arith}
 use Rattle.ioam_desk.specs.Desk as desk
 use Rattle.ioam_desk.specs.Desk.{Writing, Rose}
 use Rattle.ioam_feed.specs.Feed.{FeedsPiece, FindsEnd}
@@ -12,9 +12,10 @@ use Rattle.ioam_pcap.specs.declared.form.Link.{Link}
 use Rattle.ioam_pcap.specs.Entries.{Entry}
 use Rattle.ioam_pcap.specs.Reading.{Reading}
 use Rattle.ioam_pcap.specs.Reads.{Ending, Whole, Faulty, Reads}
-use Rattle.ioam_pcap.specs.Reader.{link_of}
+use Rattle.ioam_pcap.specs.Reader.{link_of, most_start}
+use Rattle.ioam_pcap.proofs.StandsLaws.{Stands-start}
 use Rattle.ioam_outputs.proofs.ToldLaws.{told_names}
-use Rattle.ioam_run.specs.Run.{EndsSo, AreFirst, ArePassed, AreWhole, outcome_of}
+use Rattle.ioam_run.specs.Run.{most_packets, EndsSo, AreFirst, ArePassed, AreWhole, outcome_of}
 use Rattle.ioam_pcap.specs.Link.{is_ethernet}
 use Rattle.ioam_run.specs.Streams.{Start, Streams, Halts, Fronts, Sticks, Stops}
 use Rattle.ioam_answer.specs.declared.outcome.Outcome.{Outcome}
@@ -110,12 +111,18 @@ module _ {G : Type 0} (gathers : Bool → List Entry → List (List ℕ) → G �
       let Q : List ℕ → Type 0 = λ l. Halts gathers count tells start (AreWhole l) now gathered tellers in
       subst Q (sym is) (subst P (sym same) halts)
 
+  -- so many octets were taken at most
+  pub Streams-start : (inputs : desk.Reading) (outputs : Writing) (slot : ℕ) (reader : Reading) (ethernet : Bool) (gathered : G) (tellers : List Output)
+      → Streams gathers count tells start inputs outputs slot reader ethernet gathered tellers → reader.start ≤ most_start most_packets
+  Streams-start inputs outputs slot reader ethernet gathered tellers streams =
+      omega (arith, streams.few, Stands-start reader streams.octets streams.entries streams.given.stands)
+
   -- a piece more was handed out
   pub Streams-fed : (inputs now_in : desk.Reading) (outputs now_out : Writing) (slot now_slot : ℕ) (most : ℕ) (reader now : Reading) (ethernet : Bool) (gathered : G) (tellers : List Output)
-      → now_out ≡ outputs → now_slot ≡ slot → FeedsPiece tells inputs slot most reader now_in now
+      → now_out ≡ outputs → now_slot ≡ slot → FeedsPiece tells inputs slot most reader now_in now → length now.pending < 327696
       → Streams gathers count tells start inputs outputs slot reader ethernet gathered tellers
       → Streams gathers count tells start now_in now_out now_slot now ethernet gathered tellers
-  Streams-fed inputs now_in outputs now_out slot now_slot most reader now ethernet gathered tellers same number feeds streams =
+  Streams-fed inputs now_in outputs now_out slot now_slot most reader now ethernet gathered tellers same number feeds held streams =
       let P : Writing → Type 0 = λ w. Streams gathers count tells start now_in w now_slot now ethernet gathered tellers in
       let Q : ℕ → Type 0 = λ k. Streams gathers count tells start now_in outputs k now ethernet gathered tellers in
       let here : Streams gathers count tells start now_in outputs slot now ethernet gathered tellers = record {
@@ -128,7 +135,7 @@ module _ {G : Type 0} (gathers : Bool → List Entry → List (List ℕ) → G �
         link_is = streams.link_is ∙ ap (λ (r : Reading). is_ethernet (link_of r)) (sym feeds.fed);
         count_is = streams.count_is;
         few = streams.few;
-        reach = omega (arith, streams.reach, ap (λ (r : Reading). r.start) feeds.fed);
+        held_back = held;
       } in
       subst P (sym same) (subst Q (sym number) here)
 
@@ -149,6 +156,6 @@ module _ {G : Type 0} (gathers : Bool → List Entry → List (List ℕ) → G �
         link_is = streams.link_is ∙ ap (λ (r : Reading). is_ethernet (link_of r)) (sym ends.same);
         count_is = streams.count_is;
         few = streams.few;
-        reach = omega (arith, streams.reach, ap (λ (r : Reading). r.start) ends.same);
+        held_back = omega (arith, streams.held_back, ap (λ (r : Reading). length r.pending) ends.same);
       } in
       subst P (sym same) here

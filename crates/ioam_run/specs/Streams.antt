@@ -1,5 +1,5 @@
 -- A capture that is read in pieces while texts are gathered of its records and written.
-use Rattle.std.specs.Prelude.{◌≡◌, ℕ, ◌+◌, ◌*◌, ◌<◌, ◌≤◌, ⊤, Bool, IsTrue, IsSomeAnd, List, ◌++◌, ◌∷◌, [], length, Option, Some, None}
+use Rattle.std.specs.Prelude.{◌≡◌, ℕ, ◌<◌, ◌≤◌, ⊤, Bool, IsTrue, IsSomeAnd, List, ◌++◌, ◌∷◌, [], length, Option, Some, None}
 use Rattle.ioam_desk.specs.Desk as desk
 use Rattle.ioam_desk.specs.Desk.{Side, Writing, Rose}
 use Rattle.ioam_feed.specs.Feed.{Fed}
@@ -25,20 +25,13 @@ pub record Start : Type 0 where
   pub base : ℕ
   pub names : List (List ℕ)
 
--- the octets of a record with its head, at most
-abbrev pub most_size : ℕ
-most_size = 262160
-
--- the place behind so many records, at most, so that what is fed stays below 2^63
-abbrev pub most_start : ℕ → ℕ
-most_start count = 24 + count * most_size
-
 -- some octets were fed to the reader, and it has given some records of them
 abbrev pub HasStood : Reading → Type 0
 HasStood reader = (octets : List ℕ) × (entries : List Entry) × Stands reader octets entries
 
 module _ {G : Type 0} (gathers : Bool → List Entry → List (List ℕ) → G → Type 0) (count : G → ℕ) where
-  -- the outputs were told the texts of the records that the reader has given of what was handed out
+  -- the outputs were told the texts of the records that the reader has given of what was handed out;
+  -- less than a record, of 262,160 octets, and a piece of 65,536 is held back in memory
   pub record Streams (tells : Bool) (start : Start) (inputs : desk.Reading) (outputs : Writing)
       (slot : ℕ) (reader : Reading) (ethernet : Bool) (gathered : G) (tellers : List Output) : Type 0 where
     pub octets : List ℕ
@@ -50,7 +43,7 @@ module _ {G : Type 0} (gathers : Bool → List Entry → List (List ℕ) → G �
     pub link_is : ethernet ≡ is_ethernet (link_of reader)
     pub count_is : count gathered ≡ length entries
     pub few : length entries ≤ most_packets
-    pub reach : reader.start ≤ most_start (length entries)
+    pub held_back : length reader.pending < 327696
 
   abbrev pub IsStreaming : Bool → Start → desk.Reading → Writing → Stream G → List Output → Type 0
   IsStreaming tells start inputs outputs s tellers = Streams tells start inputs outputs s.feed.slot s.feed.reader s.ethernet s.gathered tellers

@@ -1,6 +1,6 @@
 //! Texts that are gathered of the records of a capture, each for its output.
 ghost use Rattle.std.specs.Prelude.{◌≡◌, ◌<◌, ◌≤◌, ◌+◌, ◌^◌, ◌∷◌, ◌++◌, [], List, ℕ, Bool, IfOk, OnOk, length};
-ghost use Rattle.ioam_outputs.specs.Told.{Adds, said_more};
+ghost use Rattle.ioam_outputs.specs.Told.{Adds, GathersFew, GathersNothing, said_more};
 ghost use Rattle.ioam_pcap.specs.Entries.{Entry, most};
 ghost use Rattle.ioam_pcap.specs.Reader.{entry_of};
 
@@ -33,17 +33,19 @@ pub trait Gather: Drop {
 
     /// Begins the texts.
     fn begin(outputs: &mut [Output]) -> Result<Self, NoMemory>
-        requires { length outputs.old ≡ width }
+        requires width { length outputs.old ≡ width }
+        requires nothing { GathersNothing outputs.old }
         ensures counted { IfOk result (λ gathered. count gathered ≡ 0) }
         ensures adds { OnOk result (Adds outputs.old outputs.new heads) }
-        ensures gathers { IfOk result (λ gathered. (ethernet : Bool) → gathers ethernet [] heads gathered) };
+        ensures gathers { IfOk result (λ gathered. (ethernet : Bool) → gathers ethernet [] heads gathered) }
+        ensures waiting { OnOk result (GathersFew outputs.new) };
 
     /// How many records were taken.
     fn taken(&self) -> u64
         requires { count self.now < 2 ^ 32 }
         ensures { result ≡ count self.now };
 
-    /// Takes the next record.
+    /// Takes the next record, where less than a piece waits to be written to each output.
     fn take(
         &mut self,
         ethernet: bool,
@@ -53,6 +55,7 @@ pub trait Gather: Drop {
         requires short { length captured.now.octets.now ≤ most }
         requires few { count self.old < 2 ^ 32 }
         requires width { length outputs.old ≡ width }
+        requires waiting { GathersFew outputs.old }
         ensures counted { OnOk result (count self.new ≡ count self.old + 1) }
         ensures gathers { OnOk result ((added : List (List ℕ)) × Adds outputs.old outputs.new added
             × ((entries : List Entry) (so_far : List (List ℕ)) → gathers ethernet entries so_far self.old

@@ -4,7 +4,7 @@ ghost use Rattle.ioam_desk.specs.Asked.{AsksFront};
 ghost use Rattle.ioam_desk.specs.Desk.{holds};
 ghost use Rattle.ioam_feed.specs.Feed.{Fed};
 ghost use Rattle.ioam_outputs.specs.Names.{AreApart};
-ghost use Rattle.ioam_outputs.specs.Told.{AreTold, unsaid};
+ghost use Rattle.ioam_outputs.specs.Told.{AreTold, GathersNothing, unsaid};
 ghost use Rattle.ioam_pcap.specs.Reader.{fresh};
 ghost use Rattle.ioam_answer.specs.Outcomes.{IsDone, IsBehindAll, OpensNothing};
 ghost use Rattle.ioam_run.specs.Run.{HasCause, FileCause, Leaves, file_names, input_name, output_names};
@@ -105,6 +105,7 @@ fn run_open<G: Gather, D: Desk>(
     requires told { AreTold D.tells (D.writing desk.old) start.base start.names outputs.old (unsaid start.names) }
     requires width { length outputs.old ≡ G.width }
     requires room { length piece.old ≡ PIECE }
+    requires nothing { GathersNothing outputs.old }
     ensures finishes { Finishes D.tells start G.texts input.now feed.slot (D.reading desk.old) (D.reading desk.new)
         (D.writing desk.old) (D.writing desk.new) result }
     ensures asked_in { (D.reading desk.new).side.asked ≡ (D.reading desk.old).side.asked }

@@ -1,5 +1,6 @@
 //! One step of a reader whose records are gathered.
 ghost use Rattle.std.specs.Prelude.{◌≡◌, ◌≤◌, IfOk, Some, length};
+ghost use Rattle.ioam_outputs.specs.Told.{GathersFew};
 ghost use Rattle.ioam_pcap.specs.Reader.{fed};
 ghost use Rattle.ioam_run.specs.Run.{most_packets};
 ghost use Rattle.ioam_run.specs.Streams.{HasStood, Steps};
@@ -35,6 +36,7 @@ pub fn step<G: Gather>(
     requires stood { HasStood reader.old }
     requires few { G.count gathered.old ≤ most_packets }
     requires width { length outputs.old ≡ G.width }
+    requires waiting { GathersFew outputs.old }
     ensures stepped { IfOk result (Steps G.gathers G.count reader.old reader.new ethernet.old ethernet.new
         gathered.old gathered.new outputs.old outputs.new) }
     ensures fed { fed reader.new ≡ fed reader.old }

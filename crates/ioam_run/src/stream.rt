@@ -2,7 +2,7 @@
 ghost use Rattle.std.specs.Prelude.{◌≡◌, ◌<◌, ◌^◌, IfErr, IfOk, OnErr, OnOk, IsTrue, List, ℕ, length};
 ghost use Rattle.ioam_desk.specs.Asked.{IsFaultOf};
 ghost use Rattle.ioam_outputs.specs.Held.{HoldAllFronts, HoldTexts};
-ghost use Rattle.ioam_outputs.specs.Told.{AreTold, AreOpen, said_more};
+ghost use Rattle.ioam_outputs.specs.Told.{AreTold, AreOpen, GathersFew, said_more};
 ghost use Rattle.ioam_pcap.specs.Reader.{fed};
 ghost use Rattle.ioam_run.specs.Streams.{Start, IsStreaming, Pauses, Sticks, Stops};
 
@@ -25,7 +25,8 @@ pub struct Stream<G> {
     pub gathered: G,
 }
 
-// Takes all that the octets handed out so far show, and writes what is gathered where it is a full piece.
+// Takes all that the octets handed out so far show, and writes what is gathered where it is a full
+// piece, so that behind each record less than a piece waits to be written to each output.
 fn take_shown<G: Gather, D: Desk>(
     stream: &mut Stream<G>,
     outputs: &mut [Output],
@@ -34,8 +35,10 @@ fn take_shown<G: Gather, D: Desk>(
     ghost start: { Start }
     requires streams { IsStreaming G.gathers G.count D.tells start (D.reading desk.old) (D.writing desk.old) stream.old outputs.old }
     requires width { length outputs.old ≡ G.width }
+    requires waiting { GathersFew outputs.old }
     ensures paused { IfOk result (Pauses G.gathers G.count D.tells start (D.reading desk.new) (D.writing desk.new) stream.new outputs.new) }
     ensures same { OnOk result ((D.writing desk.new).side ≡ (D.writing desk.old).side) }
+    ensures waiting { OnOk result (GathersFew outputs.new) }
     ensures sticks { OnErr result (Sticks D.tells start G.texts (D.writing desk.new)) }
     ensures cause { IfErr result (IsFaultOf (D.writing desk.old).side (D.writing desk.new).side) }
     ensures asked { (D.writing desk.new).side.asked ≡ (D.writing desk.old).side.asked }
@@ -72,6 +75,7 @@ pub fn read_on<G: Gather, D: Desk>(
     requires streams { IsStreaming G.gathers G.count D.tells start (D.reading desk.old) (D.writing desk.old) stream.old outputs.old }
     requires width { length outputs.old ≡ G.width }
     requires room { length piece.old ≡ PIECE }
+    requires waiting { GathersFew outputs.old }
     ensures stopped { Stops D.tells start G.texts G.gathers G.count input.now stream.old.feed.slot (D.reading desk.old) (D.reading desk.new)
         (D.writing desk.old) (D.writing desk.new) stream.new.gathered outputs.new result }
     ensures asked_in { (D.reading desk.new).side.asked ≡ (D.reading desk.old).side.asked }

@@ -3,6 +3,7 @@ ghost use Rattle.std.specs.Prelude.{◌≤◌};
 use crate::captures::{TWO, TWO_READ, show};
 use ioam_desk::{DeskFault, MemoryDesk};
 use ioam_feed::open_feed;
+use ioam_pcap::CapLook;
 use std::alloc::Global;
 use std::test::Fail;
 
@@ -21,8 +22,8 @@ fn outline(alloc: Global, most: usize, failing: u64) -> Result<String, Fail>
         Err(_) => return Err(Fail::from("not opened")),
     };
     for _ in 0..100 {
-        if feed.reader.fed() > 1_000_000 {
-            return Err(Fail::from("too many octets"));
+        if feed.reader.fed() > 1_000_000 || !matches!(feed.reader.look(), CapLook::More) {
+            return Err(Fail::from("fed too much"));
         }
         match feed.refill(&mut desk, &mut piece) {
             Ok(true) => show(alloc, &mut feed.reader, &mut text)?,

@@ -3,6 +3,7 @@ ghost use Rattle.std.specs.Prelude.{◌≡◌, ◌+◌, ◌<◌, ◌^◌, All, B
 ghost use Rattle.ioam_desk.specs.Desk.{Reading, Writing};
 ghost use Rattle.ioam_forward.specs.Forwarding.{IsOf, taken};
 ghost use Rattle.ioam_merge.specs.Merging.{IsComing};
+ghost use Rattle.ioam_outputs.specs.Told.{GathersFew};
 ghost use Rattle.ioam_topo.specs.Domain.{ports as ports_of};
 ghost use Rattle.ioam_traffic.specs.Running.{Coming, Running};
 ghost use Rattle.ioam_traffic.specs.Traffic.{Files, course_with};
@@ -23,7 +24,8 @@ pub struct Progress {
 }
 
 impl Progress {
-    /// Takes the record that comes next, of the capture at a place, and sends it through the domain.
+    /// Takes the record that comes next, of the capture at a place, and sends it through the domain,
+    /// where less than a piece waits to be written to each output.
     pub fn take_next(
         &mut self,
         alloc: Global,
@@ -38,6 +40,7 @@ impl Progress {
         requires below { place < length ports.now }
         requires few { taken self.old.gathered < 2 ^ 32 }
         requires width { length outputs.old ≡ length (ports_of domain.now) + 2 }
+        requires waiting { GathersFew outputs.old }
         ensures counted { OnOk result (taken self.new.gathered ≡ taken self.old.gathered + 1) }
         ensures runs { OnOk result ((tells : Bool) (files : Files) (inputs : Reading) (writing : Writing) → taken self.old.gathered < domain.now.packets
             → Coming tells (course_with domain.now ports.now files) place inputs writing self.old outputs.old

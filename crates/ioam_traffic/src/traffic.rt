@@ -3,7 +3,7 @@ ghost use Rattle.std.specs.Prelude.{◌≡◌, ◌↔◌, ◌+◌, ◌<◌, ◌+
 ghost use Rattle.ioam_desk.specs.Asked.{AsksFront};
 ghost use Rattle.ioam_merge.specs.Merging.{EndsKept, Merging};
 ghost use Rattle.ioam_outputs.specs.Names.{AreApart};
-ghost use Rattle.ioam_outputs.specs.Told.{AreTold, unsaid};
+ghost use Rattle.ioam_outputs.specs.Told.{AreTold, GathersNothing, unsaid};
 ghost use Rattle.ioam_topo.specs.Domain.{ports as ports_of};
 ghost use Rattle.ioam_traffic.specs.Running.{Ends, IsBroken};
 ghost use Rattle.ioam_traffic.specs.Traffic.{Files, files_of, course_with, begun, Finishes, IsEnd};
@@ -104,6 +104,7 @@ fn run_open<D: Desk>(
     requires sized { length ports.now ≡ length files.lanes.contents }
     requires inside { All (λ port. port.0 < length (ports_of domain.now)) ports.now }
     requires width { length outputs.old ≡ length (ports_of domain.now) + 2 }
+    requires nothing { GathersNothing outputs.old }
     ensures ends { Ends D.tells (course_with domain.now ports.now files) (D.reading desk.old) (D.reading desk.new)
         (D.writing desk.old) (D.writing desk.new) result }
     ensures asked_in { (D.reading desk.new).side.asked ≡ (D.reading desk.old).side.asked }

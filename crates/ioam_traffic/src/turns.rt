@@ -5,7 +5,7 @@ ghost use Rattle.ioam_forward.specs.Fate.{Frame};
 ghost use Rattle.ioam_forward.specs.Forwarding.{Forwards, taken};
 ghost use Rattle.ioam_merge.specs.Merging.{EndsKept};
 ghost use Rattle.ioam_outputs.specs.Held.{HoldAllFronts, HoldTexts};
-ghost use Rattle.ioam_outputs.specs.Told.{AreTold, AreOpen};
+ghost use Rattle.ioam_outputs.specs.Told.{AreTold, AreOpen, GathersFew};
 ghost use Rattle.ioam_topo.specs.Domain.{ports as ports_of};
 ghost use Rattle.ioam_traffic.specs.Running.{Coming, HoldSo, Running, Stops};
 ghost use Rattle.ioam_traffic.specs.Traffic.{Files, course_with};
@@ -21,7 +21,8 @@ use ioam_topo::{Domain, PortId};
 use std::alloc::Global;
 
 // Takes the record that comes next, of the capture at a place, unless as many as may be were taken,
-// and writes what is gathered where it is a full piece.
+// and writes what is gathered where it is a full piece, so that less than a piece waits to be written
+// to each output.
 fn pass_on<D: Desk>(
     alloc: Global,
     desk: &mut D,
@@ -37,10 +38,12 @@ fn pass_on<D: Desk>(
     requires sized { length ports.now ≡ length files.lanes.contents }
     requires inside { All (λ port. port.0 < length (ports_of domain.now)) ports.now }
     requires width { length outputs.old ≡ length (ports_of domain.now) + 2 }
+    requires waiting { GathersFew outputs.old }
     ensures runs { OnOk result (Running D.tells (course_with domain.now ports.now files) (D.reading desk.new) (D.writing desk.new)
         progress.new outputs.new) }
     ensures counted { OnOk result (taken progress.new.gathered ≡ taken progress.old.gathered + 1) }
     ensures few { OnOk result (taken progress.old.gathered < domain.now.packets) }
+    ensures waiting { OnOk result (GathersFew outputs.new) }
     ensures same { OnOk result ((D.writing desk.new).side ≡ (D.writing desk.old).side) }
     ensures stops { IfErr result (Stops D.tells (course_with domain.now ports.now files) (D.reading desk.old) (D.reading desk.new)
         (D.writing desk.old) (D.writing desk.new) progress.new.gathered outputs.new) }
@@ -78,6 +81,7 @@ pub fn carry_on<D: Desk>(
     requires sized { length ports.now ≡ length files.lanes.contents }
     requires inside { All (λ port. port.0 < length (ports_of domain.now)) ports.now }
     requires width { length outputs.old ≡ length (ports_of domain.now) + 2 }
+    requires waiting { GathersFew outputs.old }
     ensures stops { Stops D.tells (course_with domain.now ports.now files) (D.reading desk.old) (D.reading desk.new)
         (D.writing desk.old) (D.writing desk.new) progress.new.gathered outputs.new result }
     ensures asked_in { (D.reading desk.new).side.asked ≡ (D.reading desk.old).side.asked }

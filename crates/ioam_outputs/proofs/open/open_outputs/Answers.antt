@@ -1,7 +1,7 @@
 use Rattle.std.proofs.Common.{◌≡◌, ◌<◌, ◌+◌, ℕ, List, length, take, Ok, Err, get_or, refl, sym, ◌∙◌, subst, arith}
 use Rattle.ioam_outputs.specs.declared.output.Output.{Output}
 use Rattle.ioam_outputs.specs.Told.{AreTold, unsaid}
-use Rattle.ioam_outputs.proofs.OpenLaws.{side_more, told_more, stops_more, fails_more, unopened}
+use Rattle.ioam_outputs.proofs.OpenLaws.{nothing_more, side_more, told_more, stops_more, fails_more, unopened}
 use Rattle.ioam_desk.proofs.KeptLaws.{KeepsOutputs-same, KeepsOutputs-then, KeepsOutputs-asked}
 use Rattle.ioam_outputs.proofs.ToldLaws.{AreTold-open}
 use Rattle.ioam_outputs.proofs.open.open_outputs.Goals as goal
@@ -26,6 +26,7 @@ names-preserved g c =
           (sym c.in-Ok-push.ensures.items)
           (told_more g.D.Desk.tells start (g.D.Desk.writing c.names.desk) new names i c.names.outputs.items name output c.requires inside is
           c.in-Ok-open_out.ensures.opened c.new-gathered.ensures.items c.names.invariant.side c.names.invariant.told);
+      nothing = nothing_more c.names.outputs.items c.push.new.self.items output c.names.invariant.nothing c.new-gathered.ensures.items c.in-Ok-push.ensures.items;
       side = side_more start.side (g.D.Desk.writing c.names.desk).side new.side names i name inside is
           c.names.invariant.side c.in-Ok-open_out.ensures.opened.1;
       kept = λ told. KeepsOutputs-then start (g.D.Desk.writing c.names.desk) new (c.names.invariant.kept told)

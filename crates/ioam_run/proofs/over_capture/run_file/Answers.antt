@@ -3,6 +3,7 @@ use Rattle.ioam_desk.specs.Desk as desk
 use Rattle.ioam_desk.specs.Desk.{Side, Writing, Rose, holds}
 use Rattle.ioam_feed.specs.Feed.{Fed}
 use Rattle.ioam_outputs.specs.declared.output.Output.{Output}
+use Rattle.ioam_outputs.specs.Told.{GathersNothing}
 use Rattle.ioam_outputs.proofs.ToldLaws.{told_names}
 use Rattle.ioam_run.specs.Streams.{Start, Finishes}
 use Rattle.ioam_run.proofs.BeginLaws.{Fed-start, told_start, unwritten}
@@ -33,7 +34,10 @@ run_open-requires g c κs within =
                 ap (λ (o : List Output). length o) c.deref_mut.ensures.value
                     ∙ told_names g.D.Desk.tells (g.D.Desk.writing c.open_outputs.new.desk) (g.D.Desk.writing c.open_feed.new.desk).side.slots c.args.names.now c.in-Ok-open_outputs.outputs.items _ told
                     ∙ c.requires.1.1.1.1,
-                ap (λ (o : List ℕ). length o) c.deref_mut-in-Ok-open_outputs.ensures.value ∙ c.in-Ok.ensures,
+                (
+                  ap (λ (o : List ℕ). length o) c.deref_mut-in-Ok-open_outputs.ensures.value ∙ c.in-Ok.ensures,
+                  subst (λ (o : List Output). GathersNothing o) (sym c.deref_mut.ensures.value) c.in-Ok-open_outputs.ensures.nothing,
+                ),
               ),
             ),
           ),

@@ -22,7 +22,7 @@ read_on-answer-requires g c κs within = (
       Streams-begin g.G.Gather.gathers g.G.Gather.count g.D.Desk.tells g.start (g.D.Desk.reading c.args.desk.now) (g.D.Desk.writing c.args.desk.now)
           c.args.feed.slot c.args.feed.reader c.in-Ok.gathered c.args.outputs.now c.begin.new.outputs g.G.Gather.heads
           c.requires.1.1.0 c.requires.1.1.1.0 c.requires.1.1.1.1.0 c.in-Ok.ensures.adds c.in-Ok.ensures.counted c.in-Ok.ensures.gathers,
-      (omega (arith, c.requires.1.1.1.1.1.0, c.begin.auto.outputs), c.requires.1.1.1.1.1.1),
+      (omega (arith, c.requires.1.1.1.1.1.0, c.begin.auto.outputs), (c.requires.1.1.1.1.1.1.0, c.in-Ok.ensures.waiting)),
     ),
   ),
 )

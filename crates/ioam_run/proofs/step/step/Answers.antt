@@ -20,7 +20,7 @@ returns-in-Head-clause-stepped g c =
       λ tells start inputs outputs slot.
           Streams-head g.G.Gather.gathers g.G.Gather.count tells start inputs outputs slot c.args.reader.now c.next.follows.lender-at-none
           c.args.ethernet.now c.args.gathered.now c.args.outputs.now c.in-Head.link c.is_ethernet.result g.met.G.Gather.any_link
-          c.is_ethernet.ensures told.0.0
+          c.is_ethernet.ensures (omega (arith, told.0.2))
           (λ octets entries stands. let here = told.1 octets entries stands in (here.0.0, here.1.0, here.1.1)),
     )
 
@@ -31,7 +31,7 @@ returns-in_ok-take-in-Packet-clause-stepped g c =
       λ tells start inputs outputs slot.
           Streams-record g.G.Gather.gathers g.G.Gather.count tells start inputs outputs slot c.args.reader.now c.next.follows.lender-at-none
           c.args.ethernet.now c.args.gathered.now c.take.new.self c.args.outputs.now c.take.new.outputs (entry_of c.in-Packet.captured)
-          (omega arith) c.in_ok-take-in-Packet.ensures.counted told.0.1 told.0.0 told.1 c.in_ok-take-in-Packet.ensures.gathers,
+          (omega arith) c.in_ok-take-in-Packet.ensures.counted (omega (arith, told.0.3)) told.0.0 told.1 c.in_ok-take-in-Packet.ensures.gathers,
     )
 
 pub taken-requires : goal.taken-requires

@@ -1,12 +1,13 @@
-use Rattle.std.proofs.Common.{◌≡◌, ℕ, IsTrue, List, length, ap, sym, ◌∙◌, subst, arith}
+use Rattle.std.proofs.Common.{◌≡◌, ℕ, IsTrue, List, length, length-append, ap, sym, ◌∙◌, subst, arith}
 use Rattle.ioam_desk.specs.Desk as desk
 use Rattle.ioam_desk.specs.Desk.{Side, Writing}
 use Rattle.ioam_outputs.specs.Held.{HoldAllFronts}
 use Rattle.ioam_pcap.specs.Reads.{Faulty}
-use Rattle.ioam_pcap.specs.Reader.{ending_of}
+use Rattle.ioam_pcap.specs.Reader.{ending_of, fed}
+use Rattle.ioam_pcap.proofs.StandsLaws.{Waits-few}
 use Rattle.ioam_run.specs.Run.{EndsSo}
 use Rattle.ioam_run.proofs.HaltsLaws.{Streams-sticks, Streams-fronts, halts_waiting, halts_end}
-use Rattle.ioam_run.proofs.StopsLaws.{begins_ends, Halts-sticks_here, Stops-bad, Stops-end, Halts-left, Streams-fed, Streams-ended}
+use Rattle.ioam_run.proofs.StopsLaws.{begins_ends, Halts-sticks_here, Stops-bad, Stops-end, Halts-left, Streams-start, Streams-fed, Streams-ended}
 use Rattle.ioam_run.proofs.stream.read_on.Goals as goal
 
 pub returns-in-Ok-Bad-clause-stopped : goal.returns-in-Ok-Bad-clause-stopped
@@ -26,13 +27,46 @@ pieces-preserved g c =
     let feeds = rw c.in-Ok-true.field-0-test at c.in-Ok-true.ensures.read in
     record {
       streams = Streams-fed g.G.Gather.gathers g.G.Gather.count g.D.Desk.tells g.start (g.D.Desk.reading c.take_shown.new.desk) (g.D.Desk.reading c.refill.new.desk) (g.D.Desk.writing c.take_shown.new.desk) (g.D.Desk.writing c.refill.new.desk) c.take_shown.new.stream.feed.slot c.refill.new.self.slot _
-          c.take_shown.new.stream.feed.reader c.refill.new.self.reader c.take_shown.new.stream.ethernet c.take_shown.new.stream.gathered c.take_shown.new.outputs c.in-Ok-true.ensures.outputs c.in-Ok-true.ensures.slot feeds streams;
+          c.take_shown.new.stream.feed.reader c.refill.new.self.reader c.take_shown.new.stream.ethernet c.take_shown.new.stream.gathered c.take_shown.new.outputs c.in-Ok-true.ensures.outputs c.in-Ok-true.ensures.slot feeds
+          (omega (arith, c.in-Ok-true.ensures.kept, c.pieces.invariant.room)) streams;
       width = omega (arith, c.pieces.invariant.width, c.take_shown.auto.outputs);
+      waiting = c.in-Ok-More.ensures.waiting;
       room = omega (arith, c.pieces.invariant.room, c.refill.auto.piece);
       inputs = feeds.gives.side ∙ ap (λ (r : desk.Reading). r.side) c.in-Ok-More.ensures.inputs ∙ c.pieces.invariant.inputs;
       side = ap (λ (w : Writing). w.side) c.in-Ok-true.ensures.outputs ∙ c.in-Ok-More.ensures.same ∙ c.pieces.invariant.side;
       slot = c.in-Ok-true.ensures.slot ∙ c.in-Ok-More.ensures.slot ∙ c.pieces.invariant.slot;
     }
+
+pub refill-requires-clause-few : goal.refill-requires-clause-few
+refill-requires-clause-few g c =
+    let paused = rw c.in-Ok-More.field-0-is at c.in-Ok-More.ensures.paused in
+    Waits-few c.take_shown.new.stream.feed.reader paused.1
+
+pub refill-requires-clause-fits : goal.refill-requires-clause-fits
+refill-requires-clause-fits g c =
+    let paused = rw c.in-Ok-More.field-0-is at c.in-Ok-More.ensures.paused in
+    omega (
+      arith,
+      c.pieces.invariant.room,
+      Waits-few c.take_shown.new.stream.feed.reader paused.1,
+      Streams-start g.G.Gather.gathers g.G.Gather.count g.D.Desk.tells g.start (g.D.Desk.reading c.take_shown.new.desk) (g.D.Desk.writing c.take_shown.new.desk)
+          c.take_shown.new.stream.feed.slot c.take_shown.new.stream.feed.reader c.take_shown.new.stream.ethernet c.take_shown.new.stream.gathered c.take_shown.new.outputs paused.0,
+    )
+
+pub pieces-smaller : goal.pieces-smaller
+pieces-smaller g c =
+    let paused = rw c.in-Ok-More.field-0-is at c.in-Ok-More.ensures.paused in
+    let feeds = rw c.in-Ok-true.field-0-test at c.in-Ok-true.ensures.read in
+    omega (
+      arith,
+      Waits-few c.take_shown.new.stream.feed.reader paused.1,
+      Streams-start g.G.Gather.gathers g.G.Gather.count g.D.Desk.tells g.start (g.D.Desk.reading c.take_shown.new.desk) (g.D.Desk.writing c.take_shown.new.desk)
+          c.take_shown.new.stream.feed.slot c.take_shown.new.stream.feed.reader c.take_shown.new.stream.ethernet c.take_shown.new.stream.gathered c.take_shown.new.outputs paused.0,
+      c.in-Ok-More.ensures.fed,
+      feeds.some,
+      ap fed feeds.fed,
+      length-append c.take_shown.new.stream.feed.reader.pending feeds.piece,
+    )
 
 pub returns-in-Ok-false-clause-stopped : goal.returns-in-Ok-false-clause-stopped
 returns-in-Ok-false-clause-stopped g c =

@@ -1,7 +1,8 @@
 use Rattle.std.proofs.Common.{◌≡◌, ◌+◌, ◌-◌, length}
-use Rattle.ioam_pcap.specs.Reader.{fed}
+use Rattle.ioam_outputs.specs.Told.{GathersFew}
+use Rattle.ioam_pcap.specs.Reader.{fed, most_size, most_start}
 use Rattle.ioam_run.specs.Run.{most_packets}
-use Rattle.ioam_run.specs.Streams.{IsStreaming, most_start, most_size}
+use Rattle.ioam_run.specs.Streams.{IsStreaming}
 use Rattle.ioam_run.proofs.stream.read_on.Given as goal
 
 -- the outputs were told the texts of the records that were given
@@ -9,6 +10,7 @@ abbrev pub invariant-pieces : goal.invariant-pieces
 invariant-pieces g l = record {
   streams : IsStreaming g.G.Gather.gathers g.G.Gather.count g.D.Desk.tells g.start (g.D.Desk.reading l.desk) (g.D.Desk.writing l.desk) l.stream l.outputs;
   width : length l.outputs ≡ g.G.Gather.width;
+  waiting : GathersFew l.outputs;
   room : length l.piece ≡ 65536;
   inputs : (g.D.Desk.reading l.desk).side ≡ (g.D.Desk.reading l.initial.desk).side;
   side : (g.D.Desk.writing l.desk).side ≡ (g.D.Desk.writing l.initial.desk).side;

@@ -1,7 +1,9 @@
-use Rattle.std.proofs.Common.{arith}
+use Rattle.std.proofs.Common.{List, sym, subst, arith}
 use Rattle.std.proofs.lemmas.Result.{err_from_is_err_and}
+use Rattle.ioam_outputs.specs.Told.{GathersFew}
+use Rattle.ioam_outputs.specs.declared.output.Output.{Output}
 use Rattle.ioam_outputs.proofs.ToldLaws.{AreTold-open}
-use Rattle.ioam_run.proofs.HaltsLaws.{Streams-sticks, Streams-fronts, Pauses-step}
+use Rattle.ioam_run.proofs.HaltsLaws.{Streams-sticks, Streams-fronts, Steps-still, Pauses-step}
 use Rattle.ioam_run.proofs.stream.take_shown.Goals as goal
 
 pub returns-in-Ok-Some-clause-paused : goal.returns-in-Ok-Some-clause-paused
@@ -9,6 +11,13 @@ returns-in-Ok-Some-clause-paused g c =
     Pauses-step g.G.Gather.gathers g.G.Gather.count g.D.Desk.tells g.start
     (g.D.Desk.reading c.records.desk) (g.D.Desk.writing c.records.desk) _ c.step.new.outputs c.records.stream.feed.reader c.records.stream.ethernet c.records.stream.gathered c.records.outputs _
     c.records.invariant.streams (rw c.in-Ok-Some.field-0-is at c.in-Ok-Some.ensures.stepped)
+
+pub returns-in-Ok-Some-clause-waiting : goal.returns-in-Ok-Some-clause-waiting
+returns-in-Ok-Some-clause-waiting g c =
+    subst (λ (outputs : List Output). GathersFew outputs)
+    (sym (Steps-still g.G.Gather.gathers g.G.Gather.count g.D.Desk.tells g.start c.records.stream.feed.reader c.step.new.reader c.records.stream.ethernet c.step.new.ethernet
+    c.records.stream.gathered c.step.new.gathered c.records.outputs c.step.new.outputs _ (rw c.in-Ok-Some.field-0-is at c.in-Ok-Some.ensures.stepped)))
+    c.records.invariant.waiting
 
 pub returns-in-Err-clause-sticks : goal.returns-in-Err-clause-sticks
 returns-in-Err-clause-sticks g c =

@@ -1,4 +1,5 @@
 use Rattle.std.proofs.Common.{◌≡◌, length}
+use Rattle.ioam_outputs.specs.Told.{GathersFew}
 use Rattle.ioam_pcap.specs.Reader.{fed}
 use Rattle.ioam_run.specs.Streams.{IsStreaming}
 use Rattle.ioam_run.proofs.stream.take_shown.Given as goal
@@ -8,6 +9,7 @@ abbrev pub invariant-records : goal.invariant-records
 invariant-records g l = record {
   streams : IsStreaming g.G.Gather.gathers g.G.Gather.count g.D.Desk.tells g.start (g.D.Desk.reading l.desk) (g.D.Desk.writing l.desk) l.stream l.outputs;
   width : length l.outputs ≡ g.G.Gather.width;
+  waiting : GathersFew l.outputs;
   inputs : g.D.Desk.reading l.desk ≡ g.D.Desk.reading l.initial.desk;
   side : (g.D.Desk.writing l.desk).side ≡ (g.D.Desk.writing l.initial.desk).side;
   fed : fed l.stream.feed.reader ≡ fed l.initial.stream.feed.reader;

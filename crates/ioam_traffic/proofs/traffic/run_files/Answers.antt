@@ -1,6 +1,7 @@
-use Rattle.std.proofs.Common.{◌≡◌, ◌+◌, ◌++◌, List, length, rules, ap, sym, ◌∙◌, inl, inr, arith}
+use Rattle.std.proofs.Common.{◌≡◌, ◌+◌, ◌++◌, List, length, rules, ap, sym, ◌∙◌, subst, inl, inr, arith}
 use Rattle.ioam_desk.specs.Desk.{Reading, Writing, Side}
 use Rattle.ioam_outputs.specs.declared.output.Output.{Output}
+use Rattle.ioam_outputs.specs.Told.{GathersNothing}
 use Rattle.ioam_outputs.proofs.ToldLaws.{told_names}
 use Rattle.ioam_merge.specs.Merging.{slot_of}
 use Rattle.ioam_traffic.specs.Traffic.{Files, course_with}
@@ -39,10 +40,13 @@ run_open-requires g c κs within =
             c.requires.1.1.0 ∙ sym (known_sized g.files ins outs reading writing c.requires.1.0),
             (
               c.requires.1.1.1.0,
-              ap (λ (o : List Output). length o) c.deref_mut.ensures.value
-                  ∙ told_names g.D.Desk.tells (g.D.Desk.writing c.open_outputs.new.desk) (g.D.Desk.writing c.open_merge.new.desk).side.slots
-                  outs c.in-Ok-open_outputs.outputs.items _ told
-                  ∙ c.requires.1.1.1.1.0,
+              (
+                ap (λ (o : List Output). length o) c.deref_mut.ensures.value
+                    ∙ told_names g.D.Desk.tells (g.D.Desk.writing c.open_outputs.new.desk) (g.D.Desk.writing c.open_merge.new.desk).side.slots
+                    outs c.in-Ok-open_outputs.outputs.items _ told
+                    ∙ c.requires.1.1.1.1.0,
+                subst (λ (o : List Output). GathersNothing o) (sym c.deref_mut.ensures.value) c.in-Ok-open_outputs.ensures.nothing,
+              ),
             ),
           ),
         ),

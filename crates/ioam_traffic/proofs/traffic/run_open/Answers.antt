@@ -4,23 +4,34 @@ use Rattle.ioam_desk.specs.Desk.{Reading, Side}
 use Rattle.ioam_merge.specs.Merging.{slot_of}
 use Rattle.ioam_traffic.specs.Running.{Ends, IsBroken}
 use Rattle.ioam_traffic.specs.Traffic.{course_with}
+use Rattle.ioam_outputs.proofs.ToldLaws.{Adds-few}
 use Rattle.ioam_traffic.proofs.BeginLaws.{Fronts-begin, Running-begin}
+use Rattle.ioam_traffic.proofs.FrontsLaws.{begin-few}
 use Rattle.ioam_traffic.proofs.StopsLaws.{Ends-written, Stops-fronts, Stops-open}
 use Rattle.ioam_traffic.proofs.traffic.run_open.Goals as goal
 
 pub returns-in_default-clause-ends : goal.returns-in_default-clause-ends
 returns-in_default-clause-ends g c =
     Fronts-begin g.D.Desk.tells c.args.domain.now c.args.ports.now g.files (g.D.Desk.reading c.args.desk.now) c.args.merge c.requires.1.0
-    (g.D.Desk.writing c.args.desk.now) c.requires.1.1.0.0 c.args.outputs.now c.requires.1.1.0.1 c.requires.1.1.1.1.1
+    (g.D.Desk.writing c.args.desk.now) c.requires.1.1.0.0 c.args.outputs.now c.requires.1.1.0.1 c.requires.1.1.1.1.1.0
 
 pub carry_on-halt-requires : goal.carry_on-halt-requires
 carry_on-halt-requires g c κs within = (
   search rules,
   (
     Running-begin g.D.Desk.tells c.args.domain.now c.args.ports.now g.files (g.D.Desk.reading c.args.desk.now) c.args.merge c.requires.1.0
-        (g.D.Desk.writing c.args.desk.now) c.requires.1.1.0.0 c.args.outputs.now c.requires.1.1.0.1 c.requires.1.1.1.1.1
+        (g.D.Desk.writing c.args.desk.now) c.requires.1.1.0.0 c.args.outputs.now c.requires.1.1.0.1 c.requires.1.1.1.1.1.0
         c.in-Ok.gathered c.begin.new.outputs c.in-Ok.ensures.adds c.in-Ok.ensures.gathers,
-    (c.requires.1.1.1.0, (c.requires.1.1.1.1.0, omega (arith, c.requires.1.1.1.1.1, c.begin.auto.outputs))),
+    (
+      c.requires.1.1.1.0,
+      (
+        c.requires.1.1.1.1.0,
+        (
+          omega (arith, c.requires.1.1.1.1.1.0, c.begin.auto.outputs),
+          Adds-few c.args.outputs.now c.begin.new.outputs _ c.requires.1.1.1.1.1.1 c.in-Ok.ensures.adds (begin-few c.args.domain.now),
+        ),
+      ),
+    ),
   ),
 )
 

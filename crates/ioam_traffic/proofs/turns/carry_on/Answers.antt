@@ -8,10 +8,12 @@ use Rattle.ioam_traffic.proofs.StopsLaws.{Stops-since}
 use Rattle.ioam_traffic.proofs.turns.carry_on.Goals as goal
 
 pub turns-init : goal.turns-init
-turns-init g c = record { running = c.requires.1.0; width = c.requires.1.1.1.1; inputs = refl; kept = λ k lt. refl; side = refl }
+turns-init g c = record { running = c.requires.1.0; width = c.requires.1.1.1.1.0; waiting = c.requires.1.1.1.1.1; inputs = refl; kept = λ k lt. refl; side = refl }
 
 pub turn-requires : goal.turn-requires
-turn-requires g c = (g.files.lanes, c.turns.invariant.running.taken, c.turns.invariant.running.are)
+turn-requires g c =
+    let running = c.turns.invariant.running in
+    (g.files.lanes, running.taken, running.are, omega (arith, running.few, c.args.domain.now.packets_most))
 
 pub returns-in-Ok-Over-clause-stops : goal.returns-in-Ok-Over-clause-stops
 returns-in-Ok-Over-clause-stops g c =
@@ -72,7 +74,7 @@ pass_on-requires g c κs within =
         Running-coming g.D.Desk.tells (course_with c.args.domain.now c.args.ports.now g.files) (g.D.Desk.reading c.turns.desk)
             (g.D.Desk.writing c.turns.desk) (g.D.Desk.writing c.turn.new.desk) c.turns.progress c.turns.outputs running c.in-Ok-Next.ensures.outputs
             (g.D.Desk.reading c.turn.new.desk) c.turn.new.self c.in-Ok-Next.place _ comes,
-        (c.requires.1.1.0, (c.requires.1.1.1.0, c.turns.invariant.width)),
+        (c.requires.1.1.0, (c.requires.1.1.1.0, (c.turns.invariant.width, c.turns.invariant.waiting))),
       ),
     )
 
@@ -83,6 +85,7 @@ pub turns-preserved : goal.turns-preserved
 turns-preserved g c = record {
   running = c.in-Ok.ensures.runs;
   width = omega (arith, c.turns.invariant.width, c.pass_on.auto.outputs);
+  waiting = c.in-Ok.ensures.waiting;
   inputs = ap (λ (r : Reading). r.side) c.in-Ok.ensures.inputs ∙ c.in-Ok-Next.ensures.same ∙ c.turns.invariant.inputs;
   kept = λ k lt. ap (λ (r : Reading). slot_of r k) c.in-Ok.ensures.inputs
       ∙ c.in-Ok-Next.ensures.below g.files.lanes c.turns.invariant.running.taken c.turns.invariant.running.are k lt ∙ c.turns.invariant.kept k lt;

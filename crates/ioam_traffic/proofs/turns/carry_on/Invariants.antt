@@ -1,6 +1,7 @@
 use Rattle.std.proofs.Common.{◌≡◌, ◌+◌, ◌-◌, length}
 use Rattle.ioam_forward.specs.Forwarding.{taken}
 use Rattle.ioam_merge.specs.Merging.{EndsKept}
+use Rattle.ioam_outputs.specs.Told.{GathersFew}
 use Rattle.ioam_topo.specs.Domain.{ports as ports_of}
 use Rattle.ioam_traffic.specs.Running.{Running}
 use Rattle.ioam_traffic.specs.Traffic.{course_with}
@@ -11,6 +12,7 @@ abbrev pub invariant-turns : goal.invariant-turns
 invariant-turns g l = record {
   running : Running g.D.Desk.tells (course_with l.initial.domain l.initial.ports g.files) (g.D.Desk.reading l.desk) (g.D.Desk.writing l.desk) l.progress l.outputs;
   width : length l.outputs ≡ length (ports_of l.initial.domain) + 2;
+  waiting : GathersFew l.outputs;
   inputs : (g.D.Desk.reading l.desk).side ≡ (g.D.Desk.reading l.initial.desk).side;
   kept : EndsKept g.files.lanes.base (g.D.Desk.reading l.initial.desk) (g.D.Desk.reading l.desk);
   side : (g.D.Desk.writing l.desk).side ≡ (g.D.Desk.writing l.initial.desk).side;

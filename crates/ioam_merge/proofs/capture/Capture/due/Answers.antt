@@ -26,3 +26,10 @@ returns-in-None-clause-stands c = λ octets given stands linked.
     let (stream, shows) = Streams-total c.args.self.now.feed.reader octets given c.args.self.now.ended stands in
     let head = c.take_head.ensures.head octets given stands (c.in_default.ensures.due octets given stream stands shows) in
     (head.0, head.2)
+
+pub returns-in-None-clause-few : goal.returns-in-None-clause-few
+returns-in-None-clause-few c = λ octets given stands un.
+    let (stream, shows) = Streams-total c.args.self.now.feed.reader octets given c.args.self.now.ended stands in
+    let head = c.take_head.ensures.head octets given stands (c.in_default.ensures.due octets given stream stands shows) in
+    let P : Bool → Type 0 = λ b. Streams octets b given stream in
+    absurd (head.1 (c.in-None.ensures.due octets given stream head.0 (subst P (sym c.take_head.ensures.ended) shows)).1.0)

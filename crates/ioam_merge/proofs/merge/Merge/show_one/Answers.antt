@@ -2,12 +2,12 @@ use Rattle.std.proofs.Common.{◌≡◌, ◌<◌, ◌∙◌, Some, refl, arith, 
 use Rattle.std.specs.Prelude.{slice_get}
 use Rattle.std.proofs.lemmas.Option.{slice_get_read}
 use Rattle.ioam_pcap.specs.declared.turns.Due.TheVariants.{More}
-use Rattle.ioam_merge.proofs.ShowLaws.{Merging-kept, Merging-open, Merging-sized, Shows-one, Shows-fault, Known-one, kept_room}
+use Rattle.ioam_merge.proofs.ShowLaws.{Merging-kept, Merging-lane, Merging-sized, Shows-one, Shows-fault, Known-one, kept_room}
 use Rattle.ioam_merge.proofs.merge.Merge.show_one.Goals as goal
 
 pub index-requires : goal.index-requires
 index-requires g c =
-    let (start, taken, merging) = c.requires.merging in
+    let (start, taken, merging, many) = c.requires.merging in
     omega (
       arith,
       c.requires.inside,
@@ -29,13 +29,13 @@ returns-in_default-clause-shown g c = λ start taken known merging.
     let is : c.index.result.now ≡ More → ⊥ = search rules in
     (merging, Known-one c.args.self.now c.args.place c.index.result.now known there is)
 
-pub show-requires-clause-open : goal.show-requires-clause-open
-show-requires-clause-open g c =
-    let (start, taken, merging) = c.requires.merging in
+pub show-requires-clause-lane : goal.show-requires-clause-lane
+show-requires-clause-lane g c =
+    let (start, taken, merging, many) = c.requires.merging in
     let inside : c.args.place < length c.args.self.now.captures.items = omega (arith, c.requires.inside, c.args.self.now.captures.ok.0) in
     let there : slice_get c.args.self.now.captures.items c.args.place ≡ Some c.index_mut.result.now =
     slice_get_read c.args.self.now.captures.items (length c.args.self.now.captures.items) c.args.place c.index_mut.result.now refl inside c.index_mut.ensures.value in
-    Merging-open g.D.Desk.tells start taken (g.D.Desk.reading c.args.desk.now) (g.D.Desk.reading c.args.desk.now) c.args.self.now merging c.args.place c.index_mut.result.now there
+    Merging-lane g.D.Desk.tells start taken (g.D.Desk.reading c.args.desk.now) (g.D.Desk.reading c.args.desk.now) c.args.self.now merging many c.args.place c.index_mut.result.now there
 
 pub returns-in-Ok-clause-shown : goal.returns-in-Ok-clause-shown
 returns-in-Ok-clause-shown g c = λ start taken known merging.

@@ -4,7 +4,7 @@ use Rattle.ioam_pcap.specs.Reads.{HeadFault, EntryFault, IsEntryCut, FaultAt, Cu
 use Rattle.ioam_pcap.specs.Form.{HasHead}
 use Rattle.ioam_pcap.specs.Entries.{Entry, IsWhole, captured, entry_at}
 use Rattle.ioam_pcap.specs.Reader.{Stands}
-use Rattle.ioam_pcap.proofs.StandsLaws.{cut_told, fault_told, rest_of_buffer, octets_of_record, moved_by, Stands-head, Stands-step, EntryAt-step, length_left, length_of_record, entry_by}
+use Rattle.ioam_pcap.proofs.StandsLaws.{cut_told, fault_told, rest_of_buffer, octets_of_record, moved_by, Stands-head, Stands-step, Waits-few, EntryAt-step, length_left, length_of_record, entry_by}
 use Rattle.ioam_pcap.proofs.reader.CaptureReader.next.Goals as goal
 
 pub returns-in-Whole : goal.returns-in-Whole
@@ -89,7 +89,7 @@ returns-in-Cut-entry_step c =
     let pending = rest_of_buffer _ _ c.self.inside.taken c.deref.ensures.value ∙ ap (λ r. r.pending) c.self.view_is in
     let Q : List ℕ → Type 0 = λ p. IsEntryCut c.in-Some.form p 0 in
     let cut : CutAt old.pending old.form 0 = rw form (subst Q pending c.in-Cut-entry_step.ensures.tells) in
-    ((refl, λ _. tt, ((c.self.view_is, cut), λ octets entries stands. cut_told old _ c.self.view_is octets entries stands cut)), tt)
+    ((refl, λ _. tt, ((c.self.view_is, cut, Waits-few old cut), λ octets entries stands. cut_told old _ c.self.view_is octets entries stands cut)), tt)
 
 pub returns-in-Bad-entry_step : goal.returns-in-Bad-entry_step
 returns-in-Bad-entry_step c =

@@ -1,4 +1,4 @@
-use Rattle.std.proofs.Common.{ℕ, refl, ap}
+use Rattle.std.proofs.Common.{ℕ, refl, ap, arith}
 use Rattle.ioam_merge.specs.Merging.{Merging, Comes}
 use Rattle.ioam_merge.specs.declared.capture.Capture.{Capture}
 use Rattle.ioam_merge.proofs.TakeLaws.{Comes-there, Comes-packet, Comes-take}
@@ -38,7 +38,7 @@ returns-clause-runs c = OnOk-map c.take.result _ _ c.take.ensures.gathers
     let there = Comes-there tells files.lanes coming.taken inputs c.args.self.now.merge c.args.place time comes before c.index_mut-capture.ensures.value in
     let after : Capture = record { feed = record { slot = before.feed.slot; reader = c.next.follows.lender-at-none }; link = before.link; ended = before.ended } in
     let taken_so = Comes-take tells files.lanes coming.taken inputs c.args.self.now.merge c.args.place time comes before after there (entry_of c.in-Packet.packet)
-    (λ octets given stands. let t = told.1 octets given stands in (t.0, t.1)) refl refl refl (ap link_by told.0.0)
+    (λ octets given stands. let t = told.1 octets given stands in (t.0, t.1)) refl refl refl (ap link_by told.0.0) (omega (arith, told.0.3))
     _ refl refl refl in
     Runs-take tells (course_with c.args.domain.now c.args.ports.now files)
     (λ arrivals. (time : ℕ) × Comes tells files.lanes inputs c.args.self.now.merge arrivals c.args.place time)
