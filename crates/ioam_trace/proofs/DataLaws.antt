@@ -1,6 +1,6 @@
 -- Laws of the octets of a trace that nodes filled.
 use Rattle.std.proofs.Common.{◌≡◌, ℕ, zero, suc, ◌+◌, ◌*◌, ◌-◌, ◌/◌, ◌<◌, ◌≤◌, Bool, true, false, cond, List, [], ◌∷◌, ◌++◌, length, take, drop, reverse, replicate, append_assoc, arith, refl, sym, ap, ◌∙◌, subst, None, Result, Ok, Err, inl, inr}
-use Rattle.std.specs.Prelude.{IfSome, nat_le, All, if◌then◌else◌}
+use Rattle.std.specs.Prelude.{IfSome, OnOk, is_ok, nat_le, All, if◌then◌else◌}
 use Rattle.std.specs.List.{concat}
 use Rattle.std.proofs.lemmas.List.{length-append, length-replicate, reverse-append, take_at, drop_at, replicate-append-replicate, append-nil, take-replicate}
 use Rattle.std.proofs.lemmas.List.Folds.{concat-append}
@@ -397,3 +397,11 @@ length-trace_data namespace kind capacity es holds =
     ap length (trace_data-is namespace kind capacity es)
     ∙ length_is namespace kind capacity kept holds.namespace_below holds.kind_below below can fits all (is_over capacity es)
     ∙ omega (arith, fits)
+
+-- how many octets a header and free words are that were appended
+pub appended_size : {E : Type 0} (r : Result (Unit {0}) E) (old new head : List ℕ) (count : ℕ) → length head ≡ 8
+    → new ≡ (if is_ok r then old ++ (head ++ replicate (4 * count) 0) else old) → OnOk r (length new ≡ length old + (8 + 4 * count))
+appended_size (Ok u) old new head count long made =
+    let free : List ℕ = replicate (4 * count) 0 in
+    ap length made ∙ omega (arith, length-append old (head ++ free), length-append head free, length-replicate {A = ℕ} (4 * count) 0)
+appended_size (Err e) old new head count long made = tt

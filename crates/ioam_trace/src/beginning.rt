@@ -1,4 +1,4 @@
-ghost use Rattle.std.specs.Prelude.{◌≡◌, ℕ, ◌+◌, ◌*◌, ◌<◌, ◌≤◌, [], ◌++◌, true, replicate, OnOk, OnErr, is_ok, if◌then◌else◌};
+ghost use Rattle.std.specs.Prelude.{◌≡◌, ℕ, ◌+◌, ◌*◌, ◌<◌, ◌≤◌, [], ◌++◌, length, true, replicate, OnOk, OnErr, is_ok, if◌then◌else◌};
 ghost use Rattle.ioam_data.specs.Kind.{is_entry_type};
 ghost use Rattle.ioam_trace.specs.Data.{head_octets, trace_data};
 
@@ -17,7 +17,7 @@ fn put_empty(head: &TraceHead, words: u8, out: &mut Vec<u8>) -> Result<(), NoMem
 {
     // a header and 61 words, the most that a capacity may be
     let mut octets = [0; 252];
-    put_at(&mut octets, 0, &head.octets());
+    put_at(&mut octets, 0, head.in_octets().octets());
     append(out, &octets[..8 + 4 * usize::from(words)])
 }
 
@@ -35,6 +35,8 @@ pub fn put_trace(
     requires below { capacity ≤ 61 }
     ensures ok { OnOk result (out.new.items ≡ out.old.items ++ trace_data namespace.0 kind capacity []) }
     ensures err { OnErr result (out.new.items ≡ out.old.items) }
+    // A header of 8 octets, and 4 for each free word.
+    ensures size { OnOk result (length out.new.items ≡ length out.old.items + (8 + 4 * capacity)) }
 {
     let head = TraceHead {
         namespace,

@@ -8,7 +8,7 @@ ghost use Rattle.ioam_trace.specs.Filling.{Filling, IsOpen, IsSuited, words_to_a
 
 use crate::filled::Filled;
 use crate::head::LengthWord;
-use ioam_base::octets::{put_at, u16_at};
+use ioam_base::octets::{put_at, put_u16_at, u16_at};
 use ioam_data::{ElementBuf, TraceType, View, element};
 
 // Whether Overflow is clear.
@@ -37,7 +37,7 @@ fn set_overflow(octets: &mut [u8])
     ensures { octets.new ≡ with_lengths octets.old (u16_at octets.old 2 + 1024) }
 {
     let word = u16_at(octets, 2) + 1024;
-    put_at(octets, 2, &word.to_be_bytes());
+    put_u16_at(octets, 2, word);
 }
 
 // Lowers RemainingLen.
@@ -47,7 +47,7 @@ fn lower_remaining(octets: &mut [u8], words: u8)
     ensures { octets.new ≡ less_remaining octets.old words }
 {
     let word = u16_at(octets, 2) - u16::from(words);
-    put_at(octets, 2, &word.to_be_bytes());
+    put_u16_at(octets, 2, word);
 }
 
 // Writes an element of so many words into the last of the free words.

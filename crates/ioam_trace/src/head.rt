@@ -1,5 +1,6 @@
 ghost use Rattle.std.specs.Prelude.{◌≡◌, ℕ, ◌+◌, ◌*◌, ◌/◌, ◌%◌, ◌<◌, ◌≤◌, ◌↔◌, IsTrue, length};
 
+use ioam_base::buffer::Buffer;
 use ioam_base::octets::u16_at;
 use ioam_data::{Namespace, TraceType};
 
@@ -79,25 +80,17 @@ impl TraceHead {
     }
 
     // The eight octets of the header.
-    pub(crate) fn octets(&self) -> [u8; 8]
+    pub(crate) fn in_octets(&self) -> Buffer
         ensures { result ≡ head_octets self.now }
     {
         let word = u16::from(self.node_len) * 2048
             + u16::from(self.flags) * 128
             + u16::from(self.remaining);
-        let [namespace_high, namespace_low] = self.namespace.0.to_be_bytes();
-        let [word_high, word_low] = word.to_be_bytes();
-        let [high, middle, low, reserved] = last_word(self.kind, self.reserved).to_be_bytes();
-        [
-            namespace_high,
-            namespace_low,
-            word_high,
-            word_low,
-            high,
-            middle,
-            low,
-            reserved,
-        ]
+        let mut buffer = Buffer::new();
+        buffer.two(self.namespace.0);
+        buffer.two(word);
+        buffer.four(last_word(self.kind, self.reserved));
+        buffer
     }
 }
 

@@ -44,7 +44,7 @@ impl<'a> Incremental<'a> {
         ensures err { OnErr result (out.new.items ≡ out.old.items) }
     {
         let before = out.len();
-        append(out, &self.head.octets())?;
+        append(out, self.head.in_octets().octets())?;
         match append(out, self.area) {
             Ok(()) => Ok(()),
             Err(error) => {
