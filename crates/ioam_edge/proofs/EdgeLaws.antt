@@ -60,7 +60,7 @@ four_size : (field : Option ℕ) (asked : Bool) → is_some field ≡ asked → 
 four_size None asked is = ap (λ b. if b then 4 else 0) is
 four_size (Some n) asked is = ap (λ b. if b then 4 else 0) is
 
-length-edge_octets : (edge : Edge) → HasItsFields edge → length (edge_octets edge) ≡ 4 + fields_size edge.kind
+pub length-edge_octets : (edge : Edge) → HasItsFields edge → length (edge_octets edge) ≡ 4 + fields_size edge.kind
 length-edge_octets edge has =
     let a = eight_octets_if edge.seq64 in
     let b = four_octets_if edge.seq32 in

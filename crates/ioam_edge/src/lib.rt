@@ -13,5 +13,5 @@ mod window;
 pub use edge::{Edge, EdgeFault};
 pub use note::{Note, Tally};
 pub use putting::put;
-pub use reading::read;
+pub use reading::{asks, data_size, read};
 pub use receiver::Receiver;

@@ -1,4 +1,4 @@
-ghost use Rattle.std.specs.Prelude.{◌≡◌, ◌≤◌, length};
+ghost use Rattle.std.specs.Prelude.{◌≡◌, ◌+◌, ◌≤◌, length};
 ghost use Rattle.ioam_edge.specs.Edge.{Begins, Reads, ReadsAgain, asks, fields_size, wanted};
 
 use crate::cursor::Cursor;
@@ -6,9 +6,9 @@ use crate::edge::{Edge, EdgeFault};
 use ioam_base::octets::u16_at;
 use ioam_data::Namespace;
 
-// Whether a type asks for the field of a bit, 0 to 15 and the most significant first.
+/// Whether a type asks for the field of a bit, 0 to 15 and the most significant first.
 #[tactic(auto, unfolding(crate::specs::Edge::asks))]
-pub(crate) fn asks(kind: u16, bit: u8) -> bool
+pub fn asks(kind: u16, bit: u8) -> bool
     requires { bit ≤ 15 }
     ensures { result ≡ asks kind bit }
 {
@@ -27,6 +27,15 @@ fn fields_size(kind: u16) -> usize
     sequence + short_sequence + seconds + fraction
 }
 
+/// The octets of the data of a type, those for bits that are not known left out: the namespace, the
+/// type, and the fields that it asks for.
+pub fn data_size(kind: u16) -> usize
+    ensures value { result ≡ 4 + fields_size kind }
+    ensures small { result ≤ 24 }
+{
+    4 + fields_size(kind)
+}
+
 // The octets that are wanted, as far as these tell.
 fn wanted(octets: &[u8]) -> usize
     ensures value { result ≡ wanted octets.now }
@@ -35,7 +44,7 @@ fn wanted(octets: &[u8]) -> usize
     if octets.len() < 4 {
         return 4;
     }
-    4 + fields_size(u16_at(octets, 2))
+    data_size(u16_at(octets, 2))
 }
 
 // The value in front of octets that have it whole.

@@ -1,2 +1,5 @@
+pub mod EncloseLaws
 pub mod InnerLaws
+pub mod LayLaws
+pub mod SizeLaws
 pub mod WireLaws

@@ -1,3 +1,5 @@
+pub mod Enclosed
 pub mod Inner
 pub mod Limits
+pub mod Size
 pub mod Wire

@@ -1,0 +1,177 @@
+//! A packet put into a tunnel.
+ghost use Rattle.std.specs.Prelude.{◌≡◌, ◌+◌, ◌-◌, ◌<◌, ◌≤◌, ◌==◌, IfSome, is_some, if◌then◌else◌, [], ◌∷◌, ◌++◌, length, slice_get, slice_index, IfOk, OnOk};
+ghost use Rattle.ioam_ip.specs.Packet.{IsPacket};
+ghost use Rattle.ioam_ip.specs.Chain.{IsSound};
+ghost use Rattle.ioam_ip.specs.Hop.{HopFits};
+ghost use Rattle.ioam_ip.specs.Lowered.{lowered};
+ghost use Rattle.ioam_topo.specs.Domain.{flows, nodes};
+ghost use Rattle.ioam_topo.specs.Sound.{IsFlow};
+ghost use Rattle.ioam_tunnel.specs.Enclosed.{MayEnclose, class_of, tunnel_between, tunnel_of, address_at};
+ghost use Rattle.ioam_tunnel.specs.Size.{outer_size};
+ghost use Rattle.ioam_tunnel.specs.Wire.{IsTunnel, no_elements, wire, outer_start, addresses};
+
+use crate::laying::{lay_hop, lay_targets};
+use crate::numbers::Numbers;
+use ioam_base::memory::NoMemory;
+use ioam_base::text::append;
+use ioam_ip::{Header, header, put_header};
+use ioam_topo::{Domain, Flow, FlowId};
+use std::alloc::Global;
+
+/// The values that name Hop-by-Hop Options, a nested IPv6 header and Destination Options.
+const HOP_BY_HOP: u8 = 0;
+
+const NESTED: u8 = 41;
+
+const DESTINATION: u8 = 60;
+
+// The value in front of a header that may be absent.
+fn value_in_front(value: u8, head: &[u8], next: u8) -> u8
+    ensures { result ≡ (if length head.now == 0 then next else value) }
+{
+    if head.is_empty() { next } else { value }
+}
+
+// Appends a packet with its hop limit one less.
+fn append_lowered(out: &mut Vec<u8>, packet: &[u8]) -> Result<(), NoMemory>
+    requires long { 8 ≤ length packet.now }
+    requires hops { 1 ≤ slice_index packet.now 7 }
+    ensures { OnOk result (out.new.items ≡ out.old.items ++ lowered 1 packet.now) }
+{
+    append(out, &packet[..7])?;
+    append(out, &[packet[7] - 1])?;
+    append(out, &packet[8..])
+}
+
+// The parts joined.
+fn join(
+    alloc: Global,
+    head: &[u8],
+    hop: &[u8],
+    targets: &[u8],
+    packet: &[u8],
+) -> Result<Vec<u8>, NoMemory>
+    requires long { 8 ≤ length packet.now }
+    requires hops { 1 ≤ slice_index packet.now 7 }
+    ensures { IfOk result (λ out. out.items ≡ head.now ++ (hop.now ++ (targets.now ++ lowered 1 packet.now))) }
+{
+    let mut out = Vec::new(alloc);
+    append(&mut out, head)?;
+    append(&mut out, hop)?;
+    append(&mut out, targets)?;
+    append_lowered(&mut out, packet)?;
+    Ok(out)
+}
+
+// The traffic class of a packet.
+fn class_of(packet: &[u8]) -> u8
+    requires { IsPacket packet.now }
+    ensures { result ≡ class_of packet.now }
+{
+    match header(packet) {
+        Some(read) => read.class,
+        None => unreachable!(),
+    }
+}
+
+// The addresses of a tunnel's ends.
+#[derive(Clone, Copy)]
+struct Ends {
+    source: u128,
+    target: u128,
+}
+
+// What an outer header has besides its flow's label and its addresses.
+#[derive(Clone, Copy)]
+struct Fields {
+    class: u8,
+    payload: u16,
+    next: u8,
+    hops: u8,
+}
+
+// The outer header.
+fn outer(flow: &Flow, ends: Ends, fields: Fields) -> [u8; 40]
+    requires { IsFlow flow.now }
+    ensures octets { result ≡ outer_start fields.class flow.now.label fields.payload fields.next fields.hops ++ addresses ends.source ends.target }
+    ensures hops { fields.hops < 256 }
+{
+    let mut head = [0; 40];
+    let header = Header {
+        class: fields.class,
+        label: flow.label,
+        payload: fields.payload,
+        next: fields.next,
+        hops: fields.hops,
+        source: ends.source,
+        target: ends.target,
+    };
+    put_header(&mut head, &header);
+    head
+}
+
+// A packet of a flow put into the tunnel between two addresses.
+fn enclose_between(
+    alloc: Global,
+    flow: &Flow,
+    ends: Ends,
+    numbers: &Numbers,
+    packet: &[u8],
+) -> Result<Vec<u8>, NoMemory>
+    requires flow { IsFlow flow.now }
+    requires packet { IsPacket packet.now }
+    requires hops { 2 ≤ slice_index packet.now 7 }
+    requires may { MayEnclose flow.now numbers.now packet.now }
+    ensures wire { IfOk result (λ out. out.items ≡ wire (tunnel_between ends.source ends.target flow.now numbers.now packet.now) 0 no_elements) }
+    ensures size { IfOk result (λ out. length out.items ≡ outer_size flow.now (length packet.now) (is_some numbers.now.direct) (is_some numbers.now.limit)) }
+    ensures tunnel { IfOk result (λ out. IsTunnel (tunnel_between ends.source ends.target flow.now numbers.now packet.now)) }
+{
+    let targets = lay_targets(alloc, flow, numbers)?;
+    let next = value_in_front(DESTINATION, targets.as_slice(), NESTED);
+    let hop = lay_hop(alloc, next, flow, numbers.direct)?;
+    let first = value_in_front(HOP_BY_HOP, hop.as_slice(), next);
+    let payload = (hop.len() + targets.len() + packet.len()) as u16;
+    let fields = Fields {
+        class: class_of(packet),
+        payload,
+        next: first,
+        hops: flow.hops,
+    };
+    let head = outer(flow, ends, fields);
+    let out = join(alloc, &head, hop.as_slice(), targets.as_slice(), packet)?;
+    Ok(out)
+}
+
+/// Puts a packet of a flow into the flow's tunnel: the outer packet before any visit, with an IPv6
+/// header, a Hop-by-Hop Options header with the flow's traces, without elements, and direct export
+/// data, a Destination Options header with the encapsulation limit and edge-to-edge data, each
+/// where it has an option, and the packet with its hop limit one less.
+pub fn enclose(
+    alloc: Global,
+    domain: &Domain,
+    flow: FlowId,
+    numbers: &Numbers,
+    packet: &[u8],
+) -> Result<Vec<u8>, NoMemory>
+    requires known { flow.0 < length (flows domain.now) }
+    requires packet { IsPacket packet.now }
+    requires hops { 2 ≤ slice_index packet.now 7 }
+    requires may { IfSome (slice_get (flows domain.now) flow.0) (λ f. MayEnclose f numbers.now packet.now) }
+    ensures wire { IfOk result (λ out. out.items ≡ wire (tunnel_of domain.now flow numbers.now packet.now) 0 no_elements) }
+    ensures size { IfOk result (λ out. IfSome (slice_get (flows domain.now) flow.0)
+        (λ f. length out.items ≡ outer_size f (length packet.now) (is_some numbers.now.direct) (is_some numbers.now.limit))) }
+    ensures tunnel { IfOk result (λ out. IsTunnel (tunnel_of domain.now flow numbers.now packet.now)) }
+    ensures packet { IfOk result (λ out. IsPacket out.items) }
+    ensures sound { IfOk result (λ out. IsSound packet.now → IsSound out.items) }
+    ensures fits { IfOk result (λ out. HopFits out.items) }
+{
+    let found = domain.flow(flow);
+    let entry = domain.node(found.entry);
+    let exit = domain.node(found.exit);
+    let ends = Ends {
+        source: entry.address,
+        target: exit.address,
+    };
+    let out = enclose_between(alloc, found, ends, numbers, packet)?;
+    Ok(out)
+}

@@ -1,0 +1,108 @@
+//! How long an outer packet is.
+ghost use Rattle.std.specs.Prelude.{◌≡◌, ◌≤◌, ◌+◌, ◌∷◌, ◌++◌, List, [], length, map};
+ghost use Rattle.std.specs.List.{All};
+ghost use Rattle.ioam_ip.specs.Sizes.{Sized, options_end, header_size};
+ghost use Rattle.ioam_topo.specs.Sound.{IsFlow};
+ghost use Rattle.ioam_topo.specs.Traces.{IsFlowTrace};
+ghost use Rattle.ioam_tunnel.specs.Size.{trace_size, direct_sizes, limit_sizes, edge_sizes, outer_size};
+
+use crate::bodies::{IOAM, IOAM_CHANGING, LIMIT};
+use ioam_edge::data_size;
+use ioam_ip::{HEADER_OCTETS, padded, size_with};
+use ioam_topo::{Flow, FlowTrace};
+
+// Where the options of traces end.
+fn traces_end(traces: &[FlowTrace]) -> usize
+    requires few { length traces.now ≤ 3 }
+    requires sound { All IsFlowTrace traces.now }
+    ensures value { result ≡ options_end 2 (map trace_size traces.now) }
+    ensures small { result ≤ 779 }
+{
+    let mut end = 2;
+    for trace in traces {
+        end = trace_end(end, trace);
+    }
+    end
+}
+
+// Where the option of a trace ends behind so many octets.
+fn trace_end(size: usize, trace: &FlowTrace) -> usize
+    requires sound { IsFlowTrace trace.now }
+    requires small { size ≤ 779 }
+    ensures value { result ≡ options_end size (trace_size trace.now ∷ []) }
+    ensures small { result ≤ size + 259 }
+{
+    size_with(size, IOAM_CHANGING, 10 + 4 * usize::from(trace.capacity))
+}
+
+// Where the option of direct export ends behind so many octets, if there is one.
+fn direct_end(size: usize, direct: bool) -> usize
+    requires { size ≤ 779 }
+    ensures value { result ≡ options_end size (direct_sizes direct) }
+    ensures small { result ≤ size + 23 }
+{
+    if direct {
+        size_with(size, IOAM, 18)
+    } else {
+        size
+    }
+}
+
+// Where the encapsulation limit ends, if there is one.
+fn limit_end(limit: bool) -> usize
+    ensures value { result ≡ options_end 2 (limit_sizes limit) }
+    ensures small { result ≤ 5 }
+{
+    if limit { size_with(2, LIMIT, 1) } else { 2 }
+}
+
+// Where the option of edge-to-edge data ends behind so many octets, if there is one.
+fn edge_end(size: usize, edge: Option<u16>) -> usize
+    requires { size ≤ 5 }
+    ensures value { result ≡ options_end size (edge_sizes edge) }
+    ensures small { result ≤ size + 31 }
+{
+    match edge {
+        Some(kind) => size_with(size, IOAM, 2 + data_size(kind)),
+        None => size,
+    }
+}
+
+// The size of a header whose options end here: it stands only where it has an option.
+#[tactic(auto, using(crate::proofs::SizeLaws::size_none, crate::proofs::SizeLaws::size_some))]
+fn size_to(end: usize) -> usize
+    requires { end ≤ 1000 }
+    ensures value { (options : List Sized) → end ≡ options_end 2 options → result ≡ header_size options }
+    ensures small { result ≤ end + 7 }
+{
+    if end == 2 { 0 } else { padded(end) }
+}
+
+// The size of the Hop-by-Hop Options header.
+fn hop_size(flow: &Flow, direct: bool) -> usize
+    requires { IsFlow flow.now }
+    ensures value { result ≡ header_size (map trace_size flow.now.traces ++ direct_sizes direct) }
+    ensures small { result ≤ 809 }
+{
+    size_to(direct_end(traces_end(flow.traces()), direct))
+}
+
+// The size of the Destination Options header.
+fn target_size(edge: Option<u16>, limit: bool) -> usize
+    ensures value { result ≡ header_size (limit_sizes limit ++ edge_sizes edge) }
+    ensures small { result ≤ 43 }
+{
+    size_to(edge_end(limit_end(limit), edge))
+}
+
+/// The length of the outer packet around a packet of `inner` octets of a flow, with a direct export
+/// option or without, and with an encapsulation limit or without: exactly that of what
+/// [`crate::enclose`] gives.
+pub fn outer_size(flow: &Flow, inner: usize, direct: bool, limit: bool) -> usize
+    requires flow { IsFlow flow.now }
+    requires short { inner ≤ 65575 }
+    ensures value { result ≡ outer_size flow.now inner direct limit }
+    ensures most { result ≤ inner + 892 }
+{
+    HEADER_OCTETS + hop_size(flow, direct) + target_size(flow.edge, limit) + inner
+}
