@@ -8,7 +8,7 @@ ghost use Rattle.ioam_answer.specs.Outcomes.{IsDone, IsBehindAll};
 ghost use Rattle.ioam_answer.specs.declared.outcome.Outcome.{Outcome};
 ghost use Rattle.ioam_setting.specs.Setting.{IsSetting, Refuses};
 ghost use Rattle.ioam_setting.specs.declared.setting.Refusal.{Refusal};
-ghost use Rattle.ioam_topo.specs.Domain.{ports};
+ghost use Rattle.ioam_topo.specs.Domain.{ports, IsPlain};
 ghost use Rattle.ioam_entries.specs.declared.fault.DomainFault.{DomainFault};
 ghost use Rattle.ioam_domain.specs.Ends.{Ends};
 ghost use Rattle.ioam_domain.specs.Run.{HasCause, Asked, Leaves, AsksApart, AsksIn, AsksAll, AsksOut, OpensNone, AreDrained, IsBounded, IsRefusal, Owes, HaveDiffered, domain_file, readings_file, report_file, exports_file, run_files, run_inputs, run_outputs};
@@ -81,6 +81,7 @@ fn read_words<D: Desk>(alloc: Global, words: &[Name], desk: &mut D) -> Result<Se
     requires { length words.now ≡ 6 }
     ensures read { IfOk result (λ setting. IsTrue D.tells
         → IsSetting (D.writing desk.old) (domain_file words.now) (readings_file words.now) setting.domain setting.readings) }
+    ensures plain { IfOk result (λ setting. IsPlain setting.domain) }
     ensures refused { IfErr result (Refuses (D.writing desk.old) (domain_file words.now) (readings_file words.now) D.tells (D.reading desk.old) (D.reading desk.new)) }
     ensures side { OnOk result ((D.reading desk.new).side ≡ opened_each (D.reading desk.old).side (domain_file words.now ∷ readings_file words.now ∷ [])) }
     ensures ended { OnOk result (IsTrue D.tells → IsTrue ((D.reading desk.new).ended (D.reading desk.old).side.slots)
@@ -111,7 +112,8 @@ fn run_outputs(alloc: Global, words: &[Name], domain: &Domain) -> Result<Vec<Nam
 
 // Runs a domain that was read: its files have to differ.
 fn run_set<D: Desk>(alloc: Global, words: &[Name], domain: &Domain, desk: &mut D) -> Outcome
-    requires { length words.now ≡ 6 }
+    requires sized { length words.now ≡ 6 }
+    requires plain { IsPlain domain.now }
     ensures ends { Ends D.tells words.now domain.now (D.reading desk.old) (D.reading desk.new) (D.writing desk.old) (D.writing desk.new) result }
     ensures asked_in { (D.reading desk.new ≡ D.reading desk.old) ⊎ (AreApart (run_files words.now domain.now)
         × AsksFront (D.reading desk.old).side.asked (D.reading desk.new).side.asked (run_inputs domain.now)) }
@@ -139,6 +141,7 @@ fn run_set<D: Desk>(alloc: Global, words: &[Name], domain: &Domain, desk: &mut D
 fn run_apart<D: Desk>(alloc: Global, words: &[Name], domain: &Domain, desk: &mut D) -> Outcome
     requires sized { length words.now ≡ 6 }
     requires apart { AreApart (run_files words.now domain.now) }
+    requires plain { IsPlain domain.now }
     ensures ends { Ends D.tells words.now domain.now (D.reading desk.old) (D.reading desk.new) (D.writing desk.old) (D.writing desk.new) result }
     ensures asked_in { AsksFront (D.reading desk.old).side.asked (D.reading desk.new).side.asked (run_inputs domain.now) }
     ensures asked_out { AsksFront (D.writing desk.old).side.asked (D.writing desk.new).side.asked (run_outputs words.now domain.now) }

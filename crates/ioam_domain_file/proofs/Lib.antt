@@ -1,3 +1,4 @@
 pub mod TopLaws
 pub mod TelemetryLaws
 pub mod FileLaws
+mod PlainLaws

@@ -51,7 +51,8 @@ flows_hold t nodes flows holds are =
     let Q : List (Result (List Namespace) Why) → Type 0 = λ l. HoldsFlows (node_names t) l (flow_entries t) flows in
     subst Q holds.lists (subst P holds.names are)
 
-none_of_none : (ms : List Members) → length ms ≤ 0 → ms ≡ []
+-- no more than none are none
+pub none_of_none : (ms : List Members) → length ms ≤ 0 → ms ≡ []
 none_of_none [] few = refl
 none_of_none (m ∷ ms) few = absurd (omega (arith, few))
 

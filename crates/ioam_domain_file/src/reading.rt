@@ -1,4 +1,4 @@
-ghost use Rattle.std.specs.Prelude.{◌≡◌, ◌<◌};
+ghost use Rattle.std.specs.Prelude.{◌≡◌, ◌<◌, IfOk};
 ghost use Rattle.toml.specs.View.{table_view};
 ghost use Rattle.ioam_entries.specs.declared.words.Table.TheVariants.{Top};
 ghost use Rattle.ioam_entries.specs.declared.words.Field.TheVariants.{NoKey};
@@ -8,6 +8,7 @@ ghost use Rattle.ioam_places.specs.Places.{node_entries};
 ghost use Rattle.ioam_domain_file.specs.PartsRead.{HoldsTelemetry};
 ghost use Rattle.ioam_domain_file.specs.Top.{telemetry_faults, faults_of};
 ghost use Rattle.ioam_domain_file.specs.File.{IsDomain, IsFileRead};
+ghost use Rattle.ioam_topo.specs.Domain.{IsPlain};
 
 use crate::top::read_own;
 use ioam_entries::{DomainFault, DomainRefused, Field, Table, Why};
@@ -70,6 +71,7 @@ pub fn long_file() -> DomainFault
 /// be answered in place of anything else.
 pub fn read_domain(alloc: Global, octets: &[u8]) -> Result<Domain, DomainRefused>
     ensures file { IsFileRead octets.now result }
+    ensures plain { IfOk result IsPlain }
 {
     if octets.len() > FILE_MOST {
         return Err(DomainRefused::Fault(long_file()));

@@ -1,6 +1,5 @@
 pub mod AddsLaws
 pub mod CleanLaws
-pub mod FlowsLaws
 pub mod OneFateLaws
 pub mod TextsLaws
 mod AnswerLaws

@@ -85,6 +85,7 @@ Forwards-push domain frame fate old new number is has counts frames so_far forwa
           ∙ ap (λ (m : ℕ). said_more (texts_so_far domain forwards.fates) (added_by domain m fate)) count
           ∙ sym (texts-push domain forwards.fates fate);
       sums = subst (StandFor domain new.sums) (sym (map-append way_of forwards.fates (fate ∷ []))) (counts (ways_of forwards.fates) forwards.sums);
+      plain = forwards.plain;
     }
 
 -- what is gathered is whole with the sums
@@ -109,7 +110,7 @@ pub IsOf-push : (domain : Domain) (old new : Forwarding) (visits : List Visit) (
     → IsOf domain old → IsOf domain new × (new.sums.packets ≡ old.sums.packets + 1)
 IsOf-push domain old new visits end counts of =
     let stands = counts of.ways of.stands in (
-      record { ways = of.ways ++ (visits, end) ∷ []; stands = stands },
+      record { ways = of.ways ++ (visits, end) ∷ []; stands = stands; plain = of.plain },
       omega (arith, stands.packets, of.stands.packets, length-append of.ways ((visits, end) ∷ [])),
     )
 

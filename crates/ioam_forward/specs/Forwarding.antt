@@ -5,18 +5,19 @@ use Rattle.ioam_pcap.specs.Text.{IsCaptureOf}
 use Rattle.ioam_plan.specs.declared.itinerary.Visit.{Visit}
 use Rattle.ioam_plan.specs.declared.itinerary.End.{End}
 use Rattle.ioam_report.specs.Sums.{StandFor}
-use Rattle.ioam_topo.specs.Domain.{ports}
+use Rattle.ioam_topo.specs.Domain.{ports, IsPlain}
 use Rattle.ioam_topo.specs.declared.domain.Domain.{Domain}
 use Rattle.ioam_forward.specs.Fate.{Frame, Fate, AreFates}
 use Rattle.ioam_forward.specs.Texts.{texts_of, texts_so_far, ways_of}
 use Rattle.ioam_forward.specs.declared.forwarding.Forwarding.{Forwarding}
 
--- the texts of these arrivals so far, and their sums
+-- the texts of these arrivals so far, and their sums, in a domain without flows
 pub record Forwards (domain : Domain) (frames : List Frame) (texts : List (List ℕ)) (gathered : Forwarding) : Type 0 where
   pub fates : List Fate
   pub are : AreFates domain frames fates
   pub texts_are : texts ≡ texts_so_far domain fates
   pub sums : StandFor domain gathered.sums (ways_of fates)
+  pub plain : IsPlain domain
 
 -- The texts of these arrivals, with the sums. By no port of the domain leaves a packet with an IOAM
 -- option on its chain of headers, or with a chain that isn't whole.
@@ -30,7 +31,8 @@ pub record Forwarded (domain : Domain) (frames : List Frame) (texts : List (List
 abbrev pub taken : Forwarding → ℕ
 taken gathered = gathered.sums.packets
 
--- the sums are those of some arrivals in the domain
+-- the sums are those of some arrivals in the domain, which has no flows
 pub record IsOf (domain : Domain) (gathered : Forwarding) : Type 0 where
   pub ways : List (List Visit × End)
   pub stands : StandFor domain gathered.sums ways
+  pub plain : IsPlain domain

@@ -5,7 +5,7 @@ ghost use Rattle.ioam_outputs.specs.Told.{Adds, said_more};
 ghost use Rattle.ioam_pcap.specs.Entries.{most};
 ghost use Rattle.ioam_pcap.specs.Reader.{entry_of};
 ghost use Rattle.ioam_plan.specs.Inside.{EndsInside};
-ghost use Rattle.ioam_topo.specs.Domain.{ports};
+ghost use Rattle.ioam_topo.specs.Domain.{ports, IsPlain};
 ghost use Rattle.ioam_forward.specs.Fate.{Frame, Fate, HasFate, IsAnswered, packet_of, DropsAlike};
 ghost use Rattle.ioam_forward.specs.Texts.{texts_so_far, added_by, sums_by, heads};
 ghost use Rattle.ioam_forward.specs.Forwarding.{Forwards, Forwarded, IsOf, taken};
@@ -64,13 +64,14 @@ fn put_heads(count: usize, outputs: &mut [Output]) -> Result<(), NoMemory>
 }
 
 impl Forwarding {
-    /// Begins the texts: each port's output gets the head of a capture.
+    /// Begins the texts, in a domain without flows: each port's output gets the head of a capture.
     pub fn begin(
         alloc: Global,
         domain: &Domain,
         outputs: &mut [Output],
     ) -> Result<Forwarding, NoMemory>
-        requires { length outputs.old ≡ length (ports domain.now) + 2 }
+        requires width { length outputs.old ≡ length (ports domain.now) + 2 }
+        requires plain { IsPlain domain.now }
         ensures of { IfOk result (IsOf domain.now) }
         ensures counted { IfOk result (λ gathered. taken gathered ≡ 0) }
         ensures adds { OnOk result (Adds outputs.old outputs.new (texts_so_far domain.now [])) }

@@ -5,6 +5,7 @@ ghost use Rattle.ioam_desk.specs.Asked.{AsksFront};
 ghost use Rattle.ioam_desk.specs.Desk.{SameBut, holds, opened_side, opened_each};
 ghost use Rattle.ioam_desk.specs.Whole.{ReadsWhole, FailsWhole};
 ghost use Rattle.ioam_entries.specs.declared.fault.DomainFault.{DomainFault};
+ghost use Rattle.ioam_topo.specs.Domain.{IsPlain};
 ghost use Rattle.ioam_setting.specs.Reads.{IsDomainRead, AreReadingsRead};
 ghost use Rattle.ioam_setting.specs.Setting.{IsSetting, Refuses};
 ghost use Rattle.ioam_setting.specs.declared.setting.Refusal.{Refusal};
@@ -56,6 +57,7 @@ fn read_file<D: Desk>(
 // Reads the domain file.
 fn read_domain_file<D: Desk>(alloc: Global, desk: &mut D, name: &Name) -> Result<Domain, Refusal>
     ensures read { IsDomainRead D.tells (D.reading desk.old) (D.reading desk.new) (holds (D.writing desk.old) name.now) result }
+    ensures plain { IfOk result IsPlain }
     ensures side { OnOk result ((D.reading desk.new).side ≡ opened_side (D.reading desk.old).side name.now) }
     ensures ended { OnOk result (IsTrue D.tells → IsTrue ((D.reading desk.new).ended (D.reading desk.old).side.slots)) }
     ensures asked { AsksFront (D.reading desk.old).side.asked (D.reading desk.new).side.asked (name.now ∷ []) }
@@ -108,7 +110,7 @@ fn read_readings_file<D: Desk>(
     }
 }
 
-/// Reads the domain file (at most 1 MiB), and then the readings of the domain's nodes (at most
+/// Reads the domain file (at most 1 MiB), of a domain without flows, and then the readings of the domain's nodes (at most
 /// 64 MiB). The readings are opened only once the domain was read.
 pub fn read_setting<D: Desk>(
     alloc: Global,
@@ -118,6 +120,7 @@ pub fn read_setting<D: Desk>(
 ) -> Result<Setting, Refusal>
     ensures read { IfOk result (λ setting. IsTrue D.tells
         → IsSetting (D.writing desk.old) domain.now readings.now setting.domain setting.readings) }
+    ensures plain { IfOk result (λ setting. IsPlain setting.domain) }
     ensures refused { IfErr result (Refuses (D.writing desk.old) domain.now readings.now D.tells (D.reading desk.old) (D.reading desk.new)) }
     ensures side { OnOk result ((D.reading desk.new).side ≡ opened_each (D.reading desk.old).side (domain.now ∷ readings.now ∷ [])) }
     ensures ended { OnOk result (IsTrue D.tells → IsTrue ((D.reading desk.new).ended (D.reading desk.old).side.slots)

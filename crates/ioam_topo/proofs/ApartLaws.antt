@@ -1,5 +1,5 @@
 -- Laws of what no two share.
-use Rattle.std.proofs.Common.{◌≡◌, ◌≢◌, ◌<◌, ℕ, zero, suc, Bool, true, false, nat_eq, ◌&&◌, List, [], ◌∷◌, ◌++◌, map, length, Option, Some, None, slice_get, slice_index_or, String, Global, string_bytes, ⊎_elim, refl, ap, sym, subst, ◌∙◌, arith}
+use Rattle.std.proofs.Common.{◌≡◌, ◌≢◌, ◌<◌, ◌≤◌, ℕ, zero, suc, Bool, true, false, nat_eq, ◌&&◌, List, [], ◌∷◌, ◌++◌, map, length, Option, Some, None, slice_get, slice_index_or, String, Global, string_bytes, ⊎_elim, refl, ap, sym, subst, ◌∙◌, arith}
 use Rattle.std.specs.List.{All, AllPairs, IsDistinct}
 use Rattle.std.specs.Str.{bytes_eq}
 use Rattle.std.proofs.lemmas.Bool.{cases_lt}
@@ -109,3 +109,11 @@ flows_apart flows names ids named keyed names_apart ids_apart = record {
       ⊎_elim (λ lt. absurd (two_ids flows all i j f g id lt here there one two same))
       (λ le. ⊎_elim (λ lt. absurd (two_ids flows all j i g f id lt there here two one (sym same))) (λ ge. omega (arith, le, ge)) (cases_lt j i)) (cases_lt i j);
 }
+
+-- at most one id a flow
+pub ids_few : (flows : List Flow) → length (ids_of_flows flows) ≤ length flows
+ids_few [] = omega arith
+ids_few (flow ∷ flows) = with_id flow.flow_id (ids_few flows) where
+  with_id : (o : Option ℕ) → length (ids_of_flows flows) ≤ length flows → length (pairs_of flow.namespace.0 o ++ ids_of_flows flows) ≤ suc (length flows)
+  with_id None few = omega (arith, few)
+  with_id (Some id) few = omega (arith, few)

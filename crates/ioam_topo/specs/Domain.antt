@@ -1,5 +1,5 @@
 -- What a domain has, in file order.
-use Rattle.std.specs.Prelude.{List, ℕ, Bool, nat_eq, Option, map, option_map}
+use Rattle.std.specs.Prelude.{◌≡◌, List, [], ℕ, Bool, nat_eq, Option, map, option_map}
 use Rattle.std.specs.List.{list_any}
 use Rattle.ioam_topo.specs.declared.domain.Domain.{Domain}
 use Rattle.ioam_topo.specs.declared.parts.Node.{Node}
@@ -32,6 +32,10 @@ node_data domain = domain.telemetry.rows.items.items
 
 abbrev pub flows : Domain → List Flow
 flows domain = domain.telemetry.flows.items.items
+
+-- no packet of the domain is put into a tunnel: it has no flows
+abbrev pub IsPlain : Domain → Type 0
+IsPlain domain = flows domain ≡ []
 
 -- the node of a name, by its place
 abbrev pub node_of_name : Domain → List ℕ → Option NodeId

@@ -1,7 +1,6 @@
 -- What is true of a domain's tables, whatever file they are of.
 use Rattle.std.specs.Prelude.{◌≡◌, ◌≢◌, ◌<◌, ◌≤◌, ℕ, Bool, true, false, nat_eq, List, map, length, Option, Some, None, slice_get}
 use Rattle.std.specs.List.{All}
-use Rattle.ioam_topo.specs.declared.domain.TheConstants.{MOST_FLOWS}
 use Rattle.ioam_topo.specs.declared.ids.Way.{Way}
 use Rattle.ioam_topo.specs.declared.ids.Way.TheVariants.{Link as ByLink, Port as ByPort}
 use Rattle.ioam_topo.specs.declared.parts.Node.{Node}
@@ -92,4 +91,4 @@ pub record FlowsKept (nodes : List Node) (flows : Flows) : Type 0 where
   pub keyed : flows.taken.keys ≡ ids_of_flows flows.items.items
   pub joined : All (JoinsEnds (length nodes)) flows.items.items
   pub known : All (IsKnownAtEnds nodes) flows.items.items
-  pub few : length flows.items.items ≤ MOST_FLOWS
+  pub few : length flows.items.items ≤ 256

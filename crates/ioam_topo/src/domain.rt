@@ -1,5 +1,4 @@
 ghost use Rattle.std.specs.Prelude.{◌≡◌, ◌≤◌, length};
-ghost use Rattle.ioam_topo.specs.declared.domain.TheConstants.{MOST_FLOWS};
 ghost use Rattle.std.specs.List.{All};
 ghost use Rattle.ioam_topo.specs.Kept.{NodesKept, LinksKept, PortsKept, RoutesKept, DataKept, FlowsKept};
 ghost use Rattle.ioam_topo.specs.Sound.{IsNodeData, IsFlow};
@@ -17,7 +16,7 @@ pub const MOST_ROUTES: usize = 16384;
 /// The most entries of the table `data`.
 pub const MOST_DATA: usize = 4096;
 
-/// The most flows.
+/// The most flows of a domain whose packets can be sent today; a domain has at most 256.
 pub const MOST_FLOWS: usize = 0;
 
 /// What nodes and flows record: the data of the nodes, and the flows.
@@ -26,7 +25,6 @@ pub struct Telemetry {
     pub(crate) rows: DataRows,
     pub(crate) flows: Flows,
     ghost sound_data: { All IsNodeData rows.items.items },
-    ghost few_flows: { length flows.items.items ≤ MOST_FLOWS },
     ghost sound_flows: { All IsFlow flows.items.items },
 }
 
@@ -34,7 +32,6 @@ impl Telemetry {
     /// These data and flows.
     pub fn new(rows: DataRows, flows: Flows) -> Telemetry
         requires sound_data { All IsNodeData rows.items.items }
-        requires few_flows { length flows.items.items ≤ MOST_FLOWS }
         requires sound_flows { All IsFlow flows.items.items }
         ensures rows { result.rows ≡ rows }
         ensures flows { result.flows ≡ flows }

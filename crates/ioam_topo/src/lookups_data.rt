@@ -1,7 +1,6 @@
 ghost use Rattle.std.specs.Prelude.{◌≡◌, ◌<◌, ◌≤◌, length, position, slice_get, Some, IfSome};
 ghost use Rattle.std.specs.List.{All};
 ghost use Rattle.std.specs.Option.{option_copied};
-ghost use Rattle.ioam_topo.specs.declared.domain.TheConstants.{MOST_FLOWS};
 ghost use Rattle.ioam_topo.specs.Sound.{IsNodeData, IsFlow};
 ghost use Rattle.ioam_topo.specs.Finding.{data_at, encloses, flow_at};
 ghost use Rattle.ioam_topo.specs.Kept.{IsOfNode, JoinsEnds};
@@ -35,12 +34,12 @@ fn place_at(flows: &[Flow], node: NodeId, source: u128, target: u128) -> Option<
 impl Domain {
     ghost use Rattle.ioam_topo.specs.Domain.{nodes, node_data, flows};
 
-    /// The flows, in file order: at most `MOST_FLOWS`, each from a node of the domain to another, which
+    /// The flows, in file order: at most 256, each from a node of the domain to another, which
     /// both know its namespaces, and within its bounds, a trace there exactly where its capacity is,
     /// and direct exports exactly where their rate and their id are. No two have one name, and no
     /// two of one namespace have one id.
     pub fn flows(&self) -> &[Flow]
-        ensures few { length (flows self.now) ≤ MOST_FLOWS }
+        ensures few { length (flows self.now) ≤ 256 }
         ensures value { result.now ≡ flows self.now }
         ensures ends { All (JoinsEnds (length (nodes self.now))) result.now }
         ensures known { All (IsKnownAtEnds (nodes self.now)) result.now }

@@ -37,7 +37,7 @@ AreFates-length domain (frame ∷ frames) (fate ∷ fates) are = omega (arith, A
 
 -- the sums are those of some arrivals
 pub Forwards-of : (domain : Domain) (frames : List Frame) (texts : List (List ℕ)) (gathered : Forwarding) → Forwards domain frames texts gathered → IsOf domain gathered
-Forwards-of domain frames texts gathered forwards = record { ways = ways_of forwards.fates; stands = forwards.sums }
+Forwards-of domain frames texts gathered forwards = record { ways = ways_of forwards.fates; stands = forwards.sums; plain = forwards.plain }
 
 -- as many as the frames
 pub Forwards-count : (domain : Domain) (frames : List Frame) (texts : List (List ℕ)) (gathered : Forwarding) → Forwards domain frames texts gathered

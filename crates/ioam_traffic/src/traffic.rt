@@ -4,7 +4,7 @@ ghost use Rattle.ioam_desk.specs.Asked.{AsksFront};
 ghost use Rattle.ioam_merge.specs.Merging.{EndsKept, Merging};
 ghost use Rattle.ioam_outputs.specs.Names.{AreApart};
 ghost use Rattle.ioam_outputs.specs.Told.{AreTold, GathersNothing, unsaid};
-ghost use Rattle.ioam_topo.specs.Domain.{ports as ports_of};
+ghost use Rattle.ioam_topo.specs.Domain.{ports as ports_of, IsPlain};
 ghost use Rattle.ioam_traffic.specs.Running.{Ends, IsBroken};
 ghost use Rattle.ioam_traffic.specs.Traffic.{Files, files_of, course_with, begun, Finishes, IsEnd};
 
@@ -18,7 +18,7 @@ use ioam_outputs::{Output, open_outputs};
 use ioam_topo::{Domain, PortId};
 use std::alloc::Global;
 
-/// Sends what arrives at the ports of a domain through it.
+/// Sends what arrives at the ports of a domain without flows through it.
 ///
 /// `ports` are the ports that have a capture and `inputs` the names of these captures, which are
 /// merged by time; of equal times the first in this order comes first. `outputs` are the names of
@@ -38,6 +38,7 @@ pub fn run_traffic<D: Desk>(
     requires inside { All (λ port. port.0 < length (ports_of domain.now)) ports.now }
     requires width { length outputs.now ≡ length (ports_of domain.now) + 2 }
     requires apart { AreApart outputs.now }
+    requires plain { IsPlain domain.now }
     ensures finishes { Finishes (begun domain.now ports.now inputs.now outputs.now (D.reading desk.old) (D.writing desk.old)) D.tells
         (D.reading desk.old) (D.reading desk.new) (D.writing desk.old) (D.writing desk.new) result }
     ensures asked_in { AsksFront (D.reading desk.old).side.asked (D.reading desk.new).side.asked inputs.now }
@@ -67,6 +68,7 @@ fn run_files<D: Desk>(
     requires inside { All (λ port. port.0 < length (ports_of domain.now)) ports.now }
     requires width { length outputs.now ≡ length (ports_of domain.now) + 2 }
     requires apart { AreApart outputs.now }
+    requires plain { IsPlain domain.now }
     ensures finishes { Finishes (course_with domain.now ports.now files) D.tells
         (D.reading desk.old) (D.reading desk.new) (D.writing desk.old) (D.writing desk.new) result }
     ensures asked_in { AsksFront (D.reading desk.old).side.asked (D.reading desk.new).side.asked inputs.now }
@@ -105,6 +107,7 @@ fn run_open<D: Desk>(
     requires inside { All (λ port. port.0 < length (ports_of domain.now)) ports.now }
     requires width { length outputs.old ≡ length (ports_of domain.now) + 2 }
     requires nothing { GathersNothing outputs.old }
+    requires plain { IsPlain domain.now }
     ensures ends { Ends D.tells (course_with domain.now ports.now files) (D.reading desk.old) (D.reading desk.new)
         (D.writing desk.old) (D.writing desk.new) result }
     ensures asked_in { (D.reading desk.new).side.asked ≡ (D.reading desk.old).side.asked }

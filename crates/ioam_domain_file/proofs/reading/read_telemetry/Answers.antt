@@ -1,14 +1,11 @@
-use Rattle.std.proofs.Common.{◌≡◌, ◌++◌, [], List, ap, sym, ◌∙◌, codes, map}
+use Rattle.std.proofs.Common.{◌≡◌, ◌++◌, [], List, ap, sym, ◌∙◌, map}
 use Rattle.std.proofs.lemmas.Result.{err_from_is_err_and}
-use Rattle.toml.specs.Data.{get_member}
 use Rattle.toml.specs.View.{table_view}
 use Rattle.ioam_entries.specs.declared.fault.DomainFault.{DomainFault}
-use Rattle.ioam_entries.specs.declared.words.Table.TheVariants.{FlowTable}
 use Rattle.ioam_entries.specs.Goods.{list_of}
 use Rattle.ioam_entries.proofs.FaultLaws.{gives_first, gives_same}
-use Rattle.ioam_entries.proofs.TableLaws.{few_items}
 use Rattle.ioam_telemetry.specs.DataTable.{data_entries}
-use Rattle.ioam_telemetry.specs.FlowTable.{flow_of, flow_faults, flow_entries}
+use Rattle.ioam_telemetry.specs.FlowTable.{flow_entries}
 use Rattle.ioam_telemetry.proofs.DataKept.{data_sound}
 use Rattle.ioam_telemetry.proofs.FlowFacts.{flows_sound}
 use Rattle.ioam_domain_file.specs.Top.{data_table_faults, flow_table_faults}
@@ -32,11 +29,6 @@ returns-in_err-flows c =
 
 pub new-requires-clause-sound_data : goal.new-requires-clause-sound_data
 new-requires-clause-sound_data c = data_sound c.args.nodes.now.names (data_entries (table_view c.args.top.now)) c.in_ok-rows.rows.items.items c.in_ok-rows.ensures.1.items
-
-pub new-requires-clause-few_flows : goal.new-requires-clause-few_flows
-new-requires-clause-few_flows c = few_items (flow_of c.args.nodes.now.names (map list_of c.args.nodes.now.items.items)) FlowTable 0 (get_member (codes "flow") (table_view c.args.top.now))
-    (flow_faults c.args.nodes.now.names (map list_of c.args.nodes.now.items.items)) c.in_ok-flows.flows.items.items
-    c.in_ok-flows.ensures.1.items c.in_ok-flows.ensures.0
 
 pub new-requires-clause-sound_flows : goal.new-requires-clause-sound_flows
 new-requires-clause-sound_flows c = flows_sound c.args.nodes.now.names (map list_of c.args.nodes.now.items.items) (flow_entries (table_view c.args.top.now))

@@ -45,7 +45,10 @@ run_open-requires g c κs within =
                     ∙ told_names g.D.Desk.tells (g.D.Desk.writing c.open_outputs.new.desk) (g.D.Desk.writing c.open_merge.new.desk).side.slots
                     outs c.in-Ok-open_outputs.outputs.items _ told
                     ∙ c.requires.1.1.1.1.0,
-                subst (λ (o : List Output). GathersNothing o) (sym c.deref_mut.ensures.value) c.in-Ok-open_outputs.ensures.nothing,
+                (
+                  subst (λ (o : List Output). GathersNothing o) (sym c.deref_mut.ensures.value) c.in-Ok-open_outputs.ensures.nothing,
+                  c.requires.1.1.1.1.1.1,
+                ),
               ),
             ),
           ),

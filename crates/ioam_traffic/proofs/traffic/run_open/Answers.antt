@@ -28,7 +28,7 @@ carry_on-halt-requires g c κs within = (
         c.requires.1.1.1.1.0,
         (
           omega (arith, c.requires.1.1.1.1.1.0, c.begin.auto.outputs),
-          Adds-few c.args.outputs.now c.begin.new.outputs _ c.requires.1.1.1.1.1.1 c.in-Ok.ensures.adds (begin-few c.args.domain.now),
+          Adds-few c.args.outputs.now c.begin.new.outputs _ c.requires.1.1.1.1.1.1.0 c.in-Ok.ensures.adds (begin-few c.args.domain.now),
         ),
       ),
     ),

@@ -5,12 +5,11 @@ use Rattle.ioam_topo.specs.Domain.{ports}
 use Rattle.ioam_forward.specs.Fate.{packet_of}
 use Rattle.ioam_forward.specs.Texts.{added_by}
 use Rattle.ioam_forward.proofs.AnswerLaws.{answer-within, answer-plannable}
-use Rattle.ioam_forward.proofs.FlowsLaws.{no-flows}
 use Rattle.ioam_forward.proofs.TextsLaws.{Forwards-push, IsOf-push}
 use Rattle.ioam_forward.proofs.forwarding.Forwarding.take.Goals as goal
 
 pub plan-requires-clause-admitted : goal.plan-requires-clause-admitted
-plan-requires-clause-admitted c = answer-plannable c.args.domain.now _ _ c.admit-admitted.result (no-flows c.args.domain.now)
+plan-requires-clause-admitted c = answer-plannable c.args.domain.now _ _ c.admit-admitted.result c.requires.of.plain
     c.admit-admitted.ensures.packet c.admit-admitted.ensures.admits
 
 pub put_fate-requires-clause-short : goal.put_fate-requires-clause-short
