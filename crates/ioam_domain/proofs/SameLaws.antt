@@ -14,6 +14,7 @@ use Rattle.ioam_pcap.proofs.ArrivesLaws.{Arrives-unique}
 use Rattle.ioam_pcap.proofs.MergeLaws.{TakesAll-total, Takes-append}
 use Rattle.ioam_setting.specs.Names.{input_names, file_names}
 use Rattle.ioam_setting.specs.Setting.{HasDomainFault, HasReadingsFault}
+use Rattle.ioam_domain_file.specs.declared.extent.Extent.TheVariants.{Plain}
 use Rattle.ioam_domain_file.specs.File.{IsDomainOf, HasFault, Agree}
 use Rattle.ioam_topo.specs.Keyed.{name_of_node}
 use Rattle.ioam_topo.specs.declared.domain.Domain.{Domain}
@@ -79,23 +80,23 @@ module _ (desk : Writing) (words : List (List ℕ)) where
   -- one domain
   pub one_set : (a b : Domain) → IsSet desk words a → IsSet desk words b → Agree a b
   one_set a b x y =
-      let it : (octets : List ℕ) × IsDomainOf octets a × IsDomainOf octets b
-      = both (holds desk (domain_file words)) (λ o. IsDomainOf o a) (λ o. IsDomainOf o b) x.setting.has_domain y.setting.has_domain in
-      one_domain it.0 a b it.1 it.2
+      let it : (octets : List ℕ) × IsDomainOf Plain octets a × IsDomainOf Plain octets b
+      = both (holds desk (domain_file words)) (λ o. IsDomainOf Plain o a) (λ o. IsDomainOf Plain o b) x.setting.has_domain y.setting.has_domain in
+      one_domain Plain it.0 a b it.1 it.2
 
   -- one fault of the domain's file
   pub one_domain_fault : (f g : DomainFault) → HasDomainFault desk (domain_file words) (readings_file words) f
       → HasDomainFault desk (domain_file words) (readings_file words) g → f ≡ g
   one_domain_fault f g x y =
-      let it : (octets : List ℕ) × HasFault octets f × HasFault octets g = both (holds desk (domain_file words)) (λ o. HasFault o f) (λ o. HasFault o g) x y in
-      one_fault it.0 f g it.1 it.2
+      let it : (octets : List ℕ) × HasFault Plain octets f × HasFault Plain octets g = both (holds desk (domain_file words)) (λ o. HasFault Plain o f) (λ o. HasFault Plain o g) x y in
+      one_fault Plain it.0 f g it.1 it.2
 
-  fault_or_held : (domain : Domain) (f : DomainFault) → IsSomeAnd (holds desk (domain_file words)) (λ o. HasFault o f)
-      → IsSomeAnd (holds desk (domain_file words)) (λ o. IsDomainOf o domain) → ⊥
+  fault_or_held : (domain : Domain) (f : DomainFault) → IsSomeAnd (holds desk (domain_file words)) (λ o. HasFault Plain o f)
+      → IsSomeAnd (holds desk (domain_file words)) (λ o. IsDomainOf Plain o domain) → ⊥
   fault_or_held domain f x y =
-      let it : (octets : List ℕ) × HasFault octets f × IsDomainOf octets domain
-      = both (holds desk (domain_file words)) (λ o. HasFault o f) (λ o. IsDomainOf o domain) x y in
-      domain_or_fault it.0 domain f it.2 it.1
+      let it : (octets : List ℕ) × HasFault Plain octets f × IsDomainOf Plain octets domain
+      = both (holds desk (domain_file words)) (λ o. HasFault Plain o f) (λ o. IsDomainOf Plain o domain) x y in
+      domain_or_fault Plain it.0 domain f it.2 it.1
 
   -- a fault of it, or a domain
   pub fault_or_set : (domain : Domain) (f : DomainFault) → HasDomainFault desk (domain_file words) (readings_file words) f → IsSet desk words domain → ⊥
@@ -108,12 +109,12 @@ module _ (desk : Writing) (words : List (List ℕ)) where
   same_names : (a b : Domain) → Agree a b → node_names a ≡ node_names b
   same_names a b agree = ap (λ (ns : List Node). map name_of_node ns) agree.same_nodes
 
-  held_agree : (a b : Domain) → IsSomeAnd (holds desk (domain_file words)) (λ o. IsDomainOf o a)
-      → IsSomeAnd (holds desk (domain_file words)) (λ o. IsDomainOf o b) → Agree a b
+  held_agree : (a b : Domain) → IsSomeAnd (holds desk (domain_file words)) (λ o. IsDomainOf Plain o a)
+      → IsSomeAnd (holds desk (domain_file words)) (λ o. IsDomainOf Plain o b) → Agree a b
   held_agree a b x y =
-      let it : (octets : List ℕ) × IsDomainOf octets a × IsDomainOf octets b
-      = both (holds desk (domain_file words)) (λ o. IsDomainOf o a) (λ o. IsDomainOf o b) x y in
-      one_domain it.0 a b it.1 it.2
+      let it : (octets : List ℕ) × IsDomainOf Plain octets a × IsDomainOf Plain octets b
+      = both (holds desk (domain_file words)) (λ o. IsDomainOf Plain o a) (λ o. IsDomainOf Plain o b) x y in
+      one_domain Plain it.0 a b it.1 it.2
 
   -- one fault of the readings
   pub one_readings_fault : (f g : ReadingsFault) → HasReadingsFault desk (domain_file words) (readings_file words) f

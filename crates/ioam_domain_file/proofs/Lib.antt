@@ -1,4 +1,3 @@
 pub mod TopLaws
 pub mod TelemetryLaws
 pub mod FileLaws
-mod PlainLaws

@@ -1,87 +1,99 @@
 -- Laws of the node data and the flows of a file, behind nodes that were read.
-use Rattle.std.proofs.Common.{◌≡◌, ◌≤◌, ℕ, List, [], ◌∷◌, length, codes, map, refl, ap, sym, ◌∙◌, subst, Result, arith}
+use Rattle.std.proofs.Common.{◌≡◌, ◌≤◌, ℕ, List, [], ◌∷◌, ◌++◌, length, codes, map, refl, ap, sym, ◌∙◌, subst, IfOk, Result, Ok, Err, arith}
 use Rattle.std.specs.List.{All}
 use Rattle.toml.specs.Data.{Members, get_member}
-use Rattle.ioam_data.specs.declared.namespace.Namespace.{Namespace}
 use Rattle.ioam_topo.specs.declared.nodes.Nodes.{Nodes}
 use Rattle.ioam_topo.specs.declared.data_rows.DataRows.{DataRows}
 use Rattle.ioam_topo.specs.declared.flows.Flows.{Flows}
 use Rattle.ioam_topo.specs.declared.parts.NodeData.{NodeData}
-use Rattle.ioam_topo.specs.declared.parts.Flow.{Flow}
 use Rattle.ioam_topo.specs.declared.routes.Parts.{Parts}
 use Rattle.ioam_topo.specs.declared.domain.Telemetry.{Telemetry}
 use Rattle.ioam_topo.specs.Keyed.{name_of_node}
-use Rattle.ioam_topo.specs.Flows.{name_of_flow, ids_of_flows}
-use Rattle.ioam_topo.specs.Known.{IsKnownAtEnds}
-use Rattle.std.proofs.lemmas.List.Elements.{All-nil}
-use Rattle.ioam_topo.specs.Kept.{JoinsEnds, IsOfNode, DataKept, FlowsKept}
+use Rattle.ioam_topo.specs.Kept.{IsOfNode, DataKept}
 use Rattle.ioam_topo.proofs.KeyLaws.{length_map}
-use Rattle.ioam_toml.specs.declared.why.Why.{Why}
-use Rattle.ioam_entries.specs.declared.words.Table.TheVariants.{DataTable, FlowTable}
-use Rattle.ioam_entries.specs.Faults.{table_faults}
+use Rattle.ioam_entries.specs.declared.fault.DomainFault.{DomainFault}
+use Rattle.ioam_entries.specs.declared.fault.DomainRefused.{DomainRefused}
+use Rattle.ioam_entries.specs.declared.words.Table.TheVariants.{DataTable}
 use Rattle.ioam_entries.specs.Goods.{goods, list_of}
 use Rattle.ioam_entries.proofs.GoodsLaws.{goods_all}
-use Rattle.ioam_entries.proofs.TableLaws.{front_none, back_none, few_entries, entries_few}
+use Rattle.ioam_entries.proofs.TableLaws.{front_none, few_entries}
 use Rattle.ioam_places.specs.NodeRead.{HoldsNodes}
 use Rattle.ioam_places.specs.Places.{node_entries, node_names, node_lists, HoldsParts}
-use Rattle.ioam_telemetry.specs.DataTable.{data_entries, data_of, data_faults}
 use Rattle.ioam_telemetry.specs.DataRead.{HoldsData}
-use Rattle.ioam_telemetry.specs.FlowTable.{flow_entries, flow_of, flow_name, flow_key, flow_faults}
-use Rattle.ioam_telemetry.specs.FlowRead.{HoldsFlows}
+use Rattle.ioam_telemetry.specs.DataTable.{data_entries, data_of, data_faults}
+use Rattle.ioam_telemetry.specs.Tables.{data_table_faults, flow_table_faults, extra_table_faults, flows_behind, AreFlows}
 use Rattle.ioam_telemetry.proofs.DataKept.{data_placed}
-use Rattle.ioam_domain_file.specs.Top.{data_table_faults, flow_table_faults, telemetry_faults}
+use Rattle.ioam_domain_file.specs.declared.extent.Extent.{Extent}
+use Rattle.ioam_domain_file.specs.Extent.{flows_most, extras_most}
+use Rattle.ioam_domain_file.specs.Top.{telemetry_faults, flows_of}
 use Rattle.ioam_domain_file.specs.PartsRead.{HoldsTelemetry}
+use Rattle.ioam_domain_file.specs.declared.extent.Extent.TheVariants.{Plain, Whole}
+use Rattle.ioam_domain_file.specs.File.{IsWithin, IsPlainly}
+use Rattle.ioam_topo.specs.declared.domain.Domain.{Domain}
+use Rattle.ioam_topo.specs.Domain.{flows, links}
+use Rattle.ioam_places.proofs.LinkLaws.{untapped}
 
-pub data_same : (t : Members) (nodes : Nodes) → HoldsNodes (node_entries t) nodes
-    → table_faults DataTable 4096 (get_member (codes "data") t) (data_faults nodes.names) ≡ data_table_faults t
-data_same t nodes holds = ap (λ n. table_faults DataTable 4096 (get_member (codes "data") t) (data_faults n)) holds.names
+-- the faults of these tables behind nodes that were read are those behind the nodes' entries
+pub telemetry_same : (t : Members) (nodes : Nodes) (extent : Extent) (most more : ℕ) → most ≡ flows_most extent → more ≡ extras_most extent → HoldsNodes (node_entries t) nodes
+    → data_table_faults nodes.names (map list_of nodes.items.items) t
+    ++ (flow_table_faults nodes.names (map list_of nodes.items.items) t most ++ extra_table_faults nodes.names (map list_of nodes.items.items) t more)
+    ≡ telemetry_faults extent t
+telemetry_same t nodes extent most more few also holds = rw (holds.names, holds.lists, few, also)
 
-pub flows_same : (t : Members) (nodes : Nodes) → HoldsNodes (node_entries t) nodes
-    → table_faults FlowTable 0 (get_member (codes "flow") t) (flow_faults nodes.names (map list_of nodes.items.items)) ≡ flow_table_faults t
-flows_same t nodes holds = rw (holds.names, holds.lists)
+-- the node data and the flows that were read
+pub telemetry_holds : (t : Members) (nodes : Nodes) (extent : Extent) (most : ℕ) (telemetry : Telemetry) (rows : DataRows) (flows : Flows) → most ≡ flows_most extent
+    → telemetry.rows ≡ rows → telemetry.flows ≡ flows → HoldsData nodes.names (data_entries t) rows → AreFlows nodes (map list_of nodes.items.items) t most flows
+    → HoldsTelemetry nodes extent t telemetry
+telemetry_holds t nodes extent most telemetry rows flows few same also holds are = record {
+  rows = let P : DataRows → Type 0 = HoldsData nodes.names (data_entries t) in subst P (sym same) holds;
+  flows = let P : Flows → Type 0 = AreFlows nodes (map list_of nodes.items.items) t most in
+      let Q : ℕ → Type 0 = λ n. AreFlows nodes (map list_of nodes.items.items) t n telemetry.flows in subst Q few (subst P (sym also) are);
+}
 
-pub data_hold : (t : Members) (nodes : Nodes) (rows : DataRows) → HoldsNodes (node_entries t) nodes → HoldsData nodes.names (data_entries t) rows
-    → HoldsData (node_names t) (data_entries t) rows
-data_hold t nodes rows holds are = let P : List (List ℕ) → Type 0 = λ n. HoldsData n (data_entries t) rows in subst P holds.names are
+-- the flows are those of the file
+pub flows_are : (t : Members) (nodes : Nodes) (extent : Extent) (telemetry : Telemetry) → HoldsNodes (node_entries t) nodes → HoldsTelemetry nodes extent t telemetry
+    → telemetry.flows.items.items ≡ flows_of t
+flows_are t nodes extent telemetry holds are = are.flows.are ∙ rw (holds.names, holds.lists)
 
-pub flows_hold : (t : Members) (nodes : Nodes) (flows : Flows) → HoldsNodes (node_entries t) nodes
-    → HoldsFlows nodes.names (map list_of nodes.items.items) (flow_entries t) flows → HoldsFlows (node_names t) (node_lists t) (flow_entries t) flows
-flows_hold t nodes flows holds are =
-    let P : List (List ℕ) → Type 0 = λ n. HoldsFlows n (map list_of nodes.items.items) (flow_entries t) flows in
-    let Q : List (Result (List Namespace) Why) → Type 0 = λ l. HoldsFlows (node_names t) l (flow_entries t) flows in
-    subst Q holds.lists (subst P holds.names are)
+pub data_are : (t : Members) (nodes : Nodes) (extent : Extent) (telemetry : Telemetry) → HoldsNodes (node_entries t) nodes → HoldsTelemetry nodes extent t telemetry
+    → telemetry.rows.items.items ≡ goods (data_of (node_names t)) (data_entries t)
+data_are t nodes extent telemetry holds are = are.rows.items ∙ rw holds.names
 
--- no more than none are none
-pub none_of_none : (ms : List Members) → length ms ≤ 0 → ms ≡ []
-none_of_none [] few = refl
-none_of_none (m ∷ ms) few = absurd (omega (arith, few))
+-- neither of two lists has a fault
+pub none_of_two : (xs ys zs : List DomainFault) → xs ≡ [] → ys ≡ [] → xs ++ ys ≡ zs → zs ≡ []
+none_of_two xs ys zs none also is = sym is ∙ (ap (λ l. l ++ ys) none ∙ also)
+
+-- the second of two lists of faults behind none
+pub behind_none : (xs ys zs : List DomainFault) → xs ≡ [] → xs ++ ys ≡ zs → ys ≡ zs
+behind_none xs ys zs none is = ap (λ l. l ++ ys) (sym none) ∙ is
 
 module _ (taps : ℕ) (t : Members) (parts : Parts) (holds : HoldsParts taps t parts) where
-  node_count : length (node_names t) ≡ length parts.nodes.items.items
-  node_count = ap length (sym holds.nodes.names ∙ holds.nodes.named) ∙ sym (length_map name_of_node parts.nodes.items.items)
+  -- as many names as nodes
+  pub node_count : length parts.nodes.names ≡ length parts.nodes.items.items
+  node_count = ap length holds.nodes.named ∙ sym (length_map name_of_node parts.nodes.items.items)
 
-  -- there are no flows yet, and of none all is true
-  pub flows_kept : (telemetry : Telemetry) → HoldsTelemetry t telemetry → telemetry_faults t ≡ [] → FlowsKept parts.nodes.items.items telemetry.flows
-  flows_kept telemetry are none =
-      let no_entries : flow_entries t ≡ [] = none_of_none (flow_entries t) (entries_few FlowTable 0 (get_member (codes "flow") t)
-      (flow_faults (node_names t) (node_lists t)) (back_none (data_table_faults t) (flow_table_faults t) none)) in
-      let no_items : telemetry.flows.items.items ≡ [] = are.flows.items ∙ ap (goods (flow_of (node_names t) (node_lists t))) no_entries in
-      record {
-        named = are.flows.names ∙ ap (goods flow_name) no_entries ∙ sym (ap (map name_of_flow) no_items);
-        keyed = are.flows.keys ∙ ap (goods (flow_key (node_names t) (node_lists t))) no_entries ∙ sym (ap ids_of_flows no_items);
-        joined = let P : List Flow → Type 0 = All (JoinsEnds (length parts.nodes.items.items)) in subst P (sym no_items) (All-nil (JoinsEnds (length parts.nodes.items.items)));
-        known = let P : List Flow → Type 0 = All (IsKnownAtEnds parts.nodes.items.items) in subst P (sym no_items) (All-nil (IsKnownAtEnds parts.nodes.items.items));
-        few = let e : length telemetry.flows.items.items ≡ 0 = ap length no_items in omega (arith, e);
-      }
-
-  pub data_kept : (telemetry : Telemetry) → HoldsTelemetry t telemetry → telemetry_faults t ≡ [] → DataKept (length parts.nodes.items.items) telemetry.rows
-  data_kept telemetry are none = record {
+  pub data_kept : (extent : Extent) (telemetry : Telemetry) → HoldsTelemetry parts.nodes extent t telemetry → telemetry_faults extent t ≡ [] → DataKept (length parts.nodes.items.items) telemetry.rows
+  data_kept extent telemetry are none = record {
     keyed = are.rows.keyed;
-    placed = let all : All (IsOfNode (length (node_names t))) (goods (data_of (node_names t)) (data_entries t)) =
-        goods_all (IsOfNode (length (node_names t))) (data_of (node_names t)) (data_entries t) (data_placed (node_names t)) in
-        let P : List NodeData → Type 0 = All (IsOfNode (length (node_names t))) in let Q : ℕ → Type 0 = λ n. All (IsOfNode n) telemetry.rows.items.items in
+    placed = let all : All (IsOfNode (length parts.nodes.names)) (goods (data_of parts.nodes.names) (data_entries t)) =
+        goods_all (IsOfNode (length parts.nodes.names)) (data_of parts.nodes.names) (data_entries t) (data_placed parts.nodes.names) in
+        let P : List NodeData → Type 0 = All (IsOfNode (length parts.nodes.names)) in let Q : ℕ → Type 0 = λ n. All (IsOfNode n) telemetry.rows.items.items in
         subst Q node_count (subst P (sym are.rows.items) all);
     few = let f : length (goods (data_of (node_names t)) (data_entries t)) ≤ 4096 = few_entries (data_of (node_names t)) DataTable 4096
-        (get_member (codes "data") t) (data_faults (node_names t)) (front_none (data_table_faults t) (flow_table_faults t) none) in
-        let e : length telemetry.rows.items.items ≡ length (goods (data_of (node_names t)) (data_entries t)) = ap length are.rows.items in omega (arith, f, e);
+        (get_member (codes "data") t) (data_faults (node_names t)) (front_none (data_table_faults (node_names t) (node_lists t) t) _ none) in
+        let e : length telemetry.rows.items.items ≡ length (goods (data_of (node_names t)) (data_entries t)) = ap length (data_are t parts.nodes extent telemetry holds.nodes are) in
+        omega (arith, f, e);
   }
+
+nothing : {A : Type 0} (xs : List A) → length xs ≤ 0 → xs ≡ []
+nothing [] few = refl
+nothing (x ∷ xs) few = absurd (omega (arith, few))
+
+-- a domain that is read plainly has no flows and no taps
+pub plainly : (extent : Extent) (domain : Domain) → IsWithin extent domain → IsPlainly extent domain
+plainly Plain domain within = (nothing (flows domain) within.few_flows, untapped (links domain) within.few_taps)
+plainly Whole domain within = tt
+
+pub result_plainly : (extent : Extent) (r : Result Domain DomainRefused) → IfOk r (IsWithin extent) → IfOk r (IsPlainly extent)
+result_plainly extent (Ok domain) within = plainly extent domain within
+result_plainly extent (Err refused) within = tt

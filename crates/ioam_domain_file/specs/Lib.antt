@@ -1,3 +1,4 @@
+pub mod Extent
 pub mod Top
 pub mod PartsRead
 pub mod File

@@ -1,13 +1,16 @@
 -- What is known of the node data and the flows of a file.
+use Rattle.std.specs.Prelude.{ℕ, map}
 use Rattle.toml.specs.Data.{Members}
+use Rattle.ioam_topo.specs.declared.nodes.Nodes.{Nodes}
 use Rattle.ioam_topo.specs.declared.domain.Telemetry.{Telemetry}
-use Rattle.ioam_places.specs.Places.{node_names, node_lists}
+use Rattle.ioam_entries.specs.Goods.{list_of}
 use Rattle.ioam_telemetry.specs.DataTable.{data_entries}
 use Rattle.ioam_telemetry.specs.DataRead.{HoldsData}
-use Rattle.ioam_telemetry.specs.FlowTable.{flow_entries}
-use Rattle.ioam_telemetry.specs.FlowRead.{HoldsFlows}
+use Rattle.ioam_telemetry.specs.Tables.{AreFlows}
+use Rattle.ioam_domain_file.specs.declared.extent.Extent.{Extent}
+use Rattle.ioam_domain_file.specs.Extent.{flows_most}
 
--- these are the node data and the flows of a file
-pub record HoldsTelemetry (t : Members) (telemetry : Telemetry) : Type 0 where
-  pub rows : HoldsData (node_names t) (data_entries t) telemetry.rows
-  pub flows : HoldsFlows (node_names t) (node_lists t) (flow_entries t) telemetry.flows
+-- these are the node data and the flows of a file, behind these nodes
+pub record HoldsTelemetry (nodes : Nodes) (extent : Extent) (t : Members) (telemetry : Telemetry) : Type 0 where
+  pub rows : HoldsData nodes.names (data_entries t) telemetry.rows
+  pub flows : AreFlows nodes (map list_of nodes.items.items) t (flows_most extent) telemetry.flows

@@ -11,15 +11,15 @@ use Rattle.ioam_topo.specs.declared.format.Format.{Format}
 use Rattle.ioam_topo.specs.declared.format.Format.TheVariants.{Ptp, Ntp, Posix}
 use Rattle.ioam_topo.specs.declared.parts.NodeData.{NodeData}
 use Rattle.ioam_topo.specs.declared.parts.Flow.{Flow}
-use Rattle.ioam_entries.specs.declared.words.Table.TheVariants.{Top, DataTable, FlowTable}
+use Rattle.ioam_entries.specs.declared.words.Table.TheVariants.{Top}
 use Rattle.ioam_entries.specs.declared.words.Field.TheVariants.{OtherKey, FormatKey, PacketsKey}
 use Rattle.ioam_entries.specs.declared.fault.DomainFault.{DomainFault}
-use Rattle.ioam_entries.specs.Faults.{at, table_faults}
-use Rattle.ioam_entries.specs.Goods.{goods}
+use Rattle.ioam_entries.specs.Faults.{at}
 use Rattle.ioam_entries.specs.Keys.{own_keys}
 use Rattle.ioam_places.specs.Places.{node_names, node_lists, part_faults, route_table_faults}
-use Rattle.ioam_telemetry.specs.DataTable.{data_faults, data_of, data_entries}
-use Rattle.ioam_telemetry.specs.FlowTable.{flow_faults, flow_of, flow_entries}
+use Rattle.ioam_telemetry.specs.Tables.{data_behind, flows_behind, data_table_faults, flow_table_faults, extra_table_faults}
+use Rattle.ioam_domain_file.specs.declared.extent.Extent.{Extent}
+use Rattle.ioam_domain_file.specs.Extent.{flows_most, extras_most, taps_most}
 
 -- "ptp", "ntp" or "posix"
 abbrev pub format_named : List ℕ → Result Format Why
@@ -39,26 +39,21 @@ packets_of t = optional 1000000 (number 1 16777216) (get_member (codes "packets"
 
 -- the node data of the file, in order
 abbrev pub node_data_of : Members → List NodeData
-node_data_of t = goods (data_of (node_names t)) (data_entries t)
+node_data_of t = data_behind (node_names t) (node_lists t) t
 
--- the flows of the file, in order
+-- the flows of the file, in order, each with its traces
 abbrev pub flows_of : Members → List Flow
-flows_of t = goods (flow_of (node_names t) (node_lists t)) (flow_entries t)
+flows_of t = flows_behind (node_names t) (node_lists t) t
 
 -- the faults of the file's own keys
 abbrev pub top_keys : Members → List DomainFault
 top_keys t = at Top 0 OtherKey (own_keys Top t) ++ (at Top 0 FormatKey (format_of t) ++ at Top 0 PacketsKey (packets_of t))
 
-abbrev pub data_table_faults : Members → List DomainFault
-data_table_faults t = table_faults DataTable 4096 (get_member (codes "data") t) (data_faults (node_names t))
-
-abbrev pub flow_table_faults : Members → List DomainFault
-flow_table_faults t = table_faults FlowTable 0 (get_member (codes "flow") t) (flow_faults (node_names t) (node_lists t))
-
 -- the faults of the tables of what nodes and flows record
-abbrev pub telemetry_faults : Members → List DomainFault
-telemetry_faults t = data_table_faults t ++ flow_table_faults t
+abbrev pub telemetry_faults : Extent → Members → List DomainFault
+telemetry_faults extent t = data_table_faults (node_names t) (node_lists t) t
+    ++ (flow_table_faults (node_names t) (node_lists t) t (flows_most extent) ++ extra_table_faults (node_names t) (node_lists t) t (extras_most extent))
 
 -- all faults of a file, in the order in which they are looked for
-abbrev pub faults_of : Members → List DomainFault
-faults_of t = top_keys t ++ (part_faults 0 t ++ (route_table_faults t ++ telemetry_faults t))
+abbrev pub faults_of : Extent → Members → List DomainFault
+faults_of extent t = top_keys t ++ (part_faults (taps_most extent) t ++ (route_table_faults t ++ telemetry_faults extent t))

@@ -1,7 +1,8 @@
 use crate::domains::{LINKS, NODES, PORTS, refusal_of};
+use crate::flow_rows::{FLOW_NODES, OF_EXTRAS, OF_FLOWS};
 use crate::node_data::OF_DATA;
 use ioam_base::memory::NoMemory;
-use ioam_domain_file::DomainRefused;
+use ioam_domain_file::{DomainRefused, Extent};
 use std::alloc::Global;
 
 // Each row is a fault, and behind ` # ` a file of which it is the first.
@@ -18,7 +19,7 @@ table: NodeTable, place: 0, field: NoKey, why: Kind # node = 1|\
 table: LinkTable, place: 0, field: NoKey, why: Kind # link = [1]|\
 table: PortTable, place: 0, field: NoKey, why: Kind # port = {}|\
 table: RouteTable, place: 0, field: NoKey, why: Kind # route = \"\"|\
-table: FlowTable, place: 0, field: NoKey, why: TooMany # flow = [{}]|\
+table: FlowTable, place: 1, field: NameKey, why: Missing # flow = [{}]|\
 table: DataTable, place: 0, field: NoKey, why: Kind # data = 1|\
 table: FlowTable, place: 0, field: NoKey, why: Kind # flow = [[]]|\
 table: Top, place: 0, field: FormatKey, why: Kind # packets = 0\nformat = 1|\
@@ -87,7 +88,6 @@ table: LinkTable, place: 1, field: MtuKey, why: Range # link = [{ name = \"l\", 
 table: LinkTable, place: 1, field: MtuKey, why: Range # link = [{ name = \"l\", from = \"a\", to = \"b\", out_id = 1, in_id = 1, delay = 0, mtu = 65576 }]|\
 table: LinkTable, place: 1, field: TapKey, why: Kind # link = [{ name = \"l\", from = \"a\", to = \"b\", out_id = 1, in_id = 1, delay = 0, mtu = 1280, tap = 1 }]|\
 table: LinkTable, place: 1, field: TapKey, why: Range # link = [{ name = \"l\", from = \"a\", to = \"b\", out_id = 1, in_id = 1, delay = 0, mtu = 1280, tap = \"\" }]|\
-table: LinkTable, place: 1, field: TapKey, why: TooMany # link = [{ name = \"l\", from = \"a\", to = \"b\", out_id = 1, in_id = 1, delay = 0, mtu = 1280, tap = \"t\" }]|\
 table: LinkTable, place: 2, field: NameKey, why: Twice # link = [{ name = \"l\", from = \"a\", to = \"b\", out_id = 1, in_id = 1, delay = 0, mtu = 1280 }, { name = \"l\" }]";
 
 // Ports of two nodes.
@@ -135,13 +135,15 @@ table: RouteTable, place: 1, field: PortKey, why: Range # route = [{ node = \"a\
 table: RouteTable, place: 2, field: PrefixKey, why: Twice # route = [{ node = \"a\", prefix = \"1::/8\", link = \"ab\" }, { node = \"a\", prefix = \"2::/8\", link = \"ab\" }]";
 
 // Tables of rows, and in front of each the nodes, links and ports that stand before its files.
-const TABLES: [(&str, &str, &str, &str); 6] = [
+const TABLES: [(&str, &str, &str, &str); 8] = [
     ("", "", "", OF_FILES),
     ("", "", "", OF_NODES),
     (NODES, "", "", OF_LINKS),
     (NODES, "", "", OF_PORTS),
     (NODES, LINKS, PORTS, OF_ROUTES),
     (NODES, "", "", OF_DATA),
+    (FLOW_NODES, "", "", OF_FLOWS),
+    (FLOW_NODES, "", "", OF_EXTRAS),
 ];
 
 // The four texts, one behind the other.
@@ -153,9 +155,9 @@ pub(crate) fn joined(alloc: Global, parts: [&str; 4]) -> Result<String, NoMemory
     Ok(file)
 }
 
-// The first fault of a file, in words.
-fn fault_of(alloc: Global, file: &str) -> Result<String, NoMemory> {
-    match refusal_of(alloc, file) {
+// The first fault of a file, in words, where so much of a domain is read.
+fn fault_of(alloc: Global, file: &str, extent: Extent) -> Result<String, NoMemory> {
+    match refusal_of(alloc, file, extent) {
         Some(DomainRefused::Fault(fault)) => Ok(format!(in alloc; "{fault:?}")?),
         _ => Err(NoMemory),
     }
@@ -163,7 +165,12 @@ fn fault_of(alloc: Global, file: &str) -> Result<String, NoMemory> {
 
 // Whether a file has this fault.
 pub(crate) fn has_fault(alloc: Global, file: &str, wanted: &str) -> bool {
-    match fault_of(alloc, file) {
+    has_fault_in(alloc, file, Extent::Whole, wanted)
+}
+
+// Whether a file has this fault, where so much of a domain is read.
+pub(crate) fn has_fault_in(alloc: Global, file: &str, extent: Extent, wanted: &str) -> bool {
+    match fault_of(alloc, file, extent) {
         Ok(fault) => fault.as_str().contains(wanted),
         Err(NoMemory) => false,
     }

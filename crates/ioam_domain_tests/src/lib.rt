@@ -7,6 +7,12 @@ mod domains;
 #[cfg(test)]
 mod faults;
 #[cfg(test)]
+mod flow_rows;
+#[cfg(test)]
+mod flows;
+#[cfg(test)]
+mod limits;
+#[cfg(test)]
 mod node_data;
 #[cfg(test)]
 mod readings;

@@ -97,7 +97,7 @@ const SPELLED: [u8; 12] = [
 ];
 
 // The first text, the second so often, and the third.
-fn repeated(
+pub(crate) fn repeated(
     alloc: Global,
     front: &str,
     part: &str,
@@ -123,7 +123,7 @@ fn has_fault_of(alloc: Global, table: &str, count: u32, wanted: &str) -> bool {
 
 // Whether a table has room for so many entries and no more: with so many empty ones the first has
 // this fault, and with one more the table has that one.
-fn is_most(alloc: Global, table: &str, most: u16, missing: &str, many: &str) -> bool {
+pub(crate) fn is_most(alloc: Global, table: &str, most: u16, missing: &str, many: &str) -> bool {
     has_fault_of(alloc, table, u32::from(most), missing)
         && has_fault_of(alloc, table, u32::from(most) + 1, many)
 }

@@ -3,6 +3,7 @@ use Rattle.std.specs.Prelude.{◌≡◌, ℕ, ⊤, Bool, IsTrue, IsSomeAnd, List
 use Rattle.ioam_clock.specs.Reading.{readings_of}
 use Rattle.ioam_clock.specs.declared.sample.Sample.{Sample}
 use Rattle.ioam_desk.specs.Desk.{Reading, Rose}
+use Rattle.ioam_domain_file.specs.declared.extent.Extent.TheVariants.{Plain}
 use Rattle.ioam_domain_file.specs.File.{IsDomainOf, HasFault}
 use Rattle.ioam_topo.specs.declared.domain.Domain.{Domain}
 use Rattle.ioam_setting.specs.declared.setting.Refusal.{Refusal}
@@ -11,8 +12,8 @@ use Rattle.ioam_setting.specs.declared.setting.Refusal.TheVariants as refusal
 module _ (tells : Bool) (old new : Reading) (held : Option (List ℕ)) where
   -- the octets that the domain file holds are of this domain, or have this first fault
   abbrev pub IsDomainRead : Result Domain Refusal → Type 0
-  IsDomainRead (Ok domain) = IsTrue tells → IsSomeAnd held (λ octets. IsDomainOf octets domain)
-  IsDomainRead (Err (refusal.Domain fault)) = IsTrue tells → IsSomeAnd held (λ octets. HasFault octets fault)
+  IsDomainRead (Ok domain) = IsTrue tells → IsSomeAnd held (λ octets. IsDomainOf Plain octets domain)
+  IsDomainRead (Err (refusal.Domain fault)) = IsTrue tells → IsSomeAnd held (λ octets. HasFault Plain octets fault)
   IsDomainRead (Err (refusal.Readings fault)) = ⊥
   IsDomainRead (Err refusal.ReadFault) = Rose old.side.faults new.side.faults
   IsDomainRead (Err refusal.NoMemory) = ⊤

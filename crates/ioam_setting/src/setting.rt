@@ -12,7 +12,7 @@ ghost use Rattle.ioam_setting.specs.declared.setting.Refusal.{Refusal};
 
 use ioam_clock::{ReadWhy, Readings, ReadingsFault, ReadingsRefused, read_readings};
 use ioam_desk::{Desk, Name, WholeFault, read_whole};
-use ioam_domain_file::{DomainFault, DomainRefused, long_file, read_domain};
+use ioam_domain_file::{DomainFault, DomainRefused, Extent, long_file, read_domain};
 use ioam_topo::Domain;
 use std::alloc::Global;
 
@@ -69,7 +69,7 @@ fn read_domain_file<D: Desk>(alloc: Global, desk: &mut D, name: &Name) -> Result
         Err(WholeFault::Failed) => return Err(Refusal::ReadFault),
         Err(WholeFault::NoMemory) => return Err(Refusal::NoMemory),
     };
-    match read_domain(alloc, &octets) {
+    match read_domain(alloc, &octets, Extent::Plain) {
         Ok(domain) => Ok(domain),
         Err(DomainRefused::Fault(fault)) => Err(Refusal::Domain(fault)),
         Err(DomainRefused::NoMemory) => Err(Refusal::NoMemory),

@@ -1,5 +1,5 @@
 -- Laws of the flows that are collected.
-use Rattle.std.proofs.Common.{◌≡◌, ℕ, ◌+◌, List, [], ◌∷◌, ◌++◌, length, Bool, true, false, Option, Some, None, Result, Ok, Err, refl, ap, sym, ◌∙◌, subst}
+use Rattle.std.proofs.Common.{◌≡◌, ℕ, ◌+◌, List, [], ◌∷◌, ◌++◌, map, length, Bool, true, false, Option, Some, None, Result, Ok, Err, refl, ap, sym, ◌∙◌, subst}
 use Rattle.std.specs.List.{list_any}
 use Rattle.std.specs.Str.{bytes_eq}
 use Rattle.toml.specs.Data.{Data, Members}
@@ -16,15 +16,26 @@ use Rattle.ioam_telemetry.specs.declared.flow_parts.Exporting.{Exporting}
 use Rattle.ioam_entries.specs.declared.fault.DomainFault.{DomainFault}
 use Rattle.ioam_entries.specs.Goods.{goods, kept}
 use Rattle.ioam_topo.specs.Keyed.{pairs_of}
-use Rattle.ioam_telemetry.specs.FlowTable.{flow_keys, flow_faults, flow_of, flow_with, flow_name, flow_key, id_key}
-use Rattle.ioam_telemetry.specs.FlowParts.{flow_space, selection_of, outer_of, tracing_of, exporting_of}
-use Rattle.ioam_telemetry.specs.FlowRead.{HoldsFlows, IsNewFlow, IsNewExport}
+use Rattle.ioam_topo.specs.Flows.{name_of_flow, ids_of_flows}
+use Rattle.ioam_topo.proofs.KeyLaws.{map_append}
+use Rattle.std.proofs.lemmas.List.{append_assoc, append-nil}
+use Rattle.ioam_telemetry.specs.FlowTable.{FlowLook, flow_keys, flow_faults, flow_of, flow_with, flow_name, flow_look, flow_key, id_key}
+use Rattle.ioam_telemetry.specs.FlowParts.{flow_entry, flow_exit, flow_source, flow_target, flow_space, flow_trace, flow_capacity, flow_edge, selection_of, outer_of, tracing_of, exporting_of}
+use Rattle.ioam_telemetry.specs.FlowRead.{HoldsFlows, IsNewFlow, IsNewExport, look_of}
+use Rattle.ioam_telemetry.proofs.FlowKept.{selected}
+use Rattle.ioam_entries.proofs.KeyLaws.{kept_by}
 use Rattle.ioam_entries.proofs.GoodsLaws.{goods_push, kept_append}
 
 goods_last : {A : Type 0} (read : Members → Result A Why) (ms : List Members) (m : Members) (xs : List A) → kept (read m) [] ≡ xs
     → goods read (ms ++ m ∷ []) ≡ goods read ms ++ xs
 goods_last read [] m xs is = is
 goods_last read (n ∷ ms) m xs is = ap (kept (read n)) (goods_last read ms m xs is) ∙ kept_append (read n) (goods read ms) xs
+
+-- the ids of flows and one more
+ids_push : (flows : List Flow) (flow : Flow) → ids_of_flows (flows ++ flow ∷ []) ≡ ids_of_flows flows ++ pairs_of flow.namespace.0 flow.flow_id
+ids_push [] flow = append-nil (pairs_of flow.namespace.0 flow.flow_id)
+ids_push (x ∷ flows) flow = ap (λ l. pairs_of x.namespace.0 x.flow_id ++ l) (ids_push flows flow)
+    ∙ sym (append_assoc (pairs_of x.namespace.0 x.flow_id) (ids_of_flows flows) (pairs_of flow.namespace.0 flow.flow_id))
 
 module _ (nodes : List (List ℕ)) (lists : List (Result (List Namespace) Why)) where
   pub held_faults : (earlier : List Members) (flows : Flows) (place : ℕ) (m : Members) → HoldsFlows nodes lists earlier flows → place ≡ length earlier + 1
@@ -40,6 +51,9 @@ module _ (nodes : List (List ℕ)) (lists : List (Result (List Namespace) Why)) 
     items = goods_push (flow_of nodes lists) earlier m flow _ _ fits.is holds.items items;
     names = goods_push flow_name earlier m flow.name _ _ fits.name_is holds.names names;
     keys = keys ∙ ap (λ l. l ++ pairs_of flow.namespace.0 flow.flow_id) holds.keys ∙ sym (goods_last (flow_key nodes lists) earlier m _ fits.key_is);
+    looks = goods_push (flow_look nodes lists) earlier m (look_of flow) _ _ fits.look_is holds.looks (ap (map look_of) items ∙ map_append look_of old.items.items (flow ∷ []));
+    named = kept_by name_of_flow old.items.items new.items.items flow _ _ holds.named items names;
+    keyed = keys ∙ ap (λ l. l ++ pairs_of flow.namespace.0 flow.flow_id) holds.keyed ∙ sym (ap ids_of_flows items ∙ ids_push old.items.items flow);
   }
 
 flow_is : (n : Result (List ℕ) Why) (ss : Result Selection Why) (oo : Result Outer Why) (tt' : Result Tracing Why) (ee : Result Exporting Why)
@@ -47,18 +61,36 @@ flow_is : (n : Result (List ℕ) Why) (ss : Result Selection Why) (oo : Result O
     → n ▷ (λ name. ss ▷ (λ s. oo ▷ (λ o. tt' ▷ (λ t. ee ▷ (λ e. Ok (flow_with name s o t e)))))) ≡ Ok (flow_with name s o t e)
 flow_is n ss oo tt' ee name s o t e n_is s_is o_is t_is e_is = rw (n_is, s_is, o_is, t_is, e_is)
 
+abbrev look : Result ℕ Why → Result ℕ Why → Result ℕ Why → Result (Option ℕ) Why → FlowLook
+look a b c d = record { entry = a; exit = b; space = c; trace = d }
+
+look_read : (n : Result (List ℕ) Why) (a b c : Result ℕ Why) (d : Result (Option ℕ) Why) (name : List ℕ) (s : Selection) (t : Tracing)
+    → n ≡ Ok name → (a ≡ Ok s.entry) × (b ≡ Ok s.exit) → c ≡ Ok s.namespace → d ≡ Ok t.trace
+    → n ▷ (λ name. Ok (look a b c d)) ≡ Ok (look (Ok s.entry) (Ok s.exit) (Ok s.namespace) (Ok t.trace))
+look_read n a b c d name s t read ends space trace = rw (read, ends.0, ends.1, space, trace)
+
+traced_first : (a b c : Result (Option ℕ) Why) (t : Tracing)
+    → a ▷ (λ trace. b ▷ (λ capacity. c ▷ (λ edge. Ok (record { trace = trace; capacity = capacity; edge = edge })))) ≡ Ok t → a ≡ Ok t.trace
+traced_first (Ok x) (Ok y) (Ok z) t is = let P : Result Tracing Why → Type 0 = λ r. Ok x ≡ r ▷ (λ t. Ok t.trace) in subst P is refl
+traced_first (Ok x) (Ok y) (Err why) t is = cc
+traced_first (Ok x) (Err why) c t is = cc
+traced_first (Err why) b c t is = cc
+
 module _ (nodes : List (List ℕ)) (lists : List (Result (List Namespace) Why)) where
   -- the flow of parts that were read
   pub new_flow : (flows : Flows) (m : Members) (text name : List ℕ) (s : Selection) (o : Outer) (t : Tracing) (e : Exporting) (flow : Flow)
       → flow ≡ flow_with name s o t e → name ≡ text → flow_name m ≡ Ok text → list_any (bytes_eq text) flows.names ≡ false
       → selection_of nodes lists m ≡ Ok s → flow_space nodes lists m ≡ Ok s.namespace → outer_of m ≡ Ok o → tracing_of m ≡ Ok t
       → IsNewExport s.namespace flows.taken.keys m e → IsNewFlow nodes lists flows m text flow
-  new_flow flows m text name s o t e flow made named read fresh selected space around traced exported =
+  new_flow flows m text name s o t e flow made named read fresh selected_is space around traced exported =
       let named_read : flow_name m ≡ Ok name = read ∙ ap Ok (sym named) in
       let whole : IsNewFlow nodes lists flows m text (flow_with name s o t e) = record {
         name = named;
-        is = flow_is (flow_name m) (selection_of nodes lists m) (outer_of m) (tracing_of m) (exporting_of m) name s o t e named_read selected around traced exported.is;
+        is = flow_is (flow_name m) (selection_of nodes lists m) (outer_of m) (tracing_of m) (exporting_of m) name s o t e named_read selected_is around traced exported.is;
         name_is = named_read;
+        look_is = look_read (flow_name m) (flow_entry nodes lists m) (flow_exit nodes lists m) (flow_space nodes lists m) (flow_trace m) name s t named_read
+            (selected (flow_entry nodes lists m) (flow_exit nodes lists m) (flow_source m) (flow_target m) (flow_space nodes lists m) s selected_is)
+            space (traced_first (flow_trace m) (flow_capacity m) (flow_edge m) t traced);
         new_name = fresh;
         key_is = ap (λ (r : Result ℕ Why). kept (id_key r m) []) space ∙ exported.key_is;
         new_id = exported.new_id;

@@ -1,5 +1,9 @@
 pub mod DataLaws
 pub mod DataKept
+pub mod SpaceLaws
 pub mod FlowLaws
 pub mod FlowFacts
 pub mod FlowKept
+pub mod TracedLaws
+pub mod ExtraLaws
+pub mod TableLaws

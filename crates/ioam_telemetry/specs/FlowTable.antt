@@ -1,5 +1,5 @@
 -- The table `flow`.
-use Rattle.std.specs.Prelude.{ℕ, ◌+◌, codes, List, ◌++◌, length, Result, Ok}
+use Rattle.std.specs.Prelude.{ℕ, ◌+◌, codes, List, ◌++◌, length, Option, Result, Ok}
 use Rattle.std.specs.Str.{bytes_eq}
 use Rattle.toml.specs.Data.{Members, get_member}
 use Rattle.ioam_data.specs.declared.namespace.Namespace.{Namespace}
@@ -20,11 +20,18 @@ use Rattle.ioam_telemetry.specs.declared.flow_parts.Exporting.{Exporting}
 use Rattle.ioam_entries.specs.Faults.{at}
 use Rattle.ioam_entries.specs.Goods.{goods, fresh}
 use Rattle.ioam_entries.specs.Keys.{own_keys}
-use Rattle.ioam_telemetry.specs.FlowParts.{flow_space, selection_of, selection_keys, outer_of, outer_keys, tracing_of, tracing_keys, exporting_of, exporting_keys}
+use Rattle.ioam_telemetry.specs.FlowParts.{flow_entry, flow_exit, flow_space, flow_trace, selection_of, selection_keys, outer_of, outer_keys, tracing_of, tracing_keys, exporting_of, exporting_keys}
 
 -- the entries of the table
 abbrev pub flow_entries : Members → List Members
 flow_entries t = entries (get_member (codes "flow") t)
+
+-- what an entry of a name says of its ends, its namespace and its own trace, each where it is read
+pub record FlowLook : Type 0 where
+  pub entry : Result ℕ Why
+  pub exit : Result ℕ Why
+  pub space : Result ℕ Why
+  pub trace : Result (Option ℕ) Why
 
 abbrev pub flow_name : Members → Result (List ℕ) Why
 flow_name m = needed name (get_member (codes "name") m)
@@ -56,6 +63,10 @@ flow_with name s o t e = record {
 
 -- `nodes` are the names of the nodes, and `lists` the namespaces that these list
 module _ (nodes : List (List ℕ)) (lists : List (Result (List Namespace) Why)) where
+  -- what the entry of a flow of a name says
+  abbrev pub flow_look : Members → Result FlowLook Why
+  flow_look m = flow_name m ▷ (λ name. Ok (record { entry = flow_entry nodes lists m; exit = flow_exit nodes lists m; space = flow_space nodes lists m; trace = flow_trace m }))
+
   -- what no two flows may share
   abbrev pub flow_key : Members → Result (ℕ × ℕ) Why
   flow_key m = id_key (flow_space nodes lists m) m

@@ -3,5 +3,8 @@ pub mod Spaces
 pub mod FlowParts
 pub mod FlowTable
 pub mod FlowRead
+pub mod ExtraTable
+pub mod ExtraRead
 pub mod DataTable
 pub mod DataRead
+pub mod Tables

@@ -52,7 +52,7 @@ pub(crate) struct Exporting {
 }
 
 // A namespace that was read, where a node knows it.
-fn known_at(nodes: &Nodes, node: u32, read: Result<u16, Why>) -> Result<u16, Why>
+pub(crate) fn known_at(nodes: &Nodes, node: u32, read: Result<u16, Why>) -> Result<u16, Why>
     ensures { result ≡ read ▷ known_at (map list_of nodes.now.items.items) (Ok node) }
 {
     let space = read?;
