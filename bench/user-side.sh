@@ -1,7 +1,7 @@
 #!/bin/sh
 # What a user meets at the command line: each command with files that are missing, faulty, locked or
-# full, and with wrong words. Prints a line for each case: ok or DIFFERS, the status, the answer and
-# the words. Ends with status 1 where one differs.
+# full, or open by another name, and with wrong words. Prints a line for each case: ok or DIFFERS, the
+# status, the answer and the words. Ends with status 1 where one differs.
 #     bench/user-side.sh
 set -u
 top=$(cd "$(dirname "$0")/.." && pwd) || exit 1
@@ -20,17 +20,20 @@ head -c 23 "$real" >cut-head
 head -c 100 "$real" >cut-record
 { head -c 20 "$real" && printf '\0\0\0\161'; } >wrong-link
 { head -c 24 "$real" && printf '\0\0\0\0\0\0\0\0\0\004\0\001\0\0\0\0'; } >too-long
+cp "$real" x && ln -s x soft && ln x hard && mkfifo pipe
 chmod 000 locked && chmod 555 shut
 as=
 if [ "$(id -u)" = 0 ]; then # root may open everything, so the program runs as nobody
     chown -R 65534:65534 . && as='setpriv --reuid=65534 --regid=65534 --clear-groups'
 fi
-cases=0 wrong=0
+cases=0 wrong=0 file= why=
 
-# judge GOT STATUS WORD..: stdout is to be as wanted, and nothing on stderr.
+# named STATUS: a fault of reading or writing names the file on stderr, and why; else nothing stands there.
+named() { case $1 in 9 | 10) [ "$(wc -l <stderr)" = 1 ] && grep -qF "ioam: $file: $why" stderr ;; *) [ ! -s stderr ] ;; esac }
+# judge GOT STATUS WORD..: stdout is to be as wanted, and stderr too.
 judge() {
     got=$1 said=DIFFERS
-    [ "$got" = "$2" ] && cmp -s stdout wanted && [ ! -s stderr ] && said=ok || wrong=$((wrong + 1))
+    [ "$got" = "$2" ] && cmp -s stdout wanted && named "$2" && said=ok || wrong=$((wrong + 1))
     cases=$((cases + 1)) && shift 2
     printf '%-8s%3d  %-36.36s %.90s\n' $said "$got" "$(head -n 1 stdout | tr -cd ' -~')" "$*"
 }
@@ -71,8 +74,10 @@ for file in missing locked "$long"; do
     with_domain in "$file" && [ "$file" != "$long" ] && want 9 'read fault' run domain.toml "$readings" 1 report exports
 done
 want 3 'domain port 1 in range' run domain.toml "$readings" 1 report exports
+file=folder why='Is a directory'
 want 9 'read fault' run folder "$readings" 1 report exports
 want 9 'read fault' run "$domain" folder 1 report exports
+why=
 for file in text pcapng; do want 3 'domain top 0 - text' run "$file" "$readings" 1 report exports; done
 want 4 'readings 1 words' run "$domain" text 1 report report # before equal names
 want 4 'readings 2 words' run "$domain" pcapng 1 report exports # its first octet is a line feed
@@ -107,6 +112,26 @@ for file in shut/out folder missing/out "$long" /dev/full; do
     with_domain out "$file" && sed -i 's|\(in = .*\)out = "[^"]*"|\1out = "west-out.pcap"|' domain.toml
     [ "$file" = "$long" ] || want 10 'write fault' run domain.toml "$readings" 1 report exports
 done
+
+# A file that is open, by another name as an output: it stays as it is. Devices and pipes may stand twice.
+# same FILE OTHER: they hold the same.
+same() { : >stderr && cat "$2" >wanted && cat "$1" >stdout; judge 0 0 "  $1 is $2"; }
+for file in ./x soft hard "$work/x"; do
+    why='is an input of this run'
+    want 10 'write fault' filter x "$file" report && want 10 'write fault' filter x out "$file"
+    want 10 'write fault' paths x "$file"
+    with_domain in x && want 10 'write fault' run domain.toml "$readings" 1 "$file" exports
+    with_domain in x && sed -i "s|\(in = .*\)out = \"[^\"]*\"|\1out = \"$file\"|" domain.toml
+    want 10 'write fault' run domain.toml "$readings" 1 report exports
+    same x "$real"
+done
+file=./$domain && want 10 'write fault' run "$domain" "$readings" 1 "$file" exports
+file=./$readings && want 10 'write fault' run "$domain" "$readings" 1 report "$file"
+file=./out why='is an output of this run already'
+want 10 'write fault' filter x out ./out && want 10 'write fault' run "$domain" "$readings" 1 out ./out
+why= && want 0 done filter x /dev/null /dev//null
+want 5 'capture /dev/null 0 short 0' filter /dev/null /dev//null report
+cat pipe >piped & want 0 done filter x pipe ./pipe && kill $! 2>/dev/null
 
 # An answer that can't be printed: the status says it, and the outputs are the same.
 want 0 done filter "$real" out report && cp out out-1 && cp report report-1

@@ -6,23 +6,37 @@ mod program;
 
 use ioam_answer::{Outcome, line, status};
 use ioam_base::memory::NoMemory;
-use ioam_desk::{HostDesk, Name};
+use ioam_desk::{Fault, FileSystem, HostDesk, Name};
 use program::ioam;
 use std::env;
 use std::io::ErrorKind;
 use std::process::ExitCode;
 
 /// Runs the words of the command line over the files of the machine, prints the answer's line and
-/// ends with its status.
+/// ends with its status. Of a fault of reading or writing it says on standard error which file it
+/// was, and what the system said.
 fn main(rt: HostRuntime) -> ExitCode {
+    let mut desk = HostDesk::new(&rt, rt.alloc());
     let outcome = match words_of(&rt) {
-        Ok(words) => ioam(rt.alloc(), &words, &mut HostDesk::new(&rt, rt.alloc())),
+        Ok(words) => ioam(rt.alloc(), &words, &mut desk),
         Err(outcome) => outcome,
     };
     if let Ok(line) = line(rt.alloc(), &outcome) {
         let _ = println!(rt; "{line}");
     }
+    if let Some(fault) = fault_of(&desk, &outcome) {
+        let _ = eprintln!(rt; "ioam: {fault}");
+    }
     ExitCode::from(status(&outcome))
+}
+
+// The call on a file that an answer is about.
+fn fault_of<'a, R: FileSystem>(desk: &'a HostDesk<R>, outcome: &Outcome) -> Option<Fault<'a>> {
+    match outcome {
+        Outcome::ReadFault => desk.read_fault(),
+        Outcome::WriteFault => desk.write_fault(),
+        _ => None,
+    }
 }
 
 // The words behind the program's name. One that isn't UTF-8 is no word of a command, and is

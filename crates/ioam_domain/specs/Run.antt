@@ -5,6 +5,7 @@ use Rattle.std.specs.Prelude.{◌≡◌, ◌≢◌, ℕ, ◌+◌, ◌<◌, ◌�
 use Rattle.ioam_clock.specs.declared.sample.Sample.{Sample}
 use Rattle.ioam_desk.specs.Asked.{AsksFront}
 use Rattle.ioam_desk.specs.Desk.{Reading, Writing, Rose, holds}
+use Rattle.ioam_desk.specs.Kept.{KeepsInputs, KeepsOutputs}
 use Rattle.ioam_forward.specs.Fate.{Fate, AreFates}
 use Rattle.ioam_forward.specs.Texts.{out_text, report_text}
 use Rattle.ioam_ip.specs.Clean.{IsClean}
@@ -129,6 +130,7 @@ course_for words reading writing domain = record {
   domain = domain;
   ports = input_ports (ports domain);
   lanes = start_of (reading.side.slots + 2) writing (run_inputs domain);
+  first = writing.side.slots;
   names = run_outputs words domain;
 }
 
@@ -249,3 +251,5 @@ module _ (tells : Bool) (words : List (List ℕ)) (old_in new_in : Reading) (old
     pub untouched : IsRefusal answer → OpensNone words old_in new_in old new
     pub drained : IsDone answer → IsTrue tells → AreDrained words old_in new_in old new
     pub boundary : IsBehindAll (old.side.slots < new.side.slots) answer → IsTrue tells → IsBounded words old_in new_in old new
+    pub kept_in : KeepsInputs old_in new_in
+    pub kept_out : IsTrue tells → KeepsOutputs old new
