@@ -76,7 +76,7 @@ module _ (tells : Bool) (words : List (List ℕ)) (old_in new_in : Reading) (old
   AreWritten Paths answer = IsBehindAll (old_in.side.slots < new_in.side.slots) answer
   AreWritten Run answer = IsBehindAll (old.side.slots < new.side.slots) answer
 
-  -- each packet in a capture of what leaves a domain has a whole header chain without an IOAM option
+  -- what leaves a domain, in a capture, is one IPv6 packet a record, with a whole header chain without an IOAM option
   abbrev pub IsBounded : Command → Type 0
   IsBounded Filter = IsSomeAnd (holds new (name_at words 2)) (IsCaptureOf MayLeave)
   IsBounded Paths = ⊤

@@ -45,7 +45,7 @@ pub fn ioam<D: Desk>(alloc: Global, words: &[Name], desk: &mut D) -> Outcome
     ensures kept_in { KeepsInputs (D.reading desk.old) (D.reading desk.new) }
     ensures kept_out { IsTrue D.tells → KeepsOutputs (D.writing desk.old) (D.writing desk.new) }
 
-    // Each packet in a capture of what leaves a domain, OUT of `filter` and those of the ports of `run`, has a whole header chain without an IOAM option.
+    // What leaves a domain, in OUT of `filter` and the captures of the ports of `run`, is one IPv6 packet a record, with a whole header chain without an IOAM option.
     ensures boundary { (command : Command) → IsForm command words.now → AreWritten D.tells words.now (D.reading desk.old) (D.reading desk.new) (D.writing desk.old) (D.writing desk.new) command result → IsTrue D.tells → IsBounded D.tells words.now (D.reading desk.old) (D.reading desk.new) (D.writing desk.old) (D.writing desk.new) command }
 {
     match parse(words) {

@@ -8,7 +8,7 @@ use Rattle.ioam_desk.specs.Desk.{Reading, Writing, Rose, holds}
 use Rattle.ioam_desk.specs.Kept.{KeepsInputs, KeepsOutputs}
 use Rattle.ioam_forward.specs.Fate.{Fate, AreFates}
 use Rattle.ioam_forward.specs.Texts.{out_text, report_text}
-use Rattle.ioam_ip.specs.Clean.{IsClean}
+use Rattle.ioam_ip.specs.Clean.{MayLeave}
 use Rattle.ioam_merge.specs.Merging.{FilesArrive, FilesBegin, PartsArrive, start_of}
 use Rattle.ioam_outputs.specs.Names.{name_at, AreApart, IsFirstRepeat}
 use Rattle.ioam_pcap.specs.Merge.{Arrival}
@@ -229,7 +229,7 @@ module _ (words : List (List ℕ)) (old_in new_in : Reading) (old new : Writing)
   -- what leaves by each port of the domain is a capture of packets that may leave it
   abbrev pub IsBounded : Type 0
   IsBounded = OfTraffic (λ course. (place : ℕ) (port : Port) → slice_get (ports course.domain) place ≡ Some port
-      → IsSomeAnd (holds new port.output) (IsCaptureOf IsClean))
+      → IsSomeAnd (holds new port.output) (IsCaptureOf MayLeave))
 
 module _ (tells : Bool) (words : List (List ℕ)) (old_in new_in : Reading) (old new : Writing) where
   -- what a run owes for its answer: its cause, what was opened and read, and what the files hold

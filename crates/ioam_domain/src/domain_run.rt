@@ -59,7 +59,7 @@ pub fn run_domain<D: Desk>(alloc: Global, words: &[Name], desk: &mut D) -> Outco
     ensures untouched { IsRefusal result → OpensNone words.now (D.reading desk.old) (D.reading desk.new) (D.writing desk.old) (D.writing desk.new) }
     ensures drained { IsDone result → IsTrue D.tells
         → AreDrained words.now (D.reading desk.old) (D.reading desk.new) (D.writing desk.old) (D.writing desk.new) }
-    // Each packet in a port's capture has a whole header chain without an IOAM option.
+    // A port's capture is one of IPv6 packets, each with a whole header chain without an IOAM option.
     ensures boundary { IsBehindAll ((D.writing desk.old).side.slots < (D.writing desk.new).side.slots) result → IsTrue D.tells
         → IsBounded words.now (D.reading desk.old) (D.reading desk.new) (D.writing desk.old) (D.writing desk.new) }
     // Input slots that were there, and where the desk tells output slots that were there and names that weren't opened to be written, are as they were.
