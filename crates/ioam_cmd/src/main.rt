@@ -8,6 +8,7 @@ use ioam_answer::{Outcome, line, status};
 use ioam_base::memory::NoMemory;
 use ioam_desk::{Fault, FileSystem, HostDesk, Name};
 use program::ioam;
+use std::alloc::Global;
 use std::env;
 use std::io::ErrorKind;
 use std::process::ExitCode;
@@ -24,18 +25,32 @@ fn main(rt: HostRuntime) -> ExitCode {
     if let Ok(line) = line(rt.alloc(), &outcome) {
         let _ = println!(rt; "{line}");
     }
-    if let Some(fault) = fault_of(&desk, &outcome) {
-        let _ = eprintln!(rt; "ioam: {fault}");
+    if let Some(line) = fault_line(rt.alloc(), &desk, &outcome) {
+        let _ = eprintln!(rt; "ioam: {line}");
     }
     ExitCode::from(status(&outcome))
 }
 
-// The call on a file that an answer is about.
-fn fault_of<'a, R: FileSystem>(desk: &'a HostDesk<R>, outcome: &Outcome) -> Option<Fault<'a>> {
+// Which file an answer is about, and what the system said of it.
+fn fault_line<R: FileSystem>(
+    alloc: Global,
+    desk: &HostDesk<R>,
+    outcome: &Outcome,
+) -> Option<String> {
     match outcome {
-        Outcome::ReadFault => desk.read_fault(),
-        Outcome::WriteFault => desk.write_fault(),
+        Outcome::ReadFault => line_of(alloc, desk.read_fault()),
+        Outcome::WriteFault => line_of(alloc, desk.write_fault()),
         _ => None,
+    }
+}
+
+fn line_of(alloc: Global, fault: Option<Fault<'_>>) -> Option<String> {
+    match fault {
+        Some(fault) => match format!(in alloc; "{fault}") {
+            Ok(line) => Some(line),
+            Err(_) => None,
+        },
+        None => None,
     }
 }
 
