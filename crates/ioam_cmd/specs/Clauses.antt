@@ -5,7 +5,7 @@ use Rattle.ioam_desk.specs.Asked.{AsksFront}
 use Rattle.ioam_desk.specs.Desk.{Reading, Writing, holds}
 use Rattle.ioam_domain.specs.Run as domain
 use Rattle.ioam_domain.specs.Run.{domain_file, readings_file}
-use Rattle.ioam_ip.specs.Clean.{IsClean}
+use Rattle.ioam_ip.specs.Clean.{MayLeave}
 use Rattle.ioam_outputs.specs.Names.{name_at, AreApart}
 use Rattle.ioam_pcap.specs.Text.{IsCaptureOf}
 use Rattle.ioam_run.specs.FilterText.{FilterTexts}
@@ -76,8 +76,8 @@ module _ (tells : Bool) (words : List (List ℕ)) (old_in new_in : Reading) (old
   AreWritten Paths answer = IsBehindAll (old_in.side.slots < new_in.side.slots) answer
   AreWritten Run answer = IsBehindAll (old.side.slots < new.side.slots) answer
 
-  -- each packet in a capture of what leaves a domain has a whole header chain without an IOAM option
+  -- what leaves a domain, in a capture, is one IPv6 packet a record, with a whole header chain without an IOAM option
   abbrev pub IsBounded : Command → Type 0
-  IsBounded Filter = IsSomeAnd (holds new (name_at words 2)) (IsCaptureOf IsClean)
+  IsBounded Filter = IsSomeAnd (holds new (name_at words 2)) (IsCaptureOf MayLeave)
   IsBounded Paths = ⊤
   IsBounded Run = domain.IsBounded words old_in new_in old new

@@ -4,6 +4,7 @@ ghost use Rattle.ioam_cmd.specs.Clauses.{Asked, HasCause, Leaves, Asks, AreDrain
 ghost use Rattle.ioam_cmd.specs.Words.{IsForm, IsNoForm};
 ghost use Rattle.ioam_cmd.specs.declared.command.Command.{Command};
 ghost use Rattle.ioam_desk.specs.Desk.{Rose};
+ghost use Rattle.ioam_desk.specs.Kept.{KeepsInputs, KeepsOutputs};
 ghost use Rattle.ioam_desk.specs.SureDesk.{reading_of, writing_of};
 ghost use Rattle.ioam_answer.specs.Outcomes.{IsDone};
 ghost use Rattle.ioam_answer.specs.declared.outcome.Outcome.{Outcome};
@@ -40,7 +41,11 @@ pub fn ioam<D: Desk>(alloc: Global, words: &[Name], desk: &mut D) -> Outcome
     ensures asked { (command : Command) → IsForm command words.now → Asks D.tells words.now (D.reading desk.old) (D.reading desk.new) (D.writing desk.old) (D.writing desk.new) command result }
     ensures drained { (command : Command) → IsForm command words.now → IsDone result → IsTrue D.tells → AreDrained D.tells words.now (D.reading desk.old) (D.reading desk.new) (D.writing desk.old) (D.writing desk.new) command }
 
-    // Each packet in a capture of what leaves a domain, OUT of `filter` and those of the ports of `run`, has a whole header chain without an IOAM option.
+    // Slots that were there before are as they were, and so is each name that wasn't given to the opening of outputs in this call.
+    ensures kept_in { KeepsInputs (D.reading desk.old) (D.reading desk.new) }
+    ensures kept_out { IsTrue D.tells → KeepsOutputs (D.writing desk.old) (D.writing desk.new) }
+
+    // What leaves a domain, in OUT of `filter` and the captures of the ports of `run`, is one IPv6 packet a record, with a whole header chain without an IOAM option.
     ensures boundary { (command : Command) → IsForm command words.now → AreWritten D.tells words.now (D.reading desk.old) (D.reading desk.new) (D.writing desk.old) (D.writing desk.new) command result → IsTrue D.tells → IsBounded D.tells words.now (D.reading desk.old) (D.reading desk.new) (D.writing desk.old) (D.writing desk.new) command }
 {
     match parse(words) {

@@ -3,6 +3,9 @@ use Rattle.std.proofs.Common.{◌≡◌, ℕ, ◌+◌, ◌<◌, ◌⊎◌, Bool,
 use Rattle.ioam_clock.specs.declared.sample.Sample.{Sample}
 use Rattle.ioam_desk.specs.Asked.{AsksFront}
 use Rattle.ioam_desk.specs.Desk.{Side, Reading, Writing, Rose, opened_each}
+use Rattle.ioam_desk.specs.Kept.{KeepsInputs, KeepsOutputs}
+use Rattle.ioam_desk.specs.Unread.{Unread}
+use Rattle.ioam_desk.proofs.KeptLaws.{KeepsInputs-then, KeepsOutputs-same}
 use Rattle.ioam_merge.specs.Merging.{EndsKept}
 use Rattle.ioam_outputs.specs.Names.{AreApart}
 use Rattle.ioam_answer.specs.Outcomes.{IsDone, IsBehindAll}
@@ -27,7 +30,7 @@ module _ (tells : Bool) (words : List (List ℕ)) (old_in new_in : Reading) (old
     (refuses : Refuses old (domain_file words) (readings_file words) tells old_in new_in why)
     (asked : AsksFront old_in.side.asked new_in.side.asked (domain_file words ∷ readings_file words ∷ []))
     (first : (fault : DomainFault) → why ≡ refusal.Domain fault → AsksFront old_in.side.asked new_in.side.asked (domain_file words ∷ []))
-    (same : new ≡ old) (is : answer ≡ refused_as why) where
+    (same : new ≡ old) (is : answer ≡ refused_as why) (kept : KeepsInputs old_in new_in) where
   refused-read_fault : answer ≡ outcome.ReadFault → Rose old_in.side.faults new_in.side.faults
   refused-read_fault read = refused_read tells words old_in new_in old why refuses (sym is ∙ read)
 
@@ -80,6 +83,8 @@ module _ (tells : Bool) (words : List (List ℕ)) (old_in new_in : Reading) (old
     untouched = λ refusal. (asked, same);
     drained = λ done told. refused-drained done;
     boundary = λ behind told. refused-bounded behind;
+    kept_in = kept;
+    kept_out = λ told. KeepsOutputs-same old new same;
   }
 
 no_read_usage : (tells : Bool) (words : List (List ℕ)) (domain : Domain) (mid_in new_in : Reading) (old new : Writing) (answer : Outcome)
@@ -210,6 +215,15 @@ module _ (tells : Bool) (words : List (List ℕ)) (old_in mid_in new_in : Readin
   ended-no_output : (new_in.side.slots < mid_in.side.slots + length (run_inputs domain) → new ≡ mid) → new_in.side.slots < old_in.side.slots + 2 → new ≡ old
   ended-no_output early few = early (omega (arith, few, ap (λ (s : Side). s.slots) opened)) ∙ same
 
+  ended-kept_in : KeepsInputs old_in mid_in → EndsKept mid_in.side.slots mid_in new_in → KeepsInputs old_in new_in
+  ended-kept_in first kept = KeepsInputs-then old_in mid_in new_in (omega (arith, ap (λ (s : Side). s.slots) opened)) first (record {
+    left = λ k below. ap (λ (s : Unread). s.left) (kept k below);
+    ended = λ k below. ap (λ (s : Unread). s.ended) (kept k below);
+  })
+
+  ended-kept_out : (IsTrue tells → KeepsOutputs mid new) → IsTrue tells → KeepsOutputs old new
+  ended-kept_out kept told = let P : Writing → Type 0 = λ w. KeepsOutputs w new in subst P same (kept told)
+
   ended-untouched : IsRefusal answer → OpensNone words old_in new_in old new
   ended-untouched refusal = let none = unwritten tells words domain mid_in new_in old new answer ends refusal in (none_asked none.0, none.1)
 
@@ -219,7 +233,8 @@ module _ (tells : Bool) (words : List (List ℕ)) (old_in mid_in new_in : Readin
       (asked_out : (new ≡ mid) ⊎ (AreApart (run_files words domain) × AsksFront mid.side.asked new.side.asked (run_outputs words domain)))
       (all_in : IsBehindAll ⊥ answer → new_in.side.asked ≡ mid_in.side.asked ++ run_inputs domain)
       (all_out : IsBehindAll ⊥ answer → AreApart (run_files words domain) × (new.side.asked ≡ mid.side.asked ++ run_outputs words domain))
-      (early : new_in.side.slots < mid_in.side.slots + length (run_inputs domain) → new ≡ mid) where
+      (early : new_in.side.slots < mid_in.side.slots + length (run_inputs domain) → new ≡ mid)
+      (kept_in : KeepsInputs old_in mid_in) (kept_out : IsTrue tells → KeepsOutputs mid new) where
     pub ended-owes : Owes tells words old_in new_in old new answer
     ended-owes = record {
       read_fault = ended-read_fault;
@@ -238,4 +253,6 @@ module _ (tells : Bool) (words : List (List ℕ)) (old_in mid_in new_in : Readin
       untouched = ended-untouched;
       drained = ended-drained both kept;
       boundary = ended-bounded;
+      kept_in = ended-kept_in kept_in kept;
+      kept_out = ended-kept_out kept_out;
     }

@@ -1,7 +1,7 @@
 -- What leaves by the ports of a domain may leave it.
 use Rattle.std.proofs.Common.{ℕ, ◌<◌, IsSomeAnd, List, Option, sym, ap, subst, inl, inr, arith}
 use Rattle.ioam_desk.specs.Desk.{Reading, Writing}
-use Rattle.ioam_ip.specs.Clean.{IsClean}
+use Rattle.ioam_ip.specs.Clean.{MayLeave}
 use Rattle.ioam_forward.proofs.CleanLaws.{outs-clean}
 use Rattle.ioam_pcap.specs.Merge.{Arrival}
 use Rattle.ioam_pcap.specs.Text.{IsCaptureOf}
@@ -19,7 +19,7 @@ module _ (words : List (List ℕ)) (old_in new_in : Reading) (old new : Writing)
     domain,
     ready,
     λ place port is.
-        let P : Option (List ℕ) → Type 0 = λ o. IsSomeAnd o (IsCaptureOf IsClean) in
+        let P : Option (List ℕ) → Type 0 = λ o. IsSomeAnd o (IsCaptureOf MayLeave) in
         subst P (sym (all.outs place port is)) (outs-clean domain (frames_of (course_for words old_in old domain).ports all.taken) all.fates all.become place),
   )
 

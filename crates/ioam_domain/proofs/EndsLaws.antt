@@ -37,6 +37,7 @@ module _ (words : List (List ℕ)) (old_in mid_in : Reading) (opened : mid_in.si
     domain = domain;
     ports = input_ports (ports domain);
     lanes = start_of base old (run_inputs domain);
+    first = old.side.slots;
     names = run_outputs words domain;
   }) two_slots
 

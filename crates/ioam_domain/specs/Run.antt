@@ -5,9 +5,10 @@ use Rattle.std.specs.Prelude.{◌≡◌, ◌≢◌, ℕ, ◌+◌, ◌<◌, ◌�
 use Rattle.ioam_clock.specs.declared.sample.Sample.{Sample}
 use Rattle.ioam_desk.specs.Asked.{AsksFront}
 use Rattle.ioam_desk.specs.Desk.{Reading, Writing, Rose, holds}
+use Rattle.ioam_desk.specs.Kept.{KeepsInputs, KeepsOutputs}
 use Rattle.ioam_forward.specs.Fate.{Fate, AreFates}
 use Rattle.ioam_forward.specs.Texts.{out_text, report_text}
-use Rattle.ioam_ip.specs.Clean.{IsClean}
+use Rattle.ioam_ip.specs.Clean.{MayLeave}
 use Rattle.ioam_merge.specs.Merging.{FilesArrive, FilesBegin, PartsArrive, start_of}
 use Rattle.ioam_outputs.specs.Names.{name_at, AreApart, IsFirstRepeat}
 use Rattle.ioam_pcap.specs.Merge.{Arrival}
@@ -129,6 +130,7 @@ course_for words reading writing domain = record {
   domain = domain;
   ports = input_ports (ports domain);
   lanes = start_of (reading.side.slots + 2) writing (run_inputs domain);
+  first = writing.side.slots;
   names = run_outputs words domain;
 }
 
@@ -227,7 +229,7 @@ module _ (words : List (List ℕ)) (old_in new_in : Reading) (old new : Writing)
   -- what leaves by each port of the domain is a capture of packets that may leave it
   abbrev pub IsBounded : Type 0
   IsBounded = OfTraffic (λ course. (place : ℕ) (port : Port) → slice_get (ports course.domain) place ≡ Some port
-      → IsSomeAnd (holds new port.output) (IsCaptureOf IsClean))
+      → IsSomeAnd (holds new port.output) (IsCaptureOf MayLeave))
 
 module _ (tells : Bool) (words : List (List ℕ)) (old_in new_in : Reading) (old new : Writing) where
   -- what a run owes for its answer: its cause, what was opened and read, and what the files hold
@@ -249,3 +251,5 @@ module _ (tells : Bool) (words : List (List ℕ)) (old_in new_in : Reading) (old
     pub untouched : IsRefusal answer → OpensNone words old_in new_in old new
     pub drained : IsDone answer → IsTrue tells → AreDrained words old_in new_in old new
     pub boundary : IsBehindAll (old.side.slots < new.side.slots) answer → IsTrue tells → IsBounded words old_in new_in old new
+    pub kept_in : KeepsInputs old_in new_in
+    pub kept_out : IsTrue tells → KeepsOutputs old new

@@ -2,6 +2,7 @@
 ghost use Rattle.std.specs.Prelude.{◌≡◌, ◌≢◌, ◌+◌, ◌<◌, ◌⊎◌, ◌∷◌, ◌++◌, [], List, ℕ, IsTrue, Err, IfOk, IfErr, OnOk, length};
 ghost use Rattle.ioam_desk.specs.Asked.{AsksFront};
 ghost use Rattle.ioam_desk.specs.Desk.{Rose, opened_each};
+ghost use Rattle.ioam_desk.specs.Kept.{KeepsInputs, KeepsOutputs};
 ghost use Rattle.ioam_merge.specs.Merging.{EndsKept};
 ghost use Rattle.ioam_outputs.specs.Names.{AreApart};
 ghost use Rattle.ioam_answer.specs.Outcomes.{IsDone, IsBehindAll};
@@ -58,9 +59,12 @@ pub fn run_domain<D: Desk>(alloc: Global, words: &[Name], desk: &mut D) -> Outco
     ensures untouched { IsRefusal result → OpensNone words.now (D.reading desk.old) (D.reading desk.new) (D.writing desk.old) (D.writing desk.new) }
     ensures drained { IsDone result → IsTrue D.tells
         → AreDrained words.now (D.reading desk.old) (D.reading desk.new) (D.writing desk.old) (D.writing desk.new) }
-    // Each packet in a port's capture has a whole header chain without an IOAM option.
+    // A port's capture is one of IPv6 packets, each with a whole header chain without an IOAM option.
     ensures boundary { IsBehindAll ((D.writing desk.old).side.slots < (D.writing desk.new).side.slots) result → IsTrue D.tells
         → IsBounded words.now (D.reading desk.old) (D.reading desk.new) (D.writing desk.old) (D.writing desk.new) }
+    // Input slots that were there, and where the desk tells output slots that were there and names that weren't opened to be written, are as they were.
+    ensures kept_in { KeepsInputs (D.reading desk.old) (D.reading desk.new) }
+    ensures kept_out { IsTrue D.tells → KeepsOutputs (D.writing desk.old) (D.writing desk.new) }
 {
     run_words(alloc, words, desk)
 }
@@ -89,6 +93,7 @@ fn read_words<D: Desk>(alloc: Global, words: &[Name], desk: &mut D) -> Result<Se
     ensures asked { AsksFront (D.reading desk.old).side.asked (D.reading desk.new).side.asked (domain_file words.now ∷ readings_file words.now ∷ []) }
     ensures domain_first { (fault : DomainFault) → result ≡ Err (Refusal.Domain fault)
         → AsksFront (D.reading desk.old).side.asked (D.reading desk.new).side.asked (domain_file words.now ∷ []) }
+    ensures kept { KeepsInputs (D.reading desk.old) (D.reading desk.new) }
     ensures outputs { D.writing desk.new ≡ D.writing desk.old }
 {
     read_setting(alloc, desk, &words[1], &words[2])
@@ -125,6 +130,7 @@ fn run_set<D: Desk>(alloc: Global, words: &[Name], domain: &Domain, desk: &mut D
     ensures no_output { (D.reading desk.new).side.slots < (D.reading desk.old).side.slots + length (run_inputs domain.now)
         → D.writing desk.new ≡ D.writing desk.old }
     ensures kept { EndsKept (D.reading desk.old).side.slots (D.reading desk.old) (D.reading desk.new) }
+    ensures kept_out { IsTrue D.tells → KeepsOutputs (D.writing desk.old) (D.writing desk.new) }
 {
     let Ok(mut files) = run_files(alloc, words, domain) else {
         return Outcome::NoMemory;
@@ -150,6 +156,7 @@ fn run_apart<D: Desk>(alloc: Global, words: &[Name], domain: &Domain, desk: &mut
     ensures no_output { (D.reading desk.new).side.slots < (D.reading desk.old).side.slots + length (run_inputs domain.now)
         → D.writing desk.new ≡ D.writing desk.old }
     ensures kept { EndsKept (D.reading desk.old).side.slots (D.reading desk.old) (D.reading desk.new) }
+    ensures kept_out { IsTrue D.tells → KeepsOutputs (D.writing desk.old) (D.writing desk.new) }
 {
     let Ok(ports) = input_ports(alloc, domain) else {
         return Outcome::NoMemory;

@@ -1,10 +1,10 @@
--- What leaves a domain has a whole chain of headers and no IOAM option on it.
+-- What leaves a domain is one packet each, with a whole chain of headers and no IOAM option on it.
 use Rattle.std.proofs.Common.{◌≡◌, ℕ, zero, suc, ◌+◌, ◌<◌, Bool, true, false, List, [], ◌∷◌, ◌++◌, length, Option, Some, None, IsSomeAnd, slice_get, refl, sym, ap, ◌∙◌, subst, arith, if◌then◌else◌}
 use Rattle.std.specs.Prelude.{All, ⊤, ◌-◌, nat_eq, nat_lt, slice_index}
 use Rattle.std.proofs.lemmas.List.Elements.{All-nil, All-cons, All-append}
-use Rattle.ioam_ip.proofs.CleanLaws.{clean-lowered}
+use Rattle.ioam_ip.proofs.CleanLaws.{leaving-lowered}
 use Rattle.ioam_ip.proofs.FramingLaws.{framing-packet}
-use Rattle.ioam_ip.specs.Clean.{IsClean}
+use Rattle.ioam_ip.specs.Clean.{MayLeave}
 use Rattle.ioam_ip.specs.Framing.{Framing, Holds, NoIpv6, CutShort, TooShort, IfHolds, framing_of}
 use Rattle.ioam_ip.specs.Packet.{IsPacket}
 use Rattle.ioam_node.specs.Admission.{Admits}
@@ -23,17 +23,17 @@ use Rattle.ioam_forward.proofs.AnswerLaws.{plan-drops}
 
 -- the packet that is taken in, where one is, may leave
 abbrev TakesClean : Admit → Type 0
-TakesClean (admit.Plain kept) = IsPacket kept.now × IsClean kept.now
-TakesClean (admit.Enclose flow kept limit) = IsPacket kept.now × IsClean kept.now
+TakesClean (admit.Plain kept) = MayLeave kept.now
+TakesClean (admit.Enclose flow kept limit) = MayLeave kept.now
 TakesClean (admit.Drop reason) = ⊤
 
 admits-clean : (domain : Domain) (node : ℕ) (framing : Framing) (answer : Admit) → IfHolds framing IsPacket → Admits domain node framing answer → TakesClean answer
 admits-clean domain node (Holds packet) (admit.Plain kept) is admits =
     let free = (admits.1).1.is_free in
-    subst (λ (p : List ℕ). IsPacket p × IsClean p) (sym admits.0) (is, (free.sound, free.free))
+    subst (λ (p : List ℕ). MayLeave p) (sym admits.0) (is, (free.sound, free.free))
 admits-clean domain node (Holds packet) (admit.Enclose flow kept limit) is admits =
     let free = (admits.2).1.is_free in
-    subst (λ (p : List ℕ). IsPacket p × IsClean p) (sym admits.0) (is, (free.sound, free.free))
+    subst (λ (p : List ℕ). MayLeave p) (sym admits.0) (is, (free.sound, free.free))
 admits-clean domain node (Holds packet) (admit.Drop reason) is admits = tt
 admits-clean domain node NoIpv6 (admit.Plain kept) is admits = absurd admits
 admits-clean domain node NoIpv6 (admit.Enclose flow kept limit) is admits = absurd admits
@@ -50,45 +50,45 @@ answer-clean : (domain : Domain) (at : Option Port) (framing : Framing) (answer 
 answer-clean domain (Some port) framing answer is admits = admits-clean domain port.node.0 framing answer is admits
 answer-clean domain None framing answer is admits = absurd admits
 
-one-clean : (b : Bool) (s : Sent) → IsClean s.octets → All (Sends IsClean) (if b then s ∷ [] else [])
-one-clean true s clean = All-cons (Sends IsClean) s [] clean (All-nil (Sends IsClean))
-one-clean false s clean = All-nil (Sends IsClean)
+one-clean : (b : Bool) (s : Sent) → MayLeave s.octets → All (Sends MayLeave) (if b then s ∷ [] else [])
+one-clean true s clean = All-cons (Sends MayLeave) s [] clean (All-nil (Sends MayLeave))
+one-clean false s clean = All-nil (Sends MayLeave)
 
 -- what is sent of a packet that may leave may leave
-left-clean : (port : ℕ) (packet : List ℕ) (visits : List Visit) (end : End) → IsPacket packet × IsClean packet
-    → All (Sends IsClean) (sent_at port packet visits end)
+left-clean : (port : ℕ) (packet : List ℕ) (visits : List Visit) (end : End) → MayLeave packet
+    → All (Sends MayLeave) (sent_at port packet visits end)
 left-clean port packet visits (Left exit) clean = one-clean (nat_eq port exit.0) (sent_of packet visits)
-    (clean-lowered packet (slice_index packet 7 - length visits) clean.1)
-left-clean port packet visits (Drop reason node) clean = All-nil (Sends IsClean)
+    (leaving-lowered packet (slice_index packet 7 - length visits) clean)
+left-clean port packet visits (Drop reason node) clean = All-nil (Sends MayLeave)
 
 sent-clean : (port : ℕ) (answer : Admit) (visits : List Visit) (end : End) → TakesClean answer → DropsAlike answer end
-    → All (Sends IsClean) (sent_at port (packet_of answer) visits end)
+    → All (Sends MayLeave) (sent_at port (packet_of answer) visits end)
 sent-clean port (admit.Plain kept) visits end clean drops = left-clean port kept.now visits end clean
 sent-clean port (admit.Enclose flow kept limit) visits end clean drops = left-clean port kept.now visits end clean
 sent-clean port (admit.Drop reason) visits (Left exit) clean drops = absurd drops
-sent-clean port (admit.Drop reason) visits (Drop cause node) clean drops = All-nil (Sends IsClean)
+sent-clean port (admit.Drop reason) visits (Drop cause node) clean drops = All-nil (Sends MayLeave)
 
-fate-clean : (domain : Domain) (frame : Frame) (fate : Fate) → HasFate domain frame fate → (port : ℕ) → All (Sends IsClean) (fate_sent port fate)
+fate-clean : (domain : Domain) (frame : Frame) (fate : Fate) → HasFate domain frame fate → (port : ℕ) → All (Sends MayLeave) (fate_sent port fate)
 fate-clean domain frame fate has port =
     let cut : Bool = nat_lt (length frame.entry.octets) frame.entry.original in
     let at : Option Port = slice_get (ports domain) frame.port.0 in
-    subst (λ (packet : List ℕ). All (Sends IsClean) (sent_at port packet fate.visits fate.end)) (sym has.packet)
+    subst (λ (packet : List ℕ). All (Sends MayLeave) (sent_at port packet fate.visits fate.end)) (sym has.packet)
     (sent-clean port has.answer fate.visits fate.end
     (answer-clean domain at (framing_of frame.ethernet cut frame.entry.octets) has.answer (framing-packet frame.ethernet cut frame.entry.octets) has.answered)
     (plan-drops domain at frame.entry.time has.answer fate.visits fate.end has.plans))
 
 -- every packet that leaves by a port has a whole chain and no IOAM option
 pub fates-clean : (domain : Domain) (frames : List Frame) (fates : List Fate) → AreFates domain frames fates → (port : ℕ)
-    → All (Sends IsClean) (sent_by port fates)
-fates-clean domain [] [] are port = All-nil (Sends IsClean)
+    → All (Sends MayLeave) (sent_by port fates)
+fates-clean domain [] [] are port = All-nil (Sends MayLeave)
 fates-clean domain [] (fate ∷ fates) are port = absurd are
 fates-clean domain (frame ∷ frames) [] are port = absurd are
 fates-clean domain (frame ∷ frames) (fate ∷ fates) are port =
-    All-append (Sends IsClean) (fate_sent port fate) (sent_by port fates) (fate-clean domain frame fate are.0 port) (fates-clean domain frames fates are.1 port)
+    All-append (Sends MayLeave) (fate_sent port fate) (sent_by port fates) (fate-clean domain frame fate are.0 port) (fates-clean domain frames fates are.1 port)
 
 -- the capture of each port is one of such packets
 pub outs-clean : (domain : Domain) (frames : List Frame) (fates : List Fate) → AreFates domain frames fates → (port : ℕ)
-    → IsCaptureOf IsClean (out_text port fates)
+    → IsCaptureOf MayLeave (out_text port fates)
 outs-clean domain frames fates are port = record { sent = sent_by port fates; is = refl; so = fates-clean domain frames fates are port }
 
 each-text-at : (n from at : ℕ) (text : ℕ → List ℕ) (rest : List (List ℕ)) → at < n → slice_get (each_text n from text ++ rest) at ≡ Some (text (from + at))
@@ -107,8 +107,8 @@ port-text domain fates report port inside =
 -- so each port's text is a capture of packets that may leave, whatever the report says so far
 pub texts-clean : (domain : Domain) (frames : List Frame) (fates : List Fate) (report : List ℕ) (texts : List (List ℕ)) → AreFates domain frames fates
     → texts ≡ of_outputs domain (λ at. out_text at fates) report → (port : ℕ) → port < length (ports domain)
-    → IsSomeAnd (slice_get texts port) (IsCaptureOf IsClean)
+    → IsSomeAnd (slice_get texts port) (IsCaptureOf MayLeave)
 texts-clean domain frames fates report texts are is port inside =
-    subst (λ (found : Option (List ℕ)). IsSomeAnd found (IsCaptureOf IsClean))
+    subst (λ (found : Option (List ℕ)). IsSomeAnd found (IsCaptureOf MayLeave))
     (sym (ap (λ (ts : List (List ℕ)). slice_get ts port) is ∙ port-text domain fates report port inside))
     (outs-clean domain frames fates are port)

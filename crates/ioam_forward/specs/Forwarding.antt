@@ -1,6 +1,6 @@
 -- What the texts that are gathered for a run stand for.
 use Rattle.std.specs.Prelude.{◌≡◌, ℕ, ◌<◌, List, IsSomeAnd, length, slice_get}
-use Rattle.ioam_ip.specs.Clean.{IsClean}
+use Rattle.ioam_ip.specs.Clean.{MayLeave}
 use Rattle.ioam_pcap.specs.Text.{IsCaptureOf}
 use Rattle.ioam_plan.specs.declared.itinerary.Visit.{Visit}
 use Rattle.ioam_plan.specs.declared.itinerary.End.{End}
@@ -19,13 +19,13 @@ pub record Forwards (domain : Domain) (frames : List Frame) (texts : List (List 
   pub sums : StandFor domain gathered.sums (ways_of fates)
   pub plain : IsPlain domain
 
--- The texts of these arrivals, with the sums. By no port of the domain leaves a packet with an IOAM
--- option on its chain of headers, or with a chain that isn't whole.
+-- The texts of these arrivals, with the sums. What leaves by the ports of the domain is one packet each,
+-- with a whole chain of headers and no IOAM option on it.
 pub record Forwarded (domain : Domain) (frames : List Frame) (texts : List (List ℕ)) : Type 0 where
   pub fates : List Fate
   pub are : AreFates domain frames fates
   pub texts_are : texts ≡ texts_of domain fates
-  pub clean : (port : ℕ) → port < length (ports domain) → IsSomeAnd (slice_get texts port) (IsCaptureOf IsClean)
+  pub clean : (port : ℕ) → port < length (ports domain) → IsSomeAnd (slice_get texts port) (IsCaptureOf MayLeave)
 
 -- how many arrivals were taken
 abbrev pub taken : Forwarding → ℕ

@@ -3,8 +3,11 @@ use Rattle.std.proofs.Common.{◌≡◌, ℕ, ◌<◌, ◌⊎◌, Bool, IsTrue, 
 use Rattle.std.specs.List.{AllByRecursion}
 use Rattle.std.proofs.lemmas.List.Elements.{All-from_recursion}
 use Rattle.ioam_desk.specs.Desk.{Reading, Writing, Rose, holds}
-use Rattle.ioam_ip.specs.Clean.{IsClean}
-use Rattle.ioam_ip.specs.Framing.{Framing, Holds, NoIpv6, CutShort, TooShort}
+use Rattle.ioam_ip.specs.Clean.{MayLeave}
+use Rattle.ioam_ip.proofs.FramingLaws.{framing-packet}
+use Rattle.ioam_ip.specs.Framing.{Framing, Holds, NoIpv6, CutShort, TooShort, IfHolds}
+use Rattle.ioam_ip.specs.Packet.{IsPacket}
+use Rattle.ioam_pcap.specs.Cut.{is_cut}
 use Rattle.ioam_pcap.specs.Entries.{Entry}
 use Rattle.ioam_pcap.specs.Reads.{Ending, Whole, Faulty}
 use Rattle.ioam_pcap.proofs.ReadsLaws.{Reads-unique}
@@ -17,7 +20,7 @@ use Rattle.ioam_run.specs.FilterText.{Filtered, FilterTexts, kept_of}
 use Rattle.ioam_answer.specs.Outcomes.{IsBehindAll}
 use Rattle.ioam_run.specs.Run.{HasCause, Asked, IsInput, IsLong, HoldsAll, EndsSo, ArePassed, AreWhole, Leaves, output_names}
 use Rattle.ioam_pcap.specs.Link.{is_ethernet}
-use Rattle.ioam_run.specs.Verdict.{Verdict, Keeps, Drops, FramingVerdict, AreVerdicts}
+use Rattle.ioam_run.specs.Verdict.{Verdict, Keeps, Drops, FramingVerdict, AreVerdicts, entry_framing}
 use Rattle.ioam_node.specs.declared.reason.Reason.{Reason}
 use Rattle.ioam_answer.specs.declared.outcome.Outcome.{Outcome}
 use Rattle.ioam_answer.specs.declared.outcome.Outcome.TheVariants as outcome
@@ -119,55 +122,55 @@ module _ (tells : Bool) (desk : Writing) (names : List (List ℕ)) (input : List
 keeps_drops : (kept : List ℕ) (reason : Reason) → Keeps kept ≡ Drops reason → ⊥
 keeps_drops kept reason same = cc
 
-keeps_clean : (packet kept : List ℕ) (framing : Framing) → FramingVerdict framing (Keeps kept) → IsClean kept
-keeps_clean packet kept (Holds held) has = subst IsClean (sym has.0) (has.1, has.2)
-keeps_clean packet kept NoIpv6 has = absurd (keeps_drops kept _ has)
-keeps_clean packet kept CutShort has = absurd (keeps_drops kept _ has)
-keeps_clean packet kept TooShort has = absurd (keeps_drops kept _ has)
+keeps_leaving : (kept : List ℕ) (framing : Framing) → IfHolds framing IsPacket → FramingVerdict framing (Keeps kept) → MayLeave kept
+keeps_leaving kept (Holds held) is has = subst MayLeave (sym has.0) (is, (has.1, has.2))
+keeps_leaving kept NoIpv6 is has = absurd (keeps_drops kept _ has)
+keeps_leaving kept CutShort is has = absurd (keeps_drops kept _ has)
+keeps_leaving kept TooShort is has = absurd (keeps_drops kept _ has)
 
-kept_clean : (ethernet : Bool) (es : List Entry) (vs : List Verdict) → AreVerdicts ethernet es vs → AllByRecursion (Sends IsClean) (kept_of es vs)
-kept_clean ethernet [] [] are = tt
-kept_clean ethernet [] (v ∷ vs) are = tt
-kept_clean ethernet (e ∷ es) [] are = tt
-kept_clean ethernet (e ∷ es) (Keeps kept ∷ vs) are = (keeps_clean kept kept _ are.0, kept_clean ethernet es vs are.1)
-kept_clean ethernet (e ∷ es) (Drops reason ∷ vs) are = kept_clean ethernet es vs are.1
+kept_leaving : (ethernet : Bool) (es : List Entry) (vs : List Verdict) → AreVerdicts ethernet es vs → AllByRecursion (Sends MayLeave) (kept_of es vs)
+kept_leaving ethernet [] [] are = tt
+kept_leaving ethernet [] (v ∷ vs) are = tt
+kept_leaving ethernet (e ∷ es) [] are = tt
+kept_leaving ethernet (e ∷ es) (Keeps kept ∷ vs) are = (keeps_leaving kept (entry_framing ethernet e) (framing-packet ethernet (is_cut e) e.octets) are.0, kept_leaving ethernet es vs are.1)
+kept_leaving ethernet (e ∷ es) (Drops reason ∷ vs) are = kept_leaving ethernet es vs are.1
 
-clean_capture : (ethernet : Bool) (entries : List Entry) (out text : List ℕ) → Filtered ethernet entries out text → IsCaptureOf IsClean out
-clean_capture ethernet entries out text filtered = record {
+leaving_capture : (ethernet : Bool) (entries : List Entry) (out text : List ℕ) → Filtered ethernet entries out text → IsCaptureOf MayLeave out
+leaving_capture ethernet entries out text filtered = record {
   sent = kept_of entries filtered.verdicts;
   is = filtered.out_is;
-  so = All-from_recursion (Sends IsClean) (kept_of entries filtered.verdicts) (kept_clean ethernet entries filtered.verdicts filtered.are);
+  so = All-from_recursion (Sends MayLeave) (kept_of entries filtered.verdicts) (kept_leaving ethernet entries filtered.verdicts filtered.are);
 }
 
-clean_held : (ethernet : Bool) (entries : List Entry) (texts : List (List ℕ)) (output report : List ℕ) (new : Writing)
-    → FilterTexts ethernet entries texts → HoldTexts new (output ∷ report ∷ []) texts → IsSomeAnd (holds new output) (IsCaptureOf IsClean)
-clean_held ethernet entries [] output report new are held = absurd are
-clean_held ethernet entries (out ∷ []) output report new are held = absurd are
-clean_held ethernet entries (out ∷ text ∷ []) output report new are held =
-    let P : Option (List ℕ) → Type 0 = λ o. IsSomeAnd o (IsCaptureOf IsClean) in
-    subst P (sym held.0) (clean_capture ethernet entries out text are)
-clean_held ethernet entries (out ∷ text ∷ more ∷ texts) output report new are held = absurd are
+leaving_held : (ethernet : Bool) (entries : List Entry) (texts : List (List ℕ)) (output report : List ℕ) (new : Writing)
+    → FilterTexts ethernet entries texts → HoldTexts new (output ∷ report ∷ []) texts → IsSomeAnd (holds new output) (IsCaptureOf MayLeave)
+leaving_held ethernet entries [] output report new are held = absurd are
+leaving_held ethernet entries (out ∷ []) output report new are held = absurd are
+leaving_held ethernet entries (out ∷ text ∷ []) output report new are held =
+    let P : Option (List ℕ) → Type 0 = λ o. IsSomeAnd o (IsCaptureOf MayLeave) in
+    subst P (sym held.0) (leaving_capture ethernet entries out text are)
+leaving_held ethernet entries (out ∷ text ∷ more ∷ texts) output report new are held = absurd are
 
 from_held : (held : Option (List ℕ)) (Are : Option Link → List Entry → List ℕ → Type 0) (output report : List ℕ) (new : Writing)
-    → IsSomeAnd held (HoldsAll FilterTexts (output ∷ report ∷ []) Are new) → IsSomeAnd (holds new output) (IsCaptureOf IsClean)
+    → IsSomeAnd held (HoldsAll FilterTexts (output ∷ report ∷ []) Are new) → IsSomeAnd (holds new output) (IsCaptureOf MayLeave)
 from_held None Are output report new all = absurd all
-from_held (Some octets) Are output report new all = clean_held (is_ethernet all.link) all.entries all.texts output report new all.texts_are all.held
+from_held (Some octets) Are output report new all = leaving_held (is_ethernet all.link) all.entries all.texts output report new all.texts_are all.held
 
 -- each packet in OUT may leave a domain
 module _ (input output report : List ℕ) (old_in new_in : Reading) (old new : Writing) where
-  pub Leaves-clean : (answer : Outcome) → Leaves FilterTexts (output ∷ report ∷ []) input old_in new_in old new answer
-      → IsBehindAll (old_in.side.slots < new_in.side.slots) answer → IsSomeAnd (holds new output) (IsCaptureOf IsClean)
-  Leaves-clean outcome.Done leaves behind = from_held (holds old input) (EndsSo Whole) output report new leaves
-  Leaves-clean (outcome.Capture name at fault) leaves behind = from_held (holds old input) (EndsSo (Faulty at fault)) output report new leaves
-  Leaves-clean (outcome.Packets limit) leaves behind = from_held (holds old input) ArePassed output report new leaves
-  Leaves-clean outcome.ReadFault leaves behind = ⊎_elim (λ unopened. absurd (omega (arith, unopened.0, behind)))
+  pub Leaves-bounded : (answer : Outcome) → Leaves FilterTexts (output ∷ report ∷ []) input old_in new_in old new answer
+      → IsBehindAll (old_in.side.slots < new_in.side.slots) answer → IsSomeAnd (holds new output) (IsCaptureOf MayLeave)
+  Leaves-bounded outcome.Done leaves behind = from_held (holds old input) (EndsSo Whole) output report new leaves
+  Leaves-bounded (outcome.Capture name at fault) leaves behind = from_held (holds old input) (EndsSo (Faulty at fault)) output report new leaves
+  Leaves-bounded (outcome.Packets limit) leaves behind = from_held (holds old input) ArePassed output report new leaves
+  Leaves-bounded outcome.ReadFault leaves behind = ⊎_elim (λ unopened. absurd (omega (arith, unopened.0, behind)))
       (λ held. from_held (holds old input) (AreWhole (new_in.left old_in.side.slots)) output report new held.1) leaves
-  Leaves-clean outcome.Usage leaves behind = absurd behind
-  Leaves-clean (outcome.Domain why) leaves behind = absurd behind
-  Leaves-clean (outcome.Readings why) leaves behind = absurd behind
-  Leaves-clean (outcome.Names name) leaves behind = absurd behind
-  Leaves-clean outcome.WriteFault leaves behind = absurd behind
-  Leaves-clean outcome.NoMemory leaves behind = absurd behind
+  Leaves-bounded outcome.Usage leaves behind = absurd behind
+  Leaves-bounded (outcome.Domain why) leaves behind = absurd behind
+  Leaves-bounded (outcome.Readings why) leaves behind = absurd behind
+  Leaves-bounded (outcome.Names name) leaves behind = absurd behind
+  Leaves-bounded outcome.WriteFault leaves behind = absurd behind
+  Leaves-bounded outcome.NoMemory leaves behind = absurd behind
 
 -- the outputs of four words
 pub two_outputs : (words : List (List ℕ)) → length words ≡ 4 → output_names words ≡ name_at words 2 ∷ name_at words 3 ∷ []

@@ -12,3 +12,4 @@ pub mod FinishesLaws
 pub mod WordsLaws
 pub mod AskedLaws
 mod VerdictLaws
+mod KeptLaws

@@ -1,7 +1,7 @@
 -- A capture that is read in pieces while texts are gathered of its records and written.
 use Rattle.std.specs.Prelude.{◌≡◌, ℕ, ◌<◌, ◌≤◌, ⊤, Bool, IsTrue, IsSomeAnd, List, ◌++◌, ◌∷◌, [], length, Option, Some, None}
 use Rattle.ioam_desk.specs.Desk as desk
-use Rattle.ioam_desk.specs.Desk.{Side, Writing, Rose}
+use Rattle.ioam_desk.specs.Desk.{Side, Writing, Rose, SameBut}
 use Rattle.ioam_feed.specs.Feed.{Fed}
 use Rattle.ioam_outputs.specs.Held.{HoldAllFronts}
 use Rattle.ioam_outputs.specs.Told.{AreTold}
@@ -24,6 +24,10 @@ pub record Start : Type 0 where
   pub content : Option (List ℕ)
   pub base : ℕ
   pub names : List (List ℕ)
+
+-- no input slot but this one was read
+abbrev pub ReadsOne : ℕ → desk.Reading → desk.Reading → Type 0
+ReadsOne slot old new = SameBut slot old.left new.left × SameBut slot old.ended new.ended
 
 -- some octets were fed to the reader, and it has given some records of them
 abbrev pub HasStood : Reading → Type 0

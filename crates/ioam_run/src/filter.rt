@@ -1,9 +1,10 @@
 //! `filter IN OUT REPORT`: keeps the packets that may leave a domain.
 ghost use Rattle.std.specs.Prelude.{◌≡◌, ◌<◌, ◌⊎◌, ◌∷◌, ◌++◌, [], IsSomeAnd, IsTrue, length};
-ghost use Rattle.ioam_ip.specs.Clean.{IsClean};
+ghost use Rattle.ioam_ip.specs.Clean.{MayLeave};
 ghost use Rattle.ioam_pcap.specs.Text.{IsCaptureOf};
 ghost use Rattle.ioam_desk.specs.Asked.{AsksFront};
 ghost use Rattle.ioam_desk.specs.Desk.{Rose, holds};
+ghost use Rattle.ioam_desk.specs.Kept.{KeepsInputs, KeepsOutputs};
 ghost use Rattle.ioam_outputs.specs.Names.{name_at, AreApart};
 ghost use Rattle.ioam_run.specs.FilterText.{FilterTexts};
 ghost use Rattle.ioam_answer.specs.Outcomes.{IsDone, IsBehindAll, OpensNothing};
@@ -36,14 +37,17 @@ pub fn run_filter<D: Desk>(alloc: Global, words: &[Name], desk: &mut D) -> Outco
         → (Rose (D.reading desk.old).side.faults (D.reading desk.new).side.faults → ⊥)
         → (Rose (D.writing desk.old).side.faults (D.writing desk.new).side.faults → ⊥)
         → (result ≡ asked) ⊎ (result ≡ Outcome.NoMemory) }
-    // Each packet in OUT has a whole header chain without an IOAM option.
+    // OUT is a capture of IPv6 packets, each with a whole header chain without an IOAM option.
     ensures boundary { IsBehindAll ((D.reading desk.old).side.slots < (D.reading desk.new).side.slots) result → IsTrue D.tells
-        → IsSomeAnd (holds (D.writing desk.new) (name_at words.now 2)) (IsCaptureOf IsClean) }
+        → IsSomeAnd (holds (D.writing desk.new) (name_at words.now 2)) (IsCaptureOf MayLeave) }
     // Before IN was opened nothing changed, told or not; IN is opened only where the names differ, and no output before IN; behind all of IN it was read to its end.
     ensures unopened { OpensNothing result → D.reading desk.new ≡ D.reading desk.old }
     ensures differed { (D.reading desk.new ≡ D.reading desk.old) ⊎ AreApart (file_names words.now) }
     ensures no_output { (D.reading desk.new).side.slots ≡ (D.reading desk.old).side.slots → D.writing desk.new ≡ D.writing desk.old }
     ensures drained { IsDone result → IsTrue D.tells → IsTrue ((D.reading desk.new).ended (D.reading desk.old).side.slots) }
+    // Input slots that were there, and where the desk tells output slots that were there and names that weren't opened to be written, are as they were.
+    ensures kept_in { KeepsInputs (D.reading desk.old) (D.reading desk.new) }
+    ensures kept_out { IsTrue D.tells → KeepsOutputs (D.writing desk.old) (D.writing desk.new) }
 {
     run_over_capture::<Filtering, D>(alloc, words, desk)
 }

@@ -2,13 +2,14 @@
 ghost use Rattle.std.specs.Prelude.{◌≡◌, ◌≢◌, ◌↔◌, ◌∷◌, ◌++◌, ◌+◌, ◌<◌, ◌⊎◌, [], IfOk, IsTrue, length};
 ghost use Rattle.ioam_desk.specs.Asked.{AsksFront};
 ghost use Rattle.ioam_desk.specs.Desk.{holds};
+ghost use Rattle.ioam_desk.specs.Kept.{KeepsInputs, KeepsOutputs, WritesFrom};
 ghost use Rattle.ioam_feed.specs.Feed.{Fed};
 ghost use Rattle.ioam_outputs.specs.Names.{AreApart};
 ghost use Rattle.ioam_outputs.specs.Told.{AreTold, GathersNothing, unsaid};
 ghost use Rattle.ioam_pcap.specs.Reader.{fresh};
 ghost use Rattle.ioam_answer.specs.Outcomes.{IsDone, IsBehindAll, OpensNothing};
 ghost use Rattle.ioam_run.specs.Run.{HasCause, FileCause, Leaves, file_names, input_name, output_names};
-ghost use Rattle.ioam_run.specs.Streams.{Start, Finishes, IsBroken};
+ghost use Rattle.ioam_run.specs.Streams.{Start, Finishes, IsBroken, ReadsOne};
 
 use crate::gather::Gather;
 use crate::stream::{Stream, read_on, write_rest};
@@ -38,6 +39,8 @@ pub fn run_over_capture<G: Gather, D: Desk>(alloc: Global, words: &[Name], desk:
     ensures differed { (D.reading desk.new ≡ D.reading desk.old) ⊎ AreApart (file_names words.now) }
     ensures no_output { (D.reading desk.new).side.slots ≡ (D.reading desk.old).side.slots → D.writing desk.new ≡ D.writing desk.old }
     ensures drained { IsDone result → IsTrue D.tells → IsTrue ((D.reading desk.new).ended (D.reading desk.old).side.slots) }
+    ensures kept_in { KeepsInputs (D.reading desk.old) (D.reading desk.new) }
+    ensures kept_out { IsTrue D.tells → KeepsOutputs (D.writing desk.old) (D.writing desk.new) }
 {
     match first_repeat(&words[1..]) {
         Some(at) => names_outcome(alloc, &words[1 + at]),
@@ -65,6 +68,8 @@ fn run_file<G: Gather, D: Desk>(
     ensures all_out { IsBehindAll ⊥ result → (D.writing desk.new).side.asked ≡ (D.writing desk.old).side.asked ++ names.now }
     ensures no_output { (D.reading desk.new).side.slots ≡ (D.reading desk.old).side.slots → D.writing desk.new ≡ D.writing desk.old }
     ensures drained { IsDone result → IsTrue D.tells → IsTrue ((D.reading desk.new).ended (D.reading desk.old).side.slots) }
+    ensures kept_in { KeepsInputs (D.reading desk.old) (D.reading desk.new) }
+    ensures kept_out { IsTrue D.tells → KeepsOutputs (D.writing desk.old) (D.writing desk.new) }
 {
     let Ok(mut piece) = new_piece(alloc) else {
         return Outcome::NoMemory;
@@ -112,6 +117,8 @@ fn run_open<G: Gather, D: Desk>(
     ensures slots_in { (D.reading desk.new).side.slots ≡ (D.reading desk.old).side.slots }
     ensures asked_out { (D.writing desk.new).side.asked ≡ (D.writing desk.old).side.asked }
     ensures slots_out { (D.writing desk.new).side.slots ≡ (D.writing desk.old).side.slots }
+    ensures kept_in { ReadsOne feed.slot (D.reading desk.old) (D.reading desk.new) }
+    ensures kept_out { WritesFrom start.base (D.writing desk.old) (D.writing desk.new) }
 {
     let Ok(gathered) = G::begin(outputs) else {
         return Outcome::NoMemory;

@@ -1,10 +1,11 @@
 //! A capture that is read in pieces while texts are gathered of its records and written.
 ghost use Rattle.std.specs.Prelude.{◌≡◌, ◌<◌, ◌^◌, IfErr, IfOk, OnErr, OnOk, IsTrue, List, ℕ, length};
 ghost use Rattle.ioam_desk.specs.Asked.{IsFaultOf};
+ghost use Rattle.ioam_desk.specs.Kept.{WritesFrom};
 ghost use Rattle.ioam_outputs.specs.Held.{HoldAllFronts, HoldTexts};
 ghost use Rattle.ioam_outputs.specs.Told.{AreTold, AreOpen, GathersFew, said_more};
 ghost use Rattle.ioam_pcap.specs.Reader.{fed};
-ghost use Rattle.ioam_run.specs.Streams.{Start, IsStreaming, Pauses, Sticks, Stops};
+ghost use Rattle.ioam_run.specs.Streams.{Start, IsStreaming, Pauses, ReadsOne, Sticks, Stops};
 
 use crate::ending::end_outcome;
 use crate::gather::Gather;
@@ -43,6 +44,7 @@ fn take_shown<G: Gather, D: Desk>(
     ensures cause { IfErr result (IsFaultOf (D.writing desk.old).side (D.writing desk.new).side) }
     ensures asked { (D.writing desk.new).side.asked ≡ (D.writing desk.old).side.asked }
     ensures slots { (D.writing desk.new).side.slots ≡ (D.writing desk.old).side.slots }
+    ensures kept { WritesFrom start.base (D.writing desk.old) (D.writing desk.new) }
     ensures fed { fed stream.new.feed.reader ≡ fed stream.old.feed.reader }
     ensures slot { stream.new.feed.slot ≡ stream.old.feed.slot }
     ensures inputs { D.reading desk.new ≡ D.reading desk.old }
@@ -82,6 +84,8 @@ pub fn read_on<G: Gather, D: Desk>(
     ensures slots_in { (D.reading desk.new).side.slots ≡ (D.reading desk.old).side.slots }
     ensures asked_out { (D.writing desk.new).side.asked ≡ (D.writing desk.old).side.asked }
     ensures slots_out { (D.writing desk.new).side.slots ≡ (D.writing desk.old).side.slots }
+    ensures kept_in { ReadsOne stream.old.feed.slot (D.reading desk.old) (D.reading desk.new) }
+    ensures kept_out { WritesFrom start.base (D.writing desk.old) (D.writing desk.new) }
 {
     'pieces: loop {
         match take_shown(stream, outputs, desk) {
@@ -122,6 +126,8 @@ pub fn write_rest<G: Gather, D: Desk>(
     ensures cause { IfErr result (IsFaultOf (D.writing desk.old).side (D.writing desk.new).side) }
     ensures asked { (D.writing desk.new).side.asked ≡ (D.writing desk.old).side.asked }
     ensures slots { (D.writing desk.new).side.slots ≡ (D.writing desk.old).side.slots }
+    ensures kept { (slot : ℕ) (names texts : List (List ℕ)) → AreTold D.tells (D.writing desk.old) slot names outputs.old texts
+        → WritesFrom slot (D.writing desk.old) (D.writing desk.new) }
     ensures inputs { D.reading desk.new ≡ D.reading desk.old }
 {
     match gathered.put_sums(outputs) {

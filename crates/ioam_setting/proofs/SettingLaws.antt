@@ -1,8 +1,13 @@
 -- Laws of the two files that a run is set by: what the second one's reading says once the first was read.
-use Rattle.std.proofs.Common.{◌≡◌, ℕ, suc, Bool, IsSomeAnd, Option, List, [], ◌∷◌, ◌++◌, take, Result, Ok, Err, ◌∙◌, ap, subst, append_assoc}
+use Rattle.std.proofs.Common.{◌≡◌, ℕ, suc, Bool, IsSomeAnd, Option, List, [], ◌∷◌, ◌++◌, take, Result, Ok, Err, MatchResult, ◌∙◌, ap, subst, append_assoc, arith}
 use Rattle.ioam_clock.specs.Reading.{readings_of, node_names}
 use Rattle.ioam_desk.specs.Asked.{AsksFront}
 use Rattle.ioam_desk.specs.Desk.{Side, Reading, Writing, Rose, holds, opened_side}
+use Rattle.ioam_desk.specs.Kept.{KeepsInputs}
+use Rattle.ioam_desk.specs.Whole.{ReadsWhole, FailsWhole}
+use Rattle.ioam_desk.specs.declared.fault.WholeFault.{WholeFault}
+use Rattle.ioam_desk.specs.declared.fault.WholeFault.TheVariants as whole
+use Rattle.ioam_desk.proofs.KeptLaws.{KeepsInputs-but}
 use Rattle.ioam_topo.specs.declared.domain.Domain.{Domain}
 use Rattle.ioam_entries.specs.declared.fault.DomainFault.{DomainFault}
 use Rattle.ioam_setting.specs.Reads.{IsDomainRead, AreReadingsRead}
@@ -43,3 +48,11 @@ pub none_of_domain : (tells : Bool) (mid new : Reading) (held : Option (List ℕ
     → AreReadingsRead tells mid new held names (Err why) → why ≡ refusal.Domain fault → ⊥
 none_of_domain tells mid new held names why fault read is =
     subst (λ (reason : Refusal). AreReadingsRead tells mid new held names (Err reason)) is read
+
+-- a file that was read whole, or could not be, left the other slots as they were
+pub whole_keeps : {T : Type 0} (tells : Bool) (old new : Reading) (held : Option (List ℕ)) (name : List ℕ) (limit : ℕ) (octets_of : T → List ℕ) (r : Result T WholeFault)
+    → MatchResult r (λ (x : T). ReadsWhole tells old new held name limit (octets_of x)) (FailsWhole tells old new held name limit) → KeepsInputs old new
+whole_keeps tells old new held name limit octets_of (Ok x) reads = KeepsInputs-but old new old.side.slots (omega arith) reads.other_left reads.other_ended
+whole_keeps tells old new held name limit octets_of (Err whole.Failed) fails = KeepsInputs-but old new old.side.slots (omega arith) fails.2.left fails.2.ended
+whole_keeps tells old new held name limit octets_of (Err (whole.TooLong most)) fails = KeepsInputs-but old new old.side.slots (omega arith) fails.3.left fails.3.ended
+whole_keeps tells old new held name limit octets_of (Err whole.NoMemory) fails = KeepsInputs-but old new old.side.slots (omega arith) fails.2.left fails.2.ended

@@ -3,6 +3,7 @@ ghost use Rattle.std.specs.Prelude.{◌≡◌, ◌+◌, ◌∷◌, [], IsTrue, E
 ghost use Rattle.ioam_clock.specs.Reading.{node_names};
 ghost use Rattle.ioam_desk.specs.Asked.{AsksFront};
 ghost use Rattle.ioam_desk.specs.Desk.{SameBut, holds, opened_side, opened_each};
+ghost use Rattle.ioam_desk.specs.Kept.{KeepsInputs};
 ghost use Rattle.ioam_desk.specs.Whole.{ReadsWhole, FailsWhole};
 ghost use Rattle.ioam_entries.specs.declared.fault.DomainFault.{DomainFault};
 ghost use Rattle.ioam_topo.specs.Domain.{IsPlain};
@@ -49,6 +50,7 @@ fn read_file<D: Desk>(
         (λ octets. ReadsWhole D.tells (D.reading desk.old) (D.reading desk.new) (holds (D.writing desk.old) name.now) name.now limit octets.items)
         (FailsWhole D.tells (D.reading desk.old) (D.reading desk.new) (holds (D.writing desk.old) name.now) name.now limit) }
     ensures asked { AsksFront (D.reading desk.old).side.asked (D.reading desk.new).side.asked (name.now ∷ []) }
+    ensures kept { KeepsInputs (D.reading desk.old) (D.reading desk.new) }
     ensures outputs { D.writing desk.new ≡ D.writing desk.old }
 {
     read_whole(alloc, desk, name.text(), limit)
@@ -61,6 +63,7 @@ fn read_domain_file<D: Desk>(alloc: Global, desk: &mut D, name: &Name) -> Result
     ensures side { OnOk result ((D.reading desk.new).side ≡ opened_side (D.reading desk.old).side name.now) }
     ensures ended { OnOk result (IsTrue D.tells → IsTrue ((D.reading desk.new).ended (D.reading desk.old).side.slots)) }
     ensures asked { AsksFront (D.reading desk.old).side.asked (D.reading desk.new).side.asked (name.now ∷ []) }
+    ensures kept { KeepsInputs (D.reading desk.old) (D.reading desk.new) }
     ensures outputs { D.writing desk.new ≡ D.writing desk.old }
 {
     let octets = match read_file(alloc, desk, name, ioam_domain_file::FILE_MOST) {
@@ -95,6 +98,7 @@ fn read_readings_file<D: Desk>(
     ensures ended { OnOk result (IsTrue D.tells → IsTrue ((D.reading desk.new).ended (D.reading desk.old).side.slots)) }
     ensures other_ended { OnOk result (SameBut (D.reading desk.old).side.slots (D.reading desk.old).ended (D.reading desk.new).ended) }
     ensures asked { AsksFront (D.reading desk.old).side.asked (D.reading desk.new).side.asked (name.now ∷ []) }
+    ensures kept { KeepsInputs (D.reading desk.old) (D.reading desk.new) }
     ensures outputs { D.writing desk.new ≡ D.writing desk.old }
 {
     let octets = match read_file(alloc, desk, name, ioam_clock::FILE_MOST) {
@@ -126,6 +130,7 @@ pub fn read_setting<D: Desk>(
     ensures ended { OnOk result (IsTrue D.tells → IsTrue ((D.reading desk.new).ended (D.reading desk.old).side.slots)
         × IsTrue ((D.reading desk.new).ended ((D.reading desk.old).side.slots + 1))) }
     ensures asked { AsksFront (D.reading desk.old).side.asked (D.reading desk.new).side.asked (domain.now ∷ readings.now ∷ []) }
+    ensures kept { KeepsInputs (D.reading desk.old) (D.reading desk.new) }
     // After a fault of the domain file the readings weren't opened.
     ensures domain_first { (fault : DomainFault) → result ≡ Err (Refusal.Domain fault)
         → AsksFront (D.reading desk.old).side.asked (D.reading desk.new).side.asked (domain.now ∷ []) }

@@ -28,23 +28,22 @@ all_texts domain text report names width = omega (arith, of_ports-length (length
 
 module _ (tells : Bool) (domain : Domain) (ports : List PortId) (files : Files) (inputs : Reading) (merge : Merge)
     (are : Merging tells files.lanes inputs merge []) where
-  module _ (outputs : Writing) (base : ℕ) (old : List Output) (told : AreTold tells outputs base files.names old (unsaid files.names))
+  module _ (outputs : Writing) (old : List Output) (told : AreTold tells outputs files.first files.names old (unsaid files.names))
       (width : length old ≡ length (ports_of domain) + 2) where
     as_many : length files.names ≡ length (ports_of domain) + 2
-    as_many = omega (arith, told_names tells outputs base files.names old (unsaid files.names) told, width)
+    as_many = omega (arith, told_names tells outputs files.first files.names old (unsaid files.names) told, width)
 
     -- the heads were told
     pub Running-begin : (gathered : Forwarding) (tellers : List Output) → Adds old tellers (texts_so_far domain []) → Forwards domain [] (texts_so_far domain []) gathered
         → Running tells (course_with domain ports files) inputs outputs (record { merge = merge; gathered = gathered }) tellers
     Running-begin gathered tellers adds forwards =
-        let P : List (List ℕ) → Type 0 = λ texts. AreTold tells outputs base files.names tellers texts in
+        let P : List (List ℕ) → Type 0 = λ texts. AreTold tells outputs files.first files.names tellers texts in
         record {
           taken = [];
           texts = texts_so_far domain [];
-          base = base;
           are = are;
           told = subst P (said_first files.names (texts_so_far domain []) (all_texts domain _ _ files.names as_many))
-              (AreTold-adds tells outputs base files.names old tellers (unsaid files.names) (texts_so_far domain []) told adds);
+              (AreTold-adds tells outputs files.first files.names old tellers (unsaid files.names) (texts_so_far domain []) told adds);
           forwards = forwards;
           few = omega arith;
         }
@@ -60,7 +59,7 @@ module _ (tells : Bool) (domain : Domain) (ports : List PortId) (files : Files) 
         become = tt;
         held = subst (HoldAllFronts outputs files.names) (said_first files.names (texts_of domain []) size)
             (more_fronts outputs files.names (unsaid files.names) (texts_of domain []) size
-            (AreTold-fronts tells outputs base files.names old (unsaid files.names) tells_so told));
+            (AreTold-fronts tells outputs files.first files.names old (unsaid files.names) tells_so told));
       };
     }
       where
@@ -105,12 +104,13 @@ module _ (files : Files) (ins outs : List (List ℕ)) (reading : Reading) (writi
       let Q : Reading → Type 0 = λ r. Merging tells (start_of reading.side.slots writing ins) r merge [] in
       subst P (sym known) (subst Q (sym same) are)
 
-  pub known_told : (tells : Bool) (outputs : Writing) (slot : ℕ) (items tellers : List Output) → tellers ≡ items
-      → AreTold tells outputs slot outs items (unsaid outs) → AreTold tells outputs slot files.names tellers (unsaid files.names)
-  known_told tells outputs slot items tellers same told =
-      let P : List (List ℕ) → Type 0 = λ names. AreTold tells outputs slot names tellers (unsaid names) in
+  pub known_told : (tells : Bool) (outputs : Writing) (slot : ℕ) (items tellers : List Output) → tellers ≡ items → slot ≡ writing.side.slots
+      → AreTold tells outputs slot outs items (unsaid outs) → AreTold tells outputs files.first files.names tellers (unsaid files.names)
+  known_told tells outputs slot items tellers same number told =
+      let P : Files → Type 0 = λ f. AreTold tells outputs f.first f.names tellers (unsaid f.names) in
       let Q : List Output → Type 0 = λ os. AreTold tells outputs slot outs os (unsaid outs) in
-      subst P (sym known_names) (subst Q (sym same) told)
+      let R : ℕ → Type 0 = λ k. AreTold tells outputs k outs tellers (unsaid outs) in
+      subst P (sym known) (subst R number (subst Q (sym same) told))
 
   -- not all outputs were opened, and nothing was taken
   pub known_fronts : (tells : Bool) (domain : Domain) (ports : List PortId) (inputs : Reading) (merge : Merge)

@@ -72,7 +72,6 @@ module _ (tells : Bool) (course : Course) (Were : List Arrival → Type 0) (outp
   Runs-so Are are = record {
     taken = runs.taken;
     texts = runs.texts;
-    base = runs.base;
     are = are;
     told = runs.told;
     forwards = runs.forwards;
@@ -86,9 +85,8 @@ module _ (tells : Bool) (course : Course) (Were : List Arrival → Type 0) (outp
   Runs-written now later told = record {
     taken = runs.taken;
     texts = runs.texts;
-    base = runs.base;
     are = runs.are;
-    told = told runs.base course.names runs.texts runs.told;
+    told = told course.first course.names runs.texts runs.told;
     forwards = runs.forwards;
     few = runs.few;
   }
@@ -106,9 +104,8 @@ module _ (tells : Bool) (course : Course) (Were : List Arrival → Type 0) (outp
       record {
         taken = runs.taken ++ one ∷ [];
         texts = said_more runs.texts added;
-        base = runs.base;
         are = are;
-        told = AreTold-adds tells outputs runs.base course.names tellers later runs.texts added runs.told adds;
+        told = AreTold-adds tells outputs course.first course.names tellers later runs.texts added runs.told adds;
         forwards = subst Q (sym (frames-push course.ports runs.taken one))
             (subst (λ p. P p (is_ethernet one.link)) at (subst (λ e. P port e) link (gathers frames runs.texts runs.forwards)));
         few = omega (arith, room, Runs-count, pushed runs.taken one);
@@ -133,7 +130,7 @@ module _ (tells : Bool) (course : Course) (Were : List Arrival → Type 0) (outp
 
   -- as nothing was written since
   pub Runs-fronts_here : FilesBegin course.lanes.contents runs.taken → IsTrue tells → Fronts tells course outputs
-  Runs-fronts_here begin told = Runs-fronts outputs begin (AreTold-fronts tells outputs runs.base course.names tellers runs.texts told runs.told)
+  Runs-fronts_here begin told = Runs-fronts outputs begin (AreTold-fronts tells outputs course.first course.names tellers runs.texts told runs.told)
 
 module _ (tells : Bool) (lanes : merging.Start) (inputs : Reading) (merge : Merge) (arrivals : List Arrival) where
   -- what was taken comes first

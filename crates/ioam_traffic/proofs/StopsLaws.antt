@@ -1,6 +1,7 @@
 -- From what stopped the traffic to how it ends.
 use Rattle.std.proofs.Common.{◌≡◌, ℕ, Bool, IsTrue, List, ◌∙◌, ap, inr, arith}
 use Rattle.ioam_desk.specs.Desk.{Reading, Writing, Side}
+use Rattle.ioam_desk.specs.Kept.{WritesFrom}
 use Rattle.ioam_forward.specs.Fate.{Frame}
 use Rattle.ioam_forward.specs.Forwarding.{Forwards}
 use Rattle.ioam_forward.specs.declared.forwarding.Forwarding.{Forwarding}
@@ -35,7 +36,7 @@ module _ (tells : Bool) (course : Course) where
 
   module _ (old_in new_in : Reading) (old_out mid_out : Writing) (gathered : Forwarding) (tellers : List Output) where
     halted : (Are : List Arrival → Type 0) → Halted tells course Are mid_out gathered tellers → AreOpen mid_out tellers
-    halted Are halts = AreTold-open tells mid_out halts.base course.names tellers halts.texts halts.told
+    halted Are halts = AreTold-open tells mid_out course.first course.names tellers halts.texts halts.told
 
     -- the outputs are open, and nothing failed
     pub Stops-open : (halt : Halt) → (IsBroken halt → ⊥) → Stops tells course old_in new_in old_out mid_out gathered tellers halt
@@ -58,7 +59,7 @@ module _ (tells : Bool) (course : Course) where
         written : (Were Are : List Arrival → Type 0) → ((arrivals : List Arrival) → Were arrivals → Are arrivals)
             → Halted tells course Were mid_out gathered tellers → IsTrue tells → HoldsAll course Are now
         written Were Are so halts told =
-            let hold = put told halts.base course.names halts.texts (frames_of course.ports halts.taken) halts.told halts.forwards in
+            let hold = put told course.first course.names halts.texts (frames_of course.ports halts.taken) halts.told halts.forwards in
             record {
               taken = halts.taken;
               fates = hold.fates;
@@ -85,6 +86,16 @@ module _ (tells : Bool) (course : Course) where
         Ends-written WriteFault whole stops = absurd (whole tt)
         Ends-written NoMemory whole stops = absurd (whole tt)
 
+      -- the rest of the texts is written from the first output's slot on
+      pub Stops-writes : ((base : ℕ) (names texts : List (List ℕ)) → AreTold tells mid_out base names tellers texts → WritesFrom base mid_out now)
+          → (halt : Halt) → (IsBroken halt → ⊥) → Stops tells course old_in new_in old_out mid_out gathered tellers halt → WritesFrom course.first mid_out now
+      Stops-writes writes Over whole stops = writes course.first course.names stops.0.texts stops.0.told
+      Stops-writes writes (Broken place at fault) whole stops = writes course.first course.names stops.1.0.texts stops.1.0.told
+      Stops-writes writes Limit whole stops = writes course.first course.names stops.0.texts stops.0.told
+      Stops-writes writes ReadFault whole stops = writes course.first course.names stops.1.0.texts stops.1.0.told
+      Stops-writes writes WriteFault whole stops = absurd (whole tt)
+      Stops-writes writes NoMemory whole stops = absurd (whole tt)
+
       module _ (put : Puts (HoldAllFronts now)) where
         -- some was written
         broken : (Are : List Arrival → Type 0) → Halted tells course Are mid_out gathered tellers → IsTrue tells → Fronts tells course now
@@ -92,7 +103,7 @@ module _ (tells : Bool) (course : Course) where
           taken = halts.taken;
           begin = (halts.are told).0;
           few = halts.few;
-          hold = put told halts.base course.names halts.texts (frames_of course.ports halts.taken) halts.told halts.forwards;
+          hold = put told course.first course.names halts.texts (frames_of course.ports halts.taken) halts.told halts.forwards;
         }
 
         pub Stops-fronts : (halt : Halt) → (IsBroken halt → ⊥) → Stops tells course old_in new_in old_out mid_out gathered tellers halt

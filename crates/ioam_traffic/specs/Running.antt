@@ -28,9 +28,8 @@ module _ (tells : Bool) (course : Course) where
   pub record Runs (Are : List Arrival → Type 0) (outputs : Writing) (gathered : Forwarding) (tellers : List Output) : Type 0 where
     pub taken : List Arrival
     pub texts : List (List ℕ)
-    pub base : ℕ
     pub are : Are taken
-    pub told : AreTold tells outputs base course.names tellers texts
+    pub told : AreTold tells outputs course.first course.names tellers texts
     pub forwards : Forwards course.domain (frames_of course.ports taken) texts gathered
     pub few : length taken ≤ course.domain.packets
 

@@ -28,25 +28,27 @@ abbrev pub frames_of : List PortId → List Arrival → List Frame
 frames_of ports taken = map (frame_of ports) taken
 
 -- Where the traffic begins: the domain, the ports that have a capture, what these captures hold and
--- the number of the first one's slot, and the names of the outputs.
+-- the number of the first one's slot, the number of the first output's slot and the outputs' names.
 pub record Course : Type 0 where
   pub domain : Domain
   pub ports : List PortId
   pub lanes : merging.Start
+  pub first : ℕ
   pub names : List (List ℕ)
 
--- the files of the traffic: the captures where they were opened, and the names of the outputs
+-- the files of the traffic: the captures where they were opened, and the outputs' first slot and names
 pub record Files : Type 0 where
   pub lanes : merging.Start
+  pub first : ℕ
   pub names : List (List ℕ)
 
 -- captures and outputs of these names on a desk
 abbrev pub files_of : List (List ℕ) → List (List ℕ) → Reading → Writing → Files
-files_of inputs names reading writing = record { lanes = start_of reading.side.slots writing inputs; names = names }
+files_of inputs names reading writing = record { lanes = start_of reading.side.slots writing inputs; first = writing.side.slots; names = names }
 
 -- where the traffic of a domain over these files begins
 abbrev pub course_with : Domain → List PortId → Files → Course
-course_with domain ports files = record { domain = domain; ports = ports; lanes = files.lanes; names = files.names }
+course_with domain ports files = record { domain = domain; ports = ports; lanes = files.lanes; first = files.first; names = files.names }
 
 -- on a desk, with captures and outputs of these names
 abbrev pub begun : Domain → List PortId → List (List ℕ) → List (List ℕ) → Reading → Writing → Course

@@ -1,6 +1,7 @@
 //! The traffic of a domain: its files, and how it ends.
-ghost use Rattle.std.specs.Prelude.{◌≡◌, ◌↔◌, ◌+◌, ◌<◌, ◌++◌, [], ℕ, All, IsTrue, length};
+ghost use Rattle.std.specs.Prelude.{◌≡◌, ◌↔◌, ◌+◌, ◌<◌, ◌++◌, [], All, IsTrue, length};
 ghost use Rattle.ioam_desk.specs.Asked.{AsksFront};
+ghost use Rattle.ioam_desk.specs.Kept.{KeepsOutputs, WritesFrom};
 ghost use Rattle.ioam_merge.specs.Merging.{EndsKept, Merging};
 ghost use Rattle.ioam_outputs.specs.Names.{AreApart};
 ghost use Rattle.ioam_outputs.specs.Told.{AreTold, GathersNothing, unsaid};
@@ -48,6 +49,7 @@ pub fn run_traffic<D: Desk>(
     ensures no_output { (D.reading desk.new).side.slots < (D.reading desk.old).side.slots + length inputs.now
         → D.writing desk.new ≡ D.writing desk.old }
     ensures kept { EndsKept (D.reading desk.old).side.slots (D.reading desk.old) (D.reading desk.new) }
+    ensures kept_out { IsTrue D.tells → KeepsOutputs (D.writing desk.old) (D.writing desk.new) }
 {
     run_files(alloc, desk, domain, ports, inputs, outputs)
 }
@@ -78,6 +80,7 @@ fn run_files<D: Desk>(
     ensures no_output { (D.reading desk.new).side.slots < (D.reading desk.old).side.slots + length inputs.now
         → D.writing desk.new ≡ D.writing desk.old }
     ensures kept { EndsKept (D.reading desk.old).side.slots (D.reading desk.old) (D.reading desk.new) }
+    ensures kept_out { IsTrue D.tells → KeepsOutputs (D.writing desk.old) (D.writing desk.new) }
 {
     let merge = match open_merge(alloc, desk, inputs) {
         Ok(merge) => merge,
@@ -102,7 +105,7 @@ fn run_open<D: Desk>(
 ) -> Halt
     ghost files: { Files }
     requires merging { Merging D.tells files.lanes (D.reading desk.old) merge [] }
-    requires told { (base : ℕ) × AreTold D.tells (D.writing desk.old) base files.names outputs.old (unsaid files.names) }
+    requires told { AreTold D.tells (D.writing desk.old) files.first files.names outputs.old (unsaid files.names) }
     requires sized { length ports.now ≡ length files.lanes.contents }
     requires inside { All (λ port. port.0 < length (ports_of domain.now)) ports.now }
     requires width { length outputs.old ≡ length (ports_of domain.now) + 2 }
@@ -115,6 +118,7 @@ fn run_open<D: Desk>(
     ensures asked_out { (D.writing desk.new).side.asked ≡ (D.writing desk.old).side.asked }
     ensures slots_out { (D.writing desk.new).side.slots ≡ (D.writing desk.old).side.slots }
     ensures kept { EndsKept files.lanes.base (D.reading desk.old) (D.reading desk.new) }
+    ensures kept_out { WritesFrom files.first (D.writing desk.old) (D.writing desk.new) }
 {
     let Ok(gathered) = Forwarding::begin(alloc, domain, outputs) else {
         return Halt::NoMemory;

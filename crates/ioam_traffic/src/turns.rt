@@ -1,6 +1,7 @@
 //! The turns of the captures of a domain's ports, one after the other.
 ghost use Rattle.std.specs.Prelude.{◌≡◌, ◌+◌, ◌<◌, ◌≤◌, All, IsTrue, IfErr, IfOk, List, ℕ, OnOk, length};
 ghost use Rattle.ioam_desk.specs.Asked.{IsFaultOf};
+ghost use Rattle.ioam_desk.specs.Kept.{WritesFrom};
 ghost use Rattle.ioam_forward.specs.Fate.{Frame};
 ghost use Rattle.ioam_forward.specs.Forwarding.{Forwards, taken};
 ghost use Rattle.ioam_merge.specs.Merging.{EndsKept};
@@ -49,6 +50,7 @@ fn pass_on<D: Desk>(
         (D.writing desk.old) (D.writing desk.new) progress.new.gathered outputs.new) }
     ensures asked { (D.writing desk.new).side.asked ≡ (D.writing desk.old).side.asked }
     ensures slots { (D.writing desk.new).side.slots ≡ (D.writing desk.old).side.slots }
+    ensures kept { WritesFrom files.first (D.writing desk.old) (D.writing desk.new) }
     ensures inputs { D.reading desk.new ≡ D.reading desk.old }
 {
     if progress.gathered.taken() >= u64::from(domain.packets()) {
@@ -89,6 +91,7 @@ pub fn carry_on<D: Desk>(
     ensures asked_out { (D.writing desk.new).side.asked ≡ (D.writing desk.old).side.asked }
     ensures slots_out { (D.writing desk.new).side.slots ≡ (D.writing desk.old).side.slots }
     ensures kept { EndsKept files.lanes.base (D.reading desk.old) (D.reading desk.new) }
+    ensures kept_out { WritesFrom files.first (D.writing desk.old) (D.writing desk.new) }
 {
     'turns: loop {
         let place = match progress.merge.turn(desk) {
@@ -124,6 +127,8 @@ pub fn put_rest<D: Desk>(
     ensures cause { IfErr result (IsFaultOf (D.writing desk.old).side (D.writing desk.new).side) }
     ensures asked { (D.writing desk.new).side.asked ≡ (D.writing desk.old).side.asked }
     ensures slots { (D.writing desk.new).side.slots ≡ (D.writing desk.old).side.slots }
+    ensures kept { (base : ℕ) (names texts : List (List ℕ)) → AreTold D.tells (D.writing desk.old) base names outputs.old texts
+        → WritesFrom base (D.writing desk.old) (D.writing desk.new) }
     ensures inputs { D.reading desk.new ≡ D.reading desk.old }
 {
     match gathered.put_sums(domain, outputs) {

@@ -2,6 +2,7 @@ use Rattle.std.proofs.Common.{◌≡◌, ℕ, List, refl, ◌∙◌, subst, inr}
 use Rattle.ioam_outputs.specs.Names.{AreApart, IsFirstRepeat}
 use Rattle.ioam_domain.specs.Run.{run_files}
 use Rattle.ioam_domain.proofs.WordsLaws.{taken_name}
+use Rattle.ioam_desk.proofs.KeptLaws.{KeepsOutputs-same}
 use Rattle.ioam_domain.proofs.domain_run.run_set.Goals as goal
 
 pub returns-in-Some-clause-ends : goal.returns-in-Some-clause-ends
@@ -38,3 +39,9 @@ returns-clause-all_out g c = λ all.
     let words = c.args.words.now in
     let lent : c.deref.result.now ≡ run_files words c.args.domain.now = c.deref.ensures.value ∙ c.in-Ok.ensures in
     (subst AreApart lent c.in-None.ensures, c.run_apart.ensures.all_out all)
+
+pub returns-in_default-clause-kept_out : goal.returns-in_default-clause-kept_out
+returns-in_default-clause-kept_out g c = λ told. KeepsOutputs-same (g.D.Desk.writing c.args.desk.now) _ refl
+
+pub returns-in-Some-clause-kept_out : goal.returns-in-Some-clause-kept_out
+returns-in-Some-clause-kept_out g c = λ told. KeepsOutputs-same (g.D.Desk.writing c.args.desk.now) _ refl

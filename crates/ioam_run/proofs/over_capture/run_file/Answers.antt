@@ -5,9 +5,12 @@ use Rattle.ioam_feed.specs.Feed.{Fed}
 use Rattle.ioam_outputs.specs.declared.output.Output.{Output}
 use Rattle.ioam_outputs.specs.Told.{GathersNothing}
 use Rattle.ioam_outputs.proofs.ToldLaws.{told_names}
-use Rattle.ioam_run.specs.Streams.{Start, Finishes}
+use Rattle.ioam_run.specs.Streams.{Start, Finishes, ReadsOne}
 use Rattle.ioam_run.proofs.BeginLaws.{Fed-start, told_start, unwritten}
 use Rattle.ioam_run.proofs.FinishesLaws.{Finishes-drained, Finishes-cause, Finishes-leaves}
+use Rattle.ioam_desk.specs.Kept.{WritesFrom}
+use Rattle.ioam_desk.proofs.KeptLaws.{KeepsInputs-same, KeepsOutputs-same, KeepsOutputs-then, KeepsOutputs-from}
+use Rattle.ioam_run.proofs.KeptLaws.{ReadsOne-same, ReadsOne-on, KeepsInputs-unopened, KeepsInputs-opened}
 use Rattle.ioam_run.proofs.over_capture.run_file.Goals as goal
 
 pub run_open-requires : goal.run_open-requires
@@ -242,3 +245,55 @@ returns-clause-no_output g c =
 
 pub returns-clause-drained : goal.returns-clause-drained
 returns-clause-drained g c = λ none told. absurd none
+
+pub returns-in_default-clause-kept_in : goal.returns-in_default-clause-kept_in
+returns-in_default-clause-kept_in g c = KeepsInputs-same (g.D.Desk.reading c.args.desk.now) _ refl
+
+pub returns-in_default-clause-kept_out : goal.returns-in_default-clause-kept_out
+returns-in_default-clause-kept_out g c = λ told. KeepsOutputs-same (g.D.Desk.writing c.args.desk.now) _ refl
+
+pub returns-in-Err-Failed-clause-kept_in : goal.returns-in-Err-Failed-clause-kept_in
+returns-in-Err-Failed-clause-kept_in g c = KeepsInputs-unopened g.D.Desk.tells (g.D.Desk.reading c.args.desk.now) (g.D.Desk.reading c.open_feed.new.desk)
+    (holds (g.D.Desk.writing c.args.desk.now) c.text.result.now) c.text.result.now c.in-Err-Failed.field-0 c.in-Err-Failed.ensures.fault
+
+pub returns-in-Err-Failed-clause-kept_out : goal.returns-in-Err-Failed-clause-kept_out
+returns-in-Err-Failed-clause-kept_out g c = λ told. KeepsOutputs-same (g.D.Desk.writing c.args.desk.now) _ c.open_feed.ensures.outputs
+
+pub returns-in-Err-NoMemory-clause-kept_in : goal.returns-in-Err-NoMemory-clause-kept_in
+returns-in-Err-NoMemory-clause-kept_in g c = KeepsInputs-unopened g.D.Desk.tells (g.D.Desk.reading c.args.desk.now) (g.D.Desk.reading c.open_feed.new.desk)
+    (holds (g.D.Desk.writing c.args.desk.now) c.text.result.now) c.text.result.now c.in-Err-NoMemory.field-0 c.in-Err-NoMemory.ensures.fault
+
+pub returns-in-Err-NoMemory-clause-kept_out : goal.returns-in-Err-NoMemory-clause-kept_out
+returns-in-Err-NoMemory-clause-kept_out g c = λ told. KeepsOutputs-same (g.D.Desk.writing c.args.desk.now) _ c.open_feed.ensures.outputs
+
+pub returns-in-Ok-open_outputs-clause-kept_in : goal.returns-in-Ok-open_outputs-clause-kept_in
+returns-in-Ok-open_outputs-clause-kept_in g c =
+    let P : desk.Reading → Type 0 = λ r. ReadsOne c.in-Ok-open_feed.feed.slot r (g.D.Desk.reading c.run_open.new.desk) in
+    KeepsInputs-opened g.D.Desk.tells (g.D.Desk.reading c.args.desk.now) (g.D.Desk.reading c.open_feed.new.desk) (g.D.Desk.reading c.run_open.new.desk) _ _ c.in-Ok-open_feed.feed.slot
+    c.in-Ok-open_feed.ensures.opened (subst P c.open_outputs.ensures.inputs c.run_open.ensures.kept_in)
+
+pub returns-in-Ok-open_outputs-clause-kept_out : goal.returns-in-Ok-open_outputs-clause-kept_out
+returns-in-Ok-open_outputs-clause-kept_out g c = λ told.
+    let base : g.start.base ≡ (g.D.Desk.writing c.args.desk.now).side.slots = ap (λ (s : Start). s.base) c.requires.1.1.0 in
+    KeepsOutputs-from (g.D.Desk.writing c.args.desk.now) (g.D.Desk.writing c.open_outputs.new.desk) (g.D.Desk.writing c.run_open.new.desk) g.start.base
+    (KeepsOutputs-then (g.D.Desk.writing c.args.desk.now) (g.D.Desk.writing c.open_feed.new.desk) (g.D.Desk.writing c.open_outputs.new.desk)
+    (KeepsOutputs-same (g.D.Desk.writing c.args.desk.now) _ c.open_feed.ensures.outputs) (c.open_outputs.ensures.kept told))
+    (omega (arith, base)) c.run_open.ensures.slots_out c.run_open.ensures.asked_out c.run_open.ensures.kept_out
+
+pub returns-in-Err-Failed-open_outputs-clause-kept_in : goal.returns-in-Err-Failed-open_outputs-clause-kept_in
+returns-in-Err-Failed-open_outputs-clause-kept_in g c = KeepsInputs-opened g.D.Desk.tells (g.D.Desk.reading c.args.desk.now) (g.D.Desk.reading c.open_feed.new.desk) (g.D.Desk.reading c.open_outputs.new.desk) _ _ c.in-Ok-open_feed.feed.slot
+    c.in-Ok-open_feed.ensures.opened
+    (ReadsOne-same c.in-Ok-open_feed.feed.slot (g.D.Desk.reading c.open_feed.new.desk) _ c.open_outputs.ensures.inputs)
+
+pub returns-in-Err-Failed-open_outputs-clause-kept_out : goal.returns-in-Err-Failed-open_outputs-clause-kept_out
+returns-in-Err-Failed-open_outputs-clause-kept_out g c = λ told. KeepsOutputs-then (g.D.Desk.writing c.args.desk.now) (g.D.Desk.writing c.open_feed.new.desk) (g.D.Desk.writing c.open_outputs.new.desk)
+    (KeepsOutputs-same (g.D.Desk.writing c.args.desk.now) _ c.open_feed.ensures.outputs) (c.open_outputs.ensures.kept told)
+
+pub returns-clause-kept_in : goal.returns-clause-kept_in
+returns-clause-kept_in g c = KeepsInputs-opened g.D.Desk.tells (g.D.Desk.reading c.args.desk.now) (g.D.Desk.reading c.open_feed.new.desk) (g.D.Desk.reading c.open_outputs.new.desk) _ _ c.in-Ok-open_feed.feed.slot
+    c.in-Ok-open_feed.ensures.opened
+    (ReadsOne-same c.in-Ok-open_feed.feed.slot (g.D.Desk.reading c.open_feed.new.desk) _ c.open_outputs.ensures.inputs)
+
+pub returns-clause-kept_out : goal.returns-clause-kept_out
+returns-clause-kept_out g c = λ told. KeepsOutputs-then (g.D.Desk.writing c.args.desk.now) (g.D.Desk.writing c.open_feed.new.desk) (g.D.Desk.writing c.open_outputs.new.desk)
+    (KeepsOutputs-same (g.D.Desk.writing c.args.desk.now) _ c.open_feed.ensures.outputs) (c.open_outputs.ensures.kept told)

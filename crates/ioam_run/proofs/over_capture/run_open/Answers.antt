@@ -1,10 +1,12 @@
-use Rattle.std.proofs.Common.{rules, ap, sym, ◌∙◌, subst, arith}
+use Rattle.std.proofs.Common.{rules, refl, ap, sym, ◌∙◌, subst, arith}
 use Rattle.std.proofs.lemmas.Bool.{false≢true}
 use Rattle.ioam_desk.specs.Desk as desk
 use Rattle.ioam_desk.specs.Desk.{Side, Writing}
 use Rattle.ioam_run.specs.Streams.{Finishes, IsBroken}
 use Rattle.ioam_run.proofs.BeginLaws.{Streams-begin, Sticks-begin}
 use Rattle.ioam_run.proofs.FinishesLaws.{Stops-open, Finishes-written, Stops-sticks}
+use Rattle.ioam_desk.proofs.KeptLaws.{WritesFrom-same, WritesFrom-then}
+use Rattle.ioam_run.proofs.KeptLaws.{ReadsOne-same, ReadsOne-on, Stops-writes}
 use Rattle.ioam_run.proofs.over_capture.run_open.Goals as goal
 
 pub returns-in_default-clause-finishes : goal.returns-in_default-clause-finishes
@@ -67,3 +69,45 @@ returns-clause-finishes g c =
     (g.D.Desk.writing c.args.desk.now) (g.D.Desk.writing c.read_on-answer.new.desk) c.read_on-answer.new.stream.gathered c.read_on-answer.new.outputs
     (g.D.Desk.writing c.write_rest.new.desk) c.write_rest.ensures.fronts c.read_on-answer.result
     (λ broken. false≢true (sym c.if-is_broken.false ∙ c.is_broken.ensures.1 broken)) c.read_on-answer.ensures.stopped
+
+pub returns-in_default-clause-kept_in : goal.returns-in_default-clause-kept_in
+returns-in_default-clause-kept_in g c = ReadsOne-same c.args.feed.slot (g.D.Desk.reading c.args.desk.now) _ refl
+
+pub returns-in_default-clause-kept_out : goal.returns-in_default-clause-kept_out
+returns-in_default-clause-kept_out g c = WritesFrom-same g.start.base (g.D.Desk.writing c.args.desk.now) _ refl
+
+pub returns-in-Ok-write_rest-clause-kept_in : goal.returns-in-Ok-write_rest-clause-kept_in
+returns-in-Ok-write_rest-clause-kept_in g c = ReadsOne-on c.args.feed.slot (g.D.Desk.reading c.args.desk.now) (g.D.Desk.reading c.read_on-answer.new.desk) (g.D.Desk.reading c.write_rest.new.desk)
+    c.read_on-answer.ensures.kept_in c.write_rest.ensures.inputs
+
+pub returns-in-Ok-write_rest-clause-kept_out : goal.returns-in-Ok-write_rest-clause-kept_out
+returns-in-Ok-write_rest-clause-kept_out g c = WritesFrom-then g.start.base (g.D.Desk.writing c.args.desk.now) (g.D.Desk.writing c.read_on-answer.new.desk) (g.D.Desk.writing c.write_rest.new.desk)
+    c.read_on-answer.ensures.kept_out
+    (Stops-writes g.G.Gather.gathers g.G.Gather.count g.D.Desk.tells g.start g.G.Gather.texts c.args.input.now c.args.feed.slot
+    (g.D.Desk.reading c.args.desk.now) (g.D.Desk.reading c.read_on-answer.new.desk) (g.D.Desk.writing c.args.desk.now) (g.D.Desk.writing c.read_on-answer.new.desk) (g.D.Desk.writing c.write_rest.new.desk)
+    c.read_on-answer.new.stream.gathered c.read_on-answer.new.outputs c.write_rest.ensures.kept
+    c.read_on-answer.result (λ broken. false≢true (sym c.if-is_broken.false ∙ c.is_broken.ensures.1 broken)) c.read_on-answer.ensures.stopped)
+
+pub returns-in-Err-Failed-clause-kept_in : goal.returns-in-Err-Failed-clause-kept_in
+returns-in-Err-Failed-clause-kept_in g c = ReadsOne-on c.args.feed.slot (g.D.Desk.reading c.args.desk.now) (g.D.Desk.reading c.read_on-answer.new.desk) (g.D.Desk.reading c.write_rest.new.desk)
+    c.read_on-answer.ensures.kept_in c.write_rest.ensures.inputs
+
+pub returns-in-Err-Failed-clause-kept_out : goal.returns-in-Err-Failed-clause-kept_out
+returns-in-Err-Failed-clause-kept_out g c = WritesFrom-then g.start.base (g.D.Desk.writing c.args.desk.now) (g.D.Desk.writing c.read_on-answer.new.desk) (g.D.Desk.writing c.write_rest.new.desk)
+    c.read_on-answer.ensures.kept_out
+    (Stops-writes g.G.Gather.gathers g.G.Gather.count g.D.Desk.tells g.start g.G.Gather.texts c.args.input.now c.args.feed.slot
+    (g.D.Desk.reading c.args.desk.now) (g.D.Desk.reading c.read_on-answer.new.desk) (g.D.Desk.writing c.args.desk.now) (g.D.Desk.writing c.read_on-answer.new.desk) (g.D.Desk.writing c.write_rest.new.desk)
+    c.read_on-answer.new.stream.gathered c.read_on-answer.new.outputs c.write_rest.ensures.kept
+    c.read_on-answer.result (λ broken. false≢true (sym c.if-is_broken.false ∙ c.is_broken.ensures.1 broken)) c.read_on-answer.ensures.stopped)
+
+pub returns-clause-kept_in : goal.returns-clause-kept_in
+returns-clause-kept_in g c = ReadsOne-on c.args.feed.slot (g.D.Desk.reading c.args.desk.now) (g.D.Desk.reading c.read_on-answer.new.desk) (g.D.Desk.reading c.write_rest.new.desk)
+    c.read_on-answer.ensures.kept_in c.write_rest.ensures.inputs
+
+pub returns-clause-kept_out : goal.returns-clause-kept_out
+returns-clause-kept_out g c = WritesFrom-then g.start.base (g.D.Desk.writing c.args.desk.now) (g.D.Desk.writing c.read_on-answer.new.desk) (g.D.Desk.writing c.write_rest.new.desk)
+    c.read_on-answer.ensures.kept_out
+    (Stops-writes g.G.Gather.gathers g.G.Gather.count g.D.Desk.tells g.start g.G.Gather.texts c.args.input.now c.args.feed.slot
+    (g.D.Desk.reading c.args.desk.now) (g.D.Desk.reading c.read_on-answer.new.desk) (g.D.Desk.writing c.args.desk.now) (g.D.Desk.writing c.read_on-answer.new.desk) (g.D.Desk.writing c.write_rest.new.desk)
+    c.read_on-answer.new.stream.gathered c.read_on-answer.new.outputs c.write_rest.ensures.kept
+    c.read_on-answer.result (λ broken. false≢true (sym c.if-is_broken.false ∙ c.is_broken.ensures.1 broken)) c.read_on-answer.ensures.stopped)

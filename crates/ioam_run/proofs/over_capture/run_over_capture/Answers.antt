@@ -3,6 +3,7 @@ use Rattle.ioam_outputs.specs.Names.{AreApart}
 use Rattle.ioam_run.specs.Run.{FileCause, file_names, input_name, output_names}
 use Rattle.ioam_outputs.proofs.NamesLaws.{found_name}
 use Rattle.ioam_run.proofs.WordsLaws.{names_behind, outputs_behind, apart_outputs, cause_of_file}
+use Rattle.ioam_desk.proofs.KeptLaws.{KeepsInputs-same, KeepsOutputs-same}
 use Rattle.ioam_run.proofs.over_capture.run_over_capture.Goals as goal
 
 pub run_file-requires : goal.run_file-requires
@@ -36,3 +37,9 @@ pub returns-in-None-clause-differed : goal.returns-in-None-clause-differed
 returns-in-None-clause-differed g c =
     let Q : List (List ℕ) → Type 0 = λ names. AreApart names in
     inr (subst Q (names_behind c.args.words.now) c.in-None.ensures)
+
+pub returns-in-Some-clause-kept_in : goal.returns-in-Some-clause-kept_in
+returns-in-Some-clause-kept_in g c = KeepsInputs-same (g.D.Desk.reading c.args.desk.now) _ refl
+
+pub returns-in-Some-clause-kept_out : goal.returns-in-Some-clause-kept_out
+returns-in-Some-clause-kept_out g c = λ told. KeepsOutputs-same (g.D.Desk.writing c.args.desk.now) _ refl

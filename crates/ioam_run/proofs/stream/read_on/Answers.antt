@@ -1,6 +1,7 @@
-use Rattle.std.proofs.Common.{◌≡◌, ℕ, IsTrue, List, length, length-append, ap, sym, ◌∙◌, subst, arith}
+use Rattle.std.proofs.Common.{◌≡◌, ℕ, IsTrue, List, length, length-append, refl, rules, ap, sym, ◌∙◌, subst, arith}
 use Rattle.ioam_desk.specs.Desk as desk
 use Rattle.ioam_desk.specs.Desk.{Side, Writing}
+use Rattle.ioam_desk.proofs.KeptLaws.{WritesFrom-same, WritesFrom-then}
 use Rattle.ioam_outputs.specs.Held.{HoldAllFronts}
 use Rattle.ioam_pcap.specs.Reads.{Faulty}
 use Rattle.ioam_pcap.specs.Reader.{ending_of, fed}
@@ -8,6 +9,7 @@ use Rattle.ioam_pcap.proofs.StandsLaws.{Waits-few}
 use Rattle.ioam_run.specs.Run.{EndsSo}
 use Rattle.ioam_run.proofs.HaltsLaws.{Streams-sticks, Streams-fronts, halts_waiting, halts_end}
 use Rattle.ioam_run.proofs.StopsLaws.{begins_ends, Halts-sticks_here, Stops-bad, Stops-end, Halts-left, Streams-start, Streams-fed, Streams-ended}
+use Rattle.ioam_run.proofs.KeptLaws.{ReadsOne-same, ReadsOne-on, ReadsOne-refilled}
 use Rattle.ioam_run.proofs.stream.read_on.Goals as goal
 
 pub returns-in-Ok-Bad-clause-stopped : goal.returns-in-Ok-Bad-clause-stopped
@@ -35,6 +37,13 @@ pieces-preserved g c =
       inputs = feeds.gives.side ∙ ap (λ (r : desk.Reading). r.side) c.in-Ok-More.ensures.inputs ∙ c.pieces.invariant.inputs;
       side = ap (λ (w : Writing). w.side) c.in-Ok-true.ensures.outputs ∙ c.in-Ok-More.ensures.same ∙ c.pieces.invariant.side;
       slot = c.in-Ok-true.ensures.slot ∙ c.in-Ok-More.ensures.slot ∙ c.pieces.invariant.slot;
+      kept_in = ReadsOne-refilled g.D.Desk.tells c.args.stream.now.feed.slot c.take_shown.new.stream.feed.slot _ (g.D.Desk.reading c.args.desk.now) (g.D.Desk.reading c.pieces.desk)
+          (g.D.Desk.reading c.take_shown.new.desk) (g.D.Desk.reading c.refill.new.desk) _ _ _ c.pieces.invariant.kept_in c.take_shown.ensures.inputs
+          (c.take_shown.ensures.slot ∙ c.pieces.invariant.slot) c.refill.ensures.read;
+      kept_out = WritesFrom-then g.start.base (g.D.Desk.writing c.args.desk.now) (g.D.Desk.writing c.take_shown.new.desk) (g.D.Desk.writing c.refill.new.desk)
+          (WritesFrom-then g.start.base (g.D.Desk.writing c.args.desk.now) (g.D.Desk.writing c.pieces.desk) (g.D.Desk.writing c.take_shown.new.desk)
+          c.pieces.invariant.kept_out c.take_shown.ensures.kept)
+          (WritesFrom-same g.start.base _ _ c.refill.ensures.outputs);
     }
 
 pub refill-requires-clause-few : goal.refill-requires-clause-few
@@ -215,3 +224,81 @@ returns-in-Err-NoMemory-refill-clause-slots_in g c =
 pub returns-in-Err-NoMemory-refill-clause-slots_out : goal.returns-in-Err-NoMemory-refill-clause-slots_out
 returns-in-Err-NoMemory-refill-clause-slots_out g c =
     ap (λ (w : Writing). w.side.slots) c.in-Err-NoMemory-refill.ensures.outputs ∙ c.in-Ok-More.ensures.slots ∙ ap (λ (s : Side). s.slots) c.pieces.invariant.side
+
+pub pieces-init : goal.pieces-init
+pieces-init g c = record {
+  streams = search rules;
+  width = search rules;
+  waiting = search rules;
+  room = search rules;
+  inputs = refl;
+  side = refl;
+  slot = refl;
+  kept_in = ReadsOne-same c.args.stream.now.feed.slot (g.D.Desk.reading c.args.desk.now) _ refl;
+  kept_out = WritesFrom-same g.start.base (g.D.Desk.writing c.args.desk.now) _ refl;
+}
+
+pub returns-in-Ok-Bad-clause-kept_in : goal.returns-in-Ok-Bad-clause-kept_in
+returns-in-Ok-Bad-clause-kept_in g c = ReadsOne-on c.args.stream.now.feed.slot (g.D.Desk.reading c.args.desk.now) (g.D.Desk.reading c.pieces.desk) (g.D.Desk.reading c.take_shown.new.desk)
+    c.pieces.invariant.kept_in c.take_shown.ensures.inputs
+
+pub returns-in-Ok-Bad-clause-kept_out : goal.returns-in-Ok-Bad-clause-kept_out
+returns-in-Ok-Bad-clause-kept_out g c = WritesFrom-then g.start.base (g.D.Desk.writing c.args.desk.now) (g.D.Desk.writing c.pieces.desk) (g.D.Desk.writing c.take_shown.new.desk)
+    c.pieces.invariant.kept_out c.take_shown.ensures.kept
+
+pub returns-in-Ok-Limit-clause-kept_in : goal.returns-in-Ok-Limit-clause-kept_in
+returns-in-Ok-Limit-clause-kept_in g c = ReadsOne-on c.args.stream.now.feed.slot (g.D.Desk.reading c.args.desk.now) (g.D.Desk.reading c.pieces.desk) (g.D.Desk.reading c.take_shown.new.desk)
+    c.pieces.invariant.kept_in c.take_shown.ensures.inputs
+
+pub returns-in-Ok-Limit-clause-kept_out : goal.returns-in-Ok-Limit-clause-kept_out
+returns-in-Ok-Limit-clause-kept_out g c = WritesFrom-then g.start.base (g.D.Desk.writing c.args.desk.now) (g.D.Desk.writing c.pieces.desk) (g.D.Desk.writing c.take_shown.new.desk)
+    c.pieces.invariant.kept_out c.take_shown.ensures.kept
+
+pub returns-in-Err-Failed-clause-kept_in : goal.returns-in-Err-Failed-clause-kept_in
+returns-in-Err-Failed-clause-kept_in g c = ReadsOne-on c.args.stream.now.feed.slot (g.D.Desk.reading c.args.desk.now) (g.D.Desk.reading c.pieces.desk) (g.D.Desk.reading c.take_shown.new.desk)
+    c.pieces.invariant.kept_in c.take_shown.ensures.inputs
+
+pub returns-in-Err-Failed-clause-kept_out : goal.returns-in-Err-Failed-clause-kept_out
+returns-in-Err-Failed-clause-kept_out g c = WritesFrom-then g.start.base (g.D.Desk.writing c.args.desk.now) (g.D.Desk.writing c.pieces.desk) (g.D.Desk.writing c.take_shown.new.desk)
+    c.pieces.invariant.kept_out c.take_shown.ensures.kept
+
+pub returns-in-Err-NoMemory-clause-kept_in : goal.returns-in-Err-NoMemory-clause-kept_in
+returns-in-Err-NoMemory-clause-kept_in g c = ReadsOne-on c.args.stream.now.feed.slot (g.D.Desk.reading c.args.desk.now) (g.D.Desk.reading c.pieces.desk) (g.D.Desk.reading c.take_shown.new.desk)
+    c.pieces.invariant.kept_in c.take_shown.ensures.inputs
+
+pub returns-in-Err-NoMemory-clause-kept_out : goal.returns-in-Err-NoMemory-clause-kept_out
+returns-in-Err-NoMemory-clause-kept_out g c = WritesFrom-then g.start.base (g.D.Desk.writing c.args.desk.now) (g.D.Desk.writing c.pieces.desk) (g.D.Desk.writing c.take_shown.new.desk)
+    c.pieces.invariant.kept_out c.take_shown.ensures.kept
+
+pub returns-in-Ok-false-clause-kept_in : goal.returns-in-Ok-false-clause-kept_in
+returns-in-Ok-false-clause-kept_in g c = ReadsOne-refilled g.D.Desk.tells c.args.stream.now.feed.slot c.take_shown.new.stream.feed.slot _ (g.D.Desk.reading c.args.desk.now) (g.D.Desk.reading c.pieces.desk)
+    (g.D.Desk.reading c.take_shown.new.desk) (g.D.Desk.reading c.refill.new.desk) _ _ _ c.pieces.invariant.kept_in c.take_shown.ensures.inputs
+    (c.take_shown.ensures.slot ∙ c.pieces.invariant.slot) c.refill.ensures.read
+
+pub returns-in-Ok-false-clause-kept_out : goal.returns-in-Ok-false-clause-kept_out
+returns-in-Ok-false-clause-kept_out g c = WritesFrom-then g.start.base (g.D.Desk.writing c.args.desk.now) (g.D.Desk.writing c.take_shown.new.desk) (g.D.Desk.writing c.refill.new.desk)
+    (WritesFrom-then g.start.base (g.D.Desk.writing c.args.desk.now) (g.D.Desk.writing c.pieces.desk) (g.D.Desk.writing c.take_shown.new.desk)
+    c.pieces.invariant.kept_out c.take_shown.ensures.kept)
+    (WritesFrom-same g.start.base _ _ c.refill.ensures.outputs)
+
+pub returns-in-Err-Failed-refill-clause-kept_in : goal.returns-in-Err-Failed-refill-clause-kept_in
+returns-in-Err-Failed-refill-clause-kept_in g c = ReadsOne-refilled g.D.Desk.tells c.args.stream.now.feed.slot c.take_shown.new.stream.feed.slot _ (g.D.Desk.reading c.args.desk.now) (g.D.Desk.reading c.pieces.desk)
+    (g.D.Desk.reading c.take_shown.new.desk) (g.D.Desk.reading c.refill.new.desk) _ _ _ c.pieces.invariant.kept_in c.take_shown.ensures.inputs
+    (c.take_shown.ensures.slot ∙ c.pieces.invariant.slot) c.refill.ensures.read
+
+pub returns-in-Err-Failed-refill-clause-kept_out : goal.returns-in-Err-Failed-refill-clause-kept_out
+returns-in-Err-Failed-refill-clause-kept_out g c = WritesFrom-then g.start.base (g.D.Desk.writing c.args.desk.now) (g.D.Desk.writing c.take_shown.new.desk) (g.D.Desk.writing c.refill.new.desk)
+    (WritesFrom-then g.start.base (g.D.Desk.writing c.args.desk.now) (g.D.Desk.writing c.pieces.desk) (g.D.Desk.writing c.take_shown.new.desk)
+    c.pieces.invariant.kept_out c.take_shown.ensures.kept)
+    (WritesFrom-same g.start.base _ _ c.refill.ensures.outputs)
+
+pub returns-in-Err-NoMemory-refill-clause-kept_in : goal.returns-in-Err-NoMemory-refill-clause-kept_in
+returns-in-Err-NoMemory-refill-clause-kept_in g c = ReadsOne-refilled g.D.Desk.tells c.args.stream.now.feed.slot c.take_shown.new.stream.feed.slot _ (g.D.Desk.reading c.args.desk.now) (g.D.Desk.reading c.pieces.desk)
+    (g.D.Desk.reading c.take_shown.new.desk) (g.D.Desk.reading c.refill.new.desk) _ _ _ c.pieces.invariant.kept_in c.take_shown.ensures.inputs
+    (c.take_shown.ensures.slot ∙ c.pieces.invariant.slot) c.refill.ensures.read
+
+pub returns-in-Err-NoMemory-refill-clause-kept_out : goal.returns-in-Err-NoMemory-refill-clause-kept_out
+returns-in-Err-NoMemory-refill-clause-kept_out g c = WritesFrom-then g.start.base (g.D.Desk.writing c.args.desk.now) (g.D.Desk.writing c.take_shown.new.desk) (g.D.Desk.writing c.refill.new.desk)
+    (WritesFrom-then g.start.base (g.D.Desk.writing c.args.desk.now) (g.D.Desk.writing c.pieces.desk) (g.D.Desk.writing c.take_shown.new.desk)
+    c.pieces.invariant.kept_out c.take_shown.ensures.kept)
+    (WritesFrom-same g.start.base _ _ c.refill.ensures.outputs)

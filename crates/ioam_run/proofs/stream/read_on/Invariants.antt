@@ -1,8 +1,9 @@
 use Rattle.std.proofs.Common.{◌≡◌, ◌+◌, ◌-◌, length}
+use Rattle.ioam_desk.specs.Kept.{WritesFrom}
 use Rattle.ioam_outputs.specs.Told.{GathersFew}
 use Rattle.ioam_pcap.specs.Reader.{fed, most_size, most_start}
 use Rattle.ioam_run.specs.Run.{most_packets}
-use Rattle.ioam_run.specs.Streams.{IsStreaming}
+use Rattle.ioam_run.specs.Streams.{IsStreaming, ReadsOne}
 use Rattle.ioam_run.proofs.stream.read_on.Given as goal
 
 -- the outputs were told the texts of the records that were given
@@ -15,6 +16,8 @@ invariant-pieces g l = record {
   inputs : (g.D.Desk.reading l.desk).side ≡ (g.D.Desk.reading l.initial.desk).side;
   side : (g.D.Desk.writing l.desk).side ≡ (g.D.Desk.writing l.initial.desk).side;
   slot : l.stream.feed.slot ≡ l.initial.stream.feed.slot;
+  kept_in : ReadsOne l.initial.stream.feed.slot (g.D.Desk.reading l.initial.desk) (g.D.Desk.reading l.desk);
+  kept_out : WritesFrom g.start.base (g.D.Desk.writing l.initial.desk) (g.D.Desk.writing l.desk);
 }
 
 -- what may still be fed: as many records as may be, the front of another, and a piece

@@ -1,8 +1,9 @@
-use Rattle.std.proofs.Common.{List, sym, subst, arith}
+use Rattle.std.proofs.Common.{List, refl, rules, sym, subst, arith}
 use Rattle.std.proofs.lemmas.Result.{err_from_is_err_and}
+use Rattle.ioam_desk.proofs.KeptLaws.{WritesFrom-same, WritesFrom-then}
 use Rattle.ioam_outputs.specs.Told.{GathersFew}
 use Rattle.ioam_outputs.specs.declared.output.Output.{Output}
-use Rattle.ioam_outputs.proofs.ToldLaws.{AreTold-open}
+use Rattle.ioam_outputs.proofs.ToldLaws.{AreTold-open, told_writes}
 use Rattle.ioam_run.proofs.HaltsLaws.{Streams-sticks, Streams-fronts, Steps-still, Pauses-step}
 use Rattle.ioam_run.proofs.stream.take_shown.Goals as goal
 
@@ -43,3 +44,40 @@ returns-in_err-flush_full-clause-sticks g c =
     (omega (arith, g.met.G.Gather.sized c.step.new.gathered, c.records.invariant.width, c.step.auto.outputs)) (g.D.Desk.writing c.flush_full.new.desk)
     (λ told. c.in_err-flush_full.ensures.fronts told g.start.base g.start.names streams.texts streams.told)
     )
+
+pub returns-in_err-flush_full-clause-kept : goal.returns-in_err-flush_full-clause-kept
+returns-in_err-flush_full-clause-kept g c =
+    let stepped = rw c.in-Ok-None.field-0-is at c.in-Ok-None.ensures.stepped in
+    let streams = stepped.1 g.D.Desk.tells g.start (g.D.Desk.reading c.records.desk) (g.D.Desk.writing c.records.desk) c.records.stream.feed.slot c.records.invariant.streams in
+    WritesFrom-then g.start.base (g.D.Desk.writing c.args.desk.now) (g.D.Desk.writing c.records.desk) (g.D.Desk.writing c.flush_full.new.desk) c.records.invariant.kept
+    (told_writes g.D.Desk.tells (g.D.Desk.writing c.records.desk) (g.D.Desk.writing c.flush_full.new.desk) g.start.base g.start.names c.step.new.outputs streams.texts streams.told
+    c.flush_full.ensures.others)
+
+pub records-preserved : goal.records-preserved
+records-preserved g c =
+    let stepped = rw c.in-Ok-None.field-0-is at c.in-Ok-None.ensures.stepped in
+    let streams = stepped.1 g.D.Desk.tells g.start (g.D.Desk.reading c.records.desk) (g.D.Desk.writing c.records.desk) c.records.stream.feed.slot c.records.invariant.streams in
+    record {
+      streams = search rules;
+      width = search rules;
+      waiting = search rules;
+      inputs = search rules;
+      side = search rules;
+      fed = search rules;
+      slot = search rules;
+      kept = WritesFrom-then g.start.base (g.D.Desk.writing c.args.desk.now) (g.D.Desk.writing c.records.desk) (g.D.Desk.writing c.flush_full.new.desk) c.records.invariant.kept
+          (told_writes g.D.Desk.tells (g.D.Desk.writing c.records.desk) (g.D.Desk.writing c.flush_full.new.desk) g.start.base g.start.names c.step.new.outputs streams.texts streams.told
+          c.flush_full.ensures.others);
+    }
+
+pub records-init : goal.records-init
+records-init g c = record {
+  streams = search rules;
+  width = search rules;
+  waiting = search rules;
+  inputs = refl;
+  side = refl;
+  fed = refl;
+  slot = refl;
+  kept = WritesFrom-same g.start.base (g.D.Desk.writing c.args.desk.now) _ refl;
+}

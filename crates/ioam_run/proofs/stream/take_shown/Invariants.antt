@@ -1,4 +1,5 @@
 use Rattle.std.proofs.Common.{◌≡◌, length}
+use Rattle.ioam_desk.specs.Kept.{WritesFrom}
 use Rattle.ioam_outputs.specs.Told.{GathersFew}
 use Rattle.ioam_pcap.specs.Reader.{fed}
 use Rattle.ioam_run.specs.Streams.{IsStreaming}
@@ -14,6 +15,7 @@ invariant-records g l = record {
   side : (g.D.Desk.writing l.desk).side ≡ (g.D.Desk.writing l.initial.desk).side;
   fed : fed l.stream.feed.reader ≡ fed l.initial.stream.feed.reader;
   slot : l.stream.feed.slot ≡ l.initial.stream.feed.slot;
+  kept : WritesFrom g.start.base (g.D.Desk.writing l.initial.desk) (g.D.Desk.writing l.desk);
 }
 
 abbrev pub decreases-records : goal.decreases-records

@@ -1,6 +1,7 @@
-use Rattle.std.proofs.Common.{arith}
+use Rattle.std.proofs.Common.{refl, arith}
+use Rattle.ioam_desk.proofs.KeptLaws.{WritesFrom-same}
 use Rattle.ioam_outputs.proofs.HeldLaws.{AreTold-fronts, more_fronts}
-use Rattle.ioam_outputs.proofs.ToldLaws.{AreTold-adds, Adds-open, told_names}
+use Rattle.ioam_outputs.proofs.ToldLaws.{AreTold-adds, Adds-open, told_names, told_writes}
 use Rattle.ioam_base.proofs.ResultLaws.{OnOk-map}
 use Rattle.ioam_run.proofs.stream.write_rest.Goals as goal
 
@@ -25,3 +26,11 @@ returns-in-Err-clause-fronts g c = λ told slot names texts is.
       told_names g.D.Desk.tells (g.D.Desk.writing c.args.desk.now) slot names c.args.outputs.now texts is,
     ))
     (AreTold-fronts g.D.Desk.tells (g.D.Desk.writing c.args.desk.now) slot names c.args.outputs.now texts told is)
+
+pub returns-in-Ok-clause-kept : goal.returns-in-Ok-clause-kept
+returns-in-Ok-clause-kept g c = λ slot names texts is.
+    told_writes g.D.Desk.tells (g.D.Desk.writing c.args.desk.now) (g.D.Desk.writing c.finish.new.desk) slot names c.put_sums.new.outputs _
+    (AreTold-adds _ _ slot names _ _ texts _ is c.in-Ok.ensures) c.finish.ensures.others
+
+pub returns-in-Err-clause-kept : goal.returns-in-Err-clause-kept
+returns-in-Err-clause-kept g c = λ slot names texts is. WritesFrom-same slot (g.D.Desk.writing c.args.desk.now) _ refl

@@ -1,7 +1,8 @@
-use Rattle.std.proofs.Common.{◌≡◌}
+use Rattle.std.proofs.Common.{◌≡◌, ap, arith}
 use Rattle.std.proofs.lemmas.Result.{err_from_is_err_and}
 use Rattle.ioam_clock.specs.Reading.{node_names}
-use Rattle.ioam_desk.specs.Desk.{holds}
+use Rattle.ioam_desk.specs.Desk.{Side, holds}
+use Rattle.ioam_desk.proofs.KeptLaws.{KeepsInputs-then}
 use Rattle.ioam_setting.specs.declared.setting.Refusal.TheVariants as refusal
 use Rattle.ioam_setting.proofs.SettingLaws.{asks_next, refuses_next, none_of_domain, same_refusal}
 use Rattle.ioam_setting.proofs.setting.read_setting.Goals as goal
@@ -35,3 +36,11 @@ returns-in_err-readings-clause-domain_first g c = λ fault is.
     let same = same_refusal p.1 p.2 is in
     absurd (none_of_domain g.D.Desk.tells (g.D.Desk.reading c.read_domain_file.new.desk) (g.D.Desk.reading c.read_readings_file.new.desk)
     (holds (g.D.Desk.writing c.read_domain_file.new.desk) c.args.readings.now) (node_names c.in_ok-domain.domain) c.in_err-readings.field-0.0 fault c.in_err-readings.ensures.read same)
+
+pub returns-in_err-readings-clause-kept : goal.returns-in_err-readings-clause-kept
+returns-in_err-readings-clause-kept g c = KeepsInputs-then (g.D.Desk.reading c.args.desk.now) (g.D.Desk.reading c.read_domain_file.new.desk) (g.D.Desk.reading c.read_readings_file.new.desk)
+    (omega (arith, ap (λ (s : Side). s.slots) c.in_ok-domain.ensures.side)) c.read_domain_file.ensures.kept c.read_readings_file.ensures.kept
+
+pub returns-clause-kept : goal.returns-clause-kept
+returns-clause-kept g c = KeepsInputs-then (g.D.Desk.reading c.args.desk.now) (g.D.Desk.reading c.read_domain_file.new.desk) (g.D.Desk.reading c.read_readings_file.new.desk)
+    (omega (arith, ap (λ (s : Side). s.slots) c.in_ok-domain.ensures.side)) c.read_domain_file.ensures.kept c.read_readings_file.ensures.kept

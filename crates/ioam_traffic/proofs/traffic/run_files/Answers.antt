@@ -1,4 +1,4 @@
-use Rattle.std.proofs.Common.{◌≡◌, ◌+◌, ◌++◌, List, length, rules, ap, sym, ◌∙◌, subst, inl, inr, arith}
+use Rattle.std.proofs.Common.{◌≡◌, ◌+◌, ◌++◌, List, length, rules, refl, ap, sym, ◌∙◌, subst, inl, inr, arith}
 use Rattle.ioam_desk.specs.Desk.{Reading, Writing, Side}
 use Rattle.ioam_outputs.specs.declared.output.Output.{Output}
 use Rattle.ioam_outputs.specs.Told.{GathersNothing}
@@ -7,6 +7,7 @@ use Rattle.ioam_merge.specs.Merging.{slot_of}
 use Rattle.ioam_traffic.specs.Traffic.{Files, course_with}
 use Rattle.ioam_traffic.proofs.BeginLaws.{known_fronts, known_merging, known_opened, known_sized, known_told}
 use Rattle.ioam_traffic.proofs.StopsLaws.{Ends-finishes}
+use Rattle.ioam_desk.proofs.KeptLaws.{KeepsOutputs-same, KeepsOutputs-then, KeepsOutputs-from}
 use Rattle.ioam_traffic.proofs.traffic.run_files.Goals as goal
 
 pub returns-in-Err-Failed-clause-finishes : goal.returns-in-Err-Failed-clause-finishes
@@ -31,11 +32,9 @@ run_open-requires g c κs within =
         known_merging g.files ins outs reading writing c.requires.1.0 g.D.Desk.tells (g.D.Desk.reading c.open_merge.new.desk) (g.D.Desk.reading c.open_outputs.new.desk)
             c.in-Ok.merge c.in-Ok-open_outputs.ensures.inputs c.in-Ok.ensures.opened,
         (
-          (
-            (g.D.Desk.writing c.open_merge.new.desk).side.slots,
-            known_told g.files ins outs reading writing c.requires.1.0 g.D.Desk.tells (g.D.Desk.writing c.open_outputs.new.desk)
-                (g.D.Desk.writing c.open_merge.new.desk).side.slots c.in-Ok-open_outputs.outputs.items c.deref_mut.result.now c.deref_mut.ensures.value told,
-          ),
+          known_told g.files ins outs reading writing c.requires.1.0 g.D.Desk.tells (g.D.Desk.writing c.open_outputs.new.desk)
+              (g.D.Desk.writing c.open_merge.new.desk).side.slots c.in-Ok-open_outputs.outputs.items c.deref_mut.result.now c.deref_mut.ensures.value
+              (ap (λ (w : Writing). w.side.slots) c.in-Ok.ensures.outputs) told,
           (
             c.requires.1.1.0 ∙ sym (known_sized g.files ins outs reading writing c.requires.1.0),
             (
@@ -100,3 +99,25 @@ pub returns-in-Ok-open_outputs-clause-all_in : goal.returns-in-Ok-open_outputs-c
 returns-in-Ok-open_outputs-clause-all_in g c = λ end.
     c.run_open.ensures.asked_in ∙ ap (λ (r : Reading). r.side.asked) c.in-Ok-open_outputs.ensures.inputs
     ∙ ap (λ (s : Side). s.asked) c.in-Ok.ensures.side
+
+pub returns-in-Err-Failed-clause-kept_out : goal.returns-in-Err-Failed-clause-kept_out
+returns-in-Err-Failed-clause-kept_out g c = λ told. KeepsOutputs-same (g.D.Desk.writing c.args.desk.now) _ c.open_merge.ensures.outputs
+
+pub returns-in-Err-NoMemory-clause-kept_out : goal.returns-in-Err-NoMemory-clause-kept_out
+returns-in-Err-NoMemory-clause-kept_out g c = λ told. KeepsOutputs-same (g.D.Desk.writing c.args.desk.now) _ c.open_merge.ensures.outputs
+
+pub returns-in-Err-Failed-open_outputs-clause-kept_out : goal.returns-in-Err-Failed-open_outputs-clause-kept_out
+returns-in-Err-Failed-open_outputs-clause-kept_out g c = λ told. KeepsOutputs-then (g.D.Desk.writing c.args.desk.now) (g.D.Desk.writing c.open_merge.new.desk) (g.D.Desk.writing c.open_outputs.new.desk)
+    (KeepsOutputs-same (g.D.Desk.writing c.args.desk.now) _ c.open_merge.ensures.outputs) (c.open_outputs.ensures.kept told)
+
+pub returns-clause-kept_out : goal.returns-clause-kept_out
+returns-clause-kept_out g c = λ told. KeepsOutputs-then (g.D.Desk.writing c.args.desk.now) (g.D.Desk.writing c.open_merge.new.desk) (g.D.Desk.writing c.open_outputs.new.desk)
+    (KeepsOutputs-same (g.D.Desk.writing c.args.desk.now) _ c.open_merge.ensures.outputs) (c.open_outputs.ensures.kept told)
+
+pub returns-in-Ok-open_outputs-clause-kept_out : goal.returns-in-Ok-open_outputs-clause-kept_out
+returns-in-Ok-open_outputs-clause-kept_out g c = λ told.
+    let first : g.files.first ≡ (g.D.Desk.writing c.args.desk.now).side.slots = ap (λ (f : Files). f.first) c.requires.1.0 in
+    KeepsOutputs-from (g.D.Desk.writing c.args.desk.now) (g.D.Desk.writing c.open_outputs.new.desk) (g.D.Desk.writing c.run_open.new.desk) g.files.first
+    (KeepsOutputs-then (g.D.Desk.writing c.args.desk.now) (g.D.Desk.writing c.open_merge.new.desk) (g.D.Desk.writing c.open_outputs.new.desk)
+    (KeepsOutputs-same (g.D.Desk.writing c.args.desk.now) _ c.open_merge.ensures.outputs) (c.open_outputs.ensures.kept told))
+    (omega (arith, first)) c.run_open.ensures.slots_out c.run_open.ensures.asked_out c.run_open.ensures.kept_out

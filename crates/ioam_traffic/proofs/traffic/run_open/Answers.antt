@@ -1,4 +1,4 @@
-use Rattle.std.proofs.Common.{rules, ap, sym, ◌∙◌, subst, arith}
+use Rattle.std.proofs.Common.{rules, refl, ap, sym, ◌∙◌, subst, arith}
 use Rattle.std.proofs.lemmas.Bool.{false≢true}
 use Rattle.ioam_desk.specs.Desk.{Reading, Side}
 use Rattle.ioam_merge.specs.Merging.{slot_of}
@@ -7,20 +7,21 @@ use Rattle.ioam_traffic.specs.Traffic.{course_with}
 use Rattle.ioam_outputs.proofs.ToldLaws.{Adds-few}
 use Rattle.ioam_traffic.proofs.BeginLaws.{Fronts-begin, Running-begin}
 use Rattle.ioam_traffic.proofs.FrontsLaws.{begin-few}
-use Rattle.ioam_traffic.proofs.StopsLaws.{Ends-written, Stops-fronts, Stops-open}
+use Rattle.ioam_traffic.proofs.StopsLaws.{Ends-written, Stops-fronts, Stops-open, Stops-writes}
+use Rattle.ioam_desk.proofs.KeptLaws.{WritesFrom-same, WritesFrom-then}
 use Rattle.ioam_traffic.proofs.traffic.run_open.Goals as goal
 
 pub returns-in_default-clause-ends : goal.returns-in_default-clause-ends
 returns-in_default-clause-ends g c =
     Fronts-begin g.D.Desk.tells c.args.domain.now c.args.ports.now g.files (g.D.Desk.reading c.args.desk.now) c.args.merge c.requires.1.0
-    (g.D.Desk.writing c.args.desk.now) c.requires.1.1.0.0 c.args.outputs.now c.requires.1.1.0.1 c.requires.1.1.1.1.1.0
+    (g.D.Desk.writing c.args.desk.now) c.args.outputs.now c.requires.1.1.0 c.requires.1.1.1.1.1.0
 
 pub carry_on-halt-requires : goal.carry_on-halt-requires
 carry_on-halt-requires g c κs within = (
   search rules,
   (
     Running-begin g.D.Desk.tells c.args.domain.now c.args.ports.now g.files (g.D.Desk.reading c.args.desk.now) c.args.merge c.requires.1.0
-        (g.D.Desk.writing c.args.desk.now) c.requires.1.1.0.0 c.args.outputs.now c.requires.1.1.0.1 c.requires.1.1.1.1.1.0
+        (g.D.Desk.writing c.args.desk.now) c.args.outputs.now c.requires.1.1.0 c.requires.1.1.1.1.1.0
         c.in-Ok.gathered c.begin.new.outputs c.in-Ok.ensures.adds c.in-Ok.ensures.gathers,
     (
       c.requires.1.1.1.0,
@@ -83,3 +84,30 @@ returns-in-Err-Failed-clause-kept g c = λ k lt. ap (λ (r : Reading). slot_of r
 
 pub returns-clause-kept : goal.returns-clause-kept
 returns-clause-kept g c = λ k lt. ap (λ (r : Reading). slot_of r k) c.put_rest.ensures.inputs ∙ c.carry_on-halt.ensures.kept k lt
+
+pub returns-in_default-clause-kept_out : goal.returns-in_default-clause-kept_out
+returns-in_default-clause-kept_out g c = WritesFrom-same g.files.first (g.D.Desk.writing c.args.desk.now) _ refl
+
+pub returns-in-Ok-put_rest-clause-kept_out : goal.returns-in-Ok-put_rest-clause-kept_out
+returns-in-Ok-put_rest-clause-kept_out g c = WritesFrom-then g.files.first (g.D.Desk.writing c.args.desk.now) (g.D.Desk.writing c.carry_on-halt.new.desk) (g.D.Desk.writing c.put_rest.new.desk)
+    c.carry_on-halt.ensures.kept_out
+    (Stops-writes g.D.Desk.tells (course_with c.args.domain.now c.args.ports.now g.files)
+    (g.D.Desk.reading c.args.desk.now) (g.D.Desk.reading c.carry_on-halt.new.desk) (g.D.Desk.writing c.args.desk.now) (g.D.Desk.writing c.carry_on-halt.new.desk)
+    c.carry_on-halt.new.progress.gathered c.carry_on-halt.new.outputs (g.D.Desk.writing c.put_rest.new.desk) c.put_rest.ensures.kept
+    c.carry_on-halt.result (λ broken. false≢true (sym c.if-is_broken.false ∙ c.is_broken.ensures.1 broken)) c.carry_on-halt.ensures.stops)
+
+pub returns-in-Err-Failed-clause-kept_out : goal.returns-in-Err-Failed-clause-kept_out
+returns-in-Err-Failed-clause-kept_out g c = WritesFrom-then g.files.first (g.D.Desk.writing c.args.desk.now) (g.D.Desk.writing c.carry_on-halt.new.desk) (g.D.Desk.writing c.put_rest.new.desk)
+    c.carry_on-halt.ensures.kept_out
+    (Stops-writes g.D.Desk.tells (course_with c.args.domain.now c.args.ports.now g.files)
+    (g.D.Desk.reading c.args.desk.now) (g.D.Desk.reading c.carry_on-halt.new.desk) (g.D.Desk.writing c.args.desk.now) (g.D.Desk.writing c.carry_on-halt.new.desk)
+    c.carry_on-halt.new.progress.gathered c.carry_on-halt.new.outputs (g.D.Desk.writing c.put_rest.new.desk) c.put_rest.ensures.kept
+    c.carry_on-halt.result (λ broken. false≢true (sym c.if-is_broken.false ∙ c.is_broken.ensures.1 broken)) c.carry_on-halt.ensures.stops)
+
+pub returns-clause-kept_out : goal.returns-clause-kept_out
+returns-clause-kept_out g c = WritesFrom-then g.files.first (g.D.Desk.writing c.args.desk.now) (g.D.Desk.writing c.carry_on-halt.new.desk) (g.D.Desk.writing c.put_rest.new.desk)
+    c.carry_on-halt.ensures.kept_out
+    (Stops-writes g.D.Desk.tells (course_with c.args.domain.now c.args.ports.now g.files)
+    (g.D.Desk.reading c.args.desk.now) (g.D.Desk.reading c.carry_on-halt.new.desk) (g.D.Desk.writing c.args.desk.now) (g.D.Desk.writing c.carry_on-halt.new.desk)
+    c.carry_on-halt.new.progress.gathered c.carry_on-halt.new.outputs (g.D.Desk.writing c.put_rest.new.desk) c.put_rest.ensures.kept
+    c.carry_on-halt.result (λ broken. false≢true (sym c.if-is_broken.false ∙ c.is_broken.ensures.1 broken)) c.carry_on-halt.ensures.stops)

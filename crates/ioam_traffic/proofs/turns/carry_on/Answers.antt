@@ -5,10 +5,11 @@ use Rattle.ioam_pcap.specs.declared.turns.Turn.TheVariants as turn
 use Rattle.ioam_traffic.specs.Traffic.{course_with, Arrive}
 use Rattle.ioam_traffic.proofs.RunsLaws.{Running-coming, Running-fronts_now, Running-halted}
 use Rattle.ioam_traffic.proofs.StopsLaws.{Stops-since}
+use Rattle.ioam_desk.proofs.KeptLaws.{WritesFrom-same, WritesFrom-then}
 use Rattle.ioam_traffic.proofs.turns.carry_on.Goals as goal
 
 pub turns-init : goal.turns-init
-turns-init g c = record { running = c.requires.1.0; width = c.requires.1.1.1.1.0; waiting = c.requires.1.1.1.1.1; inputs = refl; kept = λ k lt. refl; side = refl }
+turns-init g c = record { running = c.requires.1.0; width = c.requires.1.1.1.1.0; waiting = c.requires.1.1.1.1.1; inputs = refl; kept = λ k lt. refl; kept_out = WritesFrom-same g.files.first (g.D.Desk.writing c.args.desk.now) _ refl; side = refl }
 
 pub turn-requires : goal.turn-requires
 turn-requires g c =
@@ -89,6 +90,10 @@ turns-preserved g c = record {
   inputs = ap (λ (r : Reading). r.side) c.in-Ok.ensures.inputs ∙ c.in-Ok-Next.ensures.same ∙ c.turns.invariant.inputs;
   kept = λ k lt. ap (λ (r : Reading). slot_of r k) c.in-Ok.ensures.inputs
       ∙ c.in-Ok-Next.ensures.below g.files.lanes c.turns.invariant.running.taken c.turns.invariant.running.are k lt ∙ c.turns.invariant.kept k lt;
+  kept_out = WritesFrom-then g.files.first (g.D.Desk.writing c.args.desk.now) (g.D.Desk.writing c.turn.new.desk) (g.D.Desk.writing c.pass_on.new.desk)
+      (WritesFrom-then g.files.first (g.D.Desk.writing c.args.desk.now) (g.D.Desk.writing c.turns.desk) (g.D.Desk.writing c.turn.new.desk) c.turns.invariant.kept_out
+      (WritesFrom-same g.files.first _ _ c.turn.ensures.outputs))
+      c.pass_on.ensures.kept;
   side = c.in-Ok.ensures.same ∙ ap (λ (w : Writing). w.side) c.in-Ok-Next.ensures.outputs ∙ c.turns.invariant.side;
 }
 
@@ -121,3 +126,25 @@ returns-in-Err-NoMemory-clause-kept g c = λ k lt.
 pub returns-in-Err-clause-kept : goal.returns-in-Err-clause-kept
 returns-in-Err-clause-kept g c = λ k lt. ap (λ (r : Reading). slot_of r k) c.in-Err.ensures.inputs
     ∙ c.in-Ok-Next.ensures.below g.files.lanes c.turns.invariant.running.taken c.turns.invariant.running.are k lt ∙ c.turns.invariant.kept k lt
+
+pub returns-in-Ok-Over-clause-kept_out : goal.returns-in-Ok-Over-clause-kept_out
+returns-in-Ok-Over-clause-kept_out g c = WritesFrom-then g.files.first (g.D.Desk.writing c.args.desk.now) (g.D.Desk.writing c.turns.desk) (g.D.Desk.writing c.turn.new.desk) c.turns.invariant.kept_out
+    (WritesFrom-same g.files.first _ _ c.turn.ensures.outputs)
+
+pub returns-in-Ok-Broken-clause-kept_out : goal.returns-in-Ok-Broken-clause-kept_out
+returns-in-Ok-Broken-clause-kept_out g c = WritesFrom-then g.files.first (g.D.Desk.writing c.args.desk.now) (g.D.Desk.writing c.turns.desk) (g.D.Desk.writing c.turn.new.desk) c.turns.invariant.kept_out
+    (WritesFrom-same g.files.first _ _ c.turn.ensures.outputs)
+
+pub returns-in-Err-Failed-clause-kept_out : goal.returns-in-Err-Failed-clause-kept_out
+returns-in-Err-Failed-clause-kept_out g c = WritesFrom-then g.files.first (g.D.Desk.writing c.args.desk.now) (g.D.Desk.writing c.turns.desk) (g.D.Desk.writing c.turn.new.desk) c.turns.invariant.kept_out
+    (WritesFrom-same g.files.first _ _ c.turn.ensures.outputs)
+
+pub returns-in-Err-NoMemory-clause-kept_out : goal.returns-in-Err-NoMemory-clause-kept_out
+returns-in-Err-NoMemory-clause-kept_out g c = WritesFrom-then g.files.first (g.D.Desk.writing c.args.desk.now) (g.D.Desk.writing c.turns.desk) (g.D.Desk.writing c.turn.new.desk) c.turns.invariant.kept_out
+    (WritesFrom-same g.files.first _ _ c.turn.ensures.outputs)
+
+pub returns-in-Err-clause-kept_out : goal.returns-in-Err-clause-kept_out
+returns-in-Err-clause-kept_out g c = WritesFrom-then g.files.first (g.D.Desk.writing c.args.desk.now) (g.D.Desk.writing c.turn.new.desk) (g.D.Desk.writing c.pass_on.new.desk)
+    (WritesFrom-then g.files.first (g.D.Desk.writing c.args.desk.now) (g.D.Desk.writing c.turns.desk) (g.D.Desk.writing c.turn.new.desk) c.turns.invariant.kept_out
+    (WritesFrom-same g.files.first _ _ c.turn.ensures.outputs))
+    c.pass_on.ensures.kept

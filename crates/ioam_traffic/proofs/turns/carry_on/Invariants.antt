@@ -1,4 +1,5 @@
 use Rattle.std.proofs.Common.{◌≡◌, ◌+◌, ◌-◌, length}
+use Rattle.ioam_desk.specs.Kept.{WritesFrom}
 use Rattle.ioam_forward.specs.Forwarding.{taken}
 use Rattle.ioam_merge.specs.Merging.{EndsKept}
 use Rattle.ioam_outputs.specs.Told.{GathersFew}
@@ -15,6 +16,7 @@ invariant-turns g l = record {
   waiting : GathersFew l.outputs;
   inputs : (g.D.Desk.reading l.desk).side ≡ (g.D.Desk.reading l.initial.desk).side;
   kept : EndsKept g.files.lanes.base (g.D.Desk.reading l.initial.desk) (g.D.Desk.reading l.desk);
+  kept_out : WritesFrom g.files.first (g.D.Desk.writing l.initial.desk) (g.D.Desk.writing l.desk);
   side : (g.D.Desk.writing l.desk).side ≡ (g.D.Desk.writing l.initial.desk).side;
 }
 

@@ -2,7 +2,8 @@ use Rattle.std.proofs.Common.{refl, sym, subst, arith}
 use Rattle.ioam_desk.specs.Desk.{Reading}
 use Rattle.ioam_merge.specs.Merging.{Merging}
 use Rattle.ioam_merge.proofs.TakeLaws.{Comes-below}
-use Rattle.ioam_outputs.proofs.ToldLaws.{AreTold-open}
+use Rattle.ioam_desk.proofs.KeptLaws.{WritesFrom-same}
+use Rattle.ioam_outputs.proofs.ToldLaws.{AreTold-open, told_writes}
 use Rattle.ioam_traffic.specs.Running.{Running}
 use Rattle.ioam_traffic.specs.Traffic.{course_with}
 use Rattle.ioam_traffic.proofs.RunsLaws.{Coming-running, Coming-passed, Merging-begins, Running-fronts, Runs-fronts, Runs-written}
@@ -56,7 +57,7 @@ returns-in-Err-Failed-clause-stops g c =
       λ told. Runs-fronts g.D.Desk.tells course (Merging g.D.Desk.tells g.files.lanes inputs c.take_next.new.self.merge) (g.D.Desk.writing c.args.desk.now)
           c.take_next.new.self.gathered c.take_next.new.outputs runs (g.D.Desk.writing c.flush_full.new.desk)
           (Merging-begins g.D.Desk.tells g.files.lanes inputs c.take_next.new.self.merge runs.taken runs.are told)
-          (c.in-Err-Failed.ensures.fronts told runs.base g.files.names runs.texts runs.told),
+          (c.in-Err-Failed.ensures.fronts told g.files.first g.files.names runs.texts runs.told),
     )
 
 pub returns-in-Err-NoMemory-clause-stops : goal.returns-in-Err-NoMemory-clause-stops
@@ -67,4 +68,28 @@ returns-in-Err-NoMemory-clause-stops g c = λ told.
     Runs-fronts g.D.Desk.tells course (Merging g.D.Desk.tells g.files.lanes inputs c.take_next.new.self.merge) (g.D.Desk.writing c.args.desk.now)
     c.take_next.new.self.gathered c.take_next.new.outputs runs (g.D.Desk.writing c.flush_full.new.desk)
     (Merging-begins g.D.Desk.tells g.files.lanes inputs c.take_next.new.self.merge runs.taken runs.are told)
-    (c.in-Err-NoMemory.ensures.fronts told runs.base g.files.names runs.texts runs.told)
+    (c.in-Err-NoMemory.ensures.fronts told g.files.first g.files.names runs.texts runs.told)
+
+pub returns-then-taken-from-clause-kept : goal.returns-then-taken-from-clause-kept
+returns-then-taken-from-clause-kept g c = WritesFrom-same g.files.first (g.D.Desk.writing c.args.desk.now) _ refl
+
+pub returns-in-Err-clause-kept : goal.returns-in-Err-clause-kept
+returns-in-Err-clause-kept g c = WritesFrom-same g.files.first (g.D.Desk.writing c.args.desk.now) _ refl
+
+pub returns-in-Ok-flush_full-clause-kept : goal.returns-in-Ok-flush_full-clause-kept
+returns-in-Ok-flush_full-clause-kept g c =
+    let runs = c.in-Ok.ensures.runs g.D.Desk.tells g.files (g.D.Desk.reading c.args.desk.now) (g.D.Desk.writing c.args.desk.now) (omega arith) c.requires.1.0 in
+    told_writes g.D.Desk.tells (g.D.Desk.writing c.args.desk.now) (g.D.Desk.writing c.flush_full.new.desk) g.files.first g.files.names c.take_next.new.outputs runs.texts runs.told
+    c.flush_full.ensures.others
+
+pub returns-in-Err-Failed-clause-kept : goal.returns-in-Err-Failed-clause-kept
+returns-in-Err-Failed-clause-kept g c =
+    let runs = c.in-Ok.ensures.runs g.D.Desk.tells g.files (g.D.Desk.reading c.args.desk.now) (g.D.Desk.writing c.args.desk.now) (omega arith) c.requires.1.0 in
+    told_writes g.D.Desk.tells (g.D.Desk.writing c.args.desk.now) (g.D.Desk.writing c.flush_full.new.desk) g.files.first g.files.names c.take_next.new.outputs runs.texts runs.told
+    c.flush_full.ensures.others
+
+pub returns-in-Err-NoMemory-clause-kept : goal.returns-in-Err-NoMemory-clause-kept
+returns-in-Err-NoMemory-clause-kept g c =
+    let runs = c.in-Ok.ensures.runs g.D.Desk.tells g.files (g.D.Desk.reading c.args.desk.now) (g.D.Desk.writing c.args.desk.now) (omega arith) c.requires.1.0 in
+    told_writes g.D.Desk.tells (g.D.Desk.writing c.args.desk.now) (g.D.Desk.writing c.flush_full.new.desk) g.files.first g.files.names c.take_next.new.outputs runs.texts runs.told
+    c.flush_full.ensures.others

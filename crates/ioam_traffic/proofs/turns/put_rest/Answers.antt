@@ -1,7 +1,8 @@
-use Rattle.std.proofs.Common.{subst}
+use Rattle.std.proofs.Common.{refl, subst}
+use Rattle.ioam_desk.proofs.KeptLaws.{WritesFrom-same}
 use Rattle.ioam_outputs.specs.Held.{HoldAllFronts, HoldTexts}
 use Rattle.ioam_outputs.proofs.HeldLaws.{AreTold-fronts}
-use Rattle.ioam_outputs.proofs.ToldLaws.{AreTold-adds, Adds-open}
+use Rattle.ioam_outputs.proofs.ToldLaws.{AreTold-adds, Adds-open, told_writes}
 use Rattle.ioam_base.proofs.ResultLaws.{OnOk-map}
 use Rattle.ioam_traffic.proofs.FrontsLaws.{fronts_so_far}
 use Rattle.ioam_traffic.proofs.turns.put_rest.Goals as goal
@@ -39,3 +40,11 @@ returns-in-Err-clause-fronts g c = λ told base names texts frames is forwards.
           (subst (HoldAllFronts (g.D.Desk.writing c.args.desk.now) names) forwards.texts_are
           (AreTold-fronts g.D.Desk.tells (g.D.Desk.writing c.args.desk.now) base names c.args.outputs.now texts told is));
     }
+
+pub returns-in-Ok-clause-kept : goal.returns-in-Ok-clause-kept
+returns-in-Ok-clause-kept g c = λ base names texts is.
+    told_writes g.D.Desk.tells (g.D.Desk.writing c.args.desk.now) (g.D.Desk.writing c.finish.new.desk) base names c.put_sums.new.outputs _
+    (AreTold-adds _ _ base names _ _ texts _ is c.in-Ok.ensures.adds) c.finish.ensures.others
+
+pub returns-in-Err-clause-kept : goal.returns-in-Err-clause-kept
+returns-in-Err-clause-kept g c = λ base names texts is. WritesFrom-same base (g.D.Desk.writing c.args.desk.now) _ refl
