@@ -10,6 +10,7 @@ ghost use Rattle.ioam_answer.specs.declared.outcome.Outcome.{Outcome};
 
 use crate::listing::Listing;
 use crate::over_capture::run_over_capture;
+use crate::packet_text::TraceList;
 use ioam_answer::Outcome;
 use ioam_desk::{Desk, Name};
 use std::alloc::Global;
@@ -40,5 +41,5 @@ pub fn run_paths<D: Desk>(alloc: Global, words: &[Name], desk: &mut D) -> Outcom
     ensures no_output { (D.reading desk.new).side.slots ≡ (D.reading desk.old).side.slots → D.writing desk.new ≡ D.writing desk.old }
     ensures drained { IsDone result → IsTrue D.tells → IsTrue ((D.reading desk.new).ended (D.reading desk.old).side.slots) }
 {
-    run_over_capture::<Listing, D>(alloc, words, desk)
+    run_over_capture::<Listing<TraceList>, D>(alloc, words, desk)
 }
