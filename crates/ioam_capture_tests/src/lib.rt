@@ -1,4 +1,4 @@
-//! The tests of the commands over one capture: whole runs of `filter` and of `paths` (`ioam_run`)
+//! The tests of the commands over one capture: whole runs of `filter`, `paths` and `show` (`ioam_run`)
 //! over desks in memory. What they read and have to write stands in `ioam_test_rows`.
 #![tactic(auto)]
 
@@ -10,3 +10,5 @@ mod filter;
 mod filter_faults;
 #[cfg(test)]
 mod paths;
+#[cfg(test)]
+mod show;

@@ -8,6 +8,8 @@ pub enum Command {
     Filter,
     /// `paths IN REPORT`
     Paths,
+    /// `show IN REPORT`
+    Show,
     /// `run DOMAIN READINGS WORKERS REPORT EXPORTS`, with one worker.
     Run,
 }
@@ -22,6 +24,7 @@ pub fn parse(words: &[Name]) -> Option<Command>
     match words {
         [command, _, _, _] if command.text() == "filter" => Some(Command::Filter),
         [command, _, _] if command.text() == "paths" => Some(Command::Paths),
+        [command, _, _] if command.text() == "show" => Some(Command::Show),
         [command, _, _, workers, _, _] if command.text() == "run" && workers.text() == "1" => {
             Some(Command::Run)
         }

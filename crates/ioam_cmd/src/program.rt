@@ -13,7 +13,7 @@ use crate::command::{Command, parse};
 use ioam_answer::Outcome;
 use ioam_desk::{Desk, Name, SureDesk};
 use ioam_domain::run_domain;
-use ioam_run::{run_filter, run_paths};
+use ioam_run::{run_filter, run_paths, run_show};
 use std::alloc::Global;
 
 /// Runs the command that the words ask for over a desk, and answers.
@@ -51,6 +51,7 @@ pub fn ioam<D: Desk>(alloc: Global, words: &[Name], desk: &mut D) -> Outcome
     match parse(words) {
         Some(Command::Filter) => run_filter(alloc, words, desk),
         Some(Command::Paths) => run_paths(alloc, words, desk),
+        Some(Command::Show) => run_show(alloc, words, desk),
         Some(Command::Run) => run_domain(alloc, words, desk),
         None => Outcome::Usage,
     }

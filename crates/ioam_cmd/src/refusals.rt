@@ -5,13 +5,21 @@ pub struct Refusal {
     pub line: &'static str,
 }
 
-const REFUSALS: [Refusal; 10] = [
+const REFUSALS: [Refusal; 12] = [
     Refusal {
         words: &["paths", "a", "a"],
         line: "names a",
     },
     Refusal {
         words: &["paths", "a"],
+        line: "usage",
+    },
+    Refusal {
+        words: &["show", "a", "a"],
+        line: "names a",
+    },
+    Refusal {
+        words: &["show", "a", "b", "c"],
         line: "usage",
     },
     Refusal {

@@ -5,9 +5,10 @@ use crate::refusals::refusals;
 use ioam_answer::{Outcome, line};
 use ioam_base::memory::NoMemory;
 use ioam_desk::{MemoryDesk, SureDesk};
-use ioam_test_rows::capture_rows::{listings, runs};
+use ioam_test_rows::capture_rows::{Listing, listings, runs};
 use ioam_test_rows::digits::{octets, text, words};
 use ioam_test_rows::run_rows::{DOMAIN, RUN, rows};
+use ioam_test_rows::show_rows::shown;
 use std::alloc::Global;
 
 // The line of a run of these words over a desk.
@@ -22,17 +23,22 @@ fn is_done(alloc: Global, texts: &[&str], desk: &mut SureDesk) -> Result<bool, N
     Ok(matches!(ioam_surely(alloc, &words, desk), Outcome::Done))
 }
 
+// Whether a command that lists something of each packet writes what this row says.
+fn lists(alloc: Global, command: &str, row: &Listing) -> Result<bool, NoMemory> {
+    let input = octets(alloc, row.input)?;
+    let mut desk = MemoryDesk::new(alloc)?;
+    desk.put_file("in.pcap", &input)?;
+    let line = line_of(alloc, &[command, "in.pcap", "report.txt"], &mut desk)?;
+    Ok(line.as_str() == "done" && desk.file("report.txt") == Some(row.report.as_bytes()))
+}
+
 #[test]
-fn paths_over_a_desk_in_memory(rt: HostRuntime) {
+fn paths_and_show_over_a_desk_in_memory(rt: HostRuntime) {
     let alloc = rt.alloc();
-    let listing = listings().first().expect(&rt, "a row");
-    let input = octets(alloc, listing.input).expect(&rt, "octets");
-    let mut desk = MemoryDesk::new(alloc).expect(&rt, "memory");
-    desk.put_file("in.pcap", &input).expect(&rt, "memory");
-    let paths = ["paths", "in.pcap", "report.txt"];
-    let line = line_of(alloc, &paths, &mut desk).expect(&rt, "memory");
-    assert_eq!(rt; line.as_str(), "done");
-    assert!(rt; desk.file("report.txt") == Some(listing.report.as_bytes()));
+    let traces = listings().first().expect(&rt, "a row");
+    let options = shown().first().expect(&rt, "a row");
+    assert!(rt; lists(alloc, "paths", traces).expect(&rt, "memory"));
+    assert!(rt; lists(alloc, "show", options).expect(&rt, "memory"));
 }
 
 #[test]

@@ -11,7 +11,7 @@ shorter : (b : Bool) (x : Item) (xs ys : List Item) → length ys ≤ length xs 
 shorter true x xs ys less = omega arith
 shorter false x xs ys less = omega arith
 
-few_filtered : (test : Item → Bool) (xs : List Item) → length (filter test xs) ≤ length xs
+pub few_filtered : (test : Item → Bool) (xs : List Item) → length (filter test xs) ≤ length xs
 few_filtered test [] = omega arith
 few_filtered test (x ∷ xs) = omega (arith, shorter (test x) x xs (filter test xs) (few_filtered test xs))
 
@@ -21,7 +21,7 @@ few_either true true x xs steps few = omega arith
 few_either true false x xs steps few = omega arith
 few_either false option x xs steps few = omega arith
 
-few_options : (steps : ℕ) (head : List ℕ) (at : ℕ) → length (options_from steps head at) ≤ steps
+pub few_options : (steps : ℕ) (head : List ℕ) (at : ℕ) → length (options_from steps head at) ≤ steps
 few_options zero head at = omega arith
 few_options (suc steps) head at =
     few_either (leb (option_end head at) (length head)) (is_option (item_at head at)) (item_at head at) (options_from steps head (option_end head at)) steps

@@ -34,14 +34,14 @@ the_heads p hs sound are =
 -- ---- the function gives the traces of the relation
 
 -- the options of one header
-abbrev options_in : List ℕ → Head → List Item
+abbrev pub options_in : List ℕ → Head → List Item
 options_in p head = cond (is_options_head head) (options_from (length (octets_of p head)) (octets_of p head) 2) []
 
 filter-either : (b : Bool) (xs : List Item) → filter is_trace (cond b xs []) ≡ cond b (filter is_trace xs) []
 filter-either true xs = refl
 filter-either false xs = refl
 
-options_either : (b : Bool) (octets : List ℕ) → (IsTrue b → IsFilled octets)
+pub options_either : (b : Bool) (octets : List ℕ) → (IsTrue b → IsFilled octets)
     → MatchBool b (AreOptions octets (cond b (options_from (length octets) octets 2) [])) (cond b (options_from (length octets) octets 2) [] ≡ [])
 options_either true octets filled =
     let here = filled refl in
@@ -146,12 +146,12 @@ heads_either : (b : Bool) (head : Head) (hs : List Head) (steps : ℕ) → lengt
 heads_either true head hs steps few = omega arith
 heads_either false head hs steps few = omega arith
 
-few_heads : (steps : ℕ) (p : List ℕ) (spot : Spot) → length (heads_from steps p spot) ≤ steps
+pub few_heads : (steps : ℕ) (p : List ℕ) (spot : Spot) → length (heads_from steps p spot) ≤ steps
 few_heads zero p spot = omega arith
 few_heads (suc steps) p spot =
     heads_either (goes_on p spot) (head_at p spot) (heads_from steps p (behind p spot)) steps (few_heads steps p (behind p spot))
 
-few_octets : (p : List ℕ) (head : Head) → length (octets_of p head) ≤ length p
+pub few_octets : (p : List ℕ) (head : Head) → length (octets_of p head) ≤ length p
 few_octets p head =
     omega (arith, length-take (head.range.end - head.range.start) (drop head.range.start p), length-drop head.range.start p)
 
@@ -172,7 +172,7 @@ few_along p (head ∷ hs) =
     let rest = more_either (is_nested head) (traces_in p head) (traces_from p hs) (length p) (length hs * length p) (few_in p head) (few_along p hs) in
     omega arith
 
-squared : (n m : ℕ) → m ≤ n → n ≤ 65575 → m * n < 18446744073709551616
+pub squared : (n m : ℕ) → m ≤ n → n ≤ 65575 → m * n < 18446744073709551616
 squared n m less few = omega (arith, mul-le-mul_left n few, mul-le-mul_left n less)
 
 -- there are few enough to be counted

@@ -2,7 +2,7 @@
 ghost use Rattle.std.specs.Prelude.{◌≡◌, ◌++◌, ◌<◌, is_ok, if◌then◌else◌};
 ghost use Rattle.ioam_report.specs.Digits.{digit_of, digits_of};
 
-use crate::settle::settle;
+use crate::settling::settle;
 use ioam_base::memory::NoMemory;
 use ioam_base::text::append;
 

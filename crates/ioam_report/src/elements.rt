@@ -9,7 +9,7 @@ ghost use Rattle.ioam_report.specs.Spaced.{bits_text, fillers_text, snapshot_tex
 
 use crate::piece::{Piece, append_labelled};
 use crate::put::put_pieces;
-use crate::settle::settle;
+use crate::settling::settle;
 use crate::values::{faces, hop_node, number, snapshot, wide, wide_faces, wide_hop_node, word};
 use ioam_base::memory::NoMemory;
 use ioam_data::{Fields, TraceType, fields};

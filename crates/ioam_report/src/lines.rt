@@ -8,7 +8,7 @@ ghost use Rattle.ioam_report.specs.TraceText.{element_line, first_line, whole_li
 use crate::elements::put_fields;
 use crate::piece::Piece;
 use crate::put::put_pieces;
-use crate::settle::settle;
+use crate::settling::settle;
 use ioam_base::memory::NoMemory;
 use ioam_base::text::append;
 use ioam_data::TraceType;
@@ -73,8 +73,9 @@ fn put_first_line(head: &TraceHead, count: u64, out: &mut Vec<u8>) -> Result<(),
     )
 }
 
-// Appends the line of an element.
-fn put_element_line(
+/// Appends the line of an element of a trace: four spaces and its fields. Without memory nothing is
+/// appended.
+pub fn put_element_line(
     kind: TraceType,
     node_len: u8,
     element: &[u8],
@@ -100,8 +101,9 @@ fn count_elements(trace: &Trace<'_>) -> u64
     trace.elements().count() as u64
 }
 
-// Appends the lines of the elements.
-fn put_element_lines(trace: &Trace<'_>, out: &mut Vec<u8>) -> Result<(), NoMemory>
+/// Appends the lines of the elements of a trace, in visit order, the oldest first. Without memory nothing
+/// is appended.
+pub fn put_element_lines(trace: &Trace<'_>, out: &mut Vec<u8>) -> Result<(), NoMemory>
     ensures { out.new.items ≡ (if is_ok result
         then out.old.items ++ flat_map (element_line trace.now.head.kind trace.now.head.node_len) (elements_in trace.now)
         else out.old.items) }

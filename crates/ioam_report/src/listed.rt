@@ -7,7 +7,7 @@ ghost use Rattle.ioam_ip.specs.OptionsLeft.{item_of, options_from};
 ghost use Rattle.ioam_report.specs.TracesText.{is_trace, option_lines, traces_in};
 
 use crate::lines::put_trace_lines;
-use crate::settle::settle;
+use crate::settling::settle;
 use ioam_base::memory::NoMemory;
 use ioam_ip::{Head, Opt, options};
 

@@ -3,13 +3,13 @@ ghost use Rattle.std.specs.Prelude.{◌≡◌, ◌++◌, ◌+◌, decimal, is_ok
 ghost use Rattle.ioam_report.specs.Digits.{digits_of};
 
 use crate::digits::append_digits;
-use crate::settle::settle;
+use crate::settling::settle;
 use ioam_base::memory::NoMemory;
 use ioam_base::text::{append, append_decimal};
 
 /// A piece of a line. What a number or digits stand behind is their label.
 #[derive(Clone, Copy)]
-pub(crate) enum Piece<'a> {
+pub enum Piece<'a> {
     /// No octet.
     Nothing,
     /// These octets.

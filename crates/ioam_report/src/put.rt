@@ -5,7 +5,7 @@ ghost use Rattle.ioam_base.specs.Words.{four_octets, eight_octets};
 ghost use Rattle.ioam_report.specs.Piece.{piece_text};
 
 use crate::piece::{Piece, append_both, append_labelled, append_number};
-use crate::settle::settle;
+use crate::settling::settle;
 use ioam_base::memory::NoMemory;
 use ioam_base::octets::{put_u32_at, put_u64_at};
 use ioam_base::text::append;
@@ -45,7 +45,7 @@ fn put_piece(piece: Piece<'_>, out: &mut Vec<u8>) -> Result<(), NoMemory>
 }
 
 /// Appends pieces one behind the other, or leaves what was there.
-pub(crate) fn put_pieces(pieces: &[Piece<'_>], out: &mut Vec<u8>) -> Result<(), NoMemory>
+pub fn put_pieces(pieces: &[Piece<'_>], out: &mut Vec<u8>) -> Result<(), NoMemory>
     ensures { out.new.items ≡ (if is_ok result then out.old.items ++ flat_map piece_text pieces.now else out.old.items) }
 {
     let before = out.len();

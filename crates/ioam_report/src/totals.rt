@@ -7,7 +7,7 @@ ghost use Rattle.ioam_report.specs.SumsText.{packets_line, node_line, node_lines
 
 use crate::piece::Piece;
 use crate::put::put_pieces;
-use crate::settle::settle;
+use crate::settling::settle;
 use crate::sums::{NodeSum, Sums};
 use ioam_base::memory::NoMemory;
 use ioam_topo::{Domain, Node};

@@ -8,7 +8,7 @@ ghost use Rattle.ioam_report.specs.TracesText.{option_lines, traces_of, traces_t
 use crate::listed::{count_in, put_in};
 use crate::piece::Piece;
 use crate::put::put_pieces;
-use crate::settle::settle;
+use crate::settling::settle;
 use ioam_base::memory::NoMemory;
 use ioam_ip::heads;
 

@@ -18,8 +18,8 @@ fn known<'a>(label: &'a [u8], number: u64, ones: u64) -> Piece<'a>
     }
 }
 
-/// A field of 32 bits in decimal digits.
-pub(crate) fn number<'a>(label: &'a [u8], field: Option<u32>) -> Piece<'a>
+/// A field of 32 bits in decimal digits, `-` where it is all ones, and nothing where it isn't there.
+pub fn number<'a>(label: &'a [u8], field: Option<u32>) -> Piece<'a>
     ensures { piece_text result ≡ when_there field (λ value. label.now ++ known 4294967295 value) }
 {
     match field {

@@ -1,10 +1,9 @@
--- The text of `paths`, with one record more.
+-- The text of a list, with one record more.
 use Rattle.std.proofs.Common.{◌≡◌, ℕ, ◌+◌, Bool, List, [], ◌∷◌, ◌++◌, length, Result, Ok, Err, OnOk, refl, sym, ◌∙◌, ap, subst, inl, inr, append_assoc, append-nil, length-append, arith}
 use Rattle.std.specs.Prelude.{decimal, is_ok, if◌then◌else◌}
 use Rattle.ioam_ip.specs.Chain.{IsSound}
 use Rattle.ioam_pcap.specs.Entries.{Entry}
-use Rattle.ioam_report.specs.TracesText.{TracesText}
-use Rattle.ioam_run.specs.PathsText.{PacketLines, EntryLines, Lines, skip_line}
+use Rattle.ioam_run.specs.ListText.{PacketLines, EntryLines, Lines, skip_line}
 use Rattle.ioam_outputs.specs.Told.{said_more}
 use Rattle.ioam_run.specs.Listing.{Lists}
 use Rattle.ioam_run.specs.declared.listing.Listing.{Listing}
@@ -16,43 +15,44 @@ pub appended : {T E : Type 0} (r : Result T E) (old new more : List ℕ) → new
 appended (Ok x) old new more is = is
 appended (Err e) old new more is = tt
 
-pub packet_listed : (number : ℕ) (packet old new traces : List ℕ) → IsSound packet → TracesText packet traces
-    → new ≡ (old ++ decimal number) ++ traces → (text : List ℕ) × PacketLines number packet text × (new ≡ old ++ text)
-packet_listed number packet old new traces sound text is =
-    (decimal number ++ traces, inr (sound, (traces, text, refl)), is ∙ append_assoc old (decimal number) traces)
+module _ (Tells : List ℕ → List ℕ → Type 0) where
+  pub packet_listed : (number : ℕ) (packet old new told : List ℕ) → IsSound packet → Tells packet told
+      → new ≡ (old ++ decimal number) ++ told → (text : List ℕ) × PacketLines Tells number packet text × (new ≡ old ++ text)
+  packet_listed number packet old new told sound text is =
+      (decimal number ++ told, inr (sound, (told, text, refl)), is ∙ append_assoc old (decimal number) told)
 
-pub packet_skipped : (number : ℕ) (packet old new : List ℕ) → (IsSound packet → ⊥) → new ≡ old ++ skip_line number reason.Chain
-    → (text : List ℕ) × PacketLines number packet text × (new ≡ old ++ text)
-packet_skipped number packet old new unsound is = (skip_line number reason.Chain, inl (unsound, refl), is)
+  pub packet_skipped : (number : ℕ) (packet old new : List ℕ) → (IsSound packet → ⊥) → new ≡ old ++ skip_line number reason.Chain
+      → (text : List ℕ) × PacketLines Tells number packet text × (new ≡ old ++ text)
+  packet_skipped number packet old new unsound is = (skip_line number reason.Chain, inl (unsound, refl), is)
 
-Lines-push : (ethernet : Bool) (number : ℕ) (es : List Entry) (lines : List ℕ) (e : Entry) (text : List ℕ) → Lines ethernet number es lines
-    → EntryLines ethernet (number + length es) e text → Lines ethernet number (es ++ e ∷ []) (lines ++ text)
-Lines-push ethernet number [] lines e text are has =
-    let P : ℕ → Type 0 = λ n. EntryLines ethernet n e text in
-    let here : number + 0 ≡ number = omega arith in
-    (text, [], subst P here has, refl, ap (λ (front : List ℕ). front ++ text) are ∙ sym (append-nil text))
-Lines-push ethernet number (f ∷ es) lines e text are has =
-    let P : ℕ → Type 0 = λ n. EntryLines ethernet n e text in
-    let here : number + length (f ∷ es) ≡ number + 1 + length es = omega arith in (
-      are.0,
-      are.1 ++ text,
-      are.2,
-      Lines-push ethernet (number + 1) es are.1 e text are.3 (subst P here has),
-      ap (λ (front : List ℕ). front ++ text) are.4 ∙ append_assoc are.0 are.1 text,
-    )
+  Lines-push : (ethernet : Bool) (number : ℕ) (es : List Entry) (lines : List ℕ) (e : Entry) (text : List ℕ) → Lines Tells ethernet number es lines
+      → EntryLines Tells ethernet (number + length es) e text → Lines Tells ethernet number (es ++ e ∷ []) (lines ++ text)
+  Lines-push ethernet number [] lines e text are has =
+      let P : ℕ → Type 0 = λ n. EntryLines Tells ethernet n e text in
+      let here : number + 0 ≡ number = omega arith in
+      (text, [], subst P here has, refl, ap (λ (front : List ℕ). front ++ text) are ∙ sym (append-nil text))
+  Lines-push ethernet number (f ∷ es) lines e text are has =
+      let P : ℕ → Type 0 = λ n. EntryLines Tells ethernet n e text in
+      let here : number + length (f ∷ es) ≡ number + 1 + length es = omega arith in (
+        are.0,
+        are.1 ++ text,
+        are.2,
+        Lines-push ethernet (number + 1) es are.1 e text are.3 (subst P here has),
+        ap (λ (front : List ℕ). front ++ text) are.4 ∙ append_assoc are.0 are.1 text,
+      )
 
--- one record more
-pub Lists-push : (ethernet : Bool) (old new : Listing) (e : Entry) (number : ℕ) (added : List ℕ) → number ≡ old.packets + 1
-    → EntryLines ethernet number e added → new.packets ≡ old.packets + 1
-    → (es : List Entry) (texts : List (List ℕ)) → Lists ethernet es texts old → Lists ethernet (es ++ e ∷ []) (said_more texts (added ∷ [])) new
-Lists-push ethernet old new e number added is lines counted es [] lists = absurd lists
-Lists-push ethernet old new e number added is lines counted es (text ∷ []) lists =
-    let P : ℕ → Type 0 = λ n. EntryLines ethernet n e added in
-    let place : number ≡ 1 + length es = omega (arith, is, lists.count) in
-    let more : Lines ethernet 1 (es ++ e ∷ []) (text ++ added) = Lines-push ethernet 1 es text e added lists.lines (subst P place lines) in
-    record {
-      lines = more;
-      only = λ others are. Lines-unique ethernet 1 (es ++ e ∷ []) others (text ++ added) are more;
-      count = omega (arith, counted, lists.count, length-append es (e ∷ []));
-    }
-Lists-push ethernet old new e number added is lines counted es (text ∷ more ∷ texts) lists = absurd lists
+  -- one record more
+  pub Lists-push : {L : Type 0} (one : (packet text other : List ℕ) → Tells packet text → Tells packet other → text ≡ other) (ethernet : Bool) (old new : Listing L) (e : Entry) (number : ℕ) (added : List ℕ) → number ≡ old.packets + 1
+      → EntryLines Tells ethernet number e added → new.packets ≡ old.packets + 1
+      → (es : List Entry) (texts : List (List ℕ)) → Lists Tells ethernet es texts old → Lists Tells ethernet (es ++ e ∷ []) (said_more texts (added ∷ [])) new
+  Lists-push one ethernet old new e number added is lines counted es [] lists = absurd lists
+  Lists-push one ethernet old new e number added is lines counted es (text ∷ []) lists =
+      let P : ℕ → Type 0 = λ n. EntryLines Tells ethernet n e added in
+      let place : number ≡ 1 + length es = omega (arith, is, lists.count) in
+      let more : Lines Tells ethernet 1 (es ++ e ∷ []) (text ++ added) = Lines-push ethernet 1 es text e added lists.lines (subst P place lines) in
+      record {
+        lines = more;
+        only = λ others are. Lines-unique Tells one ethernet 1 (es ++ e ∷ []) others (text ++ added) are more;
+        count = omega (arith, counted, lists.count, length-append es (e ∷ []));
+      }
+  Lists-push one ethernet old new e number added is lines counted es (text ∷ more ∷ texts) lists = absurd lists

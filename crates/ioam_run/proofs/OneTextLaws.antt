@@ -1,45 +1,45 @@
--- The records of a capture have one report in `paths`.
+-- The records of a capture have one report, where each packet has one text.
 use Rattle.std.proofs.Common.{◌≡◌, ℕ, ◌+◌, Bool, List, [], ◌∷◌, ◌++◌, length, sym, ◌∙◌, ap, inl, inr}
 use Rattle.std.specs.Prelude.{decimal}
 use Rattle.ioam_ip.specs.Framing.{Framing, Holds, NoIpv6, CutShort, TooShort}
 use Rattle.ioam_pcap.specs.Entries.{Entry}
-use Rattle.ioam_report.proofs.TracesLaws.{TracesText-unique}
-use Rattle.ioam_run.specs.PathsText.{PacketLines, FramingLines, Lines, Listed, PathsTexts, packets_line}
+use Rattle.ioam_run.specs.ListText.{PacketLines, FramingLines, Lines, Listed, ListTexts, packets_line}
 use Rattle.ioam_run.specs.Verdict.{entry_framing}
 
--- of a packet
-one_of_packet : (number : ℕ) (packet a b : List ℕ) → PacketLines number packet a → PacketLines number packet b → a ≡ b
-one_of_packet number packet a b (inl x) (inl y) = x.1 ∙ sym y.1
-one_of_packet number packet a b (inl x) (inr y) = absurd (x.0 y.0)
-one_of_packet number packet a b (inr x) (inl y) = absurd (y.0 x.0)
-one_of_packet number packet a b (inr x) (inr y) =
-    x.1.2 ∙ ap (λ traces. decimal number ++ traces) (TracesText-unique packet x.1.0 y.1.0 x.1.1 y.1.1) ∙ sym y.1.2
+module _ (Tells : List ℕ → List ℕ → Type 0) (one : (packet text other : List ℕ) → Tells packet text → Tells packet other → text ≡ other) where
+  -- of a packet
+  one_of_packet : (number : ℕ) (packet a b : List ℕ) → PacketLines Tells number packet a → PacketLines Tells number packet b → a ≡ b
+  one_of_packet number packet a b (inl x) (inl y) = x.1 ∙ sym y.1
+  one_of_packet number packet a b (inl x) (inr y) = absurd (x.0 y.0)
+  one_of_packet number packet a b (inr x) (inl y) = absurd (y.0 x.0)
+  one_of_packet number packet a b (inr x) (inr y) =
+      x.1.2 ∙ ap (λ traces. decimal number ++ traces) (one packet x.1.0 y.1.0 x.1.1 y.1.1) ∙ sym y.1.2
 
--- of a frame
-one_of_frame : (number : ℕ) (framing : Framing) (a b : List ℕ) → FramingLines number framing a → FramingLines number framing b → a ≡ b
-one_of_frame number (Holds packet) a b x y = one_of_packet number packet a b x y
-one_of_frame number NoIpv6 a b x y = x ∙ sym y
-one_of_frame number CutShort a b x y = x ∙ sym y
-one_of_frame number TooShort a b x y = x ∙ sym y
+  -- of a frame
+  one_of_frame : (number : ℕ) (framing : Framing) (a b : List ℕ) → FramingLines Tells number framing a → FramingLines Tells number framing b → a ≡ b
+  one_of_frame number (Holds packet) a b x y = one_of_packet number packet a b x y
+  one_of_frame number NoIpv6 a b x y = x ∙ sym y
+  one_of_frame number CutShort a b x y = x ∙ sym y
+  one_of_frame number TooShort a b x y = x ∙ sym y
 
--- records have one list of lines
-pub Lines-unique : (ethernet : Bool) (number : ℕ) (entries : List Entry) (a b : List ℕ) → Lines ethernet number entries a
-    → Lines ethernet number entries b → a ≡ b
-Lines-unique ethernet number [] a b x y = x ∙ sym y
-Lines-unique ethernet number (e ∷ es) a b x y =
-    let here : x.0 ≡ y.0 = one_of_frame number (entry_framing ethernet e) x.0 y.0 x.2 y.2 in
-    let behind : x.1 ≡ y.1 = Lines-unique ethernet (number + 1) es x.1 y.1 x.3 y.3 in
-    x.4 ∙ ap (λ front. front ++ x.1) here ∙ ap (λ more. y.0 ++ more) behind ∙ sym y.4
+  -- records have one list of lines
+  pub Lines-unique : (ethernet : Bool) (number : ℕ) (entries : List Entry) (a b : List ℕ) → Lines Tells ethernet number entries a
+      → Lines Tells ethernet number entries b → a ≡ b
+  Lines-unique ethernet number [] a b x y = x ∙ sym y
+  Lines-unique ethernet number (e ∷ es) a b x y =
+      let here : x.0 ≡ y.0 = one_of_frame number (entry_framing ethernet e) x.0 y.0 x.2 y.2 in
+      let behind : x.1 ≡ y.1 = Lines-unique ethernet (number + 1) es x.1 y.1 x.3 y.3 in
+      x.4 ∙ ap (λ front. front ++ x.1) here ∙ ap (λ more. y.0 ++ more) behind ∙ sym y.4
 
-Listed-unique : (ethernet : Bool) (entries : List Entry) (a b : List ℕ) → Listed ethernet entries a → Listed ethernet entries b → a ≡ b
-Listed-unique ethernet entries a b x y =
-    x.text_is ∙ ap (λ lines. lines ++ packets_line (length entries)) (Lines-unique ethernet 1 entries x.lines y.lines x.are_lines y.are_lines) ∙ sym y.text_is
+  Listed-unique : (ethernet : Bool) (entries : List Entry) (a b : List ℕ) → Listed Tells ethernet entries a → Listed Tells ethernet entries b → a ≡ b
+  Listed-unique ethernet entries a b x y =
+      x.text_is ∙ ap (λ lines. lines ++ packets_line (length entries)) (Lines-unique ethernet 1 entries x.lines y.lines x.are_lines y.are_lines) ∙ sym y.text_is
 
--- and one report
-pub PathsTexts-unique : (ethernet : Bool) (entries : List Entry) (xs ys : List (List ℕ)) → PathsTexts ethernet entries xs
-    → PathsTexts ethernet entries ys → xs ≡ ys
-PathsTexts-unique ethernet entries [] ys x y = absurd x
-PathsTexts-unique ethernet entries (a ∷ more ∷ xs) ys x y = absurd x
-PathsTexts-unique ethernet entries (a ∷ []) [] x y = absurd y
-PathsTexts-unique ethernet entries (a ∷ []) (b ∷ more ∷ ys) x y = absurd y
-PathsTexts-unique ethernet entries (a ∷ []) (b ∷ []) x y = ap (λ text. text ∷ []) (Listed-unique ethernet entries a b x y)
+  -- and one report
+  pub ListTexts-unique : (ethernet : Bool) (entries : List Entry) (xs ys : List (List ℕ)) → ListTexts Tells ethernet entries xs
+      → ListTexts Tells ethernet entries ys → xs ≡ ys
+  ListTexts-unique ethernet entries [] ys x y = absurd x
+  ListTexts-unique ethernet entries (a ∷ more ∷ xs) ys x y = absurd x
+  ListTexts-unique ethernet entries (a ∷ []) [] x y = absurd y
+  ListTexts-unique ethernet entries (a ∷ []) (b ∷ more ∷ ys) x y = absurd y
+  ListTexts-unique ethernet entries (a ∷ []) (b ∷ []) x y = ap (λ text. text ∷ []) (Listed-unique ethernet entries a b x y)

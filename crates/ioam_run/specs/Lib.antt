@@ -4,5 +4,7 @@ pub mod FilterText
 pub mod Filtering
 pub mod Run
 pub mod Streams
+pub mod ListText
 pub mod PathsText
+pub mod ShowText
 pub mod Listing

@@ -1,4 +1,4 @@
-//! The commands over one capture, `filter` and `paths`.
+//! The commands over one capture, `filter`, `paths` and `show`.
 //!
 //! A record's way: `run_over_capture` looks at the names and opens the files, `read_on` reads pieces,
 //! `step` takes a record, and the command's `Gather` adds what it says of it to each output.
@@ -12,9 +12,12 @@ mod gather;
 mod judge;
 mod listing;
 mod over_capture;
+mod packet_text;
 mod paths;
+mod show;
 mod step;
 mod stream;
 
 pub use filter::run_filter;
 pub use paths::run_paths;
+pub use show::run_show;

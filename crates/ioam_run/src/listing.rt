@@ -1,32 +1,36 @@
-//! The text of `paths`, gathered record by record.
+//! The text of a command that lists something of each packet, gathered record by record.
 ghost use Rattle.std.specs.Prelude.{◌≡◌, ◌++◌, List, OnOk};
 ghost use Rattle.ioam_ip.specs.Packet.{IsPacket};
 ghost use Rattle.ioam_pcap.specs.Reader.{entry_of};
-ghost use Rattle.ioam_run.specs.PathsText.{EntryLines, PacketLines, skip_line, packets_line};
+ghost use Rattle.ioam_run.specs.ListText.{EntryLines, PacketLines, skip_line, packets_line};
 
 use crate::frame::framed;
 use crate::gather::Gather;
+use crate::packet_text::PacketText;
 use ioam_base::memory::NoMemory;
 use ioam_base::text::{append, append_decimal};
 use ioam_ip::{Framed, Walk, walk};
 use ioam_node::Reason;
 use ioam_outputs::Output;
 use ioam_pcap::Packet;
-use ioam_report::{put_traces, reason_text};
+use ioam_report::reason_text;
+use std::marker::PhantomData;
 
 /// How many packets were listed so far. Its output is the report.
 #[derive(Drop)]
-pub struct Listing {
+pub struct Listing<L> {
     pub packets: u64,
+    /// What is written of each packet.
+    pub text: PhantomData<L>,
 }
 
-impl Gather for Listing {
+impl<L: PacketText> Gather for Listing<L> {
     ghost use Rattle.ioam_run.specs.Listing.{Lists, heads, sums, listed, empty, Lists-any_link, Lists-ends, empty-texts, empty-sized, sums-sized};
-    ghost use Rattle.ioam_run.specs.PathsText.{PathsTexts};
+    ghost use Rattle.ioam_run.specs.ListText.{ListTexts};
 
     ghost width = { 1 };
 
-    ghost gathers = { Lists };
+    ghost gathers = { Lists L.tells };
 
     ghost count = { listed };
 
@@ -34,12 +38,15 @@ impl Gather for Listing {
 
     ghost sums = { sums };
 
-    ghost texts = { PathsTexts };
+    ghost texts = { ListTexts L.tells };
 
     ghost empty = { empty };
 
-    fn begin(_outputs: &mut [Output]) -> Result<Listing, NoMemory> {
-        Ok(Listing { packets: 0 })
+    fn begin(_outputs: &mut [Output]) -> Result<Listing<L>, NoMemory> {
+        Ok(Listing {
+            packets: 0,
+            text: PhantomData,
+        })
     }
 
     fn taken(&self) -> u64 {
@@ -52,7 +59,7 @@ impl Gather for Listing {
         captured: &Packet<'_>,
         outputs: &mut [Output],
     ) -> Result<(), NoMemory> {
-        put_entry(
+        put_entry::<L>(
             self.packets + 1,
             ethernet,
             captured,
@@ -66,11 +73,11 @@ impl Gather for Listing {
         put_count(self.packets, &mut outputs[0].gathered)
     }
 
-    ghost any_link = { Lists-any_link };
+    ghost any_link = { Lists-any_link L.tells };
 
-    ghost ends = { Lists-ends };
+    ghost ends = { Lists-ends L.tells };
 
-    ghost of_none = { empty-texts };
+    ghost of_none = { empty-texts L.tells };
 
     ghost empty_sized = { empty-sized };
 
@@ -87,17 +94,17 @@ fn put_count(packets: u64, out: &mut Vec<u8>) -> Result<(), NoMemory>
 }
 
 // Appends the lines of one record.
-fn put_entry(
+fn put_entry<L: PacketText>(
     number: u64,
     ethernet: bool,
     captured: &Packet<'_>,
     out: &mut Vec<u8>,
 ) -> Result<(), NoMemory>
-    ensures { OnOk result ((text : List _) × EntryLines ethernet number (entry_of captured.now) text
+    ensures { OnOk result ((text : List _) × EntryLines L.tells ethernet number (entry_of captured.now) text
         × (out.new.items ≡ out.old.items ++ text)) }
 {
     match framed(ethernet, captured) {
-        Framed::Packet(octets) => put_packet(number, octets, out),
+        Framed::Packet(octets) => put_packet::<L>(number, octets, out),
         Framed::NotIpv6 => put_skip(number, Reason::NotIpv6, out),
         Framed::Cut => put_skip(number, Reason::Cut, out),
         Framed::Length => put_skip(number, Reason::Length, out),
@@ -105,15 +112,15 @@ fn put_entry(
 }
 
 // Appends the lines of one packet.
-fn put_packet(number: u64, packet: &[u8], out: &mut Vec<u8>) -> Result<(), NoMemory>
+fn put_packet<L: PacketText>(number: u64, packet: &[u8], out: &mut Vec<u8>) -> Result<(), NoMemory>
     requires { IsPacket packet.now }
-    ensures { OnOk result ((text : List _) × PacketLines number packet.now text
+    ensures { OnOk result ((text : List _) × PacketLines L.tells number packet.now text
         × (out.new.items ≡ out.old.items ++ text)) }
 {
     match walk(packet) {
         Walk::Whole { .. } => {
             append_decimal(out, number)?;
-            put_traces(packet, out)
+            L::put(packet, out)
         }
         Walk::Bad { .. } => put_skip(number, Reason::Chain, out),
     }

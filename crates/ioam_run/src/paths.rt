@@ -11,6 +11,7 @@ ghost use Rattle.ioam_answer.specs.declared.outcome.Outcome.{Outcome};
 
 use crate::listing::Listing;
 use crate::over_capture::run_over_capture;
+use crate::packet_text::TraceList;
 use ioam_answer::Outcome;
 use ioam_desk::{Desk, Name};
 use std::alloc::Global;
@@ -44,5 +45,5 @@ pub fn run_paths<D: Desk>(alloc: Global, words: &[Name], desk: &mut D) -> Outcom
     ensures kept_in { KeepsInputs (D.reading desk.old) (D.reading desk.new) }
     ensures kept_out { IsTrue D.tells → KeepsOutputs (D.writing desk.old) (D.writing desk.new) }
 {
-    run_over_capture::<Listing, D>(alloc, words, desk)
+    run_over_capture::<Listing<TraceList>, D>(alloc, words, desk)
 }

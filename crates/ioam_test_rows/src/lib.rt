@@ -8,3 +8,4 @@
 pub mod capture_rows;
 pub mod digits;
 pub mod run_rows;
+pub mod show_rows;

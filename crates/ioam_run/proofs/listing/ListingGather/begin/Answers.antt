@@ -3,7 +3,7 @@ use Rattle.ioam_run.proofs.AddsLaws.{Adds-none}
 use Rattle.ioam_run.proofs.listing.ListingGather.begin.Goals as goal
 
 pub returns-clause-adds : goal.returns-clause-adds
-returns-clause-adds c = Adds-none c.args._outputs.now c.requires.width
+returns-clause-adds g c = Adds-none c.args._outputs.now c.requires.width
 
 pub returns-clause-waiting : goal.returns-clause-waiting
-returns-clause-waiting c = Nothing-few c.args._outputs.now c.requires.nothing
+returns-clause-waiting g c = Nothing-few c.args._outputs.now c.requires.nothing

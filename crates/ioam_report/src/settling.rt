@@ -3,7 +3,7 @@ ghost use Rattle.std.specs.Prelude.{◌≡◌, is_ok, if◌then◌else◌, take}
 use ioam_base::memory::NoMemory;
 
 /// Hands an answer on. Where it is a refusal, what was appended from a place on is taken back.
-pub(crate) fn settle(
+pub fn settle(
     out: &mut Vec<u8>,
     before: usize,
     answer: Result<(), NoMemory>,

@@ -1,0 +1,6 @@
+pub mod AppendsLaws
+pub mod LinesLaws
+pub mod OptionsLaws
+pub mod SaysLaws
+pub mod TextLaws
+pub mod UniqueLaws

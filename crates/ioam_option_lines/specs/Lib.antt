@@ -1,0 +1,3 @@
+pub mod Appends
+pub mod OptionText
+pub mod OptionsText

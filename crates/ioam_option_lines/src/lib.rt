@@ -1,0 +1,15 @@
+//! The lines of a packet's IOAM options: each option on the chain, nested IPv6 headers included, with
+//! its place and what its data says (RFC 9197, RFC 9326, RFC 9486).
+#![tactic(auto)]
+
+mod counting;
+mod directs;
+mod edges;
+mod fields;
+mod line;
+mod listing;
+mod traces;
+mod types;
+
+pub use counting::count_options;
+pub use listing::{put_counted_options, put_options};
