@@ -2,6 +2,8 @@ pub mod BehindLaws
 pub mod DropLaws
 pub mod ReadsLaws
 pub mod StandsLaws
+pub mod FaultLaws
+pub mod OrderLaws
 pub mod TextLaws
 pub mod TurnLaws
 pub mod MergeLaws

@@ -70,7 +70,7 @@ module _ (octets : List ℕ) where
       fields
 
   -- a whole head has no fault and is not cut
-  head_sound : (form : Form) (f : CapFault) → HasHead octets form → HeadFault octets f → ⊥
+  pub head_sound : (form : Form) (f : CapFault) → HasHead octets form → HeadFault octets f → ⊥
   head_sound form (fault.Magic found) head bad = spelling_not_unspelled form.order form.fraction found (bad.1 ∙ head.1) bad.2
   head_sound form (fault.Link found) head bad =
       let (order, fraction, magic, there) = bad.2 in
@@ -139,11 +139,11 @@ module _ (octets : List ℕ) where
   entry_fault_unique form at (fault.Short m) g x y = absurd x
 
   -- the same at a reached place
-  cut_not_faulty : (form : Option Form) (at : ℕ) (f : CapFault) → CutAt octets form at → FaultAt octets form at f → ⊥
+  pub cut_not_faulty : (form : Option Form) (at : ℕ) (f : CapFault) → CutAt octets form at → FaultAt octets form at f → ⊥
   cut_not_faulty None at f cut bad = cut_sound f cut bad
   cut_not_faulty (Some form) at f cut bad = cut_entry_sound form at f cut bad
 
-  fault_unique : (form : Option Form) (at : ℕ) (f g : CapFault) → FaultAt octets form at f → FaultAt octets form at g → f ≡ g
+  pub fault_unique : (form : Option Form) (at : ℕ) (f g : CapFault) → FaultAt octets form at f → FaultAt octets form at g → f ≡ g
   fault_unique None at f g x y = head_fault_unique f g x y
   fault_unique (Some form) at f g x y = entry_fault_unique form at f g x y
 

@@ -8,12 +8,12 @@ use Rattle.ioam_pcap.specs.declared.capture.CapFault.{CapFault}
 use Rattle.ioam_pcap.specs.declared.capture.CapFault.TheVariants as fault
 use Rattle.ioam_pcap.specs.Form.{HasHead}
 use Rattle.ioam_pcap.specs.Entries.{Entry, Entries, captured, IsWhole, entry_at, behind}
-use Rattle.ioam_pcap.specs.Reads.{HeadFault, EntryFault, IsHeadCut, IsEntryCut, Reached, EntryAt, FaultAt, CutAt, Faulty, EndsAt, Reads, link_by}
+use Rattle.ioam_pcap.specs.Reads.{HeadFault, EntryFault, IsHeadCut, IsEntryCut, Reached, EntryAt, FaultAt, CutAt, Faulty, EndsAt, Reads, ReadsOnly, link_by}
 use Rattle.ioam_pcap.specs.Reading.{Reading}
 use Rattle.ioam_pcap.specs.Reader.{Stands, Waits, HoldsFew, IsCap, link_of, most_size, most_start}
 use Rattle.ioam_pcap.proofs.DropLaws.{captured-drop, IsWhole-drop, entry_at-drop, EntryFault-drop, IsEntryCut-drop}
 use Rattle.ioam_pcap.proofs.BehindLaws.{Reached-behind, FaultAt-behind}
-use Rattle.ioam_pcap.proofs.ReadsLaws.{entry_uncut, entry_sound}
+use Rattle.ioam_pcap.proofs.ReadsLaws.{entry_uncut, entry_sound, Reads-unique}
 
 -- a piece more
 pub Stands-feed : (reader : Reading) (piece octets : List ℕ) (entries : List Entry) → Stands reader octets entries
@@ -218,10 +218,19 @@ module _ (old new : Reading) (same : new ≡ old) (octets : List ℕ) (entries :
 
   pub fault_told : (place : ℕ) (f : CapFault) → place ≡ old.start → FaultAt old.pending old.form 0 f
       → FaultAt octets old.form old.start f × (Stands new octets entries × IsCap octets entries old × Reads octets (link_of old) entries (Faulty place f)
-      × ((more : List ℕ) → Reads (octets ++ more) (link_of old) entries (Faulty place f)))
+      × ((more : List ℕ) → Reads (octets ++ more) (link_of old) entries (Faulty place f))
+      × ((more : List ℕ) → ReadsOnly (octets ++ more) (link_of old) entries (Faulty place f)))
   fault_told place f here bad =
       let there = FaultAt-pending old octets entries stands f bad in
       let P : ℕ → Type 0 = λ n. (more : List ℕ) → Reads (octets ++ more) (link_of old) entries (Faulty n f) in
       let Q : List ℕ → Type 0 = λ xs. Reads xs (link_of old) entries (Faulty place f) in
-      let all = subst P (sym here) (Reads-faulty old octets entries f stands there) in
-      (there, (stands_still, IsCap-fault old octets entries f stands there, subst Q (append-nil octets) (all []), all))
+      let all = subst P (sym here) (Reads-faulty old octets entries f stands there) in (
+        there,
+        (
+          stands_still,
+          IsCap-fault old octets entries f stands there,
+          subst Q (append-nil octets) (all []),
+          all,
+          λ more other others end reads. Reads-unique (octets ++ more) other (link_of old) others entries end (Faulty place f) reads (all more),
+        ),
+      )

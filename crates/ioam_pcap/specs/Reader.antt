@@ -13,7 +13,7 @@ use Rattle.ioam_pcap.specs.declared.turns.Due.{Due}
 use Rattle.ioam_pcap.specs.declared.turns.Due.TheVariants as due
 use Rattle.ioam_pcap.specs.contracts.reader.CaptureReader.{the_row}
 use Rattle.ioam_pcap.specs.Entries.{Entry}
-use Rattle.ioam_pcap.specs.Reads.{Reached, CutAt, Shown, HeadShown, EntryShown, CutShown, FaultShown, Shows, Ending, Whole, Faulty, Reads, Cap, link_by}
+use Rattle.ioam_pcap.specs.Reads.{Reached, FaultAt, CutAt, Shown, HeadShown, EntryShown, CutShown, FaultShown, Shows, Ending, Whole, Faulty, Reads, ReadsOnly, Cap, link_by}
 use Rattle.ioam_pcap.specs.Reading.{Reading}
 
 -- a reader that was fed these octets in all, and has given these records
@@ -54,6 +54,18 @@ entry_of p = record { time = p.time; original = p.original; octets = p.octets.no
 abbrev pub Waits : Reading → Type 0
 Waits reader = CutAt reader.pending reader.form 0
 
+-- what is due has this fault
+abbrev pub HasFault : Reading → CapFault → Type 0
+HasFault reader fault = FaultAt reader.pending reader.form 0 fault
+
+-- a fault of what is due stays
+abbrev pub KeepsFault : Reading → Reading → Type 0
+KeepsFault old new = (fault : CapFault) → HasFault old fault → HasFault new fault
+
+-- where what is due has a fault a step says this fault
+abbrev pub SaysFault : Reading → CapStep → Type 0
+SaysFault reader step = (fault : CapFault) → HasFault reader fault → step ≡ Bad reader.start fault
+
 -- the octets that a step takes off; the time of a record is below 2^62; where more octets are needed
 -- there are fewer than a record has
 abbrev pub Moved : Reading → Reading → CapStep → Type 0
@@ -63,7 +75,7 @@ Moved old new (Packet p) = (new.form ≡ old.form) × (new.start ≡ old.start +
     × (length new.pending + (16 + length p.octets.now) ≡ length old.pending)
     × (p.time < 2 ^ 62)
 Moved old new More = (new ≡ old) × Waits old × HoldsFew old
-Moved old new (Bad at fault) = (new ≡ old) × (at ≡ old.start)
+Moved old new (Bad at fault) = (new ≡ old) × (at ≡ old.start) × HasFault old fault
 
 -- what a step shows of the octets fed so far
 abbrev pub shown_by : CapStep → Shown
@@ -77,7 +89,8 @@ shown_by (Bad at fault) = FaultShown fault
 abbrev pub IsCap : List ℕ → List Entry → Reading → Type 0
 IsCap octets entries reader = (link : Link) → link_of reader ≡ Some link → Cap octets link entries reader.start
 
--- what the reader stands for behind a step; a capture with a fault ends there, whatever is fed
+-- what the reader stands for behind a step; a capture with a fault ends there, whatever is fed, and
+-- reads in this way alone
 abbrev pub Leaves : List ℕ → List Entry → Reading → Reading → CapStep → Type 0
 Leaves octets entries old new (Head link) = (link_of new ≡ Some link) × Stands new octets entries
 Leaves octets entries old new (Packet p) = Stands new octets (entries ++ entry_of p ∷ [])
@@ -85,6 +98,7 @@ Leaves octets entries old new More = Stands new octets entries × IsCap octets e
 Leaves octets entries old new (Bad at fault) = Stands new octets entries × IsCap octets entries old
     × Reads octets (link_of old) entries (Faulty at fault)
     × ((more : List ℕ) → Reads (octets ++ more) (link_of old) entries (Faulty at fault))
+    × ((more : List ℕ) → ReadsOnly (octets ++ more) (link_of old) entries (Faulty at fault))
 
 -- what a step tells of the octets fed so far, behind these records
 abbrev pub Told : List ℕ → List Entry → Reading → Reading → CapStep → Type 0
@@ -112,7 +126,8 @@ IsHeaded due.More reader = ⊤
 -- so the reader is once the step's octets are no longer lent
 abbrev pub RestsSo : MutBor Reading → CapStep → Fml
 RestsSo reader step = Rests the_row reader (λ new. Moved reader.now new step
-    × ((octets : List ℕ) (entries : List Entry) → Stands reader.now octets entries → Told octets entries reader.now new step))
+    × ((octets : List ℕ) (entries : List Entry) → Stands reader.now octets entries → Told octets entries reader.now new step)
+    × SaysFault reader.now step)
 
 -- the ending of a capture that was fed whole, by what `finish` answers
 abbrev pub ending_of : Option (ℕ × CapFault) → Ending

@@ -100,6 +100,11 @@ pub record Reads (octets : List ℕ) (link : Option Link) (entries : List Entry)
   pub ends : EndsAt octets form at ending
   pub linked : link ≡ link_by form
 
+-- and the octets read in no other way
+abbrev pub ReadsOnly : List ℕ → Option Link → List Entry → Ending → Type 0
+ReadsOnly octets link entries ending = (other : Option Link) (others : List Entry) (end : Ending) → Reads octets other others end
+    → (other ≡ link) × (others ≡ entries) × (end ≡ ending)
+
 -- the octets have a head for this link, exactly these records from place 24 up to a place, and there
 -- no whole record
 pub record Cap (octets : List ℕ) (link : Link) (entries : List Entry) (rest : ℕ) : Type 0 where

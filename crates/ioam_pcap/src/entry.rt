@@ -3,7 +3,7 @@ ghost use Rattle.ioam_pcap.specs.Steps.{IsTimely, TellsEntry};
 
 use crate::capture::{CapFault, RECORD_MOST};
 use crate::form::{Form, Fraction};
-use crate::head::number_at;
+use crate::numbers::entry_numbers;
 
 /// The head of a whole record.
 #[derive(Clone, Copy)]
@@ -29,24 +29,23 @@ pub fn entry_step(form: Form, octets: &[u8]) -> EntryStep
     if octets.len() < 16 {
         return EntryStep::Cut;
     }
-    let captured = number_at(form.order, octets, 8);
-    if captured > RECORD_MOST {
-        return EntryStep::Bad(CapFault::RecordLong { found: captured });
+    let numbers = entry_numbers(form.order, octets);
+    if numbers.captured > RECORD_MOST {
+        return EntryStep::Bad(CapFault::RecordLong {
+            found: numbers.captured,
+        });
     }
-    if octets.len() - 16 < captured as usize {
+    if octets.len() - 16 < numbers.captured as usize {
         return EntryStep::Cut;
     }
-    let seconds = u64::from(number_at(form.order, octets, 0));
-    let fraction = u64::from(number_at(form.order, octets, 4));
+    let fraction = u64::from(numbers.fraction);
     let nanoseconds = match form.fraction {
         Fraction::Micro => fraction * 1000,
         Fraction::Nano => fraction,
     };
-    let time = seconds * 1_000_000_000 + nanoseconds;
-    let original = number_at(form.order, octets, 12);
     EntryStep::Whole(EntryHead {
-        time,
-        original,
-        captured,
+        time: u64::from(numbers.seconds) * 1_000_000_000 + nanoseconds,
+        original: numbers.original,
+        captured: numbers.captured,
     })
 }

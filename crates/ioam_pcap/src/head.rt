@@ -1,9 +1,10 @@
-ghost use Rattle.std.specs.Prelude.{◌≡◌, ◌+◌, ◌≤◌, length, MatchOption};
-ghost use Rattle.ioam_pcap.specs.Form.{number_at, spelling, IsUnspelled, IsLinkType, IsNoLinkType};
+ghost use Rattle.std.specs.Prelude.{◌≡◌, MatchOption};
+ghost use Rattle.ioam_pcap.specs.Form.{spelling, IsUnspelled, IsLinkType, IsNoLinkType};
 ghost use Rattle.ioam_pcap.specs.Steps.{TellsHead};
 
 use crate::capture::CapFault;
 use crate::form::{Form, Fraction, Link, Order};
+use crate::numbers::link_number;
 use ioam_base::octets::u32_at;
 
 /// What the front of a capture shows of its head.
@@ -12,19 +13,6 @@ pub enum HeadStep {
     Whole(Form),
     Cut,
     Bad(CapFault),
-}
-
-// The 32-bit number at a place, in either order.
-pub fn number_at(order: Order, octets: &[u8], at: usize) -> u32
-    requires { at + 4 ≤ length octets.now }
-    ensures { result ≡ number_at order octets.now at }
-{
-    match order {
-        Order::Big => u32_at(octets, at),
-        Order::Little => {
-            u32::from_le_bytes([octets[at], octets[at + 1], octets[at + 2], octets[at + 3]])
-        }
-    }
 }
 
 // The order and the fraction that a magic number spells.
@@ -65,7 +53,7 @@ pub fn head_step(octets: &[u8]) -> HeadStep
     if octets.len() < 24 {
         return HeadStep::Cut;
     }
-    let number = number_at(order, octets, 20);
+    let number = link_number(order, octets);
     match link_of(number) {
         Some(link) => HeadStep::Whole(Form {
             order,

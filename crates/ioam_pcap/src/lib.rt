@@ -6,6 +6,7 @@ mod capture;
 mod entry;
 mod form;
 mod head;
+mod numbers;
 mod picking;
 mod put;
 mod reader;

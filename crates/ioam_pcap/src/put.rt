@@ -4,15 +4,27 @@ ghost use Rattle.ioam_pcap.specs.Reads.{Reads, Whole};
 ghost use Rattle.ioam_pcap.specs.Text.{Sent, IsSendable, head_octets, record_head, record_octets, capture_text, entry_sent, with_sent};
 ghost use Rattle.ioam_pcap.specs.declared.form.Link.TheVariants as Link;
 
+use crate::capture::RECORD_MOST;
+use crate::numbers::EntryNumbers;
+use byteorder::BigEndian;
 use ioam_base::memory::NoMemory;
+use ioam_base::octets::{put_u16_at, put_u32_at};
 use ioam_base::text::append;
 
-// Magic number, version 2.4, no zone, no accuracy, 262,144 octets at most, link type 101.
-const HEAD: [u8; 24] = [
-    0xa1, 0xb2, 0x3c, 0x4d, 0, 2, 0, 4, 0, 0, 0, 0, 0, 0, 0, 0, 0, 4, 0, 0, 0, 0, 0, 0x65,
-];
-
 const NANOSECONDS: u64 = 1_000_000_000;
+
+// The head: magic number, version 2.4, no zone, no accuracy, 262,144 octets at most, link type 101.
+fn head() -> [u8; 24]
+    ensures { result ≡ head_octets }
+{
+    let mut head = [0; 24];
+    put_u32_at(&mut head, 0, 0xa1b2_3c4d);
+    put_u16_at(&mut head, 4, 2);
+    put_u16_at(&mut head, 6, 4);
+    put_u32_at(&mut head, 16, RECORD_MOST);
+    put_u32_at(&mut head, 20, 101);
+    head
+}
 
 /// Appends the head of a capture: 24 octets, big-endian, nanoseconds, version 2.4, packets of at
 /// most 262,144 octets that begin with an IP header (link type 101). Without memory `out` is as
@@ -23,22 +35,20 @@ pub fn put_head(out: &mut Vec<u8>) -> Result<(), NoMemory>
     ensures begins { out.old.items ≡ [] → OnOk result (out.new.items ≡ capture_text []) }
     ensures reads { out.old.items ≡ [] → OnOk result (Reads out.new.items (Some Link.Raw) [] Whole) }
 {
-    append(out, &HEAD)
+    append(out, &head())
 }
 
 // The head of a record of so many octets.
 fn record_head(time: u64, size: u32) -> [u8; 16]
     ensures { result ≡ record_head time size }
 {
-    let seconds = ((time / NANOSECONDS) % (1 << 32)) as u32;
-    let fraction = (time % NANOSECONDS) as u32;
-    let s = seconds.to_be_bytes();
-    let f = fraction.to_be_bytes();
-    let n = size.to_be_bytes();
-    [
-        s[0], s[1], s[2], s[3], f[0], f[1], f[2], f[3], n[0], n[1], n[2], n[3], n[0], n[1], n[2],
-        n[3],
-    ]
+    let numbers = EntryNumbers {
+        seconds: ((time / NANOSECONDS) % (1 << 32)) as u32,
+        fraction: (time % NANOSECONDS) as u32,
+        captured: size,
+        original: size,
+    };
+    numbers.in_octets::<BigEndian>()
 }
 
 // Appends a record.

@@ -45,9 +45,9 @@ impl CaptureReader {
     ghost use Rattle.ioam_pcap.specs.declared.capture.CapFault.TheVariants.{Short};
     ghost use Rattle.ioam_pcap.specs.Entries.{Entry};
     ghost use Rattle.ioam_pcap.specs.Merge.{Stream, due_of};
-    ghost use Rattle.ioam_pcap.specs.Reads.{Reads};
+    ghost use Rattle.ioam_pcap.specs.Reads.{Reads, ReadsOnly};
     ghost use Rattle.ioam_pcap.specs.Streams.{Streams};
-    ghost use Rattle.ioam_pcap.specs.Reader.{Stands, HoldsFew, IsHeadDue, IsHeaded, Waits, Looks, RestsSo, fresh, fed, link_of, ending_of};
+    ghost use Rattle.ioam_pcap.specs.Reader.{Stands, HoldsFew, IsHeadDue, IsHeaded, Waits, Looks, KeepsFault, RestsSo, fresh, fed, link_of, ending_of};
 
     /// A reader that was fed nothing.
     pub fn new(alloc: Global) -> Result<CaptureReader, NoMemory>
@@ -78,6 +78,8 @@ impl CaptureReader {
         ensures stands { OnOk result ((octets : List ℕ) (entries : List Entry)
             → Stands self.old octets entries
             → Stands self.new (octets ++ piece.now) entries) }
+        // A fault of what is due stays, whatever is fed.
+        ensures faulty { OnOk result (KeepsFault self.old self.new) }
         ensures err { OnErr result (self.new ≡ self.old) }
     {
         drop_front(&mut self.buffer, self.taken);
@@ -179,6 +181,22 @@ impl CaptureReader {
     /// read and its last record is whole, else the place of the head or the record that is cut, and
     /// how many octets of it are there.
     pub fn finish(&self) -> Option<(u64, CapFault)>
+        requires { Waits self.now }
+        ensures left { MatchOption result
+            (IsSome self.now.form × (self.now.pending ≡ []))
+            (λ cut. (cut ≡ (self.now.start, Short (length self.now.pending)))
+            × (IsSome self.now.form → 0 < length self.now.pending)) }
+        ensures reads { (octets : List ℕ) (entries : List Entry) → Stands self.now octets entries
+            → Reads octets (link_of self.now) entries (ending_of result) }
+        // Nothing else is read of the octets, in whatever pieces they were fed.
+        ensures only { (octets : List ℕ) (entries : List Entry) → Stands self.now octets entries
+            → ReadsOnly octets (link_of self.now) entries (ending_of result) }
+    {
+        self.left_over()
+    }
+
+    // What an ended capture leaves over, by the rules alone.
+    fn left_over(&self) -> Option<(u64, CapFault)>
         requires { Waits self.now }
         ensures left { MatchOption result
             (IsSome self.now.form × (self.now.pending ≡ []))

@@ -1,10 +1,11 @@
 use Rattle.std.proofs.Common.{◌≡◌, ◌+◌, ◌-◌, List, ℕ, length, take, drop, refl, sym, ap, ◌∙◌, subst, rules, arith, Some, None}
 use Rattle.ioam_pcap.specs.Reading.{Reading}
-use Rattle.ioam_pcap.specs.Reads.{HeadFault, EntryFault, IsEntryCut, FaultAt, CutAt}
+use Rattle.ioam_pcap.specs.Reads.{HeadFault, EntryFault, IsHeadCut, IsEntryCut, FaultAt, CutAt}
 use Rattle.ioam_pcap.specs.Form.{HasHead}
 use Rattle.ioam_pcap.specs.Entries.{Entry, IsWhole, captured, entry_at}
 use Rattle.ioam_pcap.specs.Reader.{Stands}
 use Rattle.ioam_pcap.proofs.StandsLaws.{cut_told, fault_told, rest_of_buffer, octets_of_record, moved_by, Stands-head, Stands-step, Waits-few, EntryAt-step, length_left, length_of_record, entry_by}
+use Rattle.ioam_pcap.proofs.FaultLaws.{says_head, says_entry, says_cut, says_bad}
 use Rattle.ioam_pcap.proofs.reader.CaptureReader.next.Goals as goal
 
 pub returns-in-Whole : goal.returns-in-Whole
@@ -27,6 +28,7 @@ returns-in-Whole c =
               let stood = Stands-head old c.in-Whole.form none head octets entries stands in
               let S : Reading → Type 0 = λ r. Stands r octets entries in
               ((none, (c.in-Whole.form, stood.reached.0, refl)), (refl, subst S (sym after) stood)),
+          says_head old c.in-Whole.form none head _,
         ),
       ),
       tt,
@@ -39,8 +41,27 @@ returns-in-Bad c =
     let pending = rest_of_buffer _ _ c.self.inside.taken c.deref.ensures.value ∙ ap (λ r. r.pending) c.self.view_is in
     let Q : List ℕ → Type 0 = λ p. HeadFault p c.in-Bad.fault in
     let bad : FaultAt old.pending old.form 0 c.in-Bad.fault = rw none (subst Q pending c.in-Bad.ensures) in
-    let start = ap (λ r. r.start) c.self.view_is in
-    ((refl, λ _. tt, ((c.self.view_is, start), λ octets entries stands. fault_told old _ c.self.view_is octets entries stands _ c.in-Bad.fault start bad)), tt)
+    let start = ap (λ r. r.start) c.self.view_is in (
+      (
+        refl,
+        λ _. tt,
+        (
+          (c.self.view_is, start, bad),
+          λ octets entries stands. fault_told old _ c.self.view_is octets entries stands _ c.in-Bad.fault start bad,
+          says_bad old _ c.in-Bad.fault start bad,
+        ),
+      ),
+      tt,
+    )
+
+pub returns-in-Cut : goal.returns-in-Cut
+returns-in-Cut c =
+    let old = c.args.self.now in
+    let none : old.form ≡ None = search rules in
+    let pending = rest_of_buffer _ _ c.self.inside.taken c.deref.ensures.value ∙ ap (λ r. r.pending) c.self.view_is in
+    let Q : List ℕ → Type 0 = λ p. IsHeadCut p in
+    let cut : CutAt old.pending old.form 0 = rw none (subst Q pending c.in-Cut.ensures) in
+    ((refl, λ _. tt, ((c.self.view_is, cut, Waits-few old cut), λ octets entries stands. cut_told old _ c.self.view_is octets entries stands cut, says_cut old cut _)), tt)
 
 pub returns-in-Whole-entry_step : goal.returns-in-Whole-entry_step
 returns-in-Whole-entry_step c =
@@ -77,6 +98,7 @@ returns-in-Whole-entry_step c =
             c.in-Whole-entry_step.ensures.timely,
           ),
           λ all entries stands. (EntryAt-step old _ form form_is told.0 new entry entry_is all entries stands, Stands-step old _ form form_is told.0 new entry entry_is all entries stands),
+          says_entry old form form_is told.0 _,
         ),
       ),
       tt,
@@ -89,7 +111,7 @@ returns-in-Cut-entry_step c =
     let pending = rest_of_buffer _ _ c.self.inside.taken c.deref.ensures.value ∙ ap (λ r. r.pending) c.self.view_is in
     let Q : List ℕ → Type 0 = λ p. IsEntryCut c.in-Some.form p 0 in
     let cut : CutAt old.pending old.form 0 = rw form (subst Q pending c.in-Cut-entry_step.ensures.tells) in
-    ((refl, λ _. tt, ((c.self.view_is, cut, Waits-few old cut), λ octets entries stands. cut_told old _ c.self.view_is octets entries stands cut)), tt)
+    ((refl, λ _. tt, ((c.self.view_is, cut, Waits-few old cut), λ octets entries stands. cut_told old _ c.self.view_is octets entries stands cut, says_cut old cut _)), tt)
 
 pub returns-in-Bad-entry_step : goal.returns-in-Bad-entry_step
 returns-in-Bad-entry_step c =
@@ -98,5 +120,15 @@ returns-in-Bad-entry_step c =
     let pending = rest_of_buffer _ _ c.self.inside.taken c.deref.ensures.value ∙ ap (λ r. r.pending) c.self.view_is in
     let Q : List ℕ → Type 0 = λ p. EntryFault c.in-Some.form p 0 c.in-Bad-entry_step.fault in
     let bad : FaultAt old.pending old.form 0 c.in-Bad-entry_step.fault = rw form (subst Q pending c.in-Bad-entry_step.ensures.tells) in
-    let start = ap (λ r. r.start) c.self.view_is in
-    ((refl, λ _. tt, ((c.self.view_is, start), λ octets entries stands. fault_told old _ c.self.view_is octets entries stands _ c.in-Bad-entry_step.fault start bad)), tt)
+    let start = ap (λ r. r.start) c.self.view_is in (
+      (
+        refl,
+        λ _. tt,
+        (
+          (c.self.view_is, start, bad),
+          λ octets entries stands. fault_told old _ c.self.view_is octets entries stands _ c.in-Bad-entry_step.fault start bad,
+          says_bad old _ c.in-Bad-entry_step.fault start bad,
+        ),
+      ),
+      tt,
+    )
