@@ -73,6 +73,41 @@ fn looks_ahead(rt: HostRuntime) -> Result<(), Fail> {
     Ok(())
 }
 
+// Feeds a reader octets in pieces of 65,536.
+fn feed_pieces(reader: &mut CaptureReader, octets: &[u8]) -> Result<(), Fail> {
+    for piece in octets.chunks(65_536) {
+        if reader.fed() > 1_000_000_000 || piece.len() > 65_536 {
+            return Err(Fail::from("too many octets"));
+        }
+        reader.feed(piece)?;
+    }
+    Ok(())
+}
+
+// Feeds a record of 262,144 octets so often, and says whether it is read each time.
+fn longest_is_read(reader: &mut CaptureReader, record: &[u8], times: u32) -> Result<bool, Fail> {
+    for _ in 0..times {
+        feed_pieces(reader, record)?;
+        if !matches!(reader.next(), CapStep::Packet(packet) if packet.octets.len() == 262_144) {
+            return Ok(false);
+        }
+    }
+    Ok(matches!(reader.next(), CapStep::More))
+}
+
+#[test]
+fn reads_several_megabytes(rt: HostRuntime) -> Result<(), Fail> {
+    let packet = vec![in rt.alloc(); 7; 262_144]?;
+    let mut record = Vec::new(rt.alloc());
+    put_record(5, &packet, &mut record)?;
+    let mut reader = CaptureReader::new(rt.alloc())?;
+    reader.feed(&HEAD)?;
+    assert!(rt; matches!(reader.next(), CapStep::Head { .. }));
+    assert!(rt; longest_is_read(&mut reader, &record, 20)?);
+    assert_eq!(rt; reader.fed(), 5_243_224);
+    Ok(())
+}
+
 // A little-endian record at one second and 500,000 microseconds.
 const MICROSECONDS: [u8; 18] = [1, 0, 0, 0, 0x20, 0xa1, 7, 0, 2, 0, 0, 0, 62, 0, 0, 0, 8, 9];
 
