@@ -43,3 +43,14 @@ pub Appends-OnOk : {T E : Type 0} (r : Result T E) (Is : List ℕ → Type 0) (o
     → Appends r Is old new → OnOk r ((text : List ℕ) × Is text × (new ≡ old ++ text))
 Appends-OnOk (Ok value) Is old new appends = appends
 Appends-OnOk (Err error) Is old new appends = tt
+
+-- the same of two texts that are known
+pub appended-behind : {T E S F : Type 0} (r : Result T E) (s : Result S F) (old front part middle inner new : List ℕ) (before : ℕ)
+    → before ≡ length old → middle ≡ old ++ front → inner ≡ (if is_ok s then middle ++ part else middle) → is_ok r ≡ is_ok s
+    → new ≡ (if is_ok r then inner else take before inner) → new ≡ (if is_ok r then old ++ (front ++ part) else old)
+appended-behind (Ok x) (Ok y) old front part middle inner new before here is was same settled =
+    settled ∙ was ∙ ap (λ (xs : List ℕ). xs ++ part) is ∙ append_assoc old front part
+appended-behind (Ok x) (Err e) old front part middle inner new before here is was same settled = absurd (cc same)
+appended-behind (Err e) (Ok y) old front part middle inner new before here is was same settled = absurd (cc same)
+appended-behind (Err e) (Err f) old front part middle inner new before here is was same settled =
+    settled ∙ ap (take before) (was ∙ is) ∙ ap (λ n. take n (old ++ front)) here ∙ take-append_seam old front
