@@ -106,7 +106,7 @@ fn whole(ioam: bool, upper: u8, at: u32, limit: Option<u8>) -> Walk {
 type Ends = (bool, u8, u32, Option<u8>);
 
 // Whole chains: the first next header value, the first header, what stands behind it, and how it ends.
-const WHOLE: [(u8, &[u8], &[u8], Ends); 11] = [
+const WHOLE: [(u8, &[u8], &[u8], Ends); 12] = [
     (17, &[4, 0, 4, 1, 0, 8, 0, 0], &[], (false, 17, 40, None)),
     // Behind a Routing header.
     (
@@ -125,6 +125,13 @@ const WHOLE: [(u8, &[u8], &[u8], Ends); 11] = [
     (
         44,
         &[60, 0, 0, 1, 0, 0, 0, 1],
+        &[59, 0, 0x11, 4, 0, 0, 0, 0],
+        (true, 59, 56, None),
+    ),
+    // The three bits behind the offset are none of it.
+    (
+        44,
+        &[60, 0, 0, 6, 0, 0, 0, 1],
         &[59, 0, 0x11, 4, 0, 0, 0, 0],
         (true, 59, 56, None),
     ),
