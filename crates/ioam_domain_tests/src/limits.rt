@@ -1,58 +1,26 @@
 use crate::domains::{NODES, is_read_so};
 use crate::faults::has_fault;
-use crate::node_data::{is_most, repeated};
+use crate::node_data::repeated;
 use ioam_base::memory::NoMemory;
 use std::alloc::Global;
 
-// A table, its most entries, and its faults with as many empty entries and with one more.
-const TABLES: [(&str, u16, &str, &str); 6] = [
-    (
-        "node = [",
-        256,
-        "table: NodeTable, place: 1, field: NameKey, why: Missing",
-        "table: NodeTable, place: 0, field: NoKey, why: TooMany",
-    ),
-    (
-        "link = [",
-        1024,
-        "table: LinkTable, place: 1, field: NameKey, why: Missing",
-        "table: LinkTable, place: 0, field: NoKey, why: TooMany",
-    ),
-    (
-        "port = [",
-        64,
-        "table: PortTable, place: 1, field: NameKey, why: Missing",
-        "table: PortTable, place: 0, field: NoKey, why: TooMany",
-    ),
-    (
-        "route = [",
-        16384,
-        "table: RouteTable, place: 1, field: NodeKey, why: Missing",
-        "table: RouteTable, place: 0, field: NoKey, why: TooMany",
-    ),
-    (
-        "flow = [",
-        256,
-        "table: FlowTable, place: 1, field: NameKey, why: Missing",
-        "table: FlowTable, place: 0, field: NoKey, why: TooMany",
-    ),
-    (
-        "extra = [",
-        512,
-        "table: ExtraTable, place: 1, field: FlowKey, why: Missing",
-        "table: ExtraTable, place: 0, field: NoKey, why: TooMany",
-    ),
-];
+// A file as far as a node's name, and the rest of it.
+const BEFORE_NAME: &str = "node = [{ name = \"";
 
-// Whether each table has room for its most entries and no more.
-fn have_most(alloc: Global, tables: &[(&str, u16, &str, &str)]) -> bool {
-    for table in tables {
-        if !is_most(alloc, table.0, table.1, table.2, table.3) {
-            return false;
-        }
-    }
-    true
-}
+const BEHIND_NAME: &str = "\", id = 1, address = \"::\" }]";
+
+// A file as far as the name of a port's output, and the rest of it.
+const BEFORE_OUT: &str =
+    "node = [{ name = \"a\", id = 1, address = \"::\" }]\nport = [{ name = \"p\", node = \"a\", id = 1, out = \"";
+
+const BEHIND_OUT: &str = "\" }]";
+
+// The keys of a link behind its name.
+const TAPPED: &str =
+    "from = \"a\", to = \"b\", out_id = 1, in_id = 1, delay = 0, mtu = 1280, tap = \"t\" }, ";
+
+// 16 octets of comment.
+const COMMENT: &str = "# no table here\n";
 
 // Whether a text that repeats a part so often is read.
 fn is_read(alloc: Global, front: &str, part: &str, count: u32, back: &str) -> bool {
@@ -77,21 +45,32 @@ fn is_refused(
     }
 }
 
-// Whether a name has 32 letters at most, a name of a file 255 octets, and a file 1 MiB.
-fn has_lengths(alloc: Global) -> bool {
-    let name = "node = [{ name = \"";
-    let rest = "\", id = 1, address = \"::\" }]";
-    let long = "table: NodeTable, place: 1, field: NameKey, why: Range";
-    let port =
-        "node = [{ name = \"a\", id = 1, address = \"::\" }]\nport = [{ name = \"p\", node = \"a\", id = 1, out = \"";
-    let wide = "table: PortTable, place: 1, field: OutKey, why: Range";
-    let file = "table: Top, place: 0, field: NoKey, why: Long";
-    is_read(alloc, name, "a", 32, rest)
-        && is_refused(alloc, name, "a", 33, rest, long)
-        && is_read(alloc, port, "/", 255, "\" }]")
-        && is_refused(alloc, port, "/", 256, "\" }]", wide)
-        && is_read(alloc, "#", " ", 1_048_575, "")
-        && is_refused(alloc, "#", " ", 1_048_576, "", file)
+// Whether a name has 32 letters at most.
+fn has_names_of_32(alloc: Global) -> bool {
+    let wanted = "table: NodeTable, place: 1, field: NameKey, why: Range";
+    is_read(alloc, BEFORE_NAME, "a", 32, BEHIND_NAME)
+        && is_refused(alloc, BEFORE_NAME, "a", 33, BEHIND_NAME, wanted)
+}
+
+// Whether the name of a file has 255 octets at most.
+fn has_outs_of_255(alloc: Global) -> bool {
+    let wanted = "table: PortTable, place: 1, field: OutKey, why: Range";
+    is_read(alloc, BEFORE_OUT, "/", 255, BEHIND_OUT)
+        && is_refused(alloc, BEFORE_OUT, "/", 256, BEHIND_OUT, wanted)
+}
+
+// Whether a file has 1 MiB at most: files of comments.
+fn has_files_of_1_mib(alloc: Global) -> bool {
+    let wanted = "table: Top, place: 0, field: NoKey, why: Long";
+    is_read(alloc, "", COMMENT, 65_536, "") && is_refused(alloc, "#", COMMENT, 65_536, "", wanted)
+}
+
+// A link with a tap.
+fn put_link(alloc: Global, file: &mut String, at: u32) -> Result<(), NoMemory> {
+    let name = format!(in alloc; "{{ name = \"{at}\", ")?;
+    file.push_str(name.as_str())?;
+    file.push_str(TAPPED)?;
+    Ok(())
 }
 
 // A file of two nodes and so many links, each with a tap.
@@ -100,31 +79,42 @@ fn tapped(alloc: Global, count: u32) -> Result<String, NoMemory> {
     file.push_str(NODES)?;
     file.push_str("link = [")?;
     for at in 0..count {
-        let name = format!(in alloc; "{{ name = \"{at}\", ")?;
-        file.push_str(name.as_str())?;
-        file.push_str(
-            "from = \"a\", to = \"b\", out_id = 1, in_id = 1, delay = 0, mtu = 1280, tap = \"t\" }, ",
-        )?;
+        put_link(alloc, &mut file, at)?;
     }
     file.push_str("]")?;
     Ok(file)
 }
 
-// Whether 64 links may have a tap, and no more.
-fn has_taps(alloc: Global) -> bool {
+// Whether so many links may have a tap.
+fn are_tapped(alloc: Global, count: u32) -> bool {
+    match tapped(alloc, count) {
+        Ok(file) => is_read_so(alloc, file.as_str(), |_| true),
+        Err(NoMemory) => false,
+    }
+}
+
+// Whether so many links have a tap too many.
+fn are_too_many(alloc: Global, count: u32) -> bool {
     let wanted = "table: LinkTable, place: 65, field: TapKey, why: TooMany";
-    match (tapped(alloc, 64), tapped(alloc, 65)) {
-        (Ok(few), Ok(many)) => {
-            is_read_so(alloc, few.as_str(), |domain| domain.links().len() == 64)
-                && has_fault(alloc, many.as_str(), wanted)
-        }
-        _ => false,
+    match tapped(alloc, count) {
+        Ok(file) => has_fault(alloc, file.as_str(), wanted),
+        Err(NoMemory) => false,
     }
 }
 
 #[test]
-fn files_have_their_limits(rt: HostRuntime) {
+fn names_have_their_lengths(rt: HostRuntime) {
     let alloc = rt.alloc();
-    assert!(rt; have_most(alloc, &TABLES) && has_lengths(alloc));
-    assert!(rt; has_taps(alloc));
+    assert!(rt; has_names_of_32(alloc) && has_outs_of_255(alloc));
+}
+
+#[test]
+fn links_have_64_taps(rt: HostRuntime) {
+    let alloc = rt.alloc();
+    assert!(rt; are_tapped(alloc, 64) && are_too_many(alloc, 65));
+}
+
+#[test]
+fn a_file_has_1_mib(rt: HostRuntime) {
+    assert!(rt; has_files_of_1_mib(rt.alloc()));
 }

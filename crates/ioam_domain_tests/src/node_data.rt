@@ -52,7 +52,7 @@ table: DataTable, place: 1, field: NodeKey, why: Missing # flow = 1\ndata = [{}]
 
 // A table as far as its first entry, its most entries, the fault of an entry without keys, and that
 // of one entry too many.
-const ROOMS: [(&str, u16, &str, &str); 5] = [
+const ROOMS: [(&str, u16, &str, &str); 7] = [
     (
         "node = [",
         256,
@@ -82,6 +82,18 @@ const ROOMS: [(&str, u16, &str, &str); 5] = [
         4096,
         "DataTable, place: 1, field: NodeKey, why: Missing",
         "DataTable, place: 0, field: NoKey, why: TooMany",
+    ),
+    (
+        "flow = [",
+        256,
+        "FlowTable, place: 1, field: NameKey, why: Missing",
+        "FlowTable, place: 0, field: NoKey, why: TooMany",
+    ),
+    (
+        "extra = [",
+        512,
+        "ExtraTable, place: 1, field: FlowKey, why: Missing",
+        "ExtraTable, place: 0, field: NoKey, why: TooMany",
     ),
 ];
 
@@ -123,7 +135,7 @@ fn has_fault_of(alloc: Global, table: &str, count: u32, wanted: &str) -> bool {
 
 // Whether a table has room for so many entries and no more: with so many empty ones the first has
 // this fault, and with one more the table has that one.
-pub(crate) fn is_most(alloc: Global, table: &str, most: u16, missing: &str, many: &str) -> bool {
+fn is_most(alloc: Global, table: &str, most: u16, missing: &str, many: &str) -> bool {
     has_fault_of(alloc, table, u32::from(most), missing)
         && has_fault_of(alloc, table, u32::from(most) + 1, many)
 }
