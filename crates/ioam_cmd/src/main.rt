@@ -22,10 +22,14 @@ fn main(rt: HostRuntime) -> ExitCode {
         Ok(words) => ioam(rt.alloc(), &words, &mut desk),
         Err(outcome) => outcome,
     };
+    let fault = fault_line(rt.alloc(), &desk, &outcome);
+    // The files are closed before anything is printed: one of them may stand where standard output was
+    // closed.
+    drop(desk);
     if let Ok(line) = line(rt.alloc(), &outcome) {
         let _ = println!(rt; "{line}");
     }
-    if let Some(line) = fault_line(rt.alloc(), &desk, &outcome) {
+    if let Some(line) = fault {
         let _ = eprintln!(rt; "ioam: {line}");
     }
     ExitCode::from(status(&outcome))
