@@ -2,7 +2,7 @@
 -- and size; a link leads to the next node, its delay later and with the hop limit one less (RFC 8200 section 3), and a port leads out
 -- of the domain. A packet that is enclosed goes by its outer header: the node where it enters its tunnel sends it with the flow's hop
 -- limit, the node where the tunnel ends takes it out, and by that node's ports alone it leaves (RFC 2473 section 3).
-use Rattle.std.specs.Prelude.{◌≡◌, ℕ, ◌+◌, ◌-◌, Bool, true, false, nat_eq, is_some, if◌then◌else◌, List, [], ◌∷◌, Option, Some, None, option_map, slice_get, Result, Ok, Err}
+use Rattle.std.specs.Prelude.{◌≡◌, ℕ, ◌+◌, ◌-◌, true, false, nat_eq, if◌then◌else◌, List, [], ◌∷◌, Option, Some, None, option_map, slice_get, Result, Ok, Err}
 use Rattle.ioam_topo.specs.declared.domain.Domain.{Domain}
 use Rattle.ioam_topo.specs.declared.parts.Link.{Link}
 use Rattle.ioam_topo.specs.declared.ids.NodeId.{NodeId}
@@ -19,7 +19,6 @@ use Rattle.ioam_plan.specs.declared.itinerary.Itinerary.{Itinerary}
 use Rattle.ioam_plan.specs.declared.itinerary.Visit.{Visit}
 use Rattle.ioam_plan.specs.declared.itinerary.End.{End}
 use Rattle.ioam_plan.specs.declared.itinerary.End.TheVariants.{Left, Drop}
-use Rattle.ioam_plan.specs.declared.stage.Entry.{Entry}
 use Rattle.ioam_plan.specs.declared.stage.Inside.{Inside}
 use Rattle.ioam_plan.specs.declared.stage.Spot.{Spot}
 use Rattle.ioam_plan.specs.declared.stage.Stage.{Stage}

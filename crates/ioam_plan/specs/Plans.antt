@@ -1,7 +1,6 @@
 -- What is planned for a frame that arrives at a port, by what was answered of it there and by what was enclosed before.
-use Rattle.std.specs.Prelude.{◌≡◌, ℕ, ◌-◌, ◌<◌, ⊤, false, List, [], Option, Some, None, IsSomeAnd, is_some, length, slice_get}
+use Rattle.std.specs.Prelude.{◌≡◌, ℕ, ◌-◌, false, List, [], Option, Some, None, IsSomeAnd, is_some, length, slice_get}
 use Rattle.ioam_clock.specs.declared.sample.Sample.{Sample}
-use Rattle.ioam_ip.specs.Packet.{IsPacket}
 use Rattle.ioam_ip.specs.Header.{HasFields}
 use Rattle.ioam_ip.specs.declared.packet.Header.{Header}
 use Rattle.ioam_topo.specs.declared.domain.Domain.{Domain}
@@ -34,24 +33,23 @@ start_of port time hops = record { node = port.node; inward = port.id; time = ti
 -- ---- a packet that isn't enclosed
 
 -- it goes by its own target and length
-abbrev pub plain_trip : Header → List ℕ → Trip
-plain_trip header packet = record { target = header.target; size = length packet; inside = None }
+abbrev pub plain_trip : ℕ → List ℕ → Trip
+plain_trip target packet = record { target = target; size = length packet; inside = None }
 
 -- its own journey, from its port on
 pub record PlansPacket (domain : Domain) (port : Port) (time : ℕ) (packet : List ℕ) (itinerary : Itinerary) : Type 0 where
   pub header : Header
   pub fields : HasFields packet header
-  pub journey : Journey domain (plain_trip header packet) (At (start_of port time header.hops)) itinerary
+  pub journey : Journey domain (plain_trip header.target packet) (At (start_of port time header.hops)) itinerary
 
 -- ---- a packet that is to be enclosed in a flow
 
--- the outer packet goes by the exit's address and its own length; inside, the packet has its target and the hop limit that the
--- entry node leaves it
-abbrev pub flow_trip : Domain → FlowId → Flow → Numbers → Header → List ℕ → Trip
-flow_trip domain id flow numbers header packet = record {
+-- the outer packet goes by the exit's address and its own length; inside, the packet has its target, and its hop limit one less
+abbrev pub flow_trip : Domain → FlowId → Flow → Numbers → ℕ → ℕ → List ℕ → Trip
+flow_trip domain id flow numbers target hops packet = record {
   target = address_at domain flow.exit;
   size = outer_size flow (length packet) (is_some numbers.direct) (is_some numbers.limit);
-  inside = Some (record { flow = id; numbers = numbers; exit = flow.exit; target = header.target; hops = header.hops - 1 });
+  inside = Some (record { flow = id; numbers = numbers; exit = flow.exit; target = target; hops = hops - 1 });
 }
 
 -- the outer packet has the flow's hop limit, and it may be that the packet's encapsulation limit forbids it
@@ -63,7 +61,7 @@ pub record PlansFlow (domain : Domain) (readings : List (List Sample)) (number :
     (packet : List ℕ) (found : Option ℕ) (itinerary : Itinerary) : Type 0 where
   pub header : Header
   pub fields : HasFields packet header
-  pub journey : Journey domain (flow_trip domain id flow (numbers_of domain readings flow number found time) header packet)
+  pub journey : Journey domain (flow_trip domain id flow (numbers_of domain readings flow number found time) header.target header.hops packet)
       (Enter (start_of port time header.hops) (entry_of flow found)) itinerary
 
 -- ---- a frame that is dropped where it arrives

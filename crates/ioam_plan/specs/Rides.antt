@@ -3,7 +3,6 @@ use Rattle.std.specs.Prelude.{◌≡◌, ◌<◌, ◌≤◌, ◌+◌, ◌-◌, �
 use Rattle.ioam_ip.specs.Packet.{IsPacket}
 use Rattle.ioam_topo.specs.declared.domain.Domain.{Domain}
 use Rattle.ioam_topo.specs.declared.ids.FlowId.{FlowId}
-use Rattle.ioam_topo.specs.declared.ids.Way.{Way}
 use Rattle.ioam_topo.specs.Domain.{nodes, links, ports, flows}
 use Rattle.ioam_topo.specs.Forward.{IsWayFrom}
 use Rattle.ioam_tunnel.specs.Enclosed.{MayEnclose}

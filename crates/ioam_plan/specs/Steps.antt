@@ -1,5 +1,5 @@
 -- What is true of a packet at each stage of its journey.
-use Rattle.std.specs.Prelude.{◌≡◌, ⊤, ℕ, ◌+◌, ◌-◌, ◌*◌, ◌^◌, ◌<◌, ◌≤◌, Bool, true, false, if◌then◌else◌, List, [], ◌∷◌, ◌++◌, length, Option, Some, None, IsSome, All}
+use Rattle.std.specs.Prelude.{◌≡◌, ℕ, ◌+◌, ◌-◌, ◌*◌, ◌^◌, ◌<◌, ◌≤◌, Bool, true, false, if◌then◌else◌, List, [], ◌∷◌, length, Option, Some, None, IsSome, All}
 use Rattle.ioam_topo.specs.declared.domain.Domain.{Domain}
 use Rattle.ioam_topo.specs.Domain.{nodes, ports}
 use Rattle.ioam_plan.specs.declared.itinerary.Visit.{Visit}
@@ -63,7 +63,7 @@ LedTo size (Some inside) stage visits = LedIn size stage visits
 
 -- a visit leads a packet of this size from a stage to another: by a way, or out of its tunnel
 abbrev pub Passes : ℕ → Option Inside → Visit → Stage → Stage → Type 0
-Passes size inside visit (Enter spot entry) (At next) = IsSome inside × (size ≤ 65575) × Sends visit
+Passes size inside visit (Enter spot entry) (At next) = (size ≤ 65575) × Sends visit
 Passes size inside visit (Enter spot entry) (Enter next other) = ⊥
 Passes size inside visit (Enter spot entry) (Gone port) = ⊥
 Passes size inside visit (Enter spot entry) (Out node inner) = ⊥

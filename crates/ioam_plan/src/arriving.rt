@@ -9,7 +9,7 @@ ghost use Rattle.ioam_plan.specs.Counted.{CountFor};
 ghost use Rattle.ioam_plan.specs.Inside.{StaysInside};
 ghost use Rattle.ioam_plan.specs.Rides.{Rides};
 ghost use Rattle.ioam_plan.specs.declared.itinerary.Itinerary.{Itinerary};
-ghost use Rattle.ioam_plan.specs.Plans.{Plans, PlansBy, PlansPacket, PlansFlow, PlansDrop, start_of, flow_trip};
+ghost use Rattle.ioam_plan.specs.Plans.{Plans, PlansBy, PlansPacket, PlansFlow, PlansDrop, start_of, flow_trip, entry_of};
 
 use crate::counters::Counters;
 use crate::drawing::{is_refused, numbers_of};
@@ -82,6 +82,7 @@ fn port_of(domain: &Domain, port: PortId) -> &Port
 fn flow_of(domain: &Domain, flow: FlowId) -> &Flow
     requires { flow.0 < length (flows domain.now) }
     ensures value { slice_get (flows domain.now) flow.0 ≡ Some result.now }
+    ensures exit { result.now.exit.0 < length (nodes domain.now) }
     ensures sound { IsFlow result.now }
 {
     domain.flow(flow)
@@ -116,7 +117,9 @@ fn plan_at(
             limit,
         } => {
             let number = counters.enclosed(*flow);
-            plan_flow(alloc, domain, readings, number, port, time, *flow, packet, *limit)
+            plan_flow(
+                alloc, domain, readings, number, port, time, *flow, packet, *limit,
+            )
         }
     }
 }
@@ -184,7 +187,7 @@ fn flow_trip(
     requires flow { IsFlow flow.now }
     requires exit { flow.now.exit.0 < length (nodes domain.now) }
     requires packet { length packet.now ≤ 65575 }
-    ensures { result ≡ flow_trip domain.now id flow.now numbers header.now packet.now }
+    ensures { result ≡ flow_trip domain.now id flow.now numbers header.now.target header.now.hops packet.now }
 {
     let has_direct = numbers.direct.is_some();
     let has_limit = numbers.limit.is_some();
@@ -200,6 +203,14 @@ fn flow_trip(
         size: outer_size(flow, packet.len(), has_direct, has_limit),
         inside: Some(inside),
     }
+}
+
+// What is to be known where a packet enters a flow's tunnel.
+fn entry_of(flow: &Flow, found: Option<u8>) -> Entry
+    ensures entry { result ≡ entry_of flow.now found }
+    ensures hops { result.hops < 256 }
+{
+    Entry::new(flow.hops, is_refused(flow, found))
 }
 
 // The journey of a packet that is to be enclosed in a flow, from its port on.
@@ -227,11 +238,7 @@ fn plan_flow(
     let header = header_of(packet);
     let numbers = numbers_of(domain, readings, flow, number, found, time);
     let trip = flow_trip(domain, id, flow, numbers, &header, packet);
-    let entry = Entry {
-        hops: flow.hops,
-        refused: is_refused(flow, found),
-    };
-    let start = Stage::Enter(start_of(port, time, &header), entry);
+    let start = Stage::Enter(start_of(port, time, &header), entry_of(flow, found));
     match travel(alloc, domain, &trip, start) {
         Ok(itinerary) => Ok(itinerary),
         Err(NoMemory) => Err(NoMemory),

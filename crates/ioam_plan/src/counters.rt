@@ -1,8 +1,8 @@
 //! How many packets were enclosed in each flow.
-ghost use Rattle.std.specs.Prelude.{◌≡◌, ◌+◌, ◌<◌, ◌^◌, ◌∷◌, ◌++◌, [], List, All, IfOk, IfSome, Some, length, replicate, slice_get, slice_index, slice_set};
+ghost use Rattle.std.specs.Prelude.{◌≡◌, ◌+◌, ◌<◌, ◌^◌, ◌∷◌, ◌++◌, [], List, All, IfOk, Some, length, replicate, slice_get, slice_index, slice_set};
 ghost use Rattle.ioam_topo.specs.Domain.{flows};
 ghost use Rattle.ioam_topo.specs.declared.domain.Domain.{Domain};
-ghost use Rattle.ioam_plan.specs.Counted.{CountFor};
+ghost use Rattle.ioam_plan.specs.Counted.{CountFor, CanCount};
 ghost use Rattle.ioam_plan.specs.declared.itinerary.Itinerary.{Itinerary};
 
 use crate::itinerary::Itinerary;
@@ -54,7 +54,7 @@ impl Counters {
 
     // Counts an arrival more.
     pub(crate) fn note(&mut self, itinerary: &Itinerary)
-        requires { IfSome itinerary.now.carried (λ carried. (carried.0.0 < length self.old) × (slice_index self.old carried.0.0 < 2 ^ 32)) }
+        requires { CanCount self.old itinerary.now.carried }
         ensures { (domain : Domain) (earlier : List Itinerary) → CountFor domain self.old earlier
             → CountFor domain self.new (earlier ++ itinerary.now ∷ []) }
     {

@@ -97,6 +97,16 @@ fn outward_by(domain: &Domain, way: Option<Way>) -> Option<u32>
     }
 }
 
+impl Entry {
+    pub(crate) fn new(hops: u8, refused: bool) -> Entry
+        ensures hops { result.hops ≡ hops }
+        ensures below { result.hops < 256 }
+        ensures refused { result.refused ≡ refused }
+    {
+        Entry { hops, refused }
+    }
+}
+
 impl Spot {
     // The visit there, sent on by a way, if it is.
     pub(crate) fn visit(self, domain: &Domain, way: Option<Way>) -> Visit

@@ -27,7 +27,14 @@ fn step_in(domain: &Domain, trip: &Trip, spot: Spot, entry: Entry) -> Step
     ensures step { result ≡ step_at domain.now trip.now (Stage.Enter spot entry) }
     ensures facts { StepsTo domain.now trip.now (Stage.Enter spot entry) result }
 {
-    match enter(domain, spot.node, entry.refused, spot.hops, trip.target, trip.size) {
+    match enter(
+        domain,
+        spot.node,
+        entry.refused,
+        spot.hops,
+        trip.target,
+        trip.size,
+    ) {
         Err(reason) => Step::Ends(
             End::Drop {
                 reason,
@@ -49,7 +56,14 @@ fn step_on(domain: &Domain, trip: &Trip, spot: Spot, enclosed: bool) -> Step
         (choice domain.now spot.node.0 enclosed spot.hops trip.now.target trip.now.size) }
     ensures facts { StepsTo domain.now trip.now (Stage.At spot) result }
 {
-    match choose(domain, spot.node, enclosed, spot.hops, trip.target, trip.size) {
+    match choose(
+        domain,
+        spot.node,
+        enclosed,
+        spot.hops,
+        trip.target,
+        trip.size,
+    ) {
         Err(reason) => Step::Ends(
             End::Drop {
                 reason,
