@@ -9,7 +9,8 @@ ghost use Rattle.ioam_plan.specs.Counted.{CountFor};
 ghost use Rattle.ioam_plan.specs.Inside.{StaysInside};
 ghost use Rattle.ioam_plan.specs.Rides.{Rides};
 ghost use Rattle.ioam_plan.specs.declared.itinerary.Itinerary.{Itinerary};
-ghost use Rattle.ioam_plan.specs.Plans.{Plans, PlansBy, PlansPacket, PlansFlow, PlansDrop, start_of, flow_trip, entry_of};
+ghost use Rattle.ioam_clock.specs.declared.sample.Sample.{Sample};
+ghost use Rattle.ioam_plan.specs.Plans.{IsPlain, Plans, PlansBy, PlansPacket, PlansFlow, PlansDrop, start_of, flow_trip, entry_of};
 
 use crate::counters::Counters;
 use crate::drawing::{is_refused, numbers_of};
@@ -66,6 +67,31 @@ pub fn plan(
             Ok(itinerary)
         }
         Err(NoMemory) => Err(NoMemory),
+    }
+}
+
+/// The same for a frame whose packet isn't to be enclosed: nothing is drawn for it.
+pub fn plan_plain(
+    alloc: Global,
+    domain: &Domain,
+    port: PortId,
+    time: u64,
+    admitted: &Admit<'_>,
+) -> Result<Itinerary, NoMemory>
+    requires port { port.0 < length (ports domain.now) }
+    requires time { time < 2 ^ 62 }
+    requires plain { IsPlain admitted.now }
+    requires packet { HoldsPacket admitted.now }
+    ensures plans { (readings : List (List Sample)) (earlier : List Itinerary)
+        → IfOk result (Plans domain.now readings earlier port time admitted.now) }
+    ensures rides { IfOk result (Rides domain.now (packet_of admitted.now)) }
+    ensures inside { IfOk result (StaysInside domain.now) }
+{
+    let port = port_of(domain, port);
+    match admitted {
+        Admit::Plain { packet } => plan_packet(alloc, domain, port, time, packet),
+        Admit::Drop(reason) => Ok(dropped(alloc, domain, port, *reason)),
+        Admit::Enclose { .. } => unreachable!(),
     }
 }
 

@@ -1,4 +1,4 @@
-ghost use Rattle.std.specs.Prelude.{◌≡◌};
+ghost use Rattle.std.specs.Prelude.{◌≡◌, ◌≤◌, length};
 ghost use Rattle.ioam_plan.specs.Journey.{carried_by};
 
 use crate::stage::Inside;
@@ -32,6 +32,7 @@ pub enum End {
 #[derive(Debug, Drop)]
 pub struct Visits {
     held: Vec<Visit>,
+    ghost few: { length held.items ≤ 256 },
 }
 
 impl Model for Visits {
@@ -44,9 +45,10 @@ impl Model for Visits {
 }
 
 impl Visits {
-    /// The visits.
+    /// The visits, at most 256.
     pub fn list(&self) -> &[Visit]
-        ensures { result.now ≡ self.now }
+        ensures visits { result.now ≡ self.now }
+        ensures few { length self.now ≤ 256 }
     {
         self.held.as_slice()
     }
@@ -89,6 +91,7 @@ impl Itinerary {
         exited: bool,
         inside: Option<Inside>,
     ) -> Itinerary
+        requires { length visits.items ≤ 256 }
         ensures visits { result.visits ≡ visits.items }
         ensures end { result.end ≡ end }
         ensures exited { result.exited ≡ exited }

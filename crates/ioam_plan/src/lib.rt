@@ -11,6 +11,6 @@ mod planning;
 mod stage;
 mod stepping;
 
-pub use arriving::plan;
+pub use arriving::{plan, plan_plain};
 pub use counters::Counters;
 pub use itinerary::{End, Itinerary, Visit, Visits};

@@ -20,6 +20,7 @@ pub(crate) fn travel(
     start: Stage,
 ) -> Result<Itinerary, NoMemory>
     requires here { IsHere domain.now start }
+    requires few { left start ≤ 255 }
     requires led { LedTo trip.now.size trip.now.inside start [] }
     ensures journey { IfOk result (Journey domain.now trip.now start) }
     ensures visits { IfOk result (λ it. All (IsVisitIn domain.now) it.visits) }
