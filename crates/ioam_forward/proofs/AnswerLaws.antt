@@ -10,7 +10,7 @@ use Rattle.ioam_node.specs.declared.reason.Reason.{Reason}
 use Rattle.ioam_plan.specs.Plans.{PlansBy, IsPlain}
 use Rattle.ioam_plan.specs.declared.itinerary.Itinerary.{Itinerary}
 use Rattle.ioam_plan.specs.declared.itinerary.End.{End}
-use Rattle.ioam_plan.specs.declared.itinerary.End.TheVariants.{Left, Drop}
+use Rattle.ioam_plan.specs.declared.itinerary.End.TheVariants.{Drop}
 use Rattle.ioam_topo.specs.Domain.{flows}
 use Rattle.ioam_topo.specs.Finding.{flow_at}
 use Rattle.ioam_topo.specs.declared.domain.Domain.{Domain}

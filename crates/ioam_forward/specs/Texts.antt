@@ -1,5 +1,5 @@
 -- What the outputs of a run are told of the arrivals: one capture a port, and the report.
-use Rattle.std.specs.Prelude.{ℕ, zero, suc, ◌+◌, ◌-◌, nat_eq, if◌then◌else◌, List, [], ◌∷◌, ◌++◌, length, map, slice_index}
+use Rattle.std.specs.Prelude.{ℕ, zero, suc, ◌+◌, nat_eq, if◌then◌else◌, List, [], ◌∷◌, ◌++◌, length, map}
 use Rattle.std.specs.List.{flat_map}
 use Rattle.ioam_ip.specs.Lowered.{lowered}
 use Rattle.ioam_pcap.specs.Text.{Sent, records_text, capture_text}

@@ -4,7 +4,7 @@ use Rattle.ioam_node.specs.Admission.{Admits}
 use Rattle.ioam_topo.specs.Domain.{ports}
 use Rattle.ioam_forward.specs.Fate.{packet_of}
 use Rattle.ioam_forward.specs.Texts.{added_by}
-use Rattle.ioam_forward.proofs.AnswerLaws.{answer-within, answer-plannable}
+use Rattle.ioam_forward.proofs.AnswerLaws.{answer-within, answer-plannable, plan-drops}
 use Rattle.ioam_forward.proofs.TextsLaws.{Forwards-push, IsOf-push}
 use Rattle.ioam_forward.proofs.forwarding.Forwarding.take.Goals as goal
 
@@ -16,6 +16,10 @@ pub put_fate-requires-clause-short : goal.put_fate-requires-clause-short
 put_fate-requires-clause-short c =
     let within = answer-within c.args.domain.now _ c.args.ethernet _ c.args.captured.now.octets.now c.admit-admitted.result c.admit-admitted.ensures.admits in
     omega (arith, within, c.requires.short)
+
+pub put_fate-requires-clause-drops : goal.put_fate-requires-clause-drops
+put_fate-requires-clause-drops c = plan-drops c.args.domain.now (slice_get (ports c.args.domain.now) c.args.port.0) c.args.captured.now.time
+    c.admit-admitted.result c.in_ok-itinerary.itinerary (c.in_ok-itinerary.ensures.plans [] [])
 
 pub returns-clause-of : goal.returns-clause-of
 returns-clause-of c = (IsOf-push c.args.domain.now c.args.self.now (record { sums = c.note.new.self }) c.in_ok-itinerary.itinerary
