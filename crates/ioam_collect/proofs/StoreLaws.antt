@@ -13,7 +13,11 @@ use Rattle.ioam_pool.specs.Entry.{Entry, bare}
 use Rattle.ioam_pool.specs.Order.{order, placed, without, Repeats, Replaces}
 use Rattle.ioam_pool.specs.Chains.{Chains, chain_of, total}
 use Rattle.ioam_pool.proofs.OrderLaws.{order_total, order_same}
-use Rattle.ioam_collect.specs.Keyed.{key_cmp}
+use Rattle.std.specs.declared.cmp.Ordering.{Ordering}
+use Rattle.std.specs.declared.cmp.Ordering.TheVariants.{Less, Equal, Greater}
+use Rattle.ioam_pool.specs.Order.{placed_by}
+use Rattle.std.proofs.Common.{filter, not}
+use Rattle.ioam_collect.specs.Keyed.{key_cmp, IsOfRecord}
 use Rattle.ioam_collect.specs.Puts.{Puts}
 use Rattle.ioam_collect.specs.Gathered.{Gathered, group_in}
 use Rattle.ioam_collect.specs.Inside.{gathered, IsStore}
@@ -71,6 +75,25 @@ pub same_gathered : (pool new : Chains) (chains : BTreeMap Key ℕ) (limit : ℕ
 same_gathered pool new chains limit same =
     ap (λ (cs : List (List Entry)). gathered (record { chains = cs; capacity = 0 }) chains limit) same
 
+-- each item is of a record, with one more and with one less
+placed_by-all : (P : Entry → Type 0) (o : Ordering) (x y : Entry) (ys more : List Entry) → P x → P y → AllByRecursion P ys → AllByRecursion P more
+    → AllByRecursion P (placed_by o x y ys more)
+placed_by-all P Less x y ys more px py all rest = (px, (py, all))
+placed_by-all P Equal x y ys more px py all rest = (py, all)
+placed_by-all P Greater x y ys more px py all rest = (py, rest)
+
+placed-all : (P : Entry → Type 0) (x : Entry) (ys : List Entry) → P x → AllByRecursion P ys → AllByRecursion P (placed order x ys)
+placed-all P x [] px all = (px, tt)
+placed-all P x (y ∷ ys) px all = placed_by-all P (order x y) x y ys (placed order x ys) px all.0 all.1 (placed-all P x ys px all.1)
+
+keep-all : (P : Entry → Type 0) (b : Bool) (y : Entry) (ys : List Entry) → P y → AllByRecursion P ys → AllByRecursion P (cond b (y ∷ ys) ys)
+keep-all P true y ys py all = (py, all)
+keep-all P false y ys py all = all
+
+without-all : (P : Entry → Type 0) (x : Entry) (ys : List Entry) → AllByRecursion P ys → AllByRecursion P (without x ys)
+without-all P x [] all = tt
+without-all P x (y ∷ ys) all = keep-all P (not (is_eq (order y x))) y (without x ys) all.0 (without-all P x ys all.1)
+
 -- one chain has other items
 module _ (pool new : Chains) (c : ℕ) (items : List Entry) (lt : c < length pool.chains) (turned : new.chains ≡ set pool.chains c items) where
   turned_length : length new.chains ≡ length pool.chains
@@ -86,6 +109,11 @@ module _ (pool new : Chains) (c : ℕ) (items : List Entry) (lt : c < length poo
   turned_some some d was (inl same) none = some (sym turned_here ∙ ap (chain_of new) (sym same) ∙ none)
   turned_some some d was (inr other) none = was other (sym (turned_other d other) ∙ none)
 
+  turned_each : AllByRecursion IsOfRecord items → (d : ℕ) → (d ≢ c → AllByRecursion IsOfRecord (chain_of pool d)) → (d ≡ c) ⊎ (d ≢ c)
+      → AllByRecursion IsOfRecord (chain_of new d)
+  turned_each all d was (inl same) = subst (AllByRecursion IsOfRecord) (sym (ap (chain_of new) same ∙ turned_here)) all
+  turned_each all d was (inr other) = subst (AllByRecursion IsOfRecord) (sym (turned_other d other)) (was other)
+
 -- a pool whose chains are as before
 pub same_inside : (pool new : Chains) (chains : BTreeMap Key ℕ) (spare : Option ℕ) (limit : ℕ) → IsStore pool chains spare limit
     → new.chains ≡ pool.chains → new.capacity ≤ limit → IsStore new chains spare limit
@@ -98,6 +126,7 @@ same_inside pool new chains spare limit i same within =
       below = λ key c is. rw lengths (i.below key c is);
       one = i.one;
       some = λ key c is none. i.some key c is (ap (λ (cs : List (List Entry)). get_or cs c []) (sym same) ∙ none);
+      each = λ key c is. subst (AllByRecursion IsOfRecord) (ap (λ (cs : List (List Entry)). get_or cs c []) (sym same)) (i.each key c is);
       left = record {
         below = λ c is. rw lengths (i.left.below c is);
         empty = λ c is. ap (λ (cs : List (List Entry)). get_or cs c []) same ∙ i.left.empty c is;
@@ -115,7 +144,7 @@ module _ (pool new : Chains) (chains : BTreeMap Key ℕ) (spare : Option ℕ) (l
   there : c < length pool.chains
   there = i.below key c is
 
-  module _ (items : List Entry) (some : items ≢ []) (turned : new.chains ≡ set pool.chains c items) (least : total pool ≤ total new) (most : total new ≤ limit) where
+  module _ (items : List Entry) (some : items ≢ []) (all : AllByRecursion IsOfRecord items) (turned : new.chains ≡ set pool.chains c items) (least : total pool ≤ total new) (most : total new ≤ limit) where
     turned_inside : IsStore new chains spare limit
     turned_inside =
         let lengths = turned_length pool new c items there turned in
@@ -124,6 +153,7 @@ module _ (pool new : Chains) (chains : BTreeMap Key ℕ) (spare : Option ℕ) (l
           below = λ k d at. rw lengths (i.below k d at);
           one = i.one;
           some = λ k d at. turned_some pool new c items there turned some d (λ other. i.some k d at) (cases_eq d c);
+          each = λ k d at. turned_each pool new c items there turned all d (λ other. i.each k d at) (cases_eq d c);
           left = record {
             below = λ d at. rw lengths (i.left.below d at);
             empty = λ d at. turned_other pool new c items there turned d (λ same. i.left.free d at key (rw same is)) ∙ i.left.empty d at;
@@ -152,7 +182,7 @@ module _ (pool new : Chains) (chains : BTreeMap Key ℕ) (spare : Option ℕ) (l
   group_was : group_at pool chains limit key ≡ chain_of pool c
   group_was = group_some pool chains limit key c is
 
-  module _ (item : Entry) where
+  module _ (item : Entry) (of_record : IsOfRecord item) where
     abbrev one_more : List Entry
     one_more = placed order item (chain_of pool c)
 
@@ -165,19 +195,25 @@ module _ (pool new : Chains) (chains : BTreeMap Key ℕ) (spare : Option ℕ) (l
     other_some : other_one ≢ []
     other_some = placed-some order order_total order_same item (without (bare item) (chain_of pool c))
 
+    one_all : AllByRecursion IsOfRecord one_more
+    one_all = placed-all IsOfRecord item (chain_of pool c) of_record (i.each key c is)
+
+    other_all : AllByRecursion IsOfRecord other_one
+    other_all = placed-all IsOfRecord item (without (bare item) (chain_of pool c)) of_record (without-all IsOfRecord (bare item) (chain_of pool c) (i.each key c is))
+
     pub put_adds : {E : Type 0} (r : Result Added E) → Puts pool limit c item r new
         → IsStore new chains spare limit × Adds (gathered pool chains limit) key item r (gathered new chains limit)
     put_adds (Ok Kept) puts =
         let below = puts.2 in
         let one = puts.4 in (
-          turned_inside one_more one_some puts.3 (omega arith) (omega arith),
-          (rw group_was puts.0, rw group_was puts.1, below, rw group_was (turns one_more one_some puts.3 (omega arith) (omega arith)), one),
+          turned_inside one_more one_some one_all puts.3 (omega arith) (omega arith),
+          (rw group_was puts.0, rw group_was puts.1, below, rw group_was (turns one_more one_some one_all puts.3 (omega arith) (omega arith)), one),
         )
     put_adds (Ok Replaced) puts =
         let same = puts.3 in
         let held = i.held in (
-          turned_inside other_one other_some puts.2 (omega arith) (omega arith),
-          (rw group_was puts.0, rw group_was puts.1, rw group_was (turns other_one other_some puts.2 (omega arith) (omega arith)), same),
+          turned_inside other_one other_some other_all puts.2 (omega arith) (omega arith),
+          (rw group_was puts.0, rw group_was puts.1, rw group_was (turns other_one other_some other_all puts.2 (omega arith) (omega arith)), same),
         )
     put_adds (Ok Repeat) puts = (same_inside pool new chains spare limit i puts.1 within, (rw group_was puts.0, same_gathered pool new chains limit puts.1))
     put_adds (Ok Unkeyed) puts = absurd puts
@@ -188,7 +224,7 @@ module _ (pool new : Chains) (chains : BTreeMap Key ℕ) (spare : Option ℕ) (l
 -- the first item of a key
 module _ (pool new : Chains) (chains chains' : BTreeMap Key ℕ) (limit : ℕ) (key : Key) (c : ℕ) (i : IsStore pool chains (Some c) limit)
     (none : get key_cmp chains key ≡ None) (updates : (q : Key) → get key_cmp chains' q ≡ cond (is_eq (key_cmp key q)) (Some c) (get key_cmp chains q))
-    (item : Entry) (within : new.capacity ≤ limit) (below : total pool < limit)
+    (item : Entry) (of_record : IsOfRecord item) (within : new.capacity ≤ limit) (below : total pool < limit)
     (turned : new.chains ≡ set pool.chains c (placed order item (chain_of pool c))) (one : total new ≡ total pool + 1) where
   abbrev items : List Entry
   items = placed order item (chain_of pool c)
@@ -222,6 +258,13 @@ module _ (pool new : Chains) (chains chains' : BTreeMap Key ℕ) (limit : ℕ) (
   some_by q d at (inl same) other = absurd (other (is_c q d at same))
   some_by q d at (inr isnt) other = i.some q d (sym (at_other q isnt) ∙ at)
 
+  each_by : (q : Key) (d : ℕ) → get key_cmp chains' q ≡ Some d → (key ≡ q) ⊎ (is_eq (key_cmp key q) ≡ false) → d ≢ c → AllByRecursion IsOfRecord (chain_of pool d)
+  each_by q d at (inl same) other = absurd (other (is_c q d at same))
+  each_by q d at (inr isnt) other = i.each q d (sym (at_other q isnt) ∙ at)
+
+  items_all : AllByRecursion IsOfRecord items
+  items_all = placed-all IsOfRecord item (chain_of pool c) of_record (subst (AllByRecursion IsOfRecord) (sym (i.left.empty c refl)) tt)
+
   items_some : items ≢ []
   items_some = placed-some order order_total order_same item (chain_of pool c)
 
@@ -233,6 +276,7 @@ module _ (pool new : Chains) (chains chains' : BTreeMap Key ℕ) (limit : ℕ) (
         below = λ q d at. rw lengths (below_by q d at (key_or_not key q));
         one = λ p q d a b. one_by p q d a b (key_or_not key p) (key_or_not key q);
         some = λ q d at. turned_some pool new c items there' turned items_some d (some_by q d at (key_or_not key q)) (cases_eq d c);
+        each = λ q d at. turned_each pool new c items there' turned items_all d (each_by q d at (key_or_not key q)) (cases_eq d c);
         left = record {
           below = λ d at. absurd (cc at);
           empty = λ d at. absurd (cc at);
@@ -298,6 +342,7 @@ module _ (pool new : Chains) (chains : BTreeMap Key ℕ) (limit : ℕ) (i : IsSt
         below = λ key c is. let lt = i.below key c is in omega arith;
         one = i.one;
         some = λ key c is none. i.some key c is (sym (spare_chain c) ∙ none);
+        each = λ key c is. subst (AllByRecursion IsOfRecord) (sym (spare_chain c)) (i.each key c is);
         left = record {
           below = λ c is. let at : length pool.chains ≡ c = cc is in omega arith;
           empty = λ c is. let at : length pool.chains ≡ c = cc is in let past : length pool.chains ≤ c = omega arith in spare_chain c ∙ get_or_past pool.chains c [] past;
@@ -341,3 +386,9 @@ pub shown_some : (pool : Chains) (chains : BTreeMap Key ℕ) (spare : Option ℕ
     → AllByRecursion (λ (group : Key × List Entry). group.1 ≢ []) (map (λ e. (e.0, chain_of pool e.1)) es)
 shown_some pool chains spare limit i [] found = tt
 shown_some pool chains spare limit i (e ∷ es) found = (i.some e.0 e.1 found.0, shown_some pool chains spare limit i es found.1)
+
+pub shown_each : (pool : Chains) (chains : BTreeMap Key ℕ) (spare : Option ℕ) (limit : ℕ) → IsStore pool chains spare limit
+    → (es : List (Key × ℕ)) → AllByRecursion (λ e. get key_cmp chains e.0 ≡ Some e.1) es
+    → AllByRecursion (λ (group : Key × List Entry). AllByRecursion IsOfRecord group.1) (map (λ e. (e.0, chain_of pool e.1)) es)
+shown_each pool chains spare limit i [] found = tt
+shown_each pool chains spare limit i (e ∷ es) found = (i.each e.0 e.1 found.0, shown_each pool chains spare limit i es found.1)

@@ -2,7 +2,8 @@
 use Rattle.std.specs.Prelude.{◌≡◌, ◌≢◌, ℕ, ◌+◌, ◌<◌, ◌≤◌, ◌^◌, [], length, map, Option, None, Some}
 use Rattle.std.specs.BTreeMap.{BTreeMap, get}
 use Rattle.ioam_pool.specs.Chains.{Chains, chain_of, total}
-use Rattle.ioam_collect.specs.Keyed.{key_cmp}
+use Rattle.std.specs.List.{AllByRecursion}
+use Rattle.ioam_collect.specs.Keyed.{key_cmp, IsOfRecord}
 use Rattle.ioam_collect.specs.Gathered.{Gathered}
 use Rattle.ioam_collect.specs.declared.key.Key.{Key}
 
@@ -24,6 +25,7 @@ pub record IsStore (pool : Chains) (chains : BTreeMap Key ℕ) (spare : Option �
   pub below : (key : Key) (c : ℕ) → get key_cmp chains key ≡ Some c → c < length pool.chains
   pub one : (key other : Key) (c : ℕ) → get key_cmp chains key ≡ Some c → get key_cmp chains other ≡ Some c → key ≡ other
   pub some : (key : Key) (c : ℕ) → get key_cmp chains key ≡ Some c → chain_of pool c ≢ []
+  pub each : (key : Key) (c : ℕ) → get key_cmp chains key ≡ Some c → AllByRecursion IsOfRecord (chain_of pool c)
   pub left : IsSpare pool chains spare
   pub capacity : pool.capacity ≤ limit
   pub held : total pool ≤ limit

@@ -4,7 +4,7 @@ use Rattle.std.specs.Ordering.{nat_cmp, ordering_then}
 use Rattle.std.specs.declared.cmp.Ordering.{Ordering}
 use Rattle.ioam_data.specs.Fields.{fields_of}
 use Rattle.ioam_data.specs.Kind.{words}
-use Rattle.ioam_dex.specs.Record.{Record, record_octets}
+use Rattle.ioam_dex.specs.Record.{Record, Rec, record_octets}
 use Rattle.ioam_dex.specs.Visit.{visit_octets}
 use Rattle.ioam_pool.specs.Entry.{Entry}
 use Rattle.ioam_collect.specs.declared.key.Key.{Key}
@@ -51,3 +51,7 @@ with_keyed (Some p) ps = p ∷ ps
 abbrev pub keyed : List Record → List (Key × Entry)
 keyed [] = []
 keyed (x ∷ xs) = with_keyed (keyed_of x) (keyed xs)
+
+-- the core of an item is a record
+abbrev pub IsOfRecord : Entry → Type 0
+IsOfRecord e = (x : Record) × Rec e.core x

@@ -1,6 +1,6 @@
 ghost use Rattle.std.specs.Prelude.{◌≡◌, ◌<◌, Some, None, IfOk};
 ghost use Rattle.std.specs.BTreeMap.{get};
-ghost use Rattle.ioam_collect.specs.Keyed.{key_cmp};
+ghost use Rattle.ioam_collect.specs.Keyed.{key_cmp, IsOfRecord};
 ghost use Rattle.ioam_collect.specs.Inside.{IsStore, gathered};
 ghost use Rattle.ioam_collect.specs.Adds.{Adds};
 
@@ -43,6 +43,7 @@ pub(crate) fn add_first(
     item: Item,
 ) -> Result<Added, NoMemory>
     requires inside { IsStore pool.old chains.old spare.old limit }
+    requires of_record { IsOfRecord item }
     requires absent { get key_cmp chains.old key ≡ None }
     ensures inside { IsStore pool.new chains.new spare.new limit }
     ensures adds { Adds (gathered pool.old chains.old limit) key item result (gathered pool.new chains.new limit) }

@@ -3,7 +3,7 @@ ghost use Rattle.std.specs.List.{AllByRecursion};
 ghost use Rattle.std.specs.Map.{keys_of};
 ghost use Rattle.std.specs.List.Sorted.{IsStrictlySortedBy};
 ghost use Rattle.ioam_dex.specs.Record.{Record, HasItsParts, record_of};
-ghost use Rattle.ioam_collect.specs.Keyed.{key_cmp, keyed};
+ghost use Rattle.ioam_collect.specs.Keyed.{key_cmp, keyed, IsOfRecord};
 ghost use Rattle.ioam_collect.specs.Best.{groups_of};
 
 use crate::grouping::Groups;
@@ -84,6 +84,7 @@ impl Collector {
 
     // Adds the item of a record under its key.
     fn add_keyed(&mut self, key: Key, item: Item) -> Result<Added, NoMemory>
+        requires { IsOfRecord item }
         ensures { AddsPair self.old (key, item) result self.new }
     {
         let added = self.store.add(key, item)?;
@@ -112,6 +113,8 @@ impl Collector {
         ensures groups { result ≡ self.now.groups }
         ensures in_order { IsStrictlySortedBy key_cmp (keys_of self.now.groups) }
         ensures some { AllByRecursion (λ group. group.1 ≢ []) self.now.groups }
+        // The core of each item is a record, whose contents `export_of` gives.
+        ensures each { AllByRecursion (λ group. AllByRecursion IsOfRecord group.1) self.now.groups }
         // They are the groups of the records that the collector stands for.
         ensures exact { (xs : List Record) → Stands self.now xs → result ≡ groups_of (keyed xs) }
     {

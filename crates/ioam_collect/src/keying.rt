@@ -1,7 +1,7 @@
-ghost use Rattle.std.specs.Prelude.{◌≡◌, ◌+◌, ◌≤◌, length};
+ghost use Rattle.std.specs.Prelude.{◌≡◌, ◌+◌, ◌≤◌, length, IfSome};
 ghost use Rattle.ioam_dex.specs.Record.{HasItsParts, record_of};
 ghost use Rattle.ioam_dex.specs.Visit.{visit_octets};
-ghost use Rattle.ioam_collect.specs.Keyed.{hops_of, core_of, item_of, keyed_of};
+ghost use Rattle.ioam_collect.specs.Keyed.{hops_of, item_of, keyed_of, IsOfRecord};
 
 use crate::key::Key;
 use ioam_base::buffer::Buffer;
@@ -45,6 +45,7 @@ fn item_of(hops: u8, export: &Export<'_>, room: &mut ExportRoom) -> Item
     requires parts { HasItsParts (record_of export.now) }
     requires room { 274 ≤ room.old.spare + length room.old.octets }
     ensures item { result ≡ item_of hops (record_of export.now) }
+    ensures of_record { IsOfRecord result }
     ensures room { room.new.spare + length room.new.octets ≡ room.old.spare + length room.old.octets }
 {
     let core = Export {
@@ -68,6 +69,7 @@ pub(crate) fn keyed(export: &Export<'_>, room: &mut ExportRoom) -> Option<(Key, 
     requires parts { HasItsParts (record_of export.now) }
     requires room { 274 ≤ room.old.spare + length room.old.octets }
     ensures keyed { result ≡ keyed_of (record_of export.now) }
+    ensures of_record { IfSome result (λ found. IsOfRecord found.1) }
     ensures room { room.new.spare + length room.new.octets ≡ room.old.spare + length room.old.octets }
 {
     let flow = export.flow?;

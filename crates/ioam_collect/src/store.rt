@@ -2,7 +2,7 @@ ghost use Rattle.std.specs.Prelude.{◌≡◌, ◌≢◌, ◌^◌, ◌<◌, [], 
 ghost use Rattle.std.specs.List.{AllByRecursion};
 ghost use Rattle.std.specs.Map.{keys_of};
 ghost use Rattle.std.specs.List.Sorted.{IsStrictlySortedBy};
-ghost use Rattle.ioam_collect.specs.Keyed.{key_cmp};
+ghost use Rattle.ioam_collect.specs.Keyed.{key_cmp, IsOfRecord};
 
 use crate::adding::add_first;
 use crate::grouping::Groups;
@@ -63,6 +63,7 @@ impl Store {
 
     // Adds an item to the group of its key.
     pub(crate) fn add(&mut self, key: Key, item: Item) -> Result<Added, NoMemory>
+        requires { IsOfRecord item }
         ensures adds { Adds self.old key item result self.new }
         ensures is_of { IsOf self.old key item result self.new }
     {
@@ -70,6 +71,7 @@ impl Store {
     }
 
     fn add_one(&mut self, key: Key, item: Item) -> Result<Added, NoMemory>
+        requires { IsOfRecord item }
         ensures { Adds self.old key item result self.new }
     {
         let chain = self.chains.get(&key).copied();
@@ -91,6 +93,7 @@ impl Store {
         ensures groups { result ≡ self.now.groups }
         ensures in_order { IsStrictlySortedBy key_cmp (keys_of self.now.groups) }
         ensures some { AllByRecursion (λ group. group.1 ≢ []) self.now.groups }
+        ensures each { AllByRecursion (λ group. AllByRecursion IsOfRecord group.1) self.now.groups }
     {
         Groups {
             entries: self.chains.iter(),

@@ -7,9 +7,9 @@ put-requires-clause-there c = c.self.invariant.below c.args.key c.in-Some.chain 
 
 pub invariant_of-self : goal.invariant_of-self
 invariant_of-self c =
-    (put_adds _ _ _ _ _ c.self.invariant c.args.key _ (sym c.get.ensures.value ∙ sym c.in-Some.ensures) c.put.ensures.within _ _ c.put.ensures.puts).0
+    (put_adds _ _ _ _ _ c.self.invariant c.args.key _ (sym c.get.ensures.value ∙ sym c.in-Some.ensures) c.put.ensures.within _ c.requires _ c.put.ensures.puts).0
 
 pub returns-in-Some : goal.returns-in-Some
 returns-in-Some c =
     rw (← c.self.view_is)
-    (put_adds _ _ _ _ _ c.self.invariant c.args.key _ (sym c.get.ensures.value ∙ sym c.in-Some.ensures) c.put.ensures.within _ _ c.put.ensures.puts).1
+    (put_adds _ _ _ _ _ c.self.invariant c.args.key _ (sym c.get.ensures.value ∙ sym c.in-Some.ensures) c.put.ensures.within _ c.requires _ c.put.ensures.puts).1
