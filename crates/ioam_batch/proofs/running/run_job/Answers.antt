@@ -16,7 +16,7 @@ returns-then-job c =
     c.send_out.ensures.ahead c.send_out.ensures.kept c.send_out.ensures.given
     (λ tunnel is so.
     let P : List Visit → Type 0 = λ vs. RanBy c.args.domain.now c.args.readings.now tunnel true vs after c.send_out.new.crossings.past c.send_out.new.room in
-    subst P c.list-visits.ensures (c.send_out.ensures.exited tunnel is so))
+    subst P c.list-visits.ensures.visits (c.send_out.ensures.exited tunnel is so))
 
 pub returns-else-job : goal.returns-else-job
 returns-else-job c =
@@ -31,4 +31,4 @@ returns-else-job c =
     c.send.ensures.kept c.send.ensures.given
     (λ tunnel is so.
     let P : List Visit → Type 0 = λ vs. RanBy c.args.domain.now c.args.readings.now tunnel false vs after c.send.new.crossings.past c.send.new.room in
-    subst P (take_all (length visits) visits (omega arith) ∙ c.list-visits.ensures) (c.send.ensures.sent tunnel is so))
+    subst P (take_all (length visits) visits (omega arith) ∙ c.list-visits.ensures.visits) (c.send.ensures.sent tunnel is so))
