@@ -2,7 +2,7 @@
 use Rattle.std.proofs.lemmas.Bool.{cases_eq, ne_eqb}
 use Rattle.std.proofs.Common.{◌≡◌, ◌≢◌, ◌⊎◌, inl, inr, false, ◌==◌, ℕ, ◌+◌, ◌<◌, ◌≤◌, List, [], ◌∷◌, ◌++◌, length, map, refl, sym, ap, ◌∙◌, arith, get_or, Option, None, Some, length-append, append_assoc}
 use Rattle.std.specs.List.{AllByRecursion}
-use Rattle.std.proofs.lemmas.List.{get_or_default}
+use Rattle.std.proofs.lemmas.List.{get_or_default, length-map}
 use Rattle.std.specs.declared.cmp.Ordering.TheVariants.{Less, Equal, Greater}
 use Rattle.ioam_pool.specs.Entry.{Entry}
 use Rattle.ioam_pool.specs.Order.{meet, IsChain}
@@ -25,6 +25,13 @@ Ends-first cells i ends =
       record { list = parts.0; chained = parts.3; short = less },
       here ∙ ap (map (entry_at cells)) parts.1 ∙ ap (λ es. entry_at cells i ∷ es) (sym there),
     )
+
+pub Ends-few : (cells : List Cell) (at : Option ℕ) → Ends cells at → length (entries_from cells at) ≤ length cells
+Ends-few cells at ends =
+    let short = ends.short in
+    let entries = walked-is (length cells) cells at ends.list ends.chained short in
+    let count : length (entries_from cells at) ≡ length ends.list = ap length entries ∙ length-map ends.list (entry_at cells) in
+    omega arith
 
 pub Ends-none : (cells : List Cell) → entries_from cells None ≡ []
 Ends-none cells = walked-is (length cells) cells None [] refl (omega arith)

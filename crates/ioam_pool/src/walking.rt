@@ -22,6 +22,21 @@ impl<'a> Model for Items<'a> {
     ghost invariant = { λ items. Ends items.cells.now items.at };
 }
 
+impl Items<'_> {
+    ghost use Rattle.std.specs.Prelude.{◌≡◌, length};
+
+    /// How many items are left. It walks over them.
+    pub fn left(&self) -> usize
+        ensures { result ≡ length self.now }
+    {
+        let rest = Items {
+            cells: self.cells,
+            at: self.at,
+        };
+        rest.count()
+    }
+}
+
 impl<'a> Iterator for Items<'a> {
     ghost use Rattle.std.specs.Iterator.{YieldsFirstBy, item_count};
 
