@@ -1,5 +1,5 @@
 -- What becomes of an arrival is one thing only.
-use Rattle.std.proofs.Common.{◌≡◌, ℕ, Bool, IsSomeAnd, List, [], ◌∷◌, ◌++◌, Option, Some, None, slice_get, refl, sym, ◌∙◌, ap, subst}
+use Rattle.std.proofs.Common.{◌≡◌, ℕ, Bool, IsSomeAnd, List, [], ◌∷◌, ◌++◌, length, arith, Option, Some, None, slice_get, refl, sym, ◌∙◌, ap, subst}
 use Rattle.ioam_clock.specs.declared.sample.Sample.{Sample}
 use Rattle.ioam_ip.specs.Framing.{framing_of}
 use Rattle.ioam_node.specs.Admission.{Admits}
@@ -63,6 +63,17 @@ module _ (domain : Domain) (readings : List (List Sample)) where
       let P : Fate → Type 0 = λ f. AreFatesFrom domain readings (earlier ++ f.itinerary ∷ []) frames others in
       let behind : fates ≡ others = one_list (earlier ++ fate.itinerary ∷ []) frames fates others first.1 (subst P (sym here) second.1) in
       cc
+
+  -- and so many as arrivals
+  as_many : (earlier : List Itinerary) (frames : List Frame) (fates : List Fate) → AreFatesFrom domain readings earlier frames fates
+      → length fates ≡ length frames
+  as_many earlier [] [] are = refl
+  as_many earlier [] (fate ∷ fates) are = absurd are
+  as_many earlier (frame ∷ frames) [] are = absurd are
+  as_many earlier (frame ∷ frames) (fate ∷ fates) are = omega (arith, as_many (earlier ++ fate.itinerary ∷ []) frames fates are.1)
+
+pub AreFates-length : (domain : Domain) (frames : List Frame) (fates : List Fate) → AreFates domain frames fates → length fates ≡ length frames
+AreFates-length domain frames fates are = as_many domain [] [] frames fates are
 
 pub AreFates-unique : (domain : Domain) (frames : List Frame) (fates others : List Fate) → AreFates domain frames fates → AreFates domain frames others
     → fates ≡ others
