@@ -9,6 +9,4 @@ mod run;
 #[cfg(test)]
 mod run_faults;
 #[cfg(test)]
-mod run_large;
-#[cfg(test)]
 mod run_refusals;

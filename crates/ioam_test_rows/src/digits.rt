@@ -57,11 +57,3 @@ pub fn is_front(file: Option<&[u8]>, whole: &[u8]) -> bool {
         None => true,
     }
 }
-
-/// Whether a file is there and ends with these octets.
-pub fn is_end(file: Option<&[u8]>, end: &[u8]) -> bool {
-    match file {
-        Some(octets) => octets.ends_with(end),
-        None => false,
-    }
-}

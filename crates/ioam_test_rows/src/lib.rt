@@ -7,6 +7,5 @@
 
 pub mod capture_rows;
 pub mod digits;
-pub mod large_rows;
 pub mod run_rows;
 pub mod show_rows;
