@@ -7,12 +7,8 @@ here=$(cd "$(dirname "${BASH_SOURCE[0]}")" && pwd)
 top=$(dirname "$here")
 count=${1:-1000000}
 
-for tool in python3 /usr/bin/time; do
-    command -v "$tool" >/dev/null || {
-        echo "bench: $tool is missing (apt-get install python3 time)" >&2
-        exit 1
-    }
-done
+. "$here/timing.sh"
+need python3 /usr/bin/time
 room=$(mktemp -d)
 trap 'rm -rf "$room"' EXIT
 cd "$room"
@@ -38,14 +34,6 @@ ioam=$top/crates/ioam_cmd/out/ioam_cmd
 } >domain.toml
 : >readings
 
-# The seconds and the greatest memory in KB of a command, onto the list of its name.
-timed() {
-    local name=$1
-    shift
-    /usr/bin/time -f '%e %M' -o took "$@" >/dev/null 2>&1
-    cat took >>"times.$name"
-}
-
 for _ in 1 2 3; do
     timed cat sh -c 'cat in.pcap >out.cat'
     timed filter "$ioam" filter in.pcap out.filter report.filter
@@ -54,7 +42,6 @@ done
 
 echo "$(nproc) cores, $count packets, $(stat -c %s in.pcap) octets; run: $(tail -6 report.run | head -1)"
 echo "command   seconds  packets/s  to cat  to filter  memory MB"
-base() { sort -n "times.$1" | head -1 | cut -d' ' -f1; }
 for name in cat filter run; do
     sort -n "times.$name" | head -1 | awk -v n="$name" -v c="$count" -v a="$(base cat)" -v f="$(base filter)" \
         '{ s = $1 > 0 ? $1 : 0.01; printf "%-9s %7.2f  %9d  %6.2f  %9.2f  %9.1f\n", n, $1, c / s, s / a, s / f, $2 / 1024 }'
