@@ -37,9 +37,9 @@ module _ (tells : Bool) (words : List (List ℕ)) (old_in new_in : Reading) (old
 
   -- what the files hold behind each answer
   abbrev pub Leaves : Command → Outcome → Type 0
-  Leaves Filter answer = capture.Leaves FilterTexts (output_names words) (input_name words) old_in new_in old new answer
-  Leaves Paths answer = capture.Leaves PathsTexts (output_names words) (input_name words) old_in new_in old new answer
-  Leaves Show answer = capture.Leaves ShowTexts (output_names words) (input_name words) old_in new_in old new answer
+  Leaves Filter answer = capture.Leaves capture.most_packets FilterTexts (output_names words) (input_name words) old_in new_in old new answer
+  Leaves Paths answer = capture.Leaves capture.most_packets PathsTexts (output_names words) (input_name words) old_in new_in old new answer
+  Leaves Show answer = capture.Leaves capture.most_packets ShowTexts (output_names words) (input_name words) old_in new_in old new answer
   Leaves Run answer = domain.Leaves words old_in new_in old new answer
 
   -- the names that the words give to the opening calls: IN, unless two of them are equal, and a front

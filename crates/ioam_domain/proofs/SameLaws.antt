@@ -85,8 +85,8 @@ module _ (desk : Writing) (words : List (List ℕ)) where
       one_domain Plain it.0 a b it.1 it.2
 
   -- one fault of the domain's file
-  pub one_domain_fault : (f g : DomainFault) → HasDomainFault desk (domain_file words) (readings_file words) f
-      → HasDomainFault desk (domain_file words) (readings_file words) g → f ≡ g
+  pub one_domain_fault : (f g : DomainFault) → HasDomainFault Plain desk (domain_file words) (readings_file words) f
+      → HasDomainFault Plain desk (domain_file words) (readings_file words) g → f ≡ g
   one_domain_fault f g x y =
       let it : (octets : List ℕ) × HasFault Plain octets f × HasFault Plain octets g = both (holds desk (domain_file words)) (λ o. HasFault Plain o f) (λ o. HasFault Plain o g) x y in
       one_fault Plain it.0 f g it.1 it.2
@@ -99,11 +99,11 @@ module _ (desk : Writing) (words : List (List ℕ)) where
       domain_or_fault Plain it.0 domain f it.2 it.1
 
   -- a fault of it, or a domain
-  pub fault_or_set : (domain : Domain) (f : DomainFault) → HasDomainFault desk (domain_file words) (readings_file words) f → IsSet desk words domain → ⊥
+  pub fault_or_set : (domain : Domain) (f : DomainFault) → HasDomainFault Plain desk (domain_file words) (readings_file words) f → IsSet desk words domain → ⊥
   fault_or_set domain f x y = fault_or_held domain f x y.setting.has_domain
 
-  pub fault_or_readings : (f : DomainFault) (g : ReadingsFault) → HasDomainFault desk (domain_file words) (readings_file words) f
-      → HasReadingsFault desk (domain_file words) (readings_file words) g → ⊥
+  pub fault_or_readings : (f : DomainFault) (g : ReadingsFault) → HasDomainFault Plain desk (domain_file words) (readings_file words) f
+      → HasReadingsFault Plain desk (domain_file words) (readings_file words) g → ⊥
   fault_or_readings f g x y = fault_or_held y.domain f x y.has_domain
 
   same_names : (a b : Domain) → Agree a b → node_names a ≡ node_names b
@@ -117,8 +117,8 @@ module _ (desk : Writing) (words : List (List ℕ)) where
       one_domain Plain it.0 a b it.1 it.2
 
   -- one fault of the readings
-  pub one_readings_fault : (f g : ReadingsFault) → HasReadingsFault desk (domain_file words) (readings_file words) f
-      → HasReadingsFault desk (domain_file words) (readings_file words) g → f ≡ g
+  pub one_readings_fault : (f g : ReadingsFault) → HasReadingsFault Plain desk (domain_file words) (readings_file words) f
+      → HasReadingsFault Plain desk (domain_file words) (readings_file words) g → f ≡ g
   one_readings_fault f g x y =
       let P : ReadingsFault → Domain → List ℕ → Type 0 = λ h d o. readings_of (node_names d) o ≡ Err h in
       let it : (octets : List ℕ) × P f x.domain octets × P g y.domain octets = both (holds desk (readings_file words)) (P f x.domain) (P g y.domain) x.faulty y.faulty in
@@ -129,7 +129,7 @@ module _ (desk : Writing) (words : List (List ℕ)) where
       cc
 
   -- a fault of them, or readings
-  pub readings_or_set : (domain : Domain) (f : ReadingsFault) → HasReadingsFault desk (domain_file words) (readings_file words) f → IsSet desk words domain → ⊥
+  pub readings_or_set : (domain : Domain) (f : ReadingsFault) → HasReadingsFault Plain desk (domain_file words) (readings_file words) f → IsSet desk words domain → ⊥
   readings_or_set domain f x y =
       let P : List ℕ → Type 0 = λ o. readings_of (node_names x.domain) o ≡ Err f in
       let Q : List ℕ → Type 0 = λ o. readings_of (node_names domain) o ≡ Ok y.samples in
