@@ -1,0 +1,9 @@
+pub mod CountLaws
+pub mod PassageLaws
+pub mod PassingLaws
+pub mod RefusedLaws
+pub mod RanLaws
+pub mod AskedLaws
+pub mod BoundLaws
+pub mod EndsLaws
+pub mod SendingLaws
