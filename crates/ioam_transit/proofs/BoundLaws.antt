@@ -33,7 +33,7 @@ apart_outputs words apart =
     (apart_tail (name_at words 1) (name_at words 2 ∷ name_at words 5 ∷ output_files words) apart))
 
 -- there are three
-pub three_outputs : (words : List (List ℕ)) → length words ≡ 9 → output_files words ≡ name_at words 6 ∷ name_at words 7 ∷ name_at words 8 ∷ []
+pub three_outputs : (words : List (List ℕ)) → length words ≡ 9 → drop 6 words ≡ output_files words
 three_outputs [] nine = absurd (omega (arith, nine))
 three_outputs (a ∷ []) nine = absurd (omega (arith, nine))
 three_outputs (a ∷ b ∷ []) nine = absurd (omega (arith, nine))
@@ -65,12 +65,9 @@ from_held seat most None Are out report exports new all = absurd all
 from_held seat most (Some octets) Are out report exports new all =
     clean_held seat (is_ethernet all.link) all.entries all.texts out report exports new all.texts_are all.held
 
-module _ (words : List (List ℕ)) (nine : length words ≡ 9) (old_in new_in : Reading) (old new : Writing) where
+module _ (words : List (List ℕ)) (old_in new_in : Reading) (old new : Writing) where
   of_all : (Are : Seat → Option Link → List Entry → List ℕ → Type 0) → Holds words old_in new_in old new Are → IsBounded words old_in new_in old new
-  of_all Are all =
-      let P : List (List ℕ) → Type 0 = λ outputs. IsSomeAnd (holds old (input_file words)) (HoldsAll all.0.domain.packets (NodeTexts all.0) outputs (Are all.0) new) in
-      (all.0, all.1, from_held all.0 all.0.domain.packets (holds old (input_file words)) (Are all.0) (name_at words 6) (name_at words 7) (name_at words 8) new
-      (subst P (three_outputs words nine) all.2))
+  of_all Are all = (all.0, all.1, from_held all.0 all.0.domain.packets (holds old (input_file words)) (Are all.0) (name_at words 6) (name_at words 7) (name_at words 8) new all.2)
 
   -- each packet that the node sends to a port may leave a domain
   pub Leaves-bounded : (answer : Outcome) → Leaves words old_in new_in old new answer → IsBehindAll (old.side.slots < new.side.slots) answer

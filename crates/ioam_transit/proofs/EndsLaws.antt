@@ -1,9 +1,10 @@
 -- How a run ends in a domain that was read.
-use Rattle.std.proofs.Common.{◌≡◌, ℕ, ◌⊎◌, Bool, List, [], ◌∷◌, Option, Some, None, refl, sym, ◌∙◌, ap, subst, inl, inr, ⊎_elim}
+use Rattle.std.proofs.Common.{◌≡◌, ℕ, ◌<◌, ◌⊎◌, Bool, List, [], ◌∷◌, length, get_or, Option, Some, None, refl, sym, ◌∙◌, ap, subst, inl, inr, ⊎_elim}
 use Rattle.ioam_answer.specs.declared.outcome.Outcome.{Outcome}
 use Rattle.ioam_answer.specs.declared.outcome.Outcome.TheVariants as outcome
 use Rattle.ioam_clock.specs.declared.sample.Sample.{Sample}
 use Rattle.ioam_desk.specs.Desk.{Reading, Writing}
+use Rattle.ioam_outputs.proofs.NamesLaws.{found_name}
 use Rattle.ioam_outputs.specs.Names.{AreApart, IsFirstRepeat, name_at}
 use Rattle.ioam_topo.specs.Domain.{node_of_name}
 use Rattle.ioam_topo.specs.declared.domain.Domain.{Domain}
@@ -80,3 +81,20 @@ ran_from tells words old_in new_in old new seat answer most input outputs limit 
     let Q : List ℕ → Type 0 = λ i. Gathered tells old_in new_in old new seat answer seat.domain.packets i outputs in
     let R : List (List ℕ) → Type 0 = λ o. Gathered tells old_in new_in old new seat answer seat.domain.packets (input_file words) o in
     record { apart = apart; gathered = subst R listed (subst Q named (subst P limit gathered)) }
+
+-- the six names are those of the words
+pub six_named : (a b c d e f : List ℕ) (words : List (List ℕ)) → a ≡ name_at words 1 → b ≡ name_at words 2 → c ≡ name_at words 5
+    → d ≡ name_at words 6 → e ≡ name_at words 7 → f ≡ name_at words 8 → (a ∷ b ∷ c ∷ d ∷ e ∷ f ∷ []) ≡ node_files words
+six_named a b c d e f words is_a is_b is_c is_d is_e is_f =
+    ap (λ (n : List ℕ). n ∷ b ∷ c ∷ d ∷ e ∷ f ∷ []) is_a
+    ∙ ap (λ (n : List ℕ). name_at words 1 ∷ n ∷ c ∷ d ∷ e ∷ f ∷ []) is_b
+    ∙ ap (λ (n : List ℕ). name_at words 1 ∷ name_at words 2 ∷ n ∷ d ∷ e ∷ f ∷ []) is_c
+    ∙ ap (λ (n : List ℕ). name_at words 1 ∷ name_at words 2 ∷ name_at words 5 ∷ n ∷ e ∷ f ∷ []) is_d
+    ∙ ap (λ (n : List ℕ). name_at words 1 ∷ name_at words 2 ∷ name_at words 5 ∷ name_at words 6 ∷ n ∷ f ∷ []) is_e
+    ∙ ap (λ (n : List ℕ). name_at words 1 ∷ name_at words 2 ∷ name_at words 5 ∷ name_at words 6 ∷ name_at words 7 ∷ n ∷ []) is_f
+
+-- what was taken out of a list that has these names
+pub taken_name : (names items : List (List ℕ)) (at : ℕ) (name : List ℕ) → items ≡ names → name ≡ get_or items at name → at < length names → name ≡ name_at names at
+taken_name names items at name same is inside =
+    let P : List (List ℕ) → Type 0 = λ ns. name ≡ get_or ns at name in
+    found_name names at name (subst P same is) inside

@@ -1,9 +1,12 @@
 -- One thing becomes of a record.
-use Rattle.std.proofs.Common.{◌≡◌, ◌↔◌, ℕ, Bool, true, false, IsTrue, List, [], ◌∷◌, ◌++◌, refl, sym, ap, ◌∙◌, subst, inl, inr}
+use Rattle.std.proofs.Common.{◌≡◌, ◌↔◌, ℕ, ◌≤◌, Bool, true, false, IsTrue, List, [], ◌∷◌, ◌++◌, length, arith, refl, sym, ap, ◌∙◌, subst, inl, inr}
 use Rattle.std.proofs.lemmas.Bool.{false≢true}
 use Rattle.ioam_ip.specs.Framing.{Framing, Holds, NoIpv6, CutShort, TooShort}
 use Rattle.ioam_pcap.specs.Entries.{Entry}
 use Rattle.ioam_run.specs.Verdict.{entry_framing}
+use Rattle.ioam_transit.specs.Judged.{IsFit}
+use Rattle.ioam_transit.specs.declared.judging.Judged.{Judged}
+use Rattle.ioam_transit.specs.declared.judging.Judged.TheVariants as judged
 use Rattle.ioam_transit.specs.Passage.{Passage, PacketPassage, FramingPassage, HasPassage, ArePassages, passage_by, way_for}
 use Rattle.ioam_transit.specs.Seat.{Seat}
 
@@ -63,3 +66,8 @@ module _ (seat : Seat) where
   only_push ethernet entries passages entry passage are has others have =
       ArePassages-unique ethernet (entries ++ entry ∷ []) others (passages ++ passage ∷ []) have
       (ArePassages-push ethernet entries passages entry passage are has)
+
+-- what fits the packet fits its frame
+pub IsFit-le : (seat : Seat) (packet frame : List ℕ) (j : Judged) → length packet ≤ length frame → IsFit seat packet j → IsFit seat frame j
+IsFit-le seat packet frame (judged.Goes way kept) few fit = (fit.0, omega (arith, few, fit.1))
+IsFit-le seat packet frame (judged.Drops why) few fit = tt

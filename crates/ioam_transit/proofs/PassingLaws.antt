@@ -137,14 +137,36 @@ Adds-second (x ∷ y ∷ z ∷ []) d after added three slot is =
     (refl, sym (append-nil x.gathered.items), (slot, is, (refl, sym (append-nil z.gathered.items), tt)))
 Adds-second (x ∷ y ∷ z ∷ w ∷ outputs) d after added three slot is = absurd (omega (arith, three))
 
-pub Adds-all : (outputs : List Output) (d e f first second third : Output) (a b c : List ℕ) → length outputs ≡ 3
-    → first.slot ≡ (get_or outputs 0 d).slot → first.gathered.items ≡ (get_or outputs 0 d).gathered.items ++ a
-    → second.slot ≡ (get_or (set outputs 0 first) 1 e).slot → second.gathered.items ≡ (get_or (set outputs 0 first) 1 e).gathered.items ++ b
-    → third.slot ≡ (get_or (set (set outputs 0 first) 1 second) 2 f).slot
-    → third.gathered.items ≡ (get_or (set (set outputs 0 first) 1 second) 2 f).gathered.items ++ c
-    → Adds outputs (set (set (set outputs 0 first) 1 second) 2 third) (a ∷ b ∷ c ∷ [])
-Adds-all [] d e f first second third a b c three s1 i1 s2 i2 s3 i3 = absurd (omega (arith, three))
-Adds-all (x ∷ []) d e f first second third a b c three s1 i1 s2 i2 s3 i3 = absurd (omega (arith, three))
-Adds-all (x ∷ y ∷ []) d e f first second third a b c three s1 i1 s2 i2 s3 i3 = absurd (omega (arith, three))
-Adds-all (x ∷ y ∷ z ∷ []) d e f first second third a b c three s1 i1 s2 i2 s3 i3 = (s1, i1, (s2, i2, (s3, i3, tt)))
-Adds-all (x ∷ y ∷ z ∷ w ∷ outputs) d e f first second third a b c three s1 i1 s2 i2 s3 i3 = absurd (omega (arith, three))
+pub Adds-third : (outputs : List Output) (d after : Output) (added : List ℕ) → length outputs ≡ 3
+    → after.slot ≡ (get_or outputs 2 d).slot → after.gathered.items ≡ (get_or outputs 2 d).gathered.items ++ added
+    → Adds outputs (set outputs 2 after) ([] ∷ [] ∷ added ∷ [])
+Adds-third [] d after added three slot is = absurd (omega (arith, three))
+Adds-third (x ∷ []) d after added three slot is = absurd (omega (arith, three))
+Adds-third (x ∷ y ∷ []) d after added three slot is = absurd (omega (arith, three))
+Adds-third (x ∷ y ∷ z ∷ []) d after added three slot is =
+    (refl, sym (append-nil x.gathered.items), (refl, sym (append-nil y.gathered.items), (slot, is, tt)))
+Adds-third (x ∷ y ∷ z ∷ w ∷ outputs) d after added three slot is = absurd (omega (arith, three))
+
+-- what was added, and then more
+Adds-then : (a b c : List Output) (xs ys : List (List ℕ)) → Adds a b xs → Adds b c ys → Adds a c (said_more xs ys)
+Adds-then [] [] [] [] [] p q = tt
+Adds-then [] [] [] [] (y ∷ ys) p q = absurd q
+Adds-then [] [] (z ∷ c) [] ys p q = absurd q
+Adds-then [] [] c (x ∷ xs) ys p q = absurd p
+Adds-then [] (f ∷ b) c xs ys p q = absurd p
+Adds-then (e ∷ a) [] c xs ys p q = absurd p
+Adds-then (e ∷ a) (f ∷ b) c [] ys p q = absurd p
+Adds-then (e ∷ a) (f ∷ b) [] (x ∷ xs) ys p q = absurd q
+Adds-then (e ∷ a) (f ∷ b) (g ∷ c) (x ∷ xs) [] p q = absurd q
+Adds-then (e ∷ a) (f ∷ b) (g ∷ c) (x ∷ xs) (y ∷ ys) p q =
+    (q.0 ∙ p.0, q.1 ∙ ap (λ (front : List ℕ). front ++ y) p.1 ∙ append_assoc e.gathered.items x y, Adds-then a b c xs ys p.2 q.2)
+
+-- to the first, to the second and to the third
+pub Adds-three : (a b c d : List Output) (x y z : List ℕ) → Adds a b (x ∷ [] ∷ [] ∷ []) → Adds b c ([] ∷ y ∷ [] ∷ []) → Adds c d ([] ∷ [] ∷ z ∷ [])
+    → Adds a d (x ∷ y ∷ z ∷ [])
+Adds-three a b c d x y z first second third =
+    let all : Adds a d (((x ++ []) ++ []) ∷ (y ++ []) ∷ z ∷ []) = Adds-then a c d ((x ++ []) ∷ y ∷ [] ∷ []) ([] ∷ [] ∷ z ∷ [])
+    (Adds-then a b c (x ∷ [] ∷ [] ∷ []) ([] ∷ y ∷ [] ∷ []) first second) third in
+    let P : List ℕ → Type 0 = λ o. Adds a d (o ∷ (y ++ []) ∷ z ∷ []) in
+    let Q : List ℕ → Type 0 = λ r. Adds a d (x ∷ r ∷ z ∷ []) in
+    subst Q (append-nil y) (subst P (append-nil (x ++ []) ∙ append-nil x) all)

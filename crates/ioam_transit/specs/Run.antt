@@ -1,6 +1,6 @@
 -- What `node DOMAIN READINGS NODE LINK IN OUT REPORT EXPORTS` answers and leaves: the packets of the capture IN come to
 -- NODE by LINK, and it sends them on.
-use Rattle.std.specs.Prelude.{◌≡◌, ◌≢◌, ℕ, ◌+◌, ◌<◌, ◌⊎◌, ⊤, Bool, IsTrue, IsSomeAnd, nat_eq, if◌then◌else◌, List, [], ◌∷◌, ◌++◌, drop, slice_get, Option, Some, None, option_and_then}
+use Rattle.std.specs.Prelude.{◌≡◌, ◌≢◌, ℕ, ◌+◌, ◌<◌, ◌⊎◌, ⊤, Bool, IsTrue, IsSomeAnd, nat_eq, if◌then◌else◌, List, [], ◌∷◌, ◌++◌, slice_get, Option, Some, None, option_and_then}
 use Rattle.std.specs.List.{AllByRecursion, flat_map}
 use Rattle.ioam_answer.specs.Outcomes.{IsDone, IsBehindAll}
 use Rattle.ioam_answer.specs.declared.outcome.Outcome.{Outcome}
@@ -52,7 +52,7 @@ input_file words = name_at words 5
 
 -- OUT, REPORT and EXPORTS
 abbrev pub output_files : List (List ℕ) → List (List ℕ)
-output_files words = drop 6 words
+output_files words = name_at words 6 ∷ name_at words 7 ∷ name_at words 8 ∷ []
 
 -- all files, in the order in which equal ones are looked for
 abbrev pub node_files : List (List ℕ) → List (List ℕ)

@@ -76,6 +76,39 @@ fn copied(alloc: Global, octets: &[u8]) -> Result<Vec<u8>, NoMemory>
     Ok(copy)
 }
 
+// Adds a packet to OUT.
+fn add_packet(time: u64, packet: &[u8], outputs: &mut [Output]) -> Result<(), NoMemory>
+    requires width { length outputs.old ≡ 3 }
+    requires short { length packet.now ≤ most }
+    ensures { OnOk result (Adds outputs.old outputs.new (record_octets time packet.now ∷ [] ∷ [] ∷ [])) }
+{
+    put_record(time, packet, &mut outputs[0].gathered)?;
+    Ok(())
+}
+
+// Adds its lines to REPORT.
+fn add_lines(
+    number: u64,
+    name: &str,
+    notes: &[NodeNote],
+    outputs: &mut [Output],
+) -> Result<(), NoMemory>
+    requires { length outputs.old ≡ 3 }
+    ensures { OnOk result (Adds outputs.old outputs.new ([] ∷ out_lines number name.now notes.now ∷ [] ∷ [])) }
+{
+    put_sent(number, name, notes, &mut outputs[1].gathered)?;
+    Ok(())
+}
+
+// Adds what was exported to EXPORTS.
+fn add_exports(exports: &[u8], outputs: &mut [Output]) -> Result<(), NoMemory>
+    requires { length outputs.old ≡ 3 }
+    ensures { OnOk result (Adds outputs.old outputs.new ([] ∷ [] ∷ exports.now ∷ [])) }
+{
+    append(&mut outputs[2].gathered, exports)?;
+    Ok(())
+}
+
 // Adds a packet that was sent at a time by a way of this name.
 fn put_all(
     number: u64,
@@ -89,9 +122,9 @@ fn put_all(
     ensures { OnOk result (Adds outputs.old outputs.new (record_octets time sent.now.packet.items
         ∷ out_lines number name.now sent.now.room.notes ∷ sent.now.room.exports ∷ [])) }
 {
-    put_record(time, &sent.packet, &mut outputs[0].gathered)?;
-    put_sent(number, name, sent.room.notes(), &mut outputs[1].gathered)?;
-    append(&mut outputs[2].gathered, sent.room.exports())?;
+    add_packet(time, &sent.packet, outputs)?;
+    add_lines(number, name, sent.room.notes(), outputs)?;
+    add_exports(sent.room.exports(), outputs)?;
     Ok(())
 }
 

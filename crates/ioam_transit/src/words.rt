@@ -1,7 +1,6 @@
 //! What the words of the command name.
-ghost use Rattle.std.specs.Prelude.{◌≡◌, IfOk, OnOk, IfSome, ◌∷◌, ◌++◌, [], length, drop, ◌<◌};
-ghost use Rattle.ioam_topo.specs.Domain.{nodes, node_of_name};
-ghost use Rattle.ioam_transit.specs.Run.{inward_of, node_files, output_files};
+ghost use Rattle.std.specs.Prelude.{◌≡◌, IfOk, OnOk, ◌∷◌, ◌++◌, [], length};
+ghost use Rattle.ioam_transit.specs.Run.{inward_of, node_files};
 
 use ioam_base::memory::NoMemory;
 use ioam_desk::Name;
@@ -31,14 +30,35 @@ fn push_name(alloc: Global, names: &mut Vec<Name>, name: &Name) -> Result<(), No
     Ok(())
 }
 
-// Puts copies of the outputs' names behind these.
-fn push_outputs(alloc: Global, names: &mut Vec<Name>, words: &[Name]) -> Result<(), NoMemory>
-    requires { length words.now ≡ 9 }
-    ensures { OnOk result (names.new.items ≡ names.old.items ++ output_files words.now) }
+// Copies of the names of the files that are read.
+fn read_files(
+    alloc: Global,
+    domain: &Name,
+    readings: &Name,
+    input: &Name,
+) -> Result<Vec<Name>, NoMemory>
+    ensures { IfOk result (λ files. files.items ≡ domain.now ∷ readings.now ∷ input.now ∷ []) }
 {
-    push_name(alloc, names, &words[6])?;
-    push_name(alloc, names, &words[7])?;
-    push_name(alloc, names, &words[8])
+    let mut names = Vec::new(alloc);
+    push_name(alloc, &mut names, domain)?;
+    push_name(alloc, &mut names, readings)?;
+    push_name(alloc, &mut names, input)?;
+    Ok(names)
+}
+
+// Puts copies of the names of the files that are written behind these.
+fn push_written(
+    alloc: Global,
+    names: &mut Vec<Name>,
+    out: &Name,
+    report: &Name,
+    exports: &Name,
+) -> Result<(), NoMemory>
+    ensures { OnOk result (names.new.items ≡ names.old.items ++ out.now ∷ report.now ∷ exports.now ∷ []) }
+{
+    push_name(alloc, names, out)?;
+    push_name(alloc, names, report)?;
+    push_name(alloc, names, exports)
 }
 
 /// The names of all files, in the order in which equal ones are looked for: DOMAIN, READINGS, IN, OUT,
@@ -47,10 +67,7 @@ pub fn node_files(alloc: Global, words: &[Name]) -> Result<Vec<Name>, NoMemory>
     requires { length words.now ≡ 9 }
     ensures { IfOk result (λ files. files.items ≡ node_files words.now) }
 {
-    let mut names = Vec::new(alloc);
-    push_name(alloc, &mut names, &words[1])?;
-    push_name(alloc, &mut names, &words[2])?;
-    push_name(alloc, &mut names, &words[5])?;
-    push_outputs(alloc, &mut names, words)?;
-    Ok(names)
+    let mut files = read_files(alloc, &words[1], &words[2], &words[5])?;
+    push_written(alloc, &mut files, &words[6], &words[7], &words[8])?;
+    Ok(files)
 }

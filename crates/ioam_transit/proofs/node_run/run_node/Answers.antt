@@ -9,5 +9,5 @@ returns-clause-exact g c = λ asked told asks reads writes.
 
 pub returns-clause-boundary : goal.returns-clause-boundary
 returns-clause-boundary g c = λ behind told.
-    Leaves-bounded c.args.words.now c.requires (g.D.Desk.reading c.args.desk.now) (g.D.Desk.reading c.run_words.new.desk)
+    Leaves-bounded c.args.words.now (g.D.Desk.reading c.args.desk.now) (g.D.Desk.reading c.run_words.new.desk)
     (g.D.Desk.writing c.args.desk.now) (g.D.Desk.writing c.run_words.new.desk) c.run_words.result (c.run_words.ensures.owes.leaves told) behind
