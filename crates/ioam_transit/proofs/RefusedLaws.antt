@@ -14,11 +14,15 @@ use Rattle.ioam_setting.specs.declared.setting.Refusal.{Refusal}
 use Rattle.ioam_setting.specs.declared.setting.Refusal.TheVariants as refusal
 use Rattle.ioam_transit.specs.Run.{HasCause, HaveDiffered, IsUntouched, Leaves, Owes, refused_as, domain_file, readings_file, input_file}
 
+take_none : (n : ℕ) → take {A = List ℕ} n [] ≡ []
+take_none zero = refl
+take_none (suc n) = refl
+
 -- two names were asked for, or a front of them, and so a front of them and a third
 pub asks_wider : (old new : List (List ℕ)) (a b c : List ℕ) → AsksFront old new (a ∷ b ∷ []) → AsksFront old new (a ∷ b ∷ c ∷ [])
 asks_wider old new a b c (zero, asked) = (0, asked)
 asks_wider old new a b c (suc zero, asked) = (1, asked)
-asks_wider old new a b c (suc (suc n), asked) = (2, asked)
+asks_wider old new a b c (suc (suc n), asked) = (2, asked ∙ ap (λ (rest : List (List ℕ)). old ++ a ∷ b ∷ rest) (take_none n))
 
 module _ (tells : Bool) (words : List (List ℕ)) (old_in new_in : Reading) (old : Writing) where
   abbrev Refused : Refusal → Type 0
