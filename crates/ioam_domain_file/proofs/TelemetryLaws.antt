@@ -24,7 +24,7 @@ use Rattle.ioam_telemetry.specs.DataTable.{data_entries, data_of, data_faults}
 use Rattle.ioam_telemetry.specs.Tables.{data_table_faults, flow_table_faults, extra_table_faults, flows_behind, AreFlows}
 use Rattle.ioam_telemetry.proofs.DataKept.{data_placed}
 use Rattle.ioam_domain_file.specs.declared.extent.Extent.{Extent}
-use Rattle.ioam_domain_file.specs.Extent.{flows_most, extras_most}
+use Rattle.ioam_domain_file.specs.Extent.{flows_most, extras_most, taps_most}
 use Rattle.ioam_domain_file.specs.Top.{telemetry_faults, flows_of}
 use Rattle.ioam_domain_file.specs.PartsRead.{HoldsTelemetry}
 use Rattle.ioam_domain_file.specs.declared.extent.Extent.TheVariants.{Plain, Whole}
@@ -84,6 +84,11 @@ module _ (taps : ℕ) (t : Members) (parts : Parts) (holds : HoldsParts taps t p
         let e : length telemetry.rows.items.items ≡ length (goods (data_of (node_names t)) (data_entries t)) = ap length (data_are t parts.nodes extent telemetry holds.nodes are) in
         omega (arith, f, e);
   }
+
+-- no more taps are read than a domain may have
+pub taps_few : (taps : ℕ) (extent : Extent) → taps ≡ taps_most extent → taps ≤ 64
+taps_few taps Plain is = omega (arith, is)
+taps_few taps Whole is = omega (arith, is)
 
 nothing : {A : Type 0} (xs : List A) → length xs ≤ 0 → xs ≡ []
 nothing [] few = refl

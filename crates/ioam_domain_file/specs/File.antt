@@ -16,7 +16,7 @@ use Rattle.ioam_domain_file.specs.Top.{faults_of, format_of, packets_of, node_da
 use Rattle.std.specs.List.{All}
 use Rattle.ioam_topo.specs.Apart.{NodesApart, FlowsApart}
 use Rattle.ioam_topo.specs.Known.{IsKnownAtEnds}
-use Rattle.ioam_places.specs.LinkRead.{taps_of}
+use Rattle.ioam_topo.specs.Keyed.{taps_of}
 use Rattle.ioam_domain_file.specs.declared.extent.Extent.{Extent}
 use Rattle.ioam_domain_file.specs.declared.extent.Extent.TheVariants.{Plain, Whole}
 use Rattle.ioam_topo.specs.declared.parts.Link.{Link}

@@ -12,6 +12,7 @@ ghost use Rattle.ioam_domain_file.specs.File.{IsDomain, IsWithin, IsPlainly, IsA
 
 use crate::extent::Extent;
 use crate::top::read_own;
+use ioam_base::memory::NoMemory;
 use ioam_entries::{DomainFault, DomainRefused, Field, Table, Why};
 use ioam_places::{read_parts, read_routes};
 use ioam_telemetry::{read_data, read_flows};
@@ -66,7 +67,10 @@ fn read_tables(
         extent.flows(),
         extent.extras(),
     )?;
-    Ok(Domain::new(own.format, own.packets, parts, routes, telemetry))
+    match Domain::new(alloc, own.format, own.packets, parts, routes, telemetry) {
+        Ok(domain) => Ok(domain),
+        Err(NoMemory) => Err(DomainRefused::NoMemory),
+    }
 }
 
 // The domain of a file's tables.

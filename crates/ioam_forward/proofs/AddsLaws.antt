@@ -15,7 +15,7 @@ use Rattle.ioam_topo.specs.declared.ids.NodeId.{NodeId}
 use Rattle.ioam_topo.specs.declared.ids.PortId.{PortId}
 use Rattle.ioam_forward.specs.Fate.{DropsAlike}
 use Rattle.ioam_ip.specs.Lowered.{lowered}
-use Rattle.ioam_forward.specs.Texts.{each_text, sent_at, sent_of, last_time}
+use Rattle.ioam_forward.specs.Texts.{each_text, sent_by_end, sent_of, last_time}
 
 -- the head of a capture for each port in front of a place
 abbrev pub head_below : ℕ → ℕ → List ℕ
@@ -134,14 +134,14 @@ line-adds n at a b d after f line is long first slot adds = both-add n a b (set 
 -- nothing is sent of a packet that is dropped
 pub drop-adds : (n : ℕ) (outputs : List Output) (packet : List ℕ) (visits : List Visit) (end : End) (reason : Reason) (node : NodeId)
     → end ≡ Drop reason node → length outputs ≡ n + 2
-    → Adds outputs outputs (each_text n 0 (λ k. records_text (sent_at k packet visits end)) ++ [] ∷ [] ∷ [])
+    → Adds outputs outputs (each_text n 0 (λ k. records_text (sent_by_end k packet visits end)) ++ [] ∷ [] ∷ [])
 drop-adds n outputs packet visits end reason node is long =
-    subst (λ (e : End). Adds outputs outputs (each_text n 0 (λ k. records_text (sent_at k packet visits e)) ++ [] ∷ [] ∷ [])) (sym is)
-    (none-adds n 0 outputs (λ k. records_text (sent_at k packet visits (Drop reason node))) (λ k le. refl) long)
+    subst (λ (e : End). Adds outputs outputs (each_text n 0 (λ k. records_text (sent_by_end k packet visits e)) ++ [] ∷ [] ∷ [])) (sym is)
+    (none-adds n 0 outputs (λ k. records_text (sent_by_end k packet visits (Drop reason node))) (λ k le. refl) long)
 
 pub alike-adds : (n : ℕ) (outputs : List Output) (packet : List ℕ) (visits : List Visit) (answer : Admit) (end : End) (reason : Reason)
     → answer ≡ admit.Drop reason → DropsAlike answer end → length outputs ≡ n + 2
-    → Adds outputs outputs (each_text n 0 (λ k. records_text (sent_at k packet visits end)) ++ [] ∷ [] ∷ [])
+    → Adds outputs outputs (each_text n 0 (λ k. records_text (sent_by_end k packet visits end)) ++ [] ∷ [] ∷ [])
 alike-adds n outputs packet visits answer (Left port) reason is drops long =
     absurd (subst (λ (a : Admit). DropsAlike a (Left port)) is drops)
 alike-adds n outputs packet visits answer (Drop cause node) reason is drops long =
@@ -161,13 +161,13 @@ sent-elsewhere k port s other =
 pub left-adds : (n : ℕ) (outputs : List Output) (d after : Output) (packet : List ℕ) (visits list : List Visit) (end : End) (port : PortId) (time : ℕ)
     → list ≡ visits → time ≡ last_time list → end ≡ Left port → port.0 < n → length outputs ≡ n + 2 → after.slot ≡ (get_or outputs port.0 d).slot
     → after.gathered.items ≡ (get_or outputs port.0 d).gathered.items ++ record_octets time (lowered (length list) packet)
-    → Adds outputs (set outputs port.0 after) (each_text n 0 (λ k. records_text (sent_at k packet visits end)) ++ [] ∷ [] ∷ [])
+    → Adds outputs (set outputs port.0 after) (each_text n 0 (λ k. records_text (sent_by_end k packet visits end)) ++ [] ∷ [] ∷ [])
 left-adds n outputs d after packet visits list end port time same when is inside long slot adds =
     let s : Sent = sent_of packet visits in
     let old : List ℕ = (get_or outputs port.0 d).gathered.items in
     let then_time : time ≡ last_time visits = when ∙ ap last_time same in
-    subst (λ (e : End). Adds outputs (set outputs port.0 after) (each_text n 0 (λ k. records_text (sent_at k packet visits e)) ++ [] ∷ [] ∷ [])) (sym is)
-    (port-adds n 0 port.0 outputs d after (λ k. records_text (sent_at k packet visits (Left port))) port.0 (omega arith) inside
+    subst (λ (e : End). Adds outputs (set outputs port.0 after) (each_text n 0 (λ k. records_text (sent_by_end k packet visits e)) ++ [] ∷ [] ∷ [])) (sym is)
+    (port-adds n 0 port.0 outputs d after (λ k. records_text (sent_by_end k packet visits (Left port))) port.0 (omega arith) inside
     (λ k other. sent-elsewhere k port.0 s other) long slot
     (adds ∙ ap (λ (t : ℕ). old ++ record_octets t (lowered (length list) packet)) then_time
     ∙ ap (λ (vs : List Visit). old ++ record_octets (last_time visits) (lowered (length vs) packet)) same

@@ -1,15 +1,16 @@
 -- What was answered of a frame at its port.
-use Rattle.std.proofs.Common.{◌≡◌, ℕ, ◌≤◌, Bool, true, false, List, [], ◌∷◌, length, take, drop, Option, Some, None, IsSomeAnd, ap, arith, length-take, length-drop, if◌then◌else◌}
+use Rattle.std.proofs.Common.{◌≡◌, ℕ, ◌≤◌, Bool, true, false, List, [], ◌∷◌, length, take, drop, Option, Some, None, IsSomeAnd, refl, sym, subst, ap, arith, length-take, length-drop, if◌then◌else◌}
 use Rattle.std.specs.Prelude.{nat_lt, not, ◌||◌, ◌==◌, ◌/◌, slice_index}
 use Rattle.ioam_ip.specs.Framing.{Framing, Holds, NoIpv6, CutShort, TooShort, IfHolds, framed, framing_of, is_ethernet_ipv6}
 use Rattle.ioam_ip.specs.Packet.{whole_length}
 use Rattle.ioam_node.specs.Admission.{Admits, HoldsPacket}
 use Rattle.ioam_node.specs.declared.admitted.Admit.{Admit}
 use Rattle.ioam_node.specs.declared.admitted.Admit.TheVariants as admit
-use Rattle.ioam_plan.specs.Plans.{PlansBy, IsPlannable}
-use Rattle.ioam_plan.specs.declared.itinerary.Visit.{Visit}
+use Rattle.ioam_node.specs.declared.reason.Reason.{Reason}
+use Rattle.ioam_plan.specs.Plans.{PlansBy, IsPlain}
+use Rattle.ioam_plan.specs.declared.itinerary.Itinerary.{Itinerary}
 use Rattle.ioam_plan.specs.declared.itinerary.End.{End}
-use Rattle.ioam_plan.specs.declared.itinerary.End.TheVariants.{Left, Drop}
+use Rattle.ioam_plan.specs.declared.itinerary.End.TheVariants.{Drop}
 use Rattle.ioam_topo.specs.Domain.{flows}
 use Rattle.ioam_topo.specs.Finding.{flow_at}
 use Rattle.ioam_topo.specs.declared.domain.Domain.{Domain}
@@ -68,8 +69,8 @@ no_flow [] node source target flow none is = cc
 no_flow (first ∷ all) node source target flow none is = cc
 
 plannable : (domain : Domain) (node : ℕ) (framing : Framing) (answer : Admit) → flows domain ≡ [] → HoldsPacket answer → Admits domain node framing answer
-    → IsPlannable answer
-plannable domain node framing (admit.Plain kept) none holds admits = holds
+    → IsPlain answer
+plannable domain node framing (admit.Plain kept) none holds admits = tt
 plannable domain node framing (admit.Drop reason) none holds admits = tt
 plannable domain node (Holds packet) (admit.Enclose flow kept limit) none holds admits =
     no_flow (flows domain) node (admits.2).0.source (admits.2).0.target flow none (admits.2).2
@@ -79,16 +80,20 @@ plannable domain node TooShort (admit.Enclose flow kept limit) none holds admits
 
 -- in a domain without flows no packet is put into a tunnel
 pub answer-plannable : (domain : Domain) (at : Option Port) (framing : Framing) (answer : Admit) → flows domain ≡ [] → HoldsPacket answer
-    → IsSomeAnd at (λ port. Admits domain port.node.0 framing answer) → IsPlannable answer
+    → IsSomeAnd at (λ port. Admits domain port.node.0 framing answer) → IsPlain answer
 answer-plannable domain (Some port) framing answer none holds admits = plannable domain port.node.0 framing answer none holds admits
 answer-plannable domain None framing answer none holds admits = absurd admits
 
+drops_alike : (answer : Admit) (reason : Reason) (port : Port) (end : End) → answer ≡ admit.Drop reason → end ≡ Drop reason port.node → DropsAlike answer end
+drops_alike answer reason port end is ends =
+    let P : Admit → Type 0 = λ a. DropsAlike a end in
+    let Q : End → Type 0 = λ e. DropsAlike (admit.Drop reason) e in
+    subst P (sym is) (subst Q (sym ends) tt)
+
 -- what is dropped on arrival doesn't leave
-pub plan-drops : (domain : Domain) (at : Option Port) (time : ℕ) (answer : Admit) (visits : List Visit) (end : End)
-    → IsSomeAnd at (PlansBy domain time answer visits end) → DropsAlike answer end
-plan-drops domain (Some port) time (admit.Plain kept) visits end plans = tt
-plan-drops domain (Some port) time (admit.Enclose flow kept limit) visits end plans = absurd plans
-plan-drops domain (Some port) time (admit.Drop reason) visits (Left exit) plans =
-    let is : Left exit ≡ Drop reason port.node = plans.ends in cc
-plan-drops domain (Some port) time (admit.Drop reason) visits (Drop cause node) plans = tt
-plan-drops domain None time answer visits end plans = absurd plans
+pub plan-drops : (domain : Domain) (at : Option Port) (time : ℕ) (answer : Admit) (it : Itinerary)
+    → IsSomeAnd at (PlansBy domain [] [] time it answer) → DropsAlike answer it.end
+plan-drops domain (Some port) time (admit.Plain kept) it plans = tt
+plan-drops domain (Some port) time (admit.Enclose flow kept limit) it plans = tt
+plan-drops domain (Some port) time (admit.Drop reason) it plans = drops_alike (admit.Drop reason) reason port it.end refl plans.ends
+plan-drops domain None time answer it plans = absurd plans

@@ -18,7 +18,7 @@ use Rattle.ioam_topo.specs.Domain.{ports}
 use Rattle.ioam_topo.specs.declared.domain.Domain.{Domain}
 use Rattle.ioam_topo.specs.declared.parts.Port.{Port}
 use Rattle.ioam_forward.specs.Fate.{Frame, Fate, HasFate, AreFates, packet_of, DropsAlike}
-use Rattle.ioam_forward.specs.Texts.{sent_at, sent_of, fate_sent, sent_by, out_text, each_text, of_outputs}
+use Rattle.ioam_forward.specs.Texts.{sent_at, sent_by_end, sent_of, fate_sent, sent_by, out_text, each_text, of_outputs}
 use Rattle.ioam_forward.proofs.AnswerLaws.{plan-drops}
 
 -- the packet that is taken in, where one is, may leave
@@ -56,13 +56,13 @@ one-clean false s clean = All-nil (Sends MayLeave)
 
 -- what is sent of a packet that may leave may leave
 left-clean : (port : ℕ) (packet : List ℕ) (visits : List Visit) (end : End) → MayLeave packet
-    → All (Sends MayLeave) (sent_at port packet visits end)
+    → All (Sends MayLeave) (sent_by_end port packet visits end)
 left-clean port packet visits (Left exit) clean = one-clean (nat_eq port exit.0) (sent_of packet visits)
     (leaving-lowered packet (slice_index packet 7 - length visits) clean)
 left-clean port packet visits (Drop reason node) clean = All-nil (Sends MayLeave)
 
 sent-clean : (port : ℕ) (answer : Admit) (visits : List Visit) (end : End) → TakesClean answer → DropsAlike answer end
-    → All (Sends MayLeave) (sent_at port (packet_of answer) visits end)
+    → All (Sends MayLeave) (sent_by_end port (packet_of answer) visits end)
 sent-clean port (admit.Plain kept) visits end clean drops = left-clean port kept.now visits end clean
 sent-clean port (admit.Enclose flow kept limit) visits end clean drops = left-clean port kept.now visits end clean
 sent-clean port (admit.Drop reason) visits (Left exit) clean drops = absurd drops
@@ -72,10 +72,10 @@ fate-clean : (domain : Domain) (frame : Frame) (fate : Fate) → HasFate domain 
 fate-clean domain frame fate has port =
     let cut : Bool = nat_lt (length frame.entry.octets) frame.entry.original in
     let at : Option Port = slice_get (ports domain) frame.port.0 in
-    subst (λ (packet : List ℕ). All (Sends MayLeave) (sent_at port packet fate.visits fate.end)) (sym has.packet)
-    (sent-clean port has.answer fate.visits fate.end
+    subst (λ (packet : List ℕ). All (Sends MayLeave) (sent_at port packet fate.itinerary)) (sym has.packet)
+    (sent-clean port has.answer fate.itinerary.visits fate.itinerary.end
     (answer-clean domain at (framing_of frame.ethernet cut frame.entry.octets) has.answer (framing-packet frame.ethernet cut frame.entry.octets) has.answered)
-    (plan-drops domain at frame.entry.time has.answer fate.visits fate.end has.plans))
+    (plan-drops domain at frame.entry.time has.answer fate.itinerary has.plans))
 
 -- every packet that leaves by a port has a whole chain and no IOAM option
 pub fates-clean : (domain : Domain) (frames : List Frame) (fates : List Fate) → AreFates domain frames fates → (port : ℕ)

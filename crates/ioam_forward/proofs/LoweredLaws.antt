@@ -1,5 +1,5 @@
 -- The hop limit of a packet, lowered where the packet stands.
-use Rattle.std.proofs.Common.{◌≡◌, ℕ, zero, suc, ◌+◌, ◌-◌, ◌≤◌, List, [], ◌∷◌, ◌++◌, length, set, length-set, Some, slice_get, refl, sym, ◌∙◌, ap, arith, append_assoc, length-append}
+use Rattle.std.proofs.Common.{◌≡◌, ℕ, zero, suc, ◌+◌, ◌-◌, List, [], ◌∷◌, ◌++◌, length, set, length-set, Some, slice_get, sym, ◌∙◌, ap, arith, append_assoc, length-append}
 use Rattle.std.specs.Prelude.{slice_index}
 use Rattle.ioam_pcap.specs.Text.{record_head, record_octets}
 use Rattle.ioam_plan.specs.declared.itinerary.Visit.{Visit}

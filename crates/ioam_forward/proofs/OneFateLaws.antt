@@ -6,8 +6,7 @@ use Rattle.ioam_node.specs.declared.admitted.Admit.{Admit}
 use Rattle.ioam_node.specs.declared.admitted.Admit.TheVariants as admit
 use Rattle.ioam_node.proofs.OneAnswerLaws.{IsSame, Admits-unique}
 use Rattle.ioam_pcap.specs.Cut.{is_cut}
-use Rattle.ioam_plan.specs.declared.itinerary.Visit.{Visit}
-use Rattle.ioam_plan.specs.declared.itinerary.End.{End}
+use Rattle.ioam_plan.specs.declared.itinerary.Itinerary.{Itinerary}
 use Rattle.ioam_plan.proofs.PlansLaws.{Plans-same}
 use Rattle.ioam_topo.specs.Domain.{ports}
 use Rattle.ioam_topo.specs.declared.domain.Domain.{Domain}
@@ -33,21 +32,20 @@ one_packet (admit.Drop reason) (admit.Enclose way other bound) same = absurd sam
 one_packet (admit.Enclose flow packet limit) (admit.Plain other) same = absurd same
 one_packet (admit.Enclose flow packet limit) (admit.Drop cause) same = absurd same
 
-same_fate : (a b : Fate) → a.port ≡ b.port → a.packet ≡ b.packet → a.visits ≡ b.visits → a.end ≡ b.end → a ≡ b
-same_fate a b ports packets visits ends =
-    let F : PortId → List ℕ → List Visit → End → Fate = λ port packet visits end. record { port = port; packet = packet; visits = visits; end = end } in
-    ap (λ port. F port a.packet a.visits a.end) ports ∙ ap (λ packet. F b.port packet a.visits a.end) packets
-    ∙ ap (λ visits. F b.port b.packet visits a.end) visits ∙ ap (λ end. F b.port b.packet b.visits end) ends
+same_fate : (a b : Fate) → a.port ≡ b.port → a.packet ≡ b.packet → a.itinerary ≡ b.itinerary → a ≡ b
+same_fate a b ports packets ways =
+    let F : PortId → List ℕ → Itinerary → Fate = λ port packet itinerary. record { port = port; packet = packet; itinerary = itinerary } in
+    ap (λ port. F port a.packet a.itinerary) ports ∙ ap (λ packet. F b.port packet a.itinerary) packets
+    ∙ ap (λ itinerary. F b.port b.packet itinerary) ways
 
 -- one fate of an arrival
 pub HasFate-unique : (domain : Domain) (frame : Frame) (fate other : Fate) → HasFate domain frame fate → HasFate domain frame other → fate ≡ other
 HasFate-unique domain frame fate other first second =
     let same : IsSame first.answer second.answer = one_answer domain (slice_get (ports domain) frame.port.0) frame.ethernet (is_cut frame.entry)
     frame.entry.octets first.answer second.answer first.answered second.answered in
-    let plans : (fate.visits ≡ other.visits) × (fate.end ≡ other.end) = Plans-same domain frame.port frame.entry.time fate.visits other.visits
-    fate.end other.end first.answer second.answer same first.plans second.plans in
-    same_fate fate other (first.port ∙ sym second.port) (first.packet ∙ one_packet first.answer second.answer same ∙ sym second.packet)
-    plans.0 plans.1
+    let plans : fate.itinerary ≡ other.itinerary = Plans-same domain [] [] frame.entry.time fate.itinerary other.itinerary frame.port
+    first.answer second.answer same first.plans second.plans in
+    same_fate fate other (first.port ∙ sym second.port) (first.packet ∙ one_packet first.answer second.answer same ∙ sym second.packet) plans
 
 -- and one list of fates of arrivals
 pub AreFates-unique : (domain : Domain) (frames : List Frame) (fates others : List Fate) → AreFates domain frames fates → AreFates domain frames others

@@ -2,6 +2,7 @@
 use Rattle.std.proofs.Common.{◌≡◌, ℕ, ◌+◌, ◌<◌, List, [], ◌∷◌, ◌++◌, length, refl, sym, ◌∙◌, ap, append_assoc, append-nil, length-append, subst, arith}
 use Rattle.std.proofs.lemmas.List.{map-append, length-map}
 use Rattle.ioam_pcap.specs.Text.{Sent, records_text, record_octets, capture_text, head_octets}
+use Rattle.ioam_plan.specs.declared.itinerary.Itinerary.{Itinerary}
 use Rattle.ioam_plan.specs.declared.itinerary.Visit.{Visit}
 use Rattle.ioam_plan.specs.declared.itinerary.End.{End}
 use Rattle.ioam_outputs.specs.Told.{said_more}
@@ -73,7 +74,7 @@ texts-end domain fates gathered sums =
 
 -- what is gathered stands for one arrival more
 pub Forwards-push : (domain : Domain) (frame : Frame) (fate : Fate) (old new : Forwarding) (number : ℕ) → number ≡ old.sums.packets + 1 → HasFate domain frame fate
-    → ((arrivals : List (List Visit × End)) → StandFor domain old.sums arrivals → StandFor domain new.sums (arrivals ++ (fate.visits, fate.end) ∷ []))
+    → ((arrivals : List Itinerary) → StandFor domain old.sums arrivals → StandFor domain new.sums (arrivals ++ fate.itinerary ∷ []))
     → (frames : List Frame) (so_far : List (List ℕ)) → Forwards domain frames so_far old
     → Forwards domain (frames ++ frame ∷ []) (said_more so_far (added_by domain number fate)) new
 Forwards-push domain frame fate old new number is has counts frames so_far forwards =
@@ -90,7 +91,7 @@ Forwards-push domain frame fate old new number is has counts frames so_far forwa
 
 -- what is gathered is whole with the sums
 pub Forwards-ends : (domain : Domain) (gathered : Forwarding)
-    → ((arrivals : List (List Visit × End)) → StandFor domain gathered.sums arrivals → sums_text domain gathered.sums ≡ arrivals_text domain arrivals)
+    → ((arrivals : List Itinerary) → StandFor domain gathered.sums arrivals → sums_text domain gathered.sums ≡ arrivals_text domain arrivals)
     → (frames : List Frame) (so_far : List (List ℕ)) → Forwards domain frames so_far gathered
     → Forwarded domain frames (said_more so_far (sums_by domain gathered.sums))
 Forwards-ends domain gathered sums frames so_far forwards =
@@ -105,13 +106,13 @@ Forwards-ends domain gathered sums frames so_far forwards =
     }
 
 -- sums of one arrival more
-pub IsOf-push : (domain : Domain) (old new : Forwarding) (visits : List Visit) (end : End)
-    → ((arrivals : List (List Visit × End)) → StandFor domain old.sums arrivals → StandFor domain new.sums (arrivals ++ (visits, end) ∷ []))
+pub IsOf-push : (domain : Domain) (old new : Forwarding) (it : Itinerary)
+    → ((arrivals : List Itinerary) → StandFor domain old.sums arrivals → StandFor domain new.sums (arrivals ++ it ∷ []))
     → IsOf domain old → IsOf domain new × (new.sums.packets ≡ old.sums.packets + 1)
-IsOf-push domain old new visits end counts of =
+IsOf-push domain old new it counts of =
     let stands = counts of.ways of.stands in (
-      record { ways = of.ways ++ (visits, end) ∷ []; stands = stands; plain = of.plain },
-      omega (arith, stands.packets, of.stands.packets, length-append of.ways ((visits, end) ∷ [])),
+      record { ways = of.ways ++ it ∷ []; stands = stands; plain = of.plain },
+      omega (arith, stands.packets, of.stands.packets, length-append of.ways (it ∷ [])),
     )
 
 -- visits at nodes of the domain are at nodes that are counted

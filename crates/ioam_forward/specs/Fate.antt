@@ -1,13 +1,14 @@
 -- What becomes of the arrivals of a domain whose packets aren't put into tunnels.
 use Rattle.std.specs.Prelude.{◌≡◌, ℕ, ⊤, Bool, IsSomeAnd, List, [], ◌∷◌, slice_get}
 use Rattle.ioam_ip.specs.Framing.{framing_of}
+pub use Rattle.ioam_node.specs.Admission.{packet_of}
 use Rattle.ioam_node.specs.Admission.{Admits}
 use Rattle.ioam_node.specs.declared.admitted.Admit.{Admit}
 use Rattle.ioam_node.specs.declared.admitted.Admit.TheVariants as admit
 use Rattle.ioam_pcap.specs.Cut.{is_cut}
 use Rattle.ioam_pcap.specs.Entries.{Entry}
 use Rattle.ioam_plan.specs.Plans.{Plans}
-use Rattle.ioam_plan.specs.declared.itinerary.Visit.{Visit}
+use Rattle.ioam_plan.specs.declared.itinerary.Itinerary.{Itinerary}
 use Rattle.ioam_plan.specs.declared.itinerary.End.{End}
 use Rattle.ioam_plan.specs.declared.itinerary.End.TheVariants.{Left, Drop}
 use Rattle.ioam_topo.specs.Domain.{ports}
@@ -20,18 +21,11 @@ pub record Frame : Type 0 where
   pub ethernet : Bool
   pub entry : Entry
 
--- what becomes of it: the port by which it came, the packet that was taken in, its visits and its end
+-- what becomes of it: the port by which it came, the packet that was taken in, and its itinerary
 pub record Fate : Type 0 where
   pub port : PortId
   pub packet : List ℕ
-  pub visits : List Visit
-  pub end : End
-
--- the packet that is taken in; none where the frame is dropped
-abbrev pub packet_of : Admit → List ℕ
-packet_of (admit.Plain packet) = packet.now
-packet_of (admit.Enclose flow packet limit) = packet.now
-packet_of (admit.Drop reason) = []
+  pub itinerary : Itinerary
 
 -- what is answered of a frame at the port where it arrives; it is cut where its record has fewer
 -- octets than the frame had
@@ -39,10 +33,11 @@ abbrev pub IsAnswered : Domain → Frame → Admit → Type 0
 IsAnswered domain frame answer = IsSomeAnd (slice_get (ports domain) frame.port.0)
     (λ at. Admits domain at.node.0 (framing_of frame.ethernet (is_cut frame.entry) frame.entry.octets) answer)
 
+-- no packet is enclosed, so that no readings and no earlier arrivals count
 pub record HasFate (domain : Domain) (frame : Frame) (fate : Fate) : Type 0 where
   pub answer : Admit
   pub answered : IsAnswered domain frame answer
-  pub plans : Plans domain frame.port frame.entry.time answer fate.visits fate.end
+  pub plans : Plans domain [] [] frame.port frame.entry.time answer fate.itinerary
   pub port : fate.port ≡ frame.port
   pub packet : fate.packet ≡ packet_of answer
 

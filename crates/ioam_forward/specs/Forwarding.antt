@@ -2,8 +2,7 @@
 use Rattle.std.specs.Prelude.{◌≡◌, ℕ, ◌<◌, List, IsSomeAnd, length, slice_get}
 use Rattle.ioam_ip.specs.Clean.{MayLeave}
 use Rattle.ioam_pcap.specs.Text.{IsCaptureOf}
-use Rattle.ioam_plan.specs.declared.itinerary.Visit.{Visit}
-use Rattle.ioam_plan.specs.declared.itinerary.End.{End}
+use Rattle.ioam_plan.specs.declared.itinerary.Itinerary.{Itinerary}
 use Rattle.ioam_report.specs.Sums.{StandFor}
 use Rattle.ioam_topo.specs.Domain.{ports, IsPlain}
 use Rattle.ioam_topo.specs.declared.domain.Domain.{Domain}
@@ -33,6 +32,6 @@ taken gathered = gathered.sums.packets
 
 -- the sums are those of some arrivals in the domain, which has no flows
 pub record IsOf (domain : Domain) (gathered : Forwarding) : Type 0 where
-  pub ways : List (List Visit × End)
+  pub ways : List Itinerary
   pub stands : StandFor domain gathered.sums ways
   pub plain : IsPlain domain

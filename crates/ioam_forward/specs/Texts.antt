@@ -1,8 +1,9 @@
 -- What the outputs of a run are told of the arrivals: one capture a port, and the report.
-use Rattle.std.specs.Prelude.{ℕ, zero, suc, ◌+◌, ◌-◌, nat_eq, if◌then◌else◌, List, [], ◌∷◌, ◌++◌, length, map, slice_index}
+use Rattle.std.specs.Prelude.{ℕ, zero, suc, ◌+◌, nat_eq, if◌then◌else◌, List, [], ◌∷◌, ◌++◌, length, map}
 use Rattle.std.specs.List.{flat_map}
 use Rattle.ioam_ip.specs.Lowered.{lowered}
 use Rattle.ioam_pcap.specs.Text.{Sent, records_text, capture_text}
+use Rattle.ioam_plan.specs.declared.itinerary.Itinerary.{Itinerary}
 use Rattle.ioam_plan.specs.declared.itinerary.Visit.{Visit}
 use Rattle.ioam_plan.specs.declared.itinerary.End.{End}
 use Rattle.ioam_plan.specs.declared.itinerary.End.TheVariants.{Left, Drop}
@@ -24,13 +25,16 @@ abbrev pub sent_of : List ℕ → List Visit → Sent
 sent_of packet visits = record { time = last_time visits; octets = lowered (length visits) packet }
 
 -- what is sent by the port at this place where a journey ends so
-abbrev pub sent_at : ℕ → List ℕ → List Visit → End → List Sent
-sent_at port packet visits (Left exit) = if nat_eq port exit.0 then sent_of packet visits ∷ [] else []
-sent_at port packet visits (Drop reason node) = []
+abbrev pub sent_by_end : ℕ → List ℕ → List Visit → End → List Sent
+sent_by_end port packet visits (Left exit) = if nat_eq port exit.0 then sent_of packet visits ∷ [] else []
+sent_by_end port packet visits (Drop reason node) = []
+
+abbrev pub sent_at : ℕ → List ℕ → Itinerary → List Sent
+sent_at port packet itinerary = sent_by_end port packet itinerary.visits itinerary.end
 
 -- of one arrival
 abbrev pub fate_sent : ℕ → Fate → List Sent
-fate_sent port fate = sent_at port fate.packet fate.visits fate.end
+fate_sent port fate = sent_at port fate.packet fate.itinerary
 
 -- of all, in the order of arrival
 abbrev pub sent_by : ℕ → List Fate → List Sent
@@ -42,7 +46,7 @@ out_text port fates = capture_text (sent_by port fates)
 
 -- the line of one arrival
 abbrev pub fate_line : Domain → ℕ → Fate → List ℕ
-fate_line domain number fate = arrival_line domain number fate.port.0 fate.end
+fate_line domain number fate = arrival_line domain number fate.port.0 fate.itinerary.end
 
 -- the lines of arrivals that are counted from a number
 abbrev pub report_lines : Domain → ℕ → List Fate → List ℕ
@@ -50,10 +54,10 @@ report_lines domain number [] = []
 report_lines domain number (fate ∷ fates) = fate_line domain number fate ++ report_lines domain (number + 1) fates
 
 -- what the sums count of an arrival
-abbrev pub way_of : Fate → List Visit × End
-way_of fate = (fate.visits, fate.end)
+abbrev pub way_of : Fate → Itinerary
+way_of fate = fate.itinerary
 
-abbrev pub ways_of : List Fate → List (List Visit × End)
+abbrev pub ways_of : List Fate → List Itinerary
 ways_of fates = map way_of fates
 
 -- the lines, and the sums behind them

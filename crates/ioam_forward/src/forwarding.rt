@@ -15,7 +15,7 @@ use ioam_base::memory::NoMemory;
 use ioam_node::{Admit, admit};
 use ioam_outputs::Output;
 use ioam_pcap::{Packet, put_head};
-use ioam_plan::{Itinerary, plan};
+use ioam_plan::{Itinerary, plan_plain};
 use ioam_report::{Sums, put_arrival, put_sums};
 use ioam_topo::{Domain, PortId};
 use std::alloc::Global;
@@ -44,7 +44,7 @@ fn put_fate(
     requires ends { EndsInside domain.now itinerary.now.end }
     requires width { length outputs.old ≡ length (ports domain.now) + 2 }
     ensures { OnOk result (Adds outputs.old outputs.new (added_by domain.now number
-        (record { port = port; packet = packet_of admitted.now; visits = itinerary.now.visits; end = itinerary.now.end }))) }
+        (record { port = port; packet = packet_of admitted.now; itinerary = itinerary.now }))) }
 {
     put_packet(domain, admitted, itinerary, outputs)?;
     let report = &mut outputs[domain.ports().len()].gathered;
@@ -117,7 +117,7 @@ impl Forwarding {
             (said_more so_far added) self.new)) }
     {
         let admitted = admit(domain, port, ethernet, captured.is_cut(), captured.octets);
-        let itinerary = plan(alloc, domain, port, captured.time, &admitted)?;
+        let itinerary = plan_plain(alloc, domain, port, captured.time, &admitted)?;
         let number = self.sums.packets + 1;
         put_fate(domain, number, port, &admitted, &itinerary, outputs)?;
         self.sums.note(&itinerary);

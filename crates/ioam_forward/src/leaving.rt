@@ -63,7 +63,7 @@ pub(crate) fn put_left(
     requires ends { EndsInside domain.now itinerary.now.end }
     requires width { length outputs.old ≡ length (ports domain.now) + 2 }
     ensures { OnOk result (Adds outputs.old outputs.new
-        (of_outputs domain.now (λ port. records_text (sent_at port packet.now itinerary.now.visits itinerary.now.end)) [])) }
+        (of_outputs domain.now (λ port. records_text (sent_at port packet.now itinerary.now)) [])) }
 {
     match itinerary.end {
         End::Left { port } => {
@@ -89,7 +89,7 @@ pub(crate) fn put_packet(
     requires ends { EndsInside domain.now itinerary.now.end }
     requires width { length outputs.old ≡ length (ports domain.now) + 2 }
     ensures { OnOk result (Adds outputs.old outputs.new
-        (of_outputs domain.now (λ port. records_text (sent_at port (packet_of admitted.now) itinerary.now.visits itinerary.now.end)) [])) }
+        (of_outputs domain.now (λ port. records_text (sent_at port (packet_of admitted.now) itinerary.now)) [])) }
 {
     match admitted {
         Admit::Plain { packet } => put_left(domain, packet, itinerary, outputs),

@@ -1,6 +1,6 @@
 -- What becomes of a frame at the port where it arrives: the first reason why it is dropped, or its
 -- packet, which is enclosed in the flow that it matches, or sent on as it is.
-use Rattle.std.specs.Prelude.{◌≡◌, ◌≤◌, ⊤, ℕ, false, IsTrue, List, Option, Some, None}
+use Rattle.std.specs.Prelude.{◌≡◌, ◌<◌, ◌≤◌, ⊤, ℕ, false, IsTrue, List, [], length, Option, Some, None}
 use Rattle.ioam_ip.specs.Chain.{IsSound}
 use Rattle.ioam_ip.specs.ChainOptions.{CarriesIoam, LimitOf}
 use Rattle.ioam_ip.specs.Framing.{Framing, Holds, NoIpv6, CutShort, TooShort}
@@ -75,3 +75,15 @@ abbrev pub HoldsPacket : Admit → Type 0
 HoldsPacket (admit.Drop reason) = ⊤
 HoldsPacket (admit.Plain kept) = IsPacket kept.now
 HoldsPacket (admit.Enclose flow kept limit) = IsPacket kept.now
+
+-- the flow in which it is to be enclosed is one of the domain
+abbrev pub KnowsFlow : Domain → Admit → Type 0
+KnowsFlow domain (admit.Drop reason) = ⊤
+KnowsFlow domain (admit.Plain kept) = ⊤
+KnowsFlow domain (admit.Enclose flow kept limit) = flow.0 < length (flows domain)
+
+-- the packet that is taken in; none where the frame is dropped
+abbrev pub packet_of : Admit → List ℕ
+packet_of (admit.Plain kept) = kept.now
+packet_of (admit.Enclose flow kept limit) = kept.now
+packet_of (admit.Drop reason) = []

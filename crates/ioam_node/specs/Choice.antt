@@ -1,5 +1,5 @@
 -- Where a node that isn't the packet's exit sends it, or why it drops it.
-use Rattle.std.specs.Prelude.{◌≡◌, ◌<◌, ◌≤◌, ℕ, Bool, IsTrue, nat_lt, nat_le, Option, Some, None, Result, Ok, Err, slice_get, if◌then◌else◌}
+use Rattle.std.specs.Prelude.{◌≡◌, ⊤, ◌<◌, ◌≤◌, ℕ, Bool, IsTrue, nat_lt, nat_le, Option, Some, None, Result, Ok, Err, slice_get, if◌then◌else◌}
 use Rattle.std.specs.Option.{option_map_or}
 use Rattle.ioam_topo.specs.declared.domain.Domain.{Domain}
 use Rattle.ioam_topo.specs.declared.ids.Way.{Way}
@@ -43,3 +43,70 @@ module _ (domain : Domain) (node : ℕ) (enclosed : Bool) (hops target size : �
   -- the packet is sent this way, and no reason holds
   abbrev pub Goes : Way → Type 0
   Goes way = (way_to (routes domain) node target ≡ Some way) × ((other : Reason) → Stops other → ⊥)
+
+-- where the node at which a packet is to be enclosed sends the outer packet of this size, whose way is this: by a link only, and
+-- only where the packet may be enclosed once more
+abbrev pub link_by : Domain → Bool → ℕ → Option Way → Result LinkId Reason
+link_by domain refused size None = Err reason.NoRoute
+link_by domain refused size (Some (way.Link link)) =
+    if refused then Err reason.EncapLimit else (if nat_lt (mtu_of domain link) size then Err reason.TooBig else Ok link)
+link_by domain refused size (Some (way.Port port)) = if refused then Err reason.EncapLimit else Err reason.IoamOut
+
+module _ (domain : Domain) (node : ℕ) (refused : Bool) (hops target size : ℕ) where
+  -- where the packet enters its tunnel: `hops` is its own hop limit, `target` the tunnel's exit, `size` what the outer packet has;
+  -- `refused` says that the packet may not be enclosed once more
+  abbrev pub entry_choice : Result LinkId Reason
+  entry_choice = if nat_le hops 1 then Err reason.HopLimit else link_by domain refused size (way_to (routes domain) node target)
+
+  -- a reason holds
+  abbrev pub StopsEntry : Reason → Type 0
+  StopsEntry reason.HopLimit = hops ≤ 1
+  StopsEntry reason.NoRoute = way_to (routes domain) node target ≡ None
+  StopsEntry reason.EncapLimit = IsTrue refused
+  StopsEntry reason.TooBig = (link : LinkId) × (way_to (routes domain) node target ≡ Some (way.Link link)) × (mtu_of domain link < size)
+  StopsEntry reason.IoamOut = (port : PortId) × (way_to (routes domain) node target ≡ Some (way.Port port))
+  StopsEntry reason.NotIpv6 = ⊥
+  StopsEntry reason.Cut = ⊥
+  StopsEntry reason.Length = ⊥
+  StopsEntry reason.Chain = ⊥
+  StopsEntry reason.IoamIn = ⊥
+  StopsEntry reason.Local = ⊥
+
+  -- the packet is sent by this link, and no reason holds
+  abbrev pub Enters : LinkId → Type 0
+  Enters link = (way_to (routes domain) node target ≡ Some (way.Link link)) × ((other : Reason) → StopsEntry other → ⊥)
+
+-- by which port a packet leaves that came out of its tunnel, whose way is this: a link is none
+abbrev pub port_by : Option Way → Result PortId Reason
+port_by None = Err reason.NoRoute
+port_by (Some (way.Link link)) = Err reason.NoRoute
+port_by (Some (way.Port port)) = Ok port
+
+-- no port of the node is the way
+abbrev pub LeadsNowhere : Option Way → Type 0
+LeadsNowhere None = ⊤
+LeadsNowhere (Some (way.Link link)) = ⊤
+LeadsNowhere (Some (way.Port port)) = ⊥
+
+module _ (domain : Domain) (node hops target : ℕ) where
+  -- where the packet comes out of its tunnel: `hops` is its own hop limit there, `target` its own target
+  abbrev pub exit_choice : Result PortId Reason
+  exit_choice = if nat_le hops 1 then Err reason.HopLimit else port_by (way_to (routes domain) node target)
+
+  -- a reason holds
+  abbrev pub StopsExit : Reason → Type 0
+  StopsExit reason.HopLimit = hops ≤ 1
+  StopsExit reason.NoRoute = LeadsNowhere (way_to (routes domain) node target)
+  StopsExit reason.EncapLimit = ⊥
+  StopsExit reason.TooBig = ⊥
+  StopsExit reason.IoamOut = ⊥
+  StopsExit reason.NotIpv6 = ⊥
+  StopsExit reason.Cut = ⊥
+  StopsExit reason.Length = ⊥
+  StopsExit reason.Chain = ⊥
+  StopsExit reason.IoamIn = ⊥
+  StopsExit reason.Local = ⊥
+
+  -- the packet leaves by this port, and no reason holds
+  abbrev pub Leaves : PortId → Type 0
+  Leaves port = (way_to (routes domain) node target ≡ Some (way.Port port)) × ((other : Reason) → StopsExit other → ⊥)

@@ -4,7 +4,7 @@ ghost use Rattle.ioam_ip.specs.ChainOptions.{LimitOf};
 ghost use Rattle.ioam_ip.specs.Framing.{framing_of};
 ghost use Rattle.ioam_ip.specs.Packet.{IsPacket};
 ghost use Rattle.ioam_topo.specs.Domain.{ports};
-ghost use Rattle.ioam_node.specs.Admission.{Admits, AdmitsPacket, HoldsPacket, IsFree};
+ghost use Rattle.ioam_node.specs.Admission.{Admits, AdmitsPacket, HoldsPacket, IsFree, KnowsFlow};
 
 use crate::admitted::Admit;
 use crate::reason::Reason;
@@ -29,6 +29,7 @@ pub fn admit<'a>(
     ensures admits { IsSomeAnd (slice_get (ports domain.now) port.0)
         (λ at. Admits domain.now at.node.0 (framing_of ethernet cut frame.now) result) }
     ensures packet { HoldsPacket result }
+    ensures known { KnowsFlow domain.now result }
 {
     let at = domain.port(port);
     admit_at(domain, at.node, ethernet, cut, frame)
@@ -44,6 +45,7 @@ fn admit_at<'a>(
 ) -> Admit<'a>
     ensures admits { Admits domain.now node.0 (framing_of ethernet cut frame.now) result }
     ensures packet { HoldsPacket result }
+    ensures known { KnowsFlow domain.now result }
 {
     match packet_of(ethernet, cut, frame) {
         Framed::Packet(packet) => admit_packet(domain, node, packet),
@@ -58,6 +60,7 @@ fn admit_packet<'a>(domain: &Domain, node: NodeId, packet: &'a [u8]) -> Admit<'a
     requires { IsPacket packet.now }
     ensures admits { AdmitsPacket domain.now node.0 packet.now result }
     ensures packet { HoldsPacket result }
+    ensures known { KnowsFlow domain.now result }
 {
     match walk(packet) {
         Walk::Bad { .. } => Admit::Drop(Reason::Chain),
@@ -88,6 +91,7 @@ fn admit_free<'a>(
     requires limit { LimitOf packet.now limit }
     ensures admits { AdmitsPacket domain.now node.0 packet.now result }
     ensures packet { HoldsPacket result }
+    ensures known { KnowsFlow domain.now result }
 {
     if domain.is_local(header.target) {
         return Admit::Drop(Reason::Local);

@@ -1,12 +1,13 @@
 //! Where a node sends a packet.
-ghost use Rattle.std.specs.Prelude.{◌≡◌, ◌≤◌, IfOk, MatchResult};
+ghost use Rattle.std.specs.Prelude.{◌≡◌, ◌<◌, ◌≤◌, IfOk, MatchResult, length};
 ghost use Rattle.ioam_topo.specs.Domain.{links, ports};
 ghost use Rattle.ioam_topo.specs.Forward.{IsWayFrom};
-ghost use Rattle.ioam_node.specs.Choice.{choice, Stops, Goes};
+ghost use Rattle.ioam_topo.specs.declared.ids.Way.TheVariants as way;
+ghost use Rattle.ioam_node.specs.Choice.{choice, Stops, Goes, entry_choice, StopsEntry, Enters, exit_choice, StopsExit, Leaves};
 ghost use Rattle.ioam_node.specs.Order.{IsFirst};
 
 use crate::reason::Reason;
-use ioam_topo::{Domain, NodeId, Way};
+use ioam_topo::{Domain, LinkId, NodeId, PortId, Way};
 
 /// Where a node that isn't the packet's exit sends it, or the first of these reasons that holds:
 /// `HopLimit`, `NoRoute`, `TooBig`, `IoamOut`.
@@ -42,5 +43,65 @@ pub fn choose(
         }
         Some(Way::Port(_)) if enclosed => Err(Reason::IoamOut),
         Some(way) => Ok(way),
+    }
+}
+
+/// Where the node at which a packet is to be enclosed sends the outer packet, or the first of these
+/// reasons that holds: `HopLimit`, `NoRoute`, `EncapLimit`, `TooBig`, `IoamOut`.
+///
+/// `hops` is the packet's own hop limit, `target` the address of the tunnel's exit, and `size` the
+/// octets of the outer packet. `refused` says that the packet may not be enclosed once more: its
+/// Tunnel Encapsulation Limit is 0 (RFC 2473 section 4.1.1).
+pub fn enter(
+    domain: &Domain,
+    node: NodeId,
+    refused: bool,
+    hops: u8,
+    target: u128,
+    size: usize,
+) -> Result<LinkId, Reason>
+    ensures link { result ≡ entry_choice domain.now node.0 refused hops target size }
+    ensures first { MatchResult result (Enters domain.now node.0 refused hops target size)
+        (IsFirst (StopsEntry domain.now node.0 refused hops target size)) }
+    ensures lowered { IfOk result (λ _. 2 ≤ hops) }
+    ensures inside { IfOk result (λ link. IsWayFrom (links domain.now) (ports domain.now) node.0 (way.Link link)) }
+    ensures fits { IfOk result (λ _. size ≤ 65575) }
+{
+    if hops <= 1 {
+        return Err(Reason::HopLimit);
+    }
+    match domain.forward(node, target) {
+        None => Err(Reason::NoRoute),
+        Some(_) if refused => Err(Reason::EncapLimit),
+        Some(Way::Port(_)) => Err(Reason::IoamOut),
+        Some(Way::Link(link)) => {
+            if size > domain.link(link).mtu as usize {
+                Err(Reason::TooBig)
+            } else {
+                Ok(link)
+            }
+        }
+    }
+}
+
+/// By which port a packet leaves the domain at the node where it came out of its tunnel, or the first
+/// of these reasons that holds: `HopLimit`, `NoRoute`. A route to a link is none: packets leave the
+/// domain at the exits of their tunnels.
+///
+/// `hops` is the hop limit that the packet has there, and `target` its own target.
+pub fn go_out(domain: &Domain, node: NodeId, hops: u8, target: u128) -> Result<PortId, Reason>
+    ensures port { result ≡ exit_choice domain.now node.0 hops target }
+    ensures first { MatchResult result (Leaves domain.now node.0 hops target)
+        (IsFirst (StopsExit domain.now node.0 hops target)) }
+    ensures lowered { IfOk result (λ _. 2 ≤ hops) }
+    ensures inside { IfOk result (λ port. port.0 < length (ports domain.now)) }
+{
+    if hops <= 1 {
+        return Err(Reason::HopLimit);
+    }
+    match domain.forward(node, target) {
+        Some(Way::Port(port)) => Ok(port),
+        Some(Way::Link(_)) => Err(Reason::NoRoute),
+        None => Err(Reason::NoRoute),
     }
 }

@@ -10,6 +10,6 @@ mod reason;
 
 pub use admitted::Admit;
 pub use admitting::admit;
-pub use choosing::choose;
+pub use choosing::{choose, enter, go_out};
 pub use place::Place;
 pub use reason::Reason;

@@ -14,8 +14,8 @@ use Rattle.ioam_topo.specs.declared.links.Links.{Links}
 use Rattle.ioam_topo.specs.declared.parts.Link.{Link}
 use Rattle.ioam_entries.specs.Goods.{goods, kept}
 use Rattle.ioam_places.specs.LinkTable.{link_keys, link_faults, link_of, link_name, link_end, tap_there, tap_count, few_taps}
-use Rattle.ioam_places.specs.LinkRead.{HoldsLinks, IsNewLink, from_of, taps_of}
-use Rattle.ioam_topo.specs.Keyed.{name_of_link, count_of}
+use Rattle.ioam_places.specs.LinkRead.{HoldsLinks, IsNewLink, from_of}
+use Rattle.ioam_topo.specs.Keyed.{name_of_link, count_of, taps_of}
 use Rattle.ioam_entries.proofs.GoodsLaws.{goods_push}
 use Rattle.ioam_topo.proofs.KeyLaws.{map_append}
 use Rattle.ioam_entries.proofs.KeyLaws.{kept_by}

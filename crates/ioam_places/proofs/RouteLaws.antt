@@ -1,5 +1,5 @@
 -- Laws of the routes that are collected.
-use Rattle.std.proofs.Common.{◌≡◌, ℕ, ◌+◌, List, [], ◌∷◌, ◌++◌, length, ◌≤◌, Bool, true, false, cond, Result, Ok, Err, refl, sym, subst, slice_index_or}
+use Rattle.std.proofs.Common.{◌≡◌, ℕ, ◌+◌, List, [], ◌∷◌, ◌++◌, length, ◌≤◌, Bool, true, false, cond, Result, Ok, Err, refl, sym, subst}
 use Rattle.toml.specs.Data.{Members}
 use Rattle.ioam_toml.specs.declared.why.Why.{Why}
 use Rattle.ioam_toml.specs.declared.why.Why.TheVariants.{Twice}
@@ -11,7 +11,7 @@ use Rattle.ioam_topo.specs.declared.parts.Route.{Route}
 use Rattle.ioam_places.specs.RouteRead.{keys_behind, faults_behind, route_behind, key_behind, HoldsRoutes, IsNewRoute}
 use Rattle.ioam_topo.specs.Keyed.{key_of_route, is_route}
 use Rattle.ioam_places.specs.RouteTable.{fresh_for}
-use Rattle.ioam_topo.specs.Lengths.{IsSized, Marks}
+use Rattle.ioam_topo.specs.Forward.{bits_of}
 use Rattle.std.specs.List.{All, list_any}
 use Rattle.std.proofs.lemmas.List.Elements.{All-push}
 use Rattle.ioam_entries.proofs.KeyLaws.{kept_by}
@@ -21,21 +21,19 @@ pub held_faults : (parts : Parts) (earlier : List Members) (routes : Routes) (pl
     → keys_behind parts place routes.taken.keys m ≡ faults_behind parts earlier m
 held_faults parts earlier routes place m holds there = rw (holds.keys, there)
 
-sized_more : (xs ys : List Route) (route : Route) (old new : List Bool) → ys ≡ xs ++ route ∷ [] → route.prefix.length ≤ 128 → Marks old new route.prefix.length
-    → All (IsSized old) xs → All (IsSized new) ys
-sized_more xs ys route old new more small marks all = let P : List Route → Type 0 = All (IsSized new) in
-    subst P (sym more) (All-push (IsSized new) xs route (λ k d lt. let s : IsSized old (slice_index_or xs k d) = all k d lt in (s.0, marks.1 (slice_index_or xs k d).prefix.length s.1)) (small, marks.0))
+short_more : (xs ys : List Route) (route : Route) → ys ≡ xs ++ route ∷ [] → route.prefix.length ≤ 128 → All (λ r. bits_of r ≤ 128) xs → All (λ r. bits_of r ≤ 128) ys
+short_more xs ys route more small all = let P : List Route → Type 0 = All (λ r. bits_of r ≤ 128) in
+    subst P (sym more) (All-push (λ r. bits_of r ≤ 128) xs route all small)
 
 pub route_added : (parts : Parts) (earlier : List Members) (m : Members) (route : Route) (old new : Routes)
     → HoldsRoutes parts earlier old → IsNewRoute parts old m route
     → new.items.items ≡ old.items.items ++ route ∷ [] → new.taken.keys ≡ old.taken.keys ++ (route.node.0, route.prefix) ∷ []
-    → Marks old.lengths.held new.lengths.held route.prefix.length
     → HoldsRoutes parts (earlier ++ m ∷ []) new
-route_added parts earlier m route old new holds fits items keys marks = record {
+route_added parts earlier m route old new holds fits items keys = record {
   items = goods_push (route_behind parts) earlier m route _ _ fits.is holds.items items;
   keys = goods_push (key_behind parts) earlier m (route.node.0, route.prefix) _ _ fits.key_is holds.keys keys;
   keyed = kept_by key_of_route old.items.items new.items.items route _ _ holds.keyed items keys;
-  sized = sized_more old.items.items new.items.items route _ _ items fits.small marks holds.sized;
+  short = short_more old.items.items new.items.items route items fits.small holds.short;
 }
 
 fresh_under : (b : Bool) (y x : Prefix) (r : Result Prefix Why) → r ≡ cond b (Err Twice) (Ok y) → r ≡ Ok x → (b ≡ false) × (y ≡ x)

@@ -48,8 +48,8 @@ module _ (taps : ℕ) (t : Members) (parts : Parts) (holds : HoldsParts taps t p
         let e : length parts.nodes.items.items ≡ length (goods node_of (node_entries t)) = ap length holds.nodes.items in omega (arith, f, e);
   }
 
-  pub links_kept : LinksKept (length parts.nodes.items.items) parts.links
-  links_kept = record {
+  pub links_kept : taps ≤ 64 → LinksKept (length parts.nodes.items.items) parts.links
+  links_kept most = record {
     named = holds.links.named;
     joined = let all : All (JoinsNodes (length (node_names t))) (goods (link_of (node_names t)) (link_entries t)) = goods_all (JoinsNodes (length (node_names t))) (link_of (node_names t)) (link_entries t) (link_joins (node_names t)) in
         let P : List Link → Type 0 = All (JoinsNodes (length (node_names t))) in let Q : ℕ → Type 0 = λ n. All (JoinsNodes n) parts.links.items.items in
@@ -58,6 +58,7 @@ module _ (taps : ℕ) (t : Members) (parts : Parts) (holds : HoldsParts taps t p
     few = let f : length (goods (link_of (node_names t)) (link_entries t)) ≤ 1024 = few_entries (link_of (node_names t)) LinkTable 1024 (get_member (codes "link") t) (link_faults (node_names t) taps)
         (front_none link_part port_part (back_none node_part (link_part ++ port_part) clear)) in
         let e : length parts.links.items.items ≡ length (goods (link_of (node_names t)) (link_entries t)) = ap length holds.links.items in omega (arith, f, e);
+    few_taps = let n = holds.links.tapped in let f = holds.links.few_taps in omega (arith, n, f, most);
   }
 
   pub ports_kept : PortsKept (length parts.nodes.items.items) parts.ports
@@ -75,7 +76,7 @@ module _ (taps : ℕ) (t : Members) (parts : Parts) (holds : HoldsParts taps t p
       → table_faults RouteTable 16384 (get_member (codes "route") t) (faults_behind parts) ≡ [] → RoutesKept parts routes
   routes_kept routes are none = record {
     keyed = are.keyed;
-    sized = are.sized;
+    short = are.short;
     routed = let link_count : length parts.links.names ≡ length parts.links.items.items = ap length holds.links.named ∙ sym (length_map name_of_link parts.links.items.items) in
         let count : length parts.nodes.names ≡ length parts.nodes.items.items = ap length holds.nodes.names ∙ node_count in
         let all : All (IsRouteOf (length parts.nodes.names) parts.links.items.items parts.ports.items.items) (goods (route_behind parts) (route_entries t)) =

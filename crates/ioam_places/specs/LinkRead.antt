@@ -1,5 +1,5 @@
 -- What is known of the links of the entries so far, and of one that was read.
-use Rattle.std.specs.Prelude.{◌≡◌, ◌≤◌, ℕ, ◌+◌, false, List, [], ◌∷◌, map, Result, Ok, length}
+use Rattle.std.specs.Prelude.{◌≡◌, ◌≤◌, ℕ, ◌+◌, false, List, map, Result, Ok, length}
 use Rattle.std.specs.List.{list_any}
 use Rattle.std.specs.Str.{bytes_eq}
 use Rattle.toml.specs.Data.{Members}
@@ -8,12 +8,7 @@ use Rattle.ioam_topo.specs.declared.parts.Link.{Link}
 use Rattle.ioam_topo.specs.declared.links.Links.{Links}
 use Rattle.ioam_entries.specs.Goods.{goods, kept}
 use Rattle.ioam_places.specs.LinkTable.{link_of, link_name, link_end, tap_there, tap_count}
-use Rattle.ioam_topo.specs.Keyed.{name_of_link, count_of}
-
--- how many of these links have a tap
-abbrev pub taps_of : List Link → ℕ
-taps_of [] = 0
-taps_of (link ∷ links) = count_of link.tap + taps_of links
+use Rattle.ioam_topo.specs.Keyed.{name_of_link, count_of, taps_of}
 
 -- the node that a link is from
 abbrev pub from_of : Link → Result ℕ Why

@@ -9,7 +9,7 @@ use Rattle.ioam_topo.specs.declared.routes.Parts.{Parts}
 use Rattle.ioam_topo.specs.declared.routes.Routes.{Routes}
 use Rattle.ioam_entries.specs.declared.fault.DomainFault.{DomainFault}
 use Rattle.ioam_entries.specs.Goods.{goods}
-use Rattle.ioam_topo.specs.Lengths.{IsSized}
+use Rattle.ioam_topo.specs.Forward.{bits_of}
 use Rattle.ioam_places.specs.LinkRead.{from_of}
 use Rattle.ioam_places.specs.PortRead.{node_of_port}
 use Rattle.ioam_topo.specs.Keyed.{is_route, key_of_route}
@@ -34,7 +34,7 @@ module _ (parts : Parts) where
     pub items : routes.items.items ≡ goods route_behind entries
     pub keys : routes.taken.keys ≡ goods key_behind entries
     pub keyed : routes.taken.keys ≡ map key_of_route routes.items.items
-    pub sized : All (IsSized routes.lengths.held) routes.items.items
+    pub short : All (λ route. bits_of route ≤ 128) routes.items.items
 
   -- this is the route of an entry, and its prefix is not among the node's others
   pub record IsNewRoute (routes : Routes) (m : Members) (route : Route) : Type 0 where

@@ -1,70 +1,87 @@
 -- Laws of journeys.
-use Rattle.std.proofs.Common.{◌≡◌, ℕ, true, false, List, [], ◌∷◌, ◌++◌, Some, Ok, Err, IsOk, slice_get, refl, sym, ◌∙◌, subst}
-use Rattle.ioam_base.specs.Leads.{Leads}
-use Rattle.ioam_base.proofs.LeadsLaws.{Leads-push, Leads-unique}
+use Rattle.std.proofs.Common.{◌≡◌, ℕ, true, false, Bool, List, [], ◌∷◌, ◌++◌, Option, Result, Err, refl, sym, ◌∙◌, ap, subst, if◌then◌else◌}
 use Rattle.ioam_topo.specs.declared.domain.Domain.{Domain}
-use Rattle.ioam_topo.specs.declared.parts.Link.{Link}
+use Rattle.ioam_topo.specs.declared.ids.FlowId.{FlowId}
 use Rattle.ioam_topo.specs.declared.ids.LinkId.{LinkId}
-use Rattle.ioam_topo.specs.declared.ids.Way.TheVariants as way
-use Rattle.ioam_topo.specs.Domain.{links}
+use Rattle.ioam_node.specs.declared.reason.Reason.{Reason}
+use Rattle.ioam_node.specs.declared.reason.Reason.TheVariants.{HopLimit}
+use Rattle.ioam_tunnel.specs.declared.numbers.Numbers.{Numbers}
+use Rattle.ioam_plan.specs.declared.itinerary.Itinerary.{Itinerary}
 use Rattle.ioam_plan.specs.declared.itinerary.Visit.{Visit}
 use Rattle.ioam_plan.specs.declared.itinerary.End.{End}
-use Rattle.ioam_plan.specs.declared.itinerary.End.TheVariants.{Left, Drop}
-use Rattle.ioam_plan.specs.declared.spot.Spot.{Spot}
-use Rattle.ioam_plan.specs.Journey.{Stage, At, Gone, Journey, CanSend, visit_at, visit_by, next_stage, crossed, way_at, EndsAs}
+use Rattle.ioam_plan.specs.declared.itinerary.End.TheVariants.{Drop}
+use Rattle.ioam_plan.specs.declared.stage.Spot.{Spot}
+use Rattle.ioam_plan.specs.declared.stage.Stage.{Stage}
+use Rattle.ioam_plan.specs.declared.stage.Step.TheVariants.{Goes, Ends}
+use Rattle.ioam_plan.specs.declared.stage.Trip.{Trip}
+use Rattle.ioam_plan.specs.Journey.{Journey, Reaches, step_at, carried_by, sent_in}
 
-module _ (domain : Domain) (target size : ℕ) where
-  -- at a spot whose way is a link the packet is sent on, to the far end of the link
-  pub crosses : (spot : Spot) (link : LinkId) (l : Link) → way_at domain target size spot ≡ Ok (way.Link link) → slice_get (links domain) link.0 ≡ Some l
-      → IsOk (way_at domain target size spot)
-      × (visit_by domain spot (Some (way.Link link)) ≡ visit_at domain target size (At spot))
-      × (next_stage domain target size (At spot) ≡ At (crossed spot (Some l)))
-  crosses spot link l is held = rw (is, held) (refl, refl, refl)
-
+module _ (domain : Domain) (trip : Trip) where
   -- visits that lead to a stage, and one more
-  pub sends : (start : Spot) (visits : List Visit) (stage next : Stage) (visit : Visit)
-      → Leads (CanSend domain target size) (visit_at domain target size) (next_stage domain target size) (At start) visits stage
-      → CanSend domain target size stage → visit ≡ visit_at domain target size stage → next_stage domain target size stage ≡ next
-      → Leads (CanSend domain target size) (visit_at domain target size) (next_stage domain target size) (At start) (visits ++ visit ∷ []) next
-  sends start visits stage next visit leads can is to =
-      let pushed = Leads-push (CanSend domain target size) (visit_at domain target size) (next_stage domain target size) (At start) visits stage leads can in
-      let P : Visit → Type 0 = λ v. Leads (CanSend domain target size) (visit_at domain target size) (next_stage domain target size) (At start) (visits ++ v ∷ []) (next_stage domain target size stage) in
-      let Q : Stage → Type 0 = λ s. Leads (CanSend domain target size) (visit_at domain target size) (next_stage domain target size) (At start) (visits ++ visit ∷ []) s in
-      subst Q to (subst P (sym is) pushed)
+  pub Reaches-push : (from : Stage) (visits : List Visit) (stage : Stage) (visit : Visit) (next : Stage)
+      → Reaches domain trip from visits stage → step_at domain trip stage ≡ Goes visit next
+      → Reaches domain trip from (visits ++ visit ∷ []) next
+  Reaches-push from [] stage visit next here step =
+      let P : Stage → Type 0 = λ s. step_at domain trip s ≡ Goes visit next in
+      (next, subst P (sym here) step, refl)
+  Reaches-push from (first ∷ visits) stage visit next leads step =
+      (leads.0, leads.1, Reaches-push leads.0 visits stage visit next leads.2 step)
 
-  -- visits that lead to a stage at which the journey ends
-  pub ended : (start : Spot) (visits held : List Visit) (stage : Stage) (end kept : End)
-      → Leads (CanSend domain target size) (visit_at domain target size) (next_stage domain target size) (At start) visits stage
-      → EndsAs domain target size stage end → held ≡ visits → kept ≡ end → Journey domain target size start held kept
-  ended start visits held stage end kept leads ends same also =
-      let P : List Visit → Type 0 = λ vs. Leads (CanSend domain target size) (visit_at domain target size) (next_stage domain target size) (At start) vs stage in
-      let Q : End → Type 0 = λ e. EndsAs domain target size stage e in
-      record { last = stage; leads = subst P (sym same) leads; ends = subst Q (sym also) ends }
+  -- a journey that goes on doesn't end there
+  no_end : (stage : Stage) (visit : Visit) (next : Stage) (end : End) (exited : Bool)
+      → step_at domain trip stage ≡ Goes visit next → step_at domain trip stage ≡ Ends end exited → ⊥
+  no_end stage visit next end exited goes ends =
+      let never : Goes visit next ≡ Ends end exited = sym goes ∙ ends in cc
 
-  -- a journey ends where the packet isn't sent on
-  ends_last : (stage : Stage) (end : End) → EndsAs domain target size stage end → CanSend domain target size stage → ⊥
-  ends_last (At spot) (Drop reason node) ends can =
-      let never : false ≡ true = subst IsOk ends.0 can in cc
-  ends_last (At spot) (Left port) ends can = ends
-  ends_last (Gone spot port) end ends can = can
+  -- from a stage on the same visits lead to the end
+  one_way : (from : Stage) (visits : List Visit) (last : Stage) (end : End) (exited : Bool)
+      (others : List Visit) (final : Stage) (other : End) (out : Bool)
+      → Reaches domain trip from visits last → step_at domain trip last ≡ Ends end exited
+      → Reaches domain trip from others final → step_at domain trip final ≡ Ends other out
+      → (visits ≡ others) × (end ≡ other) × (exited ≡ out)
+  one_way from [] last end exited [] final other out here ends there stops =
+      let P : Stage → Type 0 = λ s. step_at domain trip s ≡ Ends end exited in
+      let Q : Stage → Type 0 = λ s. step_at domain trip s ≡ Ends other out in
+      let same : Ends end exited ≡ Ends other out = sym (subst P (sym here) ends) ∙ subst Q (sym there) stops in
+      let one : end ≡ other = cc in
+      let two : exited ≡ out = cc in
+      (refl, one, two)
+  one_way from [] last end exited (visit ∷ others) final other out here ends leads stops =
+      let P : Stage → Type 0 = λ s. step_at domain trip s ≡ Ends end exited in
+      absurd (no_end from visit leads.0 end exited leads.1 (subst P (sym here) ends))
+  one_way from (visit ∷ visits) last end exited [] final other out leads ends here stops =
+      let P : Stage → Type 0 = λ s. step_at domain trip s ≡ Ends other out in
+      absurd (no_end from visit leads.0 other out leads.1 (subst P (sym here) stops))
+  one_way from (visit ∷ visits) last end exited (second ∷ others) final other out leads ends follows stops =
+      let same : Goes visit leads.0 ≡ Goes second follows.0 = sym leads.1 ∙ follows.1 in
+      let first : visit ≡ second = cc in
+      let next : follows.0 ≡ leads.0 = cc in
+      let P : Stage → Type 0 = λ s. Reaches domain trip s others final in
+      let rest : (visits ≡ others) × (end ≡ other) × (exited ≡ out) =
+      one_way leads.0 visits last end exited others final other out leads.2 ends (subst P next follows.2) stops in
+      let whole : visit ∷ visits ≡ second ∷ others = let tail : visits ≡ others = rest.0 in cc in
+      (whole, rest.1, rest.2)
 
-  -- it ends in one way there
-  one_end : (stage : Stage) (end other : End) → EndsAs domain target size stage end → EndsAs domain target size stage other → end ≡ other
-  one_end (At spot) (Drop reason node) (Drop cause at) first second =
-      let same : Err reason ≡ Err cause = sym first.0 ∙ second.0 in
-      let nodes : node ≡ at = first.1 ∙ sym second.1 in cc
-  one_end (At spot) (Left port) other first second = absurd first
-  one_end (At spot) (Drop reason node) (Left port) first second = absurd second
-  one_end (Gone spot gone) (Left port) (Left exit) first second = let same : port ≡ exit = first ∙ sym second in cc
-  one_end (Gone spot gone) (Drop reason node) other first second = absurd first
-  one_end (Gone spot gone) (Left port) (Drop reason node) first second = absurd second
+-- two itineraries with the same visits, end and numbers are one
+pub same_itinerary : (a b : Itinerary) → a.visits ≡ b.visits → a.end ≡ b.end → a.exited ≡ b.exited → a.carried ≡ b.carried → a ≡ b
+same_itinerary a b visits ends exits carries =
+    let F : List Visit → End → Bool → Option (FlowId × Numbers) → Itinerary =
+    λ visits end exited carried. record { visits = visits; end = end; exited = exited; carried = carried } in
+    ap (λ visits. F visits a.end a.exited a.carried) visits ∙ ap (λ end. F b.visits end a.exited a.carried) ends
+    ∙ ap (λ exited. F b.visits b.end exited a.carried) exits ∙ ap (λ carried. F b.visits b.end b.exited carried) carries
 
-  -- from a spot on there is one journey only
-  pub Journey-unique : (start : Spot) (visits : List Visit) (end : End) (others : List Visit) (other : End)
-      → Journey domain target size start visits end → Journey domain target size start others other → (visits ≡ others) × (end ≡ other)
-  Journey-unique start visits end others other first second =
-      let same : (visits ≡ others) × (first.last ≡ second.last)
-      = Leads-unique (CanSend domain target size) (visit_at domain target size) (next_stage domain target size) (At start)
-      visits first.last others second.last first.leads (ends_last first.last end first.ends) second.leads (ends_last second.last other second.ends) in
-      let P : Stage → Type 0 = λ stage. EndsAs domain target size stage end in
-      (same.0, one_end second.last end other (subst P same.1 first.ends) second.ends)
+-- from a stage on there is one journey only
+pub Journey-unique : (domain : Domain) (trip : Trip) (start : Stage) (it other : Itinerary)
+    → Journey domain trip start it → Journey domain trip start other → it ≡ other
+Journey-unique domain trip start it other first second =
+    let same = one_way domain trip start it.visits first.last it.end it.exited other.visits second.last other.end other.exited
+    first.reaches first.ends second.reaches second.ends in
+    same_itinerary it other same.0 same.1 same.2
+    (first.carried ∙ ap (λ (visits : List Visit). carried_by visits trip.inside) same.0 ∙ sym second.carried)
+
+-- a packet that goes on from where it enters its tunnel has a hop limit that can be lowered
+pub by_choice : (domain : Domain) (spot : Spot) (hops : ℕ) (low : Bool) (choice : Result LinkId Reason) (visit : Visit) (next : Stage)
+    → sent_in domain spot hops (if low then Err HopLimit else choice) ≡ Goes visit next → low ≡ false
+by_choice domain spot hops false choice visit next goes = refl
+by_choice domain spot hops true choice visit next goes =
+    let stopped : Ends (Drop HopLimit spot.node) false ≡ Goes visit next = goes in cc

@@ -1,87 +1,110 @@
--- The journey of a packet through a domain. At each node its way is chosen by the node's routes and
--- the packet's hop limit, target and size; a link leads to the next node, its delay later and with
--- the hop limit one less (RFC 8200 section 3), and a port leads out of the domain.
-use Rattle.std.specs.Prelude.{◌≡◌, ℕ, ◌+◌, ◌-◌, List, false, Option, Some, None, option_map, slice_get, Result, Ok, Err, IsOk}
-use Rattle.ioam_base.specs.Leads.{Leads}
+-- The journey of a packet through a domain. At each node its way is chosen by the node's routes and the packet's hop limit, target
+-- and size; a link leads to the next node, its delay later and with the hop limit one less (RFC 8200 section 3), and a port leads out
+-- of the domain. A packet that is enclosed goes by its outer header: the node where it enters its tunnel sends it with the flow's hop
+-- limit, the node where the tunnel ends takes it out, and by that node's ports alone it leaves (RFC 2473 section 3).
+use Rattle.std.specs.Prelude.{◌≡◌, ℕ, ◌+◌, ◌-◌, true, false, nat_eq, if◌then◌else◌, List, [], ◌∷◌, Option, Some, None, option_map, slice_get, Result, Ok, Err}
 use Rattle.ioam_topo.specs.declared.domain.Domain.{Domain}
 use Rattle.ioam_topo.specs.declared.parts.Link.{Link}
+use Rattle.ioam_topo.specs.declared.ids.NodeId.{NodeId}
+use Rattle.ioam_topo.specs.declared.ids.LinkId.{LinkId}
 use Rattle.ioam_topo.specs.declared.ids.PortId.{PortId}
+use Rattle.ioam_topo.specs.declared.ids.FlowId.{FlowId}
 use Rattle.ioam_topo.specs.declared.ids.Way.{Way}
 use Rattle.ioam_topo.specs.declared.ids.Way.TheVariants as way
 use Rattle.ioam_topo.specs.Domain.{links, ports}
+use Rattle.ioam_tunnel.specs.declared.numbers.Numbers.{Numbers}
 use Rattle.ioam_node.specs.declared.reason.Reason.{Reason}
-use Rattle.ioam_node.specs.Choice.{choice}
+use Rattle.ioam_node.specs.Choice.{choice, entry_choice, exit_choice}
+use Rattle.ioam_plan.specs.declared.itinerary.Itinerary.{Itinerary}
 use Rattle.ioam_plan.specs.declared.itinerary.Visit.{Visit}
 use Rattle.ioam_plan.specs.declared.itinerary.End.{End}
 use Rattle.ioam_plan.specs.declared.itinerary.End.TheVariants.{Left, Drop}
-use Rattle.ioam_plan.specs.declared.spot.Spot.{Spot}
-
--- where a packet is: at a node, or out of the domain by a port of the node where it last was
-pub data Stage : Type 0 where
-  At : Spot → Stage
-  Gone : Spot → PortId → Stage
+use Rattle.ioam_plan.specs.declared.stage.Inside.{Inside}
+use Rattle.ioam_plan.specs.declared.stage.Spot.{Spot}
+use Rattle.ioam_plan.specs.declared.stage.Stage.{Stage}
+use Rattle.ioam_plan.specs.declared.stage.Stage.TheVariants.{Enter, At, Gone, Out}
+use Rattle.ioam_plan.specs.declared.stage.Step.{Step}
+use Rattle.ioam_plan.specs.declared.stage.Step.TheVariants.{Goes, Ends}
+use Rattle.ioam_plan.specs.declared.stage.Trip.{Trip}
 
 -- the interface by which a way leaves its node
 abbrev pub outward_of : Domain → Way → Option ℕ
 outward_of domain (way.Link link) = option_map (λ l. l.out_id) (slice_get (links domain) link.0)
 outward_of domain (way.Port port) = option_map (λ p. p.id) (slice_get (ports domain) port.0)
 
--- the visit at a spot from which the packet is sent by a way
+-- none where the packet isn't sent on
+abbrev pub outward_by : Domain → Option Way → Option ℕ
+outward_by domain None = None
+outward_by domain (Some sent) = outward_of domain sent
+
+-- the visit at a spot from which the packet is sent by a way, if it is
 abbrev pub visit_by : Domain → Spot → Option Way → Visit
-visit_by domain spot None = record { place = record { node = spot.node; inward = spot.inward; outward = None }; way = None; time = spot.time }
-visit_by domain spot (Some sent) = record {
-  place = record { node = spot.node; inward = spot.inward; outward = outward_of domain sent };
-  way = Some sent;
+visit_by domain spot sent = record {
+  place = record { node = spot.node; inward = spot.inward; outward = outward_by domain sent };
+  way = sent;
   time = spot.time;
 }
 
--- the spot at the far end of a link
-abbrev pub crossed : Spot → Option Link → Spot
-crossed spot None = spot
-crossed spot (Some link) = record { node = link.to; inward = link.in_id; time = spot.time + link.delay; hops = spot.hops - 1 }
+-- the spot at the far end of a link, which the packet crosses with this hop limit
+abbrev pub crossed : Spot → ℕ → Option Link → Spot
+crossed spot hops None = spot
+crossed spot hops (Some link) = record { node = link.to; inward = link.in_id; time = spot.time + link.delay; hops = hops }
+
+-- where a link leads
+abbrev pub across : Domain → Spot → ℕ → LinkId → Stage
+across domain spot hops link = At (crossed spot hops (slice_get (links domain) link.0))
 
 -- where a way leads
-abbrev pub led : Domain → Spot → Way → Stage
-led domain spot (way.Link link) = At (crossed spot (slice_get (links domain) link.0))
-led domain spot (way.Port port) = Gone spot port
+abbrev pub led : Domain → Spot → ℕ → Way → Stage
+led domain spot hops (way.Link link) = across domain spot hops link
+led domain spot hops (way.Port port) = Gone port
 
-abbrev pub ok_way : Result Way Reason → Option Way
-ok_way (Ok sent) = Some sent
-ok_way (Err reason) = None
+-- the packet is sent with this hop limit by a way, or dropped
+abbrev pub sent_on : Domain → Spot → ℕ → Result Way Reason → Step
+sent_on domain spot hops (Ok sent) = Goes (visit_by domain spot (Some sent)) (led domain spot hops sent)
+sent_on domain spot hops (Err reason) = Ends (Drop reason spot.node) false
 
-abbrev pub led_by : Domain → Spot → Result Way Reason → Stage
-led_by domain spot (Ok sent) = led domain spot sent
-led_by domain spot (Err reason) = At spot
+-- where it enters its tunnel it is sent by a link, or dropped
+abbrev pub sent_in : Domain → Spot → ℕ → Result LinkId Reason → Step
+sent_in domain spot hops (Ok link) = Goes (visit_by domain spot (Some (way.Link link))) (across domain spot hops link)
+sent_in domain spot hops (Err reason) = Ends (Drop reason spot.node) false
 
-module _ (domain : Domain) (target size : ℕ) where
-  -- the way of the packet at a spot, or why it is dropped there
-  abbrev pub way_at : Spot → Result Way Reason
-  way_at spot = choice domain spot.node.0 false spot.hops target size
+-- it leaves by a port, or is dropped
+abbrev pub end_by : NodeId → Result PortId Reason → End
+end_by node (Ok port) = Left port
+end_by node (Err reason) = Drop reason node
 
-  -- the packet is sent on
-  abbrev pub CanSend : Stage → Type 0
-  CanSend (At spot) = IsOk (way_at spot)
-  CanSend (Gone spot port) = ⊥
+-- what becomes of the packet at a node where it doesn't enter its tunnel: the node at which the tunnel ends takes it out
+abbrev pub met_at : Domain → ℕ → ℕ → Spot → Option Inside → Step
+met_at domain target size spot None = sent_on domain spot (spot.hops - 1) (choice domain spot.node.0 false spot.hops target size)
+met_at domain target size spot (Some inside) =
+    if nat_eq inside.exit.0 spot.node.0
+    then Goes (visit_by domain spot None) (Out spot.node inside)
+    else sent_on domain spot (spot.hops - 1) (choice domain spot.node.0 true spot.hops target size)
 
-  -- the visit at which it is
-  abbrev pub visit_at : Stage → Visit
-  visit_at (At spot) = visit_by domain spot (ok_way (way_at spot))
-  visit_at (Gone spot port) = visit_by domain spot None
+-- what is enclosed: a packet that is visited, so that it isn't dropped where it would enter its tunnel
+abbrev pub carried_by : List Visit → Option Inside → Option (FlowId × Numbers)
+carried_by [] inside = None
+carried_by (visit ∷ visits) None = None
+carried_by (visit ∷ visits) (Some inside) = Some (inside.flow, inside.numbers)
 
-  -- where it is next
-  abbrev pub next_stage : Stage → Stage
-  next_stage (At spot) = led_by domain spot (way_at spot)
-  next_stage (Gone spot port) = Gone spot port
+module _ (domain : Domain) (trip : Trip) where
+  -- what becomes of the packet at a stage: a visit from which it goes on to another, or its end, after it reached its exit or before
+  abbrev pub step_at : Stage → Step
+  step_at (Enter spot entry) =
+      sent_in domain spot entry.hops (entry_choice domain spot.node.0 entry.refused spot.hops trip.target trip.size)
+  step_at (At spot) = met_at domain trip.target trip.size spot trip.inside
+  step_at (Gone port) = Ends (Left port) false
+  step_at (Out node inside) = Ends (end_by node (exit_choice domain node.0 inside.hops inside.target)) true
 
-  -- how the journey ends there
-  abbrev pub EndsAs : Stage → End → Type 0
-  EndsAs (At spot) (Drop reason node) = (way_at spot ≡ Err reason) × (node ≡ spot.node)
-  EndsAs (At spot) (Left port) = ⊥
-  EndsAs (Gone spot gone) (Left port) = port ≡ gone
-  EndsAs (Gone spot gone) (Drop reason node) = ⊥
+  -- these visits lead from a stage to another
+  abbrev pub Reaches : Stage → List Visit → Stage → Type 0
+  Reaches from [] to = from ≡ to
+  Reaches from (visit ∷ visits) to = (next : Stage) × (step_at from ≡ Goes visit next) × Reaches next visits to
 
-  -- from a spot on the packet is sent on at these visits, and ends so
-  pub record Journey (start : Spot) (visits : List Visit) (end : End) : Type 0 where
+  -- from a stage on the packet is visited so, and ends so
+  pub record Journey (start : Stage) (itinerary : Itinerary) : Type 0 where
     pub last : Stage
-    pub leads : Leads CanSend visit_at next_stage (At start) visits last
-    pub ends : EndsAs last end
+    pub reaches : Reaches start itinerary.visits last
+    pub ends : step_at last ≡ Ends itinerary.end itinerary.exited
+    pub carried : itinerary.carried ≡ carried_by itinerary.visits trip.inside

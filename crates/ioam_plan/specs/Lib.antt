@@ -1,4 +1,7 @@
 pub mod Journey
-pub mod Steps
-pub mod Plans
 pub mod Inside
+pub mod Rides
+pub mod Steps
+pub mod Counted
+pub mod Drawn
+pub mod Plans

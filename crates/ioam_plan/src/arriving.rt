@@ -1,26 +1,77 @@
-ghost use Rattle.std.specs.Prelude.{◌≡◌, ◌≤◌, ◌<◌, ◌^◌, List, false, IfOk, length, slice_get, Some};
+ghost use Rattle.std.specs.Prelude.{◌≡◌, ◌≤◌, ◌<◌, ◌^◌, ◌∷◌, ◌++◌, [], List, All, IfOk, IfErr, length, slice_get, Some, IsSomeAnd};
+ghost use Rattle.ioam_ip.specs.Header.{HasFields};
 ghost use Rattle.ioam_ip.specs.Packet.{IsPacket};
-ghost use Rattle.ioam_topo.specs.Domain.{nodes, ports};
+ghost use Rattle.ioam_node.specs.Admission.{HoldsPacket, KnowsFlow, packet_of};
+ghost use Rattle.ioam_topo.specs.Domain.{nodes, ports, flows};
 ghost use Rattle.ioam_topo.specs.Kept.{IsAtNode};
+ghost use Rattle.ioam_topo.specs.Sound.{IsFlow};
+ghost use Rattle.ioam_plan.specs.Counted.{CountFor};
 ghost use Rattle.ioam_plan.specs.Inside.{StaysInside};
-ghost use Rattle.ioam_plan.specs.declared.itinerary.Visit.{Visit};
-ghost use Rattle.ioam_plan.specs.declared.itinerary.End.{End};
-ghost use Rattle.ioam_plan.specs.Plans.{Plans, IsPlannable, PlansPacket, PlansDrop};
+ghost use Rattle.ioam_plan.specs.Rides.{Rides};
+ghost use Rattle.ioam_plan.specs.declared.itinerary.Itinerary.{Itinerary};
+ghost use Rattle.ioam_clock.specs.declared.sample.Sample.{Sample};
+ghost use Rattle.ioam_plan.specs.Plans.{IsPlain, Plans, PlansBy, PlansPacket, PlansFlow, PlansDrop, start_of, flow_trip, entry_of};
 
+use crate::counters::Counters;
+use crate::drawing::{is_refused, numbers_of};
 use crate::itinerary::{End, Itinerary};
 use crate::planning::travel;
-use crate::spot::Spot;
+use crate::stage::{Entry, Inside, Spot, Stage, Trip};
 use ioam_base::memory::NoMemory;
-use ioam_ip::header;
+use ioam_clock::Readings;
+use ioam_ip::{Header, header};
 use ioam_node::{Admit, Reason};
-use ioam_topo::{Domain, Port, PortId};
+use ioam_topo::{Domain, Flow, FlowId, Port, PortId};
+use ioam_tunnel::{Numbers, outer_size};
 use std::alloc::Global;
 
 /// What becomes of a frame that arrives at a port at a time (nanoseconds, below 2^62), by what
-/// [`ioam_node::admit`] answered of it: the visits of its packet, and how its journey ends. No packet
-/// goes through a tunnel. There are at most 256 visits, since each lowers the packet's hop limit (RFC 8200 section 3), all at nodes of
-/// the domain.
+/// [`ioam_node::admit`] answered of it: the visits of its packet, how its journey ends, and what the
+/// entry node writes where it is enclosed (RFC 2473 section 3, RFC 9197 section 4.6, RFC 9326 section
+/// 3.2). There are at most 256 visits, since each but the entry's and the exit's lowers a hop limit
+/// (RFC 8200 section 3), all at nodes of the domain.
+///
+/// The readings and the counters are those of the domain. The counters stand for the arrivals before,
+/// of which fewer than 2^32 were enclosed in any flow, and then for this one too. A packet that is
+/// dropped where it arrives takes no number. Without memory they are as before.
 pub fn plan(
+    alloc: Global,
+    domain: &Domain,
+    readings: &Readings,
+    counters: &mut Counters,
+    port: PortId,
+    time: u64,
+    admitted: &Admit<'_>,
+) -> Result<Itinerary, NoMemory>
+    requires port { port.0 < length (ports domain.now) }
+    requires time { time < 2 ^ 62 }
+    requires packet { HoldsPacket admitted.now }
+    requires flow { KnowsFlow domain.now admitted.now }
+    requires counters { length counters.old ≡ length (flows domain.now) }
+    requires few { All (λ number. number < 2 ^ 32) counters.old }
+    ensures plans { (earlier : List Itinerary) → CountFor domain.now counters.old earlier
+        → IfOk result (Plans domain.now readings.now earlier port time admitted.now) }
+    // Nothing else is planned for it.
+    ensures only { (earlier : List Itinerary) (other : Itinerary) → CountFor domain.now counters.old earlier
+        → Plans domain.now readings.now earlier port time admitted.now other → IfOk result (λ it. it ≡ other) }
+    ensures counted { (earlier : List Itinerary) → CountFor domain.now counters.old earlier
+        → IfOk result (λ it. CountFor domain.now counters.new (earlier ++ it ∷ [])) }
+    ensures as_before { IfErr result (λ _. counters.new ≡ counters.old) }
+    ensures rides { IfOk result (Rides domain.now (packet_of admitted.now)) }
+    ensures inside { IfOk result (StaysInside domain.now) }
+{
+    let port = port_of(domain, port);
+    match plan_at(alloc, domain, readings, counters, port, time, admitted) {
+        Ok(itinerary) => {
+            counters.note(&itinerary);
+            Ok(itinerary)
+        }
+        Err(NoMemory) => Err(NoMemory),
+    }
+}
+
+/// The same for a frame whose packet isn't to be enclosed: nothing is drawn for it.
+pub fn plan_plain(
     alloc: Global,
     domain: &Domain,
     port: PortId,
@@ -29,14 +80,12 @@ pub fn plan(
 ) -> Result<Itinerary, NoMemory>
     requires port { port.0 < length (ports domain.now) }
     requires time { time < 2 ^ 62 }
-    requires admitted { IsPlannable admitted.now }
-    ensures plans { IfOk result (λ it. Plans domain.now port time admitted.now it.visits it.end) }
-    // Nothing else is planned for it.
-    ensures only { (visits : List Visit) (end : End) → Plans domain.now port time admitted.now visits end
-        → IfOk result (λ it. (it.visits ≡ visits) × (it.end ≡ end)) }
-    ensures exited { IfOk result (λ it. it.exited ≡ false) }
-    ensures few { IfOk result (λ it. length it.visits ≤ 256) }
-    ensures inside { IfOk result (λ it. StaysInside domain.now it.visits it.end) }
+    requires plain { IsPlain admitted.now }
+    requires packet { HoldsPacket admitted.now }
+    ensures plans { (readings : List (List Sample)) (earlier : List Itinerary)
+        → IfOk result (Plans domain.now readings earlier port time admitted.now) }
+    ensures rides { IfOk result (Rides domain.now (packet_of admitted.now)) }
+    ensures inside { IfOk result (StaysInside domain.now) }
 {
     let port = port_of(domain, port);
     match admitted {
@@ -55,6 +104,76 @@ fn port_of(domain: &Domain, port: PortId) -> &Port
     domain.port(port)
 }
 
+// The flow of a place in the file.
+fn flow_of(domain: &Domain, flow: FlowId) -> &Flow
+    requires { flow.0 < length (flows domain.now) }
+    ensures value { slice_get (flows domain.now) flow.0 ≡ Some result.now }
+    ensures exit { result.now.exit.0 < length (nodes domain.now) }
+    ensures sound { IsFlow result.now }
+{
+    domain.flow(flow)
+}
+
+// What becomes of a frame at a port.
+fn plan_at(
+    alloc: Global,
+    domain: &Domain,
+    readings: &Readings,
+    counters: &Counters,
+    port: &Port,
+    time: u64,
+    admitted: &Admit<'_>,
+) -> Result<Itinerary, NoMemory>
+    requires place { IsAtNode (length (nodes domain.now)) port.now }
+    requires time { time < 2 ^ 62 }
+    requires packet { HoldsPacket admitted.now }
+    requires flow { KnowsFlow domain.now admitted.now }
+    requires counters { length counters.now ≡ length (flows domain.now) }
+    requires few { All (λ number. number < 2 ^ 32) counters.now }
+    ensures plans { (earlier : List Itinerary) → CountFor domain.now counters.now earlier
+        → IfOk result (λ it. PlansBy domain.now readings.now earlier time it admitted.now port.now) }
+    ensures rides { IfOk result (Rides domain.now (packet_of admitted.now)) }
+{
+    match admitted {
+        Admit::Plain { packet } => plan_packet(alloc, domain, port, time, packet),
+        Admit::Drop(reason) => Ok(dropped(alloc, domain, port, *reason)),
+        Admit::Enclose {
+            flow,
+            packet,
+            limit,
+        } => {
+            let number = counters.enclosed(*flow);
+            plan_flow(
+                alloc, domain, readings, number, port, time, *flow, packet, *limit,
+            )
+        }
+    }
+}
+
+// Where a packet is as it arrives.
+fn start_of(port: &Port, time: u64, header: &Header) -> Spot
+    ensures { result ≡ start_of port.now time header.now.hops }
+{
+    Spot {
+        node: port.node,
+        inward: port.id,
+        time,
+        hops: header.hops,
+    }
+}
+
+// The header of a packet.
+fn header_of(packet: &[u8]) -> Header
+    requires { IsPacket packet.now }
+    ensures fields { HasFields packet.now result }
+    ensures hops { result.hops < 256 }
+{
+    match header(packet) {
+        Some(header) => header,
+        None => unreachable!(),
+    }
+}
+
 // The journey of a packet from its port on.
 fn plan_packet(
     alloc: Global,
@@ -63,25 +182,90 @@ fn plan_packet(
     time: u64,
     packet: &[u8],
 ) -> Result<Itinerary, NoMemory>
+    requires place { IsAtNode (length (nodes domain.now)) port.now }
     requires time { time < 2 ^ 62 }
     requires packet { IsPacket packet.now }
-    requires place { IsAtNode (length (nodes domain.now)) port.now }
-    ensures plans { IfOk result (λ it. PlansPacket domain.now port.now time packet.now it.visits it.end) }
-    ensures exited { IfOk result (λ it. it.exited ≡ false) }
-    ensures few { IfOk result (λ it. length it.visits ≤ 256) }
-    ensures inside { IfOk result (λ it. StaysInside domain.now it.visits it.end) }
+    ensures plans { IfOk result (PlansPacket domain.now port.now time packet.now) }
+    ensures rides { IfOk result (Rides domain.now packet.now) }
 {
-    let Some(header) = header(packet) else {
-        unreachable!()
+    let header = header_of(packet);
+    let trip = Trip {
+        target: header.target,
+        size: packet.len(),
+        inside: None,
     };
-    let start = Spot {
-        node: port.node,
-        inward: port.id,
-        time,
-        hops: header.hops,
+    let start = Stage::At(start_of(port, time, &header));
+    match travel(alloc, domain, &trip, start) {
+        Ok(itinerary) => Ok(itinerary),
+        Err(NoMemory) => Err(NoMemory),
+    }
+}
+
+// What nodes go by on the way of a packet that is to be enclosed in a flow.
+fn flow_trip(
+    domain: &Domain,
+    id: FlowId,
+    flow: &Flow,
+    numbers: Numbers,
+    header: &Header,
+    packet: &[u8],
+) -> Trip
+    requires flow { IsFlow flow.now }
+    requires exit { flow.now.exit.0 < length (nodes domain.now) }
+    requires packet { length packet.now ≤ 65575 }
+    ensures { result ≡ flow_trip domain.now id flow.now numbers header.now.target header.now.hops packet.now }
+{
+    let has_direct = numbers.direct.is_some();
+    let has_limit = numbers.limit.is_some();
+    let inside = Inside {
+        flow: id,
+        numbers,
+        exit: flow.exit,
+        target: header.target,
+        hops: header.hops.saturating_sub(1),
     };
-    // Apart, since what is said of an Ok says so of the answer only once it is known to be one.
-    match travel(alloc, domain, start, header.target, packet.len()) {
+    Trip {
+        target: domain.node(flow.exit).address,
+        size: outer_size(flow, packet.len(), has_direct, has_limit),
+        inside: Some(inside),
+    }
+}
+
+// What is to be known where a packet enters a flow's tunnel.
+fn entry_of(flow: &Flow, found: Option<u8>) -> Entry
+    ensures entry { result ≡ entry_of flow.now found }
+    ensures hops { result.hops < 256 }
+{
+    Entry::new(flow.hops, is_refused(flow, found))
+}
+
+// The journey of a packet that is to be enclosed in a flow, from its port on.
+fn plan_flow(
+    alloc: Global,
+    domain: &Domain,
+    readings: &Readings,
+    number: u64,
+    port: &Port,
+    time: u64,
+    id: FlowId,
+    packet: &[u8],
+    found: Option<u8>,
+) -> Result<Itinerary, NoMemory>
+    requires place { IsAtNode (length (nodes domain.now)) port.now }
+    requires number { number < 2 ^ 32 }
+    requires time { time < 2 ^ 62 }
+    requires known { id.0 < length (flows domain.now) }
+    requires packet { IsPacket packet.now }
+    ensures plans { IfOk result (λ it. IsSomeAnd (slice_get (flows domain.now) id.0)
+        (λ flow. PlansFlow domain.now readings.now number port.now time id flow packet.now found it)) }
+    ensures rides { IfOk result (Rides domain.now packet.now) }
+{
+    let flow = flow_of(domain, id);
+    let header = header_of(packet);
+    let numbers = numbers_of(domain, readings, flow, number, found, time);
+    let trip = flow_trip(domain, id, flow, numbers, &header, packet);
+    let start = Stage::Enter(start_of(port, time, &header), entry_of(flow, found));
+    match travel(alloc, domain, &trip, start) {
         Ok(itinerary) => Ok(itinerary),
         Err(NoMemory) => Err(NoMemory),
     }
@@ -90,13 +274,12 @@ fn plan_packet(
 // A frame that is dropped where it arrives.
 fn dropped(alloc: Global, domain: &Domain, port: &Port, reason: Reason) -> Itinerary
     requires { IsAtNode (length (nodes domain.now)) port.now }
-    ensures plans { PlansDrop port.now reason result.visits result.end }
-    ensures exited { result.exited ≡ false }
-    ensures inside { StaysInside domain.now result.visits result.end }
+    ensures plans { PlansDrop port.now reason result }
+    ensures rides { Rides domain.now [] result }
 {
     let end = End::Drop {
         reason,
         node: port.node,
     };
-    Itinerary::of(Vec::new(alloc), end)
+    Itinerary::of(Vec::new(alloc), end, false, None)
 }

@@ -1,11 +1,16 @@
 //! The journey of a packet through a domain, planned before the packet moves: which nodes it visits,
-//! when, by which interfaces, and where it leaves or is dropped.
+//! when, by which interfaces, where it leaves or is dropped, and what the entry node of a tunnel writes
+//! of it.
 #![tactic(auto)]
 
 mod arriving;
+mod counters;
+mod drawing;
 mod itinerary;
 mod planning;
-mod spot;
+mod stage;
+mod stepping;
 
-pub use arriving::plan;
+pub use arriving::{plan, plan_plain};
+pub use counters::Counters;
 pub use itinerary::{End, Itinerary, Visit, Visits};

@@ -1,82 +1,41 @@
-ghost use Rattle.std.specs.Prelude.{◌≡◌, ◌≤◌, ◌<◌, false, IfOk, Some, length, slice_get};
-ghost use Rattle.ioam_topo.specs.Domain.{nodes, links};
-ghost use Rattle.ioam_topo.specs.Kept.{JoinsNodes};
-ghost use Rattle.ioam_plan.specs.Inside.{StaysInside, StepsInside};
+//! A packet's journey from its first stage to its end.
+ghost use Rattle.std.specs.Prelude.{◌≡◌, ◌+◌, ◌≤◌, if◌then◌else◌, [], All, IfOk, length};
+ghost use Rattle.ioam_plan.specs.Inside.{EndsInside};
 ghost use Rattle.ioam_plan.specs.Journey.{Journey};
-ghost use Rattle.ioam_plan.specs.Steps.{Steps, IsInTime};
+ghost use Rattle.ioam_plan.specs.Rides.{IsVisitIn};
+ghost use Rattle.ioam_plan.specs.Steps.{IsHere, LedTo, HasRidden, left};
 
-use crate::itinerary::{End, Itinerary, Visit};
-use crate::spot::Spot;
+use crate::itinerary::Itinerary;
+use crate::stage::{Stage, Step, Trip};
+use crate::stepping::take_step;
 use ioam_base::memory::NoMemory;
-use ioam_node::{Reason, choose};
-use ioam_topo::{Domain, Link, LinkId, PortId, Way};
+use ioam_topo::Domain;
 use std::alloc::Global;
 
-// What comes at a spot: the packet crosses to another, leaves by a port, or is dropped.
-#[derive(Clone, Copy)]
-pub(crate) enum Step {
-    Cross(Visit, Spot),
-    Leave(Visit, PortId),
-    Stop(Reason),
-}
-
-// The link of a place in the file.
-fn link_of(domain: &Domain, link: LinkId) -> &Link
-    requires { link.0 < length (links domain.now) }
-    ensures value { slice_get (links domain.now) link.0 ≡ Some result.now }
-    ensures ends { JoinsNodes (length (nodes domain.now)) result.now }
-{
-    domain.link(link)
-}
-
-fn take_step(domain: &Domain, spot: Spot, target: u128, size: usize) -> Step
-    requires { IsInTime spot }
-    ensures steps { Steps domain.now target size spot result }
-    ensures inside { StepsInside domain.now spot result }
-{
-    match choose(domain, spot.node, false, spot.hops, target, size) {
-        Err(reason) => Step::Stop(reason),
-        Ok(Way::Port(port)) => Step::Leave(spot.visit(domain, Way::Port(port)), port),
-        Ok(Way::Link(link)) => Step::Cross(
-            spot.visit(domain, Way::Link(link)),
-            spot.crossed(link_of(domain, link)),
-        ),
-    }
-}
-
-// The journey of a packet from a spot on.
+/// The journey of a packet from a stage on.
 pub(crate) fn travel(
     alloc: Global,
     domain: &Domain,
-    start: Spot,
-    target: u128,
-    size: usize,
+    trip: &Trip,
+    start: Stage,
 ) -> Result<Itinerary, NoMemory>
-    requires time { IsInTime start }
-    requires node { start.node.0 < length (nodes domain.now) }
-    ensures journey { IfOk result (λ it. Journey domain.now target size start it.visits it.end) }
-    ensures exited { IfOk result (λ it. it.exited ≡ false) }
-    ensures few { IfOk result (λ it. length it.visits ≤ start.hops) }
-    ensures inside { IfOk result (λ it. StaysInside domain.now it.visits it.end) }
+    requires here { IsHere domain.now start }
+    requires few { left start ≤ 255 }
+    requires led { LedTo trip.now.size trip.now.inside start [] }
+    ensures journey { IfOk result (Journey domain.now trip.now start) }
+    ensures visits { IfOk result (λ it. All (IsVisitIn domain.now) it.visits) }
+    ensures few { IfOk result (λ it. length it.visits ≤ left start + (if it.exited then 1 else 0)) }
+    ensures ridden { IfOk result (λ it. HasRidden trip.now.size trip.now.inside it.exited it.visits) }
+    ensures ends { IfOk result (λ it. EndsInside domain.now it.end) }
 {
     let mut visits = Vec::new(alloc);
-    let mut spot = start;
+    let mut stage = start;
     'visits: loop {
-        match take_step(domain, spot, target, size) {
-            Step::Stop(reason) => {
-                let end = End::Drop {
-                    reason,
-                    node: spot.node,
-                };
-                return Ok(Itinerary::of(visits, end));
-            }
-            Step::Leave(visit, port) => {
+        match take_step(domain, trip, stage) {
+            Step::Ends(end, exited) => return Ok(Itinerary::of(visits, end, exited, trip.inside)),
+            Step::Goes(visit, next) => {
                 visits.push(visit)?;
-                return Ok(Itinerary::of(visits, End::Left { port }));
-            }
-            Step::Cross(visit, next) => {
-                visits.push(visit)?;
-                spot = next;
+                stage = next;
             }
         }
     }

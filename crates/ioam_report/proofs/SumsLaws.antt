@@ -1,5 +1,6 @@
 -- Sums that count an arrival more stand for one arrival more.
 use Rattle.std.proofs.Common.{◌≡◌, ℕ, ◌+◌, ◌*◌, ◌-◌, min, ◌<◌, ◌≤◌, ◌^◌, Bool, true, false, cond, nat_eq, List, [], ◌∷◌, ◌++◌, Some, length, take, get_or, refl, sym, ap, subst, ◌∙◌, arith, length-append, inl, inr, ◌⊎◌, suc}
+use Rattle.std.specs.Prelude.{not, ◌&&◌}
 use Rattle.std.specs.List.{All, slice_get, sum_by, count_by, flat_map, enumerate_from}
 use Rattle.std.proofs.lemmas.List.{append-nil}
 use Rattle.std.proofs.lemmas.List.Elements.{All-push, All-weaker}
@@ -10,12 +11,13 @@ use Rattle.ioam_topo.specs.Domain.{nodes}
 use Rattle.ioam_topo.specs.declared.ids.NodeId.{NodeId}
 use Rattle.ioam_topo.specs.declared.ids.PortId.{PortId}
 use Rattle.ioam_node.specs.declared.reason.Reason.{Reason}
+use Rattle.ioam_plan.specs.declared.itinerary.Itinerary.{Itinerary}
 use Rattle.ioam_plan.specs.declared.itinerary.Visit.{Visit}
 use Rattle.ioam_plan.specs.declared.itinerary.End.{End}
 use Rattle.ioam_plan.specs.declared.itinerary.End.TheVariants.{Left, Drop}
 use Rattle.ioam_report.specs.declared.sums.NodeSum.{NodeSum}
 use Rattle.ioam_report.specs.declared.sums.Sums.{Sums}
-use Rattle.ioam_report.specs.Sums.{is_at, has_left, is_dropped, is_dropped_at, seen_of, node_sum, StandFor, Raised}
+use Rattle.ioam_report.specs.Sums.{is_at, has_left, is_dropped, is_dropped_at, is_stopped_at, seen_of, node_sum, StandFor, Raised}
 use Rattle.ioam_report.specs.SumsText.{packets_line, node_line, node_lines, sums_text, arrivals_text}
 
 abbrev sum_of : ℕ → ℕ → NodeSum
@@ -60,76 +62,89 @@ one_most : (b : Bool) → cond b 1 0 ≤ 1
 one_most true = omega arith
 one_most false = omega arith
 
--- a node counts an arrival once for each visit, and once more where it drops it
-seen_few : (node : ℕ) (visits : List Visit) (end : End) → length visits ≤ 256 → seen_of node visits end ≤ 257
-seen_few node visits end short =
-    let few : count_by (is_at node) visits ≤ length visits = count_by-le-length (is_at node) visits in
-    omega (arith, one_most (is_dropped_at node end))
+-- a node counts an arrival once for each visit, and once more where it stops it
+seen_few : (node : ℕ) (it : Itinerary) → length it.visits ≤ 256 → seen_of node it ≤ 257
+seen_few node it short =
+    let few : count_by (is_at node) it.visits ≤ length it.visits = count_by-le-length (is_at node) it.visits in
+    omega (arith, one_most (is_stopped_at node it))
 
-all_few : (node : ℕ) (arrivals : List (List Visit × End)) → All (λ arrival. length arrival.0 ≤ 256) arrivals
-    → All (λ arrival. seen_of node arrival.0 arrival.1 ≤ 257) arrivals
-all_few node arrivals short = All-weaker _ _ (λ arrival few. seen_few node arrival.0 arrival.1 few) arrivals short
+all_few : (node : ℕ) (arrivals : List Itinerary) → All (λ arrival. length arrival.visits ≤ 256) arrivals
+    → All (λ arrival. seen_of node arrival ≤ 257) arrivals
+all_few node arrivals short = All-weaker _ _ (λ arrival few. seen_few node arrival few) arrivals short
 
-pub StandFor-more : (domain : Domain) (old new : Sums) (arrivals : List (List Visit × End)) (visits : List Visit) (end : End)
-    → StandFor domain old arrivals → old.packets < 2 ^ 32 → length visits ≤ 256
+pub StandFor-more : (domain : Domain) (old new : Sums) (arrivals : List Itinerary) (it : Itinerary)
+    → StandFor domain old arrivals → old.packets < 2 ^ 32 → length it.visits ≤ 256
     → new.packets ≡ old.packets + 1
-    → (old.left < 2 ^ 63 → new.left ≡ old.left + cond (has_left end) 1 0)
-    → (old.dropped < 2 ^ 63 → new.dropped ≡ old.dropped + cond (is_dropped end) 1 0)
+    → (old.left < 2 ^ 63 → new.left ≡ old.left + cond (has_left it.end) 1 0)
+    → (old.dropped < 2 ^ 63 → new.dropped ≡ old.dropped + cond (is_dropped it.end) 1 0)
     → length new.nodes ≡ length old.nodes
-    → ((at : ℕ) → Raised old.nodes new.nodes at (seen_of at visits end) (cond (is_dropped_at at end) 1 0))
-    → StandFor domain new (arrivals ++ (visits, end) ∷ [])
-StandFor-more domain old new arrivals visits end stand room short packets left dropped count raised =
-    let Arrival : Type 0 = List Visit × End in
-    let arrival : Arrival = (visits, end) in
-    let goes : Arrival → Bool = λ arrival. has_left arrival.1 in
-    let stays : Arrival → Bool = λ arrival. is_dropped arrival.1 in
+    → ((at : ℕ) → Raised old.nodes new.nodes at (seen_of at it) (cond (is_dropped_at at it.end) 1 0))
+    → StandFor domain new (arrivals ++ it ∷ [])
+StandFor-more domain old new arrivals it stand room short packets left dropped count raised =
+    let goes : Itinerary → Bool = λ arrival. has_left arrival.end in
+    let stays : Itinerary → Bool = λ arrival. is_dropped arrival.end in
     let few : old.packets ≡ length arrivals = stand.packets in
     let few_left : count_by goes arrivals ≤ length arrivals = count_by-le-length goes arrivals in
     let few_dropped : count_by stays arrivals ≤ length arrivals = count_by-le-length stays arrivals in
     let was_left : old.left ≡ count_by goes arrivals = stand.left in
     let was_dropped : old.dropped ≡ count_by stays arrivals = stand.dropped in
     record {
-      packets = packets ∙ omega (arith, length-append arrivals (arrival ∷ []), stand.packets);
-      left = left (omega arith) ∙ ap (λ n. n + cond (has_left end) 1 0) stand.left ∙ sym (sum_by_push (λ (a : Arrival). cond (goes a) 1 0) arrivals arrival);
-      dropped = dropped (omega arith) ∙ ap (λ n. n + cond (stays arrival) 1 0) stand.dropped ∙ sym (sum_by_push (λ (a : Arrival). cond (stays a) 1 0) arrivals arrival);
+      packets = packets ∙ omega (arith, length-append arrivals (it ∷ []), stand.packets);
+      left = left (omega arith) ∙ ap (λ n. n + cond (has_left it.end) 1 0) stand.left ∙ sym (sum_by_push (λ (a : Itinerary). cond (goes a) 1 0) arrivals it);
+      dropped = dropped (omega arith) ∙ ap (λ n. n + cond (stays it) 1 0) stand.dropped ∙ sym (sum_by_push (λ (a : Itinerary). cond (stays a) 1 0) arrivals it);
       count = count ∙ stand.count;
       each = λ node below.
-          let seen : Arrival → ℕ = λ a. seen_of node a.0 a.1 in
-          let here : Arrival → ℕ = λ a. cond (is_dropped_at node a.1) 1 0 in
+          let seen : Itinerary → ℕ = λ a. seen_of node a in
+          let here : Itinerary → ℕ = λ a. cond (is_dropped_at node a.end) 1 0 in
           let few_seen : sum_by seen arrivals ≤ length arrivals * 257 = sum_by-le seen 257 arrivals (all_few node arrivals stand.short) in
-          let few_here : sum_by here arrivals ≤ length arrivals = count_by-le-length (λ (a : Arrival). is_dropped_at node a.1) arrivals in
-          let now : seen_of node visits end ≤ 257 = seen_few node visits end short in
-          (raised node).raised (record { seen = sum_by seen arrivals; dropped = sum_by here arrivals }) (stand.each node below) (omega arith) (omega (arith, one_most (is_dropped_at node end)))
-          ∙ same_sum _ _ _ _ (sym (sum_by_push seen arrivals arrival)) (sym (sum_by_push here arrivals arrival));
-      short = All-push (λ (a : Arrival). length a.0 ≤ 256) arrivals arrival stand.short short;
+          let few_here : sum_by here arrivals ≤ length arrivals = count_by-le-length (λ (a : Itinerary). is_dropped_at node a.end) arrivals in
+          let now : seen_of node it ≤ 257 = seen_few node it short in
+          (raised node).raised (record { seen = sum_by seen arrivals; dropped = sum_by here arrivals }) (stand.each node below) (omega arith) (omega (arith, one_most (is_dropped_at node it.end)))
+          ∙ same_sum _ _ _ _ (sym (sum_by_push seen arrivals it)) (sym (sum_by_push here arrivals it));
+      short = All-push (λ (a : Itinerary). length a.visits ≤ 256) arrivals it stand.short short;
     }
 
 -- an arrival more that left
-pub StandFor-left : (domain : Domain) (old new : Sums) (arrivals : List (List Visit × End)) (visits : List Visit) (end : End) (port : PortId)
-    → end ≡ Left port → StandFor domain old arrivals → old.packets < 2 ^ 32 → length visits ≤ 256
+pub StandFor-left : (domain : Domain) (old new : Sums) (arrivals : List Itinerary) (it : Itinerary) (port : PortId)
+    → it.end ≡ Left port → StandFor domain old arrivals → old.packets < 2 ^ 32 → length it.visits ≤ 256
     → new.packets ≡ old.packets + 1 → new.left ≡ min (old.left + 1) (2 ^ 64 - 1) → new.dropped ≡ old.dropped → length new.nodes ≡ length old.nodes
-    → ((at : ℕ) → Raised old.nodes new.nodes at (count_by (is_at at) visits) 0)
-    → StandFor domain new (arrivals ++ (visits, end) ∷ [])
-StandFor-left domain old new arrivals visits end port is stand room short packets left dropped count raised =
-    let P : End → Type 0 = λ e. StandFor domain new (arrivals ++ (visits, e) ∷ []) in
-    subst P (sym is) (StandFor-more domain old new arrivals visits (Left port) stand room short packets (λ few. omega arith) (λ few. omega arith) count
-    (λ at. Raised-by old.nodes new.nodes at _ _ _ _ (omega arith) refl (raised at)))
+    → ((at : ℕ) → Raised old.nodes new.nodes at (count_by (is_at at) it.visits) 0)
+    → StandFor domain new (arrivals ++ it ∷ [])
+StandFor-left domain old new arrivals it port is stand room short packets left dropped count raised =
+    let goes : cond {A = ℕ} (has_left it.end) 1 0 ≡ 1 = ap (λ (e : End). cond {A = ℕ} (has_left e) 1 0) is in
+    let stays : cond {A = ℕ} (is_dropped it.end) 1 0 ≡ 0 = ap (λ (e : End). cond {A = ℕ} (is_dropped e) 1 0) is in
+    StandFor-more domain old new arrivals it stand room short packets (λ few. omega (arith, goes, left)) (λ few. omega (arith, stays, dropped)) count
+    (λ at.
+    let here : cond {A = ℕ} (is_dropped_at at it.end) 1 0 ≡ 0 = ap (λ (e : End). cond {A = ℕ} (is_dropped_at at e) 1 0) is in
+    let not_stopped : cond {A = ℕ} (is_stopped_at at it) 1 0 ≡ 0 = ap (λ (e : End). cond {A = ℕ} (is_dropped_at at e && not it.exited) 1 0) is in
+    Raised-by old.nodes new.nodes at _ _ _ _ (omega (arith, not_stopped)) (sym here) (raised at))
+
+stopped_here : (here exited : Bool) (seen : ℕ) → seen ≡ cond (not exited) 1 0 → cond here seen 0 ≡ cond (here && not exited) 1 0
+stopped_here true exited seen is = is
+stopped_here false exited seen is = refl
 
 -- an arrival more that was dropped at a node
-pub StandFor-dropped : (domain : Domain) (old new : Sums) (between : List NodeSum) (arrivals : List (List Visit × End)) (visits : List Visit) (end : End) (reason : Reason) (node : NodeId)
-    → end ≡ Drop reason node → StandFor domain old arrivals → old.packets < 2 ^ 32 → length visits ≤ 256
+pub StandFor-dropped : (domain : Domain) (old new : Sums) (between : List NodeSum) (arrivals : List Itinerary) (it : Itinerary) (reason : Reason) (node : NodeId) (seen : ℕ)
+    → it.end ≡ Drop reason node → StandFor domain old arrivals → old.packets < 2 ^ 32 → length it.visits ≤ 256
     → new.packets ≡ old.packets + 1 → new.left ≡ old.left → new.dropped ≡ min (old.dropped + 1) (2 ^ 64 - 1)
-    → length between ≡ length old.nodes → length new.nodes ≡ length between
-    → ((at : ℕ) → Raised old.nodes between at (count_by (is_at at) visits) 0)
-    → ((at : ℕ) → Raised between new.nodes at (cond (nat_eq at node.0) 1 0) (cond (nat_eq at node.0) 1 0))
-    → StandFor domain new (arrivals ++ (visits, end) ∷ [])
-StandFor-dropped domain old new between arrivals visits end reason node is stand room short packets left dropped count more raised here =
-    let P : End → Type 0 = λ e. StandFor domain new (arrivals ++ (visits, e) ∷ []) in
-    subst P (sym is) (StandFor-more domain old new arrivals visits (Drop reason node) stand room short packets (λ few. omega arith) (λ few. omega arith) (more ∙ count)
-    (λ at. Raised-by old.nodes new.nodes at _ _ _ _ refl (omega arith) (Raised-then old.nodes between new.nodes at _ _ _ _ (raised at) (here at))))
+    → length between ≡ length old.nodes → length new.nodes ≡ length between → seen ≡ cond (not it.exited) 1 0
+    → ((at : ℕ) → Raised old.nodes between at (count_by (is_at at) it.visits) 0)
+    → ((at : ℕ) → Raised between new.nodes at (cond (nat_eq at node.0) seen 0) (cond (nat_eq at node.0) 1 0))
+    → StandFor domain new (arrivals ++ it ∷ [])
+StandFor-dropped domain old new between arrivals it reason node seen is stand room short packets left dropped count more once raised here =
+    let goes : cond {A = ℕ} (has_left it.end) 1 0 ≡ 0 = ap (λ (e : End). cond {A = ℕ} (has_left e) 1 0) is in
+    let stays : cond {A = ℕ} (is_dropped it.end) 1 0 ≡ 1 = ap (λ (e : End). cond {A = ℕ} (is_dropped e) 1 0) is in
+    StandFor-more domain old new arrivals it stand room short packets (λ few. omega (arith, goes, left)) (λ few. omega (arith, stays, dropped)) (more ∙ count)
+    (λ at.
+    let there : cond {A = ℕ} (is_dropped_at at it.end) 1 0 ≡ cond (nat_eq at node.0) 1 0 = ap (λ (e : End). cond {A = ℕ} (is_dropped_at at e) 1 0) is in
+    let stopped : cond {A = ℕ} (is_stopped_at at it) 1 0 ≡ cond (nat_eq at node.0 && not it.exited) 1 0 =
+    ap (λ (e : End). cond {A = ℕ} (is_dropped_at at e && not it.exited) 1 0) is in
+    Raised-by old.nodes new.nodes at _ _ _ _
+    (omega (arith, stopped, stopped_here (nat_eq at node.0) it.exited seen once)) (omega (arith, there))
+    (Raised-then old.nodes between new.nodes at _ _ _ _ (raised at) (here at)))
 
 -- Sums that stand for arrivals have the lines of these.
-nodes_lines : (arrivals : List (List Visit × End)) (nodes : List Node) (sums : List NodeSum) (from : ℕ) → length sums ≡ length nodes
+nodes_lines : (arrivals : List Itinerary) (nodes : List Node) (sums : List NodeSum) (from : ℕ) → length sums ≡ length nodes
     → ((i : ℕ) → i < length nodes → slice_get sums i ≡ Some (node_sum arrivals (from + i)))
     → node_lines nodes sums ≡ flat_map (λ entry. node_line entry.1.name (node_sum arrivals entry.0)) (enumerate_from from nodes)
 nodes_lines arrivals [] [] from count each = refl
@@ -146,13 +161,13 @@ nodes_lines arrivals (node ∷ nodes) (sum ∷ sums) from count each =
     ap (λ s. node_line node.name s ++ node_lines nodes sums) is
     ∙ ap (λ xs. node_line node.name (node_sum arrivals from) ++ xs) (nodes_lines arrivals nodes sums (from + 1) (omega arith) rest)
 
-pub sums_text-of : (domain : Domain) (sums : Sums) (arrivals : List (List Visit × End)) → StandFor domain sums arrivals
+pub sums_text-of : (domain : Domain) (sums : Sums) (arrivals : List Itinerary) → StandFor domain sums arrivals
     → sums_text domain sums ≡ arrivals_text domain arrivals
 sums_text-of domain sums arrivals stand =
     ap (λ n. packets_line n sums.left sums.dropped ++ node_lines (nodes domain) sums.nodes) stand.packets
     ∙ ap (λ n. packets_line (length arrivals) n sums.dropped ++ node_lines (nodes domain) sums.nodes) stand.left
-    ∙ ap (λ n. packets_line (length arrivals) (count_by (λ (arrival : List Visit × End). has_left arrival.1) arrivals) n ++ node_lines (nodes domain) sums.nodes) stand.dropped
-    ∙ ap (λ xs. packets_line (length arrivals) (count_by (λ (arrival : List Visit × End). has_left arrival.1) arrivals) (count_by (λ (arrival : List Visit × End). is_dropped arrival.1) arrivals) ++ xs)
+    ∙ ap (λ n. packets_line (length arrivals) (count_by (λ (arrival : Itinerary). has_left arrival.end) arrivals) n ++ node_lines (nodes domain) sums.nodes) stand.dropped
+    ∙ ap (λ xs. packets_line (length arrivals) (count_by (λ (arrival : Itinerary). has_left arrival.end) arrivals) (count_by (λ (arrival : Itinerary). is_dropped arrival.end) arrivals) ++ xs)
     (nodes_lines arrivals (nodes domain) sums.nodes 0 stand.count (λ i below. stand.each i below ∙ ap (λ n. Some (node_sum arrivals n)) (omega arith)))
 
 -- where a list is at its end, no line is left to append

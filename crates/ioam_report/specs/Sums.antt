@@ -1,7 +1,8 @@
 -- What the sums of a run count.
-use Rattle.std.specs.Prelude.{◌≡◌, ℕ, ◌+◌, ◌<◌, ◌≤◌, ◌^◌, Bool, true, false, if◌then◌else◌, nat_eq, List, Some, length, slice_get, All, sum_by, count_by}
+use Rattle.std.specs.Prelude.{◌≡◌, ℕ, ◌+◌, ◌<◌, ◌≤◌, ◌^◌, Bool, true, false, not, ◌&&◌, if◌then◌else◌, nat_eq, List, Some, length, slice_get, All, sum_by, count_by}
 use Rattle.ioam_topo.specs.declared.domain.Domain.{Domain}
 use Rattle.ioam_topo.specs.Domain.{nodes}
+use Rattle.ioam_plan.specs.declared.itinerary.Itinerary.{Itinerary}
 use Rattle.ioam_plan.specs.declared.itinerary.Visit.{Visit}
 use Rattle.ioam_plan.specs.declared.itinerary.End.{End}
 use Rattle.ioam_plan.specs.declared.itinerary.End.TheVariants.{Left, Drop}
@@ -25,10 +26,13 @@ abbrev pub is_dropped_at : ℕ → End → Bool
 is_dropped_at node (Left port) = false
 is_dropped_at node (Drop reason at) = nat_eq node at.0
 
--- how often a node sees a packet that is sent on at these visits and ends so: at each of them that is
--- there, and once more where the node drops it
-abbrev pub seen_of : ℕ → List Visit → End → ℕ
-seen_of node visits end = count_by (is_at node) visits + (if is_dropped_at node end then 1 else 0)
+-- the packet is dropped there at a visit that isn't among its visits: that of its tunnel's exit is
+abbrev pub is_stopped_at : ℕ → Itinerary → Bool
+is_stopped_at node itinerary = is_dropped_at node itinerary.end && not itinerary.exited
+
+-- how often a node sees a packet: at each of its visits that is there, and once more where the node stops it
+abbrev pub seen_of : ℕ → Itinerary → ℕ
+seen_of node itinerary = count_by (is_at node) itinerary.visits + (if is_stopped_at node itinerary then 1 else 0)
 
 -- the node of a drop is one of so many
 abbrev pub IsEndBelow : ℕ → End → Type 0
@@ -36,21 +40,21 @@ IsEndBelow count (Left port) = Unit {0}
 IsEndBelow count (Drop reason node) = node.0 < count
 
 -- what is counted of arrivals at the node at this place of the file
-abbrev pub node_sum : List (List Visit × End) → ℕ → NodeSum
+abbrev pub node_sum : List Itinerary → ℕ → NodeSum
 node_sum arrivals node = record {
-  seen = sum_by (λ arrival. seen_of node arrival.0 arrival.1) arrivals;
-  dropped = count_by (λ arrival. is_dropped_at node arrival.1) arrivals;
+  seen = sum_by (seen_of node) arrivals;
+  dropped = count_by (λ arrival. is_dropped_at node arrival.end) arrivals;
 }
 
--- The sums are those of arrivals, of which the visits and the ends are given in order. None has more than
--- 256 visits; its hop limit, an octet, allows no more.
-pub record StandFor (domain : Domain) (sums : Sums) (arrivals : List (List Visit × End)) : Type 0 where
+-- The sums are those of arrivals, of which the itineraries are given in order. None has more than 256 visits; its hop
+-- limit, an octet, allows no more.
+pub record StandFor (domain : Domain) (sums : Sums) (arrivals : List Itinerary) : Type 0 where
   pub packets : sums.packets ≡ length arrivals
-  pub left : sums.left ≡ count_by (λ arrival. has_left arrival.1) arrivals
-  pub dropped : sums.dropped ≡ count_by (λ arrival. is_dropped arrival.1) arrivals
+  pub left : sums.left ≡ count_by (λ arrival. has_left arrival.end) arrivals
+  pub dropped : sums.dropped ≡ count_by (λ arrival. is_dropped arrival.end) arrivals
   pub count : length sums.nodes ≡ length (nodes domain)
   pub each : (node : ℕ) → node < length (nodes domain) → slice_get sums.nodes node ≡ Some (node_sum arrivals node)
-  pub short : All (λ arrival. length arrival.0 ≤ 256) arrivals
+  pub short : All (λ arrival. length arrival.visits ≤ 256) arrivals
 
 -- what a node counted rose by so much, where that fits
 pub record Raised (old new : List NodeSum) (node seen dropped : ℕ) : Type 0 where

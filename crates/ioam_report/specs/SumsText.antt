@@ -4,8 +4,7 @@ use Rattle.std.specs.List.{flat_map, zip, enumerate_from}
 use Rattle.ioam_topo.specs.declared.domain.Domain.{Domain}
 use Rattle.ioam_topo.specs.declared.parts.Node.{Node}
 use Rattle.ioam_topo.specs.Domain.{nodes}
-use Rattle.ioam_plan.specs.declared.itinerary.Visit.{Visit}
-use Rattle.ioam_plan.specs.declared.itinerary.End.{End}
+use Rattle.ioam_plan.specs.declared.itinerary.Itinerary.{Itinerary}
 use Rattle.ioam_report.specs.declared.sums.NodeSum.{NodeSum}
 use Rattle.ioam_report.specs.declared.sums.Sums.{Sums}
 use Rattle.ioam_report.specs.Sums.{has_left, is_dropped, node_sum}
@@ -26,9 +25,9 @@ node_lines nodes sums = flat_map (λ pair. node_line pair.0.name pair.1) (zip no
 abbrev pub sums_text : Domain → Sums → List ℕ
 sums_text domain sums = packets_line sums.packets sums.left sums.dropped ++ node_lines (nodes domain) sums.nodes
 
--- The lines of arrivals, of which the visits and the ends are given: how many there are, how many left, how
+-- The lines of arrivals, of which the itineraries are given: how many there are, how many left, how
 -- many were dropped, and for each node how often it saw one and how many it dropped.
-abbrev pub arrivals_text : Domain → List (List Visit × End) → List ℕ
+abbrev pub arrivals_text : Domain → List Itinerary → List ℕ
 arrivals_text domain arrivals =
-    packets_line (length arrivals) (count_by (λ arrival. has_left arrival.1) arrivals) (count_by (λ arrival. is_dropped arrival.1) arrivals)
+    packets_line (length arrivals) (count_by (λ arrival. has_left arrival.end) arrivals) (count_by (λ arrival. is_dropped arrival.end) arrivals)
     ++ flat_map (λ entry. node_line entry.1.name (node_sum arrivals entry.0)) (enumerate_from 0 (nodes domain))

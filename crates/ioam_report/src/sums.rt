@@ -1,8 +1,7 @@
 //! What a run counts of its arrivals.
-ghost use Rattle.std.specs.Prelude.{◌≡◌, ◌++◌, ◌∷◌, ◌<◌, ◌≤◌, ◌^◌, ℕ, List, [], All, IfOk, if◌then◌else◌, nat_eq, length, count_by, replicate};
+ghost use Rattle.std.specs.Prelude.{◌≡◌, ◌++◌, ◌∷◌, ◌<◌, ◌^◌, ℕ, List, [], All, IfOk, if◌then◌else◌, nat_eq, length, count_by, replicate};
 ghost use Rattle.ioam_topo.specs.declared.domain.Domain.{Domain};
-ghost use Rattle.ioam_plan.specs.declared.itinerary.Visit.{Visit};
-ghost use Rattle.ioam_plan.specs.declared.itinerary.End.{End};
+ghost use Rattle.ioam_plan.specs.declared.itinerary.Itinerary.{Itinerary};
 ghost use Rattle.ioam_report.specs.Sums.{is_at, IsEndBelow, Raised, StandFor};
 
 use ioam_base::memory::NoMemory;
@@ -55,15 +54,15 @@ impl NodeSums {
         self.held.as_slice()
     }
 
-    // Counts a pass of a packet at a node, and this of it as dropped.
-    fn pass(&mut self, node: NodeId, dropped: u64)
+    // Counts so many passes of a packet at a node, and so many of it as dropped.
+    fn pass(&mut self, node: NodeId, seen: u64, dropped: u64)
         requires { node.0 < length self.old }
         ensures count { length self.new ≡ length self.old }
         ensures raised { (at : ℕ) → Raised self.old self.new at
-            (if nat_eq at node.0 then 1 else 0) (if nat_eq at node.0 then dropped else 0) }
+            (if nat_eq at node.0 then seen else 0) (if nat_eq at node.0 then dropped else 0) }
     {
         let sum = &mut self.held[node.0 as usize];
-        sum.seen = sum.seen.saturating_add(1);
+        sum.seen = sum.seen.saturating_add(seen);
         sum.dropped = sum.dropped.saturating_add(dropped);
     }
 
@@ -74,7 +73,7 @@ impl NodeSums {
         ensures raised { (at : ℕ) → Raised self.old self.new at (count_by (is_at at) visits.now) 0 }
     {
         for visit in visits {
-            self.pass(visit.place.node, 0);
+            self.pass(visit.place.node, 1, 0);
         }
     }
 }
@@ -106,37 +105,25 @@ impl Sums {
         })
     }
 
-    // Counts an arrival that was sent on at these visits and ended so.
-    pub(crate) fn count(&mut self, visits: &[Visit], end: End)
-        requires packets { self.old.packets < 2 ^ 32 }
-        requires visits { All (λ visit. visit.place.node.0 < length self.old.nodes) visits.now }
-        requires short { length visits.now ≤ 256 }
-        requires ends { IsEndBelow (length self.old.nodes) end }
-        ensures { (domain : Domain) (arrivals : List (List Visit × End)) → StandFor domain self.old arrivals
-            → StandFor domain self.new (arrivals ++ (visits.now, end) ∷ []) }
-    {
-        self.packets += 1;
-        self.nodes.pass_all(visits);
-        match end {
-            End::Left { .. } => self.left = self.left.saturating_add(1),
-            End::Drop { node, .. } => {
-                self.dropped = self.dropped.saturating_add(1);
-                self.nodes.pass(node, 1);
-            }
-        }
-    }
-
-    /// Counts an arrival more. Its nodes are those of the domain that the sums were made for, its
-    /// visits are 256 at most, and fewer than 2^32 arrivals were counted before it. For every list of
-    /// arrivals that the sums stand for, they stand afterwards for the list with this one at its end.
+    /// Counts an arrival more. Its nodes are those of the domain that the sums were made for, and fewer
+    /// than 2^32 arrivals were counted before it. For every list of arrivals that the sums stand for,
+    /// they stand afterwards for the list with this one at its end.
     pub fn note(&mut self, itinerary: &Itinerary)
         requires packets { self.old.packets < 2 ^ 32 }
         requires visits { All (λ visit. visit.place.node.0 < length self.old.nodes) itinerary.now.visits }
-        requires short { length itinerary.now.visits ≤ 256 }
         requires ends { IsEndBelow (length self.old.nodes) itinerary.now.end }
-        ensures { (domain : Domain) (arrivals : List (List Visit × End)) → StandFor domain self.old arrivals
-            → StandFor domain self.new (arrivals ++ (itinerary.now.visits, itinerary.now.end) ∷ []) }
+        ensures { (domain : Domain) (arrivals : List Itinerary) → StandFor domain self.old arrivals
+            → StandFor domain self.new (arrivals ++ itinerary.now ∷ []) }
     {
-        self.count(itinerary.visits.list(), itinerary.end);
+        self.packets += 1;
+        self.nodes.pass_all(itinerary.visits.list());
+        match itinerary.end {
+            End::Left { .. } => self.left = self.left.saturating_add(1),
+            End::Drop { node, .. } => {
+                self.dropped = self.dropped.saturating_add(1);
+                // The visit of its tunnel's exit is among its visits.
+                self.nodes.pass(node, u64::from(!itinerary.exited), 1);
+            }
+        }
     }
 }

@@ -1,7 +1,6 @@
 //! The sums at the end of a run's report.
 ghost use Rattle.std.specs.Prelude.{◌≡◌, ◌++◌, List, is_ok, if◌then◌else◌};
-ghost use Rattle.ioam_plan.specs.declared.itinerary.Visit.{Visit};
-ghost use Rattle.ioam_plan.specs.declared.itinerary.End.{End};
+ghost use Rattle.ioam_plan.specs.declared.itinerary.Itinerary.{Itinerary};
 ghost use Rattle.ioam_report.specs.Sums.{StandFor};
 ghost use Rattle.ioam_report.specs.SumsText.{packets_line, node_line, node_lines, sums_text, arrivals_text};
 
@@ -63,7 +62,7 @@ fn put_node_lines(nodes: &[Node], sums: &[NodeSum], out: &mut Vec<u8>) -> Result
 pub fn put_sums(domain: &Domain, sums: &Sums, out: &mut Vec<u8>) -> Result<(), NoMemory>
     ensures text { out.new.items ≡ (if is_ok result then out.old.items ++ sums_text domain.now sums.now else out.old.items) }
     // Where the sums stand for arrivals, these are the lines that the arrivals give.
-    ensures arrivals { (arrivals : List (List Visit × End)) → StandFor domain.now sums.now arrivals
+    ensures arrivals { (arrivals : List Itinerary) → StandFor domain.now sums.now arrivals
         → sums_text domain.now sums.now ≡ arrivals_text domain.now arrivals }
 {
     let before = out.len();

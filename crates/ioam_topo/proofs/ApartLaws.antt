@@ -8,6 +8,7 @@ use Rattle.std.proofs.lemmas.List.Elements.{All-map, All-from_recursion}
 use Rattle.std.proofs.lemmas.List.Kept.{AllPairs-cons}
 use Rattle.std.proofs.lemmas.Map.Keys.{IsDistinct-head, IsDistinct-tail}
 use Rattle.std.proofs.lemmas.Slice.Eq.{bytes_eq-Decides}
+use Rattle.ioam_topo.specs.declared.prefix.Prefix.{Prefix}
 use Rattle.ioam_topo.specs.declared.parts.Flow.{Flow}
 use Rattle.ioam_topo.specs.Keyed.{pairs_of}
 use Rattle.ioam_topo.specs.Flows.{ids_of_flows}
@@ -44,6 +45,15 @@ both_on a b c d one two = grind (arith, nat_tests, one, two)
 pub pairs_differ : (ks : List (ℕ × ℕ)) → IsDistinct (λ a b. nat_eq a.0 b.0 && nat_eq a.1 b.1) ks → Differ ks
 pairs_differ ks distinct = subst Differ (map_same ks) (differ (λ (a b : ℕ × ℕ). nat_eq a.0 b.0 && nat_eq a.1 b.1) (λ k. k)
     (λ a b is. both_on a.0 a.1 b.0 b.1 (ap (λ (k : ℕ × ℕ). k.0) is) (ap (λ (k : ℕ × ℕ). k.1) is)) ks distinct)
+
+both_parts : (a b c d e f : ℕ) → a ≡ d → b ≡ e → c ≡ f → (nat_eq a d && (nat_eq b e && nat_eq c f)) ≡ true
+both_parts a b c d e f one two three = grind (arith, nat_tests, one, two, three)
+
+pub prefixes_differ : (ks : List (ℕ × Prefix)) → IsDistinct (λ a b. nat_eq a.0 b.0 && (nat_eq a.1.bits b.1.bits && nat_eq a.1.length b.1.length)) ks → Differ ks
+prefixes_differ ks distinct = subst Differ (map_same ks)
+    (differ (λ (a b : ℕ × Prefix). nat_eq a.0 b.0 && (nat_eq a.1.bits b.1.bits && nat_eq a.1.length b.1.length)) (λ k. k)
+    (λ a b is. both_parts a.0 a.1.bits a.1.length b.0 b.1.bits b.1.length (ap (λ (k : ℕ × Prefix). k.0) is) (ap (λ (k : ℕ × Prefix). k.1.bits) is) (ap (λ (k : ℕ × Prefix). k.1.length) is))
+    ks distinct)
 
 at_key : {A K : Type 0} (key : A → K) (xs : List A) (i : ℕ) (x : A) (d : K) → slice_get xs i ≡ Some x
     → (i < length (map key xs)) × (slice_index_or (map key xs) i d ≡ key x)

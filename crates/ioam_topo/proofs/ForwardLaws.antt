@@ -11,12 +11,11 @@ use Rattle.ioam_topo.specs.declared.ids.Way.TheVariants.{Link as ByLink, Port as
 use Rattle.ioam_topo.specs.declared.parts.Link.{Link}
 use Rattle.ioam_topo.specs.declared.parts.Port.{Port}
 use Rattle.ioam_topo.specs.declared.parts.Route.{Route}
-use Rattle.ioam_topo.specs.Lengths.{Occurs, IsSized}
 use Rattle.ioam_topo.specs.Keyed.{is_route, key_of_route}
 use Rattle.ioam_topo.specs.Kept.{IsRouteOf, is_of, is_way_from}
 use Rattle.ioam_topo.specs.Forward.{longest, bits_of, fits, IsWayTo, IsWayFrom}
 use Rattle.ioam_topo.proofs.KeyLaws.{place_map, length_map}
-use Rattle.ioam_topo.proofs.LongestLaws.{same_place, found_at, found_nowhere, longest_first, longest_nowhere, longest_none, longest_some, longest_zero, longest_same, longest_passes, longest_in, longest_most, longest_out}
+use Rattle.ioam_topo.proofs.LongestLaws.{same_place, found_at, found_nowhere, longest_first, longest_passes, longest_in, longest_most, longest_out}
 
 and_off : (b : Bool) → (b && false) ≡ false
 and_off true = refl
@@ -33,22 +32,6 @@ and_left false u is = cc
 -- a route of a node that fits and has so many bits
 abbrev fits_by : ℕ → ℕ → ℕ → Route → Bool
 fits_by node target n route = fits node target route && nat_eq n (bits_of route)
-
--- one that fits and has fewer
-abbrev fits_below : ℕ → ℕ → ℕ → Route → Bool
-fits_below node target n route = fits node target route && nat_lt (bits_of route) n
-
-other_length : (held : List Bool) (n s : ℕ) (f : Bool) → slice_get held n ≡ Some false → Occurs held s → (f && nat_eq n s) ≡ false
-other_length held n s f off on = one (nat_eq n s) refl where
-  one : (e : Bool) → nat_eq n s ≡ e → (f && e) ≡ false
-  one false is = and_off f
-  one true is = let same : n ≡ s = grind (arith, nat_tests, is) in let bad : Some false ≡ Some true = sym off ∙ ap (slice_get held) same ∙ on in cc
-
--- no route has a length that doesn't occur
-pub route_none : (routes : List Route) (held : List Bool) (node target n : ℕ) → All (IsSized held) routes → slice_get held n ≡ Some false
-    → longest bits_of (fits_by node target n) routes ≡ None
-route_none routes held node target n sized off = longest_nowhere bits_of (fits_by node target n) routes
-    (λ k d lt. let s : IsSized held (slice_index_or routes k d) = sized k d lt in other_length held n (bits_of (slice_index_or routes k d)) (fits node target (slice_index_or routes k d)) off s.1)
 
 same_bits : (a : Bool) (n s target bits : ℕ) (e : Bool) → nat_eq n s ≡ e → ((a && (masked s target == bits)) && e) ≡ (a && (nat_eq (masked n target) bits && e))
 same_bits a n s target bits false is = and_off (a && (masked s target == bits)) ∙ sym (ap (λ b. a && b) (and_off (nat_eq (masked n target) bits)) ∙ and_off a)
@@ -91,37 +74,6 @@ route_missing routes keys node target n keyed found =
     let many : length keys ≡ length routes = ap length keyed ∙ sym (length_map key_of_route routes) in
     sym (longest_first bits_of (fits_by node target n) n routes (by_length node target n)
     ∙ slice_get_past routes (position_or_len (fits_by node target n) routes) (omega (arith, past, place, many)))
-
--- at the start every route counts
-pub forward_start : (routes : List Route) (held : List Bool) (node target : ℕ) → All (IsSized held) routes
-    → longest bits_of (fits_below node target 129) routes ≡ longest bits_of (fits node target) routes
-forward_start routes held node target sized = longest_same bits_of (fits_below node target 129) (fits node target) routes
-    (λ k d lt. let s : IsSized held (slice_index_or routes k d) = sized k d lt in
-    let on : nat_lt (bits_of (slice_index_or routes k d)) 129 ≡ true = let le : bits_of (slice_index_or routes k d) ≤ 128 = s.0 in grind (arith, nat_tests, le) in
-    ap (λ b. fits node target (slice_index_or routes k d) && b) on ∙ and_on (fits node target (slice_index_or routes k d)))
-
--- none of a length: the shorter ones are left
-pub forward_next : (routes : List Route) (node target fewer : ℕ) (whole : Option Route) → fewer < 129
-    → None ≡ longest bits_of (fits_by node target (128 - fewer)) routes → longest bits_of (fits_below node target (129 - fewer)) routes ≡ whole
-    → longest bits_of (fits_below node target (129 - (fewer + 1))) routes ≡ whole
-forward_next routes node target fewer whole lt none so_far =
-    let up : 128 - fewer + 1 ≡ 129 - fewer = omega (arith, lt) in let down : 129 - (fewer + 1) ≡ 128 - fewer = omega (arith, lt) in
-    ap (λ n. longest bits_of (fits_below node target n) routes) down
-    ∙ sym (longest_none bits_of (fits node target) (128 - fewer) routes (sym none))
-    ∙ ap (λ n. longest bits_of (fits_below node target n) routes) up ∙ so_far
-
--- one of a length
-pub forward_found : (routes : List Route) (node target fewer : ℕ) (route : Route) (whole : Option Route) → fewer < 129
-    → Some route ≡ longest bits_of (fits_by node target (128 - fewer)) routes → longest bits_of (fits_below node target (129 - fewer)) routes ≡ whole → Some route ≡ whole
-forward_found routes node target fewer route whole lt some so_far =
-    let up : 128 - fewer + 1 ≡ 129 - fewer = omega (arith, lt) in
-    sym (longest_some bits_of (fits node target) (128 - fewer) routes route (sym some)) ∙ ap (λ n. longest bits_of (fits_below node target n) routes) up ∙ so_far
-
--- none of any length
-pub forward_over : (routes : List Route) (node target fewer : ℕ) (whole : Option Route) → 129 ≤ fewer
-    → longest bits_of (fits_below node target (129 - fewer)) routes ≡ whole → None ≡ whole
-forward_over routes node target fewer whole all so_far = let zero_left : 129 - fewer ≡ 0 = omega (arith, all) in
-    sym (longest_zero bits_of (fits node target) routes) ∙ ap (λ n. longest bits_of (fits_below node target n) routes) (sym zero_left) ∙ so_far
 
 -- the longest route's way is the way to the target
 pub way_is : (routes : List Route) (node target : ℕ) (o : Option Route) → o ≡ longest bits_of (fits node target) routes

@@ -4,3 +4,4 @@ pub mod ForwardLaws
 pub mod FindingLaws
 pub mod ApartLaws
 pub mod TracesLaws
+pub mod IndexLaws

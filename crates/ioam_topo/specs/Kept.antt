@@ -16,8 +16,8 @@ use Rattle.ioam_topo.specs.declared.links.Links.{Links}
 use Rattle.ioam_topo.specs.declared.ports.Ports.{Ports}
 use Rattle.ioam_topo.specs.declared.routes.Parts.{Parts}
 use Rattle.ioam_topo.specs.declared.routes.Routes.{Routes}
-use Rattle.ioam_topo.specs.Keyed.{name_of_node, address_of_node, id_of_node, name_of_link, name_of_port, key_of_route, key_of_data}
-use Rattle.ioam_topo.specs.Lengths.{IsSized}
+use Rattle.ioam_topo.specs.Keyed.{name_of_node, address_of_node, id_of_node, name_of_link, taps_of, name_of_port, key_of_route, key_of_data}
+use Rattle.ioam_topo.specs.Forward.{bits_of}
 use Rattle.ioam_topo.specs.Flows.{name_of_flow, ids_of_flows}
 use Rattle.ioam_topo.specs.Known.{IsKnownAtEnds}
 use Rattle.ioam_topo.specs.Sound.{IsNode, IsLink}
@@ -69,6 +69,7 @@ pub record LinksKept (nodes : ℕ) (links : Links) : Type 0 where
   pub joined : All (JoinsNodes nodes) links.items.items
   pub sound : All IsLink links.items.items
   pub few : length links.items.items ≤ 1024
+  pub few_taps : taps_of links.items.items ≤ 64
 
 pub record PortsKept (nodes : ℕ) (ports : Ports) : Type 0 where
   pub named : ports.names ≡ map name_of_port ports.items.items
@@ -77,7 +78,7 @@ pub record PortsKept (nodes : ℕ) (ports : Ports) : Type 0 where
 
 pub record RoutesKept (parts : Parts) (routes : Routes) : Type 0 where
   pub keyed : routes.taken.keys ≡ map key_of_route routes.items.items
-  pub sized : All (IsSized routes.lengths.held) routes.items.items
+  pub short : All (λ route. bits_of route ≤ 128) routes.items.items
   pub routed : All (IsRouteOf (length parts.nodes.items.items) parts.links.items.items parts.ports.items.items) routes.items.items
   pub few : length routes.items.items ≤ 16384
 

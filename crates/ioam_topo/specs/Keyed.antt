@@ -1,5 +1,5 @@
 -- What the parts of a domain are found by, and what no two of them may share.
-use Rattle.std.specs.Prelude.{◌≡◌, ℕ, Bool, false, nat_eq, ◌&&◌, List, [], ◌∷◌, Option, Some, None, IfSome, position}
+use Rattle.std.specs.Prelude.{◌≡◌, ℕ, ◌+◌, Bool, false, nat_eq, ◌&&◌, List, [], ◌∷◌, Option, Some, None, IfSome, position}
 use Rattle.std.specs.List.{list_any}
 use Rattle.std.specs.Str.{bytes_eq}
 use Rattle.ioam_topo.specs.declared.prefix.Prefix.{Prefix}
@@ -32,6 +32,11 @@ name_of_link link = link.name
 abbrev pub count_of : {A : Type 0} → Option A → ℕ
 count_of None = 0
 count_of (Some x) = 1
+
+-- how many of these links have a tap
+abbrev pub taps_of : List Link → ℕ
+taps_of [] = 0
+taps_of (link ∷ links) = count_of link.tap + taps_of links
 
 -- the name of a port
 abbrev pub name_of_port : Port → List ℕ

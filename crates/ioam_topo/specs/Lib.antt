@@ -3,8 +3,8 @@ pub mod Types
 pub mod Spaces
 pub mod Traces
 pub mod Keyed
-pub mod Lengths
 pub mod Forward
+pub mod Index
 pub mod Flows
 pub mod Known
 pub mod Apart

@@ -1,5 +1,6 @@
-ghost use Rattle.std.specs.Prelude.{◌≡◌, ◌<◌, ◌≤◌, nat_eq, ◌&&◌, length, slice_get, Some, IfSome};
+ghost use Rattle.std.specs.Prelude.{◌≡◌, ◌<◌, nat_eq, ◌&&◌, length, slice_get, Some, IfSome};
 ghost use Rattle.ioam_topo.specs.Forward.{longest, bits_of, fits, way_to, IsWayTo, IsWayFrom};
+ghost use Rattle.ioam_topo.specs.Index.{lengths_of};
 
 use crate::domain::Domain;
 use crate::ids::{NodeId, Way};
@@ -18,14 +19,20 @@ impl Domain {
         self.routes.items[at]
     }
 
+    // The lengths of the prefixes of a node's routes, the longest first.
+    fn lengths_at(&self, node: NodeId) -> &[u8]
+        ensures { result.now ≡ lengths_of (routes self.now) node.0 }
+    {
+        match self.index.get(node.0 as usize) {
+            Some(at) => at.lengths.as_slice(),
+            None => &[],
+        }
+    }
+
     // The route of a node for so many first bits of a target.
     fn route_by(&self, node: NodeId, length: u8, target: u128) -> Option<Route>
-        requires { length ≤ 128 }
         ensures { result ≡ longest bits_of (λ route. fits node.0 target route && nat_eq length (bits_of route)) (routes self.now) }
     {
-        if !self.routes.lengths.has(length) {
-            return None;
-        }
         let prefix = Prefix {
             bits: masked(length, target),
             length,
@@ -36,12 +43,12 @@ impl Domain {
         }
     }
 
-    // The route of a node for a target, which is the longest. Lengths are tried from 128 bits down.
+    // The route of a node for a target, which is the longest.
     fn route_to(&self, node: NodeId, target: u128) -> Option<Route>
         ensures { result ≡ longest bits_of (fits node.0 target) (routes self.now) }
     {
-        for fewer in 0..129u8 {
-            match self.route_by(node, 128 - fewer, target) {
+        for length in self.lengths_at(node) {
+            match self.route_by(node, *length, target) {
                 Some(route) => return Some(route),
                 None => {}
             }

@@ -2,13 +2,14 @@
 //! look-ups in it.
 #![tactic(auto)]
 
+mod apart;
 mod data_rows;
 mod domain;
 mod flows;
 mod format;
 mod forward;
 mod ids;
-mod lengths;
+mod index;
 mod links;
 mod lookups;
 mod lookups_data;
@@ -24,11 +25,11 @@ mod spaces;
 mod traces;
 
 pub use data_rows::DataRows;
-pub use domain::{Domain, MOST_DATA, MOST_FLOWS, MOST_ROUTES, Telemetry};
+pub use domain::{Domain, MOST_DATA, MOST_ROUTES, Telemetry};
 pub use flows::Flows;
 pub use format::Format;
 pub use ids::{FlowId, LinkId, NodeId, PortId, Way};
-pub use links::{Links, MOST_LINKS, MOST_TAPS};
+pub use links::{Links, MOST_LINKS};
 pub use masks::{masked, matches};
 pub use names::Names;
 pub use nodes::{MOST_NODES, Nodes};

@@ -11,9 +11,6 @@ use std::alloc::Global;
 /// The most links.
 pub const MOST_LINKS: usize = 1024;
 
-/// The most links that have a tap.
-pub const MOST_TAPS: u32 = 0;
-
 /// Links, with what no two of them may share.
 #[derive(Drop)]
 pub struct Links {

@@ -4,7 +4,8 @@ ghost use Rattle.ioam_topo.specs.Domain.{is_local, spaces_of};
 ghost use Rattle.ioam_topo.specs.Sound.{IsNode, IsLink};
 ghost use Rattle.ioam_topo.specs.Spaces.{knows_space};
 ghost use Rattle.ioam_topo.specs.Apart.{AreApart, NodesApart};
-ghost use Rattle.ioam_topo.specs.Keyed.{name_of_link, name_of_port};
+ghost use Rattle.ioam_topo.specs.Keyed.{name_of_link, taps_of, name_of_port, key_of_route};
+ghost use Rattle.ioam_topo.specs.Forward.{bits_of};
 ghost use Rattle.ioam_topo.specs.Kept.{JoinsNodes, IsAtNode, IsRouteOf};
 
 use crate::domain::Domain;
@@ -28,12 +29,13 @@ impl Domain {
     }
 
     /// The links, in file order: at most 1,024, each from a node of the domain to another, with a
-    /// delay of at most 1,000,000,000 ns and an MTU from 1,280 to 65,575.
+    /// delay of at most 1,000,000,000 ns and an MTU from 1,280 to 65,575. At most 64 have a tap.
     pub fn links(&self) -> &[Link]
         ensures few { length (links self.now) ≤ 1024 }
         ensures ends { All (JoinsNodes (length (nodes self.now))) result.now }
         ensures sound { All IsLink result.now }
         ensures apart { AreApart name_of_link result.now }
+        ensures taps { taps_of result.now ≤ 64 }
         ensures value { result.now ≡ links self.now }
     {
         self.parts.links.items.as_slice()
@@ -50,10 +52,12 @@ impl Domain {
     }
 
     /// The routes, in file order: at most 16,384, each of a node of the domain, with a way from
-    /// there.
+    /// there and a prefix of at most 128 bits. No two of one node have one prefix.
     pub fn routes(&self) -> &[Route]
         ensures few { length (routes self.now) ≤ 16384 }
         ensures ways { All (IsRouteOf (length (nodes self.now)) (links self.now) (ports self.now)) result.now }
+        ensures short { All (λ route. bits_of route ≤ 128) result.now }
+        ensures apart { AreApart key_of_route result.now }
         ensures value { result.now ≡ routes self.now }
     {
         self.routes.items.as_slice()

@@ -1,11 +1,13 @@
-ghost use Rattle.std.specs.Prelude.{◌≡◌, ◌<◌, ◌≤◌, length, position, slice_get, Some, IfSome};
+ghost use Rattle.std.specs.Prelude.{◌≡◌, ◌<◌, ◌≤◌, length, slice_get, Some, IfSome};
 ghost use Rattle.std.specs.List.{All};
 ghost use Rattle.std.specs.Option.{option_copied};
 ghost use Rattle.ioam_topo.specs.Sound.{IsNodeData, IsFlow};
 ghost use Rattle.ioam_topo.specs.Finding.{data_at, encloses, flow_at};
 ghost use Rattle.ioam_topo.specs.Kept.{IsOfNode, JoinsEnds};
 ghost use Rattle.ioam_topo.specs.Known.{IsKnownAtEnds};
-ghost use Rattle.ioam_topo.specs.Apart.{FlowsApart};
+ghost use Rattle.ioam_topo.specs.Apart.{AreApart, FlowsApart};
+ghost use Rattle.ioam_topo.specs.Keyed.{key_of_data};
+ghost use Rattle.ioam_topo.specs.Index.{flows_of, first_place, passes};
 
 use crate::domain::Domain;
 use crate::ids::{FlowId, NodeId};
@@ -21,14 +23,27 @@ fn encloses(node: NodeId, source: u128, target: u128, flow: &Flow) -> bool
     flow.entry.0 == node.0 && matches(flow.source, source) && matches(flow.target, target)
 }
 
-// The place of the first flow of a node for a source and a target.
-fn place_at(flows: &[Flow], node: NodeId, source: u128, target: u128) -> Option<usize>
-    ensures value { result ≡ position (encloses node.0 source target) flows.now }
+// Whether a node encloses, for the flow of a place, packets from a source to a target.
+fn encloses_at(flows: &[Flow], at: u32, node: NodeId, source: u128, target: u128) -> bool
+    ensures { result ≡ passes (encloses node.0 source target) (slice_get flows.now at) }
+{
+    match flows.get(at as usize) {
+        Some(flow) => encloses(node, source, target, flow),
+        None => false,
+    }
+}
+
+// The first of some places whose flow is one of a node for a source and a target.
+fn first_of(flows: &[Flow], places: &[u32], node: NodeId, source: u128, target: u128) -> Option<u32>
+    ensures value { result ≡ first_place (encloses node.0 source target) flows.now places.now }
     ensures within { IfSome result (λ at. at < length flows.now) }
 {
-    flows
-        .iter()
-        .position(|flow| encloses(node, source, target, flow))
+    for at in places {
+        if encloses_at(flows, *at, node, source, target) {
+            return Some(*at);
+        }
+    }
+    None
 }
 
 impl Domain {
@@ -61,12 +76,14 @@ impl Domain {
     }
 
     /// The data of the nodes, in file order: at most 4,096, each of a node of the domain and within
-    /// its bounds, a schema there exactly where its snapshot is.
+    /// its bounds, a schema there exactly where its snapshot is. No two of one node have one
+    /// namespace.
     pub fn data(&self) -> &[NodeData]
         ensures few { length (node_data self.now) ≤ 4096 }
         ensures value { result.now ≡ node_data self.now }
         ensures places { All (IsOfNode (length (nodes self.now))) result.now }
         ensures sound { All IsNodeData result.now }
+        ensures apart { AreApart key_of_data result.now }
     {
         self.telemetry.rows.items.as_slice()
     }
@@ -95,14 +112,25 @@ impl Domain {
         }
     }
 
+    // The places of a node's flows, in file order.
+    fn flows_at(&self, node: NodeId) -> &[u32]
+        ensures { result.now ≡ flows_of (flows self.now) node.0 }
+    {
+        match self.index.get(node.0 as usize) {
+            Some(at) => at.flows.as_slice(),
+            None => &[],
+        }
+    }
+
     /// The flow for which a node encloses a packet with this header: of the flows whose entry is
     /// the node, the first in file order whose source and target prefixes match the addresses.
     pub fn flow_at(&self, node: NodeId, header: &Header) -> Option<FlowId>
         ensures value { result ≡ flow_at (flows self.now) node.0 header.now.source header.now.target }
         ensures inside { IfSome result (λ flow. flow.0 < length (flows self.now)) }
     {
-        match place_at(self.flows(), node, header.source, header.target) {
-            Some(at) => Some(FlowId(at as u32)),
+        let places = self.flows_at(node);
+        match first_of(self.flows(), places, node, header.source, header.target) {
+            Some(at) => Some(FlowId(at)),
             None => None,
         }
     }

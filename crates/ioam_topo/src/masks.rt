@@ -1,4 +1,4 @@
-ghost use Rattle.std.specs.Prelude.{◌≡◌, ◌<◌, ◌^◌};
+ghost use Rattle.std.specs.Prelude.{◌≡◌};
 ghost use Rattle.ioam_topo.specs.Prefixes.{masked, matches};
 
 use crate::prefix::Prefix;
@@ -10,17 +10,9 @@ pub fn masked(length: u8, bits: u128) -> u128
     if length == 0 {
         0
     } else {
-        bits - bits % power(128_u8.saturating_sub(length))
+        let rest = 128_u8.saturating_sub(length);
+        (bits >> rest) << rest
     }
-}
-
-// A power of two.
-fn power(exponent: u8) -> u128
-    requires { exponent < 128 }
-    ensures value { result ≡ 2 ^ exponent }
-    ensures some { 0 < result }
-{
-    1 << exponent
 }
 
 /// Whether an address has the bits of a prefix.

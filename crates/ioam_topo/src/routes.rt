@@ -1,9 +1,7 @@
-ghost use Rattle.std.specs.Prelude.{◌≡◌, ◌++◌, ◌∷◌, ◌≤◌, [], OnOk, false};
+ghost use Rattle.std.specs.Prelude.{◌≡◌, ◌++◌, ◌∷◌, [], OnOk, false};
 ghost use Rattle.std.specs.List.{list_any};
 ghost use Rattle.ioam_topo.specs.Keyed.{is_route};
-ghost use Rattle.ioam_topo.specs.Lengths.{Marks};
 
-use crate::lengths::Lengths;
 use crate::links::Links;
 use crate::nodes::Nodes;
 use crate::parts::Route;
@@ -31,8 +29,6 @@ pub struct Routes {
     pub items: Vec<Route>,
     /// The node and the prefix of each.
     pub taken: IndexSet<(u32, Prefix)>,
-    /// The lengths of their prefixes.
-    pub lengths: Lengths,
 }
 
 impl Routes {
@@ -44,7 +40,6 @@ impl Routes {
         Routes {
             items: Vec::new(alloc),
             taken: IndexSet::new(alloc),
-            lengths: Lengths::new(),
         }
     }
 
@@ -57,15 +52,12 @@ impl Routes {
 
     /// Adds a route. After NoMemory nothing is known of the routes.
     pub fn add(&mut self, route: Route) -> Result<(), NoMemory>
-        requires small { route.prefix.length ≤ 128 }
-        requires new_key { list_any (is_route route.node.0 route.prefix) self.old.taken.keys ≡ false }
+        requires { list_any (is_route route.node.0 route.prefix) self.old.taken.keys ≡ false }
         ensures items { OnOk result (self.new.items.items ≡ self.old.items.items ++ route ∷ []) }
         ensures keys { OnOk result (self.new.taken.keys ≡ self.old.taken.keys ++ (route.node.0, route.prefix) ∷ []) }
-        ensures lengths { OnOk result (Marks self.old.lengths.held self.new.lengths.held route.prefix.length) }
     {
         self.taken.insert_full((route.node.0, route.prefix))?;
         self.items.push(route)?;
-        self.lengths.add(route.prefix.length);
         Ok(())
     }
 }

@@ -19,7 +19,8 @@ fn counted(kind: u8) -> u32
 // How many IOAM options a header has.
 fn count_in(head: &[u8]) -> u32
     requires { length head.now ≤ 2048 }
-    ensures { result ≡ ioam_count (options_in head.now) }
+    ensures value { result ≡ ioam_count (options_in head.now) }
+    ensures small { result ≤ 4096 }
 {
     let mut count = 0;
     let mut at = 2;
@@ -33,7 +34,8 @@ fn count_in(head: &[u8]) -> u32
 // How many that of a packet has, where it lies within the packet.
 fn count_hop(packet: &[u8]) -> u32
     requires { HopFits packet.now }
-    ensures { result ≡ option_count packet.now }
+    ensures value { result ≡ option_count packet.now }
+    ensures small { result ≤ 4096 }
 {
     if packet[6] != 0 {
         return 0;
@@ -43,11 +45,12 @@ fn count_hop(packet: &[u8]) -> u32
 }
 
 /// How many IOAM options the outer Hop-by-Hop Options header of a packet has. The chain of its headers
-/// is whole.
+/// is whole, so there are at most 4,096.
 pub fn option_count(packet: &[u8]) -> u32
     requires packet { IsPacket packet.now }
     requires sound { IsSound packet.now }
-    ensures { result ≡ option_count packet.now }
+    ensures value { result ≡ option_count packet.now }
+    ensures small { result ≤ 4096 }
 {
     count_hop(packet)
 }

@@ -72,6 +72,14 @@ impl NodeRoom {
         (self.given - self.notes.len()) as u32
     }
 
+    /// For how many IOAM options it was made.
+    pub fn given(&self) -> u32
+        ensures value { result ≡ self.now.spare + length self.now.notes }
+        ensures most { result ≤ 1048576 }
+    {
+        self.given as u32
+    }
+
     /// Takes the notes and the records away. There is room again for all for which it was made.
     pub fn clear(&mut self)
         ensures { self.new ≡ record { notes = []; exports = []; spare = self.old.spare + length self.old.notes } }

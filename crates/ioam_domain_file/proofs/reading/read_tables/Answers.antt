@@ -3,13 +3,13 @@ use Rattle.std.proofs.lemmas.Result.{err_from_is_err_and}
 use Rattle.toml.specs.View.{table_view}
 use Rattle.ioam_topo.specs.Domain.{links}
 use Rattle.ioam_entries.proofs.FaultLaws.{gives_first, behind, third_of_four, last_of_four, none_of_four}
-use Rattle.ioam_places.specs.LinkRead.{taps_of}
+use Rattle.ioam_topo.specs.Keyed.{taps_of}
 use Rattle.ioam_places.specs.Places.{part_faults}
 use Rattle.ioam_places.proofs.PartsLaws.{routes_same, routes_are}
 use Rattle.ioam_places.proofs.SoundLaws.{nodes_kept, links_kept, ports_kept, routes_kept}
 use Rattle.ioam_domain_file.specs.Extent.{taps_most}
 use Rattle.ioam_domain_file.proofs.TopLaws.{packets_bounds}
-use Rattle.ioam_domain_file.proofs.TelemetryLaws.{data_kept, data_are, flows_are, node_count}
+use Rattle.ioam_domain_file.proofs.TelemetryLaws.{taps_few, data_kept, data_are, flows_are, node_count}
 use Rattle.ioam_domain_file.proofs.reading.read_tables.Goals as goal
 
 pub returns-in_err-own-clause-read : goal.returns-in_err-own-clause-read
@@ -40,35 +40,35 @@ returns-in_err-telemetry-clause-read c =
     (routes_same c.args.taps (table_view c.args.top.now) c.in_ok-parts.parts c.in_ok-parts.ensures.1))
     c.in_err-telemetry.ensures)
 
-pub returns-clause-read : goal.returns-clause-read
-returns-clause-read c =
+pub returns-in-Ok-clause-read : goal.returns-in-Ok-clause-read
+returns-in-Ok-clause-read c =
     let clear : part_faults (taps_most c.args.extent) (table_view c.args.top.now) ≡ [] = ap (λ n. part_faults n (table_view c.args.top.now)) (sym c.requires) ∙ c.in_ok-parts.ensures.0 in (
       none_of_four _ _ _ _ _ c.in_ok-own.ensures.0 clear c.in_ok-routes.ensures.0
           (routes_same c.args.taps (table_view c.args.top.now) c.in_ok-parts.parts c.in_ok-parts.ensures.1) c.in_ok-telemetry.ensures.0,
       record {
-        format = c.in_ok-own.ensures.1.0 ∙ ap Ok (sym c.new.ensures.format);
-        packets = c.in_ok-own.ensures.1.1 ∙ ap Ok (sym c.new.ensures.packets);
-        has_nodes = c.new.ensures.nodes ∙ c.in_ok-parts.ensures.1.nodes.items;
-        has_links = c.new.ensures.links ∙ c.in_ok-parts.ensures.1.links.items;
-        has_ports = c.new.ensures.ports ∙ c.in_ok-parts.ensures.1.ports.items;
-        has_routes = c.new.ensures.routes ∙ routes_are c.args.taps (table_view c.args.top.now) c.in_ok-parts.parts c.in_ok-routes.routes c.in_ok-parts.ensures.1 c.in_ok-routes.ensures.1;
-        has_data = c.new.ensures.data ∙ data_are (table_view c.args.top.now) c.in_ok-parts.parts.nodes c.args.extent c.in_ok-telemetry.telemetry c.in_ok-parts.ensures.1.nodes c.in_ok-telemetry.ensures.1;
-        has_flows = c.new.ensures.flows ∙ flows_are (table_view c.args.top.now) c.in_ok-parts.parts.nodes c.args.extent c.in_ok-telemetry.telemetry c.in_ok-parts.ensures.1.nodes c.in_ok-telemetry.ensures.1;
+        format = c.in_ok-own.ensures.1.0 ∙ ap Ok (sym c.in-Ok.ensures.format);
+        packets = c.in_ok-own.ensures.1.1 ∙ ap Ok (sym c.in-Ok.ensures.packets);
+        has_nodes = c.in-Ok.ensures.nodes ∙ c.in_ok-parts.ensures.1.nodes.items;
+        has_links = c.in-Ok.ensures.links ∙ c.in_ok-parts.ensures.1.links.items;
+        has_ports = c.in-Ok.ensures.ports ∙ c.in_ok-parts.ensures.1.ports.items;
+        has_routes = c.in-Ok.ensures.routes ∙ routes_are c.args.taps (table_view c.args.top.now) c.in_ok-parts.parts c.in_ok-routes.routes c.in_ok-parts.ensures.1 c.in_ok-routes.ensures.1;
+        has_data = c.in-Ok.ensures.data ∙ data_are (table_view c.args.top.now) c.in_ok-parts.parts.nodes c.args.extent c.in_ok-telemetry.telemetry c.in_ok-parts.ensures.1.nodes c.in_ok-telemetry.ensures.1;
+        has_flows = c.in-Ok.ensures.flows ∙ flows_are (table_view c.args.top.now) c.in_ok-parts.parts.nodes c.args.extent c.in_ok-telemetry.telemetry c.in_ok-parts.ensures.1.nodes c.in_ok-telemetry.ensures.1;
       },
     )
 
-pub returns-clause-within : goal.returns-clause-within
-returns-clause-within c = record {
-  few_flows = let e = ap length c.new.ensures.flows in let f = c.in_ok-telemetry.ensures.1.flows.few in omega (arith, e, f);
-  few_taps = let e : taps_of (links c.new.result) ≡ taps_of c.in_ok-parts.parts.links.items.items = ap taps_of c.new.ensures.links in
+pub returns-in-Ok-clause-within : goal.returns-in-Ok-clause-within
+returns-in-Ok-clause-within c = record {
+  few_flows = let e = ap length c.in-Ok.ensures.flows in let f = c.in_ok-telemetry.ensures.1.flows.few in omega (arith, e, f);
+  few_taps = let e : taps_of (links c.in-Ok.domain) ≡ taps_of c.in_ok-parts.parts.links.items.items = ap taps_of c.in-Ok.ensures.links in
       let t = c.in_ok-parts.ensures.1.links.tapped in let f = c.in_ok-parts.ensures.1.links.few_taps in let n = c.requires in omega (arith, e, t, f, n);
 }
 
-pub returns-clause-apart : goal.returns-clause-apart
-returns-clause-apart c = record {
-  nodes_apart = c.new.result.nodes_apart;
-  flows_apart = c.new.result.flows_apart;
-  known = c.new.result.flows_kept.known;
+pub returns-in-Ok-clause-apart : goal.returns-in-Ok-clause-apart
+returns-in-Ok-clause-apart c = record {
+  nodes_apart = c.in-Ok.domain.nodes_apart;
+  flows_apart = c.in-Ok.domain.flows_apart;
+  known = c.in-Ok.domain.flows_kept.known;
 }
 
 pub read_telemetry-requires-clause-named : goal.read_telemetry-requires-clause-named
@@ -84,7 +84,7 @@ pub new-requires-clause-nodes_kept : goal.new-requires-clause-nodes_kept
 new-requires-clause-nodes_kept c = nodes_kept c.args.taps (table_view c.args.top.now) c.in_ok-parts.parts c.in_ok-parts.ensures.1 c.in_ok-parts.ensures.0
 
 pub new-requires-clause-links_kept : goal.new-requires-clause-links_kept
-new-requires-clause-links_kept c = links_kept c.args.taps (table_view c.args.top.now) c.in_ok-parts.parts c.in_ok-parts.ensures.1 c.in_ok-parts.ensures.0
+new-requires-clause-links_kept c = links_kept c.args.taps (table_view c.args.top.now) c.in_ok-parts.parts c.in_ok-parts.ensures.1 c.in_ok-parts.ensures.0 (taps_few c.args.taps c.args.extent c.requires)
 
 pub new-requires-clause-ports_kept : goal.new-requires-clause-ports_kept
 new-requires-clause-ports_kept c = ports_kept c.args.taps (table_view c.args.top.now) c.in_ok-parts.parts c.in_ok-parts.ensures.1 c.in_ok-parts.ensures.0

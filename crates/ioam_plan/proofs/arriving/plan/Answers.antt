@@ -1,18 +1,14 @@
-use Rattle.std.proofs.Common.{slice_get, Result, Ok}
-use Rattle.ioam_node.specs.declared.admitted.Admit.TheVariants as admit
-use Rattle.ioam_topo.specs.Domain.{ports}
-use Rattle.ioam_plan.specs.declared.itinerary.Itinerary.{Itinerary}
-use Rattle.ioam_plan.proofs.PlansLaws.{planned_only}
+use Rattle.std.proofs.Common.{Option, IsSomeAnd, sym, subst}
+use Rattle.ioam_topo.specs.declared.parts.Port.{Port}
+use Rattle.ioam_plan.specs.Plans.{PlansBy}
+use Rattle.ioam_plan.proofs.PlansLaws.{Plans-unique}
 use Rattle.ioam_plan.proofs.arriving.plan.Goals as goal
 
-pub returns-in-Plain-clause-only : goal.returns-in-Plain-clause-only
-returns-in-Plain-clause-only c = planned_only c.args.domain.now c.args.time c.args.admitted.now (admit.Plain c.in-Plain.packet)
-    (slice_get (ports c.args.domain.now) c.args.port.0) c.port_of-port.result.now c.plan_packet.result c.in-Plain.is c.port_of-port.ensures.value
-    c.plan_packet.ensures.plans
+pub returns-in-Ok-clause-only : goal.returns-in-Ok-clause-only
+returns-in-Ok-clause-only c earlier other stand plans =
+    let P : Option Port → Type 0 = λ at. IsSomeAnd at (PlansBy c.args.domain.now c.args.readings.now earlier c.args.time c.in-Ok.itinerary c.args.admitted.now) in
+    Plans-unique c.args.domain.now c.args.readings.now earlier c.args.time c.in-Ok.itinerary other c.args.port c.args.admitted.now
+    (subst P (sym c.port_of-port.ensures.value) (c.in-Ok.ensures.plans earlier stand)) plans
 
-pub returns-in-Drop-clause-only : goal.returns-in-Drop-clause-only
-returns-in-Drop-clause-only c =
-    let answer : Result Itinerary (Unit {0}) = Ok c.dropped.result in
-    planned_only c.args.domain.now c.args.time c.args.admitted.now (admit.Drop c.in-Drop.reason)
-    (slice_get (ports c.args.domain.now) c.args.port.0) c.port_of-port.result.now answer c.in-Drop.is c.port_of-port.ensures.value
-    c.dropped.ensures.plans
+pub returns-in-Ok-clause-counted : goal.returns-in-Ok-clause-counted
+returns-in-Ok-clause-counted c earlier stand = c.note.ensures c.args.domain.now earlier stand

@@ -15,5 +15,5 @@ pub returns-in-Ok : goal.returns-in-Ok
 returns-in-Ok c = λ earlier holds there. (
   sym (held_faults c.args.before.now.parts.now earlier c.args.self.now c.args.place (table_view c.args.entry.now) holds there) ∙ c.in_ok-route.ensures.0,
   route_added c.args.before.now.parts.now earlier (table_view c.args.entry.now) c.in_ok-route.route c.args.self.now c.add.new.self holds c.in_ok-route.ensures.1
-      c.in-Ok.ensures.items c.in-Ok.ensures.keys c.in-Ok.ensures.lengths,
+      c.in-Ok.ensures.items c.in-Ok.ensures.keys,
 )

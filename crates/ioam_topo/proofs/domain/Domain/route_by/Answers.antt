@@ -1,11 +1,6 @@
-use Rattle.std.proofs.Common.{◌≡◌, false, Some, slice_get, rules, sym}
-use Rattle.ioam_topo.proofs.ForwardLaws.{route_none, route_found, route_missing}
+use Rattle.std.proofs.Common.{rules}
+use Rattle.ioam_topo.proofs.ForwardLaws.{route_found, route_missing}
 use Rattle.ioam_topo.proofs.domain.Domain.route_by.Goals as goal
-
-pub returns-then-not-has : goal.returns-then-not-has
-returns-then-not-has c =
-    let off : slice_get c.args.self.now.routes.lengths.held c.args.length ≡ Some false = search rules in
-    sym (route_none c.args.self.now.routes.items.items c.args.self.now.routes.lengths.held c.args.node.0 c.args.target c.args.length c.args.self.now.routes_kept.sized off)
 
 pub returns-in-Some : goal.returns-in-Some
 returns-in-Some c =

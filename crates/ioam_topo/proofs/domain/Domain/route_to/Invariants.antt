@@ -1,8 +1,9 @@
-use Rattle.std.proofs.Common.{◌≡◌, ◌-◌, nat_lt, ◌&&◌}
+use Rattle.std.proofs.Common.{◌≡◌, drop}
 use Rattle.ioam_topo.specs.Domain.{routes}
 use Rattle.ioam_topo.specs.Forward.{longest, bits_of, fits}
+use Rattle.ioam_topo.specs.Index.{first_there}
+use Rattle.ioam_topo.proofs.IndexLaws.{by_length}
 use Rattle.ioam_topo.proofs.domain.Domain.route_to.Given as goal
 
-abbrev pub invariant-loop-fewer : goal.invariant-loop-fewer
-invariant-loop-fewer l = longest bits_of (λ r. fits l.node.0 l.target r && nat_lt (bits_of r) (129 - l.fewer)) (routes l.self)
-    ≡ longest bits_of (fits l.node.0 l.target) (routes l.self)
+abbrev pub invariant-loop-length : goal.invariant-loop-length
+invariant-loop-length l = first_there (by_length (routes l.self) l.node.0 l.target) (drop l.length-index l.length-items) ≡ longest bits_of (fits l.node.0 l.target) (routes l.self)

@@ -1,0 +1,7 @@
+mod BestLaws
+mod CollectedLaws
+mod FiledLaws
+mod KeyLaws
+mod Members
+mod Sorting
+mod StoreLaws

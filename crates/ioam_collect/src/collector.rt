@@ -1,0 +1,144 @@
+ghost use Rattle.std.specs.Prelude.{◌≡◌, ◌≢◌, ◌^◌, ◌<◌, [], IfOk, List};
+ghost use Rattle.std.specs.List.{AllByRecursion};
+ghost use Rattle.std.specs.Map.{keys_of};
+ghost use Rattle.std.specs.List.Sorted.{IsStrictlySortedBy};
+ghost use Rattle.ioam_dex.specs.Record.{Record, HasItsParts, record_of};
+ghost use Rattle.ioam_collect.specs.Keyed.{key_cmp, keyed, IsOfRecord};
+ghost use Rattle.ioam_collect.specs.Best.{groups_of};
+
+use crate::grouping::Groups;
+use crate::growing::Added;
+use crate::key::Key;
+use crate::keying::keyed;
+use crate::store::Store;
+use ioam_base::memory::NoMemory;
+use ioam_dex::{Export, ExportRoom};
+use ioam_pool::Item;
+use std::alloc::Global;
+use std::marker::Model;
+
+// The octets of the greatest record.
+const RECORD_MOST: usize = 274;
+
+/// Export records regrouped by the packets that they tell of: each record once, under its key, by
+/// falling hop value.
+#[derive(Drop)]
+pub struct Collector {
+    store: Store,
+    // where the octets of a record are written
+    room: ExportRoom,
+    read: u64,
+    unkeyed: u64,
+}
+
+impl Model for Collector {
+    ghost use Rattle.std.specs.Prelude.{◌+◌, ◌≤◌, length};
+    ghost use Rattle.ioam_collect.specs.Collected.{Collected};
+
+    ghost Value = { Collected };
+
+    ghost view = { λ inside. record {
+      groups = inside.store.groups;
+      held = inside.store.held;
+      limit = inside.store.limit;
+      read = inside.read;
+      unkeyed = inside.unkeyed;
+    } };
+
+    ghost invariant = { λ inside. 274 ≤ inside.room.spare + length inside.room.octets };
+}
+
+impl Collector {
+    ghost use Rattle.ioam_collect.specs.Collected.{AddsPair, AddsRecord, Counts, Stands};
+
+    /// A collector of so many records, below 2^31, which holds none.
+    pub fn new(alloc: Global, limit: u32) -> Result<Collector, NoMemory>
+        requires { limit < 2 ^ 31 }
+        ensures empty { IfOk result (λ collector. collector ≡ record { groups = []; held = 0; limit = limit; read = 0; unkeyed = 0 }) }
+        ensures stands { IfOk result (λ collector. Stands collector []) }
+    {
+        Ok(Collector {
+            store: Store::new(alloc, limit)?,
+            room: ExportRoom::new(alloc, RECORD_MOST)?,
+            read: 0,
+            unkeyed: 0,
+        })
+    }
+
+    /// Adds a record. The first of these holds that can: `Unkeyed`, `Repeat`, `Replaced`, `Full`, `Kept`.
+    /// The element is one of the type with at most 61 words, or empty where the type has neither a
+    /// defined word nor bit 22; the numbers are there exactly by the extension flags. Without memory the
+    /// collector is as before.
+    pub fn add(&mut self, export: &Export<'_>) -> Result<Added, NoMemory>
+        requires parts { HasItsParts (record_of export.now) }
+        ensures { AddsRecord self.old (record_of export.now) result self.new }
+    {
+        match keyed(export, &mut self.room) {
+            Some((key, item)) => self.add_keyed(key, item),
+            None => {
+                self.count(Added::Unkeyed);
+                Ok(Added::Unkeyed)
+            }
+        }
+    }
+
+    // Adds the item of a record under its key.
+    fn add_keyed(&mut self, key: Key, item: Item) -> Result<Added, NoMemory>
+        requires { IsOfRecord item }
+        ensures { AddsPair self.old (key, item) result self.new }
+    {
+        let added = self.store.add(key, item)?;
+        self.count(added);
+        Ok(added)
+    }
+
+    // Counts a record by what became of it.
+    fn count(&mut self, added: Added)
+        ensures { Counts self.old added self.new }
+    {
+        match added {
+            Added::Kept | Added::Replaced | Added::Repeat => {
+                self.read = self.read.saturating_add(1);
+            }
+            Added::Unkeyed => {
+                self.read = self.read.saturating_add(1);
+                self.unkeyed = self.unkeyed.saturating_add(1);
+            }
+            Added::Full => {}
+        }
+    }
+
+    /// The groups, in the order of their keys, none of them empty. It takes no memory.
+    pub fn groups(&self) -> Groups<'_>
+        ensures groups { result ≡ self.now.groups }
+        ensures in_order { IsStrictlySortedBy key_cmp (keys_of self.now.groups) }
+        ensures some { AllByRecursion (λ group. group.1 ≢ []) self.now.groups }
+        // The core of each item is a record, whose contents `export_of` gives.
+        ensures each { AllByRecursion (λ group. AllByRecursion IsOfRecord group.1) self.now.groups }
+        // They are the groups of the records that the collector stands for.
+        ensures exact { (xs : List Record) → Stands self.now xs → result ≡ groups_of (keyed xs) }
+    {
+        self.store.groups()
+    }
+
+    /// How many records are held.
+    pub fn held(&self) -> u32
+        ensures { result ≡ self.now.held }
+    {
+        self.store.held()
+    }
+
+    /// How many records were added, those that were refused as `Full` not counted.
+    pub fn read(&self) -> u64
+        ensures { result ≡ self.now.read }
+    {
+        self.read
+    }
+
+    /// How many of these have no key.
+    pub fn unkeyed(&self) -> u64
+        ensures { result ≡ self.now.unkeyed }
+    {
+        self.unkeyed
+    }
+}

@@ -1,0 +1,84 @@
+ghost use Rattle.std.specs.Prelude.{◌≡◌, ◌+◌, ◌≤◌, length, IfSome};
+ghost use Rattle.ioam_dex.specs.Record.{HasItsParts, record_of};
+ghost use Rattle.ioam_dex.specs.Visit.{visit_octets};
+ghost use Rattle.ioam_collect.specs.Keyed.{hops_of, item_of, keyed_of, IsOfRecord};
+
+use crate::key::Key;
+use ioam_base::buffer::Buffer;
+use ioam_data::fields;
+use ioam_dex::{Export, ExportRoom, put_export};
+use ioam_pool::Item;
+
+// The hop value of a record: that of bit 0 of its type, or of bit 8 where bit 0 isn't there.
+fn hop_value(export: &Export<'_>) -> Option<u8>
+    requires parts { HasItsParts (record_of export.now) }
+    ensures { result ≡ hops_of (record_of export.now) }
+{
+    if export.element.is_empty() {
+        return None;
+    }
+    let kind = export.trace_type();
+    let fields = fields(kind, kind.words(), export.element);
+    match fields.hop_node {
+        Some((hops, _)) => Some(hops),
+        None => match fields.wide_hop_node {
+            Some((hops, _)) => Some(hops),
+            None => None,
+        },
+    }
+}
+
+// The octets of a visit, where it is there.
+fn visit_of(visit: Option<(u64, u32)>) -> Buffer
+    ensures { result ≡ visit_octets visit }
+{
+    let mut buffer = Buffer::new();
+    if let Some(visit) = visit {
+        buffer.eight(visit.0);
+        buffer.four(visit.1);
+    }
+    buffer
+}
+
+// The item of a record with this hop value, written in the room.
+fn item_of(hops: u8, export: &Export<'_>, room: &mut ExportRoom) -> Item
+    requires parts { HasItsParts (record_of export.now) }
+    requires room { 274 ≤ room.old.spare + length room.old.octets }
+    ensures item { result ≡ item_of hops (record_of export.now) }
+    ensures of_record { IsOfRecord result }
+    ensures room { room.new.spare + length room.new.octets ≡ room.old.spare + length room.old.octets }
+{
+    let core = Export {
+        namespace: export.namespace,
+        flags: export.flags,
+        ext: export.ext,
+        kind: export.kind,
+        visit: None,
+        flow: export.flow,
+        seq: export.seq,
+        element: export.element,
+    };
+    room.clear();
+    put_export(&core, room);
+    Item::new(hops, room.octets(), visit_of(export.visit).octets())
+}
+
+/// The key and the item of a record, written in the room. None without a Flow ID, a Sequence Number or a
+/// hop value.
+pub(crate) fn keyed(export: &Export<'_>, room: &mut ExportRoom) -> Option<(Key, Item)>
+    requires parts { HasItsParts (record_of export.now) }
+    requires room { 274 ≤ room.old.spare + length room.old.octets }
+    ensures keyed { result ≡ keyed_of (record_of export.now) }
+    ensures of_record { IfSome result (λ found. IsOfRecord found.1) }
+    ensures room { room.new.spare + length room.new.octets ≡ room.old.spare + length room.old.octets }
+{
+    let flow = export.flow?;
+    let seq = export.seq?;
+    let hops = hop_value(export)?;
+    let key = Key {
+        namespace: export.namespace,
+        flow,
+        seq,
+    };
+    Some((key, item_of(hops, export, room)))
+}

@@ -1,0 +1,15 @@
+//! Export records regrouped by the packets that they tell of.
+#![tactic(auto)]
+
+mod adding;
+mod collector;
+mod grouping;
+mod growing;
+mod key;
+mod keying;
+mod store;
+
+pub use collector::Collector;
+pub use grouping::{Group, Groups};
+pub use growing::Added;
+pub use key::Key;

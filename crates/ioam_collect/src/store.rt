@@ -1,0 +1,103 @@
+ghost use Rattle.std.specs.Prelude.{◌≡◌, ◌≢◌, ◌^◌, ◌<◌, [], IfOk};
+ghost use Rattle.std.specs.List.{AllByRecursion};
+ghost use Rattle.std.specs.Map.{keys_of};
+ghost use Rattle.std.specs.List.Sorted.{IsStrictlySortedBy};
+ghost use Rattle.ioam_collect.specs.Keyed.{key_cmp, IsOfRecord};
+
+use crate::adding::add_first;
+use crate::grouping::Groups;
+use crate::growing::{Added, put};
+use crate::key::Key;
+use ioam_base::memory::NoMemory;
+use ioam_pool::{Chain, Item, Pool};
+use std::alloc::Global;
+use std::collections::BTreeMap;
+use std::marker::Model;
+
+// How many cells a store begins with, where it may have as many.
+const FIRST_CELLS: u32 = 1024;
+
+/// Items under keys, each once and in their order.
+#[derive(Drop)]
+pub(crate) struct Store {
+    pool: Pool,
+    chains: BTreeMap<Key, Chain>,
+    spare: Option<Chain>,
+    limit: u32,
+}
+
+impl Model for Store {
+    ghost use Rattle.ioam_collect.specs.Gathered.{Gathered};
+
+    ghost Value = { Gathered };
+
+    ghost use Rattle.ioam_collect.specs.Inside.{IsStore, gathered};
+
+    ghost view = { λ inside. gathered inside.pool inside.chains inside.limit };
+
+    ghost invariant = { λ inside. IsStore inside.pool inside.chains inside.spare inside.limit };
+}
+
+impl Store {
+    ghost use Rattle.ioam_collect.specs.Adds.{Adds, IsOf};
+
+    // A store of so many items, without groups.
+    pub(crate) fn new(alloc: Global, limit: u32) -> Result<Store, NoMemory>
+        requires { limit < 2 ^ 31 }
+        ensures { IfOk result (λ store. store ≡ record { groups = []; held = 0; limit = limit }) }
+    {
+        Ok(Store {
+            pool: Pool::new(alloc, limit.min(FIRST_CELLS))?,
+            chains: BTreeMap::new(alloc),
+            spare: None,
+            limit,
+        })
+    }
+
+    // How many items there are.
+    pub(crate) fn held(&self) -> u32
+        ensures { result ≡ self.now.held }
+    {
+        self.pool.held()
+    }
+
+    // Adds an item to the group of its key.
+    pub(crate) fn add(&mut self, key: Key, item: Item) -> Result<Added, NoMemory>
+        requires { IsOfRecord item }
+        ensures adds { Adds self.old key item result self.new }
+        ensures is_of { IsOf self.old key item result self.new }
+    {
+        self.add_one(key, item)
+    }
+
+    fn add_one(&mut self, key: Key, item: Item) -> Result<Added, NoMemory>
+        requires { IsOfRecord item }
+        ensures { Adds self.old key item result self.new }
+    {
+        let chain = self.chains.get(&key).copied();
+        match chain {
+            Some(chain) => put(&mut self.pool, self.limit, chain, item),
+            None => add_first(
+                &mut self.pool,
+                &mut self.chains,
+                &mut self.spare,
+                self.limit,
+                key,
+                item,
+            ),
+        }
+    }
+
+    // The groups, in the order of their keys. None is empty.
+    pub(crate) fn groups(&self) -> Groups<'_>
+        ensures groups { result ≡ self.now.groups }
+        ensures in_order { IsStrictlySortedBy key_cmp (keys_of self.now.groups) }
+        ensures some { AllByRecursion (λ group. group.1 ≢ []) self.now.groups }
+        ensures each { AllByRecursion (λ group. AllByRecursion IsOfRecord group.1) self.now.groups }
+    {
+        Groups {
+            entries: self.chains.iter(),
+            pool: &self.pool,
+        }
+    }
+}

@@ -1,0 +1,3 @@
+pub mod FreshLaws
+pub mod HeldLaws
+pub mod KeptLaws

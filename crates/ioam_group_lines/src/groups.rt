@@ -1,0 +1,90 @@
+//! The lines of groups.
+ghost use Rattle.std.specs.Prelude.{◌≡◌, ◌<◌, ◌^◌, ◌++◌, List, length, is_ok, if◌then◌else◌};
+ghost use Rattle.std.specs.List.{AllByRecursion, flat_map};
+ghost use Rattle.ioam_dex.specs.Record.{Record};
+ghost use Rattle.ioam_collect.specs.Collected.{Stands};
+ghost use Rattle.ioam_collect.specs.Keyed.{IsOfRecord};
+ghost use Rattle.ioam_group_lines.specs.GroupsText.{key_line, group_text, counts_line, collected_text, records_text};
+
+use crate::items::put_items;
+use ioam_base::memory::NoMemory;
+use ioam_collect::{Collector, Group, Groups, Key};
+use ioam_report::{Piece, put_pieces, settle};
+
+// Appends the line of a key.
+fn put_key(key: Key, count: u64, out: &mut Vec<u8>) -> Result<(), NoMemory>
+    ensures { out.new.items ≡ (if is_ok result then out.old.items ++ key_line key count else out.old.items) }
+{
+    put_pieces(
+        &[
+            Piece::Number(b"group ", u64::from(key.namespace.0)),
+            Piece::Number(b" ", u64::from(key.flow)),
+            Piece::Number(b" ", u64::from(key.seq)),
+            Piece::Number(b" ", count),
+            Piece::Text(b"\n"),
+        ],
+        out,
+    )
+}
+
+// Appends the lines of a group.
+fn put_group(group: Group<'_>, out: &mut Vec<u8>) -> Result<(), NoMemory>
+    requires { AllByRecursion IsOfRecord group.items }
+    ensures { out.new.items ≡ (if is_ok result then out.old.items ++ group_text (group.entry.key, group.entry.items) else out.old.items) }
+{
+    let before = out.len();
+    put_key(group.key, group.items.left() as u64, out)?;
+    let answer = put_items(group.items, out);
+    settle(out, before, answer)
+}
+
+// Appends the lines of groups.
+fn put_all(groups: Groups<'_>, out: &mut Vec<u8>) -> Result<(), NoMemory>
+    requires { AllByRecursion (λ group. AllByRecursion IsOfRecord group.1) groups }
+    ensures { out.new.items ≡ (if is_ok result then out.old.items ++ flat_map group_text groups.entry else out.old.items) }
+{
+    let before = out.len();
+    for group in groups {
+        let answer = put_group(group, out);
+        settle(out, before, answer)?;
+    }
+    Ok(())
+}
+
+// Appends the counts.
+fn put_counts(read: u64, kept: u64, unkeyed: u64, out: &mut Vec<u8>) -> Result<(), NoMemory>
+    ensures { out.new.items ≡ (if is_ok result then out.old.items ++ counts_line read kept unkeyed else out.old.items) }
+{
+    let repeats = read.saturating_sub(kept).saturating_sub(unkeyed);
+    put_pieces(
+        &[
+            Piece::Number(b"records ", read),
+            Piece::Number(b" kept ", kept),
+            Piece::Number(b" repeats ", repeats),
+            Piece::Number(b" unkeyed ", unkeyed),
+            Piece::Text(b"\n"),
+        ],
+        out,
+    )
+}
+
+/// Appends the lines of a collector's groups, in the order of their keys: for each a line `group` with the
+/// namespace, the Flow ID, the Sequence Number and the count of its records, and for each record a line
+/// with the type and the fields of its element (RFC 9197 section 4.4.2), and of a record that tells its
+/// visit the time and the interface. Then a line with how many records were read, are kept, were there
+/// already and have no key. Without memory nothing is appended.
+pub fn put_groups(collector: &Collector, out: &mut Vec<u8>) -> Result<(), NoMemory>
+    ensures text { out.new.items ≡ (if is_ok result then out.old.items ++ collected_text collector.now else out.old.items) }
+    // Where the collector stands for records, this is their text.
+    ensures records { (xs : List Record) → Stands collector.now xs → length xs < 2 ^ 64 → collected_text collector.now ≡ records_text xs }
+{
+    let before = out.len();
+    put_all(collector.groups(), out)?;
+    let answer = put_counts(
+        collector.read(),
+        u64::from(collector.held()),
+        collector.unkeyed(),
+        out,
+    );
+    settle(out, before, answer)
+}

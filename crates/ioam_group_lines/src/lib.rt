@@ -1,0 +1,8 @@
+//! The lines of export records that were regrouped. Words are separated by one space, and every line
+//! ends with a line feed.
+#![tactic(auto)]
+
+mod groups;
+mod items;
+
+pub use groups::put_groups;

@@ -1,0 +1,127 @@
+//! One step of a packet's journey.
+ghost use Rattle.std.specs.Prelude.{◌≡◌, ◌+◌, ◌-◌, ◌*◌, ◌≤◌, ◌<◌, ◌^◌, false, is_some, IfSome, Some, length, slice_get};
+ghost use Rattle.ioam_node.specs.Choice.{choice};
+ghost use Rattle.ioam_topo.specs.Domain.{nodes, links};
+ghost use Rattle.ioam_topo.specs.Kept.{JoinsNodes};
+ghost use Rattle.ioam_topo.specs.declared.ids.Way.TheVariants as way;
+ghost use Rattle.ioam_plan.specs.Journey.{step_at, met_at, sent_on, sent_in};
+ghost use Rattle.ioam_plan.specs.Steps.{IsHere, IsInTime, StepsTo};
+
+use crate::itinerary::End;
+use crate::stage::{Entry, Inside, Spot, Stage, Step, Trip};
+use ioam_node::{choose, enter, go_out};
+use ioam_topo::{Domain, Link, LinkId, NodeId, Way};
+
+// The link of a place in the file.
+fn link_of(domain: &Domain, link: LinkId) -> &Link
+    requires { link.0 < length (links domain.now) }
+    ensures value { slice_get (links domain.now) link.0 ≡ Some result.now }
+    ensures ends { JoinsNodes (length (nodes domain.now)) result.now }
+{
+    domain.link(link)
+}
+
+// Where a packet enters its tunnel.
+fn step_in(domain: &Domain, trip: &Trip, spot: Spot, entry: Entry) -> Step
+    requires here { IsHere domain.now (Stage.Enter spot entry) }
+    ensures step { result ≡ step_at domain.now trip.now (Stage.Enter spot entry) }
+    ensures facts { StepsTo domain.now trip.now (Stage.Enter spot entry) result }
+{
+    match enter(
+        domain,
+        spot.node,
+        entry.refused,
+        spot.hops,
+        trip.target,
+        trip.size,
+    ) {
+        Err(reason) => Step::Ends(
+            End::Drop {
+                reason,
+                node: spot.node,
+            },
+            false,
+        ),
+        Ok(link) => {
+            let next = spot.crossed(link_of(domain, link), entry.hops);
+            Step::Goes(spot.visit(domain, Some(Way::Link(link))), Stage::At(next))
+        }
+    }
+}
+
+// Where it doesn't, and its tunnel, if it is in one, doesn't end: it is sent on.
+fn step_on(domain: &Domain, trip: &Trip, spot: Spot, enclosed: bool) -> Step
+    requires here { IsHere domain.now (Stage.At spot) }
+    ensures step { result ≡ sent_on domain.now spot (spot.hops - 1)
+        (choice domain.now spot.node.0 enclosed spot.hops trip.now.target trip.now.size) }
+    ensures facts { StepsTo domain.now trip.now (Stage.At spot) result }
+{
+    match choose(
+        domain,
+        spot.node,
+        enclosed,
+        spot.hops,
+        trip.target,
+        trip.size,
+    ) {
+        Err(reason) => Step::Ends(
+            End::Drop {
+                reason,
+                node: spot.node,
+            },
+            false,
+        ),
+        Ok(Way::Port(port)) => Step::Goes(
+            spot.visit(domain, Some(Way::Port(port))),
+            Stage::Gone(port),
+        ),
+        Ok(Way::Link(link)) => {
+            let next = spot.crossed(link_of(domain, link), spot.hops - 1);
+            Step::Goes(spot.visit(domain, Some(Way::Link(link))), Stage::At(next))
+        }
+    }
+}
+
+// Where the packet is at a node: the one at which its tunnel ends takes it out.
+fn step_from(domain: &Domain, trip: &Trip, spot: Spot) -> Step
+    requires here { IsHere domain.now (Stage.At spot) }
+    ensures step { result ≡ step_at domain.now trip.now (Stage.At spot) }
+    ensures facts { StepsTo domain.now trip.now (Stage.At spot) result }
+{
+    match trip.inside {
+        None => step_on(domain, trip, spot, false),
+        Some(inside) => {
+            if inside.exit.0 == spot.node.0 {
+                Step::Goes(spot.visit(domain, None), Stage::Out(spot.node, inside))
+            } else {
+                step_on(domain, trip, spot, true)
+            }
+        }
+    }
+}
+
+// Where it came out of its tunnel: it leaves by a port of that node.
+fn step_out(domain: &Domain, trip: &Trip, node: NodeId, inside: Inside) -> Step
+    requires here { IsHere domain.now (Stage.Out node inside) }
+    ensures step { result ≡ step_at domain.now trip.now (Stage.Out node inside) }
+    ensures facts { StepsTo domain.now trip.now (Stage.Out node inside) result }
+{
+    match go_out(domain, node, inside.hops, inside.target) {
+        Ok(port) => Step::Ends(End::Left { port }, true),
+        Err(reason) => Step::Ends(End::Drop { reason, node }, true),
+    }
+}
+
+/// What becomes of a packet at a stage of its journey.
+pub(crate) fn take_step(domain: &Domain, trip: &Trip, stage: Stage) -> Step
+    requires here { IsHere domain.now stage }
+    ensures step { result ≡ step_at domain.now trip.now stage }
+    ensures facts { StepsTo domain.now trip.now stage result }
+{
+    match stage {
+        Stage::Enter(spot, entry) => step_in(domain, trip, spot, entry),
+        Stage::At(spot) => step_from(domain, trip, spot),
+        Stage::Gone(port) => Step::Ends(End::Left { port }, false),
+        Stage::Out(node, inside) => step_out(domain, trip, node, inside),
+    }
+}

@@ -1,0 +1,7 @@
+mod ChainLaws
+mod FreeLaws
+pub mod OrderLaws
+mod PartLaws
+mod PoolLaws
+mod SeatLaws
+mod SwapLaws

@@ -1,0 +1,21 @@
+-- What holds inside every pool.
+use Rattle.std.specs.Prelude.{◌≡◌, ℕ, ◌<◌, ◌^◌, List, length, map, Option}
+use Rattle.ioam_pool.specs.Order.{IsChain}
+use Rattle.ioam_pool.specs.Cells.{Parted, entries_from}
+use Rattle.ioam_pool.specs.Chains.{Chains, total, chain_of}
+use Rattle.ioam_pool.specs.declared.cells.Cell.{Cell}
+
+abbrev pub seen : List Cell → List (Option ℕ) → Chains
+seen cells heads = record { chains = map (entries_from cells) heads; capacity = length cells }
+
+pub record IsPool (cells : List Cell) (heads : List (Option ℕ)) (free : Option ℕ) (held : ℕ) : Type 0 where
+  pub parted : Parted cells heads free
+  pub count : held ≡ total (seen cells heads)
+  pub in_order : (c : ℕ) → IsChain (chain_of (seen cells heads) c)
+  pub room : length cells < 2 ^ 31
+
+-- cells were added to the free list: the parts are kept, and what the chains show
+abbrev pub Grows : List Cell → Option ℕ → List Cell → Option ℕ → Type 0
+Grows cells free cells' free' =
+    (heads : List (Option ℕ)) → Parted cells heads free
+    → Parted cells' heads free' × (map (entries_from cells') heads ≡ map (entries_from cells) heads)

@@ -1,0 +1,7 @@
+pub mod Cells
+pub mod Chains
+pub mod Entry
+pub mod Inserting
+pub mod Kept
+pub mod Order
+pub mod Seats

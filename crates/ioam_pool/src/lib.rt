@@ -1,0 +1,14 @@
+//! Chains of items over one array of cells, linked by index: each cell is on exactly one chain, or free.
+#![tactic(auto)]
+
+mod cells;
+mod freeing;
+mod growing;
+mod item;
+mod pool;
+mod seating;
+mod walking;
+
+pub use item::{CORE_MOST, EXTRA_SIZE, Item};
+pub use pool::{Chain, Inserted, Pool};
+pub use walking::Items;
