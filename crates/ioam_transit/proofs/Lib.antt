@@ -1,4 +1,3 @@
-pub mod CountLaws
 pub mod PassageLaws
 pub mod PassingLaws
 pub mod RefusedLaws
