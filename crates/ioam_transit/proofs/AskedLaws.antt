@@ -161,7 +161,7 @@ module _ (words : List (List ℕ)) (desk : Writing) where
   Asked-unique (outcome.Capture n at f) (outcome.Domain g) x y = absurd (fault_or_domain Whole desk (domain_file words) (readings_file words) x.1.0.domain g y x.1.1.setting.has_domain)
   Asked-unique (outcome.Capture n at f) (outcome.Readings g) x y = absurd (fault_or_setting Whole desk (domain_file words) (readings_file words) x.1.0.domain x.1.0.samples g y x.1.1.setting)
   Asked-unique (outcome.Capture n at f) (outcome.Names m) x y = absurd (unfit_or_ready y.0 m y.2.has_domain y.3 x.1.0 x.1.1)
-  Asked-unique (outcome.Capture n at f) (outcome.Capture m place g) x y = 
+  Asked-unique (outcome.Capture n at f) (outcome.Capture m place g) x y =
       let same : Faulty at f ≡ Faulty place g = one_ending x.1.0 y.1.0 x.1.1 y.1.1 (Faulty at f) (Faulty place g) x.1.2 y.1.2 in
       let named : n ≡ m = x.0 ∙ sym y.0 in
       cc

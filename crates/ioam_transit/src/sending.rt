@@ -52,12 +52,7 @@ fn way_name(domain: &Domain, way: Way) -> &str
 }
 
 // `N out NAME`, and the lines of the notes
-fn put_sent(
-    number: u64,
-    name: &str,
-    notes: &[NodeNote],
-    out: &mut Vec<u8>,
-) -> Result<(), NoMemory>
+fn put_sent(number: u64, name: &str, notes: &[NodeNote], out: &mut Vec<u8>) -> Result<(), NoMemory>
     ensures { OnOk result (out.new.items ≡ out.old.items ++ out_lines number name.now notes.now) }
 {
     append_decimal(out, number)?;

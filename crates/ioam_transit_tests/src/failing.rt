@@ -1,6 +1,6 @@
 //! Runs of which one call fails.
 use crate::passing::{desk_for, node_line};
-use crate::rows::failing_row;
+use crate::rows::rows;
 use ioam_desk::MemoryDesk;
 use ioam_test_rows::digits::{is_front, octets};
 use std::process::Abort;
@@ -16,7 +16,7 @@ fn assert_fronts(rt: &impl Abort, desk: &MemoryDesk, sent: &[u8], report: &str, 
 #[test]
 fn each_call_of_a_node_fails_once(rt: HostRuntime) {
     let alloc = rt.alloc();
-    let row = failing_row();
+    let row = rows().first().expect(&rt, "a row");
     let sent = octets(alloc, row.sent).expect(&rt, "octets");
     let exports = octets(alloc, row.exports).expect(&rt, "octets");
     for piece in [65536usize, 7] {
@@ -39,6 +39,9 @@ fn each_call_of_a_node_fails_once(rt: HostRuntime) {
                 break;
             }
         }
-        assert!(rt; faults[0] > 4 && faults[1] > 0 && faults[2] > 4, "pieces of {piece}");
+        assert!(rt;
+            faults[0] > 4 && faults[1] > 0 && faults[2] > 4,
+            "pieces of {piece}"
+        );
     }
 }

@@ -48,11 +48,23 @@ fn a_node_sends_what_it_may(rt: HostRuntime) {
         for piece in [65536usize, 7] {
             let mut desk = desk_for(alloc, row).expect(&rt, "memory");
             desk.set_piece(piece.max(1));
-            let line = node_line(alloc, row.place[0], row.place[1], &mut desk).expect(&rt, "memory");
+            let line = node_line(alloc, row.node, row.link, &mut desk).expect(&rt, "memory");
             assert_eq!(rt; line.as_str(), "done");
-            assert!(rt; desk.file("out.pcap") == Some(sent.as_slice()), "at {}", row.report);
-            assert!(rt; desk.file("report.txt") == Some(row.report.as_bytes()), "at {}", row.report);
-            assert!(rt; desk.file("exports") == Some(exports.as_slice()), "at {}", row.report);
+            assert!(rt;
+                desk.file("out.pcap") == Some(sent.as_slice()),
+                "at {}",
+                row.report
+            );
+            assert!(rt;
+                desk.file("report.txt") == Some(row.report.as_bytes()),
+                "at {}",
+                row.report
+            );
+            assert!(rt;
+                desk.file("exports") == Some(exports.as_slice()),
+                "at {}",
+                row.report
+            );
         }
     }
 }

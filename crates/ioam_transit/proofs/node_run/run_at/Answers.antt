@@ -18,9 +18,11 @@ returns-in-Some g c =
     let lent : c.deref.result.now ≡ node_files words = c.deref.ensures.value ∙ c.in-Ok.ensures in
     let P : List (List ℕ) → Type 0 = λ names. IsFirstRepeat names c.in-Some.at in
     let first : IsFirstRepeat (node_files words) c.in-Some.at = subst P lent c.in-Some.ensures in
-    record { ends = stays_file g.D.Desk.tells words (g.D.Desk.reading c.args.desk.now) (g.D.Desk.writing c.args.desk.now)
-    (seat_at c.args.setting.now.domain c.args.setting.now.readings c.args.node c.args.inward) (node_files words) c.in-Some.at c.swap_remove.result refl first
-    (taken_name (node_files words) c.in-Ok.files.items c.in-Some.at c.swap_remove.result c.in-Ok.ensures c.swap_remove.ensures.value first.inside) }
+    record {
+      ends = stays_file g.D.Desk.tells words (g.D.Desk.reading c.args.desk.now) (g.D.Desk.writing c.args.desk.now)
+          (seat_at c.args.setting.now.domain c.args.setting.now.readings c.args.node c.args.inward) (node_files words) c.in-Some.at c.swap_remove.result refl first
+          (taken_name (node_files words) c.in-Ok.files.items c.in-Some.at c.swap_remove.result c.in-Ok.ensures c.swap_remove.ensures.value first.inside);
+    }
 
 pub run_apart-requires-clause-apart : goal.run_apart-requires-clause-apart
 run_apart-requires-clause-apart g c =
