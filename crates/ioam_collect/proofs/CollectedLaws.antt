@@ -18,14 +18,15 @@ use Rattle.ioam_collect.specs.Keyed.{key_cmp, hops_of, keyed_of, with_keyed, key
 use Rattle.ioam_collect.specs.Best.{kept_of, of_key, keys_in, group, groups_of}
 use Rattle.ioam_collect.specs.Gathered.{Gathered, group_in, AreOf}
 use Rattle.ioam_collect.specs.Adds.{Adds, IsOf}
-use Rattle.ioam_collect.specs.Collected.{Collected, gathered_in, capped, one_where_none, count_unkeyed, Stands, Answers, Leaves, LeavesPair, Grown, AddsRecord, AddsPair, Counts}
+use Rattle.ioam_collect.specs.Collected.{Collected, gathered_in, capped, one_where_none, count_unkeyed, Stands, Answers, Leaves, LeavesPair, Grown, AddsRecord, AddsPair, Counts, IsOneMore}
 use Rattle.ioam_collect.specs.declared.key.Key.{Key}
 use Rattle.ioam_collect.specs.declared.growing.Added.{Added}
 use Rattle.ioam_collect.specs.declared.growing.Added.TheVariants.{Kept, Replaced, Repeat, Unkeyed, Full}
 use Rattle.ioam_collect.proofs.Members.{Has, has_map, map_has, all_at}
 use Rattle.ioam_collect.proofs.Sorting.{same_members, arranged-in_order, arranged-has, has-arranged}
 use Rattle.ioam_collect.proofs.KeyLaws.{key_total, key_same, key_itself, key_or_not, pair}
-use Rattle.ioam_collect.proofs.FiledLaws.{of_key-has, has-of_key}
+use Rattle.ioam_collect.proofs.FiledLaws.{of_key-has, has-of_key, repeats_item, item_repeats, replaces_item, item_replaces}
+use Rattle.ioam_collect.proofs.BestLaws.{ordered}
 
 -- ---- a record without a hop value
 
@@ -259,3 +260,31 @@ groups_are groups ps sorted some each =
 pub stands_groups : (c : Collected) → IsStrictlySortedBy key_cmp (keys_of c.groups) → AllByRecursion (λ (g : Key × List Entry). g.1 ≢ []) c.groups
     → (xs : List Record) → Stands c xs → c.groups ≡ groups_of (keyed xs)
 stands_groups c sorted some xs s = groups_are c.groups (keyed xs) sorted some s.groups.each
+
+-- ---- Full, straight from the list
+
+module _ (c : Collected) (xs : List Record) (s : Stands c xs) where
+  abbrev now : List (Key × Entry)
+  now = kept_of (keyed xs)
+
+  more_by : (x : Record) (o : Option (Key × Entry)) → keyed_of x ≡ o → Answers c o Full → IsOneMore c.limit xs x
+  more_by x None is full = absurd (cc full)
+  more_by x (Some p) is full = (
+    p,
+    is,
+    (λ r. full.0 (rw (s.groups.each p.0) (item_repeats now (ordered (keyed xs)) p.0 p.1 r))),
+    (λ r. full.1 (rw (s.groups.each p.0) (item_replaces now (ordered (keyed xs)) p.0 p.1 r))),
+    sym s.groups.held ∙ full.2,
+  )
+
+  pub full_more : (x : Record) → Answers c (keyed_of x) Full → IsOneMore c.limit xs x
+  full_more x full = more_by x (keyed_of x) refl full
+
+  pub more_full : (x : Record) → IsOneMore c.limit xs x → Answers c (keyed_of x) Full
+  more_full x (p, is, none, none', all) =
+      let P : Option (Key × Entry) → Type 0 = λ o. Answers c o Full in
+      subst P (sym is) (
+        (λ r. none (repeats_item now (ordered (keyed xs)) p.0 p.1 (rw (s.groups.each p.0) at r))),
+        (λ r. none' (replaces_item now (ordered (keyed xs)) p.0 p.1 (rw (s.groups.each p.0) at r))),
+        s.groups.held ∙ all,
+      )

@@ -153,12 +153,12 @@ module _ (ps : List (Key × Entry)) (a : IsInOrder pair_cmp ps) (key : Key) wher
       (sym (pair_same (pair other z) (pair key item) (eq_equal (pair_cmp (pair other z) (pair key item)) is_so)))))))
 
   -- what a group repeats or replaces is what the pairs do
-  repeats_item : (item : Entry) → Repeats (of_key key ps) item → RepeatsIn ps (pair key item)
+  pub repeats_item : (item : Entry) → Repeats (of_key key ps) item → RepeatsIn ps (pair key item)
   repeats_item item (inl there) = inl (contains_from ps (pair key item) (of_key-has key ps item (has_from (of_key key ps) item there)))
   repeats_item item (inr (is, y, there, same)) =
       inr (is, pair key y, contains_from ps (pair key y) (of_key-has key ps y (has_from (of_key key ps) y there)), ap (pair key) same)
 
-  item_repeats : (item : Entry) → RepeatsIn ps (pair key item) → Repeats (of_key key ps) item
+  pub item_repeats : (item : Entry) → RepeatsIn ps (pair key item) → Repeats (of_key key ps) item
   item_repeats item (inl there) = inl (contains_from (of_key key ps) item (has-of_key key item ps (has_from ps (pair key item) there)))
   item_repeats item (inr (is, y, there, same)) =
       let its : y.0 ≡ key = ap (λ (q : Key × Entry). q.0) same in
@@ -166,10 +166,10 @@ module _ (ps : List (Key × Entry)) (a : IsInOrder pair_cmp ps) (key : Key) wher
       let has : Has ps (pair key y.1) = subst (Has ps) (ap (λ k. pair k y.1) its) (has_from ps y there) in
       inr (is, y.1, contains_from (of_key key ps) y.1 (has-of_key key y.1 ps has), bares)
 
-  replaces_item : (item : Entry) → Replaces (of_key key ps) item → ReplacesIn ps (pair key item)
+  pub replaces_item : (item : Entry) → Replaces (of_key key ps) item → ReplacesIn ps (pair key item)
   replaces_item item (full, there) = (full, contains_from ps (pair key (bare item)) (of_key-has key ps (bare item) (has_from (of_key key ps) (bare item) there)))
 
-  item_replaces : (item : Entry) → ReplacesIn ps (pair key item) → Replaces (of_key key ps) item
+  pub item_replaces : (item : Entry) → ReplacesIn ps (pair key item) → Replaces (of_key key ps) item
   item_replaces item (full, there) = (full, contains_from (of_key key ps) (bare item) (has-of_key key (bare item) ps (has_from ps (pair key (bare item)) there)))
 
 module _ (old : Gathered) (ps : List (Key × Entry)) (are : AreOf old ps) (key : Key) (item : Entry) where

@@ -1,5 +1,5 @@
 mod BestLaws
-mod CollectedLaws
+pub mod CollectedLaws
 mod FiledLaws
 mod KeyLaws
 mod Members

@@ -4,6 +4,7 @@ use Rattle.ioam_dex.specs.Record.{Record}
 use Rattle.ioam_pool.specs.Entry.{Entry}
 use Rattle.ioam_pool.specs.Order.{Repeats, Replaces}
 use Rattle.ioam_collect.specs.Keyed.{keyed_of, keyed}
+use Rattle.ioam_collect.specs.Best.{kept_of, RepeatsIn, ReplacesIn}
 use Rattle.ioam_collect.specs.Gathered.{Gathered, group_in, AreOf}
 use Rattle.ioam_collect.specs.declared.key.Key.{Key}
 use Rattle.ioam_collect.specs.declared.growing.Added.{Added}
@@ -97,3 +98,8 @@ LeavesPair Repeat old p new = Grown old p new
 abbrev pub AddsPair : {E : Type 0} → Collected → Key × Entry → Result Added E → Collected → Type 0
 AddsPair old p (Ok added) new = AnswersKeyed old p added × LeavesPair added old p new × (new.held ≡ old.held + held_more added) × (new.limit ≡ old.limit)
 AddsPair old p (Err _) new = new ≡ old
+
+-- as many of these records are kept as may be, and the record would be one more: what Full says, straight from the list
+abbrev pub IsOneMore : ℕ → List Record → Record → Type 0
+IsOneMore limit xs x = (p : Key × Entry) × (keyed_of x ≡ Some p) × ¬ (RepeatsIn (kept_of (keyed xs)) p) × ¬ (ReplacesIn (kept_of (keyed xs)) p)
+    × (length (kept_of (keyed xs)) ≡ limit)

@@ -1,6 +1,7 @@
 -- What was answered of a frame at its port.
 use Rattle.std.proofs.Common.{◌≡◌, ℕ, ◌≤◌, Bool, true, false, List, [], ◌∷◌, length, take, drop, Option, Some, None, IsSomeAnd, refl, sym, subst, ap, arith, length-take, length-drop, if◌then◌else◌}
 use Rattle.std.specs.Prelude.{nat_lt, not, ◌||◌, ◌==◌, ◌/◌, slice_index}
+use Rattle.ioam_clock.specs.declared.sample.Sample.{Sample}
 use Rattle.ioam_ip.specs.Framing.{Framing, Holds, NoIpv6, CutShort, TooShort, IfHolds, framed, framing_of, is_ethernet_ipv6}
 use Rattle.ioam_ip.specs.Packet.{whole_length}
 use Rattle.ioam_node.specs.Admission.{Admits, HoldsPacket}
@@ -91,9 +92,9 @@ drops_alike answer reason port end is ends =
     subst P (sym is) (subst Q (sym ends) tt)
 
 -- what is dropped on arrival doesn't leave
-pub plan-drops : (domain : Domain) (at : Option Port) (time : ℕ) (answer : Admit) (it : Itinerary)
-    → IsSomeAnd at (PlansBy domain [] [] time it answer) → DropsAlike answer it.end
-plan-drops domain (Some port) time (admit.Plain kept) it plans = tt
-plan-drops domain (Some port) time (admit.Enclose flow kept limit) it plans = tt
-plan-drops domain (Some port) time (admit.Drop reason) it plans = drops_alike (admit.Drop reason) reason port it.end refl plans.ends
-plan-drops domain None time answer it plans = absurd plans
+pub plan-drops : (domain : Domain) (readings : List (List Sample)) (earlier : List Itinerary) (at : Option Port) (time : ℕ) (answer : Admit) (it : Itinerary)
+    → IsSomeAnd at (PlansBy domain readings earlier time it answer) → DropsAlike answer it.end
+plan-drops domain readings earlier (Some port) time (admit.Plain kept) it plans = tt
+plan-drops domain readings earlier (Some port) time (admit.Enclose flow kept limit) it plans = tt
+plan-drops domain readings earlier (Some port) time (admit.Drop reason) it plans = drops_alike (admit.Drop reason) reason port it.end refl plans.ends
+plan-drops domain readings earlier None time answer it plans = absurd plans

@@ -4,6 +4,7 @@ use Rattle.std.specs.Prelude.{All, ⊤, ◌-◌, nat_eq, nat_lt, slice_index}
 use Rattle.std.proofs.lemmas.List.Elements.{All-nil, All-cons, All-append}
 use Rattle.ioam_ip.proofs.CleanLaws.{leaving-lowered}
 use Rattle.ioam_ip.proofs.FramingLaws.{framing-packet}
+use Rattle.ioam_clock.specs.declared.sample.Sample.{Sample}
 use Rattle.ioam_ip.specs.Clean.{MayLeave}
 use Rattle.ioam_ip.specs.Framing.{Framing, Holds, NoIpv6, CutShort, TooShort, IfHolds, framing_of}
 use Rattle.ioam_ip.specs.Packet.{IsPacket}
@@ -11,13 +12,14 @@ use Rattle.ioam_node.specs.Admission.{Admits}
 use Rattle.ioam_node.specs.declared.admitted.Admit.{Admit}
 use Rattle.ioam_node.specs.declared.admitted.Admit.TheVariants as admit
 use Rattle.ioam_pcap.specs.Text.{Sent, Sends, IsCaptureOf}
+use Rattle.ioam_plan.specs.declared.itinerary.Itinerary.{Itinerary}
 use Rattle.ioam_plan.specs.declared.itinerary.Visit.{Visit}
 use Rattle.ioam_plan.specs.declared.itinerary.End.{End}
 use Rattle.ioam_plan.specs.declared.itinerary.End.TheVariants.{Left, Drop}
 use Rattle.ioam_topo.specs.Domain.{ports}
 use Rattle.ioam_topo.specs.declared.domain.Domain.{Domain}
 use Rattle.ioam_topo.specs.declared.parts.Port.{Port}
-use Rattle.ioam_forward.specs.Fate.{Frame, Fate, HasFate, AreFates, packet_of, DropsAlike}
+use Rattle.ioam_forward.specs.Fate.{Frame, Fate, HasFate, AreFates, AreFatesFrom, packet_of, DropsAlike}
 use Rattle.ioam_forward.specs.Texts.{sent_at, sent_by_end, sent_of, fate_sent, sent_by, out_text, each_text, of_outputs}
 use Rattle.ioam_forward.proofs.AnswerLaws.{plan-drops}
 
@@ -68,23 +70,29 @@ sent-clean port (admit.Enclose flow kept limit) visits end clean drops = left-cl
 sent-clean port (admit.Drop reason) visits (Left exit) clean drops = absurd drops
 sent-clean port (admit.Drop reason) visits (Drop cause node) clean drops = All-nil (Sends MayLeave)
 
-fate-clean : (domain : Domain) (frame : Frame) (fate : Fate) → HasFate domain frame fate → (port : ℕ) → All (Sends MayLeave) (fate_sent port fate)
-fate-clean domain frame fate has port =
+fate-clean : (domain : Domain) (readings : List (List Sample)) (earlier : List Itinerary) (frame : Frame) (fate : Fate)
+    → HasFate domain readings earlier frame fate → (port : ℕ) → All (Sends MayLeave) (fate_sent port fate)
+fate-clean domain readings earlier frame fate has port =
     let cut : Bool = nat_lt (length frame.entry.octets) frame.entry.original in
     let at : Option Port = slice_get (ports domain) frame.port.0 in
     subst (λ (packet : List ℕ). All (Sends MayLeave) (sent_at port packet fate.itinerary)) (sym has.packet)
     (sent-clean port has.answer fate.itinerary.visits fate.itinerary.end
     (answer-clean domain at (framing_of frame.ethernet cut frame.entry.octets) has.answer (framing-packet frame.ethernet cut frame.entry.octets) has.answered)
-    (plan-drops domain at frame.entry.time has.answer fate.itinerary has.plans))
+    (plan-drops domain readings earlier at frame.entry.time has.answer fate.itinerary has.plans))
 
 -- every packet that leaves by a port has a whole chain and no IOAM option
+all-clean : (domain : Domain) (readings : List (List Sample)) (earlier : List Itinerary) (frames : List Frame) (fates : List Fate)
+    → AreFatesFrom domain readings earlier frames fates → (port : ℕ) → All (Sends MayLeave) (sent_by port fates)
+all-clean domain readings earlier [] [] are port = All-nil (Sends MayLeave)
+all-clean domain readings earlier [] (fate ∷ fates) are port = absurd are
+all-clean domain readings earlier (frame ∷ frames) [] are port = absurd are
+all-clean domain readings earlier (frame ∷ frames) (fate ∷ fates) are port =
+    All-append (Sends MayLeave) (fate_sent port fate) (sent_by port fates) (fate-clean domain readings earlier frame fate are.0 port)
+    (all-clean domain readings (earlier ++ fate.itinerary ∷ []) frames fates are.1 port)
+
 pub fates-clean : (domain : Domain) (frames : List Frame) (fates : List Fate) → AreFates domain frames fates → (port : ℕ)
     → All (Sends MayLeave) (sent_by port fates)
-fates-clean domain [] [] are port = All-nil (Sends MayLeave)
-fates-clean domain [] (fate ∷ fates) are port = absurd are
-fates-clean domain (frame ∷ frames) [] are port = absurd are
-fates-clean domain (frame ∷ frames) (fate ∷ fates) are port =
-    All-append (Sends MayLeave) (fate_sent port fate) (sent_by port fates) (fate-clean domain frame fate are.0 port) (fates-clean domain frames fates are.1 port)
+fates-clean domain frames fates are port = all-clean domain [] [] frames fates are port
 
 -- the capture of each port is one of such packets
 pub outs-clean : (domain : Domain) (frames : List Frame) (fates : List Fate) → AreFates domain frames fates → (port : ℕ)

@@ -1,6 +1,7 @@
 -- The texts of a run, with one arrival more and with the sums.
 use Rattle.std.proofs.Common.{◌≡◌, ℕ, ◌+◌, ◌<◌, List, [], ◌∷◌, ◌++◌, length, refl, sym, ◌∙◌, ap, append_assoc, append-nil, length-append, subst, arith}
 use Rattle.std.proofs.lemmas.List.{map-append, length-map}
+use Rattle.ioam_clock.specs.declared.sample.Sample.{Sample}
 use Rattle.ioam_pcap.specs.Text.{Sent, records_text, record_octets, capture_text, head_octets}
 use Rattle.ioam_plan.specs.declared.itinerary.Itinerary.{Itinerary}
 use Rattle.ioam_plan.specs.declared.itinerary.Visit.{Visit}
@@ -14,19 +15,31 @@ use Rattle.ioam_report.specs.Sums.{StandFor, IsEndBelow}
 use Rattle.ioam_report.specs.SumsText.{sums_text, arrivals_text}
 use Rattle.ioam_topo.specs.Domain.{ports, nodes as nodes_of}
 use Rattle.ioam_topo.specs.declared.domain.Domain.{Domain}
-use Rattle.ioam_forward.specs.Fate.{Frame, Fate, HasFate, AreFates}
+use Rattle.ioam_forward.specs.Fate.{Frame, Fate, HasFate, AreFates, AreFatesFrom}
 use Rattle.ioam_forward.specs.Texts.{each_text, out_text, fate_sent, sent_by, fate_line, report_lines, report_text, texts_so_far, texts_of, added_by, sums_by, ways_of, way_of}
 use Rattle.ioam_forward.specs.Forwarding.{Forwards, Forwarded, IsOf}
 use Rattle.ioam_forward.specs.declared.forwarding.Forwarding.{Forwarding}
 use Rattle.ioam_forward.proofs.AddsLaws.{same-each, said-each}
 use Rattle.ioam_forward.proofs.CleanLaws.{texts-clean}
 
+-- one arrival more
+push_from : (domain : Domain) (readings : List (List Sample)) (earlier : List Itinerary) (frames : List Frame) (fates : List Fate) (frame : Frame) (fate : Fate)
+    → AreFatesFrom domain readings earlier frames fates → HasFate domain readings (earlier ++ ways_of fates) frame fate
+    → AreFatesFrom domain readings earlier (frames ++ frame ∷ []) (fates ++ fate ∷ [])
+push_from domain readings earlier [] [] frame fate are has =
+    (subst (λ (before : List Itinerary). HasFate domain readings before frame fate) (append-nil earlier) has, tt)
+push_from domain readings earlier [] (g ∷ fates) frame fate are has = absurd are
+push_from domain readings earlier (f ∷ frames) [] frame fate are has = absurd are
+push_from domain readings earlier (f ∷ frames) (g ∷ fates) frame fate are has = (
+  are.0,
+  push_from domain readings (earlier ++ g.itinerary ∷ []) frames fates frame fate are.1
+      (subst (λ (before : List Itinerary). HasFate domain readings before frame fate)
+      (sym (append_assoc earlier (g.itinerary ∷ []) (ways_of fates))) has),
+)
+
 pub AreFates-push : (domain : Domain) (frames : List Frame) (fates : List Fate) (frame : Frame) (fate : Fate)
-    → AreFates domain frames fates → HasFate domain frame fate → AreFates domain (frames ++ frame ∷ []) (fates ++ fate ∷ [])
-AreFates-push domain [] [] frame fate are has = (has, tt)
-AreFates-push domain [] (g ∷ fates) frame fate are has = absurd are
-AreFates-push domain (f ∷ frames) [] frame fate are has = absurd are
-AreFates-push domain (f ∷ frames) (g ∷ fates) frame fate are has = (are.0, AreFates-push domain frames fates frame fate are.1 has)
+    → AreFates domain frames fates → HasFate domain [] (ways_of fates) frame fate → AreFates domain (frames ++ frame ∷ []) (fates ++ fate ∷ [])
+AreFates-push domain frames fates frame fate are has = push_from domain [] [] frames fates frame fate are has
 
 records_text-append : (a b : List Sent) → records_text (a ++ b) ≡ records_text a ++ records_text b
 records_text-append [] b = refl
@@ -73,7 +86,8 @@ texts-end domain fates gathered sums =
     ∙ ap (λ (r : List ℕ). each_text (length (ports domain)) 0 (λ k. out_text k fates) ++ (report_lines domain 1 fates ++ r) ∷ [] ∷ []) sums
 
 -- what is gathered stands for one arrival more
-pub Forwards-push : (domain : Domain) (frame : Frame) (fate : Fate) (old new : Forwarding) (number : ℕ) → number ≡ old.sums.packets + 1 → HasFate domain frame fate
+pub Forwards-push : (domain : Domain) (frame : Frame) (fate : Fate) (old new : Forwarding) (number : ℕ) → number ≡ old.sums.packets + 1
+    → ((earlier : List Itinerary) → HasFate domain [] earlier frame fate)
     → ((arrivals : List Itinerary) → StandFor domain old.sums arrivals → StandFor domain new.sums (arrivals ++ fate.itinerary ∷ []))
     → (frames : List Frame) (so_far : List (List ℕ)) → Forwards domain frames so_far old
     → Forwards domain (frames ++ frame ∷ []) (said_more so_far (added_by domain number fate)) new
@@ -81,7 +95,7 @@ Forwards-push domain frame fate old new number is has counts frames so_far forwa
     let count : number ≡ 1 + length forwards.fates = omega (arith, is, forwards.sums.packets, length-map forwards.fates way_of) in
     record {
       fates = forwards.fates ++ fate ∷ [];
-      are = AreFates-push domain frames forwards.fates frame fate forwards.are has;
+      are = AreFates-push domain frames forwards.fates frame fate forwards.are (has (ways_of forwards.fates));
       texts_are = ap (λ (ts : List (List ℕ)). said_more ts (added_by domain number fate)) forwards.texts_are
           ∙ ap (λ (m : ℕ). said_more (texts_so_far domain forwards.fates) (added_by domain m fate)) count
           ∙ sym (texts-push domain forwards.fates fate);

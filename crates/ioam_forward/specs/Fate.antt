@@ -1,5 +1,6 @@
--- What becomes of the arrivals of a domain whose packets aren't put into tunnels.
-use Rattle.std.specs.Prelude.{◌≡◌, ℕ, ⊤, Bool, IsSomeAnd, List, [], ◌∷◌, slice_get}
+-- What becomes of the arrivals of a domain.
+use Rattle.std.specs.Prelude.{◌≡◌, ℕ, ⊤, Bool, IsSomeAnd, List, [], ◌∷◌, ◌++◌, slice_get}
+use Rattle.ioam_clock.specs.declared.sample.Sample.{Sample}
 use Rattle.ioam_ip.specs.Framing.{framing_of}
 pub use Rattle.ioam_node.specs.Admission.{packet_of}
 use Rattle.ioam_node.specs.Admission.{Admits}
@@ -33,20 +34,25 @@ abbrev pub IsAnswered : Domain → Frame → Admit → Type 0
 IsAnswered domain frame answer = IsSomeAnd (slice_get (ports domain) frame.port.0)
     (λ at. Admits domain at.node.0 (framing_of frame.ethernet (is_cut frame.entry) frame.entry.octets) answer)
 
--- no packet is enclosed, so that no readings and no earlier arrivals count
-pub record HasFate (domain : Domain) (frame : Frame) (fate : Fate) : Type 0 where
+-- what becomes of an arrival behind these, by what is answered of it at its port and the journey from there
+pub record HasFate (domain : Domain) (readings : List (List Sample)) (earlier : List Itinerary) (frame : Frame) (fate : Fate) : Type 0 where
   pub answer : Admit
   pub answered : IsAnswered domain frame answer
-  pub plans : Plans domain [] [] frame.port frame.entry.time answer fate.itinerary
+  pub plans : Plans domain readings earlier frame.port frame.entry.time answer fate.itinerary
   pub port : fate.port ≡ frame.port
   pub packet : fate.packet ≡ packet_of answer
 
--- what becomes of each
+-- what becomes of each, the first behind these: those behind it have its itinerary before them too
+abbrev pub AreFatesFrom : Domain → List (List Sample) → List Itinerary → List Frame → List Fate → Type 0
+AreFatesFrom domain readings earlier [] [] = ⊤
+AreFatesFrom domain readings earlier [] (fate ∷ fates) = ⊥
+AreFatesFrom domain readings earlier (frame ∷ frames) [] = ⊥
+AreFatesFrom domain readings earlier (frame ∷ frames) (fate ∷ fates) =
+    HasFate domain readings earlier frame fate × AreFatesFrom domain readings (earlier ++ fate.itinerary ∷ []) frames fates
+
+-- what becomes of all arrivals of a domain whose packets aren't enclosed, so that no readings count
 abbrev pub AreFates : Domain → List Frame → List Fate → Type 0
-AreFates domain [] [] = ⊤
-AreFates domain [] (fate ∷ fates) = ⊥
-AreFates domain (frame ∷ frames) [] = ⊥
-AreFates domain (frame ∷ frames) (fate ∷ fates) = HasFate domain frame fate × AreFates domain frames fates
+AreFates domain frames fates = AreFatesFrom domain [] [] frames fates
 
 -- a frame that is dropped where it arrives doesn't leave
 abbrev pub DropsAlike : Admit → End → Type 0

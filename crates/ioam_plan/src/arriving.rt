@@ -56,6 +56,7 @@ pub fn plan(
         → Plans domain.now readings.now earlier port time admitted.now other → IfOk result (λ it. it ≡ other) }
     ensures counted { (earlier : List Itinerary) → CountFor domain.now counters.old earlier
         → IfOk result (λ it. CountFor domain.now counters.new (earlier ++ it ∷ [])) }
+    ensures length { length counters.new ≡ length counters.old }
     ensures as_before { IfErr result (λ _. counters.new ≡ counters.old) }
     ensures rides { IfOk result (Rides domain.now (packet_of admitted.now)) }
     ensures inside { IfOk result (StaysInside domain.now) }

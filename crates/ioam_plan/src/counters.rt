@@ -1,5 +1,5 @@
 //! How many packets were enclosed in each flow.
-ghost use Rattle.std.specs.Prelude.{◌≡◌, ◌+◌, ◌<◌, ◌^◌, ◌∷◌, ◌++◌, [], List, All, IfOk, Some, length, replicate, slice_get, slice_index, slice_set};
+ghost use Rattle.std.specs.Prelude.{◌≡◌, ◌↔◌, ◌+◌, ◌<◌, ◌^◌, IsTrue, ◌∷◌, ◌++◌, [], List, All, IfOk, Some, length, replicate, slice_get, slice_index, slice_set};
 ghost use Rattle.ioam_topo.specs.Domain.{flows};
 ghost use Rattle.ioam_topo.specs.declared.domain.Domain.{Domain};
 ghost use Rattle.ioam_plan.specs.Counted.{CountFor, CanCount};
@@ -35,6 +35,13 @@ impl Counters {
         Ok(Counters { held })
     }
 
+    /// Whether each flow can have a packet more: fewer than 2^32 were enclosed in it.
+    pub fn has_room(&self) -> bool
+        ensures { IsTrue result ↔ All (λ number. number < 2 ^ 32) self.now }
+    {
+        self.held.iter().all(|number| *number < 1 << 32)
+    }
+
     // How many were enclosed in a flow.
     pub(crate) fn enclosed(&self, flow: FlowId) -> u64
         requires { flow.0 < length self.now }
@@ -55,7 +62,8 @@ impl Counters {
     // Counts an arrival more.
     pub(crate) fn note(&mut self, itinerary: &Itinerary)
         requires { CanCount self.old itinerary.now.carried }
-        ensures { (domain : Domain) (earlier : List Itinerary) → CountFor domain self.old earlier
+        ensures length { length self.new ≡ length self.old }
+        ensures counted { (domain : Domain) (earlier : List Itinerary) → CountFor domain self.old earlier
             → CountFor domain self.new (earlier ++ itinerary.now ∷ []) }
     {
         match itinerary.carried {

@@ -4,7 +4,8 @@ use Rattle.std.specs.Prelude.{map}
 use Rattle.std.specs.List.{AllZip}
 use Rattle.std.proofs.lemmas.List.{map-append, length-map}
 use Rattle.ioam_desk.specs.Desk.{Reading, Writing}
-use Rattle.ioam_forward.specs.Fate.{Frame, Fate, AreFates}
+use Rattle.ioam_forward.specs.Fate.{Frame}
+use Rattle.ioam_forward.proofs.OneFateLaws.{AreFates-length}
 use Rattle.ioam_forward.specs.Forwarding.{Forwards, IsOf, taken}
 use Rattle.ioam_forward.specs.Texts.{way_of, ways_of}
 use Rattle.ioam_forward.specs.declared.forwarding.Forwarding.{Forwarding}
@@ -28,12 +29,6 @@ use Rattle.ioam_traffic.specs.Traffic.{Course, ArePassed, frame_of, frames_of, p
 use Rattle.ioam_traffic.specs.Running.{Coming, Fronts, Halted, Running, Runs}
 use Rattle.ioam_traffic.specs.declared.progress.Progress.{Progress}
 use Rattle.ioam_traffic.proofs.FrontsLaws.{fronts_so_far}
-
-AreFates-length : (domain : Domain) (frames : List Frame) (fates : List Fate) → AreFates domain frames fates → length fates ≡ length frames
-AreFates-length domain [] [] are = refl
-AreFates-length domain [] (fate ∷ fates) are = absurd are
-AreFates-length domain (frame ∷ frames) [] are = absurd are
-AreFates-length domain (frame ∷ frames) (fate ∷ fates) are = omega (arith, AreFates-length domain frames fates are.1)
 
 -- the sums are those of some arrivals
 pub Forwards-of : (domain : Domain) (frames : List Frame) (texts : List (List ℕ)) (gathered : Forwarding) → Forwards domain frames texts gathered → IsOf domain gathered

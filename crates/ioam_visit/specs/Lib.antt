@@ -1,5 +1,6 @@
 pub mod Counted
 pub mod Exports
+pub mod Leaving
 pub mod Met
 pub mod Notes
 pub mod Room

@@ -6,6 +6,8 @@
 mod counting;
 mod data;
 mod inside;
+mod leaving;
+mod left;
 mod met;
 mod note;
 mod options;
@@ -16,6 +18,8 @@ mod visits;
 
 pub use counting::option_count;
 pub use inside::carried;
+pub use leaving::leave;
+pub use left::Leave;
 pub use note::{NodeNote, What};
 pub use room::NodeRoom;
 pub use visits::{begin, exit, transit};

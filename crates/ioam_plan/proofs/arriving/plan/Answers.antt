@@ -11,4 +11,4 @@ returns-in-Ok-clause-only c earlier other stand plans =
     (subst P (sym c.port_of-port.ensures.value) (c.in-Ok.ensures.plans earlier stand)) plans
 
 pub returns-in-Ok-clause-counted : goal.returns-in-Ok-clause-counted
-returns-in-Ok-clause-counted c earlier stand = c.note.ensures c.args.domain.now earlier stand
+returns-in-Ok-clause-counted c earlier stand = c.note.ensures.counted c.args.domain.now earlier stand

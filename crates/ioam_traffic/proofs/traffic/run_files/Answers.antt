@@ -1,4 +1,4 @@
-use Rattle.std.proofs.Common.{◌≡◌, ◌+◌, ◌++◌, List, length, rules, refl, ap, sym, ◌∙◌, subst, inl, inr, arith}
+use Rattle.std.proofs.Common.{◌≡◌, ◌+◌, ◌++◌, List, length, rules, ap, sym, ◌∙◌, subst, inl, inr, arith}
 use Rattle.ioam_desk.specs.Desk.{Reading, Writing, Side}
 use Rattle.ioam_outputs.specs.declared.output.Output.{Output}
 use Rattle.ioam_outputs.specs.Told.{GathersNothing}

@@ -18,7 +18,7 @@ put_fate-requires-clause-short c =
     omega (arith, within, c.requires.short)
 
 pub put_fate-requires-clause-drops : goal.put_fate-requires-clause-drops
-put_fate-requires-clause-drops c = plan-drops c.args.domain.now (slice_get (ports c.args.domain.now) c.args.port.0) c.args.captured.now.time
+put_fate-requires-clause-drops c = plan-drops c.args.domain.now [] [] (slice_get (ports c.args.domain.now) c.args.port.0) c.args.captured.now.time
     c.admit-admitted.result c.in_ok-itinerary.itinerary (c.in_ok-itinerary.ensures.plans [] [])
 
 pub returns-clause-of : goal.returns-clause-of
@@ -37,6 +37,6 @@ returns-clause-gathers c =
           (record { port = c.args.port; packet = packet_of c.admit-admitted.result; itinerary = c.in_ok-itinerary.itinerary }),
       c.in_ok-put_fate.ensures,
       Forwards-push c.args.domain.now _ _ c.args.self.now _ (c.args.self.now.sums.packets + 1) refl
-          (record { answer = c.admit-admitted.result; answered = subst P c.is_cut.ensures c.admit-admitted.ensures.admits; plans = c.in_ok-itinerary.ensures.plans [] []; port = refl; packet = refl })
+          (λ earlier. record { answer = c.admit-admitted.result; answered = subst P c.is_cut.ensures c.admit-admitted.ensures.admits; plans = c.in_ok-itinerary.ensures.plans [] earlier; port = refl; packet = refl })
           (c.note.ensures c.args.domain.now),
     )

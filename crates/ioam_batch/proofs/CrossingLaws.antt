@@ -1,0 +1,111 @@
+-- Laws of crossings: how the octets of one more visit are parted from those of the visits before, and found again.
+use Rattle.std.proofs.Common.{◌≡◌, ℕ, zero, suc, ◌+◌, ◌<◌, ◌≤◌, Bool, true, false, List, [], ◌∷◌, ◌++◌, length, get_or, map, take, drop, Option, Some, None, slice_get, refl, sym, ap, ◌∙◌, subst, length-append, length-drop, drop-drop, arith, add-zero, zero-add, true≢false}
+use Rattle.std.proofs.lemmas.List.{get_or-drop, take-append-drop, take_all, take_more, take-append-le, drop-append-le}
+use Rattle.ioam_batch.specs.Crossings.{filled, joined, parted, sent_if}
+
+pub filled-append : (size : ℕ) (xs ys : List Bool) → filled size (xs ++ ys) ≡ filled size xs + filled size ys
+filled-append size [] ys = omega arith
+filled-append size (x ∷ xs) ys = omega (arith, filled-append size xs ys)
+
+pub length-parted : (size : ℕ) (taps : List Bool) (octets : List ℕ) → length (parted size taps octets) ≡ length taps
+length-parted size [] octets = refl
+length-parted size (true ∷ taps) octets = ap suc (length-parted size taps (drop size octets))
+length-parted size (false ∷ taps) octets = ap suc (length-parted size taps octets)
+
+none-left : (octets : List ℕ) → length octets ≡ 0 → octets ≡ []
+none-left [] none = refl
+none-left (x ∷ xs) none = absurd (omega (arith, none))
+
+pub parted-true : (size : ℕ) (taps : List Bool) (octets more : List ℕ) → length octets ≡ filled size taps → length more ≡ size
+    → parted size (taps ++ true ∷ []) (octets ++ more) ≡ parted size taps octets ++ Some more ∷ []
+parted-true size [] octets more are sized =
+    ap (λ xs. Some (take size (xs ++ more)) ∷ []) (none-left octets are) ∙ ap (λ xs. Some xs ∷ []) (take_all size more (omega (arith, sized)))
+parted-true size (true ∷ taps) octets more are sized =
+    let long : size ≤ length octets = omega (arith, are) in
+    let left : length (drop size octets) ≡ filled size taps = omega (arith, are, length-drop size octets) in
+    ap (λ xs. Some xs ∷ parted size (taps ++ true ∷ []) (drop size (octets ++ more))) (take-append-le size octets more long)
+    ∙ ap (λ xs. Some (take size octets) ∷ parted size (taps ++ true ∷ []) xs) (drop-append-le size octets more long)
+    ∙ ap (λ xs. Some (take size octets) ∷ xs) (parted-true size taps (drop size octets) more left sized)
+parted-true size (false ∷ taps) octets more are sized = ap (λ xs. None ∷ xs) (parted-true size taps octets more (omega (arith, are)) sized)
+
+pub parted-false : (size : ℕ) (taps : List Bool) (octets : List ℕ) → parted size (taps ++ false ∷ []) octets ≡ parted size taps octets ++ None ∷ []
+parted-false size [] octets = refl
+parted-false size (true ∷ taps) octets = ap (λ xs. Some (take size octets) ∷ xs) (parted-false size taps (drop size octets))
+parted-false size (false ∷ taps) octets = ap (λ xs. None ∷ xs) (parted-false size taps octets)
+
+-- the next visit, behind so many that are done
+pub next-tap : (taps : List Bool) (done : ℕ) (tap : Bool) → 0 < length (drop done taps) → get_or (drop done taps) 0 false ≡ tap
+    → take (done + 1) taps ≡ take done taps ++ tap ∷ []
+next-tap taps done tap some is =
+    let first : get_or (drop done taps) 0 false ≡ get_or taps done false = get_or-drop done taps 0 false ∙ ap (λ k. get_or taps k false) (add-zero done) in
+    take_more taps done false (omega (arith, some, length-drop done taps)) ∙ ap (λ t. take done taps ++ t ∷ []) (sym first ∙ is)
+
+pub filled-next : (size : ℕ) (taps : List Bool) (done : ℕ) (tap : Bool) → 0 < length (drop done taps) → get_or (drop done taps) 0 false ≡ tap
+    → filled size (take (done + 1) taps) ≡ filled size (take done taps) + filled size (tap ∷ [])
+filled-next size taps done tap some is = ap (filled size) (next-tap taps done tap some is) ∙ filled-append size (take done taps) (tap ∷ [])
+
+pub filled-tap : (size : ℕ) (taps : List Bool) (done : ℕ) → 0 < length (drop done taps) → get_or (drop done taps) 0 false ≡ true
+    → filled size (take (done + 1) taps) ≡ filled size (take done taps) + size
+filled-tap size taps done some is = omega (arith, filled-next size taps done true some is)
+
+pub filled-none : (size : ℕ) (taps : List Bool) (done : ℕ) → 0 < length (drop done taps) → get_or (drop done taps) 0 false ≡ false
+    → filled size (take (done + 1) taps) ≡ filled size (take done taps)
+filled-none size taps done some is = omega (arith, filled-next size taps done false some is)
+
+pub filled-front : (size : ℕ) (taps : List Bool) (done : ℕ) → filled size (take done taps) ≤ filled size taps
+filled-front size taps done =
+    omega (arith, filled-append size (take done taps) (drop done taps), ap (filled size) (take-append-drop done taps))
+
+-- ---- what a visit sent, so many of them being done
+
+module _ (size : ℕ) where
+  abbrev pub all-of : List Bool → ℕ → List ℕ → List (Option (List ℕ))
+  all-of taps done octets = parted size (take done taps) octets ++ map (λ tap. sent_if tap []) (drop done taps)
+
+  pub at-past : (taps : List Bool) (done : ℕ) (octets : List ℕ) (at : ℕ) → length taps ≤ at → joined (slice_get (all-of taps done octets) at) ≡ None
+  at-past [] zero octets at past = refl
+  at-past [] (suc done) octets at past = refl
+  at-past (t ∷ ts) done octets zero past = absurd (omega (arith, past))
+  at-past (t ∷ ts) zero octets (suc at) past = at-past ts zero octets at (omega (arith, past))
+  at-past (true ∷ ts) (suc done) octets (suc at) past = at-past ts done (drop size octets) at (omega (arith, past))
+  at-past (false ∷ ts) (suc done) octets (suc at) past = at-past ts done octets at (omega (arith, past))
+
+  pub at-none : (taps : List Bool) (done : ℕ) (octets : List ℕ) (at : ℕ) → get_or taps at false ≡ false → joined (slice_get (all-of taps done octets) at) ≡ None
+  at-none [] zero octets at is = refl
+  at-none [] (suc done) octets at is = refl
+  at-none (true ∷ ts) done octets zero is = absurd (true≢false is)
+  at-none (false ∷ ts) zero octets zero is = refl
+  at-none (false ∷ ts) (suc done) octets zero is = refl
+  at-none (t ∷ ts) zero octets (suc at) is = at-none ts zero octets at is
+  at-none (true ∷ ts) (suc done) octets (suc at) is = at-none ts done (drop size octets) at is
+  at-none (false ∷ ts) (suc done) octets (suc at) is = at-none ts done octets at is
+
+  pub at-ahead : (taps : List Bool) (done : ℕ) (octets : List ℕ) (at : ℕ) → done ≤ at → get_or taps at false ≡ true
+      → joined (slice_get (all-of taps done octets) at) ≡ Some []
+  at-ahead [] done octets at ahead is = absurd (true≢false (sym is))
+  at-ahead (true ∷ ts) zero octets zero ahead is = refl
+  at-ahead (false ∷ ts) zero octets zero ahead is = absurd (true≢false (sym is))
+  at-ahead (t ∷ ts) (suc done) octets zero ahead is = absurd (omega (arith, ahead))
+  at-ahead (t ∷ ts) zero octets (suc at) ahead is = at-ahead ts zero octets at (omega arith) is
+  at-ahead (true ∷ ts) (suc done) octets (suc at) ahead is = at-ahead ts done (drop size octets) at (omega (arith, ahead)) is
+  at-ahead (false ∷ ts) (suc done) octets (suc at) ahead is = at-ahead ts done octets at (omega (arith, ahead)) is
+
+  pub at-done : (taps : List Bool) (done : ℕ) (octets : List ℕ) (at : ℕ) → at < done → get_or taps at false ≡ true
+      → joined (slice_get (all-of taps done octets) at) ≡ Some (take size (drop (filled size (take at taps)) octets))
+  at-done [] done octets at before is = absurd (true≢false (sym is))
+  at-done (t ∷ ts) zero octets at before is = absurd (omega (arith, before))
+  at-done (true ∷ ts) (suc done) octets zero before is = refl
+  at-done (true ∷ ts) (suc done) octets (suc at) before is =
+      at-done ts done (drop size octets) at (omega (arith, before)) is
+      ∙ ap (λ xs. Some (take size xs)) (drop-drop (filled size (take at ts)) size octets)
+  at-done (false ∷ ts) (suc done) octets zero before is = absurd (true≢false (sym is))
+  at-done (false ∷ ts) (suc done) octets (suc at) before is =
+      at-done ts done octets at (omega (arith, before)) is ∙ ap (λ k. Some (take size (drop k octets))) (sym (zero-add (filled size (take at ts))))
+
+  pub fits-done : (taps : List Bool) (done at : ℕ) → at < done → get_or taps at false ≡ true
+      → filled size (take at taps) + size ≤ filled size (take done taps)
+  fits-done [] done at before is = absurd (true≢false (sym is))
+  fits-done (t ∷ ts) zero at before is = absurd (omega (arith, before))
+  fits-done (true ∷ ts) (suc done) zero before is = omega arith
+  fits-done (false ∷ ts) (suc done) zero before is = absurd (true≢false (sym is))
+  fits-done (t ∷ ts) (suc done) (suc at) before is = omega (arith, fits-done ts done at (omega (arith, before)) is)

@@ -1,0 +1,88 @@
+-- Laws of jobs in a batch and in its chunks.
+use Rattle.std.proofs.Common.{◌≡◌, ℕ, suc, ◌+◌, ◌<◌, ◌≤◌, List, [], ◌∷◌, ◌++◌, length, get_or, set, take, drop, All, refl, sym, ap, ◌∙◌, subst, inl, inr, add-zero, length-set, arith}
+use Rattle.std.specs.List.{AllZip, sum_by}
+use Rattle.std.proofs.lemmas.Grind.{drop_more_same}
+use Rattle.std.proofs.lemmas.List.{get_or-drop, take_all, take_more, take_more_set, drop-set-lt}
+use Rattle.std.proofs.lemmas.List.Elements.{AllZip-get_or, AllZip-push, All-take, All-drop}
+use Rattle.std.proofs.lemmas.List.Sums.{sum_by-cons}
+use Rattle.ioam_batch.specs.Batches.{MayRun, all_reserved}
+use Rattle.ioam_batch.specs.Jobs.{HasRun, IsFresh, reserved_of}
+use Rattle.ioam_batch.specs.declared.job.Job.{Job}
+use Rattle.ioam_clock.specs.declared.sample.Sample.{Sample}
+use Rattle.ioam_topo.specs.declared.domain.Domain.{Domain}
+
+-- what is so of each pair
+pub AllZip-each : {X : Type 0} (R : X → X → Type 0) (xs ys : List X) → length ys ≡ length xs
+    → ((i : ℕ) (d : X) → i < length xs → R (get_or xs i d) (get_or ys i d)) → AllZip R xs ys
+AllZip-each R [] [] same each = tt
+AllZip-each R [] (y ∷ ys) same each = absurd (omega (arith, same))
+AllZip-each R (x ∷ xs) [] same each = absurd (omega (arith, same))
+AllZip-each R (x ∷ xs) (y ∷ ys) same each =
+    (each 0 x (omega arith), AllZip-each R xs ys (omega (arith, same)) (λ i d lt. each (suc i) d (omega (arith, lt))))
+
+-- one more of the list is so, and the others are as they were
+pub record Reached {X : Type 0} (R : X → X → Type 0) (xs ys : List X) (i : ℕ) : Type 0 where
+  pub done : AllZip R (take i xs) (take i ys)
+  pub others : drop i ys ≡ drop i xs
+
+reached_at : {X : Type 0} (R : X → X → Type 0) (xs ys : List X) (i : ℕ) (d : X) → Reached R xs ys i → get_or ys i d ≡ get_or xs i d
+reached_at R xs ys i d so = sym (get_or-first i ys d) ∙ ap (λ zs. get_or zs 0 d) so.others ∙ get_or-first i xs d
+  where
+    get_or-first : {Y : Type 0} (n : ℕ) (zs : List Y) (e : Y) → get_or (drop n zs) 0 e ≡ get_or zs n e
+    get_or-first n zs e = get_or-drop n zs 0 e ∙ ap (λ k. get_or zs k e) (add-zero n)
+
+pub Reached-is : {X : Type 0} (R : X → X → Type 0) (P : X → Type 0) (xs ys : List X) (i : ℕ) (d : X) → Reached R xs ys i → i < length xs → All P xs → P (get_or ys i d)
+Reached-is R P xs ys i d so inside all = subst P (sym (reached_at R xs ys i d so)) (all i d inside)
+
+pub Reached-more : {X : Type 0} (R : X → X → Type 0) (xs ys : List X) (i : ℕ) (x y : X) → Reached R xs ys i → i < length xs → length ys ≡ length xs
+    → x ≡ get_or ys i x → R x y → Reached R xs (set ys i y) (i + 1)
+Reached-more {X} R xs ys i x y so inside size at is =
+    let P : List X → Type 0 = λ zs. AllZip R zs (take (i + 1) (set ys i y)) in
+    let Q : List X → Type 0 = λ zs. AllZip R (take i xs ++ x ∷ []) zs in
+    record {
+      done = subst P (sym (take_more xs i x inside ∙ ap (λ z. take i xs ++ z ∷ []) (sym (at ∙ reached_at R xs ys i x so))))
+          (subst Q (sym (take_more_set ys i y (omega (arith, inside, size)))) (AllZip-push R (take i xs) (take i ys) x y so.done is));
+      others = drop-set-lt (i + 1) ys i y (omega arith) ∙ drop_more_same ys xs i so.others;
+    }
+
+pub Reached-all : {X : Type 0} (R : X → X → Type 0) (xs ys : List X) (i : ℕ) → Reached R xs ys i → length xs ≤ i → length ys ≡ length xs → AllZip R xs ys
+Reached-all {X} R xs ys i so past size =
+    let P : List X → Type 0 = λ zs. AllZip R zs (take i ys) in
+    let Q : List X → Type 0 = λ zs. AllZip R xs zs in
+    subst Q (take_all i ys (omega (arith, past, size))) (subst P (take_all i xs past) so.done)
+
+-- a pair of the whole stands in a chunk
+pub at_place : {X : Type 0} (R : X → X → Type 0) (xs ys before after : List X) (offset i : ℕ) (d : X) → AllZip R before after
+    → offset < length before → get_or before offset d ≡ get_or xs i d → get_or after offset d ≡ get_or ys i d → R (get_or xs i d) (get_or ys i d)
+at_place {X} R xs ys before after offset i d zip inside old new =
+    let P : X → Type 0 = λ x. R x (get_or after offset d) in
+    let Q : X → Type 0 = λ y. R (get_or xs i d) y in
+    subst Q new (subst P old (AllZip-get_or R before after offset d d zip inside))
+
+module _ (domain : Domain) (readings : List (List Sample)) where
+  -- a job that ran may run
+  pub may_all : (old new : List Job) → AllZip (HasRun domain readings) old new → AllZip (MayRun domain readings) old new
+  may_all [] [] ran = tt
+  may_all [] (k ∷ ks) ran = absurd ran
+  may_all (j ∷ js) [] ran = absurd ran
+  may_all (j ∷ js) (k ∷ ks) ran = (inl ran.0, may_all js ks ran.1)
+
+  pub may_none : (jobs : List Job) → AllZip (MayRun domain readings) jobs jobs
+  may_none [] = tt
+  may_none (job ∷ jobs) = (inr refl, may_none jobs)
+
+  may_reserved : (old new : Job) → MayRun domain readings old new → reserved_of new ≡ reserved_of old
+  may_reserved old new may = elim may [ inl has ↦ has.reserved | inr same ↦ ap reserved_of same ]
+
+  -- what is reserved stays
+  pub reserved-stays : (old new : List Job) → AllZip (MayRun domain readings) old new → all_reserved new ≡ all_reserved old
+  reserved-stays [] [] may = refl
+  reserved-stays [] (k ∷ ks) may = absurd may
+  reserved-stays (j ∷ js) [] may = absurd may
+  reserved-stays (j ∷ js) (k ∷ ks) may = omega (
+    arith,
+    sum_by-cons reserved_of j js,
+    sum_by-cons reserved_of k ks,
+    may_reserved j k may.0,
+    reserved-stays js ks may.1,
+  )

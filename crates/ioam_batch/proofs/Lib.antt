@@ -1,0 +1,6 @@
+pub mod AlongLaws
+pub mod CrossingLaws
+pub mod JobsLaws
+pub mod MakingLaws
+pub mod RanLaws
+pub mod RunLaws

@@ -1,0 +1,49 @@
+-- Laws of a job whose visits are done.
+use Rattle.std.proofs.Common.{◌≡◌, ℕ, ◌+◌, ◌*◌, Bool, true, false, List, [], ◌∷◌, ◌++◌, Option, Some, None, is_some, length, map, refl, sym, ap, ◌∙◌, subst, arith, append-nil, true≢false}
+use Rattle.ioam_batch.specs.Crossings.{Crossed, crossings, sent_if}
+use Rattle.ioam_batch.specs.Jobs.{HasRun, IsFresh, RunsBy, RunsInTunnel, reserved_of}
+use Rattle.ioam_batch.specs.Ran.{RanBy, Sent}
+use Rattle.ioam_batch.specs.declared.job.Job.{Job}
+use Rattle.ioam_batch.proofs.RanLaws.{starts}
+use Rattle.ioam_clock.specs.declared.sample.Sample.{Sample}
+use Rattle.ioam_topo.specs.declared.domain.Domain.{Domain}
+use Rattle.ioam_topo.specs.declared.ids.FlowId.{FlowId}
+use Rattle.ioam_tunnel.specs.Wire.{IsTunnel, Tunnel}
+use Rattle.ioam_tunnel.specs.declared.numbers.Numbers.{Numbers}
+
+-- no visit is ahead
+pub none-ahead : (crossed : Crossed) → crossed.ahead ≡ [] → crossings crossed ≡ crossed.past
+none-ahead crossed none = ap (λ ts. crossed.past ++ map (λ tap. sent_if tap []) ts) none ∙ append-nil crossed.past
+
+by-carried : (domain : Domain) (readings : List (List Sample)) (carried : Option (FlowId × Numbers)) (old new : Job) → is_some carried ≡ true
+    → RunsInTunnel domain readings old new → RunsBy domain readings carried old new
+by-carried domain readings None old new some runs = absurd (true≢false (sym some))
+by-carried domain readings (Some carried) old new some runs = runs
+
+-- all visits of an enclosed packet are done, from these octets to those
+pub runs-in-tunnel : (domain : Domain) (readings : List (List Sample)) (old new : Job) (exited : Bool) (before after : List ℕ) → IsFresh domain old
+    → is_some old.itinerary.carried ≡ true
+    → old.itinerary.exited ≡ exited
+    → new.itinerary ≡ old.itinerary
+    → before ≡ old.packet.items
+    → new.packet.items ≡ after
+    → length after ≡ length before
+    → new.crossings.ahead ≡ []
+    → new.crossings.kept ≡ old.crossings.kept
+    → new.room.spare + length new.room.notes ≡ old.room.spare + length old.room.notes
+    → ((tunnel : Tunnel) → IsTunnel tunnel → Sent domain readings tunnel [] before old.crossings.past old.room
+      → RanBy domain readings tunnel exited old.itinerary.visits after new.crossings.past new.room)
+    → HasRun domain readings old new
+runs-in-tunnel domain readings old new exited before after fresh some exits same from to sized ahead kept given runs = record {
+  itinerary = same;
+  reserved = omega (arith, ap length from, ap length to, sized, kept, given);
+  runs = by-carried domain readings old.itinerary.carried old new some (λ tunnel is held.
+      let visits = old.itinerary.visits in
+      let start : Sent domain readings tunnel [] before old.crossings.past old.room = record {
+        packet_is = from ∙ starts domain readings tunnel old.packet.items held;
+        ran = record { past_is = fresh.past; notes_are = fresh.notes; exports_are = fresh.exports };
+      } in
+      subst (λ b. RanBy domain readings tunnel b visits new.packet.items (crossings new.crossings) new.room) (sym exits)
+      (subst (λ xs. RanBy domain readings tunnel exited visits xs (crossings new.crossings) new.room) (sym to)
+        (subst (λ ps. RanBy domain readings tunnel exited visits after ps new.room) (sym (none-ahead new.crossings ahead)) (runs tunnel is start))));
+}

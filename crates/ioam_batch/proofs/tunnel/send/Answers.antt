@@ -1,0 +1,57 @@
+use Rattle.std.proofs.Common.{◌≡◌, ◌<◌, ◌≤◌, [], List, Bool, length, get_or, map, take, drop, false, sym, ap, ◌∙◌, subst, arith, drop-drop}
+use Rattle.std.proofs.lemmas.List.{length-take-le, take_more}
+use Rattle.ioam_batch.specs.Ran.{Sent}
+use Rattle.ioam_batch.specs.Taps.{is_tapped}
+use Rattle.ioam_plan.specs.declared.itinerary.Visit.{Visit}
+use Rattle.ioam_batch.proofs.RanLaws.{tap-at}
+use Rattle.ioam_batch.proofs.tunnel.send.Goals as goal
+
+pub loop-i-init : goal.loop-i-init
+loop-i-init c =
+    let visits = c.args.visits.now in
+    let inside : 0 < length visits = omega (arith, c.requires.some, c.requires.count) in (
+      c.enter.ensures.packet,
+      c.enter.ensures.sound,
+      omega (arith, c.enter.ensures.hops),
+      c.enter.ensures.count,
+      omega (arith, c.enter.ensures.spare),
+      c.enter.ensures.given,
+      c.enter.ensures.ahead ∙ ap (drop 1) c.requires.ahead,
+      c.enter.ensures.size,
+      c.enter.ensures.kept,
+      (λ tunnel is so.
+      let P : List Visit → Type 0 = λ vs. Sent c.args.domain.now c.args.readings.now tunnel vs c.enter.new.packet c.enter.new.crossings.past c.enter.new.room in
+      subst P (sym (take_more visits 0 _ inside)) (c.enter.ensures.sent tunnel is so)),
+    )
+
+pub pass_on-requires-clause-tap : goal.pass_on-requires-clause-tap
+pass_on-requires-clause-tap c =
+    let visits = c.args.visits.now in
+    let inside : c.loop-i.i < length visits = omega (arith, c.requires.count) in
+    ap (λ (ts : List Bool). get_or ts 0 false) c.loop-i.invariant.6 ∙ tap-at (is_tapped c.args.domain.now) visits c.loop-i.i _ inside
+
+pub loop-i-preserved : goal.loop-i-preserved
+loop-i-preserved c =
+    let visits = c.args.visits.now in
+    let invariant = c.loop-i.invariant in
+    let inside : c.loop-i.i < length visits = omega (arith, c.requires.count) in
+    let some : 1 ≤ length (take c.loop-i.i visits) = omega (arith, inside, length-take-le c.loop-i.i visits (omega (arith, inside))) in (
+      c.pass_on.ensures.packet,
+      c.pass_on.ensures.sound,
+      omega (arith, c.pass_on.ensures.hops, invariant.2),
+      c.pass_on.ensures.count ∙ invariant.3,
+      omega (arith, c.pass_on.ensures.spare, invariant.3, invariant.4),
+      c.pass_on.ensures.given ∙ invariant.5,
+      c.pass_on.ensures.ahead ∙ ap (drop 1) invariant.6 ∙ drop-drop 1 c.loop-i.i (map (is_tapped c.args.domain.now) visits),
+      c.pass_on.ensures.size ∙ invariant.7,
+      c.pass_on.ensures.kept ∙ invariant.8,
+      (λ tunnel is so.
+      let P : List Visit → Type 0 = λ vs. Sent c.args.domain.now c.args.readings.now tunnel vs c.pass_on.new.packet c.pass_on.new.crossings.past c.pass_on.new.room in
+      subst P (sym (take_more visits c.loop-i.i _ inside)) (c.pass_on.ensures.sent tunnel (take c.loop-i.i visits) is some (invariant.9 tunnel is so))),
+    )
+
+pub returns-clause-sent : goal.returns-clause-sent
+returns-clause-sent c tunnel is so =
+    let same : c.loop-i.i ≡ c.args.count = omega arith in
+    subst (λ k. Sent c.args.domain.now c.args.readings.now tunnel (take k c.args.visits.now) c.loop-i.packet c.loop-i.crossings.past c.loop-i.room) same
+    (c.loop-i.invariant.9 tunnel is so)

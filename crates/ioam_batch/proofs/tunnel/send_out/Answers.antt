@@ -1,0 +1,18 @@
+use Rattle.std.proofs.Common.{◌≡◌, ◌+◌, ◌-◌, ◌<◌, ◌≤◌, [], ◌∷◌, ◌++◌, length, get_or, take, sym, ap, ◌∙◌, arith, length-append}
+use Rattle.std.proofs.lemmas.List.{length-take-le, take_all, take_more}
+use Rattle.ioam_batch.proofs.tunnel.send_out.Goals as goal
+
+pub returns-clause-exited : goal.returns-clause-exited
+returns-clause-exited c tunnel is so =
+    let visits = c.args.visits.now in
+    let sends = c.requires.sends in
+    let before = length visits - 1 in
+    let two : 1 < length visits = omega (arith, sends.some, ap length sends.are, length-append sends.front (sends.last ∷ [])) in
+    let inside : before < length visits = omega (arith, two) in
+    let some : 1 ≤ length (take before visits) = omega (arith, two, length-take-le before visits (omega (arith, two))) in
+    record {
+      front = take before visits;
+      last = _;
+      are = sym (take_all (before + 1) visits (omega (arith, two))) ∙ take_more visits before _ inside;
+      closed = c.come_out.ensures.closed tunnel (take before visits) is some (c.send.ensures.sent tunnel is so);
+    }

@@ -1,0 +1,18 @@
+use Rattle.std.proofs.Common.{◌≡◌, ◌≤◌, List, length, ap, ◌∙◌, sym, subst, arith}
+use Rattle.std.proofs.lemmas.List.{with_items_is}
+use Rattle.ioam_batch.specs.Batches.{all_reserved}
+use Rattle.ioam_batch.specs.declared.job.Job.{Job}
+use Rattle.ioam_batch.proofs.JobsLaws.{reserved-stays}
+use Rattle.ioam_batch.proofs.workers.run_batch.Goals as goal
+
+pub invariant_of-batch : goal.invariant_of-batch
+invariant_of-batch g c =
+    let before = c.batch.inside.jobs in
+    let after = c.run_chunks.new.jobs in
+    let P : List Job → Type 0 = λ jobs. length jobs ≤ 256 × 256 ≤ before.cap × c.batch.inside.reserved ≡ all_reserved jobs in
+    subst P (sym (with_items_is before after (omega arith))) (
+      omega arith,
+      omega arith,
+      c.batch.invariant.2 ∙ ap all_reserved (sym c.deref_mut.ensures.value)
+          ∙ sym (reserved-stays c.args.domain.now c.args.readings.now c.deref_mut.result.now after c.run_chunks.ensures.may),
+    )

@@ -1,0 +1,6 @@
+pub mod Along
+pub mod Batches
+pub mod Crossings
+pub mod Jobs
+pub mod Ran
+pub mod Taps

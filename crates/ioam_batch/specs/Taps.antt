@@ -1,0 +1,20 @@
+-- Which visits send their packet on a link with a tap.
+use Rattle.std.specs.Prelude.{Bool, false, Option, Some, None, is_some, slice_get}
+use Rattle.ioam_plan.specs.declared.itinerary.Visit.{Visit}
+use Rattle.ioam_topo.specs.declared.domain.Domain.{Domain}
+use Rattle.ioam_topo.specs.declared.ids.Way.{Way}
+use Rattle.ioam_topo.specs.declared.ids.Way.TheVariants as way
+use Rattle.ioam_topo.specs.declared.parts.Link.{Link}
+use Rattle.ioam_topo.specs.Domain.{links}
+
+abbrev pub has_tap : Option Link → Bool
+has_tap None = false
+has_tap (Some link) = is_some link.tap
+
+abbrev pub taps_by : Domain → Option Way → Bool
+taps_by domain None = false
+taps_by domain (Some (way.Link link)) = has_tap (slice_get (links domain) link.0)
+taps_by domain (Some (way.Port port)) = false
+
+abbrev pub is_tapped : Domain → Visit → Bool
+is_tapped domain visit = taps_by domain visit.way

@@ -1,0 +1,91 @@
+ghost use Rattle.std.specs.Prelude.{◌≡◌, ◌≤◌, ◌+◌, ◌^◌, IfOk, IfSome, MatchOption, None, Some, IsSome, length, slice_get};
+ghost use Rattle.ioam_batch.specs.Crossings.{crossings, joined};
+ghost use Rattle.ioam_batch.specs.Jobs.{HoldsBy, IsJobOf, reserved_of};
+ghost use Rattle.ioam_ip.specs.Chain.{IsSound};
+ghost use Rattle.ioam_plan.specs.Rides.{Rides, RidesBy};
+
+use crate::crossings::Crossings;
+use crate::making::{packet_of, room_for};
+use crate::taps::taps_of;
+use ioam_base::memory::NoMemory;
+use ioam_plan::Itinerary;
+use ioam_topo::Domain;
+use ioam_visit::NodeRoom;
+use std::alloc::Global;
+
+/// All visits of one packet, with all the room that they need.
+#[derive(Drop)]
+pub struct Job {
+    pub(crate) itinerary: Itinerary,
+    pub(crate) packet: Vec<u8>,
+    pub(crate) crossings: Crossings,
+    pub(crate) room: NodeRoom,
+}
+
+impl Job {
+    /// The job of a packet that goes by an itinerary through a domain: the packet, or the outer packet
+    /// around it, before any visit. The packet of an arrival that was dropped has no octets and no
+    /// visits. No visit takes memory: room is made for the packet, for that again at each visit that
+    /// sends it on a link with a tap, and for what is noted and exported.
+    pub fn new(
+        alloc: Global,
+        domain: &Domain,
+        itinerary: Itinerary,
+        packet: &[u8],
+    ) -> Result<Job, NoMemory>
+        requires rides { Rides domain.now packet.now itinerary }
+        requires short { length packet.now ≤ 65575 }
+        requires sound { IsSome itinerary.carried → IsSound packet.now }
+        ensures { IfOk result (λ job. IsJobOf domain.now packet.now itinerary job) }
+    {
+        let octets = packet_of(alloc, domain, &itinerary, packet)?;
+        let room = room_for(alloc, &itinerary, &octets)?;
+        let taps = taps_of(alloc, domain, itinerary.visits.list())?;
+        let crossings = Crossings::new(alloc, taps, octets.len())?;
+        Ok(Job {
+            itinerary,
+            packet: octets,
+            crossings,
+            room,
+        })
+    }
+
+    /// The packet as it stands.
+    pub fn packet(&self) -> &[u8]
+        ensures { result.now ≡ self.now.packet.items }
+    {
+        &self.packet
+    }
+
+    /// Its way.
+    pub fn itinerary(&self) -> &Itinerary
+        ensures { result.now ≡ self.now.itinerary }
+    {
+        &self.itinerary
+    }
+
+    /// What its visits noted and exported.
+    pub fn room(&self) -> &NodeRoom
+        ensures { result.now ≡ self.now.room }
+    {
+        &self.room
+    }
+
+    /// The octets of the packet as a visit sent it, by its place from 0: None exactly where that visit
+    /// sends it on no link with a tap; no octets before the visit.
+    pub fn crossing(&self, visit: usize) -> Option<&[u8]>
+        ensures { MatchOption result (joined (slice_get (crossings self.now.crossings) visit) ≡ None)
+            (λ octets. joined (slice_get (crossings self.now.crossings) visit) ≡ Some octets.now) }
+    {
+        self.crossings.at(visit)
+    }
+
+    /// For how many octets it has room: the length of its packet, that length again for each visit that
+    /// sends it on a link with a tap, and 274 for each IOAM option that a visit may meet.
+    pub fn reserved(&self) -> usize
+        ensures value { result ≡ reserved_of self.now }
+        ensures small { result ≤ 2 ^ 63 + 2 ^ 29 }
+    {
+        self.packet.len() + self.crossings.kept() + 274 * self.room.given() as usize
+    }
+}

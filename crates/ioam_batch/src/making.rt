@@ -1,0 +1,85 @@
+//! The packet of a job before its visits, and room for what they note.
+ghost use Rattle.std.specs.Prelude.{◌≡◌, ◌≤◌, [], IfOk, IsSome, length};
+ghost use Rattle.ioam_batch.specs.Jobs.{GoesBy, GoesInTunnel, HoldsBy, spare_by};
+ghost use Rattle.ioam_ip.specs.Chain.{IsSound};
+ghost use Rattle.ioam_plan.specs.Rides.{RidesBy, RidesTunnel};
+ghost use Rattle.ioam_tunnel.specs.Enclosed.{tunnel_of};
+ghost use Rattle.ioam_tunnel.specs.Wire.{IsTunnel, no_elements, wire};
+
+use ioam_base::memory::NoMemory;
+use ioam_base::text::append;
+use ioam_plan::Itinerary;
+use ioam_topo::{Domain, FlowId};
+use ioam_tunnel::{Numbers, enclose};
+use ioam_visit::{NodeRoom, option_count};
+use std::alloc::Global;
+
+// The outer packet around a packet that goes by an itinerary.
+fn enclosed(
+    alloc: Global,
+    domain: &Domain,
+    itinerary: &Itinerary,
+    flow: FlowId,
+    numbers: &Numbers,
+    packet: &[u8],
+) -> Result<Vec<u8>, NoMemory>
+    requires rides { RidesTunnel domain.now packet.now flow numbers.now itinerary.now }
+    requires sound { IsSound packet.now }
+    ensures tunnel { IfOk result (λ out. IsTunnel (tunnel_of domain.now flow numbers.now packet.now)) }
+    ensures wire { IfOk result (λ out. out.items ≡ wire (tunnel_of domain.now flow numbers.now packet.now) 0 no_elements) }
+    ensures goes { IfOk result (λ out. GoesInTunnel itinerary.now out.items) }
+    ensures short { IfOk result (λ out. length out.items ≤ 131072) }
+{
+    let out = enclose(alloc, domain, flow, numbers, packet)?;
+    Ok(out)
+}
+
+// The same octets.
+fn copied(alloc: Global, packet: &[u8]) -> Result<Vec<u8>, NoMemory>
+    ensures { IfOk result (λ octets. octets.items ≡ packet.now) }
+{
+    let mut octets = Vec::with_capacity(alloc, packet.len())?;
+    append(&mut octets, packet)?;
+    Ok(octets)
+}
+
+/// The packet that goes by an itinerary, or the outer packet around it.
+pub(crate) fn packet_of(
+    alloc: Global,
+    domain: &Domain,
+    itinerary: &Itinerary,
+    packet: &[u8],
+) -> Result<Vec<u8>, NoMemory>
+    requires rides { RidesBy domain.now packet.now itinerary.now itinerary.now.carried }
+    requires short { length packet.now ≤ 65575 }
+    requires sound { IsSome itinerary.now.carried → IsSound packet.now }
+    ensures holds { IfOk result (λ octets. HoldsBy domain.now packet.now itinerary.now.carried octets.items) }
+    ensures goes { IfOk result (λ octets. GoesBy itinerary.now.carried itinerary.now octets.items) }
+    ensures short { IfOk result (λ octets. length octets.items ≤ 131072) }
+{
+    match itinerary.carried {
+        Some((flow, numbers)) => enclosed(alloc, domain, itinerary, flow, &numbers, packet),
+        None => copied(alloc, packet),
+    }
+}
+
+/// Room for what its visits note and export.
+pub(crate) fn room_for(
+    alloc: Global,
+    itinerary: &Itinerary,
+    packet: &[u8],
+) -> Result<NodeRoom, NoMemory>
+    requires few { length itinerary.now.visits ≤ 256 }
+    requires goes { GoesBy itinerary.now.carried itinerary.now packet.now }
+    ensures notes { IfOk result (λ room. room.notes ≡ []) }
+    ensures exports { IfOk result (λ room. room.exports ≡ []) }
+    ensures spare { IfOk result (λ room. room.spare ≡ spare_by itinerary.now.carried itinerary.now packet.now) }
+{
+    match itinerary.carried {
+        Some(_) => {
+            let visits = itinerary.visits.list().len() as u32;
+            NodeRoom::new(alloc, visits, option_count(packet))
+        }
+        None => NodeRoom::new(alloc, 0, 0),
+    }
+}

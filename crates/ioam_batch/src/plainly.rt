@@ -1,0 +1,22 @@
+//! The visits of a packet that isn't enclosed.
+ghost use Rattle.std.specs.Prelude.{◌≡◌, ◌≤◌, ◌-◌, ◌++◌, [], length, slice_index};
+ghost use Rattle.ioam_batch.specs.Ran.{lowered_from};
+ghost use Rattle.ioam_ip.specs.Lowered.{lowered};
+
+use crate::crossings::Crossings;
+
+/// So many visits, each of which lowers the packet's hop limit by one.
+pub(crate) fn lower(count: usize, packet: &mut [u8], crossings: &mut Crossings)
+    requires hops { count ≤ slice_index packet.old 7 - 1 }
+    requires ahead { length crossings.old.ahead ≡ count }
+    requires size { length packet.old ≡ crossings.old.size }
+    ensures packet { packet.new ≡ lowered count packet.old }
+    ensures past { crossings.new.past ≡ crossings.old.past ++ lowered_from packet.old 0 crossings.old.ahead }
+    ensures ahead { crossings.new.ahead ≡ [] }
+    ensures kept { crossings.new.kept ≡ crossings.old.kept }
+{
+    for i in 0..count {
+        packet[7] -= 1;
+        crossings.cross(packet);
+    }
+}

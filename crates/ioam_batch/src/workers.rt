@@ -1,0 +1,88 @@
+ghost use Rattle.std.specs.Prelude.{◌≡◌, ◌≤◌, ◌<◌, ◌^◌, All, IsTrue, length};
+ghost use Rattle.std.specs.List.{AllZip};
+ghost use Rattle.ioam_batch.specs.Batches.{MayRun};
+ghost use Rattle.ioam_batch.specs.Jobs.{HasRun, IsFresh};
+
+use crate::batch::Batch;
+use crate::gate::Gate;
+use crate::job::Job;
+use crate::running::run_job;
+use ioam_clock::Readings;
+use ioam_topo::Domain;
+use std::thread;
+use std::thread::Threads;
+
+// Runs these jobs, one after the other.
+fn run_each(domain: &Domain, readings: &Readings, jobs: &mut [Job])
+    requires { All (IsFresh domain.now) jobs.old }
+    ensures { AllZip (HasRun domain.now readings.now) jobs.old jobs.new }
+{
+    'jobs: for job in jobs.iter_mut() {
+        run_job(domain, readings, job);
+    }
+}
+
+// Runs the jobs of a chunk where the gate opens.
+fn run_chunk<G: Gate>(domain: &Domain, readings: &Readings, gate: &G, chunk: u32, jobs: &mut [Job])
+    requires { All (IsFresh domain.now) jobs.old }
+    ensures runs { IsTrue G.opens → AllZip (HasRun domain.now readings.now) jobs.old jobs.new }
+    ensures may { AllZip (MayRun domain.now readings.now) jobs.old jobs.new }
+{
+    if gate.pass(chunk) {
+        run_each(domain, readings, jobs);
+    }
+}
+
+// Runs jobs in chunks of this size.
+fn run_chunks<R: Threads + Sync, G: Gate>(
+    rt: &R,
+    domain: &Domain,
+    readings: &Readings,
+    jobs: &mut [Job],
+    size: usize,
+    gate: &G,
+)
+    requires size { 0 < size }
+    requires few { length jobs.old ≤ 256 }
+    requires fresh { All (IsFresh domain.now) jobs.old }
+    ensures runs { IsTrue G.opens → AllZip (HasRun domain.now readings.now) jobs.old jobs.new }
+    ensures may { AllZip (MayRun domain.now readings.now) jobs.old jobs.new }
+{
+    thread::for_each_chunk_mut(
+        rt,
+        jobs,
+        size,
+        &|start: usize, part: &mut [Job]|
+            requires { (0 < size) × (start < 2 ^ 32) × All (IsFresh domain.now) part.now }
+            ensures { (IsTrue G.opens → AllZip (HasRun domain.entry.now readings.entry.now) part.entry.now part.exit.now)
+                × AllZip (MayRun domain.entry.now readings.entry.now) part.entry.now part.exit.now }
+        { run_chunk(domain, readings, gate, (start / size) as u32, part) },
+    );
+}
+
+/// Runs the jobs of a batch by so many workers, each on a chunk of ceil(jobs / workers) jobs that it
+/// alone may write. A worker calls the gate once before its chunk, and runs the chunk's jobs exactly
+/// where it answers true. With one worker no thread is started. It takes no memory and can't fail.
+///
+/// With a gate that always opens each job is as [`run_job`] leaves it, whatever its chunk and the
+/// workers; with any other each is so or as it was. Their number and their order stay.
+pub fn run_batch<R: Threads + Sync, G: Gate>(
+    rt: &R,
+    domain: &Domain,
+    readings: &Readings,
+    batch: &mut Batch,
+    workers: u32,
+    gate: &G,
+)
+    requires some { 1 ≤ workers }
+    requires few { workers ≤ 64 }
+    requires fresh { All (IsFresh domain.now) batch.old }
+    ensures runs { IsTrue G.opens → AllZip (HasRun domain.now readings.now) batch.old batch.new }
+    ensures may { AllZip (MayRun domain.now readings.now) batch.old batch.new }
+{
+    let size = batch.jobs.len().div_ceil(workers as usize);
+    if size == 0 {
+        return;
+    }
+    run_chunks(rt, domain, readings, &mut batch.jobs, size, gate);
+}

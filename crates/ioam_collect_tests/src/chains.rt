@@ -1,0 +1,44 @@
+ghost use Rattle.std.specs.Prelude.{◌<◌, ◌≡◌, length};
+
+use ioam_pool::{Chain, Inserted, Item, Pool};
+use std::test::Fail;
+
+// Whether a chain has items of these hop values, each with one octet of core.
+fn has(pool: &Pool, chain: Chain, wanted: &[(u8, u8)]) -> bool
+    requires { chain < length pool.now.chains }
+{
+    let mut left = wanted;
+    for item in pool.walk(chain) {
+        match left {
+            [(hops, core), rest @ ..] => {
+                if item.hops() != *hops || item.core() != [*core].as_slice() {
+                    return false;
+                }
+                left = rest;
+            }
+            [] => return false,
+        }
+    }
+    left.is_empty()
+}
+
+#[test]
+fn repeats_come_before_a_full_pool(rt: HostRuntime) -> Result<(), Fail> {
+    let mut pool = Pool::new(rt.alloc(), 2)?;
+    let p = pool.add_chain()?;
+    let q = pool.add_chain()?;
+    assert!(rt; matches!(pool.insert(p, Item::new(5, &[1], &[])), Inserted::Kept));
+    assert!(rt; matches!(pool.insert(p, Item::new(6, &[2], &[])), Inserted::Kept));
+    assert!(rt; matches!(pool.insert(q, Item::new(1, &[3], &[])), Inserted::Full(_)));
+    assert!(rt; matches!(pool.insert(p, Item::new(5, &[1], &[])), Inserted::Repeat(_)));
+    assert!(rt; has(&pool, p, &[(6, 2), (5, 1)]));
+    pool.free(p);
+    assert!(rt; matches!(pool.insert(q, Item::new(1, &[3], &[])), Inserted::Kept));
+    assert!(rt; has(&pool, p, &[]));
+    assert!(rt; pool.held() == 1 && pool.capacity() == 2);
+    pool.grow(1)?;
+    assert!(rt; matches!(pool.insert(p, Item::new(6, &[2], &[])), Inserted::Kept));
+    assert!(rt; matches!(pool.insert(p, Item::new(6, &[2], &[])), Inserted::Repeat(_)));
+    assert!(rt; pool.held() == 2 && pool.capacity() == 3);
+    Ok(())
+}

@@ -1,0 +1,2 @@
+mod GatheringLaws
+mod ReportLaws
