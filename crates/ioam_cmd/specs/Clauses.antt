@@ -55,15 +55,15 @@ module _ (tells : Bool) (words : List (List ℕ)) (old_in new_in : Reading) (old
       × (IsBehindAll ⊥ answer → (new_in.side.asked ≡ old_in.side.asked ++ input_name words ∷ [])
       × (new.side.asked ≡ old.side.asked ++ output_names words))
 
-  -- the names that were given to the opening calls; those out of a domain file differ from each other
-  -- and from those of the words, and are named where the desk tells what it holds
+  -- the names that were given to the opening calls, told or not; those of `run` out of a domain file
+  -- are of one domain, which the file holds where the desk tells, and no output was opened before all
+  -- captures; a name, a capture and a limit that are answered are those of the same domain
   abbrev pub Asks : Command → Outcome → Type 0
   Asks Filter answer = AsksNamed answer
   Asks Paths answer = AsksNamed answer
   Asks Show answer = AsksNamed answer
   Asks Node answer = node.Asks words old_in new_in old new answer
-  Asks Run answer = domain.AsksApart words old_in new_in old new × (IsBehindAll ⊥ answer → domain.AsksAll words old_in new_in old new)
-      × (IsTrue tells → domain.AsksIn words old_in new_in old new × domain.AsksOut words old_in new_in old new)
+  Asks Run answer = domain.Asks tells words old_in new_in old new answer
 
   -- where the names are refused nothing was opened; `run` has read DOMAIN and READINGS before, and
   -- opens no capture and no output where one of these or the names are refused, nor an output before
@@ -92,7 +92,8 @@ module _ (tells : Bool) (words : List (List ℕ)) (old_in new_in : Reading) (old
   AreWritten Node answer = IsBehindAll (old.side.slots < new.side.slots) answer
   AreWritten Run answer = IsBehindAll (old.side.slots < new.side.slots) answer
 
-  -- what leaves a domain, in a capture, is one IPv6 packet a record, with a whole header chain without an IOAM option
+  -- what leaves a domain, in a capture, is one IPv6 packet a record, with a whole header chain without an IOAM option,
+  -- of at most 262,144 octets; what `node` sends to a port is such a packet, but for its size
   abbrev pub IsBounded : Command → Type 0
   IsBounded Filter = IsSomeAnd (holds new (name_at words 2)) (IsCaptureOf MayLeave)
   IsBounded Paths = ⊤

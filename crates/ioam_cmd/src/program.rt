@@ -37,7 +37,7 @@ pub fn ioam<D: Desk>(alloc: Global, words: &[Name], desk: &mut D) -> Outcome
         → (Rose (D.writing desk.old).side.faults (D.writing desk.new).side.faults → ⊥)
         → (result ≡ asked) ⊎ (result ≡ Outcome.NoMemory) }
 
-    // What its files hold, the names that it opened, and that its inputs were read to their ends where all is done.
+    // What its files hold, the names that it opened, no output before all inputs, and that its inputs were read to their ends where all is done.
     ensures leaves { (command : Command) → IsForm command words.now → IsTrue D.tells → Leaves D.tells words.now (D.reading desk.old) (D.reading desk.new) (D.writing desk.old) (D.writing desk.new) command result }
     ensures asked { (command : Command) → IsForm command words.now → Asks D.tells words.now (D.reading desk.old) (D.reading desk.new) (D.writing desk.old) (D.writing desk.new) command result }
     ensures drained { (command : Command) → IsForm command words.now → IsDone result → IsTrue D.tells → AreDrained D.tells words.now (D.reading desk.old) (D.reading desk.new) (D.writing desk.old) (D.writing desk.new) command }
@@ -46,7 +46,7 @@ pub fn ioam<D: Desk>(alloc: Global, words: &[Name], desk: &mut D) -> Outcome
     ensures kept_in { KeepsInputs (D.reading desk.old) (D.reading desk.new) }
     ensures kept_out { IsTrue D.tells → KeepsOutputs (D.writing desk.old) (D.writing desk.new) }
 
-    // What leaves a domain, in OUT of `filter`, the captures of the ports of `run` and what `node` sends to a port, is one IPv6 packet a record, with a whole header chain without an IOAM option.
+    // What leaves a domain, in OUT of `filter` and the captures of the ports of `run`, is one IPv6 packet a record, with a whole header chain without an IOAM option, of at most 262,144 octets. What `node` sends to a port is such a packet too, but for its size.
     ensures boundary { (command : Command) → IsForm command words.now → AreWritten D.tells words.now (D.reading desk.old) (D.reading desk.new) (D.writing desk.old) (D.writing desk.new) command result → IsTrue D.tells → IsBounded D.tells words.now (D.reading desk.old) (D.reading desk.new) (D.writing desk.old) (D.writing desk.new) command }
 {
     match parse(words) {

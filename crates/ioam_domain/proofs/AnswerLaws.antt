@@ -11,7 +11,6 @@ use Rattle.ioam_outputs.specs.Names.{AreApart}
 use Rattle.ioam_answer.specs.Outcomes.{IsDone, IsBehindAll}
 use Rattle.ioam_answer.specs.declared.outcome.Outcome.{Outcome}
 use Rattle.ioam_answer.specs.declared.outcome.Outcome.TheVariants as outcome
-use Rattle.ioam_setting.proofs.NamesLaws.{apart-with_captures}
 use Rattle.ioam_domain_file.specs.declared.extent.Extent.TheVariants.{Plain}
 use Rattle.ioam_setting.specs.Setting.{IsSetting, Refuses}
 use Rattle.ioam_setting.specs.declared.setting.Refusal.{Refusal}
@@ -19,12 +18,12 @@ use Rattle.ioam_setting.specs.declared.setting.Refusal.TheVariants as refusal
 use Rattle.ioam_topo.specs.Domain.{ports}
 use Rattle.ioam_topo.specs.declared.domain.Domain.{Domain}
 use Rattle.ioam_entries.specs.declared.fault.DomainFault.{DomainFault}
-use Rattle.ioam_topo.specs.declared.parts.Port.{Port}
+use Rattle.ioam_traffic.specs.Traffic.{AllOpened}
 use Rattle.ioam_domain.specs.Ends.{Ends, refused_as}
-use Rattle.ioam_domain.specs.Run.{HasCause, Asked, Leaves, AsksApart, AsksIn, AsksAll, AsksOut, OpensNone, AreDrained, IsBounded, IsRefusal, HaveDiffered, Owes, IsSet, domain_file, readings_file, run_files, run_inputs, run_outputs, word_files}
+use Rattle.ioam_domain.specs.Run.{HasCause, Asked, Leaves, Asks, OpensNone, OpensInputs, AreDrained, IsBounded, IsRefusal, IsUnset, HaveDiffered, Owes, IsSet, domain_file, readings_file, run_files, run_inputs, run_outputs}
 use Rattle.ioam_domain.proofs.AskedLaws.{HasCause-asked}
 use Rattle.ioam_domain.proofs.BoundLaws.{Leaves-bounded}
-use Rattle.ioam_domain.proofs.EndsLaws.{same_faults, Ends-cause, Ends-differed, Ends-leaves, Ends-drained, refused_differed, refused_domain, asks_more, asks_both, asks_none, refused_cause, refused_leaves, refused_read, refused_other, refused_done, refused_short}
+use Rattle.ioam_domain.proofs.EndsLaws.{same_faults, Ends-cause, Ends-differed, Ends-leaves, Ends-says, Ends-drained, refused_unset, refused_differed, refused_domain, asks_more, asks_both, asks_none, refused_cause, refused_leaves, refused_read, refused_other, refused_done}
 
 -- the domain or the readings are refused
 module _ (tells : Bool) (words : List (List ℕ)) (old_in new_in : Reading) (old new : Writing) (why : Refusal) (answer : Outcome)
@@ -63,9 +62,6 @@ module _ (tells : Bool) (words : List (List ℕ)) (old_in new_in : Reading) (old
   refused-drained : IsDone answer → AreDrained words old_in new_in old new
   refused-drained done = absurd (refused_done tells words old_in new_in old why (subst IsDone is done))
 
-  refused-all : IsBehindAll ⊥ answer → AsksAll words old_in new_in old new
-  refused-all all = absurd (refused_short tells words old_in new_in old why (subst (IsBehindAll ⊥) is all))
-
   pub refused-owes : Owes tells words old_in new_in old new answer
   refused-owes = record {
     read_fault = refused-read_fault;
@@ -76,10 +72,7 @@ module _ (tells : Bool) (words : List (List ℕ)) (old_in new_in : Reading) (old
     leaves = λ told. refused-leaves;
     exact = refused-exact;
     domain_first = λ fault so. first fault (refused_domain tells words old_in new_in old why fault (sym is ∙ so));
-    asked_apart = inl (asked, same);
-    asked_in = λ told. inl asked;
-    asked_all = refused-all;
-    asked_out = λ told. inl (ap (λ (w : Writing). w.side.asked) same);
+    asks = inl ((asked, same), subst IsUnset (sym is) (refused_unset tells words old_in new_in old why));
     no_output = λ early. same;
     untouched = λ refusal. (asked, same);
     drained = λ done told. refused-drained done;
@@ -164,19 +157,17 @@ module _ (tells : Bool) (words : List (List ℕ)) (old_in mid_in new_in : Readin
   both_asked names asks = asks_more old_in.side.asked mid_in.side.asked new_in.side.asked (domain_file words) (readings_file words) names
       (ap (λ (s : Side). s.asked) opened) asks
 
-  -- the captures were asked for behind DOMAIN and READINGS
-  all_read : new_in.side.asked ≡ mid_in.side.asked ++ run_inputs domain
-      → new_in.side.asked ≡ old_in.side.asked ++ domain_file words ∷ readings_file words ∷ run_inputs domain
-  all_read read = read ∙ ap (λ (s : Side). s.asked ++ run_inputs domain) opened
-      ∙ append_assoc old_in.side.asked (domain_file words ∷ readings_file words ∷ []) (run_inputs domain)
+  -- the captures were opened behind DOMAIN and READINGS
+  all_read : AllOpened mid_in.side new_in.side (run_inputs domain) → OpensInputs tells words old_in new_in old new domain
+  all_read all = (
+    all.0 ∙ ap (λ (s : Side). s.asked ++ run_inputs domain) opened
+        ∙ append_assoc old_in.side.asked (domain_file words ∷ readings_file words ∷ []) (run_inputs domain),
+    omega (arith, all.1, ap (λ (s : Side). s.slots) opened),
+  )
 
   none_asked : new_in ≡ mid_in → AsksFront old_in.side.asked new_in.side.asked (domain_file words ∷ readings_file words ∷ [])
   none_asked still = asks_both old_in.side.asked new_in.side.asked (domain_file words) (readings_file words)
       (ap (λ (r : Reading). r.side.asked) still ∙ ap (λ (s : Side). s.asked) opened)
-
-  -- the captures, where they were looked at
-  abbrev captures_out : List (List ℕ)
-  captures_out = map (λ (port : Port). port.output) (ports domain)
 
   module _ (asked_in : (new_in ≡ mid_in) ⊎ (AreApart (run_files words domain) × AsksFront mid_in.side.asked new_in.side.asked (run_inputs domain)))
       (asked_out : (new ≡ mid) ⊎ (AreApart (run_files words domain) × AsksFront mid.side.asked new.side.asked (run_outputs words domain))) where
@@ -188,33 +179,35 @@ module _ (tells : Bool) (words : List (List ℕ)) (old_in mid_in new_in : Readin
     front_out = let P : Writing → Type 0 = λ w. AsksFront w.side.asked new.side.asked (run_outputs words domain) in
         subst P same (⊎_elim (λ still. asks_none mid.side.asked new.side.asked (run_outputs words domain) (ap (λ (w : Writing). w.side.asked) still)) (λ apart. apart.1) asked_out)
 
-    asked_where_apart : AreApart (run_files words domain) → AsksApart words old_in new_in old new
-    asked_where_apart apart = inr (run_inputs domain, (captures_out, (apart-with_captures (ports domain) (word_files words) apart, front_in), front_out))
+    ended-apart : OpensNone words old_in new_in old new ⊎ AreApart (run_files words domain)
+    ended-apart = ⊎_elim
+        (λ still. ⊎_elim (λ unwritten. inl (none_asked still, unwritten ∙ same)) (λ apart. inr apart.0) asked_out)
+        (λ apart. inr apart.0) asked_in
 
-    ended-asked_apart : AsksApart words old_in new_in old new
-    ended-asked_apart = ⊎_elim
-        (λ still. ⊎_elim (λ unwritten. inl (none_asked still, unwritten ∙ same)) (λ apart. asked_where_apart apart.0) asked_out)
-        (λ apart. asked_where_apart apart.0) asked_in
+    module _ (all_in : IsBehindAll ⊥ answer → AllOpened mid_in.side new_in.side (run_inputs domain))
+        (all_out : IsBehindAll ⊥ answer → AreApart (run_files words domain) × (new.side.asked ≡ mid.side.asked ++ run_outputs words domain))
+        (first : (new ≡ mid) ⊎ AllOpened mid_in.side new_in.side (run_inputs domain)) where
+      ended-all_out : IsBehindAll ⊥ answer → new.side.asked ≡ old.side.asked ++ run_outputs words domain
+      ended-all_out all = let P : Writing → Type 0 = λ w. new.side.asked ≡ w.side.asked ++ run_outputs words domain in subst P same (all_out all).1
 
-    ended-asked_all : (IsBehindAll ⊥ answer → new_in.side.asked ≡ mid_in.side.asked ++ run_inputs domain)
-        → (IsBehindAll ⊥ answer → AreApart (run_files words domain) × (new.side.asked ≡ mid.side.asked ++ run_outputs words domain))
-        → IsBehindAll ⊥ answer → AsksAll words old_in new_in old new
-    ended-asked_all read asked all =
-        let P : Writing → Type 0 = λ w. new.side.asked ≡ w.side.asked ++ run_outputs words domain in (
-          run_inputs domain,
-          (captures_out, apart-with_captures (ports domain) (word_files words) (asked all).0, (all_read (read all), subst P same (asked all).1)),
-        )
+      ended-asks : Asks tells words old_in new_in old new answer
+      ended-asks = inr (
+        domain,
+        record {
+          set = set;
+          says = Ends-says tells words domain mid_in new_in old new answer ends;
+          apart = ended-apart;
+          asked_in = front_in;
+          asked_out = front_out;
+          inputs_first = ⊎_elim (λ still. inl (still ∙ same)) (λ all. inr (all_read all)) first;
+          all_in = λ all. all_read (all_in all);
+          all_out = ended-all_out;
+        },
+      )
 
-    ended-asked_in : IsTrue tells → AsksIn words old_in new_in old new
-    ended-asked_in told = ⊎_elim (λ still. inl (none_asked still))
-        (λ apart. inr (domain, record { set = set told; apart = apart.0 }, front_in)) asked_in
-
-    ended-asked_out : IsTrue tells → AsksOut words old_in new_in old new
-    ended-asked_out told = ⊎_elim (λ still. inl (ap (λ (w : Writing). w.side.asked) (still ∙ same)))
-        (λ apart. inr (domain, record { set = set told; apart = apart.0 }, front_out)) asked_out
-
-  ended-no_output : (new_in.side.slots < mid_in.side.slots + length (run_inputs domain) → new ≡ mid) → new_in.side.slots < old_in.side.slots + 2 → new ≡ old
-  ended-no_output early few = early (omega (arith, few, ap (λ (s : Side). s.slots) opened)) ∙ same
+  ended-no_output : (new ≡ mid) ⊎ AllOpened mid_in.side new_in.side (run_inputs domain) → new_in.side.slots < old_in.side.slots + 2 → new ≡ old
+  ended-no_output first few = ⊎_elim (λ still. still ∙ same)
+      (λ all. absurd (omega (arith, few, all.1, ap (λ (s : Side). s.slots) opened))) first
 
   ended-kept_in : KeepsInputs old_in mid_in → EndsKept mid_in.side.slots mid_in new_in → KeepsInputs old_in new_in
   ended-kept_in first kept = KeepsInputs-then old_in mid_in new_in (omega (arith, ap (λ (s : Side). s.slots) opened)) first (record {
@@ -232,9 +225,9 @@ module _ (tells : Bool) (words : List (List ℕ)) (old_in mid_in new_in : Readin
       (kept : EndsKept mid_in.side.slots mid_in new_in)
       (asked_in : (new_in ≡ mid_in) ⊎ (AreApart (run_files words domain) × AsksFront mid_in.side.asked new_in.side.asked (run_inputs domain)))
       (asked_out : (new ≡ mid) ⊎ (AreApart (run_files words domain) × AsksFront mid.side.asked new.side.asked (run_outputs words domain)))
-      (all_in : IsBehindAll ⊥ answer → new_in.side.asked ≡ mid_in.side.asked ++ run_inputs domain)
+      (all_in : IsBehindAll ⊥ answer → AllOpened mid_in.side new_in.side (run_inputs domain))
       (all_out : IsBehindAll ⊥ answer → AreApart (run_files words domain) × (new.side.asked ≡ mid.side.asked ++ run_outputs words domain))
-      (early : new_in.side.slots < mid_in.side.slots + length (run_inputs domain) → new ≡ mid)
+      (first : (new ≡ mid) ⊎ AllOpened mid_in.side new_in.side (run_inputs domain))
       (kept_in : KeepsInputs old_in mid_in) (kept_out : IsTrue tells → KeepsOutputs mid new) where
     pub ended-owes : Owes tells words old_in new_in old new answer
     ended-owes = record {
@@ -246,11 +239,8 @@ module _ (tells : Bool) (words : List (List ℕ)) (old_in mid_in new_in : Readin
       leaves = ended-leaves;
       exact = ended-exact;
       domain_first = λ fault so. absurd (subst (λ (a : Outcome). Ends tells words domain mid_in new_in old new a) so ends);
-      asked_apart = ended-asked_apart asked_in asked_out;
-      asked_in = ended-asked_in asked_in asked_out;
-      asked_all = ended-asked_all asked_in asked_out all_in all_out;
-      asked_out = ended-asked_out asked_in asked_out;
-      no_output = ended-no_output early;
+      asks = ended-asks asked_in asked_out all_in all_out first;
+      no_output = ended-no_output first;
       untouched = ended-untouched;
       drained = ended-drained both kept;
       boundary = ended-bounded;

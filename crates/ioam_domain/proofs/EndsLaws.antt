@@ -1,8 +1,9 @@
 -- From how a run ended whose domain and readings were read to what the whole run answers and leaves.
 use Rattle.std.proofs.Common.{◌≡◌, ℕ, suc, ◌+◌, ◌-◌, ◌<◌, Bool, IsTrue, List, [], ◌∷◌, ◌++◌, length, refl, sym, ◌∙◌, ap, subst, inl, inr, take, append-nil, append_assoc, length-append, arith}
 use Rattle.std.proofs.lemmas.Bool.{cases_lt}
+use Rattle.std.proofs.lemmas.List.{length-map}
 use Rattle.ioam_desk.specs.Asked.{AsksFront}
-use Rattle.ioam_desk.specs.Desk.{Side, Reading, Writing, Rose, opened_each}
+use Rattle.ioam_desk.specs.Desk.{Side, Reading, Writing, Rose, holds, opened_each}
 use Rattle.ioam_desk.specs.Unread.{Unread}
 use Rattle.ioam_outputs.specs.Names.{AreApart, name_at}
 use Rattle.ioam_merge.specs.Merging.{EndsKept, PartsArrive, start_of}
@@ -10,7 +11,7 @@ use Rattle.ioam_pcap.specs.Merge.{Arrival}
 use Rattle.ioam_pcap.specs.declared.turns.Turn.TheVariants as turn
 use Rattle.ioam_answer.specs.declared.outcome.Outcome.{Outcome}
 use Rattle.ioam_answer.specs.declared.outcome.Outcome.TheVariants as outcome
-use Rattle.ioam_answer.specs.Outcomes.{IsDone, IsBehindAll}
+use Rattle.ioam_answer.specs.Outcomes.{IsDone}
 use Rattle.ioam_setting.proofs.NamesLaws.{apart-words}
 use Rattle.ioam_domain_file.specs.declared.extent.Extent.TheVariants.{Plain}
 use Rattle.ioam_setting.specs.Names.{input_ports}
@@ -22,7 +23,7 @@ use Rattle.ioam_topo.specs.declared.domain.Domain.{Domain}
 use Rattle.ioam_entries.specs.declared.fault.DomainFault.{DomainFault}
 use Rattle.ioam_traffic.specs.Traffic.{Course, HoldsAll, HoldsFronts, ArePassed, AreOpened, Arrive}
 use Rattle.ioam_domain.specs.Ends.{Ends, begins, refused_as}
-use Rattle.ioam_domain.specs.Run.{HasCause, HaveDiffered, HoldsFiles, contents, Leaves, OfTraffic, AreDrained, IsSet, IsReady, domain_file, readings_file, run_files, run_inputs, run_outputs, word_files, course_for}
+use Rattle.ioam_domain.specs.Run.{HasCause, IsUnset, Says, HaveDiffered, HoldsFiles, contents, Leaves, OfTraffic, AreDrained, IsSet, IsReady, domain_file, readings_file, run_files, run_inputs, run_outputs, word_files, course_for}
 use Rattle.ioam_domain.proofs.FilesLaws.{files_held}
 
 -- the two files were opened by two slots
@@ -136,6 +137,21 @@ Ends-differed tells words domain mid_in new_in old new outcome.ReadFault ends = 
 Ends-differed tells words domain mid_in new_in old new outcome.WriteFault ends = tt
 Ends-differed tells words domain mid_in new_in old new outcome.NoMemory ends = tt
 
+-- what the answer says of the domain
+pub Ends-says : (tells : Bool) (words : List (List ℕ)) (domain : Domain) (mid_in new_in : Reading) (old new : Writing) (answer : Outcome)
+    → Ends tells words domain mid_in new_in old new answer → Says words domain answer
+Ends-says tells words domain mid_in new_in old new (outcome.Names name) ends = ends.0
+Ends-says tells words domain mid_in new_in old new (outcome.Capture name at fault) ends =
+    (ends.0, (ends.1.0, omega (arith, ends.1.2.0, length-map (run_inputs domain) (holds old)), ends.1.1))
+Ends-says tells words domain mid_in new_in old new (outcome.Packets limit) ends = (ends.0, ends.1, ends.3)
+Ends-says tells words domain mid_in new_in old new outcome.Done ends = ends.0
+Ends-says tells words domain mid_in new_in old new outcome.ReadFault ends = ends.0
+Ends-says tells words domain mid_in new_in old new outcome.WriteFault ends = ends.0
+Ends-says tells words domain mid_in new_in old new outcome.NoMemory ends = tt
+Ends-says tells words domain mid_in new_in old new outcome.Usage ends = absurd ends
+Ends-says tells words domain mid_in new_in old new (outcome.Domain fault) ends = absurd ends
+Ends-says tells words domain mid_in new_in old new (outcome.Readings fault) ends = absurd ends
+
 -- names that were asked for, and then others
 pub asks_more : (start mid new : List (List ℕ)) (first second : List ℕ) (names : List (List ℕ)) → mid ≡ start ++ first ∷ second ∷ []
     → AsksFront mid new names → AsksFront start new (first ∷ second ∷ names)
@@ -197,11 +213,11 @@ module _ (tells : Bool) (words : List (List ℕ)) (old_in new_in : Reading) (old
   refused_done refusal.ReadFault done = done
   refused_done refusal.NoMemory done = done
 
-  pub refused_short : (why : Refusal) → IsBehindAll ⊥ (refused_as why) → ⊥
-  refused_short (refusal.Domain fault) all = all
-  refused_short (refusal.Readings fault) all = all
-  refused_short refusal.ReadFault all = all
-  refused_short refusal.NoMemory all = all
+  pub refused_unset : (why : Refusal) → IsUnset (refused_as why)
+  refused_unset (refusal.Domain fault) = tt
+  refused_unset (refusal.Readings fault) = tt
+  refused_unset refusal.ReadFault = tt
+  refused_unset refusal.NoMemory = tt
 
 -- a read fault, and a write fault, of the whole run
 module _ (tells : Bool) (words : List (List ℕ)) (domain : Domain) (mid_in new_in : Reading) (old new : Writing) where

@@ -11,7 +11,7 @@ use Rattle.ioam_topo.specs.Domain.{ports}
 use Rattle.ioam_topo.specs.declared.domain.Domain.{Domain}
 use Rattle.ioam_traffic.specs.Traffic.{Course, begun, Finishes}
 use Rattle.ioam_traffic.specs.declared.halt.Halt.TheVariants as halt
-use Rattle.ioam_domain.specs.Run.{run_files, run_outputs, run_inputs}
+use Rattle.ioam_domain.specs.Run.{IsLimit, run_files, run_outputs, run_inputs}
 
 -- the answer to a refusal of what a run is set by
 abbrev pub refused_as : Refusal → Outcome
@@ -32,7 +32,7 @@ module _ (tells : Bool) (words : List (List ℕ)) (domain : Domain) (old_in new_
   Ends outcome.Done = AreApart (run_files words domain) × Finishes (begins words domain old_in old) tells old_in new_in old new halt.Over
   Ends (outcome.Capture name at fault) = AreApart (run_files words domain)
       × ((place : ℕ) × (name ≡ name_at (run_inputs domain) place) × Finishes (begins words domain old_in old) tells old_in new_in old new (halt.Broken place at fault))
-  Ends (outcome.Packets limit) = AreApart (run_files words domain) × (limit ≡ domain.packets) × Finishes (begins words domain old_in old) tells old_in new_in old new halt.Limit
+  Ends (outcome.Packets limit) = AreApart (run_files words domain) × (limit ≡ domain.packets) × Finishes (begins words domain old_in old) tells old_in new_in old new halt.Limit × IsLimit limit
   Ends outcome.ReadFault = AreApart (run_files words domain) × Finishes (begins words domain old_in old) tells old_in new_in old new halt.ReadFault
   Ends outcome.WriteFault = AreApart (run_files words domain) × Finishes (begins words domain old_in old) tells old_in new_in old new halt.WriteFault
   Ends outcome.NoMemory = (new ≡ old) ⊎ (AreApart (run_files words domain) × Finishes (begins words domain old_in old) tells old_in new_in old new halt.NoMemory)

@@ -25,7 +25,7 @@ use Rattle.ioam_topo.specs.Domain.{ports}
 use Rattle.ioam_topo.specs.declared.domain.Domain.{Domain}
 use Rattle.ioam_entries.specs.declared.fault.DomainFault.{DomainFault}
 use Rattle.ioam_topo.specs.declared.parts.Port.{Port}
-use Rattle.ioam_traffic.specs.Traffic.{Course, HoldsFronts, ArePassed, AreOpened, Arrive, frames_of}
+use Rattle.ioam_traffic.specs.Traffic.{AllOpened, Course, HoldsFronts, ArePassed, AreOpened, Arrive, frames_of}
 
 -- the files that the words name
 abbrev pub domain_file : List (List ℕ) → List ℕ
@@ -194,35 +194,6 @@ module _ (words : List (List ℕ)) (old_in new_in : Reading) (old new : Writing)
   abbrev pub OpensNone : Type 0
   OpensNone = AsksFront old_in.side.asked new_in.side.asked (domain_file words ∷ readings_file words ∷ []) × (new ≡ old)
 
-  -- the captures of these two lists and the files that the words name all differ, and the inputs that
-  -- were asked for are DOMAIN, READINGS and the first list, or a front of these
-  abbrev pub AsksWith : List (List ℕ) → List (List ℕ) → Type 0
-  AsksWith inputs outputs = AreApart (word_files words ++ (inputs ++ outputs))
-      × AsksFront old_in.side.asked new_in.side.asked (domain_file words ∷ readings_file words ∷ inputs)
-
-  -- The names that were given to the opening calls, whatever the desk tells: no capture's and no
-  -- output's; or those of some captures that are read and of others that are written, with REPORT and
-  -- EXPORTS last of the outputs, or fronts of these. No two of all these files have one name.
-  abbrev pub AsksApart : Type 0
-  AsksApart = OpensNone ⊎ ((inputs : List (List ℕ)) × ((outputs : List (List ℕ)) × AsksWith inputs outputs
-      × AsksFront old.side.asked new.side.asked (outputs ++ report_file words ∷ exports_file words ∷ [])))
-
-  -- the same, and all of these captures and outputs were asked for
-  abbrev pub AsksAll : Type 0
-  AsksAll = (inputs : List (List ℕ)) × ((outputs : List (List ℕ)) × AreApart (word_files words ++ (inputs ++ outputs))
-      × ((new_in.side.asked ≡ old_in.side.asked ++ domain_file words ∷ readings_file words ∷ inputs)
-      × (new.side.asked ≡ old.side.asked ++ (outputs ++ report_file words ∷ exports_file words ∷ []))))
-
-  -- where the desk tells, the captures are those of the domain that DOMAIN holds
-  abbrev pub AsksIn : Type 0
-  AsksIn = AsksFront old_in.side.asked new_in.side.asked (domain_file words ∷ readings_file words ∷ [])
-      ⊎ ((domain : Domain) × IsReady old words domain
-      × AsksFront old_in.side.asked new_in.side.asked (domain_file words ∷ readings_file words ∷ run_inputs domain))
-
-  abbrev pub AsksOut : Type 0
-  AsksOut = (new.side.asked ≡ old.side.asked)
-      ⊎ ((domain : Domain) × IsReady old words domain × AsksFront old.side.asked new.side.asked (run_outputs words domain))
-
   -- DOMAIN, READINGS and each of the captures were read to their ends
   abbrev pub AreDrained : Type 0
   AreDrained = OfTraffic (λ course. (k : ℕ) → k < 2 + length course.lanes.contents → IsTrue (new_in.ended (old_in.side.slots + k)))
@@ -232,7 +203,63 @@ module _ (words : List (List ℕ)) (old_in new_in : Reading) (old new : Writing)
   IsBounded = OfTraffic (λ course. (place : ℕ) (port : Port) → slice_get (ports course.domain) place ≡ Some port
       → IsSomeAnd (holds new port.output) (IsCaptureOf MayLeave))
 
+-- the answer comes where no domain or no readings were read
+abbrev pub IsUnset : Outcome → Type 0
+IsUnset (outcome.Domain fault) = ⊤
+IsUnset (outcome.Readings fault) = ⊤
+IsUnset outcome.ReadFault = ⊤
+IsUnset outcome.NoMemory = ⊤
+IsUnset outcome.Usage = ⊥
+IsUnset (outcome.Names name) = ⊥
+IsUnset outcome.Done = ⊥
+IsUnset (outcome.Capture name at fault) = ⊥
+IsUnset (outcome.Packets limit) = ⊥
+IsUnset outcome.WriteFault = ⊥
+
+-- what a domain may say of how many packets a run has at most
+abbrev pub IsLimit : ℕ → Type 0
+IsLimit limit = (1 ≤ limit) × (limit ≤ 16777216)
+
+-- What an answer says of the domain and of its files: they differ, but for the first name that
+-- equals an earlier one; the capture that is faulty is one of those that are read, and the limit is
+-- the domain's.
+abbrev pub Says : List (List ℕ) → Domain → Outcome → Type 0
+Says words domain (outcome.Names name) = (at : ℕ) × IsFirstRepeat (run_files words domain) at × (name ≡ name_at (run_files words domain) at)
+Says words domain (outcome.Capture name at fault) = AreApart (run_files words domain)
+    × ((place : ℕ) × (place < length (run_inputs domain)) × (name ≡ name_at (run_inputs domain) place))
+Says words domain (outcome.Packets limit) = AreApart (run_files words domain) × (limit ≡ domain.packets) × IsLimit limit
+Says words domain outcome.Done = AreApart (run_files words domain)
+Says words domain outcome.ReadFault = AreApart (run_files words domain)
+Says words domain outcome.WriteFault = AreApart (run_files words domain)
+Says words domain outcome.NoMemory = ⊤
+Says words domain outcome.Usage = ⊥
+Says words domain (outcome.Domain fault) = ⊥
+Says words domain (outcome.Readings fault) = ⊥
+
 module _ (tells : Bool) (words : List (List ℕ)) (old_in new_in : Reading) (old new : Writing) where
+  -- the inputs of a domain were opened, all of them, each by a slot of its own
+  abbrev pub OpensInputs : Domain → Type 0
+  OpensInputs domain = AllOpened old_in.side new_in.side (domain_file words ∷ readings_file words ∷ run_inputs domain)
+
+  -- What was asked of a desk for this domain, whatever the desk tells; where it tells, DOMAIN holds
+  -- the domain. The names that were given to the opening of inputs are DOMAIN, READINGS and the
+  -- captures of the ports that are read, or a front of these; those given to the opening of outputs
+  -- the captures of the ports that are written, REPORT and EXPORTS, or a front. An output was opened
+  -- only where all inputs had been; none of the captures and outputs, unless all files differ.
+  pub record AsksOf (answer : Outcome) (domain : Domain) : Type 0 where
+    pub set : IsTrue tells → IsSet old words domain
+    pub says : Says words domain answer
+    pub apart : OpensNone words old_in new_in old new ⊎ AreApart (run_files words domain)
+    pub asked_in : AsksFront old_in.side.asked new_in.side.asked (domain_file words ∷ readings_file words ∷ run_inputs domain)
+    pub asked_out : AsksFront old.side.asked new.side.asked (run_outputs words domain)
+    pub inputs_first : (new ≡ old) ⊎ OpensInputs domain
+    pub all_in : IsBehindAll ⊥ answer → OpensInputs domain
+    pub all_out : IsBehindAll ⊥ answer → new.side.asked ≡ old.side.asked ++ run_outputs words domain
+
+  -- no domain was read, and no capture and no output opened; or so much was asked for one domain
+  abbrev pub Asks : Outcome → Type 0
+  Asks answer = (OpensNone words old_in new_in old new × IsUnset answer) ⊎ ((domain : Domain) × AsksOf answer domain)
+
   -- what a run owes for its answer: its cause, what was opened and read, and what the files hold
   pub record Owes (answer : Outcome) : Type 0 where
     pub read_fault : answer ≡ outcome.ReadFault → Rose old_in.side.faults new_in.side.faults
@@ -244,10 +271,7 @@ module _ (tells : Bool) (words : List (List ℕ)) (old_in new_in : Reading) (old
     pub exact : (asked : Outcome) → IsTrue tells → Asked old words asked → (Rose old_in.side.faults new_in.side.faults → ⊥)
         → (Rose old.side.faults new.side.faults → ⊥) → (answer ≡ asked) ⊎ (answer ≡ outcome.NoMemory)
     pub domain_first : (fault : DomainFault) → answer ≡ outcome.Domain fault → AsksFront old_in.side.asked new_in.side.asked (domain_file words ∷ [])
-    pub asked_apart : AsksApart words old_in new_in old new
-    pub asked_in : IsTrue tells → AsksIn words old_in new_in old new
-    pub asked_all : IsBehindAll ⊥ answer → AsksAll words old_in new_in old new
-    pub asked_out : IsTrue tells → AsksOut words old_in new_in old new
+    pub asks : Asks answer
     pub no_output : new_in.side.slots < old_in.side.slots + 2 → new ≡ old
     pub untouched : IsRefusal answer → OpensNone words old_in new_in old new
     pub drained : IsDone answer → IsTrue tells → AreDrained words old_in new_in old new

@@ -7,13 +7,15 @@ ghost use Rattle.ioam_merge.specs.Merging.{EndsKept};
 ghost use Rattle.ioam_outputs.specs.Names.{AreApart};
 ghost use Rattle.ioam_answer.specs.Outcomes.{IsDone, IsBehindAll};
 ghost use Rattle.ioam_answer.specs.declared.outcome.Outcome.{Outcome};
+ghost use Rattle.ioam_domain_file.specs.File.{IsPlainly};
 ghost use Rattle.ioam_domain_file.specs.declared.extent.Extent.{Extent};
 ghost use Rattle.ioam_setting.specs.Setting.{IsSetting, Refuses};
 ghost use Rattle.ioam_setting.specs.declared.setting.Refusal.{Refusal};
 ghost use Rattle.ioam_topo.specs.Domain.{ports, IsPlain};
 ghost use Rattle.ioam_entries.specs.declared.fault.DomainFault.{DomainFault};
+ghost use Rattle.ioam_traffic.specs.Traffic.{AllOpened};
 ghost use Rattle.ioam_domain.specs.Ends.{Ends};
-ghost use Rattle.ioam_domain.specs.Run.{HasCause, Asked, Leaves, AsksApart, AsksIn, AsksAll, AsksOut, OpensNone, AreDrained, IsBounded, IsRefusal, Owes, HaveDiffered, domain_file, readings_file, report_file, exports_file, run_files, run_inputs, run_outputs};
+ghost use Rattle.ioam_domain.specs.Run.{HasCause, Asked, Leaves, Asks, OpensNone, AreDrained, IsBounded, IsRefusal, Owes, HaveDiffered, domain_file, readings_file, report_file, exports_file, run_files, run_inputs, run_outputs};
 
 use crate::answer::refused;
 use ioam_answer::Outcome;
@@ -49,19 +51,16 @@ pub fn run_domain<D: Desk>(alloc: Global, words: &[Name], desk: &mut D) -> Outco
         → (Rose (D.reading desk.old).side.faults (D.reading desk.new).side.faults → ⊥)
         → (Rose (D.writing desk.old).side.faults (D.writing desk.new).side.faults → ⊥)
         → (result ≡ asked) ⊎ (result ≡ Outcome.NoMemory) }
-    // The names that were opened: READINGS isn't where DOMAIN is refused. Those out of the domain file and the words' files all differ, and are named where the desk tells.
+    // The names that were opened: READINGS isn't where DOMAIN is refused. Told or not, all is of one domain: the captures that were opened are those of its ports, and no output was before all of them; a name, a capture and a limit that are answered are this domain's.
     ensures domain_first { (fault : DomainFault) → result ≡ Outcome.Domain fault
         → AsksFront (D.reading desk.old).side.asked (D.reading desk.new).side.asked (domain_file words.now ∷ []) }
-    ensures asked_apart { AsksApart words.now (D.reading desk.old) (D.reading desk.new) (D.writing desk.old) (D.writing desk.new) }
-    ensures asked_in { IsTrue D.tells → AsksIn words.now (D.reading desk.old) (D.reading desk.new) (D.writing desk.old) (D.writing desk.new) }
-    ensures asked_all { IsBehindAll ⊥ result → AsksAll words.now (D.reading desk.old) (D.reading desk.new) (D.writing desk.old) (D.writing desk.new) }
-    ensures asked_out { IsTrue D.tells → AsksOut words.now (D.reading desk.old) (D.reading desk.new) (D.writing desk.old) (D.writing desk.new) }
+    ensures asks { Asks D.tells words.now (D.reading desk.old) (D.reading desk.new) (D.writing desk.old) (D.writing desk.new) result }
     // No output is opened before DOMAIN and READINGS, nor an output or a capture where DOMAIN, READINGS or the names are refused.
     ensures no_output { (D.reading desk.new).side.slots < (D.reading desk.old).side.slots + 2 → D.writing desk.new ≡ D.writing desk.old }
     ensures untouched { IsRefusal result → OpensNone words.now (D.reading desk.old) (D.reading desk.new) (D.writing desk.old) (D.writing desk.new) }
     ensures drained { IsDone result → IsTrue D.tells
         → AreDrained words.now (D.reading desk.old) (D.reading desk.new) (D.writing desk.old) (D.writing desk.new) }
-    // A port's capture is one of IPv6 packets, each with a whole header chain without an IOAM option.
+    // A port's capture is one of IPv6 packets, each with a whole header chain without an IOAM option and of at most 262,144 octets.
     ensures boundary { IsBehindAll ((D.writing desk.old).side.slots < (D.writing desk.new).side.slots) result → IsTrue D.tells
         → IsBounded words.now (D.reading desk.old) (D.reading desk.new) (D.writing desk.old) (D.writing desk.new) }
     // Input slots that were there, and where the desk tells output slots that were there and names that weren't opened to be written, are as they were.
@@ -87,7 +86,7 @@ fn read_words<D: Desk>(alloc: Global, words: &[Name], desk: &mut D) -> Result<Se
     requires { length words.now ≡ 6 }
     ensures read { IfOk result (λ setting. IsTrue D.tells
         → IsSetting Extent.Plain (D.writing desk.old) (domain_file words.now) (readings_file words.now) setting.domain setting.readings) }
-    ensures plain { IfOk result (λ setting. IsPlain setting.domain) }
+    ensures plain { IfOk result (λ setting. IsPlainly Extent.Plain setting.domain) }
     ensures refused { IfErr result (Refuses Extent.Plain (D.writing desk.old) (domain_file words.now) (readings_file words.now) D.tells (D.reading desk.old) (D.reading desk.new)) }
     ensures side { OnOk result ((D.reading desk.new).side ≡ opened_each (D.reading desk.old).side (domain_file words.now ∷ readings_file words.now ∷ [])) }
     ensures ended { OnOk result (IsTrue D.tells → IsTrue ((D.reading desk.new).ended (D.reading desk.old).side.slots)
@@ -126,11 +125,11 @@ fn run_set<D: Desk>(alloc: Global, words: &[Name], domain: &Domain, desk: &mut D
         × AsksFront (D.reading desk.old).side.asked (D.reading desk.new).side.asked (run_inputs domain.now)) }
     ensures asked_out { (D.writing desk.new ≡ D.writing desk.old) ⊎ (AreApart (run_files words.now domain.now)
         × AsksFront (D.writing desk.old).side.asked (D.writing desk.new).side.asked (run_outputs words.now domain.now)) }
-    ensures all_in { IsBehindAll ⊥ result → (D.reading desk.new).side.asked ≡ (D.reading desk.old).side.asked ++ run_inputs domain.now }
+    ensures all_in { IsBehindAll ⊥ result → AllOpened (D.reading desk.old).side (D.reading desk.new).side (run_inputs domain.now) }
     ensures all_out { IsBehindAll ⊥ result → AreApart (run_files words.now domain.now)
         × ((D.writing desk.new).side.asked ≡ (D.writing desk.old).side.asked ++ run_outputs words.now domain.now) }
-    ensures no_output { (D.reading desk.new).side.slots < (D.reading desk.old).side.slots + length (run_inputs domain.now)
-        → D.writing desk.new ≡ D.writing desk.old }
+    ensures inputs_first { (D.writing desk.new ≡ D.writing desk.old)
+        ⊎ AllOpened (D.reading desk.old).side (D.reading desk.new).side (run_inputs domain.now) }
     ensures kept { EndsKept (D.reading desk.old).side.slots (D.reading desk.old) (D.reading desk.new) }
     ensures kept_out { IsTrue D.tells → KeepsOutputs (D.writing desk.old) (D.writing desk.new) }
 {
@@ -153,10 +152,10 @@ fn run_apart<D: Desk>(alloc: Global, words: &[Name], domain: &Domain, desk: &mut
     ensures ends { Ends D.tells words.now domain.now (D.reading desk.old) (D.reading desk.new) (D.writing desk.old) (D.writing desk.new) result }
     ensures asked_in { AsksFront (D.reading desk.old).side.asked (D.reading desk.new).side.asked (run_inputs domain.now) }
     ensures asked_out { AsksFront (D.writing desk.old).side.asked (D.writing desk.new).side.asked (run_outputs words.now domain.now) }
-    ensures all_in { IsBehindAll ⊥ result → (D.reading desk.new).side.asked ≡ (D.reading desk.old).side.asked ++ run_inputs domain.now }
+    ensures all_in { IsBehindAll ⊥ result → AllOpened (D.reading desk.old).side (D.reading desk.new).side (run_inputs domain.now) }
     ensures all_out { IsBehindAll ⊥ result → (D.writing desk.new).side.asked ≡ (D.writing desk.old).side.asked ++ run_outputs words.now domain.now }
-    ensures no_output { (D.reading desk.new).side.slots < (D.reading desk.old).side.slots + length (run_inputs domain.now)
-        → D.writing desk.new ≡ D.writing desk.old }
+    ensures inputs_first { (D.writing desk.new ≡ D.writing desk.old)
+        ⊎ AllOpened (D.reading desk.old).side (D.reading desk.new).side (run_inputs domain.now) }
     ensures kept { EndsKept (D.reading desk.old).side.slots (D.reading desk.old) (D.reading desk.new) }
     ensures kept_out { IsTrue D.tells → KeepsOutputs (D.writing desk.old) (D.writing desk.new) }
 {

@@ -1,9 +1,8 @@
 -- What was answered of a frame at its port.
-use Rattle.std.proofs.Common.{◌≡◌, ℕ, ◌≤◌, Bool, true, false, List, [], ◌∷◌, length, take, drop, Option, Some, None, IsSomeAnd, refl, sym, subst, ap, arith, length-take, length-drop, if◌then◌else◌}
-use Rattle.std.specs.Prelude.{nat_lt, not, ◌||◌, ◌==◌, ◌/◌, slice_index}
+use Rattle.std.proofs.Common.{◌≡◌, ℕ, ◌≤◌, Bool, List, [], ◌∷◌, length, Option, Some, None, IsSomeAnd, refl, sym, subst, ap, arith}
 use Rattle.ioam_clock.specs.declared.sample.Sample.{Sample}
-use Rattle.ioam_ip.specs.Framing.{Framing, Holds, NoIpv6, CutShort, TooShort, IfHolds, framed, framing_of, is_ethernet_ipv6}
-use Rattle.ioam_ip.specs.Packet.{whole_length}
+use Rattle.ioam_ip.specs.Framing.{Framing, Holds, NoIpv6, CutShort, TooShort, framing_of}
+use Rattle.ioam_ip.proofs.WithinLaws.{Within, framing-within}
 use Rattle.ioam_node.specs.Admission.{Admits, HoldsPacket}
 use Rattle.ioam_node.specs.declared.admitted.Admit.{Admit}
 use Rattle.ioam_node.specs.declared.admitted.Admit.TheVariants as admit
@@ -19,29 +18,6 @@ use Rattle.ioam_topo.specs.declared.ids.FlowId.{FlowId}
 use Rattle.ioam_topo.specs.declared.parts.Flow.{Flow}
 use Rattle.ioam_topo.specs.declared.parts.Port.{Port}
 use Rattle.ioam_forward.specs.Fate.{packet_of, DropsAlike}
-
--- no more octets than so many
-abbrev Within : ℕ → Framing → Type 0
-Within size framing = IfHolds framing (λ packet. length packet ≤ size)
-
-either : (b : Bool) (size : ℕ) (f g : Framing) → Within size f → Within size g → Within size (if b then f else g)
-either true size f g first second = first
-either false size f g first second = second
-
-framed-within : (cut : Bool) (octets : List ℕ) (size : ℕ) → length octets ≤ size → Within size (framed cut octets)
-framed-within cut octets size few =
-    let fewer : length (take (whole_length octets) octets) ≤ size = omega (arith, few, length-take (whole_length octets) octets) in
-    let short : Bool = nat_lt (length octets) 40 || nat_lt (length octets) (whole_length octets) in
-    let held : Framing = Holds (take (whole_length octets) octets) in
-    let third : Framing = if short then TooShort else held in
-    let second : Framing = if cut then CutShort else third in
-    either (not (slice_index octets 0 / 16 == 6)) size NoIpv6 second tt (either cut size CutShort third tt (either short size TooShort held tt fewer))
-
-framing-within : (ethernet cut : Bool) (frame : List ℕ) (size : ℕ) → length frame ≤ size → Within size (framing_of ethernet cut frame)
-framing-within ethernet cut frame size few =
-    let inner : Framing = if is_ethernet_ipv6 frame then framed cut (drop 14 frame) else NoIpv6 in
-    either (not ethernet) size (framed cut frame) inner (framed-within cut frame size few)
-    (either (is_ethernet_ipv6 frame) size (framed cut (drop 14 frame)) NoIpv6 (framed-within cut (drop 14 frame) size (omega (arith, few, length-drop 14 frame))) tt)
 
 admits-within : (domain : Domain) (node size : ℕ) (framing : Framing) (answer : Admit) → Within size framing → Admits domain node framing answer
     → length (packet_of answer) ≤ size

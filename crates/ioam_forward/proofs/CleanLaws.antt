@@ -1,5 +1,5 @@
 -- What leaves a domain is one packet each, with a whole chain of headers and no IOAM option on it.
-use Rattle.std.proofs.Common.{◌≡◌, ℕ, zero, suc, ◌+◌, ◌<◌, Bool, true, false, List, [], ◌∷◌, ◌++◌, length, Option, Some, None, IsSomeAnd, slice_get, refl, sym, ap, ◌∙◌, subst, arith, if◌then◌else◌}
+use Rattle.std.proofs.Common.{◌≡◌, ℕ, zero, suc, ◌+◌, ◌<◌, ◌≤◌, Bool, true, false, List, [], ◌∷◌, ◌++◌, length, length-set, Option, Some, None, IsSomeAnd, slice_get, refl, sym, ap, ◌∙◌, subst, arith, if◌then◌else◌}
 use Rattle.std.specs.Prelude.{All, ⊤, ◌-◌, nat_eq, nat_lt, slice_index}
 use Rattle.std.proofs.lemmas.List.Elements.{All-nil, All-cons, All-append}
 use Rattle.ioam_ip.proofs.CleanLaws.{leaving-lowered}
@@ -11,7 +11,8 @@ use Rattle.ioam_ip.specs.Packet.{IsPacket}
 use Rattle.ioam_node.specs.Admission.{Admits}
 use Rattle.ioam_node.specs.declared.admitted.Admit.{Admit}
 use Rattle.ioam_node.specs.declared.admitted.Admit.TheVariants as admit
-use Rattle.ioam_pcap.specs.Text.{Sent, Sends, IsCaptureOf}
+use Rattle.ioam_pcap.specs.Text.{Sent, IsSendable, Sends, IsCaptureOf}
+use Rattle.ioam_pcap.specs.Entries.{most}
 use Rattle.ioam_plan.specs.declared.itinerary.Itinerary.{Itinerary}
 use Rattle.ioam_plan.specs.declared.itinerary.Visit.{Visit}
 use Rattle.ioam_plan.specs.declared.itinerary.End.{End}
@@ -21,7 +22,7 @@ use Rattle.ioam_topo.specs.declared.domain.Domain.{Domain}
 use Rattle.ioam_topo.specs.declared.parts.Port.{Port}
 use Rattle.ioam_forward.specs.Fate.{Frame, Fate, HasFate, AreFates, AreFatesFrom, packet_of, DropsAlike}
 use Rattle.ioam_forward.specs.Texts.{sent_at, sent_by_end, sent_of, fate_sent, sent_by, out_text, each_text, of_outputs}
-use Rattle.ioam_forward.proofs.AnswerLaws.{plan-drops}
+use Rattle.ioam_forward.proofs.AnswerLaws.{answer-within, plan-drops}
 
 -- the packet that is taken in, where one is, may leave
 abbrev TakesClean : Admit → Type 0
@@ -94,10 +95,44 @@ pub fates-clean : (domain : Domain) (frames : List Frame) (fates : List Fate) �
     → All (Sends MayLeave) (sent_by port fates)
 fates-clean domain frames fates are port = all-clean domain [] [] frames fates are port
 
+one-fits : (b : Bool) (s : Sent) → IsSendable s → All IsSendable (if b then s ∷ [] else [])
+one-fits true s fits = All-cons IsSendable s [] fits (All-nil IsSendable)
+one-fits false s fits = All-nil IsSendable
+
+-- what is sent of a packet has as many octets
+sent-fits : (port : ℕ) (packet : List ℕ) (visits : List Visit) (end : End) → length packet ≤ most → All IsSendable (sent_by_end port packet visits end)
+sent-fits port packet visits (Left exit) few = one-fits (nat_eq port exit.0) (sent_of packet visits)
+    (omega (arith, few, length-set packet 7 (slice_index packet 7 - length visits)))
+sent-fits port packet visits (Drop reason node) few = All-nil IsSendable
+
+-- and so no more than a record may have
+fate-fits : (domain : Domain) (readings : List (List Sample)) (earlier : List Itinerary) (frame : Frame) (fate : Fate)
+    → HasFate domain readings earlier frame fate → (port : ℕ) → All IsSendable (fate_sent port fate)
+fate-fits domain readings earlier frame fate has port =
+    sent-fits port fate.packet fate.itinerary.visits fate.itinerary.end
+    (omega (
+      arith,
+      has.short,
+      ap (λ (packet : List ℕ). length packet) has.packet,
+      answer-within domain (slice_get (ports domain) frame.port.0) frame.ethernet (nat_lt (length frame.entry.octets) frame.entry.original) frame.entry.octets has.answer has.answered,
+    ))
+
+all-fit : (domain : Domain) (readings : List (List Sample)) (earlier : List Itinerary) (frames : List Frame) (fates : List Fate)
+    → AreFatesFrom domain readings earlier frames fates → (port : ℕ) → All IsSendable (sent_by port fates)
+all-fit domain readings earlier [] [] are port = All-nil IsSendable
+all-fit domain readings earlier [] (fate ∷ fates) are port = absurd are
+all-fit domain readings earlier (frame ∷ frames) [] are port = absurd are
+all-fit domain readings earlier (frame ∷ frames) (fate ∷ fates) are port =
+    All-append IsSendable (fate_sent port fate) (sent_by port fates) (fate-fits domain readings earlier frame fate are.0 port)
+    (all-fit domain readings (earlier ++ fate.itinerary ∷ []) frames fates are.1 port)
+
+fates-fit : (domain : Domain) (frames : List Frame) (fates : List Fate) → AreFates domain frames fates → (port : ℕ) → All IsSendable (sent_by port fates)
+fates-fit domain frames fates are port = all-fit domain [] [] frames fates are port
+
 -- the capture of each port is one of such packets
 pub outs-clean : (domain : Domain) (frames : List Frame) (fates : List Fate) → AreFates domain frames fates → (port : ℕ)
     → IsCaptureOf MayLeave (out_text port fates)
-outs-clean domain frames fates are port = record { sent = sent_by port fates; is = refl; so = fates-clean domain frames fates are port }
+outs-clean domain frames fates are port = record { sent = sent_by port fates; is = refl; so = fates-clean domain frames fates are port; fits = fates-fit domain frames fates are port }
 
 each-text-at : (n from at : ℕ) (text : ℕ → List ℕ) (rest : List (List ℕ)) → at < n → slice_get (each_text n from text ++ rest) at ≡ Some (text (from + at))
 each-text-at zero from at text rest inside = absurd (omega (arith, inside))

@@ -126,7 +126,7 @@ impl Forwarding {
 
     /// Adds the sums to the report, behind the last arrival. The texts are then whole, and every packet
     /// that left by a port has a whole chain of headers and no IOAM option on it: IOAM data stays
-    /// inside its domain (RFC 9197 section 3).
+    /// inside its domain (RFC 9197 section 3). No record has more than 262,144 octets.
     pub fn put_sums(&self, domain: &Domain, outputs: &mut [Output]) -> Result<(), NoMemory>
         requires { length outputs.old ≡ length (ports domain.now) + 2 }
         ensures adds { OnOk result (Adds outputs.old outputs.new (sums_by domain.now self.now.sums)) }

@@ -23,3 +23,4 @@ pub mod SoundLaws
 pub mod SteppedLaws
 pub mod WalkLaws
 pub mod WideOctets
+pub mod WithinLaws

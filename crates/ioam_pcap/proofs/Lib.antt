@@ -1,6 +1,7 @@
 pub mod BehindLaws
 pub mod DropLaws
 pub mod ReadsLaws
+pub mod ShortLaws
 pub mod StandsLaws
 pub mod FaultLaws
 pub mod OrderLaws

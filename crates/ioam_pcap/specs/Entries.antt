@@ -17,6 +17,10 @@ pub record Entry : Type 0 where
 abbrev pub most : ℕ
 most = 262144
 
+-- it has no more
+abbrev pub IsShort : Entry → Type 0
+IsShort entry = length entry.octets ≤ most
+
 -- the nanoseconds in one of a fraction
 abbrev pub nanoseconds : Fraction → ℕ
 nanoseconds Micro = 1000

@@ -40,23 +40,24 @@ records_text (s ∷ sent) = record_octets s.time s.octets ++ records_text sent
 abbrev pub capture_text : List Sent → List ℕ
 capture_text sent = head_octets ++ records_text sent
 
+-- it may be written
+abbrev pub IsSendable : Sent → Type 0
+IsSendable s = length s.octets ≤ most
+
 -- the packet that is sent is so
 abbrev pub Sends : (List ℕ → Type 0) → Sent → Type 0
 Sends IsSo s = IsSo s.octets
 
--- the octets are a capture of packets each of which is so
+-- the octets are a capture of packets each of which is so, and has no more octets than a record may have
 pub record IsCaptureOf (IsSo : List ℕ → Type 0) (octets : List ℕ) : Type 0 where
   pub sent : List Sent
   pub is : octets ≡ capture_text sent
   pub so : All (Sends IsSo) sent
+  pub fits : All IsSendable sent
 
 -- what is read of a packet that was written: its time modulo 2^32 seconds
 abbrev pub entry_sent : Sent → Entry
 entry_sent s = record { time = s.time % 4294967296000000000; original = length s.octets; octets = s.octets }
-
--- it may be written
-abbrev pub IsSendable : Sent → Type 0
-IsSendable s = length s.octets ≤ most
 
 -- one packet more is written
 abbrev pub with_sent : List Sent → ℕ → List ℕ → List Sent

@@ -1,20 +1,22 @@
 -- At most one answer is asked for, and the packets that are kept may leave a domain.
-use Rattle.std.proofs.Common.{◌≡◌, ℕ, ◌<◌, ◌⊎◌, Bool, IsTrue, IsSomeAnd, List, [], ◌∷◌, length, Option, Some, None, refl, sym, ◌∙◌, ap, subst, inl, inr, ⊎_elim, arith}
-use Rattle.std.specs.List.{AllByRecursion}
-use Rattle.std.proofs.lemmas.List.Elements.{All-from_recursion}
+use Rattle.std.proofs.Common.{◌≡◌, ℕ, ◌<◌, ◌≤◌, ◌⊎◌, Bool, IsTrue, IsSomeAnd, List, [], ◌∷◌, ◌++◌, length, Option, Some, None, refl, sym, ◌∙◌, ap, subst, inl, inr, ⊎_elim, arith}
+use Rattle.std.specs.List.{All, AllByRecursion}
+use Rattle.std.proofs.lemmas.List.Elements.{All-from_recursion, All-head, All-tail}
 use Rattle.ioam_desk.specs.Desk.{Reading, Writing, Rose, holds}
 use Rattle.ioam_ip.specs.Clean.{MayLeave}
 use Rattle.ioam_ip.proofs.FramingLaws.{framing-packet}
+use Rattle.ioam_ip.proofs.WithinLaws.{Within, framing-within}
 use Rattle.ioam_ip.specs.Framing.{Framing, Holds, NoIpv6, CutShort, TooShort, IfHolds}
 use Rattle.ioam_ip.specs.Packet.{IsPacket}
 use Rattle.ioam_pcap.specs.Cut.{is_cut}
-use Rattle.ioam_pcap.specs.Entries.{Entry}
+use Rattle.ioam_pcap.specs.Entries.{Entry, IsShort, most}
 use Rattle.ioam_pcap.specs.Reads.{Ending, Whole, Faulty}
 use Rattle.ioam_pcap.proofs.ReadsLaws.{Reads-unique}
+use Rattle.ioam_pcap.proofs.ShortLaws.{Reached-short, Reads-short, front-short}
 use Rattle.ioam_outputs.proofs.NamesLaws.{first_unique}
 use Rattle.ioam_outputs.specs.Held.{HoldTexts}
 use Rattle.ioam_outputs.specs.Names.{AreApart, IsFirstRepeat, name_at}
-use Rattle.ioam_pcap.specs.Text.{Sends, IsCaptureOf}
+use Rattle.ioam_pcap.specs.Text.{Sends, IsSendable, IsCaptureOf}
 use Rattle.ioam_pcap.specs.declared.form.Link.{Link}
 use Rattle.ioam_run.specs.FilterText.{Filtered, FilterTexts, kept_of}
 use Rattle.ioam_answer.specs.Outcomes.{IsBehindAll}
@@ -138,36 +140,70 @@ kept_leaving ethernet (e ∷ es) [] are = tt
 kept_leaving ethernet (e ∷ es) (Keeps kept ∷ vs) are = (keeps_leaving kept (entry_framing ethernet e) (framing-packet ethernet (is_cut e) e.octets) are.0, kept_leaving ethernet es vs are.1)
 kept_leaving ethernet (e ∷ es) (Drops reason ∷ vs) are = kept_leaving ethernet es vs are.1
 
-leaving_capture : (ethernet : Bool) (entries : List Entry) (out text : List ℕ) → Filtered ethernet entries out text → IsCaptureOf MayLeave out
-leaving_capture ethernet entries out text filtered = record {
+-- what is kept of a frame has no more octets than it
+keeps_within : (kept : List ℕ) (size : ℕ) (framing : Framing) → Within size framing → FramingVerdict framing (Keeps kept) → length kept ≤ size
+keeps_within kept size (Holds held) within has = omega (arith, within, ap (λ (packet : List ℕ). length packet) has.0)
+keeps_within kept size NoIpv6 within has = absurd (keeps_drops kept _ has)
+keeps_within kept size CutShort within has = absurd (keeps_drops kept _ has)
+keeps_within kept size TooShort within has = absurd (keeps_drops kept _ has)
+
+kept_fitting : (ethernet : Bool) (es : List Entry) (vs : List Verdict) → AreVerdicts ethernet es vs → All IsShort es → AllByRecursion IsSendable (kept_of es vs)
+kept_fitting ethernet [] [] are short = tt
+kept_fitting ethernet [] (v ∷ vs) are short = tt
+kept_fitting ethernet (e ∷ es) [] are short = tt
+kept_fitting ethernet (e ∷ es) (Keeps kept ∷ vs) are short = (
+  keeps_within kept most (entry_framing ethernet e) (framing-within ethernet (is_cut e) e.octets most (All-head IsShort e es short)) are.0,
+  kept_fitting ethernet es vs are.1 (All-tail IsShort e es short),
+)
+kept_fitting ethernet (e ∷ es) (Drops reason ∷ vs) are short = kept_fitting ethernet es vs are.1 (All-tail IsShort e es short)
+
+leaving_capture : (ethernet : Bool) (entries : List Entry) (out text : List ℕ) → Filtered ethernet entries out text → All IsShort entries → IsCaptureOf MayLeave out
+leaving_capture ethernet entries out text filtered short = record {
   sent = kept_of entries filtered.verdicts;
   is = filtered.out_is;
   so = All-from_recursion (Sends MayLeave) (kept_of entries filtered.verdicts) (kept_leaving ethernet entries filtered.verdicts filtered.are);
+  fits = All-from_recursion IsSendable (kept_of entries filtered.verdicts) (kept_fitting ethernet entries filtered.verdicts filtered.are short);
 }
 
-leaving_held : (ethernet : Bool) (entries : List Entry) (texts : List (List ℕ)) (output report : List ℕ) (new : Writing)
+leaving_held : (ethernet : Bool) (entries : List Entry) (texts : List (List ℕ)) (output report : List ℕ) (new : Writing) → All IsShort entries
     → FilterTexts ethernet entries texts → HoldTexts new (output ∷ report ∷ []) texts → IsSomeAnd (holds new output) (IsCaptureOf MayLeave)
-leaving_held ethernet entries [] output report new are held = absurd are
-leaving_held ethernet entries (out ∷ []) output report new are held = absurd are
-leaving_held ethernet entries (out ∷ text ∷ []) output report new are held =
+leaving_held ethernet entries [] output report new short are held = absurd are
+leaving_held ethernet entries (out ∷ []) output report new short are held = absurd are
+leaving_held ethernet entries (out ∷ text ∷ []) output report new short are held =
     let P : Option (List ℕ) → Type 0 = λ o. IsSomeAnd o (IsCaptureOf MayLeave) in
-    subst P (sym held.0) (leaving_capture ethernet entries out text are)
-leaving_held ethernet entries (out ∷ text ∷ more ∷ texts) output report new are held = absurd are
+    subst P (sym held.0) (leaving_capture ethernet entries out text are short)
+leaving_held ethernet entries (out ∷ text ∷ more ∷ texts) output report new short are held = absurd are
 
-from_held : (held : Option (List ℕ)) (Are : Option Link → List Entry → List ℕ → Type 0) (output report : List ℕ) (new : Writing)
+-- the records are of a capture, and so none has more octets than a record may have
+abbrev AreShort : (Option Link → List Entry → List ℕ → Type 0) → Type 0
+AreShort Are = (link : Option Link) (entries : List Entry) (octets : List ℕ) → Are link entries octets → All IsShort entries
+
+ends_short : (ending : Ending) → AreShort (EndsSo ending)
+ends_short ending link entries octets reads = Reads-short octets link entries ending reads
+
+passed_short : AreShort (ArePassed most_packets)
+passed_short link entries octets passed = front-short entries passed.first.rest
+    (Reads-short octets link (entries ++ passed.first.rest) passed.first.ending passed.first.reads)
+
+whole_short : (left : List ℕ) → AreShort (AreWhole left)
+whole_short left link entries octets whole = Reached-short whole.handed whole.form entries whole.at whole.reached
+
+from_held : (held : Option (List ℕ)) (Are : Option Link → List Entry → List ℕ → Type 0) (output report : List ℕ) (new : Writing) → AreShort Are
     → IsSomeAnd held (HoldsAll most_packets FilterTexts (output ∷ report ∷ []) Are new) → IsSomeAnd (holds new output) (IsCaptureOf MayLeave)
-from_held None Are output report new all = absurd all
-from_held (Some octets) Are output report new all = leaving_held (is_ethernet all.link) all.entries all.texts output report new all.texts_are all.held
+from_held None Are output report new short all = absurd all
+from_held (Some octets) Are output report new short all =
+    leaving_held (is_ethernet all.link) all.entries all.texts output report new (short all.link all.entries octets all.are) all.texts_are all.held
 
 -- each packet in OUT may leave a domain
 module _ (input output report : List ℕ) (old_in new_in : Reading) (old new : Writing) where
   pub Leaves-bounded : (answer : Outcome) → Leaves most_packets FilterTexts (output ∷ report ∷ []) input old_in new_in old new answer
       → IsBehindAll (old_in.side.slots < new_in.side.slots) answer → IsSomeAnd (holds new output) (IsCaptureOf MayLeave)
-  Leaves-bounded outcome.Done leaves behind = from_held (holds old input) (EndsSo Whole) output report new leaves
-  Leaves-bounded (outcome.Capture name at fault) leaves behind = from_held (holds old input) (EndsSo (Faulty at fault)) output report new leaves
-  Leaves-bounded (outcome.Packets limit) leaves behind = from_held (holds old input) (ArePassed most_packets) output report new leaves
+  Leaves-bounded outcome.Done leaves behind = from_held (holds old input) (EndsSo Whole) output report new (ends_short Whole) leaves
+  Leaves-bounded (outcome.Capture name at fault) leaves behind =
+      from_held (holds old input) (EndsSo (Faulty at fault)) output report new (ends_short (Faulty at fault)) leaves
+  Leaves-bounded (outcome.Packets limit) leaves behind = from_held (holds old input) (ArePassed most_packets) output report new passed_short leaves
   Leaves-bounded outcome.ReadFault leaves behind = ⊎_elim (λ unopened. absurd (omega (arith, unopened.0, behind)))
-      (λ held. from_held (holds old input) (AreWhole (new_in.left old_in.side.slots)) output report new held.1) leaves
+      (λ held. from_held (holds old input) (AreWhole (new_in.left old_in.side.slots)) output report new (whole_short (new_in.left old_in.side.slots)) held.1) leaves
   Leaves-bounded outcome.Usage leaves behind = absurd behind
   Leaves-bounded (outcome.Domain why) leaves behind = absurd behind
   Leaves-bounded (outcome.Readings why) leaves behind = absurd behind

@@ -37,7 +37,7 @@ pub fn run_filter<D: Desk>(alloc: Global, words: &[Name], desk: &mut D) -> Outco
         → (Rose (D.reading desk.old).side.faults (D.reading desk.new).side.faults → ⊥)
         → (Rose (D.writing desk.old).side.faults (D.writing desk.new).side.faults → ⊥)
         → (result ≡ asked) ⊎ (result ≡ Outcome.NoMemory) }
-    // OUT is a capture of IPv6 packets, each with a whole header chain without an IOAM option.
+    // OUT is a capture of IPv6 packets, each with a whole header chain without an IOAM option and of at most 262,144 octets.
     ensures boundary { IsBehindAll ((D.reading desk.old).side.slots < (D.reading desk.new).side.slots) result → IsTrue D.tells
         → IsSomeAnd (holds (D.writing desk.new) (name_at words.now 2)) (IsCaptureOf MayLeave) }
     // Before IN was opened nothing changed, told or not; IN is opened only where the names differ, and no output before IN; behind all of IN it was read to its end.

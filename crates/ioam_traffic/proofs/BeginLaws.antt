@@ -1,7 +1,7 @@
 -- Traffic of which nothing was taken yet.
 use Rattle.std.proofs.Common.{◌≡◌, ℕ, ◌+◌, ◌<◌, Bool, IsTrue, List, [], length, sym, ◌∙◌, ap, subst, arith}
 use Rattle.std.proofs.lemmas.List.{length-map}
-use Rattle.ioam_desk.specs.Desk.{Reading, Writing, holds}
+use Rattle.ioam_desk.specs.Desk.{Side, Reading, Writing, holds, opened_each}
 use Rattle.ioam_forward.specs.Forwarding.{Forwards}
 use Rattle.ioam_forward.specs.Texts.{of_ports, texts_so_far, texts_of}
 use Rattle.ioam_forward.specs.declared.forwarding.Forwarding.{Forwarding}
@@ -16,10 +16,15 @@ use Rattle.ioam_outputs.proofs.ToldLaws.{AreTold-adds, said_first, told_names}
 use Rattle.ioam_topo.specs.Domain.{ports as ports_of}
 use Rattle.ioam_topo.specs.declared.domain.Domain.{Domain}
 use Rattle.ioam_topo.specs.declared.ids.PortId.{PortId}
-use Rattle.ioam_traffic.specs.Traffic.{HoldsFronts, AreOpened, Files, files_of, course_with}
+use Rattle.ioam_traffic.specs.Traffic.{AllOpened, HoldsFronts, AreOpened, Files, files_of, course_with}
 use Rattle.ioam_traffic.specs.Running.{Fronts, Running}
 use Rattle.ioam_traffic.proofs.FrontsLaws.{of_ports-length}
 use Rattle.ioam_traffic.proofs.RunsLaws.{Merging-begins}
+
+-- all were opened by a call, and other calls opened none
+pub all_opened : (old mid new : Side) (names : List (List ℕ)) → mid ≡ opened_each old names → new.asked ≡ mid.asked → new.slots ≡ mid.slots
+    → AllOpened old new names
+all_opened old mid new names opened asked slots = (asked ∙ ap (λ (s : Side). s.asked) opened, slots ∙ ap (λ (s : Side). s.slots) opened)
 
 -- a text for each output
 all_texts : (domain : Domain) (text : ℕ → List ℕ) (report : List ℕ) (names : List (List ℕ)) → length names ≡ length (ports_of domain) + 2

@@ -1,7 +1,7 @@
 -- The traffic of a domain: the captures of its ports are merged by time, each arrival is sent through
 -- the domain, and the outputs are told what becomes of it.
 use Rattle.std.specs.Prelude.{◌≡◌, ℕ, ◌+◌, ◌<◌, ◌≤◌, ◌⊎◌, Bool, IsTrue, List, [], ◌∷◌, ◌++◌, length, map, slice_index_or}
-use Rattle.ioam_desk.specs.Desk.{Reading, Writing, Rose}
+use Rattle.ioam_desk.specs.Desk.{Side, Reading, Writing, Rose}
 use Rattle.ioam_forward.specs.Fate.{Frame, Fate, AreFates}
 use Rattle.ioam_forward.specs.Texts.{texts_of}
 use Rattle.ioam_merge.specs.Merging as merging
@@ -15,6 +15,10 @@ use Rattle.ioam_topo.specs.declared.domain.Domain.{Domain}
 use Rattle.ioam_topo.specs.declared.ids.PortId.{PortId}
 use Rattle.ioam_traffic.specs.declared.halt.Halt.{Halt}
 use Rattle.ioam_traffic.specs.declared.halt.Halt.TheVariants.{Over, Broken, Limit, ReadFault, WriteFault, NoMemory}
+
+-- all of these names were given to the opening call, and each has its slot
+abbrev pub AllOpened : Side → Side → List (List ℕ) → Type 0
+AllOpened old new names = (new.asked ≡ old.asked ++ names) × (new.slots ≡ old.slots + length names)
 
 -- the port whose capture stands at a place among the captures
 abbrev pub port_at : List PortId → ℕ → PortId

@@ -1,5 +1,5 @@
 //! The traffic of a domain: its files, and how it ends.
-ghost use Rattle.std.specs.Prelude.{◌≡◌, ◌↔◌, ◌+◌, ◌<◌, ◌++◌, [], All, IsTrue, length};
+ghost use Rattle.std.specs.Prelude.{◌≡◌, ◌↔◌, ◌⊎◌, ◌+◌, ◌<◌, ◌++◌, [], All, IsTrue, length};
 ghost use Rattle.ioam_desk.specs.Asked.{AsksFront};
 ghost use Rattle.ioam_desk.specs.Kept.{KeepsOutputs, WritesFrom};
 ghost use Rattle.ioam_merge.specs.Merging.{EndsKept, Merging};
@@ -7,7 +7,7 @@ ghost use Rattle.ioam_outputs.specs.Names.{AreApart};
 ghost use Rattle.ioam_outputs.specs.Told.{AreTold, GathersNothing, unsaid};
 ghost use Rattle.ioam_topo.specs.Domain.{ports as ports_of, IsPlain};
 ghost use Rattle.ioam_traffic.specs.Running.{Ends, IsBroken};
-ghost use Rattle.ioam_traffic.specs.Traffic.{Files, files_of, course_with, begun, Finishes, IsEnd};
+ghost use Rattle.ioam_traffic.specs.Traffic.{Files, files_of, course_with, begun, AllOpened, Finishes, IsEnd};
 
 use crate::halt::Halt;
 use crate::progress::Progress;
@@ -44,10 +44,9 @@ pub fn run_traffic<D: Desk>(
         (D.reading desk.old) (D.reading desk.new) (D.writing desk.old) (D.writing desk.new) result }
     ensures asked_in { AsksFront (D.reading desk.old).side.asked (D.reading desk.new).side.asked inputs.now }
     ensures asked_out { AsksFront (D.writing desk.old).side.asked (D.writing desk.new).side.asked outputs.now }
-    ensures all_in { IsEnd result → (D.reading desk.new).side.asked ≡ (D.reading desk.old).side.asked ++ inputs.now }
+    ensures all_in { IsEnd result → AllOpened (D.reading desk.old).side (D.reading desk.new).side inputs.now }
     ensures all_out { IsEnd result → (D.writing desk.new).side.asked ≡ (D.writing desk.old).side.asked ++ outputs.now }
-    ensures no_output { (D.reading desk.new).side.slots < (D.reading desk.old).side.slots + length inputs.now
-        → D.writing desk.new ≡ D.writing desk.old }
+    ensures inputs_first { (D.writing desk.new ≡ D.writing desk.old) ⊎ AllOpened (D.reading desk.old).side (D.reading desk.new).side inputs.now }
     ensures kept { EndsKept (D.reading desk.old).side.slots (D.reading desk.old) (D.reading desk.new) }
     ensures kept_out { IsTrue D.tells → KeepsOutputs (D.writing desk.old) (D.writing desk.new) }
 {
@@ -75,10 +74,9 @@ fn run_files<D: Desk>(
         (D.reading desk.old) (D.reading desk.new) (D.writing desk.old) (D.writing desk.new) result }
     ensures asked_in { AsksFront (D.reading desk.old).side.asked (D.reading desk.new).side.asked inputs.now }
     ensures asked_out { AsksFront (D.writing desk.old).side.asked (D.writing desk.new).side.asked outputs.now }
-    ensures all_in { IsEnd result → (D.reading desk.new).side.asked ≡ (D.reading desk.old).side.asked ++ inputs.now }
+    ensures all_in { IsEnd result → AllOpened (D.reading desk.old).side (D.reading desk.new).side inputs.now }
     ensures all_out { IsEnd result → (D.writing desk.new).side.asked ≡ (D.writing desk.old).side.asked ++ outputs.now }
-    ensures no_output { (D.reading desk.new).side.slots < (D.reading desk.old).side.slots + length inputs.now
-        → D.writing desk.new ≡ D.writing desk.old }
+    ensures inputs_first { (D.writing desk.new ≡ D.writing desk.old) ⊎ AllOpened (D.reading desk.old).side (D.reading desk.new).side inputs.now }
     ensures kept { EndsKept (D.reading desk.old).side.slots (D.reading desk.old) (D.reading desk.new) }
     ensures kept_out { IsTrue D.tells → KeepsOutputs (D.writing desk.old) (D.writing desk.new) }
 {

@@ -5,7 +5,7 @@ use Rattle.ioam_outputs.specs.Told.{GathersNothing}
 use Rattle.ioam_outputs.proofs.ToldLaws.{told_names}
 use Rattle.ioam_merge.specs.Merging.{slot_of}
 use Rattle.ioam_traffic.specs.Traffic.{Files, course_with}
-use Rattle.ioam_traffic.proofs.BeginLaws.{known_fronts, known_merging, known_opened, known_sized, known_told}
+use Rattle.ioam_traffic.proofs.BeginLaws.{all_opened, known_fronts, known_merging, known_opened, known_sized, known_told}
 use Rattle.ioam_traffic.proofs.StopsLaws.{Ends-finishes}
 use Rattle.ioam_desk.proofs.KeptLaws.{KeepsOutputs-same, KeepsOutputs-then, KeepsOutputs-from}
 use Rattle.ioam_traffic.proofs.traffic.run_files.Goals as goal
@@ -97,8 +97,31 @@ returns-in-Ok-open_outputs-clause-all_out g c = λ end.
 
 pub returns-in-Ok-open_outputs-clause-all_in : goal.returns-in-Ok-open_outputs-clause-all_in
 returns-in-Ok-open_outputs-clause-all_in g c = λ end.
-    c.run_open.ensures.asked_in ∙ ap (λ (r : Reading). r.side.asked) c.in-Ok-open_outputs.ensures.inputs
-    ∙ ap (λ (s : Side). s.asked) c.in-Ok.ensures.side
+    all_opened (g.D.Desk.reading c.args.desk.now).side (g.D.Desk.reading c.open_merge.new.desk).side (g.D.Desk.reading c.run_open.new.desk).side c.args.inputs.now
+    c.in-Ok.ensures.side (c.run_open.ensures.asked_in ∙ ap (λ (r : Reading). r.side.asked) c.in-Ok-open_outputs.ensures.inputs)
+    (c.run_open.ensures.slots_in ∙ ap (λ (r : Reading). r.side.slots) c.in-Ok-open_outputs.ensures.inputs)
+
+pub returns-in-Ok-open_outputs-clause-inputs_first : goal.returns-in-Ok-open_outputs-clause-inputs_first
+returns-in-Ok-open_outputs-clause-inputs_first g c =
+    inr (all_opened (g.D.Desk.reading c.args.desk.now).side (g.D.Desk.reading c.open_merge.new.desk).side (g.D.Desk.reading c.run_open.new.desk).side c.args.inputs.now
+    c.in-Ok.ensures.side (c.run_open.ensures.asked_in ∙ ap (λ (r : Reading). r.side.asked) c.in-Ok-open_outputs.ensures.inputs)
+    (c.run_open.ensures.slots_in ∙ ap (λ (r : Reading). r.side.slots) c.in-Ok-open_outputs.ensures.inputs))
+
+pub returns-in-Err-Failed-open_outputs-clause-inputs_first : goal.returns-in-Err-Failed-open_outputs-clause-inputs_first
+returns-in-Err-Failed-open_outputs-clause-inputs_first g c =
+    inr (all_opened (g.D.Desk.reading c.args.desk.now).side (g.D.Desk.reading c.open_merge.new.desk).side (g.D.Desk.reading c.open_outputs.new.desk).side c.args.inputs.now
+    c.in-Ok.ensures.side (ap (λ (r : Reading). r.side.asked) c.open_outputs.ensures.inputs) (ap (λ (r : Reading). r.side.slots) c.open_outputs.ensures.inputs))
+
+pub returns-clause-inputs_first : goal.returns-clause-inputs_first
+returns-clause-inputs_first g c =
+    inr (all_opened (g.D.Desk.reading c.args.desk.now).side (g.D.Desk.reading c.open_merge.new.desk).side (g.D.Desk.reading c.open_outputs.new.desk).side c.args.inputs.now
+    c.in-Ok.ensures.side (ap (λ (r : Reading). r.side.asked) c.open_outputs.ensures.inputs) (ap (λ (r : Reading). r.side.slots) c.open_outputs.ensures.inputs))
+
+pub returns-in-Err-Failed-clause-inputs_first : goal.returns-in-Err-Failed-clause-inputs_first
+returns-in-Err-Failed-clause-inputs_first g c = inl c.open_merge.ensures.outputs
+
+pub returns-in-Err-NoMemory-clause-inputs_first : goal.returns-in-Err-NoMemory-clause-inputs_first
+returns-in-Err-NoMemory-clause-inputs_first g c = inl c.open_merge.ensures.outputs
 
 pub returns-in-Err-Failed-clause-kept_out : goal.returns-in-Err-Failed-clause-kept_out
 returns-in-Err-Failed-clause-kept_out g c = λ told. KeepsOutputs-same (g.D.Desk.writing c.args.desk.now) _ c.open_merge.ensures.outputs

@@ -37,6 +37,6 @@ returns-clause-gathers c =
           (record { port = c.args.port; packet = packet_of c.admit-admitted.result; itinerary = c.in_ok-itinerary.itinerary }),
       c.in_ok-put_fate.ensures,
       Forwards-push c.args.domain.now _ _ c.args.self.now _ (c.args.self.now.sums.packets + 1) refl
-          (λ earlier. record { answer = c.admit-admitted.result; answered = subst P c.is_cut.ensures c.admit-admitted.ensures.admits; plans = c.in_ok-itinerary.ensures.plans [] earlier; port = refl; packet = refl })
+          (λ earlier. record { answer = c.admit-admitted.result; answered = subst P c.is_cut.ensures c.admit-admitted.ensures.admits; plans = c.in_ok-itinerary.ensures.plans [] earlier; port = refl; packet = refl; short = c.requires.short })
           (c.note.ensures c.args.domain.now),
     )
