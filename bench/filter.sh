@@ -7,12 +7,8 @@ here=$(cd "$(dirname "${BASH_SOURCE[0]}")" && pwd)
 top=$(dirname "$here")
 count=${1:-1000000}
 
-for tool in tcpdump gcc python3 /usr/bin/time; do
-    command -v "$tool" >/dev/null || {
-        echo "bench: $tool is missing (apt-get install tcpdump gcc python3 time)" >&2
-        exit 1
-    }
-done
+. "$here/timing.sh"
+need tcpdump gcc python3 /usr/bin/time
 room=$(mktemp -d)
 trap 'rm -rf "$room"' EXIT
 cd "$room"
@@ -20,14 +16,6 @@ gcc -O2 -o walk "$here/walk.c"
 python3 "$here/make_capture.py" in.pcap "$count"
 "$top/ioam" >/dev/null || true # builds the program where that is needed
 ioam=$top/crates/ioam_cmd/out/ioam_cmd
-
-# The seconds and the greatest memory in KB of a command, onto the list of its name.
-timed() {
-    local name=$1
-    shift
-    /usr/bin/time -f '%e %M' -o took "$@" >/dev/null 2>&1
-    cat took >>"times.$name"
-}
 
 for _ in 1 2 3; do
     timed cat sh -c 'cat in.pcap >out.cat'
@@ -41,7 +29,6 @@ cmp out.walk out.filter && echo "walk and ioam filter keep the same packets"
 
 echo "$(nproc) cores, $count packets, $(stat -c %s in.pcap) octets"
 echo "command   seconds  packets/s  to cat  to walk  to tcpdump  memory MB"
-base() { sort -n "times.$1" | head -1 | cut -d' ' -f1; }
 for name in cat walk tcpdump filter paths show; do
     sort -n "times.$name" | head -1 | awk -v n="$name" -v c="$count" -v a="$(base cat)" -v w="$(base walk)" -v t="$(base tcpdump)" \
         '{ s = $1 > 0 ? $1 : 0.01; printf "%-9s %7.2f  %9d  %6.2f  %7.2f  %10.2f  %9.1f\n", n, $1, c / s, s / a, s / w, s / t, $2 / 1024 }'

@@ -32,7 +32,7 @@ pub runs-in-tunnel : (domain : Domain) (readings : List (List Sample)) (old new 
     → new.crossings.kept ≡ old.crossings.kept
     → new.room.spare + length new.room.notes ≡ old.room.spare + length old.room.notes
     → ((tunnel : Tunnel) → IsTunnel tunnel → Sent domain readings tunnel [] before old.crossings.past old.room
-      → RanBy domain readings tunnel exited old.itinerary.visits after new.crossings.past new.room)
+    → RanBy domain readings tunnel exited old.itinerary.visits after new.crossings.past new.room)
     → HasRun domain readings old new
 runs-in-tunnel domain readings old new exited before after fresh some exits same from to sized ahead kept given runs = record {
   itinerary = same;
@@ -45,5 +45,5 @@ runs-in-tunnel domain readings old new exited before after fresh some exits same
       } in
       subst (λ b. RanBy domain readings tunnel b visits new.packet.items (crossings new.crossings) new.room) (sym exits)
       (subst (λ xs. RanBy domain readings tunnel exited visits xs (crossings new.crossings) new.room) (sym to)
-        (subst (λ ps. RanBy domain readings tunnel exited visits after ps new.room) (sym (none-ahead new.crossings ahead)) (runs tunnel is start))));
+      (subst (λ ps. RanBy domain readings tunnel exited visits after ps new.room) (sym (none-ahead new.crossings ahead)) (runs tunnel is start))));
 }

@@ -15,12 +15,7 @@ fn add(alloc: Global, collector: &mut Collector, digits: &[&str]) -> Result<Adde
 }
 
 // Whether a collector of so many records answers so for each, and then has these lines.
-fn answers(
-    alloc: Global,
-    limit: u32,
-    rows: &[(&str, Added)],
-    lines: &str,
-) -> Result<bool, Fail>
+fn answers(alloc: Global, limit: u32, rows: &[(&str, Added)], lines: &str) -> Result<bool, Fail>
     requires { limit < 2 ^ 31 }
 {
     let mut collector = Collector::new(alloc, limit)?;
@@ -139,9 +134,27 @@ records 18 kept 9 repeats 9 unkeyed 0
 // One packet that two nodes send to one another until its hop limit ends.
 fn loop_rows() -> [[&'static str; 5]; 5] {
     [
-        [HEAD, "000000003b9ad5b8 00000015", FLOW, "00000000", "02000002"],
-        [HEAD, "000000003b9ad9a0 0000000d", FLOW, "00000000", "01000001"],
-        [HEAD, "000000003b9ad1d0 0000000d", FLOW, "00000000", "03000001"],
+        [
+            HEAD,
+            "000000003b9ad5b8 00000015",
+            FLOW,
+            "00000000",
+            "02000002",
+        ],
+        [
+            HEAD,
+            "000000003b9ad9a0 0000000d",
+            FLOW,
+            "00000000",
+            "01000001",
+        ],
+        [
+            HEAD,
+            "000000003b9ad1d0 0000000d",
+            FLOW,
+            "00000000",
+            "03000001",
+        ],
         [HEAD, AT_A, FLOW, "00000000", "05000001"],
         [HEAD, AT_B, FLOW, "00000000", "04000002"],
     ]

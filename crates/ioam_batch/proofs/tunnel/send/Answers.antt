@@ -20,8 +20,8 @@ loop-i-init c =
       c.enter.ensures.size,
       c.enter.ensures.kept,
       (λ tunnel is so.
-      let P : List Visit → Type 0 = λ vs. Sent c.args.domain.now c.args.readings.now tunnel vs c.enter.new.packet c.enter.new.crossings.past c.enter.new.room in
-      subst P (sym (take_more visits 0 _ inside)) (c.enter.ensures.sent tunnel is so)),
+          let P : List Visit → Type 0 = λ vs. Sent c.args.domain.now c.args.readings.now tunnel vs c.enter.new.packet c.enter.new.crossings.past c.enter.new.room in
+          subst P (sym (take_more visits 0 _ inside)) (c.enter.ensures.sent tunnel is so)),
     )
 
 pub pass_on-requires-clause-tap : goal.pass_on-requires-clause-tap
@@ -46,8 +46,8 @@ loop-i-preserved c =
       c.pass_on.ensures.size ∙ invariant.7,
       c.pass_on.ensures.kept ∙ invariant.8,
       (λ tunnel is so.
-      let P : List Visit → Type 0 = λ vs. Sent c.args.domain.now c.args.readings.now tunnel vs c.pass_on.new.packet c.pass_on.new.crossings.past c.pass_on.new.room in
-      subst P (sym (take_more visits c.loop-i.i _ inside)) (c.pass_on.ensures.sent tunnel (take c.loop-i.i visits) is some (invariant.9 tunnel is so))),
+          let P : List Visit → Type 0 = λ vs. Sent c.args.domain.now c.args.readings.now tunnel vs c.pass_on.new.packet c.pass_on.new.crossings.past c.pass_on.new.room in
+          subst P (sym (take_more visits c.loop-i.i _ inside)) (c.pass_on.ensures.sent tunnel (take c.loop-i.i visits) is some (invariant.9 tunnel is so))),
     )
 
 pub returns-clause-sent : goal.returns-clause-sent

@@ -1,0 +1,23 @@
+# What the benchmark scripts share: it is read by them, not run.
+
+# Ends the script where a tool is missing.
+need() {
+    local tool
+    for tool in "$@"; do
+        command -v "$tool" >/dev/null || {
+            echo "bench: $tool is missing (apt-get install tcpdump gcc python3 time)" >&2
+            exit 1
+        }
+    done
+}
+
+# The seconds and the greatest memory in KB of a command, onto the list of its name.
+timed() {
+    local name=$1
+    shift
+    /usr/bin/time -f '%e %M' -o took "$@" >/dev/null 2>&1
+    cat took >>"times.$name"
+}
+
+# The least time of a name, in seconds.
+base() { sort -n "times.$1" | head -1 | cut -d' ' -f1; }
