@@ -17,14 +17,16 @@ use Rattle.ioam_run.specs.Run.{file_names, input_name, output_names}
 use Rattle.ioam_answer.specs.declared.outcome.Outcome.{Outcome}
 use Rattle.ioam_answer.specs.declared.outcome.Outcome.TheVariants as outcome
 use Rattle.ioam_entries.specs.declared.fault.DomainFault.{DomainFault}
+use Rattle.ioam_transit.specs.Run as node
 use Rattle.ioam_cmd.specs.declared.command.Command.{Command}
-use Rattle.ioam_cmd.specs.declared.command.Command.TheVariants.{Filter, Paths, Show, Run}
+use Rattle.ioam_cmd.specs.declared.command.Command.TheVariants.{Filter, Paths, Show, Node, Run}
 
 -- which answer the words and the files ask for, where nothing fails
 abbrev pub Asked : Bool → List (List ℕ) → Writing → Command → Outcome → Type 0
 Asked tells words desk Filter answer = capture.Asked tells desk (file_names words) (input_name words) answer
 Asked tells words desk Paths answer = capture.Asked tells desk (file_names words) (input_name words) answer
 Asked tells words desk Show answer = capture.Asked tells desk (file_names words) (input_name words) answer
+Asked tells words desk Node answer = node.Asked words desk answer
 Asked tells words desk Run answer = domain.Asked desk words answer
 
 module _ (tells : Bool) (words : List (List ℕ)) (old_in new_in : Reading) (old new : Writing) where
@@ -33,13 +35,15 @@ module _ (tells : Bool) (words : List (List ℕ)) (old_in new_in : Reading) (old
   HasCause Filter answer = capture.HasCause tells (file_names words) (input_name words) old_in old new_in new answer
   HasCause Paths answer = capture.HasCause tells (file_names words) (input_name words) old_in old new_in new answer
   HasCause Show answer = capture.HasCause tells (file_names words) (input_name words) old_in old new_in new answer
+  HasCause Node answer = node.HaveDiffered words answer × (IsTrue tells → node.HasCause words old_in new_in old new answer)
   HasCause Run answer = domain.HaveDiffered words answer × (IsTrue tells → domain.HasCause words old_in new_in old new answer)
 
   -- what the files hold behind each answer
   abbrev pub Leaves : Command → Outcome → Type 0
-  Leaves Filter answer = capture.Leaves FilterTexts (output_names words) (input_name words) old_in new_in old new answer
-  Leaves Paths answer = capture.Leaves PathsTexts (output_names words) (input_name words) old_in new_in old new answer
-  Leaves Show answer = capture.Leaves ShowTexts (output_names words) (input_name words) old_in new_in old new answer
+  Leaves Filter answer = capture.Leaves capture.most_packets FilterTexts (output_names words) (input_name words) old_in new_in old new answer
+  Leaves Paths answer = capture.Leaves capture.most_packets PathsTexts (output_names words) (input_name words) old_in new_in old new answer
+  Leaves Show answer = capture.Leaves capture.most_packets ShowTexts (output_names words) (input_name words) old_in new_in old new answer
+  Leaves Node answer = node.Leaves words old_in new_in old new answer
   Leaves Run answer = domain.Leaves words old_in new_in old new answer
 
   -- the names that the words give to the opening calls: IN, unless two of them are equal, and a front
@@ -58,6 +62,7 @@ module _ (tells : Bool) (words : List (List ℕ)) (old_in new_in : Reading) (old
   Asks Filter answer = AsksNamed answer
   Asks Paths answer = AsksNamed answer
   Asks Show answer = AsksNamed answer
+  Asks Node answer = node.Asks words old_in new_in old new answer
   Asks Run answer = domain.Asks tells words old_in new_in old new answer
 
   -- where the names are refused nothing was opened; `run` has read DOMAIN and READINGS before, and
@@ -67,6 +72,7 @@ module _ (tells : Bool) (words : List (List ℕ)) (old_in new_in : Reading) (old
   IsUntouched Filter answer = OpensNothing answer → (new_in ≡ old_in) × (new ≡ old)
   IsUntouched Paths answer = OpensNothing answer → (new_in ≡ old_in) × (new ≡ old)
   IsUntouched Show answer = OpensNothing answer → (new_in ≡ old_in) × (new ≡ old)
+  IsUntouched Node answer = node.IsUntouched words old_in new_in old new answer × (new_in.side.slots < old_in.side.slots + 3 → new ≡ old)
   IsUntouched Run answer = (domain.IsRefusal answer → domain.OpensNone words old_in new_in old new) × (new_in.side.slots < old_in.side.slots + 2 → new ≡ old)
       × ((fault : DomainFault) → answer ≡ outcome.Domain fault → AsksFront old_in.side.asked new_in.side.asked (domain_file words ∷ []))
 
@@ -75,6 +81,7 @@ module _ (tells : Bool) (words : List (List ℕ)) (old_in new_in : Reading) (old
   AreDrained Filter = IsTrue (new_in.ended old_in.side.slots)
   AreDrained Paths = IsTrue (new_in.ended old_in.side.slots)
   AreDrained Show = IsTrue (new_in.ended old_in.side.slots)
+  AreDrained Node = node.AreDrained words old_in new_in old new
   AreDrained Run = domain.AreDrained words old_in new_in old new
 
   -- the answer comes once the outputs were written
@@ -82,12 +89,14 @@ module _ (tells : Bool) (words : List (List ℕ)) (old_in new_in : Reading) (old
   AreWritten Filter answer = IsBehindAll (old_in.side.slots < new_in.side.slots) answer
   AreWritten Paths answer = IsBehindAll (old_in.side.slots < new_in.side.slots) answer
   AreWritten Show answer = IsBehindAll (old_in.side.slots < new_in.side.slots) answer
+  AreWritten Node answer = IsBehindAll (old.side.slots < new.side.slots) answer
   AreWritten Run answer = IsBehindAll (old.side.slots < new.side.slots) answer
 
   -- what leaves a domain, in a capture, is one IPv6 packet a record, with a whole header chain without an IOAM option,
-  -- of at most 262,144 octets
+  -- of at most 262,144 octets; what `node` sends to a port is such a packet, but for its size
   abbrev pub IsBounded : Command → Type 0
   IsBounded Filter = IsSomeAnd (holds new (name_at words 2)) (IsCaptureOf MayLeave)
   IsBounded Paths = ⊤
   IsBounded Show = ⊤
+  IsBounded Node = node.IsBounded words old_in new_in old new
   IsBounded Run = domain.IsBounded words old_in new_in old new

@@ -10,6 +10,8 @@ pub enum Command {
     Paths,
     /// `show IN REPORT`
     Show,
+    /// `node DOMAIN READINGS NODE LINK IN OUT REPORT EXPORTS`
+    Node,
     /// `run DOMAIN READINGS WORKERS REPORT EXPORTS`, with one worker.
     Run,
 }
@@ -25,6 +27,7 @@ pub fn parse(words: &[Name]) -> Option<Command>
         [command, _, _, _] if command.text() == "filter" => Some(Command::Filter),
         [command, _, _] if command.text() == "paths" => Some(Command::Paths),
         [command, _, _] if command.text() == "show" => Some(Command::Show),
+        [command, _, _, _, _, _, _, _, _] if command.text() == "node" => Some(Command::Node),
         [command, _, _, workers, _, _] if command.text() == "run" && workers.text() == "1" => {
             Some(Command::Run)
         }

@@ -14,6 +14,7 @@ use ioam_answer::Outcome;
 use ioam_desk::{Desk, Name, SureDesk};
 use ioam_domain::run_domain;
 use ioam_run::{run_filter, run_paths, run_show};
+use ioam_transit::run_node;
 use std::alloc::Global;
 
 /// Runs the command that the words ask for over a desk, and answers.
@@ -45,13 +46,14 @@ pub fn ioam<D: Desk>(alloc: Global, words: &[Name], desk: &mut D) -> Outcome
     ensures kept_in { KeepsInputs (D.reading desk.old) (D.reading desk.new) }
     ensures kept_out { IsTrue D.tells → KeepsOutputs (D.writing desk.old) (D.writing desk.new) }
 
-    // What leaves a domain, in OUT of `filter` and the captures of the ports of `run`, is one IPv6 packet a record, with a whole header chain without an IOAM option, of at most 262,144 octets.
+    // What leaves a domain, in OUT of `filter` and the captures of the ports of `run`, is one IPv6 packet a record, with a whole header chain without an IOAM option, of at most 262,144 octets. What `node` sends to a port is such a packet too, but for its size.
     ensures boundary { (command : Command) → IsForm command words.now → AreWritten D.tells words.now (D.reading desk.old) (D.reading desk.new) (D.writing desk.old) (D.writing desk.new) command result → IsTrue D.tells → IsBounded D.tells words.now (D.reading desk.old) (D.reading desk.new) (D.writing desk.old) (D.writing desk.new) command }
 {
     match parse(words) {
         Some(Command::Filter) => run_filter(alloc, words, desk),
         Some(Command::Paths) => run_paths(alloc, words, desk),
         Some(Command::Show) => run_show(alloc, words, desk),
+        Some(Command::Node) => run_node(alloc, words, desk),
         Some(Command::Run) => run_domain(alloc, words, desk),
         None => Outcome::Usage,
     }

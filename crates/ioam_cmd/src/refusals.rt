@@ -5,7 +5,7 @@ pub struct Refusal {
     pub line: &'static str,
 }
 
-const REFUSALS: [Refusal; 12] = [
+const REFUSALS: [Refusal; 13] = [
     Refusal {
         words: &["paths", "a", "a"],
         line: "names a",
@@ -48,6 +48,10 @@ const REFUSALS: [Refusal; 12] = [
     },
     Refusal {
         words: &["Filter", "a", "b", "c"],
+        line: "usage",
+    },
+    Refusal {
+        words: &["node", "a", "r", "n", "l", "a", "b"],
         line: "usage",
     },
     Refusal {

@@ -13,6 +13,7 @@ use Rattle.ioam_answer.specs.declared.outcome.Outcome.{Outcome}
 use Rattle.ioam_answer.specs.declared.outcome.Outcome.TheVariants as outcome
 use Rattle.ioam_answer.specs.Outcomes.{IsDone}
 use Rattle.ioam_setting.proofs.NamesLaws.{apart-words}
+use Rattle.ioam_domain_file.specs.declared.extent.Extent.TheVariants.{Plain}
 use Rattle.ioam_setting.specs.Names.{input_ports}
 use Rattle.ioam_setting.specs.Setting.{Refuses}
 use Rattle.ioam_setting.specs.declared.setting.Refusal.{Refusal}
@@ -167,7 +168,7 @@ asks_none start new names is = (0, is ∙ sym (append-nil start))
 
 -- a refusal of what a run is set by
 module _ (tells : Bool) (words : List (List ℕ)) (old_in new_in : Reading) (old : Writing) where
-  pub refused_cause : (why : Refusal) → Refuses old (domain_file words) (readings_file words) tells old_in new_in why → IsTrue tells
+  pub refused_cause : (why : Refusal) → Refuses Plain old (domain_file words) (readings_file words) tells old_in new_in why → IsTrue tells
       → HasCause words old_in new_in old old (refused_as why)
   refused_cause (refusal.Domain fault) refuses told = refuses told
   refused_cause (refusal.Readings fault) refuses told = refuses told
@@ -193,7 +194,7 @@ module _ (tells : Bool) (words : List (List ℕ)) (old_in new_in : Reading) (old
   refused_domain refusal.ReadFault fault is = absurd (cc)
   refused_domain refusal.NoMemory fault is = absurd (cc)
 
-  pub refused_read : (why : Refusal) → Refuses old (domain_file words) (readings_file words) tells old_in new_in why
+  pub refused_read : (why : Refusal) → Refuses Plain old (domain_file words) (readings_file words) tells old_in new_in why
       → refused_as why ≡ outcome.ReadFault → Rose old_in.side.faults new_in.side.faults
   refused_read (refusal.Domain fault) refuses is = absurd (cc)
   refused_read (refusal.Readings fault) refuses is = absurd (cc)

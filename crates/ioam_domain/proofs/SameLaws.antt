@@ -1,11 +1,9 @@
 -- What a desk holds asks for one domain, and its captures for one order of arrivals.
-use Rattle.std.proofs.Common.{◌≡◌, ℕ, ◌≤◌, Bool, IsSomeAnd, List, [], ◌∷◌, ◌++◌, length, Option, Some, None, Ok, Err, refl, sym, ◌∙◌, ap, subst, length-append, arith}
-use Rattle.std.specs.Prelude.{map}
+use Rattle.std.proofs.Common.{◌≡◌, ℕ, ◌≤◌, Bool, List, [], ◌∷◌, ◌++◌, length, Option, refl, sym, ◌∙◌, ap, subst, length-append, arith}
 use Rattle.std.specs.List.{AllZip}
 use Rattle.std.proofs.lemmas.Option.{same_Some}
-use Rattle.ioam_clock.specs.Reading.{readings_of, node_names}
 use Rattle.ioam_clock.specs.declared.fault.ReadingsFault.{ReadingsFault}
-use Rattle.ioam_desk.specs.Desk.{Writing, holds}
+use Rattle.ioam_desk.specs.Desk.{Writing}
 use Rattle.ioam_merge.specs.Merging.{Begins, IsFile, FilesArrive, FilesBegin}
 use Rattle.ioam_pcap.specs.Arrives.{Handed, Arrives}
 use Rattle.ioam_pcap.specs.Merge.{Arrival}
@@ -14,20 +12,13 @@ use Rattle.ioam_pcap.proofs.ArrivesLaws.{Arrives-unique}
 use Rattle.ioam_pcap.proofs.MergeLaws.{TakesAll-total, Takes-append}
 use Rattle.ioam_setting.specs.Names.{input_names, file_names}
 use Rattle.ioam_setting.specs.Setting.{HasDomainFault, HasReadingsFault}
+use Rattle.ioam_setting.proofs.OnlyLaws as only
 use Rattle.ioam_domain_file.specs.declared.extent.Extent.TheVariants.{Plain}
-use Rattle.ioam_domain_file.specs.File.{IsDomainOf, HasFault, Agree}
-use Rattle.ioam_topo.specs.Keyed.{name_of_node}
+use Rattle.ioam_domain_file.specs.File.{Agree}
 use Rattle.ioam_topo.specs.declared.domain.Domain.{Domain}
 use Rattle.ioam_entries.specs.declared.fault.DomainFault.{DomainFault}
-use Rattle.ioam_topo.specs.declared.parts.Node.{Node}
 use Rattle.ioam_topo.specs.declared.parts.Port.{Port}
-use Rattle.ioam_domain_file.proofs.FileLaws.{one_domain, one_fault, domain_or_fault}
 use Rattle.ioam_domain.specs.Run.{IsSet, domain_file, readings_file, word_files, run_files, run_inputs}
-
--- what is held is both
-both : (held : Option (List ℕ)) (P Q : List ℕ → Type 0) → IsSomeAnd held P → IsSomeAnd held Q → (octets : List ℕ) × P octets × Q octets
-both None P Q x y = absurd x
-both (Some octets) P Q x y = (octets, x, y)
 
 same_handed : (f g : Handed) → f.octets ≡ g.octets → f.ended ≡ g.ended → f ≡ g
 same_handed f g octets ended =
@@ -79,66 +70,29 @@ FilesBegin-few contents xs ys last x y =
 module _ (desk : Writing) (words : List (List ℕ)) where
   -- one domain
   pub one_set : (a b : Domain) → IsSet desk words a → IsSet desk words b → Agree a b
-  one_set a b x y =
-      let it : (octets : List ℕ) × IsDomainOf Plain octets a × IsDomainOf Plain octets b
-      = both (holds desk (domain_file words)) (λ o. IsDomainOf Plain o a) (λ o. IsDomainOf Plain o b) x.setting.has_domain y.setting.has_domain in
-      one_domain Plain it.0 a b it.1 it.2
+  one_set a b x y = only.domains_agree Plain desk (domain_file words) (readings_file words) a b x.setting.has_domain y.setting.has_domain
 
   -- one fault of the domain's file
-  pub one_domain_fault : (f g : DomainFault) → HasDomainFault desk (domain_file words) (readings_file words) f
-      → HasDomainFault desk (domain_file words) (readings_file words) g → f ≡ g
-  one_domain_fault f g x y =
-      let it : (octets : List ℕ) × HasFault Plain octets f × HasFault Plain octets g = both (holds desk (domain_file words)) (λ o. HasFault Plain o f) (λ o. HasFault Plain o g) x y in
-      one_fault Plain it.0 f g it.1 it.2
-
-  fault_or_held : (domain : Domain) (f : DomainFault) → IsSomeAnd (holds desk (domain_file words)) (λ o. HasFault Plain o f)
-      → IsSomeAnd (holds desk (domain_file words)) (λ o. IsDomainOf Plain o domain) → ⊥
-  fault_or_held domain f x y =
-      let it : (octets : List ℕ) × HasFault Plain octets f × IsDomainOf Plain octets domain
-      = both (holds desk (domain_file words)) (λ o. HasFault Plain o f) (λ o. IsDomainOf Plain o domain) x y in
-      domain_or_fault Plain it.0 domain f it.2 it.1
+  pub one_domain_fault : (f g : DomainFault) → HasDomainFault Plain desk (domain_file words) (readings_file words) f
+      → HasDomainFault Plain desk (domain_file words) (readings_file words) g → f ≡ g
+  one_domain_fault f g x y = only.one_domain_fault Plain desk (domain_file words) (readings_file words) f g x y
 
   -- a fault of it, or a domain
-  pub fault_or_set : (domain : Domain) (f : DomainFault) → HasDomainFault desk (domain_file words) (readings_file words) f → IsSet desk words domain → ⊥
-  fault_or_set domain f x y = fault_or_held domain f x y.setting.has_domain
+  pub fault_or_set : (domain : Domain) (f : DomainFault) → HasDomainFault Plain desk (domain_file words) (readings_file words) f → IsSet desk words domain → ⊥
+  fault_or_set domain f x y = only.fault_or_domain Plain desk (domain_file words) (readings_file words) domain f x y.setting.has_domain
 
-  pub fault_or_readings : (f : DomainFault) (g : ReadingsFault) → HasDomainFault desk (domain_file words) (readings_file words) f
-      → HasReadingsFault desk (domain_file words) (readings_file words) g → ⊥
-  fault_or_readings f g x y = fault_or_held y.domain f x y.has_domain
-
-  same_names : (a b : Domain) → Agree a b → node_names a ≡ node_names b
-  same_names a b agree = ap (λ (ns : List Node). map name_of_node ns) agree.same_nodes
-
-  held_agree : (a b : Domain) → IsSomeAnd (holds desk (domain_file words)) (λ o. IsDomainOf Plain o a)
-      → IsSomeAnd (holds desk (domain_file words)) (λ o. IsDomainOf Plain o b) → Agree a b
-  held_agree a b x y =
-      let it : (octets : List ℕ) × IsDomainOf Plain octets a × IsDomainOf Plain octets b
-      = both (holds desk (domain_file words)) (λ o. IsDomainOf Plain o a) (λ o. IsDomainOf Plain o b) x y in
-      one_domain Plain it.0 a b it.1 it.2
+  pub fault_or_readings : (f : DomainFault) (g : ReadingsFault) → HasDomainFault Plain desk (domain_file words) (readings_file words) f
+      → HasReadingsFault Plain desk (domain_file words) (readings_file words) g → ⊥
+  fault_or_readings f g x y = only.fault_or_domain Plain desk (domain_file words) (readings_file words) y.domain f x y.has_domain
 
   -- one fault of the readings
-  pub one_readings_fault : (f g : ReadingsFault) → HasReadingsFault desk (domain_file words) (readings_file words) f
-      → HasReadingsFault desk (domain_file words) (readings_file words) g → f ≡ g
-  one_readings_fault f g x y =
-      let P : ReadingsFault → Domain → List ℕ → Type 0 = λ h d o. readings_of (node_names d) o ≡ Err h in
-      let it : (octets : List ℕ) × P f x.domain octets × P g y.domain octets = both (holds desk (readings_file words)) (P f x.domain) (P g y.domain) x.faulty y.faulty in
-      let same : readings_of (node_names x.domain) it.0 ≡ readings_of (node_names y.domain) it.0
-      = ap (λ ns. readings_of ns it.0) (same_names x.domain y.domain (held_agree x.domain y.domain x.has_domain y.has_domain)) in
-      let first = it.1 in
-      let second = it.2 in
-      cc
+  pub one_readings_fault : (f g : ReadingsFault) → HasReadingsFault Plain desk (domain_file words) (readings_file words) f
+      → HasReadingsFault Plain desk (domain_file words) (readings_file words) g → f ≡ g
+  one_readings_fault f g x y = only.one_readings_fault Plain desk (domain_file words) (readings_file words) f g x y
 
   -- a fault of them, or readings
-  pub readings_or_set : (domain : Domain) (f : ReadingsFault) → HasReadingsFault desk (domain_file words) (readings_file words) f → IsSet desk words domain → ⊥
-  readings_or_set domain f x y =
-      let P : List ℕ → Type 0 = λ o. readings_of (node_names x.domain) o ≡ Err f in
-      let Q : List ℕ → Type 0 = λ o. readings_of (node_names domain) o ≡ Ok y.samples in
-      let it : (octets : List ℕ) × P octets × Q octets = both (holds desk (readings_file words)) P Q x.faulty y.setting.has_readings in
-      let same : readings_of (node_names x.domain) it.0 ≡ readings_of (node_names domain) it.0
-      = ap (λ ns. readings_of ns it.0) (same_names x.domain domain (held_agree x.domain domain x.has_domain y.setting.has_domain)) in
-      let first = it.1 in
-      let second = it.2 in
-      cc
+  pub readings_or_set : (domain : Domain) (f : ReadingsFault) → HasReadingsFault Plain desk (domain_file words) (readings_file words) f → IsSet desk words domain → ⊥
+  readings_or_set domain f x y = only.fault_or_setting Plain desk (domain_file words) (readings_file words) domain y.samples f x y.setting
 
 -- domains that agree have the same files
 pub same_files : (words : List (List ℕ)) (a b : Domain) → Agree a b → run_files words a ≡ run_files words b

@@ -18,6 +18,7 @@ use Rattle.ioam_pcap.specs.declared.turns.Turn.TheVariants as turn
 use Rattle.ioam_answer.specs.Outcomes.{IsDone, IsBehindAll}
 use Rattle.ioam_answer.specs.declared.outcome.Outcome.{Outcome}
 use Rattle.ioam_answer.specs.declared.outcome.Outcome.TheVariants as outcome
+use Rattle.ioam_domain_file.specs.declared.extent.Extent.TheVariants.{Plain}
 use Rattle.ioam_setting.specs.Names.{input_names, input_ports, output_names, file_names}
 use Rattle.ioam_setting.specs.Setting.{HasDomainFault, HasReadingsFault, IsSetting}
 use Rattle.ioam_topo.specs.Domain.{ports}
@@ -58,7 +59,7 @@ module _ (desk : Writing) (words : List (List ℕ)) where
   -- DOMAIN holds this domain, and READINGS the readings of its nodes
   pub record IsSet (domain : Domain) : Type 0 where
     pub samples : List (List Sample)
-    pub setting : IsSetting desk (domain_file words) (readings_file words) domain samples
+    pub setting : IsSetting Plain desk (domain_file words) (readings_file words) domain samples
 
   -- and no two files of the run have one name
   pub record IsReady (domain : Domain) : Type 0 where
@@ -84,8 +85,8 @@ module _ (desk : Writing) (words : List (List ℕ)) where
   -- What the words and the files ask for, where nothing fails: the first of the refusals in their
   -- order whose condition holds, or Done.
   abbrev pub Asked : Outcome → Type 0
-  Asked (outcome.Domain fault) = HasDomainFault desk (domain_file words) (readings_file words) fault
-  Asked (outcome.Readings fault) = HasReadingsFault desk (domain_file words) (readings_file words) fault
+  Asked (outcome.Domain fault) = HasDomainFault Plain desk (domain_file words) (readings_file words) fault
+  Asked (outcome.Readings fault) = HasReadingsFault Plain desk (domain_file words) (readings_file words) fault
   Asked (outcome.Names name) = (domain : Domain) × IsSet domain
       × ((at : ℕ) × IsFirstRepeat (run_files words domain) at × (name ≡ name_at (run_files words domain) at))
   Asked (outcome.Packets limit) = (domain : Domain) × IsReady domain × (limit ≡ domain.packets) × Exceeds domain

@@ -20,14 +20,14 @@ use Rattle.ioam_pcap.specs.Text.{Sends, IsSendable, IsCaptureOf}
 use Rattle.ioam_pcap.specs.declared.form.Link.{Link}
 use Rattle.ioam_run.specs.FilterText.{Filtered, FilterTexts, kept_of}
 use Rattle.ioam_answer.specs.Outcomes.{IsBehindAll}
-use Rattle.ioam_run.specs.Run.{HasCause, Asked, IsInput, IsLong, HoldsAll, EndsSo, ArePassed, AreWhole, Leaves, output_names}
+use Rattle.ioam_run.specs.Run.{most_packets, HasCause, Asked, IsInput, IsLong, HoldsAll, EndsSo, ArePassed, AreWhole, Leaves, output_names}
 use Rattle.ioam_pcap.specs.Link.{is_ethernet}
 use Rattle.ioam_run.specs.Verdict.{Verdict, Keeps, Drops, FramingVerdict, AreVerdicts, entry_framing}
 use Rattle.ioam_node.specs.declared.reason.Reason.{Reason}
 use Rattle.ioam_answer.specs.declared.outcome.Outcome.{Outcome}
 use Rattle.ioam_answer.specs.declared.outcome.Outcome.TheVariants as outcome
 
-not_apart : (names : List (List ℕ)) (at : ℕ) → IsFirstRepeat names at → AreApart names → ⊥
+pub not_apart : (names : List (List ℕ)) (at : ℕ) → IsFirstRepeat names at → AreApart names → ⊥
 not_apart names at first apart = apart at first.inside first.repeats
 
 -- what is held is both
@@ -35,20 +35,23 @@ both : (held : Option (List ℕ)) (P Q : List ℕ → Type 0) → IsSomeAnd held
 both None P Q x y = absurd x
 both (Some octets) P Q x y = (octets, x, y)
 
-ending_unique : (octets : List ℕ) (d e : Ending) → IsInput d octets → IsInput e octets → d ≡ e
-ending_unique octets d e x y = (Reads-unique octets x.link y.link x.entries y.entries d e x.reads y.reads).2
+module _ (most : ℕ) where
+  ending_unique : (octets : List ℕ) (d e : Ending) → IsInput most d octets → IsInput most e octets → d ≡ e
+  ending_unique octets d e x y = (Reads-unique octets x.link y.link x.entries y.entries d e x.reads y.reads).2
 
-held_ending : (held : Option (List ℕ)) (d e : Ending) → IsSomeAnd held (IsInput d) → IsSomeAnd held (IsInput e) → d ≡ e
-held_ending held d e x y = let it : (octets : List ℕ) × IsInput d octets × IsInput e octets = both held (IsInput d) (IsInput e) x y in
-    ending_unique it.0 d e it.1 it.2
+  -- what is held ends in one way
+  pub held_ending : (held : Option (List ℕ)) (d e : Ending) → IsSomeAnd held (IsInput most d) → IsSomeAnd held (IsInput most e) → d ≡ e
+  held_ending held d e x y = let it : (octets : List ℕ) × IsInput most d octets × IsInput most e octets = both held (IsInput most d) (IsInput most e) x y in
+      ending_unique it.0 d e it.1 it.2
 
-too_long : (held : Option (List ℕ)) (d : Ending) → IsSomeAnd held IsLong → IsSomeAnd held (IsInput d) → ⊥
-too_long held d x y =
-    let it : (octets : List ℕ) × IsLong octets × IsInput d octets = both held IsLong (IsInput d) x y in
-    let same = (Reads-unique it.0 it.1.link it.2.link it.1.entries it.2.entries it.1.ending d it.1.reads it.2.reads).1 in
-    omega (arith, it.1.many, it.2.few, ap (λ (es : List Entry). length es) same)
+  -- and has too many records or not
+  pub too_long : (held : Option (List ℕ)) (d : Ending) → IsSomeAnd held (IsLong most) → IsSomeAnd held (IsInput most d) → ⊥
+  too_long held d x y =
+      let it : (octets : List ℕ) × IsLong most octets × IsInput most d octets = both held (IsLong most) (IsInput most d) x y in
+      let same = (Reads-unique it.0 it.1.link it.2.link it.1.entries it.2.entries it.1.ending d it.1.reads it.2.reads).1 in
+      omega (arith, it.1.many, it.2.few, ap (λ (es : List Entry). length es) same)
 
-whole_or_faulty : (at : ℕ) (fault : _) → Whole ≡ Faulty at fault → ⊥
+pub whole_or_faulty : (at : ℕ) (fault : _) → Whole ≡ Faulty at fault → ⊥
 whole_or_faulty at fault same = cc
 
 module _ (tells : Bool) (desk : Writing) (names : List (List ℕ)) (input : List ℕ) (told : IsTrue tells) where
@@ -61,8 +64,8 @@ module _ (tells : Bool) (desk : Writing) (names : List (List ℕ)) (input : List
   Asked-unique outcome.NoMemory b x y = absurd x
   Asked-unique outcome.Done outcome.Done x y = refl
   Asked-unique outcome.Done (outcome.Names name) x y = absurd (not_apart names y.0 y.1 x.0)
-  Asked-unique outcome.Done (outcome.Packets limit) x y = absurd (too_long (holds desk input) Whole (y.2 told) (x.1 told))
-  Asked-unique outcome.Done (outcome.Capture name at fault) x y = absurd (whole_or_faulty at fault (held_ending (holds desk input) Whole (Faulty at fault) (x.1 told) (y.2 told)))
+  Asked-unique outcome.Done (outcome.Packets limit) x y = absurd (too_long most_packets (holds desk input) Whole (y.2 told) (x.1 told))
+  Asked-unique outcome.Done (outcome.Capture name at fault) x y = absurd (whole_or_faulty at fault (held_ending most_packets (holds desk input) Whole (Faulty at fault) (x.1 told) (y.2 told)))
   Asked-unique outcome.Done outcome.Usage x y = absurd y
   Asked-unique outcome.Done (outcome.Domain why) x y = absurd y
   Asked-unique outcome.Done (outcome.Readings why) x y = absurd y
@@ -81,21 +84,21 @@ module _ (tells : Bool) (desk : Writing) (names : List (List ℕ)) (input : List
   Asked-unique (outcome.Names name) outcome.ReadFault x y = absurd y
   Asked-unique (outcome.Names name) outcome.WriteFault x y = absurd y
   Asked-unique (outcome.Names name) outcome.NoMemory x y = absurd y
-  Asked-unique (outcome.Packets limit) outcome.Done x y = absurd (too_long (holds desk input) Whole (x.2 told) (y.1 told))
+  Asked-unique (outcome.Packets limit) outcome.Done x y = absurd (too_long most_packets (holds desk input) Whole (x.2 told) (y.1 told))
   Asked-unique (outcome.Packets limit) (outcome.Names name) x y = absurd (not_apart names y.0 y.1 x.0)
   Asked-unique (outcome.Packets limit) (outcome.Packets other) x y = ap outcome.Packets (x.1 ∙ sym y.1)
-  Asked-unique (outcome.Packets limit) (outcome.Capture name at fault) x y = absurd (too_long (holds desk input) (Faulty at fault) (x.2 told) (y.2 told))
+  Asked-unique (outcome.Packets limit) (outcome.Capture name at fault) x y = absurd (too_long most_packets (holds desk input) (Faulty at fault) (x.2 told) (y.2 told))
   Asked-unique (outcome.Packets limit) outcome.Usage x y = absurd y
   Asked-unique (outcome.Packets limit) (outcome.Domain why) x y = absurd y
   Asked-unique (outcome.Packets limit) (outcome.Readings why) x y = absurd y
   Asked-unique (outcome.Packets limit) outcome.ReadFault x y = absurd y
   Asked-unique (outcome.Packets limit) outcome.WriteFault x y = absurd y
   Asked-unique (outcome.Packets limit) outcome.NoMemory x y = absurd y
-  Asked-unique (outcome.Capture name at fault) outcome.Done x y = absurd (whole_or_faulty at fault (held_ending (holds desk input) Whole (Faulty at fault) (y.1 told) (x.2 told)))
+  Asked-unique (outcome.Capture name at fault) outcome.Done x y = absurd (whole_or_faulty at fault (held_ending most_packets (holds desk input) Whole (Faulty at fault) (y.1 told) (x.2 told)))
   Asked-unique (outcome.Capture name at fault) (outcome.Names other) x y = absurd (not_apart names y.0 y.1 x.0)
-  Asked-unique (outcome.Capture name at fault) (outcome.Packets limit) x y = absurd (too_long (holds desk input) (Faulty at fault) (y.2 told) (x.2 told))
+  Asked-unique (outcome.Capture name at fault) (outcome.Packets limit) x y = absurd (too_long most_packets (holds desk input) (Faulty at fault) (y.2 told) (x.2 told))
   Asked-unique (outcome.Capture name at fault) (outcome.Capture other place cause) x y =
-      let same : Faulty at fault ≡ Faulty place cause = held_ending (holds desk input) (Faulty at fault) (Faulty place cause) (x.2 told) (y.2 told) in
+      let same : Faulty at fault ≡ Faulty place cause = held_ending most_packets (holds desk input) (Faulty at fault) (Faulty place cause) (x.2 told) (y.2 told) in
       let named : name ≡ other = x.1 ∙ sym y.1 in
       cc
   Asked-unique (outcome.Capture name at fault) outcome.Usage x y = absurd y
@@ -178,7 +181,7 @@ AreShort Are = (link : Option Link) (entries : List Entry) (octets : List ℕ) �
 ends_short : (ending : Ending) → AreShort (EndsSo ending)
 ends_short ending link entries octets reads = Reads-short octets link entries ending reads
 
-passed_short : AreShort ArePassed
+passed_short : AreShort (ArePassed most_packets)
 passed_short link entries octets passed = front-short entries passed.first.rest
     (Reads-short octets link (entries ++ passed.first.rest) passed.first.ending passed.first.reads)
 
@@ -186,19 +189,19 @@ whole_short : (left : List ℕ) → AreShort (AreWhole left)
 whole_short left link entries octets whole = Reached-short whole.handed whole.form entries whole.at whole.reached
 
 from_held : (held : Option (List ℕ)) (Are : Option Link → List Entry → List ℕ → Type 0) (output report : List ℕ) (new : Writing) → AreShort Are
-    → IsSomeAnd held (HoldsAll FilterTexts (output ∷ report ∷ []) Are new) → IsSomeAnd (holds new output) (IsCaptureOf MayLeave)
+    → IsSomeAnd held (HoldsAll most_packets FilterTexts (output ∷ report ∷ []) Are new) → IsSomeAnd (holds new output) (IsCaptureOf MayLeave)
 from_held None Are output report new short all = absurd all
 from_held (Some octets) Are output report new short all =
     leaving_held (is_ethernet all.link) all.entries all.texts output report new (short all.link all.entries octets all.are) all.texts_are all.held
 
 -- each packet in OUT may leave a domain
 module _ (input output report : List ℕ) (old_in new_in : Reading) (old new : Writing) where
-  pub Leaves-bounded : (answer : Outcome) → Leaves FilterTexts (output ∷ report ∷ []) input old_in new_in old new answer
+  pub Leaves-bounded : (answer : Outcome) → Leaves most_packets FilterTexts (output ∷ report ∷ []) input old_in new_in old new answer
       → IsBehindAll (old_in.side.slots < new_in.side.slots) answer → IsSomeAnd (holds new output) (IsCaptureOf MayLeave)
   Leaves-bounded outcome.Done leaves behind = from_held (holds old input) (EndsSo Whole) output report new (ends_short Whole) leaves
   Leaves-bounded (outcome.Capture name at fault) leaves behind =
       from_held (holds old input) (EndsSo (Faulty at fault)) output report new (ends_short (Faulty at fault)) leaves
-  Leaves-bounded (outcome.Packets limit) leaves behind = from_held (holds old input) ArePassed output report new passed_short leaves
+  Leaves-bounded (outcome.Packets limit) leaves behind = from_held (holds old input) (ArePassed most_packets) output report new passed_short leaves
   Leaves-bounded outcome.ReadFault leaves behind = ⊎_elim (λ unopened. absurd (omega (arith, unopened.0, behind)))
       (λ held. from_held (holds old input) (AreWhole (new_in.left old_in.side.slots)) output report new (whole_short (new_in.left old_in.side.slots)) held.1) leaves
   Leaves-bounded outcome.Usage leaves behind = absurd behind

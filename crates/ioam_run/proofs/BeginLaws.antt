@@ -25,6 +25,13 @@ Adds-length [] (after ∷ new) added adds = absurd adds
 Adds-length (before ∷ old) [] added adds = absurd adds
 Adds-length (before ∷ old) (after ∷ new) [] adds = absurd adds
 
+-- what began is what takes no record yet
+pub begins_same : {G : Type 0} (gathers : G → Bool → List Entry → List (List ℕ) → G → Type 0) (Fresh : G → Type 0) (heads : List (List ℕ))
+    → ((begun : G) → Fresh begun → (e : Bool) → gathers begun e [] heads begun) → (begun now : G) → begun ≡ now → Fresh now
+    → (e : Bool) → gathers begun e [] heads now
+begins_same {G} gathers Fresh heads begins begun now same fresh =
+    let P : G → Type 0 = λ b. (e : Bool) → gathers b e [] heads now in subst P (sym same) (begins now fresh)
+
 -- the texts of no records were told
 pub Streams-begin : {G : Type 0} (gathers : Bool → List Entry → List (List ℕ) → G → Type 0) (count : G → ℕ) (tells : Bool) (start : Start)
     (inputs : desk.Reading) (outputs : Writing) (slot : ℕ) (reader : Reading) (gathered : G) (old tellers : List Output) (heads : List (List ℕ))
@@ -69,14 +76,14 @@ Sticks-begin tells start Texts empty inputs outputs slot reader old of_none size
     })
 
 -- not all outputs were opened
-pub unwritten : (Texts : Bool → List Entry → List (List ℕ) → Type 0) (empty names : List (List ℕ)) (old mid new : Writing) (held : Option (List ℕ)) (left : List ℕ)
+pub unwritten : (most : ℕ) (Texts : Bool → List Entry → List (List ℕ) → Type 0) (empty names : List (List ℕ)) (old mid new : Writing) (held : Option (List ℕ)) (left : List ℕ)
     → ((e : Bool) → Texts e [] empty) → length empty ≡ length names → held ≡ Some left → mid ≡ old
     → ((texts : List (List ℕ)) → length texts ≡ length names → HoldFronts mid new 0 names texts)
-    → IsSomeAnd held (HoldsFronts Texts names old new)
-unwritten Texts empty names old mid new held left of_none sized is same fronts =
+    → IsSomeAnd held (HoldsFronts most Texts names old new)
+unwritten most Texts empty names old mid new held left of_none sized is same fronts =
     let (link, first, which) = reached_first [] left None [] 0 (refl, refl) in
     let P : Writing → Type 0 = λ w. HoldFronts w new 0 names empty in
-    held_so held left (HoldsFronts Texts names old new) is (record {
+    held_so held left (HoldsFronts most Texts names old new) is (record {
       link = link;
       entries = [];
       texts = empty;
@@ -87,18 +94,18 @@ unwritten Texts empty names old mid new held left of_none sized is same fronts =
     })
 
 -- where the files were opened
-pub Fed-start : (tells : Bool) (start : Start) (content : Option (List ℕ)) (base : ℕ) (names : List (List ℕ)) (inputs now : desk.Reading) (slot : ℕ) (reader : Reading)
-    → start ≡ record { content = content; base = base; names = names } → now ≡ inputs
+pub Fed-start : (tells : Bool) (start : Start) (content : Option (List ℕ)) (base limit : ℕ) (names : List (List ℕ)) (inputs now : desk.Reading) (slot : ℕ) (reader : Reading)
+    → start ≡ record { content = content; base = base; names = names; limit = limit } → now ≡ inputs
     → Fed tells content inputs slot reader [] [] → Fed tells start.content now slot reader [] []
-Fed-start tells start content base names inputs now slot reader is same given =
+Fed-start tells start content base limit names inputs now slot reader is same given =
     let P : Option (List ℕ) → Type 0 = λ c. Fed tells c now slot reader [] [] in
     let Q : desk.Reading → Type 0 = λ r. Fed tells content r slot reader [] [] in
     subst P (sym (ap (λ (s : Start). s.content) is)) (subst Q (sym same) given)
 
-pub told_start : (tells : Bool) (start : Start) (content : Option (List ℕ)) (base slot : ℕ) (names : List (List ℕ)) (outputs : Writing) (items tellers : List Output)
-    → start ≡ record { content = content; base = base; names = names } → slot ≡ base → tellers ≡ items
+pub told_start : (tells : Bool) (start : Start) (content : Option (List ℕ)) (base limit slot : ℕ) (names : List (List ℕ)) (outputs : Writing) (items tellers : List Output)
+    → start ≡ record { content = content; base = base; names = names; limit = limit } → slot ≡ base → tellers ≡ items
     → AreTold tells outputs slot names items (unsaid names) → AreTold tells outputs start.base start.names tellers (unsaid start.names)
-told_start tells start content base slot names outputs items tellers is number same told =
+told_start tells start content base limit slot names outputs items tellers is number same told =
     let P : Start → Type 0 = λ s. AreTold tells outputs s.base s.names tellers (unsaid s.names) in
     let Q : ℕ → Type 0 = λ k. AreTold tells outputs k names tellers (unsaid names) in
     let R : List Output → Type 0 = λ o. AreTold tells outputs slot names o (unsaid names) in

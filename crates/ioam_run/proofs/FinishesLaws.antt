@@ -34,7 +34,7 @@ module _ {G : Type 0} (gathers : Bool → List Entry → List (List ℕ) → G �
   pub Stops-open : (answer : Outcome) → (IsBroken answer → ⊥) → Stopped answer → AreOpen mid_out tellers × (mid_out.side ≡ old_out.side)
   Stops-open outcome.Done whole stops = (halted (EndsSo Whole) stops.0.0, stops.0.1)
   Stops-open (outcome.Capture name at fault) whole stops = (halted (EndsSo (Faulty at fault)) stops.1.0, stops.1.1)
-  Stops-open (outcome.Packets limit) whole stops = (halted ArePassed stops.1.0, stops.1.1)
+  Stops-open (outcome.Packets limit) whole stops = (halted (ArePassed start.limit) stops.1.0, stops.1.1)
   Stops-open outcome.ReadFault whole stops = (halted (AreWhole (new_in.left slot)) stops.1.0, stops.1.1)
   Stops-open outcome.WriteFault whole stops = absurd (whole tt)
   Stops-open outcome.NoMemory whole stops = absurd (whole tt)
@@ -48,8 +48,8 @@ module _ {G : Type 0} (gathers : Bool → List Entry → List (List ℕ) → G �
         → HoldTexts now names (said_more texts (sums gathered))) where
       -- all was written
       written : (Are : Option Link → List Entry → List ℕ → Type 0) → Halts gathers count tells start Are mid_out gathered tellers
-          → IsTrue tells → IsSomeAnd start.content (HoldsAll Texts start.names Are now)
-      written Are halts = λ told. held_map start.content (Are halts.link halts.entries) (HoldsAll Texts start.names Are now)
+          → IsTrue tells → IsSomeAnd start.content (HoldsAll start.limit Texts start.names Are now)
+      written Are halts = λ told. held_map start.content (Are halts.link halts.entries) (HoldsAll start.limit Texts start.names Are now)
           (λ octets are. record {
             link = halts.link;
             entries = halts.entries;
@@ -64,7 +64,7 @@ module _ {G : Type 0} (gathers : Bool → List Entry → List (List ℕ) → G �
           → Finishes tells start Texts input slot old_in new_in old_out now answer
       Finishes-written outcome.Done whole stops = (written (EndsSo Whole) stops.0.0, stops.1)
       Finishes-written (outcome.Capture name at fault) whole stops = (stops.0, written (EndsSo (Faulty at fault)) stops.1.0)
-      Finishes-written (outcome.Packets limit) whole stops = (stops.0, written ArePassed stops.1.0)
+      Finishes-written (outcome.Packets limit) whole stops = (stops.0, written (ArePassed start.limit) stops.1.0)
       Finishes-written outcome.ReadFault whole stops = (stops.0, written (AreWhole (new_in.left slot)) stops.1.0)
       Finishes-written outcome.WriteFault whole stops = absurd (whole tt)
       Finishes-written outcome.NoMemory whole stops = absurd (whole tt)
@@ -83,7 +83,7 @@ module _ {G : Type 0} (gathers : Bool → List Entry → List (List ℕ) → G �
       pub Stops-sticks : (answer : Outcome) → (IsBroken answer → ⊥) → Stopped answer → Sticks tells start Texts now
       Stops-sticks outcome.Done whole stops = broken (EndsSo Whole) (begins_ends Whole) stops.0.0
       Stops-sticks (outcome.Capture name at fault) whole stops = broken (EndsSo (Faulty at fault)) (begins_ends (Faulty at fault)) stops.1.0
-      Stops-sticks (outcome.Packets limit) whole stops = broken ArePassed begins_passed stops.1.0
+      Stops-sticks (outcome.Packets limit) whole stops = broken (ArePassed start.limit) (begins_passed start.limit) stops.1.0
       Stops-sticks outcome.ReadFault whole stops = broken (AreWhole (new_in.left slot)) (begins_whole (new_in.left slot)) stops.1.0
       Stops-sticks outcome.WriteFault whole stops = absurd (whole tt)
       Stops-sticks outcome.NoMemory whole stops = absurd (whole tt)
@@ -96,25 +96,25 @@ module _ {G : Type 0} (gathers : Bool → List Entry → List (List ℕ) → G �
 module _ (tells : Bool) (start : Start) (Texts : Bool → List Entry → List (List ℕ) → Type 0) (input : List ℕ) (slot : ℕ)
     (first_in old_in new_in : desk.Reading) (first_out old_out new_out : Writing) (content : start.content ≡ holds first_out input) where
   holds_so : (Are : Option Link → List Entry → List ℕ → Type 0) (P : List ℕ → Type 0)
-      → ((octets : List ℕ) → HoldsAll Texts start.names Are new_out octets → P octets)
-      → (IsTrue tells → IsSomeAnd start.content (HoldsAll Texts start.names Are new_out)) → IsTrue tells → IsSomeAnd (holds first_out input) P
+      → ((octets : List ℕ) → HoldsAll start.limit Texts start.names Are new_out octets → P octets)
+      → (IsTrue tells → IsSomeAnd start.content (HoldsAll start.limit Texts start.names Are new_out)) → IsTrue tells → IsSomeAnd (holds first_out input) P
   holds_so Are P f all told =
       let Q : Option (List ℕ) → Type 0 = λ o. IsSomeAnd o P in
-      subst Q content (held_map start.content (HoldsAll Texts start.names Are new_out) P f (all told))
+      subst Q content (held_map start.content (HoldsAll start.limit Texts start.names Are new_out) P f (all told))
 
   pub Finishes-cause : old_in.side.faults ≡ first_in.side.faults → old_out.side.faults ≡ first_out.side.faults
       → (answer : Outcome) → Finishes tells start Texts input slot old_in new_in old_out new_out answer
-      → FileCause tells input first_in first_out new_in new_out answer
-  Finishes-cause reads writes outcome.Done finishes = holds_so (EndsSo Whole) (IsInput Whole)
+      → FileCause start.limit tells input first_in first_out new_in new_out answer
+  Finishes-cause reads writes outcome.Done finishes = holds_so (EndsSo Whole) (IsInput start.limit Whole)
       (λ octets all. record { link = all.link; entries = all.entries; reads = all.are; few = all.few }) finishes.0
   Finishes-cause reads writes (outcome.Capture name at fault) finishes = (
     finishes.0,
-    holds_so (EndsSo (Faulty at fault)) (IsInput (Faulty at fault))
+    holds_so (EndsSo (Faulty at fault)) (IsInput start.limit (Faulty at fault))
         (λ octets all. record { link = all.link; entries = all.entries; reads = all.are; few = all.few }) finishes.1,
   )
   Finishes-cause reads writes (outcome.Packets limit) finishes = (
     finishes.0,
-    holds_so ArePassed IsLong
+    holds_so (ArePassed start.limit) (IsLong start.limit)
         (λ octets all. record {
           link = all.link;
           entries = all.entries ++ all.are.first.rest;
@@ -132,14 +132,14 @@ module _ (tells : Bool) (start : Start) (Texts : Bool → List Entry → List (L
   Finishes-cause reads writes (outcome.Names name) finishes = absurd finishes
 
 -- what the files hold
-module _ (tells : Bool) (base : ℕ) (names : List (List ℕ)) (Texts : Bool → List Entry → List (List ℕ) → Type 0) (input : List ℕ) (slot : ℕ)
+module _ (tells : Bool) (base limit : ℕ) (names : List (List ℕ)) (Texts : Bool → List Entry → List (List ℕ) → Type 0) (input : List ℕ) (slot : ℕ)
     (first_in old_in new_in : desk.Reading) (first_out old_out new_out : Writing) (told : IsTrue tells)
     (number : slot ≡ first_in.side.slots) (opened : first_in.side.slots < new_in.side.slots) where
   abbrev begun : Start
-  begun = record { content = holds first_out input; base = base; names = names }
+  begun = record { content = holds first_out input; base = base; names = names; limit = limit }
 
-  fronts_held : IsSomeAnd (holds first_out input) (Fronts tells begun Texts new_out) → IsSomeAnd (holds first_out input) (HoldsFronts Texts names first_out new_out)
-  fronts_held = held_map (holds first_out input) (Fronts tells begun Texts new_out) (HoldsFronts Texts names first_out new_out)
+  fronts_held : IsSomeAnd (holds first_out input) (Fronts tells begun Texts new_out) → IsSomeAnd (holds first_out input) (HoldsFronts limit Texts names first_out new_out)
+  fronts_held = held_map (holds first_out input) (Fronts tells begun Texts new_out) (HoldsFronts limit Texts names first_out new_out)
       (λ octets fronts. record {
         link = fronts.link;
         entries = fronts.entries;
@@ -151,12 +151,12 @@ module _ (tells : Bool) (base : ℕ) (names : List (List ℕ)) (Texts : Bool →
       })
 
   pub Finishes-leaves : (answer : Outcome) → Finishes tells begun Texts input slot old_in new_in old_out new_out answer
-      → Leaves Texts names input first_in new_in first_out new_out answer
+      → Leaves limit Texts names input first_in new_in first_out new_out answer
   Finishes-leaves outcome.Done finishes = finishes.0 told
   Finishes-leaves (outcome.Capture name at fault) finishes = finishes.1 told
   Finishes-leaves (outcome.Packets limit) finishes = finishes.1 told
   Finishes-leaves outcome.ReadFault finishes =
-      let P : ℕ → Type 0 = λ k. IsSomeAnd (holds first_out input) (HoldsAll Texts names (AreWhole (new_in.left k)) new_out) in
+      let P : ℕ → Type 0 = λ k. IsSomeAnd (holds first_out input) (HoldsAll limit Texts names (AreWhole (new_in.left k)) new_out) in
       inr (opened, subst P number (finishes.1 told))
   Finishes-leaves outcome.WriteFault finishes = fronts_held (finishes.1 told)
   Finishes-leaves outcome.NoMemory finishes = inr (fronts_held (finishes told))

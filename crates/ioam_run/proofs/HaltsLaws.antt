@@ -14,7 +14,7 @@ use Rattle.ioam_pcap.specs.Reads.{Ending, Faulty, Reads}
 use Rattle.ioam_pcap.specs.Reader.{Stands, Waits, link_of}
 use Rattle.ioam_pcap.proofs.StandsLaws.{CutAt-waits}
 use Rattle.ioam_outputs.proofs.ToldLaws.{told_names}
-use Rattle.ioam_run.specs.Run.{most_packets, EndsSo, ArePassed, AreWhole}
+use Rattle.ioam_run.specs.Run.{EndsSo, ArePassed, AreWhole}
 use Rattle.ioam_pcap.specs.Link.{is_ethernet}
 use Rattle.ioam_run.specs.Streams.{Start, Streams, Steps, Halts, Pauses, Fronts, Sticks}
 use Rattle.ioam_run.specs.declared.step.Pause.{Pause}
@@ -61,9 +61,9 @@ module _ {G : Type 0} (gathers : Bool → List Entry → List (List ℕ) → G �
     halts_bad at f bad = halts (EndsSo (Faulty at f)) (bad streams.octets streams.entries streams.given.stands (inputs.left slot))
 
     -- there is a record past the limit
-    pub halts_limit : (new : Reading) → most_packets ≤ count gathered → link_of new ≡ link_of reader
+    pub halts_limit : (new : Reading) → start.limit ≤ count gathered → link_of new ≡ link_of reader
         → (entry : Entry) × ((octets : List ℕ) (entries : List Entry) → Stands reader octets entries → Stands new octets (entries ++ entry ∷ []))
-        → Halts gathers count tells start ArePassed outputs gathered tellers
+        → Halts gathers count tells start (ArePassed start.limit) outputs gathered tellers
     halts_limit new full same next =
         let stands : Stands new streams.octets (streams.entries ++ next.0 ∷ []) = next.1 streams.octets streams.entries streams.given.stands in
         let (link, first, which) = reached_first streams.octets (inputs.left slot) new.form (streams.entries ++ next.0 ∷ []) new.start stands.reached in
@@ -71,7 +71,7 @@ module _ {G : Type 0} (gathers : Bool → List Entry → List (List ℕ) → G �
         (λ none. absurd (omega (arith, length-append streams.entries (next.0 ∷ []), ap (λ (es : List Entry). length es) none))) which in
         let P : Option Link → Type 0 = λ l. Reads (streams.octets ++ inputs.left slot) l (streams.entries ++ (next.0 ∷ first.rest)) first.ending in
         let Q : List Entry → Type 0 = λ es. Reads (streams.octets ++ inputs.left slot) link es first.ending in
-        halts ArePassed (record {
+        halts (ArePassed start.limit) (record {
           first = record {
             rest = next.0 ∷ first.rest;
             ending = first.ending;
@@ -140,18 +140,18 @@ module _ {G : Type 0} (gathers : Bool → List Entry → List (List ℕ) → G �
     Streams-fronts told = AreTold-fronts tells outputs start.base start.names tellers streams.texts told streams.told
 
   -- a step that takes nothing leaves the outputs as they are
-  pub Steps-still : (old new : Reading) (ethernet later : Bool) (before after : G) (tellers now : List Output) (pause : Pause)
-      → Steps gathers count old new ethernet later before after tellers now (Some pause) → now ≡ tellers
-  Steps-still old new ethernet later before after tellers now pause.More steps = steps.0.2
-  Steps-still old new ethernet later before after tellers now (pause.Bad at fault) steps = steps.0.2
-  Steps-still old new ethernet later before after tellers now pause.Limit steps = steps.0.2
+  pub Steps-still : (limit : ℕ) (old new : Reading) (ethernet later : Bool) (before after : G) (tellers now : List Output) (pause : Pause)
+      → Steps gathers count limit old new ethernet later before after tellers now (Some pause) → now ≡ tellers
+  Steps-still limit old new ethernet later before after tellers now pause.More steps = steps.0.2
+  Steps-still limit old new ethernet later before after tellers now (pause.Bad at fault) steps = steps.0.2
+  Steps-still limit old new ethernet later before after tellers now pause.Limit steps = steps.0.2
 
   -- what stopped the taking
-  pub Pauses-step : (inputs : desk.Reading) (outputs : Writing) (s : Stream G) (now : List Output) (reader : Reading) (ethernet : Bool) (gathered : G) (tellers : List Output) (pause : Pause)
+  pub Pauses-step : (inputs : desk.Reading) (outputs : Writing) (s : Stream G) (now : List Output) (reader : Reading) (ethernet : Bool) (gathered : G) (tellers : List Output) (pause : Pause) (limit : ℕ) → start.limit ≡ limit
       → Streams gathers count tells start inputs outputs s.feed.slot reader ethernet gathered tellers
-      → Steps gathers count reader s.feed.reader ethernet s.ethernet gathered s.gathered tellers now (Some pause)
+      → Steps gathers count limit reader s.feed.reader ethernet s.ethernet gathered s.gathered tellers now (Some pause)
       → Pauses gathers count tells start inputs outputs s now pause
-  Pauses-step inputs outputs s now reader ethernet gathered tellers pause.More streams steps =
+  Pauses-step inputs outputs s now reader ethernet gathered tellers pause.More limit so streams steps =
       let P : Reading → Type 0 = λ r. Streams gathers count tells start inputs outputs s.feed.slot r ethernet gathered tellers in
       let Q : Bool → Type 0 = λ e. Streams gathers count tells start inputs outputs s.feed.slot s.feed.reader e gathered tellers in
       let R : G → Type 0 = λ g. Streams gathers count tells start inputs outputs s.feed.slot s.feed.reader s.ethernet g tellers in
@@ -160,9 +160,9 @@ module _ {G : Type 0} (gathers : Bool → List Entry → List (List ℕ) → G �
         subst S (sym steps.0.2) (subst R (sym steps.0.1) (subst Q (sym steps.0.0) (subst P (sym steps.1) streams))),
         subst W (sym steps.1) steps.2,
       )
-  Pauses-step inputs outputs s now reader ethernet gathered tellers (pause.Bad at fault) streams steps =
+  Pauses-step inputs outputs s now reader ethernet gathered tellers (pause.Bad at fault) limit so streams steps =
       same_halts (EndsSo (Faulty at fault)) outputs gathered s.gathered tellers now steps.0.1 steps.0.2
       (halts_bad inputs outputs s.feed.slot reader ethernet gathered tellers streams at fault steps.2)
-  Pauses-step inputs outputs s now reader ethernet gathered tellers pause.Limit streams steps =
-      same_halts ArePassed outputs gathered s.gathered tellers now steps.0.1 steps.0.2
-      (halts_limit inputs outputs s.feed.slot reader ethernet gathered tellers streams s.feed.reader steps.1 steps.2 steps.3)
+  Pauses-step inputs outputs s now reader ethernet gathered tellers pause.Limit limit so streams steps =
+      same_halts (ArePassed start.limit) outputs gathered s.gathered tellers now steps.0.1 steps.0.2
+      (halts_limit inputs outputs s.feed.slot reader ethernet gathered tellers streams s.feed.reader (omega (arith, so, steps.1)) steps.2 steps.3)

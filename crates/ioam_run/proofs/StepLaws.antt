@@ -11,7 +11,6 @@ use Rattle.ioam_pcap.specs.Entries.{Entry, most}
 use Rattle.ioam_pcap.specs.Reading.{Reading}
 use Rattle.ioam_pcap.specs.Reads.{Reached, EntryAt, link_by}
 use Rattle.ioam_pcap.specs.Reader.{Stands, link_of}
-use Rattle.ioam_run.specs.Run.{most_packets}
 use Rattle.ioam_pcap.specs.Link.{is_ethernet}
 use Rattle.ioam_run.specs.Streams.{Start, Streams}
 
@@ -26,6 +25,14 @@ none_yet : (octets : List ℕ) (reader : Reading) (entries : List Entry) → rea
 none_yet octets reader entries fresh stands =
     let P : Option Form → Type 0 = λ form. Reached octets form entries reader.start in
     subst P fresh stands.reached
+
+-- what was added is of the records for what began, too
+pub gathers_for : {G : Type 0} (gathers : G → Bool → List Entry → List (List ℕ) → G → Type 0) (ethernet : Bool) (before after : G) (tellers now : List Output) (e : Entry) (begun : G)
+    → (added : List (List ℕ)) × Adds tellers now added
+    × ((b : G) (entries : List Entry) (so_far : List (List ℕ)) → gathers b ethernet entries so_far before → gathers b ethernet (entries ++ e ∷ []) (said_more so_far added) after)
+    → (added : List (List ℕ)) × Adds tellers now added
+    × ((entries : List Entry) (so_far : List (List ℕ)) → gathers begun ethernet entries so_far before → gathers begun ethernet (entries ++ e ∷ []) (said_more so_far added) after)
+gathers_for gathers ethernet before after tellers now e begun told = (told.0, told.1, told.2 begun)
 
 module _ {G : Type 0} (gathers : Bool → List Entry → List (List ℕ) → G → Type 0) (count : G → ℕ)
     (tells : Bool) (start : Start) (inputs : desk.Reading) (outputs : Writing) (slot : ℕ) (old new : Reading) where
@@ -56,7 +63,7 @@ module _ {G : Type 0} (gathers : Bool → List Entry → List (List ℕ) → G �
 
   -- a record was taken
   pub Streams-record : (ethernet : Bool) (before after : G) (tellers now : List Output) (e : Entry)
-      → count before < most_packets → count after ≡ count before + 1
+      → count before < start.limit → count after ≡ count before + 1
       → length new.pending ≤ length old.pending → new.form ≡ old.form
       → ((octets : List ℕ) (entries : List Entry) → Stands old octets entries → EntryAt octets old.form old.start e × Stands new octets (entries ++ e ∷ []))
       → (added : List (List ℕ)) × Adds tellers now added

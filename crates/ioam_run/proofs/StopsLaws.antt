@@ -39,8 +39,8 @@ begins_ends ending link entries octets reads = (
   inl refl,
 )
 
-pub begins_passed : Begins ArePassed
-begins_passed link entries octets passed = (link, passed.first, inl refl)
+pub begins_passed : (most : ℕ) → Begins (ArePassed most)
+begins_passed most link entries octets passed = (link, passed.first, inl refl)
 
 pub begins_whole : (left : List ℕ) → Begins (AreWhole left)
 begins_whole left link entries octets whole =
@@ -113,9 +113,9 @@ module _ {G : Type 0} (gathers : Bool → List Entry → List (List ℕ) → G �
 
   -- so many octets were taken at most
   pub Streams-start : (inputs : desk.Reading) (outputs : Writing) (slot : ℕ) (reader : Reading) (ethernet : Bool) (gathered : G) (tellers : List Output)
-      → Streams gathers count tells start inputs outputs slot reader ethernet gathered tellers → reader.start ≤ most_start most_packets
-  Streams-start inputs outputs slot reader ethernet gathered tellers streams =
-      omega (arith, streams.few, Stands-start reader streams.octets streams.entries streams.given.stands)
+      → Streams gathers count tells start inputs outputs slot reader ethernet gathered tellers → start.limit ≤ most_packets → reader.start ≤ most_start most_packets
+  Streams-start inputs outputs slot reader ethernet gathered tellers streams few =
+      omega (arith, few, streams.few, Stands-start reader streams.octets streams.entries streams.given.stands)
 
   -- a piece more was handed out
   pub Streams-fed : (inputs now_in : desk.Reading) (outputs now_out : Writing) (slot now_slot : ℕ) (most : ℕ) (reader now : Reading) (ethernet : Bool) (gathered : G) (tellers : List Output)

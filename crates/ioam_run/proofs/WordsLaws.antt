@@ -3,7 +3,7 @@ use Rattle.std.proofs.Common.{◌≡◌, ℕ, suc, ◌+◌, ◌-◌, ◌<◌, �
 use Rattle.std.proofs.lemmas.List.{get_or_default, take_rest}
 use Rattle.std.proofs.lemmas.List.Elements.{Contains-append_right}
 use Rattle.ioam_desk.specs.Desk.{Reading, Writing}
-use Rattle.ioam_run.specs.Run.{HasCause, FileCause, file_names, output_names}
+use Rattle.ioam_run.specs.Run.{most_packets, HasCause, FileCause, file_names, output_names}
 use Rattle.ioam_outputs.specs.Names.{name_at, AreApart, IsFirstRepeat}
 use Rattle.ioam_answer.specs.declared.outcome.Outcome.{Outcome}
 use Rattle.ioam_answer.specs.declared.outcome.Outcome.TheVariants as outcome
@@ -37,7 +37,7 @@ name_behind (a ∷ names) at name inside is =
 
 module _ (tells : Bool) (names : List (List ℕ)) (input : List ℕ) (old_in : Reading) (old_out : Writing) (new_in : Reading) (new_out : Writing) where
   pub cause_of_file : (answer : Outcome) → AreApart names
-      → FileCause tells input old_in old_out new_in new_out answer → HasCause tells names input old_in old_out new_in new_out answer
+      → FileCause most_packets tells input old_in old_out new_in new_out answer → HasCause tells names input old_in old_out new_in new_out answer
   cause_of_file outcome.Done apart cause = (apart, cause)
   cause_of_file outcome.Usage apart cause = cause
   cause_of_file (outcome.Domain why) apart cause = cause

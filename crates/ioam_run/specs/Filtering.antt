@@ -42,6 +42,10 @@ empty = capture_text [] ∷ sums_line 0 0 ∷ []
 abbrev pub taken : Filtering → ℕ
 taken gathered = gathered.kept + gathered.dropped
 
+-- no record was taken
+abbrev pub IsFresh : Filtering → Type 0
+IsFresh gathered = (gathered.kept ≡ 0) × (gathered.dropped ≡ 0)
+
 -- The laws from here on stand among the definitions, since a ghost member of an `impl` cites specs/ alone.
 
 -- of no records there are no verdicts
@@ -53,6 +57,20 @@ no_others ethernet (v ∷ vs) are = absurd are
 no_verdicts : (ethernet other : Bool) (vs : List Verdict) → AreVerdicts ethernet [] vs → AreVerdicts other [] vs
 no_verdicts ethernet other [] are = tt
 no_verdicts ethernet other (v ∷ vs) are = absurd are
+
+pub Gathers-begins : (gathered : Filtering) → IsFresh gathered → (ethernet : Bool) → Gathers ethernet [] heads gathered
+Gathers-begins gathered fresh ethernet = record {
+  verdicts = [];
+  are = tt;
+  only = no_others ethernet;
+  out_is = refl;
+  report_is = refl;
+  kept_is = fresh.0;
+  dropped_is = fresh.1;
+}
+
+pub IsFresh-none : (gathered : Filtering) → IsFresh gathered → taken gathered ≡ 0
+IsFresh-none gathered fresh = ap (λ (kept : ℕ). kept + gathered.dropped) fresh.0 ∙ ap (λ (dropped : ℕ). 0 + dropped) fresh.1
 
 pub Gathers-any_link : (ethernet other : Bool) (texts : List (List ℕ)) (gathered : Filtering) → Gathers ethernet [] texts gathered → Gathers other [] texts gathered
 Gathers-any_link ethernet other [] gathered gathers = absurd gathers

@@ -23,6 +23,13 @@ sums gathered = packets_line gathered.packets ∷ []
 abbrev pub listed : {L : Type 0} → Listing L → ℕ
 listed gathered = gathered.packets
 
+-- no record was taken
+abbrev pub IsFresh : {L : Type 0} → Listing L → Type 0
+IsFresh gathered = gathered.packets ≡ 0
+
+pub IsFresh-none : {L : Type 0} → (gathered : Listing L) → IsFresh gathered → listed gathered ≡ 0
+IsFresh-none gathered fresh = fresh
+
 pub empty-sized : length empty ≡ 1
 empty-sized = refl
 
@@ -43,6 +50,10 @@ module _ {L : Type 0} (Tells : List ℕ → List ℕ → Type 0) where
   Lists ethernet entries (text ∷ more ∷ texts) gathered = ⊥
 
   -- The laws from here on stand among the definitions, since a ghost member of an `impl` cites specs/ alone.
+
+  -- of no records there are no lines
+  pub Lists-begins : (gathered : Listing L) → IsFresh gathered → (ethernet : Bool) → Lists ethernet [] heads gathered
+  Lists-begins gathered fresh ethernet = record { lines = refl; only = λ others are. are; count = fresh }
 
   -- before the first record it doesn't matter what the frames begin with
   pub Lists-any_link : (ethernet other : Bool) (texts : List (List ℕ)) (gathered : Listing L) → Lists ethernet [] texts gathered → Lists other [] texts gathered

@@ -13,7 +13,7 @@ use Rattle.ioam_pcap.specs.Link.{is_ethernet}
 use Rattle.ioam_answer.specs.declared.outcome.Outcome.{Outcome}
 use Rattle.ioam_answer.specs.declared.outcome.Outcome.TheVariants as outcome
 
--- the most records of IN
+-- the most records of IN that a command over one capture takes
 abbrev pub most_packets : ℕ
 most_packets = 16777216
 
@@ -27,30 +27,30 @@ input_name words = name_at words 1
 abbrev pub output_names : List (List ℕ) → List (List ℕ)
 output_names words = drop 2 words
 
--- the octets are a capture file that ends so, of no more records than may be
-pub record IsInput (ending : Ending) (octets : List ℕ) : Type 0 where
+-- the octets are a capture file that ends so, of no more records than this limit
+pub record IsInput (most : ℕ) (ending : Ending) (octets : List ℕ) : Type 0 where
   pub link : Option Link
   pub entries : List Entry
   pub reads : Reads octets link entries ending
-  pub few : length entries ≤ most_packets
+  pub few : length entries ≤ most
 
 -- the octets are a capture file of more records
-pub record IsLong (octets : List ℕ) : Type 0 where
+pub record IsLong (most : ℕ) (octets : List ℕ) : Type 0 where
   pub link : Option Link
   pub entries : List Entry
   pub ending : Ending
   pub reads : Reads octets link entries ending
-  pub many : most_packets < length entries
+  pub many : most < length entries
 
 -- What the words and the files ask for, where nothing fails: the first of the refusals in their
 -- order whose condition holds, or Done. What a file holds is spoken of where the desk tells.
 module _ (tells : Bool) (desk : Writing) (names : List (List ℕ)) (input : List ℕ) where
   abbrev pub Asked : Outcome → Type 0
   Asked (outcome.Names name) = (at : ℕ) × IsFirstRepeat names at × (name ≡ name_at names at)
-  Asked (outcome.Packets limit) = AreApart names × (limit ≡ most_packets) × (IsTrue tells → IsSomeAnd (holds desk input) IsLong)
+  Asked (outcome.Packets limit) = AreApart names × (limit ≡ most_packets) × (IsTrue tells → IsSomeAnd (holds desk input) (IsLong most_packets))
   Asked (outcome.Capture name at fault) = AreApart names × (name ≡ input)
-      × (IsTrue tells → IsSomeAnd (holds desk input) (IsInput (Faulty at fault)))
-  Asked outcome.Done = AreApart names × (IsTrue tells → IsSomeAnd (holds desk input) (IsInput Whole))
+      × (IsTrue tells → IsSomeAnd (holds desk input) (IsInput most_packets (Faulty at fault)))
+  Asked outcome.Done = AreApart names × (IsTrue tells → IsSomeAnd (holds desk input) (IsInput most_packets Whole))
   Asked outcome.Usage = ⊥
   Asked (outcome.Domain why) = ⊥
   Asked (outcome.Readings why) = ⊥
@@ -58,8 +58,8 @@ module _ (tells : Bool) (desk : Writing) (names : List (List ℕ)) (input : List
   Asked outcome.WriteFault = ⊥
   Asked outcome.NoMemory = ⊥
 
--- the same causes where the names are known to differ
-module _ (tells : Bool) (input : List ℕ) (old_in : Reading) (old_out : Writing) (new_in : Reading) (new_out : Writing) where
+-- the same causes where the names are known to differ, with this limit
+module _ (most : ℕ) (tells : Bool) (input : List ℕ) (old_in : Reading) (old_out : Writing) (new_in : Reading) (new_out : Writing) where
   abbrev pub FileCause : Outcome → Type 0
   FileCause outcome.ReadFault = Rose old_in.side.faults new_in.side.faults
   FileCause outcome.WriteFault = Rose old_out.side.faults new_out.side.faults
@@ -68,9 +68,9 @@ module _ (tells : Bool) (input : List ℕ) (old_in : Reading) (old_out : Writing
   FileCause (outcome.Domain why) = ⊥
   FileCause (outcome.Readings why) = ⊥
   FileCause (outcome.Names name) = ⊥
-  FileCause outcome.Done = IsTrue tells → IsSomeAnd (holds old_out input) (IsInput Whole)
-  FileCause (outcome.Packets limit) = (limit ≡ most_packets) × (IsTrue tells → IsSomeAnd (holds old_out input) IsLong)
-  FileCause (outcome.Capture name at fault) = (name ≡ input) × (IsTrue tells → IsSomeAnd (holds old_out input) (IsInput (Faulty at fault)))
+  FileCause outcome.Done = IsTrue tells → IsSomeAnd (holds old_out input) (IsInput most Whole)
+  FileCause (outcome.Packets limit) = (limit ≡ most) × (IsTrue tells → IsSomeAnd (holds old_out input) (IsLong most))
+  FileCause (outcome.Capture name at fault) = (name ≡ input) × (IsTrue tells → IsSomeAnd (holds old_out input) (IsInput most (Faulty at fault)))
 
 -- the cause of each answer; want of memory alone has none
 module _ (tells : Bool) (names : List (List ℕ)) (input : List ℕ) (old_in : Reading) (old_out : Writing) (new_in : Reading) (new_out : Writing) where
@@ -96,10 +96,10 @@ pub record AreFirst (link : Option Link) (entries : List Entry) (octets : List �
   pub ending : Ending
   pub reads : Reads octets link (entries ++ rest) ending
 
--- these are as many of the first records of the octets as may be, and more come behind them
-pub record ArePassed (link : Option Link) (entries : List Entry) (octets : List ℕ) : Type 0 where
+-- these are as many of the first records of the octets as this limit, and more come behind them
+pub record ArePassed (most : ℕ) (link : Option Link) (entries : List Entry) (octets : List ℕ) : Type 0 where
   pub first : AreFirst link entries octets
-  pub all : length entries ≡ most_packets
+  pub all : length entries ≡ most
   pub more : 0 < length first.rest
 
 -- these are the records that are whole in the octets but for those that are left, and the head or
@@ -113,14 +113,14 @@ pub record AreWhole (left : List ℕ) (link : Option Link) (entries : List Entry
   pub cut : CutAt handed form at
   pub linked : link ≡ link_by form
 
-module _ (Texts : Bool → List Entry → List (List ℕ) → Type 0) (outputs : List (List ℕ)) where
+module _ (most : ℕ) (Texts : Bool → List Entry → List (List ℕ) → Type 0) (outputs : List (List ℕ)) where
   -- the outputs hold the texts of some records, no more than may be; `Are` says which records of IN
   pub record HoldsAll (Are : Option Link → List Entry → List ℕ → Type 0) (new : Writing) (octets : List ℕ) : Type 0 where
     pub link : Option Link
     pub entries : List Entry
     pub texts : List (List ℕ)
     pub are : Are link entries octets
-    pub few : length entries ≤ most_packets
+    pub few : length entries ≤ most
     pub texts_are : Texts (is_ethernet link) entries texts
     pub held : HoldTexts new outputs texts
 
@@ -130,7 +130,7 @@ module _ (Texts : Bool → List Entry → List (List ℕ) → Type 0) (outputs :
     pub entries : List Entry
     pub texts : List (List ℕ)
     pub are : AreFirst link entries octets
-    pub few : length entries ≤ most_packets
+    pub few : length entries ≤ most
     pub texts_are : Texts (is_ethernet link) entries texts
     pub held : HoldFronts old new 0 outputs texts
 
@@ -141,7 +141,7 @@ module _ (Texts : Bool → List Entry → List (List ℕ) → Type 0) (outputs :
     abbrev pub Leaves : Outcome → Type 0
     Leaves outcome.Done = IsSomeAnd (holds old input) (HoldsAll (EndsSo Whole) new)
     Leaves (outcome.Capture name at fault) = IsSomeAnd (holds old input) (HoldsAll (EndsSo (Faulty at fault)) new)
-    Leaves (outcome.Packets limit) = IsSomeAnd (holds old input) (HoldsAll ArePassed new)
+    Leaves (outcome.Packets limit) = IsSomeAnd (holds old input) (HoldsAll (ArePassed most) new)
     Leaves outcome.ReadFault = ((new_in.side.slots ≡ old_in.side.slots) × (new ≡ old))
         ⊎ ((old_in.side.slots < new_in.side.slots)
         × IsSomeAnd (holds old input) (HoldsAll (AreWhole (new_in.left old_in.side.slots)) new))

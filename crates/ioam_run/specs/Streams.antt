@@ -12,18 +12,25 @@ use Rattle.ioam_pcap.specs.Reads.{Whole, Faulty, Reads}
 use Rattle.ioam_pcap.specs.Reader.{Stands, Waits, link_of}
 use Rattle.ioam_pcap.specs.declared.form.Link.{Link}
 use Rattle.ioam_pcap.specs.Link.{is_ethernet}
-use Rattle.ioam_run.specs.Run.{most_packets, HoldsAll, EndsSo, AreFirst, ArePassed, AreWhole}
+use Rattle.ioam_run.specs.Run.{HoldsAll, EndsSo, AreFirst, ArePassed, AreWhole}
 use Rattle.ioam_run.specs.declared.step.Pause.{Pause}
 use Rattle.ioam_run.specs.declared.step.Pause.TheVariants as pause
 use Rattle.ioam_run.specs.declared.stream.Stream.{Stream}
 use Rattle.ioam_answer.specs.declared.outcome.Outcome.{Outcome}
 use Rattle.ioam_answer.specs.declared.outcome.Outcome.TheVariants as outcome
 
--- where a run began: what IN holds, the number of the first output's slot, and the outputs' names
+-- where a run began: what IN holds, the number of the first output's slot, the outputs' names, and the most records
+-- that are taken
 pub record Start : Type 0 where
   pub content : Option (List ℕ)
   pub base : ℕ
   pub names : List (List ℕ)
+  pub limit : ℕ
+
+-- and what was to gather the texts then
+pub record Begun (G : Type 0) : Type 0 where
+  pub start : Start
+  pub gathered : G
 
 -- no input slot but this one was read
 abbrev pub ReadsOne : ℕ → desk.Reading → desk.Reading → Type 0
@@ -46,26 +53,26 @@ module _ {G : Type 0} (gathers : Bool → List Entry → List (List ℕ) → G �
     pub are_gathered : gathers ethernet entries texts gathered
     pub link_is : ethernet ≡ is_ethernet (link_of reader)
     pub count_is : count gathered ≡ length entries
-    pub few : length entries ≤ most_packets
+    pub few : length entries ≤ start.limit
     pub held_back : length reader.pending < 327696
 
   abbrev pub IsStreaming : Bool → Start → desk.Reading → Writing → Stream G → List Output → Type 0
   IsStreaming tells start inputs outputs s tellers = Streams tells start inputs outputs s.feed.slot s.feed.reader s.ethernet s.gathered tellers
 
   -- what a step did: what streams still does, with one thing more; or nothing, and why; or it gave a record past the limit
-  module _ (old new : Reading) (ethernet now_ethernet : Bool) (before after : G) (tellers now_tellers : List Output) where
+  module _ (limit : ℕ) (old new : Reading) (ethernet now_ethernet : Bool) (before after : G) (tellers now_tellers : List Output) where
     abbrev pub Stays : Type 0
     Stays = (now_ethernet ≡ ethernet) × (after ≡ before) × (now_tellers ≡ tellers)
 
     abbrev pub Steps : Option Pause → Type 0
     Steps None = (length new.pending < length old.pending)
-        × ((tells : Bool) (start : Start) (inputs : desk.Reading) (outputs : Writing) (slot : ℕ)
+        × ((tells : Bool) (start : Start) (inputs : desk.Reading) (outputs : Writing) (slot : ℕ) → start.limit ≡ limit
         → Streams tells start inputs outputs slot old ethernet before tellers
         → Streams tells start inputs outputs slot new now_ethernet after now_tellers)
     Steps (Some pause.More) = Stays × (new ≡ old) × Waits old
     Steps (Some (pause.Bad at fault)) = Stays × (new ≡ old) × ((octets : List ℕ) (entries : List Entry) → Stands old octets entries
         → (more : List ℕ) → Reads (octets ++ more) (link_of old) entries (Faulty at fault))
-    Steps (Some pause.Limit) = Stays × (most_packets ≤ count before) × (link_of new ≡ link_of old)
+    Steps (Some pause.Limit) = Stays × (limit ≤ count before) × (link_of new ≡ link_of old)
         × ((entry : Entry) × ((octets : List ℕ) (entries : List Entry) → Stands old octets entries → Stands new octets (entries ++ entry ∷ [])))
 
   module _ (tells : Bool) (start : Start) where
@@ -77,14 +84,14 @@ module _ {G : Type 0} (gathers : Bool → List Entry → List (List ℕ) → G �
       pub told : AreTold tells outputs start.base start.names tellers texts
       pub are_gathered : gathers (is_ethernet link) entries texts gathered
       pub count_is : count gathered ≡ length entries
-      pub few : length entries ≤ most_packets
+      pub few : length entries ≤ start.limit
       pub are : IsTrue tells → IsSomeAnd start.content (Are link entries)
 
     -- what stopped the taking of records
     abbrev pub Pauses : desk.Reading → Writing → Stream G → List Output → Pause → Type 0
     Pauses inputs outputs s tellers pause.More = IsStreaming tells start inputs outputs s tellers × Waits s.feed.reader
     Pauses inputs outputs s tellers (pause.Bad at fault) = Halts (EndsSo (Faulty at fault)) outputs s.gathered tellers
-    Pauses inputs outputs s tellers pause.Limit = Halts ArePassed outputs s.gathered tellers
+    Pauses inputs outputs s tellers pause.Limit = Halts (ArePassed start.limit) outputs s.gathered tellers
 
 module _ (tells : Bool) (start : Start) (Texts : Bool → List Entry → List (List ℕ) → Type 0) where
   -- each output holds a front of its text of some first records of IN
@@ -93,7 +100,7 @@ module _ (tells : Bool) (start : Start) (Texts : Bool → List Entry → List (L
     pub entries : List Entry
     pub texts : List (List ℕ)
     pub are : AreFirst link entries octets
-    pub few : length entries ≤ most_packets
+    pub few : length entries ≤ start.limit
     pub texts_are : Texts (is_ethernet link) entries texts
     pub held : HoldAllFronts outputs start.names texts
 
@@ -110,7 +117,7 @@ module _ (tells : Bool) (start : Start) (Texts : Bool → List Entry → List (L
     abbrev pub Stops : Outcome → Type 0
     Stops outcome.Done = Tells (EndsSo Whole) × (IsTrue tells → IsTrue (new_in.ended slot))
     Stops (outcome.Capture name at fault) = (name ≡ input) × Tells (EndsSo (Faulty at fault))
-    Stops (outcome.Packets limit) = (limit ≡ most_packets) × Tells ArePassed
+    Stops (outcome.Packets limit) = (limit ≡ start.limit) × Tells (ArePassed start.limit)
     Stops outcome.ReadFault = Rose old_in.side.faults new_in.side.faults × Tells (AreWhole (new_in.left slot))
     Stops outcome.WriteFault = Rose old_out.side.faults new_out.side.faults × Sticks new_out
     Stops outcome.NoMemory = Sticks new_out
@@ -123,12 +130,12 @@ module _ (tells : Bool) (start : Start) (Texts : Bool → List Entry → List (L
   module _ (input : List ℕ) (slot : ℕ) (old_in new_in : desk.Reading) (old_out new_out : Writing) where
     -- all outputs hold the texts of these records
     abbrev pub Holds : (Option Link → List Entry → List ℕ → Type 0) → Type 0
-    Holds Are = IsTrue tells → IsSomeAnd start.content (HoldsAll Texts start.names Are new_out)
+    Holds Are = IsTrue tells → IsSomeAnd start.content (HoldsAll start.limit Texts start.names Are new_out)
 
     abbrev pub Finishes : Outcome → Type 0
     Finishes outcome.Done = Holds (EndsSo Whole) × (IsTrue tells → IsTrue (new_in.ended slot))
     Finishes (outcome.Capture name at fault) = (name ≡ input) × Holds (EndsSo (Faulty at fault))
-    Finishes (outcome.Packets limit) = (limit ≡ most_packets) × Holds ArePassed
+    Finishes (outcome.Packets limit) = (limit ≡ start.limit) × Holds (ArePassed start.limit)
     Finishes outcome.ReadFault = Rose old_in.side.faults new_in.side.faults × Holds (AreWhole (new_in.left slot))
     Finishes outcome.WriteFault = Rose old_out.side.faults new_out.side.faults × Sticks new_out
     Finishes outcome.NoMemory = Sticks new_out

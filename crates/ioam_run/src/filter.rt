@@ -8,7 +8,7 @@ ghost use Rattle.ioam_desk.specs.Kept.{KeepsInputs, KeepsOutputs};
 ghost use Rattle.ioam_outputs.specs.Names.{name_at, AreApart};
 ghost use Rattle.ioam_run.specs.FilterText.{FilterTexts};
 ghost use Rattle.ioam_answer.specs.Outcomes.{IsDone, IsBehindAll, OpensNothing};
-ghost use Rattle.ioam_run.specs.Run.{HasCause, Asked, Leaves, file_names, input_name, output_names};
+ghost use Rattle.ioam_run.specs.Run.{most_packets, HasCause, Asked, Leaves, file_names, input_name, output_names};
 ghost use Rattle.ioam_answer.specs.declared.outcome.Outcome.{Outcome};
 
 use crate::filtering::Filtering;
@@ -26,7 +26,7 @@ pub fn run_filter<D: Desk>(alloc: Global, words: &[Name], desk: &mut D) -> Outco
     requires { length words.now ≡ 4 }
     ensures cause { HasCause D.tells (file_names words.now) (input_name words.now) (D.reading desk.old) (D.writing desk.old)
         (D.reading desk.new) (D.writing desk.new) result }
-    ensures leaves { IsTrue D.tells → Leaves FilterTexts (output_names words.now) (input_name words.now) (D.reading desk.old) (D.reading desk.new)
+    ensures leaves { IsTrue D.tells → Leaves most_packets FilterTexts (output_names words.now) (input_name words.now) (D.reading desk.old) (D.reading desk.new)
         (D.writing desk.old) (D.writing desk.new) result }
     ensures asked_in { AsksFront (D.reading desk.old).side.asked (D.reading desk.new).side.asked (input_name words.now ∷ []) }
     ensures asked_out { AsksFront (D.writing desk.old).side.asked (D.writing desk.new).side.asked (output_names words.now) }
@@ -49,5 +49,9 @@ pub fn run_filter<D: Desk>(alloc: Global, words: &[Name], desk: &mut D) -> Outco
     ensures kept_in { KeepsInputs (D.reading desk.old) (D.reading desk.new) }
     ensures kept_out { IsTrue D.tells → KeepsOutputs (D.writing desk.old) (D.writing desk.new) }
 {
-    run_over_capture::<Filtering, D>(alloc, words, desk)
+    let none = Filtering {
+        kept: 0,
+        dropped: 0,
+    };
+    run_over_capture::<Filtering, D>(alloc, words, desk, none)
 }

@@ -22,28 +22,27 @@ pub struct Filtering {
 
 impl Gather for Filtering {
     ghost use Rattle.ioam_run.specs.FilterText.{FilterTexts};
-    ghost use Rattle.ioam_run.specs.Filtering.{Gathers, heads, sums, taken, empty, Gathers-any_link, Gathers-ends, empty-texts, empty-sized, sums-sized};
+    ghost use Rattle.ioam_run.specs.Filtering.{Gathers, heads, sums, taken, empty, IsFresh, IsFresh-none, Gathers-begins, Gathers-any_link, Gathers-ends, empty-texts, empty-sized, sums-sized};
 
     ghost width = { 2 };
 
-    ghost gathers = { Gathers };
+    ghost gathers = { λ begun. Gathers };
 
     ghost count = { taken };
+
+    ghost fresh = { IsFresh };
 
     ghost heads = { heads };
 
     ghost sums = { sums };
 
-    ghost texts = { FilterTexts };
+    ghost texts = { λ begun. FilterTexts };
 
     ghost empty = { empty };
 
-    fn begin(outputs: &mut [Output]) -> Result<Filtering, NoMemory> {
+    fn begin(&self, outputs: &mut [Output]) -> Result<(), NoMemory> {
         put_head(&mut outputs[0].gathered)?;
-        Ok(Filtering {
-            kept: 0,
-            dropped: 0,
-        })
+        Ok(())
     }
 
     fn taken(&self) -> u64 {
@@ -75,11 +74,15 @@ impl Gather for Filtering {
         put_sums(self.kept, self.dropped, &mut outputs[1].gathered)
     }
 
-    ghost any_link = { Gathers-any_link };
+    ghost begins = { Gathers-begins };
 
-    ghost ends = { Gathers-ends };
+    ghost none = { IsFresh-none };
 
-    ghost of_none = { empty-texts };
+    ghost any_link = { λ begun. Gathers-any_link };
+
+    ghost ends = { λ begun. Gathers-ends };
+
+    ghost of_none = { λ begun. empty-texts };
 
     ghost empty_sized = { empty-sized };
 

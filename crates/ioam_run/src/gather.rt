@@ -1,5 +1,5 @@
 //! Texts that are gathered of the records of a capture, each for its output.
-ghost use Rattle.std.specs.Prelude.{◌≡◌, ◌<◌, ◌≤◌, ◌+◌, ◌^◌, ◌∷◌, ◌++◌, [], List, ℕ, Bool, IfOk, OnOk, length};
+ghost use Rattle.std.specs.Prelude.{◌≡◌, ◌<◌, ◌≤◌, ◌+◌, ◌^◌, ◌∷◌, ◌++◌, [], List, ℕ, Bool, OnOk, length};
 ghost use Rattle.ioam_outputs.specs.Told.{Adds, GathersFew, GathersNothing, said_more};
 ghost use Rattle.ioam_pcap.specs.Entries.{Entry, most};
 ghost use Rattle.ioam_pcap.specs.Reader.{entry_of};
@@ -8,16 +8,20 @@ use ioam_base::memory::NoMemory;
 use ioam_outputs::Output;
 use ioam_pcap::Packet;
 
-/// Texts that are gathered of the records of a capture, each for its output.
+/// Texts that are gathered of the records of a capture, each for its output. What they are of besides the
+/// records stands in the value that takes no record yet, of which a ghost member speaks as `begun`.
 pub trait Gather: Drop {
     // how many outputs there are
     ghost width: { ℕ };
 
     // the texts so far are those of these records, whose frames begin with an Ethernet header or don't
-    ghost gathers: { Bool → List Entry → List (List ℕ) → Self → Type 0 };
+    ghost gathers: { Self → Bool → List Entry → List (List ℕ) → Self → Type 0 };
 
     // how many records were taken
     ghost count: { Self → ℕ };
+
+    // no record was taken yet
+    ghost fresh: { Self → Type 0 };
 
     // the texts of no records
     ghost heads: { List (List ℕ) };
@@ -26,18 +30,16 @@ pub trait Gather: Drop {
     ghost sums: { Self → List (List ℕ) };
 
     // the texts of these records, with what is added behind the last
-    ghost texts: { Bool → List Entry → List (List ℕ) → Type 0 };
+    ghost texts: { Self → Bool → List Entry → List (List ℕ) → Type 0 };
 
     // the texts of no records, with what is added behind the last
     ghost empty: { List (List ℕ) };
 
     /// Begins the texts.
-    fn begin(outputs: &mut [Output]) -> Result<Self, NoMemory>
+    fn begin(&self, outputs: &mut [Output]) -> Result<(), NoMemory>
         requires width { length outputs.old ≡ width }
         requires nothing { GathersNothing outputs.old }
-        ensures counted { IfOk result (λ gathered. count gathered ≡ 0) }
         ensures adds { OnOk result (Adds outputs.old outputs.new heads) }
-        ensures gathers { IfOk result (λ gathered. (ethernet : Bool) → gathers ethernet [] heads gathered) }
         ensures waiting { OnOk result (GathersFew outputs.new) };
 
     /// How many records were taken.
@@ -53,13 +55,14 @@ pub trait Gather: Drop {
         outputs: &mut [Output],
     ) -> Result<(), NoMemory>
         requires short { length captured.now.octets.now ≤ most }
+        requires time { captured.now.time < 2 ^ 62 }
         requires few { count self.old < 2 ^ 32 }
         requires width { length outputs.old ≡ width }
         requires waiting { GathersFew outputs.old }
         ensures counted { OnOk result (count self.new ≡ count self.old + 1) }
         ensures gathers { OnOk result ((added : List (List ℕ)) × Adds outputs.old outputs.new added
-            × ((entries : List Entry) (so_far : List (List ℕ)) → gathers ethernet entries so_far self.old
-            → gathers ethernet (entries ++ entry_of captured.now ∷ []) (said_more so_far added) self.new)) };
+            × ((begun : Self) (entries : List Entry) (so_far : List (List ℕ)) → gathers begun ethernet entries so_far self.old
+            → gathers begun ethernet (entries ++ entry_of captured.now ∷ []) (said_more so_far added) self.new)) };
 
     /// Adds what stands behind the last record.
     fn put_sums(&self, outputs: &mut [Output]) -> Result<(), NoMemory>
@@ -67,16 +70,21 @@ pub trait Gather: Drop {
         requires width { length outputs.old ≡ width }
         ensures { OnOk result (Adds outputs.old outputs.new (sums self.now)) };
 
+    // before the first record they are those of none
+    ghost begins: { (begun : Self) → fresh begun → (ethernet : Bool) → gathers begun ethernet [] heads begun };
+
+    ghost none: { (begun : Self) → fresh begun → count begun ≡ 0 };
+
     // before the first record it doesn't matter what the frames begin with
-    ghost any_link: { (ethernet other : Bool) (so_far : List (List ℕ)) (gathered : Self)
-        → gathers ethernet [] so_far gathered → gathers other [] so_far gathered };
+    ghost any_link: { (begun : Self) (ethernet other : Bool) (so_far : List (List ℕ)) (gathered : Self)
+        → gathers begun ethernet [] so_far gathered → gathers begun other [] so_far gathered };
 
     // the texts are whole with what is added behind the last record
-    ghost ends: { (ethernet : Bool) (entries : List Entry) (so_far : List (List ℕ)) (gathered : Self)
-        → gathers ethernet entries so_far gathered → texts ethernet entries (said_more so_far (sums gathered)) };
+    ghost ends: { (begun : Self) (ethernet : Bool) (entries : List Entry) (so_far : List (List ℕ)) (gathered : Self)
+        → gathers begun ethernet entries so_far gathered → texts begun ethernet entries (said_more so_far (sums gathered)) };
 
     // there are texts of no records
-    ghost of_none: { (ethernet : Bool) → texts ethernet [] empty };
+    ghost of_none: { (begun : Self) (ethernet : Bool) → texts begun ethernet [] empty };
 
     ghost empty_sized: { length empty ≡ width };
 

@@ -1,6 +1,6 @@
 //! The commands over one capture, `filter`, `paths` and `show`.
 //!
-//! A record's way: `run_over_capture` looks at the names and opens the files, `read_on` reads pieces,
+//! A record's way: `run_over_capture` looks at the names, `run_capture` opens the files, `read_on` reads pieces,
 //! `step` takes a record, and the command's `Gather` adds what it says of it to each output.
 #![tactic(auto)]
 
@@ -19,5 +19,8 @@ mod step;
 mod stream;
 
 pub use filter::run_filter;
+pub use frame::framed;
+pub use gather::Gather;
+pub use over_capture::run_capture;
 pub use paths::run_paths;
 pub use show::run_show;

@@ -2,6 +2,7 @@
 ghost use Rattle.std.specs.Prelude.{◌≡◌, ◌++◌, List, OnOk};
 ghost use Rattle.ioam_ip.specs.Packet.{IsPacket};
 ghost use Rattle.ioam_pcap.specs.Reader.{entry_of};
+ghost use Rattle.ioam_run.specs.Listing.{IsFresh};
 ghost use Rattle.ioam_run.specs.ListText.{EntryLines, PacketLines, skip_line, packets_line};
 
 use crate::frame::framed;
@@ -24,29 +25,38 @@ pub struct Listing<L> {
     pub text: PhantomData<L>,
 }
 
+/// Before the first packet.
+pub fn none_listed<L: PacketText>() -> Listing<L>
+    ensures { IsFresh result }
+{
+    Listing {
+        packets: 0,
+        text: PhantomData,
+    }
+}
+
 impl<L: PacketText> Gather for Listing<L> {
-    ghost use Rattle.ioam_run.specs.Listing.{Lists, heads, sums, listed, empty, Lists-any_link, Lists-ends, empty-texts, empty-sized, sums-sized};
+    ghost use Rattle.ioam_run.specs.Listing.{Lists, heads, sums, listed, empty, IsFresh, IsFresh-none, Lists-begins, Lists-any_link, Lists-ends, empty-texts, empty-sized, sums-sized};
     ghost use Rattle.ioam_run.specs.ListText.{ListTexts};
 
     ghost width = { 1 };
 
-    ghost gathers = { Lists L.tells };
+    ghost gathers = { λ begun. Lists L.tells };
 
     ghost count = { listed };
+
+    ghost fresh = { IsFresh };
 
     ghost heads = { heads };
 
     ghost sums = { sums };
 
-    ghost texts = { ListTexts L.tells };
+    ghost texts = { λ begun. ListTexts L.tells };
 
     ghost empty = { empty };
 
-    fn begin(_outputs: &mut [Output]) -> Result<Listing<L>, NoMemory> {
-        Ok(Listing {
-            packets: 0,
-            text: PhantomData,
-        })
+    fn begin(&self, _outputs: &mut [Output]) -> Result<(), NoMemory> {
+        Ok(())
     }
 
     fn taken(&self) -> u64 {
@@ -73,11 +83,15 @@ impl<L: PacketText> Gather for Listing<L> {
         put_count(self.packets, &mut outputs[0].gathered)
     }
 
-    ghost any_link = { Lists-any_link L.tells };
+    ghost begins = { Lists-begins L.tells };
 
-    ghost ends = { Lists-ends L.tells };
+    ghost none = { IsFresh-none };
 
-    ghost of_none = { empty-texts L.tells };
+    ghost any_link = { λ begun. Lists-any_link L.tells };
+
+    ghost ends = { λ begun. Lists-ends L.tells };
+
+    ghost of_none = { λ begun. empty-texts L.tells };
 
     ghost empty_sized = { empty-sized };
 

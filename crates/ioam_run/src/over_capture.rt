@@ -1,5 +1,5 @@
 //! A command over one capture: its names, its files and its answer.
-ghost use Rattle.std.specs.Prelude.{◌≡◌, ◌≢◌, ◌↔◌, ◌∷◌, ◌++◌, ◌+◌, ◌<◌, ◌⊎◌, [], IfOk, IsTrue, length};
+ghost use Rattle.std.specs.Prelude.{◌≡◌, ◌≢◌, ◌↔◌, ◌∷◌, ◌++◌, ◌+◌, ◌<◌, ◌≤◌, ◌⊎◌, [], IfOk, IsTrue, length};
 ghost use Rattle.ioam_desk.specs.Asked.{AsksFront};
 ghost use Rattle.ioam_desk.specs.Desk.{holds};
 ghost use Rattle.ioam_desk.specs.Kept.{KeepsInputs, KeepsOutputs, WritesFrom};
@@ -8,10 +8,11 @@ ghost use Rattle.ioam_outputs.specs.Names.{AreApart};
 ghost use Rattle.ioam_outputs.specs.Told.{AreTold, GathersNothing, unsaid};
 ghost use Rattle.ioam_pcap.specs.Reader.{fresh};
 ghost use Rattle.ioam_answer.specs.Outcomes.{IsDone, IsBehindAll, OpensNothing};
-ghost use Rattle.ioam_run.specs.Run.{HasCause, FileCause, Leaves, file_names, input_name, output_names};
-ghost use Rattle.ioam_run.specs.Streams.{Start, Finishes, IsBroken, ReadsOne};
+ghost use Rattle.ioam_run.specs.Run.{most_packets, HasCause, FileCause, Leaves, file_names, input_name, output_names};
+ghost use Rattle.ioam_run.specs.Streams.{Begun, Finishes, IsBroken, ReadsOne};
 
 use crate::gather::Gather;
+use crate::step::MOST_PACKETS;
 use crate::stream::{Stream, read_on, write_rest};
 use ioam_answer::{Outcome, names_outcome};
 use ioam_base::memory::NoMemory;
@@ -25,11 +26,17 @@ use std::alloc::Global;
 /// Two names that are equal are refused first; then the capture is opened, and the outputs are. It is
 /// read in pieces, and what is gathered of its records is written in pieces: also before a fault of the
 /// capture, a fault of reading or the limit is answered, and at the end.
-pub fn run_over_capture<G: Gather, D: Desk>(alloc: Global, words: &[Name], desk: &mut D) -> Outcome
-    requires { length words.now ≡ 2 + G.width }
+pub fn run_over_capture<G: Gather, D: Desk>(
+    alloc: Global,
+    words: &[Name],
+    desk: &mut D,
+    gathered: G,
+) -> Outcome
+    requires words { length words.now ≡ 2 + G.width }
+    requires fresh { G.fresh gathered }
     ensures cause { HasCause D.tells (file_names words.now) (input_name words.now) (D.reading desk.old) (D.writing desk.old)
         (D.reading desk.new) (D.writing desk.new) result }
-    ensures leaves { IsTrue D.tells → Leaves G.texts (output_names words.now) (input_name words.now) (D.reading desk.old) (D.reading desk.new)
+    ensures leaves { IsTrue D.tells → Leaves most_packets (G.texts gathered) (output_names words.now) (input_name words.now) (D.reading desk.old) (D.reading desk.new)
         (D.writing desk.old) (D.writing desk.new) result }
     ensures asked_in { AsksFront (D.reading desk.old).side.asked (D.reading desk.new).side.asked (input_name words.now ∷ []) }
     ensures asked_out { AsksFront (D.writing desk.old).side.asked (D.writing desk.new).side.asked (output_names words.now) }
@@ -44,29 +51,68 @@ pub fn run_over_capture<G: Gather, D: Desk>(alloc: Global, words: &[Name], desk:
 {
     match first_repeat(&words[1..]) {
         Some(at) => names_outcome(alloc, &words[1 + at]),
-        None => run_file::<G, D>(alloc, desk, &words[1], &words[2..]),
+        None => run_capture::<G, D>(alloc, desk, &words[1], &words[2..], gathered, MOST_PACKETS),
     }
 }
 
-// Runs a command whose names differ.
-fn run_file<G: Gather, D: Desk>(
+/// Opens a capture, and then outputs whose names differ, and gathers the texts of its records, up to `limit`
+/// of them, which is 16,777,216 at most.
+pub fn run_capture<G: Gather, D: Desk>(
     alloc: Global,
     desk: &mut D,
     input: &Name,
     names: &[Name],
+    gathered: G,
+    limit: u32,
 ) -> Outcome
-    ghost start: { Start }
-    requires starts { start ≡ record { content = holds (D.writing desk.old) input.now; base = (D.writing desk.old).side.slots; names = names.now } }
     requires apart { AreApart names.now }
     requires width { length names.now ≡ G.width }
-    ensures cause { FileCause D.tells input.now (D.reading desk.old) (D.writing desk.old) (D.reading desk.new) (D.writing desk.new) result }
-    ensures leaves { IsTrue D.tells → Leaves G.texts names.now input.now (D.reading desk.old) (D.reading desk.new)
+    requires fresh { G.fresh gathered }
+    requires limit { limit ≤ most_packets }
+    ensures cause { FileCause limit D.tells input.now (D.reading desk.old) (D.writing desk.old) (D.reading desk.new) (D.writing desk.new) result }
+    ensures leaves { IsTrue D.tells → Leaves limit (G.texts gathered) names.now input.now (D.reading desk.old) (D.reading desk.new)
         (D.writing desk.old) (D.writing desk.new) result }
     ensures asked_in { AsksFront (D.reading desk.old).side.asked (D.reading desk.new).side.asked (input.now ∷ []) }
     ensures asked_out { AsksFront (D.writing desk.old).side.asked (D.writing desk.new).side.asked names.now }
     ensures all_in { IsBehindAll ⊥ result → (D.reading desk.new).side.asked ≡ (D.reading desk.old).side.asked ++ input.now ∷ [] }
     ensures all_out { IsBehindAll ⊥ result → (D.writing desk.new).side.asked ≡ (D.writing desk.old).side.asked ++ names.now }
-    ensures no_output { (D.reading desk.new).side.slots ≡ (D.reading desk.old).side.slots → D.writing desk.new ≡ D.writing desk.old }
+    ensures no_output { (D.reading desk.new).side.slots ≤ (D.reading desk.old).side.slots → D.writing desk.new ≡ D.writing desk.old }
+    ensures drained { IsDone result → IsTrue D.tells → IsTrue ((D.reading desk.new).ended (D.reading desk.old).side.slots) }
+    ensures kept_in { KeepsInputs (D.reading desk.old) (D.reading desk.new) }
+    ensures kept_out { IsTrue D.tells → KeepsOutputs (D.writing desk.old) (D.writing desk.new) }
+{
+    run_file::<G, D>(alloc, desk, input, names, gathered, limit)
+}
+
+// The same, where it is told how it began.
+fn run_file<G: Gather, D: Desk>(
+    alloc: Global,
+    desk: &mut D,
+    input: &Name,
+    names: &[Name],
+    gathered: G,
+    limit: u32,
+) -> Outcome
+    ghost begun: { Begun G }
+    requires starts { begun.start ≡ record {
+      content = holds (D.writing desk.old) input.now;
+      base = (D.writing desk.old).side.slots;
+      names = names.now;
+      limit = limit;
+    } }
+    requires apart { AreApart names.now }
+    requires width { length names.now ≡ G.width }
+    requires same { begun.gathered ≡ gathered }
+    requires fresh { G.fresh gathered }
+    requires limit { limit ≤ most_packets }
+    ensures cause { FileCause limit D.tells input.now (D.reading desk.old) (D.writing desk.old) (D.reading desk.new) (D.writing desk.new) result }
+    ensures leaves { IsTrue D.tells → Leaves limit (G.texts begun.gathered) names.now input.now (D.reading desk.old) (D.reading desk.new)
+        (D.writing desk.old) (D.writing desk.new) result }
+    ensures asked_in { AsksFront (D.reading desk.old).side.asked (D.reading desk.new).side.asked (input.now ∷ []) }
+    ensures asked_out { AsksFront (D.writing desk.old).side.asked (D.writing desk.new).side.asked names.now }
+    ensures all_in { IsBehindAll ⊥ result → (D.reading desk.new).side.asked ≡ (D.reading desk.old).side.asked ++ input.now ∷ [] }
+    ensures all_out { IsBehindAll ⊥ result → (D.writing desk.new).side.asked ≡ (D.writing desk.old).side.asked ++ names.now }
+    ensures no_output { (D.reading desk.new).side.slots ≤ (D.reading desk.old).side.slots → D.writing desk.new ≡ D.writing desk.old }
     ensures drained { IsDone result → IsTrue D.tells → IsTrue ((D.reading desk.new).ended (D.reading desk.old).side.slots) }
     ensures kept_in { KeepsInputs (D.reading desk.old) (D.reading desk.new) }
     ensures kept_out { IsTrue D.tells → KeepsOutputs (D.writing desk.old) (D.writing desk.new) }
@@ -80,7 +126,16 @@ fn run_file<G: Gather, D: Desk>(
         Err(DeskFault::NoMemory) => return Outcome::NoMemory,
     };
     match open_outputs(alloc, desk, names) {
-        Ok(mut outputs) => { run_open::<G, D>(alloc, desk, input, feed, &mut outputs, &mut piece) }
+        Ok(mut outputs) => run_open::<G, D>(
+            alloc,
+            desk,
+            input,
+            feed,
+            &mut outputs,
+            &mut piece,
+            gathered,
+            limit,
+        ),
         Err(DeskFault::Failed) => Outcome::WriteFault,
         Err(DeskFault::NoMemory) => Outcome::NoMemory,
     }
@@ -103,24 +158,29 @@ fn run_open<G: Gather, D: Desk>(
     feed: Feed,
     outputs: &mut [Output],
     piece: &mut [u8],
+    gathered: G,
+    limit: u32,
 ) -> Outcome
-    ghost start: { Start }
-    requires fed { Fed D.tells start.content (D.reading desk.old) feed.slot feed.reader [] [] }
+    ghost begun: { Begun G }
+    requires fed { Fed D.tells begun.start.content (D.reading desk.old) feed.slot feed.reader [] [] }
     requires fresh { feed.reader ≡ fresh }
-    requires told { AreTold D.tells (D.writing desk.old) start.base start.names outputs.old (unsaid start.names) }
+    requires told { AreTold D.tells (D.writing desk.old) begun.start.base begun.start.names outputs.old (unsaid begun.start.names) }
     requires width { length outputs.old ≡ G.width }
     requires room { length piece.old ≡ PIECE }
     requires nothing { GathersNothing outputs.old }
-    ensures finishes { Finishes D.tells start G.texts input.now feed.slot (D.reading desk.old) (D.reading desk.new)
+    requires same { begun.gathered ≡ gathered }
+    requires begins { G.fresh gathered }
+    requires limits { (begun.start.limit ≡ limit) × (limit ≤ most_packets) }
+    ensures finishes { Finishes D.tells begun.start (G.texts begun.gathered) input.now feed.slot (D.reading desk.old) (D.reading desk.new)
         (D.writing desk.old) (D.writing desk.new) result }
     ensures asked_in { (D.reading desk.new).side.asked ≡ (D.reading desk.old).side.asked }
     ensures slots_in { (D.reading desk.new).side.slots ≡ (D.reading desk.old).side.slots }
     ensures asked_out { (D.writing desk.new).side.asked ≡ (D.writing desk.old).side.asked }
     ensures slots_out { (D.writing desk.new).side.slots ≡ (D.writing desk.old).side.slots }
     ensures kept_in { ReadsOne feed.slot (D.reading desk.old) (D.reading desk.new) }
-    ensures kept_out { WritesFrom start.base (D.writing desk.old) (D.writing desk.new) }
+    ensures kept_out { WritesFrom begun.start.base (D.writing desk.old) (D.writing desk.new) }
 {
-    let Ok(gathered) = G::begin(outputs) else {
+    let Ok(()) = gathered.begin(outputs) else {
         return Outcome::NoMemory;
     };
     let mut stream = Stream {
@@ -128,7 +188,7 @@ fn run_open<G: Gather, D: Desk>(
         ethernet: false,
         gathered,
     };
-    let answer = read_on(alloc, &mut stream, outputs, desk, input, piece);
+    let answer = read_on(alloc, &mut stream, outputs, desk, input, piece, limit);
     if is_broken(&answer) {
         return answer;
     }

@@ -6,10 +6,10 @@ ghost use Rattle.ioam_desk.specs.Kept.{KeepsInputs, KeepsOutputs};
 ghost use Rattle.ioam_outputs.specs.Names.{AreApart};
 ghost use Rattle.ioam_run.specs.PathsText.{PathsTexts};
 ghost use Rattle.ioam_answer.specs.Outcomes.{IsDone, IsBehindAll, OpensNothing};
-ghost use Rattle.ioam_run.specs.Run.{HasCause, Asked, Leaves, file_names, input_name, output_names};
+ghost use Rattle.ioam_run.specs.Run.{most_packets, HasCause, Asked, Leaves, file_names, input_name, output_names};
 ghost use Rattle.ioam_answer.specs.declared.outcome.Outcome.{Outcome};
 
-use crate::listing::Listing;
+use crate::listing::{Listing, none_listed};
 use crate::over_capture::run_over_capture;
 use crate::packet_text::TraceList;
 use ioam_answer::Outcome;
@@ -25,7 +25,7 @@ pub fn run_paths<D: Desk>(alloc: Global, words: &[Name], desk: &mut D) -> Outcom
     requires { length words.now ≡ 3 }
     ensures cause { HasCause D.tells (file_names words.now) (input_name words.now) (D.reading desk.old) (D.writing desk.old)
         (D.reading desk.new) (D.writing desk.new) result }
-    ensures leaves { IsTrue D.tells → Leaves PathsTexts (output_names words.now) (input_name words.now) (D.reading desk.old) (D.reading desk.new)
+    ensures leaves { IsTrue D.tells → Leaves most_packets PathsTexts (output_names words.now) (input_name words.now) (D.reading desk.old) (D.reading desk.new)
         (D.writing desk.old) (D.writing desk.new) result }
     ensures asked_in { AsksFront (D.reading desk.old).side.asked (D.reading desk.new).side.asked (input_name words.now ∷ []) }
     ensures asked_out { AsksFront (D.writing desk.old).side.asked (D.writing desk.new).side.asked (output_names words.now) }
@@ -45,5 +45,5 @@ pub fn run_paths<D: Desk>(alloc: Global, words: &[Name], desk: &mut D) -> Outcom
     ensures kept_in { KeepsInputs (D.reading desk.old) (D.reading desk.new) }
     ensures kept_out { IsTrue D.tells → KeepsOutputs (D.writing desk.old) (D.writing desk.new) }
 {
-    run_over_capture::<Listing<TraceList>, D>(alloc, words, desk)
+    run_over_capture::<Listing<TraceList>, D>(alloc, words, desk, none_listed())
 }

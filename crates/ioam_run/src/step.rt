@@ -3,7 +3,7 @@ ghost use Rattle.std.specs.Prelude.{◌≡◌, ◌≤◌, IfOk, Some, length};
 ghost use Rattle.ioam_outputs.specs.Told.{GathersFew};
 ghost use Rattle.ioam_pcap.specs.Reader.{fed};
 ghost use Rattle.ioam_run.specs.Run.{most_packets};
-ghost use Rattle.ioam_run.specs.Streams.{HasStood, Steps};
+ghost use Rattle.ioam_run.specs.Streams.{Begun, HasStood, Steps};
 ghost use Rattle.ioam_pcap.specs.Link.{is_ethernet};
 
 use crate::gather::Gather;
@@ -11,7 +11,7 @@ use ioam_base::memory::NoMemory;
 use ioam_outputs::Output;
 use ioam_pcap::{CapFault, CapStep, CaptureReader, is_ethernet};
 
-/// The most records that are taken of a capture.
+/// The most records that are taken of a capture by a command over it alone.
 pub const MOST_PACKETS: u32 = 16_777_216;
 
 /// Why no record was taken.
@@ -26,18 +26,20 @@ pub enum Pause {
 }
 
 /// Takes the next thing that the octets fed so far show: the head of the capture, or a record. The
-/// answer is None where something was taken.
+/// answer is None where something was taken. No more records are taken than `limit`.
 pub fn step<G: Gather>(
     reader: &mut CaptureReader,
     ethernet: &mut bool,
     gathered: &mut G,
     outputs: &mut [Output],
+    limit: u32,
 ) -> Result<Option<Pause>, NoMemory>
+    ghost begun: { Begun G }
     requires stood { HasStood reader.old }
-    requires few { G.count gathered.old ≤ most_packets }
+    requires few { (G.count gathered.old ≤ limit) × (limit ≤ most_packets) }
     requires width { length outputs.old ≡ G.width }
     requires waiting { GathersFew outputs.old }
-    ensures stepped { IfOk result (Steps G.gathers G.count reader.old reader.new ethernet.old ethernet.new
+    ensures stepped { IfOk result (Steps (G.gathers begun.gathered) G.count limit reader.old reader.new ethernet.old ethernet.new
         gathered.old gathered.new outputs.old outputs.new) }
     ensures fed { fed reader.new ≡ fed reader.old }
 {
@@ -47,7 +49,7 @@ pub fn step<G: Gather>(
             Ok(None)
         }
         CapStep::Packet(captured) => {
-            if gathered.taken() >= u64::from(MOST_PACKETS) {
+            if gathered.taken() >= u64::from(limit) {
                 return Ok(Some(Pause::Limit));
             }
             gathered.take(*ethernet, &captured, outputs)?;

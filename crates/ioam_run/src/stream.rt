@@ -1,15 +1,16 @@
 //! A capture that is read in pieces while texts are gathered of its records and written.
-ghost use Rattle.std.specs.Prelude.{◌≡◌, ◌<◌, ◌^◌, IfErr, IfOk, OnErr, OnOk, IsTrue, List, ℕ, length};
+ghost use Rattle.std.specs.Prelude.{◌≡◌, ◌<◌, ◌≤◌, ◌^◌, IfErr, IfOk, OnErr, OnOk, IsTrue, List, ℕ, length};
 ghost use Rattle.ioam_desk.specs.Asked.{IsFaultOf};
 ghost use Rattle.ioam_desk.specs.Kept.{WritesFrom};
 ghost use Rattle.ioam_outputs.specs.Held.{HoldAllFronts, HoldTexts};
 ghost use Rattle.ioam_outputs.specs.Told.{AreTold, AreOpen, GathersFew, said_more};
 ghost use Rattle.ioam_pcap.specs.Reader.{fed};
-ghost use Rattle.ioam_run.specs.Streams.{Start, IsStreaming, Pauses, ReadsOne, Sticks, Stops};
+ghost use Rattle.ioam_run.specs.Run.{most_packets};
+ghost use Rattle.ioam_run.specs.Streams.{Begun, IsStreaming, Pauses, ReadsOne, Sticks, Stops};
 
 use crate::ending::end_outcome;
 use crate::gather::Gather;
-use crate::step::{MOST_PACKETS, Pause, step};
+use crate::step::{Pause, step};
 use ioam_answer::{Outcome, capture_outcome};
 use ioam_base::memory::NoMemory;
 use ioam_desk::{Desk, DeskFault, Name, PIECE};
@@ -32,19 +33,21 @@ fn take_shown<G: Gather, D: Desk>(
     stream: &mut Stream<G>,
     outputs: &mut [Output],
     desk: &mut D,
+    limit: u32,
 ) -> Result<Pause, DeskFault>
-    ghost start: { Start }
-    requires streams { IsStreaming G.gathers G.count D.tells start (D.reading desk.old) (D.writing desk.old) stream.old outputs.old }
+    ghost begun: { Begun G }
+    requires streams { IsStreaming (G.gathers begun.gathered) G.count D.tells begun.start (D.reading desk.old) (D.writing desk.old) stream.old outputs.old }
     requires width { length outputs.old ≡ G.width }
     requires waiting { GathersFew outputs.old }
-    ensures paused { IfOk result (Pauses G.gathers G.count D.tells start (D.reading desk.new) (D.writing desk.new) stream.new outputs.new) }
+    requires limits { (begun.start.limit ≡ limit) × (limit ≤ most_packets) }
+    ensures paused { IfOk result (Pauses (G.gathers begun.gathered) G.count D.tells begun.start (D.reading desk.new) (D.writing desk.new) stream.new outputs.new) }
     ensures same { OnOk result ((D.writing desk.new).side ≡ (D.writing desk.old).side) }
     ensures waiting { OnOk result (GathersFew outputs.new) }
-    ensures sticks { OnErr result (Sticks D.tells start G.texts (D.writing desk.new)) }
+    ensures sticks { OnErr result (Sticks D.tells begun.start (G.texts begun.gathered) (D.writing desk.new)) }
     ensures cause { IfErr result (IsFaultOf (D.writing desk.old).side (D.writing desk.new).side) }
     ensures asked { (D.writing desk.new).side.asked ≡ (D.writing desk.old).side.asked }
     ensures slots { (D.writing desk.new).side.slots ≡ (D.writing desk.old).side.slots }
-    ensures kept { WritesFrom start.base (D.writing desk.old) (D.writing desk.new) }
+    ensures kept { WritesFrom begun.start.base (D.writing desk.old) (D.writing desk.new) }
     ensures fed { fed stream.new.feed.reader ≡ fed stream.old.feed.reader }
     ensures slot { stream.new.feed.slot ≡ stream.old.feed.slot }
     ensures inputs { D.reading desk.new ≡ D.reading desk.old }
@@ -55,6 +58,7 @@ fn take_shown<G: Gather, D: Desk>(
             &mut stream.ethernet,
             &mut stream.gathered,
             outputs,
+            limit,
         ) {
             Ok(None) => {}
             Ok(Some(pause)) => return Ok(pause),
@@ -64,7 +68,7 @@ fn take_shown<G: Gather, D: Desk>(
     }
 }
 
-/// Reads a capture to its end, or to what stops it, and takes its records.
+/// Reads a capture to its end, or to what stops it, and takes its records, no more than `limit`.
 pub fn read_on<G: Gather, D: Desk>(
     alloc: Global,
     stream: &mut Stream<G>,
@@ -72,29 +76,29 @@ pub fn read_on<G: Gather, D: Desk>(
     desk: &mut D,
     input: &Name,
     piece: &mut [u8],
+    limit: u32,
 ) -> Outcome
-    ghost start: { Start }
-    requires streams { IsStreaming G.gathers G.count D.tells start (D.reading desk.old) (D.writing desk.old) stream.old outputs.old }
+    ghost begun: { Begun G }
+    requires streams { IsStreaming (G.gathers begun.gathered) G.count D.tells begun.start (D.reading desk.old) (D.writing desk.old) stream.old outputs.old }
     requires width { length outputs.old ≡ G.width }
     requires room { length piece.old ≡ PIECE }
     requires waiting { GathersFew outputs.old }
-    ensures stopped { Stops D.tells start G.texts G.gathers G.count input.now stream.old.feed.slot (D.reading desk.old) (D.reading desk.new)
+    requires limits { (begun.start.limit ≡ limit) × (limit ≤ most_packets) }
+    ensures stopped { Stops D.tells begun.start (G.texts begun.gathered) (G.gathers begun.gathered) G.count input.now stream.old.feed.slot (D.reading desk.old) (D.reading desk.new)
         (D.writing desk.old) (D.writing desk.new) stream.new.gathered outputs.new result }
     ensures asked_in { (D.reading desk.new).side.asked ≡ (D.reading desk.old).side.asked }
     ensures slots_in { (D.reading desk.new).side.slots ≡ (D.reading desk.old).side.slots }
     ensures asked_out { (D.writing desk.new).side.asked ≡ (D.writing desk.old).side.asked }
     ensures slots_out { (D.writing desk.new).side.slots ≡ (D.writing desk.old).side.slots }
     ensures kept_in { ReadsOne stream.old.feed.slot (D.reading desk.old) (D.reading desk.new) }
-    ensures kept_out { WritesFrom start.base (D.writing desk.old) (D.writing desk.new) }
+    ensures kept_out { WritesFrom begun.start.base (D.writing desk.old) (D.writing desk.new) }
 {
     'pieces: loop {
-        match take_shown(stream, outputs, desk) {
+        match take_shown(stream, outputs, desk, limit) {
             Ok(Pause::More) => {}
             Ok(Pause::Bad { at, fault }) => return capture_outcome(alloc, input, at, fault),
             Ok(Pause::Limit) => {
-                return Outcome::Packets {
-                    limit: MOST_PACKETS,
-                };
+                return Outcome::Packets { limit };
             }
             Err(DeskFault::Failed) => return Outcome::WriteFault,
             Err(DeskFault::NoMemory) => return Outcome::NoMemory,

@@ -1,2 +1,3 @@
 pub mod NamesLaws
 pub mod SettingLaws
+pub mod OnlyLaws

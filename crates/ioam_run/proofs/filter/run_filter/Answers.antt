@@ -1,7 +1,7 @@
 use Rattle.std.proofs.Common.{ℕ, List, subst}
 use Rattle.ioam_outputs.specs.Names.{name_at}
 use Rattle.ioam_run.specs.FilterText.{FilterTexts}
-use Rattle.ioam_run.specs.Run.{Leaves, file_names, input_name}
+use Rattle.ioam_run.specs.Run.{most_packets, Leaves, file_names, input_name}
 use Rattle.ioam_run.proofs.AskedLaws.{HasCause-asked, Leaves-bounded, two_outputs}
 use Rattle.ioam_run.proofs.filter.run_filter.Goals as goal
 
@@ -13,7 +13,7 @@ returns-clause-exact g c = λ asked told asks reads writes.
 
 pub returns-clause-boundary : goal.returns-clause-boundary
 returns-clause-boundary g c = λ behind told.
-    let P : List (List ℕ) → Type 0 = λ outputs. Leaves FilterTexts outputs (input_name c.args.words.now) (g.D.Desk.reading c.args.desk.now) (g.D.Desk.reading c.run_over_capture.new.desk)
+    let P : List (List ℕ) → Type 0 = λ outputs. Leaves most_packets FilterTexts outputs (input_name c.args.words.now) (g.D.Desk.reading c.args.desk.now) (g.D.Desk.reading c.run_over_capture.new.desk)
     (g.D.Desk.writing c.args.desk.now) (g.D.Desk.writing c.run_over_capture.new.desk) c.run_over_capture.result in
     Leaves-bounded (input_name c.args.words.now) (name_at c.args.words.now 2) (name_at c.args.words.now 3)
     (g.D.Desk.reading c.args.desk.now) (g.D.Desk.reading c.run_over_capture.new.desk) (g.D.Desk.writing c.args.desk.now) (g.D.Desk.writing c.run_over_capture.new.desk) c.run_over_capture.result

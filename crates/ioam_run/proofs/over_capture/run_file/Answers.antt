@@ -5,6 +5,7 @@ use Rattle.ioam_feed.specs.Feed.{Fed}
 use Rattle.ioam_outputs.specs.declared.output.Output.{Output}
 use Rattle.ioam_outputs.specs.Told.{GathersNothing}
 use Rattle.ioam_outputs.proofs.ToldLaws.{told_names}
+use Rattle.ioam_run.specs.Run.{FileCause}
 use Rattle.ioam_run.specs.Streams.{Start, Finishes, ReadsOne}
 use Rattle.ioam_run.proofs.BeginLaws.{Fed-start, told_start, unwritten}
 use Rattle.ioam_run.proofs.FinishesLaws.{Finishes-drained, Finishes-cause, Finishes-leaves}
@@ -24,22 +25,28 @@ run_open-requires g c κs within =
       (
         search rules,
         (
-          Fed-start g.D.Desk.tells g.start (holds (g.D.Desk.writing c.args.desk.now) c.args.input.now) (g.D.Desk.writing c.args.desk.now).side.slots c.args.names.now
+          Fed-start g.D.Desk.tells g.begun.start (holds (g.D.Desk.writing c.args.desk.now) c.args.input.now) (g.D.Desk.writing c.args.desk.now).side.slots c.args.limit c.args.names.now
               (g.D.Desk.reading c.open_feed.new.desk) (g.D.Desk.reading c.open_outputs.new.desk) c.in-Ok-open_feed.feed.slot c.in-Ok-open_feed.feed.reader
               c.requires.1.1.0 c.in-Ok-open_outputs.ensures.inputs (subst P c.text.ensures c.in-Ok-open_feed.ensures.fed),
           (
             c.in-Ok-open_feed.ensures.fresh,
             (
-              told_start g.D.Desk.tells g.start (holds (g.D.Desk.writing c.args.desk.now) c.args.input.now) (g.D.Desk.writing c.args.desk.now).side.slots
+              told_start g.D.Desk.tells g.begun.start (holds (g.D.Desk.writing c.args.desk.now) c.args.input.now) (g.D.Desk.writing c.args.desk.now).side.slots c.args.limit
                   (g.D.Desk.writing c.open_feed.new.desk).side.slots c.args.names.now (g.D.Desk.writing c.open_outputs.new.desk) c.in-Ok-open_outputs.outputs.items c.deref_mut.result.now
                   c.requires.1.1.0 slots c.deref_mut.ensures.value told,
               (
                 ap (λ (o : List Output). length o) c.deref_mut.ensures.value
                     ∙ told_names g.D.Desk.tells (g.D.Desk.writing c.open_outputs.new.desk) (g.D.Desk.writing c.open_feed.new.desk).side.slots c.args.names.now c.in-Ok-open_outputs.outputs.items _ told
-                    ∙ c.requires.1.1.1.1,
+                    ∙ c.requires.1.1.1.1.0,
                 (
                   ap (λ (o : List ℕ). length o) c.deref_mut-in-Ok-open_outputs.ensures.value ∙ c.in-Ok.ensures,
-                  subst (λ (o : List Output). GathersNothing o) (sym c.deref_mut.ensures.value) c.in-Ok-open_outputs.ensures.nothing,
+                  (
+                    subst (λ (o : List Output). GathersNothing o) (sym c.deref_mut.ensures.value) c.in-Ok-open_outputs.ensures.nothing,
+                    (
+                      c.requires.1.1.1.1.1.0,
+                      (c.requires.1.1.1.1.1.1.0, (ap (λ (s : Start). s.limit) c.requires.1.1.0, c.requires.1.1.1.1.1.1.1)),
+                    ),
+                  ),
                 ),
               ),
             ),
@@ -50,21 +57,24 @@ run_open-requires g c κs within =
 
 pub returns-in-Ok-open_outputs-clause-cause : goal.returns-in-Ok-open_outputs-clause-cause
 returns-in-Ok-open_outputs-clause-cause g c =
-    Finishes-cause g.D.Desk.tells g.start g.G.Gather.texts c.args.input.now c.in-Ok-open_feed.feed.slot
+    let P : ℕ → Type 0 = λ most. FileCause most g.D.Desk.tells c.args.input.now (g.D.Desk.reading c.args.desk.now) (g.D.Desk.writing c.args.desk.now)
+    (g.D.Desk.reading c.run_open.new.desk) (g.D.Desk.writing c.run_open.new.desk) c.run_open.result in
+    subst P (ap (λ (s : Start). s.limit) c.requires.1.1.0)
+    (Finishes-cause g.D.Desk.tells g.begun.start (g.G.Gather.texts g.begun.gathered) c.args.input.now c.in-Ok-open_feed.feed.slot
     (g.D.Desk.reading c.args.desk.now) (g.D.Desk.reading c.open_outputs.new.desk) (g.D.Desk.reading c.run_open.new.desk)
     (g.D.Desk.writing c.args.desk.now) (g.D.Desk.writing c.open_outputs.new.desk) (g.D.Desk.writing c.run_open.new.desk)
     (ap (λ (s : Start). s.content) c.requires.1.1.0)
     (ap (λ (r : desk.Reading). r.side.faults) c.in-Ok-open_outputs.ensures.inputs ∙ ap (λ (s : Side). s.faults) c.in-Ok-open_feed.ensures.opened.side)
     (ap (λ (s : Side). s.faults) c.in-Ok-open_outputs.ensures.side ∙ ap (λ (w : Writing). w.side.faults) c.in-Ok-open_feed.ensures.outputs)
-    c.run_open.result c.run_open.ensures.finishes
+    c.run_open.result c.run_open.ensures.finishes)
 
 pub returns-in-Ok-open_outputs-clause-leaves : goal.returns-in-Ok-open_outputs-clause-leaves
 returns-in-Ok-open_outputs-clause-leaves g c = λ told.
-    let P : Start → Type 0 = λ s. Finishes g.D.Desk.tells s g.G.Gather.texts c.args.input.now c.in-Ok-open_feed.feed.slot
+    let P : Start → Type 0 = λ s. Finishes g.D.Desk.tells s (g.G.Gather.texts g.begun.gathered) c.args.input.now c.in-Ok-open_feed.feed.slot
     (g.D.Desk.reading c.open_outputs.new.desk) (g.D.Desk.reading c.run_open.new.desk) (g.D.Desk.writing c.open_outputs.new.desk) (g.D.Desk.writing c.run_open.new.desk) c.run_open.result in
     let slots : (g.D.Desk.reading c.open_outputs.new.desk).side.slots ≡ (g.D.Desk.reading c.args.desk.now).side.slots + 1 =
     ap (λ (r : desk.Reading). r.side.slots) c.in-Ok-open_outputs.ensures.inputs ∙ ap (λ (s : Side). s.slots) c.in-Ok-open_feed.ensures.opened.side in
-    Finishes-leaves g.D.Desk.tells (g.D.Desk.writing c.args.desk.now).side.slots c.args.names.now g.G.Gather.texts c.args.input.now c.in-Ok-open_feed.feed.slot
+    Finishes-leaves g.D.Desk.tells (g.D.Desk.writing c.args.desk.now).side.slots c.args.limit c.args.names.now (g.G.Gather.texts g.begun.gathered) c.args.input.now c.in-Ok-open_feed.feed.slot
     (g.D.Desk.reading c.args.desk.now) (g.D.Desk.reading c.open_outputs.new.desk) (g.D.Desk.reading c.run_open.new.desk)
     (g.D.Desk.writing c.args.desk.now) (g.D.Desk.writing c.open_outputs.new.desk) (g.D.Desk.writing c.run_open.new.desk) told
     c.in-Ok-open_feed.ensures.opened.number (omega (arith, slots, c.run_open.ensures.slots_in))
@@ -73,17 +83,17 @@ returns-in-Ok-open_outputs-clause-leaves g c = λ told.
 pub returns-in-Err-Failed-open_outputs-clause-leaves : goal.returns-in-Err-Failed-open_outputs-clause-leaves
 returns-in-Err-Failed-open_outputs-clause-leaves g c = λ told.
     let P : List ℕ → Type 0 = λ name. holds (g.D.Desk.writing c.args.desk.now) name ≡ Some ((g.D.Desk.reading c.open_feed.new.desk).left c.in-Ok-open_feed.feed.slot) in
-    unwritten g.G.Gather.texts g.G.Gather.empty c.args.names.now (g.D.Desk.writing c.args.desk.now) (g.D.Desk.writing c.open_feed.new.desk) (g.D.Desk.writing c.open_outputs.new.desk)
+    unwritten c.args.limit (g.G.Gather.texts g.begun.gathered) g.G.Gather.empty c.args.names.now (g.D.Desk.writing c.args.desk.now) (g.D.Desk.writing c.open_feed.new.desk) (g.D.Desk.writing c.open_outputs.new.desk)
     (holds (g.D.Desk.writing c.args.desk.now) c.args.input.now) ((g.D.Desk.reading c.open_feed.new.desk).left c.in-Ok-open_feed.feed.slot)
-    g.met.G.Gather.of_none (omega (arith, g.met.G.Gather.empty_sized, c.requires.1.1.1.1)) (subst P c.text.ensures (c.in-Ok-open_feed.ensures.fed.held told)) c.in-Ok-open_feed.ensures.outputs
+    (g.met.G.Gather.of_none g.begun.gathered) (omega (arith, g.met.G.Gather.empty_sized, c.requires.1.1.1.1.0)) (subst P c.text.ensures (c.in-Ok-open_feed.ensures.fed.held told)) c.in-Ok-open_feed.ensures.outputs
     ((rw c.in-Err-Failed-open_outputs.field-0-is at c.in-Err-Failed-open_outputs.ensures.fault).1 told)
 
 pub returns-clause-leaves : goal.returns-clause-leaves
 returns-clause-leaves g c = λ told.
     let P : List ℕ → Type 0 = λ name. holds (g.D.Desk.writing c.args.desk.now) name ≡ Some ((g.D.Desk.reading c.open_feed.new.desk).left c.in-Ok-open_feed.feed.slot) in
-    inr (unwritten g.G.Gather.texts g.G.Gather.empty c.args.names.now (g.D.Desk.writing c.args.desk.now) (g.D.Desk.writing c.open_feed.new.desk) (g.D.Desk.writing c.open_outputs.new.desk)
+    inr (unwritten c.args.limit (g.G.Gather.texts g.begun.gathered) g.G.Gather.empty c.args.names.now (g.D.Desk.writing c.args.desk.now) (g.D.Desk.writing c.open_feed.new.desk) (g.D.Desk.writing c.open_outputs.new.desk)
     (holds (g.D.Desk.writing c.args.desk.now) c.args.input.now) ((g.D.Desk.reading c.open_feed.new.desk).left c.in-Ok-open_feed.feed.slot)
-    g.met.G.Gather.of_none (omega (arith, g.met.G.Gather.empty_sized, c.requires.1.1.1.1)) (subst P c.text.ensures (c.in-Ok-open_feed.ensures.fed.held told)) c.in-Ok-open_feed.ensures.outputs
+    (g.met.G.Gather.of_none g.begun.gathered) (omega (arith, g.met.G.Gather.empty_sized, c.requires.1.1.1.1.0)) (subst P c.text.ensures (c.in-Ok-open_feed.ensures.fed.held told)) c.in-Ok-open_feed.ensures.outputs
     ((rw c.in-Err-NoMemory-open_outputs.field-0-is at c.in-Err-NoMemory-open_outputs.ensures.fault).1 told))
 
 pub returns-in-Ok-open_outputs-clause-all_in : goal.returns-in-Ok-open_outputs-clause-all_in
@@ -188,7 +198,7 @@ returns-in-Ok-open_outputs-clause-no_output g c =
 
 pub returns-in-Ok-open_outputs-clause-drained : goal.returns-in-Ok-open_outputs-clause-drained
 returns-in-Ok-open_outputs-clause-drained g c =
-    Finishes-drained g.D.Desk.tells g.start g.G.Gather.texts c.args.input.now c.in-Ok-open_feed.feed.slot (g.D.Desk.reading c.args.desk.now).side.slots
+    Finishes-drained g.D.Desk.tells g.begun.start (g.G.Gather.texts g.begun.gathered) c.args.input.now c.in-Ok-open_feed.feed.slot (g.D.Desk.reading c.args.desk.now).side.slots
     (g.D.Desk.reading c.open_outputs.new.desk) (g.D.Desk.reading c.run_open.new.desk) (g.D.Desk.writing c.open_outputs.new.desk) (g.D.Desk.writing c.run_open.new.desk)
     c.in-Ok-open_feed.ensures.opened.number c.run_open.result c.run_open.ensures.finishes
 
@@ -274,8 +284,8 @@ returns-in-Ok-open_outputs-clause-kept_in g c =
 
 pub returns-in-Ok-open_outputs-clause-kept_out : goal.returns-in-Ok-open_outputs-clause-kept_out
 returns-in-Ok-open_outputs-clause-kept_out g c = λ told.
-    let base : g.start.base ≡ (g.D.Desk.writing c.args.desk.now).side.slots = ap (λ (s : Start). s.base) c.requires.1.1.0 in
-    KeepsOutputs-from (g.D.Desk.writing c.args.desk.now) (g.D.Desk.writing c.open_outputs.new.desk) (g.D.Desk.writing c.run_open.new.desk) g.start.base
+    let base : g.begun.start.base ≡ (g.D.Desk.writing c.args.desk.now).side.slots = ap (λ (s : Start). s.base) c.requires.1.1.0 in
+    KeepsOutputs-from (g.D.Desk.writing c.args.desk.now) (g.D.Desk.writing c.open_outputs.new.desk) (g.D.Desk.writing c.run_open.new.desk) g.begun.start.base
     (KeepsOutputs-then (g.D.Desk.writing c.args.desk.now) (g.D.Desk.writing c.open_feed.new.desk) (g.D.Desk.writing c.open_outputs.new.desk)
     (KeepsOutputs-same (g.D.Desk.writing c.args.desk.now) _ c.open_feed.ensures.outputs) (c.open_outputs.ensures.kept told))
     (omega (arith, base)) c.run_open.ensures.slots_out c.run_open.ensures.asked_out c.run_open.ensures.kept_out

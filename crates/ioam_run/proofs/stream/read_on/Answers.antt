@@ -15,11 +15,11 @@ use Rattle.ioam_run.proofs.stream.read_on.Goals as goal
 pub returns-in-Ok-Bad-clause-stopped : goal.returns-in-Ok-Bad-clause-stopped
 returns-in-Ok-Bad-clause-stopped g c =
     let halts = rw c.in-Ok-Bad.field-0-is at c.in-Ok-Bad.ensures.paused in
-    Stops-bad g.G.Gather.gathers g.G.Gather.count g.D.Desk.tells g.start g.G.Gather.texts c.args.input.now c.args.stream.now.feed.slot
+    Stops-bad (g.G.Gather.gathers g.begun.gathered) g.G.Gather.count g.D.Desk.tells g.begun.start (g.G.Gather.texts g.begun.gathered) c.args.input.now c.args.stream.now.feed.slot
     (g.D.Desk.reading c.args.desk.now) (g.D.Desk.reading c.take_shown.new.desk) (g.D.Desk.writing c.args.desk.now) (g.D.Desk.writing c.take_shown.new.desk)
     c.take_shown.new.stream.gathered c.take_shown.new.outputs c.in-Ok-Bad.at c.in-Ok-Bad.fault c.capture_outcome.result c.capture_outcome.ensures halts
     (c.in-Ok-Bad.ensures.same ∙ c.pieces.invariant.side)
-    (Halts-sticks_here g.G.Gather.gathers g.G.Gather.count g.D.Desk.tells g.start g.G.Gather.texts g.G.Gather.sums g.met.G.Gather.any_link g.met.G.Gather.ends
+    (Halts-sticks_here (g.G.Gather.gathers g.begun.gathered) g.G.Gather.count g.D.Desk.tells g.begun.start (g.G.Gather.texts g.begun.gathered) g.G.Gather.sums (g.met.G.Gather.any_link g.begun.gathered) (g.met.G.Gather.ends g.begun.gathered)
     (EndsSo (Faulty c.in-Ok-Bad.at c.in-Ok-Bad.fault)) (begins_ends (Faulty c.in-Ok-Bad.at c.in-Ok-Bad.fault)) (g.D.Desk.writing c.take_shown.new.desk) c.take_shown.new.stream.gathered c.take_shown.new.outputs halts
     (omega (arith, g.met.G.Gather.sized c.take_shown.new.stream.gathered, c.pieces.invariant.width, c.take_shown.auto.outputs)))
 
@@ -28,7 +28,7 @@ pieces-preserved g c =
     let streams = (rw c.in-Ok-More.field-0-is at c.in-Ok-More.ensures.paused).0 in
     let feeds = rw c.in-Ok-true.field-0-test at c.in-Ok-true.ensures.read in
     record {
-      streams = Streams-fed g.G.Gather.gathers g.G.Gather.count g.D.Desk.tells g.start (g.D.Desk.reading c.take_shown.new.desk) (g.D.Desk.reading c.refill.new.desk) (g.D.Desk.writing c.take_shown.new.desk) (g.D.Desk.writing c.refill.new.desk) c.take_shown.new.stream.feed.slot c.refill.new.self.slot _
+      streams = Streams-fed (g.G.Gather.gathers g.begun.gathered) g.G.Gather.count g.D.Desk.tells g.begun.start (g.D.Desk.reading c.take_shown.new.desk) (g.D.Desk.reading c.refill.new.desk) (g.D.Desk.writing c.take_shown.new.desk) (g.D.Desk.writing c.refill.new.desk) c.take_shown.new.stream.feed.slot c.refill.new.self.slot _
           c.take_shown.new.stream.feed.reader c.refill.new.self.reader c.take_shown.new.stream.ethernet c.take_shown.new.stream.gathered c.take_shown.new.outputs c.in-Ok-true.ensures.outputs c.in-Ok-true.ensures.slot feeds
           (omega (arith, c.in-Ok-true.ensures.kept, c.pieces.invariant.room)) streams;
       width = omega (arith, c.pieces.invariant.width, c.take_shown.auto.outputs);
@@ -40,10 +40,10 @@ pieces-preserved g c =
       kept_in = ReadsOne-refilled g.D.Desk.tells c.args.stream.now.feed.slot c.take_shown.new.stream.feed.slot _ (g.D.Desk.reading c.args.desk.now) (g.D.Desk.reading c.pieces.desk)
           (g.D.Desk.reading c.take_shown.new.desk) (g.D.Desk.reading c.refill.new.desk) _ _ _ c.pieces.invariant.kept_in c.take_shown.ensures.inputs
           (c.take_shown.ensures.slot ∙ c.pieces.invariant.slot) c.refill.ensures.read;
-      kept_out = WritesFrom-then g.start.base (g.D.Desk.writing c.args.desk.now) (g.D.Desk.writing c.take_shown.new.desk) (g.D.Desk.writing c.refill.new.desk)
-          (WritesFrom-then g.start.base (g.D.Desk.writing c.args.desk.now) (g.D.Desk.writing c.pieces.desk) (g.D.Desk.writing c.take_shown.new.desk)
+      kept_out = WritesFrom-then g.begun.start.base (g.D.Desk.writing c.args.desk.now) (g.D.Desk.writing c.take_shown.new.desk) (g.D.Desk.writing c.refill.new.desk)
+          (WritesFrom-then g.begun.start.base (g.D.Desk.writing c.args.desk.now) (g.D.Desk.writing c.pieces.desk) (g.D.Desk.writing c.take_shown.new.desk)
           c.pieces.invariant.kept_out c.take_shown.ensures.kept)
-          (WritesFrom-same g.start.base _ _ c.refill.ensures.outputs);
+          (WritesFrom-same g.begun.start.base _ _ c.refill.ensures.outputs);
     }
 
 pub refill-requires-clause-few : goal.refill-requires-clause-few
@@ -58,7 +58,7 @@ refill-requires-clause-fits g c =
       arith,
       c.pieces.invariant.room,
       Waits-few c.take_shown.new.stream.feed.reader paused.1,
-      Streams-start g.G.Gather.gathers g.G.Gather.count g.D.Desk.tells g.start (g.D.Desk.reading c.take_shown.new.desk) (g.D.Desk.writing c.take_shown.new.desk)
+      Streams-start (g.G.Gather.gathers g.begun.gathered) g.G.Gather.count g.D.Desk.tells g.begun.start (g.D.Desk.reading c.take_shown.new.desk) (g.D.Desk.writing c.take_shown.new.desk)
           c.take_shown.new.stream.feed.slot c.take_shown.new.stream.feed.reader c.take_shown.new.stream.ethernet c.take_shown.new.stream.gathered c.take_shown.new.outputs paused.0,
     )
 
@@ -69,7 +69,7 @@ pieces-smaller g c =
     omega (
       arith,
       Waits-few c.take_shown.new.stream.feed.reader paused.1,
-      Streams-start g.G.Gather.gathers g.G.Gather.count g.D.Desk.tells g.start (g.D.Desk.reading c.take_shown.new.desk) (g.D.Desk.writing c.take_shown.new.desk)
+      Streams-start (g.G.Gather.gathers g.begun.gathered) g.G.Gather.count g.D.Desk.tells g.begun.start (g.D.Desk.reading c.take_shown.new.desk) (g.D.Desk.writing c.take_shown.new.desk)
           c.take_shown.new.stream.feed.slot c.take_shown.new.stream.feed.reader c.take_shown.new.stream.ethernet c.take_shown.new.stream.gathered c.take_shown.new.outputs paused.0,
       c.in-Ok-More.ensures.fed,
       feeds.some,
@@ -84,18 +84,18 @@ returns-in-Ok-false-clause-stopped g c =
     let sized : length (g.G.Gather.sums c.take_shown.new.stream.gathered) ≡ length c.take_shown.new.outputs =
     omega (arith, g.met.G.Gather.sized c.take_shown.new.stream.gathered, c.pieces.invariant.width, c.take_shown.auto.outputs) in
     let slot : c.args.stream.now.feed.slot ≡ c.take_shown.new.stream.feed.slot = sym (c.in-Ok-More.ensures.slot ∙ c.pieces.invariant.slot) in
-    let streams = Streams-ended g.G.Gather.gathers g.G.Gather.count g.D.Desk.tells g.start
+    let streams = Streams-ended (g.G.Gather.gathers g.begun.gathered) g.G.Gather.count g.D.Desk.tells g.begun.start
     (g.D.Desk.reading c.take_shown.new.desk) (g.D.Desk.reading c.refill.new.desk) (g.D.Desk.writing c.take_shown.new.desk) (g.D.Desk.writing c.refill.new.desk)
     c.take_shown.new.stream.feed.slot c.take_shown.new.stream.feed.reader c.refill.new.self.reader c.take_shown.new.stream.ethernet c.take_shown.new.stream.gathered c.take_shown.new.outputs
     c.in-Ok-false.ensures.outputs ends paused.0 in
-    let halts = halts_end g.G.Gather.gathers g.G.Gather.count g.D.Desk.tells g.start (g.D.Desk.reading c.refill.new.desk) (g.D.Desk.writing c.refill.new.desk)
+    let halts = halts_end (g.G.Gather.gathers g.begun.gathered) g.G.Gather.count g.D.Desk.tells g.begun.start (g.D.Desk.reading c.refill.new.desk) (g.D.Desk.writing c.refill.new.desk)
     c.take_shown.new.stream.feed.slot c.refill.new.self.reader c.take_shown.new.stream.ethernet c.take_shown.new.stream.gathered c.take_shown.new.outputs streams
     (ending_of c.finish.result) ends.left c.finish.ensures.reads in
-    Stops-end g.G.Gather.gathers g.G.Gather.count g.D.Desk.tells g.start g.G.Gather.texts c.args.input.now c.args.stream.now.feed.slot
+    Stops-end (g.G.Gather.gathers g.begun.gathered) g.G.Gather.count g.D.Desk.tells g.begun.start (g.G.Gather.texts g.begun.gathered) c.args.input.now c.args.stream.now.feed.slot
     (g.D.Desk.reading c.args.desk.now) (g.D.Desk.reading c.refill.new.desk) (g.D.Desk.writing c.args.desk.now) (g.D.Desk.writing c.refill.new.desk)
     c.take_shown.new.stream.gathered c.take_shown.new.outputs (ending_of c.finish.result) c.end_outcome.result c.end_outcome.ensures halts
     (ap (λ (w : Writing). w.side) c.in-Ok-false.ensures.outputs ∙ c.in-Ok-More.ensures.same ∙ c.pieces.invariant.side)
-    (Halts-sticks_here g.G.Gather.gathers g.G.Gather.count g.D.Desk.tells g.start g.G.Gather.texts g.G.Gather.sums g.met.G.Gather.any_link g.met.G.Gather.ends
+    (Halts-sticks_here (g.G.Gather.gathers g.begun.gathered) g.G.Gather.count g.D.Desk.tells g.begun.start (g.G.Gather.texts g.begun.gathered) g.G.Gather.sums (g.met.G.Gather.any_link g.begun.gathered) (g.met.G.Gather.ends g.begun.gathered)
     (EndsSo (ending_of c.finish.result)) (begins_ends (ending_of c.finish.result)) (g.D.Desk.writing c.refill.new.desk) c.take_shown.new.stream.gathered c.take_shown.new.outputs halts sized)
     (λ told. let P : ℕ → Type 0 = λ k. IsTrue ((g.D.Desk.reading c.refill.new.desk).ended k) in subst P (sym slot) (ends.ended told))
 
@@ -109,10 +109,10 @@ returns-in-Err-Failed-refill-clause-stopped g c =
     let slot : c.args.stream.now.feed.slot ≡ c.take_shown.new.stream.feed.slot = sym (c.in-Ok-More.ensures.slot ∙ c.pieces.invariant.slot) in (
       omega (arith, rose, ap (λ (s : Side). s.faults) side),
       (
-        Halts-left g.G.Gather.gathers g.G.Gather.count g.D.Desk.tells g.start (g.D.Desk.writing c.take_shown.new.desk) (g.D.Desk.writing c.refill.new.desk) c.take_shown.new.stream.gathered c.take_shown.new.outputs
+        Halts-left (g.G.Gather.gathers g.begun.gathered) g.G.Gather.count g.D.Desk.tells g.begun.start (g.D.Desk.writing c.take_shown.new.desk) (g.D.Desk.writing c.refill.new.desk) c.take_shown.new.stream.gathered c.take_shown.new.outputs
             ((g.D.Desk.reading c.take_shown.new.desk).left c.take_shown.new.stream.feed.slot) ((g.D.Desk.reading c.refill.new.desk).left c.args.stream.now.feed.slot) c.in-Err-Failed-refill.ensures.outputs
             (ap (λ (left : ℕ → List ℕ). left c.args.stream.now.feed.slot) fails.left ∙ ap (g.D.Desk.reading c.take_shown.new.desk).left slot)
-            (halts_waiting g.G.Gather.gathers g.G.Gather.count g.D.Desk.tells g.start (g.D.Desk.reading c.take_shown.new.desk) (g.D.Desk.writing c.take_shown.new.desk)
+            (halts_waiting (g.G.Gather.gathers g.begun.gathered) g.G.Gather.count g.D.Desk.tells g.begun.start (g.D.Desk.reading c.take_shown.new.desk) (g.D.Desk.writing c.take_shown.new.desk)
             c.take_shown.new.stream.feed.slot c.take_shown.new.stream.feed.reader c.take_shown.new.stream.ethernet c.take_shown.new.stream.gathered c.take_shown.new.outputs paused.0 paused.1),
         ap (λ (w : Writing). w.side) c.in-Err-Failed-refill.ensures.outputs ∙ c.in-Ok-More.ensures.same ∙ c.pieces.invariant.side,
       ),
@@ -121,12 +121,12 @@ returns-in-Err-Failed-refill-clause-stopped g c =
 pub returns-in-Err-NoMemory-refill-clause-stopped : goal.returns-in-Err-NoMemory-refill-clause-stopped
 returns-in-Err-NoMemory-refill-clause-stopped g c =
     let streams = (rw c.in-Ok-More.field-0-is at c.in-Ok-More.ensures.paused).0 in
-    let P : Writing → Type 0 = λ w. HoldAllFronts w g.start.names streams.texts in
-    Streams-sticks g.G.Gather.gathers g.G.Gather.count g.D.Desk.tells g.start (g.D.Desk.reading c.take_shown.new.desk) (g.D.Desk.writing c.take_shown.new.desk)
-    c.take_shown.new.stream.feed.slot c.take_shown.new.stream.feed.reader c.take_shown.new.stream.ethernet c.take_shown.new.stream.gathered c.take_shown.new.outputs streams g.G.Gather.texts g.G.Gather.sums g.met.G.Gather.any_link g.met.G.Gather.ends
+    let P : Writing → Type 0 = λ w. HoldAllFronts w g.begun.start.names streams.texts in
+    Streams-sticks (g.G.Gather.gathers g.begun.gathered) g.G.Gather.count g.D.Desk.tells g.begun.start (g.D.Desk.reading c.take_shown.new.desk) (g.D.Desk.writing c.take_shown.new.desk)
+    c.take_shown.new.stream.feed.slot c.take_shown.new.stream.feed.reader c.take_shown.new.stream.ethernet c.take_shown.new.stream.gathered c.take_shown.new.outputs streams (g.G.Gather.texts g.begun.gathered) g.G.Gather.sums (g.met.G.Gather.any_link g.begun.gathered) (g.met.G.Gather.ends g.begun.gathered)
     (omega (arith, g.met.G.Gather.sized c.take_shown.new.stream.gathered, c.pieces.invariant.width, c.take_shown.auto.outputs)) (g.D.Desk.writing c.refill.new.desk)
     (λ told. subst P (sym c.in-Err-NoMemory-refill.ensures.outputs)
-    (Streams-fronts g.G.Gather.gathers g.G.Gather.count g.D.Desk.tells g.start (g.D.Desk.reading c.take_shown.new.desk) (g.D.Desk.writing c.take_shown.new.desk)
+    (Streams-fronts (g.G.Gather.gathers g.begun.gathered) g.G.Gather.count g.D.Desk.tells g.begun.start (g.D.Desk.reading c.take_shown.new.desk) (g.D.Desk.writing c.take_shown.new.desk)
     c.take_shown.new.stream.feed.slot c.take_shown.new.stream.feed.reader c.take_shown.new.stream.ethernet c.take_shown.new.stream.gathered c.take_shown.new.outputs streams told))
 
 pub returns-in-Ok-Bad-clause-asked_in : goal.returns-in-Ok-Bad-clause-asked_in
@@ -235,7 +235,7 @@ pieces-init g c = record {
   side = refl;
   slot = refl;
   kept_in = ReadsOne-same c.args.stream.now.feed.slot (g.D.Desk.reading c.args.desk.now) _ refl;
-  kept_out = WritesFrom-same g.start.base (g.D.Desk.writing c.args.desk.now) _ refl;
+  kept_out = WritesFrom-same g.begun.start.base (g.D.Desk.writing c.args.desk.now) _ refl;
 }
 
 pub returns-in-Ok-Bad-clause-kept_in : goal.returns-in-Ok-Bad-clause-kept_in
@@ -243,7 +243,7 @@ returns-in-Ok-Bad-clause-kept_in g c = ReadsOne-on c.args.stream.now.feed.slot (
     c.pieces.invariant.kept_in c.take_shown.ensures.inputs
 
 pub returns-in-Ok-Bad-clause-kept_out : goal.returns-in-Ok-Bad-clause-kept_out
-returns-in-Ok-Bad-clause-kept_out g c = WritesFrom-then g.start.base (g.D.Desk.writing c.args.desk.now) (g.D.Desk.writing c.pieces.desk) (g.D.Desk.writing c.take_shown.new.desk)
+returns-in-Ok-Bad-clause-kept_out g c = WritesFrom-then g.begun.start.base (g.D.Desk.writing c.args.desk.now) (g.D.Desk.writing c.pieces.desk) (g.D.Desk.writing c.take_shown.new.desk)
     c.pieces.invariant.kept_out c.take_shown.ensures.kept
 
 pub returns-in-Ok-Limit-clause-kept_in : goal.returns-in-Ok-Limit-clause-kept_in
@@ -251,7 +251,7 @@ returns-in-Ok-Limit-clause-kept_in g c = ReadsOne-on c.args.stream.now.feed.slot
     c.pieces.invariant.kept_in c.take_shown.ensures.inputs
 
 pub returns-in-Ok-Limit-clause-kept_out : goal.returns-in-Ok-Limit-clause-kept_out
-returns-in-Ok-Limit-clause-kept_out g c = WritesFrom-then g.start.base (g.D.Desk.writing c.args.desk.now) (g.D.Desk.writing c.pieces.desk) (g.D.Desk.writing c.take_shown.new.desk)
+returns-in-Ok-Limit-clause-kept_out g c = WritesFrom-then g.begun.start.base (g.D.Desk.writing c.args.desk.now) (g.D.Desk.writing c.pieces.desk) (g.D.Desk.writing c.take_shown.new.desk)
     c.pieces.invariant.kept_out c.take_shown.ensures.kept
 
 pub returns-in-Err-Failed-clause-kept_in : goal.returns-in-Err-Failed-clause-kept_in
@@ -259,7 +259,7 @@ returns-in-Err-Failed-clause-kept_in g c = ReadsOne-on c.args.stream.now.feed.sl
     c.pieces.invariant.kept_in c.take_shown.ensures.inputs
 
 pub returns-in-Err-Failed-clause-kept_out : goal.returns-in-Err-Failed-clause-kept_out
-returns-in-Err-Failed-clause-kept_out g c = WritesFrom-then g.start.base (g.D.Desk.writing c.args.desk.now) (g.D.Desk.writing c.pieces.desk) (g.D.Desk.writing c.take_shown.new.desk)
+returns-in-Err-Failed-clause-kept_out g c = WritesFrom-then g.begun.start.base (g.D.Desk.writing c.args.desk.now) (g.D.Desk.writing c.pieces.desk) (g.D.Desk.writing c.take_shown.new.desk)
     c.pieces.invariant.kept_out c.take_shown.ensures.kept
 
 pub returns-in-Err-NoMemory-clause-kept_in : goal.returns-in-Err-NoMemory-clause-kept_in
@@ -267,7 +267,7 @@ returns-in-Err-NoMemory-clause-kept_in g c = ReadsOne-on c.args.stream.now.feed.
     c.pieces.invariant.kept_in c.take_shown.ensures.inputs
 
 pub returns-in-Err-NoMemory-clause-kept_out : goal.returns-in-Err-NoMemory-clause-kept_out
-returns-in-Err-NoMemory-clause-kept_out g c = WritesFrom-then g.start.base (g.D.Desk.writing c.args.desk.now) (g.D.Desk.writing c.pieces.desk) (g.D.Desk.writing c.take_shown.new.desk)
+returns-in-Err-NoMemory-clause-kept_out g c = WritesFrom-then g.begun.start.base (g.D.Desk.writing c.args.desk.now) (g.D.Desk.writing c.pieces.desk) (g.D.Desk.writing c.take_shown.new.desk)
     c.pieces.invariant.kept_out c.take_shown.ensures.kept
 
 pub returns-in-Ok-false-clause-kept_in : goal.returns-in-Ok-false-clause-kept_in
@@ -276,10 +276,10 @@ returns-in-Ok-false-clause-kept_in g c = ReadsOne-refilled g.D.Desk.tells c.args
     (c.take_shown.ensures.slot ∙ c.pieces.invariant.slot) c.refill.ensures.read
 
 pub returns-in-Ok-false-clause-kept_out : goal.returns-in-Ok-false-clause-kept_out
-returns-in-Ok-false-clause-kept_out g c = WritesFrom-then g.start.base (g.D.Desk.writing c.args.desk.now) (g.D.Desk.writing c.take_shown.new.desk) (g.D.Desk.writing c.refill.new.desk)
-    (WritesFrom-then g.start.base (g.D.Desk.writing c.args.desk.now) (g.D.Desk.writing c.pieces.desk) (g.D.Desk.writing c.take_shown.new.desk)
+returns-in-Ok-false-clause-kept_out g c = WritesFrom-then g.begun.start.base (g.D.Desk.writing c.args.desk.now) (g.D.Desk.writing c.take_shown.new.desk) (g.D.Desk.writing c.refill.new.desk)
+    (WritesFrom-then g.begun.start.base (g.D.Desk.writing c.args.desk.now) (g.D.Desk.writing c.pieces.desk) (g.D.Desk.writing c.take_shown.new.desk)
     c.pieces.invariant.kept_out c.take_shown.ensures.kept)
-    (WritesFrom-same g.start.base _ _ c.refill.ensures.outputs)
+    (WritesFrom-same g.begun.start.base _ _ c.refill.ensures.outputs)
 
 pub returns-in-Err-Failed-refill-clause-kept_in : goal.returns-in-Err-Failed-refill-clause-kept_in
 returns-in-Err-Failed-refill-clause-kept_in g c = ReadsOne-refilled g.D.Desk.tells c.args.stream.now.feed.slot c.take_shown.new.stream.feed.slot _ (g.D.Desk.reading c.args.desk.now) (g.D.Desk.reading c.pieces.desk)
@@ -287,10 +287,10 @@ returns-in-Err-Failed-refill-clause-kept_in g c = ReadsOne-refilled g.D.Desk.tel
     (c.take_shown.ensures.slot ∙ c.pieces.invariant.slot) c.refill.ensures.read
 
 pub returns-in-Err-Failed-refill-clause-kept_out : goal.returns-in-Err-Failed-refill-clause-kept_out
-returns-in-Err-Failed-refill-clause-kept_out g c = WritesFrom-then g.start.base (g.D.Desk.writing c.args.desk.now) (g.D.Desk.writing c.take_shown.new.desk) (g.D.Desk.writing c.refill.new.desk)
-    (WritesFrom-then g.start.base (g.D.Desk.writing c.args.desk.now) (g.D.Desk.writing c.pieces.desk) (g.D.Desk.writing c.take_shown.new.desk)
+returns-in-Err-Failed-refill-clause-kept_out g c = WritesFrom-then g.begun.start.base (g.D.Desk.writing c.args.desk.now) (g.D.Desk.writing c.take_shown.new.desk) (g.D.Desk.writing c.refill.new.desk)
+    (WritesFrom-then g.begun.start.base (g.D.Desk.writing c.args.desk.now) (g.D.Desk.writing c.pieces.desk) (g.D.Desk.writing c.take_shown.new.desk)
     c.pieces.invariant.kept_out c.take_shown.ensures.kept)
-    (WritesFrom-same g.start.base _ _ c.refill.ensures.outputs)
+    (WritesFrom-same g.begun.start.base _ _ c.refill.ensures.outputs)
 
 pub returns-in-Err-NoMemory-refill-clause-kept_in : goal.returns-in-Err-NoMemory-refill-clause-kept_in
 returns-in-Err-NoMemory-refill-clause-kept_in g c = ReadsOne-refilled g.D.Desk.tells c.args.stream.now.feed.slot c.take_shown.new.stream.feed.slot _ (g.D.Desk.reading c.args.desk.now) (g.D.Desk.reading c.pieces.desk)
@@ -298,7 +298,7 @@ returns-in-Err-NoMemory-refill-clause-kept_in g c = ReadsOne-refilled g.D.Desk.t
     (c.take_shown.ensures.slot ∙ c.pieces.invariant.slot) c.refill.ensures.read
 
 pub returns-in-Err-NoMemory-refill-clause-kept_out : goal.returns-in-Err-NoMemory-refill-clause-kept_out
-returns-in-Err-NoMemory-refill-clause-kept_out g c = WritesFrom-then g.start.base (g.D.Desk.writing c.args.desk.now) (g.D.Desk.writing c.take_shown.new.desk) (g.D.Desk.writing c.refill.new.desk)
-    (WritesFrom-then g.start.base (g.D.Desk.writing c.args.desk.now) (g.D.Desk.writing c.pieces.desk) (g.D.Desk.writing c.take_shown.new.desk)
+returns-in-Err-NoMemory-refill-clause-kept_out g c = WritesFrom-then g.begun.start.base (g.D.Desk.writing c.args.desk.now) (g.D.Desk.writing c.take_shown.new.desk) (g.D.Desk.writing c.refill.new.desk)
+    (WritesFrom-then g.begun.start.base (g.D.Desk.writing c.args.desk.now) (g.D.Desk.writing c.pieces.desk) (g.D.Desk.writing c.take_shown.new.desk)
     c.pieces.invariant.kept_out c.take_shown.ensures.kept)
-    (WritesFrom-same g.start.base _ _ c.refill.ensures.outputs)
+    (WritesFrom-same g.begun.start.base _ _ c.refill.ensures.outputs)

@@ -9,7 +9,7 @@ use Rattle.ioam_run.proofs.stream.read_on.Given as goal
 -- the outputs were told the texts of the records that were given
 abbrev pub invariant-pieces : goal.invariant-pieces
 invariant-pieces g l = record {
-  streams : IsStreaming g.G.Gather.gathers g.G.Gather.count g.D.Desk.tells g.start (g.D.Desk.reading l.desk) (g.D.Desk.writing l.desk) l.stream l.outputs;
+  streams : IsStreaming (g.G.Gather.gathers g.begun.gathered) g.G.Gather.count g.D.Desk.tells g.begun.start (g.D.Desk.reading l.desk) (g.D.Desk.writing l.desk) l.stream l.outputs;
   width : length l.outputs ≡ g.G.Gather.width;
   waiting : GathersFew l.outputs;
   room : length l.piece ≡ 65536;
@@ -17,7 +17,7 @@ invariant-pieces g l = record {
   side : (g.D.Desk.writing l.desk).side ≡ (g.D.Desk.writing l.initial.desk).side;
   slot : l.stream.feed.slot ≡ l.initial.stream.feed.slot;
   kept_in : ReadsOne l.initial.stream.feed.slot (g.D.Desk.reading l.initial.desk) (g.D.Desk.reading l.desk);
-  kept_out : WritesFrom g.start.base (g.D.Desk.writing l.initial.desk) (g.D.Desk.writing l.desk);
+  kept_out : WritesFrom g.begun.start.base (g.D.Desk.writing l.initial.desk) (g.D.Desk.writing l.desk);
 }
 
 -- what may still be fed: as many records as may be, the front of another, and a piece
@@ -25,4 +25,4 @@ abbrev pub decreases-pieces : goal.decreases-pieces
 decreases-pieces g l = most_start most_packets + most_size + 65536 - fed l.stream.feed.reader
 
 abbrev pub ghost-take_shown : goal.ghost-take_shown
-ghost-take_shown g a = g.start
+ghost-take_shown g a = g.begun

@@ -1,0 +1,8 @@
+pub mod Seat
+pub mod Passage
+pub mod Judged
+pub mod NotesText
+pub mod NodeText
+pub mod Passing
+pub mod Run
+pub mod Ends

@@ -1,0 +1,68 @@
+//! The lines of what a node did with the IOAM options of a packet.
+ghost use Rattle.std.specs.Prelude.{◌≡◌, ◌++◌, OnOk, if◌then◌else◌, codes, decimal};
+ghost use Rattle.ioam_transit.specs.NotesText.{done_line, kind_text, note_line, notes_text};
+
+use ioam_base::memory::NoMemory;
+use ioam_base::text::{append, append_decimal};
+use ioam_visit::{NodeNote, What};
+
+// The kind of an option.
+fn put_kind(direct: bool, out: &mut Vec<u8>) -> Result<(), NoMemory>
+    ensures { OnOk result (out.new.items ≡ out.old.items ++ kind_text direct) }
+{
+    if direct {
+        append(out, b"  direct ")
+    } else {
+        append(out, b"  trace ")
+    }
+}
+
+// `  trace NS DONE` or `  direct NS DONE`
+fn put_done(note: &NodeNote, done: &[u8], out: &mut Vec<u8>) -> Result<(), NoMemory>
+    ensures { OnOk result (out.new.items ≡ out.old.items ++ done_line note.now.direct note.now.namespace.0 done.now) }
+{
+    put_kind(note.direct, out)?;
+    append_decimal(out, u64::from(note.namespace.0))?;
+    append(out, b" ")?;
+    append(out, done)?;
+    append(out, b"\n")
+}
+
+// `  trace NS added WORDS`
+fn put_added(note: &NodeNote, words: u8, out: &mut Vec<u8>) -> Result<(), NoMemory>
+    ensures { OnOk result (out.new.items ≡ out.old.items
+        ++ done_line note.now.direct note.now.namespace.0 (codes "added " ++ decimal words)) }
+{
+    put_kind(note.direct, out)?;
+    append_decimal(out, u64::from(note.namespace.0))?;
+    append(out, b" added ")?;
+    append_decimal(out, u64::from(words))?;
+    append(out, b"\n")
+}
+
+// The line of a note.
+fn put_note(note: &NodeNote, out: &mut Vec<u8>) -> Result<(), NoMemory>
+    ensures { OnOk result (out.new.items ≡ out.old.items ++ note_line note.now) }
+{
+    match note.what {
+        What::Added { words } => put_added(note, words, out),
+        What::Overflowed => put_done(note, b"overflow", out),
+        What::AlreadyOver => put_done(note, b"over", out),
+        What::Unsuited => put_done(note, b"unsuited", out),
+        What::Unknown => put_done(note, b"unknown", out),
+        What::Exported => put_done(note, b"exported", out),
+        What::Short => append(out, b"  option short\n"),
+    }
+}
+
+/// Appends a line for each note, in order: `  trace NS added WORDS` (4-octet words), `  trace NS overflow`,
+/// `over` where Overflow was set before, `unsuited` or `unknown`; `  direct NS exported` or `unknown`; and
+/// `  option short` of an option that is too short for its header (RFC 9197 section 4.4, RFC 9326 section 3).
+pub fn put_notes(notes: &[NodeNote], out: &mut Vec<u8>) -> Result<(), NoMemory>
+    ensures { OnOk result (out.new.items ≡ out.old.items ++ notes_text notes.now) }
+{
+    for note in notes {
+        put_note(note, out)?;
+    }
+    Ok(())
+}
