@@ -1,0 +1,88 @@
+//! What `node` writes.
+use crate::rows::{Passed, rows};
+use ioam_answer::line;
+use ioam_base::memory::NoMemory;
+use ioam_desk::MemoryDesk;
+use ioam_test_rows::digits::{octets, text, words};
+use ioam_test_rows::run_rows::{LINKS, NODES, PORTS, ROUTES};
+use ioam_transit::run_node;
+use std::alloc::Global;
+
+// A desk with the files of a row.
+pub(crate) fn desk_for(alloc: Global, row: &Passed) -> Result<MemoryDesk, NoMemory> {
+    let mut desk = MemoryDesk::new(alloc)?;
+    desk.put_file("domain.toml", &text(alloc, &[NODES, LINKS, PORTS, ROUTES])?)?;
+    desk.put_file("readings", b"")?;
+    desk.put_file("in.pcap", &octets(alloc, row.came)?)?;
+    Ok(desk)
+}
+
+// The line of a run at a node, over what comes by a link.
+pub(crate) fn node_line(
+    alloc: Global,
+    node: &str,
+    link: &str,
+    desk: &mut MemoryDesk,
+) -> Result<String, NoMemory> {
+    let texts: [&str; 9] = [
+        "node",
+        "domain.toml",
+        "readings",
+        node,
+        link,
+        "in.pcap",
+        "out.pcap",
+        "report.txt",
+        "exports",
+    ];
+    let run = words(alloc, &texts)?;
+    line(alloc, &run_node(alloc, &run, desk))
+}
+
+#[test]
+fn a_node_sends_what_it_may(rt: HostRuntime) {
+    let alloc = rt.alloc();
+    for row in rows() {
+        let sent = octets(alloc, row.sent).expect(&rt, "octets");
+        let exports = octets(alloc, row.exports).expect(&rt, "octets");
+        for piece in [65536usize, 7] {
+            let mut desk = desk_for(alloc, row).expect(&rt, "memory");
+            desk.set_piece(piece.max(1));
+            let line = node_line(alloc, row.node, row.link, &mut desk).expect(&rt, "memory");
+            assert_eq!(rt; line.as_str(), "done");
+            assert!(rt;
+                desk.file("out.pcap") == Some(sent.as_slice()),
+                "at {}",
+                row.report
+            );
+            assert!(rt;
+                desk.file("report.txt") == Some(row.report.as_bytes()),
+                "at {}",
+                row.report
+            );
+            assert!(rt;
+                desk.file("exports") == Some(exports.as_slice()),
+                "at {}",
+                row.report
+            );
+        }
+    }
+}
+
+// No node of this name; no link of this name, and one that ends at another node.
+#[test]
+fn a_refused_place_is_named(rt: HostRuntime) {
+    let alloc = rt.alloc();
+    for row in rows().iter().take(1) {
+        for (node, link, said) in [
+            ("z", "ab", "names z"),
+            ("b", "zz", "names zz"),
+            ("b", "bc", "names bc"),
+        ] {
+            let mut desk = desk_for(alloc, row).expect(&rt, "memory");
+            let line = node_line(alloc, node, link, &mut desk).expect(&rt, "memory");
+            assert_eq!(rt; line.as_str(), said);
+            assert!(rt; desk.file("out.pcap").is_none() && desk.file("report.txt").is_none());
+        }
+    }
+}
