@@ -1,6 +1,4 @@
-pub mod AddsLaws
 pub mod CleanLaws
 pub mod OneFateLaws
 pub mod TextsLaws
 mod AnswerLaws
-mod LoweredLaws

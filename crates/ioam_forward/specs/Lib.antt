@@ -1,3 +1,1 @@
-pub mod Fate
-pub mod Texts
 pub mod Forwarding

@@ -1,8 +1,7 @@
-//! What becomes of each arrival of a domain, and what it tells every output of a run: the captures of
-//! the ports, by which packets leave, and the report.
+//! The arrivals of a run: each is numbered and made into a job, jobs wait in a batch and are run by
+//! workers, and what they leave is told every output of the run in the order of arrival.
 #![tactic(auto)]
 
 mod forwarding;
-mod leaving;
 
 pub use forwarding::Forwarding;

@@ -1,9 +1,10 @@
 -- The traffic while it runs: what was taken of the captures, and what the outputs were told of it.
 use Rattle.std.specs.Prelude.{◌≡◌, ℕ, ◌<◌, ◌≤◌, Bool, IsTrue, List, length}
 use Rattle.ioam_desk.specs.Desk.{Reading, Writing, Rose}
-use Rattle.ioam_forward.specs.Fate.{Frame, Fate, AreFates}
+use Rattle.ioam_clock.specs.declared.sample.Sample.{Sample}
+use Rattle.ioam_fates.specs.Fate.{Frame, Fate, AreFates}
+use Rattle.ioam_fates.specs.Texts.{texts_of}
 use Rattle.ioam_forward.specs.Forwarding.{Forwards}
-use Rattle.ioam_forward.specs.Texts.{texts_of}
 use Rattle.ioam_forward.specs.declared.forwarding.Forwarding.{Forwarding}
 use Rattle.ioam_merge.specs.Merging.{Merging, Comes, FilesBegin, PartsArrive, HaveEnded}
 use Rattle.ioam_outputs.specs.Held.{HoldAllFronts}
@@ -18,10 +19,10 @@ use Rattle.ioam_traffic.specs.declared.halt.Halt.TheVariants.{Over, Broken, Limi
 use Rattle.ioam_traffic.specs.declared.progress.Progress.{Progress}
 
 -- something is held of the texts of what becomes of these arrivals
-pub record HoldSo (domain : Domain) (frames : List Frame) (Hold : List (List ℕ) → Type 0) : Type 0 where
+pub record HoldSo (opens : Bool) (domain : Domain) (readings : List (List Sample)) (frames : List Frame) (Hold : List (List ℕ) → Type 0) : Type 0 where
   pub fates : List Fate
-  pub become : AreFates domain frames fates
-  pub held : Hold (texts_of domain fates)
+  pub become : AreFates domain readings frames fates
+  pub held : IsTrue opens → Hold (texts_of domain readings fates)
 
 module _ (tells : Bool) (course : Course) where
   -- the outputs were told the texts so far of some arrivals, no more than may be; `Are` says which they are
@@ -30,7 +31,7 @@ module _ (tells : Bool) (course : Course) where
     pub texts : List (List ℕ)
     pub are : Are taken
     pub told : AreTold tells outputs course.first course.names tellers texts
-    pub forwards : Forwards course.domain (frames_of course.ports taken) texts gathered
+    pub forwards : Forwards course.opens course.domain course.readings (frames_of course.ports taken) texts gathered
     pub few : length taken ≤ course.domain.packets
 
   -- they were taken of the captures
@@ -51,7 +52,7 @@ module _ (tells : Bool) (course : Course) where
     pub taken : List Arrival
     pub begin : FilesBegin course.lanes.contents taken
     pub few : length taken ≤ course.domain.packets
-    pub hold : HoldSo course.domain (frames_of course.ports taken) (HoldAllFronts outputs course.names)
+    pub hold : HoldSo course.opens course.domain course.readings (frames_of course.ports taken) (HoldAllFronts outputs course.names)
 
   module _ (old_in new_in : Reading) (old_out new_out : Writing) where
     -- what the taking of arrivals answered, to the end of all or to what stopped it

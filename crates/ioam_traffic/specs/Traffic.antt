@@ -1,9 +1,10 @@
 -- The traffic of a domain: the captures of its ports are merged by time, each arrival is sent through
 -- the domain, and the outputs are told what becomes of it.
 use Rattle.std.specs.Prelude.{◌≡◌, ℕ, ◌+◌, ◌<◌, ◌≤◌, ◌⊎◌, Bool, IsTrue, List, [], ◌∷◌, ◌++◌, length, map, slice_index_or}
+use Rattle.ioam_clock.specs.declared.sample.Sample.{Sample}
 use Rattle.ioam_desk.specs.Desk.{Side, Reading, Writing, Rose}
-use Rattle.ioam_forward.specs.Fate.{Frame, Fate, AreFates}
-use Rattle.ioam_forward.specs.Texts.{texts_of}
+use Rattle.ioam_fates.specs.Fate.{Frame, Fate, AreFates}
+use Rattle.ioam_fates.specs.Texts.{texts_of}
 use Rattle.ioam_merge.specs.Merging as merging
 use Rattle.ioam_merge.specs.Merging.{FilesArrive, FilesBegin, PartsArrive, HaveEnded, start_of}
 use Rattle.ioam_outputs.specs.Held.{HoldTexts, HoldFronts}
@@ -31,10 +32,13 @@ frame_of ports arrival = record { port = port_at ports arrival.capture; ethernet
 abbrev pub frames_of : List PortId → List Arrival → List Frame
 frames_of ports taken = map (frame_of ports) taken
 
--- Where the traffic begins: the domain, the ports that have a capture, what these captures hold and
--- the number of the first one's slot, the number of the first output's slot and the outputs' names.
+-- Where the traffic begins: the domain, the readings of its nodes, the ports that have a capture, what these captures hold
+-- and the number of the first one's slot, the number of the first output's slot and the outputs' names, and whether the
+-- gate of the workers always opens.
 pub record Course : Type 0 where
+  pub opens : Bool
   pub domain : Domain
+  pub readings : List (List Sample)
   pub ports : List PortId
   pub lanes : merging.Start
   pub first : ℕ
@@ -51,12 +55,12 @@ abbrev pub files_of : List (List ℕ) → List (List ℕ) → Reading → Writin
 files_of inputs names reading writing = record { lanes = start_of reading.side.slots writing inputs; first = writing.side.slots; names = names }
 
 -- where the traffic of a domain over these files begins
-abbrev pub course_with : Domain → List PortId → Files → Course
-course_with domain ports files = record { domain = domain; ports = ports; lanes = files.lanes; first = files.first; names = files.names }
+abbrev pub course_with : Bool → Domain → List (List Sample) → List PortId → Files → Course
+course_with opens domain readings ports files = record { opens = opens; domain = domain; readings = readings; ports = ports; lanes = files.lanes; first = files.first; names = files.names }
 
 -- on a desk, with captures and outputs of these names
-abbrev pub begun : Domain → List PortId → List (List ℕ) → List (List ℕ) → Reading → Writing → Course
-begun domain ports inputs names reading writing = course_with domain ports (files_of inputs names reading writing)
+abbrev pub begun : Bool → Domain → List (List Sample) → List PortId → List (List ℕ) → List (List ℕ) → Reading → Writing → Course
+begun opens domain readings ports inputs names reading writing = course_with opens domain readings ports (files_of inputs names reading writing)
 
 module _ (course : Course) where
   -- these are as many of the first records as may be taken, and one more comes behind them
@@ -72,9 +76,9 @@ module _ (course : Course) where
     pub fates : List Fate
     pub are : Are taken
     pub few : length taken ≤ course.domain.packets
-    pub become : AreFates course.domain (frames_of course.ports taken) fates
-    pub only : (others : List Fate) → AreFates course.domain (frames_of course.ports taken) others → others ≡ fates
-    pub held : HoldTexts new course.names (texts_of course.domain fates)
+    pub become : AreFates course.domain course.readings (frames_of course.ports taken) fates
+    pub only : (others : List Fate) → AreFates course.domain course.readings (frames_of course.ports taken) others → others ≡ fates
+    pub held : IsTrue course.opens → HoldTexts new course.names (texts_of course.domain course.readings fates)
 
   -- each output that was opened holds a front of its text of some first arrivals, of which nothing else
   -- becomes
@@ -83,9 +87,9 @@ module _ (course : Course) where
     pub fates : List Fate
     pub begin : FilesBegin course.lanes.contents taken
     pub few : length taken ≤ course.domain.packets
-    pub become : AreFates course.domain (frames_of course.ports taken) fates
-    pub only : (others : List Fate) → AreFates course.domain (frames_of course.ports taken) others → others ≡ fates
-    pub held : HoldFronts old new 0 course.names (texts_of course.domain fates)
+    pub become : AreFates course.domain course.readings (frames_of course.ports taken) fates
+    pub only : (others : List Fate) → AreFates course.domain course.readings (frames_of course.ports taken) others → others ≡ fates
+    pub held : IsTrue course.opens → HoldFronts old new 0 course.names (texts_of course.domain course.readings fates)
 
   -- all captures were opened
   abbrev pub AreOpened : Reading → Type 0

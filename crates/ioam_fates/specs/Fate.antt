@@ -5,13 +5,11 @@ use Rattle.ioam_ip.specs.Framing.{framing_of}
 pub use Rattle.ioam_node.specs.Admission.{packet_of}
 use Rattle.ioam_node.specs.Admission.{Admits}
 use Rattle.ioam_node.specs.declared.admitted.Admit.{Admit}
-use Rattle.ioam_node.specs.declared.admitted.Admit.TheVariants as admit
 use Rattle.ioam_pcap.specs.Cut.{is_cut}
 use Rattle.ioam_pcap.specs.Entries.{Entry, IsShort}
 use Rattle.ioam_plan.specs.Plans.{Plans}
+use Rattle.ioam_plan.specs.Rides.{Rides}
 use Rattle.ioam_plan.specs.declared.itinerary.Itinerary.{Itinerary}
-use Rattle.ioam_plan.specs.declared.itinerary.End.{End}
-use Rattle.ioam_plan.specs.declared.itinerary.End.TheVariants.{Left, Drop}
 use Rattle.ioam_topo.specs.Domain.{ports}
 use Rattle.ioam_topo.specs.declared.domain.Domain.{Domain}
 use Rattle.ioam_topo.specs.declared.ids.PortId.{PortId}
@@ -22,9 +20,8 @@ pub record Frame : Type 0 where
   pub ethernet : Bool
   pub entry : Entry
 
--- what becomes of it: the port by which it came, the packet that was taken in, and its itinerary
+-- what becomes of it: the packet that was taken in, and its itinerary
 pub record Fate : Type 0 where
-  pub port : PortId
   pub packet : List ℕ
   pub itinerary : Itinerary
 
@@ -40,7 +37,6 @@ pub record HasFate (domain : Domain) (readings : List (List Sample)) (earlier : 
   pub answer : Admit
   pub answered : IsAnswered domain frame answer
   pub plans : Plans domain readings earlier frame.port frame.entry.time answer fate.itinerary
-  pub port : fate.port ≡ frame.port
   pub packet : fate.packet ≡ packet_of answer
   pub short : IsShort frame.entry
 
@@ -52,13 +48,10 @@ AreFatesFrom domain readings earlier (frame ∷ frames) [] = ⊥
 AreFatesFrom domain readings earlier (frame ∷ frames) (fate ∷ fates) =
     HasFate domain readings earlier frame fate × AreFatesFrom domain readings (earlier ++ fate.itinerary ∷ []) frames fates
 
--- what becomes of all arrivals of a domain whose packets aren't enclosed, so that no readings count
-abbrev pub AreFates : Domain → List Frame → List Fate → Type 0
-AreFates domain frames fates = AreFatesFrom domain [] [] frames fates
+-- what becomes of all arrivals of a domain, by the readings of its nodes
+abbrev pub AreFates : Domain → List (List Sample) → List Frame → List Fate → Type 0
+AreFates domain readings frames fates = AreFatesFrom domain readings [] frames fates
 
--- a frame that is dropped where it arrives doesn't leave
-abbrev pub DropsAlike : Admit → End → Type 0
-DropsAlike (admit.Drop reason) (Left port) = ⊥
-DropsAlike (admit.Drop reason) (Drop cause node) = ⊤
-DropsAlike (admit.Plain packet) end = ⊤
-DropsAlike (admit.Enclose flow packet limit) end = ⊤
+-- its packet can go by its itinerary
+abbrev pub CanRide : Domain → Fate → Type 0
+CanRide domain fate = Rides domain fate.packet fate.itinerary

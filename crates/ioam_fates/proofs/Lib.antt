@@ -1,0 +1,2 @@
+pub mod AddsLaws
+mod LoweredLaws

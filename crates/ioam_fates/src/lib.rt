@@ -1,0 +1,7 @@
+//! What becomes of each arrival of a domain, and what it tells every output of a run: the captures of
+//! the ports and of the taps, the report, and the export records.
+#![tactic(auto)]
+
+mod telling;
+
+pub use telling::{put_heads, put_job};
