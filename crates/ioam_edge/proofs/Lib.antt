@@ -1,4 +1,5 @@
 pub mod EdgeLaws
 pub mod NotedLaws
 pub mod ReceiverLaws
+pub mod TallyLaws
 pub mod WindowLaws

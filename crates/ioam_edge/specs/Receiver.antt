@@ -1,6 +1,7 @@
 -- What a receiver stands for: the list of all numbers that it noted, which it does not keep.
-use Rattle.std.specs.Prelude.{ℕ, ◌+◌, ◌≡◌, ◌<◌, Bool, true, false, List, Option, Some, None}
+use Rattle.std.specs.Prelude.{ℕ, ◌+◌, ◌≡◌, ◌<◌, Bool, true, false, nat_lt, if◌then◌else◌, List, Option, Some, None}
 use Rattle.std.specs.Int.{bit_at}
+use Rattle.ioam_edge.specs.declared.note.Tally.{Tally}
 use Rattle.ioam_edge.specs.declared.receiver.Receiver.{Receiver}
 use Rattle.ioam_edge.specs.Noted.{due, is_noted, notes_of, counts_in}
 
@@ -23,3 +24,13 @@ pub record Stands (receiver : Receiver) (noted : List ℕ) : Type 0 where
   pub greatest : above receiver.greatest ≡ due noted
   pub window : Marks receiver.window noted
   pub counts : receiver.counts ≡ counts_in (notes_of noted)
+
+-- what a receiver tells of all that it noted
+abbrev pub tally_in : Receiver → Tally
+tally_in receiver = record {
+  next = if nat_lt (above receiver.greatest) 18446744073709551616 then Some (above receiver.greatest) else None;
+  gaps = receiver.counts.gaps;
+  missed = receiver.counts.missed;
+  late = receiver.counts.late;
+  repeats = receiver.counts.repeats;
+}

@@ -17,7 +17,7 @@ pub struct Receiver {
 
 impl Receiver {
     ghost use Rattle.ioam_edge.specs.Noted.{due, note_of, tally_of};
-    ghost use Rattle.ioam_edge.specs.Receiver.{Marks, Stands, above};
+    ghost use Rattle.ioam_edge.specs.Receiver.{Marks, Stands, above, tally_in};
 
     /// A receiver that noted nothing.
     pub fn new() -> Receiver
@@ -80,7 +80,8 @@ impl Receiver {
 
     /// What was noted in all.
     pub fn tally(&self) -> Tally
-        ensures { (noted : List ℕ) → Stands self.now noted → result ≡ tally_of noted }
+        ensures held { result ≡ tally_in self.now }
+        ensures noted { (noted : List ℕ) → Stands self.now noted → result ≡ tally_of noted }
     {
         let next = match self.greatest {
             None => Some(0),

@@ -232,7 +232,7 @@ used_is namespace kind capacity over es =
     drop_at front (concat (reverse es)) (8 + 4 * free) (omega (arith, length-replicate {A = ℕ} (4 * free) 0))
 
 -- the octets of a trace are read as what was recorded, in the order in which it was added
-record ReadsRecorded (namespace kind capacity : ℕ) (given : List (List ℕ)) : Type 0 where
+pub record ReadsRecorded (namespace kind capacity : ℕ) (given : List (List ℕ)) : Type 0 where
   pub namespace_is : u16_at (trace_data namespace kind capacity given) 0 ≡ namespace
   pub kind_is : kind_of (trace_data namespace kind capacity given) ≡ kind
   pub overflow_is : overflow_of (trace_data namespace kind capacity given) ≡ (if is_over capacity given then 1 else 0)
@@ -240,7 +240,7 @@ record ReadsRecorded (namespace kind capacity : ℕ) (given : List (List ℕ)) :
   pub elements : elements_behind (remaining_of (trace_data namespace kind capacity given)) (trace_data namespace kind capacity given)
       ≡ recorded capacity given
 
-ReadsRecorded-CanHold : (namespace kind capacity : ℕ) (es : List (List ℕ)) → CanHold namespace kind capacity es
+pub ReadsRecorded-CanHold : (namespace kind capacity : ℕ) (es : List (List ℕ)) → CanHold namespace kind capacity es
     → ReadsRecorded namespace kind capacity es
 ReadsRecorded-CanHold namespace kind capacity es holds =
     let kept = recorded capacity es in
