@@ -3,10 +3,10 @@ use Rattle.std.proofs.Common.{◌≡◌, ℕ, suc, ◌+◌, ◌<◌, ◌≤◌, 
 use Rattle.std.specs.List.{AllZip, sum_by}
 use Rattle.std.proofs.lemmas.Grind.{drop_more_same}
 use Rattle.std.proofs.lemmas.List.{get_or-drop, take_all, take_more, take_more_set, drop-set-lt}
-use Rattle.std.proofs.lemmas.List.Elements.{AllZip-get_or, AllZip-push, All-take, All-drop}
+use Rattle.std.proofs.lemmas.List.Elements.{AllZip-get_or, AllZip-push, All-nil, All-cons, All-head, All-tail}
 use Rattle.std.proofs.lemmas.List.Sums.{sum_by-cons}
 use Rattle.ioam_batch.specs.Batches.{MayRun, all_reserved}
-use Rattle.ioam_batch.specs.Jobs.{HasRun, IsFresh, reserved_of}
+use Rattle.ioam_batch.specs.Jobs.{HasRun, Holds, IsFresh, reserved_of}
 use Rattle.ioam_batch.specs.declared.job.Job.{Job}
 use Rattle.ioam_clock.specs.declared.sample.Sample.{Sample}
 use Rattle.ioam_topo.specs.declared.domain.Domain.{Domain}
@@ -70,6 +70,17 @@ module _ (domain : Domain) (readings : List (List Sample)) where
   pub may_none : (jobs : List Job) → AllZip (MayRun domain readings) jobs jobs
   may_none [] = tt
   may_none (job ∷ jobs) = (inr refl, may_none jobs)
+
+  may_hold : (old new : Job) → MayRun domain readings old new → Holds domain old → Holds domain new
+  may_hold old new may holds = elim may [ inl has ↦ has.keeps holds | inr same ↦ subst (Holds domain) (sym same) holds ]
+
+  -- what holds of each job before holds of each behind
+  pub holds-stay : (old new : List Job) → AllZip (MayRun domain readings) old new → All (Holds domain) old → All (Holds domain) new
+  holds-stay [] [] may holds = All-nil (Holds domain)
+  holds-stay [] (k ∷ ks) may holds = absurd may
+  holds-stay (j ∷ js) [] may holds = absurd may
+  holds-stay (j ∷ js) (k ∷ ks) may holds =
+      All-cons (Holds domain) k ks (may_hold j k may.0 (All-head (Holds domain) j js holds)) (holds-stay js ks may.1 (All-tail (Holds domain) j js holds))
 
   may_reserved : (old new : Job) → MayRun domain readings old new → reserved_of new ≡ reserved_of old
   may_reserved old new may = elim may [ inl has ↦ has.reserved | inr same ↦ ap reserved_of same ]

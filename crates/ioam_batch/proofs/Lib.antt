@@ -4,3 +4,4 @@ pub mod JobsLaws
 pub mod MakingLaws
 pub mod RanLaws
 pub mod RunLaws
+pub mod SendsLaws

@@ -1,11 +1,17 @@
 -- Laws of a job whose visits are done.
-use Rattle.std.proofs.Common.{◌≡◌, ℕ, ◌+◌, ◌*◌, Bool, true, false, List, [], ◌∷◌, ◌++◌, Option, Some, None, is_some, length, map, refl, sym, ap, ◌∙◌, subst, arith, append-nil, true≢false}
+use Rattle.std.proofs.Common.{◌≡◌, ℕ, ◌<◌, ◌+◌, ◌*◌, Bool, true, false, List, [], ◌∷◌, ◌++◌, Option, Some, None, is_some, length, map, refl, sym, ap, ◌∙◌, subst, arith, append-nil, true≢false}
+use Rattle.std.specs.Prelude.{IfSome, IsSome}
 use Rattle.ioam_batch.specs.Crossings.{Crossed, crossings, sent_if}
-use Rattle.ioam_batch.specs.Jobs.{HasRun, IsFresh, RunsBy, RunsInTunnel, reserved_of}
+use Rattle.ioam_batch.specs.Jobs.{HasRun, Holds, IsFresh, RunsBy, RunsInTunnel, reserved_of}
 use Rattle.ioam_batch.specs.Ran.{RanBy, Sent}
 use Rattle.ioam_batch.specs.declared.job.Job.{Job}
 use Rattle.ioam_batch.proofs.RanLaws.{starts}
 use Rattle.ioam_clock.specs.declared.sample.Sample.{Sample}
+use Rattle.ioam_ip.specs.Chain.{IsSound}
+use Rattle.ioam_ip.specs.Packet.{IsPacket}
+use Rattle.ioam_plan.specs.Inside.{EndsInside}
+use Rattle.ioam_plan.specs.declared.itinerary.Itinerary.{Itinerary}
+use Rattle.ioam_topo.specs.Domain.{flows, ports}
 use Rattle.ioam_topo.specs.declared.domain.Domain.{Domain}
 use Rattle.ioam_topo.specs.declared.ids.FlowId.{FlowId}
 use Rattle.ioam_tunnel.specs.Wire.{IsTunnel, Tunnel}
@@ -14,6 +20,17 @@ use Rattle.ioam_tunnel.specs.declared.numbers.Numbers.{Numbers}
 -- no visit is ahead
 pub none-ahead : (crossed : Crossed) → crossed.ahead ≡ [] → crossings crossed ≡ crossed.past
 none-ahead crossed none = ap (λ ts. crossed.past ++ map (λ tap. sent_if tap []) ts) none ∙ append-nil crossed.past
+
+-- what holds of a job before its visits holds of it behind them
+pub keeps-run : (domain : Domain) (old new : Job) → new.itinerary ≡ old.itinerary → length new.packet.items ≡ length old.packet.items
+    → (IsSome old.itinerary.carried → IsPacket new.packet.items × IsSound new.packet.items) → Holds domain old → Holds domain new
+keeps-run domain old new same sized sound holds = record {
+  port = subst (λ (it : Itinerary). it.port.0 < length (ports domain)) (sym same) holds.port;
+  ends = subst (λ (it : Itinerary). EndsInside domain it.end) (sym same) holds.ends;
+  flow = subst (λ (it : Itinerary). IfSome it.carried (λ carried. carried.0.0 < length (flows domain))) (sym same) holds.flow;
+  size = omega (arith, sized, holds.size);
+  sound = λ some. sound (subst (λ (it : Itinerary). IsSome it.carried) same some);
+}
 
 by-carried : (domain : Domain) (readings : List (List Sample)) (carried : Option (FlowId × Numbers)) (old new : Job) → is_some carried ≡ true
     → RunsInTunnel domain readings old new → RunsBy domain readings carried old new
@@ -28,15 +45,19 @@ pub runs-in-tunnel : (domain : Domain) (readings : List (List Sample)) (old new 
     → before ≡ old.packet.items
     → new.packet.items ≡ after
     → length after ≡ length before
+    → IsPacket after
+    → IsSound after
     → new.crossings.ahead ≡ []
     → new.crossings.kept ≡ old.crossings.kept
     → new.room.spare + length new.room.notes ≡ old.room.spare + length old.room.notes
     → ((tunnel : Tunnel) → IsTunnel tunnel → Sent domain readings tunnel [] before old.crossings.past old.room
     → RanBy domain readings tunnel exited old.itinerary.visits after new.crossings.past new.room)
     → HasRun domain readings old new
-runs-in-tunnel domain readings old new exited before after fresh some exits same from to sized ahead kept given runs = record {
+runs-in-tunnel domain readings old new exited before after fresh some exits same from to sized packet sound ahead kept given runs = record {
   itinerary = same;
   reserved = omega (arith, ap length from, ap length to, sized, kept, given);
+  keeps = keeps-run domain old new same (omega (arith, ap length from, ap length to, sized))
+      (λ there. (subst IsPacket (sym to) packet, subst IsSound (sym to) sound));
   runs = by-carried domain readings old.itinerary.carried old new some (λ tunnel is held.
       let visits = old.itinerary.visits in
       let start : Sent domain readings tunnel [] before old.crossings.past old.room = record {

@@ -1,5 +1,5 @@
 -- Jobs: all visits of one packet.
-use Rattle.std.specs.Prelude.{ℕ, ◌≡◌, ◌≤◌, ◌+◌, ◌-◌, ◌*◌, if◌then◌else◌, List, [], Option, Some, None, All, length, map, slice_index}
+use Rattle.std.specs.Prelude.{ℕ, ◌≡◌, ◌<◌, ◌≤◌, ◌+◌, ◌-◌, ◌*◌, if◌then◌else◌, List, [], Option, Some, None, IfSome, IsSome, All, length, map, slice_index}
 use Rattle.ioam_batch.specs.Crossings.{crossings}
 use Rattle.ioam_batch.specs.Ran.{RanBy, lowered_from}
 use Rattle.ioam_batch.specs.Taps.{is_tapped}
@@ -10,7 +10,9 @@ use Rattle.ioam_ip.specs.Hop.{option_count}
 use Rattle.ioam_ip.specs.Lowered.{lowered}
 use Rattle.ioam_ip.specs.Packet.{IsPacket}
 use Rattle.ioam_plan.specs.declared.itinerary.Itinerary.{Itinerary}
+use Rattle.ioam_plan.specs.Inside.{EndsInside}
 use Rattle.ioam_plan.specs.Rides.{IsVisitIn, SendsBy}
+use Rattle.ioam_topo.specs.Domain.{flows, ports}
 use Rattle.ioam_topo.specs.declared.domain.Domain.{Domain}
 use Rattle.ioam_topo.specs.declared.ids.FlowId.{FlowId}
 use Rattle.ioam_tunnel.specs.Enclosed.{tunnel_of}
@@ -23,6 +25,16 @@ use Rattle.ioam_tunnel.specs.declared.numbers.Numbers.{Numbers}
 -- each IOAM option that a visit may meet
 abbrev pub reserved_of : Job → ℕ
 reserved_of job = length job.packet.items + job.crossings.kept + 274 * (job.room.spare + length job.room.notes)
+
+-- ---- at any time
+
+-- before its visits and after them: its way ends in the domain, and its flow is one of it; its packet is short, and an enclosed one is whole
+pub record Holds (domain : Domain) (job : Job) : Type 0 where
+  pub port : job.itinerary.port.0 < length (ports domain)
+  pub ends : EndsInside domain job.itinerary.end
+  pub flow : IfSome job.itinerary.carried (λ carried. carried.0.0 < length (flows domain))
+  pub size : length job.packet.items ≤ 131072
+  pub sound : IsSome job.itinerary.carried → IsPacket job.packet.items × IsSound job.packet.items
 
 -- ---- before its visits
 
@@ -85,4 +97,5 @@ RunsBy domain readings (Some carried) old new = RunsInTunnel domain readings old
 pub record HasRun (domain : Domain) (readings : List (List Sample)) (old new : Job) : Type 0 where
   pub itinerary : new.itinerary ≡ old.itinerary
   pub reserved : reserved_of new ≡ reserved_of old
+  pub keeps : Holds domain old → Holds domain new
   pub runs : RunsBy domain readings old.itinerary.carried old new

@@ -1,5 +1,5 @@
 //! The octets of a packet as its visits sent it on links with a tap.
-ghost use Rattle.std.specs.Prelude.{◌≡◌, ◌<◌, ◌≤◌, ◌+◌, ◌++◌, ◌∷◌, [], ℕ, false, true, if◌then◌else◌, IfOk, MatchOption, None, Some, drop, get_or, length, map, slice_get, take};
+ghost use Rattle.std.specs.Prelude.{◌≡◌, ◌<◌, ◌≤◌, ◌+◌, ◌++◌, ◌∷◌, [], ℕ, false, true, if◌then◌else◌, IfOk, IfSome, MatchOption, None, Some, drop, get_or, length, map, slice_get, take};
 ghost use Rattle.ioam_batch.specs.Crossings.{crossings, filled, joined, sent_if};
 
 use ioam_base::memory::NoMemory;
@@ -34,7 +34,8 @@ fn part(octets: &[u8], start: usize, size: usize) -> &[u8]
     requires within { start + size ≤ length octets.now }
     requires small { start ≤ 33554432 }
     requires size { size ≤ 131072 }
-    ensures { result.now ≡ take size (drop start octets.now) }
+    ensures octets { result.now ≡ take size (drop start octets.now) }
+    ensures short { length result.now ≤ 131072 }
 {
     &octets[start..start + size]
 }
@@ -142,7 +143,8 @@ impl Crossings {
 
     /// What a visit sent on a link with a tap, by its place; nothing yet where it is ahead.
     pub(crate) fn at(&self, visit: usize) -> Option<&[u8]>
-        ensures { MatchOption result (joined (slice_get (crossings self.now) visit) ≡ None)
+        ensures small { IfSome result (λ octets. length octets.now ≤ 131072) }
+        ensures sent { MatchOption result (joined (slice_get (crossings self.now) visit) ≡ None)
             (λ octets. joined (slice_get (crossings self.now) visit) ≡ Some octets.now) }
     {
         if visit >= self.taps.len() {

@@ -1,7 +1,6 @@
-ghost use Rattle.std.specs.Prelude.{◌≡◌, ◌≤◌, ◌+◌, ◌^◌, IfOk, IfSome, MatchOption, None, Some, IsSome, length, slice_get};
+ghost use Rattle.std.specs.Prelude.{◌≡◌, ◌≤◌, ◌+◌, ◌^◌, IfOk, IfSome, MatchOption, None, Some, length, slice_get};
 ghost use Rattle.ioam_batch.specs.Crossings.{crossings, joined};
-ghost use Rattle.ioam_batch.specs.Jobs.{HoldsBy, IsJobOf, reserved_of};
-ghost use Rattle.ioam_ip.specs.Chain.{IsSound};
+ghost use Rattle.ioam_batch.specs.Jobs.{Holds, HoldsBy, IsJobOf, reserved_of};
 ghost use Rattle.ioam_plan.specs.Rides.{Rides, RidesBy};
 
 use crate::crossings::Crossings;
@@ -33,10 +32,9 @@ impl Job {
         itinerary: Itinerary,
         packet: &[u8],
     ) -> Result<Job, NoMemory>
-        requires rides { Rides domain.now packet.now itinerary }
-        requires short { length packet.now ≤ 65575 }
-        requires sound { IsSome itinerary.carried → IsSound packet.now }
-        ensures { IfOk result (λ job. IsJobOf domain.now packet.now itinerary job) }
+        requires { Rides domain.now packet.now itinerary }
+        ensures of { IfOk result (IsJobOf domain.now packet.now itinerary) }
+        ensures holds { IfOk result (Holds domain.now) }
     {
         let octets = packet_of(alloc, domain, &itinerary, packet)?;
         let room = room_for(alloc, &itinerary, &octets)?;
@@ -72,9 +70,10 @@ impl Job {
     }
 
     /// The octets of the packet as a visit sent it, by its place from 0: None exactly where that visit
-    /// sends it on no link with a tap; no octets before the visit.
+    /// sends it on no link with a tap; no octets before the visit. There are at most 131,072.
     pub fn crossing(&self, visit: usize) -> Option<&[u8]>
-        ensures { MatchOption result (joined (slice_get (crossings self.now.crossings) visit) ≡ None)
+        ensures small { IfSome result (λ octets. length octets.now ≤ 131072) }
+        ensures sent { MatchOption result (joined (slice_get (crossings self.now.crossings) visit) ≡ None)
             (λ octets. joined (slice_get (crossings self.now.crossings) visit) ≡ Some octets.now) }
     {
         self.crossings.at(visit)

@@ -1,8 +1,7 @@
 //! The packet of a job before its visits, and room for what they note.
-ghost use Rattle.std.specs.Prelude.{◌≡◌, ◌≤◌, [], IfOk, IsSome, length};
+ghost use Rattle.std.specs.Prelude.{◌≡◌, ◌≤◌, [], IfOk, length};
 ghost use Rattle.ioam_batch.specs.Jobs.{GoesBy, GoesInTunnel, HoldsBy, spare_by};
-ghost use Rattle.ioam_ip.specs.Chain.{IsSound};
-ghost use Rattle.ioam_plan.specs.Rides.{RidesBy, RidesTunnel};
+ghost use Rattle.ioam_plan.specs.Rides.{Rides, RidesTunnel};
 ghost use Rattle.ioam_tunnel.specs.Enclosed.{tunnel_of};
 ghost use Rattle.ioam_tunnel.specs.Wire.{IsTunnel, no_elements, wire};
 
@@ -23,8 +22,7 @@ fn enclosed(
     numbers: &Numbers,
     packet: &[u8],
 ) -> Result<Vec<u8>, NoMemory>
-    requires rides { RidesTunnel domain.now packet.now flow numbers.now itinerary.now }
-    requires sound { IsSound packet.now }
+    requires { RidesTunnel domain.now packet.now flow numbers.now itinerary.now }
     ensures tunnel { IfOk result (λ out. IsTunnel (tunnel_of domain.now flow numbers.now packet.now)) }
     ensures wire { IfOk result (λ out. out.items ≡ wire (tunnel_of domain.now flow numbers.now packet.now) 0 no_elements) }
     ensures goes { IfOk result (λ out. GoesInTunnel itinerary.now out.items) }
@@ -50,9 +48,7 @@ pub(crate) fn packet_of(
     itinerary: &Itinerary,
     packet: &[u8],
 ) -> Result<Vec<u8>, NoMemory>
-    requires rides { RidesBy domain.now packet.now itinerary.now itinerary.now.carried }
-    requires short { length packet.now ≤ 65575 }
-    requires sound { IsSome itinerary.now.carried → IsSound packet.now }
+    requires { Rides domain.now packet.now itinerary.now }
     ensures holds { IfOk result (λ octets. HoldsBy domain.now packet.now itinerary.now.carried octets.items) }
     ensures goes { IfOk result (λ octets. GoesBy itinerary.now.carried itinerary.now octets.items) }
     ensures short { IfOk result (λ octets. length octets.items ≤ 131072) }

@@ -1,4 +1,4 @@
-ghost use Rattle.ioam_batch.specs.Jobs.{HasRun, IsFresh};
+ghost use Rattle.ioam_batch.specs.Jobs.{HasRun, Holds, IsFresh};
 
 use crate::job::Job;
 use crate::plainly::lower;
@@ -13,7 +13,8 @@ use ioam_topo::Domain;
 /// and the export records are those of the visits, in their order.
 pub fn run_job(domain: &Domain, readings: &Readings, job: &mut Job)
     requires { IsFresh domain.now job.old }
-    ensures { HasRun domain.now readings.now job.old job.new }
+    ensures runs { HasRun domain.now readings.now job.old job.new }
+    ensures keeps { Holds domain.now job.old → Holds domain.now job.new }
 {
     let visits = job.itinerary.visits.list();
     if job.itinerary.carried.is_none() {

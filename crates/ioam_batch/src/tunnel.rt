@@ -100,6 +100,8 @@ fn come_out(
     requires left { 0 < length crossings.old.ahead }
     requires tap { get_or crossings.old.ahead 0 false ≡ is_tapped domain.now visit.now }
     requires size { length packet.old ≡ crossings.old.size }
+    ensures packet { IsPacket packet.new }
+    ensures sound { IsSound packet.new }
     ensures given { room.new.spare + length room.new.notes ≡ room.old.spare + length room.old.notes }
     ensures ahead { crossings.new.ahead ≡ drop 1 crossings.old.ahead }
     ensures kept { crossings.new.kept ≡ crossings.old.kept }
@@ -166,6 +168,8 @@ pub(crate) fn send_out(
     requires room { length visits.now * option_count packet.old ≤ room.old.spare }
     requires ahead { crossings.old.ahead ≡ map (is_tapped domain.now) visits.now }
     requires size { length packet.old ≡ crossings.old.size }
+    ensures packet { IsPacket packet.new }
+    ensures sound { IsSound packet.new }
     ensures given { room.new.spare + length room.new.notes ≡ room.old.spare + length room.old.notes }
     ensures ahead { crossings.new.ahead ≡ [] }
     ensures kept { crossings.new.kept ≡ crossings.old.kept }

@@ -1,7 +1,7 @@
 ghost use Rattle.std.specs.Prelude.{◌≡◌, ◌≤◌, ◌<◌, ◌^◌, All, IsTrue, length};
 ghost use Rattle.std.specs.List.{AllZip};
 ghost use Rattle.ioam_batch.specs.Batches.{MayRun};
-ghost use Rattle.ioam_batch.specs.Jobs.{HasRun, IsFresh};
+ghost use Rattle.ioam_batch.specs.Jobs.{HasRun, Holds, IsFresh};
 
 use crate::batch::Batch;
 use crate::gate::Gate;
@@ -65,7 +65,8 @@ fn run_chunks<R: Threads + Sync, G: Gate>(
 /// where it answers true. With one worker no thread is started. It takes no memory and can't fail.
 ///
 /// With a gate that always opens each job is as [`run_job`] leaves it, whatever its chunk and the
-/// workers; with any other each is so or as it was. Their number and their order stay.
+/// workers; with any other each is so or as it was. Their number and their order stay, and what holds
+/// of each before its visits and after them.
 pub fn run_batch<R: Threads + Sync, G: Gate>(
     rt: &R,
     domain: &Domain,
@@ -79,6 +80,7 @@ pub fn run_batch<R: Threads + Sync, G: Gate>(
     requires fresh { All (IsFresh domain.now) batch.old }
     ensures runs { IsTrue G.opens → AllZip (HasRun domain.now readings.now) batch.old batch.new }
     ensures may { AllZip (MayRun domain.now readings.now) batch.old batch.new }
+    ensures holds { All (Holds domain.now) batch.old → All (Holds domain.now) batch.new }
 {
     let size = batch.jobs.len().div_ceil(workers as usize);
     if size == 0 {

@@ -70,11 +70,11 @@ Admits domain node NoIpv6 answer = IsDrop reason.NotIpv6 answer
 Admits domain node CutShort answer = IsDrop reason.Cut answer
 Admits domain node TooShort answer = IsDrop reason.Length answer
 
--- what is taken in is a packet
+-- what is taken in is a packet, and every header on its chain is whole
 abbrev pub HoldsPacket : Admit → Type 0
 HoldsPacket (admit.Drop reason) = ⊤
-HoldsPacket (admit.Plain kept) = IsPacket kept.now
-HoldsPacket (admit.Enclose flow kept limit) = IsPacket kept.now
+HoldsPacket (admit.Plain kept) = IsPacket kept.now × IsSound kept.now
+HoldsPacket (admit.Enclose flow kept limit) = IsPacket kept.now × IsSound kept.now
 
 -- the flow in which it is to be enclosed is one of the domain
 abbrev pub KnowsFlow : Domain → Admit → Type 0

@@ -3,13 +3,14 @@ use Rattle.std.proofs.Common.{◌≡◌, ℕ, ◌+◌, ◌-◌, ◌<◌, ◌≤�
 use Rattle.std.specs.Prelude.{All, IsTrue, is_some, slice_index}
 use Rattle.ioam_clock.specs.declared.sample.Sample.{Sample}
 use Rattle.ioam_ip.specs.Header.{HasFields}
+use Rattle.ioam_ip.specs.Chain.{IsSound}
 use Rattle.ioam_ip.specs.Packet.{IsPacket}
 use Rattle.ioam_ip.specs.declared.packet.Header.{Header}
 use Rattle.ioam_topo.specs.declared.domain.Domain.{Domain}
 use Rattle.ioam_topo.specs.declared.ids.FlowId.{FlowId}
 use Rattle.ioam_topo.specs.declared.parts.Flow.{Flow}
 use Rattle.ioam_topo.specs.declared.parts.Port.{Port}
-use Rattle.ioam_topo.specs.Domain.{flows}
+use Rattle.ioam_topo.specs.Domain.{flows, ports}
 use Rattle.ioam_tunnel.specs.declared.numbers.Numbers.{Numbers}
 use Rattle.ioam_plan.specs.declared.itinerary.Itinerary.{Itinerary}
 use Rattle.ioam_plan.specs.declared.stage.Entry.{Entry}
@@ -48,13 +49,14 @@ flow_planned domain readings number port time id flow packet found it header num
 -- and what it keeps
 pub flow_rides : (domain : Domain) (readings : List (List Sample)) (number : ℕ) (time : ℕ) (id : FlowId) (flow : Flow) (packet : List ℕ)
     (found : Option ℕ) (it : Itinerary) (numbers : Numbers) (target hops : ℕ) (trip : Trip) (spot : Spot) (entry : Entry)
-    → slice_get (flows domain) id.0 ≡ Some flow → id.0 < length (flows domain) → IsPacket packet
+    → it.port.0 < length (ports domain) → length packet ≤ 65575
+    → slice_get (flows domain) id.0 ≡ Some flow → id.0 < length (flows domain) → IsPacket packet → IsSound packet
     → numbers ≡ numbers_of domain readings flow number found time → number < 4294967296
     → trip ≡ flow_trip domain id flow numbers target hops packet → spot.hops ≡ slice_index packet 7
     → entry.hops ≡ flow.hops → flow.hops < 256 → Journey domain trip (Enter spot entry) it
     → All (IsVisitIn domain) it.visits → length it.visits ≤ entry.hops + cond it.exited 1 0
     → HasRidden trip.size trip.inside it.exited it.visits → EndsInside domain it.end → Rides domain packet it
-flow_rides domain readings number time id flow packet found it numbers target hops trip spot entry at known is_packet drawn small goes is same below
+flow_rides domain readings number time id flow packet found it numbers target hops trip spot entry port short at known is_packet sound drawn small goes is same below
     journey visits few ridden ends =
     let P : Trip → Type 0 = λ t. Journey domain t (Enter spot entry) it × HasRidden t.size t.inside it.exited it.visits in
     let T : Trip = flow_trip domain id flow numbers target hops packet in
@@ -63,7 +65,7 @@ flow_rides domain readings number time id flow packet found it numbers target ho
     let counted : numbers.number ≡ number = ap (λ (n : Numbers). n.number) drawn in
     let D : Option ℕ → Type 0 = λ direct. IsTrue (is_some direct) → IsTrue (is_some flow.direct) in
     let direct : D numbers.direct = subst D (sym (ap (λ (n : Numbers). n.direct) drawn)) (direct_there flow.direct flow.every number) in
-    rides_flow domain packet it inside flow at known is_packet (omega (arith, counted, small)) direct
+    rides_flow domain packet it inside flow port short at known is_packet sound (omega (arith, counted, small)) direct
     (λ some. omega (arith, is, enters_high domain T spot entry it.visits moved.0.last moved.0.reaches some)) below moved.0.carried visits
     (omega (arith, few, same)) moved.1 ends
 

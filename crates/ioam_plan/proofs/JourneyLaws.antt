@@ -3,6 +3,7 @@ use Rattle.std.proofs.Common.{◌≡◌, ℕ, true, false, Bool, List, [], ◌�
 use Rattle.ioam_topo.specs.declared.domain.Domain.{Domain}
 use Rattle.ioam_topo.specs.declared.ids.FlowId.{FlowId}
 use Rattle.ioam_topo.specs.declared.ids.LinkId.{LinkId}
+use Rattle.ioam_topo.specs.declared.ids.PortId.{PortId}
 use Rattle.ioam_node.specs.declared.reason.Reason.{Reason}
 use Rattle.ioam_node.specs.declared.reason.Reason.TheVariants.{HopLimit}
 use Rattle.ioam_tunnel.specs.declared.numbers.Numbers.{Numbers}
@@ -62,21 +63,22 @@ module _ (domain : Domain) (trip : Trip) where
       let whole : visit ∷ visits ≡ second ∷ others = let tail : visits ≡ others = rest.0 in cc in
       (whole, rest.1, rest.2)
 
--- two itineraries with the same visits, end and numbers are one
-pub same_itinerary : (a b : Itinerary) → a.visits ≡ b.visits → a.end ≡ b.end → a.exited ≡ b.exited → a.carried ≡ b.carried → a ≡ b
-same_itinerary a b visits ends exits carries =
-    let F : List Visit → End → Bool → Option (FlowId × Numbers) → Itinerary =
-    λ visits end exited carried. record { visits = visits; end = end; exited = exited; carried = carried } in
-    ap (λ visits. F visits a.end a.exited a.carried) visits ∙ ap (λ end. F b.visits end a.exited a.carried) ends
-    ∙ ap (λ exited. F b.visits b.end exited a.carried) exits ∙ ap (λ carried. F b.visits b.end b.exited carried) carries
+-- two itineraries with the same port, visits, end and numbers are one
+pub same_itinerary : (a b : Itinerary) → a.port ≡ b.port → a.visits ≡ b.visits → a.end ≡ b.end → a.exited ≡ b.exited → a.carried ≡ b.carried → a ≡ b
+same_itinerary a b port visits ends exits carries =
+    let F : PortId → List Visit → End → Bool → Option (FlowId × Numbers) → Itinerary =
+    λ port visits end exited carried. record { port = port; visits = visits; end = end; exited = exited; carried = carried } in
+    ap (λ port. F port a.visits a.end a.exited a.carried) port ∙ ap (λ visits. F b.port visits a.end a.exited a.carried) visits
+    ∙ ap (λ end. F b.port b.visits end a.exited a.carried) ends ∙ ap (λ exited. F b.port b.visits b.end exited a.carried) exits
+    ∙ ap (λ carried. F b.port b.visits b.end b.exited carried) carries
 
--- from a stage on there is one journey only
-pub Journey-unique : (domain : Domain) (trip : Trip) (start : Stage) (it other : Itinerary)
+-- by a port and from a stage on there is one journey only
+pub Journey-unique : (domain : Domain) (trip : Trip) (start : Stage) (it other : Itinerary) → it.port ≡ other.port
     → Journey domain trip start it → Journey domain trip start other → it ≡ other
-Journey-unique domain trip start it other first second =
+Journey-unique domain trip start it other port first second =
     let same = one_way domain trip start it.visits first.last it.end it.exited other.visits second.last other.end other.exited
     first.reaches first.ends second.reaches second.ends in
-    same_itinerary it other same.0 same.1 same.2
+    same_itinerary it other port same.0 same.1 same.2
     (first.carried ∙ ap (λ (visits : List Visit). carried_by visits trip.inside) same.0 ∙ sym second.carried)
 
 -- a packet that goes on from where it enters its tunnel has a hop limit that can be lowered

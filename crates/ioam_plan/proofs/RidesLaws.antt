@@ -3,10 +3,11 @@ use Rattle.std.proofs.Common.{◌≡◌, ℕ, ◌+◌, ◌-◌, ◌<◌, ◌≤�
 use Rattle.std.specs.Prelude.{All, IsTrue, is_some, nat_le, slice_index}
 use Rattle.std.proofs.lemmas.Bool.{leb-false}
 use Rattle.std.proofs.lemmas.List.Elements.{All-nil, All-weaker}
+use Rattle.ioam_ip.specs.Chain.{IsSound}
 use Rattle.ioam_ip.specs.Packet.{IsPacket}
 use Rattle.ioam_topo.specs.declared.domain.Domain.{Domain}
 use Rattle.ioam_topo.specs.declared.parts.Flow.{Flow}
-use Rattle.ioam_topo.specs.Domain.{flows, routes}
+use Rattle.ioam_topo.specs.Domain.{flows, ports, routes}
 use Rattle.ioam_topo.specs.Forward.{way_to}
 use Rattle.ioam_node.specs.Choice.{link_by}
 use Rattle.ioam_tunnel.specs.Enclosed.{MayEnclose}
@@ -53,14 +54,16 @@ one_most false = omega arith
 
 -- a packet that isn't enclosed
 pub rides_plain : (domain : Domain) (packet : List ℕ) (it : Itinerary) (hops size : ℕ)
-    → hops ≡ slice_index packet 7 → hops < 256 → it.carried ≡ carried_by it.visits None
+    → it.port.0 < length (ports domain) → length packet ≤ 65575 → IsPacket packet → hops ≡ slice_index packet 7 → hops < 256 → it.carried ≡ carried_by it.visits None
     → All (IsVisitIn domain) it.visits → length it.visits ≤ hops - 1 + cond it.exited 1 0
     → HasRidden size None it.exited it.visits → EndsInside domain it.end → Rides domain packet it
-rides_plain domain packet it hops size is below carried visits few ridden ends =
+rides_plain domain packet it hops size port short is_packet is below carried visits few ridden ends =
     let none : it.carried ≡ None = carried ∙ carried_none it.visits in
     let zero : cond {A = ℕ} it.exited 1 0 ≡ 0 = not_extra it.exited ridden.0 in
-    let plain : RidesPlain packet it = record { few = omega (arith, few, zero, is); sends = ridden.1; exited = ridden.0 } in
+    let plain : RidesPlain packet it = record { is_packet = λ some. is_packet; few = omega (arith, few, zero, is); sends = ridden.1; exited = ridden.0 } in
     record {
+      port = port;
+      short = short;
       visits = visits;
       few = omega (arith, few, zero, below);
       carries = subst (RidesBy domain packet it) (sym none) plain;
@@ -69,26 +72,28 @@ rides_plain domain packet it hops size is below carried visits few ridden ends =
 
 -- what a packet that may be enclosed carries, by its visits
 carries_by : (domain : Domain) (packet : List ℕ) (it : Itinerary) (inside : Inside) (flow : Flow) (visits : List Visit)
-    → slice_get (flows domain) inside.flow.0 ≡ Some flow → inside.flow.0 < length (flows domain) → IsPacket packet
+    → slice_get (flows domain) inside.flow.0 ≡ Some flow → inside.flow.0 < length (flows domain) → IsPacket packet → IsSound packet
     → inside.numbers.number < 4294967296 → (IsTrue (is_some inside.numbers.direct) → IsTrue (is_some flow.direct))
     → (0 < length visits → 2 ≤ slice_index packet 7) → length it.visits ≤ flow.hops + cond it.exited 1 0
     → it.visits ≡ visits
     → HasRidden (outer_size flow (length packet) (is_some inside.numbers.direct) (is_some inside.numbers.limit)) (Some inside) it.exited visits
     → RidesBy domain packet it (carried_by visits (Some inside))
-carries_by domain packet it inside flow [] found known is_packet number direct high few is ridden =
+carries_by domain packet it inside flow [] found known is_packet sound number direct high few is ridden =
     let length_zero : length it.visits ≡ 0 = ap length is in
     record {
+      is_packet = λ some. is_packet;
       few = omega (arith, length_zero);
       sends = subst (All Sends) (sym is) (All-nil Sends);
       exited = ridden;
     }
-carries_by domain packet it inside flow (visit ∷ visits) found known is_packet number direct high few is ridden =
+carries_by domain packet it inside flow (visit ∷ visits) found known is_packet sound number direct high few is ridden =
     let P : Option Flow → Type 0 = λ at. IfSome at (λ f. MayEnclose f inside.numbers packet) in
     let Q : Option Flow → Type 0 = λ at. IfSome at (λ f. length it.visits ≤ f.hops + cond it.exited 1 0) in
     let may : MayEnclose flow inside.numbers packet = record { direct = direct; number = number; size = ridden.0 } in
     record {
       known = known;
       is_packet = is_packet;
+      sound = sound;
       hops = high (omega arith);
       may = subst P (sym found) may;
       few = subst Q (sym found) few;
@@ -97,17 +102,20 @@ carries_by domain packet it inside flow (visit ∷ visits) found known is_packet
 
 -- a packet that is to be enclosed
 pub rides_flow : (domain : Domain) (packet : List ℕ) (it : Itinerary) (inside : Inside) (flow : Flow)
-    → slice_get (flows domain) inside.flow.0 ≡ Some flow → inside.flow.0 < length (flows domain) → IsPacket packet
+    → it.port.0 < length (ports domain) → length packet ≤ 65575
+    → slice_get (flows domain) inside.flow.0 ≡ Some flow → inside.flow.0 < length (flows domain) → IsPacket packet → IsSound packet
     → inside.numbers.number < 4294967296 → (IsTrue (is_some inside.numbers.direct) → IsTrue (is_some flow.direct))
     → (0 < length it.visits → 2 ≤ slice_index packet 7) → flow.hops < 256 → it.carried ≡ carried_by it.visits (Some inside)
     → All (IsVisitIn domain) it.visits → length it.visits ≤ flow.hops + cond it.exited 1 0
     → HasRidden (outer_size flow (length packet) (is_some inside.numbers.direct) (is_some inside.numbers.limit)) (Some inside) it.exited it.visits
     → EndsInside domain it.end → Rides domain packet it
-rides_flow domain packet it inside flow found known is_packet number direct high below carried visits few ridden ends = record {
+rides_flow domain packet it inside flow port short found known is_packet sound number direct high below carried visits few ridden ends = record {
+  port = port;
+  short = short;
   visits = visits;
   few = omega (arith, few, one_most it.exited, below);
   carries = subst (RidesBy domain packet it) (sym carried)
-      (carries_by domain packet it inside flow it.visits found known is_packet number direct high few refl ridden);
+      (carries_by domain packet it inside flow it.visits found known is_packet sound number direct high few refl ridden);
   ends = ends;
 }
 

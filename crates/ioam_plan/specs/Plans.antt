@@ -1,5 +1,5 @@
 -- What is planned for a frame that arrives at a port, by what was answered of it there and by what was enclosed before.
-use Rattle.std.specs.Prelude.{◌≡◌, ⊤, ℕ, ◌-◌, false, List, [], Option, Some, None, IsSomeAnd, is_some, length, slice_get}
+use Rattle.std.specs.Prelude.{◌≡◌, ℕ, ◌-◌, false, List, [], Option, Some, None, IsSomeAnd, is_some, length, slice_get}
 use Rattle.ioam_clock.specs.declared.sample.Sample.{Sample}
 use Rattle.ioam_ip.specs.Header.{HasFields}
 use Rattle.ioam_ip.specs.declared.packet.Header.{Header}
@@ -84,11 +84,5 @@ module _ (domain : Domain) (readings : List (List Sample)) (earlier : List Itine
 
 -- what is planned for a frame that arrives at a port at a time behind these arrivals
 abbrev pub Plans : Domain → List (List Sample) → List Itinerary → PortId → ℕ → Admit → Itinerary → Type 0
-Plans domain readings earlier port time admitted itinerary =
-    IsSomeAnd (slice_get (ports domain) port.0) (PlansBy domain readings earlier time itinerary admitted)
-
--- the packet, if one is taken in, isn't to be enclosed
-abbrev pub IsPlain : Admit → Type 0
-IsPlain (admit.Plain packet) = ⊤
-IsPlain (admit.Drop reason) = ⊤
-IsPlain (admit.Enclose id packet found) = ⊥
+Plans domain readings earlier port time admitted itinerary = (itinerary.port ≡ port)
+    × IsSomeAnd (slice_get (ports domain) port.0) (PlansBy domain readings earlier time itinerary admitted)

@@ -1,5 +1,6 @@
 -- What every itinerary keeps, so that its packet can be enclosed, and sent on from visit to visit.
 use Rattle.std.specs.Prelude.{◌≡◌, ◌<◌, ◌≤◌, ◌+◌, ◌-◌, ◌^◌, ℕ, Bool, true, false, if◌then◌else◌, List, [], ◌∷◌, ◌++◌, length, slice_get, slice_index, Option, Some, None, IfSome, IsSome, All}
+use Rattle.ioam_ip.specs.Chain.{IsSound}
 use Rattle.ioam_ip.specs.Packet.{IsPacket}
 use Rattle.ioam_topo.specs.declared.domain.Domain.{Domain}
 use Rattle.ioam_topo.specs.declared.ids.FlowId.{FlowId}
@@ -39,6 +40,7 @@ SendsBy false visits = (0 < length visits) × All Sends visits
 
 -- a packet that isn't enclosed: each visit lowers its hop limit, and leaves 1 at least
 pub record RidesPlain (packet : List ℕ) (itinerary : Itinerary) : Type 0 where
+  pub is_packet : 0 < length itinerary.visits → IsPacket packet
   pub few : length itinerary.visits ≤ slice_index packet 7 - 1
   pub sends : All Sends itinerary.visits
   pub exited : itinerary.exited ≡ false
@@ -48,6 +50,7 @@ pub record RidesPlain (packet : List ℕ) (itinerary : Itinerary) : Type 0 where
 pub record RidesTunnel (domain : Domain) (packet : List ℕ) (flow : FlowId) (numbers : Numbers) (itinerary : Itinerary) : Type 0 where
   pub known : flow.0 < length (flows domain)
   pub is_packet : IsPacket packet
+  pub sound : IsSound packet
   pub hops : 2 ≤ slice_index packet 7
   pub may : IfSome (slice_get (flows domain) flow.0) (λ f. MayEnclose f numbers packet)
   pub few : IfSome (slice_get (flows domain) flow.0) (λ f. length itinerary.visits ≤ f.hops + (if itinerary.exited then 1 else 0))
@@ -57,8 +60,10 @@ abbrev pub RidesBy : Domain → List ℕ → Itinerary → Option (FlowId × Num
 RidesBy domain packet itinerary None = RidesPlain packet itinerary
 RidesBy domain packet itinerary (Some carried) = RidesTunnel domain packet carried.0 carried.1 itinerary
 
--- a packet can go by an itinerary through a domain; one that was dropped where it arrived has no octets
+-- a packet of 65,575 octets at most can go by an itinerary through a domain; one that was dropped where it arrived has no octets
 pub record Rides (domain : Domain) (packet : List ℕ) (itinerary : Itinerary) : Type 0 where
+  pub port : itinerary.port.0 < length (ports domain)
+  pub short : length packet ≤ 65575
   pub visits : All (IsVisitIn domain) itinerary.visits
   pub few : length itinerary.visits ≤ 256
   pub carries : RidesBy domain packet itinerary itinerary.carried

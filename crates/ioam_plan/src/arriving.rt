@@ -1,5 +1,6 @@
 ghost use Rattle.std.specs.Prelude.{◌≡◌, ◌≤◌, ◌<◌, ◌^◌, ◌∷◌, ◌++◌, [], List, All, IfOk, IfErr, length, slice_get, Some, IsSomeAnd};
 ghost use Rattle.ioam_ip.specs.Header.{HasFields};
+ghost use Rattle.ioam_ip.specs.Chain.{IsSound};
 ghost use Rattle.ioam_ip.specs.Packet.{IsPacket};
 ghost use Rattle.ioam_node.specs.Admission.{HoldsPacket, KnowsFlow, packet_of};
 ghost use Rattle.ioam_topo.specs.Domain.{nodes, ports, flows};
@@ -10,7 +11,7 @@ ghost use Rattle.ioam_plan.specs.Inside.{StaysInside};
 ghost use Rattle.ioam_plan.specs.Rides.{Rides};
 ghost use Rattle.ioam_plan.specs.declared.itinerary.Itinerary.{Itinerary};
 ghost use Rattle.ioam_clock.specs.declared.sample.Sample.{Sample};
-ghost use Rattle.ioam_plan.specs.Plans.{IsPlain, Plans, PlansBy, PlansPacket, PlansFlow, PlansDrop, start_of, flow_trip, entry_of};
+ghost use Rattle.ioam_plan.specs.Plans.{Plans, PlansBy, PlansPacket, PlansFlow, PlansDrop, start_of, flow_trip, entry_of};
 
 use crate::counters::Counters;
 use crate::drawing::{is_refused, numbers_of};
@@ -61,38 +62,15 @@ pub fn plan(
     ensures rides { IfOk result (Rides domain.now (packet_of admitted.now)) }
     ensures inside { IfOk result (StaysInside domain.now) }
 {
-    let port = port_of(domain, port);
-    match plan_at(alloc, domain, readings, counters, port, time, admitted) {
+    let at = port_of(domain, port);
+    match plan_at(
+        alloc, domain, readings, counters, port, at, time, admitted,
+    ) {
         Ok(itinerary) => {
             counters.note(&itinerary);
             Ok(itinerary)
         }
         Err(NoMemory) => Err(NoMemory),
-    }
-}
-
-/// The same for a frame whose packet isn't to be enclosed: nothing is drawn for it.
-pub fn plan_plain(
-    alloc: Global,
-    domain: &Domain,
-    port: PortId,
-    time: u64,
-    admitted: &Admit<'_>,
-) -> Result<Itinerary, NoMemory>
-    requires port { port.0 < length (ports domain.now) }
-    requires time { time < 2 ^ 62 }
-    requires plain { IsPlain admitted.now }
-    requires packet { HoldsPacket admitted.now }
-    ensures plans { (readings : List (List Sample)) (earlier : List Itinerary)
-        → IfOk result (Plans domain.now readings earlier port time admitted.now) }
-    ensures rides { IfOk result (Rides domain.now (packet_of admitted.now)) }
-    ensures inside { IfOk result (StaysInside domain.now) }
-{
-    let port = port_of(domain, port);
-    match admitted {
-        Admit::Plain { packet } => plan_packet(alloc, domain, port, time, packet),
-        Admit::Drop(reason) => Ok(dropped(alloc, domain, port, *reason)),
-        Admit::Enclose { .. } => unreachable!(),
     }
 }
 
@@ -121,23 +99,26 @@ fn plan_at(
     domain: &Domain,
     readings: &Readings,
     counters: &Counters,
+    by: PortId,
     port: &Port,
     time: u64,
     admitted: &Admit<'_>,
 ) -> Result<Itinerary, NoMemory>
+    requires by { by.0 < length (ports domain.now) }
     requires place { IsAtNode (length (nodes domain.now)) port.now }
     requires time { time < 2 ^ 62 }
     requires packet { HoldsPacket admitted.now }
     requires flow { KnowsFlow domain.now admitted.now }
     requires counters { length counters.now ≡ length (flows domain.now) }
     requires few { All (λ number. number < 2 ^ 32) counters.now }
+    ensures port { IfOk result (λ it. it.port ≡ by) }
     ensures plans { (earlier : List Itinerary) → CountFor domain.now counters.now earlier
         → IfOk result (λ it. PlansBy domain.now readings.now earlier time it admitted.now port.now) }
     ensures rides { IfOk result (Rides domain.now (packet_of admitted.now)) }
 {
     match admitted {
-        Admit::Plain { packet } => plan_packet(alloc, domain, port, time, packet),
-        Admit::Drop(reason) => Ok(dropped(alloc, domain, port, *reason)),
+        Admit::Plain { packet } => plan_packet(alloc, domain, by, port, time, packet),
+        Admit::Drop(reason) => Ok(dropped(alloc, domain, by, port, *reason)),
         Admit::Enclose {
             flow,
             packet,
@@ -145,7 +126,7 @@ fn plan_at(
         } => {
             let number = counters.enclosed(*flow);
             plan_flow(
-                alloc, domain, readings, number, port, time, *flow, packet, *limit,
+                alloc, domain, readings, number, by, port, time, *flow, packet, *limit,
             )
         }
     }
@@ -167,6 +148,7 @@ fn start_of(port: &Port, time: u64, header: &Header) -> Spot
 fn header_of(packet: &[u8]) -> Header
     requires { IsPacket packet.now }
     ensures fields { HasFields packet.now result }
+    ensures short { length packet.now ≤ 65575 }
     ensures hops { result.hops < 256 }
 {
     match header(packet) {
@@ -179,13 +161,16 @@ fn header_of(packet: &[u8]) -> Header
 fn plan_packet(
     alloc: Global,
     domain: &Domain,
+    by: PortId,
     port: &Port,
     time: u64,
     packet: &[u8],
 ) -> Result<Itinerary, NoMemory>
+    requires by { by.0 < length (ports domain.now) }
     requires place { IsAtNode (length (nodes domain.now)) port.now }
     requires time { time < 2 ^ 62 }
     requires packet { IsPacket packet.now }
+    ensures port { IfOk result (λ it. it.port ≡ by) }
     ensures plans { IfOk result (PlansPacket domain.now port.now time packet.now) }
     ensures rides { IfOk result (Rides domain.now packet.now) }
 {
@@ -196,7 +181,7 @@ fn plan_packet(
         inside: None,
     };
     let start = Stage::At(start_of(port, time, &header));
-    match travel(alloc, domain, &trip, start) {
+    match travel(alloc, domain, by, &trip, start) {
         Ok(itinerary) => Ok(itinerary),
         Err(NoMemory) => Err(NoMemory),
     }
@@ -246,17 +231,21 @@ fn plan_flow(
     domain: &Domain,
     readings: &Readings,
     number: u64,
+    by: PortId,
     port: &Port,
     time: u64,
     id: FlowId,
     packet: &[u8],
     found: Option<u8>,
 ) -> Result<Itinerary, NoMemory>
+    requires by { by.0 < length (ports domain.now) }
     requires place { IsAtNode (length (nodes domain.now)) port.now }
     requires number { number < 2 ^ 32 }
     requires time { time < 2 ^ 62 }
     requires known { id.0 < length (flows domain.now) }
     requires packet { IsPacket packet.now }
+    requires sound { IsSound packet.now }
+    ensures port { IfOk result (λ it. it.port ≡ by) }
     ensures plans { IfOk result (λ it. IsSomeAnd (slice_get (flows domain.now) id.0)
         (λ flow. PlansFlow domain.now readings.now number port.now time id flow packet.now found it)) }
     ensures rides { IfOk result (Rides domain.now packet.now) }
@@ -266,15 +255,17 @@ fn plan_flow(
     let numbers = numbers_of(domain, readings, flow, number, found, time);
     let trip = flow_trip(domain, id, flow, numbers, &header, packet);
     let start = Stage::Enter(start_of(port, time, &header), entry_of(flow, found));
-    match travel(alloc, domain, &trip, start) {
+    match travel(alloc, domain, by, &trip, start) {
         Ok(itinerary) => Ok(itinerary),
         Err(NoMemory) => Err(NoMemory),
     }
 }
 
 // A frame that is dropped where it arrives.
-fn dropped(alloc: Global, domain: &Domain, port: &Port, reason: Reason) -> Itinerary
-    requires { IsAtNode (length (nodes domain.now)) port.now }
+fn dropped(alloc: Global, domain: &Domain, by: PortId, port: &Port, reason: Reason) -> Itinerary
+    requires by { by.0 < length (ports domain.now) }
+    requires place { IsAtNode (length (nodes domain.now)) port.now }
+    ensures port { result.port ≡ by }
     ensures plans { PlansDrop port.now reason result }
     ensures rides { Rides domain.now [] result }
 {
@@ -282,5 +273,5 @@ fn dropped(alloc: Global, domain: &Domain, port: &Port, reason: Reason) -> Itine
         reason,
         node: port.node,
     };
-    Itinerary::of(Vec::new(alloc), end, false, None)
+    Itinerary::of(by, Vec::new(alloc), end, false, None)
 }

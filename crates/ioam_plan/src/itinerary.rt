@@ -57,6 +57,8 @@ impl Visits {
 /// What becomes of an arrival: its visits, how its journey ends, and in which flow it is enclosed.
 #[derive(Debug, Drop)]
 pub struct Itinerary {
+    /// The port by which the packet came.
+    pub port: PortId,
     /// The visits, in their order. One that drops the packet isn't among them, save that of the exit
     /// of a tunnel, which is.
     pub visits: Visits,
@@ -83,15 +85,17 @@ fn carried_by(visits: &[Visit], inside: Option<Inside>) -> Option<(FlowId, Numbe
 }
 
 impl Itinerary {
-    /// These visits and this end of a packet, which perhaps came out of its tunnel, and which is
+    /// These visits and this end of a packet that came by a port, which perhaps came out of its tunnel, and which is
     /// enclosed where it has a visit.
     pub(crate) fn of(
+        port: PortId,
         visits: Vec<Visit>,
         end: End,
         exited: bool,
         inside: Option<Inside>,
     ) -> Itinerary
         requires { length visits.items ≤ 256 }
+        ensures port { result.port ≡ port }
         ensures visits { result.visits ≡ visits.items }
         ensures end { result.end ≡ end }
         ensures exited { result.exited ≡ exited }
@@ -99,6 +103,7 @@ impl Itinerary {
     {
         let carried = carried_by(visits.as_slice(), inside);
         Itinerary {
+            port,
             visits: Visits { held: visits },
             end,
             exited,

@@ -11,6 +11,7 @@ mod planning;
 mod stage;
 mod stepping;
 
-pub use arriving::{plan, plan_plain};
+pub use arriving::plan;
 pub use counters::Counters;
 pub use itinerary::{End, Itinerary, Visit, Visits};
+pub use stage::outward_of;

@@ -1,40 +1,65 @@
 //! A packet's journey from its first stage to its end.
-ghost use Rattle.std.specs.Prelude.{◌≡◌, ◌+◌, ◌≤◌, if◌then◌else◌, [], All, IfOk, length};
+ghost use Rattle.std.specs.Prelude.{◌≡◌, ◌+◌, ◌<◌, ◌≤◌, ◌∷◌, ◌++◌, if◌then◌else◌, [], All, IfOk, length, vec_capacity};
 ghost use Rattle.ioam_plan.specs.Inside.{EndsInside};
 ghost use Rattle.ioam_plan.specs.Journey.{Journey};
 ghost use Rattle.ioam_plan.specs.Rides.{IsVisitIn};
 ghost use Rattle.ioam_plan.specs.Steps.{IsHere, LedTo, HasRidden, left};
 
-use crate::itinerary::Itinerary;
+use crate::itinerary::{Itinerary, Visit};
 use crate::stage::{Stage, Step, Trip};
 use crate::stepping::take_step;
 use ioam_base::memory::NoMemory;
-use ioam_topo::Domain;
+use ioam_topo::{Domain, PortId};
 use std::alloc::Global;
 
-/// The journey of a packet from a stage on.
+// Puts a visit behind the others, which have room for it.
+fn put(visits: &mut Vec<Visit>, visit: Visit)
+    requires { length visits.old.items < vec_capacity visits.old }
+    ensures visits { visits.new.items ≡ visits.old.items ++ visit ∷ [] }
+    ensures room { vec_capacity visits.old ≤ vec_capacity visits.new }
+{
+    // never refused: `travel` took the memory for all visits
+    let _ = visits.push(visit);
+}
+
+// At how many nodes a packet at a stage can be sent on yet.
+fn left(stage: Stage) -> usize
+    ensures { result ≡ left stage }
+{
+    match stage {
+        Stage::Enter(_, entry) => entry.hops as usize,
+        Stage::At(spot) => spot.hops.saturating_sub(1) as usize,
+        Stage::Gone(_) => 0,
+        Stage::Out(_, _) => 0,
+    }
+}
+
+/// The journey of a packet from a stage on, which came by a port. Memory for all visits that its hop
+/// limit allows, and for its exit's, is taken at once.
 pub(crate) fn travel(
     alloc: Global,
     domain: &Domain,
+    port: PortId,
     trip: &Trip,
     start: Stage,
 ) -> Result<Itinerary, NoMemory>
     requires here { IsHere domain.now start }
     requires few { left start ≤ 255 }
     requires led { LedTo trip.now.size trip.now.inside start [] }
+    ensures port { IfOk result (λ it. it.port ≡ port) }
     ensures journey { IfOk result (Journey domain.now trip.now start) }
     ensures visits { IfOk result (λ it. All (IsVisitIn domain.now) it.visits) }
     ensures few { IfOk result (λ it. length it.visits ≤ left start + (if it.exited then 1 else 0)) }
     ensures ridden { IfOk result (λ it. HasRidden trip.now.size trip.now.inside it.exited it.visits) }
     ensures ends { IfOk result (λ it. EndsInside domain.now it.end) }
 {
-    let mut visits = Vec::new(alloc);
+    let mut visits = Vec::with_capacity(alloc, left(start) + 1)?;
     let mut stage = start;
     'visits: loop {
         match take_step(domain, trip, stage) {
-            Step::Ends(end, exited) => return Ok(Itinerary::of(visits, end, exited, trip.inside)),
+            Step::Ends(end, exited) => return Ok(Itinerary::of(port, visits, end, exited, trip.inside)),
             Step::Goes(visit, next) => {
-                visits.push(visit)?;
+                put(&mut visits, visit);
                 stage = next;
             }
         }

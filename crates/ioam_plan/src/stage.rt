@@ -71,8 +71,9 @@ pub enum Step {
     Ends(End, bool),
 }
 
-// The interface by which a way leaves its node.
-fn outward_of(domain: &Domain, way: Way) -> Option<u32>
+/// The id of the interface by which a way leaves its node: what the link has at that end, or the port;
+/// None exactly where the domain has no such link or port.
+pub fn outward_of(domain: &Domain, way: Way) -> Option<u32>
     ensures { result ≡ outward_of domain.now way }
 {
     match way {

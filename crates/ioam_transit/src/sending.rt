@@ -18,6 +18,7 @@ use ioam_base::text::{append, append_decimal};
 use ioam_node::Place;
 use ioam_outputs::Output;
 use ioam_pcap::put_record;
+use ioam_plan::outward_of;
 use ioam_topo::{Domain, Way};
 use ioam_visit::{NodeNote, NodeRoom, option_count, transit};
 use std::alloc::Global;
@@ -27,17 +28,6 @@ use std::alloc::Global;
 pub struct Sent {
     pub(crate) packet: Vec<u8>,
     pub(crate) room: NodeRoom,
-}
-
-// The id of the interface by which a way leaves its node.
-fn outward_of(domain: &Domain, way: Way) -> Option<u32>
-    requires { (node : _) × IsWayFrom (links domain.now) (ports domain.now) node way }
-    ensures { result ≡ outward_of domain.now way }
-{
-    match way {
-        Way::Link(link) => Some(domain.link(link).out_id),
-        Way::Port(port) => Some(domain.port(port).id),
-    }
 }
 
 // The name of the link or the port of a way.

@@ -6,7 +6,7 @@ use Rattle.ioam_tunnel.specs.Enclosed.{tunnel_of}
 
 pub returns-clause-goes : goal.returns-clause-goes
 returns-clause-goes c =
-    let rides = c.requires.rides in
+    let rides = c.requires in
     let out = c.in_ok-out.out in
     let more = if c.args.itinerary.now.exited then 1 else 0 in
     let tunnel = tunnel_of c.args.domain.now c.args.flow c.args.numbers.now c.args.packet.now in
@@ -14,12 +14,12 @@ returns-clause-goes c =
     hops-of c.args.domain.now c.args.flow c.args.numbers.now c.args.packet.now rides.known (length c.args.itinerary.now.visits) more rides.few in
     record {
       is_packet = c.in_ok-out.ensures.packet;
-      is_sound = c.in_ok-out.ensures.sound c.requires.sound;
+      is_sound = c.in_ok-out.ensures.sound rides.sound;
       sends = rides.sends;
       hops = omega (arith, few, start-limit tunnel out.items c.in_ok-out.ensures.wire);
     }
 
 pub returns-clause-short : goal.returns-clause-short
 returns-clause-short c =
-    let rides = c.requires.rides in
+    let rides = c.requires in
     short-of c.args.domain.now c.args.flow c.args.numbers.now c.args.packet.now rides.known (length c.in_ok-out.out.items) c.in_ok-out.ensures.size rides.may

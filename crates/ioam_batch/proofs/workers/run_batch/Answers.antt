@@ -5,6 +5,10 @@ use Rattle.ioam_batch.specs.declared.job.Job.{Job}
 use Rattle.ioam_batch.proofs.JobsLaws.{reserved-stays}
 use Rattle.ioam_batch.proofs.workers.run_batch.Goals as goal
 
+pub returns-clause-holds : goal.returns-clause-holds
+returns-clause-holds g c = λ holds.
+    search rules
+
 pub invariant_of-batch : goal.invariant_of-batch
 invariant_of-batch g c =
     let before = c.batch.inside.jobs in

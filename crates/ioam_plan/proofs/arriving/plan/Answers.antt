@@ -6,9 +6,10 @@ use Rattle.ioam_plan.proofs.arriving.plan.Goals as goal
 
 pub returns-in-Ok-clause-only : goal.returns-in-Ok-clause-only
 returns-in-Ok-clause-only c earlier other stand plans =
+    let at = c.port_of-at.ensures.value in
     let P : Option Port → Type 0 = λ at. IsSomeAnd at (PlansBy c.args.domain.now c.args.readings.now earlier c.args.time c.in-Ok.itinerary c.args.admitted.now) in
     Plans-unique c.args.domain.now c.args.readings.now earlier c.args.time c.in-Ok.itinerary other c.args.port c.args.admitted.now
-    (subst P (sym c.port_of-port.ensures.value) (c.in-Ok.ensures.plans earlier stand)) plans
+    (c.in-Ok.ensures.port, subst P (sym at) (c.in-Ok.ensures.plans earlier stand)) plans
 
 pub returns-in-Ok-clause-counted : goal.returns-in-Ok-clause-counted
 returns-in-Ok-clause-counted c earlier stand = c.note.ensures.counted c.args.domain.now earlier stand

@@ -4,22 +4,22 @@ use Rattle.ioam_batch.specs.Crossings.{Crossed, crossings, filled, joined}
 use Rattle.ioam_batch.proofs.CrossingLaws.{at-ahead, at-done, at-none, at-past, fits-done}
 use Rattle.ioam_batch.proofs.crossings.Crossings.at.Goals as goal
 
-pub returns-then-visit-len : goal.returns-then-visit-len
-returns-then-visit-len c =
+pub returns-then-visit-len-clause-sent : goal.returns-then-visit-len-clause-sent
+returns-then-visit-len-clause-sent c =
     let i = c.self.inside in
     sym (ap (λ (v : Crossed). joined (slice_get (crossings v) c.args.visit)) c.self.view_is)
     ∙ at-past i.size i.taps.items i.done i.octets.items c.args.visit (omega arith)
 
-pub returns-then-not-index : goal.returns-then-not-index
-returns-then-not-index c =
+pub returns-then-not-index-clause-sent : goal.returns-then-not-index-clause-sent
+returns-then-not-index-clause-sent c =
     let i = c.self.inside in
     let inside : c.args.visit < length i.taps.items = omega arith in
     sym (ap (λ (v : Crossed). joined (slice_get (crossings v) c.args.visit)) c.self.view_is)
     ∙ at-none i.size i.taps.items i.done i.octets.items c.args.visit
     (get_or_default i.taps.items c.args.visit false c.index.result.now inside ∙ sym c.index.ensures ∙ c.if-not-index.true)
 
-pub returns-then-visit-self : goal.returns-then-visit-self
-returns-then-visit-self c =
+pub returns-then-visit-self-clause-sent : goal.returns-then-visit-self-clause-sent
+returns-then-visit-self-clause-sent c =
     let i = c.self.inside in
     let inside : c.args.visit < length i.taps.items = omega arith in
     let tap = get_or_default i.taps.items c.args.visit false c.index.result.now inside ∙ sym c.index.ensures ∙ c.if-not-index.false in
@@ -36,8 +36,8 @@ part-requires-clause-within c =
     c.filled-start.ensures.value ∙ ap (λ ts. filled i.size (take c.args.visit ts)) c.deref-2.ensures.value in
     omega (arith, said, start, ap length c.deref-3.ensures.value, fits-done i.size i.taps.items i.done c.args.visit (omega arith) tap)
 
-pub returns : goal.returns
-returns c =
+pub returns-clause-sent : goal.returns-clause-sent
+returns-clause-sent c =
     let i = c.self.inside in
     let inside : c.args.visit < length i.taps.items = omega arith in
     let tap = get_or_default i.taps.items c.args.visit false c.index.result.now inside ∙ sym c.index.ensures ∙ c.if-not-index.false in
@@ -47,4 +47,4 @@ returns c =
     ∙ at-done i.size i.taps.items i.done i.octets.items c.args.visit (omega arith) tap
     ∙ ap (λ k. Some (take i.size (drop k i.octets.items))) (sym start)
     ∙ ap (λ xs. Some (take i.size (drop c.filled-start.result xs))) (sym c.deref-3.ensures.value)
-    ∙ ap Some (sym c.part.ensures)
+    ∙ ap Some (sym c.part.ensures.octets)
