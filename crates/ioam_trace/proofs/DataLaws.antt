@@ -235,6 +235,7 @@ used_is namespace kind capacity over es =
 pub record ReadsRecorded (namespace kind capacity : ℕ) (given : List (List ℕ)) : Type 0 where
   pub namespace_is : u16_at (trace_data namespace kind capacity given) 0 ≡ namespace
   pub kind_is : kind_of (trace_data namespace kind capacity given) ≡ kind
+  pub node_len_is : node_len_of (trace_data namespace kind capacity given) ≡ words kind
   pub overflow_is : overflow_of (trace_data namespace kind capacity given) ≡ (if is_over capacity given then 1 else 0)
   pub no_fault : fault_of (remaining_of (trace_data namespace kind capacity given)) (trace_data namespace kind capacity given) ≡ None
   pub elements : elements_behind (remaining_of (trace_data namespace kind capacity given)) (trace_data namespace kind capacity given)
@@ -279,11 +280,12 @@ ReadsRecorded-CanHold namespace kind capacity es holds =
     } in
     let is = trace_data-is namespace kind capacity es in
     let remaining = remaining_is namespace kind capacity kept holds.namespace_below holds.kind_below below can fits all over in
-    let Q : List ℕ → Type 0 = λ xs. (u16_at xs 0 ≡ namespace) × (kind_of xs ≡ kind) × (overflow_of xs ≡ cond over 1 0)
+    let Q : List ℕ → Type 0 = λ xs. (u16_at xs 0 ≡ namespace) × (kind_of xs ≡ kind) × (node_len_of xs ≡ words kind) × (overflow_of xs ≡ cond over 1 0)
     × (fault_of (remaining_of xs) xs ≡ None) × (elements_behind (remaining_of xs) xs ≡ kept) in
     let read = subst Q (sym is) (
       sym is_head.namespace,
       sym is_head.kind,
+      sym is_head.node_len,
       overflow_is namespace kind capacity kept holds.namespace_below holds.kind_below below can fits all over ∙ one_or_none over,
       ap (λ n. fault_of n octets) remaining ∙ fault_of-Carries free octets head kept carries,
       ap (λ n. elements_behind n octets) remaining ∙ elements_behind-Carries free octets head kept carries,
@@ -291,9 +293,10 @@ ReadsRecorded-CanHold namespace kind capacity es holds =
     record {
       namespace_is = read.0;
       kind_is = read.1;
-      overflow_is = read.2;
-      no_fault = read.3;
-      elements = read.4;
+      node_len_is = read.2;
+      overflow_is = read.3;
+      no_fault = read.4;
+      elements = read.5;
     }
 
 pub ReadsAgain-Reads : (octets : List ℕ) (result : Result Trace TraceFault) → Reads octets result → ReadsAgain octets result
