@@ -1,4 +1,7 @@
 pub mod ElementsLaws
+pub mod FlowsLaws
+pub mod HopTracesLaws
+pub mod FilledLaws
 pub mod LinesLaws
 pub mod ListedLaws
 pub mod TextLaws

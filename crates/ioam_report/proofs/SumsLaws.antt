@@ -1,13 +1,13 @@
 -- Sums that count an arrival more stand for one arrival more.
 use Rattle.std.proofs.Common.{◌≡◌, ℕ, ◌+◌, ◌*◌, ◌-◌, min, ◌<◌, ◌≤◌, ◌^◌, Bool, true, false, cond, nat_eq, List, [], ◌∷◌, ◌++◌, Some, length, take, get_or, refl, sym, ap, subst, ◌∙◌, arith, length-append, inl, inr, ◌⊎◌, suc}
-use Rattle.std.specs.Prelude.{not, ◌&&◌}
+use Rattle.std.specs.Prelude.{not, ◌&&◌, IsSomeAnd}
 use Rattle.std.specs.List.{All, slice_get, sum_by, count_by, flat_map, enumerate_from}
 use Rattle.std.proofs.lemmas.List.{append-nil}
 use Rattle.std.proofs.lemmas.List.Elements.{All-push, All-weaker}
 use Rattle.std.proofs.lemmas.List.Sums.{sum_by_push, sum_by_more, sum_by-le, count_by-le-length}
 use Rattle.ioam_topo.specs.declared.domain.Domain.{Domain}
 use Rattle.ioam_topo.specs.declared.parts.Node.{Node}
-use Rattle.ioam_topo.specs.Domain.{nodes}
+use Rattle.ioam_topo.specs.Domain.{nodes, flows}
 use Rattle.ioam_topo.specs.declared.ids.NodeId.{NodeId}
 use Rattle.ioam_topo.specs.declared.ids.PortId.{PortId}
 use Rattle.ioam_node.specs.declared.reason.Reason.{Reason}
@@ -15,10 +15,13 @@ use Rattle.ioam_plan.specs.declared.itinerary.Itinerary.{Itinerary}
 use Rattle.ioam_plan.specs.declared.itinerary.Visit.{Visit}
 use Rattle.ioam_plan.specs.declared.itinerary.End.{End}
 use Rattle.ioam_plan.specs.declared.itinerary.End.TheVariants.{Left, Drop}
+use Rattle.ioam_report.specs.declared.flows.FlowSum.{FlowSum}
 use Rattle.ioam_report.specs.declared.sums.NodeSum.{NodeSum}
 use Rattle.ioam_report.specs.declared.sums.Sums.{Sums}
 use Rattle.ioam_report.specs.Sums.{is_at, has_left, is_dropped, is_dropped_at, is_stopped_at, seen_of, node_sum, StandFor, Raised}
-use Rattle.ioam_report.specs.SumsText.{packets_line, node_line, node_lines, sums_text, arrivals_text}
+use Rattle.ioam_report.specs.Flows.{IsSumOf}
+use Rattle.ioam_report.specs.SumsText.{packets_line, node_line, node_lines, flow_lines, sums_text, arrivals_text}
+use Rattle.ioam_report.proofs.FlowsLaws.{flows_lines}
 
 abbrev sum_of : ℕ → ℕ → NodeSum
 sum_of seen dropped = record { seen = seen; dropped = dropped }
@@ -72,6 +75,11 @@ all_few : (node : ℕ) (arrivals : List Itinerary) → All (λ arrival. length a
     → All (λ arrival. seen_of node arrival ≤ 257) arrivals
 all_few node arrivals short = All-weaker _ _ (λ arrival few. seen_few node arrival few) arrivals short
 
+-- the sums of flows count this arrival
+abbrev pub FlowsCount : List FlowSum → List FlowSum → Itinerary → Type 0
+FlowsCount old new it = (flow : ℕ) (arrivals : List Itinerary) → length arrivals < 2 ^ 32 → IsSomeAnd (slice_get old flow) (IsSumOf flow arrivals)
+    → IsSomeAnd (slice_get new flow) (IsSumOf flow (arrivals ++ it ∷ []))
+
 pub StandFor-more : (domain : Domain) (old new : Sums) (arrivals : List Itinerary) (it : Itinerary)
     → StandFor domain old arrivals → old.packets < 2 ^ 32 → length it.visits ≤ 256
     → new.packets ≡ old.packets + 1
@@ -79,8 +87,9 @@ pub StandFor-more : (domain : Domain) (old new : Sums) (arrivals : List Itinerar
     → (old.dropped < 2 ^ 63 → new.dropped ≡ old.dropped + cond (is_dropped it.end) 1 0)
     → length new.nodes ≡ length old.nodes
     → ((at : ℕ) → Raised old.nodes new.nodes at (seen_of at it) (cond (is_dropped_at at it.end) 1 0))
+    → length new.flows ≡ length old.flows → FlowsCount old.flows new.flows it
     → StandFor domain new (arrivals ++ it ∷ [])
-StandFor-more domain old new arrivals it stand room short packets left dropped count raised =
+StandFor-more domain old new arrivals it stand room short packets left dropped count raised same_flows noted =
     let goes : Itinerary → Bool = λ arrival. has_left arrival.end in
     let stays : Itinerary → Bool = λ arrival. is_dropped arrival.end in
     let few : old.packets ≡ length arrivals = stand.packets in
@@ -101,6 +110,8 @@ StandFor-more domain old new arrivals it stand room short packets left dropped c
           let now : seen_of node it ≤ 257 = seen_few node it short in
           (raised node).raised (record { seen = sum_by seen arrivals; dropped = sum_by here arrivals }) (stand.each node below) (omega arith) (omega (arith, one_most (is_dropped_at node it.end)))
           ∙ same_sum _ _ _ _ (sym (sum_by_push seen arrivals it)) (sym (sum_by_push here arrivals it));
+      flow_count = same_flows ∙ stand.flow_count;
+      each_flow = λ flow below. noted flow arrivals (omega arith) (stand.each_flow flow below);
       short = All-push (λ (a : Itinerary). length a.visits ≤ 256) arrivals it stand.short short;
     }
 
@@ -109,15 +120,16 @@ pub StandFor-left : (domain : Domain) (old new : Sums) (arrivals : List Itinerar
     → it.end ≡ Left port → StandFor domain old arrivals → old.packets < 2 ^ 32 → length it.visits ≤ 256
     → new.packets ≡ old.packets + 1 → new.left ≡ min (old.left + 1) (2 ^ 64 - 1) → new.dropped ≡ old.dropped → length new.nodes ≡ length old.nodes
     → ((at : ℕ) → Raised old.nodes new.nodes at (count_by (is_at at) it.visits) 0)
+    → length new.flows ≡ length old.flows → FlowsCount old.flows new.flows it
     → StandFor domain new (arrivals ++ it ∷ [])
-StandFor-left domain old new arrivals it port is stand room short packets left dropped count raised =
+StandFor-left domain old new arrivals it port is stand room short packets left dropped count raised same_flows noted =
     let goes : cond {A = ℕ} (has_left it.end) 1 0 ≡ 1 = ap (λ (e : End). cond {A = ℕ} (has_left e) 1 0) is in
     let stays : cond {A = ℕ} (is_dropped it.end) 1 0 ≡ 0 = ap (λ (e : End). cond {A = ℕ} (is_dropped e) 1 0) is in
     StandFor-more domain old new arrivals it stand room short packets (λ few. omega (arith, goes, left)) (λ few. omega (arith, stays, dropped)) count
     (λ at.
     let here : cond {A = ℕ} (is_dropped_at at it.end) 1 0 ≡ 0 = ap (λ (e : End). cond {A = ℕ} (is_dropped_at at e) 1 0) is in
     let not_stopped : cond {A = ℕ} (is_stopped_at at it) 1 0 ≡ 0 = ap (λ (e : End). cond {A = ℕ} (is_dropped_at at e && not it.exited) 1 0) is in
-    Raised-by old.nodes new.nodes at _ _ _ _ (omega (arith, not_stopped)) (sym here) (raised at))
+    Raised-by old.nodes new.nodes at _ _ _ _ (omega (arith, not_stopped)) (sym here) (raised at)) same_flows noted
 
 stopped_here : (here exited : Bool) (seen : ℕ) → seen ≡ cond (not exited) 1 0 → cond here seen 0 ≡ cond (here && not exited) 1 0
 stopped_here true exited seen is = is
@@ -130,8 +142,9 @@ pub StandFor-dropped : (domain : Domain) (old new : Sums) (between : List NodeSu
     → length between ≡ length old.nodes → length new.nodes ≡ length between → seen ≡ cond (not it.exited) 1 0
     → ((at : ℕ) → Raised old.nodes between at (count_by (is_at at) it.visits) 0)
     → ((at : ℕ) → Raised between new.nodes at (cond (nat_eq at node.0) seen 0) (cond (nat_eq at node.0) 1 0))
+    → length new.flows ≡ length old.flows → FlowsCount old.flows new.flows it
     → StandFor domain new (arrivals ++ it ∷ [])
-StandFor-dropped domain old new between arrivals it reason node seen is stand room short packets left dropped count more once raised here =
+StandFor-dropped domain old new between arrivals it reason node seen is stand room short packets left dropped count more once raised here same_flows noted =
     let goes : cond {A = ℕ} (has_left it.end) 1 0 ≡ 0 = ap (λ (e : End). cond {A = ℕ} (has_left e) 1 0) is in
     let stays : cond {A = ℕ} (is_dropped it.end) 1 0 ≡ 1 = ap (λ (e : End). cond {A = ℕ} (is_dropped e) 1 0) is in
     StandFor-more domain old new arrivals it stand room short packets (λ few. omega (arith, goes, left)) (λ few. omega (arith, stays, dropped)) (more ∙ count)
@@ -141,7 +154,7 @@ StandFor-dropped domain old new between arrivals it reason node seen is stand ro
     ap (λ (e : End). cond {A = ℕ} (is_dropped_at at e && not it.exited) 1 0) is in
     Raised-by old.nodes new.nodes at _ _ _ _
     (omega (arith, stopped, stopped_here (nat_eq at node.0) it.exited seen once)) (omega (arith, there))
-    (Raised-then old.nodes between new.nodes at _ _ _ _ (raised at) (here at)))
+    (Raised-then old.nodes between new.nodes at _ _ _ _ (raised at) (here at))) same_flows noted
 
 -- Sums that stand for arrivals have the lines of these.
 nodes_lines : (arrivals : List Itinerary) (nodes : List Node) (sums : List NodeSum) (from : ℕ) → length sums ≡ length nodes
@@ -164,11 +177,17 @@ nodes_lines arrivals (node ∷ nodes) (sum ∷ sums) from count each =
 pub sums_text-of : (domain : Domain) (sums : Sums) (arrivals : List Itinerary) → StandFor domain sums arrivals
     → sums_text domain sums ≡ arrivals_text domain arrivals
 sums_text-of domain sums arrivals stand =
-    ap (λ n. packets_line n sums.left sums.dropped ++ node_lines (nodes domain) sums.nodes) stand.packets
-    ∙ ap (λ n. packets_line (length arrivals) n sums.dropped ++ node_lines (nodes domain) sums.nodes) stand.left
-    ∙ ap (λ n. packets_line (length arrivals) (count_by (λ (arrival : Itinerary). has_left arrival.end) arrivals) n ++ node_lines (nodes domain) sums.nodes) stand.dropped
-    ∙ ap (λ xs. packets_line (length arrivals) (count_by (λ (arrival : Itinerary). has_left arrival.end) arrivals) (count_by (λ (arrival : Itinerary). is_dropped arrival.end) arrivals) ++ xs)
+    let lines : List ℕ = node_lines (nodes domain) sums.nodes ++ flow_lines (flows domain) sums.flows in
+    let goes : ℕ = count_by (λ (arrival : Itinerary). has_left arrival.end) arrivals in
+    let stays : ℕ = count_by (λ (arrival : Itinerary). is_dropped arrival.end) arrivals in
+    ap (λ n. packets_line n sums.left sums.dropped ++ lines) stand.packets
+    ∙ ap (λ n. packets_line (length arrivals) n sums.dropped ++ lines) stand.left
+    ∙ ap (λ n. packets_line (length arrivals) goes n ++ lines) stand.dropped
+    ∙ ap (λ xs. packets_line (length arrivals) goes stays ++ (xs ++ flow_lines (flows domain) sums.flows))
     (nodes_lines arrivals (nodes domain) sums.nodes 0 stand.count (λ i below. stand.each i below ∙ ap (λ n. Some (node_sum arrivals n)) (omega arith)))
+    ∙ ap (λ xs. packets_line (length arrivals) goes stays
+    ++ (flat_map (λ entry. node_line entry.1.name (node_sum arrivals entry.0)) (enumerate_from 0 (nodes domain)) ++ xs))
+    (flows_lines arrivals (flows domain) sums.flows 0 stand.flow_count stand.each_flow)
 
 -- where a list is at its end, no line is left to append
 none_left : (nodes : List Node) (sums : List NodeSum) → (nodes ≡ []) ⊎ (sums ≡ []) → node_lines nodes sums ≡ []

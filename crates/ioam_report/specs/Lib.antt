@@ -1,5 +1,7 @@
 pub mod Digits
 pub mod FieldsText
+pub mod Flows
+pub mod HopText
 pub mod Piece
 pub mod RunText
 pub mod Spaced

@@ -1,13 +1,14 @@
 -- What the sums of a run count.
-use Rattle.std.specs.Prelude.{◌≡◌, ℕ, ◌+◌, ◌<◌, ◌≤◌, ◌^◌, Bool, true, false, not, ◌&&◌, if◌then◌else◌, nat_eq, List, Some, length, slice_get, All, sum_by, count_by}
+use Rattle.std.specs.Prelude.{◌≡◌, ℕ, ◌+◌, ◌<◌, ◌≤◌, ◌^◌, Bool, true, false, not, ◌&&◌, if◌then◌else◌, nat_eq, List, Some, length, slice_get, IsSomeAnd, All, sum_by, count_by}
 use Rattle.ioam_topo.specs.declared.domain.Domain.{Domain}
-use Rattle.ioam_topo.specs.Domain.{nodes}
+use Rattle.ioam_topo.specs.Domain.{nodes, flows}
 use Rattle.ioam_plan.specs.declared.itinerary.Itinerary.{Itinerary}
 use Rattle.ioam_plan.specs.declared.itinerary.Visit.{Visit}
 use Rattle.ioam_plan.specs.declared.itinerary.End.{End}
 use Rattle.ioam_plan.specs.declared.itinerary.End.TheVariants.{Left, Drop}
 use Rattle.ioam_report.specs.declared.sums.NodeSum.{NodeSum}
 use Rattle.ioam_report.specs.declared.sums.Sums.{Sums}
+use Rattle.ioam_report.specs.Flows.{IsSumOf}
 
 -- the visit is at the node at this place of the file
 abbrev pub is_at : ℕ → Visit → Bool
@@ -54,6 +55,8 @@ pub record StandFor (domain : Domain) (sums : Sums) (arrivals : List Itinerary) 
   pub dropped : sums.dropped ≡ count_by (λ arrival. is_dropped arrival.end) arrivals
   pub count : length sums.nodes ≡ length (nodes domain)
   pub each : (node : ℕ) → node < length (nodes domain) → slice_get sums.nodes node ≡ Some (node_sum arrivals node)
+  pub flow_count : length sums.flows ≡ length (flows domain)
+  pub each_flow : (flow : ℕ) → flow < length (flows domain) → IsSomeAnd (slice_get sums.flows flow) (IsSumOf flow arrivals)
   pub short : All (λ arrival. length arrival.visits ≤ 256) arrivals
 
 -- what a node counted rose by so much, where that fits

@@ -5,6 +5,8 @@
 mod arrivals;
 mod digits;
 mod elements;
+mod flows;
+mod hop_traces;
 mod lines;
 mod listed;
 mod piece;
@@ -18,6 +20,8 @@ mod values;
 
 pub use arrivals::put_arrival;
 pub use elements::put_fields;
+pub use flows::{FlowSum, FlowSums};
+pub use hop_traces::put_hop_traces;
 pub use lines::{put_element_line, put_element_lines, put_trace_lines};
 pub use piece::Piece;
 pub use put::put_pieces;

@@ -1,9 +1,10 @@
 //! What a run counts of its arrivals.
-ghost use Rattle.std.specs.Prelude.{◌≡◌, ◌++◌, ◌∷◌, ◌<◌, ◌^◌, ℕ, List, [], All, IfOk, if◌then◌else◌, nat_eq, length, count_by, replicate};
+ghost use Rattle.std.specs.Prelude.{◌≡◌, ◌+◌, ◌++◌, ◌∷◌, ◌<◌, ◌^◌, ℕ, List, [], All, IfOk, IfSome, if◌then◌else◌, nat_eq, length, count_by, replicate};
 ghost use Rattle.ioam_topo.specs.declared.domain.Domain.{Domain};
 ghost use Rattle.ioam_plan.specs.declared.itinerary.Itinerary.{Itinerary};
 ghost use Rattle.ioam_report.specs.Sums.{is_at, IsEndBelow, Raised, StandFor};
 
+use crate::flows::FlowSums;
 use ioam_base::memory::NoMemory;
 use ioam_plan::{End, Itinerary, Visit};
 use ioam_topo::{Domain, NodeId};
@@ -89,6 +90,8 @@ pub struct Sums {
     pub dropped: u64,
     /// What is counted at each node.
     pub nodes: NodeSums,
+    /// What is counted of each flow.
+    pub flows: FlowSums,
 }
 
 impl Sums {
@@ -97,26 +100,31 @@ impl Sums {
         ensures { IfOk result (λ sums. StandFor domain.now sums []) }
     {
         let nodes = NodeSums::new(alloc, domain.nodes().len())?;
+        let flows = FlowSums::new(alloc, domain.flows().len())?;
         Ok(Sums {
             packets: 0,
             left: 0,
             dropped: 0,
             nodes,
+            flows,
         })
     }
 
-    /// Counts an arrival more. Its nodes are those of the domain that the sums were made for, and fewer
+    /// Counts an arrival more. Its nodes and its flow are those of the domain that the sums were made for, and fewer
     /// than 2^32 arrivals were counted before it. For every list of arrivals that the sums stand for,
     /// they stand afterwards for the list with this one at its end.
     pub fn note(&mut self, itinerary: &Itinerary)
         requires packets { self.old.packets < 2 ^ 32 }
         requires visits { All (λ visit. visit.place.node.0 < length self.old.nodes) itinerary.now.visits }
         requires ends { IsEndBelow (length self.old.nodes) itinerary.now.end }
-        ensures { (domain : Domain) (arrivals : List Itinerary) → StandFor domain self.old arrivals
+        requires flow { IfSome itinerary.now.carried (λ carried. carried.0.0 < length self.old.flows) }
+        ensures packets { self.new.packets ≡ self.old.packets + 1 }
+        ensures stands { (domain : Domain) (arrivals : List Itinerary) → StandFor domain self.old arrivals
             → StandFor domain self.new (arrivals ++ itinerary.now ∷ []) }
     {
         self.packets += 1;
         self.nodes.pass_all(itinerary.visits.list());
+        self.flows.note(itinerary);
         match itinerary.end {
             End::Left { .. } => self.left = self.left.saturating_add(1),
             End::Drop { node, .. } => {
