@@ -3,6 +3,8 @@ use Rattle.std.specs.Prelude.{ℕ, Bool, true, false, List, ◌++◌, codes, dec
 use Rattle.ioam_clock.specs.declared.fault.ReadWhy.{ReadWhy}
 use Rattle.ioam_clock.specs.declared.fault.ReadWhy.TheVariants as read
 use Rattle.ioam_clock.specs.declared.fault.ReadingsFault.{ReadingsFault}
+use Rattle.ioam_dex.specs.declared.export.ExportFault.{ExportFault}
+use Rattle.ioam_dex.specs.declared.export.ExportFault.TheVariants as export
 use Rattle.ioam_pcap.specs.declared.capture.CapFault.{CapFault}
 use Rattle.ioam_pcap.specs.declared.capture.CapFault.TheVariants as fault
 use Rattle.ioam_toml.specs.declared.why.Why.{Why}
@@ -13,9 +15,8 @@ use Rattle.ioam_entries.specs.declared.words.Field.TheVariants as field
 use Rattle.ioam_entries.specs.declared.words.Table.{Table}
 use Rattle.ioam_entries.specs.declared.words.Table.TheVariants as table
 use Rattle.ioam_answer.specs.declared.outcome.Outcome.{Outcome}
-use Rattle.ioam_answer.specs.declared.outcome.Outcome.TheVariants.{Done, Usage, Names, Domain, Readings, Capture, Packets, ReadFault, WriteFault, NoMemory}
+use Rattle.ioam_answer.specs.declared.outcome.Outcome.TheVariants.{Done, Usage, Names, Domain, Readings, Capture, Exports, Packets, Records, ReadFault, WriteFault, NoMemory}
 
--- 6 and 8 are kept for the answers of commands to come
 abbrev pub status_of : Outcome → ℕ
 status_of Done = 0
 status_of Usage = 1
@@ -23,7 +24,9 @@ status_of (Names name) = 2
 status_of (Domain fault) = 3
 status_of (Readings fault) = 4
 status_of (Capture name at fault) = 5
+status_of (Exports at fault) = 6
 status_of (Packets limit) = 7
+status_of (Records limit) = 8
 status_of ReadFault = 9
 status_of WriteFault = 10
 status_of NoMemory = 11
@@ -129,6 +132,12 @@ fault_text (fault.Link found) = codes "link " ++ decimal found
 fault_text (fault.RecordLong found) = codes "long " ++ decimal found
 fault_text (fault.Short have) = codes "short " ++ decimal have
 
+abbrev pub export_text : ExportFault → List ℕ
+export_text (export.Version found) = codes "version " ++ decimal found
+export_text (export.Length found) = codes "length " ++ decimal found
+export_text (export.Element at) = codes "element " ++ decimal at
+export_text (export.Short have) = codes "short " ++ decimal have
+
 abbrev pub line_text : Outcome → List ℕ
 line_text Done = codes "done"
 line_text Usage = codes "usage"
@@ -136,7 +145,9 @@ line_text (Names name) = codes "names " ++ name
 line_text (Domain fault) = domain_text fault
 line_text (Readings fault) = readings_text fault
 line_text (Capture name at fault) = codes "capture " ++ name ++ codes " " ++ decimal at ++ codes " " ++ fault_text fault
+line_text (Exports at fault) = codes "exports " ++ decimal at ++ codes " " ++ export_text fault
 line_text (Packets limit) = codes "packets " ++ decimal limit
+line_text (Records limit) = codes "records " ++ decimal limit
 line_text ReadFault = codes "read fault"
 line_text WriteFault = codes "write fault"
 line_text NoMemory = codes "no memory"

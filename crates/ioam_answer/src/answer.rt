@@ -1,11 +1,12 @@
 //! The exit status and the line of an answer.
 ghost use Rattle.std.specs.Prelude.{◌≡◌, ◌++◌, IfOk, codes, decimal, string_bytes};
-ghost use Rattle.ioam_answer.specs.Answers.{status_of, line_text, domain_text, readings_text, fault_text};
+ghost use Rattle.ioam_answer.specs.Answers.{status_of, line_text, domain_text, readings_text, fault_text, export_text};
 
 use crate::outcome::Outcome;
 use crate::words::{field_text, read_why_text, table_text, why_text};
 use ioam_base::memory::NoMemory;
 use ioam_clock::ReadingsFault;
+use ioam_dex::ExportFault;
 use ioam_entries::DomainFault;
 use ioam_pcap::CapFault;
 use std::alloc::Global;
@@ -21,7 +22,9 @@ pub fn status(outcome: &Outcome) -> u8
         Outcome::Domain { .. } => 3,
         Outcome::Readings { .. } => 4,
         Outcome::Capture { .. } => 5,
+        Outcome::Exports { .. } => 6,
         Outcome::Packets { .. } => 7,
+        Outcome::Records { .. } => 8,
         Outcome::ReadFault => 9,
         Outcome::WriteFault => 10,
         Outcome::NoMemory => 11,
@@ -42,7 +45,9 @@ pub fn line(alloc: Global, outcome: &Outcome) -> Result<String, NoMemory>
             let fault = fault_line(alloc, *fault)?;
             capture_line(alloc, name.text(), *at, fault.as_str())
         }
+        Outcome::Exports { at, fault } => exports_line(alloc, *at, *fault),
         Outcome::Packets { limit } => Ok(format!(in alloc; "packets {}", *limit)?),
+        Outcome::Records { limit } => Ok(format!(in alloc; "records {}", *limit)?),
         Outcome::ReadFault => Ok(String::from_str(alloc, "read fault")?),
         Outcome::WriteFault => Ok(String::from_str(alloc, "write fault")?),
         Outcome::NoMemory => Ok(String::from_str(alloc, "no memory")?),
@@ -86,6 +91,28 @@ fn fault_line(alloc: Global, fault: CapFault) -> Result<String, NoMemory>
         CapFault::Link { found } => format!(in alloc; "link {found}")?,
         CapFault::RecordLong { found } => format!(in alloc; "long {found}")?,
         CapFault::Short { have } => format!(in alloc; "short {have}")?,
+    };
+    Ok(line)
+}
+
+// The line of a faulty file of export records.
+fn exports_line(alloc: Global, at: u64, fault: ExportFault) -> Result<String, NoMemory>
+    ensures { IfOk result (λ line. string_bytes line
+        ≡ codes "exports " ++ decimal at ++ codes " " ++ export_text fault) }
+{
+    let fault = export_line(alloc, fault)?;
+    Ok(format!(in alloc; "exports {} {}", at, fault)?)
+}
+
+// A record's fault, as its line ends.
+fn export_line(alloc: Global, fault: ExportFault) -> Result<String, NoMemory>
+    ensures { IfOk result (λ line. string_bytes line ≡ export_text fault) }
+{
+    let line = match fault {
+        ExportFault::Version { found } => format!(in alloc; "version {found}")?,
+        ExportFault::Length { found } => format!(in alloc; "length {found}")?,
+        ExportFault::Element { at } => format!(in alloc; "element {at}")?,
+        ExportFault::Short { have } => format!(in alloc; "short {have}")?,
     };
     Ok(line)
 }

@@ -2,6 +2,7 @@ ghost use Rattle.std.specs.Prelude.{◌≡◌, ◌⊎◌};
 
 use ioam_clock::ReadingsFault;
 use ioam_desk::Name;
+use ioam_dex::ExportFault;
 use ioam_entries::DomainFault;
 use ioam_pcap::CapFault;
 use std::alloc::Global;
@@ -31,8 +32,17 @@ pub enum Outcome {
         at: u64,
         fault: CapFault,
     },
+    /// In EXPORTS the octets from this place on, counted from 0, begin no export record.
+    Exports {
+        at: u64,
+        fault: ExportFault,
+    },
     /// More packets arrive than this many: in IN, or of `run` in all captures together.
     Packets {
+        limit: u32,
+    },
+    /// EXPORTS has more records, or more different ones to be grouped, than this many.
+    Records {
         limit: u32,
     },
     /// An input could not be opened or read.

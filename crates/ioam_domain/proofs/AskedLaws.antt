@@ -70,6 +70,8 @@ module _ (desk : Writing) (words : List (List ℕ)) where
   Asked-unique outcome.ReadFault b x y = absurd x
   Asked-unique outcome.WriteFault b x y = absurd x
   Asked-unique outcome.NoMemory b x y = absurd x
+  Asked-unique (outcome.Exports spot cut) b x y = absurd x
+  Asked-unique (outcome.Records most) b x y = absurd x
   Asked-unique (outcome.Domain f) outcome.Usage x y = absurd y
   Asked-unique (outcome.Domain f) outcome.ReadFault x y = absurd y
   Asked-unique (outcome.Domain f) outcome.WriteFault x y = absurd y
@@ -78,6 +80,8 @@ module _ (desk : Writing) (words : List (List ℕ)) where
   Asked-unique (outcome.Domain f) (outcome.Readings g) x y = absurd (fault_or_readings desk words f g x y)
   Asked-unique (outcome.Domain f) (outcome.Names other) x y = absurd (fault_or_set desk words y.0 f x y.1)
   Asked-unique (outcome.Domain f) (outcome.Packets most) x y = absurd (fault_or_set desk words y.0 f x y.1.set)
+  Asked-unique (outcome.Domain f) (outcome.Exports spot cut) x y = absurd y
+  Asked-unique (outcome.Domain f) (outcome.Records most) x y = absurd y
   Asked-unique (outcome.Domain f) (outcome.Capture other place cause) x y = absurd (fault_or_set desk words y.0 f x y.1.set)
   Asked-unique (outcome.Domain f) outcome.Done x y = absurd (fault_or_set desk words y.0 f x y.1.set)
   Asked-unique (outcome.Readings f) outcome.Usage x y = absurd y
@@ -88,6 +92,8 @@ module _ (desk : Writing) (words : List (List ℕ)) where
   Asked-unique (outcome.Readings f) (outcome.Readings g) x y = ap outcome.Readings (one_readings_fault desk words f g x y)
   Asked-unique (outcome.Readings f) (outcome.Names other) x y = absurd (readings_or_set desk words y.0 f x y.1)
   Asked-unique (outcome.Readings f) (outcome.Packets most) x y = absurd (readings_or_set desk words y.0 f x y.1.set)
+  Asked-unique (outcome.Readings f) (outcome.Exports spot cut) x y = absurd y
+  Asked-unique (outcome.Readings f) (outcome.Records most) x y = absurd y
   Asked-unique (outcome.Readings f) (outcome.Capture other place cause) x y = absurd (readings_or_set desk words y.0 f x y.1.set)
   Asked-unique (outcome.Readings f) outcome.Done x y = absurd (readings_or_set desk words y.0 f x y.1.set)
   Asked-unique (outcome.Names name) outcome.Usage x y = absurd y
@@ -98,6 +104,8 @@ module _ (desk : Writing) (words : List (List ℕ)) where
   Asked-unique (outcome.Names name) (outcome.Readings g) x y = absurd (readings_or_set desk words x.0 g y x.1)
   Asked-unique (outcome.Names name) (outcome.Names other) x y = ap outcome.Names (one_name x.0 y.0 name other x.1 y.1 x.2.0 y.2.0 x.2.1 y.2.1 x.2.2 y.2.2)
   Asked-unique (outcome.Names name) (outcome.Packets most) x y = absurd (named_or_ready x.0 y.0 x.2.0 x.1 x.2.1 y.1)
+  Asked-unique (outcome.Names name) (outcome.Exports spot cut) x y = absurd y
+  Asked-unique (outcome.Names name) (outcome.Records most) x y = absurd y
   Asked-unique (outcome.Names name) (outcome.Capture other place cause) x y = absurd (named_or_ready x.0 y.0 x.2.0 x.1 x.2.1 y.1)
   Asked-unique (outcome.Names name) outcome.Done x y = absurd (named_or_ready x.0 y.0 x.2.0 x.1 x.2.1 y.1)
   Asked-unique (outcome.Packets limit) outcome.Usage x y = absurd y
@@ -108,6 +116,8 @@ module _ (desk : Writing) (words : List (List ℕ)) where
   Asked-unique (outcome.Packets limit) (outcome.Readings g) x y = absurd (readings_or_set desk words x.0 g y x.1.set)
   Asked-unique (outcome.Packets limit) (outcome.Names other) x y = absurd (named_or_ready y.0 x.0 y.2.0 y.1 y.2.1 x.1)
   Asked-unique (outcome.Packets limit) (outcome.Packets most) x y = ap outcome.Packets (x.2 ∙ (agree x.0 y.0 x.1 y.1).packets ∙ sym y.2)
+  Asked-unique (outcome.Packets limit) (outcome.Exports spot cut) x y = absurd y
+  Asked-unique (outcome.Packets limit) (outcome.Records most) x y = absurd y
   Asked-unique (outcome.Packets limit) (outcome.Capture other place cause) x y = absurd (exceeds_or_arrives x.0 y.0 x.1 y.1 _ x.3 y.2.2)
   Asked-unique (outcome.Packets limit) outcome.Done x y = absurd (exceeds_or_arrives x.0 y.0 x.1 y.1 _ x.3 y.2)
   Asked-unique (outcome.Capture name at fault) outcome.Usage x y = absurd y
@@ -118,6 +128,8 @@ module _ (desk : Writing) (words : List (List ℕ)) where
   Asked-unique (outcome.Capture name at fault) (outcome.Readings g) x y = absurd (readings_or_set desk words x.0 g y x.1.set)
   Asked-unique (outcome.Capture name at fault) (outcome.Names other) x y = absurd (named_or_ready y.0 x.0 y.2.0 y.1 y.2.1 x.1)
   Asked-unique (outcome.Capture name at fault) (outcome.Packets most) x y = absurd (exceeds_or_arrives y.0 x.0 y.1 x.1 _ y.3 x.2.2)
+  Asked-unique (outcome.Capture name at fault) (outcome.Exports spot cut) x y = absurd y
+  Asked-unique (outcome.Capture name at fault) (outcome.Records most) x y = absurd y
   Asked-unique (outcome.Capture name at fault) (outcome.Capture other place cause) x y = one_capture x.0 y.0 x.1 y.1 name other x.2.0 y.2.0 at place fault cause x.2.1 y.2.1 x.2.2 y.2.2
   Asked-unique (outcome.Capture name at fault) outcome.Done x y = absurd (broken_or_over _ _ _ (one_turn x.0 y.0 x.1 y.1 _ _ x.2.2 y.2))
   Asked-unique outcome.Done outcome.Usage x y = absurd y
@@ -128,6 +140,8 @@ module _ (desk : Writing) (words : List (List ℕ)) where
   Asked-unique outcome.Done (outcome.Readings g) x y = absurd (readings_or_set desk words x.0 g y x.1.set)
   Asked-unique outcome.Done (outcome.Names other) x y = absurd (named_or_ready y.0 x.0 y.2.0 y.1 y.2.1 x.1)
   Asked-unique outcome.Done (outcome.Packets most) x y = absurd (exceeds_or_arrives y.0 x.0 y.1 x.1 _ y.3 x.2)
+  Asked-unique outcome.Done (outcome.Exports spot cut) x y = absurd y
+  Asked-unique outcome.Done (outcome.Records most) x y = absurd y
   Asked-unique outcome.Done (outcome.Capture other place cause) x y = absurd (broken_or_over _ _ _ (one_turn y.0 x.0 y.1 x.1 _ _ y.2.2 x.2))
   Asked-unique outcome.Done outcome.Done x y = refl
 
@@ -142,6 +156,8 @@ module _ (desk : Writing) (words : List (List ℕ)) where
   HasCause-asked old_in new_in new (outcome.Readings f) asked cause asks reads writes = inl (Asked-unique (outcome.Readings f) asked cause asks)
   HasCause-asked old_in new_in new (outcome.Capture name at fault) asked cause asks reads writes = inl (Asked-unique (outcome.Capture name at fault) asked cause asks)
   HasCause-asked old_in new_in new (outcome.Packets limit) asked cause asks reads writes = inl (Asked-unique (outcome.Packets limit) asked cause asks)
+  HasCause-asked old_in new_in new (outcome.Exports place fault) asked cause asks reads writes = absurd cause
+  HasCause-asked old_in new_in new (outcome.Records limit) asked cause asks reads writes = absurd cause
   HasCause-asked old_in new_in new outcome.ReadFault asked cause asks reads writes = absurd (reads cause)
   HasCause-asked old_in new_in new outcome.WriteFault asked cause asks reads writes = absurd (writes cause)
   HasCause-asked old_in new_in new outcome.NoMemory asked cause asks reads writes = inr refl

@@ -28,6 +28,8 @@ module _ (words : List (List ℕ)) (old_in new_in : Reading) (old new : Writing)
   Leaves-bounded outcome.Done behind left = bounded left.0 left.1 _ left.2
   Leaves-bounded (outcome.Capture name at fault) behind left = bounded left.0 left.1 _ left.2.2
   Leaves-bounded (outcome.Packets limit) behind left = bounded left.0 left.1 _ left.2
+  Leaves-bounded (outcome.Exports place fault) behind left = absurd left
+  Leaves-bounded (outcome.Records limit) behind left = absurd left
   Leaves-bounded outcome.ReadFault behind (inl early) = absurd (omega (arith, behind, ap (λ (w : Writing). w.side.slots) early.1))
   Leaves-bounded outcome.ReadFault behind (inr late) = bounded late.0 late.1 _ late.2.1
   Leaves-bounded outcome.Usage behind left = absurd behind

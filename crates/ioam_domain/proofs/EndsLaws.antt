@@ -65,6 +65,8 @@ module _ (words : List (List ℕ)) (old_in mid_in : Reading) (opened : mid_in.si
           ends.1,
           record { taken = more ++ passed.next ∷ []; begin = passed.begin; many = omega (arith, passed.all, length-append more (passed.next ∷ [])) },
         )
+    Ends-cause (outcome.Exports place fault) ends = absurd ends
+    Ends-cause (outcome.Records limit) ends = absurd ends
     Ends-cause outcome.ReadFault ends = omega (arith, ends.1.0, same_faults)
     Ends-cause outcome.WriteFault ends = ends.1.0
     Ends-cause outcome.NoMemory ends = tt
@@ -86,6 +88,8 @@ module _ (words : List (List ℕ)) (old_in mid_in : Reading) (opened : mid_in.si
         (ends.1.0, ends.1.1, files (λ course. Arrive course (turn.Broken ends.1.0 at fault)) (ends.1.2.1 told))
     Ends-leaves (outcome.Packets limit) ends = of_traffic (λ course. HoldsFiles words old_in new_in old new course (ArePassed course)) ends.0
         (files (λ course. ArePassed course) (ends.2 told))
+    Ends-leaves (outcome.Exports place fault) ends = absurd ends
+    Ends-leaves (outcome.Records limit) ends = absurd ends
     Ends-leaves outcome.ReadFault ends = elim ends.1.1 [
       | inl early ↦ inl (inr (of_traffic (λ course. new_in.side.slots < course.lanes.base + length course.lanes.contents) ends.0 early.0), early.1)
       | inr late ↦ inr (of_traffic (λ course. AreOpened course new_in
@@ -129,6 +133,8 @@ pub Ends-differed : (tells : Bool) (words : List (List ℕ)) (domain : Domain) (
 Ends-differed tells words domain mid_in new_in old new outcome.Done ends = apart-words (ports domain) (word_files words) ends.0
 Ends-differed tells words domain mid_in new_in old new (outcome.Capture name at fault) ends = apart-words (ports domain) (word_files words) ends.0
 Ends-differed tells words domain mid_in new_in old new (outcome.Packets limit) ends = apart-words (ports domain) (word_files words) ends.0
+Ends-differed tells words domain mid_in new_in old new (outcome.Exports place fault) ends = absurd ends
+Ends-differed tells words domain mid_in new_in old new (outcome.Records limit) ends = absurd ends
 Ends-differed tells words domain mid_in new_in old new outcome.Usage ends = tt
 Ends-differed tells words domain mid_in new_in old new (outcome.Domain fault) ends = tt
 Ends-differed tells words domain mid_in new_in old new (outcome.Readings fault) ends = tt
@@ -144,6 +150,8 @@ Ends-says tells words domain mid_in new_in old new (outcome.Names name) ends = e
 Ends-says tells words domain mid_in new_in old new (outcome.Capture name at fault) ends =
     (ends.0, (ends.1.0, omega (arith, ends.1.2.0, length-map (run_inputs domain) (holds old)), ends.1.1))
 Ends-says tells words domain mid_in new_in old new (outcome.Packets limit) ends = (ends.0, ends.1, ends.3)
+Ends-says tells words domain mid_in new_in old new (outcome.Exports place fault) ends = absurd ends
+Ends-says tells words domain mid_in new_in old new (outcome.Records limit) ends = absurd ends
 Ends-says tells words domain mid_in new_in old new outcome.Done ends = ends.0
 Ends-says tells words domain mid_in new_in old new outcome.ReadFault ends = ends.0
 Ends-says tells words domain mid_in new_in old new outcome.WriteFault ends = ends.0

@@ -33,6 +33,8 @@ module _ (tells : Bool) (words : List (List ℕ)) (domain : Domain) (old_in new_
   Ends (outcome.Capture name at fault) = AreApart (run_files words domain)
       × ((place : ℕ) × (name ≡ name_at (run_inputs domain) place) × Finishes (begins words domain old_in old) tells old_in new_in old new (halt.Broken place at fault))
   Ends (outcome.Packets limit) = AreApart (run_files words domain) × (limit ≡ domain.packets) × Finishes (begins words domain old_in old) tells old_in new_in old new halt.Limit × IsLimit limit
+  Ends (outcome.Exports place fault) = ⊥
+  Ends (outcome.Records limit) = ⊥
   Ends outcome.ReadFault = AreApart (run_files words domain) × Finishes (begins words domain old_in old) tells old_in new_in old new halt.ReadFault
   Ends outcome.WriteFault = AreApart (run_files words domain) × Finishes (begins words domain old_in old) tells old_in new_in old new halt.WriteFault
   Ends outcome.NoMemory = (new ≡ old) ⊎ (AreApart (run_files words domain) × Finishes (begins words domain old_in old) tells old_in new_in old new halt.NoMemory)

@@ -90,6 +90,8 @@ module _ (desk : Writing) (words : List (List ℕ)) where
   Asked (outcome.Names name) = (domain : Domain) × IsSet domain
       × ((at : ℕ) × IsFirstRepeat (run_files words domain) at × (name ≡ name_at (run_files words domain) at))
   Asked (outcome.Packets limit) = (domain : Domain) × IsReady domain × (limit ≡ domain.packets) × Exceeds domain
+  Asked (outcome.Exports place fault) = ⊥
+  Asked (outcome.Records limit) = ⊥
   Asked (outcome.Capture name at fault) = (domain : Domain) × IsReady domain
       × ((place : ℕ) × (name ≡ name_at (run_inputs domain) place) × Arrives domain (turn.Broken place at fault))
   Asked outcome.Done = (domain : Domain) × IsReady domain × Arrives domain turn.Over
@@ -104,6 +106,8 @@ abbrev pub HaveDiffered : List (List ℕ) → Outcome → Type 0
 HaveDiffered words outcome.Done = AreApart (word_files words)
 HaveDiffered words (outcome.Capture name at fault) = AreApart (word_files words)
 HaveDiffered words (outcome.Packets limit) = AreApart (word_files words)
+HaveDiffered words (outcome.Exports place fault) = ⊥
+HaveDiffered words (outcome.Records limit) = ⊥
 HaveDiffered words outcome.Usage = ⊤
 HaveDiffered words (outcome.Domain fault) = ⊤
 HaveDiffered words (outcome.Readings fault) = ⊤
@@ -121,6 +125,8 @@ IsRefusal outcome.Done = ⊥
 IsRefusal outcome.Usage = ⊥
 IsRefusal (outcome.Capture name at fault) = ⊥
 IsRefusal (outcome.Packets limit) = ⊥
+IsRefusal (outcome.Exports place fault) = ⊥
+IsRefusal (outcome.Records limit) = ⊥
 IsRefusal outcome.ReadFault = ⊥
 IsRefusal outcome.WriteFault = ⊥
 IsRefusal outcome.NoMemory = ⊥
@@ -147,6 +153,8 @@ module _ (words : List (List ℕ)) (old_in new_in : Reading) (old new : Writing)
   HasCause (outcome.Readings fault) = Asked old words (outcome.Readings fault)
   HasCause (outcome.Names name) = Asked old words (outcome.Names name)
   HasCause (outcome.Packets limit) = Asked old words (outcome.Packets limit)
+  HasCause (outcome.Exports place fault) = ⊥
+  HasCause (outcome.Records limit) = ⊥
   HasCause (outcome.Capture name at fault) = Asked old words (outcome.Capture name at fault)
 
   -- so it is of the traffic of the domain that is held
@@ -181,6 +189,8 @@ module _ (words : List (List ℕ)) (old_in new_in : Reading) (old new : Writing)
   Leaves (outcome.Capture name at fault) = OfTraffic (λ course. (place : ℕ) × (name ≡ name_at (run_inputs course.domain) place)
       × HoldsFiles course (Arrive course (turn.Broken place at fault)))
   Leaves (outcome.Packets limit) = OfTraffic (λ course. HoldsFiles course (ArePassed course))
+  Leaves (outcome.Exports place fault) = ⊥
+  Leaves (outcome.Records limit) = ⊥
   Leaves outcome.ReadFault = (StopsEarly × (new ≡ old))
       ⊎ OfTraffic (λ course. AreOpened course new_in × HoldsFiles course (PartsArrive course.lanes.contents new_in course.lanes.base))
   Leaves outcome.WriteFault = OfTraffic (λ course. HoldsFronts course old new)
@@ -214,6 +224,8 @@ IsUnset (outcome.Names name) = ⊥
 IsUnset outcome.Done = ⊥
 IsUnset (outcome.Capture name at fault) = ⊥
 IsUnset (outcome.Packets limit) = ⊥
+IsUnset (outcome.Exports place fault) = ⊥
+IsUnset (outcome.Records limit) = ⊥
 IsUnset outcome.WriteFault = ⊥
 
 -- what a domain may say of how many packets a run has at most
@@ -228,6 +240,8 @@ Says words domain (outcome.Names name) = (at : ℕ) × IsFirstRepeat (run_files 
 Says words domain (outcome.Capture name at fault) = AreApart (run_files words domain)
     × ((place : ℕ) × (place < length (run_inputs domain)) × (name ≡ name_at (run_inputs domain) place))
 Says words domain (outcome.Packets limit) = AreApart (run_files words domain) × (limit ≡ domain.packets) × IsLimit limit
+Says words domain (outcome.Exports place fault) = ⊥
+Says words domain (outcome.Records limit) = ⊥
 Says words domain outcome.Done = AreApart (run_files words domain)
 Says words domain outcome.ReadFault = AreApart (run_files words domain)
 Says words domain outcome.WriteFault = AreApart (run_files words domain)

@@ -62,9 +62,13 @@ module _ (tells : Bool) (desk : Writing) (names : List (List ℕ)) (input : List
   Asked-unique outcome.ReadFault b x y = absurd x
   Asked-unique outcome.WriteFault b x y = absurd x
   Asked-unique outcome.NoMemory b x y = absurd x
+  Asked-unique (outcome.Exports spot cut) b x y = absurd x
+  Asked-unique (outcome.Records most) b x y = absurd x
   Asked-unique outcome.Done outcome.Done x y = refl
   Asked-unique outcome.Done (outcome.Names name) x y = absurd (not_apart names y.0 y.1 x.0)
   Asked-unique outcome.Done (outcome.Packets limit) x y = absurd (too_long most_packets (holds desk input) Whole (y.2 told) (x.1 told))
+  Asked-unique outcome.Done (outcome.Exports spot cut) x y = absurd y
+  Asked-unique outcome.Done (outcome.Records most) x y = absurd y
   Asked-unique outcome.Done (outcome.Capture name at fault) x y = absurd (whole_or_faulty at fault (held_ending most_packets (holds desk input) Whole (Faulty at fault) (x.1 told) (y.2 told)))
   Asked-unique outcome.Done outcome.Usage x y = absurd y
   Asked-unique outcome.Done (outcome.Domain why) x y = absurd y
@@ -77,6 +81,8 @@ module _ (tells : Bool) (desk : Writing) (names : List (List ℕ)) (input : List
       let same : x.0 ≡ y.0 = first_unique names x.0 y.0 x.1 y.1 in
       ap outcome.Names (x.2 ∙ ap (name_at names) same ∙ sym y.2)
   Asked-unique (outcome.Names name) (outcome.Packets limit) x y = absurd (not_apart names x.0 x.1 y.0)
+  Asked-unique (outcome.Names name) (outcome.Exports spot cut) x y = absurd y
+  Asked-unique (outcome.Names name) (outcome.Records most) x y = absurd y
   Asked-unique (outcome.Names name) (outcome.Capture other at fault) x y = absurd (not_apart names x.0 x.1 y.0)
   Asked-unique (outcome.Names name) outcome.Usage x y = absurd y
   Asked-unique (outcome.Names name) (outcome.Domain why) x y = absurd y
@@ -87,6 +93,8 @@ module _ (tells : Bool) (desk : Writing) (names : List (List ℕ)) (input : List
   Asked-unique (outcome.Packets limit) outcome.Done x y = absurd (too_long most_packets (holds desk input) Whole (x.2 told) (y.1 told))
   Asked-unique (outcome.Packets limit) (outcome.Names name) x y = absurd (not_apart names y.0 y.1 x.0)
   Asked-unique (outcome.Packets limit) (outcome.Packets other) x y = ap outcome.Packets (x.1 ∙ sym y.1)
+  Asked-unique (outcome.Packets limit) (outcome.Exports spot cut) x y = absurd y
+  Asked-unique (outcome.Packets limit) (outcome.Records most) x y = absurd y
   Asked-unique (outcome.Packets limit) (outcome.Capture name at fault) x y = absurd (too_long most_packets (holds desk input) (Faulty at fault) (x.2 told) (y.2 told))
   Asked-unique (outcome.Packets limit) outcome.Usage x y = absurd y
   Asked-unique (outcome.Packets limit) (outcome.Domain why) x y = absurd y
@@ -97,6 +105,8 @@ module _ (tells : Bool) (desk : Writing) (names : List (List ℕ)) (input : List
   Asked-unique (outcome.Capture name at fault) outcome.Done x y = absurd (whole_or_faulty at fault (held_ending most_packets (holds desk input) Whole (Faulty at fault) (y.1 told) (x.2 told)))
   Asked-unique (outcome.Capture name at fault) (outcome.Names other) x y = absurd (not_apart names y.0 y.1 x.0)
   Asked-unique (outcome.Capture name at fault) (outcome.Packets limit) x y = absurd (too_long most_packets (holds desk input) (Faulty at fault) (y.2 told) (x.2 told))
+  Asked-unique (outcome.Capture name at fault) (outcome.Exports spot cut) x y = absurd y
+  Asked-unique (outcome.Capture name at fault) (outcome.Records most) x y = absurd y
   Asked-unique (outcome.Capture name at fault) (outcome.Capture other place cause) x y =
       let same : Faulty at fault ≡ Faulty place cause = held_ending most_packets (holds desk input) (Faulty at fault) (Faulty place cause) (x.2 told) (y.2 told) in
       let named : name ≡ other = x.1 ∙ sym y.1 in
@@ -120,6 +130,8 @@ module _ (tells : Bool) (desk : Writing) (names : List (List ℕ)) (input : List
   HasCause-asked old_in new_in new_out (outcome.Names name) asked cause asks reads writes = inl (Asked-unique (outcome.Names name) asked cause asks)
   HasCause-asked old_in new_in new_out (outcome.Capture name at fault) asked cause asks reads writes = inl (Asked-unique (outcome.Capture name at fault) asked cause asks)
   HasCause-asked old_in new_in new_out (outcome.Packets limit) asked cause asks reads writes = inl (Asked-unique (outcome.Packets limit) asked cause asks)
+  HasCause-asked old_in new_in new_out (outcome.Exports place fault) asked cause asks reads writes = absurd cause
+  HasCause-asked old_in new_in new_out (outcome.Records limit) asked cause asks reads writes = absurd cause
   HasCause-asked old_in new_in new_out outcome.ReadFault asked cause asks reads writes = absurd (reads cause)
   HasCause-asked old_in new_in new_out outcome.WriteFault asked cause asks reads writes = absurd (writes cause)
   HasCause-asked old_in new_in new_out outcome.NoMemory asked cause asks reads writes = inr refl
@@ -202,6 +214,8 @@ module _ (input output report : List ℕ) (old_in new_in : Reading) (old new : W
   Leaves-bounded (outcome.Capture name at fault) leaves behind =
       from_held (holds old input) (EndsSo (Faulty at fault)) output report new (ends_short (Faulty at fault)) leaves
   Leaves-bounded (outcome.Packets limit) leaves behind = from_held (holds old input) (ArePassed most_packets) output report new passed_short leaves
+  Leaves-bounded (outcome.Exports place fault) leaves behind = absurd leaves
+  Leaves-bounded (outcome.Records limit) leaves behind = absurd leaves
   Leaves-bounded outcome.ReadFault leaves behind = ⊎_elim (λ unopened. absurd (omega (arith, unopened.0, behind)))
       (λ held. from_held (holds old input) (AreWhole (new_in.left old_in.side.slots)) output report new (whole_short (new_in.left old_in.side.slots)) held.1) leaves
   Leaves-bounded outcome.Usage leaves behind = absurd behind

@@ -35,6 +35,8 @@ module _ {G : Type 0} (gathers : Bool → List Entry → List (List ℕ) → G �
   Stops-open outcome.Done whole stops = (halted (EndsSo Whole) stops.0.0, stops.0.1)
   Stops-open (outcome.Capture name at fault) whole stops = (halted (EndsSo (Faulty at fault)) stops.1.0, stops.1.1)
   Stops-open (outcome.Packets limit) whole stops = (halted (ArePassed start.limit) stops.1.0, stops.1.1)
+  Stops-open (outcome.Exports place fault) whole stops = absurd stops
+  Stops-open (outcome.Records limit) whole stops = absurd stops
   Stops-open outcome.ReadFault whole stops = (halted (AreWhole (new_in.left slot)) stops.1.0, stops.1.1)
   Stops-open outcome.WriteFault whole stops = absurd (whole tt)
   Stops-open outcome.NoMemory whole stops = absurd (whole tt)
@@ -65,6 +67,8 @@ module _ {G : Type 0} (gathers : Bool → List Entry → List (List ℕ) → G �
       Finishes-written outcome.Done whole stops = (written (EndsSo Whole) stops.0.0, stops.1)
       Finishes-written (outcome.Capture name at fault) whole stops = (stops.0, written (EndsSo (Faulty at fault)) stops.1.0)
       Finishes-written (outcome.Packets limit) whole stops = (stops.0, written (ArePassed start.limit) stops.1.0)
+      Finishes-written (outcome.Exports place fault) whole stops = absurd stops
+      Finishes-written (outcome.Records limit) whole stops = absurd stops
       Finishes-written outcome.ReadFault whole stops = (stops.0, written (AreWhole (new_in.left slot)) stops.1.0)
       Finishes-written outcome.WriteFault whole stops = absurd (whole tt)
       Finishes-written outcome.NoMemory whole stops = absurd (whole tt)
@@ -84,6 +88,8 @@ module _ {G : Type 0} (gathers : Bool → List Entry → List (List ℕ) → G �
       Stops-sticks outcome.Done whole stops = broken (EndsSo Whole) (begins_ends Whole) stops.0.0
       Stops-sticks (outcome.Capture name at fault) whole stops = broken (EndsSo (Faulty at fault)) (begins_ends (Faulty at fault)) stops.1.0
       Stops-sticks (outcome.Packets limit) whole stops = broken (ArePassed start.limit) (begins_passed start.limit) stops.1.0
+      Stops-sticks (outcome.Exports place fault) whole stops = absurd stops
+      Stops-sticks (outcome.Records limit) whole stops = absurd stops
       Stops-sticks outcome.ReadFault whole stops = broken (AreWhole (new_in.left slot)) (begins_whole (new_in.left slot)) stops.1.0
       Stops-sticks outcome.WriteFault whole stops = absurd (whole tt)
       Stops-sticks outcome.NoMemory whole stops = absurd (whole tt)
@@ -123,6 +129,8 @@ module _ (tells : Bool) (start : Start) (Texts : Bool → List Entry → List (L
           many = omega (arith, all.are.all, all.are.more, length-append all.entries all.are.first.rest);
         }) finishes.1,
   )
+  Finishes-cause reads writes (outcome.Exports place fault) finishes = absurd finishes
+  Finishes-cause reads writes (outcome.Records limit) finishes = absurd finishes
   Finishes-cause reads writes outcome.ReadFault finishes = omega (arith, finishes.0, reads)
   Finishes-cause reads writes outcome.WriteFault finishes = omega (arith, finishes.0, writes)
   Finishes-cause reads writes outcome.NoMemory finishes = tt
@@ -155,6 +163,8 @@ module _ (tells : Bool) (base limit : ℕ) (names : List (List ℕ)) (Texts : Bo
   Finishes-leaves outcome.Done finishes = finishes.0 told
   Finishes-leaves (outcome.Capture name at fault) finishes = finishes.1 told
   Finishes-leaves (outcome.Packets limit) finishes = finishes.1 told
+  Finishes-leaves (outcome.Exports place fault) finishes = absurd finishes
+  Finishes-leaves (outcome.Records limit) finishes = absurd finishes
   Finishes-leaves outcome.ReadFault finishes =
       let P : ℕ → Type 0 = λ k. IsSomeAnd (holds first_out input) (HoldsAll limit Texts names (AreWhole (new_in.left k)) new_out) in
       inr (opened, subst P number (finishes.1 told))
@@ -177,6 +187,8 @@ Finishes-drained tells start Texts input slot number old_in new_in old_out new_o
 Finishes-drained tells start Texts input slot number old_in new_in old_out new_out same (outcome.Names name) finishes done told = absurd done
 Finishes-drained tells start Texts input slot number old_in new_in old_out new_out same (outcome.Capture name at fault) finishes done told = absurd done
 Finishes-drained tells start Texts input slot number old_in new_in old_out new_out same (outcome.Packets limit) finishes done told = absurd done
+Finishes-drained tells start Texts input slot number old_in new_in old_out new_out same (outcome.Exports place fault) finishes done told = absurd done
+Finishes-drained tells start Texts input slot number old_in new_in old_out new_out same (outcome.Records limit) finishes done told = absurd done
 Finishes-drained tells start Texts input slot number old_in new_in old_out new_out same outcome.ReadFault finishes done told = absurd done
 Finishes-drained tells start Texts input slot number old_in new_in old_out new_out same outcome.WriteFault finishes done told = absurd done
 Finishes-drained tells start Texts input slot number old_in new_in old_out new_out same outcome.NoMemory finishes done told = absurd done

@@ -66,6 +66,8 @@ module _ {G : Type 0} (gathers : Bool → List Entry → List (List ℕ) → G �
   Stops-writes outcome.Done whole stops = writes start.base start.names stops.0.0.texts stops.0.0.told
   Stops-writes (outcome.Capture name at fault) whole stops = writes start.base start.names stops.1.0.texts stops.1.0.told
   Stops-writes (outcome.Packets limit) whole stops = writes start.base start.names stops.1.0.texts stops.1.0.told
+  Stops-writes (outcome.Exports place fault) whole stops = absurd stops
+  Stops-writes (outcome.Records limit) whole stops = absurd stops
   Stops-writes outcome.ReadFault whole stops = writes start.base start.names stops.1.0.texts stops.1.0.told
   Stops-writes outcome.WriteFault whole stops = absurd (whole tt)
   Stops-writes outcome.NoMemory whole stops = absurd (whole tt)

@@ -48,6 +48,8 @@ module _ (tells : Bool) (desk : Writing) (names : List (List ℕ)) (input : List
   abbrev pub Asked : Outcome → Type 0
   Asked (outcome.Names name) = (at : ℕ) × IsFirstRepeat names at × (name ≡ name_at names at)
   Asked (outcome.Packets limit) = AreApart names × (limit ≡ most_packets) × (IsTrue tells → IsSomeAnd (holds desk input) (IsLong most_packets))
+  Asked (outcome.Exports place fault) = ⊥
+  Asked (outcome.Records limit) = ⊥
   Asked (outcome.Capture name at fault) = AreApart names × (name ≡ input)
       × (IsTrue tells → IsSomeAnd (holds desk input) (IsInput most_packets (Faulty at fault)))
   Asked outcome.Done = AreApart names × (IsTrue tells → IsSomeAnd (holds desk input) (IsInput most_packets Whole))
@@ -70,6 +72,8 @@ module _ (most : ℕ) (tells : Bool) (input : List ℕ) (old_in : Reading) (old_
   FileCause (outcome.Names name) = ⊥
   FileCause outcome.Done = IsTrue tells → IsSomeAnd (holds old_out input) (IsInput most Whole)
   FileCause (outcome.Packets limit) = (limit ≡ most) × (IsTrue tells → IsSomeAnd (holds old_out input) (IsLong most))
+  FileCause (outcome.Exports place fault) = ⊥
+  FileCause (outcome.Records limit) = ⊥
   FileCause (outcome.Capture name at fault) = (name ≡ input) × (IsTrue tells → IsSomeAnd (holds old_out input) (IsInput most (Faulty at fault)))
 
 -- the cause of each answer; want of memory alone has none
@@ -84,6 +88,8 @@ module _ (tells : Bool) (names : List (List ℕ)) (input : List ℕ) (old_in : R
   HasCause outcome.Done = Asked tells old_out names input outcome.Done
   HasCause (outcome.Names name) = Asked tells old_out names input (outcome.Names name)
   HasCause (outcome.Packets limit) = Asked tells old_out names input (outcome.Packets limit)
+  HasCause (outcome.Exports place fault) = ⊥
+  HasCause (outcome.Records limit) = ⊥
   HasCause (outcome.Capture name at fault) = Asked tells old_out names input (outcome.Capture name at fault)
 
 -- the octets read as these records, and end so
@@ -142,6 +148,8 @@ module _ (most : ℕ) (Texts : Bool → List Entry → List (List ℕ) → Type 
     Leaves outcome.Done = IsSomeAnd (holds old input) (HoldsAll (EndsSo Whole) new)
     Leaves (outcome.Capture name at fault) = IsSomeAnd (holds old input) (HoldsAll (EndsSo (Faulty at fault)) new)
     Leaves (outcome.Packets limit) = IsSomeAnd (holds old input) (HoldsAll (ArePassed most) new)
+    Leaves (outcome.Exports place fault) = ⊥
+    Leaves (outcome.Records limit) = ⊥
     Leaves outcome.ReadFault = ((new_in.side.slots ≡ old_in.side.slots) × (new ≡ old))
         ⊎ ((old_in.side.slots < new_in.side.slots)
         × IsSomeAnd (holds old input) (HoldsAll (AreWhole (new_in.left old_in.side.slots)) new))

@@ -118,6 +118,8 @@ module _ (tells : Bool) (start : Start) (Texts : Bool → List Entry → List (L
     Stops outcome.Done = Tells (EndsSo Whole) × (IsTrue tells → IsTrue (new_in.ended slot))
     Stops (outcome.Capture name at fault) = (name ≡ input) × Tells (EndsSo (Faulty at fault))
     Stops (outcome.Packets limit) = (limit ≡ start.limit) × Tells (ArePassed start.limit)
+    Stops (outcome.Exports place fault) = ⊥
+    Stops (outcome.Records limit) = ⊥
     Stops outcome.ReadFault = Rose old_in.side.faults new_in.side.faults × Tells (AreWhole (new_in.left slot))
     Stops outcome.WriteFault = Rose old_out.side.faults new_out.side.faults × Sticks new_out
     Stops outcome.NoMemory = Sticks new_out
@@ -136,6 +138,8 @@ module _ (tells : Bool) (start : Start) (Texts : Bool → List Entry → List (L
     Finishes outcome.Done = Holds (EndsSo Whole) × (IsTrue tells → IsTrue (new_in.ended slot))
     Finishes (outcome.Capture name at fault) = (name ≡ input) × Holds (EndsSo (Faulty at fault))
     Finishes (outcome.Packets limit) = (limit ≡ start.limit) × Holds (ArePassed start.limit)
+    Finishes (outcome.Exports place fault) = ⊥
+    Finishes (outcome.Records limit) = ⊥
     Finishes outcome.ReadFault = Rose old_in.side.faults new_in.side.faults × Holds (AreWhole (new_in.left slot))
     Finishes outcome.WriteFault = Rose old_out.side.faults new_out.side.faults × Sticks new_out
     Finishes outcome.NoMemory = Sticks new_out
@@ -155,4 +159,6 @@ IsBroken (outcome.Readings why) = ⊥
 IsBroken (outcome.Names name) = ⊥
 IsBroken (outcome.Capture name at fault) = ⊥
 IsBroken (outcome.Packets limit) = ⊥
+IsBroken (outcome.Exports place fault) = ⊥
+IsBroken (outcome.Records limit) = ⊥
 IsBroken outcome.ReadFault = ⊥

@@ -123,6 +123,8 @@ module _ (words : List (List ℕ)) (desk : Writing) where
   Asked-unique outcome.Done (outcome.Names m) x y = absurd (unfit_or_ready y.0 m y.2.has_domain y.3 x.0 x.1)
   Asked-unique outcome.Done (outcome.Capture m place g) x y = absurd (whole_or_faulty place g (one_ending x.0 y.1.0 x.1 y.1.1 Ended (Faulty place g) x.2 y.1.2))
   Asked-unique outcome.Done (outcome.Packets m) x y = absurd (long_or_input y.0 x.0 y.1 x.1 Ended y.3 x.2)
+  Asked-unique outcome.Done (outcome.Exports spot cut) x y = absurd y
+  Asked-unique outcome.Done (outcome.Records most) x y = absurd y
   Asked-unique outcome.Done outcome.Usage x y = absurd y
   Asked-unique outcome.Done outcome.ReadFault x y = absurd y
   Asked-unique outcome.Done outcome.WriteFault x y = absurd y
@@ -133,6 +135,8 @@ module _ (words : List (List ℕ)) (desk : Writing) where
   Asked-unique (outcome.Domain f) (outcome.Names m) x y = absurd (fault_or_domain Whole desk (domain_file words) (readings_file words) y.0 f x y.2.has_domain)
   Asked-unique (outcome.Domain f) (outcome.Capture m place g) x y = absurd (fault_or_domain Whole desk (domain_file words) (readings_file words) y.1.0.domain f x y.1.1.setting.has_domain)
   Asked-unique (outcome.Domain f) (outcome.Packets m) x y = absurd (fault_or_domain Whole desk (domain_file words) (readings_file words) y.0.domain f x y.1.setting.has_domain)
+  Asked-unique (outcome.Domain f) (outcome.Exports spot cut) x y = absurd y
+  Asked-unique (outcome.Domain f) (outcome.Records most) x y = absurd y
   Asked-unique (outcome.Domain f) outcome.Usage x y = absurd y
   Asked-unique (outcome.Domain f) outcome.ReadFault x y = absurd y
   Asked-unique (outcome.Domain f) outcome.WriteFault x y = absurd y
@@ -143,6 +147,8 @@ module _ (words : List (List ℕ)) (desk : Writing) where
   Asked-unique (outcome.Readings f) (outcome.Names m) x y = absurd (fault_or_setting Whole desk (domain_file words) (readings_file words) y.0 y.1 f x y.2)
   Asked-unique (outcome.Readings f) (outcome.Capture m place g) x y = absurd (fault_or_setting Whole desk (domain_file words) (readings_file words) y.1.0.domain y.1.0.samples f x y.1.1.setting)
   Asked-unique (outcome.Readings f) (outcome.Packets m) x y = absurd (fault_or_setting Whole desk (domain_file words) (readings_file words) y.0.domain y.0.samples f x y.1.setting)
+  Asked-unique (outcome.Readings f) (outcome.Exports spot cut) x y = absurd y
+  Asked-unique (outcome.Readings f) (outcome.Records most) x y = absurd y
   Asked-unique (outcome.Readings f) outcome.Usage x y = absurd y
   Asked-unique (outcome.Readings f) outcome.ReadFault x y = absurd y
   Asked-unique (outcome.Readings f) outcome.WriteFault x y = absurd y
@@ -153,6 +159,8 @@ module _ (words : List (List ℕ)) (desk : Writing) where
   Asked-unique (outcome.Names n) (outcome.Names m) x y = ap outcome.Names (one_unfit words x.0 y.0 (agree x.0 y.0 x.2.has_domain y.2.has_domain) n m x.3 y.3)
   Asked-unique (outcome.Names n) (outcome.Capture m place g) x y = absurd (unfit_or_ready x.0 n x.2.has_domain x.3 y.1.0 y.1.1)
   Asked-unique (outcome.Names n) (outcome.Packets m) x y = absurd (unfit_or_ready x.0 n x.2.has_domain x.3 y.0 y.1)
+  Asked-unique (outcome.Names n) (outcome.Exports spot cut) x y = absurd y
+  Asked-unique (outcome.Names n) (outcome.Records most) x y = absurd y
   Asked-unique (outcome.Names n) outcome.Usage x y = absurd y
   Asked-unique (outcome.Names n) outcome.ReadFault x y = absurd y
   Asked-unique (outcome.Names n) outcome.WriteFault x y = absurd y
@@ -166,6 +174,8 @@ module _ (words : List (List ℕ)) (desk : Writing) where
       let named : n ≡ m = x.0 ∙ sym y.0 in
       cc
   Asked-unique (outcome.Capture n at f) (outcome.Packets m) x y = absurd (long_or_input y.0 x.1.0 y.1 x.1.1 (Faulty at f) y.3 x.1.2)
+  Asked-unique (outcome.Capture n at f) (outcome.Exports spot cut) x y = absurd y
+  Asked-unique (outcome.Capture n at f) (outcome.Records most) x y = absurd y
   Asked-unique (outcome.Capture n at f) outcome.Usage x y = absurd y
   Asked-unique (outcome.Capture n at f) outcome.ReadFault x y = absurd y
   Asked-unique (outcome.Capture n at f) outcome.WriteFault x y = absurd y
@@ -176,6 +186,8 @@ module _ (words : List (List ℕ)) (desk : Writing) where
   Asked-unique (outcome.Packets n) (outcome.Names m) x y = absurd (unfit_or_ready y.0 m y.2.has_domain y.3 x.0 x.1)
   Asked-unique (outcome.Packets n) (outcome.Capture m place g) x y = absurd (long_or_input x.0 y.1.0 x.1 y.1.1 (Faulty place g) x.3 y.1.2)
   Asked-unique (outcome.Packets n) (outcome.Packets m) x y = ap outcome.Packets (x.2 ∙ same_limit x.0 y.0 x.1 y.1 ∙ sym y.2)
+  Asked-unique (outcome.Packets n) (outcome.Exports spot cut) x y = absurd y
+  Asked-unique (outcome.Packets n) (outcome.Records most) x y = absurd y
   Asked-unique (outcome.Packets n) outcome.Usage x y = absurd y
   Asked-unique (outcome.Packets n) outcome.ReadFault x y = absurd y
   Asked-unique (outcome.Packets n) outcome.WriteFault x y = absurd y
@@ -184,6 +196,8 @@ module _ (words : List (List ℕ)) (desk : Writing) where
   Asked-unique outcome.ReadFault b x y = absurd x
   Asked-unique outcome.WriteFault b x y = absurd x
   Asked-unique outcome.NoMemory b x y = absurd x
+  Asked-unique (outcome.Exports spot cut) b x y = absurd x
+  Asked-unique (outcome.Records most) b x y = absurd x
 
   -- what is asked for is answered, unless a call failed or no memory could be had
   pub HasCause-asked : (old_in new_in : Reading) (new : Writing) (answer asked : Outcome) → HasCause words old_in new_in desk new answer → Asked words desk asked
@@ -196,6 +210,8 @@ module _ (words : List (List ℕ)) (desk : Writing) where
   HasCause-asked old_in new_in new (outcome.Names name) asked cause asks reads writes = inl (Asked-unique (outcome.Names name) asked cause asks)
   HasCause-asked old_in new_in new (outcome.Capture name at fault) asked cause asks reads writes = inl (Asked-unique (outcome.Capture name at fault) asked cause asks)
   HasCause-asked old_in new_in new (outcome.Packets limit) asked cause asks reads writes = inl (Asked-unique (outcome.Packets limit) asked cause asks)
+  HasCause-asked old_in new_in new (outcome.Exports place fault) asked cause asks reads writes = absurd cause
+  HasCause-asked old_in new_in new (outcome.Records limit) asked cause asks reads writes = absurd cause
   HasCause-asked old_in new_in new outcome.ReadFault asked cause asks reads writes = absurd (reads cause)
   HasCause-asked old_in new_in new outcome.WriteFault asked cause asks reads writes = absurd (writes cause)
   HasCause-asked old_in new_in new outcome.NoMemory asked cause asks reads writes = inr refl

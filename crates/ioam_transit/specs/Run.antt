@@ -112,6 +112,8 @@ module _ (words : List (List ℕ)) where
         × IsUnfit domain name
     Asked (outcome.Packets limit) = (seat : Seat) × IsReady seat × (limit ≡ seat.domain.packets)
         × IsSomeAnd (holds desk (input_file words)) (IsLong seat.domain.packets)
+    Asked (outcome.Exports place fault) = ⊥
+    Asked (outcome.Records limit) = ⊥
     Asked (outcome.Capture name at fault) = (name ≡ input_file words) × HasInput (λ most. IsInput most (Faulty at fault))
     Asked outcome.Done = HasInput (λ most. IsInput most Whole)
     Asked outcome.Usage = ⊥
@@ -124,6 +126,8 @@ module _ (words : List (List ℕ)) where
   HaveDiffered outcome.Done = AreApart (node_files words)
   HaveDiffered (outcome.Capture name at fault) = AreApart (node_files words) × (name ≡ input_file words)
   HaveDiffered (outcome.Packets limit) = AreApart (node_files words)
+  HaveDiffered (outcome.Exports place fault) = ⊥
+  HaveDiffered (outcome.Records limit) = ⊥
   HaveDiffered outcome.Usage = ⊤
   HaveDiffered (outcome.Domain fault) = ⊤
   HaveDiffered (outcome.Readings fault) = ⊤
@@ -144,6 +148,8 @@ module _ (words : List (List ℕ)) where
     HasCause (outcome.Readings fault) = Asked old (outcome.Readings fault)
     HasCause (outcome.Names name) = Asked old (outcome.Names name)
     HasCause (outcome.Packets limit) = Asked old (outcome.Packets limit)
+    HasCause (outcome.Exports place fault) = ⊥
+    HasCause (outcome.Records limit) = ⊥
     HasCause (outcome.Capture name at fault) = Asked old (outcome.Capture name at fault)
 
     -- the outputs hold the texts of these records of IN
@@ -168,6 +174,8 @@ module _ (words : List (List ℕ)) where
     Leaves outcome.Done = Holds (λ seat. EndsSo Whole)
     Leaves (outcome.Capture name at fault) = Holds (λ seat. EndsSo (Faulty at fault))
     Leaves (outcome.Packets limit) = Holds (λ seat. ArePassed seat.domain.packets)
+    Leaves (outcome.Exports place fault) = ⊥
+    Leaves (outcome.Records limit) = ⊥
     Leaves outcome.ReadFault = (StopsEarly × (new ≡ old))
         ⊎ ((old_in.side.slots + 2 < new_in.side.slots) × Holds (λ seat. AreWhole (new_in.left (old_in.side.slots + 2))))
     Leaves outcome.WriteFault = HoldParts
@@ -190,6 +198,8 @@ module _ (words : List (List ℕ)) where
     IsUntouched outcome.Usage = ⊤
     IsUntouched (outcome.Capture name at fault) = ⊤
     IsUntouched (outcome.Packets limit) = ⊤
+    IsUntouched (outcome.Exports place fault) = ⊤
+    IsUntouched (outcome.Records limit) = ⊤
     IsUntouched outcome.ReadFault = ⊤
     IsUntouched outcome.WriteFault = ⊤
     IsUntouched outcome.NoMemory = ⊤
