@@ -1,0 +1,7 @@
+//! The outputs of a run over a domain, numbered once: each port's capture in file order, then the
+//! tap's of each link that has one in file order, then the report, then the exports.
+#![tactic(auto)]
+
+mod outlets;
+
+pub use outlets::{outlet_count, tapped_links};
