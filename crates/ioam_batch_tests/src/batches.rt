@@ -7,7 +7,7 @@ use crate::rows::{Row, after, before, domain};
 use ioam_base::memory::NoMemory;
 use ioam_batch::{Batch, Gate, Job, OpenGate, run_batch};
 use ioam_clock::{Readings, read_readings};
-use ioam_domain_file::{Extent, read_domain};
+use ioam_domain_file::read_domain;
 use ioam_test_rows::digits::{UDP, octets};
 use ioam_topo::Domain;
 use std::alloc::Global;
@@ -16,7 +16,7 @@ use std::thread::Threads;
 
 // The domain of the rows, and readings that say nothing.
 fn world(rt: &impl Abort, alloc: Global) -> (Domain, Readings) {
-    let domain = match read_domain(alloc, domain().as_bytes(), Extent::Whole) {
+    let domain = match read_domain(alloc, domain().as_bytes()) {
         Ok(domain) => domain,
         Err(_) => panic!(rt; "the domain"),
     };

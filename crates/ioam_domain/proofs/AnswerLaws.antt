@@ -11,7 +11,6 @@ use Rattle.ioam_outputs.specs.Names.{AreApart}
 use Rattle.ioam_answer.specs.Outcomes.{IsDone, IsBehindAll}
 use Rattle.ioam_answer.specs.declared.outcome.Outcome.{Outcome}
 use Rattle.ioam_answer.specs.declared.outcome.Outcome.TheVariants as outcome
-use Rattle.ioam_domain_file.specs.declared.extent.Extent.TheVariants.{Plain}
 use Rattle.ioam_setting.specs.Setting.{IsSetting, Refuses}
 use Rattle.ioam_setting.specs.declared.setting.Refusal.{Refusal}
 use Rattle.ioam_setting.specs.declared.setting.Refusal.TheVariants as refusal
@@ -27,7 +26,7 @@ use Rattle.ioam_domain.proofs.EndsLaws.{same_faults, Ends-cause, Ends-differed, 
 
 -- the domain or the readings are refused
 module _ (tells : Bool) (words : List (List ℕ)) (old_in new_in : Reading) (old new : Writing) (why : Refusal) (answer : Outcome)
-    (refuses : Refuses Plain old (domain_file words) (readings_file words) tells old_in new_in why)
+    (refuses : Refuses old (domain_file words) (readings_file words) tells old_in new_in why)
     (asked : AsksFront old_in.side.asked new_in.side.asked (domain_file words ∷ readings_file words ∷ []))
     (first : (fault : DomainFault) → why ≡ refusal.Domain fault → AsksFront old_in.side.asked new_in.side.asked (domain_file words ∷ []))
     (same : new ≡ old) (is : answer ≡ refused_as why) (kept : KeepsInputs old_in new_in) where
@@ -119,7 +118,7 @@ done_is outcome.NoMemory done = absurd done
 -- the domain and the readings were read by two slots, and then its files were run
 module _ (tells : Bool) (words : List (List ℕ)) (old_in mid_in new_in : Reading) (old mid new : Writing) (domain : Domain) (answer : Outcome)
     (opened : mid_in.side ≡ opened_each old_in.side (domain_file words ∷ readings_file words ∷ [])) (same : mid ≡ old)
-    (samples : List (List Sample)) (setting : IsTrue tells → IsSetting Plain old (domain_file words) (readings_file words) domain samples) (ended : Ends tells words domain mid_in new_in mid new answer) where
+    (samples : List (List Sample)) (setting : IsTrue tells → IsSetting old (domain_file words) (readings_file words) domain samples) (ended : Ends tells words domain mid_in new_in mid new answer) where
   set : IsTrue tells → IsSet old words domain
   set told = record { samples = samples; setting = setting told }
 

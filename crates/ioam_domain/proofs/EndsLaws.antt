@@ -13,12 +13,11 @@ use Rattle.ioam_answer.specs.declared.outcome.Outcome.{Outcome}
 use Rattle.ioam_answer.specs.declared.outcome.Outcome.TheVariants as outcome
 use Rattle.ioam_answer.specs.Outcomes.{IsDone}
 use Rattle.ioam_setting.proofs.NamesLaws.{apart-words}
-use Rattle.ioam_domain_file.specs.declared.extent.Extent.TheVariants.{Plain}
 use Rattle.ioam_setting.specs.Names.{input_ports}
 use Rattle.ioam_setting.specs.Setting.{Refuses}
 use Rattle.ioam_setting.specs.declared.setting.Refusal.{Refusal}
 use Rattle.ioam_setting.specs.declared.setting.Refusal.TheVariants as refusal
-use Rattle.ioam_topo.specs.Domain.{ports}
+use Rattle.ioam_topo.specs.Domain.{links, ports}
 use Rattle.ioam_topo.specs.declared.domain.Domain.{Domain}
 use Rattle.ioam_entries.specs.declared.fault.DomainFault.{DomainFault}
 use Rattle.ioam_traffic.specs.Traffic.{Course, HoldsAll, HoldsFronts, ArePassed, AreOpened, Arrive}
@@ -130,9 +129,9 @@ module _ (words : List (List ℕ)) (old_in mid_in : Reading) (opened : mid_in.si
 -- the names of the words differ where all files do
 pub Ends-differed : (tells : Bool) (words : List (List ℕ)) (domain : Domain) (mid_in new_in : Reading) (old new : Writing) (answer : Outcome)
     → Ends tells words domain mid_in new_in old new answer → HaveDiffered words answer
-Ends-differed tells words domain mid_in new_in old new outcome.Done ends = apart-words (ports domain) (word_files words) ends.0
-Ends-differed tells words domain mid_in new_in old new (outcome.Capture name at fault) ends = apart-words (ports domain) (word_files words) ends.0
-Ends-differed tells words domain mid_in new_in old new (outcome.Packets limit) ends = apart-words (ports domain) (word_files words) ends.0
+Ends-differed tells words domain mid_in new_in old new outcome.Done ends = apart-words (ports domain) (links domain) (word_files words) ends.0
+Ends-differed tells words domain mid_in new_in old new (outcome.Capture name at fault) ends = apart-words (ports domain) (links domain) (word_files words) ends.0
+Ends-differed tells words domain mid_in new_in old new (outcome.Packets limit) ends = apart-words (ports domain) (links domain) (word_files words) ends.0
 Ends-differed tells words domain mid_in new_in old new (outcome.Exports place fault) ends = absurd ends
 Ends-differed tells words domain mid_in new_in old new (outcome.Records limit) ends = absurd ends
 Ends-differed tells words domain mid_in new_in old new outcome.Usage ends = tt
@@ -176,7 +175,7 @@ asks_none start new names is = (0, is ∙ sym (append-nil start))
 
 -- a refusal of what a run is set by
 module _ (tells : Bool) (words : List (List ℕ)) (old_in new_in : Reading) (old : Writing) where
-  pub refused_cause : (why : Refusal) → Refuses Plain old (domain_file words) (readings_file words) tells old_in new_in why → IsTrue tells
+  pub refused_cause : (why : Refusal) → Refuses old (domain_file words) (readings_file words) tells old_in new_in why → IsTrue tells
       → HasCause words old_in new_in old old (refused_as why)
   refused_cause (refusal.Domain fault) refuses told = refuses told
   refused_cause (refusal.Readings fault) refuses told = refuses told
@@ -202,7 +201,7 @@ module _ (tells : Bool) (words : List (List ℕ)) (old_in new_in : Reading) (old
   refused_domain refusal.ReadFault fault is = absurd (cc)
   refused_domain refusal.NoMemory fault is = absurd (cc)
 
-  pub refused_read : (why : Refusal) → Refuses Plain old (domain_file words) (readings_file words) tells old_in new_in why
+  pub refused_read : (why : Refusal) → Refuses old (domain_file words) (readings_file words) tells old_in new_in why
       → refused_as why ≡ outcome.ReadFault → Rose old_in.side.faults new_in.side.faults
   refused_read (refusal.Domain fault) refuses is = absurd (cc)
   refused_read (refusal.Readings fault) refuses is = absurd (cc)

@@ -13,7 +13,6 @@ use Rattle.ioam_pcap.proofs.MergeLaws.{TakesAll-total, Takes-append}
 use Rattle.ioam_setting.specs.Names.{input_names, file_names}
 use Rattle.ioam_setting.specs.Setting.{HasDomainFault, HasReadingsFault}
 use Rattle.ioam_setting.proofs.OnlyLaws as only
-use Rattle.ioam_domain_file.specs.declared.extent.Extent.TheVariants.{Plain}
 use Rattle.ioam_domain_file.specs.File.{Agree}
 use Rattle.ioam_topo.specs.declared.domain.Domain.{Domain}
 use Rattle.ioam_entries.specs.declared.fault.DomainFault.{DomainFault}
@@ -70,29 +69,29 @@ FilesBegin-few contents xs ys last x y =
 module _ (desk : Writing) (words : List (List ℕ)) where
   -- one domain
   pub one_set : (a b : Domain) → IsSet desk words a → IsSet desk words b → Agree a b
-  one_set a b x y = only.domains_agree Plain desk (domain_file words) (readings_file words) a b x.setting.has_domain y.setting.has_domain
+  one_set a b x y = only.domains_agree desk (domain_file words) (readings_file words) a b x.setting.has_domain y.setting.has_domain
 
   -- one fault of the domain's file
-  pub one_domain_fault : (f g : DomainFault) → HasDomainFault Plain desk (domain_file words) (readings_file words) f
-      → HasDomainFault Plain desk (domain_file words) (readings_file words) g → f ≡ g
-  one_domain_fault f g x y = only.one_domain_fault Plain desk (domain_file words) (readings_file words) f g x y
+  pub one_domain_fault : (f g : DomainFault) → HasDomainFault desk (domain_file words) (readings_file words) f
+      → HasDomainFault desk (domain_file words) (readings_file words) g → f ≡ g
+  one_domain_fault f g x y = only.one_domain_fault desk (domain_file words) (readings_file words) f g x y
 
   -- a fault of it, or a domain
-  pub fault_or_set : (domain : Domain) (f : DomainFault) → HasDomainFault Plain desk (domain_file words) (readings_file words) f → IsSet desk words domain → ⊥
-  fault_or_set domain f x y = only.fault_or_domain Plain desk (domain_file words) (readings_file words) domain f x y.setting.has_domain
+  pub fault_or_set : (domain : Domain) (f : DomainFault) → HasDomainFault desk (domain_file words) (readings_file words) f → IsSet desk words domain → ⊥
+  fault_or_set domain f x y = only.fault_or_domain desk (domain_file words) (readings_file words) domain f x y.setting.has_domain
 
-  pub fault_or_readings : (f : DomainFault) (g : ReadingsFault) → HasDomainFault Plain desk (domain_file words) (readings_file words) f
-      → HasReadingsFault Plain desk (domain_file words) (readings_file words) g → ⊥
-  fault_or_readings f g x y = only.fault_or_domain Plain desk (domain_file words) (readings_file words) y.domain f x y.has_domain
+  pub fault_or_readings : (f : DomainFault) (g : ReadingsFault) → HasDomainFault desk (domain_file words) (readings_file words) f
+      → HasReadingsFault desk (domain_file words) (readings_file words) g → ⊥
+  fault_or_readings f g x y = only.fault_or_domain desk (domain_file words) (readings_file words) y.domain f x y.has_domain
 
   -- one fault of the readings
-  pub one_readings_fault : (f g : ReadingsFault) → HasReadingsFault Plain desk (domain_file words) (readings_file words) f
-      → HasReadingsFault Plain desk (domain_file words) (readings_file words) g → f ≡ g
-  one_readings_fault f g x y = only.one_readings_fault Plain desk (domain_file words) (readings_file words) f g x y
+  pub one_readings_fault : (f g : ReadingsFault) → HasReadingsFault desk (domain_file words) (readings_file words) f
+      → HasReadingsFault desk (domain_file words) (readings_file words) g → f ≡ g
+  one_readings_fault f g x y = only.one_readings_fault desk (domain_file words) (readings_file words) f g x y
 
   -- a fault of them, or readings
-  pub readings_or_set : (domain : Domain) (f : ReadingsFault) → HasReadingsFault Plain desk (domain_file words) (readings_file words) f → IsSet desk words domain → ⊥
-  readings_or_set domain f x y = only.fault_or_setting Plain desk (domain_file words) (readings_file words) domain y.samples f x y.setting
+  pub readings_or_set : (domain : Domain) (f : ReadingsFault) → HasReadingsFault desk (domain_file words) (readings_file words) f → IsSet desk words domain → ⊥
+  readings_or_set domain f x y = only.fault_or_setting desk (domain_file words) (readings_file words) domain y.samples f x y.setting
 
 -- domains that agree have the same files
 pub same_files : (words : List (List ℕ)) (a b : Domain) → Agree a b → run_files words a ≡ run_files words b

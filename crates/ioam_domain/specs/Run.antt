@@ -18,10 +18,9 @@ use Rattle.ioam_pcap.specs.declared.turns.Turn.TheVariants as turn
 use Rattle.ioam_answer.specs.Outcomes.{IsDone, IsBehindAll}
 use Rattle.ioam_answer.specs.declared.outcome.Outcome.{Outcome}
 use Rattle.ioam_answer.specs.declared.outcome.Outcome.TheVariants as outcome
-use Rattle.ioam_domain_file.specs.declared.extent.Extent.TheVariants.{Plain}
 use Rattle.ioam_setting.specs.Names.{input_names, input_ports, output_names, file_names}
 use Rattle.ioam_setting.specs.Setting.{HasDomainFault, HasReadingsFault, IsSetting}
-use Rattle.ioam_topo.specs.Domain.{ports}
+use Rattle.ioam_topo.specs.Domain.{links, ports}
 use Rattle.ioam_topo.specs.declared.domain.Domain.{Domain}
 use Rattle.ioam_entries.specs.declared.fault.DomainFault.{DomainFault}
 use Rattle.ioam_topo.specs.declared.parts.Port.{Port}
@@ -45,11 +44,11 @@ word_files words = domain_file words ∷ readings_file words ∷ report_file wor
 
 -- all files of a run, in the order in which equal ones are looked for
 abbrev pub run_files : List (List ℕ) → Domain → List (List ℕ)
-run_files words domain = file_names (ports domain) (word_files words)
+run_files words domain = file_names (ports domain) (links domain) (word_files words)
 
 -- those that are written, in the order in which they are opened
 abbrev pub run_outputs : List (List ℕ) → Domain → List (List ℕ)
-run_outputs words domain = output_names (ports domain) (report_file words) (exports_file words)
+run_outputs words domain = output_names (ports domain) (links domain) (report_file words) (exports_file words)
 
 -- the captures that are read, in the order in which they are opened
 abbrev pub run_inputs : Domain → List (List ℕ)
@@ -59,7 +58,7 @@ module _ (desk : Writing) (words : List (List ℕ)) where
   -- DOMAIN holds this domain, and READINGS the readings of its nodes
   pub record IsSet (domain : Domain) : Type 0 where
     pub samples : List (List Sample)
-    pub setting : IsSetting Plain desk (domain_file words) (readings_file words) domain samples
+    pub setting : IsSetting desk (domain_file words) (readings_file words) domain samples
 
   -- and no two files of the run have one name
   pub record IsReady (domain : Domain) : Type 0 where
@@ -85,8 +84,8 @@ module _ (desk : Writing) (words : List (List ℕ)) where
   -- What the words and the files ask for, where nothing fails: the first of the refusals in their
   -- order whose condition holds, or Done.
   abbrev pub Asked : Outcome → Type 0
-  Asked (outcome.Domain fault) = HasDomainFault Plain desk (domain_file words) (readings_file words) fault
-  Asked (outcome.Readings fault) = HasReadingsFault Plain desk (domain_file words) (readings_file words) fault
+  Asked (outcome.Domain fault) = HasDomainFault desk (domain_file words) (readings_file words) fault
+  Asked (outcome.Readings fault) = HasReadingsFault desk (domain_file words) (readings_file words) fault
   Asked (outcome.Names name) = (domain : Domain) × IsSet domain
       × ((at : ℕ) × IsFirstRepeat (run_files words domain) at × (name ≡ name_at (run_files words domain) at))
   Asked (outcome.Packets limit) = (domain : Domain) × IsReady domain × (limit ≡ domain.packets) × Exceeds domain

@@ -7,8 +7,6 @@ ghost use Rattle.ioam_merge.specs.Merging.{EndsKept};
 ghost use Rattle.ioam_outputs.specs.Names.{AreApart};
 ghost use Rattle.ioam_answer.specs.Outcomes.{IsDone, IsBehindAll};
 ghost use Rattle.ioam_answer.specs.declared.outcome.Outcome.{Outcome};
-ghost use Rattle.ioam_domain_file.specs.File.{IsPlainly};
-ghost use Rattle.ioam_domain_file.specs.declared.extent.Extent.{Extent};
 ghost use Rattle.ioam_setting.specs.Setting.{IsSetting, Refuses};
 ghost use Rattle.ioam_setting.specs.declared.setting.Refusal.{Refusal};
 ghost use Rattle.ioam_topo.specs.Domain.{ports, IsPlain};
@@ -21,7 +19,6 @@ use crate::answer::refused;
 use ioam_answer::Outcome;
 use ioam_base::memory::NoMemory;
 use ioam_desk::{Desk, Name};
-use ioam_domain_file::Extent;
 use ioam_outputs::first_repeat;
 use ioam_setting::{
     Refusal, Setting, file_names, input_names, input_ports, output_names, read_setting,
@@ -85,9 +82,8 @@ fn run_words<D: Desk>(alloc: Global, words: &[Name], desk: &mut D) -> Outcome
 fn read_words<D: Desk>(alloc: Global, words: &[Name], desk: &mut D) -> Result<Setting, Refusal>
     requires { length words.now ≡ 6 }
     ensures read { IfOk result (λ setting. IsTrue D.tells
-        → IsSetting Extent.Plain (D.writing desk.old) (domain_file words.now) (readings_file words.now) setting.domain setting.readings) }
-    ensures plain { IfOk result (λ setting. IsPlainly Extent.Plain setting.domain) }
-    ensures refused { IfErr result (Refuses Extent.Plain (D.writing desk.old) (domain_file words.now) (readings_file words.now) D.tells (D.reading desk.old) (D.reading desk.new)) }
+        → IsSetting (D.writing desk.old) (domain_file words.now) (readings_file words.now) setting.domain setting.readings) }
+    ensures refused { IfErr result (Refuses (D.writing desk.old) (domain_file words.now) (readings_file words.now) D.tells (D.reading desk.old) (D.reading desk.new)) }
     ensures side { OnOk result ((D.reading desk.new).side ≡ opened_each (D.reading desk.old).side (domain_file words.now ∷ readings_file words.now ∷ [])) }
     ensures ended { OnOk result (IsTrue D.tells → IsTrue ((D.reading desk.new).ended (D.reading desk.old).side.slots)
         × IsTrue ((D.reading desk.new).ended ((D.reading desk.old).side.slots + 1))) }
@@ -97,7 +93,7 @@ fn read_words<D: Desk>(alloc: Global, words: &[Name], desk: &mut D) -> Result<Se
     ensures kept { KeepsInputs (D.reading desk.old) (D.reading desk.new) }
     ensures outputs { D.writing desk.new ≡ D.writing desk.old }
 {
-    read_setting(alloc, desk, &words[1], &words[2], Extent::Plain)
+    read_setting(alloc, desk, &words[1], &words[2])
 }
 
 // All files of a run, in the order in which equal ones are looked for.

@@ -7,7 +7,6 @@ use Rattle.ioam_toml.specs.declared.why.Why.{Why}
 use Rattle.ioam_entries.specs.declared.fault.DomainFault.{DomainFault}
 use Rattle.ioam_topo.specs.declared.domain.Domain.{Domain}
 use Rattle.ioam_entries.specs.Faults.{first}
-use Rattle.ioam_domain_file.specs.declared.extent.Extent.{Extent}
 use Rattle.ioam_domain_file.specs.Top.{faults_of}
 use Rattle.ioam_domain_file.specs.File.{IsDomain, IsTextOf, IsNoText, IsDomainOf, IsFirstFault, HasFault, Agree}
 
@@ -35,32 +34,32 @@ agree_of t a b is also = record {
 }
 
 -- a file has one domain
-pub one_domain : (extent : Extent) (octets : List ℕ) (a b : Domain) → IsDomainOf extent octets a → IsDomainOf extent octets b → Agree a b
-one_domain extent octets a b of also = let same : also.table ≡ of.table = one_table octets also.table of.table also.text of.text in
+pub one_domain : (octets : List ℕ) (a b : Domain) → IsDomainOf octets a → IsDomainOf octets b → Agree a b
+one_domain octets a b of also = let same : also.table ≡ of.table = one_table octets also.table of.table also.text of.text in
     let P : Members → Type 0 = λ t. IsDomain t b in agree_of of.table a b of.is (subst P same also.is)
 
 -- a table has one first fault
-one_first : (extent : Extent) (octets : List ℕ) (f g : DomainFault) → IsFirstFault extent octets f → IsFirstFault extent octets g → f ≡ g
-one_first extent octets f g at also = same_Some _ _ (sym at.is ∙ ap (λ t. first (faults_of extent t)) (one_table octets at.table also.table at.text also.text) ∙ also.is)
+one_first : (octets : List ℕ) (f g : DomainFault) → IsFirstFault octets f → IsFirstFault octets g → f ≡ g
+one_first octets f g at also = same_Some _ _ (sym at.is ∙ ap (λ t. first (faults_of t)) (one_table octets at.table also.table at.text also.text) ∙ also.is)
 
 -- a file has one first fault
-pub one_fault : (extent : Extent) (octets : List ℕ) (f g : DomainFault) → HasFault extent octets f → HasFault extent octets g → f ≡ g
-one_fault extent octets f g (inl at) (inl also) = at.is ∙ sym also.is
-one_fault extent octets f g (inl at) (inr (inl also)) = absurd (let many = at.many in let few = also.text.few in omega arith)
-one_fault extent octets f g (inl at) (inr (inr also)) = absurd (let many = at.many in let few = also.text.few in omega arith)
-one_fault extent octets f g (inr (inl at)) (inl also) = absurd (let many = also.many in let few = at.text.few in omega arith)
-one_fault extent octets f g (inr (inl at)) (inr (inl also)) = at.is ∙ sym also.is
-one_fault extent octets f g (inr (inl at)) (inr (inr also)) = absurd (no_text octets also.table also.text at.text)
-one_fault extent octets f g (inr (inr at)) (inl also) = absurd (let many = also.many in let few = at.text.few in omega arith)
-one_fault extent octets f g (inr (inr at)) (inr (inl also)) = absurd (no_text octets at.table at.text also.text)
-one_fault extent octets f g (inr (inr at)) (inr (inr also)) = one_first extent octets f g at also
+pub one_fault : (octets : List ℕ) (f g : DomainFault) → HasFault octets f → HasFault octets g → f ≡ g
+one_fault octets f g (inl at) (inl also) = at.is ∙ sym also.is
+one_fault octets f g (inl at) (inr (inl also)) = absurd (let many = at.many in let few = also.text.few in omega arith)
+one_fault octets f g (inl at) (inr (inr also)) = absurd (let many = at.many in let few = also.text.few in omega arith)
+one_fault octets f g (inr (inl at)) (inl also) = absurd (let many = also.many in let few = at.text.few in omega arith)
+one_fault octets f g (inr (inl at)) (inr (inl also)) = at.is ∙ sym also.is
+one_fault octets f g (inr (inl at)) (inr (inr also)) = absurd (no_text octets also.table also.text at.text)
+one_fault octets f g (inr (inr at)) (inl also) = absurd (let many = also.many in let few = at.text.few in omega arith)
+one_fault octets f g (inr (inr at)) (inr (inl also)) = absurd (no_text octets at.table at.text also.text)
+one_fault octets f g (inr (inr at)) (inr (inr also)) = one_first octets f g at also
 
 none_first : (faults : List DomainFault) (f : DomainFault) → faults ≡ [] → first faults ≡ Some f → ⊥
 none_first faults f none is = let empty : first faults ≡ None = ap first none in cc
 
 -- a file that has a domain has no fault
-pub domain_or_fault : (extent : Extent) (octets : List ℕ) (domain : Domain) (f : DomainFault) → IsDomainOf extent octets domain → HasFault extent octets f → ⊥
-domain_or_fault extent octets domain f of (inl at) = let many = at.many in let few = of.text.few in omega arith
-domain_or_fault extent octets domain f of (inr (inl at)) = no_text octets of.table of.text at.text
-domain_or_fault extent octets domain f of (inr (inr at)) = none_first (faults_of extent at.table) f
-    (ap (faults_of extent) (one_table octets at.table of.table at.text of.text) ∙ of.clear) at.is
+pub domain_or_fault : (octets : List ℕ) (domain : Domain) (f : DomainFault) → IsDomainOf octets domain → HasFault octets f → ⊥
+domain_or_fault octets domain f of (inl at) = let many = at.many in let few = of.text.few in omega arith
+domain_or_fault octets domain f of (inr (inl at)) = no_text octets of.table of.text at.text
+domain_or_fault octets domain f of (inr (inr at)) = none_first (faults_of at.table) f
+    (ap faults_of (one_table octets at.table of.table at.text of.text) ∙ of.clear) at.is

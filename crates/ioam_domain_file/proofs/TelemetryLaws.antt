@@ -1,5 +1,5 @@
 -- Laws of the node data and the flows of a file, behind nodes that were read.
-use Rattle.std.proofs.Common.{◌≡◌, ◌≤◌, ℕ, List, [], ◌∷◌, ◌++◌, length, codes, map, refl, ap, sym, ◌∙◌, subst, IfOk, Result, Ok, Err, arith}
+use Rattle.std.proofs.Common.{◌≡◌, ◌≤◌, ℕ, List, [], ◌∷◌, ◌++◌, length, codes, map, ap, sym, ◌∙◌, subst, arith}
 use Rattle.std.specs.List.{All}
 use Rattle.toml.specs.Data.{Members, get_member}
 use Rattle.ioam_topo.specs.declared.nodes.Nodes.{Nodes}
@@ -12,7 +12,6 @@ use Rattle.ioam_topo.specs.Keyed.{name_of_node}
 use Rattle.ioam_topo.specs.Kept.{IsOfNode, DataKept}
 use Rattle.ioam_topo.proofs.KeyLaws.{length_map}
 use Rattle.ioam_entries.specs.declared.fault.DomainFault.{DomainFault}
-use Rattle.ioam_entries.specs.declared.fault.DomainRefused.{DomainRefused}
 use Rattle.ioam_entries.specs.declared.words.Table.TheVariants.{DataTable}
 use Rattle.ioam_entries.specs.Goods.{goods, list_of}
 use Rattle.ioam_entries.proofs.GoodsLaws.{goods_all}
@@ -23,41 +22,33 @@ use Rattle.ioam_telemetry.specs.DataRead.{HoldsData}
 use Rattle.ioam_telemetry.specs.DataTable.{data_entries, data_of, data_faults}
 use Rattle.ioam_telemetry.specs.Tables.{data_table_faults, flow_table_faults, extra_table_faults, flows_behind, AreFlows}
 use Rattle.ioam_telemetry.proofs.DataKept.{data_placed}
-use Rattle.ioam_domain_file.specs.declared.extent.Extent.{Extent}
-use Rattle.ioam_domain_file.specs.Extent.{flows_most, extras_most, taps_most}
 use Rattle.ioam_domain_file.specs.Top.{telemetry_faults, flows_of}
 use Rattle.ioam_domain_file.specs.PartsRead.{HoldsTelemetry}
-use Rattle.ioam_domain_file.specs.declared.extent.Extent.TheVariants.{Plain, Whole}
-use Rattle.ioam_domain_file.specs.File.{IsWithin, IsPlainly}
-use Rattle.ioam_topo.specs.declared.domain.Domain.{Domain}
-use Rattle.ioam_topo.specs.Domain.{flows, links}
-use Rattle.ioam_places.proofs.LinkLaws.{untapped}
 
 -- the faults of these tables behind nodes that were read are those behind the nodes' entries
-pub telemetry_same : (t : Members) (nodes : Nodes) (extent : Extent) (most more : ℕ) → most ≡ flows_most extent → more ≡ extras_most extent → HoldsNodes (node_entries t) nodes
+pub telemetry_same : (t : Members) (nodes : Nodes) → HoldsNodes (node_entries t) nodes
     → data_table_faults nodes.names (map list_of nodes.items.items) t
-    ++ (flow_table_faults nodes.names (map list_of nodes.items.items) t most ++ extra_table_faults nodes.names (map list_of nodes.items.items) t more)
-    ≡ telemetry_faults extent t
-telemetry_same t nodes extent most more few also holds = rw (holds.names, holds.lists, few, also)
+    ++ (flow_table_faults nodes.names (map list_of nodes.items.items) t 256 ++ extra_table_faults nodes.names (map list_of nodes.items.items) t 512)
+    ≡ telemetry_faults t
+telemetry_same t nodes holds = rw (holds.names, holds.lists)
 
 -- the node data and the flows that were read
-pub telemetry_holds : (t : Members) (nodes : Nodes) (extent : Extent) (most : ℕ) (telemetry : Telemetry) (rows : DataRows) (flows : Flows) → most ≡ flows_most extent
-    → telemetry.rows ≡ rows → telemetry.flows ≡ flows → HoldsData nodes.names (data_entries t) rows → AreFlows nodes (map list_of nodes.items.items) t most flows
-    → HoldsTelemetry nodes extent t telemetry
-telemetry_holds t nodes extent most telemetry rows flows few same also holds are = record {
+pub telemetry_holds : (t : Members) (nodes : Nodes) (telemetry : Telemetry) (rows : DataRows) (flows : Flows)
+    → telemetry.rows ≡ rows → telemetry.flows ≡ flows → HoldsData nodes.names (data_entries t) rows → AreFlows nodes (map list_of nodes.items.items) t 256 flows
+    → HoldsTelemetry nodes t telemetry
+telemetry_holds t nodes telemetry rows flows same also holds are = record {
   rows = let P : DataRows → Type 0 = HoldsData nodes.names (data_entries t) in subst P (sym same) holds;
-  flows = let P : Flows → Type 0 = AreFlows nodes (map list_of nodes.items.items) t most in
-      let Q : ℕ → Type 0 = λ n. AreFlows nodes (map list_of nodes.items.items) t n telemetry.flows in subst Q few (subst P (sym also) are);
+  flows = let P : Flows → Type 0 = AreFlows nodes (map list_of nodes.items.items) t 256 in subst P (sym also) are;
 }
 
 -- the flows are those of the file
-pub flows_are : (t : Members) (nodes : Nodes) (extent : Extent) (telemetry : Telemetry) → HoldsNodes (node_entries t) nodes → HoldsTelemetry nodes extent t telemetry
+pub flows_are : (t : Members) (nodes : Nodes) (telemetry : Telemetry) → HoldsNodes (node_entries t) nodes → HoldsTelemetry nodes t telemetry
     → telemetry.flows.items.items ≡ flows_of t
-flows_are t nodes extent telemetry holds are = are.flows.are ∙ rw (holds.names, holds.lists)
+flows_are t nodes telemetry holds are = are.flows.are ∙ rw (holds.names, holds.lists)
 
-pub data_are : (t : Members) (nodes : Nodes) (extent : Extent) (telemetry : Telemetry) → HoldsNodes (node_entries t) nodes → HoldsTelemetry nodes extent t telemetry
+pub data_are : (t : Members) (nodes : Nodes) (telemetry : Telemetry) → HoldsNodes (node_entries t) nodes → HoldsTelemetry nodes t telemetry
     → telemetry.rows.items.items ≡ goods (data_of (node_names t)) (data_entries t)
-data_are t nodes extent telemetry holds are = are.rows.items ∙ rw holds.names
+data_are t nodes telemetry holds are = are.rows.items ∙ rw holds.names
 
 -- neither of two lists has a fault
 pub none_of_two : (xs ys zs : List DomainFault) → xs ≡ [] → ys ≡ [] → xs ++ ys ≡ zs → zs ≡ []
@@ -72,8 +63,8 @@ module _ (taps : ℕ) (t : Members) (parts : Parts) (holds : HoldsParts taps t p
   pub node_count : length parts.nodes.names ≡ length parts.nodes.items.items
   node_count = ap length holds.nodes.named ∙ sym (length_map name_of_node parts.nodes.items.items)
 
-  pub data_kept : (extent : Extent) (telemetry : Telemetry) → HoldsTelemetry parts.nodes extent t telemetry → telemetry_faults extent t ≡ [] → DataKept (length parts.nodes.items.items) telemetry.rows
-  data_kept extent telemetry are none = record {
+  pub data_kept : (telemetry : Telemetry) → HoldsTelemetry parts.nodes t telemetry → telemetry_faults t ≡ [] → DataKept (length parts.nodes.items.items) telemetry.rows
+  data_kept telemetry are none = record {
     keyed = are.rows.keyed;
     placed = let all : All (IsOfNode (length parts.nodes.names)) (goods (data_of parts.nodes.names) (data_entries t)) =
         goods_all (IsOfNode (length parts.nodes.names)) (data_of parts.nodes.names) (data_entries t) (data_placed parts.nodes.names) in
@@ -81,24 +72,6 @@ module _ (taps : ℕ) (t : Members) (parts : Parts) (holds : HoldsParts taps t p
         subst Q node_count (subst P (sym are.rows.items) all);
     few = let f : length (goods (data_of (node_names t)) (data_entries t)) ≤ 4096 = few_entries (data_of (node_names t)) DataTable 4096
         (get_member (codes "data") t) (data_faults (node_names t)) (front_none (data_table_faults (node_names t) (node_lists t) t) _ none) in
-        let e : length telemetry.rows.items.items ≡ length (goods (data_of (node_names t)) (data_entries t)) = ap length (data_are t parts.nodes extent telemetry holds.nodes are) in
+        let e : length telemetry.rows.items.items ≡ length (goods (data_of (node_names t)) (data_entries t)) = ap length (data_are t parts.nodes telemetry holds.nodes are) in
         omega (arith, f, e);
   }
-
--- no more taps are read than a domain may have
-pub taps_few : (taps : ℕ) (extent : Extent) → taps ≡ taps_most extent → taps ≤ 64
-taps_few taps Plain is = omega (arith, is)
-taps_few taps Whole is = omega (arith, is)
-
-nothing : {A : Type 0} (xs : List A) → length xs ≤ 0 → xs ≡ []
-nothing [] few = refl
-nothing (x ∷ xs) few = absurd (omega (arith, few))
-
--- a domain that is read plainly has no flows and no taps
-pub plainly : (extent : Extent) (domain : Domain) → IsWithin extent domain → IsPlainly extent domain
-plainly Plain domain within = (nothing (flows domain) within.few_flows, untapped (links domain) within.few_taps)
-plainly Whole domain within = tt
-
-pub result_plainly : (extent : Extent) (r : Result Domain DomainRefused) → IfOk r (IsWithin extent) → IfOk r (IsPlainly extent)
-result_plainly extent (Ok domain) within = plainly extent domain within
-result_plainly extent (Err refused) within = tt

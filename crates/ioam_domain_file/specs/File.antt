@@ -16,12 +16,7 @@ use Rattle.ioam_domain_file.specs.Top.{faults_of, format_of, packets_of, node_da
 use Rattle.std.specs.List.{All}
 use Rattle.ioam_topo.specs.Apart.{NodesApart, FlowsApart}
 use Rattle.ioam_topo.specs.Known.{IsKnownAtEnds}
-use Rattle.ioam_topo.specs.Keyed.{taps_of}
-use Rattle.ioam_domain_file.specs.declared.extent.Extent.{Extent}
-use Rattle.ioam_domain_file.specs.declared.extent.Extent.TheVariants.{Plain, Whole}
-use Rattle.ioam_topo.specs.declared.parts.Link.{Link}
-use Rattle.ioam_domain_file.specs.Extent.{flows_most, taps_most}
-use Rattle.ioam_topo.specs.Domain.{nodes, links, ports, routes, node_data, flows, IsPlain}
+use Rattle.ioam_topo.specs.Domain.{nodes, links, ports, routes, node_data, flows}
 
 -- this is the domain of a file's table
 pub record IsDomain (t : Members) (domain : Domain) : Type 0 where
@@ -33,16 +28,6 @@ pub record IsDomain (t : Members) (domain : Domain) : Type 0 where
   pub has_routes : routes domain ≡ routes_of t
   pub has_data : node_data domain ≡ node_data_of t
   pub has_flows : flows domain ≡ flows_of t
-
--- a domain has no more flows and taps than are read
-pub record IsWithin (extent : Extent) (domain : Domain) : Type 0 where
-  pub few_flows : length (flows domain) ≤ flows_most extent
-  pub few_taps : taps_of (links domain) ≤ taps_most extent
-
--- a domain that is read plainly has no flows and no taps
-abbrev pub IsPlainly : Extent → Domain → Type 0
-IsPlainly Plain domain = IsPlain domain × All (λ (link : Link). link.tap ≡ None) (links domain)
-IsPlainly Whole domain = ⊤
 
 -- in a domain no two nodes have one name, one id or one address, no two flows have one name, no two flows of one namespace have one id,
 -- and both ends of a flow know its namespaces, whatever the file says
@@ -63,10 +48,10 @@ pub record IsNoText (octets : List ℕ) : Type 0 where
   pub unparsed : IsUtf8 octets → parse_document octets ≡ None
 
 -- this is the domain of a file of these octets, which has no fault
-pub record IsDomainOf (extent : Extent) (octets : List ℕ) (domain : Domain) : Type 0 where
+pub record IsDomainOf (octets : List ℕ) (domain : Domain) : Type 0 where
   pub table : Members
   pub text : IsTextOf octets table
-  pub clear : faults_of extent table ≡ []
+  pub clear : faults_of table ≡ []
   pub is : IsDomain table domain
 
 -- the fault of a file of too many octets, and of one that is no text
@@ -79,20 +64,20 @@ pub record IsFaultyText (octets : List ℕ) (found : DomainFault) : Type 0 where
   pub is : found ≡ fault Top 0 NoKey Text
 
 -- the first fault of the table of a file
-pub record IsFirstFault (extent : Extent) (octets : List ℕ) (found : DomainFault) : Type 0 where
+pub record IsFirstFault (octets : List ℕ) (found : DomainFault) : Type 0 where
   pub table : Members
   pub text : IsTextOf octets table
-  pub is : first (faults_of extent table) ≡ Some found
+  pub is : first (faults_of table) ≡ Some found
 
 -- a file of these octets has this fault, and none before it
-abbrev pub HasFault : Extent → List ℕ → DomainFault → Type 0
-HasFault extent octets found = IsLongFile octets found ⊎ (IsFaultyText octets found ⊎ IsFirstFault extent octets found)
+abbrev pub HasFault : List ℕ → DomainFault → Type 0
+HasFault octets found = IsLongFile octets found ⊎ (IsFaultyText octets found ⊎ IsFirstFault octets found)
 
 -- what was answered of a file of these octets; want of memory is free
-abbrev pub IsFileRead : Extent → List ℕ → Result Domain DomainRefused → Type 0
-IsFileRead extent octets (Ok domain) = IsDomainOf extent octets domain
-IsFileRead extent octets (Err (Fault found)) = HasFault extent octets found
-IsFileRead extent octets (Err NoMemory) = ⊤
+abbrev pub IsFileRead : List ℕ → Result Domain DomainRefused → Type 0
+IsFileRead octets (Ok domain) = IsDomainOf octets domain
+IsFileRead octets (Err (Fault found)) = HasFault octets found
+IsFileRead octets (Err NoMemory) = ⊤
 
 -- two domains have the same tables and keys
 pub record Agree (a b : Domain) : Type 0 where

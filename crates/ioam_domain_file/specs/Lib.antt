@@ -1,4 +1,3 @@
-pub mod Extent
 pub mod Top
 pub mod PartsRead
 pub mod File

@@ -7,10 +7,8 @@ use Rattle.ioam_entries.specs.Goods.{list_of}
 use Rattle.ioam_telemetry.specs.DataTable.{data_entries}
 use Rattle.ioam_telemetry.specs.DataRead.{HoldsData}
 use Rattle.ioam_telemetry.specs.Tables.{AreFlows}
-use Rattle.ioam_domain_file.specs.declared.extent.Extent.{Extent}
-use Rattle.ioam_domain_file.specs.Extent.{flows_most}
 
 -- these are the node data and the flows of a file, behind these nodes
-pub record HoldsTelemetry (nodes : Nodes) (extent : Extent) (t : Members) (telemetry : Telemetry) : Type 0 where
+pub record HoldsTelemetry (nodes : Nodes) (t : Members) (telemetry : Telemetry) : Type 0 where
   pub rows : HoldsData nodes.names (data_entries t) telemetry.rows
-  pub flows : AreFlows nodes (map list_of nodes.items.items) t (flows_most extent) telemetry.flows
+  pub flows : AreFlows nodes (map list_of nodes.items.items) t 256 telemetry.flows

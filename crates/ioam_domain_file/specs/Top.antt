@@ -18,8 +18,6 @@ use Rattle.ioam_entries.specs.Faults.{at}
 use Rattle.ioam_entries.specs.Keys.{own_keys}
 use Rattle.ioam_places.specs.Places.{node_names, node_lists, part_faults, route_table_faults}
 use Rattle.ioam_telemetry.specs.Tables.{data_behind, flows_behind, data_table_faults, flow_table_faults, extra_table_faults}
-use Rattle.ioam_domain_file.specs.declared.extent.Extent.{Extent}
-use Rattle.ioam_domain_file.specs.Extent.{flows_most, extras_most, taps_most}
 
 -- "ptp", "ntp" or "posix"
 abbrev pub format_named : List ℕ → Result Format Why
@@ -49,11 +47,11 @@ flows_of t = flows_behind (node_names t) (node_lists t) t
 abbrev pub top_keys : Members → List DomainFault
 top_keys t = at Top 0 OtherKey (own_keys Top t) ++ (at Top 0 FormatKey (format_of t) ++ at Top 0 PacketsKey (packets_of t))
 
--- the faults of the tables of what nodes and flows record
-abbrev pub telemetry_faults : Extent → Members → List DomainFault
-telemetry_faults extent t = data_table_faults (node_names t) (node_lists t) t
-    ++ (flow_table_faults (node_names t) (node_lists t) t (flows_most extent) ++ extra_table_faults (node_names t) (node_lists t) t (extras_most extent))
+-- the faults of the tables of what nodes and flows record: at most 256 flows and 512 extra traces
+abbrev pub telemetry_faults : Members → List DomainFault
+telemetry_faults t = data_table_faults (node_names t) (node_lists t) t
+    ++ (flow_table_faults (node_names t) (node_lists t) t 256 ++ extra_table_faults (node_names t) (node_lists t) t 512)
 
--- all faults of a file, in the order in which they are looked for
-abbrev pub faults_of : Extent → Members → List DomainFault
-faults_of extent t = top_keys t ++ (part_faults (taps_most extent) t ++ (route_table_faults t ++ telemetry_faults extent t))
+-- all faults of a file, in the order in which they are looked for, where at most 64 links have a tap
+abbrev pub faults_of : Members → List DomainFault
+faults_of t = top_keys t ++ (part_faults 64 t ++ (route_table_faults t ++ telemetry_faults t))

@@ -2,10 +2,8 @@
 //! with each fault at its place.
 #![tactic(auto)]
 
-mod extent;
 mod reading;
 mod top;
 
-pub use extent::Extent;
 pub use ioam_entries::{DomainFault, DomainRefused, Field, Table, Why};
 pub use reading::{FILE_MOST, long_file, read_domain};

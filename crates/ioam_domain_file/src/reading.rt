@@ -6,11 +6,9 @@ ghost use Rattle.ioam_entries.specs.Faults.{Gives, fault};
 ghost use Rattle.ioam_places.specs.NodeRead.{HoldsNodes};
 ghost use Rattle.ioam_places.specs.Places.{node_entries};
 ghost use Rattle.ioam_domain_file.specs.PartsRead.{HoldsTelemetry};
-ghost use Rattle.ioam_domain_file.specs.Extent.{flows_most, extras_most, taps_most};
 ghost use Rattle.ioam_domain_file.specs.Top.{telemetry_faults, faults_of};
-ghost use Rattle.ioam_domain_file.specs.File.{IsDomain, IsWithin, IsPlainly, IsApart, IsFileRead};
+ghost use Rattle.ioam_domain_file.specs.File.{IsDomain, IsApart, IsFileRead};
 
-use crate::extent::Extent;
 use crate::top::read_own;
 use ioam_base::memory::NoMemory;
 use ioam_entries::{DomainFault, DomainRefused, Field, Table, Why};
@@ -22,64 +20,43 @@ use std::alloc::Global;
 /// The most octets of a domain file: 1 MiB.
 pub const FILE_MOST: usize = 1_048_576;
 
+// The most flows.
+const MOST_FLOWS: usize = 256;
+
+// The most extra traces of all flows together.
+const MOST_EXTRAS: usize = 512;
+
+// The most links that may have a tap.
+const MOST_TAPS: u32 = 64;
+
 // The node data and the flows of a file, whose nodes these are.
 fn read_telemetry(
     alloc: Global,
     top: &toml::Table,
     nodes: &Nodes,
-    extent: Extent,
-    most: usize,
-    more: usize,
 ) -> Result<Telemetry, DomainRefused>
-    requires most_flows { most ≡ flows_most extent }
-    requires most_extras { more ≡ extras_most extent }
-    requires few_flows { most ≤ 256 }
-    requires few_extras { more ≤ 512 }
     requires holds { HoldsNodes (node_entries (table_view top.now)) nodes.now }
     requires named { length nodes.now.names ≡ length nodes.now.items.items }
-    ensures { Gives result (telemetry_faults extent (table_view top.now)) (HoldsTelemetry nodes.now extent (table_view top.now)) }
+    ensures { Gives result (telemetry_faults (table_view top.now)) (HoldsTelemetry nodes.now (table_view top.now)) }
 {
     let rows = read_data(alloc, top, nodes)?;
-    let flows = read_flows(alloc, top, nodes, most, more)?;
+    let flows = read_flows(alloc, top, nodes, MOST_FLOWS, MOST_EXTRAS)?;
     Ok(Telemetry::new(rows, flows))
 }
 
 // The domain of a file's tables.
-fn read_tables(
-    alloc: Global,
-    top: &toml::Table,
-    extent: Extent,
-    taps: u32,
-) -> Result<Domain, DomainRefused>
-    requires { taps ≡ taps_most extent }
-    ensures read { Gives result (faults_of extent (table_view top.now)) (IsDomain (table_view top.now)) }
-    ensures within { IfOk result (IsWithin extent) }
+fn read_tables(alloc: Global, top: &toml::Table) -> Result<Domain, DomainRefused>
+    ensures read { Gives result (faults_of (table_view top.now)) (IsDomain (table_view top.now)) }
     ensures apart { IfOk result IsApart }
 {
     let own = read_own(top)?;
-    let parts = read_parts(alloc, top, taps)?;
+    let parts = read_parts(alloc, top, MOST_TAPS)?;
     let routes = read_routes(alloc, top, &parts)?;
-    let telemetry = read_telemetry(
-        alloc,
-        top,
-        &parts.nodes,
-        extent,
-        extent.flows(),
-        extent.extras(),
-    )?;
+    let telemetry = read_telemetry(alloc, top, &parts.nodes)?;
     match Domain::new(alloc, own.format, own.packets, parts, routes, telemetry) {
         Ok(domain) => Ok(domain),
         Err(NoMemory) => Err(DomainRefused::NoMemory),
     }
-}
-
-// The domain of a file's tables.
-fn read_file(alloc: Global, top: &toml::Table, extent: Extent) -> Result<Domain, DomainRefused>
-    ensures read { Gives result (faults_of extent (table_view top.now)) (IsDomain (table_view top.now)) }
-    ensures plain { IfOk result (IsPlainly extent) }
-    ensures apart { IfOk result IsApart }
-{
-    read_tables(alloc, top, extent, extent.taps())
 }
 
 // A fault of the file as a whole.
@@ -104,12 +81,11 @@ pub fn long_file() -> DomainFault
 /// Reads a domain file. Of its faults the first is answered, in this order: it has more than
 /// 1 MiB; it is no TOML text; the file's own keys; the tables `node`, `link`, `port`, `route`,
 /// `data`, `flow` and `extra` in turn, each first as a whole and then its entries in order, each of
-/// these first for a key that isn't listed and then key by key. Of a plain domain the first flow,
-/// extra trace or tap is one too many. Where there is no memory, NoMemory may be answered in place
-/// of anything else.
-pub fn read_domain(alloc: Global, octets: &[u8], extent: Extent) -> Result<Domain, DomainRefused>
-    ensures file { IsFileRead extent octets.now result }
-    ensures plain { IfOk result (IsPlainly extent) }
+/// these first for a key that isn't listed and then key by key. The 257th flow, the 513th extra trace
+/// and the 65th tap are one too many. Where there is no memory, NoMemory may be answered in place of
+/// anything else.
+pub fn read_domain(alloc: Global, octets: &[u8]) -> Result<Domain, DomainRefused>
+    ensures file { IsFileRead octets.now result }
     ensures apart { IfOk result IsApart }
 {
     if octets.len() > FILE_MOST {
@@ -120,7 +96,7 @@ pub fn read_domain(alloc: Global, octets: &[u8], extent: Extent) -> Result<Domai
         Err(_) => return Err(DomainRefused::Fault(whole_fault(Why::Text))),
     };
     match toml::table_from_str(alloc, text) {
-        Ok(table) => read_file(alloc, &table, extent),
+        Ok(table) => read_tables(alloc, &table),
         Err(error) => {
             if error.is_memory() {
                 Err(DomainRefused::NoMemory)

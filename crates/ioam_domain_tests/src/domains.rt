@@ -1,4 +1,4 @@
-use ioam_domain_file::{DomainRefused, Extent, read_domain};
+use ioam_domain_file::{DomainRefused, read_domain};
 use ioam_topo::{Domain, LinkId, NodeId, PortId, Way};
 use std::alloc::Global;
 
@@ -60,15 +60,15 @@ const ADDRESSES: &str = "node = [
 pub(crate) fn is_read_so<F: Fn(&Domain) -> bool + Copy>(alloc: Global, file: &str, look: F) -> bool
     requires { F.IsAlwaysCallable look }
 {
-    match read_domain(alloc, file.as_bytes(), Extent::Whole) {
+    match read_domain(alloc, file.as_bytes()) {
         Ok(domain) => look(&domain),
         Err(_) => false,
     }
 }
 
-// Why a file is refused, if it is, where so much of a domain is read.
-pub(crate) fn refusal_of(alloc: Global, file: &str, extent: Extent) -> Option<DomainRefused> {
-    read_domain(alloc, file.as_bytes(), extent).err()
+// Why a file is refused, if it is.
+pub(crate) fn refusal_of(alloc: Global, file: &str) -> Option<DomainRefused> {
+    read_domain(alloc, file.as_bytes()).err()
 }
 
 // Whether these are the nodes' addresses, in the forms that are read.

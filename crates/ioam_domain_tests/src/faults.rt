@@ -2,7 +2,7 @@ use crate::domains::{LINKS, NODES, PORTS, refusal_of};
 use crate::flow_rows::{FLOW_NODES, OF_EXTRAS, OF_FLOWS};
 use crate::node_data::OF_DATA;
 use ioam_base::memory::NoMemory;
-use ioam_domain_file::{DomainRefused, Extent};
+use ioam_domain_file::DomainRefused;
 use std::alloc::Global;
 
 // Each row is a fault, and behind ` # ` a file of which it is the first.
@@ -155,9 +155,9 @@ pub(crate) fn joined(alloc: Global, parts: [&str; 4]) -> Result<String, NoMemory
     Ok(file)
 }
 
-// The first fault of a file, in words, where so much of a domain is read.
-fn fault_of(alloc: Global, file: &str, extent: Extent) -> Result<String, NoMemory> {
-    match refusal_of(alloc, file, extent) {
+// The first fault of a file, in words.
+fn fault_of(alloc: Global, file: &str) -> Result<String, NoMemory> {
+    match refusal_of(alloc, file) {
         Some(DomainRefused::Fault(fault)) => Ok(format!(in alloc; "{fault:?}")?),
         _ => Err(NoMemory),
     }
@@ -165,12 +165,7 @@ fn fault_of(alloc: Global, file: &str, extent: Extent) -> Result<String, NoMemor
 
 // Whether a file has this fault.
 pub(crate) fn has_fault(alloc: Global, file: &str, wanted: &str) -> bool {
-    has_fault_in(alloc, file, Extent::Whole, wanted)
-}
-
-// Whether a file has this fault, where so much of a domain is read.
-pub(crate) fn has_fault_in(alloc: Global, file: &str, extent: Extent, wanted: &str) -> bool {
-    match fault_of(alloc, file, extent) {
+    match fault_of(alloc, file) {
         Ok(fault) => fault.as_str().contains(wanted),
         Err(NoMemory) => false,
     }

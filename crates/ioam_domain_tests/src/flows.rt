@@ -1,8 +1,7 @@
 use crate::domains::is_read_so;
-use crate::faults::{has_fault_in, joined};
+use crate::faults::joined;
 use crate::flow_rows::FLOW_NODES;
 use ioam_base::memory::NoMemory;
-use ioam_domain_file::Extent;
 use ioam_topo::{Domain, Flow, NodeId};
 use std::alloc::Global;
 
@@ -21,26 +20,6 @@ const EXTRAS: &str = "extra = [
   { flow = \"f\", namespace = 0, trace = 8388608, capacity = 1 },
 ]
 ";
-
-// A plain domain is refused for the first of each.
-const NOT_PLAIN: [(&str, &str); 4] = [
-    (
-        "flow = [{}]",
-        "table: FlowTable, place: 0, field: NoKey, why: TooMany",
-    ),
-    (
-        "extra = [{}]",
-        "table: ExtraTable, place: 0, field: NoKey, why: TooMany",
-    ),
-    (
-        "link = [{ name = \"l\", from = \"a\", to = \"b\", out_id = 1, in_id = 1, delay = 0, mtu = 1280, tap = \"t\" }]",
-        "table: LinkTable, place: 1, field: TapKey, why: TooMany",
-    ),
-    (
-        "extra = [{}]\nflow = [{}]",
-        "table: FlowTable, place: 0, field: NoKey, why: TooMany",
-    ),
-];
 
 // Whether a flow has traces of these namespaces and with these capacities, in this order.
 fn has_traces(flow: &Flow, wanted: &[(u16, u8)]) -> bool {
@@ -85,22 +64,8 @@ fn reads_flows(alloc: Global) -> bool {
     }
 }
 
-// Whether each of these is refused in a plain domain.
-fn are_not_plain(alloc: Global, rows: &[(&str, &str)]) -> bool {
-    for row in rows {
-        let is_so = match joined(alloc, [FLOW_NODES, row.0, "", ""]) {
-            Ok(file) => has_fault_in(alloc, file.as_str(), Extent::Plain, row.1),
-            Err(NoMemory) => false,
-        };
-        if !is_so {
-            return false;
-        }
-    }
-    true
-}
-
 #[test]
 fn reads_flows_with_their_traces(rt: HostRuntime) {
     let alloc = rt.alloc();
-    assert!(rt; reads_flows(alloc) && are_not_plain(alloc, &NOT_PLAIN));
+    assert!(rt; reads_flows(alloc));
 }

@@ -6,7 +6,7 @@ use crate::rows::{Arrival, Drawn, arrivals, packet_digits};
 use crate::stops::{SECOND, Stop, Stops, stops_of};
 use ioam_base::memory::NoMemory;
 use ioam_clock::{Readings, read_readings};
-use ioam_domain_file::{Extent, read_domain};
+use ioam_domain_file::read_domain;
 use ioam_node::admit;
 use ioam_plan::{Counters, Itinerary, Visit, plan};
 use ioam_test_rows::digits::{octets, text};
@@ -143,7 +143,7 @@ fn follows(alloc: Global, domain: &Domain, row: &Row) -> bool {
 
 // Whether they are in the domain of a file.
 fn holds_in(alloc: Global, file: &[u8], row: &Row) -> bool {
-    match read_domain(alloc, file, Extent::Whole) {
+    match read_domain(alloc, file) {
         Ok(domain) => follows(alloc, &domain, row),
         Err(_) => false,
     }

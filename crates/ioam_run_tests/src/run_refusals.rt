@@ -59,7 +59,7 @@ pub const REFUSALS: [Refusal; 12] = [
         ],
         domain: &[NODES, LINKS, PORTS, ROUTES, "[[flow]]\n"],
         readings: "a 0\n",
-        line: "domain flow 0 - too-many",
+        line: "domain flow 1 name missing",
     },
     Refusal {
         words: [
@@ -105,10 +105,10 @@ pub const REFUSALS: [Refusal; 12] = [
         words: RUN,
         domain: &[
             NODES,
-            "link = [ { name = \"ab\", from = \"a\", to = \"b\", out_id = 1, in_id = 2, delay = 0, mtu = 1280, tap = \"ab.pcap\" } ]\n",
+            "link = [ { name = \"ab\", from = \"a\", to = \"b\", out_id = 1, in_id = 2, delay = 0, mtu = 1280, tap = \"exports\" } ]\n",
         ],
         readings: "",
-        line: "domain link 1 tap too-many",
+        line: "names exports",
     },
     Refusal {
         words: RUN,

@@ -7,9 +7,16 @@ use Rattle.std.proofs.lemmas.Option.{slice_get-get_or}
 use Rattle.std.proofs.lemmas.List.{map-append, get_or_default, length-map, length-take-le, take_more}
 use Rattle.std.proofs.lemmas.List.Elements.{All-nil, All-cons, All-append, Contains-append_left, Contains-append_right, Contains-append_cases}
 use Rattle.ioam_outputs.specs.Names.{name_at, Repeats, AreApart}
+use Rattle.ioam_topo.specs.Domain.{links, ports}
+use Rattle.ioam_topo.specs.Keyed.{count_of, taps_of}
+use Rattle.ioam_topo.specs.declared.domain.Domain.{Domain}
+use Rattle.ioam_topo.specs.declared.ids.LinkId.{LinkId}
 use Rattle.ioam_topo.specs.declared.ids.PortId.{PortId}
+use Rattle.ioam_topo.specs.declared.parts.Link.{Link}
 use Rattle.ioam_topo.specs.declared.parts.Port.{Port}
-use Rattle.ioam_setting.specs.Names.{input_of, input_names, port_with, ports_from, input_ports, inputs_at, output_names, file_names}
+use Rattle.ioam_outlets.specs.Outlets.{tap_at, tapped_from, tapped, each_from, of_outlets}
+use Rattle.ioam_outlets.proofs.OutletsLaws.{length-tapped, each_from-slice}
+use Rattle.ioam_setting.specs.Names.{input_of, input_names, port_with, ports_from, input_ports, inputs_at, tap_name, tap_names, output_names, output_at, tap_name_at, file_names}
 
 -- one port more at the end
 pub ports_more : (place : ℕ) (ports : List Port) (port : Port)
@@ -82,12 +89,66 @@ inputs_from front (port ∷ ports) =
 pub inputs-input_ports : (ports : List Port) → inputs_at ports (input_ports ports) ≡ map (λ name. Some name) (input_names ports)
 inputs-input_ports ports = inputs_from [] ports
 
-pub length-output_names : (ports : List Port) (report exports : List ℕ) → length (output_names ports report exports) ≡ length ports + 2
-length-output_names ports report exports = omega (
+-- as many taps' captures as links with a tap
+one_tap : (tap : Option (List ℕ)) → length (tap_name tap) ≡ count_of tap
+one_tap None = refl
+one_tap (Some name) = refl
+
+as_many_taps : (links : List Link) → length (tap_names links) ≡ taps_of links
+as_many_taps [] = refl
+as_many_taps (link ∷ links) = omega (arith, length-append (tap_name link.tap) (tap_names links), one_tap link.tap, as_many_taps links)
+
+pub length-tap_names : (links : List Link) → length (tap_names links) ≡ length (tapped links)
+length-tap_names links = as_many_taps links ∙ sym (length-tapped links)
+
+-- a name for each output
+pub length-output_names : (ports : List Port) (links : List Link) (report exports : List ℕ)
+    → length (output_names ports links report exports) ≡ length ports + length (tapped links) + 2
+length-output_names ports links report exports = omega (
   arith,
-  length-append (map (λ (port : Port). port.output) ports) (report ∷ exports ∷ []),
+  length-append (map (λ (port : Port). port.output) ports) (tap_names links ++ report ∷ exports ∷ []),
   length-map ports (λ (port : Port). port.output),
+  length-append (tap_names links) (report ∷ exports ∷ []),
+  length-tap_names links,
 )
+
+-- the capture of the tap of the link at a place
+tap_one : (all : List Link) (place : ℕ) (link : Link) (tap : Option (List ℕ)) → slice_get all place ≡ Some link → link.tap ≡ tap
+    → map (λ (id : LinkId). tap_name_at all id.0) (tap_at place tap) ≡ tap_name tap
+tap_one all place link None found is = refl
+tap_one all place link (Some name) found is =
+    ap (λ (at : Option Link). option_map_or (λ (l : Link). option_map_or (λ n. n) l.tap []) at [] ∷ []) found
+    ∙ ap (λ (t : Option (List ℕ)). option_map_or (λ n. n) t [] ∷ []) is
+
+taps_from : (front links : List Link)
+    → map (λ (id : LinkId). tap_name_at (front ++ links) id.0) (tapped_from (length front) links) ≡ tap_names links
+taps_from front [] = refl
+taps_from front (link ∷ links) =
+    let all = front ++ link ∷ links in
+    let f : LinkId → List ℕ = λ id. tap_name_at all id.0 in
+    let there : slice_get all (length front) ≡ Some link
+    = slice_get-get_or all (length front) link (omega (arith, length-append front (link ∷ links)))
+    ∙ ap (λ (l : Link). Some l) (get_or-append_seam front link links link) in
+    let grown : (front ++ link ∷ []) ++ links ≡ all = append_assoc front (link ∷ []) links in
+    let count : length (front ++ link ∷ []) ≡ suc (length front) = omega (arith, length-append front (link ∷ [])) in
+    let P : ℕ → Type 0 = λ n. map (λ (id : LinkId). tap_name_at ((front ++ link ∷ []) ++ links) id.0) (tapped_from n links) ≡ tap_names links in
+    let Q : List Link → Type 0 = λ l. map (λ (id : LinkId). tap_name_at l id.0) (tapped_from (suc (length front)) links) ≡ tap_names links in
+    let behind : map f (tapped_from (suc (length front)) links) ≡ tap_names links
+    = subst Q grown (subst P count (taps_from (front ++ link ∷ []) links)) in
+    map-append f (tap_at (length front) link.tap) (tapped_from (suc (length front)) links)
+    ∙ ap (λ (l : List (List ℕ)). l ++ map f (tapped_from (suc (length front)) links)) (tap_one all (length front) link link.tap there refl)
+    ∙ ap (λ (l : List (List ℕ)). tap_name link.tap ++ l) behind
+
+-- the names of the outputs are the outputs' names, in their order
+pub outputs-of_outlets : (domain : Domain) (report exports : List ℕ)
+    → output_names (ports domain) (links domain) report exports
+    ≡ of_outlets domain (output_at (ports domain)) (tap_name_at (links domain)) report exports
+outputs-of_outlets domain report exports =
+    let tail = report ∷ exports ∷ [] in
+    let captures : each_from (length (ports domain)) 0 (output_at (ports domain)) ≡ map (λ (port : Port). port.output) (ports domain)
+    = each_from-slice (λ (at : Option Port). option_map_or (λ (port : Port). port.output) at []) (ports domain) in
+    ap (λ (l : List (List ℕ)). l ++ (tap_names (links domain) ++ tail)) (sym captures)
+    ∙ ap (λ (l : List (List ℕ)). each_from (length (ports domain)) 0 (output_at (ports domain)) ++ (l ++ tail)) (sym (taps_from [] (links domain)))
 
 -- these ports are below a number
 abbrev AreBelow : ℕ → List PortId → Type 0
@@ -207,35 +268,55 @@ outputs_differ (port ∷ ports) differ =
     = differ_behind (input_of port.input) (port.output ∷ flat_map names_of ports) regrouped in
     (λ found. rest.0 (among_ports ports port.output found), outputs_differ ports rest.1)
 
-module _ (ports : List Port) (report exports : List ℕ) where
-  -- the report and the exports are none of the ports' captures
-  apart_from_ports : Differ (report ∷ exports ∷ flat_map names_of ports)
-      → (name : List ℕ) → Contains (outputs_of ports) name → Contains (report ∷ exports ∷ []) name → ⊥
-  apart_from_ports differ name near far = differ_apart (report ∷ exports ∷ []) (flat_map names_of ports) differ name far (among_ports ports name near)
-
-  written_differ : Differ (report ∷ exports ∷ flat_map names_of ports) → Differ (output_names ports report exports)
-  written_differ differ =
-      differ_join (outputs_of ports) (report ∷ exports ∷ []) (outputs_differ ports differ.1.1) (
-        λ found. differ.0 (Contains-append_left (exports ∷ []) (flat_map names_of ports) report found),
-        (λ found. absurd (omega (arith, found.1)), tt),
-      )
-      (apart_from_ports differ)
-
--- names that are apart as all files are apart as outputs
-pub apart-outputs : (ports : List Port) (domain readings report exports : List ℕ)
-    → AreApart (file_names ports (domain ∷ readings ∷ report ∷ exports ∷ [])) → AreApart (output_names ports report exports)
-apart-outputs ports domain readings report exports apart =
-    let differ = differ_from_apart (file_names ports (domain ∷ readings ∷ report ∷ exports ∷ [])) apart in
-    apart_from_differ (output_names ports report exports) (written_differ ports report exports differ.1.1)
-
 -- the names before some
 differ_before : (front back : List (List ℕ)) → Differ (front ++ back) → Differ front
 differ_before [] back differ = tt
 differ_before (name ∷ front) back differ = (λ found. differ.0 (Contains-append_left front back name found), differ_before front back differ.1)
 
+-- the captures of the ports and of the taps, of which no two are equal
+module _ (ports : List Port) (links : List Link) (differ : Differ (flat_map names_of ports ++ tap_names links)) where
+  of_ports : Differ (flat_map names_of ports)
+  of_ports = differ_before (flat_map names_of ports) (tap_names links) differ
+
+  of_taps : Differ (tap_names links)
+  of_taps = differ_behind (flat_map names_of ports) (tap_names links) differ
+
+  -- no capture of what leaves is one of a tap
+  leaves_or_crosses : (name : List ℕ) → Contains (outputs_of ports) name → Contains (tap_names links) name → ⊥
+  leaves_or_crosses name near far = differ_apart (flat_map names_of ports) (tap_names links) differ name (among_ports ports name near) far
+
+module _ (ports : List Port) (links : List Link) (report exports : List ℕ)
+    (differ : Differ (report ∷ exports ∷ (flat_map names_of ports ++ tap_names links))) where
+  -- the report and the exports are none of the captures
+  none_of_captures : (name : List ℕ) → Contains (report ∷ exports ∷ []) name → Contains (flat_map names_of ports ++ tap_names links) name → ⊥
+  none_of_captures = differ_apart (report ∷ exports ∷ []) (flat_map names_of ports ++ tap_names links) differ
+
+  two_differ : Differ (report ∷ exports ∷ [])
+  two_differ = differ_before (report ∷ exports ∷ []) (flat_map names_of ports ++ tap_names links) differ
+
+  behind_differ : Differ (tap_names links ++ report ∷ exports ∷ [])
+  behind_differ = differ_join (tap_names links) (report ∷ exports ∷ []) (of_taps ports links differ.1.1) two_differ
+      (λ name near far. none_of_captures name far (Contains-append_right (flat_map names_of ports) (tap_names links) name near))
+
+  written_differ : Differ (output_names ports links report exports)
+  written_differ = differ_join (outputs_of ports) (tap_names links ++ report ∷ exports ∷ [])
+      (outputs_differ ports (of_ports ports links differ.1.1)) behind_differ
+      (λ name near far. ⊎_elim (λ (tap : Contains (tap_names links) name). leaves_or_crosses ports links differ.1.1 name near tap)
+      (λ (last : Contains (report ∷ exports ∷ []) name). none_of_captures name last
+      (Contains-append_left (flat_map names_of ports) (tap_names links) name (among_ports ports name near)))
+      (Contains-append_cases (tap_names links) (report ∷ exports ∷ []) name far))
+
+-- names that are apart as all files are apart as outputs
+pub apart-outputs : (ports : List Port) (links : List Link) (domain readings report exports : List ℕ)
+    → AreApart (file_names ports links (domain ∷ readings ∷ report ∷ exports ∷ [])) → AreApart (output_names ports links report exports)
+apart-outputs ports links domain readings report exports apart =
+    let differ = differ_from_apart (file_names ports links (domain ∷ readings ∷ report ∷ exports ∷ [])) apart in
+    apart_from_differ (output_names ports links report exports) (written_differ ports links report exports differ.1.1)
+
 -- names that are apart as all files are so by themselves where the words name them
-pub apart-words : (ports : List Port) (words : List (List ℕ)) → AreApart (file_names ports words) → AreApart words
-apart-words ports words apart = apart_from_differ words (differ_before words (flat_map names_of ports) (differ_from_apart (file_names ports words) apart))
+pub apart-words : (ports : List Port) (links : List Link) (words : List (List ℕ)) → AreApart (file_names ports links words) → AreApart words
+apart-words ports links words apart = apart_from_differ words
+    (differ_before words (flat_map names_of ports ++ tap_names links) (differ_from_apart (file_names ports links words) apart))
 
 -- the captures of the packets that arrive are among those of the ports, and differ where these do
 inputs_among : (ports : List Port) (name : List ℕ) → Contains (input_names ports) name → Contains (flat_map names_of ports) name
@@ -275,21 +356,35 @@ arrives_or_leaves (port ∷ ports) differ name near far =
     (first_or_behind port.output (outputs_of ports) name far))
     (Contains-append_cases own (input_names ports) name near)
 
-captures_differ : (ports : List Port) → Differ (flat_map names_of ports) → Differ (input_names ports ++ outputs_of ports)
-captures_differ ports differ =
-    differ_join (input_names ports) (outputs_of ports) (inputs_differ ports differ) (outputs_differ ports differ) (arrives_or_leaves ports differ)
+-- the captures of what arrives and those of the outputs, of which no two are equal
+module _ (ports : List Port) (links : List Link) where
+  captures : List (List ℕ)
+  captures = input_names ports ++ (outputs_of ports ++ tap_names links)
 
-captures_among : (ports : List Port) (name : List ℕ) → Contains (input_names ports ++ outputs_of ports) name → Contains (flat_map names_of ports) name
-captures_among ports name found =
-    ⊎_elim (inputs_among ports name) (among_ports ports name) (Contains-append_cases (input_names ports) (outputs_of ports) name found)
+  captures_differ : Differ (flat_map names_of ports ++ tap_names links) → Differ captures
+  captures_differ differ =
+      let own = of_ports ports links differ in
+      differ_join (input_names ports) (outputs_of ports ++ tap_names links) (inputs_differ ports own)
+      (differ_join (outputs_of ports) (tap_names links) (outputs_differ ports own) (of_taps ports links differ) (leaves_or_crosses ports links differ))
+      (λ name near far. ⊎_elim (λ (out : Contains (outputs_of ports) name). arrives_or_leaves ports own name near out)
+      (λ (tap : Contains (tap_names links) name). differ_apart (flat_map names_of ports) (tap_names links) differ name (inputs_among ports name near) tap)
+      (Contains-append_cases (outputs_of ports) (tap_names links) name far))
 
--- where all files are apart, so are those that the words name, the captures of what arrives and those of what leaves
-module _ (ports : List Port) (words : List (List ℕ)) (apart : AreApart (file_names ports words)) where
-  all_differ : Differ (words ++ flat_map names_of ports)
-  all_differ = differ_from_apart (file_names ports words) apart
+  captures_among : (name : List ℕ) → Contains captures name → Contains (flat_map names_of ports ++ tap_names links) name
+  captures_among name found =
+      ⊎_elim (λ (near : Contains (input_names ports) name). Contains-append_left (flat_map names_of ports) (tap_names links) name (inputs_among ports name near))
+      (λ (far : Contains (outputs_of ports ++ tap_names links) name). ⊎_elim
+      (λ (out : Contains (outputs_of ports) name). Contains-append_left (flat_map names_of ports) (tap_names links) name (among_ports ports name out))
+      (λ (tap : Contains (tap_names links) name). Contains-append_right (flat_map names_of ports) (tap_names links) name tap)
+      (Contains-append_cases (outputs_of ports) (tap_names links) name far))
+      (Contains-append_cases (input_names ports) (outputs_of ports ++ tap_names links) name found)
 
-  pub apart-with_captures : AreApart (words ++ (input_names ports ++ outputs_of ports))
-  apart-with_captures = apart_from_differ (words ++ (input_names ports ++ outputs_of ports))
-      (differ_join words (input_names ports ++ outputs_of ports) (differ_before words (flat_map names_of ports) all_differ)
-      (captures_differ ports (differ_behind words (flat_map names_of ports) all_differ))
-      (λ name near far. differ_apart words (flat_map names_of ports) all_differ name near (captures_among ports name far)))
+-- where all files are apart, so are those that the words name, the captures of what arrives and those of the outputs
+pub apart-with_captures : (ports : List Port) (links : List Link) (words : List (List ℕ)) → AreApart (file_names ports links words)
+    → AreApart (words ++ (input_names ports ++ (outputs_of ports ++ tap_names links)))
+apart-with_captures ports links words apart =
+    let all = flat_map names_of ports ++ tap_names links in
+    let differ : Differ (words ++ all) = differ_from_apart (file_names ports links words) apart in
+    apart_from_differ (words ++ captures ports links)
+    (differ_join words (captures ports links) (differ_before words all differ) (captures_differ ports links (differ_behind words all differ))
+    (λ name near far. differ_apart words all differ name near (captures_among ports links name far)))

@@ -5,7 +5,6 @@ use Rattle.ioam_clock.specs.Reading.{readings_of, node_names}
 use Rattle.ioam_clock.specs.declared.fault.ReadingsFault.{ReadingsFault}
 use Rattle.ioam_clock.specs.declared.sample.Sample.{Sample}
 use Rattle.ioam_desk.specs.Desk.{Writing, holds}
-use Rattle.ioam_domain_file.specs.declared.extent.Extent.{Extent}
 use Rattle.ioam_domain_file.specs.File.{IsDomainOf, HasFault, Agree}
 use Rattle.ioam_domain_file.proofs.FileLaws.{one_domain, one_fault, domain_or_fault}
 use Rattle.ioam_entries.specs.declared.fault.DomainFault.{DomainFault}
@@ -19,36 +18,36 @@ both : (held : Option (List ℕ)) (P Q : List ℕ → Type 0) → IsSomeAnd held
 both None P Q x y = absurd x
 both (Some octets) P Q x y = (octets, x, y)
 
-module _ (extent : Extent) (desk : Writing) (domain_file readings_file : List ℕ) where
+module _ (desk : Writing) (domain_file readings_file : List ℕ) where
   -- one domain
-  pub domains_agree : (a b : Domain) → HasDomain extent desk domain_file readings_file a → HasDomain extent desk domain_file readings_file b → Agree a b
+  pub domains_agree : (a b : Domain) → HasDomain desk domain_file readings_file a → HasDomain desk domain_file readings_file b → Agree a b
   domains_agree a b x y =
-      let it : (octets : List ℕ) × IsDomainOf extent octets a × IsDomainOf extent octets b
-      = both (holds desk domain_file) (λ o. IsDomainOf extent o a) (λ o. IsDomainOf extent o b) x y in
-      one_domain extent it.0 a b it.1 it.2
+      let it : (octets : List ℕ) × IsDomainOf octets a × IsDomainOf octets b
+      = both (holds desk domain_file) (λ o. IsDomainOf o a) (λ o. IsDomainOf o b) x y in
+      one_domain it.0 a b it.1 it.2
 
   -- one fault of the domain's file
-  pub one_domain_fault : (f g : DomainFault) → HasDomainFault extent desk domain_file readings_file f
-      → HasDomainFault extent desk domain_file readings_file g → f ≡ g
+  pub one_domain_fault : (f g : DomainFault) → HasDomainFault desk domain_file readings_file f
+      → HasDomainFault desk domain_file readings_file g → f ≡ g
   one_domain_fault f g x y =
-      let it : (octets : List ℕ) × HasFault extent octets f × HasFault extent octets g
-      = both (holds desk domain_file) (λ o. HasFault extent o f) (λ o. HasFault extent o g) x y in
-      one_fault extent it.0 f g it.1 it.2
+      let it : (octets : List ℕ) × HasFault octets f × HasFault octets g
+      = both (holds desk domain_file) (λ o. HasFault o f) (λ o. HasFault o g) x y in
+      one_fault it.0 f g it.1 it.2
 
   -- a fault of it, or a domain
-  pub fault_or_domain : (domain : Domain) (f : DomainFault) → HasDomainFault extent desk domain_file readings_file f
-      → HasDomain extent desk domain_file readings_file domain → ⊥
+  pub fault_or_domain : (domain : Domain) (f : DomainFault) → HasDomainFault desk domain_file readings_file f
+      → HasDomain desk domain_file readings_file domain → ⊥
   fault_or_domain domain f x y =
-      let it : (octets : List ℕ) × HasFault extent octets f × IsDomainOf extent octets domain
-      = both (holds desk domain_file) (λ o. HasFault extent o f) (λ o. IsDomainOf extent o domain) x y in
-      domain_or_fault extent it.0 domain f it.2 it.1
+      let it : (octets : List ℕ) × HasFault octets f × IsDomainOf octets domain
+      = both (holds desk domain_file) (λ o. HasFault o f) (λ o. IsDomainOf o domain) x y in
+      domain_or_fault it.0 domain f it.2 it.1
 
   same_names : (a b : Domain) → Agree a b → node_names a ≡ node_names b
   same_names a b agree = ap (λ (ns : List Node). map name_of_node ns) agree.same_nodes
 
   -- one fault of the readings
-  pub one_readings_fault : (f g : ReadingsFault) → HasReadingsFault extent desk domain_file readings_file f
-      → HasReadingsFault extent desk domain_file readings_file g → f ≡ g
+  pub one_readings_fault : (f g : ReadingsFault) → HasReadingsFault desk domain_file readings_file f
+      → HasReadingsFault desk domain_file readings_file g → f ≡ g
   one_readings_fault f g x y =
       let P : ReadingsFault → Domain → List ℕ → Type 0 = λ h d o. readings_of (node_names d) o ≡ Err h in
       let it : (octets : List ℕ) × P f x.domain octets × P g y.domain octets = both (holds desk readings_file) (P f x.domain) (P g y.domain) x.faulty y.faulty in
@@ -59,8 +58,8 @@ module _ (extent : Extent) (desk : Writing) (domain_file readings_file : List �
       cc
 
   -- a fault of them, or readings
-  pub fault_or_setting : (domain : Domain) (samples : List (List Sample)) (f : ReadingsFault) → HasReadingsFault extent desk domain_file readings_file f
-      → IsSetting extent desk domain_file readings_file domain samples → ⊥
+  pub fault_or_setting : (domain : Domain) (samples : List (List Sample)) (f : ReadingsFault) → HasReadingsFault desk domain_file readings_file f
+      → IsSetting desk domain_file readings_file domain samples → ⊥
   fault_or_setting domain samples f x y =
       let P : List ℕ → Type 0 = λ o. readings_of (node_names x.domain) o ≡ Err f in
       let Q : List ℕ → Type 0 = λ o. readings_of (node_names domain) o ≡ Ok samples in

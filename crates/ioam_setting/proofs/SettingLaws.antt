@@ -9,7 +9,6 @@ use Rattle.ioam_desk.specs.declared.fault.WholeFault.{WholeFault}
 use Rattle.ioam_desk.specs.declared.fault.WholeFault.TheVariants as whole
 use Rattle.ioam_desk.proofs.KeptLaws.{KeepsInputs-but}
 use Rattle.ioam_topo.specs.declared.domain.Domain.{Domain}
-use Rattle.ioam_domain_file.specs.declared.extent.Extent.{Extent}
 use Rattle.ioam_entries.specs.declared.fault.DomainFault.{DomainFault}
 use Rattle.ioam_setting.specs.Reads.{IsDomainRead, AreReadingsRead}
 use Rattle.ioam_setting.specs.Setting.{Refuses}
@@ -29,11 +28,11 @@ asks_next old mid new first second opened asks = (
       ∙ append_assoc old.asked (first ∷ []) (take asks.0 (second ∷ [])),
 )
 
-module _ (extent : Extent) (tells : Bool) (old mid new : Reading) (desk next : Writing) (domain_file readings_file : List ℕ) (domain : Domain) where
+module _ (tells : Bool) (old mid new : Reading) (desk next : Writing) (domain_file readings_file : List ℕ) (domain : Domain) where
   -- the domain was read, and the readings were refused
-  pub refuses_next : IsDomainRead tells old mid (holds desk domain_file) extent (Ok domain) → mid.side ≡ opened_side old.side domain_file → next ≡ desk
+  pub refuses_next : IsDomainRead tells old mid (holds desk domain_file) (Ok domain) → mid.side ≡ opened_side old.side domain_file → next ≡ desk
       → (why : Refusal) → AreReadingsRead tells mid new (holds next readings_file) (node_names domain) (Err why)
-      → Refuses extent desk domain_file readings_file tells old new why
+      → Refuses desk domain_file readings_file tells old new why
   refuses_next read opened same (refusal.Domain fault) refused = absurd refused
   refuses_next read opened same (refusal.Readings fault) refused = λ told. record {
     domain = domain;

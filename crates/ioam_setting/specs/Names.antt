@@ -1,9 +1,10 @@
--- The files of a run over a domain: the words of the command name four, and each port of the domain
--- the capture of the packets that leave by it and perhaps one of the packets that arrive at it.
+-- The files of a run over a domain: the words of the command name four, each port of the domain the capture of the
+-- packets that leave by it and perhaps one of the packets that arrive at it, and a link perhaps one of what crosses it.
 use Rattle.std.specs.Prelude.{ℕ, suc, List, [], ◌∷◌, ◌++◌, map, slice_get, Option, Some, None}
 use Rattle.std.specs.List.{flat_map}
 use Rattle.std.specs.Option.{option_map_or}
 use Rattle.ioam_topo.specs.declared.ids.PortId.{PortId}
+use Rattle.ioam_topo.specs.declared.parts.Link.{Link}
 use Rattle.ioam_topo.specs.declared.parts.Port.{Port}
 
 -- the capture of the packets that arrive at a port, if it has one
@@ -32,10 +33,26 @@ input_ports ports = ports_from 0 ports
 abbrev pub inputs_at : List Port → List PortId → List (Option (List ℕ))
 inputs_at ports ids = map (λ id. option_map_or (λ port. port.input) (slice_get ports id.0) None) ids
 
--- the files that are written: a capture for each port, in file order, the report and the exports
-abbrev pub output_names : List Port → List ℕ → List ℕ → List (List ℕ)
-output_names ports report exports = map (λ port. port.output) ports ++ report ∷ exports ∷ []
+-- the capture of a link's tap, if it has one
+abbrev pub tap_name : Option (List ℕ) → List (List ℕ)
+tap_name None = []
+tap_name (Some name) = name ∷ []
 
--- all files, in the order in which equal ones are looked for: those of the words, then those of each port
-abbrev pub file_names : List Port → List (List ℕ) → List (List ℕ)
-file_names ports words = words ++ flat_map (λ port. input_of port.input ++ port.output ∷ []) ports
+-- those of all links, in file order
+abbrev pub tap_names : List Link → List (List ℕ)
+tap_names links = flat_map (λ link. tap_name link.tap) links
+
+-- the files that are written: a capture for each port and one for each link with a tap, in file order, the report and the exports
+abbrev pub output_names : List Port → List Link → List ℕ → List ℕ → List (List ℕ)
+output_names ports links report exports = map (λ port. port.output) ports ++ (tap_names links ++ report ∷ exports ∷ [])
+
+-- the capture of the packets that leave by the port at a place, and that of the tap of the link at a place
+abbrev pub output_at : List Port → ℕ → List ℕ
+output_at ports place = option_map_or (λ port. port.output) (slice_get ports place) []
+
+abbrev pub tap_name_at : List Link → ℕ → List ℕ
+tap_name_at links place = option_map_or (λ link. option_map_or (λ name. name) link.tap []) (slice_get links place) []
+
+-- all files, in the order in which equal ones are looked for: those of the words, those of each port, those of the taps
+abbrev pub file_names : List Port → List Link → List (List ℕ) → List (List ℕ)
+file_names ports links words = words ++ (flat_map (λ port. input_of port.input ++ port.output ∷ []) ports ++ tap_names links)

@@ -3,7 +3,6 @@ use Rattle.std.specs.Prelude.{◌≡◌, ℕ, ⊤, Bool, IsTrue, IsSomeAnd, List
 use Rattle.ioam_clock.specs.Reading.{readings_of}
 use Rattle.ioam_clock.specs.declared.sample.Sample.{Sample}
 use Rattle.ioam_desk.specs.Desk.{Reading, Rose}
-use Rattle.ioam_domain_file.specs.declared.extent.Extent.{Extent}
 use Rattle.ioam_domain_file.specs.File.{IsDomainOf, HasFault}
 use Rattle.ioam_topo.specs.declared.domain.Domain.{Domain}
 use Rattle.ioam_setting.specs.declared.setting.Refusal.{Refusal}
@@ -11,12 +10,12 @@ use Rattle.ioam_setting.specs.declared.setting.Refusal.TheVariants as refusal
 
 module _ (tells : Bool) (old new : Reading) (held : Option (List ℕ)) where
   -- the octets that the domain file holds, of which so much is read, are of this domain, or have this first fault
-  abbrev pub IsDomainRead : Extent → Result Domain Refusal → Type 0
-  IsDomainRead extent (Ok domain) = IsTrue tells → IsSomeAnd held (λ octets. IsDomainOf extent octets domain)
-  IsDomainRead extent (Err (refusal.Domain fault)) = IsTrue tells → IsSomeAnd held (λ octets. HasFault extent octets fault)
-  IsDomainRead extent (Err (refusal.Readings fault)) = ⊥
-  IsDomainRead extent (Err refusal.ReadFault) = Rose old.side.faults new.side.faults
-  IsDomainRead extent (Err refusal.NoMemory) = ⊤
+  abbrev pub IsDomainRead : Result Domain Refusal → Type 0
+  IsDomainRead (Ok domain) = IsTrue tells → IsSomeAnd held (λ octets. IsDomainOf octets domain)
+  IsDomainRead (Err (refusal.Domain fault)) = IsTrue tells → IsSomeAnd held (λ octets. HasFault octets fault)
+  IsDomainRead (Err (refusal.Readings fault)) = ⊥
+  IsDomainRead (Err refusal.ReadFault) = Rose old.side.faults new.side.faults
+  IsDomainRead (Err refusal.NoMemory) = ⊤
 
   -- the octets that the file of readings holds say these samples of the nodes of these names, or have this first fault
   abbrev pub AreReadingsRead : List (List ℕ) → Result (List (List Sample)) Refusal → Type 0

@@ -4,22 +4,20 @@ use Rattle.ioam_clock.specs.Reading.{readings_of, node_names}
 use Rattle.ioam_clock.specs.declared.fault.ReadingsFault.{ReadingsFault}
 use Rattle.ioam_clock.specs.declared.sample.Sample.{Sample}
 use Rattle.ioam_desk.specs.Desk.{Reading, Writing, Rose, holds}
-use Rattle.ioam_domain_file.specs.declared.extent.Extent.{Extent}
 use Rattle.ioam_domain_file.specs.File.{IsDomainOf, HasFault}
 use Rattle.ioam_topo.specs.declared.domain.Domain.{Domain}
 use Rattle.ioam_entries.specs.declared.fault.DomainFault.{DomainFault}
 use Rattle.ioam_setting.specs.declared.setting.Refusal.{Refusal}
 use Rattle.ioam_setting.specs.declared.setting.Refusal.TheVariants as refusal
 
--- the domain file is read to this extent: whole, or without flows, traces and taps
-module _ (extent : Extent) (desk : Writing) (domain_file readings_file : List ℕ) where
+module _ (desk : Writing) (domain_file readings_file : List ℕ) where
   -- the domain file holds this domain
   abbrev pub HasDomain : Domain → Type 0
-  HasDomain domain = IsSomeAnd (holds desk domain_file) (λ octets. IsDomainOf extent octets domain)
+  HasDomain domain = IsSomeAnd (holds desk domain_file) (λ octets. IsDomainOf octets domain)
 
   -- it is faulty, and this is its first fault
   abbrev pub HasDomainFault : DomainFault → Type 0
-  HasDomainFault fault = IsSomeAnd (holds desk domain_file) (λ octets. HasFault extent octets fault)
+  HasDomainFault fault = IsSomeAnd (holds desk domain_file) (λ octets. HasFault octets fault)
 
   -- the two files hold this domain, and these samples of each of its nodes
   pub record IsSetting (domain : Domain) (samples : List (List Sample)) : Type 0 where

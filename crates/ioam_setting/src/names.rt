@@ -1,11 +1,13 @@
 //! The names of a run's files.
 ghost use Rattle.std.specs.Prelude.{◌≡◌, ◌<◌, ◌∷◌, ◌++◌, [], length, map, Some, All, IfOk, OnOk};
-ghost use Rattle.ioam_topo.specs.Domain.{ports};
-ghost use Rattle.ioam_setting.specs.Names.{input_of, input_names, port_with, input_ports, inputs_at, output_names, file_names};
+ghost use Rattle.std.specs.List.{flat_map};
+ghost use Rattle.ioam_outlets.specs.Outlets.{outlet_count};
+ghost use Rattle.ioam_topo.specs.Domain.{links, ports};
+ghost use Rattle.ioam_setting.specs.Names.{input_of, input_names, port_with, input_ports, inputs_at, tap_name, tap_names, output_names, file_names};
 
 use ioam_base::memory::NoMemory;
 use ioam_desk::Name;
-use ioam_topo::{Domain, PortId};
+use ioam_topo::{Domain, Link, Port, PortId};
 use std::alloc::Global;
 
 // Puts a copy of a name behind these.
@@ -67,20 +69,51 @@ pub fn input_ports(alloc: Global, domain: &Domain) -> Result<Vec<PortId>, NoMemo
     Ok(ids)
 }
 
-/// The files that are written, in the order in which they are opened: the captures of the packets
-/// that leave by the ports, in file order, the report and the exports.
+// Puts a copy of the name of a link's tap behind these, if it has one.
+fn push_tap(alloc: Global, names: &mut Vec<Name>, link: &Link) -> Result<(), NoMemory>
+    ensures { OnOk result (names.new.items ≡ names.old.items ++ tap_name link.now.tap) }
+{
+    match &link.tap {
+        Some(name) => push_name(alloc, names, name),
+        None => Ok(()),
+    }
+}
+
+// Puts copies of the names of the links' taps behind these.
+fn push_taps(alloc: Global, names: &mut Vec<Name>, links: &[Link]) -> Result<(), NoMemory>
+    ensures { OnOk result (names.new.items ≡ names.old.items ++ tap_names links.now) }
+{
+    'links: for link in links {
+        push_tap(alloc, names, link)?;
+    }
+    Ok(())
+}
+
+// Copies of the names of the captures of what leaves by these ports.
+fn outputs_of(alloc: Global, ports: &[Port]) -> Result<Vec<Name>, NoMemory>
+    ensures { IfOk result (λ names. names.items ≡ map (λ port. port.output) ports.now) }
+{
+    let mut names = Vec::new(alloc);
+    'ports: for port in ports {
+        push_name(alloc, &mut names, &port.output)?;
+    }
+    Ok(names)
+}
+
+/// The files that are written, in the order in which they are opened, which is that of the run's
+/// outputs (`ioam_outlets`): the captures of the packets that leave by the ports, in file order, those
+/// of the links' taps, in file order, the report and the exports.
 pub fn output_names(
     alloc: Global,
     domain: &Domain,
     report: &Name,
     exports: &Name,
 ) -> Result<Vec<Name>, NoMemory>
-    ensures value { IfOk result (λ names. names.items ≡ output_names (ports domain.now) report.now exports.now) }
+    ensures value { IfOk result (λ names. names.items ≡ output_names (ports domain.now) (links domain.now) report.now exports.now) }
+    ensures sized { IfOk result (λ names. length names.items ≡ outlet_count domain.now) }
 {
-    let mut names = Vec::new(alloc);
-    'ports: for port in domain.ports() {
-        push_name(alloc, &mut names, &port.output)?;
-    }
+    let mut names = outputs_of(alloc, domain.ports())?;
+    push_taps(alloc, &mut names, domain.links())?;
     push_name(alloc, &mut names, report)?;
     push_name(alloc, &mut names, exports)?;
     Ok(names)
@@ -104,7 +137,20 @@ fn word_names(
     Ok(words)
 }
 
-/// All files, in the order in which equal ones are looked for: those of the words, then those of each port.
+// Puts copies of the names of these ports' captures behind these, for each port that of what arrives, if it has one,
+// and that of what leaves.
+fn push_captures(alloc: Global, names: &mut Vec<Name>, ports: &[Port]) -> Result<(), NoMemory>
+    ensures { OnOk result (names.new.items ≡ names.old.items ++ flat_map (λ port. input_of port.input ++ port.output ∷ []) ports.now) }
+{
+    'ports: for port in ports {
+        push_input(alloc, names, &port.input)?;
+        push_name(alloc, names, &port.output)?;
+    }
+    Ok(())
+}
+
+/// All files, in the order in which equal ones are looked for: those of the words, those of each port,
+/// those of the links' taps.
 pub fn file_names(
     alloc: Global,
     domain: &Domain,
@@ -114,12 +160,10 @@ pub fn file_names(
     exports: &Name,
 ) -> Result<Vec<Name>, NoMemory>
     ensures { IfOk result (λ names. names.items
-        ≡ file_names (ports domain.now) (domain_file.now ∷ readings_file.now ∷ report.now ∷ exports.now ∷ [])) }
+        ≡ file_names (ports domain.now) (links domain.now) (domain_file.now ∷ readings_file.now ∷ report.now ∷ exports.now ∷ [])) }
 {
     let mut names = word_names(alloc, domain_file, readings_file, report, exports)?;
-    'ports: for port in domain.ports() {
-        push_input(alloc, &mut names, &port.input)?;
-        push_name(alloc, &mut names, &port.output)?;
-    }
+    push_captures(alloc, &mut names, domain.ports())?;
+    push_taps(alloc, &mut names, domain.links())?;
     Ok(names)
 }

@@ -6,14 +6,13 @@ ghost use Rattle.ioam_desk.specs.Desk.{SameBut, holds, opened_side, opened_each}
 ghost use Rattle.ioam_desk.specs.Kept.{KeepsInputs};
 ghost use Rattle.ioam_desk.specs.Whole.{ReadsWhole, FailsWhole};
 ghost use Rattle.ioam_entries.specs.declared.fault.DomainFault.{DomainFault};
-ghost use Rattle.ioam_domain_file.specs.File.{IsPlainly};
 ghost use Rattle.ioam_setting.specs.Reads.{IsDomainRead, AreReadingsRead};
 ghost use Rattle.ioam_setting.specs.Setting.{IsSetting, Refuses};
 ghost use Rattle.ioam_setting.specs.declared.setting.Refusal.{Refusal};
 
 use ioam_clock::{ReadWhy, Readings, ReadingsFault, ReadingsRefused, read_readings};
 use ioam_desk::{Desk, Name, WholeFault, read_whole};
-use ioam_domain_file::{DomainFault, DomainRefused, Extent, long_file, read_domain};
+use ioam_domain_file::{DomainFault, DomainRefused, long_file, read_domain};
 use ioam_topo::Domain;
 use std::alloc::Global;
 
@@ -57,14 +56,8 @@ fn read_file<D: Desk>(
 }
 
 // Reads the domain file.
-fn read_domain_file<D: Desk>(
-    alloc: Global,
-    desk: &mut D,
-    name: &Name,
-    extent: Extent,
-) -> Result<Domain, Refusal>
-    ensures read { IsDomainRead D.tells (D.reading desk.old) (D.reading desk.new) (holds (D.writing desk.old) name.now) extent result }
-    ensures plain { IfOk result (IsPlainly extent) }
+fn read_domain_file<D: Desk>(alloc: Global, desk: &mut D, name: &Name) -> Result<Domain, Refusal>
+    ensures read { IsDomainRead D.tells (D.reading desk.old) (D.reading desk.new) (holds (D.writing desk.old) name.now) result }
     ensures side { OnOk result ((D.reading desk.new).side ≡ opened_side (D.reading desk.old).side name.now) }
     ensures ended { OnOk result (IsTrue D.tells → IsTrue ((D.reading desk.new).ended (D.reading desk.old).side.slots)) }
     ensures asked { AsksFront (D.reading desk.old).side.asked (D.reading desk.new).side.asked (name.now ∷ []) }
@@ -77,7 +70,7 @@ fn read_domain_file<D: Desk>(
         Err(WholeFault::Failed) => return Err(Refusal::ReadFault),
         Err(WholeFault::NoMemory) => return Err(Refusal::NoMemory),
     };
-    match read_domain(alloc, &octets, extent) {
+    match read_domain(alloc, &octets) {
         Ok(domain) => Ok(domain),
         Err(DomainRefused::Fault(fault)) => Err(Refusal::Domain(fault)),
         Err(DomainRefused::NoMemory) => Err(Refusal::NoMemory),
@@ -119,19 +112,17 @@ fn read_readings_file<D: Desk>(
     }
 }
 
-/// Reads the domain file (at most 1 MiB), whole or that of a domain without flows, extra traces and taps, and then the
-/// readings of the domain's nodes (at most 64 MiB). The readings are opened only once the domain was read.
+/// Reads the domain file (at most 1 MiB) and then the readings of the domain's nodes (at most 64 MiB).
+/// The readings are opened only once the domain was read.
 pub fn read_setting<D: Desk>(
     alloc: Global,
     desk: &mut D,
     domain: &Name,
     readings: &Name,
-    extent: Extent,
 ) -> Result<Setting, Refusal>
     ensures read { IfOk result (λ setting. IsTrue D.tells
-        → IsSetting extent (D.writing desk.old) domain.now readings.now setting.domain setting.readings) }
-    ensures plain { IfOk result (λ setting. IsPlainly extent setting.domain) }
-    ensures refused { IfErr result (Refuses extent (D.writing desk.old) domain.now readings.now D.tells (D.reading desk.old) (D.reading desk.new)) }
+        → IsSetting (D.writing desk.old) domain.now readings.now setting.domain setting.readings) }
+    ensures refused { IfErr result (Refuses (D.writing desk.old) domain.now readings.now D.tells (D.reading desk.old) (D.reading desk.new)) }
     ensures side { OnOk result ((D.reading desk.new).side ≡ opened_each (D.reading desk.old).side (domain.now ∷ readings.now ∷ [])) }
     ensures ended { OnOk result (IsTrue D.tells → IsTrue ((D.reading desk.new).ended (D.reading desk.old).side.slots)
         × IsTrue ((D.reading desk.new).ended ((D.reading desk.old).side.slots + 1))) }
@@ -142,7 +133,7 @@ pub fn read_setting<D: Desk>(
         → AsksFront (D.reading desk.old).side.asked (D.reading desk.new).side.asked (domain.now ∷ []) }
     ensures outputs { D.writing desk.new ≡ D.writing desk.old }
 {
-    let domain = read_domain_file(alloc, desk, domain, extent)?;
+    let domain = read_domain_file(alloc, desk, domain)?;
     let readings = read_readings_file(alloc, desk, &domain, readings)?;
     Ok(Setting { domain, readings })
 }

@@ -4,7 +4,6 @@ use Rattle.std.specs.Prelude.{map, option_map, option_and_then, slice_get}
 use Rattle.ioam_answer.specs.declared.outcome.Outcome.{Outcome}
 use Rattle.ioam_answer.specs.declared.outcome.Outcome.TheVariants as outcome
 use Rattle.ioam_desk.specs.Desk.{Reading, Writing, Rose, holds}
-use Rattle.ioam_domain_file.specs.declared.extent.Extent.TheVariants.{Whole}
 use Rattle.ioam_domain_file.specs.File.{Agree}
 use Rattle.ioam_outputs.proofs.NamesLaws.{first_unique}
 use Rattle.ioam_outputs.specs.Names.{AreApart, name_at}
@@ -92,11 +91,11 @@ one_unfit words a b agree n m (inr (inr x)) (inr (inr y)) =
     x.3.2 ∙ ap (name_at (node_files words)) same ∙ sym y.3.2
 
 module _ (words : List (List ℕ)) (desk : Writing) where
-  agree : (a b : Domain) → HasDomain Whole desk (domain_file words) (readings_file words) a
-      → HasDomain Whole desk (domain_file words) (readings_file words) b → Agree a b
-  agree a b x y = domains_agree Whole desk (domain_file words) (readings_file words) a b x y
+  agree : (a b : Domain) → HasDomain desk (domain_file words) (readings_file words) a
+      → HasDomain desk (domain_file words) (readings_file words) b → Agree a b
+  agree a b x y = domains_agree desk (domain_file words) (readings_file words) a b x y
 
-  unfit_or_ready : (a : Domain) (n : List ℕ) → HasDomain Whole desk (domain_file words) (readings_file words) a → IsUnfit words a n
+  unfit_or_ready : (a : Domain) (n : List ℕ) → HasDomain desk (domain_file words) (readings_file words) a → IsUnfit words a n
       → (seat : Seat) → IsReady words desk seat → ⊥
   unfit_or_ready a n has unfit seat ready =
       unfit_or_at words a seat.domain (agree a seat.domain has ready.setting.has_domain) n seat.node seat.inward unfit ready.at ready.apart
@@ -118,8 +117,8 @@ module _ (words : List (List ℕ)) (desk : Writing) where
 
   Asked-unique : (a b : Outcome) → Asked words desk a → Asked words desk b → a ≡ b
   Asked-unique outcome.Done outcome.Done x y = refl
-  Asked-unique outcome.Done (outcome.Domain g) x y = absurd (fault_or_domain Whole desk (domain_file words) (readings_file words) x.0.domain g y x.1.setting.has_domain)
-  Asked-unique outcome.Done (outcome.Readings g) x y = absurd (fault_or_setting Whole desk (domain_file words) (readings_file words) x.0.domain x.0.samples g y x.1.setting)
+  Asked-unique outcome.Done (outcome.Domain g) x y = absurd (fault_or_domain desk (domain_file words) (readings_file words) x.0.domain g y x.1.setting.has_domain)
+  Asked-unique outcome.Done (outcome.Readings g) x y = absurd (fault_or_setting desk (domain_file words) (readings_file words) x.0.domain x.0.samples g y x.1.setting)
   Asked-unique outcome.Done (outcome.Names m) x y = absurd (unfit_or_ready y.0 m y.2.has_domain y.3 x.0 x.1)
   Asked-unique outcome.Done (outcome.Capture m place g) x y = absurd (whole_or_faulty place g (one_ending x.0 y.1.0 x.1 y.1.1 Ended (Faulty place g) x.2 y.1.2))
   Asked-unique outcome.Done (outcome.Packets m) x y = absurd (long_or_input y.0 x.0 y.1 x.1 Ended y.3 x.2)
@@ -129,6 +128,7 @@ module _ (words : List (List ℕ)) (desk : Writing) where
   Asked-unique outcome.Done outcome.ReadFault x y = absurd y
   Asked-unique outcome.Done outcome.WriteFault x y = absurd y
   Asked-unique outcome.Done outcome.NoMemory x y = absurd y
+<<<<<<< HEAD
   Asked-unique (outcome.Domain f) outcome.Done x y = absurd (fault_or_domain Whole desk (domain_file words) (readings_file words) y.0.domain f x y.1.setting.has_domain)
   Asked-unique (outcome.Domain f) (outcome.Domain g) x y = ap outcome.Domain (one_domain_fault Whole desk (domain_file words) (readings_file words) f g x y)
   Asked-unique (outcome.Domain f) (outcome.Readings g) x y = absurd (fault_or_domain Whole desk (domain_file words) (readings_file words) y.domain f x y.has_domain)
@@ -137,10 +137,19 @@ module _ (words : List (List ℕ)) (desk : Writing) where
   Asked-unique (outcome.Domain f) (outcome.Packets m) x y = absurd (fault_or_domain Whole desk (domain_file words) (readings_file words) y.0.domain f x y.1.setting.has_domain)
   Asked-unique (outcome.Domain f) (outcome.Exports spot cut) x y = absurd y
   Asked-unique (outcome.Domain f) (outcome.Records most) x y = absurd y
+=======
+  Asked-unique (outcome.Domain f) outcome.Done x y = absurd (fault_or_domain desk (domain_file words) (readings_file words) y.0.domain f x y.1.setting.has_domain)
+  Asked-unique (outcome.Domain f) (outcome.Domain g) x y = ap outcome.Domain (one_domain_fault desk (domain_file words) (readings_file words) f g x y)
+  Asked-unique (outcome.Domain f) (outcome.Readings g) x y = absurd (fault_or_domain desk (domain_file words) (readings_file words) y.domain f x y.has_domain)
+  Asked-unique (outcome.Domain f) (outcome.Names m) x y = absurd (fault_or_domain desk (domain_file words) (readings_file words) y.0 f x y.2.has_domain)
+  Asked-unique (outcome.Domain f) (outcome.Capture m place g) x y = absurd (fault_or_domain desk (domain_file words) (readings_file words) y.1.0.domain f x y.1.1.setting.has_domain)
+  Asked-unique (outcome.Domain f) (outcome.Packets m) x y = absurd (fault_or_domain desk (domain_file words) (readings_file words) y.0.domain f x y.1.setting.has_domain)
+>>>>>>> dfb8f52 (wip)
   Asked-unique (outcome.Domain f) outcome.Usage x y = absurd y
   Asked-unique (outcome.Domain f) outcome.ReadFault x y = absurd y
   Asked-unique (outcome.Domain f) outcome.WriteFault x y = absurd y
   Asked-unique (outcome.Domain f) outcome.NoMemory x y = absurd y
+<<<<<<< HEAD
   Asked-unique (outcome.Readings f) outcome.Done x y = absurd (fault_or_setting Whole desk (domain_file words) (readings_file words) y.0.domain y.0.samples f x y.1.setting)
   Asked-unique (outcome.Readings f) (outcome.Domain g) x y = absurd (fault_or_domain Whole desk (domain_file words) (readings_file words) x.domain g y x.has_domain)
   Asked-unique (outcome.Readings f) (outcome.Readings g) x y = ap outcome.Readings (one_readings_fault Whole desk (domain_file words) (readings_file words) f g x y)
@@ -149,13 +158,21 @@ module _ (words : List (List ℕ)) (desk : Writing) where
   Asked-unique (outcome.Readings f) (outcome.Packets m) x y = absurd (fault_or_setting Whole desk (domain_file words) (readings_file words) y.0.domain y.0.samples f x y.1.setting)
   Asked-unique (outcome.Readings f) (outcome.Exports spot cut) x y = absurd y
   Asked-unique (outcome.Readings f) (outcome.Records most) x y = absurd y
+=======
+  Asked-unique (outcome.Readings f) outcome.Done x y = absurd (fault_or_setting desk (domain_file words) (readings_file words) y.0.domain y.0.samples f x y.1.setting)
+  Asked-unique (outcome.Readings f) (outcome.Domain g) x y = absurd (fault_or_domain desk (domain_file words) (readings_file words) x.domain g y x.has_domain)
+  Asked-unique (outcome.Readings f) (outcome.Readings g) x y = ap outcome.Readings (one_readings_fault desk (domain_file words) (readings_file words) f g x y)
+  Asked-unique (outcome.Readings f) (outcome.Names m) x y = absurd (fault_or_setting desk (domain_file words) (readings_file words) y.0 y.1 f x y.2)
+  Asked-unique (outcome.Readings f) (outcome.Capture m place g) x y = absurd (fault_or_setting desk (domain_file words) (readings_file words) y.1.0.domain y.1.0.samples f x y.1.1.setting)
+  Asked-unique (outcome.Readings f) (outcome.Packets m) x y = absurd (fault_or_setting desk (domain_file words) (readings_file words) y.0.domain y.0.samples f x y.1.setting)
+>>>>>>> dfb8f52 (wip)
   Asked-unique (outcome.Readings f) outcome.Usage x y = absurd y
   Asked-unique (outcome.Readings f) outcome.ReadFault x y = absurd y
   Asked-unique (outcome.Readings f) outcome.WriteFault x y = absurd y
   Asked-unique (outcome.Readings f) outcome.NoMemory x y = absurd y
   Asked-unique (outcome.Names n) outcome.Done x y = absurd (unfit_or_ready x.0 n x.2.has_domain x.3 y.0 y.1)
-  Asked-unique (outcome.Names n) (outcome.Domain g) x y = absurd (fault_or_domain Whole desk (domain_file words) (readings_file words) x.0 g y x.2.has_domain)
-  Asked-unique (outcome.Names n) (outcome.Readings g) x y = absurd (fault_or_setting Whole desk (domain_file words) (readings_file words) x.0 x.1 g y x.2)
+  Asked-unique (outcome.Names n) (outcome.Domain g) x y = absurd (fault_or_domain desk (domain_file words) (readings_file words) x.0 g y x.2.has_domain)
+  Asked-unique (outcome.Names n) (outcome.Readings g) x y = absurd (fault_or_setting desk (domain_file words) (readings_file words) x.0 x.1 g y x.2)
   Asked-unique (outcome.Names n) (outcome.Names m) x y = ap outcome.Names (one_unfit words x.0 y.0 (agree x.0 y.0 x.2.has_domain y.2.has_domain) n m x.3 y.3)
   Asked-unique (outcome.Names n) (outcome.Capture m place g) x y = absurd (unfit_or_ready x.0 n x.2.has_domain x.3 y.1.0 y.1.1)
   Asked-unique (outcome.Names n) (outcome.Packets m) x y = absurd (unfit_or_ready x.0 n x.2.has_domain x.3 y.0 y.1)
@@ -166,8 +183,8 @@ module _ (words : List (List ℕ)) (desk : Writing) where
   Asked-unique (outcome.Names n) outcome.WriteFault x y = absurd y
   Asked-unique (outcome.Names n) outcome.NoMemory x y = absurd y
   Asked-unique (outcome.Capture n at f) outcome.Done x y = absurd (whole_or_faulty at f (sym (one_ending x.1.0 y.0 x.1.1 y.1 (Faulty at f) Ended x.1.2 y.2)))
-  Asked-unique (outcome.Capture n at f) (outcome.Domain g) x y = absurd (fault_or_domain Whole desk (domain_file words) (readings_file words) x.1.0.domain g y x.1.1.setting.has_domain)
-  Asked-unique (outcome.Capture n at f) (outcome.Readings g) x y = absurd (fault_or_setting Whole desk (domain_file words) (readings_file words) x.1.0.domain x.1.0.samples g y x.1.1.setting)
+  Asked-unique (outcome.Capture n at f) (outcome.Domain g) x y = absurd (fault_or_domain desk (domain_file words) (readings_file words) x.1.0.domain g y x.1.1.setting.has_domain)
+  Asked-unique (outcome.Capture n at f) (outcome.Readings g) x y = absurd (fault_or_setting desk (domain_file words) (readings_file words) x.1.0.domain x.1.0.samples g y x.1.1.setting)
   Asked-unique (outcome.Capture n at f) (outcome.Names m) x y = absurd (unfit_or_ready y.0 m y.2.has_domain y.3 x.1.0 x.1.1)
   Asked-unique (outcome.Capture n at f) (outcome.Capture m place g) x y =
       let same : Faulty at f ≡ Faulty place g = one_ending x.1.0 y.1.0 x.1.1 y.1.1 (Faulty at f) (Faulty place g) x.1.2 y.1.2 in
@@ -181,8 +198,8 @@ module _ (words : List (List ℕ)) (desk : Writing) where
   Asked-unique (outcome.Capture n at f) outcome.WriteFault x y = absurd y
   Asked-unique (outcome.Capture n at f) outcome.NoMemory x y = absurd y
   Asked-unique (outcome.Packets n) outcome.Done x y = absurd (long_or_input x.0 y.0 x.1 y.1 Ended x.3 y.2)
-  Asked-unique (outcome.Packets n) (outcome.Domain g) x y = absurd (fault_or_domain Whole desk (domain_file words) (readings_file words) x.0.domain g y x.1.setting.has_domain)
-  Asked-unique (outcome.Packets n) (outcome.Readings g) x y = absurd (fault_or_setting Whole desk (domain_file words) (readings_file words) x.0.domain x.0.samples g y x.1.setting)
+  Asked-unique (outcome.Packets n) (outcome.Domain g) x y = absurd (fault_or_domain desk (domain_file words) (readings_file words) x.0.domain g y x.1.setting.has_domain)
+  Asked-unique (outcome.Packets n) (outcome.Readings g) x y = absurd (fault_or_setting desk (domain_file words) (readings_file words) x.0.domain x.0.samples g y x.1.setting)
   Asked-unique (outcome.Packets n) (outcome.Names m) x y = absurd (unfit_or_ready y.0 m y.2.has_domain y.3 x.0 x.1)
   Asked-unique (outcome.Packets n) (outcome.Capture m place g) x y = absurd (long_or_input x.0 y.1.0 x.1 y.1.1 (Faulty place g) x.3 y.1.2)
   Asked-unique (outcome.Packets n) (outcome.Packets m) x y = ap outcome.Packets (x.2 ∙ same_limit x.0 y.0 x.1 y.1 ∙ sym y.2)

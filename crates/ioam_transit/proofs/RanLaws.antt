@@ -8,7 +8,6 @@ use Rattle.ioam_desk.specs.Asked.{AsksFront}
 use Rattle.ioam_desk.specs.Desk.{Side, Reading, Writing, Rose, holds, opened_each}
 use Rattle.ioam_desk.specs.Kept.{KeepsInputs}
 use Rattle.ioam_desk.proofs.KeptLaws.{KeepsInputs-then, KeepsInputs-same, KeepsOutputs-same}
-use Rattle.ioam_domain_file.specs.declared.extent.Extent.TheVariants.{Whole}
 use Rattle.ioam_entries.specs.declared.fault.DomainFault.{DomainFault}
 use Rattle.ioam_run.specs.Run.{FileCause, HoldsAll, AreWhole}
 use Rattle.ioam_run.specs.Run as capture
@@ -55,7 +54,7 @@ module _ (tells : Bool) (words : List (List ℕ)) (old_in mid_in : Reading) (ope
 
   -- nothing more was opened
   module _ (old : Writing) (domain : Domain) (samples : List (List Sample))
-      (setting : IsTrue tells → IsSetting Whole old (domain_file words) (readings_file words) domain samples) where
+      (setting : IsTrue tells → IsSetting old (domain_file words) (readings_file words) domain samples) where
     none_owes : Owes tells words old_in mid_in old old outcome.NoMemory
     none_owes = record {
       read_fault = λ is. absurd (cc);
@@ -180,12 +179,12 @@ module _ (tells : Bool) (words : List (List ℕ)) (old_in mid_in : Reading) (ope
   untouched old new_in new most (outcome.Readings fault) so = absurd so
 
   module _ (old : Writing) (new_in : Reading) (new : Writing) (domain : Domain) (samples : List (List Sample))
-      (setting : IsTrue tells → IsSetting Whole old (domain_file words) (readings_file words) domain samples) (answer : Outcome)
+      (setting : IsTrue tells → IsSetting old (domain_file words) (readings_file words) domain samples) (answer : Outcome)
       (at : RanAt tells words mid_in new_in old new domain samples answer) where
     ready : IsTrue tells → IsReady words old at.seat
     ready told = record {
-      setting = let P : Domain → Type 0 = λ d. IsSetting Whole old (domain_file words) (readings_file words) d at.seat.samples in
-          let Q : List (List Sample) → Type 0 = λ s. IsSetting Whole old (domain_file words) (readings_file words) domain s in
+      setting = let P : Domain → Type 0 = λ d. IsSetting old (domain_file words) (readings_file words) d at.seat.samples in
+          let Q : List (List Sample) → Type 0 = λ s. IsSetting old (domain_file words) (readings_file words) domain s in
           subst P (sym at.same_domain) (subst Q (sym at.same_samples) (setting told));
       at = at.at;
       apart = at.ran.apart;
@@ -232,7 +231,7 @@ module _ (tells : Bool) (words : List (List ℕ)) (old_in mid_in : Reading) (ope
     }
 
   pub ends_owes : (old mid new : Writing) (new_in : Reading) (domain : Domain) (samples : List (List Sample)) → mid ≡ old
-      → (IsTrue tells → IsSetting Whole old (domain_file words) (readings_file words) domain samples) → (answer : Outcome)
+      → (IsTrue tells → IsSetting old (domain_file words) (readings_file words) domain samples) → (answer : Outcome)
       → Ends tells words mid_in new_in mid new domain samples answer → Owes tells words old_in new_in old new answer
   ends_owes old mid new new_in domain samples same setting answer ends =
       let P : Writing → Type 0 = λ w. Ends tells words mid_in new_in w new domain samples answer in

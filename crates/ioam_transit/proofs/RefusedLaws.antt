@@ -7,7 +7,6 @@ use Rattle.ioam_desk.specs.Asked.{AsksFront}
 use Rattle.ioam_desk.specs.Desk.{Reading, Writing, Rose}
 use Rattle.ioam_desk.specs.Kept.{KeepsInputs}
 use Rattle.ioam_desk.proofs.KeptLaws.{KeepsOutputs-same}
-use Rattle.ioam_domain_file.specs.declared.extent.Extent.TheVariants.{Whole}
 use Rattle.ioam_entries.specs.declared.fault.DomainFault.{DomainFault}
 use Rattle.ioam_setting.specs.Setting.{Refuses}
 use Rattle.ioam_setting.specs.declared.setting.Refusal.{Refusal}
@@ -26,7 +25,7 @@ asks_wider old new a b c (suc (suc n), asked) = (2, asked ∙ ap (λ (rest : Lis
 
 module _ (tells : Bool) (words : List (List ℕ)) (old_in new_in : Reading) (old : Writing) where
   abbrev Refused : Refusal → Type 0
-  Refused why = Refuses Whole old (domain_file words) (readings_file words) tells old_in new_in why
+  Refused why = Refuses old (domain_file words) (readings_file words) tells old_in new_in why
 
   cause : (why : Refusal) → Refused why → IsTrue tells → HasCause words old_in new_in old old (refused_as why)
   cause (refusal.Domain fault) refuses told = refuses told

@@ -8,7 +8,6 @@ use Rattle.ioam_answer.specs.declared.outcome.Outcome.TheVariants as outcome
 use Rattle.ioam_desk.specs.Asked.{AsksFront}
 use Rattle.ioam_desk.specs.Desk.{Reading, Writing, Rose, holds}
 use Rattle.ioam_desk.specs.Kept.{KeepsInputs, KeepsOutputs}
-use Rattle.ioam_domain_file.specs.declared.extent.Extent.TheVariants.{Whole as WholeFile}
 use Rattle.ioam_entries.specs.declared.fault.DomainFault.{DomainFault}
 use Rattle.ioam_outputs.specs.Names.{name_at, AreApart, IsFirstRepeat}
 use Rattle.ioam_pcap.specs.Entries.{Entry}
@@ -95,7 +94,7 @@ module _ (words : List (List ℕ)) where
     -- DOMAIN holds the domain, READINGS the readings of its nodes, NODE and LINK say where the packets come, and no two files
     -- have one name
     pub record IsReady (seat : Seat) : Type 0 where
-      pub setting : IsSetting WholeFile desk (domain_file words) (readings_file words) seat.domain seat.samples
+      pub setting : IsSetting desk (domain_file words) (readings_file words) seat.domain seat.samples
       pub at : IsAt seat.domain seat.node seat.inward
       pub apart : AreApart (node_files words)
 
@@ -106,9 +105,9 @@ module _ (words : List (List ℕ)) where
     -- What the words and the files ask for, where nothing fails: the first of the refusals in their order whose condition
     -- holds, or Done.
     abbrev pub Asked : Outcome → Type 0
-    Asked (outcome.Domain fault) = HasDomainFault WholeFile desk (domain_file words) (readings_file words) fault
-    Asked (outcome.Readings fault) = HasReadingsFault WholeFile desk (domain_file words) (readings_file words) fault
-    Asked (outcome.Names name) = (domain : Domain) × (samples : _) × IsSetting WholeFile desk (domain_file words) (readings_file words) domain samples
+    Asked (outcome.Domain fault) = HasDomainFault desk (domain_file words) (readings_file words) fault
+    Asked (outcome.Readings fault) = HasReadingsFault desk (domain_file words) (readings_file words) fault
+    Asked (outcome.Names name) = (domain : Domain) × (samples : _) × IsSetting desk (domain_file words) (readings_file words) domain samples
         × IsUnfit domain name
     Asked (outcome.Packets limit) = (seat : Seat) × IsReady seat × (limit ≡ seat.domain.packets)
         × IsSomeAnd (holds desk (input_file words)) (IsLong seat.domain.packets)

@@ -5,7 +5,6 @@ ghost use Rattle.ioam_answer.specs.declared.outcome.Outcome.{Outcome};
 ghost use Rattle.ioam_desk.specs.Asked.{AsksFront};
 ghost use Rattle.ioam_desk.specs.Desk.{Rose, opened_each};
 ghost use Rattle.ioam_desk.specs.Kept.{KeepsInputs, KeepsOutputs};
-ghost use Rattle.ioam_domain_file.specs.declared.extent.Extent.{Extent};
 ghost use Rattle.ioam_entries.specs.declared.fault.DomainFault.{DomainFault};
 ghost use Rattle.ioam_outputs.specs.Names.{AreApart};
 ghost use Rattle.ioam_setting.specs.Setting.{IsSetting, Refuses};
@@ -21,7 +20,6 @@ use crate::post::Post;
 use crate::words::{inward_of, node_files};
 use ioam_answer::{Outcome, names_outcome};
 use ioam_desk::{Desk, Name};
-use ioam_domain_file::Extent;
 use ioam_outputs::first_repeat;
 use ioam_run::run_capture;
 use ioam_setting::{Refusal, Setting, read_setting};
@@ -78,8 +76,8 @@ fn run_words<D: Desk>(alloc: Global, words: &[Name], desk: &mut D) -> Outcome
 fn read_words<D: Desk>(alloc: Global, words: &[Name], desk: &mut D) -> Result<Setting, Refusal>
     requires { length words.now ≡ 9 }
     ensures read { IfOk result (λ setting. IsTrue D.tells
-        → IsSetting Extent.Whole (D.writing desk.old) (domain_file words.now) (readings_file words.now) setting.domain setting.readings) }
-    ensures refused { IfErr result (Refuses Extent.Whole (D.writing desk.old) (domain_file words.now) (readings_file words.now) D.tells (D.reading desk.old) (D.reading desk.new)) }
+        → IsSetting (D.writing desk.old) (domain_file words.now) (readings_file words.now) setting.domain setting.readings) }
+    ensures refused { IfErr result (Refuses (D.writing desk.old) (domain_file words.now) (readings_file words.now) D.tells (D.reading desk.old) (D.reading desk.new)) }
     ensures side { OnOk result ((D.reading desk.new).side ≡ opened_each (D.reading desk.old).side (domain_file words.now ∷ readings_file words.now ∷ [])) }
     ensures ended { OnOk result (IsTrue D.tells → IsTrue ((D.reading desk.new).ended (D.reading desk.old).side.slots)
         × IsTrue ((D.reading desk.new).ended ((D.reading desk.old).side.slots + 1))) }
@@ -89,7 +87,7 @@ fn read_words<D: Desk>(alloc: Global, words: &[Name], desk: &mut D) -> Result<Se
     ensures kept { KeepsInputs (D.reading desk.old) (D.reading desk.new) }
     ensures outputs { D.writing desk.new ≡ D.writing desk.old }
 {
-    read_setting(alloc, desk, &words[1], &words[2], Extent::Whole)
+    read_setting(alloc, desk, &words[1], &words[2])
 }
 
 // Runs the node that the words name in a domain that was read.

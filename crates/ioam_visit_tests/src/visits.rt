@@ -4,7 +4,7 @@ use crate::rows::{ENDS, Noted, Row, Stop, domain_texts};
 use crate::tunnel_rows::tunnelled;
 use ioam_base::memory::NoMemory;
 use ioam_clock::{Readings, read_readings};
-use ioam_domain_file::{Extent, read_domain};
+use ioam_domain_file::read_domain;
 use ioam_test_rows::digits::{octets, text};
 use ioam_topo::Domain;
 use ioam_visit::{NodeNote, NodeRoom};
@@ -91,7 +91,7 @@ fn holds_in(alloc: Global, domain: &Domain, row: &Row) -> bool {
 
 // Whether a row is so in the domain of a file.
 fn holds_by(alloc: Global, file: &[u8], row: &Row) -> bool {
-    match read_domain(alloc, file, Extent::Whole) {
+    match read_domain(alloc, file) {
         Ok(domain) => holds_in(alloc, &domain, row),
         Err(_) => false,
     }

@@ -3,7 +3,7 @@ use Rattle.std.proofs.lemmas.List.{length-map}
 use Rattle.ioam_desk.specs.Desk.{holds}
 use Rattle.ioam_outputs.specs.Names.{AreApart}
 use Rattle.ioam_setting.proofs.NamesLaws.{apart-outputs}
-use Rattle.ioam_topo.specs.Domain.{ports}
+use Rattle.ioam_topo.specs.Domain.{links, ports}
 use Rattle.ioam_traffic.specs.declared.halt.Halt.TheVariants as halt
 use Rattle.ioam_domain.specs.Run.{domain_file, readings_file, report_file, exports_file, run_outputs, run_inputs}
 use Rattle.ioam_domain.proofs.WordsLaws.{taken_name, finishes_alike}
@@ -13,7 +13,7 @@ pub run_traffic-requires-clause-apart : goal.run_traffic-requires-clause-apart
 run_traffic-requires-clause-apart g c =
     let words = c.args.words.now in
     let is : c.deref-3.result.now ≡ run_outputs words c.args.domain.now = c.deref-3.ensures.value ∙ c.in-Ok-run_outputs.ensures in
-    subst AreApart (sym is) (apart-outputs (ports c.args.domain.now) (domain_file words) (readings_file words) (report_file words) (exports_file words) c.requires.apart)
+    subst AreApart (sym is) (apart-outputs (ports c.args.domain.now) (links c.args.domain.now) (domain_file words) (readings_file words) (report_file words) (exports_file words) c.requires.apart)
 
 pub returns-in-Broken-clause-ends : goal.returns-in-Broken-clause-ends
 returns-in-Broken-clause-ends g c =

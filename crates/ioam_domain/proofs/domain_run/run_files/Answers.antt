@@ -2,7 +2,7 @@ use Rattle.std.proofs.Common.{◌≡◌, ℕ, List, [], ◌∷◌, IfOk, ap, ◌
 use Rattle.ioam_outputs.proofs.NamesLaws.{found_name}
 use Rattle.ioam_outputs.specs.Names.{name_at}
 use Rattle.ioam_setting.specs.Names.{file_names}
-use Rattle.ioam_topo.specs.Domain.{ports}
+use Rattle.ioam_topo.specs.Domain.{links, ports}
 use Rattle.ioam_domain.specs.Run.{word_files}
 use Rattle.ioam_domain.proofs.domain_run.run_files.Goals as goal
 
@@ -13,7 +13,7 @@ returns c =
     let two = c.index-words-2.result in
     let four = c.index-words-4.result in
     let five = c.index-words-5.result in
-    let P : List (List ℕ) → Type 0 = λ files. IfOk c.file_names.result (λ names. names.items ≡ file_names (ports c.args.domain.now) files) in
+    let P : List (List ℕ) → Type 0 = λ files. IfOk c.file_names.result (λ names. names.items ≡ file_names (ports c.args.domain.now) (links c.args.domain.now) files) in
     let named : (one ∷ two ∷ four ∷ five ∷ []) ≡ word_files words
     = ap (λ (n : List ℕ). n ∷ two ∷ four ∷ five ∷ []) (found_name words 1 one c.index-words-1.is (omega (arith, c.requires)))
     ∙ ap (λ (n : List ℕ). name_at words 1 ∷ n ∷ four ∷ five ∷ []) (found_name words 2 two c.index-words-2.is (omega (arith, c.requires)))

@@ -10,14 +10,13 @@ use Rattle.ioam_domain_file.proofs.reading.read_telemetry.Goals as goal
 pub returns-in_err-rows : goal.returns-in_err-rows
 returns-in_err-rows c =
     let p = err_from_is_err_and c.from_residual.result c.from_residual.ensures.1 in
-    rw (p.1, p.2) (gives_first c.in_err-rows.field-0.0 _ _ _ _ _ (sym (telemetry_same (table_view c.args.top.now) c.args.nodes.now c.args.extent _ _
-    c.requires.most_flows c.requires.most_extras c.requires.holds)) c.in_err-rows.ensures)
+    rw (p.1, p.2) (gives_first c.in_err-rows.field-0.0 _ _ _ _ _ (sym (telemetry_same (table_view c.args.top.now) c.args.nodes.now c.requires.holds)) c.in_err-rows.ensures)
 
 pub returns-in_err-flows : goal.returns-in_err-flows
 returns-in_err-flows c =
     let p = err_from_is_err_and c.from_residual-in_err-flows.result c.from_residual-in_err-flows.ensures.1 in
     rw (p.1, p.2) (gives_same c.in_err-flows.field-0.0 _ _ _ _ (behind_none _ _ _ c.in_ok-rows.ensures.0
-    (telemetry_same (table_view c.args.top.now) c.args.nodes.now c.args.extent _ _ c.requires.most_flows c.requires.most_extras c.requires.holds)) c.in_err-flows.ensures)
+    (telemetry_same (table_view c.args.top.now) c.args.nodes.now c.requires.holds)) c.in_err-flows.ensures)
 
 pub new-requires-clause-sound_data : goal.new-requires-clause-sound_data
 new-requires-clause-sound_data c = data_sound c.args.nodes.now.names (data_entries (table_view c.args.top.now)) c.in_ok-rows.rows.items.items c.in_ok-rows.ensures.1.items
@@ -25,7 +24,7 @@ new-requires-clause-sound_data c = data_sound c.args.nodes.now.names (data_entri
 pub returns : goal.returns
 returns c = (
   none_of_two _ _ _ c.in_ok-rows.ensures.0 c.in_ok-flows.ensures.0
-      (telemetry_same (table_view c.args.top.now) c.args.nodes.now c.args.extent _ _ c.requires.most_flows c.requires.most_extras c.requires.holds),
-  telemetry_holds (table_view c.args.top.now) c.args.nodes.now c.args.extent _ c.new.result c.in_ok-rows.rows c.in_ok-flows.flows c.requires.most_flows c.new.ensures.rows c.new.ensures.flows
+      (telemetry_same (table_view c.args.top.now) c.args.nodes.now c.requires.holds),
+  telemetry_holds (table_view c.args.top.now) c.args.nodes.now c.new.result c.in_ok-rows.rows c.in_ok-flows.flows c.new.ensures.rows c.new.ensures.flows
       c.in_ok-rows.ensures.1 c.in_ok-flows.ensures.1,
 )

@@ -11,7 +11,7 @@ pub returns-in_err-readings-clause-refused :
     goal.returns-in_err-readings-clause-refused
 returns-in_err-readings-clause-refused g c =
     let p = err_from_is_err_and c.from_residual-in_err-readings.result c.from_residual-in_err-readings.ensures.1 in
-    rw (p.1, p.2) (refuses_next c.args.extent g.D.Desk.tells (g.D.Desk.reading c.args.desk.now) (g.D.Desk.reading c.read_domain_file.new.desk)
+    rw (p.1, p.2) (refuses_next g.D.Desk.tells (g.D.Desk.reading c.args.desk.now) (g.D.Desk.reading c.read_domain_file.new.desk)
     (g.D.Desk.reading c.read_readings_file.new.desk) (g.D.Desk.writing c.args.desk.now) (g.D.Desk.writing c.read_domain_file.new.desk)
     c.args.domain.now c.args.readings.now c.in_ok-domain.domain c.in_ok-domain.ensures.read c.in_ok-domain.ensures.side c.in_ok-domain.ensures.outputs
     c.in_err-readings.field-0.0 c.in_err-readings.ensures.read)
