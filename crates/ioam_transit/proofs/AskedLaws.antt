@@ -128,44 +128,26 @@ module _ (words : List (List ℕ)) (desk : Writing) where
   Asked-unique outcome.Done outcome.ReadFault x y = absurd y
   Asked-unique outcome.Done outcome.WriteFault x y = absurd y
   Asked-unique outcome.Done outcome.NoMemory x y = absurd y
-<<<<<<< HEAD
-  Asked-unique (outcome.Domain f) outcome.Done x y = absurd (fault_or_domain Whole desk (domain_file words) (readings_file words) y.0.domain f x y.1.setting.has_domain)
-  Asked-unique (outcome.Domain f) (outcome.Domain g) x y = ap outcome.Domain (one_domain_fault Whole desk (domain_file words) (readings_file words) f g x y)
-  Asked-unique (outcome.Domain f) (outcome.Readings g) x y = absurd (fault_or_domain Whole desk (domain_file words) (readings_file words) y.domain f x y.has_domain)
-  Asked-unique (outcome.Domain f) (outcome.Names m) x y = absurd (fault_or_domain Whole desk (domain_file words) (readings_file words) y.0 f x y.2.has_domain)
-  Asked-unique (outcome.Domain f) (outcome.Capture m place g) x y = absurd (fault_or_domain Whole desk (domain_file words) (readings_file words) y.1.0.domain f x y.1.1.setting.has_domain)
-  Asked-unique (outcome.Domain f) (outcome.Packets m) x y = absurd (fault_or_domain Whole desk (domain_file words) (readings_file words) y.0.domain f x y.1.setting.has_domain)
-  Asked-unique (outcome.Domain f) (outcome.Exports spot cut) x y = absurd y
-  Asked-unique (outcome.Domain f) (outcome.Records most) x y = absurd y
-=======
   Asked-unique (outcome.Domain f) outcome.Done x y = absurd (fault_or_domain desk (domain_file words) (readings_file words) y.0.domain f x y.1.setting.has_domain)
   Asked-unique (outcome.Domain f) (outcome.Domain g) x y = ap outcome.Domain (one_domain_fault desk (domain_file words) (readings_file words) f g x y)
   Asked-unique (outcome.Domain f) (outcome.Readings g) x y = absurd (fault_or_domain desk (domain_file words) (readings_file words) y.domain f x y.has_domain)
   Asked-unique (outcome.Domain f) (outcome.Names m) x y = absurd (fault_or_domain desk (domain_file words) (readings_file words) y.0 f x y.2.has_domain)
   Asked-unique (outcome.Domain f) (outcome.Capture m place g) x y = absurd (fault_or_domain desk (domain_file words) (readings_file words) y.1.0.domain f x y.1.1.setting.has_domain)
   Asked-unique (outcome.Domain f) (outcome.Packets m) x y = absurd (fault_or_domain desk (domain_file words) (readings_file words) y.0.domain f x y.1.setting.has_domain)
->>>>>>> dfb8f52 (wip)
+  Asked-unique (outcome.Domain f) (outcome.Exports spot cut) x y = absurd y
+  Asked-unique (outcome.Domain f) (outcome.Records most) x y = absurd y
   Asked-unique (outcome.Domain f) outcome.Usage x y = absurd y
   Asked-unique (outcome.Domain f) outcome.ReadFault x y = absurd y
   Asked-unique (outcome.Domain f) outcome.WriteFault x y = absurd y
   Asked-unique (outcome.Domain f) outcome.NoMemory x y = absurd y
-<<<<<<< HEAD
-  Asked-unique (outcome.Readings f) outcome.Done x y = absurd (fault_or_setting Whole desk (domain_file words) (readings_file words) y.0.domain y.0.samples f x y.1.setting)
-  Asked-unique (outcome.Readings f) (outcome.Domain g) x y = absurd (fault_or_domain Whole desk (domain_file words) (readings_file words) x.domain g y x.has_domain)
-  Asked-unique (outcome.Readings f) (outcome.Readings g) x y = ap outcome.Readings (one_readings_fault Whole desk (domain_file words) (readings_file words) f g x y)
-  Asked-unique (outcome.Readings f) (outcome.Names m) x y = absurd (fault_or_setting Whole desk (domain_file words) (readings_file words) y.0 y.1 f x y.2)
-  Asked-unique (outcome.Readings f) (outcome.Capture m place g) x y = absurd (fault_or_setting Whole desk (domain_file words) (readings_file words) y.1.0.domain y.1.0.samples f x y.1.1.setting)
-  Asked-unique (outcome.Readings f) (outcome.Packets m) x y = absurd (fault_or_setting Whole desk (domain_file words) (readings_file words) y.0.domain y.0.samples f x y.1.setting)
-  Asked-unique (outcome.Readings f) (outcome.Exports spot cut) x y = absurd y
-  Asked-unique (outcome.Readings f) (outcome.Records most) x y = absurd y
-=======
   Asked-unique (outcome.Readings f) outcome.Done x y = absurd (fault_or_setting desk (domain_file words) (readings_file words) y.0.domain y.0.samples f x y.1.setting)
   Asked-unique (outcome.Readings f) (outcome.Domain g) x y = absurd (fault_or_domain desk (domain_file words) (readings_file words) x.domain g y x.has_domain)
   Asked-unique (outcome.Readings f) (outcome.Readings g) x y = ap outcome.Readings (one_readings_fault desk (domain_file words) (readings_file words) f g x y)
   Asked-unique (outcome.Readings f) (outcome.Names m) x y = absurd (fault_or_setting desk (domain_file words) (readings_file words) y.0 y.1 f x y.2)
   Asked-unique (outcome.Readings f) (outcome.Capture m place g) x y = absurd (fault_or_setting desk (domain_file words) (readings_file words) y.1.0.domain y.1.0.samples f x y.1.1.setting)
   Asked-unique (outcome.Readings f) (outcome.Packets m) x y = absurd (fault_or_setting desk (domain_file words) (readings_file words) y.0.domain y.0.samples f x y.1.setting)
->>>>>>> dfb8f52 (wip)
+  Asked-unique (outcome.Readings f) (outcome.Exports spot cut) x y = absurd y
+  Asked-unique (outcome.Readings f) (outcome.Records most) x y = absurd y
   Asked-unique (outcome.Readings f) outcome.Usage x y = absurd y
   Asked-unique (outcome.Readings f) outcome.ReadFault x y = absurd y
   Asked-unique (outcome.Readings f) outcome.WriteFault x y = absurd y
