@@ -4,10 +4,11 @@ use Rattle.std.specs.Prelude.{map}
 use Rattle.std.specs.List.{AllZip}
 use Rattle.std.proofs.lemmas.List.{map-append, length-map}
 use Rattle.ioam_desk.specs.Desk.{Reading, Writing}
-use Rattle.ioam_forward.specs.Fate.{Frame}
+use Rattle.ioam_clock.specs.declared.sample.Sample.{Sample}
+use Rattle.ioam_fates.specs.Fate.{Frame}
+use Rattle.ioam_fates.specs.Texts.{way_of}
 use Rattle.ioam_forward.proofs.OneFateLaws.{AreFates-length}
 use Rattle.ioam_forward.specs.Forwarding.{Forwards, IsOf, taken}
-use Rattle.ioam_forward.specs.Texts.{way_of, ways_of}
 use Rattle.ioam_forward.specs.declared.forwarding.Forwarding.{Forwarding}
 use Rattle.ioam_merge.specs.Merging as merging
 use Rattle.ioam_merge.specs.Merging.{Begins, IsFile, FilesBegin, Row, Merging, Comes}
@@ -28,20 +29,16 @@ use Rattle.ioam_pcap.specs.Link.{is_ethernet}
 use Rattle.ioam_traffic.specs.Traffic.{Course, ArePassed, frame_of, frames_of, port_at}
 use Rattle.ioam_traffic.specs.Running.{Coming, Fronts, Halted, Running, Runs}
 use Rattle.ioam_traffic.specs.declared.progress.Progress.{Progress}
-use Rattle.ioam_traffic.proofs.FrontsLaws.{fronts_so_far}
-
--- the sums are those of some arrivals
-pub Forwards-of : (domain : Domain) (frames : List Frame) (texts : List (List ℕ)) (gathered : Forwarding) → Forwards domain frames texts gathered → IsOf domain gathered
-Forwards-of domain frames texts gathered forwards = record { ways = ways_of forwards.fates; stands = forwards.sums; plain = forwards.plain }
+use Rattle.ioam_traffic.proofs.FrontsLaws.{fronts_so}
 
 -- as many as the frames
-pub Forwards-count : (domain : Domain) (frames : List Frame) (texts : List (List ℕ)) (gathered : Forwarding) → Forwards domain frames texts gathered
-    → taken gathered ≡ length frames
-Forwards-count domain frames texts gathered forwards = omega (
+pub Forwards-count : (opens : Bool) (domain : Domain) (readings : List (List Sample)) (frames : List Frame) (texts : List (List ℕ)) (gathered : Forwarding)
+    → Forwards opens domain readings frames texts gathered → taken gathered ≡ length frames
+Forwards-count opens domain readings frames texts gathered forwards = omega (
   arith,
   forwards.sums.packets,
-  length-map forwards.fates way_of,
-  AreFates-length domain frames forwards.fates forwards.are,
+  length-map (forwards.told ++ forwards.waiting) way_of,
+  AreFates-length domain readings frames (forwards.told ++ forwards.waiting) forwards.are,
 )
 
 -- one record more
@@ -55,12 +52,12 @@ module _ (tells : Bool) (course : Course) (Were : List Arrival → Type 0) (outp
   pub Runs-count : taken gathered ≡ length runs.taken
   Runs-count = omega (
     arith,
-    Forwards-count course.domain (frames_of course.ports runs.taken) runs.texts gathered runs.forwards,
+    Forwards-count course.opens course.domain course.readings (frames_of course.ports runs.taken) runs.texts gathered runs.forwards,
     length-map runs.taken (frame_of course.ports),
   )
 
   pub Runs-of : IsOf course.domain gathered
-  Runs-of = Forwards-of course.domain (frames_of course.ports runs.taken) runs.texts gathered runs.forwards
+  Runs-of = runs.forwards.of
 
   -- something else is known of what was taken
   pub Runs-so : (Are : List Arrival → Type 0) → Are runs.taken → Runs tells course Are outputs gathered tellers
@@ -86,23 +83,24 @@ module _ (tells : Bool) (course : Course) (Were : List Arrival → Type 0) (outp
     few = runs.few;
   }
 
-  -- one record more was taken
-  pub Runs-take : (Are : List Arrival → Type 0) (one : Arrival) (new : Forwarding) (later : List Output) (added : List (List ℕ)) (port : PortId) (ethernet : Bool)
-      → Are (runs.taken ++ one ∷ []) → Adds tellers later added → port ≡ port_at course.ports one.capture → ethernet ≡ is_ethernet one.link
-      → ((frames : List Frame) (so_far : List (List ℕ)) → Forwards course.domain frames so_far gathered
-      → Forwards course.domain (frames ++ record { port = port; ethernet = ethernet; entry = one.entry } ∷ []) (said_more so_far added) new)
-      → taken gathered < course.domain.packets → Runs tells course Are outputs new later
-  Runs-take Are one new later added port ethernet are adds at link gathers room =
+  -- one record more was taken, and waits
+  pub Runs-take : (Are : List Arrival → Type 0) (one : Arrival) (new : Forwarding) (port : PortId) (ethernet : Bool)
+      → Are (runs.taken ++ one ∷ []) → port ≡ port_at course.ports one.capture → ethernet ≡ is_ethernet one.link
+      → ((opens : Bool) (frames : List Frame) (so_far : List (List ℕ)) → Forwards opens course.domain course.readings frames so_far gathered
+      → Forwards opens course.domain course.readings (frames ++ record { port = port; ethernet = ethernet; entry = one.entry } ∷ []) so_far new)
+      → taken gathered < course.domain.packets → Runs tells course Are outputs new tellers
+  Runs-take Are one new port ethernet are at link gathers room =
       let frames = frames_of course.ports runs.taken in
-      let P : PortId → Bool → Type 0 = λ p e. Forwards course.domain (frames ++ record { port = p; ethernet = e; entry = one.entry } ∷ []) (said_more runs.texts added) new in
-      let Q : List Frame → Type 0 = λ fs. Forwards course.domain fs (said_more runs.texts added) new in
+      let P : PortId → Bool → Type 0 = λ p e.
+      Forwards course.opens course.domain course.readings (frames ++ record { port = p; ethernet = e; entry = one.entry } ∷ []) runs.texts new in
+      let Q : List Frame → Type 0 = λ fs. Forwards course.opens course.domain course.readings fs runs.texts new in
       record {
         taken = runs.taken ++ one ∷ [];
-        texts = said_more runs.texts added;
+        texts = runs.texts;
         are = are;
-        told = AreTold-adds tells outputs course.first course.names tellers later runs.texts added runs.told adds;
+        told = runs.told;
         forwards = subst Q (sym (frames-push course.ports runs.taken one))
-            (subst (λ p. P p (is_ethernet one.link)) at (subst (λ e. P port e) link (gathers frames runs.texts runs.forwards)));
+            (subst (λ p. P p (is_ethernet one.link)) at (subst (λ e. P port e) link (gathers course.opens frames runs.texts runs.forwards)));
         few = omega (arith, room, Runs-count, pushed runs.taken one);
       }
     where
@@ -110,17 +108,26 @@ module _ (tells : Bool) (course : Course) (Were : List Arrival → Type 0) (outp
       pushed [] x = refl
       pushed (a ∷ arrivals) x = omega (arith, pushed arrivals x)
 
+  -- what waited was told
+  pub Runs-tell : (new : Forwarding) (later : List Output) (added : List (List ℕ)) → Adds tellers later added
+      → ((frames : List Frame) (so_far : List (List ℕ)) → Forwards course.opens course.domain course.readings frames so_far gathered
+      → Forwards course.opens course.domain course.readings frames (said_more so_far added) new) → Runs tells course Were outputs new later
+  Runs-tell new later added adds gathers = record {
+    taken = runs.taken;
+    texts = said_more runs.texts added;
+    are = runs.are;
+    told = AreTold-adds tells outputs course.first course.names tellers later runs.texts added runs.told adds;
+    forwards = gathers (frames_of course.ports runs.taken) runs.texts runs.forwards;
+    few = runs.few;
+  }
+
   -- each output holds a front of its text
   pub Runs-fronts : (now : Writing) → FilesBegin course.lanes.contents runs.taken → HoldAllFronts now course.names runs.texts → Fronts tells course now
   Runs-fronts now begin fronts = record {
     taken = runs.taken;
     begin = begin;
     few = runs.few;
-    hold = record {
-      fates = runs.forwards.fates;
-      become = runs.forwards.are;
-      held = fronts_so_far now course.names course.domain runs.forwards.fates (subst (HoldAllFronts now course.names) runs.forwards.texts_are fronts);
-    };
+    hold = fronts_so course.domain course.readings course.opens now course.names (frames_of course.ports runs.taken) runs.texts gathered runs.forwards fronts;
   }
 
   -- as nothing was written since

@@ -1,12 +1,12 @@
 -- From what stopped the traffic to how it ends.
-use Rattle.std.proofs.Common.{◌≡◌, ℕ, Bool, IsTrue, List, ◌∙◌, ap, inr, arith}
+use Rattle.std.proofs.Common.{◌≡◌, ℕ, ◌≤◌, Bool, IsTrue, List, ◌∙◌, ap, inr, arith}
 use Rattle.ioam_desk.specs.Desk.{Reading, Writing, Side}
 use Rattle.ioam_desk.specs.Kept.{WritesFrom}
-use Rattle.ioam_forward.specs.Fate.{Frame}
-use Rattle.ioam_forward.specs.Forwarding.{Forwards}
+use Rattle.ioam_fates.specs.Fate.{Frame}
+use Rattle.ioam_forward.specs.Forwarding.{Forwards, IsOf, taken as count_taken}
 use Rattle.ioam_forward.specs.declared.forwarding.Forwarding.{Forwarding}
 use Rattle.ioam_forward.proofs.OneFateLaws.{AreFates-unique}
-use Rattle.ioam_merge.specs.Merging.{PartsArrive, HaveEnded}
+use Rattle.ioam_merge.specs.Merging.{FilesBegin, PartsArrive, HaveEnded}
 use Rattle.ioam_outputs.specs.Held.{HoldTexts, HoldAllFronts}
 use Rattle.ioam_outputs.specs.Told.{AreTold, AreOpen}
 use Rattle.ioam_outputs.specs.declared.output.Output.{Output}
@@ -16,6 +16,7 @@ use Rattle.ioam_pcap.specs.Merge.{Arrival}
 use Rattle.ioam_pcap.specs.declared.turns.Turn.TheVariants as turn
 use Rattle.ioam_traffic.specs.Traffic.{Course, HoldsAll, HoldsFronts, ArePassed, Arrive, AreOpened, Finishes, frames_of}
 use Rattle.ioam_traffic.specs.Running.{Ends, Fronts, Halted, HoldSo, IsBroken, Stops}
+use Rattle.ioam_traffic.proofs.RunsLaws.{Runs-count}
 use Rattle.ioam_traffic.specs.declared.halt.Halt.{Halt}
 use Rattle.ioam_traffic.specs.declared.halt.Halt.TheVariants.{Over, Broken, Limit, ReadFault, WriteFault, NoMemory}
 
@@ -48,11 +49,32 @@ module _ (tells : Bool) (course : Course) where
     Stops-open WriteFault whole stops = absurd (whole tt)
     Stops-open NoMemory whole stops = absurd (whole tt)
 
+    counted : (Are : List Arrival → Type 0) → Halted tells course Are mid_out gathered tellers
+        → IsOf course.domain gathered × (count_taken gathered ≤ course.domain.packets)
+    counted Are halts = (
+      halts.forwards.of,
+      omega (
+        arith,
+        Runs-count tells course (λ arrivals. IsTrue tells → FilesBegin course.lanes.contents arrivals × Are arrivals) mid_out gathered tellers halts,
+        halts.few,
+      ),
+    )
+
+    -- what is gathered is of the domain, and of no more arrivals than may be
+    pub Stops-of : (halt : Halt) → (IsBroken halt → ⊥) → Stops tells course old_in new_in old_out mid_out gathered tellers halt
+        → IsOf course.domain gathered × (count_taken gathered ≤ course.domain.packets)
+    Stops-of Over whole stops = counted (λ arrivals. Arrive course turn.Over arrivals × HaveEnded course.lanes new_in) stops.0
+    Stops-of (Broken place at fault) whole stops = counted (Arrive course (turn.Broken place at fault)) stops.1.0
+    Stops-of Limit whole stops = counted (ArePassed course) stops.0
+    Stops-of ReadFault whole stops = counted (PartsArrive course.lanes.contents new_in course.lanes.base) stops.1.0
+    Stops-of WriteFault whole stops = absurd (whole tt)
+    Stops-of NoMemory whole stops = absurd (whole tt)
+
     module _ (now : Writing) where
       -- what is held of texts that were told
       abbrev Puts : (List (List ℕ) → List (List ℕ) → Type 0) → Type 0
       Puts Hold = IsTrue tells → (base : ℕ) (names texts : List (List ℕ)) (frames : List Frame) → AreTold tells mid_out base names tellers texts
-          → Forwards course.domain frames texts gathered → HoldSo course.domain frames (Hold names)
+          → Forwards course.opens course.domain course.readings frames texts gathered → HoldSo course.opens course.domain course.readings frames (Hold names)
 
       module _ (put : Puts (HoldTexts now)) where
         -- all was written
@@ -66,7 +88,7 @@ module _ (tells : Bool) (course : Course) where
               are = so halts.taken (halts.are told).1;
               few = halts.few;
               become = hold.become;
-              only = λ others become. AreFates-unique course.domain (frames_of course.ports halts.taken) others hold.fates become hold.become;
+              only = λ others become. AreFates-unique course.domain course.readings (frames_of course.ports halts.taken) others hold.fates become hold.become;
               held = hold.held;
             }
 
@@ -126,8 +148,8 @@ module _ (tells : Bool) (course : Course) where
           begin = front.begin;
           few = front.few;
           become = front.hold.become;
-          only = λ others become. AreFates-unique course.domain (frames_of course.ports front.taken) others front.hold.fates become front.hold.become;
-          held = HoldAllFronts-holds first_out new_out 0 course.names _ front.hold.held;
+          only = λ others become. AreFates-unique course.domain course.readings (frames_of course.ports front.taken) others front.hold.fates become front.hold.become;
+          held = λ opened. HoldAllFronts-holds first_out new_out 0 course.names _ (front.hold.held opened);
         }
 
     pub Ends-finishes : old_in.side.faults ≡ first_in.side.faults → old_out.side.faults ≡ first_out.side.faults → AreOpened course new_in

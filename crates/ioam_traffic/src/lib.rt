@@ -1,9 +1,10 @@
-//! The traffic of a domain: the captures of its ports merged by time, each arrival sent through the
-//! domain, and what becomes of it written.
+//! The traffic of a domain: the captures of its ports merged by time, the arrivals sent through the
+//! domain batch by batch, and what becomes of them written.
 #![tactic(auto)]
 
 mod halt;
 mod progress;
+mod rest;
 mod traffic;
 mod turns;
 

@@ -1,17 +1,17 @@
 //! The records of merged captures, taken one by one.
-ghost use Rattle.std.specs.Prelude.{◌≡◌, ◌+◌, ◌<◌, ◌^◌, All, Bool, OnOk, length};
+ghost use Rattle.std.specs.Prelude.{◌≡◌, ◌+◌, ◌<◌, ◌^◌, All, Bool, IsTrue, List, OnOk, length};
 ghost use Rattle.ioam_desk.specs.Desk.{Reading, Writing};
-ghost use Rattle.ioam_forward.specs.Forwarding.{IsOf, taken};
+ghost use Rattle.ioam_forward.specs.Forwarding.{IsOf, has_room, taken};
 ghost use Rattle.ioam_merge.specs.Merging.{IsComing};
-ghost use Rattle.ioam_outputs.specs.Told.{GathersFew};
+ghost use Rattle.ioam_outputs.specs.declared.output.Output.{Output};
 ghost use Rattle.ioam_topo.specs.Domain.{ports as ports_of};
 ghost use Rattle.ioam_traffic.specs.Running.{Coming, Running};
 ghost use Rattle.ioam_traffic.specs.Traffic.{Files, course_with};
 
 use ioam_base::memory::NoMemory;
+use ioam_clock::Readings;
 use ioam_forward::Forwarding;
 use ioam_merge::Merge;
-use ioam_outputs::Output;
 use ioam_pcap::{CapStep, is_ethernet};
 use ioam_topo::{Domain, PortId};
 use std::alloc::Global;
@@ -24,27 +24,27 @@ pub struct Progress {
 }
 
 impl Progress {
-    /// Takes the record that comes next, of the capture at a place, and sends it through the domain,
-    /// where less than a piece waits to be written to each output.
+    /// Takes the record that comes next, of the capture at a place, where one more may wait. Nothing
+    /// is told of it yet.
     pub fn take_next(
         &mut self,
         alloc: Global,
         domain: &Domain,
+        readings: &Readings,
         ports: &[PortId],
         place: usize,
-        outputs: &mut [Output],
     ) -> Result<(), NoMemory>
         requires coming { IsComing self.old.merge place }
         requires of { IsOf domain.now self.old.gathered }
+        requires room { IsTrue (has_room self.old.gathered) }
         requires inside { All (λ port. port.0 < length (ports_of domain.now)) ports.now }
         requires below { place < length ports.now }
         requires few { taken self.old.gathered < 2 ^ 32 }
-        requires width { length outputs.old ≡ length (ports_of domain.now) + 2 }
-        requires waiting { GathersFew outputs.old }
         ensures counted { OnOk result (taken self.new.gathered ≡ taken self.old.gathered + 1) }
-        ensures runs { OnOk result ((tells : Bool) (files : Files) (inputs : Reading) (writing : Writing) → taken self.old.gathered < domain.now.packets
-            → Coming tells (course_with domain.now ports.now files) place inputs writing self.old outputs.old
-            → Running tells (course_with domain.now ports.now files) inputs writing self.new outputs.new) }
+        ensures runs { OnOk result ((tells opens : Bool) (files : Files) (inputs : Reading) (writing : Writing) (tellers : List Output)
+            → taken self.old.gathered < domain.now.packets
+            → Coming tells (course_with opens domain.now readings.now ports.now files) place inputs writing self.old tellers
+            → Running tells (course_with opens domain.now readings.now ports.now files) inputs writing self.new tellers) }
     {
         let port = ports[place];
         let capture = &mut self.merge.captures[place];
@@ -52,7 +52,7 @@ impl Progress {
         match capture.feed.reader.next() {
             CapStep::Packet(packet) => {
                 self.gathered
-                    .take(alloc, domain, port, ethernet, &packet, outputs)
+                    .take(alloc, domain, readings, port, ethernet, &packet)
             }
             _ => unreachable!(),
         }

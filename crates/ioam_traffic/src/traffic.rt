@@ -1,46 +1,58 @@
 //! The traffic of a domain: its files, and how it ends.
-ghost use Rattle.std.specs.Prelude.{◌≡◌, ◌↔◌, ◌⊎◌, ◌+◌, ◌<◌, ◌++◌, [], All, IsTrue, length};
+ghost use Rattle.std.specs.Prelude.{◌≡◌, ◌↔◌, ◌⊎◌, ◌<◌, ◌≤◌, ◌++◌, [], All, IsTrue, length};
 ghost use Rattle.ioam_desk.specs.Asked.{AsksFront};
 ghost use Rattle.ioam_desk.specs.Kept.{KeepsOutputs, WritesFrom};
 ghost use Rattle.ioam_merge.specs.Merging.{EndsKept, Merging};
+ghost use Rattle.ioam_outlets.specs.Outlets.{outlet_count};
 ghost use Rattle.ioam_outputs.specs.Names.{AreApart};
 ghost use Rattle.ioam_outputs.specs.Told.{AreTold, GathersNothing, unsaid};
-ghost use Rattle.ioam_topo.specs.Domain.{ports as ports_of, IsPlain};
+ghost use Rattle.ioam_topo.specs.Domain.{ports as ports_of};
 ghost use Rattle.ioam_traffic.specs.Running.{Ends, IsBroken};
 ghost use Rattle.ioam_traffic.specs.Traffic.{Files, files_of, course_with, begun, AllOpened, Finishes, IsEnd};
 
 use crate::halt::Halt;
 use crate::progress::Progress;
-use crate::turns::{carry_on, put_rest};
+use crate::rest::put_rest;
+use crate::turns::carry_on;
+use ioam_batch::Gate;
+use ioam_clock::Readings;
 use ioam_desk::{Desk, DeskFault, Name};
 use ioam_forward::Forwarding;
 use ioam_merge::{Merge, open_merge};
 use ioam_outputs::{Output, open_outputs};
 use ioam_topo::{Domain, PortId};
 use std::alloc::Global;
+use std::thread::Threads;
 
-/// Sends what arrives at the ports of a domain without flows through it.
+/// Sends what arrives at the ports of a domain through it.
 ///
 /// `ports` are the ports that have a capture and `inputs` the names of these captures, which are
-/// merged by time; of equal times the first in this order comes first. `outputs` are the names of
-/// the captures of what leaves by each port of the domain, in file order, of the report and of the
-/// exports. First all captures are opened, then all outputs. The captures are read in pieces, and
-/// what is told the outputs is gathered and written in pieces: also before a faulty capture, a
-/// failing read or the domain's limit ends the traffic.
-pub fn run_traffic<D: Desk>(
+/// merged by time; of equal times the first in this order comes first. `readings` are those of the
+/// domain's nodes. `outputs` are the names of the outputs: the captures of what leaves by each port of
+/// the domain and of what crosses each link with a tap, in file order, the report and the exports.
+/// First all captures are opened, then all outputs. The captures are read in pieces. Arrivals wait in
+/// batches, which so many `workers` run, each asking `gate` before its jobs; what a batch leaves is told
+/// the outputs in the order of arrival, and written in pieces. All that waits is run, told and written
+/// also before a faulty capture, a failing read or the domain's limit ends the traffic. Where the gate
+/// may stay shut nothing is said of what the outputs hold.
+pub fn run_traffic<R: Threads + Sync, D: Desk, G: Gate>(
+    rt: &R,
     alloc: Global,
+    workers: u32,
     desk: &mut D,
     domain: &Domain,
+    readings: &Readings,
     ports: &[PortId],
     inputs: &[Name],
     outputs: &[Name],
+    gate: &G,
 ) -> Halt
+    requires staffed { (1 ≤ workers) × (workers ≤ 64) }
     requires sized { length ports.now ≡ length inputs.now }
     requires inside { All (λ port. port.0 < length (ports_of domain.now)) ports.now }
-    requires width { length outputs.now ≡ length (ports_of domain.now) + 2 }
+    requires width { length outputs.now ≡ outlet_count domain.now }
     requires apart { AreApart outputs.now }
-    requires plain { IsPlain domain.now }
-    ensures finishes { Finishes (begun domain.now ports.now inputs.now outputs.now (D.reading desk.old) (D.writing desk.old)) D.tells
+    ensures finishes { Finishes (begun G.opens domain.now readings.now ports.now inputs.now outputs.now (D.reading desk.old) (D.writing desk.old)) D.tells
         (D.reading desk.old) (D.reading desk.new) (D.writing desk.old) (D.writing desk.new) result }
     ensures asked_in { AsksFront (D.reading desk.old).side.asked (D.reading desk.new).side.asked inputs.now }
     ensures asked_out { AsksFront (D.writing desk.old).side.asked (D.writing desk.new).side.asked outputs.now }
@@ -50,27 +62,33 @@ pub fn run_traffic<D: Desk>(
     ensures kept { EndsKept (D.reading desk.old).side.slots (D.reading desk.old) (D.reading desk.new) }
     ensures kept_out { IsTrue D.tells → KeepsOutputs (D.writing desk.old) (D.writing desk.new) }
 {
-    run_files(alloc, desk, domain, ports, inputs, outputs)
+    run_files(
+        rt, alloc, workers, desk, domain, readings, ports, inputs, outputs, gate,
+    )
 }
 
 // The same, over files of which it is known what they hold before anything is opened, so that a ghost
 // value can name them.
-fn run_files<D: Desk>(
+fn run_files<R: Threads + Sync, D: Desk, G: Gate>(
+    rt: &R,
     alloc: Global,
+    workers: u32,
     desk: &mut D,
     domain: &Domain,
+    readings: &Readings,
     ports: &[PortId],
     inputs: &[Name],
     outputs: &[Name],
+    gate: &G,
 ) -> Halt
     ghost files: { Files }
+    requires staffed { (1 ≤ workers) × (workers ≤ 64) }
     requires known { files ≡ files_of inputs.now outputs.now (D.reading desk.old) (D.writing desk.old) }
     requires sized { length ports.now ≡ length inputs.now }
     requires inside { All (λ port. port.0 < length (ports_of domain.now)) ports.now }
-    requires width { length outputs.now ≡ length (ports_of domain.now) + 2 }
+    requires width { length outputs.now ≡ outlet_count domain.now }
     requires apart { AreApart outputs.now }
-    requires plain { IsPlain domain.now }
-    ensures finishes { Finishes (course_with domain.now ports.now files) D.tells
+    ensures finishes { Finishes (course_with G.opens domain.now readings.now ports.now files) D.tells
         (D.reading desk.old) (D.reading desk.new) (D.writing desk.old) (D.writing desk.new) result }
     ensures asked_in { AsksFront (D.reading desk.old).side.asked (D.reading desk.new).side.asked inputs.now }
     ensures asked_out { AsksFront (D.writing desk.old).side.asked (D.writing desk.new).side.asked outputs.now }
@@ -86,30 +104,45 @@ fn run_files<D: Desk>(
         Err(DeskFault::NoMemory) => return Halt::NoMemory,
     };
     match open_outputs(alloc, desk, outputs) {
-        Ok(mut outputs) => run_open(alloc, desk, domain, ports, merge, &mut outputs),
+        Ok(mut outputs) => run_open(
+            rt,
+            alloc,
+            workers,
+            desk,
+            domain,
+            readings,
+            ports,
+            merge,
+            &mut outputs,
+            gate,
+        ),
         Err(DeskFault::Failed) => Halt::WriteFault,
         Err(DeskFault::NoMemory) => Halt::NoMemory,
     }
 }
 
 // Sends what arrives through the domain, where all files were opened.
-fn run_open<D: Desk>(
+fn run_open<R: Threads + Sync, D: Desk, G: Gate>(
+    rt: &R,
     alloc: Global,
+    workers: u32,
     desk: &mut D,
     domain: &Domain,
+    readings: &Readings,
     ports: &[PortId],
     merge: Merge,
     outputs: &mut [Output],
+    gate: &G,
 ) -> Halt
     ghost files: { Files }
+    requires staffed { (1 ≤ workers) × (workers ≤ 64) }
     requires merging { Merging D.tells files.lanes (D.reading desk.old) merge [] }
     requires told { AreTold D.tells (D.writing desk.old) files.first files.names outputs.old (unsaid files.names) }
     requires sized { length ports.now ≡ length files.lanes.contents }
     requires inside { All (λ port. port.0 < length (ports_of domain.now)) ports.now }
-    requires width { length outputs.old ≡ length (ports_of domain.now) + 2 }
+    requires width { length outputs.old ≡ outlet_count domain.now }
     requires nothing { GathersNothing outputs.old }
-    requires plain { IsPlain domain.now }
-    ensures ends { Ends D.tells (course_with domain.now ports.now files) (D.reading desk.old) (D.reading desk.new)
+    ensures ends { Ends D.tells (course_with G.opens domain.now readings.now ports.now files) (D.reading desk.old) (D.reading desk.new)
         (D.writing desk.old) (D.writing desk.new) result }
     ensures asked_in { (D.reading desk.new).side.asked ≡ (D.reading desk.old).side.asked }
     ensures slots_in { (D.reading desk.new).side.slots ≡ (D.reading desk.old).side.slots }
@@ -122,11 +155,31 @@ fn run_open<D: Desk>(
         return Halt::NoMemory;
     };
     let mut progress = Progress { merge, gathered };
-    let halt = carry_on(alloc, desk, domain, ports, &mut progress, outputs);
+    let halt = carry_on(
+        rt,
+        alloc,
+        workers,
+        desk,
+        domain,
+        readings,
+        ports,
+        &mut progress,
+        outputs,
+        gate,
+    );
     if is_broken(halt) {
         return halt;
     }
-    match put_rest(desk, domain, &progress.gathered, outputs) {
+    match put_rest(
+        rt,
+        workers,
+        desk,
+        domain,
+        readings,
+        &mut progress.gathered,
+        outputs,
+        gate,
+    ) {
         Ok(()) => halt,
         Err(DeskFault::Failed) => Halt::WriteFault,
         Err(DeskFault::NoMemory) => Halt::NoMemory,

@@ -13,9 +13,9 @@ use Rattle.ioam_traffic.proofs.traffic.run_files.Goals as goal
 pub returns-in-Err-Failed-clause-finishes : goal.returns-in-Err-Failed-clause-finishes
 returns-in-Err-Failed-clause-finishes g c =
     let fewer = rw c.in-Err-Failed.field-0-is at c.in-Err-Failed.ensures.fewer in
-    let base : g.files.lanes.base ≡ (g.D.Desk.reading c.args.desk.now).side.slots = ap (λ (f : Files). f.lanes.base) c.requires.1.0 in
+    let base : g.files.lanes.base ≡ (g.D.Desk.reading c.args.desk.now).side.slots = ap (λ (f : Files). f.lanes.base) c.requires.1.1.1.1.1.1.0 in
     let sized : length g.files.lanes.contents ≡ length c.args.inputs.now
-    = known_sized g.files c.args.inputs.now c.args.outputs.now (g.D.Desk.reading c.args.desk.now) (g.D.Desk.writing c.args.desk.now) c.requires.1.0 in (
+    = known_sized g.files c.args.inputs.now c.args.outputs.now (g.D.Desk.reading c.args.desk.now) (g.D.Desk.writing c.args.desk.now) c.requires.1.1.1.1.1.1.0 in (
       rw c.in-Err-Failed.field-0-is at c.in-Err-Failed.ensures.cause,
       inl (omega (arith, fewer, base, sized), c.in-Err-Failed.ensures.outputs),
     )
@@ -29,24 +29,36 @@ run_open-requires g c κs within =
     let told = c.in-Ok-open_outputs.ensures.opened in (
       search rules,
       (
-        known_merging g.files ins outs reading writing c.requires.1.0 g.D.Desk.tells (g.D.Desk.reading c.open_merge.new.desk) (g.D.Desk.reading c.open_outputs.new.desk)
-            c.in-Ok.merge c.in-Ok-open_outputs.ensures.inputs c.in-Ok.ensures.opened,
+        search rules,
         (
-          known_told g.files ins outs reading writing c.requires.1.0 g.D.Desk.tells (g.D.Desk.writing c.open_outputs.new.desk)
-              (g.D.Desk.writing c.open_merge.new.desk).side.slots c.in-Ok-open_outputs.outputs.items c.deref_mut.result.now c.deref_mut.ensures.value
-              (ap (λ (w : Writing). w.side.slots) c.in-Ok.ensures.outputs) told,
+          search rules,
           (
-            c.requires.1.1.0 ∙ sym (known_sized g.files ins outs reading writing c.requires.1.0),
+            c.requires.1.1.1.0,
             (
-              c.requires.1.1.1.0,
+              c.requires.1.1.1.1.0,
               (
-                ap (λ (o : List Output). length o) c.deref_mut.ensures.value
-                    ∙ told_names g.D.Desk.tells (g.D.Desk.writing c.open_outputs.new.desk) (g.D.Desk.writing c.open_merge.new.desk).side.slots
-                    outs c.in-Ok-open_outputs.outputs.items _ told
-                    ∙ c.requires.1.1.1.1.0,
+                c.requires.1.1.1.1.1.0,
                 (
-                  subst (λ (o : List Output). GathersNothing o) (sym c.deref_mut.ensures.value) c.in-Ok-open_outputs.ensures.nothing,
-                  c.requires.1.1.1.1.1.1,
+                  known_merging g.files ins outs reading writing c.requires.1.1.1.1.1.1.0 g.D.Desk.tells (g.D.Desk.reading c.open_merge.new.desk) (g.D.Desk.reading c.open_outputs.new.desk)
+                      c.in-Ok.merge c.in-Ok-open_outputs.ensures.inputs c.in-Ok.ensures.opened,
+                  (
+                    known_told g.files ins outs reading writing c.requires.1.1.1.1.1.1.0 g.D.Desk.tells (g.D.Desk.writing c.open_outputs.new.desk)
+                        (g.D.Desk.writing c.open_merge.new.desk).side.slots c.in-Ok-open_outputs.outputs.items c.deref_mut.result.now c.deref_mut.ensures.value
+                        (ap (λ (w : Writing). w.side.slots) c.in-Ok.ensures.outputs) told,
+                    (
+                      c.requires.1.1.1.1.1.1.1.0 ∙ sym (known_sized g.files ins outs reading writing c.requires.1.1.1.1.1.1.0),
+                      (
+                        c.requires.1.1.1.1.1.1.1.1.0,
+                        (
+                          ap (λ (o : List Output). length o) c.deref_mut.ensures.value
+                              ∙ told_names g.D.Desk.tells (g.D.Desk.writing c.open_outputs.new.desk) (g.D.Desk.writing c.open_merge.new.desk).side.slots
+                              outs c.in-Ok-open_outputs.outputs.items _ told
+                              ∙ c.requires.1.1.1.1.1.1.1.1.1.0,
+                          subst (λ (o : List Output). GathersNothing o) (sym c.deref_mut.ensures.value) c.in-Ok-open_outputs.ensures.nothing,
+                        ),
+                      ),
+                    ),
+                  ),
                 ),
               ),
             ),
@@ -60,34 +72,34 @@ returns-in-Ok-open_outputs-clause-finishes g c =
     let reads = c.in-Ok-open_outputs.ensures.inputs in
     let slots : (g.D.Desk.reading c.run_open.new.desk).side.slots ≡ (g.D.Desk.reading c.args.desk.now).side.slots + length c.args.inputs.now =
     c.run_open.ensures.slots_in ∙ ap (λ (r : Reading). r.side.slots) reads ∙ ap (λ (s : Side). s.slots) c.in-Ok.ensures.side in
-    Ends-finishes g.D.Desk.tells (course_with c.args.domain.now c.args.ports.now g.files)
+    Ends-finishes g.D.Desk.tells (course_with g.G.Gate.opens c.args.domain.now c.args.readings.now c.args.ports.now g.files)
     (g.D.Desk.reading c.args.desk.now) (g.D.Desk.reading c.open_outputs.new.desk) (g.D.Desk.reading c.run_open.new.desk)
     (g.D.Desk.writing c.args.desk.now) (g.D.Desk.writing c.open_outputs.new.desk) (g.D.Desk.writing c.run_open.new.desk)
     (ap (λ (r : Reading). r.side.faults) reads ∙ ap (λ (s : Side). s.faults) c.in-Ok.ensures.side)
     (ap (λ (s : Side). s.faults) c.in-Ok-open_outputs.ensures.side ∙ ap (λ (w : Writing). w.side.faults) c.in-Ok.ensures.outputs)
-    (known_opened g.files c.args.inputs.now c.args.outputs.now (g.D.Desk.reading c.args.desk.now) (g.D.Desk.writing c.args.desk.now) c.requires.1.0
-    c.args.domain.now c.args.ports.now (g.D.Desk.reading c.run_open.new.desk) slots)
+    (known_opened g.files c.args.inputs.now c.args.outputs.now (g.D.Desk.reading c.args.desk.now) (g.D.Desk.writing c.args.desk.now) c.requires.1.1.1.1.1.1.0
+    g.G.Gate.opens c.args.domain.now c.args.readings.now c.args.ports.now (g.D.Desk.reading c.run_open.new.desk) slots)
     c.run_open.result c.run_open.ensures.ends
 
 pub returns-in-Err-Failed-open_outputs-clause-finishes : goal.returns-in-Err-Failed-open_outputs-clause-finishes
 returns-in-Err-Failed-open_outputs-clause-finishes g c =
     let fault = rw c.in-Err-Failed-open_outputs.field-0-is at c.in-Err-Failed-open_outputs.ensures.fault in (
       omega (arith, fault.0, ap (λ (w : Writing). w.side.faults) c.in-Ok.ensures.outputs),
-      λ told. known_fronts g.files c.args.inputs.now c.args.outputs.now (g.D.Desk.reading c.args.desk.now) (g.D.Desk.writing c.args.desk.now) c.requires.1.0
-          g.D.Desk.tells c.args.domain.now c.args.ports.now (g.D.Desk.reading c.open_merge.new.desk) c.in-Ok.merge c.in-Ok.ensures.opened
-          (g.D.Desk.writing c.open_merge.new.desk) (g.D.Desk.writing c.open_outputs.new.desk) c.in-Ok.ensures.outputs c.requires.1.1.1.1.0 (fault.1 told) told,
+      λ told. known_fronts g.files c.args.inputs.now c.args.outputs.now (g.D.Desk.reading c.args.desk.now) (g.D.Desk.writing c.args.desk.now) c.requires.1.1.1.1.1.1.0
+          g.D.Desk.tells g.G.Gate.opens c.args.domain.now c.args.readings.now c.args.ports.now (g.D.Desk.reading c.open_merge.new.desk) c.in-Ok.merge c.in-Ok.ensures.opened
+          (g.D.Desk.writing c.open_merge.new.desk) (g.D.Desk.writing c.open_outputs.new.desk) c.in-Ok.ensures.outputs c.requires.1.1.1.1.1.1.1.1.1.0 (fault.1 told) told,
     )
 
 pub returns-clause-finishes : goal.returns-clause-finishes
 returns-clause-finishes g c =
     let fault = rw c.in-Err-NoMemory-open_outputs.field-0-is at c.in-Err-NoMemory-open_outputs.ensures.fault in
-    inr (λ told. known_fronts g.files c.args.inputs.now c.args.outputs.now (g.D.Desk.reading c.args.desk.now) (g.D.Desk.writing c.args.desk.now) c.requires.1.0
-    g.D.Desk.tells c.args.domain.now c.args.ports.now (g.D.Desk.reading c.open_merge.new.desk) c.in-Ok.merge c.in-Ok.ensures.opened
-    (g.D.Desk.writing c.open_merge.new.desk) (g.D.Desk.writing c.open_outputs.new.desk) c.in-Ok.ensures.outputs c.requires.1.1.1.1.0 (fault.1 told) told)
+    inr (λ told. known_fronts g.files c.args.inputs.now c.args.outputs.now (g.D.Desk.reading c.args.desk.now) (g.D.Desk.writing c.args.desk.now) c.requires.1.1.1.1.1.1.0
+    g.D.Desk.tells g.G.Gate.opens c.args.domain.now c.args.readings.now c.args.ports.now (g.D.Desk.reading c.open_merge.new.desk) c.in-Ok.merge c.in-Ok.ensures.opened
+    (g.D.Desk.writing c.open_merge.new.desk) (g.D.Desk.writing c.open_outputs.new.desk) c.in-Ok.ensures.outputs c.requires.1.1.1.1.1.1.1.1.1.0 (fault.1 told) told)
 
 pub returns-in-Ok-open_outputs-clause-kept : goal.returns-in-Ok-open_outputs-clause-kept
 returns-in-Ok-open_outputs-clause-kept g c = λ k lt.
-    let base : g.files.lanes.base ≡ (g.D.Desk.reading c.args.desk.now).side.slots = ap (λ (f : Files). f.lanes.base) c.requires.1.0 in
+    let base : g.files.lanes.base ≡ (g.D.Desk.reading c.args.desk.now).side.slots = ap (λ (f : Files). f.lanes.base) c.requires.1.1.1.1.1.1.0 in
     c.run_open.ensures.kept k (omega (arith, lt, base)) ∙ ap (λ (r : Reading). slot_of r k) c.in-Ok-open_outputs.ensures.inputs ∙ c.in-Ok.ensures.below k lt
 
 pub returns-in-Ok-open_outputs-clause-all_out : goal.returns-in-Ok-open_outputs-clause-all_out
@@ -139,7 +151,7 @@ returns-clause-kept_out g c = λ told. KeepsOutputs-then (g.D.Desk.writing c.arg
 
 pub returns-in-Ok-open_outputs-clause-kept_out : goal.returns-in-Ok-open_outputs-clause-kept_out
 returns-in-Ok-open_outputs-clause-kept_out g c = λ told.
-    let first : g.files.first ≡ (g.D.Desk.writing c.args.desk.now).side.slots = ap (λ (f : Files). f.first) c.requires.1.0 in
+    let first : g.files.first ≡ (g.D.Desk.writing c.args.desk.now).side.slots = ap (λ (f : Files). f.first) c.requires.1.1.1.1.1.1.0 in
     KeepsOutputs-from (g.D.Desk.writing c.args.desk.now) (g.D.Desk.writing c.open_outputs.new.desk) (g.D.Desk.writing c.run_open.new.desk) g.files.first
     (KeepsOutputs-then (g.D.Desk.writing c.args.desk.now) (g.D.Desk.writing c.open_merge.new.desk) (g.D.Desk.writing c.open_outputs.new.desk)
     (KeepsOutputs-same (g.D.Desk.writing c.args.desk.now) _ c.open_merge.ensures.outputs) (c.open_outputs.ensures.kept told))

@@ -1,9 +1,9 @@
-use Rattle.std.proofs.Common.{◌≡◌, ◌+◌, ◌-◌, length}
+use Rattle.std.proofs.Common.{◌≡◌, ◌-◌, length}
 use Rattle.ioam_desk.specs.Kept.{WritesFrom}
 use Rattle.ioam_forward.specs.Forwarding.{taken}
 use Rattle.ioam_merge.specs.Merging.{EndsKept}
 use Rattle.ioam_outputs.specs.Told.{GathersFew}
-use Rattle.ioam_topo.specs.Domain.{ports as ports_of}
+use Rattle.ioam_outlets.specs.Outlets.{outlet_count}
 use Rattle.ioam_traffic.specs.Running.{Running}
 use Rattle.ioam_traffic.specs.Traffic.{course_with}
 use Rattle.ioam_traffic.proofs.turns.carry_on.Given as goal
@@ -11,8 +11,8 @@ use Rattle.ioam_traffic.proofs.turns.carry_on.Given as goal
 -- the outputs were told the texts so far of what was taken
 abbrev pub invariant-turns : goal.invariant-turns
 invariant-turns g l = record {
-  running : Running g.D.Desk.tells (course_with l.initial.domain l.initial.ports g.files) (g.D.Desk.reading l.desk) (g.D.Desk.writing l.desk) l.progress l.outputs;
-  width : length l.outputs ≡ length (ports_of l.initial.domain) + 2;
+  running : Running g.D.Desk.tells (course_with g.G.Gate.opens l.initial.domain l.initial.readings l.initial.ports g.files) (g.D.Desk.reading l.desk) (g.D.Desk.writing l.desk) l.progress l.outputs;
+  width : length l.outputs ≡ outlet_count l.initial.domain;
   waiting : GathersFew l.outputs;
   inputs : (g.D.Desk.reading l.desk).side ≡ (g.D.Desk.reading l.initial.desk).side;
   kept : EndsKept g.files.lanes.base (g.D.Desk.reading l.initial.desk) (g.D.Desk.reading l.desk);

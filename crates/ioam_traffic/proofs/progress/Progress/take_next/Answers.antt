@@ -30,9 +30,8 @@ unreachable-requires c =
 
 pub returns-clause-runs : goal.returns-clause-runs
 returns-clause-runs c = OnOk-map c.take.result _ _ c.take.ensures.gathers
-    (λ gathers tells files inputs writing room coming.
+    (λ more tells opens files inputs writing tellers room coming.
     let told = rw c.in-Packet.is at c.next.follows.holds-at-none in
-    let (added, adds, more) = gathers in
     let (time, comes) = coming.are in
     let before = c.index_mut-capture.result.now in
     let there = Comes-there tells files.lanes coming.taken inputs c.args.self.now.merge c.args.place time comes before c.index_mut-capture.ensures.value in
@@ -40,8 +39,8 @@ returns-clause-runs c = OnOk-map c.take.result _ _ c.take.ensures.gathers
     let taken_so = Comes-take tells files.lanes coming.taken inputs c.args.self.now.merge c.args.place time comes before after there (entry_of c.in-Packet.packet)
     (λ octets given stands. let t = told.1 octets given stands in (t.0, t.1)) refl refl refl (ap link_by told.0.0) (omega (arith, told.0.3))
     _ refl refl refl in
-    Runs-take tells (course_with c.args.domain.now c.args.ports.now files)
+    Runs-take tells (course_with opens c.args.domain.now c.args.readings.now c.args.ports.now files)
     (λ arrivals. (time : ℕ) × Comes tells files.lanes inputs c.args.self.now.merge arrivals c.args.place time)
-    writing c.args.self.now.gathered c.args.outputs.now coming (Merging tells files.lanes inputs _)
-    (record { capture = c.args.place; link = before.link; entry = entry_of c.in-Packet.packet }) c.take.new.self c.take.new.outputs added _ _
-    taken_so.0 adds refl c.is_ethernet-ethernet.ensures more room)
+    writing c.args.self.now.gathered tellers coming (Merging tells files.lanes inputs _)
+    (record { capture = c.args.place; link = before.link; entry = entry_of c.in-Packet.packet }) c.take.new.self _ _
+    taken_so.0 refl c.is_ethernet-ethernet.ensures more room)
