@@ -1,6 +1,12 @@
 -- Laws of the outer packet that a job begins with.
 use Rattle.std.proofs.Common.{◌≡◌, ℕ, zero, suc, ◌+◌, ◌<◌, ◌≤◌, Bool, true, false, List, [], ◌∷◌, length, Option, Some, None, is_some, IfSome, slice_get, refl, sym, ap, ◌∙◌, arith, true≢false}
-use Rattle.std.specs.Prelude.{slice_index}
+use Rattle.std.specs.Prelude.{IsSome, slice_index}
+use Rattle.ioam_batch.specs.Jobs.{GoesBy, Holds}
+use Rattle.ioam_batch.specs.declared.job.Job.{Job}
+use Rattle.ioam_ip.specs.Chain.{IsSound}
+use Rattle.ioam_ip.specs.Packet.{IsPacket}
+use Rattle.ioam_plan.specs.Rides.{Rides, RidesBy}
+use Rattle.ioam_plan.specs.declared.itinerary.Itinerary.{Itinerary}
 use Rattle.ioam_topo.specs.Domain.{flows}
 use Rattle.ioam_topo.specs.declared.domain.Domain.{Domain}
 use Rattle.ioam_topo.specs.declared.ids.FlowId.{FlowId}
@@ -40,3 +46,25 @@ module _ (domain : Domain) (flow : FlowId) (numbers : Numbers) (packet : List �
           → IfSome found (λ f. MayEnclose f numbers packet) → n ≤ 131072
       by-found None some sized may = absurd (true≢false (sym some))
       by-found (Some f) some sized may = omega (arith, sized, may.size)
+
+-- ---- what holds of a job that is made
+
+flow-known : (domain : Domain) (packet : List ℕ) (it : Itinerary) (carried : Option (FlowId × Numbers)) → RidesBy domain packet it carried
+    → IfSome carried (λ c. c.0.0 < length (flows domain))
+flow-known domain packet it None rides = tt
+flow-known domain packet it (Some carried) rides = rides.known
+
+whole-by : (it : Itinerary) (octets : List ℕ) (carried : Option (FlowId × Numbers)) → GoesBy carried it octets → IsSome carried
+    → IsPacket octets × IsSound octets
+whole-by it octets None goes some = absurd (true≢false (sym some))
+whole-by it octets (Some carried) goes some = (goes.is_packet, goes.is_sound)
+
+pub holds-made : (domain : Domain) (packet : List ℕ) (job : Job) → Rides domain packet job.itinerary
+    → GoesBy job.itinerary.carried job.itinerary job.packet.items → length job.packet.items ≤ 131072 → Holds domain job
+holds-made domain packet job rides goes short = record {
+  port = rides.port;
+  ends = rides.ends;
+  flow = flow-known domain packet job.itinerary job.itinerary.carried rides.carries;
+  size = short;
+  sound = whole-by job.itinerary job.packet.items job.itinerary.carried goes;
+}

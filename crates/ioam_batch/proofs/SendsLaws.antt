@@ -24,7 +24,12 @@ found_some : (first visit : Visit) → Some first ≡ Some visit → first ≡ v
 found_some first visit same = cc
 
 none_there : (visit : Visit) → None ≡ Some visit → ⊥
-none_there visit none = let never : None {T = Visit} ≡ Some visit = none in cc
+none_there visit none = cc
+
+take-one : (first : Visit) (visits : List Visit) (i : ℕ) → take (suc i + 1) (first ∷ visits) ≡ first ∷ take (i + 1) visits
+take-one first visits i =
+    let more : suc i + 1 ≡ suc (i + 1) = omega arith in
+    ap (λ n. take n (first ∷ visits)) more
 
 -- what a visit sent, behind so many
 lowered-at : (domain : Domain) (packet : List ℕ) (count : ℕ) (visits : List Visit) (i : ℕ) (visit : Visit) → slice_get visits i ≡ Some visit
@@ -34,7 +39,8 @@ lowered-at domain packet count [] i visit found = absurd (none_there visit found
 lowered-at domain packet count (first ∷ visits) zero visit found =
     ap (λ (v : Visit). Some (sent_if (is_tapped domain v) (lowered (count + 1) packet))) (found_some first visit found)
 lowered-at domain packet count (first ∷ visits) (suc i) visit found =
-    let more : count + 1 + length (take (i + 1) visits) ≡ count + length (take (suc i + 1) (first ∷ visits)) = omega arith in
+    let more : count + 1 + length (take (i + 1) visits) ≡ count + length (take (suc i + 1) (first ∷ visits)) =
+    omega (arith, ap length (take-one first visits i)) in
     lowered-at domain packet (count + 1) visits i visit found
     ∙ ap (λ n. Some (sent_if (is_tapped domain visit) (lowered n packet))) more
 
@@ -49,7 +55,8 @@ module _ (domain : Domain) (readings : List (List Sample)) (tunnel : Tunnel) whe
       ap (λ (v : Visit). Some (sent_if (is_tapped domain v) (wired domain readings tunnel (done ++ first ∷ [])))) (found_some first visit found)
   crossed-at done (first ∷ visits) (suc i) visit found =
       crossed-at (done ++ first ∷ []) visits i visit found
-      ∙ ap (λ vs. Some (sent_if (is_tapped domain visit) (wired domain readings tunnel vs))) (append_assoc done (first ∷ []) (take (i + 1) visits))
+      ∙ ap (λ vs. Some (sent_if (is_tapped domain visit) (wired domain readings tunnel vs))) (append_assoc done (first ∷ []) (take (i + 1) visits)
+      ∙ ap (λ vs. done ++ vs) (sym (take-one first visits i)))
 
   -- the packet reached its exit or did not
   ran-past : (exited : Bool) (visits : List Visit) (packet : List ℕ) (past : List (Option (List ℕ))) (room : Room)
@@ -66,9 +73,12 @@ module _ (domain : Domain) (readings : List (List Sample)) (packet : List ℕ) (
       → slice_get (crossings new.crossings) i
       ≡ Some (sent_if (is_tapped domain visit) (packet_after domain readings packet carried (take (i + 1) old.itinerary.visits)))
   by-carried None holds runs =
+      let count = length (take (i + 1) old.itinerary.visits) in
+      let none : 0 + count ≡ count = omega arith in
       ap (λ xs. slice_get xs i) runs.crossed
       ∙ ap (λ xs. slice_get (lowered_from xs 0 (map (is_tapped domain) old.itinerary.visits)) i) holds
       ∙ lowered-at domain packet 0 old.itinerary.visits i visit found
+      ∙ ap (λ n. Some (sent_if (is_tapped domain visit) (lowered n packet))) none
   by-carried (Some carried) holds runs =
       let tunnel = tunnel_of domain carried.0 carried.1 packet in
       ap (λ xs. slice_get xs i)

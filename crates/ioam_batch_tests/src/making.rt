@@ -1,8 +1,6 @@
 //! A job of which no visit is done.
-ghost use Rattle.std.specs.Prelude.{◌≡◌, ◌<◌, ◌≤◌, ◌^◌, All, IfOk, IfSome, IsTrue, length};
+ghost use Rattle.std.specs.Prelude.{◌≡◌, ◌<◌, ◌^◌, All, IfOk, IfSome, IsTrue, length};
 ghost use Rattle.ioam_batch.specs.Jobs.{IsFresh};
-ghost use Rattle.ioam_ip.specs.Chain.{IsSound};
-ghost use Rattle.ioam_ip.specs.Packet.{IsPacket};
 ghost use Rattle.ioam_node.specs.Admission.{packet_of};
 ghost use Rattle.ioam_plan.specs.Rides.{Rides};
 ghost use Rattle.ioam_topo.specs.Domain.{flows, ports};
@@ -10,7 +8,6 @@ ghost use Rattle.ioam_topo.specs.Domain.{flows, ports};
 use ioam_base::memory::NoMemory;
 use ioam_batch::Job;
 use ioam_clock::Readings;
-use ioam_ip::{Walk, header, walk};
 use ioam_node::{Admit, admit};
 use ioam_plan::{Counters, Itinerary, plan};
 use ioam_topo::{Domain, PortId};
@@ -24,20 +21,6 @@ fn has_port(domain: &Domain) -> bool
     ensures { IsTrue result → 0 < length (ports domain.now) }
 {
     !domain.ports().is_empty()
-}
-
-// Whether octets are a packet with a whole chain.
-fn is_whole(packet: &[u8]) -> bool
-    ensures sound { IsTrue result → IsSound packet.now }
-    ensures short { IsTrue result → length packet.now ≤ 65575 }
-{
-    if header(packet).is_none() {
-        return false;
-    }
-    let Walk::Whole { .. } = walk(packet) else {
-        return false;
-    };
-    packet.len() <= 65_575
 }
 
 // The packet that was taken in.
@@ -66,15 +49,12 @@ fn job_of(
     domain: &Domain,
     readings: &Readings,
     frame: &[u8],
-) -> Result<Option<Job>, NoMemory>
+) -> Result<Job, NoMemory>
     requires { 0 < length (ports domain.now) }
-    ensures { IfOk result (λ found. IfSome found (IsFresh domain.now)) }
+    ensures { IfOk result (IsFresh domain.now) }
 {
     let admitted = admit(domain, PortId(0), false, false, frame);
     let packet = taken(&admitted);
-    if !is_whole(packet) {
-        return Ok(None);
-    }
     let mut counters = start(alloc, domain)?;
     let itinerary = plan(
         alloc,
@@ -86,7 +66,7 @@ fn job_of(
         &admitted,
     )?;
     let job = Job::new(alloc, domain, itinerary, packet)?;
-    Ok(Some(job))
+    Ok(job)
 }
 
 /// The job of a packet that arrives first, at the first port, where there is one, and there is memory.
@@ -102,7 +82,7 @@ pub(crate) fn make_job(
         return None;
     }
     match job_of(alloc, domain, readings, frame) {
-        Ok(found) => found,
+        Ok(job) => Some(job),
         Err(NoMemory) => None,
     }
 }

@@ -63,9 +63,7 @@ pub fn plan(
     ensures inside { IfOk result (StaysInside domain.now) }
 {
     let at = port_of(domain, port);
-    match plan_at(
-        alloc, domain, readings, counters, port, at, time, admitted,
-    ) {
+    match plan_at(alloc, domain, readings, counters, port, at, time, admitted) {
         Ok(itinerary) => {
             counters.note(&itinerary);
             Ok(itinerary)

@@ -57,7 +57,13 @@ pub(crate) fn travel(
     let mut stage = start;
     'visits: loop {
         match take_step(domain, trip, stage) {
-            Step::Ends(end, exited) => return Ok(Itinerary::of(port, visits, end, exited, trip.inside)),
+            Step::Ends(end, exited) => return Ok(Itinerary::of(
+                port,
+                visits,
+                end,
+                exited,
+                trip.inside,
+            )),
             Step::Goes(visit, next) => {
                 put(&mut visits, visit);
                 stage = next;

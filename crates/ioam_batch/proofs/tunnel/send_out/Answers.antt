@@ -1,5 +1,6 @@
-use Rattle.std.proofs.Common.{◌≡◌, ◌+◌, ◌-◌, ◌<◌, ◌≤◌, [], ◌∷◌, ◌++◌, length, get_or, take, sym, ap, ◌∙◌, arith, length-append}
-use Rattle.std.proofs.lemmas.List.{length-take-le, take_all, take_more}
+use Rattle.std.proofs.Common.{◌≡◌, ◌+◌, ◌-◌, ◌<◌, ◌≤◌, [], ◌∷◌, ◌++◌, length, drop, get_or, map, take, sym, ap, ◌∙◌, arith, length-append}
+use Rattle.std.proofs.lemmas.List.{drop_all, length-drop, length-map, length-take-le, take_all, take_more}
+use Rattle.ioam_batch.specs.Taps.{is_tapped}
 use Rattle.ioam_batch.proofs.tunnel.send_out.Goals as goal
 
 pub returns-clause-exited : goal.returns-clause-exited
@@ -16,3 +17,14 @@ returns-clause-exited c tunnel is so =
       are = sym (take_all (before + 1) visits (omega (arith, two))) ∙ take_more visits before _ inside;
       closed = c.come_out.ensures.closed tunnel (take before visits) is some (c.send.ensures.sent tunnel is so);
     }
+
+pub returns-clause-ahead : goal.returns-clause-ahead
+returns-clause-ahead c =
+    let visits = c.args.visits.now in
+    let f = is_tapped c.args.domain.now in
+    let before = length visits - 1 in
+    let sends = c.requires.sends in
+    let two : 1 < length visits = omega (arith, sends.some, ap length sends.are, length-append sends.front (sends.last ∷ [])) in
+    c.come_out.ensures.ahead
+    ∙ ap (λ taps. drop 1 taps) c.send.ensures.ahead
+    ∙ drop_all 1 (drop before (map f visits)) (omega (arith, two, length-drop before (map f visits), length-map visits f))

@@ -11,7 +11,7 @@ run_job-requires c = Reached-is (HasRun c.args.domain.now c.args.readings.now) (
 pub jobs-preserved : goal.jobs-preserved
 jobs-preserved c = Reached-more (HasRun c.args.domain.now c.args.readings.now) c.args.jobs.now c.jobs.jobs c.jobs.job-index c.job-item.result
     c.run_job.new.job c.jobs.invariant (omega arith) (omega arith) c.job-item.is
-    (let P : Job → Type 0 = λ job. HasRun c.args.domain.now c.args.readings.now job c.run_job.new.job in subst P (sym c.job-item.is) c.run_job.ensures)
+    (let P : Job → Type 0 = λ job. HasRun c.args.domain.now c.args.readings.now job c.run_job.new.job in subst P (sym c.job-item.is) c.run_job.ensures.runs)
 
 pub returns : goal.returns
 returns c = Reached-all (HasRun c.args.domain.now c.args.readings.now) c.args.jobs.now c.jobs.jobs c.jobs.job-index c.jobs.invariant (omega arith) (omega arith)
