@@ -1,11 +1,10 @@
 -- The lines of a trace that an entry node began and nodes filled.
-use Rattle.std.proofs.Common.{◌≡◌, ℕ, List, ap, sym, ◌∙◌}
+use Rattle.std.proofs.Common.{◌≡◌, ℕ, List, ap, ◌∙◌}
 use Rattle.std.specs.Bool.{if◌then◌else◌}
-use Rattle.ioam_base.specs.Octets.{u16_at}
 use Rattle.ioam_data.specs.Kind.{words}
 use Rattle.ioam_trace.specs.Data.{CanHold, is_over, recorded, trace_data}
 use Rattle.ioam_trace.specs.Head.{kind_of, node_len_of, overflow_of, remaining_of}
-use Rattle.ioam_trace.specs.Read.{elements_behind, fault_of}
+use Rattle.ioam_trace.specs.Read.{elements_behind}
 use Rattle.ioam_trace.proofs.DataLaws.{ReadsRecorded-CanHold}
 use Rattle.ioam_report.specs.TraceText.{lines_by, trace_lines, whole_lines}
 

@@ -1,15 +1,14 @@
 -- What is counted of flows, and one arrival more.
-use Rattle.std.proofs.Common.{◌≡◌, ℕ, zero, suc, ◌+◌, min, ◌<◌, ◌≤◌, ◌^◌, Bool, true, false, cond, nat_eq, List, [], ◌∷◌, ◌++◌, Option, Some, None, length, length-set, set, get_or, slice_get, refl, sym, ap, subst, ◌∙◌, arith, ◌⊎◌, inl, inr, append_assoc}
-use Rattle.std.specs.Prelude.{◌&&◌, IsSomeAnd, is_some, slice_index, slice_set}
+use Rattle.std.proofs.Common.{◌≡◌, ℕ, zero, suc, ◌+◌, ◌-◌, min, ◌<◌, ◌≤◌, ◌^◌, Bool, true, false, cond, List, [], ◌∷◌, ◌++◌, Option, Some, None, length, length-set, set, get_or, slice_get, refl, sym, ap, subst, ◌∙◌, arith, ◌⊎◌, inl, inr}
+use Rattle.std.specs.Prelude.{◌&&◌, IsSomeAnd, is_some, replicate}
 use Rattle.std.specs.List.{count_by, flat_map, enumerate_from}
 use Rattle.std.proofs.lemmas.Bool.{cases_eq, eq-eqb, ne_eqb}
 use Rattle.std.proofs.lemmas.Grind.{get_or-set_at}
-use Rattle.std.proofs.lemmas.List.{append-nil, get_or-set_other}
+use Rattle.std.proofs.lemmas.List.{append-nil, length-replicate, get_or-replicate, get_or-set_other}
 use Rattle.std.proofs.lemmas.List.Concat.{flat_map-append}
 use Rattle.std.proofs.lemmas.List.Sums.{sum_by_push, count_by-le-length}
 use Rattle.std.proofs.lemmas.Option.{slice_get-get_or}
 use Rattle.ioam_edge.specs.Receiver.{Stands, tally_in}
-use Rattle.ioam_edge.specs.Noted.{tally_of}
 use Rattle.ioam_edge.specs.declared.note.Tally.{Tally}
 use Rattle.ioam_edge.specs.declared.receiver.Receiver.{Receiver}
 use Rattle.ioam_edge.proofs.TallyLaws.{tally_in-Stands}
@@ -33,6 +32,10 @@ numbers_more : (flow : ℕ) (arrivals : List Itinerary) (it : Itinerary)
     → exit_numbers flow (arrivals ++ it ∷ []) ≡ exit_numbers flow arrivals ++ exit_number flow it
 numbers_more flow arrivals it = flat_map-append (exit_number flow) arrivals (it ∷ []) ∙ ap (λ xs. exit_numbers flow arrivals ++ xs) (append-nil (exit_number flow it))
 
+one_most : (b : Bool) → cond {A = ℕ} b 1 0 ≤ 1
+one_most true = omega arith
+one_most false = omega arith
+
 -- so much is counted of this packet in its flow
 module _ (flow : FlowId) (numbers : Numbers) (exited : Bool) (it : Itinerary) (some : it.carried ≡ Some (flow, numbers)) (is : it.exited ≡ exited) where
   here : is_enclosed_in flow.0 it ≡ true
@@ -55,8 +58,8 @@ module _ (flow : FlowId) (numbers : Numbers) (exited : Bool) (it : Itinerary) (s
 
   pub sum_more : (old new : FlowSum) (arrivals : List Itinerary) → length arrivals < 2 ^ 32
       → new.enclosed ≡ min (old.enclosed + 1) (2 ^ 64 - 1)
-      → (old.exited < 2 ^ 63 → new.exited ≡ old.exited + cond exited 1 0)
-      → (old.direct < 2 ^ 63 → new.direct ≡ old.direct + cond (is_some numbers.direct) 1 0)
+      → new.exited ≡ min (old.exited + cond exited 1 0) (2 ^ 64 - 1)
+      → new.direct ≡ min (old.direct + cond (is_some numbers.direct) 1 0) (2 ^ 64 - 1)
       → ((noted : List ℕ) → Stands old.receiver noted → Stands new.receiver (noted ++ cond exited (numbers.number ∷ []) []))
       → IsSumOf flow.0 arrivals old → IsSumOf flow.0 (arrivals ++ it ∷ []) new
   sum_more old new arrivals few enclosed left direct noted counts =
@@ -71,10 +74,21 @@ module _ (flow : FlowId) (numbers : Numbers) (exited : Bool) (it : Itinerary) (s
       numbers_more flow.0 arrivals it ∙ ap (λ xs. exit_numbers flow.0 arrivals ++ xs) one_number in
       record {
         enclosed = omega (arith, enclosed, counted_more (is_enclosed_in flow.0) arrivals it, one_enclosed);
-        exited = left (omega arith) ∙ omega (arith, counted_more (is_exited_in flow.0) arrivals it, one_exited);
-        direct = direct (omega arith) ∙ omega (arith, counted_more (is_direct_in flow.0) arrivals it, one_direct);
+        exited = omega (arith, left, counted_more (is_exited_in flow.0) arrivals it, one_exited, one_most exited);
+        direct = omega (arith, direct, counted_more (is_direct_in flow.0) arrivals it, one_direct, one_most (is_some numbers.direct));
         receiver = subst P (sym all) (noted (exit_numbers flow.0 arrivals) counts.receiver);
       }
+
+-- what its receiver stands for
+pub noted_then : (receiver : Receiver) (noted : List ℕ) (number : ℕ) (exited : Bool) → exited ≡ true → Stands receiver (noted ++ number ∷ [])
+    → Stands receiver (noted ++ cond exited (number ∷ []) [])
+noted_then receiver noted number true is stands = stands
+noted_then receiver noted number false is stands = absurd (cc is)
+
+pub noted_else : (receiver : Receiver) (noted : List ℕ) (number : ℕ) (exited : Bool) → exited ≡ false → Stands receiver noted
+    → Stands receiver (noted ++ cond exited (number ∷ []) [])
+noted_else receiver noted number true is stands = absurd (cc is)
+noted_else receiver noted number false is stands = let P : List ℕ → Type 0 = λ xs. Stands receiver xs in subst P (sym (append-nil noted)) stands
 
 -- an arrival that isn't enclosed in a flow changes nothing there
 pub sum_same : (flow : ℕ) (arrivals : List Itinerary) (it : Itinerary) (sum : FlowSum) → is_enclosed_in flow it ≡ false
@@ -101,6 +115,17 @@ same_at : (flow : ℕ) (arrivals : List Itinerary) (it : Itinerary) (at : Option
 same_at flow arrivals it None other counts = counts
 same_at flow arrivals it (Some sum) other counts = sum_same flow arrivals it sum other counts
 
+-- nothing is counted of each of so many flows
+pub none_each : (count : ℕ) (sums : List FlowSum) (none : FlowSum) → sums ≡ replicate count none → ((flow : ℕ) → IsSumOf flow [] none)
+    → (flow : ℕ) → flow < count → IsSomeAnd (slice_get sums flow) (IsSumOf flow [])
+none_each count sums none are nothing flow below =
+    let long : length sums ≡ count = ap length are ∙ length-replicate count none in
+    let here : slice_get sums flow ≡ Some none =
+    slice_get-get_or sums flow none (omega (arith, long)) ∙ ap (λ (xs : List FlowSum). Some (get_or xs flow none)) are
+    ∙ ap (λ (sum : FlowSum). Some sum) (get_or-replicate count flow none none below) in
+    let P : Option FlowSum → Type 0 = λ sum. IsSomeAnd sum (IsSumOf flow []) in
+    subst P (sym here) (nothing flow)
+
 -- an arrival that isn't enclosed at all
 pub sums_same : (sums : List FlowSum) (flow : ℕ) (arrivals : List Itinerary) (it : Itinerary) → it.carried ≡ None
     → IsSomeAnd (slice_get sums flow) (IsSumOf flow arrivals) → IsSomeAnd (slice_get sums flow) (IsSumOf flow (arrivals ++ it ∷ []))
@@ -118,27 +143,30 @@ set_other sums at other now apart below =
     ∙ ap (λ (sum : FlowSum). Some sum) (get_or-set_other sums at other now now apart)
     ∙ sym (slice_get-get_or sums other now below)
 
+found_below : (P : FlowSum → Type 0) (sums : List FlowSum) (at : ℕ) → IsSomeAnd (slice_get sums at) P → at < length sums
+found_below P [] at found = absurd found
+found_below P (sum ∷ sums) zero found = omega arith
+found_below P (sum ∷ sums) (suc at) found = let rest : at < length sums = found_below P sums at found in omega arith
+
 -- one that is enclosed in a flow
-pub sums_more : (sums : List FlowSum) (now : FlowSum) (flow : FlowId) (numbers : Numbers) (at : ℕ) (arrivals : List Itinerary) (it : Itinerary)
-    → it.carried ≡ Some (flow, numbers) → flow.0 < length sums
-    → (IsSomeAnd (slice_get sums flow.0) (IsSumOf flow.0 arrivals) → IsSumOf flow.0 (arrivals ++ it ∷ []) now)
+pub sums_more : (sums : List FlowSum) (was now : FlowSum) (flow : FlowId) (numbers : Numbers) (at : ℕ) (arrivals : List Itinerary) (it : Itinerary)
+    → it.carried ≡ Some (flow, numbers) → slice_get sums flow.0 ≡ Some was
+    → (IsSumOf flow.0 arrivals was → IsSumOf flow.0 (arrivals ++ it ∷ []) now)
     → IsSomeAnd (slice_get sums at) (IsSumOf at arrivals) → IsSomeAnd (slice_get (set sums flow.0 now) at) (IsSumOf at (arrivals ++ it ∷ []))
-sums_more sums now flow numbers at arrivals it some below noted counts = elim (cases_eq at flow.0) [
-  | inl same ↦
-      let P : ℕ → Type 0 = λ n. IsSomeAnd (slice_get sums n) (IsSumOf n arrivals) in
-      let Q : Option FlowSum → Type 0 = λ sum. IsSomeAnd sum (IsSumOf flow.0 (arrivals ++ it ∷ [])) in
-      let R : ℕ → Type 0 = λ n. IsSomeAnd (slice_get (set sums flow.0 now) n) (IsSumOf n (arrivals ++ it ∷ [])) in
-      subst R (sym same) (subst Q (sym (set_same sums flow.0 now below)) (noted (subst P same counts)))
-  | inr apart ↦
-      let Q : Option FlowSum → Type 0 = λ sum. IsSomeAnd sum (IsSumOf at (arrivals ++ it ∷ [])) in
-      let elsewhere : is_enclosed_in at it ≡ false = ap (λ (c : Option (FlowId × Numbers)). is_of_flow at c) some ∙ ne_eqb at flow.0 apart in
-      subst Q (sym (set_other sums flow.0 at now apart (there sums at counts))) (same_at at arrivals it (slice_get sums at) elsewhere counts)
-]
-  where
-    there : (sums : List FlowSum) (at : ℕ) → IsSomeAnd (slice_get sums at) (IsSumOf at arrivals) → at < length sums
-    there [] at counts = absurd counts
-    there (sum ∷ sums) zero counts = omega arith
-    there (sum ∷ sums) (suc at) counts = let rest : at < length sums = there sums at counts in omega arith
+sums_more sums was now flow numbers at arrivals it some here noted counts =
+    let below : at < length sums = found_below (IsSumOf at arrivals) sums at counts in
+    let P : ℕ → Type 0 = λ n. IsSomeAnd (slice_get sums n) (IsSumOf n arrivals) in
+    let Q : Option FlowSum → Type 0 = λ sum. IsSomeAnd sum (IsSumOf flow.0 arrivals) in
+    let R : Option FlowSum → Type 0 = λ sum. IsSomeAnd sum (IsSumOf flow.0 (arrivals ++ it ∷ [])) in
+    let S : ℕ → Type 0 = λ n. IsSomeAnd (slice_get (set sums flow.0 now) n) (IsSumOf n (arrivals ++ it ∷ [])) in
+    let T : Option FlowSum → Type 0 = λ sum. IsSomeAnd sum (IsSumOf at (arrivals ++ it ∷ [])) in
+    elim (cases_eq at flow.0) [
+      | inl same ↦
+          subst S (sym same) (subst R (sym (set_same sums flow.0 now (omega (arith, below, same)))) (noted (subst Q here (subst P same counts))))
+      | inr apart ↦
+          let elsewhere : is_enclosed_in at it ≡ false = ap (λ (c : Option (FlowId × Numbers)). is_of_flow at c) some ∙ ne_eqb at flow.0 apart in
+          subst T (sym (set_other sums flow.0 at now apart below)) (same_at at arrivals it (slice_get sums at) elsewhere counts)
+    ]
 
 -- ---- their lines
 

@@ -177,17 +177,19 @@ nodes_lines arrivals (node ∷ nodes) (sum ∷ sums) from count each =
 pub sums_text-of : (domain : Domain) (sums : Sums) (arrivals : List Itinerary) → StandFor domain sums arrivals
     → sums_text domain sums ≡ arrivals_text domain arrivals
 sums_text-of domain sums arrivals stand =
-    let lines : List ℕ = node_lines (nodes domain) sums.nodes ++ flow_lines (flows domain) sums.flows in
     let goes : ℕ = count_by (λ (arrival : Itinerary). has_left arrival.end) arrivals in
     let stays : ℕ = count_by (λ (arrival : Itinerary). is_dropped arrival.end) arrivals in
-    ap (λ n. packets_line n sums.left sums.dropped ++ lines) stand.packets
-    ∙ ap (λ n. packets_line (length arrivals) n sums.dropped ++ lines) stand.left
-    ∙ ap (λ n. packets_line (length arrivals) goes n ++ lines) stand.dropped
-    ∙ ap (λ xs. packets_line (length arrivals) goes stays ++ (xs ++ flow_lines (flows domain) sums.flows))
+    let of_nodes : List ℕ = flat_map (λ entry. node_line entry.1.name (node_sum arrivals entry.0)) (enumerate_from 0 (nodes domain)) in
+    ap (λ n. packets_line n sums.left sums.dropped ++ node_lines (nodes domain) sums.nodes ++ flow_lines (flows domain) sums.flows) stand.packets
+    ∙ ap (λ n. packets_line (length arrivals) n sums.dropped ++ node_lines (nodes domain) sums.nodes ++ flow_lines (flows domain) sums.flows) stand.left
+    ∙ ap (λ n. packets_line (length arrivals) goes n ++ node_lines (nodes domain) sums.nodes ++ flow_lines (flows domain) sums.flows) stand.dropped
+    ∙ ap (λ xs. packets_line (length arrivals) goes stays ++ xs ++ flow_lines (flows domain) sums.flows)
     (nodes_lines arrivals (nodes domain) sums.nodes 0 stand.count (λ i below. stand.each i below ∙ ap (λ n. Some (node_sum arrivals n)) (omega arith)))
-    ∙ ap (λ xs. packets_line (length arrivals) goes stays
-    ++ (flat_map (λ entry. node_line entry.1.name (node_sum arrivals entry.0)) (enumerate_from 0 (nodes domain)) ++ xs))
-    (flows_lines arrivals (flows domain) sums.flows 0 stand.flow_count stand.each_flow)
+    ∙ ap (λ xs. packets_line (length arrivals) goes stays ++ of_nodes ++ xs)
+    (flows_lines arrivals (flows domain) sums.flows 0 stand.flow_count (λ i below.
+    let same : i ≡ 0 + i = omega arith in
+    let P : ℕ → Type 0 = λ n. IsSomeAnd (slice_get sums.flows i) (IsSumOf n arrivals) in
+    subst P same (stand.each_flow i below)))
 
 -- where a list is at its end, no line is left to append
 none_left : (nodes : List Node) (sums : List NodeSum) → (nodes ≡ []) ⊎ (sums ≡ []) → node_lines nodes sums ≡ []

@@ -1,5 +1,5 @@
 //! What a run counts of the packets of each flow.
-ghost use Rattle.std.specs.Prelude.{◌≡◌, ◌++◌, ◌∷◌, ◌<◌, ◌^◌, ℕ, List, Option, Some, [], IfOk, IfSome, IsSomeAnd, length, slice_get};
+ghost use Rattle.std.specs.Prelude.{◌≡◌, ◌+◌, ◌-◌, ◌++◌, ◌∷◌, ◌<◌, ◌^◌, ℕ, min, if◌then◌else◌, List, Option, Some, [], IfOk, IfSome, IsSomeAnd, length, slice_get};
 ghost use Rattle.ioam_plan.specs.declared.itinerary.Itinerary.{Itinerary};
 ghost use Rattle.ioam_report.specs.Flows.{IsSumOf};
 
@@ -24,6 +24,13 @@ pub struct FlowSum {
     pub receiver: Receiver,
 }
 
+// A count, with one more where there is one; it stands still at the greatest u64.
+fn counted(count: u64, more: bool) -> u64
+    ensures { result ≡ min (count + (if more then 1 else 0)) (2 ^ 64 - 1) }
+{
+    count.saturating_add(u64::from(more))
+}
+
 impl FlowSum {
     // What is counted of no packets.
     fn new() -> FlowSum
@@ -43,12 +50,12 @@ impl FlowSum {
             → itinerary.carried ≡ Some (flow, numbers.now) → itinerary.exited ≡ exited
             → IsSumOf flow.0 arrivals self.old → IsSumOf flow.0 (arrivals ++ itinerary ∷ []) self.new }
     {
+        let left = counted(self.exited, exited);
+        let exports = counted(self.direct, numbers.direct.is_some());
         self.enclosed = self.enclosed.saturating_add(1);
-        if numbers.direct.is_some() {
-            self.direct = self.direct.saturating_add(1);
-        }
+        self.exited = left;
+        self.direct = exports;
         if exited {
-            self.exited = self.exited.saturating_add(1);
             self.receiver.note(numbers.number);
         }
     }

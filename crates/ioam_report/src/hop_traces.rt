@@ -1,5 +1,5 @@
 //! The traces that nodes on a packet's way fill.
-ghost use Rattle.std.specs.Prelude.{◌≡◌, ◌++◌, ◌∷◌, ◌≤◌, [], ℕ, length, is_ok, if◌then◌else◌};
+ghost use Rattle.std.specs.Prelude.{◌≡◌, ◌++◌, ◌∷◌, ◌≤◌, IsTrue, [], ℕ, length, is_ok, if◌then◌else◌};
 ghost use Rattle.ioam_ip.specs.Chain.{IsSound};
 ghost use Rattle.ioam_ip.specs.Hop.{HopFits};
 ghost use Rattle.ioam_ip.specs.Packet.{IsPacket};
@@ -14,7 +14,8 @@ use ioam_ip::{OptionSpot, next_option};
 
 // Whether an option is a trace that nodes on the way fill.
 fn is_changing_trace(kind: u8, body: &[u8]) -> bool
-    ensures { (at : ℕ) → result ≡ is_changing_trace (record { kind = kind; at = at; body = body.now }) }
+    ensures value { (at : ℕ) → result ≡ is_changing_trace (record { kind = kind; at = at; body = body.now }) }
+    ensures long { IsTrue result → 2 ≤ length body.now }
 {
     kind == 0x31 && body.len() >= 2 && body[1] == 0
 }

@@ -119,6 +119,8 @@ impl Sums {
         requires ends { IsEndBelow (length self.old.nodes) itinerary.now.end }
         requires flow { IfSome itinerary.now.carried (λ carried. carried.0.0 < length self.old.flows) }
         ensures packets { self.new.packets ≡ self.old.packets + 1 }
+        ensures nodes { length self.new.nodes ≡ length self.old.nodes }
+        ensures flows { length self.new.flows ≡ length self.old.flows }
         ensures stands { (domain : Domain) (arrivals : List Itinerary) → StandFor domain self.old arrivals
             → StandFor domain self.new (arrivals ++ itinerary.now ∷ []) }
     {
