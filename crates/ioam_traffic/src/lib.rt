@@ -5,6 +5,7 @@
 mod halt;
 mod progress;
 mod rest;
+mod terms;
 mod traffic;
 mod turns;
 

@@ -10,9 +10,9 @@ ghost use Rattle.ioam_outputs.specs.Held.{HoldAllFronts, HoldTexts};
 ghost use Rattle.ioam_outputs.specs.Told.{AreTold, AreOpen};
 ghost use Rattle.ioam_traffic.specs.Running.{HoldSo};
 
+use crate::terms::Terms;
 use ioam_base::memory::NoMemory;
 use ioam_batch::Gate;
-use ioam_clock::Readings;
 use ioam_desk::{Desk, DeskFault};
 use ioam_forward::Forwarding;
 use ioam_outputs::{Output, finish};
@@ -50,26 +50,22 @@ fn put_end<D: Desk>(
 
 /// Runs and tells what waits, adds the sums behind the last arrival, and writes all that is gathered.
 pub fn put_rest<R: Threads + Sync, D: Desk, G: Gate>(
-    rt: &R,
-    workers: u32,
+    terms: &Terms<'_, R, G>,
     desk: &mut D,
-    domain: &Domain,
-    readings: &Readings,
     gathered: &mut Forwarding,
     outputs: &mut [Output],
-    gate: &G,
 ) -> Result<(), DeskFault>
-    requires staffed { (1 ≤ workers) × (workers ≤ 64) }
-    requires of { IsOf domain.now gathered.old }
+    requires staffed { (1 ≤ terms.now.workers) × (terms.now.workers ≤ 64) }
+    requires of { IsOf terms.now.domain.now gathered.old }
     requires few { taken gathered.old < 2 ^ 33 }
     requires open { AreOpen (D.writing desk.old) outputs.old }
-    requires width { length outputs.old ≡ outlet_count domain.now }
+    requires width { length outputs.old ≡ outlet_count terms.now.domain.now }
     ensures texts { OnOk result (IsTrue D.tells → (base : ℕ) (names texts : List (List ℕ)) (frames : List Frame)
-        → AreTold D.tells (D.writing desk.old) base names outputs.old texts → Forwards G.opens domain.now readings.now frames texts gathered.old
-        → HoldSo G.opens domain.now readings.now frames (HoldTexts (D.writing desk.new) names)) }
+        → AreTold D.tells (D.writing desk.old) base names outputs.old texts → Forwards G.opens terms.now.domain.now terms.now.readings.now frames texts gathered.old
+        → HoldSo G.opens terms.now.domain.now terms.now.readings.now frames (HoldTexts (D.writing desk.new) names)) }
     ensures fronts { IsTrue D.tells → (base : ℕ) (names texts : List (List ℕ)) (frames : List Frame)
-        → AreTold D.tells (D.writing desk.old) base names outputs.old texts → Forwards G.opens domain.now readings.now frames texts gathered.old
-        → HoldSo G.opens domain.now readings.now frames (HoldAllFronts (D.writing desk.new) names) }
+        → AreTold D.tells (D.writing desk.old) base names outputs.old texts → Forwards G.opens terms.now.domain.now terms.now.readings.now frames texts gathered.old
+        → HoldSo G.opens terms.now.domain.now terms.now.readings.now frames (HoldAllFronts (D.writing desk.new) names) }
     ensures cause { IfErr result (IsFaultOf (D.writing desk.old).side (D.writing desk.new).side) }
     ensures asked { (D.writing desk.new).side.asked ≡ (D.writing desk.old).side.asked }
     ensures slots { (D.writing desk.new).side.slots ≡ (D.writing desk.old).side.slots }
@@ -77,8 +73,15 @@ pub fn put_rest<R: Threads + Sync, D: Desk, G: Gate>(
         → WritesFrom base (D.writing desk.old) (D.writing desk.new) }
     ensures inputs { D.reading desk.new ≡ D.reading desk.old }
 {
-    match gathered.tell(rt, workers, gate, domain, readings, outputs) {
-        Ok(()) => put_end(desk, domain, gathered, outputs),
+    match gathered.tell(
+        terms.rt,
+        terms.workers,
+        terms.gate,
+        terms.domain,
+        terms.readings,
+        outputs,
+    ) {
+        Ok(()) => put_end(desk, terms.domain, gathered, outputs),
         Err(NoMemory) => Err(DeskFault::NoMemory),
     }
 }

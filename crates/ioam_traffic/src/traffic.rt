@@ -13,6 +13,7 @@ ghost use Rattle.ioam_traffic.specs.Traffic.{Files, files_of, course_with, begun
 use crate::halt::Halt;
 use crate::progress::Progress;
 use crate::rest::put_rest;
+use crate::terms::Terms;
 use crate::turns::carry_on;
 use ioam_batch::Gate;
 use ioam_clock::Readings;
@@ -103,19 +104,16 @@ fn run_files<R: Threads + Sync, D: Desk, G: Gate>(
         Err(DeskFault::Failed) => return Halt::ReadFault,
         Err(DeskFault::NoMemory) => return Halt::NoMemory,
     };
+    let terms = Terms {
+        rt,
+        workers,
+        gate,
+        domain,
+        readings,
+        ports,
+    };
     match open_outputs(alloc, desk, outputs) {
-        Ok(mut outputs) => run_open(
-            rt,
-            alloc,
-            workers,
-            desk,
-            domain,
-            readings,
-            ports,
-            merge,
-            &mut outputs,
-            gate,
-        ),
+        Ok(mut outputs) => run_open(&terms, alloc, desk, merge, &mut outputs),
         Err(DeskFault::Failed) => Halt::WriteFault,
         Err(DeskFault::NoMemory) => Halt::NoMemory,
     }
@@ -123,26 +121,21 @@ fn run_files<R: Threads + Sync, D: Desk, G: Gate>(
 
 // Sends what arrives through the domain, where all files were opened.
 fn run_open<R: Threads + Sync, D: Desk, G: Gate>(
-    rt: &R,
+    terms: &Terms<'_, R, G>,
     alloc: Global,
-    workers: u32,
     desk: &mut D,
-    domain: &Domain,
-    readings: &Readings,
-    ports: &[PortId],
     merge: Merge,
     outputs: &mut [Output],
-    gate: &G,
 ) -> Halt
     ghost files: { Files }
-    requires staffed { (1 ≤ workers) × (workers ≤ 64) }
+    requires staffed { (1 ≤ terms.now.workers) × (terms.now.workers ≤ 64) }
     requires merging { Merging D.tells files.lanes (D.reading desk.old) merge [] }
     requires told { AreTold D.tells (D.writing desk.old) files.first files.names outputs.old (unsaid files.names) }
-    requires sized { length ports.now ≡ length files.lanes.contents }
-    requires inside { All (λ port. port.0 < length (ports_of domain.now)) ports.now }
-    requires width { length outputs.old ≡ outlet_count domain.now }
+    requires sized { length terms.now.ports.now ≡ length files.lanes.contents }
+    requires inside { All (λ port. port.0 < length (ports_of terms.now.domain.now)) terms.now.ports.now }
+    requires width { length outputs.old ≡ outlet_count terms.now.domain.now }
     requires nothing { GathersNothing outputs.old }
-    ensures ends { Ends D.tells (course_with G.opens domain.now readings.now ports.now files) (D.reading desk.old) (D.reading desk.new)
+    ensures ends { Ends D.tells (course_with G.opens terms.now.domain.now terms.now.readings.now terms.now.ports.now files) (D.reading desk.old) (D.reading desk.new)
         (D.writing desk.old) (D.writing desk.new) result }
     ensures asked_in { (D.reading desk.new).side.asked ≡ (D.reading desk.old).side.asked }
     ensures slots_in { (D.reading desk.new).side.slots ≡ (D.reading desk.old).side.slots }
@@ -151,35 +144,15 @@ fn run_open<R: Threads + Sync, D: Desk, G: Gate>(
     ensures kept { EndsKept files.lanes.base (D.reading desk.old) (D.reading desk.new) }
     ensures kept_out { WritesFrom files.first (D.writing desk.old) (D.writing desk.new) }
 {
-    let Ok(gathered) = Forwarding::begin(alloc, domain, outputs) else {
+    let Ok(gathered) = Forwarding::begin(alloc, terms.domain, outputs) else {
         return Halt::NoMemory;
     };
     let mut progress = Progress { merge, gathered };
-    let halt = carry_on(
-        rt,
-        alloc,
-        workers,
-        desk,
-        domain,
-        readings,
-        ports,
-        &mut progress,
-        outputs,
-        gate,
-    );
+    let halt = carry_on(terms, alloc, desk, &mut progress, outputs);
     if is_broken(halt) {
         return halt;
     }
-    match put_rest(
-        rt,
-        workers,
-        desk,
-        domain,
-        readings,
-        &mut progress.gathered,
-        outputs,
-        gate,
-    ) {
+    match put_rest(terms, desk, &mut progress.gathered, outputs) {
         Ok(()) => halt,
         Err(DeskFault::Failed) => Halt::WriteFault,
         Err(DeskFault::NoMemory) => Halt::NoMemory,

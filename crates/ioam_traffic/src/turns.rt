@@ -11,13 +11,12 @@ ghost use Rattle.ioam_traffic.specs.Traffic.{Files, course_with};
 
 use crate::halt::Halt;
 use crate::progress::Progress;
+use crate::terms::Terms;
 use ioam_base::memory::NoMemory;
 use ioam_batch::Gate;
-use ioam_clock::Readings;
 use ioam_desk::{Desk, DeskFault};
 use ioam_outputs::{Output, flush_full};
 use ioam_pcap::Turn;
-use ioam_topo::{Domain, PortId};
 use std::alloc::Global;
 use std::thread::Threads;
 
@@ -25,30 +24,25 @@ use std::thread::Threads;
 // piece. In between the texts of a whole batch are gathered; before and behind it less than a piece is
 // for each output.
 fn make_room<R: Threads + Sync, D: Desk, G: Gate>(
-    rt: &R,
-    workers: u32,
+    terms: &Terms<'_, R, G>,
     desk: &mut D,
-    domain: &Domain,
-    readings: &Readings,
-    ports: &[PortId],
     place: usize,
     progress: &mut Progress,
     outputs: &mut [Output],
-    gate: &G,
 ) -> Result<(), Halt>
     ghost files: { Files }
-    requires staffed { (1 ≤ workers) × (workers ≤ 64) }
-    requires coming { Coming D.tells (course_with G.opens domain.now readings.now ports.now files) place
+    requires staffed { (1 ≤ terms.now.workers) × (terms.now.workers ≤ 64) }
+    requires coming { Coming D.tells (course_with G.opens terms.now.domain.now terms.now.readings.now terms.now.ports.now files) place
         (D.reading desk.old) (D.writing desk.old) progress.old outputs.old }
-    requires width { length outputs.old ≡ outlet_count domain.now }
+    requires width { length outputs.old ≡ outlet_count terms.now.domain.now }
     requires waiting { GathersFew outputs.old }
-    ensures coming { OnOk result (Coming D.tells (course_with G.opens domain.now readings.now ports.now files) place
+    ensures coming { OnOk result (Coming D.tells (course_with G.opens terms.now.domain.now terms.now.readings.now terms.now.ports.now files) place
         (D.reading desk.new) (D.writing desk.new) progress.new outputs.new) }
     ensures room { OnOk result (IsTrue (has_room progress.new.gathered)) }
     ensures counted { OnOk result (taken progress.new.gathered ≡ taken progress.old.gathered) }
     ensures waiting { OnOk result (GathersFew outputs.new) }
     ensures same { OnOk result ((D.writing desk.new).side ≡ (D.writing desk.old).side) }
-    ensures stops { IfErr result (Stops D.tells (course_with G.opens domain.now readings.now ports.now files)
+    ensures stops { IfErr result (Stops D.tells (course_with G.opens terms.now.domain.now terms.now.readings.now terms.now.ports.now files)
         (D.reading desk.old) (D.reading desk.new) (D.writing desk.old) (D.writing desk.new) progress.new.gathered outputs.new) }
     ensures asked { (D.writing desk.new).side.asked ≡ (D.writing desk.old).side.asked }
     ensures slots { (D.writing desk.new).side.slots ≡ (D.writing desk.old).side.slots }
@@ -58,10 +52,14 @@ fn make_room<R: Threads + Sync, D: Desk, G: Gate>(
     if progress.gathered.has_room() {
         return Ok(());
     }
-    match progress
-        .gathered
-        .tell(rt, workers, gate, domain, readings, outputs)
-    {
+    match progress.gathered.tell(
+        terms.rt,
+        terms.workers,
+        terms.gate,
+        terms.domain,
+        terms.readings,
+        outputs,
+    ) {
         Ok(()) => {}
         Err(NoMemory) => return Err(Halt::NoMemory),
     }
@@ -75,49 +73,42 @@ fn make_room<R: Threads + Sync, D: Desk, G: Gate>(
 // Takes the record that comes next, of the capture at a place, unless as many as may be were taken.
 // Less than a piece stays gathered for each output.
 fn pass_on<R: Threads + Sync, D: Desk, G: Gate>(
-    rt: &R,
+    terms: &Terms<'_, R, G>,
     alloc: Global,
-    workers: u32,
     desk: &mut D,
-    domain: &Domain,
-    readings: &Readings,
-    ports: &[PortId],
     place: usize,
     progress: &mut Progress,
     outputs: &mut [Output],
-    gate: &G,
 ) -> Result<(), Halt>
     ghost files: { Files }
-    requires staffed { (1 ≤ workers) × (workers ≤ 64) }
-    requires coming { Coming D.tells (course_with G.opens domain.now readings.now ports.now files) place
+    requires staffed { (1 ≤ terms.now.workers) × (terms.now.workers ≤ 64) }
+    requires coming { Coming D.tells (course_with G.opens terms.now.domain.now terms.now.readings.now terms.now.ports.now files) place
         (D.reading desk.old) (D.writing desk.old) progress.old outputs.old }
-    requires sized { length ports.now ≡ length files.lanes.contents }
-    requires inside { All (λ port. port.0 < length (ports_of domain.now)) ports.now }
-    requires width { length outputs.old ≡ outlet_count domain.now }
+    requires sized { length terms.now.ports.now ≡ length files.lanes.contents }
+    requires inside { All (λ port. port.0 < length (ports_of terms.now.domain.now)) terms.now.ports.now }
+    requires width { length outputs.old ≡ outlet_count terms.now.domain.now }
     requires waiting { GathersFew outputs.old }
-    ensures runs { OnOk result (Running D.tells (course_with G.opens domain.now readings.now ports.now files)
+    ensures runs { OnOk result (Running D.tells (course_with G.opens terms.now.domain.now terms.now.readings.now terms.now.ports.now files)
         (D.reading desk.new) (D.writing desk.new) progress.new outputs.new) }
     ensures counted { OnOk result (taken progress.new.gathered ≡ taken progress.old.gathered + 1) }
-    ensures few { OnOk result (taken progress.old.gathered < domain.now.packets) }
+    ensures few { OnOk result (taken progress.old.gathered < terms.now.domain.now.packets) }
     ensures waiting { OnOk result (GathersFew outputs.new) }
     ensures same { OnOk result ((D.writing desk.new).side ≡ (D.writing desk.old).side) }
-    ensures stops { IfErr result (Stops D.tells (course_with G.opens domain.now readings.now ports.now files)
+    ensures stops { IfErr result (Stops D.tells (course_with G.opens terms.now.domain.now terms.now.readings.now terms.now.ports.now files)
         (D.reading desk.old) (D.reading desk.new) (D.writing desk.old) (D.writing desk.new) progress.new.gathered outputs.new) }
     ensures asked { (D.writing desk.new).side.asked ≡ (D.writing desk.old).side.asked }
     ensures slots { (D.writing desk.new).side.slots ≡ (D.writing desk.old).side.slots }
     ensures kept { WritesFrom files.first (D.writing desk.old) (D.writing desk.new) }
     ensures inputs { D.reading desk.new ≡ D.reading desk.old }
 {
-    if progress.gathered.taken() >= u64::from(domain.packets()) {
+    if progress.gathered.taken() >= u64::from(terms.domain.packets()) {
         return Err(Halt::Limit);
     }
-    match make_room(
-        rt, workers, desk, domain, readings, ports, place, progress, outputs, gate,
-    ) {
+    match make_room(terms, desk, place, progress, outputs) {
         Ok(()) => {}
         Err(halt) => return Err(halt),
     }
-    match progress.take_next(alloc, domain, readings, ports, place) {
+    match progress.take_next(alloc, terms.domain, terms.readings, terms.ports, place) {
         Ok(()) => Ok(()),
         Err(NoMemory) => Err(Halt::NoMemory),
     }
@@ -126,26 +117,21 @@ fn pass_on<R: Threads + Sync, D: Desk, G: Gate>(
 /// Takes the records of the captures in the order of their times, to the end of all or to what stops
 /// that.
 pub fn carry_on<R: Threads + Sync, D: Desk, G: Gate>(
-    rt: &R,
+    terms: &Terms<'_, R, G>,
     alloc: Global,
-    workers: u32,
     desk: &mut D,
-    domain: &Domain,
-    readings: &Readings,
-    ports: &[PortId],
     progress: &mut Progress,
     outputs: &mut [Output],
-    gate: &G,
 ) -> Halt
     ghost files: { Files }
-    requires staffed { (1 ≤ workers) × (workers ≤ 64) }
-    requires running { Running D.tells (course_with G.opens domain.now readings.now ports.now files)
+    requires staffed { (1 ≤ terms.now.workers) × (terms.now.workers ≤ 64) }
+    requires running { Running D.tells (course_with G.opens terms.now.domain.now terms.now.readings.now terms.now.ports.now files)
         (D.reading desk.old) (D.writing desk.old) progress.old outputs.old }
-    requires sized { length ports.now ≡ length files.lanes.contents }
-    requires inside { All (λ port. port.0 < length (ports_of domain.now)) ports.now }
-    requires width { length outputs.old ≡ outlet_count domain.now }
+    requires sized { length terms.now.ports.now ≡ length files.lanes.contents }
+    requires inside { All (λ port. port.0 < length (ports_of terms.now.domain.now)) terms.now.ports.now }
+    requires width { length outputs.old ≡ outlet_count terms.now.domain.now }
     requires waiting { GathersFew outputs.old }
-    ensures stops { Stops D.tells (course_with G.opens domain.now readings.now ports.now files) (D.reading desk.old) (D.reading desk.new)
+    ensures stops { Stops D.tells (course_with G.opens terms.now.domain.now terms.now.readings.now terms.now.ports.now files) (D.reading desk.old) (D.reading desk.new)
         (D.writing desk.old) (D.writing desk.new) progress.new.gathered outputs.new result }
     ensures asked_in { (D.reading desk.new).side.asked ≡ (D.reading desk.old).side.asked }
     ensures slots_in { (D.reading desk.new).side.slots ≡ (D.reading desk.old).side.slots }
@@ -163,9 +149,7 @@ pub fn carry_on<R: Threads + Sync, D: Desk, G: Gate>(
             Err(DeskFault::Failed) => return Halt::ReadFault,
             Err(DeskFault::NoMemory) => return Halt::NoMemory,
         };
-        match pass_on(
-            rt, alloc, workers, desk, domain, readings, ports, place, progress, outputs, gate,
-        ) {
+        match pass_on(terms, alloc, desk, place, progress, outputs) {
             Ok(()) => {}
             Err(halt) => return halt,
         }

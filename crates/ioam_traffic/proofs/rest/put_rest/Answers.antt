@@ -15,17 +15,17 @@ pub returns-in-Ok-clause-texts : goal.returns-in-Ok-clause-texts
 returns-in-Ok-clause-texts g c = OnOk-map c.put_end.result _ _ c.put_end.ensures.texts
     (λ holds told base names texts frames is forwards.
     let (added, adds, gathers) = c.in-Ok.ensures.gathers in
-    holds told g.G.Gate.opens c.args.readings.now base names _ frames (AreTold-adds _ _ base names _ _ texts added is adds) (gathers frames texts forwards))
+    holds told g.G.Gate.opens c.args.terms.now.readings.now base names _ frames (AreTold-adds _ _ base names _ _ texts added is adds) (gathers frames texts forwards))
 
 pub returns-in-Ok-clause-fronts : goal.returns-in-Ok-clause-fronts
 returns-in-Ok-clause-fronts g c = λ told base names texts frames is forwards.
     let (added, adds, gathers) = c.in-Ok.ensures.gathers in
-    c.put_end.ensures.fronts told g.G.Gate.opens c.args.readings.now base names _ frames (AreTold-adds _ _ base names _ _ texts added is adds)
+    c.put_end.ensures.fronts told g.G.Gate.opens c.args.terms.now.readings.now base names _ frames (AreTold-adds _ _ base names _ _ texts added is adds)
     (gathers frames texts forwards)
 
 pub returns-in-Err-clause-fronts : goal.returns-in-Err-clause-fronts
 returns-in-Err-clause-fronts g c = λ told base names texts frames is forwards.
-    fronts_so c.args.domain.now c.args.readings.now g.G.Gate.opens (g.D.Desk.writing c.args.desk.now) names frames texts c.args.gathered.now forwards
+    fronts_so c.args.terms.now.domain.now c.args.terms.now.readings.now g.G.Gate.opens (g.D.Desk.writing c.args.desk.now) names frames texts c.args.gathered.now forwards
     (AreTold-fronts g.D.Desk.tells (g.D.Desk.writing c.args.desk.now) base names c.args.outputs.now texts told is)
 
 pub returns-in-Ok-clause-kept : goal.returns-in-Ok-clause-kept

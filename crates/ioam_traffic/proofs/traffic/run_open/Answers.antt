@@ -13,7 +13,7 @@ use Rattle.ioam_traffic.proofs.traffic.run_open.Goals as goal
 
 pub returns-in_default-clause-ends : goal.returns-in_default-clause-ends
 returns-in_default-clause-ends g c =
-    Fronts-begin g.D.Desk.tells g.G.Gate.opens c.args.domain.now c.args.readings.now c.args.ports.now g.files (g.D.Desk.reading c.args.desk.now) c.args.merge c.requires.1.1.1.1.1.1.0
+    Fronts-begin g.D.Desk.tells g.G.Gate.opens c.args.terms.now.domain.now c.args.terms.now.readings.now c.args.terms.now.ports.now g.files (g.D.Desk.reading c.args.desk.now) c.args.merge c.requires.1.1.1.1.1.1.0
     (g.D.Desk.writing c.args.desk.now) c.args.outputs.now c.requires.1.1.1.1.1.1.1.0 c.requires.1.1.1.1.1.1.1.1.1.1.0
 
 pub carry_on-halt-requires : goal.carry_on-halt-requires
@@ -30,17 +30,17 @@ carry_on-halt-requires g c κs within = (
           (
             c.requires.1.1.1.1.1.0,
             (
-              Running-begin g.D.Desk.tells g.G.Gate.opens c.args.domain.now c.args.readings.now c.args.ports.now g.files (g.D.Desk.reading c.args.desk.now) c.args.merge c.requires.1.1.1.1.1.1.0
+              Running-begin g.D.Desk.tells g.G.Gate.opens c.args.terms.now.domain.now c.args.terms.now.readings.now c.args.terms.now.ports.now g.files (g.D.Desk.reading c.args.desk.now) c.args.merge c.requires.1.1.1.1.1.1.0
                   (g.D.Desk.writing c.args.desk.now) c.args.outputs.now c.requires.1.1.1.1.1.1.1.0 c.requires.1.1.1.1.1.1.1.1.1.1.0
-                  c.in-Ok.gathered c.begin.new.outputs (c.in-Ok.ensures.adds c.args.readings.now) (c.in-Ok.ensures.gathers g.G.Gate.opens c.args.readings.now),
+                  c.in-Ok.gathered c.begin.new.outputs (c.in-Ok.ensures.adds c.args.terms.now.readings.now) (c.in-Ok.ensures.gathers g.G.Gate.opens c.args.terms.now.readings.now),
               (
                 c.requires.1.1.1.1.1.1.1.1.0,
                 (
                   c.requires.1.1.1.1.1.1.1.1.1.0,
                   (
                     omega (arith, c.requires.1.1.1.1.1.1.1.1.1.1.0, c.begin.auto.outputs),
-                    Adds-few c.args.outputs.now c.begin.new.outputs _ c.requires.1.1.1.1.1.1.1.1.1.1.1 (c.in-Ok.ensures.adds c.args.readings.now)
-                        (begin-few c.args.domain.now c.args.readings.now),
+                    Adds-few c.args.outputs.now c.begin.new.outputs _ c.requires.1.1.1.1.1.1.1.1.1.1.1 (c.in-Ok.ensures.adds c.args.terms.now.readings.now)
+                        (begin-few c.args.terms.now.domain.now c.args.terms.now.readings.now),
                   ),
                 ),
               ),
@@ -54,29 +54,29 @@ carry_on-halt-requires g c κs within = (
 
 pub put_rest-requires-clause-open : goal.put_rest-requires-clause-open
 put_rest-requires-clause-open g c κs within =
-    (Stops-open g.D.Desk.tells (course_with g.G.Gate.opens c.args.domain.now c.args.readings.now c.args.ports.now g.files)
+    (Stops-open g.D.Desk.tells (course_with g.G.Gate.opens c.args.terms.now.domain.now c.args.terms.now.readings.now c.args.terms.now.ports.now g.files)
     (g.D.Desk.reading c.args.desk.now) (g.D.Desk.reading c.carry_on-halt.new.desk) (g.D.Desk.writing c.args.desk.now) (g.D.Desk.writing c.carry_on-halt.new.desk)
     c.carry_on-halt.new.progress.gathered c.carry_on-halt.new.outputs
     c.carry_on-halt.result (λ broken. false≢true (sym c.if-is_broken.false ∙ c.is_broken.ensures.1 broken)) c.carry_on-halt.ensures.stops).0
 
 pub put_rest-requires-clause-of : goal.put_rest-requires-clause-of
 put_rest-requires-clause-of g c κs within =
-    (Stops-of g.D.Desk.tells (course_with g.G.Gate.opens c.args.domain.now c.args.readings.now c.args.ports.now g.files)
+    (Stops-of g.D.Desk.tells (course_with g.G.Gate.opens c.args.terms.now.domain.now c.args.terms.now.readings.now c.args.terms.now.ports.now g.files)
     (g.D.Desk.reading c.args.desk.now) (g.D.Desk.reading c.carry_on-halt.new.desk) (g.D.Desk.writing c.args.desk.now) (g.D.Desk.writing c.carry_on-halt.new.desk)
     c.carry_on-halt.new.progress.gathered c.carry_on-halt.new.outputs
     c.carry_on-halt.result (λ broken. false≢true (sym c.if-is_broken.false ∙ c.is_broken.ensures.1 broken)) c.carry_on-halt.ensures.stops).0
 
 pub put_rest-requires-clause-few : goal.put_rest-requires-clause-few
 put_rest-requires-clause-few g c κs within =
-    let known = (Stops-of g.D.Desk.tells (course_with g.G.Gate.opens c.args.domain.now c.args.readings.now c.args.ports.now g.files)
+    let known = (Stops-of g.D.Desk.tells (course_with g.G.Gate.opens c.args.terms.now.domain.now c.args.terms.now.readings.now c.args.terms.now.ports.now g.files)
     (g.D.Desk.reading c.args.desk.now) (g.D.Desk.reading c.carry_on-halt.new.desk) (g.D.Desk.writing c.args.desk.now) (g.D.Desk.writing c.carry_on-halt.new.desk)
     c.carry_on-halt.new.progress.gathered c.carry_on-halt.new.outputs
     c.carry_on-halt.result (λ broken. false≢true (sym c.if-is_broken.false ∙ c.is_broken.ensures.1 broken)) c.carry_on-halt.ensures.stops) in
-    omega (arith, known.1, c.args.domain.now.packets_most)
+    omega (arith, known.1, c.args.terms.now.domain.now.packets_most)
 
 pub returns-in-Ok-put_rest-clause-ends : goal.returns-in-Ok-put_rest-clause-ends
 returns-in-Ok-put_rest-clause-ends g c =
-    let course = course_with g.G.Gate.opens c.args.domain.now c.args.readings.now c.args.ports.now g.files in
+    let course = course_with g.G.Gate.opens c.args.terms.now.domain.now c.args.terms.now.readings.now c.args.terms.now.ports.now g.files in
     let P : Reading → Type 0 = λ r. Ends g.D.Desk.tells course (g.D.Desk.reading c.args.desk.now) r
     (g.D.Desk.writing c.args.desk.now) (g.D.Desk.writing c.put_rest.new.desk) c.carry_on-halt.result in
     subst P (sym c.in-Ok-put_rest.ensures.inputs)
@@ -87,7 +87,7 @@ returns-in-Ok-put_rest-clause-ends g c =
 
 pub returns-in-Err-Failed-clause-ends : goal.returns-in-Err-Failed-clause-ends
 returns-in-Err-Failed-clause-ends g c =
-    let course = course_with g.G.Gate.opens c.args.domain.now c.args.readings.now c.args.ports.now g.files in
+    let course = course_with g.G.Gate.opens c.args.terms.now.domain.now c.args.terms.now.readings.now c.args.terms.now.ports.now g.files in
     let whole : IsBroken c.carry_on-halt.result → ⊥ = λ broken. false≢true (sym c.if-is_broken.false ∙ c.is_broken.ensures.1 broken) in
     let rose = rw c.in-Err-Failed.field-0-is at c.in-Err-Failed.ensures.cause in
     let known = Stops-open g.D.Desk.tells course
@@ -102,7 +102,7 @@ returns-in-Err-Failed-clause-ends g c =
 
 pub returns-clause-ends : goal.returns-clause-ends
 returns-clause-ends g c =
-    Stops-fronts g.D.Desk.tells (course_with g.G.Gate.opens c.args.domain.now c.args.readings.now c.args.ports.now g.files)
+    Stops-fronts g.D.Desk.tells (course_with g.G.Gate.opens c.args.terms.now.domain.now c.args.terms.now.readings.now c.args.terms.now.ports.now g.files)
     (g.D.Desk.reading c.args.desk.now) (g.D.Desk.reading c.carry_on-halt.new.desk) (g.D.Desk.writing c.args.desk.now) (g.D.Desk.writing c.carry_on-halt.new.desk)
     c.carry_on-halt.new.progress.gathered c.carry_on-halt.new.outputs (g.D.Desk.writing c.put_rest.new.desk) c.put_rest.ensures.fronts
     c.carry_on-halt.result (λ broken. false≢true (sym c.if-is_broken.false ∙ c.is_broken.ensures.1 broken)) c.carry_on-halt.ensures.stops
@@ -122,7 +122,7 @@ returns-in_default-clause-kept_out g c = WritesFrom-same g.files.first (g.D.Desk
 pub returns-in-Ok-put_rest-clause-kept_out : goal.returns-in-Ok-put_rest-clause-kept_out
 returns-in-Ok-put_rest-clause-kept_out g c = WritesFrom-then g.files.first (g.D.Desk.writing c.args.desk.now) (g.D.Desk.writing c.carry_on-halt.new.desk) (g.D.Desk.writing c.put_rest.new.desk)
     c.carry_on-halt.ensures.kept_out
-    (Stops-writes g.D.Desk.tells (course_with g.G.Gate.opens c.args.domain.now c.args.readings.now c.args.ports.now g.files)
+    (Stops-writes g.D.Desk.tells (course_with g.G.Gate.opens c.args.terms.now.domain.now c.args.terms.now.readings.now c.args.terms.now.ports.now g.files)
     (g.D.Desk.reading c.args.desk.now) (g.D.Desk.reading c.carry_on-halt.new.desk) (g.D.Desk.writing c.args.desk.now) (g.D.Desk.writing c.carry_on-halt.new.desk)
     c.carry_on-halt.new.progress.gathered c.carry_on-halt.new.outputs (g.D.Desk.writing c.put_rest.new.desk) c.put_rest.ensures.kept
     c.carry_on-halt.result (λ broken. false≢true (sym c.if-is_broken.false ∙ c.is_broken.ensures.1 broken)) c.carry_on-halt.ensures.stops)
@@ -130,7 +130,7 @@ returns-in-Ok-put_rest-clause-kept_out g c = WritesFrom-then g.files.first (g.D.
 pub returns-in-Err-Failed-clause-kept_out : goal.returns-in-Err-Failed-clause-kept_out
 returns-in-Err-Failed-clause-kept_out g c = WritesFrom-then g.files.first (g.D.Desk.writing c.args.desk.now) (g.D.Desk.writing c.carry_on-halt.new.desk) (g.D.Desk.writing c.put_rest.new.desk)
     c.carry_on-halt.ensures.kept_out
-    (Stops-writes g.D.Desk.tells (course_with g.G.Gate.opens c.args.domain.now c.args.readings.now c.args.ports.now g.files)
+    (Stops-writes g.D.Desk.tells (course_with g.G.Gate.opens c.args.terms.now.domain.now c.args.terms.now.readings.now c.args.terms.now.ports.now g.files)
     (g.D.Desk.reading c.args.desk.now) (g.D.Desk.reading c.carry_on-halt.new.desk) (g.D.Desk.writing c.args.desk.now) (g.D.Desk.writing c.carry_on-halt.new.desk)
     c.carry_on-halt.new.progress.gathered c.carry_on-halt.new.outputs (g.D.Desk.writing c.put_rest.new.desk) c.put_rest.ensures.kept
     c.carry_on-halt.result (λ broken. false≢true (sym c.if-is_broken.false ∙ c.is_broken.ensures.1 broken)) c.carry_on-halt.ensures.stops)
@@ -138,7 +138,7 @@ returns-in-Err-Failed-clause-kept_out g c = WritesFrom-then g.files.first (g.D.D
 pub returns-clause-kept_out : goal.returns-clause-kept_out
 returns-clause-kept_out g c = WritesFrom-then g.files.first (g.D.Desk.writing c.args.desk.now) (g.D.Desk.writing c.carry_on-halt.new.desk) (g.D.Desk.writing c.put_rest.new.desk)
     c.carry_on-halt.ensures.kept_out
-    (Stops-writes g.D.Desk.tells (course_with g.G.Gate.opens c.args.domain.now c.args.readings.now c.args.ports.now g.files)
+    (Stops-writes g.D.Desk.tells (course_with g.G.Gate.opens c.args.terms.now.domain.now c.args.terms.now.readings.now c.args.terms.now.ports.now g.files)
     (g.D.Desk.reading c.args.desk.now) (g.D.Desk.reading c.carry_on-halt.new.desk) (g.D.Desk.writing c.args.desk.now) (g.D.Desk.writing c.carry_on-halt.new.desk)
     c.carry_on-halt.new.progress.gathered c.carry_on-halt.new.outputs (g.D.Desk.writing c.put_rest.new.desk) c.put_rest.ensures.kept
     c.carry_on-halt.result (λ broken. false≢true (sym c.if-is_broken.false ∙ c.is_broken.ensures.1 broken)) c.carry_on-halt.ensures.stops)

@@ -14,11 +14,11 @@ turns-init g c = record { running = c.requires.1.1.1.1.1.1.0; width = c.requires
 pub turn-requires : goal.turn-requires
 turn-requires g c =
     let running = c.turns.invariant.running in
-    (g.files.lanes, running.taken, running.are, omega (arith, running.few, c.args.domain.now.packets_most))
+    (g.files.lanes, running.taken, running.are, omega (arith, running.few, c.args.terms.now.domain.now.packets_most))
 
 pub returns-in-Ok-Over-clause-stops : goal.returns-in-Ok-Over-clause-stops
 returns-in-Ok-Over-clause-stops g c =
-    let course = course_with g.G.Gate.opens c.args.domain.now c.args.readings.now c.args.ports.now g.files in
+    let course = course_with g.G.Gate.opens c.args.terms.now.domain.now c.args.terms.now.readings.now c.args.terms.now.ports.now g.files in
     let running = c.turns.invariant.running in
     let turned = rw c.in-Ok-Over.field-0-is at (c.in-Ok-Over.ensures.turns g.files.lanes running.taken running.are) in (
       Running-halted g.D.Desk.tells course (g.D.Desk.reading c.turns.desk) (g.D.Desk.writing c.turns.desk) (g.D.Desk.writing c.turn.new.desk)
@@ -29,7 +29,7 @@ returns-in-Ok-Over-clause-stops g c =
 
 pub returns-in-Ok-Broken-clause-stops : goal.returns-in-Ok-Broken-clause-stops
 returns-in-Ok-Broken-clause-stops g c =
-    let course = course_with g.G.Gate.opens c.args.domain.now c.args.readings.now c.args.ports.now g.files in
+    let course = course_with g.G.Gate.opens c.args.terms.now.domain.now c.args.terms.now.readings.now c.args.terms.now.ports.now g.files in
     let running = c.turns.invariant.running in
     let turned = rw c.in-Ok-Broken.field-0-is at (c.in-Ok-Broken.ensures.turns g.files.lanes running.taken running.are) in (
       turned.0,
@@ -48,7 +48,7 @@ unreachable-requires g c =
 
 pub returns-in-Err-Failed-clause-stops : goal.returns-in-Err-Failed-clause-stops
 returns-in-Err-Failed-clause-stops g c =
-    let course = course_with g.G.Gate.opens c.args.domain.now c.args.readings.now c.args.ports.now g.files in
+    let course = course_with g.G.Gate.opens c.args.terms.now.domain.now c.args.terms.now.readings.now c.args.terms.now.ports.now g.files in
     let running = c.turns.invariant.running in
     let turned = rw c.in-Err-Failed.field-0-is at (c.in-Err-Failed.ensures.turns g.files.lanes running.taken running.are) in
     let rose = rw c.in-Err-Failed.field-0-is at c.in-Err-Failed.ensures.cause in (
@@ -63,7 +63,7 @@ returns-in-Err-Failed-clause-stops g c =
 
 pub returns-in-Err-NoMemory-clause-stops : goal.returns-in-Err-NoMemory-clause-stops
 returns-in-Err-NoMemory-clause-stops g c =
-    Running-fronts_now g.D.Desk.tells (course_with g.G.Gate.opens c.args.domain.now c.args.readings.now c.args.ports.now g.files) (g.D.Desk.reading c.turns.desk)
+    Running-fronts_now g.D.Desk.tells (course_with g.G.Gate.opens c.args.terms.now.domain.now c.args.terms.now.readings.now c.args.terms.now.ports.now g.files) (g.D.Desk.reading c.turns.desk)
     (g.D.Desk.writing c.turns.desk) (g.D.Desk.writing c.turn.new.desk) c.turns.progress c.turns.outputs c.turns.invariant.running c.in-Err-NoMemory.ensures.outputs
 
 pub pass_on-requires : goal.pass_on-requires
@@ -82,7 +82,7 @@ pass_on-requires g c κs within =
               (
                 c.requires.1.1.1.1.1.0,
                 (
-                  Running-coming g.D.Desk.tells (course_with g.G.Gate.opens c.args.domain.now c.args.readings.now c.args.ports.now g.files) (g.D.Desk.reading c.turns.desk)
+                  Running-coming g.D.Desk.tells (course_with g.G.Gate.opens c.args.terms.now.domain.now c.args.terms.now.readings.now c.args.terms.now.ports.now g.files) (g.D.Desk.reading c.turns.desk)
                       (g.D.Desk.writing c.turns.desk) (g.D.Desk.writing c.turn.new.desk) c.turns.progress c.turns.outputs running c.in-Ok-Next.ensures.outputs
                       (g.D.Desk.reading c.turn.new.desk) c.turn.new.self c.in-Ok-Next.place _ comes,
                   (c.requires.1.1.1.1.1.1.1.0, (c.requires.1.1.1.1.1.1.1.1.0, (c.turns.invariant.width, c.turns.invariant.waiting))),
@@ -114,7 +114,7 @@ turns-preserved g c = record {
 
 pub returns-in-Err-clause-stops : goal.returns-in-Err-clause-stops
 returns-in-Err-clause-stops g c =
-    Stops-since g.D.Desk.tells (course_with g.G.Gate.opens c.args.domain.now c.args.readings.now c.args.ports.now g.files)
+    Stops-since g.D.Desk.tells (course_with g.G.Gate.opens c.args.terms.now.domain.now c.args.terms.now.readings.now c.args.terms.now.ports.now g.files)
     (g.D.Desk.reading c.args.desk.now) (g.D.Desk.reading c.turn.new.desk) (g.D.Desk.reading c.pass_on.new.desk)
     (g.D.Desk.writing c.args.desk.now) (g.D.Desk.writing c.turn.new.desk) (g.D.Desk.writing c.pass_on.new.desk)
     c.pass_on.new.progress.gathered c.pass_on.new.outputs

@@ -11,8 +11,8 @@ use Rattle.ioam_traffic.proofs.turns.carry_on.Given as goal
 -- the outputs were told the texts so far of what was taken
 abbrev pub invariant-turns : goal.invariant-turns
 invariant-turns g l = record {
-  running : Running g.D.Desk.tells (course_with g.G.Gate.opens l.initial.domain l.initial.readings l.initial.ports g.files) (g.D.Desk.reading l.desk) (g.D.Desk.writing l.desk) l.progress l.outputs;
-  width : length l.outputs ≡ outlet_count l.initial.domain;
+  running : Running g.D.Desk.tells (course_with g.G.Gate.opens l.initial.terms.domain.now l.initial.terms.readings.now l.initial.terms.ports.now g.files) (g.D.Desk.reading l.desk) (g.D.Desk.writing l.desk) l.progress l.outputs;
+  width : length l.outputs ≡ outlet_count l.initial.terms.domain.now;
   waiting : GathersFew l.outputs;
   inputs : (g.D.Desk.reading l.desk).side ≡ (g.D.Desk.reading l.initial.desk).side;
   kept : EndsKept g.files.lanes.base (g.D.Desk.reading l.initial.desk) (g.D.Desk.reading l.desk);
@@ -22,7 +22,7 @@ invariant-turns g l = record {
 
 -- how many more may be taken
 abbrev pub decreases-turns : goal.decreases-turns
-decreases-turns g l = l.initial.domain.packets - taken l.progress.gathered
+decreases-turns g l = l.initial.terms.domain.now.packets - taken l.progress.gathered
 
 abbrev pub ghost-pass_on : goal.ghost-pass_on
 ghost-pass_on g a = g.files

@@ -14,19 +14,19 @@ tell-requires-clause-of g c κs within = c.requires.1.1.1.1.1.1.0.forwards.of
 
 pub tell-requires-clause-few : goal.tell-requires-clause-few
 tell-requires-clause-few g c κs within =
-    let course = course_with g.G.Gate.opens c.args.domain.now c.args.readings.now c.args.ports.now g.files in
+    let course = course_with g.G.Gate.opens c.args.terms.now.domain.now c.args.terms.now.readings.now c.args.terms.now.ports.now g.files in
     let Are : List Arrival → Type 0 = λ taken. (time : ℕ) × Comes g.D.Desk.tells course.lanes (g.D.Desk.reading c.args.desk.now) c.args.progress.now.merge taken c.args.place time in
     let coming = c.requires.1.1.1.1.1.1.0 in
     omega (
       arith,
       Runs-count g.D.Desk.tells course Are (g.D.Desk.writing c.args.desk.now) c.args.progress.now.gathered c.args.outputs.now coming,
       coming.few,
-      c.args.domain.now.packets_most,
+      c.args.terms.now.domain.now.packets_most,
     )
 
 pub returns-in-Err-clause-stops : goal.returns-in-Err-clause-stops
 returns-in-Err-clause-stops g c =
-    let course = course_with g.G.Gate.opens c.args.domain.now c.args.readings.now c.args.ports.now g.files in
+    let course = course_with g.G.Gate.opens c.args.terms.now.domain.now c.args.terms.now.readings.now c.args.terms.now.ports.now g.files in
     let inputs = g.D.Desk.reading c.args.desk.now in
     let outputs = g.D.Desk.writing c.args.desk.now in
     Running-fronts g.D.Desk.tells course inputs outputs c.args.progress.now c.args.outputs.now
@@ -34,7 +34,7 @@ returns-in-Err-clause-stops g c =
 
 pub flush_full-requires : goal.flush_full-requires
 flush_full-requires g c =
-    let course = course_with g.G.Gate.opens c.args.domain.now c.args.readings.now c.args.ports.now g.files in
+    let course = course_with g.G.Gate.opens c.args.terms.now.domain.now c.args.terms.now.readings.now c.args.terms.now.ports.now g.files in
     let inputs = g.D.Desk.reading c.args.desk.now in
     let Are : List Arrival → Type 0 = λ taken. (time : ℕ) × Comes g.D.Desk.tells course.lanes inputs c.args.progress.now.merge taken c.args.place time in
     let (added, adds, gathers) = c.in-Ok.ensures.gathers in
@@ -44,7 +44,7 @@ flush_full-requires g c =
 
 pub returns-in-Ok-flush_full-clause-coming : goal.returns-in-Ok-flush_full-clause-coming
 returns-in-Ok-flush_full-clause-coming g c =
-    let course = course_with g.G.Gate.opens c.args.domain.now c.args.readings.now c.args.ports.now g.files in
+    let course = course_with g.G.Gate.opens c.args.terms.now.domain.now c.args.terms.now.readings.now c.args.terms.now.ports.now g.files in
     let inputs = g.D.Desk.reading c.args.desk.now in
     let Are : Reading → List Arrival → Type 0 = λ r taken. (time : ℕ) × Comes g.D.Desk.tells course.lanes r c.args.progress.now.merge taken c.args.place time in
     let (added, adds, gathers) = c.in-Ok.ensures.gathers in
@@ -57,7 +57,7 @@ returns-in-Ok-flush_full-clause-coming g c =
 
 pub returns-in-Err-Failed-clause-stops : goal.returns-in-Err-Failed-clause-stops
 returns-in-Err-Failed-clause-stops g c =
-    let course = course_with g.G.Gate.opens c.args.domain.now c.args.readings.now c.args.ports.now g.files in
+    let course = course_with g.G.Gate.opens c.args.terms.now.domain.now c.args.terms.now.readings.now c.args.terms.now.ports.now g.files in
     let inputs = g.D.Desk.reading c.args.desk.now in
     let Are : List Arrival → Type 0 = λ taken. (time : ℕ) × Comes g.D.Desk.tells course.lanes inputs c.args.progress.now.merge taken c.args.place time in
     let (added, adds, gathers) = c.in-Ok.ensures.gathers in
@@ -72,7 +72,7 @@ returns-in-Err-Failed-clause-stops g c =
 
 pub returns-in-Err-NoMemory-clause-stops : goal.returns-in-Err-NoMemory-clause-stops
 returns-in-Err-NoMemory-clause-stops g c = λ told.
-    let course = course_with g.G.Gate.opens c.args.domain.now c.args.readings.now c.args.ports.now g.files in
+    let course = course_with g.G.Gate.opens c.args.terms.now.domain.now c.args.terms.now.readings.now c.args.terms.now.ports.now g.files in
     let inputs = g.D.Desk.reading c.args.desk.now in
     let Are : List Arrival → Type 0 = λ taken. (time : ℕ) × Comes g.D.Desk.tells course.lanes inputs c.args.progress.now.merge taken c.args.place time in
     let (added, adds, gathers) = c.in-Ok.ensures.gathers in
@@ -91,7 +91,7 @@ returns-in-Err-clause-kept g c = WritesFrom-same g.files.first (g.D.Desk.writing
 
 pub returns-in-Ok-flush_full-clause-kept : goal.returns-in-Ok-flush_full-clause-kept
 returns-in-Ok-flush_full-clause-kept g c =
-    let course = course_with g.G.Gate.opens c.args.domain.now c.args.readings.now c.args.ports.now g.files in
+    let course = course_with g.G.Gate.opens c.args.terms.now.domain.now c.args.terms.now.readings.now c.args.terms.now.ports.now g.files in
     let inputs = g.D.Desk.reading c.args.desk.now in
     let Are : List Arrival → Type 0 = λ taken. (time : ℕ) × Comes g.D.Desk.tells course.lanes inputs c.args.progress.now.merge taken c.args.place time in
     let (added, adds, gathers) = c.in-Ok.ensures.gathers in
@@ -102,7 +102,7 @@ returns-in-Ok-flush_full-clause-kept g c =
 
 pub returns-in-Err-Failed-clause-kept : goal.returns-in-Err-Failed-clause-kept
 returns-in-Err-Failed-clause-kept g c =
-    let course = course_with g.G.Gate.opens c.args.domain.now c.args.readings.now c.args.ports.now g.files in
+    let course = course_with g.G.Gate.opens c.args.terms.now.domain.now c.args.terms.now.readings.now c.args.terms.now.ports.now g.files in
     let inputs = g.D.Desk.reading c.args.desk.now in
     let Are : List Arrival → Type 0 = λ taken. (time : ℕ) × Comes g.D.Desk.tells course.lanes inputs c.args.progress.now.merge taken c.args.place time in
     let (added, adds, gathers) = c.in-Ok.ensures.gathers in
@@ -113,7 +113,7 @@ returns-in-Err-Failed-clause-kept g c =
 
 pub returns-in-Err-NoMemory-clause-kept : goal.returns-in-Err-NoMemory-clause-kept
 returns-in-Err-NoMemory-clause-kept g c =
-    let course = course_with g.G.Gate.opens c.args.domain.now c.args.readings.now c.args.ports.now g.files in
+    let course = course_with g.G.Gate.opens c.args.terms.now.domain.now c.args.terms.now.readings.now c.args.terms.now.ports.now g.files in
     let inputs = g.D.Desk.reading c.args.desk.now in
     let Are : List Arrival → Type 0 = λ taken. (time : ℕ) × Comes g.D.Desk.tells course.lanes inputs c.args.progress.now.merge taken c.args.place time in
     let (added, adds, gathers) = c.in-Ok.ensures.gathers in

@@ -7,7 +7,7 @@ use Rattle.ioam_traffic.proofs.turns.pass_on.Goals as goal
 
 pub returns-then-taken-from-clause-stops : goal.returns-then-taken-from-clause-stops
 returns-then-taken-from-clause-stops g c = (
-  Coming-passed g.D.Desk.tells (course_with g.G.Gate.opens c.args.domain.now c.args.readings.now c.args.ports.now g.files) (g.D.Desk.reading c.args.desk.now) (g.D.Desk.writing c.args.desk.now)
+  Coming-passed g.D.Desk.tells (course_with g.G.Gate.opens c.args.terms.now.domain.now c.args.terms.now.readings.now c.args.terms.now.ports.now g.files) (g.D.Desk.reading c.args.desk.now) (g.D.Desk.writing c.args.desk.now)
       c.args.progress.now c.args.outputs.now c.args.place c.requires.1.1.1.1.1.1.0 (omega arith),
   refl,
 )
@@ -30,7 +30,7 @@ take_next-requires-clause-below g c =
 
 pub returns-in-Err-take_next-clause-stops : goal.returns-in-Err-take_next-clause-stops
 returns-in-Err-take_next-clause-stops g c =
-    let course = course_with g.G.Gate.opens c.args.domain.now c.args.readings.now c.args.ports.now g.files in
+    let course = course_with g.G.Gate.opens c.args.terms.now.domain.now c.args.terms.now.readings.now c.args.terms.now.ports.now g.files in
     let inputs = g.D.Desk.reading c.make_room.new.desk in
     let outputs = g.D.Desk.writing c.make_room.new.desk in
     Running-fronts g.D.Desk.tells course inputs outputs c.make_room.new.progress c.make_room.new.outputs
