@@ -1,5 +1,5 @@
 -- Laws of crossings: how the octets of one more visit are parted from those of the visits before, and found again.
-use Rattle.std.proofs.Common.{◌≡◌, ℕ, zero, suc, ◌+◌, ◌<◌, ◌≤◌, Bool, true, false, List, [], ◌∷◌, ◌++◌, length, get_or, map, take, drop, Option, Some, None, slice_get, refl, sym, ap, ◌∙◌, subst, length-append, length-drop, drop-drop, arith, add-zero, zero-add, true≢false}
+use Rattle.std.proofs.Common.{◌≡◌, ℕ, zero, suc, ◌+◌, ◌<◌, ◌≤◌, Bool, true, false, List, [], ◌∷◌, ◌++◌, length, get_or, map, take, drop, Option, Some, None, slice_get, refl, sym, ap, ◌∙◌, length-drop, drop-drop, arith, add-zero, zero-add, true≢false}
 use Rattle.std.proofs.lemmas.List.{get_or-drop, take-append-drop, take_all, take_more, take-append-le, drop-append-le}
 use Rattle.ioam_batch.specs.Crossings.{filled, joined, parted, sent_if}
 

@@ -1,12 +1,12 @@
 -- Laws of jobs in a batch and in its chunks.
-use Rattle.std.proofs.Common.{◌≡◌, ℕ, suc, ◌+◌, ◌<◌, ◌≤◌, List, [], ◌∷◌, ◌++◌, length, get_or, set, take, drop, All, refl, sym, ap, ◌∙◌, subst, inl, inr, add-zero, length-set, arith}
-use Rattle.std.specs.List.{AllZip, sum_by}
+use Rattle.std.proofs.Common.{◌≡◌, ℕ, suc, ◌+◌, ◌<◌, ◌≤◌, List, [], ◌∷◌, ◌++◌, length, get_or, set, take, drop, All, refl, sym, ap, ◌∙◌, subst, inl, inr, add-zero, arith}
+use Rattle.std.specs.List.{AllZip}
 use Rattle.std.proofs.lemmas.Grind.{drop_more_same}
 use Rattle.std.proofs.lemmas.List.{get_or-drop, take_all, take_more, take_more_set, drop-set-lt}
 use Rattle.std.proofs.lemmas.List.Elements.{AllZip-get_or, AllZip-push, All-nil, All-cons, All-head, All-tail}
 use Rattle.std.proofs.lemmas.List.Sums.{sum_by-cons}
 use Rattle.ioam_batch.specs.Batches.{MayRun, all_reserved}
-use Rattle.ioam_batch.specs.Jobs.{HasRun, Holds, IsFresh, reserved_of}
+use Rattle.ioam_batch.specs.Jobs.{HasRun, Holds, reserved_of}
 use Rattle.ioam_batch.specs.declared.job.Job.{Job}
 use Rattle.ioam_clock.specs.declared.sample.Sample.{Sample}
 use Rattle.ioam_topo.specs.declared.domain.Domain.{Domain}

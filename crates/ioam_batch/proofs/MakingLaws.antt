@@ -1,5 +1,5 @@
 -- Laws of the outer packet that a job begins with.
-use Rattle.std.proofs.Common.{◌≡◌, ℕ, zero, suc, ◌+◌, ◌<◌, ◌≤◌, Bool, true, false, List, [], ◌∷◌, length, Option, Some, None, is_some, IfSome, slice_get, refl, sym, ap, ◌∙◌, arith, true≢false}
+use Rattle.std.proofs.Common.{◌≡◌, ℕ, zero, suc, ◌+◌, ◌<◌, ◌≤◌, true, List, [], ◌∷◌, length, Option, Some, None, is_some, IfSome, slice_get, refl, sym, ap, ◌∙◌, arith, true≢false}
 use Rattle.std.specs.Prelude.{IsSome, slice_index}
 use Rattle.ioam_batch.specs.Jobs.{GoesBy, Holds}
 use Rattle.ioam_batch.specs.declared.job.Job.{Job}

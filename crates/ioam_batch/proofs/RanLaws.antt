@@ -1,8 +1,7 @@
 -- Laws of what visits leave, one visit after the other.
-use Rattle.std.proofs.Common.{◌≡◌, ℕ, zero, suc, ◌+◌, ◌-◌, ◌*◌, ◌<◌, ◌≤◌, Bool, true, false, List, [], ◌∷◌, ◌++◌, Option, Some, None, length, get_or, map, set, take, drop, refl, sym, ap, ◌∙◌, subst, arith, length-append, append_assoc, mul-le-mul_left}
-use Rattle.std.proofs.lemmas.List.{length-map, map-append, get_or-set_same, set-set, set-get_or}
+use Rattle.std.proofs.Common.{◌≡◌, ℕ, zero, suc, ◌+◌, ◌-◌, ◌*◌, ◌<◌, ◌≤◌, Bool, false, List, [], ◌∷◌, ◌++◌, Option, None, length, get_or, map, set, drop, refl, sym, ap, ◌∙◌, arith, append_assoc, mul-le-mul_left}
+use Rattle.std.proofs.lemmas.List.{length-map, map-append, get_or-set_same, set-set}
 use Rattle.std.specs.Prelude.{slice_index, slice_set}
-use Rattle.ioam_batch.specs.Along.{along}
 use Rattle.ioam_batch.specs.Crossings.{sent_if}
 use Rattle.ioam_batch.specs.Ran.{Closed, Ran, Sent, crossed_at, exported_at, lowered_from, noted_at, passed, wired}
 use Rattle.ioam_batch.specs.Taps.{is_tapped, taps_by}

@@ -1,8 +1,8 @@
 -- Laws of a job whose visits are done.
-use Rattle.std.proofs.Common.{◌≡◌, ℕ, ◌<◌, ◌+◌, ◌*◌, Bool, true, false, List, [], ◌∷◌, ◌++◌, Option, Some, None, is_some, length, map, refl, sym, ap, ◌∙◌, subst, arith, append-nil, true≢false}
+use Rattle.std.proofs.Common.{◌≡◌, ℕ, ◌<◌, ◌+◌, Bool, true, List, [], ◌++◌, Option, Some, None, is_some, length, map, sym, ap, ◌∙◌, subst, arith, append-nil, true≢false}
 use Rattle.std.specs.Prelude.{IfSome, IsSome}
 use Rattle.ioam_batch.specs.Crossings.{Crossed, crossings, sent_if}
-use Rattle.ioam_batch.specs.Jobs.{HasRun, Holds, IsFresh, RunsBy, RunsInTunnel, reserved_of}
+use Rattle.ioam_batch.specs.Jobs.{HasRun, Holds, IsFresh, RunsBy, RunsInTunnel}
 use Rattle.ioam_batch.specs.Ran.{RanBy, Sent}
 use Rattle.ioam_batch.specs.declared.job.Job.{Job}
 use Rattle.ioam_batch.proofs.RanLaws.{starts}

@@ -1,5 +1,5 @@
 -- What the visits of a job sent on links with a tap.
-use Rattle.std.proofs.Common.{◌≡◌, ℕ, zero, suc, ◌+◌, ◌<◌, Bool, true, false, List, [], ◌∷◌, ◌++◌, Option, Some, None, length, map, slice_get, take, refl, sym, ap, ◌∙◌, subst, arith, append_assoc}
+use Rattle.std.proofs.Common.{◌≡◌, ℕ, zero, suc, ◌+◌, Bool, true, false, List, [], ◌∷◌, ◌++◌, Option, Some, None, length, map, slice_get, take, sym, ap, ◌∙◌, subst, arith, append_assoc}
 use Rattle.ioam_batch.specs.Along.{along}
 use Rattle.ioam_batch.specs.Crossings.{crossings, joined, sent_if}
 use Rattle.ioam_batch.specs.Jobs.{HasRun, HoldsBy, IsJobOf, RunsBy}

@@ -1,5 +1,4 @@
-use Rattle.std.proofs.Common.{◌≡◌, ◌≤◌, ◌+◌, if◌then◌else◌, length, arith}
-use Rattle.std.specs.Prelude.{slice_index}
+use Rattle.std.proofs.Common.{◌≤◌, ◌+◌, if◌then◌else◌, length, arith}
 use Rattle.ioam_batch.proofs.MakingLaws.{hops-of, short-of, start-limit}
 use Rattle.ioam_batch.proofs.making.enclosed.Goals as goal
 use Rattle.ioam_tunnel.specs.Enclosed.{tunnel_of}

@@ -1,6 +1,6 @@
-use Rattle.std.proofs.Common.{◌≡◌, ◌≤◌, [], List, true, false, length, take, drop, map, refl, sym, ap, ◌∙◌, subst, arith}
+use Rattle.std.proofs.Common.{List, true, false, length, map, refl, ◌∙◌, subst, arith}
 use Rattle.std.proofs.lemmas.List.{length-map, drop_all, take_all, with_items_is}
-use Rattle.ioam_batch.specs.Ran.{RanBy, Sent}
+use Rattle.ioam_batch.specs.Ran.{RanBy}
 use Rattle.ioam_batch.specs.Taps.{is_tapped}
 use Rattle.ioam_plan.specs.declared.itinerary.Visit.{Visit}
 use Rattle.ioam_batch.proofs.RunLaws.{runs-in-tunnel}

@@ -1,4 +1,4 @@
-use Rattle.std.proofs.Common.{◌≡◌, ◌≤◌, length, map, get_or, false, arith}
+use Rattle.std.proofs.Common.{◌≤◌, length, map, get_or, false, arith}
 use Rattle.std.proofs.lemmas.List.{length-map}
 use Rattle.ioam_batch.specs.Ran.{passed}
 use Rattle.ioam_batch.proofs.RanLaws.{passes}

@@ -1,4 +1,4 @@
-use Rattle.std.proofs.Common.{◌≡◌, ◌<◌, ◌≤◌, [], List, Bool, length, get_or, map, take, drop, false, sym, ap, ◌∙◌, subst, arith, drop-drop}
+use Rattle.std.proofs.Common.{◌≡◌, ◌<◌, ◌≤◌, List, Bool, length, get_or, map, take, drop, false, sym, ap, ◌∙◌, subst, arith, drop-drop}
 use Rattle.std.proofs.lemmas.List.{length-take-le, take_more}
 use Rattle.ioam_batch.specs.Ran.{Sent}
 use Rattle.ioam_batch.specs.Taps.{is_tapped}

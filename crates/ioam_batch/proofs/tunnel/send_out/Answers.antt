@@ -1,4 +1,4 @@
-use Rattle.std.proofs.Common.{◌≡◌, ◌+◌, ◌-◌, ◌<◌, ◌≤◌, [], ◌∷◌, ◌++◌, length, drop, get_or, map, take, sym, ap, ◌∙◌, arith, length-append}
+use Rattle.std.proofs.Common.{◌+◌, ◌-◌, ◌<◌, ◌≤◌, [], ◌∷◌, length, drop, map, take, sym, ap, ◌∙◌, arith, length-append}
 use Rattle.std.proofs.lemmas.List.{drop_all, length-drop, length-map, length-take-le, take_all, take_more}
 use Rattle.ioam_batch.specs.Taps.{is_tapped}
 use Rattle.ioam_batch.proofs.tunnel.send_out.Goals as goal

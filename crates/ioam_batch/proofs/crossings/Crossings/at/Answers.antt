@@ -1,4 +1,4 @@
-use Rattle.std.proofs.Common.{◌≡◌, ◌<◌, ◌≤◌, ◌+◌, ℕ, List, Bool, true, false, None, Some, drop, take, get_or, length, slice_get, sym, ap, ◌∙◌, arith}
+use Rattle.std.proofs.Common.{◌≡◌, ◌<◌, false, Some, drop, take, length, slice_get, sym, ap, ◌∙◌, arith}
 use Rattle.std.proofs.lemmas.List.{get_or_default}
 use Rattle.ioam_batch.specs.Crossings.{Crossed, crossings, filled, joined}
 use Rattle.ioam_batch.proofs.CrossingLaws.{at-ahead, at-done, at-none, at-past, fits-done}

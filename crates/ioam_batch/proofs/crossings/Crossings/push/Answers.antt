@@ -1,4 +1,4 @@
-use Rattle.std.proofs.Common.{◌≡◌, ◌<◌, ◌≤◌, ◌+◌, ◌++◌, ◌∷◌, [], ℕ, List, Bool, true, false, Some, drop, take, get_or, length, sym, ap, ◌∙◌, length-append, length-drop, vec_capacity, arith, rules}
+use Rattle.std.proofs.Common.{◌≡◌, ◌<◌, ◌≤◌, ◌+◌, ◌++◌, ◌∷◌, [], List, Bool, true, false, Some, drop, take, get_or, length, sym, ap, ◌∙◌, length-append, length-drop, vec_capacity, arith, rules}
 use Rattle.ioam_batch.specs.Crossings.{Crossed, filled, parted}
 use Rattle.ioam_batch.proofs.CrossingLaws.{filled-front, filled-tap, next-tap, parted-true}
 use Rattle.ioam_batch.proofs.crossings.Crossings.push.Goals as goal

@@ -1,4 +1,4 @@
-use Rattle.std.proofs.Common.{◌≡◌, ◌<◌, ◌++◌, ◌∷◌, [], ℕ, List, Bool, false, None, drop, take, get_or, length, sym, ap, ◌∙◌, length-drop, arith}
+use Rattle.std.proofs.Common.{◌≡◌, ◌<◌, ◌++◌, ◌∷◌, [], List, Bool, false, None, drop, take, get_or, length, sym, ap, ◌∙◌, length-drop, arith}
 use Rattle.ioam_batch.specs.Crossings.{Crossed, parted}
 use Rattle.ioam_batch.proofs.CrossingLaws.{filled-none, next-tap, parted-false}
 use Rattle.ioam_batch.proofs.crossings.Crossings.skip.Goals as goal
