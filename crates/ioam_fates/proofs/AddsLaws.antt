@@ -1,86 +1,70 @@
--- Octets that are added to the outputs of a run: to those of the ports, and to the report.
-use Rattle.std.proofs.Common.{◌≡◌, ℕ, zero, suc, ◌+◌, ◌<◌, ◌≤◌, List, [], ◌∷◌, ◌++◌, length, get_or, set, refl, sym, ◌∙◌, ap, append_assoc, append-nil, arith, subst}
-use Rattle.ioam_outputs.specs.declared.output.Output.{Output}
+-- Octets that are added to the outputs of a run, by what each of them is for.
+use Rattle.std.proofs.Common.{◌≡◌, ℕ, zero, suc, ◌+◌, ◌<◌, ◌≤◌, List, [], ◌∷◌, ◌++◌, map, length, get_or, set, refl, sym, ◌∙◌, ap, append_assoc, append-nil, length-append, arith, subst}
+use Rattle.std.specs.Prelude.{⊤}
+use Rattle.std.specs.List.{All}
+use Rattle.std.proofs.lemmas.List.{length-map}
+use Rattle.std.proofs.lemmas.List.Elements.{All-head, All-tail}
+use Rattle.ioam_outlets.specs.Outlets.{each_from, of_outlets, tapped, outlet_count, HasTap}
+use Rattle.ioam_outlets.proofs.OutletsLaws.{length-each_from, length-of_outlets, tapped_have}
 use Rattle.ioam_outputs.specs.Told.{Adds, said_more}
-use Rattle.std.specs.Prelude.{Bool, true, false, nat_eq, nat_lt, if◌then◌else◌, ◌≢◌}
-use Rattle.std.proofs.lemmas.Bool.{ltb-true, ltb-false, lt-ltb, le-ltb, ne_eqb, eq-eqb, eqb-true, eqb-false}
-use Rattle.ioam_node.specs.declared.admitted.Admit.{Admit}
-use Rattle.ioam_node.specs.declared.admitted.Admit.TheVariants as admit
-use Rattle.ioam_node.specs.declared.reason.Reason.{Reason}
-use Rattle.ioam_pcap.specs.Text.{Sent, records_text, record_octets, capture_text}
-use Rattle.ioam_plan.specs.declared.itinerary.Visit.{Visit}
-use Rattle.ioam_plan.specs.declared.itinerary.End.{End}
-use Rattle.ioam_plan.specs.declared.itinerary.End.TheVariants.{Left, Drop}
-use Rattle.ioam_topo.specs.declared.ids.NodeId.{NodeId}
-use Rattle.ioam_topo.specs.declared.ids.PortId.{PortId}
-use Rattle.ioam_forward.specs.Fate.{DropsAlike}
-use Rattle.ioam_ip.specs.Lowered.{lowered}
-use Rattle.ioam_forward.specs.Texts.{each_text, sent_by_end, sent_of, last_time}
+use Rattle.ioam_outputs.specs.declared.output.Output.{Output}
+use Rattle.ioam_topo.specs.Domain.{links, ports}
+use Rattle.ioam_topo.specs.declared.domain.Domain.{Domain}
+use Rattle.ioam_topo.specs.declared.ids.LinkId.{LinkId}
+use Rattle.ioam_topo.specs.declared.parts.Link.{Link}
 
--- the head of a capture for each port in front of a place
-abbrev pub head_below : ℕ → ℕ → List ℕ
-head_below at port = if nat_lt port at then capture_text [] else []
+-- ---- texts of all outputs
 
--- texts that are equal place by place
-pub same-each : (n from : ℕ) (f g : ℕ → List ℕ) → ((k : ℕ) → from ≤ k → k < from + n → f k ≡ g k) → each_text n from f ≡ each_text n from g
+-- a text for each of these links
+abbrev by_link : (ℕ → List ℕ) → List LinkId → List (List ℕ)
+by_link f ids = map (λ (link : LinkId). f link.0) ids
+
+-- equal ones
+same-each : (n from : ℕ) (f g : ℕ → List ℕ) → ((k : ℕ) → from ≤ k → k < from + n → f k ≡ g k) → each_from n from f ≡ each_from n from g
 same-each zero from f g same = refl
-same-each (suc n) from f g same = ap (λ (t : List ℕ). t ∷ each_text n (suc from) f) (same from (omega arith) (omega arith))
+same-each (suc n) from f g same = ap (λ (t : List ℕ). t ∷ each_from n (suc from) f) (same from (omega arith) (omega arith))
     ∙ ap (λ (rest : List (List ℕ)). g from ∷ rest) (same-each n (suc from) f g (λ k le lt. same k (omega (arith, le)) (omega (arith, lt))))
 
--- the texts of the outputs with more behind each
-pub said-each : (n from : ℕ) (f g : ℕ → List ℕ) (r s : List ℕ)
-    → said_more (each_text n from f ++ r ∷ [] ∷ []) (each_text n from g ++ s ∷ [] ∷ [])
-    ≡ each_text n from (λ k. f k ++ g k) ++ (r ++ s) ∷ [] ∷ []
-said-each zero from f g r s = refl
-said-each (suc n) from f g r s = ap (λ (rest : List (List ℕ)). (f from ++ g from) ∷ rest) (said-each n (suc from) f g r s)
+same-links : (all : List Link) (ids : List LinkId) (f g : ℕ → List ℕ) → All (HasTap all) ids
+    → ((link : LinkId) → HasTap all link → f link.0 ≡ g link.0) → by_link f ids ≡ by_link g ids
+same-links all [] f g have same = refl
+same-links all (id ∷ ids) f g have same = ap (λ (t : List ℕ). t ∷ by_link f ids) (same id (All-head (HasTap all) id ids have))
+    ∙ ap (λ (rest : List (List ℕ)). g id.0 ∷ rest) (same-links all ids f g (All-tail (HasTap all) id ids have) same)
 
-kept : (xs ys : List ℕ) → ys ≡ [] → xs ≡ xs ++ ys
-kept xs ys none = sym (append-nil xs) ∙ ap (λ (t : List ℕ). xs ++ t) (sym none)
+pub same-outlets : (domain : Domain) (port exit tap cross : ℕ → List ℕ) (report lines exports records : List ℕ)
+    → ((k : ℕ) → k < length (ports domain) → port k ≡ exit k) → ((link : LinkId) → HasTap (links domain) link → tap link.0 ≡ cross link.0)
+    → report ≡ lines → exports ≡ records → of_outlets domain port tap report exports ≡ of_outlets domain exit cross lines records
+same-outlets domain port exit tap cross report lines exports records ports-same taps-same report-same exports-same =
+    let n = length (ports domain) in
+    let ids = tapped (links domain) in
+    ap (λ (ts : List (List ℕ)). ts ++ (by_link tap ids ++ report ∷ exports ∷ [])) (same-each n 0 port exit (λ k le lt. ports-same k (omega (arith, lt))))
+    ∙ ap (λ (ts : List (List ℕ)). each_from n 0 exit ++ (ts ++ report ∷ exports ∷ []))
+    (same-links (links domain) ids tap cross (tapped_have (links domain)) taps-same)
+    ∙ ap (λ (t : List ℕ). each_from n 0 exit ++ (by_link cross ids ++ t ∷ exports ∷ [])) report-same
+    ∙ ap (λ (t : List ℕ). each_from n 0 exit ++ (by_link cross ids ++ lines ∷ t ∷ [])) exports-same
 
--- nothing is added
-pub none-adds : (n from : ℕ) (outputs : List Output) (f : ℕ → List ℕ) → ((k : ℕ) → from ≤ k → f k ≡ []) → length outputs ≡ n + 2
-    → Adds outputs outputs (each_text n from f ++ [] ∷ [] ∷ [])
-none-adds n from [] f none long = absurd (omega (arith, long))
-none-adds zero from (x ∷ []) f none long = absurd (omega (arith, long))
-none-adds zero from (x ∷ y ∷ []) f none long = (refl, kept x.gathered.items [] refl, (refl, kept y.gathered.items [] refl, tt))
-none-adds zero from (x ∷ y ∷ z ∷ outputs) f none long = absurd (omega (arith, long))
-none-adds (suc n) from (x ∷ outputs) f none long = (
-  refl,
-  kept x.gathered.items (f from) (none from (omega arith)),
-  none-adds n (suc from) outputs f (λ k le. none k (omega (arith, le))) (omega (arith, long)),
-)
+-- each with its own octets behind it
+said-each : (n from : ℕ) (f g : ℕ → List ℕ) (xs ys : List (List ℕ))
+    → said_more (each_from n from f ++ xs) (each_from n from g ++ ys) ≡ each_from n from (λ k. f k ++ g k) ++ said_more xs ys
+said-each zero from f g xs ys = refl
+said-each (suc n) from f g xs ys = ap (λ (rest : List (List ℕ)). (f from ++ g from) ∷ rest) (said-each n (suc from) f g xs ys)
 
--- octets are added to the output of a port
-pub port-adds : (n from at : ℕ) (outputs : List Output) (d after : Output) (f : ℕ → List ℕ) (place : ℕ) → place ≡ from + at → at < n
-    → ((k : ℕ) → (k ≡ place → ⊥) → f k ≡ []) → length outputs ≡ n + 2
-    → after.slot ≡ (get_or outputs at d).slot → after.gathered.items ≡ (get_or outputs at d).gathered.items ++ f place
-    → Adds outputs (set outputs at after) (each_text n from f ++ [] ∷ [] ∷ [])
-port-adds zero from at outputs d after f place is inside none long slot adds = absurd (omega (arith, inside))
-port-adds (suc n) from at [] d after f place is inside none long slot adds = absurd (omega (arith, long))
-port-adds (suc n) from zero (x ∷ outputs) d after f place is inside none long slot adds =
-    let here : place ≡ from = omega (arith, is) in (
-      slot,
-      adds ∙ ap (λ (k : ℕ). x.gathered.items ++ f k) here,
-      none-adds n (suc from) outputs f (λ k le. none k (λ same. omega (arith, same, here, le))) (omega (arith, long)),
-    )
-port-adds (suc n) from (suc at) (x ∷ outputs) d after f place is inside none long slot adds = (
-  refl,
-  kept x.gathered.items (f from) (none from (λ same. omega (arith, same, is))),
-  port-adds n (suc from) at outputs d after f place (omega (arith, is)) (omega (arith, inside)) none (omega (arith, long)) slot adds,
-)
+said-links : (ids : List LinkId) (f g : ℕ → List ℕ) (xs ys : List (List ℕ))
+    → said_more (by_link f ids ++ xs) (by_link g ids ++ ys) ≡ by_link (λ k. f k ++ g k) ids ++ said_more xs ys
+said-links [] f g xs ys = refl
+said-links (id ∷ ids) f g xs ys = ap (λ (rest : List (List ℕ)). (f id.0 ++ g id.0) ∷ rest) (said-links ids f g xs ys)
 
--- octets are added to the report
-pub report-adds : (n from : ℕ) (outputs : List Output) (d after : Output) (line : List ℕ) → length outputs ≡ n + 2
-    → after.slot ≡ (get_or outputs n d).slot → after.gathered.items ≡ (get_or outputs n d).gathered.items ++ line
-    → Adds outputs (set outputs n after) (each_text n from (λ k. []) ++ line ∷ [] ∷ [])
-report-adds n from [] d after line long slot adds = absurd (omega (arith, long))
-report-adds zero from (x ∷ []) d after line long slot adds = absurd (omega (arith, long))
-report-adds zero from (x ∷ y ∷ []) d after line long slot adds = (slot, adds, (refl, kept y.gathered.items [] refl, tt))
-report-adds zero from (x ∷ y ∷ z ∷ outputs) d after line long slot adds = absurd (omega (arith, long))
-report-adds (suc n) from (x ∷ outputs) d after line long slot adds =
-    (refl, kept x.gathered.items [] refl, report-adds n (suc from) outputs d after line (omega (arith, long)) slot adds)
+pub said-outlets : (domain : Domain) (port exit tap cross : ℕ → List ℕ) (report lines exports records : List ℕ)
+    → said_more (of_outlets domain port tap report exports) (of_outlets domain exit cross lines records)
+    ≡ of_outlets domain (λ k. port k ++ exit k) (λ k. tap k ++ cross k) (report ++ lines) (exports ++ records)
+said-outlets domain port exit tap cross report lines exports records =
+    let n = length (ports domain) in
+    let ids = tapped (links domain) in
+    said-each n 0 port exit (by_link tap ids ++ report ∷ exports ∷ []) (by_link cross ids ++ lines ∷ records ∷ [])
+    ∙ ap (λ (ts : List (List ℕ)). each_from n 0 (λ k. port k ++ exit k) ++ ts) (said-links ids tap cross (report ∷ exports ∷ []) (lines ∷ records ∷ []))
 
--- octets are added, and then others
+-- ---- octets added one after the other
+
 pub Adds-twice : (a b c : List Output) (xs ys : List (List ℕ)) → Adds a b xs → Adds b c ys → Adds a c (said_more xs ys)
 Adds-twice [] [] [] [] [] first second = tt
 Adds-twice (o ∷ a) (m ∷ b) (n ∷ c) (x ∷ xs) (y ∷ ys) first second = (
@@ -97,23 +81,6 @@ Adds-twice (o ∷ a) (m ∷ b) c [] ys first second = absurd first
 Adds-twice (o ∷ a) (m ∷ b) [] (x ∷ xs) ys first second = absurd second
 Adds-twice (o ∷ a) (m ∷ b) (n ∷ c) (x ∷ xs) [] first second = absurd second
 
--- octets are added to outputs of ports, and then others to these outputs and the report
-pub both-add : (n : ℕ) (a b c : List Output) (f g h : ℕ → List ℕ) (line : List ℕ) → Adds a b (each_text n 0 f ++ [] ∷ [] ∷ [])
-    → Adds b c (each_text n 0 g ++ line ∷ [] ∷ []) → ((k : ℕ) → k < n → f k ++ g k ≡ h k) → Adds a c (each_text n 0 h ++ line ∷ [] ∷ [])
-both-add n a b c f g h line first second same =
-    let is : said_more (each_text n 0 f ++ [] ∷ [] ∷ []) (each_text n 0 g ++ line ∷ [] ∷ []) ≡ each_text n 0 h ++ line ∷ [] ∷ []
-    = said-each n 0 f g [] line
-    ∙ ap (λ (ts : List (List ℕ)). ts ++ line ∷ [] ∷ []) (same-each n 0 (λ k. f k ++ g k) h (λ k le lt. same k (omega (arith, lt)))) in
-    subst (Adds a c) is (Adds-twice a b c (each_text n 0 f ++ [] ∷ [] ∷ []) (each_text n 0 g ++ line ∷ [] ∷ []) first second)
-
-pub report-adds-at : (n at : ℕ) (outputs : List Output) (d after : Output) (line : List ℕ) → at ≡ n → length outputs ≡ n + 2
-    → after.slot ≡ (get_or outputs at d).slot → after.gathered.items ≡ (get_or outputs at d).gathered.items ++ line
-    → Adds outputs (set outputs at after) (each_text n 0 (λ k. []) ++ line ∷ [] ∷ [])
-report-adds-at n at outputs d after line is long slot adds =
-    subst (λ (m : ℕ). Adds outputs (set outputs m after) (each_text n 0 (λ k. []) ++ line ∷ [] ∷ [])) (sym is)
-    (report-adds n 0 outputs d after line long (slot ∙ ap (λ (m : ℕ). (get_or outputs m d).slot) is)
-    (adds ∙ ap (λ (m : ℕ). (get_or outputs m d).gathered.items ++ line) is))
-
 pub Adds-length : (a b : List Output) (xs : List (List ℕ)) → Adds a b xs → length b ≡ length a
 Adds-length [] [] [] adds = refl
 Adds-length (o ∷ a) (m ∷ b) (x ∷ xs) adds = omega (arith, Adds-length a b xs adds.2)
@@ -122,105 +89,297 @@ Adds-length [] (m ∷ b) xs adds = absurd adds
 Adds-length (o ∷ a) [] xs adds = absurd adds
 Adds-length (o ∷ a) (m ∷ b) [] adds = absurd adds
 
--- a line is added to the report behind what was added to the outputs of the ports
-pub line-adds : (n at : ℕ) (a b : List Output) (d after : Output) (f : ℕ → List ℕ) (line : List ℕ) → at ≡ n → length a ≡ n + 2
-    → Adds a b (each_text n 0 f ++ [] ∷ [] ∷ [])
-    → after.slot ≡ (get_or b at d).slot → after.gathered.items ≡ (get_or b at d).gathered.items ++ line
-    → Adds a (set b at after) (each_text n 0 f ++ line ∷ [] ∷ [])
-line-adds n at a b d after f line is long first slot adds = both-add n a b (set b at after) f (λ k. []) f line first
-    (report-adds-at n at b d after line is (omega (arith, long, Adds-length a b (each_text n 0 f ++ [] ∷ [] ∷ []) first)) slot adds)
-    (λ k lt. append-nil (f k))
+kept : (xs ys : List ℕ) → ys ≡ [] → xs ≡ xs ++ ys
+kept xs ys none = sym (append-nil xs) ∙ ap (λ (t : List ℕ). xs ++ t) (sym none)
 
--- nothing is sent of a packet that is dropped
-pub drop-adds : (n : ℕ) (outputs : List Output) (packet : List ℕ) (visits : List Visit) (end : End) (reason : Reason) (node : NodeId)
-    → end ≡ Drop reason node → length outputs ≡ n + 2
-    → Adds outputs outputs (each_text n 0 (λ k. records_text (sent_by_end k packet visits end)) ++ [] ∷ [] ∷ [])
-drop-adds n outputs packet visits end reason node is long =
-    subst (λ (e : End). Adds outputs outputs (each_text n 0 (λ k. records_text (sent_by_end k packet visits e)) ++ [] ∷ [] ∷ [])) (sym is)
-    (none-adds n 0 outputs (λ k. records_text (sent_by_end k packet visits (Drop reason node))) (λ k le. refl) long)
+-- ---- octets added to one output
 
-pub alike-adds : (n : ℕ) (outputs : List Output) (packet : List ℕ) (visits : List Visit) (answer : Admit) (end : End) (reason : Reason)
-    → answer ≡ admit.Drop reason → DropsAlike answer end → length outputs ≡ n + 2
-    → Adds outputs outputs (each_text n 0 (λ k. records_text (sent_by_end k packet visits end)) ++ [] ∷ [] ∷ [])
-alike-adds n outputs packet visits answer (Left port) reason is drops long =
-    absurd (subst (λ (a : Admit). DropsAlike a (Left port)) is drops)
-alike-adds n outputs packet visits answer (Drop cause node) reason is drops long =
-    drop-adds n outputs packet visits (Drop cause node) cause node refl long
+-- nothing is said in any of these texts
+abbrev Silent : List (List ℕ) → Type 0
+Silent [] = ⊤
+Silent (text ∷ texts) = (text ≡ []) × Silent texts
 
-sent-here : (k : ℕ) (s : Sent) → records_text (if nat_eq k k then s ∷ [] else []) ≡ record_octets s.time s.octets
-sent-here k s =
-    let same : nat_eq k k ≡ true = eq-eqb k k refl in
-    ap (λ (b : Bool). records_text (if b then s ∷ [] else [])) same ∙ append-nil (record_octets s.time s.octets)
+silent-each : (n from : ℕ) (f : ℕ → List ℕ) → ((k : ℕ) → from ≤ k → f k ≡ []) → Silent (each_from n from f)
+silent-each zero from f none = tt
+silent-each (suc n) from f none = (none from (omega arith), silent-each n (suc from) f (λ k le. none k (omega (arith, le))))
 
-sent-elsewhere : (k port : ℕ) (s : Sent) → (k ≡ port → ⊥) → records_text (if nat_eq k port then s ∷ [] else []) ≡ []
-sent-elsewhere k port s other =
-    let differs : nat_eq k port ≡ false = ne_eqb k port other in
-    ap (λ (b : Bool). records_text (if b then s ∷ [] else [])) differs
+silent-links : (ids : List LinkId) → Silent (by_link (λ k. []) ids)
+silent-links [] = tt
+silent-links (id ∷ ids) = (refl, silent-links ids)
 
--- a packet that leaves is added to the output of its port
-pub left-adds : (n : ℕ) (outputs : List Output) (d after : Output) (packet : List ℕ) (visits list : List Visit) (end : End) (port : PortId) (time : ℕ)
-    → list ≡ visits → time ≡ last_time list → end ≡ Left port → port.0 < n → length outputs ≡ n + 2 → after.slot ≡ (get_or outputs port.0 d).slot
-    → after.gathered.items ≡ (get_or outputs port.0 d).gathered.items ++ record_octets time (lowered (length list) packet)
-    → Adds outputs (set outputs port.0 after) (each_text n 0 (λ k. records_text (sent_by_end k packet visits end)) ++ [] ∷ [] ∷ [])
-left-adds n outputs d after packet visits list end port time same when is inside long slot adds =
-    let s : Sent = sent_of packet visits in
-    let old : List ℕ = (get_or outputs port.0 d).gathered.items in
-    let then_time : time ≡ last_time visits = when ∙ ap last_time same in
-    subst (λ (e : End). Adds outputs (set outputs port.0 after) (each_text n 0 (λ k. records_text (sent_by_end k packet visits e)) ++ [] ∷ [] ∷ [])) (sym is)
-    (port-adds n 0 port.0 outputs d after (λ k. records_text (sent_by_end k packet visits (Left port))) port.0 (omega arith) inside
-    (λ k other. sent-elsewhere k port.0 s other) long slot
-    (adds ∙ ap (λ (t : ℕ). old ++ record_octets t (lowered (length list) packet)) then_time
-    ∙ ap (λ (vs : List Visit). old ++ record_octets (last_time visits) (lowered (length vs) packet)) same
-    ∙ ap (λ (t : List ℕ). old ++ t) (sym (sent-here port.0 s))))
+silent-both : (xs ys : List (List ℕ)) → Silent xs → Silent ys → Silent (xs ++ ys)
+silent-both [] ys first second = second
+silent-both (x ∷ xs) ys first second = (first.0, silent-both xs ys first.1 second)
 
--- heads
-no-heads : (k : ℕ) → head_below 0 k ≡ []
-no-heads k =
-    let none : nat_lt k 0 ≡ false = le-ltb k 0 (omega arith) in
-    ap (λ (b : Bool). if b then capture_text [] else []) none
+silent-adds : (outputs : List Output) (xs : List (List ℕ)) → Silent xs → length outputs ≡ length xs → Adds outputs outputs xs
+silent-adds [] [] silent long = tt
+silent-adds (o ∷ outputs) (x ∷ xs) silent long =
+    (refl, kept o.gathered.items x silent.0, silent-adds outputs xs silent.1 (omega (arith, long)))
+silent-adds [] (x ∷ xs) silent long = absurd (omega (arith, long))
+silent-adds (o ∷ outputs) [] silent long = absurd (omega (arith, long))
 
-pub heads-begin : (n : ℕ) (outputs : List Output) → length outputs ≡ n + 2 → Adds outputs outputs (each_text n 0 (head_below 0) ++ [] ∷ [] ∷ [])
-heads-begin n outputs long = none-adds n 0 outputs (head_below 0) (λ k le. no-heads k) long
+-- a text between others in which nothing is said
+one-adds : (front : List (List ℕ)) (text : List ℕ) (back : List (List ℕ)) (outputs : List Output) (d after : Output) (at : ℕ)
+    → Silent front → Silent back → at ≡ length front → length outputs ≡ length (front ++ text ∷ back)
+    → after.slot ≡ (get_or outputs at d).slot → after.gathered.items ≡ (get_or outputs at d).gathered.items ++ text
+    → Adds outputs (set outputs at after) (front ++ text ∷ back)
+one-adds [] text back [] d after at before behind place long slot adds = absurd (omega (arith, long))
+one-adds (x ∷ front) text back [] d after at before behind place long slot adds = absurd (omega (arith, long))
+one-adds [] text back (o ∷ outputs) d after zero before behind place long slot adds =
+    (slot, adds, silent-adds outputs back behind (omega (arith, long)))
+one-adds [] text back (o ∷ outputs) d after (suc at) before behind place long slot adds = absurd (omega (arith, place))
+one-adds (x ∷ front) text back (o ∷ outputs) d after zero before behind place long slot adds = absurd (omega (arith, place))
+one-adds (x ∷ front) text back (o ∷ outputs) d after (suc at) before behind place long slot adds = (
+  refl,
+  kept o.gathered.items x before.0,
+  one-adds front text back outputs d after at before.1 behind (omega (arith, place)) (omega (arith, long)) slot adds,
+)
 
-head_at : ℕ → ℕ → List ℕ
-head_at at k = if nat_eq k at then capture_text [] else []
+-- ---- octets added to the output of a port
 
-chosen : (b c d : Bool) (h : List ℕ) → (b ≡ true → (c ≡ false) × (d ≡ true)) → (b ≡ false → c ≡ d)
-    → (if b then h else []) ++ (if c then h else []) ≡ (if d then h else [])
-chosen true c d h low high = ap (λ (q : Bool). h ++ (if q then h else [])) (low refl).0 ∙ append-nil h ∙ ap (λ (q : Bool). if q then h else []) (sym (low refl).1)
-chosen false c d h low high = ap (λ (q : Bool). if q then h else []) (high refl)
+port-adds : (n from at : ℕ) (outputs : List Output) (d after : Output) (f : ℕ → List ℕ) (place : ℕ) (rest : List (List ℕ)) → Silent rest
+    → place ≡ from + at → at < n → ((k : ℕ) → (k ≡ place → ⊥) → f k ≡ []) → length outputs ≡ n + length rest
+    → after.slot ≡ (get_or outputs at d).slot → after.gathered.items ≡ (get_or outputs at d).gathered.items ++ f place
+    → Adds outputs (set outputs at after) (each_from n from f ++ rest)
+port-adds zero from at outputs d after f place rest behind is inside none long slot adds = absurd (omega (arith, inside))
+port-adds (suc n) from at [] d after f place rest behind is inside none long slot adds = absurd (omega (arith, long))
+port-adds (suc n) from zero (o ∷ outputs) d after f place rest behind is inside none long slot adds =
+    let here : place ≡ from = omega (arith, is) in
+    let each : Silent (each_from n (suc from) f) = silent-each n (suc from) f (λ k le. none k (λ same. omega (arith, same, here, le))) in (
+      slot,
+      adds ∙ ap (λ (k : ℕ). o.gathered.items ++ f k) here,
+      silent-adds outputs (each_from n (suc from) f ++ rest) (silent-both (each_from n (suc from) f) rest each behind)
+      (omega (arith, long, length-append (each_from n (suc from) f) rest, length-each_from n (suc from) f)),
+    )
+port-adds (suc n) from (suc at) (o ∷ outputs) d after f place rest behind is inside none long slot adds = (
+  refl,
+  kept o.gathered.items (f from) (none from (λ same. omega (arith, same, is))),
+  port-adds n (suc from) at outputs d after f place rest behind (omega (arith, is)) (omega (arith, inside)) none (omega (arith, long)) slot adds,
+)
 
-here-or-not : (at k : ℕ) (c : Bool) → nat_eq k at ≡ c → at ≤ k → c ≡ nat_lt k (at + 1)
-here-or-not at k true is high = sym (lt-ltb k (at + 1) (omega (arith, eqb-true k at is)))
-here-or-not at k false is high = sym (le-ltb k (at + 1) (let other : k ≢ at = eqb-false k at is in omega (arith, high, other)))
+links-silent : (ids : List LinkId) → Silent (by_link (λ k. []) ids ++ [] ∷ [] ∷ [])
+links-silent ids = silent-both (by_link (λ k. []) ids) ([] ∷ [] ∷ []) (silent-links ids) (refl, (refl, tt))
 
-head-more : (at k : ℕ) → head_below at k ++ head_at at k ≡ head_below (at + 1) k
-unfolding head_at
-head-more at k = chosen (nat_lt k at) (nat_eq k at) (nat_lt k (at + 1)) (capture_text [])
-    (λ low. let below : k < at = ltb-true k at low in
-    (ne_eqb k at (λ same. omega (arith, below, same)), lt-ltb k (at + 1) (omega (arith, below))))
-    (λ high. here-or-not at k (nat_eq k at) refl (ltb-false k at high))
+pub port-told : (domain : Domain) (outputs : List Output) (d after : Output) (port : ℕ → List ℕ) (at : ℕ) → at < length (ports domain)
+    → ((k : ℕ) → (k ≡ at → ⊥) → port k ≡ []) → length outputs ≡ outlet_count domain
+    → after.slot ≡ (get_or outputs at d).slot → after.gathered.items ≡ (get_or outputs at d).gathered.items ++ port at
+    → Adds outputs (set outputs at after) (of_outlets domain port (λ k. []) [] [])
+port-told domain outputs d after port at inside none long slot adds =
+    let ids = tapped (links domain) in
+    port-adds (length (ports domain)) 0 at outputs d after port at (by_link (λ k. []) ids ++ [] ∷ [] ∷ []) (links-silent ids)
+    (omega arith) inside none
+    (omega (arith, long, length-append (by_link (λ k. []) ids) ([] ∷ [] ∷ []), length-map {B = List ℕ} ids (λ (link : LinkId). [])))
+    slot adds
 
-pub heads-more : (n at : ℕ) (a b : List Output) (d after : Output) → at < n → length a ≡ n + 2
-    → Adds a b (each_text n 0 (head_below at) ++ [] ∷ [] ∷ [])
-    → after.slot ≡ (get_or b at d).slot → after.gathered.items ≡ (get_or b at d).gathered.items ++ capture_text []
-    → Adds a (set b at after) (each_text n 0 (head_below (at + 1)) ++ [] ∷ [] ∷ [])
-unfolding head_at
-heads-more n at a b d after inside long first slot adds =
-    let here : nat_eq at at ≡ true = eq-eqb at at refl in
-    both-add n a b (set b at after) (head_below at) (head_at at) (head_below (at + 1)) [] first
-    (port-adds n 0 at b d after (head_at at) at (omega arith) inside
-    (λ k other. ap (λ (q : Bool). if q then capture_text [] else []) (ne_eqb k at other))
-    (omega (arith, long, Adds-length a b (each_text n 0 (head_below at) ++ [] ∷ [] ∷ []) first)) slot
-    (adds ∙ ap (λ (q : Bool). (get_or b at d).gathered.items ++ (if q then capture_text [] else [])) (sym here)))
-    (λ k lt. head-more at k)
+-- nothing is told
+pub none-told : (domain : Domain) (outputs : List Output) (port : ℕ → List ℕ) → ((k : ℕ) → port k ≡ [])
+    → length outputs ≡ outlet_count domain → Adds outputs outputs (of_outlets domain port (λ k. []) [] [])
+none-told domain outputs port none long =
+    let n = length (ports domain) in
+    let rest = by_link (λ k. []) (tapped (links domain)) ++ [] ∷ [] ∷ [] in
+    silent-adds outputs (each_from n 0 port ++ rest)
+    (silent-both (each_from n 0 port) rest (silent-each n 0 port (λ k le. none k)) (links-silent (tapped (links domain))))
+    (long ∙ sym (length-of_outlets domain port (λ k. []) [] []))
 
-pub heads-end : (n : ℕ) (a b : List Output) → Adds a b (each_text n 0 (head_below n) ++ [] ∷ [] ∷ [])
-    → Adds a b (each_text n 0 (λ k. capture_text []) ++ [] ∷ [] ∷ [])
-heads-end n a b adds = subst (λ (ts : List (List ℕ)). Adds a b (ts ++ [] ∷ [] ∷ []))
-    (same-each n 0 (head_below n) (λ k. capture_text []) (λ k le lt. all-heads n k (omega (arith, lt)))) adds
-  where
-    all-heads : (n k : ℕ) → k < n → head_below n k ≡ capture_text []
-    all-heads n k lt =
-        let low : nat_lt k n ≡ true = lt-ltb k n lt in
-        ap (λ (q : Bool). if q then capture_text [] else []) low
+-- ---- octets added to the report, and to the exports
+
+front-of : Domain → List (List ℕ)
+front-of domain = each_from (length (ports domain)) 0 (λ k. []) ++ by_link (λ k. []) (tapped (links domain))
+
+front-silent : (domain : Domain) → Silent (front-of domain)
+unfolding front-of
+front-silent domain = silent-both (each_from (length (ports domain)) 0 (λ k. [])) (by_link (λ k. []) (tapped (links domain)))
+    (silent-each (length (ports domain)) 0 (λ k. []) (λ k le. refl)) (silent-links (tapped (links domain)))
+
+front-length : (domain : Domain) → length (front-of domain) ≡ length (ports domain) + length (tapped (links domain))
+unfolding front-of
+front-length domain = omega (
+  arith,
+  length-append (each_from (length (ports domain)) 0 (λ k. [])) (by_link (λ k. []) (tapped (links domain))),
+  length-each_from {A = List ℕ} (length (ports domain)) 0 (λ k. []),
+  length-map {B = List ℕ} (tapped (links domain)) (λ (link : LinkId). []),
+)
+
+front-then : (domain : Domain) (report exports : List ℕ) → front-of domain ++ report ∷ exports ∷ [] ≡ of_outlets domain (λ k. []) (λ k. []) report exports
+unfolding front-of
+front-then domain report exports =
+    append_assoc (each_from (length (ports domain)) 0 (λ k. [])) (by_link (λ k. []) (tapped (links domain))) (report ∷ exports ∷ [])
+
+pub report-told : (domain : Domain) (outputs : List Output) (d after : Output) (report : List ℕ) (at : ℕ)
+    → at ≡ length (ports domain) + length (tapped (links domain)) → length outputs ≡ outlet_count domain
+    → after.slot ≡ (get_or outputs at d).slot → after.gathered.items ≡ (get_or outputs at d).gathered.items ++ report
+    → Adds outputs (set outputs at after) (of_outlets domain (λ k. []) (λ k. []) report [])
+report-told domain outputs d after report at place long slot adds =
+    subst (Adds outputs (set outputs at after)) (front-then domain report [])
+    (one-adds (front-of domain) report ([] ∷ []) outputs d after at (front-silent domain) (refl, tt) (place ∙ sym (front-length domain))
+    (omega (arith, long, length-append (front-of domain) (report ∷ [] ∷ []), front-length domain)) slot adds)
+
+pub exports-told : (domain : Domain) (outputs : List Output) (d after : Output) (exports : List ℕ) (at : ℕ)
+    → at ≡ length (ports domain) + length (tapped (links domain)) + 1 → length outputs ≡ outlet_count domain
+    → after.slot ≡ (get_or outputs at d).slot → after.gathered.items ≡ (get_or outputs at d).gathered.items ++ exports
+    → Adds outputs (set outputs at after) (of_outlets domain (λ k. []) (λ k. []) [] exports)
+exports-told domain outputs d after exports at place long slot adds =
+    let front = front-of domain ++ [] ∷ [] in
+    let whole : front ++ exports ∷ [] ≡ of_outlets domain (λ k. []) (λ k. []) [] exports
+    = append_assoc (front-of domain) ([] ∷ []) (exports ∷ []) ∙ front-then domain [] exports in
+    subst (Adds outputs (set outputs at after)) whole
+    (one-adds front exports [] outputs d after at (silent-both (front-of domain) ([] ∷ []) (front-silent domain) (refl, tt)) tt
+    (omega (arith, place, length-append (front-of domain) ([] ∷ []), front-length domain))
+    (omega (arith, long, length-append front (exports ∷ []), length-append (front-of domain) ([] ∷ []), front-length domain)) slot adds)
+
+-- ---- octets added output by output
+
+-- the first so many of these texts, and nothing in the others
+abbrev pub first_of : ℕ → List (List ℕ) → List (List ℕ)
+first_of count [] = []
+first_of zero (text ∷ texts) = [] ∷ first_of zero texts
+first_of (suc count) (text ∷ texts) = text ∷ first_of count texts
+
+first-none : (outputs : List Output) (texts : List (List ℕ)) → length outputs ≡ length texts → Adds outputs outputs (first_of 0 texts)
+first-none [] [] long = tt
+first-none (o ∷ outputs) (text ∷ texts) long = (refl, kept o.gathered.items [] refl, first-none outputs texts (omega (arith, long)))
+first-none [] (text ∷ texts) long = absurd (omega (arith, long))
+first-none (o ∷ outputs) [] long = absurd (omega (arith, long))
+
+first-more : (count : ℕ) (a b : List Output) (d after : Output) (texts : List (List ℕ)) → count < length texts → Adds a b (first_of count texts)
+    → after.slot ≡ (get_or b count d).slot → after.gathered.items ≡ (get_or b count d).gathered.items ++ get_or texts count []
+    → Adds a (set b count after) (first_of (suc count) texts)
+first-more count a b d after [] inside first slot adds = absurd (omega (arith, inside))
+first-more zero (o ∷ a) (m ∷ b) d after (text ∷ texts) inside first slot adds =
+    (slot ∙ first.0, adds ∙ ap (λ (t : List ℕ). t ++ text) (first.1 ∙ append-nil o.gathered.items), first.2)
+first-more (suc count) (o ∷ a) (m ∷ b) d after (text ∷ texts) inside first slot adds =
+    (first.0, first.1, first-more count a b d after texts (omega (arith, inside)) first.2 slot adds)
+first-more zero [] [] d after (text ∷ texts) inside first slot adds = absurd first
+first-more zero [] (m ∷ b) d after (text ∷ texts) inside first slot adds = absurd first
+first-more (suc count) [] [] d after (text ∷ texts) inside first slot adds = absurd first
+first-more (suc count) [] (m ∷ b) d after (text ∷ texts) inside first slot adds = absurd first
+first-more zero (o ∷ a) [] d after (text ∷ texts) inside first slot adds = absurd first
+first-more (suc count) (o ∷ a) [] d after (text ∷ texts) inside first slot adds = absurd first
+
+-- where nothing is said in the others, it is all
+first-all : (texts back : List (List ℕ)) → Silent back → first_of (length texts) (texts ++ back) ≡ texts ++ back
+first-all [] [] silent = refl
+first-all [] (x ∷ back) silent = ap (λ (t : List ℕ). t ∷ first_of 0 back) (sym silent.0) ∙ ap (λ (rest : List (List ℕ)). x ∷ rest) (first-all [] back silent.1)
+first-all (text ∷ texts) back silent = ap (λ (rest : List (List ℕ)). text ∷ rest) (first-all texts back silent)
+
+-- where nothing is said in these, it is nothing
+first-silent : (front rest : List (List ℕ)) → Silent front → first_of (length front) (front ++ rest) ≡ first_of 0 (front ++ rest)
+first-silent [] rest silent = refl
+first-silent (x ∷ front) rest silent = ap (λ (t : List ℕ). t ∷ first_of (length front) (front ++ rest)) silent.0
+    ∙ ap (λ (more : List (List ℕ)). [] ∷ more) (first-silent front rest silent.1)
+
+behind : (front rest : List (List ℕ)) (k : ℕ) → get_or (front ++ rest) (length front + k) [] ≡ get_or rest k []
+behind [] rest k = ap (λ (n : ℕ). get_or rest n []) (omega arith)
+behind (x ∷ front) rest k =
+    let place : length (x ∷ front) + k ≡ suc (length front + k) = omega arith in
+    ap (λ (n : ℕ). get_or (x ∷ (front ++ rest)) n []) place ∙ behind front rest k
+
+-- ---- the same to the output of each port and of each tap
+
+module _ (domain : Domain) (head : List ℕ) where
+  abbrev pub to_captures : List (List ℕ)
+  to_captures = of_outlets domain (λ k. head) (λ k. head) [] []
+
+  links-here : (ids : List LinkId) (rest : List (List ℕ)) (at : ℕ) → at < length ids → get_or (by_link (λ k. head) ids ++ rest) at [] ≡ head
+  links-here [] rest at inside = absurd (omega (arith, inside))
+  links-here (id ∷ ids) rest zero inside = refl
+  links-here (id ∷ ids) rest (suc at) inside = links-here ids rest at (omega (arith, inside))
+
+  each-here : (n from : ℕ) (ids : List LinkId) (rest : List (List ℕ)) (at : ℕ) → at < n + length ids
+      → get_or (each_from n from (λ k. head) ++ (by_link (λ k. head) ids ++ rest)) at [] ≡ head
+  each-here zero from ids rest at inside = links-here ids rest at (omega (arith, inside))
+  each-here (suc n) from ids rest zero inside = refl
+  each-here (suc n) from ids rest (suc at) inside = each-here n (suc from) ids rest at (omega (arith, inside))
+
+  pub captures-begin : (outputs : List Output) → length outputs ≡ outlet_count domain → Adds outputs outputs (first_of 0 to_captures)
+  captures-begin outputs long = first-none outputs to_captures (long ∙ sym (length-of_outlets domain (λ k. head) (λ k. head) [] []))
+
+  pub captures-more : (at : ℕ) (a b : List Output) (d after : Output) → at < length (ports domain) + length (tapped (links domain))
+      → Adds a b (first_of at to_captures) → after.slot ≡ (get_or b at d).slot → after.gathered.items ≡ (get_or b at d).gathered.items ++ head
+      → Adds a (set b at after) (first_of (at + 1) to_captures)
+  captures-more at a b d after inside first slot adds =
+      let many : length to_captures ≡ outlet_count domain = length-of_outlets domain (λ k. head) (λ k. head) [] [] in
+      let here = each-here (length (ports domain)) 0 (tapped (links domain)) ([] ∷ [] ∷ []) at inside in
+      let then : suc at ≡ at + 1 = omega arith in
+      subst (λ (n : ℕ). Adds a (set b at after) (first_of n to_captures)) then
+      (first-more at a b d after to_captures (omega (arith, many, inside)) first slot
+      (adds ∙ ap (λ (t : List ℕ). (get_or b at d).gathered.items ++ t) (sym here)))
+
+  pub captures-end : (at : ℕ) (a b : List Output) → at ≡ length (ports domain) + length (tapped (links domain))
+      → Adds a b (first_of at to_captures) → Adds a b to_captures
+  captures-end at a b all adds =
+      let each = each_from (length (ports domain)) 0 (λ k. head) in
+      let cross = by_link (λ k. head) (tapped (links domain)) in
+      let many : at ≡ length (each ++ cross) = omega (
+        arith,
+        all,
+        length-append each cross,
+        length-each_from {A = List ℕ} (length (ports domain)) 0 (λ k. head),
+        length-map {B = List ℕ} (tapped (links domain)) (λ (link : LinkId). head),
+      ) in
+      let parts : (each ++ cross) ++ [] ∷ [] ∷ [] ≡ to_captures = append_assoc each cross ([] ∷ [] ∷ []) in
+      let whole : first_of at to_captures ≡ to_captures =
+      ap (λ (n : ℕ). first_of n to_captures) many ∙ ap (λ (ts : List (List ℕ)). first_of (length (each ++ cross)) ts) (sym parts)
+      ∙ first-all (each ++ cross) ([] ∷ [] ∷ []) (refl, (refl, tt)) ∙ parts in
+      subst (Adds a b) whole adds
+
+-- ---- to the output of each tap its own
+
+module _ (domain : Domain) (tap : ℕ → List ℕ) where
+  abbrev pub to_taps : List (List ℕ)
+  to_taps = of_outlets domain (λ k. []) tap [] []
+
+  tap-here : (ids : List LinkId) (rest : List (List ℕ)) (k : ℕ) (d : LinkId) → k < length ids
+      → get_or (by_link tap ids ++ rest) k [] ≡ tap (get_or ids k d).0
+  tap-here [] rest k d inside = absurd (omega (arith, inside))
+  tap-here (id ∷ ids) rest zero d inside = refl
+  tap-here (id ∷ ids) rest (suc k) d inside = tap-here ids rest k d (omega (arith, inside))
+
+  silent-ports : Silent (each_from (length (ports domain)) 0 (λ k. []))
+  silent-ports = silent-each (length (ports domain)) 0 (λ k. []) (λ k le. refl)
+
+  pub taps-begin : (outputs : List Output) (at : ℕ) → at ≡ length (ports domain) → length outputs ≡ outlet_count domain
+      → Adds outputs outputs (first_of at to_taps)
+  taps-begin outputs at place long =
+      let each = each_from (length (ports domain)) 0 (λ k. []) in
+      let rest = by_link tap (tapped (links domain)) ++ [] ∷ [] ∷ [] in
+      let many : at ≡ length each = place ∙ sym (length-each_from {A = List ℕ} (length (ports domain)) 0 (λ k. [])) in
+      let none : first_of at to_taps ≡ first_of 0 to_taps = ap (λ (n : ℕ). first_of n to_taps) many ∙ first-silent each rest silent-ports in
+      subst (Adds outputs outputs) (sym none) (first-none outputs to_taps (long ∙ sym (length-of_outlets domain (λ k. []) tap [] [])))
+
+  pub taps-more : (k at next : ℕ) (ids : List LinkId) (a b : List Output) (d after : Output) (link e : LinkId) → ids ≡ tapped (links domain)
+      → k < length ids → link ≡ get_or ids k e → at ≡ length (ports domain) + k → next ≡ suc at → Adds a b (first_of at to_taps)
+      → after.slot ≡ (get_or b at d).slot → after.gathered.items ≡ (get_or b at d).gathered.items ++ tap link.0
+      → Adds a (set b at after) (first_of next to_taps)
+  taps-more k at next ids a b d after link e are inside is place then first slot adds =
+      let each = each_from (length (ports domain)) 0 (λ k. []) in
+      let rest = by_link tap (tapped (links domain)) ++ [] ∷ [] ∷ [] in
+      let long : length each ≡ length (ports domain) = length-each_from {A = List ℕ} (length (ports domain)) 0 (λ k. []) in
+      let there : at ≡ length each + k = omega (arith, place, long) in
+      let within : k < length (tapped (links domain)) = omega (arith, inside, ap length are) in
+      let same : link ≡ get_or (tapped (links domain)) k e = is ∙ ap (λ (xs : List LinkId). get_or xs k e) are in
+      let many : length to_taps ≡ outlet_count domain = length-of_outlets domain (λ k. []) tap [] [] in
+      let here : get_or to_taps at [] ≡ tap link.0 =
+      ap (λ (n : ℕ). get_or to_taps n []) there ∙ behind each rest k ∙ tap-here (tapped (links domain)) ([] ∷ [] ∷ []) k e within
+      ∙ ap (λ (l : LinkId). tap l.0) (sym same) in
+      subst (λ (n : ℕ). Adds a (set b at after) (first_of n to_taps)) (sym then)
+      (first-more at a b d after to_taps (omega (arith, many, within, place)) first slot
+      (adds ∙ ap (λ (t : List ℕ). (get_or b at d).gathered.items ++ t) (sym here)))
+
+  pub taps-end : (at : ℕ) (a b : List Output) → at ≡ length (ports domain) + length (tapped (links domain))
+      → Adds a b (first_of at to_taps) → Adds a b to_taps
+  taps-end at a b all adds =
+      let each = each_from (length (ports domain)) 0 (λ k. []) in
+      let cross = by_link tap (tapped (links domain)) in
+      let many : at ≡ length (each ++ cross) = omega (
+        arith,
+        all,
+        length-append each cross,
+        length-each_from {A = List ℕ} (length (ports domain)) 0 (λ k. []),
+        length-map {B = List ℕ} (tapped (links domain)) (λ (link : LinkId). tap link.0),
+      ) in
+      let parts : (each ++ cross) ++ [] ∷ [] ∷ [] ≡ to_taps = append_assoc each cross ([] ∷ [] ∷ []) in
+      let whole : first_of at to_taps ≡ to_taps =
+      ap (λ (n : ℕ). first_of n to_taps) many ∙ ap (λ (ts : List (List ℕ)). first_of (length (each ++ cross)) ts) (sym parts)
+      ∙ first-all (each ++ cross) ([] ∷ [] ∷ []) (refl, (refl, tt)) ∙ parts in
+      subst (Adds a b) whole adds

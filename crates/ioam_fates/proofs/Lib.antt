@@ -1,2 +1,1 @@
 pub mod AddsLaws
-mod LoweredLaws

@@ -1,3 +1,4 @@
 pub mod Fate
+pub mod Standing
 pub mod Texts
 pub mod Told

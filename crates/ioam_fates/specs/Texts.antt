@@ -37,23 +37,25 @@ last_time [] = 0
 last_time (visit ∷ []) = visit.time
 last_time (visit ∷ next ∷ visits) = last_time (next ∷ visits)
 
--- by how much the hop limit of a packet is less as it leaves: by one for each visit; of one that was enclosed by two, one
--- where it entered its tunnel and one where it left that (RFC 2473 section 3)
-abbrev pub lowered_by : Itinerary → ℕ
-lowered_by itinerary = if is_some itinerary.carried then 2 else length itinerary.visits
+-- a packet as it leaves, at the time of its last visit: its hop limit is less by one for each visit; that of one that was
+-- enclosed by two, one where it entered its tunnel and one where it left that (RFC 2473 section 3). One that didn't reach
+-- its exit doesn't leave
+abbrev pub leaves_by : List ℕ → List Visit → Bool → Option (FlowId × Numbers) → List Sent
+leaves_by packet visits exited None = record { time = last_time visits; octets = lowered (length visits) packet } ∷ []
+leaves_by packet visits true (Some carried) = record { time = last_time visits; octets = lowered 2 packet } ∷ []
+leaves_by packet visits false (Some carried) = []
 
--- a packet as it leaves, at the time of its last visit
-abbrev pub sent_of : List ℕ → Itinerary → Sent
-sent_of packet itinerary = record { time = last_time itinerary.visits; octets = lowered (lowered_by itinerary) packet }
+abbrev pub fate_leaves : Fate → List Sent
+fate_leaves fate = leaves_by fate.packet fate.itinerary.visits fate.itinerary.exited fate.itinerary.carried
 
--- what is sent by the port at this place where a journey ends so
-abbrev pub sent_by_end : ℕ → List ℕ → Itinerary → End → List Sent
-sent_by_end port packet itinerary (Left exit) = if nat_eq port exit.0 then sent_of packet itinerary ∷ [] else []
-sent_by_end port packet itinerary (Drop reason node) = []
+-- what is sent by the port at this place of packets that leave where a journey ends so
+abbrev pub sent_by_end : ℕ → List Sent → End → List Sent
+sent_by_end port leaves (Left exit) = if nat_eq port exit.0 then leaves else []
+sent_by_end port leaves (Drop reason node) = []
 
 -- of one arrival
 abbrev pub fate_sent : ℕ → Fate → List Sent
-fate_sent port fate = sent_by_end port fate.packet fate.itinerary fate.itinerary.end
+fate_sent port fate = sent_by_end port (fate_leaves fate) fate.itinerary.end
 
 -- of all, in the order of arrival
 abbrev pub sent_by : ℕ → List Fate → List Sent
