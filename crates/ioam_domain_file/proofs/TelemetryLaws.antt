@@ -1,5 +1,5 @@
 -- Laws of the node data and the flows of a file, behind nodes that were read.
-use Rattle.std.proofs.Common.{◌≡◌, ◌≤◌, ℕ, List, [], ◌∷◌, ◌++◌, length, codes, map, ap, sym, ◌∙◌, subst, arith}
+use Rattle.std.proofs.Common.{◌≡◌, ◌≤◌, ℕ, List, [], ◌++◌, length, codes, map, ap, sym, ◌∙◌, subst, arith}
 use Rattle.std.specs.List.{All}
 use Rattle.toml.specs.Data.{Members, get_member}
 use Rattle.ioam_topo.specs.declared.nodes.Nodes.{Nodes}
@@ -20,7 +20,7 @@ use Rattle.ioam_places.specs.NodeRead.{HoldsNodes}
 use Rattle.ioam_places.specs.Places.{node_entries, node_names, node_lists, HoldsParts}
 use Rattle.ioam_telemetry.specs.DataRead.{HoldsData}
 use Rattle.ioam_telemetry.specs.DataTable.{data_entries, data_of, data_faults}
-use Rattle.ioam_telemetry.specs.Tables.{data_table_faults, flow_table_faults, extra_table_faults, flows_behind, AreFlows}
+use Rattle.ioam_telemetry.specs.Tables.{data_table_faults, flow_table_faults, extra_table_faults, AreFlows}
 use Rattle.ioam_telemetry.proofs.DataKept.{data_placed}
 use Rattle.ioam_domain_file.specs.Top.{telemetry_faults, flows_of}
 use Rattle.ioam_domain_file.specs.PartsRead.{HoldsTelemetry}

@@ -1,5 +1,5 @@
 -- What is known of the node data and the flows of a file.
-use Rattle.std.specs.Prelude.{ℕ, map}
+use Rattle.std.specs.Prelude.{map}
 use Rattle.toml.specs.Data.{Members}
 use Rattle.ioam_topo.specs.declared.nodes.Nodes.{Nodes}
 use Rattle.ioam_topo.specs.declared.domain.Telemetry.{Telemetry}

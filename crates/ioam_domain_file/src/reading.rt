@@ -1,4 +1,4 @@
-ghost use Rattle.std.specs.Prelude.{◌≡◌, ◌<◌, ◌≤◌, length, IfOk};
+ghost use Rattle.std.specs.Prelude.{◌≡◌, length, IfOk};
 ghost use Rattle.toml.specs.View.{table_view};
 ghost use Rattle.ioam_entries.specs.declared.words.Table.TheVariants.{Top};
 ghost use Rattle.ioam_entries.specs.declared.words.Field.TheVariants.{NoKey};

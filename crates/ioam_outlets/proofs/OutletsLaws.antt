@@ -1,9 +1,9 @@
 -- Laws of the outputs of a run.
-use Rattle.std.proofs.Common.{◌≡◌, ℕ, zero, suc, ◌+◌, ◌<◌, ◌≤◌, List, [], ◌∷◌, ◌++◌, map, length, take, get_or, slice_get, Option, Some, None, IsSome, IsSomeAnd, refl, sym, ◌∙◌, ap, subst, append-nil, append_assoc, length-append, arith}
+use Rattle.std.proofs.Common.{◌≡◌, ℕ, zero, suc, ◌+◌, ◌<◌, List, [], ◌∷◌, ◌++◌, map, length, take, get_or, slice_get, Option, Some, None, IsSome, IsSomeAnd, refl, sym, ◌∙◌, ap, subst, append-nil, append_assoc, length-append, arith}
 use Rattle.std.specs.List.{All}
 use Rattle.std.proofs.Math.Seq.{get_or-append_seam}
 use Rattle.std.proofs.lemmas.Option.{slice_get-get_or}
-use Rattle.std.proofs.lemmas.List.{map-append, length-map, length-take-le, take_more}
+use Rattle.std.proofs.lemmas.List.{length-map, length-take-le, take_more}
 use Rattle.std.proofs.lemmas.List.Elements.{All-nil, All-cons, All-append}
 use Rattle.ioam_topo.specs.Domain.{links, ports}
 use Rattle.ioam_topo.specs.Keyed.{count_of, taps_of}

@@ -14,7 +14,7 @@ use Rattle.ioam_topo.specs.declared.ids.LinkId.{LinkId}
 use Rattle.ioam_topo.specs.declared.ids.PortId.{PortId}
 use Rattle.ioam_topo.specs.declared.parts.Link.{Link}
 use Rattle.ioam_topo.specs.declared.parts.Port.{Port}
-use Rattle.ioam_outlets.specs.Outlets.{tap_at, tapped_from, tapped, each_from, of_outlets}
+use Rattle.ioam_outlets.specs.Outlets.{tap_at, tapped_from, tapped, outlet_count, each_from, of_outlets}
 use Rattle.ioam_outlets.proofs.OutletsLaws.{length-tapped, each_from-slice}
 use Rattle.ioam_setting.specs.Names.{input_of, input_names, port_with, ports_from, input_ports, inputs_at, tap_name, tap_names, output_names, output_at, tap_name_at, file_names}
 
@@ -111,6 +111,11 @@ length-output_names ports links report exports = omega (
   length-append (tap_names links) (report ∷ exports ∷ []),
   length-tap_names links,
 )
+
+-- so there are as many as outputs
+pub named_each : (domain : Domain) (report exports : List ℕ) (names : List (List ℕ)) → names ≡ output_names (ports domain) (links domain) report exports
+    → length names ≡ outlet_count domain
+named_each domain report exports names is = ap length is ∙ length-output_names (ports domain) (links domain) report exports
 
 -- the capture of the tap of the link at a place
 tap_one : (all : List Link) (place : ℕ) (link : Link) (tap : Option (List ℕ)) → slice_get all place ≡ Some link → link.tap ≡ tap
@@ -358,7 +363,7 @@ arrives_or_leaves (port ∷ ports) differ name near far =
 
 -- the captures of what arrives and those of the outputs, of which no two are equal
 module _ (ports : List Port) (links : List Link) where
-  captures : List (List ℕ)
+  abbrev captures : List (List ℕ)
   captures = input_names ports ++ (outputs_of ports ++ tap_names links)
 
   captures_differ : Differ (flat_map names_of ports ++ tap_names links) → Differ captures

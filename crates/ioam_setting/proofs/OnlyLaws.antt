@@ -1,5 +1,5 @@
 -- What two files hold says one setting, or one fault.
-use Rattle.std.proofs.Common.{◌≡◌, ℕ, IsSomeAnd, List, Option, Some, None, Ok, Err, sym, ◌∙◌, ap}
+use Rattle.std.proofs.Common.{◌≡◌, ℕ, IsSomeAnd, List, Option, Some, None, Ok, Err, ap}
 use Rattle.std.specs.Prelude.{map}
 use Rattle.ioam_clock.specs.Reading.{readings_of, node_names}
 use Rattle.ioam_clock.specs.declared.fault.ReadingsFault.{ReadingsFault}

@@ -13,7 +13,7 @@ use Rattle.ioam_run.specs.Run.{IsInput, IsLong}
 use Rattle.ioam_run.proofs.AskedLaws.{held_ending, too_long, whole_or_faulty, not_apart}
 use Rattle.ioam_setting.specs.Setting.{HasDomain}
 use Rattle.ioam_setting.proofs.OnlyLaws.{domains_agree, one_domain_fault, fault_or_domain, one_readings_fault, fault_or_setting}
-use Rattle.ioam_topo.specs.Domain.{nodes, links, node_of_name, link_of_name}
+use Rattle.ioam_topo.specs.Domain.{node_of_name}
 use Rattle.ioam_topo.specs.Keyed.{place_of, name_of_node, name_of_link}
 use Rattle.ioam_topo.specs.declared.domain.Domain.{Domain}
 use Rattle.ioam_topo.specs.declared.ids.NodeId.{NodeId}

@@ -1,5 +1,5 @@
 -- What the node sends to a port is clean.
-use Rattle.std.proofs.Common.{◌≡◌, ℕ, suc, ◌+◌, ◌<◌, Bool, List, [], ◌∷◌, length, take, drop, IsSomeAnd, Option, Some, None, refl, sym, ◌∙◌, ap, subst, ⊎_elim, arith}
+use Rattle.std.proofs.Common.{◌≡◌, ℕ, suc, ◌+◌, ◌<◌, Bool, List, [], ◌∷◌, length, take, drop, IsSomeAnd, Option, Some, None, refl, ◌∙◌, ap, ⊎_elim, arith}
 use Rattle.std.specs.List.{AllByRecursion, flat_map}
 use Rattle.std.proofs.lemmas.List.Elements.{Contains-append_right}
 use Rattle.ioam_answer.specs.Outcomes.{IsBehindAll}

@@ -1,5 +1,5 @@
 -- How a run ends in a domain that was read.
-use Rattle.std.proofs.Common.{◌≡◌, ℕ, ◌<◌, ◌⊎◌, Bool, List, [], ◌∷◌, length, get_or, Option, Some, None, refl, sym, ◌∙◌, ap, subst, inl, inr, ⊎_elim}
+use Rattle.std.proofs.Common.{◌≡◌, ℕ, ◌<◌, ◌⊎◌, Bool, List, [], ◌∷◌, length, get_or, Some, None, refl, sym, ◌∙◌, ap, subst, inl, inr, ⊎_elim}
 use Rattle.ioam_answer.specs.declared.outcome.Outcome.{Outcome}
 use Rattle.ioam_answer.specs.declared.outcome.Outcome.TheVariants as outcome
 use Rattle.ioam_clock.specs.declared.sample.Sample.{Sample}
@@ -9,7 +9,7 @@ use Rattle.ioam_outputs.specs.Names.{AreApart, IsFirstRepeat, name_at}
 use Rattle.ioam_topo.specs.Domain.{node_of_name}
 use Rattle.ioam_topo.specs.declared.domain.Domain.{Domain}
 use Rattle.ioam_topo.specs.declared.ids.NodeId.{NodeId}
-use Rattle.ioam_transit.specs.Ends.{Gathered, Stays, Ran, RanAt, Ends, EndsAt}
+use Rattle.ioam_transit.specs.Ends.{Gathered, Stays, Ran, Ends, EndsAt}
 use Rattle.ioam_transit.specs.Run.{IsAt, IsUnfit, inward_of, input_file, node_files, output_files, node_word, link_word}
 use Rattle.ioam_transit.specs.Seat.{Seat, seat_at}
 

@@ -1,14 +1,13 @@
 -- What a run owes whose domain and readings were read by two slots.
-use Rattle.std.proofs.Common.{◌≡◌, ℕ, suc, ◌+◌, ◌<◌, ◌⊎◌, Bool, IsTrue, IsSomeAnd, List, [], ◌∷◌, ◌++◌, take, refl, sym, ◌∙◌, ap, subst, inl, inr, append-nil, append_assoc, arith}
-use Rattle.ioam_answer.specs.Outcomes.{IsDone, IsBehindAll}
+use Rattle.std.proofs.Common.{◌≡◌, ℕ, suc, ◌+◌, ◌<◌, Bool, IsTrue, IsSomeAnd, List, [], ◌∷◌, ◌++◌, take, refl, sym, ◌∙◌, ap, subst, inl, inr, append-nil, append_assoc, arith}
+use Rattle.ioam_answer.specs.Outcomes.{IsDone}
 use Rattle.ioam_answer.specs.declared.outcome.Outcome.{Outcome}
 use Rattle.ioam_answer.specs.declared.outcome.Outcome.TheVariants as outcome
 use Rattle.ioam_clock.specs.declared.sample.Sample.{Sample}
 use Rattle.ioam_desk.specs.Asked.{AsksFront}
-use Rattle.ioam_desk.specs.Desk.{Side, Reading, Writing, Rose, holds, opened_each}
+use Rattle.ioam_desk.specs.Desk.{Side, Reading, Writing, holds, opened_each}
 use Rattle.ioam_desk.specs.Kept.{KeepsInputs}
-use Rattle.ioam_desk.proofs.KeptLaws.{KeepsInputs-then, KeepsInputs-same, KeepsOutputs-same}
-use Rattle.ioam_entries.specs.declared.fault.DomainFault.{DomainFault}
+use Rattle.ioam_desk.proofs.KeptLaws.{KeepsInputs-then, KeepsOutputs-same}
 use Rattle.ioam_run.specs.Run.{FileCause, HoldsAll, AreWhole}
 use Rattle.ioam_run.specs.Run as capture
 use Rattle.ioam_setting.specs.Setting.{IsSetting}

@@ -1,5 +1,5 @@
 -- What a node makes of a packet that it sends.
-use Rattle.std.proofs.Common.{◌≡◌, ◌↔◌, ℕ, ◌-◌, Bool, true, false, IsTrue, List, [], ◌∷◌, ◌++◌, length, take, drop, slice_index, Option, Some, None, Result, Ok, Err, refl, sym, ◌∙◌, ap, subst, append-nil}
+use Rattle.std.proofs.Common.{◌≡◌, ◌↔◌, ℕ, ◌-◌, Bool, true, false, IsTrue, List, [], ◌∷◌, ◌++◌, length, take, drop, slice_index, Option, Some, None, Ok, Err, refl, sym, ◌∙◌, ap, subst, append-nil}
 use Rattle.std.specs.Prelude.{if◌then◌else◌, nat_eq, nat_le, nat_lt}
 use Rattle.ioam_ip.specs.Chain.{IsSound}
 use Rattle.ioam_ip.specs.ChainOptions.{CarriesIoam}
@@ -7,7 +7,6 @@ use Rattle.ioam_ip.specs.Hop.{hop_stepped}
 use Rattle.ioam_ip.specs.Lowered.{lowered}
 use Rattle.ioam_ip.specs.Packet.{IsPacket}
 use Rattle.ioam_node.specs.Choice.{mtu_of, way_by}
-use Rattle.ioam_node.specs.declared.reason.Reason.{Reason}
 use Rattle.ioam_node.specs.declared.reason.Reason.TheVariants as reason
 use Rattle.ioam_node.specs.declared.place.Place.{Place}
 use Rattle.ioam_plan.specs.Journey.{outward_of}

@@ -1,7 +1,7 @@
 -- What the texts that are gathered for `node` stand for.
 use Rattle.std.specs.Prelude.{◌≡◌, ℕ, ◌+◌, List, [], ◌∷◌, ◌++◌, Bool, length, refl}
 use Rattle.std.specs.List.{AllByRecursion, flat_map}
-use Rattle.std.proofs.Common.{◌∙◌, ap, append-nil, sym, subst}
+use Rattle.std.proofs.Common.{◌∙◌, ap, append-nil}
 use Rattle.ioam_outputs.specs.Told.{said_more}
 use Rattle.ioam_pcap.specs.Entries.{Entry}
 use Rattle.ioam_pcap.specs.Text.{capture_text}

@@ -1,4 +1,4 @@
-use Rattle.std.proofs.Common.{◌≡◌, sym, ◌∙◌, ap, arith}
+use Rattle.std.proofs.Common.{arith}
 use Rattle.ioam_outlets.proofs.OutletsLaws.{taps_step}
 use Rattle.ioam_outlets.proofs.outlets.count_taps.Goals as goal
 

@@ -1,4 +1,4 @@
-use Rattle.std.proofs.Common.{◌≡◌, length, sym, ◌∙◌, ap, arith}
+use Rattle.std.proofs.Common.{length, ap, arith}
 use Rattle.ioam_topo.specs.Domain.{links, ports}
 use Rattle.ioam_topo.specs.Keyed.{taps_of}
 use Rattle.ioam_outlets.proofs.OutletsLaws.{length-tapped}

@@ -1,8 +1,7 @@
-use Rattle.std.proofs.Common.{◌≡◌, ℕ, List, refl, sym, ◌∙◌, ap, subst, arith}
+use Rattle.std.proofs.Common.{sym, ◌∙◌, subst, arith}
 use Rattle.std.proofs.lemmas.List.{take_rest}
 use Rattle.ioam_outputs.proofs.NamesLaws.{found_name}
 use Rattle.ioam_outputs.specs.Names.{AreApart}
-use Rattle.ioam_transit.specs.Run.{output_files}
 use Rattle.ioam_transit.specs.Seat.{seat_at}
 use Rattle.ioam_transit.proofs.BoundLaws.{apart_outputs, three_outputs}
 use Rattle.ioam_transit.proofs.EndsLaws.{ran_from}

@@ -1,4 +1,4 @@
-use Rattle.std.proofs.Common.{◌≡◌, sym, ◌∙◌, arith}
+use Rattle.std.proofs.Common.{sym, ◌∙◌, arith}
 use Rattle.ioam_outputs.proofs.NamesLaws.{found_name}
 use Rattle.ioam_transit.proofs.EndsLaws.{ends_at}
 use Rattle.ioam_transit.proofs.node_run.run_set.Goals as goal

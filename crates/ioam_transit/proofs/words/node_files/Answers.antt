@@ -1,7 +1,5 @@
-use Rattle.std.proofs.Common.{◌≡◌, ℕ, List, [], ◌∷◌, ◌++◌, ap, ◌∙◌, arith}
+use Rattle.std.proofs.Common.{ℕ, List, [], ◌∷◌, ◌++◌, ap, ◌∙◌, arith}
 use Rattle.ioam_outputs.proofs.NamesLaws.{found_name}
-use Rattle.ioam_outputs.specs.Names.{name_at}
-use Rattle.ioam_transit.specs.Run.{node_files}
 use Rattle.ioam_transit.proofs.EndsLaws.{six_named}
 use Rattle.ioam_transit.proofs.words.node_files.Goals as goal
 

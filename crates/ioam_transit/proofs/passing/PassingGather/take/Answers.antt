@@ -1,4 +1,4 @@
-use Rattle.std.proofs.Common.{refl, ◌+◌, [], ◌∷◌, arith}
+use Rattle.std.proofs.Common.{refl, ◌+◌, arith}
 use Rattle.ioam_pcap.specs.Reader.{entry_of}
 use Rattle.ioam_transit.specs.NodeText.{added_of}
 use Rattle.ioam_transit.specs.Passage.{Goes, Drops}

@@ -1,4 +1,3 @@
-use Rattle.ioam_base.proofs.ResultLaws.{OnOk-map}
 use Rattle.ioam_transit.specs.Seat.{seat_of}
 use Rattle.ioam_transit.proofs.SendingLaws.{adds_for}
 use Rattle.ioam_transit.proofs.post.Post.send.Goals as goal
