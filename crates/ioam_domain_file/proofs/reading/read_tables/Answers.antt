@@ -16,9 +16,11 @@ returns-in_err-own-clause-read c =
 
 pub returns-in_err-parts-clause-read : goal.returns-in_err-parts-clause-read
 returns-in_err-parts-clause-read c =
+    let faults = part_faults 64 (table_view c.args.top.now) in
+    let same : faults ≡ faults = refl in
     let p = err_from_is_err_and c.from_residual-in_err-parts.result c.from_residual-in_err-parts.ensures.1 in
     rw (p.1, p.2) (gives_first c.in_err-parts.field-0.0 _ _ _ _ _
-    (behind _ _ _ _ c.in_ok-own.ensures.0 refl) c.in_err-parts.ensures)
+    (behind _ _ _ _ c.in_ok-own.ensures.0 same) c.in_err-parts.ensures)
 
 pub returns-in_err-routes-clause-read : goal.returns-in_err-routes-clause-read
 returns-in_err-routes-clause-read c =
