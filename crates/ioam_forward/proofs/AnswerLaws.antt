@@ -1,23 +1,19 @@
 -- What was answered of a frame at its port.
-use Rattle.std.proofs.Common.{◌≡◌, ℕ, ◌≤◌, Bool, List, [], ◌∷◌, length, Option, Some, None, IsSomeAnd, refl, sym, subst, ap, arith}
+use Rattle.std.proofs.Common.{◌≡◌, ℕ, ◌≤◌, Bool, List, length, Option, Some, None, IsSomeAnd, refl, sym, subst, ap, arith}
+use Rattle.std.specs.Prelude.{⊤}
 use Rattle.ioam_clock.specs.declared.sample.Sample.{Sample}
 use Rattle.ioam_ip.specs.Framing.{Framing, Holds, NoIpv6, CutShort, TooShort, framing_of}
 use Rattle.ioam_ip.proofs.WithinLaws.{Within, framing-within}
-use Rattle.ioam_node.specs.Admission.{Admits, HoldsPacket}
+use Rattle.ioam_node.specs.Admission.{Admits, packet_of}
 use Rattle.ioam_node.specs.declared.admitted.Admit.{Admit}
 use Rattle.ioam_node.specs.declared.admitted.Admit.TheVariants as admit
 use Rattle.ioam_node.specs.declared.reason.Reason.{Reason}
-use Rattle.ioam_plan.specs.Plans.{PlansBy, IsPlain}
+use Rattle.ioam_plan.specs.Plans.{PlansBy}
 use Rattle.ioam_plan.specs.declared.itinerary.Itinerary.{Itinerary}
 use Rattle.ioam_plan.specs.declared.itinerary.End.{End}
-use Rattle.ioam_plan.specs.declared.itinerary.End.TheVariants.{Drop}
-use Rattle.ioam_topo.specs.Domain.{flows}
-use Rattle.ioam_topo.specs.Finding.{flow_at}
+use Rattle.ioam_plan.specs.declared.itinerary.End.TheVariants.{Left, Drop}
 use Rattle.ioam_topo.specs.declared.domain.Domain.{Domain}
-use Rattle.ioam_topo.specs.declared.ids.FlowId.{FlowId}
-use Rattle.ioam_topo.specs.declared.parts.Flow.{Flow}
 use Rattle.ioam_topo.specs.declared.parts.Port.{Port}
-use Rattle.ioam_forward.specs.Fate.{packet_of, DropsAlike}
 
 admits-within : (domain : Domain) (node size : ℕ) (framing : Framing) (answer : Admit) → Within size framing → Admits domain node framing answer
     → length (packet_of answer) ≤ size
@@ -41,25 +37,12 @@ answer-within domain (Some port) ethernet cut frame answer admits =
     admits-within domain port.node.0 (length frame) (framing_of ethernet cut frame) answer (framing-within ethernet cut frame (length frame) (omega arith)) admits
 answer-within domain None ethernet cut frame answer admits = absurd admits
 
-no_flow : (all : List Flow) (node source target : ℕ) (flow : FlowId) → all ≡ [] → flow_at all node source target ≡ Some flow → ⊥
-no_flow [] node source target flow none is = cc
-no_flow (first ∷ all) node source target flow none is = cc
-
-plannable : (domain : Domain) (node : ℕ) (framing : Framing) (answer : Admit) → flows domain ≡ [] → HoldsPacket answer → Admits domain node framing answer
-    → IsPlain answer
-plannable domain node framing (admit.Plain kept) none holds admits = tt
-plannable domain node framing (admit.Drop reason) none holds admits = tt
-plannable domain node (Holds packet) (admit.Enclose flow kept limit) none holds admits =
-    no_flow (flows domain) node (admits.2).0.source (admits.2).0.target flow none (admits.2).2
-plannable domain node NoIpv6 (admit.Enclose flow kept limit) none holds admits = absurd admits
-plannable domain node CutShort (admit.Enclose flow kept limit) none holds admits = absurd admits
-plannable domain node TooShort (admit.Enclose flow kept limit) none holds admits = absurd admits
-
--- in a domain without flows no packet is put into a tunnel
-pub answer-plannable : (domain : Domain) (at : Option Port) (framing : Framing) (answer : Admit) → flows domain ≡ [] → HoldsPacket answer
-    → IsSomeAnd at (λ port. Admits domain port.node.0 framing answer) → IsPlain answer
-answer-plannable domain (Some port) framing answer none holds admits = plannable domain port.node.0 framing answer none holds admits
-answer-plannable domain None framing answer none holds admits = absurd admits
+-- what is dropped on arrival doesn't leave
+abbrev pub DropsAlike : Admit → End → Type 0
+DropsAlike (admit.Drop reason) (Drop cause node) = ⊤
+DropsAlike (admit.Drop reason) (Left port) = ⊥
+DropsAlike (admit.Plain kept) end = ⊤
+DropsAlike (admit.Enclose flow kept limit) end = ⊤
 
 drops_alike : (answer : Admit) (reason : Reason) (port : Port) (end : End) → answer ≡ admit.Drop reason → end ≡ Drop reason port.node → DropsAlike answer end
 drops_alike answer reason port end is ends =
@@ -67,7 +50,6 @@ drops_alike answer reason port end is ends =
     let Q : End → Type 0 = λ e. DropsAlike (admit.Drop reason) e in
     subst P (sym is) (subst Q (sym ends) tt)
 
--- what is dropped on arrival doesn't leave
 pub plan-drops : (domain : Domain) (readings : List (List Sample)) (earlier : List Itinerary) (at : Option Port) (time : ℕ) (answer : Admit) (it : Itinerary)
     → IsSomeAnd at (PlansBy domain readings earlier time it answer) → DropsAlike answer it.end
 plan-drops domain readings earlier (Some port) time (admit.Plain kept) it plans = tt

@@ -11,9 +11,8 @@ use Rattle.ioam_plan.specs.declared.itinerary.Itinerary.{Itinerary}
 use Rattle.ioam_plan.proofs.PlansLaws.{Plans-same}
 use Rattle.ioam_topo.specs.Domain.{ports}
 use Rattle.ioam_topo.specs.declared.domain.Domain.{Domain}
-use Rattle.ioam_topo.specs.declared.ids.PortId.{PortId}
 use Rattle.ioam_topo.specs.declared.parts.Port.{Port}
-use Rattle.ioam_forward.specs.Fate.{Frame, Fate, HasFate, AreFates, AreFatesFrom, packet_of}
+use Rattle.ioam_fates.specs.Fate.{Frame, Fate, HasFate, AreFates, AreFatesFrom, packet_of}
 
 one_answer : (domain : Domain) (at : Option Port) (ethernet cut : Bool) (frame : List ℕ) (a b : Admit)
     → IsSomeAnd at (λ port. Admits domain port.node.0 (framing_of ethernet cut frame) a)
@@ -33,11 +32,10 @@ one_packet (admit.Drop reason) (admit.Enclose way other bound) same = absurd sam
 one_packet (admit.Enclose flow packet limit) (admit.Plain other) same = absurd same
 one_packet (admit.Enclose flow packet limit) (admit.Drop cause) same = absurd same
 
-same_fate : (a b : Fate) → a.port ≡ b.port → a.packet ≡ b.packet → a.itinerary ≡ b.itinerary → a ≡ b
-same_fate a b ports packets ways =
-    let F : PortId → List ℕ → Itinerary → Fate = λ port packet itinerary. record { port = port; packet = packet; itinerary = itinerary } in
-    ap (λ port. F port a.packet a.itinerary) ports ∙ ap (λ packet. F b.port packet a.itinerary) packets
-    ∙ ap (λ itinerary. F b.port b.packet itinerary) ways
+same_fate : (a b : Fate) → a.packet ≡ b.packet → a.itinerary ≡ b.itinerary → a ≡ b
+same_fate a b packets ways =
+    let F : List ℕ → Itinerary → Fate = λ packet itinerary. record { packet = packet; itinerary = itinerary } in
+    ap (λ packet. F packet a.itinerary) packets ∙ ap (λ itinerary. F b.packet itinerary) ways
 
 module _ (domain : Domain) (readings : List (List Sample)) where
   -- one fate of an arrival, behind the same arrivals
@@ -48,7 +46,7 @@ module _ (domain : Domain) (readings : List (List Sample)) where
       frame.entry.octets first.answer second.answer first.answered second.answered in
       let plans : fate.itinerary ≡ other.itinerary = Plans-same domain readings earlier frame.entry.time fate.itinerary other.itinerary frame.port
       first.answer second.answer same first.plans second.plans in
-      same_fate fate other (first.port ∙ sym second.port) (first.packet ∙ one_packet first.answer second.answer same ∙ sym second.packet) plans
+      same_fate fate other (first.packet ∙ one_packet first.answer second.answer same ∙ sym second.packet) plans
 
   -- and one list of fates of arrivals
   one_list : (earlier : List Itinerary) (frames : List Frame) (fates others : List Fate) → AreFatesFrom domain readings earlier frames fates
@@ -72,9 +70,10 @@ module _ (domain : Domain) (readings : List (List Sample)) where
   as_many earlier (frame ∷ frames) [] are = absurd are
   as_many earlier (frame ∷ frames) (fate ∷ fates) are = omega (arith, as_many (earlier ++ fate.itinerary ∷ []) frames fates are.1)
 
-pub AreFates-length : (domain : Domain) (frames : List Frame) (fates : List Fate) → AreFates domain frames fates → length fates ≡ length frames
-AreFates-length domain frames fates are = as_many domain [] [] frames fates are
+pub AreFates-length : (domain : Domain) (readings : List (List Sample)) (frames : List Frame) (fates : List Fate)
+    → AreFates domain readings frames fates → length fates ≡ length frames
+AreFates-length domain readings frames fates are = as_many domain readings [] frames fates are
 
-pub AreFates-unique : (domain : Domain) (frames : List Frame) (fates others : List Fate) → AreFates domain frames fates → AreFates domain frames others
-    → fates ≡ others
-AreFates-unique domain frames fates others first second = one_list domain [] [] frames fates others first second
+pub AreFates-unique : (domain : Domain) (readings : List (List Sample)) (frames : List Frame) (fates others : List Fate)
+    → AreFates domain readings frames fates → AreFates domain readings frames others → fates ≡ others
+AreFates-unique domain readings frames fates others first second = one_list domain readings [] frames fates others first second

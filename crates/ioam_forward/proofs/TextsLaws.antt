@@ -1,26 +1,16 @@
 -- The texts of a run, with one arrival more and with the sums.
-use Rattle.std.proofs.Common.{◌≡◌, ℕ, ◌+◌, ◌<◌, List, [], ◌∷◌, ◌++◌, length, refl, sym, ◌∙◌, ap, append_assoc, append-nil, length-append, subst, arith}
-use Rattle.std.proofs.lemmas.List.{map-append, length-map}
+use Rattle.std.proofs.Common.{◌≡◌, ℕ, ◌+◌, List, [], ◌∷◌, ◌++◌, length, refl, sym, ◌∙◌, ap, append_assoc, append-nil, subst, arith}
+use Rattle.std.specs.List.{flat_map}
 use Rattle.ioam_clock.specs.declared.sample.Sample.{Sample}
+use Rattle.ioam_fates.specs.Fate.{Frame, Fate, HasFate, AreFates, AreFatesFrom}
+use Rattle.ioam_fates.specs.Texts.{out_text, fate_sent, sent_by, tap_text, fate_crossed, crossed_by, fate_lines, report_lines, report_text, fate_exports, exports_text, texts_so_far, texts_of, added_by, sums_by, ways_of}
+use Rattle.ioam_fates.proofs.AddsLaws.{same-outlets, said-outlets}
+use Rattle.ioam_outputs.specs.Told.{said_more}
 use Rattle.ioam_pcap.specs.Text.{Sent, records_text, record_octets, capture_text, head_octets}
 use Rattle.ioam_plan.specs.declared.itinerary.Itinerary.{Itinerary}
-use Rattle.ioam_plan.specs.declared.itinerary.Visit.{Visit}
-use Rattle.ioam_plan.specs.declared.itinerary.End.{End}
-use Rattle.ioam_outputs.specs.Told.{said_more}
-use Rattle.std.specs.Prelude.{All}
-use Rattle.std.proofs.lemmas.List.Elements.{All-weaker}
-use Rattle.ioam_plan.specs.Inside.{IsVisitOf, EndsInside}
-use Rattle.ioam_plan.specs.declared.itinerary.End.TheVariants.{Left, Drop}
-use Rattle.ioam_report.specs.Sums.{StandFor, IsEndBelow}
 use Rattle.ioam_report.specs.SumsText.{sums_text, arrivals_text}
-use Rattle.ioam_topo.specs.Domain.{ports, nodes as nodes_of}
+use Rattle.ioam_report.specs.declared.sums.Sums.{Sums}
 use Rattle.ioam_topo.specs.declared.domain.Domain.{Domain}
-use Rattle.ioam_forward.specs.Fate.{Frame, Fate, HasFate, AreFates, AreFatesFrom}
-use Rattle.ioam_forward.specs.Texts.{each_text, out_text, fate_sent, sent_by, fate_line, report_lines, report_text, texts_so_far, texts_of, added_by, sums_by, ways_of, way_of}
-use Rattle.ioam_forward.specs.Forwarding.{Forwards, Forwarded, IsOf}
-use Rattle.ioam_forward.specs.declared.forwarding.Forwarding.{Forwarding}
-use Rattle.ioam_forward.proofs.AddsLaws.{same-each, said-each}
-use Rattle.ioam_forward.proofs.CleanLaws.{texts-clean}
 
 -- one arrival more
 push_from : (domain : Domain) (readings : List (List Sample)) (earlier : List Itinerary) (frames : List Frame) (fates : List Fate) (frame : Frame) (fate : Fate)
@@ -37,104 +27,74 @@ push_from domain readings earlier (f ∷ frames) (g ∷ fates) frame fate are ha
       (sym (append_assoc earlier (g.itinerary ∷ []) (ways_of fates))) has),
 )
 
-pub AreFates-push : (domain : Domain) (frames : List Frame) (fates : List Fate) (frame : Frame) (fate : Fate)
-    → AreFates domain frames fates → HasFate domain [] (ways_of fates) frame fate → AreFates domain (frames ++ frame ∷ []) (fates ++ fate ∷ [])
-AreFates-push domain frames fates frame fate are has = push_from domain [] [] frames fates frame fate are has
+pub AreFates-push : (domain : Domain) (readings : List (List Sample)) (frames : List Frame) (fates : List Fate) (frame : Frame) (fate : Fate)
+    → AreFates domain readings frames fates → HasFate domain readings (ways_of fates) frame fate
+    → AreFates domain readings (frames ++ frame ∷ []) (fates ++ fate ∷ [])
+AreFates-push domain readings frames fates frame fate are has = push_from domain readings [] frames fates frame fate are has
+
+-- ---- what one arrival more adds
+
+flat_map-push : {A B : Type 0} (f : A → List B) (xs : List A) (x : A) → flat_map f (xs ++ x ∷ []) ≡ flat_map f xs ++ f x
+flat_map-push f [] x = append-nil (f x)
+flat_map-push f (y ∷ xs) x = ap (λ rest. f y ++ rest) (flat_map-push f xs x) ∙ sym (append_assoc (f y) (flat_map f xs) (f x))
 
 records_text-append : (a b : List Sent) → records_text (a ++ b) ≡ records_text a ++ records_text b
 records_text-append [] b = refl
 records_text-append (s ∷ a) b = ap (λ (rest : List ℕ). record_octets s.time s.octets ++ rest) (records_text-append a b)
     ∙ sym (append_assoc (record_octets s.time s.octets) (records_text a) (records_text b))
 
-sent-push : (port : ℕ) (fates : List Fate) (fate : Fate) → sent_by port (fates ++ fate ∷ []) ≡ sent_by port fates ++ fate_sent port fate
-sent-push port [] fate = append-nil (fate_sent port fate)
-sent-push port (g ∷ fates) fate = ap (λ (rest : List Sent). fate_sent port g ++ rest) (sent-push port fates fate)
-    ∙ sym (append_assoc (fate_sent port g) (sent_by port fates) (fate_sent port fate))
+-- a capture with some packets more
+capture-append : (a b : List Sent) → capture_text (a ++ b) ≡ capture_text a ++ records_text b
+capture-append a b = ap (λ (rest : List ℕ). head_octets ++ rest) (records_text-append a b)
+    ∙ sym (append_assoc head_octets (records_text a) (records_text b))
 
--- a port's capture with one arrival more
+-- a port's
 pub out_text-push : (port : ℕ) (fates : List Fate) (fate : Fate) → out_text port (fates ++ fate ∷ []) ≡ out_text port fates ++ records_text (fate_sent port fate)
-out_text-push port fates fate = ap capture_text (sent-push port fates fate)
-    ∙ ap (λ (rest : List ℕ). head_octets ++ rest) (records_text-append (sent_by port fates) (fate_sent port fate))
-    ∙ sym (append_assoc head_octets (records_text (sent_by port fates)) (records_text (fate_sent port fate)))
+out_text-push port fates fate = ap capture_text (flat_map-push (fate_sent port) fates fate) ∙ capture-append (sent_by port fates) (fate_sent port fate)
 
--- the report's lines with one more
-pub report_lines-push : (domain : Domain) (number : ℕ) (fates : List Fate) (fate : Fate)
-    → report_lines domain number (fates ++ fate ∷ []) ≡ report_lines domain number fates ++ fate_line domain (number + length fates) fate
-report_lines-push domain number [] fate = append-nil (fate_line domain number fate) ∙ ap (λ (m : ℕ). fate_line domain m fate) (omega arith)
-report_lines-push domain number (g ∷ fates) fate = ap (λ (rest : List ℕ). fate_line domain number g ++ rest) (report_lines-push domain (number + 1) fates fate)
-    ∙ sym (append_assoc (fate_line domain number g) (report_lines domain (number + 1) fates) (fate_line domain (number + 1 + length fates) fate))
-    ∙ ap (λ (m : ℕ). (fate_line domain number g ++ report_lines domain (number + 1) fates) ++ fate_line domain m fate) (omega arith)
+module _ (domain : Domain) (readings : List (List Sample)) where
+  -- a tap's
+  pub tap_text-push : (link : ℕ) (fates : List Fate) (fate : Fate)
+      → tap_text domain readings link (fates ++ fate ∷ []) ≡ tap_text domain readings link fates ++ records_text (fate_crossed domain readings link fate)
+  tap_text-push link fates fate = ap capture_text (flat_map-push (fate_crossed domain readings link) fates fate)
+      ∙ capture-append (crossed_by domain readings link fates) (fate_crossed domain readings link fate)
 
--- every text with one arrival more
-pub texts-push : (domain : Domain) (fates : List Fate) (fate : Fate)
-    → texts_so_far domain (fates ++ fate ∷ []) ≡ said_more (texts_so_far domain fates) (added_by domain (1 + length fates) fate)
-texts-push domain fates fate =
-    ap (λ (ts : List (List ℕ)). ts ++ report_lines domain 1 (fates ++ fate ∷ []) ∷ [] ∷ [])
-    (same-each (length (ports domain)) 0 (λ k. out_text k (fates ++ fate ∷ [])) (λ k. out_text k fates ++ records_text (fate_sent k fate))
-    (λ k le lt. out_text-push k fates fate))
-    ∙ ap (λ (r : List ℕ). each_text (length (ports domain)) 0 (λ k. out_text k fates ++ records_text (fate_sent k fate)) ++ r ∷ [] ∷ [])
-    (report_lines-push domain 1 fates fate)
-    ∙ sym (said-each (length (ports domain)) 0 (λ k. out_text k fates) (λ k. records_text (fate_sent k fate)) (report_lines domain 1 fates) (fate_line domain (1 + length fates) fate))
+  -- the report's lines with one more
+  pub report_lines-push : (number : ℕ) (fates : List Fate) (fate : Fate)
+      → report_lines domain readings number (fates ++ fate ∷ []) ≡ report_lines domain readings number fates ++ fate_lines domain readings (number + length fates) fate
+  report_lines-push number [] fate = append-nil (fate_lines domain readings number fate) ∙ ap (λ (m : ℕ). fate_lines domain readings m fate) (omega arith)
+  report_lines-push number (g ∷ fates) fate = ap (λ (rest : List ℕ). fate_lines domain readings number g ++ rest) (report_lines-push (number + 1) fates fate)
+      ∙ sym (append_assoc (fate_lines domain readings number g) (report_lines domain readings (number + 1) fates) (fate_lines domain readings (number + 1 + length fates) fate))
+      ∙ ap (λ (m : ℕ). (fate_lines domain readings number g ++ report_lines domain readings (number + 1) fates) ++ fate_lines domain readings m fate) (omega arith)
 
--- with the sums behind the last line
-pub texts-end : (domain : Domain) (fates : List Fate) (gathered : Forwarding) → sums_text domain gathered.sums ≡ arrivals_text domain (ways_of fates)
-    → said_more (texts_so_far domain fates) (sums_by domain gathered.sums) ≡ texts_of domain fates
-texts-end domain fates gathered sums =
-    said-each (length (ports domain)) 0 (λ k. out_text k fates) (λ k. []) (report_lines domain 1 fates) (sums_text domain gathered.sums)
-    ∙ ap (λ (ts : List (List ℕ)). ts ++ (report_lines domain 1 fates ++ sums_text domain gathered.sums) ∷ [] ∷ [])
-    (same-each (length (ports domain)) 0 (λ k. out_text k fates ++ []) (λ k. out_text k fates) (λ k le lt. append-nil (out_text k fates)))
-    ∙ ap (λ (r : List ℕ). each_text (length (ports domain)) 0 (λ k. out_text k fates) ++ (report_lines domain 1 fates ++ r) ∷ [] ∷ []) sums
+  -- the export records
+  pub exports_text-push : (fates : List Fate) (fate : Fate)
+      → exports_text domain readings (fates ++ fate ∷ []) ≡ exports_text domain readings fates ++ fate_exports domain readings fate
+  exports_text-push fates fate = flat_map-push (fate_exports domain readings) fates fate
 
--- what is gathered stands for one arrival more
-pub Forwards-push : (domain : Domain) (frame : Frame) (fate : Fate) (old new : Forwarding) (number : ℕ) → number ≡ old.sums.packets + 1
-    → ((earlier : List Itinerary) → HasFate domain [] earlier frame fate)
-    → ((arrivals : List Itinerary) → StandFor domain old.sums arrivals → StandFor domain new.sums (arrivals ++ fate.itinerary ∷ []))
-    → (frames : List Frame) (so_far : List (List ℕ)) → Forwards domain frames so_far old
-    → Forwards domain (frames ++ frame ∷ []) (said_more so_far (added_by domain number fate)) new
-Forwards-push domain frame fate old new number is has counts frames so_far forwards =
-    let count : number ≡ 1 + length forwards.fates = omega (arith, is, forwards.sums.packets, length-map forwards.fates way_of) in
-    record {
-      fates = forwards.fates ++ fate ∷ [];
-      are = AreFates-push domain frames forwards.fates frame fate forwards.are (has (ways_of forwards.fates));
-      texts_are = ap (λ (ts : List (List ℕ)). said_more ts (added_by domain number fate)) forwards.texts_are
-          ∙ ap (λ (m : ℕ). said_more (texts_so_far domain forwards.fates) (added_by domain m fate)) count
-          ∙ sym (texts-push domain forwards.fates fate);
-      sums = subst (StandFor domain new.sums) (sym (map-append way_of forwards.fates (fate ∷ []))) (counts (ways_of forwards.fates) forwards.sums);
-      plain = forwards.plain;
-    }
+  -- every text with one arrival more
+  pub texts-push : (fates : List Fate) (fate : Fate)
+      → texts_so_far domain readings (fates ++ fate ∷ []) ≡ said_more (texts_so_far domain readings fates) (added_by domain readings (1 + length fates) fate)
+  texts-push fates fate =
+      same-outlets domain (λ k. out_text k (fates ++ fate ∷ [])) (λ k. out_text k fates ++ records_text (fate_sent k fate))
+      (λ k. tap_text domain readings k (fates ++ fate ∷ [])) (λ k. tap_text domain readings k fates ++ records_text (fate_crossed domain readings k fate))
+      (report_lines domain readings 1 (fates ++ fate ∷ [])) (report_lines domain readings 1 fates ++ fate_lines domain readings (1 + length fates) fate)
+      (exports_text domain readings (fates ++ fate ∷ [])) (exports_text domain readings fates ++ fate_exports domain readings fate)
+      (λ k inside. out_text-push k fates fate) (λ link tapped. tap_text-push link.0 fates fate) (report_lines-push 1 fates fate) (exports_text-push fates fate)
+      ∙ sym (said-outlets domain (λ k. out_text k fates) (λ k. records_text (fate_sent k fate))
+      (λ k. tap_text domain readings k fates) (λ k. records_text (fate_crossed domain readings k fate))
+      (report_lines domain readings 1 fates) (fate_lines domain readings (1 + length fates) fate)
+      (exports_text domain readings fates) (fate_exports domain readings fate))
 
--- what is gathered is whole with the sums
-pub Forwards-ends : (domain : Domain) (gathered : Forwarding)
-    → ((arrivals : List Itinerary) → StandFor domain gathered.sums arrivals → sums_text domain gathered.sums ≡ arrivals_text domain arrivals)
-    → (frames : List Frame) (so_far : List (List ℕ)) → Forwards domain frames so_far gathered
-    → Forwarded domain frames (said_more so_far (sums_by domain gathered.sums))
-Forwards-ends domain gathered sums frames so_far forwards =
-    let whole : said_more so_far (sums_by domain gathered.sums) ≡ texts_of domain forwards.fates =
-    ap (λ (ts : List (List ℕ)). said_more ts (sums_by domain gathered.sums)) forwards.texts_are
-    ∙ texts-end domain forwards.fates gathered (sums (ways_of forwards.fates) forwards.sums) in
-    record {
-      fates = forwards.fates;
-      are = forwards.are;
-      texts_are = whole;
-      clean = texts-clean domain frames forwards.fates (report_text domain forwards.fates) (said_more so_far (sums_by domain gathered.sums)) forwards.are whole;
-    }
-
--- sums of one arrival more
-pub IsOf-push : (domain : Domain) (old new : Forwarding) (it : Itinerary)
-    → ((arrivals : List Itinerary) → StandFor domain old.sums arrivals → StandFor domain new.sums (arrivals ++ it ∷ []))
-    → IsOf domain old → IsOf domain new × (new.sums.packets ≡ old.sums.packets + 1)
-IsOf-push domain old new it counts of =
-    let stands = counts of.ways of.stands in (
-      record { ways = of.ways ++ it ∷ []; stands = stands; plain = of.plain },
-      omega (arith, stands.packets, of.stands.packets, length-append of.ways (it ∷ [])),
-    )
-
--- visits at nodes of the domain are at nodes that are counted
-pub visits-counted : (domain : Domain) (count : ℕ) (visits : List Visit) → count ≡ length (nodes_of domain) → All (IsVisitOf domain) visits
-    → All (λ (visit : Visit). visit.place.node.0 < count) visits
-visits-counted domain count visits is inside = All-weaker (IsVisitOf domain) (λ visit. visit.place.node.0 < count)
-    (λ visit here. omega (arith, here, is)) visits inside
-
-pub end-counted : (domain : Domain) (count : ℕ) (end : End) → count ≡ length (nodes_of domain) → EndsInside domain end → IsEndBelow count end
-end-counted domain count (Left port) is inside = tt
-end-counted domain count (Drop reason node) is inside = omega (arith, inside, is)
+  -- with the sums behind the last line
+  pub texts-end : (fates : List Fate) (sums : Sums) → sums_text domain sums ≡ arrivals_text domain (ways_of fates)
+      → said_more (texts_so_far domain readings fates) (sums_by domain sums) ≡ texts_of domain readings fates
+  texts-end fates sums is =
+      said-outlets domain (λ k. out_text k fates) (λ k. []) (λ k. tap_text domain readings k fates) (λ k. [])
+      (report_lines domain readings 1 fates) (sums_text domain sums) (exports_text domain readings fates) []
+      ∙ same-outlets domain (λ k. out_text k fates ++ []) (λ k. out_text k fates)
+      (λ k. tap_text domain readings k fates ++ []) (λ k. tap_text domain readings k fates)
+      (report_lines domain readings 1 fates ++ sums_text domain sums) (report_text domain readings fates)
+      (exports_text domain readings fates ++ []) (exports_text domain readings fates)
+      (λ k inside. append-nil (out_text k fates)) (λ link tapped. append-nil (tap_text domain readings link.0 fates))
+      (ap (λ (sums : List ℕ). report_lines domain readings 1 fates ++ sums) is) (append-nil (exports_text domain readings fates))

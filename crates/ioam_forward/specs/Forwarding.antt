@@ -5,10 +5,13 @@ use Rattle.ioam_batch.specs.Batches as batches
 use Rattle.ioam_batch.specs.Jobs.{Holds, IsFresh, IsJobOf}
 use Rattle.ioam_batch.specs.declared.job.Job.{Job}
 use Rattle.ioam_clock.specs.declared.sample.Sample.{Sample}
-use Rattle.ioam_fates.specs.Fate.{Frame, Fate, AreFates, CanRide}
+use Rattle.ioam_fates.specs.Fate.{Frame, Fate, HasFate, AreFates, CanRide}
 use Rattle.ioam_fates.specs.Texts.{texts_of, texts_so_far, ways_of}
+use Rattle.ioam_fates.specs.Told.{RanFor}
 use Rattle.ioam_ip.specs.Clean.{MayLeave}
 use Rattle.ioam_outlets.specs.Outlets.{tapped}
+use Rattle.ioam_outputs.specs.Told.{Adds, said_more}
+use Rattle.ioam_outputs.specs.declared.output.Output.{Output}
 use Rattle.ioam_pcap.specs.Text.{IsCaptureOf}
 use Rattle.ioam_plan.specs.Counted.{CountFor}
 use Rattle.ioam_plan.specs.declared.itinerary.Itinerary.{Itinerary}
@@ -31,6 +34,21 @@ pub record IsOf (domain : Domain) (gathered : Forwarding) : Type 0 where
 pub record IsWaiting (domain : Domain) (fate : Fate) (job : Job) : Type 0 where
   pub rides : CanRide domain fate
   pub of : IsJobOf domain fate.packet fate.itinerary job
+
+-- the job of an arrival behind these, and what becomes of that
+pub record Arrived (domain : Domain) (readings : List (List Sample)) (earlier : List Itinerary) (frame : Frame) (job : Job) : Type 0 where
+  pub fate : Fate
+  pub has : HasFate domain readings earlier frame fate
+  pub waits : IsWaiting domain fate job
+
+-- Behind the texts of so many arrivals these are the texts of what the jobs are of, if these ran.
+abbrev pub AreOfJobs : Domain → ℕ → List Job → List (List ℕ) → Type 0
+AreOfJobs domain count jobs added = (readings : List (List Sample)) (front fates : List Fate) → length front ≡ count
+    → AllZip (RanFor domain readings) fates jobs → said_more (texts_so_far domain readings front) added ≡ texts_so_far domain readings (front ++ fates)
+
+-- such texts were added to the outputs
+abbrev pub TellsJobs : Domain → ℕ → List Job → List Output → List Output → Type 0
+TellsJobs domain count jobs old new = (added : List (List ℕ)) × Adds old new added × AreOfJobs domain count jobs added
 
 -- Of what becomes of these arrivals some was told, in these texts, and for the rest the jobs wait. Where the gate may stay
 -- shut it isn't known what was told.

@@ -10,13 +10,17 @@ ghost use Rattle.ioam_pcap.specs.Reader.{entry_of};
 ghost use Rattle.ioam_topo.specs.Domain.{ports};
 ghost use Rattle.ioam_forward.specs.Forwarding.{Forwards, Forwarded, IsOf, NoneWaits, has_room, taken};
 
+use crate::arriving::job_of;
+use crate::telling::put_jobs;
 use ioam_base::memory::NoMemory;
-use ioam_batch::{Batch, Gate};
+use ioam_batch::{Batch, Gate, run_batch};
 use ioam_clock::Readings;
+use ioam_fates::put_heads;
+use ioam_outlets::tapped_links;
 use ioam_outputs::Output;
 use ioam_pcap::Packet;
 use ioam_plan::Counters;
-use ioam_report::Sums;
+use ioam_report::{Sums, put_sums};
 use ioam_topo::{Domain, LinkId, PortId};
 use std::alloc::Global;
 use std::thread::Threads;
@@ -53,7 +57,18 @@ impl Forwarding {
         ensures gathers { IfOk result (λ gathered. (opens : Bool) (readings : List (List Sample))
             → Forwards opens domain.now readings [] (texts_so_far domain.now readings []) gathered) }
     {
-        Err(NoMemory)
+        put_heads(domain, outputs)?;
+        let sums = Sums::new(alloc, domain)?;
+        let counters = Counters::new(alloc, domain)?;
+        let taps = tapped_links(alloc, domain)?;
+        let batch = Batch::new(alloc)?;
+        Ok(Forwarding {
+            sums,
+            counters,
+            taps,
+            batch,
+            told: 0,
+        })
     }
 
     /// How many arrivals were taken.
@@ -95,7 +110,18 @@ impl Forwarding {
             → Forwards opens domain.now readings.now
             (frames ++ record { port = port; ethernet = ethernet; entry = entry_of captured.now } ∷ []) so_far self.new) }
     {
-        Err(NoMemory)
+        let job = job_of(
+            alloc,
+            domain,
+            readings,
+            &mut self.counters,
+            port,
+            ethernet,
+            captured,
+        )?;
+        self.sums.note(job.itinerary());
+        self.batch.push(job);
+        Ok(())
     }
 
     /// Runs the jobs that wait by so many workers, and tells what they leave, in the order of arrival.
@@ -120,7 +146,12 @@ impl Forwarding {
             × ((frames : List Frame) (so_far : List (List ℕ)) → Forwards G.opens domain.now readings.now frames so_far self.old
             → Forwards G.opens domain.now readings.now frames (said_more so_far added) self.new)) }
     {
-        Err(NoMemory)
+        run_batch(rt, domain, readings, &mut self.batch, workers, gate);
+        let jobs = self.batch.jobs();
+        put_jobs(domain, &self.taps, self.told, jobs, outputs)?;
+        self.told += jobs.len() as u64;
+        self.batch.clear();
+        Ok(())
     }
 
     /// Adds the sums to the report, behind the last arrival, where none waits. The texts are then whole,
@@ -134,6 +165,8 @@ impl Forwarding {
             → Forwards opens domain.now readings frames so_far self.now
             → Forwarded opens domain.now readings frames (said_more so_far (sums_by domain.now self.now.sums))) }
     {
-        Err(NoMemory)
+        let report = outputs.len() - 2;
+        put_sums(domain, &self.sums, &mut outputs[report].gathered)?;
+        Ok(())
     }
 }

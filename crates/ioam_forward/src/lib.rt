@@ -2,6 +2,8 @@
 //! workers, and what they leave is told every output of the run in the order of arrival.
 #![tactic(auto)]
 
+mod arriving;
 mod forwarding;
+mod telling;
 
 pub use forwarding::Forwarding;
