@@ -1,5 +1,5 @@
 -- Laws of the names of a run's files.
-use Rattle.std.proofs.Common.{◌≡◌, ℕ, zero, suc, ◌+◌, ◌<◌, ◌⊎◌, List, [], ◌∷◌, ◌++◌, map, length, take, get_or, slice_get, Option, Some, None, refl, sym, ◌∙◌, ap, subst, inl, inr, ⊎_elim, append-nil, append_assoc, length-append, arith}
+use Rattle.std.proofs.Common.{◌≡◌, ℕ, zero, suc, ◌+◌, ◌<◌, ◌⊎◌, List, [], ◌∷◌, ◌++◌, map, length, take, get_or, slice_get, Option, Some, None, Result, Ok, Err, IfOk, refl, sym, ◌∙◌, ap, subst, inl, inr, ⊎_elim, append-nil, append_assoc, length-append, arith}
 use Rattle.std.specs.List.{All, Contains, flat_map}
 use Rattle.std.specs.Option.{option_map_or}
 use Rattle.std.proofs.Math.Seq.{get_or-append_seam}
@@ -116,6 +116,11 @@ length-output_names ports links report exports = omega (
 pub named_each : (domain : Domain) (report exports : List ℕ) (names : List (List ℕ)) → names ≡ output_names (ports domain) (links domain) report exports
     → length names ≡ outlet_count domain
 named_each domain report exports names is = ap length is ∙ length-output_names (ports domain) (links domain) report exports
+
+pub named_each_of : {T E : Type 0} (domain : Domain) (report exports : List ℕ) (items : T → List (List ℕ)) (r : Result T E)
+    → IfOk r (λ names. items names ≡ output_names (ports domain) (links domain) report exports) → IfOk r (λ names. length (items names) ≡ outlet_count domain)
+named_each_of domain report exports items (Ok names) is = named_each domain report exports (items names) is
+named_each_of domain report exports items (Err refused) is = tt
 
 -- the capture of the tap of the link at a place
 tap_one : (all : List Link) (place : ℕ) (link : Link) (tap : Option (List ℕ)) → slice_get all place ≡ Some link → link.tap ≡ tap

@@ -100,6 +100,22 @@ fn outputs_of(alloc: Global, ports: &[Port]) -> Result<Vec<Name>, NoMemory>
     Ok(names)
 }
 
+// The names of the files that are written.
+fn written_names(
+    alloc: Global,
+    domain: &Domain,
+    report: &Name,
+    exports: &Name,
+) -> Result<Vec<Name>, NoMemory>
+    ensures { IfOk result (λ names. names.items ≡ output_names (ports domain.now) (links domain.now) report.now exports.now) }
+{
+    let mut names = outputs_of(alloc, domain.ports())?;
+    push_taps(alloc, &mut names, domain.links())?;
+    push_name(alloc, &mut names, report)?;
+    push_name(alloc, &mut names, exports)?;
+    Ok(names)
+}
+
 /// The files that are written, in the order in which they are opened, which is that of the run's
 /// outputs (`ioam_outlets`): the captures of the packets that leave by the ports, in file order, those
 /// of the links' taps, in file order, the report and the exports.
@@ -112,11 +128,7 @@ pub fn output_names(
     ensures value { IfOk result (λ names. names.items ≡ output_names (ports domain.now) (links domain.now) report.now exports.now) }
     ensures sized { IfOk result (λ names. length names.items ≡ outlet_count domain.now) }
 {
-    let mut names = outputs_of(alloc, domain.ports())?;
-    push_taps(alloc, &mut names, domain.links())?;
-    push_name(alloc, &mut names, report)?;
-    push_name(alloc, &mut names, exports)?;
-    Ok(names)
+    written_names(alloc, domain, report, exports)
 }
 
 // Copies of the names that the words have.
