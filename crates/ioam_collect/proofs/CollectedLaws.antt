@@ -1,6 +1,6 @@
 -- Laws of a collector and the records that it stands for.
-use Rattle.std.proofs.Common.{◌≡◌, ◌≢◌, ℕ, ◌+◌, suc, Bool, true, false, cond, List, [], ◌∷◌, ◌++◌, length, map, refl, sym, ap, ap₂, ◌∙◌, subst, ◌==◌, arith, ◌⊎◌, inl, inr, Option, None, Some, length-append}
-use Rattle.std.specs.Prelude.{Result, Ok, Err}
+use Rattle.std.proofs.Common.{◌≡◌, ◌≢◌, ℕ, ◌+◌, suc, Bool, true, false, cond, IsTrue, List, [], ◌∷◌, ◌++◌, length, map, refl, sym, ap, ap₂, ◌∙◌, subst, ◌==◌, arith, ◌⊎◌, inl, inr, Option, None, Some, length-append}
+use Rattle.std.specs.Prelude.{◌↔◌, Result, Ok, Err}
 use Rattle.std.specs.Map.{lookup, keys_of}
 use Rattle.std.specs.List.{AllByRecursion}
 use Rattle.std.specs.List.Sorted.{IsStrictlySortedBy}
@@ -18,7 +18,7 @@ use Rattle.ioam_collect.specs.Keyed.{key_cmp, hops_of, keyed_of, with_keyed, key
 use Rattle.ioam_collect.specs.Best.{kept_of, of_key, keys_in, group, groups_of}
 use Rattle.ioam_collect.specs.Gathered.{Gathered, group_in, AreOf}
 use Rattle.ioam_collect.specs.Adds.{Adds, IsOf}
-use Rattle.ioam_collect.specs.Collected.{Collected, gathered_in, capped, one_where_none, count_unkeyed, Stands, Answers, Leaves, LeavesPair, Grown, AddsRecord, AddsPair, Counts, IsOneMore}
+use Rattle.ioam_collect.specs.Collected.{Collected, gathered_in, capped, one_where_none, count_unkeyed, Stands, Answers, AnswersKeyed, Leaves, LeavesPair, Grown, AddsRecord, AddsPair, Counts, IsOneMore}
 use Rattle.ioam_collect.specs.declared.key.Key.{Key}
 use Rattle.ioam_collect.specs.declared.growing.Added.{Added}
 use Rattle.ioam_collect.specs.declared.growing.Added.TheVariants.{Kept, Replaced, Repeat, Unkeyed, Full}
@@ -67,11 +67,11 @@ with_keyed-append : (o : Option (Key × Entry)) (ps qs : List (Key × Entry)) �
 with_keyed-append None ps qs = refl
 with_keyed-append (Some p) ps qs = refl
 
-keyed-push : (xs : List Record) (x : Record) → keyed (xs ++ x ∷ []) ≡ keyed xs ++ with_keyed (keyed_of x) []
+pub keyed-push : (xs : List Record) (x : Record) → keyed (xs ++ x ∷ []) ≡ keyed xs ++ with_keyed (keyed_of x) []
 keyed-push [] x = refl
 keyed-push (y ∷ xs) x = ap (with_keyed (keyed_of y)) (keyed-push xs x) ∙ with_keyed-append (keyed_of y) (keyed xs) (with_keyed (keyed_of x) [])
 
-append-none : (ps : List (Key × Entry)) → ps ++ [] ≡ ps
+pub append-none : (ps : List (Key × Entry)) → ps ++ [] ≡ ps
 append-none = Rattle.std.proofs.lemmas.List.append-nil
 
 count-push : (xs : List Record) (x : Record) → count_unkeyed (xs ++ x ∷ []) ≡ count_unkeyed xs + one_where_none (keyed_of x)
@@ -108,6 +108,18 @@ module _ (old new : Collected) (x : Record) (p : Key × Entry) (is : keyed_of x 
   pub pair_adds : {E : Type 0} (r : Result Added E) → AddsPair old p r new → AddsRecord old x r new
   pair_adds (Ok added) adds = (rw is adds.0, leaves_record added adds.1, adds.2, adds.3)
   pair_adds (Err e) adds = adds
+
+-- whether a record with a key would be refused as one too many; none without one is
+pub pair_full : (old : Collected) (x : Record) (p : Key × Entry) → keyed_of x ≡ Some p → (B : Type 0) → (B ↔ AnswersKeyed old p Full)
+    → B ↔ Answers old (keyed_of x) Full
+pair_full old x p is B both =
+    let P : Option (Key × Entry) → Type 0 = λ o. B ↔ Answers old o Full in
+    subst P (sym is) both
+
+pub unkeyed_full : (old : Collected) (x : Record) → keyed_of x ≡ None → IsTrue false ↔ Answers old (keyed_of x) Full
+unkeyed_full old x is =
+    let P : Option (Key × Entry) → Type 0 = λ o. IsTrue false ↔ Answers old o Full in
+    subst P (sym is) ((λ none. absurd (cc none)), (λ full. absurd (cc full)))
 
 -- a record without one
 pub unkeyed_adds : (old new : Collected) (x : Record) → keyed_of x ≡ None → Counts old Unkeyed new

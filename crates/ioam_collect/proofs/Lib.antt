@@ -1,5 +1,6 @@
 mod BestLaws
 pub mod CollectedLaws
+pub mod CountLaws
 mod FiledLaws
 mod KeyLaws
 mod Members

@@ -1,6 +1,6 @@
 -- Laws of a store: chains of a pool under keys.
-use Rattle.std.proofs.Common.{◌≡◌, ◌≢◌, ℕ, ◌+◌, ◌<◌, ◌≤◌, Bool, true, false, cond, List, [], ◌∷◌, ◌++◌, length, map, set, refl, sym, ap, ap₂, ◌∙◌, subst, arith, get_or, ◌⊎◌, inl, inr, Option, None, Some, length-set}
-use Rattle.std.specs.Prelude.{Contains, All, Result, Ok, Err, sum_by, unwrap_or, option_map}
+use Rattle.std.proofs.Common.{◌≡◌, ◌≢◌, ℕ, ◌+◌, ◌<◌, ◌≤◌, Bool, true, false, cond, IsTrue, List, [], ◌∷◌, ◌++◌, length, map, set, refl, sym, ap, ap₂, ◌∙◌, subst, arith, get_or, ◌⊎◌, inl, inr, Option, None, Some, length-set}
+use Rattle.std.specs.Prelude.{◌↔◌, Contains, All, Result, Ok, Err, sum_by, unwrap_or, option_map}
 use Rattle.std.specs.Map.{lookup, keys_of}
 use Rattle.std.specs.List.{AllByRecursion}
 use Rattle.std.proofs.lemmas.Bool.{cases_eq}
@@ -10,7 +10,7 @@ use Rattle.std.specs.Ordering.{is_eq}
 use Rattle.std.proofs.lemmas.List.{get_or-set_same, get_or-set_other, length_push, get_or_past}
 use Rattle.std.proofs.lemmas.List.Sums.{sum_by_push}
 use Rattle.ioam_pool.specs.Entry.{Entry, bare}
-use Rattle.ioam_pool.specs.Order.{order, placed, without, Repeats, Replaces}
+use Rattle.ioam_pool.specs.Order.{order, placed, without, Repeats, Replaces, IsApart}
 use Rattle.ioam_pool.specs.Chains.{Chains, chain_of, total}
 use Rattle.ioam_pool.proofs.OrderLaws.{order_total, order_same}
 use Rattle.std.specs.declared.cmp.Ordering.{Ordering}
@@ -21,7 +21,7 @@ use Rattle.ioam_collect.specs.Keyed.{key_cmp, IsOfRecord}
 use Rattle.ioam_collect.specs.Puts.{Puts}
 use Rattle.ioam_collect.specs.Gathered.{Gathered, group_in}
 use Rattle.ioam_collect.specs.Inside.{gathered, IsStore}
-use Rattle.ioam_collect.specs.Adds.{Adds, Turns}
+use Rattle.ioam_collect.specs.Adds.{Adds, Turns, IsFullFor}
 use Rattle.ioam_collect.specs.declared.key.Key.{Key}
 use Rattle.ioam_collect.specs.declared.growing.Added.{Added}
 use Rattle.ioam_collect.specs.declared.growing.Added.TheVariants.{Kept, Replaced, Repeat, Unkeyed, Full}
@@ -70,6 +70,19 @@ absent_repeats pool chains limit key item is = none_repeats (group_at pool chain
 pub absent_replaces : (pool : Chains) (chains : BTreeMap Key ℕ) (limit : ℕ) (key : Key) (item : Entry) → get key_cmp chains key ≡ None
     → Replaces (group_at pool chains limit key) item → ⊥
 absent_replaces pool chains limit key item is = none_replaces (group_at pool chains limit key) item (group_none pool chains limit key is)
+
+-- whether an item would be refused as one too many: with items under its key, with none, and with room
+pub full_under : (pool : Chains) (chains : BTreeMap Key ℕ) (limit : ℕ) (key : Key) (item : Entry) (c : ℕ) → get key_cmp chains key ≡ Some c
+    → total pool ≡ limit → (B : Type 0) → (B ↔ IsApart (chain_of pool c) item) → B ↔ IsFullFor (gathered pool chains limit) key item
+full_under pool chains limit key item c is all B both =
+    let same : group_at pool chains limit key ≡ chain_of pool c = group_some pool chains limit key c is in
+    let P : List Entry → Type 0 = λ es. B ↔ (¬ (Repeats es item) × ¬ (Replaces es item) × (total pool ≡ limit)) in
+    subst P (sym same) ((λ b. let apart = both.0 b in (apart.0, apart.1, all)), (λ full. both.1 (full.0, full.1)))
+
+pub full_absent : (pool : Chains) (chains : BTreeMap Key ℕ) (limit : ℕ) (key : Key) (item : Entry) → get key_cmp chains key ≡ None
+    → total pool ≡ limit → IsTrue true ↔ IsFullFor (gathered pool chains limit) key item
+full_absent pool chains limit key item is all =
+    ((λ b. (absent_repeats pool chains limit key item is, absent_replaces pool chains limit key item is, all)), (λ full. refl))
 
 pub same_gathered : (pool new : Chains) (chains : BTreeMap Key ℕ) (limit : ℕ) → new.chains ≡ pool.chains → gathered new chains limit ≡ gathered pool chains limit
 same_gathered pool new chains limit same =

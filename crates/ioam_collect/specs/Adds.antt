@@ -34,3 +34,7 @@ IsOf old key item (Ok Repeat) new = (ps : List (Key × Entry)) → AreOf old ps 
 IsOf old key item (Ok Unkeyed) new = ⊥
 IsOf old key item (Ok Full) new = new ≡ old
 IsOf old key item (Err _) new = new ≡ old
+
+-- adding answers Full
+abbrev pub IsFullFor : Gathered → Key → Entry → Type 0
+IsFullFor old key item = ¬ (Repeats (group_in old.groups key) item) × ¬ (Replaces (group_in old.groups key) item) × (old.held ≡ old.limit)

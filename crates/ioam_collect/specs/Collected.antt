@@ -34,6 +34,10 @@ abbrev pub count_unkeyed : List Record → ℕ
 count_unkeyed [] = 0
 count_unkeyed (x ∷ xs) = one_where_none (keyed_of x) + count_unkeyed xs
 
+-- how many of these records are kept
+abbrev pub count_kept : List Record → ℕ
+count_kept xs = length (kept_of (keyed xs))
+
 -- a collector stands for these records, in the order in which they were added
 pub record Stands (c : Collected) (xs : List Record) : Type 0 where
   pub groups : AreOf (gathered_in c) (keyed xs)

@@ -1,9 +1,9 @@
-ghost use Rattle.std.specs.Prelude.{◌≡◌, ◌≢◌, ◌^◌, ◌<◌, [], IfOk, List};
+ghost use Rattle.std.specs.Prelude.{◌≡◌, ◌≢◌, ◌↔◌, ◌^◌, ◌<◌, [], IfOk, IsTrue, List};
 ghost use Rattle.std.specs.List.{AllByRecursion};
 ghost use Rattle.std.specs.Map.{keys_of};
 ghost use Rattle.std.specs.List.Sorted.{IsStrictlySortedBy};
 ghost use Rattle.ioam_dex.specs.Record.{Record, HasItsParts, record_of};
-ghost use Rattle.ioam_collect.specs.Keyed.{key_cmp, keyed, IsOfRecord};
+ghost use Rattle.ioam_collect.specs.Keyed.{key_cmp, keyed, keyed_of, IsOfRecord};
 ghost use Rattle.ioam_collect.specs.Best.{groups_of};
 
 use crate::grouping::Groups;
@@ -49,7 +49,8 @@ impl Model for Collector {
 }
 
 impl Collector {
-    ghost use Rattle.ioam_collect.specs.Collected.{AddsPair, AddsRecord, Counts, Stands};
+    ghost use Rattle.ioam_collect.specs.Collected.{AddsPair, AddsRecord, Answers, Counts, Stands};
+    ghost use Rattle.ioam_collect.specs.declared.growing.Added.TheVariants.{Full};
 
     /// A collector of so many records, below 2^31, which holds none.
     pub fn new(alloc: Global, limit: u32) -> Result<Collector, NoMemory>
@@ -80,6 +81,18 @@ impl Collector {
                 Ok(Added::Unkeyed)
             }
         }
+    }
+
+    /// Whether `add` would answer `Full` for a record. The collector stays as it is.
+    pub fn is_full_for(&mut self, export: &Export<'_>) -> bool
+        requires parts { HasItsParts (record_of export.now) }
+        ensures full { IsTrue result ↔ Answers self.old (keyed_of (record_of export.now)) Full }
+        ensures same { self.new ≡ self.old }
+    {
+        let Some((key, item)) = keyed(export, &mut self.room) else {
+            return false;
+        };
+        self.store.is_full_for(key, &item)
     }
 
     // Adds the item of a record under its key.

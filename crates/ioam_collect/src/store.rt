@@ -1,4 +1,4 @@
-ghost use Rattle.std.specs.Prelude.{◌≡◌, ◌≢◌, ◌^◌, ◌<◌, [], IfOk};
+ghost use Rattle.std.specs.Prelude.{◌≡◌, ◌≢◌, ◌↔◌, ◌^◌, ◌<◌, [], IfOk, IsTrue};
 ghost use Rattle.std.specs.List.{AllByRecursion};
 ghost use Rattle.std.specs.Map.{keys_of};
 ghost use Rattle.std.specs.List.Sorted.{IsStrictlySortedBy};
@@ -39,7 +39,7 @@ impl Model for Store {
 }
 
 impl Store {
-    ghost use Rattle.ioam_collect.specs.Adds.{Adds, IsOf};
+    ghost use Rattle.ioam_collect.specs.Adds.{Adds, IsFullFor, IsOf};
 
     // A store of so many items, without groups.
     pub(crate) fn new(alloc: Global, limit: u32) -> Result<Store, NoMemory>
@@ -85,6 +85,20 @@ impl Store {
                 key,
                 item,
             ),
+        }
+    }
+
+    // Whether adding an item would answer `Full`.
+    pub(crate) fn is_full_for(&self, key: Key, item: &Item) -> bool
+        ensures { IsTrue result ↔ IsFullFor self.now key item.now }
+    {
+        if self.pool.held() != self.limit {
+            return false;
+        }
+        let chain = self.chains.get(&key).copied();
+        match chain {
+            Some(chain) => self.pool.is_apart(chain, item),
+            None => true,
         }
     }
 

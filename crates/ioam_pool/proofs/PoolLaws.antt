@@ -1,10 +1,10 @@
 -- Laws of a whole pool, as its methods cite them.
-use Rattle.std.proofs.Common.{Bool, true, false, not, ◌&&◌, ◌≡◌, ◌≢◌, ℕ, ◌+◌, ◌-◌, ◌<◌, ◌≤◌, ◌^◌, zero, suc, List, [], ◌∷◌, ◌++◌, length, map, set, refl, sym, ap, ap₂, ◌∙◌, subst, arith, rules, get_or, ◌⊎◌, inl, inr, Option, None, Some, length-set}
+use Rattle.std.proofs.Common.{Bool, true, false, not, ◌&&◌, ◌≡◌, ◌≢◌, ℕ, ◌+◌, ◌-◌, ◌<◌, ◌≤◌, ◌^◌, zero, suc, List, [], ◌∷◌, ◌++◌, length, map, set, refl, sym, ap, ap₂, ◌∙◌, subst, arith, rules, get_or, ◌⊎◌, inl, inr, ⊎_elim, Option, None, Some, length-set}
 use Rattle.std.specs.Prelude.{sum_by, Contains}
-use Rattle.std.proofs.lemmas.Bool.{cases_eq}
+use Rattle.std.proofs.lemmas.Bool.{cases_eq, cases_Bool}
 use Rattle.std.proofs.lemmas.List.{length-map, get_or_read, set-get_or}
 use Rattle.ioam_pool.specs.Entry.{Entry, is_full, bare}
-use Rattle.ioam_pool.specs.Order.{order, IsChain, IsInOrder, placed, without, Repeats, Replaces}
+use Rattle.ioam_pool.specs.Order.{order, IsChain, IsInOrder, placed, without, Repeats, Replaces, IsApart}
 use Rattle.ioam_pool.specs.Cells.{blank, cell_at, entry_at, entries_from, Chained, Ends, EndsWith, Parted, linked_in, head_then, Gap, Ties, IsLast, with_item}
 use Rattle.ioam_pool.specs.Chains.{Chains, chain_of, total, with_chain, with_one_more}
 use Rattle.ioam_pool.specs.Kept.{seen, IsPool}
@@ -101,6 +101,13 @@ module _ (cells : List Cell) (heads : List (Option ℕ)) (free : Option ℕ) (he
     pub repeats : (item : Entry) (at : ℕ) → Ties cells head at item → (is_full item && not (is_full (entry_at cells at))) ≡ false
         → Repeats (chain_of (seen cells heads) c) item
     repeats item at tie so = repeat_by item at tie (is_full item) (is_full (entry_at cells at)) refl refl so
+
+    -- an item that ties with another isn't apart
+    pub tied_not_apart : (item : Entry) (at : ℕ) → Ties cells head at item → IsApart (chain_of (seen cells heads) c) item → ⊥
+    tied_not_apart item at tie apart = ⊎_elim
+        (λ so. let both = gives (is_full item) (is_full (entry_at cells at)) so in apart.1 (replaces item at tie both.0 both.1))
+        (λ so. apart.0 (repeats item at tie so))
+        (cases_Bool (is_full item && not (is_full (entry_at cells at))))
 
     module _ (item : Entry) (before : Option ℕ) (gap : Gap cells head before item) where
       gap' : Gap cells (get_or heads c None) before item

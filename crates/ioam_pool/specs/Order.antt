@@ -54,3 +54,7 @@ Repeats es e = Contains es e ⊎ ((is_full e ≡ false) × (y : Entry) × Contai
 -- the entry has an extra part, and the one without it is among these
 abbrev pub Replaces : List Entry → Entry → Type 0
 Replaces es e = (is_full e ≡ true) × Contains es (bare e)
+
+-- neither: with the entry there would be one more
+abbrev pub IsApart : List Entry → Entry → Type 0
+IsApart es e = ¬ (Repeats es e) × ¬ (Replaces es e)

@@ -1,5 +1,5 @@
-ghost use Rattle.std.specs.Prelude.{◌≡◌, ◌+◌, ◌^◌, ◌<◌, ◌≤◌, ◌++◌, ◌∷◌, [], length, is_ok, if◌then◌else◌, IfOk, OnErr};
-ghost use Rattle.ioam_pool.specs.Order.{IsChain, IsInOrder, order};
+ghost use Rattle.std.specs.Prelude.{◌≡◌, ◌↔◌, ◌+◌, ◌^◌, ◌<◌, ◌≤◌, ◌++◌, ◌∷◌, [], length, is_ok, if◌then◌else◌, IfOk, IsTrue, OnErr};
+ghost use Rattle.ioam_pool.specs.Order.{IsApart, IsChain, IsInOrder, order};
 ghost use Rattle.ioam_pool.specs.Chains.{Chains, chain_of, total, with_chain, with_one_more};
 
 use crate::cells::Cell;
@@ -144,6 +144,19 @@ impl Pool {
         Items {
             cells: &self.cells,
             at: self.heads[chain.number as usize],
+        }
+    }
+
+    /// Whether an item would be one more on a chain: the chain doesn't have it, with or without an extra
+    /// part.
+    pub fn is_apart(&self, chain: Chain, item: &Item) -> bool
+        requires { chain < length self.now.chains }
+        ensures { IsTrue result ↔ IsApart (chain_of self.now chain) item.now }
+    {
+        let head = self.heads[chain.number as usize];
+        match find_seat(&self.cells, head, item) {
+            Seat::Tied(_) => false,
+            Seat::Behind(_) => true,
         }
     }
 

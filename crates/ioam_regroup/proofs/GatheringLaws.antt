@@ -14,7 +14,8 @@ use Rattle.ioam_dex.specs.Reader.{Stands, Waits, fed}
 use Rattle.ioam_dex.proofs.RecordLaws.{numbers_size-small, record_octets-length, record_size-small}
 use Rattle.ioam_collect.specs.Keyed.{keyed_of}
 use Rattle.ioam_collect.specs.Collected as collected
-use Rattle.ioam_collect.specs.Collected.{Collected, Answers, Leaves, capped}
+use Rattle.ioam_collect.specs.Collected.{Collected, Answers, Leaves, capped, count_kept, held_more}
+use Rattle.ioam_collect.proofs.CountLaws.{full_count, fits_count, held_within}
 use Rattle.ioam_collect.specs.declared.growing.Added.{Added}
 use Rattle.ioam_collect.specs.declared.growing.Added.TheVariants.{Kept, Replaced, Repeat, Unkeyed, Full}
 use Rattle.ioam_dex.proofs.ReadsLaws.{Splits-feed}
@@ -26,7 +27,7 @@ use Rattle.ioam_regroup.specs.Feed.{Fed, FeedsPiece, FindsEnd, Refills}
 use Rattle.std.specs.Prelude.{Result, Err}
 use Rattle.ioam_desk.specs.declared.fault.DeskFault.{DeskFault}
 use Rattle.ioam_desk.specs.declared.fault.DeskFault.TheVariants.{Failed, NoMemory}
-use Rattle.ioam_regroup.specs.Gathering.{Gathers, IsPast, Steps, Pauses, Passes, AreWhole, most_records, is_full, ReadsOne}
+use Rattle.ioam_regroup.specs.Gathering.{AreFew, Gathers, IsLimit, IsPast, SaysLimit, Steps, Pauses, Passes, AreWhole, is_full, ReadsOne}
 
 twelve_small : (there : Bool) → twelve_where there ≤ 12
 twelve_small true = omega arith
@@ -75,37 +76,58 @@ capped-high : (n m : ℕ) → m ≡ capped n → 67108864 ≤ m → 67108864 ≤
 capped-high n m is high = grind (arith, nat_tests)
 
 -- one record more is gathered
-pub gathers_more : (old new : Reading) (before after : Collected) (x : Record)
+pub gathers_more : (old new : Reading) (before after : Collected) (x : Record) (added : Added)
     → ((octets : List ℕ) (records : List Record) → Stands old octets records → Stands new octets (records ++ x ∷ []))
-    → ((xs : List Record) → collected.Stands before xs → collected.Stands after (xs ++ x ∷ [])) → after.limit ≡ before.limit → before.read < 67108864
+    → ((xs : List Record) → collected.Stands before xs → collected.Stands after (xs ++ x ∷ [])) → Answers before (keyed_of x) added → (added ≡ Full → ⊥)
+    → after.held ≡ before.held + held_more added → after.limit ≡ before.limit → before.read < 67108864
     → (octets : List ℕ) (records : List Record) → Gathers octets records old before → (y : Record) × Gathers octets (records ++ y ∷ []) new after
-gathers_more old new before after x given stands limit low octets records g =
+gathers_more old new before after x added given stands answers other held limit low octets records g =
     let below = capped-low (length records) before.read g.stands_for.read low in
-    let longer = length-append records (x ∷ []) in (
+    let longer = length-append records (x ∷ []) in
+    let more = stands records g.stands_for in
+    let was : before.held ≡ count_kept records = g.stands_for.groups.held in
+    let is : after.held ≡ count_kept (records ++ x ∷ []) = more.groups.held in
+    let few : before.held ≤ before.limit = omega (arith, was, g.few.held, g.limit) in
+    let within : after.held ≤ before.limit = held_within before after x added answers other few held in (
       x,
       record {
         stands = given octets records g.stands;
-        stands_for = stands records g.stands_for;
-        few = omega arith;
+        stands_for = more;
+        few = record { read = omega (arith, below, longer); held = omega (arith, is, within, g.limit) };
         limit = limit ∙ g.limit;
       },
     )
 
+-- with a record that would be refused more would be kept than may be held
+past_of : (before : Collected) (records : List Record) (x : Record) → collected.Stands before records → before.limit ≡ 1048576
+    → Answers before (keyed_of x) Full → 1048576 < count_kept (records ++ x ∷ [])
+past_of before records x stands limit full = let more = full_count before records x stands full in omega (arith, more, limit)
+
 -- as many were read as may be
-pub past_read : (old new : Reading) (before : Collected) (x : Record)
+pub past_read : (old new : Reading) (before : Collected) (x : Record) (limit : ℕ)
     → ((octets : List ℕ) (records : List Record) → Stands old octets records → Stands new octets (records ++ x ∷ [])) → 67108864 ≤ before.read
-    → (octets : List ℕ) (records : List Record) → Gathers octets records old before → (y : Record) × Stands new octets (records ++ y ∷ []) × IsPast 67108864 before records y
-past_read old new before x given high octets records g =
+    → SaysLimit before x limit
+    → (octets : List ℕ) (records : List Record) → Gathers octets records old before → (y : Record) × Stands new octets (records ++ y ∷ []) × IsPast limit records y
+past_read old new before x limit given high (inl (is, full)) octets records g =
+    (x, given octets records g.stands, inl (is, past_of before records x g.stands_for g.limit full))
+past_read old new before x limit given high (inr (is, not_full)) octets records g =
     let least = capped-high (length records) before.read g.stands_for.read high in
-    let most = g.few in
-    let all : length records ≡ 67108864 = omega arith in
-    (x, given octets records g.stands, inl (refl, all))
+    let longer = length-append records (x ∷ []) in
+    let was : before.held ≡ count_kept records = g.stands_for.groups.held in
+    let few : before.held ≤ before.limit = omega (arith, was, g.few.held, g.limit) in
+    let fits = fits_count before records x g.stands_for few not_full in
+    (x, given octets records g.stands, inr (is, omega (arith, fits, g.limit), omega (arith, least, longer)))
 
 -- as many are held as may be
 pub past_held : (old new : Reading) (before : Collected) (x : Record)
     → ((octets : List ℕ) (records : List Record) → Stands old octets records → Stands new octets (records ++ x ∷ [])) → Answers before (keyed_of x) Full
-    → (octets : List ℕ) (records : List Record) → Gathers octets records old before → (y : Record) × Stands new octets (records ++ y ∷ []) × IsPast 1048576 before records y
-past_held old new before x given full octets records g = (x, given octets records g.stands, inr (refl, full))
+    → (octets : List ℕ) (records : List Record) → Gathers octets records old before → (y : Record) × Stands new octets (records ++ y ∷ []) × IsPast 1048576 records y
+past_held old new before x given full octets records g =
+    (x, given octets records g.stands, inl (refl, past_of before records x g.stands_for g.limit full))
+
+pub one_limit : (limit : ℕ) (records : List Record) (x : Record) → IsPast limit records x → IsLimit limit
+one_limit limit records x (inl past) = inl past.0
+one_limit limit records x (inr past) = inr past.0
 
 -- what is known of the octets handed out is known of what the name holds
 pub of_content : (tells : Bool) (content : Option (List ℕ)) (inputs : desk.Reading) (slot : ℕ) (reader : Reading) (octets : List ℕ) (records : List Record)
@@ -145,7 +167,7 @@ pauses_step old new before after pause.More steps octets records g = (records, r
 pauses_step old new before after (pause.Bad at fault) steps octets records g = (records, rw (steps.0, steps.1) g, steps.2 octets records g.stands)
 pauses_step old new before after (pause.Limit limit) steps octets records g =
     let past = steps.1 octets records g in
-    (records, rw steps.0 g.stands_for, g.few, (past.0, past.1, rw steps.0 past.2))
+    (records, rw steps.0 g.stands_for, g.few, (past.0, past.1, past.2))
 
 -- ---- no other input slot is read
 
@@ -183,9 +205,9 @@ module _ (tells : Bool) (content : Option (List ℕ)) (inputs : desk.Reading) (s
   whole_is told left = fed.held told ∙ ap (λ rest. Some (octets ++ rest)) left ∙ ap Some (append-nil octets)
 
   -- the records of which one more is too many
-  pub passes : (limit : ℕ) (x : Record) → Stands now octets (others ++ x ∷ []) → IsPast limit collector others x
-      → IsTrue tells → IsSomeAnd content (Passes limit collector others)
-  passes limit x stands past = of_content tells content inputs slot reader octets records (Passes limit collector others) fed (λ rest. record {
+  pub passes : (limit : ℕ) (x : Record) → Stands now octets (others ++ x ∷ []) → IsPast limit others x
+      → IsTrue tells → IsSomeAnd content (Passes limit others)
+  passes limit x stands past = of_content tells content inputs slot reader octets records (Passes limit others) fed (λ rest. record {
     next = x;
     rest = now.pending ++ rest;
     splits = Splits-feed octets rest (others ++ x ∷ []) now.pending stands.splits;
@@ -207,7 +229,7 @@ module _ (tells : Bool) (content : Option (List ℕ)) (inputs : desk.Reading) (s
   -- all that the name holds was read
   pub whole_of : (new : desk.Reading) (next : Reading) → Gathers octets others now collector → FindsEnd tells inputs slot now new next → (ending : Ending)
       → ((o : List ℕ) (r : List Record) → Stands next o r → Reads o r ending)
-      → (r : List Record) × collected.Stands collector r × (length r ≤ most_records) × (IsTrue tells → IsSomeAnd content (λ o. Reads o r ending))
+      → (r : List Record) × collected.Stands collector r × AreFew r × (IsTrue tells → IsSomeAnd content (λ o. Reads o r ending))
   whole_of new next g ends ending reads =
       let kept = ends.kept content octets others (stepped g.stands) in
       let read : Reads octets others ending = reads octets others kept.stands in

@@ -1,11 +1,12 @@
 //! One step of a reader whose records are regrouped.
 ghost use Rattle.std.specs.Prelude.{◌≡◌, IfOk};
 ghost use Rattle.ioam_dex.specs.Reader.{fed};
-ghost use Rattle.ioam_regroup.specs.Gathering.{Steps, is_full, most_held};
+ghost use Rattle.ioam_dex.specs.Record.{HasItsParts, record_of};
+ghost use Rattle.ioam_regroup.specs.Gathering.{SaysLimit, Steps, is_full, most_held};
 
 use ioam_base::memory::NoMemory;
 use ioam_collect::{Added, Collector};
-use ioam_dex::{ExportFault, ExportReader, Step};
+use ioam_dex::{Export, ExportFault, ExportReader, Step};
 
 /// The most records that are read.
 pub const MOST_RECORDS: u32 = 67_108_864;
@@ -31,6 +32,20 @@ fn is_full(added: Added) -> bool
     matches!(added, Added::Full)
 }
 
+// Which limit a record passes where as many were read as may be. Where it would be one too many to be
+// held too, that is said.
+fn passed_limit(collector: &mut Collector, export: &Export<'_>) -> u32
+    requires parts { HasItsParts (record_of export.now) }
+    ensures says { SaysLimit collector.old (record_of export.now) result }
+    ensures same { collector.new ≡ collector.old }
+{
+    if collector.is_full_for(export) {
+        MOST_HELD
+    } else {
+        MOST_RECORDS
+    }
+}
+
 /// Takes the next record that the octets fed so far show. The answer is None where one was taken.
 pub(crate) fn step(
     reader: &mut ExportReader,
@@ -44,9 +59,8 @@ pub(crate) fn step(
     match reader.next() {
         Step::Export(export) => {
             if collector.read() >= u64::from(MOST_RECORDS) {
-                return Ok(Some(Pause::Limit {
-                    limit: MOST_RECORDS,
-                }));
+                let limit = passed_limit(collector, &export);
+                return Ok(Some(Pause::Limit { limit }));
             }
             let added = collector.add(&export)?;
             if is_full(added) {

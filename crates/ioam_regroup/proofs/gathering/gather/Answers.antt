@@ -1,26 +1,40 @@
 use Rattle.std.proofs.Common.{◌≡◌, List, ℕ, length-append, ap, sym, ◌∙◌, refl, subst, arith}
 use Rattle.ioam_desk.specs.Desk as desk
 use Rattle.ioam_dex.specs.Reader.{fed}
-use Rattle.ioam_dex.specs.Reads.{Whole, Faulty}
-use Rattle.ioam_regroup.proofs.GatheringLaws.{Waits-few, start_few, fed_on, passes, whole_in, whole_of, ReadsOne-same, ReadsOne-more}
+use Rattle.ioam_dex.specs.Reads.{Whole, Faulty, Reads}
+use Rattle.ioam_regroup.proofs.GatheringLaws.{Waits-few, start_few, fed_on, of_content, one_limit, passes, whole_in, whole_of, ReadsOne-same, ReadsOne-more}
 use Rattle.ioam_regroup.proofs.gathering.gather.Goals as goal
 
 pub returns-in-Ok-Limit-clause-halts : goal.returns-in-Ok-Limit-clause-halts
 returns-in-Ok-Limit-clause-halts g c =
     let was = c.pieces.invariant.fed in
     let paused = (rw c.in-Ok-Limit.field-0-is at c.in-Ok-Limit.ensures.paused) was.0 was.1 was.3 in (
+      (
+        paused.0,
+        paused.1,
+        paused.2,
+        passes g.D.Desk.tells g.content (g.D.Desk.reading c.pieces.desk) c.pieces.feed.slot c.pieces.feed.reader c.take_shown.new.reader
+            was.0 was.1 paused.0 c.take_shown.new.collector was.2 c.in-Ok-Limit.limit paused.3.0 paused.3.1 paused.3.2,
+      ),
+      one_limit c.in-Ok-Limit.limit paused.0 paused.3.0 paused.3.2,
+    )
+
+pub returns-in-Ok-Bad-clause-halts : goal.returns-in-Ok-Bad-clause-halts
+returns-in-Ok-Bad-clause-halts g c =
+    let was = c.pieces.invariant.fed in
+    let paused = (rw c.in-Ok-Bad.field-0-is at c.in-Ok-Bad.ensures.paused) was.0 was.1 was.3 in (
       paused.0,
-      paused.1,
-      paused.2,
-      passes g.D.Desk.tells g.content (g.D.Desk.reading c.pieces.desk) c.pieces.feed.slot c.pieces.feed.reader c.take_shown.new.reader
-          was.0 was.1 paused.0 c.take_shown.new.collector was.2 c.in-Ok-Limit.limit paused.3.0 paused.3.1 paused.3.2,
+      paused.1.stands_for,
+      paused.1.few,
+      of_content g.D.Desk.tells g.content (g.D.Desk.reading c.pieces.desk) c.pieces.feed.slot c.pieces.feed.reader was.0 was.1
+          (λ octets. Reads octets paused.0 (Faulty c.in-Ok-Bad.at c.in-Ok-Bad.fault)) was.2 paused.2,
     )
 
 pub refill-requires-clause-fits : goal.refill-requires-clause-fits
 refill-requires-clause-fits g c =
     let was = c.pieces.invariant.fed in
     let paused = (rw c.in-Ok-More.field-0-is at c.in-Ok-More.ensures.paused) was.0 was.1 was.3 in
-    let few = paused.1.few in
+    let few = paused.1.few.read in
     omega (arith, c.pieces.invariant.room, Waits-few c.take_shown.new.reader paused.2, start_few c.take_shown.new.reader was.0 paused.0 paused.1.stands)
 
 pub pieces-smaller : goal.pieces-smaller
@@ -28,7 +42,7 @@ pieces-smaller g c =
     let was = c.pieces.invariant.fed in
     let paused = (rw c.in-Ok-More.field-0-is at c.in-Ok-More.ensures.paused) was.0 was.1 was.3 in
     let feeds = rw c.in-Ok-true.field-0-test at c.in-Ok-true.ensures.read in
-    let few = paused.1.few in
+    let few = paused.1.few.read in
     omega (
       arith,
       Waits-few c.take_shown.new.reader paused.2,

@@ -8,15 +8,15 @@ use Rattle.ioam_group_lines.specs.GroupsText.{collected_text}
 use Rattle.ioam_regroup.proofs.reporting.write_report.Goals as goal
 
 pub finish-requires : goal.finish-requires
-finish-requires g c = Adds-open (g.D.Desk.writing c.args.desk.now) c.args.outputs.now c.put_report.new.outputs (collected_text c.args.collector.now ∷ []) c.in-Ok.ensures c.requires.open
+finish-requires g c = Adds-open (g.D.Desk.writing c.args.desk.now) c.args.outputs.now c.put_report.new.outputs (collected_text c.args.collector.now ∷ []) c.in-Ok.ensures.adds c.requires.open
 
 pub returns-in-Ok-clause-texts : goal.returns-in-Ok-clause-texts
 returns-in-Ok-clause-texts g c = OnOk-map c.finish.result _ _ c.finish.ensures.texts
-    (λ holds told slot names texts is. holds told slot names _ (AreTold-adds _ _ slot names _ _ texts _ is c.in-Ok.ensures))
+    (λ holds told slot names texts is. holds told slot names _ (AreTold-adds _ _ slot names _ _ texts _ is c.in-Ok.ensures.adds))
 
 pub returns-in-Ok-clause-fronts : goal.returns-in-Ok-clause-fronts
 returns-in-Ok-clause-fronts g c = λ told slot names texts is.
-    c.finish.ensures.fronts told slot names _ (AreTold-adds _ _ slot names _ _ texts _ is c.in-Ok.ensures)
+    c.finish.ensures.fronts told slot names _ (AreTold-adds _ _ slot names _ _ texts _ is c.in-Ok.ensures.adds)
 
 pub returns-in-Err-clause-fronts : goal.returns-in-Err-clause-fronts
 returns-in-Err-clause-fronts g c = λ told slot names texts is.
@@ -31,7 +31,7 @@ returns-in-Err-clause-fronts g c = λ told slot names texts is.
 pub returns-in-Ok-clause-kept : goal.returns-in-Ok-clause-kept
 returns-in-Ok-clause-kept g c = λ slot names texts is.
     told_writes g.D.Desk.tells (g.D.Desk.writing c.args.desk.now) (g.D.Desk.writing c.finish.new.desk) slot names c.put_report.new.outputs _
-    (AreTold-adds _ _ slot names _ _ texts _ is c.in-Ok.ensures) c.finish.ensures.others
+    (AreTold-adds _ _ slot names _ _ texts _ is c.in-Ok.ensures.adds) c.finish.ensures.others
 
 pub returns-in-Err-clause-kept : goal.returns-in-Err-clause-kept
 returns-in-Err-clause-kept g c = λ slot names texts is. WritesFrom-same slot (g.D.Desk.writing c.args.desk.now) _ refl
