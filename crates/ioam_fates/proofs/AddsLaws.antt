@@ -149,7 +149,7 @@ port-adds (suc n) from zero (o ∷ outputs) d after f place rest behind is insid
       slot,
       adds ∙ ap (λ (k : ℕ). o.gathered.items ++ f k) here,
       silent-adds outputs (each_from n (suc from) f ++ rest) (silent-both (each_from n (suc from) f) rest each behind)
-      (omega (arith, long, length-append (each_from n (suc from) f) rest, length-each_from n (suc from) f)),
+          (omega (arith, long, length-append (each_from n (suc from) f) rest, length-each_from n (suc from) f)),
     )
 port-adds (suc n) from (suc at) (o ∷ outputs) d after f place rest behind is inside none long slot adds = (
   refl,
@@ -347,23 +347,23 @@ module _ (domain : Domain) (tap : ℕ → List ℕ) where
       let none : first_of at to_taps ≡ first_of 0 to_taps = ap (λ (n : ℕ). first_of n to_taps) many ∙ first-silent each rest silent-ports in
       subst (Adds outputs outputs) (sym none) (first-none outputs to_taps (long ∙ sym (length-of_outlets domain (λ k. []) tap [] [])))
 
-  pub taps-more : (k at next : ℕ) (ids : List LinkId) (a b : List Output) (d after : Output) (link e : LinkId) → ids ≡ tapped (links domain)
-      → k < length ids → link ≡ get_or ids k e → at ≡ length (ports domain) + k → next ≡ suc at → Adds a b (first_of at to_taps)
+  pub taps-more : (k at before next : ℕ) (ids : List LinkId) (a b : List Output) (d after : Output) (link e : LinkId) → ids ≡ tapped (links domain)
+      → k < length ids → link ≡ get_or ids k e → at ≡ length (ports domain) + k → before ≡ at → next ≡ suc at → Adds a b (first_of before to_taps)
       → after.slot ≡ (get_or b at d).slot → after.gathered.items ≡ (get_or b at d).gathered.items ++ tap link.0
       → Adds a (set b at after) (first_of next to_taps)
-  taps-more k at next ids a b d after link e are inside is place then first slot adds =
+  taps-more k at before next ids a b d after link e are inside is place same then first slot adds =
       let each = each_from (length (ports domain)) 0 (λ k. []) in
       let rest = by_link tap (tapped (links domain)) ++ [] ∷ [] ∷ [] in
       let long : length each ≡ length (ports domain) = length-each_from {A = List ℕ} (length (ports domain)) 0 (λ k. []) in
       let there : at ≡ length each + k = omega (arith, place, long) in
       let within : k < length (tapped (links domain)) = omega (arith, inside, ap length are) in
-      let same : link ≡ get_or (tapped (links domain)) k e = is ∙ ap (λ (xs : List LinkId). get_or xs k e) are in
+      let found : link ≡ get_or (tapped (links domain)) k e = is ∙ ap (λ (xs : List LinkId). get_or xs k e) are in
       let many : length to_taps ≡ outlet_count domain = length-of_outlets domain (λ k. []) tap [] [] in
       let here : get_or to_taps at [] ≡ tap link.0 =
       ap (λ (n : ℕ). get_or to_taps n []) there ∙ behind each rest k ∙ tap-here (tapped (links domain)) ([] ∷ [] ∷ []) k e within
-      ∙ ap (λ (l : LinkId). tap l.0) (sym same) in
+      ∙ ap (λ (l : LinkId). tap l.0) (sym found) in
       subst (λ (n : ℕ). Adds a (set b at after) (first_of n to_taps)) (sym then)
-      (first-more at a b d after to_taps (omega (arith, many, within, place)) first slot
+      (first-more at a b d after to_taps (omega (arith, many, within, place)) (subst (λ (n : ℕ). Adds a b (first_of n to_taps)) same first) slot
       (adds ∙ ap (λ (t : List ℕ). (get_or b at d).gathered.items ++ t) (sym here)))
 
   pub taps-end : (at : ℕ) (a b : List Output) → at ≡ length (ports domain) + length (tapped (links domain))

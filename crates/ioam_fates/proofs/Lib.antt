@@ -1,1 +1,6 @@
 pub mod AddsLaws
+mod AfterLaws
+mod CrossedLaws
+mod LeavingLaws
+mod PathsLaws
+mod TellingLaws

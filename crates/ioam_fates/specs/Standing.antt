@@ -1,5 +1,5 @@
 -- What a job tells the outputs of a run by its octets as they stand, whether its visits are done or not.
-use Rattle.std.specs.Prelude.{ℕ, zero, suc, Bool, true, false, if◌then◌else◌, List, [], ◌∷◌, ◌++◌, Option, Some, None, slice_get}
+use Rattle.std.specs.Prelude.{ℕ, suc, Bool, true, false, if◌then◌else◌, List, [], ◌∷◌, ◌++◌, Option, Some, None, slice_get}
 use Rattle.ioam_batch.specs.Crossings.{crossings, joined}
 use Rattle.ioam_batch.specs.declared.job.Job.{Job}
 use Rattle.ioam_ip.specs.Lowered.{lowered}

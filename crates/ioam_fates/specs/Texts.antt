@@ -1,6 +1,6 @@
 -- What the outputs of a run are told of the arrivals: a capture for each port, one for each link with a tap, the report
 -- and the export records.
-use Rattle.std.specs.Prelude.{ℕ, ◌+◌, Bool, true, false, nat_eq, if◌then◌else◌, List, [], ◌∷◌, ◌++◌, length, map, Option, Some, None, is_some}
+use Rattle.std.specs.Prelude.{ℕ, ◌+◌, Bool, true, false, nat_eq, if◌then◌else◌, List, [], ◌∷◌, ◌++◌, length, map, Option, Some, None}
 use Rattle.std.specs.List.{flat_map}
 use Rattle.ioam_batch.specs.Along.{along}
 use Rattle.ioam_batch.specs.Ran.{exported_at, passed}

@@ -2,6 +2,9 @@
 //! the ports and of the taps, the report, and the export records.
 #![tactic(auto)]
 
+mod crossing;
+mod leaving;
+mod reporting;
 mod telling;
 
 pub use telling::{put_heads, put_job};

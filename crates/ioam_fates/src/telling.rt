@@ -7,9 +7,14 @@ ghost use Rattle.ioam_topo.specs.Domain.{links};
 ghost use Rattle.ioam_fates.specs.Texts.{heads};
 ghost use Rattle.ioam_fates.specs.Told.{AreTextsOf};
 
+use crate::crossing::put_taps;
+use crate::leaving::put_left;
+use crate::reporting::{put_exports, put_report};
 use ioam_base::memory::NoMemory;
 use ioam_batch::Job;
+use ioam_outlets::outlet_count;
 use ioam_outputs::Output;
+use ioam_pcap::put_head;
 use ioam_topo::{Domain, LinkId};
 
 /// Appends the head of a capture to the output of each port and of each tap.
@@ -17,7 +22,10 @@ pub fn put_heads(domain: &Domain, outputs: &mut [Output]) -> Result<(), NoMemory
     requires { length outputs.old ≡ outlet_count domain.now }
     ensures { OnOk result (Adds outputs.old outputs.new (heads domain.now)) }
 {
-    Err(NoMemory)
+    'captures: for at in 0..outlet_count(domain) - 2 {
+        put_head(&mut outputs[at].gathered)?;
+    }
+    Ok(())
 }
 
 /// Appends what a job tells each output, as it stands: where its packet leaves by a port, the packet's
@@ -37,5 +45,10 @@ pub fn put_job(
     requires width { length outputs.old ≡ outlet_count domain.now }
     ensures { OnOk result ((added : List (List ℕ)) × Adds outputs.old outputs.new added × AreTextsOf domain.now number job.now added) }
 {
-    Err(NoMemory)
+    let report = domain.ports().len() + taps.len();
+    put_left(domain, job, outputs)?;
+    put_taps(domain, taps, job, outputs)?;
+    put_report(domain, report, number, job, outputs)?;
+    put_exports(domain, report + 1, job, outputs)?;
+    Ok(())
 }
