@@ -56,7 +56,7 @@ fn is_so(itinerary: &Itinerary, arrival: &Arrival) -> bool {
 }
 
 // Whether an arrival can be planned.
-fn may_arrive(domain: &Domain, counters: &Counters, arrival: &Arrival) -> bool
+pub(crate) fn may_arrive(domain: &Domain, counters: &Counters, arrival: &Arrival) -> bool
     ensures port { IsTrue result → arrival.now.port < length (ports domain.now) }
     ensures room { IsTrue result → All (λ number. number < 2 ^ 32) counters.now }
 {
@@ -87,7 +87,7 @@ fn is_planned_so(
 }
 
 // The packet of an arrival.
-fn packet(alloc: Global, arrival: &Arrival) -> Result<Vec<u8>, NoMemory> {
+pub(crate) fn packet(alloc: Global, arrival: &Arrival) -> Result<Vec<u8>, NoMemory> {
     let mut packet = octets(alloc, &packet_digits(arrival))?;
     for _ in 0..arrival.zeros {
         packet.push(0)?;

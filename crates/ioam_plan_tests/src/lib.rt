@@ -7,6 +7,8 @@ mod domains;
 #[cfg(test)]
 mod journeys;
 #[cfg(test)]
+mod reports;
+#[cfg(test)]
 mod rows;
 #[cfg(test)]
 mod stops;
