@@ -2,5 +2,6 @@ pub mod AddsLaws
 mod AfterLaws
 mod CrossedLaws
 mod LeavingLaws
+pub mod OutLaws
 mod PathsLaws
 mod TellingLaws

@@ -39,7 +39,7 @@ last_time (visit ∷ next ∷ visits) = last_time (next ∷ visits)
 
 -- a packet as it leaves, at the time of its last visit: its hop limit is less by one for each visit; that of one that was
 -- enclosed by two, one where it entered its tunnel and one where it left that (RFC 2473 section 3). One that didn't reach
--- its exit doesn't leave
+-- its exit doesn't leave, and its journey ends by no port (a law)
 abbrev pub leaves_by : List ℕ → List Visit → Bool → Option (FlowId × Numbers) → List Sent
 leaves_by packet visits exited None = record { time = last_time visits; octets = lowered (length visits) packet } ∷ []
 leaves_by packet visits true (Some carried) = record { time = last_time visits; octets = lowered 2 packet } ∷ []
