@@ -1,5 +1,5 @@
 -- What was told of arrivals, and what waits.
-use Rattle.std.proofs.Common.{◌≡◌, ℕ, ◌+◌, ◌<◌, Bool, IsTrue, List, [], ◌∷◌, ◌++◌, All, length, get_or, Option, Some, None, refl, sym, ◌∙◌, ap, append_assoc, append-nil, length-append, subst, arith}
+use Rattle.std.proofs.Common.{◌≡◌, ℕ, ◌+◌, ◌<◌, Bool, false, IsTrue, List, [], ◌∷◌, ◌++◌, All, length, get_or, Option, Some, None, refl, sym, ◌∙◌, ap, append_assoc, append-nil, length-append, subst, arith}
 use Rattle.std.specs.Prelude.{IfSome}
 use Rattle.std.specs.List.{AllZip}
 use Rattle.std.proofs.lemmas.List.{map-append}
@@ -184,21 +184,18 @@ module _ (domain : Domain) (old new : Forwarding) (ran : List Job) (many : lengt
     count = omega (arith, told, many, ap length none, of.count, ap (λ (s : Sums). s.packets) sums);
   }
 
-  pub Forwards-tell : (opens : Bool) (readings : List (List Sample)) (added : List (List ℕ))
-      → (IsTrue opens → AllZip (HasRun domain readings) old.batch ran) → AreOfJobs domain old.told ran added → IsOf domain new
-      → (frames : List Frame) (so_far : List (List ℕ)) → Forwards opens domain readings frames so_far old
-      → Forwards opens domain readings frames (said_more so_far added) new
-  Forwards-tell opens readings added runs are of frames so_far forwards =
+  -- with whatever texts, where they are those of all
+  pub Forwards-over : (opens : Bool) (readings : List (List Sample)) → IsOf domain new → (frames : List Frame) (so_far texts : List (List ℕ))
+      → (forwards : Forwards opens domain readings frames so_far old)
+      → (IsTrue opens → texts ≡ texts_so_far domain readings (forwards.told ++ forwards.waiting)) → Forwards opens domain readings frames texts new
+  Forwards-over opens readings of frames so_far texts forwards are =
       let all : List Fate = forwards.told ++ forwards.waiting in
       let whole : all ≡ all ++ [] = sym (append-nil all) in
       record {
         told = all;
         waiting = [];
         are = subst (AreFates domain readings frames) whole forwards.are;
-        texts_are = λ opened.
-            ap (λ (ts : List (List ℕ)). said_more ts added) (forwards.texts_are opened)
-            ∙ are readings forwards.told forwards.waiting (sym forwards.count)
-            (all-ran domain readings forwards.waiting old.batch ran forwards.jobs (runs opened));
+        texts_are = are;
         count = omega (
           arith,
           told,
@@ -214,6 +211,21 @@ module _ (domain : Domain) (old new : Forwarding) (ran : List Job) (many : lengt
         jobs = subst (λ (jobs : List Job). AllZip (IsWaiting domain) [] jobs) (sym none) tt;
         of = of;
       }
+
+  pub Forwards-tell : (opens : Bool) (readings : List (List Sample)) (added : List (List ℕ))
+      → (IsTrue opens → AllZip (HasRun domain readings) old.batch ran) → AreOfJobs domain old.told ran added → IsOf domain new
+      → (frames : List Frame) (so_far : List (List ℕ)) → Forwards opens domain readings frames so_far old
+      → Forwards opens domain readings frames (said_more so_far added) new
+  Forwards-tell opens readings added runs are of frames so_far forwards =
+      Forwards-over opens readings of frames so_far (said_more so_far added) forwards
+      (λ opened. ap (λ (ts : List (List ℕ)). said_more ts added) (forwards.texts_are opened)
+      ∙ are readings forwards.told forwards.waiting (sym forwards.count)
+      (all-ran domain readings forwards.waiting old.batch ran forwards.jobs (runs opened)))
+
+  -- with any, where the gate may stay shut
+  pub Forwards-skip : (readings : List (List Sample)) → IsOf domain new → (frames : List Frame) (texts : List (List ℕ))
+      → Forwards false domain readings frames texts old → Forwards false domain readings frames texts new
+  Forwards-skip readings of frames texts forwards = Forwards-over false readings of frames texts texts forwards (λ opened. absurd (cc opened))
 
 -- ---- the end
 

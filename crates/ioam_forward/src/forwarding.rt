@@ -16,7 +16,6 @@ use ioam_base::memory::NoMemory;
 use ioam_batch::{Batch, Gate, run_batch};
 use ioam_clock::Readings;
 use ioam_fates::put_heads;
-use ioam_outlets::tapped_links;
 use ioam_outputs::Output;
 use ioam_pcap::Packet;
 use ioam_plan::Counters;
@@ -58,17 +57,7 @@ impl Forwarding {
             → Forwards opens domain.now readings [] (texts_so_far domain.now readings []) gathered) }
     {
         put_heads(domain, outputs)?;
-        let sums = Sums::new(alloc, domain)?;
-        let counters = Counters::new(alloc, domain)?;
-        let taps = tapped_links(alloc, domain)?;
-        let batch = Batch::new(alloc)?;
-        Ok(Forwarding {
-            sums,
-            counters,
-            taps,
-            batch,
-            told: 0,
-        })
+        Forwarding::start(alloc, domain)
     }
 
     /// How many arrivals were taken.

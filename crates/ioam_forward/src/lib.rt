@@ -4,6 +4,7 @@
 
 mod arriving;
 mod forwarding;
+mod skipping;
 mod telling;
 
 pub use forwarding::Forwarding;

@@ -1,6 +1,6 @@
 use Rattle.std.proofs.Common.{refl}
 use Rattle.ioam_forward.proofs.ForwardsLaws.{Forwards-begin, IsOf-begin}
-use Rattle.ioam_forward.proofs.forwarding.Forwarding.begin.Goals as goal
+use Rattle.ioam_forward.proofs.forwarding.Forwarding.start.Goals as goal
 
 pub returns-clause-of : goal.returns-clause-of
 returns-clause-of c = IsOf-begin c.args.domain.now _ c.in_ok-sums.ensures c.in_ok-counters.ensures c.in_ok-taps.ensures.value c.in_ok-batch.ensures refl
