@@ -1,0 +1,5 @@
+mod RecordsLaws
+mod AskedLaws
+mod FinishesLaws
+mod KeptLaws
+mod WordsLaws
