@@ -1,5 +1,5 @@
 -- What the top call promises of each command, in the words of the command's own crate. `tells` says
--- that the desk tells what its files hold.
+-- that the desk tells what its files hold, and `opens` that the gate of the workers always opens.
 use Rattle.std.specs.Prelude.{◌≡◌, ℕ, ◌+◌, ◌<◌, ◌⊎◌, ⊤, Bool, IsTrue, IsSomeAnd, List, [], ◌∷◌, ◌++◌}
 use Rattle.ioam_desk.specs.Asked.{AsksFront}
 use Rattle.ioam_desk.specs.Desk.{Reading, Writing, holds}
@@ -27,16 +27,16 @@ Asked tells words desk Filter answer = capture.Asked tells desk (file_names word
 Asked tells words desk Paths answer = capture.Asked tells desk (file_names words) (input_name words) answer
 Asked tells words desk Show answer = capture.Asked tells desk (file_names words) (input_name words) answer
 Asked tells words desk Node answer = node.Asked words desk answer
-Asked tells words desk Run answer = domain.Asked desk words answer
+Asked tells words desk (Run workers) answer = domain.Asked desk words answer
 
-module _ (tells : Bool) (words : List (List ℕ)) (old_in new_in : Reading) (old new : Writing) where
+module _ (opens tells : Bool) (words : List (List ℕ)) (old_in new_in : Reading) (old new : Writing) where
   -- the cause of each answer
   abbrev pub HasCause : Command → Outcome → Type 0
   HasCause Filter answer = capture.HasCause tells (file_names words) (input_name words) old_in old new_in new answer
   HasCause Paths answer = capture.HasCause tells (file_names words) (input_name words) old_in old new_in new answer
   HasCause Show answer = capture.HasCause tells (file_names words) (input_name words) old_in old new_in new answer
   HasCause Node answer = node.HaveDiffered words answer × (IsTrue tells → node.HasCause words old_in new_in old new answer)
-  HasCause Run answer = domain.HaveDiffered words answer × (IsTrue tells → domain.HasCause words old_in new_in old new answer)
+  HasCause (Run workers) answer = domain.HaveDiffered words answer × (IsTrue tells → domain.HasCause words old_in new_in old new answer)
 
   -- what the files hold behind each answer
   abbrev pub Leaves : Command → Outcome → Type 0
@@ -44,7 +44,7 @@ module _ (tells : Bool) (words : List (List ℕ)) (old_in new_in : Reading) (old
   Leaves Paths answer = capture.Leaves capture.most_packets PathsTexts (output_names words) (input_name words) old_in new_in old new answer
   Leaves Show answer = capture.Leaves capture.most_packets ShowTexts (output_names words) (input_name words) old_in new_in old new answer
   Leaves Node answer = node.Leaves words old_in new_in old new answer
-  Leaves Run answer = domain.Leaves words old_in new_in old new answer
+  Leaves (Run workers) answer = domain.Leaves opens words old_in new_in old new answer
 
   -- the names that the words give to the opening calls: IN, unless two of them are equal, and a front
   -- of the outputs; IN and all of them where the answer comes once they were written
@@ -63,7 +63,7 @@ module _ (tells : Bool) (words : List (List ℕ)) (old_in new_in : Reading) (old
   Asks Paths answer = AsksNamed answer
   Asks Show answer = AsksNamed answer
   Asks Node answer = node.Asks words old_in new_in old new answer
-  Asks Run answer = domain.Asks tells words old_in new_in old new answer
+  Asks (Run workers) answer = domain.Asks tells words old_in new_in old new answer
 
   -- where the names are refused nothing was opened; `run` has read DOMAIN and READINGS before, and
   -- opens no capture and no output where one of these or the names are refused, nor an output before
@@ -73,7 +73,7 @@ module _ (tells : Bool) (words : List (List ℕ)) (old_in new_in : Reading) (old
   IsUntouched Paths answer = OpensNothing answer → (new_in ≡ old_in) × (new ≡ old)
   IsUntouched Show answer = OpensNothing answer → (new_in ≡ old_in) × (new ≡ old)
   IsUntouched Node answer = node.IsUntouched words old_in new_in old new answer × (new_in.side.slots < old_in.side.slots + 3 → new ≡ old)
-  IsUntouched Run answer = (domain.IsRefusal answer → domain.OpensNone words old_in new_in old new) × (new_in.side.slots < old_in.side.slots + 2 → new ≡ old)
+  IsUntouched (Run workers) answer = (domain.IsRefusal answer → domain.OpensNone words old_in new_in old new) × (new_in.side.slots < old_in.side.slots + 2 → new ≡ old)
       × ((fault : DomainFault) → answer ≡ outcome.Domain fault → AsksFront old_in.side.asked new_in.side.asked (domain_file words ∷ []))
 
   -- each input was read to its end
@@ -82,7 +82,7 @@ module _ (tells : Bool) (words : List (List ℕ)) (old_in new_in : Reading) (old
   AreDrained Paths = IsTrue (new_in.ended old_in.side.slots)
   AreDrained Show = IsTrue (new_in.ended old_in.side.slots)
   AreDrained Node = node.AreDrained words old_in new_in old new
-  AreDrained Run = domain.AreDrained words old_in new_in old new
+  AreDrained (Run workers) = domain.AreDrained opens words old_in new_in old new
 
   -- the answer comes once the outputs were written
   abbrev pub AreWritten : Command → Outcome → Type 0
@@ -90,7 +90,7 @@ module _ (tells : Bool) (words : List (List ℕ)) (old_in new_in : Reading) (old
   AreWritten Paths answer = IsBehindAll (old_in.side.slots < new_in.side.slots) answer
   AreWritten Show answer = IsBehindAll (old_in.side.slots < new_in.side.slots) answer
   AreWritten Node answer = IsBehindAll (old.side.slots < new.side.slots) answer
-  AreWritten Run answer = IsBehindAll (old.side.slots < new.side.slots) answer
+  AreWritten (Run workers) answer = IsBehindAll (old.side.slots < new.side.slots) answer
 
   -- what leaves a domain, in a capture, is one IPv6 packet a record, with a whole header chain without an IOAM option,
   -- of at most 262,144 octets; what `node` sends to a port is such a packet, but for its size
@@ -99,4 +99,4 @@ module _ (tells : Bool) (words : List (List ℕ)) (old_in new_in : Reading) (old
   IsBounded Paths = ⊤
   IsBounded Show = ⊤
   IsBounded Node = node.IsBounded words old_in new_in old new
-  IsBounded Run = domain.IsBounded words old_in new_in old new
+  IsBounded (Run workers) = domain.IsBounded opens words old_in new_in old new

@@ -6,6 +6,7 @@ mod program;
 
 use ioam_answer::{Outcome, line, status};
 use ioam_base::memory::NoMemory;
+use ioam_batch::OpenGate;
 use ioam_desk::{Fault, FileSystem, HostDesk, Name};
 use program::ioam;
 use std::alloc::Global;
@@ -19,7 +20,7 @@ use std::process::ExitCode;
 fn main(rt: HostRuntime) -> ExitCode {
     let mut desk = HostDesk::new(&rt, rt.alloc());
     let outcome = match words_of(&rt) {
-        Ok(words) => ioam(rt.alloc(), &words, &mut desk),
+        Ok(words) => ioam(&rt, rt.alloc(), &words, &mut desk, &OpenGate),
         Err(outcome) => outcome,
     };
     let fault = fault_line(rt.alloc(), &desk, &outcome);

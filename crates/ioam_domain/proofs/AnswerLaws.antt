@@ -11,7 +11,7 @@ use Rattle.ioam_outputs.specs.Names.{AreApart}
 use Rattle.ioam_answer.specs.Outcomes.{IsDone, IsBehindAll}
 use Rattle.ioam_answer.specs.declared.outcome.Outcome.{Outcome}
 use Rattle.ioam_answer.specs.declared.outcome.Outcome.TheVariants as outcome
-use Rattle.ioam_setting.specs.Setting.{IsSetting, Refuses}
+use Rattle.ioam_setting.specs.Setting.{Refuses}
 use Rattle.ioam_setting.specs.declared.setting.Refusal.{Refusal}
 use Rattle.ioam_setting.specs.declared.setting.Refusal.TheVariants as refusal
 use Rattle.ioam_topo.specs.Domain.{ports}
@@ -25,53 +25,53 @@ use Rattle.ioam_domain.proofs.BoundLaws.{Leaves-bounded}
 use Rattle.ioam_domain.proofs.EndsLaws.{same_faults, Ends-cause, Ends-differed, Ends-leaves, Ends-says, Ends-drained, refused_unset, refused_differed, refused_domain, asks_more, asks_both, asks_none, refused_cause, refused_leaves, refused_read, refused_other, refused_done}
 
 -- the domain or the readings are refused
-module _ (tells : Bool) (words : List (List ℕ)) (old_in new_in : Reading) (old new : Writing) (why : Refusal) (answer : Outcome)
+module _ (opens tells : Bool) (words : List (List ℕ)) (old_in new_in : Reading) (old new : Writing) (why : Refusal) (answer : Outcome)
     (refuses : Refuses old (domain_file words) (readings_file words) tells old_in new_in why)
     (asked : AsksFront old_in.side.asked new_in.side.asked (domain_file words ∷ readings_file words ∷ []))
     (first : (fault : DomainFault) → why ≡ refusal.Domain fault → AsksFront old_in.side.asked new_in.side.asked (domain_file words ∷ []))
     (same : new ≡ old) (is : answer ≡ refused_as why) (kept : KeepsInputs old_in new_in) where
   refused-read_fault : answer ≡ outcome.ReadFault → Rose old_in.side.faults new_in.side.faults
-  refused-read_fault read = refused_read tells words old_in new_in old why refuses (sym is ∙ read)
+  refused-read_fault read = refused_read opens tells words old_in new_in old why refuses (sym is ∙ read)
 
   refused-write_fault : answer ≡ outcome.WriteFault → Rose old.side.faults new.side.faults
-  refused-write_fault write = absurd ((refused_other tells words old_in new_in old why).0 (sym is ∙ write))
+  refused-write_fault write = absurd ((refused_other opens tells words old_in new_in old why).0 (sym is ∙ write))
 
   refused-usage : answer ≡ outcome.Usage → ⊥
-  refused-usage usage = (refused_other tells words old_in new_in old why).1 (sym is ∙ usage)
+  refused-usage usage = (refused_other opens tells words old_in new_in old why).1 (sym is ∙ usage)
 
   refused-cause : IsTrue tells → HasCause words old_in new_in old new answer
   refused-cause told =
       let P : Writing → Type 0 = λ w. HasCause words old_in new_in old w answer in
       let Q : Outcome → Type 0 = λ a. HasCause words old_in new_in old old a in
-      subst P (sym same) (subst Q (sym is) (refused_cause tells words old_in new_in old why refuses told))
+      subst P (sym same) (subst Q (sym is) (refused_cause opens tells words old_in new_in old why refuses told))
 
-  refused-leaves : Leaves words old_in new_in old new answer
+  refused-leaves : Leaves opens words old_in new_in old new answer
   refused-leaves =
-      let P : Writing → Type 0 = λ w. Leaves words old_in new_in old w answer in
-      let Q : Outcome → Type 0 = λ a. Leaves words old_in new_in old old a in
-      subst P (sym same) (subst Q (sym is) (refused_leaves tells words old_in new_in old why asked))
+      let P : Writing → Type 0 = λ w. Leaves opens words old_in new_in old w answer in
+      let Q : Outcome → Type 0 = λ a. Leaves opens words old_in new_in old old a in
+      subst P (sym same) (subst Q (sym is) (refused_leaves opens tells words old_in new_in old why asked))
 
   refused-exact : (ask : Outcome) → IsTrue tells → Asked old words ask → (Rose old_in.side.faults new_in.side.faults → ⊥)
       → (Rose old.side.faults new.side.faults → ⊥) → (answer ≡ ask) ⊎ (answer ≡ outcome.NoMemory)
   refused-exact ask told asks reads writes = HasCause-asked old words old_in new_in new answer ask (refused-cause told) asks reads writes
 
-  refused-bounded : IsBehindAll (old.side.slots < new.side.slots) answer → IsBounded words old_in new_in old new
-  refused-bounded behind = Leaves-bounded words old_in new_in old new answer behind refused-leaves
+  refused-bounded : IsBehindAll (old.side.slots < new.side.slots) answer → IsBounded opens words old_in new_in old new
+  refused-bounded behind = Leaves-bounded opens words old_in new_in old new answer behind refused-leaves
 
-  refused-drained : IsDone answer → AreDrained words old_in new_in old new
-  refused-drained done = absurd (refused_done tells words old_in new_in old why (subst IsDone is done))
+  refused-drained : IsDone answer → AreDrained opens words old_in new_in old new
+  refused-drained done = absurd (refused_done opens tells words old_in new_in old why (subst IsDone is done))
 
-  pub refused-owes : Owes tells words old_in new_in old new answer
+  pub refused-owes : Owes opens tells words old_in new_in old new answer
   refused-owes = record {
     read_fault = refused-read_fault;
     write_fault = refused-write_fault;
     usage = refused-usage;
-    differed = subst (HaveDiffered words) (sym is) (refused_differed tells words old_in new_in old why);
+    differed = subst (HaveDiffered words) (sym is) (refused_differed opens tells words old_in new_in old why);
     cause = refused-cause;
     leaves = λ told. refused-leaves;
     exact = refused-exact;
-    domain_first = λ fault so. first fault (refused_domain tells words old_in new_in old why fault (sym is ∙ so));
-    asks = inl ((asked, same), subst IsUnset (sym is) (refused_unset tells words old_in new_in old why));
+    domain_first = λ fault so. first fault (refused_domain opens tells words old_in new_in old why fault (sym is ∙ so));
+    asks = inl ((asked, same), subst IsUnset (sym is) (refused_unset opens tells words old_in new_in old why));
     no_output = λ early. same;
     untouched = λ refusal. (asked, same);
     drained = λ done told. refused-drained done;
@@ -80,26 +80,26 @@ module _ (tells : Bool) (words : List (List ℕ)) (old_in new_in : Reading) (old
     kept_out = λ told. KeepsOutputs-same old new same;
   }
 
-no_read_usage : (tells : Bool) (words : List (List ℕ)) (domain : Domain) (mid_in new_in : Reading) (old new : Writing) (answer : Outcome)
-    → Ends tells words domain mid_in new_in old new answer → answer ≡ outcome.Usage → ⊥
-no_read_usage tells words domain mid_in new_in old new answer ends is =
-    let P : Outcome → Type 0 = λ a. Ends tells words domain mid_in new_in old new a in
+no_read_usage : (opens tells : Bool) (words : List (List ℕ)) (domain : Domain) (readings : List (List Sample)) (mid_in new_in : Reading) (old new : Writing) (answer : Outcome)
+    → Ends opens tells words domain readings mid_in new_in old new answer → answer ≡ outcome.Usage → ⊥
+no_read_usage opens tells words domain readings mid_in new_in old new answer ends is =
+    let P : Outcome → Type 0 = λ a. Ends opens tells words domain readings mid_in new_in old new a in
     subst P is ends
 
-unwritten : (tells : Bool) (words : List (List ℕ)) (domain : Domain) (mid_in new_in : Reading) (old new : Writing) (answer : Outcome)
-    → Ends tells words domain mid_in new_in old new answer → IsRefusal answer → (new_in ≡ mid_in) × (new ≡ old)
-unwritten tells words domain mid_in new_in old new (outcome.Names name) ends refusal = (ends.1, ends.2)
-unwritten tells words domain mid_in new_in old new (outcome.Domain fault) ends refusal = absurd ends
-unwritten tells words domain mid_in new_in old new (outcome.Readings fault) ends refusal = absurd ends
-unwritten tells words domain mid_in new_in old new outcome.Done ends refusal = absurd refusal
-unwritten tells words domain mid_in new_in old new outcome.Usage ends refusal = absurd refusal
-unwritten tells words domain mid_in new_in old new (outcome.Capture name at fault) ends refusal = absurd refusal
-unwritten tells words domain mid_in new_in old new (outcome.Packets limit) ends refusal = absurd refusal
-unwritten tells words domain mid_in new_in old new (outcome.Exports place fault) ends refusal = absurd refusal
-unwritten tells words domain mid_in new_in old new (outcome.Records limit) ends refusal = absurd refusal
-unwritten tells words domain mid_in new_in old new outcome.ReadFault ends refusal = absurd refusal
-unwritten tells words domain mid_in new_in old new outcome.WriteFault ends refusal = absurd refusal
-unwritten tells words domain mid_in new_in old new outcome.NoMemory ends refusal = absurd refusal
+unwritten : (opens tells : Bool) (words : List (List ℕ)) (domain : Domain) (readings : List (List Sample)) (mid_in new_in : Reading) (old new : Writing) (answer : Outcome)
+    → Ends opens tells words domain readings mid_in new_in old new answer → IsRefusal answer → (new_in ≡ mid_in) × (new ≡ old)
+unwritten opens tells words domain readings mid_in new_in old new (outcome.Names name) ends refusal = (ends.1, ends.2)
+unwritten opens tells words domain readings mid_in new_in old new (outcome.Domain fault) ends refusal = absurd ends
+unwritten opens tells words domain readings mid_in new_in old new (outcome.Readings fault) ends refusal = absurd ends
+unwritten opens tells words domain readings mid_in new_in old new outcome.Done ends refusal = absurd refusal
+unwritten opens tells words domain readings mid_in new_in old new outcome.Usage ends refusal = absurd refusal
+unwritten opens tells words domain readings mid_in new_in old new (outcome.Capture name at fault) ends refusal = absurd refusal
+unwritten opens tells words domain readings mid_in new_in old new (outcome.Packets limit) ends refusal = absurd refusal
+unwritten opens tells words domain readings mid_in new_in old new (outcome.Exports place fault) ends refusal = absurd refusal
+unwritten opens tells words domain readings mid_in new_in old new (outcome.Records limit) ends refusal = absurd refusal
+unwritten opens tells words domain readings mid_in new_in old new outcome.ReadFault ends refusal = absurd refusal
+unwritten opens tells words domain readings mid_in new_in old new outcome.WriteFault ends refusal = absurd refusal
+unwritten opens tells words domain readings mid_in new_in old new outcome.NoMemory ends refusal = absurd refusal
 
 done_is : (answer : Outcome) → IsDone answer → answer ≡ outcome.Done
 done_is outcome.Done done = refl
@@ -116,44 +116,41 @@ done_is outcome.WriteFault done = absurd done
 done_is outcome.NoMemory done = absurd done
 
 -- the domain and the readings were read by two slots, and then its files were run
-module _ (tells : Bool) (words : List (List ℕ)) (old_in mid_in new_in : Reading) (old mid new : Writing) (domain : Domain) (answer : Outcome)
-    (opened : mid_in.side ≡ opened_each old_in.side (domain_file words ∷ readings_file words ∷ [])) (same : mid ≡ old)
-    (samples : List (List Sample)) (setting : IsTrue tells → IsSetting old (domain_file words) (readings_file words) domain samples) (ended : Ends tells words domain mid_in new_in mid new answer) where
-  set : IsTrue tells → IsSet old words domain
-  set told = record { samples = samples; setting = setting told }
-
-  ends : Ends tells words domain mid_in new_in old new answer
-  ends = let P : Writing → Type 0 = λ w. Ends tells words domain mid_in new_in w new answer in subst P same ended
+module _ (opens tells : Bool) (words : List (List ℕ)) (old_in mid_in new_in : Reading) (old mid new : Writing) (domain : Domain) (readings : List (List Sample))
+    (answer : Outcome) (opened : mid_in.side ≡ opened_each old_in.side (domain_file words ∷ readings_file words ∷ [])) (same : mid ≡ old)
+    (set : IsTrue tells → IsSet old words domain readings) (ended : Ends opens tells words domain readings mid_in new_in mid new answer) where
+  ends : Ends opens tells words domain readings mid_in new_in old new answer
+  ends = let P : Writing → Type 0 = λ w. Ends opens tells words domain readings mid_in new_in w new answer in subst P same ended
 
   ended-read_fault : answer ≡ outcome.ReadFault → Rose old_in.side.faults new_in.side.faults
   ended-read_fault is =
-      let P : Outcome → Type 0 = λ a. Ends tells words domain mid_in new_in old new a in
+      let P : Outcome → Type 0 = λ a. Ends opens tells words domain readings mid_in new_in old new a in
       omega (arith, (subst P is ends).1.0, same_faults words old_in mid_in opened)
 
   ended-write_fault : answer ≡ outcome.WriteFault → Rose old.side.faults new.side.faults
-  ended-write_fault is = let P : Outcome → Type 0 = λ a. Ends tells words domain mid_in new_in old new a in (subst P is ends).1.0
+  ended-write_fault is = let P : Outcome → Type 0 = λ a. Ends opens tells words domain readings mid_in new_in old new a in (subst P is ends).1.0
 
   ended-usage : answer ≡ outcome.Usage → ⊥
-  ended-usage is = no_read_usage tells words domain mid_in new_in old new answer ends is
+  ended-usage is = no_read_usage opens tells words domain readings mid_in new_in old new answer ends is
 
   ended-cause : IsTrue tells → HasCause words old_in new_in old new answer
-  ended-cause told = Ends-cause words old_in mid_in opened tells new_in old new domain told (set told) answer ends
+  ended-cause told = Ends-cause words old_in mid_in opened opens tells new_in old new domain readings told (set told) answer ends
 
-  ended-leaves : IsTrue tells → Leaves words old_in new_in old new answer
-  ended-leaves told = Ends-leaves words old_in mid_in opened tells new_in old new domain told (set told) answer ends
+  ended-leaves : IsTrue tells → Leaves opens words old_in new_in old new answer
+  ended-leaves told = Ends-leaves words old_in mid_in opened opens tells new_in old new domain readings told (set told) answer ends
 
   ended-exact : (ask : Outcome) → IsTrue tells → Asked old words ask → (Rose old_in.side.faults new_in.side.faults → ⊥)
       → (Rose old.side.faults new.side.faults → ⊥) → (answer ≡ ask) ⊎ (answer ≡ outcome.NoMemory)
   ended-exact ask told asks reads writes = HasCause-asked old words old_in new_in new answer ask (ended-cause told) asks reads writes
 
-  ended-bounded : IsBehindAll (old.side.slots < new.side.slots) answer → IsTrue tells → IsBounded words old_in new_in old new
-  ended-bounded behind told = Leaves-bounded words old_in new_in old new answer behind (ended-leaves told)
+  ended-bounded : IsBehindAll (old.side.slots < new.side.slots) answer → IsTrue tells → IsBounded opens words old_in new_in old new
+  ended-bounded behind told = Leaves-bounded opens words old_in new_in old new answer behind (ended-leaves told)
 
   ended-drained : (IsTrue tells → IsTrue (mid_in.ended old_in.side.slots) × IsTrue (mid_in.ended (old_in.side.slots + 1)))
-      → EndsKept mid_in.side.slots mid_in new_in → IsDone answer → IsTrue tells → AreDrained words old_in new_in old new
+      → EndsKept mid_in.side.slots mid_in new_in → IsDone answer → IsTrue tells → AreDrained opens words old_in new_in old new
   ended-drained both kept done told =
-      let P : Outcome → Type 0 = λ a. Ends tells words domain mid_in new_in old new a in
-      Ends-drained words old_in mid_in opened tells new_in old new domain told (set told) (both told).0 (both told).1 kept (subst P (done_is answer done) ends)
+      let P : Outcome → Type 0 = λ a. Ends opens tells words domain readings mid_in new_in old new a in
+      Ends-drained words old_in mid_in opened opens tells new_in old new domain readings told (set told) (both told).0 (both told).1 kept (subst P (done_is answer done) ends)
 
   both_asked : (names : List (List ℕ)) → AsksFront mid_in.side.asked new_in.side.asked names
       → AsksFront old_in.side.asked new_in.side.asked (domain_file words ∷ readings_file words ∷ names)
@@ -197,8 +194,8 @@ module _ (tells : Bool) (words : List (List ℕ)) (old_in mid_in new_in : Readin
       ended-asks = inr (
         domain,
         record {
-          set = set;
-          says = Ends-says tells words domain mid_in new_in old new answer ends;
+          set = λ told. (readings, set told);
+          says = Ends-says opens tells words domain readings mid_in new_in old new answer ends;
           apart = ended-apart;
           asked_in = front_in;
           asked_out = front_out;
@@ -222,7 +219,7 @@ module _ (tells : Bool) (words : List (List ℕ)) (old_in mid_in new_in : Readin
   ended-kept_out kept told = let P : Writing → Type 0 = λ w. KeepsOutputs w new in subst P same (kept told)
 
   ended-untouched : IsRefusal answer → OpensNone words old_in new_in old new
-  ended-untouched refusal = let none = unwritten tells words domain mid_in new_in old new answer ends refusal in (none_asked none.0, none.1)
+  ended-untouched refusal = let none = unwritten opens tells words domain readings mid_in new_in old new answer ends refusal in (none_asked none.0, none.1)
 
   module _ (both : IsTrue tells → IsTrue (mid_in.ended old_in.side.slots) × IsTrue (mid_in.ended (old_in.side.slots + 1)))
       (kept : EndsKept mid_in.side.slots mid_in new_in)
@@ -232,16 +229,16 @@ module _ (tells : Bool) (words : List (List ℕ)) (old_in mid_in new_in : Readin
       (all_out : IsBehindAll ⊥ answer → AreApart (run_files words domain) × (new.side.asked ≡ mid.side.asked ++ run_outputs words domain))
       (first : (new ≡ mid) ⊎ AllOpened mid_in.side new_in.side (run_inputs domain))
       (kept_in : KeepsInputs old_in mid_in) (kept_out : IsTrue tells → KeepsOutputs mid new) where
-    pub ended-owes : Owes tells words old_in new_in old new answer
+    pub ended-owes : Owes opens tells words old_in new_in old new answer
     ended-owes = record {
       read_fault = ended-read_fault;
       write_fault = ended-write_fault;
       usage = ended-usage;
-      differed = Ends-differed tells words domain mid_in new_in old new answer ends;
+      differed = Ends-differed opens tells words domain readings mid_in new_in old new answer ends;
       cause = ended-cause;
       leaves = ended-leaves;
       exact = ended-exact;
-      domain_first = λ fault so. absurd (subst (λ (a : Outcome). Ends tells words domain mid_in new_in old new a) so ends);
+      domain_first = λ fault so. absurd (subst (λ (a : Outcome). Ends opens tells words domain readings mid_in new_in old new a) so ends);
       asks = ended-asks asked_in asked_out all_in all_out first;
       no_output = ended-no_output first;
       untouched = ended-untouched;

@@ -2,6 +2,7 @@
 use Rattle.std.proofs.Common.{◌≡◌, ℕ, suc, ◌+◌, ◌-◌, ◌<◌, Bool, IsTrue, List, [], ◌∷◌, ◌++◌, length, refl, sym, ◌∙◌, ap, subst, inl, inr, take, append-nil, append_assoc, length-append, arith}
 use Rattle.std.proofs.lemmas.Bool.{cases_lt}
 use Rattle.std.proofs.lemmas.List.{length-map}
+use Rattle.ioam_clock.specs.declared.sample.Sample.{Sample}
 use Rattle.ioam_desk.specs.Asked.{AsksFront}
 use Rattle.ioam_desk.specs.Desk.{Side, Reading, Writing, Rose, holds, opened_each}
 use Rattle.ioam_desk.specs.Unread.{Unread}
@@ -33,33 +34,38 @@ module _ (words : List (List ℕ)) (old_in mid_in : Reading) (opened : mid_in.si
   two_slots : mid_in.side.slots ≡ old_in.side.slots + 2
   two_slots = ap (λ (s : Side). s.slots) opened
 
-  pub same_course : (old : Writing) (domain : Domain) → begins words domain mid_in old ≡ course_for words old_in old domain
-  same_course old domain = ap (λ (base : ℕ). record {
+  pub same_course : (opens : Bool) (old : Writing) (domain : Domain) (readings : List (List Sample))
+      → begins opens words domain readings mid_in old ≡ course_for opens words old_in old domain readings
+  same_course opens old domain readings = ap (λ (base : ℕ). record {
+    opens = opens;
     domain = domain;
+    readings = readings;
     ports = input_ports (ports domain);
     lanes = start_of base old (run_inputs domain);
     first = old.side.slots;
     names = run_outputs words domain;
   }) two_slots
 
-  module _ (tells : Bool) (new_in : Reading) (old new : Writing) (domain : Domain) (told : IsTrue tells) (set : IsSet old words domain) where
-    ready : AreApart (run_files words domain) → IsReady old words domain
+  module _ (opens tells : Bool) (new_in : Reading) (old new : Writing) (domain : Domain) (readings : List (List Sample)) (told : IsTrue tells)
+      (set : IsSet old words domain readings) where
+    ready : AreApart (run_files words domain) → IsReady old words domain readings
     ready apart = record { set = set; apart = apart }
 
-    of_traffic : (P : Course → Type 0) → AreApart (run_files words domain) → P (begins words domain mid_in old) → OfTraffic words old_in new_in old new P
-    of_traffic P apart holds = (domain, ready apart, subst P (same_course old domain) holds)
+    of_traffic : (P : Course → Type 0) → AreApart (run_files words domain) → P (begins opens words domain readings mid_in old) → OfTraffic opens words old_in new_in old new P
+    of_traffic P apart holds = (domain, readings, ready apart, subst P (same_course opens old domain readings) holds)
 
-    pub Ends-cause : (answer : Outcome) → Ends tells words domain mid_in new_in old new answer → HasCause words old_in new_in old new answer
+    pub Ends-cause : (answer : Outcome) → Ends opens tells words domain readings mid_in new_in old new answer → HasCause words old_in new_in old new answer
     Ends-cause outcome.Done ends =
         let holds = (ends.1 told).0 in
-        (domain, ready ends.0, record { taken = holds.taken; arrive = holds.are; few = holds.few })
+        (domain, readings, ready ends.0, record { taken = holds.taken; arrive = holds.are; few = holds.few })
     Ends-cause (outcome.Capture name at fault) ends =
         let holds = ends.1.2.1 told in
-        (domain, ready ends.0, (ends.1.0, ends.1.1, record { taken = holds.taken; arrive = holds.are; few = holds.few }))
+        (domain, readings, ready ends.0, (ends.1.0, ends.1.1, record { taken = holds.taken; arrive = holds.are; few = holds.few }))
     Ends-cause (outcome.Packets limit) ends =
         let passed = (ends.2 told).are in
         let more = (ends.2 told).taken in (
           domain,
+          readings,
           ready ends.0,
           ends.1,
           record { taken = more ++ passed.next ∷ []; begin = passed.begin; many = omega (arith, passed.all, length-append more (passed.next ∷ [])) },
@@ -70,29 +76,29 @@ module _ (words : List (List ℕ)) (old_in mid_in : Reading) (opened : mid_in.si
     Ends-cause outcome.WriteFault ends = ends.1.0
     Ends-cause outcome.NoMemory ends = tt
     Ends-cause outcome.Usage ends = absurd ends
-    Ends-cause (outcome.Names name) ends = (domain, set, ends.0)
+    Ends-cause (outcome.Names name) ends = (domain, readings, set, ends.0)
     Ends-cause (outcome.Domain fault) ends = absurd ends
     Ends-cause (outcome.Readings fault) ends = absurd ends
 
-    files : (Are : Course → List Arrival → Type 0) → HoldsAll (begins words domain mid_in old) (Are (begins words domain mid_in old)) new
-        → HoldsFiles words old_in new_in old new (begins words domain mid_in old) (Are (begins words domain mid_in old))
-    files Are all = files_held words old_in new_in old new (begins words domain mid_in old) (Are (begins words domain mid_in old)) refl all
+    files : (Are : Course → List Arrival → Type 0) → HoldsAll (begins opens words domain readings mid_in old) (Are (begins opens words domain readings mid_in old)) new
+        → HoldsFiles opens words old_in new_in old new (begins opens words domain readings mid_in old) (Are (begins opens words domain readings mid_in old))
+    files Are all = files_held opens words old_in new_in old new (begins opens words domain readings mid_in old) (Are (begins opens words domain readings mid_in old)) refl all
 
-    pub Ends-leaves : (answer : Outcome) → Ends tells words domain mid_in new_in old new answer → Leaves words old_in new_in old new answer
-    Ends-leaves outcome.Done ends = of_traffic (λ course. HoldsFiles words old_in new_in old new course (Arrive course turn.Over)) ends.0
+    pub Ends-leaves : (answer : Outcome) → Ends opens tells words domain readings mid_in new_in old new answer → Leaves opens words old_in new_in old new answer
+    Ends-leaves outcome.Done ends = of_traffic (λ course. HoldsFiles opens words old_in new_in old new course (Arrive course turn.Over)) ends.0
         (files (λ course. Arrive course turn.Over) (ends.1 told).0)
     Ends-leaves (outcome.Capture name at fault) ends =
         of_traffic (λ course. (place : ℕ) × (name ≡ name_at (run_inputs course.domain) place)
-        × HoldsFiles words old_in new_in old new course (Arrive course (turn.Broken place at fault))) ends.0
+        × HoldsFiles opens words old_in new_in old new course (Arrive course (turn.Broken place at fault))) ends.0
         (ends.1.0, ends.1.1, files (λ course. Arrive course (turn.Broken ends.1.0 at fault)) (ends.1.2.1 told))
-    Ends-leaves (outcome.Packets limit) ends = of_traffic (λ course. HoldsFiles words old_in new_in old new course (ArePassed course)) ends.0
+    Ends-leaves (outcome.Packets limit) ends = of_traffic (λ course. HoldsFiles opens words old_in new_in old new course (ArePassed course)) ends.0
         (files (λ course. ArePassed course) (ends.2 told))
     Ends-leaves (outcome.Exports place fault) ends = absurd ends
     Ends-leaves (outcome.Records limit) ends = absurd ends
     Ends-leaves outcome.ReadFault ends = elim ends.1.1 [
       | inl early ↦ inl (inr (of_traffic (λ course. new_in.side.slots < course.lanes.base + length course.lanes.contents) ends.0 early.0), early.1)
       | inr late ↦ inr (of_traffic (λ course. AreOpened course new_in
-          × HoldsFiles words old_in new_in old new course (PartsArrive course.lanes.contents new_in course.lanes.base)) ends.0
+          × HoldsFiles opens words old_in new_in old new course (PartsArrive course.lanes.contents new_in course.lanes.base)) ends.0
           (late.0, files (λ course. PartsArrive course.lanes.contents new_in course.lanes.base) (late.1 told)))
     ]
     Ends-leaves outcome.WriteFault ends = of_traffic (λ course. HoldsFronts course old new) ends.0 (ends.1.1 told)
@@ -105,8 +111,8 @@ module _ (words : List (List ℕ)) (old_in mid_in : Reading) (opened : mid_in.si
     Ends-leaves (outcome.Readings fault) ends = absurd ends
 
     pub Ends-drained : IsTrue (mid_in.ended old_in.side.slots) → IsTrue (mid_in.ended (old_in.side.slots + 1)) → EndsKept mid_in.side.slots mid_in new_in
-        → Ends tells words domain mid_in new_in old new outcome.Done → AreDrained words old_in new_in old new
-    Ends-drained first second kept ends = (domain, ready ends.0, λ k below. drained k below)
+        → Ends opens tells words domain readings mid_in new_in old new outcome.Done → AreDrained opens words old_in new_in old new
+    Ends-drained first second kept ends = (domain, readings, ready ends.0, λ k below. drained k below)
       where
         E : Reading → ℕ → Type 0
         E r n = IsTrue (r.ended n)
@@ -127,37 +133,37 @@ module _ (words : List (List ℕ)) (old_in mid_in : Reading) (opened : mid_in.si
         ]
 
 -- the names of the words differ where all files do
-pub Ends-differed : (tells : Bool) (words : List (List ℕ)) (domain : Domain) (mid_in new_in : Reading) (old new : Writing) (answer : Outcome)
-    → Ends tells words domain mid_in new_in old new answer → HaveDiffered words answer
-Ends-differed tells words domain mid_in new_in old new outcome.Done ends = apart-words (ports domain) (links domain) (word_files words) ends.0
-Ends-differed tells words domain mid_in new_in old new (outcome.Capture name at fault) ends = apart-words (ports domain) (links domain) (word_files words) ends.0
-Ends-differed tells words domain mid_in new_in old new (outcome.Packets limit) ends = apart-words (ports domain) (links domain) (word_files words) ends.0
-Ends-differed tells words domain mid_in new_in old new (outcome.Exports place fault) ends = absurd ends
-Ends-differed tells words domain mid_in new_in old new (outcome.Records limit) ends = absurd ends
-Ends-differed tells words domain mid_in new_in old new outcome.Usage ends = tt
-Ends-differed tells words domain mid_in new_in old new (outcome.Domain fault) ends = tt
-Ends-differed tells words domain mid_in new_in old new (outcome.Readings fault) ends = tt
-Ends-differed tells words domain mid_in new_in old new (outcome.Names name) ends = tt
-Ends-differed tells words domain mid_in new_in old new outcome.ReadFault ends = tt
-Ends-differed tells words domain mid_in new_in old new outcome.WriteFault ends = tt
-Ends-differed tells words domain mid_in new_in old new outcome.NoMemory ends = tt
+pub Ends-differed : (opens tells : Bool) (words : List (List ℕ)) (domain : Domain) (readings : List (List Sample)) (mid_in new_in : Reading) (old new : Writing) (answer : Outcome)
+    → Ends opens tells words domain readings mid_in new_in old new answer → HaveDiffered words answer
+Ends-differed opens tells words domain readings mid_in new_in old new outcome.Done ends = apart-words (ports domain) (links domain) (word_files words) ends.0
+Ends-differed opens tells words domain readings mid_in new_in old new (outcome.Capture name at fault) ends = apart-words (ports domain) (links domain) (word_files words) ends.0
+Ends-differed opens tells words domain readings mid_in new_in old new (outcome.Packets limit) ends = apart-words (ports domain) (links domain) (word_files words) ends.0
+Ends-differed opens tells words domain readings mid_in new_in old new outcome.Usage ends = tt
+Ends-differed opens tells words domain readings mid_in new_in old new (outcome.Domain fault) ends = tt
+Ends-differed opens tells words domain readings mid_in new_in old new (outcome.Readings fault) ends = tt
+Ends-differed opens tells words domain readings mid_in new_in old new (outcome.Names name) ends = tt
+Ends-differed opens tells words domain readings mid_in new_in old new (outcome.Exports place fault) ends = absurd ends
+Ends-differed opens tells words domain readings mid_in new_in old new (outcome.Records limit) ends = absurd ends
+Ends-differed opens tells words domain readings mid_in new_in old new outcome.ReadFault ends = tt
+Ends-differed opens tells words domain readings mid_in new_in old new outcome.WriteFault ends = tt
+Ends-differed opens tells words domain readings mid_in new_in old new outcome.NoMemory ends = tt
 
 -- what the answer says of the domain
-pub Ends-says : (tells : Bool) (words : List (List ℕ)) (domain : Domain) (mid_in new_in : Reading) (old new : Writing) (answer : Outcome)
-    → Ends tells words domain mid_in new_in old new answer → Says words domain answer
-Ends-says tells words domain mid_in new_in old new (outcome.Names name) ends = ends.0
-Ends-says tells words domain mid_in new_in old new (outcome.Capture name at fault) ends =
+pub Ends-says : (opens tells : Bool) (words : List (List ℕ)) (domain : Domain) (readings : List (List Sample)) (mid_in new_in : Reading) (old new : Writing) (answer : Outcome)
+    → Ends opens tells words domain readings mid_in new_in old new answer → Says words domain answer
+Ends-says opens tells words domain readings mid_in new_in old new (outcome.Names name) ends = ends.0
+Ends-says opens tells words domain readings mid_in new_in old new (outcome.Capture name at fault) ends =
     (ends.0, (ends.1.0, omega (arith, ends.1.2.0, length-map (run_inputs domain) (holds old)), ends.1.1))
-Ends-says tells words domain mid_in new_in old new (outcome.Packets limit) ends = (ends.0, ends.1, ends.3)
-Ends-says tells words domain mid_in new_in old new (outcome.Exports place fault) ends = absurd ends
-Ends-says tells words domain mid_in new_in old new (outcome.Records limit) ends = absurd ends
-Ends-says tells words domain mid_in new_in old new outcome.Done ends = ends.0
-Ends-says tells words domain mid_in new_in old new outcome.ReadFault ends = ends.0
-Ends-says tells words domain mid_in new_in old new outcome.WriteFault ends = ends.0
-Ends-says tells words domain mid_in new_in old new outcome.NoMemory ends = tt
-Ends-says tells words domain mid_in new_in old new outcome.Usage ends = absurd ends
-Ends-says tells words domain mid_in new_in old new (outcome.Domain fault) ends = absurd ends
-Ends-says tells words domain mid_in new_in old new (outcome.Readings fault) ends = absurd ends
+Ends-says opens tells words domain readings mid_in new_in old new (outcome.Packets limit) ends = (ends.0, ends.1, ends.3)
+Ends-says opens tells words domain readings mid_in new_in old new outcome.Done ends = ends.0
+Ends-says opens tells words domain readings mid_in new_in old new (outcome.Exports place fault) ends = absurd ends
+Ends-says opens tells words domain readings mid_in new_in old new (outcome.Records limit) ends = absurd ends
+Ends-says opens tells words domain readings mid_in new_in old new outcome.ReadFault ends = ends.0
+Ends-says opens tells words domain readings mid_in new_in old new outcome.WriteFault ends = ends.0
+Ends-says opens tells words domain readings mid_in new_in old new outcome.NoMemory ends = tt
+Ends-says opens tells words domain readings mid_in new_in old new outcome.Usage ends = absurd ends
+Ends-says opens tells words domain readings mid_in new_in old new (outcome.Domain fault) ends = absurd ends
+Ends-says opens tells words domain readings mid_in new_in old new (outcome.Readings fault) ends = absurd ends
 
 -- names that were asked for, and then others
 pub asks_more : (start mid new : List (List ℕ)) (first second : List ℕ) (names : List (List ℕ)) → mid ≡ start ++ first ∷ second ∷ []
@@ -174,7 +180,7 @@ pub asks_none : (start new names : List (List ℕ)) → new ≡ start → AsksFr
 asks_none start new names is = (0, is ∙ sym (append-nil start))
 
 -- a refusal of what a run is set by
-module _ (tells : Bool) (words : List (List ℕ)) (old_in new_in : Reading) (old : Writing) where
+module _ (opens tells : Bool) (words : List (List ℕ)) (old_in new_in : Reading) (old : Writing) where
   pub refused_cause : (why : Refusal) → Refuses old (domain_file words) (readings_file words) tells old_in new_in why → IsTrue tells
       → HasCause words old_in new_in old old (refused_as why)
   refused_cause (refusal.Domain fault) refuses told = refuses told
@@ -183,7 +189,7 @@ module _ (tells : Bool) (words : List (List ℕ)) (old_in new_in : Reading) (old
   refused_cause refusal.NoMemory refuses told = tt
 
   pub refused_leaves : (why : Refusal) → AsksFront old_in.side.asked new_in.side.asked (domain_file words ∷ readings_file words ∷ [])
-      → Leaves words old_in new_in old old (refused_as why)
+      → Leaves opens words old_in new_in old old (refused_as why)
   refused_leaves (refusal.Domain fault) asked = refl
   refused_leaves (refusal.Readings fault) asked = refl
   refused_leaves refusal.ReadFault asked = inl (inl asked, refl)
@@ -227,9 +233,9 @@ module _ (tells : Bool) (words : List (List ℕ)) (old_in new_in : Reading) (old
   refused_unset refusal.NoMemory = tt
 
 -- a read fault, and a write fault, of the whole run
-module _ (tells : Bool) (words : List (List ℕ)) (domain : Domain) (mid_in new_in : Reading) (old new : Writing) where
-  pub Ends-read : Ends tells words domain mid_in new_in old new outcome.ReadFault → Rose mid_in.side.faults new_in.side.faults
+module _ (opens tells : Bool) (words : List (List ℕ)) (domain : Domain) (readings : List (List Sample)) (mid_in new_in : Reading) (old new : Writing) where
+  pub Ends-read : Ends opens tells words domain readings mid_in new_in old new outcome.ReadFault → Rose mid_in.side.faults new_in.side.faults
   Ends-read ends = ends.1.0
 
-  pub Ends-write : Ends tells words domain mid_in new_in old new outcome.WriteFault → Rose old.side.faults new.side.faults
+  pub Ends-write : Ends opens tells words domain readings mid_in new_in old new outcome.WriteFault → Rose old.side.faults new.side.faults
   Ends-write ends = ends.1.0

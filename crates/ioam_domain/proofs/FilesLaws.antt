@@ -1,19 +1,24 @@
 -- What each file of a run holds, from what all of them hold in their order.
-use Rattle.std.proofs.Common.{◌≡◌, ℕ, zero, suc, ◌+◌, List, [], ◌∷◌, ◌++◌, length, Some, sym, ◌∙◌, ap, subst, arith}
+use Rattle.std.proofs.Common.{◌≡◌, ℕ, zero, suc, ◌+◌, Bool, IsTrue, List, [], ◌∷◌, ◌++◌, length, Option, Some, None, sym, ◌∙◌, ap, subst, arith}
 use Rattle.std.specs.Prelude.{map, slice_get}
+use Rattle.std.specs.List.{flat_map}
 use Rattle.std.proofs.lemmas.Option.{none-some, same_Some}
 use Rattle.ioam_desk.specs.Desk.{Reading, Writing, holds}
-use Rattle.ioam_forward.specs.Texts.{each_text, out_text, report_text, texts_of}
+use Rattle.ioam_fates.specs.Texts.{out_text, tap_text, report_text, exports_text, texts_of}
+use Rattle.ioam_outlets.specs.Outlets.{each_from, tap_at, tapped_from, tapped}
 use Rattle.ioam_outputs.specs.Held.{HoldTexts}
 use Rattle.ioam_pcap.specs.Merge.{Arrival}
-use Rattle.ioam_topo.specs.Domain.{ports}
+use Rattle.ioam_setting.specs.Names.{tap_name}
+use Rattle.ioam_topo.specs.Domain.{links, ports}
+use Rattle.ioam_topo.specs.declared.ids.LinkId.{LinkId}
+use Rattle.ioam_topo.specs.declared.parts.Link.{Link}
 use Rattle.ioam_topo.specs.declared.parts.Port.{Port}
 use Rattle.ioam_traffic.specs.Traffic.{Course, HoldsAll}
 use Rattle.ioam_domain.specs.Run.{HoldsFiles, report_file, exports_file, run_outputs}
 
 -- the capture of the port at a place holds the text of that place
 held_at : (new : Writing) (all : List Port) (from : ℕ) (f : ℕ → List ℕ) (names texts : List (List ℕ))
-    → HoldTexts new (map (λ (port : Port). port.output) all ++ names) (each_text (length all) from f ++ texts)
+    → HoldTexts new (map (λ (port : Port). port.output) all ++ names) (each_from (length all) from f ++ texts)
     → (place : ℕ) (port : Port) → slice_get all place ≡ Some port → holds new port.output ≡ Some (f (from + place))
 held_at new [] from f names texts held place port is = absurd (none-some port is)
 held_at new (p ∷ all) from f names texts held zero port is =
@@ -23,20 +28,75 @@ held_at new (p ∷ all) from f names texts held (suc place) port is =
 
 -- and the files behind those of the ports their texts
 held_behind : (new : Writing) (all : List Port) (from : ℕ) (f : ℕ → List ℕ) (names texts : List (List ℕ))
-    → HoldTexts new (map (λ (port : Port). port.output) all ++ names) (each_text (length all) from f ++ texts) → HoldTexts new names texts
+    → HoldTexts new (map (λ (port : Port). port.output) all ++ names) (each_from (length all) from f ++ texts) → HoldTexts new names texts
 held_behind new [] from f names texts held = held
 held_behind new (p ∷ all) from f names texts held = held_behind new all (suc from) f names texts held.1
 
-module _ (words : List (List ℕ)) (old_in new_in : Reading) (old new : Writing) (course : Course) (Are : List Arrival → Type 0)
+module _ (new : Writing) (g : ℕ → List ℕ) where
+  -- the text of a tap
+  abbrev tap : LinkId → List ℕ
+  tap link = g link.0
+
+  -- the capture of the tap of a link, if it has one, holds the text of the link's place
+  one_tap : (from : ℕ) (has : Option (List ℕ)) (ids : List LinkId) (others names texts : List (List ℕ))
+      → HoldTexts new ((tap_name has ++ others) ++ names) (map tap (tap_at from has ++ ids) ++ texts)
+      → (name : List ℕ) → has ≡ Some name → holds new name ≡ Some (g from)
+  one_tap from None ids others names texts held name is = absurd (none-some name is)
+  one_tap from (Some own) ids others names texts held name is = ap (holds new) (sym (same_Some own name is)) ∙ held.0
+
+  -- and the files behind it their texts
+  one_behind : (from : ℕ) (has : Option (List ℕ)) (ids : List LinkId) (others names texts : List (List ℕ))
+      → HoldTexts new ((tap_name has ++ others) ++ names) (map tap (tap_at from has ++ ids) ++ texts)
+      → HoldTexts new (others ++ names) (map tap ids ++ texts)
+  one_behind from None ids others names texts held = held
+  one_behind from (Some own) ids others names texts held = held.1
+
+  -- the capture of the tap of the link at a place holds the text of that place
+  tap_held : (all : List Link) (from : ℕ) (names texts : List (List ℕ))
+      → HoldTexts new (flat_map (λ (link : Link). tap_name link.tap) all ++ names) (map tap (tapped_from from all) ++ texts)
+      → (place : ℕ) (link : Link) (name : List ℕ) → slice_get all place ≡ Some link → link.tap ≡ Some name → holds new name ≡ Some (g (from + place))
+  tap_held [] from names texts held place link name is has = absurd (none-some link is)
+  tap_held (l ∷ all) from names texts held zero link name is has =
+      one_tap from l.tap (tapped_from (suc from) all) (flat_map (λ (link : Link). tap_name link.tap) all) names texts held name
+      (ap (λ (m : Link). m.tap) (same_Some l link is) ∙ has) ∙ ap (λ (k : ℕ). Some (g k)) (omega arith)
+  tap_held (l ∷ all) from names texts held (suc place) link name is has =
+      tap_held all (suc from) names texts
+      (one_behind from l.tap (tapped_from (suc from) all) (flat_map (λ (link : Link). tap_name link.tap) all) names texts held) place link name is has
+      ∙ ap (λ (k : ℕ). Some (g k)) (omega arith)
+
+  -- and the files behind those of the taps their texts
+  taps_behind : (all : List Link) (from : ℕ) (names texts : List (List ℕ))
+      → HoldTexts new (flat_map (λ (link : Link). tap_name link.tap) all ++ names) (map tap (tapped_from from all) ++ texts) → HoldTexts new names texts
+  taps_behind [] from names texts held = held
+  taps_behind (l ∷ all) from names texts held = taps_behind all (suc from) names texts
+      (one_behind from l.tap (tapped_from (suc from) all) (flat_map (λ (link : Link). tap_name link.tap) all) names texts held)
+
+module _ (opens : Bool) (words : List (List ℕ)) (old_in new_in : Reading) (old new : Writing) (course : Course) (Are : List Arrival → Type 0)
     (names : course.names ≡ run_outputs words course.domain) (all : HoldsAll course Are new) where
-  in_order : HoldTexts new (run_outputs words course.domain) (texts_of course.domain all.fates)
-  in_order = subst (λ (ns : List (List ℕ)). HoldTexts new ns (texts_of course.domain all.fates)) names all.held
+  -- those of the words
+  abbrev last_names : List (List ℕ)
+  last_names = report_file words ∷ exports_file words ∷ []
 
-  behind : HoldTexts new (report_file words ∷ exports_file words ∷ []) (report_text course.domain all.fates ∷ [] ∷ [])
-  behind = held_behind new (ports course.domain) 0 (λ k. out_text k all.fates) (report_file words ∷ exports_file words ∷ [])
-      (report_text course.domain all.fates ∷ [] ∷ []) in_order
+  abbrev last_texts : List (List ℕ)
+  last_texts = report_text course.domain course.readings all.fates ∷ exports_text course.domain course.readings all.fates ∷ []
 
-  pub files_held : HoldsFiles words old_in new_in old new course Are
+  -- those of the taps, and these behind them
+  abbrev tap_names : List (List ℕ)
+  tap_names = flat_map (λ (link : Link). tap_name link.tap) (links course.domain) ++ last_names
+
+  abbrev tap_texts : List (List ℕ)
+  tap_texts = map (λ (link : LinkId). tap_text course.domain course.readings link.0 all.fates) (tapped (links course.domain)) ++ last_texts
+
+  in_order : IsTrue course.opens → HoldTexts new (run_outputs words course.domain) (texts_of course.domain course.readings all.fates)
+  in_order open = subst (λ (ns : List (List ℕ)). HoldTexts new ns (texts_of course.domain course.readings all.fates)) names (all.held open)
+
+  behind_ports : IsTrue course.opens → HoldTexts new tap_names tap_texts
+  behind_ports open = held_behind new (ports course.domain) 0 (λ k. out_text k all.fates) tap_names tap_texts (in_order open)
+
+  behind : IsTrue course.opens → HoldTexts new last_names last_texts
+  behind open = taps_behind new (λ k. tap_text course.domain course.readings k all.fates) (links course.domain) 0 last_names last_texts (behind_ports open)
+
+  pub files_held : HoldsFiles opens words old_in new_in old new course Are
   files_held = record {
     taken = all.taken;
     fates = all.fates;
@@ -44,9 +104,11 @@ module _ (words : List (List ℕ)) (old_in new_in : Reading) (old new : Writing)
     few = all.few;
     become = all.become;
     only = all.only;
-    outs = λ place port is. held_at new (ports course.domain) 0 (λ k. out_text k all.fates) (report_file words ∷ exports_file words ∷ [])
-        (report_text course.domain all.fates ∷ [] ∷ []) in_order place port is
+    outs = λ open place port is. held_at new (ports course.domain) 0 (λ k. out_text k all.fates) tap_names tap_texts (in_order open) place port is
         ∙ ap (λ (k : ℕ). Some (out_text k all.fates)) (omega arith);
-    report = behind.0;
-    exports = behind.1.0;
+    taps = λ open place link name is has. tap_held new (λ k. tap_text course.domain course.readings k all.fates) (links course.domain) 0 last_names last_texts
+        (behind_ports open) place link name is has
+        ∙ ap (λ (k : ℕ). Some (tap_text course.domain course.readings k all.fates)) (omega arith);
+    report = λ open. (behind open).0;
+    exports = λ open. (behind open).1.0;
   }

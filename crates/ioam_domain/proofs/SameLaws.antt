@@ -3,6 +3,7 @@ use Rattle.std.proofs.Common.{◌≡◌, ℕ, ◌≤◌, Bool, List, [], ◌∷�
 use Rattle.std.specs.List.{AllZip}
 use Rattle.std.proofs.lemmas.Option.{same_Some}
 use Rattle.ioam_clock.specs.declared.fault.ReadingsFault.{ReadingsFault}
+use Rattle.ioam_clock.specs.declared.sample.Sample.{Sample}
 use Rattle.ioam_desk.specs.Desk.{Writing}
 use Rattle.ioam_merge.specs.Merging.{Begins, IsFile, FilesArrive, FilesBegin}
 use Rattle.ioam_pcap.specs.Arrives.{Handed, Arrives}
@@ -14,8 +15,10 @@ use Rattle.ioam_setting.specs.Names.{input_names, file_names}
 use Rattle.ioam_setting.specs.Setting.{HasDomainFault, HasReadingsFault}
 use Rattle.ioam_setting.proofs.OnlyLaws as only
 use Rattle.ioam_domain_file.specs.File.{Agree}
+use Rattle.ioam_topo.specs.Domain.{links, ports}
 use Rattle.ioam_topo.specs.declared.domain.Domain.{Domain}
 use Rattle.ioam_entries.specs.declared.fault.DomainFault.{DomainFault}
+use Rattle.ioam_topo.specs.declared.parts.Link.{Link}
 use Rattle.ioam_topo.specs.declared.parts.Port.{Port}
 use Rattle.ioam_domain.specs.Run.{IsSet, domain_file, readings_file, word_files, run_files, run_inputs}
 
@@ -68,8 +71,8 @@ FilesBegin-few contents xs ys last x y =
 
 module _ (desk : Writing) (words : List (List ℕ)) where
   -- one domain
-  pub one_set : (a b : Domain) → IsSet desk words a → IsSet desk words b → Agree a b
-  one_set a b x y = only.domains_agree desk (domain_file words) (readings_file words) a b x.setting.has_domain y.setting.has_domain
+  pub one_set : (a b : Domain) (r s : List (List Sample)) → IsSet desk words a r → IsSet desk words b s → Agree a b
+  one_set a b r s x y = only.domains_agree desk (domain_file words) (readings_file words) a b x.has_domain y.has_domain
 
   -- one fault of the domain's file
   pub one_domain_fault : (f g : DomainFault) → HasDomainFault desk (domain_file words) (readings_file words) f
@@ -77,8 +80,9 @@ module _ (desk : Writing) (words : List (List ℕ)) where
   one_domain_fault f g x y = only.one_domain_fault desk (domain_file words) (readings_file words) f g x y
 
   -- a fault of it, or a domain
-  pub fault_or_set : (domain : Domain) (f : DomainFault) → HasDomainFault desk (domain_file words) (readings_file words) f → IsSet desk words domain → ⊥
-  fault_or_set domain f x y = only.fault_or_domain desk (domain_file words) (readings_file words) domain f x y.setting.has_domain
+  pub fault_or_set : (domain : Domain) (r : List (List Sample)) (f : DomainFault) → HasDomainFault desk (domain_file words) (readings_file words) f
+      → IsSet desk words domain r → ⊥
+  fault_or_set domain r f x y = only.fault_or_domain desk (domain_file words) (readings_file words) domain f x y.has_domain
 
   pub fault_or_readings : (f : DomainFault) (g : ReadingsFault) → HasDomainFault desk (domain_file words) (readings_file words) f
       → HasReadingsFault desk (domain_file words) (readings_file words) g → ⊥
@@ -90,12 +94,14 @@ module _ (desk : Writing) (words : List (List ℕ)) where
   one_readings_fault f g x y = only.one_readings_fault desk (domain_file words) (readings_file words) f g x y
 
   -- a fault of them, or readings
-  pub readings_or_set : (domain : Domain) (f : ReadingsFault) → HasReadingsFault desk (domain_file words) (readings_file words) f → IsSet desk words domain → ⊥
-  readings_or_set domain f x y = only.fault_or_setting desk (domain_file words) (readings_file words) domain y.samples f x y.setting
+  pub readings_or_set : (domain : Domain) (r : List (List Sample)) (f : ReadingsFault) → HasReadingsFault desk (domain_file words) (readings_file words) f
+      → IsSet desk words domain r → ⊥
+  readings_or_set domain r f x y = only.fault_or_setting desk (domain_file words) (readings_file words) domain r f x y
 
 -- domains that agree have the same files
 pub same_files : (words : List (List ℕ)) (a b : Domain) → Agree a b → run_files words a ≡ run_files words b
-same_files words a b agree = ap (λ (ps : List Port). file_names ps (word_files words)) agree.same_ports
+same_files words a b agree = ap (λ (ps : List Port). file_names ps (links a) (word_files words)) agree.same_ports
+    ∙ ap (λ (ls : List Link). file_names (ports b) ls (word_files words)) agree.same_links
 
 pub same_inputs : (a b : Domain) → Agree a b → run_inputs a ≡ run_inputs b
 same_inputs a b agree = ap input_names agree.same_ports

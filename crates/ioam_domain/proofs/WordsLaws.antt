@@ -1,5 +1,6 @@
 -- From what a run found among its names to the names of the words and of the domain.
 use Rattle.std.proofs.Common.{◌≡◌, ℕ, ◌<◌, Bool, List, length, get_or, subst}
+use Rattle.ioam_clock.specs.declared.sample.Sample.{Sample}
 use Rattle.ioam_desk.specs.Desk.{Reading, Writing}
 use Rattle.ioam_outputs.proofs.NamesLaws.{found_name}
 use Rattle.ioam_outputs.specs.Names.{name_at}
@@ -9,14 +10,14 @@ use Rattle.ioam_traffic.specs.Traffic.{begun, Finishes}
 use Rattle.ioam_traffic.specs.declared.halt.Halt.{Halt}
 
 -- the traffic ended so, whatever equal lists it was begun with
-pub finishes_alike : (tells : Bool) (domain : Domain) (ports other_ports : List PortId) (inputs other_inputs names other_names : List (List ℕ))
+pub finishes_alike : (opens tells : Bool) (domain : Domain) (readings : List (List Sample)) (ports other_ports : List PortId) (inputs other_inputs names other_names : List (List ℕ))
     (old_in new_in : Reading) (old new : Writing) (halt : Halt) → ports ≡ other_ports → inputs ≡ other_inputs → names ≡ other_names
-    → Finishes (begun domain ports inputs names old_in old) tells old_in new_in old new halt
-    → Finishes (begun domain other_ports other_inputs other_names old_in old) tells old_in new_in old new halt
-finishes_alike tells domain ports other_ports inputs other_inputs names other_names old_in new_in old new halt same_ports same_inputs same_names ends =
-    let P : List PortId → Type 0 = λ ps. Finishes (begun domain ps inputs names old_in old) tells old_in new_in old new halt in
-    let Q : List (List ℕ) → Type 0 = λ is. Finishes (begun domain other_ports is names old_in old) tells old_in new_in old new halt in
-    let R : List (List ℕ) → Type 0 = λ ns. Finishes (begun domain other_ports other_inputs ns old_in old) tells old_in new_in old new halt in
+    → Finishes (begun opens domain readings ports inputs names old_in old) tells old_in new_in old new halt
+    → Finishes (begun opens domain readings other_ports other_inputs other_names old_in old) tells old_in new_in old new halt
+finishes_alike opens tells domain readings ports other_ports inputs other_inputs names other_names old_in new_in old new halt same_ports same_inputs same_names ends =
+    let P : List PortId → Type 0 = λ ps. Finishes (begun opens domain readings ps inputs names old_in old) tells old_in new_in old new halt in
+    let Q : List (List ℕ) → Type 0 = λ is. Finishes (begun opens domain readings other_ports is names old_in old) tells old_in new_in old new halt in
+    let R : List (List ℕ) → Type 0 = λ ns. Finishes (begun opens domain readings other_ports other_inputs ns old_in old) tells old_in new_in old new halt in
     subst R same_names (subst Q same_inputs (subst P same_ports ends))
 
 -- what was taken out of a list that has these names

@@ -1,13 +1,13 @@
 -- What `run DOMAIN READINGS WORKERS REPORT EXPORTS` answers and leaves: the captures of the ports of
--- the domain that DOMAIN describes are merged by time, and each port's capture of what leaves, the
--- report and the exports are written.
+-- the domain that DOMAIN describes are merged by time, and each port's capture of what leaves, each
+-- tap's of what crosses its link, the report and the export records are written.
 use Rattle.std.specs.Prelude.{◌≡◌, ◌≢◌, ℕ, ◌+◌, ◌<◌, ◌≤◌, ◌⊎◌, ⊤, Bool, IsTrue, IsSomeAnd, List, [], ◌∷◌, ◌++◌, length, map, slice_get, Option, Some}
 use Rattle.ioam_clock.specs.declared.sample.Sample.{Sample}
 use Rattle.ioam_desk.specs.Asked.{AsksFront}
 use Rattle.ioam_desk.specs.Desk.{Reading, Writing, Rose, holds}
 use Rattle.ioam_desk.specs.Kept.{KeepsInputs, KeepsOutputs}
-use Rattle.ioam_forward.specs.Fate.{Fate, AreFates}
-use Rattle.ioam_forward.specs.Texts.{out_text, report_text}
+use Rattle.ioam_fates.specs.Fate.{Fate, AreFates}
+use Rattle.ioam_fates.specs.Texts.{out_text, tap_text, report_text, exports_text}
 use Rattle.ioam_ip.specs.Clean.{MayLeave}
 use Rattle.ioam_merge.specs.Merging.{FilesArrive, FilesBegin, PartsArrive, start_of}
 use Rattle.ioam_outputs.specs.Names.{name_at, AreApart, IsFirstRepeat}
@@ -23,6 +23,7 @@ use Rattle.ioam_setting.specs.Setting.{HasDomainFault, HasReadingsFault, IsSetti
 use Rattle.ioam_topo.specs.Domain.{links, ports}
 use Rattle.ioam_topo.specs.declared.domain.Domain.{Domain}
 use Rattle.ioam_entries.specs.declared.fault.DomainFault.{DomainFault}
+use Rattle.ioam_topo.specs.declared.parts.Link.{Link}
 use Rattle.ioam_topo.specs.declared.parts.Port.{Port}
 use Rattle.ioam_traffic.specs.Traffic.{AllOpened, Course, HoldsFronts, ArePassed, AreOpened, Arrive, frames_of}
 
@@ -55,14 +56,13 @@ abbrev pub run_inputs : Domain → List (List ℕ)
 run_inputs domain = input_names (ports domain)
 
 module _ (desk : Writing) (words : List (List ℕ)) where
-  -- DOMAIN holds this domain, and READINGS the readings of its nodes
-  pub record IsSet (domain : Domain) : Type 0 where
-    pub samples : List (List Sample)
-    pub setting : IsSetting desk (domain_file words) (readings_file words) domain samples
+  -- DOMAIN holds this domain, and READINGS these readings of its nodes
+  abbrev pub IsSet : Domain → List (List Sample) → Type 0
+  IsSet domain readings = IsSetting desk (domain_file words) (readings_file words) domain readings
 
   -- and no two files of the run have one name
-  pub record IsReady (domain : Domain) : Type 0 where
-    pub set : IsSet domain
+  pub record IsReady (domain : Domain) (readings : List (List Sample)) : Type 0 where
+    pub set : IsSet domain readings
     pub apart : AreApart (run_files words domain)
 
   -- what the captures of a domain's ports hold
@@ -86,15 +86,16 @@ module _ (desk : Writing) (words : List (List ℕ)) where
   abbrev pub Asked : Outcome → Type 0
   Asked (outcome.Domain fault) = HasDomainFault desk (domain_file words) (readings_file words) fault
   Asked (outcome.Readings fault) = HasReadingsFault desk (domain_file words) (readings_file words) fault
-  Asked (outcome.Names name) = (domain : Domain) × IsSet domain
+  Asked (outcome.Names name) = (domain : Domain) × (readings : List (List Sample)) × IsSet domain readings
       × ((at : ℕ) × IsFirstRepeat (run_files words domain) at × (name ≡ name_at (run_files words domain) at))
-  Asked (outcome.Packets limit) = (domain : Domain) × IsReady domain × (limit ≡ domain.packets) × Exceeds domain
+  Asked (outcome.Packets limit) = (domain : Domain) × (readings : List (List Sample)) × IsReady domain readings
+      × (limit ≡ domain.packets) × Exceeds domain
+  Asked (outcome.Capture name at fault) = (domain : Domain) × (readings : List (List Sample)) × IsReady domain readings
+      × ((place : ℕ) × (name ≡ name_at (run_inputs domain) place) × Arrives domain (turn.Broken place at fault))
+  Asked outcome.Done = (domain : Domain) × (readings : List (List Sample)) × IsReady domain readings × Arrives domain turn.Over
+  Asked outcome.Usage = ⊥
   Asked (outcome.Exports place fault) = ⊥
   Asked (outcome.Records limit) = ⊥
-  Asked (outcome.Capture name at fault) = (domain : Domain) × IsReady domain
-      × ((place : ℕ) × (name ≡ name_at (run_inputs domain) place) × Arrives domain (turn.Broken place at fault))
-  Asked outcome.Done = (domain : Domain) × IsReady domain × Arrives domain turn.Over
-  Asked outcome.Usage = ⊥
   Asked outcome.ReadFault = ⊥
   Asked outcome.WriteFault = ⊥
   Asked outcome.NoMemory = ⊥
@@ -105,12 +106,12 @@ abbrev pub HaveDiffered : List (List ℕ) → Outcome → Type 0
 HaveDiffered words outcome.Done = AreApart (word_files words)
 HaveDiffered words (outcome.Capture name at fault) = AreApart (word_files words)
 HaveDiffered words (outcome.Packets limit) = AreApart (word_files words)
-HaveDiffered words (outcome.Exports place fault) = ⊥
-HaveDiffered words (outcome.Records limit) = ⊥
 HaveDiffered words outcome.Usage = ⊤
 HaveDiffered words (outcome.Domain fault) = ⊤
 HaveDiffered words (outcome.Readings fault) = ⊤
 HaveDiffered words (outcome.Names name) = ⊤
+HaveDiffered words (outcome.Exports place fault) = ⊥
+HaveDiffered words (outcome.Records limit) = ⊥
 HaveDiffered words outcome.ReadFault = ⊤
 HaveDiffered words outcome.WriteFault = ⊤
 HaveDiffered words outcome.NoMemory = ⊤
@@ -130,10 +131,13 @@ IsRefusal outcome.ReadFault = ⊥
 IsRefusal outcome.WriteFault = ⊥
 IsRefusal outcome.NoMemory = ⊥
 
--- where the traffic of a domain begins: DOMAIN and READINGS were read by two slots
-abbrev pub course_for : List (List ℕ) → Reading → Writing → Domain → Course
-course_for words reading writing domain = record {
+-- where the traffic of a domain begins, whose workers' gate opens always or may stay shut: DOMAIN and READINGS were read
+-- by two slots
+abbrev pub course_for : Bool → List (List ℕ) → Reading → Writing → Domain → List (List Sample) → Course
+course_for opens words reading writing domain readings = record {
+  opens = opens;
   domain = domain;
+  readings = readings;
   ports = input_ports (ports domain);
   lanes = start_of (reading.side.slots + 2) writing (run_inputs domain);
   first = writing.side.slots;
@@ -143,6 +147,8 @@ course_for words reading writing domain = record {
 module _ (words : List (List ℕ)) (old_in new_in : Reading) (old new : Writing) where
   -- the cause of each answer, where the desk tells what its files hold; want of memory alone has none
   abbrev pub HasCause : Outcome → Type 0
+  HasCause (outcome.Exports place fault) = ⊥
+  HasCause (outcome.Records limit) = ⊥
   HasCause outcome.ReadFault = Rose old_in.side.faults new_in.side.faults
   HasCause outcome.WriteFault = Rose old.side.faults new.side.faults
   HasCause outcome.NoMemory = ⊤
@@ -152,33 +158,40 @@ module _ (words : List (List ℕ)) (old_in new_in : Reading) (old new : Writing)
   HasCause (outcome.Readings fault) = Asked old words (outcome.Readings fault)
   HasCause (outcome.Names name) = Asked old words (outcome.Names name)
   HasCause (outcome.Packets limit) = Asked old words (outcome.Packets limit)
-  HasCause (outcome.Exports place fault) = ⊥
-  HasCause (outcome.Records limit) = ⊥
   HasCause (outcome.Capture name at fault) = Asked old words (outcome.Capture name at fault)
 
-  -- so it is of the traffic of the domain that is held
+  -- no capture was opened, and no output
+  abbrev pub OpensNone : Type 0
+  OpensNone = AsksFront old_in.side.asked new_in.side.asked (domain_file words ∷ readings_file words ∷ []) × (new ≡ old)
+
+-- whether the gate of the workers always opens
+module _ (opens : Bool) (words : List (List ℕ)) (old_in new_in : Reading) (old new : Writing) where
+  -- so it is of the traffic of the domain that is held, by the readings that are held
   abbrev pub OfTraffic : (Course → Type 0) → Type 0
-  OfTraffic P = (domain : Domain) × IsReady old words domain × P (course_for words old_in old domain)
+  OfTraffic P = (domain : Domain) × (readings : List (List Sample)) × IsReady old words domain readings
+      × P (course_for opens words old_in old domain readings)
 
   -- no capture was opened yet, or not all of them
   abbrev pub StopsEarly : Type 0
   StopsEarly = AsksFront old_in.side.asked new_in.side.asked (domain_file words ∷ readings_file words ∷ [])
       ⊎ OfTraffic (λ course. new_in.side.slots < course.lanes.base + length course.lanes.contents)
 
-  -- What the files hold of these arrivals, of which nothing else becomes: each port's capture has the
-  -- packets that leave there, REPORT the line of each arrival and the sums, and EXPORTS nothing. `Are`
-  -- says which arrivals.
+  -- What the files hold of these arrivals, of which nothing else becomes, where the gate opens: each port's capture has the
+  -- packets that leave there, each tap's what crosses its link, REPORT the lines of each arrival and the sums, and EXPORTS
+  -- the records that the nodes export. `Are` says which arrivals.
   pub record HoldsFiles (course : Course) (Are : List Arrival → Type 0) : Type 0 where
     pub taken : List Arrival
     pub fates : List Fate
     pub are : Are taken
     pub few : length taken ≤ course.domain.packets
-    pub become : AreFates course.domain (frames_of course.ports taken) fates
-    pub only : (others : List Fate) → AreFates course.domain (frames_of course.ports taken) others → others ≡ fates
-    pub outs : (place : ℕ) (port : Port) → slice_get (ports course.domain) place ≡ Some port
+    pub become : AreFates course.domain course.readings (frames_of course.ports taken) fates
+    pub only : (others : List Fate) → AreFates course.domain course.readings (frames_of course.ports taken) others → others ≡ fates
+    pub outs : IsTrue course.opens → (place : ℕ) (port : Port) → slice_get (ports course.domain) place ≡ Some port
         → holds new port.output ≡ Some (out_text place fates)
-    pub report : holds new (report_file words) ≡ Some (report_text course.domain fates)
-    pub exports : holds new (exports_file words) ≡ Some []
+    pub taps : IsTrue course.opens → (place : ℕ) (link : Link) (name : List ℕ) → slice_get (links course.domain) place ≡ Some link
+        → link.tap ≡ Some name → holds new name ≡ Some (tap_text course.domain course.readings place fates)
+    pub report : IsTrue course.opens → holds new (report_file words) ≡ Some (report_text course.domain course.readings fates)
+    pub exports : IsTrue course.opens → holds new (exports_file words) ≡ Some (exports_text course.domain course.readings fates)
 
   -- What the files hold afterwards, where the desk tells: the texts of all arrivals, of as many as the
   -- domain allows, or of those that what was handed out of the captures shows; or nothing was opened
@@ -199,23 +212,21 @@ module _ (words : List (List ℕ)) (old_in new_in : Reading) (old new : Writing)
   Leaves (outcome.Readings fault) = new ≡ old
   Leaves (outcome.Names name) = new ≡ old
 
-  -- no capture was opened, and no output
-  abbrev pub OpensNone : Type 0
-  OpensNone = AsksFront old_in.side.asked new_in.side.asked (domain_file words ∷ readings_file words ∷ []) × (new ≡ old)
-
   -- DOMAIN, READINGS and each of the captures were read to their ends
   abbrev pub AreDrained : Type 0
   AreDrained = OfTraffic (λ course. (k : ℕ) → k < 2 + length course.lanes.contents → IsTrue (new_in.ended (old_in.side.slots + k)))
 
-  -- what leaves by each port of the domain is a capture of packets that may leave it
+  -- what leaves by each port of the domain is a capture of packets that may leave it, where the gate opens
   abbrev pub IsBounded : Type 0
-  IsBounded = OfTraffic (λ course. (place : ℕ) (port : Port) → slice_get (ports course.domain) place ≡ Some port
+  IsBounded = OfTraffic (λ course. IsTrue course.opens → (place : ℕ) (port : Port) → slice_get (ports course.domain) place ≡ Some port
       → IsSomeAnd (holds new port.output) (IsCaptureOf MayLeave))
 
 -- the answer comes where no domain or no readings were read
 abbrev pub IsUnset : Outcome → Type 0
 IsUnset (outcome.Domain fault) = ⊤
 IsUnset (outcome.Readings fault) = ⊤
+IsUnset (outcome.Exports place fault) = ⊥
+IsUnset (outcome.Records limit) = ⊥
 IsUnset outcome.ReadFault = ⊤
 IsUnset outcome.NoMemory = ⊤
 IsUnset outcome.Usage = ⊥
@@ -223,8 +234,6 @@ IsUnset (outcome.Names name) = ⊥
 IsUnset outcome.Done = ⊥
 IsUnset (outcome.Capture name at fault) = ⊥
 IsUnset (outcome.Packets limit) = ⊥
-IsUnset (outcome.Exports place fault) = ⊥
-IsUnset (outcome.Records limit) = ⊥
 IsUnset outcome.WriteFault = ⊥
 
 -- what a domain may say of how many packets a run has at most
@@ -239,9 +248,9 @@ Says words domain (outcome.Names name) = (at : ℕ) × IsFirstRepeat (run_files 
 Says words domain (outcome.Capture name at fault) = AreApart (run_files words domain)
     × ((place : ℕ) × (place < length (run_inputs domain)) × (name ≡ name_at (run_inputs domain) place))
 Says words domain (outcome.Packets limit) = AreApart (run_files words domain) × (limit ≡ domain.packets) × IsLimit limit
+Says words domain outcome.Done = AreApart (run_files words domain)
 Says words domain (outcome.Exports place fault) = ⊥
 Says words domain (outcome.Records limit) = ⊥
-Says words domain outcome.Done = AreApart (run_files words domain)
 Says words domain outcome.ReadFault = AreApart (run_files words domain)
 Says words domain outcome.WriteFault = AreApart (run_files words domain)
 Says words domain outcome.NoMemory = ⊤
@@ -257,10 +266,11 @@ module _ (tells : Bool) (words : List (List ℕ)) (old_in new_in : Reading) (old
   -- What was asked of a desk for this domain, whatever the desk tells; where it tells, DOMAIN holds
   -- the domain. The names that were given to the opening of inputs are DOMAIN, READINGS and the
   -- captures of the ports that are read, or a front of these; those given to the opening of outputs
-  -- the captures of the ports that are written, REPORT and EXPORTS, or a front. An output was opened
-  -- only where all inputs had been; none of the captures and outputs, unless all files differ.
+  -- the captures of the ports that are written, those of the taps, REPORT and EXPORTS, or a front. An
+  -- output was opened only where all inputs had been; none of the captures and outputs, unless all
+  -- files differ.
   pub record AsksOf (answer : Outcome) (domain : Domain) : Type 0 where
-    pub set : IsTrue tells → IsSet old words domain
+    pub set : IsTrue tells → (readings : List (List Sample)) × IsSet old words domain readings
     pub says : Says words domain answer
     pub apart : OpensNone words old_in new_in old new ⊎ AreApart (run_files words domain)
     pub asked_in : AsksFront old_in.side.asked new_in.side.asked (domain_file words ∷ readings_file words ∷ run_inputs domain)
@@ -273,6 +283,7 @@ module _ (tells : Bool) (words : List (List ℕ)) (old_in new_in : Reading) (old
   abbrev pub Asks : Outcome → Type 0
   Asks answer = (OpensNone words old_in new_in old new × IsUnset answer) ⊎ ((domain : Domain) × AsksOf answer domain)
 
+module _ (opens tells : Bool) (words : List (List ℕ)) (old_in new_in : Reading) (old new : Writing) where
   -- what a run owes for its answer: its cause, what was opened and read, and what the files hold
   pub record Owes (answer : Outcome) : Type 0 where
     pub read_fault : answer ≡ outcome.ReadFault → Rose old_in.side.faults new_in.side.faults
@@ -280,14 +291,14 @@ module _ (tells : Bool) (words : List (List ℕ)) (old_in new_in : Reading) (old
     pub usage : answer ≢ outcome.Usage
     pub differed : HaveDiffered words answer
     pub cause : IsTrue tells → HasCause words old_in new_in old new answer
-    pub leaves : IsTrue tells → Leaves words old_in new_in old new answer
+    pub leaves : IsTrue tells → Leaves opens words old_in new_in old new answer
     pub exact : (asked : Outcome) → IsTrue tells → Asked old words asked → (Rose old_in.side.faults new_in.side.faults → ⊥)
         → (Rose old.side.faults new.side.faults → ⊥) → (answer ≡ asked) ⊎ (answer ≡ outcome.NoMemory)
     pub domain_first : (fault : DomainFault) → answer ≡ outcome.Domain fault → AsksFront old_in.side.asked new_in.side.asked (domain_file words ∷ [])
-    pub asks : Asks answer
+    pub asks : Asks tells words old_in new_in old new answer
     pub no_output : new_in.side.slots < old_in.side.slots + 2 → new ≡ old
     pub untouched : IsRefusal answer → OpensNone words old_in new_in old new
-    pub drained : IsDone answer → IsTrue tells → AreDrained words old_in new_in old new
-    pub boundary : IsBehindAll (old.side.slots < new.side.slots) answer → IsTrue tells → IsBounded words old_in new_in old new
+    pub drained : IsDone answer → IsTrue tells → AreDrained opens words old_in new_in old new
+    pub boundary : IsBehindAll (old.side.slots < new.side.slots) answer → IsTrue tells → IsBounded opens words old_in new_in old new
     pub kept_in : KeepsInputs old_in new_in
     pub kept_out : IsTrue tells → KeepsOutputs old new

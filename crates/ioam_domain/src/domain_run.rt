@@ -1,5 +1,5 @@
 //! `run DOMAIN READINGS WORKERS REPORT EXPORTS`.
-ghost use Rattle.std.specs.Prelude.{◌≡◌, ◌≢◌, ◌+◌, ◌<◌, ◌⊎◌, ◌∷◌, ◌++◌, [], List, ℕ, IsTrue, Err, IfOk, IfErr, OnOk, length};
+ghost use Rattle.std.specs.Prelude.{◌≡◌, ◌≢◌, ◌+◌, ◌<◌, ◌≤◌, ◌⊎◌, ◌∷◌, ◌++◌, [], List, ℕ, IsTrue, Err, IfOk, IfErr, OnOk, length};
 ghost use Rattle.ioam_desk.specs.Asked.{AsksFront};
 ghost use Rattle.ioam_desk.specs.Desk.{Rose, opened_each};
 ghost use Rattle.ioam_desk.specs.Kept.{KeepsInputs, KeepsOutputs};
@@ -9,7 +9,7 @@ ghost use Rattle.ioam_answer.specs.Outcomes.{IsDone, IsBehindAll};
 ghost use Rattle.ioam_answer.specs.declared.outcome.Outcome.{Outcome};
 ghost use Rattle.ioam_setting.specs.Setting.{IsSetting, Refuses};
 ghost use Rattle.ioam_setting.specs.declared.setting.Refusal.{Refusal};
-ghost use Rattle.ioam_topo.specs.Domain.{ports, IsPlain};
+ghost use Rattle.ioam_outlets.specs.Outlets.{outlet_count};
 ghost use Rattle.ioam_entries.specs.declared.fault.DomainFault.{DomainFault};
 ghost use Rattle.ioam_traffic.specs.Traffic.{AllOpened};
 ghost use Rattle.ioam_domain.specs.Ends.{Ends};
@@ -18,6 +18,8 @@ ghost use Rattle.ioam_domain.specs.Run.{HasCause, Asked, Leaves, Asks, OpensNone
 use crate::answer::refused;
 use ioam_answer::Outcome;
 use ioam_base::memory::NoMemory;
+use ioam_batch::Gate;
+use ioam_clock::Readings;
 use ioam_desk::{Desk, Name};
 use ioam_outputs::first_repeat;
 use ioam_setting::{
@@ -26,23 +28,36 @@ use ioam_setting::{
 use ioam_topo::Domain;
 use ioam_traffic::{Halt, run_traffic};
 use std::alloc::Global;
+use std::thread::Threads;
 
 /// Runs `run DOMAIN READINGS WORKERS REPORT EXPORTS`: what arrives at the ports of the domain that
-/// DOMAIN describes is sent through it, in the order of time. Each port's capture has the packets that
-/// leave there, REPORT says what became of each arrival, and EXPORTS is empty, since no packet of a
-/// domain without flows carries direct export.
+/// DOMAIN describes is sent through it, in the order of time: a packet of a flow goes through the
+/// flow's tunnel, in which nodes record IOAM data by READINGS and export some (RFC 9197, RFC 9326).
+/// Each port's capture has the packets that leave there, each tap's the packets that cross its link,
+/// REPORT says what became of each arrival and which path its traces recorded, and EXPORTS has the
+/// export records.
 ///
-/// The words are the command and these five. DOMAIN is read first, then READINGS; then two files of
-/// one name are refused; then the captures are opened, and then the outputs.
-pub fn run_domain<D: Desk>(alloc: Global, words: &[Name], desk: &mut D) -> Outcome
-    requires { length words.now ≡ 6 }
+/// The words are the command and these five; WORKERS spells `workers`, 1 to 64, by which packets are
+/// sent on their ways. The files are the same whatever their number. DOMAIN is read first, then
+/// READINGS; then two files of one name are refused; then the captures are opened, and then the
+/// outputs: the ports' captures, the taps', REPORT and EXPORTS.
+pub fn run_domain<R: Threads + Sync, D: Desk, G: Gate>(
+    rt: &R,
+    alloc: Global,
+    workers: u32,
+    words: &[Name],
+    desk: &mut D,
+    gate: &G,
+) -> Outcome
+    requires sized { length words.now ≡ 6 }
+    requires staffed { (1 ≤ workers) × (workers ≤ 64) }
     ensures read_fault { result ≡ Outcome.ReadFault → Rose (D.reading desk.old).side.faults (D.reading desk.new).side.faults }
     ensures write_fault { result ≡ Outcome.WriteFault → Rose (D.writing desk.old).side.faults (D.writing desk.new).side.faults }
     ensures usage { result ≢ Outcome.Usage }
     // The words' own names differ where the captures were looked at, whether the desk tells or not.
     ensures differed { HaveDiffered words.now result }
     ensures cause { IsTrue D.tells → HasCause words.now (D.reading desk.old) (D.reading desk.new) (D.writing desk.old) (D.writing desk.new) result }
-    ensures leaves { IsTrue D.tells → Leaves words.now (D.reading desk.old) (D.reading desk.new) (D.writing desk.old) (D.writing desk.new) result }
+    ensures leaves { IsTrue D.tells → Leaves G.opens words.now (D.reading desk.old) (D.reading desk.new) (D.writing desk.old) (D.writing desk.new) result }
     // What is asked for is answered, unless a call of the desk failed or no memory could be had.
     ensures exact { (asked : Outcome) → IsTrue D.tells → Asked (D.writing desk.old) words.now asked
         → (Rose (D.reading desk.old).side.faults (D.reading desk.new).side.faults → ⊥)
@@ -56,24 +71,41 @@ pub fn run_domain<D: Desk>(alloc: Global, words: &[Name], desk: &mut D) -> Outco
     ensures no_output { (D.reading desk.new).side.slots < (D.reading desk.old).side.slots + 2 → D.writing desk.new ≡ D.writing desk.old }
     ensures untouched { IsRefusal result → OpensNone words.now (D.reading desk.old) (D.reading desk.new) (D.writing desk.old) (D.writing desk.new) }
     ensures drained { IsDone result → IsTrue D.tells
-        → AreDrained words.now (D.reading desk.old) (D.reading desk.new) (D.writing desk.old) (D.writing desk.new) }
-    // A port's capture is one of IPv6 packets, each with a whole header chain without an IOAM option and of at most 262,144 octets.
+        → AreDrained G.opens words.now (D.reading desk.old) (D.reading desk.new) (D.writing desk.old) (D.writing desk.new) }
+    // Where the gate opens, a port's capture is one of IPv6 packets, each with a whole header chain without an IOAM option and of at most 262,144 octets.
     ensures boundary { IsBehindAll ((D.writing desk.old).side.slots < (D.writing desk.new).side.slots) result → IsTrue D.tells
-        → IsBounded words.now (D.reading desk.old) (D.reading desk.new) (D.writing desk.old) (D.writing desk.new) }
+        → IsBounded G.opens words.now (D.reading desk.old) (D.reading desk.new) (D.writing desk.old) (D.writing desk.new) }
     // Input slots that were there, and where the desk tells output slots that were there and names that weren't opened to be written, are as they were.
     ensures kept_in { KeepsInputs (D.reading desk.old) (D.reading desk.new) }
     ensures kept_out { IsTrue D.tells → KeepsOutputs (D.writing desk.old) (D.writing desk.new) }
 {
-    run_words(alloc, words, desk)
+    run_words(rt, alloc, workers, words, desk, gate)
 }
 
 // Reads the two files that the words name, and runs the domain.
-fn run_words<D: Desk>(alloc: Global, words: &[Name], desk: &mut D) -> Outcome
-    requires { length words.now ≡ 6 }
-    ensures owes { Owes D.tells words.now (D.reading desk.old) (D.reading desk.new) (D.writing desk.old) (D.writing desk.new) result }
+fn run_words<R: Threads + Sync, D: Desk, G: Gate>(
+    rt: &R,
+    alloc: Global,
+    workers: u32,
+    words: &[Name],
+    desk: &mut D,
+    gate: &G,
+) -> Outcome
+    requires sized { length words.now ≡ 6 }
+    requires staffed { (1 ≤ workers) × (workers ≤ 64) }
+    ensures owes { Owes G.opens D.tells words.now (D.reading desk.old) (D.reading desk.new) (D.writing desk.old) (D.writing desk.new) result }
 {
     match read_words(alloc, words, desk) {
-        Ok(setting) => run_set(alloc, words, &setting.domain, desk),
+        Ok(setting) => run_set(
+            rt,
+            alloc,
+            workers,
+            words,
+            &setting.domain,
+            &setting.readings,
+            desk,
+            gate,
+        ),
         Err(refusal) => refused(refusal),
     }
 }
@@ -107,16 +139,26 @@ fn run_files(alloc: Global, words: &[Name], domain: &Domain) -> Result<Vec<Name>
 // Those that are written, in the order in which they are opened.
 fn run_outputs(alloc: Global, words: &[Name], domain: &Domain) -> Result<Vec<Name>, NoMemory>
     requires { length words.now ≡ 6 }
-    ensures { IfOk result (λ outputs. outputs.items ≡ run_outputs words.now domain.now) }
+    ensures value { IfOk result (λ outputs. outputs.items ≡ run_outputs words.now domain.now) }
+    ensures width { IfOk result (λ outputs. length outputs.items ≡ outlet_count domain.now) }
 {
     output_names(alloc, domain, &words[4], &words[5])
 }
 
 // Runs a domain that was read: its files have to differ.
-fn run_set<D: Desk>(alloc: Global, words: &[Name], domain: &Domain, desk: &mut D) -> Outcome
+fn run_set<R: Threads + Sync, D: Desk, G: Gate>(
+    rt: &R,
+    alloc: Global,
+    workers: u32,
+    words: &[Name],
+    domain: &Domain,
+    readings: &Readings,
+    desk: &mut D,
+    gate: &G,
+) -> Outcome
     requires sized { length words.now ≡ 6 }
-    requires plain { IsPlain domain.now }
-    ensures ends { Ends D.tells words.now domain.now (D.reading desk.old) (D.reading desk.new) (D.writing desk.old) (D.writing desk.new) result }
+    requires staffed { (1 ≤ workers) × (workers ≤ 64) }
+    ensures ends { Ends G.opens D.tells words.now domain.now readings.now (D.reading desk.old) (D.reading desk.new) (D.writing desk.old) (D.writing desk.new) result }
     ensures asked_in { (D.reading desk.new ≡ D.reading desk.old) ⊎ (AreApart (run_files words.now domain.now)
         × AsksFront (D.reading desk.old).side.asked (D.reading desk.new).side.asked (run_inputs domain.now)) }
     ensures asked_out { (D.writing desk.new ≡ D.writing desk.old) ⊎ (AreApart (run_files words.now domain.now)
@@ -136,16 +178,25 @@ fn run_set<D: Desk>(alloc: Global, words: &[Name], domain: &Domain, desk: &mut D
         Some(at) => Outcome::Names {
             name: files.swap_remove(at),
         },
-        None => run_apart(alloc, words, domain, desk),
+        None => run_apart(rt, alloc, workers, words, domain, readings, desk, gate),
     }
 }
 
 // Runs a domain whose files differ.
-fn run_apart<D: Desk>(alloc: Global, words: &[Name], domain: &Domain, desk: &mut D) -> Outcome
+fn run_apart<R: Threads + Sync, D: Desk, G: Gate>(
+    rt: &R,
+    alloc: Global,
+    workers: u32,
+    words: &[Name],
+    domain: &Domain,
+    readings: &Readings,
+    desk: &mut D,
+    gate: &G,
+) -> Outcome
     requires sized { length words.now ≡ 6 }
+    requires staffed { (1 ≤ workers) × (workers ≤ 64) }
     requires apart { AreApart (run_files words.now domain.now) }
-    requires plain { IsPlain domain.now }
-    ensures ends { Ends D.tells words.now domain.now (D.reading desk.old) (D.reading desk.new) (D.writing desk.old) (D.writing desk.new) result }
+    ensures ends { Ends G.opens D.tells words.now domain.now readings.now (D.reading desk.old) (D.reading desk.new) (D.writing desk.old) (D.writing desk.new) result }
     ensures asked_in { AsksFront (D.reading desk.old).side.asked (D.reading desk.new).side.asked (run_inputs domain.now) }
     ensures asked_out { AsksFront (D.writing desk.old).side.asked (D.writing desk.new).side.asked (run_outputs words.now domain.now) }
     ensures all_in { IsBehindAll ⊥ result → AllOpened (D.reading desk.old).side (D.reading desk.new).side (run_inputs domain.now) }
@@ -164,7 +215,9 @@ fn run_apart<D: Desk>(alloc: Global, words: &[Name], domain: &Domain, desk: &mut
     let Ok(outputs) = run_outputs(alloc, words, domain) else {
         return Outcome::NoMemory;
     };
-    match run_traffic(alloc, desk, domain, &ports, &inputs, &outputs) {
+    match run_traffic(
+        rt, alloc, workers, desk, domain, readings, &ports, &inputs, &outputs, gate,
+    ) {
         Halt::Over => Outcome::Done,
         Halt::Broken { place, at, fault } => Outcome::Capture {
             name: inputs.swap_remove(place),
