@@ -5,7 +5,7 @@ pub struct Refusal {
     pub line: &'static str,
 }
 
-const REFUSALS: [Refusal; 13] = [
+const REFUSALS: [Refusal; 18] = [
     Refusal {
         words: &["paths", "a", "a"],
         line: "names a",
@@ -52,6 +52,26 @@ const REFUSALS: [Refusal; 13] = [
     },
     Refusal {
         words: &["node", "a", "r", "n", "l", "a", "b"],
+        line: "usage",
+    },
+    Refusal {
+        words: &["run", "a", "b", "0", "r", "e"],
+        line: "usage",
+    },
+    Refusal {
+        words: &["run", "a", "b", "65", "r", "e"],
+        line: "usage",
+    },
+    Refusal {
+        words: &["run", "a", "b", "01", "r", "e"],
+        line: "usage",
+    },
+    Refusal {
+        words: &["run", "a", "b", "+1", "r", "e"],
+        line: "usage",
+    },
+    Refusal {
+        words: &["run"],
         line: "usage",
     },
     Refusal {

@@ -4,31 +4,51 @@ use crate::program::{ioam, ioam_surely};
 use crate::refusals::refusals;
 use ioam_answer::{Outcome, line};
 use ioam_base::memory::NoMemory;
+use ioam_batch::OpenGate;
 use ioam_desk::{MemoryDesk, SureDesk};
 use ioam_test_rows::capture_rows::{Listing, listings, runs};
 use ioam_test_rows::digits::{octets, text, words};
-use ioam_test_rows::run_rows::{DOMAIN, RUN, rows};
+use ioam_test_rows::run_rows::rows;
 use ioam_test_rows::show_rows::shown;
 use std::alloc::Global;
+use std::thread::Threads;
 
 // The line of a run of these words over a desk.
-fn line_of(alloc: Global, texts: &[&str], desk: &mut MemoryDesk) -> Result<String, NoMemory> {
+fn line_of<R: Threads + Sync>(
+    rt: &R,
+    alloc: Global,
+    texts: &[&str],
+    desk: &mut MemoryDesk,
+) -> Result<String, NoMemory> {
     let words = words(alloc, texts)?;
-    line(alloc, &ioam(alloc, &words, desk))
+    line(alloc, &ioam(rt, alloc, &words, desk, &OpenGate))
 }
 
 // Whether a run of these words over a desk that never fails does all.
-fn is_done(alloc: Global, texts: &[&str], desk: &mut SureDesk) -> Result<bool, NoMemory> {
+fn is_done<R: Threads + Sync>(
+    rt: &R,
+    alloc: Global,
+    texts: &[&str],
+    desk: &mut SureDesk,
+) -> Result<bool, NoMemory> {
     let words = words(alloc, texts)?;
-    Ok(matches!(ioam_surely(alloc, &words, desk), Outcome::Done))
+    Ok(matches!(
+        ioam_surely(rt, alloc, &words, desk, &OpenGate),
+        Outcome::Done
+    ))
 }
 
 // Whether a command that lists something of each packet writes what this row says.
-fn lists(alloc: Global, command: &str, row: &Listing) -> Result<bool, NoMemory> {
+fn lists<R: Threads + Sync>(
+    rt: &R,
+    alloc: Global,
+    command: &str,
+    row: &Listing,
+) -> Result<bool, NoMemory> {
     let input = octets(alloc, row.input)?;
     let mut desk = MemoryDesk::new(alloc)?;
     desk.put_file("in.pcap", &input)?;
-    let line = line_of(alloc, &[command, "in.pcap", "report.txt"], &mut desk)?;
+    let line = line_of(rt, alloc, &[command, "in.pcap", "report.txt"], &mut desk)?;
     Ok(line.as_str() == "done" && desk.file("report.txt") == Some(row.report.as_bytes()))
 }
 
@@ -37,8 +57,8 @@ fn paths_and_show_over_a_desk_in_memory(rt: HostRuntime) {
     let alloc = rt.alloc();
     let traces = listings().first().expect(&rt, "a row");
     let options = shown().first().expect(&rt, "a row");
-    assert!(rt; lists(alloc, "paths", traces).expect(&rt, "memory"));
-    assert!(rt; lists(alloc, "show", options).expect(&rt, "memory"));
+    assert!(rt; lists(&rt, alloc, "paths", traces).expect(&rt, "memory"));
+    assert!(rt; lists(&rt, alloc, "show", options).expect(&rt, "memory"));
 }
 
 #[test]
@@ -51,11 +71,21 @@ fn filter_over_a_desk_that_never_fails(rt: HostRuntime) {
         let mut desk = SureDesk::new(alloc).expect(&rt, "memory");
         desk.put_file("in.pcap", &input).expect(&rt, "memory");
         desk.set_piece(5);
-        assert!(rt; is_done(alloc, &filter, &mut desk).expect(&rt, "memory"));
+        assert!(rt; is_done(&rt, alloc, &filter, &mut desk).expect(&rt, "memory"));
         assert!(rt; desk.file("out.pcap") == Some(output.as_slice()));
         assert!(rt; desk.file("report.txt") == Some(run.report.as_bytes()));
     }
 }
+
+// A run with three workers.
+const RUN_BY_THREE: [&str; 6] = [
+    "run",
+    "domain.toml",
+    "readings",
+    "3",
+    "report.txt",
+    "exports",
+];
 
 #[test]
 fn run_over_a_desk_that_never_fails(rt: HostRuntime) {
@@ -67,7 +97,7 @@ fn run_over_a_desk_that_never_fails(rt: HostRuntime) {
     desk.put_file("domain.toml", &text(alloc, row.domain).expect(&rt, "text"))
         .expect(&rt, "memory");
     desk.put_file("west.pcap", &west).expect(&rt, "memory");
-    assert!(rt; is_done(alloc, &RUN, &mut desk).expect(&rt, "memory"));
+    assert!(rt; is_done(&rt, alloc, &RUN_BY_THREE, &mut desk).expect(&rt, "memory"));
     assert!(rt; desk.file("east-out.pcap") == Some(east.as_slice()));
     assert!(rt; desk.file("report.txt") == Some(row.report.as_bytes()));
 }
@@ -80,39 +110,9 @@ fn equal_names_and_other_words_open_nothing(rt: HostRuntime) {
         desk.put_file("a", b"as it was").expect(&rt, "memory");
         // The first call would fail, and be told as a fault.
         desk.fail_call(1).expect(&rt, "memory");
-        let line = line_of(alloc, row.words, &mut desk).expect(&rt, "memory");
+        let line = line_of(&rt, alloc, row.words, &mut desk).expect(&rt, "memory");
         assert_eq!(rt; line.as_str(), row.line);
         assert!(rt; desk.file("a") == Some(b"as it was".as_slice()));
         assert!(rt; desk.file("b").is_none() && desk.file("r").is_none());
-    }
-}
-
-// With another number of workers, and of words.
-#[test]
-fn a_refused_run_writes_nothing(rt: HostRuntime) {
-    let alloc = rt.alloc();
-    let rows: [&[&str]; 2] = [
-        &[
-            "run",
-            "domain.toml",
-            "readings",
-            "0",
-            "report.txt",
-            "exports",
-        ],
-        &["run"],
-    ];
-    for row in rows {
-        let mut desk = MemoryDesk::new(alloc).expect(&rt, "memory");
-        desk.put_file("domain.toml", &text(alloc, DOMAIN).expect(&rt, "text"))
-            .expect(&rt, "memory");
-        desk.put_file("readings", b"").expect(&rt, "memory");
-        desk.put_file("west.pcap", b"as it was")
-            .expect(&rt, "memory");
-        let line = line_of(alloc, row, &mut desk).expect(&rt, "memory");
-        assert_eq!(rt; line.as_str(), "usage");
-        assert!(rt; desk.file("west.pcap") == Some(b"as it was".as_slice()));
-        assert!(rt; desk.file("east-out.pcap").is_none() && desk.file("report.txt").is_none());
-        assert!(rt; desk.file("exports").is_none());
     }
 }
