@@ -6,6 +6,7 @@ use ioam_desk::MemoryDesk;
 use ioam_test_rows::digits::{HEAD, octets, text};
 use ioam_test_rows::run_rows::{RUN, rows};
 use std::alloc::Global;
+use std::thread::Threads;
 use std::process::Abort;
 
 #[test]
@@ -17,7 +18,7 @@ fn run_writes_what_becomes_of_arrivals(rt: HostRuntime) {
         for piece in [65536usize, 7] {
             let mut desk = desk_for(alloc, row).expect(&rt, "memory");
             desk.set_piece(piece.max(1));
-            let line = run_line(alloc, &RUN, &mut desk).expect(&rt, "memory");
+            let line = run_line(&rt, alloc, &RUN, &mut desk).expect(&rt, "memory");
             assert_eq!(rt; line.as_str(), row.line);
             assert!(rt;
                 desk.file("east-out.pcap") == Some(east.as_slice()),
@@ -53,10 +54,10 @@ fn refused_desk(alloc: Global, row: &Refusal) -> Result<MemoryDesk, NoMemory> {
 }
 
 // Each of these runs is refused, and writes nothing.
-fn are_refused(rt: &impl Abort, alloc: Global, rows: &[Refusal]) {
+fn are_refused(rt: &(impl Abort + Threads + Sync), alloc: Global, rows: &[Refusal]) {
     for row in rows {
         let mut desk = refused_desk(alloc, row).expect(rt, "memory");
-        let line = run_line(alloc, &row.words, &mut desk).expect(rt, "memory");
+        let line = run_line(rt, alloc, &row.words, &mut desk).expect(rt, "memory");
         assert_eq!(rt; line.as_str(), row.line);
         assert!(rt; desk.file("west.pcap") == Some(b"as it was".as_slice()));
         assert!(rt; desk.file("east-out.pcap").is_none() && desk.file("report.txt").is_none());

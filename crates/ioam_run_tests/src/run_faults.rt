@@ -41,7 +41,7 @@ fn each_call_of_a_run_fails_once(rt: HostRuntime) {
             let mut desk = desk_for(alloc, row).expect(&rt, "memory");
             desk.set_piece(piece.max(1));
             desk.fail_call(call).expect(&rt, "memory");
-            let line = run_line(alloc, &RUN, &mut desk).expect(&rt, "memory");
+            let line = run_line(&rt, alloc, &RUN, &mut desk).expect(&rt, "memory");
             if line.as_str() == "read fault" && desk.file("report.txt").is_none() {
                 assert!(rt; desk.file("east-out.pcap").is_none() && faults[1] == 0);
                 faults[0] = faults[0].saturating_add(1);

@@ -60,7 +60,7 @@ fn assert_ports_told(rt: &impl Abort, alloc: Global, desk: &MemoryDesk) {
 fn run_over_a_capture_of_several_mib(rt: HostRuntime) {
     let alloc = rt.alloc();
     let mut desk = large_desk(alloc).expect(&rt, "memory");
-    let line = run_line(alloc, &RUN, &mut desk).expect(&rt, "memory");
+    let line = run_line(&rt, alloc, &RUN, &mut desk).expect(&rt, "memory");
     assert_eq!(rt; line.as_str(), "done");
     assert_large_left(&rt, alloc, &desk);
 }
@@ -69,7 +69,7 @@ fn run_over_a_capture_of_several_mib(rt: HostRuntime) {
 fn run_with_64_ports(rt: HostRuntime) {
     let alloc = rt.alloc();
     let mut desk = ports_desk(alloc).expect(&rt, "memory");
-    let line = run_line(alloc, &RUN, &mut desk).expect(&rt, "memory");
+    let line = run_line(&rt, alloc, &RUN, &mut desk).expect(&rt, "memory");
     assert_eq!(rt; line.as_str(), "done");
     assert_ports_left(&rt, alloc, &desk);
     assert_ports_told(&rt, alloc, &desk);
