@@ -20,9 +20,9 @@ module _ (opens : Bool) (words : List (List ℕ)) (old_in new_in : Reading) (old
     domain,
     readings,
     ready,
-    λ open place port is.
+    λ gate place port is.
         let P : Option (List ℕ) → Type 0 = λ o. IsSomeAnd o (IsCaptureOf MayLeave) in
-        subst P (sym (all.outs open place port is))
+        subst P (sym (all.outs gate place port is))
         (outs-clean domain readings (frames_of (course_for opens words old_in old domain readings).ports all.taken) all.fates all.become place),
   )
 

@@ -71,6 +71,9 @@ module _ (new : Writing) (g : ℕ → List ℕ) where
   taps_behind (l ∷ all) from names texts held = taps_behind all (suc from) names texts
       (one_behind from l.tap (tapped_from (suc from) all) (flat_map (λ (link : Link). tap_name link.tap) all) names texts held)
 
+from_none : (place : ℕ) → 0 + place ≡ place
+from_none place = omega arith
+
 module _ (opens : Bool) (words : List (List ℕ)) (old_in new_in : Reading) (old new : Writing) (course : Course) (Are : List Arrival → Type 0)
     (names : course.names ≡ run_outputs words course.domain) (all : HoldsAll course Are new) where
   -- those of the words
@@ -88,13 +91,13 @@ module _ (opens : Bool) (words : List (List ℕ)) (old_in new_in : Reading) (old
   tap_texts = map (λ (link : LinkId). tap_text course.domain course.readings link.0 all.fates) (tapped (links course.domain)) ++ last_texts
 
   in_order : IsTrue course.opens → HoldTexts new (run_outputs words course.domain) (texts_of course.domain course.readings all.fates)
-  in_order open = subst (λ (ns : List (List ℕ)). HoldTexts new ns (texts_of course.domain course.readings all.fates)) names (all.held open)
+  in_order gate = subst (λ (ns : List (List ℕ)). HoldTexts new ns (texts_of course.domain course.readings all.fates)) names (all.held gate)
 
   behind_ports : IsTrue course.opens → HoldTexts new tap_names tap_texts
-  behind_ports open = held_behind new (ports course.domain) 0 (λ k. out_text k all.fates) tap_names tap_texts (in_order open)
+  behind_ports gate = held_behind new (ports course.domain) 0 (λ k. out_text k all.fates) tap_names tap_texts (in_order gate)
 
   behind : IsTrue course.opens → HoldTexts new last_names last_texts
-  behind open = taps_behind new (λ k. tap_text course.domain course.readings k all.fates) (links course.domain) 0 last_names last_texts (behind_ports open)
+  behind gate = taps_behind new (λ k. tap_text course.domain course.readings k all.fates) (links course.domain) 0 last_names last_texts (behind_ports gate)
 
   pub files_held : HoldsFiles opens words old_in new_in old new course Are
   files_held = record {
@@ -104,11 +107,11 @@ module _ (opens : Bool) (words : List (List ℕ)) (old_in new_in : Reading) (old
     few = all.few;
     become = all.become;
     only = all.only;
-    outs = λ open place port is. held_at new (ports course.domain) 0 (λ k. out_text k all.fates) tap_names tap_texts (in_order open) place port is
-        ∙ ap (λ (k : ℕ). Some (out_text k all.fates)) (omega arith);
-    taps = λ open place link name is has. tap_held new (λ k. tap_text course.domain course.readings k all.fates) (links course.domain) 0 last_names last_texts
-        (behind_ports open) place link name is has
-        ∙ ap (λ (k : ℕ). Some (tap_text course.domain course.readings k all.fates)) (omega arith);
-    report = λ open. (behind open).0;
-    exports = λ open. (behind open).1.0;
+    outs = λ gate place port is. held_at new (ports course.domain) 0 (λ k. out_text k all.fates) tap_names tap_texts (in_order gate) place port is
+        ∙ ap (λ (k : ℕ). Some (out_text k all.fates)) (from_none place);
+    taps = λ gate place link name is has. tap_held new (λ k. tap_text course.domain course.readings k all.fates) (links course.domain) 0 last_names last_texts
+        (behind_ports gate) place link name is has
+        ∙ ap (λ (k : ℕ). Some (tap_text course.domain course.readings k all.fates)) (from_none place);
+    report = λ gate. (behind gate).0;
+    exports = λ gate. (behind gate).1.0;
   }

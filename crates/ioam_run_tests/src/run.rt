@@ -6,8 +6,8 @@ use ioam_desk::MemoryDesk;
 use ioam_test_rows::digits::{HEAD, octets, text};
 use ioam_test_rows::run_rows::{RUN, rows};
 use std::alloc::Global;
-use std::thread::Threads;
 use std::process::Abort;
+use std::thread::Threads;
 
 #[test]
 fn run_writes_what_becomes_of_arrivals(rt: HostRuntime) {

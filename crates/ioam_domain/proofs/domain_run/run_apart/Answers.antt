@@ -10,7 +10,7 @@ use Rattle.ioam_domain.proofs.WordsLaws.{taken_name, finishes_alike}
 use Rattle.ioam_domain.proofs.domain_run.run_apart.Goals as goal
 
 pub run_traffic-requires-clause-apart : goal.run_traffic-requires-clause-apart
-run_traffic-requires-clause-apart g c =
+run_traffic-requires-clause-apart g c κs within =
     let words = c.args.words.now in
     let is : c.deref-3.result.now ≡ run_outputs words c.args.domain.now = c.deref-3.ensures.value ∙ c.in-Ok-run_outputs.ensures.value in
     subst AreApart (sym is) (apart-outputs (ports c.args.domain.now) (links c.args.domain.now) (domain_file words) (readings_file words) (report_file words) (exports_file words) c.requires.apart)

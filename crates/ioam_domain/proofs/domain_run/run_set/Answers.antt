@@ -17,7 +17,7 @@ returns-in-Some-clause-ends g c =
     )
 
 pub run_apart-requires-clause-apart : goal.run_apart-requires-clause-apart
-run_apart-requires-clause-apart g c =
+run_apart-requires-clause-apart g c κs within =
     let words = c.args.words.now in
     let lent : c.deref.result.now ≡ run_files words c.args.domain.now = c.deref.ensures.value ∙ c.in-Ok.ensures in
     subst AreApart lent c.in-None.ensures
