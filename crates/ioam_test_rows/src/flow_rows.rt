@@ -1,7 +1,7 @@
 //! Whole runs of domains with flows, as rows: what is read, and what each file holds afterwards.
 use crate::digits::{AT_ONE, HEAD, UDP};
 use crate::flow_parts::{
-    AB_ONE, BACK_ROUTES, BC_ONE, FLOW, LEFT, NODES_OF_TWO, NODES_WITHOUT, ON_AB, ON_BC, OUT_ONE,
+    AB_ONE, BACK_ROUTES, BC_ONE, ENDS, FLOW, INNER, LEFT, NODES_WITHOUT, ON_AB, ON_BC, OUT_ONE,
     OUT_ROUTES, PORTS_AND_MIDDLE, TAPPED, TAPPED_LOOP, TRACE_OF_3, TUNNEL_ROUTES,
 };
 use crate::flow_rows_more::MORE;
@@ -28,10 +28,6 @@ pub struct FlowRow {
 
 /// A domain with a flow that has a trace, and taps.
 pub const TRACED: &[&str] = &[NODES, TAPPED, PORTS, TUNNEL_ROUTES, FLOW, TRACE_OF_3];
-
-const ENDS: &str = crate::flow_parts::ENDS;
-
-const INNER: &str = crate::flow_parts::INNER;
 
 const FIRST: FlowRow = FlowRow {
     domain: TRACED,
@@ -100,7 +96,7 @@ const EMPTY: FlowRow = FlowRow {
     line: "done",
 };
 
-const ROWS: [FlowRow; 9] = [
+const ROWS: [FlowRow; 8] = [
     FIRST,
     // A trace of two words, which the third node finds full.
     FlowRow {
@@ -348,53 +344,6 @@ const ROWS: [FlowRow; 9] = [
         report: "1 west drop ioam-out b flow f 0\npackets 1 left 0 dropped 1\n\
             node a seen 1 dropped 0\nnode b seen 1 dropped 1\nnode c seen 0 dropped 0\n\
             flow f enclosed 1 exited 0 direct 0\n",
-        line: "done",
-    },
-    // Two traces, of which the second node knows one.
-    FlowRow {
-        domain: &[
-            NODES_OF_TWO,
-            TAPPED,
-            PORTS,
-            TUNNEL_ROUTES,
-            FLOW,
-            TRACE_OF_3,
-            "[[extra]]\nflow = \"f\"\nnamespace = 8\ntrace = 0x800000\ncapacity = 2\n",
-        ],
-        readings: "",
-        west: &[HEAD, AT_ONE, UDP],
-        west2: &[],
-        files: &[
-            File {
-                name: "east-out.pcap",
-                parts: &[&[HEAD, OUT_ONE, LEFT]],
-            },
-            File {
-                name: "ab.pcap",
-                parts: &[&[
-                    HEAD,
-                    "00000001 00000000 00000088 00000088 60000000 0060 00 40",
-                    ENDS,
-                    "29 05 01 00 31 16 00 00 0007 0802 800000 00 00000000 00000000 40000001 31 12 00 00 0008 0801 800000 00 00000000 40000001",
-                    INNER,
-                ]],
-            },
-            File {
-                name: "bc.pcap",
-                parts: &[&[
-                    HEAD,
-                    "00000001 000003e8 00000088 00000088 60000000 0060 00 3f",
-                    ENDS,
-                    "29 05 01 00 31 16 00 00 0007 0801 800000 00 00000000 3f000002 40000001 31 12 00 00 0008 0801 800000 00 00000000 40000001",
-                    INNER,
-                ]],
-            },
-        ],
-        report: "1 west left east flow f 0\n  trace 7 800000 whole 3\n    hop=64 node=1\n    hop=63 node=2\n    hop=62 node=3\n\
-            \x20 trace 8 800000 whole 2\n    hop=64 node=1\n    hop=62 node=3\n\
-            packets 1 left 1 dropped 0\n\
-            node a seen 1 dropped 0\nnode b seen 1 dropped 0\nnode c seen 1 dropped 0\n\
-            flow f enclosed 1 exited 1 direct 0\n",
         line: "done",
     },
 ];

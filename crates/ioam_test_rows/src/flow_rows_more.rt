@@ -1,8 +1,8 @@
 //! Runs of domains with flows and of several packets, as rows.
 use crate::digits::{AT_ONE, HEAD, UDP};
 use crate::flow_parts::{
-    AB_ONE, AB_TWO, AT_THREE, AT_TWO, BC_ONE, BC_TWO, ENDS, FLOW, INNER, LEFT, ON_AB, ON_BC,
-    OUT_ONE, OUT_TWO, PORTS_AT_WEST, TAPPED, TRACE_OF_3, TUNNEL_ROUTES,
+    AB_ONE, AB_TWO, AT_THREE, AT_TWO, BC_ONE, BC_TWO, ENDS, FLOW, INNER, LEFT, NODES_OF_TWO, ON_AB,
+    ON_BC, OUT_ONE, OUT_TWO, PORTS_AT_WEST, TAPPED, TRACE_OF_3, TUNNEL_ROUTES,
 };
 use crate::flow_rows::{File, FlowRow, TRACED};
 use crate::run_rows::{NODES, PORTS};
@@ -90,8 +90,55 @@ pub const SEVENTH: FlowRow = FlowRow {
     line: "done",
 };
 
-pub const MORE: [FlowRow; 7] = [
+pub const MORE: [FlowRow; 8] = [
     SEVENTH,
+    // Two traces, of which the second node knows one.
+    FlowRow {
+        domain: &[
+            NODES_OF_TWO,
+            TAPPED,
+            PORTS,
+            TUNNEL_ROUTES,
+            FLOW,
+            TRACE_OF_3,
+            "[[extra]]\nflow = \"f\"\nnamespace = 8\ntrace = 0x800000\ncapacity = 2\n",
+        ],
+        readings: "",
+        west: &[HEAD, AT_ONE, UDP],
+        west2: &[],
+        files: &[
+            File {
+                name: "east-out.pcap",
+                parts: &[&[HEAD, OUT_ONE, LEFT]],
+            },
+            File {
+                name: "ab.pcap",
+                parts: &[&[
+                    HEAD,
+                    "00000001 00000000 00000088 00000088 60000000 0060 00 40",
+                    ENDS,
+                    "29 05 01 00 31 16 00 00 0007 0802 800000 00 00000000 00000000 40000001 31 12 00 00 0008 0801 800000 00 00000000 40000001",
+                    INNER,
+                ]],
+            },
+            File {
+                name: "bc.pcap",
+                parts: &[&[
+                    HEAD,
+                    "00000001 000003e8 00000088 00000088 60000000 0060 00 3f",
+                    ENDS,
+                    "29 05 01 00 31 16 00 00 0007 0801 800000 00 00000000 3f000002 40000001 31 12 00 00 0008 0801 800000 00 00000000 40000001",
+                    INNER,
+                ]],
+            },
+        ],
+        report: "1 west left east flow f 0\n  trace 7 800000 whole 3\n    hop=64 node=1\n    hop=63 node=2\n    hop=62 node=3\n\
+            \x20 trace 8 800000 whole 2\n    hop=64 node=1\n    hop=62 node=3\n\
+            packets 1 left 1 dropped 0\n\
+            node a seen 1 dropped 0\nnode b seen 1 dropped 0\nnode c seen 1 dropped 0\n\
+            flow f enclosed 1 exited 1 direct 0\n",
+        line: "done",
+    },
     // The first node's readings.
     FlowRow {
         domain: &[
