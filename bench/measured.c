@@ -144,7 +144,7 @@ static int admit(const u8 *p, u32 captured, u32 original, int *limit) {
     if (reason) return reason;
     return be64(p + 24) == NET && be64(p + 32) - 0xa < NODES ? LOCAL : FINE;
 }
-enum { HOP = 16 + 4 + 4 * CAPACITY };
+enum { HOP = 16 + 4 * CAPACITY };
 static u32 up8(u32 count) { return (count + 7) & ~7u; }
 static u32 enclosed_so_far;
 static void plan(u64 time, int reason, const u8 *p, int limit) {
