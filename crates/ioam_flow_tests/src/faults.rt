@@ -2,7 +2,7 @@
 use crate::desks::{desk_for, differing, run_line};
 use ioam_base::memory::NoMemory;
 use ioam_desk::MemoryDesk;
-use ioam_test_rows::digits::{is_front, joined, octets};
+use ioam_test_rows::digits::{is_front, joined, octets, text};
 use ioam_test_rows::flow_rows::{File, FlowRow, empty_row, first_row};
 use std::alloc::Global;
 use std::process::Abort;
@@ -10,8 +10,9 @@ use std::thread::Threads;
 
 // Whether the outputs are those of a row.
 fn are_of(alloc: Global, desk: &MemoryDesk, row: &FlowRow) -> Result<bool, NoMemory> {
+    let report = text(alloc, row.report)?;
     let other = differing(alloc, desk, row.files)?;
-    Ok(other.is_none() && desk.file("report.txt") == Some(row.report.as_bytes()))
+    Ok(other.is_none() && desk.file("report.txt") == Some(report.as_slice()))
 }
 
 // Whether a file holds a front of what it should.
@@ -27,7 +28,8 @@ fn are_begun(alloc: Global, desk: &MemoryDesk, row: &FlowRow) -> Result<bool, No
             return Ok(false);
         }
     }
-    Ok(is_front(desk.file("report.txt"), row.report.as_bytes()))
+    let report = text(alloc, row.report)?;
+    Ok(is_front(desk.file("report.txt"), &report))
 }
 
 // Whether the outputs may be so behind this line; whether all was done.

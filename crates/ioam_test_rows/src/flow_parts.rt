@@ -135,3 +135,7 @@ pub const ON_BC: &[&str] = &[
     "29 03 01 00 31 16 00 00 0007 0801 800000 00 00000000 3f000002 40000001 01 02 00 00",
     INNER,
 ];
+
+/// The lines of a trace of all three nodes.
+pub const PATH: &str =
+    "  trace 7 800000 whole 3\n    hop=64 node=1\n    hop=63 node=2\n    hop=62 node=3\n";

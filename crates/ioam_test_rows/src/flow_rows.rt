@@ -2,9 +2,8 @@
 use crate::digits::{AT_ONE, HEAD, UDP};
 use crate::flow_parts::{
     AB_ONE, BACK_ROUTES, BC_ONE, ENDS, FLOW, INNER, LEFT, NODES_WITHOUT, ON_AB, ON_BC, OUT_ONE,
-    OUT_ROUTES, PORTS_AND_MIDDLE, TAPPED, TAPPED_LOOP, TRACE_OF_3, TUNNEL_ROUTES,
+    OUT_ROUTES, PATH, PORTS_AND_MIDDLE, TAPPED, TAPPED_LOOP, TRACE_OF_3, TUNNEL_ROUTES,
 };
-use crate::flow_rows_more::MORE;
 use crate::run_rows::{NODES, PORTS};
 
 /// A file, by the digits of its octets in parts.
@@ -22,7 +21,8 @@ pub struct FlowRow {
     pub west: &'static [&'static str],
     pub west2: &'static [&'static str],
     pub files: &'static [File],
-    pub report: &'static str,
+    /// The text of its report, in parts.
+    pub report: &'static [&'static str],
     pub line: &'static str,
 }
 
@@ -56,10 +56,12 @@ const FIRST: FlowRow = FlowRow {
             parts: &[],
         },
     ],
-    report: "1 west left east flow f 0\n  trace 7 800000 whole 3\n    hop=64 node=1\n    hop=63 node=2\n    hop=62 node=3\n\
-        packets 1 left 1 dropped 0\n\
-        node a seen 1 dropped 0\nnode b seen 1 dropped 0\nnode c seen 1 dropped 0\n\
-        flow f enclosed 1 exited 1 direct 0\n",
+    report: &[
+        "1 west left east flow f 0\n",
+        PATH,
+        "packets 1 left 1 dropped 0\nnode a seen 1 dropped 0\nnode b seen 1 dropped 0\nnode c seen 1 dropped 0\n",
+        "flow f enclosed 1 exited 1 direct 0\n",
+    ],
     line: "done",
 };
 
@@ -90,13 +92,14 @@ const EMPTY: FlowRow = FlowRow {
             parts: &[],
         },
     ],
-    report: "packets 0 left 0 dropped 0\n\
-        node a seen 0 dropped 0\nnode b seen 0 dropped 0\nnode c seen 0 dropped 0\n\
-        flow f enclosed 0 exited 0 direct 0\n",
+    report: &[
+        "packets 0 left 0 dropped 0\nnode a seen 0 dropped 0\nnode b seen 0 dropped 0\nnode c seen 0 dropped 0\n",
+        "flow f enclosed 0 exited 0 direct 0\n",
+    ],
     line: "done",
 };
 
-const ROWS: [FlowRow; 8] = [
+const FULL: [FlowRow; 2] = [
     FIRST,
     // A trace of two words, which the third node finds full.
     FlowRow {
@@ -137,12 +140,16 @@ const ROWS: [FlowRow; 8] = [
                 ]],
             },
         ],
-        report: "1 west left east flow f 0\n  trace 7 800000 overflow 2\n    hop=64 node=1\n    hop=63 node=2\n\
-            packets 1 left 1 dropped 0\n\
-            node a seen 1 dropped 0\nnode b seen 1 dropped 0\nnode c seen 1 dropped 0\n\
-            flow f enclosed 1 exited 1 direct 0\n",
+        report: &[
+            "1 west left east flow f 0\n  trace 7 800000 overflow 2\n    hop=64 node=1\n    hop=63 node=2\n",
+            "packets 1 left 1 dropped 0\nnode a seen 1 dropped 0\nnode b seen 1 dropped 0\nnode c seen 1 dropped 0\n",
+            "flow f enclosed 1 exited 1 direct 0\n",
+        ],
         line: "done",
     },
+];
+
+const DATA: [FlowRow; 2] = [
     // Snapshots of two words, of eight and of none: the second doesn't fit, and the third adds no smaller one.
     FlowRow {
         domain: &[
@@ -181,10 +188,11 @@ const ROWS: [FlowRow; 8] = [
                 ]],
             },
         ],
-        report: "1 west left east flow f 0\n  trace 7 800002 overflow 1\n    hop=64 node=1 schema=000005 opaque=0011223344556677\n\
-            packets 1 left 1 dropped 0\n\
-            node a seen 1 dropped 0\nnode b seen 1 dropped 0\nnode c seen 1 dropped 0\n\
-            flow f enclosed 1 exited 1 direct 0\n",
+        report: &[
+            "1 west left east flow f 0\n  trace 7 800002 overflow 1\n",
+            "    hop=64 node=1 schema=000005 opaque=0011223344556677\npackets 1 left 1 dropped 0\nnode a seen 1 dropped 0\n",
+            "node b seen 1 dropped 0\nnode c seen 1 dropped 0\nflow f enclosed 1 exited 1 direct 0\n",
+        ],
         line: "done",
     },
     // A node that doesn't know the namespace.
@@ -217,14 +225,16 @@ const ROWS: [FlowRow; 8] = [
                 ]],
             },
         ],
-        report: "1 west left east flow f 0\n  trace 7 800000 whole 2\n    hop=64 node=1\n    hop=62 node=3\n\
-            packets 1 left 1 dropped 0\n\
-            node a seen 1 dropped 0\nnode b seen 1 dropped 0\nnode c seen 1 dropped 0\n\
-            flow f enclosed 1 exited 1 direct 0\n",
+        report: &[
+            "1 west left east flow f 0\n  trace 7 800000 whole 2\n    hop=64 node=1\n    hop=62 node=3\n",
+            "packets 1 left 1 dropped 0\nnode a seen 1 dropped 0\nnode b seen 1 dropped 0\nnode c seen 1 dropped 0\n",
+            "flow f enclosed 1 exited 1 direct 0\n",
+        ],
         line: "done",
     },
-    // No packet.
-    EMPTY,
+];
+
+const STOPS: [FlowRow; 2] = [
     // A hop limit of 2, which the exit can't lower any more, and of 3.
     FlowRow {
         domain: TRACED,
@@ -245,13 +255,54 @@ const ROWS: [FlowRow; 8] = [
                 "6000000000081101 20010db8000100000000000000000001 20010db8000200000000000000000001 0400040100080000",
             ]],
         }],
-        report: "1 west drop hop-limit c flow f 0\n  trace 7 800000 whole 3\n    hop=64 node=1\n    hop=63 node=2\n    hop=62 node=3\n\
-            2 west left east flow f 1\n  trace 7 800000 whole 3\n    hop=64 node=1\n    hop=63 node=2\n    hop=62 node=3\n\
-            packets 2 left 1 dropped 1\n\
-            node a seen 2 dropped 0\nnode b seen 2 dropped 0\nnode c seen 2 dropped 1\n\
-            flow f enclosed 2 exited 2 direct 0\n",
+        report: &[
+            "1 west drop hop-limit c flow f 0\n",
+            PATH,
+            "2 west left east flow f 1\n",
+            PATH,
+            "packets 2 left 1 dropped 1\nnode a seen 2 dropped 0\nnode b seen 2 dropped 0\nnode c seen 2 dropped 1\n",
+            "flow f enclosed 2 exited 2 direct 0\n",
+        ],
         line: "done",
     },
+    // A port on the way of the tunnel.
+    FlowRow {
+        domain: &[
+            NODES,
+            TAPPED,
+            PORTS_AND_MIDDLE,
+            OUT_ROUTES,
+            FLOW,
+            TRACE_OF_3,
+        ],
+        readings: "",
+        west: &[HEAD, AT_ONE, UDP],
+        west2: &[],
+        files: &[
+            File {
+                name: "middle-out.pcap",
+                parts: &[&[HEAD]],
+            },
+            File {
+                name: "ab.pcap",
+                parts: &[&[HEAD, AB_ONE], ON_AB],
+            },
+            File {
+                name: "bc.pcap",
+                parts: &[&[HEAD]],
+            },
+        ],
+        report: &[
+            "1 west drop ioam-out b flow f 0\npackets 1 left 0 dropped 1\nnode a seen 1 dropped 0\n",
+            "node b seen 1 dropped 1\nnode c seen 0 dropped 0\nflow f enclosed 1 exited 0 direct 0\n",
+        ],
+        line: "done",
+    },
+];
+
+const LOOPS: [FlowRow; 2] = [
+    // No packet.
+    EMPTY,
     // A loop, and direct export in each packet.
     FlowRow {
         domain: &[
@@ -309,53 +360,32 @@ const ROWS: [FlowRow; 8] = [
                 ]],
             },
         ],
-        report: "1 west drop hop-limit b flow f 0 direct 0\npackets 1 left 0 dropped 1\n\
-            node a seen 3 dropped 0\nnode b seen 3 dropped 1\nnode c seen 0 dropped 0\n\
-            flow f enclosed 1 exited 0 direct 1\n",
-        line: "done",
-    },
-    // A port on the way of the tunnel.
-    FlowRow {
-        domain: &[
-            NODES,
-            TAPPED,
-            PORTS_AND_MIDDLE,
-            OUT_ROUTES,
-            FLOW,
-            TRACE_OF_3,
+        report: &[
+            "1 west drop hop-limit b flow f 0 direct 0\npackets 1 left 0 dropped 1\nnode a seen 3 dropped 0\n",
+            "node b seen 3 dropped 1\nnode c seen 0 dropped 0\nflow f enclosed 1 exited 0 direct 1\n",
         ],
-        readings: "",
-        west: &[HEAD, AT_ONE, UDP],
-        west2: &[],
-        files: &[
-            File {
-                name: "middle-out.pcap",
-                parts: &[&[HEAD]],
-            },
-            File {
-                name: "ab.pcap",
-                parts: &[&[HEAD, AB_ONE], ON_AB],
-            },
-            File {
-                name: "bc.pcap",
-                parts: &[&[HEAD]],
-            },
-        ],
-        report: "1 west drop ioam-out b flow f 0\npackets 1 left 0 dropped 1\n\
-            node a seen 1 dropped 0\nnode b seen 1 dropped 1\nnode c seen 0 dropped 0\n\
-            flow f enclosed 1 exited 0 direct 0\n",
         line: "done",
     },
 ];
 
-/// These runs.
-pub fn flow_rows() -> &'static [FlowRow] {
-    &ROWS
+/// A trace that is whole, and one that is full.
+pub fn traced() -> &'static [FlowRow] {
+    &FULL
 }
 
-/// Further ones: several packets, several captures, faulty ones.
-pub fn more_rows() -> &'static [FlowRow] {
-    &MORE
+/// Nodes with data, and a node that doesn't know the namespace.
+pub fn aware() -> &'static [FlowRow] {
+    &DATA
+}
+
+/// Packets that are dropped at the exit, and on the way.
+pub fn stopped() -> &'static [FlowRow] {
+    &STOPS
+}
+
+/// No packet, and a loop of the tunnel.
+pub fn looped() -> &'static [FlowRow] {
+    &LOOPS
 }
 
 /// The run of no packet through this domain.

@@ -2,7 +2,7 @@
 use crate::digits::{AT_ONE, HEAD, UDP};
 use crate::flow_parts::{
     AB_ONE, AB_TWO, AT_THREE, AT_TWO, BC_ONE, BC_TWO, ENDS, FLOW, INNER, LEFT, NODES_OF_TWO, ON_AB,
-    ON_BC, OUT_ONE, OUT_TWO, PORTS_AT_WEST, TAPPED, TRACE_OF_3, TUNNEL_ROUTES,
+    ON_BC, OUT_ONE, OUT_TWO, PATH, PORTS_AT_WEST, TAPPED, TRACE_OF_3, TUNNEL_ROUTES,
 };
 use crate::flow_rows::{File, FlowRow, TRACED};
 use crate::run_rows::{NODES, PORTS};
@@ -27,12 +27,14 @@ const FILES_OF_TWO: &[File] = &[
     },
 ];
 
-const REPORT_OF_TWO: &str =
-    "1 west left east flow f 0\n  trace 7 800000 whole 3\n    hop=64 node=1\n    hop=63 node=2\n    hop=62 node=3\n\
-    2 west left east flow f 1\n  trace 7 800000 whole 3\n    hop=64 node=1\n    hop=63 node=2\n    hop=62 node=3\n\
-    packets 2 left 2 dropped 0\n\
-    node a seen 2 dropped 0\nnode b seen 2 dropped 0\nnode c seen 2 dropped 0\n\
-    flow f enclosed 2 exited 2 direct 0\n";
+const REPORT_OF_TWO: &[&str] = &[
+    "1 west left east flow f 0\n",
+    PATH,
+    "2 west left east flow f 1\n",
+    PATH,
+    "packets 2 left 2 dropped 0\nnode a seen 2 dropped 0\nnode b seen 2 dropped 0\nnode c seen 2 dropped 0\n",
+    "flow f enclosed 2 exited 2 direct 0\n",
+];
 
 // The outer packet with an edge-to-edge sequence number behind its trace.
 const EDGED: &[&str] = &[
@@ -77,21 +79,28 @@ pub const SEVENTH: FlowRow = FlowRow {
             "02 c0 0022 0007 00 800000 000000003b9ad1d0 00000020 00000009 00000002 3e000003",
         ]],
     }],
-    report: "1 west left east flow f 0 direct 0\n  trace 7 800000 whole 3\n    hop=64 node=1\n    hop=63 node=2\n    hop=62 node=3\n\
-        2 west left east flow f 1\n  trace 7 800000 whole 3\n    hop=64 node=1\n    hop=63 node=2\n    hop=62 node=3\n\
-        3 west left east flow f 2\n  trace 7 800000 whole 3\n    hop=64 node=1\n    hop=63 node=2\n    hop=62 node=3\n\
-        4 west left east flow f 3 direct 1\n  trace 7 800000 whole 3\n    hop=64 node=1\n    hop=63 node=2\n    hop=62 node=3\n\
-        5 west left east flow f 4\n  trace 7 800000 whole 3\n    hop=64 node=1\n    hop=63 node=2\n    hop=62 node=3\n\
-        6 west left east flow f 5\n  trace 7 800000 whole 3\n    hop=64 node=1\n    hop=63 node=2\n    hop=62 node=3\n\
-        7 west left east flow f 6 direct 2\n  trace 7 800000 whole 3\n    hop=64 node=1\n    hop=63 node=2\n    hop=62 node=3\n\
-        packets 7 left 7 dropped 0\n\
-        node a seen 7 dropped 0\nnode b seen 7 dropped 0\nnode c seen 7 dropped 0\n\
-        flow f enclosed 7 exited 7 direct 3\n",
+    report: &[
+        "1 west left east flow f 0 direct 0\n",
+        PATH,
+        "2 west left east flow f 1\n",
+        PATH,
+        "3 west left east flow f 2\n",
+        PATH,
+        "4 west left east flow f 3 direct 1\n",
+        PATH,
+        "5 west left east flow f 4\n",
+        PATH,
+        "6 west left east flow f 5\n",
+        PATH,
+        "7 west left east flow f 6 direct 2\n",
+        PATH,
+        "packets 7 left 7 dropped 0\nnode a seen 7 dropped 0\nnode b seen 7 dropped 0\nnode c seen 7 dropped 0\n",
+        "flow f enclosed 7 exited 7 direct 3\n",
+    ],
     line: "done",
 };
 
-pub const MORE: [FlowRow; 8] = [
-    SEVENTH,
+const TWO: [FlowRow; 1] = [
     // Two traces, of which the second node knows one.
     FlowRow {
         domain: &[
@@ -132,13 +141,18 @@ pub const MORE: [FlowRow; 8] = [
                 ]],
             },
         ],
-        report: "1 west left east flow f 0\n  trace 7 800000 whole 3\n    hop=64 node=1\n    hop=63 node=2\n    hop=62 node=3\n\
-            \x20 trace 8 800000 whole 2\n    hop=64 node=1\n    hop=62 node=3\n\
-            packets 1 left 1 dropped 0\n\
-            node a seen 1 dropped 0\nnode b seen 1 dropped 0\nnode c seen 1 dropped 0\n\
-            flow f enclosed 1 exited 1 direct 0\n",
+        report: &[
+            "1 west left east flow f 0\n",
+            PATH,
+            "  trace 8 800000 whole 2\n    hop=64 node=1\n    hop=62 node=3\npackets 1 left 1 dropped 0\n",
+            "node a seen 1 dropped 0\nnode b seen 1 dropped 0\nnode c seen 1 dropped 0\n",
+            "flow f enclosed 1 exited 1 direct 0\n",
+        ],
         line: "done",
     },
+];
+
+const READ: [FlowRow; 1] = [
     // The first node's readings.
     FlowRow {
         domain: &[
@@ -176,14 +190,17 @@ pub const MORE: [FlowRow; 8] = [
                 ]],
             },
         ],
-        report: "1 west left east flow f 0\n  trace 7 3a1000 whole 3\n\
-            \x20   sec=1 frac=0 delay=2147483648 queue=3 buffer=4\n\
-            \x20   sec=- frac=- delay=- queue=- buffer=-\n    sec=- frac=- delay=- queue=- buffer=-\n\
-            packets 1 left 1 dropped 0\n\
-            node a seen 1 dropped 0\nnode b seen 1 dropped 0\nnode c seen 1 dropped 0\n\
-            flow f enclosed 1 exited 1 direct 0\n",
+        report: &[
+            "1 west left east flow f 0\n  trace 7 3a1000 whole 3\n    sec=1 frac=0 delay=2147483648 queue=3 buffer=4\n",
+            "    sec=- frac=- delay=- queue=- buffer=-\n    sec=- frac=- delay=- queue=- buffer=-\n",
+            "packets 1 left 1 dropped 0\nnode a seen 1 dropped 0\nnode b seen 1 dropped 0\nnode c seen 1 dropped 0\n",
+            "flow f enclosed 1 exited 1 direct 0\n",
+        ],
         line: "done",
     },
+];
+
+const LIMITS: [FlowRow; 1] = [
     // A packet with an encapsulation limit of 0, and of 1.
     FlowRow {
         domain: TRACED,
@@ -208,13 +225,19 @@ pub const MORE: [FlowRow; 8] = [
                 "1100040101010100 0400040100080000",
             ]],
         }],
-        report: "1 west drop encap-limit a\n2 west left east flow f 0\n\
-            \x20 trace 7 800000 whole 3\n    hop=64 node=1\n    hop=63 node=2\n    hop=62 node=3\n\
-            packets 2 left 1 dropped 1\n\
-            node a seen 2 dropped 1\nnode b seen 1 dropped 0\nnode c seen 1 dropped 0\n\
-            flow f enclosed 1 exited 1 direct 0\n",
+        report: &[
+            "1 west drop encap-limit a\n2 west left east flow f 0\n",
+            PATH,
+            "packets 2 left 1 dropped 1\nnode a seen 2 dropped 1\nnode b seen 1 dropped 0\nnode c seen 1 dropped 0\n",
+            "flow f enclosed 1 exited 1 direct 0\n",
+        ],
         line: "done",
     },
+];
+
+const SEVEN_ROWS: [FlowRow; 1] = [SEVENTH];
+
+const EDGES: [FlowRow; 1] = [
     // A packet that is too large for its tunnel draws no number; each `z` is 16 octets of zero.
     FlowRow {
         domain: &[
@@ -255,14 +278,19 @@ pub const MORE: [FlowRow; 8] = [
                 ],
             },
         ],
-        report: "1 west left east flow f 0\n  trace 7 800000 whole 3\n    hop=64 node=1\n    hop=63 node=2\n    hop=62 node=3\n\
-            2 west2 drop too-big a\n\
-            3 west left east flow f 1\n  trace 7 800000 whole 3\n    hop=64 node=1\n    hop=63 node=2\n    hop=62 node=3\n\
-            packets 3 left 2 dropped 1\n\
-            node a seen 3 dropped 1\nnode b seen 2 dropped 0\nnode c seen 2 dropped 0\n\
-            flow f enclosed 2 exited 2 direct 0 next 2 gaps 0 missed 0 late 0 repeats 0\n",
+        report: &[
+            "1 west left east flow f 0\n",
+            PATH,
+            "2 west2 drop too-big a\n3 west left east flow f 1\n",
+            PATH,
+            "packets 3 left 2 dropped 1\nnode a seen 3 dropped 1\nnode b seen 2 dropped 0\nnode c seen 2 dropped 0\n",
+            "flow f enclosed 2 exited 2 direct 0 next 2 gaps 0 missed 0 late 0 repeats 0\n",
+        ],
         line: "done",
     },
+];
+
+const ENDINGS: [FlowRow; 2] = [
     // The file ends in the third record.
     FlowRow {
         domain: TRACED,
@@ -291,6 +319,9 @@ pub const MORE: [FlowRow; 8] = [
         report: REPORT_OF_TWO,
         line: "packets 2",
     },
+];
+
+const FRAMES: [FlowRow; 1] = [
     // Ethernet frames: one with octets behind its packet, and one of another protocol.
     FlowRow {
         domain: TRACED,
@@ -314,10 +345,47 @@ pub const MORE: [FlowRow; 8] = [
                 parts: &[&[HEAD, AB_ONE], ON_AB],
             },
         ],
-        report: "1 west left east flow f 0\n  trace 7 800000 whole 3\n    hop=64 node=1\n    hop=63 node=2\n    hop=62 node=3\n\
-            2 west drop not-ipv6 a\npackets 2 left 1 dropped 1\n\
-            node a seen 2 dropped 1\nnode b seen 1 dropped 0\nnode c seen 1 dropped 0\n\
-            flow f enclosed 1 exited 1 direct 0\n",
+        report: &[
+            "1 west left east flow f 0\n",
+            PATH,
+            "2 west drop not-ipv6 a\npackets 2 left 1 dropped 1\nnode a seen 2 dropped 1\nnode b seen 1 dropped 0\n",
+            "node c seen 1 dropped 0\nflow f enclosed 1 exited 1 direct 0\n",
+        ],
         line: "done",
     },
 ];
+
+/// Two traces.
+pub fn twice() -> &'static [FlowRow] {
+    &TWO
+}
+
+/// Readings.
+pub fn read() -> &'static [FlowRow] {
+    &READ
+}
+
+/// Encapsulation limits.
+pub fn limited() -> &'static [FlowRow] {
+    &LIMITS
+}
+
+/// Direct export.
+pub fn exporting() -> &'static [FlowRow] {
+    &SEVEN_ROWS
+}
+
+/// Edge-to-edge data.
+pub fn edged() -> &'static [FlowRow] {
+    &EDGES
+}
+
+/// A capture that ends in a record, and more packets than may be.
+pub fn endings() -> &'static [FlowRow] {
+    &ENDINGS
+}
+
+/// Ethernet frames.
+pub fn framed() -> &'static [FlowRow] {
+    &FRAMES
+}
