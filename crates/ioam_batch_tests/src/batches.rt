@@ -1,13 +1,13 @@
 ghost use Rattle.std.specs.Prelude.{All};
 ghost use Rattle.ioam_batch.specs.Jobs.{IsFresh};
 
-use crate::gates::{ShutGate, make_meeting};
 use crate::making::make_job;
 use crate::rows::{Row, after, before, domain};
 use ioam_base::memory::NoMemory;
 use ioam_batch::{Batch, Gate, Job, OpenGate, run_batch};
 use ioam_clock::{Readings, read_readings};
 use ioam_domain_file::read_domain;
+use ioam_test_gates::{ShutGate, make_meeting};
 use ioam_test_rows::digits::{UDP, octets};
 use ioam_topo::Domain;
 use std::alloc::Global;

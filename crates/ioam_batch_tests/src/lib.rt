@@ -5,8 +5,6 @@
 #[cfg(test)]
 mod batches;
 #[cfg(test)]
-mod gates;
-#[cfg(test)]
 mod making;
 #[cfg(test)]
 mod rows;

@@ -30,6 +30,15 @@ pub fn octets(alloc: Global, parts: &[&str]) -> Result<Vec<u8>, NoMemory> {
     hex::decode(alloc, &digits).map_err(|_| NoMemory)
 }
 
+/// The octets of parts, one behind the other.
+pub fn joined(alloc: Global, parts: &[&[&str]]) -> Result<Vec<u8>, NoMemory> {
+    let mut out = Vec::new(alloc);
+    for part in parts {
+        out.extend_from_slice(&octets(alloc, part)?)?;
+    }
+    Ok(out)
+}
+
 /// The octets of texts, one behind the other.
 pub fn text(alloc: Global, parts: &[&str]) -> Result<Vec<u8>, NoMemory> {
     let mut text = Vec::new(alloc);

@@ -7,5 +7,8 @@
 
 pub mod capture_rows;
 pub mod digits;
+pub mod flow_parts;
+pub mod flow_rows;
+pub mod flow_rows_more;
 pub mod run_rows;
 pub mod show_rows;

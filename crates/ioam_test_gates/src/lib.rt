@@ -1,4 +1,7 @@
-//! Gates of the tests.
+//! Gates for the tests of workers: one at which two chunks wait for one another, and one that is shut.
+//! It has no part in the program.
+#![tactic(auto)]
+
 ghost use Rattle.std.specs.Prelude.{true, false};
 
 use ioam_batch::Gate;
@@ -9,12 +12,12 @@ const LOOKS: u32 = 100_000_000;
 
 /// A gate at which two chunks wait for one another, and which then opens.
 #[derive(Drop)]
-pub(crate) struct Meeting {
+pub struct Meeting {
     came: [AtomicBool; 2],
     met: [AtomicBool; 2],
 }
 
-pub(crate) fn make_meeting() -> Meeting {
+pub fn make_meeting() -> Meeting {
     Meeting {
         came: [AtomicBool::new(false), AtomicBool::new(false)],
         met: [AtomicBool::new(false), AtomicBool::new(false)],
@@ -39,13 +42,13 @@ impl Gate for Meeting {
 
 impl Meeting {
     /// Whether each chunk saw the other.
-    pub(crate) fn has_met(&self) -> bool {
+    pub fn has_met(&self) -> bool {
         self.met[0].load(Ordering::SeqCst) && self.met[1].load(Ordering::SeqCst)
     }
 }
 
 /// A gate that never opens.
-pub(crate) struct ShutGate;
+pub struct ShutGate;
 
 impl Gate for ShutGate {
     ghost opens = { false };
