@@ -1,6 +1,8 @@
 -- What the top call promises of each command, in the words of the command's own crate. `tells` says
 -- that the desk tells what its files hold, and `opens` that the gate of the workers always opens.
-use Rattle.std.specs.Prelude.{◌≡◌, ℕ, ◌+◌, ◌<◌, ◌⊎◌, ⊤, Bool, IsTrue, IsSomeAnd, List, [], ◌∷◌, ◌++◌}
+use Rattle.std.specs.Prelude.{◌≡◌, ◌≢◌, ℕ, ◌+◌, ◌<◌, ◌⊎◌, ⊤, Bool, IsTrue, IsSomeAnd, List, [], ◌∷◌, ◌++◌}
+use Rattle.ioam_collecting.specs.Run as collect
+use Rattle.ioam_collecting.specs.Run.{exports_file, report_file}
 use Rattle.ioam_desk.specs.Asked.{AsksFront}
 use Rattle.ioam_desk.specs.Desk.{Reading, Writing, holds}
 use Rattle.ioam_domain.specs.Run as domain
@@ -19,13 +21,14 @@ use Rattle.ioam_answer.specs.declared.outcome.Outcome.TheVariants as outcome
 use Rattle.ioam_entries.specs.declared.fault.DomainFault.{DomainFault}
 use Rattle.ioam_transit.specs.Run as node
 use Rattle.ioam_cmd.specs.declared.command.Command.{Command}
-use Rattle.ioam_cmd.specs.declared.command.Command.TheVariants.{Filter, Paths, Show, Node, Run}
+use Rattle.ioam_cmd.specs.declared.command.Command.TheVariants.{Filter, Paths, Show, Collect, Node, Run}
 
 -- which answer the words and the files ask for, where nothing fails
 abbrev pub Asked : Bool → List (List ℕ) → Writing → Command → Outcome → Type 0
 Asked tells words desk Filter answer = capture.Asked tells desk (file_names words) (input_name words) answer
 Asked tells words desk Paths answer = capture.Asked tells desk (file_names words) (input_name words) answer
 Asked tells words desk Show answer = capture.Asked tells desk (file_names words) (input_name words) answer
+Asked tells words desk Collect answer = collect.Asked tells (holds desk (exports_file words)) (exports_file words) (report_file words) answer
 Asked tells words desk Node answer = node.Asked words desk answer
 Asked tells words desk (Run workers) answer = domain.Asked desk words answer
 
@@ -35,6 +38,7 @@ module _ (opens tells : Bool) (words : List (List ℕ)) (old_in new_in : Reading
   HasCause Filter answer = capture.HasCause tells (file_names words) (input_name words) old_in old new_in new answer
   HasCause Paths answer = capture.HasCause tells (file_names words) (input_name words) old_in old new_in new answer
   HasCause Show answer = capture.HasCause tells (file_names words) (input_name words) old_in old new_in new answer
+  HasCause Collect answer = collect.HasCause tells (holds old (exports_file words)) (exports_file words) (report_file words) old_in new_in old new answer
   HasCause Node answer = node.HaveDiffered words answer × (IsTrue tells → node.HasCause words old_in new_in old new answer)
   HasCause (Run workers) answer = domain.HaveDiffered words answer × (IsTrue tells → domain.HasCause words old_in new_in old new answer)
 
@@ -43,17 +47,21 @@ module _ (opens tells : Bool) (words : List (List ℕ)) (old_in new_in : Reading
   Leaves Filter answer = capture.Leaves capture.most_packets FilterTexts (output_names words) (input_name words) old_in new_in old new answer
   Leaves Paths answer = capture.Leaves capture.most_packets PathsTexts (output_names words) (input_name words) old_in new_in old new answer
   Leaves Show answer = capture.Leaves capture.most_packets ShowTexts (output_names words) (input_name words) old_in new_in old new answer
+  Leaves Collect answer = collect.Leaves (holds old (exports_file words)) (report_file words) old_in new_in old new answer
   Leaves Node answer = node.Leaves words old_in new_in old new answer
   Leaves (Run workers) answer = domain.Leaves opens words old_in new_in old new answer
 
   -- the names that the words give to the opening calls: IN, unless two of them are equal, and a front
   -- of the outputs; IN and all of them where the answer comes once they were written
+  abbrev pub AsksFiles : Type 0 → List ℕ → List (List ℕ) → Outcome → Type 0
+  AsksFiles differ input outputs answer = ((new_in ≡ old_in) ⊎ differ)
+      × AsksFront old_in.side.asked new_in.side.asked (input ∷ [])
+      × AsksFront old.side.asked new.side.asked outputs
+      × (IsBehindAll ⊥ answer → (new_in.side.asked ≡ old_in.side.asked ++ input ∷ [])
+      × (new.side.asked ≡ old.side.asked ++ outputs))
+
   abbrev pub AsksNamed : Outcome → Type 0
-  AsksNamed answer = ((new_in ≡ old_in) ⊎ AreApart (file_names words))
-      × AsksFront old_in.side.asked new_in.side.asked (input_name words ∷ [])
-      × AsksFront old.side.asked new.side.asked (output_names words)
-      × (IsBehindAll ⊥ answer → (new_in.side.asked ≡ old_in.side.asked ++ input_name words ∷ [])
-      × (new.side.asked ≡ old.side.asked ++ output_names words))
+  AsksNamed answer = AsksFiles (AreApart (file_names words)) (input_name words) (output_names words) answer
 
   -- the names that were given to the opening calls, told or not; those of `run` out of a domain file
   -- are of one domain, which the file holds where the desk tells, and no output was opened before all
@@ -62,6 +70,7 @@ module _ (opens tells : Bool) (words : List (List ℕ)) (old_in new_in : Reading
   Asks Filter answer = AsksNamed answer
   Asks Paths answer = AsksNamed answer
   Asks Show answer = AsksNamed answer
+  Asks Collect answer = AsksFiles (exports_file words ≢ report_file words) (exports_file words) (report_file words ∷ []) answer
   Asks Node answer = node.Asks words old_in new_in old new answer
   Asks (Run workers) answer = domain.Asks tells words old_in new_in old new answer
 
@@ -72,6 +81,7 @@ module _ (opens tells : Bool) (words : List (List ℕ)) (old_in new_in : Reading
   IsUntouched Filter answer = OpensNothing answer → (new_in ≡ old_in) × (new ≡ old)
   IsUntouched Paths answer = OpensNothing answer → (new_in ≡ old_in) × (new ≡ old)
   IsUntouched Show answer = OpensNothing answer → (new_in ≡ old_in) × (new ≡ old)
+  IsUntouched Collect answer = OpensNothing answer → (new_in ≡ old_in) × (new ≡ old)
   IsUntouched Node answer = node.IsUntouched words old_in new_in old new answer × (new_in.side.slots < old_in.side.slots + 3 → new ≡ old)
   IsUntouched (Run workers) answer = (domain.IsRefusal answer → domain.OpensNone words old_in new_in old new) × (new_in.side.slots < old_in.side.slots + 2 → new ≡ old)
       × ((fault : DomainFault) → answer ≡ outcome.Domain fault → AsksFront old_in.side.asked new_in.side.asked (domain_file words ∷ []))
@@ -81,6 +91,7 @@ module _ (opens tells : Bool) (words : List (List ℕ)) (old_in new_in : Reading
   AreDrained Filter = IsTrue (new_in.ended old_in.side.slots)
   AreDrained Paths = IsTrue (new_in.ended old_in.side.slots)
   AreDrained Show = IsTrue (new_in.ended old_in.side.slots)
+  AreDrained Collect = IsTrue (new_in.ended old_in.side.slots)
   AreDrained Node = node.AreDrained words old_in new_in old new
   AreDrained (Run workers) = domain.AreDrained opens words old_in new_in old new
 
@@ -89,6 +100,7 @@ module _ (opens tells : Bool) (words : List (List ℕ)) (old_in new_in : Reading
   AreWritten Filter answer = IsBehindAll (old_in.side.slots < new_in.side.slots) answer
   AreWritten Paths answer = IsBehindAll (old_in.side.slots < new_in.side.slots) answer
   AreWritten Show answer = IsBehindAll (old_in.side.slots < new_in.side.slots) answer
+  AreWritten Collect answer = IsBehindAll (old_in.side.slots < new_in.side.slots) answer
   AreWritten Node answer = IsBehindAll (old.side.slots < new.side.slots) answer
   AreWritten (Run workers) answer = IsBehindAll (old.side.slots < new.side.slots) answer
 
@@ -98,5 +110,6 @@ module _ (opens tells : Bool) (words : List (List ℕ)) (old_in new_in : Reading
   IsBounded Filter = IsSomeAnd (holds new (name_at words 2)) (IsCaptureOf MayLeave)
   IsBounded Paths = ⊤
   IsBounded Show = ⊤
+  IsBounded Collect = ⊤
   IsBounded Node = node.IsBounded words old_in new_in old new
   IsBounded (Run workers) = domain.IsBounded opens words old_in new_in old new

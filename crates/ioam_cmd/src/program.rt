@@ -12,6 +12,7 @@ ghost use Rattle.ioam_answer.specs.declared.outcome.Outcome.{Outcome};
 use crate::command::{Command, parse};
 use ioam_answer::Outcome;
 use ioam_batch::Gate;
+use ioam_collecting::run_collect;
 use ioam_desk::{Desk, Name, SureDesk};
 use ioam_domain::run_domain;
 use ioam_run::{run_filter, run_paths, run_show};
@@ -62,6 +63,7 @@ pub fn ioam<R: Threads + Sync, D: Desk, G: Gate>(
         Some(Command::Filter) => run_filter(alloc, words, desk),
         Some(Command::Paths) => run_paths(alloc, words, desk),
         Some(Command::Show) => run_show(alloc, words, desk),
+        Some(Command::Collect) => run_collect(alloc, words, desk),
         Some(Command::Node) => run_node(alloc, words, desk),
         Some(Command::Run { workers }) => run_domain(rt, alloc, workers, words, desk, gate),
         None => Outcome::Usage,

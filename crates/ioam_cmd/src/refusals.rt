@@ -5,7 +5,7 @@ pub struct Refusal {
     pub line: &'static str,
 }
 
-const REFUSALS: [Refusal; 18] = [
+const REFUSALS: [Refusal; 20] = [
     Refusal {
         words: &["paths", "a", "a"],
         line: "names a",
@@ -20,6 +20,14 @@ const REFUSALS: [Refusal; 18] = [
     },
     Refusal {
         words: &["show", "a", "b", "c"],
+        line: "usage",
+    },
+    Refusal {
+        words: &["collect", "a", "a"],
+        line: "names a",
+    },
+    Refusal {
+        words: &["collect", "a"],
         line: "usage",
     },
     Refusal {
