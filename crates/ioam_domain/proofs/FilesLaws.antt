@@ -4,6 +4,14 @@ use Rattle.std.specs.Prelude.{map, slice_get}
 use Rattle.std.specs.List.{flat_map}
 use Rattle.std.proofs.lemmas.Option.{none-some, same_Some}
 use Rattle.ioam_desk.specs.Desk.{Reading, Writing, holds}
+use Rattle.std.specs.Prelude.{All}
+use Rattle.std.proofs.lemmas.List.Elements.{All-cons, All-nil}
+use Rattle.ioam_clock.specs.declared.sample.Sample.{Sample}
+use Rattle.ioam_fates.specs.Fate.{Fate, Frame, AreFatesFrom}
+use Rattle.ioam_fates.proofs.OutLaws.{one-leaves}
+use Rattle.ioam_plan.specs.declared.itinerary.Itinerary.{Itinerary}
+use Rattle.ioam_topo.specs.declared.domain.Domain.{Domain}
+use Rattle.ioam_domain.specs.Left.{LeavesOnce}
 use Rattle.ioam_fates.specs.Texts.{out_text, tap_text, report_text, exports_text, texts_of}
 use Rattle.ioam_outlets.specs.Outlets.{each_from, tap_at, tapped_from, tapped}
 use Rattle.ioam_outputs.specs.Held.{HoldTexts}
@@ -13,8 +21,18 @@ use Rattle.ioam_topo.specs.Domain.{links, ports}
 use Rattle.ioam_topo.specs.declared.ids.LinkId.{LinkId}
 use Rattle.ioam_topo.specs.declared.parts.Link.{Link}
 use Rattle.ioam_topo.specs.declared.parts.Port.{Port}
-use Rattle.ioam_traffic.specs.Traffic.{Course, HoldsAll}
+use Rattle.ioam_traffic.specs.Traffic.{Course, HoldsAll, frames_of}
 use Rattle.ioam_domain.specs.Run.{HoldsFiles, report_file, exports_file, run_outputs}
+
+-- what becomes of arrivals leaves once
+all-leave : (domain : Domain) (readings : List (List Sample)) (earlier : List Itinerary) (frames : List Frame) (fates : List Fate)
+    → AreFatesFrom domain readings earlier frames fates → All LeavesOnce fates
+all-leave domain readings earlier [] [] are = All-nil LeavesOnce
+all-leave domain readings earlier [] (fate ∷ fates) are = absurd are
+all-leave domain readings earlier (frame ∷ frames) [] are = absurd are
+all-leave domain readings earlier (frame ∷ frames) (fate ∷ fates) are =
+    All-cons LeavesOnce fate fates (λ port ends. one-leaves domain readings earlier frame fate port are.0 ends)
+    (all-leave domain readings (earlier ++ fate.itinerary ∷ []) frames fates are.1)
 
 -- the capture of the port at a place holds the text of that place
 held_at : (new : Writing) (all : List Port) (from : ℕ) (f : ℕ → List ℕ) (names texts : List (List ℕ))
@@ -107,6 +125,7 @@ module _ (opens : Bool) (words : List (List ℕ)) (old_in new_in : Reading) (old
     few = all.few;
     become = all.become;
     only = all.only;
+    leave = all-leave course.domain course.readings [] (frames_of course.ports all.taken) all.fates all.become;
     outs = λ gate place port is. held_at new (ports course.domain) 0 (λ k. out_text k all.fates) tap_names tap_texts (in_order gate) place port is
         ∙ ap (λ (k : ℕ). Some (out_text k all.fates)) (from_none place);
     taps = λ gate place link name is has. tap_held new (λ k. tap_text course.domain course.readings k all.fates) (links course.domain) 0 last_names last_texts

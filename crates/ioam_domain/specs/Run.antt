@@ -1,7 +1,7 @@
 -- What `run DOMAIN READINGS WORKERS REPORT EXPORTS` answers and leaves: the captures of the ports of
 -- the domain that DOMAIN describes are merged by time, and each port's capture of what leaves, each
 -- tap's of what crosses its link, the report and the export records are written.
-use Rattle.std.specs.Prelude.{◌≡◌, ◌≢◌, ℕ, ◌+◌, ◌<◌, ◌≤◌, ◌⊎◌, ⊤, Bool, IsTrue, IsSomeAnd, List, [], ◌∷◌, ◌++◌, length, map, slice_get, Option, Some}
+use Rattle.std.specs.Prelude.{◌≡◌, ◌≢◌, ℕ, ◌+◌, ◌<◌, ◌≤◌, ◌⊎◌, ⊤, All, Bool, IsTrue, IsSomeAnd, List, [], ◌∷◌, ◌++◌, length, map, slice_get, Option, Some}
 use Rattle.ioam_clock.specs.declared.sample.Sample.{Sample}
 use Rattle.ioam_desk.specs.Asked.{AsksFront}
 use Rattle.ioam_desk.specs.Desk.{Reading, Writing, Rose, holds}
@@ -25,6 +25,7 @@ use Rattle.ioam_topo.specs.declared.domain.Domain.{Domain}
 use Rattle.ioam_entries.specs.declared.fault.DomainFault.{DomainFault}
 use Rattle.ioam_topo.specs.declared.parts.Link.{Link}
 use Rattle.ioam_topo.specs.declared.parts.Port.{Port}
+use Rattle.ioam_domain.specs.Left.{LeavesOnce}
 use Rattle.ioam_traffic.specs.Traffic.{AllOpened, Course, HoldsFronts, ArePassed, AreOpened, Arrive, frames_of}
 
 -- the files that the words name
@@ -186,6 +187,7 @@ module _ (opens : Bool) (words : List (List ℕ)) (old_in new_in : Reading) (old
     pub few : length taken ≤ course.domain.packets
     pub become : AreFates course.domain course.readings (frames_of course.ports taken) fates
     pub only : (others : List Fate) → AreFates course.domain course.readings (frames_of course.ports taken) others → others ≡ fates
+    pub leave : All LeavesOnce fates
     pub outs : IsTrue course.opens → (place : ℕ) (port : Port) → slice_get (ports course.domain) place ≡ Some port
         → holds new port.output ≡ Some (out_text place fates)
     pub taps : IsTrue course.opens → (place : ℕ) (link : Link) (name : List ℕ) → slice_get (links course.domain) place ≡ Some link
