@@ -1,0 +1,4 @@
+mod GeneratedLaws
+mod LoadLaws
+mod ReportLaws
+mod WordsLaws

@@ -1,0 +1,10 @@
+//! The command `bulk`: a generated load through a domain of its own, of which the sums are reported.
+#![tactic(auto)]
+
+mod bulk;
+mod generator;
+mod load;
+mod report;
+mod terms;
+
+pub use bulk::run_bulk;
