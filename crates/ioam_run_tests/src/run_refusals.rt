@@ -1,4 +1,5 @@
 //! Runs that are refused, as rows: the words, the files and the line.
+use ioam_test_rows::flow_parts::{FLOW, TRACE_OF_3};
 use ioam_test_rows::run_rows::{DOMAIN, LINKS, NODES, PORTS, ROUTES, RUN};
 
 pub struct Refusal {
@@ -8,7 +9,24 @@ pub struct Refusal {
     pub line: &'static str,
 }
 
-pub const REFUSALS: [Refusal; 12] = [
+// A flow with three extra traces, each of which would be good alone.
+const THREE_EXTRAS: &[&str] = &[
+    r#"
+node = [
+  { name = "a", id = 1, address = "2001:db8::a", namespaces = [7, 8, 9] },
+  { name = "c", id = 3, address = "2001:db8::c", namespaces = [7, 8, 9] },
+]
+extra = [
+  { flow = "f", namespace = 9, trace = 0x800000, capacity = 2 },
+  { flow = "f", namespace = 0, trace = 0x400000, capacity = 4 },
+  { flow = "f", namespace = 8, trace = 0x800000, capacity = 2 },
+]
+"#,
+    FLOW,
+    TRACE_OF_3,
+];
+
+pub const REFUSALS: [Refusal; 14] = [
     Refusal {
         words: [
             "run",
@@ -109,6 +127,22 @@ pub const REFUSALS: [Refusal; 12] = [
         ],
         readings: "",
         line: "names exports",
+    },
+    // A tap of the report's name.
+    Refusal {
+        words: RUN,
+        domain: &[
+            NODES,
+            "link = [ { name = \"ab\", from = \"a\", to = \"b\", out_id = 1, in_id = 2, delay = 0, mtu = 1280, tap = \"report.txt\" } ]\n",
+        ],
+        readings: "",
+        line: "names report.txt",
+    },
+    Refusal {
+        words: RUN,
+        domain: THREE_EXTRAS,
+        readings: "",
+        line: "domain extra 3 flow too-many",
     },
     Refusal {
         words: RUN,
