@@ -113,6 +113,10 @@ module _ (cells : List Cell) (heads : List (Option ℕ)) (free : Option ℕ) (p 
           rw (length-set cells last cell) (omega arith);
     }
 
+    pub freed_times : (d i : ℕ) → d ≢ c → 1 ≤ times i (get_or p.lists d []) → 1 ≤ times i (get_or freed_parted.lists d [])
+    unfolding freed_parted
+    freed_times d i other there = rw (get_or-set_other p.lists c d [] [] other) there
+
     chain_then : (d : ℕ) → (d ≡ c) ⊎ (d ≢ c) → chain_of (seen cells' heads') d ≡ get_or (set (seen cells heads).chains c []) d []
     unfolding freed_parted
     chain_then d (inl same) =
@@ -208,11 +212,14 @@ module _ (cells : List Cell) (heads : List (Option ℕ)) (free : Option ℕ) (p 
 pub Grows-more : (cells : List Cell) (free : Option ℕ) (cells' : List Cell) (free' : Option ℕ) (item : Entry) → Grows cells free cells' free'
     → Grows cells free (cells' ++ (record { item = item; next = free' }) ∷ []) (Some (length cells'))
 Grows-more cells free cells' free' item grows heads p =
-    let so_far = grows heads p in
-    (grown_parted cells' heads free' so_far.0 item, grown_chains cells' heads free' so_far.0 item ∙ so_far.1)
+    let so_far = grows heads p in (
+      grown_parted cells' heads free' so_far.0 item,
+      grown_chains cells' heads free' so_far.0 item ∙ so_far.1,
+      λ at is c. (grown_chain cells' heads free' so_far.0 item at is (so_far.2 at is c)).0,
+    )
 
 pub Grows-none : (cells : List Cell) (free : Option ℕ) → Grows cells free cells free
-Grows-none cells free heads p = (p, refl)
+Grows-none cells free heads p = (p, refl, λ at is c. c)
 
 -- what growing leaves
 pub grown_is : (cells : List Cell) (heads : List (Option ℕ)) (free : Option ℕ) (held : ℕ) (cells' : List Cell) (free' : Option ℕ)

@@ -1,5 +1,6 @@
 mod ChainLaws
 mod FreeLaws
+mod GuideLaws
 pub mod OrderLaws
 mod PartLaws
 mod PoolLaws

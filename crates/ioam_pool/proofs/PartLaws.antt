@@ -224,6 +224,17 @@ module _ (cells : List Cell) (heads : List (Option ℕ)) (free : Option ℕ) (p 
           rw (linked-length cells head at item before) (omega arith);
     }
 
+    times_then : (d i : ℕ) → (d ≡ c) ⊎ (d ≢ c) → times i (get_or p.lists d []) ≤ times i (get_or lists' d [])
+    times_then d i (inl same) =
+        let there = times-there i in
+        rw (same, get_or-set_same p.lists c (gap.front ++ at ∷ gap.back) [] in_lists) (omega arith)
+    times_then d i (inr other) = rw (get_or-set_other p.lists c d (gap.front ++ at ∷ gap.back) [] other) (omega arith)
+
+    -- what stands on a chain stays on it
+    pub kept_times : (d i : ℕ) → 1 ≤ times i (get_or p.lists d []) → 1 ≤ times i (get_or kept_parted.lists d [])
+    unfolding kept_parted
+    kept_times d i there = let more = times_then d i (cases_eq d c) in omega arith
+
     entries_there : map (entry_at cells') (gap.front ++ at ∷ gap.back) ≡ fore ++ item ∷ aft
     entries_there =
         let inside : Inside before cells = inside_at before gap.last in

@@ -1,18 +1,21 @@
 -- Laws of a whole pool, as its methods cite them.
-use Rattle.std.proofs.Common.{Bool, true, false, not, ◌&&◌, ◌≡◌, ◌≢◌, ℕ, ◌+◌, ◌-◌, ◌<◌, ◌≤◌, ◌^◌, zero, suc, List, [], ◌∷◌, ◌++◌, length, map, set, refl, sym, ap, ap₂, ◌∙◌, subst, arith, rules, get_or, ◌⊎◌, inl, inr, ⊎_elim, Option, None, Some, length-set}
-use Rattle.std.specs.Prelude.{sum_by, Contains}
+use Rattle.std.proofs.Common.{Bool, true, false, not, ◌&&◌, ◌==◌, ◌≡◌, ◌≢◌, ℕ, ◌+◌, ◌-◌, ◌<◌, ◌≤◌, ◌^◌, zero, suc, List, [], ◌∷◌, ◌++◌, length, map, set, refl, sym, ap, ap₂, ◌∙◌, subst, arith, rules, get_or, ◌⊎◌, inl, inr, ⊎_elim, Option, None, Some, length-set}
+use Rattle.std.specs.Prelude.{sum_by, Contains, filter}
 use Rattle.std.proofs.lemmas.Bool.{cases_eq, cases_Bool}
 use Rattle.std.proofs.lemmas.List.{length-map, get_or_read, set-get_or}
 use Rattle.ioam_pool.specs.Entry.{Entry, is_full, bare}
 use Rattle.ioam_pool.specs.Order.{order, IsChain, IsInOrder, placed, without, Repeats, Replaces, IsApart}
 use Rattle.ioam_pool.specs.Cells.{blank, cell_at, entry_at, entries_from, Chained, Ends, EndsWith, Parted, linked_in, head_then, Gap, Ties, IsLast, with_item}
 use Rattle.ioam_pool.specs.Chains.{Chains, chain_of, total, with_chain, with_one_more}
+use Rattle.ioam_pool.specs.Guides.{Guided}
 use Rattle.ioam_pool.specs.Kept.{seen, IsPool}
 use Rattle.ioam_pool.specs.declared.cells.Cell.{Cell}
+use Rattle.ioam_pool.specs.declared.guides.Guide.{Guide}
 use Rattle.ioam_pool.proofs.ChainLaws.{Chained-unique, Chained-behind, split_first}
 use Rattle.ioam_pool.proofs.PartLaws.{at_most, chain_is, total_is, gap_no_repeat, gap_no_replace, kept_parted, kept_is, kept_order, kept_total, room_was, full_total, from_none}
 use Rattle.ioam_pool.proofs.SwapLaws.{in_cells, tied_bare, tied_full, was_bare, tied_replaces, tied_no_repeat, swapped_length, swapped_parted, swapped_is, swapped_order, swapped_total}
 use Rattle.ioam_pool.proofs.OrderLaws.{chain_in_order}
+use Rattle.ioam_pool.proofs.GuideLaws.{guided_kept, guided_swapped, guided_freed}
 use Rattle.ioam_pool.proofs.FreeLaws.{more_parted, more_is, more_total, freed_parted, freed_is, freed_order, freed_total, push_none}
 
 pub gives : (full was_full : Bool) → (full && not was_full) ≡ true → (full ≡ true) × (was_full ≡ false)
@@ -91,6 +94,9 @@ module _ (cells : List Cell) (heads : List (Option ℕ)) (free : Option ℕ) (he
         pub swapped_seen : seen (with_item cells at item) heads ≡ with_chain (seen cells heads) c (placed order item (without (bare item) (chain_of (seen cells heads) c)))
         swapped_seen = swapped_is cells heads free pool.parted c in_heads at item tie' full not_full pool.in_order
 
+        pub swapped_guided : (guides : List Guide) → Guided cells heads guides → Guided (with_item cells at item) heads guides
+        swapped_guided guides guided = guided_swapped cells heads free pool.parted c in_heads guides guided item at tie' full not_full
+
     -- the item gives way where it has no extra part and the new one has one
     repeat_by : (item : Entry) (at : ℕ) → Ties cells head at item → (full was_full : Bool) → is_full item ≡ full → is_full (entry_at cells at) ≡ was_full
         → (full && not was_full) ≡ false → Repeats (chain_of (seen cells heads) c) item
@@ -152,6 +158,9 @@ module _ (cells : List Cell) (heads : List (Option ℕ)) (free : Option ℕ) (he
         pub kept_held : total (seen cells' (set heads c head')) ≡ total (seen cells heads) + 1
         kept_held = rw (linked, first, head_is) (kept_total cells heads free pool.parted c item before gap' in_heads at begins)
 
+        pub kept_guided : (guides : List Guide) → Guided cells heads guides → Guided cells' (set heads c head') guides
+        kept_guided guides guided = rw (linked, first, head_is) (guided_kept cells heads free pool.parted c in_heads guides guided item before gap' at begins)
+
       module _ (at : ℕ) (begins : free ≡ Some at) where
         pub kept_room : total (seen cells heads) < length cells
         kept_room = room_was cells heads free pool.parted c item before gap' in_heads at begins
@@ -185,6 +194,10 @@ module _ (cells : List Cell) (heads : List (Option ℕ)) (free : Option ℕ) (he
 
       pub freed_seen : seen (set cells last (record { item = cell.item; next = free })) (set heads c None) ≡ with_chain (seen cells heads) c []
       freed_seen = rw item_is (freed_is cells heads free pool.parted c in_heads last count found')
+
+      pub freed_guided : (guides guides' : List Guide) → Guided cells heads guides → guides' ≡ filter (λ (g : Guide). not (g.chain == c)) guides
+          → Guided (set cells last (record { item = cell.item; next = free })) (set heads c None) guides'
+      freed_guided guides guides' guided dropped = rw (item_is, dropped) (guided_freed cells heads free pool.parted c in_heads guides guided last count found')
 
       pub freed_count : count ≤ held
       freed_count =

@@ -113,6 +113,10 @@ module _ (cells : List Cell) (heads : List (Option ℕ)) (free : Option ℕ) (p 
       all = rw swapped_length p.all;
     }
 
+    pub swapped_times : (d i : ℕ) → 1 ≤ times i (get_or p.lists d []) → 1 ≤ times i (get_or swapped_parted.lists d [])
+    unfolding swapped_parted
+    swapped_times d i there = there
+
     entry_now : entry_at cells' at ≡ item
     entry_now = ap (λ (c : Cell). c.item) (get_or-set_same cells at (record { item = item; next = (cell_at cells at).next }) blank in_cells)
 

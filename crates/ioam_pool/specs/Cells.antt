@@ -95,6 +95,11 @@ linked_in cells head (Some b) at item =
     let more : List Cell = slice_set cells at cell in
     slice_set more b (record { item = entry_at more b; next = Some at })
 
+-- what stands behind a cell, or what the chain begins with
+abbrev pub next_or : List Cell → Option ℕ → Option ℕ → Option ℕ
+next_or cells head None = head
+next_or cells head (Some i) = (cell_at cells i).next
+
 abbrev pub head_then : Option ℕ → Option ℕ → ℕ → Option ℕ
 head_then head None at = Some at
 head_then head (Some b) at = head

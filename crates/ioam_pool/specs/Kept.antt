@@ -1,7 +1,7 @@
 -- What holds inside every pool.
 use Rattle.std.specs.Prelude.{◌≡◌, ℕ, ◌<◌, ◌^◌, List, length, map, Option}
 use Rattle.ioam_pool.specs.Order.{IsChain}
-use Rattle.ioam_pool.specs.Cells.{Parted, entries_from}
+use Rattle.ioam_pool.specs.Cells.{Chained, Parted, entries_from}
 use Rattle.ioam_pool.specs.Chains.{Chains, total, chain_of}
 use Rattle.ioam_pool.specs.declared.cells.Cell.{Cell}
 
@@ -14,8 +14,9 @@ pub record IsPool (cells : List Cell) (heads : List (Option ℕ)) (free : Option
   pub in_order : (c : ℕ) → IsChain (chain_of (seen cells heads) c)
   pub room : length cells < 2 ^ 31
 
--- cells were added to the free list: the parts are kept, and what the chains show
+-- cells were added to the free list: the parts are kept, what the chains show, and where each cell stands
 abbrev pub Grows : List Cell → Option ℕ → List Cell → Option ℕ → Type 0
 Grows cells free cells' free' =
     (heads : List (Option ℕ)) → Parted cells heads free
     → Parted cells' heads free' × (map (entries_from cells') heads ≡ map (entries_from cells) heads)
+    × ((at : Option ℕ) (is : List ℕ) → Chained cells at is → Chained cells' at is)

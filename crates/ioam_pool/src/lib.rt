@@ -4,6 +4,7 @@
 mod cells;
 mod freeing;
 mod growing;
+mod guides;
 mod item;
 mod pool;
 mod seating;

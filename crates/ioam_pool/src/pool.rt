@@ -5,8 +5,9 @@ ghost use Rattle.ioam_pool.specs.Chains.{Chains, chain_of, total, with_chain, wi
 use crate::cells::Cell;
 use crate::freeing::last_of;
 use crate::growing::add_cells;
+use crate::guides::{Guide, drop_guides, seat_of, seat_with_guide};
 use crate::item::Item;
-use crate::seating::{Seat, find_seat, gives_way, link_in, swap_item};
+use crate::seating::{Seat, gives_way, link_in, swap_item};
 use crate::walking::Items;
 use ioam_base::memory::NoMemory;
 use std::alloc::Global;
@@ -49,6 +50,7 @@ pub struct Pool {
     heads: Vec<Option<u32>>,
     free: Option<u32>,
     held: u32,
+    guides: Vec<Guide>,
 }
 
 impl Model for Pool {
@@ -56,11 +58,12 @@ impl Model for Pool {
 
     ghost Value = { Chains };
 
+    ghost use Rattle.ioam_pool.specs.Guides.{Guided};
     ghost use Rattle.ioam_pool.specs.Kept.{IsPool, seen};
 
     ghost view = { λ pool. seen pool.cells.items pool.heads.items };
 
-    ghost invariant = { λ pool. IsPool pool.cells.items pool.heads.items pool.free pool.held };
+    ghost invariant = { λ pool. IsPool pool.cells.items pool.heads.items pool.free pool.held × Guided pool.cells.items pool.heads.items pool.guides.items };
 }
 
 impl Pool {
@@ -76,6 +79,7 @@ impl Pool {
             heads: Vec::new(alloc),
             free: None,
             held: 0,
+            guides: Vec::new(alloc),
         };
         pool.grow(capacity)?;
         Ok(pool)
@@ -87,6 +91,9 @@ impl Pool {
         ensures { self.new ≡ (if is_ok result then record { chains = self.old.chains; capacity = self.old.capacity + more } else self.old) }
     {
         self.cells.try_reserve_exact(more as usize)?;
+        // Each guide has 32 cells of its chain in front and behind, so there is room for all.
+        self.guides
+            .try_reserve_exact((self.cells.len() + more as usize) / 32 + 1)?;
         self.free = add_cells(&mut self.cells, self.free, more);
         Ok(())
     }
@@ -115,6 +122,7 @@ impl Pool {
             self.free = head;
             self.heads[number] = None;
             self.held -= count;
+            drop_guides(&mut self.guides, chain.number);
         }
     }
 
@@ -154,7 +162,7 @@ impl Pool {
         ensures { IsTrue result ↔ IsApart (chain_of self.now chain) item.now }
     {
         let head = self.heads[chain.number as usize];
-        match find_seat(&self.cells, head, item) {
+        match seat_of(&self.guides, &self.cells, head, chain.number, item) {
             Seat::Tied(_) => false,
             Seat::Behind(_) => true,
         }
@@ -169,7 +177,7 @@ impl Pool {
     {
         let number = chain.number as usize;
         let head = self.heads[number];
-        match find_seat(&self.cells, head, &item) {
+        match seat_with_guide(&mut self.guides, &self.cells, head, chain.number, &item) {
             Seat::Tied(at) => {
                 if gives_way(&self.cells, at, &item) {
                     Inserted::Replaced(swap_item(&mut self.cells, at, item))

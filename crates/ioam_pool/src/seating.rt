@@ -1,7 +1,9 @@
 ghost use Rattle.std.specs.Prelude.{◌≡◌, ◌<◌, ◌&&◌, not, length, vec_len};
 ghost use Rattle.std.specs.Option.{ForSome};
-ghost use Rattle.ioam_pool.specs.Cells.{Ends, entry_at, linked_in, head_then, with_item};
+ghost use Rattle.ioam_pool.specs.Cells.{Ends, entries_from, entry_at, linked_in, head_then, next_or, with_item};
 ghost use Rattle.ioam_pool.specs.Entry.{is_full};
+ghost use Rattle.ioam_pool.specs.Guides.{Goes, IsOn, IsStart};
+ghost use Rattle.ioam_pool.specs.Order.{IsChain};
 ghost use Rattle.ioam_pool.specs.Seats.{Seated};
 
 use crate::cells::Cell;
@@ -10,6 +12,7 @@ use std::cmp::Ordering;
 use std::mem;
 
 // Where an item goes on a chain.
+#[derive(Clone, Copy)]
 pub(crate) enum Seat {
     // This cell's item is the same, or either is the other without its extra part.
     Tied(u32),
@@ -17,25 +20,98 @@ pub(crate) enum Seat {
     Behind(Option<u32>),
 }
 
-// Looks for the place of an item on the chain that begins at `head`.
-pub(crate) fn find_seat(cells: &[Cell], head: Option<u32>, item: &Item) -> Seat
-    requires { Ends cells.now head }
-    ensures { Seated cells.now head item.now result }
+// What a search found, and, where it passed many cells, one of these with many in front and behind.
+#[derive(Clone, Copy)]
+pub(crate) struct Search {
+    pub(crate) seat: Seat,
+    pub(crate) passed: Option<u32>,
+}
+
+// How many cells are passed in front of the first that is remembered.
+const FEW: u32 = 32;
+
+// What a search remembers: how many cells it passed, and of these the last two whose number is a power of
+// two, from the 32nd on.
+#[derive(Clone, Copy)]
+struct Trail {
+    count: u32,
+    older: Option<u32>,
+    newer: Option<u32>,
+}
+
+// The search passes a cell.
+fn pass(trail: Trail, place: u32) -> Trail
+    ensures { Goes place trail result }
 {
-    let mut before = None;
-    let mut at = head;
+    let count = trail.count.wrapping_add(1);
+    if count < FEW || !count.is_power_of_two() {
+        return Trail { count, ..trail };
+    }
+    Trail {
+        count,
+        older: trail.newer,
+        newer: Some(place),
+    }
+}
+
+// The cell behind this one, or the first of the chain.
+fn next_of(cells: &[Cell], head: Option<u32>, start: Option<u32>) -> Option<u32>
+    requires { ForSome start (λ place. place < length cells.now) }
+    ensures { result ≡ next_or cells.now head start }
+{
+    match start {
+        Some(place) => cells[place as usize].next,
+        None => head,
+    }
+}
+
+// Looks for the place of an item on the chain that begins at `head`, from its front on, or behind a cell
+// that stands in front of the item.
+pub(crate) fn find_seat(
+    cells: &[Cell],
+    head: Option<u32>,
+    start: Option<u32>,
+    item: &Item,
+) -> Search
+    requires ends { Ends cells.now head }
+    requires in_order { IsChain (entries_from cells.now head) }
+    requires start { IsStart cells.now head item.now start }
+    ensures seat { Seated cells.now head item.now result.seat }
+    ensures passed { IsOn cells.now head result.passed }
+{
+    let mut before = start;
+    let mut at = next_of(cells, head, start);
+    let mut trail = Trail {
+        count: 0,
+        older: None,
+        newer: None,
+    };
     'passing: while let Some(place) = at {
         let cell = &cells[place as usize];
         match cell.item.meet(item) {
             Ordering::Less => {
+                trail = pass(trail, place);
                 before = at;
                 at = cell.next;
             }
-            Ordering::Equal => return Seat::Tied(place),
-            Ordering::Greater => return Seat::Behind(before),
+            Ordering::Equal => {
+                return Search {
+                    seat: Seat::Tied(place),
+                    passed: trail.older,
+                };
+            }
+            Ordering::Greater => {
+                return Search {
+                    seat: Seat::Behind(before),
+                    passed: trail.older,
+                };
+            }
         }
     }
-    Seat::Behind(before)
+    Search {
+        seat: Seat::Behind(before),
+        passed: trail.older,
+    }
 }
 
 // Writes an item into the cell `at`, and links it behind another cell, or to the front. Returns
