@@ -1,6 +1,7 @@
 -- What the top call promises of each command, in the words of the command's own crate. `tells` says
 -- that the desk tells what its files hold, and `opens` that the gate of the workers always opens.
 use Rattle.std.specs.Prelude.{◌≡◌, ◌≢◌, ℕ, ◌+◌, ◌<◌, ◌⊎◌, ⊤, Bool, IsTrue, IsSomeAnd, List, [], ◌∷◌, ◌++◌}
+use Rattle.ioam_bulk.specs.Run as bulk
 use Rattle.ioam_collecting.specs.Run as collect
 use Rattle.ioam_collecting.specs.Run.{exports_file, report_file}
 use Rattle.ioam_desk.specs.Asked.{AsksFront}
@@ -21,7 +22,7 @@ use Rattle.ioam_answer.specs.declared.outcome.Outcome.TheVariants as outcome
 use Rattle.ioam_entries.specs.declared.fault.DomainFault.{DomainFault}
 use Rattle.ioam_transit.specs.Run as node
 use Rattle.ioam_cmd.specs.declared.command.Command.{Command}
-use Rattle.ioam_cmd.specs.declared.command.Command.TheVariants.{Filter, Paths, Show, Collect, Node, Run}
+use Rattle.ioam_cmd.specs.declared.command.Command.TheVariants.{Filter, Paths, Show, Collect, Node, Run, Bulk}
 
 -- which answer the words and the files ask for, where nothing fails
 abbrev pub Asked : Bool → List (List ℕ) → Writing → Command → Outcome → Type 0
@@ -31,6 +32,7 @@ Asked tells words desk Show answer = capture.Asked tells desk (file_names words)
 Asked tells words desk Collect answer = collect.Asked tells (holds desk (exports_file words)) (exports_file words) (report_file words) answer
 Asked tells words desk Node answer = node.Asked words desk answer
 Asked tells words desk (Run workers) answer = domain.Asked desk words answer
+Asked tells words desk (Bulk seed count workers) answer = answer ≡ outcome.Done
 
 module _ (opens tells : Bool) (words : List (List ℕ)) (old_in new_in : Reading) (old new : Writing) where
   -- the cause of each answer
@@ -41,6 +43,7 @@ module _ (opens tells : Bool) (words : List (List ℕ)) (old_in new_in : Reading
   HasCause Collect answer = collect.HasCause tells (holds old (exports_file words)) (exports_file words) (report_file words) old_in new_in old new answer
   HasCause Node answer = node.HaveDiffered words answer × (IsTrue tells → node.HasCause words old_in new_in old new answer)
   HasCause (Run workers) answer = domain.HaveDiffered words answer × (IsTrue tells → domain.HasCause words old_in new_in old new answer)
+  HasCause (Bulk seed count workers) answer = bulk.HasCause old new answer
 
   -- what the files hold behind each answer
   abbrev pub Leaves : Command → Outcome → Type 0
@@ -50,6 +53,7 @@ module _ (opens tells : Bool) (words : List (List ℕ)) (old_in new_in : Reading
   Leaves Collect answer = collect.Leaves (holds old (exports_file words)) (report_file words) old_in new_in old new answer
   Leaves Node answer = node.Leaves words old_in new_in old new answer
   Leaves (Run workers) answer = domain.Leaves opens words old_in new_in old new answer
+  Leaves (Bulk seed count workers) answer = bulk.Leaves seed count (bulk.report_file words) old new answer
 
   -- the names that the words give to the opening calls: IN, unless two of them are equal, and a front
   -- of the outputs; IN and all of them where the answer comes once they were written
@@ -73,6 +77,8 @@ module _ (opens tells : Bool) (words : List (List ℕ)) (old_in new_in : Reading
   Asks Collect answer = AsksFiles (exports_file words ≢ report_file words) (exports_file words) (report_file words ∷ []) answer
   Asks Node answer = node.Asks words old_in new_in old new answer
   Asks (Run workers) answer = domain.Asks tells words old_in new_in old new answer
+  Asks (Bulk seed count workers) answer = (new_in ≡ old_in) × AsksFront old.side.asked new.side.asked (bulk.report_file words ∷ [])
+      × (IsBehindAll ⊥ answer → new.side.asked ≡ old.side.asked ++ bulk.report_file words ∷ [])
 
   -- where the names are refused nothing was opened; `run` has read DOMAIN and READINGS before, and
   -- opens no capture and no output where one of these or the names are refused, nor an output before
@@ -85,6 +91,17 @@ module _ (opens tells : Bool) (words : List (List ℕ)) (old_in new_in : Reading
   IsUntouched Node answer = node.IsUntouched words old_in new_in old new answer × (new_in.side.slots < old_in.side.slots + 3 → new ≡ old)
   IsUntouched (Run workers) answer = (domain.IsRefusal answer → domain.OpensNone words old_in new_in old new) × (new_in.side.slots < old_in.side.slots + 2 → new ≡ old)
       × ((fault : DomainFault) → answer ≡ outcome.Domain fault → AsksFront old_in.side.asked new_in.side.asked (domain_file words ∷ []))
+  IsUntouched (Bulk seed count workers) answer = ⊤
+
+  -- no output was opened before the inputs; `bulk` has none
+  abbrev pub IsBehindInputs : Command → Type 0
+  IsBehindInputs Filter = new_in.side.slots ≡ old_in.side.slots → new ≡ old
+  IsBehindInputs Paths = new_in.side.slots ≡ old_in.side.slots → new ≡ old
+  IsBehindInputs Show = new_in.side.slots ≡ old_in.side.slots → new ≡ old
+  IsBehindInputs Collect = new_in.side.slots ≡ old_in.side.slots → new ≡ old
+  IsBehindInputs Node = new_in.side.slots ≡ old_in.side.slots → new ≡ old
+  IsBehindInputs (Run workers) = new_in.side.slots ≡ old_in.side.slots → new ≡ old
+  IsBehindInputs (Bulk seed count workers) = ⊤
 
   -- each input was read to its end
   abbrev pub AreDrained : Command → Type 0
@@ -94,6 +111,7 @@ module _ (opens tells : Bool) (words : List (List ℕ)) (old_in new_in : Reading
   AreDrained Collect = IsTrue (new_in.ended old_in.side.slots)
   AreDrained Node = node.AreDrained words old_in new_in old new
   AreDrained (Run workers) = domain.AreDrained opens words old_in new_in old new
+  AreDrained (Bulk seed count workers) = ⊤
 
   -- the answer comes once the outputs were written
   abbrev pub AreWritten : Command → Outcome → Type 0
@@ -103,6 +121,7 @@ module _ (opens tells : Bool) (words : List (List ℕ)) (old_in new_in : Reading
   AreWritten Collect answer = IsBehindAll (old_in.side.slots < new_in.side.slots) answer
   AreWritten Node answer = IsBehindAll (old.side.slots < new.side.slots) answer
   AreWritten (Run workers) answer = IsBehindAll (old.side.slots < new.side.slots) answer
+  AreWritten (Bulk seed count workers) answer = IsBehindAll (old.side.slots < new.side.slots) answer
 
   -- what leaves a domain, in a capture, is one IPv6 packet a record, with a whole header chain without an IOAM option,
   -- of at most 262,144 octets; what `node` sends to a port is such a packet, but for its size
@@ -113,3 +132,4 @@ module _ (opens tells : Bool) (words : List (List ℕ)) (old_in new_in : Reading
   IsBounded Collect = ⊤
   IsBounded Node = node.IsBounded words old_in new_in old new
   IsBounded (Run workers) = domain.IsBounded opens words old_in new_in old new
+  IsBounded (Bulk seed count workers) = ⊤

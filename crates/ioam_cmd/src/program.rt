@@ -1,6 +1,6 @@
 //! The top call: one run of a command over a desk.
 ghost use Rattle.std.specs.Prelude.{true, ◌≡◌, ◌≢◌, ◌↔◌, ◌⊎◌, IsTrue};
-ghost use Rattle.ioam_cmd.specs.Clauses.{Asked, HasCause, Leaves, Asks, AreDrained, AreWritten, IsBounded, IsUntouched};
+ghost use Rattle.ioam_cmd.specs.Clauses.{Asked, HasCause, Leaves, Asks, AreDrained, AreWritten, IsBehindInputs, IsBounded, IsUntouched};
 ghost use Rattle.ioam_cmd.specs.Words.{IsForm, IsNoForm};
 ghost use Rattle.ioam_cmd.specs.declared.command.Command.{Command};
 ghost use Rattle.ioam_desk.specs.Desk.{Rose};
@@ -12,6 +12,7 @@ ghost use Rattle.ioam_answer.specs.declared.outcome.Outcome.{Outcome};
 use crate::command::{Command, parse};
 use ioam_answer::Outcome;
 use ioam_batch::Gate;
+use ioam_bulk::run_bulk;
 use ioam_collecting::run_collect;
 use ioam_desk::{Desk, Name, SureDesk};
 use ioam_domain::run_domain;
@@ -20,7 +21,7 @@ use ioam_transit::run_node;
 use std::alloc::Global;
 use std::thread::Threads;
 
-/// Runs the command that the words ask for over a desk, and answers. The workers of `run` are threads,
+/// Runs the command that the words ask for over a desk, and answers. The workers of `run` and `bulk` are threads,
 /// and ask the gate before each chunk of packets.
 pub fn ioam<R: Threads + Sync, D: Desk, G: Gate>(
     rt: &R,
@@ -31,8 +32,8 @@ pub fn ioam<R: Threads + Sync, D: Desk, G: Gate>(
 ) -> Outcome
     // Usage comes exactly where the words are of no command's form. Nothing was opened then, and no output is opened before an input.
     ensures usage { (result ≡ Outcome.Usage) ↔ IsNoForm words.now }
-    ensures unopened { result ≡ Outcome.Usage → D.reading desk.new ≡ D.reading desk.old }
-    ensures no_output { (D.reading desk.new).side.slots ≡ (D.reading desk.old).side.slots → D.writing desk.new ≡ D.writing desk.old }
+    ensures unopened { result ≡ Outcome.Usage → (D.reading desk.new ≡ D.reading desk.old) × (D.writing desk.new ≡ D.writing desk.old) }
+    ensures no_output { (command : Command) → IsForm command words.now → IsBehindInputs G.opens D.tells words.now (D.reading desk.old) (D.reading desk.new) (D.writing desk.old) (D.writing desk.new) command }
     ensures untouched { (command : Command) → IsForm command words.now → IsUntouched G.opens D.tells words.now (D.reading desk.old) (D.reading desk.new) (D.writing desk.old) (D.writing desk.new) command result }
 
     // A fault of reading or writing comes only where the desk's count of such faults rose.
@@ -66,6 +67,13 @@ pub fn ioam<R: Threads + Sync, D: Desk, G: Gate>(
         Some(Command::Collect) => run_collect(alloc, words, desk),
         Some(Command::Node) => run_node(alloc, words, desk),
         Some(Command::Run { workers }) => run_domain(rt, alloc, workers, words, desk, gate),
+        Some(
+            Command::Bulk {
+                seed,
+                count,
+                workers,
+            },
+        ) => run_bulk(rt, alloc, seed, count, workers, words, desk, gate),
         None => Outcome::Usage,
     }
 }

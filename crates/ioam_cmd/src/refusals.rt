@@ -5,7 +5,23 @@ pub struct Refusal {
     pub line: &'static str,
 }
 
-const REFUSALS: [Refusal; 20] = [
+const REFUSALS: [Refusal; 24] = [
+    Refusal {
+        words: &["bulk", "18446744073709551616", "1", "1", "r"],
+        line: "usage",
+    },
+    Refusal {
+        words: &["bulk", "00", "1", "1", "r"],
+        line: "usage",
+    },
+    Refusal {
+        words: &["bulk", "0", "1000001", "1", "r"],
+        line: "usage",
+    },
+    Refusal {
+        words: &["bulk", "0", "1", "0", "r"],
+        line: "usage",
+    },
     Refusal {
         words: &["paths", "a", "a"],
         line: "names a",

@@ -103,6 +103,17 @@ fn run_over_a_desk_that_never_fails(rt: HostRuntime) {
 }
 
 #[test]
+fn bulk_over_a_desk_that_never_fails(rt: HostRuntime) {
+    let alloc = rt.alloc();
+    let mut desk = SureDesk::new(alloc).expect(&rt, "memory");
+    assert!(rt;
+        is_done(&rt, alloc, &["bulk", "0", "2", "1", "r"], &mut desk).expect(&rt, "memory")
+    );
+    let report = desk.file("r").expect(&rt, "a report");
+    assert!(rt; report.starts_with(b"packets 2 left 1 dropped 1\nnode n1 seen 2 dropped 1\n"));
+}
+
+#[test]
 fn equal_names_and_other_words_open_nothing(rt: HostRuntime) {
     let alloc = rt.alloc();
     for row in refusals() {
