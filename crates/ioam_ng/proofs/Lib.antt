@@ -1,0 +1,6 @@
+pub mod NumbersLaws
+pub mod FaceLaws
+pub mod OptionLaws
+pub mod BlockLaws
+pub mod ReadsLaws
+pub mod StandsLaws

@@ -1,0 +1,38 @@
+use Rattle.std.proofs.Common.{◌≡◌, ◌+◌, ◌-◌, take, drop, refl, ap, ◌∙◌, subst, rules}
+use Rattle.ioam_ng.specs.declared.block.Content.{Content}
+use Rattle.ioam_ng.specs.Reader.{IsPacket}
+use Rattle.ioam_ng.proofs.StandsLaws.{tells_more, tells_bad, tells_memory, octets_of_packet, moved_packet, packet_told}
+use Rattle.ioam_ng.proofs.reader.NgReader.next.Goals as goal
+
+pub returns-in-More : goal.returns-in-More
+returns-in-More c =
+    let e = c.in-More.ensures in
+    ((refl, λ _. tt, tells_more c.args.self.now c.advance.new.self _ e.skips c.self.view_is e.due.0 e.due.1), tt)
+
+pub returns-in-Bad : goal.returns-in-Bad
+returns-in-Bad c =
+    let e = c.in-Bad.ensures in
+    ((refl, λ _. tt, tells_bad c.args.self.now c.advance.new.self _ e.skips c.self.view_is c.self.inside.start c.in-Bad.fault (ap (λ r. r.start) c.self.view_is) e.due), tt)
+
+pub returns-in-NoMemory : goal.returns-in-NoMemory
+returns-in-NoMemory c =
+    let e = c.in-NoMemory.ensures in
+    ((refl, λ _. tt, tells_memory c.args.self.now c.advance.new.self _ e.skips c.self.view_is e.due), tt)
+
+pub returns-in-Packet-content : goal.returns-in-Packet-content
+returns-in-Packet-content c =
+    let e = c.in-Packet.ensures in
+    let old = c.args.self.now in
+    let mid = c.advance.new.self in
+    let b = c.in-Packet.block in
+    let head = c.in-Packet-content.head in
+    let inside = c.self.inside in
+    let Q : Content → Type 0 = λ x. IsPacket mid b x in
+    let is = subst Q c.in-Packet-content.is e.due in
+    let added : c.from.result ≡ b.size = search rules in
+    let moved = moved_packet inside.buffer.items inside.taken inside.start inside.count c.from.result inside.order inside.faces.items mid b head c.self.view_is c.in-Packet-content.is added in
+    let octets = take (inside.taken + 28 + head.captured - (inside.taken + 28)) (drop (inside.taken + 28) c.deref.result.now) in
+    let shown : octets ≡ take head.captured (drop 28 mid.pending) =
+    octets_of_packet _ _ inside.taken head.captured c.deref.ensures.value ∙ ap (λ r. take head.captured (drop 28 r.pending)) c.self.view_is in
+    let told = packet_told old mid _ e.skips b head is moved octets shown in
+    ((refl, λ _. tt, (told.0, told.1, λ all taken stands. (told.2 all taken stands, tt), told.3 _)), tt)

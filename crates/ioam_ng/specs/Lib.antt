@@ -1,0 +1,12 @@
+pub mod Numbers
+pub mod Options
+pub mod Face
+pub mod Steps
+pub mod Checks
+pub mod Front
+pub mod Blocks
+pub mod BlockSteps
+pub mod Reading
+pub mod Reads
+pub mod Reader
+pub mod Text

@@ -1,0 +1,136 @@
+-- What a reader stands for, and what its steps tell of the octets that it was fed.
+use Rattle.std.specs.Prelude.{◌≡◌, ⊤, ℕ, ◌+◌, ◌<◌, ◌≤◌, ◌^◌, List, [], ◌∷◌, ◌++◌, length, take, drop, Option, Some, None}
+use Rattle.std.specs.Io.BufRead.{Rests}
+use Rattle.std.specs.Borrow.{Fml, MutBor}
+use Rattle.ioam_ng.specs.declared.face.Face.{Face}
+use Rattle.ioam_ng.specs.declared.fault.NgFault.{NgFault}
+use Rattle.ioam_ng.specs.declared.block.Block.{Block}
+use Rattle.ioam_ng.specs.declared.block.Content.{Content}
+use Rattle.ioam_ng.specs.declared.block.Content.TheVariants as content
+use Rattle.ioam_ng.specs.declared.reader.Found.{Found}
+use Rattle.ioam_ng.specs.declared.reader.Found.TheVariants as found
+use Rattle.ioam_ng.specs.declared.reader.NgStep.{NgStep}
+use Rattle.ioam_ng.specs.declared.reader.NgStep.TheVariants.{Packet, More, Bad, NoMemory}
+use Rattle.ioam_ng.specs.contracts.reader.NgReader.{the_row}
+use Rattle.ioam_ng.specs.Blocks.{Taken, CanPass, Blocks, front, packets, packet_there, behind}
+use Rattle.ioam_ng.specs.BlockSteps.{taken_of, known_with}
+use Rattle.ioam_ng.specs.Reading.{Reading, place_of, fed}
+use Rattle.ioam_ng.specs.Reads.{HasFault, IsCut, Ending, Whole, Faulty, Reads, ReadsOnly, CapNg}
+
+-- a reader that was fed these octets in all, and has given these packets
+pub record Stands (reader : Reading) (octets : List ℕ) (taken : List Taken) : Type 0 where
+  pub blocks : List (Option Taken)
+  pub leads : Blocks (front octets) blocks (place_of reader)
+  pub given : taken ≡ packets blocks
+  pub inside : fed reader ≡ length octets
+
+-- what is due is not whole and has no fault: more octets have to be fed, or the capture ends
+abbrev pub Waits : Reading → Type 0
+Waits reader = IsCut (place_of reader)
+
+-- then a reader holds back less than the octets of the largest block
+abbrev pub HoldsFew : Reading → Type 0
+HoldsFew reader = length reader.pending < 16777216
+
+-- what is due has this fault
+abbrev pub IsFaulty : Reading → NgFault → Type 0
+IsFaulty reader fault = HasFault (place_of reader) fault
+
+-- a fault of what is due stays
+abbrev pub KeepsFault : Reading → Reading → Type 0
+KeepsFault old new = (fault : NgFault) → IsFaulty old fault → IsFaulty new fault
+
+-- what is known behind a block of this content
+abbrev pub faces_with : List Face → Content → List Face
+faces_with faces content.Section = []
+faces_with faces (content.Face face) = faces ++ face ∷ []
+faces_with faces (content.Packet head) = faces
+faces_with faces content.Other = faces
+
+-- a block was taken
+abbrev pub moved_by : Reading → Block → Reading
+moved_by old b = record { known = known_with old.known b.order (faces_with old.known.faces b.content); start = old.start + b.size; pending = drop b.size old.pending }
+
+-- blocks without a packet were passed
+pub record Skips (old new : Reading) : Type 0 where
+  pub blocks : List (Option Taken)
+  pub leads : Blocks (place_of old) blocks (place_of new)
+  pub none : packets blocks ≡ []
+  pub fed : fed new ≡ fed old
+
+-- what is due is a whole block without a packet and without a fault
+abbrev pub IsPlain : Reading → Type 0
+IsPlain reader = CanPass (place_of reader) × (packet_there (place_of reader) ≡ None)
+
+-- what is due is a packet, of which the block says this
+abbrev pub IsPacket : Reading → Block → Content → Type 0
+IsPacket reader b content.Section = ⊥
+IsPacket reader b (content.Face face) = ⊥
+IsPacket reader b (content.Packet head) = CanPass (place_of reader)
+    × (packet_there (place_of reader) ≡ Some (taken_of head (take head.captured (drop 28 reader.pending))))
+    × (place_of (moved_by reader b) ≡ behind (place_of reader))
+    × (b.size ≤ length reader.pending) × (32 + head.captured ≤ b.size) × (head.captured ≤ 262144) × (head.time < 2 ^ 62) × (reader.known.count < 33554432)
+IsPacket reader b content.Other = ⊥
+
+-- what is due behind the blocks without a packet
+abbrev pub IsDue : Reading → Found → Type 0
+IsDue reader (found.Packet b) = IsPacket reader b b.content
+IsDue reader found.Passed = ⊥
+IsDue reader found.More = Waits reader × HoldsFew reader
+IsDue reader (found.Bad fault) = IsFaulty reader fault
+IsDue reader found.NoMemory = IsPlain reader
+
+-- one block was looked at, and passed where it has no packet
+abbrev pub Steps : Reading → Reading → Found → Type 0
+Steps old new found.Passed = IsPlain old × (place_of new ≡ behind (place_of old)) × (fed new ≡ fed old) × (length new.pending < length old.pending)
+Steps old new (found.Packet b) = (new ≡ old) × IsDue old (found.Packet b)
+Steps old new found.More = (new ≡ old) × IsDue old found.More
+Steps old new (found.Bad fault) = (new ≡ old) × IsDue old (found.Bad fault)
+Steps old new found.NoMemory = (new ≡ old) × IsDue old found.NoMemory
+
+-- what a packet shows of its block
+abbrev pub packet_shown : NgStep → List Taken
+packet_shown (Packet link p) = record { link = link; entry = record { time = p.time; original = p.original; octets = p.octets.now } } ∷ []
+packet_shown More = []
+packet_shown (Bad at fault) = []
+packet_shown NoMemory = []
+
+-- A step takes off octets and loses none. Behind `More` what is due waits; behind `Bad` it has this
+-- fault, and stands at this place; a packet has a time below 2^62 and no more than 262,144 octets;
+-- behind `NoMemory` a block without a packet is due that could not be kept.
+abbrev pub Rested : Reading → NgStep → Type 0
+Rested new (Packet link p) = (p.time < 2 ^ 62) × (length p.octets.now ≤ 262144)
+Rested new More = Waits new × HoldsFew new
+Rested new (Bad at fault) = (at ≡ new.start) × IsFaulty new fault
+Rested new NoMemory = IsPlain new
+
+-- a capture that has a fault reads so, whatever is fed, and in no other way
+abbrev pub EndsFaulty : List ℕ → List Taken → ℕ → NgFault → Type 0
+EndsFaulty octets taken at fault = ((more : List ℕ) → Reads (octets ++ more) taken (Faulty at fault))
+    × ((more : List ℕ) → ReadsOnly (octets ++ more) taken (Faulty at fault))
+
+-- what a step says of the octets fed so far, behind these packets: where it has no packet, that they
+-- are exactly blocks with these packets and a rest; and that a fault ends the capture
+abbrev pub Says : List ℕ → List Taken → Reading → NgStep → Type 0
+Says octets taken new (Packet link p) = ⊤
+Says octets taken new More = CapNg octets taken new.pending
+Says octets taken new (Bad at fault) = CapNg octets taken new.pending × EndsFaulty octets taken at fault
+Says octets taken new NoMemory = ⊤
+
+abbrev pub Told : List ℕ → List Taken → Reading → NgStep → Type 0
+Told octets taken new step = Stands new octets (taken ++ packet_shown step) × Says octets taken new step
+
+-- where what is due has a fault a step says this fault, and changes nothing
+abbrev pub SaysFault : Reading → Reading → NgStep → Type 0
+SaysFault old new step = (fault : NgFault) → IsFaulty old fault → (step ≡ Bad old.start fault) × (new ≡ old)
+
+-- so the reader is once the step's octets are no longer lent
+abbrev pub RestsSo : MutBor Reading → NgStep → Fml
+RestsSo reader step = Rests the_row reader (λ new. Rested new step × (fed new ≡ fed reader.now)
+    × ((octets : List ℕ) (taken : List Taken) → Stands reader.now octets taken → Told octets taken new step)
+    × SaysFault reader.now new step)
+
+-- the ending of a capture that was fed whole, by what `finish` answers
+abbrev pub ending_of : Option (ℕ × NgFault) → Ending
+ending_of None = Whole
+ending_of (Some (at, fault)) = Faulty at fault

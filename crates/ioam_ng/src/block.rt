@@ -1,0 +1,214 @@
+ghost use Rattle.std.specs.Prelude.{◌≡◌, ◌≤◌, ◌<◌, ◌^◌, length};
+ghost use Rattle.ioam_ng.specs.Blocks.{face_at, is_linked, link_of, units};
+ghost use Rattle.ioam_ng.specs.Front.{least_size};
+ghost use Rattle.ioam_ng.specs.BlockSteps.{TellsBody, TellsPacket, TellsAmong, TellsContent, TellsBlock};
+
+use crate::face::{Face, is_resolved, time_of};
+use crate::fault::NgFault;
+use crate::front::{Front, FrontStep, SECTION, front_step};
+use crate::numbers::{Order, number_at, short_at};
+use crate::option::face_in;
+use ioam_pcap::Link;
+
+/// The most octets of a packet.
+const PACKET_MOST: u32 = 262_144;
+
+/// What a packet block says of its packet.
+#[derive(Clone, Copy)]
+pub struct PacketHead {
+    pub link: Link,
+    pub time: u64,
+    pub original: u32,
+    pub captured: u32,
+}
+
+/// The body of a block, as far as no interface is needed for it.
+#[derive(Clone, Copy)]
+enum Body {
+    Section,
+    Face(Face),
+    Packet,
+    Other,
+}
+
+/// What a block holds.
+#[derive(Clone, Copy)]
+pub enum Content {
+    Section,
+    Face(Face),
+    Packet(PacketHead),
+    Other,
+}
+
+/// A whole block.
+#[derive(Clone, Copy)]
+pub struct Block {
+    pub order: Order,
+    pub size: u32,
+    pub content: Content,
+}
+
+/// What the octets where a block is due show of it.
+#[derive(Clone, Copy)]
+pub enum BlockStep {
+    Whole(Block),
+    Cut,
+    Bad(NgFault),
+}
+
+// The interface of an interface block; None where an option passes the body.
+fn face_at(order: Order, block: &[u8]) -> Option<Face>
+    requires { 20 ≤ length block.now }
+    ensures { result ≡ face_at order block.now }
+{
+    face_in(
+        order,
+        short_at(order, block, 8),
+        &block[16..block.len() - 4],
+    )
+}
+
+// The body of a block of a type; None where the captured octets or an option pass it.
+fn body_in(front: Front, block: &[u8]) -> Option<Body>
+    requires { least_size front.kind ≤ length block.now }
+    ensures { TellsBody front.order front.kind block.now result }
+{
+    match front.kind {
+        SECTION => Some(Body::Section),
+        1 => match face_at(front.order, block) {
+            Some(face) => Some(Body::Face(face)),
+            None => None,
+        },
+        6 => {
+            let captured = number_at(front.order, block, 20);
+            if block.len() < 32 + captured as usize {
+                None
+            } else {
+                Some(Body::Packet)
+            }
+        }
+        _ => Some(Body::Other),
+    }
+}
+
+// The link type of an interface is one that is read.
+fn is_linked(face: Face) -> bool
+    ensures { result ≡ is_linked face }
+{
+    face.kind == 1 || face.kind == 101 || face.kind == 229
+}
+
+// The layer that the packets of such an interface begin at.
+fn link_of(face: Face) -> Link
+    ensures { result ≡ link_of face }
+{
+    if face.kind == 1 {
+        Link::Ethernet
+    } else {
+        Link::Raw
+    }
+}
+
+// The units of a packet's time.
+fn units_in(order: Order, block: &[u8]) -> u64
+    requires { 32 ≤ length block.now }
+    ensures { result ≡ units order block.now }
+{
+    let high = u64::from(number_at(order, block, 12));
+    let low = u64::from(number_at(order, block, 16));
+    high * 4_294_967_296 + low
+}
+
+// What a packet block of an interface says.
+fn packet_in(order: Order, face: Face, block: &[u8]) -> Result<PacketHead, NgFault>
+    requires { 32 ≤ length block.now }
+    ensures { TellsPacket order face block.now result }
+{
+    if !is_linked(face) {
+        return Err(NgFault::Link {
+            found: u32::from(face.kind),
+        });
+    }
+    if !is_resolved(face.resolution) {
+        return Err(NgFault::Resolution {
+            found: u32::from(face.resolution),
+        });
+    }
+    let captured = number_at(order, block, 20);
+    if PACKET_MOST < captured {
+        return Err(NgFault::RecordLong { found: captured });
+    }
+    let units = units_in(order, block);
+    match time_of(face, units) {
+        Some(time) => Ok(PacketHead {
+            link: link_of(face),
+            time,
+            original: number_at(order, block, 24),
+            captured,
+        }),
+        None => Err(NgFault::Time { found: units }),
+    }
+}
+
+// What a packet block says, among the interfaces of its section.
+fn packet_among(order: Order, faces: &[Face], block: &[u8]) -> Result<PacketHead, NgFault>
+    requires { 32 ≤ length block.now }
+    ensures { TellsAmong order faces.now block.now result }
+{
+    let number = number_at(order, block, 8);
+    match faces.get(number as usize) {
+        Some(face) => packet_in(order, *face, block),
+        None => Err(NgFault::Face { found: number }),
+    }
+}
+
+// What a whole block of this front holds.
+fn content_in(front: Front, faces: &[Face], block: &[u8]) -> Result<Content, NgFault>
+    requires least { least_size front.kind ≤ length block.now }
+    requires size { length block.now ≡ front.size }
+    ensures { TellsContent front.order front.kind faces.now block.now result }
+{
+    let Some(body) = body_in(front, block) else {
+        return Err(NgFault::Size { found: front.size });
+    };
+    let trail = number_at(front.order, block, block.len() - 4);
+    if trail != front.size {
+        return Err(NgFault::Trail { found: trail });
+    }
+    if front.kind == 2 || front.kind == 3 {
+        return Err(NgFault::Kind { found: front.kind });
+    }
+    match body {
+        Body::Section => Ok(Content::Section),
+        Body::Face(face) => Ok(Content::Face(face)),
+        Body::Packet => match packet_among(front.order, faces, block) {
+            Ok(head) => Ok(Content::Packet(head)),
+            Err(fault) => Err(fault),
+        },
+        Body::Other => Ok(Content::Other),
+    }
+}
+
+// What the octets where a block is due show of it, behind so many blocks.
+pub fn block_step(count: u32, known: Option<Order>, faces: &[Face], octets: &[u8]) -> BlockStep
+    ensures { TellsBlock (record { count = count; order = known; faces = faces.now }) octets.now result }
+{
+    match front_step(count, known, octets) {
+        FrontStep::Cut => BlockStep::Cut,
+        FrontStep::Bad(fault) => BlockStep::Bad(fault),
+        FrontStep::There(front) => {
+            let size = front.size as usize;
+            if octets.len() < size {
+                return BlockStep::Cut;
+            }
+            match content_in(front, faces, &octets[..size]) {
+                Ok(content) => BlockStep::Whole(Block {
+                    order: front.order,
+                    size: front.size,
+                    content,
+                }),
+                Err(fault) => BlockStep::Bad(fault),
+            }
+        }
+    }
+}

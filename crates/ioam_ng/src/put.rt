@@ -1,0 +1,133 @@
+ghost use Rattle.std.specs.Prelude.{◌≡◌, ◌+◌, ◌≤◌, ◌<◌, ◌^◌, ◌++◌, [], length, is_ok, if◌then◌else◌};
+ghost use Rattle.ioam_ng.specs.Text.{head_octets, face_for, packet_front, packet_numbers, packet_tail, packet_octets, packet_size, taken_by};
+
+use ioam_base::buffer::Buffer;
+use ioam_base::memory::NoMemory;
+use ioam_base::text::append;
+use ioam_pcap::{Link, Packet};
+
+/// The section block and the two interface blocks of what is written.
+const HEAD: [u8; 92] = [
+    0x0a, 0x0d, 0x0d, 0x0a, 0, 0, 0, 0x1c, 0x1a, 0x2b, 0x3c, 0x4d, 0, 1, 0, 0, 0xff, 0xff, 0xff,
+    0xff, 0xff, 0xff, 0xff, 0xff, 0, 0, 0, 0x1c, 0, 0, 0, 1, 0, 0, 0, 0x20, 0, 0x65, 0, 0, 0, 4, 0,
+    0, 0, 9, 0, 1, 9, 0, 0, 0, 0, 0, 0, 0, 0, 0, 0, 0x20, 0, 0, 0, 1, 0, 0, 0, 0x20, 0, 1, 0, 0, 0,
+    4, 0, 0, 0, 9, 0, 1, 9, 0, 0, 0, 0, 0, 0, 0, 0, 0, 0, 0x20,
+];
+
+/// Appends what stands before the packets of a capture: 92 octets, big-endian, a section and two
+/// interfaces in nanoseconds, the first of packets that begin with an IP header (link type 101), the
+/// second of packets with an Ethernet header (link type 1). Without memory `out` is as before.
+pub fn put_ng_head(out: &mut Vec<u8>) -> Result<(), NoMemory>
+    ensures octets { out.new.items
+        ≡ (if is_ok result then out.old.items ++ head_octets else out.old.items) }
+{
+    append(out, &HEAD)
+}
+
+// The interface of a packet's link.
+fn face_for(link: Link) -> u32
+    ensures { result ≡ face_for link }
+{
+    match link {
+        Link::Raw => 0,
+        Link::Ethernet => 1,
+    }
+}
+
+// The octets of a block of so many captured octets.
+fn packet_size(captured: u32) -> u32
+    requires { captured ≤ 262144 }
+    ensures value { result ≡ packet_size captured }
+    ensures few { result ≤ captured + 35 }
+{
+    32 + captured + (4 - captured % 4) % 4
+}
+
+// The front of a packet's block.
+fn packet_front(link: Link, captured: u32) -> Buffer
+    requires { captured ≤ 262144 }
+    ensures { result ≡ packet_front link captured }
+{
+    let mut front = Buffer::new();
+    front.four(6);
+    front.four(packet_size(captured));
+    front.four(face_for(link));
+    front
+}
+
+// The time and the two lengths of a packet's block.
+fn packet_numbers(time: u64, captured: u32, original: u32) -> Buffer
+    ensures { result ≡ packet_numbers time captured original }
+{
+    let mut numbers = Buffer::new();
+    numbers.four((time / (1 << 32)) as u32);
+    numbers.four((time % (1 << 32)) as u32);
+    numbers.four(captured);
+    numbers.four(original);
+    numbers
+}
+
+// What stands behind the octets of a packet.
+fn packet_tail(captured: u32) -> Buffer
+    requires { captured ≤ 262144 }
+    ensures { result ≡ packet_tail captured }
+{
+    let zeros = [0; 3];
+    let mut tail = Buffer::new();
+    tail.append(&zeros[..(4 - captured as usize % 4) % 4]);
+    tail.four(packet_size(captured));
+    tail
+}
+
+// Appends two parts, or leaves what was there.
+fn append_two(first: &[u8], second: &[u8], out: &mut Vec<u8>) -> Result<(), NoMemory>
+    ensures { out.new.items ≡ (if is_ok result then out.old.items ++ (first.now ++ second.now) else out.old.items) }
+{
+    let before = out.len();
+    append(out, first)?;
+    match append(out, second) {
+        Ok(()) => Ok(()),
+        Err(no_memory) => {
+            out.truncate(before);
+            Err(no_memory)
+        }
+    }
+}
+
+// Appends a block by its parts, or leaves what was there.
+fn append_block(
+    front: &[u8],
+    numbers: &[u8],
+    octets: &[u8],
+    tail: &[u8],
+    out: &mut Vec<u8>,
+) -> Result<(), NoMemory>
+    ensures { out.new.items
+        ≡ (if is_ok result then out.old.items ++ (front.now ++ (numbers.now ++ (octets.now ++ tail.now))) else out.old.items) }
+{
+    let before = out.len();
+    append_two(front, numbers, out)?;
+    match append_two(octets, tail, out) {
+        Ok(()) => Ok(()),
+        Err(no_memory) => {
+            out.truncate(before);
+            Err(no_memory)
+        }
+    }
+}
+
+/// Appends the block of a packet of at most 262,144 octets and of a time below 2^62 nanoseconds,
+/// with zeros to a multiple of four and no options. Without memory `out` is as before.
+pub fn put_ng_packet(link: Link, packet: &Packet<'_>, out: &mut Vec<u8>) -> Result<(), NoMemory>
+    requires size { length packet.now.octets.now ≤ 262144 }
+    requires time { packet.now.time < 2 ^ 62 }
+    ensures octets { out.new.items
+        ≡ (if is_ok result then out.old.items ++ packet_octets (taken_by link packet.now) else out.old.items) }
+{
+    let octets = packet.octets;
+    let captured = octets.len() as u32;
+    let front = packet_front(link, captured);
+    let numbers = packet_numbers(packet.time, captured, packet.original);
+    let tail = packet_tail(captured);
+    append_block(front.octets(), numbers.octets(), octets, tail.octets(), out)
+}

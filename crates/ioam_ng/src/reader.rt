@@ -1,0 +1,250 @@
+ghost use Rattle.std.specs.Prelude.{◌≡◌, ◌+◌, ◌≤◌, ◌<◌, ◌^◌, ◌++◌, [], List, ℕ, length, drop, IfOk, IsSome, MatchOption, OnErr, OnOk};
+ghost use Rattle.std.specs.Borrow.{sem};
+
+use crate::block::{Block, BlockStep, Content, block_step};
+use crate::face::Face;
+use crate::fault::NgFault;
+use crate::numbers::Order;
+use ioam_base::memory::NoMemory;
+use ioam_base::octets::drop_front;
+use ioam_pcap::{Link, Packet};
+use std::alloc::Global;
+use std::marker::Model;
+
+/// Octets that a reader has room for from the start: a piece as files are read in.
+const ROOM: usize = 65_536;
+
+/// What a reader shows next of its capture.
+#[derive(Clone, Copy, Debug)]
+pub enum NgStep<'a> {
+    /// A packet was read; this is the layer that the packets of its interface begin at.
+    Packet { link: Link, packet: Packet<'a> },
+    /// More octets are needed, or the capture's end.
+    More,
+    /// At this place, in octets from the capture's first, a block is faulty.
+    Bad { at: u64, fault: NgFault },
+    /// An interface can't be kept for want of memory; its block is not yet taken.
+    NoMemory,
+}
+
+/// What is due behind the blocks without a packet.
+#[derive(Clone, Copy)]
+enum Found {
+    Packet(Block),
+    Passed,
+    More,
+    Bad(NgFault),
+    NoMemory,
+}
+
+/// Reads a capture in the form pcapng out of any pieces of it.
+///
+/// It keeps the octets that were fed and not yet taken, and the interfaces of the section. Where
+/// `next` answers `More` these octets are fewer than the 16,777,216 of the largest block. Each
+/// octet is copied into the buffer once, and moved to its front at most once.
+#[derive(Drop)]
+pub struct NgReader {
+    buffer: Vec<u8>,
+    // octets at the front of the buffer that were taken
+    taken: usize,
+    // the place in the capture of the first octet behind these
+    start: u64,
+    // blocks that were taken
+    count: u32,
+    order: Option<Order>,
+    faces: Vec<Face>,
+}
+
+impl Model for NgReader {
+    ghost use Rattle.std.specs.Prelude.{◌+◌, ◌-◌, ◌<◌, ◌≤◌, ◌^◌, drop, length};
+    ghost use Rattle.ioam_ng.specs.Reading.{Reading};
+
+    ghost Value = { Reading };
+
+    ghost view = { λ r. record { known = record { count = r.count; order = r.order; faces = r.faces.items }; start = r.start; pending = drop r.taken r.buffer.items } };
+
+    ghost invariant = { λ r. (r.taken ≤ length r.buffer.items) × (r.start + (length r.buffer.items - r.taken) < 2 ^ 63) };
+}
+
+impl NgReader {
+    ghost use Rattle.ioam_ng.specs.declared.fault.NgFault.TheVariants.{Short};
+    ghost use Rattle.ioam_ng.specs.Blocks.{Taken};
+    ghost use Rattle.ioam_ng.specs.BlockSteps.{TellsBlock};
+    ghost use Rattle.ioam_ng.specs.Reading.{fresh, fed};
+    ghost use Rattle.ioam_ng.specs.Reads.{Reads, ReadsOnly};
+    ghost use Rattle.ioam_ng.specs.Reader.{Stands, Waits, HoldsFew, KeepsFault, Skips, IsDue, Steps, RestsSo, moved_by, ending_of};
+
+    /// A reader that was fed nothing.
+    pub fn new(alloc: Global) -> Result<NgReader, NoMemory>
+        ensures exact { IfOk result (λ reader. reader ≡ fresh) }
+        ensures stands { IfOk result (λ reader. Stands reader [] []) }
+    {
+        let buffer = Vec::with_capacity(alloc, ROOM)?;
+        Ok(NgReader {
+            buffer,
+            taken: 0,
+            start: 0,
+            count: 0,
+            order: None,
+            faces: Vec::new(alloc),
+        })
+    }
+
+    /// How many octets were fed in all.
+    pub fn fed(&self) -> u64
+        ensures { result ≡ fed self.now }
+    {
+        self.start + (self.buffer.len() - self.taken) as u64
+    }
+
+    /// Feeds the next octets of the capture, of which there are below 2^63 in all.
+    pub fn feed(&mut self, piece: &[u8]) -> Result<(), NoMemory>
+        requires { fed self.old + length piece.now < 2 ^ 63 }
+        ensures ok { OnOk result (self.new
+            ≡ record self.old { pending = self.old.pending ++ piece.now }) }
+        ensures stands { OnOk result ((octets : List ℕ) (taken : List Taken)
+            → Stands self.old octets taken
+            → Stands self.new (octets ++ piece.now) taken) }
+        // A fault of what is due stays, whatever is fed.
+        ensures faulty { OnOk result (KeepsFault self.old self.new) }
+        ensures err { OnErr result (self.new ≡ self.old) }
+    {
+        drop_front(&mut self.buffer, self.taken);
+        self.taken = 0;
+        self.buffer.extend_from_slice(piece)?;
+        Ok(())
+    }
+
+    // What the octets show of the block that is due.
+    fn look(&self) -> BlockStep
+        ensures { TellsBlock self.now.known self.now.pending result }
+    {
+        block_step(
+            self.count,
+            self.order,
+            &self.faces,
+            &self.buffer[self.taken..],
+        )
+    }
+
+    // Takes a block.
+    fn keep(&mut self, block: Block) -> Result<(), NoMemory>
+        requires fits { block.size ≤ length self.old.pending }
+        requires count { self.old.known.count < 33554432 }
+        ensures ok { OnOk result (self.new ≡ moved_by self.old block) }
+        ensures err { OnErr result (self.new ≡ self.old) }
+    {
+        match block.content {
+            Content::Section => self.faces.clear(),
+            Content::Face(face) => self.faces.push(face)?,
+            Content::Packet(_) | Content::Other => {}
+        }
+        self.order = Some(block.order);
+        self.count += 1;
+        self.taken += block.size as usize;
+        self.start += u64::from(block.size);
+        Ok(())
+    }
+
+    // Looks at the block that is due, and passes it where it has no packet.
+    fn step(&mut self) -> Found
+        ensures { Steps self.old self.new result }
+    {
+        match self.look() {
+            BlockStep::Cut => Found::More,
+            BlockStep::Bad(fault) => Found::Bad(fault),
+            BlockStep::Whole(block) => match block.content {
+                Content::Packet(_) => Found::Packet(block),
+                Content::Section | Content::Face(_) | Content::Other => match self.keep(block) {
+                    Ok(()) => Found::Passed,
+                    Err(NoMemory) => Found::NoMemory,
+                },
+            },
+        }
+    }
+
+    // Passes the blocks without a packet.
+    fn advance(&mut self) -> Found
+        ensures skips { Skips self.old self.new }
+        ensures due { IsDue self.new result }
+    {
+        'passing: loop {
+            match self.step() {
+                Found::Passed => {}
+                found => return found,
+            }
+        }
+    }
+
+    /// The next packet of the capture; the blocks without one are passed. After `Bad` every call
+    /// answers the same.
+    pub fn next(&mut self) -> NgStep<'_>
+        ensures* { sem 𝓛 (RestsSo self.entry result) }
+    {
+        match self.advance() {
+            Found::Packet(block) => match block.content {
+                Content::Packet(head) => {
+                    let from = self.taken + 28;
+                    let to = from + head.captured as usize;
+                    self.order = Some(block.order);
+                    self.count += 1;
+                    self.taken += block.size as usize;
+                    self.start += u64::from(block.size);
+                    NgStep::Packet {
+                        link: head.link,
+                        packet: Packet {
+                            time: head.time,
+                            original: head.original,
+                            octets: &self.buffer[from..to],
+                        },
+                    }
+                }
+                Content::Section | Content::Face(_) | Content::Other => NgStep::More,
+            },
+            Found::Passed => NgStep::More,
+            Found::More => NgStep::More,
+            Found::Bad(fault) => NgStep::Bad {
+                at: self.start,
+                fault,
+            },
+            Found::NoMemory => NgStep::NoMemory,
+        }
+    }
+
+    /// What an ended capture leaves over, once `next` answered `More`: nothing where a section
+    /// block was read and the last block is whole, else the place of the block that is cut, and how
+    /// many octets of it are there.
+    pub fn finish(&self) -> Option<(u64, NgFault)>
+        requires waits { Waits self.now }
+        requires few { HoldsFew self.now }
+        ensures left { MatchOption result
+            (IsSome self.now.known.order × (self.now.pending ≡ []))
+            (λ cut. (cut ≡ (self.now.start, Short (length self.now.pending)))
+            × (IsSome self.now.known.order → 0 < length self.now.pending)) }
+        ensures reads { (octets : List ℕ) (taken : List Taken) → Stands self.now octets taken
+            → Reads octets taken (ending_of result) }
+        // Nothing else is read of the octets, in whatever pieces they were fed.
+        ensures only { (octets : List ℕ) (taken : List Taken) → Stands self.now octets taken
+            → ReadsOnly octets taken (ending_of result) }
+    {
+        self.left_over()
+    }
+
+    // What an ended capture leaves over, by the rules alone.
+    fn left_over(&self) -> Option<(u64, NgFault)>
+        requires waits { Waits self.now }
+        requires few { HoldsFew self.now }
+        ensures left { MatchOption result
+            (IsSome self.now.known.order × (self.now.pending ≡ []))
+            (λ cut. (cut ≡ (self.now.start, Short (length self.now.pending)))
+            × (IsSome self.now.known.order → 0 < length self.now.pending)) }
+        ensures reads { (octets : List ℕ) (taken : List Taken) → Stands self.now octets taken
+            → Reads octets taken (ending_of result) }
+    {
+        let have = self.buffer.len() - self.taken;
+        if self.order.is_some() && have == 0 {
+            return None;
+        }
+        Some((self.start, NgFault::Short { have: have as u32 }))
+    }
+}
