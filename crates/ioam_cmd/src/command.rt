@@ -21,7 +21,7 @@ pub enum Command {
     Bulk { seed: u64, count: u32, workers: u32 },
 }
 
-ghost use Rattle.std.specs.Prelude.{ℕ, MatchOption};
+ghost use Rattle.std.specs.Prelude.{◌≡◌, ◌↔◌, ℕ, IsTrue, MatchOption, codes};
 ghost use Rattle.ioam_cmd.specs.Words.{IsBulk, IsCount, IsForm, IsNoForm, IsNoBulk, IsSeed, IsWorkers};
 
 // The number of workers that a word spells.
@@ -44,12 +44,19 @@ fn count_of(word: &Name) -> Option<u32>
     }
 }
 
+// Whether a word spells the greatest seed.
+fn is_greatest(word: &Name) -> bool
+    ensures { IsTrue result ↔ (word.now ≡ codes "18446744073709551615") }
+{
+    word.text() == "18446744073709551615"
+}
+
 // The seed that a word spells.
 fn seed_of(word: &Name) -> Option<u64>
     ensures { MatchOption result ((seed : ℕ) → IsSeed seed word.now → ⊥) (λ seed. IsSeed seed word.now) }
 {
     // the limit itself can't be read below it
-    if word.text() == "18446744073709551615" {
+    if is_greatest(word) {
         return Some(u64::MAX);
     }
     decimal_below(word.text().as_bytes(), u64::MAX)
