@@ -1,8 +1,8 @@
-mod BestLaws
+pub mod BestLaws
 pub mod CollectedLaws
 pub mod CountLaws
-mod FiledLaws
-mod KeyLaws
-mod Members
-mod Sorting
+pub mod FiledLaws
+pub mod KeyLaws
+pub mod Members
+pub mod Sorting
 mod StoreLaws

@@ -4,3 +4,4 @@ pub mod OptionLaws
 pub mod BlockLaws
 pub mod ReadsLaws
 pub mod StandsLaws
+pub mod TextLaws

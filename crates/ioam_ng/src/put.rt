@@ -1,5 +1,7 @@
-ghost use Rattle.std.specs.Prelude.{◌≡◌, ◌+◌, ◌≤◌, ◌<◌, ◌^◌, ◌++◌, [], length, is_ok, if◌then◌else◌};
-ghost use Rattle.ioam_ng.specs.Text.{head_octets, face_for, packet_front, packet_numbers, packet_tail, packet_octets, packet_size, taken_by};
+ghost use Rattle.std.specs.Prelude.{◌≡◌, ◌+◌, ◌≤◌, ◌<◌, ◌^◌, ◌++◌, ◌∷◌, [], All, List, OnOk, length, is_ok, if◌then◌else◌};
+ghost use Rattle.ioam_ng.specs.Blocks.{Taken};
+ghost use Rattle.ioam_ng.specs.Reads.{Reads, Whole};
+ghost use Rattle.ioam_ng.specs.Text.{head_octets, face_for, packet_front, packet_numbers, packet_tail, packet_octets, packet_size, taken_by, capture_text, IsSendable};
 
 use ioam_base::buffer::Buffer;
 use ioam_base::memory::NoMemory;
@@ -20,6 +22,7 @@ const HEAD: [u8; 92] = [
 pub fn put_ng_head(out: &mut Vec<u8>) -> Result<(), NoMemory>
     ensures octets { out.new.items
         ≡ (if is_ok result then out.old.items ++ head_octets else out.old.items) }
+    ensures begins { out.old.items ≡ [] → OnOk result (out.new.items ≡ capture_text []) }
 {
     append(out, &HEAD)
 }
@@ -123,11 +126,20 @@ pub fn put_ng_packet(link: Link, packet: &Packet<'_>, out: &mut Vec<u8>) -> Resu
     requires time { packet.now.time < 2 ^ 62 }
     ensures octets { out.new.items
         ≡ (if is_ok result then out.old.items ++ packet_octets (taken_by link packet.now) else out.old.items) }
+
+    // Behind a capture it makes a capture of one packet more,
+    ensures adds { (sent : List Taken) → out.old.items ≡ capture_text sent
+        → OnOk result (out.new.items ≡ capture_text (sent ++ taken_by link packet.now ∷ [])) }
+
+    // which reads as these packets, while its blocks are no more than a capture may have.
+    ensures reads { (sent : List Taken) → All IsSendable sent → length sent + 4 ≤ 33554432 → out.old.items ≡ capture_text sent
+        → OnOk result (Reads out.new.items (sent ++ taken_by link packet.now ∷ []) Whole) }
 {
+    let original = packet.original;
     let octets = packet.octets;
     let captured = octets.len() as u32;
     let front = packet_front(link, captured);
-    let numbers = packet_numbers(packet.time, captured, packet.original);
+    let numbers = packet_numbers(packet.time, captured, original);
     let tail = packet_tail(captured);
     append_block(front.octets(), numbers.octets(), octets, tail.octets(), out)
 }
