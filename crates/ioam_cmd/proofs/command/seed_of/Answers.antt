@@ -1,4 +1,4 @@
-use Rattle.std.proofs.Common.{◌≡◌, ℕ, ◌<◌, List, sym, ◌∙◌, subst, arith}
+use Rattle.std.proofs.Common.{◌≡◌, ℕ, ◌<◌, List, ◌∙◌, subst, arith}
 use Rattle.std.specs.Prelude.{◌↔◌, Some, decimal}
 use Rattle.std.proofs.lemmas.Bool.{iff_false}
 use Rattle.ioam_cmd.proofs.WordsLaws.{greatest, spells_seed}
