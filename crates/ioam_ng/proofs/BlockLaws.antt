@@ -52,6 +52,7 @@ module _ (known : Known) (octets : List ℕ) (front : Front) (some : is_front oc
     known_is ∙ ap (λ k. known_with known front.order (faces_behind front.order block k known.faces)) section,
   )
   holds_by (content.Face face) size one = (
+    sym is.1 ∙ one.0,
     no_packet (ap (λ k. k == 6) one.0),
     known_is ∙ ap (λ k. known_with known front.order (faces_behind front.order block k known.faces)) one.0
         ∙ ap (λ f. known_with known front.order (known.faces ++ option_to_list f)) one.1,

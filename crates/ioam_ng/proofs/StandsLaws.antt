@@ -14,7 +14,7 @@ use Rattle.ioam_ng.specs.BlockSteps.{taken_of}
 use Rattle.ioam_ng.specs.Blocks.{Taken, Place, CanPass, packet_there, behind, Blocks, packets, front}
 use Rattle.ioam_ng.specs.Reading.{Reading, place_of, fed}
 use Rattle.ioam_ng.specs.Reads.{Faulty, Reads, CapNg}
-use Rattle.ioam_ng.specs.Reader.{Stands, Skips, Waits, HoldsFew, IsFaulty, IsPlain, Rested, Told, SaysFault, EndsFaulty, IsPacket, moved_by, faces_with}
+use Rattle.ioam_ng.specs.Reader.{Stands, Skips, Waits, HoldsFew, IsFaulty, IsPlain, IsFace, Rested, Told, SaysFault, EndsFaulty, IsPacket, moved_by, faces_with}
 use Rattle.ioam_ng.proofs.ReadsLaws.{with_more, Blocks-behind, HasFault-behind, fault_stops, cut_stops, cut_sound, fault_unique, Reads-unique}
 
 packets-append : (xs ys : List (Option Taken)) → packets (xs ++ ys) ≡ packets xs ++ packets ys
@@ -155,13 +155,13 @@ module _ (old mid new : Reading) (skips : Skips old mid) where
               (λ i. Bad (places i) (faults i), same ∙ still),
         )
 
-    pub tells_memory : IsPlain mid → Tells NoMemory
+    pub tells_memory : IsFace mid → Tells NoMemory
     tells_memory plain =
-        let Q : Reading → Type 0 = λ r. IsPlain r in (
+        let Q : Reading → Type 0 = λ r. IsFace r in (
           subst Q (sym same) plain,
           fed_same,
           λ octets taken stands. (stood octets taken stands, tt),
-          λ f bad. absurd (fault_stops (place_of mid) f (unended f bad) plain.0),
+          λ f bad. absurd (fault_stops (place_of mid) f (unended f bad) plain.0.0),
         )
 
 -- ---- a packet

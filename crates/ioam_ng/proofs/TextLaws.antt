@@ -5,7 +5,7 @@ use Rattle.std.specs.Option.{option_or}
 use Rattle.std.specs.Result.{OnOk}
 use Rattle.std.proofs.lemmas.Bool.{and_from, le-leb, lt-leb, le-ltb, lt-ltb, eq-eqb}
 use Rattle.std.proofs.lemmas.List.{append-nil, take_all, drop_all, get_or-drop}
-use Rattle.std.proofs.lemmas.List.Elements.{All-head, All-tail, All-push}
+use Rattle.std.proofs.lemmas.List.Elements.{All-nil, All-head, All-tail, All-push}
 use Rattle.std.proofs.Math.Seq.{drop-append_seam, take-append_seam}
 use Rattle.ioam_base.specs.Octets.{u32_at}
 use Rattle.ioam_base.specs.Words.{four_octets}
@@ -264,6 +264,12 @@ pub begins_by : {E : Type 0} (r : Result (Unit {0}) E) (old new : List ℕ) → 
     → OnOk r (new ≡ capture_text [])
 begins_by (Ok u) old new made empty = made ∙ ap (λ xs. xs ++ head_octets) empty
 begins_by (Err e) old new made empty = tt
+
+pub begins_reading : {E : Type 0} (r : Result (Unit {0}) E) (old new : List ℕ) → new ≡ cond (is_ok r) (old ++ head_octets) old → old ≡ []
+    → OnOk r (Reads new [] Whole)
+begins_reading (Ok u) old new made empty = let Q : List ℕ → Type 0 = λ xs. Reads xs [] Whole in
+    subst Q (sym (made ∙ ap (λ xs. xs ++ head_octets) empty)) (Reads-text [] (All-nil IsSendable) (omega arith))
+begins_reading (Err e) old new made empty = tt
 
 module _ (old new : List ℕ) (p : Taken) (ps : List Taken) where
   pub adds_by : {E : Type 0} (r : Result (Unit {0}) E) → new ≡ cond (is_ok r) (old ++ packet_octets p) old → old ≡ capture_text ps

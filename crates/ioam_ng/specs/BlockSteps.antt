@@ -15,7 +15,7 @@ use Rattle.ioam_ng.specs.Checks.{first}
 use Rattle.ioam_ng.specs.Face.{time_of}
 use Rattle.ioam_ng.specs.Numbers.{number_at}
 use Rattle.ioam_ng.specs.Front.{Known}
-use Rattle.ioam_ng.specs.Blocks.{Taken, face_at, face_number, units, captured, is_passed, packet_checks, packet_fault, block_fault, link_of, fault_in, is_whole, size, packet_in, known_behind}
+use Rattle.ioam_ng.specs.Blocks.{Taken, face_at, face_number, units, captured, is_passed, packet_checks, packet_fault, block_fault, link_of, fault_in, is_whole, size, kind, packet_in, known_behind}
 
 -- nothing passes the body of this type, or something does
 abbrev pub IsBody : Order → ℕ → List ℕ → Body → Type 0
@@ -67,7 +67,7 @@ known_with known order faces = record { count = known.count + 1; order = Some or
 -- what a whole block at the front holds, and what is known behind it
 abbrev pub Holds : Known → List ℕ → Block → Content → Type 0
 Holds known octets b content.Section = (packet_in known octets ≡ None) × (known_behind known octets ≡ known_with known b.order [])
-Holds known octets b (content.Face face) = (packet_in known octets ≡ None) × (known_behind known octets ≡ known_with known b.order (known.faces ++ face ∷ []))
+Holds known octets b (content.Face face) = (kind known octets ≡ 1) × (packet_in known octets ≡ None) × (known_behind known octets ≡ known_with known b.order (known.faces ++ face ∷ []))
 Holds known octets b (content.Packet head) = (packet_in known octets ≡ Some (taken_of head (take head.captured (drop 28 octets))))
     × (known_behind known octets ≡ known_with known b.order known.faces) × (32 + head.captured ≤ b.size) × (head.captured ≤ 262144) × (head.time < 2 ^ 62)
 Holds known octets b content.Other = (packet_in known octets ≡ None) × (known_behind known octets ≡ known_with known b.order known.faces)

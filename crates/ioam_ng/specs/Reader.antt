@@ -12,7 +12,7 @@ use Rattle.ioam_ng.specs.declared.reader.Found.TheVariants as found
 use Rattle.ioam_ng.specs.declared.reader.NgStep.{NgStep}
 use Rattle.ioam_ng.specs.declared.reader.NgStep.TheVariants.{Packet, More, Bad, NoMemory}
 use Rattle.ioam_ng.specs.contracts.reader.NgReader.{the_row}
-use Rattle.ioam_ng.specs.Blocks.{Taken, CanPass, Blocks, front, packets, packet_there, behind}
+use Rattle.ioam_ng.specs.Blocks.{Taken, CanPass, Blocks, front, kind, packets, packet_there, behind}
 use Rattle.ioam_ng.specs.BlockSteps.{taken_of, known_with}
 use Rattle.ioam_ng.specs.Reading.{Reading, place_of, fed}
 use Rattle.ioam_ng.specs.Reads.{HasFault, IsCut, Ending, Whole, Faulty, Reads, ReadsOnly, CapNg}
@@ -62,6 +62,17 @@ pub record Skips (old new : Reading) : Type 0 where
 abbrev pub IsPlain : Reading → Type 0
 IsPlain reader = CanPass (place_of reader) × (packet_there (place_of reader) ≡ None)
 
+-- and it is an interface block
+abbrev pub IsFace : Reading → Type 0
+IsFace reader = IsPlain reader × (kind reader.known reader.pending ≡ 1)
+
+-- a block of this content is an interface
+abbrev pub HoldsFace : Content → Type 0
+HoldsFace content.Section = ⊥
+HoldsFace (content.Face face) = ⊤
+HoldsFace (content.Packet head) = ⊥
+HoldsFace content.Other = ⊥
+
 -- what is due is a packet, of which the block says this
 abbrev pub IsPacket : Reading → Block → Content → Type 0
 IsPacket reader b content.Section = ⊥
@@ -78,7 +89,7 @@ IsDue reader (found.Packet b) = IsPacket reader b b.content
 IsDue reader found.Passed = ⊥
 IsDue reader found.More = Waits reader × HoldsFew reader
 IsDue reader (found.Bad fault) = IsFaulty reader fault
-IsDue reader found.NoMemory = IsPlain reader
+IsDue reader found.NoMemory = IsFace reader
 
 -- one block was looked at, and passed where it has no packet
 abbrev pub Steps : Reading → Reading → Found → Type 0
@@ -97,12 +108,12 @@ packet_shown NoMemory = []
 
 -- A step takes off octets and loses none. Behind `More` what is due waits; behind `Bad` it has this
 -- fault, and stands at this place; a packet has a time below 2^62 and no more than 262,144 octets;
--- behind `NoMemory` a block without a packet is due that could not be kept.
+-- behind `NoMemory` an interface block is due that could not be kept.
 abbrev pub Rested : Reading → NgStep → Type 0
 Rested new (Packet link p) = (p.time < 2 ^ 62) × (length p.octets.now ≤ 262144)
 Rested new More = Waits new × HoldsFew new
 Rested new (Bad at fault) = (at ≡ new.start) × IsFaulty new fault
-Rested new NoMemory = IsPlain new
+Rested new NoMemory = IsFace new
 
 -- a capture that has a fault reads so, whatever is fed, and in no other way
 abbrev pub EndsFaulty : List ℕ → List Taken → ℕ → NgFault → Type 0

@@ -23,6 +23,7 @@ pub fn put_ng_head(out: &mut Vec<u8>) -> Result<(), NoMemory>
     ensures octets { out.new.items
         ≡ (if is_ok result then out.old.items ++ head_octets else out.old.items) }
     ensures begins { out.old.items ≡ [] → OnOk result (out.new.items ≡ capture_text []) }
+    ensures reads { out.old.items ≡ [] → OnOk result (Reads out.new.items [] Whole) }
 {
     append(out, &HEAD)
 }

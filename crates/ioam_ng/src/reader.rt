@@ -72,7 +72,7 @@ impl NgReader {
     ghost use Rattle.ioam_ng.specs.BlockSteps.{TellsBlock};
     ghost use Rattle.ioam_ng.specs.Reading.{fresh, fed};
     ghost use Rattle.ioam_ng.specs.Reads.{Reads, ReadsOnly};
-    ghost use Rattle.ioam_ng.specs.Reader.{Stands, Waits, HoldsFew, KeepsFault, Skips, IsDue, Steps, RestsSo, moved_by, ending_of};
+    ghost use Rattle.ioam_ng.specs.Reader.{Stands, Waits, HoldsFew, KeepsFault, Skips, IsDue, HoldsFace, Steps, RestsSo, moved_by, ending_of};
 
     /// A reader that was fed nothing.
     pub fn new(alloc: Global) -> Result<NgReader, NoMemory>
@@ -132,7 +132,7 @@ impl NgReader {
         requires fits { block.size ≤ length self.old.pending }
         requires count { self.old.known.count < 33554432 }
         ensures ok { OnOk result (self.new ≡ moved_by self.old block) }
-        ensures err { OnErr result (self.new ≡ self.old) }
+        ensures err { OnErr result ((self.new ≡ self.old) × HoldsFace block.content) }
     {
         match block.content {
             Content::Section => self.faces.clear(),
