@@ -20,7 +20,7 @@ kinds() {
     echo 'one-word 0x800000 61'
     echo 'wide-trace 0xfff002 61 snapshot=8'
     echo 'exports 0 1 direct'
-    echo 'wide-exports 0xfdf002 61 direct snapshot=8'
+    echo 'wide-exports 0xfef002 61 direct snapshot=8'
     echo 'nothing 0 1'
 }
 

@@ -31,7 +31,21 @@ fn desk_of(alloc: Global, row: &FlowRow, west: &[&str]) -> Result<MemoryDesk, No
     Ok(desk)
 }
 
-// The desk behind a run of these files, which does all.
+// A run of these words over a desk does all.
+fn is_done<G: Gate>(
+    rt: &(impl Abort + Threads + Sync),
+    alloc: Global,
+    texts: &[&str],
+    desk: &mut MemoryDesk,
+    gate: &G,
+) {
+    let run = words(alloc, texts).expect(rt, "memory");
+    let outcome = ioam(rt, alloc, &run, desk, gate);
+    let line = line(alloc, &outcome).expect(rt, "memory");
+    assert_eq!(rt; line.as_str(), "done");
+}
+
+// The desk behind a run of these files.
 fn run_behind<G: Gate>(
     rt: &(impl Abort + Threads + Sync),
     alloc: Global,
@@ -39,11 +53,8 @@ fn run_behind<G: Gate>(
     west: &[&str],
     gate: &G,
 ) -> MemoryDesk {
-    let run = words(alloc, &RUN_BY_TWO).expect(rt, "memory");
     let mut desk = desk_of(alloc, row, west).expect(rt, "memory");
-    let outcome = ioam(rt, alloc, &run, &mut desk, gate);
-    let line = line(alloc, &outcome).expect(rt, "memory");
-    assert_eq!(rt; line.as_str(), "done");
+    is_done(rt, alloc, &RUN_BY_TWO, &mut desk, gate);
     desk
 }
 
@@ -69,6 +80,21 @@ fn two_chunks_meet(rt: HostRuntime) {
     );
     assert!(rt; gate.has_met());
     assert!(rt; has(desk.file("report.txt"), b"2 west left east flow f 1\n"));
+}
+
+#[test]
+fn two_chunks_of_a_generated_load_meet(rt: HostRuntime) {
+    let gate = make_meeting();
+    let mut desk = MemoryDesk::new(rt.alloc()).expect(&rt, "memory");
+    is_done(
+        &rt,
+        rt.alloc(),
+        &["bulk", "0", "2", "2", "r"],
+        &mut desk,
+        &gate,
+    );
+    assert!(rt; gate.has_met());
+    assert!(rt; has(desk.file("r"), b"packets 2 left 1 dropped 1\n"));
 }
 
 // Where no job is run the traces have no elements, the links carried no octets, and nothing is exported.

@@ -82,6 +82,8 @@ fn words_of<R: std::rt::Env + AllocGlobal>(rt: &R) -> Result<Vec<Name>, Outcome>
 #[cfg(test)]
 mod gated;
 #[cfg(test)]
+mod node_rows;
+#[cfg(test)]
 mod refusals;
 #[cfg(test)]
 mod tests;

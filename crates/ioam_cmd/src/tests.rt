@@ -7,8 +7,8 @@ use ioam_base::memory::NoMemory;
 use ioam_batch::OpenGate;
 use ioam_desk::{MemoryDesk, SureDesk};
 use ioam_test_rows::capture_rows::{Listing, listings, runs};
-use ioam_test_rows::digits::{octets, text, words};
-use ioam_test_rows::run_rows::rows;
+use ioam_test_rows::digits::{joined, octets, text, words};
+use ioam_test_rows::flow_rows::{File, first_row};
 use ioam_test_rows::show_rows::shown;
 use std::alloc::Global;
 use std::thread::Threads;
@@ -87,19 +87,27 @@ const RUN_BY_THREE: [&str; 6] = [
     "exports",
 ];
 
+// Whether a file holds what it should.
+fn holds(alloc: Global, desk: &SureDesk, file: &File) -> Result<bool, NoMemory> {
+    let wanted = joined(alloc, file.parts)?;
+    Ok(desk.file(file.name) == Some(wanted.as_slice()))
+}
+
 #[test]
 fn run_over_a_desk_that_never_fails(rt: HostRuntime) {
     let alloc = rt.alloc();
-    let row = rows().first().expect(&rt, "a row");
-    let east = octets(alloc, row.east_out).expect(&rt, "octets");
+    let row = first_row();
     let west = octets(alloc, row.west).expect(&rt, "octets");
+    let report = text(alloc, row.report).expect(&rt, "text");
     let mut desk = SureDesk::new(alloc).expect(&rt, "memory");
     desk.put_file("domain.toml", &text(alloc, row.domain).expect(&rt, "text"))
         .expect(&rt, "memory");
     desk.put_file("west.pcap", &west).expect(&rt, "memory");
     assert!(rt; is_done(&rt, alloc, &RUN_BY_THREE, &mut desk).expect(&rt, "memory"));
-    assert!(rt; desk.file("east-out.pcap") == Some(east.as_slice()));
-    assert!(rt; desk.file("report.txt") == Some(row.report.as_bytes()));
+    assert!(rt; desk.file("report.txt") == Some(report.as_slice()));
+    for file in row.files {
+        assert!(rt; holds(alloc, &desk, file).expect(&rt, "memory"));
+    }
 }
 
 #[test]
