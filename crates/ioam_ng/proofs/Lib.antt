@@ -5,3 +5,4 @@ pub mod BlockLaws
 pub mod ReadsLaws
 pub mod StandsLaws
 pub mod TextLaws
+pub mod SizeLaws

@@ -218,7 +218,7 @@ HasFault-behind more p f bad = by (is_front p.octets) (is_whole p.known p.octets
 
 -- ---- one way
 
-none_some : (f : NgFault) → ◌≡◌ {A = Option NgFault} None (Some f) → ⊥
+pub none_some : (f : NgFault) → ◌≡◌ {A = Option NgFault} None (Some f) → ⊥
 none_some f same = absurd (cc)
 
 some_injective : (f g : NgFault) → ◌≡◌ {A = Option NgFault} (Some f) (Some g) → f ≡ g

@@ -215,8 +215,7 @@ impl NgReader {
     /// block was read and the last block is whole, else the place of the block that is cut, and how
     /// many octets of it are there.
     pub fn finish(&self) -> Option<(u64, NgFault)>
-        requires waits { Waits self.now }
-        requires few { HoldsFew self.now }
+        requires { Waits self.now }
         ensures left { MatchOption result
             (IsSome self.now.known.order × (self.now.pending ≡ []))
             (λ cut. (cut ≡ (self.now.start, Short (length self.now.pending)))
@@ -232,8 +231,7 @@ impl NgReader {
 
     // What an ended capture leaves over, by the rules alone.
     fn left_over(&self) -> Option<(u64, NgFault)>
-        requires waits { Waits self.now }
-        requires few { HoldsFew self.now }
+        requires { Waits self.now }
         ensures left { MatchOption result
             (IsSome self.now.known.order × (self.now.pending ≡ []))
             (λ cut. (cut ≡ (self.now.start, Short (length self.now.pending)))
