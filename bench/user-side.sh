@@ -50,7 +50,7 @@ gone() { for name; do [ ! -e "$name" ] && : >stderr || echo >stderr; : >stdout &
 with_domain() { sed "s|$1 = \"[^\"]*\"|$1 = \"$2\"|" "$domain" >domain.toml; }
 # Words and names.
 for words in '' filter 'filter a b' 'filter a b c d' 'paths a' 'paths a b c' 'Filter a b c' --help 'run a b 1 c' \
-    'run a b 1 c d e' 'run a b 0 c d' 'run a b 01 c d' 'run a b x c d' 'run a b 2 c d' 'run a b 65 c d' 'run a b -1 c d'; do
+    'run a b 1 c d e' 'run a b 0 c d' 'run a b 01 c d' 'run a b x c d' 'run a b 65 c d' 'run a b -1 c d' 'collect a' 'collect a b c' 'node a b c d e f g' 'bulk 01 2 1 r' 'bulk 1 0 1 r' 'bulk 1 1000001 1 r' 'bulk 1 2 65 r'; do
     want 1 usage $words
 done
 want 1 usage filter "$(printf 'a\377')" out report
@@ -85,12 +85,12 @@ gone out report exports west-out.pcap east-out.pcap
 want 0 done run empty none 1 report exports && holds report 'packets 0 left 0 dropped 0\n' && holds exports ''
 want 0 done run "$domain" empty 1 report exports
 head='\241\262\074\115\0\002\0\004\0\0\0\0\0\0\0\0\0\004\0\0\0\0\0\145'
-nodes='node a seen 0 dropped 0\nnode b seen 0 dropped 0\nnode c seen 0 dropped 0\n'
+nodes='node a seen 0 dropped 0\nnode b seen 0 dropped 0\nnode c seen 0 dropped 0\nflow f enclosed 0 exited 0 direct 0\n'
 while read -r file status line; do
     want "$status" "$line" filter "$file" out report && holds out "$head" && holds report 'packets 0 kept 0 dropped 0\n'
     want "$status" "$line" paths "$file" report && holds report 'packets 0\n'
     with_domain in "$file" && want "$status" "$line" run domain.toml none 1 report exports
-    holds report "packets 0 left 0 dropped 0\n$nodes" && holds exports '' && holds west-out.pcap "$head" && holds east-out.pcap "$head"
+    holds report "packets 0 left 0 dropped 0\n$nodes" && holds exports '' && holds west-out.pcap "$head" && holds east-out.pcap "$head" && holds bc.pcap "$head"
 done <<ends
 folder 9 read fault
 empty 5 capture empty 0 short 0
