@@ -8,14 +8,9 @@ top=$(dirname "$here")
 count=${1:-1000000}
 
 . "$here/timing.sh"
-need tcpdump gcc python3 /usr/bin/time
-room=$(mktemp -d)
-trap 'rm -rf "$room"' EXIT
-cd "$room"
+begin tcpdump gcc
 gcc -O2 -o walk "$here/walk.c"
 python3 "$here/make_capture.py" in.pcap "$count"
-"$top/ioam" >/dev/null || true # builds the program where that is needed
-ioam=$top/crates/ioam_cmd/out/ioam_cmd
 
 for _ in 1 2 3; do
     timed cat sh -c 'cat in.pcap >out.cat'

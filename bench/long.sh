@@ -8,12 +8,7 @@ top=$(dirname "$here")
 count=${1:-20000}
 
 . "$here/timing.sh"
-need python3 /usr/bin/time
-room=$(mktemp -d)
-trap 'rm -rf "$room"' EXIT
-cd "$room"
-"$top/ioam" >/dev/null || true # builds the program where that is needed
-ioam=$top/crates/ioam_cmd/out/ioam_cmd
+begin
 
 # A kind of trace by its name: type, capacity, and what else.
 kinds() {

@@ -9,14 +9,9 @@ top=$(dirname "$here")
 count=${1:-1000000}
 
 . "$here/timing.sh"
-need gcc python3 /usr/bin/time
-room=$(mktemp -d)
-trap 'rm -rf "$room"' EXIT
-cd "$room"
+begin gcc
 gcc -O2 -o measured "$here/measured.c"
 python3 "$here/make_measured.py" . "$count"
-"$top/ioam" >/dev/null || true # builds the program where that is needed
-ioam=$top/crates/ioam_cmd/out/ioam_cmd
 files='west-out.pcap east-out.pcap ab.pcap cd.pcap report exports'
 
 # The same domain, with outputs that are thrown away; no two of its files may have one name.

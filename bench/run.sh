@@ -8,13 +8,8 @@ top=$(dirname "$here")
 count=${1:-1000000}
 
 . "$here/timing.sh"
-need python3 /usr/bin/time
-room=$(mktemp -d)
-trap 'rm -rf "$room"' EXIT
-cd "$room"
+begin
 python3 "$here/make_capture.py" in.pcap "$count"
-"$top/ioam" >/dev/null || true # builds the program where that is needed
-ioam=$top/crates/ioam_cmd/out/ioam_cmd
 
 # Five nodes in a row: each routes the packets' target to the next one, the last to a port.
 {
