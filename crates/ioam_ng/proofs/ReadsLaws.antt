@@ -14,7 +14,8 @@ use Rattle.ioam_ng.specs.declared.fault.NgFault.TheVariants as fault
 use Rattle.ioam_ng.specs.Numbers.{order_said}
 use Rattle.ioam_ng.specs.Checks.{first}
 use Rattle.ioam_ng.specs.Front.{Known, is_section, front_size, is_front, order_in, number_by, kind_in, size_in, is_alien, front_checks, front_fault}
-use Rattle.ioam_ng.specs.Blocks.{Taken, Place, CanPass, packet_there, behind, Blocks, packets, front, fault_by, packet_by, faces_by, fault_in, is_whole, packet_in, known_behind, size, kind}
+use Rattle.ioam_ng.specs.Blocks.{Place, CanPass, packet_there, behind, Blocks, packets, front, fault_by, packet_by, faces_by, fault_in, is_whole, packet_in, known_behind, size, kind}
+use Rattle.ioam_pcap.specs.Entries.{Taken}
 use Rattle.ioam_ng.specs.Reads.{HasFault, IsCut, IsShort, Ending, Whole, Faulty, EndsAt, Reads}
 use Rattle.ioam_ng.proofs.NumbersLaws.{number_at-append}
 

@@ -8,7 +8,8 @@ use Rattle.ioam_ng.specs.declared.fault.NgFault.{NgFault}
 use Rattle.ioam_ng.specs.declared.fault.NgFault.TheVariants as fault
 use Rattle.ioam_ng.specs.Checks.{first}
 use Rattle.ioam_ng.specs.Front.{Known, is_section, front_size, is_front, order_in, least_size, is_alien, front_checks, front_fault}
-use Rattle.ioam_ng.specs.Blocks.{Taken, Place, behind, Blocks, fault_in, fault_by, is_whole, size, kind}
+use Rattle.ioam_ng.specs.Blocks.{Place, behind, Blocks, fault_in, fault_by, is_whole, size, kind}
+use Rattle.ioam_pcap.specs.Entries.{Taken}
 use Rattle.ioam_ng.specs.Reading.{Reading, place_of}
 use Rattle.ioam_ng.specs.Reader.{Stands, Waits, HoldsFew, most_start}
 use Rattle.ioam_ng.proofs.ReadsLaws.{none_some}

@@ -11,7 +11,8 @@ use Rattle.ioam_ng.specs.declared.block.Block.{Block}
 use Rattle.ioam_ng.specs.declared.block.PacketHead.{PacketHead}
 use Rattle.ioam_ng.specs.declared.block.Content.TheVariants as content
 use Rattle.ioam_ng.specs.BlockSteps.{taken_of}
-use Rattle.ioam_ng.specs.Blocks.{Taken, Place, CanPass, packet_there, behind, Blocks, packets, front}
+use Rattle.ioam_ng.specs.Blocks.{Place, CanPass, packet_there, behind, Blocks, packets, front}
+use Rattle.ioam_pcap.specs.Entries.{Taken}
 use Rattle.ioam_ng.specs.Reading.{Reading, place_of, fed}
 use Rattle.ioam_ng.specs.Reads.{Faulty, Reads, CapNg}
 use Rattle.ioam_ng.specs.Reader.{Stands, Skips, Waits, HoldsFew, IsFaulty, IsPlain, IsFace, Rested, Told, SaysFault, EndsFaulty, IsPacket, moved_by, faces_with}

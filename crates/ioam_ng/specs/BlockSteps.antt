@@ -15,7 +15,8 @@ use Rattle.ioam_ng.specs.Checks.{first}
 use Rattle.ioam_ng.specs.Face.{time_of}
 use Rattle.ioam_ng.specs.Numbers.{number_at}
 use Rattle.ioam_ng.specs.Front.{Known}
-use Rattle.ioam_ng.specs.Blocks.{Taken, face_at, face_number, units, captured, is_passed, packet_checks, packet_fault, block_fault, link_of, fault_in, is_whole, size, kind, packet_in, known_behind}
+use Rattle.ioam_ng.specs.Blocks.{face_at, face_number, units, captured, is_passed, packet_checks, packet_fault, block_fault, link_of, fault_in, is_whole, size, kind, packet_in, known_behind}
+use Rattle.ioam_pcap.specs.Entries.{Taken}
 
 -- nothing passes the body of this type, or something does
 abbrev pub IsBody : Order → ℕ → List ℕ → Body → Type 0

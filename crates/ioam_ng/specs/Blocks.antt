@@ -5,7 +5,7 @@ use Rattle.std.specs.Option.{option_or}
 use Rattle.ioam_base.specs.Leads.{Leads}
 use Rattle.ioam_pcap.specs.declared.form.Link.{Link}
 use Rattle.ioam_pcap.specs.declared.form.Link.TheVariants.{Ethernet, Raw}
-use Rattle.ioam_pcap.specs.Entries.{Entry}
+use Rattle.ioam_pcap.specs.Entries.{Taken}
 use Rattle.ioam_ng.specs.declared.face.Face.{Face}
 use Rattle.ioam_ng.specs.declared.numbers.Order.{Order}
 use Rattle.ioam_ng.specs.declared.fault.NgFault.{NgFault}
@@ -14,11 +14,6 @@ use Rattle.ioam_ng.specs.Numbers.{short_at, number_at}
 use Rattle.ioam_ng.specs.Face.{face_in, is_resolved, time_of}
 use Rattle.ioam_ng.specs.Checks.{Check, first}
 use Rattle.ioam_ng.specs.Front.{Known, is_front, order_in, kind_in, size_in, front_fault}
-
--- a packet of a capture: the link of its interface, and what its block says
-pub record Taken : Type 0 where
-  pub link : Link
-  pub entry : Entry
 
 -- the link types of interfaces that are read: Ethernet, and IP of either version or of version 6 alone
 abbrev pub is_linked : Face → Bool

@@ -12,7 +12,8 @@ use Rattle.ioam_ng.specs.declared.reader.Found.TheVariants as found
 use Rattle.ioam_ng.specs.declared.reader.NgStep.{NgStep}
 use Rattle.ioam_ng.specs.declared.reader.NgStep.TheVariants.{Packet, More, Bad, NoMemory}
 use Rattle.ioam_ng.specs.contracts.reader.NgReader.{the_row}
-use Rattle.ioam_ng.specs.Blocks.{Taken, CanPass, Blocks, front, kind, packets, packet_there, behind}
+use Rattle.ioam_ng.specs.Blocks.{CanPass, Blocks, front, kind, packets, packet_there, behind}
+use Rattle.ioam_pcap.specs.Entries.{Taken}
 use Rattle.ioam_ng.specs.BlockSteps.{taken_of, known_with}
 use Rattle.ioam_ng.specs.Reading.{Reading, place_of, fed}
 use Rattle.ioam_ng.specs.Reads.{HasFault, IsCut, Ending, Whole, Faulty, Reads, ReadsOnly, CapNg}

@@ -3,7 +3,8 @@ use Rattle.std.specs.Prelude.{◌≡◌, ℕ, ◌+◌, ◌<◌, ◌⊎◌, List,
 use Rattle.ioam_ng.specs.declared.fault.NgFault.{NgFault}
 use Rattle.ioam_ng.specs.declared.fault.NgFault.TheVariants.{Short}
 use Rattle.ioam_ng.specs.Front.{Known}
-use Rattle.ioam_ng.specs.Blocks.{Taken, Place, CanPass, Blocks, fault_in, is_whole, front, packets}
+use Rattle.ioam_ng.specs.Blocks.{Place, CanPass, Blocks, fault_in, is_whole, front, packets}
+use Rattle.ioam_pcap.specs.Entries.{Taken}
 
 -- the block that is due at a place has this fault, whatever stands behind the octets
 abbrev pub HasFault : Place → NgFault → Type 0

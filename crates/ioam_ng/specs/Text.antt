@@ -6,7 +6,7 @@ use Rattle.ioam_base.specs.Words.{four_octets}
 use Rattle.ioam_pcap.specs.declared.form.Link.{Link}
 use Rattle.ioam_pcap.specs.declared.form.Link.TheVariants.{Ethernet, Raw}
 use Rattle.ioam_pcap.specs.declared.capture.Packet as packet
-use Rattle.ioam_ng.specs.Blocks.{Taken}
+use Rattle.ioam_pcap.specs.Entries.{Taken}
 
 -- the section block
 abbrev pub section_octets : List ℕ

@@ -68,7 +68,7 @@ impl Model for NgReader {
 
 impl NgReader {
     ghost use Rattle.ioam_ng.specs.declared.fault.NgFault.TheVariants.{Short};
-    ghost use Rattle.ioam_ng.specs.Blocks.{Taken};
+    ghost use Rattle.ioam_pcap.specs.Entries.{Taken};
     ghost use Rattle.ioam_ng.specs.BlockSteps.{TellsBlock};
     ghost use Rattle.ioam_ng.specs.Reading.{fresh, fed};
     ghost use Rattle.ioam_ng.specs.Reads.{Reads, ReadsOnly};

@@ -10,11 +10,11 @@ pub enum Link {
     Raw,
 }
 
-/// Whether the frames of a capture begin with an Ethernet header; not while its link isn't known.
-pub fn is_ethernet(link: Option<Link>) -> bool
+/// Whether octets that begin at this layer begin with an Ethernet header.
+pub fn is_ethernet(link: Link) -> bool
     ensures { result ≡ is_ethernet link }
 {
-    matches!(link, Some(Link::Ethernet))
+    matches!(link, Link::Ethernet)
 }
 
 /// The order of the octets of a capture's numbers.
