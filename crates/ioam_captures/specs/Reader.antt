@@ -1,0 +1,73 @@
+-- What a reader of a capture of either form stands for, and what its steps tell of the octets that it
+-- was fed.
+use Rattle.std.specs.Prelude.{◌≡◌, ⊤, ℕ, ◌+◌, ◌<◌, ◌≤◌, ◌^◌, List, [], ◌∷◌, ◌++◌, length, Option, Some, None, false}
+use Rattle.std.specs.Io.BufRead.{Rests}
+use Rattle.std.specs.Borrow.{Fml, MutBor}
+use Rattle.ioam_pcap.specs.Ending.{Ending, Whole, Faulty}
+use Rattle.ioam_pcap.specs.Entries.{Entry, Taken}
+use Rattle.ioam_pcap.specs.Reader as classic
+use Rattle.ioam_pcap.specs.declared.capture.CapFault.{CapFault}
+use Rattle.ioam_pcap.specs.declared.capture.Packet as packet
+use Rattle.ioam_pcap.specs.declared.form.Link.{Link}
+use Rattle.ioam_ng.specs.Reader as ng
+use Rattle.ioam_captures.specs.contracts.reader.Reader.{the_row}
+use Rattle.ioam_captures.specs.declared.reader.Step.{Step}
+use Rattle.ioam_captures.specs.declared.reader.Step.TheVariants.{Packet, More, Bad, NoMemory}
+use Rattle.ioam_captures.specs.declared.turns.Due.{Due}
+use Rattle.ioam_captures.specs.declared.turns.Due.TheVariants as due
+use Rattle.ioam_captures.specs.Reading.{Reading, Front, Classic, Ng, pending, start, fed, most_held, HoldsFew}
+use Rattle.ioam_captures.specs.Reads.{IsNg, of_link, Reads, ReadsOnly}
+use Rattle.ioam_captures.specs.Streams.{ShowsSo}
+
+-- a reader that was fed these octets in all, and has given these records
+abbrev pub Stands : Reading → List ℕ → List Taken → Type 0
+Stands (Front held) octets taken = (held ≡ octets) × (length octets < 4) × (taken ≡ [])
+Stands (Classic reader) octets taken = (IsNg octets → ⊥) × (4 ≤ length octets)
+    × ((entries : List Entry) × classic.Stands reader octets entries × (taken ≡ of_link (classic.link_of reader) entries))
+Stands (Ng reader) octets taken = IsNg octets × ng.Stands reader octets taken
+
+-- what is due is not whole and has no fault: more octets have to be fed, or the capture ends
+abbrev pub Waits : Reading → Type 0
+Waits (Front held) = length held < 4
+Waits (Classic reader) = classic.Waits reader
+Waits (Ng reader) = ng.Waits reader
+
+-- what a record that is given says
+abbrev pub taken_of : Link → packet.Packet → Taken
+taken_of link p = record { link = link; entry = record { time = p.time; original = p.original; octets = p.octets.now } }
+
+-- the record that a step gives, where it gives one
+abbrev pub given_by : Step → List Taken
+given_by (Packet link p) = taken_of link p ∷ []
+given_by More = []
+given_by (Bad at fault) = []
+given_by NoMemory = []
+
+-- A record has a time below 2^62 and no more than 262,144 octets; behind `More` what is due waits.
+abbrev pub Rested : Reading → Step → Type 0
+Rested new (Packet link p) = (p.time < 2 ^ 62) × (length p.octets.now ≤ 262144)
+Rested new More = Waits new × HoldsFew new
+Rested new (Bad at fault) = ⊤
+Rested new NoMemory = ⊤
+
+-- What a step says of the octets fed so far, behind these records: that they show no more and how the
+-- capture ends isn't known yet; or that it ends by this fault, whatever is fed, and reads in no other way.
+abbrev pub Says : List ℕ → List Taken → Step → Type 0
+Says octets taken (Packet link p) = ⊤
+Says octets taken More = ShowsSo octets false taken None
+Says octets taken (Bad at fault) = ((more : List ℕ) → Reads (octets ++ more) taken (Faulty at fault))
+    × ((more : List ℕ) → ReadsOnly (octets ++ more) taken (Faulty at fault))
+Says octets taken NoMemory = ⊤
+
+abbrev pub Told : List ℕ → List Taken → Reading → Step → Type 0
+Told octets taken new step = Stands new octets (taken ++ given_by step) × Says octets taken step
+
+-- so the reader is once the step's octets are no longer lent
+abbrev pub RestsSo : MutBor Reading → Step → Fml
+RestsSo reader step = Rests the_row reader (λ new. Rested new step × (fed new ≡ fed reader.now)
+    × (length (pending new) ≤ length (pending reader.now))
+    × ((octets : List ℕ) (taken : List Taken) → Stands reader.now octets taken → Told octets taken new step))
+
+-- the octets of a piece were fed
+abbrev pub IsFed : Reading → List ℕ → Reading → Type 0
+IsFed old piece new = (pending new ≡ pending old ++ piece) × (start new ≡ start old)
