@@ -1,16 +1,16 @@
 -- What `filter` writes: the capture of the packets that it keeps, and the report.
-use Rattle.std.specs.Prelude.{◌≡◌, ℕ, ◌+◌, List, [], ◌∷◌, ◌++◌, Bool, codes, decimal}
-use Rattle.ioam_pcap.specs.Entries.{Entry}
+use Rattle.std.specs.Prelude.{◌≡◌, ℕ, ◌+◌, List, [], ◌∷◌, ◌++◌, codes, decimal}
+use Rattle.ioam_pcap.specs.Entries.{Taken}
 use Rattle.ioam_pcap.specs.Text.{Sent, capture_text}
 use Rattle.ioam_report.specs.RunText.{reason_name}
 use Rattle.ioam_run.specs.Verdict.{Verdict, Keeps, Drops, AreVerdicts}
 
 -- the kept packets, each with its time, in order
-abbrev pub kept_of : List Entry → List Verdict → List Sent
+abbrev pub kept_of : List Taken → List Verdict → List Sent
 kept_of [] vs = []
-kept_of (e ∷ es) [] = []
-kept_of (e ∷ es) (Keeps packet ∷ vs) = record { time = e.time; octets = packet } ∷ kept_of es vs
-kept_of (e ∷ es) (Drops reason ∷ vs) = kept_of es vs
+kept_of (t ∷ ts) [] = []
+kept_of (t ∷ ts) (Keeps packet ∷ vs) = record { time = t.entry.time; octets = packet } ∷ kept_of ts vs
+kept_of (t ∷ ts) (Drops reason ∷ vs) = kept_of ts vs
 
 abbrev pub verdict_line : ℕ → Verdict → List ℕ
 verdict_line number (Keeps packet) = decimal number ++ codes " kept\n"
@@ -38,18 +38,17 @@ sums_line kept dropped = codes "packets " ++ decimal (kept + dropped) ++ codes "
 abbrev pub report_text : List Verdict → List ℕ
 report_text vs = verdict_lines 1 vs ++ sums_line (count_kept vs) (count_dropped vs)
 
--- these are the capture of the kept packets and the report, of these records, whose frames begin
--- with an Ethernet header or don't, and which have no other verdicts
-pub record Filtered (ethernet : Bool) (entries : List Entry) (out report : List ℕ) : Type 0 where
+-- these are the capture of the kept packets and the report, of these records, which have no other verdicts
+pub record Filtered (taken : List Taken) (out report : List ℕ) : Type 0 where
   pub verdicts : List Verdict
-  pub are : AreVerdicts ethernet entries verdicts
-  pub only : (others : List Verdict) → AreVerdicts ethernet entries others → others ≡ verdicts
-  pub out_is : out ≡ capture_text (kept_of entries verdicts)
+  pub are : AreVerdicts taken verdicts
+  pub only : (others : List Verdict) → AreVerdicts taken others → others ≡ verdicts
+  pub out_is : out ≡ capture_text (kept_of taken verdicts)
   pub report_is : report ≡ report_text verdicts
 
 -- OUT and REPORT
-abbrev pub FilterTexts : Bool → List Entry → List (List ℕ) → Type 0
-FilterTexts ethernet entries [] = ⊥
-FilterTexts ethernet entries (out ∷ []) = ⊥
-FilterTexts ethernet entries (out ∷ report ∷ []) = Filtered ethernet entries out report
-FilterTexts ethernet entries (out ∷ report ∷ more ∷ texts) = ⊥
+abbrev pub FilterTexts : List Taken → List (List ℕ) → Type 0
+FilterTexts taken [] = ⊥
+FilterTexts taken (out ∷ []) = ⊥
+FilterTexts taken (out ∷ report ∷ []) = Filtered taken out report
+FilterTexts taken (out ∷ report ∷ more ∷ texts) = ⊥

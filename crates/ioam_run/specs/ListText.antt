@@ -1,11 +1,11 @@
 -- The text of a command that lists something of each packet of a capture. `Tells packet text` says that
 -- this text is written of a packet, behind its number.
-use Rattle.std.specs.Prelude.{◌≡◌, ℕ, ◌+◌, ◌⊎◌, Bool, List, [], ◌∷◌, ◌++◌, length, codes, decimal}
+use Rattle.std.specs.Prelude.{◌≡◌, ℕ, ◌+◌, ◌⊎◌, List, [], ◌∷◌, ◌++◌, length, codes, decimal}
 use Rattle.ioam_ip.specs.Framing.{Framing, Holds, NoIpv6, CutShort, TooShort}
 use Rattle.ioam_ip.specs.Chain.{IsSound}
-use Rattle.ioam_pcap.specs.Entries.{Entry}
+use Rattle.ioam_pcap.specs.Entries.{Taken}
 use Rattle.ioam_report.specs.RunText.{reason_name}
-use Rattle.ioam_run.specs.Verdict.{entry_framing}
+use Rattle.ioam_run.specs.Verdict.{taken_framing}
 use Rattle.ioam_node.specs.declared.reason.Reason.{Reason}
 use Rattle.ioam_node.specs.declared.reason.Reason.TheVariants as reason
 
@@ -28,25 +28,24 @@ module _ (Tells : List ℕ → List ℕ → Type 0) where
   FramingLines number TooShort text = text ≡ skip_line number reason.Length
 
   -- the lines of one record of a capture
-  abbrev pub EntryLines : Bool → ℕ → Entry → List ℕ → Type 0
-  EntryLines ethernet number entry text = FramingLines number (entry_framing ethernet entry) text
+  abbrev pub EntryLines : ℕ → Taken → List ℕ → Type 0
+  EntryLines number t text = FramingLines number (taken_framing t) text
 
   -- the lines of records that are counted from a number
-  abbrev pub Lines : Bool → ℕ → List Entry → List ℕ → Type 0
-  Lines ethernet number [] text = text ≡ []
-  Lines ethernet number (e ∷ es) text = (first : List ℕ) × (others : List ℕ)
-      × EntryLines ethernet number e first × Lines ethernet (number + 1) es others × (text ≡ first ++ others)
+  abbrev pub Lines : ℕ → List Taken → List ℕ → Type 0
+  Lines number [] text = text ≡ []
+  Lines number (t ∷ ts) text = (first : List ℕ) × (others : List ℕ)
+      × EntryLines number t first × Lines (number + 1) ts others × (text ≡ first ++ others)
 
-  -- this is the report of these records, whose frames begin with an Ethernet header or don't, and they
-  -- have no other lines
-  pub record Listed (ethernet : Bool) (entries : List Entry) (text : List ℕ) : Type 0 where
+  -- this is the report of these records, and they have no other lines
+  pub record Listed (taken : List Taken) (text : List ℕ) : Type 0 where
     pub lines : List ℕ
-    pub are_lines : Lines ethernet 1 entries lines
-    pub only : (others : List ℕ) → Lines ethernet 1 entries others → others ≡ lines
-    pub text_is : text ≡ lines ++ packets_line (length entries)
+    pub are_lines : Lines 1 taken lines
+    pub only : (others : List ℕ) → Lines 1 taken others → others ≡ lines
+    pub text_is : text ≡ lines ++ packets_line (length taken)
 
   -- REPORT
-  abbrev pub ListTexts : Bool → List Entry → List (List ℕ) → Type 0
-  ListTexts ethernet entries [] = ⊥
-  ListTexts ethernet entries (text ∷ []) = Listed ethernet entries text
-  ListTexts ethernet entries (text ∷ more ∷ texts) = ⊥
+  abbrev pub ListTexts : List Taken → List (List ℕ) → Type 0
+  ListTexts taken [] = ⊥
+  ListTexts taken (text ∷ []) = Listed taken text
+  ListTexts taken (text ∷ more ∷ texts) = ⊥

@@ -1,12 +1,12 @@
 -- The text that `paths` writes: the traces of each packet of a capture.
-use Rattle.std.specs.Prelude.{◌≡◌, ℕ, Bool, List}
-use Rattle.ioam_pcap.specs.Entries.{Entry}
+use Rattle.std.specs.Prelude.{◌≡◌, ℕ, List}
+use Rattle.ioam_pcap.specs.Entries.{Taken}
 use Rattle.ioam_report.specs.TracesText.{TracesText}
 use Rattle.ioam_report.proofs.TracesLaws.{TracesText-unique}
 use Rattle.ioam_run.specs.ListText.{ListTexts}
 
-abbrev pub PathsTexts : Bool → List Entry → List (List ℕ) → Type 0
-PathsTexts ethernet entries texts = ListTexts TracesText ethernet entries texts
+abbrev pub PathsTexts : List Taken → List (List ℕ) → Type 0
+PathsTexts taken texts = ListTexts TracesText taken texts
 
 -- The law stands among the definitions, since a ghost member of an `impl` cites specs/ alone.
 

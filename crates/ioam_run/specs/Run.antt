@@ -1,15 +1,14 @@
 -- What a command over one capture answers and leaves. Its words are the command, the name of the
--- capture, and the names of its outputs; `Texts ethernet entries texts` says which texts the outputs
--- have for these records, whose frames begin with an Ethernet header or don't.
-use Rattle.std.specs.Prelude.{◌≡◌, ℕ, ◌<◌, ◌≤◌, ◌⊎◌, ⊤, Bool, IsTrue, IsSomeAnd, List, ◌++◌, length, drop, Option}
+-- capture, and the names of its outputs; `Texts taken texts` says which texts the outputs have for
+-- these records.
+use Rattle.std.specs.Prelude.{◌≡◌, ℕ, ◌<◌, ◌≤◌, ◌⊎◌, ⊤, Bool, IsTrue, IsSomeAnd, List, ◌++◌, length, drop, None, false}
 use Rattle.ioam_desk.specs.Desk.{Reading, Writing, Rose, holds}
 use Rattle.ioam_outputs.specs.Held.{HoldTexts, HoldFronts}
 use Rattle.ioam_outputs.specs.Names.{name_at, AreApart, IsFirstRepeat}
-use Rattle.ioam_pcap.specs.Entries.{Entry}
-use Rattle.ioam_pcap.specs.Reads.{Ending, Whole, Faulty, Reached, CutAt, Reads, link_by}
-use Rattle.ioam_pcap.specs.declared.form.Form.{Form}
-use Rattle.ioam_pcap.specs.declared.form.Link.{Link}
-use Rattle.ioam_pcap.specs.Link.{is_ethernet}
+use Rattle.ioam_pcap.specs.Ending.{Ending, Whole, Faulty}
+use Rattle.ioam_pcap.specs.Entries.{Taken}
+use Rattle.ioam_captures.specs.Reads.{Reads}
+use Rattle.ioam_captures.specs.Streams.{ShowsSo}
 use Rattle.ioam_answer.specs.declared.outcome.Outcome.{Outcome}
 use Rattle.ioam_answer.specs.declared.outcome.Outcome.TheVariants as outcome
 
@@ -29,18 +28,16 @@ output_names words = drop 2 words
 
 -- the octets are a capture file that ends so, of no more records than this limit
 pub record IsInput (most : ℕ) (ending : Ending) (octets : List ℕ) : Type 0 where
-  pub link : Option Link
-  pub entries : List Entry
-  pub reads : Reads octets link entries ending
-  pub few : length entries ≤ most
+  pub taken : List Taken
+  pub reads : Reads octets taken ending
+  pub few : length taken ≤ most
 
 -- the octets are a capture file of more records
 pub record IsLong (most : ℕ) (octets : List ℕ) : Type 0 where
-  pub link : Option Link
-  pub entries : List Entry
+  pub taken : List Taken
   pub ending : Ending
-  pub reads : Reads octets link entries ending
-  pub many : most < length entries
+  pub reads : Reads octets taken ending
+  pub many : most < length taken
 
 -- What the words and the files ask for, where nothing fails: the first of the refusals in their
 -- order whose condition holds, or Done. What a file holds is spoken of where the desk tells.
@@ -93,51 +90,45 @@ module _ (tells : Bool) (names : List (List ℕ)) (input : List ℕ) (old_in : R
   HasCause (outcome.Capture name at fault) = Asked tells old_out names input (outcome.Capture name at fault)
 
 -- the octets read as these records, and end so
-abbrev pub EndsSo : Ending → Option Link → List Entry → List ℕ → Type 0
-EndsSo ending link entries octets = Reads octets link entries ending
+abbrev pub EndsSo : Ending → List Taken → List ℕ → Type 0
+EndsSo ending taken octets = Reads octets taken ending
 
 -- these are the first records of the octets, and others come behind them
-pub record AreFirst (link : Option Link) (entries : List Entry) (octets : List ℕ) : Type 0 where
-  pub rest : List Entry
+pub record AreFirst (taken : List Taken) (octets : List ℕ) : Type 0 where
+  pub rest : List Taken
   pub ending : Ending
-  pub reads : Reads octets link (entries ++ rest) ending
+  pub reads : Reads octets (taken ++ rest) ending
 
 -- these are as many of the first records of the octets as this limit, and more come behind them
-pub record ArePassed (most : ℕ) (link : Option Link) (entries : List Entry) (octets : List ℕ) : Type 0 where
-  pub first : AreFirst link entries octets
-  pub all : length entries ≡ most
+pub record ArePassed (most : ℕ) (taken : List Taken) (octets : List ℕ) : Type 0 where
+  pub first : AreFirst taken octets
+  pub all : length taken ≡ most
   pub more : 0 < length first.rest
 
--- these are the records that are whole in the octets but for those that are left, and the head or
--- record behind them is cut there
-pub record AreWhole (left : List ℕ) (link : Option Link) (entries : List Entry) (octets : List ℕ) : Type 0 where
+-- these are the records that are whole in the octets but for those that are left, and what is due
+-- behind them isn't whole there
+pub record AreWhole (left : List ℕ) (taken : List Taken) (octets : List ℕ) : Type 0 where
   pub handed : List ℕ
   pub parts : octets ≡ handed ++ left
-  pub form : Option Form
-  pub at : ℕ
-  pub reached : Reached handed form entries at
-  pub cut : CutAt handed form at
-  pub linked : link ≡ link_by form
+  pub shows : ShowsSo handed false taken None
 
-module _ (most : ℕ) (Texts : Bool → List Entry → List (List ℕ) → Type 0) (outputs : List (List ℕ)) where
+module _ (most : ℕ) (Texts : List Taken → List (List ℕ) → Type 0) (outputs : List (List ℕ)) where
   -- the outputs hold the texts of some records, no more than may be; `Are` says which records of IN
-  pub record HoldsAll (Are : Option Link → List Entry → List ℕ → Type 0) (new : Writing) (octets : List ℕ) : Type 0 where
-    pub link : Option Link
-    pub entries : List Entry
+  pub record HoldsAll (Are : List Taken → List ℕ → Type 0) (new : Writing) (octets : List ℕ) : Type 0 where
+    pub taken : List Taken
     pub texts : List (List ℕ)
-    pub are : Are link entries octets
-    pub few : length entries ≤ most
-    pub texts_are : Texts (is_ethernet link) entries texts
+    pub are : Are taken octets
+    pub few : length taken ≤ most
+    pub texts_are : Texts taken texts
     pub held : HoldTexts new outputs texts
 
   -- each output that was opened holds a front of its text of some first records of IN, no more than may be
   pub record HoldsFronts (old new : Writing) (octets : List ℕ) : Type 0 where
-    pub link : Option Link
-    pub entries : List Entry
+    pub taken : List Taken
     pub texts : List (List ℕ)
-    pub are : AreFirst link entries octets
-    pub few : length entries ≤ most
-    pub texts_are : Texts (is_ethernet link) entries texts
+    pub are : AreFirst taken octets
+    pub few : length taken ≤ most
+    pub texts_are : Texts taken texts
     pub held : HoldFronts old new 0 outputs texts
 
   -- What the files hold afterwards, where the desk tells: the texts, of all records, of the first, or

@@ -1,11 +1,12 @@
 -- What becomes of a captured frame at the boundary of a domain: the first reason why it is dropped,
 -- or its packet.
-use Rattle.std.specs.Prelude.{◌≡◌, ℕ, List, [], ◌∷◌, Bool}
+use Rattle.std.specs.Prelude.{◌≡◌, ℕ, List, [], ◌∷◌}
 use Rattle.ioam_ip.specs.Framing.{Framing, Holds, NoIpv6, CutShort, TooShort, framing_of}
 use Rattle.ioam_ip.specs.Chain.{IsSound}
 use Rattle.ioam_ip.specs.ChainOptions.{CarriesIoam}
 use Rattle.ioam_pcap.specs.Cut.{is_cut}
-use Rattle.ioam_pcap.specs.Entries.{Entry}
+use Rattle.ioam_pcap.specs.Entries.{Taken}
+use Rattle.ioam_pcap.specs.Link.{is_ethernet}
 use Rattle.ioam_node.specs.declared.reason.Reason.{Reason}
 use Rattle.ioam_node.specs.declared.reason.Reason.TheVariants as reason
 
@@ -35,16 +36,16 @@ FramingVerdict CutShort verdict = verdict ≡ Drops reason.Cut
 FramingVerdict TooShort verdict = verdict ≡ Drops reason.Length
 
 -- what a record of a capture gives: it is cut where it has fewer octets than the frame had
-abbrev pub entry_framing : Bool → Entry → Framing
-entry_framing ethernet entry = framing_of ethernet (is_cut entry) entry.octets
+abbrev pub taken_framing : Taken → Framing
+taken_framing t = framing_of (is_ethernet t.link) (is_cut t.entry) t.entry.octets
 
 -- what becomes of one record of a capture
-abbrev pub HasVerdict : Bool → Entry → Verdict → Type 0
-HasVerdict ethernet entry verdict = FramingVerdict (entry_framing ethernet entry) verdict
+abbrev pub HasVerdict : Taken → Verdict → Type 0
+HasVerdict t verdict = FramingVerdict (taken_framing t) verdict
 
 -- what becomes of each
-abbrev pub AreVerdicts : Bool → List Entry → List Verdict → Type 0
-AreVerdicts ethernet [] [] = Unit {0}
-AreVerdicts ethernet [] (v ∷ vs) = ⊥
-AreVerdicts ethernet (e ∷ es) [] = ⊥
-AreVerdicts ethernet (e ∷ es) (v ∷ vs) = HasVerdict ethernet e v × AreVerdicts ethernet es vs
+abbrev pub AreVerdicts : List Taken → List Verdict → Type 0
+AreVerdicts [] [] = Unit {0}
+AreVerdicts [] (v ∷ vs) = ⊥
+AreVerdicts (t ∷ ts) [] = ⊥
+AreVerdicts (t ∷ ts) (v ∷ vs) = HasVerdict t v × AreVerdicts ts vs

@@ -1,6 +1,6 @@
 ghost use Rattle.std.specs.Prelude.{◌≡◌, ◌⊎◌};
 ghost use Rattle.ioam_answer.specs.declared.outcome.Outcome.{Outcome};
-ghost use Rattle.ioam_pcap.specs.Reader.{ending_of as ending};
+ghost use Rattle.ioam_pcap.specs.Ending.{ending_of as ending};
 ghost use Rattle.ioam_run.specs.Run.{outcome_of};
 
 use ioam_answer::{Outcome, capture_outcome};

@@ -9,7 +9,7 @@ use ioam_base::memory::NoMemory;
 use ioam_base::text::{append, append_decimal};
 use ioam_node::Reason;
 use ioam_outputs::Output;
-use ioam_pcap::{Packet, put_head, put_record};
+use ioam_pcap::{Link, Packet, put_head, put_record};
 use ioam_report::reason_text;
 
 /// How many packets are kept and dropped so far. Its outputs are the capture of the kept packets and
@@ -22,7 +22,7 @@ pub struct Filtering {
 
 impl Gather for Filtering {
     ghost use Rattle.ioam_run.specs.FilterText.{FilterTexts};
-    ghost use Rattle.ioam_run.specs.Filtering.{Gathers, heads, sums, taken, empty, IsFresh, IsFresh-none, Gathers-begins, Gathers-any_link, Gathers-ends, empty-texts, empty-sized, sums-sized};
+    ghost use Rattle.ioam_run.specs.Filtering.{Gathers, heads, sums, taken, empty, IsFresh, IsFresh-none, Gathers-begins, Gathers-ends, empty-texts, empty-sized, sums-sized};
 
     ghost width = { 2 };
 
@@ -51,12 +51,12 @@ impl Gather for Filtering {
 
     fn take(
         &mut self,
-        ethernet: bool,
+        link: Link,
         captured: &Packet<'_>,
         outputs: &mut [Output],
     ) -> Result<(), NoMemory> {
         let number = self.kept + self.dropped + 1;
-        match judge(ethernet, captured) {
+        match judge(link, captured) {
             Judgement::Kept(octets) => {
                 put_record(captured.time, octets, &mut outputs[0].gathered)?;
                 put_kept(number, &mut outputs[1].gathered)?;
@@ -77,8 +77,6 @@ impl Gather for Filtering {
     ghost begins = { Gathers-begins };
 
     ghost none = { IsFresh-none };
-
-    ghost any_link = { λ begun. Gathers-any_link };
 
     ghost ends = { λ begun. Gathers-ends };
 

@@ -1,12 +1,12 @@
 //! Texts that are gathered of the records of a capture, each for its output.
-ghost use Rattle.std.specs.Prelude.{◌≡◌, ◌<◌, ◌≤◌, ◌+◌, ◌^◌, ◌∷◌, ◌++◌, [], List, ℕ, Bool, OnOk, length};
+ghost use Rattle.std.specs.Prelude.{◌≡◌, ◌<◌, ◌≤◌, ◌+◌, ◌^◌, ◌∷◌, ◌++◌, [], List, ℕ, OnOk, length};
+ghost use Rattle.ioam_captures.specs.Reader.{taken_of};
 ghost use Rattle.ioam_outputs.specs.Told.{Adds, GathersFew, GathersNothing, said_more};
-ghost use Rattle.ioam_pcap.specs.Entries.{Entry, most};
-ghost use Rattle.ioam_pcap.specs.Reader.{entry_of};
+ghost use Rattle.ioam_pcap.specs.Entries.{Taken, most};
 
 use ioam_base::memory::NoMemory;
 use ioam_outputs::Output;
-use ioam_pcap::Packet;
+use ioam_pcap::{Link, Packet};
 
 /// Texts that are gathered of the records of a capture, each for its output. What they are of besides the
 /// records stands in the value that takes no record yet, of which a ghost member speaks as `begun`.
@@ -14,8 +14,8 @@ pub trait Gather: Drop {
     // how many outputs there are
     ghost width: { ℕ };
 
-    // the texts so far are those of these records, whose frames begin with an Ethernet header or don't
-    ghost gathers: { Self → Bool → List Entry → List (List ℕ) → Self → Type 0 };
+    // the texts so far are those of these records
+    ghost gathers: { Self → List Taken → List (List ℕ) → Self → Type 0 };
 
     // how many records were taken
     ghost count: { Self → ℕ };
@@ -30,7 +30,7 @@ pub trait Gather: Drop {
     ghost sums: { Self → List (List ℕ) };
 
     // the texts of these records, with what is added behind the last
-    ghost texts: { Self → Bool → List Entry → List (List ℕ) → Type 0 };
+    ghost texts: { Self → List Taken → List (List ℕ) → Type 0 };
 
     // the texts of no records, with what is added behind the last
     ghost empty: { List (List ℕ) };
@@ -47,10 +47,11 @@ pub trait Gather: Drop {
         requires { count self.now < 2 ^ 32 }
         ensures { result ≡ count self.now };
 
-    /// Takes the next record, where less than a piece waits to be written to each output.
+    /// Takes the next record, whose octets begin at this layer, where less than a piece waits to be written to
+    /// each output.
     fn take(
         &mut self,
-        ethernet: bool,
+        link: Link,
         captured: &Packet<'_>,
         outputs: &mut [Output],
     ) -> Result<(), NoMemory>
@@ -61,8 +62,8 @@ pub trait Gather: Drop {
         requires waiting { GathersFew outputs.old }
         ensures counted { OnOk result (count self.new ≡ count self.old + 1) }
         ensures gathers { OnOk result ((added : List (List ℕ)) × Adds outputs.old outputs.new added
-            × ((begun : Self) (entries : List Entry) (so_far : List (List ℕ)) → gathers begun ethernet entries so_far self.old
-            → gathers begun ethernet (entries ++ entry_of captured.now ∷ []) (said_more so_far added) self.new)) };
+            × ((begun : Self) (taken : List Taken) (so_far : List (List ℕ)) → gathers begun taken so_far self.old
+            → gathers begun (taken ++ taken_of link captured.now ∷ []) (said_more so_far added) self.new)) };
 
     /// Adds what stands behind the last record.
     fn put_sums(&self, outputs: &mut [Output]) -> Result<(), NoMemory>
@@ -71,20 +72,16 @@ pub trait Gather: Drop {
         ensures { OnOk result (Adds outputs.old outputs.new (sums self.now)) };
 
     // before the first record they are those of none
-    ghost begins: { (begun : Self) → fresh begun → (ethernet : Bool) → gathers begun ethernet [] heads begun };
+    ghost begins: { (begun : Self) → fresh begun → gathers begun [] heads begun };
 
     ghost none: { (begun : Self) → fresh begun → count begun ≡ 0 };
 
-    // before the first record it doesn't matter what the frames begin with
-    ghost any_link: { (begun : Self) (ethernet other : Bool) (so_far : List (List ℕ)) (gathered : Self)
-        → gathers begun ethernet [] so_far gathered → gathers begun other [] so_far gathered };
-
     // the texts are whole with what is added behind the last record
-    ghost ends: { (begun : Self) (ethernet : Bool) (entries : List Entry) (so_far : List (List ℕ)) (gathered : Self)
-        → gathers begun ethernet entries so_far gathered → texts begun ethernet entries (said_more so_far (sums gathered)) };
+    ghost ends: { (begun : Self) (taken : List Taken) (so_far : List (List ℕ)) (gathered : Self)
+        → gathers begun taken so_far gathered → texts begun taken (said_more so_far (sums gathered)) };
 
     // there are texts of no records
-    ghost of_none: { (begun : Self) (ethernet : Bool) → texts begun ethernet [] empty };
+    ghost of_none: { (begun : Self) → texts begun [] empty };
 
     ghost empty_sized: { length empty ≡ width };
 

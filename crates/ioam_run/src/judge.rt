@@ -1,14 +1,14 @@
 //! What becomes of a captured frame at the boundary of a domain.
 ghost use Rattle.std.specs.Prelude.{◌≡◌, ◌≤◌, length};
+ghost use Rattle.ioam_captures.specs.Reader.{taken_of};
 ghost use Rattle.ioam_ip.specs.Packet.{IsPacket};
-ghost use Rattle.ioam_pcap.specs.Reader.{entry_of};
 ghost use Rattle.ioam_run.specs.Verdict.{Verdict, HasVerdict, PacketVerdict};
 ghost use Rattle.ioam_run.specs.Judgement.{verdict_of, IsWithin};
 
 use crate::frame::framed;
 use ioam_ip::{Framed, Walk, walk};
 use ioam_node::Reason;
-use ioam_pcap::Packet;
+use ioam_pcap::{Link, Packet};
 
 /// A frame's packet that is kept, or the first reason why the frame is dropped.
 #[derive(Clone, Copy)]
@@ -19,14 +19,14 @@ pub enum Judgement<'a> {
     Dropped(Reason),
 }
 
-/// What becomes of a record of a capture; `ethernet` says that its frames begin with an Ethernet header.
-pub fn judge<'a>(ethernet: bool, captured: &Packet<'a>) -> Judgement<'a>
-    ensures verdict { HasVerdict ethernet (entry_of captured.now) (verdict_of result) }
+/// What becomes of a record of a capture, whose octets begin at this layer.
+pub fn judge<'a>(link: Link, captured: &Packet<'a>) -> Judgement<'a>
+    ensures verdict { HasVerdict (taken_of link captured.now) (verdict_of result) }
     // It has no other.
-    ensures only { (verdict : Verdict) → HasVerdict ethernet (entry_of captured.now) verdict → verdict_of result ≡ verdict }
+    ensures only { (verdict : Verdict) → HasVerdict (taken_of link captured.now) verdict → verdict_of result ≡ verdict }
     ensures within { IsWithin (verdict_of result) captured.now.octets.now }
 {
-    match framed(ethernet, captured) {
+    match framed(link, captured) {
         Framed::Packet(octets) => judge_packet(octets),
         Framed::NotIpv6 => Judgement::Dropped(Reason::NotIpv6),
         Framed::Cut => Judgement::Dropped(Reason::Cut),

@@ -1,7 +1,7 @@
 //! The text of a command that lists something of each packet, gathered record by record.
 ghost use Rattle.std.specs.Prelude.{◌≡◌, ◌++◌, List, OnOk};
+ghost use Rattle.ioam_captures.specs.Reader.{taken_of};
 ghost use Rattle.ioam_ip.specs.Packet.{IsPacket};
-ghost use Rattle.ioam_pcap.specs.Reader.{entry_of};
 ghost use Rattle.ioam_run.specs.Listing.{IsFresh};
 ghost use Rattle.ioam_run.specs.ListText.{EntryLines, PacketLines, skip_line, packets_line};
 
@@ -13,7 +13,7 @@ use ioam_base::text::{append, append_decimal};
 use ioam_ip::{Framed, Walk, walk};
 use ioam_node::Reason;
 use ioam_outputs::Output;
-use ioam_pcap::Packet;
+use ioam_pcap::{Link, Packet};
 use ioam_report::reason_text;
 use std::marker::PhantomData;
 
@@ -36,7 +36,7 @@ pub fn none_listed<L: PacketText>() -> Listing<L>
 }
 
 impl<L: PacketText> Gather for Listing<L> {
-    ghost use Rattle.ioam_run.specs.Listing.{Lists, heads, sums, listed, empty, IsFresh, IsFresh-none, Lists-begins, Lists-any_link, Lists-ends, empty-texts, empty-sized, sums-sized};
+    ghost use Rattle.ioam_run.specs.Listing.{Lists, heads, sums, listed, empty, IsFresh, IsFresh-none, Lists-begins, Lists-ends, empty-texts, empty-sized, sums-sized};
     ghost use Rattle.ioam_run.specs.ListText.{ListTexts};
 
     ghost width = { 1 };
@@ -65,16 +65,11 @@ impl<L: PacketText> Gather for Listing<L> {
 
     fn take(
         &mut self,
-        ethernet: bool,
+        link: Link,
         captured: &Packet<'_>,
         outputs: &mut [Output],
     ) -> Result<(), NoMemory> {
-        put_entry::<L>(
-            self.packets + 1,
-            ethernet,
-            captured,
-            &mut outputs[0].gathered,
-        )?;
+        put_entry::<L>(self.packets + 1, link, captured, &mut outputs[0].gathered)?;
         self.packets += 1;
         Ok(())
     }
@@ -86,8 +81,6 @@ impl<L: PacketText> Gather for Listing<L> {
     ghost begins = { Lists-begins L.tells };
 
     ghost none = { IsFresh-none };
-
-    ghost any_link = { λ begun. Lists-any_link L.tells };
 
     ghost ends = { λ begun. Lists-ends L.tells };
 
@@ -110,14 +103,14 @@ fn put_count(packets: u64, out: &mut Vec<u8>) -> Result<(), NoMemory>
 // Appends the lines of one record.
 fn put_entry<L: PacketText>(
     number: u64,
-    ethernet: bool,
+    link: Link,
     captured: &Packet<'_>,
     out: &mut Vec<u8>,
 ) -> Result<(), NoMemory>
-    ensures { OnOk result ((text : List _) × EntryLines L.tells ethernet number (entry_of captured.now) text
+    ensures { OnOk result ((text : List _) × EntryLines L.tells number (taken_of link captured.now) text
         × (out.new.items ≡ out.old.items ++ text)) }
 {
-    match framed(ethernet, captured) {
+    match framed(link, captured) {
         Framed::Packet(octets) => put_packet::<L>(number, octets, out),
         Framed::NotIpv6 => put_skip(number, Reason::NotIpv6, out),
         Framed::Cut => put_skip(number, Reason::Cut, out),

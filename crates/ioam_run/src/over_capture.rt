@@ -1,12 +1,12 @@
 //! A command over one capture: its names, its files and its answer.
 ghost use Rattle.std.specs.Prelude.{◌≡◌, ◌≢◌, ◌↔◌, ◌∷◌, ◌++◌, ◌+◌, ◌<◌, ◌≤◌, ◌⊎◌, [], IfOk, IsTrue, length};
+ghost use Rattle.ioam_captures.specs.Reading.{fresh};
 ghost use Rattle.ioam_desk.specs.Asked.{AsksFront};
 ghost use Rattle.ioam_desk.specs.Desk.{holds};
 ghost use Rattle.ioam_desk.specs.Kept.{KeepsInputs, KeepsOutputs, WritesFrom};
 ghost use Rattle.ioam_feed.specs.Feed.{Fed};
 ghost use Rattle.ioam_outputs.specs.Names.{AreApart};
 ghost use Rattle.ioam_outputs.specs.Told.{AreTold, GathersNothing, unsaid};
-ghost use Rattle.ioam_pcap.specs.Reader.{fresh};
 ghost use Rattle.ioam_answer.specs.Outcomes.{IsDone, IsBehindAll, OpensNothing};
 ghost use Rattle.ioam_run.specs.Run.{most_packets, HasCause, FileCause, Leaves, file_names, input_name, output_names};
 ghost use Rattle.ioam_run.specs.Streams.{Begun, Finishes, IsBroken, ReadsOne};
@@ -183,11 +183,7 @@ fn run_open<G: Gather, D: Desk>(
     let Ok(()) = gathered.begin(outputs) else {
         return Outcome::NoMemory;
     };
-    let mut stream = Stream {
-        feed,
-        ethernet: false,
-        gathered,
-    };
+    let mut stream = Stream { feed, gathered };
     let answer = read_on(alloc, &mut stream, outputs, desk, input, piece, limit);
     if is_broken(&answer) {
         return answer;

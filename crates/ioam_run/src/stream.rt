@@ -1,10 +1,10 @@
 //! A capture that is read in pieces while texts are gathered of its records and written.
 ghost use Rattle.std.specs.Prelude.{◌≡◌, ◌<◌, ◌≤◌, ◌^◌, IfErr, IfOk, OnErr, OnOk, IsTrue, List, ℕ, length};
+ghost use Rattle.ioam_captures.specs.Reading.{fed};
 ghost use Rattle.ioam_desk.specs.Asked.{IsFaultOf};
 ghost use Rattle.ioam_desk.specs.Kept.{WritesFrom};
 ghost use Rattle.ioam_outputs.specs.Held.{HoldAllFronts, HoldTexts};
 ghost use Rattle.ioam_outputs.specs.Told.{AreTold, AreOpen, GathersFew, said_more};
-ghost use Rattle.ioam_pcap.specs.Reader.{fed};
 ghost use Rattle.ioam_run.specs.Run.{most_packets};
 ghost use Rattle.ioam_run.specs.Streams.{Begun, IsStreaming, Pauses, ReadsOne, Sticks, Stops};
 
@@ -22,8 +22,6 @@ use std::alloc::Global;
 #[derive(Drop)]
 pub struct Stream<G> {
     pub feed: Feed,
-    /// Whether the frames of the capture begin with an Ethernet header.
-    pub ethernet: bool,
     pub gathered: G,
 }
 
@@ -55,7 +53,6 @@ fn take_shown<G: Gather, D: Desk>(
     'records: loop {
         match step(
             &mut stream.feed.reader,
-            &mut stream.ethernet,
             &mut stream.gathered,
             outputs,
             limit,
