@@ -1,5 +1,5 @@
 -- Octets behind those of a capture change nothing of what these show.
-use Rattle.std.proofs.Common.{◌≡◌, ℕ, ◌+◌, ◌≤◌, List, [], ◌∷◌, ◌++◌, length, take, drop, Option, Some, None, arith, refl, sym, ◌∙◌, subst, length-drop, length-append}
+use Rattle.std.proofs.Common.{◌≡◌, ℕ, ◌+◌, ◌≤◌, List, [], ◌∷◌, ◌++◌, length, take, drop, Option, Some, None, arith, refl, sym, ◌∙◌, subst, inl, inr, length-drop, length-append}
 use Rattle.std.proofs.lemmas.Grind.{common_steps}
 use Rattle.std.proofs.lemmas.List.{drop-append-le, take-append-le}
 use Rattle.ioam_base.proofs.OctetsLaws.{u32_at-append}
@@ -7,10 +7,9 @@ use Rattle.ioam_pcap.specs.declared.form.Order.{Order}
 use Rattle.ioam_pcap.specs.declared.form.Order.TheVariants.{Big, Little}
 use Rattle.ioam_pcap.specs.declared.form.Form.{Form}
 use Rattle.ioam_pcap.specs.declared.capture.CapFault.{CapFault}
-use Rattle.ioam_pcap.specs.declared.capture.CapFault.TheVariants as fault
 use Rattle.ioam_pcap.specs.Form.{number_at, IsLinkType, HasHead}
 use Rattle.ioam_pcap.specs.Entries.{Entry, captured, IsWhole, entry_at, behind, Entries}
-use Rattle.ioam_pcap.specs.Reads.{HeadFault, EntryFault, Reached, FaultAt, Shown, HeadShown, EntryShown, CutShown, FaultShown, Shows}
+use Rattle.ioam_pcap.specs.Reads.{HasMagic, HeadFault, EntryFault, Reached, FaultAt, Shown, HeadShown, EntryShown, CutShown, FaultShown, Shows}
 
 module _ (octets more : List ℕ) where
   number_at-append : (order : Order) (at : ℕ) → at + 4 ≤ length octets → number_at order (octets ++ more) at ≡ number_at order octets at
@@ -26,12 +25,14 @@ module _ (octets more : List ℕ) where
       (longer 24 head.0, u32_at-append octets more 0 (omega arith) ∙ head.1, subst Q (sym (number_at-append form.order 20 (omega arith))) head.2)
 
   pub HeadFault-behind : (f : CapFault) → HeadFault octets f → HeadFault (octets ++ more) f
-  HeadFault-behind (fault.Magic found) bad = (longer 4 bad.0, bad.1 ∙ sym (u32_at-append octets more 0 (omega arith)), bad.2)
-  HeadFault-behind (fault.Link found) bad =
-      let (order, fraction, magic, found_there) = bad.2 in
-      (longer 24 bad.0, bad.1, (order, fraction, (longer 4 magic.0, u32_at-append octets more 0 (omega arith) ∙ magic.1), found_there ∙ sym (number_at-append order 20 (omega arith))))
-  HeadFault-behind (fault.RecordLong found) bad = absurd bad
-  HeadFault-behind (fault.Short have) bad = absurd bad
+  HeadFault-behind f (inl magic) =
+      let (found, is, fits, here, un) = magic in
+      inl (found, is, longer 4 fits, here ∙ sym (u32_at-append octets more 0 (omega (arith, fits))), un)
+  HeadFault-behind f (inr link) =
+      let (found, is, long, unknown, spelled) = link in
+      let (order, fraction, magic, here) = spelled in
+      let still : HasMagic (octets ++ more) order fraction = (longer 4 magic.0, u32_at-append octets more 0 (omega (arith, long)) ∙ magic.1) in
+      inr (found, is, longer 24 long, unknown, (order, fraction, still, here ∙ sym (number_at-append order 20 (omega (arith, long)))))
 
   module _ (form : Form) (at : ℕ) where
     captured-behind : at + 16 ≤ length octets → captured form (octets ++ more) at ≡ captured form octets at
@@ -55,10 +56,9 @@ module _ (octets more : List ℕ) where
         cc
 
     EntryFault-behind : (f : CapFault) → EntryFault form octets at f → EntryFault form (octets ++ more) at f
-    EntryFault-behind (fault.Magic found) bad = absurd bad
-    EntryFault-behind (fault.Link found) bad = absurd bad
-    EntryFault-behind (fault.RecordLong found) bad = (longer (at + 16) bad.0, bad.1 ∙ sym (captured-behind bad.0), bad.2)
-    EntryFault-behind (fault.Short have) bad = absurd bad
+    EntryFault-behind f bad =
+        let (found, is, fits, here, long) = bad in
+        (found, is, longer (at + 16) fits, here ∙ sym (captured-behind fits), long)
 
   pub Entries-behind : (form : Form) (at : ℕ) (entries : List Entry) (end : ℕ) → Entries form octets at entries end → Entries form (octets ++ more) at entries end
   Entries-behind form at [] end here = here

@@ -5,7 +5,6 @@ use Rattle.ioam_pcap.specs.declared.form.Order.{Order}
 use Rattle.ioam_pcap.specs.declared.form.Order.TheVariants.{Big, Little}
 use Rattle.ioam_pcap.specs.declared.form.Form.{Form}
 use Rattle.ioam_pcap.specs.declared.capture.CapFault.{CapFault}
-use Rattle.ioam_pcap.specs.declared.capture.CapFault.TheVariants as fault
 use Rattle.ioam_pcap.specs.Form.{number_at}
 use Rattle.ioam_pcap.specs.Entries.{captured, IsWhole, entry_at}
 use Rattle.ioam_pcap.specs.Reads.{EntryFault, IsEntryCut}
@@ -34,10 +33,9 @@ module _ (form : Form) (octets : List ℕ) (n : ℕ) (inside : n ≤ length octe
       cc
 
   pub EntryFault-drop : (f : CapFault) → EntryFault form (drop n octets) 0 f → EntryFault form octets n f
-  EntryFault-drop (fault.Magic found) bad = absurd bad
-  EntryFault-drop (fault.Link found) bad = absurd bad
-  EntryFault-drop (fault.RecordLong found) bad = let same = captured-drop in (omega (arith, length-drop n octets), omega arith, bad.2)
-  EntryFault-drop (fault.Short have) bad = absurd bad
+  EntryFault-drop f bad =
+      let (found, is, fits, here, long) = bad in
+      (found, is, omega (arith, fits, length-drop n octets), here ∙ captured-drop, long)
 
   pub IsEntryCut-drop : IsEntryCut form (drop n octets) 0 → IsEntryCut form octets n
   IsEntryCut-drop (inl few) = inl (omega (arith, length-drop n octets))

@@ -6,7 +6,3 @@ pub mod StandsLaws
 pub mod FaultLaws
 pub mod OrderLaws
 pub mod TextLaws
-pub mod TurnLaws
-pub mod MergeLaws
-pub mod StreamsLaws
-pub mod ArrivesLaws

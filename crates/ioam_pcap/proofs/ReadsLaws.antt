@@ -1,5 +1,5 @@
 -- A capture reads in one way, and in some way.
-use Rattle.std.proofs.Common.{◌≡◌, ℕ, zero, suc, ◌+◌, ◌-◌, ◌<◌, ◌≤◌, ◌⊎◌, List, [], ◌∷◌, ◌++◌, length, Option, Some, None, arith, refl, sym, ap, ◌∙◌, subst, inl, inr}
+use Rattle.std.proofs.Common.{◌≡◌, ℕ, zero, suc, ◌+◌, ◌-◌, ◌≤◌, ◌⊎◌, List, [], ◌∷◌, ◌++◌, length, Option, Some, None, arith, refl, sym, ap, ◌∙◌, subst, inl, inr}
 use Rattle.std.specs.Option.{IsSome}
 use Rattle.std.proofs.lemmas.Bool.{cases_lt, cases_eq, false≢true}
 use Rattle.ioam_base.specs.Octets.{u32_at}
@@ -14,8 +14,9 @@ use Rattle.ioam_pcap.specs.declared.form.Form.{Form}
 use Rattle.ioam_pcap.specs.declared.capture.CapFault.{CapFault}
 use Rattle.ioam_pcap.specs.declared.capture.CapFault.TheVariants as fault
 use Rattle.ioam_pcap.specs.Form.{number_at, spelling, IsUnspelled, IsLinkType, IsNoLinkType, HasHead}
+use Rattle.ioam_pcap.specs.Ending.{Ending, Whole, Faulty}
 use Rattle.ioam_pcap.specs.Entries.{Entry, most, captured, IsWhole, entry_at, behind, Entries}
-use Rattle.ioam_pcap.specs.Reads.{HasMagic, HeadFault, EntryFault, IsHeadCut, IsEntryCut, Reached, FaultAt, CutAt, Shown, HeadShown, EntryShown, CutShown, FaultShown, Shows, Ending, Whole, Faulty, EndsAt, Reads, Cap, link_by}
+use Rattle.ioam_pcap.specs.Reads.{HasMagic, HeadFault, EntryFault, IsHeadCut, IsEntryCut, Reached, FaultAt, CutAt, Shown, HeadShown, EntryShown, CutShown, FaultShown, Shows, IsShort, EndsAt, Reads, Cap, link_by}
 
 -- a number spells one order and one fraction
 spelling-injective : (o p : Order) (f g : Fraction) → spelling o f ≡ spelling p g → (o ≡ p) × (f ≡ g)
@@ -71,15 +72,14 @@ module _ (octets : List ℕ) where
 
   -- a whole head has no fault and is not cut
   pub head_sound : (form : Form) (f : CapFault) → HasHead octets form → HeadFault octets f → ⊥
-  head_sound form (fault.Magic found) head bad = spelling_not_unspelled form.order form.fraction found (bad.1 ∙ head.1) bad.2
-  head_sound form (fault.Link found) head bad =
-      let (order, fraction, magic, there) = bad.2 in
+  head_sound form f head (inl magic) = let (found, is, fits, here, un) = magic in spelling_not_unspelled form.order form.fraction found (here ∙ head.1) un
+  head_sound form f head (inr link) =
+      let (found, is, long, unknown, spelled) = link in
+      let (order, fraction, magic, there) = spelled in
       let same = spelling-injective form.order order form.fraction fraction (sym head.1 ∙ magic.1) in
       let Q : Order → Type 0 = λ o. IsLinkType (number_at o octets 20) form.link in
       let R : ℕ → Type 0 = λ n. IsLinkType n form.link in
-      link_known found form.link (subst R (sym there) (subst Q same.0 head.2)) bad.1
-  head_sound form (fault.RecordLong found) head bad = bad
-  head_sound form (fault.Short have) head bad = bad
+      link_known found form.link (subst R (sym there) (subst Q same.0 head.2)) unknown
 
   head_uncut : (form : Form) → HasHead octets form → IsHeadCut octets → ⊥
   head_uncut form head (inl few) = omega arith
@@ -87,29 +87,34 @@ module _ (octets : List ℕ) where
 
   -- a head that is cut has no fault
   cut_sound : (f : CapFault) → IsHeadCut octets → HeadFault octets f → ⊥
-  cut_sound (fault.Magic found) (inl few) bad = omega arith
-  cut_sound (fault.Magic found) (inr few) bad = let (order, fraction, magic) = few.1 in spelling_not_unspelled order fraction found (bad.1 ∙ magic.1) bad.2
-  cut_sound (fault.Link found) (inl few) bad = omega (arith, bad.0)
-  cut_sound (fault.Link found) (inr few) bad = omega (arith, bad.0, few.0)
-  cut_sound (fault.RecordLong found) cut bad = bad
-  cut_sound (fault.Short have) cut bad = bad
+  cut_sound f (inl few) (inl magic) = let (found, is, fits, here, un) = magic in omega (arith, few, fits)
+  cut_sound f (inr few) (inl magic) =
+      let (found, is, fits, here, un) = magic in
+      let (order, fraction, spelled) = few.1 in
+      spelling_not_unspelled order fraction found (here ∙ spelled.1) un
+  cut_sound f (inl few) (inr link) = let (found, is, long, unknown, spelled) = link in omega (arith, few, long)
+  cut_sound f (inr few) (inr link) = let (found, is, long, unknown, spelled) = link in omega (arith, few.0, long)
+
+  -- a number is unspelled or spelled
+  unspelled_or_spelled : (m n : ℕ) → (4 ≤ length octets) × (m ≡ u32_at octets 0) × IsUnspelled m
+      → (24 ≤ length octets) × IsNoLinkType n × ((order : Order) × (fraction : Fraction) × HasMagic octets order fraction × (n ≡ number_at order octets 20)) → ⊥
+  unspelled_or_spelled m n x y = let (order, fraction, magic, there) = y.2 in spelling_not_unspelled order fraction m (x.1 ∙ magic.1) x.2
 
   -- a head has one fault
   head_fault_unique : (f g : CapFault) → HeadFault octets f → HeadFault octets g → f ≡ g
-  head_fault_unique (fault.Magic m) (fault.Magic n) x y = ap fault.Magic (x.1 ∙ sym y.1)
-  head_fault_unique (fault.Magic m) (fault.Link n) x y = let (order, fraction, magic, there) = y.2 in absurd (spelling_not_unspelled order fraction m (x.1 ∙ magic.1) x.2)
-  head_fault_unique (fault.Magic m) (fault.RecordLong n) x y = absurd y
-  head_fault_unique (fault.Magic m) (fault.Short n) x y = absurd y
-  head_fault_unique (fault.Link m) (fault.Magic n) x y = let (order, fraction, magic, there) = x.2 in absurd (spelling_not_unspelled order fraction n (y.1 ∙ magic.1) y.2)
-  head_fault_unique (fault.Link m) (fault.Link n) x y =
-      let (o, f, magic, there) = x.2 in
-      let (p, g, magics, theres) = y.2 in
-      let same = magic_unique o p f g magic magics in
-      ap fault.Link (there ∙ ap (λ q. number_at q octets 20) same.0 ∙ sym theres)
-  head_fault_unique (fault.Link m) (fault.RecordLong n) x y = absurd y
-  head_fault_unique (fault.Link m) (fault.Short n) x y = absurd y
-  head_fault_unique (fault.RecordLong m) g x y = absurd x
-  head_fault_unique (fault.Short m) g x y = absurd x
+  head_fault_unique f g (inl x) (inl y) =
+      let (m, is, fits, here, un) = x in
+      let (n, was, fitted, there, un_too) = y in
+      is ∙ ap fault.Magic (here ∙ sym there) ∙ sym was
+  head_fault_unique f g (inl x) (inr y) = absurd (unspelled_or_spelled x.0 y.0 (x.2, x.3, x.4) (y.2, y.3, y.4))
+  head_fault_unique f g (inr x) (inl y) = absurd (unspelled_or_spelled y.0 x.0 (y.2, y.3, y.4) (x.2, x.3, x.4))
+  head_fault_unique f g (inr x) (inr y) =
+      let (m, is, long, unknown, spelled) = x in
+      let (n, was, longer, unknown_too, spelled_too) = y in
+      let (o, a, magic, here) = spelled in
+      let (p, b, magic_too, there) = spelled_too in
+      let same = magic_unique o p a b magic magic_too in
+      is ∙ ap fault.Link (here ∙ ap (λ q. number_at q octets 20) same.0 ∙ sym there) ∙ sym was
 
   -- at a place is one of: a whole record, one that is cut, one with a fault
   pub entry_uncut : (form : Form) (at : ℕ) → IsWhole form octets at → IsEntryCut form octets at → ⊥
@@ -117,26 +122,17 @@ module _ (octets : List ℕ) where
   entry_uncut form at whole (inr few) = omega arith
 
   pub entry_sound : (form : Form) (at : ℕ) (f : CapFault) → IsWhole form octets at → EntryFault form octets at f → ⊥
-  entry_sound form at (fault.Magic found) whole bad = bad
-  entry_sound form at (fault.Link found) whole bad = bad
-  entry_sound form at (fault.RecordLong found) whole bad = omega arith
-  entry_sound form at (fault.Short have) whole bad = bad
+  entry_sound form at f whole bad = let (found, is, fits, here, long) = bad in omega (arith, here, long, whole.0)
 
   cut_entry_sound : (form : Form) (at : ℕ) (f : CapFault) → IsEntryCut form octets at → EntryFault form octets at f → ⊥
-  cut_entry_sound form at (fault.Magic found) cut bad = bad
-  cut_entry_sound form at (fault.Link found) cut bad = bad
-  cut_entry_sound form at (fault.RecordLong found) (inl few) bad = omega arith
-  cut_entry_sound form at (fault.RecordLong found) (inr few) bad = omega arith
-  cut_entry_sound form at (fault.Short have) cut bad = bad
+  cut_entry_sound form at f (inl few) bad = let (found, is, fits, here, long) = bad in omega (arith, few, fits)
+  cut_entry_sound form at f (inr few) bad = let (found, is, fits, here, long) = bad in omega (arith, few.0, here, long)
 
   entry_fault_unique : (form : Form) (at : ℕ) (f g : CapFault) → EntryFault form octets at f → EntryFault form octets at g → f ≡ g
-  entry_fault_unique form at (fault.RecordLong m) (fault.RecordLong n) x y = ap fault.RecordLong (x.1 ∙ sym y.1)
-  entry_fault_unique form at (fault.RecordLong m) (fault.Magic n) x y = absurd y
-  entry_fault_unique form at (fault.RecordLong m) (fault.Link n) x y = absurd y
-  entry_fault_unique form at (fault.RecordLong m) (fault.Short n) x y = absurd y
-  entry_fault_unique form at (fault.Magic m) g x y = absurd x
-  entry_fault_unique form at (fault.Link m) g x y = absurd x
-  entry_fault_unique form at (fault.Short m) g x y = absurd x
+  entry_fault_unique form at f g x y =
+      let (m, is, fits, here, long) = x in
+      let (n, was, fitted, there, longer) = y in
+      is ∙ ap fault.RecordLong (here ∙ sym there) ∙ sym was
 
   -- the same at a reached place
   pub cut_not_faulty : (form : Option Form) (at : ℕ) (f : CapFault) → CutAt octets form at → FaultAt octets form at f → ⊥
@@ -181,30 +177,16 @@ module _ (octets : List ℕ) where
   -- nothing is left over at the end of a whole file
   fault_inside : (form : Option Form) (at : ℕ) (f : CapFault) → IsSome form → at ≡ length octets → FaultAt octets form at f → ⊥
   fault_inside None at f some end bad = false≢true some
-  fault_inside (Some form) at (fault.Magic found) some end bad = bad
-  fault_inside (Some form) at (fault.Link found) some end bad = bad
-  fault_inside (Some form) at (fault.RecordLong found) some end bad = omega arith
-  fault_inside (Some form) at (fault.Short have) some end bad = bad
-
-  -- a fault of what an ended file leaves over
-  abbrev IsShort : Option Form → ℕ → CapFault → Type 0
-  IsShort form at f = (have : ℕ) × (f ≡ fault.Short have) × CutAt octets form at × (at + have ≡ length octets) × (IsSome form → 0 < have)
-
-  ends_cases : (form : Option Form) (at place : ℕ) (f : CapFault) → EndsAt octets form at (Faulty place f)
-      → (place ≡ at) × (FaultAt octets form at f ⊎ IsShort form at f)
-  ends_cases form at place (fault.Magic found) ends = (ends.0, inl ends.1)
-  ends_cases form at place (fault.Link found) ends = (ends.0, inl ends.1)
-  ends_cases form at place (fault.RecordLong found) ends = (ends.0, inl ends.1)
-  ends_cases form at place (fault.Short have) ends = (ends.0, inr (have, refl, ends.1, ends.2, ends.3))
+  fault_inside (Some form) at f some end bad = let (found, is, fits, here, long) = bad in omega (arith, end, fits)
 
   whole_or_faulty : (form : Option Form) (at place : ℕ) (f : CapFault) → EndsAt octets form at Whole → EndsAt octets form at (Faulty place f) → ⊥
-  whole_or_faulty form at place f whole ends = elim (ends_cases form at place f ends).1 [
+  whole_or_faulty form at place f whole ends = elim ends.1 [
     | inl bad ↦ fault_inside form at f whole.0 whole.1 bad
     | inr short ↦ let (have, is, cut, many, some) = short in let more = some whole.0 in omega arith
   ]
 
-  faults_unique : (form : Option Form) (at : ℕ) (f g : CapFault) → (FaultAt octets form at f ⊎ IsShort form at f)
-      → (FaultAt octets form at g ⊎ IsShort form at g) → f ≡ g
+  faults_unique : (form : Option Form) (at : ℕ) (f g : CapFault) → (FaultAt octets form at f ⊎ IsShort octets form at f)
+      → (FaultAt octets form at g ⊎ IsShort octets form at g) → f ≡ g
   faults_unique form at f g (inl x) (inl y) = fault_unique form at f g x y
   faults_unique form at f g (inl x) (inr y) = absurd (cut_not_faulty form at f y.2 x)
   faults_unique form at f g (inr x) (inl y) = absurd (cut_not_faulty form at g x.2 y)
@@ -219,16 +201,14 @@ module _ (octets : List ℕ) where
   ends_unique form at Whole (Faulty p f) x y = absurd (whole_or_faulty form at p f x y)
   ends_unique form at (Faulty p f) Whole x y = absurd (whole_or_faulty form at p f y x)
   ends_unique form at (Faulty p f) (Faulty q g) x y =
-      let first = ends_cases form at p f x in
-      let second = ends_cases form at q g y in
-      let same = faults_unique form at f g first.1 second.1 in
-      let place : p ≡ q = first.0 ∙ sym second.0 in
+      let same = faults_unique form at f g x.1 y.1 in
+      let place : p ≡ q = x.0 ∙ sym y.0 in
       cc
 
   -- a whole head ends nothing at the front
   pub ends_front : (form : Form) (d : Ending) → HasHead octets form → EndsAt octets None 0 d → ⊥
   ends_front form Whole head ends = false≢true ends.0
-  ends_front form (Faulty p f) head ends = elim (ends_cases None 0 p f ends).1 [
+  ends_front form (Faulty p f) head ends = elim ends.1 [
     | inl bad ↦ head_sound form f head bad
     | inr short ↦ head_uncut form head short.2
   ]
@@ -236,7 +216,7 @@ module _ (octets : List ℕ) where
   -- a whole record ends nothing
   pub ends_no_record : (form : Form) (at : ℕ) (d : Ending) → EndsAt octets (Some form) at d → IsWhole form octets at → ⊥
   ends_no_record form at Whole ends whole = omega (arith, ends.1)
-  ends_no_record form at (Faulty p f) ends whole = elim (ends_cases (Some form) at p f ends).1 [
+  ends_no_record form at (Faulty p f) ends whole = elim ends.1 [
     | inl bad ↦ entry_sound form at f whole bad
     | inr short ↦ entry_uncut form at whole short.2
   ]
@@ -337,12 +317,12 @@ module _ (octets : List ℕ) where
   step_found form entries at head leads inside more = elim (cases_lt (length octets) (at + 16)) [
     | inl few ↦ elim (cases_eq at (length octets)) [
       | inl end ↦ found_at (Some form) entries at Whole (head, leads) (refl, end)
-      | inr some ↦ found_at (Some form) entries at (Faulty at (fault.Short (length octets - at))) (head, leads) (refl, inl few, omega arith, λ _. omega arith)
+      | inr some ↦ found_at (Some form) entries at (Faulty at (fault.Short (length octets - at))) (head, leads) (refl, inr (_, refl, inl few, omega arith, λ _. omega arith))
     ]
     | inr fits ↦ elim (cases_lt most (captured form octets at)) [
-      | inl long ↦ found_at (Some form) entries at (Faulty at (fault.RecordLong (captured form octets at))) (head, leads) (refl, (fits, refl, long))
+      | inl long ↦ found_at (Some form) entries at (Faulty at (fault.RecordLong (captured form octets at))) (head, leads) (refl, inl (_, refl, fits, refl, long))
       | inr short ↦ elim (cases_lt (length octets) (at + 16 + captured form octets at)) [
-        | inl few ↦ found_at (Some form) entries at (Faulty at (fault.Short (length octets - at))) (head, leads) (refl, inr (short, few), omega arith, λ _. omega arith)
+        | inl few ↦ found_at (Some form) entries at (Faulty at (fault.Short (length octets - at))) (head, leads) (refl, inr (_, refl, inr (short, few), omega arith, λ _. omega arith))
         | inr whole ↦ more (short, whole)
       ]
     ]
@@ -359,14 +339,14 @@ module _ (octets : List ℕ) where
   -- a capture reads in some way
   pub Reads-total : Found octets
   Reads-total = elim (cases_lt (length octets) 4) [
-    | inl few ↦ found_front (Faulty 0 (fault.Short (length octets))) (refl, inl few, omega arith, λ some. absurd (false≢true some))
+    | inl few ↦ found_front (Faulty 0 (fault.Short (length octets))) (refl, inr (_, refl, inl few, omega arith, λ some. absurd (false≢true some)))
     | inr fits ↦ elim (spelled_or_not (u32_at octets 0)) [
-      | inr un ↦ found_front (Faulty 0 (fault.Magic (u32_at octets 0))) (refl, (fits, refl, un))
+      | inr un ↦ found_front (Faulty 0 (fault.Magic (u32_at octets 0))) (refl, inl (inl (_, refl, fits, refl, un)))
       | inl spelled ↦ let (order, fraction, is) = spelled in elim (cases_lt (length octets) 24) [
-        | inl few ↦ found_front (Faulty 0 (fault.Short (length octets))) (refl, inr (few, (order, fraction, (fits, is))), omega arith, λ some. absurd (false≢true some))
+        | inl few ↦ found_front (Faulty 0 (fault.Short (length octets))) (refl, inr (_, refl, inr (few, (order, fraction, (fits, is))), omega arith, λ some. absurd (false≢true some)))
         | inr long ↦ elim (linked_or_not (number_at order octets 20)) [
           | inl linked ↦ rest_found (length octets) (record { order = order; fraction = fraction; link = linked.0 }) [] 24 (long, is, linked.1) refl long (omega arith)
-          | inr unknown ↦ found_front (Faulty 0 (fault.Link (number_at order octets 20))) (refl, (long, unknown, (order, fraction, (fits, is), refl)))
+          | inr unknown ↦ found_front (Faulty 0 (fault.Link (number_at order octets 20))) (refl, inl (inr (_, refl, long, unknown, (order, fraction, (fits, is), refl))))
         ]
       ]
     ]

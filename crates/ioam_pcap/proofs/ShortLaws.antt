@@ -1,11 +1,12 @@
 -- No record of a capture has more octets than a record may have.
-use Rattle.std.proofs.Common.{◌≡◌, ℕ, ◌+◌, ◌≤◌, List, [], ◌∷◌, ◌++◌, length, take, drop, Option, Some, None, sym, subst, arith, length-take}
+use Rattle.std.proofs.Common.{ℕ, ◌+◌, List, [], ◌∷◌, ◌++◌, drop, Option, Some, None, sym, subst, arith, length-take}
 use Rattle.std.specs.Prelude.{All}
 use Rattle.std.proofs.lemmas.List.Elements.{All-nil, All-cons, All-head, All-tail}
 use Rattle.ioam_pcap.specs.declared.form.Form.{Form}
 use Rattle.ioam_pcap.specs.declared.form.Link.{Link}
-use Rattle.ioam_pcap.specs.Entries.{Entry, most, IsShort, captured, IsWhole, entry_at, behind, Entries}
-use Rattle.ioam_pcap.specs.Reads.{Reached, Ending, Reads}
+use Rattle.ioam_pcap.specs.Entries.{Entry, IsShort, captured, IsWhole, entry_at, behind, Entries}
+use Rattle.ioam_pcap.specs.Ending.{Ending}
+use Rattle.ioam_pcap.specs.Reads.{Reached, Reads}
 
 whole-short : (form : Form) (octets : List ℕ) (at : ℕ) → IsWhole form octets at → IsShort (entry_at form octets at)
 whole-short form octets at whole = omega (arith, whole.0, length-take (captured form octets at) (drop (at + 16) octets))

@@ -1,14 +1,16 @@
 -- What a reader stands for after a piece or a step.
-use Rattle.std.proofs.Common.{◌≡◌, ℕ, ◌+◌, ◌*◌, ◌-◌, ◌≤◌, List, [], ◌∷◌, ◌++◌, length, take, drop, Option, Some, None, arith, refl, sym, ap, ◌∙◌, subst, length-drop, length-take-le, length-append, inl, inr}
+use Rattle.std.proofs.Common.{◌≡◌, ℕ, ◌+◌, ◌*◌, ◌-◌, ◌≤◌, ◌<◌, List, [], ◌∷◌, ◌++◌, length, take, drop, Option, Some, None, arith, refl, sym, ap, ◌∙◌, subst, length-drop, length-take-le, length-append, inl, inr}
+use Rattle.std.specs.Option.{IsSome}
 use Rattle.std.proofs.lemmas.List.{append-nil, drop-drop, drop-append-le, take_rest}
 use Rattle.ioam_base.proofs.LeadsLaws.{Leads-push}
 use Rattle.ioam_pcap.specs.declared.form.Form.{Form}
 use Rattle.ioam_pcap.specs.declared.form.Link.{Link}
 use Rattle.ioam_pcap.specs.declared.capture.CapFault.{CapFault}
-use Rattle.ioam_pcap.specs.declared.capture.CapFault.TheVariants as fault
+use Rattle.ioam_pcap.specs.declared.capture.CapFault.TheVariants.{Short}
 use Rattle.ioam_pcap.specs.Form.{HasHead}
+use Rattle.ioam_pcap.specs.Ending.{Faulty}
 use Rattle.ioam_pcap.specs.Entries.{Entry, Entries, captured, IsWhole, entry_at, behind}
-use Rattle.ioam_pcap.specs.Reads.{HeadFault, EntryFault, IsHeadCut, IsEntryCut, Reached, EntryAt, FaultAt, CutAt, Faulty, EndsAt, Reads, ReadsOnly, link_by}
+use Rattle.ioam_pcap.specs.Reads.{HeadFault, EntryFault, IsHeadCut, IsEntryCut, Reached, EntryAt, FaultAt, CutAt, EndsAt, Reads, ReadsOnly, link_by}
 use Rattle.ioam_pcap.specs.Reading.{Reading}
 use Rattle.ioam_pcap.specs.Reader.{Stands, Waits, HoldsFew, IsCap, link_of, most_size, most_start}
 use Rattle.ioam_pcap.proofs.DropLaws.{captured-drop, IsWhole-drop, entry_at-drop, EntryFault-drop, IsEntryCut-drop}
@@ -77,11 +79,7 @@ Stands-start reader octets entries stands = start_by reader.form stands.reached
 
 -- a fault ends the capture, whatever stands behind
 pub ends_by_fault : (octets : List ℕ) (form : Option Form) (at : ℕ) (f : CapFault) → FaultAt octets form at f → EndsAt octets form at (Faulty at f)
-ends_by_fault octets form at (fault.Magic found) bad = (refl, bad)
-ends_by_fault octets form at (fault.Link found) bad = (refl, bad)
-ends_by_fault octets form at (fault.RecordLong found) bad = (refl, bad)
-ends_by_fault octets None at (fault.Short have) bad = absurd bad
-ends_by_fault octets (Some form) at (fault.Short have) bad = absurd bad
+ends_by_fault octets form at f bad = (refl, inl bad)
 
 pub Reads-faulty : (reader : Reading) (octets : List ℕ) (entries : List Entry) (f : CapFault) → Stands reader octets entries
     → FaultAt octets reader.form reader.start f → (more : List ℕ) → Reads (octets ++ more) (link_of reader) entries (Faulty reader.start f)
@@ -92,6 +90,20 @@ Reads-faulty reader octets entries f stands bad more = record {
   ends = ends_by_fault (octets ++ more) reader.form reader.start f (FaultAt-behind octets more reader.form reader.start f bad);
   linked = refl;
 }
+
+-- and so does what is cut, where nothing more comes
+pub Reads-cut : (reader : Reading) (octets : List ℕ) (entries : List Entry) (have : ℕ) → Stands reader octets entries → Waits reader
+    → have ≡ length reader.pending → (IsSome reader.form → 0 < length reader.pending)
+    → Reads octets (link_of reader) entries (Faulty reader.start (Short have))
+Reads-cut reader octets entries have stands waits many some =
+    let rest = ap length stands.left ∙ length-drop reader.start octets in
+    record {
+      form = reader.form;
+      at = reader.start;
+      reached = stands.reached;
+      ends = (refl, inr (have, refl, CutAt-waits reader octets entries stands waits, omega (arith, many, rest, stands.inside), λ is. omega (arith, many, some is)));
+      linked = refl;
+    }
 
 -- what a whole record at the front of the pending octets is there
 module _ (old : Reading) (form : Form) (read : old.form ≡ Some form) (whole : IsWhole form old.pending 0) (octets : List ℕ) (entries : List Entry) (stands : Stands old octets entries) where

@@ -11,7 +11,8 @@ use Rattle.ioam_pcap.specs.declared.form.Fraction.TheVariants.{Nano}
 use Rattle.ioam_pcap.specs.declared.form.Form.{Form}
 use Rattle.ioam_pcap.specs.Form.{number_at, HasHead}
 use Rattle.ioam_pcap.specs.Entries.{Entry, most, captured, IsWhole, entry_at, behind, Entries}
-use Rattle.ioam_pcap.specs.Reads.{Whole, Reads}
+use Rattle.ioam_pcap.specs.Ending.{Whole}
+use Rattle.ioam_pcap.specs.Reads.{Reads}
 use Rattle.ioam_pcap.specs.Text.{Sent, seconds_of, fraction_of, record_octets, records_text, head_octets, capture_text, entry_sent, IsSendable, with_sent}
 use Rattle.ioam_pcap.proofs.DropLaws.{number_at-drop}
 

@@ -2,13 +2,10 @@ pub mod Form
 pub mod Link
 pub mod Entries
 pub mod Cut
+pub mod Ending
 pub mod Reads
 pub mod Pick
 pub mod Steps
 pub mod Text
 pub mod Reading
 pub mod Reader
-pub mod Turn
-pub mod Merge
-pub mod Streams
-pub mod Arrives

@@ -1,5 +1,5 @@
 -- What a reader stands for, and what its steps tell of the octets that it was fed.
-use Rattle.std.specs.Prelude.{◌≡◌, ⊤, ℕ, ◌+◌, ◌*◌, ◌<◌, ◌≤◌, ◌^◌, List, [], ◌∷◌, ◌++◌, length, drop, Option, Some, None}
+use Rattle.std.specs.Prelude.{◌≡◌, ℕ, ◌+◌, ◌*◌, ◌<◌, ◌≤◌, ◌^◌, List, [], ◌∷◌, ◌++◌, length, drop, Option, Some, None}
 use Rattle.std.specs.Io.BufRead.{Rests}
 use Rattle.std.specs.Borrow.{Fml, MutBor}
 use Rattle.ioam_pcap.specs.declared.form.Link.{Link}
@@ -9,11 +9,10 @@ use Rattle.ioam_pcap.specs.declared.capture.CapStep.{CapStep}
 use Rattle.ioam_pcap.specs.declared.capture.CapStep.TheVariants.{Head, Packet, More, Bad}
 use Rattle.ioam_pcap.specs.declared.capture.CapLook.{CapLook}
 use Rattle.ioam_pcap.specs.declared.capture.CapLook.TheVariants as look
-use Rattle.ioam_pcap.specs.declared.turns.Due.{Due}
-use Rattle.ioam_pcap.specs.declared.turns.Due.TheVariants as due
 use Rattle.ioam_pcap.specs.contracts.reader.CaptureReader.{the_row}
+use Rattle.ioam_pcap.specs.Ending.{Faulty}
 use Rattle.ioam_pcap.specs.Entries.{Entry}
-use Rattle.ioam_pcap.specs.Reads.{Reached, FaultAt, CutAt, Shown, HeadShown, EntryShown, CutShown, FaultShown, Shows, Ending, Whole, Faulty, Reads, ReadsOnly, Cap, link_by}
+use Rattle.ioam_pcap.specs.Reads.{Reached, FaultAt, CutAt, Shown, HeadShown, EntryShown, CutShown, FaultShown, Shows, Reads, ReadsOnly, Cap, link_by}
 use Rattle.ioam_pcap.specs.Reading.{Reading}
 
 -- a reader that was fed these octets in all, and has given these records
@@ -112,24 +111,8 @@ Looks octets reader (look.Packet time size) = (entry : Entry) × Shows octets re
 Looks octets reader look.More = Shows octets reader.form reader.start CutShown
 Looks octets reader (look.Bad at fault) = (at ≡ reader.start) × Shows octets reader.form reader.start (FaultShown fault)
 
--- the head is whole, and due
-abbrev pub IsHeadDue : List ℕ → Reading → Type 0
-IsHeadDue octets reader = (link : Link) × Shows octets reader.form reader.start (HeadShown link)
-
--- where a record is due the head was read
-abbrev pub IsHeaded : Due → Reading → Type 0
-IsHeaded (due.Record time) reader = reader.form ≡ None → ⊥
-IsHeaded due.End reader = ⊤
-IsHeaded (due.Bad at fault) reader = ⊤
-IsHeaded due.More reader = ⊤
-
 -- so the reader is once the step's octets are no longer lent
 abbrev pub RestsSo : MutBor Reading → CapStep → Fml
 RestsSo reader step = Rests the_row reader (λ new. Moved reader.now new step
     × ((octets : List ℕ) (entries : List Entry) → Stands reader.now octets entries → Told octets entries reader.now new step)
     × SaysFault reader.now step)
-
--- the ending of a capture that was fed whole, by what `finish` answers
-abbrev pub ending_of : Option (ℕ × CapFault) → Ending
-ending_of None = Whole
-ending_of (Some (at, fault)) = Faulty at fault

@@ -8,6 +8,7 @@ use Rattle.ioam_pcap.specs.declared.form.Form.{Form}
 use Rattle.ioam_pcap.specs.declared.capture.CapFault.{CapFault}
 use Rattle.ioam_pcap.specs.declared.capture.CapFault.TheVariants as fault
 use Rattle.ioam_pcap.specs.Form.{number_at, spelling, IsUnspelled, IsNoLinkType, HasHead}
+use Rattle.ioam_pcap.specs.Ending.{Ending, Whole, Faulty}
 use Rattle.ioam_pcap.specs.Entries.{Entry, most, captured, IsWhole, entry_at, Entries}
 
 -- the octets spell this order and this fraction, and so have a magic number
@@ -16,11 +17,9 @@ HasMagic octets order fraction = (4 ≤ length octets) × (u32_at octets 0 ≡ s
 
 -- the head of these octets has this fault
 abbrev pub HeadFault : List ℕ → CapFault → Type 0
-HeadFault octets (fault.Magic found) = (4 ≤ length octets) × (found ≡ u32_at octets 0) × IsUnspelled found
-HeadFault octets (fault.Link found) = (24 ≤ length octets) × IsNoLinkType found
-    × ((order : Order) × (fraction : Fraction) × HasMagic octets order fraction × (found ≡ number_at order octets 20))
-HeadFault octets (fault.RecordLong found) = ⊥
-HeadFault octets (fault.Short have) = ⊥
+HeadFault octets f = ((found : ℕ) × (f ≡ fault.Magic found) × (4 ≤ length octets) × (found ≡ u32_at octets 0) × IsUnspelled found)
+    ⊎ ((found : ℕ) × (f ≡ fault.Link found) × (24 ≤ length octets) × IsNoLinkType found
+    × ((order : Order) × (fraction : Fraction) × HasMagic octets order fraction × (found ≡ number_at order octets 20)))
 
 -- these octets are the front of a head: it is not whole, and has no fault so far
 abbrev pub IsHeadCut : List ℕ → Type 0
@@ -28,10 +27,7 @@ IsHeadCut octets = (length octets < 4) ⊎ ((length octets < 24) × ((order : Or
 
 -- the record that is due at a place has this fault
 abbrev pub EntryFault : Form → List ℕ → ℕ → CapFault → Type 0
-EntryFault form octets at (fault.Magic found) = ⊥
-EntryFault form octets at (fault.Link found) = ⊥
-EntryFault form octets at (fault.RecordLong found) = (at + 16 ≤ length octets) × (found ≡ captured form octets at) × (most < found)
-EntryFault form octets at (fault.Short have) = ⊥
+EntryFault form octets at f = (found : ℕ) × (f ≡ fault.RecordLong found) × (at + 16 ≤ length octets) × (found ≡ captured form octets at) × (most < found)
 
 -- at a place stands the front of a record, or nothing: it is not whole, and has no fault so far
 abbrev pub IsEntryCut : Form → List ℕ → ℕ → Type 0
@@ -73,19 +69,14 @@ Shows octets form at (EntryShown entry) = EntryAt octets form at entry
 Shows octets form at CutShown = CutAt octets form at
 Shows octets form at (FaultShown fault) = FaultAt octets form at fault
 
--- how a capture ends: behind a whole head and whole records, or at a place with a fault
-pub data Ending : Type 0 where
-  Whole : Ending
-  Faulty : ℕ → CapFault → Ending
+-- what is due there is cut by the end of the octets; of it so many are there
+abbrev pub IsShort : List ℕ → Option Form → ℕ → CapFault → Type 0
+IsShort octets form at f = (have : ℕ) × (f ≡ fault.Short have) × CutAt octets form at × (at + have ≡ length octets) × (IsSome form → 0 < have)
 
--- the octets end so, where this place is reached; of a head or a record that is cut, so many are there
+-- the octets end so, where this place is reached
 abbrev pub EndsAt : List ℕ → Option Form → ℕ → Ending → Type 0
 EndsAt octets form at Whole = IsSome form × (at ≡ length octets)
-EndsAt octets form at (Faulty place (fault.Short have)) = (place ≡ at) × CutAt octets form at × (at + have ≡ length octets)
-    × (IsSome form → 0 < have)
-EndsAt octets form at (Faulty place (fault.Magic found)) = (place ≡ at) × FaultAt octets form at (fault.Magic found)
-EndsAt octets form at (Faulty place (fault.Link found)) = (place ≡ at) × FaultAt octets form at (fault.Link found)
-EndsAt octets form at (Faulty place (fault.RecordLong found)) = (place ≡ at) × FaultAt octets form at (fault.RecordLong found)
+EndsAt octets form at (Faulty place f) = (place ≡ at) × (FaultAt octets form at f ⊎ IsShort octets form at f)
 
 -- the layer that the packets begin at, by the form of the head
 abbrev pub link_by : Option Form → Option Link

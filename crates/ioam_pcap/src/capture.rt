@@ -26,16 +26,41 @@ impl Packet<'_> {
     }
 }
 
-/// Why a capture cannot be read on.
+/// Why a capture cannot be read on. A classic capture has the faults `Magic`, `Link`, `RecordLong`
+/// and `Short`. Those of a block of a capture in the form pcapng are looked for in this order, and
+/// the first stands for it; its place is the block's.
 #[derive(Clone, Copy, Debug, PartialEq, Eq)]
 pub enum CapFault {
-    /// The first four octets, read big-endian, are none of the four magic numbers.
+    /// The first four octets, read big-endian, are none of the four magic numbers; in the form
+    /// pcapng, not those of a section block.
     Magic { found: u32 },
-    /// The link type, the whole 32-bit word at octet 20, is none of 1, 101 and 229.
+    /// So many blocks were read, and another begins.
+    Blocks { limit: u32 },
+    /// The byte order of a section block, read big-endian, is 0x1a2b3c4d in neither order.
+    Order { found: u32 },
+    /// A total length passes 16,777,216 octets.
+    Large { found: u32 },
+    /// A total length is no multiple of 4, or too small for a block of its type, for the captured
+    /// octets of a packet, or for an option of an interface.
+    Size { found: u32 },
+    /// The total length at a block's end is not that at its front.
+    Trail { found: u32 },
+    /// A block of type 2 or 3: packets in a form that is no longer written.
+    Kind { found: u32 },
+    /// A packet names no interface of its section.
+    Face { found: u32 },
+    /// The link type, the whole 32-bit word at octet 20, is none of 1, 101 and 229; in the form
+    /// pcapng, that of a packet's interface.
     Link { found: u32 },
-    /// A record's captured length passes 262,144 octets, and 16 octets of the record are there.
+    /// The resolution of a packet's interface is above 18 and below 128, or above 191.
+    Resolution { found: u32 },
+    /// A record's captured length passes 262,144 octets, and 16 octets of the record are there; in
+    /// the form pcapng, a packet's.
     RecordLong { found: u32 },
-    /// The capture ends inside its head or a record, of which it has so many octets.
+    /// A packet's time, of so many units, is negative or at least 2^62 nanoseconds.
+    Time { found: u64 },
+    /// The capture ends inside its head or a record, of which it has so many octets; in the form
+    /// pcapng, inside a block, or before its first one is whole.
     Short { have: u32 },
 }
 

@@ -1,5 +1,6 @@
 //! Classic capture files (pcap, version 2.4): their head and their records, read in any pieces and
-//! written, and the choice of the next packet among several captures.
+//! written; the packets and the faults of captures in either form; and the choice of the next packet
+//! among several captures.
 #![tactic(auto)]
 
 mod capture;
@@ -10,11 +11,9 @@ mod numbers;
 mod picking;
 mod put;
 mod reader;
-mod turns;
 
 pub use capture::{CapFault, CapLook, CapStep, Packet, RECORD_MOST};
 pub use form::{Link, is_ethernet};
 pub use picking::pick;
 pub use put::{put_head, put_record};
 pub use reader::CaptureReader;
-pub use turns::{Due, Turn, next_turn};

@@ -1,6 +1,7 @@
 ghost use Rattle.std.specs.Prelude.{◌≡◌, ◌≤◌, ◌++◌, [], All, List, OnOk, Some, length, map, is_ok, if◌then◌else◌};
 ghost use Rattle.ioam_pcap.specs.Entries.{most};
-ghost use Rattle.ioam_pcap.specs.Reads.{Reads, Whole};
+ghost use Rattle.ioam_pcap.specs.Ending.{Whole};
+ghost use Rattle.ioam_pcap.specs.Reads.{Reads};
 ghost use Rattle.ioam_pcap.specs.Text.{Sent, IsSendable, head_octets, record_head, record_octets, capture_text, entry_sent, with_sent};
 ghost use Rattle.ioam_pcap.specs.declared.form.Link.TheVariants as Link;
 

@@ -1,11 +1,10 @@
-ghost use Rattle.std.specs.Prelude.{◌≡◌, ◌+◌, ◌≤◌, ◌<◌, ◌^◌, ◌++◌, [], List, ℕ, length, drop, IfOk, IfSome, IsSome, MatchOption, OnErr, OnOk};
+ghost use Rattle.std.specs.Prelude.{◌≡◌, ◌+◌, ◌≤◌, ◌<◌, ◌^◌, ◌++◌, [], List, ℕ, length, drop, IfOk, IsSome, MatchOption, OnErr, OnOk};
 ghost use Rattle.std.specs.Borrow.{sem};
 
 use crate::capture::{CapFault, CapLook, CapStep, Packet};
 use crate::entry::{EntryStep, entry_step};
 use crate::form::Form;
 use crate::head::{HeadStep, head_step};
-use crate::turns::Due;
 use ioam_base::memory::NoMemory;
 use ioam_base::octets::drop_front;
 use std::alloc::Global;
@@ -43,11 +42,10 @@ impl Model for CaptureReader {
 
 impl CaptureReader {
     ghost use Rattle.ioam_pcap.specs.declared.capture.CapFault.TheVariants.{Short};
+    ghost use Rattle.ioam_pcap.specs.Ending.{ending_of};
     ghost use Rattle.ioam_pcap.specs.Entries.{Entry};
-    ghost use Rattle.ioam_pcap.specs.Merge.{Stream, due_of};
     ghost use Rattle.ioam_pcap.specs.Reads.{Reads, ReadsOnly};
-    ghost use Rattle.ioam_pcap.specs.Streams.{Streams};
-    ghost use Rattle.ioam_pcap.specs.Reader.{Stands, HoldsFew, IsHeadDue, IsHeaded, Waits, Looks, KeepsFault, RestsSo, fresh, fed, link_of, ending_of};
+    ghost use Rattle.ioam_pcap.specs.Reader.{Stands, HoldsFew, Waits, Looks, KeepsFault, RestsSo, fresh, fed, link_of};
 
     /// A reader that was fed nothing.
     pub fn new(alloc: Global) -> Result<CaptureReader, NoMemory>
@@ -151,28 +149,6 @@ impl CaptureReader {
                 },
                 EntryStep::Cut => CapLook::More,
                 EntryStep::Bad(fault) => CapLook::Bad { at, fault },
-            },
-        }
-    }
-
-    /// What is due of the capture, by the octets that were fed; `ended` says that these are all of
-    /// it. None exactly where the head is whole and not yet taken: `next` takes it. Behind the head
-    /// a record's time, the capture's end, its fault, or `More`.
-    pub fn due(&self, ended: bool) -> Option<Due>
-        ensures due { (octets : List ℕ) (taken : List Entry) (stream : Stream)
-            → Stands self.now octets taken → Streams octets ended taken stream
-            → MatchOption result (IsHeadDue octets self.now) (λ due. due ≡ due_of stream) }
-        ensures headed { IfSome result (λ due. IsHeaded due self.now) }
-        ensures few { IfSome result (λ due. due ≡ Due.More → HoldsFew self.now) }
-    {
-        match self.look() {
-            CapLook::Head { .. } => None,
-            CapLook::Packet { time, .. } => Some(Due::Record { time }),
-            CapLook::Bad { at, fault } => Some(Due::Bad { at, fault }),
-            CapLook::More if !ended => Some(Due::More),
-            CapLook::More => match self.finish() {
-                None => Some(Due::End),
-                Some((at, fault)) => Some(Due::Bad { at, fault }),
             },
         }
     }

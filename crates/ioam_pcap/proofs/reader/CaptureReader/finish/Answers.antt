@@ -1,4 +1,5 @@
-use Rattle.ioam_pcap.specs.Reader.{link_of, ending_of}
+use Rattle.ioam_pcap.specs.Ending.{ending_of}
+use Rattle.ioam_pcap.specs.Reader.{link_of}
 use Rattle.ioam_pcap.proofs.ReadsLaws.{Reads-unique}
 use Rattle.ioam_pcap.proofs.reader.CaptureReader.finish.Goals as goal
 

@@ -1,8 +1,17 @@
-use Rattle.std.proofs.Common.{◌≡◌, List, ℕ, sym, ap, ◌∙◌, subst, rules, Some}
-use Rattle.ioam_pcap.specs.Reads.{EntryFault, IsEntryCut, FaultAt, CutAt}
+use Rattle.std.proofs.Common.{◌≡◌, List, ℕ, sym, ap, ◌∙◌, subst, rules, Some, None}
+use Rattle.ioam_pcap.specs.Reads.{HeadFault, EntryFault, IsEntryCut, FaultAt, CutAt}
 use Rattle.ioam_pcap.specs.Entries.{IsWhole, captured, entry_at}
 use Rattle.ioam_pcap.proofs.StandsLaws.{CutAt-waits, FaultAt-pending, EntryAt-pending, rest_of_buffer, length_of_record}
 use Rattle.ioam_pcap.proofs.reader.CaptureReader.look.Goals as goal
+
+pub returns-in-Bad-clause-shows : goal.returns-in-Bad-clause-shows
+returns-in-Bad-clause-shows c =
+    let old = c.args.self.now in
+    let none : old.form ≡ None = search rules in
+    let pending = rest_of_buffer _ _ c.self.inside.taken c.deref.ensures.value ∙ ap (λ r. r.pending) c.self.view_is in
+    let Q : List ℕ → Type 0 = λ p. HeadFault p c.in-Bad.fault in
+    let bad : FaultAt old.pending old.form 0 c.in-Bad.fault = rw none (subst Q pending c.in-Bad.ensures) in
+    λ octets entries stands. (ap (λ r. r.start) c.self.view_is, FaultAt-pending old octets entries stands c.in-Bad.fault bad)
 
 pub returns-in-Whole-entry_step-clause-shows : goal.returns-in-Whole-entry_step-clause-shows
 returns-in-Whole-entry_step-clause-shows c =
