@@ -50,7 +50,7 @@ gone() { for name; do [ ! -e "$name" ] && : >stderr || echo >stderr; : >stdout &
 with_domain() { sed "s|$1 = \"[^\"]*\"|$1 = \"$2\"|" "$domain" >domain.toml; }
 # Words and names.
 for words in '' filter 'filter a b' 'filter a b c d' 'paths a' 'paths a b c' 'Filter a b c' --help 'run a b 1 c' \
-    'run a b 1 c d e' 'run a b 0 c d' 'run a b 01 c d' 'run a b x c d' 'run a b 65 c d' 'run a b -1 c d' 'collect a' 'collect a b c' 'node a b c d e f g' 'bulk 01 2 1 r' 'bulk 1 0 1 r' 'bulk 1 1000001 1 r' 'bulk 1 2 65 r'; do
+    'run a b 1 c d e' 'run a b 0 c d' 'run a b 01 c d' 'run a b x c d' 'run a b 65 c d' 'run a b -1 c d' 'collect a' 'collect a b c' 'node a b c d e f g' 'node a b c d e f g h i' 'Node a b c d e f g h' 'bulk 01 2 1 r' 'bulk 1 0 1 r' 'bulk 1 1000001 1 r' 'bulk 1 2 65 r'; do
     want 1 usage $words
 done
 want 1 usage filter "$(printf 'a\377')" out report
@@ -63,6 +63,20 @@ want 2 'names empty' run empty empty 1 report exports
 want 2 "names $domain" run "$domain" "$readings" 1 "$domain" exports
 want 2 'names report' run "$domain" "$readings" 1 report report
 want 2 'names west-out.pcap' run "$domain" "$readings" 1 report west-out.pcap
+# NODE and LINK come before the files, DOMAIN and READINGS before all names; NODE and LINK name no files.
+want 2 'names z' node "$domain" "$readings" z zz "$real" "$real" report report
+want 2 'names zz' node "$domain" "$readings" b zz "$real" out report report
+want 2 'names bc' node "$domain" "$readings" b bc "$real" out report exports # bc ends at c
+want 2 'names b' node "$domain" "$readings" b ab b out report b
+want 2 'names b' node empty none b ab "$real" out report exports
+want 2 "names $real" node "$domain" "$readings" b ab "$real" "$real" report exports
+want 2 "names $domain" node "$domain" "$readings" b ab "$real" out "$domain" exports
+want 2 "names $readings" node "$domain" "$readings" b ab "$readings" out report exports
+want 2 'names out' node "$domain" "$readings" b ab "$real" out out out
+want 2 'names report' node "$domain" "$readings" b ab missing out report report
+sed 's/mtu = 1500 }/mtu = 1279 }/' "$domain" >domain.toml
+want 3 'domain link 1 mtu range' node domain.toml missing z zz missing out report report
+gone out report exports
 with_domain in west-out.pcap && want 2 'names west-out.pcap' run domain.toml "$readings" 1 report exports
 with_domain out domain.toml && want 2 'names domain.toml' run domain.toml "$readings" 1 report exports
 # Each kind of file as IN, a port's `in`, DOMAIN and READINGS, first those after which no output is opened.
@@ -71,15 +85,24 @@ for file in missing locked "$long"; do
     want 9 'read fault' paths "$file" report
     want 9 'read fault' run "$file" "$readings" 1 report exports
     want 9 'read fault' run "$domain" "$file" 1 report exports
+    want 9 'read fault' node "$file" "$readings" b ab "$real" out report exports
+    want 9 'read fault' node "$domain" "$file" b ab "$real" out report exports
+    want 9 'read fault' node "$domain" "$readings" b ab "$file" out report exports
     with_domain in "$file" && [ "$file" != "$long" ] && want 9 'read fault' run domain.toml "$readings" 1 report exports
 done
 want 3 'domain port 1 in range' run domain.toml "$readings" 1 report exports
 file=folder why='Is a directory'
 want 9 'read fault' run folder "$readings" 1 report exports
 want 9 'read fault' run "$domain" folder 1 report exports
+want 9 'read fault' node folder "$readings" b ab "$real" out report exports
+want 9 'read fault' node "$domain" folder b ab "$real" out report exports
 why=
-for file in text pcapng; do want 3 'domain top 0 - text' run "$file" "$readings" 1 report exports; done
+for file in text pcapng; do
+    want 3 'domain top 0 - text' run "$file" "$readings" 1 report exports
+    want 3 'domain top 0 - text' node "$file" "$readings" b ab "$real" out report exports
+done
 want 4 'readings 1 words' run "$domain" text 1 report report # before equal names
+want 4 'readings 1 words' node "$domain" text z zz "$real" out report report # before NODE and LINK
 want 4 'readings 2 words' run "$domain" pcapng 1 report exports # its first octet is a line feed
 gone out report exports west-out.pcap east-out.pcap
 want 0 done run empty none 1 report exports && holds report 'packets 0 left 0 dropped 0\n' && holds exports ''
@@ -89,6 +112,8 @@ nodes='node a seen 0 dropped 0\nnode b seen 0 dropped 0\nnode c seen 0 dropped 0
 while read -r file status line; do
     want "$status" "$line" filter "$file" out report && holds out "$head" && holds report 'packets 0 kept 0 dropped 0\n'
     want "$status" "$line" paths "$file" report && holds report 'packets 0\n'
+    want "$status" "$line" node "$domain" none b ab "$file" out report exports
+    holds out "$head" && holds report 'packets 0 out 0 dropped 0\n' && holds exports ''
     with_domain in "$file" && want "$status" "$line" run domain.toml none 1 report exports
     holds report "packets 0 left 0 dropped 0\n$nodes" && holds exports '' && holds west-out.pcap "$head" && holds east-out.pcap "$head" && holds bc.pcap "$head"
 done <<ends
@@ -107,6 +132,9 @@ for file in shut/out folder missing/out "$long" /dev/full; do
     want 10 'write fault' filter "$real" "$file" report
     want 10 'write fault' filter "$real" out "$file"
     want 10 'write fault' paths "$real" "$file"
+    want 10 'write fault' node "$domain" "$readings" b ab "$real" "$file" report exports
+    want 10 'write fault' node "$domain" "$readings" b ab "$real" out "$file" exports
+    [ "$file" = /dev/full ] || want 10 'write fault' node "$domain" "$readings" b ab "$real" out report "$file" # EXPORTS is empty
     want 10 'write fault' run "$domain" "$readings" 1 "$file" exports
     [ "$file" = /dev/full ] || want 10 'write fault' run "$domain" "$readings" 1 report "$file" # EXPORTS is empty
     with_domain out "$file" && sed -i 's|\(in = .*\)out = "[^"]*"|\1out = "west-out.pcap"|' domain.toml
@@ -120,18 +148,27 @@ for file in ./x soft hard "$work/x"; do
     why='is an input of this run'
     want 10 'write fault' filter x "$file" report && want 10 'write fault' filter x out "$file"
     want 10 'write fault' paths x "$file"
+    want 10 'write fault' node "$domain" "$readings" b ab x "$file" report exports
+    want 10 'write fault' node "$domain" "$readings" b ab x out report "$file"
     with_domain in x && want 10 'write fault' run domain.toml "$readings" 1 "$file" exports
     with_domain in x && sed -i "s|\(in = .*\)out = \"[^\"]*\"|\1out = \"$file\"|" domain.toml
     want 10 'write fault' run domain.toml "$readings" 1 report exports
     same x "$real"
 done
-file=./$domain && want 10 'write fault' run "$domain" "$readings" 1 "$file" exports
-file=./$readings && want 10 'write fault' run "$domain" "$readings" 1 report "$file"
+file=./$domain && want 10 'write fault' run "$domain" "$readings" 1 "$file" exports && want 10 'write fault' node "$domain" "$readings" b ab x "$file" report exports
+file=./$readings && want 10 'write fault' run "$domain" "$readings" 1 report "$file" && want 10 'write fault' node "$domain" "$readings" b ab x out report "$file"
 file=./out why='is an output of this run already'
+want 10 'write fault' node "$domain" "$readings" b ab x out report ./out
 want 10 'write fault' filter x out ./out && want 10 'write fault' run "$domain" "$readings" 1 out ./out
 why= && want 0 done filter x /dev/null /dev//null
 want 5 'capture /dev/null 0 short 0' filter /dev/null /dev//null report
 cat pipe >piped & want 0 done filter x pipe ./pipe && kill $! 2>/dev/null
+
+# What crosses ab comes to b, and what b sends is what crosses bc: with no delay on ab at the same times. Files named as NODE and LINK.
+sed 's/delay = 1000, mtu = 1500 }/delay = 0, mtu = 1500, tap = "ab.pcap" }/' "$domain" >domain.toml
+want 0 done run domain.toml "$readings" 1 report exports
+want 0 done node domain.toml "$readings" b ab ab.pcap b ab exports && same b bc.pcap
+rm -f ab.pcap bc.pcap b ab report exports
 
 # An answer that can't be printed: the status says it, and the outputs are the same.
 want 0 done filter "$real" out report && cp out out-1 && cp report report-1
