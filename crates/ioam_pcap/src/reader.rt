@@ -3,7 +3,7 @@ ghost use Rattle.std.specs.Borrow.{sem};
 
 use crate::capture::{CapFault, CapLook, CapStep, Packet};
 use crate::entry::{EntryStep, entry_step};
-use crate::form::Form;
+use crate::form::{Form, Link};
 use crate::head::{HeadStep, head_step};
 use ioam_base::memory::NoMemory;
 use ioam_base::octets::drop_front;
@@ -66,6 +66,14 @@ impl CaptureReader {
         ensures { result ≡ fed self.now }
     {
         self.start + (self.buffer.len() - self.taken) as u64
+    }
+
+    /// The layer that the packets begin at, once the head was read.
+    pub fn link(&self) -> Option<Link>
+        ensures { result ≡ link_of self.now }
+    {
+        let form = self.form?;
+        Some(form.link)
     }
 
     /// Feeds the next octets of the capture, of which there are below 2^63 in all.

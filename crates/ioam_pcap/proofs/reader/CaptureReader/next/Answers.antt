@@ -1,4 +1,5 @@
-use Rattle.std.proofs.Common.{◌≡◌, ◌+◌, ◌-◌, List, ℕ, length, take, drop, refl, sym, ap, ◌∙◌, subst, rules, arith, Some, None}
+use Rattle.std.proofs.Common.{◌≡◌, ◌+◌, ◌-◌, List, ℕ, length, take, drop, Option, refl, sym, ap, ◌∙◌, subst, rules, arith, Some, None}
+use Rattle.ioam_pcap.specs.declared.form.Form.{Form}
 use Rattle.ioam_pcap.specs.Reading.{Reading}
 use Rattle.ioam_pcap.specs.Reads.{HeadFault, EntryFault, IsHeadCut, IsEntryCut, FaultAt, CutAt}
 use Rattle.ioam_pcap.specs.Form.{HasHead}
@@ -23,7 +24,7 @@ returns-in-Whole c =
         refl,
         λ _. tt,
         (
-          (ap (λ r. r.start) new, rest, length_left _ old.pending 24 rest head.0),
+          (ap (λ r. r.start) new, rest, length_left _ old.pending 24 rest head.0, none, refl),
           λ octets entries stands.
               let stood = Stands-head old c.in-Whole.form none head octets entries stands in
               let S : Reading → Type 0 = λ r. Stands r octets entries in
@@ -96,6 +97,7 @@ returns-in-Whole-entry_step c =
             rest ∙ ap (λ n. drop (16 + n) old.pending) (sym many),
             ap (λ n. length (drop (taken + 16 + h.captured) c.self.inside.buffer.items) + (16 + n)) many ∙ length_left _ old.pending size rest told.0.1,
             c.in-Whole-entry_step.ensures.timely,
+            λ none. let wrong : ◌≡◌ {A = Option Form} (Some form) None = sym form_is ∙ none in absurd (cc),
           ),
           λ all entries stands. (EntryAt-step old _ form form_is told.0 new entry entry_is all entries stands, Stands-step old _ form form_is told.0 new entry entry_is all entries stands),
           says_entry old form form_is told.0 _,
