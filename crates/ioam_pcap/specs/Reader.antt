@@ -65,15 +65,16 @@ KeepsFault old new = (fault : CapFault) → HasFault old fault → HasFault new 
 abbrev pub SaysFault : Reading → CapStep → Type 0
 SaysFault reader step = (fault : CapFault) → HasFault reader fault → step ≡ Bad reader.start fault
 
--- the octets that a step takes off; the head is read once, and records behind it; the time of a
--- record is below 2^62; where more octets are needed there are fewer than a record has
+-- the octets that a step takes off; the head is read once, and records behind it; a record has a time
+-- below 2^62 and no more than 262,144 octets; where more octets are needed there are fewer than a
+-- record has
 abbrev pub Moved : Reading → Reading → CapStep → Type 0
 Moved old new (Head link) = (new.start ≡ old.start + 24) × (new.pending ≡ drop 24 old.pending) × (length new.pending + 24 ≡ length old.pending)
     × (old.form ≡ None) × (link_of new ≡ Some link)
 Moved old new (Packet p) = (new.form ≡ old.form) × (new.start ≡ old.start + (16 + length p.octets.now))
     × (new.pending ≡ drop (16 + length p.octets.now) old.pending)
     × (length new.pending + (16 + length p.octets.now) ≡ length old.pending)
-    × (p.time < 2 ^ 62) × (old.form ≡ None → ⊥)
+    × (p.time < 2 ^ 62) × (old.form ≡ None → ⊥) × (length p.octets.now ≤ 262144)
 Moved old new More = (new ≡ old) × Waits old × HoldsFew old
 Moved old new (Bad at fault) = (new ≡ old) × (at ≡ old.start) × HasFault old fault
 

@@ -98,6 +98,7 @@ returns-in-Whole-entry_step c =
             ap (λ n. length (drop (taken + 16 + h.captured) c.self.inside.buffer.items) + (16 + n)) many ∙ length_left _ old.pending size rest told.0.1,
             c.in-Whole-entry_step.ensures.timely,
             λ none. let wrong : ◌≡◌ {A = Option Form} (Some form) None = sym form_is ∙ none in absurd (cc),
+            omega (arith, many, told.0.0),
           ),
           λ all entries stands. (EntryAt-step old _ form form_is told.0 new entry entry_is all entries stands, Stands-step old _ form form_is told.0 new entry entry_is all entries stands),
           says_entry old form form_is told.0 _,
