@@ -6,3 +6,5 @@ pub mod ReadsLaws
 pub mod StandsLaws
 pub mod TextLaws
 pub mod SizeLaws
+pub mod ShortLaws
+pub mod LaterLaws

@@ -9,14 +9,15 @@ use Rattle.ioam_base.specs.Octets.{u32_at}
 use Rattle.ioam_base.proofs.OctetsLaws.{u32_at-append}
 use Rattle.ioam_base.proofs.LeadsLaws.{Leads-unique}
 use Rattle.ioam_ng.specs.declared.numbers.Order.{Order}
-use Rattle.ioam_ng.specs.declared.fault.NgFault.{NgFault}
-use Rattle.ioam_ng.specs.declared.fault.NgFault.TheVariants as fault
+use Rattle.ioam_pcap.specs.declared.capture.CapFault.{CapFault}
+use Rattle.ioam_pcap.specs.declared.capture.CapFault.TheVariants as fault
 use Rattle.ioam_ng.specs.Numbers.{order_said}
 use Rattle.ioam_ng.specs.Checks.{first}
 use Rattle.ioam_ng.specs.Front.{Known, is_section, front_size, is_front, order_in, number_by, kind_in, size_in, is_alien, front_checks, front_fault}
 use Rattle.ioam_ng.specs.Blocks.{Place, CanPass, packet_there, behind, Blocks, packets, front, fault_by, packet_by, faces_by, fault_in, is_whole, packet_in, known_behind, size, kind}
 use Rattle.ioam_pcap.specs.Entries.{Taken}
-use Rattle.ioam_ng.specs.Reads.{HasFault, IsCut, IsShort, Ending, Whole, Faulty, EndsAt, Reads}
+use Rattle.ioam_pcap.specs.Ending.{Ending, Whole, Faulty}
+use Rattle.ioam_ng.specs.Reads.{HasFault, IsCut, IsShort, EndsAt, Reads}
 use Rattle.ioam_ng.proofs.NumbersLaws.{number_at-append}
 
 -- ---- octets behind others
@@ -75,12 +76,12 @@ module _ (octets more : List ℕ) where
       let sizes : nat_le 4 (length (octets ++ more)) ≡ nat_le 4 (length octets) = longer ∙ sym there in
       λ i. sizes i && is_none known && not (section_same long i)
 
-  magic_same : 4 ≤ length octets → ◌≡◌ {A = Option NgFault} (Some (fault.Magic (u32_at (octets ++ more) 0))) (Some (fault.Magic (u32_at octets 0)))
+  magic_same : 4 ≤ length octets → ◌≡◌ {A = Option CapFault} (Some (fault.Magic (u32_at (octets ++ more) 0))) (Some (fault.Magic (u32_at octets 0)))
   magic_same long = ap (λ n. Some (fault.Magic n)) (u32_at-append octets more 0 long)
 
   -- a faulty front stays so, and one without a fault
   module _ (count : ℕ) where
-    fault_by_front : Bool → Bool → Option NgFault → Option NgFault → Option NgFault
+    fault_by_front : Bool → Bool → Option CapFault → Option CapFault → Option CapFault
     fault_by_front alien there magic other = if alien then magic else if there then other else None
 
     alien_fault : (known : Option Order) → 4 ≤ length octets → is_alien known octets ≡ true → front_fault count known (octets ++ more) ≡ front_fault count known octets
@@ -182,14 +183,14 @@ Blocks-behind more p (x ∷ xs) q leads =
     )
 
 -- what is a fault of the front alone
-option_left : (x : Option NgFault) (f : NgFault) → option_or x None ≡ Some f → x ≡ Some f
+option_left : (x : Option CapFault) (f : CapFault) → option_or x None ≡ Some f → x ≡ Some f
 option_left None f same = same
 option_left (Some g) f same = same
 
-pub HasFault-behind : (more : List ℕ) (p : Place) (f : NgFault) → HasFault p f → HasFault (with_more more p) f
+pub HasFault-behind : (more : List ℕ) (p : Place) (f : CapFault) → HasFault p f → HasFault (with_more more p) f
 HasFault-behind more p f bad = by (is_front p.octets) (is_whole p.known p.octets) refl refl
   where
-    left : Bool → Option NgFault
+    left : Bool → Option CapFault
     left w = option_or (front_fault p.known.count p.known.order p.octets)
         (if w then fault_by (order_in p.known.order p.octets) (take (size p.known p.octets) p.octets) (kind p.known p.octets) p.known.faces else None)
 
@@ -209,7 +210,7 @@ HasFault-behind more p f bad = by (is_front p.octets) (is_whole p.known p.octets
     by_alien false alien away here =
         let none : front_fault p.known.count p.known.order p.octets ≡ None =
         λ i. if alien i then Some (fault.Magic (u32_at p.octets 0)) else if away i then first (front_checks p.known.count (order_in p.known.order p.octets) (u32_at p.octets 8) (size_in p.known.order p.octets) (kind_in p.known.order p.octets)) else None in
-        let wrong : ◌≡◌ {A = Option NgFault} None (Some f) = sym none ∙ here in
+        let wrong : ◌≡◌ {A = Option CapFault} None (Some f) = sym none ∙ here in
         absurd (cc)
 
     by : (b w : Bool) → is_front p.octets ≡ b → is_whole p.known p.octets ≡ w → HasFault (with_more more p) f
@@ -219,22 +220,22 @@ HasFault-behind more p f bad = by (is_front p.octets) (is_whole p.known p.octets
 
 -- ---- one way
 
-pub none_some : (f : NgFault) → ◌≡◌ {A = Option NgFault} None (Some f) → ⊥
+pub none_some : (f : CapFault) → ◌≡◌ {A = Option CapFault} None (Some f) → ⊥
 none_some f same = absurd (cc)
 
-some_injective : (f g : NgFault) → ◌≡◌ {A = Option NgFault} (Some f) (Some g) → f ≡ g
+some_injective : (f g : CapFault) → ◌≡◌ {A = Option CapFault} (Some f) (Some g) → f ≡ g
 some_injective f g same = cc
 
-pub fault_stops : (p : Place) (f : NgFault) → HasFault p f → CanPass p → ⊥
+pub fault_stops : (p : Place) (f : CapFault) → HasFault p f → CanPass p → ⊥
 fault_stops p f bad pass = none_some f (sym pass.0 ∙ bad)
 
 pub cut_stops : (p : Place) → IsCut p → CanPass p → ⊥
 cut_stops p cut pass = true≢false (sym pass.1 ∙ cut.1)
 
-pub cut_sound : (p : Place) (f : NgFault) → IsCut p → HasFault p f → ⊥
+pub cut_sound : (p : Place) (f : CapFault) → IsCut p → HasFault p f → ⊥
 cut_sound p f cut bad = none_some f (sym cut.0 ∙ bad)
 
-pub fault_unique : (p : Place) (f g : NgFault) → HasFault p f → HasFault p g → f ≡ g
+pub fault_unique : (p : Place) (f g : CapFault) → HasFault p f → HasFault p g → f ≡ g
 fault_unique p f g x y = some_injective f g (sym x ∙ y)
 
 -- where no octets are left no block is, nor a fault
@@ -243,16 +244,16 @@ nothing_left p none =
     let Q : List ℕ → Type 0 = λ xs. (fault_in p.known xs ≡ None) × (is_whole p.known xs ≡ false) in
     subst Q (sym none) (refl, refl)
 
-ends_stop : (octets : List ℕ) (p : Place) (e : Ending) → EndsAt octets p e → CanPass p → ⊥
+pub ends_stop : (octets : List ℕ) (p : Place) (e : Ending) → EndsAt octets p e → CanPass p → ⊥
 ends_stop octets p Whole ends pass = cut_stops p (nothing_left p ends.1) pass
 ends_stop octets p (Faulty at f) (here, inl bad) pass = fault_stops p f bad pass
 ends_stop octets p (Faulty at f) (here, inr short) pass = cut_stops p short.0 pass
 
-whole_or_faulty : (octets : List ℕ) (p : Place) (at : ℕ) (f : NgFault) → EndsAt octets p Whole → EndsAt octets p (Faulty at f) → ⊥
+whole_or_faulty : (octets : List ℕ) (p : Place) (at : ℕ) (f : CapFault) → EndsAt octets p Whole → EndsAt octets p (Faulty at f) → ⊥
 whole_or_faulty octets p at f whole (here, inl bad) = cut_sound p f (nothing_left p whole.1) bad
 whole_or_faulty octets p at f whole (here, inr short) = let some = short.2 whole.0 in let none = ap length whole.1 in absurd (omega arith)
 
-faults_unique : (p : Place) (f g : NgFault) → (HasFault p f ⊎ IsShort p f) → (HasFault p g ⊎ IsShort p g) → f ≡ g
+faults_unique : (p : Place) (f g : CapFault) → (HasFault p f ⊎ IsShort p f) → (HasFault p g ⊎ IsShort p g) → f ≡ g
 faults_unique p f g (inl x) (inl y) = fault_unique p f g x y
 faults_unique p f g (inl x) (inr y) = absurd (cut_sound p f y.0 x)
 faults_unique p f g (inr x) (inl y) = absurd (cut_sound p g x.0 y)

@@ -4,8 +4,8 @@ use Rattle.std.specs.Prelude.{nat_le, nat_lt, is_none, ◌==◌, if◌then◌els
 use Rattle.std.specs.Option.{option_or}
 use Rattle.std.proofs.lemmas.Bool.{true≢false, and_parts, leb-false, ltb-false}
 use Rattle.ioam_base.specs.Octets.{u32_at}
-use Rattle.ioam_ng.specs.declared.fault.NgFault.{NgFault}
-use Rattle.ioam_ng.specs.declared.fault.NgFault.TheVariants as fault
+use Rattle.ioam_pcap.specs.declared.capture.CapFault.{CapFault}
+use Rattle.ioam_pcap.specs.declared.capture.CapFault.TheVariants as fault
 use Rattle.ioam_ng.specs.Checks.{first}
 use Rattle.ioam_ng.specs.Front.{Known, is_section, front_size, is_front, order_in, least_size, is_alien, front_checks, front_fault}
 use Rattle.ioam_ng.specs.Blocks.{Place, behind, Blocks, fault_in, fault_by, is_whole, size, kind}
@@ -15,32 +15,47 @@ use Rattle.ioam_ng.specs.Reader.{Stands, Waits, HoldsFew, most_start}
 use Rattle.ioam_ng.proofs.ReadsLaws.{none_some}
 
 -- where the first of several isn't there, none of them is
-left_none : (x y : Option NgFault) → option_or x y ≡ None → x ≡ None
+left_none : (x y : Option CapFault) → option_or x y ≡ None → x ≡ None
 left_none None y same = refl
 left_none (Some f) y same = same
 
-checked : (alien there : Bool) (m : NgFault) (x : Option NgFault) → (if alien then Some m else if there then x else None) ≡ None → there ≡ true → x ≡ None
+checked : (alien there : Bool) (m : CapFault) (x : Option CapFault) → (if alien then Some m else if there then x else None) ≡ None → there ≡ true → x ≡ None
 checked true there m x same is = absurd (none_some m (sym same))
 checked false true m x same is = same
 checked false false m x same is = absurd (true≢false (sym is))
 
-unchecked : (a b c : Bool) (f g h : NgFault) (rest : Option NgFault) → (if a then Some f else if b then Some g else if c then Some h else rest) ≡ None
-    → (a ≡ false) × (c ≡ false)
-unchecked true b c f g h rest same = absurd (none_some f (sym same))
-unchecked false true c f g h rest same = absurd (none_some g (sym same))
-unchecked false false true f g h rest same = absurd (none_some h (sym same))
-unchecked false false false f g h rest same = (refl, refl)
+unchecked : (a b c d : Bool) (f g h k : CapFault) → (if a then Some f else if b then Some g else if c then Some h else if d then Some k else None) ≡ None
+    → (a ≡ false) × (c ≡ false) × (d ≡ false)
+unchecked true b c d f g h k same = absurd (none_some f (sym same))
+unchecked false true c d f g h k same = absurd (none_some g (sym same))
+unchecked false false true d f g h k same = absurd (none_some h (sym same))
+unchecked false false false true f g h k same = absurd (none_some k (sym same))
+unchecked false false false false f g h k same = (refl, refl, refl)
+
+or_right : (a b : Bool) → (a || b) ≡ false → b ≡ false
+or_right true b neither = absurd (true≢false neither)
+or_right false b neither = neither
+
+least_some : (k : ℕ) → 12 ≤ least_size k
+least_some k = grind arith
 
 module _ (known : Known) (octets : List ℕ) (sound : fault_in known octets ≡ None) (there : is_front octets ≡ true) where
   front_checked : (nat_le 33554432 known.count ≡ false) × (nat_lt 16777216 (size known octets) ≡ false)
+      × ((not (size known octets % 4 == 0) || nat_lt (size known octets) (least_size (kind known octets))) ≡ false)
   front_checked =
       let none : front_fault known.count known.order octets ≡ None =
       left_none (front_fault known.count known.order octets) (if is_whole known octets then fault_by (order_in known.order octets) (take (size known octets) octets) (kind known octets) known.faces else None) sound in
       let checks : first (front_checks known.count (order_in known.order octets) (u32_at octets 8) (size known octets) (kind known octets)) ≡ None =
       checked (is_alien known.order octets) (is_front octets) (fault.Magic (u32_at octets 0)) (first (front_checks known.count (order_in known.order octets) (u32_at octets 8) (size known octets) (kind known octets))) none there in
       unchecked (nat_le 33554432 known.count) (is_none (order_in known.order octets)) (nat_lt 16777216 (size known octets))
-      (fault.Blocks 33554432) (fault.Order (u32_at octets 8)) (fault.Large (size known octets))
-      (if not (size known octets % 4 == 0) || nat_lt (size known octets) (least_size (kind known octets)) then Some (fault.Size (size known octets)) else None) checks
+      (not (size known octets % 4 == 0) || nat_lt (size known octets) (least_size (kind known octets)))
+      (fault.Blocks 33554432) (fault.Order (u32_at octets 8)) (fault.Large (size known octets)) (fault.Size (size known octets)) checks
+
+  -- a block has some octets
+  pub size_some : 0 < size known octets
+  size_some =
+      let least = ltb-false (size known octets) (least_size (kind known octets)) (or_right (not (size known octets % 4 == 0)) (nat_lt (size known octets) (least_size (kind known octets))) front_checked.2) in
+      omega (arith, least, least_some (kind known octets))
 
   count_few : known.count < 33554432
   count_few = leb-false 33554432 known.count front_checked.0

@@ -2,7 +2,7 @@
 use Rattle.std.proofs.Common.{◌≡◌, ℕ, ◌+◌, ◌-◌, ◌<◌, ◌≤◌, List, [], ◌∷◌, ◌++◌, length, take, drop, Option, Some, None, arith, refl, sym, ap, ◌∙◌, subst, inl, length-append, length-drop, length-take, ◌^◌}
 use Rattle.std.proofs.lemmas.List.{append-nil, drop-drop}
 use Rattle.ioam_base.proofs.LeadsLaws.{Leads-push, Leads-append}
-use Rattle.ioam_ng.specs.declared.fault.NgFault.{NgFault}
+use Rattle.ioam_pcap.specs.declared.capture.CapFault.{CapFault}
 use Rattle.ioam_ng.specs.declared.reader.NgStep.{NgStep}
 use Rattle.ioam_ng.specs.declared.reader.NgStep.TheVariants.{More, Bad, NoMemory}
 use Rattle.ioam_ng.specs.declared.numbers.Order.{Order}
@@ -11,14 +11,15 @@ use Rattle.ioam_ng.specs.declared.block.Block.{Block}
 use Rattle.ioam_ng.specs.declared.block.PacketHead.{PacketHead}
 use Rattle.ioam_ng.specs.declared.block.Content.TheVariants as content
 use Rattle.ioam_ng.specs.BlockSteps.{taken_of}
-use Rattle.ioam_ng.specs.Blocks.{Place, CanPass, packet_there, behind, Blocks, packets, front}
+use Rattle.ioam_ng.specs.Blocks.{Place, CanPass, packet_there, behind, Blocks, packets, front, size}
 use Rattle.ioam_pcap.specs.Entries.{Taken}
 use Rattle.ioam_ng.specs.Reading.{Reading, place_of, fed}
-use Rattle.ioam_ng.specs.Reads.{Faulty, Reads, CapNg}
-use Rattle.ioam_ng.specs.Reader.{Stands, Skips, Waits, HoldsFew, IsFaulty, IsPlain, IsFace, Rested, Told, SaysFault, EndsFaulty, IsPacket, moved_by, faces_with}
+use Rattle.ioam_pcap.specs.Ending.{Faulty}
+use Rattle.ioam_ng.specs.Reads.{Reads, CapNg}
+use Rattle.ioam_ng.specs.Reader.{Stands, Skips, Waits, HoldsFew, IsFaulty, IsPlain, IsFace, HasPacket, Rested, Told, SaysFault, SaysPacket, EndsFaulty, IsPacket, moved_by, faces_with}
 use Rattle.ioam_ng.proofs.ReadsLaws.{with_more, Blocks-behind, HasFault-behind, fault_stops, cut_stops, cut_sound, fault_unique, Reads-unique}
 
-packets-append : (xs ys : List (Option Taken)) → packets (xs ++ ys) ≡ packets xs ++ packets ys
+pub packets-append : (xs ys : List (Option Taken)) → packets (xs ++ ys) ≡ packets xs ++ packets ys
 packets-append [] ys = refl
 packets-append (None ∷ xs) ys = packets-append xs ys
 packets-append (Some x ∷ xs) ys = ap (λ rest. x ∷ rest) (packets-append xs ys)
@@ -79,7 +80,7 @@ cap_by : (reader : Reading) (octets : List ℕ) (taken : List Taken) → Stands 
 cap_by reader octets taken stands stops = record { known = reader.known; blocks = stands.blocks; leads = stands.leads; given = stands.given; stops = stops }
 
 -- a fault ends the capture, whatever is fed
-pub ends_faulty : (reader : Reading) (octets : List ℕ) (taken : List Taken) (f : NgFault) → Stands reader octets taken → IsFaulty reader f → EndsFaulty octets taken reader.start f
+pub ends_faulty : (reader : Reading) (octets : List ℕ) (taken : List Taken) (f : CapFault) → Stands reader octets taken → IsFaulty reader f → EndsFaulty octets taken reader.start f
 ends_faulty reader octets taken f stands bad = (all, λ more others end reads. Reads-unique (octets ++ more) others taken end (Faulty reader.start f) reads (all more))
   where
     all : (more : List ℕ) → Reads (octets ++ more) taken (Faulty reader.start f)
@@ -91,21 +92,47 @@ ends_faulty reader octets taken f stands bad = (all, λ more others end reads. R
       ends = (omega (arith, stands.inside, length-append reader.pending more, length-append octets more), inl (HasFault-behind more (place_of reader) f bad));
     }
 
--- where what is due has a fault no block is passed
-skips_fault : (old mid : Reading) (f : NgFault) → Skips old mid → IsFaulty old f → mid ≡ old
-skips_fault old mid f skips bad = by skips.blocks skips.leads
-  where
-    by : (blocks : List (Option Taken)) → Blocks (place_of old) blocks (place_of mid) → mid ≡ old
-    by [] here =
-        let starts : mid.start ≡ old.start = omega (arith, skips.fed, ap (λ p. length p.octets) here) in
-        λ i. record { known = (sym here i).known; start = starts i; pending = (sym here i).octets }
-    by (x ∷ xs) leads = absurd (fault_stops (place_of old) f bad leads.0)
+-- no octets come to those that are pending
+Blocks-kept : (p : Place) (blocks : List (Option Taken)) (q : Place) → Blocks p blocks q → length q.octets ≤ length p.octets
+Blocks-kept p [] q here = omega (arith, ap (λ r. length r.octets) here)
+Blocks-kept p (x ∷ xs) q leads = omega (arith, Blocks-kept (behind p) xs q leads.2, length-drop (size p.known p.octets) p.octets)
+
+pub Skips-kept : (old mid : Reading) → Skips old mid → length mid.pending ≤ length old.pending
+Skips-kept old mid skips = Blocks-kept (place_of old) skips.blocks (place_of mid) skips.leads
+
+module _ (old mid : Reading) (skips : Skips old mid) where
+  unmoved : place_of old ≡ place_of mid → mid ≡ old
+  unmoved here =
+      let starts : mid.start ≡ old.start = omega (arith, skips.fed, ap (λ p. length p.octets) here) in
+      λ i. record { known = (sym here i).known; start = starts i; pending = (sym here i).octets }
+
+  -- where what is due has a fault no block is passed
+  skips_fault : (f : CapFault) → IsFaulty old f → mid ≡ old
+  skips_fault f bad = by skips.blocks skips.leads
+    where
+      by : (blocks : List (Option Taken)) → Blocks (place_of old) blocks (place_of mid) → mid ≡ old
+      by [] here = unmoved here
+      by (x ∷ xs) leads = absurd (fault_stops (place_of old) f bad leads.0)
+
+  -- nor where it has a packet
+  skips_packet : (packet : Taken) → HasPacket old packet → mid ≡ old
+  skips_packet packet has = by skips.blocks skips.leads skips.none
+    where
+      by : (blocks : List (Option Taken)) → Blocks (place_of old) blocks (place_of mid) → packets blocks ≡ [] → mid ≡ old
+      by [] here none = unmoved here
+      by (x ∷ xs) leads none =
+          let some : ◌≡◌ {A = List Taken} (packet ∷ packets xs) [] = sym (ap (λ y. packets (y ∷ xs)) (leads.1 ∙ has.1)) ∙ none in
+          absurd (cc)
+
+  -- then it is due behind them too
+  pub packet_due : (packet : Taken) → HasPacket old packet → HasPacket mid packet
+  packet_due packet has = let Q : Reading → Type 0 = λ r. HasPacket r packet in subst Q (sym (skips_packet packet has)) has
 
 module _ (old mid new : Reading) (skips : Skips old mid) where
   -- what a step tells that has no packet
   abbrev pub Tells : NgStep → Type 0
-  Tells step = Rested new step × (fed new ≡ fed old)
-      × ((octets : List ℕ) (taken : List Taken) → Stands old octets taken → Told octets taken new step) × SaysFault old new step
+  Tells step = Rested new step × (fed new ≡ fed old) × (length new.pending ≤ length old.pending)
+      × ((octets : List ℕ) (taken : List Taken) → Stands old octets taken → Told octets taken new step) × SaysFault old new step × SaysPacket old step
 
   module _ (same : new ≡ mid) where
     fed_same : fed new ≡ fed old
@@ -117,8 +144,11 @@ module _ (old mid new : Reading) (skips : Skips old mid) where
         let R : List Taken → Type 0 = λ xs. Stands new octets xs in
         subst R (sym (append-nil taken)) (subst Q (sym same) (Stands-skips old mid skips octets taken stands))
 
-    unended : (f : NgFault) → IsFaulty old f → IsFaulty mid f
-    unended f bad = let Q : Reading → Type 0 = λ r. IsFaulty r f in subst Q (sym (skips_fault old mid f skips bad)) bad
+    kept : length new.pending ≤ length old.pending
+    kept = omega (arith, Skips-kept old mid skips, ap (λ r. length r.pending) same)
+
+    unended : (f : CapFault) → IsFaulty old f → IsFaulty mid f
+    unended f bad = let Q : Reading → Type 0 = λ r. IsFaulty r f in subst Q (sym (skips_fault old mid skips f bad)) bad
 
     pub tells_more : Waits mid → HoldsFew mid → Tells More
     tells_more waits few =
@@ -126,20 +156,23 @@ module _ (old mid new : Reading) (skips : Skips old mid) where
         let rested = subst Q (sym same) (waits, few) in (
           rested,
           fed_same,
+          kept,
           λ octets taken stands. (
             stood octets taken stands,
             let R : List Taken → Type 0 = λ xs. CapNg octets xs new.pending in
                 subst R (append-nil taken) (cap_by new octets (taken ++ []) (stood octets taken stands) (cut_stops (place_of new) rested.0)),
           ),
           λ f bad. absurd (cut_sound (place_of mid) f waits (unended f bad)),
+          λ packet has. absurd (cut_stops (place_of mid) waits (packet_due old mid skips packet has).0),
         )
 
-    pub tells_bad : (at : ℕ) (f : NgFault) → at ≡ mid.start → IsFaulty mid f → Tells (Bad at f)
+    pub tells_bad : (at : ℕ) (f : CapFault) → at ≡ mid.start → IsFaulty mid f → Tells (Bad at f)
     tells_bad at f here bad =
         let Q : Reading → Type 0 = λ r. (at ≡ r.start) × IsFaulty r f in
         let rested = subst Q (sym same) (here, bad) in (
           rested,
           fed_same,
+          kept,
           λ octets taken stands. (
             stood octets taken stands,
             let R : List Taken → Type 0 = λ xs. CapNg octets xs new.pending × EndsFaulty octets xs at f in
@@ -150,10 +183,11 @@ module _ (old mid new : Reading) (skips : Skips old mid) where
                 ),
           ),
           λ g worse.
-              let still = skips_fault old mid g skips worse in
+              let still = skips_fault old mid skips g worse in
               let faults = fault_unique (place_of mid) f g bad (unended g worse) in
               let places : at ≡ old.start = here ∙ ap (λ r. r.start) still in
               (λ i. Bad (places i) (faults i), same ∙ still),
+          λ packet has. absurd (fault_stops (place_of mid) f bad (packet_due old mid skips packet has).0),
         )
 
     pub tells_memory : IsFace mid → Tells NoMemory
@@ -161,8 +195,12 @@ module _ (old mid new : Reading) (skips : Skips old mid) where
         let Q : Reading → Type 0 = λ r. IsFace r in (
           subst Q (sym same) plain,
           fed_same,
+          kept,
           λ octets taken stands. (stood octets taken stands, tt),
           λ f bad. absurd (fault_stops (place_of mid) f (unended f bad) plain.0.0),
+          λ packet has.
+              let wrong : ◌≡◌ {A = Option Taken} None (Some packet) = sym plain.0.1 ∙ (packet_due old mid skips packet has).1 in
+              absurd (cc),
         )
 
 -- ---- a packet
@@ -193,16 +231,21 @@ moved_packet items taken start count added order faces mid b head view is size =
 -- what a step tells that has a packet
 pub packet_told : (old mid new : Reading) → Skips old mid → (b : Block) (head : PacketHead) → IsPacket mid b (content.Packet head) → new ≡ moved_by mid b
     → (octets : List ℕ) → octets ≡ take head.captured (drop 28 mid.pending)
-    → ((head.time < 2 ^ 62) × (length octets ≤ 262144)) × (fed new ≡ fed old)
+    → ((head.time < 2 ^ 62) × (length octets ≤ 262144)) × (fed new ≡ fed old) × (length new.pending ≤ length old.pending)
     × ((all : List ℕ) (taken : List Taken) → Stands old all taken → Stands new all (taken ++ taken_of head octets ∷ []))
     × ((step : NgStep) → SaysFault old new step)
+    × ((packet : Taken) → HasPacket old packet → taken_of head octets ∷ [] ≡ packet ∷ [])
 packet_told old mid new skips b head is moved octets shown =
     let same : fed new ≡ fed mid = ap fed moved ∙ (omega (arith, is.3, length-drop b.size mid.pending)) in
     let there = is.1 ∙ ap (λ xs. Some (taken_of head xs)) (sym shown) in (
       (is.6, omega (arith, is.5, ap length shown, length-take head.captured (drop 28 mid.pending))),
       same ∙ skips.fed,
+      omega (arith, Skips-kept old mid skips, ap (λ r. length r.pending) moved, length-drop b.size mid.pending),
       λ all taken stands. Stands-packet mid new (taken_of head octets) is.0 there (ap place_of moved ∙ is.2) same all taken (Stands-skips old mid skips all taken stands),
       λ step f bad.
           let Q : Reading → Type 0 = λ r. IsFaulty r f in
-          absurd (fault_stops (place_of mid) f (subst Q (sym (skips_fault old mid f skips bad)) bad) is.0),
+          absurd (fault_stops (place_of mid) f (subst Q (sym (skips_fault old mid skips f bad)) bad) is.0),
+      λ packet has.
+          let both : ◌≡◌ {A = Option Taken} (Some (taken_of head octets)) (Some packet) = sym there ∙ (packet_due old mid skips packet has).1 in
+          ap (λ x. x ∷ []) (cc),
     )

@@ -13,14 +13,15 @@ use Rattle.ioam_base.proofs.LeadsLaws.{Leads-append}
 use Rattle.ioam_pcap.specs.declared.form.Link.{Link}
 use Rattle.ioam_pcap.specs.declared.form.Link.TheVariants.{Ethernet, Raw}
 use Rattle.ioam_ng.specs.declared.face.Face.{Face}
-use Rattle.ioam_ng.specs.declared.fault.NgFault.TheVariants as fault
+use Rattle.ioam_pcap.specs.declared.capture.CapFault.TheVariants as fault
 use Rattle.ioam_ng.specs.declared.numbers.Order.TheVariants.{Big}
 use Rattle.ioam_ng.specs.Face.{time_of, time_between}
 use Rattle.ioam_ng.specs.Checks.{first}
 use Rattle.ioam_ng.specs.Front.{Known, is_front, front_fault}
 use Rattle.ioam_ng.specs.Blocks.{Place, CanPass, packet_there, behind, Blocks, packets, front, fault_in, is_whole, packet_in, block_fault, packet_fault, packet_of, packet_from, packet_checks, block_checks, is_linked, link_of, units, trail}
 use Rattle.ioam_pcap.specs.Entries.{Taken}
-use Rattle.ioam_ng.specs.Reads.{Whole, Reads}
+use Rattle.ioam_pcap.specs.Ending.{Whole}
+use Rattle.ioam_ng.specs.Reads.{Reads}
 use Rattle.ioam_ng.specs.Text.{head_octets, face_for, padding, packet_size, packet_front, packet_numbers, packet_tail, packet_octets, packets_text, capture_text, IsSendable}
 use Rattle.ioam_ng.proofs.ReadsLaws.{Blocks-behind}
 

@@ -2,7 +2,7 @@
 use Rattle.std.specs.Prelude.{◌≡◌, ◌==◌, ℕ, ◌+◌, ◌≤◌, ◌<◌, ◌^◌, List, [], ◌∷◌, ◌++◌, true, false, length, take, drop, slice_get, Option, Some, None, Result, Ok, Err}
 use Rattle.ioam_ng.specs.declared.face.Face.{Face}
 use Rattle.ioam_ng.specs.declared.numbers.Order.{Order}
-use Rattle.ioam_ng.specs.declared.fault.NgFault.{NgFault}
+use Rattle.ioam_pcap.specs.declared.capture.CapFault.{CapFault}
 use Rattle.ioam_ng.specs.declared.block.Body.{Body}
 use Rattle.ioam_ng.specs.declared.block.Body.TheVariants as body
 use Rattle.ioam_ng.specs.declared.block.Content.{Content}
@@ -34,7 +34,7 @@ abbrev pub IsHead : Order → Face → List ℕ → PacketHead → Type 0
 IsHead order face block head = (head.link ≡ link_of face) × (time_of face (units order block) ≡ Some head.time)
     × (head.original ≡ number_at order block 24) × (head.captured ≡ captured order block) × (head.captured ≤ 262144) × (head.time < 2 ^ 62)
 
-abbrev pub TellsPacket : Order → Face → List ℕ → Result PacketHead NgFault → Type 0
+abbrev pub TellsPacket : Order → Face → List ℕ → Result PacketHead CapFault → Type 0
 TellsPacket order face block (Ok head) = (first (packet_checks order block face) ≡ None) × IsHead order face block head
 TellsPacket order face block (Err fault) = first (packet_checks order block face) ≡ Some fault
 
@@ -42,7 +42,7 @@ TellsPacket order face block (Err fault) = first (packet_checks order block face
 abbrev pub IsAmong : Order → List Face → List ℕ → PacketHead → Type 0
 IsAmong order faces block head = (face : Face) × (slice_get faces (face_number order block) ≡ Some face) × IsHead order face block head
 
-abbrev pub TellsAmong : Order → List Face → List ℕ → Result PacketHead NgFault → Type 0
+abbrev pub TellsAmong : Order → List Face → List ℕ → Result PacketHead CapFault → Type 0
 TellsAmong order faces block (Ok head) = (packet_fault order block (slice_get faces (face_number order block)) ≡ None) × IsAmong order faces block head
 TellsAmong order faces block (Err fault) = packet_fault order block (slice_get faces (face_number order block)) ≡ Some fault
 
@@ -53,7 +53,7 @@ IsContent order kind faces block (content.Face face) = (kind ≡ 1) × (face_at 
 IsContent order kind faces block (content.Packet head) = (kind ≡ 6) × (32 + captured order block ≤ length block) × IsAmong order faces block head
 IsContent order kind faces block content.Other = ((kind == 0x0a0d0d0a) ≡ false) × ((kind == 1) ≡ false) × ((kind == 6) ≡ false)
 
-abbrev pub TellsContent : Order → ℕ → List Face → List ℕ → Result Content NgFault → Type 0
+abbrev pub TellsContent : Order → ℕ → List Face → List ℕ → Result Content CapFault → Type 0
 TellsContent order kind faces block (Ok c) = (block_fault order block kind faces ≡ None) × IsContent order kind faces block c
 TellsContent order kind faces block (Err fault) = block_fault order block kind faces ≡ Some fault
 

@@ -8,8 +8,8 @@ use Rattle.ioam_pcap.specs.declared.form.Link.TheVariants.{Ethernet, Raw}
 use Rattle.ioam_pcap.specs.Entries.{Taken}
 use Rattle.ioam_ng.specs.declared.face.Face.{Face}
 use Rattle.ioam_ng.specs.declared.numbers.Order.{Order}
-use Rattle.ioam_ng.specs.declared.fault.NgFault.{NgFault}
-use Rattle.ioam_ng.specs.declared.fault.NgFault.TheVariants as fault
+use Rattle.ioam_pcap.specs.declared.capture.CapFault.{CapFault}
+use Rattle.ioam_pcap.specs.declared.capture.CapFault.TheVariants as fault
 use Rattle.ioam_ng.specs.Numbers.{short_at, number_at}
 use Rattle.ioam_ng.specs.Face.{face_in, is_resolved, time_of}
 use Rattle.ioam_ng.specs.Checks.{Check, first}
@@ -60,7 +60,7 @@ module _ (order : Order) (block : List ℕ) where
       ∷ record { is = is_none (time_of face units); fault = fault.Time units }
       ∷ []
 
-  abbrev pub packet_fault : Option Face → Option NgFault
+  abbrev pub packet_fault : Option Face → Option CapFault
   packet_fault None = Some (fault.Face face_number)
   packet_fault (Some face) = first (packet_checks face)
 
@@ -72,7 +72,7 @@ module _ (order : Order) (block : List ℕ) where
       ∷ record { is = (kind == 2) || (kind == 3); fault = fault.Kind kind }
       ∷ []
 
-  abbrev pub block_fault : ℕ → List Face → Option NgFault
+  abbrev pub block_fault : ℕ → List Face → Option CapFault
   block_fault kind faces = option_or (first (block_checks kind)) (if kind == 6 then packet_fault (slice_get faces face_number) else None)
 
   abbrev pub packet_of : Face → Taken
@@ -99,7 +99,7 @@ module _ (order : Order) (block : List ℕ) where
 -- ---- the block at the front of octets
 
 -- the same where the order is known
-abbrev pub fault_by : Option Order → List ℕ → ℕ → List Face → Option NgFault
+abbrev pub fault_by : Option Order → List ℕ → ℕ → List Face → Option CapFault
 fault_by None block kind faces = None
 fault_by (Some order) block kind faces = block_fault order block kind faces
 
@@ -122,7 +122,7 @@ module _ (known : Known) (octets : List ℕ) where
   is_whole = is_front octets && nat_le size (length octets)
 
   -- its fault: of its front as soon as that is there, and of the rest once it is whole
-  abbrev pub fault_in : Option NgFault
+  abbrev pub fault_in : Option CapFault
   fault_in = option_or (front_fault known.count known.order octets)
       (if is_whole then fault_by (order_in known.order octets) (take size octets) kind known.faces else None)
 

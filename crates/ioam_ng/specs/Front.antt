@@ -4,8 +4,8 @@ use Rattle.std.specs.Prelude.{ℕ, ◌%◌, List, [], ◌∷◌, Bool, not, ◌=
 use Rattle.ioam_base.specs.Octets.{u32_at}
 use Rattle.ioam_ng.specs.declared.face.Face.{Face}
 use Rattle.ioam_ng.specs.declared.numbers.Order.{Order}
-use Rattle.ioam_ng.specs.declared.fault.NgFault.{NgFault}
-use Rattle.ioam_ng.specs.declared.fault.NgFault.TheVariants as fault
+use Rattle.ioam_pcap.specs.declared.capture.CapFault.{CapFault}
+use Rattle.ioam_pcap.specs.declared.capture.CapFault.TheVariants as fault
 use Rattle.ioam_ng.specs.Numbers.{number_at, order_said}
 use Rattle.ioam_ng.specs.Checks.{Check, first}
 
@@ -61,7 +61,7 @@ front_checks count order said size kind =
     ∷ []
 
 -- the fault of the front at these octets, where there is one
-abbrev pub front_fault : ℕ → Option Order → List ℕ → Option NgFault
+abbrev pub front_fault : ℕ → Option Order → List ℕ → Option CapFault
 front_fault count known octets = if is_alien known octets then Some (fault.Magic (u32_at octets 0))
     else if is_front octets then first (front_checks count (order_in known octets) (u32_at octets 8) (size_in known octets) (kind_in known octets))
     else None

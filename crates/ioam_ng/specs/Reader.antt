@@ -3,20 +3,23 @@ use Rattle.std.specs.Prelude.{◌≡◌, ⊤, ℕ, ◌+◌, ◌<◌, ◌≤◌, 
 use Rattle.std.specs.Io.BufRead.{Rests}
 use Rattle.std.specs.Borrow.{Fml, MutBor}
 use Rattle.ioam_ng.specs.declared.face.Face.{Face}
-use Rattle.ioam_ng.specs.declared.fault.NgFault.{NgFault}
+use Rattle.ioam_pcap.specs.declared.capture.CapFault.{CapFault}
 use Rattle.ioam_ng.specs.declared.block.Block.{Block}
 use Rattle.ioam_ng.specs.declared.block.Content.{Content}
 use Rattle.ioam_ng.specs.declared.block.Content.TheVariants as content
 use Rattle.ioam_ng.specs.declared.reader.Found.{Found}
 use Rattle.ioam_ng.specs.declared.reader.Found.TheVariants as found
+use Rattle.ioam_ng.specs.declared.reader.NgLook.{NgLook}
+use Rattle.ioam_ng.specs.declared.reader.NgLook.TheVariants as look
 use Rattle.ioam_ng.specs.declared.reader.NgStep.{NgStep}
 use Rattle.ioam_ng.specs.declared.reader.NgStep.TheVariants.{Packet, More, Bad, NoMemory}
 use Rattle.ioam_ng.specs.contracts.reader.NgReader.{the_row}
 use Rattle.ioam_ng.specs.Blocks.{CanPass, Blocks, front, kind, packets, packet_there, behind}
+use Rattle.ioam_pcap.specs.Ending.{Faulty}
 use Rattle.ioam_pcap.specs.Entries.{Taken}
 use Rattle.ioam_ng.specs.BlockSteps.{taken_of, known_with}
 use Rattle.ioam_ng.specs.Reading.{Reading, place_of, fed}
-use Rattle.ioam_ng.specs.Reads.{HasFault, IsCut, Ending, Whole, Faulty, Reads, ReadsOnly, CapNg}
+use Rattle.ioam_ng.specs.Reads.{HasFault, IsCut, Reads, ReadsOnly, CapNg}
 
 -- a reader that was fed these octets in all, and has given these packets
 pub record Stands (reader : Reading) (octets : List ℕ) (taken : List Taken) : Type 0 where
@@ -38,12 +41,12 @@ abbrev pub most_start : ℕ
 most_start = 562949953421312
 
 -- what is due has this fault
-abbrev pub IsFaulty : Reading → NgFault → Type 0
+abbrev pub IsFaulty : Reading → CapFault → Type 0
 IsFaulty reader fault = HasFault (place_of reader) fault
 
 -- a fault of what is due stays
 abbrev pub KeepsFault : Reading → Reading → Type 0
-KeepsFault old new = (fault : NgFault) → IsFaulty old fault → IsFaulty new fault
+KeepsFault old new = (fault : CapFault) → IsFaulty old fault → IsFaulty new fault
 
 -- what is known behind a block of this content
 abbrev pub faces_with : List Face → Content → List Face
@@ -62,6 +65,16 @@ pub record Skips (old new : Reading) : Type 0 where
   pub leads : Blocks (place_of old) blocks (place_of new)
   pub none : packets blocks ≡ []
   pub fed : fed new ≡ fed old
+
+-- what is due is a whole block without a fault, of this packet
+abbrev pub HasPacket : Reading → Taken → Type 0
+HasPacket reader packet = CanPass (place_of reader) × (packet_there (place_of reader) ≡ Some packet)
+
+-- a look shows what is due: a packet with this time, or more octets are needed, or a fault
+abbrev pub Shows : Reading → NgLook → Type 0
+Shows reader (look.Packet time) = (packet : Taken) × HasPacket reader packet × (packet.entry.time ≡ time)
+Shows reader look.More = Waits reader × HoldsFew reader
+Shows reader (look.Bad at fault) = (at ≡ reader.start) × IsFaulty reader fault
 
 -- what is due is a whole block without a packet and without a fault
 abbrev pub IsPlain : Reading → Type 0
@@ -121,7 +134,7 @@ Rested new (Bad at fault) = (at ≡ new.start) × IsFaulty new fault
 Rested new NoMemory = IsFace new
 
 -- a capture that has a fault reads so, whatever is fed, and in no other way
-abbrev pub EndsFaulty : List ℕ → List Taken → ℕ → NgFault → Type 0
+abbrev pub EndsFaulty : List ℕ → List Taken → ℕ → CapFault → Type 0
 EndsFaulty octets taken at fault = ((more : List ℕ) → Reads (octets ++ more) taken (Faulty at fault))
     × ((more : List ℕ) → ReadsOnly (octets ++ more) taken (Faulty at fault))
 
@@ -138,15 +151,15 @@ Told octets taken new step = Stands new octets (taken ++ packet_shown step) × S
 
 -- where what is due has a fault a step says this fault, and changes nothing
 abbrev pub SaysFault : Reading → Reading → NgStep → Type 0
-SaysFault old new step = (fault : NgFault) → IsFaulty old fault → (step ≡ Bad old.start fault) × (new ≡ old)
+SaysFault old new step = (fault : CapFault) → IsFaulty old fault → (step ≡ Bad old.start fault) × (new ≡ old)
+
+-- where a packet is due a step gives it
+abbrev pub SaysPacket : Reading → NgStep → Type 0
+SaysPacket old step = (packet : Taken) → HasPacket old packet → packet_shown step ≡ packet ∷ []
 
 -- so the reader is once the step's octets are no longer lent
 abbrev pub RestsSo : MutBor Reading → NgStep → Fml
 RestsSo reader step = Rests the_row reader (λ new. Rested new step × (fed new ≡ fed reader.now)
+    × (length new.pending ≤ length reader.now.pending)
     × ((octets : List ℕ) (taken : List Taken) → Stands reader.now octets taken → Told octets taken new step)
-    × SaysFault reader.now new step)
-
--- the ending of a capture that was fed whole, by what `finish` answers
-abbrev pub ending_of : Option (ℕ × NgFault) → Ending
-ending_of None = Whole
-ending_of (Some (at, fault)) = Faulty at fault
+    × SaysFault reader.now new step × SaysPacket reader.now step)

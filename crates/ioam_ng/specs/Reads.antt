@@ -1,13 +1,14 @@
 -- How a capture reads: its blocks, their packets, and how it ends.
 use Rattle.std.specs.Prelude.{◌≡◌, ℕ, ◌+◌, ◌<◌, ◌⊎◌, List, [], false, length, Option, Some, None, IsSome}
-use Rattle.ioam_ng.specs.declared.fault.NgFault.{NgFault}
-use Rattle.ioam_ng.specs.declared.fault.NgFault.TheVariants.{Short}
+use Rattle.ioam_pcap.specs.declared.capture.CapFault.{CapFault}
+use Rattle.ioam_pcap.specs.declared.capture.CapFault.TheVariants.{Short}
 use Rattle.ioam_ng.specs.Front.{Known}
 use Rattle.ioam_ng.specs.Blocks.{Place, CanPass, Blocks, fault_in, is_whole, front, packets}
+use Rattle.ioam_pcap.specs.Ending.{Ending, Whole, Faulty}
 use Rattle.ioam_pcap.specs.Entries.{Taken}
 
 -- the block that is due at a place has this fault, whatever stands behind the octets
-abbrev pub HasFault : Place → NgFault → Type 0
+abbrev pub HasFault : Place → CapFault → Type 0
 HasFault p fault = fault_in p.known p.octets ≡ Some fault
 
 -- it is not whole, or nothing stands there, and it has no fault so far
@@ -15,13 +16,8 @@ abbrev pub IsCut : Place → Type 0
 IsCut p = (fault_in p.known p.octets ≡ None) × (is_whole p.known p.octets ≡ false)
 
 -- the capture ends inside it, or before its first block; of it so many octets are there
-abbrev pub IsShort : Place → NgFault → Type 0
+abbrev pub IsShort : Place → CapFault → Type 0
 IsShort p fault = IsCut p × (fault ≡ Short (length p.octets)) × (IsSome p.known.order → 0 < length p.octets)
-
--- how a capture ends: behind whole blocks, or at a place with a fault
-pub data Ending : Type 0 where
-  Whole : Ending
-  Faulty : ℕ → NgFault → Ending
 
 -- octets end so, where this place is reached
 abbrev pub EndsAt : List ℕ → Place → Ending → Type 0

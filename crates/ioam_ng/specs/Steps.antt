@@ -6,7 +6,7 @@ use Rattle.ioam_ng.specs.declared.option.Found.{Found}
 use Rattle.ioam_ng.specs.declared.option.OptionStep.{OptionStep}
 use Rattle.ioam_ng.specs.declared.option.OptionStep.TheVariants.{End, Past, Next}
 use Rattle.ioam_base.specs.Octets.{u32_at}
-use Rattle.ioam_ng.specs.declared.fault.NgFault.TheVariants as fault
+use Rattle.ioam_pcap.specs.declared.capture.CapFault.TheVariants as fault
 use Rattle.ioam_ng.specs.Checks.{Check, first}
 use Rattle.ioam_ng.specs.declared.front.Front.{Front}
 use Rattle.ioam_ng.specs.declared.front.FrontStep.{FrontStep}

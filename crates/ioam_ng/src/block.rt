@@ -4,11 +4,10 @@ ghost use Rattle.ioam_ng.specs.Front.{least_size};
 ghost use Rattle.ioam_ng.specs.BlockSteps.{TellsBody, TellsPacket, TellsAmong, TellsContent, TellsBlock};
 
 use crate::face::{Face, is_resolved, time_of};
-use crate::fault::NgFault;
 use crate::front::{Front, FrontStep, SECTION, front_step};
 use crate::numbers::{Order, number_at, short_at};
 use crate::option::face_in;
-use ioam_pcap::Link;
+use ioam_pcap::{CapFault, Link};
 
 /// The most octets of a packet.
 const PACKET_MOST: u32 = 262_144;
@@ -53,7 +52,7 @@ pub struct Block {
 pub enum BlockStep {
     Whole(Block),
     Cut,
-    Bad(NgFault),
+    Bad(CapFault),
 }
 
 // The interface of an interface block; None where an option passes the body.
@@ -120,23 +119,23 @@ fn units_in(order: Order, block: &[u8]) -> u64
 }
 
 // What a packet block of an interface says.
-fn packet_in(order: Order, face: Face, block: &[u8]) -> Result<PacketHead, NgFault>
+fn packet_in(order: Order, face: Face, block: &[u8]) -> Result<PacketHead, CapFault>
     requires { 32 ≤ length block.now }
     ensures { TellsPacket order face block.now result }
 {
     if !is_linked(face) {
-        return Err(NgFault::Link {
+        return Err(CapFault::Link {
             found: u32::from(face.kind),
         });
     }
     if !is_resolved(face.resolution) {
-        return Err(NgFault::Resolution {
+        return Err(CapFault::Resolution {
             found: u32::from(face.resolution),
         });
     }
     let captured = number_at(order, block, 20);
     if PACKET_MOST < captured {
-        return Err(NgFault::RecordLong { found: captured });
+        return Err(CapFault::RecordLong { found: captured });
     }
     let units = units_in(order, block);
     match time_of(face, units) {
@@ -146,37 +145,37 @@ fn packet_in(order: Order, face: Face, block: &[u8]) -> Result<PacketHead, NgFau
             original: number_at(order, block, 24),
             captured,
         }),
-        None => Err(NgFault::Time { found: units }),
+        None => Err(CapFault::Time { found: units }),
     }
 }
 
 // What a packet block says, among the interfaces of its section.
-fn packet_among(order: Order, faces: &[Face], block: &[u8]) -> Result<PacketHead, NgFault>
+fn packet_among(order: Order, faces: &[Face], block: &[u8]) -> Result<PacketHead, CapFault>
     requires { 32 ≤ length block.now }
     ensures { TellsAmong order faces.now block.now result }
 {
     let number = number_at(order, block, 8);
     match faces.get(number as usize) {
         Some(face) => packet_in(order, *face, block),
-        None => Err(NgFault::Face { found: number }),
+        None => Err(CapFault::Face { found: number }),
     }
 }
 
 // What a whole block of this front holds.
-fn content_in(front: Front, faces: &[Face], block: &[u8]) -> Result<Content, NgFault>
+fn content_in(front: Front, faces: &[Face], block: &[u8]) -> Result<Content, CapFault>
     requires least { least_size front.kind ≤ length block.now }
     requires size { length block.now ≡ front.size }
     ensures { TellsContent front.order front.kind faces.now block.now result }
 {
     let Some(body) = body_in(front, block) else {
-        return Err(NgFault::Size { found: front.size });
+        return Err(CapFault::Size { found: front.size });
     };
     let trail = number_at(front.order, block, block.len() - 4);
     if trail != front.size {
-        return Err(NgFault::Trail { found: trail });
+        return Err(CapFault::Trail { found: trail });
     }
     if front.kind == 2 || front.kind == 3 {
-        return Err(NgFault::Kind { found: front.kind });
+        return Err(CapFault::Kind { found: front.kind });
     }
     match body {
         Body::Section => Ok(Content::Section),

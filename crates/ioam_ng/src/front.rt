@@ -2,9 +2,9 @@ ghost use Rattle.std.specs.Prelude.{◌≡◌, ◌≤◌, true, false, length};
 ghost use Rattle.ioam_ng.specs.Front.{is_section, is_front, is_alien, least_size};
 ghost use Rattle.ioam_ng.specs.Steps.{TellsFront, TellsNumbers, TellsSize};
 
-use crate::fault::NgFault;
 use crate::numbers::{Order, number_at, order_said};
 use ioam_base::octets::u32_at;
+use ioam_pcap::CapFault;
 
 /// The type of a section block, the same in both orders of octets.
 pub const SECTION: u32 = 0x0a0d_0d0a;
@@ -28,7 +28,7 @@ pub struct Front {
 pub enum FrontStep {
     There(Front),
     Cut,
-    Bad(NgFault),
+    Bad(CapFault),
 }
 
 // A section block begins.
@@ -79,7 +79,7 @@ pub fn front_step(count: u32, known: Option<Order>, octets: &[u8]) -> FrontStep
         return FrontStep::Cut;
     }
     if is_alien(known, octets) {
-        return FrontStep::Bad(NgFault::Magic {
+        return FrontStep::Bad(CapFault::Magic {
             found: u32_at(octets, 0),
         });
     }
@@ -87,7 +87,7 @@ pub fn front_step(count: u32, known: Option<Order>, octets: &[u8]) -> FrontStep
         return FrontStep::Cut;
     }
     if BLOCKS_MOST <= count {
-        return FrontStep::Bad(NgFault::Blocks { limit: BLOCKS_MOST });
+        return FrontStep::Bad(CapFault::Blocks { limit: BLOCKS_MOST });
     }
     numbers_step(known, octets)
 }
@@ -102,7 +102,7 @@ fn numbers_step(known: Option<Order>, octets: &[u8]) -> FrontStep
         let said = u32_at(octets, 8);
         return match order_said(said) {
             Some(order) => sized(order, SECTION, number_at(order, octets, 4)),
-            None => FrontStep::Bad(NgFault::Order { found: said }),
+            None => FrontStep::Bad(CapFault::Order { found: said }),
         };
     }
     match known {
@@ -120,10 +120,10 @@ fn sized(order: Order, kind: u32, size: u32) -> FrontStep
     ensures { TellsSize order kind size result }
 {
     if BLOCK_MOST < size {
-        return FrontStep::Bad(NgFault::Large { found: size });
+        return FrontStep::Bad(CapFault::Large { found: size });
     }
     if size % 4 != 0 || size < least_size(kind) {
-        return FrontStep::Bad(NgFault::Size { found: size });
+        return FrontStep::Bad(CapFault::Size { found: size });
     }
     FrontStep::There(Front { order, kind, size })
 }

@@ -1,6 +1,7 @@
 ghost use Rattle.std.specs.Prelude.{◌≡◌, ◌+◌, ◌≤◌, ◌<◌, ◌^◌, ◌++◌, ◌∷◌, [], All, List, OnOk, length, is_ok, if◌then◌else◌};
 ghost use Rattle.ioam_pcap.specs.Entries.{Taken};
-ghost use Rattle.ioam_ng.specs.Reads.{Reads, Whole};
+ghost use Rattle.ioam_ng.specs.Reads.{Reads};
+ghost use Rattle.ioam_pcap.specs.Ending.{Whole};
 ghost use Rattle.ioam_ng.specs.Text.{head_octets, face_for, packet_front, packet_numbers, packet_tail, packet_octets, packet_size, taken_by, capture_text, IsSendable};
 
 use ioam_base::buffer::Buffer;

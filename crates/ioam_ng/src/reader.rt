@@ -3,11 +3,10 @@ ghost use Rattle.std.specs.Borrow.{sem};
 
 use crate::block::{Block, BlockStep, Content, block_step};
 use crate::face::Face;
-use crate::fault::NgFault;
 use crate::numbers::Order;
 use ioam_base::memory::NoMemory;
 use ioam_base::octets::drop_front;
-use ioam_pcap::{Link, Packet};
+use ioam_pcap::{CapFault, Link, Packet};
 use std::alloc::Global;
 use std::marker::Model;
 
@@ -22,18 +21,29 @@ pub enum NgStep<'a> {
     /// More octets are needed, or the capture's end.
     More,
     /// At this place, in octets from the capture's first, a block is faulty.
-    Bad { at: u64, fault: NgFault },
+    Bad { at: u64, fault: CapFault },
     /// An interface can't be kept for want of memory; its block is not yet taken.
     NoMemory,
 }
 
-/// What is due behind the blocks without a packet.
+/// What is due behind the blocks without a packet: enough to choose among several captures.
+#[derive(Clone, Copy, Debug, PartialEq, Eq)]
+pub enum NgLook {
+    /// A packet with this time, in nanoseconds.
+    Packet { time: u64 },
+    /// More octets are needed, or the capture's end.
+    More,
+    /// At this place, in octets from the capture's first, a block is faulty.
+    Bad { at: u64, fault: CapFault },
+}
+
+/// What stands behind the blocks without a packet, or one of these that was passed.
 #[derive(Clone, Copy)]
 enum Found {
     Packet(Block),
     Passed,
     More,
-    Bad(NgFault),
+    Bad(CapFault),
     NoMemory,
 }
 
@@ -67,12 +77,13 @@ impl Model for NgReader {
 }
 
 impl NgReader {
-    ghost use Rattle.ioam_ng.specs.declared.fault.NgFault.TheVariants.{Short};
+    ghost use Rattle.ioam_pcap.specs.declared.capture.CapFault.TheVariants.{Short};
+    ghost use Rattle.ioam_pcap.specs.Ending.{ending_of};
     ghost use Rattle.ioam_pcap.specs.Entries.{Taken};
     ghost use Rattle.ioam_ng.specs.BlockSteps.{TellsBlock};
     ghost use Rattle.ioam_ng.specs.Reading.{fresh, fed};
     ghost use Rattle.ioam_ng.specs.Reads.{Reads, ReadsOnly};
-    ghost use Rattle.ioam_ng.specs.Reader.{Stands, Waits, HoldsFew, KeepsFault, Skips, IsDue, HoldsFace, Steps, RestsSo, moved_by, ending_of};
+    ghost use Rattle.ioam_ng.specs.Reader.{Stands, Waits, KeepsFault, Skips, IsDue, IsFace, HoldsFace, Shows, Steps, RestsSo, moved_by};
 
     /// A reader that was fed nothing.
     pub fn new(alloc: Global) -> Result<NgReader, NoMemory>
@@ -176,6 +187,31 @@ impl NgReader {
         }
     }
 
+    /// Passes the blocks without a packet that are due, and tells what is due then. Without memory
+    /// an interface block is due that could not be kept.
+    pub fn pass(&mut self) -> Result<NgLook, NoMemory>
+        ensures stands { (octets : List ℕ) (taken : List Taken)
+            → Stands self.old octets taken
+            → Stands self.new octets taken }
+        ensures fed { fed self.new ≡ fed self.old }
+        ensures kept { length self.new.pending ≤ length self.old.pending }
+        ensures shows { IfOk result (λ look. Shows self.new look) }
+        ensures err { OnErr result (IsFace self.new) }
+    {
+        match self.advance() {
+            Found::Packet(block) => match block.content {
+                Content::Packet(head) => Ok(NgLook::Packet { time: head.time }),
+                Content::Section | Content::Face(_) | Content::Other => Ok(NgLook::More),
+            },
+            Found::Passed | Found::More => Ok(NgLook::More),
+            Found::Bad(fault) => Ok(NgLook::Bad {
+                at: self.start,
+                fault,
+            }),
+            Found::NoMemory => Err(NoMemory),
+        }
+    }
+
     /// The next packet of the capture; the blocks without one are passed. After `Bad` every call
     /// answers the same.
     pub fn next(&mut self) -> NgStep<'_>
@@ -214,7 +250,7 @@ impl NgReader {
     /// What an ended capture leaves over, once `next` answered `More`: nothing where a section
     /// block was read and the last block is whole, else the place of the block that is cut, and how
     /// many octets of it are there.
-    pub fn finish(&self) -> Option<(u64, NgFault)>
+    pub fn finish(&self) -> Option<(u64, CapFault)>
         requires { Waits self.now }
         ensures left { MatchOption result
             (IsSome self.now.known.order × (self.now.pending ≡ []))
@@ -230,7 +266,7 @@ impl NgReader {
     }
 
     // What an ended capture leaves over, by the rules alone.
-    fn left_over(&self) -> Option<(u64, NgFault)>
+    fn left_over(&self) -> Option<(u64, CapFault)>
         requires { Waits self.now }
         ensures left { MatchOption result
             (IsSome self.now.known.order × (self.now.pending ≡ []))
@@ -243,6 +279,6 @@ impl NgReader {
         if self.order.is_some() && have == 0 {
             return None;
         }
-        Some((self.start, NgFault::Short { have: have as u32 }))
+        Some((self.start, CapFault::Short { have: have as u32 }))
     }
 }

@@ -1,15 +1,22 @@
 -- Where what is due has a fault, each step says it.
-use Rattle.std.proofs.Common.{◌≡◌, ℕ, Option, Some, None, subst}
+use Rattle.std.proofs.Common.{◌≡◌, ℕ, List, Option, Some, None, true, ap, subst, inl, inr}
 use Rattle.ioam_pcap.specs.declared.form.Form.{Form}
 use Rattle.ioam_pcap.specs.declared.capture.CapFault.{CapFault}
 use Rattle.ioam_pcap.specs.declared.capture.CapStep.{CapStep}
 use Rattle.ioam_pcap.specs.declared.capture.CapStep.TheVariants.{Bad}
 use Rattle.ioam_pcap.specs.Form.{HasHead}
+use Rattle.ioam_pcap.specs.Ending.{stays}
 use Rattle.ioam_pcap.specs.Entries.{IsWhole}
 use Rattle.ioam_pcap.specs.Reads.{FaultAt}
 use Rattle.ioam_pcap.specs.Reading.{Reading}
 use Rattle.ioam_pcap.specs.Reader.{Waits, HasFault, SaysFault}
 use Rattle.ioam_pcap.proofs.ReadsLaws.{head_sound, entry_sound, cut_not_faulty, fault_unique}
+
+-- a fault of what is due stays
+pub FaultAt-stays : (octets : List ℕ) (form : Option Form) (at : ℕ) (f : CapFault) → FaultAt octets form at f → stays f ≡ true
+FaultAt-stays octets None at f (inl magic) = ap stays magic.1
+FaultAt-stays octets None at f (inr link) = ap stays link.1
+FaultAt-stays octets (Some form) at f bad = ap stays bad.1
 
 module _ (old : Reading) where
   -- a whole head has none, nor has a whole record, nor what is cut

@@ -1,5 +1,5 @@
 use Rattle.ioam_ng.proofs.ReadsLaws.{Reads-unique}
-use Rattle.ioam_ng.specs.Reader.{ending_of}
+use Rattle.ioam_pcap.specs.Ending.{ending_of}
 use Rattle.ioam_ng.proofs.reader.NgReader.finish.Goals as goal
 
 pub returns-clause-only : goal.returns-clause-only

@@ -35,4 +35,4 @@ returns-in-Packet-content c =
     let shown : octets ≡ take head.captured (drop 28 mid.pending) =
     octets_of_packet _ _ inside.taken head.captured c.deref.ensures.value ∙ ap (λ r. take head.captured (drop 28 r.pending)) c.self.view_is in
     let told = packet_told old mid _ e.skips b head is moved octets shown in
-    ((refl, λ _. tt, (told.0, told.1, λ all taken stands. (told.2 all taken stands, tt), told.3 _)), tt)
+    ((refl, λ _. tt, (told.0, told.1, told.2, λ all taken stands. (told.3 all taken stands, tt), told.4 _, told.5)), tt)

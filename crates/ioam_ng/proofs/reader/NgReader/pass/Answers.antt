@@ -1,0 +1,8 @@
+use Rattle.ioam_ng.proofs.StandsLaws.{Stands-skips, Skips-kept}
+use Rattle.ioam_ng.proofs.reader.NgReader.pass.Goals as goal
+
+pub returns-clause-stands : goal.returns-clause-stands
+returns-clause-stands c octets taken stands = Stands-skips c.args.self.now c.advance.new.self c.advance.ensures.skips octets taken stands
+
+pub returns-clause-kept : goal.returns-clause-kept
+returns-clause-kept c = Skips-kept c.args.self.now c.advance.new.self c.advance.ensures.skips
