@@ -4,4 +4,6 @@ pub mod Merge
 pub mod Streams
 pub mod Arrives
 pub mod Reading
+pub mod Inside
+pub mod Begins
 pub mod Reader

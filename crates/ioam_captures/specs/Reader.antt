@@ -1,23 +1,26 @@
 -- What a reader of a capture of either form stands for, and what its steps tell of the octets that it
 -- was fed.
-use Rattle.std.specs.Prelude.{◌≡◌, ⊤, ℕ, ◌+◌, ◌<◌, ◌≤◌, ◌^◌, List, [], ◌∷◌, ◌++◌, length, Option, Some, None, false}
+use Rattle.std.specs.Prelude.{◌≡◌, ⊤, ℕ, ◌<◌, ◌≤◌, ◌^◌, List, [], ◌∷◌, ◌++◌, length, Bool, None, false}
 use Rattle.std.specs.Io.BufRead.{Rests}
 use Rattle.std.specs.Borrow.{Fml, MutBor}
-use Rattle.ioam_pcap.specs.Ending.{Ending, Whole, Faulty}
+use Rattle.ioam_pcap.specs.Ending.{Faulty}
 use Rattle.ioam_pcap.specs.Entries.{Entry, Taken}
+use Rattle.ioam_pcap.specs.contracts.reader.CaptureReader as classic_row
+use Rattle.ioam_pcap.specs.Reading as classic_reading
 use Rattle.ioam_pcap.specs.Reader as classic
-use Rattle.ioam_pcap.specs.declared.capture.CapFault.{CapFault}
 use Rattle.ioam_pcap.specs.declared.capture.Packet as packet
 use Rattle.ioam_pcap.specs.declared.form.Link.{Link}
+use Rattle.ioam_ng.specs.contracts.reader.NgReader as ng_row
+use Rattle.ioam_ng.specs.Reading as ng_reading
 use Rattle.ioam_ng.specs.Reader as ng
 use Rattle.ioam_captures.specs.contracts.reader.Reader.{the_row}
 use Rattle.ioam_captures.specs.declared.reader.Step.{Step}
 use Rattle.ioam_captures.specs.declared.reader.Step.TheVariants.{Packet, More, Bad, NoMemory}
 use Rattle.ioam_captures.specs.declared.turns.Due.{Due}
-use Rattle.ioam_captures.specs.declared.turns.Due.TheVariants as due
-use Rattle.ioam_captures.specs.Reading.{Reading, Front, Classic, Ng, pending, start, fed, most_held, HoldsFew}
+use Rattle.ioam_captures.specs.Merge.{Stream, due_of}
+use Rattle.ioam_captures.specs.Reading.{Reading, Front, Classic, Ng, pending, start, fed, HoldsFew}
 use Rattle.ioam_captures.specs.Reads.{IsNg, of_link, Reads, ReadsOnly}
-use Rattle.ioam_captures.specs.Streams.{ShowsSo}
+use Rattle.ioam_captures.specs.Streams.{ShowsSo, Streams}
 
 -- a reader that was fed these octets in all, and has given these records
 abbrev pub Stands : Reading → List ℕ → List Taken → Type 0
@@ -62,11 +65,30 @@ Says octets taken NoMemory = ⊤
 abbrev pub Told : List ℕ → List Taken → Reading → Step → Type 0
 Told octets taken new step = Stands new octets (taken ++ given_by step) × Says octets taken step
 
+-- what a step leaves, and what it says; it takes off octets and loses none
+abbrev pub Leaves : Reading → Reading → Step → Type 0
+Leaves old new step = Rested new step × (fed new ≡ fed old) × (length (pending new) ≤ length (pending old))
+    × ((octets : List ℕ) (taken : List Taken) → Stands old octets taken → Told octets taken new step)
+
 -- so the reader is once the step's octets are no longer lent
 abbrev pub RestsSo : MutBor Reading → Step → Fml
-RestsSo reader step = Rests the_row reader (λ new. Rested new step × (fed new ≡ fed reader.now)
-    × (length (pending new) ≤ length (pending reader.now))
-    × ((octets : List ℕ) (taken : List Taken) → Stands reader.now octets taken → Told octets taken new step))
+RestsSo reader step = Rests the_row reader (λ new. Leaves reader.now new step)
+
+-- and so the reader of a form
+abbrev pub RestsClassic : MutBor classic_reading.Reading → Step → Fml
+RestsClassic reader step = Rests classic_row.the_row reader (λ new. Leaves (Classic reader.now) (Classic new) step)
+
+abbrev pub RestsNg : MutBor ng_reading.Reading → Step → Fml
+RestsNg reader step = Rests ng_row.the_row reader (λ new. Leaves (Ng reader.now) (Ng new) step)
+
+-- this is due of the capture, where these octets are all of it or may not be
+abbrev pub IsDue : Reading → Bool → Due → Type 0
+IsDue reader ended due = (octets : List ℕ) (taken : List Taken) (stream : Stream) → Stands reader octets taken
+    → Streams octets ended taken stream → due ≡ due_of stream
+
+-- what stands before the next record was passed
+abbrev pub KeepsOn : Reading → Reading → Type 0
+KeepsOn old new = (octets : List ℕ) (taken : List Taken) → Stands old octets taken → Stands new octets taken
 
 -- the octets of a piece were fed
 abbrev pub IsFed : Reading → List ℕ → Reading → Type 0

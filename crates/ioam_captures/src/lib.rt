@@ -2,6 +2,9 @@
 //! of several captures are taken.
 #![tactic(auto)]
 
+mod blocks;
+mod classic;
+mod form;
 mod reader;
 mod turns;
 

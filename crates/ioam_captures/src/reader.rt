@@ -1,10 +1,15 @@
 ghost use Rattle.std.specs.Prelude.{◌≡◌, ◌+◌, ◌≤◌, ◌<◌, ◌^◌, ◌++◌, [], List, ℕ, length, IfOk, OnErr, OnOk};
 ghost use Rattle.std.specs.Borrow.{sem};
+ghost use Rattle.ioam_pcap.specs.declared.capture.CapFault.TheVariants.{Short};
+ghost use Rattle.ioam_captures.specs.Reading.{Front};
+ghost use Rattle.ioam_captures.specs.Reader.{IsDue};
 
+use crate::blocks::{due_packet, next_packet};
+use crate::classic::{due_classic, next_classic};
+use crate::form::{Form, begin};
 use crate::turns::Due;
 use ioam_base::memory::NoMemory;
-use ioam_ng::NgReader;
-use ioam_pcap::{CapFault, CaptureReader, Link, Packet};
+use ioam_pcap::{CapFault, Link, Packet};
 use std::alloc::Global;
 use std::marker::Model;
 
@@ -28,24 +33,48 @@ pub enum Step<'a> {
 /// 262,160 octets, or the greatest block of a pcapng capture, of 16,777,216.
 #[derive(Drop)]
 pub struct Reader {
-    // TODO(ng2): Front (fewer than four octets), CaptureReader, NgReader
+    form: Form,
 }
 
 impl Model for Reader {
+    ghost use Rattle.ioam_captures.specs.Inside.{seen, IsFew};
     ghost use Rattle.ioam_captures.specs.Reading.{Reading};
 
     ghost Value = { Reading };
+
+    ghost view = { λ r. seen r.form };
+
+    ghost invariant = { λ r. IsFew r.form };
 }
 
 impl Reader {
+    ghost use Rattle.ioam_pcap.specs.Ending.{ending_of};
+    ghost use Rattle.ioam_pcap.specs.Entries.{Taken};
+    ghost use Rattle.ioam_captures.specs.Reads.{Reads, ReadsOnly};
+    ghost use Rattle.ioam_captures.specs.Reading.{HoldsFew, fed, fresh, most_held, pending};
+    ghost use Rattle.ioam_captures.specs.Reader.{IsDue, IsFed, KeepsOn, RestsSo, Stands, Waits};
+
     /// A reader that was fed nothing.
     pub fn new(alloc: Global) -> Result<Reader, NoMemory>
         ensures exact { IfOk result (λ reader. reader ≡ fresh) }
-        ensures stands { IfOk result (λ reader. Stands reader [] []) };
+        ensures stands { IfOk result (λ reader. Stands reader [] []) }
+    {
+        let held = Vec::with_capacity(alloc, 4)?;
+        Ok(Reader {
+            form: Form::Front { alloc, held },
+        })
+    }
 
     /// How many octets were fed in all.
     pub fn fed(&self) -> u64
-        ensures { result ≡ fed self.now };
+        ensures { result ≡ fed self.now }
+    {
+        match &self.form {
+            Form::Front { held, .. } => held.len() as u64,
+            Form::Classic(reader) => reader.fed(),
+            Form::Ng(reader) => reader.fed(),
+        }
+    }
 
     /// Feeds the next octets of the capture, of which there are below 2^63 in all.
     pub fn feed(&mut self, piece: &[u8]) -> Result<(), NoMemory>
@@ -54,23 +83,51 @@ impl Reader {
         ensures few { OnOk result (HoldsFew self.old → length (pending self.new) < most_held self.new + length piece.now) }
         ensures stands { OnOk result ((octets : List ℕ) (taken : List Taken) → Stands self.old octets taken
             → Stands self.new (octets ++ piece.now) taken) }
-        ensures err { OnErr result (self.new ≡ self.old) };
+        ensures err { OnErr result (self.new ≡ self.old) }
+    {
+        match &mut self.form {
+            Form::Front { alloc, held } => {
+                if held.len() + piece.len() < 4 {
+                    held.extend_from_slice(piece)?;
+                } else {
+                    let form = begin(*alloc, held, piece)?;
+                    self.form = form;
+                }
+                Ok(())
+            }
+            Form::Classic(reader) => reader.feed(piece),
+            Form::Ng(reader) => reader.feed(piece),
+        }
+    }
 
     /// The next record of the capture; what stands before it (a head, blocks without a packet) is
     /// passed. After `Bad` every call answers the same.
     pub fn next(&mut self) -> Step<'_>
-        ensures* { sem 𝓛 (RestsSo self.entry result) };
+        ensures* { sem 𝓛 (RestsSo self.entry result) }
+    {
+        match &mut self.form {
+            Form::Front { .. } => Step::More,
+            Form::Classic(reader) => next_classic(reader),
+            Form::Ng(reader) => next_packet(reader),
+        }
+    }
 
     /// What is due of the capture, by the octets that were fed; `ended` says that these are all of
     /// it. What stands before the next record is passed. Where that can't be kept for want of memory
     /// nothing of it is lost.
     pub fn due(&mut self, ended: bool) -> Result<Due, NoMemory>
-        ensures due { IfOk result (λ due. (octets : List ℕ) (taken : List Taken) (stream : Stream) → Stands self.old octets taken
-            → Streams octets ended taken stream → due ≡ due_of stream) }
-        ensures stands { (octets : List ℕ) (taken : List Taken) → Stands self.old octets taken → Stands self.new octets taken }
+        ensures due { IfOk result (IsDue self.old ended) }
+        ensures stands { KeepsOn self.old self.new }
         ensures few { IfOk result (λ due. due ≡ Due.More → HoldsFew self.new) }
         ensures fed { fed self.new ≡ fed self.old }
-        ensures kept { length (pending self.new) ≤ length (pending self.old) };
+        ensures kept { length (pending self.new) ≤ length (pending self.old) }
+    {
+        match &mut self.form {
+            Form::Front { held, .. } => Ok(due_front(held, ended)),
+            Form::Classic(reader) => Ok(due_classic(reader, ended)),
+            Form::Ng(reader) => due_packet(reader, ended),
+        }
+    }
 
     /// What an ended capture leaves over, once `next` answered `More`: nothing where its head was
     /// read and its last record or block is whole, else the place of what is cut, and how many
@@ -79,6 +136,47 @@ impl Reader {
         requires { Waits self.now }
         ensures reads { (octets : List ℕ) (taken : List Taken) → Stands self.now octets taken
             → Reads octets taken (ending_of result) }
+        // Nothing else is read of the octets, in whatever pieces they were fed.
         ensures only { (octets : List ℕ) (taken : List Taken) → Stands self.now octets taken
-            → ReadsOnly octets taken (ending_of result) };
+            → ReadsOnly octets taken (ending_of result) }
+    {
+        self.left_over()
+    }
+
+    // What an ended capture leaves over, by the rules alone.
+    fn left_over(&self) -> Option<(u64, CapFault)>
+        requires { Waits self.now }
+        ensures { (octets : List ℕ) (taken : List Taken) → Stands self.now octets taken
+            → Reads octets taken (ending_of result) }
+    {
+        match &self.form {
+            Form::Front { held, .. } => Some((0, short(held))),
+            Form::Classic(reader) => reader.finish(),
+            Form::Ng(reader) => reader.finish(),
+        }
+    }
+}
+
+// The fault of a capture of fewer than four octets.
+fn short(held: &[u8]) -> CapFault
+    requires { length held.now < 4 }
+    ensures { result ≡ Short (length held.now) }
+{
+    CapFault::Short {
+        have: held.len() as u32,
+    }
+}
+
+// What is due of a capture of which fewer than four octets were fed.
+fn due_front(held: &[u8], ended: bool) -> Due
+    requires { length held.now < 4 }
+    ensures { IsDue (Front held.now) ended result }
+{
+    if !ended {
+        return Due::More;
+    }
+    Due::Bad {
+        at: 0,
+        fault: short(held),
+    }
 }

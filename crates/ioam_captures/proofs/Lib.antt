@@ -1,0 +1,12 @@
+pub mod TurnLaws
+pub mod MergeLaws
+pub mod ClassicLaws
+pub mod NgLaws
+pub mod ReadsLaws
+pub mod ShortLaws
+pub mod StandsLaws
+pub mod StreamsLaws
+pub mod ArrivesLaws
+pub mod FeedLaws
+pub mod StepLaws
+pub mod DueLaws
