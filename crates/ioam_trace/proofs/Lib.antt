@@ -1,4 +1,5 @@
 pub mod AreaLaws
+mod EqualLaws
 pub mod FilledLaws
 pub mod ReadLaws
 pub mod RecordedLaws

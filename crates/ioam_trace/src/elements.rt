@@ -1,10 +1,12 @@
+ghost use Rattle.std.specs.Prelude.{◌≡◌, false};
+ghost use Rattle.ioam_data.specs.Kind.{has};
 ghost use Rattle.ioam_trace.specs.Area.{EndsWith};
 
 use crate::area::size_at;
 use ioam_data::TraceType;
 
-/// The elements of a trace in visit order, the oldest first, each as its octets. It takes no memory:
-/// sizes are known only from the front, so each turn looks for the last element that is left.
+/// The elements of a trace in visit order, the oldest first, each as its octets. It takes no memory: sizes
+/// of elements with a snapshot are known only from the front, so each turn looks for the last that is left.
 #[derive(Clone, Copy, Debug)]
 pub struct Elements<'a> {
     kind: TraceType,
@@ -30,8 +32,9 @@ impl<'a> Elements<'a> {
     }
 }
 
-// The place and the size of the last of the elements that stand from the start on.
-fn last_element(kind: TraceType, node_len: u8, used: &[u8]) -> Option<(usize, usize)>
+// The place and the size of the last of the elements that stand from the start on, where each may have
+// another size.
+fn last_by_walk(kind: TraceType, node_len: u8, used: &[u8]) -> Option<(usize, usize)>
     ensures { EndsWith kind node_len used.now result }
 {
     let mut last = None;
@@ -41,6 +44,29 @@ fn last_element(kind: TraceType, node_len: u8, used: &[u8]) -> Option<(usize, us
         at += size;
     }
     last
+}
+
+// The same where none has a snapshot: all have one size.
+fn last_of_equal(kind: TraceType, node_len: u8, used: &[u8]) -> Option<(usize, usize)>
+    requires { has kind 22 ≡ false }
+    ensures { EndsWith kind node_len used.now result }
+{
+    let size = 4 * usize::from(node_len);
+    if kind.words() > node_len || size == 0 || used.len() < size {
+        return None;
+    }
+    Some((used.len() - used.len() % size - size, size))
+}
+
+// The place and the size of the last of the elements that stand from the start on.
+fn last_element(kind: TraceType, node_len: u8, used: &[u8]) -> Option<(usize, usize)>
+    ensures { EndsWith kind node_len used.now result }
+{
+    if kind.has_snapshot() {
+        last_by_walk(kind, node_len, used)
+    } else {
+        last_of_equal(kind, node_len, used)
+    }
 }
 
 impl<'a> Iterator for Elements<'a> {

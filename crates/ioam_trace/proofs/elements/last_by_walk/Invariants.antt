@@ -1,6 +1,6 @@
 use Rattle.std.proofs.Common.{◌-◌, ◌≤◌, length}
 use Rattle.ioam_trace.proofs.AreaLaws.{Follows}
-use Rattle.ioam_trace.proofs.elements.last_element.Given as goal
+use Rattle.ioam_trace.proofs.elements.last_by_walk.Given as goal
 
 abbrev pub invariant-elements : goal.invariant-elements
 invariant-elements l = record {

@@ -1,6 +1,6 @@
 use Rattle.std.proofs.Common.{arith, refl}
 use Rattle.ioam_trace.proofs.AreaLaws.{IsLast-Follows}
-use Rattle.ioam_trace.proofs.elements.last_element.Goals as goal
+use Rattle.ioam_trace.proofs.elements.last_by_walk.Goals as goal
 
 pub elements-preserved : goal.elements-preserved
 elements-preserved c =
