@@ -1,12 +1,46 @@
-ghost use Rattle.std.specs.Prelude.{◌≡◌, ◌<◌, nat_eq, ◌&&◌, length, slice_get, Some, IfSome};
-ghost use Rattle.ioam_topo.specs.Forward.{longest, bits_of, fits, way_to, IsWayTo, IsWayFrom};
+ghost use Rattle.std.specs.Prelude.{◌≡◌, ◌<◌, nat_eq, ◌&&◌, length, slice_get, Some, IfSome, if◌then◌else◌};
+ghost use Rattle.ioam_topo.specs.Forward.{longer, longest, bits_of, fits, way_to, IsWayTo, IsWayFrom};
 ghost use Rattle.ioam_topo.specs.Index.{lengths_of};
 
 use crate::domain::Domain;
 use crate::ids::{NodeId, Way};
-use crate::masks::masked;
+use crate::masks::{masked, matches};
 use crate::parts::Route;
 use crate::prefix::Prefix;
+
+/// Of so many routes in a domain each is looked at; of more those that have the target's bits are
+/// looked up.
+const FEW: usize = 32;
+
+// The longer of a route that may fit a target at a node and what was found behind it.
+fn longer_of(route: &Route, node: NodeId, target: u128, found: Option<Route>) -> Option<Route>
+    ensures { result ≡ (if fits node.0 target route.now then Some (longer bits_of route.now found) else found) }
+{
+    if node.0 != route.node.0 || !matches(route.prefix, target) {
+        return found;
+    }
+    match found {
+        Some(other) => if route.prefix.length < other.prefix.length {
+            Some(other)
+        } else {
+            Some(*route)
+        },
+        None => Some(*route),
+    }
+}
+
+// The route of a node for a target among these, which is the longest.
+fn longest_of(routes: &[Route], node: NodeId, target: u128) -> Option<Route>
+    ensures { result ≡ longest bits_of (fits node.0 target) routes.now }
+{
+    let mut found = None;
+    let mut left = routes.len();
+    'routes: while left > 0 {
+        left -= 1;
+        found = longer_of(&routes[left], node, target, found);
+    }
+    found
+}
 
 impl Domain {
     ghost use Rattle.ioam_topo.specs.Domain.{links, ports, routes};
@@ -43,8 +77,8 @@ impl Domain {
         }
     }
 
-    // The route of a node for a target, which is the longest.
-    fn route_to(&self, node: NodeId, target: u128) -> Option<Route>
+    // The route of a node for a target, which is the longest, by the lengths of the node's routes.
+    fn route_by_length(&self, node: NodeId, target: u128) -> Option<Route>
         ensures { result ≡ longest bits_of (fits node.0 target) (routes self.now) }
     {
         for length in self.lengths_at(node) {
@@ -54,6 +88,17 @@ impl Domain {
             }
         }
         None
+    }
+
+    // The route of a node for a target, which is the longest.
+    fn route_to(&self, node: NodeId, target: u128) -> Option<Route>
+        ensures { result ≡ longest bits_of (fits node.0 target) (routes self.now) }
+    {
+        if self.routes.items.len() <= FEW {
+            longest_of(&self.routes.items, node, target)
+        } else {
+            self.route_by_length(node, target)
+        }
     }
 
     /// Where a node sends a target: the way of the longest of the node's routes whose prefix the

@@ -101,6 +101,9 @@ impl Domain {
         ensures value { option_copied result ≡ data_at (node_data self.now) node.0 namespace.0 }
         ensures sound { IfSome result (λ row. IsNodeData row.now) }
     {
+        if self.telemetry.rows.items.is_empty() {
+            return None;
+        }
         match self
             .telemetry
             .rows
