@@ -77,14 +77,14 @@ module _ (source target : ℕ) (flow : Flow) (numbers : Numbers) (packet : List 
   abbrev laid : List Part
   laid = hop_parts tunnel no_elements
 
-  hop-length : (next : ℕ) → length (header_if next laid) ≡ header_size (map trace_size flow.traces ++ direct_sizes (is_some numbers.direct))
+  pub hop-length : (next : ℕ) → length (header_if next laid) ≡ header_size (map trace_size flow.traces ++ direct_sizes (is_some numbers.direct))
   hop-length next =
       let traces = trace_parts (map room_of flow.traces) no_elements in
       let directs = direct_parts flow flow.direct numbers.direct in
       length-header_if next laid ∙ ap header_size (map-append sized traces directs
       ∙ (λ i. sized-traces flow.traces i ++ sized-direct flow flow.direct numbers.direct is_flow.direct_id may.direct i))
 
-  target-length : length (header_if 41 tunnel.targets) ≡ header_size (limit_sizes (is_some numbers.limit) ++ edge_sizes flow.edge)
+  pub target-length : length (header_if 41 tunnel.targets) ≡ header_size (limit_sizes (is_some numbers.limit) ++ edge_sizes flow.edge)
   target-length =
       let limits = limit_parts numbers.limit in
       let edges = edge_parts flow.namespace flow.edge numbers in

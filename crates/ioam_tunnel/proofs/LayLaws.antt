@@ -1,10 +1,11 @@
 -- Options that are laid out one after the other.
-use Rattle.std.proofs.Common.{◌≡◌, ℕ, ◌+◌, ◌<◌, ◌≤◌, ◌||◌, not, Bool, true, false, IsTrue, get_or, List, [], ◌∷◌, ◌++◌, length, map, drop, Option, Some, None, is_some, refl, sym, ap, ◌∙◌, subst}
+use Rattle.std.proofs.Common.{◌≡◌, ℕ, ◌+◌, ◌<◌, ◌≤◌, ◌||◌, not, Bool, true, false, IsTrue, get_or, List, [], ◌∷◌, ◌++◌, length, map, drop, Option, Some, None, is_some, refl, sym, ap, ◌∙◌, subst, arith, length-append}
 use Rattle.std.specs.List.{All}
-use Rattle.std.proofs.lemmas.List.{drop_all, drop_more}
+use Rattle.std.proofs.lemmas.List.{append-nil, drop_all, drop_more}
 use Rattle.std.proofs.lemmas.List.Elements.{All-nil, All-cons}
 use Rattle.ioam_data.specs.declared.namespace.Namespace.{Namespace}
 use Rattle.ioam_ip.specs.Laid.{Part, header_of, header_if, laid_with}
+use Rattle.ioam_ip.specs.Layout.{padding, gap_before, with_option}
 use Rattle.ioam_ip.specs.Sizes.{options_end}
 use Rattle.ioam_topo.specs.declared.parts.Flow.{Flow}
 use Rattle.ioam_topo.specs.declared.traces.FlowTrace.{FlowTrace}
@@ -13,13 +14,23 @@ use Rattle.ioam_tunnel.specs.Enclosed.{room_of, direct_parts, limit_parts, edge_
 use Rattle.ioam_tunnel.specs.Size.{trace_size}
 use Rattle.ioam_tunnel.specs.Wire.{IsRoom, trace_parts, no_elements}
 
-pub header_there : (next : ℕ) (parts : List Part) → has_parts parts ≡ true → header_of next parts ≡ header_if next parts
-header_there next [] is = absurd (cc is)
-header_there next (part ∷ parts) is = refl
+pub behind_there : (front : List ℕ) (next : ℕ) (parts : List Part) → has_parts parts ≡ true → front ++ header_of next parts ≡ front ++ header_if next parts
+behind_there front next [] is = absurd (cc is)
+behind_there front next (part ∷ parts) is = refl
 
-pub header_none : (next : ℕ) (parts : List Part) → has_parts parts ≡ false → [] ≡ header_if next parts
-header_none next [] is = refl
-header_none next (part ∷ parts) is = absurd (cc is)
+pub behind_none : (front : List ℕ) (next : ℕ) (parts : List Part) → has_parts parts ≡ false → front ≡ front ++ header_if next parts
+behind_none front next [] is = sym (append-nil front)
+behind_none front next (part ∷ parts) is = absurd (cc is)
+
+-- what is laid out doesn't get shorter
+pub laid_grows : (laid : List ℕ) (parts : List Part) → length laid ≤ length (laid_with laid parts)
+laid_grows laid [] = omega arith
+laid_grows laid (part ∷ parts) =
+    omega (
+      arith,
+      laid_grows (with_option laid part.kind part.body) parts,
+      length-append laid (padding (gap_before (length laid) part.kind) ++ (part.kind ∷ length part.body ∷ part.body)),
+    )
 
 abbrev pub has_traces : List FlowTrace → Bool
 has_traces [] = false

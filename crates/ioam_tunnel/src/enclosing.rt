@@ -1,9 +1,8 @@
 //! A packet put into a tunnel.
-ghost use Rattle.std.specs.Prelude.{◌≡◌, ◌+◌, ◌-◌, ◌<◌, ◌≤◌, ◌==◌, IfSome, is_some, if◌then◌else◌, [], ◌∷◌, ◌++◌, length, slice_get, slice_index, IfOk, OnOk};
+ghost use Rattle.std.specs.Prelude.{◌≡◌, ◌+◌, ◌-◌, ◌<◌, ◌≤◌, ◌==◌, IfSome, is_some, if◌then◌else◌, [], ◌∷◌, ◌++◌, length, slice_get, slice_index, IfOk};
 ghost use Rattle.ioam_ip.specs.Packet.{IsPacket};
 ghost use Rattle.ioam_ip.specs.Chain.{IsSound};
 ghost use Rattle.ioam_ip.specs.Hop.{HopFits};
-ghost use Rattle.ioam_ip.specs.Lowered.{lowered};
 ghost use Rattle.ioam_topo.specs.Domain.{flows, nodes};
 ghost use Rattle.ioam_topo.specs.Sound.{IsFlow};
 ghost use Rattle.ioam_tunnel.specs.Enclosed.{MayEnclose, class_of, tunnel_between, tunnel_of, address_at};
@@ -12,9 +11,11 @@ ghost use Rattle.ioam_tunnel.specs.Wire.{IsTunnel, no_elements, wire, outer_star
 
 use crate::laying::{lay_hop, lay_targets};
 use crate::numbers::Numbers;
+use crate::outer::Outer;
+use crate::sizes::{hop_size, target_size};
 use ioam_base::memory::NoMemory;
-use ioam_base::text::append;
-use ioam_ip::{Header, header, put_header};
+use ioam_base::octets::u32_at;
+use ioam_ip::{HEADER_OCTETS, Header, put_header};
 use ioam_topo::{Domain, Flow, FlowId};
 use std::alloc::Global;
 
@@ -25,42 +26,11 @@ const NESTED: u8 = 41;
 
 const DESTINATION: u8 = 60;
 
-// The value in front of a header that may be absent.
-fn value_in_front(value: u8, head: &[u8], next: u8) -> u8
-    ensures { result ≡ (if length head.now == 0 then next else value) }
+// The value in front of a header of a size, which is absent where that is 0.
+fn value_in_front(value: u8, size: usize, next: u8) -> u8
+    ensures { result ≡ (if size == 0 then next else value) }
 {
-    if head.is_empty() { next } else { value }
-}
-
-// Appends a packet with its hop limit one less.
-fn append_lowered(out: &mut Vec<u8>, packet: &[u8]) -> Result<(), NoMemory>
-    requires long { 8 ≤ length packet.now }
-    requires hops { 1 ≤ slice_index packet.now 7 }
-    ensures { OnOk result (out.new.items ≡ out.old.items ++ lowered 1 packet.now) }
-{
-    append(out, &packet[..7])?;
-    append(out, &[packet[7] - 1])?;
-    append(out, &packet[8..])
-}
-
-// The parts joined.
-fn join(
-    alloc: Global,
-    head: &[u8],
-    hop: &[u8],
-    targets: &[u8],
-    packet: &[u8],
-) -> Result<Vec<u8>, NoMemory>
-    requires long { 8 ≤ length packet.now }
-    requires hops { 1 ≤ slice_index packet.now 7 }
-    ensures { IfOk result (λ out. out.items ≡ head.now ++ (hop.now ++ (targets.now ++ lowered 1 packet.now))) }
-{
-    let mut out = Vec::new(alloc);
-    append(&mut out, head)?;
-    append(&mut out, hop)?;
-    append(&mut out, targets)?;
-    append_lowered(&mut out, packet)?;
-    Ok(out)
+    if size == 0 { next } else { value }
 }
 
 // The traffic class of a packet.
@@ -68,10 +38,7 @@ fn class_of(packet: &[u8]) -> u8
     requires { IsPacket packet.now }
     ensures { result ≡ class_of packet.now }
 {
-    match header(packet) {
-        Some(read) => read.class,
-        None => unreachable!(),
-    }
+    (u32_at(packet, 0) / 1_048_576 % 256) as u8
 }
 
 // The addresses of a tunnel's ends.
@@ -91,7 +58,7 @@ struct Fields {
 }
 
 // The outer header.
-fn outer(flow: &Flow, ends: Ends, fields: Fields) -> [u8; 40]
+fn head_of(flow: &Flow, ends: Ends, fields: Fields) -> [u8; 40]
     requires { IsFlow flow.now }
     ensures octets { result ≡ outer_start fields.class flow.now.label fields.payload fields.next fields.hops ++ addresses ends.source ends.target }
     ensures hops { fields.hops < 256 }
@@ -126,19 +93,21 @@ fn enclose_between(
     ensures size { IfOk result (λ out. length out.items ≡ outer_size flow.now (length packet.now) (is_some numbers.now.direct) (is_some numbers.now.limit)) }
     ensures tunnel { IfOk result (λ out. IsTunnel (tunnel_between ends.source ends.target flow.now numbers.now packet.now)) }
 {
-    let targets = lay_targets(alloc, flow, numbers)?;
-    let next = value_in_front(DESTINATION, targets.as_slice(), NESTED);
-    let hop = lay_hop(alloc, next, flow, numbers.direct)?;
-    let first = value_in_front(HOP_BY_HOP, hop.as_slice(), next);
-    let payload = (hop.len() + targets.len() + packet.len()) as u16;
+    let hop = hop_size(flow, numbers.direct.is_some());
+    let targets = target_size(flow.edge, numbers.limit.is_some());
+    let next = value_in_front(DESTINATION, targets, NESTED);
+    let behind = hop + targets + packet.len();
     let fields = Fields {
         class: class_of(packet),
-        payload,
-        next: first,
+        payload: behind as u16,
+        next: value_in_front(HOP_BY_HOP, hop, next),
         hops: flow.hops,
     };
-    let head = outer(flow, ends, fields);
-    let out = join(alloc, &head, hop.as_slice(), targets.as_slice(), packet)?;
+    let head = head_of(flow, ends, fields);
+    let mut outer = Outer::new(alloc, &head, HEADER_OCTETS + behind)?;
+    lay_hop(&mut outer, next, flow, numbers.direct)?;
+    lay_targets(&mut outer, flow, numbers)?;
+    let out = outer.carry(packet)?;
     Ok(out)
 }
 

@@ -1,131 +1,144 @@
-//! The options headers of an outer packet.
-ghost use Rattle.std.specs.Prelude.{◌≡◌, ◌+◌, ◌<◌, ◌≤◌, false, IsTrue, is_some, [], ◌∷◌, ◌++◌, length, map, IfOk, OnOk};
+//! The options headers of an outer packet, laid out behind what the packet has already.
+ghost use Rattle.std.specs.Prelude.{◌≡◌, ◌+◌, ◌<◌, ◌≤◌, ◌%◌, true, false, Some, IsTrue, is_some, [], ◌∷◌, ◌++◌, length, map, OnOk};
 ghost use Rattle.std.specs.List.{All};
 ghost use Rattle.ioam_ip.specs.Laid.{header_if, header_of, laid_with};
-ghost use Rattle.ioam_ip.specs.Layout.{with_option};
-ghost use Rattle.ioam_ip.specs.Sizes.{header_size};
 ghost use Rattle.ioam_topo.specs.Sound.{IsFlow};
 ghost use Rattle.ioam_topo.specs.Traces.{IsFlowTrace};
 ghost use Rattle.ioam_tunnel.specs.Enclosed.{room_of, direct_parts, limit_parts, edge_parts, has_parts};
 ghost use Rattle.ioam_tunnel.specs.Wire.{IsRoom, trace_parts, no_elements};
 
-use crate::bodies::{IOAM, IOAM_CHANGING, LIMIT, direct_body, edge_body, trace_body};
+use crate::bodies::{DIRECT, EDGE, IOAM, IOAM_CHANGING, LIMIT, TRACE, direct_of, edge_of};
 use crate::numbers::Numbers;
+use crate::outer::Outer;
 use ioam_base::memory::NoMemory;
-use ioam_ip::{Layout, LayoutFault};
+use ioam_data::{Namespace, TraceType};
+use ioam_edge::data_size;
 use ioam_topo::{Flow, FlowTrace};
-use std::alloc::Global;
-
-// Adds an option for which there is room.
-fn add(layout: &mut Layout, kind: u8, body: &[u8]) -> Result<(), NoMemory>
-    requires kind { 1 < kind }
-    requires short { length body.now ≤ 255 }
-    requires room { length layout.old ≤ 1700 }
-    ensures ok { OnOk result (layout.new ≡ with_option layout.old kind body.now) }
-    ensures long { OnOk result (length layout.new ≤ length layout.old + length body.now + 5) }
-{
-    match layout.add(kind, body) {
-        Ok(()) => Ok(()),
-        Err(LayoutFault::Full) => unreachable!(),
-        Err(LayoutFault::NoMemory) => Err(NoMemory),
-    }
-}
 
 // Adds the option of a trace without elements.
-fn add_trace(alloc: Global, layout: &mut Layout, trace: FlowTrace) -> Result<(), NoMemory>
+fn add_trace(outer: &mut Outer, trace: FlowTrace) -> Result<(), NoMemory>
     requires sound { IsFlowTrace trace }
-    requires room { length layout.old ≤ 1700 }
-    ensures ok { OnOk result (layout.new ≡ laid_with layout.old (trace_parts (room_of trace ∷ []) no_elements)) }
-    ensures long { OnOk result (length layout.new ≤ length layout.old + 259) }
+    requires room { length outer.old.laid ≤ 1700 }
+    ensures front { OnOk result (outer.new.front ≡ outer.old.front) }
+    ensures ok { OnOk result (outer.new.laid ≡ laid_with outer.old.laid (trace_parts (room_of trace ∷ []) no_elements)) }
+    ensures long { OnOk result (length outer.new.laid ≤ length outer.old.laid + 259) }
     ensures sound { OnOk result (IsRoom (room_of trace)) }
 {
-    let body = trace_body(alloc, trace)?;
-    add(layout, IOAM_CHANGING, body.as_slice())
+    outer.align(IOAM_CHANGING)?;
+    outer.append(&[IOAM_CHANGING, 10 + 4 * trace.capacity, 0, TRACE])?;
+    outer.put_trace(trace)?;
+    Ok(())
 }
 
 // Adds the options of traces without elements.
-fn add_traces(alloc: Global, layout: &mut Layout, traces: &[FlowTrace]) -> Result<(), NoMemory>
+fn add_traces(outer: &mut Outer, traces: &[FlowTrace]) -> Result<(), NoMemory>
     requires few { length traces.now ≤ 3 }
     requires sound { All IsFlowTrace traces.now }
-    requires room { length layout.old ≤ 2 }
-    ensures ok { OnOk result (layout.new ≡ laid_with layout.old (trace_parts (map room_of traces.now) no_elements)) }
-    ensures long { OnOk result (length layout.new ≤ 779) }
+    requires room { length outer.old.laid ≤ 2 }
+    ensures front { OnOk result (outer.new.front ≡ outer.old.front) }
+    ensures ok { OnOk result (outer.new.laid ≡ laid_with outer.old.laid (trace_parts (map room_of traces.now) no_elements)) }
+    ensures long { OnOk result (length outer.new.laid ≤ 779) }
     ensures sound { OnOk result (All IsRoom (map room_of traces.now)) }
 {
     for trace in traces {
-        add_trace(alloc, layout, *trace)?;
+        add_trace(outer, *trace)?;
     }
     Ok(())
 }
 
-// Adds the option of direct export, where the packet carries one.
-fn add_direct(
-    alloc: Global,
-    layout: &mut Layout,
-    flow: &Flow,
-    seq: Option<u32>,
-) -> Result<(), NoMemory>
-    requires flow { IsFlow flow.now }
-    requires room { length layout.old ≤ 1700 }
-    ensures ok { OnOk result (layout.new ≡ laid_with layout.old (direct_parts flow.now flow.now.direct seq)) }
+// Adds the option of direct export data of a type.
+fn add_direct_of(outer: &mut Outer, flow: &Flow, kind: TraceType, seq: u32) -> Result<(), NoMemory>
+    requires id { is_some flow.now.flow_id ≡ true }
+    requires room { length outer.old.laid ≤ 1700 }
+    ensures front { OnOk result (outer.new.front ≡ outer.old.front) }
+    ensures ok { OnOk result (outer.new.laid ≡ laid_with outer.old.laid (direct_parts flow.now (Some kind) (Some seq))) }
+    ensures long { OnOk result (length outer.new.laid ≤ length outer.old.laid + 23) }
 {
-    let Some(kind) = flow.direct else {
-        return Ok(());
-    };
-    let Some(seq) = seq else {
-        return Ok(());
-    };
-    let body = direct_body(alloc, flow, kind, seq)?;
-    add(layout, IOAM, body.as_slice())
+    outer.align(IOAM)?;
+    outer.append(&[IOAM, 18, 0, DIRECT])?;
+    outer.put_direct(&direct_of(flow, kind, seq))?;
+    Ok(())
+}
+
+// Adds the option of direct export, where the packet carries one.
+fn add_direct(outer: &mut Outer, flow: &Flow, seq: Option<u32>) -> Result<(), NoMemory>
+    requires flow { IsFlow flow.now }
+    requires room { length outer.old.laid ≤ 1700 }
+    ensures front { OnOk result (outer.new.front ≡ outer.old.front) }
+    ensures ok { OnOk result (outer.new.laid ≡ laid_with outer.old.laid (direct_parts flow.now flow.now.direct seq)) }
+    ensures long { OnOk result (length outer.new.laid ≤ length outer.old.laid + 23) }
+{
+    match (flow.direct, seq) {
+        (Some(kind), Some(seq)) => add_direct_of(outer, flow, kind, seq),
+        (_, _) => Ok(()),
+    }
 }
 
 // Adds the option of an encapsulation limit, where there is one.
-fn add_limit(layout: &mut Layout, limit: Option<u8>) -> Result<(), NoMemory>
-    requires { length layout.old ≤ 1000 }
-    ensures ok { OnOk result (layout.new ≡ laid_with layout.old (limit_parts limit)) }
-    ensures long { OnOk result (length layout.new ≤ length layout.old + 6) }
+fn add_limit(outer: &mut Outer, limit: Option<u8>) -> Result<(), NoMemory>
+    ensures front { OnOk result (outer.new.front ≡ outer.old.front) }
+    ensures ok { OnOk result (outer.new.laid ≡ laid_with outer.old.laid (limit_parts limit)) }
+    ensures long { OnOk result (length outer.new.laid ≤ length outer.old.laid + 6) }
 {
     match limit {
-        Some(limit) => add(layout, LIMIT, &[limit]),
+        Some(limit) => outer.append(&[LIMIT, 1, limit]),
         None => Ok(()),
     }
 }
 
-// Adds the option of edge-to-edge data, where the flow has them.
-fn add_edge(
-    alloc: Global,
-    layout: &mut Layout,
-    flow: &Flow,
+// Adds the option of edge-to-edge data of a type.
+fn add_edge_of(
+    outer: &mut Outer,
+    namespace: Namespace,
+    kind: u16,
     numbers: &Numbers,
 ) -> Result<(), NoMemory>
-    requires flow { IsFlow flow.now }
     requires number { numbers.now.number < 4294967296 }
-    requires room { length layout.old ≤ 1700 }
-    ensures ok { OnOk result (layout.new ≡ laid_with layout.old (edge_parts flow.now.namespace flow.now.edge numbers.now)) }
+    requires known { kind % 4096 ≡ 0 }
+    requires room { length outer.old.laid ≤ 1700 }
+    ensures front { OnOk result (outer.new.front ≡ outer.old.front) }
+    ensures ok { OnOk result (outer.new.laid ≡ laid_with outer.old.laid (edge_parts namespace (Some kind) numbers.now)) }
+    ensures long { OnOk result (length outer.new.laid ≤ length outer.old.laid + 31) }
 {
-    let Some(kind) = flow.edge else {
-        return Ok(());
-    };
-    let body = edge_body(alloc, flow.namespace, kind, numbers)?;
-    add(layout, IOAM, body.as_slice())
+    outer.align(IOAM)?;
+    outer.append(&[IOAM, (2 + data_size(kind)) as u8, 0, EDGE])?;
+    outer.put_edge(&edge_of(namespace, kind, numbers))
 }
 
-// The Hop-by-Hop Options header.
+// Adds the option of edge-to-edge data, where the flow has them.
+fn add_edge(outer: &mut Outer, flow: &Flow, numbers: &Numbers) -> Result<(), NoMemory>
+    requires flow { IsFlow flow.now }
+    requires number { numbers.now.number < 4294967296 }
+    requires room { length outer.old.laid ≤ 1700 }
+    ensures front { OnOk result (outer.new.front ≡ outer.old.front) }
+    ensures ok { OnOk result (outer.new.laid ≡ laid_with outer.old.laid (edge_parts flow.now.namespace flow.now.edge numbers.now)) }
+    ensures long { OnOk result (length outer.new.laid ≤ length outer.old.laid + 31) }
+{
+    match flow.edge {
+        Some(kind) => add_edge_of(outer, flow.namespace, kind, numbers),
+        None => Ok(()),
+    }
+}
+
+// Lays out the Hop-by-Hop Options header.
 fn lay_hop_options(
-    alloc: Global,
+    outer: &mut Outer,
     next: u8,
     flow: &Flow,
     seq: Option<u32>,
-) -> Result<Vec<u8>, NoMemory>
-    requires { IsFlow flow.now }
-    ensures sound { IfOk result (λ head. All IsRoom (map room_of flow.now.traces)) }
-    ensures octets { IfOk result (λ head. head.items ≡ header_of next (trace_parts (map room_of flow.now.traces) no_elements ++ direct_parts flow.now flow.now.direct seq)) }
+) -> Result<(), NoMemory>
+    requires flow { IsFlow flow.now }
+    requires none { outer.old.laid ≡ [] }
+    ensures sound { OnOk result (All IsRoom (map room_of flow.now.traces)) }
+    ensures octets { OnOk result (outer.new.front ≡ outer.old.front
+        ++ header_of next (trace_parts (map room_of flow.now.traces) no_elements ++ direct_parts flow.now flow.now.direct seq)) }
+    ensures laid { OnOk result (outer.new.laid ≡ []) }
 {
-    let mut layout = Layout::new(alloc, next)?;
-    add_traces(alloc, &mut layout, flow.traces())?;
-    add_direct(alloc, &mut layout, flow, seq)?;
-    let head = layout.finish()?;
-    Ok(head)
+    outer.append(&[next, 0])?;
+    add_traces(outer, flow.traces())?;
+    add_direct(outer, flow, seq)?;
+    outer.finish()?;
+    Ok(())
 }
 
 // Whether the Hop-by-Hop Options header has an option.
@@ -137,37 +150,41 @@ fn has_hop(flow: &Flow, seq: Option<u32>) -> bool
     !flow.traces().is_empty() || seq.is_some()
 }
 
-/// The Hop-by-Hop Options header, or nothing where it would have no option.
-#[tactic(auto, using(crate::proofs::LayLaws::header_there, crate::proofs::LayLaws::header_none))]
+/// Lays out the Hop-by-Hop Options header, or nothing where it would have no option.
+#[tactic(auto, using(crate::proofs::LayLaws::behind_there, crate::proofs::LayLaws::behind_none))]
 pub(crate) fn lay_hop(
-    alloc: Global,
+    outer: &mut Outer,
     next: u8,
     flow: &Flow,
     seq: Option<u32>,
-) -> Result<Vec<u8>, NoMemory>
+) -> Result<(), NoMemory>
     requires flow { IsFlow flow.now }
     requires direct { IsTrue (is_some seq) → IsTrue (is_some flow.now.direct) }
-    ensures sound { IfOk result (λ head. All IsRoom (map room_of flow.now.traces)) }
-    ensures octets { IfOk result (λ head. head.items ≡ header_if next (trace_parts (map room_of flow.now.traces) no_elements ++ direct_parts flow.now flow.now.direct seq)) }
+    requires none { outer.old.laid ≡ [] }
+    ensures sound { OnOk result (All IsRoom (map room_of flow.now.traces)) }
+    ensures octets { OnOk result (outer.new.front ≡ outer.old.front
+        ++ header_if next (trace_parts (map room_of flow.now.traces) no_elements ++ direct_parts flow.now flow.now.direct seq)) }
+    ensures laid { OnOk result (outer.new.laid ≡ []) }
 {
     if !has_hop(flow, seq) {
-        return Ok(Vec::new(alloc));
+        return Ok(());
     }
-    let head = lay_hop_options(alloc, next, flow, seq)?;
-    Ok(head)
+    lay_hop_options(outer, next, flow, seq)
 }
 
-// The Destination Options header.
-fn lay_target_options(alloc: Global, flow: &Flow, numbers: &Numbers) -> Result<Vec<u8>, NoMemory>
+// Lays out the Destination Options header.
+fn lay_target_options(outer: &mut Outer, flow: &Flow, numbers: &Numbers) -> Result<(), NoMemory>
     requires flow { IsFlow flow.now }
     requires number { numbers.now.number < 4294967296 }
-    ensures { IfOk result (λ head. head.items ≡ header_of 41 (limit_parts numbers.now.limit ++ edge_parts flow.now.namespace flow.now.edge numbers.now)) }
+    requires none { outer.old.laid ≡ [] }
+    ensures octets { OnOk result (outer.new.front ≡ outer.old.front
+        ++ header_of 41 (limit_parts numbers.now.limit ++ edge_parts flow.now.namespace flow.now.edge numbers.now)) }
+    ensures laid { OnOk result (outer.new.laid ≡ []) }
 {
-    let mut layout = Layout::new(alloc, 41)?;
-    add_limit(&mut layout, numbers.limit)?;
-    add_edge(alloc, &mut layout, flow, numbers)?;
-    let head = layout.finish()?;
-    Ok(head)
+    outer.append(&[41, 0])?;
+    add_limit(outer, numbers.limit)?;
+    add_edge(outer, flow, numbers)?;
+    outer.finish()
 }
 
 // Whether the Destination Options header has an option.
@@ -177,20 +194,18 @@ fn has_targets(flow: &Flow, numbers: &Numbers) -> bool
     numbers.limit.is_some() || flow.edge.is_some()
 }
 
-/// The Destination Options header, or nothing where it would have no option.
-#[tactic(auto, using(crate::proofs::LayLaws::header_there, crate::proofs::LayLaws::header_none))]
-pub(crate) fn lay_targets(
-    alloc: Global,
-    flow: &Flow,
-    numbers: &Numbers,
-) -> Result<Vec<u8>, NoMemory>
+/// Lays out the Destination Options header, or nothing where it would have no option.
+#[tactic(auto, using(crate::proofs::LayLaws::behind_there, crate::proofs::LayLaws::behind_none))]
+pub(crate) fn lay_targets(outer: &mut Outer, flow: &Flow, numbers: &Numbers) -> Result<(), NoMemory>
     requires flow { IsFlow flow.now }
     requires number { numbers.now.number < 4294967296 }
-    ensures { IfOk result (λ head. head.items ≡ header_if 41 (limit_parts numbers.now.limit ++ edge_parts flow.now.namespace flow.now.edge numbers.now)) }
+    requires none { outer.old.laid ≡ [] }
+    ensures octets { OnOk result (outer.new.front ≡ outer.old.front
+        ++ header_if 41 (limit_parts numbers.now.limit ++ edge_parts flow.now.namespace flow.now.edge numbers.now)) }
+    ensures laid { OnOk result (outer.new.laid ≡ []) }
 {
     if !has_targets(flow, numbers) {
-        return Ok(Vec::new(alloc));
+        return Ok(());
     }
-    let head = lay_target_options(alloc, flow, numbers)?;
-    Ok(head)
+    lay_target_options(outer, flow, numbers)
 }

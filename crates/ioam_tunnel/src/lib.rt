@@ -8,6 +8,7 @@ mod inside;
 mod laying;
 mod limit;
 mod numbers;
+mod outer;
 mod sizes;
 
 pub use enclosing::enclose;

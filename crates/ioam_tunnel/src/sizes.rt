@@ -78,8 +78,8 @@ fn size_to(end: usize) -> usize
     if end == 2 { 0 } else { padded(end) }
 }
 
-// The size of the Hop-by-Hop Options header.
-fn hop_size(flow: &Flow, direct: bool) -> usize
+/// The size of the Hop-by-Hop Options header.
+pub(crate) fn hop_size(flow: &Flow, direct: bool) -> usize
     requires { IsFlow flow.now }
     ensures value { result ≡ header_size (map trace_size flow.now.traces ++ direct_sizes direct) }
     ensures small { result ≤ 809 }
@@ -87,8 +87,8 @@ fn hop_size(flow: &Flow, direct: bool) -> usize
     size_to(direct_end(traces_end(flow.traces()), direct))
 }
 
-// The size of the Destination Options header.
-fn target_size(edge: Option<u16>, limit: bool) -> usize
+/// The size of the Destination Options header.
+pub(crate) fn target_size(edge: Option<u16>, limit: bool) -> usize
     ensures value { result ≡ header_size (limit_sizes limit ++ edge_sizes edge) }
     ensures small { result ≤ 43 }
 {

@@ -1,52 +1,49 @@
-use Rattle.std.proofs.Common.{◌≡◌, ◌+◌, ◌-◌, ◌++◌, [], length, cond, eqb, ℕ, List, slice_index, sym, ap, ◌∙◌, subst, arith}
+use Rattle.std.proofs.Common.{◌≡◌, ◌+◌, ◌-◌, ◌++◌, [], length, cond, eqb, ℕ, List, map, slice_index, append_assoc, refl, sym, ap, ◌∙◌, arith}
 use Rattle.std.proofs.lemmas.List.{length-set}
+use Rattle.ioam_ip.specs.Laid.{header_if}
 use Rattle.ioam_ip.specs.Lowered.{lowered}
+use Rattle.ioam_ip.specs.Sizes.{header_size}
 use Rattle.ioam_tunnel.specs.Enclosed.{tunnel_between}
-use Rattle.ioam_tunnel.specs.Wire.{outer_start, addresses, outer_header}
-use Rattle.ioam_tunnel.proofs.EncloseLaws.{joined, whole-length, payload-fits, IsTunnel-between}
+use Rattle.ioam_tunnel.specs.Size.{trace_size, direct_sizes, limit_sizes, edge_sizes}
+use Rattle.ioam_tunnel.specs.Wire.{outer_start, addresses, outer_header, hop_parts, no_elements}
+use Rattle.ioam_tunnel.proofs.EncloseLaws.{joined, hop-length, target-length, whole-length, IsTunnel-between}
 use Rattle.ioam_tunnel.proofs.enclosing.enclose_between.Goals as goal
-
--- the headers and the packet fit a payload
-pub overflow_add-payload-2 : goal.overflow_add-payload-2
-overflow_add-payload-2 c =
-    omega (
-      arith,
-      c.len.ensures,
-      c.len-2.ensures,
-      payload-fits c.args.ends.source c.args.ends.target c.args.flow.now c.args.numbers.now c.args.packet.now c.requires.flow c.requires.may
-          c.value_in_front-next.result c.in_ok-hop.hop.items c.in_ok-targets.targets.items c.in_ok-hop.ensures.octets c.in_ok-targets.ensures,
-    )
-
-pub overflow_cast-payload : goal.overflow_cast-payload
-overflow_cast-payload c =
-    omega (
-      arith,
-      c.len.ensures,
-      c.len-2.ensures,
-      payload-fits c.args.ends.source c.args.ends.target c.args.flow.now c.args.numbers.now c.args.packet.now c.requires.flow c.requires.may
-          c.value_in_front-next.result c.in_ok-hop.hop.items c.in_ok-targets.targets.items c.in_ok-hop.ensures.octets c.in_ok-targets.ensures,
-    )
 
 pub returns-clause-wire : goal.returns-clause-wire
 returns-clause-wire c =
+    let source = c.args.ends.source in
+    let target = c.args.ends.target in
+    let flow = c.args.flow.now in
+    let numbers = c.args.numbers.now in
     let packet = c.args.packet.now in
-    let tunnel = tunnel_between c.args.ends.source c.args.ends.target c.args.flow.now c.args.numbers.now packet in
-    let hop = c.in_ok-hop.hop.items in
-    let targets = c.in_ok-targets.targets.items in
+    let tunnel = tunnel_between source target flow numbers packet in
     let next = c.value_in_front-next.result in
-    let first = c.value_in_front-first.result in
-    let payload : ℕ = c.len.result + c.len-2.result + length packet in
+    let first = c.value_in_front.result in
+    let hop : List ℕ = header_if next (hop_parts tunnel no_elements) in
+    let targets : List ℕ = header_if 41 tunnel.targets in
+    let payload : ℕ = c.hop_size-hop.result + c.target_size-targets.result + length packet in
+    let hop_is : c.hop_size-hop.result ≡ length hop =
+    c.hop_size-hop.ensures.value
+    ∙ ap (λ b. header_size (map trace_size flow.traces ++ direct_sizes b)) c.is_some.ensures
+    ∙ sym (hop-length source target flow numbers packet c.requires.flow c.requires.may next) in
+    let targets_is : c.target_size-targets.result ≡ length targets =
+    c.target_size-targets.ensures.value
+    ∙ ap (λ b. header_size (limit_sizes b ++ edge_sizes flow.edge)) c.is_some-2.ensures
+    ∙ sym (target-length source target flow numbers packet c.requires.flow c.requires.may) in
     let long : payload ≡ length hop + length targets + length (lowered 1 packet) =
-    omega (arith, c.len.ensures, c.len-2.ensures, c.as_slice.ensures.len, ap length c.as_slice.ensures.value, c.as_slice-2.ensures.len, ap length c.as_slice-2.ensures.value, length-set packet 7 (slice_index packet 7 - 1)) in
-    let class : outer_start c.class_of.result tunnel.label payload first tunnel.hops ++ addresses tunnel.source tunnel.target ≡ outer_header tunnel payload first tunnel.hops =
-    ap (λ k. outer_start k tunnel.label payload first tunnel.hops ++ addresses tunnel.source tunnel.target) c.class_of.ensures in
+    omega (arith, hop_is, targets_is, length-set packet 7 (slice_index packet 7 - 1)) in
+    let head : List ℕ = outer_header tunnel payload first tunnel.hops in
+    let class : outer_start c.class_of.result tunnel.label payload first tunnel.hops ++ addresses source target ≡ head =
+    ap (λ k. outer_start k tunnel.label payload first tunnel.hops ++ addresses source target) c.class_of.ensures in
     c.in_ok-out.ensures
-    ∙ (λ i. (c.outer-head.ensures.octets ∙ class) i ++ (c.as_slice-3.ensures.value i ++ (c.as_slice-4.ensures.value i ++ lowered 1 packet)))
-    ∙ joined tunnel hop targets next first payload
-    c.in_ok-targets.ensures
-    (c.value_in_front-next.ensures ∙ ap (λ xs. cond (eqb (length xs) 0) 41 60) c.as_slice.ensures.value)
-    c.in_ok-hop.ensures.octets
-    (c.value_in_front-first.ensures ∙ ap (λ xs. cond (eqb (length xs) 0) next 0) c.as_slice-2.ensures.value)
+    ∙ ap (λ xs. xs ++ lowered 1 packet) (c.in_ok-lay_targets.ensures.octets
+    ∙ ap (λ xs. xs ++ targets) (c.in_ok-lay_hop.ensures.octets
+    ∙ ap (λ xs. xs ++ hop) (c.in_ok-outer.ensures.front ∙ c.head_of-head.ensures.octets ∙ class)))
+    ∙ append_assoc (head ++ hop) targets (lowered 1 packet) ∙ append_assoc head hop (targets ++ lowered 1 packet)
+    ∙ joined tunnel hop targets next first payload refl
+    (c.value_in_front-next.ensures ∙ ap (λ n. cond (eqb n 0) 41 60) targets_is)
+    refl
+    (c.value_in_front.ensures ∙ ap (λ n. cond (eqb n 0) next 0) hop_is)
     long
 
 pub returns-clause-size : goal.returns-clause-size
@@ -57,4 +54,4 @@ returns-clause-size c =
 pub returns-clause-tunnel : goal.returns-clause-tunnel
 returns-clause-tunnel c =
     IsTunnel-between c.args.ends.source c.args.ends.target c.args.flow.now c.args.numbers.now c.args.packet.now c.requires.flow c.requires.may
-    c.outer-head.ensures.hops c.in_ok-hop.ensures.sound
+    c.head_of-head.ensures.hops c.in_ok-lay_hop.ensures.sound

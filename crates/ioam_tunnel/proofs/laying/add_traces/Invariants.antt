@@ -7,8 +7,9 @@ use Rattle.ioam_tunnel.proofs.laying.add_traces.Given as goal
 
 abbrev pub invariant-loop-trace : goal.invariant-loop-trace
 invariant-loop-trace l = record {
-  laid : laid_with l.layout (trace_parts (map room_of (drop l.trace-index l.traces)) no_elements)
-      ≡ laid_with l.initial.layout (trace_parts (map room_of l.traces) no_elements);
-  long : length l.layout ≤ 2 + 259 * l.trace-index;
+  laid : laid_with l.outer.laid (trace_parts (map room_of (drop l.trace-index l.traces)) no_elements)
+      ≡ laid_with l.initial.outer.laid (trace_parts (map room_of l.traces) no_elements);
+  front : l.outer.front ≡ l.initial.outer.front;
+  long : length l.outer.laid ≤ 2 + 259 * l.trace-index;
   sound : All IsRoom (map room_of (drop l.trace-index l.traces)) → All IsRoom (map room_of l.traces);
 }
