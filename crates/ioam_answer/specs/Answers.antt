@@ -128,8 +128,17 @@ readings_text fault = codes "readings " ++ decimal fault.line ++ codes " " ++ re
 
 abbrev pub fault_text : CapFault → List ℕ
 fault_text (fault.Magic found) = codes "magic " ++ decimal found
+fault_text (fault.Blocks limit) = codes "blocks " ++ decimal limit
+fault_text (fault.Order found) = codes "order " ++ decimal found
+fault_text (fault.Large found) = codes "large " ++ decimal found
+fault_text (fault.Size found) = codes "size " ++ decimal found
+fault_text (fault.Trail found) = codes "trail " ++ decimal found
+fault_text (fault.Kind found) = codes "kind " ++ decimal found
+fault_text (fault.Face found) = codes "face " ++ decimal found
 fault_text (fault.Link found) = codes "link " ++ decimal found
+fault_text (fault.Resolution found) = codes "resolution " ++ decimal found
 fault_text (fault.RecordLong found) = codes "long " ++ decimal found
+fault_text (fault.Time found) = codes "time " ++ decimal found
 fault_text (fault.Short have) = codes "short " ++ decimal have
 
 abbrev pub export_text : ExportFault → List ℕ

@@ -88,8 +88,17 @@ fn fault_line(alloc: Global, fault: CapFault) -> Result<String, NoMemory>
 {
     let line = match fault {
         CapFault::Magic { found } => format!(in alloc; "magic {found}")?,
+        CapFault::Blocks { limit } => format!(in alloc; "blocks {limit}")?,
+        CapFault::Order { found } => format!(in alloc; "order {found}")?,
+        CapFault::Large { found } => format!(in alloc; "large {found}")?,
+        CapFault::Size { found } => format!(in alloc; "size {found}")?,
+        CapFault::Trail { found } => format!(in alloc; "trail {found}")?,
+        CapFault::Kind { found } => format!(in alloc; "kind {found}")?,
+        CapFault::Face { found } => format!(in alloc; "face {found}")?,
         CapFault::Link { found } => format!(in alloc; "link {found}")?,
+        CapFault::Resolution { found } => format!(in alloc; "resolution {found}")?,
         CapFault::RecordLong { found } => format!(in alloc; "long {found}")?,
+        CapFault::Time { found } => format!(in alloc; "time {found}")?,
         CapFault::Short { have } => format!(in alloc; "short {have}")?,
     };
     Ok(line)

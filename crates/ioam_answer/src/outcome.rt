@@ -26,7 +26,7 @@ pub enum Outcome {
     Readings {
         fault: ReadingsFault,
     },
-    /// A capture's head or record is faulty, at this octet of the file, counted from 0.
+    /// A capture's head, record or block is faulty, at this octet of the file, counted from 0.
     Capture {
         name: Name,
         at: u64,
