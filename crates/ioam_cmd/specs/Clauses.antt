@@ -75,7 +75,7 @@ module _ (opens tells : Bool) (words : List (List ℕ)) (old_in new_in : Reading
   Asks Paths answer = AsksNamed answer
   Asks Show answer = AsksNamed answer
   Asks Collect answer = AsksFiles (exports_file words ≢ report_file words) (exports_file words) (report_file words ∷ []) answer
-  Asks Node answer = node.Asks words old_in new_in old new answer
+  Asks Node answer = node.Asks tells words old_in new_in old new answer
   Asks (Run workers) answer = domain.Asks tells words old_in new_in old new answer
   Asks (Bulk seed count workers) answer = (new_in ≡ old_in) × AsksFront old.side.asked new.side.asked (bulk.report_file words ∷ [])
       × (IsBehindAll ⊥ answer → new.side.asked ≡ old.side.asked ++ bulk.report_file words ∷ [])
@@ -124,7 +124,7 @@ module _ (opens tells : Bool) (words : List (List ℕ)) (old_in new_in : Reading
   AreWritten (Bulk seed count workers) answer = IsBehindAll (old.side.slots < new.side.slots) answer
 
   -- what leaves a domain, in a capture, is one IPv6 packet a record, with a whole header chain without an IOAM option,
-  -- of at most 262,144 octets; what `node` sends to a port is such a packet, but for its size
+  -- of at most 262,144 octets; what `node` sends has no more, and what it sends to a port is such a packet
   abbrev pub IsBounded : Command → Type 0
   IsBounded Filter = IsSomeAnd (holds new (name_at words 2)) (IsCaptureOf MayLeave)
   IsBounded Paths = ⊤

@@ -57,7 +57,7 @@ pub fn ioam<R: Threads + Sync, D: Desk, G: Gate>(
     ensures kept_in { KeepsInputs (D.reading desk.old) (D.reading desk.new) }
     ensures kept_out { IsTrue D.tells → KeepsOutputs (D.writing desk.old) (D.writing desk.new) }
 
-    // What leaves a domain, in OUT of `filter` and the captures of the ports of `run`, is one IPv6 packet a record, with a whole header chain without an IOAM option, of at most 262,144 octets. What `node` sends to a port is such a packet too, but for its size.
+    // What leaves a domain, in OUT of `filter` and the captures of the ports of `run`, is one IPv6 packet a record, with a whole header chain without an IOAM option, of at most 262,144 octets. What `node` sends has no more, and what it sends to a port is such a packet too.
     ensures boundary { (command : Command) → IsForm command words.now → AreWritten G.opens D.tells words.now (D.reading desk.old) (D.reading desk.new) (D.writing desk.old) (D.writing desk.new) command result → IsTrue D.tells → IsBounded G.opens D.tells words.now (D.reading desk.old) (D.reading desk.new) (D.writing desk.old) (D.writing desk.new) command }
 {
     match parse(words) {

@@ -1,5 +1,5 @@
 -- What the node sends to a port is clean.
-use Rattle.std.proofs.Common.{◌≡◌, ℕ, suc, ◌+◌, ◌<◌, Bool, List, [], ◌∷◌, length, take, drop, IsSomeAnd, Option, Some, None, refl, ◌∙◌, ap, ⊎_elim, arith}
+use Rattle.std.proofs.Common.{◌≡◌, ℕ, suc, ◌+◌, ◌<◌, All, Bool, List, [], ◌∷◌, length, take, drop, IsSomeAnd, Option, Some, None, refl, ◌∙◌, ap, ⊎_elim, arith}
 use Rattle.std.specs.List.{AllByRecursion, flat_map}
 use Rattle.std.proofs.lemmas.List.Elements.{Contains-append_right}
 use Rattle.ioam_answer.specs.Outcomes.{IsBehindAll}
@@ -11,7 +11,7 @@ use Rattle.ioam_outputs.specs.Names.{AreApart, name_at}
 use Rattle.ioam_pcap.specs.Entries.{Entry}
 use Rattle.ioam_pcap.specs.Link.{is_ethernet}
 use Rattle.ioam_pcap.specs.Reads.{Whole, Faulty}
-use Rattle.ioam_pcap.specs.Text.{capture_text}
+use Rattle.ioam_pcap.specs.Text.{IsSendable, capture_text}
 use Rattle.ioam_pcap.specs.declared.form.Link.{Link}
 use Rattle.ioam_run.specs.Run.{HoldsAll, EndsSo, ArePassed, AreWhole}
 use Rattle.ioam_transit.specs.NodeText.{NodeTexts, sent_of}
@@ -49,6 +49,7 @@ three_outputs (a ∷ b ∷ c ∷ d ∷ e ∷ f ∷ g ∷ h ∷ i ∷ j ∷ more)
 -- OUT holds such a capture
 abbrev IsHeld : Seat → List ℕ → Writing → Type 0
 IsHeld seat out new = (passages : List Passage) × AllByRecursion (LeavesClean seat) passages
+    × All IsSendable (flat_map (sent_of seat) passages)
     × (holds new out ≡ Some (capture_text (flat_map (sent_of seat) passages)))
 
 clean_held : (seat : Seat) (ethernet : Bool) (entries : List Entry) (texts : List (List ℕ)) (out report exports : List ℕ) (new : Writing)
@@ -56,7 +57,7 @@ clean_held : (seat : Seat) (ethernet : Bool) (entries : List Entry) (texts : Lis
 clean_held seat ethernet entries [] out report exports new are held = absurd are
 clean_held seat ethernet entries (a ∷ []) out report exports new are held = absurd are
 clean_held seat ethernet entries (a ∷ b ∷ []) out report exports new are held = absurd are
-clean_held seat ethernet entries (a ∷ b ∷ c ∷ []) out report exports new are held = (are.passages, are.clean, held.0 ∙ ap Some are.out_is)
+clean_held seat ethernet entries (a ∷ b ∷ c ∷ []) out report exports new are held = (are.passages, are.clean, are.fits, held.0 ∙ ap Some are.out_is)
 clean_held seat ethernet entries (a ∷ b ∷ c ∷ d ∷ texts) out report exports new are held = absurd are
 
 from_held : (seat : Seat) (most : ℕ) (held : Option (List ℕ)) (Are : Option Link → List Entry → List ℕ → Type 0) (out report exports : List ℕ) (new : Writing)

@@ -1,5 +1,5 @@
 -- How a run ends in a domain that was read.
-use Rattle.std.proofs.Common.{◌≡◌, ℕ, ◌<◌, ◌⊎◌, Bool, List, [], ◌∷◌, length, get_or, Some, None, refl, sym, ◌∙◌, ap, subst, inl, inr, ⊎_elim}
+use Rattle.std.proofs.Common.{◌≡◌, ℕ, ◌<◌, ◌≤◌, ◌⊎◌, Bool, List, [], ◌∷◌, length, get_or, Some, None, refl, sym, ◌∙◌, ap, subst, inl, inr, ⊎_elim}
 use Rattle.ioam_answer.specs.declared.outcome.Outcome.{Outcome}
 use Rattle.ioam_answer.specs.declared.outcome.Outcome.TheVariants as outcome
 use Rattle.ioam_clock.specs.declared.sample.Sample.{Sample}
@@ -75,12 +75,12 @@ ends_at tells words old_in new_in old new domain samples answer node inward name
 -- what was gathered of the words' files
 pub ran_from : (tells : Bool) (words : List (List ℕ)) (old_in new_in : Reading) (old new : Writing) (seat : Seat) (answer : Outcome)
     (most : ℕ) (input : List ℕ) (outputs : List (List ℕ)) → most ≡ seat.domain.packets → input ≡ input_file words → outputs ≡ output_files words
-    → AreApart (node_files words) → Gathered tells old_in new_in old new seat answer most input outputs → Ran tells words old_in new_in old new seat answer
-ran_from tells words old_in new_in old new seat answer most input outputs limit named listed apart gathered =
+    → AreApart (node_files words) → 1 ≤ seat.domain.packets → seat.domain.packets ≤ 16777216 → Gathered tells old_in new_in old new seat answer most input outputs → Ran tells words old_in new_in old new seat answer
+ran_from tells words old_in new_in old new seat answer most input outputs limit named listed apart some few gathered =
     let P : ℕ → Type 0 = λ m. Gathered tells old_in new_in old new seat answer m input outputs in
     let Q : List ℕ → Type 0 = λ i. Gathered tells old_in new_in old new seat answer seat.domain.packets i outputs in
     let R : List (List ℕ) → Type 0 = λ o. Gathered tells old_in new_in old new seat answer seat.domain.packets (input_file words) o in
-    record { apart = apart; gathered = subst R listed (subst Q named (subst P limit gathered)) }
+    record { apart = apart; some = some; most = few; gathered = subst R listed (subst Q named (subst P limit gathered)) }
 
 -- the six names are those of the words
 pub six_named : (a b c d e f : List ℕ) (words : List (List ℕ)) → a ≡ name_at words 1 → b ≡ name_at words 2 → c ≡ name_at words 5

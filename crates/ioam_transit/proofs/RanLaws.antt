@@ -11,10 +11,11 @@ use Rattle.ioam_desk.proofs.KeptLaws.{KeepsInputs-then, KeepsOutputs-same}
 use Rattle.ioam_run.specs.Run.{FileCause, HoldsAll, AreWhole}
 use Rattle.ioam_run.specs.Run as capture
 use Rattle.ioam_setting.specs.Setting.{IsSetting}
+use Rattle.ioam_setting.specs.declared.setting.Refusal.TheVariants as refusal
 use Rattle.ioam_topo.specs.declared.domain.Domain.{Domain}
 use Rattle.ioam_transit.specs.Ends.{Stays, Ran, RanAt, Ends}
 use Rattle.ioam_transit.specs.NodeText.{NodeTexts}
-use Rattle.ioam_transit.specs.Run.{HasCause, HaveDiffered, IsReady, IsUnfit, IsUntouched, Leaves, Owes, domain_file, readings_file, input_file, output_files}
+use Rattle.ioam_transit.specs.Run.{AreFit, HasCause, HaveDiffered, IsReady, IsUnfit, IsUntouched, Leaves, Owes, Says, domain_file, readings_file, input_file, output_files}
 use Rattle.ioam_transit.specs.Seat.{Seat}
 use Rattle.ioam_transit.proofs.RefusedLaws.{asks_wider}
 
@@ -70,6 +71,7 @@ module _ (tells : Bool) (words : List (List ℕ)) (old_in mid_in : Reading) (ope
         untouched = tt;
         domain_first = λ fault is. absurd (cc);
         no_output = λ few. refl;
+        of_domain = inl ((both, refl), (refusal.NoMemory, refl));
       };
       drained = λ done told. absurd done;
       kept_in = kept;
@@ -92,6 +94,7 @@ module _ (tells : Bool) (words : List (List ℕ)) (old_in mid_in : Reading) (ope
         untouched = (both, refl);
         domain_first = λ fault is. absurd (cc);
         no_output = λ few. refl;
+        of_domain = inr (domain, record { set = λ told. (samples, setting told); says = unfit; fit = inl (both, refl) });
       };
       drained = λ done told. absurd done;
       kept_in = kept;
@@ -162,6 +165,22 @@ module _ (tells : Bool) (words : List (List ℕ)) (old_in mid_in : Reading) (ope
   differed old new_in new seat (outcome.Domain fault) ran so = tt
   differed old new_in new seat (outcome.Readings fault) ran so = tt
 
+  says : (old : Writing) (new_in : Reading) (new : Writing) (seat : Seat) → AreFit words seat.domain → (answer : Outcome)
+      → Ran tells words mid_in new_in old new seat answer → FileCause seat.domain.packets tells (input_file words) mid_in old new_in new answer
+      → Says words seat.domain answer
+  says old new_in new seat fit outcome.Done ran so = fit
+  says old new_in new seat fit (outcome.Capture name at fault) ran so = (fit, so.0)
+  says old new_in new seat fit (outcome.Packets limit) ran so = (fit, so.0, omega (arith, so.0, ran.some), omega (arith, so.0, ran.most))
+  says old new_in new seat fit outcome.ReadFault ran so = fit
+  says old new_in new seat fit outcome.WriteFault ran so = fit
+  says old new_in new seat fit outcome.NoMemory ran so = tt
+  says old new_in new seat fit (outcome.Exports place fault) ran so = absurd so
+  says old new_in new seat fit (outcome.Records limit) ran so = absurd so
+  says old new_in new seat fit outcome.Usage ran so = absurd so
+  says old new_in new seat fit (outcome.Names name) ran so = absurd so
+  says old new_in new seat fit (outcome.Domain fault) ran so = absurd so
+  says old new_in new seat fit (outcome.Readings fault) ran so = absurd so
+
   untouched : (old : Writing) (new_in : Reading) (new : Writing) (most : ℕ) (answer : Outcome)
       → FileCause most tells (input_file words) mid_in old new_in new answer → IsUntouched words old_in new_in old new answer
   untouched old new_in new most outcome.Done so = tt
@@ -223,6 +242,14 @@ module _ (tells : Bool) (words : List (List ℕ)) (old_in mid_in : Reading) (ope
         untouched = untouched old new_in new at.seat.domain.packets answer at.ran.gathered.cause;
         domain_first = λ fault is. absurd (cause_for (outcome.Domain fault) is);
         no_output = λ few. at.ran.gathered.no_output (omega (arith, few, two_slots));
+        of_domain = inr (
+          at.seat.domain,
+          record {
+            set = λ told. (at.seat.samples, (ready told).setting);
+            says = says old new_in new at.seat (at.seat.node, at.seat.inward, at.at, at.ran.apart) answer at.ran at.ran.gathered.cause;
+            fit = inr (at.seat.node, at.seat.inward, at.at, at.ran.apart);
+          },
+        );
       };
       drained = drained;
       kept_in = KeepsInputs-then old_in mid_in new_in (omega (arith, two_slots)) kept at.ran.gathered.kept_in;

@@ -109,6 +109,7 @@ module _ (tells : Bool) (words : List (List ℕ)) (old_in new_in : Reading) (old
         untouched = untouched why asked;
         domain_first = λ fault is. first fault (domain why fault is);
         no_output = λ few. refl;
+        of_domain = inl ((asked, refl), (why, refl));
       };
       drained = λ so told. absurd (done why so);
       kept_in = kept;

@@ -39,6 +39,8 @@ module _ (tells : Bool) (words : List (List ℕ)) (old_in new_in : Reading) (old
   -- IN was gathered, and no two files have one name
   pub record Ran (seat : Seat) (answer : Outcome) : Type 0 where
     pub apart : AreApart (node_files words)
+    pub some : 1 ≤ seat.domain.packets
+    pub most : seat.domain.packets ≤ 16777216
     pub gathered : Gathered tells old_in new_in old new seat answer seat.domain.packets (input_file words) (output_files words)
 
   -- the name of a file that equals an earlier one

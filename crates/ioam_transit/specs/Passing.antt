@@ -1,10 +1,11 @@
 -- What the texts that are gathered for `node` stand for.
-use Rattle.std.specs.Prelude.{◌≡◌, ℕ, ◌+◌, List, [], ◌∷◌, ◌++◌, Bool, length, refl}
+use Rattle.std.specs.Prelude.{◌≡◌, ℕ, ◌+◌, All, List, [], ◌∷◌, ◌++◌, Bool, length, refl}
 use Rattle.std.specs.List.{AllByRecursion, flat_map}
 use Rattle.std.proofs.Common.{◌∙◌, ap, append-nil}
+use Rattle.std.proofs.lemmas.List.Elements.{All-nil}
 use Rattle.ioam_outputs.specs.Told.{said_more}
 use Rattle.ioam_pcap.specs.Entries.{Entry}
-use Rattle.ioam_pcap.specs.Text.{capture_text}
+use Rattle.ioam_pcap.specs.Text.{IsSendable, capture_text}
 use Rattle.ioam_transit.specs.NodeText.{NodeTexts, sent_of, drop_of, export_of, passage_lines, sums_line}
 use Rattle.ioam_transit.specs.Passage.{Passage, ArePassages, LeavesClean}
 use Rattle.ioam_transit.specs.Seat.{Seat, seat_of}
@@ -18,6 +19,7 @@ pub record Sorts (seat : Seat) (ethernet : Bool) (entries : List Entry) (out rep
   pub are : ArePassages seat ethernet entries passages
   pub only : (others : List Passage) → ArePassages seat ethernet entries others → others ≡ passages
   pub clean : AllByRecursion (LeavesClean seat) passages
+  pub fits : All IsSendable (flat_map (sent_of seat) passages)
   pub out_is : out ≡ capture_text (flat_map (sent_of seat) passages)
   pub report_is : report ≡ passage_lines seat 1 passages
   pub exports_is : exports ≡ flat_map (export_of seat) passages
@@ -74,6 +76,7 @@ Gathers-begins begun fresh ethernet = record {
   are = tt;
   only = no_others (seat_of begun.post) ethernet;
   clean = tt;
+  fits = All-nil IsSendable;
   out_is = refl;
   report_is = refl;
   exports_is = refl;
@@ -95,6 +98,7 @@ Gathers-any_link begun ethernet other (out ∷ report ∷ exports ∷ []) gather
   are = none_become (seat_of begun.post) ethernet other gathers.passages gathers.are;
   only = λ others are. gathers.only others (none_become (seat_of begun.post) other ethernet others are);
   clean = gathers.clean;
+  fits = gathers.fits;
   out_is = gathers.out_is;
   report_is = gathers.report_is;
   exports_is = gathers.exports_is;
@@ -114,6 +118,7 @@ Gathers-ends begun ethernet entries (out ∷ report ∷ exports ∷ []) gathered
   are = gathers.are;
   only = gathers.only;
   clean = gathers.clean;
+  fits = gathers.fits;
   out_is = append-nil out ∙ gathers.out_is;
   report_is = ap (λ (lines : List ℕ). lines ++ sums_line gathered.sent gathered.dropped) gathers.report_is
       ∙ ap (λ (sent : ℕ). passage_lines (seat_of begun.post) 1 gathers.passages ++ sums_line sent gathered.dropped) gathers.sent_is
@@ -132,6 +137,7 @@ empty-texts begun ethernet = record {
   are = tt;
   only = no_others (seat_of begun.post) ethernet;
   clean = tt;
+  fits = All-nil IsSendable;
   out_is = refl;
   report_is = refl;
   exports_is = refl;

@@ -1,10 +1,11 @@
 -- What `node DOMAIN READINGS NODE LINK IN OUT REPORT EXPORTS` answers and leaves: the packets of the capture IN come to
 -- NODE by LINK, and it sends them on.
-use Rattle.std.specs.Prelude.{◌≡◌, ◌≢◌, ℕ, ◌+◌, ◌<◌, ◌⊎◌, ⊤, Bool, IsTrue, IsSomeAnd, nat_eq, if◌then◌else◌, List, [], ◌∷◌, ◌++◌, slice_get, Option, Some, None, option_and_then}
+use Rattle.std.specs.Prelude.{◌≡◌, ◌≢◌, ℕ, ◌+◌, ◌<◌, ◌≤◌, ◌⊎◌, ⊤, All, Bool, IsTrue, IsSomeAnd, nat_eq, if◌then◌else◌, List, [], ◌∷◌, ◌++◌, slice_get, Option, Some, None, option_and_then}
 use Rattle.std.specs.List.{AllByRecursion, flat_map}
 use Rattle.ioam_answer.specs.Outcomes.{IsDone, IsBehindAll}
 use Rattle.ioam_answer.specs.declared.outcome.Outcome.{Outcome}
 use Rattle.ioam_answer.specs.declared.outcome.Outcome.TheVariants as outcome
+use Rattle.ioam_clock.specs.declared.sample.Sample.{Sample}
 use Rattle.ioam_desk.specs.Asked.{AsksFront}
 use Rattle.ioam_desk.specs.Desk.{Reading, Writing, Rose, holds}
 use Rattle.ioam_desk.specs.Kept.{KeepsInputs, KeepsOutputs}
@@ -12,7 +13,7 @@ use Rattle.ioam_entries.specs.declared.fault.DomainFault.{DomainFault}
 use Rattle.ioam_outputs.specs.Names.{name_at, AreApart, IsFirstRepeat}
 use Rattle.ioam_pcap.specs.Entries.{Entry}
 use Rattle.ioam_pcap.specs.Reads.{Whole, Faulty}
-use Rattle.ioam_pcap.specs.Text.{capture_text}
+use Rattle.ioam_pcap.specs.Text.{IsSendable, capture_text}
 use Rattle.ioam_pcap.specs.declared.form.Link.{Link as LinkType}
 use Rattle.ioam_run.specs.Run.{IsInput, IsLong, HoldsAll, HoldsFronts, EndsSo, ArePassed, AreWhole}
 use Rattle.ioam_setting.specs.Setting.{HasDomainFault, HasReadingsFault, IsSetting}
@@ -89,6 +90,26 @@ module _ (words : List (List ℕ)) where
   -- the first of these
   abbrev pub IsUnfit : Domain → List ℕ → Type 0
   IsUnfit domain name = NamesNoNode domain name ⊎ (NamesNoLink domain name ⊎ NamesTwice domain name)
+
+  -- both are fit, and the files differ
+  abbrev pub AreFit : Domain → Type 0
+  AreFit domain = (node : NodeId) × (inward : ℕ) × IsAt domain node inward × AreApart (node_files words)
+
+  -- What an answer says of the domain that was read: NODE and LINK name what it has and the files differ, but for the first
+  -- name of which this isn't so; and the limit is the domain's.
+  abbrev pub Says : Domain → Outcome → Type 0
+  Says domain (outcome.Names name) = IsUnfit domain name
+  Says domain (outcome.Packets limit) = AreFit domain × (limit ≡ domain.packets) × (1 ≤ limit) × (limit ≤ 16777216)
+  Says domain (outcome.Capture name at fault) = AreFit domain × (name ≡ input_file words)
+  Says domain outcome.Done = AreFit domain
+  Says domain outcome.ReadFault = AreFit domain
+  Says domain outcome.WriteFault = AreFit domain
+  Says domain outcome.NoMemory = ⊤
+  Says domain outcome.Usage = ⊥
+  Says domain (outcome.Domain fault) = ⊥
+  Says domain (outcome.Readings fault) = ⊥
+  Says domain (outcome.Exports place fault) = ⊥
+  Says domain (outcome.Records limit) = ⊥
 
   module _ (desk : Writing) where
     -- DOMAIN holds the domain, READINGS the readings of its nodes, NODE and LINK say where the packets come, and no two files
@@ -203,30 +224,44 @@ module _ (words : List (List ℕ)) where
     IsUntouched outcome.WriteFault = ⊤
     IsUntouched outcome.NoMemory = ⊤
 
-    -- the names that were given to the opening calls: a front of DOMAIN, READINGS and IN, and of the outputs; and those where
-    -- the answer comes once the outputs were written
-    pub record Asks (answer : Outcome) : Type 0 where
-      pub front_in : AsksFront old_in.side.asked new_in.side.asked (domain_file words ∷ readings_file words ∷ input_file words ∷ [])
-      pub front_out : AsksFront old.side.asked new.side.asked (output_files words)
-      pub all_in : IsBehindAll ⊥ answer → new_in.side.asked ≡ old_in.side.asked ++ domain_file words ∷ readings_file words ∷ input_file words ∷ []
-      pub all_out : IsBehindAll ⊥ answer → new.side.asked ≡ old.side.asked ++ output_files words
-      pub untouched : IsUntouched answer
-      pub domain_first : (fault : DomainFault) → answer ≡ outcome.Domain fault
-          → AsksFront old_in.side.asked new_in.side.asked (domain_file words ∷ [])
-      pub no_output : new_in.side.slots < old_in.side.slots + 3 → new ≡ old
-
     -- DOMAIN, READINGS and IN were read to their ends
     abbrev pub AreDrained : Type 0
     AreDrained = IsTrue (new_in.ended old_in.side.slots) × IsTrue (new_in.ended (old_in.side.slots + 1))
         × IsTrue (new_in.ended (old_in.side.slots + 2))
 
-    -- OUT is a capture of what the node sends of packets that came, and what leaves by a port is one IPv6 packet, with a whole
-    -- chain and without IOAM
+    -- OUT is a capture of what the node sends of packets that came, each of at most 262,144 octets, and what leaves by a port is
+    -- one IPv6 packet, with a whole chain and without IOAM
     abbrev pub IsBounded : Type 0
     IsBounded = (seat : Seat) × IsReady old seat × ((passages : List Passage) × AllByRecursion (LeavesClean seat) passages
+        × All IsSendable (flat_map (sent_of seat) passages)
         × (holds new (name_at words 6) ≡ Some (capture_text (flat_map (sent_of seat) passages))))
 
 module _ (tells : Bool) (words : List (List ℕ)) (old_in new_in : Reading) (old new : Writing) where
+  -- the answer is one over this domain, which DOMAIN holds where the desk tells; IN and outputs were opened only where NODE and
+  -- LINK are fit in it and the files differ
+  pub record IsOver (answer : Outcome) (domain : Domain) : Type 0 where
+    pub set : IsTrue tells → (samples : List (List Sample)) × IsSetting old (domain_file words) (readings_file words) domain samples
+    pub says : Says words domain answer
+    pub fit : OpensNone words old_in new_in old new ⊎ AreFit words domain
+
+  -- what a run is set by was refused, or the answer is one over a domain
+  abbrev pub IsOfDomain : Outcome → Type 0
+  IsOfDomain answer = (OpensNone words old_in new_in old new × ((why : Refusal) × (answer ≡ refused_as why)))
+      ⊎ ((domain : Domain) × IsOver answer domain)
+
+  -- The names that were given to the opening calls, whatever the desk tells: a front of DOMAIN, READINGS and IN, and of the
+  -- outputs; and those where the answer comes once the outputs were written. And what the answer says of the domain.
+  pub record Asks (answer : Outcome) : Type 0 where
+    pub front_in : AsksFront old_in.side.asked new_in.side.asked (domain_file words ∷ readings_file words ∷ input_file words ∷ [])
+    pub front_out : AsksFront old.side.asked new.side.asked (output_files words)
+    pub all_in : IsBehindAll ⊥ answer → new_in.side.asked ≡ old_in.side.asked ++ domain_file words ∷ readings_file words ∷ input_file words ∷ []
+    pub all_out : IsBehindAll ⊥ answer → new.side.asked ≡ old.side.asked ++ output_files words
+    pub untouched : IsUntouched words old_in new_in old new answer
+    pub domain_first : (fault : DomainFault) → answer ≡ outcome.Domain fault
+        → AsksFront old_in.side.asked new_in.side.asked (domain_file words ∷ [])
+    pub no_output : new_in.side.slots < old_in.side.slots + 3 → new ≡ old
+    pub of_domain : IsOfDomain answer
+
   -- what a run owes for its answer: its cause, what was opened and read, and what the files hold
   pub record Owes (answer : Outcome) : Type 0 where
     pub read_fault : answer ≡ outcome.ReadFault → Rose old_in.side.faults new_in.side.faults
@@ -235,7 +270,7 @@ module _ (tells : Bool) (words : List (List ℕ)) (old_in new_in : Reading) (old
     pub differed : HaveDiffered words answer
     pub cause : IsTrue tells → HasCause words old_in new_in old new answer
     pub leaves : IsTrue tells → Leaves words old_in new_in old new answer
-    pub asks : Asks words old_in new_in old new answer
+    pub asks : Asks answer
     pub drained : IsDone answer → IsTrue tells → AreDrained words old_in new_in old new
     pub kept_in : KeepsInputs old_in new_in
     pub kept_out : IsTrue tells → KeepsOutputs old new

@@ -47,11 +47,11 @@ pub fn run_node<D: Desk>(alloc: Global, words: &[Name], desk: &mut D) -> Outcome
         → (Rose (D.reading desk.old).side.faults (D.reading desk.new).side.faults → ⊥)
         → (Rose (D.writing desk.old).side.faults (D.writing desk.new).side.faults → ⊥)
         → (result ≡ asked) ⊎ (result ≡ Outcome.NoMemory) }
-    // The names that were opened: READINGS isn't where DOMAIN is refused, IN and the outputs where anything is, and no output before IN.
-    ensures asks { Asks words.now (D.reading desk.old) (D.reading desk.new) (D.writing desk.old) (D.writing desk.new) result }
+    // The names that were opened: READINGS isn't where DOMAIN is refused, IN and the outputs where anything is, and no output before IN. Told or not, the answer is of one domain: a name that is answered is unfit in it, and a limit is its own.
+    ensures asks { Asks D.tells words.now (D.reading desk.old) (D.reading desk.new) (D.writing desk.old) (D.writing desk.new) result }
     ensures drained { IsDone result → IsTrue D.tells
         → AreDrained words.now (D.reading desk.old) (D.reading desk.new) (D.writing desk.old) (D.writing desk.new) }
-    // What the node sends to a port is one IPv6 packet, with a whole header chain and without an IOAM option.
+    // What the node sends has at most 262,144 octets, and what it sends to a port is one IPv6 packet, with a whole header chain and without an IOAM option.
     ensures boundary { IsBehindAll ((D.writing desk.old).side.slots < (D.writing desk.new).side.slots) result → IsTrue D.tells
         → IsBounded words.now (D.reading desk.old) (D.reading desk.new) (D.writing desk.old) (D.writing desk.new) }
     // Input slots that were there, and where the desk tells output slots that were there and names that weren't opened to be written, are as they were.

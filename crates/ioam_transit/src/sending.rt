@@ -165,6 +165,7 @@ impl Post<'_> {
         requires can_go { CanGo (seat_of self.now) way packet.now }
         ensures adds { OnOk result (Adds outputs.old outputs.new (added_of (seat_of self.now) number (Goes time way packet.now))) }
         ensures clean { OnOk result (LeavesClean (seat_of self.now) (Goes time way packet.now)) }
+        ensures fits { OnOk result (length (passed_on (seat_of self.now) time way packet.now) ≤ most) }
     {
         let sent = self.pass(alloc, time, way, packet)?;
         put_all(number, time, way_name(self.domain, way), &sent, outputs)?;

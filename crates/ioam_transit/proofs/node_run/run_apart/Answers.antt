@@ -21,6 +21,7 @@ returns g c =
           (seat_at c.args.setting.now.domain c.args.setting.now.readings c.args.node c.args.inward) c.run_capture.result
           _ _ _ c.packets-limit.ensures.value (found_name words 5 _ c.index-words-5.is (omega (arith, c.requires.words)))
           (take_rest words 6 ∙ three_outputs words c.requires.words) c.requires.apart
+          (omega (arith, c.packets-limit.ensures.some, c.packets-limit.ensures.value)) (omega (arith, c.packets-limit.ensures.most, c.packets-limit.ensures.value))
           (record {
             cause = c.run_capture.ensures.cause;
             leaves = c.run_capture.ensures.leaves;

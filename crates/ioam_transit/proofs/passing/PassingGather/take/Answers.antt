@@ -1,5 +1,7 @@
-use Rattle.std.proofs.Common.{refl, ◌+◌, arith}
+use Rattle.std.proofs.Common.{[], refl, ◌+◌, arith}
+use Rattle.std.proofs.lemmas.List.Elements.{All-nil, All-cons}
 use Rattle.ioam_pcap.specs.Reader.{entry_of}
+use Rattle.ioam_pcap.specs.Text.{IsSendable}
 use Rattle.ioam_transit.specs.NodeText.{added_of}
 use Rattle.ioam_transit.specs.Passage.{Goes, Drops}
 use Rattle.ioam_transit.specs.Seat.{seat_of}
@@ -14,7 +16,7 @@ returns-in_ok-send-in-Goes-clause-gathers c = (
       (record { alloc = c.args.self.now.alloc; post = c.args.self.now.post; sent = c.args.self.now.sent + 1; dropped = c.args.self.now.dropped })
       (entry_of c.args.captured.now) (Goes c.args.captured.now.time c.in-Goes.way c.in-Goes.packet.now)
       (c.args.self.now.sent + c.args.self.now.dropped + 1) refl refl
-      c.in-Goes.ensures.passage c.in_ok-send-in-Goes.ensures.clean refl (omega arith),
+      c.in-Goes.ensures.passage c.in_ok-send-in-Goes.ensures.clean (All-cons IsSendable _ [] c.in_ok-send-in-Goes.ensures.fits (All-nil IsSendable)) refl (omega arith),
 )
 
 pub returns-in_ok-put_drop-in-Drops-clause-gathers : goal.returns-in_ok-put_drop-in-Drops-clause-gathers
@@ -24,5 +26,5 @@ returns-in_ok-put_drop-in-Drops-clause-gathers c = (
   Gathers-push c.args.ethernet c.args.self.now
       (record { alloc = c.args.self.now.alloc; post = c.args.self.now.post; sent = c.args.self.now.sent; dropped = c.args.self.now.dropped + 1 })
       (entry_of c.args.captured.now) (Drops c.in-Drops.reason)
-      (c.args.self.now.sent + c.args.self.now.dropped + 1) refl refl c.in-Drops.ensures.passage tt (omega arith) refl,
+      (c.args.self.now.sent + c.args.self.now.dropped + 1) refl refl c.in-Drops.ensures.passage tt (All-nil IsSendable) (omega arith) refl,
 )
