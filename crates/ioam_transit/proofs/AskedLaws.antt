@@ -7,8 +7,8 @@ use Rattle.ioam_desk.specs.Desk.{Reading, Writing, Rose, holds}
 use Rattle.ioam_domain_file.specs.File.{Agree}
 use Rattle.ioam_outputs.proofs.NamesLaws.{first_unique}
 use Rattle.ioam_outputs.specs.Names.{AreApart, name_at}
-use Rattle.ioam_pcap.specs.Reads.{Ending, Faulty}
-use Rattle.ioam_pcap.specs.Reads.{Whole as Ended}
+use Rattle.ioam_pcap.specs.Ending.{Ending, Faulty}
+use Rattle.ioam_pcap.specs.Ending.{Whole as Ended}
 use Rattle.ioam_run.specs.Run.{IsInput, IsLong}
 use Rattle.ioam_run.proofs.AskedLaws.{held_ending, too_long, whole_or_faulty, not_apart}
 use Rattle.ioam_setting.specs.Setting.{HasDomain}

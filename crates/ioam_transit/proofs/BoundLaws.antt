@@ -1,5 +1,5 @@
 -- What the node sends to a port is clean.
-use Rattle.std.proofs.Common.{◌≡◌, ℕ, suc, ◌+◌, ◌<◌, All, Bool, List, [], ◌∷◌, length, take, drop, IsSomeAnd, Option, Some, None, refl, ◌∙◌, ap, ⊎_elim, arith}
+use Rattle.std.proofs.Common.{◌≡◌, ℕ, suc, ◌+◌, ◌<◌, All, List, [], ◌∷◌, length, take, drop, IsSomeAnd, Option, Some, None, refl, ◌∙◌, ap, ⊎_elim, arith}
 use Rattle.std.specs.List.{AllByRecursion, flat_map}
 use Rattle.std.proofs.lemmas.List.Elements.{Contains-append_right}
 use Rattle.ioam_answer.specs.Outcomes.{IsBehindAll}
@@ -8,11 +8,9 @@ use Rattle.ioam_answer.specs.declared.outcome.Outcome.TheVariants as outcome
 use Rattle.ioam_desk.specs.Desk.{Reading, Writing, holds}
 use Rattle.ioam_outputs.specs.Held.{HoldTexts}
 use Rattle.ioam_outputs.specs.Names.{AreApart, name_at}
-use Rattle.ioam_pcap.specs.Entries.{Entry}
-use Rattle.ioam_pcap.specs.Link.{is_ethernet}
-use Rattle.ioam_pcap.specs.Reads.{Whole, Faulty}
+use Rattle.ioam_pcap.specs.Ending.{Whole, Faulty}
+use Rattle.ioam_pcap.specs.Entries.{Taken}
 use Rattle.ioam_pcap.specs.Text.{IsSendable, capture_text}
-use Rattle.ioam_pcap.specs.declared.form.Link.{Link}
 use Rattle.ioam_run.specs.Run.{HoldsAll, EndsSo, ArePassed, AreWhole}
 use Rattle.ioam_transit.specs.NodeText.{NodeTexts, sent_of}
 use Rattle.ioam_transit.specs.Passage.{Passage, LeavesClean}
@@ -52,22 +50,22 @@ IsHeld seat out new = (passages : List Passage) × AllByRecursion (LeavesClean s
     × All IsSendable (flat_map (sent_of seat) passages)
     × (holds new out ≡ Some (capture_text (flat_map (sent_of seat) passages)))
 
-clean_held : (seat : Seat) (ethernet : Bool) (entries : List Entry) (texts : List (List ℕ)) (out report exports : List ℕ) (new : Writing)
-    → NodeTexts seat ethernet entries texts → HoldTexts new (out ∷ report ∷ exports ∷ []) texts → IsHeld seat out new
-clean_held seat ethernet entries [] out report exports new are held = absurd are
-clean_held seat ethernet entries (a ∷ []) out report exports new are held = absurd are
-clean_held seat ethernet entries (a ∷ b ∷ []) out report exports new are held = absurd are
-clean_held seat ethernet entries (a ∷ b ∷ c ∷ []) out report exports new are held = (are.passages, are.clean, are.fits, held.0 ∙ ap Some are.out_is)
-clean_held seat ethernet entries (a ∷ b ∷ c ∷ d ∷ texts) out report exports new are held = absurd are
+clean_held : (seat : Seat) (taken : List Taken) (texts : List (List ℕ)) (out report exports : List ℕ) (new : Writing)
+    → NodeTexts seat taken texts → HoldTexts new (out ∷ report ∷ exports ∷ []) texts → IsHeld seat out new
+clean_held seat taken [] out report exports new are held = absurd are
+clean_held seat taken (a ∷ []) out report exports new are held = absurd are
+clean_held seat taken (a ∷ b ∷ []) out report exports new are held = absurd are
+clean_held seat taken (a ∷ b ∷ c ∷ []) out report exports new are held = (are.passages, are.clean, are.fits, held.0 ∙ ap Some are.out_is)
+clean_held seat taken (a ∷ b ∷ c ∷ d ∷ texts) out report exports new are held = absurd are
 
-from_held : (seat : Seat) (most : ℕ) (held : Option (List ℕ)) (Are : Option Link → List Entry → List ℕ → Type 0) (out report exports : List ℕ) (new : Writing)
+from_held : (seat : Seat) (most : ℕ) (held : Option (List ℕ)) (Are : List Taken → List ℕ → Type 0) (out report exports : List ℕ) (new : Writing)
     → IsSomeAnd held (HoldsAll most (NodeTexts seat) (out ∷ report ∷ exports ∷ []) Are new) → IsHeld seat out new
 from_held seat most None Are out report exports new all = absurd all
 from_held seat most (Some octets) Are out report exports new all =
-    clean_held seat (is_ethernet all.link) all.entries all.texts out report exports new all.texts_are all.held
+    clean_held seat all.taken all.texts out report exports new all.texts_are all.held
 
 module _ (words : List (List ℕ)) (old_in new_in : Reading) (old new : Writing) where
-  of_all : (Are : Seat → Option Link → List Entry → List ℕ → Type 0) → Holds words old_in new_in old new Are → IsBounded words old_in new_in old new
+  of_all : (Are : Seat → List Taken → List ℕ → Type 0) → Holds words old_in new_in old new Are → IsBounded words old_in new_in old new
   of_all Are all = (all.0, all.1, from_held all.0 all.0.domain.packets (holds old (input_file words)) (Are all.0) (name_at words 6) (name_at words 7) (name_at words 8) new all.2)
 
   -- each packet that the node sends to a port may leave a domain

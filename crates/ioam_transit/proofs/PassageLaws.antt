@@ -2,8 +2,8 @@
 use Rattle.std.proofs.Common.{◌≡◌, ◌↔◌, ℕ, ◌≤◌, Bool, true, false, IsTrue, List, [], ◌∷◌, ◌++◌, length, arith, refl, sym, ap, ◌∙◌, subst, inl, inr}
 use Rattle.std.proofs.lemmas.Bool.{false≢true}
 use Rattle.ioam_ip.specs.Framing.{Framing, Holds, NoIpv6, CutShort, TooShort}
-use Rattle.ioam_pcap.specs.Entries.{Entry}
-use Rattle.ioam_run.specs.Verdict.{entry_framing}
+use Rattle.ioam_pcap.specs.Entries.{Taken}
+use Rattle.ioam_run.specs.Verdict.{taken_framing}
 use Rattle.ioam_transit.specs.Judged.{IsFit}
 use Rattle.ioam_transit.specs.declared.judging.Judged.{Judged}
 use Rattle.ioam_transit.specs.declared.judging.Judged.TheVariants as judged
@@ -33,39 +33,39 @@ module _ (seat : Seat) where
   one_of_frame time TooShort first other x y = x ∙ sym y
 
   -- of a record whose frame is this
-  pub framed_so : (ethernet : Bool) (entry : Entry) (framing : Framing) (passage : Passage) → framing ≡ entry_framing ethernet entry
-      → FramingPassage seat entry.time framing passage → HasPassage seat ethernet entry passage
-  framed_so ethernet entry framing passage is has =
-      let P : Framing → Type 0 = λ f. FramingPassage seat entry.time f passage in subst P is has
+  pub framed_so : (t : Taken) (framing : Framing) (passage : Passage) → framing ≡ taken_framing t
+      → FramingPassage seat t.entry.time framing passage → HasPassage seat t passage
+  framed_so t framing passage is has =
+      let P : Framing → Type 0 = λ f. FramingPassage seat t.entry.time f passage in subst P is has
 
   -- and of records one list
-  pub ArePassages-unique : (ethernet : Bool) (entries : List Entry) (passages others : List Passage) → ArePassages seat ethernet entries passages
-      → ArePassages seat ethernet entries others → passages ≡ others
-  ArePassages-unique ethernet [] [] [] x y = refl
-  ArePassages-unique ethernet [] [] (other ∷ others) x y = absurd y
-  ArePassages-unique ethernet [] (passage ∷ passages) others x y = absurd x
-  ArePassages-unique ethernet (entry ∷ entries) [] others x y = absurd x
-  ArePassages-unique ethernet (entry ∷ entries) (passage ∷ passages) [] x y = absurd y
-  ArePassages-unique ethernet (entry ∷ entries) (passage ∷ passages) (other ∷ others) x y =
-      let here : passage ≡ other = one_of_frame entry.time (entry_framing ethernet entry) passage other x.0 y.0 in
-      let behind : passages ≡ others = ArePassages-unique ethernet entries passages others x.1 y.1 in
+  pub ArePassages-unique : (ts : List Taken) (passages others : List Passage) → ArePassages seat ts passages
+      → ArePassages seat ts others → passages ≡ others
+  ArePassages-unique [] [] [] x y = refl
+  ArePassages-unique [] [] (other ∷ others) x y = absurd y
+  ArePassages-unique [] (passage ∷ passages) others x y = absurd x
+  ArePassages-unique (t ∷ ts) [] others x y = absurd x
+  ArePassages-unique (t ∷ ts) (passage ∷ passages) [] x y = absurd y
+  ArePassages-unique (t ∷ ts) (passage ∷ passages) (other ∷ others) x y =
+      let here : passage ≡ other = one_of_frame t.entry.time (taken_framing t) passage other x.0 y.0 in
+      let behind : passages ≡ others = ArePassages-unique ts passages others x.1 y.1 in
       cc
 
-  pub ArePassages-push : (ethernet : Bool) (entries : List Entry) (passages : List Passage) (entry : Entry) (passage : Passage)
-      → ArePassages seat ethernet entries passages → HasPassage seat ethernet entry passage
-      → ArePassages seat ethernet (entries ++ entry ∷ []) (passages ++ passage ∷ [])
-  ArePassages-push ethernet [] [] entry passage are has = (has, tt)
-  ArePassages-push ethernet [] (p ∷ ps) entry passage are has = absurd are
-  ArePassages-push ethernet (e ∷ es) [] entry passage are has = absurd are
-  ArePassages-push ethernet (e ∷ es) (p ∷ ps) entry passage are has = (are.0, ArePassages-push ethernet es ps entry passage are.1 has)
+  pub ArePassages-push : (ts : List Taken) (passages : List Passage) (t : Taken) (passage : Passage)
+      → ArePassages seat ts passages → HasPassage seat t passage
+      → ArePassages seat (ts ++ t ∷ []) (passages ++ passage ∷ [])
+  ArePassages-push [] [] t passage are has = (has, tt)
+  ArePassages-push [] (p ∷ ps) t passage are has = absurd are
+  ArePassages-push (e ∷ es) [] t passage are has = absurd are
+  ArePassages-push (e ∷ es) (p ∷ ps) t passage are has = (are.0, ArePassages-push es ps t passage are.1 has)
 
   -- with the next record nothing else becomes of them either
-  pub only_push : (ethernet : Bool) (entries : List Entry) (passages : List Passage) (entry : Entry) (passage : Passage)
-      → ArePassages seat ethernet entries passages → HasPassage seat ethernet entry passage
-      → (others : List Passage) → ArePassages seat ethernet (entries ++ entry ∷ []) others → others ≡ passages ++ passage ∷ []
-  only_push ethernet entries passages entry passage are has others have =
-      ArePassages-unique ethernet (entries ++ entry ∷ []) others (passages ++ passage ∷ []) have
-      (ArePassages-push ethernet entries passages entry passage are has)
+  pub only_push : (ts : List Taken) (passages : List Passage) (t : Taken) (passage : Passage)
+      → ArePassages seat ts passages → HasPassage seat t passage
+      → (others : List Passage) → ArePassages seat (ts ++ t ∷ []) others → others ≡ passages ++ passage ∷ []
+  only_push ts passages t passage are has others have =
+      ArePassages-unique (ts ++ t ∷ []) others (passages ++ passage ∷ []) have
+      (ArePassages-push ts passages t passage are has)
 
 -- what fits the packet fits its frame
 pub IsFit-le : (seat : Seat) (packet frame : List ℕ) (j : Judged) → length packet ≤ length frame → IsFit seat packet j → IsFit seat frame j

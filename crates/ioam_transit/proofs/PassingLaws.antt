@@ -1,10 +1,10 @@
 -- The texts of `node`, with one record more.
-use Rattle.std.proofs.Common.{◌≡◌, ℕ, ◌+◌, ◌<◌, Bool, All, List, [], ◌∷◌, ◌++◌, length, get_or, set, refl, sym, ◌∙◌, ap, subst, append_assoc, append-nil, length-append, arith}
+use Rattle.std.proofs.Common.{◌≡◌, ℕ, ◌+◌, ◌<◌, All, List, [], ◌∷◌, ◌++◌, length, get_or, set, refl, sym, ◌∙◌, ap, subst, append_assoc, append-nil, length-append, arith}
 use Rattle.std.specs.List.{AllByRecursion, flat_map}
 use Rattle.std.proofs.lemmas.List.Elements.{All-nil, All-cons, All-append}
 use Rattle.ioam_outputs.specs.Told.{Adds, said_more}
 use Rattle.ioam_outputs.specs.declared.output.Output.{Output}
-use Rattle.ioam_pcap.specs.Entries.{Entry}
+use Rattle.ioam_pcap.specs.Entries.{Taken}
 use Rattle.ioam_pcap.specs.Text.{IsSendable, Sent, records_text, capture_text, head_octets, record_octets}
 use Rattle.ioam_transit.specs.NodeText.{added_of, sent_of, drop_of, export_of, passage_line, passage_lines}
 use Rattle.ioam_transit.specs.Passage.{Passage, Goes, Drops, HasPassage, ArePassages, LeavesClean}
@@ -61,18 +61,18 @@ lines_push seat n (q ∷ ps) p =
     ∙ sym (append_assoc (passage_line seat n q) (passage_lines seat (n + 1) ps) (passage_line seat (n + 1 + length ps) p))
     ∙ ap (λ (m : ℕ). (passage_line seat n q ++ passage_lines seat (n + 1) ps) ++ passage_line seat m p) here
 
-sorts_push : (seat : Seat) (ethernet : Bool) (es : List Entry) (old new : Passing) (out report exports : List ℕ) (e : Entry) (p : Passage) (number : ℕ)
-    → seat_of new.post ≡ seat_of old.post → number ≡ old.sent + old.dropped + 1 → HasPassage seat ethernet e p → LeavesClean seat p → All IsSendable (sent_of seat p)
+sorts_push : (seat : Seat) (ts : List Taken) (old new : Passing) (out report exports : List ℕ) (t : Taken) (p : Passage) (number : ℕ)
+    → seat_of new.post ≡ seat_of old.post → number ≡ old.sent + old.dropped + 1 → HasPassage seat t p → LeavesClean seat p → All IsSendable (sent_of seat p)
     → new.sent ≡ old.sent + length (sent_of seat p) → new.dropped ≡ old.dropped + length (drop_of p)
-    → Sorts seat ethernet es out report exports old
-    → Sorts seat ethernet (es ++ e ∷ []) (out ++ records_text (sent_of seat p)) (report ++ passage_line seat number p) (exports ++ export_of seat p) new
-sorts_push seat ethernet es old new out report exports e p number still is has clean fits sent dropped sorts =
+    → Sorts seat ts out report exports old
+    → Sorts seat (ts ++ t ∷ []) (out ++ records_text (sent_of seat p)) (report ++ passage_line seat number p) (exports ++ export_of seat p) new
+sorts_push seat ts old new out report exports t p number still is has clean fits sent dropped sorts =
     let place : number ≡ 1 + length sorts.passages = omega (arith, is, sorts.sent_is, sorts.dropped_is, counts seat sorts.passages) in
     record {
       same = still ∙ sorts.same;
       passages = sorts.passages ++ p ∷ [];
-      are = ArePassages-push seat ethernet es sorts.passages e p sorts.are has;
-      only = only_push seat ethernet es sorts.passages e p sorts.are has;
+      are = ArePassages-push seat ts sorts.passages t p sorts.are has;
+      only = only_push seat ts sorts.passages t p sorts.are has;
       clean = clean_push (LeavesClean seat) sorts.passages p sorts.clean clean;
       fits = subst (All IsSendable) (sym (flat_push (sent_of seat) sorts.passages p))
           (All-append IsSendable (flat_map (sent_of seat) sorts.passages) (sent_of seat p) sorts.fits fits);
@@ -101,22 +101,22 @@ sorts_push seat ethernet es old new out report exports e p number still is has c
     }
 
 -- the same of the texts of the three outputs
-pub Gathers-push : (ethernet : Bool) (old new : Passing) (e : Entry) (p : Passage) (number : ℕ)
+pub Gathers-push : (old new : Passing) (t : Taken) (p : Passage) (number : ℕ)
     → seat_of new.post ≡ seat_of old.post → number ≡ old.sent + old.dropped + 1
-    → HasPassage (seat_of old.post) ethernet e p → LeavesClean (seat_of old.post) p → All IsSendable (sent_of (seat_of old.post) p)
+    → HasPassage (seat_of old.post) t p → LeavesClean (seat_of old.post) p → All IsSendable (sent_of (seat_of old.post) p)
     → new.sent ≡ old.sent + length (sent_of (seat_of old.post) p) → new.dropped ≡ old.dropped + length (drop_of p)
-    → (begun : Passing) (es : List Entry) (texts : List (List ℕ)) → Gathers begun ethernet es texts old
-    → Gathers begun ethernet (es ++ e ∷ []) (said_more texts (added_of (seat_of old.post) number p)) new
-Gathers-push ethernet old new e p number still is has clean fits sent dropped begun es [] gathers = absurd gathers
-Gathers-push ethernet old new e p number still is has clean fits sent dropped begun es (out ∷ []) gathers = absurd gathers
-Gathers-push ethernet old new e p number still is has clean fits sent dropped begun es (out ∷ report ∷ []) gathers = absurd gathers
-Gathers-push ethernet old new e p number still is has clean fits sent dropped begun es (out ∷ report ∷ exports ∷ []) gathers =
-    let P : Seat → Type 0 = λ s. Sorts s ethernet (es ++ e ∷ []) (out ++ records_text (sent_of (seat_of old.post) p))
+    → (begun : Passing) (ts : List Taken) (texts : List (List ℕ)) → Gathers begun ts texts old
+    → Gathers begun (ts ++ t ∷ []) (said_more texts (added_of (seat_of old.post) number p)) new
+Gathers-push old new t p number still is has clean fits sent dropped begun ts [] gathers = absurd gathers
+Gathers-push old new t p number still is has clean fits sent dropped begun ts (out ∷ []) gathers = absurd gathers
+Gathers-push old new t p number still is has clean fits sent dropped begun ts (out ∷ report ∷ []) gathers = absurd gathers
+Gathers-push old new t p number still is has clean fits sent dropped begun ts (out ∷ report ∷ exports ∷ []) gathers =
+    let P : Seat → Type 0 = λ s. Sorts s (ts ++ t ∷ []) (out ++ records_text (sent_of (seat_of old.post) p))
     (report ++ passage_line (seat_of old.post) number p) (exports ++ export_of (seat_of old.post) p) new in
-    let Q : Seat → Type 0 = λ s. Sorts s ethernet es out report exports old in
-    subst P gathers.same (sorts_push (seat_of old.post) ethernet es old new out report exports e p number still is has clean fits sent dropped
+    let Q : Seat → Type 0 = λ s. Sorts s ts out report exports old in
+    subst P gathers.same (sorts_push (seat_of old.post) ts old new out report exports t p number still is has clean fits sent dropped
     (subst Q (sym gathers.same) gathers))
-Gathers-push ethernet old new e p number still is has clean fits sent dropped begun es (out ∷ report ∷ exports ∷ more ∷ texts) gathers = absurd gathers
+Gathers-push old new t p number still is has clean fits sent dropped begun ts (out ∷ report ∷ exports ∷ more ∷ texts) gathers = absurd gathers
 
 -- octets that are gathered for the first of three outputs, for the second, and for all
 pub Adds-first : (outputs : List Output) (d after : Output) (added : List ℕ) → length outputs ≡ 3

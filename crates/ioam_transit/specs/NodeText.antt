@@ -1,9 +1,9 @@
 -- What `node` writes: the capture of the packets that it sends, the report, and the export records.
-use Rattle.std.specs.Prelude.{◌≡◌, ℕ, ◌+◌, All, List, [], ◌∷◌, ◌++◌, Bool, length, codes, decimal, slice_get}
+use Rattle.std.specs.Prelude.{◌≡◌, ℕ, ◌+◌, All, List, [], ◌∷◌, ◌++◌, length, codes, decimal, slice_get}
 use Rattle.std.specs.List.{AllByRecursion, flat_map}
 use Rattle.std.specs.Option.{option_map_or}
 use Rattle.ioam_node.specs.declared.reason.Reason.{Reason}
-use Rattle.ioam_pcap.specs.Entries.{Entry}
+use Rattle.ioam_pcap.specs.Entries.{Taken}
 use Rattle.ioam_pcap.specs.Text.{IsSendable, Sent, capture_text, records_text}
 use Rattle.ioam_report.specs.RunText.{port_name, reason_name}
 use Rattle.ioam_topo.specs.Domain.{links}
@@ -66,12 +66,11 @@ module _ (seat : Seat) where
   passage_lines number [] = []
   passage_lines number (passage ∷ passages) = passage_line number passage ++ passage_lines (number + 1) passages
 
-  -- these are OUT, REPORT and EXPORTS of these records, whose frames begin with an Ethernet header or don't, and of which
-  -- nothing else becomes; what leaves by a port is clean, and nothing that is sent is longer than a record may be
-  pub record Passes (ethernet : Bool) (entries : List Entry) (out report exports : List ℕ) : Type 0 where
+  -- these are OUT, REPORT and EXPORTS of these records, of which nothing else becomes; what leaves by a port is clean, and nothing that is sent is longer than a record may be
+  pub record Passes (taken : List Taken) (out report exports : List ℕ) : Type 0 where
     pub passages : List Passage
-    pub are : ArePassages seat ethernet entries passages
-    pub only : (others : List Passage) → ArePassages seat ethernet entries others → others ≡ passages
+    pub are : ArePassages seat taken passages
+    pub only : (others : List Passage) → ArePassages seat taken others → others ≡ passages
     pub clean : AllByRecursion (LeavesClean seat) passages
     pub fits : All IsSendable (flat_map sent_of passages)
     pub out_is : out ≡ capture_text (flat_map sent_of passages)
@@ -79,9 +78,9 @@ module _ (seat : Seat) where
     pub exports_is : exports ≡ flat_map export_of passages
 
   -- OUT, REPORT and EXPORTS
-  abbrev pub NodeTexts : Bool → List Entry → List (List ℕ) → Type 0
-  NodeTexts ethernet entries [] = ⊥
-  NodeTexts ethernet entries (out ∷ []) = ⊥
-  NodeTexts ethernet entries (out ∷ report ∷ []) = ⊥
-  NodeTexts ethernet entries (out ∷ report ∷ exports ∷ []) = Passes ethernet entries out report exports
-  NodeTexts ethernet entries (out ∷ report ∷ exports ∷ more ∷ texts) = ⊥
+  abbrev pub NodeTexts : List Taken → List (List ℕ) → Type 0
+  NodeTexts taken [] = ⊥
+  NodeTexts taken (out ∷ []) = ⊥
+  NodeTexts taken (out ∷ report ∷ []) = ⊥
+  NodeTexts taken (out ∷ report ∷ exports ∷ []) = Passes taken out report exports
+  NodeTexts taken (out ∷ report ∷ exports ∷ more ∷ texts) = ⊥

@@ -13,9 +13,9 @@ use Rattle.ioam_node.specs.Choice.{choice}
 use Rattle.ioam_node.specs.declared.place.Place.{Place}
 use Rattle.ioam_node.specs.declared.reason.Reason.{Reason}
 use Rattle.ioam_node.specs.declared.reason.Reason.TheVariants as reason
-use Rattle.ioam_pcap.specs.Entries.{Entry}
+use Rattle.ioam_pcap.specs.Entries.{Taken}
 use Rattle.ioam_plan.specs.Journey.{outward_of}
-use Rattle.ioam_run.specs.Verdict.{entry_framing}
+use Rattle.ioam_run.specs.Verdict.{taken_framing}
 use Rattle.ioam_topo.specs.Domain.{nodes, links, ports}
 use Rattle.ioam_topo.specs.Forward.{IsWayFrom}
 use Rattle.ioam_topo.specs.declared.ids.Way.{Way}
@@ -68,15 +68,15 @@ module _ (seat : Seat) where
   FramingPassage time TooShort passage = passage ≡ Drops reason.Length
 
   -- of a record of a capture
-  abbrev pub HasPassage : Bool → Entry → Passage → Type 0
-  HasPassage ethernet entry passage = FramingPassage entry.time (entry_framing ethernet entry) passage
+  abbrev pub HasPassage : Taken → Passage → Type 0
+  HasPassage t passage = FramingPassage t.entry.time (taken_framing t) passage
 
   -- of each
-  abbrev pub ArePassages : Bool → List Entry → List Passage → Type 0
-  ArePassages ethernet [] [] = ⊤
-  ArePassages ethernet [] (passage ∷ passages) = ⊥
-  ArePassages ethernet (entry ∷ entries) [] = ⊥
-  ArePassages ethernet (entry ∷ entries) (passage ∷ passages) = HasPassage ethernet entry passage × ArePassages ethernet entries passages
+  abbrev pub ArePassages : List Taken → List Passage → Type 0
+  ArePassages [] [] = ⊤
+  ArePassages [] (passage ∷ passages) = ⊥
+  ArePassages (t ∷ ts) [] = ⊥
+  ArePassages (t ∷ ts) (passage ∷ passages) = HasPassage t passage × ArePassages ts passages
 
   -- where the node is on a way
   abbrev pub place_on : Way → Place

@@ -1,10 +1,10 @@
 -- What the texts that are gathered for `node` stand for.
-use Rattle.std.specs.Prelude.{◌≡◌, ℕ, ◌+◌, All, List, [], ◌∷◌, ◌++◌, Bool, length, refl}
+use Rattle.std.specs.Prelude.{◌≡◌, ℕ, ◌+◌, All, List, [], ◌∷◌, ◌++◌, length, refl}
 use Rattle.std.specs.List.{AllByRecursion, flat_map}
 use Rattle.std.proofs.Common.{◌∙◌, ap, append-nil}
 use Rattle.std.proofs.lemmas.List.Elements.{All-nil}
 use Rattle.ioam_outputs.specs.Told.{said_more}
-use Rattle.ioam_pcap.specs.Entries.{Entry}
+use Rattle.ioam_pcap.specs.Entries.{Taken}
 use Rattle.ioam_pcap.specs.Text.{IsSendable, capture_text}
 use Rattle.ioam_transit.specs.NodeText.{NodeTexts, sent_of, drop_of, export_of, passage_lines, sums_line}
 use Rattle.ioam_transit.specs.Passage.{Passage, ArePassages, LeavesClean}
@@ -13,11 +13,11 @@ use Rattle.ioam_transit.specs.declared.passing.Passing.{Passing}
 
 -- OUT, REPORT without its sums, and EXPORTS of these records, of which nothing else becomes, and how many of them are sent and
 -- dropped; the node is the one that began
-pub record Sorts (seat : Seat) (ethernet : Bool) (entries : List Entry) (out report exports : List ℕ) (gathered : Passing) : Type 0 where
+pub record Sorts (seat : Seat) (records : List Taken) (out report exports : List ℕ) (gathered : Passing) : Type 0 where
   pub same : seat_of gathered.post ≡ seat
   pub passages : List Passage
-  pub are : ArePassages seat ethernet entries passages
-  pub only : (others : List Passage) → ArePassages seat ethernet entries others → others ≡ passages
+  pub are : ArePassages seat records passages
+  pub only : (others : List Passage) → ArePassages seat records others → others ≡ passages
   pub clean : AllByRecursion (LeavesClean seat) passages
   pub fits : All IsSendable (flat_map (sent_of seat) passages)
   pub out_is : out ≡ capture_text (flat_map (sent_of seat) passages)
@@ -27,15 +27,15 @@ pub record Sorts (seat : Seat) (ethernet : Bool) (entries : List Entry) (out rep
   pub dropped_is : gathered.dropped ≡ length (flat_map drop_of passages)
 
 -- the three texts so far
-abbrev pub Gathers : Passing → Bool → List Entry → List (List ℕ) → Passing → Type 0
-Gathers begun ethernet entries [] gathered = ⊥
-Gathers begun ethernet entries (out ∷ []) gathered = ⊥
-Gathers begun ethernet entries (out ∷ report ∷ []) gathered = ⊥
-Gathers begun ethernet entries (out ∷ report ∷ exports ∷ []) gathered = Sorts (seat_of begun.post) ethernet entries out report exports gathered
-Gathers begun ethernet entries (out ∷ report ∷ exports ∷ more ∷ texts) gathered = ⊥
+abbrev pub Gathers : Passing → List Taken → List (List ℕ) → Passing → Type 0
+Gathers begun records [] gathered = ⊥
+Gathers begun records (out ∷ []) gathered = ⊥
+Gathers begun records (out ∷ report ∷ []) gathered = ⊥
+Gathers begun records (out ∷ report ∷ exports ∷ []) gathered = Sorts (seat_of begun.post) records out report exports gathered
+Gathers begun records (out ∷ report ∷ exports ∷ more ∷ texts) gathered = ⊥
 
-abbrev pub Texts : Passing → Bool → List Entry → List (List ℕ) → Type 0
-Texts begun ethernet entries texts = NodeTexts (seat_of begun.post) ethernet entries texts
+abbrev pub Texts : Passing → List Taken → List (List ℕ) → Type 0
+Texts begun records texts = NodeTexts (seat_of begun.post) records texts
 
 -- of no records
 abbrev pub heads : List (List ℕ)
@@ -60,21 +60,16 @@ IsFresh gathered = (gathered.sent ≡ 0) × (gathered.dropped ≡ 0)
 -- The laws from here on stand among the definitions, since a ghost member of an `impl` cites specs/ alone.
 
 -- of no records nothing becomes
-no_others : (seat : Seat) (ethernet : Bool) (others : List Passage) → ArePassages seat ethernet [] others → others ≡ []
-no_others seat ethernet [] are = refl
-no_others seat ethernet (p ∷ ps) are = absurd are
+no_others : (seat : Seat) (others : List Passage) → ArePassages seat [] others → others ≡ []
+no_others seat [] are = refl
+no_others seat (p ∷ ps) are = absurd are
 
--- before the first record it doesn't matter what the frames begin with
-none_become : (seat : Seat) (ethernet other : Bool) (ps : List Passage) → ArePassages seat ethernet [] ps → ArePassages seat other [] ps
-none_become seat ethernet other [] are = tt
-none_become seat ethernet other (p ∷ ps) are = absurd are
-
-pub Gathers-begins : (begun : Passing) → IsFresh begun → (ethernet : Bool) → Gathers begun ethernet [] heads begun
-Gathers-begins begun fresh ethernet = record {
+pub Gathers-begins : (begun : Passing) → IsFresh begun → Gathers begun [] heads begun
+Gathers-begins begun fresh = record {
   same = refl;
   passages = [];
   are = tt;
-  only = no_others (seat_of begun.post) ethernet;
+  only = no_others (seat_of begun.post);
   clean = tt;
   fits = All-nil IsSendable;
   out_is = refl;
@@ -87,33 +82,13 @@ Gathers-begins begun fresh ethernet = record {
 pub IsFresh-none : (gathered : Passing) → IsFresh gathered → taken gathered ≡ 0
 IsFresh-none gathered fresh = ap (λ (sent : ℕ). sent + gathered.dropped) fresh.0 ∙ ap (λ (dropped : ℕ). 0 + dropped) fresh.1
 
-pub Gathers-any_link : (begun : Passing) (ethernet other : Bool) (texts : List (List ℕ)) (gathered : Passing)
-    → Gathers begun ethernet [] texts gathered → Gathers begun other [] texts gathered
-Gathers-any_link begun ethernet other [] gathered gathers = absurd gathers
-Gathers-any_link begun ethernet other (out ∷ []) gathered gathers = absurd gathers
-Gathers-any_link begun ethernet other (out ∷ report ∷ []) gathered gathers = absurd gathers
-Gathers-any_link begun ethernet other (out ∷ report ∷ exports ∷ []) gathered gathers = record {
-  same = gathers.same;
-  passages = gathers.passages;
-  are = none_become (seat_of begun.post) ethernet other gathers.passages gathers.are;
-  only = λ others are. gathers.only others (none_become (seat_of begun.post) other ethernet others are);
-  clean = gathers.clean;
-  fits = gathers.fits;
-  out_is = gathers.out_is;
-  report_is = gathers.report_is;
-  exports_is = gathers.exports_is;
-  sent_is = gathers.sent_is;
-  dropped_is = gathers.dropped_is;
-}
-Gathers-any_link begun ethernet other (out ∷ report ∷ exports ∷ more ∷ texts) gathered gathers = absurd gathers
-
 -- the texts are whole with the sums
-pub Gathers-ends : (begun : Passing) (ethernet : Bool) (entries : List Entry) (texts : List (List ℕ)) (gathered : Passing)
-    → Gathers begun ethernet entries texts gathered → Texts begun ethernet entries (said_more texts (sums gathered))
-Gathers-ends begun ethernet entries [] gathered gathers = absurd gathers
-Gathers-ends begun ethernet entries (out ∷ []) gathered gathers = absurd gathers
-Gathers-ends begun ethernet entries (out ∷ report ∷ []) gathered gathers = absurd gathers
-Gathers-ends begun ethernet entries (out ∷ report ∷ exports ∷ []) gathered gathers = record {
+pub Gathers-ends : (begun : Passing) (records : List Taken) (texts : List (List ℕ)) (gathered : Passing)
+    → Gathers begun records texts gathered → Texts begun records (said_more texts (sums gathered))
+Gathers-ends begun records [] gathered gathers = absurd gathers
+Gathers-ends begun records (out ∷ []) gathered gathers = absurd gathers
+Gathers-ends begun records (out ∷ report ∷ []) gathered gathers = absurd gathers
+Gathers-ends begun records (out ∷ report ∷ exports ∷ []) gathered gathers = record {
   passages = gathers.passages;
   are = gathers.are;
   only = gathers.only;
@@ -126,16 +101,16 @@ Gathers-ends begun ethernet entries (out ∷ report ∷ exports ∷ []) gathered
       ++ sums_line (length (flat_map (sent_of (seat_of begun.post)) gathers.passages)) dropped) gathers.dropped_is;
   exports_is = append-nil exports ∙ gathers.exports_is;
 }
-Gathers-ends begun ethernet entries (out ∷ report ∷ exports ∷ more ∷ texts) gathered gathers = absurd gathers
+Gathers-ends begun records (out ∷ report ∷ exports ∷ more ∷ texts) gathered gathers = absurd gathers
 
 pub sums-sized : (gathered : Passing) → length (sums gathered) ≡ 3
 sums-sized gathered = refl
 
-pub empty-texts : (begun : Passing) (ethernet : Bool) → Texts begun ethernet [] empty
-empty-texts begun ethernet = record {
+pub empty-texts : (begun : Passing) → Texts begun [] empty
+empty-texts begun = record {
   passages = [];
   are = tt;
-  only = no_others (seat_of begun.post) ethernet;
+  only = no_others (seat_of begun.post);
   clean = tt;
   fits = All-nil IsSendable;
   out_is = refl;

@@ -11,10 +11,9 @@ use Rattle.ioam_desk.specs.Desk.{Reading, Writing, Rose, holds}
 use Rattle.ioam_desk.specs.Kept.{KeepsInputs, KeepsOutputs}
 use Rattle.ioam_entries.specs.declared.fault.DomainFault.{DomainFault}
 use Rattle.ioam_outputs.specs.Names.{name_at, AreApart, IsFirstRepeat}
-use Rattle.ioam_pcap.specs.Entries.{Entry}
-use Rattle.ioam_pcap.specs.Reads.{Whole, Faulty}
+use Rattle.ioam_pcap.specs.Ending.{Whole, Faulty}
+use Rattle.ioam_pcap.specs.Entries.{Taken}
 use Rattle.ioam_pcap.specs.Text.{IsSendable, capture_text}
-use Rattle.ioam_pcap.specs.declared.form.Link.{Link as LinkType}
 use Rattle.ioam_run.specs.Run.{IsInput, IsLong, HoldsAll, HoldsFronts, EndsSo, ArePassed, AreWhole}
 use Rattle.ioam_setting.specs.Setting.{HasDomainFault, HasReadingsFault, IsSetting}
 use Rattle.ioam_setting.specs.declared.setting.Refusal.{Refusal}
@@ -173,7 +172,7 @@ module _ (words : List (List ℕ)) where
     HasCause (outcome.Capture name at fault) = Asked old (outcome.Capture name at fault)
 
     -- the outputs hold the texts of these records of IN
-    abbrev pub Holds : (Seat → Option LinkType → List Entry → List ℕ → Type 0) → Type 0
+    abbrev pub Holds : (Seat → List Taken → List ℕ → Type 0) → Type 0
     Holds Are = (seat : Seat) × IsReady old seat
         × IsSomeAnd (holds old (input_file words)) (HoldsAll seat.domain.packets (NodeTexts seat) (output_files words) (Are seat) new)
 

@@ -1,9 +1,9 @@
 //! What becomes of a packet that comes to a node.
 ghost use Rattle.std.specs.Prelude.{◌≡◌, ◌≤◌, ◌↔◌, IsTrue, IfOk, length};
+ghost use Rattle.ioam_captures.specs.Reader.{taken_of};
 ghost use Rattle.ioam_ip.specs.Chain.{IsSound};
 ghost use Rattle.ioam_ip.specs.ChainOptions.{CarriesIoam};
 ghost use Rattle.ioam_ip.specs.Packet.{IsPacket};
-ghost use Rattle.ioam_pcap.specs.Reader.{entry_of};
 ghost use Rattle.ioam_topo.specs.Domain.{links, ports};
 ghost use Rattle.ioam_topo.specs.Forward.{IsWayFrom};
 ghost use Rattle.ioam_transit.specs.Judged.{IsFit, passage_of};
@@ -13,7 +13,7 @@ ghost use Rattle.ioam_transit.specs.Seat.{seat_of};
 use crate::post::Post;
 use ioam_ip::{Framed, Walk, header, walk};
 use ioam_node::{Reason, choose};
-use ioam_pcap::Packet;
+use ioam_pcap::{Link, Packet};
 use ioam_run::framed;
 use ioam_topo::Way;
 
@@ -27,12 +27,12 @@ pub enum Judged<'a> {
 }
 
 impl Post<'_> {
-    /// What becomes of a record of a capture; `ethernet` says that its frames begin with an Ethernet header.
-    pub(crate) fn judge<'p>(&self, ethernet: bool, captured: &Packet<'p>) -> Judged<'p>
-        ensures passage { HasPassage (seat_of self.now) ethernet (entry_of captured.now) (passage_of captured.now.time result) }
+    /// What becomes of a record of a capture, whose octets begin at this layer.
+    pub(crate) fn judge<'p>(&self, link: Link, captured: &Packet<'p>) -> Judged<'p>
+        ensures passage { HasPassage (seat_of self.now) (taken_of link captured.now) (passage_of captured.now.time result) }
         ensures fit { IsFit (seat_of self.now) captured.now.octets.now result }
     {
-        match framed(ethernet, captured) {
+        match framed(link, captured) {
             Framed::Packet(packet) => self.judge_packet(packet),
             Framed::NotIpv6 => Judged::Drops(Reason::NotIpv6),
             Framed::Cut => Judged::Drops(Reason::Cut),

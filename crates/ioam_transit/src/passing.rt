@@ -8,7 +8,7 @@ use ioam_base::memory::NoMemory;
 use ioam_base::text::{append, append_decimal};
 use ioam_node::Reason;
 use ioam_outputs::Output;
-use ioam_pcap::{Packet, put_head};
+use ioam_pcap::{Link, Packet, put_head};
 use ioam_report::reason_text;
 use ioam_run::Gather;
 use std::alloc::Global;
@@ -24,7 +24,7 @@ pub struct Passing<'a> {
 }
 
 impl Gather for Passing<'_> {
-    ghost use Rattle.ioam_transit.specs.Passing.{Gathers, Texts, heads, sums, taken, empty, IsFresh, IsFresh-none, Gathers-begins, Gathers-any_link, Gathers-ends, empty-texts, empty-sized, sums-sized};
+    ghost use Rattle.ioam_transit.specs.Passing.{Gathers, Texts, heads, sums, taken, empty, IsFresh, IsFresh-none, Gathers-begins, Gathers-ends, empty-texts, empty-sized, sums-sized};
 
     ghost width = { 3 };
 
@@ -53,12 +53,12 @@ impl Gather for Passing<'_> {
 
     fn take(
         &mut self,
-        ethernet: bool,
+        link: Link,
         captured: &Packet<'_>,
         outputs: &mut [Output],
     ) -> Result<(), NoMemory> {
         let number = self.sent + self.dropped + 1;
-        match self.post.judge(ethernet, captured) {
+        match self.post.judge(link, captured) {
             Judged::Goes(way, packet) => {
                 self.post
                     .send(self.alloc, number, captured.time, way, packet, outputs)?;
@@ -79,8 +79,6 @@ impl Gather for Passing<'_> {
     ghost begins = { Gathers-begins };
 
     ghost none = { IsFresh-none };
-
-    ghost any_link = { Gathers-any_link };
 
     ghost ends = { Gathers-ends };
 

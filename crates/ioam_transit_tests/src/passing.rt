@@ -1,5 +1,5 @@
 //! What `node` writes.
-use crate::rows::{Passed, rows};
+use crate::rows::{Passed, rows, sectioned};
 use ioam_answer::line;
 use ioam_base::memory::NoMemory;
 use ioam_desk::MemoryDesk;
@@ -7,6 +7,7 @@ use ioam_test_rows::digits::{octets, text, words};
 use ioam_test_rows::run_rows::{LINKS, NODES, PORTS, ROUTES};
 use ioam_transit::run_node;
 use std::alloc::Global;
+use std::process::Abort;
 
 // A desk with the files of a row.
 pub(crate) fn desk_for(alloc: Global, row: &Passed) -> Result<MemoryDesk, NoMemory> {
@@ -39,16 +40,15 @@ pub(crate) fn node_line(
     line(alloc, &run_node(alloc, &run, desk))
 }
 
-#[test]
-fn a_node_sends_what_it_may(rt: HostRuntime) {
-    let alloc = rt.alloc();
-    for row in rows() {
-        let sent = octets(alloc, row.sent).expect(&rt, "octets");
-        let exports = octets(alloc, row.exports).expect(&rt, "octets");
+// The outputs hold what each row says, however IN comes.
+fn assert_passed(rt: &impl Abort, alloc: Global, rows: &[Passed]) {
+    for row in rows {
+        let sent = octets(alloc, row.sent).expect(rt, "octets");
+        let exports = octets(alloc, row.exports).expect(rt, "octets");
         for piece in [65536usize, 7] {
-            let mut desk = desk_for(alloc, row).expect(&rt, "memory");
+            let mut desk = desk_for(alloc, row).expect(rt, "memory");
             desk.set_piece(piece.max(1));
-            let line = node_line(alloc, row.node, row.link, &mut desk).expect(&rt, "memory");
+            let line = node_line(alloc, row.node, row.link, &mut desk).expect(rt, "memory");
             assert_eq!(rt; line.as_str(), "done");
             assert!(rt;
                 desk.file("out.pcap") == Some(sent.as_slice()),
@@ -67,6 +67,16 @@ fn a_node_sends_what_it_may(rt: HostRuntime) {
             );
         }
     }
+}
+
+#[test]
+fn a_node_sends_what_it_may(rt: HostRuntime) {
+    assert_passed(&rt, rt.alloc(), rows());
+}
+
+#[test]
+fn a_capture_of_the_other_form_gives_the_same(rt: HostRuntime) {
+    assert_passed(&rt, rt.alloc(), sectioned());
 }
 
 // No node of this name; no link of this name, and one that ends at another node.

@@ -40,6 +40,14 @@ const OF_72: &str = "00000001 00000000 00000048 00000048";
 
 const OF_80: &str = "00000001 00000000 00000050 00000050";
 
+// What leaves by a port.
+const LEFT: &[&str] = &[HEAD, OF_40, "60000000 0000 3b 3f", SOURCE, TO_EAST];
+
+const LEFT_REPORT: &str = "1 out east
+2 drop ioam-out
+packets 2 out 1 dropped 1
+";
+
 const ROWS: [Passed; 3] = [
     // RemainingLen is above the words of the option; two words fit, with filler; Overflow was set; the namespace
     // isn't known; two traces; direct export, and the same with bit 7 of its type; an option too short.
@@ -205,16 +213,52 @@ packets 4 out 0 dropped 4
             TO_EAST,
             "3b020100 310e0000 00070801 80000000 00000000 01020000",
         ],
-        sent: &[HEAD, OF_40, "60000000 0000 3b 3f", SOURCE, TO_EAST],
-        report: "1 out east
-2 drop ioam-out
-packets 2 out 1 dropped 1
-",
+        sent: LEFT,
+        report: LEFT_REPORT,
         exports: &[],
     },
 ];
 
-/// All of them.
+// A section of the form pcapng, big-endian, with an interface of packets and one of Ethernet frames, whose
+// times are nanoseconds.
+const SECTION: &str = "0a0d0d0a 0000001c 1a2b3c4d 0001 0000 ffffffffffffffff 0000001c";
+
+const PACKETS: &str = "00000001 00000020 0065 0000 00040000 0009 0001 09000000 0000 0000 00000020";
+
+const FRAMES: &str = "00000001 00000020 0001 0000 00040000 0009 0001 09000000 0000 0000 00000020";
+
+// The last of the rows in that form: a packet, and an Ethernet frame with a packet.
+const SECTIONED: [Passed; 1] = [Passed {
+    node: "c",
+    link: "bc",
+    came: &[
+        SECTION,
+        PACKETS,
+        FRAMES,
+        "00000006 00000048 00000000 00000000 3b9aca00 00000028 00000028",
+        "60000000 0000 3b 40",
+        SOURCE,
+        TO_EAST,
+        "00000048",
+        "00000006 00000070 00000001 00000000 3b9aca00 0000004e 0000004e",
+        "02000000000c 02000000000b 86dd",
+        "60000000 0018 00 40",
+        SOURCE,
+        TO_EAST,
+        "3b020100 310e0000 00070801 80000000 00000000 01020000",
+        "0000 00000070",
+    ],
+    sent: LEFT,
+    report: LEFT_REPORT,
+    exports: &[],
+}];
+
+/// That one.
+pub fn sectioned() -> &'static [Passed] {
+    &SECTIONED
+}
+
+/// Those of the classic form.
 pub fn rows() -> &'static [Passed] {
     &ROWS
 }
