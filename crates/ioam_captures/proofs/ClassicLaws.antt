@@ -8,7 +8,7 @@ use Rattle.ioam_pcap.specs.declared.form.Link.{Link}
 use Rattle.ioam_pcap.specs.declared.form.Form.{Form}
 use Rattle.ioam_pcap.specs.declared.capture.CapFault.{CapFault}
 use Rattle.ioam_pcap.specs.declared.capture.CapFault.TheVariants as fault
-use Rattle.ioam_pcap.specs.Ending.{Ending, Whole, Faulty}
+use Rattle.ioam_pcap.specs.Ending.{Ending, Whole, Faulty, stays}
 use Rattle.ioam_pcap.specs.Form.{HasHead}
 use Rattle.ioam_pcap.specs.Entries.{Entry, Taken, IsWhole, entry_at, behind, Entries}
 use Rattle.ioam_pcap.specs.Reads.{Reached, FaultAt, CutAt, EntryAt, EndsAt, Reads, link_by}
@@ -18,7 +18,7 @@ use Rattle.ioam_pcap.proofs.BehindLaws.{Reached-behind, FaultAt-behind}
 use Rattle.ioam_pcap.proofs.ReadsLaws.{Reads-unique, Reads-total, head_unique, ends_front, ends_no_record}
 use Rattle.ioam_ng.proofs.LaterLaws.{Leads-beyond}
 use Rattle.ioam_captures.specs.Reads.{of_link, IsClassicly}
-use Rattle.ioam_captures.specs.Streams.{stays, known_ending}
+use Rattle.ioam_captures.specs.Streams.{known_ending}
 
 -- records that were reached begin those that the octets read as; and the head stays
 module _ (octets : List ℕ) (link : Option Link) (all : List Entry) (ending : Ending) (reads : Reads octets link all ending) where

@@ -1,9 +1,11 @@
 -- What is due of a capture, by what a form's reader finds behind the records that it gave.
-use Rattle.std.proofs.Common.{◌≡◌, ℕ, Bool, true, false, List, [], ◌∷◌, ◌++◌, Option, Some, None, refl, sym, ap, ◌∙◌, subst, inl, inr}
+use Rattle.std.proofs.Common.{◌≡◌, ℕ, Bool, true, false, List, [], ◌∷◌, ◌++◌, Option, Some, None, refl, sym, ap, ◌∙◌, subst, inl, inr, length, arith}
+use Rattle.std.proofs.lemmas.Bool.{false≢true}
 use Rattle.ioam_pcap.specs.declared.capture.CapFault.{CapFault}
+use Rattle.ioam_pcap.specs.declared.capture.CapFault.TheVariants.{Short}
 use Rattle.ioam_pcap.specs.Ending.{Ending, Faulty, ending_of}
 use Rattle.ioam_pcap.specs.Entries.{Entry, Taken}
-use Rattle.ioam_pcap.specs.Reads.{EntryAt, FaultAt, Reads as classic_reads}
+use Rattle.ioam_pcap.specs.Reads.{EntryAt, FaultAt, EndsAt, Reads as classic_reads}
 use Rattle.ioam_pcap.specs.Reading as classic_reading
 use Rattle.ioam_pcap.specs.Reader as classic
 use Rattle.ioam_ng.specs.Reading as ng_reading
@@ -11,11 +13,10 @@ use Rattle.ioam_ng.specs.Reader as ng
 use Rattle.ioam_ng.specs.Reads as ng_reads
 use Rattle.ioam_ng.proofs.LaterLaws.{Packet-next}
 use Rattle.ioam_captures.specs.declared.turns.Due.{Due}
-use Rattle.ioam_captures.specs.declared.turns.Due.TheVariants.{Record, End, Bad, More}
-use Rattle.ioam_captures.specs.Merge.{Stream, due_of, due_by}
-use Rattle.ioam_captures.specs.Reading.{Reading, Classic, Ng}
+use Rattle.ioam_captures.specs.declared.turns.Due.TheVariants.{Record, Bad, More}
+use Rattle.ioam_captures.specs.Merge.{due_of, due_by}
+use Rattle.ioam_captures.specs.Reading.{Reading, Front, Classic, Ng}
 use Rattle.ioam_captures.specs.Reads.{IsClassicly, Reads}
-use Rattle.ioam_captures.specs.Streams.{Streams}
 use Rattle.ioam_captures.specs.Reader.{Stands, Waits, IsDue}
 use Rattle.ioam_captures.proofs.ClassicLaws.{Classic-due, Classic-fault}
 use Rattle.ioam_captures.proofs.NgLaws.{Ng-fault}
@@ -36,6 +37,15 @@ pub waits-end : (reader : Reading) (ended : Bool) (left : Option (ℕ × CapFaul
     → ((octets : List ℕ) (taken : List Taken) → Stands reader octets taken → Reads octets taken (ending_of left)) → IsDue reader ended (due_at_end left)
 waits-end reader ended left over reads octets taken stream stands shows =
     sym (due-end octets ended taken stream shows over (ending_of left) (reads octets taken stands))
+
+-- ---- where the form isn't known
+
+pub front-ends : (held : List ℕ) (octets : List ℕ) (taken : List Taken) → Stands (Front held) octets taken → Reads octets taken (Faulty 0 (Short (length held)))
+front-ends held octets taken stands =
+    let size : length held ≡ length octets = ap length stands.0 in
+    let short : EndsAt octets None 0 (Faulty 0 (Short (length held))) = (refl, inr (length held, refl, inl stands.1, omega (arith, size), λ some. absurd (false≢true some))) in
+    let reads : classic_reads octets None [] (Faulty 0 (Short (length held))) = record { form = None; at = 0; reached = (refl, refl); ends = short; linked = refl } in
+    inr (λ ng. omega (arith, stands.1, ng.0), record { link = None; entries = []; reads = reads; are = stands.2 })
 
 -- ---- of the classic form
 

@@ -7,6 +7,5 @@ pub mod ShortLaws
 pub mod StandsLaws
 pub mod StreamsLaws
 pub mod ArrivesLaws
-pub mod FeedLaws
 pub mod StepLaws
 pub mod DueLaws

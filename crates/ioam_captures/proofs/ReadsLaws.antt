@@ -1,16 +1,15 @@
 -- Octets read in one way, and go on so with others behind them.
-use Rattle.std.proofs.Common.{◌≡◌, ℕ, ◌+◌, ◌<◌, ◌≤◌, ◌⊎◌, List, [], ◌∷◌, ◌++◌, length, None, arith, refl, sym, ap, ◌∙◌, inl, inr, length-append}
+use Rattle.std.proofs.Common.{◌≡◌, ℕ, ◌≤◌, ◌⊎◌, List, ◌++◌, length, arith, sym, ap, ◌∙◌, inl, inr, length-append}
 use Rattle.std.proofs.lemmas.Bool.{cases_eq, cases_lt}
 use Rattle.ioam_base.specs.Octets.{u32_at}
 use Rattle.ioam_base.proofs.OctetsLaws.{u32_at-append}
 use Rattle.ioam_pcap.specs.Ending.{Ending}
 use Rattle.ioam_pcap.specs.Entries.{Taken}
 use Rattle.ioam_captures.specs.Reads.{IsNg, Reads}
-use Rattle.ioam_captures.specs.Streams.{known_ending}
 use Rattle.ioam_captures.proofs.ClassicLaws.{GoesOn, Classic-total, Classic-unique, Classic-short, Classic-later}
 use Rattle.ioam_captures.proofs.NgLaws.{Ng-later}
-use Rattle.ioam_ng.proofs.LaterLaws as ng
-use Rattle.ioam_ng.proofs.ReadsLaws as ng_one
+use Rattle.ioam_ng.proofs.LaterLaws as blocks
+use Rattle.ioam_ng.proofs.ReadsLaws as one_way
 
 -- ---- the form
 
@@ -34,12 +33,12 @@ module _ (octets more : List ℕ) where
 
 pub Reads-total : (octets : List ℕ) → (taken : List Taken) × (ending : Ending) × Reads octets taken ending
 Reads-total octets = elim (ng_or_not octets) [
-  | inl ng ↦ let (taken, ending, reads) = ng.Reads-total octets in (taken, ending, inl (ng, reads))
+  | inl ng ↦ let (taken, ending, reads) = blocks.Reads-total octets in (taken, ending, inl (ng, reads))
   | inr other ↦ let (taken, ending, reads) = Classic-total octets in (taken, ending, inr (other, reads))
 ]
 
 pub Reads-unique : (octets : List ℕ) (xs ys : List Taken) (d e : Ending) → Reads octets xs d → Reads octets ys e → (xs ≡ ys) × (d ≡ e)
-Reads-unique octets xs ys d e (inl x) (inl y) = ng_one.Reads-unique octets xs ys d e x.1 y.1
+Reads-unique octets xs ys d e (inl x) (inl y) = one_way.Reads-unique octets xs ys d e x.1 y.1
 Reads-unique octets xs ys d e (inl x) (inr y) = absurd (y.0 x.0)
 Reads-unique octets xs ys d e (inr x) (inl y) = absurd (x.0 y.0)
 Reads-unique octets xs ys d e (inr x) (inr y) = Classic-unique octets xs ys d e x.1 y.1

@@ -1,6 +1,6 @@
 -- No record of a capture has more than 262,144 octets.
 use Rattle.std.proofs.Common.{◌≡◌, ℕ, ◌≤◌, Bool, true, false, List, [], ◌∷◌, length, take, drop, Option, Some, None, arith, refl, sym, ap, ◌∙◌, subst, inl, inr, length-take}
-use Rattle.std.specs.Prelude.{All, map, slice_get, nat_lt, not, is_none, ◌==◌, if◌then◌else◌}
+use Rattle.std.specs.Prelude.{All, slice_get, nat_lt, not, is_none, ◌==◌, if◌then◌else◌}
 use Rattle.std.specs.Option.{option_or}
 use Rattle.std.proofs.lemmas.Bool.{ltb-false}
 use Rattle.std.proofs.lemmas.List.Elements.{All-nil, All-cons, All-head, All-tail}
@@ -16,7 +16,7 @@ use Rattle.ioam_ng.specs.declared.numbers.Order.{Order}
 use Rattle.ioam_ng.specs.Checks.{first}
 use Rattle.ioam_ng.specs.Face.{is_resolved, time_of}
 use Rattle.ioam_ng.specs.Front.{order_in, front_fault}
-use Rattle.ioam_ng.specs.Blocks.{Place, CanPass, Blocks, packets, packet_there, behind, is_linked, captured, units, block_checks, block_fault, packet_checks, packet_fault, packet_of, packet_from, packet_at, packet_by, face_number, fault_by, is_whole, size, kind}
+use Rattle.ioam_ng.specs.Blocks.{Place, CanPass, Blocks, packets, packet_there, behind, is_linked, captured, units, block_checks, block_fault, packet_fault, packet_of, packet_from, packet_at, packet_by, face_number, fault_by, is_whole, size, kind}
 use Rattle.ioam_captures.specs.Reads.{of_link, Reads}
 
 -- a record has no more octets

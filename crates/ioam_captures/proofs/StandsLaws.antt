@@ -1,20 +1,18 @@
 -- What a reader of either form stands for.
-use Rattle.std.proofs.Common.{◌≡◌, ℕ, ◌+◌, ◌<◌, ◌≤◌, ◌^◌, ◌⊎◌, false, List, [], ◌∷◌, ◌++◌, length, Option, Some, None, arith, refl, sym, ap, ◌∙◌, subst, inl, inr, append_assoc}
+use Rattle.std.proofs.Common.{◌≡◌, ℕ, ◌+◌, ◌<◌, ◌≤◌, ◌^◌, false, List, [], ◌++◌, length, Option, Some, None, arith, sym, ap, ◌∙◌, subst, inl, inr, append_assoc}
 use Rattle.std.proofs.lemmas.List.{append-nil, length-map}
-use Rattle.ioam_pcap.specs.declared.form.Link.{Link}
 use Rattle.ioam_pcap.specs.declared.form.Form.{Form}
 use Rattle.ioam_pcap.specs.Ending.{Ending}
 use Rattle.ioam_pcap.specs.Entries.{Entry, Taken}
 use Rattle.ioam_pcap.specs.Reads.{Reached, link_by}
 use Rattle.ioam_pcap.specs.Reader as classic
 use Rattle.ioam_pcap.proofs.StandsLaws as classic_laws
-use Rattle.ioam_ng.specs.Reader as ng
 use Rattle.ioam_ng.proofs.LaterLaws as ng_later
 use Rattle.ioam_ng.proofs.SizeLaws as ng_laws
 use Rattle.ioam_captures.specs.Reading.{Reading, Front, Classic, Ng, fed, HoldsFew}
-use Rattle.ioam_captures.specs.Reads.{IsNg, IsClassicly, of_link, Reads}
+use Rattle.ioam_captures.specs.Reads.{IsClassicly, of_link, Reads}
 use Rattle.ioam_captures.specs.Reader.{Stands, Waits}
-use Rattle.ioam_captures.specs.Streams.{known_ending, ShowsSo}
+use Rattle.ioam_captures.specs.Streams.{ShowsSo}
 use Rattle.ioam_captures.proofs.ClassicLaws.{Classic-total, Classic-short, Classic-begins, Classic-cut}
 use Rattle.ioam_captures.proofs.NgLaws.{Ng-waits}
 use Rattle.ioam_captures.proofs.ReadsLaws.{Reads-total, Reads-later}

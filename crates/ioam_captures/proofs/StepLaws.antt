@@ -1,5 +1,5 @@
 -- What a step of a form's reader leaves of a reader of either form.
-use Rattle.std.proofs.Common.{◌≡◌, ℕ, ◌+◌, ◌≤◌, List, [], ◌∷◌, ◌++◌, length, drop, Option, Some, None, arith, refl, sym, ap, ◌∙◌, subst, inl, inr}
+use Rattle.std.proofs.Common.{◌≡◌, ℕ, ◌≤◌, List, [], ◌∷◌, ◌++◌, length, Option, Some, None, arith, refl, sym, ap, ◌∙◌, subst, inl, inr}
 use Rattle.std.specs.Prelude.{map}
 use Rattle.std.proofs.lemmas.List.{append-nil, map-append}
 use Rattle.ioam_pcap.specs.declared.capture.CapFault.{CapFault}
@@ -20,9 +20,9 @@ use Rattle.ioam_ng.specs.Reading as ng_reading
 use Rattle.ioam_ng.specs.Reader as ng
 use Rattle.ioam_captures.specs.declared.reader.Step.{Step}
 use Rattle.ioam_captures.specs.declared.reader.Step.TheVariants.{Packet, More, Bad, NoMemory}
-use Rattle.ioam_captures.specs.Reading.{Reading, Front, Classic, Ng, pending, fed, HoldsFew}
-use Rattle.ioam_captures.specs.Reads.{of_link, Reads, ReadsOnly}
-use Rattle.ioam_captures.specs.Reader.{Stands, Waits, KeepsOn, Leaves, Told, taken_of}
+use Rattle.ioam_captures.specs.Reading.{Reading, Classic, Ng, pending, fed, HoldsFew}
+use Rattle.ioam_captures.specs.Reads.{of_link, Reads}
+use Rattle.ioam_captures.specs.Reader.{Stands, Waits, KeepsOn, Leaves, taken_of}
 use Rattle.ioam_captures.proofs.ReadsLaws.{IsNg-behind, not_ng-behind, Reads-unique}
 use Rattle.ioam_captures.proofs.StandsLaws.{Stands-shows}
 
@@ -148,6 +148,22 @@ module _ (old new : classic_reading.Reading) where
           by None here = here
           by (Some f) here = let wrong : ◌≡◌ {A = Option Link} (Some f.link) None = ap link_by (sym here) ∙ is in absurd (cc)
 
+  -- what a step of the form's reader leaves
+  abbrev pub ClassicLeaves : CapStep → Type 0
+  ClassicLeaves step = classic.Moved old new step × Tells step × classic.SaysFault old step
+
+  abbrev pub ClassicGives : Link → CapStep → Type 0
+  ClassicGives link (cap.Packet p) = Leaves (Classic old) (Classic new) (Packet link p)
+  ClassicGives link cap.More = Leaves (Classic old) (Classic new) More
+  ClassicGives link (cap.Bad at f) = Leaves (Classic old) (Classic new) (Bad at f)
+  ClassicGives link (cap.Head other) = ⊥
+
+  pub classic_step : (link : Link) → classic.link_of old ≡ Some link → (step : CapStep) → ClassicLeaves step → ClassicGives link step
+  classic_step link linked (cap.Packet p) leaves = classic_packet link linked p leaves.0 leaves.1
+  classic_step link linked cap.More leaves = classic_more leaves.0
+  classic_step link linked (cap.Bad at f) leaves = classic_bad at f leaves.0 leaves.1
+  classic_step link linked (cap.Head other) leaves = no_head link other linked leaves.0
+
 -- ---- of the form pcapng
 
 module _ (old new : ng_reading.Reading) (same : ng_reading.fed new ≡ ng_reading.fed old) (less : length new.pending ≤ length old.pending) where
@@ -171,3 +187,20 @@ module _ (old new : ng_reading.Reading) (same : ng_reading.fed new ≡ ng_readin
 
   pub ng_no_memory : NgTells ng_step.NoMemory → Leaves (Ng old) (Ng new) NoMemory
   ng_no_memory tells = leaves_no_memory (Ng old) (Ng new) same less (ng_keeps ng_step.NoMemory refl tells)
+
+-- what a step of the form's reader leaves, by what its clause says
+abbrev pub NgLeaves : ng_reading.Reading → ng_reading.Reading → NgStep → Type 0
+NgLeaves old new step = ng.Rested new step × (ng_reading.fed new ≡ ng_reading.fed old) × (length new.pending ≤ length old.pending)
+    × ((octets : List ℕ) (taken : List Taken) → ng.Stands old octets taken → ng.Told octets taken new step) × ng.SaysFault old new step × ng.SaysPacket old step
+
+abbrev pub NgGives : ng_reading.Reading → ng_reading.Reading → NgStep → Type 0
+NgGives old new (ng_step.Packet link p) = Leaves (Ng old) (Ng new) (Packet link p)
+NgGives old new ng_step.More = Leaves (Ng old) (Ng new) More
+NgGives old new (ng_step.Bad at f) = Leaves (Ng old) (Ng new) (Bad at f)
+NgGives old new ng_step.NoMemory = Leaves (Ng old) (Ng new) NoMemory
+
+pub ng_gives : (old new : ng_reading.Reading) (step : NgStep) → NgLeaves old new step → NgGives old new step
+ng_gives old new (ng_step.Packet link p) leaves = ng_packet old new leaves.1 leaves.2 link p leaves.0 leaves.3
+ng_gives old new ng_step.More leaves = ng_more old new leaves.1 leaves.2 leaves.0 leaves.3
+ng_gives old new (ng_step.Bad at f) leaves = ng_bad old new leaves.1 leaves.2 at f leaves.3
+ng_gives old new ng_step.NoMemory leaves = ng_no_memory old new leaves.1 leaves.2 leaves.3

@@ -4,17 +4,16 @@ use Rattle.std.proofs.lemmas.List.{append-nil, append_cancel_left}
 use Rattle.ioam_pcap.specs.declared.capture.CapFault.{CapFault}
 use Rattle.ioam_pcap.specs.declared.capture.Packet as packet
 use Rattle.ioam_pcap.specs.declared.form.Link.{Link}
-use Rattle.ioam_pcap.specs.Ending.{Ending, Whole, Faulty}
+use Rattle.ioam_pcap.specs.Ending.{Ending, Faulty, stays}
 use Rattle.ioam_pcap.specs.Entries.{Taken}
 use Rattle.ioam_captures.specs.declared.reader.Step.{Step}
 use Rattle.ioam_captures.specs.declared.reader.Step.TheVariants as step
-use Rattle.ioam_captures.specs.declared.turns.Due.{Due}
 use Rattle.ioam_captures.specs.declared.turns.Due.TheVariants.{Record, Bad, More}
 use Rattle.ioam_captures.specs.Reads.{Reads}
 use Rattle.ioam_captures.specs.Reading.{Reading}
 use Rattle.ioam_captures.specs.Reader.{Stands, Told, taken_of}
 use Rattle.ioam_captures.specs.Merge.{Stream, due_of, due_by, first_of}
-use Rattle.ioam_captures.specs.Streams.{stays, known_ending, ShowsSo, Streams}
+use Rattle.ioam_captures.specs.Streams.{known_ending, ShowsSo, Streams}
 use Rattle.ioam_captures.proofs.ClassicLaws.{stays_known}
 use Rattle.ioam_captures.proofs.MergeLaws.{Continues, due_first}
 use Rattle.ioam_captures.proofs.ReadsLaws.{Reads-total, Reads-unique, Reads-later}

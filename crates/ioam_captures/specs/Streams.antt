@@ -1,27 +1,9 @@
 -- What the octets of a capture show of it while more of them may come.
 use Rattle.std.specs.Prelude.{◌≡◌, ℕ, Bool, true, false, List, Option, Some, None, ◌++◌, if◌then◌else◌}
-use Rattle.ioam_pcap.specs.Ending.{Ending, Whole, Faulty}
+use Rattle.ioam_pcap.specs.Ending.{Ending, Whole, Faulty, stays}
 use Rattle.ioam_pcap.specs.Entries.{Taken}
-use Rattle.ioam_pcap.specs.declared.capture.CapFault.{CapFault}
-use Rattle.ioam_pcap.specs.declared.capture.CapFault.TheVariants as fault
 use Rattle.ioam_captures.specs.Merge.{Stream}
 use Rattle.ioam_captures.specs.Reads.{Reads}
-
--- a fault that stays whatever comes behind: each but that of a capture that is too short
-abbrev pub stays : CapFault → Bool
-stays (fault.Short have) = false
-stays (fault.Magic found) = true
-stays (fault.Link found) = true
-stays (fault.RecordLong found) = true
-stays (fault.Blocks limit) = true
-stays (fault.Order found) = true
-stays (fault.Large found) = true
-stays (fault.Size found) = true
-stays (fault.Trail found) = true
-stays (fault.Kind found) = true
-stays (fault.Face found) = true
-stays (fault.Resolution found) = true
-stays (fault.Time found) = true
 
 -- What is known of how a capture ends, by how its octets so far end: once it has ended, that; before,
 -- a fault that stays, and an end or a cut may yet be no end.

@@ -27,7 +27,7 @@ pub(crate) fn next_packet(reader: &mut NgReader) -> Step<'_>
 // What is due where more octets are needed.
 fn waiting(reader: &NgReader, ended: bool) -> Due
     requires { Waits reader.now }
-    ensures due { IsDue (Ng reader.now) ended result }
+    ensures { IsDue (Ng reader.now) ended result }
 {
     if !ended {
         return Due::More;

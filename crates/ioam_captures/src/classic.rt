@@ -16,9 +16,10 @@ fn next_record(reader: &mut CaptureReader, link: Link) -> Step<'_>
 {
     match reader.next() {
         CapStep::Packet(packet) => Step::Packet { link, packet },
-        // A head isn't read twice.
-        CapStep::More | CapStep::Head { .. } => Step::More,
+        CapStep::More => Step::More,
         CapStep::Bad { at, fault } => Step::Bad { at, fault },
+        // A head isn't read twice.
+        CapStep::Head { .. } => Step::NoMemory,
     }
 }
 
@@ -31,9 +32,10 @@ pub(crate) fn next_classic(reader: &mut CaptureReader) -> Step<'_>
     }
     match reader.next() {
         CapStep::Head { link } => next_record(reader, link),
-        // No record is read before the head.
-        CapStep::More | CapStep::Packet(_) => Step::More,
+        CapStep::More => Step::More,
         CapStep::Bad { at, fault } => Step::Bad { at, fault },
+        // No record is read before the head.
+        CapStep::Packet(_) => Step::NoMemory,
     }
 }
 
