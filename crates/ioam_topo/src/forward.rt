@@ -1,4 +1,4 @@
-ghost use Rattle.std.specs.Prelude.{◌≡◌, ◌<◌, nat_eq, ◌&&◌, length, slice_get, Some, IfSome, if◌then◌else◌};
+ghost use Rattle.std.specs.Prelude.{◌≡◌, ◌<◌, nat_eq, ◌&&◌, length, slice_get, Some, IfSome};
 ghost use Rattle.ioam_topo.specs.Forward.{longer, longest, bits_of, fits, way_to, IsWayTo, IsWayFrom};
 ghost use Rattle.ioam_topo.specs.Index.{lengths_of};
 
@@ -12,20 +12,24 @@ use crate::prefix::Prefix;
 /// looked up.
 const FEW: usize = 32;
 
-// The longer of a route that may fit a target at a node and what was found behind it.
-fn longer_of(route: &Route, node: NodeId, target: u128, found: Option<Route>) -> Option<Route>
-    ensures { result ≡ (if fits node.0 target route.now then Some (longer bits_of route.now found) else found) }
+// Whether a route is one of the node, and the target has its prefix.
+fn fits(route: &Route, node: NodeId, target: u128) -> bool
+    ensures { result ≡ fits node.0 target route.now }
 {
-    if node.0 != route.node.0 || !matches(route.prefix, target) {
-        return found;
-    }
+    node.0 == route.node.0 && matches(route.prefix, target)
+}
+
+// The longer of a route and what was found behind it.
+fn longer(route: &Route, found: Option<Route>) -> Route
+    ensures { result ≡ longer bits_of route.now found }
+{
     match found {
         Some(other) => if route.prefix.length < other.prefix.length {
-            Some(other)
+            other
         } else {
-            Some(*route)
+            *route
         },
-        None => Some(*route),
+        None => *route,
     }
 }
 
@@ -37,7 +41,9 @@ fn longest_of(routes: &[Route], node: NodeId, target: u128) -> Option<Route>
     let mut left = routes.len();
     'routes: while left > 0 {
         left -= 1;
-        found = longer_of(&routes[left], node, target, found);
+        if fits(&routes[left], node, target) {
+            found = Some(longer(&routes[left], found));
+        }
     }
     found
 }
