@@ -1,10 +1,7 @@
 ghost use Rattle.std.specs.Prelude.{◌<◌};
 
 use crate::captures::{TWO, TWO_READ, show};
-use ioam_pcap::{
-    CapFault, CapLook, CapStep, CaptureReader, Due, Link, Turn, next_turn, pick, put_head,
-    put_record,
-};
+use ioam_pcap::{CapLook, CapStep, CaptureReader, Link, pick, put_head, put_record};
 use std::alloc::Global;
 use std::test::Fail;
 
@@ -63,8 +60,10 @@ fn looks_ahead(rt: HostRuntime) -> Result<(), Fail> {
     assert_eq!(rt; reader.look(), CapLook::More);
     reader.feed(&TWO)?;
     assert_eq!(rt; reader.fed(), 59);
+    assert_eq!(rt; reader.link(), None);
     assert_eq!(rt; reader.look(), CapLook::Head { link: Link::Raw });
     assert!(rt; matches!(reader.next(), CapStep::Head { .. }));
+    assert_eq!(rt; reader.link(), Some(Link::Raw));
     let first = CapLook::Packet {
         time: 2_000_007_000,
         size: 3,
@@ -198,59 +197,4 @@ fn picks_the_first_of_the_least(rt: HostRuntime) {
     assert_eq!(rt; pick(&[Some(5), None, Some(5), Some(4)]), Some(3));
     assert_eq!(rt; pick(&[Some(5), None, Some(5)]), Some(0));
     assert_eq!(rt; pick(&[None]), None);
-}
-
-#[test]
-fn takes_the_first_of_the_least(rt: HostRuntime) -> Result<(), Fail> {
-    let soon = Due::Record { time: 4 };
-    let late = Due::Record { time: 5 };
-    let fault = CapFault::Short { have: 7 };
-    let bad = Due::Bad { at: 24, fault };
-    let cases: [(&[Due], Turn); 8] = [
-        (&[], Turn::Over),
-        (&[Due::End, Due::End], Turn::Over),
-        (
-            &[late, soon, Due::End, soon],
-            Turn::Next { place: 1, time: 4 },
-        ),
-        (&[soon, late, soon], Turn::Next { place: 0, time: 4 }),
-        (
-            &[soon, bad, Due::Bad { at: 0, fault }],
-            Turn::Broken {
-                place: 1,
-                at: 24,
-                fault,
-            },
-        ),
-        (&[soon, Due::More], Turn::Unshown),
-        (&[bad, Due::More], Turn::Unshown),
-        (&[Due::More, bad, soon], Turn::Unshown),
-    ];
-    for (dues, turn) in cases {
-        assert_eq!(rt; next_turn(dues), turn);
-    }
-    Ok(())
-}
-
-// Whether a reader that holds TWO tells when its first record is due, and when no record is.
-fn tells_of_two(reader: &mut CaptureReader) -> bool {
-    let first = Due::Record {
-        time: 2_000_007_000,
-    };
-    reader.due(false).is_none()
-        && matches!(reader.next(), CapStep::Head { .. })
-        && reader.due(true) == Some(first)
-        && matches!(reader.next(), CapStep::Packet { .. })
-        && matches!(reader.next(), CapStep::Packet { .. })
-        && reader.due(false) == Some(Due::More)
-        && reader.due(true) == Some(Due::End)
-}
-
-#[test]
-fn tells_what_is_due(rt: HostRuntime) -> Result<(), Fail> {
-    let mut reader = CaptureReader::new(rt.alloc())?;
-    assert_eq!(rt; reader.due(false), Some(Due::More));
-    reader.feed(&TWO)?;
-    assert!(rt; tells_of_two(&mut reader));
-    Ok(())
 }
