@@ -1,6 +1,8 @@
 //! Blocks with a fault, other orders, resolutions and sections.
 use crate::shown::outline;
 use crate::written::HEAD;
+use ioam_ng::{NgLook, NgReader, NgStep};
+use ioam_pcap::CapFault;
 use std::test::Fail;
 
 // A section, little-endian, with an interface of IPv6 whose times are in 2^-10 seconds, ten seconds
@@ -30,6 +32,21 @@ fn reads_sections_of_either_order(rt: HostRuntime) -> Result<(), Fail> {
             "Packet { link: Raw, packet: Packet { time: 500000000, original: 2, octets: [7, 8] } }\nFace { found: 0 } at 148\n"
         );
     }
+    Ok(())
+}
+
+#[test]
+fn tells_what_is_due(rt: HostRuntime) -> Result<(), Fail> {
+    let mut reader = NgReader::new(rt.alloc())?;
+    let nothing = reader.pass()?;
+    assert_eq!(rt; nothing, NgLook::More);
+    reader.feed(&SECTIONS)?;
+    let packet = reader.pass()?;
+    assert_eq!(rt; packet, NgLook::Packet { time: 500_000_000 });
+    assert!(rt; matches!(reader.next(), NgStep::Packet { .. }));
+    let bad = reader.pass()?;
+    let fault = CapFault::Face { found: 0 };
+    assert_eq!(rt; bad, NgLook::Bad { at: 148, fault });
     Ok(())
 }
 
