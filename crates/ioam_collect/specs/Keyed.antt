@@ -1,5 +1,5 @@
 -- What of an export record is kept: its key, by which records of one packet are told, and an item.
-use Rattle.std.specs.Prelude.{ℕ, List, [], ◌∷◌, Option, Some, None}
+use Rattle.std.specs.Prelude.{◌≡◌, ℕ, ◌≤◌, List, [], ◌∷◌, length, Option, Some, None}
 use Rattle.std.specs.Ordering.{nat_cmp, ordering_then}
 use Rattle.std.specs.declared.cmp.Ordering.{Ordering}
 use Rattle.ioam_data.specs.Fields.{fields_of}
@@ -55,3 +55,9 @@ keyed (x ∷ xs) = with_keyed (keyed_of x) (keyed xs)
 -- the core of an item is a record
 abbrev pub IsOfRecord : Entry → Type 0
 IsOfRecord e = (x : Record) × Rec e.core x
+
+-- the octets of the version 1 record of a record: a record, with room for them in an item
+pub record IsCoreOf (x : Record) (octets : List ℕ) : Type 0 where
+  pub are : octets ≡ record_octets (core_of x)
+  pub says : Rec octets (core_of x)
+  pub size : length octets ≤ 262

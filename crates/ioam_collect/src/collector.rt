@@ -9,7 +9,7 @@ ghost use Rattle.ioam_collect.specs.Best.{groups_of};
 use crate::grouping::Groups;
 use crate::growing::Added;
 use crate::key::Key;
-use crate::keying::keyed;
+use crate::keying::{keyed, visit_of, write_core};
 use crate::store::Store;
 use ioam_base::memory::NoMemory;
 use ioam_dex::{Export, ExportRoom};
@@ -25,6 +25,7 @@ const RECORD_MOST: usize = 274;
 #[derive(Drop)]
 pub struct Collector {
     store: Store,
+    alloc: Global,
     // where the octets of a record are written
     room: ExportRoom,
     read: u64,
@@ -60,6 +61,7 @@ impl Collector {
     {
         Ok(Collector {
             store: Store::new(alloc, limit)?,
+            alloc,
             room: ExportRoom::new(alloc, RECORD_MOST)?,
             read: 0,
             unkeyed: 0,
@@ -74,8 +76,13 @@ impl Collector {
         requires parts { HasItsParts (record_of export.now) }
         ensures { AddsRecord self.old (record_of export.now) result self.new }
     {
-        match keyed(export, &mut self.room) {
-            Some((key, item)) => self.add_keyed(key, item),
+        let visit = visit_of(export.visit);
+        write_core(export, &mut self.room);
+        match keyed(export, self.room.octets(), visit.octets()) {
+            Some((key, parts)) => match Item::new(self.alloc, &parts) {
+                Ok(item) => self.add_keyed(key, item),
+                Err(NoMemory) => Err(NoMemory),
+            },
             None => {
                 self.count(Added::Unkeyed);
                 Ok(Added::Unkeyed)
@@ -89,10 +96,12 @@ impl Collector {
         ensures full { IsTrue result ↔ Answers self.old (keyed_of (record_of export.now)) Full }
         ensures same { self.new ≡ self.old }
     {
-        let Some((key, item)) = keyed(export, &mut self.room) else {
-            return false;
-        };
-        self.store.is_full_for(key, &item)
+        let visit = visit_of(export.visit);
+        write_core(export, &mut self.room);
+        match keyed(export, self.room.octets(), visit.octets()) {
+            Some((key, parts)) => self.store.is_full_for(key, &parts),
+            None => false,
+        }
     }
 
     // Adds the item of a record under its key.

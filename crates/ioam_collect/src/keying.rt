@@ -1,13 +1,13 @@
 ghost use Rattle.std.specs.Prelude.{◌≡◌, ◌+◌, ◌≤◌, length, IfSome};
 ghost use Rattle.ioam_dex.specs.Record.{HasItsParts, record_of};
 ghost use Rattle.ioam_dex.specs.Visit.{visit_octets};
-ghost use Rattle.ioam_collect.specs.Keyed.{hops_of, item_of, keyed_of, IsOfRecord};
+ghost use Rattle.ioam_collect.specs.Keyed.{hops_of, keyed_of, IsCoreOf, IsOfRecord};
 
 use crate::key::Key;
 use ioam_base::buffer::Buffer;
 use ioam_data::fields;
 use ioam_dex::{Export, ExportRoom, put_export};
-use ioam_pool::Item;
+use ioam_pool::Parts;
 
 // The hop value of a record: that of bit 0 of its type, or of bit 8 where bit 0 isn't there.
 fn hop_value(export: &Export<'_>) -> Option<u8>
@@ -28,8 +28,8 @@ fn hop_value(export: &Export<'_>) -> Option<u8>
     }
 }
 
-// The octets of a visit, where it is there.
-fn visit_of(visit: Option<(u64, u32)>) -> Buffer
+/// The octets of a visit, where it is there.
+pub(crate) fn visit_of(visit: Option<(u64, u32)>) -> Buffer
     ensures { result ≡ visit_octets visit }
 {
     let mut buffer = Buffer::new();
@@ -40,12 +40,11 @@ fn visit_of(visit: Option<(u64, u32)>) -> Buffer
     buffer
 }
 
-// The item of a record with this hop value, written in the room.
-fn item_of(hops: u8, export: &Export<'_>, room: &mut ExportRoom) -> Item
+/// Writes the version 1 record of a record into the room, and nothing else.
+pub(crate) fn write_core(export: &Export<'_>, room: &mut ExportRoom)
     requires parts { HasItsParts (record_of export.now) }
     requires room { 274 ≤ room.old.spare + length room.old.octets }
-    ensures item { result ≡ item_of hops (record_of export.now) }
-    ensures of_record { IsOfRecord result }
+    ensures core { IsCoreOf (record_of export.now) room.new.octets }
     ensures room { room.new.spare + length room.new.octets ≡ room.old.spare + length room.old.octets }
 {
     let core = Export {
@@ -60,17 +59,20 @@ fn item_of(hops: u8, export: &Export<'_>, room: &mut ExportRoom) -> Item
     };
     room.clear();
     put_export(&core, room);
-    Item::new(hops, room.octets(), visit_of(export.visit).octets())
 }
 
-/// The key and the item of a record, written in the room. None without a Flow ID, a Sequence Number or a
-/// hop value.
-pub(crate) fn keyed(export: &Export<'_>, room: &mut ExportRoom) -> Option<(Key, Item)>
+/// The key of a record, and the parts of its item, of which the octets are given. None without a Flow
+/// ID, a Sequence Number or a hop value.
+pub(crate) fn keyed<'a>(
+    export: &Export<'_>,
+    core: &'a [u8],
+    visit: &'a [u8],
+) -> Option<(Key, Parts<'a>)>
     requires parts { HasItsParts (record_of export.now) }
-    requires room { 274 ≤ room.old.spare + length room.old.octets }
+    requires core { IsCoreOf (record_of export.now) core.now }
+    requires visit { visit.now ≡ visit_octets (record_of export.now).visit }
     ensures keyed { result ≡ keyed_of (record_of export.now) }
     ensures of_record { IfSome result (λ found. IsOfRecord found.1) }
-    ensures room { room.new.spare + length room.new.octets ≡ room.old.spare + length room.old.octets }
 {
     let flow = export.flow?;
     let seq = export.seq?;
@@ -80,5 +82,5 @@ pub(crate) fn keyed(export: &Export<'_>, room: &mut ExportRoom) -> Option<(Key, 
         flow,
         seq,
     };
-    Some((key, item_of(hops, export, room)))
+    Some((key, Parts::new(hops, core, visit)))
 }

@@ -9,7 +9,7 @@ use crate::grouping::Groups;
 use crate::growing::{Added, put};
 use crate::key::Key;
 use ioam_base::memory::NoMemory;
-use ioam_pool::{Chain, Item, Pool};
+use ioam_pool::{Chain, Item, Parts, Pool};
 use std::alloc::Global;
 use std::collections::BTreeMap;
 use std::marker::Model;
@@ -89,7 +89,7 @@ impl Store {
     }
 
     // Whether adding an item would answer `Full`.
-    pub(crate) fn is_full_for(&self, key: Key, item: &Item) -> bool
+    pub(crate) fn is_full_for(&self, key: Key, item: &Parts<'_>) -> bool
         ensures { IsTrue result ↔ IsFullFor self.now key item.now }
     {
         if self.pool.held() != self.limit {

@@ -4,5 +4,6 @@ pub mod Entry
 pub mod Guides
 pub mod Inserting
 pub mod Kept
+pub mod Octets
 pub mod Order
 pub mod Seats

@@ -16,7 +16,7 @@ pub(crate) fn add_cells(cells: &mut Vec<Cell>, free: Option<u32>, more: u32) -> 
     'adding: for added in 0..more {
         let at = free_from + added;
         cells.push_reserved(Cell {
-            item: Item::new(0, &[], &[]),
+            item: Item::blank(),
             next: first,
         });
         first = Some(at);

@@ -6,6 +6,7 @@ ghost use Rattle.ioam_pool.specs.Seats.{Seated};
 
 use crate::cells::Cell;
 use crate::item::Item;
+use crate::parts::Parts;
 use crate::seating::{Search, Seat, find_seat};
 use std::cmp::Ordering;
 
@@ -17,7 +18,7 @@ pub(crate) struct Guide {
 }
 
 // Whether a guide stands in front of an item of a chain.
-fn is_in_front(guide: Guide, cells: &[Cell], chain: u32, item: &Item) -> bool {
+fn is_in_front(guide: Guide, cells: &[Cell], chain: u32, item: &Parts<'_>) -> bool {
     match guide.chain.cmp(&chain) {
         Ordering::Less => true,
         Ordering::Equal => match cells.get(guide.cell as usize) {
@@ -29,7 +30,7 @@ fn is_in_front(guide: Guide, cells: &[Cell], chain: u32, item: &Item) -> bool {
 }
 
 // How many guides stand in front of an item of a chain, found by halves.
-fn count_in_front(guides: &[Guide], cells: &[Cell], chain: u32, item: &Item) -> usize
+fn count_in_front(guides: &[Guide], cells: &[Cell], chain: u32, item: &Parts<'_>) -> usize
     ensures { result ≤ length guides.now }
 {
     let mut low = 0;
@@ -52,7 +53,7 @@ fn start_from(
     cells: &[Cell],
     head: Option<u32>,
     chain: u32,
-    item: &Item,
+    item: &Parts<'_>,
 ) -> Option<u32>
     requires count { count ≤ length guides.now }
     requires guided { GuidesOn cells.now head chain guides.now }
@@ -79,7 +80,7 @@ fn find_guided(
     cells: &[Cell],
     head: Option<u32>,
     chain: u32,
-    item: &Item,
+    item: &Parts<'_>,
 ) -> Search
     requires ends { Ends cells.now head }
     requires in_order { IsChain (entries_from cells.now head) }
@@ -115,7 +116,7 @@ pub(crate) fn seat_of(
     cells: &[Cell],
     head: Option<u32>,
     chain: u32,
-    item: &Item,
+    item: &Parts<'_>,
 ) -> Seat
     requires ends { Ends cells.now head }
     requires in_order { IsChain (entries_from cells.now head) }
@@ -141,8 +142,9 @@ pub(crate) fn seat_with_guide(
     ensures seat { Seated cells.now head item.now result }
     ensures guides { StaysGuided cells.now head chain guides.old.items guides.new.items }
 {
-    let count = count_in_front(guides, cells, chain, item);
-    let found = find_guided(guides, count, cells, head, chain, item);
+    let parts = item.parts();
+    let count = count_in_front(guides, cells, chain, &parts);
+    let found = find_guided(guides, count, cells, head, chain, &parts);
     add_guide(guides, count, chain, found.passed);
     found.seat
 }

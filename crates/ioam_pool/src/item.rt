@@ -1,5 +1,9 @@
-ghost use Rattle.std.specs.Prelude.{◌≡◌, ◌≤◌, ◌⊎◌, length};
+ghost use Rattle.std.specs.Prelude.{◌≡◌, ◌≤◌, ◌⊎◌, [], length, IfOk};
 
+use crate::octets::Octets;
+use crate::parts::Parts;
+use ioam_base::memory::NoMemory;
+use std::alloc::Global;
 use std::cmp::Ordering;
 use std::marker::Model;
 
@@ -14,43 +18,51 @@ pub const EXTRA_SIZE: usize = 12;
 #[derive(Drop)]
 pub struct Item {
     hops: u8,
-    core_size: u16,
-    core: [u8; CORE_MOST],
     extra_size: u8,
     extra: [u8; EXTRA_SIZE],
+    core: Octets,
 }
 
 impl Model for Item {
     ghost use Rattle.std.specs.Prelude.{◌≡◌, ◌≤◌, ◌⊎◌, take};
     ghost use Rattle.ioam_pool.specs.Entry.{Entry};
+    ghost use Rattle.ioam_pool.specs.Octets.{AreOctets, octets_of};
 
     ghost Value = { Entry };
 
-    ghost view = { λ item. record { hops = item.hops; core = take item.core_size item.core; extra = take item.extra_size item.extra } };
+    ghost view = { λ item. record { hops = item.hops; core = octets_of item.core; extra = take item.extra_size item.extra } };
 
-    ghost invariant = { λ item. (item.core_size ≤ 262) × ((item.extra_size ≡ 0) ⊎ (item.extra_size ≡ 12)) };
+    ghost invariant = { λ item. AreOctets item.core × ((item.extra_size ≡ 0) ⊎ (item.extra_size ≡ 12)) };
 }
 
 impl Item {
     ghost use Rattle.ioam_pool.specs.Entry.{Entry, is_full};
     ghost use Rattle.ioam_pool.specs.Order.{cores, extras, meet};
 
-    /// An item with a core of at most 262 octets, and an extra part of 12 octets or none.
-    pub fn new(hops: u8, core: &[u8], extra: &[u8]) -> Item
-        requires core { length core.now ≤ 262 }
-        requires extra { (length extra.now ≡ 0) ⊎ (length extra.now ≡ 12) }
-        ensures { result ≡ record { hops = hops; core = core.now; extra = extra.now } }
+    /// An item of these parts. A core of more than 38 octets takes memory.
+    pub fn new(alloc: Global, parts: &Parts<'_>) -> Result<Item, NoMemory>
+        ensures { IfOk result (λ item. item ≡ parts.now) }
     {
-        let mut own = [0; CORE_MOST];
-        own[..core.len()].copy_from_slice(core);
+        let extra = parts.extra();
         let mut own_extra = [0; EXTRA_SIZE];
         own_extra[..extra.len()].copy_from_slice(extra);
-        Item {
-            hops,
-            core_size: core.len() as u16,
-            core: own,
+        Ok(Item {
+            hops: parts.hops(),
             extra_size: extra.len() as u8,
             extra: own_extra,
+            core: Octets::new(alloc, parts.core())?,
+        })
+    }
+
+    // An item without octets, as it stands in a free cell.
+    pub(crate) fn blank() -> Item
+        ensures { result ≡ record { hops = 0; core = []; extra = [] } }
+    {
+        Item {
+            hops: 0,
+            extra_size: 0,
+            extra: [0; EXTRA_SIZE],
+            core: Octets::none(),
         }
     }
 
@@ -66,7 +78,7 @@ impl Item {
         ensures octets { result.now ≡ self.now.core }
         ensures size { length result.now ≤ 262 }
     {
-        &self.core[..self.core_size as usize]
+        self.core.as_slice()
     }
 
     /// The 12 octets of the extra part, or none.
@@ -77,6 +89,13 @@ impl Item {
         &self.extra[..self.extra_size as usize]
     }
 
+    // Its parts.
+    pub(crate) fn parts(&self) -> Parts<'_>
+        ensures { result ≡ self.now }
+    {
+        Parts::new(self.hops(), self.core(), self.extra())
+    }
+
     // Whether the extra part is there.
     pub(crate) fn is_full(&self) -> bool
         ensures { result ≡ is_full self.now }
@@ -85,7 +104,7 @@ impl Item {
     }
 
     // Where hop value and core stand to another's.
-    fn cores(&self, other: &Item) -> Ordering
+    fn cores(&self, other: &Parts<'_>) -> Ordering
         ensures { result ≡ cores self.now other.now }
     {
         match other.hops().cmp(&self.hops()) {
@@ -96,7 +115,7 @@ impl Item {
     }
 
     // Where the extra part stands to another's. Equal where either isn't there.
-    fn extras(&self, other: &Item) -> Ordering
+    fn extras(&self, other: &Parts<'_>) -> Ordering
         ensures { result ≡ extras self.now.extra other.now.extra }
     {
         let extra = self.extra();
@@ -108,7 +127,7 @@ impl Item {
     }
 
     // Where the item stands to another, items that can't stand beside one another being equal.
-    pub(crate) fn meet(&self, other: &Item) -> Ordering
+    pub(crate) fn meet(&self, other: &Parts<'_>) -> Ordering
         ensures { result ≡ meet self.now other.now }
     {
         match self.cores(other) {

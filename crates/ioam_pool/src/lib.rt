@@ -6,10 +6,13 @@ mod freeing;
 mod growing;
 mod guides;
 mod item;
+mod octets;
+mod parts;
 mod pool;
 mod seating;
 mod walking;
 
 pub use item::{CORE_MOST, EXTRA_SIZE, Item};
+pub use parts::Parts;
 pub use pool::{Chain, Inserted, Pool};
 pub use walking::Items;

@@ -7,6 +7,7 @@ use crate::freeing::last_of;
 use crate::growing::add_cells;
 use crate::guides::{Guide, drop_guides, seat_of, seat_with_guide};
 use crate::item::Item;
+use crate::parts::Parts;
 use crate::seating::{Seat, gives_way, link_in, swap_item};
 use crate::walking::Items;
 use ioam_base::memory::NoMemory;
@@ -155,9 +156,9 @@ impl Pool {
         }
     }
 
-    /// Whether an item would be one more on a chain: the chain doesn't have it, with or without an extra
+    /// Whether an item of these parts would be one more on a chain: the chain doesn't have it, with or without an extra
     /// part.
-    pub fn is_apart(&self, chain: Chain, item: &Item) -> bool
+    pub fn is_apart(&self, chain: Chain, item: &Parts<'_>) -> bool
         requires { chain < length self.now.chains }
         ensures { IsTrue result ↔ IsApart (chain_of self.now chain) item.now }
     {

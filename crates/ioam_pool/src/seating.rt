@@ -8,6 +8,7 @@ ghost use Rattle.ioam_pool.specs.Seats.{Seated};
 
 use crate::cells::Cell;
 use crate::item::Item;
+use crate::parts::Parts;
 use std::cmp::Ordering;
 use std::mem;
 
@@ -71,7 +72,7 @@ pub(crate) fn find_seat(
     cells: &[Cell],
     head: Option<u32>,
     start: Option<u32>,
-    item: &Item,
+    item: &Parts<'_>,
 ) -> Search
     requires ends { Ends cells.now head }
     requires in_order { IsChain (entries_from cells.now head) }
