@@ -1,6 +1,6 @@
 -- Laws of a collector and the records that it stands for.
-use Rattle.std.proofs.Common.{◌≡◌, ◌≢◌, ℕ, ◌+◌, suc, Bool, true, false, cond, IsTrue, List, [], ◌∷◌, ◌++◌, length, map, refl, sym, ap, ap₂, ◌∙◌, subst, ◌==◌, arith, ◌⊎◌, inl, inr, Option, None, Some, length-append}
-use Rattle.std.specs.Prelude.{◌↔◌, Result, Ok, Err}
+use Rattle.std.proofs.Common.{◌≡◌, ◌≢◌, ℕ, ◌+◌, ◌≤◌, suc, Bool, true, false, cond, IsTrue, List, [], ◌∷◌, ◌++◌, length, map, refl, sym, ap, ap₂, ◌∙◌, subst, ◌==◌, arith, ◌⊎◌, inl, inr, Option, None, Some, length-append}
+use Rattle.std.specs.Prelude.{◌↔◌, ◌/◌, Result, Ok, Err}
 use Rattle.std.specs.Map.{lookup, keys_of}
 use Rattle.std.specs.List.{AllByRecursion}
 use Rattle.std.specs.List.Sorted.{IsStrictlySortedBy}
@@ -8,6 +8,7 @@ use Rattle.std.specs.Ordering.{is_eq}
 use Rattle.std.specs.declared.cmp.Ordering.TheVariants.{Less}
 use Rattle.std.proofs.lemmas.Bool.{cases_eq, ne_eqb}
 use Rattle.std.proofs.lemmas.Bool.Decides.{nat_tests}
+use Rattle.ioam_base.specs.Octets.{u32_at}
 use Rattle.ioam_data.specs.Kind.{has, where_has, words}
 use Rattle.ioam_data.specs.Elements.{IsFilled}
 use Rattle.ioam_data.specs.Fields.{fields_of}
@@ -57,6 +58,19 @@ no_hops x (inl element) none =
     let whole = element.whole in
     absurd (omega arith)
 no_hops x (inr void) none = let both = has_none x.kind void.wordless in no_hops_void x both.0 both.1
+
+-- a type with bit 0 has an element, which begins with the hop value
+pub first_room : (x : Record) → IsFilled x.kind x.element → has x.kind 0 ≡ true → 4 ≤ length x.element
+unfolding words
+first_room x (inl element) first =
+    let whole = element.whole in
+    let one : where_has x.kind 0 1 ≡ 1 = rw first refl in
+    omega arith
+first_room x (inr void) first = let none = (has_none x.kind void.wordless).0 in absurd (cc (none, first))
+
+pub first_hops : (x : Record) → has x.kind 0 ≡ true → hops_of x ≡ Some (u32_at x.element 0 / 16777216)
+unfolding fields_of
+first_hops x first = rw first refl
 
 -- ---- one record more
 

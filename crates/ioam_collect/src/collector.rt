@@ -98,10 +98,10 @@ impl Collector {
     {
         let visit = visit_of(export.visit);
         write_core(export, &mut self.room);
-        match keyed(export, self.room.octets(), visit.octets()) {
-            Some((key, parts)) => self.store.is_full_for(key, &parts),
-            None => false,
-        }
+        let Some((key, parts)) = keyed(export, self.room.octets(), visit.octets()) else {
+            return false;
+        };
+        self.store.is_full_for(key, &parts)
     }
 
     // Adds the item of a record under its key.

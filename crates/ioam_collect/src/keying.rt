@@ -1,13 +1,24 @@
-ghost use Rattle.std.specs.Prelude.{◌≡◌, ◌+◌, ◌≤◌, length, IfSome};
+ghost use Rattle.std.specs.Prelude.{◌≡◌, ◌+◌, ◌≤◌, length, true, IfSome, Some};
+ghost use Rattle.ioam_data.specs.Kind.{has};
 ghost use Rattle.ioam_dex.specs.Record.{HasItsParts, record_of};
 ghost use Rattle.ioam_dex.specs.Visit.{visit_octets};
 ghost use Rattle.ioam_collect.specs.Keyed.{hops_of, keyed_of, IsCoreOf, IsOfRecord};
 
 use crate::key::Key;
 use ioam_base::buffer::Buffer;
+use ioam_base::octets::u32_at;
 use ioam_data::fields;
 use ioam_dex::{Export, ExportRoom, put_export};
 use ioam_pool::Parts;
+
+// The hop value of a record whose type has bit 0: its element begins with it.
+fn first_hops(export: &Export<'_>) -> u8
+    requires parts { HasItsParts (record_of export.now) }
+    requires first { has export.now.kind 0 ≡ true }
+    ensures { Some result ≡ hops_of (record_of export.now) }
+{
+    (u32_at(export.element, 0) / 16777216) as u8
+}
 
 // The hop value of a record: that of bit 0 of its type, or of bit 8 where bit 0 isn't there.
 fn hop_value(export: &Export<'_>) -> Option<u8>
@@ -18,6 +29,9 @@ fn hop_value(export: &Export<'_>) -> Option<u8>
         return None;
     }
     let kind = export.trace_type();
+    if kind.has(0) {
+        return Some(first_hops(export));
+    }
     let fields = fields(kind, kind.words(), export.element);
     match fields.hop_node {
         Some((hops, _)) => Some(hops),

@@ -1,6 +1,8 @@
-ghost use Rattle.std.specs.Prelude.{◌<◌, ◌≡◌, length};
+ghost use Rattle.std.specs.Prelude.{◌<◌, ◌≤◌, ◌≡◌, length};
 
-use ioam_pool::{Chain, Inserted, Item, Pool};
+use ioam_base::memory::NoMemory;
+use ioam_pool::{Chain, Inserted, Item, Parts, Pool};
+use std::alloc::Global;
 use std::test::Fail;
 
 // Whether a chain has items of these hop values, each with one octet of core.
@@ -22,23 +24,45 @@ fn has(pool: &Pool, chain: Chain, wanted: &[(u8, u8)]) -> bool
     left.is_empty()
 }
 
+// An item with such a core, and no extra part.
+fn item(alloc: Global, hops: u8, core: &[u8]) -> Result<Item, NoMemory>
+    requires { length core.now ≤ 262 }
+{
+    Item::new(alloc, &Parts::new(hops, core, &[]))
+}
+
 #[test]
 fn repeats_come_before_a_full_pool(rt: HostRuntime) -> Result<(), Fail> {
     let mut pool = Pool::new(rt.alloc(), 2)?;
     let p = pool.add_chain()?;
     let q = pool.add_chain()?;
-    assert!(rt; matches!(pool.insert(p, Item::new(5, &[1], &[])), Inserted::Kept));
-    assert!(rt; matches!(pool.insert(p, Item::new(6, &[2], &[])), Inserted::Kept));
-    assert!(rt; matches!(pool.insert(q, Item::new(1, &[3], &[])), Inserted::Full(_)));
-    assert!(rt; matches!(pool.insert(p, Item::new(5, &[1], &[])), Inserted::Repeat(_)));
+    assert!(rt; matches!(pool.insert(p, item(rt.alloc(), 5, &[1])?), Inserted::Kept));
+    assert!(rt; matches!(pool.insert(p, item(rt.alloc(), 6, &[2])?), Inserted::Kept));
+    assert!(rt;
+        matches!(
+            pool.insert(q, item(rt.alloc(), 1, &[3])?),
+            Inserted::Full(_)
+        )
+    );
+    assert!(rt;
+        matches!(
+            pool.insert(p, item(rt.alloc(), 5, &[1])?),
+            Inserted::Repeat(_)
+        )
+    );
     assert!(rt; has(&pool, p, &[(6, 2), (5, 1)]));
     pool.free(p);
-    assert!(rt; matches!(pool.insert(q, Item::new(1, &[3], &[])), Inserted::Kept));
+    assert!(rt; matches!(pool.insert(q, item(rt.alloc(), 1, &[3])?), Inserted::Kept));
     assert!(rt; has(&pool, p, &[]));
     assert!(rt; pool.held() == 1 && pool.capacity() == 2);
     pool.grow(1)?;
-    assert!(rt; matches!(pool.insert(p, Item::new(6, &[2], &[])), Inserted::Kept));
-    assert!(rt; matches!(pool.insert(p, Item::new(6, &[2], &[])), Inserted::Repeat(_)));
+    assert!(rt; matches!(pool.insert(p, item(rt.alloc(), 6, &[2])?), Inserted::Kept));
+    assert!(rt;
+        matches!(
+            pool.insert(p, item(rt.alloc(), 6, &[2])?),
+            Inserted::Repeat(_)
+        )
+    );
     assert!(rt; pool.held() == 2 && pool.capacity() == 3);
     Ok(())
 }
