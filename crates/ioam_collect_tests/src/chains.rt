@@ -66,3 +66,25 @@ fn repeats_come_before_a_full_pool(rt: HostRuntime) -> Result<(), Fail> {
     assert!(rt; pool.held() == 2 && pool.capacity() == 3);
     Ok(())
 }
+
+#[test]
+fn a_core_of_many_octets_is_kept_whole(rt: HostRuntime) -> Result<(), Fail> {
+    let mut pool = Pool::new(rt.alloc(), 1)?;
+    let p = pool.add_chain()?;
+    assert!(rt;
+        matches!(
+            pool.insert(p, item(rt.alloc(), 5, &[7; 262])?),
+            Inserted::Kept
+        )
+    );
+    assert!(rt;
+        matches!(
+            pool.insert(p, item(rt.alloc(), 5, &[7; 262])?),
+            Inserted::Repeat(_)
+        )
+    );
+    for item in pool.walk(p) {
+        assert!(rt; item.core() == [7; 262].as_slice());
+    }
+    Ok(())
+}
