@@ -4,26 +4,26 @@ use Rattle.ioam_desk.specs.Desk as desk
 use Rattle.ioam_desk.specs.Desk.{Fails, SameBut, Gives}
 use Rattle.ioam_desk.specs.declared.fault.DeskFault.{DeskFault}
 use Rattle.ioam_desk.specs.declared.fault.DeskFault.TheVariants.{Failed, NoMemory}
-use Rattle.ioam_pcap.specs.Entries.{Entry}
-use Rattle.ioam_pcap.specs.Reading.{Reading}
-use Rattle.ioam_pcap.specs.Reader.{Stands}
+use Rattle.ioam_pcap.specs.Entries.{Taken}
+use Rattle.ioam_captures.specs.Reading.{Reading}
+use Rattle.ioam_captures.specs.Reader.{Stands, IsFed}
 
 -- These octets of what a name holds were handed out so far, all to the reader, which has given
 -- these records of them. What is left of the slot is the rest of what the name holds.
-pub record Fed (tells : Bool) (content : Option (List ℕ)) (inputs : desk.Reading) (slot : ℕ) (reader : Reading) (octets : List ℕ) (entries : List Entry) : Type 0 where
-  pub stands : Stands reader octets entries
+pub record Fed (tells : Bool) (content : Option (List ℕ)) (inputs : desk.Reading) (slot : ℕ) (reader : Reading) (octets : List ℕ) (taken : List Taken) : Type 0 where
+  pub stands : Stands reader octets taken
   pub is_open : slot < inputs.side.slots
   pub held : IsTrue tells → content ≡ Some (octets ++ inputs.left slot)
 
 -- what was handed out and given before was so still, and these octets more were handed out
 abbrev pub FedOn : Bool → desk.Reading → ℕ → Reading → List ℕ → desk.Reading → Reading → Type 0
-FedOn tells old slot reader piece new now = (content : Option (List ℕ)) (octets : List ℕ) (entries : List Entry)
-    → Fed tells content old slot reader octets entries → Fed tells content new slot now (octets ++ piece) entries
+FedOn tells old slot reader piece new now = (content : Option (List ℕ)) (octets : List ℕ) (taken : List Taken)
+    → Fed tells content old slot reader octets taken → Fed tells content new slot now (octets ++ piece) taken
 
 -- the same, where nothing more was handed out
 abbrev pub FedStill : Bool → desk.Reading → ℕ → Reading → desk.Reading → Reading → Type 0
-FedStill tells old slot reader new now = (content : Option (List ℕ)) (octets : List ℕ) (entries : List Entry)
-    → Fed tells content old slot reader octets entries → Fed tells content new slot now octets entries
+FedStill tells old slot reader new now = (content : Option (List ℕ)) (octets : List ℕ) (taken : List Taken)
+    → Fed tells content old slot reader octets taken → Fed tells content new slot now octets taken
 
 -- a piece, of at least one octet and at most so many, was handed out of the slot and fed
 pub record FeedsPiece (tells : Bool) (old : desk.Reading) (slot most : ℕ) (reader : Reading) (new : desk.Reading) (now : Reading) : Type 0 where
@@ -31,7 +31,7 @@ pub record FeedsPiece (tells : Bool) (old : desk.Reading) (slot most : ℕ) (rea
   pub some : 0 < length piece
   pub fits : length piece ≤ most
   pub gives : Gives tells old new slot piece
-  pub fed : now ≡ record reader { pending = reader.pending ++ piece }
+  pub fed : IsFed reader piece now
   pub kept : FedOn tells old slot reader piece new now
 
 -- nothing was left of the slot: all that the name holds was handed out

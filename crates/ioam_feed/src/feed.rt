@@ -1,12 +1,12 @@
 ghost use Rattle.std.specs.Prelude.{◌≡◌, ◌+◌, ◌<◌, ◌^◌, [], length, Err, IfErr, IfOk};
 ghost use Rattle.ioam_desk.specs.Asked.{IsFaultOf};
 ghost use Rattle.ioam_desk.specs.Desk.{OpenIn, OpensInput, holds};
-ghost use Rattle.ioam_pcap.specs.Reader.{HoldsFew, fed, fresh, most_size};
+ghost use Rattle.ioam_captures.specs.Reading.{HoldsFew, fed, fresh, most_held, pending};
 ghost use Rattle.ioam_feed.specs.Feed.{Fed, Refills};
 
 use ioam_base::memory::NoMemory;
+use ioam_captures::Reader;
 use ioam_desk::{Desk, DeskFault};
-use ioam_pcap::CaptureReader;
 use std::alloc::Global;
 
 /// A capture that is read in pieces: an input slot, and the reader that its octets are fed to.
@@ -15,7 +15,7 @@ pub struct Feed {
     /// The input slot.
     pub slot: u32,
     /// What was handed out of the slot and not yet taken.
-    pub reader: CaptureReader,
+    pub reader: Reader,
 }
 
 /// Opens the capture that a name holds. A missing name is a fault; where no memory can be had the
@@ -31,7 +31,7 @@ pub fn open_feed<D: Desk>(alloc: Global, desk: &mut D, name: &str) -> Result<Fee
     ensures cause { IfErr result (IsFaultOf (D.reading desk.old).side (D.reading desk.new).side) }
     ensures outputs { D.writing desk.new ≡ D.writing desk.old }
 {
-    let reader = match CaptureReader::new(alloc) {
+    let reader = match Reader::new(alloc) {
         Ok(reader) => reader,
         Err(NoMemory) => return Err(DeskFault::NoMemory),
     };
@@ -42,7 +42,8 @@ pub fn open_feed<D: Desk>(alloc: Global, desk: &mut D, name: &str) -> Result<Fee
 impl Feed {
     /// Reads the next piece of the capture into a buffer, and feeds it. The answer is false exactly
     /// where the capture has ended. A reader is fed only where its next record isn't whole, as its
-    /// `More` says; so it holds back less than a record, of 262,160 octets, and a piece.
+    /// `More` says; so it holds back less than the form's greatest record, of 262,160 octets, or
+    /// block, of 16,777,216, and a piece.
     ///
     /// After `Failed` the reader is as it was, and nothing was handed out. After `NoMemory` the
     /// reader is as it was too, but a piece of the capture may be lost.
@@ -54,7 +55,7 @@ impl Feed {
         ensures slot { self.new.slot ≡ self.old.slot }
         ensures read { Refills D.tells (D.reading desk.old) self.old.slot (length piece.old) self.old.reader
             result (D.reading desk.new) self.new.reader }
-        ensures kept { length self.new.reader.pending < most_size + length piece.old }
+        ensures kept { length (pending self.new.reader) < most_held self.new.reader + length piece.old }
         ensures cause { IfErr result (IsFaultOf (D.reading desk.old).side (D.reading desk.new).side) }
         ensures asked { (D.reading desk.new).side.asked ≡ (D.reading desk.old).side.asked }
         ensures slots { (D.reading desk.new).side.slots ≡ (D.reading desk.old).side.slots }

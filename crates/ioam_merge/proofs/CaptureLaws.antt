@@ -7,86 +7,51 @@ use Rattle.ioam_desk.specs.Desk as desk
 use Rattle.ioam_desk.specs.declared.fault.DeskFault.{DeskFault}
 use Rattle.ioam_desk.specs.declared.fault.DeskFault.TheVariants.{Failed, NoMemory}
 use Rattle.ioam_feed.specs.Feed.{Fed, FeedsPiece, FindsEnd, FailsToRead, Refills}
-use Rattle.ioam_pcap.specs.Arrives.{Handed, HandsOn}
-use Rattle.ioam_pcap.specs.Entries.{Entry}
-use Rattle.ioam_pcap.specs.Merge.{Stream, due_by, due_of}
-use Rattle.ioam_pcap.specs.Reader.{Stands, HoldsFew, IsHeadDue, Told, Moved, fed, link_of, shown_by}
-use Rattle.ioam_pcap.specs.Reading.{Reading}
-use Rattle.ioam_pcap.specs.Reads.{Ending, Whole, Faulty, Shows, link_by}
-use Rattle.ioam_pcap.specs.Streams.{known_ending, ShowsSo, Streams}
-use Rattle.ioam_pcap.specs.declared.capture.CapStep.{CapStep}
-use Rattle.ioam_pcap.specs.declared.capture.CapStep.TheVariants as step
-use Rattle.ioam_pcap.specs.declared.form.Form.{Form}
-use Rattle.ioam_pcap.specs.declared.form.Link.{Link}
-use Rattle.ioam_pcap.specs.declared.turns.Due.{Due}
-use Rattle.ioam_pcap.specs.declared.turns.Due.TheVariants.{More}
-use Rattle.ioam_pcap.proofs.ReadsLaws.{ends_front}
-use Rattle.ioam_pcap.proofs.StandsLaws.{Stands-start, ends_by_fault}
-use Rattle.ioam_pcap.proofs.StreamsLaws.{ShowsSo-total, Reached-begins}
-use Rattle.ioam_merge.specs.Capture.{HasReadHead, Lane, IsLane, LaneOn, IsDue, ShowsDue, most_taken}
+use Rattle.ioam_pcap.specs.Ending.{Ending, Whole, Faulty}
+use Rattle.ioam_pcap.specs.Entries.{Taken}
+use Rattle.ioam_captures.specs.Arrives.{Handed, HandsOn}
+use Rattle.ioam_captures.specs.Merge.{Stream, due_by, due_of}
+use Rattle.ioam_captures.specs.Reader.{Stands}
+use Rattle.ioam_captures.specs.Reading.{Reading, Front, Classic, Ng, pending, fed, most_held, HoldsFew}
+use Rattle.ioam_captures.specs.Streams.{known_ending, ShowsSo, Streams}
+use Rattle.ioam_captures.specs.declared.turns.Due.{Due}
+use Rattle.ioam_captures.specs.declared.turns.Due.TheVariants.{More}
+use Rattle.ioam_captures.proofs.StandsLaws.{Stands-first, Stands-room}
+use Rattle.ioam_captures.proofs.StreamsLaws.{ShowsSo-total}
+use Rattle.ioam_merge.specs.Capture.{Lane, IsLane, LaneOn, IsDue, ShowsDue, most_taken}
 use Rattle.ioam_merge.specs.declared.capture.Capture.{Capture}
 
 -- of the records that a reader has not yet given, its octets show something
-pub Streams-total : (reader : Reading) (octets : List ℕ) (given : List Entry) (ended : Bool) → Stands reader octets given
+pub Streams-total : (reader : Reading) (octets : List ℕ) (given : List Taken) (ended : Bool) → Stands reader octets given
     → (stream : Stream) × Streams octets ended given stream
 Streams-total reader octets given ended stands =
-    let (link, entries, known, shows) = ShowsSo-total octets ended in
-    let (more, same, head) = Reached-begins octets link entries shows.ending shows.reads reader.form given reader.start stands.reached in
-    (record { link = link; entries = more; ending = known }, subst (λ es. ShowsSo octets ended link es known) same shows)
+    let (records, known, shows) = ShowsSo-total octets ended in
+    let (more, same) = Stands-first reader octets given stands records shows.ending shows.reads in
+    (record { records = more; ending = known }, subst (λ ts. ShowsSo octets ended ts known) same shows)
 
--- a step takes no octets but those that it moves behind
-pub moved_fed : (old new : Reading) (s : CapStep) → Moved old new s → fed new ≡ fed old
-moved_fed old new (step.Head link) moved = omega (arith, moved.0, moved.2)
-moved_fed old new (step.Packet p) moved = omega (arith, moved.1, moved.3)
-moved_fed old new step.More moved = ap fed moved.0
-moved_fed old new (step.Bad at fault) moved = ap fed moved.0
-
--- and holds back no more
-pub moved_kept : (old new : Reading) (s : CapStep) → Moved old new s → length new.pending ≤ length old.pending
-moved_kept old new (step.Head link) moved = omega (arith, moved.2)
-moved_kept old new (step.Packet p) moved = omega (arith, moved.3)
-moved_kept old new step.More moved = omega (arith, ap (λ (r : Reading). length r.pending) moved.0)
-moved_kept old new (step.Bad at fault) moved = omega (arith, ap (λ (r : Reading). length r.pending) moved.0)
-
--- where the head is due, a step takes it
-module _ (octets : List ℕ) (given : List Entry) (old new : Reading) (due : IsHeadDue octets old) where
-  pub head_taken : (s : CapStep) → Told octets given old new s → (link : Link) × (s ≡ step.Head link) × HasReadHead new octets given (Some link)
-  head_taken (step.Head link) told =
-      (link, refl, (told.1.1, λ none. let wrong : None ≡ Some link = sym (ap link_by none) ∙ told.1.0 in absurd (cc), sym told.1.0))
-  head_taken (step.Packet p) told =
-      let none = due.1.0 in
-      let Q : Option Form → Type 0 = λ f. Shows octets f old.start (shown_by (step.Packet p)) in
-      absurd (subst Q none told.0)
-  head_taken step.More told =
-      let none = due.1.0 in
-      let head = due.1.1.1 in
-      let Q : Option Form → Type 0 = λ f. Shows octets f old.start (shown_by step.More) in
-      elim (subst Q none told.0) [
-        | inl short ↦ absurd (omega (arith, short, head.0))
-        | inr short ↦ absurd (omega (arith, short.0, head.0))
-      ]
-  head_taken (step.Bad at fault) told =
-      let none = due.1.0 in
-      let Q : Option Form → Type 0 = λ f. Shows octets f old.start (shown_by (step.Bad at fault)) in
-      absurd (ends_front octets due.1.1.0 (Faulty 0 fault) due.1.1.1 (ends_by_fault octets None 0 fault (subst Q none told.0)))
-
-  pub head_given : (link : Link) → Told octets given old new (step.Head link) → HasReadHead new octets given (Some link)
-  head_given link told = (told.1.1, λ none. let wrong : None ≡ Some link = sym (ap link_by none) ∙ told.1.0 in absurd (cc), sym told.1.0)
-
-  pub head_other : (s : CapStep) → Told octets given old new s → ((link : Link) → s ≡ step.Head link → ⊥) → ⊥
-  head_other s told other = let (link, is, head) = head_taken s told in other link is
+-- readers that were fed the same octets are of one form, and hold back as much
+pub most_same : (a b : Reading) (octets : List ℕ) (xs ys : List Taken) → Stands a octets xs → Stands b octets ys → most_held a ≡ most_held b
+most_same (Front held) (Front other) octets xs ys x y = refl
+most_same (Front held) (Classic other) octets xs ys x y = absurd (omega (arith, x.1, y.1))
+most_same (Front held) (Ng other) octets xs ys x y = absurd (omega (arith, x.1, y.0.0))
+most_same (Classic reader) (Front other) octets xs ys x y = absurd (omega (arith, x.1, y.1))
+most_same (Classic reader) (Classic other) octets xs ys x y = refl
+most_same (Classic reader) (Ng other) octets xs ys x y = absurd (x.0 y.0)
+most_same (Ng reader) (Front other) octets xs ys x y = absurd (omega (arith, x.0.0, y.1))
+most_same (Ng reader) (Classic other) octets xs ys x y = absurd (y.0 x.0)
+most_same (Ng reader) (Ng other) octets xs ys x y = refl
 
 -- of a capture that has ended it is known what is due
-shown_by_ending : (entries : List Entry) (ending : Option Ending) (e : Ending) → ending ≡ Some e → due_by entries ending ≡ More → ⊥
+shown_by_ending : (records : List Taken) (ending : Option Ending) (e : Ending) → ending ≡ Some e → due_by records ending ≡ More → ⊥
 shown_by_ending (x ∷ xs) ending e is due = absurd (cc)
 shown_by_ending [] None e is due = absurd (cc)
 shown_by_ending [] (Some Whole) e is due = absurd (cc)
 shown_by_ending [] (Some (Faulty at fault)) e is due = absurd (cc)
 
-pub ended_shown : (octets : List ℕ) (ended : Bool) (given : List Entry) (stream : Stream) → ended ≡ true → Streams octets ended given stream
+pub ended_shown : (octets : List ℕ) (ended : Bool) (given : List Taken) (stream : Stream) → ended ≡ true → Streams octets ended given stream
     → due_of stream ≡ More → ⊥
 ended_shown octets ended given stream is shows =
-    shown_by_ending stream.entries stream.ending shows.ending (shows.known_is ∙ ap (λ b. known_ending b shows.ending) is)
+    shown_by_ending stream.records stream.ending shows.ending (shows.known_is ∙ ap (λ b. known_ending b shows.ending) is)
 
 -- more was handed out, and then more still
 pub HandsOn-trans : (a b c : Handed) → HandsOn a b → HandsOn b c → HandsOn a c
@@ -98,33 +63,36 @@ HandsOn-trans a b c (inl (going, (xs, x))) (inl (still, (ys, y))) =
 some_piece : (piece : List ℕ) → 0 < length piece → piece ≡ [] → ⊥
 some_piece piece some none = omega (arith, ap length none)
 
-module _ (tells : Bool) (content : Option (List ℕ)) (slot : ℕ) (given : List Entry) where
+-- less than a record or block and a piece is held back
+abbrev HoldsBack : Reading → Type 0
+HoldsBack reader = length (pending reader) < most_held reader + 65536
+
+module _ (tells : Bool) (content : Option (List ℕ)) (slot : ℕ) (given : List Taken) where
   -- the reader took a step that gave no record
   pub Lane-step : (inputs : desk.Reading) (before after : Capture) (handed : Handed) → Lane tells content inputs slot before handed given
-      → Stands after.feed.reader handed.octets given → after.link ≡ link_of after.feed.reader → after.feed.slot ≡ before.feed.slot → after.ended ≡ before.ended
-      → length after.feed.reader.pending ≤ length before.feed.reader.pending
+      → Stands after.feed.reader handed.octets given → after.feed.slot ≡ before.feed.slot → after.ended ≡ before.ended
+      → length (pending after.feed.reader) ≤ length (pending before.feed.reader)
       → Lane tells content inputs slot after handed given
-  Lane-step inputs before after handed lane stands links slots ends kept = record {
+  Lane-step inputs before after handed lane stands slots ends kept = record {
     fed = record { stands = stands; is_open = lane.fed.is_open; held = lane.fed.held };
     number = slots ∙ lane.number;
-    linked = links;
     same_end = lane.same_end ∙ sym ends;
     slot_end = lane.slot_end;
     none_left = lane.none_left;
-    held_back = omega (arith, kept, lane.held_back);
+    held_back = omega (arith, kept, lane.held_back, most_same before.feed.reader after.feed.reader handed.octets given given lane.fed.stands stands);
   }
 
-  -- a piece can be fed where less than a record is held back
+  -- a piece can be fed where less than a record or block is held back
   pub Lane-fits : (inputs : desk.Reading) (capture : Capture) (handed : Handed) → Lane tells content inputs slot capture handed given
       → length given ≤ most_taken → HoldsFew capture.feed.reader → fed capture.feed.reader + 65536 < 2 ^ 63
-  Lane-fits inputs capture handed lane many few = omega (arith, many, few, Stands-start capture.feed.reader handed.octets given lane.fed.stands)
+  Lane-fits inputs capture handed lane many few = Stands-room capture.feed.reader handed.octets given lane.fed.stands many few
 
   -- a piece was handed out
   pub Lane-piece : (old new : desk.Reading) (before after : Capture) (handed : Handed) (most : ℕ) → Lane tells content old slot before handed given
       → before.ended ≡ false → FeedsPiece tells old before.feed.slot most before.feed.reader new after.feed.reader
-      → after.feed.slot ≡ before.feed.slot → after.ended ≡ before.ended → after.link ≡ before.link → length after.feed.reader.pending < 327696
+      → after.feed.slot ≡ before.feed.slot → after.ended ≡ before.ended → length (pending after.feed.reader) < most_held after.feed.reader + 65536
       → (more : Handed) × HandsOn handed more × Lane tells content new slot after more given
-  Lane-piece old new before after handed most lane unended feeds slots ends links held =
+  Lane-piece old new before after handed most lane unended feeds slots ends held =
       let P : ℕ → Type 0 = λ s. Fed tells content new s after.feed.reader (handed.octets ++ feeds.piece) given in
       let Q : ℕ → Type 0 = λ s. Fed tells content old s before.feed.reader handed.octets given in
       let fed = subst P lane.number (feeds.kept content handed.octets given (subst Q (sym lane.number) lane.fed)) in (
@@ -133,7 +101,6 @@ module _ (tells : Bool) (content : Option (List ℕ)) (slot : ℕ) (given : List
         record {
           fed = fed;
           number = slots ∙ lane.number;
-          linked = links ∙ lane.linked ∙ sym (ap link_of feeds.fed);
           same_end = lane.same_end ∙ sym ends;
           slot_end = λ told. still_open told;
           none_left = λ told end. let wrong : false ≡ true = sym (lane.same_end ∙ unended) ∙ end in absurd (cc);
@@ -149,9 +116,9 @@ module _ (tells : Bool) (content : Option (List ℕ)) (slot : ℕ) (given : List
   -- the end was found
   pub Lane-end : (old new : desk.Reading) (before after : Capture) (handed : Handed) → Lane tells content old slot before handed given
       → before.ended ≡ false → FindsEnd tells old before.feed.slot before.feed.reader new after.feed.reader
-      → after.feed.slot ≡ before.feed.slot → after.ended ≡ true → after.link ≡ before.link
+      → after.feed.slot ≡ before.feed.slot → after.ended ≡ true
       → (more : Handed) × HandsOn handed more × Lane tells content new slot after more given
-  Lane-end old new before after handed lane unended finds slots ends links =
+  Lane-end old new before after handed lane unended finds slots ends =
       let P : ℕ → Type 0 = λ s. Fed tells content new s after.feed.reader handed.octets given in
       let Q : ℕ → Type 0 = λ s. Fed tells content old s before.feed.reader handed.octets given in
       let fed = subst P lane.number (finds.kept content handed.octets given (subst Q (sym lane.number) lane.fed)) in (
@@ -160,42 +127,39 @@ module _ (tells : Bool) (content : Option (List ℕ)) (slot : ℕ) (given : List
         record {
           fed = fed;
           number = slots ∙ lane.number;
-          linked = links ∙ lane.linked ∙ sym (ap link_of finds.same);
           same_end = sym ends;
           slot_end = λ told. subst (λ s. new.ended s ≡ true) lane.number (finds.ended told);
           none_left = λ told end. subst (λ s. new.left s ≡ []) lane.number (finds.left told);
-          held_back = omega (arith, lane.held_back, ap (λ (r : Reading). length r.pending) finds.same);
+          held_back = subst HoldsBack (sym finds.same) lane.held_back;
         },
       )
 
   -- the read failed
   pub Lane-fail : (old new : desk.Reading) (before after : Capture) (handed : Handed) → Lane tells content old slot before handed given
       → FailsToRead tells old before.feed.slot before.feed.reader new after.feed.reader
-      → after.feed.slot ≡ before.feed.slot → after.ended ≡ before.ended → after.link ≡ before.link
+      → after.feed.slot ≡ before.feed.slot → after.ended ≡ before.ended
       → Lane tells content new slot after handed given
-  Lane-fail old new before after handed lane fails slots ends links =
+  Lane-fail old new before after handed lane fails slots ends =
       let P : ℕ → Type 0 = λ s. Fed tells content new s after.feed.reader handed.octets given in
       let Q : ℕ → Type 0 = λ s. Fed tells content old s before.feed.reader handed.octets given in
       let fed = subst P lane.number (fails.kept content handed.octets given (subst Q (sym lane.number) lane.fed)) in
       record {
         fed = fed;
         number = slots ∙ lane.number;
-        linked = links ∙ lane.linked ∙ sym (ap link_of fails.same);
         same_end = lane.same_end ∙ sym ends;
         slot_end = λ told. ap (λ f. f slot) fails.ended ∙ lane.slot_end told;
         none_left = λ told end. ap (λ f. f slot) fails.left ∙ lane.none_left told end;
-        held_back = omega (arith, lane.held_back, ap (λ (r : Reading). length r.pending) fails.same);
+        held_back = subst HoldsBack (sym fails.same) lane.held_back;
       }
 
 -- one round of showing what is due: more was handed out before it, and it is asked what is due
-module _ (tells : Bool) (old now : desk.Reading) (first before mid : Capture) (due : Due) (lane : LaneOn tells old first now before (λ handed given. ⊤)) (says : (octets : List ℕ) (given : List Entry) (stream : Stream) → Stands before.feed.reader octets given → Streams octets before.ended given stream → due ≡ due_of stream) (stands : (octets : List ℕ) (given : List Entry) → Stands before.feed.reader octets given → before.link ≡ link_of before.feed.reader → Stands mid.feed.reader octets given × (mid.link ≡ link_of mid.feed.reader)) (slots : mid.feed.slot ≡ before.feed.slot) (ends : mid.ended ≡ before.ended) (kept : length mid.feed.reader.pending ≤ length before.feed.reader.pending) where
+module _ (tells : Bool) (old now : desk.Reading) (first before mid : Capture) (due : Due) (lane : LaneOn tells old first now before (λ handed given. ⊤)) (says : (octets : List ℕ) (given : List Taken) (stream : Stream) → Stands before.feed.reader octets given → Streams octets before.ended given stream → due ≡ due_of stream) (stands : (octets : List ℕ) (given : List Taken) → Stands before.feed.reader octets given → Stands mid.feed.reader octets given) (slots : mid.feed.slot ≡ before.feed.slot) (ends : mid.ended ≡ before.ended) (kept : length (pending mid.feed.reader) ≤ length (pending before.feed.reader)) where
   pub at_due : LaneOn tells old first now mid (λ handed given. IsDue handed given due)
   at_due content slot handed given start =
-      let (more, on, here, done) = lane content slot handed given start in
-      let stood = stands more.octets given here.fed.stands here.linked in (
+      let (more, on, here, done) = lane content slot handed given start in (
         more,
         on,
-        Lane-step tells content slot given now before mid more here stood.0 stood.1 slots ends kept,
+        Lane-step tells content slot given now before mid more here (stands more.octets given here.fed.stands) slots ends kept,
         λ stream shows. says more.octets given stream here.fed.stands (subst (λ b. Streams more.octets b given stream) here.same_end shows),
       )
 
@@ -212,39 +176,34 @@ module _ (tells : Bool) (old now : desk.Reading) (first before mid : Capture) (d
       (more, on, here, (is, known))
 
   -- its slot is open, and where more is needed a piece can be fed
-  pub fits_due : ((octets : List ℕ) (given : List Entry) → Stands before.feed.reader octets given → due ≡ More → HoldsFew mid.feed.reader) → due ≡ More
+  pub fits_due : (due ≡ More → HoldsFew mid.feed.reader) → due ≡ More
       → IsLane tells old first → (mid.feed.slot < now.side.slots) × HoldsFew mid.feed.reader × (fed mid.feed.reader + 65536 < 2 ^ 63)
   fits_due few un (content, slot, handed, given, start, many) =
-      let (was, since, there, done) = lane content slot handed given start in
       let (more, on, here, is) = at_due content slot handed given start in
-      let held = few was.octets given there.fed.stands un in (
-        omega (arith, here.number, here.fed.is_open),
-        held,
-        Lane-fits tells content slot given now mid more here many held,
-      )
+      (omega (arith, here.number, here.fed.is_open), few un, Lane-fits tells content slot given now mid more here many (few un))
 
   -- a piece came, or the end
   pub piece_due : (new : desk.Reading) (after : Capture) (most : ℕ) → mid.ended ≡ false
-      → FeedsPiece tells now mid.feed.slot most mid.feed.reader new after.feed.reader → after.feed.slot ≡ mid.feed.slot → after.ended ≡ mid.ended → after.link ≡ mid.link
-      → length after.feed.reader.pending < 327696 → LaneOn tells old first new after (λ handed given. ⊤)
-  piece_due new after most unended feeds same_slot same_end same_link held content slot handed given start =
+      → FeedsPiece tells now mid.feed.slot most mid.feed.reader new after.feed.reader → after.feed.slot ≡ mid.feed.slot → after.ended ≡ mid.ended
+      → length (pending after.feed.reader) < most_held after.feed.reader + 65536 → LaneOn tells old first new after (λ handed given. ⊤)
+  piece_due new after most unended feeds same_slot same_end held content slot handed given start =
       let (more, on, here, is) = at_due content slot handed given start in
-      let (later, again, there) = Lane-piece tells content slot given now new mid after more most here unended feeds same_slot same_end same_link held in
+      let (later, again, there) = Lane-piece tells content slot given now new mid after more most here unended feeds same_slot same_end held in
       (later, HandsOn-trans handed more later on again, there, tt)
 
   pub end_due : (new : desk.Reading) (after : Capture) → mid.ended ≡ false
-      → FindsEnd tells now mid.feed.slot mid.feed.reader new after.feed.reader → after.feed.slot ≡ mid.feed.slot → after.ended ≡ true → after.link ≡ mid.link
+      → FindsEnd tells now mid.feed.slot mid.feed.reader new after.feed.reader → after.feed.slot ≡ mid.feed.slot → after.ended ≡ true
       → LaneOn tells old first new after (λ handed given. ⊤)
-  end_due new after unended finds same_slot end same_link content slot handed given start =
+  end_due new after unended finds same_slot end content slot handed given start =
       let (more, on, here, is) = at_due content slot handed given start in
-      let (later, again, there) = Lane-end tells content slot given now new mid after more here unended finds same_slot end same_link in
+      let (later, again, there) = Lane-end tells content slot given now new mid after more here unended finds same_slot end in
       (later, HandsOn-trans handed more later on again, there, tt)
 
   -- nothing came
   pub fault_due : (new : desk.Reading) (after : Capture) (most : ℕ) (fault : DeskFault) → due ≡ More
-      → Refills tells now mid.feed.slot most mid.feed.reader (Err fault) new after.feed.reader → after.feed.slot ≡ mid.feed.slot → after.ended ≡ mid.ended → after.link ≡ mid.link
+      → Refills tells now mid.feed.slot most mid.feed.reader (Err fault) new after.feed.reader → after.feed.slot ≡ mid.feed.slot → after.ended ≡ mid.ended
       → ShowsDue tells old first (Err fault) new after
-  fault_due new after most Failed un fails same_slot same_end same_link = λ content slot handed given start.
+  fault_due new after most Failed un fails same_slot same_end = λ content slot handed given start.
       let (more, on, here, is) = at_due content slot handed given start in
-      (more, on, Lane-fail tells content slot given now new mid after more here fails same_slot same_end same_link, λ stream shows. sym un ∙ is stream shows)
-  fault_due new after most NoMemory un lacks same_slot same_end same_link = tt
+      (more, on, Lane-fail tells content slot given now new mid after more here fails same_slot same_end, λ stream shows. sym un ∙ is stream shows)
+  fault_due new after most NoMemory un lacks same_slot same_end = tt

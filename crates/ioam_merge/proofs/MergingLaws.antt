@@ -1,24 +1,24 @@
 -- Laws of captures of a desk that are merged by time.
-use Rattle.std.proofs.Common.{◌≡◌, ℕ, zero, suc, ◌+◌, ◌<◌, ◌≤◌, ◌⊎◌, Bool, true, false, IsTrue, List, [], ◌∷◌, ◌++◌, length, Option, Some, arith, refl, sym, ap, ◌∙◌, subst, inl, inr, set}
-use Rattle.std.specs.Prelude.{map, slice_get}
+use Rattle.std.proofs.Common.{◌≡◌, ℕ, zero, suc, ◌+◌, ◌<◌, ◌≤◌, ◌⊎◌, Bool, true, false, IsTrue, List, [], ◌∷◌, ◌++◌, length, Option, Some, None, arith, refl, sym, ap, ◌∙◌, subst, inl, inr, set}
+use Rattle.std.specs.Prelude.{map, slice_get, if◌then◌else◌}
 use Rattle.std.specs.List.{AllZip}
 use Rattle.std.proofs.lemmas.List.{append-nil}
 use Rattle.std.proofs.lemmas.Option.{none-some, same_Some}
 use Rattle.ioam_desk.specs.Desk as desk
 use Rattle.ioam_desk.specs.Unread.{Unread}
-use Rattle.ioam_pcap.specs.Arrives.{Handed, HandsOn, IsStream, Arrives}
-use Rattle.ioam_pcap.specs.Entries.{Entry}
-use Rattle.ioam_pcap.specs.Merge.{Stream, due_by, due_of, turn, Arrival, of_capture, rest_by, rest, without_first, Takes, IsNext}
-use Rattle.ioam_pcap.specs.Reads.{Ending, Whole, Faulty}
-use Rattle.ioam_pcap.specs.Streams.{known_ending, Streams}
-use Rattle.ioam_pcap.specs.Turn.{IsTurn, turn_of}
-use Rattle.ioam_pcap.specs.declared.capture.CapFault.TheVariants as fault
-use Rattle.ioam_pcap.specs.declared.turns.Due.{Due}
-use Rattle.ioam_pcap.specs.declared.turns.Due.TheVariants.{End, More}
-use Rattle.ioam_pcap.specs.declared.turns.Turn.{Turn}
-use Rattle.ioam_pcap.specs.declared.turns.Turn.TheVariants.{Next, Over, Broken, Unshown}
-use Rattle.ioam_pcap.proofs.ArrivesLaws.{Arrives-total, Arrives-known, Takes-streams, Takes-handed}
-use Rattle.ioam_pcap.proofs.TurnLaws.{turn_says}
+use Rattle.ioam_captures.specs.Arrives.{Handed, HandsOn, IsStream, Arrives}
+use Rattle.ioam_pcap.specs.Entries.{Taken}
+use Rattle.ioam_captures.specs.Merge.{Stream, due_by, due_of, turn, Arrival, of_capture, rest_by, rest, without_first, Takes, IsNext}
+use Rattle.ioam_pcap.specs.Ending.{Ending, Whole, Faulty, stays}
+use Rattle.ioam_captures.specs.Streams.{known_ending, Streams}
+use Rattle.ioam_captures.specs.Turn.{IsTurn, turn_of}
+use Rattle.ioam_pcap.specs.declared.capture.CapFault.{CapFault}
+use Rattle.ioam_captures.specs.declared.turns.Due.{Due}
+use Rattle.ioam_captures.specs.declared.turns.Due.TheVariants.{End, More}
+use Rattle.ioam_captures.specs.declared.turns.Turn.{Turn}
+use Rattle.ioam_captures.specs.declared.turns.Turn.TheVariants.{Next, Over, Broken, Unshown}
+use Rattle.ioam_captures.proofs.ArrivesLaws.{Arrives-total, Arrives-known, Takes-streams, Takes-handed}
+use Rattle.ioam_captures.proofs.TurnLaws.{turn_says}
 use Rattle.ioam_merge.specs.Capture.{Lane, IsDue, MovesOne}
 use Rattle.ioam_merge.specs.Merging.{Begins, IsFile, FilesArrive, FilesBegin, AreParts, PartsArrive, Start, Row, IsRow, Rows, slot_of}
 use Rattle.ioam_merge.specs.declared.capture.Capture.{Capture}
@@ -91,18 +91,19 @@ within (y ∷ ys) zero x is = omega arith
 within (y ∷ ys) (suc k) x is = omega (arith, within ys k x is)
 
 -- the captures have ended where their end is due
-ending_end : (entries : List Entry) (ended : Bool) (ending : Ending) → due_by entries (known_ending ended ending) ≡ End → ended ≡ true
-ending_end entries true ending due = refl
-ending_end (e ∷ es) false ending due = absurd (cc)
-ending_end [] false Whole due = absurd (cc)
-ending_end [] false (Faulty at (fault.Magic found)) due = absurd (cc)
-ending_end [] false (Faulty at (fault.Link found)) due = absurd (cc)
-ending_end [] false (Faulty at (fault.RecordLong found)) due = absurd (cc)
-ending_end [] false (Faulty at (fault.Short have)) due = absurd (cc)
+kept_fault : (stays : Bool) (at : ℕ) (f : CapFault) → due_by [] (if stays then Some (Faulty at f) else None) ≡ End → ⊥
+kept_fault true at f due = absurd (cc)
+kept_fault false at f due = absurd (cc)
 
-stream_end : (octets : List ℕ) (ended : Bool) (given : List Entry) (stream : Stream) → Streams octets ended given stream → due_of stream ≡ End → ended ≡ true
+ending_end : (records : List Taken) (ended : Bool) (ending : Ending) → due_by records (known_ending ended ending) ≡ End → ended ≡ true
+ending_end records true ending due = refl
+ending_end (t ∷ ts) false ending due = absurd (cc)
+ending_end [] false Whole due = absurd (cc)
+ending_end [] false (Faulty at f) due = absurd (kept_fault (stays f) at f due)
+
+stream_end : (octets : List ℕ) (ended : Bool) (given : List Taken) (stream : Stream) → Streams octets ended given stream → due_of stream ≡ End → ended ≡ true
 stream_end octets ended given stream shows due =
-    ending_end stream.entries ended shows.ending (ap (λ e. due_by stream.entries e) (sym shows.known_is) ∙ due)
+    ending_end stream.records ended shows.ending (ap (λ e. due_by stream.records e) (sym shows.known_is) ∙ due)
 
 dues_same : (rows : List Row) (now : List Stream) → length now ≡ length rows
     → ((k : ℕ) (row : Row) (s : Stream) → slice_get rows k ≡ Some row → slice_get now k ≡ Some s → row.due ≡ due_of s)
@@ -123,7 +124,7 @@ same_slot old new k left ended =
 
 -- a lane that nothing happened to
 module _ (tells : Bool) (old new : desk.Reading) (slot other : ℕ) (moves : MovesOne slot old new) (slots : old.side.slots ≤ new.side.slots) (apart : other ≡ slot → ⊥) where
-  pub Lane-other : (content : Option (List ℕ)) (capture : Capture) (handed : Handed) (given : List Entry) → Lane tells content old other capture handed given
+  pub Lane-other : (content : Option (List ℕ)) (capture : Capture) (handed : Handed) (given : List Taken) → Lane tells content old other capture handed given
       → Lane tells content new other capture handed given
   Lane-other content capture handed given lane = record {
     fed = record {
@@ -132,7 +133,6 @@ module _ (tells : Bool) (old new : desk.Reading) (slot other : ℕ) (moves : Mov
       held = λ told. lane.fed.held told ∙ ap (λ left. Some (handed.octets ++ left)) (sym (moves.0 other apart));
     };
     number = lane.number;
-    linked = lane.linked;
     same_end = lane.same_end;
     slot_end = λ told. moves.1 other apart ∙ lane.slot_end told;
     none_left = λ told end. moves.0 other apart ∙ lane.none_left told end;
@@ -176,7 +176,6 @@ module _ (tells : Bool) (start : Start) (taken : List Arrival) where
             Lane-other tells old new (start.base + place) (start.base + k) moves (omega (arith, slots)) (λ same. other.0 (omega (arith, same)))
                 r.content r.capture r.handed (of_capture k taken) was.0,
             was.1,
-            was.2,
           )
 
   -- a capture whose next record isn't shown
@@ -211,24 +210,24 @@ files_from inputs slot [] = []
 files_from inputs slot (row ∷ rows) = record { octets = row.handed.octets ++ inputs.left slot; ended = true } ∷ files_from inputs (slot + 1) rows
 
 module _ (tells : Bool) (inputs : desk.Reading) (told : IsTrue tells) where
-  abbrev AllRows : ℕ → List Row → (ℕ → List Entry) → Type 0
+  abbrev AllRows : ℕ → List Row → (ℕ → List Taken) → Type 0
   AllRows slot rows given = (k : ℕ) (row : Row) → slice_get rows k ≡ Some row → IsRow tells inputs (slot + k) row (given k)
 
-  rows_behind : (slot : ℕ) (row : Row) (rows : List Row) (given : ℕ → List Entry) → AllRows slot (row ∷ rows) given → AllRows (slot + 1) rows (λ k. given (suc k))
+  rows_behind : (slot : ℕ) (row : Row) (rows : List Row) (given : ℕ → List Taken) → AllRows slot (row ∷ rows) given → AllRows (slot + 1) rows (λ k. given (suc k))
   rows_behind slot row rows given all k r is =
       let there : slot + suc k ≡ slot + 1 + k = omega arith in
       subst (λ n. IsRow tells inputs n r (given (suc k))) there (all (suc k) r is)
 
-  first_row : (slot : ℕ) (row : Row) (rows : List Row) (given : ℕ → List Entry) → AllRows slot (row ∷ rows) given → IsRow tells inputs slot row (given 0)
+  first_row : (slot : ℕ) (row : Row) (rows : List Row) (given : ℕ → List Taken) → AllRows slot (row ∷ rows) given → IsRow tells inputs slot row (given 0)
   first_row slot row rows given all = let here : slot + 0 ≡ slot = omega arith in subst (λ n. IsRow tells inputs n row (given 0)) here (all 0 row refl)
 
-  pub files_are : (slot : ℕ) (rows : List Row) (given : ℕ → List Entry) → AllRows slot rows given
+  pub files_are : (slot : ℕ) (rows : List Row) (given : ℕ → List Taken) → AllRows slot rows given
       → AllZip IsFile (map (λ row. row.content) rows) (files_from inputs slot rows)
   files_are slot [] given all = tt
   files_are slot (row ∷ rows) given all =
       (((first_row slot row rows given all).0.fed.held told, refl), files_are (slot + 1) rows (λ k. given (suc k)) (rows_behind slot row rows given all))
 
-  file_on : (slot : ℕ) (row : Row) (given : List Entry) → IsRow tells inputs slot row given
+  file_on : (slot : ℕ) (row : Row) (given : List Taken) → IsRow tells inputs slot row given
       → HandsOn row.handed (record { octets = row.handed.octets ++ inputs.left slot; ended = true })
   file_on slot row given is = by_end row.handed.ended refl
     where
@@ -239,13 +238,13 @@ module _ (tells : Bool) (inputs : desk.Reading) (told : IsTrue tells) where
           let both : ◌≡◌ {A = Handed} (record { octets = row.handed.octets ++ inputs.left slot; ended = true }) (record { octets = row.handed.octets; ended = row.handed.ended }) = cc in
           inr both
 
-  pub files_on : (slot : ℕ) (rows : List Row) (given : ℕ → List Entry) → AllRows slot rows given
+  pub files_on : (slot : ℕ) (rows : List Row) (given : ℕ → List Taken) → AllRows slot rows given
       → AllZip HandsOn (map (λ row. row.handed) rows) (files_from inputs slot rows)
   files_on slot [] given all = tt
   files_on slot (row ∷ rows) given all =
       (file_on slot row (given 0) (first_row slot row rows given all), files_on (slot + 1) rows (λ k. given (suc k)) (rows_behind slot row rows given all))
 
-  pub parts_are : (slot : ℕ) (rows : List Row) (given : ℕ → List Entry) → AllRows slot rows given
+  pub parts_are : (slot : ℕ) (rows : List Row) (given : ℕ → List Taken) → AllRows slot rows given
       → AreParts inputs slot (map (λ row. row.content) rows) (map (λ row. row.handed) rows)
   parts_are slot [] given all = tt
   parts_are slot (row ∷ rows) given all =
@@ -253,7 +252,7 @@ module _ (tells : Bool) (inputs : desk.Reading) (told : IsTrue tells) where
       (first.0.fed.held told, first.0.slot_end told, parts_are (slot + 1) rows (λ k. given (suc k)) (rows_behind slot row rows given all))
 
 module _ (tells : Bool) (start : Start) (taken : List Arrival) (inputs : desk.Reading) (rows : List Row) (are : Rows tells start inputs rows taken) (told : IsTrue tells) where
-  abbrev given : ℕ → List Entry
+  abbrev given : ℕ → List Taken
   given k = of_capture k taken
 
   -- what was taken begins what can be taken of the whole files

@@ -1,5 +1,5 @@
 -- Captures that are opened one behind the other, of which nothing was taken.
-use Rattle.std.proofs.Common.{◌≡◌, ℕ, zero, suc, ◌+◌, ◌<◌, ◌≤◌, ◌⊎◌, Bool, false, List, [], ◌∷◌, ◌++◌, length, Option, Some, None, arith, refl, sym, ap, ◌∙◌, subst, inl, inr, length-append, take, get_or, append-nil, append_assoc}
+use Rattle.std.proofs.Common.{◌≡◌, ℕ, zero, suc, ◌+◌, ◌<◌, ◌≤◌, ◌⊎◌, Bool, false, List, [], ◌∷◌, ◌++◌, length, Option, Some, arith, refl, sym, ap, ◌∙◌, subst, inl, inr, length-append, take, get_or, append-nil, append_assoc}
 use Rattle.std.specs.Prelude.{map, slice_get, Err}
 use Rattle.std.proofs.lemmas.List.{take_more}
 use Rattle.std.proofs.lemmas.Option.{none-some, same_Some}
@@ -9,11 +9,10 @@ use Rattle.ioam_desk.specs.Desk.{Side, Writing, OpensInput, OpenIn, holds, opene
 use Rattle.ioam_desk.specs.declared.fault.DeskFault.{DeskFault}
 use Rattle.ioam_desk.specs.declared.fault.DeskFault.TheVariants.{Failed, NoMemory}
 use Rattle.ioam_feed.specs.Feed.{Fed}
-use Rattle.ioam_pcap.specs.Arrives.{Handed}
-use Rattle.ioam_pcap.specs.Reader.{fresh, link_of}
-use Rattle.ioam_pcap.specs.Reading.{Reading}
-use Rattle.ioam_pcap.specs.declared.turns.Due.TheVariants.{More}
-use Rattle.ioam_pcap.proofs.ArrivesLaws.{Arrives-total}
+use Rattle.ioam_captures.specs.Arrives.{Handed}
+use Rattle.ioam_captures.specs.Reading.{Reading, fresh, pending, most_held}
+use Rattle.ioam_captures.specs.declared.turns.Due.TheVariants.{More}
+use Rattle.ioam_captures.proofs.ArrivesLaws.{Arrives-total}
 use Rattle.ioam_merge.specs.Merging.{Begins, EndsKept, Start, Row, IsRow, Merging, with_content, start_of, slot_of}
 use Rattle.ioam_merge.specs.declared.capture.Capture.{Capture}
 use Rattle.ioam_merge.specs.declared.merge.Merge.{Merge}
@@ -52,12 +51,12 @@ map_push f (x ∷ xs) y = ap (λ ys. f x ∷ ys) (map_push f xs y)
 
 module _ (tells : Bool) (start : Start) (old new : desk.Reading) (merge : Merge) (merging : Merging tells start old merge []) (content : Option (List ℕ)) (name : List ℕ) (capture : Capture) where
   -- one more
-  pub Merging-push : OpensInput tells old new content name capture.feed.slot → Fed tells content new capture.feed.slot capture.feed.reader [] [] → capture.ended ≡ false → capture.link ≡ None → capture.feed.reader ≡ fresh
+  pub Merging-push : OpensInput tells old new content name capture.feed.slot → Fed tells content new capture.feed.slot capture.feed.reader [] [] → capture.ended ≡ false → capture.feed.reader ≡ fresh
       → old.side.slots ≡ start.base + length merge.captures.items
       → (later : Merge) → later.captures.items ≡ merge.captures.items ++ capture ∷ [] → later.dues.items ≡ merge.dues.items ++ More ∷ []
       → length later.piece.items ≡ length merge.piece.items
       → Merging tells (with_content start content) new later []
-  Merging-push opens fed unended unlinked unread count later captures dues room = record {
+  Merging-push opens fed unended unread count later captures dues room = record {
     rows = merging.rows ++ last ∷ [];
     captures = captures ∙ ap (λ cs. cs ++ capture ∷ []) merging.captures ∙ sym (map_push (λ (r : Row). r.capture) merging.rows last);
     dues = dues ∙ ap (λ ds. ds ++ More ∷ []) merging.dues ∙ sym (map_push (λ (r : Row). r.due) merging.rows last);
@@ -88,25 +87,23 @@ module _ (tells : Bool) (start : Start) (old new : desk.Reading) (merge : Merge)
             Lane-other tells old new capture.feed.slot (start.base + k) (opens.other_left, opens.other_ended) more_slots
                 (λ same. absurd (omega (arith, same, slot_is, before.0))) r.content r.capture r.handed [] was.0,
             was.1,
-            was.2,
           )
       each_row k r (inr here) =
           let place : capture.feed.slot ≡ start.base + k = omega (arith, slot_is, here.0) in
           let P : ℕ → Type 0 = λ s. Fed tells content new s capture.feed.reader [] [] in
           let E : ℕ → Type 0 = λ s. new.ended s ≡ false in
+          let B : Reading → Type 0 = λ r. length (pending r) < most_held r + 65536 in
           let W : Row → Type 0 = λ x. IsRow tells new (start.base + k) x [] in
           subst W (sym here.1) (
             record {
               fed = subst P place fed;
               number = place;
-              linked = unlinked ∙ sym (ap link_of unread);
               same_end = sym unended;
               slot_end = λ told. subst E place opens.ended;
               none_left = λ told end. absurd (cc);
-              held_back = omega (arith, ap (λ (r : Reading). length r.pending) unread);
+              held_back = subst B (sym unread) (omega arith);
             },
             λ shown. absurd (shown refl),
-            tt,
           )
 
 -- a list with one item more of another

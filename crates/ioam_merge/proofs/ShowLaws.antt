@@ -7,18 +7,16 @@ use Rattle.std.proofs.lemmas.Option.{same_Some}
 use Rattle.ioam_desk.specs.Desk as desk
 use Rattle.ioam_desk.specs.declared.fault.DeskFault.{DeskFault}
 use Rattle.ioam_desk.specs.declared.fault.DeskFault.TheVariants.{Failed, NoMemory}
-use Rattle.ioam_pcap.specs.Arrives.{Handed, IsStream}
-use Rattle.ioam_pcap.specs.Entries.{Entry}
-use Rattle.ioam_pcap.specs.Merge.{Arrival, of_capture, turn, IsNext}
-use Rattle.ioam_pcap.specs.Reader.{IsHeaded}
-use Rattle.ioam_pcap.specs.Reading.{Reading}
-use Rattle.ioam_pcap.specs.Turn.{IsTurn, turn_of}
-use Rattle.ioam_pcap.specs.declared.turns.Due.{Due}
-use Rattle.ioam_pcap.specs.declared.turns.Due.TheVariants.{Record, End, More, Bad}
-use Rattle.ioam_pcap.specs.declared.turns.Turn.{Turn}
-use Rattle.ioam_pcap.specs.declared.turns.Turn.TheVariants.{Next, Over, Broken, Unshown}
-use Rattle.ioam_pcap.proofs.MergeLaws.{of_capture-few}
-use Rattle.ioam_pcap.proofs.TurnLaws.{next_due, turn_says}
+use Rattle.ioam_captures.specs.Arrives.{Handed, IsStream}
+use Rattle.ioam_pcap.specs.Entries.{Taken}
+use Rattle.ioam_captures.specs.Merge.{Arrival, of_capture, turn, IsNext}
+use Rattle.ioam_captures.specs.Turn.{IsTurn, turn_of}
+use Rattle.ioam_captures.specs.declared.turns.Due.{Due}
+use Rattle.ioam_captures.specs.declared.turns.Due.TheVariants.{Record, End, More, Bad}
+use Rattle.ioam_captures.specs.declared.turns.Turn.{Turn}
+use Rattle.ioam_captures.specs.declared.turns.Turn.TheVariants.{Next, Over, Broken, Unshown}
+use Rattle.ioam_captures.proofs.MergeLaws.{of_capture-few}
+use Rattle.ioam_captures.proofs.TurnLaws.{next_due, turn_says}
 use Rattle.ioam_merge.specs.Capture.{Lane, IsLane, LaneOn, IsDue, ShowsDue, MovesOne, most_taken}
 use Rattle.ioam_merge.specs.Merging.{Start, Row, IsRow, Rows, Merging, AreKnown, Stops, Turns, Comes, EndsKept}
 use Rattle.ioam_merge.specs.declared.capture.Capture.{Capture}
@@ -31,10 +29,6 @@ below_other zero zero below other = absurd (other refl)
 below_other zero (suc place) below other = omega arith
 below_other (suc k) zero below other = absurd (omega (arith, below))
 below_other (suc k) (suc place) below other = let less = below_other k place (omega (arith, below)) (λ same. other (ap suc same)) in omega (arith, less)
-
--- where a capture has to be asked nothing is said of its head
-pub IsHeaded-more : (due : Due) (reader : Reading) → due ≡ More → IsHeaded due reader
-IsHeaded-more due reader is = subst (λ d. IsHeaded d reader) (sym is) tt
 
 module _ (tells : Bool) (start : Start) (taken : List Arrival) (old new : desk.Reading) (merge : Merge) (merging : Merging tells start old merge taken) where
   -- there is as much due as there are captures
@@ -83,13 +77,13 @@ module _ (tells : Bool) (start : Start) (taken : List Arrival) (old new : desk.R
       )
 
   module _ (place : ℕ) (before after : Capture) (there : slice_get merge.captures.items place ≡ Some before) (moves : MovesOne before.feed.slot old new) (slots : new.side.slots ≡ old.side.slots) where
-    abbrev Asked : (Handed → List Entry → Type 0) → Due → Type 0
+    abbrev Asked : (Handed → List Taken → Type 0) → Due → Type 0
     Asked IsSo due = (row : Row) × (later : Row) × (slice_get merging.rows place ≡ Some row) × (later.capture ≡ after) × (later.due ≡ due)
         × IsSo later.handed (of_capture place taken) × Rows tells start new (set merging.rows place later) taken
 
-    ask : (IsSo : Handed → List Entry → Type 0) (due : Due) → LaneOn tells old before new after IsSo
-        → ((handed : Handed) (given : List Entry) → IsSo handed given → (due ≡ More → ⊥) → IsDue handed given due) → IsHeaded due after.feed.reader → Asked IsSo due
-    ask IsSo due lane known headed =
+    ask : (IsSo : Handed → List Taken → Type 0) (due : Due) → LaneOn tells old before new after IsSo
+        → ((handed : Handed) (given : List Taken) → IsSo handed given → (due ≡ More → ⊥) → IsDue handed given due) → Asked IsSo due
+    ask IsSo due lane known =
         let (row, is, same) = row_there place before there in
         let was = merging.are_rows.each place row is in
         let P : Capture → Type 0 = λ c. Lane tells row.content old (start.base + place) c row.handed (of_capture place taken) in
@@ -104,15 +98,15 @@ module _ (tells : Bool) (start : Start) (taken : List Arrival) (old new : desk.R
           refl,
           so,
           Rows-set tells start taken old new merging.rows place row later merging.are_rows is (subst Q here.number moves) slots refl on
-              (now, λ un. known more (of_capture place taken) so un, headed),
+              (now, λ un. known more (of_capture place taken) so un),
         )
 
     -- it is known
-    pub Shows-one : (later : Merge) (due : Due) → AreKnown place merge → LaneOn tells old before new after (λ handed given. IsDue handed given due × (due ≡ More → ⊥)) → IsHeaded due after.feed.reader
+    pub Shows-one : (later : Merge) (due : Due) → AreKnown place merge → LaneOn tells old before new after (λ handed given. IsDue handed given due × (due ≡ More → ⊥))
         → later.captures.items ≡ set merge.captures.items place after → later.dues.items ≡ set merge.dues.items place due → length later.piece.items ≡ 65536
         → Merging tells start new later taken × AreKnown (place + 1) later
-    Shows-one later due known lane headed captures dues room =
-        let (row, next, is, capture_is, due_is, so, are) = ask (λ handed given. IsDue handed given due × (due ≡ More → ⊥)) due lane (λ handed given so un. so.0) headed in (
+    Shows-one later due known lane captures dues room =
+        let (row, next, is, capture_is, due_is, so, are) = ask (λ handed given. IsDue handed given due × (due ≡ More → ⊥)) due lane (λ handed given so un. so.0) in (
           record {
             rows = set merging.rows place next;
             captures = captures ∙ ap (λ cs. set cs place after) merging.captures ∙ ap (λ c. set (map (λ (r : Row). r.capture) merging.rows) place c) (sym capture_is)
@@ -133,7 +127,7 @@ module _ (tells : Bool) (start : Start) (taken : List Arrival) (old new : desk.R
     -- or a read failed
     pub Shows-fault : (fault : DeskFault) → ShowsDue tells old before (Err fault) new after → Stops tells start taken new fault
     Shows-fault Failed lane = λ told.
-        let (row, next, is, capture_is, due_is, so, are) = ask (λ handed given. IsDue handed given More) More lane (λ handed given so un. so) tt in
+        let (row, next, is, capture_is, due_is, so, are) = ask (λ handed given. IsDue handed given More) More lane (λ handed given so un. so) in
         let here = get-set_here merging.rows place row next is in
         Rows-parts tells start taken new (set merging.rows place next) are told
         (Rows-unshown tells start taken new (set merging.rows place next) are place next here so)
@@ -210,15 +204,6 @@ module _ (tells : Bool) (start : Start) (taken : List Arrival) (new : desk.Readi
         };
         next = next;
         again = subst (λ ds. slice_get ds place ≡ Some More) (sym dues) (get-set_here merge.dues.items place (Record time) More here);
-        headed = λ capture there.
-            let P : List Capture → Type 0 = λ cs. slice_get cs place ≡ Some capture in
-            let D : List Due → Type 0 = λ ds. slice_get ds place ≡ Some (Record time) in
-            let Q : Due → Capture → Type 0 = λ d c. IsHeaded d c.feed.reader in
-            let same : row.capture ≡ capture =
-            same_Some row.capture capture (sym (get-map (λ (r : Row). r.capture) merging.rows place row at) ∙ subst P (captures ∙ merging.captures) there) in
-            let due : row.due ≡ Record time =
-            same_Some row.due (Record time) (sym (get-map (λ (r : Row). r.due) merging.rows place row at) ∙ subst D merging.dues here) in
-            subst (Q (Record time)) same (subst (λ d. Q d row.capture) due (merging.are_rows.each place row at).2);
       }
     where
       each_asked : (place : ℕ) (row asked : Row) → slice_get merging.rows place ≡ Some row → asked.content ≡ row.content → asked.capture ≡ row.capture → asked.handed ≡ row.handed
@@ -230,7 +215,7 @@ module _ (tells : Bool) (start : Start) (taken : List Arrival) (new : desk.Readi
           let Q : Option (List ℕ) → Capture → Handed → Type 0 = λ x c h. Lane tells x new (start.base + place) c h (of_capture place taken) in
           let lane : Q asked.content asked.capture asked.handed =
           subst (λ x. Q x asked.capture asked.handed) (sym content) (subst (λ c. Q row.content c asked.handed) (sym capture) (subst (λ h. Q row.content row.capture h) (sym handed) was)) in
-          subst (λ n. P n r) (sym same.0) (subst (P place) (sym same.1) (lane, λ shown. absurd (shown due), IsHeaded-more asked.due asked.capture.feed.reader due))
+          subst (λ n. P n r) (sym same.0) (subst (P place) (sym same.1) (lane, λ shown. absurd (shown due)))
       each_asked place row asked at content capture handed due k r (inr other) = merging.are_rows.each k r other.1
 
   -- or none does

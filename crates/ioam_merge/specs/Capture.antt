@@ -1,36 +1,29 @@
 -- One of several captures that are read in pieces: what was handed out of it, and what was taken.
-use Rattle.std.specs.Prelude.{◌≡◌, ⊤, ℕ, ◌<◌, ◌≤◌, Bool, true, IsTrue, List, [], length, Option, None, Result, Ok, Err}
+use Rattle.std.specs.Prelude.{◌≡◌, ⊤, ℕ, ◌+◌, ◌<◌, ◌≤◌, Bool, true, IsTrue, List, [], length, Option, Result, Ok, Err}
 use Rattle.ioam_desk.specs.Desk as desk
 use Rattle.ioam_desk.specs.Desk.{SameBut}
 use Rattle.ioam_desk.specs.declared.fault.DeskFault.{DeskFault}
 use Rattle.ioam_desk.specs.declared.fault.DeskFault.TheVariants.{Failed, NoMemory}
 use Rattle.ioam_feed.specs.Feed.{Fed}
-use Rattle.ioam_pcap.specs.Arrives.{Handed, HandsOn}
-use Rattle.ioam_pcap.specs.Entries.{Entry}
-use Rattle.ioam_pcap.specs.Merge.{Stream, due_of}
-use Rattle.ioam_pcap.specs.Reader.{Stands, link_of}
-use Rattle.ioam_pcap.specs.Reading.{Reading}
-use Rattle.ioam_pcap.specs.Streams.{Streams}
-use Rattle.ioam_pcap.specs.declared.form.Link.{Link}
-use Rattle.ioam_pcap.specs.declared.turns.Due.{Due}
-use Rattle.ioam_pcap.specs.declared.turns.Due.TheVariants.{More}
+use Rattle.ioam_pcap.specs.Entries.{Taken}
+use Rattle.ioam_captures.specs.Arrives.{Handed, HandsOn}
+use Rattle.ioam_captures.specs.Merge.{Stream, due_of}
+use Rattle.ioam_captures.specs.Reading.{pending, most_held}
+use Rattle.ioam_captures.specs.Streams.{Streams}
+use Rattle.ioam_captures.specs.declared.turns.Due.{Due}
+use Rattle.ioam_captures.specs.declared.turns.Due.TheVariants.{More}
 use Rattle.ioam_merge.specs.declared.capture.Capture.{Capture}
-
--- a reader has read its capture's head, for this link, and given these records
-abbrev pub HasReadHead : Reading → List ℕ → List Entry → Option Link → Type 0
-HasReadHead reader octets given link = Stands reader octets given × (reader.form ≡ None → ⊥) × (link ≡ link_of reader)
 
 -- So much of what a name holds was handed out, by the slot with this number, and these records were
 -- taken of it. The capture has ended exactly where the slot has, and then nothing is left. Less than
--- a record, of 262,160 octets, and a piece of 65,536 is held back in memory.
-pub record Lane (tells : Bool) (content : Option (List ℕ)) (inputs : desk.Reading) (slot : ℕ) (capture : Capture) (handed : Handed) (given : List Entry) : Type 0 where
+-- the greatest record or block of its form and a piece of 65,536 octets is held back in memory.
+pub record Lane (tells : Bool) (content : Option (List ℕ)) (inputs : desk.Reading) (slot : ℕ) (capture : Capture) (handed : Handed) (given : List Taken) : Type 0 where
   pub fed : Fed tells content inputs slot capture.feed.reader handed.octets given
   pub number : capture.feed.slot ≡ slot
-  pub linked : capture.link ≡ link_of capture.feed.reader
   pub same_end : handed.ended ≡ capture.ended
   pub slot_end : IsTrue tells → inputs.ended slot ≡ handed.ended
   pub none_left : IsTrue tells → handed.ended ≡ true → inputs.left slot ≡ []
-  pub held_back : length capture.feed.reader.pending < 327696
+  pub held_back : length (pending capture.feed.reader) < most_held capture.feed.reader + 65536
 
 -- the most records that are taken of captures that are merged
 abbrev pub most_taken : ℕ
@@ -38,16 +31,16 @@ most_taken = 16777216
 
 -- the same, of some of what a name holds and of no more records than may be taken
 abbrev pub IsLane : Bool → desk.Reading → Capture → Type 0
-IsLane tells inputs capture = (content : Option (List ℕ)) × (slot : ℕ) × (handed : Handed) × (given : List Entry)
+IsLane tells inputs capture = (content : Option (List ℕ)) × (slot : ℕ) × (handed : Handed) × (given : List Taken)
     × Lane tells content inputs slot capture handed given × (length given ≤ most_taken)
 
 -- this is due of a capture of which so much was handed out and these records were taken
-abbrev pub IsDue : Handed → List Entry → Due → Type 0
+abbrev pub IsDue : Handed → List Taken → Due → Type 0
 IsDue handed given due = (stream : Stream) → Streams handed.octets handed.ended given stream → due ≡ due_of stream
 
 -- whatever was handed out and taken before, more may have been handed out
-abbrev pub LaneOn : Bool → desk.Reading → Capture → desk.Reading → Capture → (Handed → List Entry → Type 0) → Type 0
-LaneOn tells old before new after IsSo = (content : Option (List ℕ)) (slot : ℕ) (handed : Handed) (given : List Entry)
+abbrev pub LaneOn : Bool → desk.Reading → Capture → desk.Reading → Capture → (Handed → List Taken → Type 0) → Type 0
+LaneOn tells old before new after IsSo = (content : Option (List ℕ)) (slot : ℕ) (handed : Handed) (given : List Taken)
     → Lane tells content old slot before handed given
     → (more : Handed) × HandsOn handed more × Lane tells content new slot after more given × IsSo more given
 

@@ -1,20 +1,19 @@
 -- Several captures of a desk that are merged by time: what was handed out of them, and what was
 -- taken of what that shows.
-use Rattle.std.specs.Prelude.{◌≡◌, ℕ, ◌+◌, ◌<◌, ◌≤◌, ⊤, Bool, true, IsTrue, List, [], ◌∷◌, ◌++◌, length, map, slice_get, Option, Some, None, Result, Ok, Err}
+use Rattle.std.specs.Prelude.{◌≡◌, ℕ, ◌+◌, ◌<◌, ◌≤◌, ⊤, Bool, true, IsTrue, List, [], ◌∷◌, ◌++◌, length, map, slice_get, Option, Some, Result, Ok, Err}
 use Rattle.std.specs.List.{AllZip}
 use Rattle.ioam_desk.specs.Desk as desk
 use Rattle.ioam_desk.specs.Desk.{Side, Writing, holds}
 use Rattle.ioam_desk.specs.Unread.{Unread}
 use Rattle.ioam_desk.specs.declared.fault.DeskFault.{DeskFault}
 use Rattle.ioam_desk.specs.declared.fault.DeskFault.TheVariants.{Failed, NoMemory}
-use Rattle.ioam_pcap.specs.Arrives.{Handed, IsStream, Arrives}
-use Rattle.ioam_pcap.specs.Entries.{Entry}
-use Rattle.ioam_pcap.specs.Merge.{Stream, Arrival, turn, of_capture, Takes}
-use Rattle.ioam_pcap.specs.Reader.{IsHeaded}
-use Rattle.ioam_pcap.specs.declared.turns.Due.{Due}
-use Rattle.ioam_pcap.specs.declared.turns.Due.TheVariants.{More}
-use Rattle.ioam_pcap.specs.declared.turns.Turn.{Turn}
-use Rattle.ioam_pcap.specs.declared.turns.Turn.TheVariants.{Next, Over, Broken, Unshown}
+use Rattle.ioam_pcap.specs.Entries.{Taken}
+use Rattle.ioam_captures.specs.Arrives.{Handed, IsStream, Arrives}
+use Rattle.ioam_captures.specs.Merge.{Stream, Arrival, turn, of_capture, Takes}
+use Rattle.ioam_captures.specs.declared.turns.Due.{Due}
+use Rattle.ioam_captures.specs.declared.turns.Due.TheVariants.{More}
+use Rattle.ioam_captures.specs.declared.turns.Turn.{Turn}
+use Rattle.ioam_captures.specs.declared.turns.Turn.TheVariants.{Next, Over, Broken, Unshown}
 use Rattle.ioam_merge.specs.Capture.{Lane, IsDue, most_taken}
 use Rattle.ioam_merge.specs.declared.capture.Capture.{Capture}
 use Rattle.ioam_merge.specs.declared.merge.Merge.{Merge}
@@ -79,12 +78,10 @@ pub record Row : Type 0 where
   pub due : Due
   pub handed : Handed
 
--- its records that were taken are these; what is due of it is known, or it has to be asked; where a
--- record is due its head was read
-abbrev pub IsRow : Bool → desk.Reading → ℕ → Row → List Entry → Type 0
+-- its records that were taken are these; what is due of it is known, or it has to be asked
+abbrev pub IsRow : Bool → desk.Reading → ℕ → Row → List Taken → Type 0
 IsRow tells inputs slot row given = Lane tells row.content inputs slot row.capture row.handed given
     × ((row.due ≡ More → ⊥) → IsDue row.handed given row.due)
-    × IsHeaded row.due row.capture.feed.reader
 
 -- of the captures in these rows these records were taken
 pub record Rows (tells : Bool) (start : Start) (inputs : desk.Reading) (rows : List Row) (taken : List Arrival) : Type 0 where
@@ -106,12 +103,11 @@ IsMerging tells inputs merge = (start : Start) × (taken : List Arrival) × Merg
     × (length taken ≤ most_taken)
 
 -- and the next record is of the capture at this place, with this time; the capture has to be asked
--- again behind it; its head was read
+-- again behind it
 pub record Comes (tells : Bool) (start : Start) (inputs : desk.Reading) (merge : Merge) (taken : List Arrival) (place time : ℕ) : Type 0 where
   pub merging : Merging tells start inputs merge taken
   pub next : turn merging.are_rows.begins.now ≡ Next place time
   pub again : slice_get merge.dues.items place ≡ Some More
-  pub headed : (capture : Capture) → slice_get merge.captures.items place ≡ Some capture → capture.feed.reader.form ≡ None → ⊥
 
 -- the same, of some that were opened
 abbrev pub IsComing : Merge → ℕ → Type 0

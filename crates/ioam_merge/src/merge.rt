@@ -1,14 +1,14 @@
 //! Several captures that are merged by time.
-ghost use Rattle.std.specs.Prelude.{◌≡◌, ◌<◌, ◌+◌, ◌++◌, ◌∷◌, [], List, None, false, IfErr, IfOk, OnOk, length, vec_len};
+ghost use Rattle.std.specs.Prelude.{◌≡◌, ◌<◌, ◌+◌, ◌++◌, ◌∷◌, [], List, false, IfErr, IfOk, OnOk, length, vec_len};
 ghost use Rattle.ioam_desk.specs.Asked.{IsFaultOf};
-ghost use Rattle.ioam_pcap.specs.Merge.{Arrival};
+ghost use Rattle.ioam_captures.specs.Merge.{Arrival};
 ghost use Rattle.ioam_merge.specs.Merging.{Start, Merging, IsMerging, AreKnown, Shows, Turns, EndsKept};
 
 use crate::capture::Capture;
 use ioam_base::memory::NoMemory;
+use ioam_captures::{Due, Turn, next_turn};
 use ioam_desk::{Desk, DeskFault, PIECE};
 use ioam_feed::Feed;
-use ioam_pcap::{Due, Turn, next_turn};
 use std::alloc::Global;
 
 /// Several captures of a desk, merged by time.
@@ -23,7 +23,7 @@ pub struct Merge {
 }
 
 impl Merge {
-    ghost use Rattle.ioam_pcap.specs.declared.turns.Due.TheVariants.{More};
+    ghost use Rattle.ioam_captures.specs.declared.turns.Due.TheVariants.{More};
 
     // No captures, with room for so many.
     pub(crate) fn new(alloc: Global, count: usize) -> Result<Merge, NoMemory>
@@ -43,15 +43,11 @@ impl Merge {
     // One capture more, of which nothing was read.
     pub(crate) fn add(&mut self, feed: Feed) -> Result<(), NoMemory>
         ensures captures { OnOk result (self.new.captures.items
-            ≡ self.old.captures.items ++ record { feed = feed; link = None; ended = false } ∷ []) }
+            ≡ self.old.captures.items ++ record { feed = feed; ended = false } ∷ []) }
         ensures dues { OnOk result (self.new.dues.items ≡ self.old.dues.items ++ More ∷ []) }
         ensures piece { self.new.piece ≡ self.old.piece }
     {
-        let capture = Capture {
-            feed,
-            link: None,
-            ended: false,
-        };
+        let capture = Capture { feed, ended: false };
         self.captures.push(capture)?;
         self.dues.push(Due::More)?;
         Ok(())
@@ -111,7 +107,7 @@ impl Merge {
     /// capture has to be asked again: its record is taken by its reader's `next`.
     ///
     /// A piece is read only where the octets of a capture show nothing more, so that less than a
-    /// record and a piece of each capture is in memory.
+    /// record or block and a piece of each capture is in memory.
     ///
     /// `Failed`: a read failed, and the desk's count of faults rose. `NoMemory`: octets of a capture
     /// may be lost. After either the merge can't be asked again. `Unshown` is never the answer.

@@ -1,6 +1,6 @@
 use Rattle.std.proofs.Common.{◌≡◌, ◌+◌, ◌*◌, ◌-◌, length}
 use Rattle.std.specs.Prelude.{⊤, if◌then◌else◌}
-use Rattle.ioam_pcap.specs.Reader.{fed}
+use Rattle.ioam_captures.specs.Reading.{fed}
 use Rattle.ioam_merge.specs.Capture.{LaneOn, MovesOne}
 use Rattle.ioam_merge.proofs.capture.Capture.show.Given as goal
 

@@ -1,5 +1,5 @@
 use Rattle.std.proofs.Common.{◌≡◌, List, vec_len}
-use Rattle.ioam_pcap.specs.Merge.{Arrival}
+use Rattle.ioam_captures.specs.Merge.{Arrival}
 use Rattle.ioam_merge.specs.Merging.{Start, Merging, AreKnown, EndsKept}
 use Rattle.ioam_merge.proofs.merge.Merge.show_all.Given as goal
 

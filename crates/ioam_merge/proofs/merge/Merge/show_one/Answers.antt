@@ -1,7 +1,7 @@
 use Rattle.std.proofs.Common.{◌≡◌, ◌<◌, ◌∙◌, Some, refl, arith, length, rules}
 use Rattle.std.specs.Prelude.{slice_get}
 use Rattle.std.proofs.lemmas.Option.{slice_get_read}
-use Rattle.ioam_pcap.specs.declared.turns.Due.TheVariants.{More}
+use Rattle.ioam_captures.specs.declared.turns.Due.TheVariants.{More}
 use Rattle.ioam_merge.proofs.ShowLaws.{Merging-kept, Merging-lane, Merging-sized, Shows-one, Shows-fault, Known-one, kept_room}
 use Rattle.ioam_merge.proofs.merge.Merge.show_one.Goals as goal
 
@@ -46,7 +46,7 @@ returns-in-Ok-clause-shown g c = λ start taken known merging.
     let room = kept_room c.args.self.now.piece.len c.show.new.piece c.args.self.now.piece.items c.args.self.now.piece.ok.0 size in
     Shows-one g.D.Desk.tells start taken (g.D.Desk.reading c.args.desk.now) (g.D.Desk.reading c.show.new.desk) c.args.self.now merging
     c.args.place c.index_mut.result.now c.show.new.self there c.in-Ok.ensures.others c.in-Ok.ensures.slots
-    _ c.in-Ok.due known c.in-Ok.ensures.shown c.in-Ok.ensures.headed refl refl (room ∙ merging.room)
+    _ c.in-Ok.due known c.in-Ok.ensures.shown refl refl (room ∙ merging.room)
 
 pub returns-in-Err-clause-shown : goal.returns-in-Err-clause-shown
 returns-in-Err-clause-shown g c = λ start taken known merging.

@@ -1,6 +1,6 @@
 use Rattle.std.proofs.Common.{◌∙◌, refl, sym, ap}
 use Rattle.std.proofs.lemmas.Result.{err_from_is_err_and}
-use Rattle.ioam_pcap.specs.Turn.{turn_of}
+use Rattle.ioam_captures.specs.Turn.{turn_of}
 use Rattle.ioam_merge.proofs.ShowLaws.{Turns-next, Turns-other, not_next}
 use Rattle.ioam_merge.proofs.merge.Merge.turn.Goals as goal
 
