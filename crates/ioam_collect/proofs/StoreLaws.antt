@@ -214,6 +214,9 @@ module _ (pool new : Chains) (chains : BTreeMap Key ℕ) (spare : Option ℕ) (l
     other_all : AllByRecursion IsOfRecord other_one
     other_all = placed-all IsOfRecord item (without (bare item) (chain_of pool c)) of_record (without-all IsOfRecord (bare item) (chain_of pool c) (i.each key c is))
 
+    shows : {p : Chains} → new ≡ p → new.chains ≡ p.chains
+    shows same = ap (λ (p : Chains). p.chains) same
+
     pub put_adds : {E : Type 0} (r : Result Added E) → Puts pool limit c item r new
         → IsStore new chains spare limit × Adds (gathered pool chains limit) key item r (gathered new chains limit)
     put_adds (Ok Kept) puts =
@@ -225,13 +228,13 @@ module _ (pool new : Chains) (chains : BTreeMap Key ℕ) (spare : Option ℕ) (l
     put_adds (Ok Replaced) puts =
         let same = puts.3 in
         let held = i.held in (
-          turned_inside other_one other_some other_all puts.2 (omega arith) (omega arith),
-          (rw group_was puts.0, rw group_was puts.1, rw group_was (turns other_one other_some other_all puts.2 (omega arith) (omega arith)), same),
+          turned_inside other_one other_some other_all (shows puts.2) (omega arith) (omega arith),
+          (rw group_was puts.0, rw group_was puts.1, rw group_was (turns other_one other_some other_all (shows puts.2) (omega arith) (omega arith)), same),
         )
-    put_adds (Ok Repeat) puts = (same_inside pool new chains spare limit i puts.1 within, (rw group_was puts.0, same_gathered pool new chains limit puts.1))
+    put_adds (Ok Repeat) puts = (same_inside pool new chains spare limit i (shows puts.1) within, (rw group_was puts.0, same_gathered pool new chains limit (shows puts.1)))
     put_adds (Ok Unkeyed) puts = absurd puts
     put_adds (Ok Full) puts =
-        (same_inside pool new chains spare limit i puts.3 within, (rw group_was puts.0, rw group_was puts.1, puts.2, same_gathered pool new chains limit puts.3))
+        (same_inside pool new chains spare limit i (shows puts.3) within, (rw group_was puts.0, rw group_was puts.1, puts.2, same_gathered pool new chains limit (shows puts.3)))
     put_adds (Err e) puts = (same_inside pool new chains spare limit i puts within, same_gathered pool new chains limit puts)
 
 -- the first item of a key

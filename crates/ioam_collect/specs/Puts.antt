@@ -2,7 +2,7 @@
 use Rattle.std.specs.Prelude.{◌≡◌, ℕ, ◌+◌, ◌<◌, Result, Ok, Err, slice_set}
 use Rattle.ioam_pool.specs.Entry.{Entry, bare}
 use Rattle.ioam_pool.specs.Order.{order, placed, without, Repeats, Replaces}
-use Rattle.ioam_pool.specs.Chains.{Chains, chain_of, total}
+use Rattle.ioam_pool.specs.Chains.{Chains, chain_of, total, with_chain}
 use Rattle.ioam_collect.specs.declared.growing.Added.{Added}
 use Rattle.ioam_collect.specs.declared.growing.Added.TheVariants.{Kept, Replaced, Repeat, Unkeyed, Full}
 
@@ -12,9 +12,9 @@ Puts old limit c item (Ok Kept) new =
     × (new.chains ≡ slice_set old.chains c (placed order item (chain_of old c))) × (total new ≡ total old + 1)
 Puts old limit c item (Ok Replaced) new =
     ¬ (Repeats (chain_of old c) item) × Replaces (chain_of old c) item
-    × (new.chains ≡ slice_set old.chains c (placed order item (without (bare item) (chain_of old c)))) × (total new ≡ total old)
-Puts old limit c item (Ok Repeat) new = Repeats (chain_of old c) item × (new.chains ≡ old.chains)
+    × (new ≡ with_chain old c (placed order item (without (bare item) (chain_of old c)))) × (total new ≡ total old)
+Puts old limit c item (Ok Repeat) new = Repeats (chain_of old c) item × (new ≡ old)
 Puts old limit c item (Ok Unkeyed) new = ⊥
 Puts old limit c item (Ok Full) new =
-    ¬ (Repeats (chain_of old c) item) × ¬ (Replaces (chain_of old c) item) × (total old ≡ limit) × (new.chains ≡ old.chains)
+    ¬ (Repeats (chain_of old c) item) × ¬ (Replaces (chain_of old c) item) × (total old ≡ limit) × (new ≡ old)
 Puts old limit c item (Err _) new = new.chains ≡ old.chains
