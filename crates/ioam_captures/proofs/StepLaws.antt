@@ -132,21 +132,11 @@ module _ (old new : classic_reading.Reading) where
           let behind : of_link (classic.link_of new) entries ≡ [] = ap (λ l. of_link l entries) moved.4 ∙ ap (of_link (Some link)) none.2 in
           (stands.0, stands.1, (entries, told.1.1, before ∙ sym behind))
 
-  -- no head behind the head, and no record before it
+  -- no head behind the head
   pub no_head : (link other : Link) → classic.link_of old ≡ Some link → classic.Moved old new (cap.Head other) → ⊥
   no_head link other linked moved =
       let wrong : ◌≡◌ {A = Option Link} (Some link) None = sym linked ∙ ap link_by moved.3 in
       absurd (cc)
-
-  pub no_packet : (p : packet.Packet) → classic.link_of old ≡ None → classic.Moved old new (cap.Packet p) → ⊥
-  no_packet p none moved = moved.5 (unlinked none)
-    where
-      unlinked : classic.link_of old ≡ None → old.form ≡ None
-      unlinked is = by old.form refl
-        where
-          by : (form : Option Form) → old.form ≡ form → old.form ≡ None
-          by None here = here
-          by (Some f) here = let wrong : ◌≡◌ {A = Option Link} (Some f.link) None = ap link_by (sym here) ∙ is in absurd (cc)
 
   -- what a step of the form's reader leaves
   abbrev pub ClassicLeaves : CapStep → Type 0
