@@ -16,6 +16,16 @@ const SOONER: [u8; 41] = [
     0, 0, 0, 2, 0, 0, 0, 6, 0, 0, 0, 1, 0, 0, 0, 1, 40,
 ];
 
+// The same as a pcapng capture: a section block, an interface of Ethernet that counts microseconds, and
+// a block of its packet.
+const BLOCKS: [u8; 84] = [
+    0x0a, 0x0d, 0x0d, 0x0a, 0, 0, 0, 28, 0x1a, 0x2b, 0x3c, 0x4d, 0, 1, 0, 0, 0xff, 0xff, 0xff,
+    0xff, 0xff, 0xff, 0xff, 0xff, 0, 0, 0, 28, //
+    0, 0, 0, 1, 0, 0, 0, 20, 0, 1, 0, 0, 0, 0, 0, 0, 0, 0, 0, 20, //
+    0, 0, 0, 6, 0, 0, 0, 36, 0, 0, 0, 0, 0, 0, 0, 0, 0, 0x1e, 0x84, 0x86, 0, 0, 0, 1, 0, 0, 0, 1,
+    40, 0, 0, 0, 0, 0, 0, 36,
+];
+
 // What comes first of `TWO` and another capture, which are handed out in pieces of 7 octets.
 fn first_turn(alloc: Global, other: &[u8], failing: u64) -> Result<String, Fail> {
     let mut desk = MemoryDesk::new(alloc)?;
@@ -46,8 +56,10 @@ fn the_first_of_equal_times(rt: HostRuntime) -> Result<(), Fail> {
 
 #[test]
 fn the_least_time(rt: HostRuntime) -> Result<(), Fail> {
-    let text = first_turn(rt.alloc(), &SOONER, 1000)?;
-    assert_eq!(rt; text.as_str(), "Next { place: 1, time: 2000006000 }");
+    for other in [SOONER.as_slice(), BLOCKS.as_slice()] {
+        let text = first_turn(rt.alloc(), other, 1000)?;
+        assert_eq!(rt; text.as_str(), "Next { place: 1, time: 2000006000 }");
+    }
     Ok(())
 }
 
