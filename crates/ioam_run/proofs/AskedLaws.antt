@@ -1,7 +1,8 @@
 -- At most one answer is asked for, and the packets that are kept may leave a domain.
 use Rattle.std.proofs.Common.{◌≡◌, ℕ, ◌<◌, ◌≤◌, ◌⊎◌, Bool, IsTrue, IsSomeAnd, List, [], ◌∷◌, ◌++◌, length, Option, Some, None, refl, sym, ◌∙◌, ap, subst, inl, inr, ⊎_elim, arith}
 use Rattle.std.specs.List.{All, AllByRecursion}
-use Rattle.std.proofs.lemmas.List.Elements.{All-from_recursion, All-head, All-tail}
+use Rattle.std.proofs.lemmas.List.Elements.{All-from_recursion, All-head, All-tail, All-take}
+use Rattle.std.proofs.Math.Seq.{take-append_seam}
 use Rattle.ioam_desk.specs.Desk.{Reading, Writing, Rose, holds}
 use Rattle.ioam_ip.specs.Clean.{MayLeave}
 use Rattle.ioam_ip.proofs.FramingLaws.{framing-packet}
@@ -9,35 +10,35 @@ use Rattle.ioam_ip.proofs.WithinLaws.{Within, framing-within}
 use Rattle.ioam_ip.specs.Framing.{Framing, Holds, NoIpv6, CutShort, TooShort, IfHolds}
 use Rattle.ioam_ip.specs.Packet.{IsPacket}
 use Rattle.ioam_pcap.specs.Cut.{is_cut}
-use Rattle.ioam_pcap.specs.Entries.{Entry, IsShort, most}
-use Rattle.ioam_pcap.specs.Reads.{Ending, Whole, Faulty}
-use Rattle.ioam_pcap.proofs.ReadsLaws.{Reads-unique}
-use Rattle.ioam_pcap.proofs.ShortLaws.{Reached-short, Reads-short, front-short}
+use Rattle.ioam_captures.proofs.ReadsLaws.{Reads-unique}
+use Rattle.ioam_captures.proofs.ShortLaws.{Reads-short}
+use Rattle.ioam_pcap.specs.Ending.{Ending, Whole, Faulty}
+use Rattle.ioam_pcap.specs.Entries.{Taken, most}
+use Rattle.ioam_pcap.specs.Link.{is_ethernet}
 use Rattle.ioam_outputs.proofs.NamesLaws.{first_unique}
 use Rattle.ioam_outputs.specs.Held.{HoldTexts}
 use Rattle.ioam_outputs.specs.Names.{AreApart, IsFirstRepeat, name_at}
 use Rattle.ioam_pcap.specs.Text.{Sends, IsSendable, IsCaptureOf}
-use Rattle.ioam_pcap.specs.declared.form.Link.{Link}
 use Rattle.ioam_run.specs.FilterText.{Filtered, FilterTexts, kept_of}
 use Rattle.ioam_answer.specs.Outcomes.{IsBehindAll}
 use Rattle.ioam_run.specs.Run.{most_packets, HasCause, Asked, IsInput, IsLong, HoldsAll, EndsSo, ArePassed, AreWhole, Leaves, output_names}
-use Rattle.ioam_pcap.specs.Link.{is_ethernet}
-use Rattle.ioam_run.specs.Verdict.{Verdict, Keeps, Drops, FramingVerdict, AreVerdicts, entry_framing}
+use Rattle.ioam_run.specs.Verdict.{Verdict, Keeps, Drops, FramingVerdict, AreVerdicts, taken_framing}
 use Rattle.ioam_node.specs.declared.reason.Reason.{Reason}
 use Rattle.ioam_answer.specs.declared.outcome.Outcome.{Outcome}
 use Rattle.ioam_answer.specs.declared.outcome.Outcome.TheVariants as outcome
+use Rattle.ioam_run.proofs.StopsLaws.{Begins, begins_ends, begins_passed, begins_whole}
 
 pub not_apart : (names : List (List ℕ)) (at : ℕ) → IsFirstRepeat names at → AreApart names → ⊥
 not_apart names at first apart = apart at first.inside first.repeats
 
 -- what is held is both
-both : (held : Option (List ℕ)) (P Q : List ℕ → Type 0) → IsSomeAnd held P → IsSomeAnd held Q → (octets : List ℕ) × P octets × Q octets
+pub both : (held : Option (List ℕ)) (P Q : List ℕ → Type 0) → IsSomeAnd held P → IsSomeAnd held Q → (octets : List ℕ) × P octets × Q octets
 both None P Q x y = absurd x
 both (Some octets) P Q x y = (octets, x, y)
 
 module _ (most : ℕ) where
   ending_unique : (octets : List ℕ) (d e : Ending) → IsInput most d octets → IsInput most e octets → d ≡ e
-  ending_unique octets d e x y = (Reads-unique octets x.link y.link x.entries y.entries d e x.reads y.reads).2
+  ending_unique octets d e x y = (Reads-unique octets x.taken y.taken d e x.reads y.reads).1
 
   -- what is held ends in one way
   pub held_ending : (held : Option (List ℕ)) (d e : Ending) → IsSomeAnd held (IsInput most d) → IsSomeAnd held (IsInput most e) → d ≡ e
@@ -48,8 +49,8 @@ module _ (most : ℕ) where
   pub too_long : (held : Option (List ℕ)) (d : Ending) → IsSomeAnd held (IsLong most) → IsSomeAnd held (IsInput most d) → ⊥
   too_long held d x y =
       let it : (octets : List ℕ) × IsLong most octets × IsInput most d octets = both held (IsLong most) (IsInput most d) x y in
-      let same = (Reads-unique it.0 it.1.link it.2.link it.1.entries it.2.entries it.1.ending d it.1.reads it.2.reads).1 in
-      omega (arith, it.1.many, it.2.few, ap (λ (es : List Entry). length es) same)
+      let same = (Reads-unique it.0 it.1.taken it.2.taken it.1.ending d it.1.reads it.2.reads).0 in
+      omega (arith, it.1.many, it.2.few, ap (λ (ts : List Taken). length ts) same)
 
 pub whole_or_faulty : (at : ℕ) (fault : _) → Whole ≡ Faulty at fault → ⊥
 whole_or_faulty at fault same = cc
@@ -145,12 +146,13 @@ keeps_leaving kept NoIpv6 is has = absurd (keeps_drops kept _ has)
 keeps_leaving kept CutShort is has = absurd (keeps_drops kept _ has)
 keeps_leaving kept TooShort is has = absurd (keeps_drops kept _ has)
 
-kept_leaving : (ethernet : Bool) (es : List Entry) (vs : List Verdict) → AreVerdicts ethernet es vs → AllByRecursion (Sends MayLeave) (kept_of es vs)
-kept_leaving ethernet [] [] are = tt
-kept_leaving ethernet [] (v ∷ vs) are = tt
-kept_leaving ethernet (e ∷ es) [] are = tt
-kept_leaving ethernet (e ∷ es) (Keeps kept ∷ vs) are = (keeps_leaving kept (entry_framing ethernet e) (framing-packet ethernet (is_cut e) e.octets) are.0, kept_leaving ethernet es vs are.1)
-kept_leaving ethernet (e ∷ es) (Drops reason ∷ vs) are = kept_leaving ethernet es vs are.1
+kept_leaving : (ts : List Taken) (vs : List Verdict) → AreVerdicts ts vs → AllByRecursion (Sends MayLeave) (kept_of ts vs)
+kept_leaving [] [] are = tt
+kept_leaving [] (v ∷ vs) are = tt
+kept_leaving (t ∷ ts) [] are = tt
+kept_leaving (t ∷ ts) (Keeps kept ∷ vs) are =
+    (keeps_leaving kept (taken_framing t) (framing-packet (is_ethernet t.link) (is_cut t.entry) t.entry.octets) are.0, kept_leaving ts vs are.1)
+kept_leaving (t ∷ ts) (Drops reason ∷ vs) are = kept_leaving ts vs are.1
 
 -- what is kept of a frame has no more octets than it
 keeps_within : (kept : List ℕ) (size : ℕ) (framing : Framing) → Within size framing → FramingVerdict framing (Keeps kept) → length kept ≤ size
@@ -159,65 +161,63 @@ keeps_within kept size NoIpv6 within has = absurd (keeps_drops kept _ has)
 keeps_within kept size CutShort within has = absurd (keeps_drops kept _ has)
 keeps_within kept size TooShort within has = absurd (keeps_drops kept _ has)
 
-kept_fitting : (ethernet : Bool) (es : List Entry) (vs : List Verdict) → AreVerdicts ethernet es vs → All IsShort es → AllByRecursion IsSendable (kept_of es vs)
-kept_fitting ethernet [] [] are short = tt
-kept_fitting ethernet [] (v ∷ vs) are short = tt
-kept_fitting ethernet (e ∷ es) [] are short = tt
-kept_fitting ethernet (e ∷ es) (Keeps kept ∷ vs) are short = (
-  keeps_within kept most (entry_framing ethernet e) (framing-within ethernet (is_cut e) e.octets most (All-head IsShort e es short)) are.0,
-  kept_fitting ethernet es vs are.1 (All-tail IsShort e es short),
-)
-kept_fitting ethernet (e ∷ es) (Drops reason ∷ vs) are short = kept_fitting ethernet es vs are.1 (All-tail IsShort e es short)
+-- a record has no more octets than may be
+abbrev IsShort : Taken → Type 0
+IsShort t = length t.entry.octets ≤ most
 
-leaving_capture : (ethernet : Bool) (entries : List Entry) (out text : List ℕ) → Filtered ethernet entries out text → All IsShort entries → IsCaptureOf MayLeave out
-leaving_capture ethernet entries out text filtered short = record {
-  sent = kept_of entries filtered.verdicts;
+kept_fitting : (ts : List Taken) (vs : List Verdict) → AreVerdicts ts vs → All IsShort ts → AllByRecursion IsSendable (kept_of ts vs)
+kept_fitting [] [] are short = tt
+kept_fitting [] (v ∷ vs) are short = tt
+kept_fitting (t ∷ ts) [] are short = tt
+kept_fitting (t ∷ ts) (Keeps kept ∷ vs) are short = (
+  keeps_within kept most (taken_framing t) (framing-within (is_ethernet t.link) (is_cut t.entry) t.entry.octets most (All-head IsShort t ts short)) are.0,
+  kept_fitting ts vs are.1 (All-tail IsShort t ts short),
+)
+kept_fitting (t ∷ ts) (Drops reason ∷ vs) are short = kept_fitting ts vs are.1 (All-tail IsShort t ts short)
+
+leaving_capture : (ts : List Taken) (out text : List ℕ) → Filtered ts out text → All IsShort ts → IsCaptureOf MayLeave out
+leaving_capture ts out text filtered short = record {
+  sent = kept_of ts filtered.verdicts;
   is = filtered.out_is;
-  so = All-from_recursion (Sends MayLeave) (kept_of entries filtered.verdicts) (kept_leaving ethernet entries filtered.verdicts filtered.are);
-  fits = All-from_recursion IsSendable (kept_of entries filtered.verdicts) (kept_fitting ethernet entries filtered.verdicts filtered.are short);
+  so = All-from_recursion (Sends MayLeave) (kept_of ts filtered.verdicts) (kept_leaving ts filtered.verdicts filtered.are);
+  fits = All-from_recursion IsSendable (kept_of ts filtered.verdicts) (kept_fitting ts filtered.verdicts filtered.are short);
 }
 
-leaving_held : (ethernet : Bool) (entries : List Entry) (texts : List (List ℕ)) (output report : List ℕ) (new : Writing) → All IsShort entries
-    → FilterTexts ethernet entries texts → HoldTexts new (output ∷ report ∷ []) texts → IsSomeAnd (holds new output) (IsCaptureOf MayLeave)
-leaving_held ethernet entries [] output report new short are held = absurd are
-leaving_held ethernet entries (out ∷ []) output report new short are held = absurd are
-leaving_held ethernet entries (out ∷ text ∷ []) output report new short are held =
+leaving_held : (ts : List Taken) (texts : List (List ℕ)) (output report : List ℕ) (new : Writing) → All IsShort ts
+    → FilterTexts ts texts → HoldTexts new (output ∷ report ∷ []) texts → IsSomeAnd (holds new output) (IsCaptureOf MayLeave)
+leaving_held ts [] output report new short are held = absurd are
+leaving_held ts (out ∷ []) output report new short are held = absurd are
+leaving_held ts (out ∷ text ∷ []) output report new short are held =
     let P : Option (List ℕ) → Type 0 = λ o. IsSomeAnd o (IsCaptureOf MayLeave) in
-    subst P (sym held.0) (leaving_capture ethernet entries out text are short)
-leaving_held ethernet entries (out ∷ text ∷ more ∷ texts) output report new short are held = absurd are
+    subst P (sym held.0) (leaving_capture ts out text are short)
+leaving_held ts (out ∷ text ∷ more ∷ texts) output report new short are held = absurd are
 
--- the records are of a capture, and so none has more octets than a record may have
-abbrev AreShort : (Option Link → List Entry → List ℕ → Type 0) → Type 0
-AreShort Are = (link : Option Link) (entries : List Entry) (octets : List ℕ) → Are link entries octets → All IsShort entries
+front_short : (front rest : List Taken) → All IsShort (front ++ rest) → All IsShort front
+front_short front rest short = subst (All IsShort) (take-append_seam front rest) (All-take IsShort (length front) (front ++ rest) short)
 
-ends_short : (ending : Ending) → AreShort (EndsSo ending)
-ends_short ending link entries octets reads = Reads-short octets link entries ending reads
+-- the records are the first of a capture, and so none has more octets than a record may have
+begun_short : (Are : List Taken → List ℕ → Type 0) → Begins Are → (ts : List Taken) (octets : List ℕ) → Are ts octets → All IsShort ts
+begun_short Are begins ts octets are =
+    let first = begins ts octets are in front_short ts first.rest (Reads-short octets (ts ++ first.rest) first.ending first.reads)
 
-passed_short : AreShort (ArePassed most_packets)
-passed_short link entries octets passed = front-short entries passed.first.rest
-    (Reads-short octets link (entries ++ passed.first.rest) passed.first.ending passed.first.reads)
-
-whole_short : (left : List ℕ) → AreShort (AreWhole left)
-whole_short left link entries octets whole = Reached-short whole.handed whole.form entries whole.at whole.reached
-
-from_held : (held : Option (List ℕ)) (Are : Option Link → List Entry → List ℕ → Type 0) (output report : List ℕ) (new : Writing) → AreShort Are
+from_held : (held : Option (List ℕ)) (Are : List Taken → List ℕ → Type 0) (output report : List ℕ) (new : Writing) → Begins Are
     → IsSomeAnd held (HoldsAll most_packets FilterTexts (output ∷ report ∷ []) Are new) → IsSomeAnd (holds new output) (IsCaptureOf MayLeave)
-from_held None Are output report new short all = absurd all
-from_held (Some octets) Are output report new short all =
-    leaving_held (is_ethernet all.link) all.entries all.texts output report new (short all.link all.entries octets all.are) all.texts_are all.held
+from_held None Are output report new begins all = absurd all
+from_held (Some octets) Are output report new begins all =
+    leaving_held all.taken all.texts output report new (begun_short Are begins all.taken octets all.are) all.texts_are all.held
 
 -- each packet in OUT may leave a domain
 module _ (input output report : List ℕ) (old_in new_in : Reading) (old new : Writing) where
   pub Leaves-bounded : (answer : Outcome) → Leaves most_packets FilterTexts (output ∷ report ∷ []) input old_in new_in old new answer
       → IsBehindAll (old_in.side.slots < new_in.side.slots) answer → IsSomeAnd (holds new output) (IsCaptureOf MayLeave)
-  Leaves-bounded outcome.Done leaves behind = from_held (holds old input) (EndsSo Whole) output report new (ends_short Whole) leaves
+  Leaves-bounded outcome.Done leaves behind = from_held (holds old input) (EndsSo Whole) output report new (begins_ends Whole) leaves
   Leaves-bounded (outcome.Capture name at fault) leaves behind =
-      from_held (holds old input) (EndsSo (Faulty at fault)) output report new (ends_short (Faulty at fault)) leaves
-  Leaves-bounded (outcome.Packets limit) leaves behind = from_held (holds old input) (ArePassed most_packets) output report new passed_short leaves
+      from_held (holds old input) (EndsSo (Faulty at fault)) output report new (begins_ends (Faulty at fault)) leaves
+  Leaves-bounded (outcome.Packets limit) leaves behind = from_held (holds old input) (ArePassed most_packets) output report new (begins_passed most_packets) leaves
   Leaves-bounded (outcome.Exports place fault) leaves behind = absurd leaves
   Leaves-bounded (outcome.Records limit) leaves behind = absurd leaves
   Leaves-bounded outcome.ReadFault leaves behind = ⊎_elim (λ unopened. absurd (omega (arith, unopened.0, behind)))
-      (λ held. from_held (holds old input) (AreWhole (new_in.left old_in.side.slots)) output report new (whole_short (new_in.left old_in.side.slots)) held.1) leaves
+      (λ held. from_held (holds old input) (AreWhole (new_in.left old_in.side.slots)) output report new (begins_whole (new_in.left old_in.side.slots)) held.1) leaves
   Leaves-bounded outcome.Usage leaves behind = absurd behind
   Leaves-bounded (outcome.Domain why) leaves behind = absurd behind
   Leaves-bounded (outcome.Readings why) leaves behind = absurd behind

@@ -1,5 +1,7 @@
 -- A run whose files were opened, before anything was read of them.
-use Rattle.std.proofs.Common.{◌≡◌, ℕ, Bool, false, IsSomeAnd, List, [], ◌∷◌, length, Option, Some, None, refl, sym, ◌∙◌, ap, subst, arith}
+use Rattle.std.proofs.Common.{◌≡◌, ℕ, Bool, IsSomeAnd, List, [], ◌∷◌, length, Option, Some, refl, sym, ◌∙◌, ap, subst, arith}
+use Rattle.ioam_captures.specs.Reading.{Reading, pending, most_held, fresh}
+use Rattle.ioam_captures.proofs.ReadsLaws.{Reads-total}
 use Rattle.ioam_desk.specs.Desk as desk
 use Rattle.ioam_desk.specs.Desk.{Writing}
 use Rattle.ioam_feed.specs.Feed.{Fed}
@@ -8,14 +10,10 @@ use Rattle.ioam_outputs.specs.Told.{AreTold, Adds, unsaid}
 use Rattle.ioam_outputs.specs.declared.output.Output.{Output}
 use Rattle.ioam_outputs.proofs.HeldLaws.{AreTold-fronts, more_fronts}
 use Rattle.ioam_outputs.proofs.ToldLaws.{AreTold-adds, said_first, told_names}
-use Rattle.ioam_pcap.specs.Entries.{Entry}
-use Rattle.ioam_pcap.specs.Reading.{Reading}
-use Rattle.ioam_pcap.specs.Reader.{fresh, link_of}
-use Rattle.ioam_run.specs.Run.{HoldsFronts}
-use Rattle.ioam_pcap.specs.Link.{is_ethernet}
+use Rattle.ioam_pcap.specs.Entries.{Taken}
+use Rattle.ioam_run.specs.Run.{AreFirst, HoldsFronts}
 use Rattle.ioam_run.specs.Streams.{Start, Streams, Fronts, Sticks}
 use Rattle.ioam_run.proofs.HaltsLaws.{held_so}
-use Rattle.ioam_run.proofs.OnwardLaws.{reached_first}
 
 Adds-length : (old new : List Output) (added : List (List ℕ)) → Adds old new added → length added ≡ length old
 Adds-length [] [] [] adds = refl
@@ -25,71 +23,69 @@ Adds-length [] (after ∷ new) added adds = absurd adds
 Adds-length (before ∷ old) [] added adds = absurd adds
 Adds-length (before ∷ old) (after ∷ new) [] adds = absurd adds
 
+-- no records are the first of any octets
+none_first : (octets : List ℕ) → AreFirst [] octets
+none_first octets = let (all, ending, reads) = Reads-total octets in record { rest = all; ending = ending; reads = reads }
+
 -- what began is what takes no record yet
-pub begins_same : {G : Type 0} (gathers : G → Bool → List Entry → List (List ℕ) → G → Type 0) (Fresh : G → Type 0) (heads : List (List ℕ))
-    → ((begun : G) → Fresh begun → (e : Bool) → gathers begun e [] heads begun) → (begun now : G) → begun ≡ now → Fresh now
-    → (e : Bool) → gathers begun e [] heads now
+pub begins_same : {G : Type 0} (gathers : G → List Taken → List (List ℕ) → G → Type 0) (Fresh : G → Type 0) (heads : List (List ℕ))
+    → ((begun : G) → Fresh begun → gathers begun [] heads begun) → (begun now : G) → begun ≡ now → Fresh now → gathers begun [] heads now
 begins_same {G} gathers Fresh heads begins begun now same fresh =
-    let P : G → Type 0 = λ b. (e : Bool) → gathers b e [] heads now in subst P (sym same) (begins now fresh)
+    let P : G → Type 0 = λ b. gathers b [] heads now in subst P (sym same) (begins now fresh)
 
 -- the texts of no records were told
-pub Streams-begin : {G : Type 0} (gathers : Bool → List Entry → List (List ℕ) → G → Type 0) (count : G → ℕ) (tells : Bool) (start : Start)
+pub Streams-begin : {G : Type 0} (gathers : List Taken → List (List ℕ) → G → Type 0) (count : G → ℕ) (tells : Bool) (start : Start)
     (inputs : desk.Reading) (outputs : Writing) (slot : ℕ) (reader : Reading) (gathered : G) (old tellers : List Output) (heads : List (List ℕ))
     → Fed tells start.content inputs slot reader [] [] → reader ≡ fresh → AreTold tells outputs start.base start.names old (unsaid start.names)
-    → Adds old tellers heads → count gathered ≡ 0 → ((e : Bool) → gathers e [] heads gathered)
-    → Streams gathers count tells start inputs outputs slot reader false gathered tellers
+    → Adds old tellers heads → count gathered ≡ 0 → gathers [] heads gathered
+    → Streams gathers count tells start inputs outputs slot reader gathered tellers
 Streams-begin gathers count tells start inputs outputs slot reader gathered old tellers heads given new told adds none are =
     let P : List (List ℕ) → Type 0 = λ texts. AreTold tells outputs start.base start.names tellers texts in
     let size : length heads ≡ length start.names = Adds-length old tellers heads adds ∙ told_names tells outputs start.base start.names old (unsaid start.names) told in
     record {
       octets = [];
-      entries = [];
+      taken = [];
       texts = heads;
       given = given;
       told = subst P (said_first start.names heads size) (AreTold-adds tells outputs start.base start.names old tellers (unsaid start.names) heads told adds);
-      are_gathered = are false;
-      link_is = ap (λ (r : Reading). is_ethernet (link_of r)) (sym new);
+      are_gathered = are;
       count_is = none;
       few = omega arith;
-      held_back = omega (arith, ap (λ (r : Reading). length r.pending) new);
+      held_back = omega (arith, ap (λ (r : Reading). length (pending r)) new, ap most_held new);
     }
 
 -- each output is empty
-pub Sticks-begin : (tells : Bool) (start : Start) (Texts : Bool → List Entry → List (List ℕ) → Type 0) (empty : List (List ℕ)) (inputs : desk.Reading) (outputs : Writing)
+pub Sticks-begin : (tells : Bool) (start : Start) (Texts : List Taken → List (List ℕ) → Type 0) (empty : List (List ℕ)) (inputs : desk.Reading) (outputs : Writing)
     (slot : ℕ) (reader : Reading) (old : List Output)
-    → ((e : Bool) → Texts e [] empty) → length empty ≡ length old
+    → Texts [] empty → length empty ≡ length old
     → Fed tells start.content inputs slot reader [] [] → AreTold tells outputs start.base start.names old (unsaid start.names)
     → Sticks tells start Texts outputs
 Sticks-begin tells start Texts empty inputs outputs slot reader old of_none sized given told = λ tells_so.
-    let (link, first, which) = reached_first [] (inputs.left slot) None [] 0 (refl, refl) in
     let P : List (List ℕ) → Type 0 = λ texts. HoldAllFronts outputs start.names texts in
     let size : length empty ≡ length start.names = sized ∙ told_names tells outputs start.base start.names old (unsaid start.names) told in
     held_so start.content (inputs.left slot) (Fronts tells start Texts outputs) (given.held tells_so) (record {
-      link = link;
-      entries = [];
+      taken = [];
       texts = empty;
-      are = first;
+      are = none_first (inputs.left slot);
       few = omega arith;
-      texts_are = of_none (is_ethernet link);
+      texts_are = of_none;
       held = subst P (said_first start.names empty size) (more_fronts outputs start.names (unsaid start.names) empty size
           (AreTold-fronts tells outputs start.base start.names old (unsaid start.names) tells_so told));
     })
 
 -- not all outputs were opened
-pub unwritten : (most : ℕ) (Texts : Bool → List Entry → List (List ℕ) → Type 0) (empty names : List (List ℕ)) (old mid new : Writing) (held : Option (List ℕ)) (left : List ℕ)
-    → ((e : Bool) → Texts e [] empty) → length empty ≡ length names → held ≡ Some left → mid ≡ old
+pub unwritten : (most : ℕ) (Texts : List Taken → List (List ℕ) → Type 0) (empty names : List (List ℕ)) (old mid new : Writing) (held : Option (List ℕ)) (left : List ℕ)
+    → Texts [] empty → length empty ≡ length names → held ≡ Some left → mid ≡ old
     → ((texts : List (List ℕ)) → length texts ≡ length names → HoldFronts mid new 0 names texts)
     → IsSomeAnd held (HoldsFronts most Texts names old new)
 unwritten most Texts empty names old mid new held left of_none sized is same fronts =
-    let (link, first, which) = reached_first [] left None [] 0 (refl, refl) in
     let P : Writing → Type 0 = λ w. HoldFronts w new 0 names empty in
     held_so held left (HoldsFronts most Texts names old new) is (record {
-      link = link;
-      entries = [];
+      taken = [];
       texts = empty;
-      are = first;
+      are = none_first left;
       few = omega arith;
-      texts_are = of_none (is_ethernet link);
+      texts_are = of_none;
       held = subst P same (fronts empty sized);
     })
 

@@ -1,5 +1,5 @@
 -- From where reading stopped to what is answered behind it, and what the files hold then.
-use Rattle.std.proofs.Common.{◌≡◌, ℕ, ◌<◌, Bool, IsTrue, IsSomeAnd, List, [], ◌++◌, Option, subst, inr, length-append, arith}
+use Rattle.std.proofs.Common.{◌≡◌, ℕ, ◌<◌, Bool, IsTrue, IsSomeAnd, List, ◌++◌, Option, subst, inr, length-append, arith}
 use Rattle.ioam_desk.specs.Desk as desk
 use Rattle.ioam_desk.specs.Desk.{Side, Writing, Rose, holds}
 use Rattle.ioam_outputs.specs.Held.{HoldTexts, HoldAllFronts}
@@ -7,11 +7,9 @@ use Rattle.ioam_outputs.specs.Told.{AreTold, AreOpen, said_more}
 use Rattle.ioam_outputs.specs.declared.output.Output.{Output}
 use Rattle.ioam_outputs.proofs.HeldLaws.{HoldAllFronts-holds}
 use Rattle.ioam_outputs.proofs.ToldLaws.{AreTold-open}
-use Rattle.ioam_pcap.specs.declared.form.Link.{Link}
-use Rattle.ioam_pcap.specs.Entries.{Entry}
-use Rattle.ioam_pcap.specs.Reads.{Whole, Faulty}
+use Rattle.ioam_pcap.specs.Ending.{Whole, Faulty}
+use Rattle.ioam_pcap.specs.Entries.{Taken}
 use Rattle.ioam_run.specs.Run.{HoldsAll, HoldsFronts, EndsSo, ArePassed, AreWhole, IsInput, IsLong, FileCause, Leaves}
-use Rattle.ioam_pcap.specs.Link.{is_ethernet}
 use Rattle.ioam_run.specs.Streams.{Start, Halts, Fronts, Sticks, Stops, Finishes, IsBroken}
 use Rattle.ioam_answer.specs.Outcomes.{IsDone}
 use Rattle.ioam_answer.specs.declared.outcome.Outcome.{Outcome}
@@ -19,16 +17,15 @@ use Rattle.ioam_answer.specs.declared.outcome.Outcome.TheVariants as outcome
 use Rattle.ioam_run.proofs.HaltsLaws.{held_map}
 use Rattle.ioam_run.proofs.StopsLaws.{Begins, begins_ends, begins_passed, begins_whole, Halts-sticks}
 
-module _ {G : Type 0} (gathers : Bool → List Entry → List (List ℕ) → G → Type 0) (count : G → ℕ) (tells : Bool) (start : Start)
-    (Texts : Bool → List Entry → List (List ℕ) → Type 0) (sums : G → List (List ℕ))
-    (any_link : (e f : Bool) (texts : List (List ℕ)) (x : G) → gathers e [] texts x → gathers f [] texts x)
-    (ends : (e : Bool) (entries : List Entry) (texts : List (List ℕ)) (x : G) → gathers e entries texts x → Texts e entries (said_more texts (sums x)))
+module _ {G : Type 0} (gathers : List Taken → List (List ℕ) → G → Type 0) (count : G → ℕ) (tells : Bool) (start : Start)
+    (Texts : List Taken → List (List ℕ) → Type 0) (sums : G → List (List ℕ))
+    (ends : (taken : List Taken) (texts : List (List ℕ)) (x : G) → gathers taken texts x → Texts taken (said_more texts (sums x)))
     (input : List ℕ) (slot : ℕ) (old_in new_in : desk.Reading) (old_out mid_out : Writing) (gathered : G) (tellers : List Output) where
   abbrev Stopped : Outcome → Type 0
   Stopped answer = Stops tells start Texts gathers count input slot old_in new_in old_out mid_out gathered tellers answer
 
   -- the outputs are open, and nothing failed
-  halted : (Are : Option Link → List Entry → List ℕ → Type 0) → Halts gathers count tells start Are mid_out gathered tellers → AreOpen mid_out tellers
+  halted : (Are : List Taken → List ℕ → Type 0) → Halts gathers count tells start Are mid_out gathered tellers → AreOpen mid_out tellers
   halted Are halts = AreTold-open tells mid_out start.base start.names tellers halts.texts halts.told
 
   pub Stops-open : (answer : Outcome) → (IsBroken answer → ⊥) → Stopped answer → AreOpen mid_out tellers × (mid_out.side ≡ old_out.side)
@@ -49,16 +46,15 @@ module _ {G : Type 0} (gathers : Bool → List Entry → List (List ℕ) → G �
     module _ (texts_held : IsTrue tells → (base : ℕ) (names texts : List (List ℕ)) → AreTold tells mid_out base names tellers texts
         → HoldTexts now names (said_more texts (sums gathered))) where
       -- all was written
-      written : (Are : Option Link → List Entry → List ℕ → Type 0) → Halts gathers count tells start Are mid_out gathered tellers
+      written : (Are : List Taken → List ℕ → Type 0) → Halts gathers count tells start Are mid_out gathered tellers
           → IsTrue tells → IsSomeAnd start.content (HoldsAll start.limit Texts start.names Are now)
-      written Are halts = λ told. held_map start.content (Are halts.link halts.entries) (HoldsAll start.limit Texts start.names Are now)
+      written Are halts = λ told. held_map start.content (Are halts.taken) (HoldsAll start.limit Texts start.names Are now)
           (λ octets are. record {
-            link = halts.link;
-            entries = halts.entries;
+            taken = halts.taken;
             texts = said_more halts.texts (sums gathered);
             are = are;
             few = halts.few;
-            texts_are = ends (is_ethernet halts.link) halts.entries halts.texts gathered halts.are_gathered;
+            texts_are = ends halts.taken halts.texts gathered halts.are_gathered;
             held = texts_held told start.base start.names halts.texts halts.told;
           }) (halts.are told)
 
@@ -80,8 +76,8 @@ module _ {G : Type 0} (gathers : Bool → List Entry → List (List ℕ) → G �
     module _ (fronts : IsTrue tells → (base : ℕ) (names texts : List (List ℕ)) → AreTold tells mid_out base names tellers texts
         → HoldAllFronts now names (said_more texts (sums gathered))) where
       -- some was written
-      broken : (Are : Option Link → List Entry → List ℕ → Type 0) → Begins Are → Halts gathers count tells start Are mid_out gathered tellers → Sticks tells start Texts now
-      broken Are begins halts = Halts-sticks gathers count tells start Texts sums any_link ends Are begins mid_out gathered tellers halts now
+      broken : (Are : List Taken → List ℕ → Type 0) → Begins Are → Halts gathers count tells start Are mid_out gathered tellers → Sticks tells start Texts now
+      broken Are begins halts = Halts-sticks gathers count tells start Texts sums ends Are begins mid_out gathered tellers halts now
           (λ told. fronts told start.base start.names halts.texts halts.told)
 
       pub Stops-sticks : (answer : Outcome) → (IsBroken answer → ⊥) → Stopped answer → Sticks tells start Texts now
@@ -99,9 +95,9 @@ module _ {G : Type 0} (gathers : Bool → List Entry → List (List ℕ) → G �
       Stops-sticks (outcome.Names name) whole stops = absurd stops
 
 -- the cause of each answer
-module _ (tells : Bool) (start : Start) (Texts : Bool → List Entry → List (List ℕ) → Type 0) (input : List ℕ) (slot : ℕ)
+module _ (tells : Bool) (start : Start) (Texts : List Taken → List (List ℕ) → Type 0) (input : List ℕ) (slot : ℕ)
     (first_in old_in new_in : desk.Reading) (first_out old_out new_out : Writing) (content : start.content ≡ holds first_out input) where
-  holds_so : (Are : Option Link → List Entry → List ℕ → Type 0) (P : List ℕ → Type 0)
+  holds_so : (Are : List Taken → List ℕ → Type 0) (P : List ℕ → Type 0)
       → ((octets : List ℕ) → HoldsAll start.limit Texts start.names Are new_out octets → P octets)
       → (IsTrue tells → IsSomeAnd start.content (HoldsAll start.limit Texts start.names Are new_out)) → IsTrue tells → IsSomeAnd (holds first_out input) P
   holds_so Are P f all told =
@@ -112,21 +108,20 @@ module _ (tells : Bool) (start : Start) (Texts : Bool → List Entry → List (L
       → (answer : Outcome) → Finishes tells start Texts input slot old_in new_in old_out new_out answer
       → FileCause start.limit tells input first_in first_out new_in new_out answer
   Finishes-cause reads writes outcome.Done finishes = holds_so (EndsSo Whole) (IsInput start.limit Whole)
-      (λ octets all. record { link = all.link; entries = all.entries; reads = all.are; few = all.few }) finishes.0
+      (λ octets all. record { taken = all.taken; reads = all.are; few = all.few }) finishes.0
   Finishes-cause reads writes (outcome.Capture name at fault) finishes = (
     finishes.0,
     holds_so (EndsSo (Faulty at fault)) (IsInput start.limit (Faulty at fault))
-        (λ octets all. record { link = all.link; entries = all.entries; reads = all.are; few = all.few }) finishes.1,
+        (λ octets all. record { taken = all.taken; reads = all.are; few = all.few }) finishes.1,
   )
   Finishes-cause reads writes (outcome.Packets limit) finishes = (
     finishes.0,
     holds_so (ArePassed start.limit) (IsLong start.limit)
         (λ octets all. record {
-          link = all.link;
-          entries = all.entries ++ all.are.first.rest;
+          taken = all.taken ++ all.are.first.rest;
           ending = all.are.first.ending;
           reads = all.are.first.reads;
-          many = omega (arith, all.are.all, all.are.more, length-append all.entries all.are.first.rest);
+          many = omega (arith, all.are.all, all.are.more, length-append all.taken all.are.first.rest);
         }) finishes.1,
   )
   Finishes-cause reads writes (outcome.Exports place fault) finishes = absurd finishes
@@ -140,7 +135,7 @@ module _ (tells : Bool) (start : Start) (Texts : Bool → List Entry → List (L
   Finishes-cause reads writes (outcome.Names name) finishes = absurd finishes
 
 -- what the files hold
-module _ (tells : Bool) (base limit : ℕ) (names : List (List ℕ)) (Texts : Bool → List Entry → List (List ℕ) → Type 0) (input : List ℕ) (slot : ℕ)
+module _ (tells : Bool) (base limit : ℕ) (names : List (List ℕ)) (Texts : List Taken → List (List ℕ) → Type 0) (input : List ℕ) (slot : ℕ)
     (first_in old_in new_in : desk.Reading) (first_out old_out new_out : Writing) (told : IsTrue tells)
     (number : slot ≡ first_in.side.slots) (opened : first_in.side.slots < new_in.side.slots) where
   abbrev begun : Start
@@ -149,8 +144,7 @@ module _ (tells : Bool) (base limit : ℕ) (names : List (List ℕ)) (Texts : Bo
   fronts_held : IsSomeAnd (holds first_out input) (Fronts tells begun Texts new_out) → IsSomeAnd (holds first_out input) (HoldsFronts limit Texts names first_out new_out)
   fronts_held = held_map (holds first_out input) (Fronts tells begun Texts new_out) (HoldsFronts limit Texts names first_out new_out)
       (λ octets fronts. record {
-        link = fronts.link;
-        entries = fronts.entries;
+        taken = fronts.taken;
         texts = fronts.texts;
         are = fronts.are;
         few = fronts.few;
@@ -176,7 +170,7 @@ module _ (tells : Bool) (base limit : ℕ) (names : List (List ℕ)) (Texts : Bo
   Finishes-leaves (outcome.Names name) finishes = absurd finishes
 
 -- all of IN was read where the answer is Done
-pub Finishes-drained : (tells : Bool) (start : Start) (Texts : Bool → List Entry → List (List ℕ) → Type 0) (input : List ℕ) (slot number : ℕ)
+pub Finishes-drained : (tells : Bool) (start : Start) (Texts : List Taken → List (List ℕ) → Type 0) (input : List ℕ) (slot number : ℕ)
     (old_in new_in : desk.Reading) (old_out new_out : Writing) → slot ≡ number → (answer : Outcome)
     → Finishes tells start Texts input slot old_in new_in old_out new_out answer → IsDone answer → IsTrue tells → IsTrue (new_in.ended number)
 Finishes-drained tells start Texts input slot number old_in new_in old_out new_out same outcome.Done finishes done told =

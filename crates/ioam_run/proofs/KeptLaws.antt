@@ -1,5 +1,6 @@
 -- What a command over one capture leaves as it was.
-use Rattle.std.proofs.Common.{◌≡◌, ℕ, ◌+◌, ◌≤◌, Bool, true, false, List, Option, Result, Ok, Err, refl, sym, ◌∙◌, ap, subst, arith}
+use Rattle.std.proofs.Common.{◌≡◌, ℕ, Bool, true, false, List, Option, Result, Ok, Err, refl, sym, ◌∙◌, ap, subst, arith}
+use Rattle.ioam_captures.specs.Reading.{Reading}
 use Rattle.ioam_desk.specs.Desk as desk
 use Rattle.ioam_desk.specs.Desk.{Writing, OpenIn, OpensInput}
 use Rattle.ioam_desk.specs.Kept.{KeepsInputs, WritesFrom}
@@ -9,8 +10,7 @@ use Rattle.ioam_desk.proofs.KeptLaws.{KeepsInputs-same, KeepsInputs-but}
 use Rattle.ioam_feed.specs.Feed.{Refills}
 use Rattle.ioam_outputs.specs.Told.{AreTold}
 use Rattle.ioam_outputs.specs.declared.output.Output.{Output}
-use Rattle.ioam_pcap.specs.Entries.{Entry}
-use Rattle.ioam_pcap.specs.Reading.{Reading}
+use Rattle.ioam_pcap.specs.Entries.{Taken}
 use Rattle.ioam_answer.specs.declared.outcome.Outcome.{Outcome}
 use Rattle.ioam_answer.specs.declared.outcome.Outcome.TheVariants as outcome
 use Rattle.ioam_run.specs.Streams.{Start, ReadsOne, Stops, IsBroken}
@@ -57,8 +57,8 @@ KeepsInputs-opened tells old mid new held name slot opens reads = KeepsInputs-bu
     (λ k apart. reads.0 k apart ∙ opens.other_left k apart) (λ k apart. reads.1 k apart ∙ opens.other_ended k apart)
 
 -- behind all records the rest of the texts is written, from the first output's slot on
-module _ {G : Type 0} (gathers : Bool → List Entry → List (List ℕ) → G → Type 0) (count : G → ℕ) (tells : Bool) (start : Start)
-    (Texts : Bool → List Entry → List (List ℕ) → Type 0) (input : List ℕ) (slot : ℕ)
+module _ {G : Type 0} (gathers : List Taken → List (List ℕ) → G → Type 0) (count : G → ℕ) (tells : Bool) (start : Start)
+    (Texts : List Taken → List (List ℕ) → Type 0) (input : List ℕ) (slot : ℕ)
     (old_in new_in : desk.Reading) (old_out mid_out now : Writing) (gathered : G) (tellers : List Output)
     (writes : (base : ℕ) (names texts : List (List ℕ)) → AreTold tells mid_out base names tellers texts → WritesFrom base mid_out now) where
   pub Stops-writes : (answer : Outcome) → (IsBroken answer → ⊥)

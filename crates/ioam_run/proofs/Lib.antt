@@ -12,4 +12,5 @@ pub mod FinishesLaws
 pub mod WordsLaws
 pub mod AskedLaws
 mod VerdictLaws
+mod SavingLaws
 mod KeptLaws

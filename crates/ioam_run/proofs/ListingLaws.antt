@@ -1,8 +1,8 @@
 -- The text of a list, with one record more.
-use Rattle.std.proofs.Common.{◌≡◌, ℕ, ◌+◌, Bool, List, [], ◌∷◌, ◌++◌, length, Result, Ok, Err, OnOk, refl, sym, ◌∙◌, ap, subst, inl, inr, append_assoc, append-nil, length-append, arith}
+use Rattle.std.proofs.Common.{◌≡◌, ℕ, ◌+◌, List, [], ◌∷◌, ◌++◌, length, Result, Ok, Err, OnOk, refl, sym, ◌∙◌, ap, subst, inl, inr, append_assoc, append-nil, length-append, arith}
 use Rattle.std.specs.Prelude.{decimal, is_ok, if◌then◌else◌}
 use Rattle.ioam_ip.specs.Chain.{IsSound}
-use Rattle.ioam_pcap.specs.Entries.{Entry}
+use Rattle.ioam_pcap.specs.Entries.{Taken}
 use Rattle.ioam_run.specs.ListText.{PacketLines, EntryLines, Lines, skip_line}
 use Rattle.ioam_outputs.specs.Told.{said_more}
 use Rattle.ioam_run.specs.Listing.{Lists}
@@ -25,34 +25,34 @@ module _ (Tells : List ℕ → List ℕ → Type 0) where
       → (text : List ℕ) × PacketLines Tells number packet text × (new ≡ old ++ text)
   packet_skipped number packet old new unsound is = (skip_line number reason.Chain, inl (unsound, refl), is)
 
-  Lines-push : (ethernet : Bool) (number : ℕ) (es : List Entry) (lines : List ℕ) (e : Entry) (text : List ℕ) → Lines Tells ethernet number es lines
-      → EntryLines Tells ethernet (number + length es) e text → Lines Tells ethernet number (es ++ e ∷ []) (lines ++ text)
-  Lines-push ethernet number [] lines e text are has =
-      let P : ℕ → Type 0 = λ n. EntryLines Tells ethernet n e text in
+  Lines-push : (number : ℕ) (ts : List Taken) (lines : List ℕ) (t : Taken) (text : List ℕ) → Lines Tells number ts lines
+      → EntryLines Tells (number + length ts) t text → Lines Tells number (ts ++ t ∷ []) (lines ++ text)
+  Lines-push number [] lines t text are has =
+      let P : ℕ → Type 0 = λ n. EntryLines Tells n t text in
       let here : number + 0 ≡ number = omega arith in
       (text, [], subst P here has, refl, ap (λ (front : List ℕ). front ++ text) are ∙ sym (append-nil text))
-  Lines-push ethernet number (f ∷ es) lines e text are has =
-      let P : ℕ → Type 0 = λ n. EntryLines Tells ethernet n e text in
-      let here : number + length (f ∷ es) ≡ number + 1 + length es = omega arith in (
+  Lines-push number (f ∷ ts) lines t text are has =
+      let P : ℕ → Type 0 = λ n. EntryLines Tells n t text in
+      let here : number + length (f ∷ ts) ≡ number + 1 + length ts = omega arith in (
         are.0,
         are.1 ++ text,
         are.2,
-        Lines-push ethernet (number + 1) es are.1 e text are.3 (subst P here has),
+        Lines-push (number + 1) ts are.1 t text are.3 (subst P here has),
         ap (λ (front : List ℕ). front ++ text) are.4 ∙ append_assoc are.0 are.1 text,
       )
 
   -- one record more
-  pub Lists-push : {L : Type 0} (one : (packet text other : List ℕ) → Tells packet text → Tells packet other → text ≡ other) (ethernet : Bool) (old new : Listing L) (e : Entry) (number : ℕ) (added : List ℕ) → number ≡ old.packets + 1
-      → EntryLines Tells ethernet number e added → new.packets ≡ old.packets + 1
-      → (es : List Entry) (texts : List (List ℕ)) → Lists Tells ethernet es texts old → Lists Tells ethernet (es ++ e ∷ []) (said_more texts (added ∷ [])) new
-  Lists-push one ethernet old new e number added is lines counted es [] lists = absurd lists
-  Lists-push one ethernet old new e number added is lines counted es (text ∷ []) lists =
-      let P : ℕ → Type 0 = λ n. EntryLines Tells ethernet n e added in
-      let place : number ≡ 1 + length es = omega (arith, is, lists.count) in
-      let more : Lines Tells ethernet 1 (es ++ e ∷ []) (text ++ added) = Lines-push ethernet 1 es text e added lists.lines (subst P place lines) in
+  pub Lists-push : {L : Type 0} (one : (packet text other : List ℕ) → Tells packet text → Tells packet other → text ≡ other) (old new : Listing L) (t : Taken) (number : ℕ) (added : List ℕ) → number ≡ old.packets + 1
+      → EntryLines Tells number t added → new.packets ≡ old.packets + 1
+      → (ts : List Taken) (texts : List (List ℕ)) → Lists Tells ts texts old → Lists Tells (ts ++ t ∷ []) (said_more texts (added ∷ [])) new
+  Lists-push one old new t number added is lines counted ts [] lists = absurd lists
+  Lists-push one old new t number added is lines counted ts (text ∷ []) lists =
+      let P : ℕ → Type 0 = λ n. EntryLines Tells n t added in
+      let place : number ≡ 1 + length ts = omega (arith, is, lists.count) in
+      let more : Lines Tells 1 (ts ++ t ∷ []) (text ++ added) = Lines-push 1 ts text t added lists.lines (subst P place lines) in
       record {
         lines = more;
-        only = λ others are. Lines-unique Tells one ethernet 1 (es ++ e ∷ []) others (text ++ added) are more;
-        count = omega (arith, counted, lists.count, length-append es (e ∷ []));
+        only = λ others are. Lines-unique Tells one 1 (ts ++ t ∷ []) others (text ++ added) are more;
+        count = omega (arith, counted, lists.count, length-append ts (t ∷ []));
       }
-  Lists-push one ethernet old new e number added is lines counted es (text ∷ more ∷ texts) lists = absurd lists
+  Lists-push one old new t number added is lines counted ts (text ∷ more ∷ texts) lists = absurd lists

@@ -1,10 +1,10 @@
 -- The records of a capture have one report, where each packet has one text.
-use Rattle.std.proofs.Common.{◌≡◌, ℕ, ◌+◌, Bool, List, [], ◌∷◌, ◌++◌, length, sym, ◌∙◌, ap, inl, inr}
+use Rattle.std.proofs.Common.{◌≡◌, ℕ, ◌+◌, List, [], ◌∷◌, ◌++◌, length, sym, ◌∙◌, ap, inl, inr}
 use Rattle.std.specs.Prelude.{decimal}
 use Rattle.ioam_ip.specs.Framing.{Framing, Holds, NoIpv6, CutShort, TooShort}
-use Rattle.ioam_pcap.specs.Entries.{Entry}
+use Rattle.ioam_pcap.specs.Entries.{Taken}
 use Rattle.ioam_run.specs.ListText.{PacketLines, FramingLines, Lines, Listed, ListTexts, packets_line}
-use Rattle.ioam_run.specs.Verdict.{entry_framing}
+use Rattle.ioam_run.specs.Verdict.{taken_framing}
 
 module _ (Tells : List ℕ → List ℕ → Type 0) (one : (packet text other : List ℕ) → Tells packet text → Tells packet other → text ≡ other) where
   -- of a packet
@@ -23,23 +23,21 @@ module _ (Tells : List ℕ → List ℕ → Type 0) (one : (packet text other : 
   one_of_frame number TooShort a b x y = x ∙ sym y
 
   -- records have one list of lines
-  pub Lines-unique : (ethernet : Bool) (number : ℕ) (entries : List Entry) (a b : List ℕ) → Lines Tells ethernet number entries a
-      → Lines Tells ethernet number entries b → a ≡ b
-  Lines-unique ethernet number [] a b x y = x ∙ sym y
-  Lines-unique ethernet number (e ∷ es) a b x y =
-      let here : x.0 ≡ y.0 = one_of_frame number (entry_framing ethernet e) x.0 y.0 x.2 y.2 in
-      let behind : x.1 ≡ y.1 = Lines-unique ethernet (number + 1) es x.1 y.1 x.3 y.3 in
+  pub Lines-unique : (number : ℕ) (ts : List Taken) (a b : List ℕ) → Lines Tells number ts a → Lines Tells number ts b → a ≡ b
+  Lines-unique number [] a b x y = x ∙ sym y
+  Lines-unique number (t ∷ ts) a b x y =
+      let here : x.0 ≡ y.0 = one_of_frame number (taken_framing t) x.0 y.0 x.2 y.2 in
+      let behind : x.1 ≡ y.1 = Lines-unique (number + 1) ts x.1 y.1 x.3 y.3 in
       x.4 ∙ ap (λ front. front ++ x.1) here ∙ ap (λ more. y.0 ++ more) behind ∙ sym y.4
 
-  Listed-unique : (ethernet : Bool) (entries : List Entry) (a b : List ℕ) → Listed Tells ethernet entries a → Listed Tells ethernet entries b → a ≡ b
-  Listed-unique ethernet entries a b x y =
-      x.text_is ∙ ap (λ lines. lines ++ packets_line (length entries)) (Lines-unique ethernet 1 entries x.lines y.lines x.are_lines y.are_lines) ∙ sym y.text_is
+  Listed-unique : (ts : List Taken) (a b : List ℕ) → Listed Tells ts a → Listed Tells ts b → a ≡ b
+  Listed-unique ts a b x y =
+      x.text_is ∙ ap (λ lines. lines ++ packets_line (length ts)) (Lines-unique 1 ts x.lines y.lines x.are_lines y.are_lines) ∙ sym y.text_is
 
   -- and one report
-  pub ListTexts-unique : (ethernet : Bool) (entries : List Entry) (xs ys : List (List ℕ)) → ListTexts Tells ethernet entries xs
-      → ListTexts Tells ethernet entries ys → xs ≡ ys
-  ListTexts-unique ethernet entries [] ys x y = absurd x
-  ListTexts-unique ethernet entries (a ∷ more ∷ xs) ys x y = absurd x
-  ListTexts-unique ethernet entries (a ∷ []) [] x y = absurd y
-  ListTexts-unique ethernet entries (a ∷ []) (b ∷ more ∷ ys) x y = absurd y
-  ListTexts-unique ethernet entries (a ∷ []) (b ∷ []) x y = ap (λ text. text ∷ []) (Listed-unique ethernet entries a b x y)
+  pub ListTexts-unique : (ts : List Taken) (xs ys : List (List ℕ)) → ListTexts Tells ts xs → ListTexts Tells ts ys → xs ≡ ys
+  ListTexts-unique ts [] ys x y = absurd x
+  ListTexts-unique ts (a ∷ more ∷ xs) ys x y = absurd x
+  ListTexts-unique ts (a ∷ []) [] x y = absurd y
+  ListTexts-unique ts (a ∷ []) (b ∷ more ∷ ys) x y = absurd y
+  ListTexts-unique ts (a ∷ []) (b ∷ []) x y = ap (λ text. text ∷ []) (Listed-unique ts a b x y)

@@ -1,10 +1,10 @@
 -- A record has one verdict only.
-use Rattle.std.proofs.Common.{◌≡◌, ℕ, List, [], ◌∷◌, Bool, refl, sym, ap, ◌∙◌, subst}
+use Rattle.std.proofs.Common.{◌≡◌, ℕ, List, [], ◌∷◌, refl, sym, ap, ◌∙◌, subst}
 use Rattle.ioam_ip.specs.Framing.{Framing, Holds, NoIpv6, CutShort, TooShort}
 use Rattle.ioam_node.specs.declared.reason.Reason.{Reason}
 use Rattle.ioam_node.specs.declared.reason.Reason.TheVariants as reason
-use Rattle.ioam_pcap.specs.Entries.{Entry}
-use Rattle.ioam_run.specs.Verdict.{Verdict, Keeps, Drops, PacketVerdict, FramingVerdict, HasVerdict, AreVerdicts, entry_framing}
+use Rattle.ioam_pcap.specs.Entries.{Taken}
+use Rattle.ioam_run.specs.Verdict.{Verdict, Keeps, Drops, PacketVerdict, FramingVerdict, HasVerdict, AreVerdicts, taken_framing}
 
 module _ (packet : List ℕ) where
   one_reason : (first_why other : Reason) → PacketVerdict packet (Drops first_why) → PacketVerdict packet (Drops other) → first_why ≡ other
@@ -67,21 +67,20 @@ one_of_frame CutShort first other x y = x ∙ sym y
 one_of_frame TooShort first other x y = x ∙ sym y
 
 -- a record that gives this frame has no other verdict than one of the frame
-pub only_verdict : (ethernet : Bool) (entry : Entry) (framing : Framing) (first other : Verdict) → framing ≡ entry_framing ethernet entry
-    → FramingVerdict framing first → HasVerdict ethernet entry other → first ≡ other
-only_verdict ethernet entry framing first other is x y =
+pub only_verdict : (t : Taken) (framing : Framing) (first other : Verdict) → framing ≡ taken_framing t
+    → FramingVerdict framing first → HasVerdict t other → first ≡ other
+only_verdict t framing first other is x y =
     let P : Framing → Type 0 = λ f. FramingVerdict f other in
     one_of_frame framing first other x (subst P (sym is) y)
 
 -- and records one list of verdicts
-pub AreVerdicts-unique : (ethernet : Bool) (entries : List Entry) (verdicts others : List Verdict) → AreVerdicts ethernet entries verdicts
-    → AreVerdicts ethernet entries others → verdicts ≡ others
-AreVerdicts-unique ethernet [] [] [] first second = refl
-AreVerdicts-unique ethernet [] [] (other ∷ others) first second = absurd second
-AreVerdicts-unique ethernet [] (verdict ∷ verdicts) others first second = absurd first
-AreVerdicts-unique ethernet (entry ∷ entries) [] others first second = absurd first
-AreVerdicts-unique ethernet (entry ∷ entries) (verdict ∷ verdicts) [] first second = absurd second
-AreVerdicts-unique ethernet (entry ∷ entries) (verdict ∷ verdicts) (other ∷ others) first second =
-    let here : verdict ≡ other = only_verdict ethernet entry (entry_framing ethernet entry) verdict other refl first.0 second.0 in
-    let behind : verdicts ≡ others = AreVerdicts-unique ethernet entries verdicts others first.1 second.1 in
+pub AreVerdicts-unique : (ts : List Taken) (verdicts others : List Verdict) → AreVerdicts ts verdicts → AreVerdicts ts others → verdicts ≡ others
+AreVerdicts-unique [] [] [] first second = refl
+AreVerdicts-unique [] [] (other ∷ others) first second = absurd second
+AreVerdicts-unique [] (verdict ∷ verdicts) others first second = absurd first
+AreVerdicts-unique (t ∷ ts) [] others first second = absurd first
+AreVerdicts-unique (t ∷ ts) (verdict ∷ verdicts) [] first second = absurd second
+AreVerdicts-unique (t ∷ ts) (verdict ∷ verdicts) (other ∷ others) first second =
+    let here : verdict ≡ other = only_verdict t (taken_framing t) verdict other refl first.0 second.0 in
+    let behind : verdicts ≡ others = AreVerdicts-unique ts verdicts others first.1 second.1 in
     cc

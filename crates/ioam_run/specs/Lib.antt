@@ -8,3 +8,5 @@ pub mod ListText
 pub mod PathsText
 pub mod ShowText
 pub mod Listing
+pub mod SaveText
+pub mod Saving

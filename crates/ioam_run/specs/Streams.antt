@@ -68,7 +68,8 @@ module _ {G : Type 0} (gathers : List Taken → List (List ℕ) → G → Type 0
         × ((tells : Bool) (start : Start) (inputs : desk.Reading) (outputs : Writing) (slot : ℕ) → start.limit ≡ limit
         → Streams tells start inputs outputs slot old before tellers
         → Streams tells start inputs outputs slot new after now_tellers)
-    Steps (Some pause.More) = Stays × Waits new × HoldsFew new × ((octets : List ℕ) (taken : List Taken) → Stands old octets taken
+    Steps (Some pause.More) = Stays × Waits new × HoldsFew new × (length (pending new) ≤ length (pending old))
+        × ((octets : List ℕ) (taken : List Taken) → Stands old octets taken
         → Stands new octets taken × ShowsSo octets false taken None)
     Steps (Some (pause.Bad at fault)) = Stays × ((octets : List ℕ) (taken : List Taken) → Stands old octets taken
         → (more : List ℕ) → Reads (octets ++ more) taken (Faulty at fault))

@@ -1,4 +1,4 @@
-//! The commands over one capture, `filter`, `paths` and `show`.
+//! The commands over one capture, `filter`, `paths`, `show` and `save`.
 //!
 //! A record's way: `run_over_capture` looks at the names, `run_capture` opens the files, `read_on` reads pieces,
 //! `step` takes a record, and the command's `Gather` adds what it says of it to each output.
@@ -14,6 +14,8 @@ mod listing;
 mod over_capture;
 mod packet_text;
 mod paths;
+mod save;
+mod saving;
 mod show;
 mod step;
 mod stream;
@@ -23,4 +25,5 @@ pub use frame::framed;
 pub use gather::Gather;
 pub use over_capture::run_capture;
 pub use paths::run_paths;
+pub use save::run_save;
 pub use show::run_show;

@@ -1,7 +1,7 @@
 use Rattle.std.proofs.Common.{refl}
+use Rattle.ioam_captures.specs.Reader.{taken_of}
 use Rattle.ioam_ip.specs.Framing.{Holds, NoIpv6, CutShort, TooShort}
 use Rattle.ioam_node.specs.declared.reason.Reason.TheVariants as reason
-use Rattle.ioam_pcap.specs.Reader.{entry_of}
 use Rattle.ioam_run.specs.Judgement.{verdict_of}
 use Rattle.ioam_run.specs.Verdict.{Drops}
 use Rattle.ioam_run.proofs.FramingLaws.{held_within, IsWithin-le}
@@ -13,17 +13,17 @@ returns-in-Packet-clause-within c = IsWithin-le _ _ _ (held_within _ _ _ _ c.in-
 
 pub returns-in-Packet-clause-only : goal.returns-in-Packet-clause-only
 returns-in-Packet-clause-only c = λ verdict has.
-    only_verdict c.args.ethernet (entry_of c.args.captured.now) (Holds c.in-Packet.octets.now) (verdict_of c.judge_packet.result) verdict
+    only_verdict (taken_of c.args.link c.args.captured.now) (Holds c.in-Packet.octets.now) (verdict_of c.judge_packet.result) verdict
     c.in-Packet.ensures.framing c.judge_packet.ensures.verdict has
 
 pub returns-in-NotIpv6-clause-only : goal.returns-in-NotIpv6-clause-only
 returns-in-NotIpv6-clause-only c = λ verdict has.
-    only_verdict c.args.ethernet (entry_of c.args.captured.now) NoIpv6 (Drops reason.NotIpv6) verdict c.in-NotIpv6.ensures.framing refl has
+    only_verdict (taken_of c.args.link c.args.captured.now) NoIpv6 (Drops reason.NotIpv6) verdict c.in-NotIpv6.ensures.framing refl has
 
 pub returns-in-Cut-clause-only : goal.returns-in-Cut-clause-only
 returns-in-Cut-clause-only c = λ verdict has.
-    only_verdict c.args.ethernet (entry_of c.args.captured.now) CutShort (Drops reason.Cut) verdict c.in-Cut.ensures.framing refl has
+    only_verdict (taken_of c.args.link c.args.captured.now) CutShort (Drops reason.Cut) verdict c.in-Cut.ensures.framing refl has
 
 pub returns-in-Length-clause-only : goal.returns-in-Length-clause-only
 returns-in-Length-clause-only c = λ verdict has.
-    only_verdict c.args.ethernet (entry_of c.args.captured.now) TooShort (Drops reason.Length) verdict c.in-Length.ensures.framing refl has
+    only_verdict (taken_of c.args.link c.args.captured.now) TooShort (Drops reason.Length) verdict c.in-Length.ensures.framing refl has

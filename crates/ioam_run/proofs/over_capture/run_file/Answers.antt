@@ -9,9 +9,8 @@ use Rattle.ioam_run.specs.Run.{FileCause}
 use Rattle.ioam_run.specs.Streams.{Start, Finishes, ReadsOne}
 use Rattle.ioam_run.proofs.BeginLaws.{Fed-start, told_start, unwritten}
 use Rattle.ioam_run.proofs.FinishesLaws.{Finishes-drained, Finishes-cause, Finishes-leaves}
-use Rattle.ioam_desk.specs.Kept.{WritesFrom}
 use Rattle.ioam_desk.proofs.KeptLaws.{KeepsInputs-same, KeepsOutputs-same, KeepsOutputs-then, KeepsOutputs-from}
-use Rattle.ioam_run.proofs.KeptLaws.{ReadsOne-same, ReadsOne-on, KeepsInputs-unopened, KeepsInputs-opened}
+use Rattle.ioam_run.proofs.KeptLaws.{ReadsOne-same, KeepsInputs-unopened, KeepsInputs-opened}
 use Rattle.ioam_run.proofs.over_capture.run_file.Goals as goal
 
 pub run_open-requires : goal.run_open-requires

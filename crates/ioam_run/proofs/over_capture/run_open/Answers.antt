@@ -32,7 +32,7 @@ read_on-answer-requires g c κs within = (
 
 pub write_rest-requires-clause-open : goal.write_rest-requires-clause-open
 write_rest-requires-clause-open g c =
-    (Stops-open (g.G.Gather.gathers g.begun.gathered) g.G.Gather.count g.D.Desk.tells g.begun.start (g.G.Gather.texts g.begun.gathered) g.G.Gather.sums (g.met.G.Gather.any_link g.begun.gathered) (g.met.G.Gather.ends g.begun.gathered)
+    (Stops-open (g.G.Gather.gathers g.begun.gathered) g.G.Gather.count g.D.Desk.tells g.begun.start (g.G.Gather.texts g.begun.gathered) g.G.Gather.sums (g.met.G.Gather.ends g.begun.gathered)
     c.args.input.now c.args.feed.slot (g.D.Desk.reading c.args.desk.now) (g.D.Desk.reading c.read_on-answer.new.desk)
     (g.D.Desk.writing c.args.desk.now) (g.D.Desk.writing c.read_on-answer.new.desk) c.read_on-answer.new.stream.gathered c.read_on-answer.new.outputs
     c.read_on-answer.result (λ broken. false≢true (sym c.if-is_broken.false ∙ c.is_broken.ensures.1 broken)) c.read_on-answer.ensures.stopped).0
@@ -42,7 +42,7 @@ returns-in-Ok-write_rest-clause-finishes g c =
     let P : desk.Reading → Type 0 = λ r. Finishes g.D.Desk.tells g.begun.start (g.G.Gather.texts g.begun.gathered) c.args.input.now c.args.feed.slot (g.D.Desk.reading c.args.desk.now) r
     (g.D.Desk.writing c.args.desk.now) (g.D.Desk.writing c.write_rest.new.desk) c.read_on-answer.result in
     subst P (sym c.in-Ok-write_rest.ensures.inputs)
-    (Finishes-written (g.G.Gather.gathers g.begun.gathered) g.G.Gather.count g.D.Desk.tells g.begun.start (g.G.Gather.texts g.begun.gathered) g.G.Gather.sums (g.met.G.Gather.any_link g.begun.gathered) (g.met.G.Gather.ends g.begun.gathered)
+    (Finishes-written (g.G.Gather.gathers g.begun.gathered) g.G.Gather.count g.D.Desk.tells g.begun.start (g.G.Gather.texts g.begun.gathered) g.G.Gather.sums (g.met.G.Gather.ends g.begun.gathered)
     c.args.input.now c.args.feed.slot (g.D.Desk.reading c.args.desk.now) (g.D.Desk.reading c.read_on-answer.new.desk)
     (g.D.Desk.writing c.args.desk.now) (g.D.Desk.writing c.read_on-answer.new.desk) c.read_on-answer.new.stream.gathered c.read_on-answer.new.outputs
     (g.D.Desk.writing c.write_rest.new.desk) c.in-Ok-write_rest.ensures.texts
@@ -52,12 +52,12 @@ pub returns-in-Err-Failed-clause-finishes : goal.returns-in-Err-Failed-clause-fi
 returns-in-Err-Failed-clause-finishes g c =
     let whole : IsBroken c.read_on-answer.result → ⊥ = λ broken. false≢true (sym c.if-is_broken.false ∙ c.is_broken.ensures.1 broken) in
     let rose = rw c.in-Err-Failed.field-0-is at c.in-Err-Failed.ensures.cause in
-    let known = Stops-open (g.G.Gather.gathers g.begun.gathered) g.G.Gather.count g.D.Desk.tells g.begun.start (g.G.Gather.texts g.begun.gathered) g.G.Gather.sums (g.met.G.Gather.any_link g.begun.gathered) (g.met.G.Gather.ends g.begun.gathered)
+    let known = Stops-open (g.G.Gather.gathers g.begun.gathered) g.G.Gather.count g.D.Desk.tells g.begun.start (g.G.Gather.texts g.begun.gathered) g.G.Gather.sums (g.met.G.Gather.ends g.begun.gathered)
     c.args.input.now c.args.feed.slot (g.D.Desk.reading c.args.desk.now) (g.D.Desk.reading c.read_on-answer.new.desk)
     (g.D.Desk.writing c.args.desk.now) (g.D.Desk.writing c.read_on-answer.new.desk) c.read_on-answer.new.stream.gathered c.read_on-answer.new.outputs
     c.read_on-answer.result whole c.read_on-answer.ensures.stopped in (
       omega (arith, rose, ap (λ (s : Side). s.faults) known.1),
-      Stops-sticks (g.G.Gather.gathers g.begun.gathered) g.G.Gather.count g.D.Desk.tells g.begun.start (g.G.Gather.texts g.begun.gathered) g.G.Gather.sums (g.met.G.Gather.any_link g.begun.gathered) (g.met.G.Gather.ends g.begun.gathered)
+      Stops-sticks (g.G.Gather.gathers g.begun.gathered) g.G.Gather.count g.D.Desk.tells g.begun.start (g.G.Gather.texts g.begun.gathered) g.G.Gather.sums (g.met.G.Gather.ends g.begun.gathered)
           c.args.input.now c.args.feed.slot (g.D.Desk.reading c.args.desk.now) (g.D.Desk.reading c.read_on-answer.new.desk)
           (g.D.Desk.writing c.args.desk.now) (g.D.Desk.writing c.read_on-answer.new.desk) c.read_on-answer.new.stream.gathered c.read_on-answer.new.outputs
           (g.D.Desk.writing c.write_rest.new.desk) c.write_rest.ensures.fronts c.read_on-answer.result whole c.read_on-answer.ensures.stopped,
@@ -65,7 +65,7 @@ returns-in-Err-Failed-clause-finishes g c =
 
 pub returns-clause-finishes : goal.returns-clause-finishes
 returns-clause-finishes g c =
-    Stops-sticks (g.G.Gather.gathers g.begun.gathered) g.G.Gather.count g.D.Desk.tells g.begun.start (g.G.Gather.texts g.begun.gathered) g.G.Gather.sums (g.met.G.Gather.any_link g.begun.gathered) (g.met.G.Gather.ends g.begun.gathered)
+    Stops-sticks (g.G.Gather.gathers g.begun.gathered) g.G.Gather.count g.D.Desk.tells g.begun.start (g.G.Gather.texts g.begun.gathered) g.G.Gather.sums (g.met.G.Gather.ends g.begun.gathered)
     c.args.input.now c.args.feed.slot (g.D.Desk.reading c.args.desk.now) (g.D.Desk.reading c.read_on-answer.new.desk)
     (g.D.Desk.writing c.args.desk.now) (g.D.Desk.writing c.read_on-answer.new.desk) c.read_on-answer.new.stream.gathered c.read_on-answer.new.outputs
     (g.D.Desk.writing c.write_rest.new.desk) c.write_rest.ensures.fronts c.read_on-answer.result

@@ -1,4 +1,4 @@
-use Rattle.std.proofs.Common.{ℕ, List, rules, inr, sym, subst, refl, arith}
+use Rattle.std.proofs.Common.{ℕ, List, inr, sym, subst, refl, arith}
 use Rattle.ioam_outputs.specs.Names.{AreApart}
 use Rattle.ioam_run.specs.Run.{most_packets, FileCause, file_names, input_name, output_names}
 use Rattle.ioam_outputs.proofs.NamesLaws.{found_name}

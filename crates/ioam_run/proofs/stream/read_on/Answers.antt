@@ -1,14 +1,13 @@
 use Rattle.std.proofs.Common.{◌≡◌, ℕ, IsTrue, List, length, length-append, refl, rules, ap, sym, ◌∙◌, subst, arith}
+use Rattle.ioam_captures.specs.Reading.{pending}
 use Rattle.ioam_desk.specs.Desk as desk
 use Rattle.ioam_desk.specs.Desk.{Side, Writing}
 use Rattle.ioam_desk.proofs.KeptLaws.{WritesFrom-same, WritesFrom-then}
 use Rattle.ioam_outputs.specs.Held.{HoldAllFronts}
-use Rattle.ioam_pcap.specs.Reads.{Faulty}
-use Rattle.ioam_pcap.specs.Reader.{ending_of, fed}
-use Rattle.ioam_pcap.proofs.StandsLaws.{Waits-few}
+use Rattle.ioam_pcap.specs.Ending.{Faulty, ending_of}
 use Rattle.ioam_run.specs.Run.{EndsSo}
 use Rattle.ioam_run.proofs.HaltsLaws.{Streams-sticks, Streams-fronts, halts_waiting, halts_end}
-use Rattle.ioam_run.proofs.StopsLaws.{begins_ends, Halts-sticks_here, Stops-bad, Stops-end, Halts-left, Streams-start, Streams-fed, Streams-ended}
+use Rattle.ioam_run.proofs.StopsLaws.{begins_ends, Halts-sticks_here, Stops-bad, Stops-end, Halts-left, Streams-room, Streams-fed, Streams-ended}
 use Rattle.ioam_run.proofs.KeptLaws.{ReadsOne-same, ReadsOne-on, ReadsOne-refilled}
 use Rattle.ioam_run.proofs.stream.read_on.Goals as goal
 
@@ -19,17 +18,17 @@ returns-in-Ok-Bad-clause-stopped g c =
     (g.D.Desk.reading c.args.desk.now) (g.D.Desk.reading c.take_shown.new.desk) (g.D.Desk.writing c.args.desk.now) (g.D.Desk.writing c.take_shown.new.desk)
     c.take_shown.new.stream.gathered c.take_shown.new.outputs c.in-Ok-Bad.at c.in-Ok-Bad.fault c.capture_outcome.result c.capture_outcome.ensures halts
     (c.in-Ok-Bad.ensures.same ∙ c.pieces.invariant.side)
-    (Halts-sticks_here (g.G.Gather.gathers g.begun.gathered) g.G.Gather.count g.D.Desk.tells g.begun.start (g.G.Gather.texts g.begun.gathered) g.G.Gather.sums (g.met.G.Gather.any_link g.begun.gathered) (g.met.G.Gather.ends g.begun.gathered)
+    (Halts-sticks_here (g.G.Gather.gathers g.begun.gathered) g.G.Gather.count g.D.Desk.tells g.begun.start (g.G.Gather.texts g.begun.gathered) g.G.Gather.sums (g.met.G.Gather.ends g.begun.gathered)
     (EndsSo (Faulty c.in-Ok-Bad.at c.in-Ok-Bad.fault)) (begins_ends (Faulty c.in-Ok-Bad.at c.in-Ok-Bad.fault)) (g.D.Desk.writing c.take_shown.new.desk) c.take_shown.new.stream.gathered c.take_shown.new.outputs halts
     (omega (arith, g.met.G.Gather.sized c.take_shown.new.stream.gathered, c.pieces.invariant.width, c.take_shown.auto.outputs)))
 
 pub pieces-preserved : goal.pieces-preserved
 pieces-preserved g c =
-    let streams = (rw c.in-Ok-More.field-0-is at c.in-Ok-More.ensures.paused).0 in
+    let streams = (rw c.in-Ok-More.field-0-is at c.in-Ok-More.ensures.paused).streams in
     let feeds = rw c.in-Ok-true.field-0-test at c.in-Ok-true.ensures.read in
     record {
       streams = Streams-fed (g.G.Gather.gathers g.begun.gathered) g.G.Gather.count g.D.Desk.tells g.begun.start (g.D.Desk.reading c.take_shown.new.desk) (g.D.Desk.reading c.refill.new.desk) (g.D.Desk.writing c.take_shown.new.desk) (g.D.Desk.writing c.refill.new.desk) c.take_shown.new.stream.feed.slot c.refill.new.self.slot _
-          c.take_shown.new.stream.feed.reader c.refill.new.self.reader c.take_shown.new.stream.ethernet c.take_shown.new.stream.gathered c.take_shown.new.outputs c.in-Ok-true.ensures.outputs c.in-Ok-true.ensures.slot feeds
+          c.take_shown.new.stream.feed.reader c.refill.new.self.reader c.take_shown.new.stream.gathered c.take_shown.new.outputs c.in-Ok-true.ensures.outputs c.in-Ok-true.ensures.slot feeds
           (omega (arith, c.in-Ok-true.ensures.kept, c.pieces.invariant.room)) streams;
       width = omega (arith, c.pieces.invariant.width, c.take_shown.auto.outputs);
       waiting = c.in-Ok-More.ensures.waiting;
@@ -49,7 +48,7 @@ pieces-preserved g c =
 pub refill-requires-clause-few : goal.refill-requires-clause-few
 refill-requires-clause-few g c =
     let paused = rw c.in-Ok-More.field-0-is at c.in-Ok-More.ensures.paused in
-    Waits-few c.take_shown.new.stream.feed.reader paused.1
+    paused.holds_few
 
 pub refill-requires-clause-fits : goal.refill-requires-clause-fits
 refill-requires-clause-fits g c =
@@ -57,9 +56,8 @@ refill-requires-clause-fits g c =
     omega (
       arith,
       c.pieces.invariant.room,
-      Waits-few c.take_shown.new.stream.feed.reader paused.1,
-      Streams-start (g.G.Gather.gathers g.begun.gathered) g.G.Gather.count g.D.Desk.tells g.begun.start (g.D.Desk.reading c.take_shown.new.desk) (g.D.Desk.writing c.take_shown.new.desk)
-          c.take_shown.new.stream.feed.slot c.take_shown.new.stream.feed.reader c.take_shown.new.stream.ethernet c.take_shown.new.stream.gathered c.take_shown.new.outputs paused.0,
+      Streams-room (g.G.Gather.gathers g.begun.gathered) g.G.Gather.count g.D.Desk.tells g.begun.start (g.D.Desk.reading c.take_shown.new.desk) (g.D.Desk.writing c.take_shown.new.desk)
+          c.take_shown.new.stream.feed.slot c.take_shown.new.stream.feed.reader c.take_shown.new.stream.gathered c.take_shown.new.outputs paused.streams (omega (arith, c.requires.1.1.1.1.1.1.0, c.requires.1.1.1.1.1.1.1)) paused.holds_few,
     )
 
 pub pieces-smaller : goal.pieces-smaller
@@ -68,13 +66,13 @@ pieces-smaller g c =
     let feeds = rw c.in-Ok-true.field-0-test at c.in-Ok-true.ensures.read in
     omega (
       arith,
-      Waits-few c.take_shown.new.stream.feed.reader paused.1,
-      Streams-start (g.G.Gather.gathers g.begun.gathered) g.G.Gather.count g.D.Desk.tells g.begun.start (g.D.Desk.reading c.take_shown.new.desk) (g.D.Desk.writing c.take_shown.new.desk)
-          c.take_shown.new.stream.feed.slot c.take_shown.new.stream.feed.reader c.take_shown.new.stream.ethernet c.take_shown.new.stream.gathered c.take_shown.new.outputs paused.0,
+      Streams-room (g.G.Gather.gathers g.begun.gathered) g.G.Gather.count g.D.Desk.tells g.begun.start (g.D.Desk.reading c.take_shown.new.desk) (g.D.Desk.writing c.take_shown.new.desk)
+          c.take_shown.new.stream.feed.slot c.take_shown.new.stream.feed.reader c.take_shown.new.stream.gathered c.take_shown.new.outputs paused.streams (omega (arith, c.requires.1.1.1.1.1.1.0, c.requires.1.1.1.1.1.1.1)) paused.holds_few,
       c.in-Ok-More.ensures.fed,
       feeds.some,
-      ap fed feeds.fed,
-      length-append c.take_shown.new.stream.feed.reader.pending feeds.piece,
+      ap (λ (o : List ℕ). length o) feeds.fed.0,
+      feeds.fed.1,
+      length-append (pending c.take_shown.new.stream.feed.reader) feeds.piece,
     )
 
 pub returns-in-Ok-false-clause-stopped : goal.returns-in-Ok-false-clause-stopped
@@ -86,16 +84,16 @@ returns-in-Ok-false-clause-stopped g c =
     let slot : c.args.stream.now.feed.slot ≡ c.take_shown.new.stream.feed.slot = sym (c.in-Ok-More.ensures.slot ∙ c.pieces.invariant.slot) in
     let streams = Streams-ended (g.G.Gather.gathers g.begun.gathered) g.G.Gather.count g.D.Desk.tells g.begun.start
     (g.D.Desk.reading c.take_shown.new.desk) (g.D.Desk.reading c.refill.new.desk) (g.D.Desk.writing c.take_shown.new.desk) (g.D.Desk.writing c.refill.new.desk)
-    c.take_shown.new.stream.feed.slot c.take_shown.new.stream.feed.reader c.refill.new.self.reader c.take_shown.new.stream.ethernet c.take_shown.new.stream.gathered c.take_shown.new.outputs
-    c.in-Ok-false.ensures.outputs ends paused.0 in
+    c.take_shown.new.stream.feed.slot c.take_shown.new.stream.feed.reader c.refill.new.self.reader c.take_shown.new.stream.gathered c.take_shown.new.outputs
+    c.in-Ok-false.ensures.outputs ends paused.streams in
     let halts = halts_end (g.G.Gather.gathers g.begun.gathered) g.G.Gather.count g.D.Desk.tells g.begun.start (g.D.Desk.reading c.refill.new.desk) (g.D.Desk.writing c.refill.new.desk)
-    c.take_shown.new.stream.feed.slot c.refill.new.self.reader c.take_shown.new.stream.ethernet c.take_shown.new.stream.gathered c.take_shown.new.outputs streams
+    c.take_shown.new.stream.feed.slot c.refill.new.self.reader c.take_shown.new.stream.gathered c.take_shown.new.outputs streams
     (ending_of c.finish.result) ends.left c.finish.ensures.reads in
     Stops-end (g.G.Gather.gathers g.begun.gathered) g.G.Gather.count g.D.Desk.tells g.begun.start (g.G.Gather.texts g.begun.gathered) c.args.input.now c.args.stream.now.feed.slot
     (g.D.Desk.reading c.args.desk.now) (g.D.Desk.reading c.refill.new.desk) (g.D.Desk.writing c.args.desk.now) (g.D.Desk.writing c.refill.new.desk)
     c.take_shown.new.stream.gathered c.take_shown.new.outputs (ending_of c.finish.result) c.end_outcome.result c.end_outcome.ensures halts
     (ap (λ (w : Writing). w.side) c.in-Ok-false.ensures.outputs ∙ c.in-Ok-More.ensures.same ∙ c.pieces.invariant.side)
-    (Halts-sticks_here (g.G.Gather.gathers g.begun.gathered) g.G.Gather.count g.D.Desk.tells g.begun.start (g.G.Gather.texts g.begun.gathered) g.G.Gather.sums (g.met.G.Gather.any_link g.begun.gathered) (g.met.G.Gather.ends g.begun.gathered)
+    (Halts-sticks_here (g.G.Gather.gathers g.begun.gathered) g.G.Gather.count g.D.Desk.tells g.begun.start (g.G.Gather.texts g.begun.gathered) g.G.Gather.sums (g.met.G.Gather.ends g.begun.gathered)
     (EndsSo (ending_of c.finish.result)) (begins_ends (ending_of c.finish.result)) (g.D.Desk.writing c.refill.new.desk) c.take_shown.new.stream.gathered c.take_shown.new.outputs halts sized)
     (λ told. let P : ℕ → Type 0 = λ k. IsTrue ((g.D.Desk.reading c.refill.new.desk).ended k) in subst P (sym slot) (ends.ended told))
 
@@ -113,21 +111,21 @@ returns-in-Err-Failed-refill-clause-stopped g c =
             ((g.D.Desk.reading c.take_shown.new.desk).left c.take_shown.new.stream.feed.slot) ((g.D.Desk.reading c.refill.new.desk).left c.args.stream.now.feed.slot) c.in-Err-Failed-refill.ensures.outputs
             (ap (λ (left : ℕ → List ℕ). left c.args.stream.now.feed.slot) fails.left ∙ ap (g.D.Desk.reading c.take_shown.new.desk).left slot)
             (halts_waiting (g.G.Gather.gathers g.begun.gathered) g.G.Gather.count g.D.Desk.tells g.begun.start (g.D.Desk.reading c.take_shown.new.desk) (g.D.Desk.writing c.take_shown.new.desk)
-            c.take_shown.new.stream.feed.slot c.take_shown.new.stream.feed.reader c.take_shown.new.stream.ethernet c.take_shown.new.stream.gathered c.take_shown.new.outputs paused.0 paused.1),
+            c.take_shown.new.stream.feed.slot c.take_shown.new.stream.feed.reader c.take_shown.new.stream.gathered c.take_shown.new.outputs paused.streams paused.shows),
         ap (λ (w : Writing). w.side) c.in-Err-Failed-refill.ensures.outputs ∙ c.in-Ok-More.ensures.same ∙ c.pieces.invariant.side,
       ),
     )
 
 pub returns-in-Err-NoMemory-refill-clause-stopped : goal.returns-in-Err-NoMemory-refill-clause-stopped
 returns-in-Err-NoMemory-refill-clause-stopped g c =
-    let streams = (rw c.in-Ok-More.field-0-is at c.in-Ok-More.ensures.paused).0 in
+    let streams = (rw c.in-Ok-More.field-0-is at c.in-Ok-More.ensures.paused).streams in
     let P : Writing → Type 0 = λ w. HoldAllFronts w g.begun.start.names streams.texts in
     Streams-sticks (g.G.Gather.gathers g.begun.gathered) g.G.Gather.count g.D.Desk.tells g.begun.start (g.D.Desk.reading c.take_shown.new.desk) (g.D.Desk.writing c.take_shown.new.desk)
-    c.take_shown.new.stream.feed.slot c.take_shown.new.stream.feed.reader c.take_shown.new.stream.ethernet c.take_shown.new.stream.gathered c.take_shown.new.outputs streams (g.G.Gather.texts g.begun.gathered) g.G.Gather.sums (g.met.G.Gather.any_link g.begun.gathered) (g.met.G.Gather.ends g.begun.gathered)
+    c.take_shown.new.stream.feed.slot c.take_shown.new.stream.feed.reader c.take_shown.new.stream.gathered c.take_shown.new.outputs streams (g.G.Gather.texts g.begun.gathered) g.G.Gather.sums (g.met.G.Gather.ends g.begun.gathered)
     (omega (arith, g.met.G.Gather.sized c.take_shown.new.stream.gathered, c.pieces.invariant.width, c.take_shown.auto.outputs)) (g.D.Desk.writing c.refill.new.desk)
     (λ told. subst P (sym c.in-Err-NoMemory-refill.ensures.outputs)
     (Streams-fronts (g.G.Gather.gathers g.begun.gathered) g.G.Gather.count g.D.Desk.tells g.begun.start (g.D.Desk.reading c.take_shown.new.desk) (g.D.Desk.writing c.take_shown.new.desk)
-    c.take_shown.new.stream.feed.slot c.take_shown.new.stream.feed.reader c.take_shown.new.stream.ethernet c.take_shown.new.stream.gathered c.take_shown.new.outputs streams told))
+    c.take_shown.new.stream.feed.slot c.take_shown.new.stream.feed.reader c.take_shown.new.stream.gathered c.take_shown.new.outputs streams told))
 
 pub returns-in-Ok-Bad-clause-asked_in : goal.returns-in-Ok-Bad-clause-asked_in
 returns-in-Ok-Bad-clause-asked_in g c = ap (λ (r : desk.Reading). r.side.asked) c.in-Ok-Bad.ensures.inputs ∙ ap (λ (s : Side). s.asked) c.pieces.invariant.inputs

@@ -1,8 +1,7 @@
-use Rattle.std.proofs.Common.{◌≡◌, ◌+◌, ◌-◌, length}
+use Rattle.std.proofs.Common.{◌≡◌, ◌-◌, ◌^◌, length}
+use Rattle.ioam_captures.specs.Reading.{fed}
 use Rattle.ioam_desk.specs.Kept.{WritesFrom}
 use Rattle.ioam_outputs.specs.Told.{GathersFew}
-use Rattle.ioam_pcap.specs.Reader.{fed, most_size, most_start}
-use Rattle.ioam_run.specs.Run.{most_packets}
 use Rattle.ioam_run.specs.Streams.{IsStreaming, ReadsOne}
 use Rattle.ioam_run.proofs.stream.read_on.Given as goal
 
@@ -20,9 +19,9 @@ invariant-pieces g l = record {
   kept_out : WritesFrom g.begun.start.base (g.D.Desk.writing l.initial.desk) (g.D.Desk.writing l.desk);
 }
 
--- what may still be fed: as many records as may be, the front of another, and a piece
+-- what may still be fed
 abbrev pub decreases-pieces : goal.decreases-pieces
-decreases-pieces g l = most_start most_packets + most_size + 65536 - fed l.stream.feed.reader
+decreases-pieces g l = 2 ^ 63 - fed l.stream.feed.reader
 
 abbrev pub ghost-take_shown : goal.ghost-take_shown
 ghost-take_shown g a = g.begun

@@ -1,7 +1,7 @@
-use Rattle.std.proofs.Common.{◌≡◌, length}
+use Rattle.std.proofs.Common.{◌≡◌, ◌-◌, length}
+use Rattle.ioam_captures.specs.Reading.{fed}
 use Rattle.ioam_desk.specs.Kept.{WritesFrom}
 use Rattle.ioam_outputs.specs.Told.{GathersFew}
-use Rattle.ioam_pcap.specs.Reader.{fed}
 use Rattle.ioam_run.specs.Streams.{IsStreaming}
 use Rattle.ioam_run.proofs.stream.take_shown.Given as goal
 
@@ -18,8 +18,9 @@ invariant-records g l = record {
   kept : WritesFrom g.begun.start.base (g.D.Desk.writing l.initial.desk) (g.D.Desk.writing l.desk);
 }
 
+-- the records that may still be taken
 abbrev pub decreases-records : goal.decreases-records
-decreases-records g l = length l.stream.feed.reader.pending
+decreases-records g l = g.begun.start.limit - g.G.Gather.count l.stream.gathered
 
 abbrev pub ghost-step : goal.ghost-step
 ghost-step g a = g.begun

@@ -8,5 +8,5 @@ returns-clause-gathers g c =
     let lines = c.in_ok-put_entry.ensures in (
       lines.0 ∷ [],
       Adds-one _ _ _ _ c.requires.width refl lines.2,
-      λ begun. Lists-push g.L.PacketText.tells g.L.PacketText.one _ _ _ _ _ _ refl lines.1 refl,
+      λ begun. Lists-push g.L.PacketText.tells g.L.PacketText.one _ _ _ _ _ refl lines.1 refl,
     )
