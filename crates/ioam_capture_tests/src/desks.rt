@@ -1,8 +1,8 @@
-//! Desks with one capture, and runs of `filter` over them.
+//! Desks with one capture, and runs of `filter` and `save` over them.
 use ioam_answer::line;
 use ioam_base::memory::NoMemory;
 use ioam_desk::MemoryDesk;
-use ioam_run::run_filter;
+use ioam_run::{run_filter, run_save};
 use ioam_test_rows::digits::words;
 use std::alloc::Global;
 
@@ -18,4 +18,10 @@ pub(crate) fn desk_with(alloc: Global, input: &[u8], call: u64) -> Result<Memory
 pub(crate) fn filtered(alloc: Global, desk: &mut MemoryDesk) -> Result<String, NoMemory> {
     let filter = words(alloc, &["filter", "in.pcap", "out.pcap", "report.txt"])?;
     line(alloc, &run_filter(alloc, &filter, desk))
+}
+
+// The line of a run of `save` over these files.
+pub(crate) fn saved(alloc: Global, desk: &mut MemoryDesk) -> Result<String, NoMemory> {
+    let save = words(alloc, &["save", "in.pcap", "out.pcapng"])?;
+    line(alloc, &run_save(alloc, &save, desk))
 }

@@ -1,5 +1,5 @@
-//! The tests of the commands over one capture: whole runs of `filter`, `paths` and `show` (`ioam_run`)
-//! over desks in memory. What they read and have to write stands in `ioam_test_rows`.
+//! The tests of the commands over one capture: whole runs of `filter`, `paths`, `show` and `save`
+//! (`ioam_run`) over desks in memory. What they read and have to write stands in `ioam_test_rows`.
 #![tactic(auto)]
 
 #[cfg(test)]
@@ -10,5 +10,9 @@ mod filter;
 mod filter_faults;
 #[cfg(test)]
 mod paths;
+#[cfg(test)]
+mod save;
+#[cfg(test)]
+mod saved;
 #[cfg(test)]
 mod show;

@@ -9,7 +9,7 @@ use ioam_test_rows::digits::{octets, words};
 use std::alloc::Global;
 
 // The line of a run of `paths` over these files.
-fn listed(alloc: Global, desk: &mut MemoryDesk) -> Result<String, NoMemory> {
+pub(crate) fn listed(alloc: Global, desk: &mut MemoryDesk) -> Result<String, NoMemory> {
     let paths = words(alloc, &["paths", "in.pcap", "report.txt"])?;
     line(alloc, &run_paths(alloc, &paths, desk))
 }

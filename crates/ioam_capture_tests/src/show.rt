@@ -9,7 +9,7 @@ use ioam_test_rows::show_rows::{ReportFront, failing_show, report_fronts, shown}
 use std::alloc::Global;
 
 // The line of a run of `show` over these files.
-fn line_of(alloc: Global, desk: &mut MemoryDesk) -> Result<String, NoMemory> {
+pub(crate) fn line_of(alloc: Global, desk: &mut MemoryDesk) -> Result<String, NoMemory> {
     let show = words(alloc, &["show", "in.pcap", "report.txt"])?;
     line(alloc, &run_show(alloc, &show, desk))
 }

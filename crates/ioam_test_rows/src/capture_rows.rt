@@ -66,7 +66,7 @@ const RUNS: [Run; 14] = [
         input: &["0a0d0d0a"],
         output: &[HEAD],
         report: "packets 0 kept 0 dropped 0\n",
-        line: "capture in.pcap 0 magic 168627466",
+        line: "capture in.pcap 0 short 4",
     },
     Run {
         input: &[

@@ -10,5 +10,6 @@ pub mod digits;
 pub mod flow_parts;
 pub mod flow_rows;
 pub mod flow_rows_more;
+pub mod ng_rows;
 pub mod run_rows;
 pub mod show_rows;

@@ -1,0 +1,65 @@
+//! A saved capture answers as the one that it was saved of.
+use crate::desks::{desk_with, filtered, saved};
+use crate::paths::listed;
+use crate::show::line_of;
+use ioam_base::memory::NoMemory;
+use ioam_test_rows::capture_rows::{listings, runs};
+use ioam_test_rows::digits::octets;
+use ioam_test_rows::show_rows::shown;
+use std::alloc::Global;
+
+const PIECES: [usize; 3] = [65536, 7, 1];
+
+// What `save` makes of a capture.
+fn saved_of(alloc: Global, input: &[&str]) -> Result<Vec<u8>, NoMemory> {
+    let mut desk = desk_with(alloc, &octets(alloc, input)?, 0)?;
+    saved(alloc, &mut desk)?;
+    Ok(Vec::from_slice(alloc, desk.file("out.pcapng").unwrap_or(b""))?)
+}
+
+#[test]
+fn filter_of_a_saved_capture(rt: HostRuntime) {
+    let alloc = rt.alloc();
+    for run in runs() {
+        let input = saved_of(alloc, run.input).expect(&rt, "memory");
+        let output = octets(alloc, run.output).expect(&rt, "octets");
+        for piece in PIECES {
+            let mut desk = desk_with(alloc, &input, 0).expect(&rt, "memory");
+            desk.set_piece(piece.max(1));
+            let line = filtered(alloc, &mut desk).expect(&rt, "memory");
+            assert_eq!(rt; line.as_str(), "done");
+            assert!(rt; desk.file("out.pcap") == Some(output.as_slice()));
+            assert!(rt; desk.file("report.txt") == Some(run.report.as_bytes()));
+        }
+    }
+}
+
+#[test]
+fn paths_of_a_saved_capture(rt: HostRuntime) {
+    let alloc = rt.alloc();
+    for row in listings() {
+        let input = saved_of(alloc, row.input).expect(&rt, "memory");
+        for piece in PIECES {
+            let mut desk = desk_with(alloc, &input, 0).expect(&rt, "memory");
+            desk.set_piece(piece.max(1));
+            let line = listed(alloc, &mut desk).expect(&rt, "memory");
+            assert_eq!(rt; line.as_str(), "done");
+            assert!(rt; desk.file("report.txt") == Some(row.report.as_bytes()));
+        }
+    }
+}
+
+#[test]
+fn show_of_a_saved_capture(rt: HostRuntime) {
+    let alloc = rt.alloc();
+    for row in shown() {
+        let input = saved_of(alloc, row.input).expect(&rt, "memory");
+        for piece in PIECES {
+            let mut desk = desk_with(alloc, &input, 0).expect(&rt, "memory");
+            desk.set_piece(piece.max(1));
+            let line = line_of(alloc, &mut desk).expect(&rt, "memory");
+            assert_eq!(rt; line.as_str(), "done");
+            assert!(rt; desk.file("report.txt") == Some(row.report.as_bytes()));
+        }
+    }
+}
