@@ -16,6 +16,7 @@ long=$(printf '%0256d' 0)
 mkdir folder shut && : >empty && : >none
 printf 'hello, world\n' | tee text >locked
 printf '\012\015\015\012\034\0\0\0\115\074\053\032\001\0\0\0\377\377\377\377\377\377\377\377\034\0\0\0' >pcapng
+head -c 27 pcapng >cut-block
 head -c 23 "$real" >cut-head
 head -c 100 "$real" >cut-record
 { head -c 20 "$real" && printf '\0\0\0\161'; } >wrong-link
@@ -108,10 +109,15 @@ gone out report exports west-out.pcap east-out.pcap
 want 0 done run empty none 1 report exports && holds report 'packets 0 left 0 dropped 0\n' && holds exports ''
 want 0 done run "$domain" empty 1 report exports
 head='\241\262\074\115\0\002\0\004\0\0\0\0\0\0\0\0\0\004\0\0\0\0\0\145'
+blocks='\012\015\015\012\0\0\0\034\032\053\074\115\0\001\0\0\377\377\377\377\377\377\377\377\0\0\0\034'
+for kind in 145 001; do
+    blocks=$blocks'\0\0\0\001\0\0\0\040\0\'$kind'\0\0\0\004\0\0\0\011\0\001\011\0\0\0\0\0\0\0\0\0\0\040'
+done
 nodes='node a seen 0 dropped 0\nnode b seen 0 dropped 0\nnode c seen 0 dropped 0\nflow f enclosed 0 exited 0 direct 0\n'
 while read -r file status line; do
     want "$status" "$line" filter "$file" out report && holds out "$head" && holds report 'packets 0 kept 0 dropped 0\n'
     want "$status" "$line" paths "$file" report && holds report 'packets 0\n'
+    want "$status" "$line" save "$file" out && holds out "$blocks"
     want "$status" "$line" node "$domain" none b ab "$file" out report exports
     holds out "$head" && holds report 'packets 0 out 0 dropped 0\n' && holds exports ''
     with_domain in "$file" && want "$status" "$line" run domain.toml none 1 report exports
@@ -120,7 +126,8 @@ done <<ends
 folder 9 read fault
 empty 5 capture empty 0 short 0
 text 5 capture text 0 magic 1751477356
-pcapng 5 capture pcapng 0 magic 168627466
+pcapng 0 done
+cut-block 5 capture cut-block 0 short 27
 cut-head 5 capture cut-head 0 short 23
 cut-record 5 capture cut-record 24 short 76
 wrong-link 5 capture wrong-link 0 link 113
