@@ -1,8 +1,8 @@
 -- What a node knows of a packet that it visits (RFC 9197 section 4.4.2).
-use Rattle.std.specs.Prelude.{ℕ, Option, Some, None, List, option_map, option_and_then, slice_get}
+use Rattle.std.specs.Prelude.{◌≡◌, ◌≤◌, ℕ, Option, Some, None, IfSome, List, option_map, option_and_then, slice_get}
 use Rattle.ioam_clock.specs.declared.sample.Sample.{Sample}
 use Rattle.ioam_clock.specs.Reading.{samples_of}
-use Rattle.ioam_clock.specs.Samples.{sample_at, clock_at}
+use Rattle.ioam_clock.specs.Samples.{IsSmall, sample_at, clock_at}
 use Rattle.ioam_clock.specs.Stamp.{stamp}
 use Rattle.ioam_data.specs.View.{Seen}
 use Rattle.ioam_node.specs.declared.place.Place.{Place}
@@ -27,6 +27,12 @@ both (Some schema) (Some octets) = Some (schema, octets)
 abbrev pub snapshot_in : Option NodeData → Option (ℕ × List ℕ)
 snapshot_in None = None
 snapshot_in (Some row) = both row.schema row.snapshot
+
+-- the sample in force at a time, of these samples of a node
+pub record IsInForce (samples : List Sample) (time : ℕ) (sample : Option Sample) : Type 0 where
+  pub is : sample ≡ sample_at samples time
+  pub small : IfSome sample IsSmall
+  pub before : IfSome sample (λ sample. sample.time ≤ time)
 
 -- what the node at a place knows at a time, of a packet that is sent on with this hop limit and of a namespace
 unfoldable pub view_of : Domain → List (List Sample) → Place → ℕ → ℕ → ℕ → Seen

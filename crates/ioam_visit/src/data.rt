@@ -1,4 +1,5 @@
 ghost use Rattle.std.specs.Prelude.{◌≡◌, ◌<◌, ◌≤◌, ◌^◌, ◌-◌, ◌+◌, ◌++◌, ◌∷◌, [], true, if◌then◌else◌, length};
+ghost use Rattle.ioam_clock.specs.Reading.{samples_of};
 ghost use Rattle.ioam_data.specs.View.{seen};
 ghost use Rattle.ioam_dex.specs.Direct.{HasItsNumbers, read_of};
 ghost use Rattle.ioam_dex.specs.Reads.{records_octets};
@@ -6,7 +7,7 @@ ghost use Rattle.ioam_topo.specs.Domain.{nodes};
 ghost use Rattle.ioam_trace.specs.Filled.{filled};
 ghost use Rattle.ioam_visit.specs.Exports.{direct_records, export_type, record_for, records_of};
 ghost use Rattle.ioam_visit.specs.Notes.{direct_note, filled_what, note, notes_of, short_note, trace_note, what_done};
-ghost use Rattle.ioam_visit.specs.Seeing.{view_of};
+ghost use Rattle.ioam_visit.specs.Seeing.{IsInForce, view_of};
 ghost use Rattle.ioam_visit.specs.declared.note.What.TheVariants.{Exported};
 ghost use Rattle.ioam_visit.specs.Step.{knows, node_step, trace_step};
 
@@ -15,6 +16,7 @@ use crate::note::{NodeNote, What};
 use crate::room::NodeRoom;
 use crate::visit::Visit;
 use ioam_base::octets::u16_at;
+use ioam_clock::Sample;
 use ioam_data::{ElementBuf, Namespace, TraceType, put_exported};
 use ioam_dex::{Direct, Export, read};
 use ioam_trace::{Filled, fill};
@@ -56,9 +58,10 @@ fn export_type(kind: TraceType) -> TraceType
 
 impl Visit<'_> {
     // Adds the node's data to the octets of a trace of a namespace, and says what was done.
-    fn fill_known(&self, namespace: Namespace, octets: &mut [u8]) -> What
+    fn fill_known(&self, sample: Option<Sample>, namespace: Namespace, octets: &mut [u8]) -> What
         requires node { self.now.place.node.0 < length (nodes self.now.domain.now) }
         requires time { self.now.time < 2 ^ 63 }
+        requires sample { IsInForce (samples_of self.now.readings.now self.now.place.node.0) self.now.time sample }
         ensures octets { let view = view_of self.now.domain.now self.now.readings.now self.now.place self.now.time self.now.hops namespace.0 in
             octets.new ≡ (if knows self.now.domain.now self.now.place.node.0 namespace.0 then filled octets.old view else octets.old) }
         ensures what { result ≡ filled_what self.now.domain.now self.now.readings.now self.now.place self.now.time self.now.hops namespace.0 octets.old }
@@ -66,15 +69,16 @@ impl Visit<'_> {
         if !self.domain.knows(self.place.node, namespace) {
             return What::Unknown;
         }
-        let view = self.view(namespace);
+        let view = self.view(sample, namespace);
         what_done(fill(octets, &view))
     }
 
     // Adds the node's data to a trace, and gives the note of what was done.
     #[tactic(auto, unfolding(crate::specs::Step::trace_step, crate::specs::Notes::trace_note))]
-    fn fill_trace(&self, body: &mut [u8]) -> NodeNote
+    fn fill_trace(&self, sample: Option<Sample>, body: &mut [u8]) -> NodeNote
         requires node { self.now.place.node.0 < length (nodes self.now.domain.now) }
         requires time { self.now.time < 2 ^ 63 }
+        requires sample { IsInForce (samples_of self.now.readings.now self.now.place.node.0) self.now.time sample }
         ensures octets { body.new ≡ trace_step self.now.domain.now self.now.readings.now self.now.place self.now.time self.now.hops body.old }
         ensures note { result ≡ trace_note self.now.domain.now self.now.readings.now self.now.place self.now.time self.now.hops body.old }
     {
@@ -82,7 +86,7 @@ impl Visit<'_> {
             return short_note();
         }
         let namespace = Namespace(u16_at(body, 2));
-        let what = self.fill_known(namespace, &mut body[2..]);
+        let what = self.fill_known(sample, namespace, &mut body[2..]);
         NodeNote {
             namespace,
             direct: false,
@@ -92,9 +96,10 @@ impl Visit<'_> {
 
     // Exports what direct export data of a namespace that the node knows ask for.
     #[tactic(auto, unfolding(crate::specs::Exports::record_for))]
-    fn export_known(&self, direct: &Direct, room: &mut NodeRoom)
+    fn export_known(&self, sample: Option<Sample>, direct: &Direct, room: &mut NodeRoom)
         requires node { self.now.place.node.0 < length (nodes self.now.domain.now) }
         requires time { self.now.time < 2 ^ 63 }
+        requires sample { IsInForce (samples_of self.now.readings.now self.now.place.node.0) self.now.time sample }
         requires numbers { HasItsNumbers direct.now }
         requires room { 1 ≤ room.old.spare }
         ensures notes { room.new.notes ≡ room.old.notes ++ note direct.now.namespace.0 true Exported ∷ [] }
@@ -103,7 +108,7 @@ impl Visit<'_> {
         ensures spare { room.new.spare ≡ room.old.spare - 1 }
     {
         let kind = export_type(direct.kind);
-        let view = self.view(direct.namespace);
+        let view = self.view(sample, direct.namespace);
         let mut buffer = ElementBuf::new();
         put_exported(kind, &view, &mut buffer);
         let export = Export {
@@ -125,9 +130,10 @@ impl Visit<'_> {
     }
 
     // Exports what direct export data ask for, and notes it.
-    fn export(&self, octets: &[u8], room: &mut NodeRoom)
+    fn export(&self, sample: Option<Sample>, octets: &[u8], room: &mut NodeRoom)
         requires node { self.now.place.node.0 < length (nodes self.now.domain.now) }
         requires time { self.now.time < 2 ^ 63 }
+        requires sample { IsInForce (samples_of self.now.readings.now self.now.place.node.0) self.now.time sample }
         requires room { 1 ≤ room.old.spare }
         ensures notes { room.new.notes ≡ room.old.notes ++ direct_note self.now.domain.now self.now.place.node.0 (read_of octets.now) ∷ [] }
         ensures exports { let records = direct_records self.now.domain.now self.now.readings.now self.now.place self.now.time self.now.hops (read_of octets.now) in
@@ -146,14 +152,21 @@ impl Visit<'_> {
             });
             return;
         }
-        self.export_known(&direct, room);
+        self.export_known(sample, &direct, room);
     }
 
     // Changes the data of an option as the node does, notes what was done, and exports what is asked for.
     #[tactic(auto, unfolding(crate::specs::Step::node_step, crate::specs::Notes::notes_of, crate::specs::Exports::records_of))]
-    pub(crate) fn change(&self, kind: u8, body: &mut [u8], room: &mut NodeRoom)
+    pub(crate) fn change(
+        &self,
+        sample: Option<Sample>,
+        kind: u8,
+        body: &mut [u8],
+        room: &mut NodeRoom,
+    )
         requires node { self.now.place.node.0 < length (nodes self.now.domain.now) }
         requires time { self.now.time < 2 ^ 63 }
+        requires sample { IsInForce (samples_of self.now.readings.now self.now.place.node.0) self.now.time sample }
         requires room { length (notes_of self.now.domain.now self.now.readings.now self.now.place self.now.time self.now.hops kind body.old) ≤ room.old.spare }
         ensures octets { body.new ≡ node_step self.now.domain.now self.now.readings.now self.now.place self.now.time self.now.hops kind body.old }
         ensures notes { room.new.notes ≡ room.old.notes ++ notes_of self.now.domain.now self.now.readings.now self.now.place self.now.time self.now.hops kind body.old }
@@ -163,8 +176,8 @@ impl Visit<'_> {
     {
         match meet(kind, body) {
             Met::Cut => room.add(short_note()),
-            Met::Trace => room.add(self.fill_trace(body)),
-            Met::Direct => self.export(&body[2..], room),
+            Met::Trace => room.add(self.fill_trace(sample, body)),
+            Met::Direct => self.export(sample, &body[2..], room),
             Met::Other => {}
         }
     }

@@ -1,4 +1,5 @@
 ghost use Rattle.std.specs.Prelude.{◌≡◌, ◌↔◌, ◌<◌, ◌≤◌, ◌^◌, ◌+◌, ◌++◌, length, slice_index};
+ghost use Rattle.ioam_clock.specs.Reading.{samples_of};
 ghost use Rattle.ioam_dex.specs.Reads.{records_octets};
 ghost use Rattle.ioam_ip.specs.Chain.{IsSound};
 ghost use Rattle.ioam_ip.specs.ChainOptions.{CarriesIoam};
@@ -9,17 +10,20 @@ ghost use Rattle.ioam_topo.specs.Domain.{nodes};
 ghost use Rattle.ioam_visit.specs.Counted.{hop_exports, hop_notes, notes_in, records_in};
 ghost use Rattle.ioam_visit.specs.Exports.{records_of};
 ghost use Rattle.ioam_visit.specs.Notes.{notes_of};
+ghost use Rattle.ioam_visit.specs.Seeing.{IsInForce};
 ghost use Rattle.ioam_visit.specs.Step.{node_step};
 
 use crate::room::NodeRoom;
 use crate::visit::Visit;
+use ioam_clock::Sample;
 use ioam_ip::next_option;
 
 impl Visit<'_> {
     // Changes the options of a header as the node does.
-    fn change_options(&self, head: &mut [u8], room: &mut NodeRoom)
+    fn change_options(&self, sample: Option<Sample>, head: &mut [u8], room: &mut NodeRoom)
         requires node { self.now.place.node.0 < length (nodes self.now.domain.now) }
         requires time { self.now.time < 2 ^ 63 }
+        requires sample { IsInForce (samples_of self.now.readings.now self.now.place.node.0) self.now.time sample }
         requires room { let notes = notes_of self.now.domain.now self.now.readings.now self.now.place self.now.time self.now.hops in
             length (notes_in notes (options_in head.old)) ≤ room.old.spare }
         ensures notes { let notes = notes_of self.now.domain.now self.now.readings.now self.now.place self.now.time self.now.hops in
@@ -36,7 +40,7 @@ impl Visit<'_> {
         'options: while let Some(spot) = next_option(head, at) {
             let start = spot.at + 2;
             let end = start + spot.size;
-            self.change(spot.kind, &mut head[start..end], room);
+            self.change(sample, spot.kind, &mut head[start..end], room);
             at = end;
         }
     }
@@ -60,7 +64,8 @@ impl Visit<'_> {
             return;
         }
         let end = 40 + (usize::from(packet[41]) + 1) * 8;
-        self.change_options(&mut packet[40..end], room);
+        let sample = self.sample();
+        self.change_options(sample, &mut packet[40..end], room);
     }
 
     // The same of a packet with a whole chain.

@@ -2,26 +2,28 @@
 ghost use Rattle.std.specs.Prelude.{◌≡◌, ◌<◌, ◌≤◌, ◌^◌, length, option_map, option_and_then, IfSome};
 ghost use Rattle.std.specs.Option.{ForSome, option_copied};
 ghost use Rattle.ioam_clock.specs.Reading.{samples_of};
-ghost use Rattle.ioam_clock.specs.Samples.{clock_at};
+ghost use Rattle.ioam_clock.specs.Samples.{IsSmall, elapsed};
 ghost use Rattle.ioam_clock.specs.Stamp.{stamp};
 ghost use Rattle.ioam_data.specs.Snapshot.{IsSnapshot};
 ghost use Rattle.ioam_data.specs.View.{seen, snapshot_data};
 ghost use Rattle.ioam_topo.specs.Domain.{nodes};
 ghost use Rattle.ioam_topo.specs.Sound.{IsNodeData};
-ghost use Rattle.ioam_visit.specs.Seeing.{snapshot_in, view_of};
+ghost use Rattle.ioam_visit.specs.Seeing.{IsInForce, snapshot_in, view_of};
 
 use crate::visit::Visit;
-use ioam_clock::{Readings, Sample, stamp};
+use ioam_clock::{Sample, stamp};
 use ioam_data::{Namespace, View};
-use ioam_topo::{Domain, Format, NodeData, NodeId};
+use ioam_topo::{Format, NodeData};
 
-// The timestamp of a node's clock at a time.
-fn stamp_at(readings: &Readings, format: Format, node: NodeId, time: u64) -> Option<(u32, u32)>
-    requires { time ≤ 2 ^ 63 }
-    ensures { result ≡ option_map (stamp format) (clock_at (samples_of readings.now node.0) time) }
+// The timestamp of a node's clock at a time, by the sample in force there.
+fn stamp_in(format: Format, sample: Option<Sample>, time: u64) -> Option<(u32, u32)>
+    requires time { time < 2 ^ 63 }
+    requires small { IfSome sample IsSmall }
+    requires before { IfSome sample (λ sample. sample.time ≤ time) }
+    ensures { result ≡ option_map (stamp format) (option_map (elapsed time) sample) }
 {
-    match readings.clock_at(node, time) {
-        Some(clock) => Some(stamp(format, clock)),
+    match sample {
+        Some(sample) => Some(stamp(format, sample.clock + (time - sample.time))),
         None => None,
     }
 }
@@ -87,22 +89,29 @@ fn wide_in(row: Option<&NodeData>) -> Option<u64>
 }
 
 impl Visit<'_> {
-    // What the node knows, of a namespace.
+    // The sample in force at the node.
+    pub(crate) fn sample(&self) -> Option<Sample>
+        ensures { IsInForce (samples_of self.now.readings.now self.now.place.node.0) self.now.time result }
+    {
+        self.readings.view(self.place.node, self.time)
+    }
+
+    // What the node knows, of a namespace, by the sample in force there.
     #[tactic(auto, unfolding(crate::specs::Seeing::view_of))]
-    pub(crate) fn view(&self, namespace: Namespace) -> View<'_>
+    pub(crate) fn view(&self, sample: Option<Sample>, namespace: Namespace) -> View<'_>
         requires node { self.now.place.node.0 < length (nodes self.now.domain.now) }
         requires time { self.now.time < 2 ^ 63 }
+        requires sample { IsInForce (samples_of self.now.readings.now self.now.place.node.0) self.now.time sample }
         ensures { seen result ≡ view_of self.now.domain.now self.now.readings.now self.now.place self.now.time self.now.hops namespace.0 }
     {
         let node = self.place.node;
-        let sample = self.readings.view(node, self.time);
         let row = self.domain.node_data(node, namespace);
         View {
             hops: self.hops,
             id: self.domain.node(node).id,
             inward: Some(self.place.inward),
             outward: self.place.outward,
-            stamp: stamp_at(self.readings, self.domain.format(), node, self.time),
+            stamp: stamp_in(self.domain.format(), sample, self.time),
             delay: delay_in(sample),
             queue: queue_in(sample),
             buffer: buffer_in(sample),
