@@ -1,16 +1,17 @@
 //! The lines of arrivals.
-ghost use Rattle.std.specs.Prelude.{◌≡◌, ◌++◌, ◌<◌, IfSome, length, is_ok, if◌then◌else◌, codes, decimal};
+ghost use Rattle.std.specs.Prelude.{◌≡◌, ◌++◌, ◌+◌, ◌<◌, ◌≤◌, [], IfSome, length, is_ok, if◌then◌else◌, codes, decimal};
 ghost use Rattle.ioam_topo.specs.Domain.{nodes, ports, flows};
 ghost use Rattle.ioam_plan.specs.Inside.{EndsInside};
-ghost use Rattle.ioam_report.specs.Piece.{piece_text};
-ghost use Rattle.ioam_report.specs.RunText.{node_name, port_name, flow_name, end_text, direct_text, carried_text, arrival_line};
+ghost use Rattle.ioam_report.specs.TraceText.{line_feed};
+ghost use Rattle.ioam_report.specs.RunText.{reason_name, node_name, port_name, flow_name, end_text, direct_text, carried_text, arrival_line};
 
-use crate::piece::Piece;
-use crate::put::put_pieces;
+use crate::line::Line;
+use crate::piece::append_both;
 use crate::reasons::reason_text;
 use crate::settling::settle;
 use ioam_base::memory::NoMemory;
 use ioam_base::text::append;
+use ioam_node::Reason;
 use ioam_plan::{End, Itinerary};
 use ioam_topo::{Domain, FlowId, NodeId, PortId};
 use ioam_tunnel::Numbers;
@@ -39,22 +40,56 @@ fn flow_name(domain: &Domain, flow: FlowId) -> &[u8]
     domain.flows()[flow.0 as usize].name.text().as_bytes()
 }
 
+// Appends three texts one behind the other.
+fn append_three(
+    out: &mut Vec<u8>,
+    first: &[u8],
+    second: &[u8],
+    third: &[u8],
+) -> Result<(), NoMemory>
+    ensures { out.new.items ≡ (if is_ok result then out.old.items ++ (first.now ++ second.now ++ third.now) else out.old.items) }
+{
+    let before = out.len();
+    append_both(out, first, second)?;
+    let answer = append(out, third);
+    settle(out, before, answer)
+}
+
 // Appends the number of an arrival and the port by which it came.
-fn put_port(domain: &Domain, number: u64, port: PortId, out: &mut Vec<u8>) -> Result<(), NoMemory>
+fn put_port(
+    domain: &Domain,
+    number: u64,
+    port: PortId,
+    line: &mut Line,
+    out: &mut Vec<u8>,
+) -> Result<(), NoMemory>
     requires { port.0 < length (ports domain.now) }
     ensures { out.new.items ≡ (if is_ok result
         then out.old.items ++ (decimal number ++ codes " " ++ port_name domain.now port.0 ++ codes " ")
         else out.old.items) }
 {
-    put_pieces(
-        &[
-            Piece::Number(b"", number),
-            Piece::Text(b" "),
-            Piece::Text(port_name(domain, port)),
-            Piece::Text(b" "),
-        ],
-        out,
-    )
+    line.clear();
+    line.put(b" ");
+    line.number(number);
+    append_three(out, line.octets(), port_name(domain, port), b" ")
+}
+
+// Appends why a packet was dropped, and by which node.
+fn put_drop(
+    domain: &Domain,
+    reason: Reason,
+    node: NodeId,
+    out: &mut Vec<u8>,
+) -> Result<(), NoMemory>
+    requires { node.0 < length (nodes domain.now) }
+    ensures { out.new.items ≡ (if is_ok result
+        then out.old.items ++ (codes "drop " ++ reason_name reason ++ codes " " ++ node_name domain.now node.0)
+        else out.old.items) }
+{
+    let before = out.len();
+    append_three(out, b"drop ", reason_text(reason).as_bytes(), b" ")?;
+    let answer = append(out, node_name(domain, node));
+    settle(out, before, answer)
 }
 
 // Appends how a journey ended.
@@ -63,52 +98,55 @@ fn put_end(domain: &Domain, end: End, out: &mut Vec<u8>) -> Result<(), NoMemory>
     ensures { out.new.items ≡ (if is_ok result then out.old.items ++ end_text domain.now end else out.old.items) }
 {
     match end {
-        End::Left { port } => put_pieces(
-            &[Piece::Text(b"left "), Piece::Text(port_name(domain, port))],
-            out,
-        ),
-        End::Drop { reason, node } => put_pieces(
-            &[
-                Piece::Text(b"drop "),
-                Piece::Text(reason_text(reason).as_bytes()),
-                Piece::Text(b" "),
-                Piece::Text(node_name(domain, node)),
-            ],
-            out,
-        ),
+        End::Left { port } => append_both(out, b"left ", port_name(domain, port)),
+        End::Drop { reason, node } => put_drop(domain, reason, node, out),
     }
 }
 
-// The sequence number of a direct export, if there is one.
-fn direct(number: Option<u32>) -> Piece<'static>
-    ensures { piece_text result ≡ direct_text number }
+// Puts the sequence number of a direct export in front, if there is one.
+fn put_direct(number: Option<u32>, line: &mut Line)
+    requires { 28 + length line.old ≤ 1024 }
+    ensures value { line.new ≡ direct_text number ++ line.old }
+    ensures size { length line.new ≤ 28 + length line.old }
 {
     match number {
-        None => Piece::Nothing,
-        Some(number) => Piece::Number(b" direct ", u64::from(number)),
+        None => {}
+        Some(number) => {
+            line.number(u64::from(number));
+            line.put(b" direct ");
+        }
     }
 }
 
-// Appends the flow in which a packet is enclosed, if it is, and its numbers there.
+// Puts the numbers of a packet in its flow together, and a line feed.
+fn put_numbers(numbers: &Numbers, line: &mut Line)
+    ensures { line.new ≡ codes " " ++ decimal numbers.now.number ++ direct_text numbers.now.direct ++ line_feed }
+{
+    line.clear();
+    line.put(b"\n");
+    put_direct(numbers.direct, line);
+    line.number(numbers.number);
+    line.put(b" ");
+}
+
+// Appends the flow in which a packet is enclosed, if it is, and its numbers there, and a line feed.
 fn put_carried(
     domain: &Domain,
     carried: Option<(FlowId, Numbers)>,
+    line: &mut Line,
     out: &mut Vec<u8>,
 ) -> Result<(), NoMemory>
     requires { IfSome carried (λ carried. carried.0.0 < length (flows domain.now)) }
-    ensures { out.new.items ≡ (if is_ok result then out.old.items ++ carried_text domain.now carried else out.old.items) }
+    ensures { out.new.items ≡ (if is_ok result
+        then out.old.items ++ (carried_text domain.now carried ++ line_feed)
+        else out.old.items) }
 {
     match carried {
-        None => Ok(()),
-        Some((flow, numbers)) => put_pieces(
-            &[
-                Piece::Text(b" flow "),
-                Piece::Text(flow_name(domain, flow)),
-                Piece::Number(b" ", numbers.number),
-                direct(numbers.direct),
-            ],
-            out,
-        ),
+        None => append(out, b"\n"),
+        Some((flow, numbers)) => {
+            put_numbers(&numbers, line);
+            append_three(out, b" flow ", flow_name(domain, flow), line.octets())
+        }
     }
 }
 
@@ -131,11 +169,10 @@ pub fn put_arrival(
         else out.old.items) }
 {
     let before = out.len();
-    put_port(domain, number, itinerary.port, out)?;
+    let mut line = Line::new();
+    put_port(domain, number, itinerary.port, &mut line, out)?;
     let answer = put_end(domain, itinerary.end, out);
     settle(out, before, answer)?;
-    let answer = put_carried(domain, itinerary.carried, out);
-    settle(out, before, answer)?;
-    let answer = append(out, b"\n");
+    let answer = put_carried(domain, itinerary.carried, &mut line, out);
     settle(out, before, answer)
 }

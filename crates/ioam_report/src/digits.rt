@@ -7,7 +7,7 @@ use ioam_base::memory::NoMemory;
 use ioam_base::text::append;
 
 // The digit of a number below 16.
-fn digit(value: u8) -> u8
+pub(crate) fn digit(value: u8) -> u8
     requires { value < 16 }
     ensures { result ≡ digit_of value }
 {

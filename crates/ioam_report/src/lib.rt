@@ -7,6 +7,7 @@ mod digits;
 mod elements;
 mod flows;
 mod hop_traces;
+mod line;
 mod lines;
 mod listed;
 mod piece;

@@ -1,17 +1,18 @@
 //! The lines of a trace.
-ghost use Rattle.std.specs.Prelude.{◌≡◌, ◌++◌, ◌*◌, ◌/◌, length, is_ok, if◌then◌else◌};
+ghost use Rattle.std.specs.Prelude.{◌≡◌, ◌++◌, ◌*◌, ◌/◌, [], length, is_ok, if◌then◌else◌};
 ghost use Rattle.std.specs.List.{flat_map};
 ghost use Rattle.ioam_data.specs.Elements.{IsElement};
 ghost use Rattle.ioam_trace.specs.Read.{elements_in};
 ghost use Rattle.ioam_report.specs.TraceText.{element_line, first_line, whole_lines, bad_line, trace_lines, IsTraceText};
 
-use crate::elements::put_fields;
+use crate::elements::put_fields_line;
+use crate::line::Line;
 use crate::piece::Piece;
-use crate::put::put_pieces;
+use crate::put::{four_octets, put_pieces};
 use crate::settling::settle;
 use ioam_base::memory::NoMemory;
 use ioam_base::text::append;
-use ioam_data::TraceType;
+use ioam_data::{TraceType, fields};
 use ioam_trace::{Trace, TraceFault, TraceHead};
 
 // Appends the line of a fault.
@@ -51,26 +52,37 @@ fn put_bad_line(fault: TraceFault, out: &mut Vec<u8>) -> Result<(), NoMemory>
     }
 }
 
-// Appends the line of a header that so many elements follow.
-fn put_first_line(head: &TraceHead, count: u64, out: &mut Vec<u8>) -> Result<(), NoMemory>
-    ensures { out.new.items ≡ (if is_ok result
-        then out.old.items ++ first_line head.now.namespace.0 head.now.kind (head.now.flags / 8) count
-        else out.old.items) }
+// Puts the line of a header together that so many elements follow.
+fn put_first_line(head: &TraceHead, count: u64, line: &mut Line)
+    requires { line.old ≡ [] }
+    ensures { line.new ≡ first_line head.now.namespace.0 head.now.kind (head.now.flags / 8) count }
 {
     let label: &[u8] = if head.flags / 8 == 1 {
         b" overflow "
     } else {
         b" whole "
     };
-    put_pieces(
-        &[
-            Piece::Number(b"  trace ", u64::from(head.namespace.0)),
-            Piece::Narrow(b" ", head.kind.bits()),
-            Piece::Number(label, count),
-            Piece::Text(b"\n"),
-        ],
-        out,
-    )
+    line.put(b"\n");
+    line.number(count);
+    line.put(label);
+    line.digits(&four_octets(head.kind.bits())[1..]);
+    line.put(b" ");
+    line.number(u64::from(head.namespace.0));
+    line.put(b"  trace ");
+}
+
+// Appends the line of an element; the line that is lent holds anything before and after.
+fn put_line(
+    kind: TraceType,
+    node_len: u8,
+    element: &[u8],
+    line: &mut Line,
+    out: &mut Vec<u8>,
+) -> Result<(), NoMemory>
+    requires { IsElement kind node_len element.now }
+    ensures { out.new.items ≡ (if is_ok result then out.old.items ++ element_line kind node_len element.now else out.old.items) }
+{
+    put_fields_line(&fields(kind, node_len, element), line, out)
 }
 
 /// Appends the line of an element of a trace: four spaces and its fields. Without memory nothing is
@@ -84,12 +96,7 @@ pub fn put_element_line(
     requires { IsElement kind node_len element.now }
     ensures { out.new.items ≡ (if is_ok result then out.old.items ++ element_line kind node_len element.now else out.old.items) }
 {
-    let before = out.len();
-    append(out, b"    ")?;
-    let answer = put_fields(kind, node_len, element, out);
-    settle(out, before, answer)?;
-    let answer = append(out, b"\n");
-    settle(out, before, answer)
+    put_line(kind, node_len, element, &mut Line::new(), out)
 }
 
 // How many elements a trace has.
@@ -101,6 +108,20 @@ fn count_elements(trace: &Trace<'_>) -> u64
     trace.elements().count() as u64
 }
 
+// Appends the lines of the elements of a trace, one put together after the other.
+fn put_lines(trace: &Trace<'_>, line: &mut Line, out: &mut Vec<u8>) -> Result<(), NoMemory>
+    ensures { out.new.items ≡ (if is_ok result
+        then out.old.items ++ flat_map (element_line trace.now.head.kind trace.now.head.node_len) (elements_in trace.now)
+        else out.old.items) }
+{
+    let before = out.len();
+    for element in trace.elements() {
+        let answer = put_line(trace.head.kind, trace.head.node_len, element, line, out);
+        settle(out, before, answer)?;
+    }
+    Ok(())
+}
+
 /// Appends the lines of the elements of a trace, in visit order, the oldest first. Without memory nothing
 /// is appended.
 pub fn put_element_lines(trace: &Trace<'_>, out: &mut Vec<u8>) -> Result<(), NoMemory>
@@ -108,12 +129,7 @@ pub fn put_element_lines(trace: &Trace<'_>, out: &mut Vec<u8>) -> Result<(), NoM
         then out.old.items ++ flat_map (element_line trace.now.head.kind trace.now.head.node_len) (elements_in trace.now)
         else out.old.items) }
 {
-    let before = out.len();
-    for element in trace.elements() {
-        let answer = put_element_line(trace.head.kind, trace.head.node_len, element, out);
-        settle(out, before, answer)?;
-    }
-    Ok(())
+    put_lines(trace, &mut Line::new(), out)
 }
 
 // Appends the lines of a trace that was read.
@@ -123,8 +139,10 @@ fn put_whole_lines(trace: &Trace<'_>, out: &mut Vec<u8>) -> Result<(), NoMemory>
         else out.old.items) }
 {
     let before = out.len();
-    put_first_line(&trace.head, count_elements(trace), out)?;
-    let answer = put_element_lines(trace, out);
+    let mut line = Line::new();
+    put_first_line(&trace.head, count_elements(trace), &mut line);
+    append(out, line.octets())?;
+    let answer = put_lines(trace, &mut line, out);
     settle(out, before, answer)
 }
 

@@ -11,7 +11,7 @@ use ioam_base::octets::{put_u32_at, put_u64_at};
 use ioam_base::text::append;
 
 // The octets of a number, the most significant first.
-fn four_octets(number: u32) -> [u8; 4]
+pub(crate) fn four_octets(number: u32) -> [u8; 4]
     ensures { result ≡ four_octets number }
 {
     let mut octets = [0; 4];
@@ -20,7 +20,7 @@ fn four_octets(number: u32) -> [u8; 4]
 }
 
 // The octets of a number of 64 bits, the most significant first.
-fn eight_octets(number: u64) -> [u8; 8]
+pub(crate) fn eight_octets(number: u64) -> [u8; 8]
     ensures { result ≡ eight_octets number }
 {
     let mut octets = [0; 8];

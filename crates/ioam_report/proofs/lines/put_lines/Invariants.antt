@@ -3,7 +3,7 @@ use Rattle.std.specs.List.{All, flat_map}
 use Rattle.ioam_data.specs.Elements.{IsElement}
 use Rattle.ioam_trace.specs.Left.{left}
 use Rattle.ioam_report.specs.TraceText.{element_line}
-use Rattle.ioam_report.proofs.lines.put_element_lines.Given as goal
+use Rattle.ioam_report.proofs.lines.put_lines.Given as goal
 
 abbrev pub invariant-loop-element : goal.invariant-loop-element
 invariant-loop-element l = record {

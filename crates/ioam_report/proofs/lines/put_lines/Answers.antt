@@ -4,7 +4,7 @@ use Rattle.ioam_data.specs.Elements.{IsElement}
 use Rattle.ioam_trace.specs.Left.{left}
 use Rattle.ioam_report.specs.TraceText.{element_line}
 use Rattle.ioam_report.proofs.TextLaws.{lines-step, front-kept, longer}
-use Rattle.ioam_report.proofs.lines.put_element_lines.Goals as goal
+use Rattle.ioam_report.proofs.lines.put_lines.Goals as goal
 
 pub loop-element-preserved : goal.loop-element-preserved
 loop-element-preserved c =
