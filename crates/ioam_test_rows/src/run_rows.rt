@@ -13,6 +13,21 @@ const LEFT_TWO: &str = "00000002 000007d0 00000030 00000030";
 
 const LEFT_THREE: &str = "00000003 000007d0 00000030 00000030";
 
+// The section block of a pcapng capture, big-endian, and an interface of IP packets (link type 101)
+// that counts microseconds.
+const SECTION: &str = "0a0d0d0a 0000001c 1a2b3c4d 00010000 ffffffffffffffff 0000001c";
+
+const FACE: &str = "00000001 00000014 00650000 00000000 00000014";
+
+// A packet block of this interface: what stands before and behind the time, the lengths and the packet.
+const BLOCK: &str = "00000006 00000050 00000000";
+
+const ONE_SECOND: &str = "00000000 000f4240 00000030 00000030";
+
+const TWO_SECONDS: &str = "00000000 001e8480 00000030 00000030";
+
+const BLOCK_END: &str = "00000050";
+
 const UDP_LEFT: &str =
     "600000000008113d 20010db8000100000000000000000001 20010db8000200000000000000000001 0400040100080000";
 
@@ -88,7 +103,16 @@ pub const DOMAIN: &[&str] = &[NODES, LINKS, PORTS, ROUTES];
 
 const TWO_INPUTS: &[&str] = &[NODES, LINKS, THREE_PORTS, ROUTES];
 
-const ROWS: [Row; 12] = [
+// What four packets of two captures leave, at one, one, two and three seconds.
+const FOUR_LEFT: &[&str] = &[
+    HEAD, LEFT_ONE, UDP_LEFT, LEFT_ONE, UDP_LEFT, LEFT_TWO, UDP_LEFT, LEFT_THREE, UDP_LEFT,
+];
+
+const FOUR_TOLD: &str = "1 west left east\n2 west2 left east\n3 west2 left east\n4 west left east\n\
+    packets 4 left 4 dropped 0\n\
+    node a seen 4 dropped 0\nnode b seen 4 dropped 0\nnode c seen 4 dropped 0\n";
+
+const ROWS: [Row; 13] = [
     Row {
         domain: DOMAIN,
         west: &[HEAD, AT_ONE, UDP],
@@ -188,23 +212,39 @@ const ROWS: [Row; 12] = [
         domain: TWO_INPUTS,
         west: &[HEAD, AT_ONE, UDP, AT_THREE, UDP],
         west2: &[HEAD, AT_ONE, UDP, AT_TWO, UDP],
-        east_out: &[
-            HEAD, LEFT_ONE, UDP_LEFT, LEFT_ONE, UDP_LEFT, LEFT_TWO, UDP_LEFT, LEFT_THREE, UDP_LEFT,
+        east_out: FOUR_LEFT,
+        report: FOUR_TOLD,
+        line: "done",
+    },
+    // The same, where the second capture is of the form pcapng.
+    Row {
+        domain: TWO_INPUTS,
+        west: &[HEAD, AT_ONE, UDP, AT_THREE, UDP],
+        west2: &[
+            SECTION,
+            FACE,
+            BLOCK,
+            ONE_SECOND,
+            UDP,
+            BLOCK_END,
+            BLOCK,
+            TWO_SECONDS,
+            UDP,
+            BLOCK_END,
         ],
-        report: "1 west left east\n2 west2 left east\n3 west2 left east\n4 west left east\n\
-            packets 4 left 4 dropped 0\n\
-            node a seen 4 dropped 0\nnode b seen 4 dropped 0\nnode c seen 4 dropped 0\n",
+        east_out: FOUR_LEFT,
+        report: FOUR_TOLD,
         line: "done",
     },
     // A faulty head, while the first capture has records.
     Row {
         domain: TWO_INPUTS,
         west: &[HEAD, AT_ONE, UDP],
-        west2: &["0a0d0d0a"],
+        west2: &["01020304"],
         east_out: &[HEAD],
         report: "packets 0 left 0 dropped 0\n\
             node a seen 0 dropped 0\nnode b seen 0 dropped 0\nnode c seen 0 dropped 0\n",
-        line: "capture west2.pcap 0 magic 168627466",
+        line: "capture west2.pcap 0 magic 16909060",
     },
     // A faulty record, which is needed for the third turn.
     Row {
@@ -220,7 +260,7 @@ const ROWS: [Row; 12] = [
     Row {
         domain: TWO_INPUTS,
         west: &[],
-        west2: &["0a0d0d0a"],
+        west2: &["01020304"],
         east_out: &[HEAD],
         report: "packets 0 left 0 dropped 0\n\
             node a seen 0 dropped 0\nnode b seen 0 dropped 0\nnode c seen 0 dropped 0\n",

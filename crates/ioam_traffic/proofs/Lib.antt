@@ -1,5 +1,4 @@
 pub mod FrontsLaws
 pub mod RunsLaws
-pub mod TakeLaws
 pub mod StopsLaws
 pub mod BeginLaws

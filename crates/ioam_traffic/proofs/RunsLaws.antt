@@ -19,10 +19,10 @@ use Rattle.ioam_outputs.specs.Told.{AreTold, Adds, said_more}
 use Rattle.ioam_outputs.specs.declared.output.Output.{Output}
 use Rattle.ioam_outputs.proofs.HeldLaws.{AreTold-fronts}
 use Rattle.ioam_outputs.proofs.ToldLaws.{AreTold-adds}
-use Rattle.ioam_pcap.specs.Arrives.{Handed, HandsOn}
-use Rattle.ioam_pcap.specs.Entries.{Entry}
-use Rattle.ioam_pcap.specs.Merge.{Arrival, CanTake, IsNext, arrival, of_capture, rest}
-use Rattle.ioam_pcap.proofs.MergeLaws.{Takes-push}
+use Rattle.ioam_captures.specs.Arrives.{Handed, HandsOn}
+use Rattle.ioam_pcap.specs.Entries.{Taken}
+use Rattle.ioam_captures.specs.Merge.{Arrival, CanTake, IsNext, arrival, of_capture, rest}
+use Rattle.ioam_captures.proofs.MergeLaws.{Takes-push}
 use Rattle.ioam_topo.specs.declared.domain.Domain.{Domain}
 use Rattle.ioam_topo.specs.declared.ids.PortId.{PortId}
 use Rattle.ioam_pcap.specs.Link.{is_ethernet}
@@ -151,7 +151,7 @@ module _ (tells : Bool) (lanes : merging.Start) (inputs : Reading) (merge : Merg
       let are = is.are_rows in
       let now = are.begins.now in
       let parts : List Handed = map (λ (row : Row). row.handed) is.rows in
-      let given : ℕ → List Entry = λ k. of_capture k arrivals in
+      let given : ℕ → List Taken = λ k. of_capture k arrivals in
       let can : CanTake now = subst IsNext (sym comes.next) tt in
       let longer : Begins parts (arrivals ++ arrival now ∷ []) = record {
         streams = are.begins.streams;

@@ -12,8 +12,8 @@ use Rattle.ioam_outputs.specs.Told.{AreTold, AreOpen}
 use Rattle.ioam_outputs.specs.declared.output.Output.{Output}
 use Rattle.ioam_outputs.proofs.HeldLaws.{HoldAllFronts-holds}
 use Rattle.ioam_outputs.proofs.ToldLaws.{AreTold-open}
-use Rattle.ioam_pcap.specs.Merge.{Arrival}
-use Rattle.ioam_pcap.specs.declared.turns.Turn.TheVariants as turn
+use Rattle.ioam_captures.specs.Merge.{Arrival}
+use Rattle.ioam_captures.specs.declared.turns.Turn.TheVariants as turn
 use Rattle.ioam_traffic.specs.Traffic.{Course, HoldsAll, HoldsFronts, ArePassed, Arrive, AreOpened, Finishes, frames_of}
 use Rattle.ioam_traffic.specs.Running.{Ends, Fronts, Halted, HoldSo, IsBroken, Stops}
 use Rattle.ioam_traffic.proofs.RunsLaws.{Runs-count}

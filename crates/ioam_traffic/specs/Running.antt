@@ -10,8 +10,8 @@ use Rattle.ioam_merge.specs.Merging.{Merging, Comes, FilesBegin, PartsArrive, Ha
 use Rattle.ioam_outputs.specs.Held.{HoldAllFronts}
 use Rattle.ioam_outputs.specs.Told.{AreTold}
 use Rattle.ioam_outputs.specs.declared.output.Output.{Output}
-use Rattle.ioam_pcap.specs.Merge.{Arrival}
-use Rattle.ioam_pcap.specs.declared.turns.Turn.TheVariants as turn
+use Rattle.ioam_captures.specs.Merge.{Arrival}
+use Rattle.ioam_captures.specs.declared.turns.Turn.TheVariants as turn
 use Rattle.ioam_topo.specs.declared.domain.Domain.{Domain}
 use Rattle.ioam_traffic.specs.Traffic.{Course, frames_of, HoldsAll, ArePassed, Arrive}
 use Rattle.ioam_traffic.specs.declared.halt.Halt.{Halt}

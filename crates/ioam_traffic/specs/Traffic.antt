@@ -9,9 +9,9 @@ use Rattle.ioam_merge.specs.Merging as merging
 use Rattle.ioam_merge.specs.Merging.{FilesArrive, FilesBegin, PartsArrive, HaveEnded, start_of}
 use Rattle.ioam_outputs.specs.Held.{HoldTexts, HoldFronts}
 use Rattle.ioam_pcap.specs.Link.{is_ethernet}
-use Rattle.ioam_pcap.specs.Merge.{Arrival}
-use Rattle.ioam_pcap.specs.declared.turns.Turn.{Turn}
-use Rattle.ioam_pcap.specs.declared.turns.Turn.TheVariants as turn
+use Rattle.ioam_captures.specs.Merge.{Arrival}
+use Rattle.ioam_captures.specs.declared.turns.Turn.{Turn}
+use Rattle.ioam_captures.specs.declared.turns.Turn.TheVariants as turn
 use Rattle.ioam_topo.specs.declared.domain.Domain.{Domain}
 use Rattle.ioam_topo.specs.declared.ids.PortId.{PortId}
 use Rattle.ioam_traffic.specs.declared.halt.Halt.{Halt}

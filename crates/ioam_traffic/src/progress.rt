@@ -9,10 +9,11 @@ ghost use Rattle.ioam_traffic.specs.Running.{Coming, Running};
 ghost use Rattle.ioam_traffic.specs.Traffic.{Files, course_with};
 
 use ioam_base::memory::NoMemory;
+use ioam_captures::Step;
 use ioam_clock::Readings;
 use ioam_forward::Forwarding;
 use ioam_merge::Merge;
-use ioam_pcap::{CapStep, is_ethernet};
+use ioam_pcap::is_ethernet;
 use ioam_topo::{Domain, PortId};
 use std::alloc::Global;
 
@@ -48,12 +49,13 @@ impl Progress {
     {
         let port = ports[place];
         let capture = &mut self.merge.captures[place];
-        let ethernet = is_ethernet(capture.link);
         match capture.feed.reader.next() {
-            CapStep::Packet(packet) => {
+            Step::Packet { link, packet } => {
+                let ethernet = is_ethernet(link);
                 self.gathered
                     .take(alloc, domain, readings, port, ethernet, &packet)
             }
+            Step::NoMemory => Err(NoMemory),
             _ => unreachable!(),
         }
     }

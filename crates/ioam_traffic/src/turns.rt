@@ -14,9 +14,9 @@ use crate::progress::Progress;
 use crate::terms::Terms;
 use ioam_base::memory::NoMemory;
 use ioam_batch::Gate;
+use ioam_captures::Turn;
 use ioam_desk::{Desk, DeskFault};
 use ioam_outputs::{Output, flush_full};
-use ioam_pcap::Turn;
 use std::alloc::Global;
 use std::thread::Threads;
 

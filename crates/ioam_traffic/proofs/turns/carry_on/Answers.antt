@@ -1,7 +1,7 @@
 use Rattle.std.proofs.Common.{refl, ◌∙◌, ap, rules, arith}
 use Rattle.ioam_desk.specs.Desk.{Reading, Writing, Side}
 use Rattle.ioam_merge.specs.Merging.{PartsArrive, HaveEnded, slot_of}
-use Rattle.ioam_pcap.specs.declared.turns.Turn.TheVariants as turn
+use Rattle.ioam_captures.specs.declared.turns.Turn.TheVariants as turn
 use Rattle.ioam_traffic.specs.Traffic.{course_with, Arrive}
 use Rattle.ioam_traffic.proofs.RunsLaws.{Running-coming, Running-fronts_now, Running-halted}
 use Rattle.ioam_traffic.proofs.StopsLaws.{Stops-since}

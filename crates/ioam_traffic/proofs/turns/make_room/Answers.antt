@@ -3,7 +3,7 @@ use Rattle.ioam_desk.specs.Desk.{Reading}
 use Rattle.ioam_desk.proofs.KeptLaws.{WritesFrom-same}
 use Rattle.ioam_merge.specs.Merging.{Comes}
 use Rattle.ioam_outputs.proofs.ToldLaws.{AreTold-open, told_writes}
-use Rattle.ioam_pcap.specs.Merge.{Arrival}
+use Rattle.ioam_captures.specs.Merge.{Arrival}
 use Rattle.ioam_traffic.specs.Running.{Runs}
 use Rattle.ioam_traffic.specs.Traffic.{course_with}
 use Rattle.ioam_traffic.proofs.RunsLaws.{Coming-running, Merging-begins, Running-fronts, Runs-count, Runs-fronts, Runs-tell, Runs-written}
