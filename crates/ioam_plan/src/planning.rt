@@ -1,5 +1,5 @@
 //! A packet's journey from its first stage to its end.
-ghost use Rattle.std.specs.Prelude.{◌≡◌, ◌+◌, ◌<◌, ◌≤◌, ◌∷◌, ◌++◌, if◌then◌else◌, [], All, IfOk, length, vec_capacity};
+ghost use Rattle.std.specs.Prelude.{◌≡◌, ◌+◌, ◌≤◌, ◌∷◌, ◌++◌, if◌then◌else◌, [], All, IfOk, OnOk, length};
 ghost use Rattle.ioam_plan.specs.Inside.{EndsInside};
 ghost use Rattle.ioam_plan.specs.Journey.{Journey};
 ghost use Rattle.ioam_plan.specs.Rides.{IsVisitIn};
@@ -12,30 +12,18 @@ use ioam_base::memory::NoMemory;
 use ioam_topo::{Domain, PortId};
 use std::alloc::Global;
 
-// Puts a visit behind the others, which have room for it.
-fn put(visits: &mut Vec<Visit>, visit: Visit)
-    requires { length visits.old.items < vec_capacity visits.old }
-    ensures visits { visits.new.items ≡ visits.old.items ++ visit ∷ [] }
-    ensures room { vec_capacity visits.old ≤ vec_capacity visits.new }
+/// As many visits as most journeys have; one with more takes more memory on its way.
+const MOSTLY: usize = 8;
+
+// Puts a visit behind the others.
+fn put(visits: &mut Vec<Visit>, visit: Visit) -> Result<(), NoMemory>
+    ensures { OnOk result (visits.new.items ≡ visits.old.items ++ visit ∷ []) }
 {
-    // never refused: `travel` took the memory for all visits
-    let _ = visits.push(visit);
+    visits.push(visit)?;
+    Ok(())
 }
 
-// At how many nodes a packet at a stage can be sent on yet.
-fn left(stage: Stage) -> usize
-    ensures { result ≡ left stage }
-{
-    match stage {
-        Stage::Enter(_, entry) => entry.hops as usize,
-        Stage::At(spot) => spot.hops.saturating_sub(1) as usize,
-        Stage::Gone(_) => 0,
-        Stage::Out(_, _) => 0,
-    }
-}
-
-/// The journey of a packet from a stage on, which came by a port. Memory for all visits that its hop
-/// limit allows, and for its exit's, is taken at once.
+/// The journey of a packet from a stage on, which came by a port.
 pub(crate) fn travel(
     alloc: Global,
     domain: &Domain,
@@ -53,7 +41,7 @@ pub(crate) fn travel(
     ensures ridden { IfOk result (λ it. HasRidden trip.now.size trip.now.inside it.exited it.visits) }
     ensures ends { IfOk result (λ it. EndsInside domain.now it.end) }
 {
-    let mut visits = Vec::with_capacity(alloc, left(start) + 1)?;
+    let mut visits = Vec::with_capacity(alloc, MOSTLY)?;
     let mut stage = start;
     'visits: loop {
         match take_step(domain, trip, stage) {
@@ -65,7 +53,7 @@ pub(crate) fn travel(
                 trip.inside,
             )),
             Step::Goes(visit, next) => {
-                put(&mut visits, visit);
+                put(&mut visits, visit)?;
                 stage = next;
             }
         }

@@ -17,20 +17,10 @@ returns-in-Ends-clause-ridden c =
     subst Q (sym c.of.ensures.visits)
     (subst P (sym out) (ridden c.args.trip.now.size c.args.trip.now.inside c.visits.visits.items c.visits.stage c.visits.invariant.led))
 
-pub put-requires : goal.put-requires
-put-requires c =
-    let passes = c.in-Goes.ensures.facts.2 in
-    omega (
-      arith,
-      c.visits.invariant.few,
-      c.visits.invariant.room,
-      passes_before c.args.trip.now.size c.args.trip.now.inside c.in-Goes.visit c.visits.stage c.in-Goes.next passes,
-    )
-
 pub visits-preserved : goal.visits-preserved
 visits-preserved c =
     let facts = c.in-Goes.ensures.facts in
-    let pushed : c.put.new.visits.items ≡ c.visits.visits.items ++ c.in-Goes.visit ∷ [] = c.put.ensures.visits in
+    let pushed : c.put.new.visits.items ≡ c.visits.visits.items ++ c.in-Goes.visit ∷ [] = c.in_ok-put-in-Goes.ensures in
     let P : List Visit → Type 0 = λ visits. Reaches c.args.domain.now c.args.trip.now c.args.start visits c.in-Goes.next in
     let Q : List Visit → Type 0 = λ visits. LedTo c.args.trip.now.size c.args.trip.now.inside c.in-Goes.next visits in
     record {
@@ -39,7 +29,6 @@ visits-preserved c =
       here = facts.1;
       led = subst Q (sym pushed) (led_push c.args.trip.now.size c.args.trip.now.inside c.visits.visits.items c.in-Goes.visit c.visits.stage
           c.in-Goes.next facts.2 c.visits.invariant.led);
-      room = omega (arith, c.visits.invariant.room, c.put.ensures.room);
       few = omega (
         arith,
         ap length pushed,

@@ -1,4 +1,4 @@
-use Rattle.std.proofs.Common.{◌+◌, ◌≤◌, length, vec_capacity}
+use Rattle.std.proofs.Common.{◌+◌, ◌≤◌, length}
 use Rattle.std.specs.Prelude.{All}
 use Rattle.ioam_plan.specs.Journey.{Reaches}
 use Rattle.ioam_plan.specs.Rides.{IsVisitIn}
@@ -11,7 +11,6 @@ invariant-visits l = record {
   reaches : Reaches l.fn.domain l.fn.trip l.fn.start l.visits.items l.stage;
   here : IsHere l.fn.domain l.stage;
   led : LedTo l.fn.trip.size l.fn.trip.inside l.stage l.visits.items;
-  room : left l.fn.start + 1 ≤ vec_capacity l.visits;
   few : length l.visits.items + left l.stage ≤ left l.fn.start + extra l.stage;
   inside : All (IsVisitIn l.fn.domain) l.visits.items;
 }
