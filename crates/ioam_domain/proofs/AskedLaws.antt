@@ -7,8 +7,8 @@ use Rattle.ioam_merge.specs.Merging.{FilesArrive, FilesBegin}
 use Rattle.ioam_outputs.proofs.NamesLaws.{first_unique}
 use Rattle.ioam_outputs.specs.Names.{IsFirstRepeat, name_at}
 use Rattle.ioam_pcap.specs.declared.capture.CapFault.{CapFault}
-use Rattle.ioam_pcap.specs.declared.turns.Turn.{Turn}
-use Rattle.ioam_pcap.specs.declared.turns.Turn.TheVariants.{Over, Broken}
+use Rattle.ioam_captures.specs.declared.turns.Turn.{Turn}
+use Rattle.ioam_captures.specs.declared.turns.Turn.TheVariants.{Over, Broken}
 use Rattle.ioam_answer.specs.declared.outcome.Outcome.{Outcome}
 use Rattle.ioam_answer.specs.declared.outcome.Outcome.TheVariants as outcome
 use Rattle.ioam_domain_file.specs.File.{Agree}

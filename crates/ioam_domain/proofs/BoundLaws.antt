@@ -4,7 +4,7 @@ use Rattle.ioam_clock.specs.declared.sample.Sample.{Sample}
 use Rattle.ioam_desk.specs.Desk.{Reading, Writing}
 use Rattle.ioam_ip.specs.Clean.{MayLeave}
 use Rattle.ioam_forward.proofs.CleanLaws.{outs-clean}
-use Rattle.ioam_pcap.specs.Merge.{Arrival}
+use Rattle.ioam_captures.specs.Merge.{Arrival}
 use Rattle.ioam_pcap.specs.Text.{IsCaptureOf}
 use Rattle.ioam_answer.specs.Outcomes.{IsBehindAll}
 use Rattle.ioam_answer.specs.declared.outcome.Outcome.{Outcome}

@@ -8,8 +8,8 @@ use Rattle.ioam_desk.specs.Desk.{Side, Reading, Writing, Rose, holds, opened_eac
 use Rattle.ioam_desk.specs.Unread.{Unread}
 use Rattle.ioam_outputs.specs.Names.{AreApart, name_at}
 use Rattle.ioam_merge.specs.Merging.{EndsKept, PartsArrive, start_of}
-use Rattle.ioam_pcap.specs.Merge.{Arrival}
-use Rattle.ioam_pcap.specs.declared.turns.Turn.TheVariants as turn
+use Rattle.ioam_captures.specs.Merge.{Arrival}
+use Rattle.ioam_captures.specs.declared.turns.Turn.TheVariants as turn
 use Rattle.ioam_answer.specs.declared.outcome.Outcome.{Outcome}
 use Rattle.ioam_answer.specs.declared.outcome.Outcome.TheVariants as outcome
 use Rattle.ioam_answer.specs.Outcomes.{IsDone}

@@ -15,7 +15,7 @@ use Rattle.ioam_domain.specs.Left.{LeavesOnce}
 use Rattle.ioam_fates.specs.Texts.{out_text, tap_text, report_text, exports_text, texts_of}
 use Rattle.ioam_outlets.specs.Outlets.{each_from, tap_at, tapped_from, tapped}
 use Rattle.ioam_outputs.specs.Held.{HoldTexts}
-use Rattle.ioam_pcap.specs.Merge.{Arrival}
+use Rattle.ioam_captures.specs.Merge.{Arrival}
 use Rattle.ioam_setting.specs.Names.{tap_name}
 use Rattle.ioam_topo.specs.Domain.{links, ports}
 use Rattle.ioam_topo.specs.declared.ids.LinkId.{LinkId}

@@ -6,11 +6,11 @@ use Rattle.ioam_clock.specs.declared.fault.ReadingsFault.{ReadingsFault}
 use Rattle.ioam_clock.specs.declared.sample.Sample.{Sample}
 use Rattle.ioam_desk.specs.Desk.{Writing}
 use Rattle.ioam_merge.specs.Merging.{Begins, IsFile, FilesArrive, FilesBegin}
-use Rattle.ioam_pcap.specs.Arrives.{Handed, Arrives}
-use Rattle.ioam_pcap.specs.Merge.{Arrival}
-use Rattle.ioam_pcap.specs.declared.turns.Turn.{Turn}
-use Rattle.ioam_pcap.proofs.ArrivesLaws.{Arrives-unique}
-use Rattle.ioam_pcap.proofs.MergeLaws.{TakesAll-total, Takes-append}
+use Rattle.ioam_captures.specs.Arrives.{Handed, Arrives}
+use Rattle.ioam_captures.specs.Merge.{Arrival}
+use Rattle.ioam_captures.specs.declared.turns.Turn.{Turn}
+use Rattle.ioam_captures.proofs.ArrivesLaws.{Arrives-unique}
+use Rattle.ioam_captures.proofs.MergeLaws.{TakesAll-total, Takes-append}
 use Rattle.ioam_setting.specs.Names.{input_names, file_names}
 use Rattle.ioam_setting.specs.Setting.{HasDomainFault, HasReadingsFault}
 use Rattle.ioam_setting.proofs.OnlyLaws as only

@@ -11,10 +11,10 @@ use Rattle.ioam_fates.specs.Texts.{out_text, tap_text, report_text, exports_text
 use Rattle.ioam_ip.specs.Clean.{MayLeave}
 use Rattle.ioam_merge.specs.Merging.{FilesArrive, FilesBegin, PartsArrive, start_of}
 use Rattle.ioam_outputs.specs.Names.{name_at, AreApart, IsFirstRepeat}
-use Rattle.ioam_pcap.specs.Merge.{Arrival}
+use Rattle.ioam_captures.specs.Merge.{Arrival}
 use Rattle.ioam_pcap.specs.Text.{IsCaptureOf}
-use Rattle.ioam_pcap.specs.declared.turns.Turn.{Turn}
-use Rattle.ioam_pcap.specs.declared.turns.Turn.TheVariants as turn
+use Rattle.ioam_captures.specs.declared.turns.Turn.{Turn}
+use Rattle.ioam_captures.specs.declared.turns.Turn.TheVariants as turn
 use Rattle.ioam_answer.specs.Outcomes.{IsDone, IsBehindAll}
 use Rattle.ioam_answer.specs.declared.outcome.Outcome.{Outcome}
 use Rattle.ioam_answer.specs.declared.outcome.Outcome.TheVariants as outcome
