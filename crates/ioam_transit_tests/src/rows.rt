@@ -1,5 +1,6 @@
 //! Packets that come to a node and what it sends, octet for octet by the rules.
 use ioam_test_rows::digits::HEAD;
+use ioam_test_rows::ng_rows::NG_HEAD;
 
 /// A record of a packet at one second, by its length, that comes and that is sent.
 #[derive(Clone, Copy)]
@@ -219,22 +220,12 @@ packets 4 out 0 dropped 4
     },
 ];
 
-// A section of the form pcapng, big-endian, with an interface of packets and one of Ethernet frames, whose
-// times are nanoseconds.
-const SECTION: &str = "0a0d0d0a 0000001c 1a2b3c4d 0001 0000 ffffffffffffffff 0000001c";
-
-const PACKETS: &str = "00000001 00000020 0065 0000 00040000 0009 0001 09000000 0000 0000 00000020";
-
-const FRAMES: &str = "00000001 00000020 0001 0000 00040000 0009 0001 09000000 0000 0000 00000020";
-
-// The last of the rows in that form: a packet, and an Ethernet frame with a packet.
+// The last of the rows as pcapng: a packet, and an Ethernet frame with a packet.
 const SECTIONED: [Passed; 1] = [Passed {
     node: "c",
     link: "bc",
     came: &[
-        SECTION,
-        PACKETS,
-        FRAMES,
+        NG_HEAD,
         "00000006 00000048 00000000 00000000 3b9aca00 00000028 00000028",
         "60000000 0000 3b 40",
         SOURCE,
