@@ -7,7 +7,7 @@ use Rattle.std.proofs.lemmas.Option.{none-some}
 use Rattle.ioam_base.proofs.DecimalLaws.{decimal_iff}
 use Rattle.ioam_cmd.specs.Words.{IsForm, IsSeed}
 use Rattle.ioam_cmd.specs.declared.command.Command.{Command}
-use Rattle.ioam_cmd.specs.declared.command.Command.TheVariants.{Filter, Paths, Show, Collect, Node, Run, Bulk}
+use Rattle.ioam_cmd.specs.declared.command.Command.TheVariants.{Filter, Paths, Show, Save, Collect, Node, Run, Bulk}
 
 -- the greatest seed
 pub greatest : codes "18446744073709551615" ≡ decimal 18446744073709551615
@@ -37,6 +37,7 @@ pub run-alone : (P : Command → Type 0) (words : List (List ℕ)) → length wo
 run-alone P words six holds Filter form = absurd (omega (arith, six, form.0))
 run-alone P words six holds Paths form = absurd (omega (arith, six, form.0))
 run-alone P words six holds Show form = absurd (omega (arith, six, form.0))
+run-alone P words six holds Save form = absurd (omega (arith, six, form.0))
 run-alone P words six holds Collect form = absurd (omega (arith, six, form.0))
 run-alone P words six holds Node form = absurd (omega (arith, six, form.0))
 run-alone P words six holds (Run workers) form = holds workers
@@ -48,6 +49,7 @@ pub bulk-alone : (P : Command → Type 0) (words : List (List ℕ)) (seed count 
 bulk-alone P words seed count number five holds Filter form = absurd (omega (arith, five.0, form.0))
 bulk-alone P words seed count number five holds Paths form = absurd (omega (arith, five.0, form.0))
 bulk-alone P words seed count number five holds Show form = absurd (omega (arith, five.0, form.0))
+bulk-alone P words seed count number five holds Save form = absurd (omega (arith, five.0, form.0))
 bulk-alone P words seed count number five holds Collect form = absurd (omega (arith, five.0, form.0))
 bulk-alone P words seed count number five holds Node form = absurd (omega (arith, five.0, form.0))
 bulk-alone P words seed count number five holds (Run workers) form = absurd (omega (arith, five.0, form.0))

@@ -13,6 +13,7 @@ use Rattle.ioam_outputs.specs.Names.{name_at, AreApart}
 use Rattle.ioam_pcap.specs.Text.{IsCaptureOf}
 use Rattle.ioam_run.specs.FilterText.{FilterTexts}
 use Rattle.ioam_run.specs.PathsText.{PathsTexts}
+use Rattle.ioam_run.specs.SaveText.{SaveTexts, SavesAll}
 use Rattle.ioam_run.specs.ShowText.{ShowTexts}
 use Rattle.ioam_run.specs.Run as capture
 use Rattle.ioam_answer.specs.Outcomes.{IsBehindAll, OpensNothing}
@@ -22,13 +23,14 @@ use Rattle.ioam_answer.specs.declared.outcome.Outcome.TheVariants as outcome
 use Rattle.ioam_entries.specs.declared.fault.DomainFault.{DomainFault}
 use Rattle.ioam_transit.specs.Run as node
 use Rattle.ioam_cmd.specs.declared.command.Command.{Command}
-use Rattle.ioam_cmd.specs.declared.command.Command.TheVariants.{Filter, Paths, Show, Collect, Node, Run, Bulk}
+use Rattle.ioam_cmd.specs.declared.command.Command.TheVariants.{Filter, Paths, Show, Save, Collect, Node, Run, Bulk}
 
 -- which answer the words and the files ask for, where nothing fails
 abbrev pub Asked : Bool → List (List ℕ) → Writing → Command → Outcome → Type 0
 Asked tells words desk Filter answer = capture.Asked tells desk (file_names words) (input_name words) answer
 Asked tells words desk Paths answer = capture.Asked tells desk (file_names words) (input_name words) answer
 Asked tells words desk Show answer = capture.Asked tells desk (file_names words) (input_name words) answer
+Asked tells words desk Save answer = capture.Asked tells desk (file_names words) (input_name words) answer
 Asked tells words desk Collect answer = collect.Asked tells (holds desk (exports_file words)) (exports_file words) (report_file words) answer
 Asked tells words desk Node answer = node.Asked words desk answer
 Asked tells words desk (Run workers) answer = domain.Asked desk words answer
@@ -40,6 +42,7 @@ module _ (opens tells : Bool) (words : List (List ℕ)) (old_in new_in : Reading
   HasCause Filter answer = capture.HasCause tells (file_names words) (input_name words) old_in old new_in new answer
   HasCause Paths answer = capture.HasCause tells (file_names words) (input_name words) old_in old new_in new answer
   HasCause Show answer = capture.HasCause tells (file_names words) (input_name words) old_in old new_in new answer
+  HasCause Save answer = capture.HasCause tells (file_names words) (input_name words) old_in old new_in new answer
   HasCause Collect answer = collect.HasCause tells (holds old (exports_file words)) (exports_file words) (report_file words) old_in new_in old new answer
   HasCause Node answer = node.HaveDiffered words answer × (IsTrue tells → node.HasCause words old_in new_in old new answer)
   HasCause (Run workers) answer = domain.HaveDiffered words answer × (IsTrue tells → domain.HasCause words old_in new_in old new answer)
@@ -50,6 +53,7 @@ module _ (opens tells : Bool) (words : List (List ℕ)) (old_in new_in : Reading
   Leaves Filter answer = capture.Leaves capture.most_packets FilterTexts (output_names words) (input_name words) old_in new_in old new answer
   Leaves Paths answer = capture.Leaves capture.most_packets PathsTexts (output_names words) (input_name words) old_in new_in old new answer
   Leaves Show answer = capture.Leaves capture.most_packets ShowTexts (output_names words) (input_name words) old_in new_in old new answer
+  Leaves Save answer = capture.Leaves capture.most_packets SaveTexts (output_names words) (input_name words) old_in new_in old new answer
   Leaves Collect answer = collect.Leaves (holds old (exports_file words)) (report_file words) old_in new_in old new answer
   Leaves Node answer = node.Leaves words old_in new_in old new answer
   Leaves (Run workers) answer = domain.Leaves opens words old_in new_in old new answer
@@ -74,6 +78,7 @@ module _ (opens tells : Bool) (words : List (List ℕ)) (old_in new_in : Reading
   Asks Filter answer = AsksNamed answer
   Asks Paths answer = AsksNamed answer
   Asks Show answer = AsksNamed answer
+  Asks Save answer = AsksNamed answer
   Asks Collect answer = AsksFiles (exports_file words ≢ report_file words) (exports_file words) (report_file words ∷ []) answer
   Asks Node answer = node.Asks tells words old_in new_in old new answer
   Asks (Run workers) answer = domain.Asks tells words old_in new_in old new answer
@@ -87,6 +92,7 @@ module _ (opens tells : Bool) (words : List (List ℕ)) (old_in new_in : Reading
   IsUntouched Filter answer = OpensNothing answer → (new_in ≡ old_in) × (new ≡ old)
   IsUntouched Paths answer = OpensNothing answer → (new_in ≡ old_in) × (new ≡ old)
   IsUntouched Show answer = OpensNothing answer → (new_in ≡ old_in) × (new ≡ old)
+  IsUntouched Save answer = OpensNothing answer → (new_in ≡ old_in) × (new ≡ old)
   IsUntouched Collect answer = OpensNothing answer → (new_in ≡ old_in) × (new ≡ old)
   IsUntouched Node answer = node.IsUntouched words old_in new_in old new answer × (new_in.side.slots < old_in.side.slots + 3 → new ≡ old)
   IsUntouched (Run workers) answer = (domain.IsRefusal answer → domain.OpensNone words old_in new_in old new) × (new_in.side.slots < old_in.side.slots + 2 → new ≡ old)
@@ -98,6 +104,7 @@ module _ (opens tells : Bool) (words : List (List ℕ)) (old_in new_in : Reading
   IsBehindInputs Filter = new_in.side.slots ≡ old_in.side.slots → new ≡ old
   IsBehindInputs Paths = new_in.side.slots ≡ old_in.side.slots → new ≡ old
   IsBehindInputs Show = new_in.side.slots ≡ old_in.side.slots → new ≡ old
+  IsBehindInputs Save = new_in.side.slots ≡ old_in.side.slots → new ≡ old
   IsBehindInputs Collect = new_in.side.slots ≡ old_in.side.slots → new ≡ old
   IsBehindInputs Node = new_in.side.slots ≡ old_in.side.slots → new ≡ old
   IsBehindInputs (Run workers) = new_in.side.slots ≡ old_in.side.slots → new ≡ old
@@ -108,6 +115,7 @@ module _ (opens tells : Bool) (words : List (List ℕ)) (old_in new_in : Reading
   AreDrained Filter = IsTrue (new_in.ended old_in.side.slots)
   AreDrained Paths = IsTrue (new_in.ended old_in.side.slots)
   AreDrained Show = IsTrue (new_in.ended old_in.side.slots)
+  AreDrained Save = IsTrue (new_in.ended old_in.side.slots)
   AreDrained Collect = IsTrue (new_in.ended old_in.side.slots)
   AreDrained Node = node.AreDrained words old_in new_in old new
   AreDrained (Run workers) = domain.AreDrained opens words old_in new_in old new
@@ -118,6 +126,7 @@ module _ (opens tells : Bool) (words : List (List ℕ)) (old_in new_in : Reading
   AreWritten Filter answer = IsBehindAll (old_in.side.slots < new_in.side.slots) answer
   AreWritten Paths answer = IsBehindAll (old_in.side.slots < new_in.side.slots) answer
   AreWritten Show answer = IsBehindAll (old_in.side.slots < new_in.side.slots) answer
+  AreWritten Save answer = IsBehindAll (old_in.side.slots < new_in.side.slots) answer
   AreWritten Collect answer = IsBehindAll (old_in.side.slots < new_in.side.slots) answer
   AreWritten Node answer = IsBehindAll (old.side.slots < new.side.slots) answer
   AreWritten (Run workers) answer = IsBehindAll (old.side.slots < new.side.slots) answer
@@ -129,7 +138,19 @@ module _ (opens tells : Bool) (words : List (List ℕ)) (old_in new_in : Reading
   IsBounded Filter = IsSomeAnd (holds new (name_at words 2)) (IsCaptureOf MayLeave)
   IsBounded Paths = ⊤
   IsBounded Show = ⊤
+  IsBounded Save = ⊤
   IsBounded Collect = ⊤
   IsBounded Node = node.IsBounded words old_in new_in old new
   IsBounded (Run workers) = domain.IsBounded opens words old_in new_in old new
   IsBounded (Bulk seed count workers) = ⊤
+
+-- the records that OUT of `save` reads as are exactly those that IN reads as
+abbrev pub IsSaved : List (List ℕ) → Writing → Writing → Command → Type 0
+IsSaved words old new Save = SavesAll (input_name words) (name_at words 2) old new
+IsSaved words old new Filter = ⊤
+IsSaved words old new Paths = ⊤
+IsSaved words old new Show = ⊤
+IsSaved words old new Collect = ⊤
+IsSaved words old new Node = ⊤
+IsSaved words old new (Run workers) = ⊤
+IsSaved words old new (Bulk seed count workers) = ⊤

@@ -2,7 +2,7 @@
 use Rattle.std.specs.Prelude.{◌≡◌, ◌≤◌, ◌<◌, ◌^◌, ℕ, List, length, codes, decimal}
 use Rattle.ioam_outputs.specs.Names.{name_at}
 use Rattle.ioam_cmd.specs.declared.command.Command.{Command}
-use Rattle.ioam_cmd.specs.declared.command.Command.TheVariants.{Filter, Paths, Show, Collect, Node, Run, Bulk}
+use Rattle.ioam_cmd.specs.declared.command.Command.TheVariants.{Filter, Paths, Show, Save, Collect, Node, Run, Bulk}
 
 -- the word spells a number of workers, 1 to 64, in decimal digits without a sign and without a zero in front
 abbrev pub IsWorkers : ℕ → List ℕ → Type 0
@@ -16,12 +16,13 @@ abbrev pub IsSeed : ℕ → List ℕ → Type 0
 IsSeed seed word = (word ≡ decimal seed) × (seed < 2 ^ 64)
 
 -- the words are of a command's form: `filter IN OUT REPORT`, `paths IN REPORT`,
--- `show IN REPORT`, `collect EXPORTS REPORT`, `node DOMAIN READINGS NODE LINK IN OUT REPORT EXPORTS`, `run DOMAIN READINGS WORKERS REPORT EXPORTS`,
+-- `show IN REPORT`, `save IN OUT`, `collect EXPORTS REPORT`, `node DOMAIN READINGS NODE LINK IN OUT REPORT EXPORTS`, `run DOMAIN READINGS WORKERS REPORT EXPORTS`,
 -- `bulk SEED COUNT WORKERS REPORT`
 abbrev pub IsForm : Command → List (List ℕ) → Type 0
 IsForm Filter words = (length words ≡ 4) × (name_at words 0 ≡ codes "filter")
 IsForm Paths words = (length words ≡ 3) × (name_at words 0 ≡ codes "paths")
 IsForm Show words = (length words ≡ 3) × (name_at words 0 ≡ codes "show")
+IsForm Save words = (length words ≡ 3) × (name_at words 0 ≡ codes "save")
 IsForm Collect words = (length words ≡ 3) × (name_at words 0 ≡ codes "collect")
 IsForm Node words = (length words ≡ 9) × (name_at words 0 ≡ codes "node")
 IsForm (Run workers) words = (length words ≡ 6) × (name_at words 0 ≡ codes "run") × IsWorkers workers (name_at words 3)
@@ -37,6 +38,7 @@ abbrev pub IsBulk : List ℕ → List ℕ → List ℕ → Command → Type 0
 IsBulk first second third Filter = ⊥
 IsBulk first second third Paths = ⊥
 IsBulk first second third Show = ⊥
+IsBulk first second third Save = ⊥
 IsBulk first second third Collect = ⊥
 IsBulk first second third Node = ⊥
 IsBulk first second third (Run workers) = ⊥

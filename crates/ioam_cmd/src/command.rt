@@ -11,6 +11,8 @@ pub enum Command {
     Paths,
     /// `show IN REPORT`
     Show,
+    /// `save IN OUT`
+    Save,
     /// `collect EXPORTS REPORT`
     Collect,
     /// `node DOMAIN READINGS NODE LINK IN OUT REPORT EXPORTS`
@@ -84,6 +86,7 @@ pub fn parse(words: &[Name]) -> Option<Command>
         [command, _, _, _] if command.text() == "filter" => Some(Command::Filter),
         [command, _, _] if command.text() == "paths" => Some(Command::Paths),
         [command, _, _] if command.text() == "show" => Some(Command::Show),
+        [command, _, _] if command.text() == "save" => Some(Command::Save),
         [command, _, _] if command.text() == "collect" => Some(Command::Collect),
         [command, _, _, _, _, _, _, _, _] if command.text() == "node" => Some(Command::Node),
         [command, _, _, word, _, _] if command.text() == "run" => match workers_of(word) {

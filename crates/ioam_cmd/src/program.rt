@@ -1,6 +1,6 @@
 //! The top call: one run of a command over a desk.
 ghost use Rattle.std.specs.Prelude.{true, ◌≡◌, ◌≢◌, ◌↔◌, ◌⊎◌, IsTrue};
-ghost use Rattle.ioam_cmd.specs.Clauses.{Asked, HasCause, Leaves, Asks, AreDrained, AreWritten, IsBehindInputs, IsBounded, IsUntouched};
+ghost use Rattle.ioam_cmd.specs.Clauses.{Asked, HasCause, Leaves, Asks, AreDrained, AreWritten, IsBehindInputs, IsBounded, IsSaved, IsUntouched};
 ghost use Rattle.ioam_cmd.specs.Words.{IsForm, IsNoForm};
 ghost use Rattle.ioam_cmd.specs.declared.command.Command.{Command};
 ghost use Rattle.ioam_desk.specs.Desk.{Rose};
@@ -16,7 +16,7 @@ use ioam_bulk::run_bulk;
 use ioam_collecting::run_collect;
 use ioam_desk::{Desk, Name, SureDesk};
 use ioam_domain::run_domain;
-use ioam_run::{run_filter, run_paths, run_show};
+use ioam_run::{run_filter, run_paths, run_save, run_show};
 use ioam_transit::run_node;
 use std::alloc::Global;
 use std::thread::Threads;
@@ -53,6 +53,9 @@ pub fn ioam<R: Threads + Sync, D: Desk, G: Gate>(
     ensures asked { (command : Command) → IsForm command words.now → Asks G.opens D.tells words.now (D.reading desk.old) (D.reading desk.new) (D.writing desk.old) (D.writing desk.new) command result }
     ensures drained { (command : Command) → IsForm command words.now → IsDone result → IsTrue D.tells → AreDrained G.opens D.tells words.now (D.reading desk.old) (D.reading desk.new) (D.writing desk.old) (D.writing desk.new) command }
 
+    // The records that OUT of `save` reads as are exactly those that IN reads as.
+    ensures saved { (command : Command) → IsForm command words.now → IsDone result → IsTrue D.tells → IsSaved words.now (D.writing desk.old) (D.writing desk.new) command }
+
     // Slots that were there before are as they were, and so is each name that wasn't given to the opening of outputs in this call.
     ensures kept_in { KeepsInputs (D.reading desk.old) (D.reading desk.new) }
     ensures kept_out { IsTrue D.tells → KeepsOutputs (D.writing desk.old) (D.writing desk.new) }
@@ -64,6 +67,7 @@ pub fn ioam<R: Threads + Sync, D: Desk, G: Gate>(
         Some(Command::Filter) => run_filter(alloc, words, desk),
         Some(Command::Paths) => run_paths(alloc, words, desk),
         Some(Command::Show) => run_show(alloc, words, desk),
+        Some(Command::Save) => run_save(alloc, words, desk),
         Some(Command::Collect) => run_collect(alloc, words, desk),
         Some(Command::Node) => run_node(alloc, words, desk),
         Some(Command::Run { workers }) => run_domain(rt, alloc, workers, words, desk, gate),

@@ -5,7 +5,7 @@ pub struct Refusal {
     pub line: &'static str,
 }
 
-const REFUSALS: [Refusal; 24] = [
+const REFUSALS: [Refusal; 27] = [
     Refusal {
         words: &["bulk", "18446744073709551616", "1", "1", "r"],
         line: "usage",
@@ -36,6 +36,18 @@ const REFUSALS: [Refusal; 24] = [
     },
     Refusal {
         words: &["show", "a", "b", "c"],
+        line: "usage",
+    },
+    Refusal {
+        words: &["save", "a", "a"],
+        line: "names a",
+    },
+    Refusal {
+        words: &["save", "a"],
+        line: "usage",
+    },
+    Refusal {
+        words: &["save", "a", "b", "c"],
         line: "usage",
     },
     Refusal {

@@ -9,6 +9,7 @@ use ioam_desk::{MemoryDesk, SureDesk};
 use ioam_test_rows::capture_rows::{Listing, listings, runs};
 use ioam_test_rows::digits::{joined, octets, text, words};
 use ioam_test_rows::flow_rows::{File, first_row};
+use ioam_test_rows::ng_rows::savings;
 use ioam_test_rows::show_rows::shown;
 use std::alloc::Global;
 use std::thread::Threads;
@@ -75,6 +76,18 @@ fn filter_over_a_desk_that_never_fails(rt: HostRuntime) {
         assert!(rt; desk.file("out.pcap") == Some(output.as_slice()));
         assert!(rt; desk.file("report.txt") == Some(run.report.as_bytes()));
     }
+}
+
+#[test]
+fn save_over_a_desk_that_never_fails(rt: HostRuntime) {
+    let alloc = rt.alloc();
+    let row = savings().first().expect(&rt, "a row");
+    let input = octets(alloc, row.input).expect(&rt, "octets");
+    let output = octets(alloc, row.output).expect(&rt, "octets");
+    let mut desk = SureDesk::new(alloc).expect(&rt, "memory");
+    desk.put_file("in.pcap", &input).expect(&rt, "memory");
+    assert!(rt; is_done(&rt, alloc, &["save", "in.pcap", "out"], &mut desk).expect(&rt, "memory"));
+    assert!(rt; desk.file("out") == Some(output.as_slice()));
 }
 
 // A run with three workers.
