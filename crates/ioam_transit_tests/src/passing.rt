@@ -7,7 +7,6 @@ use ioam_test_rows::digits::{octets, text, words};
 use ioam_test_rows::run_rows::{LINKS, NODES, PORTS, ROUTES};
 use ioam_transit::run_node;
 use std::alloc::Global;
-use std::process::Abort;
 
 // A desk with the files of a row.
 pub(crate) fn desk_for(alloc: Global, row: &Passed) -> Result<MemoryDesk, NoMemory> {
@@ -40,43 +39,41 @@ pub(crate) fn node_line(
     line(alloc, &run_node(alloc, &run, desk))
 }
 
-// The outputs hold what each row says, however IN comes.
-fn assert_passed(rt: &impl Abort, alloc: Global, rows: &[Passed]) {
-    for row in rows {
-        let sent = octets(alloc, row.sent).expect(rt, "octets");
-        let exports = octets(alloc, row.exports).expect(rt, "octets");
+// Whether a run over the IN of a row, handed out in such pieces, leaves what the row says.
+fn passes(alloc: Global, row: &Passed, piece: usize) -> Result<bool, NoMemory> {
+    let sent = octets(alloc, row.sent)?;
+    let exports = octets(alloc, row.exports)?;
+    let mut desk = desk_for(alloc, row)?;
+    desk.set_piece(piece.max(1));
+    let line = node_line(alloc, row.node, row.link, &mut desk)?;
+    Ok(
+        line.as_str() == "done"
+            && desk.file("out.pcap") == Some(sent.as_slice())
+            && desk.file("report.txt") == Some(row.report.as_bytes())
+            && desk.file("exports") == Some(exports.as_slice()),
+    )
+}
+
+#[test]
+fn a_node_sends_what_it_may(rt: HostRuntime) {
+    let alloc = rt.alloc();
+    for row in rows() {
         for piece in [65536usize, 7] {
-            let mut desk = desk_for(alloc, row).expect(rt, "memory");
-            desk.set_piece(piece.max(1));
-            let line = node_line(alloc, row.node, row.link, &mut desk).expect(rt, "memory");
-            assert_eq!(rt; line.as_str(), "done");
-            assert!(rt;
-                desk.file("out.pcap") == Some(sent.as_slice()),
-                "at {}",
-                row.report
-            );
-            assert!(rt;
-                desk.file("report.txt") == Some(row.report.as_bytes()),
-                "at {}",
-                row.report
-            );
-            assert!(rt;
-                desk.file("exports") == Some(exports.as_slice()),
-                "at {}",
-                row.report
-            );
+            let passes = passes(alloc, row, piece).expect(&rt, "memory");
+            assert!(rt; passes, "at {} in pieces of {piece}", row.report);
         }
     }
 }
 
 #[test]
-fn a_node_sends_what_it_may(rt: HostRuntime) {
-    assert_passed(&rt, rt.alloc(), rows());
-}
-
-#[test]
 fn a_capture_of_the_other_form_gives_the_same(rt: HostRuntime) {
-    assert_passed(&rt, rt.alloc(), sectioned());
+    let alloc = rt.alloc();
+    for row in sectioned() {
+        for piece in [65536usize, 7] {
+            let passes = passes(alloc, row, piece).expect(&rt, "memory");
+            assert!(rt; passes, "at {} in pieces of {piece}", row.report);
+        }
+    }
 }
 
 // No node of this name; no link of this name, and one that ends at another node.
