@@ -1,5 +1,6 @@
 use Rattle.std.proofs.Common.{refl, subst}
 use Rattle.ioam_desk.proofs.KeptLaws.{KeepsInputs-same, KeepsOutputs-same}
+use Rattle.ioam_cmd.proofs.SavedLaws.{IsSaved-by}
 use Rattle.ioam_cmd.proofs.WordsLaws.{bulk-alone, run-alone}
 use Rattle.ioam_cmd.specs.Clauses.{AreDrained, Leaves}
 use Rattle.ioam_cmd.specs.Words.{IsForm}
@@ -23,3 +24,7 @@ returns-in-Some-Bulk-clause-leaves g c = λ command form told. bulk-alone
     (g.D.Desk.writing c.args.desk.now) (g.D.Desk.writing c.run_bulk.new.desk) k c.run_bulk.result)
     c.args.words.now c.in-Some-Bulk.seed c.in-Some-Bulk.count c.in-Some-Bulk.workers (subst (λ k. IsForm k c.args.words.now) c.in-Some-Bulk.field-0-is c.in-Some-Bulk.ensures)
     (λ workers. c.run_bulk.ensures.leaves told) command form
+
+pub returns-in-Some-Save-clause-saved : goal.returns-in-Some-Save-clause-saved
+returns-in-Some-Save-clause-saved g c = λ command form done told. IsSaved-by c.args.words.now (g.D.Desk.writing c.args.desk.now)
+    (g.D.Desk.writing c.run_save.new.desk) (c.run_save.ensures.same done told) command
