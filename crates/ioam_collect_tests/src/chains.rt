@@ -34,29 +34,50 @@ fn item(alloc: Global, hops: u8, core: &[u8]) -> Result<Item, NoMemory>
 #[test]
 fn repeats_come_before_a_full_pool(rt: HostRuntime) -> Result<(), Fail> {
     let alloc = rt.alloc();
-    let (five, six, one) = (
-        item(alloc, 5, &[1])?,
-        item(alloc, 6, &[2])?,
-        item(alloc, 1, &[3])?,
-    );
-    let (five_again, one_again) = (item(alloc, 5, &[1])?, item(alloc, 1, &[3])?);
-    let (six_again, six_once_more) = (item(alloc, 6, &[2])?, item(alloc, 6, &[2])?);
+    let (five, six) = (item(alloc, 5, &[1])?, item(alloc, 6, &[2])?);
+    let (one, five_again) = (item(alloc, 1, &[3])?, item(alloc, 5, &[1])?);
     let mut pool = Pool::new(alloc, 2)?;
     let p = pool.add_chain()?;
     let q = pool.add_chain()?;
     assert!(rt; matches!(pool.insert(p, five), Inserted::Kept));
     assert!(rt; matches!(pool.insert(p, six), Inserted::Kept));
+    assert!(rt; has(&pool, p, &[(6, 2), (5, 1)]));
     assert!(rt; matches!(pool.insert(q, one), Inserted::Full(_)));
     assert!(rt; matches!(pool.insert(p, five_again), Inserted::Repeat(_)));
-    assert!(rt; has(&pool, p, &[(6, 2), (5, 1)]));
+    assert!(rt; pool.held() == 2 && pool.capacity() == 2);
+    Ok(())
+}
+
+#[test]
+fn a_freed_chain_gives_its_cells_back(rt: HostRuntime) -> Result<(), Fail> {
+    let alloc = rt.alloc();
+    let (six, one) = (item(alloc, 6, &[2])?, item(alloc, 1, &[3])?);
+    let mut pool = Pool::new(alloc, 1)?;
+    let p = pool.add_chain()?;
+    let q = pool.add_chain()?;
+    assert!(rt; matches!(pool.insert(p, six), Inserted::Kept));
     pool.free(p);
-    assert!(rt; matches!(pool.insert(q, one_again), Inserted::Kept));
+    assert!(rt; matches!(pool.insert(q, one), Inserted::Kept));
     assert!(rt; has(&pool, p, &[]));
-    assert!(rt; pool.held() == 1 && pool.capacity() == 2);
+    assert!(rt; pool.held() == 1 && pool.capacity() == 1);
+    Ok(())
+}
+
+#[test]
+fn a_pool_that_grew_has_room(rt: HostRuntime) -> Result<(), Fail> {
+    let alloc = rt.alloc();
+    let (six, one, one_again) = (
+        item(alloc, 6, &[2])?,
+        item(alloc, 1, &[3])?,
+        item(alloc, 1, &[3])?,
+    );
+    let mut pool = Pool::new(alloc, 1)?;
+    let p = pool.add_chain()?;
+    assert!(rt; matches!(pool.insert(p, six), Inserted::Kept));
+    assert!(rt; matches!(pool.insert(p, one), Inserted::Full(_)));
     pool.grow(1)?;
-    assert!(rt; matches!(pool.insert(p, six_again), Inserted::Kept));
-    assert!(rt; matches!(pool.insert(p, six_once_more), Inserted::Repeat(_)));
-    assert!(rt; pool.held() == 2 && pool.capacity() == 3);
+    assert!(rt; matches!(pool.insert(p, one_again), Inserted::Kept));
+    assert!(rt; pool.held() == 2 && pool.capacity() == 2);
     Ok(())
 }
 
