@@ -28,3 +28,14 @@ module _ {Place Thing : Type 0} (CanPass : Place → Type 0) (thing : Place → 
       let rest : (xs ≡ ys) × (b ≡ c) = Leads-unique (behind a) xs b ys c leads.2 stop others.2 stops in
       let first : x ≡ y = leads.1 ∙ sym others.1 in
       (cc, rest.1)
+
+  -- from a place to another and, by the same things and more, to one that can't be passed
+  pub Leads-beyond : (a : Place) (xs : List Thing) (b : Place) (ys : List Thing) (c : Place)
+      → Leads CanPass thing behind a xs b → Leads CanPass thing behind a ys c → (CanPass c → ⊥)
+      → (more : List Thing) × (ys ≡ xs ++ more)
+  Leads-beyond a [] b ys c here leads stops = (ys, refl)
+  Leads-beyond a (x ∷ xs) b [] c leads here stops = let P : Place → Type 0 = λ p. CanPass p in absurd (stops (subst P here leads.0))
+  Leads-beyond a (x ∷ xs) b (y ∷ ys) c leads others stops =
+      let (more, same) = Leads-beyond (behind a) xs b ys c leads.2 others.2 stops in
+      let first : y ≡ x = others.1 ∙ sym leads.1 in
+      (more, cc)

@@ -88,3 +88,16 @@ impl Job {
         self.packet.len() + self.crossings.kept() + 274 * self.room.given() as usize
     }
 }
+
+#[cfg(test)]
+mod tests {
+    use crate::job::Job;
+
+    // Compiles only where a value of the type may be handed to a thread.
+    fn sent<T: Send>() {}
+
+    #[test]
+    fn a_worker_is_handed_jobs() {
+        sent::<Job>();
+    }
+}

@@ -3,7 +3,7 @@ use Rattle.std.proofs.Common.{◌≡◌, ℕ, ◌-◌, ◌<◌, ◌≤◌, ◌�
 use Rattle.std.specs.Prelude.{map, if◌then◌else◌}
 use Rattle.std.proofs.lemmas.Bool.{cases_eq, false≢true}
 use Rattle.std.proofs.lemmas.List.{map-append}
-use Rattle.ioam_base.proofs.LeadsLaws.{Leads-push}
+use Rattle.ioam_base.proofs.LeadsLaws.{Leads-push, Leads-beyond}
 use Rattle.ioam_pcap.specs.declared.form.Link.{Link}
 use Rattle.ioam_pcap.specs.declared.form.Form.{Form}
 use Rattle.ioam_pcap.specs.declared.capture.CapFault.{CapFault}
@@ -16,7 +16,6 @@ use Rattle.ioam_pcap.specs.Reading.{Reading}
 use Rattle.ioam_pcap.specs.Reader.{Stands, link_of}
 use Rattle.ioam_pcap.proofs.BehindLaws.{Reached-behind, FaultAt-behind}
 use Rattle.ioam_pcap.proofs.ReadsLaws.{Reads-unique, Reads-total, head_unique, ends_front, ends_no_record}
-use Rattle.ioam_ng.proofs.LaterLaws.{Leads-beyond}
 use Rattle.ioam_captures.specs.Reads.{of_link, IsClassicly}
 use Rattle.ioam_captures.specs.Streams.{known_ending}
 

@@ -48,3 +48,16 @@ impl Readings {
         }
     }
 }
+
+#[cfg(test)]
+mod tests {
+    use crate::readings::Readings;
+
+    // Compiles only where threads may share a value of the type.
+    fn shared<T: Sync>() {}
+
+    #[test]
+    fn workers_share_the_readings() {
+        shared::<Readings>();
+    }
+}

@@ -112,9 +112,6 @@ fn takes_the_longest(domain: &Domain) -> bool {
         && domain.forward(NodeId(1), 0) == None
 }
 
-// Compiles only where threads may share the value.
-pub(crate) fn shared<T: Sync>(_value: &T) {}
-
 // Whether the file of addresses is read, and has them.
 fn reads_addresses(alloc: Global) -> bool {
     is_read_so(alloc, ADDRESSES, has_addresses)
@@ -123,7 +120,6 @@ fn reads_addresses(alloc: Global) -> bool {
 // Whether the row of nodes is read, and leads through.
 fn reads_row(alloc: Global) -> bool {
     is_read_so(alloc, ROW, |domain| {
-        shared(domain);
         has_names(domain) && leads_through(domain)
     })
 }

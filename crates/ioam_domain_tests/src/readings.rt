@@ -1,4 +1,4 @@
-use crate::domains::{NODES, is_read_so, shared};
+use crate::domains::{NODES, is_read_so};
 use ioam_clock::{ReadWhy, Readings, ReadingsRefused, Sample, read_readings, stamp};
 use ioam_topo::{Domain, Format, NodeId};
 use std::alloc::Global;
@@ -115,10 +115,7 @@ fn are_all_so(alloc: Global, domain: &Domain) -> bool {
 fn reads_samples(alloc: Global, domain: &Domain) -> bool {
     let file = "a 10 5 2147483648 3 4\na 100 1000 - - -".as_bytes();
     match read_readings(alloc, domain, file) {
-        Ok(readings) => {
-            shared(&readings);
-            has_samples(&readings)
-        }
+        Ok(readings) => has_samples(&readings),
         Err(_) => false,
     }
 }

@@ -5,7 +5,7 @@ use Rattle.std.specs.Prelude.{nat_le, ⊤}
 use Rattle.std.specs.Option.{IsSome}
 use Rattle.std.proofs.lemmas.Bool.{and_parts, leb-true, false≢true, true≢false}
 use Rattle.ioam_base.specs.Leads.{Leads}
-use Rattle.ioam_base.proofs.LeadsLaws.{Leads-push}
+use Rattle.ioam_base.proofs.LeadsLaws.{Leads-push, Leads-beyond}
 use Rattle.ioam_pcap.specs.declared.capture.CapFault.{CapFault}
 use Rattle.ioam_pcap.specs.declared.capture.CapFault.TheVariants.{Short}
 use Rattle.ioam_pcap.specs.Ending.{Ending, Whole, Faulty, stays}
@@ -103,18 +103,6 @@ Reads-stays octets more taken at f stayed reads = record {
 }
 
 -- ---- the packets so far
-
--- from a place to another and, by the same things and more, to one that can't be passed
-module _ {Place Thing : Type 0} (CanPass : Place → Type 0) (thing : Place → Thing) (next : Place → Place) where
-  pub Leads-beyond : (a : Place) (xs : List Thing) (b : Place) (ys : List Thing) (c : Place)
-      → Leads CanPass thing next a xs b → Leads CanPass thing next a ys c → (CanPass c → ⊥)
-      → (more : List Thing) × (ys ≡ xs ++ more)
-  Leads-beyond a [] b ys c here leads stops = (ys, refl)
-  Leads-beyond a (x ∷ xs) b [] c leads here stops = absurd (stops (subst CanPass here leads.0))
-  Leads-beyond a (x ∷ xs) b (y ∷ ys) c leads others stops =
-      let (more, same) = Leads-beyond (next a) xs b ys c leads.2 others.2 stops in
-      let first : y ≡ x = others.1 ∙ sym leads.1 in
-      (more, cc)
 
 -- blocks that stand one behind the other at the front have the first packets of those that are read
 Blocks-begin : (octets : List ℕ) (blocks : List (Option Taken)) (p : Place) (all : List Taken) (ending : Ending)

@@ -4,7 +4,6 @@ use Rattle.toml.specs.Data.{Members}
 use Rattle.std.proofs.Common.{Bool, true, false, cond, nat_lt, Option, Some, None, subst}
 use Rattle.std.proofs.lemmas.Bool.Decides.{nat_tests}
 use Rattle.std.specs.List.{All}
-use Rattle.std.proofs.lemmas.List.Elements.{All-cons, All-nil}
 use Rattle.toml.specs.Data.{Data}
 use Rattle.ioam_toml.specs.declared.why.Why.{Why}
 use Rattle.ioam_toml.specs.declared.why.Why.TheVariants.{TooMany}
@@ -74,15 +73,6 @@ pub tap_room : (most taps : ℕ) (r : Result (Option (List ℕ)) Why) (tap : Opt
 tap_room most taps (Ok None) tap is few = let none : tap ≡ None = cc in rw none (omega (arith, few))
 tap_room most taps (Ok (Some file)) tap is few = in_room (nat_lt taps most) most taps file tap refl is
 tap_room most taps (Err why) tap is few = cc
-
-none_tapped : (tap : Option (List ℕ)) (n : ℕ) → count_of tap + n ≤ 0 → tap ≡ None
-none_tapped None n few = refl
-none_tapped (Some file) n few = absurd (omega (arith, few))
-
--- where none of these links may have a tap none has one
-pub untapped : (links : List Link) → taps_of links ≤ 0 → All (λ link. link.tap ≡ None) links
-untapped [] few = All-nil (λ link. link.tap ≡ None)
-untapped (link ∷ links) few = All-cons (λ l. l.tap ≡ None) link links (none_tapped link.tap (taps_of links) few) (untapped links (omega (arith, few)))
 
 counted : (r : Result (List ℕ) Why) (tap : Option (List ℕ)) → r ▷ (λ x. Ok (Some x)) ≡ Ok tap
     → (taps : List (List ℕ)) → length (kept r taps) ≡ length taps + count_of tap

@@ -33,10 +33,6 @@ node_data domain = domain.telemetry.rows.items.items
 abbrev pub flows : Domain → List Flow
 flows domain = domain.telemetry.flows.items.items
 
--- no packet of the domain is put into a tunnel: it has no flows
-abbrev pub IsPlain : Domain → Type 0
-IsPlain domain = flows domain ≡ []
-
 -- the node of a name, by its place
 abbrev pub node_of_name : Domain → List ℕ → Option NodeId
 node_of_name domain name = option_map (λ at. record { 0 = at }) (place_of (map name_of_node (nodes domain)) name)

@@ -124,3 +124,16 @@ impl Domain {
         })
     }
 }
+
+#[cfg(test)]
+mod tests {
+    use crate::domain::Domain;
+
+    // Compiles only where threads may share a value of the type.
+    fn shared<T: Sync>() {}
+
+    #[test]
+    fn workers_share_the_domain() {
+        shared::<Domain>();
+    }
+}
