@@ -1,0 +1,82 @@
+#!/usr/bin/env bash
+# One table of every command against its peers, in one series: COUNT packets or records (300,000 where none is given), five rounds
+# in turn, the least time of each; the peers are plain programs in C that do the same work (walk.c, measured.c, long.c,
+# collect.c) and the field's tools (tcpdump, editcap, sort):
+#     bench/all.sh [COUNT]
+set -eu
+here=$(cd "$(dirname "${BASH_SOURCE[0]}")" && pwd)
+top=$(dirname "$here")
+count=${1:-300000}
+
+. "$here/timing.sh"
+begin tcpdump gcc editcap
+for name in walk measured collect; do gcc -O2 -o $name "$here/$name.c"; done
+gcc -O2 -DNODES=61 -DTRACE=0x800000 -DCAPACITY=61 -DDIRECT=0 -DWORDS=-1 -o long "$here/long.c"
+python3 "$here/make_capture.py" in.pcap "$count"
+"$ioam" save in.pcap in.pcapng >/dev/null
+python3 "$here/make_measured.py" . "$count"
+python3 "$here/make_exports.py" "$count" $((count / 5))
+python3 "$here/make_line.py" line $((count / 10)) 61 0x800000 61
+
+# Two domains with outputs that are thrown away; no two of their files may have one name.
+mkdir null
+cp readings null/ && ln west.pcap null/west.pcap
+sed 's/"west-out.pcap"/"null1"/; s/"east-out.pcap"/"null2"/; s/"ab.pcap"/"null3"/; s/"cd.pcap"/"null4"/' domain.toml >null/domain.toml
+for name in null1 null2 null3 null4 report exports west-out.pcap east-out.pcap ab.pcap cd.pcap; do ln -s /dev/null "null/$name"; done
+for name in null1 null2 report exports; do ln -s /dev/null "line/$name"; done
+
+# within FOLDER COMMAND..: a command in that folder.
+within() { (cd "$1" && shift && "$@"); }
+
+for _ in 1 2 3 4 5; do
+    timed cat sh -c 'cat in.pcap >out.cat'
+    timed walk ./walk in.pcap out.walk
+    timed tcpdump tcpdump -r in.pcap -w out.tcpdump ip6
+    timed editcap editcap -F pcapng in.pcap out.editcap
+    timed filter "$ioam" filter in.pcap out.filter report.filter
+    timed filter-ng "$ioam" filter in.pcapng out.filter report.filter
+    timed paths "$ioam" paths in.pcap report.paths
+    timed show "$ioam" show in.pcap report.show
+    timed save "$ioam" save in.pcap out.save
+    timed node "$ioam" node "$top/examples/one-node/domain.toml" "$top/examples/one-node/readings" three two-three in.pcap out.node report.node exports.node
+    timed measured ./measured readings report exports.c
+    timed run "$ioam" run domain.toml readings 1 report exports.run
+    timed sort env LC_ALL=C sort -u -o sorted lines
+    timed sort-one env LC_ALL=C sort --parallel=1 -u -o sorted lines
+    timed collect.c ./collect exports c.report
+    timed collect "$ioam" collect exports report.collect
+    timed bulk "$ioam" bulk 1 "$count" 1 report.bulk
+    within null timed measured ../measured readings report exports
+    for workers in 1 2 4; do within null timed "run-$workers" "$ioam" run domain.toml readings "$workers" report exports; done
+    within line timed long ../long readings report exports
+    for workers in 1 2 4; do within line timed "run-$workers" "$ioam" run domain.toml readings "$workers" report exports; done
+done
+
+# row WHAT FOLDER NAME PEER: the least seconds of a command and of its peer, their ratio, the command's memory.
+row() {
+    within "$2" sh -c "sort -n times.$3 | head -1" | awk -v w="$1" -v p="$4" -v b="$(within "$2" base "$4")" \
+        '{ s = $1 > 0 ? $1 : 0.01; b = b > 0 ? b : 0.01; printf "| %s | %.2f | %s %.2f | %.2f | %.1f |\n", w, s, p, b, s / b, $2 / 1024 }'
+}
+
+echo "$(nproc) cores, $count packets of $(stat -c %s in.pcap) octets, $count export records, $((count / 10)) packets along 61 nodes"
+echo '| command | seconds | peer, seconds | ratio | memory, MB |'
+echo '|---|---|---|---|---|'
+row '`filter`' . filter cat
+row '`filter`' . filter walk
+row '`filter`' . filter tcpdump
+row '`filter` of pcapng' . filter-ng filter
+row '`paths`' . paths walk
+row '`show`' . show walk
+row '`save`' . save editcap
+row '`node`' . node walk
+row '`run`, measured, to files' . run measured
+row '`run`, measured, thrown away' null run-1 measured
+row 'the same, 2 workers' null run-2 measured
+row 'the same, 4 workers' null run-4 measured
+row '`run` along 61 nodes' line run-1 long
+row 'the same, 2 workers' line run-2 long
+row 'the same, 4 workers' line run-4 long
+row '`collect`' . collect sort
+row '`collect`' . collect sort-one
+row '`collect`' . collect collect.c
+row '`bulk`' . bulk cat
