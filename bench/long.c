@@ -1,16 +1,12 @@
 /* long READINGS REPORT EXPORTS: what `ioam run` does along a line of make_line.py, as a C programmer would write it by hand:
  * one thread, packet by packet, each node's options scanned. It reads west.pcap and writes null1 and null2 beside REPORT and
- * EXPORTS. A yardstick of speed, for bench/long.sh, which also compares all four files. It is compiled for one line: NODES, the
- * flow's TRACE (0: none) and CAPACITY, DIRECT (the type of its direct export; 0: none), and WORDS, those of a node's snapshot
- * (-1: a node has no data). */
-#define FIRST 1
-#include "yardstick.h"
+ * EXPORTS. A yardstick of speed, for bench/long.sh, which also compares all four files. It is compiled for one line, as line.h
+ * says. */
+#include "line.h"
 
 /* ---- what arrives, and its way: from the first node to the last ---- */
 static struct { int reason, where, enclosed; u32 number, length, seen; } job;
-static int node_named(const char *name) { return atoi(name + 1) - 1; }
 static u32 enclosed_so_far;
-enum { OPTIONS = (TRACE ? 12 + 4 * CAPACITY : 0) + (DIRECT ? 20 : 0), HOP = OPTIONS ? (4 + OPTIONS + 7) / 8 * 8 : 0 };
 static void plan(int reason, const u8 *p) {
     job.enclosed = 0;
     job.seen = 1;
@@ -28,56 +24,7 @@ static void plan(int reason, const u8 *p) {
     if (p[7] <= 2) { job.reason = HOP_LIMIT; job.where = NODES - 1; }
 }
 
-/* ---- the tunnel, and its nodes ---- */
 static u8 outer[80000];
-static u32 outer_length;
-static void enclose(const u8 *p) {
-    outer_length = 40 + HOP + job.length;
-    put32(outer, 6u << 28 | (be32(p) & 0x0ff00000)); put16(outer + 4, outer_length - 40); outer[6] = HOP ? 0 : 41; outer[7] = 255;
-    put64(put64(put64(put64(outer + 8, NET), 1), NET), NODES);
-    u8 *o = outer + 40, *end = o + HOP;
-    if (HOP) o = put32(o, 41u << 24 | (HOP / 8 - 1) << 16 | 0x0100);
-    if (TRACE) {
-        o = put32(o, 0x31000000 | (10 + 4 * CAPACITY) << 16);
-        o = put32(o, 7u << 16 | words(TRACE) << 11 | CAPACITY); o = put32(o, (u32)TRACE << 8);
-        memset(o, 0, 4 * CAPACITY); o += 4 * CAPACITY;
-    }
-    if (DIRECT) {
-        o = put32(o, 0x11120004); o = put32(o, 0x000700c0); o = put32(o, (u32)DIRECT << 8); o = put32(o, 9); o = put32(o, job.number);
-    }
-    if (o < end) o = put32(o, 0x01020000);
-    memcpy(o, p, job.length);
-    o[7]--;
-}
-static u8 *visit(u32 k, u64 time, u8 *exports) {
-    static const u8 snapshot[] = { 0x00, 0x11, 0x22, 0x33, 0x00, 0x11, 0x22, 0x33, 0x00, 0x11, 0x22, 0x33, 0x00, 0x11, 0x22, 0x33,
-        0x00, 0x11, 0x22, 0x33, 0x00, 0x11, 0x22, 0x33, 0x00, 0x11, 0x22, 0x33, 0x00, 0x11, 0x22, 0x33 };
-    View v = view_of(k, time);
-    v.hops = 255 - k;
-    v.inward = 1;
-    if (k + 1 < NODES) v.outward = 2;
-    if (WORDS >= 0) { v.data = v.wide = k + 1; v.schema = 5; v.opaque_words = WORDS; v.opaque = snapshot; }
-    if (k && k + 1 < NODES) outer[7]--;
-    if (outer[6] == 0)
-        for (u32 o = 42, end = 40 + (outer[41] + 1) * 8; o < end;) {
-            if (outer[o] == 0) { o++; continue; }
-            u32 kind = outer[o], count = outer[o + 1], space = be16(outer + o + 4);
-            if ((kind == 0x31 || kind == 0x11) && count >= 10 && (space == 0 || space == 7)) {
-                u8 *data = outer + o + 4;
-                if (outer[o + 3] == 0 && kind == 0x31) fill(data, count - 2, &v);
-                if (outer[o + 3] == 4) {
-                    u32 type = be32(data + 4) >> 8, size = 4 * (words(type) + HAS(type, 22) * (1 + v.opaque_words));
-                    exports = put32(exports, 0x02c00000 | (30 + size)); exports = put16(exports, space);
-                    exports = put32(exports, type); exports = put32(put64(exports, time), v.inward);
-                    exports = put32(put32(exports, be32(data + 8)), be32(data + 12));
-                    element(exports, type, words(type), &v);
-                    exports += size;
-                }
-            }
-            o += 2 + count;
-        }
-    return exports;
-}
 
 /* ---- what is written ---- */
 static Output ports[2], report, records;
@@ -108,12 +55,12 @@ static void tell_sums(void) {
     report.count += o - start;
 }
 static void send_on(const u8 *p, u64 time) {
-    enclose(p);
+    u32 length = enclose(outer, p, job.length, job.number);
     for (u32 k = 0; k < NODES; k++, time += 1000) {
         u8 *o = room(&records, 1024);
-        records.count += visit(k, time, o) - o;
+        records.count += visit(outer, k, time, o) - o;
     }
-    if (job.reason == FINE) put_packet(&ports[1], time - 1000, outer + outer_length - job.length, job.length, 1);
+    if (job.reason == FINE) put_packet(&ports[1], time - 1000, outer + length - job.length, job.length, 1);
 }
 int main(int count, char **words_of) {
     if (count != 4) die("long READINGS REPORT EXPORTS");

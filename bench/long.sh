@@ -9,31 +9,9 @@ top=$(dirname "$here")
 count=${1:-20000}
 
 . "$here/timing.sh"
+. "$here/line.sh"
 begin gcc
 files='null1 null2 report exports'
-
-# A kind of trace by its name: type, capacity, and what else.
-kinds() {
-    echo 'nothing 0 1'
-    echo 'one-word 0x800000 61'
-    echo 'wide-trace 0xfff002 61 snapshot=8'
-    echo 'full-trace 0xfff002 61'
-    echo 'exports 0 1 direct'
-    echo 'wide-exports 0xfef002 61 direct snapshot=8'
-}
-
-# The yardstick for a line of so many nodes and a kind.
-yardstick() {
-    local nodes=$1 kind=$2 capacity=$3 direct=0 words=-1 word
-    shift 3
-    for word in "$@"; do
-        case $word in
-            direct) [ "$kind" = 0 ] && direct=0x800000 || direct=$kind ;;
-            snapshot=*) words=${word#*=} ;;
-        esac
-    done
-    gcc -O2 -DNODES="$nodes" -DTRACE="$kind" -DCAPACITY="$capacity" -DDIRECT="$direct" -DWORDS="$words" -o long "$here/long.c"
-}
 
 # What the two write in this folder is the same.
 compare() {
@@ -50,7 +28,7 @@ kinds | while read -r name kind capacity more; do
             # shellcheck disable=SC2086
             python3 "$here/make_line.py" "$folder" "$([ $folder = same ] && echo 1000 || echo "$count")" "$nodes" "$kind" "$capacity" $more
             # shellcheck disable=SC2086
-            (cd "$folder" && yardstick "$nodes" "$kind" "$capacity" $more)
+            (cd "$folder" && yardstick "$here/long.c" "$nodes" "$kind" "$capacity" $more)
         done
         (cd same && compare)
         rm -r same

@@ -1,6 +1,6 @@
-/* What the yardsticks in C share (measured.c and long.c): octets, gathered outputs, an input in pieces, a packet's headers,
- * traces and their lines. It is included once TRACE, the flow's type of trace, NODES and FIRST are defined; `node_named`
- * tells the place of a node by its name in the readings. */
+/* What the yardsticks in C share (measured.c, and line.h for those along a line): octets, gathered outputs, an input in pieces,
+ * a packet's headers, traces and their lines. It is included once TRACE, the flow's type of trace, NODES and FIRST are defined;
+ * `node_named` tells the place of a node by its name in the readings. */
 #include <fcntl.h>
 #include <stdint.h>
 #include <stdio.h>
