@@ -4,25 +4,17 @@
 # collect.c) and the field's tools (tcpdump, editcap, sort):
 #     bench/all.sh [COUNT]
 set -eu
-here=$(cd "$(dirname "${BASH_SOURCE[0]}")" && pwd)
-top=$(dirname "$here")
+. "$(dirname "${BASH_SOURCE[0]}")/timing.sh"
 count=${1:-300000}
-
-. "$here/timing.sh"
 begin tcpdump gcc editcap
-for name in walk measured collect; do gcc -O2 -o $name "$here/$name.c"; done
+build walk measured collect
 gcc -O2 -DNODES=61 -DTRACE=0x800000 -DCAPACITY=61 -DDIRECT=0 -DWORDS=-1 -o long "$here/long.c"
 python3 "$here/make_capture.py" in.pcap "$count"
 "$ioam" save in.pcap in.pcapng >/dev/null
 python3 "$here/make_measured.py" . "$count"
 python3 "$here/make_exports.py" "$count" $((count / 5))
 python3 "$here/make_line.py" line $((count / 10)) 61 0x800000 61
-
-# Two domains with outputs that are thrown away; no two of their files may have one name.
-mkdir null
-cp readings null/ && ln west.pcap null/west.pcap
-sed 's/"west-out.pcap"/"null1"/; s/"east-out.pcap"/"null2"/; s/"ab.pcap"/"null3"/; s/"cd.pcap"/"null4"/' domain.toml >null/domain.toml
-for name in null1 null2 null3 null4 report exports west-out.pcap east-out.pcap ab.pcap cd.pcap; do ln -s /dev/null "null/$name"; done
+throw_away
 for name in null1 null2 report exports; do ln -s /dev/null "line/$name"; done
 
 # within FOLDER COMMAND..: a command in that folder.

@@ -4,13 +4,10 @@
 # records of one key, rising, falling and in random order. Three rounds in turn, the least time of each:
 #     bench/collect.sh [COUNT]
 set -eu
-here=$(cd "$(dirname "${BASH_SOURCE[0]}")" && pwd)
-top=$(dirname "$here")
+. "$(dirname "${BASH_SOURCE[0]}")/timing.sh"
 count=${1:-1000000}
-
-. "$here/timing.sh"
 begin gcc
-gcc -O2 -o collect "$here/collect.c"
+build collect
 python3 "$here/make_exports.py" "$count" $((count / 5))
 
 for _ in 1 2 3; do

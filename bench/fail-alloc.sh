@@ -4,9 +4,7 @@
 # fails. A line for each command with the number of its takings; ends with status 1 where one differs.
 #     bench/fail-alloc.sh
 set -eu
-here=$(cd "$(dirname "${BASH_SOURCE[0]}")" && pwd)
-top=$(dirname "$here")
-. "$here/timing.sh"
+. "$(dirname "${BASH_SOURCE[0]}")/timing.sh"
 begin gcc
 gcc -O2 -shared -fPIC -o fail_alloc.so "$here/fail_alloc.c"
 cp -r "$top/examples" .

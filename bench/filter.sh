@@ -3,13 +3,10 @@
 # of COUNT packets (a million where none is given), three rounds in turn, the least time of each:
 #     bench/filter.sh [COUNT]
 set -eu
-here=$(cd "$(dirname "${BASH_SOURCE[0]}")" && pwd)
-top=$(dirname "$here")
+. "$(dirname "${BASH_SOURCE[0]}")/timing.sh"
 count=${1:-1000000}
-
-. "$here/timing.sh"
 begin tcpdump gcc
-gcc -O2 -o walk "$here/walk.c"
+build walk
 python3 "$here/make_capture.py" in.pcap "$count"
 
 for _ in 1 2 3; do

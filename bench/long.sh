@@ -4,11 +4,8 @@
 # it how long one visit takes, planned and done. First it compares all that the two write of 1,000 packets:
 #     bench/long.sh [COUNT]
 set -eu
-here=$(cd "$(dirname "${BASH_SOURCE[0]}")" && pwd)
-top=$(dirname "$here")
+. "$(dirname "${BASH_SOURCE[0]}")/timing.sh"
 count=${1:-20000}
-
-. "$here/timing.sh"
 . "$here/line.sh"
 begin gcc
 files='null1 null2 report exports'

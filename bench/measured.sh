@@ -4,22 +4,13 @@
 # time of each, once with outputs in files and once with outputs that are thrown away:
 #     bench/measured.sh [COUNT]
 set -eu
-here=$(cd "$(dirname "${BASH_SOURCE[0]}")" && pwd)
-top=$(dirname "$here")
+. "$(dirname "${BASH_SOURCE[0]}")/timing.sh"
 count=${1:-1000000}
-
-. "$here/timing.sh"
 begin gcc
-gcc -O2 -o measured "$here/measured.c"
+build measured
 python3 "$here/make_measured.py" . "$count"
 files='west-out.pcap east-out.pcap ab.pcap cd.pcap report exports'
-
-# The same domain, with outputs that are thrown away; no two of its files may have one name.
-mkdir null
-cp readings null/
-ln west.pcap null/west.pcap
-sed 's/"west-out.pcap"/"null1"/; s/"east-out.pcap"/"null2"/; s/"ab.pcap"/"null3"/; s/"cd.pcap"/"null4"/' domain.toml >null/domain.toml
-for name in null1 null2 null3 null4 report exports west-out.pcap east-out.pcap ab.pcap cd.pcap; do ln -s /dev/null "null/$name"; done
+throw_away
 
 for _ in 1 2 3; do
     timed cat sh -c 'cat west.pcap >out.cat'

@@ -5,11 +5,8 @@
 # captures as over the same records in the classic form; what `save` wrote tshark and capinfos read to the nanosecond. Then
 # times `filter` of COUNT packets (a million where none is given) in either form, three rounds in turn, the least of each.
 set -eu
-here=$(cd "$(dirname "${BASH_SOURCE[0]}")" && pwd)
-top=$(dirname "$here")
+. "$(dirname "${BASH_SOURCE[0]}")/timing.sh"
 count=${1:-1000000}
-
-. "$here/timing.sh"
 begin tshark editcap mergecap capinfos
 cp -r "$top/examples" .
 wrong=0

@@ -3,11 +3,8 @@
 # million where none is given), three rounds in turn, the least time of each:
 #     bench/run.sh [COUNT]
 set -eu
-here=$(cd "$(dirname "${BASH_SOURCE[0]}")" && pwd)
-top=$(dirname "$here")
+. "$(dirname "${BASH_SOURCE[0]}")/timing.sh"
 count=${1:-1000000}
-
-. "$here/timing.sh"
 begin
 python3 "$here/make_capture.py" in.pcap "$count"
 

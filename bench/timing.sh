@@ -1,4 +1,6 @@
-# What the benchmark scripts share: it is read by them, not run.
+# What the benchmark scripts share: it is read by them, not run. `here` is the scripts' folder, `top` the repository's.
+here=$(cd "$(dirname "${BASH_SOURCE[0]}")" && pwd)
+top=$(dirname "$here")
 
 # Ends the script where a tool is missing.
 need() {
@@ -31,4 +33,21 @@ begin() {
     cd "$room"
     "$top/ioam" >/dev/null || true
     ioam=$top/crates/ioam_cmd/out/ioam_cmd
+}
+
+# Builds yardsticks in C here, by the names of their files.
+build() {
+    local name
+    for name in "$@"; do gcc -O2 -o "$name" "$here/$name.c"; done
+}
+
+# The folder `null` with the domain of the measured packets (make_measured.py), whose outputs are thrown away; no two of its files
+# may have one name.
+throw_away() {
+    local name
+    mkdir null
+    cp readings null/
+    ln west.pcap null/west.pcap
+    sed 's/"west-out.pcap"/"null1"/; s/"east-out.pcap"/"null2"/; s/"ab.pcap"/"null3"/; s/"cd.pcap"/"null4"/' domain.toml >null/domain.toml
+    for name in null1 null2 null3 null4 report exports west-out.pcap east-out.pcap ab.pcap cd.pcap; do ln -s /dev/null "null/$name"; done
 }
