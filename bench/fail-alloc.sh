@@ -1,7 +1,7 @@
 #!/usr/bin/env bash
 # Runs each command over the shipped examples once for each of its takings of memory, which then fails: by itself, and with all
 # behind it. Each run is to print `no memory`, end with status 11, and leave in each output a front of what it holds when nothing
-# fails. A line for each command with the number of its takings; ends with status 1 where one differs.
+# fails; where only the printed line finds no memory it is to end with status 0 and whole outputs. A line for each command with the number of its takings; ends with status 1 where one differs.
 #     bench/fail-alloc.sh
 set -eu
 . "$(dirname "${BASH_SOURCE[0]}")/timing.sh"
@@ -13,32 +13,41 @@ wrong=0
 # Whether a file is a front of another; one that isn't there is.
 is_front() { [ ! -e "$1" ] || cmp -s -n "$(stat -c %s "$1")" "$1" "$2"; }
 
-# One run in which a taking fails: its status, its line and its outputs.
+# A run in which a taking of this number fails, by itself or with all behind it: whether it is answered as it should be. Its status
+# stays in `status`.
 passes() {
-    local call=$1 lasting=$2 status=0 name
+    local call=$1 lasting=$2 name
     shift 2
+    status=0
     rm -f "${outputs[@]}"
     env FAIL_ALLOC="$call" ${lasting:+FAIL_LASTING=1} LD_PRELOAD=./fail_alloc.so "$ioam" "$@" >said 2>&1 </dev/null || status=$?
-    # where main finds no memory for its line it prints none
-    [ "$status" = 11 ] && { [ ! -s said ] || [ "$(cat said)" = 'no memory' ]; } || { echo "  taking $call ${lasting:-alone}: status $status, $(head -n 1 said)"; return 1; }
+    # where main finds no memory for its line it prints none, and the status says the answer
+    if [ "$status" = 0 ] && { [ ! -s said ] || [ "$(cat said)" = done ]; }; then
+        for name in "${outputs[@]}"; do cmp -s "$name" "whole.$name" || { echo "  $1, taking $call ${lasting:-alone}: done, $name"; return 1; }; done
+        return 0
+    fi
+    if [ "$status" != 11 ] || { [ -s said ] && [ "$(cat said)" != 'no memory' ]; }; then
+        echo "  $1, taking $call ${lasting:-alone}: status $status, $(head -n 1 said)"
+        return 1
+    fi
     for name in "${outputs[@]}"; do
-        is_front "$name" "whole.$name" || { echo "  taking $call ${lasting:-alone}: $name"; return 1; }
+        is_front "$name" "whole.$name" || { echo "  $1, taking $call ${lasting:-alone}: $name"; return 1; }
     done
 }
 
-# A command with its outputs: outputs are set before.
+# A command, whose outputs are set before.
 try() {
-    local call count bad=0
-    env FAIL_TOLD=told LD_PRELOAD=./fail_alloc.so "$ioam" "$@" >said
-    [ "$(cat said)" = done ]
-    count=$(cat told)
+    local call=0 bad=0 name
+    "$ioam" "$@" >/dev/null
     for name in "${outputs[@]}"; do mv "$name" "whole.$name"; done
-    for call in $(seq "$count"); do
+    : >said
+    until [ "$(cat said)" = done ]; do
+        call=$((call + 1))
         passes "$call" '' "$@" || bad=$((bad + 1))
         passes "$call" lasting "$@" || bad=$((bad + 1))
     done
     wrong=$((wrong + bad))
-    printf '%-8s %5d takings of memory, %d answered otherwise\n' "$1" "$count" "$bad"
+    printf '%-8s %5d takings of memory, %d answered otherwise\n' "$1" $((call - 1)) "$bad"
 }
 
 real=examples/linux-ioam.pcap three=examples/three one=examples/one-node

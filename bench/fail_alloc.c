@@ -1,9 +1,6 @@
-// Preloaded: the call of malloc or realloc of the number FAIL_ALLOC, counted from 1, and each one behind it while FAIL_LASTING is
-// set, finds no memory. Where FAIL_TOLD names a file, the number of calls stands there at the end.
-#define _GNU_SOURCE
-#include <dlfcn.h>
+// Preloaded: the call of malloc or realloc of the number FAIL_ALLOC, counted from 1, finds no memory, and where FAIL_LASTING is set
+// each one behind it neither.
 #include <errno.h>
-#include <stdio.h>
 #include <stdlib.h>
 
 extern void *__libc_malloc(size_t size);
@@ -17,17 +14,6 @@ __attribute__((constructor)) static void begin(void) {
     failing = text ? strtoul(text, NULL, 10) : 0;
     lasting = getenv("FAIL_LASTING") != NULL;
     calls = 0;
-}
-
-__attribute__((destructor)) static void end(void) {
-    const char *name = getenv("FAIL_TOLD");
-    unsigned long counted = calls;
-    failing = 0;
-    FILE *told = name ? fopen(name, "w") : NULL;
-    if (told) {
-        fprintf(told, "%lu\n", counted);
-        fclose(told);
-    }
 }
 
 static int fails(void) {

@@ -1,6 +1,6 @@
 ghost use Rattle.std.specs.Prelude.{◌≡◌, ◌<◌, nat_eq, ◌&&◌, length, slice_get, Some, IfSome};
 ghost use Rattle.ioam_topo.specs.Forward.{longer, longest, bits_of, fits, way_to, IsWayTo, IsWayFrom};
-ghost use Rattle.ioam_topo.specs.Index.{lengths_of};
+ghost use Rattle.ioam_topo.specs.Index.{routes_of, lengths_of};
 
 use crate::domain::Domain;
 use crate::ids::{NodeId, Way};
@@ -8,8 +8,8 @@ use crate::masks::{masked, matches};
 use crate::parts::Route;
 use crate::prefix::Prefix;
 
-/// Of so many routes in a domain each is looked at; of more those that have the target's bits are
-/// looked up.
+/// Of so many routes of a node each is looked at; of more those that have the target's bits are looked
+/// up.
 const FEW: usize = 32;
 
 // Whether a route is one of the node, and the target has its prefix.
@@ -59,6 +59,16 @@ impl Domain {
         self.routes.items[at]
     }
 
+    // The routes of a node, in file order.
+    fn routes_at(&self, node: NodeId) -> &[Route]
+        ensures { result.now ≡ routes_of (routes self.now) node.0 }
+    {
+        match self.index.get(node.0 as usize) {
+            Some(at) => at.routes.as_slice(),
+            None => &[],
+        }
+    }
+
     // The lengths of the prefixes of a node's routes, the longest first.
     fn lengths_at(&self, node: NodeId) -> &[u8]
         ensures { result.now ≡ lengths_of (routes self.now) node.0 }
@@ -100,8 +110,9 @@ impl Domain {
     fn route_to(&self, node: NodeId, target: u128) -> Option<Route>
         ensures { result ≡ longest bits_of (fits node.0 target) (routes self.now) }
     {
-        if self.routes.items.len() <= FEW {
-            longest_of(&self.routes.items, node, target)
+        let own = self.routes_at(node);
+        if own.len() <= FEW {
+            longest_of(own, node, target)
         } else {
             self.route_by_length(node, target)
         }
