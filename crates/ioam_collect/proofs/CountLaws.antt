@@ -1,11 +1,11 @@
 -- How many records are kept of a list with more at its end.
-use Rattle.std.proofs.Common.{◌≡◌, ℕ, ◌+◌, ◌<◌, ◌≤◌, Bool, true, false, not, List, [], ◌∷◌, ◌++◌, length, append_assoc, append-nil, refl, sym, ap, ◌∙◌, subst, arith, ◌⊎◌, inl, inr, Option, None, Some}
+use Rattle.std.proofs.Common.{◌≡◌, ◌+◌, ◌<◌, ◌≤◌, Bool, true, false, not, List, [], ◌∷◌, ◌++◌, length, append_assoc, append-nil, refl, sym, ap, ◌∙◌, subst, arith, ◌⊎◌, inl, inr, Option, None, Some}
 use Rattle.std.specs.List.{list_any}
 use Rattle.std.specs.Ordering.{is_eq}
 use Rattle.std.proofs.lemmas.Bool.{cases_Bool, cases_eq}
 use Rattle.ioam_dex.specs.Record.{Record}
 use Rattle.ioam_pool.specs.Entry.{Entry}
-use Rattle.ioam_pool.specs.Order.{IsInOrder, placed}
+use Rattle.ioam_pool.specs.Order.{placed}
 use Rattle.ioam_collect.specs.Keyed.{keyed_of, keyed, with_keyed}
 use Rattle.ioam_collect.specs.Best.{pair_cmp, tells, untold, kept_of, RepeatsIn, ReplacesIn, without_pair}
 use Rattle.ioam_collect.specs.Collected.{Collected, Stands, Answers, AnswersKeyed, count_kept, held_more}
@@ -14,7 +14,7 @@ use Rattle.ioam_collect.specs.declared.growing.Added.TheVariants.{Kept, Replaced
 use Rattle.ioam_collect.specs.declared.key.Key.{Key}
 use Rattle.ioam_collect.proofs.Members.{Has, has_from, contains_from, any_from, any_at, filter_has}
 use Rattle.ioam_collect.proofs.KeyLaws.{pair_total, pair_same, pair_itself, eq_equal}
-use Rattle.ioam_collect.proofs.Sorting.{filter-in_order, placed-length, left_out-length}
+use Rattle.ioam_collect.proofs.Sorting.{placed-length, left_out-length}
 use Rattle.ioam_collect.proofs.BestLaws.{ordered, repeat_is, replaced_is, kept_is}
 use Rattle.ioam_collect.proofs.CollectedLaws.{keyed-push, append-none, full_more, more_full}
 

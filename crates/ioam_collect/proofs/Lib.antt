@@ -4,5 +4,6 @@ pub mod CountLaws
 pub mod FiledLaws
 pub mod KeyLaws
 pub mod Members
+mod SlotLaws
 pub mod Sorting
 mod StoreLaws

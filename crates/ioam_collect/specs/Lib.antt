@@ -5,3 +5,4 @@ pub mod Gathered
 pub mod Inside
 pub mod Keyed
 pub mod Puts
+pub mod Slots

@@ -3,23 +3,24 @@ ghost use Rattle.std.specs.BTreeMap.{get};
 ghost use Rattle.ioam_collect.specs.Keyed.{key_cmp, IsOfRecord};
 ghost use Rattle.ioam_collect.specs.Inside.{IsStore, gathered};
 ghost use Rattle.ioam_collect.specs.Adds.{Adds};
+ghost use Rattle.ioam_collect.specs.Slots.{AreSlotsOf};
 
 use crate::growing::{Added, make_room};
 use crate::key::Key;
+use crate::key_map::KeyMap;
 use ioam_base::memory::NoMemory;
 use ioam_pool::{Chain, Inserted, Item, Pool};
-use std::collections::BTreeMap;
 
 // An empty chain that no key has: the one that is left, or a new one.
 fn spare_chain(
     pool: &mut Pool,
-    chains: &BTreeMap<Key, Chain>,
+    chains: &KeyMap,
     spare: &mut Option<Chain>,
     limit: u32,
 ) -> Result<Chain, NoMemory>
-    requires inside { IsStore pool.old chains.now spare.old limit }
-    ensures inside { IsStore pool.new chains.now spare.new limit }
-    ensures same { gathered pool.new chains.now limit ≡ gathered pool.old chains.now limit }
+    requires inside { IsStore pool.old chains.now.map spare.old limit }
+    ensures inside { IsStore pool.new chains.now.map spare.new limit }
+    ensures same { gathered pool.new chains.now.map limit ≡ gathered pool.old chains.now.map limit }
     ensures spare { IfOk result (λ chain. spare.new ≡ Some chain) }
     ensures capacity { pool.new.capacity ≡ pool.old.capacity }
 {
@@ -36,26 +37,26 @@ fn spare_chain(
 // Adds the first item of a key. All memory is taken before anything changes.
 pub(crate) fn add_first(
     pool: &mut Pool,
-    chains: &mut BTreeMap<Key, Chain>,
+    chains: &mut KeyMap,
     spare: &mut Option<Chain>,
     limit: u32,
     key: Key,
     item: Item,
 ) -> Result<Added, NoMemory>
-    requires inside { IsStore pool.old chains.old spare.old limit }
+    requires inside { IsStore pool.old chains.old.map spare.old limit }
     requires of_record { IsOfRecord item }
-    requires absent { get key_cmp chains.old key ≡ None }
-    ensures inside { IsStore pool.new chains.new spare.new limit }
-    ensures adds { Adds (gathered pool.old chains.old limit) key item result (gathered pool.new chains.new limit) }
+    requires slots { AreSlotsOf chains.old.map chains.old.slots.items }
+    requires absent { get key_cmp chains.old.map key ≡ None }
+    ensures inside { IsStore pool.new chains.new.map spare.new limit }
+    ensures slots { AreSlotsOf chains.new.map chains.new.slots.items }
+    ensures adds { Adds (gathered pool.old chains.old.map limit) key item result (gathered pool.new chains.new.map limit) }
 {
     if pool.held() == limit {
         return Ok(Added::Full);
     }
     make_room(pool, limit)?;
     let chain = spare_chain(pool, chains, spare, limit)?;
-    let Ok(_) = chains.insert(key, chain) else {
-        return Err(NoMemory);
-    };
+    chains.insert(key, chain)?;
     *spare = None;
     match pool.insert(chain, item) {
         Inserted::Kept => Ok(Added::Kept),

@@ -6,7 +6,9 @@ mod collector;
 mod grouping;
 mod growing;
 mod key;
+mod key_map;
 mod keying;
+mod slots;
 mod store;
 
 pub use collector::Collector;

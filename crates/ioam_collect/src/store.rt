@@ -8,10 +8,10 @@ use crate::adding::add_first;
 use crate::grouping::Groups;
 use crate::growing::{Added, put};
 use crate::key::Key;
+use crate::key_map::KeyMap;
 use ioam_base::memory::NoMemory;
 use ioam_pool::{Chain, Item, Parts, Pool};
 use std::alloc::Global;
-use std::collections::BTreeMap;
 use std::marker::Model;
 
 // How many cells a store begins with, where it may have as many.
@@ -21,7 +21,7 @@ const FIRST_CELLS: u32 = 1024;
 #[derive(Drop)]
 pub(crate) struct Store {
     pool: Pool,
-    chains: BTreeMap<Key, Chain>,
+    chains: KeyMap,
     spare: Option<Chain>,
     limit: u32,
 }
@@ -32,10 +32,12 @@ impl Model for Store {
     ghost Value = { Gathered };
 
     ghost use Rattle.ioam_collect.specs.Inside.{IsStore, gathered};
+    ghost use Rattle.ioam_collect.specs.Slots.{AreSlotsOf};
 
-    ghost view = { λ inside. gathered inside.pool inside.chains inside.limit };
+    ghost view = { λ inside. gathered inside.pool inside.chains.map inside.limit };
 
-    ghost invariant = { λ inside. IsStore inside.pool inside.chains inside.spare inside.limit };
+    ghost invariant = { λ inside. IsStore inside.pool inside.chains.map inside.spare inside.limit
+        × AreSlotsOf inside.chains.map inside.chains.slots.items };
 }
 
 impl Store {
@@ -48,7 +50,7 @@ impl Store {
     {
         Ok(Store {
             pool: Pool::new(alloc, limit.min(FIRST_CELLS))?,
-            chains: BTreeMap::new(alloc),
+            chains: KeyMap::new(alloc),
             spare: None,
             limit,
         })
@@ -74,8 +76,7 @@ impl Store {
         requires { IsOfRecord item }
         ensures { Adds self.old key item result self.new }
     {
-        let chain = self.chains.get(&key).copied();
-        match chain {
+        match self.chains.find(key) {
             Some(chain) => put(&mut self.pool, self.limit, chain, item),
             None => add_first(
                 &mut self.pool,
@@ -95,8 +96,7 @@ impl Store {
         if self.pool.held() != self.limit {
             return false;
         }
-        let chain = self.chains.get(&key).copied();
-        match chain {
+        match self.chains.get(key) {
             Some(chain) => self.pool.is_apart(chain, item),
             None => true,
         }

@@ -6,8 +6,8 @@ use Rattle.ioam_collect.proofs.adding.add_first.Goals as goal
 
 pub returns-then-held-limit-clause-adds : goal.returns-then-held-limit-clause-adds
 returns-then-held-limit-clause-adds c = (
-  absent_repeats c.args.pool.now c.args.chains.now c.args.limit c.args.key c.args.item c.requires.absent,
-  absent_replaces c.args.pool.now c.args.chains.now c.args.limit c.args.key c.args.item c.requires.absent,
+  absent_repeats c.args.pool.now c.args.chains.now.map c.args.limit c.args.key c.args.item c.requires.absent,
+  absent_replaces c.args.pool.now c.args.chains.now.map c.args.limit c.args.key c.args.item c.requires.absent,
   sym c.held.ensures.held ∙ c.if-held-limit.true,
   refl,
 )
@@ -19,7 +19,7 @@ returns-clause-inside c =
     let capacity = ap (λ (p : Chains). p.capacity) kept.3 in
     let most = inside.capacity in
     let less = kept.2 in
-    first_inside _ _ _ _ _ _ _ inside c.requires.absent c.in-Ok.ensures.updates.0 _ c.requires.of_record (rw capacity most) (omega arith)
+    first_inside _ _ _ _ _ _ _ inside c.requires.absent c.in_ok-insert.ensures.updates.0 _ c.requires.of_record (rw capacity most) (omega arith)
     (ap (λ (p : Chains). p.chains) kept.3) c.in-Kept.ensures.held
 
 pub returns-clause-adds : goal.returns-clause-adds
@@ -29,12 +29,12 @@ returns-clause-adds c =
     let capacity = ap (λ (p : Chains). p.capacity) kept.3 in
     let most = inside.capacity in
     let less = kept.2 in
-    let was = c.in_ok-chain.ensures.same ∙ same_gathered c.args.pool.now c.make_room.new.pool c.args.chains.now c.args.limit c.in_ok-make_room.ensures.chains in
-    let over = first_over _ c.insert-2.new.self _ c.insert.new.self c.args.limit c.args.key _ inside c.requires.absent c.in-Ok.ensures.updates.0 c.args.item c.requires.of_record (rw capacity most) (omega arith)
-    (ap (λ (p : Chains). p.chains) kept.3) c.in-Kept.ensures.held (gathered c.args.pool.now c.args.chains.now c.args.limit) was in
+    let was = c.in_ok-chain.ensures.same ∙ same_gathered c.args.pool.now c.make_room.new.pool c.args.chains.now.map c.args.limit c.in_ok-make_room.ensures.chains in
+    let over = first_over _ c.insert-2.new.self _ c.insert.new.self.map c.args.limit c.args.key _ inside c.requires.absent c.in_ok-insert.ensures.updates.0 c.args.item c.requires.of_record (rw capacity most) (omega arith)
+    (ap (λ (p : Chains). p.chains) kept.3) c.in-Kept.ensures.held (gathered c.args.pool.now c.args.chains.now.map c.args.limit) was in
     let held = c.requires.inside.held in (
-      absent_repeats c.args.pool.now c.args.chains.now c.args.limit c.args.key c.args.item c.requires.absent,
-      absent_replaces c.args.pool.now c.args.chains.now c.args.limit c.args.key c.args.item c.requires.absent,
+      absent_repeats c.args.pool.now c.args.chains.now.map c.args.limit c.args.key c.args.item c.requires.absent,
+      absent_replaces c.args.pool.now c.args.chains.now.map c.args.limit c.args.key c.args.item c.requires.absent,
       omega (arith, c.held.ensures.held, c.if-held-limit.false),
       over.0,
       over.1,

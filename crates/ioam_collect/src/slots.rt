@@ -1,0 +1,80 @@
+//! Slots in front of a map from keys to chains: a key is looked for in one slot before the map is searched.
+ghost use Rattle.std.specs.Prelude.{◌≡◌, ◌+◌, ◌≤◌, ◌<◌, ℕ, Some, IfSome, length, vec_len, vec_capacity};
+ghost use Rattle.std.specs.BTreeMap.{BTreeMap, get};
+ghost use Rattle.ioam_collect.specs.Keyed.{key_cmp};
+ghost use Rattle.ioam_collect.specs.Slots.{AreSlotsOf, StaySlots};
+ghost use Rattle.ioam_collect.specs.declared.key.Key.{Key};
+
+use crate::key::Key;
+use ioam_pool::Chain;
+
+// How many slots there are from the first key on.
+const FIRST_SLOTS: usize = 1024;
+
+// A key and its chain.
+#[derive(Clone, Copy)]
+pub(crate) struct Slot {
+    pub(crate) key: Key,
+    pub(crate) chain: Chain,
+}
+
+// The place of a key among so many slots. Sequence Numbers that follow one another have places that do.
+fn place_of(key: Key, slots: usize) -> usize
+    requires { 0 < slots }
+    ensures { result < slots }
+{
+    let flow = key.flow.wrapping_mul(0x9e37_79b1);
+    let namespace = u32::from(key.namespace.0).wrapping_mul(0x85eb_ca6b);
+    key.seq.wrapping_add(flow).wrapping_add(namespace) as usize % slots
+}
+
+// The chain of a key, where its slot has it.
+pub(crate) fn chain_in(slots: &[Option<Slot>], key: Key) -> Option<Chain>
+    ensures { IfSome result (λ chain. (map : BTreeMap Key ℕ) → AreSlotsOf map slots.now → get key_cmp map key ≡ Some chain) }
+{
+    if slots.is_empty() {
+        return None;
+    }
+    let slot = slots[place_of(key, slots.len())]?;
+    if slot.key == key {
+        Some(slot.chain)
+    } else {
+        None
+    }
+}
+
+// Puts a key and its chain into the slot of the key.
+pub(crate) fn put_in(slots: &mut Vec<Option<Slot>>, key: Key, chain: Chain)
+    ensures { (map : BTreeMap Key ℕ) → get key_cmp map key ≡ Some chain → AreSlotsOf map slots.old.items → AreSlotsOf map slots.new.items }
+{
+    if slots.is_empty() {
+        return;
+    }
+    let place = place_of(key, slots.len());
+    slots[place] = Some(Slot { key, chain });
+}
+
+// Adds so many slots, which are free.
+fn add_slots(slots: &mut Vec<Option<Slot>>, more: usize)
+    requires { vec_len slots.old + more ≤ vec_capacity slots.old }
+    ensures { StaySlots slots.old.items slots.new.items }
+{
+    'adding: for _ in 0..more {
+        slots.push_reserved(None);
+    }
+}
+
+// Doubles the slots where there are fewer than two for each of so many keys. Without memory they stay as they are.
+pub(crate) fn widen(slots: &mut Vec<Option<Slot>>, keys: usize)
+    ensures { StaySlots slots.old.items slots.new.items }
+{
+    let len = slots.len();
+    if len / 2 >= keys {
+        return;
+    }
+    let more = len.max(FIRST_SLOTS);
+    let Ok(()) = slots.try_reserve_exact(more) else {
+        return;
+    };
+    add_slots(slots, more);
+}
