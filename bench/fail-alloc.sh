@@ -1,7 +1,7 @@
 #!/usr/bin/env bash
 # Runs each command over the shipped examples once for each of its takings of memory, which then fails: by itself, and with all
 # behind it. Each run is to print `no memory`, end with status 11, and leave in each output a front of what it holds when nothing
-# fails; where only the printed line finds no memory it is to end with status 0 and whole outputs. A line for each command with the number of its takings; ends with status 1 where one differs.
+# fails; where only the printed line finds no memory, or the slots in front of a collector's map, it is to end with status 0 and whole outputs. A line for each command with the number of its takings; ends with status 1 where one differs.
 #     bench/fail-alloc.sh
 set -eu
 . "$(dirname "${BASH_SOURCE[0]}")/timing.sh"
