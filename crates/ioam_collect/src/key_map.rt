@@ -38,7 +38,7 @@ impl KeyMap {
         self.map.get(&key).copied()
     }
 
-    // The same. The key has its slot from then on, so that it is found there the next time.
+    // The same. The key stands in a slot from then on, so that it is found there the next time.
     pub(crate) fn find(&mut self, key: Key) -> Option<Chain>
         requires { AreSlotsOf self.old.map self.old.slots.items }
         ensures value { result ≡ get key_cmp self.old.map key }

@@ -1,4 +1,4 @@
-//! Slots in front of a map from keys to chains: a key is looked for in one slot before the map is searched.
+//! Slots in front of a map from keys to chains: a key is looked for in two slots before the map is searched.
 ghost use Rattle.std.specs.Prelude.{◌≡◌, ◌+◌, ◌≤◌, ◌<◌, ℕ, Some, IfSome, length, vec_len, vec_capacity};
 ghost use Rattle.std.specs.BTreeMap.{BTreeMap, get};
 ghost use Rattle.ioam_collect.specs.Keyed.{key_cmp};
@@ -18,24 +18,23 @@ pub(crate) struct Slot {
     pub(crate) chain: Chain,
 }
 
-// The place of a key among so many slots. Sequence Numbers that follow one another have places that do.
+// The first of the two places of a key among so many slots. Sequence Numbers that follow one another have places that do.
 fn place_of(key: Key, slots: usize) -> usize
-    requires { 0 < slots }
-    ensures { result < slots }
+    requires { 2 ≤ slots }
+    ensures { result + 1 < slots }
 {
     let flow = key.flow.wrapping_mul(0x9e37_79b1);
     let namespace = u32::from(key.namespace.0).wrapping_mul(0x85eb_ca6b);
-    key.seq.wrapping_add(flow).wrapping_add(namespace) as usize % slots
+    let mixed = key.seq.wrapping_add(flow).wrapping_add(namespace);
+    mixed as usize % (slots / 2) * 2
 }
 
-// The chain of a key, where its slot has it.
-pub(crate) fn chain_in(slots: &[Option<Slot>], key: Key) -> Option<Chain>
+// The chain of a key, where the slot at this place has it.
+fn chain_at(slots: &[Option<Slot>], place: usize, key: Key) -> Option<Chain>
+    requires { place < length slots.now }
     ensures { IfSome result (λ chain. (map : BTreeMap Key ℕ) → AreSlotsOf map slots.now → get key_cmp map key ≡ Some chain) }
 {
-    if slots.is_empty() {
-        return None;
-    }
-    let slot = slots[place_of(key, slots.len())]?;
+    let slot = slots[place]?;
     if slot.key == key {
         Some(slot.chain)
     } else {
@@ -43,14 +42,29 @@ pub(crate) fn chain_in(slots: &[Option<Slot>], key: Key) -> Option<Chain>
     }
 }
 
-// Puts a key and its chain into the slot of the key.
+// The chain of a key, where one of its slots has it.
+pub(crate) fn chain_in(slots: &[Option<Slot>], key: Key) -> Option<Chain>
+    ensures { IfSome result (λ chain. (map : BTreeMap Key ℕ) → AreSlotsOf map slots.now → get key_cmp map key ≡ Some chain) }
+{
+    if slots.len() < 2 {
+        return None;
+    }
+    let place = place_of(key, slots.len());
+    match chain_at(slots, place, key) {
+        Some(chain) => Some(chain),
+        None => chain_at(slots, place + 1, key),
+    }
+}
+
+// Puts a key and its chain into the first of the slots of the key. What was there goes into the second.
 pub(crate) fn put_in(slots: &mut Vec<Option<Slot>>, key: Key, chain: Chain)
     ensures { (map : BTreeMap Key ℕ) → get key_cmp map key ≡ Some chain → AreSlotsOf map slots.old.items → AreSlotsOf map slots.new.items }
 {
-    if slots.is_empty() {
+    if slots.len() < 2 {
         return;
     }
     let place = place_of(key, slots.len());
+    slots[place + 1] = slots[place];
     slots[place] = Some(Slot { key, chain });
 }
 
