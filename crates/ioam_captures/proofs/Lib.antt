@@ -9,3 +9,4 @@ pub mod StreamsLaws
 pub mod ArrivesLaws
 pub mod StepLaws
 pub mod DueLaws
+pub mod FaultLaws

@@ -6,7 +6,6 @@ use Rattle.ioam_pcap.specs.declared.capture.CapFault.{CapFault}
 use Rattle.ioam_pcap.specs.declared.capture.CapStep.{CapStep}
 use Rattle.ioam_pcap.specs.declared.capture.CapStep.TheVariants as cap
 use Rattle.ioam_pcap.specs.declared.capture.Packet as packet
-use Rattle.ioam_pcap.specs.declared.form.Form.{Form}
 use Rattle.ioam_pcap.specs.declared.form.Link.{Link}
 use Rattle.ioam_pcap.specs.Ending.{Faulty}
 use Rattle.ioam_pcap.specs.Entries.{Entry, Taken}
@@ -22,7 +21,7 @@ use Rattle.ioam_captures.specs.declared.reader.Step.{Step}
 use Rattle.ioam_captures.specs.declared.reader.Step.TheVariants.{Packet, More, Bad, NoMemory}
 use Rattle.ioam_captures.specs.Reading.{Reading, Classic, Ng, pending, fed, HoldsFew}
 use Rattle.ioam_captures.specs.Reads.{of_link, Reads}
-use Rattle.ioam_captures.specs.Reader.{Stands, Waits, KeepsOn, Leaves, taken_of}
+use Rattle.ioam_captures.specs.Reader.{Stands, Waits, HasFault, IsFace, KeepsOn, Leaves, taken_of}
 use Rattle.ioam_captures.proofs.ReadsLaws.{IsNg-behind, not_ng-behind, Reads-unique}
 use Rattle.ioam_captures.proofs.StandsLaws.{Stands-shows}
 
@@ -42,10 +41,10 @@ module _ (old new : Reading) (same : fed new ≡ fed old) (less : length (pendin
         (nothing_more octets taken stood, Stands-shows new octets taken stood waits),
   )
 
-  leaves_bad : KeepsOn old new → (at : ℕ) (f : CapFault) → ((octets : List ℕ) (taken : List Taken) → Stands old octets taken → (more : List ℕ) → Reads (octets ++ more) taken (Faulty at f))
+  leaves_bad : KeepsOn old new → (at : ℕ) (f : CapFault) → HasFault new at f → ((octets : List ℕ) (taken : List Taken) → Stands old octets taken → (more : List ℕ) → Reads (octets ++ more) taken (Faulty at f))
       → Leaves old new (Bad at f)
-  leaves_bad keeps at f faulty = (
-    tt,
+  leaves_bad keeps at f has faulty = (
+    has,
     same,
     less,
     λ octets taken stands.
@@ -55,8 +54,8 @@ module _ (old new : Reading) (same : fed new ≡ fed old) (less : length (pendin
         ),
   )
 
-  leaves_no_memory : KeepsOn old new → Leaves old new NoMemory
-  leaves_no_memory keeps = (tt, same, less, λ octets taken stands. (nothing_more octets taken (keeps octets taken stands), tt))
+  leaves_no_memory : KeepsOn old new → IsFace new → Leaves old new NoMemory
+  leaves_no_memory keeps face = (face, same, less, λ octets taken stands. (nothing_more octets taken (keeps octets taken stands), tt))
 
   -- what stands before the record was passed first
   pub leaves_after : KeepsOn old new → (last : Reading) (step : Step) → Leaves new last step → Leaves old last step
@@ -110,7 +109,9 @@ module _ (old new : classic_reading.Reading) where
   pub classic_bad : (at : ℕ) (f : CapFault) → classic.Moved old new (cap.Bad at f) → Tells (cap.Bad at f) → Leaves (Classic old) (Classic new) (Bad at f)
   classic_bad at f moved tells =
       let same : Classic new ≡ Classic old = ap Classic moved.0 in
-      leaves_bad (Classic old) (Classic new) (ap fed same) (omega (arith, ap (λ r. length (pending r)) same)) (classic_kept moved.0) at f faulty
+      let Q : Reading → Type 0 = λ r. HasFault r at f in
+      leaves_bad (Classic old) (Classic new) (ap fed same) (omega (arith, ap (λ r. length (pending r)) same)) (classic_kept moved.0) at f
+      (subst Q (sym same) (moved.1, moved.2)) faulty
     where
       faulty : (octets : List ℕ) (taken : List Taken) → Stands (Classic old) octets taken → (more : List ℕ) → Reads (octets ++ more) taken (Faulty at f)
       faulty octets taken stands more =
@@ -171,12 +172,12 @@ module _ (old new : ng_reading.Reading) (same : ng_reading.fed new ≡ ng_readin
   pub ng_more : ng.Rested new ng_step.More → NgTells ng_step.More → Leaves (Ng old) (Ng new) More
   ng_more rested tells = leaves_more (Ng old) (Ng new) same less (ng_keeps ng_step.More refl tells) rested.0 rested.1
 
-  pub ng_bad : (at : ℕ) (f : CapFault) → NgTells (ng_step.Bad at f) → Leaves (Ng old) (Ng new) (Bad at f)
-  ng_bad at f tells = leaves_bad (Ng old) (Ng new) same less (ng_keeps (ng_step.Bad at f) refl tells) at f
+  pub ng_bad : (at : ℕ) (f : CapFault) → ng.Rested new (ng_step.Bad at f) → NgTells (ng_step.Bad at f) → Leaves (Ng old) (Ng new) (Bad at f)
+  ng_bad at f rested tells = leaves_bad (Ng old) (Ng new) same less (ng_keeps (ng_step.Bad at f) refl tells) at f rested
       (λ octets taken stands more. inl (IsNg-behind octets more stands.0, (tells octets taken stands.1).1.1.0 more))
 
-  pub ng_no_memory : NgTells ng_step.NoMemory → Leaves (Ng old) (Ng new) NoMemory
-  ng_no_memory tells = leaves_no_memory (Ng old) (Ng new) same less (ng_keeps ng_step.NoMemory refl tells)
+  pub ng_no_memory : ng.Rested new ng_step.NoMemory → NgTells ng_step.NoMemory → Leaves (Ng old) (Ng new) NoMemory
+  ng_no_memory rested tells = leaves_no_memory (Ng old) (Ng new) same less (ng_keeps ng_step.NoMemory refl tells) rested
 
 -- what a step of the form's reader leaves, by what its clause says
 abbrev pub NgLeaves : ng_reading.Reading → ng_reading.Reading → NgStep → Type 0
@@ -192,5 +193,5 @@ NgGives old new ng_step.NoMemory = Leaves (Ng old) (Ng new) NoMemory
 pub ng_gives : (old new : ng_reading.Reading) (step : NgStep) → NgLeaves old new step → NgGives old new step
 ng_gives old new (ng_step.Packet link p) leaves = ng_packet old new leaves.1 leaves.2 link p leaves.0 leaves.3
 ng_gives old new ng_step.More leaves = ng_more old new leaves.1 leaves.2 leaves.0 leaves.3
-ng_gives old new (ng_step.Bad at f) leaves = ng_bad old new leaves.1 leaves.2 at f leaves.3
-ng_gives old new ng_step.NoMemory leaves = ng_no_memory old new leaves.1 leaves.2 leaves.3
+ng_gives old new (ng_step.Bad at f) leaves = ng_bad old new leaves.1 leaves.2 at f leaves.0 leaves.3
+ng_gives old new ng_step.NoMemory leaves = ng_no_memory old new leaves.1 leaves.2 leaves.0 leaves.3

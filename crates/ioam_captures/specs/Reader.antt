@@ -8,6 +8,7 @@ use Rattle.ioam_pcap.specs.Entries.{Entry, Taken}
 use Rattle.ioam_pcap.specs.contracts.reader.CaptureReader as classic_row
 use Rattle.ioam_pcap.specs.Reading as classic_reading
 use Rattle.ioam_pcap.specs.Reader as classic
+use Rattle.ioam_pcap.specs.declared.capture.CapFault.{CapFault}
 use Rattle.ioam_pcap.specs.declared.capture.Packet as packet
 use Rattle.ioam_pcap.specs.declared.form.Link.{Link}
 use Rattle.ioam_ng.specs.contracts.reader.NgReader as ng_row
@@ -35,6 +36,22 @@ Waits (Front held) = length held < 4
 Waits (Classic reader) = classic.Waits reader
 Waits (Ng reader) = ng.Waits reader
 
+-- what is due has this fault, and stands at this place
+abbrev pub HasFault : Reading → ℕ → CapFault → Type 0
+HasFault (Front held) at fault = ⊥
+HasFault (Classic reader) at fault = (at ≡ reader.start) × classic.HasFault reader fault
+HasFault (Ng reader) at fault = (at ≡ reader.start) × ng.IsFaulty reader fault
+
+-- a fault of what is due stays, and stays where it is
+abbrev pub KeepsFault : Reading → Reading → Type 0
+KeepsFault old new = (at : ℕ) (fault : CapFault) → HasFault old at fault → HasFault new at fault
+
+-- what is due is an interface block, of a capture in the form pcapng
+abbrev pub IsFace : Reading → Type 0
+IsFace (Front held) = ⊥
+IsFace (Classic reader) = ⊥
+IsFace (Ng reader) = ng.IsFace reader
+
 -- what a record that is given says
 abbrev pub taken_of : Link → packet.Packet → Taken
 taken_of link p = record { link = link; entry = record { time = p.time; original = p.original; octets = p.octets.now } }
@@ -46,12 +63,14 @@ given_by More = []
 given_by (Bad at fault) = []
 given_by NoMemory = []
 
--- A record has a time below 2^62 and no more than 262,144 octets; behind `More` what is due waits.
+-- A record has a time below 2^62 and no more than 262,144 octets; behind `More` what is due waits;
+-- behind `Bad` it has this fault at this place; behind `NoMemory` it is an interface block that could
+-- not be kept.
 abbrev pub Rested : Reading → Step → Type 0
 Rested new (Packet link p) = (p.time < 2 ^ 62) × (length p.octets.now ≤ 262144)
 Rested new More = Waits new × HoldsFew new
-Rested new (Bad at fault) = ⊤
-Rested new NoMemory = ⊤
+Rested new (Bad at fault) = HasFault new at fault
+Rested new NoMemory = IsFace new
 
 -- What a step says of the octets fed so far, behind these records: that they show no more and how the
 -- capture ends isn't known yet; or that it ends by this fault, whatever is fed, and reads in no other way.
@@ -69,6 +88,10 @@ Told octets taken new step = Stands new octets (taken ++ given_by step) × Says 
 abbrev pub Leaves : Reading → Reading → Step → Type 0
 Leaves old new step = Rested new step × (fed new ≡ fed old) × (length (pending new) ≤ length (pending old))
     × ((octets : List ℕ) (taken : List Taken) → Stands old octets taken → Told octets taken new step)
+
+-- where what is due has a fault a step says this fault
+abbrev pub SaysFault : Reading → Step → Type 0
+SaysFault reader step = (at : ℕ) (fault : CapFault) → HasFault reader at fault → step ≡ Bad at fault
 
 -- so the reader is once the step's octets are no longer lent
 abbrev pub RestsSo : MutBor Reading → Step → Fml

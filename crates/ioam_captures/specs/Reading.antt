@@ -1,5 +1,5 @@
 -- A reader of a capture of either form, as its callers see it.
-use Rattle.std.specs.Prelude.{ℕ, ◌+◌, ◌<◌, List, [], length}
+use Rattle.std.specs.Prelude.{⊤, ℕ, ◌+◌, ◌<◌, List, [], length}
 use Rattle.ioam_pcap.specs.Reading as classic
 use Rattle.ioam_ng.specs.Reading as ng
 
@@ -8,6 +8,12 @@ pub data Reading : Type 0 where
   Front : List ℕ → Reading
   Classic : classic.Reading → Reading
   Ng : ng.Reading → Reading
+
+-- the form is known, and is pcapng
+abbrev pub HasBlocks : Reading → Type 0
+HasBlocks (Front held) = ⊥
+HasBlocks (Classic reader) = ⊥
+HasBlocks (Ng reader) = ⊤
 
 -- the octets that were fed and not yet taken
 abbrev pub pending : Reading → List ℕ

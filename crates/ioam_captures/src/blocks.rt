@@ -5,7 +5,7 @@ ghost use Rattle.std.specs.Borrow.{sem};
 ghost use Rattle.ioam_ng.specs.Reader.{Waits, HoldsFew};
 ghost use Rattle.ioam_ng.specs.Reading.{fed};
 ghost use Rattle.ioam_captures.specs.Reading.{Ng};
-ghost use Rattle.ioam_captures.specs.Reader.{IsDue, KeepsOn, RestsNg};
+ghost use Rattle.ioam_captures.specs.Reader.{IsDue, KeepsFault, KeepsOn, RestsNg, SaysFault};
 
 use crate::reader::Step;
 use crate::turns::Due;
@@ -14,7 +14,8 @@ use ioam_ng::{NgLook, NgReader, NgStep};
 
 /// The next packet of a capture.
 pub(crate) fn next_packet(reader: &mut NgReader) -> Step<'_>
-    ensures* { sem 𝓛 (RestsNg reader.entry result) }
+    ensures* rests { sem 𝓛 (RestsNg reader.entry result) }
+    ensures faulty { SaysFault (Ng reader.old) result }
 {
     match reader.next() {
         NgStep::Packet { link, packet } => Step::Packet { link, packet },
@@ -42,6 +43,7 @@ fn waiting(reader: &NgReader, ended: bool) -> Due
 pub(crate) fn due_packet(reader: &mut NgReader, ended: bool) -> Result<Due, NoMemory>
     ensures due { IfOk result (IsDue (Ng reader.old) ended) }
     ensures stands { KeepsOn (Ng reader.old) (Ng reader.new) }
+    ensures faulty { KeepsFault (Ng reader.old) (Ng reader.new) }
     ensures few { IfOk result (λ due. due ≡ Due.More → HoldsFew reader.new) }
     ensures fed { fed reader.new ≡ fed reader.old }
     ensures kept { length reader.new.pending ≤ length reader.old.pending }

@@ -3,7 +3,7 @@ ghost use Rattle.std.specs.Prelude.{◌≡◌, ◌≤◌, None, Some, length};
 ghost use Rattle.std.specs.Borrow.{sem};
 ghost use Rattle.ioam_pcap.specs.Reader.{Waits, HoldsFew, fed, link_of};
 ghost use Rattle.ioam_captures.specs.Reading.{Classic};
-ghost use Rattle.ioam_captures.specs.Reader.{IsDue, KeepsOn, RestsClassic};
+ghost use Rattle.ioam_captures.specs.Reader.{IsDue, KeepsFault, KeepsOn, RestsClassic, SaysFault};
 
 use crate::reader::Step;
 use crate::turns::Due;
@@ -12,20 +12,24 @@ use ioam_pcap::{CapLook, CapStep, CaptureReader, Link};
 // The next record of a capture whose head was read.
 fn next_record(reader: &mut CaptureReader, link: Link) -> Step<'_>
     requires { link_of reader.old ≡ Some link }
-    ensures* { sem 𝓛 (RestsClassic reader.entry result) }
+    ensures* rests { sem 𝓛 (RestsClassic reader.entry result) }
+    ensures memory { result ≡ Step.NoMemory → ⊥ }
+    ensures faulty { SaysFault (Classic reader.old) result }
 {
     match reader.next() {
         CapStep::Packet(packet) => Step::Packet { link, packet },
         CapStep::More => Step::More,
         CapStep::Bad { at, fault } => Step::Bad { at, fault },
         // A head isn't read twice.
-        CapStep::Head { .. } => Step::NoMemory,
+        CapStep::Head { .. } => unreachable!(),
     }
 }
 
 /// The next record of a capture.
 pub(crate) fn next_classic(reader: &mut CaptureReader) -> Step<'_>
-    ensures* { sem 𝓛 (RestsClassic reader.entry result) }
+    ensures* rests { sem 𝓛 (RestsClassic reader.entry result) }
+    ensures memory { result ≡ Step.NoMemory → ⊥ }
+    ensures faulty { SaysFault (Classic reader.old) result }
 {
     if let Some(link) = reader.link() {
         return next_record(reader, link);
@@ -35,7 +39,7 @@ pub(crate) fn next_classic(reader: &mut CaptureReader) -> Step<'_>
         CapStep::More => Step::More,
         CapStep::Bad { at, fault } => Step::Bad { at, fault },
         // No record is read before the head.
-        CapStep::Packet(_) => Step::NoMemory,
+        CapStep::Packet(_) => unreachable!(),
     }
 }
 
@@ -73,6 +77,7 @@ fn due_record(reader: &CaptureReader, ended: bool) -> Due
 pub(crate) fn due_classic(reader: &mut CaptureReader, ended: bool) -> Due
     ensures due { IsDue (Classic reader.old) ended result }
     ensures stands { KeepsOn (Classic reader.old) (Classic reader.new) }
+    ensures faulty { KeepsFault (Classic reader.old) (Classic reader.new) }
     ensures few { result ≡ Due.More → HoldsFew reader.new }
     ensures fed { fed reader.new ≡ fed reader.old }
     ensures kept { length reader.new.pending ≤ length reader.old.pending }

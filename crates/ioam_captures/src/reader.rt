@@ -22,7 +22,8 @@ pub enum Step<'a> {
     More,
     /// At this place, in octets from the capture's first, it is faulty.
     Bad { at: u64, fault: CapFault },
-    /// What stands before the next record can't be kept for want of memory; nothing of it is lost.
+    /// An interface block of a pcapng capture can't be kept for want of memory; nothing of it is
+    /// lost.
     NoMemory,
 }
 
@@ -51,8 +52,8 @@ impl Reader {
     ghost use Rattle.ioam_pcap.specs.Ending.{ending_of};
     ghost use Rattle.ioam_pcap.specs.Entries.{Taken};
     ghost use Rattle.ioam_captures.specs.Reads.{Reads, ReadsOnly};
-    ghost use Rattle.ioam_captures.specs.Reading.{HoldsFew, fed, fresh, most_held, pending};
-    ghost use Rattle.ioam_captures.specs.Reader.{IsDue, IsFed, KeepsOn, RestsSo, Stands, Waits};
+    ghost use Rattle.ioam_captures.specs.Reading.{HasBlocks, HoldsFew, fed, fresh, most_held, pending};
+    ghost use Rattle.ioam_captures.specs.Reader.{IsDue, IsFed, KeepsFault, KeepsOn, RestsSo, SaysFault, Stands, Waits};
 
     /// A reader that was fed nothing.
     pub fn new(alloc: Global) -> Result<Reader, NoMemory>
@@ -83,6 +84,8 @@ impl Reader {
         ensures few { OnOk result (HoldsFew self.old → length (pending self.new) < most_held self.new + length piece.now) }
         ensures stands { OnOk result ((octets : List ℕ) (taken : List Taken) → Stands self.old octets taken
             → Stands self.new (octets ++ piece.now) taken) }
+        // A fault of what is due stays, whatever is fed.
+        ensures faulty { OnOk result (KeepsFault self.old self.new) }
         ensures err { OnErr result (self.new ≡ self.old) }
     {
         match &mut self.form {
@@ -101,9 +104,12 @@ impl Reader {
     }
 
     /// The next record of the capture; what stands before it (a head, blocks without a packet) is
-    /// passed. After `Bad` every call answers the same.
+    /// passed. After `Bad` every call answers the same, also where more is fed in between.
     pub fn next(&mut self) -> Step<'_>
-        ensures* { sem 𝓛 (RestsSo self.entry result) }
+        ensures* rests { sem 𝓛 (RestsSo self.entry result) }
+        // A capture of the classic form wants no memory.
+        ensures memory { result ≡ Step.NoMemory → HasBlocks self.old }
+        ensures faulty { SaysFault self.old result }
     {
         match &mut self.form {
             Form::Front { .. } => Step::More,
@@ -118,6 +124,7 @@ impl Reader {
     pub fn due(&mut self, ended: bool) -> Result<Due, NoMemory>
         ensures due { IfOk result (IsDue self.old ended) }
         ensures stands { KeepsOn self.old self.new }
+        ensures faulty { KeepsFault self.old self.new }
         ensures few { IfOk result (λ due. due ≡ Due.More → HoldsFew self.new) }
         ensures fed { fed self.new ≡ fed self.old }
         ensures kept { length (pending self.new) ≤ length (pending self.old) }

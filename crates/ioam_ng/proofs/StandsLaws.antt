@@ -107,7 +107,7 @@ module _ (old mid : Reading) (skips : Skips old mid) where
       λ i. record { known = (sym here i).known; start = starts i; pending = (sym here i).octets }
 
   -- where what is due has a fault no block is passed
-  skips_fault : (f : CapFault) → IsFaulty old f → mid ≡ old
+  pub skips_fault : (f : CapFault) → IsFaulty old f → mid ≡ old
   skips_fault f bad = by skips.blocks skips.leads
     where
       by : (blocks : List (Option Taken)) → Blocks (place_of old) blocks (place_of mid) → mid ≡ old

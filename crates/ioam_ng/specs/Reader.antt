@@ -48,6 +48,10 @@ IsFaulty reader fault = HasFault (place_of reader) fault
 abbrev pub KeepsFault : Reading → Reading → Type 0
 KeepsFault old new = (fault : CapFault) → IsFaulty old fault → IsFaulty new fault
 
+-- where what is due has a fault nothing changes
+abbrev pub StaysFaulty : Reading → Reading → Type 0
+StaysFaulty old new = (fault : CapFault) → IsFaulty old fault → new ≡ old
+
 -- what is known behind a block of this content
 abbrev pub faces_with : List Face → Content → List Face
 faces_with faces content.Section = []

@@ -83,7 +83,7 @@ impl NgReader {
     ghost use Rattle.ioam_ng.specs.BlockSteps.{TellsBlock};
     ghost use Rattle.ioam_ng.specs.Reading.{fresh, fed};
     ghost use Rattle.ioam_ng.specs.Reads.{Reads, ReadsOnly};
-    ghost use Rattle.ioam_ng.specs.Reader.{Stands, Waits, KeepsFault, Skips, IsDue, IsFace, HoldsFace, Shows, Steps, RestsSo, moved_by};
+    ghost use Rattle.ioam_ng.specs.Reader.{Stands, Waits, KeepsFault, StaysFaulty, Skips, IsDue, IsFace, HoldsFace, Shows, Steps, RestsSo, moved_by};
 
     /// A reader that was fed nothing.
     pub fn new(alloc: Global) -> Result<NgReader, NoMemory>
@@ -195,6 +195,8 @@ impl NgReader {
             → Stands self.new octets taken }
         ensures fed { fed self.new ≡ fed self.old }
         ensures kept { length self.new.pending ≤ length self.old.pending }
+        // Nothing is passed where what is due has a fault.
+        ensures faulty { StaysFaulty self.old self.new }
         ensures shows { IfOk result (λ look. Shows self.new look) }
         ensures err { OnErr result (IsFace self.new) }
     {

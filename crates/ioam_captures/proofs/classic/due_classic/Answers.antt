@@ -1,8 +1,10 @@
-use Rattle.std.proofs.Common.{sym, subst}
+use Rattle.std.proofs.Common.{sym, ap, subst}
+use Rattle.ioam_pcap.specs.declared.capture.CapStep.TheVariants.{Head}
 use Rattle.ioam_pcap.specs.Reading.{Reading}
 use Rattle.ioam_captures.specs.Reading.{Classic}
 use Rattle.ioam_captures.specs.Reader.{Stands}
 use Rattle.ioam_captures.proofs.DueLaws.{classic-bad}
+use Rattle.ioam_captures.proofs.FaultLaws.{classic_says, keeps_fault}
 use Rattle.ioam_captures.proofs.StepLaws.{classic_head}
 use Rattle.ioam_captures.proofs.classic.due_classic.Goals as goal
 
@@ -22,3 +24,18 @@ pub returns-in-Bad-clause-due : goal.returns-in-Bad-clause-due
 returns-in-Bad-clause-due c octets taken stream stands shows =
     let told = rw c.in-Bad.is at c.next.follows.holds-at-none in
     classic-bad c.args.reader.now c.args.ended c.in-Bad.at c.in-Bad.fault told.0.1 (λ o e s. (told.1 o e s).0) octets taken stream stands shows
+
+pub returns-in-Head-clause-faulty : goal.returns-in-Head-clause-faulty
+returns-in-Head-clause-faulty c at f has =
+    let told = rw c.in-Head.is at c.next.follows.holds-at-none in
+    absurd (classic_says c.args.reader.now (Head c.in-Head.link) told.2 at f has)
+
+pub returns-in-More-clause-faulty : goal.returns-in-More-clause-faulty
+returns-in-More-clause-faulty c =
+    let told = rw c.in-More.is at c.next.follows.holds-at-none in
+    keeps_fault (Classic c.args.reader.now) _ (ap Classic told.0.0)
+
+pub returns-in-Bad-clause-faulty : goal.returns-in-Bad-clause-faulty
+returns-in-Bad-clause-faulty c =
+    let told = rw c.in-Bad.is at c.next.follows.holds-at-none in
+    keeps_fault (Classic c.args.reader.now) _ (ap Classic told.0.0)
