@@ -2,6 +2,7 @@ pub mod ElementsLaws
 pub mod FlowsLaws
 pub mod HopTracesLaws
 pub mod FilledLaws
+mod FittingLaws
 mod LineLaws
 pub mod LinesLaws
 pub mod ListedLaws

@@ -2,6 +2,7 @@
 ghost use Rattle.std.specs.Prelude.{◌≡◌, ◌++◌, ◌+◌, ◌*◌, ◌/◌, ◌≤◌, ◌⊎◌, [], IfSome, IsTrue, length, drop, is_ok, if◌then◌else◌, decimal, codes};
 ghost use Rattle.ioam_data.specs.Elements.{IsElement};
 ghost use Rattle.ioam_data.specs.Fields.{held, fields_of};
+ghost use Rattle.ioam_data.specs.Kind.{words};
 ghost use Rattle.ioam_data.specs.View.{snapshot_data};
 ghost use Rattle.ioam_report.specs.Digits.{digits_of};
 ghost use Rattle.ioam_report.specs.FieldsText.{element_text, known_narrow, opaque_digits};
@@ -39,9 +40,9 @@ fn put_bits(fields: &Fields<'_>, line: &mut Line)
 // Puts a snapshot in front of a line.
 fn put_snapshot(field: Option<(u32, &[u8])>, line: &mut Line)
     requires short { IfSome field (λ given. length given.1.now ≤ 240) }
-    requires room { 517 + length line.old ≤ 1024 }
+    requires room { 503 + length line.old ≤ 1024 }
     ensures value { line.new ≡ snapshot_text (snapshot_data field.entry) ++ line.old }
-    ensures size { length line.new ≤ 517 + length line.old }
+    ensures size { length line.new ≤ 503 + length line.old }
 {
     match field {
         None => {}
@@ -71,9 +72,9 @@ fn is_short(fields: &Fields<'_>) -> bool
 fn put_spaced(fields: &Fields<'_>, line: &mut Line)
     requires fill { length fields.now.fill.now ≡ 0 }
     requires snapshot { IfSome fields.now.snapshot (λ given. length given.1.now ≤ 240) }
-    requires room { 965 + length line.old ≤ 1024 }
+    requires room { 951 + length line.old ≤ 1024 }
     ensures value { line.new ≡ spaced_fields (held fields.now) ++ line.old }
-    ensures size { length line.new ≤ 965 + length line.old }
+    ensures size { length line.new ≤ 951 + length line.old }
 {
     put_snapshot(fields.snapshot, line);
     put_bits(fields, line);
@@ -83,9 +84,9 @@ fn put_spaced(fields: &Fields<'_>, line: &mut Line)
 fn put_words(fields: &Fields<'_>, line: &mut Line)
     requires fill { length fields.now.fill.now ≡ 0 }
     requires snapshot { IfSome fields.now.snapshot (λ given. length given.1.now ≤ 240) }
-    requires room { 965 + length line.old ≤ 1024 }
+    requires room { 951 + length line.old ≤ 1024 }
     ensures value { line.new ≡ drop 1 (spaced_fields (held fields.now)) ++ line.old }
-    ensures size { length line.new ≤ 965 + length line.old }
+    ensures size { length line.new ≤ 951 + length line.old }
 {
     let before = line.octets().len();
     put_spaced(fields, line);
@@ -206,6 +207,22 @@ pub fn put_fields(
         return Ok(());
     }
     put_joined(&fields(kind, node_len, element), out)
+}
+
+/// Puts the text of an element in front of a line, as [`put_fields`] appends it. The element has no words but
+/// those of the fields of its type and a snapshot, 244 octets in all at most, as that of an export record has
+/// (RFC 9326 section 3.2), or it is empty, which gives an empty text.
+pub fn put_element(kind: TraceType, element: &[u8], line: &mut Line)
+    requires element { (element.now ≡ []) ⊎ IsElement kind (words kind) element.now }
+    requires short { length element.now ≤ 244 }
+    requires room { 951 + length line.old ≤ 1024 }
+    ensures value { line.new ≡ element_text kind (words kind) element.now ++ line.old }
+    ensures size { length line.new ≤ 951 + length line.old }
+{
+    if element.is_empty() {
+        return;
+    }
+    put_words(&fields(kind, kind.words(), element), line);
 }
 
 // Puts the line of an element together.

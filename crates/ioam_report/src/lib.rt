@@ -20,9 +20,10 @@ mod traces;
 mod values;
 
 pub use arrivals::put_arrival;
-pub use elements::put_fields;
+pub use elements::{put_element, put_fields};
 pub use flows::{FlowSum, FlowSums};
 pub use hop_traces::put_hop_traces;
+pub use line::Line;
 pub use lines::{put_element_line, put_element_lines, put_trace_lines};
 pub use piece::Piece;
 pub use put::put_pieces;

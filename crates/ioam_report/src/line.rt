@@ -1,8 +1,10 @@
 //! Lines that are put together from their end.
 ghost use Rattle.std.specs.Prelude.{◌≡◌, ◌+◌, ◌*◌, ◌≤◌, ◌++◌, [], drop, length, decimal};
+ghost use Rattle.std.specs.Int.{w32, to_be_bytes};
 ghost use Rattle.ioam_report.specs.Digits.{pair_of, digits_of};
 
 use crate::digits::digit;
+use crate::put::four_octets;
 use ioam_base::octets::put_at;
 use itoa::write_digits;
 use std::marker::Model;
@@ -10,7 +12,7 @@ use std::marker::Model;
 /// Room for the octets of a line, 1,024 at most, in front of which more is put: so digits are written
 /// where they stay. Contracts see the octets that it holds.
 #[derive(Drop)]
-pub(crate) struct Line {
+pub struct Line {
     octets: [u8; 1024],
     start: usize,
 }
@@ -60,7 +62,7 @@ impl Line {
         }
     }
 
-    /// Puts octets in front.
+    /// Puts octets in front. They and those that it holds are 1,024 at most.
     pub fn put(&mut self, part: &[u8])
         requires { length part.now + length self.old ≤ 1024 }
         ensures value { self.new ≡ part.now ++ self.old }
@@ -71,7 +73,7 @@ impl Line {
         self.start = start;
     }
 
-    /// Puts a number in decimal digits in front.
+    /// Puts a number in decimal digits in front, 20 at most, without a leading zero save `0` itself.
     pub fn number(&mut self, number: u64)
         requires { 20 + length self.old ≤ 1024 }
         ensures value { self.new ≡ decimal number ++ self.old }
@@ -86,7 +88,10 @@ impl Line {
         ensures value { self.new ≡ pair_of octet ++ self.old }
         ensures size { length self.new ≡ 2 + length self.old }
     {
-        self.put(&[digit(octet / 16), digit(octet % 16)]);
+        let start = self.start - 2;
+        self.octets[start + 1] = digit(octet % 16);
+        self.octets[start] = digit(octet / 16);
+        self.start = start;
     }
 
     /// Puts two hexadecimal digits for each octet in front.
@@ -100,5 +105,13 @@ impl Line {
             left -= 1;
             self.pair(octets[left]);
         }
+    }
+    /// Puts the lower 24 bits of a number in 6 hexadecimal digits in front.
+    pub fn narrow(&mut self, number: u32)
+        requires { 6 + length self.old ≤ 1024 }
+        ensures value { self.new ≡ digits_of (drop 1 (to_be_bytes w32 number)) ++ self.old }
+        ensures size { length self.new ≡ 6 + length self.old }
+    {
+        self.digits(&four_octets(number)[1..]);
     }
 }

@@ -8,7 +8,7 @@ ghost use Rattle.ioam_report.specs.TraceText.{element_line, first_line, whole_li
 use crate::elements::put_fields_line;
 use crate::line::Line;
 use crate::piece::Piece;
-use crate::put::{four_octets, put_pieces};
+use crate::put::put_pieces;
 use crate::settling::settle;
 use ioam_base::memory::NoMemory;
 use ioam_base::text::append;
@@ -65,7 +65,7 @@ fn put_first_line(head: &TraceHead, count: u64, line: &mut Line)
     line.put(b"\n");
     line.number(count);
     line.put(label);
-    line.digits(&four_octets(head.kind.bits())[1..]);
+    line.narrow(head.kind.bits());
     line.put(b" ");
     line.number(u64::from(head.namespace.0));
     line.put(b"  trace ");

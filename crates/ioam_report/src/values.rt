@@ -193,22 +193,22 @@ impl Line {
 
     // A number of 24 bits in hexadecimal digits, or `-` where it is all ones.
     fn known_narrow(&mut self, value: u32)
-        requires { 20 + length self.old ≤ 1024 }
+        requires { 6 + length self.old ≤ 1024 }
         ensures value { self.new ≡ known_narrow value ++ self.old }
-        ensures size { length self.new ≤ 20 + length self.old }
+        ensures size { length self.new ≤ 6 + length self.old }
     {
         if value == 0xFF_FFFF {
             self.put(b"-");
         } else {
-            self.digits(&four_octets(value)[1..]);
+            self.narrow(value);
         }
     }
 
     // The schema of a snapshot.
     pub(crate) fn schema(&mut self, value: u32)
-        requires { 28 + length self.old ≤ 1024 }
+        requires { 14 + length self.old ≤ 1024 }
         ensures value { self.new ≡ (codes " schema=" ++ known_narrow value) ++ self.old }
-        ensures size { length self.new ≤ 28 + length self.old }
+        ensures size { length self.new ≤ 14 + length self.old }
     {
         self.known_narrow(value);
         self.put(b" schema=");
