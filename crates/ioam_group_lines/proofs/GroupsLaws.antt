@@ -1,13 +1,11 @@
 -- Laws of the lines of groups.
-use Rattle.std.proofs.Common.{Bool, if◌then◌else◌, ◌≡◌, ℕ, ◌<◌, ◌≤◌, List, [], ◌∷◌, ◌++◌, length, drop, ap, ap₂, ◌∙◌, arith, inl, inr, ◌⊎◌, Option, None, Some}
+use Rattle.std.proofs.Common.{◌≡◌, ℕ, ◌-◌, ◌<◌, ◌≤◌, List, [], ◌∷◌, ◌++◌, length, length-take, take, drop, sym, ap, ap₂, ◌∙◌, arith, inl, inr, ◌⊎◌, Option, None, Some}
 use Rattle.std.specs.List.{flat_map}
 use Rattle.std.proofs.lemmas.Bool.Decides.{nat_tests}
-use Rattle.std.proofs.lemmas.List.{append-nil, drop_all}
-use Rattle.ioam_base.specs.Octets.{IsOctets}
 use Rattle.ioam_data.specs.Elements.{IsElement, IsFilled}
 use Rattle.ioam_data.specs.Kind.{words}
-use Rattle.ioam_dex.specs.Record.{Record, Rec, record_at, record_octets, length_of}
-use Rattle.ioam_dex.proofs.RecordLaws.{Rec-whole, Rec-unique, octets-record_at, IsRecord-record_at}
+use Rattle.ioam_dex.specs.Record.{Record, Rec, element_of, front_of, kind_of, length_of}
+use Rattle.ioam_dex.proofs.RecordLaws.{Rec-whole}
 use Rattle.ioam_pool.specs.Entry.{Entry}
 use Rattle.ioam_collect.specs.Keyed.{keyed, keyed_of}
 use Rattle.ioam_collect.specs.Best.{kept_of, groups_of}
@@ -15,15 +13,28 @@ use Rattle.ioam_collect.specs.Collected.{Collected, Stands, capped, one_where_no
 use Rattle.ioam_collect.specs.declared.key.Key.{Key}
 use Rattle.ioam_group_lines.specs.GroupsText.{record_line, group_text, counts_line, collected_text, records_text}
 
--- a record by its places
-pub by_places : (octets : List ℕ) → IsOctets octets → (x : Record) → Rec octets x → x ≡ record_at octets
-by_places octets small x rec =
+-- the octets of a record by its places: nothing stands behind its element
+pub record AtPlaces (octets : List ℕ) : Type 0 where
+  pub front : front_of octets ≤ length octets
+  pub size : length octets ≡ length_of octets
+  pub filled : IsFilled (kind_of octets) (element_of octets)
+  pub short : length (element_of octets) ≤ 244
+
+pub at_places : (octets : List ℕ) (x : Record) → Rec octets x → AtPlaces octets
+at_places octets x rec =
     let whole = Rec-whole octets x rec in
-    let all : drop (length_of octets) octets ≡ [] = drop_all (length_of octets) octets (omega (arith, whole.1)) in
-    Rec-unique octets x (record_at octets) rec (record {
-      sayable = IsRecord-record_at octets small whole.0.sized whole.0.there whole.0.filled;
-      is = octets-record_at octets small whole.0.sized whole.0.there ∙ ap (λ r. record_octets (record_at octets) ++ r) all ∙ append-nil (record_octets (record_at octets));
-    })
+    let behind = drop (front_of octets) octets in
+    record {
+      front = omega (arith, whole.0.sized.least, whole.1);
+      size = sym whole.1;
+      filled = whole.0.filled;
+      short = omega (arith, length-take (length_of octets - front_of octets) behind, whole.0.sized.most);
+    }
+
+-- its element by its places
+pub element_at : (octets : List ℕ) (front : ℕ) → front ≡ front_of octets → length octets ≡ length_of octets
+    → take (length octets - front) (drop front octets) ≡ element_of octets
+element_at octets front is size = ap₂ (λ (n : ℕ) (m : ℕ). take (n - m) (drop m octets)) size is
 
 pub filled_or_empty : (kind : ℕ) (element : List ℕ) → IsFilled kind element → (element ≡ []) ⊎ IsElement kind (words kind) element
 filled_or_empty kind element (inl is) = inr is
@@ -49,9 +60,3 @@ records_text-is c xs groups s few =
     let counts : counts_line c.read c.held c.unkeyed ≡ counts_line (length xs) (length (kept_of (keyed xs))) (count_unkeyed xs) =
     ap₂ (λ r k. counts_line r k c.unkeyed) read s.groups.held ∙ ap (counts_line (length xs) (length (kept_of (keyed xs)))) unkeyed in
     ap₂ (λ (gs : List (Key × List Entry)) (text : List ℕ). flat_map group_text gs ++ text) groups counts
-
--- the line of the same kind and element
-pub line_same : (ok : Bool) (old : List ℕ) (kind kind' : ℕ) (element element' extra : List ℕ) → kind ≡ kind' → element ≡ element'
-    → (if ok then old ++ record_line kind element extra else old) ≡ (if ok then old ++ record_line kind' element' extra else old)
-line_same ok old kind kind' element element' extra kinds elements =
-    ap₂ (λ (k : ℕ) (e : List ℕ). if ok then old ++ record_line k e extra else old) kinds elements

@@ -8,44 +8,46 @@ ghost use Rattle.ioam_group_lines.specs.GroupsText.{key_line, group_text, counts
 
 use crate::items::put_items;
 use ioam_base::memory::NoMemory;
+use ioam_base::text::append;
 use ioam_collect::{Collector, Group, Groups, Key};
-use ioam_report::{Piece, put_pieces, settle};
+use ioam_report::{Line, Piece, put_pieces, settle};
 
-// Appends the line of a key.
-fn put_key(key: Key, count: u64, out: &mut Vec<u8>) -> Result<(), NoMemory>
-    ensures { out.new.items ≡ (if is_ok result then out.old.items ++ key_line key count else out.old.items) }
+// Puts the line of a key together, its last word first.
+fn put_key(key: Key, count: u64, line: &mut Line)
+    ensures { line.new ≡ key_line key count }
 {
-    put_pieces(
-        &[
-            Piece::Number(b"group ", u64::from(key.namespace.0)),
-            Piece::Number(b" ", u64::from(key.flow)),
-            Piece::Number(b" ", u64::from(key.seq)),
-            Piece::Number(b" ", count),
-            Piece::Text(b"\n"),
-        ],
-        out,
-    )
+    line.clear();
+    line.put(b"\n");
+    line.number(count);
+    line.put(b" ");
+    line.number(u64::from(key.seq));
+    line.put(b" ");
+    line.number(u64::from(key.flow));
+    line.put(b" ");
+    line.number(u64::from(key.namespace.0));
+    line.put(b"group ");
 }
 
-// Appends the lines of a group.
-fn put_group(group: Group<'_>, out: &mut Vec<u8>) -> Result<(), NoMemory>
+// Appends the lines of a group. The line that is lent holds anything before and after.
+fn put_group(group: Group<'_>, line: &mut Line, out: &mut Vec<u8>) -> Result<(), NoMemory>
     requires { AllByRecursion IsOfRecord group.items }
     ensures { out.new.items ≡ (if is_ok result then out.old.items ++ group_text (group.entry.key, group.entry.items) else out.old.items) }
 {
     let before = out.len();
-    put_key(group.key, group.items.left() as u64, out)?;
-    let answer = put_items(group.items, out);
+    put_key(group.key, group.items.left() as u64, line);
+    append(out, line.octets())?;
+    let answer = put_items(group.items, line, out);
     settle(out, before, answer)
 }
 
-// Appends the lines of groups.
-fn put_all(groups: Groups<'_>, out: &mut Vec<u8>) -> Result<(), NoMemory>
+// Appends the lines of groups, one put together after the other.
+fn put_all(groups: Groups<'_>, line: &mut Line, out: &mut Vec<u8>) -> Result<(), NoMemory>
     requires { AllByRecursion (λ group. AllByRecursion IsOfRecord group.1) groups }
     ensures { out.new.items ≡ (if is_ok result then out.old.items ++ flat_map group_text groups.entry else out.old.items) }
 {
     let before = out.len();
     for group in groups {
-        let answer = put_group(group, out);
+        let answer = put_group(group, line, out);
         settle(out, before, answer)?;
     }
     Ok(())
@@ -79,7 +81,7 @@ pub fn put_groups(collector: &Collector, out: &mut Vec<u8>) -> Result<(), NoMemo
     ensures records { (xs : List Record) → Stands collector.now xs → length xs < 2 ^ 64 → collected_text collector.now ≡ records_text xs }
 {
     let before = out.len();
-    put_all(collector.groups(), out)?;
+    put_all(collector.groups(), &mut Line::new(), out)?;
     let answer = put_counts(
         collector.read(),
         u64::from(collector.held()),
