@@ -40,7 +40,7 @@ pub record Encloses (domain : Domain) (it : Itinerary) (id : FlowId) (numbers : 
   pub direct : numbers.direct ≡ direct_number flow.direct flow.every count
   pub few : length it.visits ≤ flow.hops + 1
 
-none_carried : (visits : List Visit) → carried_by visits None ≡ None
+pub none_carried : (visits : List Visit) → carried_by visits None ≡ None
 none_carried [] = refl
 none_carried (visit ∷ visits) = refl
 

@@ -25,7 +25,7 @@ use Rattle.ioam_paths.proofs.EnclosedLaws.{Encloses, Known, all_get, known, same
 use Rattle.ioam_paths.proofs.TrailLaws.{IsTrail, key_parts, number_is, some_is, trail_of}
 
 -- a flow without direct export, or a packet without a number, exports nothing
-along_none : (domain : Domain) (readings : List (List Sample)) (tunnel : Tunnel) → tunnel.others ≡ [] → (done visits : List Visit)
+pub along_none : (domain : Domain) (readings : List (List Sample)) (tunnel : Tunnel) → tunnel.others ≡ [] → (done visits : List Visit)
     → along (recorded_at domain readings tunnel) done visits ≡ []
 along_none domain readings tunnel none done [] = refl
 along_none domain readings tunnel none done (visit ∷ visits) =
@@ -34,16 +34,16 @@ along_none domain readings tunnel none done (visit ∷ visits) =
     let first : recorded_at domain readings tunnel done visit ≡ [] = subst P (sym none) refl in
     ap₂ (λ xs ys. xs ++ ys) first (along_none domain readings tunnel none (done ++ visit ∷ []) visits)
 
-parts_none : (flow : Flow) (kind : Option ℕ) → direct_parts flow kind None ≡ []
+pub parts_none : (flow : Flow) (kind : Option ℕ) → direct_parts flow kind None ≡ []
 parts_none flow None = refl
 parts_none flow (Some kind) = refl
 
-numbered : (kind every : Option ℕ) (count seq : ℕ) → direct_number kind every count ≡ Some seq → is_some kind ≡ true
+pub numbered : (kind every : Option ℕ) (count seq : ℕ) → direct_number kind every count ≡ Some seq → is_some kind ≡ true
 numbered None every count seq is = absurd (cc is)
 numbered (Some kind) every count seq is = refl
 
 module _ (domain : Domain) (readings : List (List Sample)) (frames : List Frame) (fates : List Fate) (run : IsRun domain readings frames fates) where
-  known_at : (i : ℕ) (fate : Fate) (id : FlowId) (numbers : Numbers) → slice_get fates i ≡ Some fate → fate.itinerary.carried ≡ Some (id, numbers)
+  pub known_at : (i : ℕ) (fate : Fate) (id : FlowId) (numbers : Numbers) → slice_get fates i ≡ Some fate → fate.itinerary.carried ≡ Some (id, numbers)
       → Known domain fate.itinerary id numbers 0 4294967296
   known_at i fate id numbers there some =
       let k = known domain readings [] frames fates i fate id numbers run.become there some in
@@ -52,7 +52,7 @@ module _ (domain : Domain) (readings : List (List Sample)) (frames : List Frame)
       let most = domain.packets_most in
       record { count = k.count; is = k.is; no_less = omega arith; below = omega (arith, below, few, most) }
 
-  within_at : (id : FlowId) (flow : Flow) → slice_get (flows domain) id.0 ≡ Some flow → IsWithin flow
+  pub within_at : (id : FlowId) (flow : Flow) → slice_get (flows domain) id.0 ≡ Some flow → IsWithin flow
   within_at id flow found = all_get IsWithin (flows domain) id.0 flow (recursion_from_All IsWithin (flows domain) run.within) found
 
   trail_by : (i : ℕ) (fate : Fate) (key : Key) (carried : Option (FlowId × Numbers)) → slice_get fates i ≡ Some fate → fate.itinerary.carried ≡ carried

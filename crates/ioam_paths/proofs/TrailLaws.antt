@@ -137,11 +137,11 @@ pub record IsTrail (key : Key) (xs : List Record) : Type 0 where
   pub each : AllByRecursion (IsKeyed key) xs
   pub falls : Falls xs
 
-cond_append : (b : Bool) (x : Record) (more : List Record) → cond b (x ∷ []) [] ++ more ≡ cond b (x ∷ more) more
+pub cond_append : (b : Bool) (x : Record) (more : List Record) → cond b (x ∷ []) [] ++ more ≡ cond b (x ∷ more) more
 cond_append true x more = refl
 cond_append false x more = refl
 
-all_cond : (P : Record → Type 0) (b : Bool) (x : Record) (more : List Record) → P x → AllByRecursion P more → AllByRecursion P (cond b (x ∷ more) more)
+pub all_cond : (P : Record → Type 0) (b : Bool) (x : Record) (more : List Record) → P x → AllByRecursion P more → AllByRecursion P (cond b (x ∷ more) more)
 all_cond P true x more first rest = (first, rest)
 all_cond P false x more first rest = rest
 
@@ -212,7 +212,7 @@ module _ (domain : Domain) (readings : List (List Sample)) (direct : Direct) (ho
   part = record { kind = 0x11; body = 0 ∷ 4 ∷ direct_octets direct 0 }
 
   module _ (tunnel : Tunnel) (others : tunnel.others ≡ part ∷ []) (same : tunnel.hops ≡ hops) where
-    recorded : (done : List Visit) (visit : Visit)
+    pub recorded : (done : List Visit) (visit : Visit)
         → recorded_at domain readings tunnel done visit ≡ cond (knows domain visit.place.node.0 direct.namespace.0) (told (length done) visit ∷ []) []
     recorded done visit =
         ap₂ (λ os (h : ℕ). part_records (records_of domain readings visit.place visit.time (h - length done)) os) others same
@@ -259,7 +259,7 @@ number_is (Some kind) (Some e) count seq is = by_test (count % e == 0) refl is w
 
 module _ (flow : Flow) (sound : IsFlow flow) (within : IsWithin flow) (kind id seq : ℕ) (direct : flow.direct ≡ Some kind) (of_id : flow.flow_id ≡ Some id)
     (seq_below : seq < 4294967296) where
-  is_direct : IsDirect (direct_of flow kind seq)
+  pub is_direct : IsDirect (direct_of flow kind seq)
   is_direct = record {
     namespace_below = within.namespace_below;
     flags_below = omega arith;
@@ -269,11 +269,11 @@ module _ (flow : Flow) (sound : IsFlow flow) (within : IsWithin flow) (kind id s
     seq_below = seq_below;
   }
 
-  has_its : HasItsNumbers (direct_of flow kind seq)
+  pub has_its : HasItsNumbers (direct_of flow kind seq)
   unfolding has_flow has_seq
   has_its = record { flow = ap is_some of_id; seq = refl }
 
-  bits : (has kind 7 ≡ false) × ((has kind 0 || has kind 8) ≡ true)
+  pub bits : (has kind 7 ≡ false) × ((has kind 0 || has kind 8) ≡ true)
   bits =
       let entry = and_parts (is_entry_type kind) (not (has kind 7) && (has kind 0 || has kind 8)) (sound.direct_type kind direct) in
       let both = and_parts (not (has kind 7)) (has kind 0 || has kind 8) entry.1 in
