@@ -16,6 +16,7 @@ use Rattle.ioam_outputs.specs.declared.output.Output.{Output}
 use Rattle.ioam_outputs.proofs.HeldLaws.{AreTold-fronts, more_fronts}
 use Rattle.ioam_outputs.proofs.ToldLaws.{AreTold-open, told_names}
 use Rattle.ioam_paths.proofs.ReadLaws.{regroups}
+use Rattle.ioam_paths.proofs.WholeLaws.{tells-run}
 use Rattle.ioam_regroup.specs.Feed.{Fed}
 use Rattle.ioam_regroup.specs.Gathering.{AreFew, Gathers, Passes, AreWhole, Of, Halts}
 use Rattle.ioam_regroup.specs.declared.gathering.Halt.{Halt}
@@ -98,6 +99,7 @@ module _ (tells : Bool) (start : Start) (slot : ℕ) (old_in mid_in : desk.Readi
           few = few;
           held = report ∙ ap Some (text_is records stands few);
           regroups = regroups records;
+          tells_run = tells-run octets records;
         }) (are tells_so)
 
     pub Finishes-written : (why : Halt) → is_out why ≡ false → Halts tells start.content slot old_in mid_in collector why

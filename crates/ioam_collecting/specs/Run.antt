@@ -6,6 +6,7 @@ use Rattle.ioam_dex.specs.Record.{Record}
 use Rattle.ioam_dex.specs.Reads.{Ending, Whole, Faulty, Reads, Splits}
 use Rattle.ioam_group_lines.specs.GroupsText.{records_text}
 use Rattle.ioam_outputs.specs.Names.{name_at}
+use Rattle.ioam_paths.specs.Exported.{TellsRun}
 use Rattle.ioam_paths.specs.Paths.{Regroups}
 use Rattle.ioam_regroup.specs.Gathering.{AreFew, IsLimit, Passes, AreWhole}
 use Rattle.ioam_answer.specs.declared.outcome.Outcome.{Outcome}
@@ -72,13 +73,15 @@ module _ (tells : Bool) (content : Option (List ℕ)) (exports report : List ℕ
     HasCause (outcome.Packets limit) = ⊥
 
 -- the report is the text of some records, no more than may be, and of a run's records its groups are the paths of the run's
--- packets; `Are` says which records of EXPORTS
+-- packets, and the whole paths where EXPORTS holds what the run wrote and was read to its end; `Are` says which records of
+-- EXPORTS
 pub record HoldsReport (Are : List Record → List ℕ → Type 0) (new : Writing) (report : List ℕ) (octets : List ℕ) : Type 0 where
   pub records : List Record
   pub are : Are records octets
   pub few : AreFew records
   pub held : holds new report ≡ Some (records_text records)
   pub regroups : Regroups records
+  pub tells_run : TellsRun octets records
 
 -- the report, where it was opened, is a front of the text of some first records of EXPORTS, no more than may be
 pub record HoldsPart (old new : Writing) (report : List ℕ) (octets : List ℕ) : Type 0 where
