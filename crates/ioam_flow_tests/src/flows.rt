@@ -1,6 +1,7 @@
 //! What `run` writes of measured packets. Octets and texts are written out by the rules.
 use crate::desks::{desk_for, differing, run_line};
 use ioam_test_rows::digits::text;
+use ioam_test_rows::flow_ng_rows::{exported_in_blocks, in_blocks};
 use ioam_test_rows::flow_rows::{FlowRow, aware, looped, stopped, traced};
 use ioam_test_rows::flow_rows_more::{edged, endings, exporting, framed, limited, read, twice};
 use std::alloc::Global;
@@ -49,4 +50,19 @@ fn several_packets_and_captures(rt: HostRuntime) {
     are_so(&rt, alloc, edged());
     are_so(&rt, alloc, endings());
     are_so(&rt, alloc, framed());
+}
+
+// These runs are so, in pieces that cut each block.
+fn are_so_in_blocks(rt: &(impl Abort + Threads + Sync), alloc: Global, rows: &[FlowRow]) {
+    for row in rows {
+        is_so(rt, alloc, row, 7);
+        is_so(rt, alloc, row, 1);
+    }
+}
+
+#[test]
+fn captures_in_blocks_are_measured_alike(rt: HostRuntime) {
+    let alloc = rt.alloc();
+    are_so_in_blocks(&rt, alloc, in_blocks());
+    are_so_in_blocks(&rt, alloc, exported_in_blocks());
 }

@@ -29,7 +29,7 @@ pub struct FlowRow {
 /// A domain with a flow that has a trace, and taps.
 pub const TRACED: &[&str] = &[NODES, TAPPED, PORTS, TUNNEL_ROUTES, FLOW, TRACE_OF_3];
 
-const FIRST: FlowRow = FlowRow {
+pub(crate) const FIRST: FlowRow = FlowRow {
     domain: TRACED,
     readings: "",
     west: &[HEAD, AT_ONE, UDP],

@@ -237,58 +237,58 @@ const LIMITS: [FlowRow; 1] = [
 
 const SEVEN_ROWS: [FlowRow; 1] = [SEVENTH];
 
-const EDGES: [FlowRow; 1] = [
-    // A packet that is too large for its tunnel draws no number; each `z` is 16 octets of zero.
-    FlowRow {
-        domain: &[
-            NODES,
-            TAPPED,
-            PORTS_AT_WEST,
-            TUNNEL_ROUTES,
-            FLOW,
-            TRACE_OF_3,
-            "edge = 0x4000\n",
-        ],
-        readings: "",
-        west: &[HEAD, AT_ONE, UDP, AT_TWO, UDP],
-        west2: &[
-            HEAD,
-            "00000001 00000000 000005c8 000005c8",
-            "6000000005a03b40 20010db8000100000000000000000001 20010db8000200000000000000000001",
-            "zzzzzzzzzzzzzzzzzzzzzzzzzzzzzzzzzzzzzzzzzzzzzzzzzzzzzzzzzzzzzzzzzzzzzzzzzzzzzzzzzzzzzzzzzz",
-        ],
-        files: &[
-            File {
-                name: "west2-out.pcap",
-                parts: &[&[HEAD]],
-            },
-            File {
-                name: "east-out.pcap",
-                parts: &[&[HEAD, OUT_ONE, LEFT, OUT_TWO, LEFT]],
-            },
-            File {
-                name: "ab.pcap",
-                parts: &[
-                    &[HEAD, "00000001 00000000 00000088 00000088"],
-                    EDGED,
-                    &["29 01 01 00 11 0a 00 03 0007 4000 00000000", INNER],
-                    &["00000002 00000000 00000088 00000088"],
-                    EDGED,
-                    &["29 01 01 00 11 0a 00 03 0007 4000 00000001", INNER],
-                ],
-            },
-        ],
-        report: &[
-            "1 west left east flow f 0\n",
-            PATH,
-            "2 west2 drop too-big a\n3 west left east flow f 1\n",
-            PATH,
-            "packets 3 left 2 dropped 1\nnode a seen 3 dropped 1\nnode b seen 2 dropped 0\nnode c seen 2 dropped 0\n",
-            "flow f enclosed 2 exited 2 direct 0 next 2 gaps 0 missed 0 late 0 repeats 0\n",
-        ],
-        line: "done",
-    },
-];
+// A packet that is too large for its tunnel draws no number; each `z` is 16 octets of zero.
+pub(crate) const EDGE: FlowRow = FlowRow {
+    domain: &[
+        NODES,
+        TAPPED,
+        PORTS_AT_WEST,
+        TUNNEL_ROUTES,
+        FLOW,
+        TRACE_OF_3,
+        "edge = 0x4000\n",
+    ],
+    readings: "",
+    west: &[HEAD, AT_ONE, UDP, AT_TWO, UDP],
+    west2: &[
+        HEAD,
+        "00000001 00000000 000005c8 000005c8",
+        "6000000005a03b40 20010db8000100000000000000000001 20010db8000200000000000000000001",
+        "zzzzzzzzzzzzzzzzzzzzzzzzzzzzzzzzzzzzzzzzzzzzzzzzzzzzzzzzzzzzzzzzzzzzzzzzzzzzzzzzzzzzzzzzzz",
+    ],
+    files: &[
+        File {
+            name: "west2-out.pcap",
+            parts: &[&[HEAD]],
+        },
+        File {
+            name: "east-out.pcap",
+            parts: &[&[HEAD, OUT_ONE, LEFT, OUT_TWO, LEFT]],
+        },
+        File {
+            name: "ab.pcap",
+            parts: &[
+                &[HEAD, "00000001 00000000 00000088 00000088"],
+                EDGED,
+                &["29 01 01 00 11 0a 00 03 0007 4000 00000000", INNER],
+                &["00000002 00000000 00000088 00000088"],
+                EDGED,
+                &["29 01 01 00 11 0a 00 03 0007 4000 00000001", INNER],
+            ],
+        },
+    ],
+    report: &[
+        "1 west left east flow f 0\n",
+        PATH,
+        "2 west2 drop too-big a\n3 west left east flow f 1\n",
+        PATH,
+        "packets 3 left 2 dropped 1\nnode a seen 3 dropped 1\nnode b seen 2 dropped 0\nnode c seen 2 dropped 0\n",
+        "flow f enclosed 2 exited 2 direct 0 next 2 gaps 0 missed 0 late 0 repeats 0\n",
+    ],
+    line: "done",
+};
+
+const EDGES: [FlowRow; 1] = [EDGE];
 
 const ENDINGS: [FlowRow; 2] = [
     // The file ends in the third record.

@@ -7,6 +7,7 @@
 
 pub mod capture_rows;
 pub mod digits;
+pub mod flow_ng_rows;
 pub mod flow_parts;
 pub mod flow_rows;
 pub mod flow_rows_more;
