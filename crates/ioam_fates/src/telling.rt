@@ -17,7 +17,8 @@ use ioam_outputs::Output;
 use ioam_pcap::put_head;
 use ioam_topo::{Domain, LinkId};
 
-/// Appends the head of a capture to the output of each port and of each tap.
+/// Appends the head of a capture to the output of each port and of each tap. Without memory a part of it may
+/// be appended.
 pub fn put_heads(domain: &Domain, outputs: &mut [Output]) -> Result<(), NoMemory>
     requires { length outputs.old ≡ outlet_count domain.now }
     ensures { OnOk result (Adds outputs.old outputs.new (heads domain.now)) }

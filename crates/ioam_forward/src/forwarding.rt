@@ -44,6 +44,7 @@ pub struct Forwarding {
 
 impl Forwarding {
     /// Begins the texts in a domain: the output of each port and of each tap gets the head of a capture.
+    /// Without memory some of them may have it.
     pub fn begin(
         alloc: Global,
         domain: &Domain,
@@ -76,7 +77,7 @@ impl Forwarding {
 
     /// Takes the next arrival: `ethernet` says that its frame begins with an Ethernet header. It draws
     /// its number where it is enclosed, is counted, and its job waits; nothing is told. Fewer than 2^32
-    /// arrivals were taken.
+    /// arrivals were taken. After NoMemory nothing is known of what was counted and waits.
     pub fn take(
         &mut self,
         alloc: Global,
@@ -114,7 +115,7 @@ impl Forwarding {
     }
 
     /// Runs the jobs that wait by so many workers, and tells what they leave, in the order of arrival.
-    /// None waits then.
+    /// None waits then. Without memory some of it may be told, and nothing is known of what waits.
     pub fn tell<R: Threads + Sync, G: Gate>(
         &mut self,
         rt: &R,

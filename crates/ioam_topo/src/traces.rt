@@ -1,4 +1,4 @@
-ghost use Rattle.std.specs.Prelude.{◌≡◌, ◌++◌, ◌∷◌, [], IfOk, OnOk};
+ghost use Rattle.std.specs.Prelude.{◌≡◌, ◌++◌, ◌∷◌, [], IfOk, OnOk, OnErr};
 ghost use Rattle.ioam_topo.specs.Traces.{own_traces};
 
 use ioam_base::memory::NoMemory;
@@ -64,6 +64,7 @@ impl Traces {
     /// Adds a trace behind the others. After NoMemory the traces are as before.
     pub fn add(&mut self, trace: FlowTrace) -> Result<(), NoMemory>
         ensures added { OnOk result (self.new ≡ self.old ++ trace ∷ []) }
+        ensures err { OnErr result (self.new ≡ self.old) }
     {
         self.held.push(trace)?;
         Ok(())
