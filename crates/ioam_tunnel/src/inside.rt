@@ -64,8 +64,9 @@ fn inner_of(packet: &[u8]) -> Option<Range<usize>>
 
 // The packet in octets, by the rules alone.
 fn inner_in(packet: &[u8]) -> Option<Range<usize>>
-    ensures { MatchOption result ((place : ℕ) → IsPacket packet.now → InnerAt packet.now place → ⊥)
+    ensures there { MatchOption result ((place : ℕ) → IsPacket packet.now → InnerAt packet.now place → ⊥)
         (λ range. InnerAt packet.now range.start × (range.end ≡ length packet.now)) }
+    ensures packet { IfSome result (λ _. IsPacket packet.now) }
 {
     if !is_packet(packet) {
         return None;
@@ -82,6 +83,8 @@ fn inner_in(packet: &[u8]) -> Option<Range<usize>>
 pub fn inner(packet: &[u8]) -> Option<Range<usize>>
     ensures there { MatchOption result ((place : ℕ) → IsPacket packet.now → InnerAt packet.now place → ⊥)
         (λ range. InnerAt packet.now range.start × (range.end ≡ length packet.now)) }
+    // Nothing is found but in a packet.
+    ensures packet { IfSome result (λ _. IsPacket packet.now) }
     ensures back { GivesBack packet.now result }
 {
     inner_in(packet)
