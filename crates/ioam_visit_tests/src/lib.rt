@@ -3,7 +3,11 @@
 #![tactic(auto)]
 
 #[cfg(test)]
+mod export_rows;
+#[cfg(test)]
 mod foreign_rows;
+#[cfg(test)]
+mod leaving;
 #[cfg(test)]
 mod lines;
 #[cfg(test)]

@@ -1,3 +1,4 @@
+use crate::export_rows::exporting;
 use crate::foreign_rows::foreign;
 use crate::passing::pass;
 use crate::rows::{ENDS, Noted, Row, Stop, domain_texts};
@@ -118,6 +119,11 @@ fn first_wrong(alloc: Global, rows: &'static [Row]) -> Option<usize> {
 #[test]
 fn a_packet_in_its_tunnel(rt: HostRuntime) {
     assert_eq!(rt; first_wrong(rt.alloc(), tunnelled()), None);
+}
+
+#[test]
+fn a_packet_that_asks_for_records(rt: HostRuntime) {
+    assert_eq!(rt; first_wrong(rt.alloc(), exporting()), None);
 }
 
 #[test]
