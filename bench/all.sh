@@ -26,7 +26,7 @@ for _ in 1 2 3 4 5; do
     timed tcpdump tcpdump -r in.pcap -w out.tcpdump ip6
     timed editcap editcap -F pcapng in.pcap out.editcap
     timed filter "$ioam" filter in.pcap out.filter report.filter
-    timed filter-ng "$ioam" filter in.pcapng out.filter report.filter
+    timed filter-ng "$ioam" filter in.pcapng out.filter-ng report.filter-ng
     timed paths "$ioam" paths in.pcap report.paths
     timed show "$ioam" show in.pcap report.show
     timed save "$ioam" save in.pcap out.save
