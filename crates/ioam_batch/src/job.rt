@@ -89,15 +89,10 @@ impl Job {
     }
 }
 
-#[cfg(test)]
-mod tests {
-    use crate::job::Job;
+// Compiles only where a value of the type may be handed to a thread.
+fn sent<T: Send>() {}
 
-    // Compiles only where a value of the type may be handed to a thread.
-    fn sent<T: Send>() {}
-
-    #[test]
-    fn a_worker_is_handed_jobs() {
-        sent::<Job>();
-    }
+// Not called: that it compiles is what it shows.
+fn _a_worker_is_handed_jobs() {
+    sent::<Job>();
 }
