@@ -1,48 +1,52 @@
 //! The lines of what a node did with the IOAM options of a packet.
-ghost use Rattle.std.specs.Prelude.{◌≡◌, ◌++◌, OnOk, if◌then◌else◌, codes, decimal};
+ghost use Rattle.std.specs.Prelude.{◌≡◌, ◌++◌, is_ok, if◌then◌else◌, codes, decimal};
 ghost use Rattle.ioam_transit.specs.NotesText.{done_line, kind_text, note_line, notes_text};
 
 use ioam_base::memory::NoMemory;
-use ioam_base::text::{append, append_decimal};
+use ioam_base::text::append;
+use ioam_report::{Piece, put_pieces, settle};
 use ioam_visit::{NodeNote, What};
 
 // The kind of an option.
-fn put_kind(direct: bool, out: &mut Vec<u8>) -> Result<(), NoMemory>
-    ensures { OnOk result (out.new.items ≡ out.old.items ++ kind_text direct) }
+fn kind_of(direct: bool) -> &'static [u8]
+    ensures { result.now ≡ kind_text direct }
 {
-    if direct {
-        append(out, b"  direct ")
-    } else {
-        append(out, b"  trace ")
-    }
+    if direct { b"  direct " } else { b"  trace " }
 }
 
 // `  trace NS DONE` or `  direct NS DONE`
 fn put_done(note: &NodeNote, done: &[u8], out: &mut Vec<u8>) -> Result<(), NoMemory>
-    ensures { OnOk result (out.new.items ≡ out.old.items ++ done_line note.now.direct note.now.namespace.0 done.now) }
+    ensures { out.new.items ≡ (if is_ok result then out.old.items ++ done_line note.now.direct note.now.namespace.0 done.now else out.old.items) }
 {
-    put_kind(note.direct, out)?;
-    append_decimal(out, u64::from(note.namespace.0))?;
-    append(out, b" ")?;
-    append(out, done)?;
-    append(out, b"\n")
+    put_pieces(
+        &[
+            Piece::Number(kind_of(note.direct), u64::from(note.namespace.0)),
+            Piece::Text(b" "),
+            Piece::Text(done),
+            Piece::Text(b"\n"),
+        ],
+        out,
+    )
 }
 
 // `  trace NS added WORDS`
 fn put_added(note: &NodeNote, words: u8, out: &mut Vec<u8>) -> Result<(), NoMemory>
-    ensures { OnOk result (out.new.items ≡ out.old.items
-        ++ done_line note.now.direct note.now.namespace.0 (codes "added " ++ decimal words)) }
+    ensures { out.new.items ≡ (if is_ok result
+        then out.old.items ++ done_line note.now.direct note.now.namespace.0 (codes "added " ++ decimal words) else out.old.items) }
 {
-    put_kind(note.direct, out)?;
-    append_decimal(out, u64::from(note.namespace.0))?;
-    append(out, b" added ")?;
-    append_decimal(out, u64::from(words))?;
-    append(out, b"\n")
+    put_pieces(
+        &[
+            Piece::Number(kind_of(note.direct), u64::from(note.namespace.0)),
+            Piece::Number(b" added ", u64::from(words)),
+            Piece::Text(b"\n"),
+        ],
+        out,
+    )
 }
 
 // The line of a note.
 fn put_note(note: &NodeNote, out: &mut Vec<u8>) -> Result<(), NoMemory>
-    ensures { OnOk result (out.new.items ≡ out.old.items ++ note_line note.now) }
+    ensures { out.new.items ≡ (if is_ok result then out.old.items ++ note_line note.now else out.old.items) }
 {
     match note.what {
         What::Added { words } => put_added(note, words, out),
@@ -58,11 +62,14 @@ fn put_note(note: &NodeNote, out: &mut Vec<u8>) -> Result<(), NoMemory>
 /// Appends a line for each note, in order: `  trace NS added WORDS` (4-octet words), `  trace NS overflow`,
 /// `over` where Overflow was set before, `unsuited` or `unknown`; `  direct NS exported` or `unknown`; and
 /// `  option short` of an option that is too short for its header (RFC 9197 section 4.4, RFC 9326 section 3).
+/// Without memory nothing is appended.
 pub fn put_notes(notes: &[NodeNote], out: &mut Vec<u8>) -> Result<(), NoMemory>
-    ensures { OnOk result (out.new.items ≡ out.old.items ++ notes_text notes.now) }
+    ensures { out.new.items ≡ (if is_ok result then out.old.items ++ notes_text notes.now else out.old.items) }
 {
+    let before = out.len();
     for note in notes {
-        put_note(note, out)?;
+        let answer = put_note(note, out);
+        settle(out, before, answer)?;
     }
     Ok(())
 }
