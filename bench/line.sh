@@ -20,6 +20,6 @@ yardstick() {
             snapshot=*) words=${word#*=} ;;
         esac
     done
-    gcc -O2 -DNODES="$nodes" -DTRACE="$kind" -DCAPACITY="$capacity" -DDIRECT="$direct" -DWORDS="$words" \
+    gcc -O2 -pthread -DNODES="$nodes" -DTRACE="$kind" -DCAPACITY="$capacity" -DDIRECT="$direct" -DWORDS="$words" \
         -o "$(basename "$source" .c)" "$source"
 }

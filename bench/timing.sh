@@ -24,13 +24,17 @@ timed() {
 # The least time of a name, in seconds.
 base() { sort -n "times.$1" | head -1 | cut -d' ' -f1; }
 
-# A folder to work in, which goes at the end, and the program, built where that is needed; ends the script where one of these
-# tools is missing.
-begin() {
-    need python3 /usr/bin/time "$@"
+# A folder to work in, which goes at the end; ends the script where one of these tools is missing.
+make_room() {
+    need python3 "$@"
     room=$(mktemp -d)
     trap 'rm -rf "$room"' EXIT
     cd "$room"
+}
+
+# The same, and the program, built where that is needed.
+begin() {
+    make_room /usr/bin/time "$@"
     "$top/ioam" >/dev/null || true
     ioam=$top/crates/ioam_cmd/out/ioam_cmd
 }
