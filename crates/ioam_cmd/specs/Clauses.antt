@@ -9,6 +9,7 @@ use Rattle.ioam_desk.specs.Desk.{Reading, Writing, holds}
 use Rattle.ioam_domain.specs.Run as domain
 use Rattle.ioam_domain.specs.Run.{domain_file, readings_file}
 use Rattle.ioam_ip.specs.Clean.{MayLeave}
+use Rattle.ioam_measured.specs.Measured.{Measures}
 use Rattle.ioam_outputs.specs.Names.{name_at, AreApart}
 use Rattle.ioam_pcap.specs.Text.{IsCaptureOf}
 use Rattle.ioam_run.specs.FilterText.{FilterTexts}
@@ -143,6 +144,17 @@ module _ (opens tells : Bool) (words : List (List ℕ)) (old_in new_in : Reading
   IsBounded Node = node.IsBounded words old_in new_in old new
   IsBounded (Run workers) = domain.IsBounded opens words old_in new_in old new
   IsBounded (Bulk seed count workers) = ⊤
+
+  -- what `run` leaves in EXPORTS is all records of its arrivals, of which `collect` tells the whole paths of the packets
+  abbrev pub IsMeasured : Command → Outcome → Type 0
+  IsMeasured Filter answer = ⊤
+  IsMeasured Paths answer = ⊤
+  IsMeasured Show answer = ⊤
+  IsMeasured Save answer = ⊤
+  IsMeasured Collect answer = ⊤
+  IsMeasured Node answer = ⊤
+  IsMeasured (Run workers) answer = Measures opens words old_in new_in old new answer
+  IsMeasured (Bulk seed count workers) answer = ⊤
 
 -- the records that OUT of `save` reads as are exactly those that IN reads as
 abbrev pub IsSaved : List (List ℕ) → Writing → Writing → Command → Type 0

@@ -1,6 +1,6 @@
 //! The top call: one run of a command over a desk.
 ghost use Rattle.std.specs.Prelude.{true, ◌≡◌, ◌≢◌, ◌↔◌, ◌⊎◌, IsTrue};
-ghost use Rattle.ioam_cmd.specs.Clauses.{Asked, HasCause, Leaves, Asks, AreDrained, AreWritten, IsBehindInputs, IsBounded, IsSaved, IsUntouched};
+ghost use Rattle.ioam_cmd.specs.Clauses.{Asked, HasCause, Leaves, Asks, AreDrained, AreWritten, IsBehindInputs, IsBounded, IsMeasured, IsSaved, IsUntouched};
 ghost use Rattle.ioam_cmd.specs.Words.{IsForm, IsNoForm};
 ghost use Rattle.ioam_cmd.specs.declared.command.Command.{Command};
 ghost use Rattle.ioam_desk.specs.Desk.{Rose};
@@ -55,6 +55,9 @@ pub fn ioam<R: Threads + Sync, D: Desk, G: Gate>(
 
     // The records that OUT of `save` reads as are exactly those that IN reads as.
     ensures saved { (command : Command) → IsForm command words.now → IsDone result → IsTrue D.tells → IsSaved words.now (D.writing desk.old) (D.writing desk.new) command }
+
+    // What `run` leaves in EXPORTS is all records of its arrivals, and of these octets, wherever it reads them later, `collect` tells the whole path of each packet that was exported of.
+    ensures measured { (command : Command) → IsForm command words.now → IsTrue D.tells → IsMeasured G.opens D.tells words.now (D.reading desk.old) (D.reading desk.new) (D.writing desk.old) (D.writing desk.new) command result }
 
     // Slots that were there before are as they were, and so is each name that wasn't given to the opening of outputs in this call.
     ensures kept_in { KeepsInputs (D.reading desk.old) (D.reading desk.new) }

@@ -123,6 +123,7 @@ module _ (opens : Bool) (words : List (List ℕ)) (old_in new_in : Reading) (old
     fates = all.fates;
     are = all.are;
     few = all.few;
+    timely = all.timely;
     become = all.become;
     only = all.only;
     leave = all-leave course.domain course.readings [] (frames_of course.ports all.taken) all.fates all.become;

@@ -26,7 +26,7 @@ use Rattle.ioam_entries.specs.declared.fault.DomainFault.{DomainFault}
 use Rattle.ioam_topo.specs.declared.parts.Link.{Link}
 use Rattle.ioam_topo.specs.declared.parts.Port.{Port}
 use Rattle.ioam_domain.specs.Left.{LeavesOnce}
-use Rattle.ioam_traffic.specs.Traffic.{AllOpened, Course, HoldsFronts, ArePassed, AreOpened, Arrive, frames_of}
+use Rattle.ioam_traffic.specs.Traffic.{AllOpened, Course, HoldsFronts, IsTimely, ArePassed, AreOpened, Arrive, frames_of}
 
 -- the files that the words name
 abbrev pub domain_file : List (List ℕ) → List ℕ
@@ -179,12 +179,13 @@ module _ (opens : Bool) (words : List (List ℕ)) (old_in new_in : Reading) (old
 
   -- What the files hold of these arrivals, of which nothing else becomes, where the gate opens: each port's capture has the
   -- packets that leave there, each tap's what crosses its link, REPORT the lines of each arrival and the sums, and EXPORTS
-  -- the records that the nodes export. `Are` says which arrivals.
+  -- the records that the nodes export. `Are` says which arrivals; the time of each is below 2^62 nanoseconds.
   pub record HoldsFiles (course : Course) (Are : List Arrival → Type 0) : Type 0 where
     pub taken : List Arrival
     pub fates : List Fate
     pub are : Are taken
     pub few : length taken ≤ course.domain.packets
+    pub timely : All IsTimely taken
     pub become : AreFates course.domain course.readings (frames_of course.ports taken) fates
     pub only : (others : List Fate) → AreFates course.domain course.readings (frames_of course.ports taken) others → others ≡ fates
     pub leave : All LeavesOnce fates

@@ -1,6 +1,6 @@
 mod EnclosedLaws
-mod ExportLaws
-mod FacesLaws
+pub mod ExportLaws
+pub mod FacesLaws
 mod FewLaws
 mod HopLaws
 mod OrderLaws
@@ -10,4 +10,4 @@ mod TextLaws
 mod TimesLaws
 mod TrailLaws
 pub mod WholeLaws
-mod WithinLaws
+pub mod WithinLaws

@@ -1,6 +1,7 @@
 -- Traffic of which nothing was taken yet.
 use Rattle.std.proofs.Common.{◌≡◌, ℕ, ◌+◌, ◌<◌, Bool, IsTrue, List, [], length, sym, ◌∙◌, ap, subst, arith}
 use Rattle.std.proofs.lemmas.List.{length-map}
+use Rattle.std.proofs.lemmas.List.Elements.{All-nil}
 use Rattle.ioam_desk.specs.Desk.{Side, Reading, Writing, holds, opened_each}
 use Rattle.ioam_clock.specs.declared.sample.Sample.{Sample}
 use Rattle.ioam_fates.specs.Texts.{texts_so_far, texts_of}
@@ -18,7 +19,7 @@ use Rattle.ioam_outputs.proofs.HeldLaws.{AreTold-fronts, more_fronts}
 use Rattle.ioam_outputs.proofs.ToldLaws.{AreTold-adds, said_first, told_names}
 use Rattle.ioam_topo.specs.declared.domain.Domain.{Domain}
 use Rattle.ioam_topo.specs.declared.ids.PortId.{PortId}
-use Rattle.ioam_traffic.specs.Traffic.{AllOpened, HoldsFronts, AreOpened, Files, files_of, course_with}
+use Rattle.ioam_traffic.specs.Traffic.{AllOpened, HoldsFronts, IsTimely, AreOpened, Files, files_of, course_with}
 use Rattle.ioam_traffic.specs.Running.{Fronts, Running}
 use Rattle.ioam_traffic.proofs.RunsLaws.{Merging-begins}
 
@@ -52,6 +53,7 @@ module _ (tells opens : Bool) (domain : Domain) (readings : List (List Sample)) 
               (AreTold-adds tells outputs files.first files.names old tellers (unsaid files.names) (texts_so_far domain readings []) told adds);
           forwards = forwards;
           few = omega arith;
+          timely = All-nil IsTimely;
         }
 
     -- each output is empty

@@ -3,6 +3,7 @@ use Rattle.std.proofs.Common.{◌≡◌, ℕ, ◌+◌, ◌<◌, ◌≤◌, Bool,
 use Rattle.std.specs.Prelude.{map}
 use Rattle.std.specs.List.{AllZip}
 use Rattle.std.proofs.lemmas.List.{map-append, length-map}
+use Rattle.std.proofs.lemmas.List.Elements.{All-append, All-cons, All-nil}
 use Rattle.ioam_desk.specs.Desk.{Reading, Writing}
 use Rattle.ioam_clock.specs.declared.sample.Sample.{Sample}
 use Rattle.ioam_fates.specs.Fate.{Frame}
@@ -26,7 +27,7 @@ use Rattle.ioam_captures.proofs.MergeLaws.{Takes-push}
 use Rattle.ioam_topo.specs.declared.domain.Domain.{Domain}
 use Rattle.ioam_topo.specs.declared.ids.PortId.{PortId}
 use Rattle.ioam_pcap.specs.Link.{is_ethernet}
-use Rattle.ioam_traffic.specs.Traffic.{Course, ArePassed, frame_of, frames_of, port_at}
+use Rattle.ioam_traffic.specs.Traffic.{Course, ArePassed, IsTimely, frame_of, frames_of, port_at}
 use Rattle.ioam_traffic.specs.Running.{Coming, Fronts, Halted, Running, Runs}
 use Rattle.ioam_traffic.specs.declared.progress.Progress.{Progress}
 use Rattle.ioam_traffic.proofs.FrontsLaws.{fronts_so}
@@ -68,6 +69,7 @@ module _ (tells : Bool) (course : Course) (Were : List Arrival → Type 0) (outp
     told = runs.told;
     forwards = runs.forwards;
     few = runs.few;
+    timely = runs.timely;
   }
 
   -- what was gathered was written
@@ -81,6 +83,7 @@ module _ (tells : Bool) (course : Course) (Were : List Arrival → Type 0) (outp
     told = told course.first course.names runs.texts runs.told;
     forwards = runs.forwards;
     few = runs.few;
+    timely = runs.timely;
   }
 
   -- one record more was taken, and waits
@@ -88,8 +91,8 @@ module _ (tells : Bool) (course : Course) (Were : List Arrival → Type 0) (outp
       → Are (runs.taken ++ one ∷ []) → port ≡ port_at course.ports one.capture → ethernet ≡ is_ethernet one.link
       → ((opens : Bool) (frames : List Frame) (so_far : List (List ℕ)) → Forwards opens course.domain course.readings frames so_far gathered
       → Forwards opens course.domain course.readings (frames ++ record { port = port; ethernet = ethernet; entry = one.entry } ∷ []) so_far new)
-      → taken gathered < course.domain.packets → Runs tells course Are outputs new tellers
-  Runs-take Are one new port ethernet are at link gathers room =
+      → taken gathered < course.domain.packets → IsTimely one → Runs tells course Are outputs new tellers
+  Runs-take Are one new port ethernet are at link gathers room early =
       let frames = frames_of course.ports runs.taken in
       let P : PortId → Bool → Type 0 = λ p e.
       Forwards course.opens course.domain course.readings (frames ++ record { port = p; ethernet = e; entry = one.entry } ∷ []) runs.texts new in
@@ -102,6 +105,7 @@ module _ (tells : Bool) (course : Course) (Were : List Arrival → Type 0) (outp
         forwards = subst Q (sym (frames-push course.ports runs.taken one))
             (subst (λ p. P p (is_ethernet one.link)) at (subst (λ e. P port e) link (gathers course.opens frames runs.texts runs.forwards)));
         few = omega (arith, room, Runs-count, pushed runs.taken one);
+        timely = All-append IsTimely runs.taken (one ∷ []) runs.timely (All-cons IsTimely one [] early (All-nil IsTimely));
       }
     where
       pushed : (arrivals : List Arrival) (x : Arrival) → length (arrivals ++ x ∷ []) ≡ length arrivals + 1
@@ -119,6 +123,7 @@ module _ (tells : Bool) (course : Course) (Were : List Arrival → Type 0) (outp
     told = AreTold-adds tells outputs course.first course.names tellers later runs.texts added runs.told adds;
     forwards = gathers (frames_of course.ports runs.taken) runs.texts runs.forwards;
     few = runs.few;
+    timely = runs.timely;
   }
 
   -- each output holds a front of its text

@@ -87,6 +87,7 @@ module _ (tells : Bool) (course : Course) where
               fates = hold.fates;
               are = so halts.taken (halts.are told).1;
               few = halts.few;
+              timely = halts.timely;
               become = hold.become;
               only = λ others become. AreFates-unique course.domain course.readings (frames_of course.ports halts.taken) others hold.fates become hold.become;
               held = hold.held;

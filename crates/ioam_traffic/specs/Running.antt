@@ -1,5 +1,5 @@
 -- The traffic while it runs: what was taken of the captures, and what the outputs were told of it.
-use Rattle.std.specs.Prelude.{◌≡◌, ℕ, ◌<◌, ◌≤◌, Bool, IsTrue, List, length}
+use Rattle.std.specs.Prelude.{◌≡◌, ℕ, ◌<◌, ◌≤◌, All, Bool, IsTrue, List, length}
 use Rattle.ioam_desk.specs.Desk.{Reading, Writing, Rose}
 use Rattle.ioam_clock.specs.declared.sample.Sample.{Sample}
 use Rattle.ioam_fates.specs.Fate.{Frame, Fate, AreFates}
@@ -13,7 +13,7 @@ use Rattle.ioam_outputs.specs.declared.output.Output.{Output}
 use Rattle.ioam_captures.specs.Merge.{Arrival}
 use Rattle.ioam_captures.specs.declared.turns.Turn.TheVariants as turn
 use Rattle.ioam_topo.specs.declared.domain.Domain.{Domain}
-use Rattle.ioam_traffic.specs.Traffic.{Course, frames_of, HoldsAll, ArePassed, Arrive}
+use Rattle.ioam_traffic.specs.Traffic.{Course, IsTimely, frames_of, HoldsAll, ArePassed, Arrive}
 use Rattle.ioam_traffic.specs.declared.halt.Halt.{Halt}
 use Rattle.ioam_traffic.specs.declared.halt.Halt.TheVariants.{Over, Broken, Limit, ReadFault, WriteFault, NoMemory}
 use Rattle.ioam_traffic.specs.declared.progress.Progress.{Progress}
@@ -33,6 +33,7 @@ module _ (tells : Bool) (course : Course) where
     pub told : AreTold tells outputs course.first course.names tellers texts
     pub forwards : Forwards course.opens course.domain course.readings (frames_of course.ports taken) texts gathered
     pub few : length taken ≤ course.domain.packets
+    pub timely : All IsTimely taken
 
   -- they were taken of the captures
   abbrev pub Running : Reading → Writing → Progress → List Output → Type 0

@@ -1,6 +1,6 @@
 -- The traffic of a domain: the captures of its ports are merged by time, each arrival is sent through
 -- the domain, and the outputs are told what becomes of it.
-use Rattle.std.specs.Prelude.{◌≡◌, ℕ, ◌+◌, ◌<◌, ◌≤◌, ◌⊎◌, Bool, IsTrue, List, [], ◌∷◌, ◌++◌, length, map, slice_index_or}
+use Rattle.std.specs.Prelude.{◌≡◌, ℕ, ◌+◌, ◌<◌, ◌≤◌, ◌^◌, ◌⊎◌, All, Bool, IsTrue, List, [], ◌∷◌, ◌++◌, length, map, slice_index_or}
 use Rattle.ioam_clock.specs.declared.sample.Sample.{Sample}
 use Rattle.ioam_desk.specs.Desk.{Side, Reading, Writing, Rose}
 use Rattle.ioam_fates.specs.Fate.{Frame, Fate, AreFates}
@@ -31,6 +31,10 @@ frame_of ports arrival = record { port = port_at ports arrival.capture; ethernet
 
 abbrev pub frames_of : List PortId → List Arrival → List Frame
 frames_of ports taken = map (frame_of ports) taken
+
+-- an arrival's time is below 2^62 nanoseconds, as that of each record that a reader of captures gives
+abbrev pub IsTimely : Arrival → Type 0
+IsTimely arrival = arrival.entry.time < 2 ^ 62
 
 -- Where the traffic begins: the domain, the readings of its nodes, the ports that have a capture, what these captures hold
 -- and the number of the first one's slot, the number of the first output's slot and the outputs' names, and whether the
@@ -76,6 +80,7 @@ module _ (course : Course) where
     pub fates : List Fate
     pub are : Are taken
     pub few : length taken ≤ course.domain.packets
+    pub timely : All IsTimely taken
     pub become : AreFates course.domain course.readings (frames_of course.ports taken) fates
     pub only : (others : List Fate) → AreFates course.domain course.readings (frames_of course.ports taken) others → others ≡ fates
     pub held : IsTrue course.opens → HoldTexts new course.names (texts_of course.domain course.readings fates)

@@ -2,8 +2,9 @@ use Rattle.std.proofs.Common.{refl, subst}
 use Rattle.ioam_desk.proofs.KeptLaws.{KeepsInputs-same, KeepsOutputs-same}
 use Rattle.ioam_cmd.proofs.SavedLaws.{IsSaved-by}
 use Rattle.ioam_cmd.proofs.WordsLaws.{bulk-alone, run-alone}
-use Rattle.ioam_cmd.specs.Clauses.{AreDrained, Leaves}
+use Rattle.ioam_cmd.specs.Clauses.{AreDrained, IsMeasured, Leaves}
 use Rattle.ioam_cmd.specs.Words.{IsForm}
+use Rattle.ioam_measured.proofs.MeasuredLaws.{run-then-collect}
 use Rattle.ioam_cmd.proofs.program.ioam.Goals as goal
 
 pub returns-in-None-clause-kept_in : goal.returns-in-None-clause-kept_in
@@ -28,3 +29,11 @@ returns-in-Some-Bulk-clause-leaves g c = λ command form told. bulk-alone
 pub returns-in-Some-Save-clause-saved : goal.returns-in-Some-Save-clause-saved
 returns-in-Some-Save-clause-saved g c = λ command form done told. IsSaved-by c.args.words.now (g.D.Desk.writing c.args.desk.now)
     (g.D.Desk.writing c.run_save.new.desk) (c.run_save.ensures.same done told) command
+
+pub returns-in-Some-Run-clause-measured : goal.returns-in-Some-Run-clause-measured
+returns-in-Some-Run-clause-measured g c = λ command form told. run-alone
+    (λ k. IsMeasured g.G.Gate.opens g.D.Desk.tells c.args.words.now (g.D.Desk.reading c.args.desk.now) (g.D.Desk.reading c.run_domain.new.desk)
+    (g.D.Desk.writing c.args.desk.now) (g.D.Desk.writing c.run_domain.new.desk) k c.run_domain.result)
+    c.args.words.now (subst (λ k. IsForm k c.args.words.now) c.in-Some-Run.field-0-is c.in-Some-Run.ensures).0
+    (λ workers. run-then-collect g.G.Gate.opens c.args.words.now (g.D.Desk.reading c.args.desk.now) (g.D.Desk.reading c.run_domain.new.desk)
+    (g.D.Desk.writing c.args.desk.now) (g.D.Desk.writing c.run_domain.new.desk) c.run_domain.result (c.run_domain.ensures.leaves told)) command form

@@ -37,4 +37,4 @@ returns-in-Packet-clause-runs c = OnOk-map c.take.result _ _ c.take.ensures.gath
     (λ arrivals. (time : ℕ) × Comes tells files.lanes inputs c.args.self.now.merge arrivals c.args.place time)
     writing c.args.self.now.gathered tellers coming (Merging tells files.lanes inputs _)
     (arrival_of c.args.place item) c.take.new.self _ _
-    taken_so.0 refl c.is_ethernet-ethernet.ensures more room)
+    taken_so.0 refl c.is_ethernet-ethernet.ensures more room told.0.0)
