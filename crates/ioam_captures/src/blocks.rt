@@ -1,8 +1,8 @@
 //! The next packet of a capture in the form pcapng, and what is due of it; blocks without a packet
 //! are passed.
-ghost use Rattle.std.specs.Prelude.{◌≡◌, ◌≤◌, IfOk, length};
+ghost use Rattle.std.specs.Prelude.{◌≡◌, ◌≤◌, IfOk, OnErr, length};
 ghost use Rattle.std.specs.Borrow.{sem};
-ghost use Rattle.ioam_ng.specs.Reader.{Waits, HoldsFew};
+ghost use Rattle.ioam_ng.specs.Reader.{Waits, HoldsFew, IsFace};
 ghost use Rattle.ioam_ng.specs.Reading.{fed};
 ghost use Rattle.ioam_captures.specs.Reading.{Ng};
 ghost use Rattle.ioam_captures.specs.Reader.{IsDue, KeepsFault, KeepsOn, RestsNg, SaysFault};
@@ -47,6 +47,7 @@ pub(crate) fn due_packet(reader: &mut NgReader, ended: bool) -> Result<Due, NoMe
     ensures few { IfOk result (λ due. due ≡ Due.More → HoldsFew reader.new) }
     ensures fed { fed reader.new ≡ fed reader.old }
     ensures kept { length reader.new.pending ≤ length reader.old.pending }
+    ensures memory { OnErr result (IsFace reader.new) }
 {
     match reader.pass()? {
         NgLook::Packet { time } => Ok(Due::Record { time }),

@@ -53,7 +53,7 @@ impl Reader {
     ghost use Rattle.ioam_pcap.specs.Entries.{Taken};
     ghost use Rattle.ioam_captures.specs.Reads.{Reads, ReadsOnly};
     ghost use Rattle.ioam_captures.specs.Reading.{HasBlocks, HoldsFew, fed, fresh, most_held, pending};
-    ghost use Rattle.ioam_captures.specs.Reader.{IsDue, IsFed, KeepsFault, KeepsOn, RestsSo, SaysFault, Stands, Waits};
+    ghost use Rattle.ioam_captures.specs.Reader.{IsDue, IsFace, IsFed, KeepsFault, KeepsOn, RestsSo, SaysFault, Stands, Waits};
 
     /// A reader that was fed nothing.
     pub fn new(alloc: Global) -> Result<Reader, NoMemory>
@@ -128,6 +128,8 @@ impl Reader {
         ensures few { IfOk result (λ due. due ≡ Due.More → HoldsFew self.new) }
         ensures fed { fed self.new ≡ fed self.old }
         ensures kept { length (pending self.new) ≤ length (pending self.old) }
+        // Memory is wanted only for an interface block of a capture in the form pcapng, which is due then.
+        ensures memory { OnErr result (IsFace self.new) }
     {
         match &mut self.form {
             Form::Front { held, .. } => Ok(due_front(held, ended)),
