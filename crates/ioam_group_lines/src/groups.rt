@@ -6,11 +6,11 @@ ghost use Rattle.ioam_collect.specs.Collected.{Stands};
 ghost use Rattle.ioam_collect.specs.Keyed.{IsOfRecord};
 ghost use Rattle.ioam_group_lines.specs.GroupsText.{key_line, group_text, counts_line, collected_text, records_text};
 
-use crate::ahead::{SIDE_BY_SIDE, make_room};
+use crate::ahead::make_room;
 use crate::items::put_items;
 use ioam_base::memory::NoMemory;
 use ioam_base::text::append;
-use ioam_collect::{Collector, Group, Groups, Key};
+use ioam_collect::{Collector, Group, Groups, Key, SIDE_BY_SIDE};
 use ioam_report::{Line, Piece, put_pieces, settle};
 
 // Puts the line of a key together, its last word first.
