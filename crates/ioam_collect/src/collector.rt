@@ -6,6 +6,7 @@ ghost use Rattle.ioam_dex.specs.Record.{Record, HasItsParts, record_of};
 ghost use Rattle.ioam_collect.specs.Keyed.{key_cmp, keyed, keyed_of, IsOfRecord};
 ghost use Rattle.ioam_collect.specs.Best.{groups_of};
 
+use crate::ahead::SIDE_BY_SIDE;
 use crate::grouping::Groups;
 use crate::growing::Added;
 use crate::key::Key;
@@ -88,6 +89,12 @@ impl Collector {
                 Ok(Added::Unkeyed)
             }
         }
+    }
+
+    /// Reads what adding records with these keys will search, as far as it is found at once, and says how many items it
+    /// read. Then they are at hand, which makes adding the records that come next faster.
+    pub fn read_ahead(&self, keys: &[Option<Key>; SIDE_BY_SIDE]) -> usize {
+        self.store.read_ahead(keys)
     }
 
     /// Whether `add` would answer `Full` for a record. The collector stays as it is.

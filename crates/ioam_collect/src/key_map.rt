@@ -1,4 +1,4 @@
-ghost use Rattle.std.specs.Prelude.{◌≡◌, Some, None, OnErr, OnOk};
+ghost use Rattle.std.specs.Prelude.{◌≡◌, Some, None, IfSome, OnErr, OnOk};
 ghost use Rattle.std.specs.List.{All};
 ghost use Rattle.std.specs.BTreeMap.{get, IsEmpty, IsOrdered, IsUnchanged, Updates};
 ghost use Rattle.ioam_collect.specs.Keyed.{key_cmp};
@@ -38,7 +38,15 @@ impl KeyMap {
         self.map.get(&key).copied()
     }
 
-    // The same. The key stands in a slot from then on, so that it is found there the next time.
+    // The chain of a key, where one of its slots has it.
+    pub(crate) fn in_slot(&self, key: Key) -> Option<Chain>
+        requires { AreSlotsOf self.now.map self.now.slots.items }
+        ensures { IfSome result (λ chain. get key_cmp self.now.map key ≡ Some chain) }
+    {
+        chain_in(&self.slots, key)
+    }
+
+    // The chain of a key. The key stands in a slot from then on, so that it is found there the next time.
     pub(crate) fn find(&mut self, key: Key) -> Option<Chain>
         requires { AreSlotsOf self.old.map self.old.slots.items }
         ensures value { result ≡ get key_cmp self.old.map key }

@@ -2,6 +2,7 @@
 #![tactic(auto)]
 
 mod adding;
+mod ahead;
 mod collector;
 mod grouping;
 mod growing;
@@ -11,6 +12,7 @@ mod keying;
 mod slots;
 mod store;
 
+pub use ahead::{SIDE_BY_SIDE, read_ahead};
 pub use collector::Collector;
 pub use grouping::{Group, Groups};
 pub use growing::Added;

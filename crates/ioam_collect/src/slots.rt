@@ -18,7 +18,8 @@ pub(crate) struct Slot {
     pub(crate) chain: Chain,
 }
 
-// The first of the two places of a key among so many slots. Sequence Numbers that follow one another have places that do.
+// The first of the two places of a key among so many slots, a power of two. Sequence Numbers that follow one another have
+// places that do.
 fn place_of(key: Key, slots: usize) -> usize
     requires { 2 ≤ slots }
     ensures { result + 1 < slots }
@@ -26,7 +27,7 @@ fn place_of(key: Key, slots: usize) -> usize
     let flow = key.flow.wrapping_mul(0x9e37_79b1);
     let namespace = u32::from(key.namespace.0).wrapping_mul(0x85eb_ca6b);
     let mixed = key.seq.wrapping_add(flow).wrapping_add(namespace);
-    mixed as usize % (slots / 2) * 2
+    (mixed as usize & (slots / 2 - 1)) * 2
 }
 
 // The chain of a key, where the slot at this place has it.

@@ -5,14 +5,18 @@ ghost use Rattle.std.specs.List.Sorted.{IsStrictlySortedBy};
 ghost use Rattle.ioam_collect.specs.Keyed.{key_cmp, IsOfRecord};
 
 use crate::adding::add_first;
+use crate::ahead::{SIDE_BY_SIDE, read_ahead};
 use crate::grouping::Groups;
 use crate::growing::{Added, put};
 use crate::key::Key;
 use crate::key_map::KeyMap;
 use ioam_base::memory::NoMemory;
-use ioam_pool::{Chain, Item, Parts, Pool};
+use ioam_pool::{Chain, Item, Items, Parts, Pool};
 use std::alloc::Global;
 use std::marker::Model;
+
+// Of a key at most so many items are read ahead.
+const MOST_AHEAD: u32 = 3;
 
 // How many cells a store begins with, where it may have as many.
 const FIRST_CELLS: u32 = 1024;
@@ -100,6 +104,45 @@ impl Store {
             Some(chain) => self.pool.is_apart(chain, item),
             None => true,
         }
+    }
+
+    // The items of a key that stands in a slot.
+    fn items_at_slot(&self, key: Key) -> Option<Items<'_>> {
+        match self.chains.in_slot(key) {
+            Some(chain) => Some(self.pool.walk(chain)),
+            None => None,
+        }
+    }
+
+    // The same, where there is a key.
+    fn items_of(&self, key: Option<Key>) -> Option<Items<'_>> {
+        match key {
+            Some(key) => self.items_at_slot(key),
+            None => None,
+        }
+    }
+
+    // Reads the slots of keys, and the first items of those that stand there. Says how many items it read.
+    pub(crate) fn read_ahead(&self, keys: &[Option<Key>; SIDE_BY_SIDE]) -> usize {
+        let mut items = [
+            self.items_of(keys[0]),
+            self.items_of(keys[1]),
+            self.items_of(keys[2]),
+            self.items_of(keys[3]),
+            self.items_of(keys[4]),
+            self.items_of(keys[5]),
+            self.items_of(keys[6]),
+            self.items_of(keys[7]),
+            self.items_of(keys[8]),
+            self.items_of(keys[9]),
+            self.items_of(keys[10]),
+            self.items_of(keys[11]),
+            self.items_of(keys[12]),
+            self.items_of(keys[13]),
+            self.items_of(keys[14]),
+            self.items_of(keys[15]),
+        ];
+        read_ahead(&mut items, MOST_AHEAD)
     }
 
     // The groups, in the order of their keys. None is empty.

@@ -11,7 +11,7 @@ use Rattle.ioam_collect.specs.Keyed.{keyed, keyed_of}
 use Rattle.ioam_collect.specs.Best.{kept_of, groups_of}
 use Rattle.ioam_collect.specs.Collected.{Collected, Stands, capped, one_where_none, count_unkeyed}
 use Rattle.ioam_collect.specs.declared.key.Key.{Key}
-use Rattle.ioam_group_lines.specs.GroupsText.{record_line, group_text, counts_line, collected_text, records_text}
+use Rattle.ioam_group_lines.specs.GroupsText.{group_text, counts_line, collected_text, records_text}
 
 -- the octets of a record by its places: nothing stands behind its element
 pub record AtPlaces (octets : List ℕ) : Type 0 where

@@ -6,10 +6,11 @@ ghost use Rattle.ioam_collect.specs.Collected.{Stands};
 ghost use Rattle.ioam_collect.specs.Keyed.{IsOfRecord};
 ghost use Rattle.ioam_group_lines.specs.GroupsText.{key_line, group_text, counts_line, collected_text, records_text};
 
+use crate::ahead::make_room;
 use crate::items::put_items;
 use ioam_base::memory::NoMemory;
 use ioam_base::text::append;
-use ioam_collect::{Collector, Group, Groups, Key};
+use ioam_collect::{Collector, Group, Groups, Key, SIDE_BY_SIDE};
 use ioam_report::{Line, Piece, put_pieces, settle};
 
 // Puts the line of a key together, its last word first.
@@ -40,13 +41,24 @@ fn put_group(group: Group<'_>, line: &mut Line, out: &mut Vec<u8>) -> Result<(),
     settle(out, before, answer)
 }
 
-// Appends the lines of groups, one put together after the other.
-fn put_all(groups: Groups<'_>, line: &mut Line, out: &mut Vec<u8>) -> Result<(), NoMemory>
+// Appends the lines of groups, one put together after the other. The same groups, lent once more, are read ahead.
+fn put_all(
+    groups: Groups<'_>,
+    ahead: &mut Groups<'_>,
+    line: &mut Line,
+    out: &mut Vec<u8>,
+) -> Result<(), NoMemory>
     requires { AllByRecursion (λ group. AllByRecursion IsOfRecord group.1) groups }
     ensures { out.new.items ≡ (if is_ok result then out.old.items ++ flat_map group_text groups.entry else out.old.items) }
 {
     let before = out.len();
+    let mut due = 0;
     for group in groups {
+        if due == 0 {
+            make_room(ahead, out);
+            due = SIDE_BY_SIDE;
+        }
+        due -= 1;
         let answer = put_group(group, line, out);
         settle(out, before, answer)?;
     }
@@ -81,7 +93,8 @@ pub fn put_groups(collector: &Collector, out: &mut Vec<u8>) -> Result<(), NoMemo
     ensures records { (xs : List Record) → Stands collector.now xs → length xs < 2 ^ 64 → collected_text collector.now ≡ records_text xs }
 {
     let before = out.len();
-    put_all(collector.groups(), &mut Line::new(), out)?;
+    let mut ahead = collector.groups();
+    put_all(collector.groups(), &mut ahead, &mut Line::new(), out)?;
     let answer = put_counts(
         collector.read(),
         u64::from(collector.held()),

@@ -2,6 +2,7 @@
 //! ends with a line feed.
 #![tactic(auto)]
 
+mod ahead;
 mod groups;
 mod items;
 

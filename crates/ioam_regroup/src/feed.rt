@@ -4,6 +4,7 @@ ghost use Rattle.ioam_desk.specs.Desk.{OpenIn, OpensInput, holds};
 ghost use Rattle.ioam_dex.specs.Reader.{fed, fresh};
 ghost use Rattle.ioam_regroup.specs.Feed.{Fed, Refills};
 
+use crate::ahead::Ahead;
 use ioam_base::memory::NoMemory;
 use ioam_desk::{Desk, DeskFault};
 use ioam_dex::ExportReader;
@@ -16,6 +17,7 @@ pub struct ExportFeed {
     pub slot: u32,
     /// What was handed out of the slot and not yet taken.
     pub reader: ExportReader,
+    pub(crate) ahead: Ahead,
 }
 
 /// Opens the export records that a name holds. A missing name is a fault; where no memory can be had the
@@ -39,8 +41,16 @@ pub fn open_exports<D: Desk>(
         Ok(reader) => reader,
         Err(NoMemory) => return Err(DeskFault::NoMemory),
     };
+    let ahead = match Ahead::new(alloc) {
+        Ok(ahead) => ahead,
+        Err(NoMemory) => return Err(DeskFault::NoMemory),
+    };
     let slot = desk.open_in(name)?;
-    Ok(ExportFeed { slot, reader })
+    Ok(ExportFeed {
+        slot,
+        reader,
+        ahead,
+    })
 }
 
 impl ExportFeed {
@@ -68,6 +78,7 @@ impl ExportFeed {
         if count == 0 {
             return Ok(false);
         }
+        self.ahead.feed(&piece[..count]);
         match self.reader.feed(&piece[..count]) {
             Ok(()) => Ok(true),
             Err(NoMemory) => Err(DeskFault::NoMemory),

@@ -5,6 +5,7 @@ ghost use Rattle.ioam_dex.specs.Reader.{fed};
 ghost use Rattle.ioam_regroup.specs.Feed.{Fed};
 ghost use Rattle.ioam_regroup.specs.Gathering.{Gathers, Pauses, Halts, ReadsOne, most_held};
 
+use crate::ahead::Ahead;
 use crate::feed::ExportFeed;
 use crate::step::{Pause, step};
 use ioam_base::memory::NoMemory;
@@ -28,7 +29,11 @@ pub enum Halt {
 }
 
 // Takes all records that the octets handed out so far show.
-fn take_shown(reader: &mut ExportReader, collector: &mut Collector) -> Result<Pause, NoMemory>
+fn take_shown(
+    reader: &mut ExportReader,
+    ahead: &mut Ahead,
+    collector: &mut Collector,
+) -> Result<Pause, NoMemory>
     requires { collector.old.limit ≡ most_held }
     ensures paused { IfOk result (λ pause. (octets : List ℕ) (records : List Record)
         → Gathers octets records reader.old collector.old → Pauses octets reader.new collector.new pause) }
@@ -36,6 +41,7 @@ fn take_shown(reader: &mut ExportReader, collector: &mut Collector) -> Result<Pa
     ensures limit { collector.new.limit ≡ collector.old.limit }
 {
     'records: loop {
+        ahead.go_on(collector);
         match step(reader, collector)? {
             None => {}
             Some(pause) => return Ok(pause),
@@ -63,7 +69,7 @@ pub fn gather<D: Desk>(
     ensures outputs { D.writing desk.new ≡ D.writing desk.old }
 {
     'pieces: loop {
-        match take_shown(&mut feed.reader, collector) {
+        match take_shown(&mut feed.reader, &mut feed.ahead, collector) {
             Ok(Pause::More) => {}
             Ok(Pause::Bad { at, fault }) => return Halt::Exports { at, fault },
             Ok(Pause::Limit { limit }) => return Halt::Records { limit },

@@ -1,6 +1,7 @@
 //! Export records that are read in pieces from a desk and regrouped, and the report of their groups.
 #![tactic(auto)]
 
+mod ahead;
 mod feed;
 mod gathering;
 mod reporting;
