@@ -15,9 +15,10 @@ use ioam_clock::{Readings, read_readings};
 use ioam_domain_file::read_domain;
 use ioam_topo::Domain;
 use series::{Series, series_of};
-use std::fs;
+use std::alloc::Global;
 use std::rt::{Clock, Files};
 use std::thread::Threads;
+use std::{fs, mem};
 use stop::Stop;
 use words::words_of;
 
@@ -30,6 +31,11 @@ fn domain_of<R: Files + AllocGlobal>(rt: &R, name: &str) -> Result<Domain, Stop>
     }
 }
 
+// The readings that octets tell.
+fn told(alloc: Global, domain: &Domain, octets: &[u8]) -> Option<Readings> {
+    read_readings(alloc, domain, octets).ok()
+}
+
 // The readings that a file tells.
 fn readings_of<R: Files + AllocGlobal>(
     rt: &R,
@@ -37,10 +43,24 @@ fn readings_of<R: Files + AllocGlobal>(
     name: &str,
 ) -> Result<Readings, Stop> {
     let text = fs::read(rt, name)?;
-    match read_readings(rt.alloc(), domain, &text) {
-        Ok(readings) => Ok(readings),
-        Err(_) => Err(Stop::Readings),
+    match told(rt.alloc(), domain, &text) {
+        Some(readings) => Ok(readings),
+        None => Err(Stop::Readings),
     }
+}
+
+// Times so many batches through a domain, with the readings of a file.
+fn timed<R: Files + Clock + Threads + Sync + AllocGlobal>(
+    rt: &R,
+    domain: &Domain,
+    readings: &str,
+    workers: u32,
+    batches: u32,
+) -> Result<Series, Stop>
+    requires staffed { (1 ≤ workers) × (workers ≤ 64) }
+{
+    let readings = readings_of(rt, domain, readings)?;
+    series_of(rt, domain, &readings, workers, batches)
 }
 
 // Times so many batches through the domain of two files.
@@ -54,8 +74,11 @@ fn measured<R: Files + Clock + Threads + Sync + AllocGlobal>(
     requires staffed { (1 ≤ workers) × (workers ≤ 64) }
 {
     let domain = domain_of(rt, domain)?;
-    let readings = readings_of(rt, &domain, readings)?;
-    series_of(rt, &domain, &readings, workers, batches)
+    let series = timed(rt, &domain, readings, workers, batches);
+    // The program ends next, and the system takes its memory: to let a domain go part by part takes
+    // longer to prove than all else here.
+    mem::forget(domain);
+    series
 }
 
 fn main(rt: HostRuntime) -> Result<(), Stop> {

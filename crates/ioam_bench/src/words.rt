@@ -1,6 +1,5 @@
 //! The words of the command line.
 use crate::stop::Stop;
-use ioam_base::digits::decimal_below;
 use std::env;
 use std::rt::Env;
 
@@ -12,12 +11,9 @@ pub(crate) struct Words {
     pub(crate) batches: u32,
 }
 
-// The number below a limit that a word spells.
-fn number(word: &str, limit: u32) -> Result<u32, Stop> {
-    match decimal_below(word.as_bytes(), u64::from(limit)) {
-        Some(number) => Ok(number as u32),
-        None => Err(Stop::Usage),
-    }
+// The number that a word spells.
+fn number(word: &str) -> Result<u32, Stop> {
+    word.parse::<u32>().map_err(|_| Stop::Usage)
 }
 
 /// The words `DOMAIN READINGS WORKERS BATCHES`.
@@ -32,7 +28,7 @@ pub(crate) fn words_of<R: Env + AllocGlobal>(rt: &R) -> Result<Words, Stop> {
     Ok(Words {
         domain,
         readings,
-        workers: number(workers.as_str(), 65)?,
-        batches: number(batches.as_str(), 1_000_000)?,
+        workers: number(workers.as_str())?,
+        batches: number(batches.as_str())?,
     })
 }
