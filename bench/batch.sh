@@ -19,6 +19,10 @@ program=$top/crates/ioam_bench/out/ioam_bench
     exit 1
 }
 
+# The heap stays between batches: else, with one worker, the C library hands it back after each, and a part of what is timed are
+# the page faults of the next.
+export GLIBC_TUNABLES=glibc.malloc.trim_threshold=1000000000
+
 # Runs the program and the yardstick in turn: what each prints goes to a file for each of them and each number of workers.
 measure() {
     local workers

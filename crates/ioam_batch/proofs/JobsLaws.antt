@@ -1,9 +1,9 @@
 -- Laws of jobs in a batch and in its chunks.
-use Rattle.std.proofs.Common.{◌≡◌, ℕ, suc, ◌+◌, ◌<◌, ◌≤◌, List, [], ◌∷◌, ◌++◌, length, get_or, set, take, drop, All, refl, sym, ap, ◌∙◌, subst, inl, inr, add-zero, arith}
+use Rattle.std.proofs.Common.{◌≡◌, ℕ, ◌+◌, ◌<◌, ◌≤◌, List, [], ◌∷◌, ◌++◌, length, get_or, set, take, drop, All, refl, sym, ap, ◌∙◌, subst, inl, inr, add-zero, arith}
 use Rattle.std.specs.List.{AllZip}
 use Rattle.std.proofs.lemmas.Grind.{drop_more_same}
 use Rattle.std.proofs.lemmas.List.{get_or-drop, take_all, take_more, take_more_set, drop-set-lt}
-use Rattle.std.proofs.lemmas.List.Elements.{AllZip-get_or, AllZip-push, All-nil, All-cons, All-head, All-tail}
+use Rattle.std.proofs.lemmas.List.Elements.{AllZip-push, All-nil, All-cons, All-head, All-tail}
 use Rattle.std.proofs.lemmas.List.Sums.{sum_by-cons}
 use Rattle.ioam_batch.specs.Batches.{MayRun, all_reserved}
 use Rattle.ioam_batch.specs.Jobs.{HasRun, Holds, reserved_of}
@@ -11,14 +11,12 @@ use Rattle.ioam_batch.specs.declared.job.Job.{Job}
 use Rattle.ioam_clock.specs.declared.sample.Sample.{Sample}
 use Rattle.ioam_topo.specs.declared.domain.Domain.{Domain}
 
--- what is so of each pair
-pub AllZip-each : {X : Type 0} (R : X → X → Type 0) (xs ys : List X) → length ys ≡ length xs
-    → ((i : ℕ) (d : X) → i < length xs → R (get_or xs i d) (get_or ys i d)) → AllZip R xs ys
-AllZip-each R [] [] same each = tt
-AllZip-each R [] (y ∷ ys) same each = absurd (omega (arith, same))
-AllZip-each R (x ∷ xs) [] same each = absurd (omega (arith, same))
-AllZip-each R (x ∷ xs) (y ∷ ys) same each =
-    (each 0 x (omega arith), AllZip-each R xs ys (omega (arith, same)) (λ i d lt. each (suc i) d (omega (arith, lt))))
+-- what is so of the pairs of two lists and of two more is so of both together
+pub AllZip-both : {X : Type 0} (R : X → X → Type 0) (xs ys vs ws : List X) → AllZip R xs vs → AllZip R ys ws → AllZip R (xs ++ ys) (vs ++ ws)
+AllZip-both R [] ys [] ws first others = others
+AllZip-both R [] ys (v ∷ vs) ws first others = absurd first
+AllZip-both R (x ∷ xs) ys [] ws first others = absurd first
+AllZip-both R (x ∷ xs) ys (v ∷ vs) ws first others = (first.0, AllZip-both R xs ys vs ws first.1 others)
 
 -- one more of the list is so, and the others are as they were
 pub record Reached {X : Type 0} (R : X → X → Type 0) (xs ys : List X) (i : ℕ) : Type 0 where
@@ -50,14 +48,6 @@ Reached-all {X} R xs ys i so past size =
     let P : List X → Type 0 = λ zs. AllZip R zs (take i ys) in
     let Q : List X → Type 0 = λ zs. AllZip R xs zs in
     subst Q (take_all i ys (omega (arith, past, size))) (subst P (take_all i xs past) so.done)
-
--- a pair of the whole stands in a chunk
-pub at_place : {X : Type 0} (R : X → X → Type 0) (xs ys before after : List X) (offset i : ℕ) (d : X) → AllZip R before after
-    → offset < length before → get_or before offset d ≡ get_or xs i d → get_or after offset d ≡ get_or ys i d → R (get_or xs i d) (get_or ys i d)
-at_place {X} R xs ys before after offset i d zip inside old new =
-    let P : X → Type 0 = λ x. R x (get_or after offset d) in
-    let Q : X → Type 0 = λ y. R (get_or xs i d) y in
-    subst Q new (subst P old (AllZip-get_or R before after offset d d zip inside))
 
 module _ (domain : Domain) (readings : List (List Sample)) where
   -- a job that ran may run

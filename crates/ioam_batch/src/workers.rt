@@ -1,5 +1,6 @@
-ghost use Rattle.std.specs.Prelude.{◌≡◌, ◌≤◌, ◌<◌, ◌^◌, All, IsTrue, length};
+ghost use Rattle.std.specs.Prelude.{◌≡◌, ◌+◌, ◌≤◌, ◌<◌, ◌^◌, All, IsTrue, length};
 ghost use Rattle.std.specs.List.{AllZip};
+ghost use Rattle.std.specs.Thread.{IsSync};
 ghost use Rattle.ioam_batch.specs.Batches.{MayRun};
 ghost use Rattle.ioam_batch.specs.Jobs.{HasRun, Holds, IsFresh};
 
@@ -9,8 +10,7 @@ use crate::job::Job;
 use crate::running::run_job;
 use ioam_clock::Readings;
 use ioam_topo::Domain;
-use std::thread;
-use std::thread::Threads;
+use std::thread::{Threads, join_mut};
 
 // Runs these jobs, one after the other.
 fn run_each(domain: &Domain, readings: &Readings, jobs: &mut [Job])
@@ -33,31 +33,65 @@ fn run_chunk<G: Gate>(domain: &Domain, readings: &Readings, gate: &G, chunk: u32
     }
 }
 
-// Runs jobs in chunks of this size.
+// Runs jobs in chunks of this size, each but the last by a thread of its own. One thread starts them
+// all: where threads that start at the same moment start others, these come to wait for one core.
+#[cycle(chunks)]
 fn run_chunks<R: Threads + Sync, G: Gate>(
     rt: &R,
     domain: &Domain,
     readings: &Readings,
-    jobs: &mut [Job],
-    size: usize,
     gate: &G,
+    chunk: u32,
+    size: usize,
+    jobs: &mut [Job],
 )
     requires size { 0 < size }
-    requires few { length jobs.old ≤ 256 }
+    requires few { chunk + length jobs.old < 2 ^ 32 }
     requires fresh { All (IsFresh domain.now) jobs.old }
     ensures runs { IsTrue G.opens → AllZip (HasRun domain.now readings.now) jobs.old jobs.new }
     ensures may { AllZip (MayRun domain.now readings.now) jobs.old jobs.new }
 {
-    thread::for_each_chunk_mut(
-        rt,
-        jobs,
-        size,
-        &|start: usize, part: &mut [Job]|
-            requires { (0 < size) × (start < 2 ^ 32) × All (IsFresh domain.now) part.now }
-            ensures { (IsTrue G.opens → AllZip (HasRun domain.entry.now readings.entry.now) part.entry.now part.exit.now)
-                × AllZip (MayRun domain.entry.now readings.entry.now) part.entry.now part.exit.now }
-        { run_chunk(domain, readings, gate, (start / size) as u32, part) },
-    );
+    if jobs.len() <= size {
+        run_chunk(domain, readings, gate, chunk, jobs);
+        return;
+    }
+    let (first, others) = jobs.split_at_mut(size);
+    run_beside(rt, domain, readings, gate, chunk, size, first, others);
+}
+
+// Runs the jobs of a chunk by a thread of its own, and meanwhile the others in chunks.
+#[cycle(chunks)]
+fn run_beside<R: Threads + Sync, G: Gate>(
+    rt: &R,
+    domain: &Domain,
+    readings: &Readings,
+    gate: &G,
+    chunk: u32,
+    size: usize,
+    first: &mut [Job],
+    others: &mut [Job],
+)
+    requires size { 0 < size }
+    requires some { 0 < length first.old }
+    requires few { chunk + 1 + length others.old < 2 ^ 32 }
+    requires first { All (IsFresh domain.now) first.old }
+    requires others { All (IsFresh domain.now) others.old }
+    ensures first_runs { IsTrue G.opens → AllZip (HasRun domain.now readings.now) first.old first.new }
+    ensures first_may { AllZip (MayRun domain.now readings.now) first.old first.new }
+    ensures others_run { IsTrue G.opens → AllZip (HasRun domain.now readings.now) others.old others.new }
+    ensures others_may { AllZip (MayRun domain.now readings.now) others.old others.new }
+{
+    let mut front = ||
+        requires { All (IsFresh domain.now) first.now }
+        ensures { (IsTrue G.opens → AllZip (HasRun domain.entry.now readings.entry.now) first.entry.now first.exit.now)
+            × AllZip (MayRun domain.entry.now readings.entry.now) first.entry.now first.exit.now }
+    { run_chunk(domain, readings, gate, chunk, first) };
+    let mut back = ||
+        requires { IsSync R.row × IsSync G.row × (0 < size) × (chunk + 1 + length others.now < 2 ^ 32) × All (IsFresh domain.now) others.now }
+        ensures { (IsTrue G.opens → AllZip (HasRun domain.entry.now readings.entry.now) others.entry.now others.exit.now)
+            × AllZip (MayRun domain.entry.now readings.entry.now) others.entry.now others.exit.now }
+    { run_chunks(rt, domain, readings, gate, chunk + 1, size, others) };
+    join_mut(rt, &mut front, &mut back);
 }
 
 /// Runs the jobs of a batch by so many workers, each on a chunk of ceil(jobs / workers) jobs that it
@@ -86,5 +120,5 @@ pub fn run_batch<R: Threads + Sync, G: Gate>(
     if size == 0 {
         return;
     }
-    run_chunks(rt, domain, readings, &mut batch.jobs, size, gate);
+    run_chunks(rt, domain, readings, gate, 0, size, &mut batch.jobs);
 }
