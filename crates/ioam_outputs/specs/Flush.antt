@@ -1,5 +1,5 @@
 -- What a writing of gathered octets changes.
-use Rattle.std.specs.Prelude.{◌≡◌, ◌≢◌, ℕ, Bool, IsTrue, List, ◌++◌, All}
+use Rattle.std.specs.Prelude.{◌≡◌, ◌≢◌, ℕ, ◌<◌, Bool, IsTrue, List, ◌++◌, length, get_or, All}
 use Rattle.ioam_desk.specs.Desk.{Writing, SameBut}
 use Rattle.ioam_outputs.specs.declared.output.Output.{Output}
 use Rattle.ioam_outputs.specs.Told.{AreTold}
@@ -21,3 +21,8 @@ KeepsTold tells old new before after = (slot : ℕ) (names texts : List (List �
 pub record WritesTheirs (old new : Writing) (outputs : List Output) : Type 0 where
   pub files : new.files ≡ old.files
   pub written : (k : ℕ) → All (λ output. output.slot ≢ k) outputs → new.written k ≡ old.written k
+
+-- an output for which fewer octets than these are gathered is as it was, and nothing was written to its slot
+pub record KeepsFew (least : ℕ) (old new : Writing) (before after : List Output) : Type 0 where
+  pub gathered : (i : ℕ) (d : Output) → i < length before → length (get_or before i d).gathered.items < least → get_or after i d ≡ get_or before i d
+  pub written : (k : ℕ) → All (λ output. output.slot ≡ k → length output.gathered.items < least) before → new.written k ≡ old.written k

@@ -1,7 +1,7 @@
 //! Writing of gathered octets.
 ghost use Rattle.std.specs.Prelude.{◌≡◌, ◌≤◌, ◌<◌, [], ℕ, List, All, IsTrue, IfErr, OnOk, length};
 ghost use Rattle.ioam_desk.specs.Asked.{IsFaultOf};
-ghost use Rattle.ioam_outputs.specs.Flush.{Moves, KeepsTold, WritesTheirs};
+ghost use Rattle.ioam_outputs.specs.Flush.{KeepsFew, KeepsTold, Moves, WritesTheirs};
 ghost use Rattle.ioam_outputs.specs.Held.{HoldTexts, HoldAllFronts};
 ghost use Rattle.ioam_outputs.specs.Told.{AreTold, AreOpen, GathersFew, GathersNothing};
 
@@ -43,6 +43,7 @@ fn flush_from<D: Desk>(desk: &mut D, output: &mut Output, least: usize) -> Resul
     requires open { output.old.slot < (D.writing desk.old).side.slots }
     requires some { 1 ≤ least }
     ensures moved { Moves D.tells (D.writing desk.old) (D.writing desk.new) output.old output.new }
+    ensures kept { length output.old.gathered.items < least → (output.new ≡ output.old) × (D.writing desk.new ≡ D.writing desk.old) }
     ensures few { OnOk result (length output.new.gathered.items < least) }
     ensures same { OnOk result ((D.writing desk.new).side ≡ (D.writing desk.old).side) }
     ensures asked { (D.writing desk.new).side.asked ≡ (D.writing desk.old).side.asked }
@@ -60,6 +61,7 @@ fn flush_each<D: Desk>(desk: &mut D, outputs: &mut [Output], least: usize) -> Re
     requires open { AreOpen (D.writing desk.old) outputs.old }
     requires some { 1 ≤ least }
     ensures told { KeepsTold D.tells (D.writing desk.old) (D.writing desk.new) outputs.old outputs.new }
+    ensures kept { KeepsFew least (D.writing desk.old) (D.writing desk.new) outputs.old outputs.new }
     ensures few { OnOk result (All (λ output. length output.gathered.items < least) outputs.new) }
     ensures same { OnOk result ((D.writing desk.new).side ≡ (D.writing desk.old).side) }
     ensures asked { (D.writing desk.new).side.asked ≡ (D.writing desk.old).side.asked }
@@ -76,7 +78,8 @@ fn flush_each<D: Desk>(desk: &mut D, outputs: &mut [Output], least: usize) -> Re
 }
 
 /// Writes what is gathered for each output that has a full piece, of 65,536 octets or more, and
-/// keeps the room. What was said to the outputs is what was said before, also behind a fault.
+/// keeps the room; an output that has less is left as it is. What was said to the outputs is what was
+/// said before, also behind a fault.
 ///
 /// `Failed`: a write failed, and the desk's count of faults rose.
 pub fn flush_full<D: Desk>(desk: &mut D, outputs: &mut [Output]) -> Result<(), DeskFault>
@@ -86,6 +89,7 @@ pub fn flush_full<D: Desk>(desk: &mut D, outputs: &mut [Output]) -> Result<(), D
     ensures fronts { IsTrue D.tells → (slot : ℕ) (names texts : List (List ℕ))
         → AreTold D.tells (D.writing desk.old) slot names outputs.old texts → HoldAllFronts (D.writing desk.new) names texts }
     ensures few { OnOk result (GathersFew outputs.new) }
+    ensures kept { KeepsFew 65536 (D.writing desk.old) (D.writing desk.new) outputs.old outputs.new }
     ensures cause { IfErr result (IsFaultOf (D.writing desk.old).side (D.writing desk.new).side) }
     ensures same { OnOk result ((D.writing desk.new).side ≡ (D.writing desk.old).side) }
     ensures asked { (D.writing desk.new).side.asked ≡ (D.writing desk.old).side.asked }

@@ -1,5 +1,5 @@
 use Rattle.std.proofs.Common.{◌<◌, ◌∙◌, length, arith}
-use Rattle.ioam_outputs.proofs.FlushLaws.{others_more, keeps_more, open_more, few_more, few_all}
+use Rattle.ioam_outputs.proofs.FlushLaws.{kept_more, others_more, keeps_more, open_more, few_more, few_all}
 use Rattle.ioam_outputs.proofs.flush.flush_each.Goals as goal
 
 pub returns-in_err-flush_from-clause-told : goal.returns-in_err-flush_from-clause-told
@@ -14,6 +14,9 @@ outputs-preserved g c =
     record {
       told = keeps_more _ _ _ c.outputs.outputs c.outputs.output-index c.output-item.result c.flush_from.new.output _ _
           inside c.in_ok-flush_from.ensures.moved c.outputs.invariant.told;
+      kept = kept_more g.D.Desk.tells c.args.least (g.D.Desk.writing c.args.desk.now) (g.D.Desk.writing c.outputs.desk) (g.D.Desk.writing c.flush_from.new.desk)
+          c.args.outputs.now c.outputs.outputs c.outputs.output-index c.output-item.result c.flush_from.new.output
+          inside c.in_ok-flush_from.ensures.kept c.outputs.invariant.kept c.in_ok-flush_from.ensures.moved;
       are_open = open_more _ _ _ c.outputs.outputs c.outputs.output-index c.output-item.result c.flush_from.new.output
           inside c.in_ok-flush_from.ensures.moved c.outputs.invariant.are_open;
       few = few_more c.args.least c.outputs.outputs c.outputs.output-index c.flush_from.new.output
@@ -28,6 +31,13 @@ outputs-preserved g c =
 
 pub returns-clause-few : goal.returns-clause-few
 returns-clause-few g c = few_all c.args.least c.outputs.outputs c.outputs.output-index (omega arith) c.outputs.invariant.few
+
+pub returns-in_err-flush_from-clause-kept : goal.returns-in_err-flush_from-clause-kept
+returns-in_err-flush_from-clause-kept g c =
+    let inside : c.outputs.output-index < length c.outputs.outputs = omega arith in
+    (kept_more g.D.Desk.tells c.args.least (g.D.Desk.writing c.args.desk.now) (g.D.Desk.writing c.outputs.desk) (g.D.Desk.writing c.flush_from.new.desk)
+    c.args.outputs.now c.outputs.outputs c.outputs.output-index c.output-item.result c.flush_from.new.output
+    inside c.in_err-flush_from.ensures.kept c.outputs.invariant.kept c.in_err-flush_from.ensures.moved).kept
 
 pub returns-in_err-flush_from-clause-open : goal.returns-in_err-flush_from-clause-open
 returns-in_err-flush_from-clause-open g c =
