@@ -124,24 +124,7 @@ impl Store {
 
     // Reads the slots of keys, and the first items of those that stand there. Says how many items it read.
     pub(crate) fn read_ahead(&self, keys: &[Option<Key>; SIDE_BY_SIDE]) -> usize {
-        let mut items = [
-            self.items_of(keys[0]),
-            self.items_of(keys[1]),
-            self.items_of(keys[2]),
-            self.items_of(keys[3]),
-            self.items_of(keys[4]),
-            self.items_of(keys[5]),
-            self.items_of(keys[6]),
-            self.items_of(keys[7]),
-            self.items_of(keys[8]),
-            self.items_of(keys[9]),
-            self.items_of(keys[10]),
-            self.items_of(keys[11]),
-            self.items_of(keys[12]),
-            self.items_of(keys[13]),
-            self.items_of(keys[14]),
-            self.items_of(keys[15]),
-        ];
+        let mut items = keys.map(|key| self.items_of(key));
         read_ahead(&mut items, MOST_AHEAD)
     }
 

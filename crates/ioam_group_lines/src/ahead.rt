@@ -20,24 +20,7 @@ fn items_of<'a>(group: Option<Group<'a>>) -> Option<Items<'a>> {
 
 // The items of each of the next groups.
 fn next_items<'a>(groups: &mut Groups<'a>) -> [Option<Items<'a>>; SIDE_BY_SIDE] {
-    [
-        items_of(groups.next()),
-        items_of(groups.next()),
-        items_of(groups.next()),
-        items_of(groups.next()),
-        items_of(groups.next()),
-        items_of(groups.next()),
-        items_of(groups.next()),
-        items_of(groups.next()),
-        items_of(groups.next()),
-        items_of(groups.next()),
-        items_of(groups.next()),
-        items_of(groups.next()),
-        items_of(groups.next()),
-        items_of(groups.next()),
-        items_of(groups.next()),
-        items_of(groups.next()),
-    ]
+    [(); SIDE_BY_SIDE].map(|()| items_of(groups.next()))
 }
 
 /// Makes room for the lines of the next groups, where there is memory for it. Their cells, which lie anywhere, are read

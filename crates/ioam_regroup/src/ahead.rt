@@ -41,24 +41,7 @@ fn next_key(reader: &mut ExportReader) -> Option<Key> {
 
 // The keys of the next records.
 fn next_keys(reader: &mut ExportReader) -> [Option<Key>; SIDE_BY_SIDE] {
-    [
-        next_key(reader),
-        next_key(reader),
-        next_key(reader),
-        next_key(reader),
-        next_key(reader),
-        next_key(reader),
-        next_key(reader),
-        next_key(reader),
-        next_key(reader),
-        next_key(reader),
-        next_key(reader),
-        next_key(reader),
-        next_key(reader),
-        next_key(reader),
-        next_key(reader),
-        next_key(reader),
-    ]
+    [(); SIDE_BY_SIDE].map(|()| next_key(reader))
 }
 
 impl Ahead {
