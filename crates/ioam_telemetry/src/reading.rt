@@ -13,7 +13,7 @@ ghost use Rattle.ioam_telemetry.specs.Tables.{data_table_faults, flow_table_faul
 use crate::before::{AmongFlows, AmongNodes};
 use crate::extra_table::{Extras, with_extras};
 use ioam_entries::{DomainRefused, Table, read_entries};
-use ioam_topo::{DataRows, Flows, Nodes};
+use ioam_topo::{DataRows, Flows, MOST_DATA, Nodes};
 use std::alloc::Global;
 
 /// The node data of a file, whose nodes these are, or the first fault of their table. Where there
@@ -23,7 +23,15 @@ pub fn read_data(alloc: Global, top: &toml::Table, nodes: &Nodes) -> Result<Data
 {
     let before = AmongNodes { nodes };
     let none = DataRows::new(alloc);
-    read_entries(alloc, top, Table::DataTable, "data", 4096, &before, none)
+    read_entries(
+        alloc,
+        top,
+        Table::DataTable,
+        "data",
+        MOST_DATA,
+        &before,
+        none,
+    )
 }
 
 // The flows of a file, whose nodes these are, without their extra traces.
