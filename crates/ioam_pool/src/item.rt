@@ -7,11 +7,8 @@ use std::alloc::Global;
 use std::cmp::Ordering;
 use std::marker::Model;
 
-/// The most octets of an item's core.
-pub const CORE_MOST: usize = 262;
-
-/// The octets of an extra part.
-pub const EXTRA_SIZE: usize = 12;
+// How many octets an item has room for in its extra part.
+const EXTRA_SIZE: usize = 12;
 
 /// A hop value, the octets of a core, and an extra part of 12 octets or none. Items are ordered by
 /// falling hop value, then by core, then by extra part.

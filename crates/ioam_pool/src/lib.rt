@@ -12,7 +12,7 @@ mod pool;
 mod seating;
 mod walking;
 
-pub use item::{CORE_MOST, EXTRA_SIZE, Item};
+pub use item::Item;
 pub use parts::Parts;
 pub use pool::{Chain, Inserted, Pool};
 pub use walking::Items;
