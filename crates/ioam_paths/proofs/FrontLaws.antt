@@ -1,8 +1,8 @@
 -- A front of the octets of records reads as the first of them, each whole, and at most the front of one more.
-use Rattle.std.proofs.Common.{◌≡◌, ℕ, ◌<◌, ◌≤◌, List, [], ◌∷◌, ◌++◌, length, drop, get_or, append-nil, append_assoc, length-append, refl, sym, ap, ap₂, ◌∙◌, subst, inl, inr, arith}
+use Rattle.std.proofs.Common.{◌≡◌, ℕ, ◌<◌, ◌≤◌, List, [], ◌∷◌, ◌++◌, length, drop, get_or, append-nil, append_assoc, refl, sym, ap, ap₂, ◌∙◌, subst, inl, inr, arith}
 use Rattle.std.specs.List.{AllByRecursion}
 use Rattle.std.proofs.lemmas.Bool.{cases_lt}
-use Rattle.std.proofs.lemmas.List.{drop_at, get_or_append_left}
+use Rattle.std.proofs.lemmas.List.{append_cancel_left, get_or_append_left}
 use Rattle.std.proofs.lemmas.List.Elements.{All-from_recursion}
 use Rattle.ioam_base.specs.Octets.{IsFront}
 use Rattle.ioam_base.proofs.OctetsLaws.{u16_at-append}
@@ -11,7 +11,7 @@ use Rattle.ioam_dex.specs.Reads.{EndsAt, Reads, Splits, records_octets}
 use Rattle.ioam_dex.specs.Record.{IsRecord, Record, front_of, front_size, length_of, record_octets}
 use Rattle.ioam_dex.specs.Visit.{IsVersion}
 use Rattle.ioam_dex.proofs.FaultLaws.{IsWhole}
-use Rattle.ioam_dex.proofs.ReadsLaws.{NoRecord, Reads-unique, cut-no-record}
+use Rattle.ioam_dex.proofs.ReadsLaws.{NoRecord, Reads-unique}
 use Rattle.ioam_dex.proofs.RecordLaws.{IsWhole-record, front-length, record_octets-same}
 use Rattle.ioam_paths.specs.Exported.{AreFirst, IsFrontOfNext, ReadsFront, ending_with}
 
@@ -53,14 +53,14 @@ module _ (octets more : List ℕ) (whole : IsWhole (octets ++ more)) where
           let size = length_same (omega (arith, begins)) in
           let front = front_same (omega (arith, begins)) in
           inr (inr (
-          record {
-            begins = omega (arith, begins);
-            version = version_is (omega (arith, begins));
-            least = omega (arith, whole.sized.least, size, front);
-            most = omega (arith, whole.sized.most, size, front);
-          },
-          omega (arith, few, size),
-        )))
+            record {
+              begins = omega (arith, begins);
+              version = version_is (omega (arith, begins));
+              least = omega (arith, whole.sized.least, size, front);
+              most = omega (arith, whole.sized.most, size, front);
+            },
+            omega (arith, few, size),
+          )))
     ]
   ]
 
@@ -98,9 +98,7 @@ divided (x ∷ all) octets rest each same = elim (cases_lt (length octets) (leng
       let front = shorter (record_octets x) (records_octets all) octets rest same size in
       let whole : record_octets x ++ records_octets all ≡ record_octets x ++ (front.rest ++ rest) =
       same ∙ ap (λ o. o ++ rest) front.is ∙ append_assoc (record_octets x) front.rest rest in
-      let behind : records_octets all ≡ front.rest ++ rest =
-      sym (drop_at (record_octets x) (records_octets all) (length (record_octets x)) refl) ∙ ap (drop (length (record_octets x))) whole
-      ∙ drop_at (record_octets x) (front.rest ++ rest) (length (record_octets x)) refl in
+      let behind = append_cancel_left (record_octets x) (records_octets all) (front.rest ++ rest) whole in
       let found = divided all front.rest rest each.1 behind in
       record {
         read = x ∷ found.read;
