@@ -145,7 +145,7 @@ module _ (opens tells : Bool) (words : List (List ℕ)) (old_in new_in : Reading
   IsBounded (Run workers) = domain.IsBounded opens words old_in new_in old new
   IsBounded (Bulk seed count workers) = ⊤
 
-  -- what `run` leaves in EXPORTS is all records of its arrivals, of which `collect` tells the whole paths of the packets
+  -- what `run` leaves in EXPORTS is all records of its arrivals, or a front of them, of which `collect` tells the paths of the packets
   abbrev pub IsMeasured : Command → Outcome → Type 0
   IsMeasured Filter answer = ⊤
   IsMeasured Paths answer = ⊤

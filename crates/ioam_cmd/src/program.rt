@@ -56,7 +56,7 @@ pub fn ioam<R: Threads + Sync, D: Desk, G: Gate>(
     // The records that OUT of `save` reads as are exactly those that IN reads as.
     ensures saved { (command : Command) → IsForm command words.now → IsDone result → IsTrue D.tells → IsSaved words.now (D.writing desk.old) (D.writing desk.new) command }
 
-    // What `run` leaves in EXPORTS is all records of its arrivals, and of these octets, wherever it reads them later, `collect` tells the whole path of each packet that was exported of.
+    // What `run` leaves in EXPORTS is all records of its arrivals, and of these octets, wherever it reads them later, `collect` tells the whole path of each packet that was exported of. After WriteFault and NoMemory it is a front of them, of which `collect` tells the paths as far as the records are whole.
     ensures measured { (command : Command) → IsForm command words.now → IsTrue D.tells → IsMeasured G.opens D.tells words.now (D.reading desk.old) (D.reading desk.new) (D.writing desk.old) (D.writing desk.new) command result }
 
     // Slots that were there before are as they were, and so is each name that wasn't given to the opening of outputs in this call.
@@ -102,6 +102,11 @@ pub fn ioam_surely<R: Threads + Sync, G: Gate>(
         → (result ≡ asked) ⊎ (result ≡ Outcome.NoMemory) }
     ensures leaves { (command : Command) → IsForm command words.now
         → Leaves G.opens true words.now (reading_of desk.old) (reading_of desk.new) (writing_of desk.old) (writing_of desk.new) command result }
+
+    // What `save` and `run` leave reads as what it is to read as, and `collect` tells of the exports of `run`, as above.
+    ensures saved { (command : Command) → IsForm command words.now → IsDone result → IsSaved words.now (writing_of desk.old) (writing_of desk.new) command }
+    ensures measured { (command : Command) → IsForm command words.now
+        → IsMeasured G.opens true words.now (reading_of desk.old) (reading_of desk.new) (writing_of desk.old) (writing_of desk.new) command result }
 {
     ioam(rt, alloc, words, desk, gate)
 }

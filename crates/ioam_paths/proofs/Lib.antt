@@ -2,6 +2,7 @@ mod EnclosedLaws
 pub mod ExportLaws
 pub mod FacesLaws
 mod FewLaws
+pub mod FrontLaws
 mod HopLaws
 mod OrderLaws
 pub mod ReadLaws

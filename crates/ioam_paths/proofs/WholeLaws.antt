@@ -1,23 +1,25 @@
 -- The groups of a run's records, all of which were read, are the whole paths of its packets.
-use Rattle.std.proofs.Common.{◌≡◌, ℕ, zero, suc, List, [], ◌∷◌, ◌++◌, map, Option, Some, slice_get, append_assoc, refl, sym, ap, ap₂, ◌∙◌, subst, inl, inr}
+use Rattle.std.proofs.Common.{◌≡◌, ℕ, zero, suc, List, [], ◌∷◌, ◌++◌, map, Option, Some, slice_get, append-nil, refl, sym, ap, ap₂, ◌∙◌, subst, inl, inr, arith}
 use Rattle.std.specs.Prelude.{Contains, unwrap_or}
 use Rattle.std.specs.List.{AllByRecursion, flat_map}
 use Rattle.std.proofs.lemmas.List.Elements.{recursion_from_All}
+use Rattle.ioam_base.specs.Octets.{IsFront}
 use Rattle.ioam_clock.specs.declared.sample.Sample.{Sample}
 use Rattle.ioam_collect.specs.Best.{groups_of}
 use Rattle.ioam_collect.specs.Keyed.{keyed, keyed_of, with_keyed}
 use Rattle.ioam_collect.specs.declared.key.Key.{Key}
 use Rattle.ioam_collect.proofs.Members.{Has, contains_from, has_from}
 use Rattle.ioam_dex.specs.Reads.{Ending, Reads, Splits, records_octets}
-use Rattle.ioam_dex.specs.Record.{IsRecord, Record, record_octets}
-use Rattle.ioam_dex.proofs.RecordLaws.{record_octets-same}
+use Rattle.ioam_dex.specs.Record.{IsRecord, Record}
+use Rattle.ioam_dex.proofs.ReadsLaws.{cut-no-record}
 use Rattle.ioam_fates.specs.Fate.{Frame, Fate}
 use Rattle.ioam_fates.specs.Texts.{exports_text}
 use Rattle.ioam_pool.specs.Entry.{Entry}
 use Rattle.ioam_topo.specs.declared.domain.Domain.{Domain}
-use Rattle.ioam_paths.specs.Exported.{AreFirstOfRun, AreRun, AreWholePaths, IsTold, IsWholeOfOne, IsWholePath, TellsRun, item_under}
+use Rattle.ioam_paths.specs.Exported.{AreFirstOfRun, AreRun, AreWholePaths, FrontsAreRead, IsTold, IsWholeOfOne, IsWholePath, TellsRun, item_under}
 use Rattle.ioam_paths.specs.Paths.{AreOfRun, AreShown, IsOfOne, IsPath, IsRun, Shows, exports_of, path_of, under}
 use Rattle.ioam_paths.proofs.ExportLaws.{all-records, reads-run}
+use Rattle.ioam_paths.proofs.FrontLaws.{first_among, front-reads}
 use Rattle.ioam_paths.proofs.ReadLaws.{regrouped}
 use Rattle.ioam_paths.proofs.RunLaws.{trail_at}
 use Rattle.ioam_paths.proofs.TextLaws.{exports-octets}
@@ -100,7 +102,7 @@ module _ (domain : Domain) (readings : List (List Sample)) (frames : List Frame)
     alone = one.alone;
   }
 
-  whole_paths : AreWholePaths domain readings fates (groups_of (keyed records))
+  pub whole_paths : AreWholePaths domain readings fates (groups_of (keyed records))
   whole_paths =
       let all = regrouped domain readings frames fates run records of_run in
       record {
@@ -113,18 +115,6 @@ module _ (domain : Domain) (readings : List (List Sample)) (frames : List Frame)
 
 -- ---- what was read
 
--- records that octets begin with are the first of those that they are
-first_of : (xs ys : List Record) (r : List ℕ) → AllByRecursion IsRecord xs → AllByRecursion IsRecord ys → records_octets xs ++ r ≡ records_octets ys
-    → (more : List Record) × (ys ≡ xs ++ more)
-first_of [] ys r all_x all_y same = (ys, refl)
-first_of (x ∷ xs) [] r all_x all_y same = absurd (cc same)
-first_of (x ∷ xs) (y ∷ ys) r all_x all_y same =
-    let whole : record_octets x ++ (records_octets xs ++ r) ≡ record_octets y ++ records_octets ys =
-    sym (append_assoc (record_octets x) (records_octets xs) r) ∙ same in
-    let first = record_octets-same x y (records_octets xs ++ r) (records_octets ys) all_x.0 all_y.0 whole in
-    let rest = first_of xs ys r all_x.1 all_y.1 first.1 in
-    (rest.0, ap₂ (λ (z : Record) zs. z ∷ zs) (sym first.0) rest.1)
-
 module _ (octets : List ℕ) (read : List Record) (domain : Domain) (readings : List (List Sample)) (frames : List Frame) (fates : List Fate)
     (told : IsTold domain readings frames fates) (are : octets ≡ exports_text domain readings fates) where
   is_whole : (ending : Ending) → Reads octets read ending → AreRun domain readings fates read ending
@@ -136,13 +126,18 @@ module _ (octets : List ℕ) (read : List Record) (domain : Domain) (readings : 
 
   is_first : (rest : List ℕ) → Splits octets read rest → AreFirstOfRun domain readings fates read
   is_first rest splits =
-      let same = sym splits.is ∙ are ∙ sym (exports-octets domain readings fates) in
-      let found = first_of read (exports_of domain readings fates) rest (recursion_from_All IsRecord read splits.each)
-      (all-records domain readings frames fates told) same in
-      record { more = found.0; are = found.1 }
+      let all = exports_of domain readings fates in
+      let same = sym splits.is ∙ are ∙ sym (exports-octets domain readings fates) ∙ sym (append-nil (records_octets all)) in
+      first_among read all rest [] (recursion_from_All IsRecord read splits.each) (all-records domain readings frames fates told)
+      (cut-no-record [] (inl (omega arith))) same
 
 pub tells-run : (octets : List ℕ) (read : List Record) → TellsRun octets read
 tells-run octets read = record {
   whole = λ domain readings frames fates ending told are. is_whole octets read domain readings frames fates told are ending;
   first = λ domain readings frames fates rest told are. is_first octets read domain readings frames fates told are rest;
 }
+
+pub fronts-read : FrontsAreRead
+fronts-read domain readings frames fates octets told front =
+    front-reads (exports_of domain readings fates) octets (all-records domain readings frames fates told)
+    (subst (IsFront octets) (sym (exports-octets domain readings fates)) front)

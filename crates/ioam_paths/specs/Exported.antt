@@ -1,13 +1,15 @@
 -- The octets that a run exports as they are read: exactly the records of its arrivals, in their order and to the end, so that
--- regrouped they are the whole path of each packet that was exported of (RFC 9326 section 3.2).
-use Rattle.std.specs.Prelude.{◌≡◌, ℕ, ◌<◌, ◌^◌, List, ◌++◌, map, Contains, Option, Some, slice_get}
+-- regrouped they are the whole path of each packet that was exported of (RFC 9326 section 3.2); and a front of these octets.
+use Rattle.std.specs.Prelude.{◌≡◌, ℕ, ◌<◌, ◌^◌, List, [], ◌∷◌, ◌++◌, length, map, Contains, Option, Some, slice_get}
 use Rattle.std.specs.List.{All}
+use Rattle.ioam_base.specs.Octets.{IsFront}
 use Rattle.ioam_clock.specs.declared.sample.Sample.{Sample}
 use Rattle.ioam_collect.specs.Best.{groups_of}
 use Rattle.ioam_collect.specs.Keyed.{keyed, keyed_of}
 use Rattle.ioam_collect.specs.declared.key.Key.{Key}
-use Rattle.ioam_dex.specs.Reads.{Ending, Whole, Reads, ReadsOnly, Splits}
-use Rattle.ioam_dex.specs.Record.{Record}
+use Rattle.ioam_dex.specs.declared.export.ExportFault.TheVariants as fault
+use Rattle.ioam_dex.specs.Reads.{Ending, Whole, Faulty, Reads, ReadsOnly, Splits, records_octets}
+use Rattle.ioam_dex.specs.Record.{Record, record_octets}
 use Rattle.ioam_fates.specs.Fate.{Frame, Fate}
 use Rattle.ioam_fates.specs.Texts.{exports_text}
 use Rattle.ioam_pool.specs.Entry.{Entry}
@@ -44,6 +46,38 @@ abbrev pub ExportsAreRead : Type 0
 ExportsAreRead = (domain : Domain) (readings : List (List Sample)) (frames : List Frame) (fates : List Fate) → IsTold domain readings frames fates
     → ReadsRun domain readings fates
 
+-- ---- a front of them
+
+-- these are the first of those
+pub record AreFirst (read all : List Record) : Type 0 where
+  pub more : List Record
+  pub are : all ≡ read ++ more
+
+-- the octets are none, where no more records come; or a front of the record that comes next, which isn't whole
+abbrev pub IsFrontOfNext : List Record → List ℕ → Type 0
+IsFrontOfNext [] left = left ≡ []
+IsFrontOfNext (next ∷ more) left = IsFront left (record_octets next) × (length left < length (record_octets next))
+
+-- how octets end of which these are left behind whole records
+abbrev pub ending_with : List Record → List ℕ → Ending
+ending_with read [] = Whole
+ending_with read (octet ∷ left) = Faulty (length (records_octets read)) (fault.Short (length (octet ∷ left)))
+
+-- the octets read as the first of these records, each whole, and behind them at most a front of the next one is left; and as nothing else
+pub record ReadsFront (all : List Record) (octets : List ℕ) : Type 0 where
+  pub read : List Record
+  pub left : List ℕ
+  pub first : AreFirst read all
+  pub next : IsFrontOfNext first.more left
+  pub splits : Splits octets read left
+  pub reads : Reads octets read (ending_with read left)
+  pub only : ReadsOnly octets read (ending_with read left)
+
+-- whatever the domain
+abbrev pub FrontsAreRead : Type 0
+FrontsAreRead = (domain : Domain) (readings : List (List Sample)) (frames : List Frame) (fates : List Fate) (octets : List ℕ) → IsTold domain readings frames fates
+    → IsFront octets (exports_text domain readings fates) → ReadsFront (exports_of domain readings fates) octets
+
 -- ---- the groups
 
 abbrev pub item_under : Key → Entry → Option (Key × Entry)
@@ -77,9 +111,8 @@ pub record AreRun (domain : Domain) (readings : List (List Sample)) (fates : Lis
   pub paths : AreWholePaths domain readings fates (groups_of (keyed read))
 
 -- it is the first of them
-pub record AreFirstOfRun (domain : Domain) (readings : List (List Sample)) (fates : List Fate) (read : List Record) : Type 0 where
-  pub more : List Record
-  pub are : exports_of domain readings fates ≡ read ++ more
+abbrev pub AreFirstOfRun : Domain → List (List Sample) → List Fate → List Record → Type 0
+AreFirstOfRun domain readings fates read = AreFirst read (exports_of domain readings fates)
 
 -- whatever run exported these octets, what they read as is all that it recorded, and what is read first of them the first of that
 pub record TellsRun (octets : List ℕ) (read : List Record) : Type 0 where

@@ -5,7 +5,7 @@ ghost use Rattle.std.specs.Prelude.{List, ℕ};
 ghost use Rattle.std.specs.List.{All};
 ghost use Rattle.ioam_dex.specs.Record.{Record};
 ghost use Rattle.ioam_domain_file.specs.File.{IsDomainOf};
-ghost use Rattle.ioam_paths.specs.Exported.{ExportsAreRead, HasFaces, TellsRun};
+ghost use Rattle.ioam_paths.specs.Exported.{ExportsAreRead, FrontsAreRead, HasFaces, TellsRun};
 ghost use Rattle.ioam_paths.specs.Paths.{IsWithin, Regroups};
 ghost use Rattle.ioam_topo.specs.Domain.{flows};
 ghost use Rattle.ioam_topo.specs.declared.domain.Domain.{Domain};
@@ -18,6 +18,11 @@ pub fn records_regroup()
 /// Says that the octets that a run exports read as its records, each once, in their order and to the end, and as nothing else.
 pub fn exports_are_read()
     ensures { ExportsAreRead }
+{}
+
+/// Says that a front of these octets reads as the first of its records, each whole, and at most the front of the next one, and as nothing else.
+pub fn fronts_are_read()
+    ensures { FrontsAreRead }
 {}
 
 /// Says that what is read of the octets that a run exports regroups to the whole paths of its packets (RFC 9326 section 3.2).

@@ -62,6 +62,7 @@ module _ (tells opens : Bool) (domain : Domain) (readings : List (List Sample)) 
       taken = [];
       begin = Merging-begins tells files.lanes inputs merge [] are tells_so;
       few = omega arith;
+      timely = All-nil IsTimely;
       hold = record {
         fates = [];
         become = tt;
@@ -85,6 +86,7 @@ module _ (tells opens : Bool) (domain : Domain) (readings : List (List Sample)) 
         fates = [];
         begin = Merging-begins tells files.lanes inputs merge [] are tells_so;
         few = omega arith;
+        timely = All-nil IsTimely;
         become = tt;
         only = λ others become. AreFates-unique domain readings [] others [] become tt;
         held = λ opened. subst P same (fronts (texts_of domain readings []) (all_texts domain _ _ _ _ files.names width));

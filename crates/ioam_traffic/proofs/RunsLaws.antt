@@ -132,6 +132,7 @@ module _ (tells : Bool) (course : Course) (Were : List Arrival → Type 0) (outp
     taken = runs.taken;
     begin = begin;
     few = runs.few;
+    timely = runs.timely;
     hold = fronts_so course.domain course.readings course.opens now course.names (frames_of course.ports runs.taken) runs.texts gathered runs.forwards fronts;
   }
 

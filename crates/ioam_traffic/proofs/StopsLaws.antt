@@ -126,6 +126,7 @@ module _ (tells : Bool) (course : Course) where
           taken = halts.taken;
           begin = (halts.are told).0;
           few = halts.few;
+          timely = halts.timely;
           hold = put told course.first course.names halts.texts (frames_of course.ports halts.taken) halts.told halts.forwards;
         }
 
@@ -148,6 +149,7 @@ module _ (tells : Bool) (course : Course) where
           fates = front.hold.fates;
           begin = front.begin;
           few = front.few;
+          timely = front.timely;
           become = front.hold.become;
           only = λ others become. AreFates-unique course.domain course.readings (frames_of course.ports front.taken) others front.hold.fates become front.hold.become;
           held = λ opened. HoldAllFronts-holds first_out new_out 0 course.names _ (front.hold.held opened);

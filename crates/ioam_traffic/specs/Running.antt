@@ -53,6 +53,7 @@ module _ (tells : Bool) (course : Course) where
     pub taken : List Arrival
     pub begin : FilesBegin course.lanes.contents taken
     pub few : length taken ≤ course.domain.packets
+    pub timely : All IsTimely taken
     pub hold : HoldSo course.opens course.domain course.readings (frames_of course.ports taken) (HoldAllFronts outputs course.names)
 
   module _ (old_in new_in : Reading) (old_out new_out : Writing) where

@@ -92,6 +92,7 @@ module _ (course : Course) where
     pub fates : List Fate
     pub begin : FilesBegin course.lanes.contents taken
     pub few : length taken ≤ course.domain.packets
+    pub timely : All IsTimely taken
     pub become : AreFates course.domain course.readings (frames_of course.ports taken) fates
     pub only : (others : List Fate) → AreFates course.domain course.readings (frames_of course.ports taken) others → others ≡ fates
     pub held : IsTrue course.opens → HoldFronts old new 0 course.names (texts_of course.domain course.readings fates)
