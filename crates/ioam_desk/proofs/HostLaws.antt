@@ -1,5 +1,5 @@
 -- Slots over real files that are opened.
-use Rattle.std.proofs.Common.{◌≡◌, ℕ, List, [], ◌∷◌, ◌++◌, Result, Ok, Err, IfOk, MatchResult, ◌∙◌, ap}
+use Rattle.std.proofs.Common.{◌≡◌, ℕ, List, [], ◌∷◌, ◌++◌, Option, Some, Result, Ok, Err, IfOk, IfErr, IfSome, MatchResult, ◌∙◌, ap, sym, subst}
 use Rattle.ioam_desk.specs.HostDesk.{AddsOpened}
 use Rattle.ioam_desk.specs.declared.fault.DeskFault.{DeskFault}
 use Rattle.ioam_desk.specs.declared.fault.DeskFault.TheVariants.{Failed}
@@ -34,3 +34,15 @@ adds_opened old mid new name asked so (Err why) (Err fault) number same is such 
 pub if_ok_both : {A E : Type 0} (r : Result A E) (P Q : A → Type 0) → IfOk r P → IfOk r Q → IfOk r (λ x. P x × Q x)
 if_ok_both (Ok x) P Q p q = (p, q)
 if_ok_both (Err e) P Q p q = tt
+
+-- why an opening failed is what the outside answered to it
+pub refused : {F : Type 0} (opened : Result (Opened F) Reason) (result : Result ℕ DeskFault) (number : ℕ) (said : Option Reason)
+    (P : Reason → Type 0) (Q : Opened F → Type 0) (R : Type 0)
+    → IfErr opened P → IfErr opened (λ reason. said ≡ Some reason)
+    → MatchResult opened (λ (one : Opened F). (result ≡ Ok number) × Q one) (λ _. (result ≡ Err Failed) × R)
+    → result ≡ Err Failed → IfSome said P
+refused (Ok one) result number said P Q R is told added failed = let no : ⊥ = differ number (sym added.0 ∙ failed) in absurd no
+  where
+    differ : (number : ℕ) → Ok number ≡ Err Failed → ⊥
+    differ number e = cc
+refused (Err reason) result number said P Q R is told added failed = subst (λ (said : Option Reason). IfSome said P) (sym told) is

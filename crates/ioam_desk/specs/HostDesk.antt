@@ -1,7 +1,9 @@
 -- The desk over real files, in the desk's words: it tells its counts, its names and its slots.
-use Rattle.std.specs.Prelude.{◌≡◌, ◌++◌, ◌∷◌, [], ℕ, List, ⊤, false, None, Option, MatchOption, Result, Ok, Err}
+use Rattle.std.specs.Prelude.{◌≡◌, ◌++◌, ◌∷◌, [], ℕ, List, ⊤, false, None, Option, Some, MatchOption, Result, Ok, Err}
 use Rattle.ioam_desk.specs.Desk.{Side, Reading, Writing}
-use Rattle.ioam_desk.specs.HostSide.{side_of, fault_name, IsApart}
+use Rattle.ioam_desk.specs.HostSide.{side_of, fault_name, fault_reason, IsApart}
+use Rattle.ioam_desk.specs.declared.host_fault.Reason.{Reason}
+use Rattle.ioam_desk.specs.declared.file_system.Identity.{Identity}
 use Rattle.ioam_desk.specs.declared.host_side.Slot.{Slot}
 use Rattle.ioam_desk.specs.declared.host_side.Opened.{Opened}
 use Rattle.ioam_desk.specs.declared.fault.DeskFault.{DeskFault}
@@ -36,6 +38,13 @@ read_fault_name desk = fault_name desk.inputs
 abbrev pub write_fault_name : {R F : Type 0} → HostDesk R F → Option (List ℕ)
 write_fault_name desk = fault_name desk.outputs
 
+-- and why it failed
+abbrev pub read_fault_reason : {R F : Type 0} → HostDesk R F → Option Reason
+read_fault_reason desk = fault_reason desk.inputs
+
+abbrev pub write_fault_reason : {R F : Type 0} → HostDesk R F → Option Reason
+write_fault_reason desk = fault_reason desk.outputs
+
 -- a new slot stands behind those that were there; it is of this name, and what was opened is as this says
 abbrev pub AddsOpened : {F : Type 0} → List (Slot F) → List ℕ → (Opened F → Type 0) → Result ℕ DeskFault → List (Slot F) → Type 0
 AddsOpened {F} old name so (Ok slot) new = (opened : Opened F) × (new ≡ old ++ record { name = name; opened = opened } ∷ []) × so opened
@@ -45,3 +54,7 @@ AddsOpened {F} old name so (Err _) new = new ≡ old
 abbrev pub IsTakenAnew : {F : Type 0} → (F → Type 0) → List (Slot F) → List (Slot F) → Opened F → Type 0
 IsTakenAnew emptied inputs outputs opened = MatchOption opened.identity ⊤
     (λ identity. IsApart identity inputs × IsApart identity outputs × emptied opened.file)
+
+-- some file was opened so, and is this regular one
+abbrev pub IsOfSome : {F : Type 0} → (F → Type 0) → (F → Option Identity → Type 0) → Identity → Type 0
+IsOfSome {F} opened identified identity = (file : F) × opened file × identified file (Some identity)

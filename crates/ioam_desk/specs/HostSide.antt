@@ -1,10 +1,12 @@
 -- One kind of slots over real files.
-use Rattle.std.specs.Prelude.{◌≡◌, ◌≢◌, ◌++◌, ◌∷◌, [], ℕ, List, All, length, Option, Some, option_map, option_and_then, Result, Ok, Err, vec_len}
+use Rattle.std.specs.Prelude.{◌≡◌, ◌≢◌, ⊤, ◌++◌, ◌∷◌, [], ℕ, List, All, length, Option, Some, option_map, option_and_then, Result, Ok, Err, vec_len}
 use Rattle.std.specs.List.{slice_get}
 use Rattle.ioam_desk.specs.Desk.{Side, opened_side}
 use Rattle.ioam_desk.specs.declared.file_system.Identity.{Identity}
 use Rattle.ioam_desk.specs.declared.host_side.HostSide.{HostSide}
 use Rattle.ioam_desk.specs.declared.host_side.Slot.{Slot}
+use Rattle.ioam_desk.specs.declared.host_fault.Reason.{Reason}
+use Rattle.ioam_desk.specs.declared.host_fault.Reason.TheVariants as reason
 use Rattle.ioam_desk.specs.declared.host_side.Failure.{Failure}
 use Rattle.ioam_desk.specs.declared.host_side.Place.{Place}
 use Rattle.ioam_desk.specs.declared.host_side.Place.TheVariants as place
@@ -57,3 +59,29 @@ name_of side (place.Slot k) = slot_name side k
 -- the name of the last call that failed
 abbrev pub fault_name : {F : Type 0} → HostSide F → Option (List ℕ)
 fault_name side = option_and_then (λ (last : Failure). name_of side last.place) side.last
+
+-- why it failed
+abbrev pub fault_reason : {F : Type 0} → HostSide F → Option Reason
+fault_reason side = option_map (λ (last : Failure). last.reason) side.last
+
+-- A file that was to be written, which is so, is refused as an input only where an input is over it, and
+-- as an output only where no input is and an output is.
+abbrev pub IsRefusal : {F : Type 0} → (Identity → Type 0) → List (Slot F) → List (Slot F) → Reason → Type 0
+IsRefusal so inputs outputs (reason.System why) = ⊤
+IsRefusal so inputs outputs reason.IsInput = (identity : Identity) × so identity × (IsApart identity inputs → ⊥)
+IsRefusal so inputs outputs reason.IsOutput = (identity : Identity) × so identity × IsApart identity inputs × (IsApart identity outputs → ⊥)
+IsRefusal so inputs outputs reason.TakesNone = ⊥
+
+-- a read fails by what the system said
+abbrev pub IsOfRead : Reason → Type 0
+IsOfRead (reason.System why) = ⊤
+IsOfRead reason.IsInput = ⊥
+IsOfRead reason.IsOutput = ⊥
+IsOfRead reason.TakesNone = ⊥
+
+-- a write by that, or as it took nothing
+abbrev pub IsOfWrite : Reason → Type 0
+IsOfWrite (reason.System why) = ⊤
+IsOfWrite reason.IsInput = ⊥
+IsOfWrite reason.IsOutput = ⊥
+IsOfWrite reason.TakesNone = ⊤

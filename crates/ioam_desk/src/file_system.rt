@@ -1,4 +1,5 @@
-ghost use Rattle.std.specs.Prelude.{ℕ, List, IfOk, OnOk};
+ghost use Rattle.std.specs.Prelude.{ℕ, List, Option, IfOk, OnOk};
+ghost use Rattle.ioam_desk.specs.declared.file_system.Identity.{Identity};
 
 use std::fs::{Files, OpenFile, OpenOptions};
 use std::io::{Read, Write};
@@ -14,7 +15,7 @@ pub struct Identity {
 
 /// The calls on the machine's files that `HostDesk` makes, so that a test can stand in for them.
 ///
-/// What was done to a file is told by three predicates, which nothing but the calls can give: so
+/// What was done to a file is told by four predicates, which nothing but the calls can give: so
 /// it is proved which call was made and with which name, though of a real file nothing is known.
 pub trait FileSystem {
     type File: Read + Write + Drop;
@@ -24,6 +25,9 @@ pub trait FileSystem {
 
     /// The file was opened under this name to be written, and made where there was none.
     ghost is_created: { Self.File → List ℕ → Type 0 };
+
+    /// The file was asked which one it is, and this was the answer.
+    ghost is_identified: { Self.File → Option Identity → Type 0 };
 
     /// The file was emptied since.
     ghost is_emptied: { Self.File → Type 0 };
@@ -37,7 +41,8 @@ pub trait FileSystem {
         ensures { IfOk result (λ file. is_created file name.now) };
 
     /// Which file it is: None where it isn't a regular one.
-    fn identity(&self, file: &Self::File) -> io::Result<Option<Identity>>;
+    fn identity(&self, file: &Self::File) -> io::Result<Option<Identity>>
+        ensures { IfOk result (is_identified file.now) };
 
     /// Takes away all that a regular file holds.
     fn empty(&self, file: &Self::File) -> io::Result<()>
@@ -52,6 +57,8 @@ impl<R: Files> FileSystem for R {
     ghost is_opened = { λ _ _. ⊤ };
 
     ghost is_created = { λ _ _. ⊤ };
+
+    ghost is_identified = { λ _ _. ⊤ };
 
     ghost is_emptied = { λ _. ⊤ };
 

@@ -1,8 +1,8 @@
-ghost use Rattle.std.specs.Prelude.{◌≡◌, ◌≢◌, ◌<◌, Err, Some, false, length, IfOk, IfErr, OnErr, option_map};
+ghost use Rattle.std.specs.Prelude.{◌≡◌, ◌≢◌, ◌<◌, Err, None, Some, false, length, IfOk, IfErr, IfSome, OnErr, option_map};
 ghost use Rattle.std.specs.Io.KnownBytes.{ReadConsumes, WriteAppends};
 ghost use Rattle.ioam_desk.specs.Desk.{OpenIn, ReadInto, OpenOut, WriteFrom, holds};
-ghost use Rattle.ioam_desk.specs.HostDesk.{untold_reading, untold_writing, reading_of, writing_of, inputs_of, outputs_of, read_fault_name, write_fault_name, AddsOpened, IsTakenAnew};
-ghost use Rattle.ioam_desk.specs.HostSide.{no_side, slot_name, IsApart, ChangesFile};
+ghost use Rattle.ioam_desk.specs.HostDesk.{untold_reading, untold_writing, reading_of, writing_of, inputs_of, outputs_of, read_fault_name, write_fault_name, read_fault_reason, write_fault_reason, AddsOpened, IsTakenAnew, IsOfSome};
+ghost use Rattle.ioam_desk.specs.HostSide.{no_side, slot_name, IsApart, IsRefusal, IsOfRead, IsOfWrite, ChangesFile};
 ghost use Rattle.ioam_desk.specs.Faults.{faults_after};
 
 use crate::desk::Desk;
@@ -30,6 +30,7 @@ impl<'a, R: FileSystem> HostDesk<'a, R> {
     pub fn new(files: &'a R, alloc: Global) -> HostDesk<'a, R>
         ensures reading { reading_of result ≡ untold_reading no_side }
         ensures writing { writing_of result ≡ untold_writing no_side }
+        ensures faults { (read_fault_name result ≡ None) × (write_fault_name result ≡ None) }
     {
         HostDesk {
             files,
@@ -41,21 +42,24 @@ impl<'a, R: FileSystem> HostDesk<'a, R> {
 
     /// The last call that failed, of those that open or read an input.
     pub fn read_fault(&self) -> Option<Fault<'_>>
-        ensures { option_map (λ fault. fault.name.now) result ≡ read_fault_name self.now }
+        ensures name { option_map (λ fault. fault.name.now) result ≡ read_fault_name self.now }
+        ensures reason { IfSome result (λ fault. read_fault_reason self.now ≡ Some fault.reason) }
     {
         self.inputs.fault()
     }
 
     /// The last call that failed, of those that open or write an output.
     pub fn write_fault(&self) -> Option<Fault<'_>>
-        ensures { option_map (λ fault. fault.name.now) result ≡ write_fault_name self.now }
+        ensures name { option_map (λ fault. fault.name.now) result ≡ write_fault_name self.now }
+        ensures reason { IfSome result (λ fault. write_fault_reason self.now ≡ Some fault.reason) }
     {
         self.outputs.fault()
     }
 
     // Opens a file to be read.
     fn opened(&self, name: &str) -> Result<Opened<R::File>, Reason>
-        ensures { IfOk result (λ opened. R.is_opened opened.file name.now) }
+        ensures { IfOk result (λ opened. R.is_opened opened.file name.now
+            × R.is_identified opened.file opened.identity) }
     {
         let file = self.files.open(name)?;
         let identity = self.files.identity(&file)?;
@@ -64,11 +68,20 @@ impl<'a, R: FileSystem> HostDesk<'a, R> {
 
     // Opens a file to be written and empties it, unless it is one that is open.
     fn created(&self, name: &str) -> Result<Opened<R::File>, Reason>
-        ensures created { IfOk result (λ opened. R.is_created opened.file name.now) }
+        ensures created { IfOk result (λ opened. R.is_created opened.file name.now
+            × R.is_identified opened.file opened.identity) }
         ensures anew { IfOk result (IsTakenAnew R.is_emptied (inputs_of self.now) (outputs_of self.now)) }
+        ensures refused { IfErr result (IsRefusal (IsOfSome (λ file. R.is_created file name.now) R.is_identified)
+            (inputs_of self.now) (outputs_of self.now)) }
     {
-        let file = self.files.create(name)?;
-        let identity = self.files.identity(&file)?;
+        let file = match self.files.create(name) {
+            Ok(file) => file,
+            Err(why) => return Err(Reason::System(why)),
+        };
+        let identity = match self.files.identity(&file) {
+            Ok(identity) => identity,
+            Err(why) => return Err(Reason::System(why)),
+        };
         if let Some(identity) = identity {
             if !self.inputs.is_apart(identity) {
                 return Err(Reason::IsInput);
@@ -76,7 +89,9 @@ impl<'a, R: FileSystem> HostDesk<'a, R> {
             if !self.outputs.is_apart(identity) {
                 return Err(Reason::IsOutput);
             }
-            self.files.empty(&file)?;
+            if let Err(why) = self.files.empty(&file) {
+                return Err(Reason::System(why));
+            }
         }
         Ok(Opened { file, identity })
     }
@@ -95,9 +110,11 @@ impl<'a, R: FileSystem> Desk for HostDesk<'a, R> {
         ensures outputs { writing_of self.new ≡ writing_of self.old }
         ensures faults { (reading_of self.new).side.faults
             ≡ faults_after (reading_of self.old).side.faults result }
-        ensures file { AddsOpened (inputs_of self.old) name.now (λ opened. R.is_opened opened.file name.now)
+        ensures file { AddsOpened (inputs_of self.old) name.now
+            (λ opened. R.is_opened opened.file name.now
+            × R.is_identified opened.file opened.identity)
             result (inputs_of self.new) }
-        ensures others { outputs_of self.new ≡ outputs_of self.old }
+        ensures others { self.new.outputs ≡ self.old.outputs }
         ensures named { result ≡ Err DeskFault.Failed → read_fault_name self.new ≡ Some name.now }
     {
         match self.inputs.make_room(self.alloc, name) {
@@ -120,8 +137,9 @@ impl<'a, R: FileSystem> Desk for HostDesk<'a, R> {
         ensures memory { result ≢ Err DeskFault.NoMemory }
         ensures file { ChangesFile (inputs_of self.old) (inputs_of self.new) slot
             (λ before after. ReadConsumes (R.File.remaining before) (R.File.remaining after) result into.new) }
-        ensures others { outputs_of self.new ≡ outputs_of self.old }
+        ensures others { self.new.outputs ≡ self.old.outputs }
         ensures named { OnErr result (read_fault_name self.new ≡ slot_name self.old.inputs slot) }
+        ensures reason { OnErr result (IfSome (read_fault_reason self.new) IsOfRead) }
     {
         self.inputs.read(slot, into)
     }
@@ -132,11 +150,15 @@ impl<'a, R: FileSystem> Desk for HostDesk<'a, R> {
         ensures faults { (writing_of self.new).side.faults
             ≡ faults_after (writing_of self.old).side.faults result }
         ensures file { AddsOpened (outputs_of self.old) name.now
-            (λ opened. R.is_created opened.file name.now
+            (λ opened. (R.is_created opened.file name.now
+            × R.is_identified opened.file opened.identity)
             × IsTakenAnew R.is_emptied (inputs_of self.old) (outputs_of self.old) opened)
             result (outputs_of self.new) }
-        ensures others { inputs_of self.new ≡ inputs_of self.old }
+        ensures others { self.new.inputs ≡ self.old.inputs }
         ensures named { result ≡ Err DeskFault.Failed → write_fault_name self.new ≡ Some name.now }
+        ensures refused { result ≡ Err DeskFault.Failed
+            → IfSome (write_fault_reason self.new) (IsRefusal (IsOfSome (λ file. R.is_created file name.now) R.is_identified)
+            (inputs_of self.old) (outputs_of self.old)) }
     {
         match self.outputs.make_room(self.alloc, name) {
             Ok(names) => {
@@ -158,8 +180,9 @@ impl<'a, R: FileSystem> Desk for HostDesk<'a, R> {
         ensures memory { result ≢ Err DeskFault.NoMemory }
         ensures file { ChangesFile (outputs_of self.old) (outputs_of self.new) slot
             (λ before after. WriteAppends (R.File.contents before) (R.File.contents after) result from.now) }
-        ensures others { inputs_of self.new ≡ inputs_of self.old }
+        ensures others { self.new.inputs ≡ self.old.inputs }
         ensures named { OnErr result (write_fault_name self.new ≡ slot_name self.old.outputs slot) }
+        ensures reason { OnErr result (IfSome (write_fault_reason self.new) IsOfWrite) }
     {
         self.outputs.write(slot, from)
     }

@@ -1,6 +1,6 @@
-ghost use Rattle.std.specs.Prelude.{◌≡◌, ◌<◌, ◌^◌, ◌≤◌, ◌∷◌, ◌++◌, [], ◌↔◌, None, Some, IsTrue, OnOk, OnErr, IfOk, MatchResult, vec_len, vec_capacity, length, option_map};
+ghost use Rattle.std.specs.Prelude.{◌≡◌, ◌<◌, ◌^◌, ◌≤◌, ◌∷◌, ◌++◌, [], ◌↔◌, None, Some, IsTrue, OnOk, OnErr, IfOk, IfErr, IfSome, MatchResult, vec_len, vec_capacity, length, option_map};
 ghost use Rattle.std.specs.Io.KnownBytes.{ReadConsumes, WriteAppends};
-ghost use Rattle.ioam_desk.specs.HostSide.{side_of, no_side, AddsSlot, HasCounted, ChangesFile, IsApart, slot_name, fault_name, name_of};
+ghost use Rattle.ioam_desk.specs.HostSide.{side_of, no_side, AddsSlot, HasCounted, ChangesFile, IsApart, slot_name, fault_name, fault_reason, name_of, IsOfRead, IsOfWrite};
 ghost use Rattle.ioam_desk.specs.Faults.{with_fault};
 ghost use Rattle.ioam_desk.specs.declared.fault.DeskFault.TheVariants.{Failed};
 
@@ -101,6 +101,7 @@ impl<F: Drop> HostSide<F> {
             × (self.new.slots.items ≡ self.old.slots.items ++ record { name = names.1; opened = opened } ∷ []))
             (λ _. (result ≡ Err Failed) × (self.new.slots.items ≡ self.old.slots.items)) }
         ensures fault { OnErr opened (fault_name self.new ≡ Some names.0) }
+        ensures reason { IfErr opened (λ reason. fault_reason self.new ≡ Some reason) }
     {
         let (asked, name) = names;
         let at = self.asked.len();
@@ -126,7 +127,8 @@ impl<F: Drop> HostSide<F> {
 
     /// The last call that failed.
     pub(crate) fn fault(&self) -> Option<Fault<'_>>
-        ensures { option_map (λ fault. fault.name.now) result ≡ fault_name self.now }
+        ensures name { option_map (λ fault. fault.name.now) result ≡ fault_name self.now }
+        ensures reason { IfSome result (λ fault. fault_reason self.now ≡ Some fault.reason) }
     {
         let Failure { place, reason } = self.last?;
         let name = match place {
@@ -145,6 +147,7 @@ impl<F: Drop> HostSide<F> {
         ensures side { side_of self.new ≡ with_fault (side_of self.old) }
         ensures slots { self.new.slots.items ≡ self.old.slots.items }
         ensures name { fault_name self.new ≡ name_of self.old place }
+        ensures reason { fault_reason self.new ≡ Some reason }
     {
         self.faults = self.faults.saturating_add(1);
         self.last = Some(Failure { place, reason });
@@ -161,6 +164,7 @@ impl<F: Read + Drop> HostSide<F> {
         ensures octets { ChangesFile self.old.slots.items self.new.slots.items slot
             (λ before after. ReadConsumes (F.remaining before) (F.remaining after) result into.new) }
         ensures fault { OnErr result (fault_name self.new ≡ slot_name self.old slot) }
+        ensures reason { OnErr result (IfSome (fault_reason self.new) IsOfRead) }
     {
         match self.slots[slot as usize].opened.file.read(into) {
             Ok(count) => Ok(count),
@@ -178,6 +182,7 @@ impl<F: Write + Drop> HostSide<F> {
         ensures octets { ChangesFile self.old.slots.items self.new.slots.items slot
             (λ before after. WriteAppends (F.contents before) (F.contents after) result from.now) }
         ensures fault { OnErr result (fault_name self.new ≡ slot_name self.old slot) }
+        ensures reason { OnErr result (IfSome (fault_reason self.new) IsOfWrite) }
     {
         match self.slots[slot as usize].opened.file.write(from) {
             Ok(0) => Err(self.failed(Place::Slot(slot), Reason::TakesNone)),

@@ -51,6 +51,8 @@ impl FileSystem for ByLength {
 
     ghost is_created = { λ _ _. ⊤ };
 
+    ghost is_identified = { λ _ _. ⊤ };
+
     ghost is_emptied = { λ _. ⊤ };
 
     fn open(&self, name: &str) -> io::Result<Faulty> {

@@ -45,7 +45,7 @@ pub enum CapFault {
     Size { found: u32 },
     /// The total length at a block's end is not that at its front.
     Trail { found: u32 },
-    /// A block of type 2 or 3: packets in a form that is no longer written.
+    /// A block of type 2, whose form is obsolete, or 3, which has no time for its packet.
     Kind { found: u32 },
     /// A packet names no interface of its section.
     Face { found: u32 },
