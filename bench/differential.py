@@ -48,6 +48,9 @@ class Draw:
         self.missing = rng.random() < 0.03
         if rng.random() < 0.02:
             self.count, self.faulty = rng.choice([255, 256, 257, 520]), 0
+        self.heavy = rng.random() < 0.0015
+        if self.heavy:
+            self.count = 300
 
 
 def run_inputs(rng):
@@ -56,12 +59,15 @@ def run_inputs(rng):
     world = World(rng)
     if rng.random() < 0.06:
         world.top["packets"] = rng.choice([1, 2, 5])
+    if draw.heavy:
+        world.heavy()
     text = damage.domain(rng, world) if draw.domain else world.text()
     try:
         domain = read_domain(text)
     except Fault:
         domain = None
     packets = Packets(rng, world, domain, draw.broken)
+    packets.heavy = draw.heavy
     captures = Captures(rng, packets, world.times, draw.faulty)
     readings = world.readings() if rng.random() < 0.8 else b""
     if draw.readings:

@@ -2,7 +2,7 @@
 
 from capture import Record
 from domain import read_domain
-from packet import octets, put_header
+from packet import put_header
 from report import Sums
 from run_plan import Planner
 from run_program import Answer, number_of

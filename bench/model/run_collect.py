@@ -3,7 +3,7 @@
 from packet import number, octets
 from run_program import Answer, first_equal
 from run_reach import reach
-from trace import fields_text, has, hop_value, is_element, words_of
+from trace import fields_text, has, hop_value, is_element
 
 MOST_WORDS = 61
 HELD, READ = 1048576, 67108864

@@ -38,6 +38,7 @@ class World:
     def __init__(self, rng):
         self.rng = rng
         self.start = rng.choice(STARTS)
+        self.straight = rng.choice([0.95, 0.95, 0.4])
         self.top = {}
         self.tables = {name: [] for name in
                        ("node", "link", "port", "route", "data", "flow", "extra")}
@@ -138,6 +139,11 @@ class World:
                 "flow": flow["name"], "namespace": space, "trace": rng.choice(TRACE_TYPES),
                 "capacity": rng.choice([1, 2, 3, 5, 13, 61])})
 
+    def heavy(self):
+        """The same with links that take and tap any packet."""
+        for place, link in enumerate(self.tables["link"]):
+            link.update(mtu=65575, tap="tap%d" % place)
+
     def drawn_prefix(self):
         rng = self.rng
         return "%s/%d" % (spelled(rng.choice(self.targets)),
@@ -177,7 +183,7 @@ class World:
         near = self.toward(owner).get(node, [])
         if ports and rng.random() < by_port:
             entry["port"] = rng.choice(ports)
-        elif near and rng.random() < 0.9:
+        elif near and rng.random() < self.straight:
             entry["link"] = rng.choice(near)
         elif links:
             entry["link"] = rng.choice(links)

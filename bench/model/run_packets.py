@@ -16,6 +16,7 @@ class Packets:
         self.world = world
         self.domain = domain
         self.broken = broken
+        self.heavy = False
         self.plain = rng.choice([0.9, 0.9, 0.5])
 
     def target(self):
@@ -95,6 +96,8 @@ class Packets:
 
     def size(self):
         """A length near what some link takes."""
+        if self.heavy:
+            return 65000
         rng, domain = self.rng, self.domain
         if domain is None or not domain.link or rng.random() < self.plain:
             return 0

@@ -109,12 +109,15 @@ class Outputs:
         nodes = [visit.node for visit in journey.visits]
         if len(set(nodes)) < len(nodes):
             reach("a node visited again" + (" in a tunnel" if journey.flow is not None else ""))
+        if len(nodes) > 200:
+            reach("visits, more than 200")
         self.report.append(arrival_text(self.domain, self.sums.packets, journey))
         known = []
         if journey.flow is not None:
             known = [views(self.domain, self.samples, journey, namespace)
                      for namespace, _, _ in domains.traces(self.domain, journey.flow)]
             self.exported(journey)
+            reach("traces of an enclosed packet: %d" % len(known))
         if journey.exited:
             self.report.append(traces_text(self.domain, journey, known))
         if journey.left is not None:
