@@ -49,13 +49,15 @@ class World:
         self.ports()
         self.flows()
         self.routes()
+        if rng.random() < 0.25:
+            self.backwards()
         self.data()
         if rng.random() < 0.5:
             self.top["format"] = rng.choice(["ptp", "ntp", "posix"])
 
     def nodes(self):
         rng = self.rng
-        count = rng.choice([1, 2, 2, 3, 3, 4, 5, 6])
+        count = rng.choice([1, 2, 2, 3, 3, 4, 4, 5, 6])
         ids = rng.sample(NODE_IDS + list(range(1, 10)), count)
         for place in range(count):
             address = 0x20010DB8 << 96 | 10 + place
@@ -72,6 +74,8 @@ class World:
         pairs = []
         if len(names) > 1:
             pairs = list(zip(names, names[1:]))
+            if rng.random() < 0.4:
+                pairs += list(zip(names[1:], names))
             for _ in range(rng.randrange(0, 2 * len(names))):
                 pairs.append(tuple(rng.sample(names, 2)))
         mtus = [rng.choice([1280, 1281, 1288, 1400, 1492, 1500, 65575]) for _ in pairs]
@@ -191,6 +195,17 @@ class World:
             return
         if not any(self.same(entry, other) for other in self.tables["route"]):
             self.tables["route"].append(entry)
+
+    def backwards(self):
+        """Sends most of what a node passes on back by one of its links."""
+        links = self.tables["link"]
+        back = [two for one in links for two in links
+                if (one["from"], one["to"]) == (two["to"], two["from"])]
+        if back:
+            link = self.rng.choice(back)
+            for entry in self.tables["route"]:
+                if entry["node"] == link["from"] and "link" in entry and self.rng.random() < 0.8:
+                    entry["link"] = link["name"]
 
     def same(self, one, two):
         return one["node"] == two["node"] and prefix(one["prefix"]) == prefix(two["prefix"])
