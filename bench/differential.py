@@ -103,7 +103,7 @@ class Program:
         """Line, status and outputs, those of these names and all that is new;
         then the folder is as it was before."""
         done = subprocess.run([self.path] + words, cwd=self.folder, capture_output=True,
-                              timeout=120, check=False)
+                              timeout=600, check=False)
         outputs = {}
         for name in os.listdir(self.folder):
             path = os.path.join(self.folder, name)
@@ -185,6 +185,8 @@ def main():
     folder = tempfile.mkdtemp(prefix="ioam-differential-")
     program = Program(path, os.path.join(folder, "run"))
     for place in range(count):
+        if place % 500 == 0 and place > 0:
+            print("%d runs so far, nothing differs" % place, flush=True)
         found = one(random.Random("%d %d" % (seed, place)), program)
         if found:
             print("run %d differs; its files are in %s/run" % (place, folder))

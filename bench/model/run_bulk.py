@@ -51,7 +51,7 @@ def arrivals(seed, count):
 
 def bulk(words):
     """The command `bulk`."""
-    if len(words) != 5 or not (number_of(words[1], 0, (1 << 64) - 1)
+    if len(words) != 5 or words[0] != "bulk" or not (number_of(words[1], 0, (1 << 64) - 1)
                                and number_of(words[2], 1, 1000000)
                                and number_of(words[3], 1, 64)):
         return Answer("usage")

@@ -129,7 +129,7 @@ def count_ties(members):
 
 def collect(words, files):
     """The command `collect` over files by their names."""
-    if len(words) != 3:
+    if len(words) != 3 or words[0] != "collect":
         return Answer("usage")
     if first_equal(words[1:]) is not None:
         return Answer("names " + words[2])

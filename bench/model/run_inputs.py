@@ -79,7 +79,7 @@ class World:
             for _ in range(rng.randrange(0, 2 * len(names))):
                 pairs.append(tuple(rng.sample(names, 2)))
         mtus = [rng.choice([1280, 1281, 1288, 1400, 1492, 1500, 65575]) for _ in pairs]
-        if rng.random() < 0.25:
+        if rng.random() < 0.4:
             mtus.sort(reverse=True)
         for place, (one, two) in enumerate(pairs):
             link = {"name": "l%d" % place, "from": one, "to": two,

@@ -17,7 +17,7 @@ class Packets:
         self.domain = domain
         self.broken = broken
         self.heavy = False
-        self.plain = rng.choice([0.9, 0.9, 0.5])
+        self.plain = rng.choice([0.95, 0.8, 0.4])
 
     def target(self):
         rng = self.rng

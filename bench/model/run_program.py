@@ -41,7 +41,7 @@ def first_equal(names):
 
 def run(words, files):
     """The command `run` over files by their names."""
-    if len(words) != 6 or not number_of(words[3], 1, 64):
+    if len(words) != 6 or words[0] != "run" or not number_of(words[3], 1, 64):
         return Answer("usage")
     name_in, name_readings, report, exports = words[1], words[2], words[4], words[5]
     if name_in not in files:
