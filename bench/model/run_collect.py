@@ -85,6 +85,41 @@ def fault_at(data, at):
     return None
 
 
+class Held:
+    """The keyed records that are held while a file is read: a record of
+    version 2 takes the place of the one of version 1 that it says again."""
+
+    def __init__(self):
+        self.plain, self.told, self.visits = set(), set(), set()
+
+    def finds_room(self, record):
+        """Takes one more record; whether it found room."""
+        core, visit = record.core, (record.core, record.visit)
+        if visit in self.visits or record.visit is None and (core in self.plain or core in self.told):
+            return True
+        if record.visit is not None and core in self.plain:
+            self.plain.remove(core)
+        elif len(self.plain) + len(self.visits) == HELD:
+            return False
+        if record.visit is None:
+            self.plain.add(core)
+        else:
+            self.visits.add(visit)
+            self.told.add(core)
+        return True
+
+
+def within(records):
+    """As many of the first records as a collector takes."""
+    if len(records) <= HELD:
+        return records
+    held = Held()
+    for place, record in enumerate(records):
+        if place == READ or record.is_keyed() and not held.finds_room(record):
+            return records[:place]
+    return records
+
+
 def best(records):
     """Each keyed record once, without those of version 1 that one of version 2
     says again."""
@@ -139,4 +174,8 @@ def collect(words, files):
     answer = "done"
     if fault:
         answer = "exports %d %s" % fault
+    taken = within(records)
+    if len(taken) < len(records):
+        answer = "records %d" % (READ if len(taken) == READ else HELD)
+        records = taken
     return Answer(answer, {words[2]: collect_text(records).encode()})

@@ -9,8 +9,8 @@ NODE_IDS = [0xFFFFFE, 0xFFFFFF, 0x1000000, (1 << 56) - 1, (1 << 56) - 2, 77777]
 TRACE_TYPES = [0x800000, 0x008000, 0x808000, 0x000002, 0x800002, 0xC00000, 0x3A1000,
                0xFFF000, 0xFFF002, 0x007000, 0x080000, 0x300000]
 DIRECT_TYPES = [0x800000, 0x008000, 0x808002, 0xFEF002, 0x880000, 0xC0F000]
-STARTS = [0, 10 ** 9, 1700000000 * 10 ** 9, 4294967295 * 10 ** 9]
 GREATEST_TIME = (1 << 62) - 1
+STARTS = [0, 10 ** 9, 1700000000 * 10 ** 9, 4294967295 * 10 ** 9] * 4 + [GREATEST_TIME - 2000]
 
 
 def spelled(value):
@@ -131,7 +131,8 @@ class World:
         if rng.random() < 0.6:
             flow["direct"] = rng.choice(DIRECT_TYPES)
             flow["every"] = rng.choice([1, 1, 2, 3])
-            flow["flow_id"] = rng.choice([0, 9, 0xFFFFFFF0]) + place
+            alone = all(other["namespace"] != flow["namespace"] for other in self.tables["flow"])
+            flow["flow_id"] = rng.choice([0, 9, 0xFFFFFFFC]) + (0 if alone else place)
         if rng.random() < 0.3:
             flow["limit"] = rng.choice([0, 1, 255])
 
@@ -261,6 +262,7 @@ class World:
         rng, lines = self.rng, []
         for node in self.tables["node"]:
             times = {self.times() for _ in range(rng.choice([0, 1, 2, 4]))}
+            times |= {0} if rng.random() < 0.2 else set()
             for time in sorted(times):
                 lines.append([node.get("name", "a"), time, self.clock(time), self.measured(31, 63),
                               self.measured(31, 32), self.measured(16, 32)])

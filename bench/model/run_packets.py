@@ -32,7 +32,7 @@ class Packets:
         """Options of a header: any but those of IOAM, and the tunnel's limit."""
         rng, found = self.rng, []
         for _ in range(rng.choice([0, 1, 1, 2, 3])):
-            kind = rng.choice([4, 4, 5, 0x12, 0xC2, 0x1E])
+            kind = rng.choice([1, 4, 4, 5, 0x12, 0xC2, 0x1E])
             size = 1 if kind == 4 else rng.choice([0, 1, 2, 4, 9])
             if kind == 4 and rng.random() < 0.2:
                 size = rng.choice([0, 2])
