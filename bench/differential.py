@@ -1,0 +1,202 @@
+#!/usr/bin/env python3
+"""Compares `ioam run`, `collect` and `bulk` with a model of them over random
+inputs: the line, the status and each output, octet for octet, with 1, 3 and 64
+workers. The model (model/run_*.py and what they stand on) was written in
+another language and from the standards' rules alone.
+
+    bench/differential.py [COUNT] [PROGRAM] [SEED]
+
+COUNT runs (300 where it isn't given) by a seed that is printed. Where anything
+differs the folder with the inputs is kept and the status is 1."""
+
+import os
+import random
+import shutil
+import subprocess
+import sys
+import tempfile
+
+HERE = os.path.dirname(os.path.abspath(__file__))
+sys.path.insert(0, os.path.join(HERE, "model"))
+
+import run_damage as damage  # noqa: E402
+from domain import Fault, read_domain  # noqa: E402
+from run_bulk import bulk  # noqa: E402
+from run_captures import Captures  # noqa: E402
+from run_collect import collect  # noqa: E402
+from run_inputs import World  # noqa: E402
+from run_packets import Packets  # noqa: E402
+from run_program import run  # noqa: E402
+from run_reach import REACHED  # noqa: E402
+from run_records import mixed  # noqa: E402
+
+WORDS = ["run", "domain", "readings", "1", "report", "exports"]
+WORKERS = ["1", "3", "64"]
+
+
+class Draw:
+    """How one run's inputs are drawn: how many packets each capture has, how
+    many of them are broken, how often something is faulty."""
+
+    def __init__(self, rng):
+        self.count = rng.choice([0, 1, 3, 5, 8, 12, 20])
+        self.broken = rng.choice([0, 0.3, 1, 3])
+        self.faulty = rng.choice([0, 0, 0, 0.3, 1])
+        self.domain = rng.random() < 0.12
+        self.readings = rng.random() < 0.06
+        self.words = rng.random() < 0.08
+        self.missing = rng.random() < 0.03
+        if rng.random() < 0.02:
+            self.count, self.faulty = rng.choice([255, 256, 257, 520]), 0
+        self.heavy = rng.random() < 0.0015
+        if self.heavy:
+            self.count = 300
+
+
+def run_inputs(rng):
+    """The words and files of one run."""
+    draw = Draw(rng)
+    world = World(rng)
+    if rng.random() < 0.06:
+        world.top["packets"] = rng.choice([1, 2, 5])
+    if draw.heavy:
+        world.heavy()
+    text = damage.domain(rng, world) if draw.domain else world.text()
+    try:
+        domain = read_domain(text)
+    except Fault:
+        domain = None
+    packets = Packets(rng, world, domain, draw.broken)
+    packets.heavy = draw.heavy
+    captures = Captures(rng, packets, world.times, draw.faulty)
+    readings = world.readings() if rng.random() < 0.8 else b""
+    if draw.readings:
+        readings = damage.readings(rng, readings)
+    files = {"domain": text, "readings": readings}
+    for place in range(4):
+        count = draw.count if place == 0 else rng.randrange(draw.count + 1)
+        files["in%d" % place] = captures.capture(count)
+    if draw.missing:
+        del files[rng.choice(list(files))]
+    words = damage.words(rng, WORDS) if draw.words else WORDS
+    return words, files
+
+
+class Program:
+    """The program in a folder of its own."""
+
+    def __init__(self, path, folder):
+        self.path = path
+        self.folder = folder
+        self.files = {}
+
+    def put(self, files):
+        """Makes a folder that holds these files alone."""
+        shutil.rmtree(self.folder, ignore_errors=True)
+        os.mkdir(self.folder)
+        for name, data in files.items():
+            with open(os.path.join(self.folder, name), "wb") as file:
+                file.write(data)
+        self.files = files
+
+    def answer(self, words, written):
+        """Line, status and outputs, those of these names and all that is new;
+        then the folder is as it was before."""
+        done = subprocess.run([self.path] + words, cwd=self.folder, capture_output=True,
+                              timeout=600, check=False)
+        outputs = {}
+        for name in os.listdir(self.folder):
+            path = os.path.join(self.folder, name)
+            with open(path, "rb") as file:
+                data = file.read()
+            if self.files.get(name) != data or name in written:
+                outputs[name] = data
+                self.restore(name, path)
+        return done.stdout.decode(), done.returncode, outputs
+
+    def restore(self, name, path):
+        os.remove(path)
+        if name in self.files:
+            with open(path, "wb") as file:
+                file.write(self.files[name])
+
+
+def differences(words, wanted, got):
+    """What differs, in words."""
+    line, status, outputs = got
+    found = []
+    if line != wanted.line:
+        found.append("line %r, model %r" % (line, wanted.line))
+    if status != wanted.status:
+        found.append("status %d, model %d" % (status, wanted.status))
+    for name in sorted(set(outputs) | set(wanted.outputs)):
+        if outputs.get(name) != wanted.outputs.get(name):
+            found.append("output %s" % name)
+    return ["%s: %s" % (" ".join(words), text) for text in found]
+
+
+def with_workers(words):
+    """The same words with each number of workers, where they have a sound one."""
+    if len(words) > 3 and words[0] in ("run", "bulk") and words[3] == "1":
+        return [words[:3] + [count] + words[4:] for count in WORKERS]
+    return [words]
+
+
+def compare(program, files, words, wanted):
+    """What differs in one command with each number of workers; its outputs."""
+    program.put(files)
+    found, outputs = [], {}
+    for each in with_workers(words):
+        got = program.answer(each, wanted.outputs)
+        outputs = got[2]
+        found += differences(each, wanted, got)
+    return found, outputs
+
+
+def one(rng, program):
+    """One random run, the collecting of what it exported, now and then a
+    generated run; what differs."""
+    words, files = run_inputs(rng)
+    wanted = run(words, files)
+    found, outputs = compare(program, files, words, wanted)
+    if found:
+        return found
+    for _ in range(2):
+        exports = {"exports": mixed(rng, wanted.outputs.get("exports", b""))}
+        asked = ["collect", "exports", "groups" if rng.random() < 0.98 else "exports"]
+        found, _ = compare(program, exports, asked, collect(asked, exports))
+        if found:
+            return found
+    if rng.random() < 0.1:
+        asked = ["bulk", str(rng.choice([0, 1, 1 << 63, (1 << 64) - 1, rng.getrandbits(64)])),
+                 str(rng.choice([1, 2, 50, 255, 256, 257, 600])), "1", "sums"]
+        if rng.random() < 0.2:
+            asked[rng.choice([1, 2])] = rng.choice(
+                ["-1", "00", "18446744073709551616", "1000001", "0", "", "1x", "+1"])
+        found, _ = compare(program, {}, asked, bulk(asked))
+    return found
+
+
+def main():
+    count = int(sys.argv[1]) if len(sys.argv) > 1 else 300
+    path = os.path.abspath(sys.argv[2] if len(sys.argv) > 2 else os.path.join(HERE, "..", "ioam"))
+    seed = int(sys.argv[3]) if len(sys.argv) > 3 else random.SystemRandom().getrandbits(32)
+    print("seed %d, %d runs" % (seed, count), flush=True)
+    folder = tempfile.mkdtemp(prefix="ioam-differential-")
+    program = Program(path, os.path.join(folder, "run"))
+    for place in range(count):
+        if place % 500 == 0 and place > 0:
+            print("%d runs so far, nothing differs" % place, flush=True)
+        found = one(random.Random("%d %d" % (seed, place)), program)
+        if found:
+            print("run %d differs; its files are in %s/run" % (place, folder))
+            print("\n".join(found))
+            sys.exit(1)
+    shutil.rmtree(folder)
+    for name, times in sorted(REACHED.items()):
+        print("%8d %s" % (times, name))
+    print("%d runs, nothing differs" % count)
+
+
+if __name__ == "__main__":
+    main()
