@@ -25,8 +25,9 @@ def aim_of(domain, node):
 def capture_of(rng, aim=None, times=ng_random.TIMES):
     """A capture of packets that are aimed at something."""
     aim = aim or Aim()
-    count = rng.choice((0, 1, 2, 3, 5, 8, 12, 20, 40))
-    size = ng_random.Size(count, times, rng.random() < 0.03)
+    count = rng.choice((0, 1, 2, 3, 5, 8, 12, 20, 40)) if rng.random() < 0.98 else 300  # more octets than are read at once
+    wrong = rng.choice((0, 1, 1, 1, 1, 1, 40))
+    size = ng_random.Size(min(count, 12) if wrong > 1 else count, times, rng.random() < 0.03, wrong)
     return ng_random.capture(rng, size, lambda inner, ethernet: frame(inner, aim, ethernet))
 
 
@@ -39,7 +40,7 @@ def over_capture(rng):
 
 def over_records(rng):
     """`collect` over records."""
-    return [b"collect", b"E", b"P"], {"E": exports(rng, rng.choice((0, 1, 2, 5, 20, 60, 600)))}
+    return [b"collect", b"E", b"P"], {"E": exports(rng, rng.choice((0, 1, 2, 5, 20, 60, 600)) if rng.random() < 0.97 else 5000)}
 
 
 def samples(rng, names, times, faulty):
@@ -58,7 +59,7 @@ def samples(rng, names, times, faulty):
         lines.append(" ".join(words).encode())
         if rng.random() < 0.1:
             lines.append(b"")
-    if faulty and lines:
+    for _ in range(rng.choice((1, 1, 2, 3)) if faulty and lines else 0):
         place = rng.randrange(len(lines))
         lines[place] = wrong_line(rng, lines, place)
     return b"\n".join(lines) + (b"\n" if rng.random() < 0.7 else b"")

@@ -108,7 +108,7 @@ def ioam_data(rng, aim):
 def options_header(rng, aim, behind):
     """An options header with some options, IOAM ones among them, padded; now and then it isn't filled."""
     octets = b""
-    for _ in range(rng.choice((0, 1, 1, 1, 2, 2, 3, 5))):
+    for _ in range(rng.choice((0,) + (1,) * 8 + (2,) * 6 + (3, 3, 4, 5, 14))):
         if rng.random() < 0.75:
             if rng.random() < 0.8:
                 octets += padding(rng, (-len(octets) - 2) % 4)
