@@ -41,7 +41,8 @@ def broken(rng, body, visit):
         octets[0] = rng.choice((0, 3, 255, rng.getrandbits(8)))
     elif way < 0.5:
         front = (10 if octets[0] == 1 else 22) + body[3]
-        size = rng.choice((front - 1, front - 4, 4, front, front + 244, front + 245, 0, 65_535, front + 1, len(octets) + 4, len(octets) - 4))
+        borders = (front - 4, front - 1, front, front + 1, front + 244, front + 245)
+        size = rng.choice(borders + (0, 4, 65_535, len(octets) + 4, len(octets) - 4))
         octets[2:4] = max(0, size).to_bytes(2, "big")
         octets += bytes(rng.choice((0, 300)))
     elif way < 0.8:

@@ -1,6 +1,6 @@
 """Random domain files: sound ones, and ones with a few faults at any table, entry and key."""
 
-from faults_domain import LISTED
+from faults_domain import LISTED, TABLES
 
 NAMES = ("a", "b", "c", "d", "n-1", "n_2", "n.3", "E", "x" * 32, "0")
 ADDRESSES = ("2001:db8::a", "2001:db8::b", "2001:db8::c", "2001:DB8:0:0:0:0:0:d", "::1", "fe80::", "1:2:3:4:5:6:7:8", "::",
@@ -8,18 +8,21 @@ ADDRESSES = ("2001:db8::a", "2001:db8::b", "2001:db8::c", "2001:DB8:0:0:0:0:0:d"
 PREFIXES = ("::/0", "2001:db8:2::/48", "2001:db8::/32", "2001:db8::c/128", "2001:db8:2:1::/64", "2001:db8:2::/47",
             "8000::/1", "2001:db8:2:1::/63", "ffff:ffff:ffff:ffff:ffff:ffff:ffff:ffff/128", "2001:db8:2::7/127")
 SPACES = (0, 7, 8, 9, 65_535)
-BORDERS = (0, 1, -1, 61, 62, 63, 254, 255, 256, 1279, 1280, 65_535, 65_536, 65_575, 65_576, 1_000_000, 1_000_001, 10**9, 10**9 + 1,
-           1_048_575, 1_048_576, 16_777_213, 16_777_214, 16_777_215, 16_777_216, 16_777_217, 2**32 - 1, 2**32, 2**56 - 1, 2**56,
-           2**63 - 1, -2**63, 0x800000, 0x010000, 0x000800, 0xFFF002, 0xFEF002, 0xC000, 0xF000, 0xE000, 0x0800, 0x8001, 2, 4)
+BORDERS = (0, 1, -1, 61, 62, 63, 254, 255, 256, 1279, 1280, 65_535, 65_536, 65_575, 65_576, 1_000_000, 1_000_001, 10**9,
+           10**9 + 1, 1_048_575, 1_048_576, 16_777_213, 16_777_214, 16_777_215, 16_777_216, 16_777_217, 2**32 - 1, 2**32,
+           2**56 - 1, 2**56, 2**63 - 1, -2**63, 0x800000, 0x010000, 0x000800, 0xFFF002, 0xFEF002, 0xC000, 0xF000, 0xE000,
+           0x0800, 0x8001, 2, 4)
 BIG = (2**63, -2**63 - 1, 2**64, 2**64 - 1, 10**30)
-TEXTS = ("", "a", "b", "zz", "a b", "ä", "x" * 32, "x" * 33, "a\0b", "ptp", "ntp", "posix", "PTP", "a/b", "é" * 127, "é" * 128, "o" * 255,
-         "o" * 256, "0011223", "00112233", "0011223g", "00" * 180, "00" * 184, "AABBCCDD", "+0112233", "ab.pcap", " ", "z_1")
-ADDRESS_TEXTS = ("", ":", "::", ":::", "1", "1:2:3:4:5:6:7", "1:2:3:4:5:6:7:8", "1:2:3:4:5:6:7:8:9", "1:2:3:4:5:6:7:8::", "::1:2:3:4:5:6:7:8",
-                 "1:2:3:4::5:6:7:8", "1:2:3::5:6:7:8", "1::2::3", "12345::", "::12345", "::1.2.3.4", "fe80::1%eth0", "g::", "1:::2", ":1:2:3:4:5:6:7",
-                 "1:2:3:4:5:6:7:", "::00000", "::0000", "2001:db8::a", "2001:0db8::000A", " ::", ":: ", "::-1", "::+1", "::1_0", "::١")
+TEXTS = ("", "a", "b", "zz", "a b", "ä", "x" * 32, "x" * 33, "a\0b", "ptp", "ntp", "posix", "PTP", "a/b", "é" * 127, "é" * 128,
+         "o" * 255, "o" * 256, "0011223", "00112233", "0011223g", "00" * 180, "00" * 184, "AABBCCDD", "+0112233", "ab.pcap",
+         " ", "z_1")
+ADDRESS_TEXTS = ("", ":", "::", ":::", "1", "1:2:3:4:5:6:7", "1:2:3:4:5:6:7:8", "1:2:3:4:5:6:7:8:9", "1:2:3:4:5:6:7:8::",
+                 "::1:2:3:4:5:6:7:8", "1:2:3:4::5:6:7:8", "1:2:3::5:6:7:8", "1::2::3", "12345::", "::12345", "::1.2.3.4",
+                 "fe80::1%eth0", "g::", "1:::2", ":1:2:3:4:5:6:7", "1:2:3:4:5:6:7:", "::00000", "::0000",
+                 "2001:db8::a", "2001:0db8::000A", " ::", ":: ", "::-1", "::+1", "::1_0", "::١")
 LENGTH_TEXTS = ("/0", "/128", "/129", "/00", "/01", "", "/", "//0", "/ 1", "/+1", "/-0", "/1_0", "/64", "/999999999999999999999", "/0x1", "/١")
-OTHER_KINDS = (True, 1.5, 7, "t", [], [7], {}, {"a": 1}, "1979-05-27", [[7]], [7, "x"], [7, 7], [65_536], [-1], [True], list(range(16)),
-               list(range(17)), [0, 1, 2, 3, 4, 5, 6, 7, 8, 9, 10, 11, 12, 13, 14, 15, 15])
+OTHER_KINDS = (True, 1.5, 7, "t", [], [7], {}, {"a": 1}, "1979-05-27", [[7]], [7, "x"], [7, 7], [65_536], [-1], [True],
+               list(range(16)), list(range(17)), list(range(16)) + [15])
 
 
 def quoted(text):
@@ -202,14 +205,15 @@ def spoil(rng, top):
         entry[key] = wrong_value(rng, key, entry.get(key, 5))
 
 
-def crowded(rng, top):
+def crowded(rng):
     """One table with as many entries as it may have, or one more."""
-    name, most = rng.choice((("node", 256), ("link", 1024), ("port", 64), ("data", 4096), ("flow", 256), ("extra", 512), ("tap", 64), ("route", 16_384)))
+    name, most = rng.choice(TABLES + (("tap", 64),))
     count = most + rng.choice((0, 1))
     nodes = [{"name": f"n{place}", "id": place, "address": f"::{place + 1:x}"} for place in range(count if name == "node" else 256)]
     top = {"node": nodes}
     if name in ("link", "tap"):
-        links = [{"name": f"l{place}", "from": "n0", "to": "n1", "out_id": 1, "in_id": 2, "delay": 0, "mtu": 1280} for place in range(count + 3)]
+        link = {"from": "n0", "to": "n1", "out_id": 1, "in_id": 2, "delay": 0, "mtu": 1280}
+        links = [{"name": f"l{place}", **link} for place in range(count + 3)]
         for place, entry in enumerate(links if name == "link" else links[3:]):
             maybe(rng, 1 if name == "tap" else 0.0, entry, tap=f"t{place}")
         top["link"] = links[:count] if name == "link" else links
@@ -225,7 +229,8 @@ def crowded(rng, top):
         top["flow"] = [{"name": f"f{place}", **flow} for place in range(count if name == "flow" else 256)]
         if name == "extra":
             top["node"] = [{**node, "namespaces": [1, 2]} for node in nodes]
-            top["extra"] = [{"flow": f"f{place // 2 % 256}", "namespace": place % 2 + 1, "trace": 2, "capacity": 1} for place in range(count)]
+            top["extra"] = [{"flow": f"f{place // 2 % 256}", "namespace": place % 2 + 1, "trace": 2, "capacity": 1}
+                            for place in range(count)]
     return top
 
 
@@ -233,7 +238,7 @@ def domain_file(rng, faulty):
     """A domain file, perhaps with faults, and the tables that it was made of."""
     top = sound(rng)
     if faulty and rng.random() < 0.02:
-        top = crowded(rng, top)
+        top = crowded(rng)
     for _ in range(rng.choice((1, 1, 1, 2, 3, 5)) if faulty else 0):
         spoil(rng, top)
     octets = toml_of(rng, top).encode()

@@ -12,12 +12,16 @@ ODD_WORDS = (b"", b"run", b"bulk", b"node", b"filter", b"x", b"0", b"-1", b"I", 
 NUMBERS = (b"0", b"1", b"64", b"65", b"01", b"+1", b"-1", b"1 ", b"", b"00", b"1000000", b"1000001", b"18446744073709551615",
            b"18446744073709551616", b"0x1", b"\xd9\xa1", b"1_0", b"340282366920938463463374607431768211457", b"64.0")
 
+ODD_NUMBERS = (b"-", b"01", b"+1", b"-1", b"1.5", b"", b"0", b"00", b"0x1", b"4294967295", b"4294967296", b"9223372036854775807",
+               b"9223372036854775808", b"18446744073709551616", b"1" * 60, b"1_0", b"\xd9\xa1", b"--", b"x")
+
 
 def aim_of(domain, node):
     """What packets to a node are aimed at."""
     routes = [route["prefix"] for route in domain.route if route["node"] == node]
     lengths = [link["mtu"] for link in domain.link if link["from"] == node]
-    snapshots = {space: len(data["snapshot"][1]) // 4 for (at, space), data in domain.data.items() if at == node and data["snapshot"]}
+    given = {space: data["snapshot"] for (at, space), data in domain.data.items() if at == node}
+    snapshots = {space: len(snapshot[1]) // 4 for space, snapshot in given.items() if snapshot}
     known = domain.node[node]["namespaces"] + [0]
     return Aim(domain.node[node]["address"], routes, known * 3 + [7, 8, 9, 65_535], snapshots, lengths)
 
@@ -79,8 +83,7 @@ def wrong_line(rng, lines, place):
         words[0] = rng.choice((b"z", b"A", b"-", b"\xff", words[0] + b"x", b"a\t", words[0].upper(), b"\xd8\xa7"))
         at = rng.randrange(1, 6)
     if way < 0.95:
-        words[at] = rng.choice((b"-", b"01", b"+1", b"-1", b"1.5", b"", b"0", b"00", b"0x1", b"4294967295", b"4294967296", b"9223372036854775807",
-                                b"9223372036854775808", b"18446744073709551616", b"1" * 60, b"1_0", b"\xd9\xa1", b"--", b"x"))
+        words[at] = rng.choice(ODD_NUMBERS)
         return b" ".join(words)
     return bytes(rng.choice(b"\0 -09az\n\r") if rng.random() < 0.1 else octet for octet in lines[place])
 
@@ -111,7 +114,8 @@ def over_node(rng, faulty=False, faulty_readings=False):
     better = [way for way in ways if domain.names("node")[way[0]] in routed] if rng.random() < 0.95 else []
     node, link = rng.choice(better or ways or [("a", "l0")])
     if rng.random() < 0.02:
-        node, link = rng.choice(((rng.choice(names or ["a"]), link), (node, "l1"), ("zz", link), (node, "zz"), (node, ""), ("", link), (link, node)))
+        other = rng.choice(names or ["a"])
+        node, link = rng.choice(((other, link), (node, "l1"), ("zz", link), (node, "zz"), (node, ""), ("", link), (link, node)))
     aim = aim_of(domain, domain.names("node")[node]) if domain and node in domain.names("node") else Aim()
     files["I"] = capture_of(rng, aim, times)
     return [b"node", b"D", b"R", node.encode(), link.encode(), b"I", b"O", b"P", b"E"], files

@@ -50,7 +50,8 @@ def record(rng, order, unit, size, make_frame, ethernet):
     time = rng.choice(size.times)
     seconds, fraction = min(time // 10**9, 2**32 - 1), time % 10**9 // unit
     if rng.random() < 0.1:
-        seconds, fraction = rng.choice((0, 1, 2**32 - 1, rng.getrandbits(32))), rng.choice((10**9, 2**32 - 1, 999_999, 10**6, rng.getrandbits(32)))
+        seconds = rng.choice((0, 1, 2**32 - 1, rng.getrandbits(32)))
+        fraction = rng.choice((10**9, 2**32 - 1, 999_999, 10**6, rng.getrandbits(32)))
     captured = len(octets)
     if size.long and rng.random() < 0.1:
         captured = rng.choice((262_144, 262_145, 65_536, 65_535, 65_512, 131_072))

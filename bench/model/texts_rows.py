@@ -26,9 +26,9 @@ route = [
   { node = "c", prefix = "2001:db8:2::/48", port = "east" },
 ]
 flow = [
-  { name = "f", entry = "a", exit = "c", source = "::/0", target = "2001:db8:2::/48", namespace = 7, hops = 64, trace = 0x800000, capacity = 3 },
+  { name = "f", entry = "a", exit = "c", source = "::/0", target = "2001:db8:2::/48", namespace = 7, hops = 64, TRACE },
 ]
-"""
+""".replace("TRACE", "trace = 0x800000, capacity = 3")
 TO_C = bytes.fromhex("20010db800000000000000000000000c")
 
 
