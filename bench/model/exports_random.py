@@ -69,6 +69,8 @@ def visits(rng):
 def exports(rng, count, faults=True):
     """A file of records."""
     keys = [(small(rng, 2), small(rng, 4), small(rng, 4)) for _ in range(rng.choice((1, 2, 5, 40)))]
+    if count > 100 and rng.random() < 0.4:
+        keys = [(rng.choice((0, 7)), small(rng, 4), rng.getrandbits(32)) for _ in range(count)]
     pool = [(record_body(rng, keys), visits(rng)) for _ in range(max(1, count // 2))]
     octets = []
     for _ in range(count):

@@ -20,7 +20,8 @@ ADDRESS_TEXTS = ("", ":", "::", ":::", "1", "1:2:3:4:5:6:7", "1:2:3:4:5:6:7:8", 
                  "::1:2:3:4:5:6:7:8", "1:2:3:4::5:6:7:8", "1:2:3::5:6:7:8", "1::2::3", "12345::", "::12345", "::1.2.3.4",
                  "fe80::1%eth0", "g::", "1:::2", ":1:2:3:4:5:6:7", "1:2:3:4:5:6:7:", "::00000", "::0000",
                  "2001:db8::a", "2001:0db8::000A", " ::", ":: ", "::-1", "::+1", "::1_0", "::١")
-LENGTH_TEXTS = ("/0", "/128", "/129", "/00", "/01", "", "/", "//0", "/ 1", "/+1", "/-0", "/1_0", "/64", "/999999999999999999999", "/0x1", "/١")
+LENGTH_TEXTS = ("/0", "/128", "/129", "/00", "/01", "", "/", "//0", "/ 1", "/+1", "/-0", "/1_0", "/64", "/999999999999999999999",
+                "/0x1", "/١")
 OTHER_KINDS = (True, 1.5, 7, "t", [], [7], {}, {"a": 1}, "1979-05-27", [[7]], [7, "x"], [7, 7], [65_536], [-1], [True],
                list(range(16)), list(range(17)), list(range(16)) + [15])
 
@@ -117,10 +118,24 @@ def routes(rng, top, names):
         ways = [("link", entry["name"]) for entry in top["link"] if entry["from"] == name]
         ways *= 3
         ways += [("port", entry["name"]) for entry in top["port"] if entry["node"] == name]
-        for prefix in rng.sample(PREFIXES, rng.choice((1, 3, 5))) if ways else ():
+        prefixes = rng.sample(PREFIXES, rng.choice((1, 3, 5)))
+        if rng.random() < 0.12:
+            prefixes = many_prefixes(rng)
+        for prefix in prefixes if ways else ():
             way = rng.choice(ways)
             found.append({"node": name, "prefix": prefix, way[0]: way[1]})
     return found
+
+
+def many_prefixes(rng):
+    """Prefixes of many lengths, of which many match one address; no two equal."""
+    bases, found = [rng.getrandbits(128) for _ in range(3)], {}
+    for _ in range(rng.choice((30, 33, 60, 200))):
+        length = rng.choice((0, 1, 32, 48, 64, 127, 128, rng.randint(0, 128)))
+        bits = rng.choice(bases) ^ (1 << rng.randint(0, 127) if rng.random() < 0.5 else 0)
+        written = ":".join(f"{bits >> 112 - 16 * place & 0xFFFF:x}" for place in range(8))
+        found[bits >> (128 - length), length] = f"{written}/{length}"
+    return list(found.values())
 
 
 def data(rng, node, space):
