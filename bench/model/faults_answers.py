@@ -59,6 +59,8 @@ def over_capture(files, name, limit, outputs_of):
     if len(arrivals) > limit:
         arrivals, line = arrivals[:limit], f"packets {limit}"
     elif fault is not None:
+        if len(arrivals) == limit:
+            reached("capture: a fault directly behind the limit")
         line = f"capture {name} {fault[0]} {fault[1]}"
         reached("capture " + ("classic " if files[name][:4] != b"\x0a\x0d\x0d\x0a" else "ng ") + fault[1].split()[0])
     return line, outputs_of(arrivals)

@@ -1,4 +1,5 @@
-"""The domain file: what it says, or its first fault."""
+"""The domain file: what it says, or its first fault. It is read as TOML 1.0, as Python reads it; the program reads 1.1, which also
+takes line ends and a last comma in inline tables, further escapes and a byte order mark, and refuses tables that lie too deep."""
 
 import tomllib
 

@@ -264,5 +264,5 @@ def domain_file(rng, faulty):
         octets = octets[:rng.randint(0, len(octets))]
     elif way < 0.08:
         octets = bytearray(octets or b"#")
-        octets[rng.randrange(len(octets))] = rng.choice((0, 0xFF, 0x80, 10, 34, 91, 93, 61, 35, 44, 123))
+        octets[rng.randrange(len(octets))] = rng.choice((0, 0xFF, 0x80, 34, 91, 93, 61, 35, 123))
     return bytes(octets), top

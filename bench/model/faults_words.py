@@ -4,6 +4,7 @@ import ng_random
 from exports_random import exports
 from faults_domain import read_domain
 from faults_random import domain_file
+from faults_shipped import over_shipped
 from faults_values import Fault
 from foreign_random import Aim, frame
 from ng_captures import CLASSIC_HEAD
@@ -158,6 +159,8 @@ def some_input(rng):
         return over_node(rng, faulty=True)
     if way < 0.84:
         return over_node(rng, faulty_readings=True)
-    if way < 0.95:
+    if way < 0.92:
         return over_records(rng)
+    if way < 0.96:
+        return over_shipped(rng)
     return odd_words(rng)

@@ -91,7 +91,7 @@ def chain_of(packet):
             options = options_of(packet, place + 2, end)
             if options is None:
                 return None
-        reached(f"chain: through {value}")
+        reached(f"chain: through {value}" + (" of 1,024 octets and more" if end - place >= 1024 else ""))
         heads.append((value, place, end, options))
         value, place, behind_ipv6 = packet[place], end, False
     return heads

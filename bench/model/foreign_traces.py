@@ -1,5 +1,6 @@
 """Trace data from anywhere (RFC 9197 section 4.4): sizes, elements, how a trace is read and how a node fills it."""
 
+from faults_reach import reached
 from foreign_packets import number
 
 OVERFLOW = 0x0400  # of the word that has NodeLen, Flags and RemainingLen
@@ -138,6 +139,8 @@ def fill(octets, view):
         return "unsuited", octets
     added = element_of(head.kind, head.node_len, view)
     size = len(added) // 4
+    reached(f"fill: {'free words as the element' if size == head.remaining else 'one too few' if size == head.remaining + 1 else 'others'}")
+    reached("fill: " + ("with" if undefined(head.kind) else "without") + " undefined bits")
     if size > head.remaining:
         return "overflow", octets[:2] + (middle | OVERFLOW).to_bytes(2, "big") + octets[4:]
     place = 8 + 4 * (head.remaining - size)
