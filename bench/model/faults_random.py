@@ -1,6 +1,7 @@
 """Random domain files: sound ones, and ones with a few faults at any table, entry and key."""
 
-from faults_domain import LISTED, TABLES
+from faults_domain import TABLES
+from faults_spoiled import spoil
 
 NAMES = ("a", "b", "c", "d", "n-1", "n_2", "n.3", "E", "x" * 32, "0")
 ADDRESSES = ("2001:db8::a", "2001:db8::b", "2001:db8::c", "2001:DB8:0:0:0:0:0:d", "::1", "fe80::", "1:2:3:4:5:6:7:8", "::",
@@ -8,22 +9,6 @@ ADDRESSES = ("2001:db8::a", "2001:db8::b", "2001:db8::c", "2001:DB8:0:0:0:0:0:d"
 PREFIXES = ("::/0", "2001:db8:2::/48", "2001:db8::/32", "2001:db8::c/128", "2001:db8:2:1::/64", "2001:db8:2::/47",
             "8000::/1", "2001:db8:2:1::/63", "ffff:ffff:ffff:ffff:ffff:ffff:ffff:ffff/128", "2001:db8:2::7/127")
 SPACES = (0, 7, 8, 9, 65_535)
-BORDERS = (0, 1, -1, 61, 62, 63, 254, 255, 256, 1279, 1280, 65_535, 65_536, 65_575, 65_576, 1_000_000, 1_000_001, 10**9,
-           10**9 + 1, 1_048_575, 1_048_576, 16_777_213, 16_777_214, 16_777_215, 16_777_216, 16_777_217, 2**32 - 1, 2**32,
-           2**56 - 1, 2**56, 2**63 - 1, -2**63, 0x800000, 0x010000, 0x000800, 0xFFF002, 0xFEF002, 0xC000, 0xF000, 0xE000,
-           0x0800, 0x8001, 2, 4)
-BIG = (2**63, -2**63 - 1, 2**64, 2**64 - 1, 10**30)
-TEXTS = ("", "a", "b", "zz", "a b", "ä", "x" * 32, "x" * 33, "a\0b", "ptp", "ntp", "posix", "PTP", "a/b", "é" * 127, "é" * 128,
-         "o" * 255, "o" * 256, "0011223", "00112233", "0011223g", "00" * 180, "00" * 184, "AABBCCDD", "+0112233", "ab.pcap",
-         " ", "z_1")
-ADDRESS_TEXTS = ("", ":", "::", ":::", "1", "1:2:3:4:5:6:7", "1:2:3:4:5:6:7:8", "1:2:3:4:5:6:7:8:9", "1:2:3:4:5:6:7:8::",
-                 "::1:2:3:4:5:6:7:8", "1:2:3:4::5:6:7:8", "1:2:3::5:6:7:8", "1::2::3", "12345::", "::12345", "::1.2.3.4",
-                 "fe80::1%eth0", "g::", "1:::2", ":1:2:3:4:5:6:7", "1:2:3:4:5:6:7:", "::00000", "::0000",
-                 "2001:db8::a", "2001:0db8::000A", " ::", ":: ", "::-1", "::+1", "::1_0", "::١")
-LENGTH_TEXTS = ("/0", "/128", "/129", "/00", "/01", "", "/", "//0", "/ 1", "/+1", "/-0", "/1_0", "/64", "/999999999999999999999",
-                "/0x1", "/١")
-OTHER_KINDS = (True, 1.5, 7, "t", [], [7], {}, {"a": 1}, "1979-05-27", [[7]], [7, "x"], [7, 7], [65_536], [-1], [True],
-               list(range(16)), list(range(17)), list(range(16)) + [15])
 
 
 def quoted(text):
@@ -151,7 +136,7 @@ def data(rng, node, space):
 def flows(rng, nodes):
     """Flows between nodes that know a namespace."""
     found = []
-    for place in range(rng.choice((0, 0, 1, 2, 3))):
+    for place in range(rng.choice((0, 1, 1, 2, 3))):
         ends = rng.sample(nodes, 2)
         known = [0] + [space for space in ends[0].get("namespaces", []) if space in ends[1].get("namespaces", [])]
         entry = {"name": f"f{place}", "entry": ends[0]["name"], "exit": ends[1]["name"], "source": rng.choice(PREFIXES),
@@ -176,53 +161,10 @@ def extras(rng, top):
     return found
 
 
-def wrong_value(rng, key, value):
-    """A value that may be wrong for a key: of another kind, beside a border, badly formed, or one of another entry."""
-    way = rng.random()
-    if way < 0.15:
-        return rng.choice(OTHER_KINDS)
-    if key in ("address", "prefix", "source", "target") and way < 0.9:
-        return rng.choice(ADDRESS_TEXTS) + (rng.choice(LENGTH_TEXTS) if key != "address" or way < 0.2 else "")
-    if key == "namespaces":
-        return rng.choice(OTHER_KINDS)
-    if isinstance(value, int) and way < 0.9:
-        return rng.choice(BIG) if way < 0.17 else rng.choice(BORDERS + (value + 1, value - 1))
-    return rng.choice(TEXTS + NAMES[:4] + ("l0", "l1", "p0", "p1", "f0", "f1"))
-
-
-def spoil(rng, top):
-    """One thing that is likely to be a fault."""
-    name = "top" if rng.random() < 0.06 else rng.choice([name for name in LISTED if top.get(name)] or ["top"])
-    table = top.get(name)
-    if name == "top" or not isinstance(table, list) or not all(isinstance(entry, dict) for entry in table):
-        key = rng.choice(("format", "packets", "colour", "nodes", name, ""))
-        if key != "top":
-            top[key] = rng.choice((1, 0, 16_777_217, 16_777_216, "ptp", "utc", True, [], {}, [1], {"name": "x"}))
-        return
-    if rng.random() < 0.05:
-        top[name] = rng.choice((7, "x", {}, {"name": "q"}, [1], table + [1], [], [[]]))
-        return
-    if not table:
-        return
-    place = rng.randrange(len(table))
-    entry = table[place] = dict(table[place])
-    key = rng.choice(LISTED[name])
-    way = rng.random()
-    if way < 0.2:
-        entry.pop(key, None)
-    elif way < 0.27:
-        entry[rng.choice(("colour", "Name", "", "out", "id", "flow_Id", "namespaces", "every", "port"))] = 1
-    elif way < 0.45:
-        entry[key] = rng.choice(table).get(key, rng.choice(("l0", "p0", "p1", "a", 5, 7)))
-    elif way < 0.5:
-        table.insert(rng.randint(0, len(table)), dict(entry))
-    else:
-        entry[key] = wrong_value(rng, key, entry.get(key, 5))
-
-
 def crowded(rng):
     """One table with as many entries as it may have, or one more."""
-    name, most = rng.choice(TABLES + (("tap", 64),))
+    few = tuple(pair for pair in TABLES if pair[1] <= 1024) + (("tap", 64),)
+    name, most = rng.choice(few * 3 + TABLES)
     count = most + rng.choice((0, 1))
     nodes = [{"name": f"n{place}", "id": place, "address": f"::{place + 1:x}"} for place in range(count if name == "node" else 256)]
     top = {"node": nodes}
@@ -249,13 +191,26 @@ def crowded(rng):
     return top
 
 
+def fuller(rng, top):
+    """Gives every node the same namespaces, and every flow all that it may have, with one extra trace or two."""
+    for node in top["node"]:
+        node["namespaces"] = [7, 8, 9]
+    for place, flow in enumerate(top.get("flow", [])):
+        flow.update(namespace=7, trace=0x800000, capacity=3, direct=0x800000, every=1, flow_id=place)
+    flows_now = {"node": top["node"], "flow": top.get("flow", [])}
+    top["extra"] = extras(rng, flows_now) or extras(rng, flows_now)
+
+
 def domain_file(rng, faulty):
     """A domain file, perhaps with faults, and the tables that it was made of."""
     top = sound(rng)
-    if faulty and rng.random() < 0.02:
+    if faulty and rng.random() < 0.03:
         top = crowded(rng)
-    for _ in range(rng.choice((1, 1, 1, 2, 3, 5)) if faulty else 0):
-        spoil(rng, top)
+    elif faulty:
+        if rng.random() < 0.6:
+            fuller(rng, top)
+        for _ in range(rng.choice((1, 1, 1, 1, 1, 2, 5))):
+            spoil(rng, top)
     octets = toml_of(rng, top).encode()
     way = rng.random() if faulty else 1
     if way < 0.01:

@@ -98,7 +98,7 @@ def times_of(rng):
 
 
 def over_node(rng, faulty=False, faulty_readings=False):
-    """`node` over a domain, readings and a capture; with a faulty file, in half of the inputs, `run` instead."""
+    """`node` over a domain, readings and a capture; with a faulty file often `run` instead."""
     octets, top = domain_file(rng, faulty)
     try:
         domain = read_domain(octets)
@@ -107,7 +107,7 @@ def over_node(rng, faulty=False, faulty_readings=False):
     times = times_of(rng)
     names = list(domain.names("node")) if domain else [str(node.get("name")) for node in sound_nodes(top)]
     files = {"D": octets, "R": samples(rng, names, times, faulty_readings)}
-    if (faulty or faulty_readings) and rng.random() < 0.5:
+    if faulty and rng.random() < 0.75 or faulty_readings and rng.random() < 0.5:
         for port in domain.port if domain else ():
             if port["in"] is not None and rng.random() < 0.7:
                 files[port["in"]] = CLASSIC_HEAD
@@ -151,13 +151,13 @@ def odd_words(rng):
 def some_input(rng):
     """Any input."""
     way = rng.random()
-    if way < 0.3:
+    if way < 0.25:
         return over_capture(rng)
-    if way < 0.6:
+    if way < 0.5:
         return over_node(rng)
     if way < 0.78:
         return over_node(rng, faulty=True)
-    if way < 0.84:
+    if way < 0.83:
         return over_node(rng, faulty_readings=True)
     if way < 0.92:
         return over_records(rng)
