@@ -1,0 +1,166 @@
+"""Random inputs of the program: words, and the files that they name."""
+
+import ng_random
+from exports_random import exports
+from faults_domain import read_domain
+from faults_random import domain_file
+from faults_shipped import over_shipped
+from faults_values import Fault
+from foreign_random import Aim, frame
+from ng_captures import CLASSIC_HEAD
+
+ODD_WORDS = (b"", b"run", b"bulk", b"node", b"filter", b"x", b"0", b"-1", b"I", b"\xff", b"\xc3\xa9", b"a b", b"D", b"R")
+NUMBERS = (b"0", b"1", b"64", b"65", b"01", b"+1", b"-1", b"1 ", b"", b"00", b"1000000", b"1000001", b"18446744073709551615",
+           b"18446744073709551616", b"0x1", b"\xd9\xa1", b"1_0", b"340282366920938463463374607431768211457", b"64.0")
+
+ODD_NUMBERS = (b"-", b"01", b"+1", b"-1", b"1.5", b"", b"0", b"00", b"0x1", b"4294967295", b"4294967296", b"9223372036854775807",
+               b"9223372036854775808", b"18446744073709551616", b"1" * 60, b"1_0", b"\xd9\xa1", b"--", b"x")
+
+
+def aim_of(domain, node):
+    """What packets to a node are aimed at."""
+    routes = [route["prefix"] for route in domain.route if route["node"] == node]
+    lengths = [link["mtu"] for link in domain.link if link["from"] == node]
+    given = {space: data["snapshot"] for (at, space), data in domain.data.items() if at == node}
+    snapshots = {space: len(snapshot[1]) // 4 for space, snapshot in given.items() if snapshot}
+    known = domain.node[node]["namespaces"] + [0]
+    return Aim(domain.node[node]["address"], routes, known * 3 + [7, 8, 9, 65_535], snapshots, lengths)
+
+
+def capture_of(rng, aim=None, times=ng_random.TIMES):
+    """A capture of packets that are aimed at something."""
+    aim = aim or Aim()
+    count = rng.choice((0, 1, 2, 3, 5, 8, 12, 20, 40)) if rng.random() < 0.98 else 300  # more octets than are read at once
+    wrong = rng.choice((0, 1, 1, 1, 1, 1, 40))
+    size = ng_random.Size(min(count, 12) if wrong > 1 else count, times, rng.random() < 0.03, wrong)
+    return ng_random.capture(rng, size, lambda inner, ethernet: frame(inner, aim, ethernet))
+
+
+def over_capture(rng):
+    """`filter`, `paths`, `show` or `save` over a capture."""
+    command = rng.choice((b"filter", b"paths", b"show", b"show", b"save"))
+    outputs = [b"O", b"P"] if command == b"filter" else [b"O"]
+    return [command, b"I", *outputs], {"I": capture_of(rng)}
+
+
+def over_records(rng):
+    """`collect` over records."""
+    return [b"collect", b"E", b"P"], {"E": exports(rng, rng.choice((0, 1, 2, 5, 20, 60, 600)) if rng.random() < 0.97 else 5000)}
+
+
+def samples(rng, names, times, faulty):
+    """READINGS: lines whose times rise for each node, of which one may be faulty."""
+    lines, last = [], {}
+    for _ in range(rng.choice((0, 1, 3, 8, 20)) if rng.random() < 0.95 else 300):
+        name = rng.choice(names or ["a"])
+        time = last.get(name, -1) + rng.choice((1, 1, 2, 500, 10**9)) if rng.random() < 0.7 else rng.choice(times)
+        if time <= last.get(name, -1) or time >= 2**63:
+            continue
+        last[name] = time
+        clock = rng.choice((0, 1, 10**9 - 1, 2**63 - 1, 2**32 * 10**9, rng.getrandbits(63)))
+        words = [name, str(time), str(clock)]
+        words.append(rng.choice(("-", "0", "2147483647", "2147483648", str(2**63 - 1), str(rng.getrandbits(31)))))
+        words += [rng.choice(("-", "0", "4294967295", str(rng.getrandbits(32)))) for _ in range(2)]
+        lines.append(" ".join(words).encode())
+        if rng.random() < 0.1:
+            lines.append(b"")
+    for _ in range(rng.choice((1, 1, 2, 3)) if faulty and lines else 0):
+        place = rng.randrange(len(lines))
+        lines[place] = wrong_line(rng, lines, place)
+    return b"\n".join(lines) + (b"\n" if rng.random() < 0.7 else b"")
+
+
+def wrong_line(rng, lines, place):
+    """A line that is likely to be faulty."""
+    words = lines[place].split(b" ")
+    if len(words) != 6:
+        return b"a 1 1 - - -"
+    way = rng.random()
+    at = rng.randrange(6)
+    if way < 0.2:
+        return rng.choice(lines)
+    if way < 0.35:
+        return rng.choice((b" ".join(words) + b" ", b" " + b" ".join(words), b"  ".join(words[:2]) + b" 1", b" ".join(words[:5]),
+                           b" ".join(words + words[:1]), b"\r", b" ", b"a", b"\t".join(words), b" ".join(words) + b"\r", b"      "))
+    if way < 0.5:
+        words[0] = rng.choice((b"z", b"A", b"-", b"\xff", words[0] + b"x", b"a\t", words[0].upper(), b"\xd8\xa7"))
+        at = rng.randrange(1, 6)
+    if way < 0.95:
+        words[at] = rng.choice(ODD_NUMBERS)
+        return b" ".join(words)
+    return bytes(rng.choice(b"\0 -09az\n\r") if rng.random() < 0.1 else octet for octet in lines[place])
+
+
+def times_of(rng):
+    """Times that packets and samples have in one input, so that they meet."""
+    base = rng.choice((0, 10**9, 1_700_000_000 * 10**9, 2**32 * 10**9, 2**61))
+    return [base + more for more in (0, 1, 2, 3, 500, 501, 502, 999, 1000, 10**6)] + [0, 2**62 - 1]
+
+
+def over_node(rng, faulty=False, faulty_readings=False):
+    """`node` over a domain, readings and a capture; with a faulty file often `run` instead."""
+    octets, top = domain_file(rng, faulty)
+    try:
+        domain = read_domain(octets)
+    except Fault:
+        domain = None
+    times = times_of(rng)
+    names = list(domain.names("node")) if domain else [str(node.get("name")) for node in sound_nodes(top)]
+    files = {"D": octets, "R": samples(rng, names, times, faulty_readings)}
+    if faulty and rng.random() < 0.75 or faulty_readings and rng.random() < 0.5:
+        for port in domain.port if domain else ():
+            if port["in"] is not None and rng.random() < 0.7:
+                files[port["in"]] = CLASSIC_HEAD
+        return [b"run", b"D", b"R", rng.choice((b"1", b"2", b"64")), b"P", b"E"], files
+    ways = [(domain.node[link["to"]]["name"], link["name"]) for link in domain.link] if domain else []
+    routed = {route["node"] for route in domain.route if route["link"] is not None} if domain else ()
+    better = [way for way in ways if domain.names("node")[way[0]] in routed] if rng.random() < 0.95 else []
+    node, link = rng.choice(better or ways or [("a", "l0")])
+    if rng.random() < 0.02:
+        other = rng.choice(names or ["a"])
+        node, link = rng.choice(((other, link), (node, "l1"), ("zz", link), (node, "zz"), (node, ""), ("", link), (link, node)))
+    aim = aim_of(domain, domain.names("node")[node]) if domain and node in domain.names("node") else Aim()
+    files["I"] = capture_of(rng, aim, times)
+    return [b"node", b"D", b"R", node.encode(), link.encode(), b"I", b"O", b"P", b"E"], files
+
+
+def sound_nodes(top):
+    """The entries of the table of nodes that are tables."""
+    nodes = top.get("node", [])
+    return [node for node in nodes if isinstance(node, dict)] if isinstance(nodes, list) else []
+
+
+def odd_words(rng):
+    """Words that are of no form, or name one file twice, or one that isn't there."""
+    words, files = rng.choice((over_capture, over_records, over_node))(rng)
+    way = rng.random()
+    if way < 0.2:
+        words = [rng.choice(ODD_WORDS) for _ in range(rng.randint(0, 10))]
+    elif way < 0.4:
+        words = rng.choice(([b"run", b"D", b"R", rng.choice(NUMBERS), b"P", b"E"],
+                            [b"bulk", rng.choice(NUMBERS), rng.choice(NUMBERS), rng.choice(NUMBERS), b"P"]))
+    elif way < 0.5:
+        words = words[:-1] if rng.random() < 0.5 else words + [b"X"]
+    elif way < 0.9:
+        words[rng.randrange(len(words))] = rng.choice(words + list(ODD_WORDS))
+    else:
+        files.pop(rng.choice(list(files)))
+    return words, files
+
+
+def some_input(rng):
+    """Any input."""
+    way = rng.random()
+    if way < 0.25:
+        return over_capture(rng)
+    if way < 0.5:
+        return over_node(rng)
+    if way < 0.78:
+        return over_node(rng, faulty=True)
+    if way < 0.83:
+        return over_node(rng, faulty_readings=True)
+    if way < 0.92:
+        return over_records(rng)
+    if way < 0.96:
+        return over_shipped(rng)
+    return odd_words(rng)
