@@ -196,7 +196,7 @@ def fuller(rng, top):
     for node in top["node"]:
         node["namespaces"] = [7, 8, 9]
     for place, flow in enumerate(top.get("flow", [])):
-        flow.update(namespace=7, trace=0x800000, capacity=3, direct=0x800000, every=1, flow_id=place)
+        flow.update(namespace=rng.choice((7, 8, 9)), trace=0x800000, capacity=3, direct=0x800000, every=1, flow_id=rng.choice((5, place)))
     flows_now = {"node": top["node"], "flow": top.get("flow", [])}
     top["extra"] = extras(rng, flows_now) or extras(rng, flows_now)
 

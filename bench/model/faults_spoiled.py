@@ -37,14 +37,14 @@ def wrong_value(rng, name, key, value):
     way = rng.random()
     if way < 0.2:
         return rng.choice(OTHER_KINDS)
-    if way < 0.35 and key in BOUNDS:
+    if way < 0.6 and key in BOUNDS:
         return beside_border(rng, name, key)
     if key in ("address", "prefix", "source", "target") and way < 0.9:
         return rng.choice(ADDRESS_TEXTS) + (rng.choice(LENGTH_TEXTS) if key != "address" or way < 0.25 else "")
     if key == "namespaces":
         return rng.choice(OTHER_KINDS)
     if isinstance(value, int) and way < 0.9:
-        return rng.choice(BIG) if way < 0.36 else rng.choice(BORDERS + (value + 1, value - 1))
+        return rng.choice(BIG) if way < 0.65 else rng.choice(BORDERS + (value + 1, value - 1))
     return rng.choice(TEXTS + NAMES)
 
 

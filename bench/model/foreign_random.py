@@ -53,6 +53,8 @@ def trace_data(rng, aim, incremental):
     node_len = words(kind) + undefined(kind)
     if rng.random() < 0.2:
         node_len = near(rng, node_len, 31) if rng.random() < 0.7 else rng.randint(0, 31)
+    if undefined(kind) and rng.random() < 0.15:
+        node_len = words(kind) + rng.randint(0, undefined(kind))
     node_len = min(node_len, 31)
     if undefined(kind) and rng.random() < 0.3:
         node_len = min(31, node_len + rng.randint(0, 3))
