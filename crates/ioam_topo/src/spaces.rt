@@ -8,8 +8,8 @@ use std::marker::Model;
 /// The most namespaces that a node may list.
 pub const SPACES_MOST: usize = 16;
 
-/// The namespaces that a node lists, in the order of the file; no two are equal. It knows namespace
-/// 0 whether or not it lists it. Contracts see them as a list.
+/// The namespaces that a node lists, in the order of the file, which lists none twice. The node knows
+/// namespace 0 whether or not it lists it. Contracts see them as a list.
 #[derive(Debug, Drop)]
 pub struct Spaces {
     held: Vec<Namespace>,
