@@ -1,14 +1,17 @@
 -- What a command over one capture answers and leaves. Its words are the command, the name of the
 -- capture, and the names of its outputs; `Texts taken texts` says which texts the outputs have for
 -- these records.
-use Rattle.std.specs.Prelude.{◌≡◌, ℕ, ◌<◌, ◌≤◌, ◌⊎◌, ⊤, Bool, IsTrue, IsSomeAnd, List, ◌++◌, length, drop, None, false}
+use Rattle.std.specs.Prelude.{◌≡◌, ℕ, ◌<◌, ◌≤◌, ◌⊎◌, ⊤, Bool, IsTrue, IsSomeAnd, List, [], ◌∷◌, ◌++◌, length, drop, None, false}
+use Rattle.ioam_desk.specs.Asked.{AsksFront}
 use Rattle.ioam_desk.specs.Desk.{Reading, Writing, Rose, holds}
+use Rattle.ioam_desk.specs.Kept.{KeepsInputs, KeepsOutputs}
 use Rattle.ioam_outputs.specs.Held.{HoldTexts, HoldFronts}
 use Rattle.ioam_outputs.specs.Names.{name_at, AreApart, IsFirstRepeat}
 use Rattle.ioam_pcap.specs.Ending.{Ending, Whole, Faulty}
 use Rattle.ioam_pcap.specs.Entries.{Taken}
 use Rattle.ioam_captures.specs.Reads.{Reads}
 use Rattle.ioam_captures.specs.Streams.{ShowsSo}
+use Rattle.ioam_answer.specs.Outcomes.{IsDone, IsBehindAll, OpensNothing}
 use Rattle.ioam_answer.specs.declared.outcome.Outcome.{Outcome}
 use Rattle.ioam_answer.specs.declared.outcome.Outcome.TheVariants as outcome
 
@@ -150,6 +153,28 @@ module _ (most : ℕ) (Texts : List Taken → List (List ℕ) → Type 0) (outpu
     Leaves (outcome.Domain why) = new ≡ old
     Leaves (outcome.Readings why) = new ≡ old
     Leaves (outcome.Names name) = new ≡ old
+
+-- what a command with these words owes for its answer, whose outputs have the texts that `Texts` says
+module _ (tells : Bool) (Texts : List Taken → List (List ℕ) → Type 0) (words : List (List ℕ)) (old_in new_in : Reading) (old new : Writing) where
+  pub record Owes (answer : Outcome) : Type 0 where
+    pub cause : HasCause tells (file_names words) (input_name words) old_in old new_in new answer
+    pub leaves : IsTrue tells → Leaves most_packets Texts (output_names words) (input_name words) old_in new_in old new answer
+    -- what is asked for is answered, unless a call of the desk failed or no memory could be had
+    pub exact : (asked : Outcome) → IsTrue tells → Asked tells old (file_names words) (input_name words) asked → (Rose old_in.side.faults new_in.side.faults → ⊥)
+        → (Rose old.side.faults new.side.faults → ⊥) → (answer ≡ asked) ⊎ (answer ≡ outcome.NoMemory)
+    -- the names that were opened, told or not
+    pub asked_in : AsksFront old_in.side.asked new_in.side.asked (input_name words ∷ [])
+    pub asked_out : AsksFront old.side.asked new.side.asked (output_names words)
+    pub all_in : IsBehindAll ⊥ answer → new_in.side.asked ≡ old_in.side.asked ++ input_name words ∷ []
+    pub all_out : IsBehindAll ⊥ answer → new.side.asked ≡ old.side.asked ++ output_names words
+    -- before IN was opened nothing changed; IN is opened only where the names differ, and no output before IN; behind all of IN it was read to its end
+    pub unopened : OpensNothing answer → new_in ≡ old_in
+    pub differed : (new_in ≡ old_in) ⊎ AreApart (file_names words)
+    pub no_output : new_in.side.slots ≡ old_in.side.slots → new ≡ old
+    pub drained : IsDone answer → IsTrue tells → IsTrue (new_in.ended old_in.side.slots)
+    -- input slots that were there, and where the desk tells output slots that were there and names that weren't opened to be written, are as they were
+    pub kept_in : KeepsInputs old_in new_in
+    pub kept_out : IsTrue tells → KeepsOutputs old new
 
 -- the answer behind a capture that ends so
 abbrev pub outcome_of : List ℕ → Ending → Outcome

@@ -8,7 +8,7 @@ ghost use Rattle.ioam_feed.specs.Feed.{Fed};
 ghost use Rattle.ioam_outputs.specs.Names.{AreApart};
 ghost use Rattle.ioam_outputs.specs.Told.{AreTold, GathersNothing, unsaid};
 ghost use Rattle.ioam_answer.specs.Outcomes.{IsDone, IsBehindAll, OpensNothing};
-ghost use Rattle.ioam_run.specs.Run.{most_packets, HasCause, FileCause, Leaves, file_names, input_name, output_names};
+ghost use Rattle.ioam_run.specs.Run.{most_packets, HasCause, FileCause, Leaves, Owes, file_names, input_name, output_names};
 ghost use Rattle.ioam_run.specs.Streams.{Begun, Finishes, IsBroken, ReadsOne};
 
 use crate::gather::Gather;
@@ -27,6 +27,20 @@ use std::alloc::Global;
 /// read in pieces, and what is gathered of its records is written in pieces: also before a fault of the
 /// capture, a fault of reading or the limit is answered, and at the end.
 pub fn run_over_capture<G: Gather, D: Desk>(
+    alloc: Global,
+    words: &[Name],
+    desk: &mut D,
+    gathered: G,
+) -> Outcome
+    requires words { length words.now ≡ 2 + G.width }
+    requires fresh { G.fresh gathered }
+    ensures owes { Owes D.tells (G.texts gathered) words.now (D.reading desk.old) (D.reading desk.new) (D.writing desk.old) (D.writing desk.new) result }
+{
+    run_names::<G, D>(alloc, words, desk, gathered)
+}
+
+// The same, clause by clause.
+fn run_names<G: Gather, D: Desk>(
     alloc: Global,
     words: &[Name],
     desk: &mut D,

@@ -1,16 +1,9 @@
 use Rattle.std.proofs.Common.{ℕ, List, subst}
 use Rattle.ioam_outputs.specs.Names.{name_at}
 use Rattle.ioam_run.specs.SaveText.{SaveTexts}
-use Rattle.ioam_run.specs.Run.{most_packets, Leaves, file_names, input_name}
-use Rattle.ioam_run.proofs.AskedLaws.{HasCause-asked}
+use Rattle.ioam_run.specs.Run.{most_packets, Leaves, input_name}
 use Rattle.ioam_run.proofs.SavingLaws.{Leaves-saved, one_output}
 use Rattle.ioam_run.proofs.save.run_save.Goals as goal
-
-pub returns-clause-exact : goal.returns-clause-exact
-returns-clause-exact g c = λ asked told asks reads writes.
-    HasCause-asked g.D.Desk.tells (g.D.Desk.writing c.args.desk.now) (file_names c.args.words.now) (input_name c.args.words.now) told
-    (g.D.Desk.reading c.args.desk.now) (g.D.Desk.reading c.run_over_capture.new.desk) (g.D.Desk.writing c.run_over_capture.new.desk)
-    c.run_over_capture.result asked c.run_over_capture.ensures.cause asks reads writes
 
 pub returns-clause-same : goal.returns-clause-same
 returns-clause-same g c = λ done told.
@@ -18,4 +11,4 @@ returns-clause-same g c = λ done told.
     (g.D.Desk.writing c.args.desk.now) (g.D.Desk.writing c.run_over_capture.new.desk) c.run_over_capture.result in
     Leaves-saved (input_name c.args.words.now) (name_at c.args.words.now 2)
     (g.D.Desk.reading c.args.desk.now) (g.D.Desk.reading c.run_over_capture.new.desk) (g.D.Desk.writing c.args.desk.now) (g.D.Desk.writing c.run_over_capture.new.desk) c.run_over_capture.result
-    (subst P (one_output c.args.words.now c.requires) (c.run_over_capture.ensures.leaves told)) done
+    (subst P (one_output c.args.words.now c.requires) (c.run_over_capture.ensures.owes.leaves told)) done
