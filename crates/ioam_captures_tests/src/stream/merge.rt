@@ -1,4 +1,4 @@
-use crate::captures::TWO;
+use crate::stream::captures::TWO;
 use ioam_desk::{DeskFault, MemoryDesk, Name};
 use ioam_merge::open_merge;
 use std::alloc::Global;

@@ -1,5 +1,5 @@
 //! What is written, and that it is read back.
-use crate::shown::outline;
+use crate::ng::shown::outline;
 use ioam_ng::{put_ng_head, put_ng_packet};
 use ioam_pcap::{Link, Packet};
 use std::test::Fail;

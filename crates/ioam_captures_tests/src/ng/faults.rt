@@ -1,6 +1,6 @@
 //! Blocks with a fault, other orders, resolutions and sections.
-use crate::shown::outline;
-use crate::written::HEAD;
+use crate::ng::shown::outline;
+use crate::ng::written::HEAD;
 use ioam_ng::{NgLook, NgReader, NgStep};
 use ioam_pcap::CapFault;
 use std::test::Fail;

@@ -1,6 +1,6 @@
 ghost use Rattle.std.specs.Prelude.{◌<◌};
 
-use crate::captures::{TWO, TWO_READ, show};
+use crate::stream::captures::{TWO, TWO_READ, show};
 use ioam_pcap::{CapLook, CapStep, CaptureReader, Link, pick, put_head, put_record};
 use std::alloc::Global;
 use std::test::Fail;

@@ -1,6 +1,6 @@
 ghost use Rattle.std.specs.Prelude.{◌≤◌};
 
-use crate::captures::TWO;
+use crate::stream::captures::TWO;
 use ioam_captures::{Due, Reader, Step};
 use ioam_desk::{DeskFault, MemoryDesk};
 use ioam_feed::open_feed;

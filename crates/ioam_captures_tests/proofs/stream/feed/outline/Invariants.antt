@@ -1,6 +1,6 @@
 use Rattle.std.proofs.Common.{◌<◌}
 use Rattle.ioam_desk.specs.MemoryDesk.{reading_of}
-use Rattle.ioam_stream_tests.proofs.feed.outline.Given as goal
+use Rattle.ioam_captures_tests.proofs.stream.feed.outline.Given as goal
 
 -- the slot is open
 abbrev pub invariant-loop : goal.invariant-loop
