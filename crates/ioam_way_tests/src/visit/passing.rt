@@ -5,7 +5,7 @@ ghost use Rattle.ioam_ip.specs.Hop.{option_count};
 ghost use Rattle.ioam_ip.specs.Packet.{IsPacket};
 ghost use Rattle.ioam_topo.specs.Domain.{nodes};
 
-use crate::rows::{At, Step};
+use crate::visit::rows::{At, Step};
 use ioam_clock::Readings;
 use ioam_ip::{Walk, header, walk};
 use ioam_node::Place;

@@ -1,11 +1,11 @@
-use crate::export_rows::exporting;
-use crate::foreign_rows::foreign;
-use crate::passing::pass;
-use crate::rows::{ENDS, Noted, Row, Stop, domain_texts};
-use crate::tunnel_rows::tunnelled;
+use crate::file::is_read_so;
+use crate::visit::export_rows::exporting;
+use crate::visit::foreign_rows::foreign;
+use crate::visit::passing::pass;
+use crate::visit::rows::{ENDS, Noted, Row, Stop, domain_texts};
+use crate::visit::tunnel_rows::tunnelled;
 use ioam_base::memory::NoMemory;
 use ioam_clock::{Readings, read_readings};
-use ioam_domain_file::read_domain;
 use ioam_test_rows::digits::{octets, text};
 use ioam_topo::Domain;
 use ioam_visit::{NodeNote, NodeRoom};
@@ -92,10 +92,7 @@ fn holds_in(alloc: Global, domain: &Domain, row: &Row) -> bool {
 
 // Whether a row is so in the domain of a file.
 fn holds_by(alloc: Global, file: &[u8], row: &Row) -> bool {
-    match read_domain(alloc, file) {
-        Ok(domain) => holds_in(alloc, &domain, row),
-        Err(_) => false,
-    }
+    is_read_so(alloc, file, |domain| holds_in(alloc, domain, row))
 }
 
 // Whether a row is so.

@@ -1,8 +1,8 @@
 ghost use Rattle.std.specs.Prelude.{All};
 ghost use Rattle.ioam_batch.specs.Jobs.{IsFresh};
 
-use crate::making::make_job;
-use crate::rows::{Row, after, before, domain};
+use crate::batch::making::make_job;
+use crate::batch::rows::{Row, after, before, domain};
 use ioam_base::memory::NoMemory;
 use ioam_batch::{Batch, Gate, Job, OpenGate, run_batch};
 use ioam_clock::{Readings, read_readings};

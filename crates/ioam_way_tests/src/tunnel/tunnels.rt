@@ -4,9 +4,9 @@ ghost use Rattle.ioam_topo.specs.Domain.{flows};
 ghost use Rattle.ioam_topo.specs.Sound.{IsFlow};
 ghost use Rattle.ioam_tunnel.specs.Enclosed.{MayEnclose};
 
-use crate::rows::{Row, domain_texts, none_carried, outer_digits, packet_digits, rows};
+use crate::file::is_read_so;
+use crate::tunnel::rows::{Row, domain_texts, none_carried, outer_digits, packet_digits, rows};
 use ioam_base::memory::NoMemory;
-use ioam_domain_file::read_domain;
 use ioam_ip::header;
 use ioam_test_rows::digits::{octets, text};
 use ioam_topo::{Domain, Flow, FlowId};
@@ -81,13 +81,11 @@ fn carries_last(outer: &[u8], count: usize) -> bool {
 
 // Whether a packet is put into these octets in the domain of a file, and is found there again.
 fn holds_in(alloc: Global, file: &[u8], numbers: &Numbers, packet: &[u8], wanted: &[u8]) -> bool {
-    match read_domain(alloc, file) {
-        Ok(domain) => {
-            is_enclosed_so(alloc, &domain, numbers, packet, wanted)
-                && carries_last(wanted, packet.len())
-        }
-        Err(_) => false,
-    }
+    is_read_so(
+        alloc,
+        file,
+        |domain| is_enclosed_so(alloc, domain, numbers, packet, wanted),
+    ) && carries_last(wanted, packet.len())
 }
 
 // Whether a row's packet is enclosed as the row says.

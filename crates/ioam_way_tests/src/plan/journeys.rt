@@ -1,12 +1,12 @@
 ghost use Rattle.std.specs.Prelude.{◌≡◌, ◌<◌, ◌^◌, All, IsTrue, length};
 ghost use Rattle.ioam_topo.specs.Domain.{flows, ports};
 
-use crate::domains::{Row, domain_texts, rows};
-use crate::rows::{Arrival, Drawn, arrivals, packet_digits};
-use crate::stops::{SECOND, Stop, Stops, stops_of};
+use crate::file::is_read_so;
+use crate::plan::domains::{Row, domain_texts, rows};
+use crate::plan::rows::{Arrival, Drawn, arrivals, packet_digits};
+use crate::plan::stops::{SECOND, Stop, Stops, stops_of};
 use ioam_base::memory::NoMemory;
 use ioam_clock::{Readings, read_readings};
-use ioam_domain_file::read_domain;
 use ioam_node::admit;
 use ioam_plan::{Counters, Itinerary, Visit, plan};
 use ioam_test_rows::digits::{octets, text};
@@ -143,10 +143,7 @@ fn follows(alloc: Global, domain: &Domain, row: &Row) -> bool {
 
 // Whether they are in the domain of a file.
 fn holds_in(alloc: Global, file: &[u8], row: &Row) -> bool {
-    match read_domain(alloc, file) {
-        Ok(domain) => follows(alloc, &domain, row),
-        Err(_) => false,
-    }
+    is_read_so(alloc, file, |domain| follows(alloc, domain, row))
 }
 
 // Whether there is memory, and a row's arrivals are planned so.

@@ -1,5 +1,5 @@
 //! Packets in the tunnel of a flow, with traces.
-use crate::rows::{A, ADDED, B, C, CARRIED, Noted, OVERFLOWED, Row, Stop};
+use crate::visit::rows::{A, ADDED, B, C, CARRIED, Noted, OVERFLOWED, Row, Stop};
 use ioam_visit::What;
 
 const TUNNELLED: [Row; 6] = [

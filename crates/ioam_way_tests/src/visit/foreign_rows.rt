@@ -1,5 +1,5 @@
 //! Packets that no tunnel of the domain made, each visited by node b.
-use crate::rows::{ADDED, B, EXPORTED, Noted, Row, Stop};
+use crate::visit::rows::{ADDED, B, EXPORTED, Noted, Row, Stop};
 use ioam_visit::What;
 
 // The header of UDP, which is behind the options.

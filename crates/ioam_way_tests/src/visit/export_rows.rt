@@ -1,5 +1,5 @@
 //! Packets in the tunnel of a flow that ask for export records.
-use crate::rows::{A, ADDED, At, B, C, CARRIED, EXPORTED, Noted, Row, Step, Stop};
+use crate::visit::rows::{A, ADDED, At, B, C, CARRIED, EXPORTED, Noted, Row, Step, Stop};
 use ioam_visit::What;
 
 // Visits on a way that leads from a to b, back to a, and so on.

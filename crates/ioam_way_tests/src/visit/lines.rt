@@ -1,9 +1,9 @@
 //! A line of many nodes.
-use crate::passing::pass;
-use crate::rows::{At, CARRIED, ENDS, Step};
+use crate::file::is_read_so;
+use crate::visit::passing::pass;
+use crate::visit::rows::{At, CARRIED, ENDS, Step};
 use ioam_base::memory::NoMemory;
 use ioam_clock::{Readings, read_readings};
-use ioam_domain_file::read_domain;
 use ioam_test_rows::digits::octets;
 use ioam_topo::Domain;
 use ioam_visit::NodeRoom;
@@ -124,10 +124,7 @@ fn holds_in(alloc: Global, domain: &Domain, nodes: u32, wanted: &[u8]) -> bool {
 }
 
 fn holds_by(alloc: Global, file: &[u8], nodes: u32, wanted: &[u8]) -> bool {
-    match read_domain(alloc, file) {
-        Ok(domain) => holds_in(alloc, &domain, nodes, wanted),
-        Err(_) => false,
-    }
+    is_read_so(alloc, file, |domain| holds_in(alloc, domain, nodes, wanted))
 }
 
 // Whether the packet leaves so many nodes with this hop limit and this middle word.

@@ -3,13 +3,13 @@ ghost use Rattle.std.specs.Prelude.{◌≡◌, ◌<◌, ◌^◌, IfOk, IfSome, I
 ghost use Rattle.ioam_topo.specs.Domain.{flows, nodes, ports};
 ghost use Rattle.ioam_plan.specs.Inside.{StaysInside};
 
-use crate::domains::{Row, domain_texts, rows};
-use crate::journeys::{may_arrive, packet};
-use crate::rows::{Arrival, arrivals};
-use crate::stops::SECOND;
+use crate::file::is_read_so;
+use crate::plan::domains::{Row, domain_texts, rows};
+use crate::plan::journeys::{may_arrive, packet};
+use crate::plan::rows::{Arrival, arrivals};
+use crate::plan::stops::SECOND;
 use ioam_base::memory::NoMemory;
 use ioam_clock::{Readings, read_readings};
-use ioam_domain_file::read_domain;
 use ioam_node::admit;
 use ioam_plan::{Counters, Itinerary, plan};
 use ioam_report::{Sums, put_arrival, put_sums};
@@ -191,15 +191,17 @@ fn reports(alloc: Global, domain: &Domain, readings: &Readings, row: &Row, repor
     }
 }
 
-// Whether they have it in the domain of a file.
-fn reports_in(alloc: Global, file: &[u8], row: &Row, report: &str) -> bool {
-    match read_domain(alloc, file) {
-        Ok(domain) => match read_readings(alloc, &domain, row.readings.as_bytes()) {
-            Ok(readings) => reports(alloc, &domain, &readings, row, report),
-            Err(_) => false,
-        },
+// Whether they have it with the row's readings.
+fn reports_by(alloc: Global, domain: &Domain, row: &Row, report: &str) -> bool {
+    match read_readings(alloc, domain, row.readings.as_bytes()) {
+        Ok(readings) => reports(alloc, domain, &readings, row, report),
         Err(_) => false,
     }
+}
+
+// Whether they have it in the domain of a file.
+fn reports_in(alloc: Global, file: &[u8], row: &Row, report: &str) -> bool {
+    is_read_so(alloc, file, |domain| reports_by(alloc, domain, row, report))
 }
 
 // Whether there is memory, and a row's arrivals have this report.

@@ -2,9 +2,9 @@
 ghost use Rattle.std.specs.Prelude.{IsTrue};
 ghost use Rattle.ioam_visit.specs.Leaving.{HasInner};
 
-use crate::rows::ENDS;
+use crate::file::is_read_so;
+use crate::visit::rows::ENDS;
 use ioam_base::memory::NoMemory;
-use ioam_domain_file::read_domain;
 use ioam_ip::header;
 use ioam_node::Reason;
 use ioam_test_rows::digits::{octets, text};
@@ -63,40 +63,42 @@ fn left_in(domain: &Domain, packet: &[u8]) -> Option<Leave> {
     }
 }
 
-fn left_by(alloc: Global, file: &[u8], packet: &[u8]) -> Option<Leave> {
-    match read_domain(alloc, file) {
-        Ok(domain) => left_in(&domain, packet),
-        Err(_) => None,
+// Whether what it carries leaves by the port there (None), or it is dropped for this reason.
+fn is_left(domain: &Domain, packet: &[u8], wanted: Option<Reason>) -> bool {
+    match left_in(domain, packet) {
+        Some(Leave::Out { port, inner }) => {
+            wanted.is_none() && port == PortId(0) && inner.start == 72 && inner.end == 120
+        }
+        Some(Leave::Drop(reason)) => wanted == Some(reason),
+        None => false,
     }
 }
 
-// What becomes of one around a packet with this hop limit, by these routes.
-fn left(
+// Whether this becomes of one around a packet with this hop limit, by these routes.
+fn is_left_by(
     alloc: Global,
     routes: &'static str,
     hops: &'static str,
-) -> Result<Option<Leave>, NoMemory> {
+    wanted: Option<Reason>,
+) -> Result<bool, NoMemory> {
     let file = text(alloc, &[DOMAIN, routes])?;
     let packet = packet_of(alloc, hops)?;
-    Ok(left_by(alloc, file.as_slice(), packet.as_slice()))
+    let packet = packet.as_slice();
+    Ok(is_read_so(
+        alloc,
+        file.as_slice(),
+        |domain| is_left(domain, packet, wanted),
+    ))
 }
 
 // Whether what it carries leaves by the port.
 fn is_out(alloc: Global, routes: &'static str, hops: &'static str) -> bool {
-    match left(alloc, routes, hops) {
-        Ok(Some(Leave::Out { port, inner })) => {
-            port == PortId(0) && inner.start == 72 && inner.end == 120
-        }
-        _ => false,
-    }
+    is_left_by(alloc, routes, hops, None).unwrap_or(false)
 }
 
 // Whether it is dropped for this reason.
 fn is_dropped(alloc: Global, routes: &'static str, hops: &'static str, wanted: Reason) -> bool {
-    match left(alloc, routes, hops) {
-        Ok(Some(Leave::Drop(reason))) => reason == wanted,
-        _ => false,
-    }
+    is_left_by(alloc, routes, hops, Some(wanted)).unwrap_or(false)
 }
 
 #[test]

@@ -1,5 +1,5 @@
 //! Arrivals by octets written by hand, and what is planned for each.
-use crate::stops::Stops;
+use crate::plan::stops::Stops;
 use ioam_node::Reason;
 use ioam_plan::End;
 use ioam_topo::{NodeId, PortId};

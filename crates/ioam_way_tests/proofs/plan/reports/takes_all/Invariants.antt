@@ -1,6 +1,6 @@
 use Rattle.std.proofs.Common.{◌≡◌, length}
 use Rattle.ioam_topo.specs.Domain.{flows, nodes}
-use Rattle.ioam_plan_tests.proofs.reports.takes_all.Given as goal
+use Rattle.ioam_way_tests.proofs.plan.reports.takes_all.Given as goal
 
 -- the counters and the sums stay those of the domain
 abbrev pub invariant-arrivals : goal.invariant-arrivals
