@@ -1,5 +1,5 @@
-//! The tests of captures of either form (`ioam_captures`): what a reader shows in any pieces, and the
-//! turn of several captures.
+//! The tests of captures: of either form (`ioam_captures`), what a reader shows in any pieces, and the
+//! turn of several; of the form pcapng (`ng`); and of captures that are read in pieces and merged (`stream`).
 #![tactic(auto)]
 
 #[cfg(test)]
@@ -7,4 +7,8 @@ mod due;
 #[cfg(test)]
 mod forms;
 #[cfg(test)]
+mod ng;
+#[cfg(test)]
 mod shown;
+#[cfg(test)]
+mod stream;

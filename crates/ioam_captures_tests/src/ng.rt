@@ -1,0 +1,5 @@
+//! Captures in the form pcapng (`ioam_ng`): what is written, octet by octet, and what a reader shows
+//! in any pieces.
+mod faults;
+mod shown;
+mod written;

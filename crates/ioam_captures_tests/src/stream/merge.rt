@@ -1,0 +1,82 @@
+use crate::stream::captures::TWO;
+use ioam_desk::{DeskFault, MemoryDesk, Name};
+use ioam_merge::open_merge;
+use std::alloc::Global;
+use std::test::Fail;
+
+// Big-endian, microseconds, Ethernet: a record of 1 octet at the same time as the first of `TWO`.
+const SAME: [u8; 41] = [
+    0xa1, 0xb2, 0xc3, 0xd4, 0, 2, 0, 4, 0, 0, 0, 0, 0, 0, 0, 0, 0, 0, 0xff, 0xff, 0, 0, 0, 1, //
+    0, 0, 0, 2, 0, 0, 0, 7, 0, 0, 0, 1, 0, 0, 0, 1, 40,
+];
+
+// The same, a microsecond before.
+const SOONER: [u8; 41] = [
+    0xa1, 0xb2, 0xc3, 0xd4, 0, 2, 0, 4, 0, 0, 0, 0, 0, 0, 0, 0, 0, 0, 0xff, 0xff, 0, 0, 0, 1, //
+    0, 0, 0, 2, 0, 0, 0, 6, 0, 0, 0, 1, 0, 0, 0, 1, 40,
+];
+
+// The same as a pcapng capture: a section block, an interface of Ethernet that counts microseconds, and
+// a block of its packet.
+const BLOCKS: [u8; 84] = [
+    0x0a, 0x0d, 0x0d, 0x0a, 0, 0, 0, 28, 0x1a, 0x2b, 0x3c, 0x4d, 0, 1, 0, 0, 0xff, 0xff, 0xff,
+    0xff, 0xff, 0xff, 0xff, 0xff, 0, 0, 0, 28, //
+    0, 0, 0, 1, 0, 0, 0, 20, 0, 1, 0, 0, 0, 0, 0, 0, 0, 0, 0, 20, //
+    0, 0, 0, 6, 0, 0, 0, 36, 0, 0, 0, 0, 0, 0, 0, 0, 0, 0x1e, 0x84, 0x86, 0, 0, 0, 1, 0, 0, 0, 1,
+    40, 0, 0, 0, 0, 0, 0, 36,
+];
+
+// What comes first of `TWO` and another capture, which are handed out in pieces of 7 octets.
+fn first_turn(alloc: Global, other: &[u8], failing: u64) -> Result<String, Fail> {
+    let mut desk = MemoryDesk::new(alloc)?;
+    desk.put_file("two", &TWO)?;
+    desk.put_file("other", other)?;
+    desk.set_piece(7);
+    desk.fail_call(failing)?;
+    let mut names = Vec::new(alloc);
+    names.push(Name::new(alloc, "two")?)?;
+    names.push(Name::new(alloc, "other")?)?;
+    let mut merge = match open_merge(alloc, &mut desk, &names) {
+        Ok(merge) => merge,
+        Err(_) => return Err(Fail::from("not opened")),
+    };
+    match merge.turn(&mut desk) {
+        Ok(turn) => Ok(format!(in alloc; "{turn:?}")?),
+        Err(DeskFault::Failed) => Ok(format!(in alloc; "failed")?),
+        Err(DeskFault::NoMemory) => Err(Fail::from("no memory")),
+    }
+}
+
+#[test]
+fn the_first_of_equal_times(rt: HostRuntime) -> Result<(), Fail> {
+    let text = first_turn(rt.alloc(), &SAME, 1000)?;
+    assert_eq!(rt; text.as_str(), "Next { place: 0, time: 2000007000 }");
+    Ok(())
+}
+
+#[test]
+fn the_least_time(rt: HostRuntime) -> Result<(), Fail> {
+    for other in [SOONER.as_slice(), BLOCKS.as_slice()] {
+        let text = first_turn(rt.alloc(), other, 1000)?;
+        assert_eq!(rt; text.as_str(), "Next { place: 1, time: 2000006000 }");
+    }
+    Ok(())
+}
+
+#[test]
+fn a_fault_before_any_record(rt: HostRuntime) -> Result<(), Fail> {
+    let text = first_turn(rt.alloc(), &[1, 2, 3, 4, 5], 1000)?;
+    assert_eq!(rt;
+        text.as_str(),
+        "Broken { place: 1, at: 0, fault: Magic { found: 16909060 } }"
+    );
+    Ok(())
+}
+
+#[test]
+fn a_read_that_fails(rt: HostRuntime) -> Result<(), Fail> {
+    // two opening calls, seven reads of the first capture, and the second's first
+    let text = first_turn(rt.alloc(), &SAME, 10)?;
+    assert_eq!(rt; text.as_str(), "failed");
+    Ok(())
+}

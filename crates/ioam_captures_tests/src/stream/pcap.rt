@@ -1,0 +1,200 @@
+ghost use Rattle.std.specs.Prelude.{◌<◌};
+
+use crate::stream::captures::{TWO, TWO_READ, show};
+use ioam_pcap::{CapLook, CapStep, CaptureReader, Link, pick, put_head, put_record};
+use std::alloc::Global;
+use std::test::Fail;
+
+// Shows a capture that is fed in pieces of one size, and how it ends.
+fn outline(alloc: Global, capture: &[u8], size: usize) -> Result<String, Fail>
+    requires { 0 < size }
+{
+    let mut reader = CaptureReader::new(alloc)?;
+    let mut text = String::new(alloc);
+    for piece in capture.chunks(size) {
+        if reader.fed() > 1_000_000 || piece.len() > 65_536 {
+            return Err(Fail::from("too many octets"));
+        }
+        reader.feed(piece)?;
+        show(alloc, &mut reader, &mut text)?;
+    }
+    let end = match reader.next() {
+        CapStep::More => reader.finish(),
+        CapStep::Bad { at, fault } => Some((at, fault)),
+        _ => return Err(Fail::from("not at its end")),
+    };
+    match end {
+        None => text.push_str("whole\n")?,
+        Some((at, fault)) => text.push_str(&format!(in alloc; "{fault:?} at {at}\n")?)?,
+    }
+    Ok(text)
+}
+
+// A head, big-endian, nanoseconds, IP (link type 101).
+const HEAD: [u8; 24] = [
+    0xa1, 0xb2, 0x3c, 0x4d, 0, 2, 0, 4, 0, 0, 0, 0, 0, 0, 0, 0, 0, 4, 0, 0, 0, 0, 0, 0x65,
+];
+
+// Little-endian, microseconds, Ethernet.
+const LITTLE: [u8; 24] = [
+    0xd4, 0xc3, 0xb2, 0xa1, 2, 0, 4, 0, 0, 0, 0, 0, 0, 0, 0, 0, 0, 0, 4, 0, 1, 0, 0, 0,
+];
+
+// The head of LITTLE with its magic number's nanoseconds, and the link type 113.
+const COOKED: [u8; 24] = [
+    0x4d, 0x3c, 0xb2, 0xa1, 2, 0, 4, 0, 0, 0, 0, 0, 0, 0, 0, 0, 0, 0, 4, 0, 113, 0, 0, 0,
+];
+
+#[test]
+fn reads_in_any_pieces(rt: HostRuntime) -> Result<(), Fail> {
+    for size in [1, 2, 3, 7, 16, 24, 65_536] {
+        let text = outline(rt.alloc(), &TWO, size)?;
+        assert_eq!(rt; text.as_str(), TWO_READ);
+    }
+    Ok(())
+}
+
+#[test]
+fn looks_ahead(rt: HostRuntime) -> Result<(), Fail> {
+    let mut reader = CaptureReader::new(rt.alloc())?;
+    assert_eq!(rt; reader.look(), CapLook::More);
+    reader.feed(&TWO)?;
+    assert_eq!(rt; reader.fed(), 59);
+    assert_eq!(rt; reader.link(), None);
+    assert_eq!(rt; reader.look(), CapLook::Head { link: Link::Raw });
+    assert!(rt; matches!(reader.next(), CapStep::Head { .. }));
+    assert_eq!(rt; reader.link(), Some(Link::Raw));
+    let first = CapLook::Packet {
+        time: 2_000_007_000,
+        size: 3,
+    };
+    assert_eq!(rt; reader.look(), first);
+    Ok(())
+}
+
+// Feeds a reader octets in pieces of 65,536.
+fn feed_pieces(reader: &mut CaptureReader, octets: &[u8]) -> Result<(), Fail> {
+    for piece in octets.chunks(65_536) {
+        if reader.fed() > 1_000_000_000 || piece.len() > 65_536 {
+            return Err(Fail::from("too many octets"));
+        }
+        reader.feed(piece)?;
+    }
+    Ok(())
+}
+
+// Feeds a record of 262,144 octets so often, and says whether it is read each time.
+fn longest_is_read(reader: &mut CaptureReader, record: &[u8], times: u32) -> Result<bool, Fail> {
+    for _ in 0..times {
+        feed_pieces(reader, record)?;
+        if !matches!(reader.next(), CapStep::Packet(packet) if packet.octets.len() == 262_144) {
+            return Ok(false);
+        }
+    }
+    Ok(matches!(reader.next(), CapStep::More))
+}
+
+#[test]
+fn reads_several_megabytes(rt: HostRuntime) -> Result<(), Fail> {
+    let packet = vec![in rt.alloc(); 7; 262_144]?;
+    let mut record = Vec::new(rt.alloc());
+    put_record(5, &packet, &mut record)?;
+    let mut reader = CaptureReader::new(rt.alloc())?;
+    reader.feed(&HEAD)?;
+    assert!(rt; matches!(reader.next(), CapStep::Head { .. }));
+    assert!(rt; longest_is_read(&mut reader, &record, 20)?);
+    assert_eq!(rt; reader.fed(), 5_243_224);
+    Ok(())
+}
+
+// A little-endian record at one second and 500,000 microseconds.
+const MICROSECONDS: [u8; 18] = [1, 0, 0, 0, 0x20, 0xa1, 7, 0, 2, 0, 0, 0, 62, 0, 0, 0, 8, 9];
+
+// A record at one second and 2,000,000,000 nanoseconds.
+const NANOSECONDS: [u8; 17] = [0, 0, 0, 1, 0x77, 0x35, 0x94, 0, 0, 0, 0, 1, 0, 0, 0, 1, 5];
+
+// The head of a record that says that it has 262,145 octets.
+const LONG: [u8; 16] = [0, 0, 0, 1, 0, 0, 0, 0, 0, 4, 0, 1, 0, 4, 0, 1];
+
+// What a pcapng file begins with.
+const SECTION: [u8; 4] = [0x0a, 0x0d, 0x0d, 0x0a];
+
+// Heads of captures, what stands behind them, and what is shown of both.
+const FORMS: [(&[u8], &[u8], &str); 7] = [
+    (
+        &LITTLE,
+        &MICROSECONDS,
+        "Head { link: Ethernet }\nPacket(Packet { time: 1500000000, original: 62, octets: [8, 9] })\nwhole\n",
+    ),
+    (
+        &HEAD,
+        &NANOSECONDS,
+        "Head { link: Raw }\nPacket(Packet { time: 3000000000, original: 1, octets: [5] })\nwhole\n",
+    ),
+    (&HEAD, &[], "Head { link: Raw }\nwhole\n"),
+    (&SECTION, &[], "Magic { found: 168627466 } at 0\n"),
+    (&COOKED, &[], "Link { found: 113 } at 0\n"),
+    (
+        &HEAD,
+        &LONG,
+        "Head { link: Raw }\nRecordLong { found: 262145 } at 24\n",
+    ),
+    (&[], &[], "Short { have: 0 } at 0\n"),
+];
+
+// Whether a head and what stands behind it are shown so, whole and octet by octet.
+fn is_shown(alloc: Global, head: &[u8], rest: &[u8], expected: &str) -> Result<bool, Fail> {
+    let mut capture = head.to_vec(alloc)?;
+    capture.extend_from_slice(rest)?;
+    for size in [1, 65_536] {
+        let text = outline(alloc, &capture, size)?;
+        if text.as_str() != expected {
+            return Ok(false);
+        }
+    }
+    Ok(true)
+}
+
+// Whether each of these is.
+fn all_are_shown(alloc: Global, cases: &[(&[u8], &[u8], &str)]) -> Result<bool, Fail> {
+    for (head, rest, expected) in cases {
+        if !is_shown(alloc, head, rest, expected)? {
+            return Ok(false);
+        }
+    }
+    Ok(true)
+}
+
+#[test]
+fn reads_each_form_and_fault(rt: HostRuntime) -> Result<(), Fail> {
+    let alloc = rt.alloc();
+    assert!(rt; all_are_shown(alloc, &FORMS)?);
+    let cut_head = "Short { have: 23 } at 0\n";
+    assert!(rt; is_shown(alloc, &HEAD[..23], &[], cut_head)?);
+    let cut_record = "Head { link: Raw }\nShort { have: 15 } at 24\n";
+    assert!(rt; is_shown(alloc, &HEAD, &LONG[..15], cut_record)?);
+    Ok(())
+}
+
+#[test]
+fn writes(rt: HostRuntime) -> Result<(), Fail> {
+    let mut out = Vec::new(rt.alloc());
+    put_head(&mut out)?;
+    put_record(1_000_002_000, &[7, 8], &mut out)?;
+    put_record(4_294_967_297_000_000_001, &[], &mut out)?;
+    let records = [
+        0, 0, 0, 1, 0, 0, 7, 0xd0, 0, 0, 0, 2, 0, 0, 0, 2, 7, 8, //
+        0, 0, 0, 1, 0, 0, 0, 1, 0, 0, 0, 0, 0, 0, 0, 0,
+    ];
+    let mut expected = HEAD.to_vec(rt.alloc())?;
+    expected.extend_from_slice(&records)?;
+    assert_eq!(rt; out.as_slice(), expected.as_slice());
+    Ok(())
+}
+
+#[test]
+fn picks_the_first_of_the_least(rt: HostRuntime) {
+    assert_eq!(rt; pick(&[Some(5), None, Some(5), Some(4)]), Some(3));
+    assert_eq!(rt; pick(&[Some(5), None, Some(5)]), Some(0));
+    assert_eq!(rt; pick(&[None]), None);
+}

@@ -1,7 +1,0 @@
-use Rattle.std.proofs.Common.{◌<◌}
-use Rattle.ioam_desk.specs.MemoryDesk.{reading_of}
-use Rattle.ioam_stream_tests.proofs.feed.outline.Given as goal
-
--- the slot is open
-abbrev pub invariant-loop : goal.invariant-loop
-invariant-loop l = l.feed.slot < (reading_of l.desk).side.slots

@@ -1,0 +1,122 @@
+ghost use Rattle.std.specs.Prelude.{All};
+ghost use Rattle.ioam_batch.specs.Jobs.{IsFresh};
+
+use crate::batch::making::make_job;
+use crate::batch::rows::{Row, after, before, domain};
+use ioam_base::memory::NoMemory;
+use ioam_batch::{Batch, Gate, Job, OpenGate, run_batch};
+use ioam_clock::{Readings, read_readings};
+use ioam_domain_file::read_domain;
+use ioam_test_gates::{ShutGate, make_meeting};
+use ioam_test_rows::digits::{UDP, octets};
+use ioam_topo::Domain;
+use std::alloc::Global;
+use std::process::Abort;
+use std::thread::Threads;
+
+// The domain of the rows, and readings that say nothing.
+fn world(rt: &impl Abort, alloc: Global) -> (Domain, Readings) {
+    let domain = match read_domain(alloc, domain().as_bytes()) {
+        Ok(domain) => domain,
+        Err(_) => panic!(rt; "the domain"),
+    };
+    let readings = match read_readings(alloc, &domain, b"") {
+        Ok(readings) => readings,
+        Err(_) => panic!(rt; "the readings"),
+    };
+    (domain, readings)
+}
+
+// A job of the packet of the rows.
+fn job(rt: &impl Abort, alloc: Global, domain: &Domain, readings: &Readings) -> Job
+    ensures { IsFresh domain.now result }
+{
+    let packet = octets(alloc, &[UDP]).expect(rt, "memory");
+    make_job(alloc, domain, readings, &packet).expect(rt, "a job")
+}
+
+// Two of them.
+fn two_jobs(rt: &impl Abort, alloc: Global, domain: &Domain, readings: &Readings) -> Batch
+    ensures { All (IsFresh domain.now) result }
+{
+    let mut batch = Batch::new(alloc).expect(rt, "memory");
+    batch.push(job(rt, alloc, domain, readings));
+    assert!(rt; batch.has_room());
+    batch.push(job(rt, alloc, domain, readings));
+    batch
+}
+
+// Whether octets are these.
+fn are(alloc: Global, digits: &[&str], found: &[u8]) -> bool {
+    match octets(alloc, digits) {
+        Ok(wanted) => wanted.as_slice() == found,
+        Err(NoMemory) => false,
+    }
+}
+
+// Whether a visit sent these octets on a link with a tap.
+fn crosses(alloc: Global, job: &Job, visit: usize, digits: &[&str]) -> bool {
+    match job.crossing(visit) {
+        Some(found) => are(alloc, digits, found),
+        None => false,
+    }
+}
+
+// Whether a job is as a row says.
+fn is_so(alloc: Global, job: &Job, row: &Row) -> bool {
+    are(alloc, row.packet, job.packet())
+        && crosses(alloc, job, 0, row.first)
+        && crosses(alloc, job, 1, row.second)
+        && job.crossing(2).is_none()
+        && are(alloc, row.exports, job.room().exports())
+}
+
+// Whether two jobs are, and each has this room.
+fn are_so(alloc: Global, jobs: &[Job], row: &Row) -> bool {
+    for job in jobs {
+        if job.reserved() != 2052 || !is_so(alloc, job, row) {
+            return false;
+        }
+    }
+    jobs.len() == 2
+}
+
+// Whether two jobs are as a row says once two workers ran them behind a gate.
+fn run_two<G: Gate>(
+    rt: &(impl Abort + Threads + Sync),
+    alloc: Global,
+    gate: &G,
+    row: &Row,
+) -> bool {
+    let (domain, readings) = world(rt, alloc);
+    let mut batch = two_jobs(rt, alloc, &domain, &readings);
+    run_batch(rt, &domain, &readings, &mut batch, 2, gate);
+    are_so(alloc, batch.jobs(), row)
+}
+
+#[test]
+fn two_chunks_meet(rt: HostRuntime) {
+    let gate = make_meeting();
+    assert!(rt; run_two(&rt, rt.alloc(), &gate, after()));
+    assert!(rt; gate.has_met());
+}
+
+#[test]
+fn a_shut_gate_leaves_jobs_as_they_were(rt: HostRuntime) {
+    assert!(rt; run_two(&rt, rt.alloc(), &ShutGate, before()));
+}
+
+#[test]
+fn an_open_gate_runs_them(rt: HostRuntime) {
+    assert!(rt; run_two(&rt, rt.alloc(), &OpenGate, after()));
+}
+
+#[test]
+fn no_jobs(rt: HostRuntime) {
+    let alloc = rt.alloc();
+    let (domain, readings) = world(&rt, alloc);
+    let mut batch = Batch::new(alloc).expect(&rt, "memory");
+    run_batch(&rt, &domain, &readings, &mut batch, 64, &OpenGate);
+    assert!(rt; batch.jobs().is_empty());
+    assert!(rt; batch.has_room());
+}
