@@ -1,5 +1,5 @@
 //! The top call over desks in memory: each command once, and the words that it refuses. Whole runs of
-//! each command stand in `ioam_capture_tests` and `ioam_run_tests`.
+//! each command stand in `ioam_command_tests` and `ioam_run_tests`.
 use crate::program::{ioam, ioam_surely};
 use crate::refusals::refusals;
 use ioam_answer::{Outcome, line};

@@ -1,5 +1,6 @@
 //! The tests of a domain's parts: its file and its nodes' data (`ioam_domain_file`), its readings
-//! (`ioam_clock`) and the texts of its reports (`ioam_report`).
+//! (`ioam_clock`) and the texts of its reports (`ioam_report`); and of the domain of a generated run
+//! (`ioam_generated`), which is made once.
 #![tactic(auto)]
 
 #[cfg(test)]
@@ -10,6 +11,8 @@ mod faults;
 mod flow_rows;
 #[cfg(test)]
 mod flows;
+#[cfg(test)]
+mod generated;
 #[cfg(test)]
 mod limits;
 #[cfg(test)]

@@ -1,9 +1,12 @@
-//! The tests of the command `run` (`ioam_domain`): whole runs of domains over desks in memory. What
-//! they read and have to write stands in `ioam_test_rows`, and here where it is large.
+//! The tests of the command `run` (`ioam_domain`): whole runs of domains over desks in memory, those
+//! over domains with flows in `flow`. What they read and have to write stands in `ioam_test_rows`, and
+//! here where it is large.
 #![tactic(auto)]
 
 #[cfg(test)]
 mod desks;
+#[cfg(test)]
+mod flow;
 #[cfg(test)]
 mod large_rows;
 #[cfg(test)]

@@ -1,5 +1,5 @@
 //! What `run` writes of measured packets. Octets and texts are written out by the rules.
-use crate::desks::{desk_for, differing, run_line};
+use crate::flow::desks::{desk_for, differing, run_line};
 use ioam_test_rows::digits::text;
 use ioam_test_rows::flow_ng_rows::{exported_in_blocks, in_blocks};
 use ioam_test_rows::flow_rows::{FlowRow, aware, looped, stopped, traced};

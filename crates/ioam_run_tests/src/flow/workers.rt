@@ -1,7 +1,7 @@
 //! Every number of workers writes the same.
 ghost use Rattle.std.specs.Prelude.{◌≤◌};
 
-use crate::desks::run_line;
+use crate::flow::desks::run_line;
 use ioam_base::memory::NoMemory;
 use ioam_desk::MemoryDesk;
 use ioam_test_rows::digits::{AT_ONE, HEAD, UDP, octets, text};

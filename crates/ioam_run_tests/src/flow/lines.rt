@@ -1,5 +1,5 @@
 //! Long lines of nodes.
-use crate::desks::run_line;
+use crate::flow::desks::run_line;
 use ioam_base::memory::NoMemory;
 use ioam_desk::MemoryDesk;
 use ioam_test_rows::digits::{AT_ONE, HEAD, UDP, octets};

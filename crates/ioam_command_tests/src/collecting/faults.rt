@@ -1,5 +1,5 @@
 //! Runs of `collect` of which one call fails.
-use crate::rows::{broken, collected, desk_with, empty_report};
+use crate::collecting::rows::{broken, collected, desk_with, empty_report};
 use ioam_test_rows::digits::{is_front, octets};
 
 // EXPORTS is opened by the first call and REPORT by the next; the reads follow, each of one piece, and

@@ -1,6 +1,6 @@
 //! Runs of which one call fails.
-use crate::passing::{desk_for, node_line};
-use crate::rows::rows;
+use crate::transit::passing::{desk_for, node_line};
+use crate::transit::rows::rows;
 use ioam_desk::MemoryDesk;
 use ioam_test_rows::digits::{is_front, octets};
 use std::process::Abort;

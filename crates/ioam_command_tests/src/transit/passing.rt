@@ -1,5 +1,5 @@
 //! What `node` writes.
-use crate::rows::{Passed, rows, sectioned};
+use crate::transit::rows::{Passed, rows, sectioned};
 use ioam_answer::line;
 use ioam_base::memory::NoMemory;
 use ioam_desk::MemoryDesk;

@@ -1,5 +1,5 @@
 //! What `collect` writes.
-use crate::rows::{collected, desk_with, numbers, paths_report, rows, visits};
+use crate::collecting::rows::{collected, desk_with, numbers, paths_report, rows, visits};
 use ioam_base::memory::NoMemory;
 use ioam_test_rows::digits::octets;
 use std::alloc::Global;

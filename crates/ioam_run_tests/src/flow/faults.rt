@@ -1,5 +1,5 @@
 //! Runs of which one call fails, or whose capture is cut.
-use crate::desks::{desk_for, differing, run_line};
+use crate::flow::desks::{desk_for, differing, run_line};
 use ioam_base::memory::NoMemory;
 use ioam_desk::MemoryDesk;
 use ioam_test_rows::digits::{is_front, joined, octets, text};

@@ -1,0 +1,4 @@
+//! Whole runs of `node` (`ioam_transit`): packets through one node of a domain.
+mod failing;
+mod passing;
+mod rows;
