@@ -1,11 +1,10 @@
 //! The top call behind gates: what `run` writes is what its jobs hold, and its chunks run at once.
-use crate::program::ioam;
-use ioam_answer::line;
+use crate::tests::line_of;
 use ioam_base::memory::NoMemory;
 use ioam_batch::Gate;
 use ioam_desk::MemoryDesk;
 use ioam_test_gates::{ShutGate, make_meeting};
-use ioam_test_rows::digits::{AT_ONE, HEAD, UDP, octets, text, words};
+use ioam_test_rows::digits::{AT_ONE, HEAD, UDP, octets, text};
 use ioam_test_rows::flow_rows::{FlowRow, first_row};
 use ioam_test_rows::flow_rows_more::exporting;
 use std::alloc::Global;
@@ -39,9 +38,7 @@ fn is_done<G: Gate>(
     desk: &mut MemoryDesk,
     gate: &G,
 ) {
-    let run = words(alloc, texts).expect(rt, "memory");
-    let outcome = ioam(rt, alloc, &run, desk, gate);
-    let line = line(alloc, &outcome).expect(rt, "memory");
+    let line = line_of(rt, alloc, texts, desk, gate).expect(rt, "memory");
     assert_eq!(rt; line.as_str(), "done");
 }
 

@@ -1,10 +1,9 @@
 //! `node` through the top call: one packet whose trace has a bit that isn't defined.
-use crate::program::ioam;
-use ioam_answer::line;
+use crate::tests::line_of;
 use ioam_base::memory::NoMemory;
 use ioam_batch::OpenGate;
 use ioam_desk::MemoryDesk;
-use ioam_test_rows::digits::{HEAD, octets, text, words};
+use ioam_test_rows::digits::{HEAD, octets, text};
 use ioam_test_rows::flow_rows::TRACED;
 use std::alloc::Global;
 use std::thread::Threads;
@@ -44,7 +43,7 @@ const GOES: [&str; 5] = [
 const REPORT: &[u8] = b"1 out bc\n  trace 7 added 2\npackets 1 out 1 dropped 0\n";
 
 // The line of a run of these words over a desk with the packet.
-fn line_of(
+fn line_behind(
     rt: &(impl Threads + Sync),
     alloc: Global,
     texts: &[&str],
@@ -53,9 +52,7 @@ fn line_of(
     desk.put_file("domain.toml", &text(alloc, TRACED)?)?;
     desk.put_file("readings", b"")?;
     desk.put_file("in.pcap", &octets(alloc, &COMES)?)?;
-    let words = words(alloc, texts)?;
-    let outcome = ioam(rt, alloc, &words, desk, &OpenGate);
-    line(alloc, &outcome)
+    line_of(rt, alloc, texts, desk, &OpenGate)
 }
 
 #[test]
@@ -63,7 +60,7 @@ fn a_node_sends_a_packet_on(rt: HostRuntime) {
     let alloc = rt.alloc();
     let out = octets(alloc, &GOES).expect(&rt, "octets");
     let mut desk = MemoryDesk::new(alloc).expect(&rt, "memory");
-    let line = line_of(&rt, alloc, &NODE, &mut desk).expect(&rt, "memory");
+    let line = line_behind(&rt, alloc, &NODE, &mut desk).expect(&rt, "memory");
     assert_eq!(rt; line.as_str(), "done");
     assert!(rt; desk.file("out.pcap") == Some(out.as_slice()));
     assert!(rt; desk.file("report.txt") == Some(REPORT));
@@ -76,7 +73,7 @@ fn a_node_that_isnt_there_is_named(rt: HostRuntime) {
     let mut words = NODE;
     words[3] = "z";
     let mut desk = MemoryDesk::new(alloc).expect(&rt, "memory");
-    let line = line_of(&rt, alloc, &words, &mut desk).expect(&rt, "memory");
+    let line = line_behind(&rt, alloc, &words, &mut desk).expect(&rt, "memory");
     assert_eq!(rt; line.as_str(), "names z");
     assert!(rt; desk.file("out.pcap").is_none() && desk.file("report.txt").is_none());
 }

@@ -4,7 +4,7 @@ use crate::program::{ioam, ioam_surely};
 use crate::refusals::refusals;
 use ioam_answer::{Outcome, line};
 use ioam_base::memory::NoMemory;
-use ioam_batch::OpenGate;
+use ioam_batch::{Gate, OpenGate};
 use ioam_desk::{MemoryDesk, SureDesk};
 use ioam_test_rows::capture_rows::{Listing, listings, runs};
 use ioam_test_rows::digits::{joined, octets, text, words};
@@ -14,15 +14,17 @@ use ioam_test_rows::show_rows::shown;
 use std::alloc::Global;
 use std::thread::Threads;
 
-// The line of a run of these words over a desk.
-fn line_of<R: Threads + Sync>(
+// The line of a run of these words over a desk. The proof of a function that calls `ioam` takes long:
+// so each test runs through here.
+pub(crate) fn line_of<R: Threads + Sync, G: Gate>(
     rt: &R,
     alloc: Global,
     texts: &[&str],
     desk: &mut MemoryDesk,
+    gate: &G,
 ) -> Result<String, NoMemory> {
     let words = words(alloc, texts)?;
-    line(alloc, &ioam(rt, alloc, &words, desk, &OpenGate))
+    line(alloc, &ioam(rt, alloc, &words, desk, gate))
 }
 
 // Whether a run of these words over a desk that never fails does all.
@@ -49,7 +51,13 @@ fn lists<R: Threads + Sync>(
     let input = octets(alloc, row.input)?;
     let mut desk = MemoryDesk::new(alloc)?;
     desk.put_file("in.pcap", &input)?;
-    let line = line_of(rt, alloc, &[command, "in.pcap", "report.txt"], &mut desk)?;
+    let line = line_of(
+        rt,
+        alloc,
+        &[command, "in.pcap", "report.txt"],
+        &mut desk,
+        &OpenGate,
+    )?;
     Ok(line.as_str() == "done" && desk.file("report.txt") == Some(row.report.as_bytes()))
 }
 
@@ -142,7 +150,7 @@ fn equal_names_and_other_words_open_nothing(rt: HostRuntime) {
         desk.put_file("a", b"as it was").expect(&rt, "memory");
         // The first call would fail, and be told as a fault.
         desk.fail_call(1).expect(&rt, "memory");
-        let line = line_of(&rt, alloc, row.words, &mut desk).expect(&rt, "memory");
+        let line = line_of(&rt, alloc, row.words, &mut desk, &OpenGate).expect(&rt, "memory");
         assert_eq!(rt; line.as_str(), row.line);
         assert!(rt; desk.file("a") == Some(b"as it was".as_slice()));
         assert!(rt; desk.file("b").is_none() && desk.file("r").is_none());

@@ -1,4 +1,6 @@
 //! Desks with the files of a run, and runs over them.
+ghost use Rattle.std.specs.Prelude.{◌≤◌};
+
 use ioam_answer::line;
 use ioam_base::memory::NoMemory;
 use ioam_batch::OpenGate;
@@ -19,6 +21,24 @@ pub(crate) fn desk_for(alloc: Global, row: &Row) -> Result<MemoryDesk, NoMemory>
     Ok(desk)
 }
 
+// The line of a run by so many workers over these files. The proof of a function that calls
+// `run_domain` takes long: so each test runs through here.
+pub(crate) fn line_by<R: Threads + Sync>(
+    rt: &R,
+    alloc: Global,
+    workers: u32,
+    texts: &[&str; 6],
+    desk: &mut MemoryDesk,
+) -> Result<String, NoMemory>
+    requires { (1 ≤ workers) × (workers ≤ 64) }
+{
+    let run = words(alloc, texts)?;
+    line(
+        alloc,
+        &run_domain(rt, alloc, workers, &run, desk, &OpenGate),
+    )
+}
+
 // The line of a run over these files, by one worker.
 pub(crate) fn run_line<R: Threads + Sync>(
     rt: &R,
@@ -26,6 +46,5 @@ pub(crate) fn run_line<R: Threads + Sync>(
     texts: &[&str; 6],
     desk: &mut MemoryDesk,
 ) -> Result<String, NoMemory> {
-    let run = words(alloc, texts)?;
-    line(alloc, &run_domain(rt, alloc, 1, &run, desk, &OpenGate))
+    line_by(rt, alloc, 1, texts, desk)
 }

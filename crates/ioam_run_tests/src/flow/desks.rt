@@ -1,12 +1,10 @@
 //! Desks with the files of a run, and runs over them.
 ghost use Rattle.std.specs.Prelude.{◌≤◌};
 
-use ioam_answer::line;
+use crate::desks::line_by;
 use ioam_base::memory::NoMemory;
-use ioam_batch::OpenGate;
 use ioam_desk::MemoryDesk;
-use ioam_domain::run_domain;
-use ioam_test_rows::digits::{joined, octets, text, words};
+use ioam_test_rows::digits::{joined, octets, text};
 use ioam_test_rows::flow_rows::{File, FlowRow};
 use ioam_test_rows::run_rows::RUN;
 use std::alloc::Global;
@@ -31,9 +29,7 @@ pub(crate) fn run_line(
 ) -> Result<String, NoMemory>
     requires { (1 ≤ workers) × (workers ≤ 64) }
 {
-    let run = words(alloc, &RUN)?;
-    let outcome = run_domain(rt, alloc, workers, &run, desk, &OpenGate);
-    line(alloc, &outcome)
+    line_by(rt, alloc, workers, &RUN, desk)
 }
 
 // Whether a file holds what it should.
