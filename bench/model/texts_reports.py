@@ -22,37 +22,37 @@ def filtered(arrivals):
     return b"".join(out), "".join(text).encode()
 
 
-def paths(arrivals):
-    """The traces in front of any nested IPv6 header."""
+def listed(arrivals, word, lines_of):
+    """Of each packet how many things its chain has, and the lines of each; or why it is skipped."""
     text = []
     for place, arrival in enumerate(arrivals, 1):
         reason, _, chain = judged(arrival)
         if reason is not None:
             text.append(f"{place} skip {reason}\n")
             continue
-        traces = [data[2:] for _, _, data in outer_options(chain) if len(data) >= 2 and data[1] == 0]
-        text.append(f"{place} traces {len(traces)}\n")
-        text.extend(trace_text(octets) for octets in traces)
+        lines = lines_of(chain)
+        text.append(f"{place} {word} {len(lines)}\n")
+        text.extend(lines)
     text.append(f"packets {len(arrivals)}\n")
     return "".join(text).encode()
+
+
+def paths(arrivals):
+    """The traces in front of any nested IPv6 header."""
+    return listed(arrivals, "traces", lambda chain: [
+        trace_text(data[2:]) for _, _, data in outer_options(chain) if len(data) >= 2 and data[1] == 0])
+
+
+def option_line(kind, at, data):
+    """The line of one IOAM option, and those of its elements."""
+    said = option_text(data)
+    reached("show: " + " ".join(said.split()[:2 if said.startswith("bad") else 1]))
+    return f"  {kind:02x} at {at} {said}"
 
 
 def show(arrivals):
     """Every IOAM option on each chain."""
-    text = []
-    for place, arrival in enumerate(arrivals, 1):
-        reason, _, chain = judged(arrival)
-        if reason is not None:
-            text.append(f"{place} skip {reason}\n")
-            continue
-        options = ioam_options(chain)
-        text.append(f"{place} options {len(options)}\n")
-        for kind, at, data in options:
-            said = option_text(data)
-            reached("show: " + " ".join(said.split()[:2 if said.startswith("bad") else 1]))
-            text.append(f"  {kind:02x} at {at} {said}")
-    text.append(f"packets {len(arrivals)}\n")
-    return "".join(text).encode()
+    return listed(arrivals, "options", lambda chain: [option_line(*option) for option in ioam_options(chain)])
 
 
 def saved(arrivals):
