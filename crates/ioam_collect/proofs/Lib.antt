@@ -1,3 +1,4 @@
+mod AheadLaws
 pub mod BestLaws
 pub mod CollectedLaws
 pub mod CountLaws

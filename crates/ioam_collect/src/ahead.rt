@@ -1,11 +1,15 @@
 //! Items that are read before they are needed, those of several chains side by side.
+ghost use Rattle.std.specs.Prelude.{◌≤◌, ◌*◌, length};
+
 use ioam_pool::Items;
 
 /// Of so many groups the items are read side by side.
 pub const SIDE_BY_SIDE: usize = 16;
 
 // Reads one item of each group that has one left, and says how many these are.
-fn read_one_of_each(groups: &mut [Option<Items<'_>>]) -> usize {
+fn read_one_of_each(groups: &mut [Option<Items<'_>>]) -> usize
+    ensures { result ≤ length groups.old }
+{
     let mut found: usize = 0;
     'groups: for items in groups.iter_mut() {
         if let Some(items) = items {
@@ -17,10 +21,12 @@ fn read_one_of_each(groups: &mut [Option<Items<'_>>]) -> usize {
     found
 }
 
-/// Reads up to so many items of each of these groups, and says how many it read. The cells of one chain, which lie anywhere
+/// Reads at most `most` items of each of these groups, and says how many it read. The cells of one chain, which lie anywhere
 /// in memory, are found one behind the other, but those of several chains at the same time: so items that were read here
 /// are at hand when they are wanted.
-pub fn read_ahead(groups: &mut [Option<Items<'_>>], most: u32) -> usize {
+pub fn read_ahead(groups: &mut [Option<Items<'_>>], most: u32) -> usize
+    ensures { result ≤ most * length groups.old }
+{
     let mut count: usize = 0;
     'steps: for _ in 0..most {
         let found = read_one_of_each(groups);

@@ -1,4 +1,4 @@
-ghost use Rattle.std.specs.Prelude.{◌≡◌, ◌≢◌, ◌↔◌, ◌^◌, ◌<◌, [], IfOk, IsTrue, List};
+ghost use Rattle.std.specs.Prelude.{◌≡◌, ◌≢◌, ◌↔◌, ◌^◌, ◌<◌, ◌≤◌, [], IfOk, IsTrue, List};
 ghost use Rattle.std.specs.List.{AllByRecursion};
 ghost use Rattle.std.specs.Map.{keys_of};
 ghost use Rattle.std.specs.List.Sorted.{IsStrictlySortedBy};
@@ -92,8 +92,10 @@ impl Collector {
     }
 
     /// Reads what adding records with these keys will search, as far as it is found at once, and says how many items it
-    /// read. Then they are at hand, which makes adding the records that come next faster.
-    pub fn read_ahead(&self, keys: &[Option<Key>; SIDE_BY_SIDE]) -> usize {
+    /// read, at most three for each key. Then they are at hand, which makes adding the records that come next faster.
+    pub fn read_ahead(&self, keys: &[Option<Key>; SIDE_BY_SIDE]) -> usize
+        ensures { result ≤ 48 }
+    {
         self.store.read_ahead(keys)
     }
 

@@ -1,4 +1,4 @@
-ghost use Rattle.std.specs.Prelude.{◌≡◌, ◌≢◌, ◌↔◌, ◌^◌, ◌<◌, [], IfOk, IsTrue};
+ghost use Rattle.std.specs.Prelude.{◌≡◌, ◌≢◌, ◌↔◌, ◌^◌, ◌<◌, ◌≤◌, [], IfOk, IsTrue};
 ghost use Rattle.std.specs.List.{AllByRecursion};
 ghost use Rattle.std.specs.Map.{keys_of};
 ghost use Rattle.std.specs.List.Sorted.{IsStrictlySortedBy};
@@ -123,7 +123,9 @@ impl Store {
     }
 
     // Reads the slots of keys, and the first items of those that stand there. Says how many items it read.
-    pub(crate) fn read_ahead(&self, keys: &[Option<Key>; SIDE_BY_SIDE]) -> usize {
+    pub(crate) fn read_ahead(&self, keys: &[Option<Key>; SIDE_BY_SIDE]) -> usize
+        ensures { result ≤ 48 }
+    {
         let mut items = keys.map(|key| self.items_of(key));
         read_ahead(&mut items, MOST_AHEAD)
     }
