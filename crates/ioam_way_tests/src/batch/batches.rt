@@ -2,30 +2,17 @@ ghost use Rattle.std.specs.Prelude.{All};
 ghost use Rattle.ioam_batch.specs.Jobs.{IsFresh};
 
 use crate::batch::making::make_job;
-use crate::batch::rows::{Row, after, before, domain};
+use crate::batch::rows::{Row, after, before, domain_texts};
+use crate::file::is_read_so;
 use ioam_base::memory::NoMemory;
 use ioam_batch::{Batch, Gate, Job, OpenGate, run_batch};
 use ioam_clock::{Readings, read_readings};
-use ioam_domain_file::read_domain;
 use ioam_test_gates::{ShutGate, make_meeting};
-use ioam_test_rows::digits::{UDP, octets};
+use ioam_test_rows::digits::{UDP, octets, text};
 use ioam_topo::Domain;
 use std::alloc::Global;
 use std::process::Abort;
 use std::thread::Threads;
-
-// The domain of the rows, and readings that say nothing.
-fn world(rt: &impl Abort, alloc: Global) -> (Domain, Readings) {
-    let domain = match read_domain(alloc, domain().as_bytes()) {
-        Ok(domain) => domain,
-        Err(_) => panic!(rt; "the domain"),
-    };
-    let readings = match read_readings(alloc, &domain, b"") {
-        Ok(readings) => readings,
-        Err(_) => panic!(rt; "the readings"),
-    };
-    (domain, readings)
-}
 
 // A job of the packet of the rows.
 fn job(rt: &impl Abort, alloc: Global, domain: &Domain, readings: &Readings) -> Job
@@ -85,38 +72,69 @@ fn are_so(alloc: Global, jobs: &[Job], row: &Row) -> bool {
 fn run_two<G: Gate>(
     rt: &(impl Abort + Threads + Sync),
     alloc: Global,
+    domain: &Domain,
+    readings: &Readings,
     gate: &G,
     row: &Row,
 ) -> bool {
-    let (domain, readings) = world(rt, alloc);
-    let mut batch = two_jobs(rt, alloc, &domain, &readings);
-    run_batch(rt, &domain, &readings, &mut batch, 2, gate);
+    let mut batch = two_jobs(rt, alloc, domain, readings);
+    run_batch(rt, domain, readings, &mut batch, 2, gate);
     are_so(alloc, batch.jobs(), row)
+}
+
+// Whether there is room and no job still once 64 workers ran a batch of none behind a gate.
+fn run_none<G: Gate>(
+    rt: &(impl Abort + Threads + Sync),
+    alloc: Global,
+    domain: &Domain,
+    readings: &Readings,
+    gate: &G,
+) -> bool {
+    let mut batch = Batch::new(alloc).expect(rt, "memory");
+    run_batch(rt, domain, readings, &mut batch, 64, gate);
+    batch.jobs().is_empty() && batch.has_room()
+}
+
+// Whether both are so by readings that say nothing.
+fn run_both<G: Gate>(
+    rt: &(impl Abort + Threads + Sync),
+    alloc: Global,
+    domain: &Domain,
+    gate: &G,
+    row: &Row,
+) -> bool {
+    match read_readings(alloc, domain, b"") {
+        Ok(readings) => run_none(rt, alloc, domain, &readings, gate)
+            && run_two(rt, alloc, domain, &readings, gate, row),
+        Err(_) => false,
+    }
+}
+
+// Whether they are in the domain of the rows.
+fn runs<G: Gate>(rt: &(impl Abort + Threads + Sync), alloc: Global, gate: &G, row: &Row) -> bool {
+    match text(alloc, domain_texts()) {
+        Ok(file) => is_read_so(
+            alloc,
+            file.as_slice(),
+            |domain| run_both(rt, alloc, domain, gate, row),
+        ),
+        Err(NoMemory) => false,
+    }
 }
 
 #[test]
 fn two_chunks_meet(rt: HostRuntime) {
     let gate = make_meeting();
-    assert!(rt; run_two(&rt, rt.alloc(), &gate, after()));
+    assert!(rt; runs(&rt, rt.alloc(), &gate, after()));
     assert!(rt; gate.has_met());
 }
 
 #[test]
 fn a_shut_gate_leaves_jobs_as_they_were(rt: HostRuntime) {
-    assert!(rt; run_two(&rt, rt.alloc(), &ShutGate, before()));
+    assert!(rt; runs(&rt, rt.alloc(), &ShutGate, before()));
 }
 
 #[test]
 fn an_open_gate_runs_them(rt: HostRuntime) {
-    assert!(rt; run_two(&rt, rt.alloc(), &OpenGate, after()));
-}
-
-#[test]
-fn no_jobs(rt: HostRuntime) {
-    let alloc = rt.alloc();
-    let (domain, readings) = world(&rt, alloc);
-    let mut batch = Batch::new(alloc).expect(&rt, "memory");
-    run_batch(&rt, &domain, &readings, &mut batch, 64, &OpenGate);
-    assert!(rt; batch.jobs().is_empty());
-    assert!(rt; batch.has_room());
+    assert!(rt; runs(&rt, rt.alloc(), &OpenGate, after()));
 }

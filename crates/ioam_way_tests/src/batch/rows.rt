@@ -1,33 +1,43 @@
 //! A packet that goes through the tunnel of a flow, and what its job holds before its visits and after.
 
-/// Three nodes in a row, with taps on both links; a flow with a trace, and with direct export in each
-/// third packet.
-const DOMAIN: &str = "node = [
-  { name = \"a\", id = 1, address = \"2001:db8::a\", namespaces = [7] },
-  { name = \"b\", id = 2, address = \"2001:db8::b\", namespaces = [7] },
-  { name = \"c\", id = 3, address = \"2001:db8::c\", namespaces = [7] },
-]
-link = [
-  { name = \"ab\", from = \"a\", to = \"b\", out_id = 12, in_id = 21, delay = 1000, mtu = 1500, tap = \"ab.pcap\" },
-  { name = \"bc\", from = \"b\", to = \"c\", out_id = 23, in_id = 32, delay = 1000, mtu = 1500, tap = \"bc.pcap\" },
-]
-port = [
-  { name = \"west\", node = \"a\", id = 10, in = \"west.pcap\", out = \"west-out.pcap\" },
-  { name = \"east\", node = \"c\", id = 30, out = \"east-out.pcap\" },
-]
-route = [
-  { node = \"a\", prefix = \"2001:db8::c/128\", link = \"ab\" },
-  { node = \"b\", prefix = \"2001:db8::c/128\", link = \"bc\" },
-  { node = \"c\", prefix = \"2001:db8:2::/48\", port = \"east\" },
-]
-flow = [
-  { name = \"f\", entry = \"a\", exit = \"c\", source = \"::/0\", target = \"2001:db8:2::/48\", namespace = 7, hops = 64, trace = 0x800000, capacity = 3, direct = 0x800000, every = 3, flow_id = 9 },
-]
-";
+// Three nodes in a row, with taps on both links; a flow with a trace, and with direct export in each
+// third packet.
+const DOMAIN: [&str; 5] = [NODES, LINKS, PORTS, ROUTES, FLOWS];
 
-/// The file of the domain.
-pub(crate) fn domain() -> &'static str {
-    DOMAIN
+const NODES: &str = r#"node = [
+  { name = "a", id = 1, address = "2001:db8::a", namespaces = [7] },
+  { name = "b", id = 2, address = "2001:db8::b", namespaces = [7] },
+  { name = "c", id = 3, address = "2001:db8::c", namespaces = [7] },
+]
+"#;
+
+const LINKS: &str = r#"link = [
+  { name = "ab", from = "a", to = "b", out_id = 12, in_id = 21, delay = 1000, mtu = 1500, tap = "ab.pcap" },
+  { name = "bc", from = "b", to = "c", out_id = 23, in_id = 32, delay = 1000, mtu = 1500, tap = "bc.pcap" },
+]
+"#;
+
+const PORTS: &str = r#"port = [
+  { name = "west", node = "a", id = 10, in = "west.pcap", out = "west-out.pcap" },
+  { name = "east", node = "c", id = 30, out = "east-out.pcap" },
+]
+"#;
+
+const ROUTES: &str = r#"route = [
+  { node = "a", prefix = "2001:db8::c/128", link = "ab" },
+  { node = "b", prefix = "2001:db8::c/128", link = "bc" },
+  { node = "c", prefix = "2001:db8:2::/48", port = "east" },
+]
+"#;
+
+const FLOWS: &str = r#"flow = [
+  { name = "f", entry = "a", exit = "c", source = "::/0", target = "2001:db8:2::/48", namespace = 7, hops = 64, trace = 0x800000, capacity = 3, direct = 0x800000, every = 3, flow_id = 9 },
+]
+"#;
+
+/// The texts of the file of the domain.
+pub(crate) fn domain_texts() -> &'static [&'static str] {
+    &DOMAIN
 }
 
 /// What a job holds: its packet as it stands, what was sent on the links, and its export records.
