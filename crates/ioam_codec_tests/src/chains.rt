@@ -1,4 +1,4 @@
-ghost use Rattle.std.specs.Prelude.{◌<◌, ◌≤◌, ◌≡◌, length};
+ghost use Rattle.std.specs.Prelude.{◌<◌, ◌≡◌, length};
 
 use ioam_base::memory::NoMemory;
 use ioam_pool::{Chain, Inserted, Item, Parts, Pool};
@@ -24,59 +24,107 @@ fn has(pool: &Pool, chain: Chain, wanted: &[(u8, u8)]) -> bool
     left.is_empty()
 }
 
-// An item with such a core, and no extra part.
-fn item(alloc: Global, hops: u8, core: &[u8]) -> Result<Item, NoMemory>
-    requires { length core.now ≤ 262 }
+// What became of an item, without those that are handed back.
+#[derive(Clone, Copy)]
+enum Became {
+    Kept,
+    Replaced,
+    Repeat,
+    Full,
+}
+
+// Inserts an item of this hop value, with one octet of core and no extra part.
+fn insert(
+    pool: &mut Pool,
+    chain: Chain,
+    hops: u8,
+    core: u8,
+    alloc: Global,
+) -> Result<Became, NoMemory>
+    requires { chain < length pool.old.chains }
+    ensures chains { length pool.new.chains ≡ length pool.old.chains }
+    ensures capacity { pool.new.capacity ≡ pool.old.capacity }
 {
-    Item::new(alloc, &Parts::new(hops, core, &[]))
+    let item = Item::new(alloc, &Parts::new(hops, &[core], &[]))?;
+    Ok(match pool.insert(chain, item) {
+        Inserted::Kept => Became::Kept,
+        Inserted::Replaced(_) => Became::Replaced,
+        Inserted::Repeat(_) => Became::Repeat,
+        Inserted::Full(_) => Became::Full,
+    })
+}
+
+// Whether two items fill the pool, and then one is of no room and one is a repeat.
+fn is_filled(pool: &mut Pool, p: Chain, q: Chain, alloc: Global) -> Result<bool, NoMemory>
+    requires first { p < length pool.old.chains }
+    requires second { q < length pool.old.chains }
+{
+    let five = insert(pool, p, 5, 1, alloc)?;
+    let six = insert(pool, p, 6, 2, alloc)?;
+    let in_order = has(pool, p, &[(6, 2), (5, 1)]);
+    let one = insert(pool, q, 1, 3, alloc)?;
+    let five_again = insert(pool, p, 5, 1, alloc)?;
+    Ok(
+        in_order
+            && matches!(five, Became::Kept)
+            && matches!(six, Became::Kept)
+            && matches!(one, Became::Full)
+            && matches!(five_again, Became::Repeat),
+    )
 }
 
 #[test]
 fn repeats_come_before_a_full_pool(rt: HostRuntime) -> Result<(), Fail> {
-    let alloc = rt.alloc();
-    let (five, six) = (item(alloc, 5, &[1])?, item(alloc, 6, &[2])?);
-    let (one, five_again) = (item(alloc, 1, &[3])?, item(alloc, 5, &[1])?);
-    let mut pool = Pool::new(alloc, 2)?;
+    let mut pool = Pool::new(rt.alloc(), 2)?;
     let p = pool.add_chain()?;
     let q = pool.add_chain()?;
-    assert!(rt; matches!(pool.insert(p, five), Inserted::Kept));
-    assert!(rt; matches!(pool.insert(p, six), Inserted::Kept));
-    assert!(rt; has(&pool, p, &[(6, 2), (5, 1)]));
-    assert!(rt; matches!(pool.insert(q, one), Inserted::Full(_)));
-    assert!(rt; matches!(pool.insert(p, five_again), Inserted::Repeat(_)));
+    assert!(rt; is_filled(&mut pool, p, q, rt.alloc())?);
     assert!(rt; pool.held() == 2 && pool.capacity() == 2);
     Ok(())
 }
 
+// Whether the cell of a freed chain is there for another.
+fn is_freed(pool: &mut Pool, p: Chain, q: Chain, alloc: Global) -> Result<bool, NoMemory>
+    requires first { p < length pool.old.chains }
+    requires second { q < length pool.old.chains }
+{
+    let six = insert(pool, p, 6, 2, alloc)?;
+    pool.free(p);
+    let one = insert(pool, q, 1, 3, alloc)?;
+    Ok(matches!(six, Became::Kept) && matches!(one, Became::Kept) && has(pool, p, &[]))
+}
+
 #[test]
 fn a_freed_chain_gives_its_cells_back(rt: HostRuntime) -> Result<(), Fail> {
-    let alloc = rt.alloc();
-    let (six, one) = (item(alloc, 6, &[2])?, item(alloc, 1, &[3])?);
-    let mut pool = Pool::new(alloc, 1)?;
+    let mut pool = Pool::new(rt.alloc(), 1)?;
     let p = pool.add_chain()?;
     let q = pool.add_chain()?;
-    assert!(rt; matches!(pool.insert(p, six), Inserted::Kept));
-    pool.free(p);
-    assert!(rt; matches!(pool.insert(q, one), Inserted::Kept));
-    assert!(rt; has(&pool, p, &[]));
+    assert!(rt; is_freed(&mut pool, p, q, rt.alloc())?);
     assert!(rt; pool.held() == 1 && pool.capacity() == 1);
     Ok(())
 }
 
+// Whether an item without room is kept once the pool grew.
+fn is_kept_later(pool: &mut Pool, p: Chain, alloc: Global) -> Result<bool, NoMemory>
+    requires chain { p < length pool.old.chains }
+    requires capacity { pool.old.capacity < 100 }
+{
+    let six = insert(pool, p, 6, 2, alloc)?;
+    let one = insert(pool, p, 1, 3, alloc)?;
+    pool.grow(1)?;
+    let one_again = insert(pool, p, 1, 3, alloc)?;
+    Ok(
+        matches!(six, Became::Kept)
+            && matches!(one, Became::Full)
+            && matches!(one_again, Became::Kept),
+    )
+}
+
 #[test]
 fn a_pool_that_grew_has_room(rt: HostRuntime) -> Result<(), Fail> {
-    let alloc = rt.alloc();
-    let (six, one, one_again) = (
-        item(alloc, 6, &[2])?,
-        item(alloc, 1, &[3])?,
-        item(alloc, 1, &[3])?,
-    );
-    let mut pool = Pool::new(alloc, 1)?;
+    let mut pool = Pool::new(rt.alloc(), 1)?;
     let p = pool.add_chain()?;
-    assert!(rt; matches!(pool.insert(p, six), Inserted::Kept));
-    assert!(rt; matches!(pool.insert(p, one), Inserted::Full(_)));
-    pool.grow(1)?;
-    assert!(rt; matches!(pool.insert(p, one_again), Inserted::Kept));
+    assert!(rt; is_kept_later(&mut pool, p, rt.alloc())?);
     assert!(rt; pool.held() == 2 && pool.capacity() == 2);
     Ok(())
 }
@@ -85,18 +133,10 @@ fn a_pool_that_grew_has_room(rt: HostRuntime) -> Result<(), Fail> {
 fn a_core_of_many_octets_is_kept_whole(rt: HostRuntime) -> Result<(), Fail> {
     let mut pool = Pool::new(rt.alloc(), 1)?;
     let p = pool.add_chain()?;
-    assert!(rt;
-        matches!(
-            pool.insert(p, item(rt.alloc(), 5, &[7; 262])?),
-            Inserted::Kept
-        )
-    );
-    assert!(rt;
-        matches!(
-            pool.insert(p, item(rt.alloc(), 5, &[7; 262])?),
-            Inserted::Repeat(_)
-        )
-    );
+    let long = Item::new(rt.alloc(), &Parts::new(5, &[7; 262], &[]))?;
+    assert!(rt; matches!(pool.insert(p, long), Inserted::Kept));
+    let again = Item::new(rt.alloc(), &Parts::new(5, &[7; 262], &[]))?;
+    assert!(rt; matches!(pool.insert(p, again), Inserted::Repeat(_)));
     for item in pool.walk(p) {
         assert!(rt; item.core() == [7; 262].as_slice());
     }

@@ -130,38 +130,59 @@ const ALL: View<'static> = View {
     snapshot: Some((9, &[0xaa, 0xbb, 0xcc, 0xdd])),
 };
 
-#[test]
-fn elements(rt: HostRuntime) {
-    let mut buffer = ElementBuf::new();
-    assert!(rt; element(kind(0xc04002), 4, &ALL, &mut buffer));
-    assert_eq!(rt;
-        buffer.octets(),
-        [
+// Types with a NodeLen, and the element that such a node writes: the second with the fields behind those
+// of the first, and three words of filler, one of them for an undefined bit.
+const ELEMENTS: [(u32, u8, &[u8]); 2] = [
+    (
+        0xc04002,
+        4,
+        &[
             0x3d, 0, 0, 5, 0xff, 0xff, 0, 2, 0, 1, 0x11, 0x70, 0, 0, 0, 2, 1, 0, 0, 9, 0xaa, 0xbb,
-            0xcc, 0xdd
-        ]
-        .as_slice()
-    );
-    let read = fields(kind(0xc04002), 4, buffer.octets());
-    assert_eq!(rt;
-        (read.hop_node, read.faces),
-        (Some((61, 5)), Some((65535, 2)))
-    );
-    assert_eq!(rt; (read.wide_faces, read.seconds), (Some((70000, 2)), None));
-    assert_eq!(rt; read.fill.len(), 0);
-    let opaque = [0xaa, 0xbb, 0xcc, 0xdd];
-    assert_eq!(rt; read.snapshot, Some((9, opaque.as_slice())));
-    // The fields behind these, and three words of filler, one of them for an undefined bit.
-    assert!(rt; element(kind(0x3fb800), 14, &ALL, &mut buffer));
-    assert_eq!(rt;
-        buffer.octets(),
-        [
+            0xcc, 0xdd,
+        ],
+    ),
+    (
+        0x3fb800,
+        14,
+        &[
             0, 0, 0, 2, 0, 0, 0, 3, 0, 0, 0, 4, 1, 2, 3, 4, 0, 0, 0, 5, 255, 255, 255, 255, 0x3d,
             0, 0, 0, 0, 0, 0, 5, 1, 2, 3, 4, 5, 6, 7, 8, 0, 0, 0, 6, 255, 255, 255, 255, 255, 255,
-            255, 255, 255, 255, 255, 255
-        ]
-        .as_slice()
-    );
+            255, 255, 255, 255, 255, 255,
+        ],
+    ),
+];
+
+// Whether each element is written so, in the same room.
+fn all_are_elements(view: &View<'_>, cases: &[(u32, u8, &[u8])]) -> bool {
+    let mut buffer = ElementBuf::new();
+    for (bits, node_len, octets) in cases {
+        let kind = TraceType::new(*bits % 0x100_0000);
+        if !element(kind, *node_len % 32, view, &mut buffer) || buffer.octets() != *octets {
+            return false;
+        }
+    }
+    true
+}
+
+// Whether the fields of the first type are read as the view shows them.
+fn is_read_back(view: &View<'_>) -> bool {
+    let mut buffer = ElementBuf::new();
+    if !element(kind(0xc04002), 4, view, &mut buffer) {
+        return false;
+    }
+    let read = fields(kind(0xc04002), 4, buffer.octets());
+    read.hop_node == Some((61, 5))
+        && read.faces == Some((65535, 2))
+        && read.wide_faces == Some((70000, 2))
+        && read.seconds.is_none()
+        && read.fill.is_empty()
+        && read.snapshot == Some((9, [0xaa, 0xbb, 0xcc, 0xdd].as_slice()))
+}
+
+#[test]
+fn elements(rt: HostRuntime) {
+    assert!(rt; all_are_elements(&ALL, &ELEMENTS));
+    assert!(rt; is_read_back(&ALL));
 }
 
 #[test]

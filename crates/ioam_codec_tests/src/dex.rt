@@ -158,18 +158,28 @@ fn all_are_written(room: &mut ExportRoom, records: &[&[u8]]) -> Result<bool, Fai
     Ok(true)
 }
 
+// Whether so many octets of the room are taken, and so many are spare.
+fn has_sizes(room: &ExportRoom, taken: usize, spare: usize) -> bool {
+    room.octets().len() == taken && room.spare() == spare
+}
+
+// The type of the record that these octets are.
+fn type_of(octets: &[u8]) -> Option<TraceType> {
+    match export_of(octets) {
+        Some(export) => Some(export.trace_type()),
+        None => None,
+    }
+}
+
 #[test]
 fn records_are_written_and_read(rt: HostRuntime) -> Result<(), Fail> {
     let mut room = ExportRoom::new(rt.alloc(), 600)?;
     assert!(rt; all_are_written(&mut room, &RECORDS)?);
-    assert_eq!(rt; room.octets().len(), 138);
-    assert_eq!(rt; room.spare(), 462);
+    assert!(rt; has_sizes(&room, 138, 462));
     room.clear();
-    assert_eq!(rt; room.octets().len(), 0);
-    assert_eq!(rt; room.spare(), 600);
-    let export = export_of(&SNAPSHOT).ok_or("no record")?;
-    assert_eq!(rt; export.trace_type(), TraceType::new(0x80_0002));
-    assert!(rt; export_of(&RECORD[..21]).is_none());
+    assert!(rt; has_sizes(&room, 0, 600));
+    assert!(rt; type_of(&SNAPSHOT) == Some(TraceType::new(0x80_0002)));
+    assert!(rt; type_of(&RECORD[..21]).is_none());
     Ok(())
 }
 

@@ -7,11 +7,37 @@ use ioam_test_rows::digits::octets;
 use std::alloc::Global;
 use std::test::Fail;
 
+// Adds the record of these octets.
+fn add_record(collector: &mut Collector, octets: &[u8]) -> Result<Added, Fail> {
+    let export = export_of(octets).ok_or("no record")?;
+    Ok(collector.add(&export)?)
+}
+
 // Adds the record of these digits.
 fn add(alloc: Global, collector: &mut Collector, digits: &[&str]) -> Result<Added, Fail> {
     let octets = octets(alloc, digits)?;
-    let export = export_of(&octets).ok_or("no record")?;
-    Ok(collector.add(&export)?)
+    add_record(collector, &octets)
+}
+
+// Whether the collector's groups have these lines.
+fn has_lines(alloc: Global, collector: &Collector, lines: &str) -> Result<bool, Fail> {
+    let mut out = Vec::new(alloc);
+    put_groups(collector, &mut out)?;
+    Ok(out.as_slice() == lines.as_bytes())
+}
+
+// Whether the collector answers so for each of these.
+fn all_answer(
+    alloc: Global,
+    collector: &mut Collector,
+    rows: &[(&str, Added)],
+) -> Result<bool, Fail> {
+    for (digits, wanted) in rows {
+        if add(alloc, collector, &[*digits])? != *wanted {
+            return Ok(false);
+        }
+    }
+    Ok(true)
 }
 
 // Whether a collector of so many records answers so for each, and then has these lines.
@@ -19,27 +45,24 @@ fn answers(alloc: Global, limit: u32, rows: &[(&str, Added)], lines: &str) -> Re
     requires { limit < 2 ^ 31 }
 {
     let mut collector = Collector::new(alloc, limit)?;
-    for (digits, wanted) in rows {
-        if add(alloc, &mut collector, &[*digits])? != *wanted {
-            return Ok(false);
-        }
+    Ok(all_answer(alloc, &mut collector, rows)? && has_lines(alloc, &collector, lines)?)
+}
+
+// Adds each of these records.
+fn add_all(alloc: Global, collector: &mut Collector, rows: &[[&str; 5]]) -> Result<(), Fail> {
+    for row in rows {
+        let _added = add(alloc, collector, row)?;
     }
-    let mut out = Vec::new(alloc);
-    put_groups(&collector, &mut out)?;
-    Ok(out.as_slice() == lines.as_bytes())
+    Ok(())
 }
 
 // Whether these records, each added so often, have these lines.
 fn regroup(alloc: Global, rows: &[[&str; 5]], times: u32, lines: &str) -> Result<bool, Fail> {
     let mut collector = Collector::new(alloc, 1000)?;
     for _ in 0..times {
-        for row in rows {
-            let _added = add(alloc, &mut collector, row)?;
-        }
+        add_all(alloc, &mut collector, rows)?;
     }
-    let mut out = Vec::new(alloc);
-    put_groups(&collector, &mut out)?;
-    Ok(out.as_slice() == lines.as_bytes())
+    has_lines(alloc, &collector, lines)
 }
 
 // One record of namespace 7, flow 9 and sequence number 0, without its visit and with it.

@@ -69,15 +69,14 @@ fn udp_header(class: u8, label: u32) -> Header
     }
 }
 
-// Where the outer Destination Options header stands, each option of the Hop-by-Hop header with its
-// place and the octets of its data, and each header with its range.
-fn outline(alloc: Global, octets: &[u8]) -> Result<Vec<(usize, usize, usize)>, NoMemory> {
-    let mut seen = Vec::new(alloc);
+// Notes where the outer Destination Options header stands, each option of the Hop-by-Hop header with
+// its place and the octets of its data, and each header with its range.
+fn note_outline(octets: &[u8], seen: &mut Vec<(usize, usize, usize)>) -> Result<(), NoMemory> {
     let Framed::Packet(packet) = packet_of(false, false, octets) else {
-        return Ok(seen);
+        return Ok(());
     };
     let Walk::Whole { .. } = walk(packet) else {
-        return Ok(seen);
+        return Ok(());
     };
     if let Some(target) = target_header(packet) {
         seen.push((target.start, target.end, 0))?;
@@ -90,7 +89,7 @@ fn outline(alloc: Global, octets: &[u8]) -> Result<Vec<(usize, usize, usize)>, N
     for head in heads(packet) {
         seen.push((head.value as usize, head.range.start, head.range.end))?;
     }
-    Ok(seen)
+    Ok(())
 }
 
 fn whole(ioam: bool, upper: u8, at: u32, limit: Option<u8>) -> Walk {
@@ -215,60 +214,82 @@ fn walks(rt: HostRuntime) -> Result<(), Fail> {
     Ok(())
 }
 
+// Headers behind the first, what stands behind each, and how the walk ends.
+const NESTED: [(&[u8], &[u8], Ends); 3] = [
+    (
+        &NESTED_HOP,
+        &[59, 0, 0x31, 4, 0, 0, 0, 0],
+        (true, 59, 88, None),
+    ),
+    // Its payload length isn't compared.
+    (&NESTED_LONG, &[], (false, 59, 80, None)),
+    // A limit behind it isn't the packet's.
+    (
+        &NESTED_TARGET,
+        &[59, 0, 4, 1, 7, 1, 1, 0],
+        (false, 59, 88, None),
+    ),
+];
+
+// How the walk of such a packet with a header behind its own ends.
+fn nested_walk(alloc: Global, front: &[u8], back: &[u8]) -> Result<Option<Walk>, NoMemory> {
+    let octets = packet(alloc, 41, front, &ADDRESSES, back)?;
+    Ok(walked(octets.as_slice()))
+}
+
+// Whether each ends so.
+fn all_end_nested(alloc: Global, cases: &[(&[u8], &[u8], Ends)]) -> Result<bool, NoMemory> {
+    for (front, back, (ioam, upper, at, limit)) in cases {
+        if nested_walk(alloc, front, back)? != Some(whole(*ioam, *upper, *at, *limit)) {
+            return Ok(false);
+        }
+    }
+    Ok(true)
+}
+
 #[test]
 fn nested(rt: HostRuntime) -> Result<(), Fail> {
     let alloc = rt.alloc();
-    let cases: [(&[u8], &[u8], Walk); 4] = [
-        (
-            &NESTED_HOP,
-            &[59, 0, 0x31, 4, 0, 0, 0, 0],
-            whole(true, 59, 88, None),
-        ),
-        // Its payload length isn't compared; its version is.
-        (&NESTED_LONG, &[], whole(false, 59, 80, None)),
-        (&NESTED_FOUR, &[], Walk::Bad { at: 40 }),
-        // A limit behind it isn't the packet's.
-        (
-            &NESTED_TARGET,
-            &[59, 0, 4, 1, 7, 1, 1, 0],
-            whole(false, 59, 88, None),
-        ),
-    ];
-    for (front, back, answer) in cases {
-        let octets = packet(alloc, 41, front, &ADDRESSES, back)?;
-        assert_eq!(rt; walked(octets.as_slice()), Some(answer));
-    }
+    assert!(rt; all_end_nested(alloc, &NESTED)?);
+    // The version is compared.
+    assert!(rt; nested_walk(alloc, &NESTED_FOUR, &[])? == Some(Walk::Bad { at: 40 }));
     // 2,048 octets of options, all Pad1.
     let octets = packet(alloc, 0, &[59, 255], &[0; 2046], &[])?;
-    assert_eq!(rt;
-        walked(octets.as_slice()),
-        Some(whole(false, 59, 2088, None))
-    );
+    assert!(rt; walked(octets.as_slice()) == Some(whole(false, 59, 2088, None)));
     Ok(())
+}
+
+// A frame of the UDP packet with this Ethertype, and four octets of padding.
+fn frame_of(alloc: Global, ethertype: [u8; 2]) -> Result<Vec<u8>, NoMemory> {
+    let mut frame = Vec::new(alloc);
+    append(&mut frame, &[2, 0, 0, 0, 0, 1, 2, 0, 0, 0, 0, 2])?;
+    append(&mut frame, &ethertype)?;
+    append(&mut frame, &UDP)?;
+    append(&mut frame, &[0; 4])?;
+    Ok(frame)
+}
+
+// Whether the octets, with an Ethernet header or cut or not, are framed so.
+fn is_framed(ethernet: bool, cut: bool, octets: &[u8], wanted: Framed<'_>) -> bool {
+    packet_of(ethernet, cut, octets) == wanted
+}
+
+// Whether parts of the packet are refused.
+fn are_refused(packet: &[u8; 48]) -> bool {
+    is_framed(true, true, &packet[..13], Framed::NotIpv6)
+        && is_framed(false, false, &packet[..47], Framed::Length)
+        && is_framed(false, false, &packet[..39], Framed::Length)
+        && is_framed(false, true, &[], Framed::NotIpv6)
 }
 
 #[test]
 fn frames(rt: HostRuntime) -> Result<(), Fail> {
-    let alloc = rt.alloc();
-    let mut frame = Vec::new(alloc);
-    append(
-        &mut frame,
-        &[2, 0, 0, 0, 0, 1, 2, 0, 0, 0, 0, 2, 0x86, 0xDD],
-    )?;
-    append(&mut frame, &UDP)?;
-    append(&mut frame, &[0; 4])?;
-    assert_eq!(rt;
-        packet_of(true, false, frame.as_slice()),
-        Framed::Packet(&UDP)
-    );
-    assert_eq!(rt; packet_of(true, true, frame.as_slice()), Framed::Cut);
-    frame[12] = 0x08;
-    frame[13] = 0x00;
-    assert_eq!(rt; packet_of(true, false, frame.as_slice()), Framed::NotIpv6);
-    assert_eq!(rt; packet_of(true, true, &UDP[..13]), Framed::NotIpv6);
-    assert_eq!(rt; packet_of(false, false, &UDP[..47]), Framed::Length);
-    assert_eq!(rt; packet_of(false, false, &UDP[..39]), Framed::Length);
-    assert_eq!(rt; packet_of(false, true, &[]), Framed::NotIpv6);
+    let frame = frame_of(rt.alloc(), [0x86, 0xDD])?;
+    assert!(rt; is_framed(true, false, frame.as_slice(), Framed::Packet(&UDP)));
+    assert!(rt; is_framed(true, true, frame.as_slice(), Framed::Cut));
+    let other = frame_of(rt.alloc(), [0x08, 0x00])?;
+    assert!(rt; is_framed(true, false, other.as_slice(), Framed::NotIpv6));
+    assert!(rt; are_refused(&UDP));
     Ok(())
 }
 
@@ -285,16 +306,20 @@ fn headers(rt: HostRuntime) {
 /// A header with the option 5 at a multiple of two octets, the option 0x31, and the option 4.
 const LAID_OUT: [u8; 16] = [60, 1, 5, 2, 0, 0, 1, 0, 0x31, 3, 0, 0, 7, 4, 1, 3];
 
-#[test]
-fn options_are_laid_out(rt: HostRuntime) -> Result<(), Fail> {
-    let alloc = rt.alloc();
-    let mut outer = Layout::new(alloc, 60)?;
+// Adds those options.
+fn add_three(outer: &mut Layout) -> Result<(), LayoutFault> {
     outer.add(5, &[0, 0])?;
     outer.add(0x31, &[0, 0, 7])?;
-    outer.add(4, &[3])?;
+    outer.add(4, &[3])
+}
+
+#[test]
+fn options_are_laid_out(rt: HostRuntime) -> Result<(), Fail> {
+    let mut outer = Layout::new(rt.alloc(), 60)?;
+    add_three(&mut outer)?;
     let outer = outer.finish()?;
-    assert_eq!(rt; outer.as_slice(), LAID_OUT.as_slice());
-    assert_eq!(rt; check_options(&LAID_OUT), Ok(()));
+    assert!(rt; outer.as_slice() == LAID_OUT.as_slice());
+    assert!(rt; check_options(&LAID_OUT) == Ok(()));
     Ok(())
 }
 
@@ -303,7 +328,8 @@ fn options_have_places(rt: HostRuntime) -> Result<(), Fail> {
     let alloc = rt.alloc();
     let octets = packet(alloc, 0, &LAID_OUT, &[41, 0, 1, 4, 0, 0, 0, 0], &UDP)?;
     assert_eq!(rt; walked(octets.as_slice()), Some(whole(true, 17, 104, None)));
-    let seen = outline(alloc, octets.as_slice())?;
+    let mut seen = Vec::new(alloc);
+    note_outline(octets.as_slice(), &mut seen)?;
     let wanted = [
         (56, 64, 0),
         (5, 2, 2),
@@ -317,19 +343,26 @@ fn options_have_places(rt: HostRuntime) -> Result<(), Fail> {
     Ok(())
 }
 
+// Whether seven options of 255 octets of data are added, and no eighth.
+fn is_filled(layout: &mut Layout, body: &[u8; 255]) -> Result<bool, LayoutFault> {
+    for _count in 0..7 {
+        layout.add(0x11, body)?;
+    }
+    Ok(layout.add(0x11, body) == Err(LayoutFault::Full))
+}
+
+// Whether a header has the size of those seven, and the last where it is to stand.
+fn has_seven(head: &[u8]) -> bool {
+    head.len() == 1824 && head[1564] == 0x11 && head[1565] == 255
+}
+
 #[test]
 fn full_layout(rt: HostRuntime) -> Result<(), Fail> {
-    let alloc = rt.alloc();
-    let body = [0; 255];
-    let mut layout = Layout::new(alloc, 59)?;
-    for _count in 0..7 {
-        layout.add(0x11, &body)?;
-    }
-    assert_eq!(rt; layout.add(0x11, &body), Err(LayoutFault::Full));
+    let mut layout = Layout::new(rt.alloc(), 59)?;
+    assert!(rt; is_filled(&mut layout, &[0; 255])?);
     let head = layout.finish()?;
-    assert_eq!(rt; head.len(), 1824);
-    assert_eq!(rt; head[1564..1566], *[0x11, 255].as_slice());
-    assert_eq!(rt; check_options(head.as_slice()), Ok(()));
+    assert!(rt; has_seven(head.as_slice()));
+    assert!(rt; check_options(head.as_slice()) == Ok(()));
     Ok(())
 }
 

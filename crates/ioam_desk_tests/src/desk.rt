@@ -35,17 +35,40 @@ fn chosen_pieces_and_failures(rt: HostRuntime) -> Result<(), Fail> {
     Ok(())
 }
 
+// Whether a name holds what is written, and then what is put under it.
+fn holds_what_is_written(desk: &mut MemoryDesk) -> Result<bool, Fail> {
+    let output = desk.open_out("out")?;
+    if desk.write(output, b"0123456789") != Ok(4) || desk.file("out") != Some(&b"0123"[..]) {
+        return Ok(false);
+    }
+    desk.put_file("out", b"own")?;
+    Ok(desk.write(output, b"45") == Ok(2) && desk.file("out") == Some(&b"own"[..]))
+}
+
 #[test]
 fn names_hold_what_is_written(rt: HostRuntime) -> Result<(), Fail> {
     let mut desk = MemoryDesk::new(rt.alloc())?;
     desk.set_piece(4);
-    let output = desk.open_out("out")?;
-    assert_eq!(rt; desk.write(output, b"0123456789"), Ok(4));
-    assert_eq!(rt; desk.file("out"), Some(&b"0123"[..]));
-    desk.put_file("out", b"own")?;
-    assert_eq!(rt; desk.write(output, b"45"), Ok(2));
-    assert_eq!(rt; desk.file("out"), Some(&b"own"[..]));
+    assert!(rt; holds_what_is_written(&mut desk)?);
     Ok(())
+}
+
+// Whether a name that isn't there is empty, and the other is read in pieces.
+fn reads_any_name(desk: &mut SureDesk) -> Result<bool, DeskFault> {
+    let empty = desk.open_in("none")?;
+    let input = desk.open_in("in")?;
+    let mut into = [0u8; 8];
+    Ok(desk.read(empty, &mut into) == Ok(0) && desk.read(input, &mut into) == Ok(4))
+}
+
+// Whether a name holds the piece that is written, and another is empty.
+fn writes_a_piece(desk: &mut SureDesk) -> Result<bool, DeskFault> {
+    let output = desk.open_out("out")?;
+    Ok(
+        desk.write(output, b"56789") == Ok(4)
+            && desk.file("out") == Some(&b"5678"[..])
+            && desk.file("none") == Some(&b""[..]),
+    )
 }
 
 #[test]
@@ -53,15 +76,7 @@ fn no_name_is_missing(rt: HostRuntime) -> Result<(), Fail> {
     let mut desk = SureDesk::new(rt.alloc())?;
     desk.put_file("in", b"01234")?;
     desk.set_piece(4);
-    let empty = desk.open_in("none")?;
-    let input = desk.open_in("in")?;
-    let mut into = [0u8; 8];
-    assert_eq!(rt; desk.read(empty, &mut into), Ok(0));
-    assert_eq!(rt; desk.read(input, &mut into), Ok(4));
-
-    let output = desk.open_out("out")?;
-    assert_eq!(rt; desk.write(output, b"56789"), Ok(4));
-    assert_eq!(rt; desk.file("out"), Some(&b"5678"[..]));
-    assert_eq!(rt; desk.file("none"), Some(&b""[..]));
+    assert!(rt; reads_any_name(&mut desk)?);
+    assert!(rt; writes_a_piece(&mut desk)?);
     Ok(())
 }

@@ -88,54 +88,117 @@ fn line_of(alloc: Global, fault: Option<Fault<'_>>) -> Result<String, AllocError
     }
 }
 
-#[test]
-fn a_read_that_fails_names_its_file(rt: HostRuntime) -> Result<(), Fail> {
-    let alloc = rt.alloc();
-    let mut desk = HostDesk::new(&ByLength, alloc);
+// Whether this line is printed of the last fault of reading.
+fn has_read_line(
+    desk: &HostDesk<'_, ByLength>,
+    alloc: Global,
+    wanted: &str,
+) -> Result<bool, AllocError> {
+    let line = line_of(alloc, desk.read_fault())?;
+    Ok(line.as_str() == wanted)
+}
+
+// Whether this line is printed of the last fault of writing.
+fn has_write_line(
+    desk: &HostDesk<'_, ByLength>,
+    alloc: Global,
+    wanted: &str,
+) -> Result<bool, AllocError> {
+    let line = line_of(alloc, desk.write_fault())?;
+    Ok(line.as_str() == wanted)
+}
+
+// Whether a file is read, and then its read and another's opening fail.
+fn fails_to_read(desk: &mut HostDesk<'_, ByLength>, alloc: Global) -> Result<bool, Fail> {
     let input = desk.open_in("west")?;
     let mut into = [0u8; 8];
-    assert_eq!(rt; desk.read(input, &mut into), Ok(3));
-    assert_eq!(rt; desk.read(input, &mut into), Err(DeskFault::Failed));
-    let line = line_of(alloc, desk.read_fault())?;
-    assert_eq!(rt; line.as_str(), "west: timed out");
-    assert_eq!(rt; desk.open_in(""), Err(DeskFault::Failed));
-    let line = line_of(alloc, desk.read_fault())?;
-    assert_eq!(rt; line.as_str(), ": entity not found");
-    assert!(rt; desk.write_fault().is_none());
+    Ok(
+        desk.read(input, &mut into) == Ok(3)
+            && desk.read(input, &mut into) == Err(DeskFault::Failed)
+            && has_read_line(desk, alloc, "west: timed out")?
+            && desk.open_in("") == Err(DeskFault::Failed)
+            && has_read_line(desk, alloc, ": entity not found")?
+            && desk.write_fault().is_none(),
+    )
+}
+
+#[test]
+fn a_read_that_fails_names_its_file(rt: HostRuntime) -> Result<(), Fail> {
+    let mut desk = HostDesk::new(&ByLength, rt.alloc());
+    assert!(rt; fails_to_read(&mut desk, rt.alloc())?);
     Ok(())
+}
+
+// Whether a file is written, and then fails in two ways.
+fn fails_to_write(desk: &mut HostDesk<'_, ByLength>, alloc: Global) -> Result<bool, Fail> {
+    let output = desk.open_out("east")?;
+    Ok(
+        desk.write(output, b"ab") == Ok(1)
+            && desk.write(output, b"abc") == Err(DeskFault::Failed)
+            && has_write_line(desk, alloc, "east: takes no more octets")?
+            && desk.write(output, b"a") == Err(DeskFault::Failed)
+            && has_write_line(desk, alloc, "east: no storage space")?,
+    )
 }
 
 #[test]
 fn a_write_that_fails_names_its_file(rt: HostRuntime) -> Result<(), Fail> {
-    let alloc = rt.alloc();
-    let mut desk = HostDesk::new(&ByLength, alloc);
-    let output = desk.open_out("east")?;
-    assert_eq!(rt; desk.write(output, b"ab"), Ok(1));
-    assert_eq!(rt; desk.write(output, b"abc"), Err(DeskFault::Failed));
-    let line = line_of(alloc, desk.write_fault())?;
-    assert_eq!(rt; line.as_str(), "east: takes no more octets");
-    assert_eq!(rt; desk.write(output, b"a"), Err(DeskFault::Failed));
-    let line = line_of(alloc, desk.write_fault())?;
-    assert_eq!(rt; line.as_str(), "east: no storage space");
+    let mut desk = HostDesk::new(&ByLength, rt.alloc());
+    assert!(rt; fails_to_write(&mut desk, rt.alloc())?);
     Ok(())
+}
+
+// Opens some files.
+fn open_some(desk: &mut HostDesk<'_, ByLength>) -> Result<(), DeskFault> {
+    desk.open_in("in")?;
+    desk.open_in("a")?;
+    desk.open_out("b")?;
+    desk.open_out("c")?;
+    desk.open_out("out")?;
+    Ok(())
+}
+
+// Whether such an output isn't opened, and this line is printed of it.
+fn is_refused(
+    desk: &mut HostDesk<'_, ByLength>,
+    alloc: Global,
+    name: &str,
+    line: &str,
+) -> Result<bool, AllocError> {
+    Ok(desk.open_out(name) == Err(DeskFault::Failed) && has_write_line(desk, alloc, line)?)
 }
 
 #[test]
 fn no_open_file_is_an_output(rt: HostRuntime) -> Result<(), Fail> {
     let alloc = rt.alloc();
     let mut desk = HostDesk::new(&ByLength, alloc);
-    desk.open_in("in")?;
-    desk.open_in("a")?;
-    desk.open_out("b")?;
-    desk.open_out("c")?;
-    desk.open_out("out")?;
-    assert_eq!(rt; desk.open_out("x."), Err(DeskFault::Failed));
-    let line = line_of(alloc, desk.write_fault())?;
-    assert_eq!(rt; line.as_str(), "x.: is an input of this run");
-    assert_eq!(rt; desk.open_out("./y"), Err(DeskFault::Failed));
-    let line = line_of(alloc, desk.write_fault())?;
-    assert_eq!(rt; line.as_str(), "./y: is an output of this run already");
+    open_some(&mut desk)?;
+    assert!(rt; is_refused(&mut desk, alloc, "x.", "x.: is an input of this run")?);
+    assert!(rt;
+        is_refused(
+            &mut desk,
+            alloc,
+            "./y",
+            "./y: is an output of this run already"
+        )?
+    );
     Ok(())
+}
+
+// Whether octets are written to a name, read from it, and the file isn't opened as an output again.
+fn is_written<D: Desk>(desk: &mut D, name: &str, again: &str) -> Result<bool, DeskFault> {
+    let output = desk.open_out(name)?;
+    if desk.write(output, b"octets") != Ok(6) {
+        return Ok(false);
+    }
+    let input = desk.open_in(name)?;
+    let mut into = [0u8; 8];
+    Ok(
+        desk.read(input, &mut into) == Ok(6)
+            && into == *b"octets\0\0"
+            && desk.read(input, &mut into) == Ok(0)
+            && desk.open_out(again) == Err(DeskFault::Failed),
+    )
 }
 
 #[test]
@@ -143,19 +206,7 @@ fn real_files(rt: HostRuntime) -> Result<(), Fail> {
     let name = "ioam_desk_real_files.bin";
     fs::write(&rt, name, b"what it held before")?;
     let mut desk = HostDesk::new(&rt, rt.alloc());
-    let output = desk.open_out(name)?;
-    assert_eq!(rt; desk.write(output, b"octets"), Ok(6));
-
-    let input = desk.open_in(name)?;
-    let mut into = [0u8; 8];
-    assert_eq!(rt; desk.read(input, &mut into), Ok(6));
-    assert_eq!(rt; into, *b"octets\0\0");
-    assert_eq!(rt; desk.read(input, &mut into), Ok(0));
-
-    assert_eq!(rt;
-        desk.open_out("./ioam_desk_real_files.bin"),
-        Err(DeskFault::Failed)
-    );
+    assert!(rt; is_written(&mut desk, name, "./ioam_desk_real_files.bin")?);
     fs::remove_file(&rt, name)?;
     Ok(())
 }

@@ -17,10 +17,10 @@ fn gather(outputs: &mut [Output], at: usize, octets: &[u8]) -> Result<(), AllocE
     Ok(())
 }
 
-// More than a full piece.
-fn large(alloc: Global) -> Result<Vec<u8>, AllocError> {
+// So many octets.
+fn large(alloc: Global, size: usize) -> Result<Vec<u8>, AllocError> {
     let mut octets = Vec::new(alloc);
-    octets.resize(GATHER + 4_464, 5)?;
+    octets.resize(size, 5)?;
     Ok(octets)
 }
 
@@ -32,7 +32,8 @@ fn full_pieces_go_out(rt: HostRuntime) -> Result<(), Fail> {
     assert_eq!(rt; first_repeat(&names), None);
     let mut opened = open_outputs(rt.alloc(), &mut desk, &names)?;
     let outputs = opened.as_mut_slice();
-    let large = large(rt.alloc())?;
+    // More than a full piece.
+    let large = large(rt.alloc(), GATHER + 4_464)?;
     gather(outputs, 0, &large)?;
     gather(outputs, 1, b"0123456789")?;
     flush_full(&mut desk, outputs)?;
