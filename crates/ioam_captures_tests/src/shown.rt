@@ -6,7 +6,7 @@ use std::alloc::Global;
 use std::test::Fail;
 
 // Shows the records that are there.
-fn show(alloc: Global, reader: &mut Reader, text: &mut String) -> Result<(), Fail> {
+pub(crate) fn show(alloc: Global, reader: &mut Reader, text: &mut String) -> Result<(), Fail> {
     for _ in 0..100 {
         let step = reader.next();
         if matches!(step, Step::More | Step::Bad { .. } | Step::NoMemory) {

@@ -1,8 +1,9 @@
 //! Blocks with a fault, other orders, resolutions and sections.
-use crate::ng::shown::outline;
+use crate::ng::shown::is_outlined;
 use crate::ng::written::HEAD;
 use ioam_ng::{NgLook, NgReader, NgStep};
 use ioam_pcap::CapFault;
+use std::alloc::Global;
 use std::test::Fail;
 
 // A section, little-endian, with an interface of IPv6 whose times are in 2^-10 seconds, ten seconds
@@ -23,50 +24,67 @@ const SECTIONS: [u8; 180] = [
     0, 0, 0, 0, 0, 0, 0, 0, 0, 0, 0, 0x20,
 ];
 
+const SECTIONS_READ: &str =
+    "Packet { link: Raw, packet: Packet { time: 500000000, original: 2, octets: [7, 8] } }
+Face { found: 0 } at 148
+";
+
 #[test]
 fn reads_sections_of_either_order(rt: HostRuntime) -> Result<(), Fail> {
     for size in [1, 7, 65_536] {
-        let text = outline(rt.alloc(), &SECTIONS, size)?;
-        assert_eq!(rt;
-            text.as_str(),
-            "Packet { link: Raw, packet: Packet { time: 500000000, original: 2, octets: [7, 8] } }\nFace { found: 0 } at 148\n"
-        );
+        assert!(rt; is_outlined(rt.alloc(), &SECTIONS, size, SECTIONS_READ)?);
     }
     Ok(())
+}
+
+// Whether a reader that was fed the sections tells of the packet, and behind it of the fault.
+fn tells_of_sections(reader: &mut NgReader) -> Result<bool, Fail> {
+    let packet = NgLook::Packet { time: 500_000_000 };
+    let fault = CapFault::Face { found: 0 };
+    Ok(
+        reader.pass()? == packet
+            && matches!(reader.next(), NgStep::Packet { .. })
+            && reader.pass()? == NgLook::Bad { at: 148, fault },
+    )
 }
 
 #[test]
 fn tells_what_is_due(rt: HostRuntime) -> Result<(), Fail> {
     let mut reader = NgReader::new(rt.alloc())?;
-    let nothing = reader.pass()?;
-    assert_eq!(rt; nothing, NgLook::More);
+    assert!(rt; reader.pass()? == NgLook::More);
     reader.feed(&SECTIONS)?;
-    let packet = reader.pass()?;
-    assert_eq!(rt; packet, NgLook::Packet { time: 500_000_000 });
-    assert!(rt; matches!(reader.next(), NgStep::Packet { .. }));
-    let bad = reader.pass()?;
-    let fault = CapFault::Face { found: 0 };
-    assert_eq!(rt; bad, NgLook::Bad { at: 148, fault });
+    assert!(rt; tells_of_sections(&mut reader)?);
     Ok(())
 }
 
 // A block of type 3 behind a head.
 const KIND: [u8; 16] = [0, 0, 0, 3, 0, 0, 0, 16, 0, 0, 0, 0, 0, 0, 0, 16];
 
+// Whether a capture with such a block behind its head is shown so, and where it is cut before its last
+// octet.
+fn is_faulty(alloc: Global, capture: &[u8]) -> Result<bool, Fail> {
+    for size in [1, 7, 65_536] {
+        if !is_outlined(alloc, capture, size, "Kind { found: 3 } at 92\n")? {
+            return Ok(false);
+        }
+    }
+    let cut = capture.get(..107).ok_or("too short")?;
+    is_outlined(alloc, cut, 7, "Short { have: 15 } at 92\n")
+}
+
 #[test]
 fn says_the_fault_of_a_block(rt: HostRuntime) -> Result<(), Fail> {
     let mut capture = Vec::new(rt.alloc());
     capture.extend_from_slice(&HEAD)?;
     capture.extend_from_slice(&KIND)?;
-    for size in [1, 7, 65_536] {
-        let text = outline(rt.alloc(), &capture, size)?;
-        assert_eq!(rt; text.as_str(), "Kind { found: 3 } at 92\n");
-    }
-    let cut = outline(rt.alloc(), &capture[..107], 7)?;
-    assert_eq!(rt; cut.as_str(), "Short { have: 15 } at 92\n");
-    let magic = outline(rt.alloc(), &KIND[..4], 1)?;
-    assert_eq!(rt; magic.as_str(), "Magic { found: 3 } at 0\n");
-    let begun = outline(rt.alloc(), &HEAD[..4], 1)?;
-    assert_eq!(rt; begun.as_str(), "Short { have: 4 } at 0\n");
+    assert!(rt; is_faulty(rt.alloc(), &capture)?);
+    Ok(())
+}
+
+#[test]
+fn says_the_fault_of_four_octets(rt: HostRuntime) -> Result<(), Fail> {
+    let alloc = rt.alloc();
+    assert!(rt; is_outlined(alloc, &KIND[..4], 1, "Magic { found: 3 } at 0\n")?);
+    assert!(rt; is_outlined(alloc, &HEAD[..4], 1, "Short { have: 4 } at 0\n")?);
     Ok(())
 }

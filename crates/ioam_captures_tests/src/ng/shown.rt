@@ -18,7 +18,7 @@ fn show(alloc: Global, reader: &mut NgReader, text: &mut String) -> Result<(), F
 }
 
 // Shows a capture that is fed in pieces of one size, and how it ends.
-pub(crate) fn outline(alloc: Global, capture: &[u8], size: usize) -> Result<String, Fail>
+fn outline(alloc: Global, capture: &[u8], size: usize) -> Result<String, Fail>
     requires { 0 < size }
 {
     let mut reader = NgReader::new(alloc)?;
@@ -40,4 +40,17 @@ pub(crate) fn outline(alloc: Global, capture: &[u8], size: usize) -> Result<Stri
         Some((at, fault)) => text.push_str(&format!(in alloc; "{fault:?} at {at}\n")?)?,
     }
     Ok(text)
+}
+
+// Whether a capture is shown so, in pieces of one size.
+pub(crate) fn is_outlined(
+    alloc: Global,
+    capture: &[u8],
+    size: usize,
+    wanted: &str,
+) -> Result<bool, Fail>
+    requires { 0 < size }
+{
+    let text = outline(alloc, capture, size)?;
+    Ok(text.as_str() == wanted)
 }

@@ -1,7 +1,8 @@
 ghost use Rattle.std.specs.Prelude.{◌≤◌};
 
+use crate::shown::show;
 use crate::stream::captures::TWO;
-use ioam_captures::{Due, Reader, Step};
+use ioam_captures::Due;
 use ioam_desk::{DeskFault, MemoryDesk};
 use ioam_feed::open_feed;
 use std::alloc::Global;
@@ -12,18 +13,6 @@ const TWO_TAKEN: &str =
 Packet { link: Raw, packet: Packet { time: 3000000000, original: 256, octets: [] } }
 whole
 ";
-
-// Shows the packets that are there.
-fn show(alloc: Global, reader: &mut Reader, text: &mut String) -> Result<(), Fail> {
-    for _ in 0..100 {
-        let step = reader.next();
-        if !matches!(step, Step::Packet { .. }) {
-            return Ok(());
-        }
-        text.push_str(&format!(in alloc; "{step:?}\n")?)?;
-    }
-    Err(Fail::from("too many packets"))
-}
 
 // Shows a capture that a desk hands out in pieces of one size, of which the call `failing` fails.
 fn outline(alloc: Global, most: usize, failing: u64) -> Result<String, Fail>

@@ -26,25 +26,42 @@ const BLOCKS: [u8; 84] = [
     40, 0, 0, 0, 0, 0, 0, 36,
 ];
 
-// What comes first of `TWO` and another capture, which are handed out in pieces of 7 octets.
-fn first_turn(alloc: Global, other: &[u8], failing: u64) -> Result<String, Fail> {
-    let mut desk = MemoryDesk::new(alloc)?;
-    desk.put_file("two", &TWO)?;
-    desk.put_file("other", other)?;
-    desk.set_piece(7);
-    desk.fail_call(failing)?;
-    let mut names = Vec::new(alloc);
-    names.push(Name::new(alloc, "two")?)?;
-    names.push(Name::new(alloc, "other")?)?;
-    let mut merge = match open_merge(alloc, &mut desk, &names) {
+// What comes first of the captures of these names.
+fn turn_of(alloc: Global, desk: &mut MemoryDesk, names: &[Name]) -> Result<String, Fail> {
+    let mut merge = match open_merge(alloc, desk, names) {
         Ok(merge) => merge,
         Err(_) => return Err(Fail::from("not opened")),
     };
-    match merge.turn(&mut desk) {
+    match merge.turn(desk) {
         Ok(turn) => Ok(format!(in alloc; "{turn:?}")?),
         Err(DeskFault::Failed) => Ok(format!(in alloc; "failed")?),
         Err(DeskFault::NoMemory) => Err(Fail::from("no memory")),
     }
+}
+
+// Puts both captures on a desk, which hands them out in pieces of 7 octets.
+fn put_both(desk: &mut MemoryDesk, other: &[u8], failing: u64) -> Result<(), Fail> {
+    desk.put_file("two", &TWO)?;
+    desk.put_file("other", other)?;
+    desk.set_piece(7);
+    desk.fail_call(failing)?;
+    Ok(())
+}
+
+// Their names.
+fn both_names(alloc: Global, names: &mut Vec<Name>) -> Result<(), Fail> {
+    names.push(Name::new(alloc, "two")?)?;
+    names.push(Name::new(alloc, "other")?)?;
+    Ok(())
+}
+
+// What comes first of `TWO` and another capture, which are handed out in pieces of 7 octets.
+fn first_turn(alloc: Global, other: &[u8], failing: u64) -> Result<String, Fail> {
+    let mut desk = MemoryDesk::new(alloc)?;
+    put_both(&mut desk, other, failing)?;
+    let mut names = Vec::new(alloc);
+    both_names(alloc, &mut names)?;
+    turn_of(alloc, &mut desk, &names)
 }
 
 #[test]
