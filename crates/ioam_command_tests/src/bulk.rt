@@ -1,6 +1,7 @@
 //! What `bulk` writes.
 ghost use Rattle.std.specs.Prelude.{◌≤◌};
 
+use crate::desks::{holds, is_said};
 use ioam_answer::line;
 use ioam_base::memory::NoMemory;
 use ioam_batch::OpenGate;
@@ -21,42 +22,52 @@ node n5 seen 1 dropped 0
 flow f enclosed 0 exited 0 direct 0 next 0 gaps 0 missed 0 late 0 repeats 0
 ";
 
-// The answer of a run, and the desk behind it.
+// The line of a run over a desk.
 fn run(
     rt: &(impl Threads + Sync),
     alloc: Global,
     seed: u64,
     count: u32,
     workers: u32,
-    mut desk: MemoryDesk,
-) -> Result<(String, MemoryDesk), NoMemory>
+    desk: &mut MemoryDesk,
+) -> Result<String, NoMemory>
     requires count { (1 ≤ count) × (count ≤ 1000000) }
     requires staffed { (1 ≤ workers) × (workers ≤ 64) }
 {
     let texts: [&str; 5] = ["bulk", "SEED", "COUNT", "WORKERS", "report.txt"];
     let names = words(alloc, &texts)?;
-    let outcome = run_bulk(
-        rt, alloc, seed, count, workers, &names, &mut desk, &OpenGate,
-    );
-    Ok((line(alloc, &outcome)?, desk))
+    let outcome = run_bulk(rt, alloc, seed, count, workers, &names, desk, &OpenGate);
+    line(alloc, &outcome)
 }
 
 // The desk behind a run of 3,000 arrivals, some twelve batches.
 fn large(rt: &(impl Threads + Sync), alloc: Global, workers: u32) -> Result<MemoryDesk, NoMemory>
     requires { (1 ≤ workers) × (workers ≤ 64) }
 {
-    let desk = MemoryDesk::new(alloc)?;
-    let (_, desk) = run(rt, alloc, 1, 3_000, workers, desk)?;
+    let mut desk = MemoryDesk::new(alloc)?;
+    run(rt, alloc, 1, 3_000, workers, &mut desk)?;
     Ok(desk)
+}
+
+// Whether such a run leaves this report.
+fn reports(
+    rt: &(impl Threads + Sync),
+    alloc: Global,
+    workers: u32,
+    report: &[u8],
+) -> Result<bool, NoMemory>
+    requires { (1 ≤ workers) × (workers ≤ 64) }
+{
+    let desk = large(rt, alloc, workers)?;
+    Ok(holds(&desk, "report.txt", report))
 }
 
 #[test]
 fn two_arrivals(rt: HostRuntime) {
     let alloc = rt.alloc();
-    let desk = MemoryDesk::new(alloc).expect(&rt, "memory");
-    let (line, desk) = run(&rt, alloc, 0, 2, 1, desk).expect(&rt, "memory");
-    assert_eq!(rt; line.as_str(), "done");
-    assert!(rt; desk.file("report.txt") == Some(TWO.as_bytes()));
+    let mut desk = MemoryDesk::new(alloc).expect(&rt, "memory");
+    assert!(rt; is_said(run(&rt, alloc, 0, 2, 1, &mut desk), "done"));
+    assert!(rt; holds(&desk, "report.txt", TWO.as_bytes()));
 }
 
 // Workers change nothing, and two runs write the same.
@@ -64,14 +75,11 @@ fn two_arrivals(rt: HostRuntime) {
 fn workers_write_the_same(rt: HostRuntime) {
     let alloc = rt.alloc();
     let one = large(&rt, alloc, 1).expect(&rt, "memory");
-    let again = large(&rt, alloc, 1).expect(&rt, "memory");
-    let three = large(&rt, alloc, 3).expect(&rt, "memory");
-    let most = large(&rt, alloc, 64).expect(&rt, "memory");
     let found = one.file("report.txt").expect(&rt, "a report");
     assert!(rt; found.starts_with(b"packets 3000 left "));
-    assert!(rt; again.file("report.txt") == Some(found));
-    assert!(rt; three.file("report.txt") == Some(found));
-    assert!(rt; most.file("report.txt") == Some(found));
+    assert!(rt; reports(&rt, alloc, 1, found).expect(&rt, "memory"));
+    assert!(rt; reports(&rt, alloc, 3, found).expect(&rt, "memory"));
+    assert!(rt; reports(&rt, alloc, 64, found).expect(&rt, "memory"));
 }
 
 // The first call opens REPORT, and the second writes it.
@@ -81,8 +89,7 @@ fn a_call_that_fails(rt: HostRuntime) {
     for call in [1u64, 2] {
         let mut desk = MemoryDesk::new(alloc).expect(&rt, "memory");
         desk.fail_call(call).expect(&rt, "memory");
-        let (line, desk) = run(&rt, alloc, 0, 2, 1, desk).expect(&rt, "memory");
-        assert_eq!(rt; line.as_str(), "write fault");
+        assert!(rt; is_said(run(&rt, alloc, 0, 2, 1, &mut desk), "write fault"));
         assert!(rt; is_front(desk.file("report.txt"), TWO.as_bytes()));
     }
 }

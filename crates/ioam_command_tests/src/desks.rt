@@ -6,6 +6,19 @@ use ioam_run::{run_filter, run_save};
 use ioam_test_rows::digits::words;
 use std::alloc::Global;
 
+// Whether an answer's line is there and is this text. The proof of a test that owns a line takes long.
+pub(crate) fn is_said(line: Result<String, NoMemory>, said: &str) -> bool {
+    match line {
+        Ok(line) => line.as_str() == said,
+        Err(_) => false,
+    }
+}
+
+// Whether a file of a desk is there and holds these octets.
+pub(crate) fn holds(desk: &MemoryDesk, name: &str, octets: &[u8]) -> bool {
+    desk.file(name) == Some(octets)
+}
+
 // A desk with this capture, of which the numbered call fails.
 pub(crate) fn desk_with(alloc: Global, input: &[u8], call: u64) -> Result<MemoryDesk, NoMemory> {
     let mut desk = MemoryDesk::new(alloc)?;

@@ -1,7 +1,8 @@
 //! A saved capture answers as the one that it was saved of.
-use crate::desks::{desk_with, filtered, saved};
-use crate::paths::listed;
-use crate::show::line_of;
+use crate::desks::{desk_with, saved};
+use crate::filter::filters;
+use crate::paths::lists;
+use crate::show::shows;
 use ioam_base::memory::NoMemory;
 use ioam_test_rows::capture_rows::{listings, runs};
 use ioam_test_rows::digits::octets;
@@ -22,14 +23,8 @@ fn filter_of_a_saved_capture(rt: HostRuntime) {
     let alloc = rt.alloc();
     for run in runs() {
         let input = saved_of(alloc, run.input).expect(&rt, "memory");
-        let output = octets(alloc, run.output).expect(&rt, "octets");
         for piece in PIECES {
-            let mut desk = desk_with(alloc, &input, 0).expect(&rt, "memory");
-            desk.set_piece(piece.max(1));
-            let line = filtered(alloc, &mut desk).expect(&rt, "memory");
-            assert_eq!(rt; line.as_str(), "done");
-            assert!(rt; desk.file("out.pcap") == Some(output.as_slice()));
-            assert!(rt; desk.file("report.txt") == Some(run.report.as_bytes()));
+            assert!(rt; filters(alloc, run, &input, piece, "done").expect(&rt, "memory"));
         }
     }
 }
@@ -40,11 +35,7 @@ fn paths_of_a_saved_capture(rt: HostRuntime) {
     for row in listings() {
         let input = saved_of(alloc, row.input).expect(&rt, "memory");
         for piece in PIECES {
-            let mut desk = desk_with(alloc, &input, 0).expect(&rt, "memory");
-            desk.set_piece(piece.max(1));
-            let line = listed(alloc, &mut desk).expect(&rt, "memory");
-            assert_eq!(rt; line.as_str(), "done");
-            assert!(rt; desk.file("report.txt") == Some(row.report.as_bytes()));
+            assert!(rt; lists(alloc, &input, piece, row.report).expect(&rt, "memory"));
         }
     }
 }
@@ -55,11 +46,7 @@ fn show_of_a_saved_capture(rt: HostRuntime) {
     for row in shown() {
         let input = saved_of(alloc, row.input).expect(&rt, "memory");
         for piece in PIECES {
-            let mut desk = desk_with(alloc, &input, 0).expect(&rt, "memory");
-            desk.set_piece(piece.max(1));
-            let line = line_of(alloc, &mut desk).expect(&rt, "memory");
-            assert_eq!(rt; line.as_str(), "done");
-            assert!(rt; desk.file("report.txt") == Some(row.report.as_bytes()));
+            assert!(rt; shows(alloc, &input, piece, row.report).expect(&rt, "memory"));
         }
     }
 }

@@ -1,5 +1,5 @@
 //! What `show` decodes, and runs of it of which one call fails.
-use crate::desks::desk_with;
+use crate::desks::{desk_with, holds, is_said};
 use ioam_answer::line;
 use ioam_base::memory::NoMemory;
 use ioam_desk::MemoryDesk;
@@ -9,9 +9,21 @@ use ioam_test_rows::show_rows::{ReportFront, failing_show, report_fronts, shown}
 use std::alloc::Global;
 
 // The line of a run of `show` over these files.
-pub(crate) fn line_of(alloc: Global, desk: &mut MemoryDesk) -> Result<String, NoMemory> {
+fn line_of(alloc: Global, desk: &mut MemoryDesk) -> Result<String, NoMemory> {
     let show = words(alloc, &["show", "in.pcap", "report.txt"])?;
     line(alloc, &run_show(alloc, &show, desk))
+}
+
+// Whether `show` over this capture, handed out in such pieces, leaves this report.
+pub(crate) fn shows(
+    alloc: Global,
+    input: &[u8],
+    piece: usize,
+    report: &str,
+) -> Result<bool, NoMemory> {
+    let mut desk = desk_with(alloc, input, 0)?;
+    desk.set_piece(piece.max(1));
+    Ok(is_said(line_of(alloc, &mut desk), "done") && holds(&desk, "report.txt", report.as_bytes()))
 }
 
 #[test]
@@ -19,14 +31,8 @@ fn show_decodes_options(rt: HostRuntime) {
     let alloc = rt.alloc();
     for row in shown() {
         let input = octets(alloc, row.input).expect(&rt, "octets");
-        let mut desk = desk_with(alloc, &input, 0).expect(&rt, "memory");
-        let line = line_of(alloc, &mut desk).expect(&rt, "memory");
-        assert_eq!(rt; line.as_str(), "done");
-        assert!(rt;
-            desk.file("report.txt") == Some(row.report.as_bytes()),
-            "at {}",
-            row.report
-        );
+        let shows = shows(alloc, &input, usize::MAX, row.report).expect(&rt, "memory");
+        assert!(rt; shows, "at {}", row.report);
     }
 }
 

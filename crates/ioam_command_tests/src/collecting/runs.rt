@@ -1,8 +1,21 @@
 //! What `collect` writes.
 use crate::collecting::rows::{collected, desk_with, numbers, paths_report, rows, visits};
+use crate::desks::{holds, is_said};
 use ioam_base::memory::NoMemory;
 use ioam_test_rows::digits::octets;
 use std::alloc::Global;
+
+// Whether `collect` over these records, handed out in such pieces, says this and leaves this report.
+fn collects(
+    alloc: Global,
+    exports: &[u8],
+    piece: usize,
+    said: &str,
+    report: &str,
+) -> Result<bool, NoMemory> {
+    let mut desk = desk_with(alloc, exports, piece, 0)?;
+    Ok(is_said(collected(alloc, &mut desk), said) && holds(&desk, "report.txt", report.as_bytes()))
+}
 
 #[test]
 fn collect_regroups_records(rt: HostRuntime) {
@@ -10,14 +23,10 @@ fn collect_regroups_records(rt: HostRuntime) {
     for row in rows() {
         let exports = octets(alloc, row.exports).expect(&rt, "octets");
         for piece in [65536usize, 1] {
-            let mut desk = desk_with(alloc, &exports, piece, 0).expect(&rt, "memory");
-            let line = collected(alloc, &mut desk).expect(&rt, "memory");
-            assert_eq!(rt; line.as_str(), row.line);
-            assert!(rt;
-                desk.file("report.txt") == Some(row.report.as_bytes()),
-                "at {}",
-                row.line
+            let collects = collects(alloc, &exports, piece, row.line, row.report).expect(
+                &rt, "memory",
             );
+            assert!(rt; collects, "at {} in pieces of {piece}", row.line);
         }
     }
 }
@@ -39,8 +48,5 @@ fn reversed_and_doubled(alloc: Global) -> Result<Vec<u8>, NoMemory> {
 fn records_in_any_order_are_paths(rt: HostRuntime) {
     let alloc = rt.alloc();
     let exports = reversed_and_doubled(alloc).expect(&rt, "memory");
-    let mut desk = desk_with(alloc, &exports, 7, 0).expect(&rt, "memory");
-    let line = collected(alloc, &mut desk).expect(&rt, "memory");
-    assert_eq!(rt; line.as_str(), "done");
-    assert!(rt; desk.file("report.txt") == Some(paths_report().as_bytes()));
+    assert!(rt; collects(alloc, &exports, 7, "done", paths_report()).expect(&rt, "memory"));
 }

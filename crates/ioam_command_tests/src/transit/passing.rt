@@ -1,4 +1,5 @@
 //! What `node` writes.
+use crate::desks::{holds, is_said};
 use crate::transit::rows::{Passed, rows, sectioned};
 use ioam_answer::line;
 use ioam_base::memory::NoMemory;
@@ -45,12 +46,11 @@ fn passes(alloc: Global, row: &Passed, piece: usize) -> Result<bool, NoMemory> {
     let exports = octets(alloc, row.exports)?;
     let mut desk = desk_for(alloc, row)?;
     desk.set_piece(piece.max(1));
-    let line = node_line(alloc, row.node, row.link, &mut desk)?;
     Ok(
-        line.as_str() == "done"
-            && desk.file("out.pcap") == Some(sent.as_slice())
-            && desk.file("report.txt") == Some(row.report.as_bytes())
-            && desk.file("exports") == Some(exports.as_slice()),
+        is_said(node_line(alloc, row.node, row.link, &mut desk), "done")
+            && holds(&desk, "out.pcap", &sent)
+            && holds(&desk, "report.txt", row.report.as_bytes())
+            && holds(&desk, "exports", &exports),
     )
 }
 
@@ -87,8 +87,7 @@ fn a_refused_place_is_named(rt: HostRuntime) {
             ("b", "bc", "names bc"),
         ] {
             let mut desk = desk_for(alloc, row).expect(&rt, "memory");
-            let line = node_line(alloc, node, link, &mut desk).expect(&rt, "memory");
-            assert_eq!(rt; line.as_str(), said);
+            assert!(rt; is_said(node_line(alloc, node, link, &mut desk), said));
             assert!(rt; desk.file("out.pcap").is_none() && desk.file("report.txt").is_none());
         }
     }
