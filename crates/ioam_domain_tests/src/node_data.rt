@@ -15,41 +15,40 @@ const DATA: &str = "data = [
 ";
 
 // Each row is a fault, and behind ` # ` node data of two nodes of which it is the first.
-pub(crate) const OF_DATA: &[&str] = &[
-    "table: DataTable, place: 1, field: OtherKey, why: Unknown # data = [{ colour = 1 }]",
-    "table: DataTable, place: 1, field: OtherKey, why: Unknown # data = [{ node = 1, namespaces = [7] }]",
-    "table: DataTable, place: 1, field: NodeKey, why: Missing # data = [{ namespace = -1 }]",
-    "table: DataTable, place: 1, field: NodeKey, why: Kind # data = [{ node = 1 }]",
-    "table: DataTable, place: 1, field: NodeKey, why: Range # data = [{ node = \"a b\" }]",
-    "table: DataTable, place: 1, field: NodeKey, why: Unknown # data = [{ node = \"c\", namespace = 7 }, { node = \"c\", namespace = 7 }]",
-    "table: DataTable, place: 1, field: NamespaceKey, why: Missing # data = [{ node = \"a\", short = -1 }]",
-    "table: DataTable, place: 1, field: NamespaceKey, why: Kind # data = [{ node = \"a\", namespace = [7] }]",
-    "table: DataTable, place: 1, field: NamespaceKey, why: Range # data = [{ node = \"a\", namespace = -1 }]",
-    "table: DataTable, place: 1, field: NamespaceKey, why: Range # data = [{ node = \"a\", namespace = 65536 }]",
-    "table: DataTable, place: 2, field: NamespaceKey, why: Twice # data = [{ node = \"a\", namespace = 7 }, { node = \"a\", namespace = 7, short = -1 }]",
-    "table: DataTable, place: 4, field: NamespaceKey, why: Twice # data = [{ node = \"a\", namespace = 7 }, { node = \"b\", namespace = 7 }, { node = \"a\", namespace = 8 }, { node = \"b\", namespace = 7 }]",
-    "table: DataTable, place: 1, field: ShortKey, why: Kind # data = [{ node = \"a\", namespace = 7, short = \"1\" }]",
-    "table: DataTable, place: 1, field: ShortKey, why: Range # data = [{ node = \"a\", namespace = 7, short = -1 }]",
-    "table: DataTable, place: 1, field: ShortKey, why: Range # data = [{ node = \"a\", namespace = 7, short = 4294967296 }]",
-    "table: DataTable, place: 1, field: WideKey, why: Kind # data = [{ node = \"a\", namespace = 7, wide = 1.0 }]",
-    "table: DataTable, place: 1, field: WideKey, why: Range # data = [{ node = \"a\", namespace = 7, wide = -1 }]",
-    "table: Top, place: 0, field: NoKey, why: Text # data = [{ node = \"a\", namespace = 7, wide = 9223372036854775808 }]",
-    "table: DataTable, place: 1, field: SchemaKey, why: Missing # data = [{ node = \"a\", namespace = 7, snapshot = \"\" }]",
-    "table: DataTable, place: 1, field: SchemaKey, why: Kind # data = [{ node = \"a\", namespace = 7, schema = \"1\" }]",
-    "table: DataTable, place: 1, field: SchemaKey, why: Range # data = [{ node = \"a\", namespace = 7, schema = -1 }]",
-    "table: DataTable, place: 1, field: SchemaKey, why: Range # data = [{ node = \"a\", namespace = 7, schema = 16777215, snapshot = \"\" }]",
-    "table: DataTable, place: 1, field: SnapshotKey, why: Missing # data = [{ node = \"a\", namespace = 7, schema = 1 }]",
-    "table: DataTable, place: 1, field: SnapshotKey, why: Kind # data = [{ node = \"a\", namespace = 7, schema = 1, snapshot = 1 }]",
-    "table: DataTable, place: 1, field: SnapshotKey, why: Range # data = [{ node = \"a\", namespace = 7, schema = 1, snapshot = \"0123456789ab\" }]",
-    "table: DataTable, place: 1, field: SnapshotKey, why: Range # data = [{ node = \"a\", namespace = 7, schema = 1, snapshot = \"0123456g\" }]",
-    "table: DataTable, place: 1, field: SnapshotKey, why: Range # data = [{ node = \"a\", namespace = 7, schema = 1, snapshot = \"0x012345\" }]",
-    "table: DataTable, place: 1, field: SchemaKey, why: Missing # data = [{ node = \"a\", namespace = 7, snapshot = 1 }]",
-    "table: DataTable, place: 1, field: ShortKey, why: Range # data = [{ wide = -1, short = -1, namespace = 7, node = \"a\" }]",
-    "table: DataTable, place: 1, field: ShortKey, why: Range # data = [{ node = \"a\", namespace = 7, short = -1, wide = -1 }]",
-    "table: DataTable, place: 1, field: WideKey, why: Range # data = [{ node = \"a\", namespace = 7, wide = -1 }, { node = \"c\" }]",
-    "table: DataTable, place: 1, field: NodeKey, why: Unknown # data = [{ node = \"c\" }, { node = \"a\", namespace = 7, wide = -1 }]",
-    "table: DataTable, place: 1, field: NodeKey, why: Missing # flow = 1\ndata = [{}]",
-];
+pub(crate) const OF_DATA: &str =
+    "table: DataTable, place: 1, field: OtherKey, why: Unknown # data = [{ colour = 1 }]|\
+table: DataTable, place: 1, field: OtherKey, why: Unknown # data = [{ node = 1, namespaces = [7] }]|\
+table: DataTable, place: 1, field: NodeKey, why: Missing # data = [{ namespace = -1 }]|\
+table: DataTable, place: 1, field: NodeKey, why: Kind # data = [{ node = 1 }]|\
+table: DataTable, place: 1, field: NodeKey, why: Range # data = [{ node = \"a b\" }]|\
+table: DataTable, place: 1, field: NodeKey, why: Unknown # data = [{ node = \"c\", namespace = 7 }, { node = \"c\", namespace = 7 }]|\
+table: DataTable, place: 1, field: NamespaceKey, why: Missing # data = [{ node = \"a\", short = -1 }]|\
+table: DataTable, place: 1, field: NamespaceKey, why: Kind # data = [{ node = \"a\", namespace = [7] }]|\
+table: DataTable, place: 1, field: NamespaceKey, why: Range # data = [{ node = \"a\", namespace = -1 }]|\
+table: DataTable, place: 1, field: NamespaceKey, why: Range # data = [{ node = \"a\", namespace = 65536 }]|\
+table: DataTable, place: 2, field: NamespaceKey, why: Twice # data = [{ node = \"a\", namespace = 7 }, { node = \"a\", namespace = 7, short = -1 }]|\
+table: DataTable, place: 4, field: NamespaceKey, why: Twice # data = [{ node = \"a\", namespace = 7 }, { node = \"b\", namespace = 7 }, { node = \"a\", namespace = 8 }, { node = \"b\", namespace = 7 }]|\
+table: DataTable, place: 1, field: ShortKey, why: Kind # data = [{ node = \"a\", namespace = 7, short = \"1\" }]|\
+table: DataTable, place: 1, field: ShortKey, why: Range # data = [{ node = \"a\", namespace = 7, short = -1 }]|\
+table: DataTable, place: 1, field: ShortKey, why: Range # data = [{ node = \"a\", namespace = 7, short = 4294967296 }]|\
+table: DataTable, place: 1, field: WideKey, why: Kind # data = [{ node = \"a\", namespace = 7, wide = 1.0 }]|\
+table: DataTable, place: 1, field: WideKey, why: Range # data = [{ node = \"a\", namespace = 7, wide = -1 }]|\
+table: Top, place: 0, field: NoKey, why: Text # data = [{ node = \"a\", namespace = 7, wide = 9223372036854775808 }]|\
+table: DataTable, place: 1, field: SchemaKey, why: Missing # data = [{ node = \"a\", namespace = 7, snapshot = \"\" }]|\
+table: DataTable, place: 1, field: SchemaKey, why: Kind # data = [{ node = \"a\", namespace = 7, schema = \"1\" }]|\
+table: DataTable, place: 1, field: SchemaKey, why: Range # data = [{ node = \"a\", namespace = 7, schema = -1 }]|\
+table: DataTable, place: 1, field: SchemaKey, why: Range # data = [{ node = \"a\", namespace = 7, schema = 16777215, snapshot = \"\" }]|\
+table: DataTable, place: 1, field: SnapshotKey, why: Missing # data = [{ node = \"a\", namespace = 7, schema = 1 }]|\
+table: DataTable, place: 1, field: SnapshotKey, why: Kind # data = [{ node = \"a\", namespace = 7, schema = 1, snapshot = 1 }]|\
+table: DataTable, place: 1, field: SnapshotKey, why: Range # data = [{ node = \"a\", namespace = 7, schema = 1, snapshot = \"0123456789ab\" }]|\
+table: DataTable, place: 1, field: SnapshotKey, why: Range # data = [{ node = \"a\", namespace = 7, schema = 1, snapshot = \"0123456g\" }]|\
+table: DataTable, place: 1, field: SnapshotKey, why: Range # data = [{ node = \"a\", namespace = 7, schema = 1, snapshot = \"0x012345\" }]|\
+table: DataTable, place: 1, field: SchemaKey, why: Missing # data = [{ node = \"a\", namespace = 7, snapshot = 1 }]|\
+table: DataTable, place: 1, field: ShortKey, why: Range # data = [{ wide = -1, short = -1, namespace = 7, node = \"a\" }]|\
+table: DataTable, place: 1, field: ShortKey, why: Range # data = [{ node = \"a\", namespace = 7, short = -1, wide = -1 }]|\
+table: DataTable, place: 1, field: WideKey, why: Range # data = [{ node = \"a\", namespace = 7, wide = -1 }, { node = \"c\" }]|\
+table: DataTable, place: 1, field: NodeKey, why: Unknown # data = [{ node = \"c\" }, { node = \"a\", namespace = 7, wide = -1 }]|\
+table: DataTable, place: 1, field: NodeKey, why: Missing # flow = 1\ndata = [{}]";
 
 // A table as far as its first entry, its most entries, the fault of an entry without keys, and that
 // of one entry too many.
