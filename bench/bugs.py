@@ -7,8 +7,9 @@ bugs/CRATE.txt lists them: `@@ FILE` (below the crate's src/), the lines that st
 their place with `+`. A function is proved by its own contract and those of what it calls, so each round puts
 one bug into each of many functions of a copy of the repository and checks the crate once; the next round takes
 what is left, up to ROUNDS. A line for each bug: `refused`, `beside` (the function wasn't judged, since one that
-it calls has a bug too), or `PROVED`, which is either no bug, as the function means the same, or a contract that
-says too little. Ends with status 1 where one was proved.
+it calls has a bug too), `unknown` (a constant, which is of no function: try it by hand), or `PROVED`, which is
+either no bug, as the function means the same, or a contract that says too little. Ends with status 1 where one
+was proved.
 """
 import os
 import re
@@ -89,7 +90,9 @@ def checked(crate, bugs, top):
 def judged(bug, said):
     """What became of a bug: of several functions of its name in its file, the one that says most against it."""
     module = bug.file[:-3].replace("/", "::")
-    words = [why for path, why in said if path.split("::")[-1] == bug.function and f"::{module}::" in f"{path}::"]
+    named = [(path, why) for path, why in said if path.split("::")[-1] == bug.function]
+    # what stands in an impl block bears the name of its type's module
+    words = [why for path, why in named if f"::{module}::" in f"{path}::"] or [why for _, why in named]
     if not words:
         return "unknown"
     if all(it.startswith("proved") for it in words):

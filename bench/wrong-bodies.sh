@@ -1,7 +1,8 @@
 #!/usr/bin/env bash
 # Tries the wrong bodies that the gate leaves out, those in crates/NAME/wrong-bodies/, beside those in
 # crates/NAME/must-fail/, which the gate tries too. The prover must refuse each; the script ends with status 1
-# where one is still proved or can't be tried. A crate's first one takes its whole proof, each further one seconds:
+# where one is still proved or can't be tried. Where `rt check` has proved the crate, each takes 20 to 40 seconds, else
+# the first takes the crate's whole proof:
 #     bench/wrong-bodies.sh [NAME..]
 # With no names all crates that have some are tried, which takes an hour or more on four cores.
 set -eu
