@@ -2,14 +2,15 @@
 use Rattle.std.proofs.Common.{◌≡◌, ◌≤◌, ℕ, List, [], ◌++◌, length, codes, map, ap, sym, ◌∙◌, subst, arith}
 use Rattle.std.specs.List.{All}
 use Rattle.toml.specs.Data.{Members, get_member}
-use Rattle.ioam_topo.specs.declared.nodes.Nodes.{Nodes}
-use Rattle.ioam_topo.specs.declared.data_rows.DataRows.{DataRows}
-use Rattle.ioam_topo.specs.declared.flows.Flows.{Flows}
+use Rattle.ioam_tables.specs.declared.nodes.Nodes.{Nodes}
+use Rattle.ioam_tables.specs.declared.data_rows.DataRows.{DataRows}
+use Rattle.ioam_tables.specs.declared.flows.Flows.{Flows}
 use Rattle.ioam_topo.specs.declared.parts.NodeData.{NodeData}
-use Rattle.ioam_topo.specs.declared.routes.Parts.{Parts}
-use Rattle.ioam_topo.specs.declared.domain.Telemetry.{Telemetry}
+use Rattle.ioam_tables.specs.declared.routes.Parts.{Parts}
+use Rattle.ioam_tables.specs.declared.telemetry.Telemetry.{Telemetry}
 use Rattle.ioam_topo.specs.Keyed.{name_of_node}
-use Rattle.ioam_topo.specs.Kept.{IsOfNode, DataKept}
+use Rattle.ioam_topo.specs.Kept.{IsOfNode}
+use Rattle.ioam_tables.specs.Kept.{DataKept}
 use Rattle.ioam_topo.proofs.KeyLaws.{length_map}
 use Rattle.ioam_entries.specs.declared.fault.DomainFault.{DomainFault}
 use Rattle.ioam_entries.specs.declared.words.Table.TheVariants.{DataTable}

@@ -1,8 +1,8 @@
 -- What is known of the node data and the flows of a file.
 use Rattle.std.specs.Prelude.{map}
 use Rattle.toml.specs.Data.{Members}
-use Rattle.ioam_topo.specs.declared.nodes.Nodes.{Nodes}
-use Rattle.ioam_topo.specs.declared.domain.Telemetry.{Telemetry}
+use Rattle.ioam_tables.specs.declared.nodes.Nodes.{Nodes}
+use Rattle.ioam_tables.specs.declared.telemetry.Telemetry.{Telemetry}
 use Rattle.ioam_entries.specs.Goods.{list_of}
 use Rattle.ioam_telemetry.specs.DataTable.{data_entries}
 use Rattle.ioam_telemetry.specs.DataRead.{HoldsData}

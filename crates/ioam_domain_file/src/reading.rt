@@ -14,7 +14,8 @@ use ioam_base::memory::NoMemory;
 use ioam_entries::{DomainFault, DomainRefused, Field, Table, Why};
 use ioam_places::{read_parts, read_routes};
 use ioam_telemetry::{read_data, read_flows};
-use ioam_topo::{Domain, Nodes, Telemetry};
+use ioam_tables::{Nodes, Telemetry, domain_of};
+use ioam_topo::Domain;
 use std::alloc::Global;
 
 /// The most octets of a domain file: 1 MiB.
@@ -53,7 +54,7 @@ fn read_tables(alloc: Global, top: &toml::Table) -> Result<Domain, DomainRefused
     let parts = read_parts(alloc, top, MOST_TAPS)?;
     let routes = read_routes(alloc, top, &parts)?;
     let telemetry = read_telemetry(alloc, top, &parts.nodes)?;
-    match Domain::new(alloc, own.format, own.packets, parts, routes, telemetry) {
+    match domain_of(alloc, own.format, own.packets, parts, routes, telemetry) {
         Ok(domain) => Ok(domain),
         Err(NoMemory) => Err(DomainRefused::NoMemory),
     }

@@ -10,10 +10,10 @@ use Rattle.ioam_topo.specs.declared.parts.Node.{Node}
 use Rattle.ioam_topo.specs.declared.parts.Link.{Link}
 use Rattle.ioam_topo.specs.declared.parts.Port.{Port}
 use Rattle.ioam_topo.specs.declared.parts.Route.{Route}
-use Rattle.ioam_topo.specs.declared.nodes.Nodes.{Nodes}
-use Rattle.ioam_topo.specs.declared.links.Links.{Links}
-use Rattle.ioam_topo.specs.declared.ports.Ports.{Ports}
-use Rattle.ioam_topo.specs.declared.routes.Routes.{Routes}
+use Rattle.ioam_tables.specs.declared.nodes.Nodes.{Nodes}
+use Rattle.ioam_tables.specs.declared.links.Links.{Links}
+use Rattle.ioam_tables.specs.declared.ports.Ports.{Ports}
+use Rattle.ioam_tables.specs.declared.routes.Routes.{Routes}
 use Rattle.ioam_topo.specs.Keyed.{name_of_node, id_of_node, address_of_node, name_of_link, name_of_port, key_of_route, is_route}
 use Rattle.ioam_generated.specs.Bulk.{bulk_nodes, bulk_links, bulk_ports, bulk_routes, node_of, link_of, port_of, route_of, to_last, to_east, by_link}
 use Rattle.ioam_generated.specs.Held.{HoldsNodes, HoldsLinks, HoldsPorts, HoldsRoutes}

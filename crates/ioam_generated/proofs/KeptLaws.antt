@@ -8,17 +8,18 @@ use Rattle.ioam_data.specs.Kind.{has, undefined, is_entry_type}
 use Rattle.ioam_topo.specs.Types.{is_direct_type, is_edge_type}
 use Rattle.ioam_topo.specs.declared.parts.Node.{Node}
 use Rattle.ioam_topo.specs.declared.traces.FlowTrace.{FlowTrace}
-use Rattle.ioam_topo.specs.declared.routes.Parts.{Parts}
-use Rattle.ioam_topo.specs.declared.routes.Routes.{Routes}
-use Rattle.ioam_topo.specs.declared.data_rows.DataRows.{DataRows}
-use Rattle.ioam_topo.specs.declared.flows.Flows.{Flows}
+use Rattle.ioam_tables.specs.declared.routes.Parts.{Parts}
+use Rattle.ioam_tables.specs.declared.routes.Routes.{Routes}
+use Rattle.ioam_tables.specs.declared.data_rows.DataRows.{DataRows}
+use Rattle.ioam_tables.specs.declared.flows.Flows.{Flows}
 use Rattle.ioam_topo.specs.Keyed.{name_of_node, id_of_node, address_of_node, name_of_link, name_of_port, taps_of, key_of_route, key_of_data}
-use Rattle.ioam_topo.specs.Flows.{name_of_flow, ids_of_flows}
+use Rattle.ioam_tables.specs.Flows.{name_of_flow, ids_of_flows}
 use Rattle.ioam_topo.specs.Forward.{bits_of}
 use Rattle.ioam_topo.specs.Traces.{IsFlowTrace}
 use Rattle.ioam_topo.specs.Known.{is_known, IsKnownAtEnds}
 use Rattle.ioam_topo.specs.Sound.{IsNode, IsLink, IsFlow}
-use Rattle.ioam_topo.specs.Kept.{JoinsNodes, JoinsEnds, IsAtNode, IsOfNode, IsRouteOf, NodesKept, LinksKept, PortsKept, RoutesKept, DataKept, FlowsKept}
+use Rattle.ioam_topo.specs.Kept.{JoinsNodes, JoinsEnds, IsAtNode, IsOfNode, IsRouteOf}
+use Rattle.ioam_tables.specs.Kept.{NodesKept, LinksKept, PortsKept, RoutesKept, DataKept, FlowsKept}
 use Rattle.ioam_generated.specs.Bulk.{link_of, bulk_nodes, bulk_links, bulk_ports, bulk_routes, bulk_flow}
 use Rattle.ioam_generated.specs.Held.{HoldsRoutes, HoldsFlows, AreParts}
 

@@ -5,14 +5,14 @@ use Rattle.ioam_topo.specs.declared.parts.Link.{Link}
 use Rattle.ioam_topo.specs.declared.parts.Port.{Port}
 use Rattle.ioam_topo.specs.declared.parts.Route.{Route}
 use Rattle.ioam_topo.specs.declared.parts.Flow.{Flow}
-use Rattle.ioam_topo.specs.declared.nodes.Nodes.{Nodes}
-use Rattle.ioam_topo.specs.declared.links.Links.{Links}
-use Rattle.ioam_topo.specs.declared.ports.Ports.{Ports}
-use Rattle.ioam_topo.specs.declared.routes.Parts.{Parts}
-use Rattle.ioam_topo.specs.declared.routes.Routes.{Routes}
-use Rattle.ioam_topo.specs.declared.flows.Flows.{Flows}
+use Rattle.ioam_tables.specs.declared.nodes.Nodes.{Nodes}
+use Rattle.ioam_tables.specs.declared.links.Links.{Links}
+use Rattle.ioam_tables.specs.declared.ports.Ports.{Ports}
+use Rattle.ioam_tables.specs.declared.routes.Parts.{Parts}
+use Rattle.ioam_tables.specs.declared.routes.Routes.{Routes}
+use Rattle.ioam_tables.specs.declared.flows.Flows.{Flows}
 use Rattle.ioam_topo.specs.Keyed.{name_of_node, id_of_node, address_of_node, name_of_link, name_of_port, key_of_route}
-use Rattle.ioam_topo.specs.Flows.{name_of_flow, ids_of_flows}
+use Rattle.ioam_tables.specs.Flows.{name_of_flow, ids_of_flows}
 use Rattle.ioam_generated.specs.Bulk.{bulk_nodes, bulk_links, bulk_ports}
 
 pub record HoldsNodes (list : List Node) (nodes : Nodes) : Type 0 where

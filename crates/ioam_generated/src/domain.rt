@@ -5,7 +5,8 @@ use crate::flow::bulk_flows;
 use crate::places::bulk_parts;
 use crate::routing::bulk_routes;
 use ioam_base::memory::NoMemory;
-use ioam_topo::{DataRows, Domain, Format, Telemetry};
+use ioam_tables::{DataRows, Telemetry, domain_of};
+use ioam_topo::{Domain, Format};
 use std::alloc::Global;
 
 /// The domain of a generated run of at most so many packets, 1 to 1,000,000: the nodes n1 to n5 in a
@@ -19,5 +20,5 @@ pub fn bulk_domain(alloc: Global, packets: u32) -> Result<Domain, NoMemory>
     let routes = bulk_routes(alloc)?;
     let flows = bulk_flows(alloc)?;
     let telemetry = Telemetry::new(DataRows::new(alloc), flows);
-    Domain::new(alloc, Format::Ptp, packets, parts, routes, telemetry)
+    domain_of(alloc, Format::Ptp, packets, parts, routes, telemetry)
 }

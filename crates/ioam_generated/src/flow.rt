@@ -5,7 +5,8 @@ ghost use Rattle.ioam_generated.specs.Held.{HoldsFlows};
 use ioam_base::memory::NoMemory;
 use ioam_data::{Namespace, TraceType};
 use ioam_desk::Name;
-use ioam_topo::{Flow, Flows, NodeId, Prefix, Traces};
+use ioam_tables::Flows;
+use ioam_topo::{Flow, NodeId, Prefix, Traces};
 use std::alloc::Global;
 
 // The flow f from n1 to n5.

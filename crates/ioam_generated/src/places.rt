@@ -5,7 +5,8 @@ ghost use Rattle.ioam_generated.specs.Held.{HoldsNodes, HoldsLinks, HoldsPorts, 
 use ioam_base::memory::NoMemory;
 use ioam_data::Namespace;
 use ioam_desk::Name;
-use ioam_topo::{Link, Links, Node, NodeId, Nodes, Parts, Port, Ports, Spaces};
+use ioam_tables::{Links, Nodes, Parts, Ports};
+use ioam_topo::{Link, Node, NodeId, Port, Spaces};
 use std::alloc::Global;
 
 // 2001:db8::

@@ -3,7 +3,8 @@ ghost use Rattle.ioam_generated.specs.Bulk.{route_of, to_last, to_east, bulk_rou
 ghost use Rattle.ioam_generated.specs.Held.{HoldsRoutes};
 
 use ioam_base::memory::NoMemory;
-use ioam_topo::{LinkId, NodeId, PortId, Prefix, Route, Routes, Way};
+use ioam_tables::Routes;
+use ioam_topo::{LinkId, NodeId, PortId, Prefix, Route, Way};
 use std::alloc::Global;
 
 // 2001:db8::5/128

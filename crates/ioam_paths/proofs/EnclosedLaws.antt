@@ -61,7 +61,7 @@ module _ (domain : Domain) (readings : List (List Sample)) (earlier : List Itine
       let t = flow_trip domain other flow drawn plans.header.target plans.header.hops packet in
       let inside : Inside = record { flow = other; numbers = drawn; exit = flow.exit; target = plans.header.target; hops = plans.header.hops - 1 } in
       let same = carried_is it.visits inside id numbers (sym some ∙ plans.journey.carried) in
-      let sound : IsFlow flow = all_get IsFlow (flows domain) other.0 flow (recursion_from_All IsFlow (flows domain) domain.telemetry.sound_flows) found in
+      let sound : IsFlow flow = all_get IsFlow (flows domain) other.0 flow (recursion_from_All IsFlow (flows domain) domain.sound_flows.sound) found in
       let room = few domain t.target t.size inside (Enter (start_of from time plans.header.hops) (entry_of flow limit)) it.visits plans.journey.last
       sound.hops_some plans.journey.reaches in
       record {

@@ -49,7 +49,7 @@ module _ (domain : Domain) where
   link_by_route node target link None is found = absurd (cc found)
   link_by_route node target link (Some route) is found =
       let inside : IsWayFrom (links domain) (ports domain) node route.way =
-      way_inside (length (nodes domain)) (links domain) (ports domain) (routes domain) node target route domain.routes_kept.routed is in
+      way_inside (length (nodes domain)) (links domain) (ports domain) (routes domain) node target route domain.sound_routes.routed is in
       let same : route.way ≡ way.Link link = ap (λ (w : Option Way). unwrap_or w route.way) found in
       let P : Way → Type 0 = IsWayFrom (links domain) (ports domain) node in
       (subst P same inside).0

@@ -114,7 +114,7 @@ module _ (domain : Domain) (readings : List (List Sample)) (frames : List Frame)
 
   one_flow : (key : Key) (a b : FlowId) (m n : Numbers) (f g : Flow) → Says key a m f → Says key b n g → a ≡ b
   one_flow key a b m n f g x y =
-      let same : a.0 ≡ b.0 = domain.flows_apart.ids a.0 b.0 f g key.flow x.found y.found x.id_is y.id_is (x.namespace ∙ sym y.namespace) in
+      let same : a.0 ≡ b.0 = domain.sound_flows.apart.ids a.0 b.0 f g key.flow x.found y.found x.id_is y.id_is (x.namespace ∙ sym y.namespace) in
       let P : ℕ → FlowId = λ k. record { 0 = k } in
       ap P same
 

@@ -70,7 +70,7 @@ crossed_held (x ∷ xs) (suc at) time hops spot sound faces is = crossed_held xs
 module _ (domain : Domain) (faces : HasFaces domain) where
   across_held : (link : LinkId) (time hops : ℕ) (spot : Spot) → IsSpot time spot → IsSpot (time + 1000000000) (crossed spot hops (slice_get (links domain) link.0))
   across_held link time hops spot is =
-      crossed_held (links domain) link.0 time hops spot (recursion_from_All IsLink (links domain) domain.links_kept.sound)
+      crossed_held (links domain) link.0 time hops spot (recursion_from_All IsLink (links domain) domain.sound_links.sound)
       (recursion_from_All (λ (l : Link). l.in_id < 4294967296) (links domain) faces.links_below) is
 
   led_held : (w : Way) (time hops : ℕ) (spot : Spot) → IsSpot time spot → IsHeld (time + 1000000000) (led domain spot hops w)

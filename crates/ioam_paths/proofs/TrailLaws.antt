@@ -95,7 +95,7 @@ module _ (domain : Domain) (readings : List (List Sample)) where
 
   view-id : (place : Place) (time hops space : ℕ) → (view_of domain readings place time hops space).id < 72057594037927936
   unfolding view_of
-  view-id place time hops space = id_below (nodes domain) place.node.0 (recursion_from_All IsNode (nodes domain) domain.nodes_kept.sound)
+  view-id place time hops space = id_below (nodes domain) place.node.0 (recursion_from_All IsNode (nodes domain) domain.sound_nodes.sound)
 
   kept_type : (kind : ℕ) → has kind 7 ≡ false → export_type kind ≡ kind
   kept_type kind off = ap (λ (b : Bool). cond b (kind - 65536) kind) off

@@ -9,7 +9,7 @@ use Rattle.ioam_toml.specs.declared.why.Why.{Why}
 use Rattle.ioam_toml.specs.declared.why.Why.TheVariants.{TooMany}
 use Rattle.ioam_toml.specs.Reads.{◌▷◌, maybe, needed}
 use Rattle.ioam_toml.specs.Texts.{file_name}
-use Rattle.ioam_topo.specs.declared.links.Links.{Links}
+use Rattle.ioam_tables.specs.declared.links.Links.{Links}
 use Rattle.ioam_topo.specs.declared.parts.Link.{Link}
 use Rattle.ioam_entries.specs.Goods.{goods, kept}
 use Rattle.ioam_places.specs.LinkTable.{link_keys, link_faults, link_of, link_name, link_end, tap_there, tap_count, few_taps}

@@ -4,7 +4,7 @@ use Rattle.toml.specs.Data.{Members}
 use Rattle.ioam_data.specs.declared.namespace.Namespace.{Namespace}
 use Rattle.ioam_toml.specs.declared.why.Why.{Why}
 use Rattle.ioam_toml.specs.Reads.{◌▷◌}
-use Rattle.ioam_topo.specs.declared.nodes.Nodes.{Nodes}
+use Rattle.ioam_tables.specs.declared.nodes.Nodes.{Nodes}
 use Rattle.ioam_topo.specs.declared.parts.Node.{Node}
 use Rattle.ioam_places.specs.NodeTable.{node_keys, node_faults, node_of, node_name, node_id, node_address, node_spaces, node_list}
 use Rattle.ioam_places.specs.NodeRead.{HoldsNodes, IsNewNode}

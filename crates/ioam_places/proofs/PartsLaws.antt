@@ -1,11 +1,11 @@
 -- Laws of the tables of places, behind nodes that were read.
 use Rattle.std.proofs.Common.{◌≡◌, ℕ, List, codes, map, ap, ◌∙◌, subst}
 use Rattle.toml.specs.Data.{Members, get_member}
-use Rattle.ioam_topo.specs.declared.nodes.Nodes.{Nodes}
-use Rattle.ioam_topo.specs.declared.links.Links.{Links}
-use Rattle.ioam_topo.specs.declared.ports.Ports.{Ports}
-use Rattle.ioam_topo.specs.declared.routes.Parts.{Parts}
-use Rattle.ioam_topo.specs.declared.routes.Routes.{Routes}
+use Rattle.ioam_tables.specs.declared.nodes.Nodes.{Nodes}
+use Rattle.ioam_tables.specs.declared.links.Links.{Links}
+use Rattle.ioam_tables.specs.declared.ports.Ports.{Ports}
+use Rattle.ioam_tables.specs.declared.routes.Parts.{Parts}
+use Rattle.ioam_tables.specs.declared.routes.Routes.{Routes}
 use Rattle.ioam_entries.specs.declared.words.Table.TheVariants.{LinkTable, PortTable, RouteTable}
 use Rattle.ioam_entries.specs.Faults.{table_faults}
 use Rattle.ioam_places.specs.NodeRead.{HoldsNodes}

@@ -1,7 +1,7 @@
 -- Laws of the ports that are collected.
 use Rattle.std.proofs.Common.{◌≡◌, ℕ, ◌+◌, List, [], ◌∷◌, ◌++◌, length, map, ap, ◌∙◌}
 use Rattle.toml.specs.Data.{Members}
-use Rattle.ioam_topo.specs.declared.ports.Ports.{Ports}
+use Rattle.ioam_tables.specs.declared.ports.Ports.{Ports}
 use Rattle.ioam_topo.specs.declared.parts.Port.{Port}
 use Rattle.ioam_places.specs.PortTable.{port_keys, port_faults, port_of, port_name, port_end}
 use Rattle.ioam_places.specs.PortRead.{HoldsPorts, IsNewPort, node_of_port}

@@ -5,8 +5,8 @@ use Rattle.ioam_toml.specs.declared.why.Why.{Why}
 use Rattle.ioam_toml.specs.declared.why.Why.TheVariants.{Twice}
 use Rattle.ioam_toml.specs.Reads.{◌▷◌}
 use Rattle.ioam_topo.specs.declared.prefix.Prefix.{Prefix}
-use Rattle.ioam_topo.specs.declared.routes.Parts.{Parts}
-use Rattle.ioam_topo.specs.declared.routes.Routes.{Routes}
+use Rattle.ioam_tables.specs.declared.routes.Parts.{Parts}
+use Rattle.ioam_tables.specs.declared.routes.Routes.{Routes}
 use Rattle.ioam_topo.specs.declared.parts.Route.{Route}
 use Rattle.ioam_places.specs.RouteRead.{keys_behind, faults_behind, route_behind, key_behind, HoldsRoutes, IsNewRoute}
 use Rattle.ioam_topo.specs.Keyed.{key_of_route, is_route}

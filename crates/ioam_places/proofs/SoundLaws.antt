@@ -5,10 +5,11 @@ use Rattle.toml.specs.Data.{Members, get_member}
 use Rattle.ioam_topo.specs.declared.parts.Link.{Link}
 use Rattle.ioam_topo.specs.declared.parts.Port.{Port}
 use Rattle.ioam_topo.specs.declared.parts.Route.{Route}
-use Rattle.ioam_topo.specs.declared.routes.Parts.{Parts}
-use Rattle.ioam_topo.specs.declared.routes.Routes.{Routes}
+use Rattle.ioam_tables.specs.declared.routes.Parts.{Parts}
+use Rattle.ioam_tables.specs.declared.routes.Routes.{Routes}
 use Rattle.ioam_topo.specs.Keyed.{name_of_node, name_of_link, name_of_port}
-use Rattle.ioam_topo.specs.Kept.{JoinsNodes, IsAtNode, IsRouteOf, NodesKept, LinksKept, PortsKept, RoutesKept}
+use Rattle.ioam_topo.specs.Kept.{JoinsNodes, IsAtNode, IsRouteOf}
+use Rattle.ioam_tables.specs.Kept.{NodesKept, LinksKept, PortsKept, RoutesKept}
 use Rattle.ioam_topo.proofs.KeyLaws.{length_map}
 use Rattle.ioam_entries.specs.declared.words.Table.TheVariants.{NodeTable, LinkTable, PortTable, RouteTable}
 use Rattle.ioam_entries.specs.declared.fault.DomainFault.{DomainFault}

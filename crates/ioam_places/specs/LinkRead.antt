@@ -5,7 +5,7 @@ use Rattle.std.specs.Str.{bytes_eq}
 use Rattle.toml.specs.Data.{Members}
 use Rattle.ioam_toml.specs.declared.why.Why.{Why}
 use Rattle.ioam_topo.specs.declared.parts.Link.{Link}
-use Rattle.ioam_topo.specs.declared.links.Links.{Links}
+use Rattle.ioam_tables.specs.declared.links.Links.{Links}
 use Rattle.ioam_entries.specs.Goods.{goods, kept}
 use Rattle.ioam_places.specs.LinkTable.{link_of, link_name, link_end, tap_there, tap_count}
 use Rattle.ioam_topo.specs.Keyed.{name_of_link, count_of, taps_of}

@@ -4,7 +4,7 @@ use Rattle.std.specs.List.{list_any}
 use Rattle.std.specs.Str.{bytes_eq}
 use Rattle.toml.specs.Data.{Members}
 use Rattle.ioam_topo.specs.declared.parts.Node.{Node}
-use Rattle.ioam_topo.specs.declared.nodes.Nodes.{Nodes}
+use Rattle.ioam_tables.specs.declared.nodes.Nodes.{Nodes}
 use Rattle.ioam_entries.specs.Goods.{goods, list_of}
 use Rattle.ioam_places.specs.NodeTable.{node_of, node_name, node_id, node_address, node_list}
 use Rattle.ioam_topo.specs.Keyed.{name_of_node, id_of_node, address_of_node}

@@ -5,7 +5,7 @@ use Rattle.std.specs.Str.{bytes_eq}
 use Rattle.toml.specs.Data.{Members}
 use Rattle.ioam_toml.specs.declared.why.Why.{Why}
 use Rattle.ioam_topo.specs.declared.parts.Port.{Port}
-use Rattle.ioam_topo.specs.declared.ports.Ports.{Ports}
+use Rattle.ioam_tables.specs.declared.ports.Ports.{Ports}
 use Rattle.ioam_entries.specs.Goods.{goods}
 use Rattle.ioam_places.specs.PortTable.{port_of, port_name, port_end}
 use Rattle.ioam_topo.specs.Keyed.{name_of_port}

@@ -5,8 +5,8 @@ use Rattle.toml.specs.Data.{Members}
 use Rattle.ioam_toml.specs.declared.why.Why.{Why}
 use Rattle.ioam_topo.specs.declared.prefix.Prefix.{Prefix}
 use Rattle.ioam_topo.specs.declared.parts.Route.{Route}
-use Rattle.ioam_topo.specs.declared.routes.Parts.{Parts}
-use Rattle.ioam_topo.specs.declared.routes.Routes.{Routes}
+use Rattle.ioam_tables.specs.declared.routes.Parts.{Parts}
+use Rattle.ioam_tables.specs.declared.routes.Routes.{Routes}
 use Rattle.ioam_entries.specs.declared.fault.DomainFault.{DomainFault}
 use Rattle.ioam_entries.specs.Goods.{goods}
 use Rattle.ioam_topo.specs.Forward.{bits_of}

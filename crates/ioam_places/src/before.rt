@@ -1,4 +1,4 @@
-use ioam_topo::{Nodes, Parts};
+use ioam_tables::{Nodes, Parts};
 
 /// What the entries of the table `node` refer to.
 #[derive(Clone, Copy)]

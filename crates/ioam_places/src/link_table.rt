@@ -16,7 +16,8 @@ use ioam_entries::{
     Collects, DomainRefused, Field, Spot, Table, known, known_other, new_name, number32, own_keys,
 };
 use ioam_toml::{Why, maybe_file_name};
-use ioam_topo::{Link, Links, NodeId, Nodes};
+use ioam_tables::{Links, Nodes};
+use ioam_topo::{Link, NodeId};
 use std::alloc::Global;
 
 // The ends of a link.

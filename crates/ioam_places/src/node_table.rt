@@ -10,7 +10,8 @@ use crate::before::Nothing;
 use ioam_desk::Name;
 use ioam_entries::{Collects, DomainRefused, Field, Spot, Table, new_name, own_keys};
 use ioam_toml::{Why, address, namespaces, number};
-use ioam_topo::{Node, Nodes};
+use ioam_tables::Nodes;
+use ioam_topo::Node;
 use std::alloc::Global;
 
 const ID_MOST: u64 = 72_057_594_037_927_935;

@@ -11,7 +11,8 @@ use ioam_entries::{
     Collects, DomainRefused, Field, Spot, Table, known, new_name, number32, own_keys,
 };
 use ioam_toml::{file_name, maybe_file_name};
-use ioam_topo::{NodeId, Nodes, Port, Ports};
+use ioam_tables::{Nodes, Ports};
+use ioam_topo::{NodeId, Port};
 use std::alloc::Global;
 
 // The port of an entry, with its name.

@@ -5,7 +5,7 @@ use Rattle.toml.specs.Data.{Members}
 use Rattle.ioam_toml.specs.declared.why.Why.{Why}
 use Rattle.ioam_toml.specs.declared.why.Why.TheVariants.{Twice}
 use Rattle.ioam_toml.specs.Reads.{◌▷◌}
-use Rattle.ioam_topo.specs.declared.data_rows.DataRows.{DataRows}
+use Rattle.ioam_tables.specs.declared.data_rows.DataRows.{DataRows}
 use Rattle.ioam_topo.specs.declared.parts.NodeData.{NodeData}
 use Rattle.ioam_topo.specs.Keyed.{is_pair, key_of_data}
 use Rattle.ioam_telemetry.specs.Apart.{fresh_with}

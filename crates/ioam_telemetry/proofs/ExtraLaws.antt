@@ -13,12 +13,12 @@ use Rattle.ioam_toml.specs.declared.why.Why.TheVariants.{Range, Twice, TooMany, 
 use Rattle.ioam_toml.specs.Reads.{◌▷◌, needed}
 use Rattle.ioam_toml.specs.Numbers.{number}
 use Rattle.ioam_toml.specs.Texts.{name}
-use Rattle.ioam_topo.specs.declared.nodes.Nodes.{Nodes}
+use Rattle.ioam_tables.specs.declared.nodes.Nodes.{Nodes}
 use Rattle.ioam_topo.specs.declared.parts.Node.{Node}
 use Rattle.ioam_topo.specs.declared.parts.Flow.{Flow}
-use Rattle.ioam_topo.specs.declared.flows.Flows.{Flows}
+use Rattle.ioam_tables.specs.declared.flows.Flows.{Flows}
 use Rattle.ioam_topo.specs.declared.traces.FlowTrace.{FlowTrace}
-use Rattle.ioam_topo.specs.Flows.{with_trace}
+use Rattle.ioam_tables.specs.Flows.{with_trace}
 use Rattle.ioam_topo.specs.Keyed.{is_pair}
 use Rattle.ioam_topo.specs.Kept.{JoinsEnds}
 use Rattle.ioam_topo.specs.Known.{is_known, IsKnownAtEnds}

@@ -7,7 +7,7 @@ use Rattle.ioam_data.specs.declared.namespace.Namespace.{Namespace}
 use Rattle.ioam_toml.specs.declared.why.Why.{Why}
 use Rattle.ioam_toml.specs.Reads.{◌▷◌, needed, maybe}
 use Rattle.ioam_toml.specs.Pairs.{beside}
-use Rattle.ioam_topo.specs.declared.flows.Flows.{Flows}
+use Rattle.ioam_tables.specs.declared.flows.Flows.{Flows}
 use Rattle.ioam_topo.specs.declared.parts.Flow.{Flow}
 use Rattle.ioam_telemetry.specs.declared.flow_parts.Selection.{Selection}
 use Rattle.ioam_telemetry.specs.declared.flow_parts.Outer.{Outer}
@@ -16,7 +16,7 @@ use Rattle.ioam_telemetry.specs.declared.flow_parts.Exporting.{Exporting}
 use Rattle.ioam_entries.specs.declared.fault.DomainFault.{DomainFault}
 use Rattle.ioam_entries.specs.Goods.{goods, kept}
 use Rattle.ioam_topo.specs.Keyed.{pairs_of}
-use Rattle.ioam_topo.specs.Flows.{name_of_flow, ids_of_flows}
+use Rattle.ioam_tables.specs.Flows.{name_of_flow, ids_of_flows}
 use Rattle.ioam_topo.proofs.KeyLaws.{map_append}
 use Rattle.std.proofs.lemmas.List.{append_assoc, append-nil}
 use Rattle.ioam_telemetry.specs.FlowTable.{FlowLook, flow_keys, flow_faults, flow_of, flow_with, flow_name, flow_look, flow_key, id_key}

@@ -2,12 +2,13 @@
 use Rattle.std.proofs.Common.{◌≡◌, ◌≤◌, ℕ, List, [], ◌++◌, map, length, codes, refl, ap, sym, subst, ◌∙◌, Result, arith}
 use Rattle.std.specs.List.{All}
 use Rattle.toml.specs.Data.{Members, get_member}
-use Rattle.ioam_topo.specs.declared.nodes.Nodes.{Nodes}
+use Rattle.ioam_tables.specs.declared.nodes.Nodes.{Nodes}
 use Rattle.ioam_topo.specs.declared.parts.Flow.{Flow}
-use Rattle.ioam_topo.specs.declared.flows.Flows.{Flows}
+use Rattle.ioam_tables.specs.declared.flows.Flows.{Flows}
 use Rattle.ioam_topo.specs.declared.traces.FlowTrace.{FlowTrace}
-use Rattle.ioam_topo.specs.Flows.{name_of_flow, ids_of_flows}
-use Rattle.ioam_topo.specs.Kept.{JoinsEnds, FlowsKept}
+use Rattle.ioam_tables.specs.Flows.{name_of_flow, ids_of_flows}
+use Rattle.ioam_topo.specs.Kept.{JoinsEnds}
+use Rattle.ioam_tables.specs.Kept.{FlowsKept}
 use Rattle.ioam_topo.specs.Known.{IsKnownAtEnds}
 use Rattle.ioam_topo.specs.Sound.{IsFlow}
 use Rattle.ioam_topo.proofs.KeyLaws.{length_map}

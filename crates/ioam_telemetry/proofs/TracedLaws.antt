@@ -8,7 +8,7 @@ use Rattle.std.proofs.lemmas.List.Quantifiers.{all_pairs_push}
 use Rattle.ioam_topo.specs.declared.parts.Flow.{Flow}
 use Rattle.ioam_topo.specs.declared.traces.FlowTrace.{FlowTrace}
 use Rattle.ioam_topo.specs.Keyed.{is_pair, pairs_of}
-use Rattle.ioam_topo.specs.Flows.{with_trace, name_of_flow, ids_of_flows}
+use Rattle.ioam_tables.specs.Flows.{with_trace, name_of_flow, ids_of_flows}
 use Rattle.ioam_topo.specs.Traces.{IsFlowTrace, AreOfOwnSpaces, own_traces}
 use Rattle.ioam_telemetry.specs.ExtraTable.{times, traces_at, with_traces, traced}
 use Rattle.ioam_telemetry.specs.ExtraRead.{place_of_extra, key_of_extra}

@@ -3,7 +3,7 @@ use Rattle.std.specs.Prelude.{◌≡◌, ℕ, false, List, map, Ok}
 use Rattle.std.specs.List.{list_any}
 use Rattle.toml.specs.Data.{Members}
 use Rattle.ioam_topo.specs.declared.parts.NodeData.{NodeData}
-use Rattle.ioam_topo.specs.declared.data_rows.DataRows.{DataRows}
+use Rattle.ioam_tables.specs.declared.data_rows.DataRows.{DataRows}
 use Rattle.ioam_entries.specs.Goods.{goods}
 use Rattle.ioam_topo.specs.Keyed.{is_pair, key_of_data}
 use Rattle.ioam_telemetry.specs.DataTable.{data_of, data_key}

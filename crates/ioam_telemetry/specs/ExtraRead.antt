@@ -5,10 +5,10 @@ use Rattle.toml.specs.Data.{Members}
 use Rattle.ioam_data.specs.Kind.{is_entry_type}
 use Rattle.ioam_data.specs.declared.namespace.Namespace.{Namespace}
 use Rattle.ioam_toml.specs.declared.why.Why.{Why}
-use Rattle.ioam_topo.specs.declared.nodes.Nodes.{Nodes}
+use Rattle.ioam_tables.specs.declared.nodes.Nodes.{Nodes}
 use Rattle.ioam_topo.specs.declared.parts.Node.{Node}
 use Rattle.ioam_topo.specs.declared.parts.Flow.{Flow}
-use Rattle.ioam_topo.specs.declared.flows.Flows.{Flows}
+use Rattle.ioam_tables.specs.declared.flows.Flows.{Flows}
 use Rattle.ioam_topo.specs.declared.traces.FlowTrace.{FlowTrace}
 use Rattle.ioam_topo.specs.Keyed.{is_pair}
 use Rattle.ioam_topo.specs.Known.{is_known, IsKnownAtEnds}

@@ -6,11 +6,11 @@ use Rattle.toml.specs.Data.{Members}
 use Rattle.ioam_data.specs.declared.namespace.Namespace.{Namespace}
 use Rattle.ioam_toml.specs.declared.why.Why.{Why}
 use Rattle.ioam_topo.specs.declared.parts.Flow.{Flow}
-use Rattle.ioam_topo.specs.declared.flows.Flows.{Flows}
+use Rattle.ioam_tables.specs.declared.flows.Flows.{Flows}
 use Rattle.ioam_telemetry.specs.declared.flow_parts.Exporting.{Exporting}
 use Rattle.ioam_entries.specs.Goods.{goods, kept}
 use Rattle.ioam_topo.specs.Keyed.{pairs_of, IsNewId}
-use Rattle.ioam_topo.specs.Flows.{name_of_flow, ids_of_flows}
+use Rattle.ioam_tables.specs.Flows.{name_of_flow, ids_of_flows}
 use Rattle.ioam_telemetry.specs.FlowParts.{exporting_of}
 use Rattle.ioam_telemetry.specs.FlowTable.{FlowLook, flow_of, flow_name, flow_look, flow_key, id_key}
 

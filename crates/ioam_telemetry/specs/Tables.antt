@@ -4,11 +4,11 @@ use Rattle.std.specs.List.{All}
 use Rattle.toml.specs.Data.{Members, get_member}
 use Rattle.ioam_data.specs.declared.namespace.Namespace.{Namespace}
 use Rattle.ioam_toml.specs.declared.why.Why.{Why}
-use Rattle.ioam_topo.specs.declared.nodes.Nodes.{Nodes}
+use Rattle.ioam_tables.specs.declared.nodes.Nodes.{Nodes}
 use Rattle.ioam_topo.specs.declared.parts.Flow.{Flow}
 use Rattle.ioam_topo.specs.declared.parts.NodeData.{NodeData}
-use Rattle.ioam_topo.specs.declared.flows.Flows.{Flows}
-use Rattle.ioam_topo.specs.Kept.{FlowsKept}
+use Rattle.ioam_tables.specs.declared.flows.Flows.{Flows}
+use Rattle.ioam_tables.specs.Kept.{FlowsKept}
 use Rattle.ioam_topo.specs.Sound.{IsFlow}
 use Rattle.ioam_entries.specs.declared.words.Table.TheVariants.{DataTable, FlowTable, ExtraTable}
 use Rattle.ioam_entries.specs.declared.fault.DomainFault.{DomainFault}

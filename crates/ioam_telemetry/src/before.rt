@@ -1,4 +1,4 @@
-use ioam_topo::{Flows, Nodes};
+use ioam_tables::{Flows, Nodes};
 
 /// What the entries of the tables `data` and `flow` refer to.
 #[derive(Clone, Copy)]

@@ -13,7 +13,8 @@ use ioam_entries::{
     Collects, DomainRefused, Field, Spot, Table, known, maybe_number32, number16, own_keys,
 };
 use ioam_toml::{Refused, Why, beside, has, maybe_number, maybe_octets};
-use ioam_topo::{DataRows, NodeData, NodeId, Nodes, Octets};
+use ioam_tables::{DataRows, Nodes};
+use ioam_topo::{NodeData, NodeId, Octets};
 use std::alloc::Global;
 
 const WIDE_MOST: u64 = 9_223_372_036_854_775_807;

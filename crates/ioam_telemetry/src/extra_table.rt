@@ -24,7 +24,8 @@ use ioam_entries::{
     Collects, DomainRefused, Field, Spot, Table, known, number8, number16, own_keys,
 };
 use ioam_toml::{Why, maybe_trace_type};
-use ioam_topo::{Flow, FlowTrace, Flows, Nodes};
+use ioam_tables::{Flows, Nodes};
+use ioam_topo::{Flow, FlowTrace};
 use std::alloc::Global;
 
 // The most extra traces of a flow.

@@ -20,7 +20,8 @@ use ioam_entries::{
     Collects, DomainRefused, Field, Spot, Table, maybe_number8, maybe_number32, new_name, own_keys,
 };
 use ioam_toml::{Why, beside, has};
-use ioam_topo::{Flow, Flows, NodeId, Nodes, Traces};
+use ioam_tables::{Flows, Nodes};
+use ioam_topo::{Flow, NodeId, Traces};
 use std::alloc::Global;
 
 // The flow of these parts.

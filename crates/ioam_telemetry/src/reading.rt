@@ -13,7 +13,7 @@ ghost use Rattle.ioam_telemetry.specs.Tables.{data_table_faults, flow_table_faul
 use crate::before::{AmongFlows, AmongNodes};
 use crate::extra_table::{Extras, with_extras};
 use ioam_entries::{DomainRefused, Table, read_entries};
-use ioam_topo::{DataRows, Flows, MOST_DATA, Nodes};
+use ioam_tables::{DataRows, Flows, MOST_DATA, Nodes};
 use std::alloc::Global;
 
 /// The node data of a file, whose nodes these are, or the first fault of their table. Where there

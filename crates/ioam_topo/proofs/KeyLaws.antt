@@ -1,7 +1,6 @@
--- Laws of names and of lists that are mapped.
-use Rattle.std.proofs.Common.{◌≡◌, ℕ, Bool, false, ◌||◌, cond, List, [], ◌∷◌, ◌++◌, map, String, Global, length, refl, ap, ◌∙◌, string_bytes}
+-- Laws of lists that are mapped.
+use Rattle.std.proofs.Common.{◌≡◌, Bool, ◌||◌, List, [], ◌∷◌, ◌++◌, map, length, refl, ap}
 use Rattle.std.specs.List.{list_any, position, position_or_len}
-use Rattle.std.specs.Str.{bytes_eq}
 
 pub any_map : {A B : Type 0} (p : B → Bool) (f : A → B) (xs : List A) → list_any (λ x. p (f x)) xs ≡ list_any p (map f xs)
 any_map p f [] = refl
@@ -21,14 +20,3 @@ position_map p f xs = rw (place_map p f xs, length_map f xs)
 pub map_append : {A B : Type 0} (f : A → B) (xs ys : List A) → map f (xs ++ ys) ≡ map f xs ++ map f ys
 map_append f [] ys = refl
 map_append f (x ∷ xs) ys = ap (λ zs. f x ∷ zs) (map_append f xs ys)
-
--- a name that isn't there is added behind the others
-pub added : (ks new : List (String Global)) (k : String Global) (name : List ℕ) → string_bytes k ≡ name
-    → list_any (bytes_eq name) (map string_bytes ks) ≡ false
-    → new ≡ cond (list_any (λ x. bytes_eq (string_bytes k) (string_bytes x)) ks) ks (ks ++ k ∷ [])
-    → map string_bytes new ≡ map string_bytes ks ++ name ∷ []
-added ks new k name is absent more =
-    let off : list_any (λ x. bytes_eq (string_bytes k) (string_bytes x)) ks ≡ false = any_map (bytes_eq (string_bytes k)) string_bytes ks
-    ∙ ap (λ n. list_any (bytes_eq n) (map string_bytes ks)) is ∙ absent in
-    let put : new ≡ ks ++ k ∷ [] = more ∙ ap (λ b. cond b ks (ks ++ k ∷ [])) off in
-    ap (map string_bytes) put ∙ map_append string_bytes ks (k ∷ []) ∙ ap (λ n. map string_bytes ks ++ n ∷ []) is

@@ -2,6 +2,6 @@ pub mod KeyLaws
 pub mod LongestLaws
 pub mod ForwardLaws
 pub mod FindingLaws
-pub mod ApartLaws
+pub mod PlacesLaws
 pub mod TracesLaws
 pub mod IndexLaws

@@ -1,8 +1,7 @@
 -- What no two of a domain's nodes, links, ports or flows share.
-use Rattle.std.specs.Prelude.{◌≡◌, ℕ, List, [], ◌∷◌, ◌++◌, Option, Some, slice_get}
+use Rattle.std.specs.Prelude.{◌≡◌, ℕ, List, Some, slice_get}
 use Rattle.ioam_topo.specs.declared.parts.Node.{Node}
 use Rattle.ioam_topo.specs.declared.parts.Flow.{Flow}
-use Rattle.ioam_topo.specs.Keyed.{pairs_of}
 
 -- no two have one key: where two keys are equal, the places are
 abbrev pub AreApart : {A K : Type 0} → (A → K) → List A → Type 0

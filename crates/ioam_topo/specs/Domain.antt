@@ -1,5 +1,5 @@
 -- What a domain has, in file order.
-use Rattle.std.specs.Prelude.{◌≡◌, List, [], ℕ, Bool, nat_eq, Option, map, option_map}
+use Rattle.std.specs.Prelude.{List, ℕ, Bool, nat_eq, Option, map, option_map}
 use Rattle.std.specs.List.{list_any}
 use Rattle.ioam_topo.specs.declared.domain.Domain.{Domain}
 use Rattle.ioam_topo.specs.declared.parts.Node.{Node}
@@ -15,23 +15,23 @@ use Rattle.ioam_topo.specs.declared.parts.Flow.{Flow}
 
 -- the nodes, links, ports and routes of a domain, in file order
 abbrev pub nodes : Domain → List Node
-nodes domain = domain.parts.nodes.items.items
+nodes domain = domain.elements.nodes.items
 
 abbrev pub links : Domain → List Link
-links domain = domain.parts.links.items.items
+links domain = domain.elements.links.items
 
 abbrev pub ports : Domain → List Port
-ports domain = domain.parts.ports.items.items
+ports domain = domain.elements.ports.items
 
 abbrev pub routes : Domain → List Route
-routes domain = domain.routes.items.items
+routes domain = domain.elements.routes.items
 
 -- the data of the nodes and the flows, in file order
 abbrev pub node_data : Domain → List NodeData
-node_data domain = domain.telemetry.rows.items.items
+node_data domain = domain.elements.data.items
 
 abbrev pub flows : Domain → List Flow
-flows domain = domain.telemetry.flows.items.items
+flows domain = domain.elements.flows.items
 
 -- the node of a name, by its place
 abbrev pub node_of_name : Domain → List ℕ → Option NodeId

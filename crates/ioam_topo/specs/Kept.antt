@@ -1,5 +1,5 @@
--- What is true of a domain's tables, whatever file they are of.
-use Rattle.std.specs.Prelude.{◌≡◌, ◌≢◌, ◌<◌, ◌≤◌, ℕ, Bool, true, false, nat_eq, List, map, length, Option, Some, None, slice_get}
+-- What is true of a domain's nodes, links, ports, routes, node data and flows, whatever file they are of.
+use Rattle.std.specs.Prelude.{◌≡◌, ◌≢◌, ◌<◌, ◌≤◌, ℕ, Bool, true, false, nat_eq, List, length, Option, Some, None, slice_get}
 use Rattle.std.specs.List.{All}
 use Rattle.ioam_topo.specs.declared.ids.Way.{Way}
 use Rattle.ioam_topo.specs.declared.ids.Way.TheVariants.{Link as ByLink, Port as ByPort}
@@ -9,18 +9,11 @@ use Rattle.ioam_topo.specs.declared.parts.Port.{Port}
 use Rattle.ioam_topo.specs.declared.parts.Route.{Route}
 use Rattle.ioam_topo.specs.declared.parts.NodeData.{NodeData}
 use Rattle.ioam_topo.specs.declared.parts.Flow.{Flow}
-use Rattle.ioam_topo.specs.declared.data_rows.DataRows.{DataRows}
-use Rattle.ioam_topo.specs.declared.flows.Flows.{Flows}
-use Rattle.ioam_topo.specs.declared.nodes.Nodes.{Nodes}
-use Rattle.ioam_topo.specs.declared.links.Links.{Links}
-use Rattle.ioam_topo.specs.declared.ports.Ports.{Ports}
-use Rattle.ioam_topo.specs.declared.routes.Parts.{Parts}
-use Rattle.ioam_topo.specs.declared.routes.Routes.{Routes}
-use Rattle.ioam_topo.specs.Keyed.{name_of_node, address_of_node, id_of_node, name_of_link, taps_of, name_of_port, key_of_route, key_of_data}
+use Rattle.ioam_topo.specs.Keyed.{name_of_link, taps_of, name_of_port, key_of_route, key_of_data}
+use Rattle.ioam_topo.specs.Apart.{AreApart, NodesApart, FlowsApart}
 use Rattle.ioam_topo.specs.Forward.{bits_of}
-use Rattle.ioam_topo.specs.Flows.{name_of_flow, ids_of_flows}
 use Rattle.ioam_topo.specs.Known.{IsKnownAtEnds}
-use Rattle.ioam_topo.specs.Sound.{IsNode, IsLink}
+use Rattle.ioam_topo.specs.Sound.{IsNode, IsLink, IsNodeData, IsFlow}
 
 -- the ends of a link are two of so many nodes
 pub record JoinsNodes (nodes : ℕ) (link : Link) : Type 0 where
@@ -57,39 +50,44 @@ pub record IsRouteOf (nodes : ℕ) (links : List Link) (ports : List Port) (rout
   pub known : route.node.0 < nodes
   pub leads : is_way_from links ports route.node.0 route.way ≡ true
 
-pub record NodesKept (nodes : Nodes) : Type 0 where
-  pub named : nodes.names ≡ map name_of_node nodes.items.items
-  pub numbered : nodes.ids.keys ≡ map id_of_node nodes.items.items
-  pub placed : nodes.addresses.keys ≡ map address_of_node nodes.items.items
-  pub sound : All IsNode nodes.items.items
-  pub few : length nodes.items.items ≤ 256
+-- these may be the nodes of a domain
+pub record SoundNodes (nodes : List Node) : Type 0 where
+  pub sound : All IsNode nodes
+  pub few : length nodes ≤ 256
+  pub apart : NodesApart nodes
 
-pub record LinksKept (nodes : ℕ) (links : Links) : Type 0 where
-  pub named : links.names ≡ map name_of_link links.items.items
-  pub joined : All (JoinsNodes nodes) links.items.items
-  pub sound : All IsLink links.items.items
-  pub few : length links.items.items ≤ 1024
-  pub few_taps : taps_of links.items.items ≤ 64
+-- the links, between so many nodes
+pub record SoundLinks (nodes : ℕ) (links : List Link) : Type 0 where
+  pub joined : All (JoinsNodes nodes) links
+  pub sound : All IsLink links
+  pub few : length links ≤ 1024
+  pub few_taps : taps_of links ≤ 64
+  pub apart : AreApart name_of_link links
 
-pub record PortsKept (nodes : ℕ) (ports : Ports) : Type 0 where
-  pub named : ports.names ≡ map name_of_port ports.items.items
-  pub placed : All (IsAtNode nodes) ports.items.items
-  pub few : length ports.items.items ≤ 64
+-- the ports, at so many nodes
+pub record SoundPorts (nodes : ℕ) (ports : List Port) : Type 0 where
+  pub placed : All (IsAtNode nodes) ports
+  pub few : length ports ≤ 64
+  pub apart : AreApart name_of_port ports
 
-pub record RoutesKept (parts : Parts) (routes : Routes) : Type 0 where
-  pub keyed : routes.taken.keys ≡ map key_of_route routes.items.items
-  pub short : All (λ route. bits_of route ≤ 128) routes.items.items
-  pub routed : All (IsRouteOf (length parts.nodes.items.items) parts.links.items.items parts.ports.items.items) routes.items.items
-  pub few : length routes.items.items ≤ 16384
+-- the routes, of so many nodes with these links and ports
+pub record SoundRoutes (nodes : ℕ) (links : List Link) (ports : List Port) (routes : List Route) : Type 0 where
+  pub short : All (λ route. bits_of route ≤ 128) routes
+  pub routed : All (IsRouteOf nodes links ports) routes
+  pub few : length routes ≤ 16384
+  pub apart : AreApart key_of_route routes
 
-pub record DataKept (nodes : ℕ) (rows : DataRows) : Type 0 where
-  pub keyed : rows.taken.keys ≡ map key_of_data rows.items.items
-  pub placed : All (IsOfNode nodes) rows.items.items
-  pub few : length rows.items.items ≤ 4096
+-- the data of so many nodes
+pub record SoundData (nodes : ℕ) (rows : List NodeData) : Type 0 where
+  pub placed : All (IsOfNode nodes) rows
+  pub sound : All IsNodeData rows
+  pub few : length rows ≤ 4096
+  pub apart : AreApart key_of_data rows
 
-pub record FlowsKept (nodes : List Node) (flows : Flows) : Type 0 where
-  pub named : flows.names ≡ map name_of_flow flows.items.items
-  pub keyed : flows.taken.keys ≡ ids_of_flows flows.items.items
-  pub joined : All (JoinsEnds (length nodes)) flows.items.items
-  pub known : All (IsKnownAtEnds nodes) flows.items.items
-  pub few : length flows.items.items ≤ 256
+-- the flows, between these nodes
+pub record SoundFlows (nodes : List Node) (flows : List Flow) : Type 0 where
+  pub joined : All (JoinsEnds (length nodes)) flows
+  pub known : All (IsKnownAtEnds nodes) flows
+  pub sound : All IsFlow flows
+  pub few : length flows ≤ 256
+  pub apart : FlowsApart flows

@@ -5,7 +5,7 @@ pub mod Traces
 pub mod Keyed
 pub mod Forward
 pub mod Index
-pub mod Flows
+pub mod Places
 pub mod Known
 pub mod Apart
 pub mod Sound

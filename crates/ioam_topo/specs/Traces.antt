@@ -1,6 +1,6 @@
 -- The traces that the packets of a flow carry.
 use Rattle.std.specs.Prelude.{◌≡◌, ◌≢◌, ◌≤◌, ℕ, true, List, [], ◌∷◌, Option, Some, None}
-use Rattle.std.specs.List.{All, AllPairs}
+use Rattle.std.specs.List.{AllPairs}
 use Rattle.ioam_data.specs.Kind.{is_entry_type}
 use Rattle.ioam_data.specs.declared.namespace.Namespace.{Namespace}
 use Rattle.ioam_topo.specs.declared.traces.FlowTrace.{FlowTrace}

@@ -1,47 +1,33 @@
-ghost use Rattle.std.specs.Prelude.{◌≡◌, ◌≤◌, length, IfOk};
-ghost use Rattle.std.specs.List.{All};
-ghost use Rattle.ioam_topo.specs.Kept.{NodesKept, LinksKept, PortsKept, RoutesKept, DataKept, FlowsKept};
-ghost use Rattle.ioam_topo.specs.Sound.{IsNodeData, IsFlow};
-ghost use Rattle.ioam_topo.specs.Apart.{AreApart, NodesApart, FlowsApart};
-ghost use Rattle.ioam_topo.specs.Keyed.{name_of_link, name_of_port, key_of_route, key_of_data};
+ghost use Rattle.std.specs.Prelude.{◌≡◌, ◌≤◌, length, map, nat_eq, IfOk};
+ghost use Rattle.ioam_topo.specs.Kept.{SoundNodes, SoundLinks, SoundPorts, SoundRoutes, SoundData, SoundFlows};
+ghost use Rattle.ioam_topo.specs.Keyed.{address_of_node, key_of_route, key_of_data, is_route, is_pair};
+ghost use Rattle.ioam_topo.specs.Places.{ArePlaces};
 ghost use Rattle.ioam_topo.specs.Index.{IsIndex};
 
-use crate::apart::{
-    flows_differ, links_differ, nodes_differ, ports_differ, routes_differ, rows_differ,
-};
-use crate::data_rows::DataRows;
-use crate::flows::Flows;
 use crate::format::Format;
 use crate::index::{AtNode, index_of};
-use crate::routes::{Parts, Routes};
+use crate::parts::{Flow, Link, Node, NodeData, Port, Route};
+use crate::places::{addresses_of, namespaces_of, places_of, prefixes_of};
+use crate::prefix::Prefix;
 use ioam_base::memory::NoMemory;
 use std::alloc::Global;
+use std::collections::HashMap;
 
-/// The most routes.
-pub const MOST_ROUTES: usize = 16384;
-
-/// The most entries of the table `data`.
-pub const MOST_DATA: usize = 4096;
-
-/// What nodes and flows record: the data of the nodes, and the flows.
+/// What a domain has, each in the order of its file, and each numbered by its place from 0.
 #[derive(Drop)]
-pub struct Telemetry {
-    pub(crate) rows: DataRows,
-    pub(crate) flows: Flows,
-    ghost sound_data: { All IsNodeData rows.items.items },
-    ghost sound_flows: { All IsFlow flows.items.items },
-}
-
-impl Telemetry {
-    /// These data and flows.
-    pub fn new(rows: DataRows, flows: Flows) -> Telemetry
-        requires sound_data { All IsNodeData rows.items.items }
-        requires sound_flows { All IsFlow flows.items.items }
-        ensures rows { result.rows ≡ rows }
-        ensures flows { result.flows ≡ flows }
-    {
-        Telemetry { rows, flows }
-    }
+pub struct Elements {
+    /// The nodes.
+    pub nodes: Vec<Node>,
+    /// The links.
+    pub links: Vec<Link>,
+    /// The ports.
+    pub ports: Vec<Port>,
+    /// The routes.
+    pub routes: Vec<Route>,
+    /// The data of the nodes.
+    pub data: Vec<NodeData>,
+    /// The flows.
+    pub flows: Vec<Flow>,
 }
 
 /// A domain: its nodes, links, ports, routes, node data and flows in the order of the file.
@@ -49,77 +35,73 @@ impl Telemetry {
 pub struct Domain {
     pub(crate) format: Format,
     pub(crate) packets: u32,
-    pub(crate) parts: Parts,
-    pub(crate) routes: Routes,
-    pub(crate) telemetry: Telemetry,
+    pub(crate) elements: Elements,
+    // The places of the nodes by their addresses, of the routes by their nodes and prefixes, of the data
+    // by their nodes and namespaces.
+    pub(crate) by_address: HashMap<u128, u32>,
+    pub(crate) by_prefix: HashMap<(u32, Prefix), u32>,
+    pub(crate) by_namespace: HashMap<(u32, u16), u32>,
     pub(crate) index: Vec<AtNode>,
     ghost packets_some: { 1 ≤ packets },
     ghost packets_most: { packets ≤ 16777216 },
-    ghost nodes_kept: { NodesKept parts.nodes },
-    ghost links_kept: { LinksKept (length parts.nodes.items.items) parts.links },
-    ghost ports_kept: { PortsKept (length parts.nodes.items.items) parts.ports },
-    ghost routes_kept: { RoutesKept parts routes },
-    ghost data_kept: { DataKept (length parts.nodes.items.items) telemetry.rows },
-    ghost flows_kept: { FlowsKept parts.nodes.items.items telemetry.flows },
-    ghost nodes_apart: { NodesApart parts.nodes.items.items },
-    ghost links_apart: { AreApart name_of_link parts.links.items.items },
-    ghost ports_apart: { AreApart name_of_port parts.ports.items.items },
-    ghost routes_apart: { AreApart key_of_route routes.items.items },
-    ghost data_apart: { AreApart key_of_data telemetry.rows.items.items },
-    ghost flows_apart: { FlowsApart telemetry.flows.items.items },
-    ghost indexed: { IsIndex (length parts.nodes.items.items) routes.items.items telemetry.flows.items.items index.items },
+    ghost sound_nodes: { SoundNodes elements.nodes.items },
+    ghost sound_links: { SoundLinks (length elements.nodes.items) elements.links.items },
+    ghost sound_ports: { SoundPorts (length elements.nodes.items) elements.ports.items },
+    ghost sound_routes: { SoundRoutes (length elements.nodes.items) elements.links.items elements.ports.items elements.routes.items },
+    ghost sound_data: { SoundData (length elements.nodes.items) elements.data.items },
+    ghost sound_flows: { SoundFlows elements.nodes.items elements.flows.items },
+    ghost addresses: { ArePlaces nat_eq (map address_of_node elements.nodes.items) by_address },
+    ghost prefixes: { ArePlaces (λ k. is_route k.0 k.1) (map key_of_route elements.routes.items) by_prefix },
+    ghost namespaces: { ArePlaces (λ k. is_pair k.0 k.1) (map key_of_data elements.data.items) by_namespace },
+    ghost indexed: { IsIndex (length elements.nodes.items) elements.routes.items elements.flows.items index.items },
 }
 
 impl Domain {
-    ghost use Rattle.ioam_topo.specs.Domain.{nodes, links, ports, routes as routes_of, node_data, flows};
+    ghost use Rattle.ioam_topo.specs.Domain.{nodes, links, ports, routes, node_data, flows};
 
-    /// The domain of these parts, which is to keep what every domain keeps: at most so many of
-    /// each, names and keys in step with what they name, and each reference to something there.
-    /// NoMemory says that there is no memory for what is looked up at each node.
+    /// The domain of these elements, which are to keep what every domain keeps: at most so many of
+    /// each, each within its bounds, no two of one name or key, and each reference to something there.
+    /// NoMemory says that there is no memory for what they are looked up by.
     pub fn new(
         alloc: Global,
         format: Format,
         packets: u32,
-        parts: Parts,
-        routes: Routes,
-        telemetry: Telemetry,
+        elements: Elements,
     ) -> Result<Domain, NoMemory>
         requires packets_some { 1 ≤ packets }
         requires packets_most { packets ≤ 16777216 }
-        requires nodes_kept { NodesKept parts.nodes }
-        requires links_kept { LinksKept (length parts.nodes.items.items) parts.links }
-        requires ports_kept { PortsKept (length parts.nodes.items.items) parts.ports }
-        requires routes_kept { RoutesKept parts routes }
-        requires data_kept { DataKept (length parts.nodes.items.items) telemetry.rows }
-        requires flows_kept { FlowsKept parts.nodes.items.items telemetry.flows }
+        requires nodes { SoundNodes elements.nodes.items }
+        requires links { SoundLinks (length elements.nodes.items) elements.links.items }
+        requires ports { SoundPorts (length elements.nodes.items) elements.ports.items }
+        requires routes { SoundRoutes (length elements.nodes.items) elements.links.items elements.ports.items elements.routes.items }
+        requires data { SoundData (length elements.nodes.items) elements.data.items }
+        requires flows { SoundFlows elements.nodes.items elements.flows.items }
 
         ensures format { IfOk result (λ domain. domain.format ≡ format) }
         ensures packets { IfOk result (λ domain. domain.packets ≡ packets) }
-        ensures nodes { IfOk result (λ domain. nodes domain ≡ parts.nodes.items.items) }
-        ensures links { IfOk result (λ domain. links domain ≡ parts.links.items.items) }
-        ensures ports { IfOk result (λ domain. ports domain ≡ parts.ports.items.items) }
-        ensures routes { IfOk result (λ domain. routes_of domain ≡ routes.items.items) }
-        ensures data { IfOk result (λ domain. node_data domain ≡ telemetry.rows.items.items) }
-        ensures flows { IfOk result (λ domain. flows domain ≡ telemetry.flows.items.items) }
+        ensures nodes { IfOk result (λ domain. nodes domain ≡ elements.nodes.items) }
+        ensures links { IfOk result (λ domain. links domain ≡ elements.links.items) }
+        ensures ports { IfOk result (λ domain. ports domain ≡ elements.ports.items) }
+        ensures routes { IfOk result (λ domain. routes domain ≡ elements.routes.items) }
+        ensures data { IfOk result (λ domain. node_data domain ≡ elements.data.items) }
+        ensures flows { IfOk result (λ domain. flows domain ≡ elements.flows.items) }
     {
-        nodes_differ(&parts.nodes);
-        links_differ(&parts.links);
-        ports_differ(&parts.ports);
-        routes_differ(&routes);
-        rows_differ(&telemetry.rows);
-        flows_differ(&telemetry.flows);
+        let by_address = places_of(alloc, &addresses_of(alloc, &elements.nodes)?)?;
+        let by_prefix = places_of(alloc, &prefixes_of(alloc, &elements.routes)?)?;
+        let by_namespace = places_of(alloc, &namespaces_of(alloc, &elements.data)?)?;
         let index = index_of(
             alloc,
-            parts.nodes.items.len(),
-            &routes.items,
-            &telemetry.flows.items,
+            elements.nodes.len(),
+            &elements.routes,
+            &elements.flows,
         )?;
         Ok(Domain {
             format,
             packets,
-            parts,
-            routes,
-            telemetry,
+            elements,
+            by_address,
+            by_prefix,
+            by_namespace,
             index,
         })
     }

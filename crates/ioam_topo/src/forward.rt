@@ -1,4 +1,5 @@
-ghost use Rattle.std.specs.Prelude.{◌≡◌, ◌<◌, nat_eq, ◌&&◌, length, slice_get, Some, IfSome};
+ghost use Rattle.std.specs.Prelude.{◌≡◌, ◌<◌, nat_eq, ◌&&◌, length, map, position, slice_get, Some, IfSome};
+ghost use Rattle.ioam_topo.specs.Keyed.{is_route, key_of_route};
 ghost use Rattle.ioam_topo.specs.Forward.{longer, longest, bits_of, fits, way_to, IsWayTo, IsWayFrom};
 ghost use Rattle.ioam_topo.specs.Index.{routes_of, lengths_of};
 
@@ -52,11 +53,11 @@ impl Domain {
     ghost use Rattle.ioam_topo.specs.Domain.{links, ports, routes};
 
     // A route by its place.
-    fn route(&self, at: usize) -> Route
+    fn route(&self, at: u32) -> Route
         requires { at < length (routes self.now) }
         ensures { slice_get (routes self.now) at ≡ Some result }
     {
-        self.routes.items[at]
+        self.elements.routes[at as usize]
     }
 
     // The routes of a node, in file order.
@@ -79,6 +80,14 @@ impl Domain {
         }
     }
 
+    // The place of the route of a node with a prefix.
+    fn place_of_route(&self, node: NodeId, prefix: Prefix) -> Option<u32>
+        ensures value { result ≡ position (is_route node.0 prefix) (map key_of_route (routes self.now)) }
+        ensures within { IfSome result (λ at. at < length (routes self.now)) }
+    {
+        self.by_prefix.get(&(node.0, prefix)).copied()
+    }
+
     // The route of a node for so many first bits of a target.
     fn route_by(&self, node: NodeId, length: u8, target: u128) -> Option<Route>
         ensures { result ≡ longest bits_of (λ route. fits node.0 target route && nat_eq length (bits_of route)) (routes self.now) }
@@ -87,7 +96,7 @@ impl Domain {
             bits: masked(length, target),
             length,
         };
-        match self.routes.taken.get_index_of(&(node.0, prefix)) {
+        match self.place_of_route(node, prefix) {
             Some(at) => Some(self.route(at)),
             None => None,
         }

@@ -1,4 +1,5 @@
-ghost use Rattle.std.specs.Prelude.{◌≡◌, ◌<◌, ◌≤◌, length, slice_get, Some, IfSome};
+ghost use Rattle.std.specs.Prelude.{◌≡◌, ◌<◌, ◌≤◌, length, position, slice_get, Some, IfSome};
+ghost use Rattle.std.specs.Str.{bytes_eq};
 ghost use Rattle.std.specs.List.{All};
 ghost use Rattle.ioam_topo.specs.Domain.{is_local, spaces_of};
 ghost use Rattle.ioam_topo.specs.Sound.{IsNode, IsLink};
@@ -14,6 +15,22 @@ use crate::ids::{LinkId, NodeId, PortId};
 use crate::parts::{Link, Node, Port, Route};
 use ioam_data::Namespace;
 
+// The place of the node of a name among these.
+fn place_of_node(nodes: &[Node], name: &str) -> Option<usize>
+    ensures value { result ≡ position (λ node. bytes_eq name.now node.name) nodes.now }
+    ensures within { IfSome result (λ at. at < length nodes.now) }
+{
+    nodes.iter().position(|node| name == node.name.text())
+}
+
+// The place of the link of a name among these.
+fn place_of_link(links: &[Link], name: &str) -> Option<usize>
+    ensures value { result ≡ position (λ link. bytes_eq name.now link.name) links.now }
+    ensures within { IfSome result (λ at. at < length links.now) }
+{
+    links.iter().position(|link| name == link.name.text())
+}
+
 impl Domain {
     ghost use Rattle.ioam_topo.specs.Domain.{nodes, links, ports, routes, node_of_name, link_of_name};
 
@@ -25,7 +42,7 @@ impl Domain {
         ensures apart { NodesApart result.now }
         ensures value { result.now ≡ nodes self.now }
     {
-        self.parts.nodes.items.as_slice()
+        self.elements.nodes.as_slice()
     }
 
     /// The links, in file order: at most 1,024, each from a node of the domain to another, with a
@@ -38,7 +55,7 @@ impl Domain {
         ensures taps { taps_of result.now ≤ 64 }
         ensures value { result.now ≡ links self.now }
     {
-        self.parts.links.items.as_slice()
+        self.elements.links.as_slice()
     }
 
     /// The ports, in file order: at most 64, each at a node of the domain.
@@ -48,7 +65,7 @@ impl Domain {
         ensures apart { AreApart name_of_port result.now }
         ensures value { result.now ≡ ports self.now }
     {
-        self.parts.ports.items.as_slice()
+        self.elements.ports.as_slice()
     }
 
     /// The routes, in file order: at most 16,384, each of a node of the domain, with a way from
@@ -60,7 +77,7 @@ impl Domain {
         ensures apart { AreApart key_of_route result.now }
         ensures value { result.now ≡ routes self.now }
     {
-        self.routes.items.as_slice()
+        self.elements.routes.as_slice()
     }
 
     /// A node by its id.
@@ -69,7 +86,7 @@ impl Domain {
         ensures value { slice_get (nodes self.now) id.0 ≡ Some result.now }
         ensures sound { IsNode result.now }
     {
-        &self.parts.nodes.items[id.0 as usize]
+        &self.elements.nodes[id.0 as usize]
     }
 
     /// A link by its id.
@@ -79,7 +96,7 @@ impl Domain {
         ensures ends { JoinsNodes (length (nodes self.now)) result.now }
         ensures sound { IsLink result.now }
     {
-        &self.parts.links.items[id.0 as usize]
+        &self.elements.links[id.0 as usize]
     }
 
     /// A port by its id.
@@ -88,7 +105,7 @@ impl Domain {
         ensures value { slice_get (ports self.now) id.0 ≡ Some result.now }
         ensures place { IsAtNode (length (nodes self.now)) result.now }
     {
-        &self.parts.ports.items[id.0 as usize]
+        &self.elements.ports[id.0 as usize]
     }
 
     /// The node of a name, if there is one.
@@ -96,7 +113,7 @@ impl Domain {
         ensures value { result ≡ node_of_name self.now name.now }
         ensures inside { IfSome result (λ node. node.0 < length (nodes self.now)) }
     {
-        match self.parts.nodes.names.place_of(name) {
+        match place_of_node(self.nodes(), name) {
             Some(at) => Some(NodeId(at as u32)),
             None => None,
         }
@@ -107,7 +124,7 @@ impl Domain {
         ensures value { result ≡ link_of_name self.now name.now }
         ensures inside { IfSome result (λ link. link.0 < length (links self.now)) }
     {
-        match self.parts.links.names.place_of(name) {
+        match place_of_link(self.links(), name) {
             Some(at) => Some(LinkId(at as u32)),
             None => None,
         }
@@ -133,7 +150,7 @@ impl Domain {
     pub fn is_local(&self, target: u128) -> bool
         ensures { result ≡ is_local self.now target }
     {
-        self.parts.nodes.addresses.contains(&target)
+        self.by_address.contains_key(&target)
     }
 
     /// Whether a node knows a namespace; every node knows namespace 0.

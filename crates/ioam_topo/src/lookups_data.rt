@@ -1,4 +1,4 @@
-ghost use Rattle.std.specs.Prelude.{◌≡◌, ◌<◌, ◌≤◌, length, slice_get, Some, IfSome};
+ghost use Rattle.std.specs.Prelude.{◌≡◌, ◌<◌, ◌≤◌, length, map, position, slice_get, Some, IfSome};
 ghost use Rattle.std.specs.List.{All};
 ghost use Rattle.std.specs.Option.{option_copied};
 ghost use Rattle.ioam_topo.specs.Sound.{IsNodeData, IsFlow};
@@ -6,7 +6,7 @@ ghost use Rattle.ioam_topo.specs.Finding.{data_at, encloses, flow_at};
 ghost use Rattle.ioam_topo.specs.Kept.{IsOfNode, JoinsEnds};
 ghost use Rattle.ioam_topo.specs.Known.{IsKnownAtEnds};
 ghost use Rattle.ioam_topo.specs.Apart.{AreApart, FlowsApart};
-ghost use Rattle.ioam_topo.specs.Keyed.{key_of_data};
+ghost use Rattle.ioam_topo.specs.Keyed.{is_pair, key_of_data};
 ghost use Rattle.ioam_topo.specs.Index.{flows_of, first_place, passes};
 
 use crate::domain::Domain;
@@ -61,7 +61,7 @@ impl Domain {
         ensures sound { All IsFlow result.now }
         ensures apart { FlowsApart result.now }
     {
-        self.telemetry.flows.items.as_slice()
+        self.elements.flows.as_slice()
     }
 
     /// A flow by its id.
@@ -72,7 +72,7 @@ impl Domain {
         ensures known { IsKnownAtEnds (nodes self.now) result.now }
         ensures sound { IsFlow result.now }
     {
-        &self.telemetry.flows.items[id.0 as usize]
+        &self.elements.flows[id.0 as usize]
     }
 
     /// The data of the nodes, in file order: at most 4,096, each of a node of the domain and within
@@ -85,15 +85,23 @@ impl Domain {
         ensures sound { All IsNodeData result.now }
         ensures apart { AreApart key_of_data result.now }
     {
-        self.telemetry.rows.items.as_slice()
+        self.elements.data.as_slice()
     }
 
     // The data at a place.
-    fn row(&self, at: usize) -> &NodeData
+    fn row(&self, at: u32) -> &NodeData
         requires { at < length (node_data self.now) }
         ensures { slice_get (node_data self.now) at ≡ Some result.now }
     {
-        &self.telemetry.rows.items[at]
+        &self.elements.data[at as usize]
+    }
+
+    // The place of the data of a node in a namespace.
+    fn place_of_data(&self, node: NodeId, namespace: Namespace) -> Option<u32>
+        ensures value { result ≡ position (is_pair node.0 namespace.0) (map key_of_data (node_data self.now)) }
+        ensures within { IfSome result (λ at. at < length (node_data self.now)) }
+    {
+        self.by_namespace.get(&(node.0, namespace.0)).copied()
     }
 
     /// The data of a node in a namespace, where the file has them.
@@ -101,15 +109,10 @@ impl Domain {
         ensures value { option_copied result ≡ data_at (node_data self.now) node.0 namespace.0 }
         ensures sound { IfSome result (λ row. IsNodeData row.now) }
     {
-        if self.telemetry.rows.items.is_empty() {
+        if self.elements.data.is_empty() {
             return None;
         }
-        match self
-            .telemetry
-            .rows
-            .taken
-            .get_index_of(&(node.0, namespace.0))
-        {
+        match self.place_of_data(node, namespace) {
             Some(at) => Some(self.row(at)),
             None => None,
         }

@@ -40,4 +40,4 @@ pub view_of-right : (domain : Domain) (readings : List (List Sample)) (place : P
 unfolding view_of
 view_of-right domain readings place time hops space =
     snapshot_in-right (data_at (node_data domain) place.node.0 space)
-    (found_all IsNodeData (is_data_of place.node.0 space) (node_data domain) domain.telemetry.sound_data)
+    (found_all IsNodeData (is_data_of place.node.0 space) (node_data domain) domain.sound_data.sound)

@@ -58,36 +58,36 @@ returns-in-Ok-clause-read c =
 
 pub returns-in-Ok-clause-apart : goal.returns-in-Ok-clause-apart
 returns-in-Ok-clause-apart c = record {
-  nodes_apart = c.in-Ok.domain.nodes_apart;
-  flows_apart = c.in-Ok.domain.flows_apart;
-  known = c.in-Ok.domain.flows_kept.known;
+  nodes_apart = c.in-Ok.domain.sound_nodes.apart;
+  flows_apart = c.in-Ok.domain.sound_flows.apart;
+  known = c.in-Ok.domain.sound_flows.known;
 }
 
 pub read_telemetry-requires-clause-named : goal.read_telemetry-requires-clause-named
 read_telemetry-requires-clause-named c = node_count 64 (table_view c.args.top.now) c.in_ok-parts.parts c.in_ok-parts.ensures.1
 
-pub new-requires-clause-packets_some : goal.new-requires-clause-packets_some
-new-requires-clause-packets_some c = (packets_bounds (table_view c.args.top.now) c.in_ok-own.own.packets c.in_ok-own.ensures.1.1).0
+pub domain_of-requires-clause-packets_some : goal.domain_of-requires-clause-packets_some
+domain_of-requires-clause-packets_some c = (packets_bounds (table_view c.args.top.now) c.in_ok-own.own.packets c.in_ok-own.ensures.1.1).0
 
-pub new-requires-clause-packets_most : goal.new-requires-clause-packets_most
-new-requires-clause-packets_most c = (packets_bounds (table_view c.args.top.now) c.in_ok-own.own.packets c.in_ok-own.ensures.1.1).1
+pub domain_of-requires-clause-packets_most : goal.domain_of-requires-clause-packets_most
+domain_of-requires-clause-packets_most c = (packets_bounds (table_view c.args.top.now) c.in_ok-own.own.packets c.in_ok-own.ensures.1.1).1
 
-pub new-requires-clause-nodes_kept : goal.new-requires-clause-nodes_kept
-new-requires-clause-nodes_kept c = nodes_kept 64 (table_view c.args.top.now) c.in_ok-parts.parts c.in_ok-parts.ensures.1 c.in_ok-parts.ensures.0
+pub domain_of-requires-clause-nodes_kept : goal.domain_of-requires-clause-nodes_kept
+domain_of-requires-clause-nodes_kept c = nodes_kept 64 (table_view c.args.top.now) c.in_ok-parts.parts c.in_ok-parts.ensures.1 c.in_ok-parts.ensures.0
 
-pub new-requires-clause-links_kept : goal.new-requires-clause-links_kept
-new-requires-clause-links_kept c = links_kept 64 (table_view c.args.top.now) c.in_ok-parts.parts c.in_ok-parts.ensures.1 c.in_ok-parts.ensures.0 (omega arith)
+pub domain_of-requires-clause-links_kept : goal.domain_of-requires-clause-links_kept
+domain_of-requires-clause-links_kept c = links_kept 64 (table_view c.args.top.now) c.in_ok-parts.parts c.in_ok-parts.ensures.1 c.in_ok-parts.ensures.0 (omega arith)
 
-pub new-requires-clause-ports_kept : goal.new-requires-clause-ports_kept
-new-requires-clause-ports_kept c = ports_kept 64 (table_view c.args.top.now) c.in_ok-parts.parts c.in_ok-parts.ensures.1 c.in_ok-parts.ensures.0
+pub domain_of-requires-clause-ports_kept : goal.domain_of-requires-clause-ports_kept
+domain_of-requires-clause-ports_kept c = ports_kept 64 (table_view c.args.top.now) c.in_ok-parts.parts c.in_ok-parts.ensures.1 c.in_ok-parts.ensures.0
 
-pub new-requires-clause-routes_kept : goal.new-requires-clause-routes_kept
-new-requires-clause-routes_kept c = routes_kept 64 (table_view c.args.top.now) c.in_ok-parts.parts c.in_ok-parts.ensures.1 c.in_ok-parts.ensures.0
+pub domain_of-requires-clause-routes_kept : goal.domain_of-requires-clause-routes_kept
+domain_of-requires-clause-routes_kept c = routes_kept 64 (table_view c.args.top.now) c.in_ok-parts.parts c.in_ok-parts.ensures.1 c.in_ok-parts.ensures.0
     c.in_ok-routes.routes c.in_ok-routes.ensures.1 c.in_ok-routes.ensures.0
 
-pub new-requires-clause-data_kept : goal.new-requires-clause-data_kept
-new-requires-clause-data_kept c = data_kept 64 (table_view c.args.top.now) c.in_ok-parts.parts c.in_ok-parts.ensures.1
+pub domain_of-requires-clause-data_kept : goal.domain_of-requires-clause-data_kept
+domain_of-requires-clause-data_kept c = data_kept 64 (table_view c.args.top.now) c.in_ok-parts.parts c.in_ok-parts.ensures.1
     c.in_ok-telemetry.telemetry c.in_ok-telemetry.ensures.1 c.in_ok-telemetry.ensures.0
 
-pub new-requires-clause-flows_kept : goal.new-requires-clause-flows_kept
-new-requires-clause-flows_kept c = c.in_ok-telemetry.ensures.1.flows.kept
+pub domain_of-requires-clause-flows_kept : goal.domain_of-requires-clause-flows_kept
+domain_of-requires-clause-flows_kept c = c.in_ok-telemetry.ensures.1.flows.kept

@@ -1,9 +1,5 @@
-use Rattle.std.proofs.Common.{◌≡◌, sym, ap, ◌∙◌, Some, None, option_map}
-use Rattle.std.specs.List.{position}
+use Rattle.std.proofs.Common.{Some, None}
 use Rattle.ioam_topo.specs.Domain.{flows}
-use Rattle.ioam_topo.specs.Finding.{encloses}
-use Rattle.ioam_topo.specs.Index.{first_place, flows_of}
-use Rattle.ioam_topo.specs.declared.ids.FlowId.{FlowId}
 use Rattle.ioam_topo.proofs.IndexLaws.{flow_is}
 use Rattle.ioam_topo.proofs.domain.Domain.flow_at.Goals as goal
 

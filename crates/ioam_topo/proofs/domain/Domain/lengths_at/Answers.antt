@@ -9,4 +9,4 @@ returns-in-None c =
     let size : length c.deref.result.now ≡ length (nodes c.args.self.now) = ap length c.deref.ensures.value ∙ c.args.self.now.indexed.all in
     let none = c.in-None.ensures.lookup in
     let past : length (nodes c.args.self.now) ≤ c.args.node.0 = grind (arith, nat_tests, size, none) in
-    sym (no_lengths (length (nodes c.args.self.now)) c.args.node.0 (links c.args.self.now) (ports c.args.self.now) (routes c.args.self.now) c.args.self.now.routes_kept.routed past)
+    sym (no_lengths (length (nodes c.args.self.now)) c.args.node.0 (links c.args.self.now) (ports c.args.self.now) (routes c.args.self.now) c.args.self.now.sound_routes.routed past)

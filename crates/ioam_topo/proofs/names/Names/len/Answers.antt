@@ -1,6 +1,0 @@
-use Rattle.std.proofs.Common.{subst}
-use Rattle.ioam_topo.proofs.ApartLaws.{Differ, texts_differ}
-use Rattle.ioam_topo.proofs.names.Names.len.Goals as goal
-
-pub returns-clause-apart : goal.returns-clause-apart
-returns-clause-apart c = subst Differ c.self.view_is (texts_differ c.self.inside.held.keys c.len.ensures.unique)
