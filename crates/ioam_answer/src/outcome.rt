@@ -1,7 +1,7 @@
 ghost use Rattle.std.specs.Prelude.{◌≡◌, ◌⊎◌};
 
+use ioam_base::name::Name;
 use ioam_clock::ReadingsFault;
-use ioam_desk::Name;
 use ioam_dex::ExportFault;
 use ioam_entries::DomainFault;
 use ioam_pcap::CapFault;

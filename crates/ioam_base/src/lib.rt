@@ -6,5 +6,6 @@
 pub mod buffer;
 pub mod digits;
 pub mod memory;
+pub mod name;
 pub mod octets;
 pub mod text;

@@ -10,8 +10,9 @@ ghost use Rattle.ioam_bulk.specs.Run.{HasCause, HoldsFront, HoldsReport, Leaves,
 
 use crate::report::write_report;
 use ioam_answer::Outcome;
+use ioam_base::name::Name;
 use ioam_batch::Gate;
-use ioam_desk::{Desk, DeskFault, Name};
+use ioam_desk::{Desk, DeskFault};
 use ioam_outputs::open_outputs;
 use std::alloc::Global;
 use std::thread::Threads;

@@ -1,6 +1,6 @@
 //! The forms of a command line.
 use ioam_base::digits::decimal_below;
-use ioam_desk::Name;
+use ioam_base::name::Name;
 
 /// What a command line asks for.
 #[derive(Clone, Copy, Debug, PartialEq, Eq)]

@@ -6,8 +6,9 @@ mod program;
 
 use ioam_answer::{Outcome, line, status};
 use ioam_base::memory::NoMemory;
+use ioam_base::name::Name;
 use ioam_batch::OpenGate;
-use ioam_desk::{Fault, FileSystem, HostDesk, Name};
+use ioam_desk::{Fault, FileSystem, HostDesk};
 use program::ioam;
 use std::alloc::Global;
 use std::env;

@@ -11,10 +11,11 @@ ghost use Rattle.ioam_answer.specs.declared.outcome.Outcome.{Outcome};
 
 use crate::command::{Command, parse};
 use ioam_answer::Outcome;
+use ioam_base::name::Name;
 use ioam_batch::Gate;
 use ioam_bulk::run_bulk;
 use ioam_collecting::run_collect;
-use ioam_desk::{Desk, Name, SureDesk};
+use ioam_desk::{Desk, SureDesk};
 use ioam_domain::run_domain;
 use ioam_run::{run_filter, run_paths, run_save, run_show};
 use ioam_transit::run_node;

@@ -9,7 +9,8 @@ ghost use Rattle.ioam_collecting.specs.Run.{Asked, HasCause, Leaves, exports_fil
 
 use crate::files::run_files;
 use ioam_answer::{Outcome, names_outcome};
-use ioam_desk::{Desk, Name};
+use ioam_base::name::Name;
+use ioam_desk::Desk;
 use std::alloc::Global;
 
 /// Runs `collect EXPORTS REPORT`: REPORT lists the records of EXPORTS by the packets that they tell of

@@ -13,8 +13,9 @@ ghost use Rattle.ioam_collecting.specs.Ends.{FileCause, Finishes, Start, is_out,
 
 use ioam_answer::Outcome;
 use ioam_base::memory::NoMemory;
+use ioam_base::name::Name;
 use ioam_collect::Collector;
-use ioam_desk::{Desk, DeskFault, Name, PIECE};
+use ioam_desk::{Desk, DeskFault, PIECE};
 use ioam_outputs::{Output, open_outputs};
 use ioam_regroup::{ExportFeed, Halt, MOST_HELD, gather, open_exports, write_report};
 use std::alloc::Global;

@@ -7,9 +7,9 @@ ghost use Rattle.ioam_desk.specs.declared.fault.DeskFault.TheVariants.{Failed};
 use crate::fault::DeskFault;
 use crate::file_system::Identity;
 use crate::host_fault::{Fault, Reason};
-use crate::name::Name;
 use crate::room::put;
 use ioam_base::memory::NoMemory;
+use ioam_base::name::Name;
 use std::alloc::Global;
 use std::io::{Read, Write};
 

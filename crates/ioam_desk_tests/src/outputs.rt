@@ -1,7 +1,8 @@
 //! Texts that go out in pieces, over the desk in memory.
 ghost use Rattle.std.specs.Prelude.{◌<◌, ℕ, All};
 
-use ioam_desk::{MemoryDesk, Name};
+use ioam_base::name::Name;
+use ioam_desk::MemoryDesk;
 use ioam_outputs::{GATHER, Output, finish, first_repeat, flush_full, open_outputs};
 use std::alloc::{AllocError, Global};
 use std::test::Fail;

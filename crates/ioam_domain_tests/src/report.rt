@@ -3,7 +3,7 @@ use ioam_base::memory::NoMemory;
 use ioam_base::text::append;
 use ioam_data::{TraceType, split};
 use ioam_ip::{Framed, Walk, packet_of, walk};
-use ioam_report::{put_fields, put_trace_lines, put_traces};
+use ioam_lines::{put_fields, put_trace_lines, put_traces};
 use std::alloc::Global;
 use std::test::Fail;
 

@@ -12,10 +12,10 @@ use Rattle.ioam_ip.specs.Laid.{Part, items_of, behind_part, place_of}
 use Rattle.ioam_ip.specs.Options.{Item}
 use Rattle.ioam_plan.specs.declared.itinerary.Itinerary.{Itinerary}
 use Rattle.ioam_plan.specs.declared.itinerary.Visit.{Visit}
-use Rattle.ioam_report.specs.HopText.{changing_lines, hop_traces_text, is_changing_trace}
+use Rattle.ioam_lines.specs.HopText.{changing_lines, hop_traces_text, is_changing_trace}
 use Rattle.ioam_report.specs.RunText.{arrival_line}
-use Rattle.ioam_report.specs.TracesText.{option_lines}
-use Rattle.ioam_report.proofs.FilledLaws.{trace_lines-recorded}
+use Rattle.ioam_lines.specs.TracesText.{option_lines}
+use Rattle.ioam_lines.proofs.FilledLaws.{trace_lines-recorded}
 use Rattle.ioam_topo.specs.declared.domain.Domain.{Domain}
 use Rattle.ioam_topo.specs.declared.ids.FlowId.{FlowId}
 use Rattle.ioam_trace.specs.Data.{trace_data}

@@ -5,7 +5,7 @@ use Rattle.ioam_batch.specs.declared.job.Job.{Job}
 use Rattle.ioam_ip.specs.Lowered.{lowered}
 use Rattle.ioam_pcap.specs.Text.{Sent}
 use Rattle.ioam_plan.specs.declared.itinerary.Visit.{Visit}
-use Rattle.ioam_report.specs.HopText.{hop_traces_text}
+use Rattle.ioam_lines.specs.HopText.{hop_traces_text}
 use Rattle.ioam_report.specs.RunText.{arrival_line}
 use Rattle.ioam_topo.specs.declared.domain.Domain.{Domain}
 use Rattle.ioam_topo.specs.declared.ids.FlowId.{FlowId}

@@ -16,7 +16,7 @@ use Rattle.ioam_plan.specs.declared.itinerary.End.{End}
 use Rattle.ioam_plan.specs.declared.itinerary.End.TheVariants.{Left, Drop}
 use Rattle.ioam_report.specs.RunText.{arrival_line}
 use Rattle.ioam_report.specs.SumsText.{sums_text, arrivals_text}
-use Rattle.ioam_report.specs.TraceText.{whole_lines}
+use Rattle.ioam_lines.specs.TraceText.{whole_lines}
 use Rattle.ioam_report.specs.declared.sums.Sums.{Sums}
 use Rattle.ioam_topo.specs.declared.domain.Domain.{Domain}
 use Rattle.ioam_topo.specs.declared.ids.FlowId.{FlowId}

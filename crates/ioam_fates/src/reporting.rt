@@ -9,8 +9,9 @@ ghost use Rattle.ioam_fates.specs.Standing.{hop_lines, job_lines};
 use ioam_base::memory::NoMemory;
 use ioam_base::text::append;
 use ioam_batch::Job;
+use ioam_lines::put_hop_traces;
 use ioam_outputs::Output;
-use ioam_report::{put_arrival, put_hop_traces};
+use ioam_report::put_arrival;
 use ioam_topo::Domain;
 
 // Appends the lines of the traces of a packet that reached the exit of its tunnel.

@@ -3,8 +3,8 @@ ghost use Rattle.ioam_generated.specs.Bulk.{bulk_flow};
 ghost use Rattle.ioam_generated.specs.Held.{HoldsFlows};
 
 use ioam_base::memory::NoMemory;
+use ioam_base::name::Name;
 use ioam_data::{Namespace, TraceType};
-use ioam_desk::Name;
 use ioam_tables::Flows;
 use ioam_topo::{Flow, NodeId, Prefix, Traces};
 use std::alloc::Global;

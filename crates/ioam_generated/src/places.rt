@@ -3,8 +3,8 @@ ghost use Rattle.ioam_generated.specs.Bulk.{node_of, link_of, port_of, listed, b
 ghost use Rattle.ioam_generated.specs.Held.{HoldsNodes, HoldsLinks, HoldsPorts, AreParts};
 
 use ioam_base::memory::NoMemory;
+use ioam_base::name::Name;
 use ioam_data::Namespace;
-use ioam_desk::Name;
 use ioam_tables::{Links, Nodes, Parts, Ports};
 use ioam_topo::{Link, Node, NodeId, Port, Spaces};
 use std::alloc::Global;

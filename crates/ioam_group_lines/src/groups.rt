@@ -11,7 +11,7 @@ use crate::items::put_items;
 use ioam_base::memory::NoMemory;
 use ioam_base::text::append;
 use ioam_collect::{Collector, Group, Groups, Key, SIDE_BY_SIDE};
-use ioam_report::{Line, Piece, put_pieces, settle};
+use ioam_lines::{Line, Piece, put_pieces, settle};
 
 // Puts the line of a key together, its last word first.
 fn put_key(key: Key, count: u64, line: &mut Line)

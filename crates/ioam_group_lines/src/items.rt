@@ -5,7 +5,7 @@ ghost use Rattle.std.specs.List.{AllByRecursion, flat_map};
 ghost use Rattle.ioam_data.specs.Elements.{IsFilled};
 ghost use Rattle.ioam_dex.specs.Numbers.{has_flow, has_seq};
 ghost use Rattle.ioam_dex.specs.Record.{Record, Rec, front_of, kind_of, element_of};
-ghost use Rattle.ioam_report.specs.Digits.{digits_of};
+ghost use Rattle.ioam_lines.specs.Digits.{digits_of};
 ghost use Rattle.ioam_collect.specs.Keyed.{IsOfRecord};
 ghost use Rattle.ioam_group_lines.specs.GroupsText.{visit_text, record_line, item_line};
 
@@ -13,8 +13,8 @@ use ioam_base::memory::NoMemory;
 use ioam_base::octets::{u32_at, u64_at};
 use ioam_base::text::append;
 use ioam_data::TraceType;
+use ioam_lines::{Line, put_element, settle};
 use ioam_pool::{Item, Items};
-use ioam_report::{Line, put_element, settle};
 
 // Puts what stands in front of the fields in front of a line.
 fn put_kind(kind: TraceType, line: &mut Line)

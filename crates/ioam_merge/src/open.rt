@@ -6,7 +6,8 @@ ghost use Rattle.ioam_merge.specs.Merging.{Start, Merging, LeavesFewer, EndsKept
 
 use crate::merge::Merge;
 use ioam_base::memory::NoMemory;
-use ioam_desk::{Desk, DeskFault, Name};
+use ioam_base::name::Name;
+use ioam_desk::{Desk, DeskFault};
 use ioam_feed::open_feed;
 use std::alloc::Global;
 

@@ -20,8 +20,8 @@ use Rattle.ioam_ip.proofs.FitLaws.{heads_fit}
 use Rattle.ioam_ip.proofs.HeadsLeftLaws.{all_from as all_heads}
 use Rattle.ioam_ip.proofs.OptionsLaws.{option_size-pos}
 use Rattle.ioam_ip.proofs.OptionsLeftLaws.{all_from as all_options}
-use Rattle.ioam_report.proofs.ListedLaws.{few_filtered, few_options}
-use Rattle.ioam_report.proofs.TracesLaws.{options_in, options_either, the_heads, few_heads, few_octets, squared}
+use Rattle.ioam_lines.proofs.ListedLaws.{few_filtered, few_options}
+use Rattle.ioam_lines.proofs.TracesLaws.{options_in, options_either, the_heads, few_heads, few_octets, squared}
 use Rattle.ioam_option_lines.specs.OptionsText.{placed, ioam_among, IoamOf, AreIoam, ioam_in, ioam_from, ioam_of}
 
 -- ---- the options are those that the chain gives

@@ -21,8 +21,8 @@ use Rattle.ioam_trace.specs.declared.trace.Trace.{Trace}
 use Rattle.ioam_trace.specs.declared.incremental.Incremental.{Incremental}
 use Rattle.ioam_trace.specs.declared.fault.TraceFault.{TraceFault}
 use Rattle.ioam_trace.proofs.ReadLaws.{fault_of-Carries, elements_behind-Carries, fault_of-HasFault}
-use Rattle.ioam_report.specs.Digits.{digits_of}
-use Rattle.ioam_report.specs.TraceText.{line_feed, element_line}
+use Rattle.ioam_lines.specs.Digits.{digits_of}
+use Rattle.ioam_lines.specs.TraceText.{line_feed, element_line}
 use Rattle.ioam_option_lines.specs.OptionText.{trace_text, edge_text, direct_text, TraceSays, IncrementalSays, EdgeSays, DirectSays, SaysBy, Says, IsOptionLine, front_text}
 use Rattle.ioam_option_lines.specs.declared.types.OptionType.{OptionType}
 use Rattle.ioam_option_lines.specs.declared.types.OptionType.TheVariants.{PreallocatedTrace, IncrementalTrace, ProofOfTransit, EdgeToEdge, DirectExport, Other}

@@ -5,10 +5,10 @@ use Rattle.ioam_dex.specs.declared.direct.Direct.{Direct}
 use Rattle.ioam_edge.specs.declared.edge.Edge.{Edge}
 use Rattle.ioam_ip.specs.Options.{Item}
 use Rattle.ioam_trace.specs.declared.head.TraceHead.{TraceHead}
-use Rattle.ioam_report.specs.Digits.{digits_of}
-use Rattle.ioam_report.specs.FieldsText.{known}
-use Rattle.ioam_report.specs.Spaced.{when_there}
-use Rattle.ioam_report.specs.TraceText.{line_feed}
+use Rattle.ioam_lines.specs.Digits.{digits_of}
+use Rattle.ioam_lines.specs.FieldsText.{known}
+use Rattle.ioam_lines.specs.Spaced.{when_there}
+use Rattle.ioam_lines.specs.TraceText.{line_feed}
 use Rattle.ioam_option_lines.specs.OptionText.{head_text, edge_text, direct_text}
 
 abbrev direct_pieces : ℕ → ℕ → ℕ → List ℕ → List ℕ → List ℕ

@@ -1,7 +1,7 @@
 -- A packet's options have one text.
 use Rattle.std.proofs.Common.{◌≡◌, ℕ, List, [], ◌∷◌, ◌++◌, length, sym, ap, ◌∙◌, subst, codes, decimal}
 use Rattle.ioam_ip.specs.Options.{Item}
-use Rattle.ioam_report.specs.TraceText.{line_feed}
+use Rattle.ioam_lines.specs.TraceText.{line_feed}
 use Rattle.ioam_option_lines.specs.OptionText.{IsOptionLine, front_text}
 use Rattle.ioam_option_lines.specs.OptionsText.{OptionLines, OptionsText, CountedText}
 use Rattle.ioam_option_lines.proofs.SaysLaws.{Says-unique}

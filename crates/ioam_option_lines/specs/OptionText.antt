@@ -17,10 +17,10 @@ use Rattle.ioam_trace.specs.Head.{remaining_of}
 use Rattle.ioam_trace.specs.Read.{TraceOf, IncrementalOf, HasFault}
 use Rattle.ioam_trace.specs.declared.head.TraceHead.{TraceHead}
 use Rattle.ioam_trace.specs.declared.fault.TraceFault.{TraceFault}
-use Rattle.ioam_report.specs.Digits.{pair_of, digits_of}
-use Rattle.ioam_report.specs.FieldsText.{known, opaque_digits}
-use Rattle.ioam_report.specs.Spaced.{when_there}
-use Rattle.ioam_report.specs.TraceText.{line_feed, element_line}
+use Rattle.ioam_lines.specs.Digits.{pair_of, digits_of}
+use Rattle.ioam_lines.specs.FieldsText.{known, opaque_digits}
+use Rattle.ioam_lines.specs.Spaced.{when_there}
+use Rattle.ioam_lines.specs.TraceText.{line_feed, element_line}
 use Rattle.ioam_option_lines.specs.declared.types.OptionType.{OptionType}
 use Rattle.ioam_option_lines.specs.declared.types.OptionType.TheVariants.{PreallocatedTrace, IncrementalTrace, ProofOfTransit, EdgeToEdge, DirectExport, Other}
 

@@ -9,7 +9,7 @@ use Rattle.ioam_ip.specs.HeadsLeft.{heads_from}
 use Rattle.ioam_ip.specs.Options.{Item}
 use Rattle.ioam_ip.specs.OptionsLeft.{options_from}
 use Rattle.ioam_ip.specs.declared.chain.Head.{Head}
-use Rattle.ioam_report.specs.TraceText.{line_feed}
+use Rattle.ioam_lines.specs.TraceText.{line_feed}
 use Rattle.ioam_option_lines.specs.OptionText.{IsOptionLine}
 
 -- an option of a header that starts at a place of the packet, with its own place in the packet

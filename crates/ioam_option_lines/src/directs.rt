@@ -6,7 +6,7 @@ ghost use Rattle.ioam_option_lines.specs.OptionText.{direct_text, DirectSays};
 use crate::fields::{plain_narrow, put_bad};
 use ioam_base::memory::NoMemory;
 use ioam_dex::{Direct, read};
-use ioam_report::{Piece, put_pieces};
+use ioam_lines::{Piece, put_pieces};
 
 // The namespace, the type, the flags and the numbers that are there.
 #[tactic(auto, unfolding(crate::specs::OptionText::direct_text))]

@@ -7,7 +7,7 @@ use crate::fields::{plain, plain_narrow, put_bad};
 use ioam_base::buffer::Buffer;
 use ioam_base::memory::NoMemory;
 use ioam_edge::{Edge, read};
-use ioam_report::{Piece, number, put_pieces};
+use ioam_lines::{Piece, number, put_pieces};
 
 // The namespace, the type and the fields that are there.
 #[tactic(auto, unfolding(crate::specs::OptionText::edge_text))]

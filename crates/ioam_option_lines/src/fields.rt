@@ -1,12 +1,12 @@
 //! The fields that are printed of options of several kinds.
 ghost use Rattle.std.specs.Prelude.{◌≡◌, ◌++◌, decimal, is_ok, if◌then◌else◌};
-ghost use Rattle.ioam_report.specs.FieldsText.{opaque_digits};
-ghost use Rattle.ioam_report.specs.Piece.{piece_text};
-ghost use Rattle.ioam_report.specs.Spaced.{when_there};
+ghost use Rattle.ioam_lines.specs.FieldsText.{opaque_digits};
+ghost use Rattle.ioam_lines.specs.Piece.{piece_text};
+ghost use Rattle.ioam_lines.specs.Spaced.{when_there};
 ghost use Rattle.ioam_option_lines.specs.OptionText.{bad_text};
 
 use ioam_base::memory::NoMemory;
-use ioam_report::{Piece, put_pieces};
+use ioam_lines::{Piece, put_pieces};
 
 /// A number in decimal digits, where it is there.
 pub(crate) fn plain<'a>(label: &'a [u8], field: Option<u64>) -> Piece<'a>

@@ -13,7 +13,7 @@ use crate::types::{OptionType, type_of};
 use ioam_base::memory::NoMemory;
 use ioam_base::text::append;
 use ioam_ip::Opt;
-use ioam_report::{Piece, put_pieces, settle};
+use ioam_lines::{Piece, put_pieces, settle};
 
 // A proof of transit, whose octets are printed as they are.
 fn put_proof(octets: &[u8], out: &mut Vec<u8>) -> Result<(), NoMemory>

@@ -13,7 +13,7 @@ use crate::line::put_line;
 use crate::types::is_ioam_type;
 use ioam_base::memory::NoMemory;
 use ioam_ip::{Head, Opt, heads, options};
-use ioam_report::{Piece, put_pieces, settle};
+use ioam_lines::{Piece, put_pieces, settle};
 
 // Appends the lines of an option of a header that starts at a place of the packet, if it is an IOAM
 // option.

@@ -2,13 +2,13 @@
 ghost use Rattle.std.specs.Prelude.{◌≡◌, ◌++◌, codes, is_ok, if◌then◌else◌};
 ghost use Rattle.std.specs.List.{flat_map};
 ghost use Rattle.ioam_trace.specs.Read.{elements_in, incremental_elements};
-ghost use Rattle.ioam_report.specs.TraceText.{element_line};
+ghost use Rattle.ioam_lines.specs.TraceText.{element_line};
 ghost use Rattle.ioam_option_lines.specs.Appends.{Appends};
 ghost use Rattle.ioam_option_lines.specs.OptionText.{head_text, trace_text, TraceSays, IncrementalSays};
 
 use crate::fields::put_bad;
 use ioam_base::memory::NoMemory;
-use ioam_report::{Piece, put_element_line, put_element_lines, put_pieces, settle};
+use ioam_lines::{Piece, put_element_line, put_element_lines, put_pieces, settle};
 use ioam_trace::{Incremental, Trace, TraceHead};
 
 // The header of a trace.

@@ -1,7 +1,7 @@
 ghost use Rattle.std.specs.Prelude.{◌↔◌, Contains, IsTrue, MatchOption};
 ghost use Rattle.ioam_outputs.specs.Names.{AreApart, IsFirstRepeat};
 
-use ioam_desk::Name;
+use ioam_base::name::Name;
 
 /// The place of the first name that equals an earlier one.
 pub fn first_repeat(names: &[Name]) -> Option<usize>

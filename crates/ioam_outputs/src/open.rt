@@ -8,7 +8,8 @@ ghost use Rattle.ioam_outputs.specs.Names.{AreApart};
 ghost use Rattle.ioam_outputs.specs.Told.{AreOpen, AreTold, GathersNothing, unsaid};
 
 use crate::output::Output;
-use ioam_desk::{Desk, DeskFault, Name};
+use ioam_base::name::Name;
+use ioam_desk::{Desk, DeskFault};
 use std::alloc::Global;
 
 /// Opens an output for each of these names, in their order. Nothing is said to them yet.

@@ -7,10 +7,10 @@ ghost use Rattle.ioam_places.specs.NodeTable.{node_keys};
 ghost use Rattle.ioam_places.specs.NodeRead.{IsNewNode};
 
 use crate::before::Nothing;
-use ioam_desk::Name;
+use ioam_base::name::Name;
 use ioam_entries::{Collects, DomainRefused, Field, Spot, Table, new_name, own_keys};
-use ioam_toml::{Why, address, namespaces, number};
 use ioam_tables::Nodes;
+use ioam_toml::{Why, address, namespaces, number};
 use ioam_topo::Node;
 use std::alloc::Global;
 

@@ -1,12 +1,2 @@
-pub mod ElementsLaws
 pub mod FlowsLaws
-pub mod HopTracesLaws
-pub mod FilledLaws
-mod FittingLaws
-mod LineLaws
-pub mod LinesLaws
-pub mod ListedLaws
-pub mod TextLaws
-pub mod TracesLaws
-pub mod WordsLaws
 pub mod SumsLaws

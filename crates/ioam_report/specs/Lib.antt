@@ -1,11 +1,4 @@
-pub mod Digits
-pub mod FieldsText
 pub mod Flows
-pub mod HopText
-pub mod Piece
 pub mod RunText
-pub mod Spaced
 pub mod Sums
 pub mod SumsText
-pub mod TraceText
-pub mod TracesText

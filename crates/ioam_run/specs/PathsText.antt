@@ -1,8 +1,8 @@
 -- The text that `paths` writes: the traces of each packet of a capture.
 use Rattle.std.specs.Prelude.{◌≡◌, ℕ, List}
 use Rattle.ioam_pcap.specs.Entries.{Taken}
-use Rattle.ioam_report.specs.TracesText.{TracesText}
-use Rattle.ioam_report.proofs.TracesLaws.{TracesText-unique}
+use Rattle.ioam_lines.specs.TracesText.{TracesText}
+use Rattle.ioam_lines.proofs.TracesLaws.{TracesText-unique}
 use Rattle.ioam_run.specs.ListText.{ListTexts}
 
 abbrev pub PathsTexts : List Taken → List (List ℕ) → Type 0

@@ -4,7 +4,7 @@ ghost use Rattle.ioam_pcap.specs.Ending.{ending_of as ending};
 ghost use Rattle.ioam_run.specs.Run.{outcome_of};
 
 use ioam_answer::{Outcome, capture_outcome};
-use ioam_desk::Name;
+use ioam_base::name::Name;
 use ioam_pcap::CapFault;
 use std::alloc::Global;
 

@@ -11,7 +11,8 @@ ghost use Rattle.ioam_run.specs.Run.{Owes};
 use crate::filtering::Filtering;
 use crate::over_capture::run_over_capture;
 use ioam_answer::Outcome;
-use ioam_desk::{Desk, Name};
+use ioam_base::name::Name;
+use ioam_desk::Desk;
 use std::alloc::Global;
 
 /// Runs `filter IN OUT REPORT`: OUT becomes the capture of the packets of IN whose header chain is

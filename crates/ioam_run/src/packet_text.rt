@@ -4,8 +4,8 @@ ghost use Rattle.ioam_ip.specs.Chain.{IsSound};
 ghost use Rattle.ioam_ip.specs.Packet.{IsPacket};
 
 use ioam_base::memory::NoMemory;
+use ioam_lines::put_traces;
 use ioam_option_lines::put_counted_options;
-use ioam_report::put_traces;
 
 /// What a command writes of each packet whose header chain is whole.
 pub trait PacketText: Drop {
@@ -27,7 +27,7 @@ pub trait PacketText: Drop {
 pub struct TraceList;
 
 impl PacketText for TraceList {
-    ghost use Rattle.ioam_report.specs.TracesText.{TracesText};
+    ghost use Rattle.ioam_lines.specs.TracesText.{TracesText};
     ghost use Rattle.ioam_run.specs.PathsText.{one_of_traces};
 
     ghost tells = { TracesText };

@@ -7,7 +7,8 @@ use crate::listing::{Listing, none_listed};
 use crate::over_capture::run_over_capture;
 use crate::packet_text::TraceList;
 use ioam_answer::Outcome;
-use ioam_desk::{Desk, Name};
+use ioam_base::name::Name;
+use ioam_desk::Desk;
 use std::alloc::Global;
 
 /// Runs `paths IN REPORT`: REPORT lists, for each packet of IN whose header chain is whole, the

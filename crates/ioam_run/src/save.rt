@@ -8,7 +8,8 @@ ghost use Rattle.ioam_run.specs.Run.{Owes, input_name};
 use crate::over_capture::run_over_capture;
 use crate::saving::Saving;
 use ioam_answer::Outcome;
-use ioam_desk::{Desk, Name};
+use ioam_base::name::Name;
+use ioam_desk::Desk;
 use std::alloc::Global;
 
 /// Runs `save IN OUT`: OUT becomes a capture of the form pcapng (a section and two interfaces, one of

@@ -6,7 +6,7 @@ ghost use Rattle.ioam_topo.specs.Domain.{links, ports};
 ghost use Rattle.ioam_setting.specs.Names.{input_of, input_names, port_with, input_ports, inputs_at, tap_name, tap_names, output_names, file_names};
 
 use ioam_base::memory::NoMemory;
-use ioam_desk::Name;
+use ioam_base::name::Name;
 use ioam_topo::{Domain, Link, Port, PortId};
 use std::alloc::Global;
 

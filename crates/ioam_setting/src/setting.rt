@@ -10,8 +10,9 @@ ghost use Rattle.ioam_setting.specs.Reads.{IsDomainRead, AreReadingsRead};
 ghost use Rattle.ioam_setting.specs.Setting.{IsSetting, Refuses};
 ghost use Rattle.ioam_setting.specs.declared.setting.Refusal.{Refusal};
 
+use ioam_base::name::Name;
 use ioam_clock::{ReadWhy, Readings, ReadingsFault, ReadingsRefused, read_readings};
-use ioam_desk::{Desk, Name, WholeFault, read_whole};
+use ioam_desk::{Desk, WholeFault, read_whole};
 use ioam_domain_file::{DomainFault, DomainRefused, long_file, read_domain};
 use ioam_topo::Domain;
 use std::alloc::Global;

@@ -2,7 +2,7 @@
 ghost use Rattle.std.specs.Prelude.{◌≡◌, IfOk, length};
 
 use ioam_base::memory::NoMemory;
-use ioam_desk::Name;
+use ioam_base::name::Name;
 use std::alloc::Global;
 
 /// The head of each capture that is written: big-endian, nanoseconds, version 2.4, link type 101.

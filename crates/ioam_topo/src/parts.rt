@@ -5,8 +5,8 @@ use crate::octets::Octets;
 use crate::prefix::Prefix;
 use crate::spaces::Spaces;
 use crate::traces::{FlowTrace, Traces};
+use ioam_base::name::Name;
 use ioam_data::{Namespace, TraceType};
-use ioam_desk::Name;
 
 /// A node of the domain.
 #[derive(Debug, Drop)]

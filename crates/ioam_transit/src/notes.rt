@@ -4,7 +4,7 @@ ghost use Rattle.ioam_transit.specs.NotesText.{done_line, kind_text, note_line, 
 
 use ioam_base::memory::NoMemory;
 use ioam_base::text::append;
-use ioam_report::{Piece, put_pieces, settle};
+use ioam_lines::{Piece, put_pieces, settle};
 use ioam_visit::{NodeNote, What};
 
 // The kind of an option.

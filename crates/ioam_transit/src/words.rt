@@ -3,7 +3,7 @@ ghost use Rattle.std.specs.Prelude.{◌≡◌, IfOk, OnOk, ◌∷◌, ◌++◌, 
 ghost use Rattle.ioam_transit.specs.Run.{inward_of, node_files};
 
 use ioam_base::memory::NoMemory;
-use ioam_desk::Name;
+use ioam_base::name::Name;
 use ioam_topo::{Domain, NodeId};
 use std::alloc::Global;
 

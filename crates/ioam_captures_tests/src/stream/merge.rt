@@ -1,5 +1,6 @@
 use crate::stream::captures::TWO;
-use ioam_desk::{DeskFault, MemoryDesk, Name};
+use ioam_base::name::Name;
+use ioam_desk::{DeskFault, MemoryDesk};
 use ioam_merge::open_merge;
 use std::alloc::Global;
 use std::test::Fail;

@@ -2,9 +2,9 @@ ghost use Rattle.std.specs.Prelude.{◌≡◌, ◌<◌, ◌++◌, ◌∷◌, [],
 ghost use Rattle.ioam_desk.specs.Store.{Reads};
 
 use super::input::Input;
-use crate::name::Name;
 use crate::room::put;
 use ioam_base::memory::NoMemory;
+use ioam_base::name::Name;
 use std::alloc::Global;
 
 /// The input slots, and the names that were given to the call that opens them.

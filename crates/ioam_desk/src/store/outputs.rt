@@ -5,9 +5,9 @@ ghost use Rattle.ioam_desk.specs.Desk.Held.{Stored, Written};
 ghost use Rattle.ioam_desk.specs.Store.{written_at, files_of, held_of, Ties};
 
 use super::octets::Octets;
-use crate::name::Name;
 use crate::room::put;
 use ioam_base::memory::NoMemory;
+use ioam_base::name::Name;
 use std::alloc::Global;
 use std::collections::HashMap;
 

@@ -1,6 +1,6 @@
 use Rattle.std.proofs.Common.{◌≡◌, ℕ, List, ◌++◌, is_ok, cond, rules, ap, ◌∙◌, codes, decimal}
-use Rattle.ioam_report.specs.Piece.{piece_text}
-use Rattle.ioam_report.specs.Spaced.{when_there}
+use Rattle.ioam_lines.specs.Piece.{piece_text}
+use Rattle.ioam_lines.specs.Spaced.{when_there}
 use Rattle.ioam_option_lines.proofs.TextLaws.{direct_by_pieces}
 use Rattle.ioam_option_lines.proofs.directs.put_value.Goals as goal
 

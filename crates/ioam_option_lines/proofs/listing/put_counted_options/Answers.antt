@@ -1,5 +1,5 @@
 use Rattle.std.proofs.Common.{◌++◌, codes, decimal, rules}
-use Rattle.ioam_report.specs.TraceText.{line_feed}
+use Rattle.ioam_lines.specs.TraceText.{line_feed}
 use Rattle.ioam_option_lines.proofs.AppendsLaws.{Appends-behind}
 use Rattle.ioam_option_lines.proofs.TextLaws.{counted_by}
 use Rattle.ioam_option_lines.proofs.UniqueLaws.{CountedText-unique}

@@ -1,7 +1,7 @@
 use Rattle.std.proofs.Common.{List, ℕ, ◌++◌, codes, rules}
 use Rattle.std.specs.List.{flat_map}
 use Rattle.ioam_trace.specs.Read.{incremental_elements}
-use Rattle.ioam_report.specs.TraceText.{element_line}
+use Rattle.ioam_lines.specs.TraceText.{element_line}
 use Rattle.ioam_option_lines.specs.OptionText.{head_text}
 use Rattle.ioam_option_lines.proofs.AppendsLaws.{appended-behind}
 use Rattle.ioam_option_lines.proofs.traces.put_grown.Goals as goal

@@ -2,8 +2,8 @@ use Rattle.std.proofs.Common.{◌≡◌, ◌∷◌, ◌++◌, List, ℕ, rules}
 use Rattle.std.proofs.lemmas.List.Elements.{All-rest}
 use Rattle.ioam_data.specs.Elements.{IsElement}
 use Rattle.ioam_trace.specs.Left.{left}
-use Rattle.ioam_report.specs.TraceText.{element_line}
-use Rattle.ioam_report.proofs.TextLaws.{lines-step, front-kept, longer}
+use Rattle.ioam_lines.specs.TraceText.{element_line}
+use Rattle.ioam_lines.proofs.TextLaws.{lines-step, front-kept, longer}
 use Rattle.ioam_option_lines.proofs.traces.put_newer_lines.Goals as goal
 
 pub loop-element-preserved : goal.loop-element-preserved

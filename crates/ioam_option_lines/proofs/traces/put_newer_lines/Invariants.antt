@@ -2,7 +2,7 @@ use Rattle.std.proofs.Common.{◌≡◌, ◌++◌, ◌≤◌, length, take}
 use Rattle.std.specs.List.{All, flat_map}
 use Rattle.ioam_data.specs.Elements.{IsElement}
 use Rattle.ioam_trace.specs.Left.{left}
-use Rattle.ioam_report.specs.TraceText.{element_line}
+use Rattle.ioam_lines.specs.TraceText.{element_line}
 use Rattle.ioam_option_lines.proofs.traces.put_newer_lines.Given as goal
 
 abbrev pub invariant-loop-element : goal.invariant-loop-element

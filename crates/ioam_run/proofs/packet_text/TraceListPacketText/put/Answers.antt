@@ -1,4 +1,4 @@
-use Rattle.ioam_report.specs.TracesText.{traces_text}
+use Rattle.ioam_lines.specs.TracesText.{traces_text}
 use Rattle.ioam_base.proofs.ResultLaws.{OnOk-map}
 use Rattle.ioam_run.proofs.ListingLaws.{appended}
 use Rattle.ioam_run.proofs.packet_text.TraceListPacketText.put.Goals as goal

@@ -1,0 +1,10 @@
+pub mod ElementsLaws
+pub mod HopTracesLaws
+pub mod FilledLaws
+mod FittingLaws
+mod LineLaws
+pub mod LinesLaws
+pub mod ListedLaws
+pub mod TextLaws
+pub mod TracesLaws
+pub mod WordsLaws

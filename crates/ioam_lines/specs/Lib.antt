@@ -1,0 +1,7 @@
+pub mod Digits
+pub mod FieldsText
+pub mod HopText
+pub mod Piece
+pub mod Spaced
+pub mod TraceText
+pub mod TracesText
