@@ -1,6 +1,6 @@
 ghost use Rattle.std.specs.Prelude.{◌≡◌, List, ℕ, string_bytes, IfOk};
 
-use ioam_base::memory::NoMemory;
+use crate::memory::NoMemory;
 use std::alloc::Global;
 use std::marker::Model;
 

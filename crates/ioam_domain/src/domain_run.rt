@@ -23,7 +23,9 @@ use ioam_batch::Gate;
 use ioam_clock::Readings;
 use ioam_desk::Desk;
 use ioam_outputs::first_repeat;
-use ioam_setting::{Refusal, Setting, file_names, input_names, input_ports, output_names, read_setting};
+use ioam_setting::{
+    Refusal, Setting, file_names, input_names, input_ports, output_names, read_setting,
+};
 use ioam_topo::Domain;
 use ioam_traffic::{Halt, run_traffic};
 use std::alloc::Global;

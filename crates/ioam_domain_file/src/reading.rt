@@ -13,8 +13,8 @@ use crate::top::read_own;
 use ioam_base::memory::NoMemory;
 use ioam_entries::{DomainFault, DomainRefused, Field, Table, Why};
 use ioam_places::{read_parts, read_routes};
-use ioam_telemetry::{read_data, read_flows};
 use ioam_tables::{Nodes, Telemetry, domain_of};
+use ioam_telemetry::{read_data, read_flows};
 use ioam_topo::Domain;
 use std::alloc::Global;
 

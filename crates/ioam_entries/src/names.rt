@@ -6,8 +6,8 @@ ghost use Rattle.ioam_toml.specs.Reads.{Reads, ◌▷◌, needed};
 ghost use Rattle.ioam_toml.specs.Texts.{name};
 ghost use Rattle.ioam_entries.specs.Goods.{fresh, known, differs};
 
-use ioam_toml::{Why, name};
 use ioam_tables::Names;
+use ioam_toml::{Why, name};
 use toml::Table;
 
 /// The name at a key of an entry that is needed, which isn't to be among these names: else Twice.

@@ -12,7 +12,9 @@ ghost use Rattle.ioam_places.specs.LinkRead.{IsNewLink};
 use crate::before::AmongNodes;
 use ioam_base::memory::NoMemory;
 use ioam_base::name::Name;
-use ioam_entries::{Collects, DomainRefused, Field, Spot, Table, known, known_other, new_name, number32, own_keys};
+use ioam_entries::{
+    Collects, DomainRefused, Field, Spot, Table, known, known_other, new_name, number32, own_keys,
+};
 use ioam_tables::{Links, Nodes};
 use ioam_toml::{Why, maybe_file_name};
 use ioam_topo::{Link, NodeId};

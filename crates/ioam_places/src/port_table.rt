@@ -7,7 +7,9 @@ ghost use Rattle.ioam_places.specs.PortRead.{IsNewPort};
 use crate::before::AmongNodes;
 use crate::link_table::maybe_copied;
 use ioam_base::name::Name;
-use ioam_entries::{Collects, DomainRefused, Field, Spot, Table, known, new_name, number32, own_keys};
+use ioam_entries::{
+    Collects, DomainRefused, Field, Spot, Table, known, new_name, number32, own_keys,
+};
 use ioam_tables::{Nodes, Ports};
 use ioam_toml::{file_name, maybe_file_name};
 use ioam_topo::{NodeId, Port};

@@ -15,7 +15,9 @@ ghost use Rattle.ioam_places.specs.Places.{node_entries, link_entries, port_entr
 
 use crate::before::{AmongNodes, AmongParts, Nothing};
 use ioam_entries::{DomainRefused, Table, read_entries};
-use ioam_tables::{Links, MOST_LINKS, MOST_NODES, MOST_PORTS, MOST_ROUTES, Nodes, Parts, Ports, Routes};
+use ioam_tables::{
+    Links, MOST_LINKS, MOST_NODES, MOST_PORTS, MOST_ROUTES, Nodes, Parts, Ports, Routes,
+};
 use std::alloc::Global;
 
 // The nodes of a file.

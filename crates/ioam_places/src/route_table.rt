@@ -13,8 +13,8 @@ ghost use Rattle.ioam_places.specs.RouteRead.{keys_behind, IsNewRoute};
 
 use crate::before::AmongParts;
 use ioam_entries::{Collects, DomainRefused, Field, Spot, Table, known, known_name, own_keys};
-use ioam_toml::{Why, has, maybe_name, prefix};
 use ioam_tables::{Parts, Routes};
+use ioam_toml::{Why, has, maybe_name, prefix};
 use ioam_topo::{LinkId, NodeId, PortId, Prefix, Route, Way};
 use std::alloc::Global;
 

@@ -12,8 +12,8 @@ use ioam_data::Namespace;
 use ioam_entries::{
     Collects, DomainRefused, Field, Spot, Table, known, maybe_number32, number16, own_keys,
 };
-use ioam_toml::{Refused, Why, beside, has, maybe_number, maybe_octets};
 use ioam_tables::{DataRows, Nodes};
+use ioam_toml::{Refused, Why, beside, has, maybe_number, maybe_octets};
 use ioam_topo::{NodeData, NodeId, Octets};
 use std::alloc::Global;
 

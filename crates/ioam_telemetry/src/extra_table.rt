@@ -23,8 +23,8 @@ use ioam_data::{Namespace, TraceType};
 use ioam_entries::{
     Collects, DomainRefused, Field, Spot, Table, known, number8, number16, own_keys,
 };
-use ioam_toml::{Why, maybe_trace_type};
 use ioam_tables::{Flows, Nodes};
+use ioam_toml::{Why, maybe_trace_type};
 use ioam_topo::{Flow, FlowTrace};
 use std::alloc::Global;
 

@@ -14,8 +14,8 @@ use ioam_entries::{
     DomainRefused, Field, Spot, Table, known, known_other, maybe_number8, maybe_number32, number8,
     number16, number32_or_0,
 };
-use ioam_toml::{Why, beside, has, maybe_direct_type, maybe_edge_type, maybe_trace_type, prefix};
 use ioam_tables::Nodes;
+use ioam_toml::{Why, beside, has, maybe_direct_type, maybe_edge_type, maybe_trace_type, prefix};
 use ioam_topo::Prefix;
 
 // Which packets of a flow are enclosed, and from where to where.

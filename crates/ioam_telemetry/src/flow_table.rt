@@ -16,7 +16,9 @@ use crate::flow_parts::{
 };
 use ioam_base::name::Name;
 use ioam_data::Namespace;
-use ioam_entries::{Collects, DomainRefused, Field, Spot, Table, maybe_number32, maybe_number8, new_name, own_keys};
+use ioam_entries::{
+    Collects, DomainRefused, Field, Spot, Table, maybe_number8, maybe_number32, new_name, own_keys,
+};
 use ioam_tables::{Flows, Nodes};
 use ioam_toml::{Why, beside, has};
 use ioam_topo::{Flow, NodeId, Traces};
