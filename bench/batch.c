@@ -1,6 +1,6 @@
 /* batch READINGS WORKERS BATCHES: the visits of batches of 256 packets along a line (line.h), in place over buffers that are
  * ready, by so many threads that are made for each batch. It times the visits alone, and prints what the program beside it does
- * (crates/ioam_bench): the least and the median nanoseconds of a batch, its visits, and checksums of all packets and export records. */
+ * (bench/batch): the least and the median nanoseconds of a batch, its visits, and checksums of all packets and export records. */
 #include "line.h"
 #include <pthread.h>
 #include <time.h>

@@ -3,16 +3,20 @@
 # nodes, for several kinds of traces, with 1, 2 and 4 workers, BATCHES batches each (500 where none is given), three rounds in
 # turn, the least and the median of a batch. Beside it a yardstick in C (batch.c) does the same visits in place, in threads too.
 # Both must leave the same packets and export records, octet for octet, by checksums. What is timed is `run_batch` in a small
-# program, crates/ioam_bench, which is proved and built where that is needed:
+# program, batch/, which is no crate of the gate: it is proved and built first, beside the crates of a copy of what is committed
+# (some minutes, where the gate has passed on this machine):
 #     bench/batch.sh [BATCHES]
 set -eu
 . "$(dirname "${BASH_SOURCE[0]}")/timing.sh"
 batches=${1:-500}
 . "$here/line.sh"
 make_room gcc
-program=$top/crates/ioam_bench/out/ioam_bench
+git clone -q "$top" copy
+cp -r "$here/batch" copy/crates/ioam_bench
+echo 'ioam_bench: ioam_base ioam_batch ioam_clock ioam_domain_file ioam_node ioam_plan ioam_topo' >>copy/crates.txt
+program=$PWD/copy/crates/ioam_bench/out/ioam_bench
 # Without words the program ends with status 1, which is no failure here.
-(cd "$top/crates/ioam_bench" && rt run) >log 2>&1 || true
+(cd copy/crates/ioam_bench && rt run) >log 2>&1 || true
 [ -x "$program" ] || {
     cat log >&2
     echo "bench: the program was not built" >&2
