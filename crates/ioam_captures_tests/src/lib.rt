@@ -1,7 +1,10 @@
-//! The tests of captures: of either form (`ioam_captures`), what a reader shows in any pieces, and the
-//! turn of several; of the form pcapng (`ng`); and of captures that are read in pieces and merged (`stream`).
+//! The tests of files and captures: of the desks (`desk`); of captures of either form
+//! (`ioam_captures`), what a reader shows in any pieces, and the turn of several; of the form pcapng
+//! (`ng`); and of captures that are read in pieces and merged (`stream`).
 #![tactic(auto)]
 
+#[cfg(test)]
+mod desk;
 #[cfg(test)]
 mod due;
 #[cfg(test)]

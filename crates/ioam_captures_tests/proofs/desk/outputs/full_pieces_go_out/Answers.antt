@@ -1,6 +1,6 @@
 use Rattle.std.proofs.Common.{◌<◌, All, List, length, sym, subst}
 use Rattle.ioam_outputs.specs.declared.output.Output.{Output}
-use Rattle.ioam_desk_tests.proofs.outputs.full_pieces_go_out.Goals as goal
+use Rattle.ioam_captures_tests.proofs.desk.outputs.full_pieces_go_out.Goals as goal
 
 pub flush_full-requires : goal.flush_full-requires
 flush_full-requires g c =
