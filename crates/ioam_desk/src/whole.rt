@@ -1,4 +1,4 @@
-ghost use Rattle.std.specs.Prelude.{◌≡◌, ◌≤◌, ◌<◌, [], take, length, vec_len, IsTrue, IfOk, IfErr, MatchResult, MatchBool};
+ghost use Rattle.std.specs.Prelude.{◌≡◌, ◌≤◌, ◌<◌, [], take, length, vec_len, IsTrue, IfOk, IfErr, OnErr, MatchResult, MatchBool};
 ghost use Rattle.ioam_desk.specs.Desk.{Reading, holds, Grows};
 ghost use Rattle.ioam_desk.specs.Whole.{Hands, HandsMore, ReadsRest, FailsRest, ReadsWhole, FailsWhole, sent, WritesSide};
 
@@ -104,6 +104,8 @@ fn read_piece<D: Desk>(
 pub fn write_all<D: Desk>(desk: &mut D, slot: u32, octets: &[u8]) -> Result<(), WriteAll>
     requires { slot < (D.writing desk.old).side.slots }
     ensures sent { sent (length octets.now) result ≤ length octets.now }
+    // An error comes only where something is left to write.
+    ensures left { OnErr result (sent (length octets.now) result < length octets.now) }
     ensures side { WritesSide (D.writing desk.old).side result (D.writing desk.new).side }
     ensures written { Grows D.tells (D.writing desk.old) (D.writing desk.new) slot (take (sent (length octets.now) result) octets.now) }
     ensures inputs { D.reading desk.new ≡ D.reading desk.old }

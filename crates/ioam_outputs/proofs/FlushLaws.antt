@@ -1,12 +1,13 @@
 -- One output after another is written.
 use Rattle.std.proofs.Common.{◌≡◌, ◌≢◌, ℕ, ◌+◌, ◌<◌, ◌≤◌, Bool, List, [], ◌∷◌, ◌++◌, length, take, All, get_or, set, refl, sym, ◌∙◌, ap, subst, inl, inr, arith}
+use Rattle.std.specs.Prelude.{Result, Ok, Err, OnErr}
 use Rattle.std.proofs.lemmas.Bool.{cases_eq, cases_lt}
 use Rattle.std.proofs.lemmas.List.{take_more_set, take_all, get_or_default, get_or-set_same, get_or-set_other, length-set}
 use Rattle.std.proofs.lemmas.List.Elements.{All-set, All-push, All-same, All-weaker}
 use Rattle.ioam_desk.specs.Desk.{Writing}
 use Rattle.ioam_outputs.specs.declared.output.Output.{Output}
 use Rattle.ioam_outputs.specs.Told.{AreOpen}
-use Rattle.ioam_outputs.specs.Flush.{Moves, KeepsFew, KeepsTold}
+use Rattle.ioam_outputs.specs.Flush.{Moves, KeepsFew, KeepsTold, LeavesSome}
 use Rattle.ioam_outputs.proofs.ToldLaws.{AreTold-moves}
 
 module _ (tells : Bool) (old new : Writing) (outputs : List Output) (i : ℕ) (d after : Output) where
@@ -114,3 +115,20 @@ module _ (tells : Bool) (least : ℕ) (start old new : Writing) (first outputs :
     ahead = λ j e past. get_or-set_other outputs i j after e (λ same. omega (arith, past, same)) ∙ are.ahead j e (omega (arith, past));
     size = length-set outputs i after ∙ are.size;
   }
+
+-- An output that had enough, and of which something is left behind its writing.
+pub leaves_some : (least : ℕ) (start desk : Writing) (first outputs : List Output) (i : ℕ) (d after : Output) → i < length outputs
+    → least ≤ length (get_or outputs i d).gathered.items → 0 < length after.gathered.items → AreKept least start desk first outputs i
+    → LeavesSome least first (set outputs i after)
+leaves_some least start desk first outputs i d after inside full left are = record {
+  place = i;
+  inside = omega (arith, inside, are.size);
+  full = λ e. subst (λ (output : Output). least ≤ length output.gathered.items)
+      (get_or_default outputs i d e inside ∙ are.ahead i e (omega arith)) full;
+  left = λ e. subst (λ (output : Output). 0 < length output.gathered.items) (sym (get_or-set_same outputs i after e inside)) left;
+}
+
+-- what holds whatever the answer is holds of an error
+pub on_err_so : {T E P : Type 0} (result : Result T E) → P → OnErr result P
+on_err_so (Ok value) so = tt
+on_err_so (Err fault) so = so

@@ -1,5 +1,5 @@
 -- What a writing of gathered octets changes.
-use Rattle.std.specs.Prelude.{◌≡◌, ◌≢◌, ℕ, ◌<◌, Bool, IsTrue, List, ◌++◌, length, get_or, All}
+use Rattle.std.specs.Prelude.{◌≡◌, ◌≢◌, ℕ, ◌<◌, ◌≤◌, Bool, IsTrue, List, ◌++◌, length, get_or, All}
 use Rattle.ioam_desk.specs.Desk.{Writing, SameBut}
 use Rattle.ioam_outputs.specs.declared.output.Output.{Output}
 use Rattle.ioam_outputs.specs.Told.{AreTold}
@@ -26,3 +26,10 @@ pub record WritesTheirs (old new : Writing) (outputs : List Output) : Type 0 whe
 pub record KeepsFew (least : ℕ) (old new : Writing) (before after : List Output) : Type 0 where
   pub gathered : (i : ℕ) (d : Output) → i < length before → length (get_or before i d).gathered.items < least → get_or after i d ≡ get_or before i d
   pub written : (k : ℕ) → All (λ output. output.slot ≡ k → length output.gathered.items < least) before → new.written k ≡ old.written k
+
+-- for the output at some place at least so many octets were gathered, and some are still to be written
+pub record LeavesSome (least : ℕ) (before after : List Output) : Type 0 where
+  pub place : ℕ
+  pub inside : place < length before
+  pub full : (d : Output) → least ≤ length (get_or before place d).gathered.items
+  pub left : (d : Output) → 0 < length (get_or after place d).gathered.items

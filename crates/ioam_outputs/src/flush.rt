@@ -1,7 +1,7 @@
 //! Writing of gathered octets.
-ghost use Rattle.std.specs.Prelude.{◌≡◌, ◌≤◌, ◌<◌, [], ℕ, List, All, IsTrue, IfErr, OnOk, length};
+ghost use Rattle.std.specs.Prelude.{◌≡◌, ◌≤◌, ◌<◌, [], ℕ, List, All, IsTrue, IfErr, OnErr, OnOk, length};
 ghost use Rattle.ioam_desk.specs.Asked.{IsFaultOf};
-ghost use Rattle.ioam_outputs.specs.Flush.{KeepsFew, KeepsTold, Moves, WritesTheirs};
+ghost use Rattle.ioam_outputs.specs.Flush.{KeepsFew, KeepsTold, LeavesSome, Moves, WritesTheirs};
 ghost use Rattle.ioam_outputs.specs.Held.{HoldTexts, HoldAllFronts};
 ghost use Rattle.ioam_outputs.specs.Told.{AreTold, AreOpen, GathersFew, GathersNothing};
 
@@ -17,6 +17,7 @@ fn flush<D: Desk>(desk: &mut D, output: &mut Output) -> Result<(), DeskFault>
     requires { output.old.slot < (D.writing desk.old).side.slots }
     ensures moved { Moves D.tells (D.writing desk.old) (D.writing desk.new) output.old output.new }
     ensures all { OnOk result (output.new.gathered.items ≡ []) }
+    ensures left { OnErr result (0 < length output.new.gathered.items) }
     ensures same { OnOk result ((D.writing desk.new).side ≡ (D.writing desk.old).side) }
     ensures asked { (D.writing desk.new).side.asked ≡ (D.writing desk.old).side.asked }
     ensures cause { IfErr result (IsFaultOf (D.writing desk.old).side (D.writing desk.new).side) }
@@ -45,6 +46,8 @@ fn flush_from<D: Desk>(desk: &mut D, output: &mut Output, least: usize) -> Resul
     ensures moved { Moves D.tells (D.writing desk.old) (D.writing desk.new) output.old output.new }
     ensures kept { length output.old.gathered.items < least → (output.new ≡ output.old) × (D.writing desk.new ≡ D.writing desk.old) }
     ensures few { OnOk result (length output.new.gathered.items < least) }
+    ensures full { OnErr result (least ≤ length output.old.gathered.items) }
+    ensures left { OnErr result (0 < length output.new.gathered.items) }
     ensures same { OnOk result ((D.writing desk.new).side ≡ (D.writing desk.old).side) }
     ensures asked { (D.writing desk.new).side.asked ≡ (D.writing desk.old).side.asked }
     ensures cause { IfErr result (IsFaultOf (D.writing desk.old).side (D.writing desk.new).side) }
@@ -63,6 +66,7 @@ fn flush_each<D: Desk>(desk: &mut D, outputs: &mut [Output], least: usize) -> Re
     ensures told { KeepsTold D.tells (D.writing desk.old) (D.writing desk.new) outputs.old outputs.new }
     ensures kept { KeepsFew least (D.writing desk.old) (D.writing desk.new) outputs.old outputs.new }
     ensures few { OnOk result (All (λ output. length output.gathered.items < least) outputs.new) }
+    ensures left { OnErr result (LeavesSome least outputs.old outputs.new) }
     ensures same { OnOk result ((D.writing desk.new).side ≡ (D.writing desk.old).side) }
     ensures asked { (D.writing desk.new).side.asked ≡ (D.writing desk.old).side.asked }
     ensures slots { (D.writing desk.new).side.slots ≡ (D.writing desk.old).side.slots }
@@ -89,6 +93,8 @@ pub fn flush_full<D: Desk>(desk: &mut D, outputs: &mut [Output]) -> Result<(), D
     ensures fronts { IsTrue D.tells → (slot : ℕ) (names texts : List (List ℕ))
         → AreTold D.tells (D.writing desk.old) slot names outputs.old texts → HoldAllFronts (D.writing desk.new) names texts }
     ensures few { OnOk result (GathersFew outputs.new) }
+    // A fault comes only where an output had a full piece, of which something is left.
+    ensures left { OnErr result (LeavesSome 65536 outputs.old outputs.new) }
     ensures kept { KeepsFew 65536 (D.writing desk.old) (D.writing desk.new) outputs.old outputs.new }
     ensures cause { IfErr result (IsFaultOf (D.writing desk.old).side (D.writing desk.new).side) }
     ensures same { OnOk result ((D.writing desk.new).side ≡ (D.writing desk.old).side) }
@@ -113,6 +119,8 @@ pub fn finish<D: Desk>(desk: &mut D, outputs: &mut [Output]) -> Result<(), DeskF
     ensures fronts { IsTrue D.tells → (slot : ℕ) (names texts : List (List ℕ))
         → AreTold D.tells (D.writing desk.old) slot names outputs.old texts → HoldAllFronts (D.writing desk.new) names texts }
     ensures all { OnOk result (GathersNothing outputs.new) }
+    // A fault comes only where something is left.
+    ensures left { OnErr result (LeavesSome 1 outputs.old outputs.new) }
     ensures cause { IfErr result (IsFaultOf (D.writing desk.old).side (D.writing desk.new).side) }
     ensures same { OnOk result ((D.writing desk.new).side ≡ (D.writing desk.old).side) }
     ensures asked { (D.writing desk.new).side.asked ≡ (D.writing desk.old).side.asked }

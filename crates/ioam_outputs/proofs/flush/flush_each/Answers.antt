@@ -1,5 +1,5 @@
 use Rattle.std.proofs.Common.{◌<◌, ◌∙◌, length, arith}
-use Rattle.ioam_outputs.proofs.FlushLaws.{kept_more, others_more, keeps_more, open_more, few_more, few_all}
+use Rattle.ioam_outputs.proofs.FlushLaws.{kept_more, others_more, keeps_more, open_more, few_more, few_all, leaves_some, on_err_so}
 use Rattle.ioam_outputs.proofs.flush.flush_each.Goals as goal
 
 pub returns-in_err-flush_from-clause-told : goal.returns-in_err-flush_from-clause-told
@@ -57,3 +57,10 @@ returns-in_err-flush_from-clause-others g c =
 
 pub returns-clause-others : goal.returns-clause-others
 returns-clause-others g c = record { files = c.outputs.invariant.files; written = λ k none. (c.outputs.invariant.others k none).1 }
+
+pub returns-in_err-flush_from-clause-left : goal.returns-in_err-flush_from-clause-left
+returns-in_err-flush_from-clause-left g c =
+    let inside : c.outputs.output-index < length c.outputs.outputs = omega arith in
+    on_err_so c.from_residual.result (leaves_some c.args.least (g.D.Desk.writing c.args.desk.now) (g.D.Desk.writing c.outputs.desk)
+    c.args.outputs.now c.outputs.outputs c.outputs.output-index c.output-item.result c.flush_from.new.output
+    inside c.in_err-flush_from.ensures.full c.in_err-flush_from.ensures.left c.outputs.invariant.kept)
