@@ -1,3 +1,2 @@
-pub mod FreshLaws
-pub mod HeldLaws
-pub mod KeptLaws
+pub mod EqualLaws
+pub mod SoundLaws

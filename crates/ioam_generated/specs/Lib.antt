@@ -1,2 +1,1 @@
 pub mod Bulk
-pub mod Held

@@ -1,11 +1,9 @@
 ghost use Rattle.std.specs.Prelude.{◌≡◌, ◌∷◌, [], IfOk};
 ghost use Rattle.ioam_generated.specs.Bulk.{bulk_flow};
-ghost use Rattle.ioam_generated.specs.Held.{HoldsFlows};
 
 use ioam_base::memory::NoMemory;
 use ioam_base::name::Name;
 use ioam_data::{Namespace, TraceType};
-use ioam_tables::Flows;
 use ioam_topo::{Flow, NodeId, Prefix, Traces};
 use std::alloc::Global;
 
@@ -41,11 +39,10 @@ fn bulk_flow(alloc: Global) -> Result<Flow, NoMemory>
 }
 
 // The flows, of which there is one.
-pub(crate) fn bulk_flows(alloc: Global) -> Result<Flows, NoMemory>
-    ensures { IfOk result (HoldsFlows (bulk_flow ∷ [])) }
+pub(crate) fn bulk_flows(alloc: Global) -> Result<Vec<Flow>, NoMemory>
+    ensures { IfOk result (λ flows. flows.items ≡ bulk_flow ∷ []) }
 {
-    let mut flows = Flows::new(alloc);
     let flow = bulk_flow(alloc)?;
-    flows.add(alloc, "f", flow)?;
+    let flows = vec![in alloc; flow]?;
     Ok(flows)
 }

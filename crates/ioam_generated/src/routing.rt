@@ -1,9 +1,7 @@
-ghost use Rattle.std.specs.Prelude.{◌≡◌, ◌+◌, ◌*◌, ◌<◌, OnOk, IfOk, Some, slice_get, take};
-ghost use Rattle.ioam_generated.specs.Bulk.{route_of, to_last, to_east, bulk_routes};
-ghost use Rattle.ioam_generated.specs.Held.{HoldsRoutes};
+ghost use Rattle.std.specs.Prelude.{◌≡◌, IfOk};
+ghost use Rattle.ioam_generated.specs.Bulk.{route_of, to_last, to_east, by_link, bulk_routes};
 
 use ioam_base::memory::NoMemory;
-use ioam_tables::Routes;
 use ioam_topo::{LinkId, NodeId, PortId, Prefix, Route, Way};
 use std::alloc::Global;
 
@@ -27,50 +25,42 @@ fn to_east() -> Prefix
     }
 }
 
-// Adds the route of a place.
-fn add_route(routes: &mut Routes, at: u32, route: Route) -> Result<(), NoMemory>
-    requires front { HoldsRoutes (take at bulk_routes) routes.old }
-    requires this { slice_get bulk_routes at ≡ Some route }
-    ensures { OnOk result (HoldsRoutes (take (at + 1) bulk_routes) routes.new) }
+// The route of a node to the last one, by the link to the next one.
+fn last_from(at: u32) -> Route
+    ensures { result ≡ route_of at to_last (by_link at) }
 {
-    routes.add(route)?;
-    Ok(())
+    Route {
+        node: NodeId(at),
+        prefix: to_last(),
+        way: Way::Link(LinkId(at)),
+    }
 }
 
-// Adds both routes of a node to the next one.
-fn add_both(routes: &mut Routes, node: u32) -> Result<(), NoMemory>
-    requires front { HoldsRoutes (take (2 * node) bulk_routes) routes.old }
-    requires small { node < 4 }
-    ensures { OnOk result (HoldsRoutes (take (2 * (node + 1)) bulk_routes) routes.new) }
+// The route of a node to the packets' targets.
+fn east_from(at: u32, way: Way) -> Route
+    ensures { result ≡ route_of at to_east way }
 {
-    let first = Route {
-        node: NodeId(node),
-        prefix: to_last(),
-        way: Way::Link(LinkId(node)),
-    };
-    let second = Route {
-        node: NodeId(node),
+    Route {
+        node: NodeId(at),
         prefix: to_east(),
-        way: Way::Link(LinkId(node)),
-    };
-    add_route(routes, 2 * node, first)?;
-    add_route(routes, 2 * node + 1, second)?;
-    Ok(())
+        way,
+    }
 }
 
 // The routes of all nodes.
-pub(crate) fn bulk_routes(alloc: Global) -> Result<Routes, NoMemory>
-    ensures { IfOk result (HoldsRoutes bulk_routes) }
+pub(crate) fn bulk_routes(alloc: Global) -> Result<Vec<Route>, NoMemory>
+    ensures { IfOk result (λ routes. routes.items ≡ bulk_routes) }
 {
-    let mut routes = Routes::new(alloc);
-    for node in 0..4 {
-        add_both(&mut routes, node)?;
-    }
-    let out = Route {
-        node: NodeId(4),
-        prefix: to_east(),
-        way: Way::Port(PortId(1)),
-    };
-    add_route(&mut routes, 8, out)?;
+    let routes = vec![in alloc;
+        last_from(0),
+        east_from(0, Way::Link(LinkId(0))),
+        last_from(1),
+        east_from(1, Way::Link(LinkId(1))),
+        last_from(2),
+        east_from(2, Way::Link(LinkId(2))),
+        last_from(3),
+        east_from(3, Way::Link(LinkId(3))),
+        east_from(4, Way::Port(PortId(1))),
+    ]?;
     Ok(routes)
 }

@@ -1,4 +1,5 @@
 pub mod KeyLaws
+pub mod ApartLaws
 pub mod LongestLaws
 pub mod ForwardLaws
 pub mod FindingLaws

@@ -1,7 +1,6 @@
-use Rattle.std.proofs.Common.{ap}
-use Rattle.ioam_generated.specs.Bulk.{bulk_flow}
+use Rattle.std.proofs.Common.{refl, ◌∙◌}
+use Rattle.ioam_generated.proofs.EqualLaws.{same_more}
 use Rattle.ioam_generated.proofs.flow.bulk_flows.Goals as goal
 
-pub add-requires-clause-name : goal.add-requires-clause-name
-unfolding bulk_flow
-add-requires-clause-name c = ap (λ flow. flow.name) c.in_ok-flow.ensures
+pub returns : goal.returns
+returns c = c.in_ok-flows.ensures.items ∙ same_more c.in_ok-flow.ensures refl

@@ -1,8 +1,11 @@
-use Rattle.ioam_generated.proofs.HeldLaws.{all_routes, last_route, there_route}
+use Rattle.std.proofs.Common.{refl, ◌∙◌}
+use Rattle.ioam_generated.specs.Bulk.{bulk_routes}
+use Rattle.ioam_generated.proofs.EqualLaws.{same_more}
 use Rattle.ioam_generated.proofs.routing.bulk_routes.Goals as goal
 
-pub add_route-requires-clause-this : goal.add_route-requires-clause-this
-add_route-requires-clause-this c = there_route 8 4 _ _ _ last_route c.to_east.ensures
-
 pub returns : goal.returns
-returns c = all_routes _ c.in_ok-add_route.ensures
+unfolding bulk_routes
+returns c = c.in_ok-routes.ensures.items
+    ∙ same_more c.last_from.ensures (same_more c.east_from.ensures (same_more c.last_from-2.ensures (same_more c.east_from-2.ensures
+    (same_more c.last_from-3.ensures (same_more c.east_from-3.ensures (same_more c.last_from-4.ensures (same_more c.east_from-4.ensures
+    (same_more c.east_from-5.ensures refl))))))))

@@ -1,6 +1,7 @@
 use Rattle.std.proofs.Common.{ap, length, arith}
 use Rattle.std.proofs.lemmas.Bool.Decides.{nat_tests}
-use Rattle.ioam_tables.proofs.ApartLaws.{pairs_differ, flows_apart, ids_few}
+use Rattle.ioam_topo.proofs.ApartLaws.{pairs_differ}
+use Rattle.ioam_tables.proofs.ApartLaws.{flows_apart, ids_few}
 use Rattle.ioam_tables.proofs.apart.flows_differ.Goals as goal
 
 pub returns : goal.returns

@@ -1,5 +1,5 @@
 use Rattle.ioam_topo.specs.Keyed.{name_of_link}
-use Rattle.ioam_tables.proofs.ApartLaws.{apart_by}
+use Rattle.ioam_topo.proofs.ApartLaws.{apart_by}
 use Rattle.ioam_tables.proofs.apart.links_differ.Goals as goal
 
 pub returns : goal.returns

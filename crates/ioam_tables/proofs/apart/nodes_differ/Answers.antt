@@ -1,5 +1,5 @@
 use Rattle.ioam_topo.specs.Keyed.{name_of_node, id_of_node, address_of_node}
-use Rattle.ioam_tables.proofs.ApartLaws.{apart_by, numbers_differ}
+use Rattle.ioam_topo.proofs.ApartLaws.{apart_by, numbers_differ}
 use Rattle.ioam_tables.proofs.apart.nodes_differ.Goals as goal
 
 pub returns : goal.returns

@@ -1,5 +1,5 @@
 use Rattle.ioam_topo.specs.Keyed.{name_of_port}
-use Rattle.ioam_tables.proofs.ApartLaws.{apart_by}
+use Rattle.ioam_topo.proofs.ApartLaws.{apart_by}
 use Rattle.ioam_tables.proofs.apart.ports_differ.Goals as goal
 
 pub returns : goal.returns

@@ -1,5 +1,5 @@
 use Rattle.ioam_topo.specs.Keyed.{key_of_route}
-use Rattle.ioam_tables.proofs.ApartLaws.{apart_by, prefixes_differ}
+use Rattle.ioam_topo.proofs.ApartLaws.{apart_by, prefixes_differ}
 use Rattle.ioam_tables.proofs.apart.routes_differ.Goals as goal
 
 pub returns : goal.returns

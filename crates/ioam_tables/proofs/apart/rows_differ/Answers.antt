@@ -1,5 +1,5 @@
 use Rattle.ioam_topo.specs.Keyed.{key_of_data}
-use Rattle.ioam_tables.proofs.ApartLaws.{apart_by, pairs_differ}
+use Rattle.ioam_topo.proofs.ApartLaws.{apart_by, pairs_differ}
 use Rattle.ioam_tables.proofs.apart.rows_differ.Goals as goal
 
 pub returns : goal.returns

@@ -1,5 +1,6 @@
 use Rattle.std.proofs.Common.{subst}
-use Rattle.ioam_tables.proofs.ApartLaws.{Differ, texts_differ}
+use Rattle.ioam_topo.proofs.ApartLaws.{Differ}
+use Rattle.ioam_tables.proofs.ApartLaws.{texts_differ}
 use Rattle.ioam_tables.proofs.names.Names.len.Goals as goal
 
 pub returns-clause-apart : goal.returns-clause-apart

@@ -1,27 +1,28 @@
--- The tables of the generated run keep what those of every domain keep.
-use Rattle.std.proofs.Common.{◌≡◌, ◌≤◌, ℕ, true, List, [], ◌∷◌, length, map, Some, refl, ap, sym, ◌∙◌, subst, arith}
+-- The entries of the generated run are as those of every domain.
+use Rattle.std.proofs.Common.{◌≡◌, ◌≤◌, ℕ, true, nat_eq, List, [], ◌∷◌, map, length, Some, slice_get, refl, ap, sym, ◌∙◌, subst, arith}
 use Rattle.std.specs.List.{All}
 use Rattle.std.specs.Option.{ForSome}
+use Rattle.std.specs.Str.{bytes_eq}
 use Rattle.std.proofs.lemmas.Option.{same_Some}
 use Rattle.std.proofs.lemmas.List.Elements.{All-cons, All-nil}
 use Rattle.ioam_data.specs.Kind.{has, undefined, is_entry_type}
 use Rattle.ioam_topo.specs.Types.{is_direct_type, is_edge_type}
 use Rattle.ioam_topo.specs.declared.parts.Node.{Node}
+use Rattle.ioam_topo.specs.declared.parts.Link.{Link}
+use Rattle.ioam_topo.specs.declared.parts.Port.{Port}
+use Rattle.ioam_topo.specs.declared.parts.Route.{Route}
+use Rattle.ioam_topo.specs.declared.parts.NodeData.{NodeData}
+use Rattle.ioam_topo.specs.declared.parts.Flow.{Flow}
 use Rattle.ioam_topo.specs.declared.traces.FlowTrace.{FlowTrace}
-use Rattle.ioam_tables.specs.declared.routes.Parts.{Parts}
-use Rattle.ioam_tables.specs.declared.routes.Routes.{Routes}
-use Rattle.ioam_tables.specs.declared.data_rows.DataRows.{DataRows}
-use Rattle.ioam_tables.specs.declared.flows.Flows.{Flows}
-use Rattle.ioam_topo.specs.Keyed.{name_of_node, id_of_node, address_of_node, name_of_link, name_of_port, taps_of, key_of_route, key_of_data}
-use Rattle.ioam_tables.specs.Flows.{name_of_flow, ids_of_flows}
+use Rattle.ioam_topo.specs.Keyed.{name_of_node, id_of_node, address_of_node, name_of_link, name_of_port, taps_of, key_of_route, is_route}
+use Rattle.ioam_topo.specs.Apart.{AreApart, NodesApart}
 use Rattle.ioam_topo.specs.Forward.{bits_of}
 use Rattle.ioam_topo.specs.Traces.{IsFlowTrace}
 use Rattle.ioam_topo.specs.Known.{is_known, IsKnownAtEnds}
-use Rattle.ioam_topo.specs.Sound.{IsNode, IsLink, IsFlow}
-use Rattle.ioam_topo.specs.Kept.{JoinsNodes, JoinsEnds, IsAtNode, IsOfNode, IsRouteOf}
-use Rattle.ioam_tables.specs.Kept.{NodesKept, LinksKept, PortsKept, RoutesKept, DataKept, FlowsKept}
+use Rattle.ioam_topo.specs.Sound.{IsNode, IsLink, IsNodeData, IsFlow}
+use Rattle.ioam_topo.specs.Kept.{JoinsNodes, JoinsEnds, IsAtNode, IsOfNode, IsRouteOf, SoundNodes, SoundLinks, SoundPorts, SoundRoutes, SoundData, SoundFlows}
+use Rattle.ioam_topo.proofs.ApartLaws.{all_differ, distinct_by, names_differ, numbers_differ, prefixes_differ, apart_by, only_place}
 use Rattle.ioam_generated.specs.Bulk.{link_of, bulk_nodes, bulk_links, bulk_ports, bulk_routes, bulk_flow}
-use Rattle.ioam_generated.specs.Held.{HoldsRoutes, HoldsFlows, AreParts}
 
 -- each of one to five entries
 two : {A : Type 0} (P : A → Type 0) (a b : A) → P a → P b → All P (a ∷ b ∷ [])
@@ -114,7 +115,7 @@ for_one : {A : Type 0} (P : A → Type 0) (x : A) → P x → ForSome (Some x) P
 for_one P x p y is = subst P (same_Some x y is) p
 
 -- the flow is one that a domain may have
-pub bulk_flow_is : IsFlow bulk_flow
+bulk_flow_is : IsFlow bulk_flow
 unfolding bulk_flow has is_entry_type undefined
 bulk_flow_is = record {
   hops_some = omega arith;
@@ -135,62 +136,97 @@ bulk_flow_is = record {
   direct_id = refl;
 }
 
-pub flows_sound : (flows : Flows) → HoldsFlows (bulk_flow ∷ []) flows → All IsFlow flows.items.items
-flows_sound flows held = subst (All IsFlow) (sym held.items) (one IsFlow bulk_flow bulk_flow_is)
+-- by names, and by numbers, of which none is equal to one behind it
+apart_by_names : {A : Type 0} (key : A → List ℕ) (xs : List A) → all_differ bytes_eq (map key xs) ≡ true → AreApart key xs
+apart_by_names key xs on = apart_by key xs (map key xs) refl (names_differ (map key xs) (distinct_by bytes_eq (map key xs) on))
 
-module _ (parts : Parts) (are : AreParts parts) where
-  count : length parts.nodes.items.items ≡ 5
-  count = ap length are.nodes.items ∙ five_nodes
+apart_by_numbers : {A : Type 0} (key : A → ℕ) (xs : List A) → all_differ nat_eq (map key xs) ≡ true → AreApart key xs
+apart_by_numbers key xs on = apart_by key xs (map key xs) refl (numbers_differ (map key xs) (distinct_by nat_eq (map key xs) on))
 
-  pub bulk_nodes_kept : NodesKept parts.nodes
-  bulk_nodes_kept = record {
-    named = are.nodes.names ∙ ap (map name_of_node) (sym are.nodes.items);
-    numbered = are.nodes.ids ∙ ap (map id_of_node) (sym are.nodes.items);
-    placed = are.nodes.addresses ∙ ap (map address_of_node) (sym are.nodes.items);
-    sound = subst (All IsNode) (sym are.nodes.items) nodes_are;
-    few = let n = count in omega (arith, n);
-  }
-
-  pub bulk_links_kept : LinksKept (length parts.nodes.items.items) parts.links
-  bulk_links_kept = record {
-    named = are.links.names ∙ ap (map name_of_link) (sym are.links.items);
-    joined = subst (λ n. All (JoinsNodes n) parts.links.items.items) (sym count) (subst (All (JoinsNodes 5)) (sym are.links.items) links_join);
-    sound = subst (All IsLink) (sym are.links.items) links_are;
-    few = let n = ap length are.links.items ∙ four_links in omega (arith, n);
-    few_taps = let n = ap taps_of are.links.items ∙ no_taps in omega (arith, n);
-  }
-
-  pub bulk_ports_kept : PortsKept (length parts.nodes.items.items) parts.ports
-  bulk_ports_kept = record {
-    named = are.ports.names ∙ ap (map name_of_port) (sym are.ports.items);
-    placed = subst (λ n. All (IsAtNode n) parts.ports.items.items) (sym count) (subst (All (IsAtNode 5)) (sym are.ports.items) ports_placed);
-    few = let n = ap length are.ports.items ∙ two_ports in omega (arith, n);
-  }
-
-  pub bulk_routes_kept : (routes : Routes) → HoldsRoutes bulk_routes routes → RoutesKept parts routes
-  bulk_routes_kept routes held = record {
-    keyed = held.keys ∙ ap (map key_of_route) (sym held.items);
-    short = subst (All (λ route. bits_of route ≤ 128)) (sym held.items) routes_short;
-    routed = subst (λ n. All (IsRouteOf n parts.links.items.items parts.ports.items.items) routes.items.items) (sym count)
-        (subst (λ l. All (IsRouteOf 5 l parts.ports.items.items) routes.items.items) (sym are.links.items)
-        (subst (λ p. All (IsRouteOf 5 bulk_links p) routes.items.items) (sym are.ports.items)
-        (subst (All (IsRouteOf 5 bulk_links bulk_ports)) (sym held.items) routes_lead)));
-    few = let n = ap length held.items ∙ nine_routes in omega (arith, n);
-  }
-
-  pub bulk_flows_kept : (flows : Flows) → HoldsFlows (bulk_flow ∷ []) flows → FlowsKept parts.nodes.items.items flows
-  bulk_flows_kept flows held = record {
-    named = held.names ∙ ap (map name_of_flow) (sym held.items);
-    keyed = held.keys ∙ ap ids_of_flows (sym held.items);
-    joined = subst (λ n. All (JoinsEnds n) flows.items.items) (sym count) (subst (All (JoinsEnds 5)) (sym held.items) flow_joins);
-    known = subst (λ n. All (IsKnownAtEnds n) flows.items.items) (sym are.nodes.items) (subst (All (IsKnownAtEnds bulk_nodes)) (sym held.items) flow_known);
-    few = let n = ap length held.items in omega (arith, n);
-  }
-
--- there are no data
-pub no_data_kept : (n : ℕ) (rows : DataRows) → rows.items.items ≡ [] → rows.taken.keys ≡ [] → DataKept n rows
-no_data_kept n rows none keys = record {
-  keyed = keys ∙ ap (map key_of_data) (sym none);
-  placed = subst (All (IsOfNode n)) (sym none) (All-nil (IsOfNode n));
-  few = let l = ap length none in omega (arith, l);
+-- no two share what they are found by
+nodes_apart : NodesApart bulk_nodes
+unfolding bulk_nodes
+nodes_apart = record {
+  names = apart_by_names name_of_node bulk_nodes refl;
+  ids = apart_by_numbers id_of_node bulk_nodes refl;
+  addresses = apart_by_numbers address_of_node bulk_nodes refl;
 }
+
+links_apart : AreApart name_of_link bulk_links
+unfolding bulk_links
+links_apart = apart_by_names name_of_link bulk_links refl
+
+ports_apart : AreApart name_of_port bulk_ports
+unfolding bulk_ports
+ports_apart = apart_by_names name_of_port bulk_ports refl
+
+routes_apart : AreApart key_of_route bulk_routes
+unfolding bulk_routes
+routes_apart = apart_by key_of_route bulk_routes (map key_of_route bulk_routes) refl
+    (prefixes_differ (map key_of_route bulk_routes) (distinct_by (λ a b. is_route a.0 a.1 b) (map key_of_route bulk_routes) refl))
+
+one_place : (i j : ℕ) (f g : Flow) → slice_get (bulk_flow ∷ []) i ≡ Some f → slice_get (bulk_flow ∷ []) j ≡ Some g → i ≡ j
+one_place i j f g here there = only_place bulk_flow i f here ∙ sym (only_place bulk_flow j g there)
+
+-- the lists are as those of every domain
+nodes_are_sound : SoundNodes bulk_nodes
+nodes_are_sound = record {
+  sound = nodes_are;
+  few = let n = five_nodes in omega (arith, n);
+  apart = nodes_apart;
+}
+
+links_are_sound : SoundLinks 5 bulk_links
+links_are_sound = record {
+  joined = links_join;
+  sound = links_are;
+  few = let n = four_links in omega (arith, n);
+  few_taps = let n = no_taps in omega (arith, n);
+  apart = links_apart;
+}
+
+ports_are_sound : SoundPorts 5 bulk_ports
+ports_are_sound = record { placed = ports_placed; few = let n = two_ports in omega (arith, n); apart = ports_apart }
+
+routes_are_sound : SoundRoutes 5 bulk_links bulk_ports bulk_routes
+routes_are_sound = record { short = routes_short; routed = routes_lead; few = let n = nine_routes in omega (arith, n); apart = routes_apart }
+
+no_data_sound : (n : ℕ) → SoundData n []
+no_data_sound n = record { placed = All-nil (IsOfNode n); sound = All-nil IsNodeData; few = omega arith; apart = λ i j x y here there same. cc }
+
+flows_are_sound : SoundFlows bulk_nodes (bulk_flow ∷ [])
+flows_are_sound = record {
+  joined = subst (λ n. All (JoinsEnds n) (bulk_flow ∷ [])) (sym five_nodes) flow_joins;
+  known = flow_known;
+  sound = one IsFlow bulk_flow bulk_flow_is;
+  few = omega arith;
+  apart = record { names = λ i j f g here there same. one_place i j f g here there; ids = λ i j f g id here there first second same. one_place i j f g here there };
+}
+
+-- and so are lists that are equal to them
+pub nodes_sound : {nodes : List Node} → nodes ≡ bulk_nodes → SoundNodes nodes
+nodes_sound are = subst SoundNodes (sym are) nodes_are_sound
+
+module _ {nodes : List Node} (nodes_same : nodes ≡ bulk_nodes) where
+  count : length nodes ≡ 5
+  count = ap length nodes_same ∙ five_nodes
+
+  pub links_sound : {links : List Link} → links ≡ bulk_links → SoundLinks (length nodes) links
+  links_sound {links} are = subst (λ n. SoundLinks n links) (sym count) (subst (SoundLinks 5) (sym are) links_are_sound)
+
+  pub ports_sound : {ports : List Port} → ports ≡ bulk_ports → SoundPorts (length nodes) ports
+  ports_sound {ports} are = subst (λ n. SoundPorts n ports) (sym count) (subst (SoundPorts 5) (sym are) ports_are_sound)
+
+  pub routes_sound : {links : List Link} {ports : List Port} {routes : List Route} → links ≡ bulk_links → ports ≡ bulk_ports → routes ≡ bulk_routes
+      → SoundRoutes (length nodes) links ports routes
+  routes_sound {links} {ports} {routes} links_same ports_same are =
+      subst (λ n. SoundRoutes n links ports routes) (sym count)
+      (subst (λ l. SoundRoutes 5 l ports routes) (sym links_same)
+      (subst (λ p. SoundRoutes 5 bulk_links p routes) (sym ports_same)
+      (subst (SoundRoutes 5 bulk_links bulk_ports) (sym are) routes_are_sound)))
+
+  pub flows_sound : {flows : List Flow} → flows ≡ bulk_flow ∷ [] → SoundFlows nodes flows
+  flows_sound {flows} are = subst (λ n. SoundFlows n flows) (sym nodes_same) (subst (SoundFlows bulk_nodes) (sym are) flows_are_sound)
+
+pub data_sound : (n : ℕ) {rows : List NodeData} → rows ≡ [] → SoundData n rows
+data_sound n none = subst (SoundData n) (sym none) (no_data_sound n)
