@@ -22,12 +22,13 @@ fn bulk_elements(alloc: Global) -> Result<Elements, NoMemory>
     let ports = bulk_ports(alloc)?;
     let routes = bulk_routes(alloc)?;
     let flows = bulk_flows(alloc)?;
+    let data = Vec::new(alloc);
     Ok(Elements {
         nodes,
         links,
         ports,
         routes,
-        data: Vec::new(alloc),
+        data,
         flows,
     })
 }
