@@ -1,5 +1,5 @@
-/* What the nodes of a line of make_line.py do with a packet, as a C programmer would write it by hand: long.c and batch.c share
- * it. It is compiled for one line: NODES, the flow's TRACE (0: none) and CAPACITY, DIRECT (the type of its direct export; 0:
+/* What the nodes of a line of make_line.py do with a packet, as a C programmer would write it by hand: long.c takes
+ * them. It is compiled for one line: NODES, the flow's TRACE (0: none) and CAPACITY, DIRECT (the type of its direct export; 0:
  * none), and WORDS, those of a node's snapshot (-1: a node has no data). */
 #define FIRST 1
 #include "yardstick.h"
