@@ -1,5 +1,5 @@
 //! The top call behind gates: what `run` writes is what its jobs hold, and its chunks run at once.
-use crate::tests::line_of;
+use crate::tests::answers;
 use ioam_base::memory::NoMemory;
 use ioam_batch::Gate;
 use ioam_desk::MemoryDesk;
@@ -30,20 +30,8 @@ fn desk_of(alloc: Global, row: &FlowRow, west: &[&str]) -> Result<MemoryDesk, No
     Ok(desk)
 }
 
-// A run of these words over a desk does all.
-fn is_done<G: Gate>(
-    rt: &(impl Abort + Threads + Sync),
-    alloc: Global,
-    texts: &[&str],
-    desk: &mut MemoryDesk,
-    gate: &G,
-) {
-    let line = line_of(rt, alloc, texts, desk, gate).expect(rt, "memory");
-    assert_eq!(rt; line.as_str(), "done");
-}
-
-// The desk behind a run of these files.
-fn run_behind<G: Gate>(
+// The desk behind a run of these files, where it does all.
+fn desk_behind<G: Gate>(
     rt: &(impl Abort + Threads + Sync),
     alloc: Global,
     row: &FlowRow,
@@ -51,7 +39,7 @@ fn run_behind<G: Gate>(
     gate: &G,
 ) -> MemoryDesk {
     let mut desk = desk_of(alloc, row, west).expect(rt, "memory");
-    is_done(rt, alloc, &RUN_BY_TWO, &mut desk, gate);
+    assert!(rt; answers(rt, alloc, &RUN_BY_TWO, &mut desk, gate, "done"));
     desk
 }
 
@@ -68,7 +56,7 @@ fn has(file: Option<&[u8]>, part: &[u8]) -> bool {
 #[test]
 fn two_chunks_meet(rt: HostRuntime) {
     let gate = make_meeting();
-    let desk = run_behind(
+    let desk = desk_behind(
         &rt,
         rt.alloc(),
         first_row(),
@@ -83,13 +71,8 @@ fn two_chunks_meet(rt: HostRuntime) {
 fn two_chunks_of_a_generated_load_meet(rt: HostRuntime) {
     let gate = make_meeting();
     let mut desk = MemoryDesk::new(rt.alloc()).expect(&rt, "memory");
-    is_done(
-        &rt,
-        rt.alloc(),
-        &["bulk", "0", "2", "2", "r"],
-        &mut desk,
-        &gate,
-    );
+    let bulk = ["bulk", "0", "2", "2", "r"];
+    assert!(rt; answers(&rt, rt.alloc(), &bulk, &mut desk, &gate, "done"));
     assert!(rt; gate.has_met());
     assert!(rt; has(desk.file("r"), b"packets 2 left 1 dropped 1\n"));
 }
@@ -99,12 +82,12 @@ fn two_chunks_of_a_generated_load_meet(rt: HostRuntime) {
 fn a_shut_gate_shows(rt: HostRuntime) {
     let alloc = rt.alloc();
     let row = first_row();
-    let desk = run_behind(&rt, alloc, row, row.west, &ShutGate);
+    let desk = desk_behind(&rt, alloc, row, row.west, &ShutGate);
     let empty = octets(alloc, &[HEAD, "00000001 00000000 00000000 00000000"]).expect(&rt, "octets");
     assert!(rt; has(desk.file("report.txt"), b"  trace 7 800000 whole 0\n"));
     assert!(rt; !has(desk.file("report.txt"), b"hop="));
     assert!(rt; desk.file("ab.pcap") == Some(empty.as_slice()));
     let row = exporting().first().expect(&rt, "a row");
-    let desk = run_behind(&rt, alloc, row, row.west, &ShutGate);
+    let desk = desk_behind(&rt, alloc, row, row.west, &ShutGate);
     assert!(rt; desk.file("exports") == Some(b"".as_slice()));
 }

@@ -1,15 +1,12 @@
 //! `ioam`: packets with In Situ OAM (RFC 9197), read from and written to packet captures.
 #![tactic(auto)]
 
-mod command;
-mod program;
-
 use ioam_answer::{Outcome, line, status};
 use ioam_base::memory::NoMemory;
 use ioam_base::name::Name;
 use ioam_batch::OpenGate;
 use ioam_desk::{Fault, FileSystem, HostDesk};
-use program::ioam;
+use ioam_program::ioam;
 use std::alloc::Global;
 use std::env;
 use std::io::ErrorKind;
@@ -82,8 +79,6 @@ fn words_of<R: std::rt::Env + AllocGlobal>(rt: &R) -> Result<Vec<Name>, Outcome>
 
 #[cfg(test)]
 mod gated;
-#[cfg(test)]
-mod node_rows;
 #[cfg(test)]
 mod refusals;
 #[cfg(test)]

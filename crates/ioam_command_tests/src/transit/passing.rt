@@ -5,14 +5,14 @@ use ioam_answer::line;
 use ioam_base::memory::NoMemory;
 use ioam_desk::MemoryDesk;
 use ioam_test_rows::digits::{octets, text, words};
-use ioam_test_rows::run_rows::{LINKS, NODES, PORTS, ROUTES};
+use ioam_test_rows::flow_rows::TRACED;
 use ioam_transit::run_node;
 use std::alloc::Global;
 
-// A desk with the files of a row.
+// A desk with the files of a row. Its domain has a flow and taps too, which are of no part in `node`.
 pub(crate) fn desk_for(alloc: Global, row: &Passed) -> Result<MemoryDesk, NoMemory> {
     let mut desk = MemoryDesk::new(alloc)?;
-    desk.put_file("domain.toml", &text(alloc, &[NODES, LINKS, PORTS, ROUTES])?)?;
+    desk.put_file("domain.toml", &text(alloc, TRACED)?)?;
     desk.put_file("readings", b"")?;
     desk.put_file("in.pcap", &octets(alloc, row.came)?)?;
     Ok(desk)

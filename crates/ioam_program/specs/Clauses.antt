@@ -23,8 +23,8 @@ use Rattle.ioam_answer.specs.declared.outcome.Outcome.{Outcome}
 use Rattle.ioam_answer.specs.declared.outcome.Outcome.TheVariants as outcome
 use Rattle.ioam_entries.specs.declared.fault.DomainFault.{DomainFault}
 use Rattle.ioam_transit.specs.Run as node
-use Rattle.ioam_cmd.specs.declared.command.Command.{Command}
-use Rattle.ioam_cmd.specs.declared.command.Command.TheVariants.{Filter, Paths, Show, Save, Collect, Node, Run, Bulk}
+use Rattle.ioam_program.specs.declared.command.Command.{Command}
+use Rattle.ioam_program.specs.declared.command.Command.TheVariants.{Filter, Paths, Show, Save, Collect, Node, Run, Bulk}
 
 -- which answer the words and the files ask for, where nothing fails
 abbrev pub Asked : Bool → List (List ℕ) → Writing → Command → Outcome → Type 0

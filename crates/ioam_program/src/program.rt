@@ -1,8 +1,8 @@
 //! The top call: one run of a command over a desk.
 ghost use Rattle.std.specs.Prelude.{true, ◌≡◌, ◌≢◌, ◌↔◌, ◌⊎◌, IsTrue};
-ghost use Rattle.ioam_cmd.specs.Clauses.{Asked, HasCause, Leaves, Asks, AreDrained, AreWritten, IsBehindInputs, IsBounded, IsMeasured, IsSaved, IsUntouched};
-ghost use Rattle.ioam_cmd.specs.Words.{IsForm, IsNoForm};
-ghost use Rattle.ioam_cmd.specs.declared.command.Command.{Command};
+ghost use Rattle.ioam_program.specs.Clauses.{Asked, HasCause, Leaves, Asks, AreDrained, AreWritten, IsBehindInputs, IsBounded, IsMeasured, IsSaved, IsUntouched};
+ghost use Rattle.ioam_program.specs.Words.{IsForm, IsNoForm};
+ghost use Rattle.ioam_program.specs.declared.command.Command.{Command};
 ghost use Rattle.ioam_desk.specs.Desk.{Rose};
 ghost use Rattle.ioam_desk.specs.Kept.{KeepsInputs, KeepsOutputs};
 ghost use Rattle.ioam_desk.specs.SureDesk.{reading_of, writing_of};

@@ -4,9 +4,9 @@ use Rattle.ioam_desk.specs.Desk.{Writing}
 use Rattle.ioam_outputs.specs.Names.{name_at}
 use Rattle.ioam_run.specs.Run.{input_name}
 use Rattle.ioam_run.specs.SaveText.{SavesAll}
-use Rattle.ioam_cmd.specs.Clauses.{IsSaved}
-use Rattle.ioam_cmd.specs.declared.command.Command.{Command}
-use Rattle.ioam_cmd.specs.declared.command.Command.TheVariants.{Filter, Paths, Show, Save, Collect, Node, Run, Bulk}
+use Rattle.ioam_program.specs.Clauses.{IsSaved}
+use Rattle.ioam_program.specs.declared.command.Command.{Command}
+use Rattle.ioam_program.specs.declared.command.Command.TheVariants.{Filter, Paths, Show, Save, Collect, Node, Run, Bulk}
 
 -- of other commands nothing is said
 pub IsSaved-by : (words : List (List ℕ)) (old new : Writing) → SavesAll (input_name words) (name_at words 2) old new

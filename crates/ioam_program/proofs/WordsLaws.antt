@@ -5,9 +5,9 @@ use Rattle.std.proofs.lemmas.Bool.{ltb-true, ltb-false}
 use Rattle.std.proofs.lemmas.Fmt.{decimal_injective}
 use Rattle.std.proofs.lemmas.Option.{none-some}
 use Rattle.ioam_base.proofs.DecimalLaws.{decimal_iff}
-use Rattle.ioam_cmd.specs.Words.{IsForm, IsSeed}
-use Rattle.ioam_cmd.specs.declared.command.Command.{Command}
-use Rattle.ioam_cmd.specs.declared.command.Command.TheVariants.{Filter, Paths, Show, Save, Collect, Node, Run, Bulk}
+use Rattle.ioam_program.specs.Words.{IsForm, IsSeed}
+use Rattle.ioam_program.specs.declared.command.Command.{Command}
+use Rattle.ioam_program.specs.declared.command.Command.TheVariants.{Filter, Paths, Show, Save, Collect, Node, Run, Bulk}
 
 -- the greatest seed
 pub greatest : codes "18446744073709551615" ≡ decimal 18446744073709551615

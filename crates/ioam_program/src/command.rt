@@ -24,7 +24,7 @@ pub enum Command {
 }
 
 ghost use Rattle.std.specs.Prelude.{◌≡◌, ◌↔◌, ℕ, IsTrue, MatchOption, codes};
-ghost use Rattle.ioam_cmd.specs.Words.{IsBulk, IsCount, IsForm, IsNoForm, IsNoBulk, IsSeed, IsWorkers};
+ghost use Rattle.ioam_program.specs.Words.{IsBulk, IsCount, IsForm, IsNoForm, IsNoBulk, IsSeed, IsWorkers};
 
 // The number of workers that a word spells.
 fn workers_of(word: &Name) -> Option<u32>

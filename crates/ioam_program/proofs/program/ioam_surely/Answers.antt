@@ -1,5 +1,5 @@
 use Rattle.std.proofs.Common.{refl, arith}
-use Rattle.ioam_cmd.proofs.program.ioam_surely.Goals as goal
+use Rattle.ioam_program.proofs.program.ioam_surely.Goals as goal
 
 pub returns-clause-exact : goal.returns-clause-exact
 returns-clause-exact g c = λ command form asked asks.

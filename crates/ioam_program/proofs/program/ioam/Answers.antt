@@ -1,11 +1,11 @@
 use Rattle.std.proofs.Common.{refl, subst}
 use Rattle.ioam_desk.proofs.KeptLaws.{KeepsInputs-same, KeepsOutputs-same}
-use Rattle.ioam_cmd.proofs.SavedLaws.{IsSaved-by}
-use Rattle.ioam_cmd.proofs.WordsLaws.{bulk-alone, run-alone}
-use Rattle.ioam_cmd.specs.Clauses.{AreDrained, IsMeasured, Leaves}
-use Rattle.ioam_cmd.specs.Words.{IsForm}
+use Rattle.ioam_program.proofs.SavedLaws.{IsSaved-by}
+use Rattle.ioam_program.proofs.WordsLaws.{bulk-alone, run-alone}
+use Rattle.ioam_program.specs.Clauses.{AreDrained, IsMeasured, Leaves}
+use Rattle.ioam_program.specs.Words.{IsForm}
 use Rattle.ioam_measured.proofs.MeasuredLaws.{run-then-collect}
-use Rattle.ioam_cmd.proofs.program.ioam.Goals as goal
+use Rattle.ioam_program.proofs.program.ioam.Goals as goal
 
 pub returns-in-None-clause-kept_in : goal.returns-in-None-clause-kept_in
 returns-in-None-clause-kept_in g c = KeepsInputs-same (g.D.Desk.reading c.args.desk.now) _ refl

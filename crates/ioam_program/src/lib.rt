@@ -1,0 +1,10 @@
+//! The commands as one: words of a command line, run over a desk.
+//!
+//! `parse` tells which command words ask for, and `ioam` runs it; all that the program does but to take the
+//! words, to print the answer and to end stands behind its contract.
+#![tactic(auto)]
+
+mod command;
+mod program;
+
+pub use program::{ioam, ioam_surely};
