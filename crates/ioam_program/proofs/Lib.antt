@@ -1,2 +1,3 @@
+mod MeasuredLaws
 mod SavedLaws
 mod WordsLaws

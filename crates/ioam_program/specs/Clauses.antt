@@ -9,7 +9,7 @@ use Rattle.ioam_desk.specs.Desk.{Reading, Writing, holds}
 use Rattle.ioam_domain.specs.Run as domain
 use Rattle.ioam_domain.specs.Run.{domain_file, readings_file}
 use Rattle.ioam_ip.specs.Clean.{MayLeave}
-use Rattle.ioam_measured.specs.Measured.{Measures}
+use Rattle.ioam_program.specs.Measured.{Measures}
 use Rattle.ioam_outputs.specs.Names.{name_at, AreApart}
 use Rattle.ioam_pcap.specs.Text.{IsCaptureOf}
 use Rattle.ioam_run.specs.FilterText.{FilterTexts}

@@ -1,2 +1,3 @@
 pub mod Words
+pub mod Measured
 pub mod Clauses

@@ -5,6 +5,8 @@
 #![tactic(auto)]
 
 mod command;
+mod measured;
 mod program;
 
+pub use measured::runs_are_collected;
 pub use program::{ioam, ioam_surely};

@@ -4,7 +4,7 @@ use Rattle.ioam_program.proofs.SavedLaws.{IsSaved-by}
 use Rattle.ioam_program.proofs.WordsLaws.{bulk-alone, run-alone}
 use Rattle.ioam_program.specs.Clauses.{AreDrained, IsMeasured, Leaves}
 use Rattle.ioam_program.specs.Words.{IsForm}
-use Rattle.ioam_measured.proofs.MeasuredLaws.{run-then-collect}
+use Rattle.ioam_program.proofs.MeasuredLaws.{run-then-collect}
 use Rattle.ioam_program.proofs.program.ioam.Goals as goal
 
 pub returns-in-None-clause-kept_in : goal.returns-in-None-clause-kept_in

@@ -23,7 +23,7 @@ use Rattle.ioam_group_lines.specs.GroupsText.{records_text}
 use Rattle.ioam_captures.specs.Merge.{Arrival}
 use Rattle.ioam_answer.specs.declared.outcome.Outcome.{Outcome}
 use Rattle.ioam_answer.specs.declared.outcome.Outcome.TheVariants as outcome
-use Rattle.ioam_measured.specs.Measured.{AreCollected, ArePaths, Collects, IsCollected, IsMeasured, IsPartCollected, IsPartMeasured, Measures, RunThenCollect, TellsFirst, TellsPart, asked_by}
+use Rattle.ioam_program.specs.Measured.{AreCollected, ArePaths, Collects, IsCollected, IsAllMeasured, IsPartCollected, IsPartMeasured, Measures, RunThenCollect, TellsFirst, TellsPart, asked_by}
 use Rattle.ioam_outputs.specs.Held.{HoldFronts, HoldsFront}
 use Rattle.ioam_paths.specs.Exported.{AreFirst, AreFirstOfRun, IsTimely, IsTold, ending_with}
 use Rattle.ioam_paths.specs.Paths.{AreOfRun, exports_of}
@@ -235,7 +235,7 @@ module _ (opens : Bool) (words : List (List ℕ)) (old_in new_in : Reading) (old
         }
 
     measured : (Are : List Arrival → Type 0) → HoldsFiles opens words old_in new_in old new course Are
-        → IsMeasured opens words old_in new_in old new course Are
+        → IsAllMeasured opens words old_in new_in old new course Are
     measured Are files = record {
       files = files;
       octets = exports_text domain readings files.fates;

@@ -98,7 +98,7 @@ module _ (domain : Domain) (readings : List (List Sample)) (fates : List Fate) w
 
 module _ (opens : Bool) (words : List (List ℕ)) (old_in new_in : Reading) (old new : Writing) where
   -- the files hold the texts of these arrivals, and what EXPORTS holds, where the gate opens, is what `collect` regroups to their paths
-  pub record IsMeasured (course : Course) (Are : List Arrival → Type 0) : Type 0 where
+  pub record IsAllMeasured (course : Course) (Are : List Arrival → Type 0) : Type 0 where
     pub files : HoldsFiles opens words old_in new_in old new course Are
     pub octets : List ℕ
     pub held : IsTrue course.opens → holds new (exports_file words) ≡ Some octets
@@ -112,12 +112,12 @@ module _ (opens : Bool) (words : List (List ℕ)) (old_in new_in : Reading) (old
 
   -- so it is behind each answer that comes once an output was opened
   abbrev pub Measures : Outcome → Type 0
-  Measures outcome.Done = OfTraffic opens words old_in new_in old new (λ course. IsMeasured course (Arrive course turn.Over))
+  Measures outcome.Done = OfTraffic opens words old_in new_in old new (λ course. IsAllMeasured course (Arrive course turn.Over))
   Measures (outcome.Capture name at fault) = OfTraffic opens words old_in new_in old new (λ course. (place : ℕ) × (name ≡ name_at (run_inputs course.domain) place)
-      × IsMeasured course (Arrive course (turn.Broken place at fault)))
-  Measures (outcome.Packets limit) = OfTraffic opens words old_in new_in old new (λ course. IsMeasured course (ArePassed course))
+      × IsAllMeasured course (Arrive course (turn.Broken place at fault)))
+  Measures (outcome.Packets limit) = OfTraffic opens words old_in new_in old new (λ course. IsAllMeasured course (ArePassed course))
   Measures outcome.ReadFault = (new ≡ old)
-      ⊎ OfTraffic opens words old_in new_in old new (λ course. AreOpened course new_in × IsMeasured course (PartsArrive course.lanes.contents new_in course.lanes.base))
+      ⊎ OfTraffic opens words old_in new_in old new (λ course. AreOpened course new_in × IsAllMeasured course (PartsArrive course.lanes.contents new_in course.lanes.base))
   Measures outcome.WriteFault = OfTraffic opens words old_in new_in old new (λ course. IsPartMeasured course)
   Measures outcome.NoMemory = (new ≡ old) ⊎ OfTraffic opens words old_in new_in old new (λ course. IsPartMeasured course)
   Measures outcome.Usage = ⊤
