@@ -6,10 +6,10 @@
 bugs/CRATE.txt lists them: `@@ FILE` (below the crate's src/), the lines that stand there with `-`, and those in
 their place with `+`. A function is proved by its own contract and those of what it calls, so each round puts
 one bug into each of many functions of a copy of the repository and checks the crate once; the next round takes
-what is left, up to ROUNDS. A line for each bug: `refused`, `beside` (the function wasn't judged, since one that
-it calls has a bug too), `unknown` (a constant, which is of no function: try it by hand), or `PROVED`, which is
-either no bug, as the function means the same, or a contract that says too little. Ends with status 1 where one
-was proved.
+what is left, up to ROUNDS. A changed constant, which is of no function, is tried alone. A line for each bug:
+`refused`, `beside` (the function wasn't judged, since one that it calls has a bug too), `unknown` (the check says
+nothing of the function), or `PROVED`, which is either no bug, as the function means the same, or a contract that
+says too little. Ends with status 1 where one was proved.
 """
 import os
 import re
@@ -20,7 +20,8 @@ import tempfile
 
 HERE = os.path.dirname(os.path.abspath(__file__))
 TOP = os.path.dirname(HERE)
-STARTS = re.compile(r"^\s*(?:pub(?:\([a-z]+\))? )?(?:const )?fn ([a-z_0-9]+)", re.M)
+# where a function starts, or a constant of none
+STARTS = re.compile(r"^\s*(?:pub(?:\([a-z]+\))? )?(?:const )?fn ([a-z_0-9]+)|^(?:pub(?:\([a-z]+\))? )?const [A-Z]", re.M)
 
 
 class Bug:
@@ -54,7 +55,7 @@ def placed(bugs, src):
             print(f"gone      {bug.text()}")
             continue
         starts = [it for it in STARTS.finditer(text) if it.start() <= text.index(bug.old)]
-        bug.function = starts[-1].group(1) if starts else "-"
+        bug.function = starts[-1].group(1) or "-" if starts else "-"
         found.append(bug)
     return found
 
@@ -89,6 +90,8 @@ def checked(crate, bugs, top):
 
 def judged(bug, said):
     """What became of a bug: of several functions of its name in its file, the one that says most against it."""
+    if bug.function == "-" and said:
+        return "PROVED" if all(why.startswith("proved") for _, why in said) else "refused"
     module = bug.file[:-3].replace("/", "::")
     named = [(path, why) for path, why in said if path.split("::")[-1] == bug.function]
     # what stands in an impl block bears the name of its type's module
@@ -103,18 +106,26 @@ def judged(bug, said):
 def main():
     crate, rounds = sys.argv[1], int(sys.argv[2]) if len(sys.argv) > 2 else 9
     counts = {}
+
+    def try_out(bugs):
+        said = checked(crate, bugs, top)
+        for bug in bugs:
+            word = judged(bug, said)
+            counts[word] = counts.get(word, 0) + 1
+            print(f"{word:10}{bug.text()}", flush=True)
+
     with tempfile.TemporaryDirectory() as room:
         top = os.path.join(room, "copy")
         subprocess.run(["git", "clone", "-q", TOP, top], check=True)
-        left = placed(listed(crate), os.path.join(top, "crates", crate, "src"))
+        found = placed(listed(crate), os.path.join(top, "crates", crate, "src"))
+        left = [it for it in found if it.function != "-"]
         while left and rounds:
             rounds -= 1
             taken, left = one_each(left)
-            said = checked(crate, taken, top)
-            for bug in taken:
-                word = judged(bug, said)
-                counts[word] = counts.get(word, 0) + 1
-                print(f"{word:10}{bug.text()}", flush=True)
+            try_out(taken)
+        for bug in found:
+            if bug.function == "-":
+                try_out([bug])
         shutil.rmtree(top, ignore_errors=True)
     print(f"{crate}:", ", ".join(f"{count} {word}" for word, count in sorted(counts.items())) or "none")
     return 1 if counts.get("PROVED") else 0
