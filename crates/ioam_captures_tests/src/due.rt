@@ -1,93 +1,147 @@
 //! What is due of a capture, and the turn of several.
+use crate::ng::faults::sections;
+use crate::puts::{blocks, classic, put_block, put_entry};
+use crate::shown::Shows;
 use ioam_captures::{Due, Reader, Step, Turn, next_turn};
-use ioam_ng::{put_ng_head, put_ng_packet};
-use ioam_pcap::{CapFault, Link, Packet, put_head, put_record};
+use ioam_pcap::{CapFault, Link, Packet};
+use std::alloc::Global;
 use std::test::Fail;
 
-#[test]
-fn takes_the_first_of_the_least(rt: HostRuntime) -> Result<(), Fail> {
-    let soon = Due::Record { time: 4 };
-    let late = Due::Record { time: 5 };
-    let fault = CapFault::Short { have: 7 };
-    let bad = Due::Bad { at: 24, fault };
-    let cases: [(&[Due], Turn); 8] = [
-        (&[], Turn::Over),
-        (&[Due::End, Due::End], Turn::Over),
-        (
-            &[late, soon, Due::End, soon],
-            Turn::Next { place: 1, time: 4 },
-        ),
-        (&[soon, late, soon], Turn::Next { place: 0, time: 4 }),
-        (
-            &[soon, bad, Due::Bad { at: 0, fault }],
-            Turn::Broken {
-                place: 1,
-                at: 24,
-                fault,
-            },
-        ),
-        (&[soon, Due::More], Turn::Unshown),
-        (&[bad, Due::More], Turn::Unshown),
-        (&[Due::More, bad, soon], Turn::Unshown),
-    ];
+const FAULT: CapFault = CapFault::Short { have: 7 };
+
+const SOON: Due = Due::Record { time: 4 };
+
+const LATE: Due = Due::Record { time: 5 };
+
+const BAD: Due = Due::Bad {
+    at: 24,
+    fault: FAULT,
+};
+
+const FRONT: Due = Due::Bad {
+    at: 0,
+    fault: FAULT,
+};
+
+// What is due of some captures, and whose turn it is.
+const TURNS: [(&[Due], Turn); 8] = [
+    (&[], Turn::Over),
+    (&[Due::End, Due::End], Turn::Over),
+    (
+        &[LATE, SOON, Due::End, SOON],
+        Turn::Next { place: 1, time: 4 },
+    ),
+    (&[SOON, LATE, SOON], Turn::Next { place: 0, time: 4 }),
+    (
+        &[SOON, BAD, FRONT],
+        Turn::Broken {
+            place: 1,
+            at: 24,
+            fault: FAULT,
+        },
+    ),
+    (&[SOON, Due::More], Turn::Unshown),
+    (&[BAD, Due::More], Turn::Unshown),
+    (&[Due::More, BAD, SOON], Turn::Unshown),
+];
+
+// Whether it is the turn of each.
+fn all_are_turns(cases: &[(&[Due], Turn)]) -> bool {
     for (dues, turn) in cases {
-        assert_eq!(rt; next_turn(dues), turn);
+        if next_turn(dues) != *turn {
+            return false;
+        }
     }
-    Ok(())
+    true
+}
+
+#[test]
+fn takes_the_first_of_the_least(rt: HostRuntime) {
+    assert!(rt; all_are_turns(&TURNS));
+}
+
+// Whether this is due of a reader.
+fn is_due(reader: &mut Reader, ended: bool, due: Due) -> Result<bool, Fail> {
+    Ok(reader.due(ended)? == due)
+}
+
+// Whether a reader takes the next record.
+fn takes_one(reader: &mut Reader) -> bool {
+    matches!(reader.next(), Step::Packet { .. })
 }
 
 // Whether a reader of one record tells when it is due, and when none is.
 fn tells_of_one(reader: &mut Reader) -> Result<bool, Fail> {
     let first = Due::Record { time: 5 };
     Ok(
-        reader.due(false)? == first
-            && reader.due(true)? == first
-            && matches!(reader.next(), Step::Packet { .. })
-            && reader.due(false)? == Due::More
-            && reader.due(true)? == Due::End,
+        is_due(reader, false, first)?
+            && is_due(reader, true, first)?
+            && takes_one(reader)
+            && is_due(reader, false, Due::More)?
+            && is_due(reader, true, Due::End)?,
     )
 }
 
 // Whether a reader that was fed nothing tells of nothing, or of a cut capture.
 fn tells_of_none(reader: &mut Reader) -> Result<bool, Fail> {
-    let cut = CapFault::Short { have: 0 };
-    Ok(reader.due(false)? == Due::More && reader.due(true)? == Due::Bad { at: 0, fault: cut })
+    let fault = CapFault::Short { have: 0 };
+    Ok(is_due(reader, false, Due::More)? && is_due(reader, true, Due::Bad { at: 0, fault })?)
 }
 
-// Writes a classic capture of one record.
-fn put_classic(out: &mut Vec<u8>) -> Result<(), Fail> {
-    put_head(out)?;
-    put_record(5, &[7, 8], out)?;
-    Ok(())
+// Whether a reader tells of a capture of one record, before it is fed and after.
+fn tells_of(alloc: Global, capture: &[u8]) -> Result<bool, Fail> {
+    let mut reader = Reader::new(alloc)?;
+    if !tells_of_none(&mut reader)? {
+        return Ok(false);
+    }
+    reader.take(capture)?;
+    tells_of_one(&mut reader)
+}
+
+// A packet of two octets, five nanoseconds after the first moment.
+const TINY: Packet<'static> = Packet {
+    time: 5,
+    original: 2,
+    octets: &[7, 8],
+};
+
+// A capture in the form pcapng with that packet.
+fn in_blocks(alloc: Global) -> Result<Vec<u8>, Fail> {
+    let mut capture = blocks(alloc)?;
+    put_block(Link::Ethernet, TINY, &mut capture)?;
+    Ok(capture)
+}
+
+// A classic one.
+fn in_entries(alloc: Global) -> Result<Vec<u8>, Fail> {
+    let mut capture = classic(alloc)?;
+    put_entry(5, &[7, 8], &mut capture)?;
+    Ok(capture)
 }
 
 #[test]
 fn tells_what_is_due(rt: HostRuntime) -> Result<(), Fail> {
-    let mut classic = Vec::new(rt.alloc());
-    put_classic(&mut classic)?;
-    let mut reader = Reader::new(rt.alloc())?;
-    assert!(rt; tells_of_none(&mut reader)?);
-    let octets = classic.get(..42).ok_or("too short")?;
-    if reader.fed() > 1_000_000 {
-        return Err(Fail::from("too many octets"));
-    }
-    reader.feed(octets)?;
-    assert!(rt; tells_of_one(&mut reader)?);
+    let alloc = rt.alloc();
+    assert!(rt; tells_of(alloc, &in_blocks(alloc)?)?);
+    assert!(rt; tells_of(alloc, &in_entries(alloc)?)?);
     Ok(())
 }
 
+// Whether a reader that is fed the sections tells of the packet, and behind it of the fault.
+fn tells_of_sections(alloc: Global, sections: &[u8]) -> Result<bool, Fail> {
+    let mut reader = Reader::new(alloc)?;
+    reader.take(sections)?;
+    let packet = Due::Record { time: 500_000_000 };
+    let fault = CapFault::Face { found: 0 };
+    Ok(
+        is_due(&mut reader, false, packet)?
+            && takes_one(&mut reader)
+            && is_due(&mut reader, false, Due::Bad { at: 148, fault })?,
+    )
+}
+
 #[test]
-fn tells_what_is_due_of_blocks(rt: HostRuntime) -> Result<(), Fail> {
-    let mut blocks = Vec::new(rt.alloc());
-    put_ng_head(&mut blocks)?;
-    let packet = Packet {
-        time: 5,
-        original: 2,
-        octets: &[7, 8],
-    };
-    put_ng_packet(Link::Ethernet, &packet, &mut blocks)?;
-    let mut reader = Reader::new(rt.alloc())?;
-    reader.feed(&blocks[..128])?;
-    assert!(rt; tells_of_one(&mut reader)?);
+fn tells_what_is_due_of_sections(rt: HostRuntime) -> Result<(), Fail> {
+    assert!(rt; tells_of_sections(rt.alloc(), sections())?);
     Ok(())
 }

@@ -1,7 +1,6 @@
 //! Records of a capture in the form pcapng, and the same of classic captures.
-use crate::shown::is_shown;
-use ioam_ng::put_ng_head;
-use std::alloc::Global;
+use crate::puts::blocks;
+use crate::shown::{all_are_shown, is_shown};
 use std::test::Fail;
 
 // A section, little-endian, of two interfaces, of Ethernet and of IP, and a record of each.
@@ -76,22 +75,10 @@ const CUT: [(&[u8], usize, &[&str]); 4] = [
     (&KIND, 16, &["Magic { found: 3 } at 0"]),
 ];
 
-// Whether that is shown of each.
-fn all_are_shown(alloc: Global, cases: &[(&[u8], usize, &[&str])]) -> Result<bool, Fail> {
-    for (capture, octets, lines) in cases {
-        let cut = capture.get(..*octets).ok_or("too short")?;
-        if !is_shown(alloc, cut, lines)? {
-            return Ok(false);
-        }
-    }
-    Ok(true)
-}
-
 #[test]
 fn says_the_faults_of_either_form(rt: HostRuntime) -> Result<(), Fail> {
     let alloc = rt.alloc();
-    let mut kind = Vec::new(alloc);
-    put_ng_head(&mut kind)?;
+    let mut kind = blocks(alloc)?;
     kind.extend_from_slice(&KIND)?;
     assert!(rt; is_shown(alloc, &kind, &["Kind { found: 3 } at 92"])?);
     assert!(rt; all_are_shown(alloc, &CUT)?);

@@ -12,6 +12,8 @@ mod forms;
 #[cfg(test)]
 mod ng;
 #[cfg(test)]
+mod puts;
+#[cfg(test)]
 mod shown;
 #[cfg(test)]
 mod stream;

@@ -1,5 +1,4 @@
 //! Captures in the form pcapng (`ioam_ng`): what is written, octet by octet, and what a reader shows
 //! in any pieces.
-mod faults;
-mod shown;
+pub(crate) mod faults;
 mod written;

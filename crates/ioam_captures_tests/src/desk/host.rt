@@ -148,14 +148,25 @@ fn a_write_that_fails_names_its_file(rt: HostRuntime) -> Result<(), Fail> {
     Ok(())
 }
 
-// Opens some files.
-fn open_some(desk: &mut HostDesk<'_, ByLength>) -> Result<(), DeskFault> {
-    desk.open_in("in")?;
-    desk.open_in("a")?;
-    desk.open_out("b")?;
-    desk.open_out("c")?;
-    desk.open_out("out")?;
+// Opens a file to be read.
+fn open_in<D: Desk>(desk: &mut D, name: &str) -> Result<(), DeskFault> {
+    let _input = desk.open_in(name)?;
     Ok(())
+}
+
+// Opens a file to be written.
+fn open_out<D: Desk>(desk: &mut D, name: &str) -> Result<(), DeskFault> {
+    let _output = desk.open_out(name)?;
+    Ok(())
+}
+
+// Opens some files.
+fn open_some<D: Desk>(desk: &mut D) -> Result<(), DeskFault> {
+    open_in(desk, "in")?;
+    open_in(desk, "a")?;
+    open_out(desk, "b")?;
+    open_out(desk, "c")?;
+    open_out(desk, "out")
 }
 
 // Whether such an output isn't opened, and this line is printed of it.

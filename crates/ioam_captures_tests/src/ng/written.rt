@@ -1,6 +1,6 @@
 //! What is written, and that it is read back.
-use crate::ng::shown::is_outlined;
-use ioam_ng::{put_ng_head, put_ng_packet};
+use crate::puts::{blocks, put_block};
+use crate::shown::is_shown;
 use ioam_pcap::{Link, Packet};
 use std::test::Fail;
 
@@ -25,28 +25,24 @@ const SHORT: [u8; 40] = [
     0, 0, 0, 5, 0, 0, 0, 9, 1, 2, 3, 4, 5, 0, 0, 0, 0, 0, 0, 0x28,
 ];
 
-const READ: &str =
-    "Packet { link: Raw, packet: Packet { time: 1000000000, original: 48, octets: [96, 96, 96, 96, 96, 96, 96, 96, 96, 96, 96, 96, 96, 96, 96, 96, 96, 96, 96, 96, 96, 96, 96, 96, 96, 96, 96, 96, 96, 96, 96, 96, 96, 96, 96, 96, 96, 96, 96, 96, 96, 96, 96, 96, 96, 96, 96, 96] } }
-Packet { link: Ethernet, packet: Packet { time: 4294967296, original: 9, octets: [1, 2, 3, 4, 5] } }
-whole
-";
+const READ: [&str; 3] = [
+    "Packet { link: Raw, packet: Packet { time: 1000000000, original: 48, octets: [96, 96, 96, 96, 96, 96, 96, 96, 96, 96, 96, 96, 96, 96, 96, 96, 96, 96, 96, 96, 96, 96, 96, 96, 96, 96, 96, 96, 96, 96, 96, 96, 96, 96, 96, 96, 96, 96, 96, 96, 96, 96, 96, 96, 96, 96, 96, 96] } }",
+    "Packet { link: Ethernet, packet: Packet { time: 4294967296, original: 9, octets: [1, 2, 3, 4, 5] } }",
+    "whole",
+];
 
-// Writes both packets.
-fn put_packets(out: &mut Vec<u8>) -> Result<(), Fail> {
-    let long = Packet {
-        time: 1_000_000_000,
-        original: 48,
-        octets: &[0x60; 48],
-    };
-    put_ng_packet(Link::Raw, &long, out)?;
-    let short = Packet {
-        time: 4_294_967_296,
-        original: 9,
-        octets: &[1, 2, 3, 4, 5],
-    };
-    put_ng_packet(Link::Ethernet, &short, out)?;
-    Ok(())
-}
+// The packets.
+const RAW: Packet<'static> = Packet {
+    time: 1_000_000_000,
+    original: 48,
+    octets: &[0x60; 48],
+};
+
+const ETHERNET: Packet<'static> = Packet {
+    time: 4_294_967_296,
+    original: 9,
+    octets: &[1, 2, 3, 4, 5],
+};
 
 // Whether the head and both packets are written so, the octets of the long one aside.
 fn are_written(out: &[u8], head: &[u8], long: &[u8], short: &[u8]) -> bool {
@@ -58,12 +54,11 @@ fn are_written(out: &[u8], head: &[u8], long: &[u8], short: &[u8]) -> bool {
 
 #[test]
 fn writes_and_reads_back(rt: HostRuntime) -> Result<(), Fail> {
-    let mut out = Vec::new(rt.alloc());
-    put_ng_head(&mut out)?;
-    put_packets(&mut out)?;
+    let alloc = rt.alloc();
+    let mut out = blocks(alloc)?;
+    put_block(Link::Raw, RAW, &mut out)?;
+    put_block(Link::Ethernet, ETHERNET, &mut out)?;
     assert!(rt; are_written(&out, &HEAD, &LONG, &SHORT));
-    for size in [1, 7, 65_536] {
-        assert!(rt; is_outlined(rt.alloc(), &out, size, READ)?);
-    }
+    assert!(rt; is_shown(alloc, &out, &READ)?);
     Ok(())
 }

@@ -1,4 +1,4 @@
-use crate::stream::captures::TWO;
+use crate::stream::captures::two;
 use ioam_base::name::Name;
 use ioam_desk::{DeskFault, MemoryDesk};
 use ioam_merge::open_merge;
@@ -42,7 +42,7 @@ fn turn_of(alloc: Global, desk: &mut MemoryDesk, names: &[Name]) -> Result<Strin
 
 // Puts both captures on a desk, which hands them out in pieces of 7 octets.
 fn put_both(desk: &mut MemoryDesk, other: &[u8], failing: u64) -> Result<(), Fail> {
-    desk.put_file("two", &TWO)?;
+    desk.put_file("two", two())?;
     desk.put_file("other", other)?;
     desk.set_piece(7);
     desk.fail_call(failing)?;
@@ -65,36 +65,33 @@ fn first_turn(alloc: Global, other: &[u8], failing: u64) -> Result<String, Fail>
     turn_of(alloc, &mut desk, &names)
 }
 
-#[test]
-fn the_first_of_equal_times(rt: HostRuntime) -> Result<(), Fail> {
-    let text = first_turn(rt.alloc(), &SAME, 1000)?;
-    assert_eq!(rt; text.as_str(), "Next { place: 0, time: 2000007000 }");
-    Ok(())
-}
+// Another capture, the call that fails, and what comes first: of equal times the first, else the least, a
+// fault before any record, and a read that fails behind two opening calls, seven reads of the first
+// capture, and the second's first.
+const FIRSTS: [(&[u8], u64, &str); 5] = [
+    (&SAME, 1000, "Next { place: 0, time: 2000007000 }"),
+    (&SOONER, 1000, "Next { place: 1, time: 2000006000 }"),
+    (&BLOCKS, 1000, "Next { place: 1, time: 2000006000 }"),
+    (
+        &[1, 2, 3, 4, 5],
+        1000,
+        "Broken { place: 1, at: 0, fault: Magic { found: 16909060 } }",
+    ),
+    (&SAME, 10, "failed"),
+];
 
-#[test]
-fn the_least_time(rt: HostRuntime) -> Result<(), Fail> {
-    for other in [SOONER.as_slice(), BLOCKS.as_slice()] {
-        let text = first_turn(rt.alloc(), other, 1000)?;
-        assert_eq!(rt; text.as_str(), "Next { place: 1, time: 2000006000 }");
+// Whether each comes first.
+fn all_are_first(alloc: Global, cases: &[(&[u8], u64, &str)]) -> Result<bool, Fail> {
+    for (other, failing, wanted) in cases {
+        if first_turn(alloc, other, *failing)?.as_str() != *wanted {
+            return Ok(false);
+        }
     }
-    Ok(())
+    Ok(true)
 }
 
 #[test]
-fn a_fault_before_any_record(rt: HostRuntime) -> Result<(), Fail> {
-    let text = first_turn(rt.alloc(), &[1, 2, 3, 4, 5], 1000)?;
-    assert_eq!(rt;
-        text.as_str(),
-        "Broken { place: 1, at: 0, fault: Magic { found: 16909060 } }"
-    );
-    Ok(())
-}
-
-#[test]
-fn a_read_that_fails(rt: HostRuntime) -> Result<(), Fail> {
-    // two opening calls, seven reads of the first capture, and the second's first
-    let text = first_turn(rt.alloc(), &SAME, 10)?;
-    assert_eq!(rt; text.as_str(), "failed");
+fn the_first_is_told(rt: HostRuntime) -> Result<(), Fail> {
+    assert!(rt; all_are_first(rt.alloc(), &FIRSTS)?);
     Ok(())
 }

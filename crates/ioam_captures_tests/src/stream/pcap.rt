@@ -1,34 +1,9 @@
-ghost use Rattle.std.specs.Prelude.{◌<◌};
-
-use crate::stream::captures::{TWO, TWO_READ, show};
-use ioam_pcap::{CapLook, CapStep, CaptureReader, Link, pick, put_head, put_record};
+use crate::puts::{classic, put_entry};
+use crate::shown::{Shows, is_classic};
+use crate::stream::captures::{two, two_read};
+use ioam_pcap::{CapLook, CapStep, CaptureReader, Link, pick};
 use std::alloc::Global;
 use std::test::Fail;
-
-// Shows a capture that is fed in pieces of one size, and how it ends.
-fn outline(alloc: Global, capture: &[u8], size: usize) -> Result<String, Fail>
-    requires { 0 < size }
-{
-    let mut reader = CaptureReader::new(alloc)?;
-    let mut text = String::new(alloc);
-    for piece in capture.chunks(size) {
-        if reader.fed() > 1_000_000 || piece.len() > 65_536 {
-            return Err(Fail::from("too many octets"));
-        }
-        reader.feed(piece)?;
-        show(alloc, &mut reader, &mut text)?;
-    }
-    let end = match reader.next() {
-        CapStep::More => reader.finish(),
-        CapStep::Bad { at, fault } => Some((at, fault)),
-        _ => return Err(Fail::from("not at its end")),
-    };
-    match end {
-        None => text.push_str("whole\n")?,
-        Some((at, fault)) => text.push_str(&format!(in alloc; "{fault:?} at {at}\n")?)?,
-    }
-    Ok(text)
-}
 
 // A head, big-endian, nanoseconds, IP (link type 101).
 const HEAD: [u8; 24] = [
@@ -47,11 +22,19 @@ const COOKED: [u8; 24] = [
 
 #[test]
 fn reads_in_any_pieces(rt: HostRuntime) -> Result<(), Fail> {
-    for size in [1, 2, 3, 7, 16, 24, 65_536] {
-        let text = outline(rt.alloc(), &TWO, size)?;
-        assert_eq!(rt; text.as_str(), TWO_READ);
-    }
+    let sizes = [1, 2, 3, 7, 16, 24, 65_536];
+    assert!(rt; is_classic(rt.alloc(), two(), &sizes, two_read())?);
     Ok(())
+}
+
+// Whether a reader looks ahead to this.
+fn looks_to(reader: &CaptureReader, look: CapLook) -> bool {
+    reader.look() == look
+}
+
+// Whether a reader reads a head.
+fn reads_head(reader: &mut CaptureReader) -> bool {
+    matches!(reader.next(), CapStep::Head { .. })
 }
 
 // Whether a reader that was fed the capture looks ahead to its head, and then to its first packet.
@@ -61,17 +44,17 @@ fn looks_to_each(reader: &mut CaptureReader) -> bool {
         size: 3,
     };
     reader.link().is_none()
-        && reader.look() == CapLook::Head { link: Link::Raw }
-        && matches!(reader.next(), CapStep::Head { .. })
+        && looks_to(reader, CapLook::Head { link: Link::Raw })
+        && reads_head(reader)
         && reader.link() == Some(Link::Raw)
-        && reader.look() == first
+        && looks_to(reader, first)
 }
 
 #[test]
 fn looks_ahead(rt: HostRuntime) -> Result<(), Fail> {
     let mut reader = CaptureReader::new(rt.alloc())?;
-    assert!(rt; reader.look() == CapLook::More);
-    reader.feed(&TWO)?;
+    assert!(rt; looks_to(&reader, CapLook::More));
+    reader.take(two())?;
     assert!(rt; reader.fed() == 59);
     assert!(rt; looks_to_each(&mut reader));
     Ok(())
@@ -80,35 +63,45 @@ fn looks_ahead(rt: HostRuntime) -> Result<(), Fail> {
 // Feeds a reader octets in pieces of 65,536.
 fn feed_pieces(reader: &mut CaptureReader, octets: &[u8]) -> Result<(), Fail> {
     for piece in octets.chunks(65_536) {
-        if reader.fed() > 1_000_000_000 || piece.len() > 65_536 {
-            return Err(Fail::from("too many octets"));
-        }
-        reader.feed(piece)?;
+        reader.take(piece)?;
     }
     Ok(())
+}
+
+// Whether a reader reads a packet of the most octets.
+fn reads_longest(reader: &mut CaptureReader) -> bool {
+    matches!(reader.next(), CapStep::Packet(packet) if packet.octets.len() == 262_144)
+}
+
+// Whether a reader reads nothing.
+fn reads_nothing(reader: &mut CaptureReader) -> bool {
+    matches!(reader.next(), CapStep::More)
 }
 
 // Feeds a record of 262,144 octets so often, and says whether it is read each time.
 fn longest_is_read(reader: &mut CaptureReader, record: &[u8], times: u32) -> Result<bool, Fail> {
     for _ in 0..times {
         feed_pieces(reader, record)?;
-        if !matches!(reader.next(), CapStep::Packet(packet) if packet.octets.len() == 262_144) {
+        if !reads_longest(reader) {
             return Ok(false);
         }
     }
-    Ok(matches!(reader.next(), CapStep::More))
+    Ok(reads_nothing(reader))
+}
+
+// Whether a reader of a head and of 20 records of the most octets reads these.
+fn megabytes_are_read(reader: &mut CaptureReader, record: &[u8]) -> Result<bool, Fail> {
+    reader.take(&HEAD)?;
+    Ok(reads_head(reader) && longest_is_read(reader, record, 20)? && reader.fed() == 5_243_224)
 }
 
 #[test]
 fn reads_several_megabytes(rt: HostRuntime) -> Result<(), Fail> {
     let packet = vec![in rt.alloc(); 7; 262_144]?;
     let mut record = Vec::new(rt.alloc());
-    put_record(5, &packet, &mut record)?;
+    put_entry(5, &packet, &mut record)?;
     let mut reader = CaptureReader::new(rt.alloc())?;
-    reader.feed(&HEAD)?;
-    assert!(rt; matches!(reader.next(), CapStep::Head { .. }));
-    assert!(rt; longest_is_read(&mut reader, &record, 20)?);
-    assert_eq!(rt; reader.fed(), 5_243_224);
+    assert!(rt; megabytes_are_read(&mut reader, &record)?);
     Ok(())
 }
 
@@ -151,13 +144,7 @@ const FORMS: [(&[u8], &[u8], &str); 7] = [
 fn is_shown(alloc: Global, head: &[u8], rest: &[u8], expected: &str) -> Result<bool, Fail> {
     let mut capture = head.to_vec(alloc)?;
     capture.extend_from_slice(rest)?;
-    for size in [1, 65_536] {
-        let text = outline(alloc, &capture, size)?;
-        if text.as_str() != expected {
-            return Ok(false);
-        }
-    }
-    Ok(true)
+    is_classic(alloc, &capture, &[1, 65_536], expected)
 }
 
 // Whether each of these is.
@@ -181,14 +168,6 @@ fn reads_each_form_and_fault(rt: HostRuntime) -> Result<(), Fail> {
     Ok(())
 }
 
-// Writes a head and two records.
-fn put_two(out: &mut Vec<u8>) -> Result<(), Fail> {
-    put_head(out)?;
-    put_record(1_000_002_000, &[7, 8], out)?;
-    put_record(4_294_967_297_000_000_001, &[], out)?;
-    Ok(())
-}
-
 // The octets of those records.
 const RECORDS: [u8; 34] = [
     0, 0, 0, 1, 0, 0, 7, 0xd0, 0, 0, 0, 2, 0, 0, 0, 2, 7, 8, //
@@ -202,15 +181,31 @@ fn is_both(octets: &[u8], head: &[u8], rest: &[u8]) -> bool {
 
 #[test]
 fn writes(rt: HostRuntime) -> Result<(), Fail> {
-    let mut out = Vec::new(rt.alloc());
-    put_two(&mut out)?;
+    let mut out = classic(rt.alloc())?;
+    put_entry(1_000_002_000, &[7, 8], &mut out)?;
+    put_entry(4_294_967_297_000_000_001, &[], &mut out)?;
     assert!(rt; is_both(&out, &HEAD, &RECORDS));
     Ok(())
 }
 
+// Times, and the place of the one that is picked.
+const PICKS: [(&[Option<u64>], Option<usize>); 3] = [
+    (&[Some(5), None, Some(5), Some(4)], Some(3)),
+    (&[Some(5), None, Some(5)], Some(0)),
+    (&[None], None),
+];
+
+// Whether each place is picked.
+fn all_are_picked(cases: &[(&[Option<u64>], Option<usize>)]) -> bool {
+    for (times, place) in cases {
+        if pick(times) != *place {
+            return false;
+        }
+    }
+    true
+}
+
 #[test]
 fn picks_the_first_of_the_least(rt: HostRuntime) {
-    assert_eq!(rt; pick(&[Some(5), None, Some(5), Some(4)]), Some(3));
-    assert_eq!(rt; pick(&[Some(5), None, Some(5)]), Some(0));
-    assert_eq!(rt; pick(&[None]), None);
+    assert!(rt; all_are_picked(&PICKS));
 }
