@@ -1,9 +1,14 @@
-ghost use Rattle.std.specs.Prelude.{◌<◌, ◌≡◌, length};
+ghost use Rattle.std.specs.Prelude.{◌<◌, ◌≤◌, ◌≡◌, length};
 
 use ioam_base::memory::NoMemory;
 use ioam_pool::{Chain, Inserted, Item, Parts, Pool};
 use std::alloc::Global;
 use std::test::Fail;
+
+// Whether an item has this hop value and this core.
+fn is(item: &Item, hops: u8, core: u8) -> bool {
+    item.hops() == hops && item.core() == [core].as_slice()
+}
 
 // Whether a chain has items of these hop values, each with one octet of core.
 fn has(pool: &Pool, chain: Chain, wanted: &[(u8, u8)]) -> bool
@@ -13,7 +18,7 @@ fn has(pool: &Pool, chain: Chain, wanted: &[(u8, u8)]) -> bool
     for item in pool.walk(chain) {
         match left {
             [(hops, core), rest @ ..] => {
-                if item.hops() != *hops || item.core() != [*core].as_slice() {
+                if !is(item, *hops, *core) {
                     return false;
                 }
                 left = rest;
@@ -33,7 +38,29 @@ enum Became {
     Full,
 }
 
-// Inserts an item of this hop value, with one octet of core and no extra part.
+// Inserts an item of this hop value and this core, with no extra part.
+fn insert_core(
+    pool: &mut Pool,
+    chain: Chain,
+    hops: u8,
+    core: &[u8],
+    alloc: Global,
+) -> Result<Became, NoMemory>
+    requires chain { chain < length pool.old.chains }
+    requires core { length core.now ≤ 262 }
+    ensures chains { length pool.new.chains ≡ length pool.old.chains }
+    ensures capacity { pool.new.capacity ≡ pool.old.capacity }
+{
+    let item = Item::new(alloc, &Parts::new(hops, core, &[]))?;
+    Ok(match pool.insert(chain, item) {
+        Inserted::Kept => Became::Kept,
+        Inserted::Replaced(_) => Became::Replaced,
+        Inserted::Repeat(_) => Became::Repeat,
+        Inserted::Full(_) => Became::Full,
+    })
+}
+
+// Inserts an item of this hop value, with one octet of core.
 fn insert(
     pool: &mut Pool,
     chain: Chain,
@@ -45,13 +72,7 @@ fn insert(
     ensures chains { length pool.new.chains ≡ length pool.old.chains }
     ensures capacity { pool.new.capacity ≡ pool.old.capacity }
 {
-    let item = Item::new(alloc, &Parts::new(hops, &[core], &[]))?;
-    Ok(match pool.insert(chain, item) {
-        Inserted::Kept => Became::Kept,
-        Inserted::Replaced(_) => Became::Replaced,
-        Inserted::Repeat(_) => Became::Repeat,
-        Inserted::Full(_) => Became::Full,
-    })
+    insert_core(pool, chain, hops, &[core], alloc)
 }
 
 // Whether two items fill the pool, and then one is of no room and one is a repeat.
@@ -129,16 +150,32 @@ fn a_pool_that_grew_has_room(rt: HostRuntime) -> Result<(), Fail> {
     Ok(())
 }
 
+// Whether the items of a chain have this core.
+fn all_have(pool: &Pool, chain: Chain, core: &[u8]) -> bool
+    requires { chain < length pool.now.chains }
+{
+    for item in pool.walk(chain) {
+        if item.core() != core {
+            return false;
+        }
+    }
+    true
+}
+
+// Whether an item with such a core is kept once.
+fn is_kept_once(pool: &mut Pool, p: Chain, core: &[u8], alloc: Global) -> Result<bool, NoMemory>
+    requires chain { p < length pool.old.chains }
+    requires core { length core.now ≤ 262 }
+{
+    let first = insert_core(pool, p, 5, core, alloc)?;
+    let again = insert_core(pool, p, 5, core, alloc)?;
+    Ok(matches!(first, Became::Kept) && matches!(again, Became::Repeat) && all_have(pool, p, core))
+}
+
 #[test]
 fn a_core_of_many_octets_is_kept_whole(rt: HostRuntime) -> Result<(), Fail> {
     let mut pool = Pool::new(rt.alloc(), 1)?;
     let p = pool.add_chain()?;
-    let long = Item::new(rt.alloc(), &Parts::new(5, &[7; 262], &[]))?;
-    assert!(rt; matches!(pool.insert(p, long), Inserted::Kept));
-    let again = Item::new(rt.alloc(), &Parts::new(5, &[7; 262], &[]))?;
-    assert!(rt; matches!(pool.insert(p, again), Inserted::Repeat(_)));
-    for item in pool.walk(p) {
-        assert!(rt; item.core() == [7; 262].as_slice());
-    }
+    assert!(rt; is_kept_once(&mut pool, p, &[7; 262], rt.alloc())?);
     Ok(())
 }

@@ -3,6 +3,7 @@ ghost use Rattle.ioam_edge.specs.Edge.{HasItsFields, asks};
 
 use ioam_data::Namespace;
 use ioam_edge::{Edge, EdgeFault, Note, Receiver, Tally, put, read};
+use std::alloc::Global;
 use std::test::Fail;
 
 // The octets of namespace 7 and the types 0x0000, 0x1000, .. 0xF000.
@@ -92,27 +93,44 @@ fn edge_of(kind: u16) -> Edge
     }
 }
 
+// Whether the value of a type is written so, and read again.
+fn is_both(alloc: Global, octets: &[u8], kind: u16) -> Result<bool, Fail> {
+    let edge = edge_of(kind % 16 * 4096);
+    let mut out = Vec::new(alloc);
+    put(&edge, &mut out)?;
+    Ok(out.as_slice() == octets && read(octets) == Ok(edge))
+}
+
+// Whether the values of all types are.
+fn all_are_both(alloc: Global, rows: &[&[u8]]) -> Result<bool, Fail> {
+    for (octets, kind) in rows.iter().zip(0..16) {
+        if !is_both(alloc, octets, kind)? {
+            return Ok(false);
+        }
+    }
+    Ok(true)
+}
+
 #[test]
 fn each_type_is_written_and_read(rt: HostRuntime) -> Result<(), Fail> {
-    for (octets, kind) in OCTETS.iter().zip(0..16) {
-        if kind >= 16 {
-            return Err(Fail::from("not a type"));
-        }
-        let edge = edge_of(kind * 4096);
-        let mut out = Vec::new(rt.alloc());
-        put(&edge, &mut out)?;
-        assert_eq!(rt; out.as_slice(), *octets);
-        assert_eq!(rt; read(octets), Ok(edge));
-    }
+    assert!(rt; all_are_both(rt.alloc(), &OCTETS)?);
     Ok(())
 }
 
 // Octets that are cut off, how many there are, and how many are wanted.
-const SHORT: [(&[u8], u32, u32); 4] = [
+const SHORT: [(&[u8], u32, u32); 5] = [
     (&[], 0, 4),
     (&[0, 7, 0x40], 3, 4),
     (&[0, 7, 0x40, 0, 0, 0], 6, 8),
     (&[0, 7, 0x8F, 0xFF, 1, 2, 3, 4, 5, 6, 7], 11, 12),
+    (
+        &[
+            0, 7, 0xF0, 0, 1, 2, 3, 4, 5, 6, 7, 8, 0x11, 0x12, 0x13, 0x14, 0x21, 0x22, 0x23, 0x24,
+            0x31, 0x32, 0x33,
+        ],
+        23,
+        24,
+    ),
 ];
 
 // Whether each of these is refused so.
@@ -129,16 +147,19 @@ fn all_are_short(cases: &[(&[u8], u32, u32)]) -> bool {
     true
 }
 
+// Whether the 32-bit sequence number 9 is read of a type with bits that are not known.
+fn is_read_of_unknown(octets: &[u8]) -> bool {
+    match read(octets) {
+        Ok(edge) => edge.seq32 == Some(9) && edge.kind == 0x4FFF,
+        Err(_) => false,
+    }
+}
+
 #[test]
-fn short_data_is_refused(rt: HostRuntime) -> Result<(), Fail> {
+fn short_data_is_refused(rt: HostRuntime) {
     assert!(rt; all_are_short(&SHORT));
-    let cut = OCTETS[15].split_at(23).0;
-    assert!(rt; all_are_short(&[(cut, 23, 24)]));
     // What follows for bits that are not known is left unread.
-    let edge = read(&[0, 7, 0x4F, 0xFF, 0, 0, 0, 9, 0xAA])?;
-    assert_eq!(rt; edge.seq32, Some(9));
-    assert_eq!(rt; edge.kind, 0x4FFF);
-    Ok(())
+    assert!(rt; is_read_of_unknown(&[0, 7, 0x4F, 0xFF, 0, 0, 0, 9, 0xAA]));
 }
 
 // Numbers near one another, and what is noted of each.
@@ -180,27 +201,31 @@ fn all_noted(receiver: &mut Receiver, cases: &[(u64, Note)]) -> bool {
     true
 }
 
+// What is noted of each in all.
+const NEAR_IN_ALL: Tally = Tally {
+    next: Some(6),
+    gaps: 2,
+    missed: 3,
+    late: 1,
+    repeats: 1,
+};
+
+const FAR_IN_ALL: Tally = Tally {
+    next: None,
+    gaps: 3,
+    missed: u64::MAX - 2,
+    late: 4,
+    repeats: 4,
+};
+
+// Whether a receiver notes this of each number, and that in all.
+fn are_noted(cases: &[(u64, Note)], tally: &Tally) -> bool {
+    let mut receiver = Receiver::new();
+    all_noted(&mut receiver, cases) && receiver.tally() == *tally
+}
+
 #[test]
 fn numbers_are_noted(rt: HostRuntime) {
-    let mut receiver = Receiver::new();
-    assert!(rt; all_noted(&mut receiver, &NEAR));
-    let tally = Tally {
-        next: Some(6),
-        gaps: 2,
-        missed: 3,
-        late: 1,
-        repeats: 1,
-    };
-    assert_eq!(rt; receiver.tally(), tally);
-
-    let mut receiver = Receiver::new();
-    assert!(rt; all_noted(&mut receiver, &FAR));
-    let tally = Tally {
-        next: None,
-        gaps: 3,
-        missed: u64::MAX - 2,
-        late: 4,
-        repeats: 4,
-    };
-    assert_eq!(rt; receiver.tally(), tally);
+    assert!(rt; are_noted(&NEAR, &NEAR_IN_ALL));
+    assert!(rt; are_noted(&FAR, &FAR_IN_ALL));
 }

@@ -1,5 +1,7 @@
 //! Octets by hand, from the RFCs' formats.
-ghost use Rattle.std.specs.Prelude.{◌<◌, ◌^◌};
+ghost use Rattle.std.specs.Prelude.{◌<◌, ◌≤◌, ◌^◌, length};
+ghost use Rattle.ioam_ip.specs.Packet.{IsPacket};
+ghost use Rattle.ioam_ip.specs.Chain.{IsSound};
 
 use ioam_base::memory::NoMemory;
 use ioam_base::text::append;
@@ -69,27 +71,55 @@ fn udp_header(class: u8, label: u32) -> Header
     }
 }
 
-// Notes where the outer Destination Options header stands, each option of the Hop-by-Hop header with
-// its place and the octets of its data, and each header with its range.
-fn note_outline(octets: &[u8], seen: &mut Vec<(usize, usize, usize)>) -> Result<(), NoMemory> {
+// What is noted of a packet: three numbers for each thing that is found.
+type Seen = Vec<(usize, usize, usize)>;
+
+// Notes where the outer Destination Options header stands.
+fn note_target(packet: &[u8], seen: &mut Seen) -> Result<(), NoMemory>
+    requires packet { IsPacket packet.now }
+    requires sound { IsSound packet.now }
+{
+    if let Some(target) = target_header(packet) {
+        seen.push((target.start, target.end, 0))?;
+    }
+    Ok(())
+}
+
+// Notes each option of the Hop-by-Hop header with its place and the octets of its data.
+fn note_hop(packet: &[u8], seen: &mut Seen) -> Result<(), NoMemory>
+    requires packet { IsPacket packet.now }
+    requires sound { IsSound packet.now }
+{
+    if let Some(hop) = hop_header(packet) {
+        for option in options(&packet[hop.start..hop.end]) {
+            seen.push((option.kind as usize, option.at, option.body.len()))?;
+        }
+    }
+    Ok(())
+}
+
+// Notes each header with its range.
+fn note_heads(packet: &[u8], seen: &mut Seen) -> Result<(), NoMemory>
+    requires packet { IsPacket packet.now }
+    requires sound { IsSound packet.now }
+{
+    for head in heads(packet) {
+        seen.push((head.value as usize, head.range.start, head.range.end))?;
+    }
+    Ok(())
+}
+
+// Notes all that.
+fn note_outline(octets: &[u8], seen: &mut Seen) -> Result<(), NoMemory> {
     let Framed::Packet(packet) = packet_of(false, false, octets) else {
         return Ok(());
     };
     let Walk::Whole { .. } = walk(packet) else {
         return Ok(());
     };
-    if let Some(target) = target_header(packet) {
-        seen.push((target.start, target.end, 0))?;
-    }
-    if let Some(hop) = hop_header(packet) {
-        for option in options(&packet[hop.start..hop.end]) {
-            seen.push((option.kind as usize, option.at, option.body.len()))?;
-        }
-    }
-    for head in heads(packet) {
-        seen.push((head.value as usize, head.range.start, head.range.end))?;
-    }
-    Ok(())
+    note_target(packet, seen)?;
+    note_hop(packet, seen)?;
+    note_heads(packet, seen)
 }
 
 fn whole(ioam: bool, upper: u8, at: u32, limit: Option<u8>) -> Walk {
@@ -185,11 +215,18 @@ const BROKEN: [(u8, &[u8], &[u8], u32); 6] = [
     (44, &[60, 0, 0, 1], &[], 40),
 ];
 
+// Whether the walk of such a packet ends so.
+fn is_walked(alloc: Global, next: u8, parts: [&[u8]; 3], wanted: Walk) -> Result<bool, NoMemory> {
+    let [front, middle, back] = parts;
+    let octets = packet(alloc, next, front, middle, back)?;
+    Ok(walked(&octets) == Some(wanted))
+}
+
 // Whether each chain ends so.
 fn all_end(alloc: Global, cases: &[(u8, &[u8], &[u8], Ends)]) -> Result<bool, NoMemory> {
     for (next, front, back, (ioam, upper, at, limit)) in cases {
-        let octets = packet(alloc, *next, front, &[], back)?;
-        if walked(octets.as_slice()) != Some(whole(*ioam, *upper, *at, *limit)) {
+        let wanted = whole(*ioam, *upper, *at, *limit);
+        if !is_walked(alloc, *next, [front, &[], back], wanted)? {
             return Ok(false);
         }
     }
@@ -199,8 +236,7 @@ fn all_end(alloc: Global, cases: &[(u8, &[u8], &[u8], Ends)]) -> Result<bool, No
 // Whether each chain breaks there.
 fn all_break(alloc: Global, cases: &[(u8, &[u8], &[u8], u32)]) -> Result<bool, NoMemory> {
     for (next, front, back, at) in cases {
-        let octets = packet(alloc, *next, front, &[], back)?;
-        if walked(octets.as_slice()) != Some(Walk::Bad { at: *at }) {
+        if !is_walked(alloc, *next, [front, &[], back], Walk::Bad { at: *at })? {
             return Ok(false);
         }
     }
@@ -209,8 +245,8 @@ fn all_break(alloc: Global, cases: &[(u8, &[u8], &[u8], u32)]) -> Result<bool, N
 
 #[test]
 fn walks(rt: HostRuntime) -> Result<(), Fail> {
-    assert_eq!(rt; all_end(rt.alloc(), &WHOLE)?, true);
-    assert_eq!(rt; all_break(rt.alloc(), &BROKEN)?, true);
+    assert!(rt; all_end(rt.alloc(), &WHOLE)?);
+    assert!(rt; all_break(rt.alloc(), &BROKEN)?);
     Ok(())
 }
 
@@ -231,20 +267,25 @@ const NESTED: [(&[u8], &[u8], Ends); 3] = [
     ),
 ];
 
-// How the walk of such a packet with a header behind its own ends.
-fn nested_walk(alloc: Global, front: &[u8], back: &[u8]) -> Result<Option<Walk>, NoMemory> {
-    let octets = packet(alloc, 41, front, &ADDRESSES, back)?;
-    Ok(walked(octets.as_slice()))
+// Whether the walk of such a packet with a header behind its own ends so.
+fn is_nested(alloc: Global, front: &[u8], back: &[u8], wanted: Walk) -> Result<bool, NoMemory> {
+    is_walked(alloc, 41, [front, &ADDRESSES, back], wanted)
 }
 
 // Whether each ends so.
 fn all_end_nested(alloc: Global, cases: &[(&[u8], &[u8], Ends)]) -> Result<bool, NoMemory> {
     for (front, back, (ioam, upper, at, limit)) in cases {
-        if nested_walk(alloc, front, back)? != Some(whole(*ioam, *upper, *at, *limit)) {
+        if !is_nested(alloc, front, back, whole(*ioam, *upper, *at, *limit))? {
             return Ok(false);
         }
     }
     Ok(true)
+}
+
+// Whether 2,048 octets of options, all Pad1, are walked.
+fn pads_are_walked(alloc: Global) -> Result<bool, NoMemory> {
+    let wanted = whole(false, 59, 2088, None);
+    is_walked(alloc, 0, [&[59, 255], &[0; 2046], &[]], wanted)
 }
 
 #[test]
@@ -252,10 +293,8 @@ fn nested(rt: HostRuntime) -> Result<(), Fail> {
     let alloc = rt.alloc();
     assert!(rt; all_end_nested(alloc, &NESTED)?);
     // The version is compared.
-    assert!(rt; nested_walk(alloc, &NESTED_FOUR, &[])? == Some(Walk::Bad { at: 40 }));
-    // 2,048 octets of options, all Pad1.
-    let octets = packet(alloc, 0, &[59, 255], &[0; 2046], &[])?;
-    assert!(rt; walked(octets.as_slice()) == Some(whole(false, 59, 2088, None)));
+    assert!(rt; is_nested(alloc, &NESTED_FOUR, &[], Walk::Bad { at: 40 })?);
+    assert!(rt; pads_are_walked(alloc)?);
     Ok(())
 }
 
@@ -282,73 +321,121 @@ fn are_refused(packet: &[u8; 48]) -> bool {
         && is_framed(false, true, &[], Framed::NotIpv6)
 }
 
+// Whether a frame of a packet is that packet, and cut off where it was cut.
+fn is_framed_whole(frame: &[u8], packet: &[u8]) -> bool {
+    is_framed(true, false, frame, Framed::Packet(packet))
+        && is_framed(true, true, frame, Framed::Cut)
+}
+
 #[test]
 fn frames(rt: HostRuntime) -> Result<(), Fail> {
     let frame = frame_of(rt.alloc(), [0x86, 0xDD])?;
-    assert!(rt; is_framed(true, false, frame.as_slice(), Framed::Packet(&UDP)));
-    assert!(rt; is_framed(true, true, frame.as_slice(), Framed::Cut));
+    assert!(rt; is_framed_whole(&frame, &UDP));
     let other = frame_of(rt.alloc(), [0x08, 0x00])?;
-    assert!(rt; is_framed(true, false, other.as_slice(), Framed::NotIpv6));
+    assert!(rt; is_framed(true, false, &other, Framed::NotIpv6));
     assert!(rt; are_refused(&UDP));
     Ok(())
+}
+
+// Whether a header with a class and a label is written so in front, and then as the packet's own.
+fn is_put(octets: &mut [u8; 40], front: &[u8; 4], packet: &[u8; 48]) -> bool {
+    put_header(octets, &udp_header(0xAB, 0xC_DE12));
+    octets.starts_with(front) && octets[4..] == packet[4..40]
+}
+
+// Whether this header is read of the octets.
+fn is_header(octets: &[u8], wanted: Option<Header>) -> bool {
+    header(octets) == wanted
 }
 
 #[test]
 fn headers(rt: HostRuntime) {
     let mut octets = [0; 40];
-    put_header(&mut octets, &udp_header(0xAB, 0xC_DE12));
-    assert_eq!(rt; octets[..4], *[0x6A, 0xBC, 0xDE, 0x12].as_slice());
-    assert_eq!(rt; octets[4..], UDP[4..40]);
-    assert_eq!(rt; header(&octets), None);
-    assert_eq!(rt; header(&UDP), Some(udp_header(0, 0)));
+    assert!(rt; is_put(&mut octets, &[0x6A, 0xBC, 0xDE, 0x12], &UDP));
+    assert!(rt; is_header(&octets, None));
+    assert!(rt; is_header(&UDP, Some(udp_header(0, 0))));
 }
 
 /// A header with the option 5 at a multiple of two octets, the option 0x31, and the option 4.
 const LAID_OUT: [u8; 16] = [60, 1, 5, 2, 0, 0, 1, 0, 0x31, 3, 0, 0, 7, 4, 1, 3];
 
-// Adds those options.
-fn add_three(outer: &mut Layout) -> Result<(), LayoutFault> {
-    outer.add(5, &[0, 0])?;
-    outer.add(0x31, &[0, 0, 7])?;
-    outer.add(4, &[3])
+// Adds an option.
+fn add(layout: &mut Layout, kind: u8, body: &[u8]) -> Result<(), LayoutFault>
+    requires kind { 1 < kind }
+    requires short { length body.now ≤ 255 }
+{
+    layout.add(kind, body)
+}
+
+// A header with those options.
+fn laid_out(alloc: Global) -> Result<Vec<u8>, Fail> {
+    let mut outer = Layout::new(alloc, 60)?;
+    add(&mut outer, 5, &[0, 0])?;
+    add(&mut outer, 0x31, &[0, 0, 7])?;
+    add(&mut outer, 4, &[3])?;
+    Ok(outer.finish()?)
+}
+
+// Whether options fill a header.
+fn are_checked(head: &[u8]) -> bool {
+    head.len() >= 2 && head.len() <= 65_536 && check_options(head) == Ok(())
 }
 
 #[test]
 fn options_are_laid_out(rt: HostRuntime) -> Result<(), Fail> {
-    let mut outer = Layout::new(rt.alloc(), 60)?;
-    add_three(&mut outer)?;
-    let outer = outer.finish()?;
+    let outer = laid_out(rt.alloc())?;
     assert!(rt; outer.as_slice() == LAID_OUT.as_slice());
-    assert!(rt; check_options(&LAID_OUT) == Ok(()));
+    assert!(rt; are_checked(&LAID_OUT));
     Ok(())
+}
+
+// What is noted of a packet with those options.
+const NOTED: [(usize, usize, usize); 7] = [
+    (56, 64, 0),
+    (5, 2, 2),
+    (0x31, 8, 3),
+    (4, 13, 1),
+    (0, 40, 56),
+    (60, 56, 64),
+    (41, 64, 104),
+];
+
+// Whether a packet is walked so, and that is noted of it.
+fn is_noted(
+    alloc: Global,
+    octets: &[u8],
+    wanted: Walk,
+    noted: &[(usize, usize, usize)],
+) -> Result<bool, NoMemory> {
+    let mut seen = Vec::new(alloc);
+    note_outline(octets, &mut seen)?;
+    Ok(walked(octets) == Some(wanted) && seen.as_slice() == noted)
 }
 
 #[test]
 fn options_have_places(rt: HostRuntime) -> Result<(), Fail> {
     let alloc = rt.alloc();
     let octets = packet(alloc, 0, &LAID_OUT, &[41, 0, 1, 4, 0, 0, 0, 0], &UDP)?;
-    assert_eq!(rt; walked(octets.as_slice()), Some(whole(true, 17, 104, None)));
-    let mut seen = Vec::new(alloc);
-    note_outline(octets.as_slice(), &mut seen)?;
-    let wanted = [
-        (56, 64, 0),
-        (5, 2, 2),
-        (0x31, 8, 3),
-        (4, 13, 1),
-        (0, 40, 56),
-        (60, 56, 64),
-        (41, 64, 104),
-    ];
-    assert_eq!(rt; seen.as_slice(), wanted.as_slice());
+    assert!(rt; is_noted(alloc, &octets, whole(true, 17, 104, None), &NOTED)?);
     Ok(())
 }
 
-// Whether seven options of 255 octets of data are added, and no eighth.
-fn is_filled(layout: &mut Layout, body: &[u8; 255]) -> Result<bool, LayoutFault> {
+// Adds seven options of 255 octets of data.
+fn add_seven(layout: &mut Layout, body: &[u8; 255]) -> Result<(), LayoutFault> {
     for _count in 0..7 {
-        layout.add(0x11, body)?;
+        add(layout, 0x11, body)?;
     }
-    Ok(layout.add(0x11, body) == Err(LayoutFault::Full))
+    Ok(())
+}
+
+// A header with seven options of 255 octets of data, which takes no eighth.
+fn full(alloc: Global, body: &[u8; 255]) -> Result<Vec<u8>, Fail> {
+    let mut layout = Layout::new(alloc, 59)?;
+    add_seven(&mut layout, body)?;
+    if add(&mut layout, 0x11, body) != Err(LayoutFault::Full) {
+        return Err(Fail::from("an eighth option"));
+    }
+    Ok(layout.finish()?)
 }
 
 // Whether a header has the size of those seven, and the last where it is to stand.
@@ -358,16 +445,19 @@ fn has_seven(head: &[u8]) -> bool {
 
 #[test]
 fn full_layout(rt: HostRuntime) -> Result<(), Fail> {
-    let mut layout = Layout::new(rt.alloc(), 59)?;
-    assert!(rt; is_filled(&mut layout, &[0; 255])?);
-    let head = layout.finish()?;
-    assert!(rt; has_seven(head.as_slice()));
-    assert!(rt; check_options(head.as_slice()) == Ok(()));
+    let head = full(rt.alloc(), &[0; 255])?;
+    assert!(rt; has_seven(&head));
+    assert!(rt; are_checked(&head));
     Ok(())
+}
+
+// Whether an option of a header of eight octets runs past it there.
+fn breaks_at(head: &[u8; 8], at: u32) -> bool {
+    check_options(head) == Err(at)
 }
 
 #[test]
 fn options_that_break(rt: HostRuntime) {
-    assert_eq!(rt; check_options(&[59, 0, 5, 5, 0, 0, 0, 0]), Err(2));
-    assert_eq!(rt; check_options(&[59, 0, 1, 3, 0, 0, 0, 5]), Err(7));
+    assert!(rt; breaks_at(&[59, 0, 5, 5, 0, 0, 0, 0], 2));
+    assert!(rt; breaks_at(&[59, 0, 1, 3, 0, 0, 0, 5], 7));
 }

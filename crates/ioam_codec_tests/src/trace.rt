@@ -1,5 +1,6 @@
 use ioam_data::{Namespace, TraceType, View};
 use ioam_trace::{Filled, Incremental, Trace, TraceFault, fill, put_trace};
+use std::alloc::Global;
 use std::test::Fail;
 
 // The fault of the octets of a trace.
@@ -85,20 +86,39 @@ fn first_two(octets: &[u8]) -> ((usize, u8), (usize, u8), u32) {
     (first, second, count)
 }
 
-#[test]
-fn elements(rt: HostRuntime) {
+// Octets of traces, and their first two elements.
+const ELEMENTS: [(&[u8], ((usize, u8), (usize, u8), u32)); 3] = [
     // RemainingLen is the space.
-    let free = [0, 7, 8, 1, 0x80, 0, 0, 0, 9, 9, 9, 9];
-    assert_eq!(rt; first_two(&free), ((0, 0), (0, 0), 0));
+    (
+        &[0, 7, 8, 1, 0x80, 0, 0, 0, 9, 9, 9, 9],
+        ((0, 0), (0, 0), 0),
+    ),
     // Overflow is set; the newest element stands first.
-    let over = [0, 7, 0x0c, 0, 0x80, 0, 0, 0, 0x3f, 0, 0, 2, 0x40, 0, 0, 1];
-    assert_eq!(rt; first_two(&over), ((4, 0x40), (4, 0x3f), 2));
+    (
+        &[0, 7, 0x0c, 0, 0x80, 0, 0, 0, 0x3f, 0, 0, 2, 0x40, 0, 0, 1],
+        ((4, 0x40), (4, 0x3f), 2),
+    ),
     // Undefined bits, and NodeLen above the words; one word is free.
-    let wide = [
-        0, 7, 0x18, 1, 0x80, 8, 0, 0, 5, 5, 5, 5, 1, 1, 1, 1, 2, 2, 2, 2, 3, 3, 3, 3,
-    ];
-    assert_eq!(rt; first_two(&wide), ((12, 1), (0, 0), 1));
-    // Snapshots without data and with 45 words.
+    (
+        &[
+            0, 7, 0x18, 1, 0x80, 8, 0, 0, 5, 5, 5, 5, 1, 1, 1, 1, 2, 2, 2, 2, 3, 3, 3, 3,
+        ],
+        ((12, 1), (0, 0), 1),
+    ),
+];
+
+// Whether each has these.
+fn all_have(cases: &[(&[u8], ((usize, u8), (usize, u8), u32))]) -> bool {
+    for (octets, first) in cases {
+        if first_two(octets) != *first {
+            return false;
+        }
+    }
+    true
+}
+
+// Whether snapshots without data and with 45 words are two elements.
+fn long_has_two() -> bool {
     let mut long = [0; 204];
     long[2] = 8;
     long[4] = 0x80;
@@ -106,7 +126,13 @@ fn elements(rt: HostRuntime) {
     long[8] = 63;
     long[12] = 45;
     long[196] = 64;
-    assert_eq!(rt; first_two(&long), ((8, 64), (188, 63), 2));
+    first_two(&long) == ((8, 64), (188, 63), 2)
+}
+
+#[test]
+fn elements(rt: HostRuntime) {
+    assert!(rt; all_have(&ELEMENTS));
+    assert!(rt; long_has_two());
 }
 
 // A node of which nothing is known but its id and the hop limit.
@@ -144,42 +170,58 @@ fn all_fill(octets: &mut [u8], nodes: &[(u8, u32, Filled)]) -> bool {
     true
 }
 
+// A trace with room for two nodes.
+fn begun(alloc: Global) -> Result<Vec<u8>, Fail> {
+    let kind = TraceType::new(0x800000);
+    if !kind.is_entry_type() {
+        return Err(Fail::from("no type of an entry node"));
+    }
+    let mut octets = Vec::new(alloc);
+    put_trace(Namespace(7), kind, 2, &mut octets)?;
+    Ok(octets)
+}
+
+const BEGUN: [u8; 16] = [0, 7, 8, 2, 0x80, 0, 0, 0, 0, 0, 0, 0, 0, 0, 0, 0];
+
+const FULL: [u8; 16] = [0, 7, 0x0c, 0, 0x80, 0, 0, 0, 0x3f, 0, 0, 2, 0x40, 0, 0, 1];
+
+// Whether a trace is begun so, and then filled.
+fn is_filled(octets: &mut [u8], begun: &[u8; 16], full: &[u8; 16]) -> bool {
+    *octets == *begun.as_slice() && all_fill(octets, &FILLED) && *octets == *full.as_slice()
+}
+
 #[test]
 fn filling(rt: HostRuntime) -> Result<(), Fail> {
-    let mut octets = Vec::new(rt.alloc());
-    let kind = TraceType::new(0x800000);
-    assert!(rt; kind.is_entry_type());
-    put_trace(Namespace(7), kind, 2, &mut octets)?;
-    assert_eq!(rt;
-        octets.as_slice(),
-        [0, 7, 8, 2, 0x80, 0, 0, 0, 0, 0, 0, 0, 0, 0, 0, 0].as_slice()
-    );
-    assert!(rt; all_fill(&mut octets, &FILLED));
-    assert_eq!(rt;
-        octets.as_slice(),
-        [0, 7, 0x0c, 0, 0x80, 0, 0, 0, 0x3f, 0, 0, 2, 0x40, 0, 0, 1].as_slice()
-    );
+    let mut octets = begun(rt.alloc())?;
+    assert!(rt; is_filled(&mut octets, &BEGUN, &FULL));
     Ok(())
+}
+
+// Whether a node with the hop limit 63 does that to a trace, which is as it is to be afterwards.
+fn fills(octets: &mut [u8], filled: Filled, after: &[u8]) -> bool {
+    fill(octets, &node(63, 2)) == filled && *octets == *after
+}
+
+// Whether a trace whose RemainingLen is above the space is left as it is, and octets of no trace are.
+fn are_unsuited(cut: &mut [u8; 12], after: &[u8; 12]) -> bool {
+    fills(&mut cut[..7], Filled::Unsuited, &after[..7]) && fills(cut, Filled::Unsuited, after)
+}
+
+// Whether a word of all ones is added for undefined bits.
+fn undefined_is_filled() -> bool {
+    let mut undefined = [0, 7, 0x10, 2, 0x80, 8, 0, 0, 0, 0, 0, 0, 0, 0, 0, 0];
+    let after = [
+        0, 7, 0x10, 0, 0x80, 8, 0, 0, 0x3f, 0, 0, 2, 0xff, 0xff, 0xff, 0xff,
+    ];
+    fills(&mut undefined, Filled::Added { words: 2 }, &after)
 }
 
 #[test]
 fn filling_at_odds(rt: HostRuntime) {
-    // RemainingLen above the space; and undefined bits, for which a word of all ones is added.
-    let mut cut = [0, 7, 8, 9, 0x80, 0, 0, 0, 0, 0, 0, 0];
-    assert_eq!(rt; fill(&mut cut, &node(63, 2)), Filled::Unsuited);
-    assert_eq!(rt; fill(&mut cut[..7], &node(63, 2)), Filled::Unsuited);
-    assert_eq!(rt; cut, [0, 7, 8, 9, 0x80, 0, 0, 0, 0, 0, 0, 0]);
-    let mut undefined = [0, 7, 0x10, 2, 0x80, 8, 0, 0, 0, 0, 0, 0, 0, 0, 0, 0];
-    assert_eq!(rt;
-        fill(&mut undefined, &node(63, 2)),
-        Filled::Added { words: 2 }
-    );
-    assert_eq!(rt;
-        undefined,
-        [
-            0, 7, 0x10, 0, 0x80, 8, 0, 0, 0x3f, 0, 0, 2, 0xff, 0xff, 0xff, 0xff
-        ]
-    );
+    let octets = [0, 7, 8, 9, 0x80, 0, 0, 0, 0, 0, 0, 0];
+    let mut cut = octets;
+    assert!(rt; are_unsuited(&mut cut, &octets));
+    assert!(rt; undefined_is_filled());
 }
 
 // The length and the first octet of a trace's oldest element, or why there is none.
@@ -231,15 +273,13 @@ fn all_are_encoded(cases: &[(&[u8], Encoded)], out: &mut Vec<u8>) -> bool {
     true
 }
 
+const ENCODED: [u8; 24] = [
+    0, 7, 8, 0, 0x80, 0, 0, 0, 0, 7, 8, 5, 0x80, 0, 0, 0, 0x3f, 0, 0, 2, 0x40, 0, 0, 1,
+];
+
 #[test]
 fn incremental(rt: HostRuntime) {
     let mut out = Vec::new(rt.alloc());
     assert!(rt; all_are_encoded(&AGAIN, &mut out));
-    assert_eq!(rt;
-        out.as_slice(),
-        [
-            0, 7, 8, 0, 0x80, 0, 0, 0, 0, 7, 8, 5, 0x80, 0, 0, 0, 0x3f, 0, 0, 2, 0x40, 0, 0, 1
-        ]
-        .as_slice()
-    );
+    assert!(rt; out.as_slice() == ENCODED.as_slice());
 }
