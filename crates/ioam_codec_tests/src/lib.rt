@@ -17,6 +17,8 @@ mod groups;
 #[cfg(test)]
 mod ip;
 #[cfg(test)]
+mod layout;
+#[cfg(test)]
 mod options;
 #[cfg(test)]
 mod trace;
