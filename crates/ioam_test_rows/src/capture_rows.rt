@@ -17,6 +17,23 @@ pub struct Run {
     pub line: &'static str,
 }
 
+// The run of which one call fails.
+const FAILING: Run = Run {
+    input: &[
+        HEAD,
+        "00000001 00000000 00000030 00000030",
+        BROKEN,
+        "00000002 00000009 0000002f 0000002f",
+        "6000000000081140 20010db8000100000000000000000001 20010db8000200000000000000000001 04000401000800",
+        "00000003 0000000a 00000031 00000031",
+        UDP,
+        "ff",
+    ],
+    output: &[HEAD, "00000003 0000000a 00000030 00000030", UDP],
+    report: "1 drop chain\n2 drop length\n3 kept\npackets 3 kept 1 dropped 2\n",
+    line: "done",
+};
+
 const RUNS: [Run; 14] = [
     Run {
         input: &[HEAD, AT_ONE, UDP],
@@ -41,21 +58,7 @@ const RUNS: [Run; 14] = [
         report: "1 drop ioam-in\npackets 1 kept 0 dropped 1\n",
         line: "done",
     },
-    Run {
-        input: &[
-            HEAD,
-            "00000001 00000000 00000030 00000030",
-            BROKEN,
-            "00000002 00000009 0000002f 0000002f",
-            "6000000000081140 20010db8000100000000000000000001 20010db8000200000000000000000001 04000401000800",
-            "00000003 0000000a 00000031 00000031",
-            UDP,
-            "ff",
-        ],
-        output: &[HEAD, "00000003 0000000a 00000030 00000030", UDP],
-        report: "1 drop chain\n2 drop length\n3 kept\npackets 3 kept 1 dropped 2\n",
-        line: "done",
-    },
+    FAILING,
     Run {
         input: &[HEAD],
         output: &[HEAD],
@@ -156,7 +159,7 @@ pub fn runs() -> &'static [Run] {
 
 /// The run of which one call fails.
 pub fn failing_run() -> &'static Run {
-    &RUNS[3]
+    &FAILING
 }
 
 pub struct Listing {

@@ -2,6 +2,27 @@
 use crate::capture_rows::Listing;
 use crate::digits::{AT_ONE, HEAD, UDP};
 
+// A nested packet, one whose chain is broken, what is no IPv6, a cut one, one too short, and one without
+// an option.
+const FAILING: Listing = Listing {
+    input: &[
+        HEAD,
+        "00000001 00000000 00000058 00000058",
+        "6000000000302940 20010db8000100000000000000000001 20010db8000200000000000000000001",
+        "6000000000080040 20010db8000100000000000000000001 20010db8000200000000000000000001 3b00310400000000",
+        AT_ONE,
+        "6000000000083c40 20010db8000100000000000000000001 20010db8000200000000000000000001 3b01010400000000",
+        "00000001 00000000 00000000 00000000",
+        "00000001 00000000 00000030 00000031",
+        UDP,
+        "00000001 00000000 0000002f 0000002f",
+        "6000000000081140 20010db8000100000000000000000001 20010db8000200000000000000000001 04000401000800",
+        AT_ONE,
+        UDP,
+    ],
+    report: "1 options 1\n  31 at 82 bad 0\n2 skip chain\n3 skip not-ipv6\n4 skip cut\n5 skip length\n6 options 0\npackets 6\n",
+};
+
 const SHOWN: [Listing; 4] = [
     // An incremental trace of two nodes.
     Listing {
@@ -57,26 +78,7 @@ const SHOWN: [Listing; 4] = [
 packets 1
 ",
     },
-    // A nested packet, one whose chain is broken, what is no IPv6, a cut one, one too short, and one without
-    // an option.
-    Listing {
-        input: &[
-            HEAD,
-            "00000001 00000000 00000058 00000058",
-            "6000000000302940 20010db8000100000000000000000001 20010db8000200000000000000000001",
-            "6000000000080040 20010db8000100000000000000000001 20010db8000200000000000000000001 3b00310400000000",
-            AT_ONE,
-            "6000000000083c40 20010db8000100000000000000000001 20010db8000200000000000000000001 3b01010400000000",
-            "00000001 00000000 00000000 00000000",
-            "00000001 00000000 00000030 00000031",
-            UDP,
-            "00000001 00000000 0000002f 0000002f",
-            "6000000000081140 20010db8000100000000000000000001 20010db8000200000000000000000001 04000401000800",
-            AT_ONE,
-            UDP,
-        ],
-        report: "1 options 1\n  31 at 82 bad 0\n2 skip chain\n3 skip not-ipv6\n4 skip cut\n5 skip length\n6 options 0\npackets 6\n",
-    },
+    FAILING,
 ];
 
 /// Runs of `show`.
@@ -86,7 +88,7 @@ pub fn shown() -> &'static [Listing] {
 
 /// The run of which one call fails.
 pub fn failing_show() -> &'static Listing {
-    &SHOWN[3]
+    &FAILING
 }
 
 /// The reports of the first records of [`failing_show`]: where the last of them ends, and REPORT.
