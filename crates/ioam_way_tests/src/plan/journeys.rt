@@ -166,5 +166,5 @@ fn first_wrong(alloc: Global, rows: &'static [Row]) -> Option<&'static str> {
 
 #[test]
 fn plans_as_written_by_hand(rt: HostRuntime) {
-    assert_eq!(rt; first_wrong(rt.alloc(), rows()).unwrap_or(""), "");
+    assert!(rt; first_wrong(rt.alloc(), rows()).is_none());
 }

@@ -230,5 +230,5 @@ fn first_wrong(
 
 #[test]
 fn reports_as_written_by_hand(rt: HostRuntime) {
-    assert_eq!(rt; first_wrong(rt.alloc(), rows(), &REPORTS).unwrap_or(""), "");
+    assert!(rt; first_wrong(rt.alloc(), rows(), &REPORTS).is_none());
 }

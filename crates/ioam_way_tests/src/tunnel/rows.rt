@@ -24,7 +24,7 @@ pub(crate) struct Row {
     pub(crate) headers: &'static str,
 }
 
-const ROWS: [Row; 9] = [
+const TRACED: [Row; 3] = [
     // A trace of three words.
     Row {
         flow: "hops = 64, trace = 0x800000, capacity = 3",
@@ -54,6 +54,9 @@ const ROWS: [Row; 9] = [
         headers: "3c 03 01 00 31 16 00 00 0007 0803 800000 00 00000000 00000000 00000000 01 02 00 00
             29 01 01 00 11 0a 00 03 0007 4000 00000000",
     },
+];
+
+const BARE: [Row; 3] = [
     // An encapsulation limit, and edge-to-edge data with a sequence number of 64 bits and a stamp.
     Row {
         flow: "hops = 255, edge = 0xb000",
@@ -92,6 +95,9 @@ const ROWS: [Row; 9] = [
         headers: "3c 03 01 00 31 16 00 00 0007 0803 800000 00 00000000 00000000 00000000 01 02 00 00
             29 00 04 01 00 01 01 00",
     },
+];
+
+const DIRECT: [Row; 3] = [
     // Direct export without a trace.
     Row {
         flow: "hops = 5, direct = 0x800000, every = 1, flow_id = 9",
@@ -138,9 +144,19 @@ const ROWS: [Row; 9] = [
     },
 ];
 
-/// Packets of flows, and the outer packets that they are put into.
-pub(crate) fn rows() -> &'static [Row] {
-    &ROWS
+/// Flows with traces.
+pub(crate) fn traced() -> &'static [Row] {
+    &TRACED
+}
+
+/// Flows without a trace.
+pub(crate) fn bare() -> &'static [Row] {
+    &BARE
+}
+
+/// Direct export, no option, and the longest header.
+pub(crate) fn direct() -> &'static [Row] {
+    &DIRECT
 }
 
 // Two nodes that know three namespaces, and a flow as far as its further keys.

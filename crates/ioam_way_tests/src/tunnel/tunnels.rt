@@ -5,7 +5,9 @@ ghost use Rattle.ioam_topo.specs.Sound.{IsFlow};
 ghost use Rattle.ioam_tunnel.specs.Enclosed.{MayEnclose};
 
 use crate::file::is_read_so;
-use crate::tunnel::rows::{Row, domain_texts, none_carried, outer_digits, packet_digits, rows};
+use crate::tunnel::rows::{
+    Row, bare, direct, domain_texts, none_carried, outer_digits, packet_digits, traced,
+};
 use ioam_base::memory::NoMemory;
 use ioam_ip::header;
 use ioam_test_rows::digits::{octets, text};
@@ -110,19 +112,21 @@ fn is_so(alloc: Global, row: &Row) -> bool {
     }
 }
 
-// The keys of the flow of the first row whose packet isn't enclosed so.
-fn first_wrong(alloc: Global, rows: &'static [Row]) -> Option<&'static str> {
+// Whether rows' packets are enclosed so.
+fn are_so(alloc: Global, rows: &'static [Row]) -> bool {
     for row in rows {
         if !is_so(alloc, row) {
-            return Some(row.flow);
+            return false;
         }
     }
-    None
+    true
 }
 
 #[test]
 fn encloses_as_written_by_hand(rt: HostRuntime) {
-    assert_eq!(rt; first_wrong(rt.alloc(), rows()).unwrap_or(""), "");
+    assert!(rt; are_so(rt.alloc(), traced()));
+    assert!(rt; are_so(rt.alloc(), bare()));
+    assert!(rt; are_so(rt.alloc(), direct()));
 }
 
 // Whether no packet is carried in octets.

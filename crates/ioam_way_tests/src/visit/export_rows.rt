@@ -35,7 +35,7 @@ const FIFTH: At = At {
     time: 1_000_004_000,
 };
 
-const EXPORTING: [Row; 3] = [
+const TRACED: [Row; 1] = [
     // A trace and direct export.
     Row {
         spaces: "7",
@@ -69,6 +69,9 @@ const EXPORTING: [Row; 3] = [
             "02 c0 0022 0007 00 800000 000000003b9ad1d0 00000020 00000009 00000000 3e000003",
         ],
     },
+];
+
+const ALONE: [Row; 1] = [
     // Direct export alone, from a to b and back until the hop limit is 1.
     Row {
         spaces: "7",
@@ -114,6 +117,9 @@ const EXPORTING: [Row; 3] = [
             "02 c0 0022 0007 00 800000 000000003b9ad9a0 0000000d 00000009 00000000 01000001",
         ],
     },
+];
+
+const LONGEST: [Row; 1] = [
     // The longest header: three traces of 61 words, and direct export.
     Row {
         spaces: "7",
@@ -158,7 +164,17 @@ const EXPORTING: [Row; 3] = [
     },
 ];
 
-/// Packets on their way through a tunnel that ask for records.
-pub(crate) fn exporting() -> &'static [Row] {
-    &EXPORTING
+/// Packets on their way through a tunnel that ask for records, beside a trace.
+pub(crate) fn traced() -> &'static [Row] {
+    &TRACED
+}
+
+/// Without a trace.
+pub(crate) fn alone() -> &'static [Row] {
+    &ALONE
+}
+
+/// With the longest header.
+pub(crate) fn longest() -> &'static [Row] {
+    &LONGEST
 }

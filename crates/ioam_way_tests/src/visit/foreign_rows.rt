@@ -5,7 +5,7 @@ use ioam_visit::What;
 // The header of UDP, which is behind the options.
 const UDP: &str = "0400040100080000";
 
-const FOREIGN: [Row; 11] = [
+const UNSUITED: [Row; 3] = [
     // RemainingLen is above the option's space.
     Row {
         spaces: "7",
@@ -69,6 +69,9 @@ const FOREIGN: [Row; 11] = [
         }],
         exports: &[],
     },
+];
+
+const UNKNOWN: [Row; 3] = [
     // A namespace that the node doesn't know.
     Row {
         spaces: "7",
@@ -124,6 +127,9 @@ const FOREIGN: [Row; 11] = [
         notes: &[EXPORTED],
         exports: &["02 00 001a 0007 00 800000 000000003b9acde8 00000015 3f000002"],
     },
+];
+
+const PARTLY: [Row; 3] = [
     // It asks for the checksum complement too, which isn't exported.
     Row {
         spaces: "7",
@@ -179,6 +185,9 @@ const FOREIGN: [Row; 11] = [
         notes: &[],
         exports: &[],
     },
+];
+
+const BEHIND: [Row; 2] = [
     // Direct export and a trace for the exit, in Destination Options.
     Row {
         spaces: "7",
@@ -217,7 +226,22 @@ const FOREIGN: [Row; 11] = [
     },
 ];
 
-/// Packets of others.
-pub(crate) fn foreign() -> &'static [Row] {
-    &FOREIGN
+/// Packets of others: RemainingLen, undefined bits and Overflow.
+pub(crate) fn unsuited() -> &'static [Row] {
+    &UNSUITED
+}
+
+/// A namespace that the node doesn't know, one twice, and direct export.
+pub(crate) fn unknown() -> &'static [Row] {
+    &UNKNOWN
+}
+
+/// A field that isn't exported, a short trace, and a type that may not change.
+pub(crate) fn partly() -> &'static [Row] {
+    &PARTLY
+}
+
+/// Options for the exit, and those of the packet that is carried.
+pub(crate) fn behind() -> &'static [Row] {
+    &BEHIND
 }

@@ -12,6 +12,9 @@ use std::alloc::Global;
 // The words of the trace.
 const WORDS: u32 = 61;
 
+// The area of the trace, of 244 octets of zero; each `z` is 16 of them.
+const AREA: &str = "zzzzzzzzzzzzzzz 00000000";
+
 // The file of a domain of so many nodes, with the ids 1, 2, 3, and so on.
 fn line_file(alloc: Global, nodes: u32) -> Result<Vec<u8>, NoMemory> {
     let mut file = Vec::new(alloc);
@@ -49,7 +52,7 @@ fn back(alloc: Global) -> Result<Vec<u8>, NoMemory> {
 // The packet before its first visit.
 fn packet_in(alloc: Global) -> Result<Vec<u8>, NoMemory> {
     let mut packet = front(alloc, "40", "083d")?;
-    packet.extend_from_slice(&[0; 244])?;
+    packet.extend_from_slice(&octets(alloc, &[AREA])?)?;
     packet.extend_from_slice(&back(alloc)?)?;
     Ok(packet)
 }

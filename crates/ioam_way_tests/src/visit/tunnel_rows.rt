@@ -2,7 +2,7 @@
 use crate::visit::rows::{A, ADDED, B, C, CARRIED, Noted, OVERFLOWED, Row, Stop};
 use ioam_visit::What;
 
-const TUNNELLED: [Row; 6] = [
+const TRACED: [Row; 2] = [
     // A trace of three words.
     Row {
         spaces: "7",
@@ -61,6 +61,9 @@ const TUNNELLED: [Row; 6] = [
         notes: &[ADDED, ADDED, OVERFLOWED],
         exports: &[],
     },
+];
+
+const TAUGHT: [Row; 2] = [
     // Snapshots, which NodeLen doesn't count: that of b doesn't fit, and c adds nothing after Overflow is set.
     Row {
         spaces: "7",
@@ -142,6 +145,9 @@ const TUNNELLED: [Row; 6] = [
         ],
         exports: &[],
     },
+];
+
+const DOUBLE: [Row; 1] = [
     // Two traces: b knows the namespace of the first alone. The options for the exit stay as they are.
     Row {
         spaces: "7",
@@ -194,6 +200,9 @@ const TUNNELLED: [Row; 6] = [
         ],
         exports: &[],
     },
+];
+
+const READ: [Row; 1] = [
     // Clocks and queues; only a's are known. An encapsulation limit, and a packet that has one.
     Row {
         spaces: "7",
@@ -246,7 +255,22 @@ const TUNNELLED: [Row; 6] = [
     },
 ];
 
-/// Packets on their way through a tunnel, with traces.
-pub(crate) fn tunnelled() -> &'static [Row] {
-    &TUNNELLED
+/// Packets on their way through a tunnel: a trace that is whole, and one that is full.
+pub(crate) fn traced() -> &'static [Row] {
+    &TRACED
+}
+
+/// Nodes with snapshots, and one that doesn't know the namespace.
+pub(crate) fn taught() -> &'static [Row] {
+    &TAUGHT
+}
+
+/// Two traces.
+pub(crate) fn double() -> &'static [Row] {
+    &DOUBLE
+}
+
+/// The nodes' readings.
+pub(crate) fn read() -> &'static [Row] {
+    &READ
 }

@@ -1,9 +1,8 @@
 use crate::file::is_read_so;
-use crate::visit::export_rows::exporting;
-use crate::visit::foreign_rows::foreign;
+use crate::visit::foreign_rows::{behind, partly, unknown, unsuited};
 use crate::visit::passing::pass;
 use crate::visit::rows::{ENDS, Noted, Row, Stop, domain_texts};
-use crate::visit::tunnel_rows::tunnelled;
+use crate::visit::{export_rows, tunnel_rows};
 use ioam_base::memory::NoMemory;
 use ioam_clock::{Readings, read_readings};
 use ioam_test_rows::digits::{octets, text};
@@ -103,27 +102,35 @@ fn holds(alloc: Global, row: &Row) -> bool {
     }
 }
 
-// The place of the first row that isn't so.
-fn first_wrong(alloc: Global, rows: &'static [Row]) -> Option<usize> {
-    for (at, row) in rows.iter().enumerate() {
+// Whether rows are so.
+fn hold(alloc: Global, rows: &'static [Row]) -> bool {
+    for row in rows {
         if !holds(alloc, row) {
-            return Some(at);
+            return false;
         }
     }
-    None
+    true
 }
 
 #[test]
 fn a_packet_in_its_tunnel(rt: HostRuntime) {
-    assert_eq!(rt; first_wrong(rt.alloc(), tunnelled()), None);
+    assert!(rt; hold(rt.alloc(), tunnel_rows::traced()));
+    assert!(rt; hold(rt.alloc(), tunnel_rows::taught()));
+    assert!(rt; hold(rt.alloc(), tunnel_rows::double()));
+    assert!(rt; hold(rt.alloc(), tunnel_rows::read()));
 }
 
 #[test]
 fn a_packet_that_asks_for_records(rt: HostRuntime) {
-    assert_eq!(rt; first_wrong(rt.alloc(), exporting()), None);
+    assert!(rt; hold(rt.alloc(), export_rows::traced()));
+    assert!(rt; hold(rt.alloc(), export_rows::alone()));
+    assert!(rt; hold(rt.alloc(), export_rows::longest()));
 }
 
 #[test]
 fn a_packet_of_others(rt: HostRuntime) {
-    assert_eq!(rt; first_wrong(rt.alloc(), foreign()), None);
+    assert!(rt; hold(rt.alloc(), unsuited()));
+    assert!(rt; hold(rt.alloc(), unknown()));
+    assert!(rt; hold(rt.alloc(), partly()));
+    assert!(rt; hold(rt.alloc(), behind()));
 }
