@@ -1,22 +1,60 @@
-//! Octets by hand, from the formats of RFC 8200 and RFC 9197.
+//! Octets by hand, from the formats of RFC 8200 and RFC 9197, as rows of a text: hexadecimal digits, and
+//! behind `#` what is told of them.
 use ioam_base::memory::NoMemory;
-use ioam_base::text::append;
 use ioam_data::{TraceType, split};
 use ioam_ip::{Framed, Walk, packet_of, walk};
 use ioam_lines::{put_fields, put_trace_lines, put_traces};
+use ioam_test_rows::digits::octets;
 use std::alloc::Global;
-use std::test::Fail;
 
-/// A packet on its way through a tunnel: a Hop-by-Hop Options header with a trace of two nodes, and
-/// behind it the packet that is carried.
-const CARRIED: [u8; 120] = [
-    0x60, 0, 0, 0, 0, 0x50, 0, 0x3F, 0x20, 0x01, 0x0D, 0xB8, 0, 0, 0, 0, 0, 0, 0, 0, 0, 0, 0, 0x0A,
-    0x20, 0x01, 0x0D, 0xB8, 0, 0, 0, 0, 0, 0, 0, 0, 0, 0, 0, 0x0C, 0x29, 0x03, 0x01, 0, 0x31, 0x16,
-    0, 0, 0, 0x07, 0x08, 0x01, 0x80, 0, 0, 0, 0, 0, 0, 0, 0x3F, 0, 0, 0x02, 0x40, 0, 0, 0x01, 0x01,
-    0x02, 0, 0, 0x60, 0, 0, 0, 0, 0x08, 0x11, 0x3F, 0x20, 0x01, 0x0D, 0xB8, 0, 0x01, 0, 0, 0, 0, 0,
-    0, 0, 0, 0, 0x01, 0x20, 0x01, 0x0D, 0xB8, 0, 0x02, 0, 0, 0, 0, 0, 0, 0, 0, 0, 0x01, 0x04, 0,
-    0x04, 0x01, 0, 0x08, 0, 0,
-];
+// Packets, and the text of their traces: one on its way through a tunnel, with a trace of two nodes, and
+// behind that the packet that is carried; two traces in one Hop-by-Hop Options header, the second of
+// type 0x11 and with Overflow; one in Destination Options, with fewer words than RemainingLen tells;
+// IOAM-Option-Type 1; data of one octet; another option; a trace behind a nested header. Each `z` is 16
+// octets of zero.
+const PACKETS: &str = "60000000 0050 00 3f \
+20010db800000000000000000000000a 20010db800000000000000000000000c \
+29 03 01 00 31 16 00 00 0007 0801 800000 00 00000000 3f000002 40000001 01 02 00 00 \
+60000000 0008 11 3f \
+20010db8000100000000000000000001 20010db8000200000000000000000001 0400040100080000\
+# traces 1\n  trace 7 800000 whole 2\n    hop=64 node=1\n    hop=63 node=2\n|\
+60000000 0028 00 40 zz 3b 04 01 00 31 0e 00 00 0007 0800 800000 00 40000001 \
+11 0e 00 00 0008 0c00 800000 00 ff000001 01 02 00 00\
+# traces 2\n  trace 7 800000 whole 1\n    hop=64 node=1\n  trace 8 800000 overflow 1\n    hop=255 node=1\n|\
+60000000 0018 3c 40 zz 3b 02 01 00 31 0e 00 00 0007 0805 800000 00 00000000 01 02 00 00\
+# traces 1\n  trace bad space 5\n|\
+60000000 0018 3c 40 zz 3b 02 01 00 31 0e 00 01 0007 0800 800000 00 40000001 01 02 00 00# traces 0\n|\
+60000000 0008 3c 40 zz 3b 00 31 01 00 01 01 00# traces 0\n|\
+60000000 0008 3c 40 zz 3b 00 12 02 00 00 00 00# traces 0\n|\
+60000000 0030 29 40 zz 60000000 0008 00 40 zz 3b 00 31 02 00 00 00 00# traces 0\n";
+
+// The data of a trace, and its lines. Of the last four: a snapshot of which one word is missing;
+// RemainingLen equal to the space, and no element; an undefined bit, and a word more than the fields
+// and that bit ask for; snapshots of two lengths, where the oldest element stands last.
+const TRACES: &str = "00000000 000000#  trace bad short 7\n|\
+0007 0800 800000 00 4000#  trace bad short 10\n|\
+0007 0801 800000 00#  trace bad space 1\n|\
+0007 1000 800000 00#  trace bad node-len 2 1\n|\
+0007 0800 800002 00 40000001 02000009 01020304#  trace bad element 8\n|\
+ffff 0801 800000 00 40000001#  trace 65535 800000 whole 0\n|\
+0000 1800 800800 00 40000001 ffffffff 00abcdef\
+#  trace 0 800800 whole 1\n    hop=64 node=1 fill=ffffffff fill=00abcdef\n|\
+0007 0800 800002 00 3f000002 00ffffff 40000001 01000009 aabbccdd\
+#  trace 7 800002 whole 2\n    hop=64 node=1 schema=000009 opaque=aabbccdd\n    hop=63 node=2 schema=- opaque=-\n";
+
+// A trace type, its NodeLen, an element, and its text.
+const ELEMENTS: &str = "c04002 04 3d000005 ffff0002 00011170 00000002 01000009 aabbccdd\
+#hop=61 node=5 in=- out=2 win=70000 wout=2 schema=000009 opaque=aabbccdd|\
+080000 01 7fffffff#delay=2147483647|\
+080000 01 80000000#delay=2147483648|\
+080000 01 ffffffff#delay=-|\
+fff000 10 ffffffff ffffffff ffffffff ffffffff ffffffff ffffffff ffffffff ffffffff \
+ffffffff ffffffff ffffffff ffffffff ffffffff ffffffff ffffffff ffffffff\
+#hop=255 node=- in=- out=- sec=- frac=- delay=- data=- queue=- check=- whop=255 wnode=- win=- wout=- wdata=- buffer=- fill=ffffffff|\
+fff002 0f 01000002 00030004 00000005 00000006 00000007 00000008 00000009 0000000a \
+0b00000000 00000c 0000000d 0000000e 00000000 0000000f 00000010 00000009\
+#hop=1 node=2 in=3 out=4 sec=5 frac=6 delay=7 data=00000008 queue=9 check=0000000a whop=11 wnode=12 win=13 wout=14 wdata=000000000000000f buffer=16 schema=000009 opaque=-|\
+800000 01#";
 
 // The text of the traces of octets, which are one packet with a sound chain.
 fn listed(alloc: Global, octets: &[u8]) -> Result<Vec<u8>, NoMemory> {
@@ -29,200 +67,71 @@ fn listed(alloc: Global, octets: &[u8]) -> Result<Vec<u8>, NoMemory> {
     Ok(out)
 }
 
-// A packet with these octets behind its header.
-fn packet(alloc: Global, next: u8, body: &[u8]) -> Result<Vec<u8>, NoMemory> {
-    let mut octets = Vec::new(alloc);
-    append(&mut octets, &[0x60, 0, 0, 0])?;
-    append(&mut octets, &((body.len() % 65536) as u16).to_be_bytes())?;
-    append(&mut octets, &[next, 64])?;
-    append(&mut octets, &[0; 32])?;
-    append(&mut octets, body)?;
-    Ok(octets)
-}
-
-// What a packet's header names as next, the octets behind it, and the text of its traces.
-const PACKETS: [(u8, &[u8], &[u8]); 6] = [
-    // Two traces in one Hop-by-Hop Options header, the second of type 0x11 and with Overflow.
-    (
-        0,
-        &[
-            59, 4, 1, 0, 0x31, 14, 0, 0, 0, 7, 0x08, 0, 0x80, 0, 0, 0, 64, 0, 0, 1, 0x11, 14, 0, 0,
-            0, 8, 0x0C, 0, 0x80, 0, 0, 0, 255, 0, 0, 1, 1, 2, 0, 0,
-        ],
-        b" traces 2\n  trace 7 800000 whole 1\n    hop=64 node=1\n  trace 8 800000 overflow 1\n    hop=255 node=1\n",
-    ),
-    // One in Destination Options, with fewer words than RemainingLen tells.
-    (
-        60,
-        &[
-            59, 2, 1, 0, 0x31, 14, 0, 0, 0, 7, 0x08, 0x05, 0x80, 0, 0, 0, 0, 0, 0, 0, 1, 2, 0, 0,
-        ],
-        b" traces 1\n  trace bad space 5\n",
-    ),
-    // IOAM-Option-Type 1.
-    (
-        60,
-        &[
-            59, 2, 1, 0, 0x31, 14, 0, 1, 0, 7, 0x08, 0, 0x80, 0, 0, 0, 64, 0, 0, 1, 1, 2, 0, 0,
-        ],
-        b" traces 0\n",
-    ),
-    // Data of one octet.
-    (60, &[59, 0, 0x31, 1, 0, 1, 1, 0], b" traces 0\n"),
-    // Another option.
-    (60, &[59, 0, 0x12, 2, 0, 0, 0, 0], b" traces 0\n"),
-    // A trace behind a nested header.
-    (
-        41,
-        &[
-            0x60, 0, 0, 0, 0, 8, 0, 64, 0, 0, 0, 0, 0, 0, 0, 0, 0, 0, 0, 0, 0, 0, 0, 0, 0, 0, 0, 0,
-            0, 0, 0, 0, 0, 0, 0, 0, 0, 0, 0, 0, 59, 0, 0x31, 2, 0, 0, 0, 0,
-        ],
-        b" traces 0\n",
-    ),
-];
-
-// Whether each packet's traces have that text.
-fn all_are_listed(alloc: Global, cases: &[(u8, &[u8], &[u8])]) -> Result<bool, NoMemory> {
-    for (next, body, text) in cases {
-        let octets = packet(alloc, *next, body)?;
-        let found = listed(alloc, octets.as_slice())?;
-        if found.as_slice() != *text {
-            return Ok(false);
-        }
-    }
-    Ok(true)
-}
-
-#[test]
-fn traces_of_packets(rt: HostRuntime) -> Result<(), Fail> {
-    let alloc = rt.alloc();
-    let carried = listed(alloc, &CARRIED)?;
-    assert_eq!(rt;
-        carried.as_slice(),
-        b" traces 1\n  trace 7 800000 whole 2\n    hop=64 node=1\n    hop=63 node=2\n".as_slice()
-    );
-    assert!(rt; all_are_listed(alloc, &PACKETS)?);
-    Ok(())
-}
-
-// The data of a trace, and its lines.
-const TRACES: [(&[u8], &[u8]); 8] = [
-    (&[0; 7], b"  trace bad short 7\n"),
-    (
-        &[0, 7, 8, 0, 0x80, 0, 0, 0, 64, 0],
-        b"  trace bad short 10\n",
-    ),
-    (&[0, 7, 8, 1, 0x80, 0, 0, 0], b"  trace bad space 1\n"),
-    (
-        &[0, 7, 0x10, 0, 0x80, 0, 0, 0],
-        b"  trace bad node-len 2 1\n",
-    ),
-    // A snapshot of which one word is missing.
-    (
-        &[
-            0, 7, 8, 0, 0x80, 0, 2, 0, 64, 0, 0, 1, 2, 0, 0, 9, 1, 2, 3, 4,
-        ],
-        b"  trace bad element 8\n",
-    ),
-    // RemainingLen equal to the space, and no element.
-    (
-        &[255, 255, 8, 1, 0x80, 0, 0, 0, 64, 0, 0, 1],
-        b"  trace 65535 800000 whole 0\n",
-    ),
-    // An undefined bit, and a word more than the fields and that bit ask for.
-    (
-        &[
-            0, 0, 0x18, 0, 0x80, 8, 0, 0, 64, 0, 0, 1, 255, 255, 255, 255, 0, 0xAB, 0xCD, 0xEF,
-        ],
-        b"  trace 0 800800 whole 1\n    hop=64 node=1 fill=ffffffff fill=00abcdef\n",
-    ),
-    // Snapshots of two lengths; the oldest element stands last.
-    (
-        &[
-            0, 7, 8, 0, 0x80, 0, 2, 0, 63, 0, 0, 2, 0, 255, 255, 255, 64, 0, 0, 1, 1, 0, 0, 9,
-            0xAA, 0xBB, 0xCC, 0xDD,
-        ],
-        b"  trace 7 800002 whole 2\n    hop=64 node=1 schema=000009 opaque=aabbccdd\n    hop=63 node=2 schema=- opaque=-\n",
-    ),
-];
-
-// Whether each trace has those lines.
-fn all_have_lines(alloc: Global, cases: &[(&[u8], &[u8])]) -> Result<bool, NoMemory> {
-    for (octets, text) in cases {
-        let mut out = Vec::new(alloc);
-        put_trace_lines(octets, &mut out)?;
-        if out.as_slice() != *text {
-            return Ok(false);
-        }
-    }
-    Ok(true)
-}
-
-#[test]
-fn lines_of_traces(rt: HostRuntime) -> Result<(), Fail> {
-    assert!(rt; all_have_lines(rt.alloc(), &TRACES)?);
-    Ok(())
+// The lines of a trace.
+fn lines(alloc: Global, octets: &[u8]) -> Result<Vec<u8>, NoMemory> {
+    let mut out = Vec::new(alloc);
+    put_trace_lines(octets, &mut out)?;
+    Ok(out)
 }
 
 // The text of octets, which are one element.
 fn fields_text(alloc: Global, kind: u32, node_len: u8, octets: &[u8]) -> Result<Vec<u8>, NoMemory> {
     let mut out = Vec::new(alloc);
     let kind = TraceType::new(kind % 0x100_0000);
-    if octets.is_empty() {
-        put_fields(kind, node_len, octets, &mut out)?;
-    } else if split(kind, node_len, octets) == Some(octets.len()) {
+    if octets.is_empty() || split(kind, node_len, octets) == Some(octets.len()) {
         put_fields(kind, node_len, octets, &mut out)?;
     }
     Ok(out)
 }
 
-// A trace type, its NodeLen, an element, and its text.
-const ELEMENTS: [(u32, u8, &[u8], &[u8]); 7] = [
-    (
-        0xC0_4002,
-        4,
-        &[
-            0x3D, 0, 0, 5, 0xFF, 0xFF, 0, 2, 0, 1, 0x11, 0x70, 0, 0, 0, 2, 1, 0, 0, 9, 0xAA, 0xBB,
-            0xCC, 0xDD,
-        ],
-        b"hop=61 node=5 in=- out=2 win=70000 wout=2 schema=000009 opaque=aabbccdd",
-    ),
-    (0x08_0000, 1, &[0x7F, 255, 255, 255], b"delay=2147483647"),
-    (0x08_0000, 1, &[0x80, 0, 0, 0], b"delay=2147483648"),
-    (0x08_0000, 1, &[255; 4], b"delay=-"),
-    (
-        0xFF_F000,
-        16,
-        &[255; 64],
-        b"hop=255 node=- in=- out=- sec=- frac=- delay=- data=- queue=- check=- whop=255 wnode=- win=- wout=- wdata=- buffer=- fill=ffffffff",
-    ),
-    (
-        0xFF_F002,
-        15,
-        &[
-            1, 0, 0, 2, 0, 3, 0, 4, 0, 0, 0, 5, 0, 0, 0, 6, 0, 0, 0, 7, 0, 0, 0, 8, 0, 0, 0, 9, 0,
-            0, 0, 10, 11, 0, 0, 0, 0, 0, 0, 12, 0, 0, 0, 13, 0, 0, 0, 14, 0, 0, 0, 0, 0, 0, 0, 15,
-            0, 0, 0, 16, 0, 0, 0, 9,
-        ],
-        b"hop=1 node=2 in=3 out=4 sec=5 frac=6 delay=7 data=00000008 queue=9 check=0000000a whop=11 wnode=12 win=13 wout=14 wdata=000000000000000f buffer=16 schema=000009 opaque=-",
-    ),
-    (0x80_0000, 1, &[], b""),
-];
+// The text of an element behind its trace type and NodeLen.
+fn fields(alloc: Global, octets: &[u8]) -> Result<Vec<u8>, NoMemory> {
+    let [first, second, third, node_len, element @ ..] = octets else {
+        return Err(NoMemory);
+    };
+    let kind = u32::from_be_bytes([0, *first, *second, *third]);
+    fields_text(alloc, kind, *node_len, element)
+}
 
-// Whether each element has that text.
-fn all_have_text(alloc: Global, cases: &[(u32, u8, &[u8], &[u8])]) -> Result<bool, NoMemory> {
-    for (kind, node_len, octets, text) in cases {
-        let found = fields_text(alloc, *kind, *node_len, octets)?;
-        if found.as_slice() != *text {
-            return Ok(false);
+// Whether what is told of a row's octets is the row's text.
+fn is_told<F>(alloc: Global, row: &str, tell: F) -> Result<bool, NoMemory>
+where
+    F: Fn(Global, &[u8]) -> Result<Vec<u8>, NoMemory> + Copy,
+    requires { F.IsAlwaysCallable tell }
+{
+    let Some((digits, wanted)) = row.split_once("#") else {
+        return Ok(false);
+    };
+    let given = octets(alloc, &[digits])?;
+    let found = tell(alloc, given.as_slice())?;
+    Ok(found.as_slice() == wanted.as_bytes())
+}
+
+// Whether it is for each row.
+fn are_told<F>(alloc: Global, rows: &str, tell: F) -> bool
+where
+    F: Fn(Global, &[u8]) -> Result<Vec<u8>, NoMemory> + Copy,
+    requires { F.IsAlwaysCallable tell }
+{
+    for row in rows.split('|') {
+        if !is_told(alloc, row, tell).unwrap_or(false) {
+            return false;
         }
     }
-    Ok(true)
+    true
 }
 
 #[test]
-fn fields_of_elements(rt: HostRuntime) -> Result<(), Fail> {
-    assert!(rt; all_have_text(rt.alloc(), &ELEMENTS)?);
-    Ok(())
+fn traces_of_packets(rt: HostRuntime) {
+    assert!(rt; are_told(rt.alloc(), PACKETS, listed));
+}
+
+#[test]
+fn lines_of_traces(rt: HostRuntime) {
+    assert!(rt; are_told(rt.alloc(), TRACES, lines));
+}
+
+#[test]
+fn fields_of_elements(rt: HostRuntime) {
+    assert!(rt; are_told(rt.alloc(), ELEMENTS, fields));
 }
