@@ -134,18 +134,6 @@ table: RouteTable, place: 1, field: PortKey, why: Unknown # route = [{ node = \"
 table: RouteTable, place: 1, field: PortKey, why: Range # route = [{ node = \"a\", prefix = \"::/128\", port = \"east\" }]|\
 table: RouteTable, place: 2, field: PrefixKey, why: Twice # route = [{ node = \"a\", prefix = \"1::/8\", link = \"ab\" }, { node = \"a\", prefix = \"2::/8\", link = \"ab\" }]";
 
-// Tables of rows, and in front of each the nodes, links and ports that stand before its files.
-const TABLES: [(&str, &str, &str, &str); 8] = [
-    ("", "", "", OF_FILES),
-    ("", "", "", OF_NODES),
-    (NODES, "", "", OF_LINKS),
-    (NODES, "", "", OF_PORTS),
-    (NODES, LINKS, PORTS, OF_ROUTES),
-    (NODES, "", "", OF_DATA),
-    (FLOW_NODES, "", "", OF_FLOWS),
-    (FLOW_NODES, "", "", OF_EXTRAS),
-];
-
 // The four texts, one behind the other.
 pub(crate) fn joined(alloc: Global, parts: [&str; 4]) -> Result<String, NoMemory> {
     let mut file = String::new(alloc);
@@ -182,35 +170,60 @@ fn is_so(alloc: Global, nodes: &str, links: &str, ports: &str, row: &str) -> boo
     }
 }
 
-// The first of the rows whose fault isn't so.
-fn first_wrong<'a>(
-    alloc: Global,
-    nodes: &str,
-    links: &str,
-    ports: &str,
-    rows: &'a str,
-) -> Option<&'a str> {
+// Whether each row's fault is so.
+fn are_so(alloc: Global, nodes: &str, links: &str, ports: &str, rows: &str) -> bool {
     for row in rows.split('|') {
         if !is_so(alloc, nodes, links, ports, row) {
-            return Some(row);
+            return false;
         }
     }
-    None
+    true
 }
 
-// The first row of the tables whose fault isn't so.
-fn first_wrong_of<'a>(alloc: Global, tables: &[(&str, &str, &str, &'a str)]) -> Option<&'a str> {
-    for table in tables {
-        match first_wrong(alloc, table.0, table.1, table.2, table.3) {
-            Some(row) => return Some(row),
-            None => {}
-        }
-    }
-    None
+// Whether the faults of the file as a whole are. Each text is named by a function of its own, since the
+// proof of one that names several takes long.
+fn of_files(alloc: Global) -> bool {
+    are_so(alloc, "", "", "", OF_FILES)
+}
+
+// Those of nodes.
+fn of_nodes(alloc: Global) -> bool {
+    are_so(alloc, "", "", "", OF_NODES)
+}
+
+// Those of links.
+fn of_links(alloc: Global) -> bool {
+    are_so(alloc, NODES, "", "", OF_LINKS)
+}
+
+// Those of ports.
+fn of_ports(alloc: Global) -> bool {
+    are_so(alloc, NODES, "", "", OF_PORTS)
+}
+
+// Those of routes.
+fn of_routes(alloc: Global) -> bool {
+    are_so(alloc, NODES, LINKS, PORTS, OF_ROUTES)
+}
+
+// Those of node data.
+fn of_data(alloc: Global) -> bool {
+    are_so(alloc, NODES, "", "", OF_DATA)
+}
+
+// Those of flows.
+fn of_flows(alloc: Global) -> bool {
+    are_so(alloc, FLOW_NODES, "", "", OF_FLOWS)
+}
+
+// Those of further traces.
+fn of_extras(alloc: Global) -> bool {
+    are_so(alloc, FLOW_NODES, "", "", OF_EXTRAS)
 }
 
 #[test]
 fn names_the_first_fault(rt: HostRuntime) {
-    let wrong = first_wrong_of(rt.alloc(), &TABLES);
-    assert!(rt; wrong.is_none());
+    let alloc = rt.alloc();
+    assert!(rt; of_files(alloc) && of_nodes(alloc) && of_links(alloc) && of_ports(alloc));
+    assert!(rt; of_routes(alloc) && of_data(alloc) && of_flows(alloc) && of_extras(alloc));
 }
