@@ -1,35 +1,34 @@
 //! The top call over desks in memory: the words that it refuses, and one run over a desk that never fails.
 //! Whole runs of each command stand in `ioam_command_tests` and `ioam_run_tests`.
 use crate::refusals::{Refusal, refusals};
-use ioam_answer::{Outcome, line};
+use ioam_answer::line;
 use ioam_base::memory::NoMemory;
 use ioam_batch::{Gate, OpenGate};
-use ioam_desk::{MemoryDesk, SureDesk};
-use ioam_program::{ioam, ioam_surely};
+use ioam_desk::{Desk, MemoryDesk, SureDesk};
+use ioam_program::run_words;
 use ioam_test_rows::digits::{joined, octets, text, words};
 use ioam_test_rows::flow_rows::{File, FlowRow, first_row};
 use std::alloc::Global;
 use std::thread::Threads;
 
-// The line of a run of these words over a desk. The proof of a function that calls `ioam` takes long:
-// so each test runs through here.
-fn line_of<R: Threads + Sync, G: Gate>(
+// The line of a run of these words over a desk.
+fn line_of<R: Threads + Sync, D: Desk, G: Gate>(
     rt: &R,
     alloc: Global,
     texts: &[&str],
-    desk: &mut MemoryDesk,
+    desk: &mut D,
     gate: &G,
 ) -> Result<String, NoMemory> {
     let words = words(alloc, texts)?;
-    line(alloc, &ioam(rt, alloc, &words, desk, gate))
+    line(alloc, &run_words(rt, alloc, &words, desk, gate))
 }
 
 // Whether a run of these words over a desk answers so.
-pub(crate) fn answers<R: Threads + Sync, G: Gate>(
+pub(crate) fn answers<R: Threads + Sync, D: Desk, G: Gate>(
     rt: &R,
     alloc: Global,
     texts: &[&str],
-    desk: &mut MemoryDesk,
+    desk: &mut D,
     gate: &G,
     said: &str,
 ) -> bool {
@@ -37,20 +36,6 @@ pub(crate) fn answers<R: Threads + Sync, G: Gate>(
         Ok(line) => line.as_str() == said,
         Err(_) => false,
     }
-}
-
-// Whether a run of these words over a desk that never fails does all; likewise.
-fn is_done<R: Threads + Sync>(
-    rt: &R,
-    alloc: Global,
-    texts: &[&str],
-    desk: &mut SureDesk,
-) -> Result<bool, NoMemory> {
-    let words = words(alloc, texts)?;
-    Ok(matches!(
-        ioam_surely(rt, alloc, &words, desk, &OpenGate),
-        Outcome::Done
-    ))
 }
 
 // A run with three workers.
@@ -83,7 +68,7 @@ fn run_over_a_desk_that_never_fails(rt: HostRuntime) {
     let row = first_row();
     let report = text(alloc, row.report).expect(&rt, "text");
     let mut desk = desk_of(alloc, row).expect(&rt, "memory");
-    assert!(rt; is_done(&rt, alloc, &RUN_BY_THREE, &mut desk).expect(&rt, "memory"));
+    assert!(rt; answers(&rt, alloc, &RUN_BY_THREE, &mut desk, &OpenGate, "done"));
     assert!(rt; desk.file("report.txt") == Some(report.as_slice()));
     for file in row.files {
         assert!(rt; holds(alloc, &desk, file).expect(&rt, "memory"));

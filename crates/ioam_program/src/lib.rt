@@ -6,7 +6,9 @@
 
 mod command;
 mod measured;
+mod plain;
 mod program;
 
 pub use measured::runs_are_collected;
+pub use plain::run_words;
 pub use program::{ioam, ioam_surely};
