@@ -1,4 +1,5 @@
-//! Desks with the files of a run, and runs over them.
+//! Desks with the files of a run, and runs over them. All tests go through the few functions here that make a
+//! desk or call `run_domain`, since their proofs take long.
 ghost use Rattle.std.specs.Prelude.{◌≤◌};
 
 use ioam_answer::line;
@@ -6,45 +7,121 @@ use ioam_base::memory::NoMemory;
 use ioam_batch::OpenGate;
 use ioam_desk::MemoryDesk;
 use ioam_domain::run_domain;
-use ioam_test_rows::digits::{octets, text, words};
-use ioam_test_rows::run_rows::Row;
+use ioam_test_rows::digits::{joined, octets, text, words};
+use ioam_test_rows::flow_rows::File;
 use std::alloc::Global;
 use std::thread::Threads;
 
-// A desk with the files of a row.
-pub(crate) fn desk_for(alloc: Global, row: &Row) -> Result<MemoryDesk, NoMemory> {
+/// Puts a file onto a desk.
+pub(crate) fn put(desk: &mut MemoryDesk, name: &str, octets: &[u8]) -> Result<(), NoMemory> {
+    desk.put_file(name, octets)
+}
+
+/// Lets a desk move so many octets at a time, and the numbered call fail.
+pub(crate) fn set_up(desk: &mut MemoryDesk, piece: usize, call: u64) -> Result<(), NoMemory> {
+    desk.set_piece(piece.max(1));
+    desk.fail_call(call)
+}
+
+/// A desk with a domain, its readings and the captures of two ports.
+pub(crate) fn desk_with(
+    alloc: Global,
+    domain: &[u8],
+    readings: &str,
+    west: &[u8],
+    west2: &[u8],
+) -> Result<MemoryDesk, NoMemory> {
     let mut desk = MemoryDesk::new(alloc)?;
-    desk.put_file("domain.toml", &text(alloc, row.domain)?)?;
-    desk.put_file("readings", b"b 0 0 - - -\na 0 0 - - -\n")?;
-    desk.put_file("west.pcap", &octets(alloc, row.west)?)?;
-    desk.put_file("west2.pcap", &octets(alloc, row.west2)?)?;
+    put(&mut desk, "domain.toml", domain)?;
+    put(&mut desk, "readings", readings.as_bytes())?;
+    put(&mut desk, "west.pcap", west)?;
+    put(&mut desk, "west2.pcap", west2)?;
     Ok(desk)
 }
 
-// The line of a run by so many workers over these files. The proof of a function that calls
-// `run_domain` takes long: so each test runs through here.
-pub(crate) fn line_by<R: Threads + Sync>(
+/// The same by the parts of the domain's text and the captures' digits.
+pub(crate) fn desk_of(
+    alloc: Global,
+    domain: &[&str],
+    readings: &str,
+    west: &[&str],
+    west2: &[&str],
+) -> Result<MemoryDesk, NoMemory> {
+    let domain = text(alloc, domain)?;
+    let west = octets(alloc, west)?;
+    let west2 = octets(alloc, west2)?;
+    desk_with(alloc, &domain, readings, &west, &west2)
+}
+
+/// The line of a run by so many workers that writes these two files.
+pub(crate) fn named_line<R: Threads + Sync>(
     rt: &R,
     alloc: Global,
     workers: u32,
-    texts: &[&str; 6],
+    names: (&str, &str),
     desk: &mut MemoryDesk,
 ) -> Result<String, NoMemory>
     requires { (1 ≤ workers) × (workers ≤ 64) }
 {
-    let run = words(alloc, texts)?;
+    let texts: [&str; 6] = ["run", "domain.toml", "readings", "1", names.0, names.1];
+    let run = words(alloc, &texts)?;
     line(
         alloc,
         &run_domain(rt, alloc, workers, &run, desk, &OpenGate),
     )
 }
 
-// The line of a run over these files, by one worker.
-pub(crate) fn run_line<R: Threads + Sync>(
+/// The line of a run that writes `report.txt` and `exports`.
+pub(crate) fn line_by<R: Threads + Sync>(
     rt: &R,
     alloc: Global,
-    texts: &[&str; 6],
+    workers: u32,
     desk: &mut MemoryDesk,
-) -> Result<String, NoMemory> {
-    line_by(rt, alloc, 1, texts, desk)
+) -> Result<String, NoMemory>
+    requires { (1 ≤ workers) × (workers ≤ 64) }
+{
+    named_line(rt, alloc, workers, ("report.txt", "exports"), desk)
+}
+
+/// Whether an answer's line is there and is this text.
+pub(crate) fn is_said(line: Result<String, NoMemory>, said: &str) -> bool {
+    match line {
+        Ok(line) => line.as_str() == said,
+        Err(_) => false,
+    }
+}
+
+/// Whether these octets are the same.
+pub(crate) fn are_same(octets: &[u8], others: &[u8]) -> bool {
+    octets == others
+}
+
+/// Whether a file of a desk is there and holds these octets.
+pub(crate) fn holds(desk: &MemoryDesk, name: &str, octets: &[u8]) -> bool {
+    match desk.file(name) {
+        Some(held) => held == octets,
+        None => false,
+    }
+}
+
+// Whether each of these files holds what it should.
+fn hold(alloc: Global, desk: &MemoryDesk, files: &[File]) -> Result<bool, NoMemory> {
+    for file in files {
+        let wanted = joined(alloc, file.parts)?;
+        if !holds(desk, file.name, &wanted) {
+            return Ok(false);
+        }
+    }
+    Ok(true)
+}
+
+/// Whether these files and `report.txt`, whose parts these are, hold what they should.
+pub(crate) fn are_held(
+    alloc: Global,
+    desk: &MemoryDesk,
+    files: &[File],
+    report: &[&str],
+) -> Result<bool, NoMemory> {
+    let report = text(alloc, report)?;
+    Ok(holds(desk, "report.txt", &report) && hold(alloc, desk, files)?)
 }

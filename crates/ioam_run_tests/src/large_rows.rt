@@ -1,6 +1,7 @@
 //! Much to read: a capture of several MiB, and a domain with as many ports as one may have.
+use crate::filled::{Numbers, fill};
 use ioam_base::memory::NoMemory;
-use ioam_base::text::{append, append_decimal};
+use ioam_base::text::append;
 use ioam_test_rows::digits::{AT_ONE, HEAD, UDP, octets, text};
 use std::alloc::Global;
 
@@ -53,9 +54,12 @@ pub(crate) fn large_left(alloc: Global) -> Result<Vec<u8>, NoMemory> {
     repeated(alloc, &LARGE_LEFT, 2600)
 }
 
-// The end of their report.
-pub(crate) fn large_sums() -> &'static [u8] {
-    LARGE_SUMS.as_bytes()
+// Whether a file is there and ends as their report.
+pub(crate) fn is_large_end(file: Option<&[u8]>) -> bool {
+    match file {
+        Some(octets) => octets.ends_with(LARGE_SUMS.as_bytes()),
+        None => false,
+    }
 }
 
 // A capture of no packet.
@@ -74,24 +78,25 @@ pub(crate) fn ports_left(alloc: Global) -> Result<Vec<u8>, NoMemory> {
 }
 
 // The port `pN`, whose packets arrive in `inN` and leave in `outN`.
-fn put_port(out: &mut Vec<u8>, place: u64) -> Result<(), NoMemory> {
-    append(out, b"  { name = \"p")?;
-    append_decimal(out, place)?;
-    append(out, b"\", node = \"a\", id = ")?;
-    append_decimal(out, place)?;
-    append(out, b", in = \"in")?;
-    append_decimal(out, place)?;
-    append(out, b"\", out = \"out")?;
-    append_decimal(out, place)?;
-    append(out, b"\" },\n")
+const PORT: &str = "  { name = \"p#\", node = \"a\", id = #, in = \"in#\", out = \"out#\" },\n";
+
+// This text for each place of 64, one behind the other.
+fn put_each(out: &mut Vec<u8>, part: &str) -> Result<(), NoMemory> {
+    for place in 0..64u64 {
+        let numbers = Numbers {
+            own: place,
+            next: place + 1,
+            all: 64,
+        };
+        fill(out, part, &numbers)?;
+    }
+    Ok(())
 }
 
 // A domain of one node with 64 ports, the most that one may have; all packets leave by the last.
 pub(crate) fn ports_domain(alloc: Global) -> Result<Vec<u8>, NoMemory> {
     let mut out = text(alloc, &[ONE_NODE])?;
-    for place in 0..64u64 {
-        put_port(&mut out, place)?;
-    }
+    put_each(&mut out, PORT)?;
     append(&mut out, b"]\n")?;
     Ok(out)
 }
@@ -104,31 +109,10 @@ pub(crate) fn input_name(alloc: Global, place: u64) -> Result<String, NoMemory> 
 // The report of one packet for each port, all at one time: that of the first port first.
 pub(crate) fn ports_report(alloc: Global) -> Result<Vec<u8>, NoMemory> {
     let mut out = Vec::new(alloc);
-    for place in 0..64u64 {
-        append_decimal(&mut out, place + 1)?;
-        append(&mut out, b" p")?;
-        append_decimal(&mut out, place)?;
-        append(&mut out, b" left p63\n")?;
-    }
+    put_each(&mut out, "+ p# left p63\n")?;
     append(
         &mut out,
         b"packets 64 left 64 dropped 0\nnode a seen 64 dropped 0\n",
     )?;
     Ok(out)
-}
-
-// Whether a file is there and holds these octets.
-pub(crate) fn is_held(file: Option<&[u8]>, whole: &[u8]) -> bool {
-    match file {
-        Some(octets) => octets == whole,
-        None => false,
-    }
-}
-
-// Whether a file is there and ends with these octets.
-pub(crate) fn is_end(file: Option<&[u8]>, end: &[u8]) -> bool {
-    match file {
-        Some(octets) => octets.ends_with(end),
-        None => false,
-    }
 }

@@ -6,6 +6,10 @@
 #[cfg(test)]
 mod desks;
 #[cfg(test)]
+mod failing;
+#[cfg(test)]
+mod filled;
+#[cfg(test)]
 mod flow;
 #[cfg(test)]
 mod large_rows;

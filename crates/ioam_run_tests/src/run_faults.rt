@@ -1,9 +1,13 @@
 //! Runs of which one call fails.
-use crate::desks::{desk_for, run_line};
+use crate::desks::{holds, line_by};
+use crate::failing::{Fell, or_wrong};
+use crate::run::row_desk;
+use ioam_base::memory::NoMemory;
 use ioam_desk::MemoryDesk;
 use ioam_test_rows::digits::{is_front, octets};
-use ioam_test_rows::run_rows::{RUN, failing_row, reports};
-use std::process::Abort;
+use ioam_test_rows::run_rows::{failing_row, reports};
+use std::alloc::Global;
+use std::thread::Threads;
 
 // How many arrivals a report with its sums is of, if it is one.
 fn arrivals_of(file: Option<&[u8]>) -> Option<usize> {
@@ -15,53 +19,44 @@ fn arrivals_of(file: Option<&[u8]>) -> Option<usize> {
     None
 }
 
-// The outputs hold a front of each text.
-fn assert_fronts(rt: &impl Abort, desk: &MemoryDesk, east: &[u8], report: &str) {
-    assert!(rt; is_front(desk.file("east-out.pcap"), east));
-    assert!(rt; is_front(desk.file("report.txt"), report.as_bytes()));
-}
-
-// The outputs hold their texts.
-fn assert_held(rt: &impl Abort, desk: &MemoryDesk, east: &[u8], report: &str) {
-    assert!(rt; desk.file("east-out.pcap") == Some(east));
-    assert!(rt; desk.file("report.txt") == Some(report.as_bytes()));
-}
-
 // Before the outputs are opened a fault leaves none; a failed read of the capture leaves the report of
-// the arrivals so far, and a failed write a front of each text.
-#[test]
-fn each_call_of_a_run_fails_once(rt: HostRuntime) {
-    let alloc = rt.alloc();
+// the arrivals so far.
+fn read_fell(desk: &MemoryDesk) -> Fell {
+    if desk.file("report.txt").is_none() {
+        return or_wrong(desk.file("east-out.pcap").is_none(), Fell::Unopened);
+    }
+    match arrivals_of(desk.file("report.txt")) {
+        Some(count) => Fell::Read(count),
+        None => Fell::Wrong,
+    }
+}
+
+// A failed write leaves a front of each text.
+fn other_fell(alloc: Global, desk: &MemoryDesk, line: &str) -> Result<Fell, NoMemory> {
     let row = failing_row();
-    let east = octets(alloc, row.east_out).expect(&rt, "octets");
-    for piece in [65536usize, 7] {
-        let mut most = 0usize;
-        let mut faults = [0u32; 3];
-        for call in 1..1000u64 {
-            let mut desk = desk_for(alloc, row).expect(&rt, "memory");
-            desk.set_piece(piece.max(1));
-            desk.fail_call(call).expect(&rt, "memory");
-            let line = run_line(&rt, alloc, &RUN, &mut desk).expect(&rt, "memory");
-            if line.as_str() == "read fault" && desk.file("report.txt").is_none() {
-                assert!(rt; desk.file("east-out.pcap").is_none() && faults[1] == 0);
-                faults[0] = faults[0].saturating_add(1);
-            } else if line.as_str() == "read fault" {
-                let count = arrivals_of(desk.file("report.txt")).expect(&rt, "a report");
-                assert!(rt; most <= count, "fewer arrivals at call {call}");
-                most = count;
-                faults[1] = faults[1].saturating_add(1);
-            } else if line.as_str() == "write fault" {
-                assert_fronts(&rt, &desk, &east, row.report);
-                faults[2] = faults[2].saturating_add(1);
-            } else {
-                assert_eq!(rt; line.as_str(), "done");
-                assert_held(&rt, &desk, &east, row.report);
-                break;
-            }
-        }
-        assert!(rt;
-            most == 2 && faults[0] > 5 && faults[1] > 1 && faults[2] > 3,
-            "pieces of {piece}"
-        );
+    let east = octets(alloc, row.east_out)?;
+    let report = row.report.as_bytes();
+    if line == "write fault" {
+        let is_begun = is_front(desk.file("east-out.pcap"), &east)
+            && is_front(desk.file("report.txt"), report);
+        return Ok(or_wrong(is_begun, Fell::Write));
+    }
+    let is_held = holds(desk, "east-out.pcap", &east) && holds(desk, "report.txt", report);
+    Ok(or_wrong(line == "done" && is_held, Fell::Not))
+}
+
+/// What becomes of a run of which the numbered call fails.
+pub(crate) fn run_fell(
+    rt: &(impl Threads + Sync),
+    alloc: Global,
+    piece: usize,
+    call: u64,
+) -> Result<Fell, NoMemory> {
+    let mut desk = row_desk(alloc, failing_row(), piece, call)?;
+    let line = line_by(rt, alloc, 1, &mut desk)?;
+    if line.as_str() == "read fault" {
+        Ok(read_fell(&desk))
+    } else {
+        other_fell(alloc, &desk, line.as_str())
     }
 }

@@ -1,13 +1,20 @@
 //! Runs that are refused, as rows: the words, the files and the line.
 use ioam_test_rows::flow_parts::{FLOW, TRACE_OF_3};
-use ioam_test_rows::run_rows::{DOMAIN, LINKS, NODES, PORTS, ROUTES, RUN};
+use ioam_test_rows::run_rows::{LINKS, NODES, PORTS, ROUTES};
 
 pub struct Refusal {
-    pub words: [&'static str; 6],
+    /// REPORT.
+    pub report: &'static str,
+    /// EXPORTS.
+    pub exports: &'static str,
+    /// The parts of the domain's text, or none for [`PLAIN`].
     pub domain: &'static [&'static str],
     pub readings: &'static str,
     pub line: &'static str,
 }
+
+// A domain without a flow.
+const PLAIN: [&str; 4] = [NODES, LINKS, PORTS, ROUTES];
 
 // A flow with three extra traces, each of which would be good alone.
 const THREE_EXTRAS: &[&str] = &[
@@ -26,92 +33,74 @@ extra = [
     TRACE_OF_3,
 ];
 
-pub const REFUSALS: [Refusal; 14] = [
+const REFUSALS: [Refusal; 14] = [
     Refusal {
-        words: [
-            "run",
-            "domain.toml",
-            "readings",
-            "1",
-            "east-out.pcap",
-            "exports",
-        ],
-        domain: DOMAIN,
+        report: "east-out.pcap",
+        exports: "exports",
+        domain: &[],
         readings: "",
         line: "names east-out.pcap",
     },
     Refusal {
-        words: ["run", "domain.toml", "readings", "1", "readings", "exports"],
-        domain: DOMAIN,
+        report: "readings",
+        exports: "exports",
+        domain: &[],
         readings: "",
         line: "names readings",
     },
     Refusal {
-        words: [
-            "run",
-            "domain.toml",
-            "readings",
-            "1",
-            "report.txt",
-            "west.pcap",
-        ],
-        domain: DOMAIN,
+        report: "report.txt",
+        exports: "west.pcap",
+        domain: &[],
         readings: "",
         line: "names west.pcap",
     },
     Refusal {
-        words: RUN,
-        domain: DOMAIN,
+        report: "report.txt",
+        exports: "exports",
+        domain: &[],
         readings: "a 0 0 - - -\na 0 0 - - -\n",
         line: "readings 2 order",
     },
     // The domain is looked at before the readings, and these before the names.
     Refusal {
-        words: [
-            "run",
-            "domain.toml",
-            "readings",
-            "1",
-            "east-out.pcap",
-            "exports",
-        ],
+        report: "east-out.pcap",
+        exports: "exports",
         domain: &[NODES, LINKS, PORTS, ROUTES, "[[flow]]\n"],
         readings: "a 0\n",
         line: "domain flow 1 name missing",
     },
     Refusal {
-        words: [
-            "run",
-            "domain.toml",
-            "readings",
-            "1",
-            "east-out.pcap",
-            "exports",
-        ],
-        domain: DOMAIN,
+        report: "east-out.pcap",
+        exports: "exports",
+        domain: &[],
         readings: "d 0 0 - - -\n",
         line: "readings 1 node",
     },
     Refusal {
-        words: RUN,
+        report: "report.txt",
+        exports: "exports",
         domain: &["link = [ { name = \"ab\", from = \"a\" } ]\n", NODES],
         readings: "",
         line: "domain link 1 to missing",
     },
     Refusal {
-        words: RUN,
+        report: "report.txt",
+        exports: "exports",
         domain: &["colour = 1\n"],
         readings: "",
         line: "domain top 0 other unknown",
     },
     Refusal {
-        words: RUN,
+        report: "report.txt",
+        exports: "exports",
         domain: &["node = [ { name = \"a\", id = 1, address = \"2001:db8::a\", colour = 1 } ]\n"],
         readings: "",
         line: "domain node 1 other unknown",
     },
     Refusal {
-        words: RUN,
+        report: "report.txt",
+        exports: "exports",
         domain: &[
             NODES,
             "link = [ { name = \"ab\", from = \"a\", to = \"b\", out_id = 1, in_id = 2, delay = 0, mtu = 1279 } ]\n",
@@ -120,7 +109,8 @@ pub const REFUSALS: [Refusal; 14] = [
         line: "domain link 1 mtu range",
     },
     Refusal {
-        words: RUN,
+        report: "report.txt",
+        exports: "exports",
         domain: &[
             NODES,
             "link = [ { name = \"ab\", from = \"a\", to = \"b\", out_id = 1, in_id = 2, delay = 0, mtu = 1280, tap = \"exports\" } ]\n",
@@ -130,7 +120,8 @@ pub const REFUSALS: [Refusal; 14] = [
     },
     // A tap of the report's name.
     Refusal {
-        words: RUN,
+        report: "report.txt",
+        exports: "exports",
         domain: &[
             NODES,
             "link = [ { name = \"ab\", from = \"a\", to = \"b\", out_id = 1, in_id = 2, delay = 0, mtu = 1280, tap = \"report.txt\" } ]\n",
@@ -139,15 +130,35 @@ pub const REFUSALS: [Refusal; 14] = [
         line: "names report.txt",
     },
     Refusal {
-        words: RUN,
+        report: "report.txt",
+        exports: "exports",
         domain: THREE_EXTRAS,
         readings: "",
         line: "domain extra 3 flow too-many",
     },
     Refusal {
-        words: RUN,
+        report: "report.txt",
+        exports: "exports",
         domain: &["packets ="],
         readings: "",
         line: "domain top 0 - text",
     },
 ];
+
+/// These runs. A function, so that the proof of a test doesn't look into them.
+pub(crate) fn refusals() -> &'static [Refusal] {
+    &REFUSALS
+}
+
+fn plain() -> &'static [&'static str] {
+    &PLAIN
+}
+
+/// The parts of the text of a row's domain.
+pub(crate) fn domain_of(row: &Refusal) -> &'static [&'static str] {
+    if row.domain.is_empty() {
+        plain()
+    } else {
+        row.domain
+    }
+}

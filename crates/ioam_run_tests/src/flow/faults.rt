@@ -1,109 +1,125 @@
 //! Runs of which one call fails, or whose capture is cut.
-use crate::flow::desks::{desk_for, differing, run_line};
+use crate::desks::{are_held, desk_of, desk_with, is_said, line_by, set_up};
+use crate::failing::{Fell, or_wrong};
 use ioam_base::memory::NoMemory;
 use ioam_desk::MemoryDesk;
 use ioam_test_rows::digits::{is_front, joined, octets, text};
 use ioam_test_rows::flow_rows::{File, FlowRow, empty_row, first_row};
 use std::alloc::Global;
-use std::process::Abort;
 use std::thread::Threads;
+
+/// A desk with the files of a row, that moves so many octets at a time, and of which the numbered call fails.
+pub(crate) fn flow_desk(
+    alloc: Global,
+    row: &FlowRow,
+    piece: usize,
+    call: u64,
+) -> Result<MemoryDesk, NoMemory> {
+    let mut desk = desk_of(alloc, row.domain, row.readings, row.west, row.west2)?;
+    set_up(&mut desk, piece, call)?;
+    Ok(desk)
+}
 
 // Whether the outputs are those of a row.
 fn are_of(alloc: Global, desk: &MemoryDesk, row: &FlowRow) -> Result<bool, NoMemory> {
-    let report = text(alloc, row.report)?;
-    let other = differing(alloc, desk, row.files)?;
-    Ok(other.is_none() && desk.file("report.txt") == Some(report.as_slice()))
+    are_held(alloc, desk, row.files, row.report)
 }
 
-// Whether a file holds a front of what it should.
-fn is_begun(alloc: Global, desk: &MemoryDesk, file: &File) -> Result<bool, NoMemory> {
-    let whole = joined(alloc, file.parts)?;
-    Ok(is_front(desk.file(file.name), &whole))
+// Whether each of these files holds a front of what it should.
+fn are_files_begun(alloc: Global, desk: &MemoryDesk, files: &[File]) -> Result<bool, NoMemory> {
+    for file in files {
+        let whole = joined(alloc, file.parts)?;
+        if !is_front(desk.file(file.name), &whole) {
+            return Ok(false);
+        }
+    }
+    Ok(true)
 }
 
 // Whether each output is a front of that of a row.
 fn are_begun(alloc: Global, desk: &MemoryDesk, row: &FlowRow) -> Result<bool, NoMemory> {
-    for file in row.files {
-        if !is_begun(alloc, desk, file)? {
-            return Ok(false);
-        }
-    }
     let report = text(alloc, row.report)?;
-    Ok(is_front(desk.file("report.txt"), &report))
+    Ok(is_front(desk.file("report.txt"), &report) && are_files_begun(alloc, desk, row.files)?)
 }
 
-// Whether the outputs may be so behind this line; whether all was done.
-fn may_be(rt: &impl Abort, alloc: Global, desk: &MemoryDesk, line: &str) -> bool {
-    if line == "read fault" {
-        let none = desk.file("report.txt").is_none() && desk.file("ab.pcap").is_none();
-        assert!(rt;
-            none || are_of(alloc, desk, empty_row()).expect(rt, "memory")
-                || are_of(alloc, desk, first_row()).expect(rt, "memory")
-        );
-        return false;
+// A failed read leaves no output, or those of the arrivals so far.
+fn read_fell(alloc: Global, desk: &MemoryDesk) -> Result<Fell, NoMemory> {
+    if desk.file("report.txt").is_none() && desk.file("ab.pcap").is_none() {
+        return Ok(Fell::Unopened);
     }
+    if are_of(alloc, desk, empty_row())? {
+        return Ok(Fell::Read(0));
+    }
+    Ok(or_wrong(are_of(alloc, desk, first_row())?, Fell::Read(1)))
+}
+
+// A failed write leaves a front of each output.
+fn other_fell(alloc: Global, desk: &MemoryDesk, line: &str) -> Result<Fell, NoMemory> {
     if line == "write fault" {
-        assert!(rt; are_begun(alloc, desk, first_row()).expect(rt, "memory"));
-        return false;
+        return Ok(or_wrong(are_begun(alloc, desk, first_row())?, Fell::Write));
     }
-    assert_eq!(rt; line, "done");
-    assert!(rt; are_of(alloc, desk, first_row()).expect(rt, "memory"));
-    true
+    Ok(or_wrong(
+        line == "done" && are_of(alloc, desk, first_row())?,
+        Fell::Not,
+    ))
 }
 
-// How many calls a run makes: each of them fails once.
-fn fail_each(rt: &(impl Abort + Threads + Sync), alloc: Global, piece: usize) -> u64 {
-    for call in 1..2000u64 {
-        let mut desk = desk_for(alloc, first_row()).expect(rt, "memory");
-        desk.set_piece(piece.max(1));
-        desk.fail_call(call).expect(rt, "memory");
-        let line = run_line(rt, alloc, 2, &mut desk).expect(rt, "memory");
-        if may_be(rt, alloc, &desk, line.as_str()) {
-            return call;
-        }
+/// What becomes of a run by two workers of which the numbered call fails.
+pub(crate) fn flow_fell(
+    rt: &(impl Threads + Sync),
+    alloc: Global,
+    piece: usize,
+    call: u64,
+) -> Result<Fell, NoMemory> {
+    let mut desk = flow_desk(alloc, first_row(), piece, call)?;
+    let line = line_by(rt, alloc, 2, &mut desk)?;
+    if line.as_str() == "read fault" {
+        read_fell(alloc, &desk)
+    } else {
+        other_fell(alloc, &desk, line.as_str())
     }
-    0
 }
 
-#[test]
-fn each_call_of_a_measured_run_fails_once(rt: HostRuntime) {
-    assert!(rt; fail_each(&rt, rt.alloc(), 65536) > 15);
-    assert!(rt; fail_each(&rt, rt.alloc(), 7) > 80);
+// A desk whose capture ends after so many octets.
+fn cut_desk(alloc: Global, count: usize) -> Result<MemoryDesk, NoMemory> {
+    let row = first_row();
+    let west = octets(alloc, row.west)?;
+    let domain = text(alloc, row.domain)?;
+    desk_with(alloc, &domain, "", west.get(..count).unwrap_or(b""), b"")
 }
 
-// The line of a run whose capture ends after so many octets, of which there are 88.
-fn cut_line(rt: &(impl Abort + Threads + Sync), alloc: Global, count: usize) -> String {
-    let west = octets(alloc, first_row().west).expect(rt, "octets");
-    let mut desk = desk_for(alloc, first_row()).expect(rt, "memory");
-    desk.put_file("west.pcap", west.get(..count).expect(rt, "a front"))
-        .expect(rt, "memory");
-    let line = run_line(rt, alloc, 1, &mut desk).expect(rt, "memory");
-    let row = if count == 88 {
+// What is said of a capture of 88 octets that ends after so many.
+fn cut_said(alloc: Global, count: usize) -> Result<String, NoMemory> {
+    if count == 24 || count == 88 {
+        return Ok(String::from_str(alloc, "done")?);
+    }
+    let at = if count < 24 { 0 } else { 24usize };
+    let have = count.saturating_sub(at);
+    Ok(format!(in alloc; "capture west.pcap {at} short {have}")?)
+}
+
+// The run that writes the same.
+fn cut_row(count: usize) -> &'static FlowRow {
+    if count == 88 {
         first_row()
     } else {
         empty_row()
-    };
-    assert!(rt;
-        are_of(alloc, &desk, row).expect(rt, "memory"),
-        "after {count} octets"
-    );
-    line
+    }
+}
+
+// Whether a run over such a capture is so.
+fn is_cut(rt: &(impl Threads + Sync), alloc: Global, count: usize) -> Result<bool, NoMemory> {
+    let said = cut_said(alloc, count)?;
+    let mut desk = cut_desk(alloc, count)?;
+    let is_said = is_said(line_by(rt, alloc, 1, &mut desk), said.as_str());
+    Ok(is_said && are_of(alloc, &desk, cut_row(count))?)
 }
 
 #[test]
 fn a_capture_ends_anywhere(rt: HostRuntime) {
     let alloc = rt.alloc();
     for count in 0..89usize {
-        let line = cut_line(&rt, alloc, count);
-        if count == 24 || count == 88 {
-            assert_eq!(rt; line.as_str(), "done");
-        } else {
-            let at = if count < 24 { 0 } else { 24usize };
-            let have = count.saturating_sub(at);
-            let wanted = format!(in alloc; "capture west.pcap {at} short {have}").expect(
-                &rt, "memory",
-            );
-            assert!(rt; line == wanted, "after {count} octets");
-        }
+        let cut = is_cut(&rt, alloc, count).expect(&rt, "memory");
+        assert!(rt; cut, "after {count} octets");
     }
 }

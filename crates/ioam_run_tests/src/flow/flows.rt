@@ -1,6 +1,7 @@
 //! What `run` writes of measured packets. Octets and texts are written out by the rules.
-use crate::flow::desks::{desk_for, differing, run_line};
-use ioam_test_rows::digits::text;
+use crate::desks::{are_held, is_said, line_by};
+use crate::flow::faults::flow_desk;
+use ioam_base::memory::NoMemory;
 use ioam_test_rows::flow_ng_rows::{exported_in_blocks, in_blocks};
 use ioam_test_rows::flow_rows::{FlowRow, aware, looped, stopped, traced};
 use ioam_test_rows::flow_rows_more::{edged, endings, exporting, framed, limited, read, twice};
@@ -8,26 +9,24 @@ use std::alloc::Global;
 use std::process::Abort;
 use std::thread::Threads;
 
-// A run by three workers, in pieces of this size, is as its row says.
-fn is_so(rt: &(impl Abort + Threads + Sync), alloc: Global, row: &FlowRow, piece: usize) {
-    let report = text(alloc, row.report).expect(rt, "memory");
-    let mut desk = desk_for(alloc, row).expect(rt, "memory");
-    desk.set_piece(piece.max(1));
-    let line = run_line(rt, alloc, 3, &mut desk).expect(rt, "memory");
-    assert_eq!(rt; line.as_str(), row.line);
-    assert!(rt;
-        desk.file("report.txt") == Some(report.as_slice()),
-        "the report"
-    );
-    let other = differing(alloc, &desk, row.files).expect(rt, "memory");
-    assert!(rt; other.is_none(), "another file");
+// Whether a run by three workers, in pieces of this size, is as its row says.
+fn is_so(
+    rt: &(impl Threads + Sync),
+    alloc: Global,
+    row: &FlowRow,
+    piece: usize,
+) -> Result<bool, NoMemory> {
+    let mut desk = flow_desk(alloc, row, piece, 0)?;
+    let is_said = is_said(line_by(rt, alloc, 3, &mut desk), row.line);
+    Ok(is_said && are_held(alloc, &desk, row.files, row.report)?)
 }
 
 // These runs are so, in pieces of any size.
 fn are_so(rt: &(impl Abort + Threads + Sync), alloc: Global, rows: &[FlowRow]) {
     for row in rows {
-        is_so(rt, alloc, row, 65536);
-        is_so(rt, alloc, row, 7);
+        for piece in [65536usize, 7, 1] {
+            assert!(rt; is_so(rt, alloc, row, piece).expect(rt, "memory"));
+        }
     }
 }
 
@@ -52,17 +51,9 @@ fn several_packets_and_captures(rt: HostRuntime) {
     are_so(&rt, alloc, framed());
 }
 
-// These runs are so, in pieces that cut each block.
-fn are_so_in_blocks(rt: &(impl Abort + Threads + Sync), alloc: Global, rows: &[FlowRow]) {
-    for row in rows {
-        is_so(rt, alloc, row, 7);
-        is_so(rt, alloc, row, 1);
-    }
-}
-
 #[test]
 fn captures_in_blocks_are_measured_alike(rt: HostRuntime) {
     let alloc = rt.alloc();
-    are_so_in_blocks(&rt, alloc, in_blocks());
-    are_so_in_blocks(&rt, alloc, exported_in_blocks());
+    are_so(&rt, alloc, in_blocks());
+    are_so(&rt, alloc, exported_in_blocks());
 }
