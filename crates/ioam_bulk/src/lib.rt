@@ -4,7 +4,9 @@
 mod bulk;
 mod generator;
 mod load;
+mod plain;
 mod report;
 mod terms;
 
 pub use bulk::run_bulk;
+pub use plain::bulk_plainly;

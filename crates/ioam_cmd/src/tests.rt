@@ -5,7 +5,7 @@ use ioam_answer::line;
 use ioam_base::memory::NoMemory;
 use ioam_batch::{Gate, OpenGate};
 use ioam_desk::{Desk, MemoryDesk, SureDesk};
-use ioam_program::run_words;
+use ioam_program::ioam_plainly;
 use ioam_test_rows::digits::{joined, octets, text, words};
 use ioam_test_rows::flow_rows::{File, FlowRow, first_row};
 use std::alloc::Global;
@@ -20,7 +20,7 @@ fn line_of<R: Threads + Sync, D: Desk, G: Gate>(
     gate: &G,
 ) -> Result<String, NoMemory> {
     let words = words(alloc, texts)?;
-    line(alloc, &run_words(rt, alloc, &words, desk, gate))
+    line(alloc, &ioam_plainly(rt, alloc, &words, desk, gate))
 }
 
 // Whether a run of these words over a desk answers so.

@@ -1,11 +1,11 @@
 //! What `bulk` writes.
 ghost use Rattle.std.specs.Prelude.{◌≤◌};
 
-use crate::desks::{holds, is_said};
+use crate::desks::{are_same, copied, is_said};
 use ioam_answer::line;
 use ioam_base::memory::NoMemory;
 use ioam_batch::OpenGate;
-use ioam_bulk::run_bulk;
+use ioam_bulk::bulk_plainly;
 use ioam_desk::MemoryDesk;
 use ioam_test_rows::digits::{is_front, words};
 use std::alloc::Global;
@@ -36,21 +36,36 @@ fn run(
 {
     let texts: [&str; 5] = ["bulk", "SEED", "COUNT", "WORKERS", "report.txt"];
     let names = words(alloc, &texts)?;
-    let outcome = run_bulk(rt, alloc, seed, count, workers, &names, desk, &OpenGate);
+    let outcome = bulk_plainly(rt, alloc, seed, count, workers, &names, desk, &OpenGate);
     line(alloc, &outcome)
 }
 
-// The desk behind a run of 3,000 arrivals, some twelve batches.
-fn large(rt: &(impl Threads + Sync), alloc: Global, workers: u32) -> Result<MemoryDesk, NoMemory>
-    requires { (1 ≤ workers) × (workers ≤ 64) }
+// What a run by so many workers reports, or nothing where it isn't done.
+fn report_of(
+    rt: &(impl Threads + Sync),
+    alloc: Global,
+    seed: u64,
+    count: u32,
+    workers: u32,
+) -> Result<Vec<u8>, NoMemory>
+    requires count { (1 ≤ count) × (count ≤ 1000000) }
+    requires staffed { (1 ≤ workers) × (workers ≤ 64) }
 {
     let mut desk = MemoryDesk::new(alloc)?;
-    run(rt, alloc, 1, 3_000, workers, &mut desk)?;
-    Ok(desk)
+    if is_said(run(rt, alloc, seed, count, workers, &mut desk), "done") {
+        return copied(alloc, &desk, "report.txt");
+    }
+    Ok(Vec::new(alloc))
 }
 
-// Whether such a run leaves this report.
-fn reports(
+#[test]
+fn two_arrivals(rt: HostRuntime) {
+    let report = report_of(&rt, rt.alloc(), 0, 2, 1).expect(&rt, "memory");
+    assert!(rt; are_same(&report, TWO.as_bytes()));
+}
+
+// Whether a run of 3,000 arrivals, some twelve batches, by so many workers reports this.
+fn is_large(
     rt: &(impl Threads + Sync),
     alloc: Global,
     workers: u32,
@@ -58,38 +73,33 @@ fn reports(
 ) -> Result<bool, NoMemory>
     requires { (1 ≤ workers) × (workers ≤ 64) }
 {
-    let desk = large(rt, alloc, workers)?;
-    Ok(holds(&desk, "report.txt", report))
-}
-
-#[test]
-fn two_arrivals(rt: HostRuntime) {
-    let alloc = rt.alloc();
-    let mut desk = MemoryDesk::new(alloc).expect(&rt, "memory");
-    assert!(rt; is_said(run(&rt, alloc, 0, 2, 1, &mut desk), "done"));
-    assert!(rt; holds(&desk, "report.txt", TWO.as_bytes()));
+    let large = report_of(rt, alloc, 1, 3_000, workers)?;
+    Ok(are_same(&large, report))
 }
 
 // Workers change nothing, and two runs write the same.
 #[test]
 fn workers_write_the_same(rt: HostRuntime) {
     let alloc = rt.alloc();
-    let one = large(&rt, alloc, 1).expect(&rt, "memory");
-    let found = one.file("report.txt").expect(&rt, "a report");
-    assert!(rt; found.starts_with(b"packets 3000 left "));
-    assert!(rt; reports(&rt, alloc, 1, found).expect(&rt, "memory"));
-    assert!(rt; reports(&rt, alloc, 3, found).expect(&rt, "memory"));
-    assert!(rt; reports(&rt, alloc, 64, found).expect(&rt, "memory"));
+    let one = report_of(&rt, alloc, 1, 3_000, 1).expect(&rt, "memory");
+    assert!(rt; is_front(Some(b"packets 3000 left "), &one));
+    assert!(rt; is_large(&rt, alloc, 1, &one).expect(&rt, "memory"));
+    assert!(rt; is_large(&rt, alloc, 3, &one).expect(&rt, "memory"));
+    assert!(rt; is_large(&rt, alloc, 64, &one).expect(&rt, "memory"));
+}
+
+// Whether a run of which this call fails says so, and leaves a front of its report.
+fn is_faulty(rt: &(impl Threads + Sync), alloc: Global, call: u64) -> Result<bool, NoMemory> {
+    let mut desk = MemoryDesk::new(alloc)?;
+    desk.fail_call(call)?;
+    let is_said = is_said(run(rt, alloc, 0, 2, 1, &mut desk), "write fault");
+    Ok(is_said && is_front(desk.file("report.txt"), TWO.as_bytes()))
 }
 
 // The first call opens REPORT, and the second writes it.
 #[test]
 fn a_call_that_fails(rt: HostRuntime) {
     let alloc = rt.alloc();
-    for call in [1u64, 2] {
-        let mut desk = MemoryDesk::new(alloc).expect(&rt, "memory");
-        desk.fail_call(call).expect(&rt, "memory");
-        assert!(rt; is_said(run(&rt, alloc, 0, 2, 1, &mut desk), "write fault"));
-        assert!(rt; is_front(desk.file("report.txt"), TWO.as_bytes()));
-    }
+    assert!(rt; is_faulty(&rt, alloc, 1).expect(&rt, "memory"));
+    assert!(rt; is_faulty(&rt, alloc, 2).expect(&rt, "memory"));
 }

@@ -1,25 +1,21 @@
 //! The tests of the commands but `run`: whole runs over desks in memory of `filter`, `paths`, `show` and
-//! `save` (`ioam_run`), `node` (`transit`), `collect` (`collecting`) and `bulk`. What the first four read and
-//! have to write stands in `ioam_test_rows`.
+//! `save` (`ioam_run`), `collect` (`ioam_collecting`), `node` (`transit`) and `bulk`. What the first four read
+//! and have to write stands in `ioam_test_rows`.
 #![tactic(auto)]
 
 #[cfg(test)]
 mod bulk;
 #[cfg(test)]
-mod collecting;
+mod collect_rows;
 #[cfg(test)]
 mod desks;
 #[cfg(test)]
-mod filter;
+mod failing;
 #[cfg(test)]
-mod filter_faults;
+mod fronts;
 #[cfg(test)]
-mod paths;
-#[cfg(test)]
-mod save;
-#[cfg(test)]
-mod saved;
-#[cfg(test)]
-mod show;
+mod long;
 #[cfg(test)]
 mod transit;
+#[cfg(test)]
+mod writing;

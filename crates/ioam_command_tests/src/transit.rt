@@ -1,4 +1,4 @@
 //! Whole runs of `node` (`ioam_transit`): packets through one node of a domain.
-mod failing;
+pub(crate) mod failing;
 mod passing;
 mod rows;

@@ -3,5 +3,7 @@
 
 mod answer;
 mod domain_run;
+mod plain;
 
 pub use domain_run::run_domain;
+pub use plain::domain_plainly;

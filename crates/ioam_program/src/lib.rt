@@ -10,5 +10,5 @@ mod plain;
 mod program;
 
 pub use measured::runs_are_collected;
-pub use plain::run_words;
+pub use plain::ioam_plainly;
 pub use program::{ioam, ioam_surely};

@@ -1,12 +1,12 @@
 //! Desks with the files of a run, and runs over them. All tests go through the few functions here that make a
-//! desk or call `run_domain`, since their proofs take long.
+//! desk or call `domain_plainly`, since their proofs take long.
 ghost use Rattle.std.specs.Prelude.{◌≤◌};
 
 use ioam_answer::line;
 use ioam_base::memory::NoMemory;
 use ioam_batch::OpenGate;
 use ioam_desk::MemoryDesk;
-use ioam_domain::run_domain;
+use ioam_domain::domain_plainly;
 use ioam_test_rows::digits::{joined, octets, text, words};
 use ioam_test_rows::flow_rows::File;
 use std::alloc::Global;
@@ -67,7 +67,7 @@ pub(crate) fn named_line<R: Threads + Sync>(
     let run = words(alloc, &texts)?;
     line(
         alloc,
-        &run_domain(rt, alloc, workers, &run, desk, &OpenGate),
+        &domain_plainly(rt, alloc, workers, &run, desk, &OpenGate),
     )
 }
 

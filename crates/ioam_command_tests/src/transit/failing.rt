@@ -1,47 +1,46 @@
 //! Runs of which one call fails.
-use crate::transit::passing::{desk_for, node_line};
-use crate::transit::rows::rows;
+use crate::desks::set_up;
+use crate::failing::{Fell, or_wrong};
+use crate::transit::passing::{are_held, desk_for, node_line};
+use crate::transit::rows::{Passed, rows};
+use ioam_base::memory::NoMemory;
 use ioam_desk::MemoryDesk;
 use ioam_test_rows::digits::{is_front, octets};
-use std::process::Abort;
+use std::alloc::Global;
 
-// The outputs hold a front of each text.
-fn assert_fronts(rt: &impl Abort, desk: &MemoryDesk, sent: &[u8], report: &str, exports: &[u8]) {
-    assert!(rt; is_front(desk.file("out.pcap"), sent));
-    assert!(rt; is_front(desk.file("report.txt"), report.as_bytes()));
-    assert!(rt; is_front(desk.file("exports"), exports));
+// Whether the outputs hold a front of each text.
+fn are_begun(alloc: Global, row: &Passed, desk: &MemoryDesk) -> Result<bool, NoMemory> {
+    let sent = octets(alloc, row.sent)?;
+    let exports = octets(alloc, row.exports)?;
+    Ok(
+        is_front(desk.file("out.pcap"), &sent)
+            && is_front(desk.file("report.txt"), row.report.as_bytes())
+            && is_front(desk.file("exports"), &exports),
+    )
 }
 
 // Before IN is read a fault leaves no output, and a failed write a front of each text.
-#[test]
-fn each_call_of_a_node_fails_once(rt: HostRuntime) {
-    let alloc = rt.alloc();
-    let row = rows().first().expect(&rt, "a row");
-    let sent = octets(alloc, row.sent).expect(&rt, "octets");
-    let exports = octets(alloc, row.exports).expect(&rt, "octets");
-    for piece in [65536usize, 7] {
-        let mut faults = [0u32; 3];
-        for call in 1..1000u64 {
-            let mut desk = desk_for(alloc, row).expect(&rt, "memory");
-            desk.set_piece(piece.max(1));
-            desk.fail_call(call).expect(&rt, "memory");
-            let line = node_line(alloc, "b", "ab", &mut desk).expect(&rt, "memory");
-            if line.as_str() == "read fault" && desk.file("report.txt").is_none() {
-                faults[0] = faults[0].saturating_add(1);
-            } else if line.as_str() == "read fault" {
-                faults[1] = faults[1].saturating_add(1);
-            } else if line.as_str() == "write fault" {
-                assert_fronts(&rt, &desk, &sent, row.report, &exports);
-                faults[2] = faults[2].saturating_add(1);
-            } else {
-                assert_eq!(rt; line.as_str(), "done");
-                assert!(rt; desk.file("out.pcap") == Some(sent.as_slice()));
-                break;
-            }
-        }
-        assert!(rt;
-            faults[0] > 4 && faults[1] > 0 && faults[2] > 4,
-            "pieces of {piece}"
-        );
+fn fell_so(alloc: Global, row: &Passed, desk: &MemoryDesk, line: &str) -> Result<Fell, NoMemory> {
+    if line == "read fault" {
+        return Ok(if desk.file("report.txt").is_none() {
+            Fell::Unopened
+        } else {
+            Fell::Read
+        });
     }
+    if line == "write fault" {
+        return Ok(or_wrong(are_begun(alloc, row, desk)?, Fell::Write));
+    }
+    Ok(or_wrong(line == "done" && are_held(alloc, row, desk)?, Fell::Not))
+}
+
+/// What becomes of a run at a node of which the numbered call fails.
+pub(crate) fn node_fell(alloc: Global, piece: usize, call: u64) -> Result<Fell, NoMemory> {
+    let Some(row) = rows().first() else {
+        return Ok(Fell::Wrong);
+    };
+    let mut desk = desk_for(alloc, row)?;
+    set_up(&mut desk, piece, call)?;
+    let line = node_line(alloc, row.node, row.link, &mut desk)?;
+    fell_so(alloc, row, &desk, line.as_str())
 }

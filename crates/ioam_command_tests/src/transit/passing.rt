@@ -1,20 +1,28 @@
 //! What `node` writes.
-use crate::desks::{holds, is_said};
+use crate::desks::{holds, is_said, put, set_up};
 use crate::transit::rows::{Passed, rows, sectioned};
 use ioam_answer::line;
 use ioam_base::memory::NoMemory;
 use ioam_desk::MemoryDesk;
 use ioam_test_rows::digits::{octets, text, words};
 use ioam_test_rows::flow_rows::TRACED;
-use ioam_transit::run_node;
+use ioam_transit::node_plainly;
 use std::alloc::Global;
+use std::process::Abort;
+
+// The parts of the domain's text. A function, so that no other proof looks into them.
+fn domain() -> &'static [&'static str] {
+    TRACED
+}
 
 // A desk with the files of a row. Its domain has a flow and taps too, which are of no part in `node`.
 pub(crate) fn desk_for(alloc: Global, row: &Passed) -> Result<MemoryDesk, NoMemory> {
+    let domain = text(alloc, domain())?;
+    let came = octets(alloc, row.came)?;
     let mut desk = MemoryDesk::new(alloc)?;
-    desk.put_file("domain.toml", &text(alloc, TRACED)?)?;
-    desk.put_file("readings", b"")?;
-    desk.put_file("in.pcap", &octets(alloc, row.came)?)?;
+    put(&mut desk, "domain.toml", &domain)?;
+    put(&mut desk, "readings", b"")?;
+    put(&mut desk, "in.pcap", &came)?;
     Ok(desk)
 }
 
@@ -37,58 +45,68 @@ pub(crate) fn node_line(
         "exports",
     ];
     let run = words(alloc, &texts)?;
-    line(alloc, &run_node(alloc, &run, desk))
+    line(alloc, &node_plainly(alloc, &run, desk))
+}
+
+// Whether the outputs are what a row says.
+pub(crate) fn are_held(alloc: Global, row: &Passed, desk: &MemoryDesk) -> Result<bool, NoMemory> {
+    let sent = octets(alloc, row.sent)?;
+    let exports = octets(alloc, row.exports)?;
+    Ok(
+        holds(desk, "out.pcap", &sent)
+            && holds(desk, "report.txt", row.report.as_bytes())
+            && holds(desk, "exports", &exports),
+    )
 }
 
 // Whether a run over the IN of a row, handed out in such pieces, leaves what the row says.
 fn passes(alloc: Global, row: &Passed, piece: usize) -> Result<bool, NoMemory> {
-    let sent = octets(alloc, row.sent)?;
-    let exports = octets(alloc, row.exports)?;
     let mut desk = desk_for(alloc, row)?;
-    desk.set_piece(piece.max(1));
-    Ok(
-        is_said(node_line(alloc, row.node, row.link, &mut desk), "done")
-            && holds(&desk, "out.pcap", &sent)
-            && holds(&desk, "report.txt", row.report.as_bytes())
-            && holds(&desk, "exports", &exports),
-    )
+    set_up(&mut desk, piece, 0)?;
+    let is_done = is_said(node_line(alloc, row.node, row.link, &mut desk), "done");
+    Ok(is_done && are_held(alloc, row, &desk)?)
 }
 
+fn assert_passes(rt: &impl Abort, alloc: Global, rows: &[Passed]) {
+    for row in rows {
+        for piece in [65536usize, 7] {
+            let passes = passes(alloc, row, piece).expect(rt, "memory");
+            assert!(rt; passes, "at {} in pieces of {piece}", row.report);
+        }
+    }
+}
+
+// A capture of the other form gives the same.
 #[test]
 fn a_node_sends_what_it_may(rt: HostRuntime) {
     let alloc = rt.alloc();
-    for row in rows() {
-        for piece in [65536usize, 7] {
-            let passes = passes(alloc, row, piece).expect(&rt, "memory");
-            assert!(rt; passes, "at {} in pieces of {piece}", row.report);
-        }
-    }
+    assert_passes(&rt, alloc, rows());
+    assert_passes(&rt, alloc, sectioned());
 }
 
-#[test]
-fn a_capture_of_the_other_form_gives_the_same(rt: HostRuntime) {
-    let alloc = rt.alloc();
-    for row in sectioned() {
-        for piece in [65536usize, 7] {
-            let passes = passes(alloc, row, piece).expect(&rt, "memory");
-            assert!(rt; passes, "at {} in pieces of {piece}", row.report);
-        }
-    }
+// Whether a run at this place is refused, with no output.
+fn is_refused(
+    alloc: Global,
+    row: &Passed,
+    node: &str,
+    link: &str,
+    said: &str,
+) -> Result<bool, NoMemory> {
+    let mut desk = desk_for(alloc, row)?;
+    let is_said = is_said(node_line(alloc, node, link, &mut desk), said);
+    Ok(is_said && desk.file("out.pcap").is_none() && desk.file("report.txt").is_none())
 }
 
 // No node of this name; no link of this name, and one that ends at another node.
 #[test]
 fn a_refused_place_is_named(rt: HostRuntime) {
     let alloc = rt.alloc();
-    for row in rows().iter().take(1) {
-        for (node, link, said) in [
-            ("z", "ab", "names z"),
-            ("b", "zz", "names zz"),
-            ("b", "bc", "names bc"),
-        ] {
-            let mut desk = desk_for(alloc, row).expect(&rt, "memory");
-            assert!(rt; is_said(node_line(alloc, node, link, &mut desk), said));
-            assert!(rt; desk.file("out.pcap").is_none() && desk.file("report.txt").is_none());
-        }
+    let row = rows().first().expect(&rt, "a row");
+    for (node, link, said) in [
+        ("z", "ab", "names z"),
+        ("b", "zz", "names zz"),
+        ("b", "bc", "names bc"),
+    ] {
+        assert!(rt; is_refused(alloc, row, node, link, said).expect(&rt, "memory"));
     }
 }

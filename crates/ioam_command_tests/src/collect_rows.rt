@@ -1,9 +1,7 @@
 //! What `collect` reads and has to write, as rows.
-use ioam_answer::line;
 use ioam_base::memory::NoMemory;
-use ioam_collecting::run_collect;
-use ioam_desk::MemoryDesk;
-use ioam_test_rows::digits::words;
+use ioam_base::text::append;
+use ioam_test_rows::digits::octets;
 use std::alloc::Global;
 
 pub(crate) struct Row {
@@ -120,50 +118,41 @@ const VISITS: [(&str, &str); 3] = [
 
 const NUMBERS: [&str; 3] = ["00000002", "00000001", "00000000"];
 
-/// The parts of the records' octets, the last record first.
-pub(crate) fn visits() -> &'static [(&'static str, &'static str)] {
-    &VISITS
-}
-
-/// The numbers of the packets, the last first.
-pub(crate) fn numbers() -> &'static [&'static str] {
-    &NUMBERS
-}
-
-/// The report of these records where each was read twice.
-pub(crate) fn paths_report() -> &'static str {
-    "group 7 9 0 3
-  800000 hop=64 node=1 at=1000000000 from=10
-  800000 hop=63 node=2 at=1000001000 from=21
-  800000 hop=62 node=3 at=1000002000 from=32
-group 7 9 1 3
-  800000 hop=64 node=1 at=1000000000 from=10
-  800000 hop=63 node=2 at=1000001000 from=21
-  800000 hop=62 node=3 at=1000002000 from=32
-group 7 9 2 3
-  800000 hop=64 node=1 at=1000000000 from=10
-  800000 hop=63 node=2 at=1000001000 from=21
-  800000 hop=62 node=3 at=1000002000 from=32
-records 18 kept 9 repeats 9 unkeyed 0
-"
-}
-
-/// A desk with this file, which hands out so many octets at a time, and of which the numbered call fails.
-pub(crate) fn desk_with(
+// The records of these visits of a packet, each twice.
+fn put_records(
     alloc: Global,
-    exports: &[u8],
-    piece: usize,
-    call: u64,
-) -> Result<MemoryDesk, NoMemory> {
-    let mut desk = MemoryDesk::new(alloc)?;
-    desk.put_file("exports", exports)?;
-    desk.set_piece(piece.max(1));
-    desk.fail_call(call)?;
-    Ok(desk)
+    number: &str,
+    visits: &[(&str, &str)],
+    out: &mut Vec<u8>,
+) -> Result<(), NoMemory> {
+    for (head, element) in visits {
+        let record = octets(alloc, &[*head, number, *element, *head, number, *element])?;
+        append(out, &record)?;
+    }
+    Ok(())
 }
 
-/// The line of a run of `collect` over these files.
-pub(crate) fn collected(alloc: Global, desk: &mut MemoryDesk) -> Result<String, NoMemory> {
-    let collect = words(alloc, &["collect", "exports", "report.txt"])?;
-    line(alloc, &run_collect(alloc, &collect, desk))
+/// The octets of three packets' records, the last record first, each twice.
+pub(crate) fn reversed_and_doubled(alloc: Global) -> Result<Vec<u8>, NoMemory> {
+    let mut exports = Vec::new(alloc);
+    for number in NUMBERS {
+        put_records(alloc, number, &VISITS, &mut exports)?;
+    }
+    Ok(exports)
+}
+
+const PATH: &str = "  800000 hop=64 node=1 at=1000000000 from=10
+  800000 hop=63 node=2 at=1000001000 from=21
+  800000 hop=62 node=3 at=1000002000 from=32
+";
+
+/// Their report.
+pub(crate) fn paths_report(alloc: Global) -> Result<Vec<u8>, NoMemory> {
+    let mut report = Vec::new(alloc);
+    for head in ["group 7 9 0 3\n", "group 7 9 1 3\n", "group 7 9 2 3\n"] {
+        append(&mut report, head.as_bytes())?;
+        append(&mut report, PATH.as_bytes())?;
+    }
+    append(&mut report, b"records 18 kept 9 repeats 9 unkeyed 0\n")?;
+    Ok(report)
 }
