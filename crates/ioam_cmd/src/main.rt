@@ -6,7 +6,7 @@ use ioam_base::memory::NoMemory;
 use ioam_base::name::Name;
 use ioam_batch::OpenGate;
 use ioam_desk::{Fault, FileSystem, HostDesk};
-use ioam_program::ioam_plainly;
+use ioam_program::ioam;
 use std::alloc::Global;
 use std::env;
 use std::io::ErrorKind;
@@ -18,7 +18,7 @@ use std::process::ExitCode;
 fn main(rt: HostRuntime) -> ExitCode {
     let mut desk = HostDesk::new(&rt, rt.alloc());
     let outcome = match words_of(&rt) {
-        Ok(words) => ioam_plainly(&rt, rt.alloc(), &words, &mut desk, &OpenGate),
+        Ok(words) => ioam(&rt, rt.alloc(), &words, &mut desk, &OpenGate),
         Err(outcome) => outcome,
     };
     let fault = fault_line(rt.alloc(), &desk, &outcome);

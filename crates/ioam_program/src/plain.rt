@@ -1,5 +1,5 @@
-//! The top call for `main` and tests, which ask for none of its clauses. It stands in a file of its own, so that
-//! their proofs don't read what the clauses speak of.
+//! The top call for tests, which ask for none of its clauses. It stands in a file of its own, so that the proof of a test
+//! doesn't read what the clauses speak of.
 use crate::program::ioam;
 use ioam_answer::Outcome;
 use ioam_base::name::Name;
