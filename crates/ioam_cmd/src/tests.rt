@@ -6,6 +6,7 @@ use ioam_base::memory::NoMemory;
 use ioam_batch::{Gate, OpenGate};
 use ioam_desk::{Desk, MemoryDesk, SureDesk};
 use ioam_program::ioam_plainly;
+use ioam_test_desks::is_said;
 use ioam_test_rows::digits::{joined, octets, text, words};
 use ioam_test_rows::flow_rows::{File, FlowRow, first_row};
 use std::alloc::Global;
@@ -32,10 +33,7 @@ pub(crate) fn answers<R: Threads + Sync, D: Desk, G: Gate>(
     gate: &G,
     said: &str,
 ) -> bool {
-    match line_of(rt, alloc, texts, desk, gate) {
-        Ok(line) => line.as_str() == said,
-        Err(_) => false,
-    }
+    is_said(line_of(rt, alloc, texts, desk, gate), said)
 }
 
 // A run with three workers.
@@ -71,7 +69,8 @@ fn run_over_a_desk_that_never_fails(rt: HostRuntime) {
     assert!(rt; answers(&rt, alloc, &RUN_BY_THREE, &mut desk, &OpenGate, "done"));
     assert!(rt; desk.file("report.txt") == Some(report.as_slice()));
     for file in row.files {
-        assert!(rt; holds(alloc, &desk, file).expect(&rt, "memory"));
+        let is_held = holds(alloc, &desk, file).expect(&rt, "memory");
+        assert!(rt; is_held, "at {}", file.name);
     }
 }
 
@@ -97,7 +96,8 @@ fn is_refused<R: Threads + Sync>(rt: &R, alloc: Global, row: &Refusal) -> Result
 #[test]
 fn equal_names_and_other_words_open_nothing(rt: HostRuntime) {
     let alloc = rt.alloc();
-    for row in refusals() {
-        assert!(rt; is_refused(&rt, alloc, row).expect(&rt, "memory"));
+    for (place, row) in refusals().iter().enumerate() {
+        let refused = is_refused(&rt, alloc, row).expect(&rt, "memory");
+        assert!(rt; refused, "at row {place}, {}", row.line);
     }
 }

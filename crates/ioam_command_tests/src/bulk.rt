@@ -1,12 +1,13 @@
 //! What `bulk` writes.
 ghost use Rattle.std.specs.Prelude.{◌≤◌};
 
-use crate::desks::{are_same, copied, is_said};
+use crate::desks::copied;
 use ioam_answer::line;
 use ioam_base::memory::NoMemory;
 use ioam_batch::OpenGate;
 use ioam_bulk::bulk_plainly;
 use ioam_desk::MemoryDesk;
+use ioam_test_desks::{are_same, is_said};
 use ioam_test_rows::digits::{is_front, words};
 use std::alloc::Global;
 use std::thread::Threads;

@@ -5,6 +5,7 @@ use ioam_base::memory::NoMemory;
 use ioam_collecting::collect_plainly;
 use ioam_desk::MemoryDesk;
 use ioam_run::{filter_plainly, paths_plainly, save_plainly, show_plainly};
+use ioam_test_desks::{holds, is_said, put, set_up};
 use ioam_test_rows::digits::{is_front, words};
 use std::alloc::Global;
 
@@ -58,17 +59,6 @@ pub(crate) fn line_of(
     }
 }
 
-/// Puts a file onto a desk.
-pub(crate) fn put(desk: &mut MemoryDesk, name: &str, octets: &[u8]) -> Result<(), NoMemory> {
-    desk.put_file(name, octets)
-}
-
-/// Lets a desk move so many octets at a time, and the numbered call fail.
-pub(crate) fn set_up(desk: &mut MemoryDesk, piece: usize, call: u64) -> Result<(), NoMemory> {
-    desk.set_piece(piece.max(1));
-    desk.fail_call(call)
-}
-
 /// A desk with this capture.
 pub(crate) fn desk_with(
     alloc: Global,
@@ -82,30 +72,13 @@ pub(crate) fn desk_with(
     Ok(desk)
 }
 
-/// Whether an answer's line is there and is this text.
-pub(crate) fn is_said(line: Result<String, NoMemory>, said: &str) -> bool {
-    match line {
-        Ok(line) => line.as_str() == said,
-        Err(_) => false,
+/// Whether the outputs that a command writes are there and hold these octets, and it wrote no other.
+pub(crate) fn are_held(command: Command, desk: &MemoryDesk, out: &[u8], report: &[u8]) -> bool {
+    match command {
+        Command::Filter => holds(desk, "out", out) && holds(desk, "report.txt", report),
+        Command::Save => holds(desk, "out", out) && desk.file("report.txt").is_none(),
+        _ => desk.file("out").is_none() && holds(desk, "report.txt", report),
     }
-}
-
-/// Whether these octets are the same. The proof of a test that compares a long text itself takes long.
-pub(crate) fn are_same(octets: &[u8], others: &[u8]) -> bool {
-    octets == others
-}
-
-/// Whether a file of a desk holds these octets. One that isn't there holds none.
-pub(crate) fn holds(desk: &MemoryDesk, name: &str, octets: &[u8]) -> bool {
-    match desk.file(name) {
-        Some(held) => held == octets,
-        None => octets.is_empty(),
-    }
-}
-
-/// Whether the outputs hold these octets.
-pub(crate) fn are_held(desk: &MemoryDesk, out: &[u8], report: &[u8]) -> bool {
-    holds(desk, "out", out) && holds(desk, "report.txt", report)
 }
 
 /// Whether each output, if it is there, holds a front of these octets.
@@ -129,7 +102,7 @@ pub(crate) fn is_so(
 ) -> Result<bool, NoMemory> {
     let mut desk = desk_with(alloc, input, piece, 0)?;
     let is_said = is_said(line_of(alloc, command, &mut desk), said);
-    Ok(is_said && are_held(&desk, outputs.0, outputs.1))
+    Ok(is_said && are_held(command, &desk, outputs.0, outputs.1))
 }
 
 /// What a file of a desk holds. One that isn't there holds none.

@@ -89,7 +89,8 @@ fn read_fell(
     let reads = call.saturating_sub(row.opens).saturating_sub(1);
     let (out, report) = outputs_of(row.command, reads.saturating_mul(piece as u64));
     let out = octets(alloc, out)?;
-    Ok(or_wrong(are_held(desk, &out, report.as_bytes()), Fell::Read))
+    let are_held = are_held(row.command, desk, &out, report.as_bytes());
+    Ok(or_wrong(are_held, Fell::Read))
 }
 
 // A failed write leaves a front of each output.
@@ -104,7 +105,8 @@ fn other_fell(
     if line == "write fault" {
         return Ok(or_wrong(are_begun(desk, &out, report), Fell::Write));
     }
-    Ok(or_wrong(line == row.said && are_held(desk, &out, report), Fell::Not))
+    let are_held = are_held(row.command, desk, &out, report);
+    Ok(or_wrong(line == row.said && are_held, Fell::Not))
 }
 
 // What becomes of a run of which the numbered call fails.

@@ -7,21 +7,11 @@ use ioam_base::memory::NoMemory;
 use ioam_batch::OpenGate;
 use ioam_desk::MemoryDesk;
 use ioam_domain::domain_plainly;
+use ioam_test_desks::{holds, put};
 use ioam_test_rows::digits::{joined, octets, text, words};
 use ioam_test_rows::flow_rows::File;
 use std::alloc::Global;
 use std::thread::Threads;
-
-/// Puts a file onto a desk.
-pub(crate) fn put(desk: &mut MemoryDesk, name: &str, octets: &[u8]) -> Result<(), NoMemory> {
-    desk.put_file(name, octets)
-}
-
-/// Lets a desk move so many octets at a time, and the numbered call fail.
-pub(crate) fn set_up(desk: &mut MemoryDesk, piece: usize, call: u64) -> Result<(), NoMemory> {
-    desk.set_piece(piece.max(1));
-    desk.fail_call(call)
-}
 
 /// A desk with a domain, its readings and the captures of two ports.
 pub(crate) fn desk_with(
@@ -81,27 +71,6 @@ pub(crate) fn line_by<R: Threads + Sync>(
     requires { (1 ≤ workers) × (workers ≤ 64) }
 {
     named_line(rt, alloc, workers, ("report.txt", "exports"), desk)
-}
-
-/// Whether an answer's line is there and is this text.
-pub(crate) fn is_said(line: Result<String, NoMemory>, said: &str) -> bool {
-    match line {
-        Ok(line) => line.as_str() == said,
-        Err(_) => false,
-    }
-}
-
-/// Whether these octets are the same.
-pub(crate) fn are_same(octets: &[u8], others: &[u8]) -> bool {
-    octets == others
-}
-
-/// Whether a file of a desk is there and holds these octets.
-pub(crate) fn holds(desk: &MemoryDesk, name: &str, octets: &[u8]) -> bool {
-    match desk.file(name) {
-        Some(held) => held == octets,
-        None => false,
-    }
 }
 
 // Whether each of these files holds what it should.

@@ -1,8 +1,9 @@
 //! What `run` writes. Octets and texts are written out by the rules.
-use crate::desks::{desk_of, desk_with, holds, is_said, line_by, named_line, set_up};
+use crate::desks::{desk_of, desk_with, line_by, named_line};
 use crate::run_refusals::{Refusal, domain_of, refusals};
 use ioam_base::memory::NoMemory;
 use ioam_desk::MemoryDesk;
+use ioam_test_desks::{holds, is_said, set_up};
 use ioam_test_rows::digits::{HEAD, octets, text};
 use ioam_test_rows::run_rows::{Row, rows};
 use std::alloc::Global;

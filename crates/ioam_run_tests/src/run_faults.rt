@@ -1,9 +1,10 @@
 //! Runs of which one call fails.
-use crate::desks::{holds, line_by};
+use crate::desks::line_by;
 use crate::failing::{Fell, or_wrong};
 use crate::run::row_desk;
 use ioam_base::memory::NoMemory;
 use ioam_desk::MemoryDesk;
+use ioam_test_desks::holds;
 use ioam_test_rows::digits::{is_front, octets};
 use ioam_test_rows::run_rows::{failing_row, reports};
 use std::alloc::Global;

@@ -1,5 +1,5 @@
 //! Runs over much: a capture of several MiB, and as many ports as a domain may have.
-use crate::desks::{desk_with, holds, is_said, line_by, put};
+use crate::desks::{desk_with, line_by};
 use crate::large_rows::{
     empty_capture, input_name, is_large_end, large_capture, large_left, one_packet, ports_domain,
     ports_left, ports_report,
@@ -7,6 +7,7 @@ use crate::large_rows::{
 use crate::run::row_desk;
 use ioam_base::memory::NoMemory;
 use ioam_desk::MemoryDesk;
+use ioam_test_desks::{holds, is_said, put};
 use ioam_test_rows::run_rows::failing_row;
 use std::alloc::Global;
 use std::thread::Threads;

@@ -1,10 +1,10 @@
 //! Runs of which one call fails.
-use crate::desks::set_up;
 use crate::failing::{Fell, or_wrong};
 use crate::transit::passing::{are_held, desk_for, node_line};
 use crate::transit::rows::{Passed, rows};
 use ioam_base::memory::NoMemory;
 use ioam_desk::MemoryDesk;
+use ioam_test_desks::set_up;
 use ioam_test_rows::digits::{is_front, octets};
 use std::alloc::Global;
 

@@ -1,9 +1,9 @@
 //! What `node` writes.
-use crate::desks::{holds, is_said, put, set_up};
 use crate::transit::rows::{Passed, rows, sectioned};
 use ioam_answer::line;
 use ioam_base::memory::NoMemory;
 use ioam_desk::MemoryDesk;
+use ioam_test_desks::{holds, is_said, put, set_up};
 use ioam_test_rows::digits::{octets, text, words};
 use ioam_test_rows::flow_rows::TRACED;
 use ioam_transit::node_plainly;
@@ -107,6 +107,7 @@ fn a_refused_place_is_named(rt: HostRuntime) {
         ("b", "zz", "names zz"),
         ("b", "bc", "names bc"),
     ] {
-        assert!(rt; is_refused(alloc, row, node, link, said).expect(&rt, "memory"));
+        let refused = is_refused(alloc, row, node, link, said).expect(&rt, "memory");
+        assert!(rt; refused, "at {said}");
     }
 }

@@ -1,8 +1,9 @@
 //! Long lines of nodes.
-use crate::desks::{desk_with, is_said, line_by};
+use crate::desks::{desk_with, line_by};
 use crate::filled::{Numbers, fill};
 use ioam_base::memory::NoMemory;
 use ioam_base::text::append;
+use ioam_test_desks::is_said;
 use ioam_test_rows::digits::{AT_ONE, HEAD, UDP, octets};
 use std::alloc::Global;
 use std::thread::Threads;

@@ -1,10 +1,11 @@
 //! Every number of workers writes the same.
 ghost use Rattle.std.specs.Prelude.{◌≤◌};
 
-use crate::desks::{are_same, desk_with, is_said, line_by};
+use crate::desks::{desk_with, line_by};
 use ioam_base::memory::NoMemory;
 use ioam_base::text::append;
 use ioam_desk::MemoryDesk;
+use ioam_test_desks::{are_same, is_said};
 use ioam_test_rows::digits::{AT_ONE, HEAD, UDP, octets, text};
 use ioam_test_rows::flow_rows::first_row;
 use std::alloc::Global;
