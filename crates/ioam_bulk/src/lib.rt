@@ -4,9 +4,7 @@
 mod bulk;
 mod generator;
 mod load;
-mod plain;
 mod report;
 mod terms;
 
 pub use bulk::run_bulk;
-pub use plain::bulk_plainly;

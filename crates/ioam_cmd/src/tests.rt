@@ -5,8 +5,7 @@ use ioam_answer::line;
 use ioam_base::memory::NoMemory;
 use ioam_batch::{Gate, OpenGate};
 use ioam_desk::{Desk, MemoryDesk, SureDesk};
-use ioam_program::ioam_plainly;
-use ioam_test_desks::is_said;
+use ioam_program::{ioam, ioam_surely};
 use ioam_test_rows::digits::{joined, octets, text, words};
 use ioam_test_rows::flow_rows::{File, FlowRow, first_row};
 use std::alloc::Global;
@@ -21,7 +20,15 @@ fn line_of<R: Threads + Sync, D: Desk, G: Gate>(
     gate: &G,
 ) -> Result<String, NoMemory> {
     let words = words(alloc, texts)?;
-    line(alloc, &ioam_plainly(rt, alloc, &words, desk, gate))
+    line(alloc, &ioam(rt, alloc, &words, desk, gate))
+}
+
+// Whether an answer's line is there and is this text.
+fn is_said(line: Result<String, NoMemory>, said: &str) -> bool {
+    match line {
+        Ok(line) => line.as_str() == said,
+        Err(_) => false,
+    }
 }
 
 // Whether a run of these words over a desk answers so.
@@ -54,6 +61,16 @@ fn desk_of(alloc: Global, row: &FlowRow) -> Result<SureDesk, NoMemory> {
     Ok(desk)
 }
 
+// The line of that run over it.
+fn sure_line<R: Threads + Sync>(
+    rt: &R,
+    alloc: Global,
+    desk: &mut SureDesk,
+) -> Result<String, NoMemory> {
+    let words = words(alloc, &RUN_BY_THREE)?;
+    line(alloc, &ioam_surely(rt, alloc, &words, desk, &OpenGate))
+}
+
 // Whether a file holds what it should.
 fn holds(alloc: Global, desk: &SureDesk, file: &File) -> Result<bool, NoMemory> {
     let wanted = joined(alloc, file.parts)?;
@@ -66,7 +83,7 @@ fn run_over_a_desk_that_never_fails(rt: HostRuntime) {
     let row = first_row();
     let report = text(alloc, row.report).expect(&rt, "text");
     let mut desk = desk_of(alloc, row).expect(&rt, "memory");
-    assert!(rt; answers(&rt, alloc, &RUN_BY_THREE, &mut desk, &OpenGate, "done"));
+    assert!(rt; is_said(sure_line(&rt, alloc, &mut desk), "done"));
     assert!(rt; desk.file("report.txt") == Some(report.as_slice()));
     for file in row.files {
         let is_held = holds(alloc, &desk, file).expect(&rt, "memory");

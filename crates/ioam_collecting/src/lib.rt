@@ -3,7 +3,5 @@
 
 mod collect;
 mod files;
-mod plain;
 
 pub use collect::run_collect;
-pub use plain::collect_plainly;

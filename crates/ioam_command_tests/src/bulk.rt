@@ -5,10 +5,9 @@ use crate::desks::copied;
 use ioam_answer::line;
 use ioam_base::memory::NoMemory;
 use ioam_batch::OpenGate;
-use ioam_bulk::bulk_plainly;
 use ioam_desk::MemoryDesk;
-use ioam_test_desks::{are_same, is_said};
 use ioam_test_rows::digits::{is_front, words};
+use ioam_test_runs::{are_same, bulk_plainly, is_said};
 use std::alloc::Global;
 use std::thread::Threads;
 

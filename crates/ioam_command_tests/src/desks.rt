@@ -2,11 +2,12 @@
 //! through the few functions here that own a desk or make a command's call, since their proofs take long.
 use ioam_answer::line;
 use ioam_base::memory::NoMemory;
-use ioam_collecting::collect_plainly;
 use ioam_desk::MemoryDesk;
-use ioam_run::{filter_plainly, paths_plainly, save_plainly, show_plainly};
-use ioam_test_desks::{holds, is_said, put, set_up};
 use ioam_test_rows::digits::{is_front, words};
+use ioam_test_runs::{
+    collect_plainly, filter_plainly, holds, is_said, paths_plainly, put, save_plainly, set_up,
+    show_plainly,
+};
 use std::alloc::Global;
 
 /// A command that reads `in.pcap`, and writes `out` or `report.txt` or both.

@@ -3,7 +3,5 @@
 
 mod answer;
 mod domain_run;
-mod plain;
 
 pub use domain_run::run_domain;
-pub use plain::domain_plainly;

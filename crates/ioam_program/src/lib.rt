@@ -6,9 +6,7 @@
 
 mod command;
 mod measured;
-mod plain;
 mod program;
 
 pub use measured::runs_are_collected;
-pub use plain::ioam_plainly;
 pub use program::{ioam, ioam_surely};

@@ -6,10 +6,9 @@ use ioam_answer::line;
 use ioam_base::memory::NoMemory;
 use ioam_batch::OpenGate;
 use ioam_desk::MemoryDesk;
-use ioam_domain::domain_plainly;
-use ioam_test_desks::{holds, put};
 use ioam_test_rows::digits::{joined, octets, text, words};
 use ioam_test_rows::flow_rows::File;
+use ioam_test_runs::{domain_plainly, holds, put};
 use std::alloc::Global;
 use std::thread::Threads;
 

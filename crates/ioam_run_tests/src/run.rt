@@ -3,9 +3,9 @@ use crate::desks::{desk_of, desk_with, line_by, named_line};
 use crate::run_refusals::{Refusal, domain_of, refusals};
 use ioam_base::memory::NoMemory;
 use ioam_desk::MemoryDesk;
-use ioam_test_desks::{holds, is_said, set_up};
 use ioam_test_rows::digits::{HEAD, octets, text};
 use ioam_test_rows::run_rows::{Row, rows};
+use ioam_test_runs::{holds, is_said, set_up};
 use std::alloc::Global;
 use std::thread::Threads;
 

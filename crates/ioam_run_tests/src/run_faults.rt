@@ -4,9 +4,9 @@ use crate::failing::{Fell, or_wrong};
 use crate::run::row_desk;
 use ioam_base::memory::NoMemory;
 use ioam_desk::MemoryDesk;
-use ioam_test_desks::holds;
 use ioam_test_rows::digits::{is_front, octets};
 use ioam_test_rows::run_rows::{failing_row, reports};
+use ioam_test_runs::holds;
 use std::alloc::Global;
 use std::thread::Threads;
 

@@ -7,8 +7,8 @@ use crate::large_rows::{
 use crate::run::row_desk;
 use ioam_base::memory::NoMemory;
 use ioam_desk::MemoryDesk;
-use ioam_test_desks::{holds, is_said, put};
 use ioam_test_rows::run_rows::failing_row;
+use ioam_test_runs::{holds, is_said, put};
 use std::alloc::Global;
 use std::thread::Threads;
 

@@ -9,11 +9,9 @@ mod judging;
 mod node_run;
 mod notes;
 mod passing;
-mod plain;
 mod post;
 mod sending;
 mod words;
 
 pub use node_run::run_node;
 pub use notes::put_notes;
-pub use plain::node_plainly;

@@ -4,8 +4,8 @@ use crate::transit::passing::{are_held, desk_for, node_line};
 use crate::transit::rows::{Passed, rows};
 use ioam_base::memory::NoMemory;
 use ioam_desk::MemoryDesk;
-use ioam_test_desks::set_up;
 use ioam_test_rows::digits::{is_front, octets};
+use ioam_test_runs::set_up;
 use std::alloc::Global;
 
 // Whether the outputs hold a front of each text.

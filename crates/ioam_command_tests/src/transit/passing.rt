@@ -3,10 +3,9 @@ use crate::transit::rows::{Passed, rows, sectioned};
 use ioam_answer::line;
 use ioam_base::memory::NoMemory;
 use ioam_desk::MemoryDesk;
-use ioam_test_desks::{holds, is_said, put, set_up};
 use ioam_test_rows::digits::{octets, text, words};
 use ioam_test_rows::flow_rows::TRACED;
-use ioam_transit::node_plainly;
+use ioam_test_runs::{holds, is_said, node_plainly, put, set_up};
 use std::alloc::Global;
 use std::process::Abort;
 

@@ -3,9 +3,9 @@ use crate::desks::{are_held, desk_of, desk_with, line_by};
 use crate::failing::{Fell, or_wrong};
 use ioam_base::memory::NoMemory;
 use ioam_desk::MemoryDesk;
-use ioam_test_desks::{is_said, set_up};
 use ioam_test_rows::digits::{is_front, joined, octets, text};
 use ioam_test_rows::flow_rows::{File, FlowRow, empty_row, first_row};
+use ioam_test_runs::{is_said, set_up};
 use std::alloc::Global;
 use std::thread::Threads;
 

@@ -2,10 +2,10 @@
 use crate::desks::{are_held, line_by};
 use crate::flow::faults::flow_desk;
 use ioam_base::memory::NoMemory;
-use ioam_test_desks::is_said;
 use ioam_test_rows::flow_ng_rows::{exported_in_blocks, in_blocks};
 use ioam_test_rows::flow_rows::{FlowRow, aware, looped, stopped, traced};
 use ioam_test_rows::flow_rows_more::{edged, endings, exporting, framed, limited, read, twice};
+use ioam_test_runs::is_said;
 use std::alloc::Global;
 use std::process::Abort;
 use std::thread::Threads;

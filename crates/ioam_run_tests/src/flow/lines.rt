@@ -3,8 +3,8 @@ use crate::desks::{desk_with, line_by};
 use crate::filled::{Numbers, fill};
 use ioam_base::memory::NoMemory;
 use ioam_base::text::append;
-use ioam_test_desks::is_said;
 use ioam_test_rows::digits::{AT_ONE, HEAD, UDP, octets};
+use ioam_test_runs::is_said;
 use std::alloc::Global;
 use std::thread::Threads;
 

@@ -5,9 +5,9 @@ use crate::desks::{desk_with, line_by};
 use ioam_base::memory::NoMemory;
 use ioam_base::text::append;
 use ioam_desk::MemoryDesk;
-use ioam_test_desks::{are_same, is_said};
 use ioam_test_rows::digits::{AT_ONE, HEAD, UDP, octets, text};
 use ioam_test_rows::flow_rows::first_row;
+use ioam_test_runs::{are_same, is_said};
 use std::alloc::Global;
 use std::thread::Threads;
 

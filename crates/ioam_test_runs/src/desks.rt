@@ -1,8 +1,5 @@
-//! What the tests of whole runs share: files on a desk in memory, and what an answer and a file are compared
-//! with. All of it stands behind functions, since the proof of a test that does the same itself takes longer.
-//! It has no part in the program.
-#![tactic(auto)]
-
+//! Files on a desk in memory, and what an answer and a file are compared with. It stands behind functions, since
+//! the proof of a test that does the same itself takes longer.
 use ioam_base::memory::NoMemory;
 use ioam_desk::MemoryDesk;
 

@@ -1,0 +1,90 @@
+//! Each command, without the clauses of its call, of which a test asks none. Whoever makes the call itself reads
+//! all that its clauses speak of, some 40,000 modules of the logic, which takes minutes.
+ghost use Rattle.std.specs.Prelude.{◌≡◌, ◌≤◌, length};
+
+use ioam_answer::Outcome;
+use ioam_base::name::Name;
+use ioam_batch::Gate;
+use ioam_bulk::run_bulk;
+use ioam_collecting::run_collect;
+use ioam_desk::Desk;
+use ioam_domain::run_domain;
+use ioam_run::{run_filter, run_paths, run_save, run_show};
+use ioam_transit::run_node;
+use std::alloc::Global;
+use std::thread::Threads;
+
+/// [`run_filter`], without its clauses.
+pub fn filter_plainly<D: Desk>(alloc: Global, words: &[Name], desk: &mut D) -> Outcome
+    requires { length words.now ≡ 4 }
+{
+    run_filter(alloc, words, desk)
+}
+
+/// [`run_paths`], without its clauses.
+pub fn paths_plainly<D: Desk>(alloc: Global, words: &[Name], desk: &mut D) -> Outcome
+    requires { length words.now ≡ 3 }
+{
+    run_paths(alloc, words, desk)
+}
+
+/// [`run_save`], without its clauses.
+pub fn save_plainly<D: Desk>(alloc: Global, words: &[Name], desk: &mut D) -> Outcome
+    requires { length words.now ≡ 3 }
+{
+    run_save(alloc, words, desk)
+}
+
+/// [`run_show`], without its clauses.
+pub fn show_plainly<D: Desk>(alloc: Global, words: &[Name], desk: &mut D) -> Outcome
+    requires { length words.now ≡ 3 }
+{
+    run_show(alloc, words, desk)
+}
+
+/// [`run_collect`], without its clauses.
+pub fn collect_plainly<D: Desk>(alloc: Global, words: &[Name], desk: &mut D) -> Outcome
+    requires { length words.now ≡ 3 }
+{
+    run_collect(alloc, words, desk)
+}
+
+/// [`run_node`], without its clauses.
+pub fn node_plainly<D: Desk>(alloc: Global, words: &[Name], desk: &mut D) -> Outcome
+    requires { length words.now ≡ 9 }
+{
+    run_node(alloc, words, desk)
+}
+
+/// [`run_domain`], without its clauses.
+pub fn domain_plainly<R: Threads + Sync, D: Desk, G: Gate>(
+    rt: &R,
+    alloc: Global,
+    workers: u32,
+    words: &[Name],
+    desk: &mut D,
+    gate: &G,
+) -> Outcome
+    requires sized { length words.now ≡ 6 }
+    requires staffed { (1 ≤ workers) × (workers ≤ 64) }
+{
+    run_domain(rt, alloc, workers, words, desk, gate)
+}
+
+/// [`run_bulk`], without its clauses.
+pub fn bulk_plainly<R: Threads + Sync, D: Desk, G: Gate>(
+    rt: &R,
+    alloc: Global,
+    seed: u64,
+    count: u32,
+    workers: u32,
+    words: &[Name],
+    desk: &mut D,
+    gate: &G,
+) -> Outcome
+    requires words { length words.now ≡ 5 }
+    requires count { (1 ≤ count) × (count ≤ 1000000) }
+    requires staffed { (1 ≤ workers) × (workers ≤ 64) }
+{
+    run_bulk(rt, alloc, seed, count, workers, words, desk, gate)
+}

@@ -1,0 +1,11 @@
+//! What the tests of whole runs share. It has no part in the program.
+#![tactic(auto)]
+
+mod calls;
+mod desks;
+
+pub use calls::{
+    bulk_plainly, collect_plainly, domain_plainly, filter_plainly, node_plainly, paths_plainly,
+    save_plainly, show_plainly,
+};
+pub use desks::{are_same, holds, is_said, put, set_up};
