@@ -1,4 +1,4 @@
-ghost use Rattle.std.specs.Prelude.{◌≡◌, ◌≢◌, ◌<◌, Err, None, Some, false, length, IfOk, IfErr, IfSome, OnErr, option_map};
+ghost use Rattle.std.specs.Prelude.{◌≡◌, ◌≢◌, ◌<◌, Err, None, Some, false, length, IfOk, IfErr, IfSome, OnOk, OnErr, option_map};
 ghost use Rattle.std.specs.Io.KnownBytes.{ReadConsumes, WriteAppends};
 ghost use Rattle.ioam_desk.specs.Desk.{OpenIn, ReadInto, OpenOut, WriteFrom, holds};
 ghost use Rattle.ioam_desk.specs.HostDesk.{untold_reading, untold_writing, reading_of, writing_of, inputs_of, outputs_of, read_fault_name, write_fault_name, read_fault_reason, write_fault_reason, AddsOpened, IsTakenAnew, IsOfSome};
@@ -116,6 +116,7 @@ impl<'a, R: FileSystem> Desk for HostDesk<'a, R> {
             result (inputs_of self.new) }
         ensures others { self.new.outputs ≡ self.old.outputs }
         ensures named { result ≡ Err DeskFault.Failed → read_fault_name self.new ≡ Some name.now }
+        ensures last { result ≢ Err DeskFault.Failed → self.new.inputs.last ≡ self.old.inputs.last }
     {
         match self.inputs.make_room(self.alloc, name) {
             Ok(names) => {
@@ -140,6 +141,7 @@ impl<'a, R: FileSystem> Desk for HostDesk<'a, R> {
         ensures others { self.new.outputs ≡ self.old.outputs }
         ensures named { OnErr result (read_fault_name self.new ≡ slot_name self.old.inputs slot) }
         ensures reason { OnErr result (IfSome (read_fault_reason self.new) IsOfRead) }
+        ensures last { OnOk result (self.new.inputs.last ≡ self.old.inputs.last) }
     {
         self.inputs.read(slot, into)
     }
@@ -159,6 +161,7 @@ impl<'a, R: FileSystem> Desk for HostDesk<'a, R> {
         ensures refused { result ≡ Err DeskFault.Failed
             → IfSome (write_fault_reason self.new) (IsRefusal (IsOfSome (λ file. R.is_created file name.now) R.is_identified)
             (inputs_of self.old) (outputs_of self.old)) }
+        ensures last { result ≢ Err DeskFault.Failed → self.new.outputs.last ≡ self.old.outputs.last }
     {
         match self.outputs.make_room(self.alloc, name) {
             Ok(names) => {
@@ -183,6 +186,7 @@ impl<'a, R: FileSystem> Desk for HostDesk<'a, R> {
         ensures others { self.new.inputs ≡ self.old.inputs }
         ensures named { OnErr result (write_fault_name self.new ≡ slot_name self.old.outputs slot) }
         ensures reason { OnErr result (IfSome (write_fault_reason self.new) IsOfWrite) }
+        ensures last { OnOk result (self.new.outputs.last ≡ self.old.outputs.last) }
     {
         self.outputs.write(slot, from)
     }

@@ -75,6 +75,7 @@ impl<F: Drop> HostSide<F> {
         ensures numbers { OnOk result (vec_len self.new.slots < 2 ^ 32) }
         ensures unchanged { side_of self.new ≡ side_of self.old }
         ensures slots { self.new.slots.items ≡ self.old.slots.items }
+        ensures last { self.new.last ≡ self.old.last }
     {
         if u32::try_from(self.slots.len()).is_err() {
             return Err(NoMemory);
@@ -102,6 +103,7 @@ impl<F: Drop> HostSide<F> {
             (λ _. (result ≡ Err Failed) × (self.new.slots.items ≡ self.old.slots.items)) }
         ensures fault { OnErr opened (fault_name self.new ≡ Some names.0) }
         ensures reason { IfErr opened (λ reason. fault_reason self.new ≡ Some reason) }
+        ensures last { OnOk opened (self.new.last ≡ self.old.last) }
     {
         let (asked, name) = names;
         let at = self.asked.len();
@@ -165,6 +167,7 @@ impl<F: Read + Drop> HostSide<F> {
             (λ before after. ReadConsumes (F.remaining before) (F.remaining after) result into.new) }
         ensures fault { OnErr result (fault_name self.new ≡ slot_name self.old slot) }
         ensures reason { OnErr result (IfSome (fault_reason self.new) IsOfRead) }
+        ensures last { OnOk result (self.new.last ≡ self.old.last) }
     {
         match self.slots[slot as usize].opened.file.read(into) {
             Ok(count) => Ok(count),
@@ -183,6 +186,7 @@ impl<F: Write + Drop> HostSide<F> {
             (λ before after. WriteAppends (F.contents before) (F.contents after) result from.now) }
         ensures fault { OnErr result (fault_name self.new ≡ slot_name self.old slot) }
         ensures reason { OnErr result (IfSome (fault_reason self.new) IsOfWrite) }
+        ensures last { OnOk result (self.new.last ≡ self.old.last) }
     {
         match self.slots[slot as usize].opened.file.write(from) {
             Ok(0) => Err(self.failed(Place::Slot(slot), Reason::TakesNone)),
