@@ -17,7 +17,8 @@ use Rattle.ioam_setting.specs.declared.setting.Refusal.TheVariants as refusal
 use Rattle.ioam_topo.specs.declared.domain.Domain.{Domain}
 use Rattle.ioam_entries.specs.declared.fault.DomainFault.{DomainFault}
 use Rattle.ioam_traffic.specs.Traffic.{AllOpened}
-use Rattle.ioam_domain.specs.Ends.{Ends, refused_as}
+use Rattle.ioam_setting.specs.Answer.{refused_as}
+use Rattle.ioam_domain.specs.Ends.{Ends}
 use Rattle.ioam_domain.specs.Run.{HasCause, Asked, Leaves, Asks, OpensNone, OpensInputs, AreDrained, IsBounded, IsRefusal, IsUnset, HaveDiffered, Owes, IsSet, domain_file, readings_file, run_files, run_inputs, run_outputs}
 use Rattle.ioam_domain.proofs.AskedLaws.{HasCause-asked}
 use Rattle.ioam_domain.proofs.BoundLaws.{Leaves-bounded}

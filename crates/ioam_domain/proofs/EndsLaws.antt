@@ -14,6 +14,7 @@ use Rattle.ioam_answer.specs.declared.outcome.Outcome.{Outcome}
 use Rattle.ioam_answer.specs.declared.outcome.Outcome.TheVariants as outcome
 use Rattle.ioam_answer.specs.Outcomes.{IsDone}
 use Rattle.ioam_setting.proofs.NamesLaws.{apart-words}
+use Rattle.ioam_setting.specs.Answer.{refused_as}
 use Rattle.ioam_setting.specs.Names.{input_ports}
 use Rattle.ioam_setting.specs.Setting.{Refuses}
 use Rattle.ioam_setting.specs.declared.setting.Refusal.{Refusal}
@@ -22,7 +23,7 @@ use Rattle.ioam_topo.specs.Domain.{links, ports}
 use Rattle.ioam_topo.specs.declared.domain.Domain.{Domain}
 use Rattle.ioam_entries.specs.declared.fault.DomainFault.{DomainFault}
 use Rattle.ioam_traffic.specs.Traffic.{Course, HoldsAll, HoldsFronts, ArePassed, AreOpened, Arrive}
-use Rattle.ioam_domain.specs.Ends.{Ends, begins, refused_as}
+use Rattle.ioam_domain.specs.Ends.{Ends, begins}
 use Rattle.ioam_domain.specs.Run.{HasCause, IsUnset, Says, HaveDiffered, HoldsFiles, contents, Leaves, OfTraffic, AreDrained, IsSet, IsReady, domain_file, readings_file, run_files, run_inputs, run_outputs, word_files, course_for}
 use Rattle.ioam_domain.proofs.FilesLaws.{files_held}
 

@@ -5,8 +5,6 @@ use Rattle.ioam_desk.specs.Desk.{Reading, Writing}
 use Rattle.ioam_outputs.specs.Names.{name_at, AreApart, IsFirstRepeat}
 use Rattle.ioam_answer.specs.declared.outcome.Outcome.{Outcome}
 use Rattle.ioam_answer.specs.declared.outcome.Outcome.TheVariants as outcome
-use Rattle.ioam_setting.specs.declared.setting.Refusal.{Refusal}
-use Rattle.ioam_setting.specs.declared.setting.Refusal.TheVariants as refusal
 use Rattle.ioam_setting.specs.Names.{input_ports}
 use Rattle.ioam_topo.specs.Domain.{ports}
 use Rattle.ioam_topo.specs.declared.domain.Domain.{Domain}
@@ -14,13 +12,6 @@ use Rattle.ioam_traffic.specs.Traffic.{Course, begun, Finishes}
 use Rattle.ioam_traffic.specs.declared.halt.Halt.{Halt}
 use Rattle.ioam_traffic.specs.declared.halt.Halt.TheVariants as halt
 use Rattle.ioam_domain.specs.Run.{IsLimit, run_files, run_outputs, run_inputs}
-
--- the answer to a refusal of what a run is set by
-abbrev pub refused_as : Refusal → Outcome
-refused_as (refusal.Domain fault) = outcome.Domain fault
-refused_as (refusal.Readings fault) = outcome.Readings fault
-refused_as refusal.ReadFault = outcome.ReadFault
-refused_as refusal.NoMemory = outcome.NoMemory
 
 -- where the traffic of a domain begins that was read
 abbrev pub begins : Bool → List (List ℕ) → Domain → List (List Sample) → Reading → Writing → Course

@@ -15,7 +15,6 @@ ghost use Rattle.ioam_traffic.specs.Traffic.{AllOpened};
 ghost use Rattle.ioam_domain.specs.Ends.{Ends};
 ghost use Rattle.ioam_domain.specs.Run.{HasCause, Asked, Leaves, Asks, OpensNone, AreDrained, IsBounded, IsRefusal, Owes, HaveDiffered, domain_file, readings_file, report_file, exports_file, run_files, run_inputs, run_outputs};
 
-use crate::answer::refused;
 use ioam_answer::Outcome;
 use ioam_base::memory::NoMemory;
 use ioam_base::name::Name;
@@ -24,7 +23,7 @@ use ioam_clock::Readings;
 use ioam_desk::Desk;
 use ioam_outputs::first_repeat;
 use ioam_setting::{
-    Refusal, Setting, file_names, input_names, input_ports, output_names, read_setting,
+    Refusal, Setting, file_names, input_names, input_ports, output_names, read_setting, refused,
 };
 use ioam_topo::Domain;
 use ioam_traffic::{Halt, run_traffic};

@@ -38,6 +38,11 @@ pub passed : (test : ℕ → Bool) (r : Result ℕ Why) (x : ℕ) → r ▷ pass
 passed test (Ok n) x is = let both : (test n ≡ true) × (n ≡ x) = tested (test n) n x is in ap test (sym both.1) ∙ both.0
 passed test (Err why) x is = cc
 
+-- and was that number before
+pub passed_from : (test : ℕ → Bool) (r : Result ℕ Why) (x : ℕ) → r ▷ passing test ≡ Ok x → r ≡ Ok x
+passed_from test (Ok n) x is = ap Ok (tested (test n) n x is).1
+passed_from test (Err why) x is = cc
+
 pub beside_off : {A : Type 0} (other : Bool) (r : Result (Option A) Why) (x : Option A) → r ▷ beside other ≡ Ok x → r ≡ Ok x
 beside_off true (Ok None) x is = cc
 beside_off false (Ok None) x is = is

@@ -128,6 +128,7 @@ bulk_flow_is = record {
   few_traces = omega arith;
   traces_sound = one IsFlowTrace _ (record { kind_is = refl; capacity_some = omega arith; capacity_most = omega arith });
   traces_apart = λ i j d lt within. absurd (omega (arith, lt, within));
+  edge_some = for_one (λ kind. 1 ≤ kind) 16384 (omega arith);
   edge_type = for_one (λ kind. is_edge_type kind ≡ true) 16384 refl;
   direct_type = for_one (λ kind. is_direct_type kind ≡ true) 8388608 refl;
   every_some = for_one (λ n. 1 ≤ n) 4 (omega arith);

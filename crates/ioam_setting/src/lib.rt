@@ -1,8 +1,10 @@
 //! What a run over a domain is set by: its domain file, its readings, and the names of its files.
 #![tactic(auto)]
 
+mod answer;
 mod names;
 mod setting;
 
+pub use answer::refused;
 pub use names::{file_names, input_names, input_ports, output_names};
 pub use setting::{Refusal, Setting, read_setting};

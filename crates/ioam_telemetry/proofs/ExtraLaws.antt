@@ -163,6 +163,7 @@ flow_more flow t is sound here few others = record {
   few_traces = omega (arith, few, length-append flow.traces (t ∷ []));
   traces_sound = All-push IsFlowTrace flow.traces t is.traces_sound sound;
   traces_apart = all_pairs_push (λ a b. a.namespace.0 ≢ b.namespace.0) flow.traces t is.traces_apart others;
+  edge_some = is.edge_some;
   edge_type = is.edge_type;
   direct_type = is.direct_type;
   every_some = is.every_some;

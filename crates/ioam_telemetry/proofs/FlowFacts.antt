@@ -14,7 +14,7 @@ use Rattle.ioam_topo.specs.declared.parts.Flow.{Flow}
 use Rattle.ioam_topo.specs.Sound.{IsFlow}
 use Rattle.ioam_topo.proofs.TracesLaws.{own_first, own_few, own_sound, own_apart}
 use Rattle.ioam_entries.specs.Goods.{goods}
-use Rattle.ioam_entries.proofs.ReadLaws.{number_bounds, needed_bounds, passed, beside_off, maybe_for, paired}
+use Rattle.ioam_entries.proofs.ReadLaws.{number_bounds, needed_bounds, passed, passed_from, beside_off, maybe_for, paired}
 use Rattle.ioam_entries.proofs.GoodsLaws.{goods_all}
 use Rattle.ioam_telemetry.specs.declared.flow_parts.Selection.{Selection}
 use Rattle.ioam_telemetry.specs.declared.flow_parts.Outer.{Outer}
@@ -40,6 +40,7 @@ record IsTracing (t : Tracing) : Type 0 where
   least : ForSome t.capacity (λ n. 1 ≤ n)
   most : ForSome t.capacity (λ n. n ≤ 61)
   both : is_some t.capacity ≡ is_some t.trace
+  edge_least : ForSome t.edge (λ kind. 1 ≤ kind)
   edge_kind : ForSome t.edge (λ kind. is_edge_type kind ≡ true)
 
 record IsExporting (e : Exporting) : Type 0 where
@@ -90,6 +91,7 @@ module _ (m : Members) where
         least = maybe_for (number 1 61) (λ n. 1 ≤ n) (λ d n read. (number_bounds 1 61 d n read).0) (get_member (codes "capacity") m) y capacity;
         most = maybe_for (number 1 61) (λ n. n ≤ 61) (λ d n read. (number_bounds 1 61 d n read).1) (get_member (codes "capacity") m) y capacity;
         both = paired trace_type (number 1 61) (is_some (get_member (codes "capacity") m)) (get_member (codes "trace") m) (get_member (codes "capacity") m) x y (λ on. on) a b;
+        edge_least = maybe_for edge_type (λ k. 1 ≤ k) (λ d n read. (number_bounds 1 65535 d n (passed_from is_edge_type (number 1 65535 d) n read)).0) (get_member (codes "edge") m) z c;
         edge_kind = maybe_for edge_type (λ k. is_edge_type k ≡ true) (λ d n read. passed is_edge_type (number 1 65535 d) n read) (get_member (codes "edge") m) z c;
       }) is
 
@@ -128,6 +130,7 @@ flow_read (Ok n) (Ok s) (Ok o) (Ok t) (Ok x) flow around traced exported is =
       few_traces = let few = own_few (record { 0 = s.namespace }) t.trace t.capacity in omega (arith, few);
       traces_sound = own_sound (record { 0 = s.namespace }) t.trace t.capacity g.kind g.least g.most;
       traces_apart = own_apart (record { 0 = s.namespace }) t.trace t.capacity;
+      edge_some = g.edge_least;
       edge_type = g.edge_kind;
       direct_type = h.kind;
       every_some = h.least;

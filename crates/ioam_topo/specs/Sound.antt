@@ -34,6 +34,7 @@ pub record IsFlow (flow : Flow) : Type 0 where
   pub few_traces : length flow.traces ≤ 3
   pub traces_sound : All IsFlowTrace flow.traces
   pub traces_apart : AreOfOwnSpaces flow.traces
+  pub edge_some : ForSome flow.edge (λ kind. 1 ≤ kind)
   pub edge_type : ForSome flow.edge (λ kind. is_edge_type kind ≡ true)
   pub direct_type : ForSome flow.direct (λ kind. is_direct_type kind ≡ true)
   pub every_some : ForSome flow.every (λ n. 1 ≤ n)

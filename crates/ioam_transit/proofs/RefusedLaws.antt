@@ -11,7 +11,8 @@ use Rattle.ioam_entries.specs.declared.fault.DomainFault.{DomainFault}
 use Rattle.ioam_setting.specs.Setting.{Refuses}
 use Rattle.ioam_setting.specs.declared.setting.Refusal.{Refusal}
 use Rattle.ioam_setting.specs.declared.setting.Refusal.TheVariants as refusal
-use Rattle.ioam_transit.specs.Run.{HasCause, HaveDiffered, IsUntouched, Leaves, Owes, refused_as, domain_file, readings_file, input_file}
+use Rattle.ioam_setting.specs.Answer.{refused_as}
+use Rattle.ioam_transit.specs.Run.{HasCause, HaveDiffered, IsUntouched, Leaves, Owes, domain_file, readings_file, input_file}
 
 take_none : (n : ℕ) → take {A = List ℕ} n [] ≡ []
 take_none zero = refl

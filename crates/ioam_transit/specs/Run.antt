@@ -15,9 +15,9 @@ use Rattle.ioam_pcap.specs.Ending.{Whole, Faulty}
 use Rattle.ioam_pcap.specs.Entries.{Taken}
 use Rattle.ioam_pcap.specs.Text.{IsSendable, capture_text}
 use Rattle.ioam_run.specs.Run.{IsInput, IsLong, HoldsAll, HoldsFronts, EndsSo, ArePassed, AreWhole}
+use Rattle.ioam_setting.specs.Answer.{refused_as}
 use Rattle.ioam_setting.specs.Setting.{HasDomainFault, HasReadingsFault, IsSetting}
 use Rattle.ioam_setting.specs.declared.setting.Refusal.{Refusal}
-use Rattle.ioam_setting.specs.declared.setting.Refusal.TheVariants as refusal
 use Rattle.ioam_topo.specs.Domain.{links, node_of_name, link_of_name}
 use Rattle.ioam_topo.specs.declared.domain.Domain.{Domain}
 use Rattle.ioam_topo.specs.declared.ids.NodeId.{NodeId}
@@ -25,13 +25,6 @@ use Rattle.ioam_topo.specs.declared.parts.Link.{Link}
 use Rattle.ioam_transit.specs.NodeText.{NodeTexts, sent_of}
 use Rattle.ioam_transit.specs.Passage.{Passage, LeavesClean}
 use Rattle.ioam_transit.specs.Seat.{Seat}
-
--- the answer to a refusal of what a run is set by
-abbrev pub refused_as : Refusal → Outcome
-refused_as (refusal.Domain fault) = outcome.Domain fault
-refused_as (refusal.Readings fault) = outcome.Readings fault
-refused_as refusal.ReadFault = outcome.ReadFault
-refused_as refusal.NoMemory = outcome.NoMemory
 
 -- what the words name
 abbrev pub domain_file : List (List ℕ) → List ℕ

@@ -4,7 +4,6 @@
 //! it says of it to each output, and `run_node` reads the files that say which node it is.
 #![tactic(auto)]
 
-mod answer;
 mod judging;
 mod node_run;
 mod notes;

@@ -14,7 +14,6 @@ ghost use Rattle.ioam_transit.specs.Ends.{Ends, EndsAt, Ran};
 ghost use Rattle.ioam_transit.specs.Run.{Asked, Asks, AreDrained, HasCause, HaveDiffered, IsBounded, Leaves, Owes, domain_file, node_files, readings_file};
 ghost use Rattle.ioam_transit.specs.Seat.{seat_at};
 
-use crate::answer::refused;
 use crate::passing::Passing;
 use crate::post::Post;
 use crate::words::{inward_of, node_files};
@@ -23,7 +22,7 @@ use ioam_base::name::Name;
 use ioam_desk::Desk;
 use ioam_outputs::first_repeat;
 use ioam_run::run_capture;
-use ioam_setting::{Refusal, Setting, read_setting};
+use ioam_setting::{Refusal, Setting, read_setting, refused};
 use ioam_topo::NodeId;
 use std::alloc::Global;
 

@@ -1,8 +1,8 @@
 ghost use Rattle.std.specs.Prelude.{◌≡◌};
-ghost use Rattle.ioam_domain.specs.Ends.{refused_as};
+ghost use Rattle.ioam_setting.specs.Answer.{refused_as};
 
+use crate::setting::Refusal;
 use ioam_answer::Outcome;
-use ioam_setting::Refusal;
 
 /// The answer to a refusal of the domain file or of the readings.
 pub fn refused(refusal: Refusal) -> Outcome
