@@ -4,7 +4,7 @@
 #     bench/planted.sh [NAME..]
 # The kit tries forty bodies in one check, which it cuts off after four minutes; most of these crates are too large
 # for that, so that their bodies count as not run. Here eight are tried at a time, in at most a quarter of an hour. Where
-# `rt check` has proved a crate it takes one to ten minutes, all of them some two hours on one core. A plant writes
+# `rt check` has proved a crate it takes one to ten minutes, all of them some three hours on one core. A plant writes
 # the out/ of its crate, and those below it wait, so several crates at a time want a clone each. The status is 1
 # where a crate was not tried to its end.
 set -u
