@@ -8,6 +8,7 @@ use ioam_desk::{Desk, MemoryDesk, SureDesk};
 use ioam_program::{ioam, ioam_surely};
 use ioam_test_rows::digits::{joined, octets, text, words};
 use ioam_test_rows::flow_rows::{File, FlowRow, first_row};
+use ioam_test_runs::is_said;
 use std::alloc::Global;
 use std::thread::Threads;
 
@@ -21,14 +22,6 @@ fn line_of<R: Threads + Sync, D: Desk, G: Gate>(
 ) -> Result<String, NoMemory> {
     let words = words(alloc, texts)?;
     line(alloc, &ioam(rt, alloc, &words, desk, gate))
-}
-
-// Whether an answer's line is there and is this text.
-fn is_said(line: Result<String, NoMemory>, said: &str) -> bool {
-    match line {
-        Ok(line) => line.as_str() == said,
-        Err(_) => false,
-    }
 }
 
 // Whether a run of these words over a desk answers so.
