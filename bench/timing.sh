@@ -36,7 +36,7 @@ make_room() {
 begin() {
     make_room /usr/bin/time "$@"
     "$top/ioam" >/dev/null || true
-    ioam=$top/crates/ioam_cmd/out/ioam_cmd
+    ioam=$top/crates/ioam/out/ioam
 }
 
 # Builds yardsticks in C here, by the names of their files.

@@ -5,7 +5,7 @@
 #     bench/user-side.sh
 set -u
 top=$(cd "$(dirname "$0")/.." && pwd) || exit 1
-program=$top/crates/ioam_cmd/out/ioam_cmd
+program=$top/crates/ioam/out/ioam
 "$top/ioam" >/dev/null # builds the program where that is needed
 work=$(mktemp -d) && cd "$work" || exit 1
 trap 'chmod -R u+rwX "$work"; rm -rf "$work"' EXIT

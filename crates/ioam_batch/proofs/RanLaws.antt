@@ -13,11 +13,11 @@ use Rattle.ioam_plan.specs.declared.itinerary.Visit.{Visit}
 use Rattle.ioam_topo.specs.declared.domain.Domain.{Domain}
 use Rattle.ioam_tunnel.proofs.WireLaws.{limit-is}
 use Rattle.ioam_tunnel.specs.Wire.{Tunnel, hop_parts, limit_after, no_elements, wire}
-use Rattle.ioam_visit.proofs.VisitLaws.{wire-start}
-use Rattle.ioam_visit.specs.Counted.{hop_notes}
-use Rattle.ioam_visit.specs.Notes.{notes_of}
-use Rattle.ioam_visit.specs.Room.{Room}
-use Rattle.ioam_visit.specs.Visits.{closed_after, elements, tunnel_records, wire_after}
+use Rattle.ioam_node_visit.proofs.VisitLaws.{wire-start}
+use Rattle.ioam_node_visit.specs.Counted.{hop_notes}
+use Rattle.ioam_node_visit.specs.Notes.{notes_of}
+use Rattle.ioam_node_visit.specs.Room.{Room}
+use Rattle.ioam_node_visit.specs.Visits.{closed_after, elements, tunnel_records, wire_after}
 
 -- ---- an enclosed packet
 

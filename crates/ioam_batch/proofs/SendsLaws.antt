@@ -16,7 +16,7 @@ use Rattle.ioam_topo.specs.declared.ids.FlowId.{FlowId}
 use Rattle.ioam_tunnel.specs.Enclosed.{tunnel_of}
 use Rattle.ioam_tunnel.specs.Wire.{Tunnel}
 use Rattle.ioam_tunnel.specs.declared.numbers.Numbers.{Numbers}
-use Rattle.ioam_visit.specs.Room.{Room}
+use Rattle.ioam_node_visit.specs.Room.{Room}
 
 -- ---- a packet that isn't enclosed
 

@@ -9,11 +9,11 @@ use Rattle.ioam_ip.specs.Lowered.{lowered}
 use Rattle.ioam_plan.specs.declared.itinerary.Visit.{Visit}
 use Rattle.ioam_topo.specs.declared.domain.Domain.{Domain}
 use Rattle.ioam_tunnel.specs.Wire.{Tunnel}
-use Rattle.ioam_visit.specs.Counted.{hop_notes}
-use Rattle.ioam_visit.specs.Notes.{notes_of}
-use Rattle.ioam_visit.specs.Room.{Room}
-use Rattle.ioam_visit.specs.Visits.{Visited, closed_after, tunnel_records, wire_after}
-use Rattle.ioam_visit.specs.declared.note.NodeNote.{NodeNote}
+use Rattle.ioam_node_visit.specs.Counted.{hop_notes}
+use Rattle.ioam_node_visit.specs.Notes.{notes_of}
+use Rattle.ioam_node_visit.specs.Room.{Room}
+use Rattle.ioam_node_visit.specs.Visits.{Visited, closed_after, tunnel_records, wire_after}
+use Rattle.ioam_node_visit.specs.declared.note.NodeNote.{NodeNote}
 
 -- ---- an enclosed packet
 

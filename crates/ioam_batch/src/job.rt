@@ -7,9 +7,9 @@ use crate::crossings::Crossings;
 use crate::making::{packet_of, room_for};
 use crate::taps::taps_of;
 use ioam_base::memory::NoMemory;
+use ioam_node_visit::NodeRoom;
 use ioam_plan::Itinerary;
 use ioam_topo::Domain;
-use ioam_visit::NodeRoom;
 use std::alloc::Global;
 
 /// All visits of one packet, with all the room that they need.

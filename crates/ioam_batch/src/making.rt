@@ -7,10 +7,10 @@ ghost use Rattle.ioam_tunnel.specs.Wire.{IsTunnel, no_elements, wire};
 
 use ioam_base::memory::NoMemory;
 use ioam_base::text::append;
+use ioam_node_visit::{NodeRoom, option_count};
 use ioam_plan::Itinerary;
 use ioam_topo::{Domain, FlowId};
 use ioam_tunnel::{Numbers, enclose};
-use ioam_visit::{NodeRoom, option_count};
 use std::alloc::Global;
 
 // The outer packet around a packet that goes by an itinerary.

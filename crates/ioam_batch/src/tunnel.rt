@@ -11,9 +11,9 @@ ghost use Rattle.ioam_tunnel.specs.Wire.{IsTunnel, Tunnel};
 
 use crate::crossings::Crossings;
 use ioam_clock::Readings;
+use ioam_node_visit::{NodeRoom, begin, exit, transit};
 use ioam_plan::Visit;
 use ioam_topo::Domain;
-use ioam_visit::{NodeRoom, begin, exit, transit};
 
 // The visit of the node at which a packet enters its tunnel.
 fn enter(

@@ -1,5 +1,5 @@
 //! Captures in the form pcapng: their blocks, read in any pieces, and written. Commands read them by
-//! `ioam_captures`.
+//! `ioam_capture`.
 #![tactic(auto)]
 
 mod block;

@@ -11,7 +11,7 @@ use Rattle.ioam_node.specs.declared.reason.Reason.TheVariants.{NotIpv6, Cut, Len
 use Rattle.ioam_plan.specs.declared.itinerary.Itinerary.{Itinerary}
 use Rattle.ioam_plan.specs.declared.itinerary.End.{End}
 use Rattle.ioam_plan.specs.declared.itinerary.End.TheVariants.{Left, Drop}
-use Rattle.ioam_lines.specs.TraceText.{line_feed}
+use Rattle.ioam_report_lines.specs.TraceText.{line_feed}
 
 -- why a packet is dropped
 abbrev pub reason_name : Reason → List ℕ

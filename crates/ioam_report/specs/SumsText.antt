@@ -16,7 +16,7 @@ use Rattle.ioam_report.specs.declared.sums.NodeSum.{NodeSum}
 use Rattle.ioam_report.specs.declared.sums.Sums.{Sums}
 use Rattle.ioam_report.specs.Flows.{is_exited_in, is_direct_in, exit_numbers}
 use Rattle.ioam_report.specs.Sums.{has_left, is_dropped, node_sum}
-use Rattle.ioam_lines.specs.TraceText.{line_feed}
+use Rattle.ioam_report_lines.specs.TraceText.{line_feed}
 
 abbrev pub packets_line : ℕ → ℕ → ℕ → List ℕ
 packets_line packets left dropped =

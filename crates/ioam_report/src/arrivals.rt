@@ -2,15 +2,15 @@
 ghost use Rattle.std.specs.Prelude.{◌≡◌, ◌++◌, ◌+◌, ◌<◌, ◌≤◌, [], IfSome, length, is_ok, if◌then◌else◌, codes, decimal};
 ghost use Rattle.ioam_topo.specs.Domain.{nodes, ports, flows};
 ghost use Rattle.ioam_plan.specs.Inside.{EndsInside};
-ghost use Rattle.ioam_lines.specs.TraceText.{line_feed};
+ghost use Rattle.ioam_report_lines.specs.TraceText.{line_feed};
 ghost use Rattle.ioam_report.specs.RunText.{reason_name, node_name, port_name, flow_name, end_text, direct_text, carried_text, arrival_line};
 
 use crate::reasons::reason_text;
 use ioam_base::memory::NoMemory;
 use ioam_base::text::append;
-use ioam_lines::{Line, append_both, settle};
 use ioam_node::Reason;
 use ioam_plan::{End, Itinerary};
+use ioam_report_lines::{Line, append_both, settle};
 use ioam_topo::{Domain, FlowId, NodeId, PortId};
 use ioam_tunnel::Numbers;
 

@@ -4,14 +4,14 @@ ghost use Rattle.ioam_edge.specs.Receiver.{tally_in};
 ghost use Rattle.ioam_plan.specs.declared.itinerary.Itinerary.{Itinerary};
 ghost use Rattle.ioam_report.specs.Sums.{StandFor};
 ghost use Rattle.ioam_report.specs.SumsText.{packets_line, node_line, node_lines, next_text, tally_text, is_numbered, flow_sum_line, flow_lines, sums_text, arrivals_text};
-ghost use Rattle.ioam_lines.specs.Piece.{piece_text};
+ghost use Rattle.ioam_report_lines.specs.Piece.{piece_text};
 
 use crate::flows::FlowSum;
 use crate::sums::{NodeSum, Sums};
 use ioam_base::memory::NoMemory;
 use ioam_base::text::append;
 use ioam_edge::{Tally, asks};
-use ioam_lines::{Piece, put_pieces, settle};
+use ioam_report_lines::{Piece, put_pieces, settle};
 use ioam_topo::{Domain, Flow, Node};
 
 // Appends the line for all arrivals.

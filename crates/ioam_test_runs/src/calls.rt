@@ -2,15 +2,15 @@
 //! all that its clauses speak of, some 40,000 modules of the logic, which takes minutes.
 ghost use Rattle.std.specs.Prelude.{◌≡◌, ◌≤◌, length};
 
-use ioam_answer::Outcome;
 use ioam_base::name::Name;
 use ioam_batch::Gate;
-use ioam_bulk::run_bulk;
-use ioam_collecting::run_collect;
 use ioam_desk::Desk;
-use ioam_domain::run_domain;
-use ioam_run::{run_filter, run_paths, run_save, run_show};
-use ioam_transit::run_node;
+use ioam_run_answer::Outcome;
+use ioam_run_bulk::run_bulk;
+use ioam_run_capture::{run_filter, run_paths, run_save, run_show};
+use ioam_run_collect::run_collect;
+use ioam_run_domain::run_domain;
+use ioam_run_node::run_node;
 use std::alloc::Global;
 use std::thread::Threads;
 

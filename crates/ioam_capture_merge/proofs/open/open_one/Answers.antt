@@ -1,0 +1,23 @@
+use Rattle.std.proofs.Common.{refl, ap, length, arith, false}
+use Rattle.ioam_desk.specs.Desk.{holds}
+use Rattle.ioam_capture_merge.proofs.OpenLaws.{Merging-push, opening_kept, failing_kept}
+use Rattle.ioam_capture_merge.proofs.open.open_one.Goals as goal
+
+pub returns-in-Ok-clause-opened : goal.returns-in-Ok-clause-opened
+returns-in-Ok-clause-opened g c = λ start merging count.
+    Merging-push g.D.Desk.tells start (g.D.Desk.reading c.args.desk.now) (g.D.Desk.reading c.open_feed.new.desk) c.args.merge.now merging
+    (holds (g.D.Desk.writing c.args.desk.now) c.args.name.now) c.args.name.now (record { feed = c.in_ok-feed.feed; ended = false })
+    c.in_ok-feed.ensures.opened c.in_ok-feed.ensures.fed refl c.in_ok-feed.ensures.fresh (omega (arith, count, c.args.merge.now.captures.ok.0))
+    c.add.new.self c.in-Ok.ensures.captures c.in-Ok.ensures.dues (ap (λ p. length p.items) c.in-Ok.ensures.piece)
+
+pub returns-in-Ok-clause-below : goal.returns-in-Ok-clause-below
+returns-in-Ok-clause-below g c = opening_kept g.D.Desk.tells (g.D.Desk.reading c.args.desk.now) (g.D.Desk.reading c.open_feed.new.desk)
+    (holds (g.D.Desk.writing c.args.desk.now) c.args.name.now) c.args.name.now c.in_ok-feed.feed.slot c.in_ok-feed.ensures.opened
+
+pub returns-in-Err-clause-below : goal.returns-in-Err-clause-below
+returns-in-Err-clause-below g c = opening_kept g.D.Desk.tells (g.D.Desk.reading c.args.desk.now) (g.D.Desk.reading c.open_feed.new.desk)
+    (holds (g.D.Desk.writing c.args.desk.now) c.args.name.now) c.args.name.now c.in_ok-feed.feed.slot c.in_ok-feed.ensures.opened
+
+pub returns-in_err-feed-clause-below : goal.returns-in_err-feed-clause-below
+returns-in_err-feed-clause-below g c = failing_kept g.D.Desk.tells (g.D.Desk.reading c.args.desk.now) (g.D.Desk.reading c.open_feed.new.desk)
+    (holds (g.D.Desk.writing c.args.desk.now) c.args.name.now) c.args.name.now c.in_err-feed.field-0.0 c.in_err-feed.ensures.fault

@@ -1,7 +1,0 @@
-use Rattle.std.proofs.Common.{◌≡◌, drop}
-use Rattle.ioam_captures.specs.Turn.{turn_from}
-use Rattle.ioam_captures.proofs.turns.next_turn.Given as goal
-
--- the turn of the captures from this place on
-abbrev pub invariant-loop-place : goal.invariant-loop-place
-invariant-loop-place l = l.turn ≡ turn_from l.place (drop l.place l.dues)

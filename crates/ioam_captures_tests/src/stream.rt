@@ -1,6 +1,0 @@
-//! Captures that are read in pieces: their reader and writer (`ioam_pcap`), one read from a desk
-//! (`ioam_feed`), and several merged by time (`ioam_merge`), a file for each.
-mod captures;
-mod feed;
-mod merge;
-mod pcap;

@@ -1,0 +1,41 @@
+//! Export records as a run writes them, as they are read again, and regrouped: laws of a run's records, whatever the domain.
+#![tactic(auto)]
+
+ghost use Rattle.std.specs.Prelude.{List, ℕ};
+ghost use Rattle.std.specs.List.{All};
+ghost use Rattle.ioam_dex.specs.Record.{Record};
+ghost use Rattle.ioam_topo_file.specs.File.{IsDomainOf};
+ghost use Rattle.ioam_collect_laws.specs.Exported.{ExportsAreRead, FrontsAreRead, HasFaces, TellsRun};
+ghost use Rattle.ioam_collect_laws.specs.Paths.{IsWithin, Regroups};
+ghost use Rattle.ioam_topo.specs.Domain.{flows};
+ghost use Rattle.ioam_topo.specs.declared.domain.Domain.{Domain};
+
+/// Says that the records of a run regroup to the paths of its packets (RFC 9326 section 3.2).
+pub fn records_regroup()
+    ensures { (read : List Record) → Regroups read }
+{}
+
+/// Says that the octets that a run exports read as its records, each once, in their order and to the end, and as nothing else.
+pub fn exports_are_read()
+    ensures { ExportsAreRead }
+{}
+
+/// Says that a front of these octets reads as the first of its records, each whole, and at most the front of the next one, and as nothing else.
+pub fn fronts_are_read()
+    ensures { FrontsAreRead }
+{}
+
+/// Says that what is read of the octets that a run exports regroups to the whole paths of its packets (RFC 9326 section 3.2).
+pub fn exports_tell_paths()
+    ensures { (octets : List ℕ) (read : List Record) → TellsRun octets read }
+{}
+
+/// Says that the numbers of the flows of a file's domain are within their types, as the laws above ask.
+pub fn flows_are_within()
+    ensures { (octets : List ℕ) (domain : Domain) → IsDomainOf octets domain → All IsWithin (flows domain) }
+{}
+
+/// Says that the interfaces of a file's domain have 32 bits, as the laws of what is read ask.
+pub fn faces_are_within()
+    ensures { (octets : List ℕ) (domain : Domain) → IsDomainOf octets domain → HasFaces domain }
+{}

@@ -1,0 +1,237 @@
+-- Laws of export records that are read in pieces and regrouped.
+use Rattle.std.proofs.Common.{◌≡◌, ℕ, ◌+◌, ◌*◌, ◌<◌, ◌≤◌, Bool, true, false, IsTrue, List, [], ◌∷◌, ◌++◌, length, length-append, Option, Some, refl, sym, ap, ◌∙◌, subst, arith, inl, inr}
+use Rattle.std.specs.Prelude.{IsSomeAnd, All, Ok}
+use Rattle.std.specs.List.{AllByRecursion}
+use Rattle.std.proofs.lemmas.Bool.Decides.{nat_tests}
+use Rattle.std.proofs.lemmas.List.Elements.{recursion_from_All}
+use Rattle.ioam_desk.specs.Desk as desk
+use Rattle.ioam_dex.specs.Record.{Record, IsRecord, record_octets}
+use Rattle.ioam_dex.specs.Visit.{has_visit, twelve_where}
+use Rattle.ioam_dex.specs.Faults.{IsCut}
+use Rattle.ioam_dex.specs.Reads.{records_octets, Reads}
+use Rattle.ioam_dex.specs.Reading.{Reading}
+use Rattle.ioam_dex.specs.Reader.{Stands, Waits, fed}
+use Rattle.ioam_dex.proofs.RecordLaws.{numbers_size-small, record_octets-length, record_size-small}
+use Rattle.ioam_collect.specs.Keyed.{keyed_of}
+use Rattle.ioam_collect.specs.Collected as collected
+use Rattle.ioam_collect.specs.Collected.{Collected, Answers, Leaves, capped, count_kept, held_more}
+use Rattle.ioam_collect.proofs.CountLaws.{full_count, fits_count, held_within}
+use Rattle.ioam_collect.specs.declared.growing.Added.{Added}
+use Rattle.ioam_collect.specs.declared.growing.Added.TheVariants.{Kept, Replaced, Repeat, Unkeyed, Full}
+use Rattle.ioam_dex.proofs.ReadsLaws.{Splits-feed}
+use Rattle.std.proofs.lemmas.List.{append-nil}
+use Rattle.ioam_collect_stream.specs.declared.step.Pause.{Pause}
+use Rattle.ioam_collect_stream.specs.declared.step.Pause.TheVariants as pause
+use Rattle.ioam_dex.specs.Reads.{Ending}
+use Rattle.ioam_collect_stream.specs.Feed.{Fed, FeedsPiece, FindsEnd, Refills}
+use Rattle.std.specs.Prelude.{Result, Err}
+use Rattle.ioam_desk.specs.declared.fault.DeskFault.{DeskFault}
+use Rattle.ioam_desk.specs.declared.fault.DeskFault.TheVariants.{Failed, NoMemory}
+use Rattle.ioam_collect_stream.specs.Gathering.{AreFew, Gathers, IsLimit, IsPast, SaysLimit, Steps, Pauses, Passes, AreWhole, is_full, ReadsOne}
+
+twelve_small : (there : Bool) → twelve_where there ≤ 12
+twelve_small true = omega arith
+twelve_small false = omega arith
+
+cut_few : (octets : List ℕ) → IsCut octets → length octets < 274
+cut_few octets (inl none) = omega arith
+cut_few octets (inr (inl short)) = let few = short.1 in omega arith
+cut_few octets (inr (inr sized)) =
+    let less = sized.1 in
+    let most = sized.0.most in
+    let visit = twelve_small (has_visit (Rattle.std.specs.Prelude.slice_index octets 0)) in
+    let numbers = numbers_size-small (Rattle.std.specs.Prelude.slice_index octets 1) in
+    omega arith
+
+-- a reader that waits holds back less than a record
+pub Waits-few : (reader : Reading) → Waits reader → length reader.pending < 274
+Waits-few reader waits = cut_few reader.pending waits
+
+octets_few : (records : List Record) → AllByRecursion IsRecord records → length (records_octets records) ≤ 274 * length records
+octets_few [] all = omega arith
+octets_few (x ∷ records) all =
+    let more = octets_few records all.1 in
+    let size = record_octets-length x all.0.parts in
+    let few = record_size-small x all.0.parts in
+    let both = length-append (record_octets x) (records_octets records) in
+    omega arith
+
+-- what it has taken is no more than the greatest records
+pub start_few : (reader : Reading) (octets : List ℕ) (records : List Record) → Stands reader octets records → reader.start ≤ 274 * length records
+start_few reader octets records stands =
+    let few = octets_few records (recursion_from_All IsRecord records stands.splits.each) in
+    let at = stands.place in
+    omega arith
+
+pub shorter : (x : Record) (p q : List ℕ) → q ≡ record_octets x ++ p → length p < length q
+shorter x p q is =
+    let both : length q ≡ length (record_octets x) + length p = ap length is ∙ length-append (record_octets x) p in
+    let some : 0 < length (record_octets x) = omega arith in
+    omega arith
+
+capped-low : (n m : ℕ) → m ≡ capped n → m < 67108864 → n < 67108864
+capped-low n m is low = grind (arith, nat_tests)
+
+capped-high : (n m : ℕ) → m ≡ capped n → 67108864 ≤ m → 67108864 ≤ n
+capped-high n m is high = grind (arith, nat_tests)
+
+-- one record more is gathered
+pub gathers_more : (old new : Reading) (before after : Collected) (x : Record) (added : Added)
+    → ((octets : List ℕ) (records : List Record) → Stands old octets records → Stands new octets (records ++ x ∷ []))
+    → ((xs : List Record) → collected.Stands before xs → collected.Stands after (xs ++ x ∷ [])) → Answers before (keyed_of x) added → (added ≡ Full → ⊥)
+    → after.held ≡ before.held + held_more added → after.limit ≡ before.limit → before.read < 67108864
+    → (octets : List ℕ) (records : List Record) → Gathers octets records old before → (y : Record) × Gathers octets (records ++ y ∷ []) new after
+gathers_more old new before after x added given stands answers other held limit low octets records g =
+    let below = capped-low (length records) before.read g.stands_for.read low in
+    let longer = length-append records (x ∷ []) in
+    let more = stands records g.stands_for in
+    let was : before.held ≡ count_kept records = g.stands_for.groups.held in
+    let is : after.held ≡ count_kept (records ++ x ∷ []) = more.groups.held in
+    let few : before.held ≤ before.limit = omega (arith, was, g.few.held, g.limit) in
+    let within : after.held ≤ before.limit = held_within before after x added answers other few held in (
+      x,
+      record {
+        stands = given octets records g.stands;
+        stands_for = more;
+        few = record { read = omega (arith, below, longer); held = omega (arith, is, within, g.limit) };
+        limit = limit ∙ g.limit;
+      },
+    )
+
+-- with a record that would be refused more would be kept than may be held
+past_of : (before : Collected) (records : List Record) (x : Record) → collected.Stands before records → before.limit ≡ 1048576
+    → Answers before (keyed_of x) Full → 1048576 < count_kept (records ++ x ∷ [])
+past_of before records x stands limit full = let more = full_count before records x stands full in omega (arith, more, limit)
+
+-- as many were read as may be
+pub past_read : (old new : Reading) (before : Collected) (x : Record) (limit : ℕ)
+    → ((octets : List ℕ) (records : List Record) → Stands old octets records → Stands new octets (records ++ x ∷ [])) → 67108864 ≤ before.read
+    → SaysLimit before x limit
+    → (octets : List ℕ) (records : List Record) → Gathers octets records old before → (y : Record) × Stands new octets (records ++ y ∷ []) × IsPast limit records y
+past_read old new before x limit given high (inl (is, full)) octets records g =
+    (x, given octets records g.stands, inl (is, past_of before records x g.stands_for g.limit full))
+past_read old new before x limit given high (inr (is, not_full)) octets records g =
+    let least = capped-high (length records) before.read g.stands_for.read high in
+    let longer = length-append records (x ∷ []) in
+    let was : before.held ≡ count_kept records = g.stands_for.groups.held in
+    let few : before.held ≤ before.limit = omega (arith, was, g.few.held, g.limit) in
+    let fits = fits_count before records x g.stands_for few not_full in
+    (x, given octets records g.stands, inr (is, omega (arith, fits, g.limit), omega (arith, least, longer)))
+
+-- as many are held as may be
+pub past_held : (old new : Reading) (before : Collected) (x : Record)
+    → ((octets : List ℕ) (records : List Record) → Stands old octets records → Stands new octets (records ++ x ∷ [])) → Answers before (keyed_of x) Full
+    → (octets : List ℕ) (records : List Record) → Gathers octets records old before → (y : Record) × Stands new octets (records ++ y ∷ []) × IsPast 1048576 records y
+past_held old new before x given full octets records g =
+    (x, given octets records g.stands, inl (refl, past_of before records x g.stands_for g.limit full))
+
+pub one_limit : (limit : ℕ) (records : List Record) (x : Record) → IsPast limit records x → IsLimit limit
+one_limit limit records x (inl past) = inl past.0
+one_limit limit records x (inr past) = inr past.0
+
+-- what is known of the octets handed out is known of what the name holds
+pub of_content : (tells : Bool) (content : Option (List ℕ)) (inputs : desk.Reading) (slot : ℕ) (reader : Reading) (octets : List ℕ) (records : List Record)
+    (P : List ℕ → Type 0) → Fed tells content inputs slot reader octets records → ((rest : List ℕ) → P (octets ++ rest)) → IsTrue tells → IsSomeAnd content P
+of_content tells content inputs slot reader octets records P fed all told =
+    let Q : Option (List ℕ) → Type 0 = λ o. IsSomeAnd o P in
+    subst Q (sym (fed.held told)) (all (inputs.left slot))
+
+-- behind another answer than Full the collector stands for one record more
+pub leaves_more : (added : Added) (before after : Collected) (x : Record) → (added ≡ Full → ⊥) → Leaves added before x after
+    → (xs : List Record) → collected.Stands before xs → collected.Stands after (xs ++ x ∷ [])
+leaves_more Kept before after x other leaves = leaves
+leaves_more Replaced before after x other leaves = leaves
+leaves_more Repeat before after x other leaves = leaves
+leaves_more Unkeyed before after x other leaves = leaves
+leaves_more Full before after x other leaves = absurd (other refl)
+
+pub full_is : (added : Added) → is_full added ≡ true → added ≡ Full
+full_is Full is = refl
+full_is Kept is = absurd (cc is)
+full_is Replaced is = absurd (cc is)
+full_is Repeat is = absurd (cc is)
+full_is Unkeyed is = absurd (cc is)
+
+pub full_not : (added : Added) → is_full added ≡ false → added ≡ Full → ⊥
+full_not added isnt same = let is : is_full added ≡ true = ap is_full same in absurd (cc (isnt, is))
+
+pub step_fed : (x : Record) (old new : Reading) → old.pending ≡ record_octets x ++ new.pending → new.start ≡ old.start + length (record_octets x) → fed new ≡ fed old
+step_fed x old new is at =
+    let both : length old.pending ≡ length (record_octets x) + length new.pending = ap length is ∙ length-append (record_octets x) new.pending in
+    omega arith
+
+-- what stopped the taking of records
+pub pauses_step : (old new : Reading) (before after : Collected) (p : Pause) → Steps old new before after (Some p)
+    → (octets : List ℕ) (records : List Record) → Gathers octets records old before → Pauses octets new after p
+pauses_step old new before after pause.More steps octets records g = (records, rw (steps.0, steps.1) g, rw steps.0 steps.2)
+pauses_step old new before after (pause.Bad at fault) steps octets records g = (records, rw (steps.0, steps.1) g, steps.2 octets records g.stands)
+pauses_step old new before after (pause.Limit limit) steps octets records g =
+    let past = steps.1 octets records g in
+    (records, rw steps.0 g.stands_for, g.few, (past.0, past.1, past.2))
+
+-- ---- no other input slot is read
+
+pub ReadsOne-same : (slot : ℕ) (old : desk.Reading) → ReadsOne slot old old
+ReadsOne-same slot old = ((λ k other. refl), (λ k other. refl))
+
+refills_one : (tells : Bool) (old new : desk.Reading) (slot most : ℕ) (reader now : Reading) (result : Result Bool DeskFault)
+    → Refills tells old slot most reader result new now → ReadsOne slot old new
+refills_one tells old new slot most reader now (Ok true) refills = (refills.gives.other_left, refills.gives.other_ended)
+refills_one tells old new slot most reader now (Ok false) refills = (refills.gives.other_left, refills.gives.other_ended)
+refills_one tells old new slot most reader now (Err Failed) refills =
+    ((λ k other. ap (λ (left : ℕ → List ℕ). left k) refills.left), (λ k other. ap (λ (ended : ℕ → Bool). ended k) refills.ended))
+refills_one tells old new slot most reader now (Err NoMemory) refills = (refills.other_left, refills.other_ended)
+
+pub ReadsOne-more : (tells : Bool) (slot other most : ℕ) (first old new : desk.Reading) (reader now : Reading) (result : Result Bool DeskFault)
+    → ReadsOne slot first old → other ≡ slot → Refills tells old other most reader result new now → ReadsOne slot first new
+ReadsOne-more tells slot other most first old new reader now result before is refills =
+    let P : ℕ → Type 0 = λ k. ReadsOne k old new in
+    let more = subst P is (refills_one tells old new other most reader now result refills) in
+    ((λ k apart. more.0 k apart ∙ before.0 k apart), (λ k apart. more.1 k apart ∙ before.1 k apart))
+
+module _ (tells : Bool) (content : Option (List ℕ)) (inputs : desk.Reading) (slot : ℕ) (reader now : Reading) (octets : List ℕ) (records others : List Record)
+    (collector : Collected) (fed : Fed tells content inputs slot reader octets records) where
+  pub stepped : Stands now octets others → Fed tells content inputs slot now octets others
+  stepped stands = record { stands = stands; is_open = fed.is_open; held = fed.held }
+
+  -- a piece more was fed
+  pub fed_on : (new : desk.Reading) (most : ℕ) (next : Reading) → Gathers octets others now collector → FeedsPiece tells inputs slot most now new next
+      → (o : List ℕ) × (r : List Record) × Fed tells content new slot next o r × Gathers o r next collector
+  fed_on new most next g feeds =
+      let more = feeds.kept content octets others (stepped g.stands) in
+      (octets ++ feeds.piece, others, more, record { stands = more.stands; stands_for = g.stands_for; few = g.few; limit = g.limit })
+
+  pub whole_is : IsTrue tells → inputs.left slot ≡ [] → content ≡ Some octets
+  whole_is told left = fed.held told ∙ ap (λ rest. Some (octets ++ rest)) left ∙ ap Some (append-nil octets)
+
+  -- the records of which one more is too many
+  pub passes : (limit : ℕ) (x : Record) → Stands now octets (others ++ x ∷ []) → IsPast limit others x
+      → IsTrue tells → IsSomeAnd content (Passes limit others)
+  passes limit x stands past = of_content tells content inputs slot reader octets records (Passes limit others) fed (λ rest. record {
+    next = x;
+    rest = now.pending ++ rest;
+    splits = Splits-feed octets rest (others ++ x ∷ []) now.pending stands.splits;
+    past = past;
+  })
+
+  -- the records that are whole in what was handed out
+  pub whole_in : (left : List ℕ) → left ≡ inputs.left slot → Stands now octets others → Waits now → IsTrue tells → IsSomeAnd content (AreWhole left others)
+  whole_in left same stands waits told =
+      let Q : Option (List ℕ) → Type 0 = λ o. IsSomeAnd o (AreWhole left others) in
+      subst Q (sym (fed.held told)) (record {
+        handed = octets;
+        parts = ap (λ rest. octets ++ rest) (sym same);
+        rest = now.pending;
+        splits = stands.splits;
+        cut = waits;
+      })
+
+  -- all that the name holds was read
+  pub whole_of : (new : desk.Reading) (next : Reading) → Gathers octets others now collector → FindsEnd tells inputs slot now new next → (ending : Ending)
+      → ((o : List ℕ) (r : List Record) → Stands next o r → Reads o r ending)
+      → (r : List Record) × collected.Stands collector r × AreFew r × (IsTrue tells → IsSomeAnd content (λ o. Reads o r ending))
+  whole_of new next g ends ending reads =
+      let kept = ends.kept content octets others (stepped g.stands) in
+      let read : Reads octets others ending = reads octets others kept.stands in
+      let Q : Option (List ℕ) → Type 0 = λ o. IsSomeAnd o (λ o. Reads o others ending) in
+      (others, g.stands_for, g.few, λ told. subst Q (sym (kept.held told ∙ ap (λ rest. Some (octets ++ rest)) (ends.left told) ∙ ap Some (append-nil octets))) read)

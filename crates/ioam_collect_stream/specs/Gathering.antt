@@ -1,0 +1,112 @@
+-- Export records that are read in pieces while a collector regroups them.
+use Rattle.std.specs.Prelude.{◌≡◌, ℕ, ◌<◌, ◌≤◌, ◌⊎◌, ⊤, Bool, true, false, IsTrue, IsSomeAnd, List, [], ◌∷◌, ◌++◌, length, Option, Some, None}
+use Rattle.ioam_desk.specs.Desk as desk
+use Rattle.ioam_desk.specs.Desk.{Rose, SameBut}
+use Rattle.ioam_dex.specs.Record.{Record}
+use Rattle.ioam_dex.specs.Reads.{Whole, Faulty, Reads, Splits}
+use Rattle.ioam_dex.specs.Faults.{IsCut}
+use Rattle.ioam_dex.specs.Reading.{Reading}
+use Rattle.ioam_dex.specs.Reader.{Stands, Waits}
+use Rattle.ioam_collect.specs.Keyed.{keyed_of}
+use Rattle.ioam_collect.specs.Collected as collected
+use Rattle.ioam_collect.specs.Collected.{Collected, Answers, count_kept}
+use Rattle.ioam_collect.specs.declared.growing.Added.{Added}
+use Rattle.ioam_collect.specs.declared.growing.Added.TheVariants.{Kept, Replaced, Repeat, Unkeyed, Full}
+use Rattle.ioam_collect_stream.specs.declared.step.Pause.{Pause}
+use Rattle.ioam_collect_stream.specs.declared.step.Pause.TheVariants as pause
+use Rattle.ioam_collect_stream.specs.declared.gathering.Halt.{Halt}
+use Rattle.ioam_collect_stream.specs.declared.gathering.Halt.TheVariants as halt
+
+-- the most records that are read, and that are held
+abbrev pub most_records : ℕ
+most_records = 67108864
+
+abbrev pub most_held : ℕ
+most_held = 1048576
+
+-- no more than may be read, of which no more are kept than may be held
+pub record AreFew (records : List Record) : Type 0 where
+  pub read : length records ≤ most_records
+  pub held : count_kept records ≤ most_held
+
+-- behind these records one more is too many: with it more would be kept than may be held, or else more would be read than may be
+abbrev pub IsPast : ℕ → List Record → Record → Type 0
+IsPast limit records x = ((limit ≡ most_held) × (most_held < count_kept (records ++ x ∷ [])))
+    ⊎ ((limit ≡ most_records) × (count_kept (records ++ x ∷ []) ≤ most_held) × (most_records < length (records ++ x ∷ [])))
+
+-- the reader has given these records of these octets, and the collector stands for them
+pub record Gathers (octets : List ℕ) (records : List Record) (reader : Reading) (collector : Collected) : Type 0 where
+  pub stands : Stands reader octets records
+  pub stands_for : collected.Stands collector records
+  pub few : AreFew records
+  pub limit : collector.limit ≡ most_held
+
+-- no more may be held
+abbrev pub is_full : Added → Bool
+is_full Full = true
+is_full Kept = false
+is_full Replaced = false
+is_full Repeat = false
+is_full Unkeyed = false
+
+-- one of the two limits
+abbrev pub IsLimit : ℕ → Type 0
+IsLimit limit = (limit ≡ most_held) ⊎ (limit ≡ most_records)
+
+-- which limit is said of a record where as many were read as may be: that of what is held, where it would be one too many there too
+abbrev pub SaysLimit : Collected → Record → ℕ → Type 0
+SaysLimit collector x limit = ((limit ≡ most_held) × Answers collector (keyed_of x) Full)
+    ⊎ ((limit ≡ most_records) × ¬ (Answers collector (keyed_of x) Full))
+
+-- what a step did: one record more was gathered; or nothing was, and why
+module _ (old new : Reading) (before after : Collected) where
+  abbrev pub Steps : Option Pause → Type 0
+  Steps None = (length new.pending < length old.pending)
+      × ((octets : List ℕ) (records : List Record) → Gathers octets records old before → (x : Record) × Gathers octets (records ++ x ∷ []) new after)
+  Steps (Some pause.More) = (new ≡ old) × (after ≡ before) × Waits old
+  Steps (Some (pause.Bad at fault)) = (new ≡ old) × (after ≡ before)
+      × ((octets : List ℕ) (records : List Record) → Stands old octets records → (more : List ℕ) → Reads (octets ++ more) records (Faulty at fault))
+  Steps (Some (pause.Limit limit)) = (after ≡ before)
+      × ((octets : List ℕ) (records : List Record) → Gathers octets records old before
+      → (x : Record) × Stands new octets (records ++ x ∷ []) × IsPast limit records x)
+
+-- what stopped the taking of records, some of which were gathered before
+module _ (octets : List ℕ) (reader : Reading) (collector : Collected) where
+  abbrev pub Pauses : Pause → Type 0
+  Pauses pause.More = (records : List Record) × Gathers octets records reader collector × Waits reader
+  Pauses (pause.Bad at fault) = (records : List Record) × Gathers octets records reader collector
+      × ((more : List ℕ) → Reads (octets ++ more) records (Faulty at fault))
+  Pauses (pause.Limit limit) = (records : List Record) × collected.Stands collector records × AreFew records
+      × ((x : Record) × Stands reader octets (records ++ x ∷ []) × IsPast limit records x)
+
+-- the octets are these records, behind which one is too many
+pub record Passes (limit : ℕ) (records : List Record) (octets : List ℕ) : Type 0 where
+  pub next : Record
+  pub rest : List ℕ
+  pub splits : Splits octets (records ++ next ∷ []) rest
+  pub past : IsPast limit records next
+
+-- these are the records that are whole in the octets but for those that are left; the record behind them is cut there
+pub record AreWhole (left : List ℕ) (records : List Record) (octets : List ℕ) : Type 0 where
+  pub handed : List ℕ
+  pub parts : octets ≡ handed ++ left
+  pub rest : List ℕ
+  pub splits : Splits handed records rest
+  pub cut : IsCut rest
+
+-- no input slot but this one was read
+abbrev pub ReadsOne : ℕ → desk.Reading → desk.Reading → Type 0
+ReadsOne slot old new = SameBut slot old.left new.left × SameBut slot old.ended new.ended
+
+-- the collector stands for some records; where the desk tells, this is what they are of what the name holds
+module _ (tells : Bool) (content : Option (List ℕ)) (slot : ℕ) (old new : desk.Reading) (collector : Collected) where
+  abbrev pub Of : (List Record → List ℕ → Type 0) → Type 0
+  Of Are = (records : List Record) × collected.Stands collector records × AreFew records
+      × (IsTrue tells → IsSomeAnd content (Are records))
+
+  abbrev pub Halts : Halt → Type 0
+  Halts halt.Done = Of (λ records octets. Reads octets records Whole) × (IsTrue tells → IsTrue (new.ended slot))
+  Halts (halt.Exports at fault) = Of (λ records octets. Reads octets records (Faulty at fault))
+  Halts (halt.Records limit) = Of (Passes limit) × IsLimit limit
+  Halts halt.ReadFault = Rose old.side.faults new.side.faults × Of (AreWhole (new.left slot))
+  Halts halt.NoMemory = ⊤

@@ -1,0 +1,19 @@
+use Rattle.std.proofs.Common.{◌≡◌, ◌<◌, All, take, length}
+use Rattle.ioam_desk_outputs.specs.Flush.{KeepsTold}
+use Rattle.ioam_desk_outputs.specs.Told.{AreOpen}
+use Rattle.ioam_desk_outputs.specs.declared.output.Output.{Output}
+use Rattle.ioam_desk_outputs.proofs.FlushLaws.{AreKept, KeepsOthers}
+use Rattle.ioam_desk_outputs.proofs.flush.flush_each.Given as goal
+
+-- what was said is still said, and the outputs so far have too little to be written
+abbrev pub invariant-outputs : goal.invariant-outputs
+invariant-outputs g l = record {
+  told : KeepsTold g.D.Desk.tells (g.D.Desk.writing l.initial.desk) (g.D.Desk.writing l.desk) l.initial.outputs l.outputs;
+  kept : AreKept l.least (g.D.Desk.writing l.initial.desk) (g.D.Desk.writing l.desk) l.initial.outputs l.outputs l.output-index;
+  are_open : AreOpen (g.D.Desk.writing l.desk) l.outputs;
+  few : All (λ (output : Output). length output.gathered.items < l.least) (take l.output-index l.outputs);
+  files : (g.D.Desk.writing l.desk).files ≡ (g.D.Desk.writing l.initial.desk).files;
+  others : KeepsOthers (g.D.Desk.writing l.initial.desk) (g.D.Desk.writing l.desk) l.initial.outputs l.outputs;
+  side : (g.D.Desk.writing l.desk).side ≡ (g.D.Desk.writing l.initial.desk).side;
+  inputs : g.D.Desk.reading l.desk ≡ g.D.Desk.reading l.initial.desk;
+}

@@ -1,0 +1,65 @@
+use Rattle.std.proofs.Common.{◌≡◌, ◌<◌, ◌+◌, ℕ, List, length, take, Ok, Err, get_or, refl, sym, ◌∙◌, subst, arith}
+use Rattle.ioam_desk_outputs.specs.declared.output.Output.{Output}
+use Rattle.ioam_desk_outputs.specs.Told.{AreTold, unsaid}
+use Rattle.ioam_desk_outputs.proofs.OpenLaws.{nothing_more, side_more, told_more, stops_more, fails_more, unopened}
+use Rattle.ioam_desk.proofs.KeptLaws.{KeepsOutputs-same, KeepsOutputs-then, KeepsOutputs-asked}
+use Rattle.ioam_desk_outputs.proofs.ToldLaws.{AreTold-open}
+use Rattle.ioam_desk_outputs.proofs.open.open_outputs.Goals as goal
+
+pub returns-in_default-clause-fault : goal.returns-in_default-clause-fault
+returns-in_default-clause-fault g c =
+    let desk = g.D.Desk.writing c.args.desk.now in
+    (refl, λ tells texts size. unopened desk desk 0 c.args.names.now texts (omega arith) size)
+
+pub names-preserved : goal.names-preserved
+names-preserved g c =
+    let start = g.D.Desk.writing c.args.desk.now in
+    let new = g.D.Desk.writing c.open_out.new.self in
+    let names = c.args.names.now in
+    let name = c.text.result.now in
+    let i = c.names.name-index in
+    let output : Output = record { slot = c.in-Ok-open_out.slot; gathered = c.new-gathered.result } in
+    let inside : i < length names = omega arith in
+    let is : name ≡ get_or names i name = subst (λ (x : List ℕ). x ≡ get_or names i x) (sym c.text.ensures) c.name-item.is in
+    record {
+      told = subst (λ (outputs : List Output). AreTold g.D.Desk.tells new start.side.slots (take (i + 1) names) outputs (unsaid (take (i + 1) names)))
+          (sym c.in-Ok-push.ensures.items)
+          (told_more g.D.Desk.tells start (g.D.Desk.writing c.names.desk) new names i c.names.outputs.items name output c.requires inside is
+          c.in-Ok-open_out.ensures.opened c.new-gathered.ensures.items c.names.invariant.side c.names.invariant.told);
+      nothing = nothing_more c.names.outputs.items c.push.new.self.items output c.names.invariant.nothing c.new-gathered.ensures.items c.in-Ok-push.ensures.items;
+      side = side_more start.side (g.D.Desk.writing c.names.desk).side new.side names i name inside is
+          c.names.invariant.side c.in-Ok-open_out.ensures.opened.1;
+      kept = λ told. KeepsOutputs-then start (g.D.Desk.writing c.names.desk) new (c.names.invariant.kept told)
+          (KeepsOutputs-asked g.D.Desk.tells (g.D.Desk.writing c.names.desk) new name (Ok c.in-Ok-open_out.slot) c.in-Ok-open_out.ensures.opened told);
+      inputs = c.open_out.ensures.inputs ∙ c.names.invariant.inputs;
+    }
+
+pub returns-in_default-clause-kept : goal.returns-in_default-clause-kept
+returns-in_default-clause-kept g c = λ told. KeepsOutputs-same (g.D.Desk.writing c.args.desk.now) _ refl
+
+pub returns-in-Err-push-clause-kept : goal.returns-in-Err-push-clause-kept
+returns-in-Err-push-clause-kept g c = λ told. KeepsOutputs-then (g.D.Desk.writing c.args.desk.now) (g.D.Desk.writing c.names.desk) (g.D.Desk.writing c.open_out.new.self) (c.names.invariant.kept told)
+    (KeepsOutputs-asked g.D.Desk.tells (g.D.Desk.writing c.names.desk) (g.D.Desk.writing c.open_out.new.self) c.text.result.now (Ok c.in-Ok-open_out.slot) c.in-Ok-open_out.ensures.opened told)
+
+pub returns-in-Err-clause-kept : goal.returns-in-Err-clause-kept
+returns-in-Err-clause-kept g c = λ told. KeepsOutputs-then (g.D.Desk.writing c.args.desk.now) (g.D.Desk.writing c.names.desk) (g.D.Desk.writing c.open_out.new.self) (c.names.invariant.kept told)
+    (KeepsOutputs-asked g.D.Desk.tells (g.D.Desk.writing c.names.desk) (g.D.Desk.writing c.open_out.new.self) c.text.result.now (Err c.in-Err.fault) c.in-Err.ensures.opened told)
+
+pub returns-in-Err-push-clause-fault : goal.returns-in-Err-push-clause-fault
+returns-in-Err-push-clause-fault g c =
+    let names = c.args.names.now in
+    let name = c.text.result.now in
+    let i = c.names.name-index in
+    let output : Output = record { slot = c.in-Ok-open_out.slot; gathered = c.new-gathered.result } in
+    let inside : i < length names = omega arith in
+    let is : name ≡ get_or names i name = subst (λ (x : List ℕ). x ≡ get_or names i x) (sym c.text.ensures) c.name-item.is in
+    stops_more g.D.Desk.tells (g.D.Desk.writing c.args.desk.now) (g.D.Desk.writing c.names.desk) (g.D.Desk.writing c.open_out.new.self)
+    names i c.names.outputs.items name output c.requires inside is
+    c.in-Ok-open_out.ensures.opened c.new-gathered.ensures.items c.names.invariant.side c.names.invariant.told
+
+pub returns-in-Err-clause-fault : goal.returns-in-Err-clause-fault
+returns-in-Err-clause-fault g c = fails_more _ (g.D.Desk.writing c.args.desk.now) (g.D.Desk.writing c.names.desk) _ c.args.names.now c.names.name-index _ _ _
+    c.names.invariant.side c.names.invariant.told c.in-Err.ensures.opened
+
+pub returns-clause-open : goal.returns-clause-open
+returns-clause-open g c = AreTold-open g.D.Desk.tells (g.D.Desk.writing c.names.desk) _ _ c.names.outputs.items _ c.names.invariant.told

@@ -1,0 +1,15 @@
+use Rattle.std.proofs.Common.{◌≡◌, IsTrue, take}
+use Rattle.ioam_desk.specs.Desk.{opened_each}
+use Rattle.ioam_desk.specs.Kept.{KeepsOutputs}
+use Rattle.ioam_desk_outputs.specs.Told.{AreTold, GathersNothing, unsaid}
+use Rattle.ioam_desk_outputs.proofs.open.open_outputs.Given as goal
+
+-- the outputs so far are open, and nothing was said to them
+abbrev pub invariant-names : goal.invariant-names
+invariant-names g l = record {
+  told : AreTold g.D.Desk.tells (g.D.Desk.writing l.desk) (g.D.Desk.writing l.initial.desk).side.slots (take l.name-index l.names) l.outputs.items (unsaid (take l.name-index l.names));
+  nothing : GathersNothing l.outputs.items;
+  side : (g.D.Desk.writing l.desk).side ≡ opened_each (g.D.Desk.writing l.initial.desk).side (take l.name-index l.names);
+  kept : IsTrue g.D.Desk.tells → KeepsOutputs (g.D.Desk.writing l.initial.desk) (g.D.Desk.writing l.desk);
+  inputs : g.D.Desk.reading l.desk ≡ g.D.Desk.reading l.initial.desk;
+}

@@ -1,7 +1,0 @@
-use Rattle.std.proofs.Common.{arith}
-use Rattle.ioam_fates.proofs.LeavingLaws.{record-lowered}
-use Rattle.ioam_fates.proofs.leaving.put_lowered.Goals as goal
-
-pub returns : goal.returns
-returns c = record-lowered c.args.out.now.items c.args.packet.now c.put_record.new.out.items c.args.time _ _
-    c.in_ok-put_record.ensures.octets (omega arith) (omega (arith, c.saturating_sub.ensures))

@@ -1,9 +1,0 @@
-use Rattle.std.proofs.Common.{refl, ap, ◌∙◌, ◌++◌, List, ℕ, get_or}
-use Rattle.ioam_visit.specs.Room.{Room}
-use Rattle.ioam_fates.proofs.AddsLaws.{exports-told}
-use Rattle.ioam_fates.proofs.reporting.put_exports.Goals as goal
-
-pub returns : goal.returns
-returns c = exports-told c.args.domain.now c.args.outputs.now _ _ c.args.job.now.room.exports c.args.at c.requires.at c.requires.width refl
-    (c.in_ok-append.ensures ∙ ap (λ (t : List ℕ). (get_or c.args.outputs.now c.args.at c.index-outputs-at.result).gathered.items ++ t)
-    (c.exports.ensures ∙ ap (λ (room : Room). room.exports) c.room.ensures))

@@ -1,0 +1,113 @@
+ghost use Rattle.std.specs.Prelude.{◌≡◌, ◌≤◌, ◌+◌, ◌-◌, ◌*◌, ◌++◌, ◌∷◌, [], IfOk, length};
+ghost use Rattle.ioam_dex.specs.Record.{HasItsParts, record_of, record_octets};
+ghost use Rattle.ioam_node_visit.specs.Room.{Room};
+
+use crate::note::NodeNote;
+use ioam_base::memory::NoMemory;
+use ioam_dex::{Export, ExportRoom, put_export};
+use std::alloc::Global;
+use std::marker::Model;
+
+/// The octets of an export record, at most.
+const RECORD_MOST: usize = 274;
+
+/// Room for the notes and export records of a packet's visits, all of it taken when it is made.
+#[derive(Drop)]
+pub struct NodeRoom {
+    notes: Vec<NodeNote>,
+    exports: ExportRoom,
+    given: usize,
+}
+
+impl Model for NodeRoom {
+    ghost use Rattle.std.specs.Prelude.{◌-◌, ◌+◌, ◌*◌, ◌≤◌, length, vec_capacity};
+    ghost use Rattle.ioam_node_visit.specs.Room.{Room};
+
+    ghost Value = { Room };
+
+    ghost view = { λ room. record {
+      notes = room.notes.items;
+      exports = room.exports.octets;
+      spare = room.given - length room.notes.items;
+    } };
+
+    ghost invariant = { λ room. (length room.notes.items ≤ room.given) × (room.given ≤ vec_capacity room.notes) × (room.given ≤ 1048576)
+        × (274 * (room.given - length room.notes.items) ≤ room.exports.spare)
+        × (274 * room.given ≤ room.exports.spare + length room.exports.octets) };
+}
+
+impl NodeRoom {
+    /// Room for so many visits of a packet with so many IOAM options, at most 1,048,576 in all: a note
+    /// and 274 octets of a record for each.
+    pub fn new(alloc: Global, visits: u32, options: u32) -> Result<NodeRoom, NoMemory>
+        requires { visits * options ≤ 1048576 }
+        ensures { IfOk result (λ room. room ≡ record { notes = []; exports = []; spare = visits * options }) }
+    {
+        let given = (visits * options) as usize;
+        Ok(NodeRoom {
+            notes: Vec::with_capacity(alloc, given)?,
+            exports: ExportRoom::new(alloc, RECORD_MOST * given)?,
+            given,
+        })
+    }
+
+    /// The export records, one behind the other.
+    pub fn exports(&self) -> &[u8]
+        ensures { result.now ≡ self.now.exports }
+    {
+        self.exports.octets()
+    }
+
+    /// The notes, in the order in which the options were met.
+    pub fn notes(&self) -> &[NodeNote]
+        ensures { result.now ≡ self.now.notes }
+    {
+        &self.notes
+    }
+
+    /// For how many more IOAM options there is room.
+    pub fn spare(&self) -> u32
+        ensures { result ≡ self.now.spare }
+    {
+        (self.given - self.notes.len()) as u32
+    }
+
+    /// For how many IOAM options it was made.
+    pub fn given(&self) -> u32
+        ensures value { result ≡ self.now.spare + length self.now.notes }
+        ensures most { result ≤ 1048576 }
+    {
+        self.given as u32
+    }
+
+    /// Takes the notes and the records away. There is room again for all for which it was made.
+    pub fn clear(&mut self)
+        ensures { self.new ≡ record { notes = []; exports = []; spare = self.old.spare + length self.old.notes } }
+    {
+        self.notes.clear();
+        self.exports.clear();
+    }
+
+    // Adds a note, for which there is room.
+    pub(crate) fn add(&mut self, note: NodeNote)
+        requires { 1 ≤ self.old.spare }
+        ensures notes { self.new.notes ≡ self.old.notes ++ note ∷ [] }
+        ensures exports { self.new.exports ≡ self.old.exports }
+        ensures spare { self.new.spare ≡ self.old.spare - 1 }
+    {
+        // never refused: `new` took the memory for all that was given
+        self.notes.push(note).unwrap();
+    }
+
+    // Adds a note and a record.
+    pub(crate) fn add_export(&mut self, note: NodeNote, export: &Export<'_>)
+        requires parts { HasItsParts (record_of export.now) }
+        requires spare { 1 ≤ self.old.spare }
+        ensures notes { self.new.notes ≡ self.old.notes ++ note ∷ [] }
+        ensures exports { self.new.exports ≡ self.old.exports ++ record_octets (record_of export.now) }
+        ensures spare { self.new.spare ≡ self.old.spare - 1 }
+    {
+        self.notes.push(note).unwrap();
+        put_export(export, &mut self.exports);
+    }
+}

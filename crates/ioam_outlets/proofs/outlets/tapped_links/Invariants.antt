@@ -1,7 +1,0 @@
-use Rattle.std.proofs.Common.{◌≡◌, take}
-use Rattle.ioam_outlets.specs.Outlets.{tapped}
-use Rattle.ioam_outlets.proofs.outlets.tapped_links.Given as goal
-
--- those of the links so far
-abbrev pub invariant-links : goal.invariant-links
-invariant-links l = l.ids.items ≡ tapped (take l.place l.link-items)

@@ -1,4 +1,0 @@
-use Rattle.ioam_places.proofs.route_table.route_node.Goals as goal
-
-pub returns : goal.returns
-returns c = c.known.ensures.value

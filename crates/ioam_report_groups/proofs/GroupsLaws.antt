@@ -1,0 +1,62 @@
+-- Laws of the lines of groups.
+use Rattle.std.proofs.Common.{◌≡◌, ℕ, ◌-◌, ◌<◌, ◌≤◌, List, [], ◌∷◌, ◌++◌, length, length-take, take, drop, sym, ap, ap₂, ◌∙◌, arith, inl, inr, ◌⊎◌, Option, None, Some}
+use Rattle.std.specs.List.{flat_map}
+use Rattle.std.proofs.lemmas.Bool.Decides.{nat_tests}
+use Rattle.ioam_data.specs.Elements.{IsElement, IsFilled}
+use Rattle.ioam_data.specs.Kind.{words}
+use Rattle.ioam_dex.specs.Record.{Record, Rec, element_of, front_of, kind_of, length_of}
+use Rattle.ioam_dex.proofs.RecordLaws.{Rec-whole}
+use Rattle.ioam_pool.specs.Entry.{Entry}
+use Rattle.ioam_collect.specs.Keyed.{keyed, keyed_of}
+use Rattle.ioam_collect.specs.Best.{kept_of, groups_of}
+use Rattle.ioam_collect.specs.Collected.{Collected, Stands, capped, one_where_none, count_unkeyed}
+use Rattle.ioam_collect.specs.declared.key.Key.{Key}
+use Rattle.ioam_report_groups.specs.GroupsText.{group_text, counts_line, collected_text, records_text}
+
+-- the octets of a record by its places: nothing stands behind its element
+pub record AtPlaces (octets : List ℕ) : Type 0 where
+  pub front : front_of octets ≤ length octets
+  pub size : length octets ≡ length_of octets
+  pub filled : IsFilled (kind_of octets) (element_of octets)
+  pub short : length (element_of octets) ≤ 244
+
+pub at_places : (octets : List ℕ) (x : Record) → Rec octets x → AtPlaces octets
+at_places octets x rec =
+    let whole = Rec-whole octets x rec in
+    let behind = drop (front_of octets) octets in
+    record {
+      front = omega (arith, whole.0.sized.least, whole.1);
+      size = sym whole.1;
+      filled = whole.0.filled;
+      short = omega (arith, length-take (length_of octets - front_of octets) behind, whole.0.sized.most);
+    }
+
+-- its element by its places
+pub element_at : (octets : List ℕ) (front : ℕ) → front ≡ front_of octets → length octets ≡ length_of octets
+    → take (length octets - front) (drop front octets) ≡ element_of octets
+element_at octets front is size = ap₂ (λ (n : ℕ) (m : ℕ). take (n - m) (drop m octets)) size is
+
+pub filled_or_empty : (kind : ℕ) (element : List ℕ) → IsFilled kind element → (element ≡ []) ⊎ IsElement kind (words kind) element
+filled_or_empty kind element (inl is) = inr is
+filled_or_empty kind element (inr void) = inl void.nothing
+
+capped-is : (n : ℕ) → n < 18446744073709551616 → capped n ≡ n
+capped-is n below = grind (arith, nat_tests)
+
+one_few : (o : Option (Key × Entry)) → one_where_none o ≤ 1
+one_few None = omega arith
+one_few (Some p) = omega arith
+
+count-few : (xs : List Record) → count_unkeyed xs ≤ length xs
+count-few [] = omega arith
+count-few (x ∷ xs) = let more = count-few xs in let one = one_few (keyed_of x) in omega arith
+
+pub records_text-is : (c : Collected) (xs : List Record) → c.groups ≡ groups_of (keyed xs) → Stands c xs → length xs < 18446744073709551616
+    → collected_text c ≡ records_text xs
+records_text-is c xs groups s few =
+    let less = count-few xs in
+    let read : c.read ≡ length xs = s.read ∙ capped-is (length xs) few in
+    let unkeyed : c.unkeyed ≡ count_unkeyed xs = s.unkeyed ∙ capped-is (count_unkeyed xs) (omega arith) in
+    let counts : counts_line c.read c.held c.unkeyed ≡ counts_line (length xs) (length (kept_of (keyed xs))) (count_unkeyed xs) =
+    ap₂ (λ r k. counts_line r k c.unkeyed) read s.groups.held ∙ ap (counts_line (length xs) (length (kept_of (keyed xs)))) unkeyed in
+    ap₂ (λ (gs : List (Key × List Entry)) (text : List ℕ). flat_map group_text gs ++ text) groups counts

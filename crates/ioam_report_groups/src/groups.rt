@@ -1,0 +1,105 @@
+//! The lines of groups.
+ghost use Rattle.std.specs.Prelude.{◌≡◌, ◌<◌, ◌^◌, ◌++◌, List, length, is_ok, if◌then◌else◌};
+ghost use Rattle.std.specs.List.{AllByRecursion, flat_map};
+ghost use Rattle.ioam_dex.specs.Record.{Record};
+ghost use Rattle.ioam_collect.specs.Collected.{Stands};
+ghost use Rattle.ioam_collect.specs.Keyed.{IsOfRecord};
+ghost use Rattle.ioam_report_groups.specs.GroupsText.{key_line, group_text, counts_line, collected_text, records_text};
+
+use crate::ahead::make_room;
+use crate::items::put_items;
+use ioam_base::memory::NoMemory;
+use ioam_base::text::append;
+use ioam_collect::{Collector, Group, Groups, Key, SIDE_BY_SIDE};
+use ioam_report_lines::{Line, Piece, put_pieces, settle};
+
+// Puts the line of a key together, its last word first.
+fn put_key(key: Key, count: u64, line: &mut Line)
+    ensures { line.new ≡ key_line key count }
+{
+    line.clear();
+    line.put(b"\n");
+    line.number(count);
+    line.put(b" ");
+    line.number(u64::from(key.seq));
+    line.put(b" ");
+    line.number(u64::from(key.flow));
+    line.put(b" ");
+    line.number(u64::from(key.namespace.0));
+    line.put(b"group ");
+}
+
+// Appends the lines of a group. The line that is lent holds anything before and after.
+fn put_group(group: Group<'_>, line: &mut Line, out: &mut Vec<u8>) -> Result<(), NoMemory>
+    requires { AllByRecursion IsOfRecord group.items }
+    ensures { out.new.items ≡ (if is_ok result then out.old.items ++ group_text (group.entry.key, group.entry.items) else out.old.items) }
+{
+    let before = out.len();
+    put_key(group.key, group.items.left() as u64, line);
+    append(out, line.octets())?;
+    let answer = put_items(group.items, line, out);
+    settle(out, before, answer)
+}
+
+// Appends the lines of groups, one put together after the other. The same groups, lent once more, are read ahead.
+fn put_all(
+    groups: Groups<'_>,
+    ahead: &mut Groups<'_>,
+    line: &mut Line,
+    out: &mut Vec<u8>,
+) -> Result<(), NoMemory>
+    requires { AllByRecursion (λ group. AllByRecursion IsOfRecord group.1) groups }
+    ensures { out.new.items ≡ (if is_ok result then out.old.items ++ flat_map group_text groups.entry else out.old.items) }
+{
+    let before = out.len();
+    let mut due = 0;
+    for group in groups {
+        if due == 0 {
+            make_room(ahead, out);
+            due = SIDE_BY_SIDE;
+        }
+        due -= 1;
+        let answer = put_group(group, line, out);
+        settle(out, before, answer)?;
+    }
+    Ok(())
+}
+
+// Appends the counts.
+fn put_counts(read: u64, kept: u64, unkeyed: u64, out: &mut Vec<u8>) -> Result<(), NoMemory>
+    ensures { out.new.items ≡ (if is_ok result then out.old.items ++ counts_line read kept unkeyed else out.old.items) }
+{
+    let repeats = read.saturating_sub(kept).saturating_sub(unkeyed);
+    put_pieces(
+        &[
+            Piece::Number(b"records ", read),
+            Piece::Number(b" kept ", kept),
+            Piece::Number(b" repeats ", repeats),
+            Piece::Number(b" unkeyed ", unkeyed),
+            Piece::Text(b"\n"),
+        ],
+        out,
+    )
+}
+
+/// Appends the lines of a collector's groups, in the order of their keys: for each a line `group` with the
+/// namespace, the Flow ID, the Sequence Number and the count of its records, and for each record a line
+/// with the type and the fields of its element (RFC 9197 section 4.4.2), and of a record that tells its
+/// visit the time and the interface. Then a line with how many records were read, are kept, were there
+/// already and have no key. Without memory nothing is appended.
+pub fn put_groups(collector: &Collector, out: &mut Vec<u8>) -> Result<(), NoMemory>
+    ensures text { out.new.items ≡ (if is_ok result then out.old.items ++ collected_text collector.now else out.old.items) }
+    // Where the collector stands for records, this is their text.
+    ensures records { (xs : List Record) → Stands collector.now xs → length xs < 2 ^ 64 → collected_text collector.now ≡ records_text xs }
+{
+    let before = out.len();
+    let mut ahead = collector.groups();
+    put_all(collector.groups(), &mut ahead, &mut Line::new(), out)?;
+    let answer = put_counts(
+        collector.read(),
+        u64::from(collector.held()),
+        collector.unkeyed(),
+        out,
+    );
+    settle(out, before, answer)
+}

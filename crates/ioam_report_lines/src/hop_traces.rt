@@ -1,0 +1,76 @@
+//! The traces that nodes on a packet's way fill.
+ghost use Rattle.std.specs.Prelude.{◌≡◌, ◌++◌, ◌∷◌, ◌≤◌, IsTrue, [], ℕ, length, is_ok, if◌then◌else◌};
+ghost use Rattle.ioam_ip.specs.Chain.{IsSound};
+ghost use Rattle.ioam_ip.specs.Hop.{HopFits};
+ghost use Rattle.ioam_ip.specs.Packet.{IsPacket};
+ghost use Rattle.ioam_ip.specs.Rewriting.{options_in};
+ghost use Rattle.ioam_ip.specs.Spot.{item_in, spot_end};
+ghost use Rattle.ioam_report_lines.specs.HopText.{is_changing_trace, changing_lines, hop_traces_text};
+
+use crate::lines::put_trace_lines;
+use crate::settling::settle;
+use ioam_base::memory::NoMemory;
+use ioam_ip::{OptionSpot, next_option};
+
+// Whether an option is a trace that nodes on the way fill.
+fn is_changing_trace(kind: u8, body: &[u8]) -> bool
+    ensures value { (at : ℕ) → result ≡ is_changing_trace (record { kind = kind; at = at; body = body.now }) }
+    ensures long { IsTrue result → 2 ≤ length body.now }
+{
+    kind == 0x31 && body.len() >= 2 && body[1] == 0
+}
+
+// Appends the lines of an option, where it is such a trace.
+fn put_option(head: &[u8], spot: &OptionSpot, out: &mut Vec<u8>) -> Result<(), NoMemory>
+    requires { spot_end spot.now ≤ length head.now }
+    ensures { out.new.items ≡ (if is_ok result
+        then out.old.items ++ changing_lines (item_in head.now spot.now ∷ [])
+        else out.old.items) }
+{
+    let body = &head[spot.at + 2..spot.at + 2 + spot.size];
+    if is_changing_trace(spot.kind, body) {
+        put_trace_lines(&body[2..], out)
+    } else {
+        Ok(())
+    }
+}
+
+// Appends those of all options of a header.
+fn put_options(head: &[u8], out: &mut Vec<u8>) -> Result<(), NoMemory>
+    requires { length head.now ≤ 2048 }
+    ensures { out.new.items ≡ (if is_ok result
+        then out.old.items ++ changing_lines (options_in head.now)
+        else out.old.items) }
+{
+    let before = out.len();
+    let mut at = 2;
+    'options: while let Some(spot) = next_option(head, at) {
+        let answer = put_option(head, &spot, out);
+        settle(out, before, answer)?;
+        at = spot.at + 2 + spot.size;
+    }
+    Ok(())
+}
+
+// Appends those of the header of a packet, where it lies within the packet.
+fn put_hop(packet: &[u8], out: &mut Vec<u8>) -> Result<(), NoMemory>
+    requires { HopFits packet.now }
+    ensures { out.new.items ≡ (if is_ok result then out.old.items ++ hop_traces_text packet.now else out.old.items) }
+{
+    if packet[6] != 0 {
+        return Ok(());
+    }
+    let end = 40 + (usize::from(packet[41]) + 1) * 8;
+    put_options(&packet[40..end], out)
+}
+
+/// Appends the lines of each pre-allocated trace that nodes on the way of a packet fill: those of option
+/// type 0x31 in the Hop-by-Hop Options header behind its outer header, in order (RFC 9197 section 4.4,
+/// RFC 9486 section 3). Without memory nothing is appended.
+pub fn put_hop_traces(packet: &[u8], out: &mut Vec<u8>) -> Result<(), NoMemory>
+    requires packet { IsPacket packet.now }
+    requires sound { IsSound packet.now }
+    ensures { out.new.items ≡ (if is_ok result then out.old.items ++ hop_traces_text packet.now else out.old.items) }
+{
+    put_hop(packet, out)
+}

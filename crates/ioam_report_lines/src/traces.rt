@@ -1,0 +1,68 @@
+//! The traces of a packet.
+ghost use Rattle.std.specs.Prelude.{◌≡◌, ◌++◌, ◌+◌, length, is_ok, if◌then◌else◌};
+ghost use Rattle.std.specs.List.{flat_map};
+ghost use Rattle.ioam_ip.specs.Packet.{IsPacket};
+ghost use Rattle.ioam_ip.specs.Chain.{IsSound};
+ghost use Rattle.ioam_report_lines.specs.TracesText.{option_lines, traces_of, traces_text, TracesText};
+
+use crate::listed::{count_in, put_in};
+use crate::piece::Piece;
+use crate::put::put_pieces;
+use crate::settling::settle;
+use ioam_base::memory::NoMemory;
+use ioam_ip::heads;
+
+// How many traces of a packet are listed.
+fn count_traces(packet: &[u8]) -> usize
+    requires packet { IsPacket packet.now }
+    requires sound { IsSound packet.now }
+    ensures { result ≡ length (traces_of packet.now) }
+{
+    let mut count = 0;
+    for head in heads(packet) {
+        if head.value == 41 {
+            return count;
+        }
+        count += count_in(packet, &head);
+    }
+    count
+}
+
+// Appends the lines of the traces of a packet.
+fn put_listed(packet: &[u8], out: &mut Vec<u8>) -> Result<(), NoMemory>
+    requires packet { IsPacket packet.now }
+    requires sound { IsSound packet.now }
+    ensures { out.new.items ≡ (if is_ok result then out.old.items ++ flat_map option_lines (traces_of packet.now) else out.old.items) }
+{
+    let before = out.len();
+    for head in heads(packet) {
+        if head.value == 41 {
+            return Ok(());
+        }
+        let answer = put_in(packet, &head, out);
+        settle(out, before, answer)?;
+    }
+    Ok(())
+}
+
+/// Appends ` traces COUNT`, a line feed, and the lines of each pre-allocated trace of a packet: those
+/// of its Hop-by-Hop and Destination Options headers that stand in front of any nested IPv6 header,
+/// in order. An IOAM option (type 0x11 or 0x31) is one where its data has two octets or more and the
+/// second, the IOAM-Option-Type, is 0 (RFC 9486 section 3). Without memory nothing is appended.
+#[tactic(auto, unfolding(crate::specs::TracesText::traces_text))]
+pub fn put_traces(packet: &[u8], out: &mut Vec<u8>) -> Result<(), NoMemory>
+    requires packet { IsPacket packet.now }
+    requires sound { IsSound packet.now }
+    ensures text { out.new.items ≡ (if is_ok result then out.old.items ++ traces_text packet.now else out.old.items) }
+    // The text is the one that the chain of the packet and its options give.
+    ensures is_text { TracesText packet.now (traces_text packet.now) }
+{
+    let before = out.len();
+    let count = count_traces(packet) as u64;
+    put_pieces(
+        &[Piece::Number(b" traces ", count), Piece::Text(b"\n")],
+        out,
+    )?;
+    let answer = put_listed(packet, out);
+    settle(out, before, answer)
+}

@@ -1,0 +1,16 @@
+use Rattle.std.proofs.Common.{◌≡◌, length, take}
+use Rattle.std.specs.List.{All}
+use Rattle.ioam_ip.specs.ChainOptions.{HeadFits}
+use Rattle.ioam_ip.specs.HeadsLeft.{heads_left}
+use Rattle.ioam_report_options.specs.OptionsText.{ioam_from}
+use Rattle.ioam_report_options.proofs.LinesLaws.{Appended}
+use Rattle.ioam_report_options.proofs.listing.put_all.Given as goal
+
+abbrev pub invariant-loop-head : goal.invariant-loop-head
+invariant-loop-head l = record {
+  can : (goal.iterator-loop-head).can_next l.head-iterator;
+  finite : (goal.iterator-loop-head).is_finite l.head-iterator;
+  so_far : Appended (ioam_from l.packet (heads_left l.initial.head-iterator)) (ioam_from l.packet (heads_left l.head-iterator)) l.initial.out.items l.out.items;
+  front : take (length l.initial.out.items) l.out.items ≡ l.initial.out.items;
+  fit : All (HeadFits l.packet) (heads_left l.head-iterator);
+}

@@ -1,0 +1,110 @@
+//! The lines of all IOAM options of a packet.
+ghost use Rattle.std.specs.Prelude.{◌≡◌, ◌+◌, ◌<◌, ◌^◌, List, ℕ, [], ◌∷◌, length};
+ghost use Rattle.ioam_ip.specs.Chain.{IsSound};
+ghost use Rattle.ioam_ip.specs.ChainOptions.{HeadFits};
+ghost use Rattle.ioam_ip.specs.Options.{IsFilled};
+ghost use Rattle.ioam_ip.specs.OptionsLeft.{item_of, options_from};
+ghost use Rattle.ioam_ip.specs.Packet.{IsPacket};
+ghost use Rattle.ioam_report_options.specs.Appends.{Appends};
+ghost use Rattle.ioam_report_options.specs.OptionsText.{ioam_among, ioam_in, ioam_of, OptionLines, OptionsText, CountedText};
+
+use crate::counting::count_options;
+use crate::line::put_line;
+use crate::types::is_ioam_type;
+use ioam_base::memory::NoMemory;
+use ioam_ip::{Head, Opt, heads, options};
+use ioam_report_lines::{Piece, put_pieces, settle};
+
+// Appends the lines of an option of a header that starts at a place of the packet, if it is an IOAM
+// option.
+fn put_if_ioam(start: usize, option: &Opt<'_>, out: &mut Vec<u8>) -> Result<(), NoMemory>
+    requires { start + option.now.at < 2 ^ 64 }
+    ensures { Appends result (OptionLines (ioam_among start (item_of option.now ∷ []))) out.old.items out.new.items }
+{
+    if is_ioam_type(option.kind) {
+        put_line(start, option, out)
+    } else {
+        Ok(())
+    }
+}
+
+// Appends the lines of the IOAM options of an options header that starts at a place of the packet.
+fn put_among(start: usize, head: &[u8], out: &mut Vec<u8>) -> Result<(), NoMemory>
+    requires filled { IsFilled head.now }
+    requires within { start + length head.now < 2 ^ 64 }
+    ensures { Appends result (OptionLines (ioam_among start (options_from (length head.now) head.now 2))) out.old.items out.new.items }
+{
+    let before = out.len();
+    for option in options(head) {
+        let answer = put_if_ioam(start, &option, out);
+        settle(out, before, answer)?;
+    }
+    Ok(())
+}
+
+// Appends the lines of those of a header of the packet.
+fn put_in(packet: &[u8], head: &Head, out: &mut Vec<u8>) -> Result<(), NoMemory>
+    requires { HeadFits packet.now head.now }
+    ensures { Appends result (OptionLines (ioam_in packet.now head.now)) out.old.items out.new.items }
+{
+    // A header ends within the packet, whose length is a number of 64 bits.
+    let _most = packet.len();
+    if head.value == 0 || head.value == 60 {
+        put_among(
+            head.range.start,
+            &packet[head.range.start..head.range.end],
+            out,
+        )
+    } else {
+        Ok(())
+    }
+}
+
+// Appends the lines of those of all headers on the chain.
+fn put_all(packet: &[u8], out: &mut Vec<u8>) -> Result<(), NoMemory>
+    requires packet { IsPacket packet.now }
+    requires sound { IsSound packet.now }
+    ensures { Appends result (OptionLines (ioam_of packet.now)) out.old.items out.new.items }
+{
+    let before = out.len();
+    for head in heads(packet) {
+        let answer = put_in(packet, &head, out);
+        settle(out, before, answer)?;
+    }
+    Ok(())
+}
+
+/// Appends the lines of the IOAM options (type 0x11 or 0x31, RFC 9486 section 3) in the Hop-by-Hop and
+/// Destination Options headers on the chain of a packet whose walk is whole, nested IPv6 headers
+/// included, in order.
+///
+/// A line has two spaces, the option's type in two hexadecimal digits, `at`, the place of its type octet
+/// counted from the packet's first octet, and what its data says: `trace`, `incremental`, `proof`,
+/// `edge`, `direct`, `other`, `short` or `bad`. The elements of a trace have lines of their own in visit
+/// order. Without memory nothing is appended.
+pub fn put_options(packet: &[u8], out: &mut Vec<u8>) -> Result<(), NoMemory>
+    requires packet { IsPacket packet.now }
+    requires sound { IsSound packet.now }
+    ensures lines { Appends result (OptionsText packet.now) out.old.items out.new.items }
+    // A packet has one such text.
+    ensures only { (one other : List ℕ) → OptionsText packet.now one → OptionsText packet.now other → one ≡ other }
+{
+    put_all(packet, out)
+}
+
+/// Appends ` options COUNT`, a line feed, and the lines of [`put_options`].
+pub fn put_counted_options(packet: &[u8], out: &mut Vec<u8>) -> Result<(), NoMemory>
+    requires packet { IsPacket packet.now }
+    requires sound { IsSound packet.now }
+    ensures lines { Appends result (CountedText packet.now) out.old.items out.new.items }
+    ensures only { (one other : List ℕ) → CountedText packet.now one → CountedText packet.now other → one ≡ other }
+{
+    let before = out.len();
+    let count = count_options(packet) as u64;
+    put_pieces(
+        &[Piece::Number(b" options ", count), Piece::Text(b"\n")],
+        out,
+    )?;
+    let answer = put_all(packet, out);
+    settle(out, before, answer)
+}

@@ -1,5 +1,0 @@
-use Rattle.ioam_option_lines.proofs.AppendsLaws.{Appends-OnOk}
-use Rattle.ioam_run.proofs.packet_text.OptionListPacketText.put.Goals as goal
-
-pub returns : goal.returns
-returns c = Appends-OnOk c.put_counted_options.result _ _ _ c.put_counted_options.ensures.lines

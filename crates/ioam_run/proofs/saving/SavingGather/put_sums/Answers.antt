@@ -1,5 +1,0 @@
-use Rattle.ioam_run.proofs.AddsLaws.{Adds-none}
-use Rattle.ioam_run.proofs.saving.SavingGather.put_sums.Goals as goal
-
-pub returns : goal.returns
-returns c = Adds-none c.args._outputs.now c.requires.width

@@ -1,0 +1,162 @@
+-- The exit status and the line of an answer.
+use Rattle.std.specs.Prelude.{ℕ, Bool, true, false, List, ◌++◌, codes, decimal}
+use Rattle.ioam_clock.specs.declared.fault.ReadWhy.{ReadWhy}
+use Rattle.ioam_clock.specs.declared.fault.ReadWhy.TheVariants as read
+use Rattle.ioam_clock.specs.declared.fault.ReadingsFault.{ReadingsFault}
+use Rattle.ioam_dex.specs.declared.export.ExportFault.{ExportFault}
+use Rattle.ioam_dex.specs.declared.export.ExportFault.TheVariants as export
+use Rattle.ioam_pcap.specs.declared.capture.CapFault.{CapFault}
+use Rattle.ioam_pcap.specs.declared.capture.CapFault.TheVariants as fault
+use Rattle.ioam_topo_values.specs.declared.why.Why.{Why}
+use Rattle.ioam_topo_values.specs.declared.why.Why.TheVariants as why
+use Rattle.ioam_topo_entries.specs.declared.fault.DomainFault.{DomainFault}
+use Rattle.ioam_topo_entries.specs.declared.words.Field.{Field}
+use Rattle.ioam_topo_entries.specs.declared.words.Field.TheVariants as field
+use Rattle.ioam_topo_entries.specs.declared.words.Table.{Table}
+use Rattle.ioam_topo_entries.specs.declared.words.Table.TheVariants as table
+use Rattle.ioam_run_answer.specs.declared.outcome.Outcome.{Outcome}
+use Rattle.ioam_run_answer.specs.declared.outcome.Outcome.TheVariants.{Done, Usage, Names, Domain, Readings, Capture, Exports, Packets, Records, ReadFault, WriteFault, NoMemory}
+
+abbrev pub status_of : Outcome → ℕ
+status_of Done = 0
+status_of Usage = 1
+status_of (Names name) = 2
+status_of (Domain fault) = 3
+status_of (Readings fault) = 4
+status_of (Capture name at fault) = 5
+status_of (Exports at fault) = 6
+status_of (Packets limit) = 7
+status_of (Records limit) = 8
+status_of ReadFault = 9
+status_of WriteFault = 10
+status_of NoMemory = 11
+
+-- the words for what is wrong with a domain file and with readings
+abbrev pub table_text : Table → List ℕ
+table_text table.Top = codes "top"
+table_text table.NodeTable = codes "node"
+table_text table.LinkTable = codes "link"
+table_text table.PortTable = codes "port"
+table_text table.RouteTable = codes "route"
+table_text table.DataTable = codes "data"
+table_text table.FlowTable = codes "flow"
+table_text table.ExtraTable = codes "extra"
+
+abbrev pub field_text : Field → List ℕ
+field_text field.FormatKey = codes "format"
+field_text field.PacketsKey = codes "packets"
+field_text field.NameKey = codes "name"
+field_text field.IdKey = codes "id"
+field_text field.AddressKey = codes "address"
+field_text field.NamespacesKey = codes "namespaces"
+field_text field.FromKey = codes "from"
+field_text field.ToKey = codes "to"
+field_text field.OutIdKey = codes "out_id"
+field_text field.InIdKey = codes "in_id"
+field_text field.DelayKey = codes "delay"
+field_text field.MtuKey = codes "mtu"
+field_text field.TapKey = codes "tap"
+field_text field.NodeKey = codes "node"
+field_text field.InKey = codes "in"
+field_text field.OutKey = codes "out"
+field_text field.PrefixKey = codes "prefix"
+field_text field.LinkKey = codes "link"
+field_text field.PortKey = codes "port"
+field_text field.NamespaceKey = codes "namespace"
+field_text field.ShortKey = codes "short"
+field_text field.WideKey = codes "wide"
+field_text field.SchemaKey = codes "schema"
+field_text field.SnapshotKey = codes "snapshot"
+field_text field.EntryKey = codes "entry"
+field_text field.ExitKey = codes "exit"
+field_text field.SourceKey = codes "source"
+field_text field.TargetKey = codes "target"
+field_text field.HopsKey = codes "hops"
+field_text field.LabelKey = codes "label"
+field_text field.TraceKey = codes "trace"
+field_text field.CapacityKey = codes "capacity"
+field_text field.EdgeKey = codes "edge"
+field_text field.DirectKey = codes "direct"
+field_text field.EveryKey = codes "every"
+field_text field.FlowIdKey = codes "flow_id"
+field_text field.LimitKey = codes "limit"
+field_text field.FlowKey = codes "flow"
+field_text field.OtherKey = codes "other"
+field_text field.NoKey = codes "-"
+
+-- whether a key is one that flows alone have
+abbrev pub is_flow_key : Field → Bool
+is_flow_key field.EntryKey = true
+is_flow_key field.ExitKey = true
+is_flow_key field.SourceKey = true
+is_flow_key field.TargetKey = true
+is_flow_key field.HopsKey = true
+is_flow_key field.LabelKey = true
+is_flow_key field.TraceKey = true
+is_flow_key field.CapacityKey = true
+is_flow_key field.EdgeKey = true
+is_flow_key field.DirectKey = true
+is_flow_key field.EveryKey = true
+is_flow_key field.FlowIdKey = true
+is_flow_key field.LimitKey = true
+is_flow_key field.FlowKey = true
+is_flow_key _ = false
+
+abbrev pub why_text : Why → List ℕ
+why_text why.Text = codes "text"
+why_text why.Long = codes "long"
+why_text why.Missing = codes "missing"
+why_text why.Kind = codes "kind"
+why_text why.Range = codes "range"
+why_text why.Unknown = codes "unknown"
+why_text why.Twice = codes "twice"
+why_text why.TooMany = codes "too-many"
+
+abbrev pub read_why_text : ReadWhy → List ℕ
+read_why_text read.Long = codes "long"
+read_why_text read.Words = codes "words"
+read_why_text read.Node = codes "node"
+read_why_text read.Number = codes "number"
+read_why_text read.Order = codes "order"
+
+abbrev pub domain_text : DomainFault → List ℕ
+domain_text fault = codes "domain " ++ table_text fault.table ++ codes " " ++ decimal fault.place ++ codes " " ++ field_text fault.field
+    ++ codes " " ++ why_text fault.why
+
+abbrev pub readings_text : ReadingsFault → List ℕ
+readings_text fault = codes "readings " ++ decimal fault.line ++ codes " " ++ read_why_text fault.why
+
+abbrev pub fault_text : CapFault → List ℕ
+fault_text (fault.Magic found) = codes "magic " ++ decimal found
+fault_text (fault.Blocks limit) = codes "blocks " ++ decimal limit
+fault_text (fault.Order found) = codes "order " ++ decimal found
+fault_text (fault.Large found) = codes "large " ++ decimal found
+fault_text (fault.Size found) = codes "size " ++ decimal found
+fault_text (fault.Trail found) = codes "trail " ++ decimal found
+fault_text (fault.Kind found) = codes "kind " ++ decimal found
+fault_text (fault.Face found) = codes "face " ++ decimal found
+fault_text (fault.Link found) = codes "link " ++ decimal found
+fault_text (fault.Resolution found) = codes "resolution " ++ decimal found
+fault_text (fault.RecordLong found) = codes "long " ++ decimal found
+fault_text (fault.Time found) = codes "time " ++ decimal found
+fault_text (fault.Short have) = codes "short " ++ decimal have
+
+abbrev pub export_text : ExportFault → List ℕ
+export_text (export.Version found) = codes "version " ++ decimal found
+export_text (export.Length found) = codes "length " ++ decimal found
+export_text (export.Element at) = codes "element " ++ decimal at
+export_text (export.Short have) = codes "short " ++ decimal have
+
+abbrev pub line_text : Outcome → List ℕ
+line_text Done = codes "done"
+line_text Usage = codes "usage"
+line_text (Names name) = codes "names " ++ name
+line_text (Domain fault) = domain_text fault
+line_text (Readings fault) = readings_text fault
+line_text (Capture name at fault) = codes "capture " ++ name ++ codes " " ++ decimal at ++ codes " " ++ fault_text fault
+line_text (Exports at fault) = codes "exports " ++ decimal at ++ codes " " ++ export_text fault
+line_text (Packets limit) = codes "packets " ++ decimal limit
+line_text (Records limit) = codes "records " ++ decimal limit
+line_text ReadFault = codes "read fault"
+line_text WriteFault = codes "write fault"
+line_text NoMemory = codes "no memory"

@@ -1,0 +1,110 @@
+//! The words for faults of the domain file and of readings.
+ghost use Rattle.std.specs.Prelude.{◌≡◌, true};
+ghost use Rattle.ioam_run_answer.specs.Answers.{table_text, field_text, is_flow_key, why_text, read_why_text};
+
+use ioam_clock::ReadWhy;
+use ioam_topo_entries::{Field, Table, Why};
+
+/// The word for a table of the domain file.
+pub fn table_text(table: Table) -> &'static str
+    ensures { result.now ≡ table_text table }
+{
+    match table {
+        Table::Top => "top",
+        Table::NodeTable => "node",
+        Table::LinkTable => "link",
+        Table::PortTable => "port",
+        Table::RouteTable => "route",
+        Table::DataTable => "data",
+        Table::FlowTable => "flow",
+        Table::ExtraTable => "extra",
+    }
+}
+
+/// The word for a key: the key itself, `other` for one that isn't listed, `-` for none.
+pub fn field_text(field: Field) -> &'static str
+    ensures { result.now ≡ field_text field }
+{
+    match field {
+        Field::FormatKey => "format",
+        Field::PacketsKey => "packets",
+        Field::NameKey => "name",
+        Field::IdKey => "id",
+        Field::AddressKey => "address",
+        Field::NamespacesKey => "namespaces",
+        Field::FromKey => "from",
+        Field::ToKey => "to",
+        Field::OutIdKey => "out_id",
+        Field::InIdKey => "in_id",
+        Field::DelayKey => "delay",
+        Field::MtuKey => "mtu",
+        Field::TapKey => "tap",
+        Field::NodeKey => "node",
+        Field::InKey => "in",
+        Field::OutKey => "out",
+        Field::PrefixKey => "prefix",
+        Field::LinkKey => "link",
+        Field::PortKey => "port",
+        Field::NamespaceKey => "namespace",
+        Field::ShortKey => "short",
+        Field::WideKey => "wide",
+        Field::SchemaKey => "schema",
+        Field::SnapshotKey => "snapshot",
+        Field::OtherKey => "other",
+        Field::NoKey => "-",
+        flow_key => flow_key_text(flow_key),
+    }
+}
+
+// The word for a key that flows and their extra traces alone have.
+fn flow_key_text(field: Field) -> &'static str
+    requires { is_flow_key field ≡ true }
+    ensures { result.now ≡ field_text field }
+{
+    match field {
+        Field::EntryKey => "entry",
+        Field::ExitKey => "exit",
+        Field::SourceKey => "source",
+        Field::TargetKey => "target",
+        Field::HopsKey => "hops",
+        Field::LabelKey => "label",
+        Field::TraceKey => "trace",
+        Field::CapacityKey => "capacity",
+        Field::EdgeKey => "edge",
+        Field::DirectKey => "direct",
+        Field::EveryKey => "every",
+        Field::FlowIdKey => "flow_id",
+        Field::LimitKey => "limit",
+        Field::FlowKey => "flow",
+        _ => unreachable!(),
+    }
+}
+
+/// The word for what is wrong with a value of the domain file.
+pub fn why_text(why: Why) -> &'static str
+    ensures { result.now ≡ why_text why }
+{
+    match why {
+        Why::Text => "text",
+        Why::Long => "long",
+        Why::Missing => "missing",
+        Why::Kind => "kind",
+        Why::Range => "range",
+        Why::Unknown => "unknown",
+        Why::Twice => "twice",
+        Why::TooMany => "too-many",
+    }
+}
+
+/// The word for what is wrong with a line of readings.
+pub fn read_why_text(why: ReadWhy) -> &'static str
+    ensures { result.now ≡ read_why_text why }
+{
+    match why {
+        ReadWhy::Long => "long",
+        ReadWhy::Words => "words",
+        ReadWhy::Node => "node",
+        ReadWhy::Number => "number",
+        ReadWhy::Order => "order",
+    }
+}

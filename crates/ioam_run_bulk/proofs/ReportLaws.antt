@@ -1,0 +1,62 @@
+-- Laws of the report.
+use Rattle.std.proofs.Common.{◌≡◌, ℕ, ◌<◌, List, [], ◌∷◌, ◌++◌, length, get_or, set, Ok, Err, ap, subst, arith}
+use Rattle.std.specs.Prelude.{replicate, Result, OnOk, is_ok, if◌then◌else◌}
+use Rattle.std.proofs.lemmas.List.{length-map}
+use Rattle.ioam_clock.specs.Reading.{node_names, readings_of}
+use Rattle.ioam_clock.specs.declared.sample.Sample.{Sample}
+use Rattle.ioam_run_texts.specs.Fate.{AreFates}
+use Rattle.ioam_run_arrivals.proofs.OneFateLaws.{AreFates-unique}
+use Rattle.ioam_topo_generated.specs.Bulk.{IsBulkDomain, bulk_ports}
+use Rattle.ioam_desk_outputs.specs.declared.output.Output.{Output}
+use Rattle.ioam_desk_outputs.specs.Told.{Adds}
+use Rattle.ioam_plan.specs.declared.itinerary.Itinerary.{Itinerary}
+use Rattle.ioam_report.specs.Sums.{StandFor}
+use Rattle.ioam_report.specs.SumsText.{sums_text, arrivals_text}
+use Rattle.ioam_report.specs.declared.sums.Sums.{Sums}
+use Rattle.ioam_topo.specs.Domain.{nodes, ports}
+use Rattle.ioam_topo.specs.Keyed.{name_of_node}
+use Rattle.ioam_topo.specs.declared.domain.Domain.{Domain}
+use Rattle.ioam_run_bulk.specs.Generated.{arrivals}
+use Rattle.ioam_run_bulk.specs.Load.{AreSums}
+use Rattle.ioam_run_bulk.specs.Run.{IsReport, no_readings}
+
+-- a file of no octets has no readings
+pub nothing_read : (domain : Domain) → readings_of (node_names domain) [] ≡ Ok (no_readings domain)
+nothing_read domain =
+    let size : length (node_names domain) ≡ length (nodes domain) = length-map (nodes domain) name_of_node in
+    ap (λ (n : ℕ). Ok (replicate n [])) size
+
+pub IsReport-of : (seed count : ℕ) (domain : Domain) (readings : List (List Sample)) (sums : Sums) → IsBulkDomain count domain
+    → readings ≡ no_readings domain → AreSums domain readings seed count sums
+    → ((ways : List Itinerary) → StandFor domain sums ways → sums_text domain sums ≡ arrivals_text domain ways) → IsReport seed count (sums_text domain sums)
+IsReport-of seed count domain readings sums is none are gives =
+    let become : AreFates domain (no_readings domain) (arrivals seed count) are.fates =
+    subst (λ (rs : List (List Sample)). AreFates domain rs (arrivals seed count) are.fates) none are.become in
+    record {
+      domain = domain;
+      fates = are.fates;
+      is_domain = is;
+      become = become;
+      only = λ others also. AreFates-unique domain (no_readings domain) (arrivals seed count) others are.fates also become;
+      text_is = gives _ are.stands;
+    }
+
+-- octets that are gathered for one output
+pub Adds-one : (outputs : List Output) (d after : Output) (added : List ℕ) → length outputs ≡ 1
+    → after.slot ≡ (get_or outputs 0 d).slot → after.gathered.items ≡ (get_or outputs 0 d).gathered.items ++ added
+    → Adds outputs (set outputs 0 after) (added ∷ [])
+Adds-one [] d after added one slot is = absurd (omega (arith, one))
+Adds-one (x ∷ []) d after added one slot is = (slot, is, tt)
+Adds-one (x ∷ y ∷ outputs) d after added one slot is = absurd (omega (arith, one))
+
+-- what was appended is the report
+pub report-appended : {T E : Type 0} (result : Result T E) (seed count : ℕ) (old new text : List ℕ)
+    → new ≡ (if is_ok result then old ++ text else old) → IsReport seed count text
+    → OnOk result ((more : List ℕ) × IsReport seed count more × (new ≡ old ++ more))
+report-appended (Ok x) seed count old new text is report = (text, report, is)
+report-appended (Err e) seed count old new text is report = tt
+
+-- the domain has a first port
+pub first-port : (count : ℕ) (domain : Domain) → IsBulkDomain count domain → 0 < length (ports domain)
+unfolding bulk_ports
+first-port count domain is = let two : length (ports domain) ≡ length bulk_ports = ap length is.ports_are in omega (arith, two)

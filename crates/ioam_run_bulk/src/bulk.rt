@@ -1,0 +1,88 @@
+//! `bulk SEED COUNT WORKERS REPORT`.
+ghost use Rattle.std.specs.Prelude.{◌≡◌, ◌⊎◌, ◌≤◌, ◌∷◌, ◌++◌, [], IfErr, IsTrue, OnOk, length};
+ghost use Rattle.ioam_run_answer.specs.Outcomes.{IsDone};
+ghost use Rattle.ioam_run_answer.specs.declared.outcome.Outcome.{Outcome};
+ghost use Rattle.ioam_desk.specs.Asked.{AsksFront, IsFaultOf};
+ghost use Rattle.ioam_desk.specs.Desk.{Rose};
+ghost use Rattle.ioam_desk.specs.Kept.{KeepsOutputs};
+ghost use Rattle.ioam_desk_outputs.specs.Names.{name_at};
+ghost use Rattle.ioam_run_bulk.specs.Run.{HasCause, HoldsFront, HoldsReport, Leaves, report_file};
+
+use crate::report::write_report;
+use ioam_base::name::Name;
+use ioam_batch::Gate;
+use ioam_desk::{Desk, DeskFault};
+use ioam_desk_outputs::open_outputs;
+use ioam_run_answer::Outcome;
+use std::alloc::Global;
+use std::thread::Threads;
+
+/// Runs `bulk SEED COUNT WORKERS REPORT`: COUNT packets, 1 to 1,000,000, that are generated behind SEED
+/// are sent through a domain of five nodes in a row, the first of which encloses those for the first
+/// subnet behind the last (RFC 9197 section 4.4, RFC 9486 section 3). Their jobs are run in batches by
+/// WORKERS workers, 1 to 64, each asking `gate` before its jobs, and forgotten, so that what is held at
+/// a time doesn't grow with COUNT. REPORT has the sums alone.
+///
+/// The words are the command and these four, and `seed`, `count` and `workers` are the numbers that
+/// they spell. REPORT is opened first, and written behind the last arrival. No input is opened.
+pub fn run_bulk<R: Threads + Sync, D: Desk, G: Gate>(
+    rt: &R,
+    alloc: Global,
+    seed: u64,
+    count: u32,
+    workers: u32,
+    words: &[Name],
+    desk: &mut D,
+    gate: &G,
+) -> Outcome
+    requires words { length words.now ≡ 5 }
+    requires count { (1 ≤ count) × (count ≤ 1000000) }
+    requires staffed { (1 ≤ workers) × (workers ≤ 64) }
+    // The sums follow from the journeys alone, so they hold whether the gate opens or not.
+    ensures leaves { IsTrue D.tells → Leaves seed count (report_file words.now) (D.writing desk.old) (D.writing desk.new) result }
+    ensures cause { HasCause (D.writing desk.old) (D.writing desk.new) result }
+    // It is done, unless a call of the desk failed or no memory could be had.
+    ensures exact { (Rose (D.writing desk.old).side.faults (D.writing desk.new).side.faults → ⊥)
+        → (result ≡ Outcome.Done) ⊎ (result ≡ Outcome.NoMemory) }
+    ensures asked_out { AsksFront (D.writing desk.old).side.asked (D.writing desk.new).side.asked (report_file words.now ∷ []) }
+    ensures all_out { IsDone result → (D.writing desk.new).side.asked ≡ (D.writing desk.old).side.asked ++ report_file words.now ∷ [] }
+    // Inputs are as they were, and where the desk tells output slots that were there and names other than REPORT.
+    ensures kept_in { D.reading desk.new ≡ D.reading desk.old }
+    ensures kept_out { IsTrue D.tells → KeepsOutputs (D.writing desk.old) (D.writing desk.new) }
+{
+    match write_sums(rt, alloc, seed, count, workers, &words[4..], desk, gate) {
+        Ok(()) => Outcome::Done,
+        Err(DeskFault::Failed) => Outcome::WriteFault,
+        Err(DeskFault::NoMemory) => Outcome::NoMemory,
+    }
+}
+
+// Opens the one file, and writes the sums to it.
+fn write_sums<R: Threads + Sync, D: Desk, G: Gate>(
+    rt: &R,
+    alloc: Global,
+    seed: u64,
+    count: u32,
+    workers: u32,
+    reports: &[Name],
+    desk: &mut D,
+    gate: &G,
+) -> Result<(), DeskFault>
+    requires one { length reports.now ≡ 1 }
+    requires count { (1 ≤ count) × (count ≤ 1000000) }
+    requires staffed { (1 ≤ workers) × (workers ≤ 64) }
+    ensures held { OnOk result (IsTrue D.tells → HoldsReport seed count (name_at reports.now 0) (D.writing desk.new)) }
+    ensures front { IsTrue D.tells → HoldsFront seed count (name_at reports.now 0) (D.writing desk.old) (D.writing desk.new) }
+    ensures cause { IfErr result (IsFaultOf (D.writing desk.old).side (D.writing desk.new).side) }
+    ensures asked_out { AsksFront (D.writing desk.old).side.asked (D.writing desk.new).side.asked reports.now }
+    ensures all_out { OnOk result ((D.writing desk.new).side.asked ≡ (D.writing desk.old).side.asked ++ reports.now) }
+    ensures kept_in { D.reading desk.new ≡ D.reading desk.old }
+    ensures kept_out { IsTrue D.tells → KeepsOutputs (D.writing desk.old) (D.writing desk.new) }
+{
+    match open_outputs(alloc, desk, reports) {
+        Ok(mut outputs) => {
+            write_report(rt, alloc, seed, count, workers, gate, &mut outputs, desk)
+        }
+        Err(fault) => Err(fault),
+    }
+}

@@ -1,0 +1,9 @@
+use Rattle.ioam_desk_outputs.proofs.ToldLaws.{Nothing-few}
+use Rattle.ioam_run_capture.proofs.AddsLaws.{Adds-none}
+use Rattle.ioam_run_capture.proofs.listing.ListingGather.begin.Goals as goal
+
+pub returns-clause-adds : goal.returns-clause-adds
+returns-clause-adds g c = Adds-none c.args._outputs.now c.requires.width
+
+pub returns-clause-waiting : goal.returns-clause-waiting
+returns-clause-waiting g c = Nothing-few c.args._outputs.now c.requires.nothing

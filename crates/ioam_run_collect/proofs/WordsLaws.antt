@@ -1,0 +1,58 @@
+-- The words of the command and its two files.
+use Rattle.std.proofs.Common.{◌≡◌, ◌≢◌, ℕ, zero, suc, ◌-◌, ◌<◌, ◌⊎◌, Bool, List, [], ◌∷◌, length, take, Option, refl, sym, ap, ◌∙◌, subst, ⊎_elim, arith}
+use Rattle.std.specs.Prelude.{drop, Contains}
+use Rattle.ioam_desk.specs.Desk.{Reading, Writing}
+use Rattle.ioam_desk_outputs.specs.Names.{name_at, AreApart, Repeats}
+use Rattle.ioam_run_answer.specs.declared.outcome.Outcome.{Outcome}
+use Rattle.ioam_run_answer.specs.declared.outcome.Outcome.TheVariants as outcome
+use Rattle.ioam_run_collect.specs.Run.{HasCause, report_file}
+use Rattle.ioam_run_collect.specs.Ends.{FileCause}
+
+-- the one name behind EXPORTS
+pub one_report : (words : List (List ℕ)) → length words ≡ 3 → take (length words - 2) (drop 2 words) ≡ report_file words ∷ []
+one_report [] three = absurd (omega (arith, three))
+one_report (a ∷ []) three = absurd (omega (arith, three))
+one_report (a ∷ b ∷ []) three = absurd (omega (arith, three))
+one_report (a ∷ b ∷ c ∷ []) three = refl
+one_report (a ∷ b ∷ c ∷ d ∷ more) three = absurd (omega (arith, three))
+
+pub first_of_one : (names : List (List ℕ)) (name : List ℕ) → names ≡ name ∷ [] → name_at names 0 ≡ name
+first_of_one names name one = ap (λ (ns : List (List ℕ)). name_at ns 0) one
+
+pub one_of_first : (names : List (List ℕ)) (name : List ℕ) → names ≡ name ∷ [] → names ≡ name_at names 0 ∷ []
+one_of_first names name one = one ∙ ap (λ (n : List ℕ). n ∷ []) (sym (first_of_one names name one))
+
+-- one name is apart
+none_earlier : (name : List ℕ) → Contains [] name → ⊥
+none_earlier name there = let below = there.1 in omega (arith, below)
+
+alone_apart : (name : List ℕ) (at : ℕ) → at < 1 → Repeats (name ∷ []) at → ⊥
+alone_apart name zero inside repeats = none_earlier name repeats
+alone_apart name (suc at) inside repeats = omega (arith, inside)
+
+pub one_apart : (names : List (List ℕ)) (name : List ℕ) → names ≡ name ∷ [] → AreApart names
+one_apart names name one =
+    let P : List (List ℕ) → Type 0 = λ ns. AreApart ns in
+    subst P (sym one) (alone_apart name)
+
+module _ (tells : Bool) (content : Option (List ℕ)) (exports report : List ℕ) (old_in new_in : Reading) (old new : Writing) where
+  pub cause_of_file : (answer : Outcome) → exports ≢ report → FileCause tells content old_in new_in old new answer
+      → HasCause tells content exports report old_in new_in old new answer
+  cause_of_file outcome.Done apart cause = (apart, cause)
+  cause_of_file (outcome.Names name) apart cause = absurd cause
+  cause_of_file (outcome.Exports at fault) apart cause = (apart, cause)
+  cause_of_file (outcome.Records limit) apart cause = (apart, cause.0, cause.1)
+  cause_of_file outcome.Usage apart cause = absurd cause
+  cause_of_file (outcome.Domain why) apart cause = absurd cause
+  cause_of_file (outcome.Readings why) apart cause = absurd cause
+  cause_of_file (outcome.Capture name at fault) apart cause = absurd cause
+  cause_of_file (outcome.Packets limit) apart cause = absurd cause
+  cause_of_file outcome.ReadFault apart cause = cause
+  cause_of_file outcome.WriteFault apart cause = cause
+  cause_of_file outcome.NoMemory apart cause = tt
+
+  pub cause_of_names : (answer : Outcome) (name : List ℕ) → exports ≡ report → name ≡ report
+      → (answer ≡ outcome.Names name) ⊎ (answer ≡ outcome.NoMemory) → HasCause tells content exports report old_in new_in old new answer
+  cause_of_names answer name equal is either =
+      let P : Outcome → Type 0 = λ o. HasCause tells content exports report old_in new_in old new o in
+      ⊎_elim (λ named. subst P (sym named) (equal, is)) (λ none. subst P (sym none) tt) either

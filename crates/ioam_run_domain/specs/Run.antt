@@ -1,0 +1,307 @@
+-- What `run DOMAIN READINGS WORKERS REPORT EXPORTS` answers and leaves: the captures of the ports of
+-- the domain that DOMAIN describes are merged by time, and each port's capture of what leaves, each
+-- tap's of what crosses its link, the report and the export records are written.
+use Rattle.std.specs.Prelude.{◌≡◌, ◌≢◌, ℕ, ◌+◌, ◌<◌, ◌≤◌, ◌⊎◌, ⊤, All, Bool, IsTrue, IsSomeAnd, List, [], ◌∷◌, ◌++◌, length, map, slice_get, Option, Some}
+use Rattle.ioam_clock.specs.declared.sample.Sample.{Sample}
+use Rattle.ioam_desk.specs.Asked.{AsksFront}
+use Rattle.ioam_desk.specs.Desk.{Reading, Writing, Rose, holds}
+use Rattle.ioam_desk.specs.Kept.{KeepsInputs, KeepsOutputs}
+use Rattle.ioam_run_texts.specs.Fate.{Fate, AreFates}
+use Rattle.ioam_run_texts.specs.Texts.{out_text, tap_text, report_text, exports_text}
+use Rattle.ioam_ip.specs.Clean.{MayLeave}
+use Rattle.ioam_capture_merge.specs.Merging.{FilesArrive, FilesBegin, PartsArrive, start_of}
+use Rattle.ioam_desk_outputs.specs.Names.{name_at, AreApart, IsFirstRepeat}
+use Rattle.ioam_capture.specs.Merge.{Arrival}
+use Rattle.ioam_pcap.specs.Text.{IsCaptureOf}
+use Rattle.ioam_capture.specs.declared.turns.Turn.{Turn}
+use Rattle.ioam_capture.specs.declared.turns.Turn.TheVariants as turn
+use Rattle.ioam_run_answer.specs.Outcomes.{IsDone, IsBehindAll}
+use Rattle.ioam_run_answer.specs.declared.outcome.Outcome.{Outcome}
+use Rattle.ioam_run_answer.specs.declared.outcome.Outcome.TheVariants as outcome
+use Rattle.ioam_run_files.specs.Names.{input_names, input_ports, output_names, file_names}
+use Rattle.ioam_run_files.specs.Setting.{HasDomainFault, HasReadingsFault, IsSetting}
+use Rattle.ioam_topo.specs.Domain.{links, ports}
+use Rattle.ioam_topo.specs.declared.domain.Domain.{Domain}
+use Rattle.ioam_topo_entries.specs.declared.fault.DomainFault.{DomainFault}
+use Rattle.ioam_topo.specs.declared.parts.Link.{Link}
+use Rattle.ioam_topo.specs.declared.parts.Port.{Port}
+use Rattle.ioam_run_domain.specs.Left.{LeavesOnce}
+use Rattle.ioam_run_traffic.specs.Traffic.{AllOpened, Course, HoldsFronts, IsTimely, ArePassed, AreOpened, Arrive, frames_of}
+
+-- the files that the words name
+abbrev pub domain_file : List (List ℕ) → List ℕ
+domain_file words = name_at words 1
+
+abbrev pub readings_file : List (List ℕ) → List ℕ
+readings_file words = name_at words 2
+
+abbrev pub report_file : List (List ℕ) → List ℕ
+report_file words = name_at words 4
+
+abbrev pub exports_file : List (List ℕ) → List ℕ
+exports_file words = name_at words 5
+
+abbrev pub word_files : List (List ℕ) → List (List ℕ)
+word_files words = domain_file words ∷ readings_file words ∷ report_file words ∷ exports_file words ∷ []
+
+-- all files of a run, in the order in which equal ones are looked for
+abbrev pub run_files : List (List ℕ) → Domain → List (List ℕ)
+run_files words domain = file_names (ports domain) (links domain) (word_files words)
+
+-- those that are written, in the order in which they are opened
+abbrev pub run_outputs : List (List ℕ) → Domain → List (List ℕ)
+run_outputs words domain = output_names (ports domain) (links domain) (report_file words) (exports_file words)
+
+-- the captures that are read, in the order in which they are opened
+abbrev pub run_inputs : Domain → List (List ℕ)
+run_inputs domain = input_names (ports domain)
+
+module _ (desk : Writing) (words : List (List ℕ)) where
+  -- DOMAIN holds this domain, and READINGS these readings of its nodes
+  abbrev pub IsSet : Domain → List (List Sample) → Type 0
+  IsSet domain readings = IsSetting desk (domain_file words) (readings_file words) domain readings
+
+  -- and no two files of the run have one name
+  pub record IsReady (domain : Domain) (readings : List (List Sample)) : Type 0 where
+    pub set : IsSet domain readings
+    pub apart : AreApart (run_files words domain)
+
+  -- what the captures of a domain's ports hold
+  abbrev pub contents : Domain → List (Option (List ℕ))
+  contents domain = map (holds desk) (run_inputs domain)
+
+  -- these are all that arrive at the domain, no more than it allows, and the turn behind them is this
+  pub record Arrives (domain : Domain) (last : Turn) : Type 0 where
+    pub taken : List Arrival
+    pub arrive : FilesArrive (contents domain) taken last
+    pub few : length taken ≤ domain.packets
+
+  -- more arrive than the domain allows
+  pub record Exceeds (domain : Domain) : Type 0 where
+    pub taken : List Arrival
+    pub begin : FilesBegin (contents domain) taken
+    pub many : domain.packets < length taken
+
+  -- What the words and the files ask for, where nothing fails: the first of the refusals in their
+  -- order whose condition holds, or Done.
+  abbrev pub Asked : Outcome → Type 0
+  Asked (outcome.Domain fault) = HasDomainFault desk (domain_file words) (readings_file words) fault
+  Asked (outcome.Readings fault) = HasReadingsFault desk (domain_file words) (readings_file words) fault
+  Asked (outcome.Names name) = (domain : Domain) × (readings : List (List Sample)) × IsSet domain readings
+      × ((at : ℕ) × IsFirstRepeat (run_files words domain) at × (name ≡ name_at (run_files words domain) at))
+  Asked (outcome.Packets limit) = (domain : Domain) × (readings : List (List Sample)) × IsReady domain readings
+      × (limit ≡ domain.packets) × Exceeds domain
+  Asked (outcome.Capture name at fault) = (domain : Domain) × (readings : List (List Sample)) × IsReady domain readings
+      × ((place : ℕ) × (name ≡ name_at (run_inputs domain) place) × Arrives domain (turn.Broken place at fault))
+  Asked outcome.Done = (domain : Domain) × (readings : List (List Sample)) × IsReady domain readings × Arrives domain turn.Over
+  Asked outcome.Usage = ⊥
+  Asked (outcome.Exports place fault) = ⊥
+  Asked (outcome.Records limit) = ⊥
+  Asked outcome.ReadFault = ⊥
+  Asked outcome.WriteFault = ⊥
+  Asked outcome.NoMemory = ⊥
+
+-- the files that the words name differ, where the captures were looked at; so much is known of real
+-- files too
+abbrev pub HaveDiffered : List (List ℕ) → Outcome → Type 0
+HaveDiffered words outcome.Done = AreApart (word_files words)
+HaveDiffered words (outcome.Capture name at fault) = AreApart (word_files words)
+HaveDiffered words (outcome.Packets limit) = AreApart (word_files words)
+HaveDiffered words outcome.Usage = ⊤
+HaveDiffered words (outcome.Domain fault) = ⊤
+HaveDiffered words (outcome.Readings fault) = ⊤
+HaveDiffered words (outcome.Names name) = ⊤
+HaveDiffered words (outcome.Exports place fault) = ⊥
+HaveDiffered words (outcome.Records limit) = ⊥
+HaveDiffered words outcome.ReadFault = ⊤
+HaveDiffered words outcome.WriteFault = ⊤
+HaveDiffered words outcome.NoMemory = ⊤
+
+-- what `run` was given is refused before anything of its captures is looked at
+abbrev pub IsRefusal : Outcome → Type 0
+IsRefusal (outcome.Domain fault) = ⊤
+IsRefusal (outcome.Readings fault) = ⊤
+IsRefusal (outcome.Names name) = ⊤
+IsRefusal outcome.Done = ⊥
+IsRefusal outcome.Usage = ⊥
+IsRefusal (outcome.Capture name at fault) = ⊥
+IsRefusal (outcome.Packets limit) = ⊥
+IsRefusal (outcome.Exports place fault) = ⊥
+IsRefusal (outcome.Records limit) = ⊥
+IsRefusal outcome.ReadFault = ⊥
+IsRefusal outcome.WriteFault = ⊥
+IsRefusal outcome.NoMemory = ⊥
+
+-- where the traffic of a domain begins, whose workers' gate opens always or may stay shut: DOMAIN and READINGS were read
+-- by two slots
+abbrev pub course_for : Bool → List (List ℕ) → Reading → Writing → Domain → List (List Sample) → Course
+course_for opens words reading writing domain readings = record {
+  opens = opens;
+  domain = domain;
+  readings = readings;
+  ports = input_ports (ports domain);
+  lanes = start_of (reading.side.slots + 2) writing (run_inputs domain);
+  first = writing.side.slots;
+  names = run_outputs words domain;
+}
+
+module _ (words : List (List ℕ)) (old_in new_in : Reading) (old new : Writing) where
+  -- the cause of each answer, where the desk tells what its files hold; want of memory alone has none
+  abbrev pub HasCause : Outcome → Type 0
+  HasCause (outcome.Exports place fault) = ⊥
+  HasCause (outcome.Records limit) = ⊥
+  HasCause outcome.ReadFault = Rose old_in.side.faults new_in.side.faults
+  HasCause outcome.WriteFault = Rose old.side.faults new.side.faults
+  HasCause outcome.NoMemory = ⊤
+  HasCause outcome.Usage = ⊥
+  HasCause outcome.Done = Asked old words outcome.Done
+  HasCause (outcome.Domain fault) = Asked old words (outcome.Domain fault)
+  HasCause (outcome.Readings fault) = Asked old words (outcome.Readings fault)
+  HasCause (outcome.Names name) = Asked old words (outcome.Names name)
+  HasCause (outcome.Packets limit) = Asked old words (outcome.Packets limit)
+  HasCause (outcome.Capture name at fault) = Asked old words (outcome.Capture name at fault)
+
+  -- no capture was opened, and no output
+  abbrev pub OpensNone : Type 0
+  OpensNone = AsksFront old_in.side.asked new_in.side.asked (domain_file words ∷ readings_file words ∷ []) × (new ≡ old)
+
+-- whether the gate of the workers always opens
+module _ (opens : Bool) (words : List (List ℕ)) (old_in new_in : Reading) (old new : Writing) where
+  -- so it is of the traffic of the domain that is held, by the readings that are held
+  abbrev pub OfTraffic : (Course → Type 0) → Type 0
+  OfTraffic P = (domain : Domain) × (readings : List (List Sample)) × IsReady old words domain readings
+      × P (course_for opens words old_in old domain readings)
+
+  -- no capture was opened yet, or not all of them
+  abbrev pub StopsEarly : Type 0
+  StopsEarly = AsksFront old_in.side.asked new_in.side.asked (domain_file words ∷ readings_file words ∷ [])
+      ⊎ OfTraffic (λ course. new_in.side.slots < course.lanes.base + length course.lanes.contents)
+
+  -- What the files hold of these arrivals, of which nothing else becomes, where the gate opens: each port's capture has the
+  -- packets that leave there, each tap's what crosses its link, REPORT the lines of each arrival and the sums, and EXPORTS
+  -- the records that the nodes export. `Are` says which arrivals; the time of each is below 2^62 nanoseconds.
+  pub record HoldsFiles (course : Course) (Are : List Arrival → Type 0) : Type 0 where
+    pub taken : List Arrival
+    pub fates : List Fate
+    pub are : Are taken
+    pub few : length taken ≤ course.domain.packets
+    pub timely : All IsTimely taken
+    pub become : AreFates course.domain course.readings (frames_of course.ports taken) fates
+    pub only : (others : List Fate) → AreFates course.domain course.readings (frames_of course.ports taken) others → others ≡ fates
+    pub leave : All LeavesOnce fates
+    pub outs : IsTrue course.opens → (place : ℕ) (port : Port) → slice_get (ports course.domain) place ≡ Some port
+        → holds new port.output ≡ Some (out_text place fates)
+    pub taps : IsTrue course.opens → (place : ℕ) (link : Link) (name : List ℕ) → slice_get (links course.domain) place ≡ Some link
+        → link.tap ≡ Some name → holds new name ≡ Some (tap_text course.domain course.readings place fates)
+    pub report : IsTrue course.opens → holds new (report_file words) ≡ Some (report_text course.domain course.readings fates)
+    pub exports : IsTrue course.opens → holds new (exports_file words) ≡ Some (exports_text course.domain course.readings fates)
+
+  -- What the files hold afterwards, where the desk tells: the texts of all arrivals, of as many as the
+  -- domain allows, or of those that what was handed out of the captures shows; or nothing was opened
+  -- for writing; or each output that was opened holds a front of its text.
+  abbrev pub Leaves : Outcome → Type 0
+  Leaves outcome.Done = OfTraffic (λ course. HoldsFiles course (Arrive course turn.Over))
+  Leaves (outcome.Capture name at fault) = OfTraffic (λ course. (place : ℕ) × (name ≡ name_at (run_inputs course.domain) place)
+      × HoldsFiles course (Arrive course (turn.Broken place at fault)))
+  Leaves (outcome.Packets limit) = OfTraffic (λ course. HoldsFiles course (ArePassed course))
+  Leaves (outcome.Exports place fault) = ⊥
+  Leaves (outcome.Records limit) = ⊥
+  Leaves outcome.ReadFault = (StopsEarly × (new ≡ old))
+      ⊎ OfTraffic (λ course. AreOpened course new_in × HoldsFiles course (PartsArrive course.lanes.contents new_in course.lanes.base))
+  Leaves outcome.WriteFault = OfTraffic (λ course. HoldsFronts course old new)
+  Leaves outcome.NoMemory = (new ≡ old) ⊎ OfTraffic (λ course. HoldsFronts course old new)
+  Leaves outcome.Usage = new ≡ old
+  Leaves (outcome.Domain fault) = new ≡ old
+  Leaves (outcome.Readings fault) = new ≡ old
+  Leaves (outcome.Names name) = new ≡ old
+
+  -- DOMAIN, READINGS and each of the captures were read to their ends
+  abbrev pub AreDrained : Type 0
+  AreDrained = OfTraffic (λ course. (k : ℕ) → k < 2 + length course.lanes.contents → IsTrue (new_in.ended (old_in.side.slots + k)))
+
+  -- what leaves by each port of the domain is a capture of packets that may leave it, where the gate opens
+  abbrev pub IsBounded : Type 0
+  IsBounded = OfTraffic (λ course. IsTrue course.opens → (place : ℕ) (port : Port) → slice_get (ports course.domain) place ≡ Some port
+      → IsSomeAnd (holds new port.output) (IsCaptureOf MayLeave))
+
+-- the answer comes where no domain or no readings were read
+abbrev pub IsUnset : Outcome → Type 0
+IsUnset (outcome.Domain fault) = ⊤
+IsUnset (outcome.Readings fault) = ⊤
+IsUnset (outcome.Exports place fault) = ⊥
+IsUnset (outcome.Records limit) = ⊥
+IsUnset outcome.ReadFault = ⊤
+IsUnset outcome.NoMemory = ⊤
+IsUnset outcome.Usage = ⊥
+IsUnset (outcome.Names name) = ⊥
+IsUnset outcome.Done = ⊥
+IsUnset (outcome.Capture name at fault) = ⊥
+IsUnset (outcome.Packets limit) = ⊥
+IsUnset outcome.WriteFault = ⊥
+
+-- what a domain may say of how many packets a run has at most
+abbrev pub IsLimit : ℕ → Type 0
+IsLimit limit = (1 ≤ limit) × (limit ≤ 16777216)
+
+-- What an answer says of the domain and of its files: they differ, but for the first name that
+-- equals an earlier one; the capture that is faulty is one of those that are read, and the limit is
+-- the domain's.
+abbrev pub Says : List (List ℕ) → Domain → Outcome → Type 0
+Says words domain (outcome.Names name) = (at : ℕ) × IsFirstRepeat (run_files words domain) at × (name ≡ name_at (run_files words domain) at)
+Says words domain (outcome.Capture name at fault) = AreApart (run_files words domain)
+    × ((place : ℕ) × (place < length (run_inputs domain)) × (name ≡ name_at (run_inputs domain) place))
+Says words domain (outcome.Packets limit) = AreApart (run_files words domain) × (limit ≡ domain.packets) × IsLimit limit
+Says words domain outcome.Done = AreApart (run_files words domain)
+Says words domain (outcome.Exports place fault) = ⊥
+Says words domain (outcome.Records limit) = ⊥
+Says words domain outcome.ReadFault = AreApart (run_files words domain)
+Says words domain outcome.WriteFault = AreApart (run_files words domain)
+Says words domain outcome.NoMemory = ⊤
+Says words domain outcome.Usage = ⊥
+Says words domain (outcome.Domain fault) = ⊥
+Says words domain (outcome.Readings fault) = ⊥
+
+module _ (tells : Bool) (words : List (List ℕ)) (old_in new_in : Reading) (old new : Writing) where
+  -- the inputs of a domain were opened, all of them, each by a slot of its own
+  abbrev pub OpensInputs : Domain → Type 0
+  OpensInputs domain = AllOpened old_in.side new_in.side (domain_file words ∷ readings_file words ∷ run_inputs domain)
+
+  -- What was asked of a desk for this domain, whatever the desk tells; where it tells, DOMAIN holds
+  -- the domain. The names that were given to the opening of inputs are DOMAIN, READINGS and the
+  -- captures of the ports that are read, or a front of these; those given to the opening of outputs
+  -- the captures of the ports that are written, those of the taps, REPORT and EXPORTS, or a front. An
+  -- output was opened only where all inputs had been; none of the captures and outputs, unless all
+  -- files differ.
+  pub record AsksOf (answer : Outcome) (domain : Domain) : Type 0 where
+    pub set : IsTrue tells → (readings : List (List Sample)) × IsSet old words domain readings
+    pub says : Says words domain answer
+    pub apart : OpensNone words old_in new_in old new ⊎ AreApart (run_files words domain)
+    pub asked_in : AsksFront old_in.side.asked new_in.side.asked (domain_file words ∷ readings_file words ∷ run_inputs domain)
+    pub asked_out : AsksFront old.side.asked new.side.asked (run_outputs words domain)
+    pub inputs_first : (new ≡ old) ⊎ OpensInputs domain
+    pub all_in : IsBehindAll ⊥ answer → OpensInputs domain
+    pub all_out : IsBehindAll ⊥ answer → new.side.asked ≡ old.side.asked ++ run_outputs words domain
+
+  -- no domain was read, and no capture and no output opened; or so much was asked for one domain
+  abbrev pub Asks : Outcome → Type 0
+  Asks answer = (OpensNone words old_in new_in old new × IsUnset answer) ⊎ ((domain : Domain) × AsksOf answer domain)
+
+module _ (opens tells : Bool) (words : List (List ℕ)) (old_in new_in : Reading) (old new : Writing) where
+  -- what a run owes for its answer: its cause, what was opened and read, and what the files hold
+  pub record Owes (answer : Outcome) : Type 0 where
+    pub read_fault : answer ≡ outcome.ReadFault → Rose old_in.side.faults new_in.side.faults
+    pub write_fault : answer ≡ outcome.WriteFault → Rose old.side.faults new.side.faults
+    pub usage : answer ≢ outcome.Usage
+    pub differed : HaveDiffered words answer
+    pub cause : IsTrue tells → HasCause words old_in new_in old new answer
+    pub leaves : IsTrue tells → Leaves opens words old_in new_in old new answer
+    pub exact : (asked : Outcome) → IsTrue tells → Asked old words asked → (Rose old_in.side.faults new_in.side.faults → ⊥)
+        → (Rose old.side.faults new.side.faults → ⊥) → (answer ≡ asked) ⊎ (answer ≡ outcome.NoMemory)
+    pub domain_first : (fault : DomainFault) → answer ≡ outcome.Domain fault → AsksFront old_in.side.asked new_in.side.asked (domain_file words ∷ [])
+    pub asks : Asks tells words old_in new_in old new answer
+    pub no_output : new_in.side.slots < old_in.side.slots + 2 → new ≡ old
+    pub untouched : IsRefusal answer → OpensNone words old_in new_in old new
+    pub drained : IsDone answer → IsTrue tells → AreDrained opens words old_in new_in old new
+    pub boundary : IsBehindAll (old.side.slots < new.side.slots) answer → IsTrue tells → IsBounded opens words old_in new_in old new
+    pub kept_in : KeepsInputs old_in new_in
+    pub kept_out : IsTrue tells → KeepsOutputs old new

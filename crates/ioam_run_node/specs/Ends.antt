@@ -1,0 +1,64 @@
+-- How a run ended whose domain and readings were read.
+use Rattle.std.specs.Prelude.{◌≡◌, ℕ, ◌≤◌, ◌⊎◌, Bool, IsTrue, List, [], ◌∷◌, ◌++◌}
+use Rattle.ioam_run_answer.specs.Outcomes.{IsDone, IsBehindAll}
+use Rattle.ioam_run_answer.specs.declared.outcome.Outcome.{Outcome}
+use Rattle.ioam_run_answer.specs.declared.outcome.Outcome.TheVariants as outcome
+use Rattle.ioam_clock.specs.declared.sample.Sample.{Sample}
+use Rattle.ioam_desk.specs.Asked.{AsksFront}
+use Rattle.ioam_desk.specs.Desk.{Reading, Writing}
+use Rattle.ioam_desk.specs.Kept.{KeepsInputs, KeepsOutputs}
+use Rattle.ioam_desk_outputs.specs.Names.{name_at, AreApart, IsFirstRepeat}
+use Rattle.ioam_run_capture.specs.Run.{FileCause}
+use Rattle.ioam_run_capture.specs.Run as capture
+use Rattle.ioam_topo.specs.declared.domain.Domain.{Domain}
+use Rattle.ioam_run_node.specs.NodeText.{NodeTexts}
+use Rattle.ioam_run_node.specs.Run.{IsAt, IsUnfit, input_file, node_files, output_files}
+use Rattle.ioam_run_node.specs.Seat.{Seat}
+
+-- so many packets of this capture, at most, were gathered for these outputs
+module _ (tells : Bool) (old_in new_in : Reading) (old new : Writing) (seat : Seat) (answer : Outcome) where
+  pub record Gathered (most : ℕ) (input : List ℕ) (outputs : List (List ℕ)) : Type 0 where
+    pub cause : FileCause most tells input old_in old new_in new answer
+    pub leaves : IsTrue tells → capture.Leaves most (NodeTexts seat) outputs input old_in new_in old new answer
+    pub asked_in : AsksFront old_in.side.asked new_in.side.asked (input ∷ [])
+    pub asked_out : AsksFront old.side.asked new.side.asked outputs
+    pub all_in : IsBehindAll ⊥ answer → new_in.side.asked ≡ old_in.side.asked ++ input ∷ []
+    pub all_out : IsBehindAll ⊥ answer → new.side.asked ≡ old.side.asked ++ outputs
+    pub no_output : new_in.side.slots ≤ old_in.side.slots → new ≡ old
+    pub drained : IsDone answer → IsTrue tells → IsTrue (new_in.ended old_in.side.slots)
+    pub kept_in : KeepsInputs old_in new_in
+    pub kept_out : IsTrue tells → KeepsOutputs old new
+
+module _ (tells : Bool) (words : List (List ℕ)) (old_in new_in : Reading) (old new : Writing) where
+  -- nothing was opened: a name is refused, or no memory could be had
+  pub record Stays (IsRefused : List ℕ → Type 0) (answer : Outcome) : Type 0 where
+    pub why : (answer ≡ outcome.NoMemory) ⊎ ((name : List ℕ) × (answer ≡ outcome.Names name) × IsRefused name)
+    pub same_in : new_in ≡ old_in
+    pub same : new ≡ old
+
+  -- IN was gathered, and no two files have one name
+  pub record Ran (seat : Seat) (answer : Outcome) : Type 0 where
+    pub apart : AreApart (node_files words)
+    pub some : 1 ≤ seat.domain.packets
+    pub most : seat.domain.packets ≤ 16777216
+    pub gathered : Gathered tells old_in new_in old new seat answer seat.domain.packets (input_file words) (output_files words)
+
+  -- the name of a file that equals an earlier one
+  abbrev pub IsTwice : List ℕ → Type 0
+  IsTwice name = (at : ℕ) × IsFirstRepeat (node_files words) at × (name ≡ name_at (node_files words) at)
+
+  -- of a node
+  abbrev pub EndsAt : Seat → Outcome → Type 0
+  EndsAt seat answer = Stays IsTwice answer ⊎ Ran seat answer
+
+  -- this is a node of the domain, which the words name, and IN was gathered there
+  pub record RanAt (domain : Domain) (samples : List (List Sample)) (answer : Outcome) : Type 0 where
+    pub seat : Seat
+    pub same_domain : seat.domain ≡ domain
+    pub same_samples : seat.samples ≡ samples
+    pub at : IsAt words seat.domain seat.node seat.inward
+    pub ran : Ran seat answer
+
+  -- in a domain
+  abbrev pub Ends : Domain → List (List Sample) → Outcome → Type 0
+  Ends domain samples answer = Stays (IsUnfit words domain) answer ⊎ RanAt domain samples answer

@@ -1,0 +1,268 @@
+-- What `node DOMAIN READINGS NODE LINK IN OUT REPORT EXPORTS` answers and leaves: the packets of the capture IN come to
+-- NODE by LINK, and it sends them on.
+use Rattle.std.specs.Prelude.{◌≡◌, ◌≢◌, ℕ, ◌+◌, ◌<◌, ◌≤◌, ◌⊎◌, ⊤, All, Bool, IsTrue, IsSomeAnd, nat_eq, if◌then◌else◌, List, [], ◌∷◌, ◌++◌, slice_get, Option, Some, None, option_and_then}
+use Rattle.std.specs.List.{AllByRecursion, flat_map}
+use Rattle.ioam_run_answer.specs.Outcomes.{IsDone, IsBehindAll}
+use Rattle.ioam_run_answer.specs.declared.outcome.Outcome.{Outcome}
+use Rattle.ioam_run_answer.specs.declared.outcome.Outcome.TheVariants as outcome
+use Rattle.ioam_clock.specs.declared.sample.Sample.{Sample}
+use Rattle.ioam_desk.specs.Asked.{AsksFront}
+use Rattle.ioam_desk.specs.Desk.{Reading, Writing, Rose, holds}
+use Rattle.ioam_desk.specs.Kept.{KeepsInputs, KeepsOutputs}
+use Rattle.ioam_topo_entries.specs.declared.fault.DomainFault.{DomainFault}
+use Rattle.ioam_desk_outputs.specs.Names.{name_at, AreApart, IsFirstRepeat}
+use Rattle.ioam_pcap.specs.Ending.{Whole, Faulty}
+use Rattle.ioam_pcap.specs.Entries.{Taken}
+use Rattle.ioam_pcap.specs.Text.{IsSendable, capture_text}
+use Rattle.ioam_run_capture.specs.Run.{IsInput, IsLong, HoldsAll, HoldsFronts, EndsSo, ArePassed, AreWhole}
+use Rattle.ioam_run_files.specs.Answer.{refused_as}
+use Rattle.ioam_run_files.specs.Setting.{HasDomainFault, HasReadingsFault, IsSetting}
+use Rattle.ioam_run_files.specs.declared.setting.Refusal.{Refusal}
+use Rattle.ioam_topo.specs.Domain.{links, node_of_name, link_of_name}
+use Rattle.ioam_topo.specs.declared.domain.Domain.{Domain}
+use Rattle.ioam_topo.specs.declared.ids.NodeId.{NodeId}
+use Rattle.ioam_topo.specs.declared.parts.Link.{Link}
+use Rattle.ioam_run_node.specs.NodeText.{NodeTexts, sent_of}
+use Rattle.ioam_run_node.specs.Passage.{Passage, LeavesClean}
+use Rattle.ioam_run_node.specs.Seat.{Seat}
+
+-- what the words name
+abbrev pub domain_file : List (List ℕ) → List ℕ
+domain_file words = name_at words 1
+
+abbrev pub readings_file : List (List ℕ) → List ℕ
+readings_file words = name_at words 2
+
+abbrev pub node_word : List (List ℕ) → List ℕ
+node_word words = name_at words 3
+
+abbrev pub link_word : List (List ℕ) → List ℕ
+link_word words = name_at words 4
+
+abbrev pub input_file : List (List ℕ) → List ℕ
+input_file words = name_at words 5
+
+-- OUT, REPORT and EXPORTS
+abbrev pub output_files : List (List ℕ) → List (List ℕ)
+output_files words = name_at words 6 ∷ name_at words 7 ∷ name_at words 8 ∷ []
+
+-- all files, in the order in which equal ones are looked for
+abbrev pub node_files : List (List ℕ) → List (List ℕ)
+node_files words = domain_file words ∷ readings_file words ∷ input_file words ∷ output_files words
+
+-- the id of the interface by which a node receives from a link, if the link ends there
+abbrev pub inward_by : NodeId → Option Link → Option ℕ
+inward_by node None = None
+inward_by node (Some link) = if nat_eq link.to.0 node.0 then Some link.in_id else None
+
+-- from the link of a name
+abbrev pub inward_of : Domain → NodeId → List ℕ → Option ℕ
+inward_of domain node name = option_and_then (λ id. inward_by node (slice_get (links domain) id.0)) (link_of_name domain name)
+
+module _ (words : List (List ℕ)) where
+  -- this is the node, and the interface of the link
+  pub record IsAt (domain : Domain) (node : NodeId) (inward : ℕ) : Type 0 where
+    pub has_node : node_of_name domain (node_word words) ≡ Some node
+    pub has_link : inward_of domain node (link_word words) ≡ Some inward
+
+  -- NODE names no node
+  abbrev pub NamesNoNode : Domain → List ℕ → Type 0
+  NamesNoNode domain name = (node_of_name domain (node_word words) ≡ None) × (name ≡ node_word words)
+
+  -- LINK names no link that ends at the node
+  abbrev pub NamesNoLink : Domain → List ℕ → Type 0
+  NamesNoLink domain name = (node : NodeId) × (node_of_name domain (node_word words) ≡ Some node)
+      × (inward_of domain node (link_word words) ≡ None) × (name ≡ link_word words)
+
+  -- both are fit, and two files have one name
+  abbrev pub NamesTwice : Domain → List ℕ → Type 0
+  NamesTwice domain name = (node : NodeId) × (inward : ℕ) × IsAt domain node inward
+      × ((at : ℕ) × IsFirstRepeat (node_files words) at × (name ≡ name_at (node_files words) at))
+
+  -- the first of these
+  abbrev pub IsUnfit : Domain → List ℕ → Type 0
+  IsUnfit domain name = NamesNoNode domain name ⊎ (NamesNoLink domain name ⊎ NamesTwice domain name)
+
+  -- both are fit, and the files differ
+  abbrev pub AreFit : Domain → Type 0
+  AreFit domain = (node : NodeId) × (inward : ℕ) × IsAt domain node inward × AreApart (node_files words)
+
+  -- What an answer says of the domain that was read: NODE and LINK name what it has and the files differ, but for the first
+  -- name of which this isn't so; and the limit is the domain's.
+  abbrev pub Says : Domain → Outcome → Type 0
+  Says domain (outcome.Names name) = IsUnfit domain name
+  Says domain (outcome.Packets limit) = AreFit domain × (limit ≡ domain.packets) × (1 ≤ limit) × (limit ≤ 16777216)
+  Says domain (outcome.Capture name at fault) = AreFit domain × (name ≡ input_file words)
+  Says domain outcome.Done = AreFit domain
+  Says domain outcome.ReadFault = AreFit domain
+  Says domain outcome.WriteFault = AreFit domain
+  Says domain outcome.NoMemory = ⊤
+  Says domain outcome.Usage = ⊥
+  Says domain (outcome.Domain fault) = ⊥
+  Says domain (outcome.Readings fault) = ⊥
+  Says domain (outcome.Exports place fault) = ⊥
+  Says domain (outcome.Records limit) = ⊥
+
+  module _ (desk : Writing) where
+    -- DOMAIN holds the domain, READINGS the readings of its nodes, NODE and LINK say where the packets come, and no two files
+    -- have one name
+    pub record IsReady (seat : Seat) : Type 0 where
+      pub setting : IsSetting desk (domain_file words) (readings_file words) seat.domain seat.samples
+      pub at : IsAt seat.domain seat.node seat.inward
+      pub apart : AreApart (node_files words)
+
+    -- IN is so, by the domain's limit
+    abbrev pub HasInput : (ℕ → List ℕ → Type 0) → Type 0
+    HasInput IsSo = (seat : Seat) × IsReady seat × IsSomeAnd (holds desk (input_file words)) (IsSo seat.domain.packets)
+
+    -- What the words and the files ask for, where nothing fails: the first of the refusals in their order whose condition
+    -- holds, or Done.
+    abbrev pub Asked : Outcome → Type 0
+    Asked (outcome.Domain fault) = HasDomainFault desk (domain_file words) (readings_file words) fault
+    Asked (outcome.Readings fault) = HasReadingsFault desk (domain_file words) (readings_file words) fault
+    Asked (outcome.Names name) = (domain : Domain) × (samples : _) × IsSetting desk (domain_file words) (readings_file words) domain samples
+        × IsUnfit domain name
+    Asked (outcome.Packets limit) = (seat : Seat) × IsReady seat × (limit ≡ seat.domain.packets)
+        × IsSomeAnd (holds desk (input_file words)) (IsLong seat.domain.packets)
+    Asked (outcome.Exports place fault) = ⊥
+    Asked (outcome.Records limit) = ⊥
+    Asked (outcome.Capture name at fault) = (name ≡ input_file words) × HasInput (λ most. IsInput most (Faulty at fault))
+    Asked outcome.Done = HasInput (λ most. IsInput most Whole)
+    Asked outcome.Usage = ⊥
+    Asked outcome.ReadFault = ⊥
+    Asked outcome.WriteFault = ⊥
+    Asked outcome.NoMemory = ⊥
+
+  -- the files differ, where IN was looked at; so much is known of real files too
+  abbrev pub HaveDiffered : Outcome → Type 0
+  HaveDiffered outcome.Done = AreApart (node_files words)
+  HaveDiffered (outcome.Capture name at fault) = AreApart (node_files words) × (name ≡ input_file words)
+  HaveDiffered (outcome.Packets limit) = AreApart (node_files words)
+  HaveDiffered (outcome.Exports place fault) = ⊥
+  HaveDiffered (outcome.Records limit) = ⊥
+  HaveDiffered outcome.Usage = ⊤
+  HaveDiffered (outcome.Domain fault) = ⊤
+  HaveDiffered (outcome.Readings fault) = ⊤
+  HaveDiffered (outcome.Names name) = ⊤
+  HaveDiffered outcome.ReadFault = ⊤
+  HaveDiffered outcome.WriteFault = ⊤
+  HaveDiffered outcome.NoMemory = ⊤
+
+  module _ (old_in new_in : Reading) (old new : Writing) where
+    -- the cause of each answer, where the desk tells what its files hold; want of memory alone has none
+    abbrev pub HasCause : Outcome → Type 0
+    HasCause outcome.ReadFault = Rose old_in.side.faults new_in.side.faults
+    HasCause outcome.WriteFault = Rose old.side.faults new.side.faults
+    HasCause outcome.NoMemory = ⊤
+    HasCause outcome.Usage = ⊥
+    HasCause outcome.Done = Asked old outcome.Done
+    HasCause (outcome.Domain fault) = Asked old (outcome.Domain fault)
+    HasCause (outcome.Readings fault) = Asked old (outcome.Readings fault)
+    HasCause (outcome.Names name) = Asked old (outcome.Names name)
+    HasCause (outcome.Packets limit) = Asked old (outcome.Packets limit)
+    HasCause (outcome.Exports place fault) = ⊥
+    HasCause (outcome.Records limit) = ⊥
+    HasCause (outcome.Capture name at fault) = Asked old (outcome.Capture name at fault)
+
+    -- the outputs hold the texts of these records of IN
+    abbrev pub Holds : (Seat → List Taken → List ℕ → Type 0) → Type 0
+    Holds Are = (seat : Seat) × IsReady old seat
+        × IsSomeAnd (holds old (input_file words)) (HoldsAll seat.domain.packets (NodeTexts seat) (output_files words) (Are seat) new)
+
+    -- each output that was opened holds a front of its text
+    abbrev pub HoldParts : Type 0
+    HoldParts = (seat : Seat) × IsReady old seat
+        × IsSomeAnd (holds old (input_file words)) (HoldsFronts seat.domain.packets (NodeTexts seat) (output_files words) old new)
+
+    -- IN wasn't opened
+    abbrev pub StopsEarly : Type 0
+    StopsEarly = AsksFront old_in.side.asked new_in.side.asked (domain_file words ∷ readings_file words ∷ [])
+        ⊎ (new_in.side.slots < old_in.side.slots + 3)
+
+    -- What the files hold afterwards, where the desk tells: the texts of all records of IN, of as many as the domain allows, or
+    -- of those that what was handed out shows; or nothing was opened for writing; or each output that was opened holds a front
+    -- of its text.
+    abbrev pub Leaves : Outcome → Type 0
+    Leaves outcome.Done = Holds (λ seat. EndsSo Whole)
+    Leaves (outcome.Capture name at fault) = Holds (λ seat. EndsSo (Faulty at fault))
+    Leaves (outcome.Packets limit) = Holds (λ seat. ArePassed seat.domain.packets)
+    Leaves (outcome.Exports place fault) = ⊥
+    Leaves (outcome.Records limit) = ⊥
+    Leaves outcome.ReadFault = (StopsEarly × (new ≡ old))
+        ⊎ ((old_in.side.slots + 2 < new_in.side.slots) × Holds (λ seat. AreWhole (new_in.left (old_in.side.slots + 2))))
+    Leaves outcome.WriteFault = HoldParts
+    Leaves outcome.NoMemory = (new ≡ old) ⊎ HoldParts
+    Leaves outcome.Usage = new ≡ old
+    Leaves (outcome.Domain fault) = new ≡ old
+    Leaves (outcome.Readings fault) = new ≡ old
+    Leaves (outcome.Names name) = new ≡ old
+
+    -- IN wasn't opened, and no output
+    abbrev pub OpensNone : Type 0
+    OpensNone = AsksFront old_in.side.asked new_in.side.asked (domain_file words ∷ readings_file words ∷ []) × (new ≡ old)
+
+    -- what was given is refused before anything of IN is looked at
+    abbrev pub IsUntouched : Outcome → Type 0
+    IsUntouched (outcome.Domain fault) = OpensNone
+    IsUntouched (outcome.Readings fault) = OpensNone
+    IsUntouched (outcome.Names name) = OpensNone
+    IsUntouched outcome.Done = ⊤
+    IsUntouched outcome.Usage = ⊤
+    IsUntouched (outcome.Capture name at fault) = ⊤
+    IsUntouched (outcome.Packets limit) = ⊤
+    IsUntouched (outcome.Exports place fault) = ⊤
+    IsUntouched (outcome.Records limit) = ⊤
+    IsUntouched outcome.ReadFault = ⊤
+    IsUntouched outcome.WriteFault = ⊤
+    IsUntouched outcome.NoMemory = ⊤
+
+    -- DOMAIN, READINGS and IN were read to their ends
+    abbrev pub AreDrained : Type 0
+    AreDrained = IsTrue (new_in.ended old_in.side.slots) × IsTrue (new_in.ended (old_in.side.slots + 1))
+        × IsTrue (new_in.ended (old_in.side.slots + 2))
+
+    -- OUT is a capture of what the node sends of packets that came, each of at most 262,144 octets, and what leaves by a port is
+    -- one IPv6 packet, with a whole chain and without IOAM
+    abbrev pub IsBounded : Type 0
+    IsBounded = (seat : Seat) × IsReady old seat × ((passages : List Passage) × AllByRecursion (LeavesClean seat) passages
+        × All IsSendable (flat_map (sent_of seat) passages)
+        × (holds new (name_at words 6) ≡ Some (capture_text (flat_map (sent_of seat) passages))))
+
+module _ (tells : Bool) (words : List (List ℕ)) (old_in new_in : Reading) (old new : Writing) where
+  -- the answer is one over this domain, which DOMAIN holds where the desk tells; IN and outputs were opened only where NODE and
+  -- LINK are fit in it and the files differ
+  pub record IsOver (answer : Outcome) (domain : Domain) : Type 0 where
+    pub set : IsTrue tells → (samples : List (List Sample)) × IsSetting old (domain_file words) (readings_file words) domain samples
+    pub says : Says words domain answer
+    pub fit : OpensNone words old_in new_in old new ⊎ AreFit words domain
+
+  -- what a run is set by was refused, or the answer is one over a domain
+  abbrev pub IsOfDomain : Outcome → Type 0
+  IsOfDomain answer = (OpensNone words old_in new_in old new × ((why : Refusal) × (answer ≡ refused_as why)))
+      ⊎ ((domain : Domain) × IsOver answer domain)
+
+  -- The names that were given to the opening calls, whatever the desk tells: a front of DOMAIN, READINGS and IN, and of the
+  -- outputs; and those where the answer comes once the outputs were written. And what the answer says of the domain.
+  pub record Asks (answer : Outcome) : Type 0 where
+    pub front_in : AsksFront old_in.side.asked new_in.side.asked (domain_file words ∷ readings_file words ∷ input_file words ∷ [])
+    pub front_out : AsksFront old.side.asked new.side.asked (output_files words)
+    pub all_in : IsBehindAll ⊥ answer → new_in.side.asked ≡ old_in.side.asked ++ domain_file words ∷ readings_file words ∷ input_file words ∷ []
+    pub all_out : IsBehindAll ⊥ answer → new.side.asked ≡ old.side.asked ++ output_files words
+    pub untouched : IsUntouched words old_in new_in old new answer
+    pub domain_first : (fault : DomainFault) → answer ≡ outcome.Domain fault
+        → AsksFront old_in.side.asked new_in.side.asked (domain_file words ∷ [])
+    pub no_output : new_in.side.slots < old_in.side.slots + 3 → new ≡ old
+    pub of_domain : IsOfDomain answer
+
+  -- what a run owes for its answer: its cause, what was opened and read, and what the files hold
+  pub record Owes (answer : Outcome) : Type 0 where
+    pub read_fault : answer ≡ outcome.ReadFault → Rose old_in.side.faults new_in.side.faults
+    pub write_fault : answer ≡ outcome.WriteFault → Rose old.side.faults new.side.faults
+    pub usage : answer ≢ outcome.Usage
+    pub differed : HaveDiffered words answer
+    pub cause : IsTrue tells → HasCause words old_in new_in old new answer
+    pub leaves : IsTrue tells → Leaves words old_in new_in old new answer
+    pub asks : Asks answer
+    pub drained : IsDone answer → IsTrue tells → AreDrained words old_in new_in old new
+    pub kept_in : KeepsInputs old_in new_in
+    pub kept_out : IsTrue tells → KeepsOutputs old new

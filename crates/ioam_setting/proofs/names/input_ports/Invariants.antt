@@ -1,7 +1,0 @@
-use Rattle.std.proofs.Common.{◌≡◌, take}
-use Rattle.ioam_setting.specs.Names.{input_ports}
-use Rattle.ioam_setting.proofs.names.input_ports.Given as goal
-
--- those of the ports so far
-abbrev pub invariant-ports : goal.invariant-ports
-invariant-ports l = l.ids.items ≡ input_ports (take l.place l.port-items)

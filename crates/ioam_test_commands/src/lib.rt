@@ -1,0 +1,21 @@
+//! The tests of the commands but `run`: whole runs over desks in memory of `filter`, `paths`, `show` and
+//! `save` (`ioam_run_capture`), `collect` (`ioam_run_collect`), `node` (`transit`) and `bulk`. What the first four read
+//! and have to write stands in `ioam_test_rows`.
+#![tactic(auto)]
+
+#[cfg(test)]
+mod bulk;
+#[cfg(test)]
+mod collect_rows;
+#[cfg(test)]
+mod desks;
+#[cfg(test)]
+mod failing;
+#[cfg(test)]
+mod fronts;
+#[cfg(test)]
+mod long;
+#[cfg(test)]
+mod transit;
+#[cfg(test)]
+mod writing;

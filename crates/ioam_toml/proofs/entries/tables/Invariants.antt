@@ -1,8 +1,0 @@
-use Rattle.std.proofs.Common.{◌≡◌, drop, map}
-use Rattle.toml.specs.View.{items_view, table_view}
-use Rattle.ioam_toml.specs.Entries.{tables}
-use Rattle.ioam_toml.proofs.EntryLaws.{all_front}
-use Rattle.ioam_toml.proofs.entries.tables.Given as goal
-
-abbrev pub invariant-loop-value : goal.invariant-loop-value
-invariant-loop-value l = all_front (map (λ t. table_view t.now) l.out.items) (tables (items_view (drop l.value-index l.items))) ≡ tables (items_view l.items)

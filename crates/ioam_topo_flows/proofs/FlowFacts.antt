@@ -1,0 +1,154 @@
+-- What is true of flows, from what their entries read as.
+use Rattle.std.proofs.Common.{◌≡◌, ◌≤◌, ℕ, Bool, true, false, ◌||◌, codes, List, Option, Some, None, is_some, Result, Ok, Err, refl, subst, arith}
+use Rattle.std.specs.List.{All}
+use Rattle.std.specs.Option.{ForSome}
+use Rattle.toml.specs.Data.{Data, Members, get_member}
+use Rattle.ioam_data.specs.Kind.{is_entry_type}
+use Rattle.ioam_data.specs.declared.namespace.Namespace.{Namespace}
+use Rattle.ioam_topo_values.specs.declared.why.Why.{Why}
+use Rattle.ioam_topo_values.specs.Reads.{◌▷◌, maybe, optional}
+use Rattle.ioam_topo_values.specs.Numbers.{number}
+use Rattle.ioam_topo_values.specs.Types.{trace_type, direct_type, edge_type}
+use Rattle.ioam_topo.specs.Types.{is_direct_type, is_edge_type}
+use Rattle.ioam_topo.specs.declared.parts.Flow.{Flow}
+use Rattle.ioam_topo.specs.Sound.{IsFlow}
+use Rattle.ioam_topo.proofs.TracesLaws.{own_first, own_few, own_sound, own_apart}
+use Rattle.ioam_topo_entries.specs.Goods.{goods}
+use Rattle.ioam_topo_entries.proofs.ReadLaws.{number_bounds, needed_bounds, passed, passed_from, beside_off, maybe_for, paired}
+use Rattle.ioam_topo_entries.proofs.GoodsLaws.{goods_all}
+use Rattle.ioam_topo_flows.specs.declared.flow_parts.Selection.{Selection}
+use Rattle.ioam_topo_flows.specs.declared.flow_parts.Outer.{Outer}
+use Rattle.ioam_topo_flows.specs.declared.flow_parts.Tracing.{Tracing}
+use Rattle.ioam_topo_flows.specs.declared.flow_parts.Exporting.{Exporting}
+use Rattle.ioam_topo_flows.specs.FlowParts.{flow_hops, flow_label, flow_trace, flow_capacity, flow_edge, flow_direct, flow_every, flow_id, flow_limit, selection_of, outer_of, tracing_of, exporting_of}
+use Rattle.ioam_topo_flows.specs.FlowTable.{flow_name, flow_of, flow_with}
+
+or_left : (a b : Bool) → a ≡ true → (a || b) ≡ true
+or_left true b on = refl
+or_left false b on = cc
+
+or_right : (a b : Bool) → b ≡ true → (a || b) ≡ true
+or_right true b on = refl
+or_right false b on = on
+
+record IsOuter (o : Outer) : Type 0 where
+  least : 1 ≤ o.hops
+  most : o.label ≤ 1048575
+
+record IsTracing (t : Tracing) : Type 0 where
+  kind : ForSome t.trace (λ kind. is_entry_type kind ≡ true)
+  least : ForSome t.capacity (λ n. 1 ≤ n)
+  most : ForSome t.capacity (λ n. n ≤ 61)
+  both : is_some t.capacity ≡ is_some t.trace
+  edge_least : ForSome t.edge (λ kind. 1 ≤ kind)
+  edge_kind : ForSome t.edge (λ kind. is_edge_type kind ≡ true)
+
+record IsExporting (e : Exporting) : Type 0 where
+  kind : ForSome e.direct (λ kind. is_direct_type kind ≡ true)
+  least : ForSome e.every (λ n. 1 ≤ n)
+  most : ForSome e.every (λ n. n ≤ 1000000)
+  counted : is_some e.every ≡ is_some e.direct
+  named : is_some e.flow_id ≡ is_some e.direct
+
+outer_read : (a b : Result ℕ Why) (o : Outer) → ((x : ℕ) → a ≡ Ok x → 1 ≤ x) → ((x : ℕ) → b ≡ Ok x → x ≤ 1048575)
+    → a ▷ (λ hops. b ▷ (λ label. Ok (record { hops = hops; label = label }))) ≡ Ok o → IsOuter o
+outer_read (Ok x) (Ok y) o least most is = let same : record { hops = x; label = y } ≡ o = cc in subst IsOuter same (record { least = least x refl; most = most y refl })
+outer_read (Ok x) (Err why) o least most is = cc
+outer_read (Err why) b o least most is = cc
+
+tracing_read : (a b c : Result (Option ℕ) Why) (t : Tracing) → ((x y z : Option ℕ) → a ≡ Ok x → b ≡ Ok y → c ≡ Ok z → IsTracing (record { trace = x; capacity = y; edge = z }))
+    → a ▷ (λ trace. b ▷ (λ capacity. c ▷ (λ edge. Ok (record { trace = trace; capacity = capacity; edge = edge })))) ≡ Ok t → IsTracing t
+tracing_read (Ok x) (Ok y) (Ok z) t all is = let same : record { trace = x; capacity = y; edge = z } ≡ t = cc in subst IsTracing same (all x y z refl refl refl)
+tracing_read (Ok x) (Ok y) (Err why) t all is = cc
+tracing_read (Ok x) (Err why) c t all is = cc
+tracing_read (Err why) b c t all is = cc
+
+exporting_read : (a b c d : Result (Option ℕ) Why) (e : Exporting)
+    → ((x y z w : Option ℕ) → a ≡ Ok x → b ≡ Ok y → c ≡ Ok z → IsExporting (record { direct = x; every = y; flow_id = z; limit = w }))
+    → a ▷ (λ direct. b ▷ (λ every. c ▷ (λ id. d ▷ (λ limit. Ok (record { direct = direct; every = every; flow_id = id; limit = limit }))))) ≡ Ok e → IsExporting e
+exporting_read (Ok x) (Ok y) (Ok z) (Ok w) e all is =
+    let same : record { direct = x; every = y; flow_id = z; limit = w } ≡ e = cc in subst IsExporting same (all x y z w refl refl refl)
+exporting_read (Ok x) (Ok y) (Ok z) (Err why) e all is = cc
+exporting_read (Ok x) (Ok y) (Err why) d e all is = cc
+exporting_read (Ok x) (Err why) c d e all is = cc
+exporting_read (Err why) b c d e all is = cc
+
+module _ (m : Members) where
+  zero_or : (high : ℕ) (o : Option Data) (x : ℕ) → optional 0 (number 0 high) o ≡ Ok x → x ≤ high
+  zero_or high None x is = let same : 0 ≡ x = cc in omega (arith, same)
+  zero_or high (Some d) x is = (number_bounds 0 high d x is).1
+
+  outer_facts : (o : Outer) → outer_of m ≡ Ok o → IsOuter o
+  outer_facts o is = outer_read (flow_hops m) (flow_label m) o (λ x read. (needed_bounds 1 255 (get_member (codes "hops") m) x read).0)
+      (λ x read. zero_or 1048575 (get_member (codes "label") m) x read) is
+
+  tracing_facts : (t : Tracing) → tracing_of m ≡ Ok t → IsTracing t
+  tracing_facts t is = tracing_read (flow_trace m) (flow_capacity m) (flow_edge m) t (λ x y z a b c.
+      let trace : maybe trace_type (get_member (codes "trace") m) ≡ Ok x = beside_off (is_some (get_member (codes "capacity") m)) (maybe trace_type (get_member (codes "trace") m)) x a in
+      let capacity : maybe (number 1 61) (get_member (codes "capacity") m) ≡ Ok y = beside_off (is_some (get_member (codes "trace") m)) (maybe (number 1 61) (get_member (codes "capacity") m)) y b in
+      record {
+        kind = maybe_for trace_type (λ k. is_entry_type k ≡ true) (λ d n read. passed is_entry_type (number 0 16777215 d) n read) (get_member (codes "trace") m) x trace;
+        least = maybe_for (number 1 61) (λ n. 1 ≤ n) (λ d n read. (number_bounds 1 61 d n read).0) (get_member (codes "capacity") m) y capacity;
+        most = maybe_for (number 1 61) (λ n. n ≤ 61) (λ d n read. (number_bounds 1 61 d n read).1) (get_member (codes "capacity") m) y capacity;
+        both = paired trace_type (number 1 61) (is_some (get_member (codes "capacity") m)) (get_member (codes "trace") m) (get_member (codes "capacity") m) x y (λ on. on) a b;
+        edge_least = maybe_for edge_type (λ k. 1 ≤ k) (λ d n read. (number_bounds 1 65535 d n (passed_from is_edge_type (number 1 65535 d) n read)).0) (get_member (codes "edge") m) z c;
+        edge_kind = maybe_for edge_type (λ k. is_edge_type k ≡ true) (λ d n read. passed is_edge_type (number 1 65535 d) n read) (get_member (codes "edge") m) z c;
+      }) is
+
+  exporting_facts : (e : Exporting) → exporting_of m ≡ Ok e → IsExporting e
+  exporting_facts e is = exporting_read (flow_direct m) (flow_every m) (flow_id m) (flow_limit m) e (λ x y z w a b c.
+      let others : Bool = is_some (get_member (codes "every") m) || is_some (get_member (codes "flow_id") m) in
+      let direct : maybe direct_type (get_member (codes "direct") m) ≡ Ok x = beside_off others (maybe direct_type (get_member (codes "direct") m)) x a in
+      let every : maybe (number 1 1000000) (get_member (codes "every") m) ≡ Ok y
+      = beside_off (is_some (get_member (codes "direct") m)) (maybe (number 1 1000000) (get_member (codes "every") m)) y b in
+      record {
+        kind = maybe_for direct_type (λ k. is_direct_type k ≡ true) (λ d n read. passed is_direct_type (number 0 16777215 d) n read) (get_member (codes "direct") m) x direct;
+        least = maybe_for (number 1 1000000) (λ n. 1 ≤ n) (λ d n read. (number_bounds 1 1000000 d n read).0) (get_member (codes "every") m) y every;
+        most = maybe_for (number 1 1000000) (λ n. n ≤ 1000000) (λ d n read. (number_bounds 1 1000000 d n read).1) (get_member (codes "every") m) y every;
+        counted = paired direct_type (number 1 1000000) others (get_member (codes "direct") m) (get_member (codes "every") m) x y
+            (λ on. or_left (is_some (get_member (codes "every") m)) (is_some (get_member (codes "flow_id") m)) on) a b;
+        named = paired direct_type (number 0 4294967295) others (get_member (codes "direct") m) (get_member (codes "flow_id") m) x z
+            (λ on. or_right (is_some (get_member (codes "every") m)) (is_some (get_member (codes "flow_id") m)) on) a c;
+      }) is
+
+flow_read : (a : Result (List ℕ) Why) (b : Result Selection Why) (c : Result Outer Why) (d : Result Tracing Why) (e : Result Exporting Why) (flow : Flow)
+    → ((o : Outer) → c ≡ Ok o → IsOuter o) → ((t : Tracing) → d ≡ Ok t → IsTracing t) → ((x : Exporting) → e ≡ Ok x → IsExporting x)
+    → a ▷ (λ name. b ▷ (λ s. c ▷ (λ o. d ▷ (λ t. e ▷ (λ x. Ok (flow_with name s o t x)))))) ≡ Ok flow → IsFlow flow
+flow_read (Ok n) (Ok s) (Ok o) (Ok t) (Ok x) flow around traced exported is =
+    let same : flow_with n s o t x ≡ flow = cc in
+    let f : IsOuter o = around o refl in
+    let g : IsTracing t = traced t refl in
+    let h : IsExporting x = exported x refl in
+    subst IsFlow same (record {
+      hops_some = f.least;
+      label_most = f.most;
+      trace_type = g.kind;
+      capacity_some = g.least;
+      capacity_most = g.most;
+      trace_room = g.both;
+      own_first = own_first (record { 0 = s.namespace }) t.trace t.capacity;
+      few_traces = let few = own_few (record { 0 = s.namespace }) t.trace t.capacity in omega (arith, few);
+      traces_sound = own_sound (record { 0 = s.namespace }) t.trace t.capacity g.kind g.least g.most;
+      traces_apart = own_apart (record { 0 = s.namespace }) t.trace t.capacity;
+      edge_some = g.edge_least;
+      edge_type = g.edge_kind;
+      direct_type = h.kind;
+      every_some = h.least;
+      every_most = h.most;
+      direct_every = h.counted;
+      direct_id = h.named;
+    })
+flow_read (Ok n) (Ok s) (Ok o) (Ok t) (Err why) flow around traced exported is = cc
+flow_read (Ok n) (Ok s) (Ok o) (Err why) e flow around traced exported is = cc
+flow_read (Ok n) (Ok s) (Err why) d e flow around traced exported is = cc
+flow_read (Ok n) (Err why) c d e flow around traced exported is = cc
+flow_read (Err why) b c d e flow around traced exported is = cc
+
+module _ (nodes : List (List ℕ)) (lists : List (Result (List Namespace) Why)) where
+  flow_facts : (m : Members) (flow : Flow) → flow_of nodes lists m ≡ Ok flow → IsFlow flow
+  flow_facts m flow is = flow_read (flow_name m) (selection_of nodes lists m) (outer_of m) (tracing_of m) (exporting_of m) flow
+      (outer_facts m) (tracing_facts m) (exporting_facts m) is
+
+  -- what is true of the flows of entries
+  pub flows_sound : (ms : List Members) (flows : List Flow) → flows ≡ goods (flow_of nodes lists) ms → All IsFlow flows
+  flows_sound ms flows are = rw are (goods_all IsFlow (flow_of nodes lists) ms flow_facts)

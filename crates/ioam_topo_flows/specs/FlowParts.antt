@@ -1,0 +1,112 @@
+-- The keys of the table `flow`.
+use Rattle.std.specs.Prelude.{ℕ, ◌||◌, is_some, codes, List, ◌++◌, Option, Result, Ok}
+use Rattle.toml.specs.Data.{Members, get_member}
+use Rattle.ioam_data.specs.declared.namespace.Namespace.{Namespace}
+use Rattle.ioam_topo_values.specs.declared.why.Why.{Why}
+use Rattle.ioam_topo.specs.declared.prefix.Prefix.{Prefix}
+use Rattle.ioam_topo_values.specs.Reads.{◌▷◌, needed, maybe, optional}
+use Rattle.ioam_topo_values.specs.Pairs.{beside}
+use Rattle.ioam_topo_values.specs.Numbers.{number}
+use Rattle.ioam_topo_values.specs.Texts.{name}
+use Rattle.ioam_topo_values.specs.Prefixes.{prefix}
+use Rattle.ioam_topo_values.specs.Types.{trace_type, direct_type, edge_type}
+use Rattle.ioam_topo_entries.specs.declared.words.Table.TheVariants.{FlowTable}
+use Rattle.ioam_topo_entries.specs.declared.words.Field.TheVariants.{EntryKey, ExitKey, SourceKey, TargetKey, NamespaceKey, HopsKey, LabelKey, TraceKey, CapacityKey, EdgeKey, DirectKey, EveryKey, FlowIdKey, LimitKey}
+use Rattle.ioam_topo_entries.specs.declared.fault.DomainFault.{DomainFault}
+use Rattle.ioam_topo_flows.specs.declared.flow_parts.Selection.{Selection}
+use Rattle.ioam_topo_flows.specs.declared.flow_parts.Outer.{Outer}
+use Rattle.ioam_topo_flows.specs.declared.flow_parts.Tracing.{Tracing}
+use Rattle.ioam_topo_flows.specs.declared.flow_parts.Exporting.{Exporting}
+use Rattle.ioam_topo_entries.specs.Faults.{at}
+use Rattle.ioam_topo_entries.specs.Goods.{known, differs}
+use Rattle.ioam_topo_flows.specs.Apart.{fresh_some}
+use Rattle.ioam_topo_flows.specs.Spaces.{known_at}
+
+abbrev pub flow_source : Members → Result Prefix Why
+flow_source m = needed prefix (get_member (codes "source") m)
+
+abbrev pub flow_target : Members → Result Prefix Why
+flow_target m = needed prefix (get_member (codes "target") m)
+
+abbrev pub flow_hops : Members → Result ℕ Why
+flow_hops m = needed (number 1 255) (get_member (codes "hops") m)
+
+abbrev pub flow_label : Members → Result ℕ Why
+flow_label m = optional 0 (number 0 1048575) (get_member (codes "label") m)
+
+-- a trace and its capacity, each needed with the other
+abbrev pub flow_trace : Members → Result (Option ℕ) Why
+flow_trace m = maybe trace_type (get_member (codes "trace") m) ▷ beside (is_some (get_member (codes "capacity") m))
+
+abbrev pub flow_capacity : Members → Result (Option ℕ) Why
+flow_capacity m = maybe (number 1 61) (get_member (codes "capacity") m) ▷ beside (is_some (get_member (codes "trace") m))
+
+abbrev pub flow_edge : Members → Result (Option ℕ) Why
+flow_edge m = maybe edge_type (get_member (codes "edge") m)
+
+-- direct exports, how often they are and the id that they have: each needed with the first, and the first with either
+abbrev pub flow_direct : Members → Result (Option ℕ) Why
+flow_direct m = maybe direct_type (get_member (codes "direct") m)
+    ▷ beside (is_some (get_member (codes "every") m) || is_some (get_member (codes "flow_id") m))
+
+abbrev pub flow_every : Members → Result (Option ℕ) Why
+flow_every m = maybe (number 1 1000000) (get_member (codes "every") m) ▷ beside (is_some (get_member (codes "direct") m))
+
+abbrev pub flow_id : Members → Result (Option ℕ) Why
+flow_id m = maybe (number 0 4294967295) (get_member (codes "flow_id") m) ▷ beside (is_some (get_member (codes "direct") m))
+
+abbrev pub flow_limit : Members → Result (Option ℕ) Why
+flow_limit m = maybe (number 0 255) (get_member (codes "limit") m)
+
+-- the outer header
+abbrev pub outer_of : Members → Result Outer Why
+outer_of m = flow_hops m ▷ (λ hops. flow_label m ▷ (λ label. Ok (record { hops = hops; label = label })))
+
+abbrev pub outer_keys : ℕ → Members → List DomainFault
+outer_keys place m = at FlowTable place HopsKey (flow_hops m) ++ at FlowTable place LabelKey (flow_label m)
+
+-- the options that every packet carries
+abbrev pub tracing_of : Members → Result Tracing Why
+tracing_of m = flow_trace m ▷ (λ trace. flow_capacity m ▷ (λ capacity. flow_edge m ▷ (λ edge.
+    Ok (record { trace = trace; capacity = capacity; edge = edge }))))
+
+abbrev pub tracing_keys : ℕ → Members → List DomainFault
+tracing_keys place m = at FlowTable place TraceKey (flow_trace m) ++ (at FlowTable place CapacityKey (flow_capacity m) ++ at FlowTable place EdgeKey (flow_edge m))
+
+-- the option that some packets carry, and the tunnel's limit
+abbrev pub exporting_of : Members → Result Exporting Why
+exporting_of m = flow_direct m ▷ (λ direct. flow_every m ▷ (λ every. flow_id m ▷ (λ id. flow_limit m ▷ (λ limit.
+    Ok (record { direct = direct; every = every; flow_id = id; limit = limit })))))
+
+-- the same with the ids of each namespace before it, where the namespace is read
+abbrev pub exporting_keys : ℕ → Result ℕ Why → List (ℕ × ℕ) → Members → List DomainFault
+exporting_keys place space seen m =
+    at FlowTable place DirectKey (flow_direct m)
+    ++ (at FlowTable place EveryKey (flow_every m)
+    ++ (at FlowTable place FlowIdKey (flow_id m ▷ fresh_some space seen)
+    ++ at FlowTable place LimitKey (flow_limit m)))
+
+-- `nodes` are the names of the nodes, and `lists` the namespaces that these list
+module _ (nodes : List (List ℕ)) (lists : List (Result (List Namespace) Why)) where
+  abbrev pub flow_entry : Members → Result ℕ Why
+  flow_entry m = needed name (get_member (codes "entry") m) ▷ known nodes
+
+  abbrev pub flow_exit : Members → Result ℕ Why
+  flow_exit m = needed name (get_member (codes "exit") m) ▷ known nodes ▷ differs (flow_entry m)
+
+  -- known to both ends
+  abbrev pub flow_space : Members → Result ℕ Why
+  flow_space m = needed (number 0 65535) (get_member (codes "namespace") m) ▷ known_at lists (flow_entry m) ▷ known_at lists (flow_exit m)
+
+  -- which packets are enclosed, and from where to where
+  abbrev pub selection_of : Members → Result Selection Why
+  selection_of m = flow_entry m ▷ (λ entry. flow_exit m ▷ (λ exit. flow_source m ▷ (λ source. flow_target m ▷ (λ target. flow_space m ▷ (λ space.
+      Ok (record { entry = entry; exit = exit; source = source; target = target; namespace = space }))))))
+
+  abbrev pub selection_keys : ℕ → Members → List DomainFault
+  selection_keys place m =
+      at FlowTable place EntryKey (flow_entry m)
+      ++ (at FlowTable place ExitKey (flow_exit m)
+      ++ (at FlowTable place SourceKey (flow_source m)
+      ++ (at FlowTable place TargetKey (flow_target m)
+      ++ at FlowTable place NamespaceKey (flow_space m))))

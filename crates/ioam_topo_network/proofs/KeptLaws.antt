@@ -1,0 +1,167 @@
+-- Laws of what is true of a domain's tables, from what its file reads as.
+use Rattle.std.proofs.Common.{◌≡◌, ◌≢◌, ◌<◌, ◌≤◌, ℕ, Bool, true, false, nat_eq, cond, codes, List, map, length, Option, Some, None, option_map, unwrap_or, slice_get, is_some, Result, Ok, Err, refl, ap, sym, subst, ◌∙◌, arith}
+use Rattle.std.proofs.lemmas.Option.{slice_get-map, slice_get_cases}
+use Rattle.toml.specs.Data.{Data, Members, get_member}
+use Rattle.ioam_topo_values.specs.declared.why.Why.{Why}
+use Rattle.ioam_topo_values.specs.declared.why.Why.TheVariants.{Unknown}
+use Rattle.ioam_topo.specs.declared.prefix.Prefix.{Prefix}
+use Rattle.ioam_topo_values.specs.Reads.{◌▷◌, needed, maybe}
+use Rattle.ioam_topo_values.specs.Texts.{name, file_name}
+use Rattle.ioam_topo.specs.declared.ids.Way.{Way}
+use Rattle.ioam_topo.specs.declared.ids.Way.TheVariants.{Link as ByLink, Port as ByPort}
+use Rattle.ioam_topo.specs.declared.parts.Link.{Link}
+use Rattle.ioam_topo.specs.declared.parts.Port.{Port}
+use Rattle.ioam_topo.specs.declared.parts.Route.{Route}
+use Rattle.ioam_topo_entries.specs.Goods.{known, differs, agrees, read_at}
+use Rattle.ioam_topo_entries.proofs.GoodsLaws.{known_below, differs_apart}
+use Rattle.ioam_topo_network.specs.LinkTable.{link_of, link_from, link_to, link_name, link_out_id, link_in_id, link_delay, link_mtu}
+use Rattle.ioam_topo_network.specs.PortTable.{port_of, port_node, port_name, port_id, port_input, port_output}
+use Rattle.ioam_topo_network.specs.RouteTable.{route_of, route_node, route_prefix, route_link, route_port, link_in, port_in, link_part, port_part, alone, way_of}
+use Rattle.ioam_topo_network.specs.LinkRead.{from_of}
+use Rattle.ioam_topo_network.specs.PortRead.{node_of_port}
+use Rattle.ioam_topo.specs.Kept.{JoinsNodes, IsAtNode, IsRouteOf, is_of, is_way_from}
+
+link_parts : (a : Result (List ℕ) Why) (b c d e f g : Result ℕ Why) (h : Result (Option (List ℕ)) Why) (link : Link)
+    → a ▷ (λ name. b ▷ (λ from. c ▷ (λ to. d ▷ (λ out_id. e ▷ (λ in_id. f ▷ (λ delay. g ▷ (λ mtu. h ▷ (λ tap.
+    Ok (record { name = name; from = record { 0 = from }; to = record { 0 = to }; out_id = out_id; in_id = in_id; delay = delay; mtu = mtu; tap = tap }))))))))) ≡ Ok link
+    → (b ≡ Ok link.from.0) × (c ≡ Ok link.to.0)
+link_parts (Err why) b c d e f g h link is = cc
+link_parts (Ok name) (Err why) c d e f g h link is = cc
+link_parts (Ok name) (Ok from) (Err why) d e f g h link is = cc
+link_parts (Ok name) (Ok from) (Ok to) (Err why) e f g h link is = cc
+link_parts (Ok name) (Ok from) (Ok to) (Ok out_id) (Err why) f g h link is = cc
+link_parts (Ok name) (Ok from) (Ok to) (Ok out_id) (Ok in_id) (Err why) g h link is = cc
+link_parts (Ok name) (Ok from) (Ok to) (Ok out_id) (Ok in_id) (Ok delay) (Err why) h link is = cc
+link_parts (Ok name) (Ok from) (Ok to) (Ok out_id) (Ok in_id) (Ok delay) (Ok mtu) (Err why) link is = cc
+link_parts (Ok name) (Ok from) (Ok to) (Ok out_id) (Ok in_id) (Ok delay) (Ok mtu) (Ok tap) link is =
+    let P : Result Link Why → Type 0 = λ r. (Ok from ≡ r ▷ (λ l. Ok l.from.0)) × (Ok to ≡ r ▷ (λ l. Ok l.to.0)) in subst P is (refl, refl)
+
+-- a link joins nodes of these names
+pub link_joins : (nodes : List (List ℕ)) (m : Members) (link : Link) → link_of nodes m ≡ Ok link → JoinsNodes (length nodes) link
+link_joins nodes m link is =
+    let both : (link_from nodes m ≡ Ok link.from.0) × (link_to nodes m ≡ Ok link.to.0) = link_parts (link_name m) (link_from nodes m) (link_to nodes m)
+    (link_out_id m) (link_in_id m) (link_delay m) (link_mtu m) (maybe file_name (get_member (codes "tap") m)) link is in
+    let to : needed name (get_member (codes "to") m) ▷ known nodes ▷ differs (Ok link.from.0) ≡ Ok link.to.0 =
+    ap (λ r. needed name (get_member (codes "to") m) ▷ known nodes ▷ differs r) (sym both.0) ∙ both.1 in
+    let other : (needed name (get_member (codes "to") m) ▷ known nodes ≡ Ok link.to.0) × (link.from.0 ≢ link.to.0) =
+    differs_apart link.from.0 (needed name (get_member (codes "to") m) ▷ known nodes) link.to.0 to in
+    record {
+      starts = known_below nodes (needed name (get_member (codes "from") m)) link.from.0 both.0;
+      ends = known_below nodes (needed name (get_member (codes "to") m)) link.to.0 other.0;
+      apart = other.1;
+    }
+
+port_parts : (a : Result (List ℕ) Why) (b c : Result ℕ Why) (d : Result (Option (List ℕ)) Why) (e : Result (List ℕ) Why) (port : Port)
+    → a ▷ (λ name. b ▷ (λ node. c ▷ (λ id. d ▷ (λ input. e ▷ (λ output.
+    Ok (record { name = name; node = record { 0 = node }; id = id; input = input; output = output })))))) ≡ Ok port → b ≡ Ok port.node.0
+port_parts (Err why) b c d e port is = cc
+port_parts (Ok name) (Err why) c d e port is = cc
+port_parts (Ok name) (Ok node) (Err why) d e port is = cc
+port_parts (Ok name) (Ok node) (Ok id) (Err why) e port is = cc
+port_parts (Ok name) (Ok node) (Ok id) (Ok input) (Err why) port is = cc
+port_parts (Ok name) (Ok node) (Ok id) (Ok input) (Ok output) port is =
+    let P : Result Port Why → Type 0 = λ r. Ok node ≡ r ▷ (λ p. Ok p.node.0) in subst P is refl
+
+-- a port is at a node of these names
+pub port_placed : (nodes : List (List ℕ)) (m : Members) (port : Port) → port_of nodes m ≡ Ok port → IsAtNode (length nodes) port
+port_placed nodes m port is = known_below nodes (needed name (get_member (codes "node") m)) port.node.0
+    (port_parts (port_name m) (port_node nodes m) (port_id m) (port_input m) (port_output m) port is)
+
+with_way : (a : Result ℕ Why) (c d : Result (Option ℕ) Why) (node : ℕ) (p : Prefix) (link port : Option ℕ) (w : Result Way Why) (route : Route)
+    → a ≡ Ok node → c ≡ Ok link → d ≡ Ok port → way_of link port ≡ w → w ▷ (λ way. Ok (record { node = record { 0 = node }; prefix = p; way = way })) ≡ Ok route
+    → (a ≡ Ok route.node.0) × ((l q : Option ℕ) × (c ≡ Ok l) × (d ≡ Ok q) × (way_of l q ≡ Ok route.way))
+with_way a c d node p link port (Err why) route at_node at_link at_port from is = cc
+with_way a c d node p link port (Ok way) route at_node at_link at_port from is =
+    let P : Result Route Why → Type 0 = λ r. (a ≡ r ▷ (λ x. Ok x.node.0)) × (way_of link port ≡ r ▷ (λ x. Ok x.way)) in
+    let both : (a ≡ Ok route.node.0) × (way_of link port ≡ Ok route.way) = subst P is (at_node, from) in
+    (both.0, (link, port, at_link, at_port, both.1))
+
+route_parts : (a : Result ℕ Why) (b : Result Prefix Why) (c d : Result (Option ℕ) Why) (route : Route)
+    → a ▷ (λ node. b ▷ (λ p. c ▷ (λ link. d ▷ (λ port. way_of link port ▷ (λ way. Ok (record { node = record { 0 = node }; prefix = p; way = way })))))) ≡ Ok route
+    → (a ≡ Ok route.node.0) × ((link port : Option ℕ) × (c ≡ Ok link) × (d ≡ Ok port) × (way_of link port ≡ Ok route.way))
+route_parts (Err why) b c d route is = cc
+route_parts (Ok node) (Err why) c d route is = cc
+route_parts (Ok node) (Ok p) (Err why) d route is = cc
+route_parts (Ok node) (Ok p) (Ok link) (Err why) route is = cc
+route_parts (Ok node) (Ok p) (Ok link) (Ok port) route is = with_way (Ok node) (Ok link) (Ok port) node p link port (way_of link port) route refl refl refl refl is
+
+part_kind : (kind : Data → Result ℕ Why) (d : Option Data) (port : Bool) (i : ℕ) → link_part kind d port ≡ Ok (Some i) → (x : Data) × (kind x ≡ Ok i)
+part_kind kind None true i is = cc
+part_kind kind None false i is = cc
+part_kind kind (Some x) port i is = (x, some_of (kind x) is) where
+  some_of : (r : Result ℕ Why) → r ▷ (λ j. Ok (Some j)) ≡ Ok (Some i) → r ≡ Ok i
+  some_of (Ok j) is = cc
+  some_of (Err why) is = cc
+
+alone_kind : (kind : Data → Result ℕ Why) (d : Option Data) (link : Bool) (i : ℕ) → port_part kind d link ≡ Ok (Some i) → (x : Data) × (kind x ≡ Ok i)
+alone_kind kind None link i is = cc
+alone_kind kind (Some x) link i is = (x, some_of (kind x) link is) where
+  some_of : (r : Result ℕ Why) (link : Bool) → r ▷ alone link ≡ Ok (Some i) → r ≡ Ok i
+  some_of (Ok j) true is = cc
+  some_of (Ok j) false is = cc
+  some_of (Err why) link is = cc
+
+agreed : (node end i j : ℕ) (b : Bool) → nat_eq node end ≡ b → cond b (Ok i) (Err Why.Range) ≡ Ok j → (i ≡ j) × (nat_eq node end ≡ true)
+agreed node end i j true eq is = (cc, eq)
+agreed node end i j false eq is = cc
+
+module _ {A : Type 0} (node_of : A → ℕ) (names : List (List ℕ)) (items : List A) (same : length names ≡ length items) (node : ℕ) where
+  -- what a name of the same node names is of this node
+  named_of : (r : Result (List ℕ) Why) (i : ℕ) → r ▷ known names ▷ (λ j. agrees (Ok node) (read_at (map (λ x. Ok (node_of x)) items) j) j) ≡ Ok i
+      → is_of node_of node (slice_get items i) ≡ true
+  named_of r i is = known_of (r ▷ known names) refl is where
+    at_item : (j : ℕ) (x : A) → slice_get items j ≡ Some x → agrees (Ok node) (read_at (map (λ x. Ok (node_of x)) items) j) j ≡ Ok i → is_of node_of node (slice_get items i) ≡ true
+    at_item j x there also =
+        let read : read_at (map (λ x. Ok (node_of x)) items) j ≡ Ok (node_of x) = ap (λ o. unwrap_or o (Err Unknown)) (slice_get-map (λ x. Ok (node_of x)) items j ∙ ap (option_map (λ x. Ok (node_of x))) there) in
+        let both : (j ≡ i) × (nat_eq node (node_of x) ≡ true) = agreed node (node_of x) j i (nat_eq node (node_of x)) refl (ap (λ e. agrees (Ok node) e j) (sym read) ∙ also) in
+        ap (λ k. is_of node_of node (slice_get items k)) (sym both.0) ∙ ap (is_of node_of node) there ∙ both.1
+
+    at_some : (j : ℕ) (o : Option A) → j < length items → slice_get items j ≡ o → agrees (Ok node) (read_at (map (λ x. Ok (node_of x)) items) j) j ≡ Ok i → is_of node_of node (slice_get items i) ≡ true
+    at_some j (Some x) lt there also = at_item j x there also
+    at_some j None lt there also = grind (arith, slice_get_cases items j, lt, there)
+
+    known_of : (s : Result ℕ Why) → r ▷ known names ≡ s → s ▷ (λ j. agrees (Ok node) (read_at (map (λ x. Ok (node_of x)) items) j) j) ≡ Ok i → is_of node_of node (slice_get items i) ≡ true
+    known_of (Err why) knows also = cc
+    known_of (Ok j) knows also =
+        let below : j < length names = known_below names r j knows in
+        at_some j (slice_get items j) (omega (arith, below, same)) refl also
+
+module _ (nodes links : List (List ℕ)) (froms : List (Result ℕ Why)) (ports : List (List ℕ)) (homes : List (Result ℕ Why)) (link_items : List Link) (port_items : List Port)
+    (from_items : froms ≡ map from_of link_items) (home_items : homes ≡ map node_of_port port_items) (link_count : length links ≡ length link_items) (port_count : length ports ≡ length port_items)
+    (m : Members) (node : ℕ) (at_node : route_node nodes links froms ports homes m ≡ Ok node) where
+  link_leads : (i : ℕ) → route_link nodes links froms ports homes m ≡ Ok (Some i) → is_of (λ l. l.from.0) node (slice_get link_items i) ≡ true
+  link_leads i at_link =
+      let x : (x : Data) × (link_in nodes links froms ports homes m x ≡ Ok i) = part_kind (link_in nodes links froms ports homes m) (get_member (codes "link") m) (is_some (get_member (codes "port") m)) i at_link in
+      let e : name x.0 ▷ known links ▷ (λ j. agrees (Ok node) (read_at (map from_of link_items) j) j) ≡ Ok i =
+      ap (λ n. name x.0 ▷ known links ▷ (λ j. agrees n (read_at (map from_of link_items) j) j)) (sym at_node)
+      ∙ ap (λ f. name x.0 ▷ known links ▷ (λ j. agrees (route_node nodes links froms ports homes m) (read_at f j) j)) (sym from_items) ∙ x.1 in
+      named_of (λ l. l.from.0) links link_items link_count node (name x.0) i e
+
+  port_leads : (i : ℕ) → route_port nodes links froms ports homes m ≡ Ok (Some i) → is_of (λ p. p.node.0) node (slice_get port_items i) ≡ true
+  port_leads i at_port =
+      let x : (x : Data) × (port_in nodes links froms ports homes m x ≡ Ok i) = alone_kind (port_in nodes links froms ports homes m) (get_member (codes "port") m) (is_some (get_member (codes "link") m)) i at_port in
+      let e : name x.0 ▷ known ports ▷ (λ j. agrees (Ok node) (read_at (map node_of_port port_items) j) j) ≡ Ok i =
+      ap (λ n. name x.0 ▷ known ports ▷ (λ j. agrees n (read_at (map node_of_port port_items) j) j)) (sym at_node)
+      ∙ ap (λ f. name x.0 ▷ known ports ▷ (λ j. agrees (route_node nodes links froms ports homes m) (read_at f j) j)) (sym home_items) ∙ x.1 in
+      named_of (λ p. p.node.0) ports port_items port_count node (name x.0) i e
+
+  way_leads : (way : Way) (link port : Option ℕ) → route_link nodes links froms ports homes m ≡ Ok link → route_port nodes links froms ports homes m ≡ Ok port → way_of link port ≡ Ok way
+      → is_way_from link_items port_items node way ≡ true
+  way_leads way (Some i) port at_link at_port is = let same : ByLink (record { 0 = i }) ≡ way = cc in
+      ap (is_way_from link_items port_items node) (sym same) ∙ link_leads i at_link
+  way_leads way None (Some i) at_link at_port is = let same : ByPort (record { 0 = i }) ≡ way = cc in
+      ap (is_way_from link_items port_items node) (sym same) ∙ port_leads i at_port
+  way_leads way None None at_link at_port is = cc
+
+-- a route is of a node of these names, and its way is from there
+pub route_leads : (nodes links : List (List ℕ)) (froms : List (Result ℕ Why)) (ports : List (List ℕ)) (homes : List (Result ℕ Why)) (link_items : List Link) (port_items : List Port)
+    → froms ≡ map from_of link_items → homes ≡ map node_of_port port_items → length links ≡ length link_items → length ports ≡ length port_items
+    → (m : Members) (route : Route) → route_of nodes links froms ports homes m ≡ Ok route → IsRouteOf (length nodes) link_items port_items route
+route_leads nodes links froms ports homes link_items port_items from_items home_items link_count port_count m route is =
+    let parts : (route_node nodes links froms ports homes m ≡ Ok route.node.0) × ((link port : Option ℕ) × (route_link nodes links froms ports homes m ≡ Ok link) × (route_port nodes links froms ports homes m ≡ Ok port) × (way_of link port ≡ Ok route.way)) =
+    route_parts (route_node nodes links froms ports homes m) (route_prefix m) (route_link nodes links froms ports homes m) (route_port nodes links froms ports homes m) route is in
+    record {
+      known = known_below nodes (needed name (get_member (codes "node") m)) route.node.0 parts.0;
+      leads = way_leads nodes links froms ports homes link_items port_items from_items home_items link_count port_count m route.node.0 parts.0
+          route.way parts.1.0 parts.1.1 parts.1.2 parts.1.3 parts.1.4;
+    }

@@ -1,0 +1,56 @@
+use Rattle.std.proofs.Common.{rules, ◌≡◌, ◌++◌, [], Ok, codes}
+use Rattle.std.proofs.lemmas.Result.{err_from_is_err_and}
+use Rattle.std.specs.Str.{bytes_eq}
+use Rattle.toml.specs.View.{table_view}
+use Rattle.toml.specs.Data.{get_member}
+use Rattle.ioam_topo_values.specs.Reads.{◌▷◌, maybe}
+use Rattle.ioam_topo_values.specs.Texts.{file_name}
+use Rattle.ioam_topo_entries.specs.declared.words.Table.TheVariants.{LinkTable}
+use Rattle.ioam_topo_entries.specs.declared.words.Field.TheVariants.{OtherKey, NameKey, TapKey}
+use Rattle.ioam_topo_entries.specs.Faults.{at}
+use Rattle.ioam_topo_entries.specs.Goods.{fresh}
+use Rattle.ioam_topo_entries.specs.Keys.{own_keys}
+use Rattle.ioam_topo_network.specs.LinkTable.{link_name, link_tap, end_keys, number_keys}
+use Rattle.ioam_topo_entries.proofs.GoodsLaws.{fresh_new}
+use Rattle.ioam_topo_entries.proofs.FaultLaws.{gives_first}
+use Rattle.ioam_topo_network.proofs.LinkLaws.{tap_read, tap_counts, tap_room}
+use Rattle.ioam_topo_network.proofs.link_table.read_link.Goals as goal
+
+pub returns-in_err-ends : goal.returns-in_err-ends
+returns-in_err-ends c =
+    let a : at LinkTable c.args.place OtherKey (own_keys LinkTable (table_view c.args.entry.now)) ≡ [] = search rules in
+    let b : at LinkTable c.args.place NameKey (link_name (table_view c.args.entry.now) ▷ fresh bytes_eq c.args.links.now.names) ≡ [] = search rules in
+    let p = err_from_is_err_and c.from_residual-in_err-ends.result c.from_residual-in_err-ends.ensures.1 in
+    rw (p.1, p.2) (gives_first c.in_err-ends.field-0.0 _ (number_keys c.args.place (table_view c.args.entry.now) ++ at LinkTable c.args.place TapKey (link_tap c.args.most_taps c.args.links.now.taps (table_view c.args.entry.now))) _ _ _
+    (rw (a, b)) c.in_err-ends.ensures)
+
+pub returns-in_err-numbers : goal.returns-in_err-numbers
+returns-in_err-numbers c =
+    let a : at LinkTable c.args.place OtherKey (own_keys LinkTable (table_view c.args.entry.now)) ≡ [] = search rules in
+    let b : at LinkTable c.args.place NameKey (link_name (table_view c.args.entry.now) ▷ fresh bytes_eq c.args.links.now.names) ≡ [] = search rules in
+    let e : end_keys c.args.nodes.now.names c.args.place (table_view c.args.entry.now) ≡ [] = c.in_ok-ends.ensures.0 in
+    let p = err_from_is_err_and c.from_residual-in_err-numbers.result c.from_residual-in_err-numbers.ensures.1 in
+    rw (p.1, p.2) (gives_first c.in_err-numbers.field-0.0 _ (at LinkTable c.args.place TapKey (link_tap c.args.most_taps c.args.links.now.taps (table_view c.args.entry.now))) _ _ _
+    (rw (a, b, e)) c.in_err-numbers.ensures)
+
+pub returns-in-Ok-Ok : goal.returns-in-Ok-Ok
+returns-in-Ok-Ok c =
+    let a : at LinkTable c.args.place OtherKey (own_keys LinkTable (table_view c.args.entry.now)) ≡ [] = search rules in
+    let b : at LinkTable c.args.place NameKey (link_name (table_view c.args.entry.now) ▷ fresh bytes_eq c.args.links.now.names) ≡ [] = search rules in
+    let e : end_keys c.args.nodes.now.names c.args.place (table_view c.args.entry.now) ≡ [] = c.in_ok-ends.ensures.0 in
+    let n : number_keys c.args.place (table_view c.args.entry.now) ≡ [] = c.in_ok-numbers.ensures.0 in
+    let t : link_tap c.args.most_taps c.args.links.now.taps (table_view c.args.entry.now) ≡ Ok c.in-Ok-Ok.tap = search rules in
+    let none : at LinkTable c.args.place TapKey (link_tap c.args.most_taps c.args.links.now.taps (table_view c.args.entry.now)) ≡ [] = rw t in
+    let tap : maybe file_name (get_member (codes "tap") (table_view c.args.entry.now)) ≡ Ok c.in-Ok-Ok.tap = tap_read c.args.most_taps c.args.links.now.taps _ _ t in
+    let f : link_name (table_view c.args.entry.now) ▷ fresh bytes_eq c.args.links.now.names ≡ Ok c.in_ok-text.text.now = search rules in (
+      rw (a, b, e, n, none),
+      record {
+        name = search rules;
+        is = search rules;
+        end_is = search rules;
+        name_is = search rules;
+        new_name = fresh_new bytes_eq c.args.links.now.names _ c.in_ok-text.text.now f;
+        tap_is = rw c.link_of.ensures (tap_counts (get_member (codes "tap") (table_view c.args.entry.now)) _ tap);
+        room = rw c.link_of.ensures (tap_room c.args.most_taps c.args.links.now.taps _ _ t);
+      },
+    )

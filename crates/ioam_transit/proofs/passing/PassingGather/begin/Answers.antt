@@ -1,6 +1,0 @@
-use Rattle.std.proofs.Common.{refl}
-use Rattle.ioam_transit.proofs.PassingLaws.{Adds-first}
-use Rattle.ioam_transit.proofs.passing.PassingGather.begin.Goals as goal
-
-pub returns-clause-adds : goal.returns-clause-adds
-returns-clause-adds c = Adds-first _ _ _ _ c.requires.width refl c.in_ok-put_head.ensures.octets

@@ -1,6 +1,0 @@
-use Rattle.std.proofs.Common.{refl}
-use Rattle.ioam_transit.proofs.PassingLaws.{Adds-first}
-use Rattle.ioam_transit.proofs.sending.add_packet.Goals as goal
-
-pub returns : goal.returns
-returns c = Adds-first _ _ _ _ c.requires.width refl c.in_ok-put_record.ensures.octets

@@ -1,9 +1,0 @@
--- Room for what nodes note and export, as its callers see it.
-use Rattle.std.specs.Prelude.{ℕ, List}
-use Rattle.ioam_visit.specs.declared.note.NodeNote.{NodeNote}
-
--- the notes and the octets of the records that it holds, and for how many more IOAM options it has room
-pub record Room : Type 0 where
-  pub notes : List NodeNote
-  pub exports : List ℕ
-  pub spare : ℕ
