@@ -6,7 +6,7 @@ use Rattle.std.proofs.lemmas.List.{append-nil}
 use Rattle.ioam_desk.specs.Desk as desk
 use Rattle.ioam_desk.specs.declared.fault.DeskFault.{DeskFault}
 use Rattle.ioam_desk.specs.declared.fault.DeskFault.TheVariants.{Failed, NoMemory}
-use Rattle.ioam_capture_feed.specs.Feed.{Fed, FeedsPiece, FindsEnd, FailsToRead, Refills}
+use Rattle.ioam_capture_merge.specs.Feed.{Fed, FeedsPiece, FindsEnd, FailsToRead, Refills}
 use Rattle.ioam_pcap.specs.Ending.{Ending, Whole, Faulty}
 use Rattle.ioam_pcap.specs.Entries.{Taken}
 use Rattle.ioam_capture.specs.Arrives.{Handed, HandsOn}

@@ -1,3 +1,4 @@
+pub mod FedLaws
 pub mod CaptureLaws
 pub mod ListLaws
 pub mod MergingLaws

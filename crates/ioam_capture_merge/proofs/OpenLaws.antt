@@ -8,7 +8,7 @@ use Rattle.ioam_desk.specs.Asked.{AsksFront}
 use Rattle.ioam_desk.specs.Desk.{Side, Writing, OpensInput, OpenIn, holds, opened_side, opened_each}
 use Rattle.ioam_desk.specs.declared.fault.DeskFault.{DeskFault}
 use Rattle.ioam_desk.specs.declared.fault.DeskFault.TheVariants.{Failed, NoMemory}
-use Rattle.ioam_capture_feed.specs.Feed.{Fed}
+use Rattle.ioam_capture_merge.specs.Feed.{Fed}
 use Rattle.ioam_capture.specs.Arrives.{Handed}
 use Rattle.ioam_capture.specs.Reading.{Reading, fresh, pending, most_held}
 use Rattle.ioam_capture.specs.declared.turns.Due.TheVariants.{More}

@@ -4,7 +4,7 @@ use Rattle.ioam_desk.specs.Desk as desk
 use Rattle.ioam_desk.specs.Desk.{SameBut}
 use Rattle.ioam_desk.specs.declared.fault.DeskFault.{DeskFault}
 use Rattle.ioam_desk.specs.declared.fault.DeskFault.TheVariants.{Failed, NoMemory}
-use Rattle.ioam_capture_feed.specs.Feed.{Fed}
+use Rattle.ioam_capture_merge.specs.Feed.{Fed}
 use Rattle.ioam_pcap.specs.Entries.{Taken}
 use Rattle.ioam_capture.specs.Arrives.{Handed, HandsOn}
 use Rattle.ioam_capture.specs.Merge.{Stream, due_of}

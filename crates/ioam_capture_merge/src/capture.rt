@@ -3,9 +3,9 @@ ghost use Rattle.std.specs.Prelude.{◌≡◌, IfErr, OnOk, length};
 ghost use Rattle.ioam_desk.specs.Asked.{IsFaultOf};
 ghost use Rattle.ioam_capture_merge.specs.Capture.{IsLane, ShowsDue, MovesOne};
 
+use crate::feed::Feed;
 use ioam_base::memory::NoMemory;
 use ioam_capture::Due;
-use ioam_capture_feed::Feed;
 use ioam_desk::{Desk, DeskFault, PIECE};
 
 /// A capture that is read in pieces, and whether its end was found.

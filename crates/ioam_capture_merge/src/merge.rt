@@ -5,9 +5,9 @@ ghost use Rattle.ioam_capture.specs.Merge.{Arrival};
 ghost use Rattle.ioam_capture_merge.specs.Merging.{Start, Merging, IsMerging, AreKnown, Shows, Turns, EndsKept};
 
 use crate::capture::Capture;
+use crate::feed::Feed;
 use ioam_base::memory::NoMemory;
 use ioam_capture::{Due, Turn, next_turn};
-use ioam_capture_feed::Feed;
 use ioam_desk::{Desk, DeskFault, PIECE};
 use std::alloc::Global;
 

@@ -4,10 +4,10 @@ ghost use Rattle.ioam_desk.specs.Asked.{AsksFront, IsFaultOf};
 ghost use Rattle.ioam_desk.specs.Desk.{holds, opened_side, opened_each};
 ghost use Rattle.ioam_capture_merge.specs.Merging.{Start, Merging, LeavesFewer, EndsKept, start_of, with_content};
 
+use crate::feed::open_feed;
 use crate::merge::Merge;
 use ioam_base::memory::NoMemory;
 use ioam_base::name::Name;
-use ioam_capture_feed::open_feed;
 use ioam_desk::{Desk, DeskFault};
 use std::alloc::Global;
 

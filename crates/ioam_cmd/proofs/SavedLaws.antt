@@ -2,7 +2,7 @@
 use Rattle.std.proofs.Common.{ℕ, List}
 use Rattle.ioam_desk.specs.Desk.{Writing}
 use Rattle.ioam_desk_outputs.specs.Names.{name_at}
-use Rattle.ioam_run_capture.specs.Run.{input_name}
+use Rattle.ioam_run_stream.specs.Run.{input_name}
 use Rattle.ioam_run_capture.specs.SaveText.{SavesAll}
 use Rattle.ioam_cmd.specs.Clauses.{IsSaved}
 use Rattle.ioam_cmd.specs.declared.command.Command.{Command}

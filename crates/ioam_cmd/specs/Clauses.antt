@@ -16,9 +16,9 @@ use Rattle.ioam_run_capture.specs.FilterText.{FilterTexts}
 use Rattle.ioam_run_capture.specs.PathsText.{PathsTexts}
 use Rattle.ioam_run_capture.specs.SaveText.{SaveTexts, SavesAll}
 use Rattle.ioam_run_capture.specs.ShowText.{ShowTexts}
-use Rattle.ioam_run_capture.specs.Run as capture
+use Rattle.ioam_run_stream.specs.Run as capture
 use Rattle.ioam_run_answer.specs.Outcomes.{IsBehindAll, OpensNothing}
-use Rattle.ioam_run_capture.specs.Run.{file_names, input_name, output_names}
+use Rattle.ioam_run_stream.specs.Run.{file_names, input_name, output_names}
 use Rattle.ioam_run_answer.specs.declared.outcome.Outcome.{Outcome}
 use Rattle.ioam_run_answer.specs.declared.outcome.Outcome.TheVariants as outcome
 use Rattle.ioam_topo_entries.specs.declared.fault.DomainFault.{DomainFault}

@@ -1,5 +1,5 @@
 -- The packet that a captured frame holds has no more octets than the frame.
-use Rattle.std.proofs.Common.{ℕ, ◌≤◌, ◌/◌, Bool, true, false, List, length, take, drop, arith, length-take, length-drop, if◌then◌else◌}
+use Rattle.std.proofs.Common.{◌≡◌, ℕ, ◌≤◌, ◌/◌, Bool, true, false, List, length, take, drop, subst, sym, arith, length-take, length-drop, if◌then◌else◌}
 use Rattle.std.specs.Prelude.{nat_lt, not, ◌||◌, ◌==◌, slice_index}
 use Rattle.ioam_ip.specs.Framing.{Framing, Holds, NoIpv6, CutShort, TooShort, IfHolds, framed, framing_of, is_ethernet_ipv6}
 use Rattle.ioam_ip.specs.Packet.{whole_length}
@@ -26,3 +26,7 @@ framing-within ethernet cut frame size few =
     let inner : Framing = if is_ethernet_ipv6 frame then framed cut (drop 14 frame) else NoIpv6 in
     either (not ethernet) size (framed cut frame) inner (framed-within cut frame size few)
     (either (is_ethernet_ipv6 frame) size (framed cut (drop 14 frame)) NoIpv6 (framed-within cut (drop 14 frame) size (omega (arith, few, length-drop 14 frame))) tt)
+
+-- the packet that a frame holds
+pub held-within : (ethernet cut : Bool) (frame packet : List ℕ) → Holds packet ≡ framing_of ethernet cut frame → length packet ≤ length frame
+held-within ethernet cut frame packet is = subst (Within (length frame)) (sym is) (framing-within ethernet cut frame (length frame) (omega arith))

@@ -4,7 +4,7 @@ use Rattle.std.specs.Prelude.{decimal}
 use Rattle.ioam_ip.specs.Framing.{Framing, Holds, NoIpv6, CutShort, TooShort}
 use Rattle.ioam_pcap.specs.Entries.{Taken}
 use Rattle.ioam_run_capture.specs.ListText.{PacketLines, FramingLines, Lines, Listed, ListTexts, packets_line}
-use Rattle.ioam_run_capture.specs.Verdict.{taken_framing}
+use Rattle.ioam_run_stream.specs.Frame.{taken_framing}
 
 module _ (Tells : List ℕ → List ℕ → Type 0) (one : (packet text other : List ℕ) → Tells packet text → Tells packet other → text ≡ other) where
   -- of a packet

@@ -14,11 +14,11 @@ use Rattle.ioam_pcap.specs.Entries.{Taken}
 use Rattle.ioam_run_answer.specs.Outcomes.{IsDone}
 use Rattle.ioam_run_answer.specs.declared.outcome.Outcome.{Outcome}
 use Rattle.ioam_run_answer.specs.declared.outcome.Outcome.TheVariants as outcome
-use Rattle.ioam_run_capture.specs.Run.{most_packets, HoldsAll, EndsSo, Leaves, output_names}
+use Rattle.ioam_run_stream.specs.Run.{most_packets, HoldsAll, EndsSo, Leaves, output_names}
 use Rattle.ioam_run_capture.specs.SaveText.{SaveTexts, SavesAll}
 use Rattle.ioam_run_capture.specs.Saving.{heads, Saves}
 use Rattle.ioam_run_capture.specs.declared.saving.Saving.{Saving}
-use Rattle.ioam_run_capture.proofs.AskedLaws.{both}
+use Rattle.ioam_run_stream.proofs.AskedLaws.{both}
 
 -- the head of a capture is less than a piece
 pub heads-few : All (λ (text : List ℕ). length text < 65536) heads

@@ -1,10 +1,12 @@
 -- A record has one verdict only.
-use Rattle.std.proofs.Common.{◌≡◌, ℕ, List, [], ◌∷◌, refl, sym, ap, ◌∙◌, subst}
+use Rattle.std.proofs.Common.{◌≡◌, ℕ, ◌≤◌, List, [], ◌∷◌, length, arith, refl, sym, ap, ◌∙◌, subst}
 use Rattle.ioam_ip.specs.Framing.{Framing, Holds, NoIpv6, CutShort, TooShort}
 use Rattle.ioam_node.specs.declared.reason.Reason.{Reason}
 use Rattle.ioam_node.specs.declared.reason.Reason.TheVariants as reason
 use Rattle.ioam_pcap.specs.Entries.{Taken}
-use Rattle.ioam_run_capture.specs.Verdict.{Verdict, Keeps, Drops, PacketVerdict, FramingVerdict, HasVerdict, AreVerdicts, taken_framing}
+use Rattle.ioam_run_capture.specs.Verdict.{Verdict, Keeps, Drops, PacketVerdict, FramingVerdict, HasVerdict, AreVerdicts}
+use Rattle.ioam_run_capture.specs.Judgement.{IsWithin}
+use Rattle.ioam_run_stream.specs.Frame.{taken_framing}
 
 module _ (packet : List ℕ) where
   one_reason : (first_why other : Reason) → PacketVerdict packet (Drops first_why) → PacketVerdict packet (Drops other) → first_why ≡ other
@@ -84,3 +86,8 @@ AreVerdicts-unique (t ∷ ts) (verdict ∷ verdicts) (other ∷ others) first se
     let here : verdict ≡ other = only_verdict t (taken_framing t) verdict other refl first.0 second.0 in
     let behind : verdicts ≡ others = AreVerdicts-unique ts verdicts others first.1 second.1 in
     cc
+
+-- a bound on a kept packet, passed on
+pub IsWithin-le : (v : Verdict) (packet frame : List ℕ) → length packet ≤ length frame → IsWithin v packet → IsWithin v frame
+IsWithin-le (Keeps kept) packet frame short within = omega (arith, short, within)
+IsWithin-le (Drops reason) packet frame short within = tt

@@ -2,8 +2,6 @@ pub mod Verdict
 pub mod Judgement
 pub mod FilterText
 pub mod Filtering
-pub mod Run
-pub mod Streams
 pub mod ListText
 pub mod PathsText
 pub mod ShowText

@@ -5,7 +5,7 @@ use Rattle.ioam_ip.specs.Framing.{Framing, Holds, NoIpv6, CutShort, TooShort}
 use Rattle.ioam_ip.specs.Chain.{IsSound}
 use Rattle.ioam_pcap.specs.Entries.{Taken}
 use Rattle.ioam_report.specs.RunText.{reason_name}
-use Rattle.ioam_run_capture.specs.Verdict.{taken_framing}
+use Rattle.ioam_run_stream.specs.Frame.{taken_framing}
 use Rattle.ioam_node.specs.declared.reason.Reason.{Reason}
 use Rattle.ioam_node.specs.declared.reason.Reason.TheVariants as reason
 

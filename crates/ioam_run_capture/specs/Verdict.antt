@@ -1,12 +1,11 @@
 -- What becomes of a captured frame at the boundary of a domain: the first reason why it is dropped,
 -- or its packet.
 use Rattle.std.specs.Prelude.{◌≡◌, ℕ, List, [], ◌∷◌}
-use Rattle.ioam_ip.specs.Framing.{Framing, Holds, NoIpv6, CutShort, TooShort, framing_of}
+use Rattle.ioam_ip.specs.Framing.{Framing, Holds, NoIpv6, CutShort, TooShort}
 use Rattle.ioam_ip.specs.Chain.{IsSound}
 use Rattle.ioam_ip.specs.ChainOptions.{CarriesIoam}
-use Rattle.ioam_pcap.specs.Cut.{is_cut}
 use Rattle.ioam_pcap.specs.Entries.{Taken}
-use Rattle.ioam_pcap.specs.Link.{is_ethernet}
+use Rattle.ioam_run_stream.specs.Frame.{taken_framing}
 use Rattle.ioam_node.specs.declared.reason.Reason.{Reason}
 use Rattle.ioam_node.specs.declared.reason.Reason.TheVariants as reason
 
@@ -34,10 +33,6 @@ FramingVerdict (Holds packet) verdict = PacketVerdict packet verdict
 FramingVerdict NoIpv6 verdict = verdict ≡ Drops reason.NotIpv6
 FramingVerdict CutShort verdict = verdict ≡ Drops reason.Cut
 FramingVerdict TooShort verdict = verdict ≡ Drops reason.Length
-
--- what a record of a capture gives: it is cut where it has fewer octets than the frame had
-abbrev pub taken_framing : Taken → Framing
-taken_framing t = framing_of (is_ethernet t.link) (is_cut t.entry) t.entry.octets
 
 -- what becomes of one record of a capture
 abbrev pub HasVerdict : Taken → Verdict → Type 0

@@ -6,13 +6,13 @@ ghost use Rattle.ioam_desk.specs.Desk.{holds};
 ghost use Rattle.ioam_desk_outputs.specs.Names.{name_at};
 ghost use Rattle.ioam_run_capture.specs.FilterText.{FilterTexts};
 ghost use Rattle.ioam_run_answer.specs.Outcomes.{IsBehindAll};
-ghost use Rattle.ioam_run_capture.specs.Run.{Owes};
+ghost use Rattle.ioam_run_stream.specs.Run.{Owes};
 
 use crate::filtering::Filtering;
-use crate::over_capture::run_over_capture;
 use ioam_base::name::Name;
 use ioam_desk::Desk;
 use ioam_run_answer::Outcome;
+use ioam_run_stream::run_over_capture;
 use std::alloc::Global;
 
 /// Runs `filter IN OUT REPORT`: OUT becomes the capture of the packets of IN whose header chain is

@@ -3,7 +3,6 @@ ghost use Rattle.std.specs.Prelude.{◌≡◌, ◌+◌, ◌<◌, ◌^◌, [], �
 ghost use Rattle.ioam_run_capture.specs.FilterText.{verdict_line, sums_line};
 ghost use Rattle.ioam_run_capture.specs.Verdict.{Verdict};
 
-use crate::gather::Gather;
 use crate::judge::{Judgement, judge};
 use ioam_base::memory::NoMemory;
 use ioam_base::text::{append, append_decimal};
@@ -11,6 +10,7 @@ use ioam_desk_outputs::Output;
 use ioam_node::Reason;
 use ioam_pcap::{Link, Packet, put_head, put_record};
 use ioam_report::reason_text;
+use ioam_run_stream::Gather;
 
 /// How many packets are kept and dropped so far. Its outputs are the capture of the kept packets and
 /// the report.

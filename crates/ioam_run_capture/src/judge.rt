@@ -5,10 +5,10 @@ ghost use Rattle.ioam_ip.specs.Packet.{IsPacket};
 ghost use Rattle.ioam_run_capture.specs.Verdict.{Verdict, HasVerdict, PacketVerdict};
 ghost use Rattle.ioam_run_capture.specs.Judgement.{verdict_of, IsWithin};
 
-use crate::frame::framed;
 use ioam_ip::{Framed, Walk, walk};
 use ioam_node::Reason;
 use ioam_pcap::{Link, Packet};
+use ioam_run_stream::framed;
 
 /// A frame's packet that is kept, or the first reason why the frame is dropped.
 #[derive(Clone, Copy)]

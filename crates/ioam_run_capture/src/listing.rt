@@ -5,8 +5,6 @@ ghost use Rattle.ioam_ip.specs.Packet.{IsPacket};
 ghost use Rattle.ioam_run_capture.specs.Listing.{IsFresh};
 ghost use Rattle.ioam_run_capture.specs.ListText.{EntryLines, PacketLines, skip_line, packets_line};
 
-use crate::frame::framed;
-use crate::gather::Gather;
 use crate::packet_text::PacketText;
 use ioam_base::memory::NoMemory;
 use ioam_base::text::{append, append_decimal};
@@ -15,6 +13,7 @@ use ioam_ip::{Framed, Walk, walk};
 use ioam_node::Reason;
 use ioam_pcap::{Link, Packet};
 use ioam_report::reason_text;
+use ioam_run_stream::{Gather, framed};
 use std::marker::PhantomData;
 
 /// How many packets were listed so far. Its output is the report.

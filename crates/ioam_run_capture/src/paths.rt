@@ -1,14 +1,14 @@
 //! `paths IN REPORT`: lists the traces of each packet.
 ghost use Rattle.std.specs.Prelude.{◌≡◌, length};
 ghost use Rattle.ioam_run_capture.specs.PathsText.{PathsTexts};
-ghost use Rattle.ioam_run_capture.specs.Run.{Owes};
+ghost use Rattle.ioam_run_stream.specs.Run.{Owes};
 
 use crate::listing::{Listing, none_listed};
-use crate::over_capture::run_over_capture;
 use crate::packet_text::TraceList;
 use ioam_base::name::Name;
 use ioam_desk::Desk;
 use ioam_run_answer::Outcome;
+use ioam_run_stream::run_over_capture;
 use std::alloc::Global;
 
 /// Runs `paths IN REPORT`: REPORT lists, for each packet of IN whose header chain is whole, the

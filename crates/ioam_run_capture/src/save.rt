@@ -3,13 +3,13 @@ ghost use Rattle.std.specs.Prelude.{◌≡◌, IsTrue, length};
 ghost use Rattle.ioam_desk_outputs.specs.Names.{name_at};
 ghost use Rattle.ioam_run_capture.specs.SaveText.{SaveTexts, SavesAll};
 ghost use Rattle.ioam_run_answer.specs.Outcomes.{IsDone};
-ghost use Rattle.ioam_run_capture.specs.Run.{Owes, input_name};
+ghost use Rattle.ioam_run_stream.specs.Run.{Owes, input_name};
 
-use crate::over_capture::run_over_capture;
 use crate::saving::Saving;
 use ioam_base::name::Name;
 use ioam_desk::Desk;
 use ioam_run_answer::Outcome;
+use ioam_run_stream::run_over_capture;
 use std::alloc::Global;
 
 /// Runs `save IN OUT`: OUT becomes a capture of the form pcapng (a section and two interfaces, one of

@@ -1,9 +1,9 @@
 //! The capture that `save` writes, gathered record by record.
-use crate::gather::Gather;
 use ioam_base::memory::NoMemory;
 use ioam_desk_outputs::Output;
 use ioam_ng::{put_ng_head, put_ng_packet};
 use ioam_pcap::{Link, Packet};
+use ioam_run_stream::Gather;
 
 /// How many packets were saved so far. Its output is the capture.
 #[derive(Drop)]

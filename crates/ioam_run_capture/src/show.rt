@@ -1,14 +1,14 @@
 //! `show IN REPORT`: decodes every IOAM option of each packet.
 ghost use Rattle.std.specs.Prelude.{◌≡◌, length};
 ghost use Rattle.ioam_run_capture.specs.ShowText.{ShowTexts};
-ghost use Rattle.ioam_run_capture.specs.Run.{Owes};
+ghost use Rattle.ioam_run_stream.specs.Run.{Owes};
 
 use crate::listing::{Listing, none_listed};
-use crate::over_capture::run_over_capture;
 use crate::packet_text::OptionList;
 use ioam_base::name::Name;
 use ioam_desk::Desk;
 use ioam_run_answer::Outcome;
+use ioam_run_stream::run_over_capture;
 use std::alloc::Global;
 
 /// Runs `show IN REPORT`: REPORT decodes, for each packet of IN whose header chain is whole, every

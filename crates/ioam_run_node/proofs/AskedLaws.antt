@@ -9,8 +9,8 @@ use Rattle.ioam_desk_outputs.proofs.NamesLaws.{first_unique}
 use Rattle.ioam_desk_outputs.specs.Names.{AreApart, name_at}
 use Rattle.ioam_pcap.specs.Ending.{Ending, Faulty}
 use Rattle.ioam_pcap.specs.Ending.{Whole as Ended}
-use Rattle.ioam_run_capture.specs.Run.{IsInput, IsLong}
-use Rattle.ioam_run_capture.proofs.AskedLaws.{held_ending, too_long, whole_or_faulty, not_apart}
+use Rattle.ioam_run_stream.specs.Run.{IsInput, IsLong}
+use Rattle.ioam_run_stream.proofs.AskedLaws.{held_ending, too_long, whole_or_faulty, not_apart}
 use Rattle.ioam_run_files.specs.Setting.{HasDomain}
 use Rattle.ioam_run_files.proofs.OnlyLaws.{domains_agree, one_domain_fault, fault_or_domain, one_readings_fault, fault_or_setting}
 use Rattle.ioam_topo.specs.Domain.{node_of_name}

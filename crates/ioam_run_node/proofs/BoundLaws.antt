@@ -11,7 +11,7 @@ use Rattle.ioam_desk_outputs.specs.Names.{AreApart, name_at}
 use Rattle.ioam_pcap.specs.Ending.{Whole, Faulty}
 use Rattle.ioam_pcap.specs.Entries.{Taken}
 use Rattle.ioam_pcap.specs.Text.{IsSendable, capture_text}
-use Rattle.ioam_run_capture.specs.Run.{HoldsAll, EndsSo, ArePassed, AreWhole}
+use Rattle.ioam_run_stream.specs.Run.{HoldsAll, EndsSo, ArePassed, AreWhole}
 use Rattle.ioam_run_node.specs.NodeText.{NodeTexts, sent_of}
 use Rattle.ioam_run_node.specs.Passage.{Passage, LeavesClean}
 use Rattle.ioam_run_node.specs.Run.{Holds, IsBounded, Leaves, input_file, node_files, output_files}

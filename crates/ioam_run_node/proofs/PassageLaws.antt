@@ -3,7 +3,7 @@ use Rattle.std.proofs.Common.{◌≡◌, ◌↔◌, ℕ, ◌≤◌, Bool, true, 
 use Rattle.std.proofs.lemmas.Bool.{false≢true}
 use Rattle.ioam_ip.specs.Framing.{Framing, Holds, NoIpv6, CutShort, TooShort}
 use Rattle.ioam_pcap.specs.Entries.{Taken}
-use Rattle.ioam_run_capture.specs.Verdict.{taken_framing}
+use Rattle.ioam_run_stream.specs.Frame.{taken_framing}
 use Rattle.ioam_run_node.specs.Judged.{IsFit}
 use Rattle.ioam_run_node.specs.declared.judging.Judged.{Judged}
 use Rattle.ioam_run_node.specs.declared.judging.Judged.TheVariants as judged

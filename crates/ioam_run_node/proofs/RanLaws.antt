@@ -8,8 +8,8 @@ use Rattle.ioam_desk.specs.Asked.{AsksFront}
 use Rattle.ioam_desk.specs.Desk.{Side, Reading, Writing, holds, opened_each}
 use Rattle.ioam_desk.specs.Kept.{KeepsInputs}
 use Rattle.ioam_desk.proofs.KeptLaws.{KeepsInputs-then, KeepsOutputs-same}
-use Rattle.ioam_run_capture.specs.Run.{FileCause, HoldsAll, AreWhole}
-use Rattle.ioam_run_capture.specs.Run as capture
+use Rattle.ioam_run_stream.specs.Run.{FileCause, HoldsAll, AreWhole}
+use Rattle.ioam_run_stream.specs.Run as capture
 use Rattle.ioam_run_files.specs.Setting.{IsSetting}
 use Rattle.ioam_run_files.specs.declared.setting.Refusal.TheVariants as refusal
 use Rattle.ioam_topo.specs.declared.domain.Domain.{Domain}

@@ -8,8 +8,8 @@ use Rattle.ioam_desk.specs.Asked.{AsksFront}
 use Rattle.ioam_desk.specs.Desk.{Reading, Writing}
 use Rattle.ioam_desk.specs.Kept.{KeepsInputs, KeepsOutputs}
 use Rattle.ioam_desk_outputs.specs.Names.{name_at, AreApart, IsFirstRepeat}
-use Rattle.ioam_run_capture.specs.Run.{FileCause}
-use Rattle.ioam_run_capture.specs.Run as capture
+use Rattle.ioam_run_stream.specs.Run.{FileCause}
+use Rattle.ioam_run_stream.specs.Run as capture
 use Rattle.ioam_topo.specs.declared.domain.Domain.{Domain}
 use Rattle.ioam_run_node.specs.NodeText.{NodeTexts}
 use Rattle.ioam_run_node.specs.Run.{IsAt, IsUnfit, input_file, node_files, output_files}

@@ -14,7 +14,7 @@ use crate::post::Post;
 use ioam_ip::{Framed, Walk, header, walk};
 use ioam_node::{Reason, choose};
 use ioam_pcap::{Link, Packet};
-use ioam_run_capture::framed;
+use ioam_run_stream::framed;
 use ioam_topo::Way;
 
 /// A packet that goes on, or the first reason why it is dropped.

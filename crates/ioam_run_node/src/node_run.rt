@@ -21,8 +21,8 @@ use ioam_base::name::Name;
 use ioam_desk::Desk;
 use ioam_desk_outputs::first_repeat;
 use ioam_run_answer::{Outcome, names_outcome};
-use ioam_run_capture::run_capture;
 use ioam_run_files::{Refusal, Setting, read_setting, refused};
+use ioam_run_stream::run_capture;
 use ioam_topo::NodeId;
 use std::alloc::Global;
 

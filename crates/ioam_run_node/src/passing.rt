@@ -10,7 +10,7 @@ use ioam_desk_outputs::Output;
 use ioam_node::Reason;
 use ioam_pcap::{Link, Packet, put_head};
 use ioam_report::reason_text;
-use ioam_run_capture::Gather;
+use ioam_run_stream::Gather;
 use std::alloc::Global;
 
 /// How many packets a node has sent and dropped so far. The outputs are the capture of the packets that

@@ -4,7 +4,7 @@ ghost use Rattle.ioam_capture.specs.Reading.{HoldsFew, fed};
 use crate::shown::show;
 use crate::stream::captures::two;
 use ioam_capture::{Due, Reader};
-use ioam_capture_feed::{Feed, open_feed};
+use ioam_capture_merge::{Feed, open_feed};
 use ioam_desk::{Desk, DeskFault, MemoryDesk};
 use std::alloc::Global;
 use std::test::Fail;

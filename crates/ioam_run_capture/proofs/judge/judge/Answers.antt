@@ -4,12 +4,12 @@ use Rattle.ioam_ip.specs.Framing.{Holds, NoIpv6, CutShort, TooShort}
 use Rattle.ioam_node.specs.declared.reason.Reason.TheVariants as reason
 use Rattle.ioam_run_capture.specs.Judgement.{verdict_of}
 use Rattle.ioam_run_capture.specs.Verdict.{Drops}
-use Rattle.ioam_run_capture.proofs.FramingLaws.{held_within, IsWithin-le}
-use Rattle.ioam_run_capture.proofs.VerdictLaws.{only_verdict}
+use Rattle.ioam_ip.proofs.WithinLaws.{held-within}
+use Rattle.ioam_run_capture.proofs.VerdictLaws.{IsWithin-le, only_verdict}
 use Rattle.ioam_run_capture.proofs.judge.judge.Goals as goal
 
 pub returns-in-Packet-clause-within : goal.returns-in-Packet-clause-within
-returns-in-Packet-clause-within c = IsWithin-le _ _ _ (held_within _ _ _ _ c.in-Packet.ensures.framing) c.judge_packet.ensures.within
+returns-in-Packet-clause-within c = IsWithin-le _ _ _ (held-within _ _ _ _ c.in-Packet.ensures.framing) c.judge_packet.ensures.within
 
 pub returns-in-Packet-clause-only : goal.returns-in-Packet-clause-only
 returns-in-Packet-clause-only c = λ verdict has.

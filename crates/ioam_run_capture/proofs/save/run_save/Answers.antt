@@ -1,7 +1,7 @@
 use Rattle.std.proofs.Common.{ℕ, List, subst}
 use Rattle.ioam_desk_outputs.specs.Names.{name_at}
 use Rattle.ioam_run_capture.specs.SaveText.{SaveTexts}
-use Rattle.ioam_run_capture.specs.Run.{most_packets, Leaves, input_name}
+use Rattle.ioam_run_stream.specs.Run.{most_packets, Leaves, input_name}
 use Rattle.ioam_run_capture.proofs.SavingLaws.{Leaves-saved, one_output}
 use Rattle.ioam_run_capture.proofs.save.run_save.Goals as goal
 

@@ -1,7 +1,7 @@
 use Rattle.std.proofs.Common.{refl}
 use Rattle.ioam_desk_outputs.proofs.ToldLaws.{Adds-few}
 use Rattle.ioam_run_capture.specs.Filtering.{heads}
-use Rattle.ioam_run_capture.proofs.AddsLaws.{Adds-first}
+use Rattle.ioam_run_stream.proofs.AddsLaws.{Adds-first}
 use Rattle.ioam_run_capture.proofs.FilteringLaws.{heads-few}
 use Rattle.ioam_run_capture.proofs.filtering.FilteringGather.begin.Goals as goal
 

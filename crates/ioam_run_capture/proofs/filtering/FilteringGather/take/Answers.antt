@@ -2,7 +2,7 @@ use Rattle.std.proofs.Common.{refl, [], ◌∷◌, ◌+◌}
 use Rattle.ioam_pcap.specs.Text.{record_octets}
 use Rattle.ioam_run_capture.specs.FilterText.{verdict_line}
 use Rattle.ioam_run_capture.specs.Verdict.{Keeps, Drops}
-use Rattle.ioam_run_capture.proofs.AddsLaws.{Adds-both, Adds-second}
+use Rattle.ioam_run_stream.proofs.AddsLaws.{Adds-both, Adds-second}
 use Rattle.ioam_run_capture.proofs.FilteringLaws.{Gathers-keep, Gathers-drop}
 use Rattle.ioam_run_capture.proofs.filtering.FilteringGather.take.Goals as goal
 

@@ -1,5 +1,5 @@
 use Rattle.ioam_desk_outputs.proofs.ToldLaws.{Nothing-few}
-use Rattle.ioam_run_capture.proofs.AddsLaws.{Adds-none}
+use Rattle.ioam_run_stream.proofs.AddsLaws.{Adds-none}
 use Rattle.ioam_run_capture.proofs.listing.ListingGather.begin.Goals as goal
 
 pub returns-clause-adds : goal.returns-clause-adds

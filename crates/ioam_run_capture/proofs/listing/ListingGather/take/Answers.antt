@@ -1,5 +1,5 @@
 use Rattle.std.proofs.Common.{refl, [], ◌∷◌}
-use Rattle.ioam_run_capture.proofs.AddsLaws.{Adds-one}
+use Rattle.ioam_run_stream.proofs.AddsLaws.{Adds-one}
 use Rattle.ioam_run_capture.proofs.ListingLaws.{Lists-push}
 use Rattle.ioam_run_capture.proofs.listing.ListingGather.take.Goals as goal
 

@@ -1,7 +1,7 @@
 use Rattle.std.proofs.Common.{refl}
 use Rattle.ioam_desk_outputs.proofs.ToldLaws.{Adds-few}
 use Rattle.ioam_run_capture.specs.Saving.{heads}
-use Rattle.ioam_run_capture.proofs.AddsLaws.{Adds-one}
+use Rattle.ioam_run_stream.proofs.AddsLaws.{Adds-one}
 use Rattle.ioam_run_capture.proofs.SavingLaws.{heads-few}
 use Rattle.ioam_run_capture.proofs.saving.SavingGather.begin.Goals as goal
 

@@ -1,4 +1,4 @@
-use Rattle.ioam_run_capture.proofs.AddsLaws.{Adds-none}
+use Rattle.ioam_run_stream.proofs.AddsLaws.{Adds-none}
 use Rattle.ioam_run_capture.proofs.saving.SavingGather.put_sums.Goals as goal
 
 pub returns : goal.returns

@@ -1,7 +1,7 @@
 use Rattle.std.proofs.Common.{refl, [], ◌∷◌, arith}
 use Rattle.ioam_capture.specs.Reader.{taken_of}
 use Rattle.ioam_ng.specs.Text.{packet_octets}
-use Rattle.ioam_run_capture.proofs.AddsLaws.{Adds-one}
+use Rattle.ioam_run_stream.proofs.AddsLaws.{Adds-one}
 use Rattle.ioam_run_capture.proofs.SavingLaws.{Saves-push}
 use Rattle.ioam_run_capture.proofs.saving.SavingGather.take.Goals as goal
 
