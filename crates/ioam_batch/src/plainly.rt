@@ -4,6 +4,7 @@ ghost use Rattle.ioam_batch.specs.Ran.{lowered_from};
 ghost use Rattle.ioam_ip.specs.Lowered.{lowered};
 
 use crate::crossings::Crossings;
+use ioam_ip::HOP_LIMIT;
 
 /// So many visits, each of which lowers the packet's hop limit by one.
 pub(crate) fn lower(count: usize, packet: &mut [u8], crossings: &mut Crossings)
@@ -16,7 +17,7 @@ pub(crate) fn lower(count: usize, packet: &mut [u8], crossings: &mut Crossings)
     ensures kept { crossings.new.kept ≡ crossings.old.kept }
 {
     for i in 0..count {
-        packet[7] -= 1;
+        packet[HOP_LIMIT] -= 1;
         crossings.cross(packet);
     }
 }

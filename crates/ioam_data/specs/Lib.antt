@@ -2,6 +2,7 @@ pub mod Cursor
 pub mod Elements
 pub mod Fields
 pub mod Kind
+pub mod OptionType
 pub mod Shown
 pub mod Snapshot
 pub mod View

@@ -2,7 +2,8 @@
 ghost use Rattle.std.specs.Prelude.{◌≡◌, ◌≤◌, length};
 ghost use Rattle.ioam_ip.specs.Chain.{kind_of, start};
 
-use crate::packet::HEADER_OCTETS;
+use crate::next_header::{DESTINATION, FRAGMENT, HOP_BY_HOP, IPV6, ROUTING};
+use crate::packet::{HEADER_OCTETS, NEXT_HEADER};
 use std::ops::Range;
 
 /// The kinds of header that a next header value names (RFC 8200 section 4).
@@ -36,12 +37,17 @@ pub(crate) struct Spot {
     pub(crate) behind_ip: bool,
 }
 
-/// The values of headers that more than [`kind_of`] asks for.
-pub(crate) const HOP_BY_HOP: u8 = 0;
+impl Head {
+    ghost use Rattle.std.specs.Prelude.{◌≡◌};
+    ghost use Rattle.ioam_ip.specs.ChainOptions.{is_options_head};
 
-pub(crate) const NESTED: u8 = 41;
-
-pub(crate) const DESTINATION: u8 = 60;
+    /// Whether it holds options: Hop-by-Hop or Destination Options.
+    pub fn is_options(&self) -> bool
+        ensures { result ≡ is_options_head self.now }
+    {
+        self.value == HOP_BY_HOP || self.value == DESTINATION
+    }
+}
 
 /// The spot behind the first IPv6 header of a packet.
 pub(crate) fn start(packet: &[u8]) -> Spot
@@ -49,7 +55,7 @@ pub(crate) fn start(packet: &[u8]) -> Spot
     ensures { result ≡ start packet.now }
 {
     Spot {
-        value: packet[6],
+        value: packet[NEXT_HEADER],
         at: HEADER_OCTETS,
         behind_ip: true,
     }
@@ -62,9 +68,9 @@ pub(crate) fn kind_of(value: u8) -> Kind
     match value {
         HOP_BY_HOP => Kind::HopByHop,
         DESTINATION => Kind::Destination,
-        43 => Kind::Routing,
-        44 => Kind::Fragment,
-        NESTED => Kind::Nested,
+        ROUTING => Kind::Routing,
+        FRAGMENT => Kind::Fragment,
+        IPV6 => Kind::Nested,
         _ => Kind::Upper,
     }
 }

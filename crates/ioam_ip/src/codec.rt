@@ -5,7 +5,7 @@ ghost use Rattle.ioam_base.specs.Octets.{written};
 ghost use Rattle.ioam_ip.specs.Packet.{IsPacket};
 ghost use Rattle.ioam_ip.specs.Header.{HasFields, FieldsFit, header_octets};
 
-use crate::packet::{HEADER_OCTETS, Header};
+use crate::packet::{HEADER_OCTETS, HOP_LIMIT, Header};
 use byteorder::{BigEndian, ByteOrder};
 use ioam_base::octets::{put_at, put_u16_at, put_u32_at, u16_at, u32_at};
 
@@ -33,7 +33,7 @@ fn read_fields(octets: &[u8]) -> Header
         label: word % 0x10_0000,
         payload: u16_at(octets, 4),
         next: octets[6],
-        hops: octets[7],
+        hops: octets[HOP_LIMIT],
         source: u128_at(octets, 8),
         target: u128_at(octets, 24),
     }

@@ -5,8 +5,9 @@ ghost use Rattle.ioam_ip.specs.Chain.{IsSound};
 ghost use Rattle.ioam_ip.specs.ChainOptions.{HeadFits, IsFilledRange};
 ghost use Rattle.ioam_ip.specs.HeadsLeft.{AreHeads, OnlyHeads, heads_left, HopHeaderOf, TargetHeaderOf};
 
-use crate::chain::{DESTINATION, HOP_BY_HOP, NESTED, start};
+use crate::chain::start;
 use crate::headers::Heads;
+use crate::next_header::{DESTINATION, HOP_BY_HOP, IPV6};
 use std::ops::Range;
 
 /// The headers on the chain of a packet whose walk is whole, in order, nested ones included,
@@ -52,7 +53,7 @@ pub fn target_header(packet: &[u8]) -> Option<Range<usize>>
     ensures filled { IfSome result (IsFilledRange packet.now) }
 {
     for head in heads(packet) {
-        if head.value == NESTED {
+        if head.value == IPV6 {
             return None;
         }
         if head.value == DESTINATION {

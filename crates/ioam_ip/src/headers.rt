@@ -3,8 +3,9 @@ ghost use Rattle.std.specs.Prelude.{◌≡◌, MatchOption, IsTrue, false};
 ghost use Rattle.ioam_ip.specs.Chain.{behind};
 ghost use Rattle.ioam_ip.specs.HeadsLeft.{goes_on};
 
-use crate::chain::{Head, NESTED, Spot, kind_of};
+use crate::chain::{Head, Spot, kind_of};
 use crate::extents::{goes_on, next_value, whole_end};
+use crate::next_header::IPV6;
 
 /// The headers on the chain of a sound packet, in order, nested ones included, without the one
 /// with which the chain ends. Made by [`crate::heads`].
@@ -55,6 +56,6 @@ fn spot_behind(packet: &[u8], spot: Spot) -> Option<Spot>
     Some(Spot {
         value: next_value(packet, spot.at, kind),
         at: end,
-        behind_ip: spot.value == NESTED,
+        behind_ip: spot.value == IPV6,
     })
 }

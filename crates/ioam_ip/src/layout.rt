@@ -5,7 +5,7 @@ ghost use Rattle.ioam_ip.specs.Layout.{padding, gap_before, with_option, padded,
 ghost use Rattle.ioam_ip.specs.Options.{AreOptions};
 ghost use Rattle.ioam_ip.specs.Sizes.{size_with};
 
-use crate::scan::is_ioam_type;
+use crate::option_type::is_ioam_type;
 use ioam_base::memory::NoMemory;
 use ioam_base::text::append;
 use std::alloc::Global;

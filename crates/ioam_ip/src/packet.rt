@@ -4,6 +4,12 @@ ghost use Rattle.std.specs.Prelude.{◌<◌, ◌^◌};
 /// The octets of an IPv6 header.
 pub const HEADER_OCTETS: usize = 40;
 
+/// The place of Next Header in an IPv6 header.
+pub const NEXT_HEADER: usize = 6;
+
+/// The place of Hop Limit in an IPv6 header.
+pub const HOP_LIMIT: usize = 7;
+
 /// What an IPv6 header says besides its version, which is 6.
 #[derive(Clone, Copy, Debug, PartialEq, Eq)]
 pub struct Header {

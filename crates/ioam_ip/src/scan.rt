@@ -1,17 +1,11 @@
 //! One look through an options header: do its options fill it, and what stands in it.
 ghost use Rattle.std.specs.Prelude.{◌≡◌, ◌+◌, ◌<◌, ◌≤◌, ◌∷◌, [], ◌||◌, length, MatchOption};
 ghost use Rattle.ioam_ip.specs.Options.{OptionFits, option_end, item_at};
-ghost use Rattle.ioam_ip.specs.Findings.{is_ioam, is_ioam_type, first_limit};
+ghost use Rattle.ioam_ip.specs.Findings.{is_ioam, first_limit};
 ghost use Rattle.std.specs.Option.{option_or};
 ghost use Rattle.ioam_ip.specs.Scan.{Scans};
 
-/// The types of IOAM options; the second may change on the way (RFC 9486 section 3).
-const IOAM: u8 = 0x11;
-
-const IOAM_CHANGING: u8 = 0x31;
-
-/// The type of the Tunnel Encapsulation Limit (RFC 2473 section 4.1.1).
-const LIMIT: u8 = 4;
+use crate::option_type::{ENCAPSULATION_LIMIT, is_ioam_type};
 
 /// What was found among options: whether one is an IOAM option, and the first encapsulation limit.
 #[derive(Clone, Copy)]
@@ -82,19 +76,12 @@ impl Found {
     }
 }
 
-// Whether options of this type are IOAM options.
-pub(crate) fn is_ioam_type(kind: u8) -> bool
-    ensures { result ≡ is_ioam_type kind }
-{
-    kind == IOAM || kind == IOAM_CHANGING
-}
-
 // The encapsulation limit that the option at a place is, if it is one.
 fn limit_at(head: &[u8], at: usize) -> Option<u8>
     requires { OptionFits head.now at }
     ensures { result ≡ first_limit (item_at head.now at ∷ []) }
 {
-    if head[at] == LIMIT && head[at + 1] == 1 {
+    if head[at] == ENCAPSULATION_LIMIT && head[at + 1] == 1 {
         Some(head[at + 2])
     } else {
         None

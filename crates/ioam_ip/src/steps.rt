@@ -5,6 +5,7 @@ ghost use Rattle.ioam_ip.specs.Steps.{Steps, OptionsAt};
 
 use crate::chain::{Kind, Spot, kind_of};
 use crate::extents::{fragment_offset, said_end};
+use crate::packet::{HEADER_OCTETS, NEXT_HEADER};
 use crate::scan::{Found, Scan, look_through};
 
 /// What stands at a spot.
@@ -116,12 +117,12 @@ fn at_nested(packet: &[u8], spot: Spot) -> Step
     requires within { spot.at ≤ length packet.now }
     ensures { Steps packet.now spot result }
 {
-    if packet.len() - spot.at < 40 || packet[spot.at] / 16 != 6 {
+    if packet.len() - spot.at < HEADER_OCTETS || packet[spot.at] / 16 != 6 {
         return Step::Breaks;
     }
     let next = Spot {
-        value: packet[spot.at + 6],
-        at: spot.at + 40,
+        value: packet[spot.at + NEXT_HEADER],
+        at: spot.at + HEADER_OCTETS,
         behind_ip: true,
     };
     Step::On {

@@ -5,7 +5,8 @@ ghost use Rattle.ioam_ip.specs.Packet.{IsPacket};
 ghost use Rattle.ioam_ip.specs.Chain.{IsSound};
 ghost use Rattle.ioam_ip.specs.Walks.{Tells, is_whole};
 
-use crate::chain::{DESTINATION, NESTED, start};
+use crate::chain::start;
+use crate::next_header::{DESTINATION, IPV6};
 use crate::scan::Found;
 use crate::steps::{Step, step_at};
 use crate::walked::Walk;
@@ -28,7 +29,7 @@ impl Passed {
             (if (value == 60) && not self.inside then option_or self.limit found.limit else self.limit) }
     {
         Passed {
-            inside: self.inside || value == NESTED,
+            inside: self.inside || value == IPV6,
             ioam: self.ioam || found.ioam,
             limit: if value == DESTINATION && !self.inside {
                 self.limit.or(found.limit)

@@ -5,8 +5,8 @@ ghost use Rattle.ioam_ip.specs.Hop.{HopFits, ioam_count, option_count};
 ghost use Rattle.ioam_ip.specs.Packet.{IsPacket};
 ghost use Rattle.ioam_ip.specs.Rewriting.{options_in};
 
-use crate::met::is_ioam_type;
 use ioam_ip::next_option;
+use ioam_ip::option_type::is_ioam_type;
 
 // 1 for an IOAM option, 0 for another.
 fn counted(kind: u8) -> u32

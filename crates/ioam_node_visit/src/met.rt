@@ -1,19 +1,9 @@
 ghost use Rattle.std.specs.Prelude.{◌≡◌, ◌≤◌, length};
-ghost use Rattle.ioam_ip.specs.Findings.{is_ioam_type};
 ghost use Rattle.ioam_node_visit.specs.Met.{met_by, met_of};
 ghost use Rattle.ioam_node_visit.specs.declared.met.Met.TheVariants as met;
 
-/// The type of IOAM options that stay as they are (RFC 9486 section 3).
-const CONSTANT: u8 = 0x11;
-
-/// The type of IOAM options that may change on the way (RFC 9486 section 3).
-const CHANGING: u8 = 0x31;
-
-/// The IOAM-Option-Type of pre-allocated traces (RFC 9197 section 4.3).
-const TRACE: u8 = 0;
-
-/// The IOAM-Option-Type of direct export (RFC 9326 section 3.1).
-const DIRECT: u8 = 4;
+use ioam_data::option_type::{DIRECT_EXPORT, PREALLOCATED_TRACE};
+use ioam_ip::option_type::{IOAM_CHANGING, is_ioam_type};
 
 /// What an option is to a node that visits the packet.
 #[derive(Clone, Copy)]
@@ -28,20 +18,13 @@ pub(crate) enum Met {
     Other,
 }
 
-/// Whether options of a type are IOAM options.
-pub(crate) fn is_ioam_type(kind: u8) -> bool
-    ensures { result ≡ is_ioam_type kind }
-{
-    kind == CONSTANT || kind == CHANGING
-}
-
 // What an IOAM option is, by its type and its IOAM-Option-Type.
 fn met_by(kind: u8, option_type: u8) -> Met
     ensures { result ≡ met_by kind option_type }
 {
     match option_type {
-        TRACE if kind == CHANGING => Met::Trace,
-        DIRECT => Met::Direct,
+        PREALLOCATED_TRACE if kind == IOAM_CHANGING => Met::Trace,
+        DIRECT_EXPORT => Met::Direct,
         _ => Met::Other,
     }
 }

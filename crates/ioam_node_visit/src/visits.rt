@@ -16,6 +16,7 @@ ghost use Rattle.ioam_node_visit.specs.Visits.{Visited, closed_after, tunnel_rec
 use crate::room::NodeRoom;
 use crate::visit::Visit;
 use ioam_clock::Readings;
+use ioam_ip::HOP_LIMIT;
 use ioam_node::Place;
 use ioam_topo::Domain;
 
@@ -57,7 +58,7 @@ pub fn begin(
         → room.new.exports ≡ room.old.exports
         ++ records_octets (tunnel_records domain.now readings.now tunnel 0 (record { place = place; time = time })) }
 {
-    let hops = packet[7];
+    let hops = packet[HOP_LIMIT];
     let visit = Visit {
         domain,
         readings,
@@ -108,8 +109,8 @@ pub fn transit(
         → room.new.exports ≡ room.old.exports
         ++ records_octets (tunnel_records domain.now readings.now tunnel (length visits) (record { place = place; time = time })) }
 {
-    let hops = packet[7] - 1;
-    packet[7] = hops;
+    let hops = packet[HOP_LIMIT] - 1;
+    packet[HOP_LIMIT] = hops;
     let visit = Visit {
         domain,
         readings,
@@ -161,7 +162,7 @@ pub fn exit(
         → room.new.exports ≡ room.old.exports
         ++ records_octets (tunnel_records domain.now readings.now tunnel (length visits) (record { place = place; time = time })) }
 {
-    let hops = packet[7] - 1;
+    let hops = packet[HOP_LIMIT] - 1;
     let visit = Visit {
         domain,
         readings,

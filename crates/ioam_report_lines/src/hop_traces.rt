@@ -10,6 +10,8 @@ ghost use Rattle.ioam_report_lines.specs.HopText.{is_changing_trace, changing_li
 use crate::lines::put_trace_lines;
 use crate::settling::settle;
 use ioam_base::memory::NoMemory;
+use ioam_data::option_type::PREALLOCATED_TRACE;
+use ioam_ip::option_type::IOAM_CHANGING;
 use ioam_ip::{OptionSpot, next_option};
 
 // Whether an option is a trace that nodes on the way fill.
@@ -17,7 +19,7 @@ fn is_changing_trace(kind: u8, body: &[u8]) -> bool
     ensures value { (at : ℕ) → result ≡ is_changing_trace (record { kind = kind; at = at; body = body.now }) }
     ensures long { IsTrue result → 2 ≤ length body.now }
 {
-    kind == 0x31 && body.len() >= 2 && body[1] == 0
+    kind == IOAM_CHANGING && body.len() >= 2 && body[1] == PREALLOCATED_TRACE
 }
 
 // Appends the lines of an option, where it is such a trace.

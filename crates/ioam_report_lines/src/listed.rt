@@ -9,13 +9,15 @@ ghost use Rattle.ioam_report_lines.specs.TracesText.{is_trace, option_lines, tra
 use crate::lines::put_trace_lines;
 use crate::settling::settle;
 use ioam_base::memory::NoMemory;
+use ioam_data::option_type::PREALLOCATED_TRACE;
+use ioam_ip::option_type::is_ioam_type;
 use ioam_ip::{Head, Opt, options};
 
 // Whether an option is a pre-allocated trace.
 fn is_trace(option: &Opt<'_>) -> bool
     ensures { result ≡ is_trace (item_of option.now) }
 {
-    (option.kind == 0x11 || option.kind == 0x31) && option.body.len() >= 2 && option.body[1] == 0
+    is_ioam_type(option.kind) && option.body.len() >= 2 && option.body[1] == PREALLOCATED_TRACE
 }
 
 // How many traces an options header has.
@@ -56,7 +58,7 @@ pub(crate) fn count_in(packet: &[u8], head: &Head) -> usize
     requires { HeadFits packet.now head.now }
     ensures { result ≡ length (traces_in packet.now head.now) }
 {
-    if head.value == 0 || head.value == 60 {
+    if head.is_options() {
         count_options(&packet[head.range.start..head.range.end])
     } else {
         0
@@ -70,7 +72,7 @@ pub(crate) fn put_in(packet: &[u8], head: &Head, out: &mut Vec<u8>) -> Result<()
         then out.old.items ++ flat_map option_lines (traces_in packet.now head.now)
         else out.old.items) }
 {
-    if head.value == 0 || head.value == 60 {
+    if head.is_options() {
         put_options(&packet[head.range.start..head.range.end], out)
     } else {
         Ok(())

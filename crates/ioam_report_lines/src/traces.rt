@@ -11,6 +11,7 @@ use crate::put::put_pieces;
 use crate::settling::settle;
 use ioam_base::memory::NoMemory;
 use ioam_ip::heads;
+use ioam_ip::next_header::IPV6;
 
 // How many traces of a packet are listed.
 fn count_traces(packet: &[u8]) -> usize
@@ -20,7 +21,7 @@ fn count_traces(packet: &[u8]) -> usize
 {
     let mut count = 0;
     for head in heads(packet) {
-        if head.value == 41 {
+        if head.value == IPV6 {
             return count;
         }
         count += count_in(packet, &head);
@@ -36,7 +37,7 @@ fn put_listed(packet: &[u8], out: &mut Vec<u8>) -> Result<(), NoMemory>
 {
     let before = out.len();
     for head in heads(packet) {
-        if head.value == 41 {
+        if head.value == IPV6 {
             return Ok(());
         }
         let answer = put_in(packet, &head, out);

@@ -24,8 +24,8 @@ use Rattle.ioam_trace.proofs.ReadLaws.{fault_of-Carries, elements_behind-Carries
 use Rattle.ioam_report_lines.specs.Digits.{digits_of}
 use Rattle.ioam_report_lines.specs.TraceText.{line_feed, element_line}
 use Rattle.ioam_report_options.specs.OptionText.{trace_text, edge_text, direct_text, TraceSays, IncrementalSays, EdgeSays, DirectSays, SaysBy, Says, IsOptionLine, front_text}
-use Rattle.ioam_report_options.specs.declared.types.OptionType.{OptionType}
-use Rattle.ioam_report_options.specs.declared.types.OptionType.TheVariants.{PreallocatedTrace, IncrementalTrace, ProofOfTransit, EdgeToEdge, DirectExport, Other}
+use Rattle.ioam_data.specs.declared.option_type.OptionType.{OptionType}
+use Rattle.ioam_data.specs.declared.option_type.OptionType.TheVariants.{PreallocatedTrace, IncrementalTrace, ProofOfTransit, EdgeToEdge, DirectExport, Unassigned}
 
 -- ---- what was read
 
@@ -132,7 +132,7 @@ SaysBy-unique IncrementalTrace value octets a b x y = IncrementalSays-unique oct
 SaysBy-unique ProofOfTransit value octets a b x y = x ∙ sym y
 SaysBy-unique EdgeToEdge value octets a b x y = EdgeSays-unique octets a b x y
 SaysBy-unique DirectExport value octets a b x y = DirectSays-unique octets a b x y
-SaysBy-unique Other value octets a b x y = x ∙ sym y
+SaysBy-unique Unassigned value octets a b x y = x ∙ sym y
 
 either_unique : (short : Bool) (kind : OptionType) (value : ℕ) (octets a b : List ℕ) → MatchBool short (a ≡ codes "short\n") (SaysBy kind value octets a)
     → MatchBool short (b ≡ codes "short\n") (SaysBy kind value octets b) → a ≡ b

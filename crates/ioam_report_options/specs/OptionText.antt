@@ -21,18 +21,9 @@ use Rattle.ioam_report_lines.specs.Digits.{pair_of, digits_of}
 use Rattle.ioam_report_lines.specs.FieldsText.{known, opaque_digits}
 use Rattle.ioam_report_lines.specs.Spaced.{when_there}
 use Rattle.ioam_report_lines.specs.TraceText.{line_feed, element_line}
-use Rattle.ioam_report_options.specs.declared.types.OptionType.{OptionType}
-use Rattle.ioam_report_options.specs.declared.types.OptionType.TheVariants.{PreallocatedTrace, IncrementalTrace, ProofOfTransit, EdgeToEdge, DirectExport, Other}
-
--- what an IOAM-Option-Type names (RFC 9197 section 7.1, RFC 9326 section 3)
-abbrev pub type_of : ℕ → OptionType
-type_of value =
-    if value == 0 then PreallocatedTrace
-    else (if value == 1 then IncrementalTrace
-    else (if value == 2 then ProofOfTransit
-    else (if value == 3 then EdgeToEdge
-    else (if value == 4 then DirectExport
-    else Other))))
+use Rattle.ioam_data.specs.OptionType.{option_type}
+use Rattle.ioam_data.specs.declared.option_type.OptionType.{OptionType}
+use Rattle.ioam_data.specs.declared.option_type.OptionType.TheVariants.{PreallocatedTrace, IncrementalTrace, ProofOfTransit, EdgeToEdge, DirectExport, Unassigned}
 
 -- ---- texts
 
@@ -104,13 +95,13 @@ SaysBy IncrementalTrace value octets said = IncrementalSays octets said
 SaysBy ProofOfTransit value octets said = said ≡ proof_text octets
 SaysBy EdgeToEdge value octets said = EdgeSays octets said
 SaysBy DirectExport value octets said = DirectSays octets said
-SaysBy Other value octets said = said ≡ other_text value octets
+SaysBy Unassigned value octets said = said ≡ other_text value octets
 
 -- What the data of an option says: a reserved octet, the Option-Type and what stands behind it. Fewer than
 -- two octets are too short for these.
 abbrev pub Says : List ℕ → List ℕ → Type 0
 Says body said = MatchBool (nat_lt (length body) 2) (said ≡ codes "short\n")
-    (SaysBy (type_of (slice_index body 1)) (slice_index body 1) (drop 2 body) said)
+    (SaysBy (option_type (slice_index body 1)) (slice_index body 1) (drop 2 body) said)
 
 -- ---- the lines of an option
 

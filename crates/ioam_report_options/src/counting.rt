@@ -8,7 +8,7 @@ ghost use Rattle.ioam_ip.specs.OptionsLeft.{options_from};
 ghost use Rattle.ioam_ip.specs.Packet.{IsPacket};
 ghost use Rattle.ioam_report_options.specs.OptionsText.{ioam_in, ioam_of, AreIoam};
 
-use crate::types::is_ioam_type;
+use ioam_ip::option_type::is_ioam_type;
 use ioam_ip::{Head, heads, options};
 
 // How many IOAM options an options header has.
@@ -32,7 +32,7 @@ fn count_in(packet: &[u8], head: &Head) -> usize
     requires { HeadFits packet.now head.now }
     ensures { result ≡ length (ioam_in packet.now head.now) }
 {
-    if head.value == 0 || head.value == 60 {
+    if head.is_options() {
         count_among(&packet[head.range.start..head.range.end])
     } else {
         0

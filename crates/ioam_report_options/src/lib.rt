@@ -9,7 +9,6 @@ mod fields;
 mod line;
 mod listing;
 mod traces;
-mod types;
 
 pub use counting::count_options;
 pub use listing::{put_counted_options, put_options};

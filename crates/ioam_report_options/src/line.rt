@@ -1,17 +1,18 @@
 //! The lines of one IOAM option.
 ghost use Rattle.std.specs.Prelude.{◌≡◌, ◌++◌, ◌+◌, ◌<◌, ◌^◌, is_ok, if◌then◌else◌};
+ghost use Rattle.ioam_data.specs.OptionType.{option_type};
 ghost use Rattle.ioam_ip.specs.OptionsLeft.{item_of};
 ghost use Rattle.ioam_report_options.specs.Appends.{Appends};
-ghost use Rattle.ioam_report_options.specs.OptionText.{type_of, front_text, proof_text, other_text, SaysBy, Says, IsOptionLine};
+ghost use Rattle.ioam_report_options.specs.OptionText.{front_text, proof_text, other_text, SaysBy, Says, IsOptionLine};
 ghost use Rattle.ioam_report_options.specs.OptionsText.{placed};
 
 use crate::directs::put_direct;
 use crate::edges::put_edge;
 use crate::fields::digits_or_dash;
 use crate::traces::{put_incremental, put_trace};
-use crate::types::{OptionType, type_of};
 use ioam_base::memory::NoMemory;
 use ioam_base::text::append;
+use ioam_data::OptionType;
 use ioam_ip::Opt;
 use ioam_report_lines::{Piece, put_pieces, settle};
 
@@ -45,15 +46,15 @@ fn put_other(value: u8, octets: &[u8], out: &mut Vec<u8>) -> Result<(), NoMemory
 
 // What the octets behind the Option-Type say.
 fn put_typed(value: u8, octets: &[u8], out: &mut Vec<u8>) -> Result<(), NoMemory>
-    ensures { Appends result (SaysBy (type_of value) value octets.now) out.old.items out.new.items }
+    ensures { Appends result (SaysBy (option_type value) value octets.now) out.old.items out.new.items }
 {
-    match type_of(value) {
+    match OptionType::of(value) {
         OptionType::PreallocatedTrace => put_trace(octets, out),
         OptionType::IncrementalTrace => put_incremental(octets, out),
         OptionType::ProofOfTransit => put_proof(octets, out),
         OptionType::EdgeToEdge => put_edge(octets, out),
         OptionType::DirectExport => put_direct(octets, out),
-        OptionType::Other => put_other(value, octets, out),
+        OptionType::Unassigned => put_other(value, octets, out),
     }
 }
 

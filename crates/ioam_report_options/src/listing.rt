@@ -10,8 +10,8 @@ ghost use Rattle.ioam_report_options.specs.OptionsText.{ioam_among, ioam_in, ioa
 
 use crate::counting::count_options;
 use crate::line::put_line;
-use crate::types::is_ioam_type;
 use ioam_base::memory::NoMemory;
+use ioam_ip::option_type::is_ioam_type;
 use ioam_ip::{Head, Opt, heads, options};
 use ioam_report_lines::{Piece, put_pieces, settle};
 
@@ -49,7 +49,7 @@ fn put_in(packet: &[u8], head: &Head, out: &mut Vec<u8>) -> Result<(), NoMemory>
 {
     // A header ends within the packet, whose length is a number of 64 bits.
     let _most = packet.len();
-    if head.value == 0 || head.value == 60 {
+    if head.is_options() {
         put_among(
             head.range.start,
             &packet[head.range.start..head.range.end],

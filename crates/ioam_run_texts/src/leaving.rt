@@ -13,16 +13,11 @@ ghost use Rattle.ioam_run_texts.specs.Told.{AreLeaving, AreSent, GivesInside};
 use ioam_base::memory::NoMemory;
 use ioam_batch::Job;
 use ioam_desk_outputs::Output;
+use ioam_ip::{HEADER_OCTETS, HOP_LIMIT};
 use ioam_node_visit::carried;
 use ioam_pcap::put_record;
 use ioam_plan::{End, Visit};
 use ioam_topo::Domain;
-
-// The place of the hop limit in a packet (RFC 8200 section 3).
-const HOP_LIMIT: usize = 7;
-
-// The octets of an IPv6 header.
-const HEADER: usize = 40;
 
 // When the last visit was, in nanoseconds.
 fn last_time(visits: &[Visit]) -> u64
@@ -56,7 +51,7 @@ fn rest(packet: &[u8], start: usize) -> Option<&[u8]>
         return None;
     }
     let rest = &packet[start..];
-    if rest.len() < HEADER {
+    if rest.len() < HEADER_OCTETS {
         return None;
     }
     Some(rest)

@@ -10,23 +10,6 @@ use ioam_dex::Direct;
 use ioam_edge::{Edge, asks};
 use ioam_topo::Flow;
 
-/// The type of IOAM options that stay as they are.
-pub(crate) const IOAM: u8 = 0x11;
-
-/// The type of IOAM options that may change on the way.
-pub(crate) const IOAM_CHANGING: u8 = 0x31;
-
-/// The type of the Tunnel Encapsulation Limit (RFC 2473 section 4.1.1).
-pub(crate) const LIMIT: u8 = 4;
-
-/// The IOAM-Option-Types of a pre-allocated trace and of edge-to-edge data (RFC 9197 section 4.1),
-/// and that of direct export (RFC 9326 section 3.2).
-pub(crate) const TRACE: u8 = 0;
-
-pub(crate) const EDGE: u8 = 3;
-
-pub(crate) const DIRECT: u8 = 4;
-
 /// The extension flags of direct export data that have a Flow ID and a Sequence Number.
 const FLOW_AND_SEQUENCE: u8 = 0xC0;
 

@@ -15,16 +15,10 @@ use crate::outer::Outer;
 use crate::sizes::{hop_size, target_size};
 use ioam_base::memory::NoMemory;
 use ioam_base::octets::u32_at;
+use ioam_ip::next_header::{DESTINATION, HOP_BY_HOP, IPV6};
 use ioam_ip::{HEADER_OCTETS, Header, put_header};
 use ioam_topo::{Domain, Flow, FlowId};
 use std::alloc::Global;
-
-/// The values that name Hop-by-Hop Options, a nested IPv6 header and Destination Options.
-const HOP_BY_HOP: u8 = 0;
-
-const NESTED: u8 = 41;
-
-const DESTINATION: u8 = 60;
 
 // The value in front of a header of a size, which is absent where that is 0.
 fn value_in_front(value: u8, size: usize, next: u8) -> u8
@@ -58,12 +52,12 @@ struct Fields {
 }
 
 // The outer header.
-fn head_of(flow: &Flow, ends: Ends, fields: Fields) -> [u8; 40]
+fn head_of(flow: &Flow, ends: Ends, fields: Fields) -> [u8; HEADER_OCTETS]
     requires { IsFlow flow.now }
     ensures octets { result ≡ outer_start fields.class flow.now.label fields.payload fields.next fields.hops ++ addresses ends.source ends.target }
     ensures hops { fields.hops < 256 }
 {
-    let mut head = [0; 40];
+    let mut head = [0; HEADER_OCTETS];
     let header = Header {
         class: fields.class,
         label: flow.label,
@@ -95,7 +89,7 @@ fn enclose_between(
 {
     let hop = hop_size(flow, numbers.direct.is_some());
     let targets = target_size(flow.edge, numbers.limit.is_some());
-    let next = value_in_front(DESTINATION, targets, NESTED);
+    let next = value_in_front(DESTINATION, targets, IPV6);
     let behind = hop + targets + packet.len();
     let fields = Fields {
         class: class_of(packet),

@@ -2,24 +2,11 @@
 ghost use Rattle.std.specs.Prelude.{◌≡◌, ◌≤◌, ◌<◌, ◌^◌, ℕ, length, drop, MatchOption, IfSome, IsTrue, ◌↔◌};
 ghost use Rattle.ioam_ip.specs.Packet.{IsPacket};
 ghost use Rattle.ioam_ip.specs.Chain.{IsSound};
-ghost use Rattle.ioam_ip.specs.ChainOptions.{is_other};
 ghost use Rattle.ioam_tunnel.specs.Inner.{FirstOther, InnerAt, GivesBack};
 
+use ioam_ip::next_header::IPV6;
 use ioam_ip::{Head, Walk, header, heads, walk};
 use std::ops::Range;
-
-const HOP_BY_HOP: u8 = 0;
-
-const DESTINATION: u8 = 60;
-
-const NESTED: u8 = 41;
-
-// Whether a header on a chain holds no options.
-fn is_other(head: &Head) -> bool
-    ensures { result ≡ is_other head.now }
-{
-    head.value != HOP_BY_HOP && head.value != DESTINATION
-}
 
 // The first header on the chain that holds no options.
 fn first_other(packet: &[u8]) -> Option<Head>
@@ -29,7 +16,7 @@ fn first_other(packet: &[u8]) -> Option<Head>
     ensures within { IfSome result (λ head. head.range.start ≤ length packet.now) }
 {
     for head in heads(packet) {
-        if is_other(&head) {
+        if !head.is_options() {
             return Some(head);
         }
     }
@@ -52,7 +39,7 @@ fn inner_of(packet: &[u8]) -> Option<Range<usize>>
     let Some(head) = first_other(packet) else {
         return None;
     };
-    if head.value != NESTED {
+    if head.value != IPV6 {
         return None;
     }
     let start = head.range.start;

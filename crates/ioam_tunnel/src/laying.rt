@@ -7,12 +7,15 @@ ghost use Rattle.ioam_topo.specs.Traces.{IsFlowTrace};
 ghost use Rattle.ioam_tunnel.specs.Enclosed.{room_of, direct_parts, limit_parts, edge_parts, has_parts};
 ghost use Rattle.ioam_tunnel.specs.Wire.{IsRoom, trace_parts, no_elements};
 
-use crate::bodies::{DIRECT, EDGE, IOAM, IOAM_CHANGING, LIMIT, TRACE, direct_of, edge_of};
+use crate::bodies::{direct_of, edge_of};
 use crate::numbers::Numbers;
 use crate::outer::Outer;
 use ioam_base::memory::NoMemory;
+use ioam_data::option_type::{DIRECT_EXPORT, EDGE_TO_EDGE, PREALLOCATED_TRACE};
 use ioam_data::{Namespace, TraceType};
 use ioam_edge::data_size;
+use ioam_ip::next_header::IPV6;
+use ioam_ip::option_type::{ENCAPSULATION_LIMIT, IOAM, IOAM_CHANGING};
 use ioam_topo::{Flow, FlowTrace};
 
 // Adds the option of a trace without elements.
@@ -25,7 +28,12 @@ fn add_trace(outer: &mut Outer, trace: FlowTrace) -> Result<(), NoMemory>
     ensures sound { OnOk result (IsRoom (room_of trace)) }
 {
     outer.align(IOAM_CHANGING)?;
-    outer.append(&[IOAM_CHANGING, 10 + 4 * trace.capacity, 0, TRACE])?;
+    outer.append(&[
+        IOAM_CHANGING,
+        10 + 4 * trace.capacity,
+        0,
+        PREALLOCATED_TRACE,
+    ])?;
     outer.put_trace(trace)?;
     Ok(())
 }
@@ -55,7 +63,7 @@ fn add_direct_of(outer: &mut Outer, flow: &Flow, kind: TraceType, seq: u32) -> R
     ensures long { OnOk result (length outer.new.laid ≤ length outer.old.laid + 23) }
 {
     outer.align(IOAM)?;
-    outer.append(&[IOAM, 18, 0, DIRECT])?;
+    outer.append(&[IOAM, 18, 0, DIRECT_EXPORT])?;
     outer.put_direct(&direct_of(flow, kind, seq))?;
     Ok(())
 }
@@ -81,7 +89,7 @@ fn add_limit(outer: &mut Outer, limit: Option<u8>) -> Result<(), NoMemory>
     ensures long { OnOk result (length outer.new.laid ≤ length outer.old.laid + 6) }
 {
     match limit {
-        Some(limit) => outer.append(&[LIMIT, 1, limit]),
+        Some(limit) => outer.append(&[ENCAPSULATION_LIMIT, 1, limit]),
         None => Ok(()),
     }
 }
@@ -101,7 +109,7 @@ fn add_edge_of(
     ensures long { OnOk result (length outer.new.laid ≤ length outer.old.laid + 31) }
 {
     outer.align(IOAM)?;
-    outer.append(&[IOAM, (2 + data_size(kind)) as u8, 0, EDGE])?;
+    outer.append(&[IOAM, (2 + data_size(kind)) as u8, 0, EDGE_TO_EDGE])?;
     outer.put_edge(&edge_of(namespace, kind, numbers))
 }
 
@@ -181,7 +189,7 @@ fn lay_target_options(outer: &mut Outer, flow: &Flow, numbers: &Numbers) -> Resu
         ++ header_of 41 (limit_parts numbers.now.limit ++ edge_parts flow.now.namespace flow.now.edge numbers.now)) }
     ensures laid { OnOk result (outer.new.laid ≡ []) }
 {
-    outer.append(&[41, 0])?;
+    outer.append(&[IPV6, 0])?;
     add_limit(outer, numbers.limit)?;
     add_edge(outer, flow, numbers)?;
     outer.finish()

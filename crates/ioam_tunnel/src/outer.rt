@@ -13,7 +13,7 @@ use ioam_base::memory::NoMemory;
 use ioam_base::text::append;
 use ioam_dex::Direct;
 use ioam_edge::Edge;
-use ioam_ip::{padded, size_with};
+use ioam_ip::{HEADER_OCTETS, HOP_LIMIT, padded, size_with};
 use ioam_topo::FlowTrace;
 use ioam_trace::put_trace;
 use std::alloc::Global;
@@ -58,7 +58,11 @@ fn pad(octets: &mut Vec<u8>, count: usize) -> Result<(), NoMemory>
 
 impl Outer {
     /// A packet that begins with this header, with room for so many octets in all.
-    pub(crate) fn new(alloc: Global, head: &[u8; 40], size: usize) -> Result<Outer, NoMemory>
+    pub(crate) fn new(
+        alloc: Global,
+        head: &[u8; HEADER_OCTETS],
+        size: usize,
+    ) -> Result<Outer, NoMemory>
         ensures front { IfOk result (λ outer. outer.front ≡ head.now) }
         ensures laid { IfOk result (λ outer. outer.laid ≡ []) }
     {
@@ -160,8 +164,8 @@ fn append_lowered(out: &mut Vec<u8>, packet: &[u8]) -> Result<(), NoMemory>
     requires hops { 1 ≤ slice_index packet.now 7 }
     ensures { OnOk result (out.new.items ≡ out.old.items ++ lowered 1 packet.now) }
 {
-    let at = out.len() + 7;
+    let at = out.len() + HOP_LIMIT;
     append(out, packet)?;
-    out[at] = packet[7] - 1;
+    out[at] = packet[HOP_LIMIT] - 1;
     Ok(())
 }

@@ -6,8 +6,8 @@ ghost use Rattle.ioam_topo.specs.Sound.{IsFlow};
 ghost use Rattle.ioam_topo.specs.Traces.{IsFlowTrace};
 ghost use Rattle.ioam_tunnel.specs.Size.{trace_size, direct_sizes, limit_sizes, edge_sizes, outer_size};
 
-use crate::bodies::{IOAM, IOAM_CHANGING, LIMIT};
 use ioam_edge::data_size;
+use ioam_ip::option_type::{ENCAPSULATION_LIMIT, IOAM, IOAM_CHANGING};
 use ioam_ip::{HEADER_OCTETS, padded, size_with};
 use ioam_topo::{Flow, FlowTrace};
 
@@ -53,7 +53,11 @@ fn limit_end(limit: bool) -> usize
     ensures value { result ≡ options_end 2 (limit_sizes limit) }
     ensures small { result ≤ 5 }
 {
-    if limit { size_with(2, LIMIT, 1) } else { 2 }
+    if limit {
+        size_with(2, ENCAPSULATION_LIMIT, 1)
+    } else {
+        2
+    }
 }
 
 // Where the option of edge-to-edge data ends behind so many octets, if there is one.
