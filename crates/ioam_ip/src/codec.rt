@@ -5,7 +5,7 @@ ghost use Rattle.ioam_base.specs.Octets.{written};
 ghost use Rattle.ioam_ip.specs.Packet.{IsPacket};
 ghost use Rattle.ioam_ip.specs.Header.{HasFields, FieldsFit, header_octets};
 
-use crate::packet::{HEADER_OCTETS, HOP_LIMIT, Header};
+use crate::packet::{HEADER_OCTETS, HOP_LIMIT, Header, NEXT_HEADER};
 use byteorder::{BigEndian, ByteOrder};
 use ioam_base::octets::{put_at, put_u16_at, put_u32_at, u16_at, u32_at};
 
@@ -32,7 +32,7 @@ fn read_fields(octets: &[u8]) -> Header
         class: (word / 0x10_0000 % 256) as u8,
         label: word % 0x10_0000,
         payload: u16_at(octets, 4),
-        next: octets[6],
+        next: octets[NEXT_HEADER],
         hops: octets[HOP_LIMIT],
         source: u128_at(octets, 8),
         target: u128_at(octets, 24),
@@ -80,7 +80,7 @@ fn write_fields(into: &mut [u8; 40], header: Header)
     let word = (6 * 256 + header.class as u32) * 0x10_0000 + header.label;
     put_u32_at(into, 0, word);
     put_u16_at(into, 4, header.payload);
-    put_at(into, 6, &[header.next, header.hops]);
+    put_at(into, NEXT_HEADER, &[header.next, header.hops]);
     put_u128_at(into, 8, header.source);
     put_u128_at(into, 24, header.target);
 }

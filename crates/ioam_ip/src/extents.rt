@@ -4,6 +4,7 @@ ghost use Rattle.ioam_ip.specs.Chain.{said_size, size_by, next_by, fragment_offs
 ghost use Rattle.ioam_ip.specs.HeadsLeft.{goes_on_by};
 
 use crate::chain::Kind;
+use crate::packet::{HEADER_OCTETS, NEXT_HEADER};
 use ioam_base::octets::u16_at;
 
 // Where a header that says its own length ends, if its octets are there.
@@ -31,7 +32,7 @@ pub(crate) fn whole_end(packet: &[u8], at: usize, kind: Kind) -> Option<usize>
     match kind {
         Kind::HopByHop | Kind::Destination | Kind::Routing => said_end(packet, at),
         Kind::Fragment => fixed_end(packet, at, 8),
-        Kind::Nested => fixed_end(packet, at, 40),
+        Kind::Nested => fixed_end(packet, at, HEADER_OCTETS),
         Kind::Upper => Some(at),
     }
 }
@@ -56,7 +57,7 @@ pub(crate) fn next_value(packet: &[u8], at: usize, kind: Kind) -> u8
 {
     match kind {
         Kind::HopByHop | Kind::Destination | Kind::Routing | Kind::Fragment => packet[at],
-        Kind::Nested => packet[at + 6],
+        Kind::Nested => packet[at + NEXT_HEADER],
         Kind::Upper => 0,
     }
 }
