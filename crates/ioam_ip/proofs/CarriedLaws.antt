@@ -13,13 +13,13 @@ use Rattle.ioam_ip.specs.ChainOptions.{octets_of, HasIoam, CarriesIoam}
 use Rattle.ioam_ip.specs.HeadsLeft.{AreHeads}
 use Rattle.ioam_ip.specs.declared.chain.Spot.{Spot}
 use Rattle.ioam_ip.specs.declared.chain.Head.{Head}
-use Rattle.ioam_ip.specs.Rewriting.{options_in, with_steps, item_stepped}
+use Rattle.ioam_ip.specs.Rewriting.{options_in, item_stepped}
 use Rattle.ioam_ip.specs.Hop.{has_hop, hop_end, hop_head, hop_stepped}
 use Rattle.ioam_ip.proofs.ChainLaws.{Chain-unique}
 use Rattle.ioam_ip.proofs.NextLaws.{suffix_same}
 use Rattle.ioam_ip.proofs.OptionsLeftLaws.{all_from}
 use Rattle.ioam_ip.proofs.CarryLaws.{heads_behind_spot}
-use Rattle.ioam_ip.proofs.SteppedLaws.{AreOptions-stepped, has_ioam-stepped}
+use Rattle.ioam_ip.proofs.SteppedLaws.{has_ioam-stepped}
 use Rattle.ioam_ip.proofs.SoundLaws.{first_spot, zero_is, heads_behind, heads-stepped, After, facts_of, part, after}
 
 -- what some header has, some header has in another packet too

@@ -1,10 +1,9 @@
 -- Where two packets have the same octets from a place on, perhaps at other places, their chains go on alike from there.
-use Rattle.std.proofs.Common.{◌≡◌, ◌≢◌, ℕ, ◌+◌, ◌-◌, ◌*◌, ◌/◌, ◌<◌, ◌≤◌, List, [], ◌∷◌, length, take, drop, map, slice_index, slice_range, get_or, refl, sym, ap, ◌∙◌, subst, arith, get_or-drop}
+use Rattle.std.proofs.Common.{◌≡◌, ℕ, ◌+◌, ◌-◌, ◌*◌, ◌/◌, ◌≤◌, List, [], ◌∷◌, length, take, drop, map, slice_index, slice_range, get_or, refl, sym, ap, ◌∙◌, subst, arith, get_or-drop}
 use Rattle.std.specs.List.{All}
 use Rattle.std.proofs.lemmas.List.{drop-drop}
 use Rattle.std.proofs.lemmas.List.Elements.{All-nil, All-cons}
 use Rattle.ioam_base.specs.Leads.{Leads}
-use Rattle.ioam_base.specs.Octets.{u16_at}
 use Rattle.ioam_ip.specs.Options.{IsFilled}
 use Rattle.ioam_ip.specs.Chain.{kind_of, said_size, size_by, next_by, fragment_offset, Admits, end_at, CanPass, head_at, behind, EndsBy, EndsAt}
 use Rattle.ioam_ip.specs.declared.chain.Kind.{Kind}

@@ -1,9 +1,8 @@
 -- One turn of a loop that changes the options of a header in place.
-use Rattle.std.proofs.Common.{◌≡◌, ℕ, ◌+◌, ◌-◌, ◌<◌, ◌≤◌, List, ◌∷◌, length, take, drop, slice_index, slice_range, sym, ap, ◌∙◌, arith, length-take, length-drop}
+use Rattle.std.proofs.Common.{◌≡◌, ℕ, ◌+◌, ◌-◌, ◌≤◌, List, ◌∷◌, length, drop, slice_index, slice_range, sym, ap, ◌∙◌, arith, length-take, length-drop}
 use borrow.Rule.Slice.PartMut.{put_mid}
 use Rattle.ioam_base.specs.Octets.{written}
 use Rattle.ioam_base.proofs.WrittenLaws.{written-mid, written-front, written-behind}
-use Rattle.ioam_ip.specs.Options.{Item}
 use Rattle.ioam_ip.specs.OptionsLeft.{options_from}
 use Rattle.ioam_ip.specs.Spot.{IsNext, spot_end, item_in}
 use Rattle.ioam_ip.specs.declared.next.OptionSpot.{OptionSpot}

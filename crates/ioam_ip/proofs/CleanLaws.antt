@@ -1,5 +1,5 @@
 -- A packet that may leave the domain may leave it with another hop limit (RFC 8200 section 3).
-use Rattle.std.proofs.Common.{◌≡◌, ◌≢◌, ℕ, ◌/◌, ◌<◌, List, length, slice_index, set, ap, ◌∙◌, get_or-set_other, arith}
+use Rattle.std.proofs.Common.{◌≡◌, ◌≢◌, ℕ, ◌/◌, List, length, slice_index, set, ap, ◌∙◌, get_or-set_other, arith}
 use Rattle.std.proofs.Math.ListN.{length-set}
 use Rattle.ioam_ip.specs.Clean.{IsClean, MayLeave}
 use Rattle.ioam_ip.specs.Packet.{IsPacket}

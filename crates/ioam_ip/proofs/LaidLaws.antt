@@ -1,11 +1,9 @@
 -- Laws of headers that hold options.
-use Rattle.std.proofs.Common.{◌≡◌, ℕ, zero, suc, ◌+◌, ◌-◌, ◌*◌, ◌/◌, ◌<◌, ◌≤◌, List, [], ◌∷◌, ◌++◌, length, take, drop, map, replicate, append_assoc, length-append, refl, sym, ap, ◌∙◌, subst, arith}
-use Rattle.std.proofs.lemmas.List.{append-nil, length-replicate, take_at, drop_at}
-use Rattle.std.proofs.Math.Seq.{drop-append-add}
+use Rattle.std.proofs.Common.{◌≡◌, ℕ, zero, suc, ◌+◌, ◌-◌, ◌*◌, ◌/◌, ◌≤◌, List, [], ◌∷◌, ◌++◌, length, map, append_assoc, length-append, refl, sym, ap, ◌∙◌, subst, arith}
+use Rattle.std.proofs.lemmas.List.{append-nil, length-replicate}
 use Rattle.ioam_base.specs.Octets.{written}
 use Rattle.ioam_base.proofs.WrittenLaws.{written-at}
 use Rattle.ioam_ip.specs.Options.{Item, AreOptions}
-use Rattle.ioam_ip.specs.OptionsLeft.{options_from}
 use Rattle.ioam_ip.specs.Layout.{padding, gap_before, padded}
 use Rattle.ioam_ip.proofs.LayoutLaws.{AreOptions-padding, AreOptions-with}
 use Rattle.ioam_ip.proofs.OptionsLeftLaws.{all_from}

@@ -8,6 +8,7 @@ pub mod FitLaws
 pub mod FramingLaws
 pub mod HeaderLaws
 pub mod HeadsLeftLaws
+pub mod HopHeaderLaws
 pub mod HopLaws
 pub mod IteratorLaws
 pub mod LaidLaws
@@ -16,6 +17,7 @@ pub mod LayoutLaws
 pub mod Looking
 pub mod NestedLaws
 pub mod NextLaws
+pub mod OptionListLaws
 pub mod OptionsLaws
 pub mod OptionsLeftLaws
 pub mod SizesLaws

@@ -1,11 +1,11 @@
 -- The chain of a packet that carries another packet behind options headers.
-use Rattle.std.proofs.Common.{◌≡◌, ℕ, ◌+◌, ◌-◌, ◌*◌, ◌/◌, ◌<◌, ◌≤◌, Bool, true, false, List, [], ◌∷◌, ◌++◌, length, take, drop, map, slice_index, slice_range, get_or, Option, Some, None, refl, sym, ap, ◌∙◌, subst, arith, append_assoc, length-append}
+use Rattle.std.proofs.Common.{◌≡◌, ℕ, ◌+◌, ◌-◌, ◌*◌, ◌/◌, ◌≤◌, Bool, true, false, List, [], ◌∷◌, ◌++◌, length, take, drop, map, slice_index, slice_range, get_or, Some, refl, sym, ap, ◌∙◌, subst, arith, append_assoc, length-append}
 use Rattle.std.specs.List.{find}
 use Rattle.std.proofs.lemmas.List.{take_at, drop_at, drop-drop, get_or-drop, get_or-append-add, get_or_append_left}
 use Rattle.ioam_base.specs.Leads.{Leads}
 use Rattle.ioam_ip.specs.Packet.{IsPacket}
 use Rattle.ioam_ip.specs.Options.{IsFilled}
-use Rattle.ioam_ip.specs.Chain.{said_size, CanPass, head_at, behind, start, EndsAt, Chain, IsSound}
+use Rattle.ioam_ip.specs.Chain.{said_size, CanPass, head_at, behind, start, EndsAt, IsSound}
 use Rattle.ioam_ip.specs.ChainOptions.{is_other}
 use Rattle.ioam_ip.specs.HeadsLeft.{AreHeads}
 use Rattle.ioam_ip.specs.declared.chain.Spot.{Spot}

@@ -1,8 +1,8 @@
 -- The options from a place on.
-use Rattle.std.proofs.Common.{◌≡◌, ℕ, zero, suc, ◌+◌, ◌-◌, ◌<◌, ◌≤◌, List, [], ◌∷◌, Bool, true, false, cond, eqb, ltb, leb, length, take, drop, slice_index, slice_range, get_or, refl, sym, ap, ◌∙◌, arith, get_or-drop}
+use Rattle.std.proofs.Common.{◌≡◌, ℕ, zero, suc, ◌+◌, ◌-◌, ◌<◌, ◌≤◌, List, [], ◌∷◌, Bool, true, false, cond, eqb, leb, length, take, drop, slice_index, slice_range, get_or, refl, sym, ap, ◌∙◌, arith, get_or-drop}
 use Rattle.std.proofs.lemmas.List.{drop-drop}
 use Rattle.std.proofs.lemmas.Bool.Decides.{nat_tests}
-use Rattle.ioam_ip.specs.Options.{Item, OptionFits, option_end, item_at, body_at, is_option}
+use Rattle.ioam_ip.specs.Options.{option_end, item_at, body_at, is_option}
 use Rattle.ioam_ip.specs.OptionsLeft.{options_from}
 
 other : (k : ℕ) → 1 < k → eqb k 0 ≡ false

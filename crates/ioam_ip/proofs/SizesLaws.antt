@@ -1,8 +1,8 @@
 -- Laws of the lengths of options headers.
-use Rattle.std.proofs.Common.{◌≡◌, ℕ, ◌+◌, List, [], ◌∷◌, length, map, refl, ap, ◌∙◌}
+use Rattle.std.proofs.Common.{◌≡◌, ℕ, List, [], ◌∷◌, length, map, refl, ◌∙◌}
 use Rattle.ioam_ip.specs.Layout.{padded}
-use Rattle.ioam_ip.specs.Laid.{Part, behind_part, parts_end, header_of, header_if}
-use Rattle.ioam_ip.specs.Sizes.{Sized, sized, options_end, header_size}
+use Rattle.ioam_ip.specs.Laid.{Part, behind_part, parts_end, header_if}
+use Rattle.ioam_ip.specs.Sizes.{sized, options_end, header_size}
 use Rattle.ioam_ip.proofs.LaidLaws.{length-header}
 
 parts_end-sized : (size : ℕ) (parts : List Part) → parts_end size parts ≡ padded (options_end size (map sized parts))

@@ -1,5 +1,5 @@
 -- A packet whose chain is whole keeps its chain when the data of options of its outer Hop-by-Hop header is replaced.
-use Rattle.std.proofs.Common.{◌≡◌, ℕ, ◌+◌, ◌-◌, ◌*◌, ◌/◌, ◌<◌, ◌≤◌, Bool, true, false, cond, eqb, List, [], ◌∷◌, ◌++◌, length, take, drop, set, map, slice_index, slice_range, get_or, refl, sym, ap, ◌∙◌, subst, arith, length-take, length-drop, get_or-take, get_or-drop}
+use Rattle.std.proofs.Common.{◌≡◌, ℕ, ◌+◌, ◌-◌, ◌*◌, ◌/◌, ◌<◌, ◌≤◌, Bool, true, false, cond, eqb, List, [], ◌∷◌, ◌++◌, length, take, drop, set, map, slice_index, slice_range, refl, sym, ap, ◌∙◌, subst, arith, length-take, length-drop, get_or-take, get_or-drop}
 use Rattle.std.proofs.lemmas.List.{drop-set-lt, length-set, get_or-set_other, take_at, drop_at, get_or_append_left, get_or-append-add}
 use Rattle.std.proofs.lemmas.Bool.Decides.{nat_tests}
 use Rattle.ioam_base.specs.Leads.{Leads}
@@ -46,7 +46,7 @@ passes_from : (p : List ℕ) (hs : List Head) (last : Spot) → Leads (CanPass p
 passes_from p [] last here ends = let P : Spot → Type 0 = λ s. EndsAt p s in absurd (subst P (sym here) ends)
 passes_from p (h ∷ hs) last leads ends = leads.0
 
-hop_passes : (p : List ℕ) (hs : List Head) → AreHeads p hs → slice_index p 6 ≡ 0 → CanPass p (first_spot 0)
+pub hop_passes : (p : List ℕ) (hs : List Head) → AreHeads p hs → slice_index p 6 ≡ 0 → CanPass p (first_spot 0)
 hop_passes p hs are is =
     let P : ℕ → Type 0 = λ n. Leads (CanPass p) (head_at p) (behind p) (first_spot n) hs are.chain.last in
     passes_from p hs are.chain.last (subst P is are.chain.reaches) are.chain.ends

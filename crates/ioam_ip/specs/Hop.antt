@@ -2,6 +2,7 @@
 use Rattle.ioam_ip.specs.Findings.{is_ioam_type}
 use Rattle.ioam_ip.specs.Options.{Item}
 use Rattle.std.specs.Prelude.{ℕ, ◌+◌, ◌≡◌, ◌≤◌, Bool, ◌==◌, true, if◌then◌else◌, List, [], ◌∷◌, length, slice_index, slice_range}
+use Rattle.std.specs.declared.ops.Range.{Range}
 use Rattle.ioam_base.specs.Octets.{written}
 use Rattle.ioam_ip.specs.Chain.{said_size}
 use Rattle.ioam_ip.specs.Rewriting.{options_in, with_steps}
@@ -16,6 +17,14 @@ hop_end packet = 40 + said_size packet 40
 
 abbrev pub hop_head : List ℕ → List ℕ
 hop_head packet = slice_range packet 40 (hop_end packet)
+
+-- where that header lies, all of it within the packet; it has 2,048 octets at most
+pub record IsHopRange (packet : List ℕ) (range : Range ℕ) : Type 0 where
+  pub there : has_hop packet ≡ true
+  pub begins : range.start ≡ 40
+  pub ends : range.end ≡ hop_end packet
+  pub within : range.end ≤ length packet
+  pub short : range.end ≤ 40 + 2048
 
 -- its options
 abbrev pub hop_options : List ℕ → List Item

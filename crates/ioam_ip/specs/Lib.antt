@@ -10,6 +10,7 @@ pub mod Hop
 pub mod Laid
 pub mod Layout
 pub mod Lowered
+pub mod OptionList
 pub mod Options
 pub mod OptionsLeft
 pub mod Packet

@@ -1,5 +1,5 @@
 -- How long options headers are, by the types and the lengths of their options alone.
-use Rattle.std.specs.Prelude.{ℕ, ◌+◌, List, [], ◌∷◌, length, map}
+use Rattle.std.specs.Prelude.{ℕ, ◌+◌, List, [], ◌∷◌, length}
 use Rattle.ioam_ip.specs.Layout.{gap_before, padded}
 use Rattle.ioam_ip.specs.Laid.{Part}
 

@@ -1,6 +1,7 @@
 //! Whether options fill a header, and which they are.
 ghost use Rattle.std.specs.Prelude.{◌≤◌, ◌<◌, ◌^◌, ◌↔◌, IsOk, IfErr, length};
 ghost use Rattle.ioam_ip.specs.Options.{AreOptions, IsFilled, UnfitAt};
+ghost use Rattle.ioam_ip.specs.OptionList.{HoldsOptions, OnlyOptions};
 ghost use Rattle.ioam_ip.specs.OptionsLeft.{options_left};
 
 use crate::items::Options;
@@ -24,7 +25,10 @@ pub fn check_options(head: &[u8]) -> Result<(), u32>
 /// The options of one options header that [`check_options`] accepts, in order and without paddings.
 pub fn options(head: &[u8]) -> Options<'_>
     requires { IsFilled head.now }
-    ensures { AreOptions head.now (options_left result) }
+    ensures options { AreOptions head.now (options_left result) }
+    // The same by what stands first in the header, and a header holds one list of options.
+    ensures held { HoldsOptions head.now (options_left result) }
+    ensures only { OnlyOptions head.now (options_left result) }
 {
     Options { head, at: 2 }
 }

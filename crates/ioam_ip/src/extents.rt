@@ -7,6 +7,15 @@ use crate::chain::Kind;
 use crate::packet::{HEADER_OCTETS, NEXT_HEADER};
 use ioam_base::octets::u16_at;
 
+// The octets of a header that says its own length, in units of 8 octets past the first 8 (Hdr Ext Len).
+pub(crate) fn said_size(packet: &[u8], at: usize) -> usize
+    requires { at + 2 ≤ length packet.now }
+    ensures value { result ≡ said_size packet.now at }
+    ensures most { result ≤ 2048 }
+{
+    (usize::from(packet[at + 1]) + 1) * 8
+}
+
 // Where a header that says its own length ends, if its octets are there.
 pub(crate) fn said_end(packet: &[u8], at: usize) -> Option<usize>
     requires { at ≤ length packet.now }
@@ -16,7 +25,7 @@ pub(crate) fn said_end(packet: &[u8], at: usize) -> Option<usize>
     if packet.len() - at < 2 {
         return None;
     }
-    let size = (packet[at + 1] as usize + 1) * 8;
+    let size = said_size(packet, at);
     if packet.len() - at < size {
         return None;
     }

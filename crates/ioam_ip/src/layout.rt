@@ -129,8 +129,9 @@ fn gap_before(size: usize, kind: u8) -> usize
     }
 }
 
-// Appends padding of up to 8 octets.
-fn pad(octets: &mut Vec<u8>, count: usize) -> Result<(), NoMemory>
+/// Appends padding of up to 8 octets: Pad1 for one, PadN with zeros for more (RFC 8200 section 4.2). Without
+/// memory nothing is appended.
+pub fn pad(octets: &mut Vec<u8>, count: usize) -> Result<(), NoMemory>
     requires { count ≤ 8 }
     ensures { octets.new.items ≡ (if is_ok result then octets.old.items ++ padding count else octets.old.items) }
 {

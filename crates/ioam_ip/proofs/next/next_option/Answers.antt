@@ -1,5 +1,5 @@
-use Rattle.std.proofs.Common.{◌≡◌, ◌+◌, ◌∷◌, sym, ◌∙◌, arith, refl, ap, length, slice_index}
-use Rattle.ioam_ip.specs.Options.{Item, item_at, option_end}
+use Rattle.std.proofs.Common.{◌≡◌, ◌+◌, sym, ◌∙◌, arith, refl, slice_index}
+use Rattle.ioam_ip.specs.Options.{item_at}
 use Rattle.ioam_ip.proofs.OptionsLeftLaws.{step_option, step_padding}
 use Rattle.ioam_ip.specs.Spot.{item_in}
 use Rattle.ioam_ip.specs.declared.next.OptionSpot.{OptionSpot}

@@ -1,4 +1,4 @@
-use Rattle.std.proofs.Common.{◌≡◌, ◌≤◌, ◌+◌, ◌-◌, ◌*◌, ◌/◌, List, ℕ, length, slice_set, rules, subst, sym}
+use Rattle.std.proofs.Common.{◌≡◌, ◌≤◌, ◌-◌, ◌/◌, List, ℕ, length, slice_set, rules, subst, sym}
 use Rattle.ioam_ip.specs.Layout.{finished}
 use Rattle.ioam_ip.specs.Options.{AreOptions}
 use Rattle.ioam_ip.proofs.LayoutLaws.{AreOptions-finished}
