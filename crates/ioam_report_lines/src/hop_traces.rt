@@ -1,7 +1,6 @@
 //! The traces that nodes on a packet's way fill.
 ghost use Rattle.std.specs.Prelude.{◌≡◌, ◌++◌, ◌∷◌, ◌≤◌, IsTrue, [], ℕ, length, is_ok, if◌then◌else◌};
 ghost use Rattle.ioam_ip.specs.Chain.{IsSound};
-ghost use Rattle.ioam_ip.specs.Hop.{HopFits};
 ghost use Rattle.ioam_ip.specs.Packet.{IsPacket};
 ghost use Rattle.ioam_ip.specs.Rewriting.{options_in};
 ghost use Rattle.ioam_ip.specs.Spot.{item_in, spot_end};
@@ -12,7 +11,7 @@ use crate::settling::settle;
 use ioam_base::memory::NoMemory;
 use ioam_data::option_type::PREALLOCATED_TRACE;
 use ioam_ip::option_type::IOAM_CHANGING;
-use ioam_ip::{OptionSpot, next_option};
+use ioam_ip::{OptionSpot, hop_header, next_option};
 
 // Whether an option is a trace that nodes on the way fill.
 fn is_changing_trace(kind: u8, body: &[u8]) -> bool
@@ -54,18 +53,6 @@ fn put_options(head: &[u8], out: &mut Vec<u8>) -> Result<(), NoMemory>
     Ok(())
 }
 
-// Appends those of the header of a packet, where it lies within the packet.
-fn put_hop(packet: &[u8], out: &mut Vec<u8>) -> Result<(), NoMemory>
-    requires { HopFits packet.now }
-    ensures { out.new.items ≡ (if is_ok result then out.old.items ++ hop_traces_text packet.now else out.old.items) }
-{
-    if packet[6] != 0 {
-        return Ok(());
-    }
-    let end = 40 + (usize::from(packet[41]) + 1) * 8;
-    put_options(&packet[40..end], out)
-}
-
 /// Appends the lines of each pre-allocated trace that nodes on the way of a packet fill: those of option
 /// type 0x31 in the Hop-by-Hop Options header behind its outer header, in order (RFC 9197 section 4.4,
 /// RFC 9486 section 3). Without memory nothing is appended.
@@ -74,5 +61,8 @@ pub fn put_hop_traces(packet: &[u8], out: &mut Vec<u8>) -> Result<(), NoMemory>
     requires sound { IsSound packet.now }
     ensures { out.new.items ≡ (if is_ok result then out.old.items ++ hop_traces_text packet.now else out.old.items) }
 {
-    put_hop(packet, out)
+    match hop_header(packet) {
+        Some(hop) => put_options(&packet[hop], out),
+        None => Ok(()),
+    }
 }

@@ -13,7 +13,7 @@ use ioam_base::memory::NoMemory;
 use ioam_base::text::append;
 use ioam_dex::Direct;
 use ioam_edge::Edge;
-use ioam_ip::{HEADER_OCTETS, HOP_LIMIT, padded, size_with};
+use ioam_ip::{HEADER_OCTETS, HOP_LIMIT, pad, padded, size_with};
 use ioam_topo::FlowTrace;
 use ioam_trace::put_trace;
 use std::alloc::Global;
@@ -36,24 +36,6 @@ impl Model for Outer {
     ghost view = { λ outer. record { front = take outer.start outer.octets.items; laid = drop outer.start outer.octets.items } };
 
     ghost invariant = { λ outer. outer.start ≤ length outer.octets.items };
-}
-
-// Appends padding of fewer than 8 octets: Pad1 for one, PadN with zeros for more (RFC 8200 section
-// 4.2).
-fn pad(octets: &mut Vec<u8>, count: usize) -> Result<(), NoMemory>
-    requires { count < 8 }
-    ensures { octets.new.items ≡ (if is_ok result then octets.old.items ++ padding count else octets.old.items) }
-{
-    match count {
-        0 => Ok(()),
-        1 => append(octets, &[0]),
-        2 => append(octets, &[1, 0]),
-        3 => append(octets, &[1, 1, 0]),
-        4 => append(octets, &[1, 2, 0, 0]),
-        5 => append(octets, &[1, 3, 0, 0, 0]),
-        6 => append(octets, &[1, 4, 0, 0, 0, 0]),
-        _ => append(octets, &[1, 5, 0, 0, 0, 0, 0]),
-    }
 }
 
 impl Outer {

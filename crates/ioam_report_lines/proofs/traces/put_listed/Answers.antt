@@ -9,13 +9,13 @@ use Rattle.ioam_report_lines.proofs.TextLaws.{front-kept, longer}
 use Rattle.ioam_report_lines.proofs.TracesLaws.{told_traces, telling_traces, traces_from-nested}
 use Rattle.ioam_report_lines.proofs.traces.put_listed.Goals as goal
 
-pub returns-then-head-eq41 : goal.returns-then-head-eq41
-returns-then-head-eq41 c =
+pub returns-then-head-eq-IPV6 : goal.returns-then-head-eq-IPV6
+returns-then-head-eq-IPV6 c =
     let p = c.args.packet.now in
     let are : AreHeads p (heads_left c.into_iter-head-iterator.result) = search rules in
     let steps : heads_left c.loop-head.head-iterator ≡ c.in-Some.head ∷ heads_left c.next.new.self = search rules in
     told_traces p c.requires.sound _ are c.loop-head.out.items c.args.out.now.items (heads_left c.loop-head.head-iterator) c.loop-head.invariant.lead
-    (traces_from-nested p (heads_left c.loop-head.head-iterator) (heads_left c.next.new.self) c.in-Some.head steps c.if-head-eq41.true)
+    (traces_from-nested p (heads_left c.loop-head.head-iterator) (heads_left c.next.new.self) c.in-Some.head steps c.if-head-eq-IPV6.true)
 
 pub loop-head-preserved : goal.loop-head-preserved
 loop-head-preserved c =
@@ -29,7 +29,7 @@ loop-head-preserved c =
       can = search rules;
       finite = search rules;
       lead = telling_traces p c.loop-head.out.items c.settle.new.out.items _ (heads_left c.loop-head.head-iterator) (heads_left c.next.new.self) c.in-Some.head
-          so_far.lead steps c.if-head-eq41.false is_new;
+          so_far.lead steps c.if-head-eq-IPV6.false is_new;
       front = front-kept _ c.loop-head.out.items c.settle.new.out.items part _ so_far.more is_new so_far.front;
       more = longer _ c.loop-head.out.items c.settle.new.out.items part so_far.more is_new;
       fit = All-rest P c.in-Some.head (heads_left c.next.new.self) (heads_left c.loop-head.head-iterator) steps so_far.fit;

@@ -8,10 +8,10 @@ use Rattle.ioam_tunnel.proofs.inside.inner_of.Goals as goal
 pub returns-in_default : goal.returns-in_default
 returns-in_default c place is_packet at = none-first c.args.packet.now c.in_default.ensures.first place at
 
-pub returns-then-head-ne-NESTED : goal.returns-then-head-ne-NESTED
-returns-then-head-ne-NESTED c place is_packet at =
+pub returns-then-head-ne-IPV6 : goal.returns-then-head-ne-IPV6
+returns-then-head-ne-IPV6 c place is_packet at =
     let same = head-first c.args.packet.now c.in-Some.head c.in-Some.ensures.first place at in
-    absurd (c.if-head-ne-NESTED.true (ap (λ (h : Head). h.value) same ∙ at.nested))
+    absurd (c.if-head-ne-IPV6.true (ap (λ (h : Head). h.value) same ∙ at.nested))
 
 pub returns-then-not-is_packet : goal.returns-then-not-is_packet
 returns-then-not-is_packet c place is_packet at =
