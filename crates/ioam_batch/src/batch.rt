@@ -1,3 +1,4 @@
+//! Jobs that are run together.
 ghost use Rattle.std.specs.Prelude.{◌≡◌, ◌≤◌, ◌++◌, ◌∷◌, [], IfOk, IsTrue, length};
 ghost use Rattle.ioam_batch.specs.Batches.{has_room};
 

@@ -1,3 +1,4 @@
+//! What a worker asks before its chunk of jobs.
 ghost use Rattle.std.specs.Prelude.{Bool, true, IsTrue};
 
 /// What a worker asks before its chunk of jobs. It runs the chunk's jobs exactly where `pass` answers

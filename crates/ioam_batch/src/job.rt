@@ -1,3 +1,4 @@
+//! All visits of one packet.
 ghost use Rattle.std.specs.Prelude.{◌≡◌, ◌≤◌, ◌+◌, ◌^◌, IfOk, IfSome, MatchOption, None, Some, length, slice_get};
 ghost use Rattle.ioam_batch.specs.Crossings.{crossings, joined};
 ghost use Rattle.ioam_batch.specs.Jobs.{Holds, HoldsBy, IsJobOf, reserved_of};

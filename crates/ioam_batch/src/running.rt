@@ -1,3 +1,4 @@
+//! The visits of a job, done one after the other.
 ghost use Rattle.ioam_batch.specs.Jobs.{HasRun, Holds, IsFresh};
 ghost use Rattle.ioam_batch.specs.Sends.{SendsSo};
 

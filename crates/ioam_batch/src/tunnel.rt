@@ -11,12 +11,12 @@ ghost use Rattle.ioam_tunnel.specs.Wire.{IsTunnel, Tunnel};
 
 use crate::crossings::Crossings;
 use ioam_clock::Readings;
-use ioam_node_visit::{NodeRoom, begin, exit, transit};
+use ioam_node_visit::NodeRoom;
 use ioam_plan::Visit;
 use ioam_topo::Domain;
 
 // The visit of the node at which a packet enters its tunnel.
-fn enter(
+fn begin(
     domain: &Domain,
     readings: &Readings,
     visit: &Visit,
@@ -44,12 +44,12 @@ fn enter(
         → Sent domain.now readings.now tunnel [] packet.old crossings.old.past room.old
         → Sent domain.now readings.now tunnel (visit.now ∷ []) packet.new crossings.new.past room.new }
 {
-    begin(domain, readings, visit.place, visit.time, packet, room);
+    ioam_node_visit::begin(domain, readings, visit.place, visit.time, packet, room);
     crossings.cross(packet);
 }
 
 // The visit of a node on the way.
-fn pass_on(
+fn transit(
     domain: &Domain,
     readings: &Readings,
     visit: &Visit,
@@ -78,12 +78,12 @@ fn pass_on(
         → Sent domain.now readings.now tunnel visits packet.old crossings.old.past room.old
         → Sent domain.now readings.now tunnel (visits ++ visit.now ∷ []) packet.new crossings.new.past room.new }
 {
-    transit(domain, readings, visit.place, visit.time, packet, room);
+    ioam_node_visit::transit(domain, readings, visit.place, visit.time, packet, room);
     crossings.cross(packet);
 }
 
 // The visit of the node at which it leaves its tunnel.
-fn come_out(
+fn exit(
     domain: &Domain,
     readings: &Readings,
     visit: &Visit,
@@ -109,7 +109,7 @@ fn come_out(
         → Sent domain.now readings.now tunnel visits packet.old crossings.old.past room.old
         → Closed domain.now readings.now tunnel visits visit.now packet.new crossings.new.past room.new }
 {
-    exit(domain, readings, visit.place, visit.time, packet, room);
+    ioam_node_visit::exit(domain, readings, visit.place, visit.time, packet, room);
     crossings.cross(packet);
 }
 
@@ -145,9 +145,9 @@ pub(crate) fn send(
         → Sent domain.now readings.now tunnel [] packet.old crossings.old.past room.old
         → Sent domain.now readings.now tunnel (take count visits.now) packet.new crossings.new.past room.new }
 {
-    enter(domain, readings, &visits[0], packet, crossings, room);
+    begin(domain, readings, &visits[0], packet, crossings, room);
     for i in 1..count {
-        pass_on(domain, readings, &visits[i], packet, crossings, room);
+        transit(domain, readings, &visits[i], packet, crossings, room);
     }
 }
 
@@ -179,5 +179,5 @@ pub(crate) fn send_out(
 {
     let last = visits.len() - 1;
     send(domain, readings, visits, last, packet, crossings, room);
-    come_out(domain, readings, &visits[last], packet, crossings, room);
+    exit(domain, readings, &visits[last], packet, crossings, room);
 }

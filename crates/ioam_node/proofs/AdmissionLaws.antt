@@ -1,14 +1,23 @@
 -- The reasons that hold of a packet whose chain is whole and has no IOAM option.
-use Rattle.std.proofs.Common.{◌≡◌, ℕ, ◌<◌, ◌≤◌, List, true, false, Option, sym, ◌∙◌, ap, arith}
+use Rattle.std.proofs.Common.{◌≡◌, ℕ, ◌<◌, ◌≤◌, List, true, false, Option, Some, sym, ◌∙◌, ap, arith}
+use Rattle.ioam_ip.specs.Framing.{Framing, Holds, NoIpv6, CutShort, TooShort}
 use Rattle.ioam_ip.specs.Header.{HasFields}
 use Rattle.ioam_ip.specs.declared.packet.Header.{Header}
 use Rattle.ioam_topo.specs.declared.domain.Domain.{Domain}
 use Rattle.ioam_topo.specs.declared.ids.FlowId.{FlowId}
 use Rattle.ioam_topo.specs.Domain.{is_local}
-use Rattle.ioam_node.specs.Admission.{Refuses, IsFree, CanEnter, flow_for}
+use Rattle.ioam_node.specs.Admission.{Admits, Refuses, IsFree, CanEnter, flow_for, reason_of}
 use Rattle.ioam_node.specs.Order.{IsFirst, rank}
+use Rattle.ioam_node.specs.declared.admitted.Admit.TheVariants as admit
 use Rattle.ioam_node.specs.declared.reason.Reason.{Reason}
 use Rattle.ioam_node.specs.declared.reason.Reason.TheVariants as reason
+
+-- a frame that holds no packet is dropped for its reason
+pub Admits-drop : (domain : Domain) (node : ℕ) (framing : Framing) (why : Reason) → reason_of framing ≡ Some why → Admits domain node framing (admit.Drop why)
+Admits-drop domain node (Holds packet) why is = absurd (cc is)
+Admits-drop domain node NoIpv6 why is = cc is
+Admits-drop domain node CutShort why is = cc is
+Admits-drop domain node TooShort why is = cc is
 
 same_target : (packet : List ℕ) (a b : Header) → HasFields packet a → HasFields packet b → a.target ≡ b.target
 same_target packet a b first second = first.target ∙ sym second.target

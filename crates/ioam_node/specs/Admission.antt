@@ -57,6 +57,13 @@ AdmitsPacket domain node packet (admit.Plain kept) = (kept.now ≡ packet)
 AdmitsPacket domain node packet (admit.Enclose flow kept limit) = (kept.now ≡ packet) × LimitOf packet limit
     × ((header : Header) × CanEnter domain packet header × (flow_for domain node header ≡ Some flow))
 
+-- why a frame is dropped that holds no packet
+abbrev pub reason_of : Framing → Option Reason
+reason_of (Holds packet) = None
+reason_of NoIpv6 = Some reason.NotIpv6
+reason_of CutShort = Some reason.Cut
+reason_of TooShort = Some reason.Length
+
 -- what is answered is this reason
 abbrev pub IsDrop : Reason → Admit → Type 0
 IsDrop reason (admit.Drop other) = other ≡ reason

@@ -1,7 +1,8 @@
+//! What becomes of a frame that arrives.
 use crate::reason::Reason;
 use ioam_topo::FlowId;
 
-/// What becomes of a frame that arrives.
+/// What becomes of a frame that arrives: its packet, enclosed or as it is, or why it is dropped.
 #[derive(Clone, Copy, Debug, PartialEq, Eq)]
 pub enum Admit<'a> {
     /// The packet is to be enclosed in a flow. `limit` is the Tunnel Encapsulation Limit that

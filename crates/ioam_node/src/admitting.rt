@@ -7,8 +7,8 @@ ghost use Rattle.ioam_topo.specs.Domain.{ports};
 ghost use Rattle.ioam_node.specs.Admission.{Admits, AdmitsPacket, HoldsPacket, IsFree, KnowsFlow};
 
 use crate::admitted::Admit;
-use crate::reason::Reason;
-use ioam_ip::{Framed, Header, Walk, header, packet_of, walk};
+use crate::reason::{Reason, packet_or_reason};
+use ioam_ip::{Header, Walk, header, packet_of, walk};
 use ioam_topo::{Domain, NodeId, PortId};
 
 /// What becomes of a frame that arrives at a port of the domain: its packet, without what follows
@@ -47,11 +47,9 @@ fn admit_at<'a>(
     ensures packet { HoldsPacket result }
     ensures known { KnowsFlow domain.now result }
 {
-    match packet_of(ethernet, cut, frame) {
-        Framed::Packet(packet) => admit_packet(domain, node, packet),
-        Framed::NotIpv6 => Admit::Drop(Reason::NotIpv6),
-        Framed::Cut => Admit::Drop(Reason::Cut),
-        Framed::Length => Admit::Drop(Reason::Length),
+    match packet_or_reason(packet_of(ethernet, cut, frame)) {
+        Ok(packet) => admit_packet(domain, node, packet),
+        Err(reason) => Admit::Drop(reason),
     }
 }
 

@@ -15,7 +15,7 @@ use ioam_topo::{Domain, LinkId, NodeId, PortId, Way};
 /// `hops` is the hop limit that this node would lower, `target` the address that is routed, and
 /// `size` the octets of the packet as it would be sent. `enclosed` says that the packet is enclosed
 /// or is to be.
-pub fn choose(
+pub fn transit(
     domain: &Domain,
     node: NodeId,
     enclosed: bool,
@@ -52,7 +52,7 @@ pub fn choose(
 /// `hops` is the packet's own hop limit, `target` the address of the tunnel's exit, and `size` the
 /// octets of the outer packet. `refused` says that the packet may not be enclosed once more: its
 /// Tunnel Encapsulation Limit is 0 (RFC 2473 section 4.1.1).
-pub fn enter(
+pub fn begin(
     domain: &Domain,
     node: NodeId,
     refused: bool,
@@ -89,7 +89,7 @@ pub fn enter(
 /// domain at the exits of their tunnels.
 ///
 /// `hops` is the hop limit that the packet has there, and `target` its own target.
-pub fn go_out(domain: &Domain, node: NodeId, hops: u8, target: u128) -> Result<PortId, Reason>
+pub fn exit(domain: &Domain, node: NodeId, hops: u8, target: u128) -> Result<PortId, Reason>
     ensures port { result ≡ exit_choice domain.now node.0 hops target }
     ensures first { MatchResult result (Leaves domain.now node.0 hops target)
         (IsFirst (StopsExit domain.now node.0 hops target)) }

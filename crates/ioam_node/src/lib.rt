@@ -10,6 +10,6 @@ mod reason;
 
 pub use admitted::Admit;
 pub use admitting::admit;
-pub use choosing::{choose, enter, go_out};
+pub use choosing::{begin, exit, transit};
 pub use place::Place;
-pub use reason::Reason;
+pub use reason::{Reason, packet_or_reason};

@@ -1,3 +1,4 @@
+//! Where a packet is visited.
 use ioam_topo::NodeId;
 
 /// Where a packet is visited: a node, and its interfaces there by their ids.

@@ -1,3 +1,11 @@
+//! Why a packet is dropped.
+ghost use Rattle.std.specs.Prelude.{◌≡◌, IfOk, IfErr, Some};
+ghost use Rattle.ioam_ip.specs.Framed.{framing};
+ghost use Rattle.ioam_ip.specs.Framing.{Holds};
+ghost use Rattle.ioam_node.specs.Admission.{reason_of};
+
+use ioam_ip::Framed;
+
 /// Why a packet is dropped, in the order in which the reasons are looked for.
 #[derive(Clone, Copy, Debug, PartialEq, Eq)]
 pub enum Reason {
@@ -26,4 +34,17 @@ pub enum Reason {
     /// The packet is enclosed and would leave the domain at another node than its exit: IOAM data
     /// doesn't leave its domain (RFC 9197 section 3).
     IoamOut,
+}
+
+/// The packet that a frame gave, or why the frame is dropped that gave none: `NotIpv6`, `Cut`, `Length`.
+pub fn packet_or_reason(framed: Framed<'_>) -> Result<&[u8], Reason>
+    ensures packet { IfOk result (λ packet. framing framed.entry ≡ Holds packet.now) }
+    ensures reason { IfErr result (λ reason. reason_of (framing framed.entry) ≡ Some reason) }
+{
+    match framed {
+        Framed::Packet(packet) => Ok(packet),
+        Framed::NotIpv6 => Err(Reason::NotIpv6),
+        Framed::Cut => Err(Reason::Cut),
+        Framed::Length => Err(Reason::Length),
+    }
 }

@@ -8,23 +8,6 @@ use Rattle.ioam_ip.specs.Packet.{IsPacket}
 use Rattle.ioam_ip.specs.Rewriting.{options_in}
 use Rattle.ioam_ip.proofs.SoundLaws.{after, part, facts_of, zero_is}
 
-not_zero : (n : ℕ) → (n ≡ 0 → ⊥) → eqb n 0 ≡ false
-not_zero n never = by_test (eqb n 0) refl where
-  by_test : (b : Bool) → eqb n 0 ≡ b → b ≡ false
-  by_test true is = absurd (never (zero_is n is))
-  by_test false is = refl
-
--- without that header there are none
-pub options_none : (packet : List ℕ) → (slice_index packet 6 ≡ 0 → ⊥) → hop_options packet ≡ []
-options_none packet never = ap (λ b. cond b (options_in (hop_head packet)) []) (not_zero (slice_index packet 6) never)
-
--- with it they are those of its octets, as its length says
-pub options_there : (packet : List ℕ) → slice_index packet 6 ≡ 0 → (said : ℕ) → said ≡ slice_index packet 41
-    → hop_options packet ≡ options_in (take ((40 + (said + 1) * 8) - 40) (drop 40 packet))
-options_there packet is said same =
-    ap (λ n. cond (eqb n 0) (options_in (hop_head packet)) []) is
-    ∙ ap (λ n. options_in (take ((40 + (n + 1) * 8) - 40) (drop 40 packet))) (sym same)
-
 -- another hop limit changes none of them
 pub options_lowered : (packet : List ℕ) (limit : ℕ) → hop_options (set packet 7 limit) ≡ hop_options packet
 options_lowered packet limit =

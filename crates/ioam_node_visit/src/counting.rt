@@ -1,12 +1,13 @@
+//! How many options a packet has for the nodes that it visits.
 ghost use Rattle.std.specs.Prelude.{◌≡◌, ◌≤◌, if◌then◌else◌, length};
 ghost use Rattle.ioam_ip.specs.Chain.{IsSound};
 ghost use Rattle.ioam_ip.specs.Findings.{is_ioam_type};
-ghost use Rattle.ioam_ip.specs.Hop.{HopFits, ioam_count, option_count};
+ghost use Rattle.ioam_ip.specs.Hop.{ioam_count, option_count};
 ghost use Rattle.ioam_ip.specs.Packet.{IsPacket};
 ghost use Rattle.ioam_ip.specs.Rewriting.{options_in};
 
-use ioam_ip::next_option;
 use ioam_ip::option_type::is_ioam_type;
+use ioam_ip::{hop_header, next_option};
 
 // 1 for an IOAM option, 0 for another.
 fn counted(kind: u8) -> u32
@@ -31,19 +32,6 @@ fn count_in(head: &[u8]) -> u32
     count
 }
 
-// How many that of a packet has, where it lies within the packet.
-fn count_hop(packet: &[u8]) -> u32
-    requires { HopFits packet.now }
-    ensures value { result ≡ option_count packet.now }
-    ensures small { result ≤ 4096 }
-{
-    if packet[6] != 0 {
-        return 0;
-    }
-    let end = 40 + (usize::from(packet[41]) + 1) * 8;
-    count_in(&packet[40..end])
-}
-
 /// How many IOAM options the outer Hop-by-Hop Options header of a packet has. The chain of its headers
 /// is whole, so there are at most 4,096.
 pub fn option_count(packet: &[u8]) -> u32
@@ -52,5 +40,8 @@ pub fn option_count(packet: &[u8]) -> u32
     ensures value { result ≡ option_count packet.now }
     ensures small { result ≤ 4096 }
 {
-    count_hop(packet)
+    match hop_header(packet) {
+        Some(hop) => count_in(&packet[hop]),
+        None => 0,
+    }
 }

@@ -5,7 +5,7 @@ ghost use Rattle.ioam_node_visit.specs.Leaving.{HasInner, IsInner, LeavesSo, Lea
 
 use crate::left::Leave;
 use ioam_ip::header;
-use ioam_node::go_out;
+use ioam_node::exit;
 use ioam_topo::{Domain, NodeId};
 use ioam_tunnel::inner;
 use std::ops::Range;
@@ -17,7 +17,7 @@ fn leave_from(domain: &Domain, node: NodeId, packet: &[u8], range: Range<usize>)
     ensures inside { LeavesBy (length (ports domain.now)) result }
 {
     match header(&packet[range.start..]) {
-        Some(header) => match go_out(domain, node, header.hops, header.target) {
+        Some(header) => match exit(domain, node, header.hops, header.target) {
             Ok(port) => Leave::Out { port, inner: range },
             Err(reason) => Leave::Drop(reason),
         },

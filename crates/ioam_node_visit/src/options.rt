@@ -1,9 +1,10 @@
+//! The options of a header, changed one after the other.
 ghost use Rattle.std.specs.Prelude.{◌≡◌, ◌↔◌, ◌<◌, ◌≤◌, ◌^◌, ◌+◌, ◌++◌, length, slice_index};
 ghost use Rattle.ioam_clock.specs.Reading.{samples_of};
 ghost use Rattle.ioam_dex.specs.Reads.{records_octets};
 ghost use Rattle.ioam_ip.specs.Chain.{IsSound};
 ghost use Rattle.ioam_ip.specs.ChainOptions.{CarriesIoam};
-ghost use Rattle.ioam_ip.specs.Hop.{HopFits, hop_stepped, option_count};
+ghost use Rattle.ioam_ip.specs.Hop.{hop_stepped, option_count};
 ghost use Rattle.ioam_ip.specs.Packet.{IsPacket};
 ghost use Rattle.ioam_ip.specs.Rewriting.{options_in, with_steps};
 ghost use Rattle.ioam_topo.specs.Domain.{nodes};
@@ -16,7 +17,7 @@ ghost use Rattle.ioam_node_visit.specs.Step.{node_step};
 use crate::room::NodeRoom;
 use crate::visit::Visit;
 use ioam_clock::Sample;
-use ioam_ip::next_option;
+use ioam_ip::{hop_header, next_option};
 
 impl Visit<'_> {
     // Changes the options of a header as the node does.
@@ -49,7 +50,8 @@ impl Visit<'_> {
     pub(crate) fn change_packet(&self, packet: &mut [u8], room: &mut NodeRoom)
         requires node { self.now.place.node.0 < length (nodes self.now.domain.now) }
         requires time { self.now.time < 2 ^ 63 }
-        requires fits { HopFits packet.old }
+        requires packet { IsPacket packet.old }
+        requires sound { IsSound packet.old }
         requires room { option_count packet.old ≤ room.old.spare }
         ensures notes { let notes = notes_of self.now.domain.now self.now.readings.now self.now.place self.now.time self.now.hops in
             room.new.notes ≡ room.old.notes ++ hop_notes notes packet.old }
@@ -60,12 +62,11 @@ impl Visit<'_> {
         ensures steps { let step = node_step self.now.domain.now self.now.readings.now self.now.place self.now.time self.now.hops in
             packet.new ≡ hop_stepped step packet.old }
     {
-        if packet[6] != 0 {
+        let Some(hop) = hop_header(packet) else {
             return;
-        }
-        let end = 40 + (usize::from(packet[41]) + 1) * 8;
+        };
         let sample = self.sample();
-        self.change_options(sample, &mut packet[40..end], room);
+        self.change_options(sample, &mut packet[hop], room);
     }
 
     // The same of a packet with a whole chain.

@@ -1,5 +1,5 @@
 -- What was enclosed of the arrivals before one.
-use Rattle.std.specs.Prelude.{◌≡◌, ⊤, ℕ, ◌<◌, Bool, false, nat_eq, List, Option, Some, None, length, slice_get, slice_index, count_by}
+use Rattle.std.specs.Prelude.{◌≡◌, ◌^◌, ⊤, ℕ, ◌<◌, Bool, false, nat_eq, List, Option, Some, None, length, slice_get, slice_index, count_by}
 use Rattle.ioam_topo.specs.declared.domain.Domain.{Domain}
 use Rattle.ioam_topo.specs.declared.ids.FlowId.{FlowId}
 use Rattle.ioam_topo.specs.Domain.{flows}
@@ -27,4 +27,4 @@ pub record CountFor (domain : Domain) (counters : List ℕ) (earlier : List Itin
 -- the flow of what is carried, if it is, has a number that can rise
 abbrev pub CanCount : List ℕ → Option (FlowId × Numbers) → Type 0
 CanCount counters None = ⊤
-CanCount counters (Some carried) = (carried.0.0 < length counters) × (slice_index counters carried.0.0 < 4294967296)
+CanCount counters (Some carried) = (carried.0.0 < length counters) × (slice_index counters carried.0.0 < 2 ^ 32)

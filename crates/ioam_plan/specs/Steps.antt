@@ -15,7 +15,7 @@ use Rattle.ioam_plan.specs.Rides.{IsVisitIn, Sends, SendsBy, SendsToExit}
 
 -- as many links as the hop limit allows, each with the longest delay, end in time
 abbrev pub IsInTime : Spot → Type 0
-IsInTime spot = spot.time + spot.hops * 4294967296 < 2 ^ 63
+IsInTime spot = spot.time + spot.hops * 2 ^ 32 < 2 ^ 63
 
 -- the stage is one of the domain, in time, and an outer packet has a hop limit
 abbrev pub IsHere : Domain → Stage → Type 0

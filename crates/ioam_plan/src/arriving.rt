@@ -1,3 +1,4 @@
+//! The journey of a frame that arrives at a port, planned before it moves.
 ghost use Rattle.std.specs.Prelude.{◌≡◌, ◌≤◌, ◌<◌, ◌^◌, ◌∷◌, ◌++◌, [], List, All, IfOk, IfErr, length, slice_get, Some, IsSomeAnd};
 ghost use Rattle.ioam_ip.specs.Header.{HasFields};
 ghost use Rattle.ioam_ip.specs.Chain.{IsSound};

@@ -1,3 +1,4 @@
+//! What is planned of a packet: its visits, how its journey ends, and in which flow it is enclosed.
 ghost use Rattle.std.specs.Prelude.{◌≡◌, ◌≤◌, length};
 ghost use Rattle.ioam_plan.specs.Journey.{carried_by};
 

@@ -77,14 +77,11 @@ pub fn outward_of(domain: &Domain, way: Way) -> Option<u32>
     ensures { result ≡ outward_of domain.now way }
 {
     match way {
-        Way::Link(link) => match domain.links().get(link.0 as usize) {
-            Some(link) => Some(link.out_id),
-            None => None,
-        },
-        Way::Port(port) => match domain.ports().get(port.0 as usize) {
-            Some(port) => Some(port.id),
-            None => None,
-        },
+        Way::Link(link) => domain
+            .links()
+            .get(link.0 as usize)
+            .map(|link| link.out_id),
+        Way::Port(port) => domain.ports().get(port.0 as usize).map(|port| port.id),
     }
 }
 
@@ -92,10 +89,7 @@ pub fn outward_of(domain: &Domain, way: Way) -> Option<u32>
 fn outward_by(domain: &Domain, way: Option<Way>) -> Option<u32>
     ensures { result ≡ outward_by domain.now way }
 {
-    match way {
-        Some(way) => outward_of(domain, way),
-        None => None,
-    }
+    outward_of(domain, way?)
 }
 
 impl Entry {
@@ -126,9 +120,9 @@ impl Spot {
 
     // Where the packet is once it crossed a link, with this hop limit.
     pub(crate) fn crossed(self, link: &Link, hops: u8) -> Spot
-        requires time { self.time + 4294967296 < 2 ^ 64 }
+        requires time { self.time + 2 ^ 32 < 2 ^ 64 }
         ensures spot { result ≡ crossed self hops (Some link.now) }
-        ensures soon { result.time < self.time + 4294967296 }
+        ensures soon { result.time < self.time + 2 ^ 32 }
     {
         Spot {
             node: link.to,

@@ -9,7 +9,6 @@ ghost use Rattle.ioam_plan.specs.Steps.{IsHere, IsInTime, StepsTo};
 
 use crate::itinerary::End;
 use crate::stage::{Entry, Inside, Spot, Stage, Step, Trip};
-use ioam_node::{choose, enter, go_out};
 use ioam_topo::{Domain, Link, LinkId, NodeId, Way};
 
 // The link of a place in the file.
@@ -22,12 +21,12 @@ fn link_of(domain: &Domain, link: LinkId) -> &Link
 }
 
 // Where a packet enters its tunnel.
-fn step_in(domain: &Domain, trip: &Trip, spot: Spot, entry: Entry) -> Step
+fn begin(domain: &Domain, trip: &Trip, spot: Spot, entry: Entry) -> Step
     requires here { IsHere domain.now (Stage.Enter spot entry) }
     ensures step { result ≡ step_at domain.now trip.now (Stage.Enter spot entry) }
     ensures facts { StepsTo domain.now trip.now (Stage.Enter spot entry) result }
 {
-    match enter(
+    match ioam_node::begin(
         domain,
         spot.node,
         entry.refused,
@@ -50,13 +49,13 @@ fn step_in(domain: &Domain, trip: &Trip, spot: Spot, entry: Entry) -> Step
 }
 
 // Where it doesn't, and its tunnel, if it is in one, doesn't end: it is sent on.
-fn step_on(domain: &Domain, trip: &Trip, spot: Spot, enclosed: bool) -> Step
+fn transit(domain: &Domain, trip: &Trip, spot: Spot, enclosed: bool) -> Step
     requires here { IsHere domain.now (Stage.At spot) }
     ensures step { result ≡ sent_on domain.now spot (spot.hops - 1)
         (choice domain.now spot.node.0 enclosed spot.hops trip.now.target trip.now.size) }
     ensures facts { StepsTo domain.now trip.now (Stage.At spot) result }
 {
-    match choose(
+    match ioam_node::transit(
         domain,
         spot.node,
         enclosed,
@@ -89,24 +88,24 @@ fn step_from(domain: &Domain, trip: &Trip, spot: Spot) -> Step
     ensures facts { StepsTo domain.now trip.now (Stage.At spot) result }
 {
     match trip.inside {
-        None => step_on(domain, trip, spot, false),
+        None => transit(domain, trip, spot, false),
         Some(inside) => {
             if inside.exit.0 == spot.node.0 {
                 Step::Goes(spot.visit(domain, None), Stage::Out(spot.node, inside))
             } else {
-                step_on(domain, trip, spot, true)
+                transit(domain, trip, spot, true)
             }
         }
     }
 }
 
 // Where it came out of its tunnel: it leaves by a port of that node.
-fn step_out(domain: &Domain, trip: &Trip, node: NodeId, inside: Inside) -> Step
+fn exit(domain: &Domain, trip: &Trip, node: NodeId, inside: Inside) -> Step
     requires here { IsHere domain.now (Stage.Out node inside) }
     ensures step { result ≡ step_at domain.now trip.now (Stage.Out node inside) }
     ensures facts { StepsTo domain.now trip.now (Stage.Out node inside) result }
 {
-    match go_out(domain, node, inside.hops, inside.target) {
+    match ioam_node::exit(domain, node, inside.hops, inside.target) {
         Ok(port) => Step::Ends(End::Left { port }, true),
         Err(reason) => Step::Ends(End::Drop { reason, node }, true),
     }
@@ -119,9 +118,9 @@ pub(crate) fn take_step(domain: &Domain, trip: &Trip, stage: Stage) -> Step
     ensures facts { StepsTo domain.now trip.now stage result }
 {
     match stage {
-        Stage::Enter(spot, entry) => step_in(domain, trip, spot, entry),
+        Stage::Enter(spot, entry) => begin(domain, trip, spot, entry),
         Stage::At(spot) => step_from(domain, trip, spot),
         Stage::Gone(port) => Step::Ends(End::Left { port }, false),
-        Stage::Out(node, inside) => step_out(domain, trip, node, inside),
+        Stage::Out(node, inside) => exit(domain, trip, node, inside),
     }
 }

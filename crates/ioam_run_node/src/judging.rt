@@ -12,7 +12,7 @@ ghost use Rattle.ioam_run_node.specs.Seat.{seat_of};
 
 use crate::post::Post;
 use ioam_ip::{Framed, Walk, header, walk};
-use ioam_node::{Reason, choose};
+use ioam_node::{Reason, transit};
 use ioam_pcap::{Link, Packet};
 use ioam_run_stream::framed;
 use ioam_topo::Way;
@@ -79,7 +79,7 @@ impl Post<'_> {
         if header.target == self.domain.node(self.node).address {
             return Err(Reason::Local);
         }
-        choose(
+        transit(
             self.domain,
             self.node,
             ioam,

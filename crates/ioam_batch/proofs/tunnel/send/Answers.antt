@@ -10,22 +10,22 @@ pub loop-i-init : goal.loop-i-init
 loop-i-init c =
     let visits = c.args.visits.now in
     let inside : 0 < length visits = omega (arith, c.requires.some, c.requires.count) in (
-      c.enter.ensures.packet,
-      c.enter.ensures.sound,
-      omega (arith, c.enter.ensures.hops),
-      c.enter.ensures.count,
-      omega (arith, c.enter.ensures.spare),
-      c.enter.ensures.given,
-      c.enter.ensures.ahead ∙ ap (drop 1) c.requires.ahead,
-      c.enter.ensures.size,
-      c.enter.ensures.kept,
+      c.begin.ensures.packet,
+      c.begin.ensures.sound,
+      omega (arith, c.begin.ensures.hops),
+      c.begin.ensures.count,
+      omega (arith, c.begin.ensures.spare),
+      c.begin.ensures.given,
+      c.begin.ensures.ahead ∙ ap (drop 1) c.requires.ahead,
+      c.begin.ensures.size,
+      c.begin.ensures.kept,
       (λ tunnel is so.
-          let P : List Visit → Type 0 = λ vs. Sent c.args.domain.now c.args.readings.now tunnel vs c.enter.new.packet c.enter.new.crossings.past c.enter.new.room in
-          subst P (sym (take_more visits 0 _ inside)) (c.enter.ensures.sent tunnel is so)),
+          let P : List Visit → Type 0 = λ vs. Sent c.args.domain.now c.args.readings.now tunnel vs c.begin.new.packet c.begin.new.crossings.past c.begin.new.room in
+          subst P (sym (take_more visits 0 _ inside)) (c.begin.ensures.sent tunnel is so)),
     )
 
-pub pass_on-requires-clause-tap : goal.pass_on-requires-clause-tap
-pass_on-requires-clause-tap c =
+pub transit-requires-clause-tap : goal.transit-requires-clause-tap
+transit-requires-clause-tap c =
     let visits = c.args.visits.now in
     let inside : c.loop-i.i < length visits = omega (arith, c.requires.count) in
     ap (λ (ts : List Bool). get_or ts 0 false) c.loop-i.invariant.6 ∙ tap-at (is_tapped c.args.domain.now) visits c.loop-i.i _ inside
@@ -36,18 +36,18 @@ loop-i-preserved c =
     let invariant = c.loop-i.invariant in
     let inside : c.loop-i.i < length visits = omega (arith, c.requires.count) in
     let some : 1 ≤ length (take c.loop-i.i visits) = omega (arith, inside, length-take-le c.loop-i.i visits (omega (arith, inside))) in (
-      c.pass_on.ensures.packet,
-      c.pass_on.ensures.sound,
-      omega (arith, c.pass_on.ensures.hops, invariant.2),
-      c.pass_on.ensures.count ∙ invariant.3,
-      omega (arith, c.pass_on.ensures.spare, invariant.3, invariant.4),
-      c.pass_on.ensures.given ∙ invariant.5,
-      c.pass_on.ensures.ahead ∙ ap (drop 1) invariant.6 ∙ drop-drop 1 c.loop-i.i (map (is_tapped c.args.domain.now) visits),
-      c.pass_on.ensures.size ∙ invariant.7,
-      c.pass_on.ensures.kept ∙ invariant.8,
+      c.transit.ensures.packet,
+      c.transit.ensures.sound,
+      omega (arith, c.transit.ensures.hops, invariant.2),
+      c.transit.ensures.count ∙ invariant.3,
+      omega (arith, c.transit.ensures.spare, invariant.3, invariant.4),
+      c.transit.ensures.given ∙ invariant.5,
+      c.transit.ensures.ahead ∙ ap (drop 1) invariant.6 ∙ drop-drop 1 c.loop-i.i (map (is_tapped c.args.domain.now) visits),
+      c.transit.ensures.size ∙ invariant.7,
+      c.transit.ensures.kept ∙ invariant.8,
       (λ tunnel is so.
-          let P : List Visit → Type 0 = λ vs. Sent c.args.domain.now c.args.readings.now tunnel vs c.pass_on.new.packet c.pass_on.new.crossings.past c.pass_on.new.room in
-          subst P (sym (take_more visits c.loop-i.i _ inside)) (c.pass_on.ensures.sent tunnel (take c.loop-i.i visits) is some (invariant.9 tunnel is so))),
+          let P : List Visit → Type 0 = λ vs. Sent c.args.domain.now c.args.readings.now tunnel vs c.transit.new.packet c.transit.new.crossings.past c.transit.new.room in
+          subst P (sym (take_more visits c.loop-i.i _ inside)) (c.transit.ensures.sent tunnel (take c.loop-i.i visits) is some (invariant.9 tunnel is so))),
     )
 
 pub returns-clause-sent : goal.returns-clause-sent

@@ -15,7 +15,7 @@ returns-clause-exited c tunnel is so =
       front = take before visits;
       last = _;
       are = sym (take_all (before + 1) visits (omega (arith, two))) ∙ take_more visits before _ inside;
-      closed = c.come_out.ensures.closed tunnel (take before visits) is some (c.send.ensures.sent tunnel is so);
+      closed = c.exit.ensures.closed tunnel (take before visits) is some (c.send.ensures.sent tunnel is so);
     }
 
 pub returns-clause-ahead : goal.returns-clause-ahead
@@ -25,6 +25,6 @@ returns-clause-ahead c =
     let before = length visits - 1 in
     let sends = c.requires.sends in
     let two : 1 < length visits = omega (arith, sends.some, ap length sends.are, length-append sends.front (sends.last ∷ [])) in
-    c.come_out.ensures.ahead
+    c.exit.ensures.ahead
     ∙ ap (λ taps. drop 1 taps) c.send.ensures.ahead
     ∙ drop_all 1 (drop before (map f visits)) (omega (arith, two, length-drop before (map f visits), length-map visits f))

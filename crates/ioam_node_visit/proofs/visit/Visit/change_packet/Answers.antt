@@ -1,33 +1,37 @@
-use Rattle.std.proofs.Common.{◌≤◌, ◌+◌, ◌-◌, ◌*◌, ◌++◌, List, ℕ, arith, length, length-append, take, drop, [], sym, ap, ◌∙◌}
+use Rattle.std.proofs.Common.{◌≤◌, ◌+◌, ◌-◌, ◌++◌, List, ℕ, arith, length, length-append, take, drop, [], sym, ap, ◌∙◌}
 use Rattle.std.proofs.lemmas.List.{append-nil}
 use Rattle.ioam_dex.specs.Reads.{records_octets}
 use Rattle.ioam_ip.specs.Hop.{option_count}
 use Rattle.ioam_ip.specs.Rewriting.{options_in}
-use Rattle.ioam_ip.proofs.HopLaws.{hop-put, count_is}
+use Rattle.ioam_ip.proofs.HopLaws.{hop_options-none, hop_options-is, option_count-is, hop_stepped-none, hop_stepped-is}
 use Rattle.ioam_node_visit.specs.Counted.{notes_in, records_in}
 use Rattle.ioam_node_visit.specs.Exports.{records_of}
 use Rattle.ioam_node_visit.specs.Notes.{notes_of}
 use Rattle.ioam_node_visit.specs.Step.{node_step}
-use Rattle.ioam_node_visit.proofs.CountedLaws.{options_none, options_there}
 use Rattle.ioam_node_visit.proofs.StepLaws.{notes_in_few}
 use Rattle.ioam_node_visit.proofs.visit.Visit.change_packet.Goals as goal
 
-pub returns-then-packet-ne0-clause-notes : goal.returns-then-packet-ne0-clause-notes
-returns-then-packet-ne0-clause-notes c =
+pub returns-in_default-clause-notes : goal.returns-in_default-clause-notes
+returns-in_default-clause-notes c =
     let v = c.args.self.now in
     let notes = notes_of v.domain.now v.readings.now v.place v.time v.hops in
-    sym (ap (λ os. c.args.room.now.notes ++ notes_in notes os) (options_none c.args.packet.now c.if-packet-ne0.true) ∙ append-nil c.args.room.now.notes)
+    sym (ap (λ os. c.args.room.now.notes ++ notes_in notes os) (hop_options-none c.args.packet.now c.in_default.ensures.place) ∙ append-nil c.args.room.now.notes)
 
-pub returns-then-packet-ne0-clause-exports : goal.returns-then-packet-ne0-clause-exports
-returns-then-packet-ne0-clause-exports c =
+pub returns-in_default-clause-exports : goal.returns-in_default-clause-exports
+returns-in_default-clause-exports c =
     let v = c.args.self.now in
     let records = records_of v.domain.now v.readings.now v.place v.time v.hops in
-    sym (ap (λ os. c.args.room.now.exports ++ records_octets (records_in records os)) (options_none c.args.packet.now c.if-packet-ne0.true) ∙ append-nil c.args.room.now.exports)
+    sym (ap (λ os. c.args.room.now.exports ++ records_octets (records_in records os)) (hop_options-none c.args.packet.now c.in_default.ensures.place) ∙ append-nil c.args.room.now.exports)
+
+pub returns-in_default-clause-steps : goal.returns-in_default-clause-steps
+returns-in_default-clause-steps c =
+    let v = c.args.self.now in
+    hop_stepped-none c.args.packet.now c.in_default.ensures.place (node_step v.domain.now v.readings.now v.place v.time v.hops)
 
 pub returns-clause-steps : goal.returns-clause-steps
 returns-clause-steps c =
     let v = c.args.self.now in
-    hop-put c.args.packet.now c.requires.fits c.if-packet-ne0.false c.from.result c.from.ensures c.change_options.new.head c.change_options.auto.head
+    hop_stepped-is c.args.packet.now c.in-Some.hop c.in-Some.ensures.place c.change_options.new.head c.change_options.auto.head
     (node_step v.domain.now v.readings.now v.place v.time v.hops) c.change_options.ensures.steps
 
 pub returns-clause-notes : goal.returns-clause-notes
@@ -35,34 +39,34 @@ returns-clause-notes c =
     let v = c.args.self.now in
     let notes = notes_of v.domain.now v.readings.now v.place v.time v.hops in
     c.change_options.ensures.notes
-    ∙ ap (λ os. c.args.room.now.notes ++ notes_in notes os) (sym (options_there c.args.packet.now c.if-packet-ne0.false c.from.result c.from.ensures))
+    ∙ ap (λ os. c.args.room.now.notes ++ notes_in notes os) (sym (hop_options-is c.args.packet.now c.in-Some.hop c.in-Some.ensures.place))
 
 pub returns-clause-exports : goal.returns-clause-exports
 returns-clause-exports c =
     let v = c.args.self.now in
     let records = records_of v.domain.now v.readings.now v.place v.time v.hops in
     c.change_options.ensures.exports
-    ∙ ap (λ os. c.args.room.now.exports ++ records_octets (records_in records os)) (sym (options_there c.args.packet.now c.if-packet-ne0.false c.from.result c.from.ensures))
+    ∙ ap (λ os. c.args.room.now.exports ++ records_octets (records_in records os)) (sym (hop_options-is c.args.packet.now c.in-Some.hop c.in-Some.ensures.place))
 
 pub change_options-requires-clause-room : goal.change_options-requires-clause-room
 change_options-requires-clause-room c =
     let v = c.args.self.now in
     let packet = c.args.packet.now in
-    let old : List ℕ = take ((40 + (c.from.result + 1) * 8) - 40) (drop 40 packet) in
-    let count = count_is packet c.requires.fits c.if-packet-ne0.false c.from.result c.from.ensures [] in
+    let hop = c.in-Some.hop in
+    let old : List ℕ = take (hop.end - hop.start) (drop hop.start packet) in
     let room : option_count packet ≤ c.args.room.now.spare = c.requires.room in
     let notes = notes_of v.domain.now v.readings.now v.place v.time v.hops in
     let small : length (notes_in notes (options_in old)) ≤ c.args.room.now.spare =
-    omega (arith, notes_in_few v.domain.now v.readings.now v.place v.time v.hops (options_in old), count, room) in
+    omega (arith, notes_in_few v.domain.now v.readings.now v.place v.time v.hops (options_in old), option_count-is packet hop c.in-Some.ensures.place, room) in
     small
 
 pub returns-clause-spare : goal.returns-clause-spare
 returns-clause-spare c =
     let v = c.args.self.now in
     let packet = c.args.packet.now in
-    let old : List ℕ = take ((40 + (c.from.result + 1) * 8) - 40) (drop 40 packet) in
-    let count = count_is packet c.requires.fits c.if-packet-ne0.false c.from.result c.from.ensures [] in
-    omega (arith, notes_in_few v.domain.now v.readings.now v.place v.time v.hops (options_in old), count, c.change_options.ensures.spare)
+    let hop = c.in-Some.hop in
+    let old : List ℕ = take (hop.end - hop.start) (drop hop.start packet) in
+    omega (arith, notes_in_few v.domain.now v.readings.now v.place v.time v.hops (options_in old), option_count-is packet hop c.in-Some.ensures.place, c.change_options.ensures.spare)
 
 pub returns-clause-given : goal.returns-clause-given
 returns-clause-given c =

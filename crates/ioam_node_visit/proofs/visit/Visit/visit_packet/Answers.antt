@@ -4,14 +4,11 @@ use Rattle.ioam_ip.specs.ChainOptions.{CarriesIoam}
 use Rattle.ioam_ip.specs.Hop.{option_count}
 use Rattle.ioam_ip.specs.Packet.{IsPacket}
 use Rattle.ioam_ip.proofs.CarriedLaws.{CarriesIoam-stepped, CarriesIoam-unstepped}
-use Rattle.ioam_ip.proofs.SoundLaws.{HopFits-IsSound, IsSound-stepped, option_count-stepped}
+use Rattle.ioam_ip.proofs.SoundLaws.{IsSound-stepped, option_count-stepped}
 use Rattle.ioam_node_visit.specs.Step.{node_step}
 use Rattle.ioam_node_visit.proofs.CountedLaws.{IsPacket-stepped, hops-stepped}
 use Rattle.ioam_node_visit.proofs.StepLaws.{length-step}
 use Rattle.ioam_node_visit.proofs.visit.Visit.visit_packet.Goals as goal
-
-pub change_packet-requires-clause-fits : goal.change_packet-requires-clause-fits
-change_packet-requires-clause-fits c = HopFits-IsSound c.args.packet.now c.requires.packet c.requires.sound
 
 pub returns-clause-packet : goal.returns-clause-packet
 returns-clause-packet c =

@@ -1,6 +1,6 @@
 use Rattle.std.proofs.Common.{get_or, false}
 use Rattle.ioam_batch.proofs.RanLaws.{enters}
-use Rattle.ioam_batch.proofs.tunnel.enter.Goals as goal
+use Rattle.ioam_batch.proofs.tunnel.begin.Goals as goal
 
 pub returns-clause-sent : goal.returns-clause-sent
 returns-clause-sent c tunnel is so =

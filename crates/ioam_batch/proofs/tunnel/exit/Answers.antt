@@ -2,7 +2,7 @@ use Rattle.std.proofs.Common.{◌≤◌, ap, ◌∙◌, length, map, get_or, fal
 use Rattle.std.proofs.lemmas.List.{length-map}
 use Rattle.ioam_batch.specs.Ran.{passed}
 use Rattle.ioam_batch.proofs.RanLaws.{closes}
-use Rattle.ioam_batch.proofs.tunnel.come_out.Goals as goal
+use Rattle.ioam_batch.proofs.tunnel.exit.Goals as goal
 use Rattle.ioam_plan.specs.Journey.{outward_by}
 
 pub exit-requires-clause-outward : goal.exit-requires-clause-outward

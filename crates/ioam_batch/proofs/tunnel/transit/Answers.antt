@@ -2,7 +2,7 @@ use Rattle.std.proofs.Common.{◌≤◌, length, map, get_or, false, arith}
 use Rattle.std.proofs.lemmas.List.{length-map}
 use Rattle.ioam_batch.specs.Ran.{passed}
 use Rattle.ioam_batch.proofs.RanLaws.{passes}
-use Rattle.ioam_batch.proofs.tunnel.pass_on.Goals as goal
+use Rattle.ioam_batch.proofs.tunnel.transit.Goals as goal
 
 pub returns-clause-sent : goal.returns-clause-sent
 returns-clause-sent c tunnel visits is some so =
