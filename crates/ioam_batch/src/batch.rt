@@ -8,10 +8,10 @@ use std::alloc::Global;
 use std::marker::Model;
 
 /// A batch has room while it has fewer jobs.
-const JOBS: usize = 256;
+const MOST_JOBS: usize = 256;
 
 /// A batch has room while its jobs have fewer octets reserved: 64 MiB.
-const RESERVED: u64 = 67_108_864;
+const MOST_RESERVED: u64 = 67_108_864;
 
 /// Jobs that are run together.
 #[derive(Drop)]
@@ -38,7 +38,7 @@ impl Batch {
         ensures { IfOk result (λ batch. batch ≡ []) }
     {
         Ok(Batch {
-            jobs: Vec::with_capacity(alloc, JOBS)?,
+            jobs: Vec::with_capacity(alloc, MOST_JOBS)?,
             reserved: 0,
         })
     }
@@ -48,7 +48,7 @@ impl Batch {
     pub fn has_room(&self) -> bool
         ensures { result ≡ has_room self.now }
     {
-        self.jobs.len() < JOBS && self.reserved < RESERVED
+        self.jobs.len() < MOST_JOBS && self.reserved < MOST_RESERVED
     }
 
     /// Puts a job behind the others. It takes no memory.

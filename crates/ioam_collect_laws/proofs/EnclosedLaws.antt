@@ -6,8 +6,8 @@ use Rattle.std.proofs.lemmas.List.Sums.{count_by-le-length, sum_by_push}
 use Rattle.std.proofs.lemmas.Bool.{eq-eqb}
 use Rattle.ioam_clock.specs.declared.sample.Sample.{Sample}
 use Rattle.ioam_run_texts.specs.Fate.{Frame, Fate, HasFate, AreFatesFrom}
-use Rattle.ioam_node.specs.declared.admitted.Admit.{Admit}
-use Rattle.ioam_node.specs.declared.admitted.Admit.TheVariants as admit
+use Rattle.ioam_node.specs.declared.answer.Admit.{Admit}
+use Rattle.ioam_node.specs.declared.answer.Admit.TheVariants as admit
 use Rattle.ioam_plan.specs.Counted.{enclosed_in, is_enclosed_in, is_of_flow}
 use Rattle.ioam_plan.specs.Drawn.{direct_number, numbers_of}
 use Rattle.ioam_plan.specs.Journey.{carried_by}

@@ -7,11 +7,11 @@ use Rattle.ioam_node.specs.declared.reason.Reason.TheVariants as reason
 use Rattle.ioam_plan.specs.Journey.{Reaches, across, crossed, sent_in, sent_on, step_at, visit_by}
 use Rattle.ioam_plan.specs.declared.itinerary.Visit.{Visit}
 use Rattle.ioam_plan.specs.declared.stage.Inside.{Inside}
-use Rattle.ioam_plan.specs.declared.stage.Spot.{Spot}
+use Rattle.ioam_plan.specs.declared.stage.JourneySpot.{JourneySpot}
 use Rattle.ioam_plan.specs.declared.stage.Stage.{Stage}
 use Rattle.ioam_plan.specs.declared.stage.Stage.TheVariants.{Enter, At, Gone, Out}
-use Rattle.ioam_plan.specs.declared.stage.Step.{Step}
-use Rattle.ioam_plan.specs.declared.stage.Step.TheVariants.{Goes, Ends}
+use Rattle.ioam_plan.specs.declared.stage.JourneyStep.{JourneyStep}
+use Rattle.ioam_plan.specs.declared.stage.JourneyStep.TheVariants.{Goes, Ends}
 use Rattle.ioam_plan.specs.declared.stage.Trip.{Trip}
 use Rattle.ioam_topo.specs.Domain.{nodes, links, ports, routes}
 use Rattle.ioam_topo.specs.Forward.{IsWayFrom, bits_of, fits, longest, way_to}
@@ -38,7 +38,7 @@ IsAlive (Gone port) = ⊤
 IsAlive (Out node inside) = ⊤
 
 -- a step leaves less room than this
-abbrev Narrows : ℕ → Step → Type 0
+abbrev Narrows : ℕ → JourneyStep → Type 0
 Narrows n (Goes visit next) = IsAlive next × (room next + 1 ≤ n)
 Narrows n (Ends end exited) = ⊤
 
@@ -57,30 +57,30 @@ module _ (domain : Domain) where
   link_there : (node target : ℕ) (link : LinkId) → Some (way.Link link) ≡ way_to (routes domain) node target → link.0 < length (links domain)
   link_there node target link is = link_by_route node target link (longest bits_of (fits node target) (routes domain)) refl (sym is)
 
-  crossed_by : (xs : List Link) (at : ℕ) (spot : Spot) (hops : ℕ) → at < length xs → (crossed spot hops (slice_get xs at)).hops ≡ hops
+  crossed_by : (xs : List Link) (at : ℕ) (spot : JourneySpot) (hops : ℕ) → at < length xs → (crossed spot hops (slice_get xs at)).hops ≡ hops
   crossed_by [] at spot hops inside = absurd (omega (arith, inside))
   crossed_by (x ∷ xs) zero spot hops inside = refl
   crossed_by (x ∷ xs) (suc at) spot hops inside = crossed_by xs at spot hops (omega (arith, inside))
 
   -- so it leads to a stage with the hop limit that is sent
-  across_is : (spot : Spot) (hops n : ℕ) (link : LinkId) → link.0 < length (links domain) → 1 ≤ hops → hops + 1 ≤ n
+  across_is : (spot : JourneySpot) (hops n : ℕ) (link : LinkId) → link.0 < length (links domain) → 1 ≤ hops → hops + 1 ≤ n
       → IsAlive (across domain spot hops link) × (room (across domain spot hops link) + 1 ≤ n)
   across_is spot hops n link inside some fits =
       let is = crossed_by (links domain) link.0 spot hops inside in
       (omega (arith, is, some), omega (arith, is, fits))
 
-  enter_link : (spot : Spot) (hops : ℕ) (link : LinkId) (refused big : Bool) → link.0 < length (links domain) → 1 ≤ hops
+  enter_link : (spot : JourneySpot) (hops : ℕ) (link : LinkId) (refused big : Bool) → link.0 < length (links domain) → 1 ≤ hops
       → Narrows (hops + 1) (sent_in domain spot hops (cond refused (Err reason.EncapLimit) (cond big (Err reason.TooBig) (Ok link))))
   enter_link spot hops link true big inside some = tt
   enter_link spot hops link false true inside some = tt
   enter_link spot hops link false false inside some = across_is spot hops (hops + 1) link inside some (omega arith)
 
-  enter_port : (spot : Spot) (hops : ℕ) (refused : Bool)
+  enter_port : (spot : JourneySpot) (hops : ℕ) (refused : Bool)
       → Narrows (hops + 1) (sent_in domain spot hops (cond refused (Err reason.EncapLimit) (Err reason.IoamOut)))
   enter_port spot hops true = tt
   enter_port spot hops false = tt
 
-  enter_by : (spot : Spot) (hops size target : ℕ) (refused low : Bool) (w : Option Way) → w ≡ way_to (routes domain) spot.node.0 target → 1 ≤ hops
+  enter_by : (spot : JourneySpot) (hops size target : ℕ) (refused low : Bool) (w : Option Way) → w ≡ way_to (routes domain) spot.node.0 target → 1 ≤ hops
       → Narrows (hops + 1) (sent_in domain spot hops (cond low (Err reason.HopLimit) (link_by domain refused size w)))
   enter_by spot hops size target refused true w is some = tt
   enter_by spot hops size target refused false None is some = tt
@@ -88,12 +88,12 @@ module _ (domain : Domain) where
       enter_link spot hops link refused (nat_lt (mtu_of domain link) size) (link_there spot.node.0 target link is) some
   enter_by spot hops size target refused false (Some (way.Port port)) is some = enter_port spot hops refused
 
-  on_link : (spot : Spot) (link : LinkId) (big : Bool) → link.0 < length (links domain) → 2 ≤ spot.hops
+  on_link : (spot : JourneySpot) (link : LinkId) (big : Bool) → link.0 < length (links domain) → 2 ≤ spot.hops
       → Narrows spot.hops (sent_on domain spot (spot.hops - 1) (cond big (Err reason.TooBig) (Ok (way.Link link))))
   on_link spot link true inside some = tt
   on_link spot link false inside some = across_is spot (spot.hops - 1) spot.hops link inside (omega arith) (omega arith)
 
-  on_by : (spot : Spot) (size target : ℕ) (low : Bool) (w : Option Way) → nat_le spot.hops 1 ≡ low → w ≡ way_to (routes domain) spot.node.0 target
+  on_by : (spot : JourneySpot) (size target : ℕ) (low : Bool) (w : Option Way) → nat_le spot.hops 1 ≡ low → w ≡ way_to (routes domain) spot.node.0 target
       → Narrows spot.hops (sent_on domain spot (spot.hops - 1) (cond low (Err reason.HopLimit) (way_by domain true size w)))
   on_by spot size target true w high is = tt
   on_by spot size target false None high is = tt
@@ -101,7 +101,7 @@ module _ (domain : Domain) where
       on_link spot link (nat_lt (mtu_of domain link) size) (link_there spot.node.0 target link is) (let more = leb-false spot.hops 1 high in omega arith)
   on_by spot size target false (Some (way.Port port)) high is = tt
 
-  at_by : (spot : Spot) (size target : ℕ) (inside : Inside) (here : Bool) → 1 ≤ spot.hops
+  at_by : (spot : JourneySpot) (size target : ℕ) (inside : Inside) (here : Bool) → 1 ≤ spot.hops
       → Narrows spot.hops (cond here (Goes (visit_by domain spot None) (Out spot.node inside))
       (sent_on domain spot (spot.hops - 1) (choice domain spot.node.0 true spot.hops target size)))
   at_by spot size target inside true some = (tt, some)

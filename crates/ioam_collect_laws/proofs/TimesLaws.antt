@@ -6,8 +6,8 @@ use Rattle.std.proofs.lemmas.List.Elements.{recursion_from_All}
 use Rattle.ioam_clock.specs.declared.sample.Sample.{Sample}
 use Rattle.ioam_run_texts.specs.Fate.{Frame, Fate, HasFate, AreFatesFrom}
 use Rattle.ioam_node.specs.Choice.{choice, entry_choice}
-use Rattle.ioam_node.specs.declared.admitted.Admit.{Admit}
-use Rattle.ioam_node.specs.declared.admitted.Admit.TheVariants as admit
+use Rattle.ioam_node.specs.declared.answer.Admit.{Admit}
+use Rattle.ioam_node.specs.declared.answer.Admit.TheVariants as admit
 use Rattle.ioam_node.specs.declared.reason.Reason.{Reason}
 use Rattle.ioam_plan.specs.Counted.{enclosed_in}
 use Rattle.ioam_plan.specs.Drawn.{numbers_of}
@@ -16,11 +16,11 @@ use Rattle.ioam_plan.specs.Plans.{PlansBy, PlansFlow, flow_trip, start_of, entry
 use Rattle.ioam_plan.specs.declared.itinerary.Itinerary.{Itinerary}
 use Rattle.ioam_plan.specs.declared.itinerary.Visit.{Visit}
 use Rattle.ioam_plan.specs.declared.stage.Inside.{Inside}
-use Rattle.ioam_plan.specs.declared.stage.Spot.{Spot}
+use Rattle.ioam_plan.specs.declared.stage.JourneySpot.{JourneySpot}
 use Rattle.ioam_plan.specs.declared.stage.Stage.{Stage}
 use Rattle.ioam_plan.specs.declared.stage.Stage.TheVariants.{Enter, At, Gone, Out}
-use Rattle.ioam_plan.specs.declared.stage.Step.{Step}
-use Rattle.ioam_plan.specs.declared.stage.Step.TheVariants.{Goes, Ends}
+use Rattle.ioam_plan.specs.declared.stage.JourneyStep.{JourneyStep}
+use Rattle.ioam_plan.specs.declared.stage.JourneyStep.TheVariants.{Goes, Ends}
 use Rattle.ioam_plan.specs.declared.stage.Trip.{Trip}
 use Rattle.ioam_topo.specs.Domain.{flows, links, ports}
 use Rattle.ioam_topo.specs.Sound.{IsLink}
@@ -41,7 +41,7 @@ abbrev pub HasRoom : Visit → Type 0
 HasRoom visit = (visit.time < 18446744073709551616) × (visit.place.inward < 4294967296)
 
 -- no later than this, by an interface of 32 bits
-abbrev IsSpot : ℕ → Spot → Type 0
+abbrev IsSpot : ℕ → JourneySpot → Type 0
 IsSpot time spot = (spot.time ≤ time) × (spot.inward < 4294967296)
 
 abbrev IsHeld : ℕ → Stage → Type 0
@@ -54,11 +54,11 @@ abbrev IsVisitBy : ℕ → Visit → Type 0
 IsVisitBy time visit = (visit.time ≤ time) × (visit.place.inward < 4294967296)
 
 -- a step leads to a stage no later than the longest delay of a link after
-abbrev Holds : ℕ → Step → Type 0
+abbrev Holds : ℕ → JourneyStep → Type 0
 Holds time (Goes visit next) = IsVisitBy time visit × IsHeld (time + 1000000000) next
 Holds time (Ends end exited) = ⊤
 
-crossed_held : (xs : List Link) (at time hops : ℕ) (spot : Spot) → AllByRecursion IsLink xs → AllByRecursion (λ (link : Link). link.in_id < 4294967296) xs
+crossed_held : (xs : List Link) (at time hops : ℕ) (spot : JourneySpot) → AllByRecursion IsLink xs → AllByRecursion (λ (link : Link). link.in_id < 4294967296) xs
     → IsSpot time spot → IsSpot (time + 1000000000) (crossed spot hops (slice_get xs at))
 crossed_held [] at time hops spot sound faces is = let early = is.0 in (omega (arith, early), is.1)
 crossed_held (x ∷ xs) zero time hops spot sound faces is =
@@ -68,24 +68,24 @@ crossed_held (x ∷ xs) zero time hops spot sound faces is =
 crossed_held (x ∷ xs) (suc at) time hops spot sound faces is = crossed_held xs at time hops spot sound.1 faces.1 is
 
 module _ (domain : Domain) (faces : HasFaces domain) where
-  across_held : (link : LinkId) (time hops : ℕ) (spot : Spot) → IsSpot time spot → IsSpot (time + 1000000000) (crossed spot hops (slice_get (links domain) link.0))
+  across_held : (link : LinkId) (time hops : ℕ) (spot : JourneySpot) → IsSpot time spot → IsSpot (time + 1000000000) (crossed spot hops (slice_get (links domain) link.0))
   across_held link time hops spot is =
       crossed_held (links domain) link.0 time hops spot (recursion_from_All IsLink (links domain) domain.sound_links.sound)
       (recursion_from_All (λ (l : Link). l.in_id < 4294967296) (links domain) faces.links_below) is
 
-  led_held : (w : Way) (time hops : ℕ) (spot : Spot) → IsSpot time spot → IsHeld (time + 1000000000) (led domain spot hops w)
+  led_held : (w : Way) (time hops : ℕ) (spot : JourneySpot) → IsSpot time spot → IsHeld (time + 1000000000) (led domain spot hops w)
   led_held (way.Link link) time hops spot is = across_held link time hops spot is
   led_held (way.Port port) time hops spot is = tt
 
-  sent_holds : (r : Result Way Reason) (time hops : ℕ) (spot : Spot) → IsSpot time spot → Holds time (sent_on domain spot hops r)
+  sent_holds : (r : Result Way Reason) (time hops : ℕ) (spot : JourneySpot) → IsSpot time spot → Holds time (sent_on domain spot hops r)
   sent_holds (Ok w) time hops spot is = (is, led_held w time hops spot is)
   sent_holds (Err reason) time hops spot is = tt
 
-  entered_holds : (r : Result LinkId Reason) (time hops : ℕ) (spot : Spot) → IsSpot time spot → Holds time (sent_in domain spot hops r)
+  entered_holds : (r : Result LinkId Reason) (time hops : ℕ) (spot : JourneySpot) → IsSpot time spot → Holds time (sent_in domain spot hops r)
   entered_holds (Ok link) time hops spot is = (is, across_held link time hops spot is)
   entered_holds (Err reason) time hops spot is = tt
 
-  met_holds : (here : Bool) (r : Result Way Reason) (inside : Inside) (time : ℕ) (spot : Spot) → IsSpot time spot
+  met_holds : (here : Bool) (r : Result Way Reason) (inside : Inside) (time : ℕ) (spot : JourneySpot) → IsSpot time spot
       → Holds time (cond here (Goes (visit_by domain spot None) (Out spot.node inside)) (sent_on domain spot (spot.hops - 1) r))
   met_holds true r inside time spot is = (is, tt)
   met_holds false r inside time spot is = sent_holds r time (spot.hops - 1) spot is

@@ -11,7 +11,7 @@ use Rattle.ioam_ip.specs.Findings.{has_ioam}
 use Rattle.ioam_ip.specs.Chain.{CanPass, head_at, behind, IsSound}
 use Rattle.ioam_ip.specs.ChainOptions.{octets_of, HasIoam, CarriesIoam}
 use Rattle.ioam_ip.specs.HeadsLeft.{AreHeads}
-use Rattle.ioam_ip.specs.declared.chain.Spot.{Spot}
+use Rattle.ioam_ip.specs.declared.chain.HeadSpot.{HeadSpot}
 use Rattle.ioam_ip.specs.declared.chain.Head.{Head}
 use Rattle.ioam_ip.specs.Rewriting.{options_in, item_stepped}
 use Rattle.ioam_ip.specs.Hop.{has_hop, hop_end, hop_head, hop_stepped}
@@ -71,7 +71,7 @@ record Placed (p : List ℕ) (head : Head) : Type 0 where
   hop : head.range.start ≡ 40 → head.range.end ≡ hop_end p
   other : head.range.start ≢ 40 → hop_end p ≤ head.range.start
 
-placed : (p : List ℕ) (hs : List Head) (last : Spot) → Leads (CanPass p) (head_at p) (behind p) (first_spot 0) hs last → All (Placed p) hs
+placed : (p : List ℕ) (hs : List Head) (last : HeadSpot) → Leads (CanPass p) (head_at p) (behind p) (first_spot 0) hs last → All (Placed p) hs
 placed p [] last here = All-nil (Placed p)
 placed p (h ∷ hs) last leads =
     let others = heads_behind_spot p (behind p (first_spot 0)) hs last leads.2 in

@@ -8,11 +8,11 @@ use Rattle.ioam_ip.specs.Options.{IsFilled}
 use Rattle.ioam_ip.specs.Chain.{kind_of, said_size, size_by, next_by, fragment_offset, Admits, end_at, CanPass, head_at, behind, EndsBy, EndsAt}
 use Rattle.ioam_ip.specs.declared.chain.Kind.{Kind}
 use Rattle.ioam_ip.specs.declared.chain.Kind.TheVariants.{HopByHop, Destination, Routing, Fragment, Nested, Upper}
-use Rattle.ioam_ip.specs.declared.chain.Spot.{Spot}
+use Rattle.ioam_ip.specs.declared.chain.HeadSpot.{HeadSpot}
 use Rattle.ioam_ip.specs.declared.chain.Head.{Head}
 
 module _ (p q : List ℕ) (from shift : ℕ) (same : drop (from + shift) q ≡ drop from p) (long : length q ≡ length p + shift) where
-  abbrev pub moved : Spot → Spot
+  abbrev pub moved : HeadSpot → HeadSpot
   moved spot = record { value = spot.value; at = spot.at + shift; behind_ip = spot.behind_ip }
 
   abbrev pub moved_head : Head → Head
@@ -72,7 +72,7 @@ module _ (p q : List ℕ) (from shift : ℕ) (same : drop (from + shift) q ≡ d
       let P : List ℕ → Type 0 = λ xs. IsFilled xs in
       subst P (sym (ap (λ n. slice_range q (at + shift) (at + shift + n)) (said_same at behind) ∙ range_same at (said_size p at) behind)) filled
 
-  admits_same : (spot : Spot) (k : Kind) → from ≤ spot.at → Admits p spot k → Admits q (moved spot) k
+  admits_same : (spot : HeadSpot) (k : Kind) → from ≤ spot.at → Admits p spot k → Admits q (moved spot) k
   admits_same spot HopByHop behind admits = (admits.0, filled_same spot.at behind admits.1)
   admits_same spot Destination behind admits = filled_same spot.at behind admits
   admits_same spot Routing behind admits = tt
@@ -88,40 +88,40 @@ module _ (p q : List ℕ) (from shift : ℕ) (same : drop (from + shift) q ≡ d
   ends_same at Nested behind ends = absurd ends
   ends_same at Upper behind ends = tt
 
-  end_same : (spot : Spot) → from ≤ spot.at → end_at q (moved spot) ≡ end_at p spot + shift
+  end_same : (spot : HeadSpot) → from ≤ spot.at → end_at q (moved spot) ≡ end_at p spot + shift
   end_same spot behind = omega (arith, size_same spot.at (kind_of spot.value) behind)
 
-  pass_same : (spot : Spot) → from ≤ spot.at → CanPass p spot → CanPass q (moved spot)
+  pass_same : (spot : HeadSpot) → from ≤ spot.at → CanPass p spot → CanPass q (moved spot)
   pass_same spot behind pass = (omega (arith, pass.0, end_same spot behind), admits_same spot (kind_of spot.value) behind pass.1)
 
-  behind_same : (spot : Spot) → from ≤ spot.at → behind q (moved spot) ≡ moved (behind p spot)
+  behind_same : (spot : HeadSpot) → from ≤ spot.at → behind q (moved spot) ≡ moved (behind p spot)
   behind_same spot after = λ i. record { value = next_same spot.at (kind_of spot.value) after i; at = end_same spot after i; behind_ip = (behind p spot).behind_ip }
 
-  head_same : (spot : Spot) → from ≤ spot.at → head_at q (moved spot) ≡ moved_head (head_at p spot)
+  head_same : (spot : HeadSpot) → from ≤ spot.at → head_at q (moved spot) ≡ moved_head (head_at p spot)
   head_same spot after = λ i. record { value = spot.value; range = record { start = spot.at + shift; end = end_same spot after i } }
 
-  pub leads_same : (spot : Spot) (hs : List Head) (last : Spot) → from ≤ spot.at → Leads (CanPass p) (head_at p) (behind p) spot hs last
+  pub leads_same : (spot : HeadSpot) (hs : List Head) (last : HeadSpot) → from ≤ spot.at → Leads (CanPass p) (head_at p) (behind p) spot hs last
       → Leads (CanPass q) (head_at q) (behind q) (moved spot) (map moved_head hs) (moved last)
   leads_same spot [] last after here = ap moved here
   leads_same spot (h ∷ hs) last after leads =
-      let P : Spot → Type 0 = λ next. Leads (CanPass q) (head_at q) (behind q) next (map moved_head hs) (moved last) in (
+      let P : HeadSpot → Type 0 = λ next. Leads (CanPass q) (head_at q) (behind q) next (map moved_head hs) (moved last) in (
         pass_same spot after leads.0,
         ap moved_head leads.1 ∙ sym (head_same spot after),
         subst P (sym (behind_same spot after)) (leads_same (behind p spot) hs last (omega arith) leads.2),
       )
 
-  pub ends_at_same : (spot : Spot) → from ≤ spot.at → EndsAt p spot → EndsAt q (moved spot)
+  pub ends_at_same : (spot : HeadSpot) → from ≤ spot.at → EndsAt p spot → EndsAt q (moved spot)
   ends_at_same spot after ends = ends_same spot.at (kind_of spot.value) after ends
 
 -- ---- where headers stand
 
 -- no spot of a chain stands in front of its first
-pub last_behind : (p : List ℕ) (spot : Spot) (hs : List Head) (last : Spot) → Leads (CanPass p) (head_at p) (behind p) spot hs last → spot.at ≤ last.at
-last_behind p spot [] last here = omega (arith, ap (λ (s : Spot). s.at) here)
+pub last_behind : (p : List ℕ) (spot : HeadSpot) (hs : List Head) (last : HeadSpot) → Leads (CanPass p) (head_at p) (behind p) spot hs last → spot.at ≤ last.at
+last_behind p spot [] last here = omega (arith, ap (λ (s : HeadSpot). s.at) here)
 last_behind p spot (h ∷ hs) last leads = omega (arith, last_behind p (behind p spot) hs last leads.2)
 
 -- nor does a header of it
-pub heads_behind_spot : (p : List ℕ) (spot : Spot) (hs : List Head) (last : Spot) → Leads (CanPass p) (head_at p) (behind p) spot hs last
+pub heads_behind_spot : (p : List ℕ) (spot : HeadSpot) (hs : List Head) (last : HeadSpot) → Leads (CanPass p) (head_at p) (behind p) spot hs last
     → All (λ (head : Head). spot.at ≤ head.range.start) hs
 heads_behind_spot p spot [] last here = All-nil (λ (head : Head). spot.at ≤ head.range.start)
 heads_behind_spot p spot (h ∷ hs) last leads =
@@ -139,7 +139,7 @@ module _ (p q : List ℕ) (from : ℕ) (same : drop from q ≡ drop from p) (lon
   long_same : length q ≡ length p + 0
   long_same = omega (arith, long)
 
-  spot_stays : (spot : Spot) → moved p q from 0 there_same long_same spot ≡ spot
+  spot_stays : (spot : HeadSpot) → moved p q from 0 there_same long_same spot ≡ spot
   spot_stays spot = let none : spot.at + 0 ≡ spot.at = omega arith in
       λ i. record { value = spot.value; at = none i; behind_ip = spot.behind_ip }
 
@@ -153,15 +153,15 @@ module _ (p q : List ℕ) (from : ℕ) (same : drop from q ≡ drop from p) (lon
   heads_stay [] = refl
   heads_stay (h ∷ hs) = λ i. head_stays h i ∷ heads_stay hs i
 
-  pub leads_alike : (spot : Spot) (hs : List Head) (last : Spot) → from ≤ spot.at → Leads (CanPass p) (head_at p) (behind p) spot hs last
+  pub leads_alike : (spot : HeadSpot) (hs : List Head) (last : HeadSpot) → from ≤ spot.at → Leads (CanPass p) (head_at p) (behind p) spot hs last
       → Leads (CanPass q) (head_at q) (behind q) spot hs last
   leads_alike spot hs last after leads =
       let moves = leads_same p q from 0 there_same long_same spot hs last after leads in
-      let P : Spot → Type 0 = λ s. Leads (CanPass q) (head_at q) (behind q) s hs last in
+      let P : HeadSpot → Type 0 = λ s. Leads (CanPass q) (head_at q) (behind q) s hs last in
       let Q : List Head → Type 0 = λ xs. Leads (CanPass q) (head_at q) (behind q) (moved p q from 0 there_same long_same spot) xs last in
-      let R : Spot → Type 0 = λ s. Leads (CanPass q) (head_at q) (behind q) (moved p q from 0 there_same long_same spot) (map (moved_head p q from 0 there_same long_same) hs) s in
+      let R : HeadSpot → Type 0 = λ s. Leads (CanPass q) (head_at q) (behind q) (moved p q from 0 there_same long_same spot) (map (moved_head p q from 0 there_same long_same) hs) s in
       subst P (spot_stays spot) (subst Q (heads_stay hs) (subst R (spot_stays last) moves))
 
-  pub ends_alike : (spot : Spot) → from ≤ spot.at → EndsAt p spot → EndsAt q spot
+  pub ends_alike : (spot : HeadSpot) → from ≤ spot.at → EndsAt p spot → EndsAt q spot
   ends_alike spot after ends =
-      let P : Spot → Type 0 = λ s. EndsAt q s in subst P (spot_stays spot) (ends_at_same p q from 0 there_same long_same spot after ends)
+      let P : HeadSpot → Type 0 = λ s. EndsAt q s in subst P (spot_stays spot) (ends_at_same p q from 0 there_same long_same spot after ends)

@@ -9,17 +9,17 @@ use Rattle.ioam_ip.specs.Options.{IsFilled}
 use Rattle.ioam_ip.specs.HeadsLeft.{AreHeads}
 use Rattle.ioam_ip.specs.declared.chain.Kind.{Kind}
 use Rattle.ioam_ip.specs.declared.chain.Kind.TheVariants.{HopByHop, Destination, Routing, Fragment, Nested, Upper}
-use Rattle.ioam_ip.specs.declared.chain.Spot.{Spot}
+use Rattle.ioam_ip.specs.declared.chain.HeadSpot.{HeadSpot}
 use Rattle.ioam_ip.specs.declared.chain.Head.{Head}
 
-filled_by : (p : List ℕ) (spot : Spot) (hop target : Bool) (other : Kind) → IsTrue (hop || target)
+filled_by : (p : List ℕ) (spot : HeadSpot) (hop target : Bool) (other : Kind) → IsTrue (hop || target)
     → Admits p spot (cond hop HopByHop (cond target Destination other))
     → IsFilled (slice_range p spot.at (spot.at + size_by p spot.at (cond hop HopByHop (cond target Destination other))))
 filled_by p spot true target other options admits = admits.1
 filled_by p spot false true other options admits = admits
 filled_by p spot false false other options admits = absurd (cc options)
 
-fits_at : (p : List ℕ) (spot : Spot) → CanPass p spot → HeadFits p (head_at p spot)
+fits_at : (p : List ℕ) (spot : HeadSpot) → CanPass p spot → HeadFits p (head_at p spot)
 fits_at p spot pass = record {
   ordered = omega arith;
   within = pass.0;
@@ -27,7 +27,7 @@ fits_at p spot pass = record {
       (cond (eqb spot.value 43) Routing (cond (eqb spot.value 44) Fragment (cond (eqb spot.value 41) Nested Upper))) options pass.1;
 }
 
-reached_fit : (p : List ℕ) (spot : Spot) (hs : List Head) (last : Spot) → Leads (CanPass p) (head_at p) (behind p) spot hs last
+reached_fit : (p : List ℕ) (spot : HeadSpot) (hs : List Head) (last : HeadSpot) → Leads (CanPass p) (head_at p) (behind p) spot hs last
     → All (HeadFits p) hs
 reached_fit p spot [] last here = All-nil (λ head. HeadFits p head)
 reached_fit p spot (h ∷ hs) last leads =

@@ -6,7 +6,7 @@ use Rattle.ioam_ip.specs.Chain.{kind_of, size_by, fragment_offset, Admits, CanPa
 use Rattle.ioam_ip.specs.HeadsLeft.{goes_on_by, goes_on, heads_from, AreHeads}
 use Rattle.ioam_ip.specs.declared.chain.Kind.{Kind}
 use Rattle.ioam_ip.specs.declared.chain.Kind.TheVariants.{HopByHop, Destination, Routing, Fragment, Nested, Upper}
-use Rattle.ioam_ip.specs.declared.chain.Spot.{Spot}
+use Rattle.ioam_ip.specs.declared.chain.HeadSpot.{HeadSpot}
 use Rattle.ioam_ip.specs.declared.chain.Head.{Head}
 
 past : (b : Bool) (xs : List Head) → b ≡ false → cond b xs [] ≡ []
@@ -18,12 +18,12 @@ on true xs is = refl
 on false xs is = absurd (cc is)
 
 -- nothing is left where the chain doesn't go on
-pub none_from : (steps : ℕ) (p : List ℕ) (spot : Spot) → goes_on p spot ≡ false → heads_from steps p spot ≡ []
+pub none_from : (steps : ℕ) (p : List ℕ) (spot : HeadSpot) → goes_on p spot ≡ false → heads_from steps p spot ≡ []
 none_from zero p spot ends = refl
 none_from (suc steps) p spot ends = past (goes_on p spot) (head_at p spot ∷ heads_from steps p (behind p spot)) ends
 
 -- where it goes on, the spot behind is further on
-size_on : (p : List ℕ) (spot : Spot) (k : Kind) → goes_on_by p spot.at k ≡ true → 1 ≤ size_by p spot.at k
+size_on : (p : List ℕ) (spot : HeadSpot) (k : Kind) → goes_on_by p spot.at k ≡ true → 1 ≤ size_by p spot.at k
 size_on p spot HopByHop goes = omega arith
 size_on p spot Destination goes = omega arith
 size_on p spot Routing goes = omega arith
@@ -39,7 +39,7 @@ cases : (b : Bool) → (b ≡ true) ⊎ (b ≡ false)
 cases true = inl refl
 cases false = inr refl
 
-on_within : (p : List ℕ) (spot : Spot) → goes_on p spot ≡ true → (end_at p spot ≤ length p) × (spot.at < end_at p spot)
+on_within : (p : List ℕ) (spot : HeadSpot) → goes_on p spot ≡ true → (end_at p spot ≤ length p) × (spot.at < end_at p spot)
 on_within p spot goes =
     let parts : (leb (end_at p spot) (length p) ≡ true) × (goes_on_by p spot.at (kind_of spot.value) ≡ true) =
     both (leb (end_at p spot) (length p)) (goes_on_by p spot.at (kind_of spot.value)) goes in
@@ -48,7 +48,7 @@ on_within p spot goes =
       within m n is = grind (arith, nat_tests)
 
 -- more steps than the octets that are left change nothing
-steps-more : (steps : ℕ) (p : List ℕ) (spot : Spot) → length p ≤ steps + spot.at → heads_from (suc steps) p spot ≡ heads_from steps p spot
+steps-more : (steps : ℕ) (p : List ℕ) (spot : HeadSpot) → length p ≤ steps + spot.at → heads_from (suc steps) p spot ≡ heads_from steps p spot
 steps-more zero p spot enough = elim (cases (goes_on p spot)) [
   | inl goes ↦ absurd (omega (arith, on_within p spot goes))
   | inr ends ↦ none_from 1 p spot ends
@@ -60,12 +60,12 @@ steps-more (suc steps) p spot enough = elim (cases (goes_on p spot)) [
 ]
 
 -- the headers from a spot on, with one taken off
-pub next_from : (p : List ℕ) (spot : Spot) → goes_on p spot ≡ true
+pub next_from : (p : List ℕ) (spot : HeadSpot) → goes_on p spot ≡ true
     → heads_from (length p) p spot ≡ head_at p spot ∷ heads_from (length p) p (behind p spot)
 next_from p spot goes = sym (steps-more (length p) p spot (omega arith))
     ∙ on (goes_on p spot) (head_at p spot ∷ heads_from (length p) p (behind p spot)) goes
 
-admits_on : (p : List ℕ) (spot : Spot) (k : Kind) → Admits p spot k → goes_on_by p spot.at k ≡ true
+admits_on : (p : List ℕ) (spot : HeadSpot) (k : Kind) → Admits p spot k → goes_on_by p spot.at k ≡ true
 admits_on p spot HopByHop admits = refl
 admits_on p spot Destination admits = refl
 admits_on p spot Routing admits = refl
@@ -73,7 +73,7 @@ admits_on p spot Fragment admits = grind (arith, nat_tests)
 admits_on p spot Nested admits = refl
 admits_on p spot Upper admits = absurd admits
 
-ends_off : (p : List ℕ) (spot : Spot) (k : Kind) → EndsBy p spot.at k → goes_on_by p spot.at k ≡ false
+ends_off : (p : List ℕ) (spot : HeadSpot) (k : Kind) → EndsBy p spot.at k → goes_on_by p spot.at k ≡ false
 ends_off p spot HopByHop ends = absurd ends
 ends_off p spot Destination ends = absurd ends
 ends_off p spot Routing ends = absurd ends
@@ -89,16 +89,16 @@ never : (a b : Bool) → b ≡ false → (a && b) ≡ false
 never true b is = is
 never false b is = refl
 
-pass_on : (p : List ℕ) (spot : Spot) → CanPass p spot → goes_on p spot ≡ true
+pass_on : (p : List ℕ) (spot : HeadSpot) → CanPass p spot → goes_on p spot ≡ true
 pass_on p spot pass = joined (leb (end_at p spot) (length p)) (goes_on_by p spot.at (kind_of spot.value))
     (near (end_at p spot) (length p) pass.0) (admits_on p spot (kind_of spot.value) pass.1) where
       near : (m n : ℕ) → m ≤ n → leb m n ≡ true
       near m n le = grind (arith, nat_tests)
 
-open_leads : (p : List ℕ) (spot : Spot) (hs : List Head) (last : Spot) → Leads (CanPass p) (head_at p) (behind p) spot hs last → EndsAt p last
+open_leads : (p : List ℕ) (spot : HeadSpot) (hs : List Head) (last : HeadSpot) → Leads (CanPass p) (head_at p) (behind p) spot hs last → EndsAt p last
     → heads_from (length p) p spot ≡ hs
 open_leads p spot [] last here ends =
-    let P : Spot → Type 0 = λ spot. heads_from (length p) p spot ≡ [] in
+    let P : HeadSpot → Type 0 = λ spot. heads_from (length p) p spot ≡ [] in
     subst P (sym here) (none_from (length p) p last (never (leb (end_at p last) (length p)) (goes_on_by p last.at (kind_of last.value)) (ends_off p last (kind_of last.value) ends)))
 open_leads p spot (h ∷ hs) last leads ends =
     next_from p spot (pass_on p spot leads.0)
@@ -113,8 +113,8 @@ all_from p sound =
     (record { upper = sound.upper; at = sound.at; chain = sound.chain })
 
 -- one step along the chain, from spot to spot
-pub step_head : (p : List ℕ) (spot next : Spot) → goes_on p spot ≡ true → next ≡ behind p spot
+pub step_head : (p : List ℕ) (spot next : HeadSpot) → goes_on p spot ≡ true → next ≡ behind p spot
     → heads_from (length p) p spot ≡ record { value = spot.value; range = record { start = spot.at; end = next.at } } ∷ heads_from (length p) p next
 step_head p spot next goes is =
-    let P : Spot → Type 0 = λ next. heads_from (length p) p spot ≡ record { value = spot.value; range = record { start = spot.at; end = next.at } } ∷ heads_from (length p) p next in
+    let P : HeadSpot → Type 0 = λ next. heads_from (length p) p spot ≡ record { value = spot.value; range = record { start = spot.at; end = next.at } } ∷ heads_from (length p) p next in
     subst P (sym is) (next_from p spot goes)

@@ -9,12 +9,12 @@ use Rattle.ioam_base.proofs.LeadsLaws.{Leads-push}
 use Rattle.ioam_ip.specs.Options.{Item, OptionFits, option_end, item_at, ItemsUpTo, UnfitAt, is_option}
 use Rattle.ioam_ip.specs.Findings.{is_ioam, has_ioam, is_limit, first_limit}
 use Rattle.ioam_ip.specs.Scan.{IsFoundIn, Scans}
-use Rattle.ioam_ip.specs.declared.scan.Found.{Found}
+use Rattle.ioam_ip.specs.declared.scan.Findings.{Findings}
 use Rattle.ioam_ip.specs.declared.scan.Scan.TheVariants.{Fills, Unfit}
 use Rattle.ioam_ip.proofs.OptionsLaws.{unfit_not_filled}
 
 -- the options up to this place were looked at, paddings too, and this was found
-pub record Looked (head : List ℕ) (at : ℕ) (found : Found) : Type 0 where
+pub record Looked (head : List ℕ) (at : ℕ) (found : Findings) : Type 0 where
   pub items : List Item
   pub before : ItemsUpTo head items at
   pub is : IsFoundIn items found
@@ -62,7 +62,7 @@ limit-push : (xs : List Item) (x : Item) (b c : Option ℕ) → b ≡ first_limi
 limit-push xs x b c was now = now ∙ ap (λ o. option_or o (first_limit (x ∷ []))) was ∙ sym (first_limit-append xs (x ∷ []))
 
 -- one option more
-pub Looked-push : (head : List ℕ) (at : ℕ) (was now : Found) → Looked head at was → OptionFits head at
+pub Looked-push : (head : List ℕ) (at : ℕ) (was now : Findings) → Looked head at was → OptionFits head at
     → now.ioam ≡ (was.ioam || is_ioam (item_at head at)) → now.limit ≡ option_or was.limit (first_limit (item_at head at ∷ []))
     → Looked head (option_end head at) now
 Looked-push head at was now looked fits ioam limit = record {
@@ -75,7 +75,7 @@ Looked-push head at was now looked fits ioam limit = record {
 }
 
 -- all of them
-pub Looked-all : (head : List ℕ) (found : Found) → Looked head (length head) found → Scans head (Fills found)
+pub Looked-all : (head : List ℕ) (found : Findings) → Looked head (length head) found → Scans head (Fills found)
 Looked-all head found looked = (
   filter is_option looked.items,
   record { items = looked.items; fill = looked.before; options = refl },
@@ -83,7 +83,7 @@ Looked-all head found looked = (
 )
 
 -- one that doesn't fit
-pub Looked-unfit : (head : List ℕ) (at : ℕ) (found : Found) → Looked head at found → at < length head → length head < option_end head at
+pub Looked-unfit : (head : List ℕ) (at : ℕ) (found : Findings) → Looked head at found → at < length head → length head < option_end head at
     → Scans head (Unfit at)
 Looked-unfit head at found looked within unfit =
     let here : UnfitAt head at = record { items = looked.items; before = looked.before; within = within; unfit = unfit } in

@@ -8,7 +8,7 @@ use Rattle.ioam_ip.specs.Options.{IsFilled}
 use Rattle.ioam_ip.specs.Chain.{said_size, CanPass, head_at, behind, start, EndsAt, IsSound}
 use Rattle.ioam_ip.specs.ChainOptions.{is_other}
 use Rattle.ioam_ip.specs.HeadsLeft.{AreHeads}
-use Rattle.ioam_ip.specs.declared.chain.Spot.{Spot}
+use Rattle.ioam_ip.specs.declared.chain.HeadSpot.{HeadSpot}
 use Rattle.ioam_ip.specs.declared.chain.Head.{Head}
 use Rattle.ioam_ip.specs.Laid.{Part, header_of, parts_end, items_of, AreParts, header_if, value_if}
 use Rattle.ioam_ip.proofs.LaidLaws.{said-header, AreOptions-header}
@@ -44,9 +44,9 @@ stands packet front rest at next parts kinds is place =
     }
 
 -- the headers from a spot on, up to the end of the chain
-record Goes (packet : List ℕ) (spot : Spot) (place : ℕ) : Type 0 where
+record Goes (packet : List ℕ) (spot : HeadSpot) (place : ℕ) : Type 0 where
   heads : List Head
-  last : Spot
+  last : HeadSpot
   leads : Leads (CanPass packet) (head_at packet) (behind packet) spot heads last
   ends : EndsAt packet last
   head : Head
@@ -58,7 +58,7 @@ record Goes (packet : List ℕ) (spot : Spot) (place : ℕ) : Type 0 where
 inside : (packet inner : List ℕ) (at : ℕ) (behind_ip : Bool) → IsPacket inner → IsSound inner → drop at packet ≡ inner → length packet ≡ length inner + at
     → Goes packet (record { value = 41; at = at; behind_ip = behind_ip }) at
 inside packet inner at behind_ip is_packet sound same long =
-    let spot : Spot = record { value = 41; at = at; behind_ip = behind_ip } in
+    let spot : HeadSpot = record { value = 41; at = at; behind_ip = behind_ip } in
     let chain = sound.chain in
     let forty : 40 ≤ length inner = is_packet.header_there in
     let from_same : drop (40 + at) packet ≡ drop 40 inner =
@@ -69,7 +69,7 @@ inside packet inner at behind_ip is_packet sound same long =
     let next : behind packet spot ≡ moved inner packet 40 at from_same long (start inner) =
     let order : at + 40 ≡ 40 + at = omega arith in
     λ i. record { value = octet 6 i; at = order i; behind_ip = true } in
-    let P : Spot → Type 0 = λ s. Leads (CanPass packet) (head_at packet) (behind packet) s (map (moved_head inner packet 40 at from_same long) sound.heads) (moved inner packet 40 at from_same long chain.last) in
+    let P : HeadSpot → Type 0 = λ s. Leads (CanPass packet) (head_at packet) (behind packet) s (map (moved_head inner packet 40 at from_same long) sound.heads) (moved inner packet 40 at from_same long chain.last) in
     let others = leads_same inner packet 40 at from_same long (start inner) sound.heads chain.last (omega arith) chain.reaches in
     let later : 40 ≤ chain.last.at = last_behind inner (start inner) sound.heads chain.last chain.reaches in
     record {
@@ -88,8 +88,8 @@ over_targets : (packet : List ℕ) (at next place : ℕ) (behind_ip : Bool) (par
     → Goes packet (record { value = next; at = at + length (header_of next parts); behind_ip = false }) place
     → Goes packet (record { value = 60; at = at; behind_ip = behind_ip }) place
 over_targets packet at next place behind_ip parts stand goes =
-    let spot : Spot = record { value = 60; at = at; behind_ip = behind_ip } in
-    let P : Spot → Type 0 = λ s. Leads (CanPass packet) (head_at packet) (behind packet) s goes.heads goes.last in
+    let spot : HeadSpot = record { value = 60; at = at; behind_ip = behind_ip } in
+    let P : HeadSpot → Type 0 = λ s. Leads (CanPass packet) (head_at packet) (behind packet) s goes.heads goes.last in
     let after : behind packet spot ≡ record { value = next; at = at + length (header_of next parts); behind_ip = false } =
     λ i. record { value = stand.value i; at = at + stand.said i; behind_ip = false } in
     record {
@@ -108,8 +108,8 @@ over_hop : (packet : List ℕ) (at next place : ℕ) (parts : List Part) → Sta
     → Goes packet (record { value = next; at = at + length (header_of next parts); behind_ip = false }) place
     → Goes packet (record { value = 0; at = at; behind_ip = true }) place
 over_hop packet at next place parts stand goes =
-    let spot : Spot = record { value = 0; at = at; behind_ip = true } in
-    let P : Spot → Type 0 = λ s. Leads (CanPass packet) (head_at packet) (behind packet) s goes.heads goes.last in
+    let spot : HeadSpot = record { value = 0; at = at; behind_ip = true } in
+    let P : HeadSpot → Type 0 = λ s. Leads (CanPass packet) (head_at packet) (behind packet) s goes.heads goes.last in
     let after : behind packet spot ≡ record { value = next; at = at + length (header_of next parts); behind_ip = false } =
     λ i. record { value = stand.value i; at = at + stand.said i; behind_ip = false } in
     record {
@@ -182,7 +182,7 @@ Nests-laid outer parts targets inner long value kinds others is_packet sound =
     let named : slice_index packet 6 ≡ value_if 0 parts (value_if 60 targets 41) = get_or_append_left outer rest 0 6 (omega (arith, long)) ∙ value in
     let begins : (record { value = value_if 0 parts (value_if 60 targets 41); at = length outer; behind_ip = true }) ≡ start packet =
     λ i. record { value = sym named i; at = long i; behind_ip = true } in
-    let P : Spot → Type 0 = λ s. Leads (CanPass packet) (head_at packet) (behind packet) s goes.heads goes.last in
+    let P : HeadSpot → Type 0 = λ s. Leads (CanPass packet) (head_at packet) (behind packet) s goes.heads goes.last in
     record {
       heads = goes.heads;
       are_heads = record {

@@ -5,7 +5,7 @@ use Rattle.std.proofs.Math.Seq.{take-append_seam, drop-append_seam}
 use Rattle.std.proofs.lemmas.Bool.Decides.{nat_tests}
 use Rattle.ioam_base.specs.Leads.{Leads}
 use Rattle.ioam_ip.specs.Options.{Item, OptionFits, option_end, body_at, item_at, is_option, AreOptions}
-use Rattle.ioam_ip.specs.OptionList.{Holds, HoldsOptions, OnlyOptions}
+use Rattle.ioam_ip.specs.OptionList.{IsOptionList, HoldsOptions, OnlyOptions}
 use Rattle.ioam_ip.proofs.OptionsLaws.{option_size-pos, AreOptions-unique}
 
 -- options and paddings, one behind the other, from a place up to the header's end
@@ -53,42 +53,42 @@ module _ (head : List ℕ) (at : ℕ) (fits : OptionFits head at) (above : 0 < s
       ∙ ap (λ xs. slice_index head at ∷ n ∷ xs) (sym (take-append-drop n (drop (at + 2) head)) ∙ ap (λ xs. xs ++ drop n (drop (at + 2) head)) (sym body_is) ∙ ap (λ xs. body_at head at ++ xs) rest)
       ∙ ap (λ m. slice_index head at ∷ m ∷ (body_at head at ++ drop (option_end head at) head)) (sym length_body)
 
-held : (head : List ℕ) (at : ℕ) (options : List Item) → OptionFits head at → Holds (option_end head at) (drop (option_end head at) head) options
-    → (kind : ℕ) → slice_index head at ≡ kind → Holds at (drop at head) (cond (is_option (item_at head at)) (item_at head at ∷ options) options)
+held : (head : List ℕ) (at : ℕ) (options : List Item) → OptionFits head at → IsOptionList (option_end head at) (drop (option_end head at) head) options
+    → (kind : ℕ) → slice_index head at ≡ kind → IsOptionList at (drop at head) (cond (is_option (item_at head at)) (item_at head at ∷ options) options)
 held head at options fits rest zero is =
     let end : option_end head at ≡ at + 1 = ap (λ k. at + cond (eqb k 0) 1 (slice_index head (at + 1) + 2)) is in
     let first : at < length head = omega (arith, fits, option_size-pos head at) in
     let octets : drop at head ≡ 0 ∷ drop (at + 1) head = drop_more head at 0 first ∙ ap (λ k. k ∷ drop (at + 1) head) is in
-    let P : ℕ → Type 0 = λ n. Holds n (drop n head) options in
-    let Q : List Item → Type 0 = λ os. Holds at (drop at head) os in
+    let P : ℕ → Type 0 = λ n. IsOptionList n (drop n head) options in
+    let Q : List Item → Type 0 = λ os. IsOptionList at (drop at head) os in
     subst Q (sym (ap (λ k. cond (ltb 1 k) (item_at head at ∷ options) options) is))
-    (Holds.pad1 at (drop at head) (drop (at + 1) head) options octets (subst P end rest))
+    (IsOptionList.pad1 at (drop at head) (drop (at + 1) head) options octets (subst P end rest))
 held head at options fits rest (suc zero) is =
     let above : 0 < slice_index head at = omega (arith, is) in
-    let P : ℕ → Type 0 = λ n. Holds n (drop (option_end head at) head) options in
-    let Q : List Item → Type 0 = λ os. Holds at (drop at head) os in
+    let P : ℕ → Type 0 = λ n. IsOptionList n (drop (option_end head at) head) options in
+    let Q : List Item → Type 0 = λ os. IsOptionList at (drop at head) os in
     subst Q (sym (ap (λ k. cond (ltb 1 k) (item_at head at ∷ options) options) is))
-    (Holds.padn at (drop at head) (body_at head at) (drop (option_end head at) head) options
+    (IsOptionList.padn at (drop at head) (body_at head at) (drop (option_end head at) head) options
     (octets_are head at fits above ∙ ap (λ k. k ∷ length (body_at head at) ∷ (body_at head at ++ drop (option_end head at) head)) is)
     (subst P (end_is head at fits above) rest))
 held head at options fits rest (suc (suc n)) is =
     let above : 0 < slice_index head at = omega (arith, is) in
     let more : 1 < slice_index head at = omega (arith, is) in
-    let P : ℕ → Type 0 = λ n. Holds n (drop (option_end head at) head) options in
-    let Q : List Item → Type 0 = λ os. Holds at (drop at head) os in
+    let P : ℕ → Type 0 = λ n. IsOptionList n (drop (option_end head at) head) options in
+    let Q : List Item → Type 0 = λ os. IsOptionList at (drop at head) os in
     subst Q (sym (ap (λ b. cond b (item_at head at ∷ options) options) (above_one (slice_index head at) more)))
-    (Holds.option at (drop at head) (slice_index head at) (body_at head at) (drop (option_end head at) head) options more
+    (IsOptionList.option at (drop at head) (slice_index head at) (body_at head at) (drop (option_end head at) head) options more
     (octets_are head at fits above) (subst P (end_is head at fits above) rest))
 
-listed_from : (head : List ℕ) (at : ℕ) (items : List Item) → Behind head at items → Holds at (drop at head) (filter is_option items)
-listed_from head at [] here = Holds.nothing at (drop at head) (no_more head at here)
+listed_from : (head : List ℕ) (at : ℕ) (items : List Item) → Behind head at items → IsOptionList at (drop at head) (filter is_option items)
+listed_from head at [] here = IsOptionList.nothing at (drop at head) (no_more head at here)
 listed_from head at (x ∷ items) leads =
-    let Q : Item → Type 0 = λ item. Holds at (drop at head) (cond (is_option item) (item ∷ filter is_option items) (filter is_option items)) in
+    let Q : Item → Type 0 = λ item. IsOptionList at (drop at head) (cond (is_option item) (item ∷ filter is_option items) (filter is_option items)) in
     subst Q (sym leads.1) (held head at (filter is_option items) leads.0 (listed_from head (option_end head at) items leads.2) (slice_index head at) refl)
 
 pub HoldsOptions-AreOptions : (head : List ℕ) (options : List Item) → AreOptions head options → HoldsOptions head options
 HoldsOptions-AreOptions head options are =
-    let P : List Item → Type 0 = λ os. Holds 2 (drop 2 head) os in
+    let P : List Item → Type 0 = λ os. IsOptionList 2 (drop 2 head) os in
     subst P (sym are.options) (listed_from head 2 are.items are.fill)
 
 -- ---- from the list to places
@@ -167,11 +167,11 @@ module _ (head : List ℕ) (at : ℕ) where
     same_item : item_at head at ≡ record { kind = kind; at = at; body = body }
     same_item = λ i. record { kind = kind_at i; at = at; body = same_body i }
 
-places_from : (head : List ℕ) (at : ℕ) (octets : List ℕ) (options : List Item) → Holds at octets options → drop at head ≡ octets → at ≤ length head
+places_from : (head : List ℕ) (at : ℕ) (octets : List ℕ) (options : List Item) → IsOptionList at octets options → drop at head ≡ octets → at ≤ length head
     → Places head at options
-places_from head at octets options (Holds.nothing here octets' none) is within =
+places_from head at octets options (IsOptionList.nothing here octets' none) is within =
     record { items = []; behind = omega (arith, ap length (is ∙ none), length-drop at head, within); given = refl }
-places_from head at octets options (Holds.pad1 here octets' rest options' are more) is within =
+places_from head at octets options (IsOptionList.pad1 here octets' rest options' are more) is within =
     let front = is ∙ are in
     let zero_at = first_at head at 0 rest front in
     let end : option_end head at ≡ at + 1 = ap (λ k. at + cond (eqb k 0) 1 (slice_index head (at + 1) + 2)) zero_at in
@@ -179,12 +179,12 @@ places_from head at octets options (Holds.pad1 here octets' rest options' are mo
     let behind : drop (at + 1) head ≡ rest = sym (drop-drop 1 at head) ∙ ap (λ xs. drop 1 xs) front in
     before_padding head at (at + 1) options (omega (arith, end, long)) end (ap (λ k. ltb 1 k) zero_at)
     (places_from head (at + 1) rest options more behind (omega (arith, long)))
-places_from head at octets options (Holds.padn here octets' body rest options' are more) is within =
+places_from head at octets options (IsOptionList.padn here octets' body rest options' are more) is within =
     let front = is ∙ are in
     before_padding head at (at + 2 + length body) options (fits_at head at 1 body rest front (omega arith)) (end_at head at 1 body rest front (omega arith))
     (ap (λ k. ltb 1 k) (kind_at head at 1 body rest front (omega arith)))
     (places_from head (at + 2 + length body) rest options more (rest_at head at 1 body rest front (omega arith)) (within_at head at 1 body rest front (omega arith)))
-places_from head at octets options (Holds.option here octets' kind body rest options' above are more) is within =
+places_from head at octets options (IsOptionList.option here octets' kind body rest options' above are more) is within =
     let front = is ∙ are in
     let some : 0 < kind = omega (arith, above) in
     let P : Item → Type 0 = λ item. Places head at (item ∷ options') in

@@ -9,7 +9,7 @@ use Rattle.ioam_ip.specs.Options.{Item, IsFilled}
 use Rattle.ioam_ip.specs.Chain.{said_size, CanPass, head_at, behind, start, EndsAt, IsSound}
 use Rattle.ioam_ip.specs.HeadsLeft.{AreHeads}
 use Rattle.ioam_ip.specs.Packet.{IsPacket}
-use Rattle.ioam_ip.specs.declared.chain.Spot.{Spot}
+use Rattle.ioam_ip.specs.declared.chain.HeadSpot.{HeadSpot}
 use Rattle.ioam_ip.specs.declared.chain.Head.{Head}
 use Rattle.ioam_ip.proofs.OptionsLeftLaws.{all_from}
 use Rattle.ioam_ip.specs.Rewriting.{options_in, with_steps, item_stepped}
@@ -19,7 +19,7 @@ use Rattle.ioam_ip.proofs.CarryLaws.{leads_alike, ends_alike, last_behind}
 
 -- ---- the chain of a packet
 
-abbrev pub first_spot : ℕ → Spot
+abbrev pub first_spot : ℕ → HeadSpot
 first_spot value = record { value = value; at = 40; behind_ip = true }
 
 -- the same octets stand behind the outer header
@@ -42,8 +42,8 @@ heads_behind p q hs long value same are =
     }
 
 -- a Hop-by-Hop header that is named on a whole chain is whole
-passes_from : (p : List ℕ) (hs : List Head) (last : Spot) → Leads (CanPass p) (head_at p) (behind p) (first_spot 0) hs last → EndsAt p last → CanPass p (first_spot 0)
-passes_from p [] last here ends = let P : Spot → Type 0 = λ s. EndsAt p s in absurd (subst P (sym here) ends)
+passes_from : (p : List ℕ) (hs : List Head) (last : HeadSpot) → Leads (CanPass p) (head_at p) (behind p) (first_spot 0) hs last → EndsAt p last → CanPass p (first_spot 0)
+passes_from p [] last here ends = let P : HeadSpot → Type 0 = λ s. EndsAt p s in absurd (subst P (sym here) ends)
 passes_from p (h ∷ hs) last leads ends = leads.0
 
 pub hop_passes : (p : List ℕ) (hs : List Head) → AreHeads p hs → slice_index p 6 ≡ 0 → CanPass p (first_spot 0)
@@ -63,15 +63,15 @@ HopFits-IsSound p is_packet sound = record {
 
 module _ (p q : List ℕ) (long : length q ≡ length p) (first : slice_index q 40 ≡ slice_index p 40) (said : slice_index q 41 ≡ slice_index p 41)
     (rest : drop (hop_end p) q ≡ drop (hop_end p) p) (filled : IsFilled (hop_head q)) where
-  hop_leads : (hs : List Head) (last : Spot) → Leads (CanPass p) (head_at p) (behind p) (first_spot 0) hs last → EndsAt p last
+  hop_leads : (hs : List Head) (last : HeadSpot) → Leads (CanPass p) (head_at p) (behind p) (first_spot 0) hs last → EndsAt p last
       → Leads (CanPass q) (head_at q) (behind q) (first_spot 0) hs last × EndsAt q last
-  hop_leads [] last here ends = let P : Spot → Type 0 = λ s. EndsAt p s in absurd (subst P (sym here) ends)
+  hop_leads [] last here ends = let P : HeadSpot → Type 0 = λ s. EndsAt p s in absurd (subst P (sym here) ends)
   hop_leads (h ∷ hs) last leads ends =
       let after : behind q (first_spot 0) ≡ behind p (first_spot 0) = λ i. record { value = first i; at = 40 + (said i + 1) * 8; behind_ip = false } in
       let same : head_at q (first_spot 0) ≡ head_at p (first_spot 0) = λ i. record { value = 0; range = record { start = 40; end = 40 + (said i + 1) * 8 } } in
       let within : hop_end p ≤ length p = leads.0.0 in
       let ends_same : hop_end q ≡ hop_end p = λ i. 40 + (said i + 1) * 8 in
-      let P : Spot → Type 0 = λ s. Leads (CanPass q) (head_at q) (behind q) s hs last in
+      let P : HeadSpot → Type 0 = λ s. Leads (CanPass q) (head_at q) (behind q) s hs last in
       let later : hop_end p ≤ last.at = last_behind p (behind p (first_spot 0)) hs last leads.2 in (
         ((omega (arith, within, long, ends_same), (refl, filled)), leads.1 ∙ sym same, subst P (sym after) (leads_alike p q (hop_end p) rest long (behind p (first_spot 0)) hs last (omega arith) leads.2)),
         ends_alike p q (hop_end p) rest long last later ends,

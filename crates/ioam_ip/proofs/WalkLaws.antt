@@ -14,16 +14,16 @@ use Rattle.ioam_ip.specs.Scan.{IsFoundIn}
 use Rattle.ioam_ip.specs.Walks.{IsWhole}
 use Rattle.ioam_ip.specs.declared.chain.Kind.{Kind}
 use Rattle.ioam_ip.specs.declared.chain.Kind.TheVariants.{HopByHop, Destination, Routing, Fragment, Nested, Upper}
-use Rattle.ioam_ip.specs.declared.chain.Spot.{Spot}
+use Rattle.ioam_ip.specs.declared.chain.HeadSpot.{HeadSpot}
 use Rattle.ioam_ip.specs.declared.chain.Head.{Head}
-use Rattle.ioam_ip.specs.declared.scan.Found.{Found}
-use Rattle.ioam_ip.specs.declared.walking.Passed.{Passed}
+use Rattle.ioam_ip.specs.declared.scan.Findings.{Findings}
+use Rattle.ioam_ip.specs.declared.walks.Passed.{Passed}
 use Rattle.ioam_ip.proofs.ChainOptionsLaws.{OptionsOf-push, outer_targets-push, any_from_joined, carries_by_chain}
 use Rattle.ioam_ip.proofs.ChainLaws.{bad_not_sound}
 use Rattle.ioam_ip.proofs.Looking.{first_limit-append}
 
 -- the headers up to a spot were passed, and had this
-pub record Walked (p : List ℕ) (spot : Spot) (passed : Passed) : Type 0 where
+pub record Walked (p : List ℕ) (spot : HeadSpot) (passed : Passed) : Type 0 where
   pub heads : List Head
   pub options : List Item
   pub outer : List Item
@@ -35,7 +35,7 @@ pub record Walked (p : List ℕ) (spot : Spot) (passed : Passed) : Type 0 where
   pub limit : passed.limit ≡ first_limit outer
 
 -- none yet
-pub Walked-none : (p : List ℕ) (spot : Spot) (passed : Passed) → start p ≡ spot
+pub Walked-none : (p : List ℕ) (spot : HeadSpot) (passed : Passed) → start p ≡ spot
     → passed.inside ≡ false → passed.ioam ≡ false → passed.limit ≡ None → Walked p spot passed
 Walked-none p spot passed here inside ioam limit = record {
   heads = [];
@@ -73,7 +73,7 @@ ioam-append : (xs ys : List Item) (b c d : Bool) → b ≡ has_ioam xs → c ≡
 ioam-append xs ys b c d was found now = now ∙ ap (λ b. b || c) was ∙ ap (λ c. has_ioam xs || c) found ∙ sym (list_any-append _ xs ys)
 
 -- one header more
-pub Walked-push : (p : List ℕ) (spot next : Spot) (was now : Passed) (found : Found) (more : List Item) → Walked p spot was
+pub Walked-push : (p : List ℕ) (spot next : HeadSpot) (was now : Passed) (found : Findings) (more : List Item) → Walked p spot was
     → CanPass p spot → next ≡ behind p spot → HeadOptions p (head_at p spot) more → IsFoundIn more found
     → now.inside ≡ (was.inside || eqb spot.value 41)
     → now.ioam ≡ (was.ioam || found.ioam)
@@ -86,7 +86,7 @@ Walked-push p spot next was now found more walked pass is here in_more inside io
     let o : (outer : List Item) × OptionsOf p (outer_targets (walked.heads ++ head ∷ [])) outer × (now.limit ≡ first_limit outer) =
     outer_by p walked.heads (outer_targets (walked.heads ++ head ∷ [])) head (eqb spot.value 60 && not was.inside) walked.outer more
     was.limit now.limit found.limit targets walked.are_outer here walked.limit in_more.limit limit in
-    let P : Spot → Type 0 = λ next. Reaches p (walked.heads ++ head ∷ []) next in
+    let P : HeadSpot → Type 0 = λ next. Reaches p (walked.heads ++ head ∷ []) next in
     record {
       heads = walked.heads ++ head ∷ [];
       options = walked.options ++ more;
@@ -100,7 +100,7 @@ Walked-push p spot next was now found more walked pass is here in_more inside io
     }
 
 -- the end of the chain
-pub Walked-ends : (p : List ℕ) (spot : Spot) (passed : Passed) → Walked p spot passed → EndsAt p spot
+pub Walked-ends : (p : List ℕ) (spot : HeadSpot) (passed : Passed) → Walked p spot passed → EndsAt p spot
     → IsWhole p passed.ioam spot.value spot.at passed.limit
 Walked-ends p spot passed walked ends =
     let chain : Chain p walked.heads spot.value spot.at = record { last = spot; reaches = walked.reaches; ends = ends; value = refl; place = refl } in
@@ -129,13 +129,13 @@ Walked-ends p spot passed walked ends =
     }
 
 -- a header that breaks it
-pub Walked-bad : (p : List ℕ) (spot : Spot) (passed : Passed) → Walked p spot passed → (CanPass p spot → ⊥) → (EndsAt p spot → ⊥)
+pub Walked-bad : (p : List ℕ) (spot : HeadSpot) (passed : Passed) → Walked p spot passed → (CanPass p spot → ⊥) → (EndsAt p spot → ⊥)
     → BadAt p spot.at × (IsSound p → ⊥)
 Walked-bad p spot passed walked no_pass no_end =
     let bad : BadAt p spot.at = record { spot = spot; heads = walked.heads; reaches = walked.reaches; no_pass = no_pass; no_end = no_end; place = refl } in
     (bad, bad_not_sound p spot.at bad)
 
-size-pos : (p : List ℕ) (spot : Spot) (k : Kind) → Admits p spot k → 1 ≤ size_by p spot.at k
+size-pos : (p : List ℕ) (spot : HeadSpot) (k : Kind) → Admits p spot k → 1 ≤ size_by p spot.at k
 size-pos p spot HopByHop admits = omega arith
 size-pos p spot Destination admits = omega arith
 size-pos p spot Routing admits = omega arith
@@ -144,5 +144,5 @@ size-pos p spot Nested admits = omega arith
 size-pos p spot Upper admits = absurd admits
 
 -- each step goes on
-pub pass-moves : (p : List ℕ) (spot : Spot) → CanPass p spot → spot.at < end_at p spot
+pub pass-moves : (p : List ℕ) (spot : HeadSpot) → CanPass p spot → spot.at < end_at p spot
 pass-moves p spot pass = omega (arith, size-pos p spot (kind_of spot.value) pass.1)

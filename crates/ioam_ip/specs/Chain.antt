@@ -6,7 +6,7 @@ use Rattle.ioam_base.specs.Octets.{u16_at}
 use Rattle.ioam_ip.specs.Options.{IsFilled}
 use Rattle.ioam_ip.specs.declared.chain.Kind.{Kind}
 use Rattle.ioam_ip.specs.declared.chain.Kind.TheVariants.{HopByHop, Destination, Routing, Fragment, Nested, Upper}
-use Rattle.ioam_ip.specs.declared.chain.Spot.{Spot}
+use Rattle.ioam_ip.specs.declared.chain.HeadSpot.{HeadSpot}
 use Rattle.ioam_ip.specs.declared.chain.Head.{Head}
 
 -- the kind of header that a next header value names
@@ -48,7 +48,7 @@ fragment_offset p at = u16_at p (at + 2) / 8
 -- what a header of this kind needs besides its octets, for the chain to go on behind it.
 -- Hop-by-Hop Options stand directly behind an IPv6 header only; behind a fragment that isn't the
 -- first the chain doesn't go on. The payload length of a nested header isn't compared
-abbrev pub Admits : List ℕ → Spot → Kind → Type 0
+abbrev pub Admits : List ℕ → HeadSpot → Kind → Type 0
 Admits p spot HopByHop = IsTrue spot.behind_ip × IsFilled (slice_range p spot.at (spot.at + said_size p spot.at))
 Admits p spot Destination = IsFilled (slice_range p spot.at (spot.at + said_size p spot.at))
 Admits p spot Routing = Unit {0}
@@ -57,27 +57,27 @@ Admits p spot Nested = slice_index p spot.at / 16 ≡ 6
 Admits p spot Upper = ⊥
 
 -- where the header at a spot ends
-abbrev pub end_at : List ℕ → Spot → ℕ
+abbrev pub end_at : List ℕ → HeadSpot → ℕ
 end_at p spot = spot.at + size_by p spot.at (kind_of spot.value)
 
 -- the header at a spot is whole, may stand there, and the chain goes on behind it
-abbrev pub CanPass : List ℕ → Spot → Type 0
+abbrev pub CanPass : List ℕ → HeadSpot → Type 0
 CanPass p spot = (end_at p spot ≤ length p) × Admits p spot (kind_of spot.value)
 
 -- the header at a spot: its value and its octets' places
-abbrev pub head_at : List ℕ → Spot → Head
+abbrev pub head_at : List ℕ → HeadSpot → Head
 head_at p spot = record { value = spot.value; range = record { start = spot.at; end = end_at p spot } }
 
 -- the spot behind it
-abbrev pub behind : List ℕ → Spot → Spot
+abbrev pub behind : List ℕ → HeadSpot → HeadSpot
 behind p spot = record { value = next_by p spot.at (kind_of spot.value); at = end_at p spot; behind_ip = spot.value == 41 }
 
 -- the spot behind the first IPv6 header
-abbrev pub start : List ℕ → Spot
+abbrev pub start : List ℕ → HeadSpot
 start p = record { value = slice_index p 6; at = 40; behind_ip = true }
 
 -- these headers stand one behind the other, from the first up to this spot
-abbrev pub Reaches : List ℕ → List Head → Spot → Type 0
+abbrev pub Reaches : List ℕ → List Head → HeadSpot → Type 0
 Reaches p hs spot = Leads (CanPass p) (head_at p) (behind p) (start p) hs spot
 
 -- the chain ends at an upper protocol, and at a whole Fragment header that isn't the first's
@@ -89,12 +89,12 @@ EndsBy p at Fragment = (at + 8 ≤ length p) × (fragment_offset p at ≢ 0)
 EndsBy p at Nested = ⊥
 EndsBy p at Upper = Unit {0}
 
-abbrev pub EndsAt : List ℕ → Spot → Type 0
+abbrev pub EndsAt : List ℕ → HeadSpot → Type 0
 EndsAt p spot = EndsBy p spot.at (kind_of spot.value)
 
 -- the headers behind which the chain goes on, and the value and the place with which it ends
 pub record Chain (p : List ℕ) (hs : List Head) (upper at : ℕ) : Type 0 where
-  pub last : Spot
+  pub last : HeadSpot
   pub reaches : Reaches p hs last
   pub ends : EndsAt p last
   pub value : last.value ≡ upper
@@ -114,7 +114,7 @@ pub record IsSound (p : List ℕ) : Type 0 where
 
 -- the first header that breaks the chain stands at this place
 pub record BadAt (p : List ℕ) (at : ℕ) : Type 0 where
-  pub spot : Spot
+  pub spot : HeadSpot
   pub heads : List Head
   pub reaches : Reaches p heads spot
   pub no_pass : CanPass p spot → ⊥

@@ -6,7 +6,7 @@ use Rattle.ioam_ip.specs.Chain.{kind_of, fragment_offset, end_at, head_at, behin
 use Rattle.ioam_ip.specs.ChainOptions.{outer_targets}
 use Rattle.ioam_ip.specs.declared.chain.Kind.{Kind}
 use Rattle.ioam_ip.specs.declared.chain.Kind.TheVariants.{HopByHop, Destination, Routing, Fragment, Nested, Upper}
-use Rattle.ioam_ip.specs.declared.chain.Spot.{Spot}
+use Rattle.ioam_ip.specs.declared.chain.HeadSpot.{HeadSpot}
 use Rattle.ioam_ip.specs.declared.chain.Head.{Head}
 use Rattle.ioam_ip.specs.declared.headers.Heads.{Heads}
 
@@ -19,11 +19,11 @@ goes_on_by p at Fragment = fragment_offset p at == 0
 goes_on_by p at Nested = true
 goes_on_by p at Upper = false
 
-abbrev pub goes_on : List ℕ → Spot → Bool
+abbrev pub goes_on : List ℕ → HeadSpot → Bool
 goes_on p spot = nat_le (end_at p spot) (length p) && goes_on_by p spot.at (kind_of spot.value)
 
 -- the headers from a spot on; as many steps as the packet has octets are enough
-abbrev pub heads_from : ℕ → List ℕ → Spot → List Head
+abbrev pub heads_from : ℕ → List ℕ → HeadSpot → List Head
 heads_from zero p spot = []
 heads_from (suc steps) p spot = if goes_on p spot then head_at p spot ∷ heads_from steps p (behind p spot) else []
 

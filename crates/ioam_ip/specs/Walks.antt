@@ -2,8 +2,8 @@
 use Rattle.std.specs.Prelude.{ℕ, List, Bool, true, false, IsTrue, Option, ◌↔◌}
 use Rattle.ioam_ip.specs.Chain.{EndsWith, IsSound, BadAt}
 use Rattle.ioam_ip.specs.ChainOptions.{CarriesIoam, LimitOf}
-use Rattle.ioam_ip.specs.declared.walked.Walk.{Walk}
-use Rattle.ioam_ip.specs.declared.walked.Walk.TheVariants.{Whole, Bad}
+use Rattle.ioam_ip.specs.declared.answer.Walk.{Walk}
+use Rattle.ioam_ip.specs.declared.answer.Walk.TheVariants.{Whole, Bad}
 
 -- what the walk along a sound packet found
 pub record IsWhole (p : List ℕ) (ioam : Bool) (upper at : ℕ) (limit : Option ℕ) : Type 0 where

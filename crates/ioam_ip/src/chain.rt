@@ -28,7 +28,7 @@ pub struct Head {
 
 /// Where a header may stand.
 #[derive(Clone, Copy)]
-pub(crate) struct Spot {
+pub(crate) struct HeadSpot {
     /// The value that names the header.
     pub(crate) value: u8,
     /// The place of its first octet.
@@ -50,11 +50,11 @@ impl Head {
 }
 
 /// The spot behind the first IPv6 header of a packet.
-pub(crate) fn start(packet: &[u8]) -> Spot
+pub(crate) fn start(packet: &[u8]) -> HeadSpot
     requires { 40 ≤ length packet.now }
     ensures { result ≡ start packet.now }
 {
-    Spot {
+    HeadSpot {
         value: packet[NEXT_HEADER],
         at: HEADER_OCTETS,
         behind_ip: true,

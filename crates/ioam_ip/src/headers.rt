@@ -3,7 +3,7 @@ ghost use Rattle.std.specs.Prelude.{◌≡◌, MatchOption, IsTrue, false};
 ghost use Rattle.ioam_ip.specs.Chain.{behind};
 ghost use Rattle.ioam_ip.specs.HeadsLeft.{goes_on};
 
-use crate::chain::{Head, Spot, kind_of};
+use crate::chain::{Head, HeadSpot, kind_of};
 use crate::extents::{goes_on, next_value, whole_end};
 use crate::next_header::IPV6;
 
@@ -12,7 +12,7 @@ use crate::next_header::IPV6;
 #[derive(Clone, Copy)]
 pub struct Heads<'a> {
     pub(crate) packet: &'a [u8],
-    pub(crate) spot: Spot,
+    pub(crate) spot: HeadSpot,
 }
 
 impl<'a> Iterator for Heads<'a> {
@@ -39,7 +39,7 @@ impl<'a> Iterator for Heads<'a> {
 }
 
 // The spot behind the header at a spot, unless the chain ends there.
-fn spot_behind(packet: &[u8], spot: Spot) -> Option<Spot>
+fn spot_behind(packet: &[u8], spot: HeadSpot) -> Option<HeadSpot>
     ensures { MatchOption result (goes_on packet.now spot ≡ false)
         (λ next. IsTrue (goes_on packet.now spot) × (next ≡ behind packet.now spot)) }
 {
@@ -53,7 +53,7 @@ fn spot_behind(packet: &[u8], spot: Spot) -> Option<Spot>
     if !goes_on(packet, spot.at, kind) {
         return None;
     }
-    Some(Spot {
+    Some(HeadSpot {
         value: next_value(packet, spot.at, kind),
         at: end,
         behind_ip: spot.value == IPV6,

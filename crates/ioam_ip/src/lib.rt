@@ -1,6 +1,7 @@
 //! IPv6 packets, header chains and the options of their options headers (RFC 8200 sections 3 and 4).
 #![tactic(auto)]
 
+mod answer;
 mod chain;
 mod checks;
 mod codec;
@@ -16,9 +17,9 @@ pub mod option_type;
 mod packet;
 mod scan;
 mod steps;
-mod walked;
-mod walking;
+mod walks;
 
+pub use answer::Walk;
 pub use chain::Head;
 pub use checks::{check_options, options};
 pub use codec::{header, put_header};
@@ -29,5 +30,4 @@ pub use items::{Opt, Options};
 pub use layout::{Layout, LayoutFault, MOST_OCTETS, pad, padded, size_with};
 pub use next::{OptionSpot, next_option};
 pub use packet::{HEADER_OCTETS, HOP_LIMIT, Header, NEXT_HEADER};
-pub use walked::Walk;
-pub use walking::walk;
+pub use walks::walk;

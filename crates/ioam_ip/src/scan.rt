@@ -9,7 +9,7 @@ use crate::option_type::{ENCAPSULATION_LIMIT, is_ioam_type};
 
 /// What was found among options: whether one is an IOAM option, and the first encapsulation limit.
 #[derive(Clone, Copy)]
-pub(crate) struct Found {
+pub(crate) struct Findings {
     pub(crate) ioam: bool,
     pub(crate) limit: Option<u8>,
 }
@@ -18,7 +18,7 @@ pub(crate) struct Found {
 #[derive(Clone, Copy)]
 pub(crate) enum Scan {
     /// The options fill the header.
-    Fills(Found),
+    Fills(Findings),
     /// The first option that doesn't fit, by its place in the header.
     Unfit(usize),
 }
@@ -28,7 +28,7 @@ pub(crate) fn look_through(head: &[u8]) -> Scan
     requires { 2 ≤ length head.now }
     ensures { Scans head.now result }
 {
-    let mut found = Found {
+    let mut found = Findings {
         ioam: false,
         limit: None,
     };
@@ -62,9 +62,9 @@ pub(crate) fn option_end(head: &[u8], at: usize) -> Option<usize>
     Some(at + size)
 }
 
-impl Found {
+impl Findings {
     // What is found, once the option at a place is looked at too.
-    fn with(self, head: &[u8], at: usize) -> Found
+    fn with(self, head: &[u8], at: usize) -> Findings
         requires { OptionFits head.now at }
         ensures ioam { result.ioam ≡ (self.ioam || is_ioam (item_at head.now at)) }
         ensures limit { result.limit ≡ option_or self.limit (first_limit (item_at head.now at ∷ [])) }
@@ -72,7 +72,7 @@ impl Found {
         let kind = head[at];
         let ioam = self.ioam || is_ioam_type(kind);
         let limit = self.limit.or(limit_at(head, at));
-        Found { ioam, limit }
+        Findings { ioam, limit }
     }
 }
 

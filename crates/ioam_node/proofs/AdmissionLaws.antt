@@ -8,7 +8,7 @@ use Rattle.ioam_topo.specs.declared.ids.FlowId.{FlowId}
 use Rattle.ioam_topo.specs.Domain.{is_local}
 use Rattle.ioam_node.specs.Admission.{Admits, Refuses, IsFree, CanEnter, flow_for, reason_of}
 use Rattle.ioam_node.specs.Order.{IsFirst, rank}
-use Rattle.ioam_node.specs.declared.admitted.Admit.TheVariants as admit
+use Rattle.ioam_node.specs.declared.answer.Admit.TheVariants as admit
 use Rattle.ioam_node.specs.declared.reason.Reason.{Reason}
 use Rattle.ioam_node.specs.declared.reason.Reason.TheVariants as reason
 

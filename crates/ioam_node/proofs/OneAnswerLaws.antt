@@ -10,8 +10,8 @@ use Rattle.ioam_topo.specs.Domain.{flows, is_local}
 use Rattle.ioam_topo.specs.Finding.{flow_at}
 use Rattle.ioam_node.specs.Admission.{Refuses, CanEnter, AdmitsPacket, Admits, IsDrop, flow_for}
 use Rattle.ioam_node.specs.Order.{IsFirst, rank}
-use Rattle.ioam_node.specs.declared.admitted.Admit.{Admit}
-use Rattle.ioam_node.specs.declared.admitted.Admit.TheVariants as admit
+use Rattle.ioam_node.specs.declared.answer.Admit.{Admit}
+use Rattle.ioam_node.specs.declared.answer.Admit.TheVariants as admit
 use Rattle.ioam_node.specs.declared.reason.Reason.{Reason}
 use Rattle.ioam_node.specs.declared.reason.Reason.TheVariants as reason
 

@@ -12,8 +12,8 @@ use Rattle.ioam_topo.specs.declared.ids.FlowId.{FlowId}
 use Rattle.ioam_topo.specs.Domain.{flows, is_local}
 use Rattle.ioam_topo.specs.Finding.{flow_at}
 use Rattle.ioam_node.specs.Order.{IsFirst}
-use Rattle.ioam_node.specs.declared.admitted.Admit.{Admit}
-use Rattle.ioam_node.specs.declared.admitted.Admit.TheVariants as admit
+use Rattle.ioam_node.specs.declared.answer.Admit.{Admit}
+use Rattle.ioam_node.specs.declared.answer.Admit.TheVariants as admit
 use Rattle.ioam_node.specs.declared.reason.Reason.{Reason}
 use Rattle.ioam_node.specs.declared.reason.Reason.TheVariants as reason
 

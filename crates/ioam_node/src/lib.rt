@@ -2,14 +2,14 @@
 //! it sends a packet, or the first reason why it drops it.
 #![tactic(auto)]
 
-mod admitted;
-mod admitting;
+mod admission;
+mod answer;
 mod choosing;
 mod place;
 mod reason;
 
-pub use admitted::Admit;
-pub use admitting::admit;
+pub use admission::admit;
+pub use answer::Admit;
 pub use choosing::{begin, exit, transit};
 pub use place::Place;
 pub use reason::{Reason, packet_or_reason};

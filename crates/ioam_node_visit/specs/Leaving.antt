@@ -7,8 +7,8 @@ use Rattle.ioam_ip.specs.declared.packet.Header.{Header}
 use Rattle.ioam_node.specs.Choice.{exit_choice}
 use Rattle.ioam_topo.specs.declared.domain.Domain.{Domain}
 use Rattle.ioam_tunnel.specs.Inner.{InnerAt}
-use Rattle.ioam_node_visit.specs.declared.left.Leave.{Leave}
-use Rattle.ioam_node_visit.specs.declared.left.Leave.TheVariants.{Out, Drop}
+use Rattle.ioam_node_visit.specs.declared.answer.Leave.{Leave}
+use Rattle.ioam_node_visit.specs.declared.answer.Leave.TheVariants.{Out, Drop}
 
 -- the octets are a packet that carries one
 pub record HasInner (packet : List ℕ) : Type 0 where

@@ -1,3 +1,4 @@
+//! What a node does to one option: it fills a trace, or exports what direct export asks for.
 ghost use Rattle.std.specs.Prelude.{◌≡◌, ◌<◌, ◌≤◌, ◌^◌, ◌-◌, ◌+◌, ◌++◌, ◌∷◌, [], true, if◌then◌else◌, length};
 ghost use Rattle.ioam_clock.specs.Reading.{samples_of};
 ghost use Rattle.ioam_data.specs.View.{seen};
@@ -14,7 +15,7 @@ ghost use Rattle.ioam_node_visit.specs.Step.{knows, node_step, trace_step};
 use crate::met::{Met, meet};
 use crate::note::{NodeNote, What};
 use crate::room::NodeRoom;
-use crate::visit::Visit;
+use crate::visit::NodeVisit;
 use ioam_base::octets::u16_at;
 use ioam_clock::Sample;
 use ioam_data::{ElementBuf, Namespace, TraceType, put_exported};
@@ -56,7 +57,7 @@ fn export_type(kind: TraceType) -> TraceType
     }
 }
 
-impl Visit<'_> {
+impl NodeVisit<'_> {
     // Adds the node's data to the octets of a trace of a namespace, and says what was done.
     fn fill_known(&self, sample: Option<Sample>, namespace: Namespace, octets: &mut [u8]) -> What
         requires node { self.now.place.node.0 < length (nodes self.now.domain.now) }

@@ -1,3 +1,4 @@
+//! The packet that an enclosed packet carries.
 ghost use Rattle.std.specs.Prelude.{◌≡◌, ℕ, List, length, drop, IfSome, IsSomeAnd, MatchOption};
 ghost use Rattle.ioam_clock.specs.declared.sample.Sample.{Sample};
 ghost use Rattle.ioam_ip.specs.Chain.{IsSound};

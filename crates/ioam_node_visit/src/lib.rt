@@ -3,11 +3,11 @@
 //! export options ask for (RFC 9326 section 3).
 #![tactic(auto)]
 
+mod answer;
 mod counting;
 mod data;
+mod exits;
 mod inside;
-mod leaving;
-mod left;
 mod met;
 mod note;
 mod options;
@@ -16,10 +16,10 @@ mod seeing;
 mod visit;
 mod visits;
 
+pub use answer::Leave;
 pub use counting::option_count;
+pub use exits::leave;
 pub use inside::carried;
-pub use leaving::leave;
-pub use left::Leave;
 pub use note::{NodeNote, What};
 pub use room::NodeRoom;
 pub use visits::{begin, exit, transit};

@@ -1,3 +1,4 @@
+//! What an option is to a node that visits the packet.
 ghost use Rattle.std.specs.Prelude.{◌≡◌, ◌≤◌, length};
 ghost use Rattle.ioam_node_visit.specs.Met.{met_by, met_of};
 ghost use Rattle.ioam_node_visit.specs.declared.met.Met.TheVariants as met;

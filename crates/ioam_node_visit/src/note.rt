@@ -1,3 +1,4 @@
+//! What a visit notes of an option.
 use ioam_data::Namespace;
 
 /// What a node did with an option.

@@ -15,11 +15,11 @@ ghost use Rattle.ioam_node_visit.specs.Seeing.{IsInForce};
 ghost use Rattle.ioam_node_visit.specs.Step.{node_step};
 
 use crate::room::NodeRoom;
-use crate::visit::Visit;
+use crate::visit::NodeVisit;
 use ioam_clock::Sample;
 use ioam_ip::{hop_header, next_option};
 
-impl Visit<'_> {
+impl NodeVisit<'_> {
     // Changes the options of a header as the node does.
     fn change_options(&self, sample: Option<Sample>, head: &mut [u8], room: &mut NodeRoom)
         requires node { self.now.place.node.0 < length (nodes self.now.domain.now) }

@@ -1,3 +1,4 @@
+//! Room for what a packet's visits note and export.
 ghost use Rattle.std.specs.Prelude.{◌≡◌, ◌≤◌, ◌+◌, ◌-◌, ◌*◌, ◌++◌, ◌∷◌, [], IfOk, length};
 ghost use Rattle.ioam_dex.specs.Record.{HasItsParts, record_of, record_octets};
 ghost use Rattle.ioam_node_visit.specs.Room.{Room};
@@ -9,7 +10,7 @@ use std::alloc::Global;
 use std::marker::Model;
 
 /// The octets of an export record, at most.
-const RECORD_MOST: usize = 274;
+const MOST_RECORD: usize = 274;
 
 /// Room for the notes and export records of a packet's visits, all of it taken when it is made.
 #[derive(Drop)]
@@ -46,7 +47,7 @@ impl NodeRoom {
         let given = (visits * options) as usize;
         Ok(NodeRoom {
             notes: Vec::with_capacity(alloc, given)?,
-            exports: ExportRoom::new(alloc, RECORD_MOST * given)?,
+            exports: ExportRoom::new(alloc, MOST_RECORD * given)?,
             given,
         })
     }

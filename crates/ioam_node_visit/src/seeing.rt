@@ -10,7 +10,7 @@ ghost use Rattle.ioam_topo.specs.Domain.{nodes};
 ghost use Rattle.ioam_topo.specs.Sound.{IsNodeData};
 ghost use Rattle.ioam_node_visit.specs.Seeing.{IsInForce, snapshot_in, view_of};
 
-use crate::visit::Visit;
+use crate::visit::NodeVisit;
 use ioam_clock::{Sample, stamp};
 use ioam_data::{Namespace, View};
 use ioam_topo::{Format, NodeData};
@@ -22,10 +22,8 @@ fn stamp_in(format: Format, sample: Option<Sample>, time: u64) -> Option<(u32, u
     requires before { IfSome sample (λ sample. sample.time ≤ time) }
     ensures { result ≡ option_map (stamp format) (option_map (elapsed time) sample) }
 {
-    match sample {
-        Some(sample) => Some(stamp(format, sample.clock + (time - sample.time))),
-        None => None,
-    }
+    let sample = sample?;
+    Some(stamp(format, sample.clock + (time - sample.time)))
 }
 
 // The snapshot of a node's data, with its schema.
@@ -46,49 +44,34 @@ fn snapshot_of(row: Option<&NodeData>) -> Option<(u32, &[u8])>
 fn delay_in(sample: Option<Sample>) -> Option<u64>
     ensures { result ≡ option_and_then (λ s. s.delay) sample }
 {
-    match sample {
-        Some(sample) => sample.delay,
-        None => None,
-    }
+    sample?.delay
 }
 
 fn queue_in(sample: Option<Sample>) -> Option<u32>
     ensures { result ≡ option_and_then (λ s. s.queue) sample }
 {
-    match sample {
-        Some(sample) => sample.queue,
-        None => None,
-    }
+    sample?.queue
 }
 
 fn buffer_in(sample: Option<Sample>) -> Option<u32>
     ensures { result ≡ option_and_then (λ s. s.buffer) sample }
 {
-    match sample {
-        Some(sample) => sample.buffer,
-        None => None,
-    }
+    sample?.buffer
 }
 
 fn short_in(row: Option<&NodeData>) -> Option<u32>
     ensures { result ≡ option_and_then (λ r. r.short) (option_copied row.entry) }
 {
-    match row {
-        Some(row) => row.short,
-        None => None,
-    }
+    row?.short
 }
 
 fn wide_in(row: Option<&NodeData>) -> Option<u64>
     ensures { result ≡ option_and_then (λ r. r.wide) (option_copied row.entry) }
 {
-    match row {
-        Some(row) => row.wide,
-        None => None,
-    }
+    row?.wide
 }
 
-impl Visit<'_> {
+impl NodeVisit<'_> {
     // The sample in force at the node.
     pub(crate) fn sample(&self) -> Option<Sample>
         ensures { IsInForce (samples_of self.now.readings.now self.now.place.node.0) self.now.time result }

@@ -1,3 +1,4 @@
+//! The visits of a packet: at the entry of its tunnel, on the way, and at its exit.
 ghost use Rattle.std.specs.Prelude.{◌≡◌, ◌↔◌, ◌+◌, ◌-◌, ◌<◌, ◌≤◌, ◌^◌, ◌∷◌, [], ◌++◌, List, None, length, slice_index};
 ghost use Rattle.ioam_dex.specs.Reads.{records_octets};
 ghost use Rattle.ioam_ip.specs.Chain.{IsSound};
@@ -14,7 +15,7 @@ ghost use Rattle.ioam_node_visit.specs.Step.{node_step};
 ghost use Rattle.ioam_node_visit.specs.Visits.{Visited, closed_after, tunnel_records, wire_after};
 
 use crate::room::NodeRoom;
-use crate::visit::Visit;
+use crate::visit::NodeVisit;
 use ioam_clock::Readings;
 use ioam_ip::HOP_LIMIT;
 use ioam_node::Place;
@@ -59,7 +60,7 @@ pub fn begin(
         ++ records_octets (tunnel_records domain.now readings.now tunnel 0 (record { place = place; time = time })) }
 {
     let hops = packet[HOP_LIMIT];
-    let visit = Visit {
+    let visit = NodeVisit {
         domain,
         readings,
         place,
@@ -111,7 +112,7 @@ pub fn transit(
 {
     let hops = packet[HOP_LIMIT] - 1;
     packet[HOP_LIMIT] = hops;
-    let visit = Visit {
+    let visit = NodeVisit {
         domain,
         readings,
         place,
@@ -163,7 +164,7 @@ pub fn exit(
         ++ records_octets (tunnel_records domain.now readings.now tunnel (length visits) (record { place = place; time = time })) }
 {
     let hops = packet[HOP_LIMIT] - 1;
-    let visit = Visit {
+    let visit = NodeVisit {
         domain,
         readings,
         place,

@@ -15,7 +15,7 @@ use Rattle.ioam_tunnel.specs.declared.numbers.Numbers.{Numbers}
 use Rattle.ioam_plan.specs.declared.itinerary.Itinerary.{Itinerary}
 use Rattle.ioam_plan.specs.declared.stage.Entry.{Entry}
 use Rattle.ioam_plan.specs.declared.stage.Inside.{Inside}
-use Rattle.ioam_plan.specs.declared.stage.Spot.{Spot}
+use Rattle.ioam_plan.specs.declared.stage.JourneySpot.{JourneySpot}
 use Rattle.ioam_plan.specs.declared.stage.Stage.TheVariants.{Enter}
 use Rattle.ioam_plan.specs.declared.stage.Trip.{Trip}
 use Rattle.ioam_plan.specs.Counted.{CanCount}
@@ -29,7 +29,7 @@ use Rattle.ioam_plan.proofs.RidesLaws.{rides_flow, enters_high, direct_there}
 
 -- a journey from where a packet enters its tunnel is the one that is planned
 pub flow_planned : (domain : Domain) (readings : List (List Sample)) (number : ℕ) (port : Port) (time : ℕ) (id : FlowId) (flow : Flow)
-    (packet : List ℕ) (found : Option ℕ) (it : Itinerary) (header : Header) (numbers : Numbers) (trip : Trip) (spot : Spot) (entry : Entry)
+    (packet : List ℕ) (found : Option ℕ) (it : Itinerary) (header : Header) (numbers : Numbers) (trip : Trip) (spot : JourneySpot) (entry : Entry)
     → slice_get (flows domain) id.0 ≡ Some flow → HasFields packet header → numbers ≡ numbers_of domain readings flow number found time
     → trip ≡ flow_trip domain id flow numbers header.target header.hops packet → spot ≡ start_of port time header.hops
     → entry ≡ entry_of flow found → Journey domain trip (Enter spot entry) it
@@ -39,7 +39,7 @@ flow_planned domain readings number port time id flow packet found it header num
     let Q : Numbers → Type 0 = λ n. Journey domain (flow_trip domain id flow n header.target header.hops packet) (Enter spot entry) it in
     let N : Numbers = numbers_of domain readings flow number found time in
     let T : Trip = flow_trip domain id flow N header.target header.hops packet in
-    let R : Spot → Type 0 = λ s. Journey domain T (Enter s entry) it in
+    let R : JourneySpot → Type 0 = λ s. Journey domain T (Enter s entry) it in
     let S : Entry → Type 0 = λ e. Journey domain T (Enter (start_of port time header.hops) e) it in
     let planned : PlansFlow domain readings number port time id flow packet found it =
     record { header = header; fields = fields; journey = subst S enters (subst R starts (subst Q drawn (subst P goes journey))) } in
@@ -48,7 +48,7 @@ flow_planned domain readings number port time id flow packet found it header num
 
 -- and what it keeps
 pub flow_rides : (domain : Domain) (readings : List (List Sample)) (number : ℕ) (time : ℕ) (id : FlowId) (flow : Flow) (packet : List ℕ)
-    (found : Option ℕ) (it : Itinerary) (numbers : Numbers) (target hops : ℕ) (trip : Trip) (spot : Spot) (entry : Entry)
+    (found : Option ℕ) (it : Itinerary) (numbers : Numbers) (target hops : ℕ) (trip : Trip) (spot : JourneySpot) (entry : Entry)
     → it.port.0 < length (ports domain) → length packet ≤ 65575
     → slice_get (flows domain) id.0 ≡ Some flow → id.0 < length (flows domain) → IsPacket packet → IsSound packet
     → numbers ≡ numbers_of domain readings flow number found time → number < 4294967296

@@ -11,9 +11,9 @@ use Rattle.ioam_plan.specs.declared.itinerary.Itinerary.{Itinerary}
 use Rattle.ioam_plan.specs.declared.itinerary.Visit.{Visit}
 use Rattle.ioam_plan.specs.declared.itinerary.End.{End}
 use Rattle.ioam_plan.specs.declared.itinerary.End.TheVariants.{Drop}
-use Rattle.ioam_plan.specs.declared.stage.Spot.{Spot}
+use Rattle.ioam_plan.specs.declared.stage.JourneySpot.{JourneySpot}
 use Rattle.ioam_plan.specs.declared.stage.Stage.{Stage}
-use Rattle.ioam_plan.specs.declared.stage.Step.TheVariants.{Goes, Ends}
+use Rattle.ioam_plan.specs.declared.stage.JourneyStep.TheVariants.{Goes, Ends}
 use Rattle.ioam_plan.specs.declared.stage.Trip.{Trip}
 use Rattle.ioam_plan.specs.Journey.{Journey, Reaches, step_at, carried_by, sent_in}
 
@@ -82,7 +82,7 @@ Journey-unique domain trip start it other port first second =
     (first.carried ∙ ap (λ (visits : List Visit). carried_by visits trip.inside) same.0 ∙ sym second.carried)
 
 -- a packet that goes on from where it enters its tunnel has a hop limit that can be lowered
-pub by_choice : (domain : Domain) (spot : Spot) (hops : ℕ) (low : Bool) (choice : Result LinkId Reason) (visit : Visit) (next : Stage)
+pub by_choice : (domain : Domain) (spot : JourneySpot) (hops : ℕ) (low : Bool) (choice : Result LinkId Reason) (visit : Visit) (next : Stage)
     → sent_in domain spot hops (if low then Err HopLimit else choice) ≡ Goes visit next → low ≡ false
 by_choice domain spot hops false choice visit next goes = refl
 by_choice domain spot hops true choice visit next goes =

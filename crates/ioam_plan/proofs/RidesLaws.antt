@@ -16,7 +16,7 @@ use Rattle.ioam_plan.specs.declared.itinerary.Itinerary.{Itinerary}
 use Rattle.ioam_plan.specs.declared.itinerary.Visit.{Visit}
 use Rattle.ioam_plan.specs.declared.stage.Entry.{Entry}
 use Rattle.ioam_plan.specs.declared.stage.Inside.{Inside}
-use Rattle.ioam_plan.specs.declared.stage.Spot.{Spot}
+use Rattle.ioam_plan.specs.declared.stage.JourneySpot.{JourneySpot}
 use Rattle.ioam_plan.specs.declared.stage.Stage.{Stage}
 use Rattle.ioam_plan.specs.declared.stage.Stage.TheVariants.{Enter}
 use Rattle.ioam_plan.specs.declared.stage.Trip.{Trip}
@@ -28,7 +28,7 @@ use Rattle.ioam_plan.specs.Steps.{HasRidden}
 use Rattle.ioam_plan.proofs.JourneyLaws.{by_choice}
 
 -- a packet that goes on from where it enters its tunnel has a hop limit that can be lowered
-pub enters_high : (domain : Domain) (trip : Trip) (spot : Spot) (entry : Entry) (visits : List Visit) (last : Stage)
+pub enters_high : (domain : Domain) (trip : Trip) (spot : JourneySpot) (entry : Entry) (visits : List Visit) (last : Stage)
     → Reaches domain trip (Enter spot entry) visits last → 0 < length visits → 2 ≤ spot.hops
 enters_high domain trip spot entry [] last leads some = absurd (omega (arith, some))
 enters_high domain trip spot entry (visit ∷ visits) last leads some =

@@ -20,11 +20,11 @@ use Rattle.ioam_plan.specs.declared.itinerary.Visit.{Visit}
 use Rattle.ioam_plan.specs.declared.itinerary.End.{End}
 use Rattle.ioam_plan.specs.declared.itinerary.End.TheVariants.{Left, Drop}
 use Rattle.ioam_plan.specs.declared.stage.Inside.{Inside}
-use Rattle.ioam_plan.specs.declared.stage.Spot.{Spot}
+use Rattle.ioam_plan.specs.declared.stage.JourneySpot.{JourneySpot}
 use Rattle.ioam_plan.specs.declared.stage.Stage.{Stage}
 use Rattle.ioam_plan.specs.declared.stage.Stage.TheVariants.{Enter, At, Gone, Out}
-use Rattle.ioam_plan.specs.declared.stage.Step.{Step}
-use Rattle.ioam_plan.specs.declared.stage.Step.TheVariants.{Goes, Ends}
+use Rattle.ioam_plan.specs.declared.stage.JourneyStep.{JourneyStep}
+use Rattle.ioam_plan.specs.declared.stage.JourneyStep.TheVariants.{Goes, Ends}
 use Rattle.ioam_plan.specs.declared.stage.Trip.{Trip}
 
 -- the interface by which a way leaves its node
@@ -38,7 +38,7 @@ outward_by domain None = None
 outward_by domain (Some sent) = outward_of domain sent
 
 -- the visit at a spot from which the packet is sent by a way, if it is
-abbrev pub visit_by : Domain → Spot → Option Way → Visit
+abbrev pub visit_by : Domain → JourneySpot → Option Way → Visit
 visit_by domain spot sent = record {
   place = record { node = spot.node; inward = spot.inward; outward = outward_by domain sent };
   way = sent;
@@ -46,26 +46,26 @@ visit_by domain spot sent = record {
 }
 
 -- the spot at the far end of a link, which the packet crosses with this hop limit
-abbrev pub crossed : Spot → ℕ → Option Link → Spot
+abbrev pub crossed : JourneySpot → ℕ → Option Link → JourneySpot
 crossed spot hops None = spot
 crossed spot hops (Some link) = record { node = link.to; inward = link.in_id; time = spot.time + link.delay; hops = hops }
 
 -- where a link leads
-abbrev pub across : Domain → Spot → ℕ → LinkId → Stage
+abbrev pub across : Domain → JourneySpot → ℕ → LinkId → Stage
 across domain spot hops link = At (crossed spot hops (slice_get (links domain) link.0))
 
 -- where a way leads
-abbrev pub led : Domain → Spot → ℕ → Way → Stage
+abbrev pub led : Domain → JourneySpot → ℕ → Way → Stage
 led domain spot hops (way.Link link) = across domain spot hops link
 led domain spot hops (way.Port port) = Gone port
 
 -- the packet is sent with this hop limit by a way, or dropped
-abbrev pub sent_on : Domain → Spot → ℕ → Result Way Reason → Step
+abbrev pub sent_on : Domain → JourneySpot → ℕ → Result Way Reason → JourneyStep
 sent_on domain spot hops (Ok sent) = Goes (visit_by domain spot (Some sent)) (led domain spot hops sent)
 sent_on domain spot hops (Err reason) = Ends (Drop reason spot.node) false
 
 -- where it enters its tunnel it is sent by a link, or dropped
-abbrev pub sent_in : Domain → Spot → ℕ → Result LinkId Reason → Step
+abbrev pub sent_in : Domain → JourneySpot → ℕ → Result LinkId Reason → JourneyStep
 sent_in domain spot hops (Ok link) = Goes (visit_by domain spot (Some (way.Link link))) (across domain spot hops link)
 sent_in domain spot hops (Err reason) = Ends (Drop reason spot.node) false
 
@@ -75,7 +75,7 @@ end_by node (Ok port) = Left port
 end_by node (Err reason) = Drop reason node
 
 -- what becomes of the packet at a node where it doesn't enter its tunnel: the node at which the tunnel ends takes it out
-abbrev pub met_at : Domain → ℕ → ℕ → Spot → Option Inside → Step
+abbrev pub met_at : Domain → ℕ → ℕ → JourneySpot → Option Inside → JourneyStep
 met_at domain target size spot None = sent_on domain spot (spot.hops - 1) (choice domain spot.node.0 false spot.hops target size)
 met_at domain target size spot (Some inside) =
     if nat_eq inside.exit.0 spot.node.0
@@ -90,7 +90,7 @@ carried_by (visit ∷ visits) (Some inside) = Some (inside.flow, inside.numbers)
 
 module _ (domain : Domain) (trip : Trip) where
   -- what becomes of the packet at a stage: a visit from which it goes on to another, or its end, after it reached its exit or before
-  abbrev pub step_at : Stage → Step
+  abbrev pub step_at : Stage → JourneyStep
   step_at (Enter spot entry) =
       sent_in domain spot entry.hops (entry_choice domain spot.node.0 entry.refused spot.hops trip.target trip.size)
   step_at (At spot) = met_at domain trip.target trip.size spot trip.inside

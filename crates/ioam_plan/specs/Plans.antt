@@ -10,8 +10,8 @@ use Rattle.ioam_topo.specs.declared.ids.FlowId.{FlowId}
 use Rattle.ioam_topo.specs.declared.ids.PortId.{PortId}
 use Rattle.ioam_topo.specs.Domain.{flows, ports}
 use Rattle.ioam_node.specs.declared.reason.Reason.{Reason}
-use Rattle.ioam_node.specs.declared.admitted.Admit.{Admit}
-use Rattle.ioam_node.specs.declared.admitted.Admit.TheVariants as admit
+use Rattle.ioam_node.specs.declared.answer.Admit.{Admit}
+use Rattle.ioam_node.specs.declared.answer.Admit.TheVariants as admit
 use Rattle.ioam_tunnel.specs.Enclosed.{address_at}
 use Rattle.ioam_tunnel.specs.Limits.{limit_by}
 use Rattle.ioam_tunnel.specs.Size.{outer_size}
@@ -19,7 +19,7 @@ use Rattle.ioam_tunnel.specs.declared.numbers.Numbers.{Numbers}
 use Rattle.ioam_plan.specs.declared.itinerary.Itinerary.{Itinerary}
 use Rattle.ioam_plan.specs.declared.itinerary.End.TheVariants.{Drop}
 use Rattle.ioam_plan.specs.declared.stage.Entry.{Entry}
-use Rattle.ioam_plan.specs.declared.stage.Spot.{Spot}
+use Rattle.ioam_plan.specs.declared.stage.JourneySpot.{JourneySpot}
 use Rattle.ioam_plan.specs.declared.stage.Stage.TheVariants.{Enter, At}
 use Rattle.ioam_plan.specs.declared.stage.Trip.{Trip}
 use Rattle.ioam_plan.specs.Counted.{enclosed_in}
@@ -27,7 +27,7 @@ use Rattle.ioam_plan.specs.Drawn.{numbers_of, is_refused}
 use Rattle.ioam_plan.specs.Journey.{Journey}
 
 -- where a packet is when it arrives
-abbrev pub start_of : Port → ℕ → ℕ → Spot
+abbrev pub start_of : Port → ℕ → ℕ → JourneySpot
 start_of port time hops = record { node = port.node; inward = port.id; time = time; hops = hops }
 
 -- ---- a packet that isn't enclosed

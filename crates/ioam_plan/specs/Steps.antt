@@ -4,17 +4,17 @@ use Rattle.ioam_topo.specs.declared.domain.Domain.{Domain}
 use Rattle.ioam_topo.specs.Domain.{nodes, ports}
 use Rattle.ioam_plan.specs.declared.itinerary.Visit.{Visit}
 use Rattle.ioam_plan.specs.declared.stage.Inside.{Inside}
-use Rattle.ioam_plan.specs.declared.stage.Spot.{Spot}
+use Rattle.ioam_plan.specs.declared.stage.JourneySpot.{JourneySpot}
 use Rattle.ioam_plan.specs.declared.stage.Stage.{Stage}
 use Rattle.ioam_plan.specs.declared.stage.Stage.TheVariants.{Enter, At, Gone, Out}
-use Rattle.ioam_plan.specs.declared.stage.Step.{Step}
-use Rattle.ioam_plan.specs.declared.stage.Step.TheVariants.{Goes, Ends}
+use Rattle.ioam_plan.specs.declared.stage.JourneyStep.{JourneyStep}
+use Rattle.ioam_plan.specs.declared.stage.JourneyStep.TheVariants.{Goes, Ends}
 use Rattle.ioam_plan.specs.declared.stage.Trip.{Trip}
 use Rattle.ioam_plan.specs.Inside.{EndsInside}
 use Rattle.ioam_plan.specs.Rides.{IsVisitIn, Sends, SendsBy, SendsToExit}
 
 -- as many links as the hop limit allows, each with the longest delay, end in time
-abbrev pub IsInTime : Spot → Type 0
+abbrev pub IsInTime : JourneySpot → Type 0
 IsInTime spot = spot.time + spot.hops * 2 ^ 32 < 2 ^ 63
 
 -- the stage is one of the domain, in time, and an outer packet has a hop limit
@@ -75,7 +75,7 @@ Passes size inside visit (Gone port) next = ⊥
 Passes size inside visit (Out node inner) next = ⊥
 
 -- a step leads from a stage of the domain by a visit to another, or to an end there
-abbrev pub StepsTo : Domain → Trip → Stage → Step → Type 0
+abbrev pub StepsTo : Domain → Trip → Stage → JourneyStep → Type 0
 StepsTo domain trip stage (Goes visit next) = IsVisitIn domain visit × IsHere domain next × Passes trip.size trip.inside visit stage next
     × (left next + 1 ≤ left stage + extra next) × (fuel next < fuel stage)
 StepsTo domain trip stage (Ends end exited) = EndsInside domain end × (exited ≡ is_out stage)

@@ -18,7 +18,7 @@ use crate::counters::Counters;
 use crate::drawing::{is_refused, numbers_of};
 use crate::itinerary::{End, Itinerary};
 use crate::planning::travel;
-use crate::stage::{Entry, Inside, Spot, Stage, Trip};
+use crate::stage::{Entry, Inside, JourneySpot, Stage, Trip};
 use ioam_base::memory::NoMemory;
 use ioam_clock::Readings;
 use ioam_ip::{Header, header};
@@ -132,10 +132,10 @@ fn plan_at(
 }
 
 // Where a packet is as it arrives.
-fn start_of(port: &Port, time: u64, header: &Header) -> Spot
+fn start_of(port: &Port, time: u64, header: &Header) -> JourneySpot
     ensures { result ≡ start_of port.now time header.now.hops }
 {
-    Spot {
+    JourneySpot {
         node: port.node,
         inward: port.id,
         time,

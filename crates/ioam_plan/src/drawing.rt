@@ -55,10 +55,7 @@ pub(crate) fn is_refused(flow: &Flow, found: Option<u8>) -> bool
 fn stamp_of(format: Format, clock: Option<u64>) -> Option<(u32, u32)>
     ensures { result ≡ option_map (stamp format) clock }
 {
-    match clock {
-        Some(clock) => Some(stamp(format, clock)),
-        None => None,
-    }
+    Some(stamp(format, clock?))
 }
 
 /// The numbers of a packet that arrives at a time, before which so many were enclosed in its flow, and

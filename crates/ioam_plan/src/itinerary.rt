@@ -79,10 +79,8 @@ fn carried_by(visits: &[Visit], inside: Option<Inside>) -> Option<(FlowId, Numbe
     if visits.is_empty() {
         return None;
     }
-    match inside {
-        Some(inside) => Some((inside.flow, inside.numbers)),
-        None => None,
-    }
+    let inside = inside?;
+    Some((inside.flow, inside.numbers))
 }
 
 impl Itinerary {

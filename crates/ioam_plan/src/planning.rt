@@ -6,7 +6,7 @@ ghost use Rattle.ioam_plan.specs.Rides.{IsVisitIn};
 ghost use Rattle.ioam_plan.specs.Steps.{IsHere, LedTo, HasRidden, left};
 
 use crate::itinerary::{Itinerary, Visit};
-use crate::stage::{Stage, Step, Trip};
+use crate::stage::{JourneyStep, Stage, Trip};
 use crate::stepping::take_step;
 use ioam_base::memory::NoMemory;
 use ioam_topo::{Domain, PortId};
@@ -45,14 +45,14 @@ pub(crate) fn travel(
     let mut stage = start;
     'visits: loop {
         match take_step(domain, trip, stage) {
-            Step::Ends(end, exited) => return Ok(Itinerary::of(
+            JourneyStep::Ends(end, exited) => return Ok(Itinerary::of(
                 port,
                 visits,
                 end,
                 exited,
                 trip.inside,
             )),
-            Step::Goes(visit, next) => {
+            JourneyStep::Goes(visit, next) => {
                 put(&mut visits, visit)?;
                 stage = next;
             }

@@ -9,7 +9,7 @@ use ioam_tunnel::Numbers;
 
 /// Where a packet is: a node, the interface by which it came, when, and its hop limit there.
 #[derive(Clone, Copy)]
-pub struct Spot {
+pub struct JourneySpot {
     pub node: NodeId,
     pub inward: u32,
     /// In nanoseconds since the epoch of the captures, below 2^63.
@@ -54,9 +54,9 @@ pub struct Trip {
 #[derive(Clone, Copy)]
 pub enum Stage {
     /// At the node where it enters its tunnel; the hop limit is its own.
-    Enter(Spot, Entry),
+    Enter(JourneySpot, Entry),
     /// At a node.
-    At(Spot),
+    At(JourneySpot),
     /// Out of the domain by a port.
     Gone(PortId),
     /// Out of its tunnel, at a node.
@@ -66,7 +66,7 @@ pub enum Stage {
 /// What becomes of a packet at a stage: a visit from which it goes on to another, or its end, after it
 /// reached its tunnel's exit or before.
 #[derive(Clone, Copy)]
-pub enum Step {
+pub enum JourneyStep {
     Goes(Visit, Stage),
     Ends(End, bool),
 }
@@ -77,11 +77,14 @@ pub fn outward_of(domain: &Domain, way: Way) -> Option<u32>
     ensures { result ≡ outward_of domain.now way }
 {
     match way {
-        Way::Link(link) => domain
-            .links()
-            .get(link.0 as usize)
-            .map(|link| link.out_id),
-        Way::Port(port) => domain.ports().get(port.0 as usize).map(|port| port.id),
+        Way::Link(link) => match domain.links().get(link.0 as usize) {
+            Some(link) => Some(link.out_id),
+            None => None,
+        },
+        Way::Port(port) => match domain.ports().get(port.0 as usize) {
+            Some(port) => Some(port.id),
+            None => None,
+        },
     }
 }
 
@@ -102,7 +105,7 @@ impl Entry {
     }
 }
 
-impl Spot {
+impl JourneySpot {
     // The visit there, sent on by a way, if it is.
     pub(crate) fn visit(self, domain: &Domain, way: Option<Way>) -> Visit
         ensures { result ≡ visit_by domain.now self way }
@@ -119,12 +122,12 @@ impl Spot {
     }
 
     // Where the packet is once it crossed a link, with this hop limit.
-    pub(crate) fn crossed(self, link: &Link, hops: u8) -> Spot
+    pub(crate) fn crossed(self, link: &Link, hops: u8) -> JourneySpot
         requires time { self.time + 2 ^ 32 < 2 ^ 64 }
         ensures spot { result ≡ crossed self hops (Some link.now) }
         ensures soon { result.time < self.time + 2 ^ 32 }
     {
-        Spot {
+        JourneySpot {
             node: link.to,
             inward: link.in_id,
             time: self.time + u64::from(link.delay),

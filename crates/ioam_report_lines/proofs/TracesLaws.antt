@@ -16,7 +16,7 @@ use Rattle.ioam_ip.specs.Options.{Item, AreOptions, IsFilled}
 use Rattle.ioam_ip.specs.OptionsLeft.{options_from}
 use Rattle.ioam_ip.specs.Packet.{IsPacket}
 use Rattle.ioam_ip.specs.declared.chain.Head.{Head}
-use Rattle.ioam_ip.specs.declared.chain.Spot.{Spot}
+use Rattle.ioam_ip.specs.declared.chain.HeadSpot.{HeadSpot}
 use Rattle.ioam_ip.proofs.ChainLaws.{Chain-unique}
 use Rattle.ioam_ip.proofs.ChainOptionsLaws.{OptionsOf-unique}
 use Rattle.ioam_ip.proofs.FitLaws.{heads_fit}
@@ -146,7 +146,7 @@ heads_either : (b : Bool) (head : Head) (hs : List Head) (steps : ℕ) → lengt
 heads_either true head hs steps few = omega arith
 heads_either false head hs steps few = omega arith
 
-pub few_heads : (steps : ℕ) (p : List ℕ) (spot : Spot) → length (heads_from steps p spot) ≤ steps
+pub few_heads : (steps : ℕ) (p : List ℕ) (spot : HeadSpot) → length (heads_from steps p spot) ≤ steps
 few_heads zero p spot = omega arith
 few_heads (suc steps) p spot =
     heads_either (goes_on p spot) (head_at p spot) (heads_from steps p (behind p spot)) steps (few_heads steps p (behind p spot))

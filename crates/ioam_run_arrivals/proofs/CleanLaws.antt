@@ -10,8 +10,8 @@ use Rattle.ioam_ip.specs.Framing.{Framing, Holds, NoIpv6, CutShort, TooShort, If
 use Rattle.ioam_ip.specs.Lowered.{lowered}
 use Rattle.ioam_ip.specs.Packet.{IsPacket}
 use Rattle.ioam_node.specs.Admission.{Admits}
-use Rattle.ioam_node.specs.declared.admitted.Admit.{Admit}
-use Rattle.ioam_node.specs.declared.admitted.Admit.TheVariants as admit
+use Rattle.ioam_node.specs.declared.answer.Admit.{Admit}
+use Rattle.ioam_node.specs.declared.answer.Admit.TheVariants as admit
 use Rattle.ioam_pcap.specs.Cut.{is_cut}
 use Rattle.ioam_pcap.specs.Text.{Sent, IsSendable, Sends, IsCaptureOf}
 use Rattle.ioam_pcap.specs.Entries.{most}

@@ -3,8 +3,8 @@ use Rattle.std.proofs.Common.{◌≡◌, ℕ, Bool, IsSomeAnd, List, [], ◌∷�
 use Rattle.ioam_clock.specs.declared.sample.Sample.{Sample}
 use Rattle.ioam_ip.specs.Framing.{framing_of}
 use Rattle.ioam_node.specs.Admission.{Admits}
-use Rattle.ioam_node.specs.declared.admitted.Admit.{Admit}
-use Rattle.ioam_node.specs.declared.admitted.Admit.TheVariants as admit
+use Rattle.ioam_node.specs.declared.answer.Admit.{Admit}
+use Rattle.ioam_node.specs.declared.answer.Admit.TheVariants as admit
 use Rattle.ioam_node.proofs.OneAnswerLaws.{IsSame, Admits-unique}
 use Rattle.ioam_pcap.specs.Cut.{is_cut}
 use Rattle.ioam_plan.specs.declared.itinerary.Itinerary.{Itinerary}

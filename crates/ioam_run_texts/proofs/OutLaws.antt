@@ -4,8 +4,8 @@ use Rattle.std.specs.Prelude.{⊤, IsSome, IsSomeAnd, Result, Ok, Err, nat_eq, n
 use Rattle.ioam_clock.specs.declared.sample.Sample.{Sample}
 use Rattle.ioam_ip.specs.Lowered.{lowered}
 use Rattle.ioam_node.specs.Choice.{way_by, mtu_of, choice, entry_choice}
-use Rattle.ioam_node.specs.declared.admitted.Admit.{Admit}
-use Rattle.ioam_node.specs.declared.admitted.Admit.TheVariants as admit
+use Rattle.ioam_node.specs.declared.answer.Admit.{Admit}
+use Rattle.ioam_node.specs.declared.answer.Admit.TheVariants as admit
 use Rattle.ioam_node.specs.declared.reason.Reason.{Reason}
 use Rattle.ioam_node.specs.declared.reason.Reason.TheVariants as reason
 use Rattle.ioam_plan.specs.Journey.{Journey, Reaches, carried_by, sent_in, sent_on, step_at}
@@ -15,11 +15,11 @@ use Rattle.ioam_plan.specs.declared.itinerary.End.TheVariants.{Left, Drop}
 use Rattle.ioam_plan.specs.declared.itinerary.Itinerary.{Itinerary}
 use Rattle.ioam_plan.specs.declared.itinerary.Visit.{Visit}
 use Rattle.ioam_plan.specs.declared.stage.Inside.{Inside}
-use Rattle.ioam_plan.specs.declared.stage.Spot.{Spot}
+use Rattle.ioam_plan.specs.declared.stage.JourneySpot.{JourneySpot}
 use Rattle.ioam_plan.specs.declared.stage.Stage.{Stage}
 use Rattle.ioam_plan.specs.declared.stage.Stage.TheVariants.{Enter, At, Gone, Out}
-use Rattle.ioam_plan.specs.declared.stage.Step.{Step}
-use Rattle.ioam_plan.specs.declared.stage.Step.TheVariants.{Goes, Ends}
+use Rattle.ioam_plan.specs.declared.stage.JourneyStep.{JourneyStep}
+use Rattle.ioam_plan.specs.declared.stage.JourneyStep.TheVariants.{Goes, Ends}
 use Rattle.ioam_plan.specs.declared.stage.Trip.{Trip}
 use Rattle.ioam_topo.specs.Domain.{flows, ports, routes}
 use Rattle.ioam_topo.specs.Forward.{way_to}
@@ -43,18 +43,18 @@ IsIn (At spot) = ⊤
 IsIn (Out node inside) = ⊤
 
 -- where a step leads, it is still in; and if it ends by a port, its tunnel ended before
-abbrev StaysIn : Step → Type 0
+abbrev StaysIn : JourneyStep → Type 0
 StaysIn (Goes visit next) = IsIn next
 StaysIn (Ends (Left port) exited) = exited ≡ true
 StaysIn (Ends (Drop reason node) exited) = ⊤
 
 module _ (domain : Domain) where
-  sent-in : (spot : Spot) (hops : ℕ) (found : Result LinkId Reason) → StaysIn (sent_in domain spot hops found)
+  sent-in : (spot : JourneySpot) (hops : ℕ) (found : Result LinkId Reason) → StaysIn (sent_in domain spot hops found)
   sent-in spot hops (Ok link) = tt
   sent-in spot hops (Err reason) = tt
 
   -- on the way it is sent by a link, or dropped
-  sent-on : (spot : Spot) (hops size : ℕ) (low : Bool) (found : Option Way)
+  sent-on : (spot : JourneySpot) (hops size : ℕ) (low : Bool) (found : Option Way)
       → StaysIn (sent_on domain spot hops (if low then Err reason.HopLimit else way_by domain true size found))
   sent-on spot hops size true found = tt
   sent-on spot hops size false None = tt
@@ -65,7 +65,7 @@ module _ (domain : Domain) where
       by-size true = tt
       by-size false = tt
 
-  met : (target size : ℕ) (spot : Spot) (inside : Inside) (here : Bool)
+  met : (target size : ℕ) (spot : JourneySpot) (inside : Inside) (here : Bool)
       → StaysIn (if here then Goes (record { place = record { node = spot.node; inward = spot.inward; outward = None }; way = None; time = spot.time }) (Out spot.node inside)
       else sent_on domain spot (spot.hops - 1) (choice domain spot.node.0 true spot.hops target size))
   met target size spot inside true = tt

@@ -4,7 +4,7 @@ use Rattle.ioam_clock.specs.declared.sample.Sample.{Sample}
 use Rattle.ioam_ip.specs.Framing.{framing_of}
 pub use Rattle.ioam_node.specs.Admission.{packet_of}
 use Rattle.ioam_node.specs.Admission.{Admits}
-use Rattle.ioam_node.specs.declared.admitted.Admit.{Admit}
+use Rattle.ioam_node.specs.declared.answer.Admit.{Admit}
 use Rattle.ioam_pcap.specs.Cut.{is_cut}
 use Rattle.ioam_pcap.specs.Entries.{Entry, IsShort}
 use Rattle.ioam_plan.specs.Plans.{Plans}

@@ -1,5 +1,5 @@
 -- What an entry node puts around a packet of a flow (RFC 2473 section 3, RFC 9197 sections 4.4 and 4.6, RFC 9326 section 3.2).
-use Rattle.std.specs.Prelude.{ℕ, ◌+◌, ◌*◌, ◌/◌, ◌%◌, ◌<◌, ◌≤◌, Bool, true, false, IsTrue, if◌then◌else◌, List, [], ◌∷◌, ◌++◌, length, map, Option, Some, None, IfSome, is_some, slice_get}
+use Rattle.std.specs.Prelude.{ℕ, ◌^◌, ◌+◌, ◌*◌, ◌/◌, ◌%◌, ◌<◌, ◌≤◌, Bool, true, false, IsTrue, if◌then◌else◌, List, [], ◌∷◌, ◌++◌, length, map, Option, Some, None, IfSome, is_some, slice_get}
 use Rattle.ioam_base.specs.Octets.{u32_at}
 use Rattle.ioam_data.specs.declared.namespace.Namespace.{Namespace}
 use Rattle.ioam_dex.specs.Direct.{direct_octets}
@@ -122,5 +122,5 @@ tunnel_of domain id numbers packet = tunnel_by domain (slice_get (flows domain) 
 -- packet is no longer than a packet can be
 pub record MayEnclose (flow : Flow) (numbers : Numbers) (packet : List ℕ) : Type 0 where
   pub direct : IsTrue (is_some numbers.direct) → IsTrue (is_some flow.direct)
-  pub number : numbers.number < 4294967296
+  pub number : numbers.number < 2 ^ 32
   pub size : outer_size flow (length packet) (is_some numbers.direct) (is_some numbers.limit) ≤ 65575

@@ -1,5 +1,5 @@
 -- An enclosed packet on its way (RFC 8200 sections 3 and 4, RFC 2473 section 3, RFC 9486 section 3).
-use Rattle.std.specs.Prelude.{⊤, ℕ, ◌≡◌, ◌<◌, ◌≤◌, ◌+◌, ◌-◌, ◌*◌, ◌==◌, true, false, List, [], ◌∷◌, ◌++◌, length, map}
+use Rattle.std.specs.Prelude.{⊤, ◌^◌, ℕ, ◌≡◌, ◌<◌, ◌≤◌, ◌+◌, ◌-◌, ◌*◌, ◌==◌, true, false, List, [], ◌∷◌, ◌++◌, length, map}
 use Rattle.std.specs.List.{All}
 use Rattle.std.specs.Int.{w16, w32, w128, to_be_bytes}
 use Rattle.ioam_data.specs.Kind.{is_entry_type}
@@ -84,7 +84,7 @@ AreConstant (part ∷ parts) = (1 < part.kind) × ((part.kind == 0x31) ≡ false
 -- the trace is one that entry nodes begin
 pub record IsRoom (room : Room) : Type 0 where
   pub namespace_below : room.namespace < 65536
-  pub kind_below : room.kind < 16777216
+  pub kind_below : room.kind < 2 ^ 24
   pub entry : is_entry_type room.kind ≡ true
   pub capacity_some : 1 ≤ room.capacity
   pub capacity_most : room.capacity ≤ 61

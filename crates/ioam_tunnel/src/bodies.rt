@@ -1,5 +1,5 @@
 //! What the options of an outer packet hold (RFC 9486 section 3).
-ghost use Rattle.std.specs.Prelude.{◌≡◌, ◌<◌, ◌≤◌, true, is_some};
+ghost use Rattle.std.specs.Prelude.{◌≡◌, ◌^◌, ◌<◌, ◌≤◌, true, is_some};
 ghost use Rattle.ioam_dex.specs.Direct.{HasItsNumbers};
 ghost use Rattle.ioam_edge.specs.Edge.{HasItsFields};
 ghost use Rattle.ioam_tunnel.specs.Enclosed.{direct_of, edge_of, if_asked, seconds_of, fraction_of};
@@ -58,7 +58,7 @@ fn stamp_of(numbers: &Numbers) -> (u32, u32)
 
 /// The edge-to-edge data of a type.
 pub(crate) fn edge_of(namespace: Namespace, kind: u16, numbers: &Numbers) -> Edge
-    requires { numbers.now.number < 4294967296 }
+    requires { numbers.now.number < 2 ^ 32 }
     ensures value { result ≡ edge_of namespace kind numbers.now }
     ensures fields { HasItsFields result }
 {

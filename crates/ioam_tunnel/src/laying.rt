@@ -1,5 +1,5 @@
 //! The options headers of an outer packet, laid out behind what the packet has already.
-ghost use Rattle.std.specs.Prelude.{◌≡◌, ◌+◌, ◌<◌, ◌≤◌, ◌%◌, true, false, Some, IsTrue, is_some, [], ◌∷◌, ◌++◌, length, map, OnOk};
+ghost use Rattle.std.specs.Prelude.{◌≡◌, ◌^◌, ◌+◌, ◌<◌, ◌≤◌, ◌%◌, true, false, Some, IsTrue, is_some, [], ◌∷◌, ◌++◌, length, map, OnOk};
 ghost use Rattle.std.specs.List.{All};
 ghost use Rattle.ioam_ip.specs.Laid.{header_if, header_of, laid_with};
 ghost use Rattle.ioam_topo.specs.Sound.{IsFlow};
@@ -101,7 +101,7 @@ fn add_edge_of(
     kind: u16,
     numbers: &Numbers,
 ) -> Result<(), NoMemory>
-    requires number { numbers.now.number < 4294967296 }
+    requires number { numbers.now.number < 2 ^ 32 }
     requires known { kind % 4096 ≡ 0 }
     requires room { length outer.old.laid ≤ 1700 }
     ensures front { OnOk result (outer.new.front ≡ outer.old.front) }
@@ -116,7 +116,7 @@ fn add_edge_of(
 // Adds the option of edge-to-edge data, where the flow has them.
 fn add_edge(outer: &mut Outer, flow: &Flow, numbers: &Numbers) -> Result<(), NoMemory>
     requires flow { IsFlow flow.now }
-    requires number { numbers.now.number < 4294967296 }
+    requires number { numbers.now.number < 2 ^ 32 }
     requires room { length outer.old.laid ≤ 1700 }
     ensures front { OnOk result (outer.new.front ≡ outer.old.front) }
     ensures ok { OnOk result (outer.new.laid ≡ laid_with outer.old.laid (edge_parts flow.now.namespace flow.now.edge numbers.now)) }
@@ -183,7 +183,7 @@ pub(crate) fn lay_hop(
 // Lays out the Destination Options header.
 fn lay_target_options(outer: &mut Outer, flow: &Flow, numbers: &Numbers) -> Result<(), NoMemory>
     requires flow { IsFlow flow.now }
-    requires number { numbers.now.number < 4294967296 }
+    requires number { numbers.now.number < 2 ^ 32 }
     requires none { outer.old.laid ≡ [] }
     ensures octets { OnOk result (outer.new.front ≡ outer.old.front
         ++ header_of 41 (limit_parts numbers.now.limit ++ edge_parts flow.now.namespace flow.now.edge numbers.now)) }
@@ -206,7 +206,7 @@ fn has_targets(flow: &Flow, numbers: &Numbers) -> bool
 #[tactic(auto, using(crate::proofs::LayLaws::behind_there, crate::proofs::LayLaws::behind_none))]
 pub(crate) fn lay_targets(outer: &mut Outer, flow: &Flow, numbers: &Numbers) -> Result<(), NoMemory>
     requires flow { IsFlow flow.now }
-    requires number { numbers.now.number < 4294967296 }
+    requires number { numbers.now.number < 2 ^ 32 }
     requires none { outer.old.laid ≡ [] }
     ensures octets { OnOk result (outer.new.front ≡ outer.old.front
         ++ header_if 41 (limit_parts numbers.now.limit ++ edge_parts flow.now.namespace flow.now.edge numbers.now)) }

@@ -1,3 +1,4 @@
+//! What the entry node writes of a packet.
 /// What the entry node writes of one packet.
 #[derive(Clone, Copy, Debug, PartialEq, Eq)]
 pub struct Numbers {

@@ -1,6 +1,6 @@
 use Rattle.std.proofs.Common.{ap, ◌∙◌, arith}
 use Rattle.ioam_plan.specs.declared.stage.Entry.{Entry}
-use Rattle.ioam_plan.specs.declared.stage.Spot.{Spot}
+use Rattle.ioam_plan.specs.declared.stage.JourneySpot.{JourneySpot}
 use Rattle.ioam_topo.specs.declared.ids.PortId.{PortId}
 use Rattle.ioam_plan.proofs.FlowLaws.{flow_planned, flow_rides}
 use Rattle.ioam_plan.proofs.arriving.plan_flow.Goals as goal
@@ -20,5 +20,5 @@ returns-in-Ok-clause-rides c =
     c.flow_trip-trip.result c.start_of.result c.entry_of.result
     (omega (arith, ap (λ (p : PortId). p.0) c.in-Ok.ensures.port, c.requires.by)) (omega (arith, c.header_of-header.ensures.short))
     c.flow_of-flow.ensures.value c.requires.known c.requires.packet c.requires.sound c.numbers_of-numbers.ensures c.requires.number c.flow_trip-trip.ensures
-    (ap (λ (spot : Spot). spot.hops) c.start_of.ensures ∙ c.header_of-header.ensures.fields.hops) same (omega (arith, same, c.entry_of.ensures.hops))
+    (ap (λ (spot : JourneySpot). spot.hops) c.start_of.ensures ∙ c.header_of-header.ensures.fields.hops) same (omega (arith, same, c.entry_of.ensures.hops))
     c.in-Ok.ensures.journey c.in-Ok.ensures.visits c.in-Ok.ensures.few c.in-Ok.ensures.ridden c.in-Ok.ensures.ends

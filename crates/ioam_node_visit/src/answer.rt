@@ -1,3 +1,4 @@
+//! What becomes of a packet at the exit of its tunnel.
 use ioam_node::Reason;
 use ioam_topo::PortId;
 use std::ops::Range;

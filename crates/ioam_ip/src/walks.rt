@@ -5,11 +5,11 @@ ghost use Rattle.ioam_ip.specs.Packet.{IsPacket};
 ghost use Rattle.ioam_ip.specs.Chain.{IsSound};
 ghost use Rattle.ioam_ip.specs.Walks.{Tells, is_whole};
 
+use crate::answer::Walk;
 use crate::chain::start;
 use crate::next_header::{DESTINATION, IPV6};
-use crate::scan::Found;
-use crate::steps::{Step, step_at};
-use crate::walked::Walk;
+use crate::scan::Findings;
+use crate::steps::{HeadStep, step_at};
 
 // What the headers passed so far had.
 #[derive(Clone, Copy)]
@@ -22,7 +22,7 @@ struct Passed {
 
 impl Passed {
     // The same with one header more, by its value and what its options have.
-    fn with(self, value: u8, found: Found) -> Passed
+    fn with(self, value: u8, found: Findings) -> Passed
         ensures inside { result.inside ≡ (self.inside || (value == 41)) }
         ensures ioam { result.ioam ≡ (self.ioam || found.ioam) }
         ensures limit { result.limit ≡
@@ -55,11 +55,11 @@ pub fn walk(packet: &[u8]) -> Walk
     };
     loop {
         match step_at(packet, spot) {
-            Step::On { next, found } => {
+            HeadStep::On { next, found } => {
                 passed = passed.with(spot.value, found);
                 spot = next;
             }
-            Step::Ends => {
+            HeadStep::Ends => {
                 return Walk::Whole {
                     ioam: passed.ioam,
                     upper: spot.value,
@@ -67,7 +67,7 @@ pub fn walk(packet: &[u8]) -> Walk
                     limit: passed.limit,
                 };
             }
-            Step::Breaks => return Walk::Bad { at: spot.at as u32 },
+            HeadStep::Breaks => return Walk::Bad { at: spot.at as u32 },
         }
     }
 }

@@ -3,7 +3,7 @@ use Rattle.ioam_trace.specs.Filled.{filled}
 use Rattle.ioam_node_visit.specs.Seeing.{view_of}
 use Rattle.ioam_node_visit.specs.Step.{knows}
 use Rattle.ioam_node_visit.proofs.StepLaws.{trace-put}
-use Rattle.ioam_node_visit.proofs.visit.Visit.fill_trace.Goals as goal
+use Rattle.ioam_node_visit.proofs.visit.NodeVisit.fill_trace.Goals as goal
 
 pub returns-clause-octets : goal.returns-clause-octets
 returns-clause-octets c =

@@ -6,7 +6,7 @@ ghost use Rattle.ioam_ip.specs.Packet.{IsPacket};
 ghost use Rattle.ioam_topo.specs.Domain.{ports};
 ghost use Rattle.ioam_node.specs.Admission.{Admits, AdmitsPacket, HoldsPacket, IsFree, KnowsFlow};
 
-use crate::admitted::Admit;
+use crate::answer::Admit;
 use crate::reason::{Reason, packet_or_reason};
 use ioam_ip::{Header, Walk, header, packet_of, walk};
 use ioam_topo::{Domain, NodeId, PortId};

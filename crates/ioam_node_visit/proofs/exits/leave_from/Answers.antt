@@ -1,7 +1,7 @@
 use Rattle.std.proofs.Common.{ℕ, ◌-◌, List, length, length-drop, drop, sym, subst, arith}
 use Rattle.std.proofs.lemmas.List.{take_all}
 use Rattle.ioam_ip.specs.Header.{HasFields}
-use Rattle.ioam_node_visit.proofs.leaving.leave_from.Goals as goal
+use Rattle.ioam_node_visit.proofs.exits.leave_from.Goals as goal
 
 pub returns-in-Ok-clause-leaves : goal.returns-in-Ok-clause-leaves
 returns-in-Ok-clause-leaves c =

@@ -8,7 +8,7 @@ use Rattle.ioam_ip.proofs.SoundLaws.{IsSound-stepped, option_count-stepped}
 use Rattle.ioam_node_visit.specs.Step.{node_step}
 use Rattle.ioam_node_visit.proofs.CountedLaws.{IsPacket-stepped, hops-stepped}
 use Rattle.ioam_node_visit.proofs.StepLaws.{length-step}
-use Rattle.ioam_node_visit.proofs.visit.Visit.visit_packet.Goals as goal
+use Rattle.ioam_node_visit.proofs.visit.NodeVisit.visit_packet.Goals as goal
 
 pub returns-clause-packet : goal.returns-clause-packet
 returns-clause-packet c =

@@ -1,12 +1,12 @@
 use Rattle.std.proofs.Common.{refl, ◌≤◌, length, subst, sym}
-use Rattle.ioam_ip.specs.declared.chain.Spot.{Spot}
+use Rattle.ioam_ip.specs.declared.chain.HeadSpot.{HeadSpot}
 use Rattle.ioam_ip.proofs.WalkLaws.{Walked-push, Walked-ends, Walked-bad}
-use Rattle.ioam_ip.proofs.walking.walk.Goals as goal
+use Rattle.ioam_ip.proofs.walks.walk.Goals as goal
 
 pub loop-next-preserved : goal.loop-next-preserved
 loop-next-preserved c =
     let on = c.in-On.ensures in
-    let P : Spot → Type 0 = λ next. next.at ≤ length c.args.packet.now in (
+    let P : HeadSpot → Type 0 = λ next. next.at ≤ length c.args.packet.now in (
       Walked-push c.args.packet.now c.loop-next.spot c.in-On.next c.loop-next.passed c.with-passed.result c.in-On.found on.2.0
           c.loop-next.invariant.0 on.0 on.1 on.2.1 on.2.2
           c.with-passed.ensures.inside c.with-passed.ensures.ioam c.with-passed.ensures.limit,

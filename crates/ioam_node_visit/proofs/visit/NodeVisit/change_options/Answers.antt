@@ -12,7 +12,7 @@ use Rattle.ioam_node_visit.specs.Exports.{records_of}
 use Rattle.ioam_node_visit.specs.Notes.{notes_of}
 use Rattle.ioam_node_visit.specs.Step.{node_step}
 use Rattle.ioam_node_visit.proofs.StepLaws.{length-step}
-use Rattle.ioam_node_visit.proofs.visit.Visit.change_options.Goals as goal
+use Rattle.ioam_node_visit.proofs.visit.NodeVisit.change_options.Goals as goal
 
 none_left : (old now : List ℕ) (at : ℕ) → length now ≡ length old → drop at now ≡ drop at old → options_from (length now) now at ≡ []
     → options_from (length old) old at ≡ []

@@ -1,6 +1,6 @@
 use Rattle.std.proofs.Common.{refl, sym, ◌∙◌, arith}
 use Rattle.ioam_node.proofs.AdmissionLaws.{first_local, first_hop_limit, enters}
-use Rattle.ioam_node.proofs.admitting.admit_free.Goals as goal
+use Rattle.ioam_node.proofs.admission.admit_free.Goals as goal
 
 pub returns-then-is_local-clause-admits : goal.returns-then-is_local-clause-admits
 returns-then-is_local-clause-admits c = first_local c.args.domain.now c.args.packet.now c.args.header.now c.requires.is_free

@@ -2,9 +2,9 @@ use Rattle.std.proofs.Common.{sym, ◌∙◌, subst}
 use Rattle.ioam_ip.specs.Framing.{Framing, IfHolds}
 use Rattle.ioam_ip.specs.Packet.{IsPacket}
 use Rattle.ioam_node.specs.Admission.{Admits}
-use Rattle.ioam_node.specs.declared.admitted.Admit.TheVariants as admit
+use Rattle.ioam_node.specs.declared.answer.Admit.TheVariants as admit
 use Rattle.ioam_node.proofs.AdmissionLaws.{Admits-drop}
-use Rattle.ioam_node.proofs.admitting.admit_at.Goals as goal
+use Rattle.ioam_node.proofs.admission.admit_at.Goals as goal
 
 pub admit_packet-requires : goal.admit_packet-requires
 admit_packet-requires c =

@@ -3,7 +3,7 @@ ghost use Rattle.std.specs.Prelude.{◌<◌, length};
 ghost use Rattle.ioam_topo.specs.Domain.{ports};
 ghost use Rattle.ioam_node_visit.specs.Leaving.{HasInner, IsInner, LeavesSo, LeavesBy};
 
-use crate::left::Leave;
+use crate::answer::Leave;
 use ioam_ip::header;
 use ioam_node::exit;
 use ioam_topo::{Domain, NodeId};

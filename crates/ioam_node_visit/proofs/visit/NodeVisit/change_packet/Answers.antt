@@ -9,7 +9,7 @@ use Rattle.ioam_node_visit.specs.Exports.{records_of}
 use Rattle.ioam_node_visit.specs.Notes.{notes_of}
 use Rattle.ioam_node_visit.specs.Step.{node_step}
 use Rattle.ioam_node_visit.proofs.StepLaws.{notes_in_few}
-use Rattle.ioam_node_visit.proofs.visit.Visit.change_packet.Goals as goal
+use Rattle.ioam_node_visit.proofs.visit.NodeVisit.change_packet.Goals as goal
 
 pub returns-in_default-clause-notes : goal.returns-in_default-clause-notes
 returns-in_default-clause-notes c =

@@ -6,7 +6,7 @@ use Rattle.ioam_node_visit.specs.Counted.{notes_in, records_in}
 use Rattle.ioam_node_visit.specs.Exports.{records_of}
 use Rattle.ioam_node_visit.specs.Notes.{notes_of}
 use Rattle.ioam_node_visit.specs.Step.{node_step}
-use Rattle.ioam_node_visit.proofs.visit.Visit.change_options.Given as goal
+use Rattle.ioam_node_visit.proofs.visit.NodeVisit.change_options.Given as goal
 
 abbrev pub invariant-options : goal.invariant-options
 invariant-options l =
