@@ -13,7 +13,7 @@ use Rattle.ioam_ip.specs.declared.chain.HeadSpot.{HeadSpot}
 use Rattle.ioam_ip.specs.declared.chain.Head.{Head}
 use Rattle.ioam_ip.proofs.OptionsLeftLaws.{all_from}
 use Rattle.ioam_ip.specs.Rewriting.{options_in, with_steps, item_stepped}
-use Rattle.ioam_ip.specs.Hop.{has_hop, hop_end, hop_head, hop_options, HopFits, hop_stepped, ioam_count, option_count}
+use Rattle.ioam_ip.specs.Hop.{has_hop, hop_end, hop_head, hop_options, hop_stepped, ioam_count, option_count}
 use Rattle.ioam_ip.proofs.SteppedLaws.{Stepped, AreOptions-stepped, options_in-stepped, ioam_count-stepped}
 use Rattle.ioam_ip.proofs.CarryLaws.{leads_alike, ends_alike, last_behind}
 
@@ -53,13 +53,6 @@ hop_passes p hs are is =
 
 pub zero_is : (n : ℕ) → eqb n 0 ≡ true → n ≡ 0
 zero_is n is = grind (arith, nat_tests)
-
--- so what nodes need of a packet holds where its chain is whole
-pub HopFits-IsSound : (p : List ℕ) → IsPacket p → IsSound p → HopFits p
-HopFits-IsSound p is_packet sound = record {
-  header_there = is_packet.header_there;
-  within = λ is. (hop_passes p sound.heads (record { upper = sound.upper; at = sound.at; chain = sound.chain }) (zero_is (slice_index p 6) is)).0;
-}
 
 module _ (p q : List ℕ) (long : length q ≡ length p) (first : slice_index q 40 ≡ slice_index p 40) (said : slice_index q 41 ≡ slice_index p 41)
     (rest : drop (hop_end p) q ≡ drop (hop_end p) p) (filled : IsFilled (hop_head q)) where

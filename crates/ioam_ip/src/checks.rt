@@ -1,6 +1,6 @@
 //! Whether options fill a header, and which they are.
-ghost use Rattle.std.specs.Prelude.{◌≤◌, ◌<◌, ◌^◌, ◌↔◌, IsOk, IfErr, length};
-ghost use Rattle.ioam_ip.specs.Options.{AreOptions, IsFilled, UnfitAt};
+ghost use Rattle.std.specs.Prelude.{◌≤◌, ◌<◌, ◌^◌, ◌↔◌, IsOk, IfErr, List, length};
+ghost use Rattle.ioam_ip.specs.Options.{Item, AreOptions, IsFilled, UnfitAt};
 ghost use Rattle.ioam_ip.specs.OptionList.{HoldsOptions, OnlyOptions};
 ghost use Rattle.ioam_ip.specs.OptionsLeft.{options_left};
 
@@ -14,6 +14,8 @@ pub fn check_options(head: &[u8]) -> Result<(), u32>
     requires long { 2 ≤ length head.now }
     requires short { length head.now < 2 ^ 32 }
     ensures ok { IsOk result ↔ IsFilled head.now }
+    // The same by what stands first in the header.
+    ensures held { IsOk result ↔ ((options : List Item) × HoldsOptions head.now options) }
     ensures err { IfErr result (UnfitAt head.now) }
 {
     match look_through(head) {

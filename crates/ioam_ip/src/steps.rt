@@ -3,7 +3,7 @@ ghost use Rattle.std.specs.Prelude.{◌≡◌, ◌⊎◌, IsTrue, ◌+◌, ◌<�
 ghost use Rattle.ioam_ip.specs.Chain.{kind_of};
 ghost use Rattle.ioam_ip.specs.Steps.{Steps, OptionsAt};
 
-use crate::chain::{Kind, HeadSpot, kind_of};
+use crate::chain::{HeadSpot, Kind, kind_of};
 use crate::extents::{fragment_offset, said_end};
 use crate::packet::{HEADER_OCTETS, NEXT_HEADER};
 use crate::scan::{Findings, Scan, look_through};
