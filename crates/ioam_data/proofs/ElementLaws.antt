@@ -67,15 +67,15 @@ three_lengths : (a b c : List ℕ) (k l m : ℕ) → length a ≡ 4 * k → leng
 three_lengths a b c k l m at_a at_b at_c = simp length-append (omega arith)
 
 module _ (kind : ℕ) (view : Seen) where
-  length-bits_0_to_3 : length (bits_0_to_3 kind view) ≡ 4 * (where_has kind 0 1 + where_has kind 1 1 + where_has kind 2 1 + where_has kind 3 1)
+  pub length-bits_0_to_3 : length (bits_0_to_3 kind view) ≡ 4 * (where_has kind 0 1 + where_has kind 1 1 + where_has kind 2 1 + where_has kind 3 1)
   length-bits_0_to_3 = four_lengths _ _ _ _ _ _ _ _ (length-part (has kind 0) _ 1 refl) (length-part (has kind 1) _ 1 refl)
       (length-part (has kind 2) _ 1 refl) (length-part (has kind 3) _ 1 refl)
 
-  length-bits_4_to_7 : length (bits_4_to_7 kind view) ≡ 4 * (where_has kind 4 1 + where_has kind 5 1 + where_has kind 6 1 + where_has kind 7 1)
+  pub length-bits_4_to_7 : length (bits_4_to_7 kind view) ≡ 4 * (where_has kind 4 1 + where_has kind 5 1 + where_has kind 6 1 + where_has kind 7 1)
   length-bits_4_to_7 = four_lengths _ _ _ _ _ _ _ _ (length-part (has kind 4) _ 1 refl) (length-part (has kind 5) _ 1 refl)
       (length-part (has kind 6) _ 1 refl) (length-part (has kind 7) _ 1 refl)
 
-  length-bits_8_to_11 : length (bits_8_to_11 kind view) ≡ 4 * (where_has kind 8 2 + where_has kind 9 2 + where_has kind 10 2 + where_has kind 11 1)
+  pub length-bits_8_to_11 : length (bits_8_to_11 kind view) ≡ 4 * (where_has kind 8 2 + where_has kind 9 2 + where_has kind 10 2 + where_has kind 11 1)
   length-bits_8_to_11 = four_lengths _ _ _ _ _ _ _ _ (length-part (has kind 8) _ 2 refl) (length-part (has kind 9) _ 2 refl)
       (length-part (has kind 10) _ 2 refl) (length-part (has kind 11) _ 1 refl)
 
@@ -144,10 +144,10 @@ none_below kind below no_words no_undefined no_snapshot =
     b22
 
 module _ (kind node_len : ℕ) (view : Seen) (room : words kind ≤ node_len) (snapshot : IfSome view.snapshot (λ s. IsSnapshot s.0 s.1)) where
-  abbrev before_snapshot : List ℕ
+  abbrev pub before_snapshot : List ℕ
   before_snapshot = bits_0_to_3 kind view ++ bits_4_to_7 kind view ++ bits_8_to_11 kind view ++ replicate (4 * (node_len - words kind)) 255
 
-  length-before_snapshot : length before_snapshot ≡ 4 * node_len
+  pub length-before_snapshot : length before_snapshot ≡ 4 * node_len
   length-before_snapshot =
       length-append (bits_0_to_3 kind view ++ bits_4_to_7 kind view ++ bits_8_to_11 kind view) (replicate (4 * (node_len - words kind)) 255)
       ∙ omega (arith, length-fields kind view, length-replicate {A = ℕ} (4 * (node_len - words kind)) 255)

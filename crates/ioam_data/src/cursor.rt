@@ -1,8 +1,10 @@
+//! The fields of an element as they are read, one behind the other.
 ghost use Rattle.std.specs.Prelude.{◌≡◌, ℕ, ◌+◌, ◌*◌, ◌<◌, ◌≤◌, length};
 ghost use Rattle.ioam_data.specs.Kind.{where_has};
 ghost use Rattle.ioam_data.specs.Fields.{when_has, hop_node_at, faces_at, number_at, wide_hop_node_at, wide_faces_at, wide_at};
 
 use crate::kind::TraceType;
+use crate::units::{OVER_16, OVER_24, OVER_32};
 use ioam_base::octets::u32_at;
 
 /// What is left of an element while its fields are read in bit order.
@@ -44,7 +46,7 @@ impl<'a> Cursor<'a> {
         ensures passes { Passes self.old self.new bit 1 }
     {
         let word = self.number(bit)?;
-        Some(((word / 16777216) as u8, word % 16777216))
+        Some(((word / OVER_24) as u8, word % OVER_24))
     }
 
     pub(crate) fn faces(&mut self, bit: u8) -> Option<(u16, u16)>
@@ -54,7 +56,7 @@ impl<'a> Cursor<'a> {
         ensures passes { Passes self.old self.new bit 1 }
     {
         let word = self.number(bit)?;
-        Some(((word / 65536) as u16, (word % 65536) as u16))
+        Some(((word / OVER_16) as u16, (word % OVER_16) as u16))
     }
 
     pub(crate) fn wide_faces(&mut self, bit: u8) -> Option<(u32, u32)>
@@ -78,7 +80,7 @@ impl<'a> Cursor<'a> {
         ensures passes { Passes self.old self.new bit 2 }
     {
         let (first, second) = self.wide_faces(bit)?;
-        Some(u64::from(first) * 4294967296 + u64::from(second))
+        Some(u64::from(first) * OVER_32 + u64::from(second))
     }
 
     pub(crate) fn wide_hop_node(&mut self, bit: u8) -> Option<(u8, u64)>
@@ -89,8 +91,8 @@ impl<'a> Cursor<'a> {
     {
         let (first, second) = self.wide_faces(bit)?;
         Some((
-            (first / 16777216) as u8,
-            u64::from(first % 16777216) * 4294967296 + u64::from(second),
+            (first / OVER_24) as u8,
+            u64::from(first % OVER_24) * OVER_32 + u64::from(second),
         ))
     }
 }

@@ -1,3 +1,4 @@
+//! The element that a node exports.
 ghost use Rattle.std.specs.Prelude.{◌≡◌, ◌≤◌, length};
 ghost use Rattle.ioam_data.specs.Kind.{words};
 ghost use Rattle.ioam_data.specs.Elements.{IsFilled};
@@ -6,7 +7,6 @@ ghost use Rattle.ioam_data.specs.Written.{element_of};
 
 use crate::buffer::ElementBuf;
 use crate::kind::TraceType;
-use crate::recording::write;
 use crate::view::View;
 
 /// Writes into the buffer the element that a node exports for a view (RFC 9326 section 3.2), in place
@@ -18,5 +18,5 @@ pub fn put_exported(kind: TraceType, view: &View<'_>, into: &mut ElementBuf)
     ensures whole { IsFilled kind into.new }
     ensures size { length into.new ≤ 244 }
 {
-    write(kind, kind.words(), view, into);
+    into.put(kind, kind.words(), view);
 }

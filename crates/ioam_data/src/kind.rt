@@ -1,8 +1,10 @@
+//! The IOAM-Trace-Type: which fields a node adds.
 ghost use Rattle.std.specs.Prelude.{◌≡◌, ℕ, ◌+◌, ◌-◌, ◌*◌, ◌/◌, ◌%◌, ◌^◌, ◌<◌, ◌≤◌, length};
 ghost use Rattle.std.specs.Bool.{OnTrue};
 ghost use Rattle.ioam_base.specs.Octets.{u24_at};
 ghost use Rattle.ioam_data.specs.Kind.{has, where_has, words, undefined, fits_type, can_add, is_entry_type};
 
+use crate::bit;
 use ioam_base::octets::u24_at;
 use std::marker::Model;
 
@@ -12,13 +14,13 @@ use std::marker::Model;
 pub struct TraceType(u32);
 
 impl Model for TraceType {
-    ghost use Rattle.std.specs.Prelude.{ℕ, ◌<◌};
+    ghost use Rattle.std.specs.Prelude.{ℕ, ◌<◌, ◌^◌};
 
     ghost Value = { ℕ };
 
     ghost view = { λ kind. kind.0 };
 
-    ghost invariant = { λ kind. kind.0 < 16777216 };
+    ghost invariant = { λ kind. kind.0 < 2 ^ 24 };
 
     ghost inverse = { λ number. record { 0 = number } };
 }
@@ -26,7 +28,7 @@ impl Model for TraceType {
 impl TraceType {
     /// The type of these 24 bits.
     pub fn new(bits: u32) -> TraceType
-        requires { bits < 16777216 }
+        requires { bits < 2 ^ 24 }
         ensures { result ≡ bits }
     {
         TraceType(bits)
@@ -43,7 +45,7 @@ impl TraceType {
     /// The 24 bits as a number.
     pub fn bits(self) -> u32
         ensures value { result ≡ self }
-        ensures below { result < 16777216 }
+        ensures below { result < 2 ^ 24 }
     {
         self.0
     }
@@ -61,7 +63,7 @@ impl TraceType {
     pub fn has_snapshot(self) -> bool
         ensures { result ≡ has self 22 }
     {
-        self.has(22)
+        self.has(bit::SNAPSHOT)
     }
 
     // So many words where the type has the bit.
@@ -79,9 +81,18 @@ impl TraceType {
         ensures value { result ≡ words self }
         ensures small { result ≤ 15 }
     {
-        let narrow = self.part(0, 1) + self.part(1, 1) + self.part(2, 1) + self.part(3, 1);
-        let middle = self.part(4, 1) + self.part(5, 1) + self.part(6, 1) + self.part(7, 1);
-        let wide = self.part(8, 2) + self.part(9, 2) + self.part(10, 2) + self.part(11, 1);
+        let narrow = self.part(bit::HOP_NODE, 1)
+            + self.part(bit::INTERFACES, 1)
+            + self.part(bit::SECONDS, 1)
+            + self.part(bit::FRACTION, 1);
+        let middle = self.part(bit::DELAY, 1)
+            + self.part(bit::SHORT_DATA, 1)
+            + self.part(bit::QUEUE, 1)
+            + self.part(bit::CHECKSUM, 1);
+        let wide = self.part(bit::WIDE_HOP_NODE, 2)
+            + self.part(bit::WIDE_INTERFACES, 2)
+            + self.part(bit::WIDE_DATA, 2)
+            + self.part(bit::BUFFER, 1);
         narrow + middle + wide
     }
 
@@ -127,6 +138,6 @@ impl TraceType {
     pub fn is_entry_type(self) -> bool
         ensures { result ≡ is_entry_type self }
     {
-        self.undefined() == 0 && !self.has(23) && self.bits() > 1
+        self.undefined() == 0 && !self.has(bit::RESERVED) && self.bits() > 1
     }
 }

@@ -1,6 +1,7 @@
 //! IOAM trace types and the elements that nodes record (RFC 9197 section 4.4).
 #![tactic(auto)]
 
+pub mod bit;
 mod buffer;
 mod cursor;
 mod exported;
@@ -11,7 +12,9 @@ pub mod option_type;
 mod reading;
 mod recording;
 mod size;
+mod units;
 mod view;
+mod writer;
 
 pub use buffer::ElementBuf;
 pub use exported::put_exported;
@@ -23,3 +26,4 @@ pub use reading::fields;
 pub use recording::element;
 pub use size::split;
 pub use view::View;
+pub use writer::{element_words, put_element};

@@ -1,3 +1,4 @@
+//! The fields of an element, read.
 ghost use Rattle.std.specs.Prelude.{◌≡◌, ℕ, ◌-◌, ◌*◌, ◌≤◌, length, drop};
 ghost use Rattle.ioam_data.specs.Elements.{IsElement};
 ghost use Rattle.ioam_data.specs.Fields.{fields_of, held, when_has, snapshot_at};
@@ -6,9 +7,11 @@ ghost use Rattle.ioam_data.specs.Whole.{held_octets};
 ghost use Rattle.ioam_data.specs.View.{snapshot_data};
 ghost use Rattle.ioam_data.specs.Kind.{words, where_has};
 
+use crate::bit;
 use crate::cursor::Cursor;
 use crate::held::Fields;
 use crate::kind::TraceType;
+use crate::units::OVER_24;
 use ioam_base::octets::u32_at;
 
 // The snapshot at the front of the octets, where the type has bit 22.
@@ -19,7 +22,7 @@ fn snapshot(kind: TraceType, octets: &[u8]) -> Option<(u32, &[u8])>
     if !kind.has_snapshot() {
         return None;
     }
-    Some((u32_at(octets, 0) % 16777216, &octets[4..]))
+    Some((u32_at(octets, 0) % OVER_24, &octets[4..]))
 }
 
 // The fields of an element, by the rules alone.
@@ -30,18 +33,18 @@ fn read_fields(kind: TraceType, node_len: u8, octets: &[u8]) -> Fields<'_>
 {
     let words = kind.words();
     let mut cursor = Cursor { kind, rest: octets };
-    let hop_node = cursor.hop_node(0);
-    let faces = cursor.faces(1);
-    let seconds = cursor.number(2);
-    let fraction = cursor.number(3);
-    let delay = cursor.number(4);
-    let short = cursor.number(5);
-    let queue = cursor.number(6);
-    let check = cursor.number(7);
-    let wide_hop_node = cursor.wide_hop_node(8);
-    let wide_faces = cursor.wide_faces(9);
-    let wide = cursor.wide(10);
-    let buffer = cursor.number(11);
+    let hop_node = cursor.hop_node(bit::HOP_NODE);
+    let faces = cursor.faces(bit::INTERFACES);
+    let seconds = cursor.number(bit::SECONDS);
+    let fraction = cursor.number(bit::FRACTION);
+    let delay = cursor.number(bit::DELAY);
+    let short = cursor.number(bit::SHORT_DATA);
+    let queue = cursor.number(bit::QUEUE);
+    let check = cursor.number(bit::CHECKSUM);
+    let wide_hop_node = cursor.wide_hop_node(bit::WIDE_HOP_NODE);
+    let wide_faces = cursor.wide_faces(bit::WIDE_INTERFACES);
+    let wide = cursor.wide(bit::WIDE_DATA);
+    let buffer = cursor.number(bit::BUFFER);
     let (fill, rest) = cursor.rest.split_at(4 * usize::from(node_len - words));
     Fields {
         hop_node,

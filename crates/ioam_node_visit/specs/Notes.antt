@@ -7,8 +7,8 @@ use Rattle.ioam_dex.specs.declared.direct.DirectFault.{DirectFault}
 use Rattle.ioam_node.specs.declared.place.Place.{Place}
 use Rattle.ioam_topo.specs.declared.domain.Domain.{Domain}
 use Rattle.ioam_trace.specs.Filled.{answer_of}
-use Rattle.ioam_trace.specs.declared.filled.Filled.{Filled}
-use Rattle.ioam_trace.specs.declared.filled.Filled.TheVariants as fill
+use Rattle.ioam_trace.specs.declared.addition.Filled.{Filled}
+use Rattle.ioam_trace.specs.declared.addition.Filled.TheVariants as fill
 use Rattle.ioam_node_visit.specs.Met.{met_of}
 use Rattle.ioam_node_visit.specs.Seeing.{view_of}
 use Rattle.ioam_node_visit.specs.Step.{knows, space_in}

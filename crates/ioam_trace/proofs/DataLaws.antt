@@ -26,8 +26,8 @@ use Rattle.ioam_trace.proofs.ConcatLaws.{All-reverse, Holds-concat}
 use Rattle.ioam_trace.proofs.ReadLaws.{fault_of-Carries, fault_of-HasFault, elements_behind-Carries}
 use Rattle.ioam_trace.specs.Filling.{Filling, IsSuited, words_to_add, with_lengths, less_remaining}
 use Rattle.ioam_trace.specs.Head.{node_len_of, flags_of, overflow_of, remaining_of, kind_of}
-use Rattle.ioam_trace.specs.declared.filled.Filled.{Filled}
-use Rattle.ioam_trace.specs.declared.filled.Filled.TheVariants.{Added, Overflowed, AlreadyOver, Unsuited}
+use Rattle.ioam_trace.specs.declared.addition.Filled.{Filled}
+use Rattle.ioam_trace.specs.declared.addition.Filled.TheVariants.{Added, Overflowed, AlreadyOver, Unsuited}
 use Rattle.ioam_trace.proofs.AreaLaws.{size_at-in_words}
 use Rattle.ioam_trace.proofs.HeadLaws.{IsHead-octets, lengths-header, node_len_of-header, overflow_of-header, remaining_of-header, kind_of-header}
 use Rattle.ioam_trace.proofs.RecordedLaws.{total, total-cons, total-push, recorded-fits, recorded-all, total-recorded, recorded-push_over, recorded-push_not, recorded-push_fits, AreRecorded-recorded}

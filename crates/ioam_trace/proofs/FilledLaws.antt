@@ -12,8 +12,8 @@ use Rattle.ioam_data.proofs.ElementLaws.{length-element_of, can_add-room}
 use Rattle.ioam_trace.specs.Data.{trace_data, CanHold}
 use Rattle.ioam_trace.specs.Filling.{Filling, IsSuited, words_to_add, less_remaining}
 use Rattle.ioam_trace.specs.Head.{node_len_of, overflow_of, remaining_of, kind_of}
-use Rattle.ioam_trace.specs.declared.filled.Filled.{Filled}
-use Rattle.ioam_trace.specs.declared.filled.Filled.TheVariants.{Added, Overflowed, AlreadyOver, Unsuited}
+use Rattle.ioam_trace.specs.declared.addition.Filled.{Filled}
+use Rattle.ioam_trace.specs.declared.addition.Filled.TheVariants.{Added, Overflowed, AlreadyOver, Unsuited}
 use Rattle.ioam_trace.proofs.DataLaws.{trace_data-Filling}
 use Rattle.ioam_trace.specs.Filled.{is_suited, answer_by, answer_of, octets_by, filled}
 

@@ -7,8 +7,8 @@ use Rattle.ioam_data.specs.View.{Seen}
 use Rattle.ioam_data.specs.Written.{element_of}
 use Rattle.ioam_trace.specs.Filling.{words_to_add, with_lengths, less_remaining}
 use Rattle.ioam_trace.specs.Head.{node_len_of, overflow_of, remaining_of, kind_of}
-use Rattle.ioam_trace.specs.declared.filled.Filled.{Filled}
-use Rattle.ioam_trace.specs.declared.filled.Filled.TheVariants.{Added, Overflowed, AlreadyOver, Unsuited}
+use Rattle.ioam_trace.specs.declared.addition.Filled.{Filled}
+use Rattle.ioam_trace.specs.declared.addition.Filled.TheVariants.{Added, Overflowed, AlreadyOver, Unsuited}
 
 -- nodes add elements to these octets
 abbrev pub is_suited : List ℕ → Bool

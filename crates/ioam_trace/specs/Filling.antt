@@ -7,8 +7,8 @@ use Rattle.ioam_data.specs.View.{Seen}
 use Rattle.ioam_data.specs.Written.{element_of, element_words}
 use Rattle.ioam_trace.specs.Data.{trace_data, CanHold}
 use Rattle.ioam_trace.specs.Head.{node_len_of, overflow_of, remaining_of, kind_of}
-use Rattle.ioam_trace.specs.declared.filled.Filled.{Filled}
-use Rattle.ioam_trace.specs.declared.filled.Filled.TheVariants.{Added, Overflowed, AlreadyOver, Unsuited}
+use Rattle.ioam_trace.specs.declared.addition.Filled.{Filled}
+use Rattle.ioam_trace.specs.declared.addition.Filled.TheVariants.{Added, Overflowed, AlreadyOver, Unsuited}
 
 -- the words that a node would add
 abbrev pub words_to_add : List ℕ → Seen → ℕ

@@ -1,3 +1,4 @@
+//! Where elements stand among the used words of a trace.
 ghost use Rattle.std.specs.Prelude.{◌≡◌, ℕ, ◌+◌, ◌*◌, ◌<◌, ◌≤◌, length, MatchOption};
 ghost use Rattle.ioam_data.specs.Elements.{size_at, Stands};
 ghost use Rattle.ioam_trace.specs.Area.{Stops};

@@ -1,3 +1,4 @@
+//! A trace as its entry node begins it.
 ghost use Rattle.std.specs.Prelude.{◌≡◌, ℕ, ◌+◌, ◌*◌, ◌<◌, ◌≤◌, [], ◌++◌, length, true, replicate, OnOk, OnErr, is_ok, if◌then◌else◌};
 ghost use Rattle.ioam_data.specs.Kind.{is_entry_type};
 ghost use Rattle.ioam_trace.specs.Data.{head_octets, trace_data};

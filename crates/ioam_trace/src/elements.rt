@@ -1,3 +1,4 @@
+//! The elements of a trace, one after the other.
 ghost use Rattle.std.specs.Prelude.{◌≡◌, false};
 ghost use Rattle.ioam_data.specs.Kind.{has};
 ghost use Rattle.ioam_trace.specs.Area.{EndsWith};

@@ -1,3 +1,4 @@
+//! Why octets are no trace.
 /// Why octets are not the data of a trace option.
 #[derive(Clone, Copy, Debug, PartialEq, Eq)]
 pub enum TraceFault {

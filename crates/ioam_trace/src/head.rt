@@ -1,8 +1,20 @@
-ghost use Rattle.std.specs.Prelude.{◌≡◌, ℕ, ◌+◌, ◌*◌, ◌/◌, ◌%◌, ◌<◌, ◌≤◌, ◌↔◌, IsTrue, length};
+//! The header of a trace.
+ghost use Rattle.std.specs.Prelude.{◌≡◌, ◌+◌, ◌*◌, ◌<◌};
 
+use crate::lengths::Lengths;
 use ioam_base::buffer::Buffer;
 use ioam_base::octets::u16_at;
 use ioam_data::{Namespace, TraceType};
+
+/// The octets of a header.
+pub(crate) const HEAD_OCTETS: usize = 8;
+
+// Where the namespace, the IOAM-Trace-Type and the reserved octet stand in a header.
+const NAMESPACE: usize = 0;
+
+pub(crate) const TRACE_TYPE: usize = 4;
+
+const RESERVED: usize = 7;
 
 /// The header of a trace (RFC 9197 section 4.4.1), eight octets.
 #[derive(Clone, Copy, Debug, PartialEq, Eq)]
@@ -24,40 +36,6 @@ pub struct TraceHead {
     pub ghost remaining_below: { remaining < 128 },
 }
 
-/// The second word's upper half: NodeLen 5 bits, Flags 4, RemainingLen 7.
-#[derive(Clone, Copy)]
-pub(crate) struct LengthWord(pub u16);
-
-impl LengthWord {
-    pub(crate) fn node_len(self) -> u8
-        ensures value { result ≡ self.0 / 2048 }
-        ensures below { result < 32 }
-    {
-        (self.0 / 2048) as u8
-    }
-
-    // Whether Overflow is set.
-    pub(crate) fn is_over(self) -> bool
-        ensures { IsTrue result ↔ (self.0 / 1024 % 2 ≡ 1) }
-    {
-        self.0 / 1024 % 2 == 1
-    }
-
-    pub(crate) fn flags(self) -> u8
-        ensures value { result ≡ self.0 / 128 % 16 }
-        ensures below { result < 16 }
-    {
-        (self.0 / 128 % 16) as u8
-    }
-
-    pub(crate) fn remaining(self) -> u8
-        ensures value { result ≡ self.0 % 128 }
-        ensures below { result < 128 }
-    {
-        (self.0 % 128) as u8
-    }
-}
-
 impl TraceHead {
     ghost use Rattle.std.specs.Prelude.{◌≡◌, ℕ, ◌≤◌, length};
     ghost use Rattle.ioam_trace.specs.Read.{IsHead};
@@ -68,14 +46,14 @@ impl TraceHead {
         requires { 8 ≤ length octets.now }
         ensures { IsHead octets.now result }
     {
-        let word = LengthWord(u16_at(octets, 2));
+        let lengths = Lengths::read(octets);
         TraceHead {
-            namespace: Namespace(u16_at(octets, 0)),
-            node_len: word.node_len(),
-            flags: word.flags(),
-            remaining: word.remaining(),
-            kind: TraceType::at(octets, 4),
-            reserved: octets[7],
+            namespace: Namespace(u16_at(octets, NAMESPACE)),
+            node_len: lengths.node_len(),
+            flags: lengths.flags(),
+            remaining: lengths.remaining(),
+            kind: TraceType::at(octets, TRACE_TYPE),
+            reserved: octets[RESERVED],
         }
     }
 
@@ -83,12 +61,9 @@ impl TraceHead {
     pub(crate) fn in_octets(&self) -> Buffer
         ensures { result ≡ head_octets self.now }
     {
-        let word = u16::from(self.node_len) * 2048
-            + u16::from(self.flags) * 128
-            + u16::from(self.remaining);
         let mut buffer = Buffer::new();
         buffer.two(self.namespace.0);
-        buffer.two(word);
+        buffer.two(Lengths::new(self.node_len, self.flags, self.remaining).0);
         buffer.four(last_word(self.kind, self.reserved));
         buffer
     }

@@ -1,8 +1,9 @@
+//! Incremental traces.
 ghost use Rattle.ioam_trace.specs.Read.{Decodes};
 
 use crate::elements::Elements;
 use crate::fault::TraceFault;
-use crate::head::TraceHead;
+use crate::head::{HEAD_OCTETS, TraceHead};
 use crate::survey::survey;
 use ioam_base::memory::NoMemory;
 use ioam_base::text::append;
@@ -71,6 +72,6 @@ fn decode_octets(octets: &[u8]) -> Result<Incremental<'_>, TraceFault>
     let head = survey(octets, true)?;
     Ok(Incremental {
         head,
-        area: &octets[8..],
+        area: &octets[HEAD_OCTETS..],
     })
 }

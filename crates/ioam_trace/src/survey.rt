@@ -1,10 +1,11 @@
+//! What is found of octets that should be a trace.
 ghost use Rattle.std.specs.Prelude.{◌≡◌, if◌then◌else◌};
 ghost use Rattle.ioam_trace.specs.Head.{remaining_of};
 ghost use Rattle.ioam_trace.specs.Read.{Surveys};
 
 use crate::area::end_of;
 use crate::fault::TraceFault;
-use crate::head::TraceHead;
+use crate::head::{HEAD_OCTETS, TraceHead};
 
 // The words between the header and the elements.
 fn free_words(remaining: u8, is_incremental: bool) -> u8
@@ -19,12 +20,12 @@ pub(crate) fn survey(octets: &[u8], is_incremental: bool) -> Result<TraceHead, T
     ensures { Surveys (if is_incremental then 0 else remaining_of octets.now) octets.now result }
 {
     let have = octets.len();
-    if have < 8 || have % 4 != 0 {
+    if have < HEAD_OCTETS || have % 4 != 0 {
         return Err(TraceFault::Short { have });
     }
     let head = TraceHead::read(octets);
     let free = free_words(head.remaining, is_incremental);
-    let start = 8 + 4 * usize::from(free);
+    let start = HEAD_OCTETS + 4 * usize::from(free);
     if start > have {
         return Err(TraceFault::Space { remaining: free });
     }

@@ -1,8 +1,9 @@
+//! Pre-allocated traces.
 ghost use Rattle.ioam_trace.specs.Read.{Reads};
 
 use crate::elements::Elements;
 use crate::fault::TraceFault;
-use crate::head::TraceHead;
+use crate::head::{HEAD_OCTETS, TraceHead};
 use crate::survey::survey;
 
 /// The data of a pre-allocated trace option: its header and the words behind it.
@@ -59,6 +60,6 @@ fn read_octets(octets: &[u8]) -> Result<Trace<'_>, TraceFault>
     let head = survey(octets, false)?;
     Ok(Trace {
         head,
-        area: &octets[8..],
+        area: &octets[HEAD_OCTETS..],
     })
 }

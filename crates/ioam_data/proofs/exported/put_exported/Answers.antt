@@ -7,7 +7,7 @@ use Rattle.ioam_data.proofs.exported.put_exported.Goals as goal
 
 pub returns-clause-octets : goal.returns-clause-octets
 returns-clause-octets c =
-    c.write.ensures ∙ ap (λ n. element_of c.args.kind n (seen c.args.view.now)) c.words.ensures.value
+    c.put.ensures ∙ ap (λ n. element_of c.args.kind n (seen c.args.view.now)) c.words.ensures.value
 
 pub returns-clause-whole : goal.returns-clause-whole
 returns-clause-whole c =

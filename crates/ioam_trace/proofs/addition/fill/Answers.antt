@@ -4,7 +4,7 @@ use Rattle.ioam_data.proofs.ElementLaws.{IsSnapshot-lent}
 use Rattle.ioam_trace.specs.Filling.{Filling}
 use Rattle.ioam_trace.proofs.DataLaws.{trace_data-Filling}
 use Rattle.ioam_trace.proofs.FilledLaws.{filled-Filling, answer-Filling}
-use Rattle.ioam_trace.proofs.filling.fill.Goals as goal
+use Rattle.ioam_trace.proofs.addition.fill.Goals as goal
 
 pub returns-clause-adds : goal.returns-clause-adds
 returns-clause-adds c namespace kind capacity elements holds is =
