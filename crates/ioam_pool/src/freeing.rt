@@ -1,3 +1,4 @@
+//! The end of a chain that is emptied.
 ghost use Rattle.std.specs.Prelude.{MatchOption, ◌≡◌, ◌^◌, ◌<◌, None, length};
 ghost use Rattle.ioam_pool.specs.Cells.{Ends, EndsWith};
 

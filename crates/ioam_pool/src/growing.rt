@@ -1,3 +1,4 @@
+//! Cells more for the free list.
 ghost use Rattle.std.specs.Prelude.{◌≡◌, ◌+◌, ◌^◌, ◌<◌, ◌≤◌, vec_len, vec_capacity};
 ghost use Rattle.ioam_pool.specs.Kept.{Grows};
 

@@ -1,3 +1,4 @@
+//! Cells at which searches of long chains begin.
 ghost use Rattle.std.specs.Prelude.{◌≡◌, ◌≤◌, ◌==◌, not, filter, length};
 ghost use Rattle.ioam_pool.specs.Cells.{Ends, entries_from};
 ghost use Rattle.ioam_pool.specs.Guides.{GuidesOn, IsStart, IsOn, KeepsGuides, StaysGuided};

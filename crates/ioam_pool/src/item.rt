@@ -1,4 +1,5 @@
-ghost use Rattle.std.specs.Prelude.{◌≡◌, ◌≤◌, ◌⊎◌, [], length, IfOk};
+//! Items as they are kept.
+ghost use Rattle.std.specs.Prelude.{◌≡◌, ◌≤◌, ◌⊎◌, [], length, true, is_ok, IfOk};
 
 use crate::octets::Octets;
 use crate::parts::Parts;
@@ -36,9 +37,10 @@ impl Item {
     ghost use Rattle.ioam_pool.specs.Entry.{Entry, is_full};
     ghost use Rattle.ioam_pool.specs.Order.{cores, extras, meet};
 
-    /// An item of these parts. A core of more than 38 octets takes memory.
+    /// An item of these parts. A core of at most 38 octets takes no memory.
     pub fn new(alloc: Global, parts: &Parts<'_>) -> Result<Item, NoMemory>
-        ensures { IfOk result (λ item. item ≡ parts.now) }
+        ensures value { IfOk result (λ item. item ≡ parts.now) }
+        ensures few { length parts.now.core ≤ 38 → is_ok result ≡ true }
     {
         let extra = parts.extra();
         let mut own_extra = [0; EXTRA_SIZE];

@@ -1,4 +1,5 @@
-ghost use Rattle.std.specs.Prelude.{◌≡◌, ◌≤◌, [], length, IfOk};
+//! The octets of a core.
+ghost use Rattle.std.specs.Prelude.{◌≡◌, ◌≤◌, [], length, true, is_ok, IfOk};
 ghost use Rattle.ioam_pool.specs.Octets.{AreOctets, octets_of};
 
 use ioam_base::memory::NoMemory;
@@ -26,9 +27,10 @@ impl Octets {
         }
     }
 
-    // These octets, at most 262.
+    // These octets, at most 262. Memory may be wanting for more than stand in place.
     pub(crate) fn new(alloc: Global, octets: &[u8]) -> Result<Octets, NoMemory>
         requires { length octets.now ≤ 262 }
+        ensures few { length octets.now ≤ 38 → is_ok result ≡ true }
         ensures octets { IfOk result (λ own. octets_of own ≡ octets.now) }
         ensures are { IfOk result AreOctets }
     {

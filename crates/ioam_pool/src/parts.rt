@@ -1,3 +1,4 @@
+//! The parts of an item, lent.
 ghost use Rattle.std.specs.Prelude.{◌≡◌, ◌≤◌, ◌⊎◌, length};
 
 use std::marker::Model;

@@ -1,3 +1,4 @@
+//! Chains of items over one array of cells.
 ghost use Rattle.std.specs.Prelude.{◌≡◌, ◌↔◌, ◌+◌, ◌^◌, ◌<◌, ◌≤◌, ◌++◌, ◌∷◌, [], length, is_ok, if◌then◌else◌, IfOk, IsTrue, OnErr};
 ghost use Rattle.ioam_pool.specs.Order.{IsApart, IsChain, IsInOrder, order};
 ghost use Rattle.ioam_pool.specs.Chains.{Chains, chain_of, total, with_chain, with_one_more};

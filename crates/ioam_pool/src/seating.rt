@@ -1,3 +1,4 @@
+//! Where an item goes on a chain.
 ghost use Rattle.std.specs.Prelude.{◌≡◌, ◌<◌, ◌&&◌, not, length, vec_len};
 ghost use Rattle.std.specs.Option.{ForSome};
 ghost use Rattle.ioam_pool.specs.Cells.{Ends, entries_from, entry_at, linked_in, head_then, next_or, with_item};

@@ -1,3 +1,4 @@
+//! The items of a chain, one after the other.
 use crate::cells::Cell;
 use crate::item::Item;
 use std::marker::Model;
