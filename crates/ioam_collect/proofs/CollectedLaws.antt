@@ -314,3 +314,6 @@ module _ (c : Collected) (xs : List Record) (s : Stands c xs) where
         (λ r. none' (replaces_item now (ordered (keyed xs)) p.0 p.1 (rw (s.groups.each p.0) at r))),
         s.groups.held ∙ all,
       )
+
+  pub one_more : (x : Record) (B : Type 0) → (B ↔ Answers c (keyed_of x) Full) → B ↔ IsOneMore c.limit xs x
+  one_more x B both = ((λ b. full_more x (both.0 b)), (λ more. both.1 (more_full x more)))

@@ -1,3 +1,4 @@
+//! The first item of a key.
 ghost use Rattle.std.specs.Prelude.{◌≡◌, ◌<◌, Some, None, IfOk};
 ghost use Rattle.std.specs.BTreeMap.{get};
 ghost use Rattle.ioam_collect.specs.Keyed.{key_cmp, IsOfRecord};

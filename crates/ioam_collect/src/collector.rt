@@ -1,3 +1,4 @@
+//! A collector of export records.
 ghost use Rattle.std.specs.Prelude.{◌≡◌, ◌≢◌, ◌↔◌, ◌^◌, ◌<◌, ◌≤◌, [], IfOk, IsTrue, List};
 ghost use Rattle.std.specs.List.{AllByRecursion};
 ghost use Rattle.std.specs.Map.{keys_of};
@@ -10,16 +11,13 @@ use crate::ahead::SIDE_BY_SIDE;
 use crate::grouping::Groups;
 use crate::growing::Added;
 use crate::key::Key;
-use crate::keying::{keyed, visit_of, write_core};
+use crate::keying::{keyed, write_core};
 use crate::store::Store;
 use ioam_base::memory::NoMemory;
-use ioam_dex::{Export, ExportRoom};
+use ioam_dex::{Export, ExportRoom, MOST_RECORD, visit_octets};
 use ioam_pool::Item;
 use std::alloc::Global;
 use std::marker::Model;
-
-// The octets of the greatest record.
-const RECORD_MOST: usize = 274;
 
 /// Export records regrouped by the packets that they tell of: each record once, under its key, by
 /// falling hop value.
@@ -51,7 +49,7 @@ impl Model for Collector {
 }
 
 impl Collector {
-    ghost use Rattle.ioam_collect.specs.Collected.{AddsPair, AddsRecord, Answers, Counts, Stands};
+    ghost use Rattle.ioam_collect.specs.Collected.{AddsPair, AddsRecord, Answers, Counts, IsOneMore, Stands};
     ghost use Rattle.ioam_collect.specs.declared.growing.Added.TheVariants.{Full};
 
     /// A collector of so many records, below 2^31, which holds none.
@@ -63,7 +61,7 @@ impl Collector {
         Ok(Collector {
             store: Store::new(alloc, limit)?,
             alloc,
-            room: ExportRoom::new(alloc, RECORD_MOST)?,
+            room: ExportRoom::new(alloc, MOST_RECORD)?,
             read: 0,
             unkeyed: 0,
         })
@@ -77,18 +75,14 @@ impl Collector {
         requires parts { HasItsParts (record_of export.now) }
         ensures { AddsRecord self.old (record_of export.now) result self.new }
     {
-        let visit = visit_of(export.visit);
+        let visit = visit_octets(export.visit);
         write_core(export, &mut self.room);
-        match keyed(export, self.room.octets(), visit.octets()) {
-            Some((key, parts)) => match Item::new(self.alloc, &parts) {
-                Ok(item) => self.add_keyed(key, item),
-                Err(NoMemory) => Err(NoMemory),
-            },
-            None => {
-                self.count(Added::Unkeyed);
-                Ok(Added::Unkeyed)
-            }
-        }
+        let Some((key, parts)) = keyed(export, self.room.octets(), visit.octets()) else {
+            self.count(Added::Unkeyed);
+            return Ok(Added::Unkeyed);
+        };
+        let item = Item::new(self.alloc, &parts)?;
+        self.add_keyed(key, item)
     }
 
     /// Reads what adding records with these keys will search, as far as it is found at once, and says how many items it
@@ -103,9 +97,11 @@ impl Collector {
     pub fn is_full_for(&mut self, export: &Export<'_>) -> bool
         requires parts { HasItsParts (record_of export.now) }
         ensures full { IsTrue result ↔ Answers self.old (keyed_of (record_of export.now)) Full }
+        // Straight from the records that it stands for: it would be one more than may be held.
+        ensures more { (xs : List Record) → Stands self.old xs → (IsTrue result ↔ IsOneMore self.old.limit xs (record_of export.now)) }
         ensures same { self.new ≡ self.old }
     {
-        let visit = visit_of(export.visit);
+        let visit = visit_octets(export.visit);
         write_core(export, &mut self.room);
         let Some((key, parts)) = keyed(export, self.room.octets(), visit.octets()) else {
             return false;

@@ -1,3 +1,4 @@
+//! The groups of a collector.
 use crate::key::Key;
 use ioam_pool::{Chain, Items, Pool};
 use std::collections::btree_map::Iter;

@@ -1,3 +1,4 @@
+//! What becomes of a record, and room for it.
 ghost use Rattle.std.specs.Prelude.{◌≡◌, ◌^◌, ◌<◌, ◌≤◌, length, OnOk};
 ghost use Rattle.ioam_pool.specs.Chains.{total};
 ghost use Rattle.ioam_collect.specs.Puts.{Puts};

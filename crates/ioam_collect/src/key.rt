@@ -1,3 +1,4 @@
+//! What the records of one packet have in common.
 use ioam_data::Namespace;
 
 /// What the export records of one packet have in common (RFC 9326 section 3.2). Keys are ordered by

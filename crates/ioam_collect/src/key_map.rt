@@ -1,3 +1,4 @@
+//! The chains of keys.
 ghost use Rattle.std.specs.Prelude.{◌≡◌, Some, None, IfSome, OnErr, OnOk};
 ghost use Rattle.std.specs.List.{All};
 ghost use Rattle.std.specs.BTreeMap.{get, IsEmpty, IsOrdered, IsUnchanged, Updates};

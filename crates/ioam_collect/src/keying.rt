@@ -1,3 +1,4 @@
+//! What of a record is kept: its key, and its item.
 ghost use Rattle.std.specs.Prelude.{◌≡◌, ◌+◌, ◌≤◌, length, true, IfSome, Some};
 ghost use Rattle.ioam_data.specs.Kind.{has};
 ghost use Rattle.ioam_dex.specs.Record.{HasItsParts, record_of};
@@ -5,11 +6,13 @@ ghost use Rattle.ioam_dex.specs.Visit.{visit_octets};
 ghost use Rattle.ioam_collect.specs.Keyed.{hops_of, keyed_of, IsCoreOf, IsOfRecord};
 
 use crate::key::Key;
-use ioam_base::buffer::Buffer;
 use ioam_base::octets::u32_at;
-use ioam_data::fields;
+use ioam_data::{bit, fields};
 use ioam_dex::{Export, ExportRoom, put_export};
 use ioam_pool::Parts;
+
+// What Hop_Lim counts in, in front of a node id of 24 bits.
+const HOPS: u32 = 1 << 24;
 
 // The hop value of a record whose type has bit 0: its element begins with it.
 fn first_hops(export: &Export<'_>) -> u8
@@ -17,7 +20,7 @@ fn first_hops(export: &Export<'_>) -> u8
     requires first { has export.now.kind 0 ≡ true }
     ensures { Some result ≡ hops_of (record_of export.now) }
 {
-    (u32_at(export.element, 0) / 16777216) as u8
+    (u32_at(export.element, 0) / HOPS) as u8
 }
 
 // The hop value of a record: that of bit 0 of its type, or of bit 8 where bit 0 isn't there.
@@ -29,29 +32,14 @@ fn hop_value(export: &Export<'_>) -> Option<u8>
         return None;
     }
     let kind = export.trace_type();
-    if kind.has(0) {
+    if kind.has(bit::HOP_NODE) {
         return Some(first_hops(export));
     }
     let fields = fields(kind, kind.words(), export.element);
     match fields.hop_node {
         Some((hops, _)) => Some(hops),
-        None => match fields.wide_hop_node {
-            Some((hops, _)) => Some(hops),
-            None => None,
-        },
+        None => fields.wide_hop_node.map(|(hops, _)| hops),
     }
-}
-
-/// The octets of a visit, where it is there.
-pub(crate) fn visit_of(visit: Option<(u64, u32)>) -> Buffer
-    ensures { result ≡ visit_octets visit }
-{
-    let mut buffer = Buffer::new();
-    if let Some(visit) = visit {
-        buffer.eight(visit.0);
-        buffer.four(visit.1);
-    }
-    buffer
 }
 
 /// Writes the version 1 record of a record into the room, and nothing else.

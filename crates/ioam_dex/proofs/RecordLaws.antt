@@ -1,5 +1,5 @@
 -- Laws of export records: by places and as octets.
-use Rattle.std.proofs.Common.{◌≡◌, ℕ, ◌+◌, ◌-◌, ◌<◌, ◌≤◌, Bool, true, false, List, [], ◌∷◌, ◌++◌, length, take, drop, get_or, Option, Some, None, arith, refl, sym, ap, ◌∙◌, subst, append_assoc, length-append, length-drop}
+use Rattle.std.proofs.Common.{◌≡◌, ℕ, ◌+◌, ◌-◌, ◌<◌, ◌≤◌, Bool, true, false, List, [], ◌∷◌, ◌++◌, length, take, drop, get_or, Option, Some, None, arith, refl, sym, ap, ◌∙◌, subst, append_assoc, length-append, length-take, length-drop, ap₂}
 use Rattle.std.specs.Option.{is_some, IfSome}
 use Rattle.std.proofs.lemmas.List.{length-take-le, take-append-drop, take_at, drop_at, drop-drop, append-nil}
 use Rattle.ioam_base.specs.Octets.{IsOctets, u16_at}
@@ -243,6 +243,39 @@ Rec-whole octets x rec =
     let whole = IsWhole-record x rec.sayable.parts rec.sayable.numbers.kind_below [] in
     let size = length_of-record x rec.sayable.parts rec.sayable.numbers.kind_below [] in
     subst P (sym (rec.is ∙ sym alone)) (whole, size ∙ sym (record_octets-length x rec.sayable.parts) ∙ ap length (sym alone))
+
+-- and its type and its element are what it says
+pub Rec-parts : (octets : List ℕ) (x : Record) → Rec octets x → (kind_of octets ≡ x.kind) × (element_of octets ≡ x.element)
+Rec-parts octets x rec =
+    let P : List ℕ → Type 0 = λ o. (kind_of o ≡ x.kind) × (element_of o ≡ x.element) in
+    let parts = rec.sayable.parts in
+    let below = rec.sayable.numbers.kind_below in
+    subst P (sym (rec.is ∙ sym (append-nil (record_octets x)))) (kind_of-record x parts below [], element_of-record x parts below [])
+
+-- the octets of a record by its places: nothing stands behind its element
+pub record AtPlaces (octets : List ℕ) : Type 0 where
+  pub begins : 10 ≤ length octets
+  pub front : front_of octets ≤ length octets
+  pub size : length octets ≡ length_of octets
+  pub filled : IsFilled (kind_of octets) (element_of octets)
+  pub short : length (element_of octets) ≤ 244
+
+pub at_places : (octets : List ℕ) (x : Record) → Rec octets x → AtPlaces octets
+at_places octets x rec =
+    let whole = Rec-whole octets x rec in
+    let behind = drop (front_of octets) octets in
+    record {
+      begins = omega (arith, whole.0.sized.least, whole.1);
+      front = omega (arith, whole.0.sized.least, whole.1);
+      size = sym whole.1;
+      filled = whole.0.filled;
+      short = omega (arith, length-take (length_of octets - front_of octets) behind, whole.0.sized.most);
+    }
+
+-- its element by its places
+pub element_at : (octets : List ℕ) (front : ℕ) → front ≡ front_of octets → length octets ≡ length_of octets
+    → take (length octets - front) (drop front octets) ≡ element_of octets
+element_at octets front is size = ap₂ (λ (n : ℕ) (m : ℕ). take (n - m) (drop m octets)) size is
 
 -- ---- what a step tells of a whole record
 

@@ -3,36 +3,14 @@ use Rattle.std.proofs.Common.{◌≡◌, ℕ, ◌+◌, ◌*◌, ◌/◌, ◌%◌
 use Rattle.ioam_base.specs.Octets.{IsOctets, u32_at, u64_at}
 use Rattle.ioam_base.specs.Words.{four_octets, eight_octets}
 use Rattle.ioam_base.proofs.OctetsLaws.{u32_at-fits}
-use Rattle.ioam_base.proofs.WordsLaws.{four-at, four_octets-same, eight_octets-same}
+use Rattle.ioam_base.proofs.WordsLaws.{four-at, eight-at, four_octets-same, eight_octets-same}
 use Rattle.ioam_dex.specs.Visit.{IsVersion, has_visit, version_of, visit_octets, twelve_where, IsVisitBelow, visit_where}
 
--- a number of 64 bits is its upper half and its lower half
-halves : (high low : ℕ) → low < 4294967296 → high < 4294967296 → eight_octets (high * 4294967296 + low) ≡ four_octets high ++ four_octets low
-halves high low small also =
-    let n = high * 4294967296 + low in
-    let first : n / 72057594037927936 % 256 ≡ high / 16777216 % 256 = omega arith in
-    let second : n / 281474976710656 % 256 ≡ high / 65536 % 256 = omega arith in
-    let third : n / 1099511627776 % 256 ≡ high / 256 % 256 = omega arith in
-    let fourth : n / 4294967296 % 256 ≡ high % 256 = omega arith in
-    let fifth : n / 16777216 % 256 ≡ low / 16777216 % 256 = omega arith in
-    let sixth : n / 65536 % 256 ≡ low / 65536 % 256 = omega arith in
-    let seventh : n / 256 % 256 ≡ low / 256 % 256 = omega arith in
-    let eighth : n % 256 ≡ low % 256 = omega arith in
-    cc
-
 module _ (octets : List ℕ) (at : ℕ) (small : IsOctets octets) where
-  eight-at : at + 8 ≤ length octets → drop at octets ≡ eight_octets (u64_at octets at) ++ drop (at + 8) octets
-  eight-at fits =
-      four-at octets at small (omega arith)
-      ∙ ap (λ r. four_octets (u32_at octets at) ++ r) (four-at octets (at + 4) small (omega arith)
-      ∙ ap (λ n. four_octets (u32_at octets (at + 4)) ++ drop n octets) (let there : at + 4 + 4 ≡ at + 8 = omega arith in there))
-      ∙ sym (append_assoc (four_octets (u32_at octets at)) (four_octets (u32_at octets (at + 4))) (drop (at + 8) octets))
-      ∙ ap (λ r. r ++ drop (at + 8) octets) (sym (halves (u32_at octets at) (u32_at octets (at + 4)) (u32_at-fits octets (at + 4) small) (u32_at-fits octets at small)))
-
   pub visit_where-at : (there : Bool) → at + twelve_where there ≤ length octets
       → drop at octets ≡ visit_octets (visit_where there octets at) ++ drop (at + twelve_where there) octets
   visit_where-at true fits =
-      eight-at (omega arith)
+      eight-at octets at small (omega arith)
       ∙ ap (λ r. eight_octets (u64_at octets at) ++ r) (four-at octets (at + 8) small (omega arith)
       ∙ ap (λ n. four_octets (u32_at octets (at + 8)) ++ drop n octets) (let there : at + 8 + 4 ≡ at + 12 = omega arith in there))
       ∙ sym (append_assoc (eight_octets (u64_at octets at)) (four_octets (u32_at octets (at + 8))) (drop (at + 12) octets))

@@ -1,3 +1,4 @@
+//! Direct export data as a value.
 use ioam_data::{Namespace, TraceType};
 
 /// Direct export data (RFC 9326 section 3.2). The two optional fields are there exactly where the

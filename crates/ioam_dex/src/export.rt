@@ -1,9 +1,7 @@
-ghost use Rattle.std.specs.Prelude.{◌≡◌, ◌<◌};
+//! What an export record says.
+ghost use Rattle.std.specs.Prelude.{◌≡◌, ◌^◌, ◌<◌};
 
 use ioam_data::{Namespace, TraceType};
-
-/// The most octets of an element: 61 words.
-pub const ELEMENT_MOST: usize = 244;
 
 /// What one record says: the data of the direct export option that a node met (RFC 9326 section
 /// 3.2) and the element that it exports (RFC 9197 section 4.4).
@@ -27,7 +25,7 @@ pub struct Export<'a> {
     /// One element of the type, NodeLen being its defined words: at most 61 words. It is empty for a
     /// type without a defined word and without bit 22.
     pub element: &'a [u8],
-    pub ghost kind_below: { kind < 16777216 },
+    pub ghost kind_below: { kind < 2 ^ 24 },
 }
 
 impl Export<'_> {

@@ -1,3 +1,4 @@
+//! A record as octets, and the one record that octets are.
 ghost use Rattle.std.specs.Prelude.{◌≡◌, ◌+◌, ◌<◌, ◌≤◌, ◌∷◌, ◌++◌, length, IsSomeAnd, MatchOption};
 ghost use Rattle.ioam_base.specs.Words.{two_octets, three_octets};
 ghost use Rattle.ioam_dex.specs.Visit.{version_of};
@@ -7,10 +8,10 @@ ghost use Rattle.ioam_dex.specs.Room.{appended};
 
 use crate::export::Export;
 use crate::head::{RecordHead, RecordStep};
-use crate::numbers::numbers_size;
+use crate::layout::front_size;
 use crate::room::ExportRoom;
 use crate::step::record_step;
-use crate::visit::{has_visit, twelve_where, version_of};
+use crate::visit::version_of;
 use ioam_base::buffer::Buffer;
 
 // The numbers of a record and its sizes.
@@ -19,8 +20,7 @@ fn head_of(export: &Export<'_>) -> RecordHead
     ensures says { said result export.now.element.now ≡ record_of export.now }
     ensures size { result.size ≡ record_size (record_of export.now) }
 {
-    let version = version_of(export.visit);
-    let front = 10 + twelve_where(has_visit(version)) + numbers_size(export.ext);
+    let front = front_size(version_of(export.visit), export.ext);
     RecordHead {
         namespace: export.namespace,
         flags: export.flags,

@@ -1,4 +1,5 @@
-ghost use Rattle.std.specs.Prelude.{◌<◌};
+//! What the octets of a record show of it.
+ghost use Rattle.std.specs.Prelude.{◌^◌, ◌<◌};
 
 use crate::export::ExportFault;
 use ioam_data::Namespace;
@@ -23,7 +24,7 @@ pub(crate) struct RecordHead {
     pub seq: Option<u32>,
     pub front: usize,
     pub size: usize,
-    pub ghost kind_below: { kind < 16777216 },
+    pub ghost kind_below: { kind < 2 ^ 24 },
 }
 
 /// What octets where a record is due show of it.

@@ -1,3 +1,4 @@
+//! The numbers that extension flags have: Flow ID and Sequence Number.
 ghost use Rattle.std.specs.Prelude.{◌≡◌, ◌+◌, ◌≤◌, ◌<◌, length};
 ghost use Rattle.ioam_dex.specs.Numbers.{has_flow, has_seq, four_where, numbers_size, u32_where};
 

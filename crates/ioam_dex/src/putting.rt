@@ -1,3 +1,4 @@
+//! Direct export data as octets.
 ghost use Rattle.std.specs.Prelude.{◌≡◌, ◌+◌, ◌++◌, OnOk, is_ok, length, if◌then◌else◌};
 ghost use Rattle.ioam_dex.specs.Direct.{HasItsNumbers, direct_octets};
 ghost use Rattle.ioam_dex.specs.Numbers.{numbers_size};

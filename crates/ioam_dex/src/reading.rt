@@ -1,3 +1,4 @@
+//! Direct export data, read.
 ghost use Rattle.std.specs.Prelude.{◌≡◌, ◌≤◌, length};
 ghost use Rattle.ioam_dex.specs.Direct.{Reads, ReadsAgain, direct_at, read_of, wanted};
 

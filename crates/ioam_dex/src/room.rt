@@ -1,7 +1,9 @@
+//! Room for export records.
 ghost use Rattle.std.specs.Prelude.{◌≡◌, ◌+◌, ◌≤◌, [], IfOk, length};
 ghost use Rattle.ioam_base.specs.Words.{four_octets_if};
 ghost use Rattle.ioam_dex.specs.Visit.{visit_octets};
 
+use crate::visit::visit_octets;
 use ioam_base::buffer::Buffer;
 use ioam_base::memory::NoMemory;
 use std::alloc::Global;
@@ -83,11 +85,6 @@ impl ExportRoom {
         requires { 12 ≤ self.old.spare }
         ensures { self.new ≡ appended self.old (visit_octets visit) }
     {
-        if let Some(visit) = visit {
-            let mut buffer = Buffer::new();
-            buffer.eight(visit.0);
-            buffer.four(visit.1);
-            self.append(buffer.octets());
-        }
+        self.append(visit_octets(visit).octets());
     }
 }

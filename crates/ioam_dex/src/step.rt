@@ -1,12 +1,16 @@
+//! What octets show of the record that is due at their front.
 ghost use Rattle.std.specs.Prelude.{◌≡◌, ◌<◌, ◌≤◌, ◌↔◌, IsTrue, length};
 ghost use Rattle.ioam_data.specs.Elements.{IsFilled};
 ghost use Rattle.ioam_dex.specs.Record.{record_at, record_of, element_of, front_of};
 ghost use Rattle.ioam_dex.specs.Faults.{TellsSize, TellsRecord, said};
 
-use crate::export::{ELEMENT_MOST, Export, ExportFault};
+use crate::export::{Export, ExportFault};
 use crate::head::{RecordHead, RecordStep, Sizing};
-use crate::numbers::{four_where, has_flow, has_seq, numbers_size, u32_where};
-use crate::visit::{has_visit, twelve_where, visit_where};
+use crate::layout::{
+    EXTENSIONS, FLAGS, LENGTH, MOST_ELEMENT, NAMESPACE, TRACE_TYPE, VERSION, VISIT, front_size,
+};
+use crate::numbers::{four_where, has_flow, has_seq, u32_where};
+use crate::visit::{PLAIN, VISITED, has_visit, twelve_where, visit_where};
 use ioam_base::octets::u16_at;
 use ioam_data::{Namespace, TraceType, split};
 
@@ -45,16 +49,17 @@ fn size_step(octets: &[u8]) -> Sizing
     if octets.is_empty() {
         return Sizing::Cut;
     }
-    if octets[0] != 1 && octets[0] != 2 {
-        return Sizing::Bad(ExportFault::Version { found: octets[0] });
+    let version = octets[VERSION];
+    if version != PLAIN && version != VISITED {
+        return Sizing::Bad(ExportFault::Version { found: version });
     }
     if octets.len() < 4 {
         return Sizing::Cut;
     }
-    let front = 10 + twelve_where(has_visit(octets[0])) + numbers_size(octets[1]);
-    let found = u16_at(octets, 2);
+    let front = front_size(version, octets[EXTENSIONS]);
+    let found = u16_at(octets, LENGTH);
     let size = usize::from(found);
-    if size < front || size > front + ELEMENT_MOST {
+    if size < front || size > front + MOST_ELEMENT {
         return Sizing::Bad(ExportFault::Length { found });
     }
     Sizing::Sized { front, size }
@@ -67,15 +72,15 @@ fn head(octets: &[u8], front: usize, size: usize) -> RecordHead
     ensures front { result.front ≡ front }
     ensures size { result.size ≡ size }
 {
-    let second = has_visit(octets[0]);
-    let ext = octets[1];
-    let numbers = 10 + twelve_where(second);
+    let second = has_visit(octets[VERSION]);
+    let ext = octets[EXTENSIONS];
+    let numbers = VISIT + twelve_where(second);
     RecordHead {
-        namespace: Namespace(u16_at(octets, 4)),
-        flags: octets[6],
+        namespace: Namespace(u16_at(octets, NAMESPACE)),
+        flags: octets[FLAGS],
         ext,
-        kind: TraceType::at(octets, 7).bits(),
-        visit: visit_where(second, octets, 10),
+        kind: TraceType::at(octets, TRACE_TYPE).bits(),
+        visit: visit_where(second, octets, VISIT),
         flow: u32_where(has_flow(ext), octets, numbers),
         seq: u32_where(has_seq(ext), octets, numbers + four_where(has_flow(ext))),
         front,
@@ -94,7 +99,7 @@ pub(crate) fn record_step(octets: &[u8]) -> RecordStep
             if octets.len() < size {
                 return RecordStep::Cut;
             }
-            if is_filled(TraceType::at(octets, 7), &octets[front..size]) {
+            if is_filled(TraceType::at(octets, TRACE_TYPE), &octets[front..size]) {
                 RecordStep::Whole(head(octets, front, size))
             } else {
                 RecordStep::Bad(ExportFault::Element { at: front as u32 })

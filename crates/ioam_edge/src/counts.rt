@@ -1,3 +1,4 @@
+//! How many notes of each kind there were.
 ghost use Rattle.std.specs.Prelude.{◌≡◌};
 ghost use Rattle.ioam_edge.specs.Noted.{no_counts, counted};
 

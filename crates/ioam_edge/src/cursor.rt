@@ -1,3 +1,4 @@
+//! Octets that are read from the front.
 ghost use Rattle.std.specs.Prelude.{◌≡◌, ◌+◌, ◌≤◌, ◌++◌, length, drop, is_some, if◌then◌else◌};
 ghost use Rattle.ioam_base.specs.Words.{two_octets, four_octets, four_octets_if, eight_octets, eight_octets_if};
 

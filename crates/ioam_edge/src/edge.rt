@@ -1,3 +1,4 @@
+//! Edge-to-edge data as a value.
 use ioam_data::Namespace;
 
 /// Edge-to-edge data (RFC 9197 section 4.6). Each field is there exactly where the type asks for it.

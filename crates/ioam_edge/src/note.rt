@@ -1,3 +1,4 @@
+//! What a receiver notes of a number.
 /// What a sequence number tells of those that were noted before it.
 #[derive(Clone, Copy, Debug, PartialEq, Eq)]
 pub enum Note {

@@ -1,3 +1,4 @@
+//! Edge-to-edge data as octets.
 ghost use Rattle.std.specs.Prelude.{◌≡◌, ◌+◌, ◌%◌, ◌++◌, OnOk, is_ok, length, if◌then◌else◌};
 ghost use Rattle.ioam_edge.specs.Edge.{HasItsFields, edge_octets, fields_size};
 

@@ -1,3 +1,4 @@
+//! Edge-to-edge data, read.
 ghost use Rattle.std.specs.Prelude.{◌≡◌, ◌+◌, ◌≤◌, length};
 ghost use Rattle.ioam_edge.specs.Edge.{Begins, Reads, ReadsAgain, asks, fields_size, wanted};
 

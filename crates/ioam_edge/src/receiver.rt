@@ -1,3 +1,4 @@
+//! A receiver of sequence numbers.
 ghost use Rattle.std.specs.Prelude.{◌≡◌, ◌==◌, [], ◌∷◌, ◌++◌, List, ℕ, if◌then◌else◌};
 ghost use Rattle.ioam_edge.specs.declared.note.Note.TheVariants.{Next, Gap};
 

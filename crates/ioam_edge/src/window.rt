@@ -1,3 +1,4 @@
+//! Which of the last 64 numbers came.
 ghost use Rattle.std.specs.Prelude.{◌≡◌, ◌<◌, ◌==◌, nat_lt, ◌&&◌};
 ghost use Rattle.std.specs.Int.{bit_at};
 ghost use Rattle.ioam_edge.specs.Window.{Moved, Set};

@@ -1,40 +1,16 @@
 -- Laws of the lines of groups.
-use Rattle.std.proofs.Common.{◌≡◌, ℕ, ◌-◌, ◌<◌, ◌≤◌, List, [], ◌∷◌, ◌++◌, length, length-take, take, drop, sym, ap, ap₂, ◌∙◌, arith, inl, inr, ◌⊎◌, Option, None, Some}
+use Rattle.std.proofs.Common.{◌≡◌, ℕ, ◌<◌, ◌≤◌, List, [], ◌∷◌, ◌++◌, length, ap, ap₂, ◌∙◌, arith, inl, inr, ◌⊎◌, Option, None, Some}
 use Rattle.std.specs.List.{flat_map}
 use Rattle.std.proofs.lemmas.Bool.Decides.{nat_tests}
 use Rattle.ioam_data.specs.Elements.{IsElement, IsFilled}
 use Rattle.ioam_data.specs.Kind.{words}
-use Rattle.ioam_dex.specs.Record.{Record, Rec, element_of, front_of, kind_of, length_of}
-use Rattle.ioam_dex.proofs.RecordLaws.{Rec-whole}
+use Rattle.ioam_dex.specs.Record.{Record}
 use Rattle.ioam_pool.specs.Entry.{Entry}
 use Rattle.ioam_collect.specs.Keyed.{keyed, keyed_of}
 use Rattle.ioam_collect.specs.Best.{kept_of, groups_of}
 use Rattle.ioam_collect.specs.Collected.{Collected, Stands, capped, one_where_none, count_unkeyed}
 use Rattle.ioam_collect.specs.declared.key.Key.{Key}
 use Rattle.ioam_report_groups.specs.GroupsText.{group_text, counts_line, collected_text, records_text}
-
--- the octets of a record by its places: nothing stands behind its element
-pub record AtPlaces (octets : List ℕ) : Type 0 where
-  pub front : front_of octets ≤ length octets
-  pub size : length octets ≡ length_of octets
-  pub filled : IsFilled (kind_of octets) (element_of octets)
-  pub short : length (element_of octets) ≤ 244
-
-pub at_places : (octets : List ℕ) (x : Record) → Rec octets x → AtPlaces octets
-at_places octets x rec =
-    let whole = Rec-whole octets x rec in
-    let behind = drop (front_of octets) octets in
-    record {
-      front = omega (arith, whole.0.sized.least, whole.1);
-      size = sym whole.1;
-      filled = whole.0.filled;
-      short = omega (arith, length-take (length_of octets - front_of octets) behind, whole.0.sized.most);
-    }
-
--- its element by its places
-pub element_at : (octets : List ℕ) (front : ℕ) → front ≡ front_of octets → length octets ≡ length_of octets
-    → take (length octets - front) (drop front octets) ≡ element_of octets
-element_at octets front is size = ap₂ (λ (n : ℕ) (m : ℕ). take (n - m) (drop m octets)) size is
 
 pub filled_or_empty : (kind : ℕ) (element : List ℕ) → IsFilled kind element → (element ≡ []) ⊎ IsElement kind (words kind) element
 filled_or_empty kind element (inl is) = inr is

@@ -1,7 +1,7 @@
 //! Groups that come next: room is made for their lines, and their items are read ahead.
 ghost use Rattle.std.specs.Prelude.{◌≡◌};
 
-use ioam_collect::{Group, Groups, SIDE_BY_SIDE, read_ahead};
+use ioam_collect::{Groups, SIDE_BY_SIDE, read_ahead};
 use ioam_pool::Items;
 
 // Of one group at most so many items are read ahead.
@@ -10,17 +10,9 @@ const MOST_AHEAD: u32 = 32;
 // Room for the line of an item, where it has few fields.
 const LINE_ROOM: usize = 64;
 
-// The items of a group.
-fn items_of<'a>(group: Option<Group<'a>>) -> Option<Items<'a>> {
-    match group {
-        Some(group) => Some(group.items),
-        None => None,
-    }
-}
-
 // The items of each of the next groups.
 fn next_items<'a>(groups: &mut Groups<'a>) -> [Option<Items<'a>>; SIDE_BY_SIDE] {
-    [(); SIDE_BY_SIDE].map(|()| items_of(groups.next()))
+    [(); SIDE_BY_SIDE].map(|()| groups.next().map(|group| group.items))
 }
 
 /// Makes room for the lines of the next groups, where there is memory for it. Their cells, which lie anywhere, are read

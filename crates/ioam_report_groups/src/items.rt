@@ -3,16 +3,15 @@ ghost use Rattle.std.specs.Prelude.{◌≡◌, ◌+◌, ◌≤◌, ◌++◌, ◌
 ghost use Rattle.std.specs.Int.{w32, to_be_bytes};
 ghost use Rattle.std.specs.List.{AllByRecursion, flat_map};
 ghost use Rattle.ioam_data.specs.Elements.{IsFilled};
-ghost use Rattle.ioam_dex.specs.Numbers.{has_flow, has_seq};
-ghost use Rattle.ioam_dex.specs.Record.{Record, Rec, front_of, kind_of, element_of};
+ghost use Rattle.ioam_dex.specs.Record.{Record, Rec, kind_of, element_of};
 ghost use Rattle.ioam_report_lines.specs.Digits.{digits_of};
 ghost use Rattle.ioam_collect.specs.Keyed.{IsOfRecord};
 ghost use Rattle.ioam_report_groups.specs.GroupsText.{visit_text, record_line, item_line};
 
 use ioam_base::memory::NoMemory;
-use ioam_base::octets::{u32_at, u64_at};
 use ioam_base::text::append;
 use ioam_data::TraceType;
+use ioam_dex::{element_in, visit_at};
 use ioam_pool::{Item, Items};
 use ioam_report_lines::{Line, put_element, settle};
 
@@ -36,9 +35,10 @@ fn put_visit(extra: &[u8], line: &mut Line)
     if extra.is_empty() {
         return;
     }
-    line.number(u64::from(u32_at(extra, 8)));
+    let (time, inward) = visit_at(extra, 0);
+    line.number(u64::from(inward));
     line.put(b" from=");
-    line.number(u64_at(extra, 0));
+    line.number(time);
     line.put(b" at=");
 }
 
@@ -56,26 +56,14 @@ fn put_line(kind: TraceType, element: &[u8], extra: &[u8], line: &mut Line)
     put_kind(kind, line);
 }
 
-// The octets in front of the element of a record.
-#[tactic(auto, unfolding(ioam_dex::specs::Numbers::has_flow, ioam_dex::specs::Numbers::has_seq))]
-fn front_of(octets: &[u8]) -> usize
-    requires { 2 ≤ length octets.now }
-    ensures { result ≡ front_of octets.now }
-{
-    let visit = if octets[0] == 2 { 12 } else { 0 };
-    let flow = if octets[1] / 128 % 2 == 1 { 4 } else { 0 };
-    let seq = if octets[1] / 64 % 2 == 1 { 4 } else { 0 };
-    10 + visit + flow + seq
-}
-
 // Puts the line of a record together of which the octets of version 1 are given.
 fn put_core(core: &[u8], extra: &[u8], line: &mut Line)
     requires of_record { (x : Record) × Rec core.now x }
     requires extra { (length extra.now ≡ 0) ⊎ (length extra.now ≡ 12) }
     ensures { line.new ≡ record_line (kind_of core.now) (element_of core.now) extra.now }
 {
-    let element = &core[front_of(core)..];
-    put_line(TraceType::at(core, 7), element, extra, line);
+    let (kind, element) = element_in(core);
+    put_line(kind, element, extra, line);
 }
 
 // Appends the line of an item. The line that is lent holds anything before and after.

@@ -1,0 +1,51 @@
+//! Where the parts of an export record stand: version 8 bits, extension flags 8, length 16, Namespace-ID 16, flags 8,
+//! IOAM-Trace-Type 24, the visit of a record of version 2, Flow ID and Sequence Number as the flags have them, the element.
+ghost use Rattle.std.specs.Prelude.{◌≡◌, ◌≤◌, length};
+ghost use Rattle.ioam_data.specs.Elements.{IsFilled};
+ghost use Rattle.ioam_dex.specs.Record.{Record, Rec, front_size, kind_of, element_of};
+
+use crate::numbers::numbers_size;
+use crate::visit::{has_visit, twelve_where};
+use ioam_data::TraceType;
+
+/// The most octets of an element: 61 words.
+pub const MOST_ELEMENT: usize = 244;
+
+/// The most octets of a record: a front of 30, and an element.
+pub const MOST_RECORD: usize = 274;
+
+pub(crate) const VERSION: usize = 0;
+
+pub(crate) const EXTENSIONS: usize = 1;
+
+pub(crate) const LENGTH: usize = 2;
+
+pub(crate) const NAMESPACE: usize = 4;
+
+pub(crate) const FLAGS: usize = 6;
+
+pub(crate) const TRACE_TYPE: usize = 7;
+
+pub(crate) const VISIT: usize = 10;
+
+/// The octets in front of an element, by the version and the extension flags.
+pub(crate) fn front_size(version: u8, ext: u8) -> usize
+    ensures value { result ≡ front_size version ext }
+    ensures small { result ≤ 30 }
+{
+    VISIT + twelve_where(has_visit(version)) + numbers_size(ext)
+}
+
+/// The type and the element of octets that are one record.
+pub fn element_in(octets: &[u8]) -> (TraceType, &[u8])
+    requires { (x : Record) × Rec octets.now x }
+    ensures kind { result.0 ≡ kind_of octets.now }
+    ensures element { result.1.now ≡ element_of octets.now }
+    ensures filled { IsFilled result.0 result.1.now }
+    ensures short { length result.1.now ≤ 244 }
+    // They are those that `export_of` reads.
+    ensures says { (x : Record) → Rec octets.now x → (result.0 ≡ x.kind) × (result.1.now ≡ x.element) }
+{
+    let front = front_size(octets[VERSION], octets[EXTENSIONS]);
+    (TraceType::at(octets, TRACE_TYPE), &octets[front..])
+}
