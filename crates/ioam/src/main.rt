@@ -5,7 +5,7 @@ use ioam_base::memory::NoMemory;
 use ioam_base::name::Name;
 use ioam_batch::OpenGate;
 use ioam_cmd::ioam;
-use ioam_desk::{Fault, FileSystem, HostDesk};
+use ioam_desk::{Fault, FileSystem, HostDesk, MachineFiles};
 use ioam_run_answer::{Outcome, line, status};
 use std::alloc::Global;
 use std::env;
@@ -16,7 +16,7 @@ use std::process::ExitCode;
 /// ends with its status. Of a fault of reading or writing it says on standard error which file it
 /// was, and what the system said.
 fn main(rt: HostRuntime) -> ExitCode {
-    let mut desk = HostDesk::new(&rt, rt.alloc());
+    let mut desk = HostDesk::new(MachineFiles::new(&rt), rt.alloc());
     let outcome = match words_of(&rt) {
         Ok(words) => ioam(&rt, rt.alloc(), &words, &mut desk, &OpenGate),
         Err(outcome) => outcome,

@@ -2,7 +2,7 @@
 use Rattle.std.proofs.Common.{◌≡◌, ℕ, List, [], ◌∷◌, ◌++◌, Option, Some, Result, Ok, Err, IfOk, IfErr, IfSome, MatchResult, ◌∙◌, ap, sym, subst}
 use Rattle.ioam_desk.specs.HostDesk.{AddsOpened}
 use Rattle.ioam_desk.specs.declared.fault.DeskFault.{DeskFault}
-use Rattle.ioam_desk.specs.declared.fault.DeskFault.TheVariants.{Failed}
+use Rattle.ioam_desk.specs.declared.fault.DeskFault.TheVariants.{Failed, NoMemory}
 use Rattle.ioam_desk.specs.declared.host_fault.Reason.{Reason}
 use Rattle.ioam_desk.specs.declared.host_side.Slot.{Slot}
 use Rattle.ioam_desk.specs.declared.host_side.Opened.{Opened}
@@ -46,3 +46,10 @@ refused (Ok one) result number said P Q R is told added failed = let no : ⊥ = 
     differ : (number : ℕ) → Ok number ≡ Err Failed → ⊥
     differ number e = cc
 refused (Err reason) result number said P Q R is told added failed = subst (λ (said : Option Reason). IfSome said P) (sym told) is
+
+-- where the outside was asked, want of memory isn't what was answered
+pub told : {F : Type 0} (opened : Result (Opened F) Reason) (result : Result ℕ DeskFault) (number : ℕ) (Q : Opened F → Type 0) (R : Type 0)
+    → MatchResult opened (λ (one : Opened F). (result ≡ Ok number) × Q one) (λ _. (result ≡ Err Failed) × R)
+    → result ≡ Err NoMemory → ⊥
+told (Ok one) result number Q R added none = let same : Ok number ≡ Err NoMemory = sym added.0 ∙ none in cc
+told (Err reason) result number Q R added none = let same : Err Failed ≡ Err NoMemory = sym added.0 ∙ none in cc

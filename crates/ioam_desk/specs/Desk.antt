@@ -1,6 +1,6 @@
 -- The outside as a program sees it: names that hold octets, inputs that are read to their end, and
 -- outputs that grow.
-use Rattle.std.specs.Prelude.{◌≡◌, ◌≢◌, ℕ, ◌+◌, ◌-◌, ◌^◌, ◌≤◌, ◌↔◌, min, Bool, false, IsTrue, List, [], ◌∷◌, ◌++◌, length, take, Option, Some, option_map, Result, Ok, Err}
+use Rattle.std.specs.Prelude.{◌≡◌, ◌≢◌, ℕ, ◌+◌, ◌-◌, ◌^◌, ◌≤◌, ◌↔◌, min, Bool, false, IsTrue, List, [], ◌∷◌, ◌++◌, length, take, drop, Option, Some, option_map, Result, Ok, Err}
 use Rattle.ioam_desk.specs.declared.fault.DeskFault.{DeskFault}
 use Rattle.ioam_desk.specs.declared.fault.DeskFault.TheVariants.{Failed, NoMemory}
 
@@ -94,6 +94,15 @@ abbrev pub ReadInto : Bool → Reading → ℕ → List ℕ → Result ℕ DeskF
 ReadInto tells old slot into (Ok count) new = (count ≤ length into) × Gives tells old new slot (take count into)
 ReadInto tells old slot into (Err Failed) new = Fails old.side new.side × (new.left ≡ old.left) × (new.ended ≡ old.ended)
 ReadInto tells old slot into (Err NoMemory) new = new ≡ old
+
+-- how many octets a read gave
+abbrev pub given : Result ℕ DeskFault → ℕ
+given (Ok count) = count
+given (Err _) = 0
+
+-- where the desk tells, what stands in a buffer behind the octets that a read gave is as it was: after an error all of it
+abbrev pub KeepsBehind : Bool → List ℕ → Result ℕ DeskFault → List ℕ → Type 0
+KeepsBehind tells before result into = IsTrue tells → drop (given result) into ≡ drop (given result) before
 
 -- a new output slot, empty, to which the name is tied
 pub record OpensOutput (old new : Writing) (name : List ℕ) (slot : ℕ) : Type 0 where

@@ -1,5 +1,5 @@
 -- The desk over real files, in the desk's words: it tells its counts, its names and its slots.
-use Rattle.std.specs.Prelude.{◌≡◌, ◌++◌, ◌∷◌, [], ℕ, List, ⊤, false, None, Option, Some, MatchOption, Result, Ok, Err}
+use Rattle.std.specs.Prelude.{◌≡◌, ◌++◌, ◌∷◌, ◌⊎◌, [], ℕ, List, ⊤, false, None, Option, Some, MatchOption, Result, Ok, Err}
 use Rattle.ioam_desk.specs.Desk.{Side, Reading, Writing}
 use Rattle.ioam_desk.specs.HostSide.{side_of, fault_name, fault_reason, IsApart}
 use Rattle.ioam_desk.specs.declared.host_fault.Reason.{Reason}
@@ -58,3 +58,7 @@ IsTakenAnew emptied inputs outputs opened = MatchOption opened.identity ⊤
 -- some file was opened so, and is this regular one
 abbrev pub IsOfSome : {F : Type 0} → (F → Type 0) → (F → Option Identity → Type 0) → Identity → Type 0
 IsOfSome {F} opened identified identity = (file : F) × opened file × identified file (Some identity)
+
+-- this was said of a name: by the call that was to open it, or by one on the file that it had opened
+abbrev pub IsSaid : {F : Type 0} → (Reason → Type 0) → (F → Type 0) → (F → Reason → Type 0) → Reason → Type 0
+IsSaid {F} of_name opened of_file why = of_name why ⊎ ((file : F) × opened file × of_file file why)

@@ -64,20 +64,24 @@ fault_name side = option_and_then (λ (last : Failure). name_of side last.place)
 abbrev pub fault_reason : {F : Type 0} → HostSide F → Option Reason
 fault_reason side = option_map (λ (last : Failure). last.reason) side.last
 
--- A file that was to be written, which is so, is refused as an input only where an input is over it, and
--- as an output only where no input is and an output is.
-abbrev pub IsRefusal : {F : Type 0} → (Identity → Type 0) → List (Slot F) → List (Slot F) → Reason → Type 0
-IsRefusal so inputs outputs (reason.System why) = ⊤
-IsRefusal so inputs outputs reason.IsInput = (identity : Identity) × so identity × (IsApart identity inputs → ⊥)
-IsRefusal so inputs outputs reason.IsOutput = (identity : Identity) × so identity × IsApart identity inputs × (IsApart identity outputs → ⊥)
-IsRefusal so inputs outputs reason.TakesNone = ⊥
+-- A file that was to be written, which is so, is refused as an input only where an input is over it, as
+-- an output only where no input is and an output is, and by the system only where it said so.
+abbrev pub IsRefusal : {F : Type 0} → (Reason → Type 0) → (Identity → Type 0) → List (Slot F) → List (Slot F) → Reason → Type 0
+IsRefusal said so inputs outputs (reason.System why) = said (reason.System why)
+IsRefusal said so inputs outputs reason.IsInput = (identity : Identity) × so identity × (IsApart identity inputs → ⊥)
+IsRefusal said so inputs outputs reason.IsOutput = (identity : Identity) × so identity × IsApart identity inputs × (IsApart identity outputs → ⊥)
+IsRefusal said so inputs outputs reason.TakesNone = ⊥
+
+-- a call failed by what the system said, which is this
+abbrev pub IsOfSystem : (Reason → Type 0) → Reason → Type 0
+IsOfSystem said (reason.System why) = said (reason.System why)
+IsOfSystem said reason.IsInput = ⊥
+IsOfSystem said reason.IsOutput = ⊥
+IsOfSystem said reason.TakesNone = ⊥
 
 -- a read fails by what the system said
 abbrev pub IsOfRead : Reason → Type 0
-IsOfRead (reason.System why) = ⊤
-IsOfRead reason.IsInput = ⊥
-IsOfRead reason.IsOutput = ⊥
-IsOfRead reason.TakesNone = ⊥
+IsOfRead = IsOfSystem (λ _. ⊤)
 
 -- a write by that, or as it took nothing
 abbrev pub IsOfWrite : Reason → Type 0

@@ -1,3 +1,4 @@
+//! Which calls of a desk in memory are to fail.
 ghost use Rattle.std.specs.Prelude.{◌≡◌, [], ◌∷◌, ◌++◌, is_ok, if◌then◌else◌};
 ghost use Rattle.ioam_desk.specs.Plan.{next_call, is_listed};
 

@@ -1,5 +1,6 @@
+//! The outside, as a trait.
 ghost use Rattle.std.specs.Prelude.{◌≡◌, ◌<◌, Bool, length};
-ghost use Rattle.ioam_desk.specs.Desk.{Reading, Writing, holds, OpenIn, ReadInto, OpenOut, WriteFrom};
+ghost use Rattle.ioam_desk.specs.Desk.{Reading, Writing, holds, OpenIn, ReadInto, KeepsBehind, OpenOut, WriteFrom};
 
 use crate::fault::DeskFault;
 
@@ -22,11 +23,13 @@ pub trait Desk {
         ensures outputs { writing self.new ≡ writing self.old };
 
     /// Reads the next octets of an input slot into the front of a buffer that isn't empty. The
-    /// answer is how many, and 0 exactly at the end.
+    /// answer is how many, and 0 exactly at the end. Where `tells` is true the rest of the
+    /// buffer stays as it was, after an error all of it.
     fn read(&mut self, slot: u32, into: &mut [u8]) -> Result<usize, DeskFault>
         requires input { slot < (reading self.old).side.slots }
         requires room { 0 < length into.old }
         ensures read { ReadInto tells (reading self.old) slot into.new result (reading self.new) }
+        ensures behind { KeepsBehind tells into.old result into.new }
         ensures outputs { writing self.new ≡ writing self.old };
 
     /// Opens a new output slot, empty. From then on the name holds what is written there. The name

@@ -1,3 +1,4 @@
+//! Why a call on a desk failed.
 use thiserror::Error;
 
 /// Why a call of a desk gave no answer.

@@ -1,5 +1,8 @@
-ghost use Rattle.std.specs.Prelude.{ℕ, List, Option, IfOk, OnOk};
+//! The machine's files as `HostDesk` sees them.
+ghost use Rattle.std.specs.Prelude.{ℕ, List, Option, IfOk, IfErr, OnOk};
 ghost use Rattle.ioam_desk.specs.declared.file_system.Identity.{Identity};
+ghost use Rattle.ioam_desk.specs.declared.host_fault.Reason.{Reason};
+ghost use Rattle.ioam_desk.specs.declared.host_fault.Reason.TheVariants.{System};
 
 use std::fs::{Files, OpenFile, OpenOptions};
 use std::io::{Read, Write};
@@ -15,62 +18,103 @@ pub struct Identity {
 
 /// The calls on the machine's files that `HostDesk` makes, so that a test can stand in for them.
 ///
-/// What was done to a file is told by four predicates, which nothing but the calls can give: so
-/// it is proved which call was made and with which name, though of a real file nothing is known.
+/// What was done to a file, and what was said where it could not be done, is told by predicates,
+/// which nothing but the calls can give: so it is proved which call was made and with which name,
+/// though of a real file nothing is known. No clause says what a call leaves of the files, so that
+/// they are known as they were only where none was made.
 pub trait FileSystem {
     type File: Read + Write + Drop;
 
     /// The file was opened under this name to be read.
     ghost is_opened: { Self.File → List ℕ → Type 0 };
 
+    /// A file of this name could not be opened to be read, and this was said.
+    ghost is_not_opened: { List ℕ → Reason → Type 0 };
+
     /// The file was opened under this name to be written, and made where there was none.
     ghost is_created: { Self.File → List ℕ → Type 0 };
+
+    /// A file of this name could not be opened to be written, and this was said.
+    ghost is_not_created: { List ℕ → Reason → Type 0 };
 
     /// The file was asked which one it is, and this was the answer.
     ghost is_identified: { Self.File → Option Identity → Type 0 };
 
+    /// Which one the file is could not be said, but this.
+    ghost is_not_identified: { Self.File → Reason → Type 0 };
+
     /// The file was emptied since.
     ghost is_emptied: { Self.File → Type 0 };
 
+    /// The file could not be emptied, and this was said.
+    ghost is_not_emptied: { Self.File → Reason → Type 0 };
+
     /// Opens a file to be read.
-    fn open(&self, name: &str) -> io::Result<Self::File>
-        ensures { IfOk result (λ file. is_opened file name.now) };
+    fn open(&mut self, name: &str) -> io::Result<Self::File>
+        ensures opened { IfOk result (λ file. is_opened file name.now) }
+        ensures said { IfErr result (λ why. is_not_opened name.now (System why)) };
 
     /// Opens a file to be written, or makes it. What it holds stays as it is.
-    fn create(&self, name: &str) -> io::Result<Self::File>
-        ensures { IfOk result (λ file. is_created file name.now) };
+    fn create(&mut self, name: &str) -> io::Result<Self::File>
+        ensures created { IfOk result (λ file. is_created file name.now) }
+        ensures said { IfErr result (λ why. is_not_created name.now (System why)) };
 
     /// Which file it is: None where it isn't a regular one.
-    fn identity(&self, file: &Self::File) -> io::Result<Option<Identity>>
-        ensures { IfOk result (is_identified file.now) };
+    fn identity(&mut self, file: &Self::File) -> io::Result<Option<Identity>>
+        ensures identified { IfOk result (is_identified file.now) }
+        ensures said { IfErr result (λ why. is_not_identified file.now (System why)) };
 
     /// Takes away all that a regular file holds.
-    fn empty(&self, file: &Self::File) -> io::Result<()>
-        ensures { OnOk result (is_emptied file.now) };
+    fn empty(&mut self, file: &Self::File) -> io::Result<()>
+        ensures emptied { OnOk result (is_emptied file.now) }
+        ensures said { IfErr result (λ why. is_not_emptied file.now (System why)) };
 }
 
-impl<R: Files> FileSystem for R {
+/// The files of the machine.
+pub struct MachineFiles<'a, R: Files> {
+    files: &'a R,
+}
+
+impl<'a, R: Files> MachineFiles<'a, R> {
+    /// The files of this machine.
+    pub fn new(files: &'a R) -> MachineFiles<'a, R> {
+        MachineFiles { files }
+    }
+}
+
+impl<'a, R: Files> FileSystem for MachineFiles<'a, R> {
     type File = R::File;
 
     ghost use Rattle.std.specs.Prelude.{⊤};
 
     ghost is_opened = { λ _ _. ⊤ };
 
+    ghost is_not_opened = { λ _ _. ⊤ };
+
     ghost is_created = { λ _ _. ⊤ };
+
+    ghost is_not_created = { λ _ _. ⊤ };
 
     ghost is_identified = { λ _ _. ⊤ };
 
+    ghost is_not_identified = { λ _ _. ⊤ };
+
     ghost is_emptied = { λ _. ⊤ };
 
-    fn open(&self, name: &str) -> io::Result<R::File> {
-        fs::open(self, name)
+    ghost is_not_emptied = { λ _ _. ⊤ };
+
+    fn open(&mut self, name: &str) -> io::Result<R::File> {
+        fs::open(self.files, name)
     }
 
-    fn create(&self, name: &str) -> io::Result<R::File> {
-        OpenOptions::new().write(true).create(true).open(self, name)
+    fn create(&mut self, name: &str) -> io::Result<R::File> {
+        OpenOptions::new()
+            .write(true)
+            .create(true)
+            .open(self.files, name)
     }
 
-    fn identity(&self, file: &R::File) -> io::Result<Option<Identity>> {
+    fn identity(&mut self, file: &R::File) -> io::Result<Option<Identity>> {
         let metadata = file.metadata()?;
         if !metadata.is_file() {
             return Ok(None);
@@ -81,7 +125,7 @@ impl<R: Files> FileSystem for R {
         }))
     }
 
-    fn empty(&self, file: &R::File) -> io::Result<()> {
+    fn empty(&mut self, file: &R::File) -> io::Result<()> {
         file.set_len(0)
     }
 }

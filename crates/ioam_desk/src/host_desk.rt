@@ -1,8 +1,9 @@
-ghost use Rattle.std.specs.Prelude.{◌≡◌, ◌≢◌, ◌<◌, Err, None, Some, false, length, IfOk, IfErr, IfSome, OnOk, OnErr, option_map};
+//! The desk over the files of the machine.
+ghost use Rattle.std.specs.Prelude.{◌≡◌, ◌≢◌, ◌<◌, ◌⊎◌, Err, None, Some, false, length, IfOk, IfErr, IfSome, OnOk, OnErr, option_map};
 ghost use Rattle.std.specs.Io.KnownBytes.{ReadConsumes, WriteAppends};
-ghost use Rattle.ioam_desk.specs.Desk.{OpenIn, ReadInto, OpenOut, WriteFrom, holds};
-ghost use Rattle.ioam_desk.specs.HostDesk.{untold_reading, untold_writing, reading_of, writing_of, inputs_of, outputs_of, read_fault_name, write_fault_name, read_fault_reason, write_fault_reason, AddsOpened, IsTakenAnew, IsOfSome};
-ghost use Rattle.ioam_desk.specs.HostSide.{no_side, slot_name, IsApart, IsRefusal, IsOfRead, IsOfWrite, ChangesFile};
+ghost use Rattle.ioam_desk.specs.Desk.{OpenIn, ReadInto, KeepsBehind, OpenOut, WriteFrom, holds};
+ghost use Rattle.ioam_desk.specs.HostDesk.{untold_reading, untold_writing, reading_of, writing_of, inputs_of, outputs_of, read_fault_name, write_fault_name, read_fault_reason, write_fault_reason, AddsOpened, IsTakenAnew, IsOfSome, IsSaid};
+ghost use Rattle.ioam_desk.specs.HostSide.{no_side, slot_name, IsRefusal, IsOfSystem, IsOfRead, IsOfWrite, ChangesFile};
 ghost use Rattle.ioam_desk.specs.Faults.{faults_after};
 
 use crate::desk::Desk;
@@ -18,16 +19,16 @@ use std::alloc::Global;
 /// No output is opened over a regular file that is an input or an output already, by whatever name:
 /// that is a fault of writing, and the file stays as it is.
 #[derive(Drop)]
-pub struct HostDesk<'a, R: FileSystem> {
-    files: &'a R,
+pub struct HostDesk<R: FileSystem> {
+    files: R,
     alloc: Global,
     inputs: HostSide<R::File>,
     outputs: HostSide<R::File>,
 }
 
-impl<'a, R: FileSystem> HostDesk<'a, R> {
+impl<R: FileSystem> HostDesk<R> {
     /// A desk with no slots, which takes no memory.
-    pub fn new(files: &'a R, alloc: Global) -> HostDesk<'a, R>
+    pub fn new(files: R, alloc: Global) -> HostDesk<R>
         ensures reading { reading_of result ≡ untold_reading no_side }
         ensures writing { writing_of result ≡ untold_writing no_side }
         ensures faults { (read_fault_name result ≡ None) × (write_fault_name result ≡ None) }
@@ -55,49 +56,62 @@ impl<'a, R: FileSystem> HostDesk<'a, R> {
     {
         self.outputs.fault()
     }
+}
 
-    // Opens a file to be read.
-    fn opened(&self, name: &str) -> Result<Opened<R::File>, Reason>
-        ensures { IfOk result (λ opened. R.is_opened opened.file name.now
-            × R.is_identified opened.file opened.identity) }
-    {
-        let file = self.files.open(name)?;
-        let identity = self.files.identity(&file)?;
-        Ok(Opened { file, identity })
-    }
-
-    // Opens a file to be written and empties it, unless it is one that is open.
-    fn created(&self, name: &str) -> Result<Opened<R::File>, Reason>
-        ensures created { IfOk result (λ opened. R.is_created opened.file name.now
-            × R.is_identified opened.file opened.identity) }
-        ensures anew { IfOk result (IsTakenAnew R.is_emptied (inputs_of self.now) (outputs_of self.now)) }
-        ensures refused { IfErr result (IsRefusal (IsOfSome (λ file. R.is_created file name.now) R.is_identified)
-            (inputs_of self.now) (outputs_of self.now)) }
-    {
-        let file = match self.files.create(name) {
-            Ok(file) => file,
-            Err(why) => return Err(Reason::System(why)),
-        };
-        let identity = match self.files.identity(&file) {
-            Ok(identity) => identity,
-            Err(why) => return Err(Reason::System(why)),
-        };
-        if let Some(identity) = identity {
-            if !self.inputs.is_apart(identity) {
-                return Err(Reason::IsInput);
-            }
-            if !self.outputs.is_apart(identity) {
-                return Err(Reason::IsOutput);
-            }
-            if let Err(why) = self.files.empty(&file) {
-                return Err(Reason::System(why));
-            }
-        }
-        Ok(Opened { file, identity })
+// Opens a file to be read.
+fn opened<R: FileSystem>(files: &mut R, name: &str) -> Result<Opened<R::File>, Reason>
+    ensures opened { IfOk result (λ opened. R.is_opened opened.file name.now
+        × R.is_identified opened.file opened.identity) }
+    ensures said { IfErr result (IsOfSystem (IsSaid (R.is_not_opened name.now) (λ file. R.is_opened file name.now) R.is_not_identified)) }
+{
+    let file = match files.open(name) {
+        Ok(file) => file,
+        Err(why) => return Err(Reason::System(why)),
+    };
+    match files.identity(&file) {
+        Ok(identity) => Ok(Opened { file, identity }),
+        Err(why) => Err(Reason::System(why)),
     }
 }
 
-impl<'a, R: FileSystem> Desk for HostDesk<'a, R> {
+// Opens a file to be written and empties it, unless it is one that is open.
+fn created<R: FileSystem>(
+    files: &mut R,
+    inputs: &HostSide<R::File>,
+    outputs: &HostSide<R::File>,
+    name: &str,
+) -> Result<Opened<R::File>, Reason>
+    ensures created { IfOk result (λ opened. R.is_created opened.file name.now
+        × R.is_identified opened.file opened.identity) }
+    ensures anew { IfOk result (IsTakenAnew R.is_emptied inputs.now.slots.items outputs.now.slots.items) }
+    ensures refused { IfErr result (IsRefusal
+        (IsSaid (R.is_not_created name.now) (λ file. R.is_created file name.now) (λ file why. R.is_not_identified file why ⊎ R.is_not_emptied file why))
+        (IsOfSome (λ file. R.is_created file name.now) R.is_identified)
+        inputs.now.slots.items outputs.now.slots.items) }
+{
+    let file = match files.create(name) {
+        Ok(file) => file,
+        Err(why) => return Err(Reason::System(why)),
+    };
+    let identity = match files.identity(&file) {
+        Ok(identity) => identity,
+        Err(why) => return Err(Reason::System(why)),
+    };
+    if let Some(identity) = identity {
+        if !inputs.is_apart(identity) {
+            return Err(Reason::IsInput);
+        }
+        if !outputs.is_apart(identity) {
+            return Err(Reason::IsOutput);
+        }
+        if let Err(why) = files.empty(&file) {
+            return Err(Reason::System(why));
+        }
+    }
+    Ok(Opened { file, identity })
+}
+
+impl<R: FileSystem> Desk for HostDesk<R> {
     ghost tells = { false };
 
     ghost reading = { reading_of };
@@ -116,11 +130,14 @@ impl<'a, R: FileSystem> Desk for HostDesk<'a, R> {
             result (inputs_of self.new) }
         ensures others { self.new.outputs ≡ self.old.outputs }
         ensures named { result ≡ Err DeskFault.Failed → read_fault_name self.new ≡ Some name.now }
+        ensures said { result ≡ Err DeskFault.Failed
+            → IfSome (read_fault_reason self.new) (IsOfSystem (IsSaid (R.is_not_opened name.now) (λ file. R.is_opened file name.now) R.is_not_identified)) }
+        ensures unasked { result ≡ Err DeskFault.NoMemory → self.new.files ≡ self.old.files }
         ensures last { result ≢ Err DeskFault.Failed → self.new.inputs.last ≡ self.old.inputs.last }
     {
         match self.inputs.make_room(self.alloc, name) {
             Ok(names) => {
-                let opened = self.opened(name);
+                let opened = opened(&mut self.files, name);
                 self.inputs.add(names, opened)
             }
             Err(NoMemory) => Err(DeskFault::NoMemory),
@@ -132,6 +149,7 @@ impl<'a, R: FileSystem> Desk for HostDesk<'a, R> {
         requires room { 0 < length into.old }
         ensures read { ReadInto false (reading_of self.old) slot into.new
             result (reading_of self.new) }
+        ensures behind { KeepsBehind false into.old result into.new }
         ensures outputs { writing_of self.new ≡ writing_of self.old }
         ensures faults { (reading_of self.new).side.faults
             ≡ faults_after (reading_of self.old).side.faults result }
@@ -159,13 +177,16 @@ impl<'a, R: FileSystem> Desk for HostDesk<'a, R> {
         ensures others { self.new.inputs ≡ self.old.inputs }
         ensures named { result ≡ Err DeskFault.Failed → write_fault_name self.new ≡ Some name.now }
         ensures refused { result ≡ Err DeskFault.Failed
-            → IfSome (write_fault_reason self.new) (IsRefusal (IsOfSome (λ file. R.is_created file name.now) R.is_identified)
+            → IfSome (write_fault_reason self.new) (IsRefusal
+            (IsSaid (R.is_not_created name.now) (λ file. R.is_created file name.now) (λ file why. R.is_not_identified file why ⊎ R.is_not_emptied file why))
+            (IsOfSome (λ file. R.is_created file name.now) R.is_identified)
             (inputs_of self.old) (outputs_of self.old)) }
+        ensures unasked { result ≡ Err DeskFault.NoMemory → self.new.files ≡ self.old.files }
         ensures last { result ≢ Err DeskFault.Failed → self.new.outputs.last ≡ self.old.outputs.last }
     {
         match self.outputs.make_room(self.alloc, name) {
             Ok(names) => {
-                let opened = self.created(name);
+                let opened = created(&mut self.files, &self.inputs, &self.outputs, name);
                 self.outputs.add(names, opened)
             }
             Err(NoMemory) => Err(DeskFault::NoMemory),

@@ -1,3 +1,4 @@
+//! Why a call on a real file failed.
 use std::{fmt, io};
 use thiserror::Error;
 

@@ -1,3 +1,4 @@
+//! One kind of slots over real files.
 ghost use Rattle.std.specs.Prelude.{◌≡◌, ◌<◌, ◌^◌, ◌≤◌, ◌∷◌, ◌++◌, [], ◌↔◌, None, Some, IsTrue, OnOk, OnErr, IfOk, IfErr, IfSome, MatchResult, vec_len, vec_capacity, length, option_map};
 ghost use Rattle.std.specs.Io.KnownBytes.{ReadConsumes, WriteAppends};
 ghost use Rattle.ioam_desk.specs.HostSide.{side_of, no_side, AddsSlot, HasCounted, ChangesFile, IsApart, slot_name, fault_name, fault_reason, name_of, IsOfRead, IsOfWrite};

@@ -17,7 +17,7 @@ mod whole;
 
 pub use desk::Desk;
 pub use fault::{DeskFault, WholeFault, WriteAll};
-pub use file_system::{FileSystem, Identity};
+pub use file_system::{FileSystem, Identity, MachineFiles};
 pub use host_desk::HostDesk;
 pub use host_fault::{Fault, Reason};
 pub use memory_desk::MemoryDesk;

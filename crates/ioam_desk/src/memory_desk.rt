@@ -1,7 +1,8 @@
+//! The desk in memory, on which chosen calls fail.
 ghost use Rattle.std.specs.Prelude.{◌≡◌, ◌<◌, ◌≤◌, ◌+◌, ◌-◌, ◌^◌, ◌++◌, ◌∷◌, ◌||◌, [], true, false, Some, None, Ok, Err, IfOk, OnOk, OnErr, option_map, min, length, is_none, if◌then◌else◌};
 ghost use Rattle.std.specs.Option.{option_copied};
 ghost use Rattle.ioam_desk.specs.declared.fault.DeskFault.TheVariants.{Failed};
-ghost use Rattle.ioam_desk.specs.Desk.{holds, OpenIn, ReadInto, OpenOut, WriteFrom};
+ghost use Rattle.ioam_desk.specs.Desk.{holds, OpenIn, ReadInto, KeepsBehind, OpenOut, WriteFrom};
 ghost use Rattle.ioam_desk.specs.Faults.{with_fault, faults_after, FailsIf};
 ghost use Rattle.ioam_desk.specs.Files.{PutsFile};
 ghost use Rattle.ioam_desk.specs.MemoryDesk.{reading_of, writing_of, plan_of};
@@ -210,6 +211,7 @@ impl Desk for MemoryDesk {
         requires room { 0 < length into.old }
         ensures read { ReadInto true (reading_of self.old) slot into.new
             result (reading_of self.new) }
+        ensures behind { KeepsBehind true into.old result into.new }
         ensures outputs { writing_of self.new ≡ writing_of self.old }
         ensures count { result ≡ (if will_fail (plan_of self.old) then Err Failed
             else Ok (min (plan_of self.old).piece

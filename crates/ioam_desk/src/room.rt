@@ -1,3 +1,4 @@
+//! A push where there is room.
 ghost use Rattle.std.specs.Prelude.{◌≡◌, ◌<◌, [], ◌∷◌, ◌++◌, vec_len, vec_capacity};
 
 /// Puts an item at the end of a list that has room for it.

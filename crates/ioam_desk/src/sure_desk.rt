@@ -1,6 +1,7 @@
+//! The desk in memory on which no call fails.
 ghost use Rattle.std.specs.Prelude.{◌≡◌, ◌<◌, ◌≤◌, ◌-◌, ◌^◌, [], true, false, Some, Ok, IfOk, OnOk, OnErr, min, length, MatchResult};
 ghost use Rattle.std.specs.Option.{option_copied};
-ghost use Rattle.ioam_desk.specs.Desk.{holds, OpenIn, OpensInput, ReadInto, OpenOut, WriteFrom};
+ghost use Rattle.ioam_desk.specs.Desk.{holds, OpenIn, OpensInput, ReadInto, KeepsBehind, OpenOut, WriteFrom};
 ghost use Rattle.ioam_desk.specs.Desk.Held.{Stored};
 ghost use Rattle.ioam_desk.specs.Files.{PutsFile};
 ghost use Rattle.ioam_desk.specs.Faults.{FailsIf};
@@ -120,6 +121,7 @@ impl Desk for SureDesk {
         requires room { 0 < length into.old }
         ensures read { ReadInto true (reading_of self.old) slot into.new
             result (reading_of self.new) }
+        ensures behind { KeepsBehind true into.old result into.new }
         ensures outputs { writing_of self.new ≡ writing_of self.old }
         ensures count { result ≡ Ok (min (piece_of self.old)
             (min (length into.old) (length ((reading_of self.old).left slot)))) }

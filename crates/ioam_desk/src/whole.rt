@@ -1,3 +1,4 @@
+//! Files that are read whole, and octets that are written whole.
 ghost use Rattle.std.specs.Prelude.{◌≡◌, ◌≤◌, ◌<◌, [], take, length, vec_len, IsTrue, IfOk, IfErr, OnErr, MatchResult, MatchBool};
 ghost use Rattle.ioam_desk.specs.Desk.{Reading, holds, Grows};
 ghost use Rattle.ioam_desk.specs.Whole.{Hands, HandsMore, ReadsRest, FailsRest, ReadsWhole, FailsWhole, sent, WritesSide};

@@ -1,4 +1,5 @@
-ghost use Rattle.std.specs.Prelude.{◌≡◌, ◌++◌, ◌==◌, false, length, min, take};
+//! An input slot of a desk in memory.
+ghost use Rattle.std.specs.Prelude.{◌≡◌, ◌++◌, ◌==◌, false, drop, length, min, take};
 
 use ioam_base::octets::put_at;
 use std::marker::Model;
@@ -39,6 +40,7 @@ impl Input {
     pub(crate) fn read(&mut self, into: &mut [u8], most: usize) -> usize
         ensures count { result ≡ min most (min (length into.old) (length self.old.left)) }
         ensures moved { self.old.left ≡ take result into.new ++ self.new.left }
+        ensures kept { drop result into.new ≡ drop result into.old }
         ensures ended { self.new.ended ≡ (result == 0) }
     {
         let left = self.octets.len() - self.at;

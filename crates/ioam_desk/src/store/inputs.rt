@@ -1,4 +1,5 @@
-ghost use Rattle.std.specs.Prelude.{◌≡◌, ◌<◌, ◌++◌, ◌∷◌, [], false, length, is_ok, IfOk, vec_len, if◌then◌else◌};
+//! The input slots of a desk in memory.
+ghost use Rattle.std.specs.Prelude.{◌≡◌, ◌<◌, ◌++◌, ◌∷◌, [], drop, false, length, is_ok, IfOk, vec_len, if◌then◌else◌};
 ghost use Rattle.ioam_desk.specs.Store.{Reads};
 
 use super::input::Input;
@@ -69,6 +70,7 @@ impl Inputs {
         ensures asked { self.new.asked.items ≡ self.old.asked.items }
         ensures read { Reads self.old.slots.items self.new.slots.items
             slot most (length into.old) into.new result }
+        ensures kept { drop result into.new ≡ drop result into.old }
     {
         self.slots[slot as usize].read(into, most)
     }

@@ -1,3 +1,4 @@
+//! Octets that grow.
 ghost use Rattle.std.specs.Prelude.{◌≡◌, ◌++◌, [], IfOk, is_ok, if◌then◌else◌};
 
 use ioam_base::memory::NoMemory;

@@ -1,3 +1,4 @@
+//! The output slots of a desk in memory, and what names hold.
 ghost use Rattle.std.specs.Prelude.{◌≡◌, ◌<◌, ◌++◌, ◌∷◌, [], None, is_ok, length, IfOk, OnOk, OnErr, option_map, slice_set, vec_len, if◌then◌else◌};
 ghost use Rattle.std.specs.Option.{option_copied};
 ghost use Rattle.ioam_desk.specs.Desk.{held_octets};

@@ -1,3 +1,4 @@
+//! How many octets one call moves.
 ghost use Rattle.std.specs.Prelude.{◌≡◌, ◌≤◌, ◌^◌, ◌-◌, min};
 
 /// The most octets that one read or write moves, at least 1.

@@ -1,5 +1,5 @@
 //! The desk over real files: over those of the machine, and over files of a test whose calls fail.
-use ioam_desk::{Desk, DeskFault, Fault, FileSystem, HostDesk, Identity};
+use ioam_desk::{Desk, DeskFault, Fault, FileSystem, HostDesk, Identity, MachineFiles};
 use std::alloc::{AllocError, Global};
 use std::io::{ErrorKind, Read, Write};
 use std::test::Fail;
@@ -49,13 +49,21 @@ impl FileSystem for ByLength {
 
     ghost is_opened = { λ _ _. ⊤ };
 
+    ghost is_not_opened = { λ _ _. ⊤ };
+
     ghost is_created = { λ _ _. ⊤ };
+
+    ghost is_not_created = { λ _ _. ⊤ };
 
     ghost is_identified = { λ _ _. ⊤ };
 
+    ghost is_not_identified = { λ _ _. ⊤ };
+
     ghost is_emptied = { λ _. ⊤ };
 
-    fn open(&self, name: &str) -> io::Result<Faulty> {
+    ghost is_not_emptied = { λ _ _. ⊤ };
+
+    fn open(&mut self, name: &str) -> io::Result<Faulty> {
         let identity = match name.len() {
             0 => return Err(io::Error::from(ErrorKind::NotFound)),
             1 => None,
@@ -67,15 +75,15 @@ impl FileSystem for ByLength {
         Ok(Faulty { left: 3, identity })
     }
 
-    fn create(&self, name: &str) -> io::Result<Faulty> {
+    fn create(&mut self, name: &str) -> io::Result<Faulty> {
         self.open(name)
     }
 
-    fn identity(&self, file: &Faulty) -> io::Result<Option<Identity>> {
+    fn identity(&mut self, file: &Faulty) -> io::Result<Option<Identity>> {
         Ok(file.identity)
     }
 
-    fn empty(&self, _file: &Faulty) -> io::Result<()> {
+    fn empty(&mut self, _file: &Faulty) -> io::Result<()> {
         Ok(())
     }
 }
@@ -90,7 +98,7 @@ fn line_of(alloc: Global, fault: Option<Fault<'_>>) -> Result<String, AllocError
 
 // Whether this line is printed of the last fault of reading.
 fn has_read_line(
-    desk: &HostDesk<'_, ByLength>,
+    desk: &HostDesk<ByLength>,
     alloc: Global,
     wanted: &str,
 ) -> Result<bool, AllocError> {
@@ -100,7 +108,7 @@ fn has_read_line(
 
 // Whether this line is printed of the last fault of writing.
 fn has_write_line(
-    desk: &HostDesk<'_, ByLength>,
+    desk: &HostDesk<ByLength>,
     alloc: Global,
     wanted: &str,
 ) -> Result<bool, AllocError> {
@@ -109,7 +117,7 @@ fn has_write_line(
 }
 
 // Whether a file is read, and then its read and another's opening fail.
-fn fails_to_read(desk: &mut HostDesk<'_, ByLength>, alloc: Global) -> Result<bool, Fail> {
+fn fails_to_read(desk: &mut HostDesk<ByLength>, alloc: Global) -> Result<bool, Fail> {
     let input = desk.open_in("west")?;
     let mut into = [0u8; 8];
     Ok(
@@ -124,13 +132,13 @@ fn fails_to_read(desk: &mut HostDesk<'_, ByLength>, alloc: Global) -> Result<boo
 
 #[test]
 fn a_read_that_fails_names_its_file(rt: HostRuntime) -> Result<(), Fail> {
-    let mut desk = HostDesk::new(&ByLength, rt.alloc());
+    let mut desk = HostDesk::new(ByLength, rt.alloc());
     assert!(rt; fails_to_read(&mut desk, rt.alloc())?);
     Ok(())
 }
 
 // Whether a file is written, and then fails in two ways.
-fn fails_to_write(desk: &mut HostDesk<'_, ByLength>, alloc: Global) -> Result<bool, Fail> {
+fn fails_to_write(desk: &mut HostDesk<ByLength>, alloc: Global) -> Result<bool, Fail> {
     let output = desk.open_out("east")?;
     Ok(
         desk.write(output, b"ab") == Ok(1)
@@ -143,7 +151,7 @@ fn fails_to_write(desk: &mut HostDesk<'_, ByLength>, alloc: Global) -> Result<bo
 
 #[test]
 fn a_write_that_fails_names_its_file(rt: HostRuntime) -> Result<(), Fail> {
-    let mut desk = HostDesk::new(&ByLength, rt.alloc());
+    let mut desk = HostDesk::new(ByLength, rt.alloc());
     assert!(rt; fails_to_write(&mut desk, rt.alloc())?);
     Ok(())
 }
@@ -171,7 +179,7 @@ fn open_some<D: Desk>(desk: &mut D) -> Result<(), DeskFault> {
 
 // Whether such an output isn't opened, and this line is printed of it.
 fn is_refused(
-    desk: &mut HostDesk<'_, ByLength>,
+    desk: &mut HostDesk<ByLength>,
     alloc: Global,
     name: &str,
     line: &str,
@@ -182,7 +190,7 @@ fn is_refused(
 #[test]
 fn no_open_file_is_an_output(rt: HostRuntime) -> Result<(), Fail> {
     let alloc = rt.alloc();
-    let mut desk = HostDesk::new(&ByLength, alloc);
+    let mut desk = HostDesk::new(ByLength, alloc);
     open_some(&mut desk)?;
     assert!(rt; is_refused(&mut desk, alloc, "x.", "x.: is an input of this run")?);
     assert!(rt;
@@ -216,7 +224,7 @@ fn is_written<D: Desk>(desk: &mut D, name: &str, again: &str) -> Result<bool, De
 fn real_files(rt: HostRuntime) -> Result<(), Fail> {
     let name = "ioam_desk_real_files.bin";
     fs::write(&rt, name, b"what it held before")?;
-    let mut desk = HostDesk::new(&rt, rt.alloc());
+    let mut desk = HostDesk::new(MachineFiles::new(&rt), rt.alloc());
     assert!(rt; is_written(&mut desk, name, "./ioam_desk_real_files.bin")?);
     fs::remove_file(&rt, name)?;
     Ok(())
