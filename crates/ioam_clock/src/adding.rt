@@ -1,3 +1,4 @@
+//! Samples that are added to the readings of their nodes.
 ghost use Rattle.std.specs.Prelude.{◌≡◌, ◌<◌, IfOk, vec_len};
 ghost use Rattle.ioam_clock.specs.Held.{line_of};
 ghost use Rattle.ioam_clock.specs.Samples.{IsSmall};

@@ -1,3 +1,5 @@
+//! What is wrong in a file of readings.
+
 /// What is wrong in a file of readings.
 #[derive(Clone, Copy, Debug, PartialEq, Eq)]
 pub enum ReadWhy {

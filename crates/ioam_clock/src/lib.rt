@@ -14,7 +14,7 @@ mod timestamp;
 mod track;
 
 pub use fault::{ReadWhy, ReadingsFault, ReadingsRefused};
-pub use reading::{FILE_MOST, read_readings};
+pub use reading::{MOST_OCTETS, read_readings};
 pub use readings::Readings;
 pub use sample::Sample;
 pub use timestamp::stamp;

@@ -1,3 +1,4 @@
+//! A line of a file of readings.
 ghost use Rattle.std.specs.Prelude.{◌≡◌, ◌<◌, ◌∷◌, [], length, position, IfSome, MatchOption};
 ghost use Rattle.std.specs.List.{slice_split};
 ghost use Rattle.ioam_clock.specs.Lines.{ends_word, has_empty, words_of};

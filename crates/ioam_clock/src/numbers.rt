@@ -1,3 +1,4 @@
+//! The numbers of a line.
 ghost use Rattle.std.specs.Prelude.{◌≡◌, ◌↔◌, ◌<◌, ◌^◌, IfOk, IfSome, Ok, ℕ};
 ghost use Rattle.std.specs.Fmt.{decimal};
 ghost use Rattle.ioam_clock.specs.Numbers.{number, maybe};

@@ -1,3 +1,4 @@
+//! A file of readings that is read, or refused by its first fault.
 ghost use Rattle.std.specs.Prelude.{◌≡◌, ◌↔◌, ◌≤◌, ◌<◌, ℕ, List, length, replicate, [], Ok, IfOk, vec_len};
 ghost use Rattle.ioam_topo.specs.Domain.{nodes};
 ghost use Rattle.ioam_clock.specs.Lines.{lines};
@@ -18,7 +19,7 @@ use ioam_topo::Domain;
 use std::alloc::Global;
 
 /// The most octets of a file of readings: 64 MiB.
-pub const FILE_MOST: usize = 67_108_864;
+pub const MOST_OCTETS: usize = 67_108_864;
 
 // The place of the node that a word names.
 fn node_of(domain: &Domain, word: &[u8]) -> Result<usize, ReadWhy>
@@ -122,7 +123,7 @@ pub fn read_readings(
     ensures file { IsFileRead (node_names domain.now) octets.now result }
     ensures spelled { (line : List ℕ) (node : ℕ) (sample : Sample) → (line_says (node_names domain.now) line ≡ Ok (node, sample)) ↔ SpellsLine (node_names domain.now) line node sample }
 {
-    if octets.len() > FILE_MOST {
+    if octets.len() > MOST_OCTETS {
         return Err(ReadingsRefused::Fault(ReadingsFault {
             line: 0,
             why: ReadWhy::Long,

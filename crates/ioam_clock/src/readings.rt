@@ -1,3 +1,4 @@
+//! The readings of the nodes of a domain.
 ghost use Rattle.std.specs.Prelude.{◌≡◌, ◌≤◌, ◌^◌, IfSome};
 ghost use Rattle.ioam_clock.specs.Samples.{sample_at, clock_at, IsSmall};
 ghost use Rattle.ioam_clock.specs.Reading.{samples_of};

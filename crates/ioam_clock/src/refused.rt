@@ -1,3 +1,4 @@
+//! Why a line wasn't read.
 use crate::fault::ReadWhy;
 
 // Why a line wasn't read.

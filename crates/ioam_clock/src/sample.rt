@@ -1,3 +1,5 @@
+//! What a node reads at a time.
+
 /// What a node reads at a time.
 #[derive(Clone, Copy, Debug, PartialEq, Eq)]
 pub struct Sample {

@@ -1,3 +1,4 @@
+//! What a node writes of a time.
 ghost use Rattle.std.specs.Prelude.{◌≡◌, ◌<◌};
 ghost use Rattle.ioam_clock.specs.Stamp.{fraction, stamp};
 

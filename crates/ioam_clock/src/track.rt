@@ -1,3 +1,4 @@
+//! The samples of one node.
 ghost use Rattle.std.specs.Prelude.{◌≡◌, ◌++◌, ◌∷◌, ◌≤◌, [], length, IsTrue, IfSome, OnOk, OnErr};
 ghost use Rattle.ioam_clock.specs.Samples.{sample_at, follows, IsSmall, IsCut, Rise};
 

@@ -1,3 +1,4 @@
+//! The answers to refused files.
 ghost use Rattle.std.specs.Prelude.{◌≡◌};
 ghost use Rattle.ioam_run_files.specs.Answer.{refused_as};
 

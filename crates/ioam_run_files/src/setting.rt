@@ -65,7 +65,7 @@ fn read_domain_file<D: Desk>(alloc: Global, desk: &mut D, name: &Name) -> Result
     ensures kept { KeepsInputs (D.reading desk.old) (D.reading desk.new) }
     ensures outputs { D.writing desk.new ≡ D.writing desk.old }
 {
-    let octets = match read_file(alloc, desk, name, ioam_topo_file::FILE_MOST) {
+    let octets = match read_file(alloc, desk, name, ioam_topo_file::MOST_OCTETS) {
         Ok(octets) => octets,
         Err(WholeFault::TooLong { .. }) => return Err(Refusal::Domain(long_file())),
         Err(WholeFault::Failed) => return Err(Refusal::ReadFault),
@@ -100,7 +100,7 @@ fn read_readings_file<D: Desk>(
     ensures kept { KeepsInputs (D.reading desk.old) (D.reading desk.new) }
     ensures outputs { D.writing desk.new ≡ D.writing desk.old }
 {
-    let octets = match read_file(alloc, desk, name, ioam_clock::FILE_MOST) {
+    let octets = match read_file(alloc, desk, name, ioam_clock::MOST_OCTETS) {
         Ok(octets) => octets,
         Err(WholeFault::TooLong { .. }) => return Err(Refusal::Readings(LONG_READINGS)),
         Err(WholeFault::Failed) => return Err(Refusal::ReadFault),

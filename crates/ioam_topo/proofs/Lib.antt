@@ -6,3 +6,4 @@ pub mod FindingLaws
 pub mod PlacesLaws
 pub mod TracesLaws
 pub mod IndexLaws
+pub mod PrefixLaws

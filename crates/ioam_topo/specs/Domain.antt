@@ -15,23 +15,23 @@ use Rattle.ioam_topo.specs.declared.parts.Flow.{Flow}
 
 -- the nodes, links, ports and routes of a domain, in file order
 abbrev pub nodes : Domain → List Node
-nodes domain = domain.elements.nodes.items
+nodes domain = domain.parts.nodes.items
 
 abbrev pub links : Domain → List Link
-links domain = domain.elements.links.items
+links domain = domain.parts.links.items
 
 abbrev pub ports : Domain → List Port
-ports domain = domain.elements.ports.items
+ports domain = domain.parts.ports.items
 
 abbrev pub routes : Domain → List Route
-routes domain = domain.elements.routes.items
+routes domain = domain.parts.routes.items
 
 -- the data of the nodes and the flows, in file order
 abbrev pub node_data : Domain → List NodeData
-node_data domain = domain.elements.data.items
+node_data domain = domain.parts.data.items
 
 abbrev pub flows : Domain → List Flow
-flows domain = domain.elements.flows.items
+flows domain = domain.parts.flows.items
 
 -- the node of a name, by its place
 abbrev pub node_of_name : Domain → List ℕ → Option NodeId

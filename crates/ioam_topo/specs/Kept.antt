@@ -11,7 +11,7 @@ use Rattle.ioam_topo.specs.declared.parts.NodeData.{NodeData}
 use Rattle.ioam_topo.specs.declared.parts.Flow.{Flow}
 use Rattle.ioam_topo.specs.Keyed.{name_of_link, taps_of, name_of_port, key_of_route, key_of_data}
 use Rattle.ioam_topo.specs.Apart.{AreApart, NodesApart, FlowsApart}
-use Rattle.ioam_topo.specs.Forward.{bits_of}
+use Rattle.ioam_topo.specs.Prefixes.{IsPrefix}
 use Rattle.ioam_topo.specs.Known.{IsKnownAtEnds}
 use Rattle.ioam_topo.specs.Sound.{IsNode, IsLink, IsNodeData, IsFlow}
 
@@ -72,7 +72,7 @@ pub record SoundPorts (nodes : ℕ) (ports : List Port) : Type 0 where
 
 -- the routes, of so many nodes with these links and ports
 pub record SoundRoutes (nodes : ℕ) (links : List Link) (ports : List Port) (routes : List Route) : Type 0 where
-  pub short : All (λ route. bits_of route ≤ 128) routes
+  pub prefixes : All (λ route. IsPrefix route.prefix) routes
   pub routed : All (IsRouteOf nodes links ports) routes
   pub few : length routes ≤ 16384
   pub apart : AreApart key_of_route routes

@@ -3,6 +3,7 @@ use Rattle.std.specs.Prelude.{◌≡◌, ◌<◌, ◌≤◌, ◌%◌, ◌^◌, t
 use Rattle.std.specs.List.{All}
 use Rattle.std.specs.Option.{ForSome}
 use Rattle.ioam_data.specs.Kind.{is_entry_type}
+use Rattle.ioam_topo.specs.Prefixes.{IsPrefix}
 use Rattle.ioam_topo.specs.Types.{is_direct_type, is_edge_type}
 use Rattle.ioam_topo.specs.Traces.{own_traces, IsFlowTrace, AreOfOwnSpaces}
 use Rattle.ioam_topo.specs.declared.parts.Node.{Node}
@@ -21,9 +22,11 @@ pub record IsLink (link : Link) : Type 0 where
   pub mtu_least : 1280 ≤ link.mtu
   pub mtu_most : link.mtu ≤ 65575
 
--- its numbers are within their bounds and its types are allowed, what goes together is there together, and its traces, of which
+-- its prefixes are such, its numbers are within their bounds and its types are allowed, what goes together is there together, and its traces, of which
 -- the first is its own, are at most three, each of another namespace; it has none where it has no trace of its own
 pub record IsFlow (flow : Flow) : Type 0 where
+  pub source : IsPrefix flow.source
+  pub target : IsPrefix flow.target
   pub hops_some : 1 ≤ flow.hops
   pub label_most : flow.label ≤ 1048575
   pub trace_type : ForSome flow.trace (λ kind. is_entry_type kind ≡ true)

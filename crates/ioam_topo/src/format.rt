@@ -1,3 +1,5 @@
+//! The format of a domain's timestamps.
+
 /// The format of a domain's timestamps (RFC 9197 section 5).
 #[derive(Clone, Copy, Debug, PartialEq, Eq)]
 pub enum Format {

@@ -1,3 +1,4 @@
+//! Where a node sends a target: along the route with the longest prefix.
 ghost use Rattle.std.specs.Prelude.{◌≡◌, ◌<◌, nat_eq, ◌&&◌, length, map, position, slice_get, Some, IfSome};
 ghost use Rattle.ioam_topo.specs.Keyed.{is_route, key_of_route};
 ghost use Rattle.ioam_topo.specs.Forward.{longer, longest, bits_of, fits, way_to, IsWayTo, IsWayFrom};
@@ -57,7 +58,7 @@ impl Domain {
         requires { at < length (routes self.now) }
         ensures { slice_get (routes self.now) at ≡ Some result }
     {
-        self.elements.routes[at as usize]
+        self.parts.routes[at as usize]
     }
 
     // The routes of a node, in file order.

@@ -1,3 +1,5 @@
+//! Nodes, links, ports and flows by their places in the file.
+
 /// A node by its place in the file, from 0.
 #[derive(Clone, Copy, Debug, PartialEq, Eq, Hash)]
 pub struct NodeId(pub u32);

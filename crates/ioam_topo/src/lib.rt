@@ -17,12 +17,12 @@ mod prefix;
 mod spaces;
 mod traces;
 
-pub use domain::{Domain, Elements};
+pub use domain::{Domain, DomainParts};
 pub use format::Format;
 pub use ids::{FlowId, LinkId, NodeId, PortId, Way};
 pub use masks::{masked, matches};
 pub use octets::Octets;
 pub use parts::{Flow, Link, Node, NodeData, Port, Route};
 pub use prefix::Prefix;
-pub use spaces::{SPACES_MOST, Spaces};
+pub use spaces::{MOST_SPACES, Spaces};
 pub use traces::{FlowTrace, Traces};

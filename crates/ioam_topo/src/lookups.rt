@@ -1,4 +1,5 @@
-ghost use Rattle.std.specs.Prelude.{◌≡◌, ◌<◌, ◌≤◌, length, position, slice_get, Some, IfSome};
+//! Look-ups among the nodes, links, ports and routes of a domain.
+ghost use Rattle.std.specs.Prelude.{◌≡◌, ◌<◌, ◌≤◌, ◌^◌, length, position, slice_get, Some, IfSome};
 ghost use Rattle.std.specs.Str.{bytes_eq};
 ghost use Rattle.std.specs.List.{All};
 ghost use Rattle.ioam_topo.specs.Domain.{is_local, spaces_of};
@@ -6,7 +7,7 @@ ghost use Rattle.ioam_topo.specs.Sound.{IsNode, IsLink};
 ghost use Rattle.ioam_topo.specs.Spaces.{knows_space};
 ghost use Rattle.ioam_topo.specs.Apart.{AreApart, NodesApart};
 ghost use Rattle.ioam_topo.specs.Keyed.{name_of_link, taps_of, name_of_port, key_of_route};
-ghost use Rattle.ioam_topo.specs.Forward.{bits_of};
+ghost use Rattle.ioam_topo.specs.Prefixes.{IsPrefix};
 ghost use Rattle.ioam_topo.specs.Kept.{JoinsNodes, IsAtNode, IsRouteOf};
 
 use crate::domain::Domain;
@@ -42,7 +43,7 @@ impl Domain {
         ensures apart { NodesApart result.now }
         ensures value { result.now ≡ nodes self.now }
     {
-        self.elements.nodes.as_slice()
+        self.parts.nodes.as_slice()
     }
 
     /// The links, in file order: at most 1,024, each from a node of the domain to another, with a
@@ -55,7 +56,7 @@ impl Domain {
         ensures taps { taps_of result.now ≤ 64 }
         ensures value { result.now ≡ links self.now }
     {
-        self.elements.links.as_slice()
+        self.parts.links.as_slice()
     }
 
     /// The ports, in file order: at most 64, each at a node of the domain.
@@ -65,19 +66,20 @@ impl Domain {
         ensures apart { AreApart name_of_port result.now }
         ensures value { result.now ≡ ports self.now }
     {
-        self.elements.ports.as_slice()
+        self.parts.ports.as_slice()
     }
 
     /// The routes, in file order: at most 16,384, each of a node of the domain, with a way from
-    /// there and a prefix of at most 128 bits. No two of one node have one prefix.
+    /// there and a prefix of at most 128 bits, behind which the others are 0. No two of one node have
+    /// one prefix.
     pub fn routes(&self) -> &[Route]
         ensures few { length (routes self.now) ≤ 16384 }
         ensures ways { All (IsRouteOf (length (nodes self.now)) (links self.now) (ports self.now)) result.now }
-        ensures short { All (λ route. bits_of route ≤ 128) result.now }
+        ensures prefixes { All (λ route. IsPrefix route.prefix) result.now }
         ensures apart { AreApart key_of_route result.now }
         ensures value { result.now ≡ routes self.now }
     {
-        self.elements.routes.as_slice()
+        self.parts.routes.as_slice()
     }
 
     /// A node by its id.
@@ -86,7 +88,7 @@ impl Domain {
         ensures value { slice_get (nodes self.now) id.0 ≡ Some result.now }
         ensures sound { IsNode result.now }
     {
-        &self.elements.nodes[id.0 as usize]
+        &self.parts.nodes[id.0 as usize]
     }
 
     /// A link by its id.
@@ -96,7 +98,7 @@ impl Domain {
         ensures ends { JoinsNodes (length (nodes self.now)) result.now }
         ensures sound { IsLink result.now }
     {
-        &self.elements.links[id.0 as usize]
+        &self.parts.links[id.0 as usize]
     }
 
     /// A port by its id.
@@ -105,7 +107,7 @@ impl Domain {
         ensures value { slice_get (ports self.now) id.0 ≡ Some result.now }
         ensures place { IsAtNode (length (nodes self.now)) result.now }
     {
-        &self.elements.ports[id.0 as usize]
+        &self.parts.ports[id.0 as usize]
     }
 
     /// The node of a name, if there is one.
@@ -141,7 +143,7 @@ impl Domain {
     pub fn packets(&self) -> u32
         ensures value { result ≡ self.now.packets }
         ensures some { 1 ≤ result }
-        ensures most { result ≤ 16777216 }
+        ensures most { result ≤ 2 ^ 24 }
     {
         self.packets
     }

@@ -1,3 +1,4 @@
+//! Look-ups among the node data and the flows of a domain.
 ghost use Rattle.std.specs.Prelude.{◌≡◌, ◌<◌, ◌≤◌, length, map, position, slice_get, Some, IfSome};
 ghost use Rattle.std.specs.List.{All};
 ghost use Rattle.std.specs.Option.{option_copied};
@@ -61,7 +62,7 @@ impl Domain {
         ensures sound { All IsFlow result.now }
         ensures apart { FlowsApart result.now }
     {
-        self.elements.flows.as_slice()
+        self.parts.flows.as_slice()
     }
 
     /// A flow by its id.
@@ -72,7 +73,7 @@ impl Domain {
         ensures known { IsKnownAtEnds (nodes self.now) result.now }
         ensures sound { IsFlow result.now }
     {
-        &self.elements.flows[id.0 as usize]
+        &self.parts.flows[id.0 as usize]
     }
 
     /// The data of the nodes, in file order: at most 4,096, each of a node of the domain and within
@@ -85,7 +86,7 @@ impl Domain {
         ensures sound { All IsNodeData result.now }
         ensures apart { AreApart key_of_data result.now }
     {
-        self.elements.data.as_slice()
+        self.parts.data.as_slice()
     }
 
     // The data at a place.
@@ -93,7 +94,7 @@ impl Domain {
         requires { at < length (node_data self.now) }
         ensures { slice_get (node_data self.now) at ≡ Some result.now }
     {
-        &self.elements.data[at as usize]
+        &self.parts.data[at as usize]
     }
 
     // The place of the data of a node in a namespace.
@@ -109,7 +110,7 @@ impl Domain {
         ensures value { option_copied result ≡ data_at (node_data self.now) node.0 namespace.0 }
         ensures sound { IfSome result (λ row. IsNodeData row.now) }
     {
-        if self.elements.data.is_empty() {
+        if self.parts.data.is_empty() {
             return None;
         }
         match self.place_of_data(node, namespace) {

@@ -1,3 +1,4 @@
+//! The bits of an address that a prefix counts.
 ghost use Rattle.std.specs.Prelude.{◌≡◌};
 ghost use Rattle.ioam_topo.specs.Prefixes.{masked, matches};
 

@@ -1,3 +1,4 @@
+//! Octets that a node records.
 ghost use Rattle.std.specs.Prelude.{◌≡◌};
 
 use std::marker::Model;

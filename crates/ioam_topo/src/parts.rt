@@ -1,3 +1,4 @@
+//! The parts of a domain: nodes, links, ports, routes, node data and flows.
 ghost use Rattle.std.specs.Prelude.{◌≡◌};
 
 use crate::ids::{NodeId, Way};

@@ -1,4 +1,4 @@
-// Where the nodes, the routes and the data of a domain are, by what they are looked up by.
+//! Where the nodes, the routes and the data of a domain are, by what they are looked up by.
 ghost use Rattle.std.specs.Prelude.{◌≡◌, ◌≤◌, length, map, IfOk};
 ghost use Rattle.ioam_topo.specs.Keyed.{address_of_node, key_of_route, key_of_data};
 ghost use Rattle.ioam_topo.specs.Places.{ArePlaces};

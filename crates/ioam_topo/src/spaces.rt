@@ -1,3 +1,4 @@
+//! The namespaces that a node lists.
 ghost use Rattle.std.specs.Prelude.{◌≡◌, nat_eq};
 ghost use Rattle.std.specs.List.{list_any};
 ghost use Rattle.ioam_topo.specs.Spaces.{knows_space};
@@ -6,7 +7,7 @@ use ioam_data::Namespace;
 use std::marker::Model;
 
 /// The most namespaces that a node may list.
-pub const SPACES_MOST: usize = 16;
+pub const MOST_SPACES: usize = 16;
 
 /// The namespaces that a node lists, in the order of the file, which lists none twice. The node knows
 /// namespace 0 whether or not it lists it. Contracts see them as a list.

@@ -1,3 +1,4 @@
+//! The traces that the packets of a flow carry.
 ghost use Rattle.std.specs.Prelude.{◌≡◌, ◌++◌, ◌∷◌, [], IfOk, OnOk, OnErr};
 ghost use Rattle.ioam_topo.specs.Traces.{own_traces};
 

@@ -1,3 +1,4 @@
+//! What is wrong in a domain file.
 use crate::words::{Field, Table};
 use ioam_topo_values::Why;
 

@@ -1,3 +1,4 @@
+//! The places of entries, and the keys that they may have.
 ghost use Rattle.std.specs.Prelude.{◌≡◌, MatchResult, string_bytes, Ok, Err};
 ghost use Rattle.std.specs.List.{list_all, list_any};
 ghost use Rattle.std.specs.Str.{bytes_eq};

@@ -1,3 +1,5 @@
+//! The tables of a domain file and the keys of their entries.
+
 /// The tables of a domain file.
 #[derive(Clone, Copy, Debug, PartialEq, Eq)]
 pub enum Table {

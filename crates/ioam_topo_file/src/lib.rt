@@ -6,4 +6,4 @@ mod reading;
 mod top;
 
 pub use ioam_topo_entries::{DomainFault, DomainRefused, Field, Table, Why};
-pub use reading::{FILE_MOST, long_file, read_domain};
+pub use reading::{MOST_OCTETS, long_file, read_domain};

@@ -1,3 +1,4 @@
+//! A domain file that is read, or refused by its first fault.
 ghost use Rattle.std.specs.Prelude.{◌≡◌, length, IfOk};
 ghost use Rattle.toml.specs.View.{table_view};
 ghost use Rattle.ioam_topo_entries.specs.declared.words.Table.TheVariants.{Top};
@@ -19,7 +20,7 @@ use ioam_topo_tables::{Nodes, Telemetry, domain_of};
 use std::alloc::Global;
 
 /// The most octets of a domain file: 1 MiB.
-pub const FILE_MOST: usize = 1_048_576;
+pub const MOST_OCTETS: usize = 1_048_576;
 
 // The most flows.
 const MOST_FLOWS: usize = 256;
@@ -89,7 +90,7 @@ pub fn read_domain(alloc: Global, octets: &[u8]) -> Result<Domain, DomainRefused
     ensures file { IsFileRead octets.now result }
     ensures apart { IfOk result IsApart }
 {
-    if octets.len() > FILE_MOST {
+    if octets.len() > MOST_OCTETS {
         return Err(DomainRefused::Fault(long_file()));
     }
     let text = match std::str::from_utf8(octets) {

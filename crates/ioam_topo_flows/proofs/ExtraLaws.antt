@@ -153,6 +153,8 @@ some_own [] space None capacity t own here both = cc
 pub flow_more : (flow : Flow) (t : FlowTrace) → IsFlow flow → IsFlowTrace t → is_some flow.trace ≡ true → length flow.traces ≤ 2
     → All (λ (other : FlowTrace). other.namespace.0 ≢ t.namespace.0) flow.traces → IsFlow (with_trace flow t)
 flow_more flow t is sound here few others = record {
+  source = is.source;
+  target = is.target;
   hops_some = is.hops_some;
   label_most = is.label_most;
   trace_type = is.trace_type;

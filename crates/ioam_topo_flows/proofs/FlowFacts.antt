@@ -9,6 +9,9 @@ use Rattle.ioam_topo_values.specs.declared.why.Why.{Why}
 use Rattle.ioam_topo_values.specs.Reads.{◌▷◌, maybe, optional}
 use Rattle.ioam_topo_values.specs.Numbers.{number}
 use Rattle.ioam_topo_values.specs.Types.{trace_type, direct_type, edge_type}
+use Rattle.ioam_topo.specs.declared.prefix.Prefix.{Prefix}
+use Rattle.ioam_topo.specs.Prefixes.{IsPrefix}
+use Rattle.ioam_topo_values.proofs.PrefixSpelledLaws.{key_is_prefix}
 use Rattle.ioam_topo.specs.Types.{is_direct_type, is_edge_type}
 use Rattle.ioam_topo.specs.declared.parts.Flow.{Flow}
 use Rattle.ioam_topo.specs.Sound.{IsFlow}
@@ -20,7 +23,7 @@ use Rattle.ioam_topo_flows.specs.declared.flow_parts.Selection.{Selection}
 use Rattle.ioam_topo_flows.specs.declared.flow_parts.Outer.{Outer}
 use Rattle.ioam_topo_flows.specs.declared.flow_parts.Tracing.{Tracing}
 use Rattle.ioam_topo_flows.specs.declared.flow_parts.Exporting.{Exporting}
-use Rattle.ioam_topo_flows.specs.FlowParts.{flow_hops, flow_label, flow_trace, flow_capacity, flow_edge, flow_direct, flow_every, flow_id, flow_limit, selection_of, outer_of, tracing_of, exporting_of}
+use Rattle.ioam_topo_flows.specs.FlowParts.{flow_entry, flow_exit, flow_source, flow_target, flow_space, flow_hops, flow_label, flow_trace, flow_capacity, flow_edge, flow_direct, flow_every, flow_id, flow_limit, selection_of, outer_of, tracing_of, exporting_of}
 use Rattle.ioam_topo_flows.specs.FlowTable.{flow_name, flow_of, flow_with}
 
 or_left : (a b : Bool) → a ≡ true → (a || b) ≡ true
@@ -34,6 +37,10 @@ or_right false b on = on
 record IsOuter (o : Outer) : Type 0 where
   least : 1 ≤ o.hops
   most : o.label ≤ 1048575
+
+record IsSelection (s : Selection) : Type 0 where
+  source : IsPrefix s.source
+  target : IsPrefix s.target
 
 record IsTracing (t : Tracing) : Type 0 where
   kind : ForSome t.trace (λ kind. is_entry_type kind ≡ true)
@@ -49,6 +56,18 @@ record IsExporting (e : Exporting) : Type 0 where
   most : ForSome e.every (λ n. n ≤ 1000000)
   counted : is_some e.every ≡ is_some e.direct
   named : is_some e.flow_id ≡ is_some e.direct
+
+selection_read : (a b : Result ℕ Why) (c d : Result Prefix Why) (e : Result ℕ Why) (s : Selection)
+    → ((p : Prefix) → c ≡ Ok p → IsPrefix p) → ((p : Prefix) → d ≡ Ok p → IsPrefix p)
+    → a ▷ (λ entry. b ▷ (λ exit. c ▷ (λ source. d ▷ (λ target. e ▷ (λ space.
+    Ok (record { entry = entry; exit = exit; source = source; target = target; namespace = space })))))) ≡ Ok s → IsSelection s
+selection_read (Ok x) (Ok y) (Ok p) (Ok q) (Ok z) s source target is =
+    let same : record { entry = x; exit = y; source = p; target = q; namespace = z } ≡ s = cc in subst IsSelection same (record { source = source p refl; target = target q refl })
+selection_read (Ok x) (Ok y) (Ok p) (Ok q) (Err why) s source target is = cc
+selection_read (Ok x) (Ok y) (Ok p) (Err why) e s source target is = cc
+selection_read (Ok x) (Ok y) (Err why) d e s source target is = cc
+selection_read (Ok x) (Err why) c d e s source target is = cc
+selection_read (Err why) b c d e s source target is = cc
 
 outer_read : (a b : Result ℕ Why) (o : Outer) → ((x : ℕ) → a ≡ Ok x → 1 ≤ x) → ((x : ℕ) → b ≡ Ok x → x ≤ 1048575)
     → a ▷ (λ hops. b ▷ (λ label. Ok (record { hops = hops; label = label }))) ≡ Ok o → IsOuter o
@@ -112,14 +131,17 @@ module _ (m : Members) where
       }) is
 
 flow_read : (a : Result (List ℕ) Why) (b : Result Selection Why) (c : Result Outer Why) (d : Result Tracing Why) (e : Result Exporting Why) (flow : Flow)
-    → ((o : Outer) → c ≡ Ok o → IsOuter o) → ((t : Tracing) → d ≡ Ok t → IsTracing t) → ((x : Exporting) → e ≡ Ok x → IsExporting x)
+    → ((s : Selection) → b ≡ Ok s → IsSelection s) → ((o : Outer) → c ≡ Ok o → IsOuter o) → ((t : Tracing) → d ≡ Ok t → IsTracing t) → ((x : Exporting) → e ≡ Ok x → IsExporting x)
     → a ▷ (λ name. b ▷ (λ s. c ▷ (λ o. d ▷ (λ t. e ▷ (λ x. Ok (flow_with name s o t x)))))) ≡ Ok flow → IsFlow flow
-flow_read (Ok n) (Ok s) (Ok o) (Ok t) (Ok x) flow around traced exported is =
+flow_read (Ok n) (Ok s) (Ok o) (Ok t) (Ok x) flow chosen around traced exported is =
     let same : flow_with n s o t x ≡ flow = cc in
+    let k : IsSelection s = chosen s refl in
     let f : IsOuter o = around o refl in
     let g : IsTracing t = traced t refl in
     let h : IsExporting x = exported x refl in
     subst IsFlow same (record {
+      source = k.source;
+      target = k.target;
       hops_some = f.least;
       label_most = f.most;
       trace_type = g.kind;
@@ -138,16 +160,20 @@ flow_read (Ok n) (Ok s) (Ok o) (Ok t) (Ok x) flow around traced exported is =
       direct_every = h.counted;
       direct_id = h.named;
     })
-flow_read (Ok n) (Ok s) (Ok o) (Ok t) (Err why) flow around traced exported is = cc
-flow_read (Ok n) (Ok s) (Ok o) (Err why) e flow around traced exported is = cc
-flow_read (Ok n) (Ok s) (Err why) d e flow around traced exported is = cc
-flow_read (Ok n) (Err why) c d e flow around traced exported is = cc
-flow_read (Err why) b c d e flow around traced exported is = cc
+flow_read (Ok n) (Ok s) (Ok o) (Ok t) (Err why) flow chosen around traced exported is = cc
+flow_read (Ok n) (Ok s) (Ok o) (Err why) e flow chosen around traced exported is = cc
+flow_read (Ok n) (Ok s) (Err why) d e flow chosen around traced exported is = cc
+flow_read (Ok n) (Err why) c d e flow chosen around traced exported is = cc
+flow_read (Err why) b c d e flow chosen around traced exported is = cc
 
 module _ (nodes : List (List ℕ)) (lists : List (Result (List Namespace) Why)) where
+  selection_facts : (m : Members) (s : Selection) → selection_of nodes lists m ≡ Ok s → IsSelection s
+  selection_facts m s is = selection_read (flow_entry nodes lists m) (flow_exit nodes lists m) (flow_source m) (flow_target m) (flow_space nodes lists m) s
+      (key_is_prefix (get_member (codes "source") m)) (key_is_prefix (get_member (codes "target") m)) is
+
   flow_facts : (m : Members) (flow : Flow) → flow_of nodes lists m ≡ Ok flow → IsFlow flow
   flow_facts m flow is = flow_read (flow_name m) (selection_of nodes lists m) (outer_of m) (tracing_of m) (exporting_of m) flow
-      (outer_facts m) (tracing_facts m) (exporting_facts m) is
+      (selection_facts m) (outer_facts m) (tracing_facts m) (exporting_facts m) is
 
   -- what is true of the flows of entries
   pub flows_sound : (ms : List Members) (flows : List Flow) → flows ≡ goods (flow_of nodes lists) ms → All IsFlow flows

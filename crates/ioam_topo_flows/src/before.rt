@@ -1,3 +1,4 @@
+//! What was read before the table.
 use ioam_topo_tables::{Flows, Nodes};
 
 /// What the entries of the tables `data` and `flow` refer to.

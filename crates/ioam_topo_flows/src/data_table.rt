@@ -1,3 +1,4 @@
+//! The table `data`.
 ghost use Rattle.std.specs.Prelude.{◌≡◌, Ok, codes, is_some};
 ghost use Rattle.toml.specs.Data.{get_member};
 ghost use Rattle.toml.specs.View.{table_view};
@@ -17,7 +18,7 @@ use ioam_topo_tables::{DataRows, Nodes};
 use ioam_topo_values::{Refused, Why, beside, has, maybe_number, maybe_octets};
 use std::alloc::Global;
 
-const WIDE_MOST: u64 = 9_223_372_036_854_775_807;
+const MOST_WIDE: u64 = 9_223_372_036_854_775_807;
 
 // The snapshot of an entry, needed where there is a schema.
 fn snapshot(alloc: Global, entry: &toml::Table) -> Result<Option<Octets>, Refused>
@@ -62,7 +63,7 @@ fn read_row(
         Field::ShortKey,
         maybe_number32(entry, "short", 0, 4_294_967_295),
     )?;
-    let wide = spot.key(Field::WideKey, maybe_number(entry, "wide", 0, WIDE_MOST))?;
+    let wide = spot.key(Field::WideKey, maybe_number(entry, "wide", 0, MOST_WIDE))?;
     let schema = maybe_number32(entry, "schema", 0, 16_777_214);
     let schema = spot.key(Field::SchemaKey, beside(schema, has(entry, "snapshot")))?;
     let snapshot = spot.key_or(Field::SnapshotKey, snapshot(alloc, entry))?;

@@ -1,3 +1,4 @@
+//! The table of traces that flows carry besides their own.
 ghost use Rattle.std.specs.Prelude.{◌≡◌, ◌≤◌, ◌<◌, ◌++◌, ◌∷◌, [], length, map, false, OnOk, IfOk, Ok, option_copied, option_map, slice_get, codes};
 ghost use Rattle.std.specs.List.{All, list_any};
 ghost use Rattle.toml.specs.Data.{get_member};
@@ -29,7 +30,7 @@ use ioam_topo_values::{Why, maybe_trace_type};
 use std::alloc::Global;
 
 // The most extra traces of a flow.
-const EXTRAS_MOST: usize = 2;
+const MOST_EXTRAS: usize = 2;
 
 /// Extra traces, with what no two of them may share.
 #[derive(Drop)]
@@ -110,7 +111,7 @@ fn few_of(extras: &Extras, read: Result<u32, Why>) -> Result<u32, Why>
     ensures { result ≡ read ▷ few_of extras.now.places.items }
 {
     match read {
-        Ok(flow) if times(flow, &extras.places) >= EXTRAS_MOST => Err(Why::TooMany),
+        Ok(flow) if times(flow, &extras.places) >= MOST_EXTRAS => Err(Why::TooMany),
         other => other,
     }
 }

@@ -1,3 +1,4 @@
+//! The parts of an entry of the table `flow`.
 ghost use Rattle.std.specs.Prelude.{◌≡◌, ◌||◌, Ok, codes, is_some, map};
 ghost use Rattle.toml.specs.Data.{get_member};
 ghost use Rattle.toml.specs.View.{table_view};

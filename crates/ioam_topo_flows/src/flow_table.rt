@@ -1,3 +1,4 @@
+//! The table `flow`.
 ghost use Rattle.std.specs.Prelude.{◌≡◌, IfOk, Ok, codes, map};
 ghost use Rattle.toml.specs.View.{table_view};
 ghost use Rattle.ioam_topo_values.specs.Reads.{◌▷◌};

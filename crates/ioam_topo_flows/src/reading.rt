@@ -1,3 +1,4 @@
+//! The data and the flows of a domain file.
 ghost use Rattle.std.specs.Prelude.{◌≡◌, ◌≤◌, ◌++◌, length, map};
 ghost use Rattle.toml.specs.View.{table_view};
 ghost use Rattle.ioam_topo_entries.specs.Faults.{Gives};

@@ -16,13 +16,13 @@ use Rattle.ioam_topo.specs.declared.parts.Flow.{Flow}
 use Rattle.ioam_topo.specs.declared.traces.FlowTrace.{FlowTrace}
 use Rattle.ioam_topo.specs.Keyed.{name_of_node, id_of_node, address_of_node, name_of_link, name_of_port, taps_of, key_of_route, is_route}
 use Rattle.ioam_topo.specs.Apart.{AreApart, NodesApart}
-use Rattle.ioam_topo.specs.Forward.{bits_of}
+use Rattle.ioam_topo.specs.Prefixes.{IsPrefix}
 use Rattle.ioam_topo.specs.Traces.{IsFlowTrace}
 use Rattle.ioam_topo.specs.Known.{is_known, IsKnownAtEnds}
 use Rattle.ioam_topo.specs.Sound.{IsNode, IsLink, IsNodeData, IsFlow}
 use Rattle.ioam_topo.specs.Kept.{JoinsNodes, JoinsEnds, IsAtNode, IsOfNode, IsRouteOf, SoundNodes, SoundLinks, SoundPorts, SoundRoutes, SoundData, SoundFlows}
 use Rattle.ioam_topo.proofs.ApartLaws.{all_differ, distinct_by, names_differ, numbers_differ, prefixes_differ, apart_by, only_place}
-use Rattle.ioam_topo_generated.specs.Bulk.{link_of, bulk_nodes, bulk_links, bulk_ports, bulk_routes, bulk_flow}
+use Rattle.ioam_topo_generated.specs.Bulk.{link_of, to_last, to_east, bulk_nodes, bulk_links, bulk_ports, bulk_routes, bulk_flow}
 
 -- each of one to five entries
 two : {A : Type 0} (P : A → Type 0) (a b : A) → P a → P b → All P (a ∷ b ∷ [])
@@ -80,9 +80,14 @@ two_ports : length bulk_ports ≡ 2
 unfolding bulk_ports
 two_ports = refl
 
-routes_short : All (λ route. bits_of route ≤ 128) bulk_routes
+prefixes_are : All (λ route. IsPrefix route.prefix) bulk_routes
 unfolding bulk_routes
-routes_short = nine (λ route. bits_of route ≤ 128) _ _ _ _ _ _ _ _ _ (omega arith) (omega arith) (omega arith) (omega arith) (omega arith) (omega arith) (omega arith) (omega arith) (omega arith)
+prefixes_are = nine (λ route. IsPrefix route.prefix) _ _ _ _ _ _ _ _ _ last east last east last east last east east where
+  last : IsPrefix to_last
+  last = record { short = omega arith; rest = refl }
+
+  east : IsPrefix to_east
+  east = record { short = omega arith; rest = refl }
 
 routes_lead : All (IsRouteOf 5 bulk_links bulk_ports) bulk_routes
 unfolding bulk_routes bulk_links bulk_ports
@@ -118,6 +123,8 @@ for_one P x p y is = subst P (same_Some x y is) p
 bulk_flow_is : IsFlow bulk_flow
 unfolding bulk_flow has is_entry_type undefined
 bulk_flow_is = record {
+  source = record { short = omega arith; rest = refl };
+  target = record { short = omega arith; rest = refl };
   hops_some = omega arith;
   label_most = omega arith;
   trace_type = for_one (λ kind. is_entry_type kind ≡ true) 8388608 refl;
@@ -190,7 +197,7 @@ ports_are_sound : SoundPorts 5 bulk_ports
 ports_are_sound = record { placed = ports_placed; few = let n = two_ports in omega (arith, n); apart = ports_apart }
 
 routes_are_sound : SoundRoutes 5 bulk_links bulk_ports bulk_routes
-routes_are_sound = record { short = routes_short; routed = routes_lead; few = let n = nine_routes in omega (arith, n); apart = routes_apart }
+routes_are_sound = record { prefixes = prefixes_are; routed = routes_lead; few = let n = nine_routes in omega (arith, n); apart = routes_apart }
 
 no_data_sound : (n : ℕ) → SoundData n []
 no_data_sound n = record { placed = All-nil (IsOfNode n); sound = All-nil IsNodeData; few = omega arith; apart = λ i j x y here there same. cc }

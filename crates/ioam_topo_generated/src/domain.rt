@@ -1,3 +1,4 @@
+//! The domain of a generated run.
 ghost use Rattle.std.specs.Prelude.{◌≡◌, ◌≤◌, ◌∷◌, [], IfOk};
 ghost use Rattle.ioam_topo_generated.specs.Bulk.{IsBulkDomain, bulk_nodes, bulk_links, bulk_ports, bulk_routes, bulk_flow};
 
@@ -5,17 +6,17 @@ use crate::flow::bulk_flows;
 use crate::places::{bulk_links, bulk_nodes, bulk_ports};
 use crate::routing::bulk_routes;
 use ioam_base::memory::NoMemory;
-use ioam_topo::{Domain, Elements, Format};
+use ioam_topo::{Domain, DomainParts, Format};
 use std::alloc::Global;
 
 // What the domain has.
-fn bulk_elements(alloc: Global) -> Result<Elements, NoMemory>
-    ensures nodes { IfOk result (λ elements. elements.nodes.items ≡ bulk_nodes) }
-    ensures links { IfOk result (λ elements. elements.links.items ≡ bulk_links) }
-    ensures ports { IfOk result (λ elements. elements.ports.items ≡ bulk_ports) }
-    ensures routes { IfOk result (λ elements. elements.routes.items ≡ bulk_routes) }
-    ensures data { IfOk result (λ elements. elements.data.items ≡ []) }
-    ensures flows { IfOk result (λ elements. elements.flows.items ≡ bulk_flow ∷ []) }
+fn bulk_parts(alloc: Global) -> Result<DomainParts, NoMemory>
+    ensures nodes { IfOk result (λ parts. parts.nodes.items ≡ bulk_nodes) }
+    ensures links { IfOk result (λ parts. parts.links.items ≡ bulk_links) }
+    ensures ports { IfOk result (λ parts. parts.ports.items ≡ bulk_ports) }
+    ensures routes { IfOk result (λ parts. parts.routes.items ≡ bulk_routes) }
+    ensures data { IfOk result (λ parts. parts.data.items ≡ []) }
+    ensures flows { IfOk result (λ parts. parts.flows.items ≡ bulk_flow ∷ []) }
 {
     let nodes = bulk_nodes(alloc)?;
     let links = bulk_links(alloc)?;
@@ -23,7 +24,7 @@ fn bulk_elements(alloc: Global) -> Result<Elements, NoMemory>
     let routes = bulk_routes(alloc)?;
     let flows = bulk_flows(alloc)?;
     let data = Vec::new(alloc);
-    Ok(Elements {
+    Ok(DomainParts {
         nodes,
         links,
         ports,
@@ -40,6 +41,6 @@ pub fn bulk_domain(alloc: Global, packets: u32) -> Result<Domain, NoMemory>
     requires most { packets ≤ 1000000 }
     ensures { IfOk result (IsBulkDomain packets) }
 {
-    let elements = bulk_elements(alloc)?;
-    Domain::new(alloc, Format::Ptp, packets, elements)
+    let parts = bulk_parts(alloc)?;
+    Domain::new(alloc, Format::Ptp, packets, parts)
 }

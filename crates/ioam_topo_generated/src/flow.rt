@@ -1,3 +1,4 @@
+//! The flow of a generated run.
 ghost use Rattle.std.specs.Prelude.{◌≡◌, ◌∷◌, [], IfOk};
 ghost use Rattle.ioam_topo_generated.specs.Bulk.{bulk_flow};
 

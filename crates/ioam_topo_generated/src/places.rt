@@ -1,3 +1,4 @@
+//! The nodes, links and ports of a generated run.
 ghost use Rattle.std.specs.Prelude.{◌≡◌, ◌+◌, ◌<◌, ◌≤◌, IfOk};
 ghost use Rattle.ioam_topo_generated.specs.Bulk.{node_of, link_of, port_of, listed, bulk_nodes, bulk_links, bulk_ports};
 

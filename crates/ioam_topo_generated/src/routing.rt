@@ -1,3 +1,4 @@
+//! The routes of a generated run.
 ghost use Rattle.std.specs.Prelude.{◌≡◌, IfOk};
 ghost use Rattle.ioam_topo_generated.specs.Bulk.{route_of, to_last, to_east, by_link, bulk_routes};
 

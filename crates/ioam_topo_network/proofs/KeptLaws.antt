@@ -5,6 +5,8 @@ use Rattle.toml.specs.Data.{Data, Members, get_member}
 use Rattle.ioam_topo_values.specs.declared.why.Why.{Why}
 use Rattle.ioam_topo_values.specs.declared.why.Why.TheVariants.{Unknown}
 use Rattle.ioam_topo.specs.declared.prefix.Prefix.{Prefix}
+use Rattle.ioam_topo.specs.Prefixes.{IsPrefix}
+use Rattle.ioam_topo_values.proofs.PrefixSpelledLaws.{key_is_prefix}
 use Rattle.ioam_topo_values.specs.Reads.{◌▷◌, needed, maybe}
 use Rattle.ioam_topo_values.specs.Texts.{name, file_name}
 use Rattle.ioam_topo.specs.declared.ids.Way.{Way}
@@ -165,3 +167,23 @@ route_leads nodes links froms ports homes link_items port_items from_items home_
       leads = way_leads nodes links froms ports homes link_items port_items from_items home_items link_count port_count m route.node.0 parts.0
           route.way parts.1.0 parts.1.1 parts.1.2 parts.1.3 parts.1.4;
     }
+
+way_prefix : (node : ℕ) (p : Prefix) (w : Result Way Why) (route : Route) → w ▷ (λ way. Ok (record { node = record { 0 = node }; prefix = p; way = way })) ≡ Ok route
+    → p ≡ route.prefix
+way_prefix node p (Err why) route is = cc
+way_prefix node p (Ok way) route is = let same : record { node = record { 0 = node }; prefix = p; way = way } ≡ route = cc in ap (λ (r : Route). r.prefix) same
+
+prefix_part : (a : Result ℕ Why) (b : Result Prefix Why) (c d : Result (Option ℕ) Why) (route : Route)
+    → a ▷ (λ node. b ▷ (λ p. c ▷ (λ link. d ▷ (λ port. way_of link port ▷ (λ way. Ok (record { node = record { 0 = node }; prefix = p; way = way })))))) ≡ Ok route
+    → b ≡ Ok route.prefix
+prefix_part (Err why) b c d route is = cc
+prefix_part (Ok node) (Err why) c d route is = cc
+prefix_part (Ok node) (Ok p) (Err why) d route is = cc
+prefix_part (Ok node) (Ok p) (Ok link) (Err why) route is = cc
+prefix_part (Ok node) (Ok p) (Ok link) (Ok port) route is = ap Ok (way_prefix node p (way_of link port) route is)
+
+-- a route's prefix is one
+pub route_prefixed : (nodes links : List (List ℕ)) (froms : List (Result ℕ Why)) (ports : List (List ℕ)) (homes : List (Result ℕ Why))
+    (m : Members) (route : Route) → route_of nodes links froms ports homes m ≡ Ok route → IsPrefix route.prefix
+route_prefixed nodes links froms ports homes m route is = key_is_prefix (get_member (codes "prefix") m) route.prefix
+    (prefix_part (route_node nodes links froms ports homes m) (route_prefix m) (route_link nodes links froms ports homes m) (route_port nodes links froms ports homes m) route is)

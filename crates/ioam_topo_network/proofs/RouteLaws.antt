@@ -1,5 +1,5 @@
 -- Laws of the routes that are collected.
-use Rattle.std.proofs.Common.{◌≡◌, ℕ, ◌+◌, List, [], ◌∷◌, ◌++◌, length, ◌≤◌, Bool, true, false, cond, Result, Ok, Err, refl, sym, subst}
+use Rattle.std.proofs.Common.{◌≡◌, ℕ, ◌+◌, List, [], ◌∷◌, ◌++◌, length, Bool, true, false, cond, Result, Ok, Err, refl, subst}
 use Rattle.toml.specs.Data.{Members}
 use Rattle.ioam_topo_values.specs.declared.why.Why.{Why}
 use Rattle.ioam_topo_values.specs.declared.why.Why.TheVariants.{Twice}
@@ -11,19 +11,13 @@ use Rattle.ioam_topo.specs.declared.parts.Route.{Route}
 use Rattle.ioam_topo_network.specs.RouteRead.{keys_behind, faults_behind, route_behind, key_behind, HoldsRoutes, IsNewRoute}
 use Rattle.ioam_topo.specs.Keyed.{key_of_route, is_route}
 use Rattle.ioam_topo_network.specs.RouteTable.{fresh_for}
-use Rattle.ioam_topo.specs.Forward.{bits_of}
-use Rattle.std.specs.List.{All, list_any}
-use Rattle.std.proofs.lemmas.List.Elements.{All-push}
+use Rattle.std.specs.List.{list_any}
 use Rattle.ioam_topo_entries.proofs.KeyLaws.{kept_by}
 use Rattle.ioam_topo_entries.proofs.GoodsLaws.{goods_push}
 
 pub held_faults : (parts : Parts) (earlier : List Members) (routes : Routes) (place : ℕ) (m : Members) → HoldsRoutes parts earlier routes → place ≡ length earlier + 1
     → keys_behind parts place routes.taken.keys m ≡ faults_behind parts earlier m
 held_faults parts earlier routes place m holds there = rw (holds.keys, there)
-
-short_more : (xs ys : List Route) (route : Route) → ys ≡ xs ++ route ∷ [] → route.prefix.length ≤ 128 → All (λ r. bits_of r ≤ 128) xs → All (λ r. bits_of r ≤ 128) ys
-short_more xs ys route more small all = let P : List Route → Type 0 = All (λ r. bits_of r ≤ 128) in
-    subst P (sym more) (All-push (λ r. bits_of r ≤ 128) xs route all small)
 
 pub route_added : (parts : Parts) (earlier : List Members) (m : Members) (route : Route) (old new : Routes)
     → HoldsRoutes parts earlier old → IsNewRoute parts old m route
@@ -33,7 +27,6 @@ route_added parts earlier m route old new holds fits items keys = record {
   items = goods_push (route_behind parts) earlier m route _ _ fits.is holds.items items;
   keys = goods_push (key_behind parts) earlier m (route.node.0, route.prefix) _ _ fits.key_is holds.keys keys;
   keyed = kept_by key_of_route old.items.items new.items.items route _ _ holds.keyed items keys;
-  short = short_more old.items.items new.items.items route items fits.small holds.short;
 }
 
 fresh_under : (b : Bool) (y x : Prefix) (r : Result Prefix Why) → r ≡ cond b (Err Twice) (Ok y) → r ≡ Ok x → (b ≡ false) × (y ≡ x)

@@ -8,6 +8,7 @@ use Rattle.ioam_topo.specs.declared.parts.Route.{Route}
 use Rattle.ioam_topo_tables.specs.declared.routes.Parts.{Parts}
 use Rattle.ioam_topo_tables.specs.declared.routes.Routes.{Routes}
 use Rattle.ioam_topo.specs.Keyed.{name_of_node, name_of_link, name_of_port}
+use Rattle.ioam_topo.specs.Prefixes.{IsPrefix}
 use Rattle.ioam_topo.specs.Kept.{JoinsNodes, IsAtNode, IsRouteOf}
 use Rattle.ioam_topo_tables.specs.Kept.{NodesKept, LinksKept, PortsKept, RoutesKept}
 use Rattle.ioam_topo.proofs.KeyLaws.{length_map}
@@ -23,7 +24,7 @@ use Rattle.ioam_topo_network.specs.PortTable.{port_of, port_faults}
 use Rattle.ioam_topo_network.specs.RouteRead.{HoldsRoutes, route_behind, faults_behind}
 use Rattle.ioam_topo_network.specs.Places.{node_entries, link_entries, port_entries, route_entries, node_names, part_faults, HoldsParts}
 use Rattle.ioam_topo_network.proofs.PartFacts.{nodes_sound, links_sound}
-use Rattle.ioam_topo_network.proofs.KeptLaws.{link_joins, port_placed, route_leads}
+use Rattle.ioam_topo_network.proofs.KeptLaws.{link_joins, port_placed, route_leads, route_prefixed}
 
 module _ (taps : ℕ) (t : Members) (parts : Parts) (holds : HoldsParts taps t parts) (clear : part_faults taps t ≡ []) where
   abbrev node_part : List DomainFault
@@ -77,7 +78,9 @@ module _ (taps : ℕ) (t : Members) (parts : Parts) (holds : HoldsParts taps t p
       → table_faults RouteTable 16384 (get_member (codes "route") t) (faults_behind parts) ≡ [] → RoutesKept parts routes
   routes_kept routes are none = record {
     keyed = are.keyed;
-    short = are.short;
+    prefixes = let all : All (λ route. IsPrefix route.prefix) (goods (route_behind parts) (route_entries t)) = goods_all (λ route. IsPrefix route.prefix) (route_behind parts) (route_entries t)
+        (route_prefixed parts.nodes.names parts.links.names _ parts.ports.names _) in
+        let P : List Route → Type 0 = All (λ route. IsPrefix route.prefix) in subst P (sym are.items) all;
     routed = let link_count : length parts.links.names ≡ length parts.links.items.items = ap length holds.links.named ∙ sym (length_map name_of_link parts.links.items.items) in
         let count : length parts.nodes.names ≡ length parts.nodes.items.items = ap length holds.nodes.names ∙ node_count in
         let all : All (IsRouteOf (length parts.nodes.names) parts.links.items.items parts.ports.items.items) (goods (route_behind parts) (route_entries t)) =

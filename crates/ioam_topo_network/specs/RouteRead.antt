@@ -1,6 +1,6 @@
 -- What is known of the routes of the entries so far, and of one that was read.
-use Rattle.std.specs.Prelude.{◌≡◌, ◌≤◌, ℕ, false, List, map, Result, Ok}
-use Rattle.std.specs.List.{All, list_any}
+use Rattle.std.specs.Prelude.{◌≡◌, ℕ, false, List, map, Result, Ok}
+use Rattle.std.specs.List.{list_any}
 use Rattle.toml.specs.Data.{Members}
 use Rattle.ioam_topo_values.specs.declared.why.Why.{Why}
 use Rattle.ioam_topo.specs.declared.prefix.Prefix.{Prefix}
@@ -9,7 +9,6 @@ use Rattle.ioam_topo_tables.specs.declared.routes.Parts.{Parts}
 use Rattle.ioam_topo_tables.specs.declared.routes.Routes.{Routes}
 use Rattle.ioam_topo_entries.specs.declared.fault.DomainFault.{DomainFault}
 use Rattle.ioam_topo_entries.specs.Goods.{goods}
-use Rattle.ioam_topo.specs.Forward.{bits_of}
 use Rattle.ioam_topo_network.specs.LinkRead.{from_of}
 use Rattle.ioam_topo_network.specs.PortRead.{node_of_port}
 use Rattle.ioam_topo.specs.Keyed.{is_route, key_of_route}
@@ -34,11 +33,9 @@ module _ (parts : Parts) where
     pub items : routes.items.items ≡ goods route_behind entries
     pub keys : routes.taken.keys ≡ goods key_behind entries
     pub keyed : routes.taken.keys ≡ map key_of_route routes.items.items
-    pub short : All (λ route. bits_of route ≤ 128) routes.items.items
 
   -- this is the route of an entry, and its prefix is not among the node's others
   pub record IsNewRoute (routes : Routes) (m : Members) (route : Route) : Type 0 where
     pub is : route_behind m ≡ Ok route
     pub key_is : key_behind m ≡ Ok (route.node.0, route.prefix)
-    pub small : route.prefix.length ≤ 128
     pub new_key : list_any (is_route route.node.0 route.prefix) routes.taken.keys ≡ false

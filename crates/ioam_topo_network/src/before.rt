@@ -1,3 +1,4 @@
+//! What was read before the table.
 use ioam_topo_tables::{Nodes, Parts};
 
 /// What the entries of the table `node` refer to.

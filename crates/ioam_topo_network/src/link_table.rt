@@ -1,3 +1,4 @@
+//! The table `link`.
 ghost use Rattle.std.specs.Prelude.{◌≡◌, Ok, option_map};
 ghost use Rattle.toml.specs.View.{table_view};
 ghost use Rattle.std.specs.Prelude.{codes, IfOk};

@@ -1,3 +1,4 @@
+//! The table `node`.
 ghost use Rattle.std.specs.Prelude.{◌≡◌, nat_eq};
 ghost use Rattle.toml.specs.View.{table_view};
 ghost use Rattle.ioam_topo_values.specs.Reads.{◌▷◌};
@@ -14,7 +15,7 @@ use ioam_topo_tables::Nodes;
 use ioam_topo_values::{Why, address, namespaces, number};
 use std::alloc::Global;
 
-const ID_MOST: u64 = 72_057_594_037_927_935;
+const MOST_ID: u64 = 72_057_594_037_927_935;
 
 fn new_id(nodes: &Nodes, read: Result<u64, Why>) -> Result<u64, Why>
     ensures { result ≡ read ▷ fresh nat_eq nodes.now.ids.keys }
@@ -50,7 +51,7 @@ fn read_node<'a>(
     };
     spot.key(Field::OtherKey, own_keys(Table::NodeTable, entry))?;
     let text = spot.key(Field::NameKey, new_name(&nodes.names, entry, "name"))?;
-    let id = spot.key(Field::IdKey, new_id(nodes, number(entry, "id", 0, ID_MOST)))?;
+    let id = spot.key(Field::IdKey, new_id(nodes, number(entry, "id", 0, MOST_ID)))?;
     let address = spot.key(
         Field::AddressKey,
         new_address(nodes, address(entry, "address")),

@@ -1,3 +1,4 @@
+//! The table `port`.
 ghost use Rattle.std.specs.Prelude.{◌≡◌};
 ghost use Rattle.toml.specs.View.{table_view};
 ghost use Rattle.ioam_topo_entries.specs.Faults.{Gives};

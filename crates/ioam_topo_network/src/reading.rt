@@ -1,3 +1,4 @@
+//! The nodes, links, ports and routes of a domain file.
 ghost use Rattle.std.specs.Prelude.{◌≡◌, codes};
 ghost use Rattle.toml.specs.Data.{get_member};
 ghost use Rattle.toml.specs.View.{table_view};

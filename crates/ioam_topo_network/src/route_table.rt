@@ -1,4 +1,5 @@
-ghost use Rattle.std.specs.Prelude.{◌≡◌, ◌≤◌, IfOk, Ok, Err, map, is_some, codes};
+//! The table `route`.
+ghost use Rattle.std.specs.Prelude.{◌≡◌, Ok, Err, map, is_some, codes};
 ghost use Rattle.toml.specs.Data.{get_member};
 ghost use Rattle.toml.specs.View.{table_view};
 ghost use Rattle.ioam_topo_values.specs.Reads.{◌▷◌, needed};
@@ -79,8 +80,7 @@ fn route_port(parts: &Parts, node: u32, entry: &toml::Table) -> Result<Option<u3
 
 // The prefix of an entry, which no other route of the node has.
 fn new_prefix(routes: &Routes, node: u32, entry: &toml::Table) -> Result<Prefix, Why>
-    ensures value { result ≡ needed prefix (get_member (codes "prefix") (table_view entry.now)) ▷ fresh_for (Ok node) routes.now.taken.keys }
-    ensures small { IfOk result (λ p. p.length ≤ 128) }
+    ensures { result ≡ needed prefix (get_member (codes "prefix") (table_view entry.now)) ▷ fresh_for (Ok node) routes.now.taken.keys }
 {
     match prefix(entry, "prefix") {
         Ok(prefix) if routes.is_taken(node, prefix) => Err(Why::Twice),

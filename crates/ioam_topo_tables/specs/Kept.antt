@@ -3,7 +3,7 @@ use Rattle.std.specs.Prelude.{◌≡◌, ◌≤◌, ℕ, List, map, length}
 use Rattle.std.specs.List.{All}
 use Rattle.ioam_topo.specs.declared.parts.Node.{Node}
 use Rattle.ioam_topo.specs.Keyed.{name_of_node, address_of_node, id_of_node, name_of_link, taps_of, name_of_port, key_of_route, key_of_data}
-use Rattle.ioam_topo.specs.Forward.{bits_of}
+use Rattle.ioam_topo.specs.Prefixes.{IsPrefix}
 use Rattle.ioam_topo.specs.Known.{IsKnownAtEnds}
 use Rattle.ioam_topo.specs.Sound.{IsNode, IsLink}
 use Rattle.ioam_topo.specs.Kept.{JoinsNodes, JoinsEnds, IsAtNode, IsOfNode, IsRouteOf}
@@ -37,7 +37,7 @@ pub record PortsKept (nodes : ℕ) (ports : Ports) : Type 0 where
 
 pub record RoutesKept (parts : Parts) (routes : Routes) : Type 0 where
   pub keyed : routes.taken.keys ≡ map key_of_route routes.items.items
-  pub short : All (λ route. bits_of route ≤ 128) routes.items.items
+  pub prefixes : All (λ route. IsPrefix route.prefix) routes.items.items
   pub routed : All (IsRouteOf (length parts.nodes.items.items) parts.links.items.items parts.ports.items.items) routes.items.items
   pub few : length routes.items.items ≤ 16384
 

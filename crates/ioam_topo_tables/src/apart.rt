@@ -1,4 +1,4 @@
-// What no two entries share: a set has no key twice, and says so where it is asked for its length.
+//! What no two entries share: a set has no key twice, and says so where it is asked for its length.
 ghost use Rattle.std.specs.Prelude.{◌≡◌, map};
 ghost use Rattle.ioam_topo_tables.specs.Kept.{NodesKept};
 ghost use Rattle.ioam_topo.specs.Apart.{AreApart, NodesApart, FlowsApart};

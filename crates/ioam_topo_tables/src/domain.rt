@@ -1,4 +1,5 @@
-ghost use Rattle.std.specs.Prelude.{◌≡◌, ◌≤◌, length, IfOk};
+//! The domain of tables.
+ghost use Rattle.std.specs.Prelude.{◌≡◌, ◌≤◌, ◌^◌, length, IfOk};
 ghost use Rattle.ioam_topo.specs.Domain.{nodes, links, ports, routes as routes_of, node_data, flows};
 ghost use Rattle.ioam_topo_tables.specs.Kept.{NodesKept, LinksKept, PortsKept, RoutesKept, DataKept, FlowsKept};
 
@@ -8,7 +9,7 @@ use crate::apart::{
 use crate::routes::{Parts, Routes};
 use crate::telemetry::Telemetry;
 use ioam_base::memory::NoMemory;
-use ioam_topo::{Domain, Elements, Format};
+use ioam_topo::{Domain, DomainParts, Format};
 use std::alloc::Global;
 
 /// The domain of these tables, which are to keep what every domain's tables keep: at most so many of
@@ -23,7 +24,7 @@ pub fn domain_of(
     telemetry: Telemetry,
 ) -> Result<Domain, NoMemory>
     requires packets_some { 1 ≤ packets }
-    requires packets_most { packets ≤ 16777216 }
+    requires packets_most { packets ≤ 2 ^ 24 }
     requires nodes_kept { NodesKept parts.nodes }
     requires links_kept { LinksKept (length parts.nodes.items.items) parts.links }
     requires ports_kept { PortsKept (length parts.nodes.items.items) parts.ports }
@@ -52,7 +53,7 @@ pub fn domain_of(
         ports,
     } = parts;
     let Telemetry { rows, flows } = telemetry;
-    let elements = Elements {
+    let parts = DomainParts {
         nodes: nodes.items,
         links: links.items,
         ports: ports.items,
@@ -60,5 +61,5 @@ pub fn domain_of(
         data: rows.items,
         flows: flows.items,
     };
-    Domain::new(alloc, format, packets, elements)
+    Domain::new(alloc, format, packets, parts)
 }

@@ -1,3 +1,4 @@
+//! Names by their places, no two equal.
 ghost use Rattle.std.specs.Prelude.{◌≡◌, ◌≢◌, ◌++◌, ◌∷◌, ◌<◌, ◌^◌, [], length, OnOk, IfSome, false};
 ghost use Rattle.std.specs.List.{list_any, AllPairs};
 ghost use Rattle.std.specs.Str.{bytes_eq};

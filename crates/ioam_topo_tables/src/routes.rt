@@ -1,3 +1,4 @@
+//! The routes of a domain, with what no two of them share.
 ghost use Rattle.std.specs.Prelude.{◌≡◌, ◌++◌, ◌∷◌, [], OnOk, false};
 ghost use Rattle.std.specs.List.{list_any};
 ghost use Rattle.ioam_topo.specs.Keyed.{is_route};

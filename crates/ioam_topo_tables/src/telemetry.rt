@@ -1,3 +1,4 @@
+//! What nodes and flows record.
 ghost use Rattle.std.specs.Prelude.{◌≡◌};
 ghost use Rattle.std.specs.List.{All};
 ghost use Rattle.ioam_topo.specs.Sound.{IsNodeData, IsFlow};

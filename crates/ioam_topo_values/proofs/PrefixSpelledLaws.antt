@@ -1,5 +1,5 @@
 -- A prefix reads as what its text spells, both ways, in the words of RFC 4291 section 2.3.
-use Rattle.std.proofs.Common.{◌≡◌, ⊎_elim, ℕ, suc, ◌+◌, ◌-◌, ◌*◌, ◌<◌, ◌≤◌, inl, inr, Bool, true, false, not, nat_le, nat_lt, eqb, ◌&&◌, cond, List, [], ◌∷◌, ◌++◌, length, get_or, take, drop, decimal, All, Option, Some, None, option_and_then, Result, Ok, refl, ap, ap₂, sym, subst, ◌∙◌, arith, eqb-true, length-append}
+use Rattle.std.proofs.Common.{◌≡◌, ℕ, suc, ◌+◌, ◌≤◌, inl, inr, true, false, not, nat_lt, eqb, cond, List, [], ◌∷◌, ◌++◌, length, get_or, take, drop, All, Option, Some, None, Result, Ok, Err, IfOk, refl, ap, ap₂, sym, subst, ◌∙◌, arith, eqb-true, length-append}
 use Rattle.std.specs.List.{position_or_len}
 use Rattle.std.proofs.Math.Seq.{take-append_seam, drop-append-add, split_at}
 use Rattle.std.proofs.lemmas.Bool.Decides.{nat_tests}
@@ -8,9 +8,11 @@ use Rattle.std.proofs.lemmas.List.Quantifiers.{position-Some}
 use Rattle.toml.specs.Data.{Data, string}
 use Rattle.ioam_base.proofs.DecimalLaws.{decimal_iff}
 use Rattle.ioam_topo.specs.declared.prefix.Prefix.{Prefix}
-use Rattle.ioam_topo.specs.Prefixes.{masked}
+use Rattle.ioam_topo.specs.Prefixes.{masked, IsPrefix}
+use Rattle.ioam_topo.proofs.PrefixLaws.{masked_is}
 use Rattle.ioam_topo_values.specs.declared.why.Why.{Why}
-use Rattle.ioam_topo_values.specs.Reads.{needed}
+use Rattle.ioam_topo_values.specs.Reads.{◌▷◌, needed}
+use Rattle.ioam_topo_values.specs.Texts.{text}
 use Rattle.ioam_topo_values.specs.Addresses.{address_of, ranged, SpellsGroups, Spells}
 use Rattle.ioam_topo_values.specs.Prefixes.{length_of, prefix_of, parted, slash_at, prefix, IsLength, SpellsPrefix}
 use Rattle.ioam_topo_values.proofs.SpelledLaws.{address_spells}
@@ -96,3 +98,25 @@ key_spells_prefix o r s reads at p is = parted_spells s p (slash_at s) refl (ran
 -- the text at a key reads as the prefix that it spells
 pub key_read_prefix : (o : Option Data) (r : Result Prefix Why) (s : List ℕ) (p : Prefix) → r ≡ needed prefix o → o ≡ Some (string s) → SpellsPrefix s p → r ≡ Ok p
 key_read_prefix o r s p reads at h = reads ∙ ap (needed prefix) at ∙ ap ranged (spells_prefix s p h)
+
+prefix_is : (a b : Option ℕ) (p : Prefix) → ((n : ℕ) → b ≡ Some n → n ≤ 128) → prefix_of a b ≡ Some p → IsPrefix p
+prefix_is (Some bits) (Some n) p short is = let same : bits_and (masked n bits) n ≡ p = cc in subst IsPrefix same (masked_is n bits (short n refl))
+prefix_is (Some bits) None p short is = absurd (cc)
+prefix_is None b p short is = absurd (cc)
+
+parted_is : (s : List ℕ) (o : Option ℕ) (p : Prefix) → parted o s ≡ Some p → IsPrefix p
+parted_is s None p is = absurd (cc)
+parted_is s (Some i) p is = prefix_is (address_of (take i s)) (length_of (drop (i + 1) s)) p (λ n long. (length_is (drop (i + 1) s) n long).0) is
+
+text_is : (r : Result (List ℕ) Why) (p : Prefix) → r ▷ (λ s. ranged (parted (slash_at s) s)) ≡ Ok p → IsPrefix p
+text_is (Ok s) p is = parted_is s (slash_at s) p (ranged_prefix (parted (slash_at s) s) p is)
+text_is (Err why) p is = absurd (cc)
+
+-- what reads as a prefix is one
+pub key_is_prefix : (o : Option Data) (p : Prefix) → needed prefix o ≡ Ok p → IsPrefix p
+key_is_prefix None p is = absurd (cc)
+key_is_prefix (Some d) p is = text_is (text d) p is
+
+pub read_is_prefix : (o : Option Data) (r : Result Prefix Why) → r ≡ needed prefix o → IfOk r IsPrefix
+read_is_prefix o (Ok p) reads = key_is_prefix o p (sym reads)
+read_is_prefix o (Err why) reads = tt

@@ -1,3 +1,4 @@
+//! Values that are IPv6 addresses.
 ghost use Rattle.std.specs.Prelude.{◌≡◌, ◌<◌, ◌≤◌, ◌+◌, [], Some, length, drop, IfSome, List, ℕ, Ok};
 ghost use Rattle.std.specs.Bool.{OnTrue};
 ghost use Rattle.toml.specs.Data.{get_member, string};

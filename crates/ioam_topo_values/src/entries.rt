@@ -1,3 +1,4 @@
+//! Values that are arrays of tables.
 ghost use Rattle.std.specs.Prelude.{◌≡◌, map};
 ghost use Rattle.toml.specs.Data.{get_member, Members};
 ghost use Rattle.toml.specs.View.{view, table_view, array_view};

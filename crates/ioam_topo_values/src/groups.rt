@@ -1,3 +1,4 @@
+//! The groups of an IPv6 address.
 ghost use Rattle.std.specs.Prelude.{◌≡◌, ◌+◌, ◌-◌, ◌<◌, ◌≤◌, ◌++◌, ◌∷◌, [], length, replicate, slice_index, ◌*◌};
 ghost use Rattle.ioam_topo_values.specs.Addresses.{number_of};
 

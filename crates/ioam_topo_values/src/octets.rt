@@ -1,3 +1,4 @@
+//! Values that are octets in hexadecimal digits.
 ghost use Rattle.std.specs.Prelude.{◌≡◌};
 ghost use Rattle.toml.specs.Data.{get_member};
 ghost use Rattle.toml.specs.View.{view, table_view};
@@ -14,14 +15,14 @@ use std::alloc::Global;
 use toml::{Table, Value};
 
 /// The most hexadecimal digits of a text of octets.
-pub const DIGITS_MOST: usize = 360;
+pub const MOST_DIGITS: usize = 360;
 
 // The octets that a text spells.
 fn octets_of(alloc: Global, text: &str) -> Result<Octets, Refused>
     ensures { ReadsOr (λ octets. octets) result (octets_of text.now) }
 {
     let digits = text.as_bytes();
-    if digits.len() % 8 != 0 || digits.len() > DIGITS_MOST {
+    if digits.len() % 8 != 0 || digits.len() > MOST_DIGITS {
         return Err(Refused::Because(Why::Range));
     }
     match hex::decode(alloc, digits) {

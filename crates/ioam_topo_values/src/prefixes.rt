@@ -1,9 +1,11 @@
-ghost use Rattle.std.specs.Prelude.{◌≡◌, ◌+◌, ◌<◌, ◌≤◌, ℕ, List, length, Some, Ok, IfOk, IfSome};
+//! Values that are prefixes of addresses.
+ghost use Rattle.std.specs.Prelude.{◌≡◌, ◌<◌, ℕ, List, length, Some, Ok, IfOk, IfSome};
 ghost use Rattle.toml.specs.Data.{get_member, string};
 ghost use Rattle.toml.specs.View.{view, table_view};
 ghost use Rattle.ioam_topo_values.specs.Reads.{needed};
 ghost use Rattle.ioam_topo_values.specs.Prefixes.{length_of, prefix_of, parted, slash_at, prefix, SpellsPrefix};
 ghost use Rattle.ioam_topo.specs.declared.prefix.Prefix.{Prefix};
+ghost use Rattle.ioam_topo.specs.Prefixes.{IsPrefix};
 
 use crate::addresses::address_of;
 use crate::finding::find;
@@ -15,13 +17,10 @@ use toml::{Table, Value};
 
 // The prefix length that a text spells.
 fn length_of(text: &[u8]) -> Option<u8>
-    ensures value { result ≡ length_of text.now }
-    ensures small { IfSome result (λ n. n ≤ 128) }
+    ensures { result ≡ length_of text.now }
 {
-    match decimal_below(text, 129) {
-        Some(length) => Some(length as u8),
-        None => None,
-    }
+    let length = decimal_below(text, 129)?;
+    Some(length as u8)
 }
 
 // Where the first `/` stands.
@@ -34,9 +33,7 @@ fn slash_at(text: &[u8]) -> Option<usize>
 
 // The prefix of an address and a prefix length.
 fn prefix_of(bits: Option<u128>, length: Option<u8>) -> Option<Prefix>
-    requires { IfSome length (λ n. n ≤ 128) }
-    ensures value { result ≡ prefix_of bits length }
-    ensures small { IfSome result (λ p. p.length ≤ 128) }
+    ensures { result ≡ prefix_of bits length }
 {
     match (bits, length) {
         (Some(bits), Some(length)) => Some(Prefix {
@@ -49,8 +46,7 @@ fn prefix_of(bits: Option<u128>, length: Option<u8>) -> Option<Prefix>
 
 // A value that is to be a prefix.
 fn prefix_in(value: &Value) -> Result<Prefix, Why>
-    ensures value { result ≡ prefix (view value.now) }
-    ensures small { IfOk result (λ p. p.length ≤ 128) }
+    ensures { result ≡ prefix (view value.now) }
 {
     let octets = text_of(value)?.as_bytes();
     let Some(at) = slash_at(octets) else {
@@ -68,7 +64,7 @@ fn prefix_in(value: &Value) -> Result<Prefix, Why>
 #[tactic(auto, using(crate::proofs::PrefixSpelledLaws::key_spells_prefix))]
 pub fn prefix(entry: &Table, key: &str) -> Result<Prefix, Why>
     ensures value { result ≡ needed prefix (get_member key.now (table_view entry.now)) }
-    ensures small { IfOk result (λ p. p.length ≤ 128) }
+    ensures sound { IfOk result IsPrefix }
     ensures spelled { (s : List ℕ) (p : Prefix) → get_member key.now (table_view entry.now) ≡ Some (string s) → result ≡ Ok p → SpellsPrefix s p }
     ensures every { (s : List ℕ) (p : Prefix) → get_member key.now (table_view entry.now) ≡ Some (string s) → SpellsPrefix s p → result ≡ Ok p }
 {

@@ -1,3 +1,4 @@
+//! Why a value that takes memory isn't read.
 use crate::why::Why;
 use std::alloc::{AllocError, AllocFailed};
 

@@ -1,3 +1,4 @@
+//! Values that are lists of namespaces.
 ghost use Rattle.std.specs.Prelude.{◌≡◌, [], map, not, nat_eq, IfOk};
 ghost use Rattle.std.specs.List.{list_any};
 ghost use Rattle.toml.specs.Data.{get_member};
@@ -11,7 +12,7 @@ use crate::refused::Refused;
 use crate::why::Why;
 use indexmap::IndexSet;
 use ioam_data::Namespace;
-use ioam_topo::{SPACES_MOST, Spaces};
+use ioam_topo::{MOST_SPACES, Spaces};
 use std::alloc::Global;
 use toml::value::Array;
 use toml::{Table, Value};
@@ -69,7 +70,7 @@ fn apart_spaces(alloc: Global, array: &Array) -> Result<Spaces, Refused>
 {
     let held = small_spaces(alloc, array)?;
     match are_apart(alloc, held.as_slice()) {
-        Ok(true) if held.len() <= SPACES_MOST => Ok(Spaces::new(held)),
+        Ok(true) if held.len() <= MOST_SPACES => Ok(Spaces::new(held)),
         Ok(true) => Err(Refused::Because(Why::TooMany)),
         Ok(false) => Err(Refused::Because(Why::Twice)),
         Err(_) => Err(Refused::NoMemory),

@@ -1,3 +1,4 @@
+//! Values that are texts, names and names of files.
 ghost use Rattle.std.specs.Prelude.{◌≡◌, ◌==◌, not, option_map};
 ghost use Rattle.std.specs.List.{list_all};
 ghost use Rattle.toml.specs.Data.{get_member};
@@ -10,10 +11,10 @@ use crate::why::Why;
 use toml::{Table, Value};
 
 /// The most characters of a name.
-pub const NAME_MOST: usize = 32;
+pub const MOST_NAME: usize = 32;
 
 /// The most octets of a file name.
-pub const FILE_NAME_MOST: usize = 255;
+pub const MOST_FILE_NAME: usize = 255;
 
 /// A value that is to be a text, else Kind.
 pub fn text_of(value: &Value) -> Result<&str, Why>
@@ -51,7 +52,7 @@ fn is_name(text: &str) -> bool
     ensures { result ≡ is_name text.now }
 {
     let octets = text.as_bytes();
-    1 <= octets.len() && octets.len() <= NAME_MOST && are_name_octets(octets)
+    1 <= octets.len() && octets.len() <= MOST_NAME && are_name_octets(octets)
 }
 
 // Whether a text is well formed as a file name.
@@ -59,7 +60,7 @@ fn is_file_name(text: &str) -> bool
     ensures { result ≡ is_file_name text.now }
 {
     let octets = text.as_bytes();
-    1 <= octets.len() && octets.len() <= FILE_NAME_MOST && are_not_zero(octets)
+    1 <= octets.len() && octets.len() <= MOST_FILE_NAME && are_not_zero(octets)
 }
 
 // A value that is to be a name.

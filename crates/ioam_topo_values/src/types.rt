@@ -1,3 +1,4 @@
+//! Values that are types of options.
 ghost use Rattle.std.specs.Prelude.{◌≡◌};
 ghost use Rattle.toml.specs.Data.{get_member};
 ghost use Rattle.toml.specs.View.{view, table_view};
@@ -11,13 +12,13 @@ use crate::why::Why;
 use ioam_data::TraceType;
 use toml::{Table, Value};
 
-const TYPE_MOST: u64 = 16_777_215;
+const MOST_TYPE: u64 = 16_777_215;
 
 // A value that is to be a type that entry nodes write.
 fn trace_type_of(value: &Value) -> Result<TraceType, Why>
     ensures { result ≡ trace_type (view value.now) }
 {
-    let kind = TraceType::new(number_of(0, TYPE_MOST, value)? as u32);
+    let kind = TraceType::new(number_of(0, MOST_TYPE, value)? as u32);
     if kind.is_entry_type() {
         Ok(kind)
     } else {
@@ -36,7 +37,7 @@ fn is_direct_type(kind: TraceType) -> bool
 fn direct_type_of(value: &Value) -> Result<TraceType, Why>
     ensures { result ≡ direct_type (view value.now) }
 {
-    let kind = TraceType::new(number_of(0, TYPE_MOST, value)? as u32);
+    let kind = TraceType::new(number_of(0, MOST_TYPE, value)? as u32);
     if is_direct_type(kind) {
         Ok(kind)
     } else {

@@ -1,3 +1,5 @@
+//! Why a value is refused.
+
 /// Why a value is refused.
 #[derive(Clone, Copy, Debug, PartialEq, Eq)]
 pub enum Why {

@@ -11,8 +11,8 @@ returns-in-Ok-add_lines-clause-file c = file_read (node_names c.args.domain.now)
 pub returns-in-Err-add_lines-clause-file : goal.returns-in-Err-add_lines-clause-file
 returns-in-Err-add_lines-clause-file c = file_read (node_names c.args.domain.now) c.args.octets.now (Err c.in-Err-add_lines.refused) (grind (arith, common_steps))
 
-pub returns-then-octets-gt-FILE_MOST-clause-spelled : goal.returns-then-octets-gt-FILE_MOST-clause-spelled
-returns-then-octets-gt-FILE_MOST-clause-spelled c = line_iff (node_names c.args.domain.now)
+pub returns-then-octets-gt-MOST_OCTETS-clause-spelled : goal.returns-then-octets-gt-MOST_OCTETS-clause-spelled
+returns-then-octets-gt-MOST_OCTETS-clause-spelled c = line_iff (node_names c.args.domain.now)
 
 pub returns-in-Err-clause-spelled : goal.returns-in-Err-clause-spelled
 returns-in-Err-clause-spelled c = line_iff (node_names c.args.domain.now)

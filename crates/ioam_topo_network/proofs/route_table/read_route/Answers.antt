@@ -14,7 +14,6 @@ returns c =
       record {
         is = search rules;
         key_is = search rules;
-        small = search rules;
         new_key = fresh_for_new c.in_ok-node.node c.args.routes.now.taken.keys _ c.in_ok-prefix.prefix f;
       },
     )
