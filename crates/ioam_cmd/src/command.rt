@@ -1,4 +1,7 @@
 //! The forms of a command line.
+ghost use Rattle.std.specs.Prelude.{◌≡◌, ◌↔◌, ℕ, IsTrue, MatchOption, codes};
+ghost use Rattle.ioam_cmd.specs.Words.{IsBulk, IsCount, IsForm, IsNoForm, IsNoBulk, IsSeed, IsWorkers};
+
 use ioam_base::digits::decimal_below;
 use ioam_base::name::Name;
 
@@ -22,9 +25,6 @@ pub enum Command {
     /// `bulk SEED COUNT WORKERS REPORT`: any seed of 64 bits, 1 to 1,000,000 arrivals, and 1 to 64 workers.
     Bulk { seed: u64, count: u32, workers: u32 },
 }
-
-ghost use Rattle.std.specs.Prelude.{◌≡◌, ◌↔◌, ℕ, IsTrue, MatchOption, codes};
-ghost use Rattle.ioam_cmd.specs.Words.{IsBulk, IsCount, IsForm, IsNoForm, IsNoBulk, IsSeed, IsWorkers};
 
 // The number of workers that a word spells.
 fn workers_of(word: &Name) -> Option<u32>

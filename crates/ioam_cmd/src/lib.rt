@@ -8,5 +8,6 @@ mod command;
 mod measured;
 mod program;
 
+pub use command::{Command, parse};
 pub use measured::runs_are_collected;
 pub use program::{ioam, ioam_surely};

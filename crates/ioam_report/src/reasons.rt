@@ -1,3 +1,4 @@
+//! The words of reasons.
 ghost use Rattle.std.specs.Prelude.{◌≡◌};
 ghost use Rattle.ioam_report.specs.RunText.{reason_name};
 

@@ -1,3 +1,4 @@
+//! Lines that stand whole, or not at all.
 ghost use Rattle.std.specs.Prelude.{◌≡◌, is_ok, if◌then◌else◌, take};
 
 use ioam_base::memory::NoMemory;

@@ -1,3 +1,4 @@
+//! The answers of a command.
 ghost use Rattle.std.specs.Prelude.{◌≡◌, ◌⊎◌};
 
 use ioam_base::name::Name;

@@ -1,3 +1,4 @@
+//! How a capture ended.
 ghost use Rattle.std.specs.Prelude.{◌≡◌, ◌⊎◌};
 ghost use Rattle.ioam_run_answer.specs.declared.outcome.Outcome.{Outcome};
 ghost use Rattle.ioam_pcap.specs.Ending.{ending_of as ending};
