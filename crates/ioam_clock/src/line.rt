@@ -31,10 +31,8 @@ fn split_word(line: &[u8]) -> Option<(&[u8], &[u8])>
     ensures { MatchOption result (slice_split ends_word line.now ≡ line.now ∷ [])
         (λ parts. slice_split ends_word line.now ≡ parts.0.now ∷ slice_split ends_word parts.1.now) }
 {
-    match space_in(line) {
-        Some(at) => Some((&line[..at], &line[at + 1..])),
-        None => None,
-    }
+    let at = space_in(line)?;
+    Some((&line[..at], &line[at + 1..]))
 }
 
 // Whether a word of a line is empty.

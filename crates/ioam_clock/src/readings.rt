@@ -31,10 +31,7 @@ impl Readings {
         ensures small { IfSome result IsSmall }
         ensures before { IfSome result (λ sample. sample.time ≤ time) }
     {
-        match self.tracks.get(node.0 as usize) {
-            Some(track) => track.sample_at(time),
-            None => None,
-        }
+        self.tracks.get(node.0 as usize)?.sample_at(time)
     }
 
     /// What the node's clock reads at a time in nanoseconds, at most 2^63: the clock of the sample in
@@ -43,10 +40,8 @@ impl Readings {
         requires { time ≤ 2 ^ 63 }
         ensures { result ≡ clock_at (samples_of self.now node.0) time }
     {
-        match self.view(node, time) {
-            Some(sample) => Some(sample.clock + (time - sample.time)),
-            None => None,
-        }
+        let sample = self.view(node, time)?;
+        Some(sample.clock + (time - sample.time))
     }
 }
 
