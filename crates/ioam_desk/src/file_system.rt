@@ -71,6 +71,7 @@ pub trait FileSystem {
 }
 
 /// The files of the machine.
+#[derive(Drop)]
 pub struct MachineFiles<'a, R: Files> {
     files: &'a R,
 }

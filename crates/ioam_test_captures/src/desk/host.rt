@@ -40,6 +40,7 @@ impl Write for Faulty {
 
 // Files of which names of the same length are the same one. One of a single letter isn't regular,
 // and the empty name is missing.
+#[derive(Drop)]
 struct ByLength;
 
 impl FileSystem for ByLength {
