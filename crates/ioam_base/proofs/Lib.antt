@@ -4,3 +4,4 @@ pub mod ResultLaws
 pub mod WordsLaws
 pub mod DecimalLaws
 pub mod WrittenLaws
+pub mod FedLaws

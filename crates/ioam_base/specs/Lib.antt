@@ -2,3 +2,4 @@ pub mod Leads
 pub mod Octets
 pub mod Words
 pub mod Decimal
+pub mod Fed

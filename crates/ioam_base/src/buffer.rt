@@ -1,4 +1,5 @@
-ghost use Rattle.std.specs.Prelude.{◌≡◌, ◌+◌, ◌≤◌, ◌<◌, [], ◌++◌, length};
+//! Room for the octets of one value.
+ghost use Rattle.std.specs.Prelude.{◌≡◌, ◌+◌, ◌≤◌, ◌<◌, ◌^◌, [], ◌++◌, length};
 ghost use Rattle.ioam_base.specs.Words.{two_octets, three_octets, four_octets, eight_octets, four_octets_if, eight_octets_if};
 
 use crate::octets::{put_at, put_u16_at, put_u24_at, put_u32_at, put_u64_at};
@@ -62,7 +63,7 @@ impl Buffer {
     /// Appends a number of 24 bits as three octets.
     pub fn three(&mut self, number: u32)
         requires room { length self.old + 3 ≤ 24 }
-        requires fits { number < 16777216 }
+        requires fits { number < 2 ^ 24 }
         ensures value { self.new ≡ self.old ++ three_octets number }
         ensures size { length self.new ≡ length self.old + 3 }
     {

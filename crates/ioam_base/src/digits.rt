@@ -1,3 +1,4 @@
+//! Numbers that are written in decimal digits.
 ghost use Rattle.std.specs.Prelude.{◌≡◌, ◌↔◌, ◌<◌, ◌+◌, ◌*◌, ◌-◌, ℕ, decimal, Some, None, IfSome, if◌then◌else◌};
 ghost use Rattle.std.specs.Char.{is_ascii_digit};
 ghost use Rattle.ioam_base.specs.Decimal.{below, digits_below, decimal_below};

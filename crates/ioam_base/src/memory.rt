@@ -1,3 +1,4 @@
+//! The one refusal for want of memory.
 use std::alloc::{AllocError, AllocFailed};
 
 /// No memory could be had. Whoever answers it has left what was lent as it was, unless its own

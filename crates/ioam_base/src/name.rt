@@ -1,3 +1,4 @@
+//! Names of files and entries.
 ghost use Rattle.std.specs.Prelude.{◌≡◌, List, ℕ, string_bytes, IfOk};
 
 use crate::memory::NoMemory;

@@ -1,4 +1,5 @@
-ghost use Rattle.std.specs.Prelude.{◌≡◌, ◌+◌, ◌≤◌, ◌<◌, drop, length, vec_len};
+//! Numbers in octets, the most significant octet first, and octets written over others.
+ghost use Rattle.std.specs.Prelude.{◌≡◌, ◌+◌, ◌≤◌, ◌<◌, ◌^◌, drop, length, vec_len};
 ghost use Rattle.ioam_base.specs.Octets.{u16_at, u24_at, u32_at, u64_at, written};
 ghost use Rattle.ioam_base.specs.Words.{two_octets, three_octets, four_octets, eight_octets};
 
@@ -16,7 +17,7 @@ pub fn u16_at(octets: &[u8], at: usize) -> u16
 pub fn u24_at(octets: &[u8], at: usize) -> u32
     requires { at + 3 ≤ length octets.now }
     ensures value { result ≡ u24_at octets.now at }
-    ensures fits { result < 16777216 }
+    ensures fits { result < 2 ^ 24 }
 {
     BigEndian::read_u24(&octets[at..])
 }
@@ -48,7 +49,7 @@ pub fn put_u16_at(octets: &mut [u8], at: usize, number: u16)
 /// Writes a number of 24 bits, big-endian, over the three octets at a place.
 pub fn put_u24_at(octets: &mut [u8], at: usize, number: u32)
     requires room { at + 3 ≤ length octets.old }
-    requires fits { number < 16777216 }
+    requires fits { number < 2 ^ 24 }
     ensures { octets.new ≡ written octets.old at (three_octets number) }
 {
     BigEndian::write_u24(&mut octets[at..], number);

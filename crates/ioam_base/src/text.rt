@@ -1,3 +1,4 @@
+//! Texts that are appended whole or not at all.
 ghost use Rattle.std.specs.Prelude.{◌≡◌, ◌++◌, decimal, is_ok, if◌then◌else◌};
 
 use crate::memory::NoMemory;
