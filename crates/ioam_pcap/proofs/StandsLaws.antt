@@ -1,7 +1,9 @@
 -- What a reader stands for after a piece or a step.
 use Rattle.std.proofs.Common.{◌≡◌, ℕ, ◌+◌, ◌*◌, ◌-◌, ◌≤◌, ◌<◌, List, [], ◌∷◌, ◌++◌, length, take, drop, Option, Some, None, arith, refl, sym, ap, ◌∙◌, subst, length-drop, length-take-le, length-append, inl, inr}
 use Rattle.std.specs.Option.{IsSome}
-use Rattle.std.proofs.lemmas.List.{append-nil, drop-drop, drop-append-le, take_rest}
+use Rattle.std.proofs.lemmas.List.{append-nil, drop-drop, drop-append-le}
+use Rattle.ioam_base.specs.Fed.{Kept, passed, with_piece}
+use Rattle.ioam_base.proofs.FedLaws.{last_taken}
 use Rattle.ioam_base.proofs.LeadsLaws.{Leads-push}
 use Rattle.ioam_pcap.specs.declared.form.Form.{Form}
 use Rattle.ioam_pcap.specs.declared.form.Link.{Link}
@@ -146,30 +148,29 @@ module _ (old new : Reading) (form : Form) (read : old.form ≡ Some form) (whol
         reached = subst R (sym form_is) (reached.0, rw (next, same) pushed);
       }
 
--- the octets from the first that was not taken, as a slice of the buffer
-pub rest_of_buffer : (buffer items : List ℕ) (taken : ℕ) → buffer ≡ items → take (length buffer - taken) (drop taken buffer) ≡ drop taken items
-rest_of_buffer buffer items taken same = take_rest buffer taken ∙ ap (drop taken) same
+-- the reader's value where a piece more was fed
+pub fed_with : (kept new : Kept) (form : Option Form) (old : Reading) (piece : List ℕ)
+    → ◌≡◌ {A = Reading} (record { form = form; start = kept.start; pending = kept.pending }) old → new ≡ with_piece piece kept
+    → ◌≡◌ {A = Reading} (record old { pending = old.pending ++ piece }) (record { form = form; start = new.start; pending = new.pending })
+fed_with kept new form old piece view fed =
+    sym (ap (λ (k : Kept). record { form = form; start = k.start; pending = k.pending }) fed ∙ ap (λ (r : Reading). record r { pending = r.pending ++ piece }) view)
 
--- a record's octets, as a slice of the buffer
-pub octets_of_record : (buffer items : List ℕ) (taken size : ℕ) → buffer ≡ items
-    → take (taken + 16 + size - (taken + 16)) (drop (taken + 16) buffer) ≡ take size (drop 16 (drop taken items))
-octets_of_record buffer items taken size same =
-    let count : taken + 16 + size - (taken + 16) ≡ size = omega arith in
-    let rest : drop (taken + 16) buffer ≡ drop 16 (drop taken items) = ap (drop (taken + 16)) same ∙ sym (drop-drop 16 taken items) in
-    rw (count, rest)
-
--- the reader's value behind as many octets more of its buffer
-pub moved_by : (items : List ℕ) (taken start size behind_taken behind_start : ℕ) (form : Option Form) (old : Reading)
-    → ◌≡◌ {A = Reading} (record { form = form; start = start; pending = drop taken items }) old
-    → behind_taken ≡ taken + size → behind_start ≡ start + size
-    → ◌≡◌ {A = Reading} (record { form = form; start = behind_start; pending = drop behind_taken items })
+-- and where so many octets were taken
+pub moved_by : (kept new : Kept) (form : Option Form) (old : Reading) (size : ℕ)
+    → ◌≡◌ {A = Reading} (record { form = form; start = kept.start; pending = kept.pending }) old → new ≡ passed size kept
+    → ◌≡◌ {A = Reading} (record { form = form; start = new.start; pending = new.pending })
     (record { form = old.form; start = old.start + size; pending = drop size old.pending })
-moved_by items taken start size behind_taken behind_start form old view there place =
-    let form_is : form ≡ old.form = ap (λ r. r.form) view in
-    let start_is : behind_start ≡ old.start + size = place ∙ ap (λ r. r.start + size) view in
-    let pending_is : drop behind_taken items ≡ drop size old.pending =
-    ap (λ n. drop n items) there ∙ sym (drop-drop size taken items) ∙ ap (λ r. drop size r.pending) view in
-    cc
+moved_by kept new form old size view taken =
+    ap (λ (k : Kept). record { form = form; start = k.start; pending = k.pending }) taken
+    ∙ ap (λ (r : Reading). record { form = r.form; start = r.start + size; pending = drop size r.pending }) view
+
+-- a record's octets, as the last that were taken
+pub octets_of_record : (kept new : Kept) (size : ℕ) → new ≡ passed (16 + size) kept → 16 + size ≤ length kept.pending
+    → drop (length new.given - size) new.given ≡ take size (drop 16 kept.pending)
+octets_of_record kept new size taken fits =
+    let head : 16 + size - size ≡ 16 = omega arith in
+    ap (λ k. drop (length k.given - size) k.given) taken ∙ last_taken kept (16 + size) size fits (omega arith)
+    ∙ ap (λ n. take size (drop n kept.pending)) head
 
 -- the head was read
 pub Stands-head : (old : Reading) (form : Form) → old.form ≡ None → HasHead old.pending form → (octets : List ℕ) (entries : List Entry)

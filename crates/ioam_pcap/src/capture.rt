@@ -1,10 +1,11 @@
+//! Packets of captures, their faults, and what a reader shows.
 ghost use Rattle.std.specs.Prelude.{◌≡◌};
 ghost use Rattle.ioam_pcap.specs.Cut.{is_cut};
 
 use crate::form::Link;
 
-/// The most octets that a record of a capture may have.
-pub const RECORD_MOST: u32 = 262_144;
+/// The most octets of a packet that a capture may have.
+pub const MOST_PACKET: u32 = 262_144;
 
 /// A packet of a capture.
 #[derive(Clone, Copy, Debug)]

@@ -1,7 +1,8 @@
+//! The head of a record.
 ghost use Rattle.std.specs.Prelude.{◌+◌};
 ghost use Rattle.ioam_pcap.specs.Steps.{IsTimely, TellsEntry};
 
-use crate::capture::{CapFault, RECORD_MOST};
+use crate::capture::{CapFault, MOST_PACKET};
 use crate::form::{Form, Fraction};
 use crate::numbers::entry_numbers;
 
@@ -30,7 +31,7 @@ pub fn entry_step(form: Form, octets: &[u8]) -> EntryStep
         return EntryStep::Cut;
     }
     let numbers = entry_numbers(form.order, octets);
-    if numbers.captured > RECORD_MOST {
+    if numbers.captured > MOST_PACKET {
         return EntryStep::Bad(CapFault::RecordLong {
             found: numbers.captured,
         });

@@ -1,5 +1,7 @@
-ghost use Rattle.std.specs.Prelude.{◌≡◌};
-ghost use Rattle.ioam_pcap.specs.Link.{is_ethernet};
+//! What the head of a capture says of its records.
+ghost use Rattle.std.specs.Prelude.{◌≡◌, MatchOption};
+ghost use Rattle.ioam_pcap.specs.Form.{IsLinkType, IsNoLinkType};
+ghost use Rattle.ioam_pcap.specs.Link.{is_ethernet, link_type};
 
 /// The layer that the packets of a capture begin at.
 #[derive(Clone, Copy, Debug, PartialEq, Eq)]
@@ -17,10 +19,24 @@ pub fn is_ethernet(link: Link) -> bool
     matches!(link, Link::Ethernet)
 }
 
+/// The layer that the packets of a link type begin at; None for a type that is not read.
+pub fn link_type(number: u32) -> Option<Link>
+    ensures exact { result ≡ link_type number }
+    ensures says { MatchOption result (IsNoLinkType number) (λ link. IsLinkType number link) }
+{
+    match number {
+        1 => Some(Link::Ethernet),
+        101 | 229 => Some(Link::Raw),
+        _ => None,
+    }
+}
+
 /// The order of the octets of a capture's numbers.
 #[derive(Clone, Copy, Debug)]
 pub enum Order {
+    /// The most significant octet first.
     Big,
+    /// The least significant octet first.
     Little,
 }
 

@@ -1,10 +1,11 @@
+//! The head of a capture.
 ghost use Rattle.std.specs.Prelude.{◌≡◌, MatchOption};
-ghost use Rattle.ioam_pcap.specs.Form.{spelling, IsUnspelled, IsLinkType, IsNoLinkType};
+ghost use Rattle.ioam_pcap.specs.Form.{spelling, IsUnspelled};
 ghost use Rattle.ioam_pcap.specs.Steps.{TellsHead};
 
 use crate::capture::CapFault;
-use crate::form::{Form, Fraction, Link, Order};
-use crate::numbers::link_number;
+use crate::form::{Form, Fraction, Order, link_type};
+use crate::numbers::number_at;
 use ioam_base::octets::u32_at;
 
 /// What the front of a capture shows of its head.
@@ -28,17 +29,6 @@ fn spelled(magic: u32) -> Option<(Order, Fraction)>
     }
 }
 
-// The link of a link type.
-fn link_of(number: u32) -> Option<Link>
-    ensures { MatchOption result (IsNoLinkType number) (λ link. IsLinkType number link) }
-{
-    match number {
-        1 => Some(Link::Ethernet),
-        101 | 229 => Some(Link::Raw),
-        _ => None,
-    }
-}
-
 // What the octets at the front of a capture show of its head.
 pub fn head_step(octets: &[u8]) -> HeadStep
     ensures { TellsHead octets.now result }
@@ -53,8 +43,8 @@ pub fn head_step(octets: &[u8]) -> HeadStep
     if octets.len() < 24 {
         return HeadStep::Cut;
     }
-    let number = link_number(order, octets);
-    match link_of(number) {
+    let number = number_at(order, octets, 20);
+    match link_type(number) {
         Some(link) => HeadStep::Whole(Form {
             order,
             fraction,

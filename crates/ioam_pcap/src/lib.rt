@@ -12,8 +12,9 @@ mod picking;
 mod put;
 mod reader;
 
-pub use capture::{CapFault, CapLook, CapStep, Packet, RECORD_MOST};
-pub use form::{Link, is_ethernet};
+pub use capture::{CapFault, CapLook, CapStep, MOST_PACKET, Packet};
+pub use form::{Link, Order, is_ethernet, link_type};
+pub use numbers::number_at;
 pub use picking::pick;
 pub use put::{put_head, put_record};
 pub use reader::CaptureReader;

@@ -76,13 +76,13 @@ pub fn entry_numbers(order: Order, octets: &[u8]) -> EntryNumbers
     }
 }
 
-// The link type that a head says, in the order of a file.
-pub fn link_number(order: Order, octets: &[u8]) -> u32
-    requires { 24 ≤ length octets.now }
-    ensures { result ≡ number_at order octets.now 20 }
+/// The 32-bit number at a place of the octets, in an order.
+pub fn number_at(order: Order, octets: &[u8], at: usize) -> u32
+    requires { at + 4 ≤ length octets.now }
+    ensures { result ≡ number_at order octets.now at }
 {
     match order {
-        Order::Big => read_at::<BigEndian>(octets, 20),
-        Order::Little => read_at::<LittleEndian>(octets, 20),
+        Order::Big => read_at::<BigEndian>(octets, at),
+        Order::Little => read_at::<LittleEndian>(octets, at),
     }
 }

@@ -1,3 +1,4 @@
+//! The choice of the next packet among several captures.
 ghost use Rattle.std.specs.Prelude.{◌≡◌, ◌+◌, ℕ, List, MatchOption, Option, Some, length, slice_get};
 ghost use Rattle.ioam_pcap.specs.Pick.{IsTimeless, IsLeast, IsBest};
 

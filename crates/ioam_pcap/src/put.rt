@@ -1,3 +1,4 @@
+//! Captures that are written.
 ghost use Rattle.std.specs.Prelude.{◌≡◌, ◌≤◌, ◌++◌, [], All, List, OnOk, Some, length, map, is_ok, if◌then◌else◌};
 ghost use Rattle.ioam_pcap.specs.Entries.{most};
 ghost use Rattle.ioam_pcap.specs.Ending.{Whole};
@@ -5,7 +6,7 @@ ghost use Rattle.ioam_pcap.specs.Reads.{Reads};
 ghost use Rattle.ioam_pcap.specs.Text.{Sent, IsSendable, head_octets, record_head, record_octets, capture_text, entry_sent, with_sent};
 ghost use Rattle.ioam_pcap.specs.declared.form.Link.TheVariants as Link;
 
-use crate::capture::RECORD_MOST;
+use crate::capture::MOST_PACKET;
 use crate::numbers::EntryNumbers;
 use byteorder::BigEndian;
 use ioam_base::memory::NoMemory;
@@ -22,7 +23,7 @@ fn head() -> [u8; 24]
     put_u32_at(&mut head, 0, 0xa1b2_3c4d);
     put_u16_at(&mut head, 4, 2);
     put_u16_at(&mut head, 6, 4);
-    put_u32_at(&mut head, 16, RECORD_MOST);
+    put_u32_at(&mut head, 16, MOST_PACKET);
     put_u32_at(&mut head, 20, 101);
     head
 }

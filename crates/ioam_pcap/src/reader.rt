@@ -1,3 +1,4 @@
+//! A reader of classic captures that is fed in pieces.
 ghost use Rattle.std.specs.Prelude.{◌≡◌, ◌+◌, ◌≤◌, ◌<◌, ◌^◌, ◌++◌, [], List, ℕ, length, drop, IfOk, IsSome, MatchOption, OnErr, OnOk};
 ghost use Rattle.std.specs.Borrow.{sem};
 
@@ -5,39 +6,28 @@ use crate::capture::{CapFault, CapLook, CapStep, Packet};
 use crate::entry::{EntryStep, entry_step};
 use crate::form::{Form, Link};
 use crate::head::{HeadStep, head_step};
+use ioam_base::fed::Fed;
 use ioam_base::memory::NoMemory;
-use ioam_base::octets::drop_front;
 use std::alloc::Global;
 use std::marker::Model;
-
-/// Octets that a reader has room for from the start: a piece as files are read in.
-const ROOM: usize = 65_536;
 
 /// Reads a classic capture file out of any pieces of it.
 ///
 /// It keeps the octets that were fed and not yet taken. Where `next` answers `More` these are fewer
 /// than the 262,160 of the greatest record, so that a reader which is fed only then keeps less than
-/// a record and a piece. Each octet is copied into the buffer once, and moved to its front at most
-/// once.
+/// a record and a piece.
 #[derive(Drop)]
 pub struct CaptureReader {
-    buffer: Vec<u8>,
-    // octets at the front of the buffer that were taken
-    taken: usize,
-    // the place in the capture of the first octet behind these
-    start: u64,
+    octets: Fed,
     form: Option<Form>,
 }
 
 impl Model for CaptureReader {
-    ghost use Rattle.std.specs.Prelude.{◌+◌, ◌-◌, ◌<◌, ◌≤◌, ◌^◌, drop, length};
     ghost use Rattle.ioam_pcap.specs.Reading.{Reading};
 
     ghost Value = { Reading };
 
-    ghost view = { λ r. record { form = r.form; start = r.start; pending = drop r.taken r.buffer.items } };
-
-    ghost invariant = { λ r. (r.taken ≤ length r.buffer.items) × (r.start + (length r.buffer.items - r.taken) < 2 ^ 63) };
+    ghost view = { λ r. record { form = r.form; start = r.octets.start; pending = r.octets.pending } };
 }
 
 impl CaptureReader {
@@ -52,11 +42,8 @@ impl CaptureReader {
         ensures exact { IfOk result (λ reader. reader ≡ fresh) }
         ensures stands { IfOk result (λ reader. Stands reader [] []) }
     {
-        let buffer = Vec::with_capacity(alloc, ROOM)?;
         Ok(CaptureReader {
-            buffer,
-            taken: 0,
-            start: 0,
+            octets: Fed::new(alloc)?,
             form: None,
         })
     }
@@ -65,7 +52,7 @@ impl CaptureReader {
     pub fn fed(&self) -> u64
         ensures { result ≡ fed self.now }
     {
-        self.start + (self.buffer.len() - self.taken) as u64
+        self.octets.fed()
     }
 
     /// The layer that the packets begin at, once the head was read.
@@ -88,48 +75,37 @@ impl CaptureReader {
         ensures faulty { OnOk result (KeepsFault self.old self.new) }
         ensures err { OnErr result (self.new ≡ self.old) }
     {
-        drop_front(&mut self.buffer, self.taken);
-        self.taken = 0;
-        self.buffer.extend_from_slice(piece)?;
-        Ok(())
+        self.octets.feed(piece)
     }
 
     /// The next thing of the capture. After `Bad` every call answers the same.
     pub fn next(&mut self) -> CapStep<'_>
         ensures* { sem 𝓛 (RestsSo self.entry result) }
     {
-        let pending = &self.buffer[self.taken..];
+        let at = self.octets.start();
+        let pending = self.octets.pending();
         match self.form {
             None => match head_step(pending) {
                 HeadStep::Whole(form) => {
                     self.form = Some(form);
-                    self.taken += 24;
-                    self.start += 24;
+                    self.octets.take(24);
                     CapStep::Head { link: form.link }
                 }
                 HeadStep::Cut => CapStep::More,
-                HeadStep::Bad(fault) => CapStep::Bad {
-                    at: self.start,
-                    fault,
-                },
+                HeadStep::Bad(fault) => CapStep::Bad { at, fault },
             },
             Some(form) => match entry_step(form, pending) {
                 EntryStep::Whole(head) => {
-                    let from = self.taken + 16;
-                    let to = from + head.captured as usize;
-                    self.taken = to;
-                    self.start += 16 + u64::from(head.captured);
+                    let captured = head.captured as usize;
+                    self.octets.take(16 + captured);
                     CapStep::Packet(Packet {
                         time: head.time,
                         original: head.original,
-                        octets: &self.buffer[from..to],
+                        octets: self.octets.taken(captured),
                     })
                 }
                 EntryStep::Cut => CapStep::More,
-                EntryStep::Bad(fault) => CapStep::Bad {
-                    at: self.start,
-                    fault,
-                },
+                EntryStep::Bad(fault) => CapStep::Bad { at, fault },
             },
         }
     }
@@ -142,8 +118,8 @@ impl CaptureReader {
         ensures shows { (octets : List ℕ) (entries : List Entry) → Stands self.now octets entries
             → Looks octets self.now result }
     {
-        let pending = &self.buffer[self.taken..];
-        let at = self.start;
+        let at = self.octets.start();
+        let pending = self.octets.pending();
         match self.form {
             None => match head_step(pending) {
                 HeadStep::Whole(form) => CapLook::Head { link: form.link },
@@ -189,10 +165,10 @@ impl CaptureReader {
         ensures reads { (octets : List ℕ) (entries : List Entry) → Stands self.now octets entries
             → Reads octets (link_of self.now) entries (ending_of result) }
     {
-        let have = self.buffer.len() - self.taken;
+        let have = self.octets.pending().len();
         if self.form.is_some() && have == 0 {
             return None;
         }
-        Some((self.start, CapFault::Short { have: have as u32 }))
+        Some((self.octets.start(), CapFault::Short { have: have as u32 }))
     }
 }

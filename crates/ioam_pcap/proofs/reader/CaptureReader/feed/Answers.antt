@@ -1,19 +1,20 @@
-use Rattle.std.proofs.Common.{◌≡◌, ◌++◌, drop, rules, subst}
+use Rattle.std.proofs.Common.{◌++◌, subst}
+use Rattle.std.proofs.lemmas.Result.{on_ok_weaker}
 use Rattle.ioam_pcap.specs.Reading.{Reading}
 use Rattle.ioam_pcap.specs.Reader.{Stands, HasFault}
-use Rattle.ioam_pcap.proofs.StandsLaws.{Stands-feed}
+use Rattle.ioam_pcap.proofs.StandsLaws.{Stands-feed, fed_with}
 use Rattle.ioam_pcap.proofs.BehindLaws.{FaultAt-behind}
 use Rattle.ioam_pcap.proofs.reader.CaptureReader.feed.Goals as goal
 
 pub returns-clause-stands : goal.returns-clause-stands
-returns-clause-stands c = λ octets entries stands.
+returns-clause-stands c = on_ok_weaker c.feed.result (λ fed octets entries stands.
+    let new = fed_with c.self.inside.octets c.feed.new.self c.self.inside.form c.args.self.now c.args.piece.now c.self.view_is fed in
     let Q : Reading → Type 0 = λ r. Stands r (octets ++ c.args.piece.now) entries in
-    subst Q (search rules) (Stands-feed c.args.self.now c.args.piece.now octets entries stands)
+    subst Q new (Stands-feed c.args.self.now c.args.piece.now octets entries stands)) c.feed.ensures.ok
 
 pub returns-clause-faulty : goal.returns-clause-faulty
-returns-clause-faulty c = λ f has.
+returns-clause-faulty c = on_ok_weaker c.feed.result (λ fed f has.
     let old = c.args.self.now in
-    let new : Reading = record { form = c.self.inside.form; start = c.self.inside.start; pending = drop 0 c.extend_from_slice.new.self.items } in
-    let fed : ◌≡◌ {A = Reading} (record old { pending = old.pending ++ c.args.piece.now }) new = search rules in
+    let new = fed_with c.self.inside.octets c.feed.new.self c.self.inside.form old c.args.piece.now c.self.view_is fed in
     let Q : Reading → Type 0 = λ r. HasFault r f in
-    subst Q fed (FaultAt-behind old.pending c.args.piece.now old.form 0 f has)
+    subst Q new (FaultAt-behind old.pending c.args.piece.now old.form 0 f has)) c.feed.ensures.ok
