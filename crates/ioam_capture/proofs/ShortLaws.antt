@@ -8,15 +8,16 @@ use Rattle.std.proofs.lemmas.Option.{none-some, same_Some}
 use Rattle.ioam_pcap.specs.declared.capture.CapFault.{CapFault}
 use Rattle.ioam_pcap.specs.declared.capture.CapFault.TheVariants as fault
 use Rattle.ioam_pcap.specs.declared.form.Link.{Link}
+use Rattle.ioam_pcap.specs.Link.{link_type}
 use Rattle.ioam_pcap.specs.Ending.{Ending}
 use Rattle.ioam_pcap.specs.Entries.{Entry, Taken, IsShort}
 use Rattle.ioam_pcap.proofs.ShortLaws.{Reads-short as classic-short}
 use Rattle.ioam_ng.specs.declared.face.Face.{Face}
-use Rattle.ioam_ng.specs.declared.numbers.Order.{Order}
+use Rattle.ioam_pcap.specs.declared.form.Order.{Order}
 use Rattle.ioam_ng.specs.Checks.{first}
 use Rattle.ioam_ng.specs.Face.{is_resolved, time_of}
 use Rattle.ioam_ng.specs.Front.{order_in, front_fault}
-use Rattle.ioam_ng.specs.Blocks.{Place, CanPass, Blocks, packets, packet_there, behind, is_linked, captured, units, block_checks, block_fault, packet_fault, packet_of, packet_from, packet_at, packet_by, face_number, fault_by, is_whole, size, kind}
+use Rattle.ioam_ng.specs.Blocks.{Place, CanPass, Blocks, packets, packet_there, behind, captured, units, block_checks, block_fault, packet_fault, packet_of, packet_from, packet_at, packet_by, face_number, fault_by, is_whole, size, kind}
 use Rattle.ioam_capture.specs.Reads.{of_link, Reads}
 
 -- a record has no more octets
@@ -48,7 +49,7 @@ module _ (order : Order) (block : List ℕ) where
   face_few None t sound is = absurd (none-some t is)
   face_few (Some face) t sound is =
       let long : nat_lt 262144 (captured order block) ≡ false =
-      no_third (not (is_linked face)) (not (is_resolved face.resolution)) (nat_lt 262144 (captured order block))
+      no_third (is_none (link_type face.kind)) (not (is_resolved face.resolution)) (nat_lt 262144 (captured order block))
       (fault.Link face.kind) (fault.Resolution face.resolution) (fault.RecordLong (captured order block))
       (if is_none (time_of face (units order block)) then Some (fault.Time (units order block)) else None) sound in
       let few : length (take (captured order block) (drop 28 block)) ≤ 262144 =

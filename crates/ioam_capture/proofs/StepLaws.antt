@@ -183,6 +183,7 @@ module _ (old new : ng_reading.Reading) (same : ng_reading.fed new ≡ ng_readin
 abbrev pub NgLeaves : ng_reading.Reading → ng_reading.Reading → NgStep → Type 0
 NgLeaves old new step = ng.Rested new step × (ng_reading.fed new ≡ ng_reading.fed old) × (length new.pending ≤ length old.pending)
     × ((octets : List ℕ) (taken : List Taken) → ng.Stands old octets taken → ng.Told octets taken new step) × ng.SaysFault old new step × ng.SaysPacket old step
+    × ng.StandsBehind old new step
 
 abbrev pub NgGives : ng_reading.Reading → ng_reading.Reading → NgStep → Type 0
 NgGives old new (ng_step.Packet link p) = Leaves (Ng old) (Ng new) (Packet link p)

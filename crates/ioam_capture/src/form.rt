@@ -4,12 +4,9 @@ ghost use Rattle.ioam_capture.specs.Begins.{Begins, begun_classic, begun_ng, is_
 
 use ioam_base::memory::NoMemory;
 use ioam_base::octets::u32_at;
-use ioam_ng::NgReader;
+use ioam_ng::{NgReader, SECTION};
 use ioam_pcap::CaptureReader;
 use std::alloc::Global;
-
-/// The type of a section block, with which a capture of the form pcapng begins.
-const SECTION: u32 = 0x0a0d_0d0a;
 
 /// A capture whose form isn't known yet, or the reader of its form.
 #[derive(Drop)]
@@ -20,7 +17,8 @@ pub(crate) enum Form {
     Ng(NgReader),
 }
 
-// Whether the octets of these two, one behind the other, begin with a section block.
+// Whether the octets of these two, one behind the other, begin with a section block, as a capture in
+// the form pcapng does.
 fn is_section(alloc: Global, held: &[u8], piece: &[u8]) -> Result<bool, NoMemory>
     requires few { length held.now < 4 }
     requires four { 4 ≤ length held.now + length piece.now }

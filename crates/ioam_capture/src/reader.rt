@@ -1,3 +1,4 @@
+//! A reader of captures of either form that is fed in pieces.
 ghost use Rattle.std.specs.Prelude.{◌≡◌, ◌+◌, ◌≤◌, ◌<◌, ◌^◌, ◌++◌, [], List, ℕ, length, IfOk, OnErr, OnOk};
 ghost use Rattle.std.specs.Borrow.{sem};
 ghost use Rattle.ioam_pcap.specs.declared.capture.CapFault.TheVariants.{Short};

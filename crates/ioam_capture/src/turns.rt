@@ -1,3 +1,4 @@
+//! What is due of several captures, and which comes next.
 ghost use Rattle.std.specs.Prelude.{◌≡◌};
 ghost use Rattle.ioam_capture.specs.Turn.{IsTurn, ahead, turn_of};
 

@@ -1,6 +1,7 @@
 pub mod NumbersLaws
 pub mod FaceLaws
 pub mod OptionLaws
+pub mod ItemLaws
 pub mod BlockLaws
 pub mod ReadsLaws
 pub mod StandsLaws

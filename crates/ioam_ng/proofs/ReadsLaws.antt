@@ -8,7 +8,7 @@ use Rattle.std.proofs.lemmas.List.{drop-append-le, take-append-le}
 use Rattle.ioam_base.specs.Octets.{u32_at}
 use Rattle.ioam_base.proofs.OctetsLaws.{u32_at-append}
 use Rattle.ioam_base.proofs.LeadsLaws.{Leads-unique}
-use Rattle.ioam_ng.specs.declared.numbers.Order.{Order}
+use Rattle.ioam_pcap.specs.declared.form.Order.{Order}
 use Rattle.ioam_pcap.specs.declared.capture.CapFault.{CapFault}
 use Rattle.ioam_pcap.specs.declared.capture.CapFault.TheVariants as fault
 use Rattle.ioam_ng.specs.Numbers.{order_said}

@@ -7,11 +7,12 @@ use Rattle.ioam_pcap.specs.declared.capture.CapFault.{CapFault}
 use Rattle.ioam_pcap.specs.declared.capture.CapFault.TheVariants as fault
 use Rattle.ioam_pcap.specs.Ending.{stays}
 use Rattle.ioam_ng.specs.declared.face.Face.{Face}
-use Rattle.ioam_ng.specs.declared.numbers.Order.{Order}
+use Rattle.ioam_pcap.specs.declared.form.Order.{Order}
 use Rattle.ioam_ng.specs.Checks.{first}
 use Rattle.ioam_ng.specs.Face.{is_resolved, time_of}
 use Rattle.ioam_ng.specs.Front.{is_front, order_in, kind_in, size_in, least_size, is_alien, front_checks, front_fault}
-use Rattle.ioam_ng.specs.Blocks.{Place, is_linked, face_number, units, captured, is_passed, trail, packet_fault, block_checks, block_fault, fault_by, is_whole, size, kind}
+use Rattle.ioam_pcap.specs.Link.{link_type}
+use Rattle.ioam_ng.specs.Blocks.{Place, face_number, units, captured, is_passed, trail, packet_fault, block_checks, block_fault, fault_by, is_whole, size, kind}
 use Rattle.ioam_ng.specs.Reads.{HasFault}
 
 -- where there is a fault, it stays
@@ -41,7 +42,7 @@ of_front count known octets = checked (is_alien known octets) (fault.Magic (u32_
 
 of_packet : (o : Order) (block : List ℕ) (face : Option Face) → StaysIn (packet_fault o block face)
 of_packet o block None = refl
-of_packet o block (Some face) = checked (not (is_linked face)) (fault.Link face.kind) _ refl
+of_packet o block (Some face) = checked (is_none (link_type face.kind)) (fault.Link face.kind) _ refl
     (checked (not (is_resolved face.resolution)) (fault.Resolution face.resolution) _ refl
     (checked (nat_lt 262144 (captured o block)) (fault.RecordLong (captured o block)) _ refl
     (checked (is_none (time_of face (units o block))) (fault.Time (units o block)) None refl tt)))

@@ -1,11 +1,14 @@
 -- What a reader stands for after a piece or a step.
 use Rattle.std.proofs.Common.{◌≡◌, ℕ, ◌+◌, ◌-◌, ◌<◌, ◌≤◌, List, [], ◌∷◌, ◌++◌, length, take, drop, Option, Some, None, arith, refl, sym, ap, ◌∙◌, subst, inl, length-append, length-drop, length-take, ◌^◌}
-use Rattle.std.proofs.lemmas.List.{append-nil, drop-drop}
+use Rattle.std.proofs.lemmas.List.{append-nil, take-take}
+use Rattle.ioam_base.specs.Fed.{Kept, passed, with_piece}
+use Rattle.ioam_base.proofs.FedLaws.{last_taken}
+use Rattle.ioam_ng.specs.Front.{Known}
 use Rattle.ioam_base.proofs.LeadsLaws.{Leads-push, Leads-append}
 use Rattle.ioam_pcap.specs.declared.capture.CapFault.{CapFault}
 use Rattle.ioam_ng.specs.declared.reader.NgStep.{NgStep}
 use Rattle.ioam_ng.specs.declared.reader.NgStep.TheVariants.{More, Bad, NoMemory}
-use Rattle.ioam_ng.specs.declared.numbers.Order.{Order}
+use Rattle.ioam_pcap.specs.declared.form.Order.{Order}
 use Rattle.ioam_ng.specs.declared.face.Face.{Face}
 use Rattle.ioam_ng.specs.declared.block.Block.{Block}
 use Rattle.ioam_ng.specs.declared.block.PacketHead.{PacketHead}
@@ -16,7 +19,7 @@ use Rattle.ioam_pcap.specs.Entries.{Taken}
 use Rattle.ioam_ng.specs.Reading.{Reading, place_of, fed}
 use Rattle.ioam_pcap.specs.Ending.{Faulty}
 use Rattle.ioam_ng.specs.Reads.{Reads, CapNg}
-use Rattle.ioam_ng.specs.Reader.{Stands, Skips, Waits, HoldsFew, IsFaulty, IsPlain, IsFace, HasPacket, Rested, Told, SaysFault, SaysPacket, EndsFaulty, IsPacket, moved_by, faces_with}
+use Rattle.ioam_ng.specs.Reader.{StandsBehind, Stands, Skips, Waits, HoldsFew, IsFaulty, IsPlain, IsFace, HasPacket, Rested, Told, SaysFault, SaysPacket, EndsFaulty, IsPacket, moved_by, faces_with}
 use Rattle.ioam_ng.proofs.ReadsLaws.{with_more, Blocks-behind, HasFault-behind, fault_stops, cut_stops, cut_sound, fault_unique, Reads-unique}
 
 pub packets-append : (xs ys : List (Option Taken)) → packets (xs ++ ys) ≡ packets xs ++ packets ys
@@ -132,7 +135,7 @@ module _ (old mid new : Reading) (skips : Skips old mid) where
   -- what a step tells that has no packet
   abbrev pub Tells : NgStep → Type 0
   Tells step = Rested new step × (fed new ≡ fed old) × (length new.pending ≤ length old.pending)
-      × ((octets : List ℕ) (taken : List Taken) → Stands old octets taken → Told octets taken new step) × SaysFault old new step × SaysPacket old step
+      × ((octets : List ℕ) (taken : List Taken) → Stands old octets taken → Told octets taken new step) × SaysFault old new step × SaysPacket old step × StandsBehind old new step
 
   module _ (same : new ≡ mid) where
     fed_same : fed new ≡ fed old
@@ -146,6 +149,9 @@ module _ (old mid new : Reading) (skips : Skips old mid) where
 
     kept : length new.pending ≤ length old.pending
     kept = omega (arith, Skips-kept old mid skips, ap (λ r. length r.pending) same)
+
+    skipped : Skips old new
+    skipped = let Q : Reading → Type 0 = λ r. Skips old r in subst Q (sym same) skips
 
     unended : (f : CapFault) → IsFaulty old f → IsFaulty mid f
     unended f bad = let Q : Reading → Type 0 = λ r. IsFaulty r f in subst Q (sym (skips_fault old mid skips f bad)) bad
@@ -164,6 +170,7 @@ module _ (old mid new : Reading) (skips : Skips old mid) where
           ),
           λ f bad. absurd (cut_sound (place_of mid) f waits (unended f bad)),
           λ packet has. absurd (cut_stops (place_of mid) waits (packet_due old mid skips packet has).0),
+          skipped,
         )
 
     pub tells_bad : (at : ℕ) (f : CapFault) → at ≡ mid.start → IsFaulty mid f → Tells (Bad at f)
@@ -188,6 +195,7 @@ module _ (old mid new : Reading) (skips : Skips old mid) where
               let places : at ≡ old.start = here ∙ ap (λ r. r.start) still in
               (λ i. Bad (places i) (faults i), same ∙ still),
           λ packet has. absurd (fault_stops (place_of mid) f bad (packet_due old mid skips packet has).0),
+          skipped,
         )
 
     pub tells_memory : IsFace mid → Tells NoMemory
@@ -201,32 +209,41 @@ module _ (old mid new : Reading) (skips : Skips old mid) where
           λ packet has.
               let wrong : ◌≡◌ {A = Option Taken} None (Some packet) = sym plain.0.1 ∙ (packet_due old mid skips packet has).1 in
               absurd (cc),
+          skipped,
         )
 
 -- ---- a packet
 
--- the octets from the first that was not taken, as a slice of the buffer, and those of a packet
-pub octets_of_packet : (buffer items : List ℕ) (taken size : ℕ) → buffer ≡ items
-    → take (taken + 28 + size - (taken + 28)) (drop (taken + 28) buffer) ≡ take size (drop 28 (drop taken items))
-octets_of_packet buffer items taken size same =
-    let count : taken + 28 + size - (taken + 28) ≡ size = omega arith in
-    let rest : drop (taken + 28) buffer ≡ drop 28 (drop taken items) = ap (drop (taken + 28)) same ∙ sym (drop-drop 28 taken items) in
-    rw (count, rest)
+-- the octets of a packet, as the last that were taken
+pub octets_of_packet : (held new : Kept) (size captured : ℕ) → new ≡ passed size held → size ≤ length held.pending → 32 + captured ≤ size
+    → take captured (drop (length new.given - (size - 28)) new.given) ≡ take captured (drop 28 held.pending)
+octets_of_packet held new size captured taken fits few =
+    let front : size - (size - 28) ≡ 28 = omega arith in
+    let last = ap (λ k. drop (length k.given - (size - 28)) k.given) taken ∙ last_taken held size (size - 28) fits (omega arith)
+    ∙ ap (λ n. take (size - 28) (drop n held.pending)) front in
+    ap (take captured) last ∙ take-take captured (size - 28) (drop 28 held.pending) (omega arith)
 
--- the reader's value behind the block of a packet
-pub moved_packet : (items : List ℕ) (taken start count added : ℕ) (order : Option Order) (faces : List Face) (mid : Reading) (b : Block) (head : PacketHead)
-    → ◌≡◌ {A = Reading} (record { known = record { count = count; order = order; faces = faces }; start = start; pending = drop taken items }) mid
-    → b.content ≡ content.Packet head → added ≡ b.size
-    → ◌≡◌ {A = Reading} (record { known = record { count = count + 1; order = Some b.order; faces = faces }; start = start + added; pending = drop (taken + b.size) items })
+-- the reader's value where a piece more was fed
+pub fed_with : (held new : Kept) (known : Known) (old : Reading) (piece : List ℕ)
+    → ◌≡◌ {A = Reading} (record { known = known; start = held.start; pending = held.pending }) old → new ≡ with_piece piece held
+    → ◌≡◌ {A = Reading} (record old { pending = old.pending ++ piece }) (record { known = known; start = new.start; pending = new.pending })
+fed_with held new known old piece view fed =
+    sym (ap (λ (k : Kept). record { known = known; start = k.start; pending = k.pending }) fed ∙ ap (λ (r : Reading). record r { pending = r.pending ++ piece }) view)
+
+-- and behind the block of a packet
+pub moved_packet : (held new : Kept) (count : ℕ) (order : Option Order) (faces : List Face) (mid : Reading) (b : Block) (head : PacketHead)
+    → ◌≡◌ {A = Reading} (record { known = record { count = count; order = order; faces = faces }; start = held.start; pending = held.pending }) mid
+    → b.content ≡ content.Packet head → new ≡ passed b.size held
+    → ◌≡◌ {A = Reading} (record { known = record { count = count + 1; order = Some b.order; faces = faces }; start = new.start; pending = new.pending })
     (moved_by mid b)
-moved_packet items taken start count added order faces mid b head view is size =
-    let rest : drop (taken + b.size) items ≡ drop b.size mid.pending = sym (drop-drop b.size taken items) ∙ ap (λ r. drop b.size r.pending) view in
-    let kept : faces ≡ faces_with mid.known.faces b.content = ap (λ r. r.known.faces) view ∙ sym (ap (faces_with mid.known.faces) is) in
-    λ i. record {
-      known = record { count = (view i).known.count + 1; order = Some b.order; faces = kept i };
-      start = (view i).start + size i;
-      pending = rest i;
-    }
+moved_packet held new count order faces mid b head view is taken =
+    let same : faces ≡ faces_with mid.known.faces b.content = ap (λ r. r.known.faces) view ∙ sym (ap (faces_with mid.known.faces) is) in
+    ap (λ (k : Kept). record { known = record { count = count + 1; order = Some b.order; faces = faces }; start = k.start; pending = k.pending }) taken
+    ∙ (λ i. record {
+      known = record { count = (view i).known.count + 1; order = Some b.order; faces = same i };
+      start = (view i).start + b.size;
+      pending = drop b.size (view i).pending;
+    })
 
 -- what a step tells that has a packet
 pub packet_told : (old mid new : Reading) → Skips old mid → (b : Block) (head : PacketHead) → IsPacket mid b (content.Packet head) → new ≡ moved_by mid b
@@ -235,6 +252,7 @@ pub packet_told : (old mid new : Reading) → Skips old mid → (b : Block) (hea
     × ((all : List ℕ) (taken : List Taken) → Stands old all taken → Stands new all (taken ++ taken_of head octets ∷ []))
     × ((step : NgStep) → SaysFault old new step)
     × ((packet : Taken) → HasPacket old packet → taken_of head octets ∷ [] ≡ packet ∷ [])
+    × ((before : Reading) × Skips old before × HasPacket before (taken_of head octets) × (place_of new ≡ behind (place_of before)))
 packet_told old mid new skips b head is moved octets shown =
     let same : fed new ≡ fed mid = ap fed moved ∙ (omega (arith, is.3, length-drop b.size mid.pending)) in
     let there = is.1 ∙ ap (λ xs. Some (taken_of head xs)) (sym shown) in (
@@ -248,4 +266,5 @@ packet_told old mid new skips b head is moved octets shown =
       λ packet has.
           let both : ◌≡◌ {A = Option Taken} (Some (taken_of head octets)) (Some packet) = sym there ∙ (packet_due old mid skips packet has).1 in
           ap (λ x. x ∷ []) (cc),
+      (mid, skips, (is.0, there), ap place_of moved ∙ is.2),
     )

@@ -12,13 +12,14 @@ use Rattle.ioam_base.specs.Words.{four_octets}
 use Rattle.ioam_base.proofs.LeadsLaws.{Leads-append}
 use Rattle.ioam_pcap.specs.declared.form.Link.{Link}
 use Rattle.ioam_pcap.specs.declared.form.Link.TheVariants.{Ethernet, Raw}
+use Rattle.ioam_pcap.specs.Link.{link_type}
 use Rattle.ioam_ng.specs.declared.face.Face.{Face}
 use Rattle.ioam_pcap.specs.declared.capture.CapFault.TheVariants as fault
-use Rattle.ioam_ng.specs.declared.numbers.Order.TheVariants.{Big}
+use Rattle.ioam_pcap.specs.declared.form.Order.TheVariants.{Big}
 use Rattle.ioam_ng.specs.Face.{time_of, time_between}
 use Rattle.ioam_ng.specs.Checks.{first}
 use Rattle.ioam_ng.specs.Front.{Known, is_front, front_fault}
-use Rattle.ioam_ng.specs.Blocks.{Place, CanPass, packet_there, behind, Blocks, packets, front, fault_in, is_whole, packet_in, block_fault, packet_fault, packet_of, packet_from, packet_checks, block_checks, is_linked, link_of, units, trail}
+use Rattle.ioam_ng.specs.Blocks.{Place, CanPass, packet_there, behind, Blocks, packets, front, fault_in, is_whole, packet_in, block_fault, packet_fault, packet_of, packet_from, packet_checks, block_checks, link_of, units, trail}
 use Rattle.ioam_pcap.specs.Entries.{Taken}
 use Rattle.ioam_pcap.specs.Ending.{Whole}
 use Rattle.ioam_ng.specs.Reads.{Reads}
@@ -60,7 +61,7 @@ face_there : (link : Link) → slice_get faces (face_for link) ≡ Some (face_of
 face_there Raw = refl
 face_there Ethernet = refl
 
-face_linked : (link : Link) → is_linked (face_of_kind (kind_for link)) ≡ true
+face_linked : (link : Link) → is_none (link_type (face_of_kind (kind_for link)).kind) ≡ false
 face_linked Raw = refl
 face_linked Ethernet = refl
 
@@ -198,7 +199,7 @@ module _ (p : Taken) (fits : IsSendable p) where
     recorded = le-ltb 262144 (u32_at block 20) (omega (arith, captured_read, fits.0))
 
     packet_checked : first (packet_checks Big block (face_of_kind (kind_for p.link))) ≡ None
-    packet_checked = λ i. if not (face_linked p.link i) then Some (fault.Link (kind_for p.link)) else
+    packet_checked = λ i. if face_linked p.link i then Some (fault.Link (kind_for p.link)) else
         if recorded i then Some (fault.RecordLong (u32_at block 20)) else
         if is_none (time_got i) then Some (fault.Time (units Big block)) else None
 

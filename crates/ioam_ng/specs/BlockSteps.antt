@@ -1,7 +1,7 @@
 -- What a step over a whole block, or over the octets where a block is due, tells of it.
 use Rattle.std.specs.Prelude.{◌≡◌, ◌==◌, ℕ, ◌+◌, ◌≤◌, ◌<◌, ◌^◌, List, [], ◌∷◌, ◌++◌, true, false, length, take, drop, slice_get, Option, Some, None, Result, Ok, Err}
 use Rattle.ioam_ng.specs.declared.face.Face.{Face}
-use Rattle.ioam_ng.specs.declared.numbers.Order.{Order}
+use Rattle.ioam_pcap.specs.declared.form.Order.{Order}
 use Rattle.ioam_pcap.specs.declared.capture.CapFault.{CapFault}
 use Rattle.ioam_ng.specs.declared.block.Body.{Body}
 use Rattle.ioam_ng.specs.declared.block.Body.TheVariants as body
@@ -13,7 +13,7 @@ use Rattle.ioam_ng.specs.declared.block.BlockStep.TheVariants as step
 use Rattle.ioam_ng.specs.declared.block.Block.{Block}
 use Rattle.ioam_ng.specs.Checks.{first}
 use Rattle.ioam_ng.specs.Face.{time_of}
-use Rattle.ioam_ng.specs.Numbers.{number_at}
+use Rattle.ioam_pcap.specs.Form.{number_at}
 use Rattle.ioam_ng.specs.Front.{Known}
 use Rattle.ioam_ng.specs.Blocks.{face_at, face_number, units, captured, is_passed, packet_checks, packet_fault, block_fault, link_of, fault_in, is_whole, size, kind, packet_in, known_behind}
 use Rattle.ioam_pcap.specs.Entries.{Taken}

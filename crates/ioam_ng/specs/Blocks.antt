@@ -4,23 +4,23 @@ use Rattle.std.specs.Prelude.{◌≡◌, ℕ, ◌+◌, ◌-◌, ◌*◌, List, [
 use Rattle.std.specs.Option.{option_or}
 use Rattle.ioam_base.specs.Leads.{Leads}
 use Rattle.ioam_pcap.specs.declared.form.Link.{Link}
-use Rattle.ioam_pcap.specs.declared.form.Link.TheVariants.{Ethernet, Raw}
+use Rattle.ioam_pcap.specs.declared.form.Link.TheVariants.{Raw}
+use Rattle.ioam_pcap.specs.Link.{link_type}
 use Rattle.ioam_pcap.specs.Entries.{Taken}
 use Rattle.ioam_ng.specs.declared.face.Face.{Face}
-use Rattle.ioam_ng.specs.declared.numbers.Order.{Order}
+use Rattle.ioam_pcap.specs.declared.form.Order.{Order}
 use Rattle.ioam_pcap.specs.declared.capture.CapFault.{CapFault}
 use Rattle.ioam_pcap.specs.declared.capture.CapFault.TheVariants as fault
-use Rattle.ioam_ng.specs.Numbers.{short_at, number_at}
-use Rattle.ioam_ng.specs.Face.{face_in, is_resolved, time_of}
+use Rattle.ioam_pcap.specs.Form.{number_at}
+use Rattle.ioam_ng.specs.Numbers.{short_at}
+use Rattle.ioam_ng.specs.Options.{Item, HasItems, PassesBody}
+use Rattle.ioam_ng.specs.Face.{face_in, face_of, is_resolved, time_of}
 use Rattle.ioam_ng.specs.Checks.{Check, first}
 use Rattle.ioam_ng.specs.Front.{Known, is_front, order_in, kind_in, size_in, front_fault}
 
--- the link types of interfaces that are read: Ethernet, and IP of either version or of version 6 alone
-abbrev pub is_linked : Face → Bool
-is_linked face = (face.kind == 1) || (face.kind == 101) || (face.kind == 229)
-
+-- the layer that the packets of an interface begin at, where its link type is one that is read
 abbrev pub link_of : Face → Link
-link_of face = if face.kind == 1 then Ethernet else Raw
+link_of face = unwrap_or (link_type face.kind) Raw
 
 -- ---- a whole block, in the order of its section
 
@@ -31,6 +31,15 @@ module _ (order : Order) (block : List ℕ) where
 
   abbrev pub face_at : Option Face
   face_at = face_in order (short_at order block 8) face_options
+
+  -- the same as a relation: its options are these, up to their end, and they say this
+  abbrev pub SaysFace : Face → Type 0
+  SaysFace face = (items : List Item) × HasItems order face_options items × (face ≡ face_of order (short_at order block 8) items)
+
+  -- it is this interface and no other, or an option passes the body and it is none
+  abbrev pub TellsFace : Option Face → Type 0
+  TellsFace None = PassesBody order face_options × ((face : Face) → SaysFace face → ⊥)
+  TellsFace (Some face) = SaysFace face × ((other : Face) → SaysFace other → other ≡ face)
 
   -- a packet block: its interface, its time in units in two halves, the captured and the original
   -- length, and the captured octets
@@ -54,7 +63,7 @@ module _ (order : Order) (block : List ℕ) where
   -- what is looked for in a packet of an interface, in this order
   abbrev pub packet_checks : Face → List Check
   packet_checks face =
-      record { is = not (is_linked face); fault = fault.Link face.kind }
+      record { is = is_none (link_type face.kind); fault = fault.Link face.kind }
       ∷ record { is = not (is_resolved face.resolution); fault = fault.Resolution face.resolution }
       ∷ record { is = nat_lt 262144 captured; fault = fault.RecordLong captured }
       ∷ record { is = is_none (time_of face units); fault = fault.Time units }

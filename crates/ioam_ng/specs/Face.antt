@@ -1,7 +1,7 @@
 -- An interface, and the time of its packets.
 use Rattle.std.specs.Prelude.{ℕ, ◌+◌, ◌-◌, ◌*◌, ◌/◌, ◌^◌, List, Bool, ◌&&◌, ◌||◌, nat_lt, nat_le, if◌then◌else◌, Option, Some, None, option_map, unwrap_or}
 use Rattle.std.specs.Option.{option_or}
-use Rattle.ioam_ng.specs.declared.numbers.Order.{Order}
+use Rattle.ioam_pcap.specs.declared.form.Order.{Order}
 use Rattle.ioam_ng.specs.declared.face.Face.{Face}
 use Rattle.ioam_ng.specs.Options.{Item, items_in, resolution_in, offset_in}
 

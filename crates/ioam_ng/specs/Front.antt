@@ -3,10 +3,11 @@
 use Rattle.std.specs.Prelude.{ℕ, ◌%◌, List, [], ◌∷◌, Bool, not, ◌==◌, ◌&&◌, ◌||◌, nat_lt, nat_le, is_none, if◌then◌else◌, length, Option, Some, None}
 use Rattle.ioam_base.specs.Octets.{u32_at}
 use Rattle.ioam_ng.specs.declared.face.Face.{Face}
-use Rattle.ioam_ng.specs.declared.numbers.Order.{Order}
+use Rattle.ioam_pcap.specs.declared.form.Order.{Order}
 use Rattle.ioam_pcap.specs.declared.capture.CapFault.{CapFault}
 use Rattle.ioam_pcap.specs.declared.capture.CapFault.TheVariants as fault
-use Rattle.ioam_ng.specs.Numbers.{number_at, order_said}
+use Rattle.ioam_pcap.specs.Form.{number_at}
+use Rattle.ioam_ng.specs.Numbers.{order_said}
 use Rattle.ioam_ng.specs.Checks.{Check, first}
 
 -- What is known where a block is due: how many blocks stand in front of it, the order of octets of

@@ -1,19 +1,14 @@
 -- The numbers of a block, in the order of octets of its section.
 use Rattle.std.specs.Prelude.{ℕ, ◌+◌, ◌*◌, List, Option, Some, None, slice_index, ◌==◌, if◌then◌else◌}
-use Rattle.ioam_base.specs.Octets.{u16_at, u32_at}
-use Rattle.ioam_ng.specs.declared.numbers.Order.{Order}
-use Rattle.ioam_ng.specs.declared.numbers.Order.TheVariants.{Big, Little}
+use Rattle.ioam_base.specs.Octets.{u16_at}
+use Rattle.ioam_pcap.specs.Form.{number_at}
+use Rattle.ioam_pcap.specs.declared.form.Order.{Order}
+use Rattle.ioam_pcap.specs.declared.form.Order.TheVariants.{Big, Little}
 
 -- the 16-bit number at a place; past the end an octet reads 0
 abbrev pub short_at : Order → List ℕ → ℕ → ℕ
 short_at Big octets at = u16_at octets at
 short_at Little octets at = slice_index octets at + slice_index octets (at + 1) * 256
-
--- the 32-bit number at a place
-abbrev pub number_at : Order → List ℕ → ℕ → ℕ
-number_at Big octets at = u32_at octets at
-number_at Little octets at = slice_index octets at + slice_index octets (at + 1) * 256
-    + slice_index octets (at + 2) * 65536 + slice_index octets (at + 3) * 16777216
 
 -- the 64-bit number at a place
 abbrev pub long_at : Order → List ℕ → ℕ → ℕ

@@ -1,7 +1,8 @@
 -- The options of an interface block. An option is a code and a length, 16 bits each, and a value of
 -- that length, padded to a multiple of four octets; the code 0 ends them.
-use Rattle.std.specs.Prelude.{ℕ, zero, suc, ◌+◌, ◌*◌, ◌/◌, List, [], ◌∷◌, Bool, ◌==◌, ◌||◌, ◌&&◌, nat_lt, if◌then◌else◌, length, slice_index, take, drop, Option, Some, None, option_map}
-use Rattle.ioam_ng.specs.declared.numbers.Order.{Order}
+use Rattle.std.specs.Prelude.{◌≡◌, ℕ, zero, suc, ◌+◌, ◌*◌, ◌/◌, List, [], ◌∷◌, Bool, true, false, ◌==◌, ◌||◌, ◌&&◌, nat_lt, if◌then◌else◌, length, slice_index, take, drop, Option, Some, None, option_map}
+use Rattle.ioam_pcap.specs.declared.form.Order.{Order}
+use Rattle.ioam_base.specs.Leads.{Leads}
 use Rattle.ioam_ng.specs.Numbers.{short_at, long_at}
 
 -- an option: its code and its value, without the padding
@@ -25,13 +26,28 @@ module _ (order : Order) where
   abbrev pub item_in : List ℕ → Item
   item_in octets = record { code = short_at order octets 0; value = take (short_at order octets 2) (drop 4 octets) }
 
-  -- the options that stand one behind the other, up to their end; None where one of them passes the
-  -- body. Each takes four octets or more, so that as many steps as there are octets reach the end.
+  -- a whole option stands at the front
+  abbrev pub IsItem : List ℕ → Type 0
+  IsItem octets = (is_end octets ≡ false) × (is_past octets ≡ false)
+
+  abbrev pub behind : List ℕ → List ℕ
+  behind octets = drop (item_size octets) octets
+
+  -- exactly these options stand one behind the other, up to their end
+  abbrev pub HasItems : List ℕ → List Item → Type 0
+  HasItems octets items = (rest : List ℕ) × Leads IsItem item_in behind octets items rest × (is_end rest ≡ true)
+
+  -- behind whole options stands one that passes the body
+  abbrev pub PassesBody : List ℕ → Type 0
+  PassesBody octets = (items : List Item) × (rest : List ℕ) × Leads IsItem item_in behind octets items rest × (is_end rest ≡ false) × (is_past rest ≡ true)
+
+  -- The same as a function (a law): each option takes four octets or more, so that as many steps as
+  -- there are octets reach the end.
   abbrev pub items_by : ℕ → List ℕ → Option (List Item)
   items_by zero octets = Some []
   items_by (suc steps) octets = if is_end octets then Some []
       else if is_past octets then None
-      else option_map (λ items. item_in octets ∷ items) (items_by steps (drop (item_size octets) octets))
+      else option_map (λ items. item_in octets ∷ items) (items_by steps (behind octets))
 
   abbrev pub items_in : List ℕ → Option (List Item)
   items_in octets = items_by (length octets) octets

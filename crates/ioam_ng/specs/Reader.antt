@@ -3,6 +3,8 @@ use Rattle.std.specs.Prelude.{◌≡◌, ⊤, ℕ, ◌+◌, ◌<◌, ◌≤◌, 
 use Rattle.std.specs.Io.BufRead.{Rests}
 use Rattle.std.specs.Borrow.{Fml, MutBor}
 use Rattle.ioam_ng.specs.declared.face.Face.{Face}
+use Rattle.ioam_pcap.specs.declared.form.Link.{Link}
+use Rattle.ioam_pcap.specs.declared.capture.Packet as packet
 use Rattle.ioam_pcap.specs.declared.capture.CapFault.{CapFault}
 use Rattle.ioam_ng.specs.declared.block.Block.{Block}
 use Rattle.ioam_ng.specs.declared.block.Content.{Content}
@@ -122,8 +124,11 @@ Steps old new (found.Bad fault) = (new ≡ old) × IsDue old (found.Bad fault)
 Steps old new found.NoMemory = (new ≡ old) × IsDue old found.NoMemory
 
 -- what a packet shows of its block
+abbrev pub shown_of : Link → packet.Packet → Taken
+shown_of link p = record { link = link; entry = record { time = p.time; original = p.original; octets = p.octets.now } }
+
 abbrev pub packet_shown : NgStep → List Taken
-packet_shown (Packet link p) = record { link = link; entry = record { time = p.time; original = p.original; octets = p.octets.now } } ∷ []
+packet_shown (Packet link p) = shown_of link p ∷ []
 packet_shown More = []
 packet_shown (Bad at fault) = []
 packet_shown NoMemory = []
@@ -161,9 +166,17 @@ SaysFault old new step = (fault : CapFault) → IsFaulty old fault → (step ≡
 abbrev pub SaysPacket : Reading → NgStep → Type 0
 SaysPacket old step = (packet : Taken) → HasPacket old packet → packet_shown step ≡ packet ∷ []
 
+-- behind a packet the reader stands directly behind its block, and behind any other step where the
+-- block is due of which it says so; all that stands before is blocks without a packet
+abbrev pub StandsBehind : Reading → Reading → NgStep → Type 0
+StandsBehind old new (Packet link p) = (mid : Reading) × Skips old mid × HasPacket mid (shown_of link p) × (place_of new ≡ behind (place_of mid))
+StandsBehind old new More = Skips old new
+StandsBehind old new (Bad at fault) = Skips old new
+StandsBehind old new NoMemory = Skips old new
+
 -- so the reader is once the step's octets are no longer lent
 abbrev pub RestsSo : MutBor Reading → NgStep → Fml
 RestsSo reader step = Rests the_row reader (λ new. Rested new step × (fed new ≡ fed reader.now)
     × (length new.pending ≤ length reader.now.pending)
     × ((octets : List ℕ) (taken : List Taken) → Stands reader.now octets taken → Told octets taken new step)
-    × SaysFault reader.now new step × SaysPacket reader.now step)
+    × SaysFault reader.now new step × SaysPacket reader.now step × StandsBehind reader.now new step)

@@ -1,8 +1,8 @@
 -- What a step over the front of octets tells of them.
 use Rattle.std.specs.Prelude.{◌≡◌, ◌≤◌, ◌<◌, ◌%◌, ℕ, List, ◌∷◌, true, false, length, Option, Some, None, [], not, ◌==◌, ◌||◌, nat_lt, is_none}
 use Rattle.std.specs.Option.{option_or}
-use Rattle.ioam_ng.specs.declared.numbers.Order.{Order}
-use Rattle.ioam_ng.specs.declared.option.Found.{Found}
+use Rattle.ioam_pcap.specs.declared.form.Order.{Order}
+use Rattle.ioam_ng.specs.declared.option.Said.{Said}
 use Rattle.ioam_ng.specs.declared.option.OptionStep.{OptionStep}
 use Rattle.ioam_ng.specs.declared.option.OptionStep.TheVariants.{End, Past, Next}
 use Rattle.ioam_base.specs.Octets.{u32_at}
@@ -15,7 +15,7 @@ use Rattle.ioam_ng.specs.Front.{is_front, order_in, kind_in, size_in, least_size
 use Rattle.ioam_ng.specs.Options.{Item, is_end, is_past, item_in, item_size, resolution_in, offset_in}
 
 -- the options end there, or one passes the octets, or one stands there and adds to what was found
-abbrev pub TellsOption : Order → Found → List ℕ → OptionStep → Type 0
+abbrev pub TellsOption : Order → Said → List ℕ → OptionStep → Type 0
 TellsOption order found octets End = is_end order octets ≡ true
 TellsOption order found octets Past = (is_end order octets ≡ false) × (is_past order octets ≡ true)
 TellsOption order found octets (Next more size) = (is_end order octets ≡ false) × (is_past order octets ≡ false)

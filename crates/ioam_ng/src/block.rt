@@ -1,16 +1,14 @@
-ghost use Rattle.std.specs.Prelude.{◌≡◌, ◌≤◌, ◌<◌, ◌^◌, length};
-ghost use Rattle.ioam_ng.specs.Blocks.{face_at, is_linked, link_of, units};
+//! A whole block, and what it holds.
+ghost use Rattle.std.specs.Prelude.{◌≡◌, ◌≤◌, length};
+ghost use Rattle.ioam_ng.specs.Blocks.{TellsFace, face_at, units};
 ghost use Rattle.ioam_ng.specs.Front.{least_size};
 ghost use Rattle.ioam_ng.specs.BlockSteps.{TellsBody, TellsPacket, TellsAmong, TellsContent, TellsBlock};
 
 use crate::face::{Face, is_resolved, time_of};
 use crate::front::{Front, FrontStep, SECTION, front_step};
-use crate::numbers::{Order, number_at, short_at};
+use crate::numbers::short_at;
 use crate::option::face_in;
-use ioam_pcap::{CapFault, Link};
-
-/// The most octets of a packet.
-const PACKET_MOST: u32 = 262_144;
+use ioam_pcap::{CapFault, Link, MOST_PACKET, Order, link_type, number_at};
 
 /// What a packet block says of its packet.
 #[derive(Clone, Copy)]
@@ -55,10 +53,14 @@ pub enum BlockStep {
     Bad(CapFault),
 }
 
-// The interface of an interface block; None where an option passes the body.
-fn face_at(order: Order, block: &[u8]) -> Option<Face>
+/// The interface that a whole interface block describes, in the order of its section; None where an
+/// option passes the block's body (draft-ietf-opsawg-pcapng sections 3.5 and 4.2).
+pub fn face_at(order: Order, block: &[u8]) -> Option<Face>
     requires { 20 ≤ length block.now }
-    ensures { result ≡ face_at order block.now }
+    ensures value { result ≡ face_at order block.now }
+    // Its options are those that stand one behind the other up to their end; of two with one code the
+    // first counts.
+    ensures reads { TellsFace order block.now result }
 {
     face_in(
         order,
@@ -74,10 +76,7 @@ fn body_in(front: Front, block: &[u8]) -> Option<Body>
 {
     match front.kind {
         SECTION => Some(Body::Section),
-        1 => match face_at(front.order, block) {
-            Some(face) => Some(Body::Face(face)),
-            None => None,
-        },
+        1 => face_at(front.order, block).map(Body::Face),
         6 => {
             let captured = number_at(front.order, block, 20);
             if block.len() < 32 + captured as usize {
@@ -87,24 +86,6 @@ fn body_in(front: Front, block: &[u8]) -> Option<Body>
             }
         }
         _ => Some(Body::Other),
-    }
-}
-
-// The link type of an interface is one that is read.
-fn is_linked(face: Face) -> bool
-    ensures { result ≡ is_linked face }
-{
-    face.kind == 1 || face.kind == 101 || face.kind == 229
-}
-
-// The layer that the packets of such an interface begin at.
-fn link_of(face: Face) -> Link
-    ensures { result ≡ link_of face }
-{
-    if face.kind == 1 {
-        Link::Ethernet
-    } else {
-        Link::Raw
     }
 }
 
@@ -123,24 +104,23 @@ fn packet_in(order: Order, face: Face, block: &[u8]) -> Result<PacketHead, CapFa
     requires { 32 ≤ length block.now }
     ensures { TellsPacket order face block.now result }
 {
-    if !is_linked(face) {
-        return Err(CapFault::Link {
-            found: u32::from(face.kind),
-        });
-    }
+    let found = u32::from(face.kind);
+    let Some(link) = link_type(found) else {
+        return Err(CapFault::Link { found });
+    };
     if !is_resolved(face.resolution) {
         return Err(CapFault::Resolution {
             found: u32::from(face.resolution),
         });
     }
     let captured = number_at(order, block, 20);
-    if PACKET_MOST < captured {
+    if MOST_PACKET < captured {
         return Err(CapFault::RecordLong { found: captured });
     }
     let units = units_in(order, block);
     match time_of(face, units) {
         Some(time) => Ok(PacketHead {
-            link: link_of(face),
+            link,
             time,
             original: number_at(order, block, 24),
             captured,
@@ -180,10 +160,7 @@ fn content_in(front: Front, faces: &[Face], block: &[u8]) -> Result<Content, Cap
     match body {
         Body::Section => Ok(Content::Section),
         Body::Face(face) => Ok(Content::Face(face)),
-        Body::Packet => match packet_among(front.order, faces, block) {
-            Ok(head) => Ok(Content::Packet(head)),
-            Err(fault) => Err(fault),
-        },
+        Body::Packet => packet_among(front.order, faces, block).map(Content::Packet),
         Body::Other => Ok(Content::Other),
     }
 }

@@ -1,3 +1,4 @@
+//! Interfaces, and the times of their packets.
 ghost use Rattle.std.specs.Prelude.{◌≡◌, ◌≤◌, ◌<◌, ◌^◌, ◌*◌, IfSome, IsTrue};
 ghost use Rattle.ioam_ng.specs.Face.{is_resolved, unit_count, added, taken_off, time_between, time_of};
 

@@ -1,19 +1,20 @@
+//! The front of a block.
 ghost use Rattle.std.specs.Prelude.{◌≡◌, ◌≤◌, true, false, length};
 ghost use Rattle.ioam_ng.specs.Front.{is_section, is_front, is_alien, least_size};
 ghost use Rattle.ioam_ng.specs.Steps.{TellsFront, TellsNumbers, TellsSize};
 
-use crate::numbers::{Order, number_at, order_said};
+use crate::numbers::order_said;
 use ioam_base::octets::u32_at;
-use ioam_pcap::CapFault;
+use ioam_pcap::{CapFault, Order, number_at};
 
 /// The type of a section block, the same in both orders of octets.
 pub const SECTION: u32 = 0x0a0d_0d0a;
 
 /// The most blocks of a capture.
-const BLOCKS_MOST: u32 = 33_554_432;
+const MOST_BLOCKS: u32 = 33_554_432;
 
 /// The most octets of a block.
-const BLOCK_MOST: u32 = 16_777_216;
+const MOST_BLOCK: u32 = 16_777_216;
 
 /// The front of a block.
 #[derive(Clone, Copy)]
@@ -86,8 +87,8 @@ pub fn front_step(count: u32, known: Option<Order>, octets: &[u8]) -> FrontStep
     if !is_front(octets) {
         return FrontStep::Cut;
     }
-    if BLOCKS_MOST <= count {
-        return FrontStep::Bad(CapFault::Blocks { limit: BLOCKS_MOST });
+    if MOST_BLOCKS <= count {
+        return FrontStep::Bad(CapFault::Blocks { limit: MOST_BLOCKS });
     }
     numbers_step(known, octets)
 }
@@ -119,7 +120,7 @@ fn numbers_step(known: Option<Order>, octets: &[u8]) -> FrontStep
 fn sized(order: Order, kind: u32, size: u32) -> FrontStep
     ensures { TellsSize order kind size result }
 {
-    if BLOCK_MOST < size {
+    if MOST_BLOCK < size {
         return FrontStep::Bad(CapFault::Large { found: size });
     }
     if size % 4 != 0 || size < least_size(kind) {

@@ -10,5 +10,8 @@ mod option;
 mod put;
 mod reader;
 
+pub use block::face_at;
+pub use face::Face;
+pub use front::SECTION;
 pub use put::{put_ng_head, put_ng_packet};
 pub use reader::{NgLook, NgReader, NgStep};

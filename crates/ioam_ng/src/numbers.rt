@@ -1,15 +1,8 @@
 //! The numbers of a block, in the order of octets of its section.
-ghost use Rattle.std.specs.Prelude.{◌≡◌, ◌+◌, ◌≤◌, drop, length};
-ghost use Rattle.ioam_ng.specs.Numbers.{short_at, number_at, long_at, order_said};
+ghost use Rattle.std.specs.Prelude.{◌≡◌, ◌+◌, ◌≤◌, length};
+ghost use Rattle.ioam_ng.specs.Numbers.{short_at, long_at, order_said};
 
-use byteorder::{BigEndian, ByteOrder, LittleEndian};
-
-/// The order of the octets of a section's numbers.
-#[derive(Clone, Copy, Debug, PartialEq, Eq)]
-pub enum Order {
-    Big,
-    Little,
-}
+use ioam_pcap::{Order, number_at};
 
 // The order that a section block's third number, read big-endian, says.
 pub fn order_said(number: u32) -> Option<Order>
@@ -22,14 +15,6 @@ pub fn order_said(number: u32) -> Option<Order>
     }
 }
 
-// The number at a place, in an order.
-fn read_at<B: ByteOrder>(octets: &[u8], at: usize) -> u32
-    requires { at + 4 ≤ length octets.now }
-    ensures { result ≡ B.number_of 4 (drop at octets.now) }
-{
-    B::read_u32(&octets[at..])
-}
-
 // The 16-bit number at a place.
 pub fn short_at(order: Order, octets: &[u8], at: usize) -> u16
     requires { at + 2 ≤ length octets.now }
@@ -40,18 +25,6 @@ pub fn short_at(order: Order, octets: &[u8], at: usize) -> u16
     match order {
         Order::Big => first * 256 + second,
         Order::Little => first + second * 256,
-    }
-}
-
-// The 32-bit number at a place.
-#[tactic(auto, using(crate::proofs::NumbersLaws::big_four, crate::proofs::NumbersLaws::little_four))]
-pub fn number_at(order: Order, octets: &[u8], at: usize) -> u32
-    requires { at + 4 ≤ length octets.now }
-    ensures { result ≡ number_at order octets.now at }
-{
-    match order {
-        Order::Big => read_at::<BigEndian>(octets, at),
-        Order::Little => read_at::<LittleEndian>(octets, at),
     }
 }
 

@@ -6,11 +6,12 @@ ghost use Rattle.ioam_ng.specs.Steps.{TellsOption};
 ghost use Rattle.ioam_ng.specs.Options.{Item, is_end, is_past, item_in, item_size, resolution_in, offset_in};
 
 use crate::face::Face;
-use crate::numbers::{Order, long_at, short_at};
+use crate::numbers::{long_at, short_at};
+use ioam_pcap::Order;
 
 // What the options so far say.
 #[derive(Clone, Copy)]
-pub struct Found {
+pub struct Said {
     pub resolution: Option<u8>,
     pub offset: Option<u64>,
 }
@@ -35,12 +36,12 @@ fn item_size(order: Order, octets: &[u8]) -> usize
 enum OptionStep {
     End,
     Past,
-    Next { found: Found, size: usize },
+    Next { found: Said, size: usize },
 }
 
-impl Found {
+impl Said {
     // With a value of a code behind these.
-    fn with(self, order: Order, code: u16, value: &[u8]) -> Found
+    fn with(self, order: Order, code: u16, value: &[u8]) -> Said
         ensures resolution { (items : List Item) → option_or result.resolution (resolution_in order items)
             ≡ option_or self.resolution (resolution_in order (record { code = code; value = value.now } ∷ items)) }
         ensures offset { (items : List Item) → option_or result.offset (offset_in order items)
@@ -88,7 +89,7 @@ impl Found {
 pub fn face_in(order: Order, kind: u16, octets: &[u8]) -> Option<Face>
     ensures { result ≡ face_in order kind octets.now }
 {
-    let mut found = Found {
+    let mut found = Said {
         resolution: None,
         offset: None,
     };

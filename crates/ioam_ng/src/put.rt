@@ -1,3 +1,4 @@
+//! Captures that are written.
 ghost use Rattle.std.specs.Prelude.{◌≡◌, ◌+◌, ◌≤◌, ◌<◌, ◌^◌, ◌++◌, ◌∷◌, [], All, List, OnOk, length, is_ok, if◌then◌else◌};
 ghost use Rattle.ioam_pcap.specs.Entries.{Taken};
 ghost use Rattle.ioam_ng.specs.Reads.{Reads};

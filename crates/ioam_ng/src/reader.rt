@@ -1,17 +1,17 @@
+//! A reader of captures in the form pcapng that is fed in pieces.
 ghost use Rattle.std.specs.Prelude.{◌≡◌, ◌+◌, ◌≤◌, ◌<◌, ◌^◌, ◌++◌, [], List, ℕ, length, drop, IfOk, IsSome, MatchOption, OnErr, OnOk};
 ghost use Rattle.std.specs.Borrow.{sem};
 
 use crate::block::{Block, BlockStep, Content, block_step};
 use crate::face::Face;
-use crate::numbers::Order;
+use ioam_base::fed::Fed;
 use ioam_base::memory::NoMemory;
-use ioam_base::octets::drop_front;
-use ioam_pcap::{CapFault, Link, Packet};
+use ioam_pcap::{CapFault, Link, Order, Packet};
 use std::alloc::Global;
 use std::marker::Model;
 
-/// Octets that a reader has room for from the start: a piece as files are read in.
-const ROOM: usize = 65_536;
+/// The octets of a packet block in front of its packet.
+const PACKET_FRONT: usize = 28;
 
 /// What a reader shows next of its capture.
 #[derive(Clone, Copy, Debug)]
@@ -50,15 +50,10 @@ enum Found {
 /// Reads a capture in the form pcapng out of any pieces of it.
 ///
 /// It keeps the octets that were fed and not yet taken, and the interfaces of the section. Where
-/// `next` answers `More` these octets are fewer than the 16,777,216 of the largest block. Each
-/// octet is copied into the buffer once, and moved to its front at most once.
+/// `next` answers `More` these octets are fewer than the 16,777,216 of the largest block.
 #[derive(Drop)]
 pub struct NgReader {
-    buffer: Vec<u8>,
-    // octets at the front of the buffer that were taken
-    taken: usize,
-    // the place in the capture of the first octet behind these
-    start: u64,
+    octets: Fed,
     // blocks that were taken
     count: u32,
     order: Option<Order>,
@@ -66,14 +61,11 @@ pub struct NgReader {
 }
 
 impl Model for NgReader {
-    ghost use Rattle.std.specs.Prelude.{◌+◌, ◌-◌, ◌<◌, ◌≤◌, ◌^◌, drop, length};
     ghost use Rattle.ioam_ng.specs.Reading.{Reading};
 
     ghost Value = { Reading };
 
-    ghost view = { λ r. record { known = record { count = r.count; order = r.order; faces = r.faces.items }; start = r.start; pending = drop r.taken r.buffer.items } };
-
-    ghost invariant = { λ r. (r.taken ≤ length r.buffer.items) × (r.start + (length r.buffer.items - r.taken) < 2 ^ 63) };
+    ghost view = { λ r. record { known = record { count = r.count; order = r.order; faces = r.faces.items }; start = r.octets.start; pending = r.octets.pending } };
 }
 
 impl NgReader {
@@ -90,11 +82,8 @@ impl NgReader {
         ensures exact { IfOk result (λ reader. reader ≡ fresh) }
         ensures stands { IfOk result (λ reader. Stands reader [] []) }
     {
-        let buffer = Vec::with_capacity(alloc, ROOM)?;
         Ok(NgReader {
-            buffer,
-            taken: 0,
-            start: 0,
+            octets: Fed::new(alloc)?,
             count: 0,
             order: None,
             faces: Vec::new(alloc),
@@ -105,7 +94,7 @@ impl NgReader {
     pub fn fed(&self) -> u64
         ensures { result ≡ fed self.now }
     {
-        self.start + (self.buffer.len() - self.taken) as u64
+        self.octets.fed()
     }
 
     /// Feeds the next octets of the capture, of which there are below 2^63 in all.
@@ -120,22 +109,14 @@ impl NgReader {
         ensures faulty { OnOk result (KeepsFault self.old self.new) }
         ensures err { OnErr result (self.new ≡ self.old) }
     {
-        drop_front(&mut self.buffer, self.taken);
-        self.taken = 0;
-        self.buffer.extend_from_slice(piece)?;
-        Ok(())
+        self.octets.feed(piece)
     }
 
     // What the octets show of the block that is due.
     fn look(&self) -> BlockStep
         ensures { TellsBlock self.now.known self.now.pending result }
     {
-        block_step(
-            self.count,
-            self.order,
-            &self.faces,
-            &self.buffer[self.taken..],
-        )
+        block_step(self.count, self.order, &self.faces, self.octets.pending())
     }
 
     // Takes a block.
@@ -152,8 +133,7 @@ impl NgReader {
         }
         self.order = Some(block.order);
         self.count += 1;
-        self.taken += block.size as usize;
-        self.start += u64::from(block.size);
+        self.octets.take(block.size as usize);
         Ok(())
     }
 
@@ -207,7 +187,7 @@ impl NgReader {
             },
             Found::Passed | Found::More => Ok(NgLook::More),
             Found::Bad(fault) => Ok(NgLook::Bad {
-                at: self.start,
+                at: self.octets.start(),
                 fault,
             }),
             Found::NoMemory => Err(NoMemory),
@@ -222,18 +202,17 @@ impl NgReader {
         match self.advance() {
             Found::Packet(block) => match block.content {
                 Content::Packet(head) => {
-                    let from = self.taken + 28;
-                    let to = from + head.captured as usize;
+                    let size = block.size as usize;
                     self.order = Some(block.order);
                     self.count += 1;
-                    self.taken += block.size as usize;
-                    self.start += u64::from(block.size);
+                    self.octets.take(size);
+                    let octets = self.octets.taken(size - PACKET_FRONT);
                     NgStep::Packet {
                         link: head.link,
                         packet: Packet {
                             time: head.time,
                             original: head.original,
-                            octets: &self.buffer[from..to],
+                            octets: &octets[..head.captured as usize],
                         },
                     }
                 }
@@ -242,7 +221,7 @@ impl NgReader {
             Found::Passed => NgStep::More,
             Found::More => NgStep::More,
             Found::Bad(fault) => NgStep::Bad {
-                at: self.start,
+                at: self.octets.start(),
                 fault,
             },
             Found::NoMemory => NgStep::NoMemory,
@@ -277,10 +256,10 @@ impl NgReader {
         ensures reads { (octets : List ℕ) (taken : List Taken) → Stands self.now octets taken
             → Reads octets taken (ending_of result) }
     {
-        let have = self.buffer.len() - self.taken;
+        let have = self.octets.pending().len();
         if self.order.is_some() && have == 0 {
             return None;
         }
-        Some((self.start, CapFault::Short { have: have as u32 }))
+        Some((self.octets.start(), CapFault::Short { have: have as u32 }))
     }
 }

@@ -1,23 +1,20 @@
-use Rattle.std.proofs.Common.{◌≡◌, ◌++◌, drop, rules, subst}
+use Rattle.std.proofs.Common.{◌++◌, subst}
+use Rattle.std.proofs.lemmas.Result.{on_ok_weaker}
 use Rattle.ioam_ng.specs.Reading.{Reading, place_of}
 use Rattle.ioam_ng.specs.Reader.{Stands, IsFaulty}
-use Rattle.ioam_ng.proofs.StandsLaws.{Stands-feed}
+use Rattle.ioam_ng.proofs.StandsLaws.{Stands-feed, fed_with}
 use Rattle.ioam_ng.proofs.ReadsLaws.{HasFault-behind}
 use Rattle.ioam_ng.proofs.reader.NgReader.feed.Goals as goal
 
 pub returns-clause-stands : goal.returns-clause-stands
-returns-clause-stands c = λ octets taken stands.
+returns-clause-stands c = on_ok_weaker c.feed.result (λ fed octets taken stands.
+    let new = fed_with c.self.inside.octets c.feed.new.self _ c.args.self.now c.args.piece.now c.self.view_is fed in
     let Q : Reading → Type 0 = λ r. Stands r (octets ++ c.args.piece.now) taken in
-    subst Q (search rules) (Stands-feed c.args.self.now c.args.piece.now octets taken stands)
+    subst Q new (Stands-feed c.args.self.now c.args.piece.now octets taken stands)) c.feed.ensures.ok
 
 pub returns-clause-faulty : goal.returns-clause-faulty
-returns-clause-faulty c = λ f has.
+returns-clause-faulty c = on_ok_weaker c.feed.result (λ fed f has.
     let old = c.args.self.now in
-    let new : Reading = record {
-      known = record { count = c.self.inside.count; order = c.self.inside.order; faces = c.self.inside.faces.items };
-      start = c.self.inside.start;
-      pending = drop 0 c.extend_from_slice.new.self.items;
-    } in
-    let fed : ◌≡◌ {A = Reading} (record old { pending = old.pending ++ c.args.piece.now }) new = search rules in
+    let new = fed_with c.self.inside.octets c.feed.new.self _ old c.args.piece.now c.self.view_is fed in
     let Q : Reading → Type 0 = λ r. IsFaulty r f in
-    subst Q fed (HasFault-behind c.args.piece.now (place_of old) f has)
+    subst Q new (HasFault-behind c.args.piece.now (place_of old) f has)) c.feed.ensures.ok
