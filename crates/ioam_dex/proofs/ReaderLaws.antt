@@ -1,6 +1,8 @@
 -- What a reader stands for after a piece or a step.
-use Rattle.std.proofs.Common.{◌≡◌, ℕ, ◌+◌, ◌-◌, List, [], ◌∷◌, ◌++◌, length, take, drop, arith, refl, sym, ap, ◌∙◌, subst, length-append}
-use Rattle.std.proofs.lemmas.List.{append-nil, drop-drop, take_rest}
+use Rattle.std.proofs.Common.{◌≡◌, ℕ, ◌+◌, ◌-◌, ◌≤◌, List, [], ◌∷◌, ◌++◌, length, take, drop, arith, sym, ap, ◌∙◌, subst, length-append}
+use Rattle.std.proofs.lemmas.List.{append-nil}
+use Rattle.ioam_base.specs.Fed.{Kept, passed, with_piece}
+use Rattle.ioam_base.proofs.FedLaws.{last_taken}
 use Rattle.ioam_dex.specs.declared.export.ExportFault.{ExportFault}
 use Rattle.ioam_dex.specs.declared.head.RecordHead.{RecordHead}
 use Rattle.ioam_dex.specs.declared.head.RecordStep.TheVariants as step
@@ -10,7 +12,7 @@ use Rattle.ioam_dex.specs.Reads.{records_octets, Faulty, Reads, ReadsOnly}
 use Rattle.ioam_dex.specs.Reading.{Reading}
 use Rattle.ioam_dex.specs.declared.reader.Step.{Step}
 use Rattle.ioam_dex.specs.declared.reader.Step.TheVariants.{Export, More, Bad}
-use Rattle.ioam_dex.specs.Reader.{Stands, Waits, Moved}
+use Rattle.ioam_dex.specs.Reader.{Stands, Waits, Moved, SaysFault}
 use Rattle.ioam_dex.proofs.FaultLaws.{cut-not-faulty, fault-unique}
 use Rattle.ioam_dex.proofs.RecordLaws.{front-length}
 use Rattle.ioam_dex.proofs.ReadsLaws.{records_octets-append, Splits-feed, Splits-push, Splits-unique, cut-no-record, fault-no-record, Reads-unique, Reads-faulty}
@@ -46,14 +48,14 @@ Stands-faulty old place f here bad octets records stands more =
     let so = subst P (sym (here ∙ stands.place)) (Reads-faulty octets records old.pending f stands.splits bad more) in
     (so, λ others other reads. Reads-unique (octets ++ more) others records other (Faulty place f) reads so)
 
--- After a fault every step answers the same.
-pub Bad-again : (old new : Reading) (step : Step) (f : ExportFault) → Fault old.pending f → Moved old new step → step ≡ Bad old.start f
-Bad-again old new (Export e) f bad moved = absurd (fault-no-record old.pending f bad (record_of e) new.pending moved.0 moved.1)
-Bad-again old new More f bad moved = absurd (cut-not-faulty old.pending f moved.1 bad)
-Bad-again old new (Bad at g) f bad moved =
+-- where what is due has a fault a step says it
+pub says_fault : (old new : Reading) (step : Step) → Moved old new step → SaysFault old new step
+says_fault old new (Export e) moved f bad = absurd (fault-no-record old.pending f bad (record_of e) new.pending moved.0 moved.1)
+says_fault old new More moved f bad = absurd (cut-not-faulty old.pending f moved.1 bad)
+says_fault old new (Bad at g) moved f bad =
     let place : at ≡ old.start = moved.1 in
     let same : g ≡ f = fault-unique old.pending g f moved.2 bad in
-    cc
+    (cc, moved.0)
 
 -- However octets were cut into pieces, two readers that were fed them and wait have given the same records
 -- and have the same octets left over, at the same place.
@@ -64,44 +66,43 @@ Stands-unique one other octets xs ys cut cuts stands stood =
     (cut-no-record one.pending cut) (cut-no-record other.pending cuts) (sym stands.splits.is ∙ stood.splits.is) in
     (same.0, same.1, stands.place ∙ ap (λ zs. length (records_octets zs)) same.0 ∙ sym stood.place)
 
--- the octets from the first that was not taken, as a slice of the buffer
-pub rest_of_buffer : (buffer items : List ℕ) (taken : ℕ) → buffer ≡ items → take (length buffer - taken) (drop taken buffer) ≡ drop taken items
-rest_of_buffer buffer items taken same = take_rest buffer taken ∙ ap (drop taken) same
+-- the reader's value where a piece more was fed
+pub fed_with : (held new : Kept) (old : Reading) (piece : List ℕ)
+    → ◌≡◌ {A = Reading} (record { start = held.start; pending = held.pending }) old → new ≡ with_piece piece held
+    → ◌≡◌ {A = Reading} (record old { pending = old.pending ++ piece }) (record { start = new.start; pending = new.pending })
+fed_with held new old piece view fed =
+    sym (ap (λ (k : Kept). record { start = k.start; pending = k.pending }) fed ∙ ap (λ (r : Reading). record r { pending = r.pending ++ piece }) view)
 
--- a record's element, as a slice of the buffer
-pub element_of_buffer : (buffer items : List ℕ) (taken front size : ℕ) → buffer ≡ items
-    → take (taken + size - (taken + front)) (drop (taken + front) buffer) ≡ take (size - front) (drop front (drop taken items))
-element_of_buffer buffer items taken front size same =
-    let count : taken + size - (taken + front) ≡ size - front = omega arith in
-    let rest : drop (taken + front) buffer ≡ drop front (drop taken items) = ap (drop (taken + front)) same ∙ sym (drop-drop front taken items) in
-    rw (count, rest) refl
-
--- a whole record in front of the pending octets, as it is taken off the buffer
-module _ (items slice : List ℕ) (taken start : ℕ) (head : RecordHead) (old : Reading) (view : ◌≡◌ {A = Reading} (record { start = start; pending = drop taken items }) old)
-    (same : slice ≡ items) (told : TellsRecord old.pending (step.Whole head)) where
+-- a whole record in front of the pending octets, as it is taken off
+module _ (held new : Kept) (head : RecordHead) (old : Reading) (view : ◌≡◌ {A = Reading} (record { start = held.start; pending = held.pending }) old)
+    (taken : new ≡ passed head.size held) (told : TellsRecord old.pending (step.Whole head)) where
   abbrev element : List ℕ
-  element = take (taken + head.size - (taken + head.front)) (drop (taken + head.front) slice)
+  element = drop (length new.given - (head.size - head.front)) new.given
 
-  pending-is : drop taken items ≡ old.pending
-  pending-is = ap (λ r. r.pending) view
+  size-is : head.size ≡ length_of old.pending
+  size-is = told.1 ∙ sym (front-length old.pending (said head (element_of old.pending)) (drop head.size old.pending) told.2 told.3)
 
-  element-is : element ≡ element_of old.pending
-  element-is =
-      let size = told.1 ∙ sym (front-length old.pending (said head (element_of old.pending)) (drop head.size old.pending) told.2 told.3) in
-      element_of_buffer slice items taken head.front head.size same
-      ∙ ap (λ o. take (head.size - head.front) (drop head.front o)) pending-is
-      ∙ ap (λ n. take (n - head.front) (drop head.front old.pending)) size
+  fits : head.size ≤ length held.pending
+  fits = omega (arith, told.1, ap (λ r. length r.pending) view, ap length told.3, length-append (record_octets (said head (element_of old.pending))) (drop head.size old.pending))
+
+  element-is : head.front ≤ head.size → element ≡ element_of old.pending
+  element-is few =
+      let front : head.size - (head.size - head.front) ≡ head.front = omega arith in
+      ap (λ k. drop (length k.given - (head.size - head.front)) k.given) taken
+      ∙ last_taken held head.size (head.size - head.front) fits (omega arith)
+      ∙ ap (λ n. take (head.size - head.front) (drop n held.pending)) front
+      ∙ ap (λ r. take (head.size - head.front) (drop head.front r.pending)) view
+      ∙ ap (λ n. take (n - head.front) (drop head.front old.pending)) size-is
       ∙ ap (λ n. take (length_of old.pending - n) (drop n old.pending)) told.0
 
-  pub taken_off : IsRecord (said head element) × (old.pending ≡ record_octets (said head element) ++ drop (taken + head.size) items)
-      × (start + head.size ≡ old.start + length (record_octets (said head element)))
-  taken_off =
-      let says : said head element ≡ said head (element_of old.pending) = ap (said head) element-is in
+  pub taken_off : head.front ≤ head.size → IsRecord (said head element) × (old.pending ≡ record_octets (said head element) ++ new.pending)
+      × (new.start ≡ old.start + length (record_octets (said head element)))
+  taken_off few =
+      let says : said head element ≡ said head (element_of old.pending) = ap (said head) (element-is few) in
       let P : Record → Type 0 = λ x. IsRecord x in
-      let place : start ≡ old.start = ap (λ r. r.start) view in
-      let rest : drop head.size old.pending ≡ drop (taken + head.size) items = ap (drop head.size) (sym pending-is) ∙ drop-drop head.size taken items in
+      let rest : drop head.size old.pending ≡ new.pending = sym (ap (λ k. k.pending) taken ∙ ap (λ r. drop head.size r.pending) view) in
       let size : head.size ≡ length (record_octets (said head element)) = told.1 ∙ ap (λ x. length (record_octets x)) (sym says) in (
         subst P (sym says) told.2,
         told.3 ∙ ap (λ x. record_octets x ++ drop head.size old.pending) (sym says) ∙ ap (λ o. record_octets (said head element) ++ o) rest,
-        ap (λ n. n + head.size) place ∙ ap (λ n. old.start + n) size,
+        ap (λ k. k.start) taken ∙ ap (λ r. r.start + head.size) view ∙ ap (λ n. old.start + n) size,
       )

@@ -28,6 +28,18 @@ fed reader = reader.start + length reader.pending
 abbrev pub Waits : Reading → Type 0
 Waits reader = IsCut reader.pending
 
+-- what is due has this fault
+abbrev pub HasFault : Reading → ExportFault → Type 0
+HasFault reader fault = Fault reader.pending fault
+
+-- a fault of what is due stays
+abbrev pub KeepsFault : Reading → Reading → Type 0
+KeepsFault old new = (fault : ExportFault) → HasFault old fault → HasFault new fault
+
+-- where what is due has a fault a step says this fault, and changes nothing
+abbrev pub SaysFault : Reading → Reading → Step → Type 0
+SaysFault old new step = (fault : ExportFault) → HasFault old fault → (step ≡ Bad old.start fault) × (new ≡ old)
+
 -- what a step finds in front of the pending octets, and what it takes off
 abbrev pub Moved : Reading → Reading → Step → Type 0
 Moved old new (Export e) = IsRecord (record_of e) × (old.pending ≡ record_octets (record_of e) ++ new.pending)
@@ -46,7 +58,8 @@ Leaves octets records new (Bad at fault) = Stands new octets records
 -- so the reader is once the step's octets are no longer lent
 abbrev pub RestsSo : MutBor Reading → Step → Fml
 RestsSo reader step = Rests the_row reader (λ new. Moved reader.now new step
-    × ((octets : List ℕ) (records : List Record) → Stands reader.now octets records → Leaves octets records new step))
+    × ((octets : List ℕ) (records : List Record) → Stands reader.now octets records → Leaves octets records new step)
+    × SaysFault reader.now new step)
 
 -- the ending of an input that was fed whole, by what `finish` answers
 abbrev pub ending_of : Option (ℕ × ExportFault) → Ending

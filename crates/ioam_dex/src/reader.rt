@@ -1,16 +1,14 @@
+//! A reader of export records that is fed in pieces.
 ghost use Rattle.std.specs.Prelude.{◌≡◌, ◌+◌, ◌≤◌, ◌<◌, ◌^◌, ◌++◌, [], List, ℕ, length, drop, IfOk, MatchOption, OnErr, OnOk, vec_len};
 ghost use Rattle.std.specs.Borrow.{sem};
 
 use crate::export::{Export, ExportFault};
 use crate::head::RecordStep;
 use crate::step::record_step;
+use ioam_base::fed::Fed;
 use ioam_base::memory::NoMemory;
-use ioam_base::octets::drop_front;
 use std::alloc::Global;
 use std::marker::Model;
-
-/// Octets that a reader has room for from the start: a piece as files are read in.
-const ROOM: usize = 65_536;
 
 /// What a reader shows next of its input.
 #[derive(Clone, Copy, Debug)]
@@ -26,52 +24,40 @@ pub enum Step<'a> {
 /// Reads export records out of any pieces of them.
 ///
 /// It keeps the octets that were fed and not yet taken: no more than one record and one piece, where
-/// each piece is fed after `next` answered `More`. Each octet is copied into the buffer once, and
-/// moved to its front at most once.
+/// each piece is fed after `next` answered `More`.
 #[derive(Drop)]
 pub struct ExportReader {
-    buffer: Vec<u8>,
-    // octets at the front of the buffer that were taken
-    taken: usize,
-    // the place in the input of the first octet behind these
-    start: u64,
+    octets: Fed,
 }
 
 impl Model for ExportReader {
-    ghost use Rattle.std.specs.Prelude.{◌+◌, ◌-◌, ◌<◌, ◌≤◌, ◌^◌, drop, length};
     ghost use Rattle.ioam_dex.specs.Reading.{Reading};
 
     ghost Value = { Reading };
 
-    ghost view = { λ r. record { start = r.start; pending = drop r.taken r.buffer.items } };
-
-    ghost invariant = { λ r. (r.taken ≤ length r.buffer.items) × (r.start + (length r.buffer.items - r.taken) < 2 ^ 63) };
+    ghost view = { λ r. record { start = r.octets.start; pending = r.octets.pending } };
 }
 
 impl ExportReader {
     ghost use Rattle.ioam_dex.specs.declared.export.ExportFault.TheVariants.{Short};
     ghost use Rattle.ioam_dex.specs.Record.{Record};
     ghost use Rattle.ioam_dex.specs.Reads.{Reads, ReadsOnly};
-    ghost use Rattle.ioam_dex.specs.Reader.{Stands, Waits, RestsSo, fresh, fed, ending_of};
+    ghost use Rattle.ioam_dex.specs.Reader.{Stands, Waits, KeepsFault, RestsSo, fresh, fed, ending_of};
 
     /// A reader that was fed nothing.
     pub fn new(alloc: Global) -> Result<ExportReader, NoMemory>
         ensures exact { IfOk result (λ reader. reader ≡ fresh) }
         ensures stands { IfOk result (λ reader. Stands reader [] []) }
     {
-        let buffer = Vec::with_capacity(alloc, ROOM)?;
-        Ok(ExportReader {
-            buffer,
-            taken: 0,
-            start: 0,
-        })
+        let octets = Fed::new(alloc)?;
+        Ok(ExportReader { octets })
     }
 
     /// How many octets were fed in all.
     pub fn fed(&self) -> u64
         ensures { result ≡ fed self.now }
     {
-        self.start + (self.buffer.len() - self.taken) as u64
+        self.octets.fed()
     }
 
     /// Feeds the next octets of the input, of which there are below 2^63 in all.
@@ -82,30 +68,26 @@ impl ExportReader {
         ensures stands { OnOk result ((octets : List ℕ) (records : List Record)
             → Stands self.old octets records
             → Stands self.new (octets ++ piece.now) records) }
+        // A fault of what is due stays, whatever is fed.
+        ensures faulty { OnOk result (KeepsFault self.old self.new) }
         ensures err { OnErr result (self.new ≡ self.old) }
     {
-        drop_front(&mut self.buffer, self.taken);
-        self.taken = 0;
-        self.buffer.extend_from_slice(piece)?;
-        Ok(())
+        self.octets.feed(piece)
     }
 
     /// The next record of the input. After `Bad` every call answers the same.
     pub fn next(&mut self) -> Step<'_>
         ensures* { sem 𝓛 (RestsSo self.entry result) }
     {
-        let pending = &self.buffer[self.taken..];
-        match record_step(pending) {
+        match record_step(self.octets.pending()) {
             RecordStep::Whole(head) => {
-                let from = self.taken + head.front;
-                let to = self.taken + head.size;
-                self.taken = to;
-                self.start += head.size as u64;
-                Step::Export(head.with_element(&self.buffer[from..to]))
+                self.octets.take(head.size);
+                let element = self.octets.taken(head.size - head.front);
+                Step::Export(head.with_element(element))
             }
             RecordStep::Cut => Step::More,
             RecordStep::Bad(fault) => Step::Bad {
-                at: self.start,
+                at: self.octets.start(),
                 fault,
             },
         }
@@ -134,10 +116,13 @@ impl ExportReader {
         ensures reads { (octets : List ℕ) (records : List Record) → Stands self.now octets records
             → Reads octets records (ending_of result) }
     {
-        let have = self.buffer.len() - self.taken;
+        let have = self.octets.pending().len();
         if have == 0 {
             return None;
         }
-        Some((self.start, ExportFault::Short { have: have as u32 }))
+        Some((
+            self.octets.start(),
+            ExportFault::Short { have: have as u32 },
+        ))
     }
 }
