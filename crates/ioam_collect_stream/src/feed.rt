@@ -1,3 +1,5 @@
+//! Export records that are read in pieces from a desk. What was handed out and what the reader has given of it
+//! stay tied, and a fault of the desk leaves both as they were.
 ghost use Rattle.std.specs.Prelude.{◌≡◌, ◌+◌, ◌<◌, ◌^◌, [], length, Err, IfErr, IfOk};
 ghost use Rattle.ioam_desk.specs.Asked.{IsFaultOf};
 ghost use Rattle.ioam_desk.specs.Desk.{OpenIn, OpensInput, holds};

@@ -7,10 +7,10 @@ ghost use Rattle.ioam_desk_outputs.specs.Told.{AreTold, AreOpen, GathersFew, Gat
 
 use crate::output::Output;
 use ioam_base::octets::drop_front;
-use ioam_desk::{Desk, DeskFault, WriteAll, write_all};
+use ioam_desk::{Desk, DeskFault, PIECE, WriteAll, write_all};
 
-/// So many octets are gathered for an output before they are written.
-pub const GATHER: usize = 65_536;
+/// So many octets are gathered for an output before they are written: as many as a read asks for.
+pub const GATHER: usize = PIECE;
 
 // Writes all that is gathered for an output. What was written is no longer gathered, also behind a fault.
 fn flush<D: Desk>(desk: &mut D, output: &mut Output) -> Result<(), DeskFault>

@@ -1,3 +1,4 @@
+//! Names of outputs that are equal.
 ghost use Rattle.std.specs.Prelude.{◌↔◌, Contains, IsTrue, MatchOption};
 ghost use Rattle.ioam_desk_outputs.specs.Names.{AreApart, IsFirstRepeat};
 
