@@ -1,4 +1,4 @@
-use Rattle.std.proofs.Common.{◌≡◌, ◌+◌, ◌*◌, ◌++◌, ap, ◌∙◌, arith}
+use Rattle.std.proofs.Common.{◌≡◌, ◌+◌, ◌*◌, ◌++◌, ◌∙◌, arith}
 use Rattle.ioam_base.specs.Octets.{written}
 use Rattle.ioam_base.specs.Words.{four_octets}
 use Rattle.ioam_data.specs.View.{seen}

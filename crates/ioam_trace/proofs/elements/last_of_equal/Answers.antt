@@ -1,4 +1,4 @@
-use Rattle.std.proofs.Common.{◌≡◌, ◌*◌, ◌-◌, ◌%◌, ◌<◌, ◌≤◌, length, Some, subst, arith, rules, ℕ}
+use Rattle.std.proofs.Common.{◌≡◌, ◌*◌, ◌-◌, ◌%◌, ◌<◌, ◌≤◌, length, Some, subst, rules, ℕ}
 use Rattle.ioam_data.specs.Kind.{words}
 use Rattle.ioam_trace.specs.Area.{EndsWith}
 use Rattle.ioam_trace.proofs.EqualLaws.{last-equal}
