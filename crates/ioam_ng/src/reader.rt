@@ -194,8 +194,8 @@ impl NgReader {
         }
     }
 
-    /// The next packet of the capture; the blocks without one are passed. After `Bad` every call
-    /// answers the same.
+    /// The next packet of the capture; the blocks without one that stand before it are passed, and
+    /// nothing behind its block is. After `Bad` every call answers the same.
     pub fn next(&mut self) -> NgStep<'_>
         ensures* { sem 𝓛 (RestsSo self.entry result) }
     {
