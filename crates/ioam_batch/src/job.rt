@@ -8,6 +8,7 @@ use crate::crossings::Crossings;
 use crate::making::{packet_of, room_for};
 use crate::taps::taps_of;
 use ioam_base::memory::NoMemory;
+use ioam_dex::MOST_RECORD;
 use ioam_node_visit::NodeRoom;
 use ioam_plan::Itinerary;
 use ioam_topo::Domain;
@@ -86,7 +87,7 @@ impl Job {
         ensures value { result ≡ reserved_of self.now }
         ensures small { result ≤ 2 ^ 63 + 2 ^ 29 }
     {
-        self.packet.len() + self.crossings.kept() + 274 * self.room.given() as usize
+        self.packet.len() + self.crossings.kept() + MOST_RECORD * self.room.given() as usize
     }
 }
 

@@ -18,7 +18,7 @@ use crate::room::NodeRoom;
 use crate::visit::NodeVisit;
 use ioam_base::octets::u16_at;
 use ioam_clock::Sample;
-use ioam_data::{ElementBuf, Namespace, TraceType, put_exported};
+use ioam_data::{ElementBuf, Namespace, TraceType, bit, put_exported};
 use ioam_dex::{Direct, Export, read};
 use ioam_trace::{Filled, fill};
 
@@ -50,7 +50,7 @@ fn short_note() -> NodeNote
 fn export_type(kind: TraceType) -> TraceType
     ensures { result ≡ export_type kind }
 {
-    if kind.has(7) {
+    if kind.has(bit::CHECKSUM) {
         TraceType::new(kind.bits() - 65536)
     } else {
         kind

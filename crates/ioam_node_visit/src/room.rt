@@ -5,12 +5,9 @@ ghost use Rattle.ioam_node_visit.specs.Room.{Room};
 
 use crate::note::NodeNote;
 use ioam_base::memory::NoMemory;
-use ioam_dex::{Export, ExportRoom, put_export};
+use ioam_dex::{Export, ExportRoom, MOST_RECORD, put_export};
 use std::alloc::Global;
 use std::marker::Model;
-
-/// The octets of an export record, at most.
-const MOST_RECORD: usize = 274;
 
 /// Room for the notes and export records of a packet's visits, all of it taken when it is made.
 #[derive(Drop)]

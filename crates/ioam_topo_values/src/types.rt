@@ -9,7 +9,7 @@ ghost use Rattle.ioam_topo.specs.Types.{is_direct_type, is_edge_type};
 use crate::finding::find;
 use crate::numbers::number_of;
 use crate::why::Why;
-use ioam_data::TraceType;
+use ioam_data::{TraceType, bit};
 use toml::{Table, Value};
 
 const MOST_TYPE: u64 = 16_777_215;
@@ -30,7 +30,9 @@ fn trace_type_of(value: &Value) -> Result<TraceType, Why>
 fn is_direct_type(kind: TraceType) -> bool
     ensures { result ≡ is_direct_type kind }
 {
-    kind.is_entry_type() && !kind.has(7) && (kind.has(0) || kind.has(8))
+    kind.is_entry_type()
+        && !kind.has(bit::CHECKSUM)
+        && (kind.has(bit::HOP_NODE) || kind.has(bit::WIDE_HOP_NODE))
 }
 
 // A value that is to be a type of direct exports.
