@@ -1,32 +1,14 @@
 -- At most one answer is asked for.
-use Rattle.std.proofs.Common.{◌≡◌, ℕ, ◌<◌, ◌≤◌, ◌⊎◌, Bool, IsTrue, IsSomeAnd, List, [], ◌∷◌, ◌++◌, length, Option, Some, None, refl, sym, ◌∙◌, ap, subst, inl, inr, ⊎_elim, arith}
-use Rattle.std.specs.List.{All, AllByRecursion}
-use Rattle.std.proofs.lemmas.List.Elements.{All-from_recursion, All-head, All-tail, All-take}
-use Rattle.std.proofs.Math.Seq.{take-append_seam}
+use Rattle.std.proofs.Common.{◌≡◌, ℕ, ◌⊎◌, Bool, IsTrue, IsSomeAnd, List, length, Option, Some, None, refl, sym, ◌∙◌, ap, inl, inr, arith}
 use Rattle.ioam_desk.specs.Desk.{Reading, Writing, Rose, holds}
-use Rattle.ioam_ip.specs.Clean.{MayLeave}
-use Rattle.ioam_ip.proofs.FramingLaws.{framing-packet}
-use Rattle.ioam_ip.proofs.WithinLaws.{Within, framing-within}
-use Rattle.ioam_ip.specs.Framing.{Framing, Holds, NoIpv6, CutShort, TooShort, IfHolds}
-use Rattle.ioam_ip.specs.Packet.{IsPacket}
-use Rattle.ioam_pcap.specs.Cut.{is_cut}
 use Rattle.ioam_capture.proofs.ReadsLaws.{Reads-unique}
-use Rattle.ioam_capture.proofs.ShortLaws.{Reads-short}
 use Rattle.ioam_pcap.specs.Ending.{Ending, Whole, Faulty}
 use Rattle.ioam_pcap.specs.Entries.{Taken, most}
-use Rattle.ioam_pcap.specs.Link.{is_ethernet}
 use Rattle.ioam_desk_outputs.proofs.NamesLaws.{first_unique}
-use Rattle.ioam_desk_outputs.specs.Held.{HoldTexts}
 use Rattle.ioam_desk_outputs.specs.Names.{AreApart, IsFirstRepeat, name_at}
-use Rattle.ioam_pcap.specs.Text.{Sends, IsSendable, IsCaptureOf}
-use Rattle.ioam_run_capture.specs.FilterText.{Filtered, FilterTexts, kept_of}
-use Rattle.ioam_run_answer.specs.Outcomes.{IsBehindAll}
-use Rattle.ioam_run_stream.specs.Run.{most_packets, HasCause, Asked, IsInput, IsLong, HoldsAll, EndsSo, ArePassed, AreWhole, Leaves, output_names}
-use Rattle.ioam_run_capture.specs.Verdict.{Verdict, Keeps, Drops, FramingVerdict, AreVerdicts, taken_framing}
-use Rattle.ioam_node.specs.declared.reason.Reason.{Reason}
+use Rattle.ioam_run_stream.specs.Run.{most_packets, HasCause, Asked, IsInput, IsLong}
 use Rattle.ioam_run_answer.specs.declared.outcome.Outcome.{Outcome}
 use Rattle.ioam_run_answer.specs.declared.outcome.Outcome.TheVariants as outcome
-use Rattle.ioam_run_stream.proofs.StopsLaws.{Begins, begins_ends, begins_passed, begins_whole}
 
 pub not_apart : (names : List (List ℕ)) (at : ℕ) → IsFirstRepeat names at → AreApart names → ⊥
 not_apart names at first apart = apart at first.inside first.repeats
