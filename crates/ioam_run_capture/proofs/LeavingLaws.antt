@@ -1,27 +1,25 @@
 -- The packets that are kept may leave a domain.
-use Rattle.std.proofs.Common.{◌≡◌, ℕ, ◌<◌, ◌≤◌, ◌⊎◌, Bool, IsTrue, IsSomeAnd, List, [], ◌∷◌, ◌++◌, length, Option, Some, None, refl, sym, ◌∙◌, ap, subst, inl, inr, ⊎_elim, arith}
+use Rattle.std.proofs.Common.{◌≡◌, ℕ, ◌<◌, ◌≤◌, IsSomeAnd, List, [], ◌∷◌, ◌++◌, length, Option, Some, None, refl, sym, ap, subst, ⊎_elim, arith}
 use Rattle.std.specs.List.{All, AllByRecursion}
 use Rattle.std.proofs.lemmas.List.Elements.{All-from_recursion, All-head, All-tail, All-take}
 use Rattle.std.proofs.Math.Seq.{take-append_seam}
-use Rattle.ioam_desk.specs.Desk.{Reading, Writing, Rose, holds}
+use Rattle.ioam_desk.specs.Desk.{Reading, Writing, holds}
 use Rattle.ioam_ip.specs.Clean.{MayLeave}
 use Rattle.ioam_ip.proofs.FramingLaws.{framing-packet}
 use Rattle.ioam_ip.proofs.WithinLaws.{Within, framing-within}
 use Rattle.ioam_ip.specs.Framing.{Framing, Holds, NoIpv6, CutShort, TooShort, IfHolds}
 use Rattle.ioam_ip.specs.Packet.{IsPacket}
 use Rattle.ioam_pcap.specs.Cut.{is_cut}
-use Rattle.ioam_capture.proofs.ReadsLaws.{Reads-unique}
 use Rattle.ioam_capture.proofs.ShortLaws.{Reads-short}
-use Rattle.ioam_pcap.specs.Ending.{Ending, Whole, Faulty}
+use Rattle.ioam_pcap.specs.Ending.{Whole, Faulty}
 use Rattle.ioam_pcap.specs.Entries.{Taken, most}
 use Rattle.ioam_pcap.specs.Link.{is_ethernet}
-use Rattle.ioam_desk_outputs.proofs.NamesLaws.{first_unique}
 use Rattle.ioam_desk_outputs.specs.Held.{HoldTexts}
-use Rattle.ioam_desk_outputs.specs.Names.{AreApart, IsFirstRepeat, name_at}
+use Rattle.ioam_desk_outputs.specs.Names.{name_at}
 use Rattle.ioam_pcap.specs.Text.{Sends, IsSendable, IsCaptureOf}
 use Rattle.ioam_run_capture.specs.FilterText.{Filtered, FilterTexts, kept_of}
 use Rattle.ioam_run_answer.specs.Outcomes.{IsBehindAll}
-use Rattle.ioam_run_stream.specs.Run.{most_packets, HasCause, Asked, IsInput, IsLong, HoldsAll, EndsSo, ArePassed, AreWhole, Leaves, output_names}
+use Rattle.ioam_run_stream.specs.Run.{most_packets, HoldsAll, EndsSo, ArePassed, AreWhole, Leaves, output_names}
 use Rattle.ioam_run_capture.specs.Verdict.{Verdict, Keeps, Drops, FramingVerdict, AreVerdicts}
 use Rattle.ioam_run_stream.specs.Frame.{taken_framing}
 use Rattle.ioam_node.specs.declared.reason.Reason.{Reason}

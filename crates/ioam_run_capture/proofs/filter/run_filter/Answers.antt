@@ -2,7 +2,7 @@ use Rattle.std.proofs.Common.{ℕ, List, subst}
 use Rattle.ioam_desk_outputs.specs.Names.{name_at}
 use Rattle.ioam_run_capture.specs.FilterText.{FilterTexts}
 use Rattle.ioam_run_stream.specs.Run.{most_packets, Leaves, input_name}
-use Rattle.ioam_run_stream.proofs.AskedLaws.{Leaves-bounded, two_outputs}
+use Rattle.ioam_run_capture.proofs.LeavingLaws.{Leaves-bounded, two_outputs}
 use Rattle.ioam_run_capture.proofs.filter.run_filter.Goals as goal
 
 pub returns-clause-boundary : goal.returns-clause-boundary
