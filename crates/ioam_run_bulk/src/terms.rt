@@ -1,3 +1,4 @@
+//! What a generated run goes by.
 use ioam_batch::Gate;
 use ioam_clock::Readings;
 use ioam_topo::Domain;

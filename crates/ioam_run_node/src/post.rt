@@ -1,3 +1,4 @@
+//! Where packets are visited.
 ghost use Rattle.std.specs.Prelude.{◌<◌, length};
 ghost use Rattle.ioam_topo.specs.Domain.{nodes};
 

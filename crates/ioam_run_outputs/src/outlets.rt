@@ -1,3 +1,4 @@
+//! The outputs of a run in their one order.
 ghost use Rattle.std.specs.Prelude.{◌≡◌, ◌≤◌, ◌<◌, ◌++◌, length, All, IfOk, OnOk};
 ghost use Rattle.ioam_topo.specs.Domain.{links};
 ghost use Rattle.ioam_topo.specs.Keyed.{count_of, taps_of};

@@ -1,3 +1,4 @@
+//! How the traffic of a domain ends.
 use ioam_pcap::CapFault;
 
 /// How the traffic of a domain ends.

@@ -1,3 +1,4 @@
+//! What the traffic of a domain goes by.
 use ioam_batch::Gate;
 use ioam_clock::Readings;
 use ioam_topo::{Domain, PortId};

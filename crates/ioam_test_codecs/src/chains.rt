@@ -1,3 +1,4 @@
+//! Chains of items.
 ghost use Rattle.std.specs.Prelude.{◌<◌, ◌≤◌, ◌≡◌, length};
 
 use ioam_base::memory::NoMemory;

@@ -1,3 +1,4 @@
+//! Trace types and elements.
 ghost use Rattle.std.specs.Prelude.{◌≡◌, ℕ, ◌<◌, None};
 
 use ioam_data::{ElementBuf, Fields, TraceType, View, element, fields, split};

@@ -1,3 +1,4 @@
+//! Direct export data and export records.
 ghost use Rattle.std.specs.Prelude.{◌<◌, ◌≡◌};
 ghost use Rattle.ioam_dex.specs.Direct.{HasItsNumbers};
 ghost use Rattle.ioam_dex.specs.Numbers.{has_flow, has_seq};

@@ -1,3 +1,4 @@
+//! Edge-to-edge data.
 ghost use Rattle.std.specs.Prelude.{◌≡◌, ◌≤◌};
 ghost use Rattle.ioam_edge.specs.Edge.{HasItsFields, asks};
 

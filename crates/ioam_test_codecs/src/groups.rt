@@ -1,3 +1,4 @@
+//! Export records regrouped.
 ghost use Rattle.std.specs.Prelude.{◌<◌, ◌^◌};
 
 use ioam_collect::{Added, Collector};

@@ -1,3 +1,4 @@
+//! The data of traces.
 use ioam_data::{Namespace, TraceType, View};
 use ioam_trace::{Filled, Incremental, Trace, TraceFault, fill, put_trace};
 use std::alloc::Global;

@@ -1,3 +1,4 @@
+//! Domain files and what they are read as.
 use ioam_topo::{Domain, LinkId, NodeId, PortId, Way};
 use ioam_topo_file::{DomainRefused, read_domain};
 use std::alloc::Global;

@@ -1,3 +1,4 @@
+//! Faults of domain files.
 use crate::domains::{LINKS, NODES, PORTS, refusal_of};
 use crate::flow_rows::{FLOW_NODES, OF_EXTRAS, OF_FLOWS};
 use crate::node_data::OF_DATA;

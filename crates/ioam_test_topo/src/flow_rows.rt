@@ -1,3 +1,4 @@
+//! Rows of faults of flows.
 // Rows of faults in the tables `flow` and `extra`, behind these nodes.
 
 // Nodes that know namespaces: both 7, 9 and 10, one of them 8, the other 5, and a third none.

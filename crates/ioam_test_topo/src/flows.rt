@@ -1,3 +1,4 @@
+//! Flows of a domain file.
 use crate::domains::is_read_so;
 use crate::faults::joined;
 use crate::flow_rows::FLOW_NODES;

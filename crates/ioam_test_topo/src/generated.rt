@@ -1,3 +1,4 @@
+//! The domain of a generated load.
 use ioam_data::Namespace;
 use ioam_topo::{Domain, Flow, LinkId, NodeId, PortId, Way};
 use ioam_topo_generated::bulk_domain;

@@ -1,3 +1,4 @@
+//! Domain files at their limits.
 use crate::domains::{NODES, is_read_so};
 use crate::faults::has_fault;
 use crate::node_data::repeated;

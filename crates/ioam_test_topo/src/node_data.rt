@@ -1,3 +1,4 @@
+//! Data of nodes in a domain file.
 use crate::domains::{NODES, is_read_so};
 use crate::faults::{has_fault, joined};
 use ioam_base::memory::NoMemory;

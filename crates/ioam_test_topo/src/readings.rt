@@ -1,3 +1,4 @@
+//! Readings of clocks.
 use crate::domains::{NODES, is_read_so};
 use ioam_clock::{ReadWhy, Readings, ReadingsRefused, Sample, read_readings, stamp};
 use ioam_topo::{Domain, Format, NodeId};

@@ -1,3 +1,4 @@
+//! One capture read in pieces.
 ghost use Rattle.std.specs.Prelude.{◌<◌, ◌≤◌, ◌+◌, ◌^◌, IfOk, IsTrue};
 ghost use Rattle.ioam_capture.specs.Reading.{HoldsFew, fed};
 

@@ -1,3 +1,4 @@
+//! Captures merged by time.
 use crate::stream::captures::two;
 use ioam_base::name::Name;
 use ioam_capture_merge::open_merge;

@@ -1,3 +1,4 @@
+//! Captures of the classic form.
 use crate::puts::{classic, put_entry};
 use crate::shown::{Shows, is_classic};
 use crate::stream::captures::{two, two_read};

@@ -1,3 +1,4 @@
+//! Packets in batches.
 ghost use Rattle.std.specs.Prelude.{All};
 ghost use Rattle.ioam_batch.specs.Jobs.{IsFresh};
 

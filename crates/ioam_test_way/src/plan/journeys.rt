@@ -1,3 +1,4 @@
+//! Journeys of packets.
 ghost use Rattle.std.specs.Prelude.{◌≡◌, ◌<◌, ◌^◌, All, IsTrue, length};
 ghost use Rattle.ioam_topo.specs.Domain.{flows, ports};
 

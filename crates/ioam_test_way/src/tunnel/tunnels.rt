@@ -1,3 +1,4 @@
+//! Packets in tunnels.
 ghost use Rattle.std.specs.Prelude.{IsTrue, ◌≤◌, ◌<◌, length, slice_index};
 ghost use Rattle.ioam_ip.specs.Packet.{IsPacket};
 ghost use Rattle.ioam_topo.specs.Domain.{flows};

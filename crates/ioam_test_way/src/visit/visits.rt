@@ -1,3 +1,4 @@
+//! Visits of nodes.
 use crate::file::is_read_so;
 use crate::visit::foreign_rows::{behind, partly, unknown, unsuited};
 use crate::visit::passing::pass;
