@@ -16,7 +16,7 @@ use std::process::ExitCode;
 /// ends with its status. Of a fault of reading or writing it says on standard error which file it
 /// was, and what the system said.
 fn main(rt: HostRuntime) -> ExitCode {
-    let mut desk = HostDesk::new(MachineFiles::new(&rt), rt.alloc());
+    let mut desk = HostDesk::new(MachineFiles(&rt), rt.alloc());
     let outcome = match words_of(&rt) {
         Ok(words) => ioam(&rt, rt.alloc(), &words, &mut desk, &OpenGate),
         Err(outcome) => outcome,

@@ -72,16 +72,10 @@ pub trait FileSystem {
 
 /// The files of the machine.
 #[derive(Drop)]
-pub struct MachineFiles<'a, R: Files> {
-    files: &'a R,
-}
-
-impl<'a, R: Files> MachineFiles<'a, R> {
-    /// The files of this machine.
-    pub fn new(files: &'a R) -> MachineFiles<'a, R> {
-        MachineFiles { files }
-    }
-}
+pub struct MachineFiles<'a, R: Files>(
+    /// What reaches them.
+    pub &'a R,
+);
 
 impl<'a, R: Files> FileSystem for MachineFiles<'a, R> {
     type File = R::File;
@@ -105,14 +99,14 @@ impl<'a, R: Files> FileSystem for MachineFiles<'a, R> {
     ghost is_not_emptied = { λ _ _. ⊤ };
 
     fn open(&mut self, name: &str) -> io::Result<R::File> {
-        fs::open(self.files, name)
+        fs::open(self.0, name)
     }
 
     fn create(&mut self, name: &str) -> io::Result<R::File> {
         OpenOptions::new()
             .write(true)
             .create(true)
-            .open(self.files, name)
+            .open(self.0, name)
     }
 
     fn identity(&mut self, file: &R::File) -> io::Result<Option<Identity>> {

@@ -225,7 +225,7 @@ fn is_written<D: Desk>(desk: &mut D, name: &str, again: &str) -> Result<bool, De
 fn real_files(rt: HostRuntime) -> Result<(), Fail> {
     let name = "ioam_desk_real_files.bin";
     fs::write(&rt, name, b"what it held before")?;
-    let mut desk = HostDesk::new(MachineFiles::new(&rt), rt.alloc());
+    let mut desk = HostDesk::new(MachineFiles(&rt), rt.alloc());
     assert!(rt; is_written(&mut desk, name, "./ioam_desk_real_files.bin")?);
     fs::remove_file(&rt, name)?;
     Ok(())
