@@ -1,9 +1,9 @@
 -- A prefix reads as what its text spells, both ways, in the words of RFC 4291 section 2.3.
-use Rattle.std.proofs.Common.{◌≡◌, ℕ, suc, ◌+◌, ◌≤◌, inl, inr, true, false, not, nat_lt, eqb, cond, List, [], ◌∷◌, ◌++◌, length, get_or, take, drop, All, Option, Some, None, Result, Ok, Err, IfOk, refl, ap, ap₂, sym, subst, ◌∙◌, arith, eqb-true, length-append}
+use Rattle.std.proofs.Common.{◌≡◌, ℕ, suc, ◌+◌, ◌≤◌, true, false, not, nat_lt, eqb, cond, List, [], ◌∷◌, ◌++◌, length, get_or, take, drop, Option, Some, None, Result, Ok, Err, IfOk, refl, ap, ap₂, sym, subst, ◌∙◌, arith, eqb-true, ne_eqb, true≢false, length-append}
 use Rattle.std.specs.List.{position_or_len}
 use Rattle.std.proofs.Math.Seq.{take-append_seam, drop-append-add, split_at}
+use Rattle.std.proofs.lemmas.Bool.{and_parts}
 use Rattle.std.proofs.lemmas.Bool.Decides.{nat_tests}
-use Rattle.std.proofs.lemmas.List.Elements.{All-cons, All-head, All-tail, All-append}
 use Rattle.std.proofs.lemmas.List.Quantifiers.{position-Some}
 use Rattle.toml.specs.Data.{Data, string}
 use Rattle.ioam_base.proofs.DecimalLaws.{decimal_iff}
@@ -13,10 +13,9 @@ use Rattle.ioam_topo.proofs.PrefixLaws.{masked_is}
 use Rattle.ioam_topo_values.specs.declared.why.Why.{Why}
 use Rattle.ioam_topo_values.specs.Reads.{◌▷◌, needed}
 use Rattle.ioam_topo_values.specs.Texts.{text}
-use Rattle.ioam_topo_values.specs.Addresses.{address_of, ranged, SpellsGroups, Spells}
+use Rattle.ioam_topo_values.specs.Addresses.{is_address_octet, is_plain, address_of, ranged}
 use Rattle.ioam_topo_values.specs.Prefixes.{length_of, prefix_of, parted, slash_at, prefix, IsLength, SpellsPrefix}
-use Rattle.ioam_topo_values.proofs.SpelledLaws.{address_spells}
-use Rattle.ioam_topo_values.proofs.SpelledBackLaws.{Lacks, join_lacks, each_parts, spells_address}
+use Rattle.ioam_topo_values.proofs.AddressLaws.{address_spells, spells_address}
 
 -- every text that is a prefix length reads as it
 length_reads : (s : List ℕ) (n : ℕ) → IsLength s n → length_of s ≡ Some n
@@ -26,23 +25,17 @@ length_reads s n h = (decimal_iff 129 s n (omega arith)).1 (omega (arith, h.0), 
 length_is : (s : List ℕ) (n : ℕ) → length_of s ≡ Some n → IsLength s n
 length_is s n is = let h = (decimal_iff 129 s n (omega arith)).0 is in (omega (arith, h.0), h.1)
 
--- an address has no `/`
-groups_lack : (s gs : List ℕ) → SpellsGroups s gs → Lacks 47 s
-groups_lack s gs h = subst (Lacks 47) (sym h.joins) (join_lacks 47 h.parts refl refl (each_parts h.parts gs h.spells))
+-- the first `/` behind an address
+no_slash : (b : ℕ) → is_address_octet b ≡ true → eqb b 47 ≡ false
+no_slash b h = ne_eqb b 47 (λ same. true≢false (sym h ∙ ap is_address_octet same))
 
-address_lacks : (s : List ℕ) (n : ℕ) → Spells s n → Lacks 47 s
-address_lacks s n (inl h) = groups_lack s h.groups h.spells
-address_lacks s n (inr h) = let P : ℕ → Type 0 = λ b. eqb b 47 ≡ false in
-    let rest : All P (58 ∷ 58 ∷ h.behind) = All-cons P 58 (58 ∷ h.behind) refl (All-cons P 58 h.behind refl (groups_lack h.behind h.back h.spells_back)) in
-    subst (Lacks 47) (sym h.gap) (All-append P h.before (58 ∷ 58 ∷ h.behind) (groups_lack h.before h.front h.spells_front) rest)
-
-first_slash : (s t : List ℕ) → Lacks 47 s → position_or_len (λ b. eqb b 47) (s ++ 47 ∷ t) ≡ length s
+first_slash : (s t : List ℕ) → is_plain s ≡ true → position_or_len (λ b. eqb b 47) (s ++ 47 ∷ t) ≡ length s
 first_slash [] t h = refl
-first_slash (b ∷ bs) t h = ap (λ x. cond (not x) (1 + position_or_len (λ b. eqb b 47) (bs ++ 47 ∷ t)) 0) (All-head (λ b. eqb b 47 ≡ false) b bs h)
-    ∙ ap (λ k. 1 + k) (first_slash bs t (All-tail (λ b. eqb b 47 ≡ false) b bs h)) ∙ omega arith
+first_slash (b ∷ bs) t h = let each = and_parts (is_address_octet b) (is_plain bs) h in
+    ap (λ x. cond (not x) (1 + position_or_len (λ b. eqb b 47) (bs ++ 47 ∷ t)) 0) (no_slash b each.0) ∙ ap (λ k. 1 + k) (first_slash bs t each.1) ∙ omega arith
 
--- behind a text without `/` the first one stands at its end
-slash_behind : (s t : List ℕ) → Lacks 47 s → slash_at (s ++ 47 ∷ t) ≡ Some (length s)
+-- it stands at the address's end
+slash_behind : (s t : List ℕ) → is_plain s ≡ true → slash_at (s ++ 47 ∷ t) ≡ Some (length s)
 slash_behind s t h = let at = first_slash s t h in
     let inside : nat_lt (position_or_len (λ b. eqb b 47) (s ++ 47 ∷ t)) (length (s ++ 47 ∷ t)) ≡ true = grind (arith, nat_tests, at, length-append s (47 ∷ t)) in
     ap (λ x. cond x (Some (position_or_len (λ b. eqb b 47) (s ++ 47 ∷ t))) None) inside ∙ ap Some at
@@ -81,7 +74,7 @@ parted_spells s p (Some i) at is = prefix_by s (take i s) (drop (i + 1) s) p (ad
 pub spells_prefix : (s : List ℕ) (p : Prefix) → SpellsPrefix s p → parted (slash_at s) s ≡ Some p
 spells_prefix s p h =
     let n : ℕ = length h.before in
-    let place : slash_at s ≡ Some n = ap slash_at h.slash ∙ slash_behind h.before h.behind (address_lacks h.before h.bits h.spells) in
+    let place : slash_at s ≡ Some n = ap slash_at h.slash ∙ slash_behind h.before h.behind h.spells.plain in
     let ahead : take n s ≡ h.before = ap (take n) h.slash ∙ take-append_seam h.before (47 ∷ h.behind) in
     let past : drop (n + 1) s ≡ h.behind = ap (drop (n + 1)) h.slash ∙ drop-append-add h.before (47 ∷ h.behind) 1 in
     ap (λ o. parted o s) place ∙ ap₂ prefix_of (ap address_of ahead ∙ spells_address h.before h.bits h.spells) (ap length_of past ∙ length_reads h.behind p.length h.is_length)

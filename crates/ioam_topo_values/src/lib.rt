@@ -6,7 +6,6 @@
 mod addresses;
 mod entries;
 mod finding;
-mod groups;
 mod numbers;
 mod octets;
 mod pairs;

@@ -3,7 +3,7 @@ use Rattle.toml.specs.Data.{get_member}
 use Rattle.toml.specs.View.{table_view}
 use Rattle.ioam_topo_values.specs.Reads.{needed}
 use Rattle.ioam_topo_values.specs.Addresses.{address}
-use Rattle.ioam_topo_values.proofs.SpelledBackLaws.{key_read}
+use Rattle.ioam_topo_values.proofs.AddressLaws.{key_read}
 use Rattle.ioam_topo_values.proofs.addresses.address.Goals as goal
 
 pub returns-in-Ok-clause-every : goal.returns-in-Ok-clause-every
