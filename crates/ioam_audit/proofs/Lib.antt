@@ -1,0 +1,14 @@
+pub mod AddedLaws
+pub mod AddingLaws
+pub mod CheckLaws
+pub mod DataLaws
+pub mod FatesLaws
+pub mod LawfulLaws
+pub mod MatchingLaws
+pub mod NoneLaws
+pub mod PartsLaws
+pub mod ReportLaws
+pub mod ShapeLaws
+pub mod SizeLaws
+pub mod StrictLaws
+pub mod WitnessLaws

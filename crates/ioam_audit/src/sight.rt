@@ -1,0 +1,15 @@
+ghost use Rattle.std.specs.Prelude.{◌<◌, ◌^◌};
+
+/// What is known of a node that sent a packet on.
+#[derive(Clone, Copy, Debug)]
+pub(crate) struct Sight {
+    /// The hop limit with which it sent the packet on.
+    pub(crate) hops: u8,
+    /// Its id, below 2^56.
+    pub(crate) id: u64,
+    /// The interface by which the packet came.
+    pub(crate) inward: u32,
+    pub(crate) ghost hops_below: { hops < 2 ^ 8 },
+    pub(crate) ghost id_below: { id < 2 ^ 56 },
+    pub(crate) ghost inward_below: { inward < 2 ^ 32 },
+}
