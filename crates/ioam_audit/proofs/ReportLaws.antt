@@ -6,7 +6,7 @@ use Rattle.ioam_audit.specs.Report.{IsReport, Yes, No, counted, fate_line, lines
 use Rattle.ioam_audit.proofs.MatchingLaws.{left-map}
 
 -- two tests that decide the same are one
-same_test : (s t : Bool) → (IsTrue s → IsTrue t) → (IsTrue t → IsTrue s) → s ≡ t
+pub same_test : (s t : Bool) → (IsTrue s → IsTrue t) → (IsTrue t → IsTrue s) → s ≡ t
 same_test true true there back = refl
 same_test true false there back = sym (there refl)
 same_test false true there back = back refl

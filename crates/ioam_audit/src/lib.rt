@@ -6,6 +6,11 @@ mod added;
 mod data;
 mod fit;
 mod lawful;
+mod left;
 pub mod matching;
+mod options;
 mod parts;
+mod sent;
 mod sight;
+
+pub use sent::legal;

@@ -1,4 +1,4 @@
-ghost use Rattle.std.specs.Prelude.{◌<◌, ◌^◌};
+ghost use Rattle.std.specs.Prelude.{◌≡◌, ◌<◌, ◌^◌};
 
 /// What is known of a node that sent a packet on.
 #[derive(Clone, Copy, Debug)]
@@ -12,4 +12,16 @@ pub(crate) struct Sight {
     pub(crate) ghost hops_below: { hops < 2 ^ 8 },
     pub(crate) ghost id_below: { id < 2 ^ 56 },
     pub(crate) ghost inward_below: { inward < 2 ^ 32 },
+}
+
+impl Sight {
+    // Of a node of this id.
+    pub(crate) fn new(hops: u8, id: u64, inward: u32) -> Sight
+        requires { id < 2 ^ 56 }
+        ensures hops { result.hops ≡ hops }
+        ensures id { result.id ≡ id }
+        ensures inward { result.inward ≡ inward }
+    {
+        Sight { hops, id, inward }
+    }
 }
