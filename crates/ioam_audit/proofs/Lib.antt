@@ -1,3 +1,4 @@
+mod HopFitsLaws
 pub mod AddedLaws
 pub mod AddingLaws
 pub mod ChangesLaws

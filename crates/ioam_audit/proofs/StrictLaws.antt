@@ -8,8 +8,8 @@ use Rattle.ioam_trace.specs.Head.{node_len_of, overflow_of, kind_of}
 use Rattle.ioam_audit.specs.Becomes.{IsFit, with_element, MayBecome}
 use Rattle.ioam_audit.specs.Free.{IsFree}
 use Rattle.ioam_trace.specs.Filling.{IsSuited, Filling, words_to_add}
-use Rattle.ioam_trace.specs.declared.filled.Filled.{Filled}
-use Rattle.ioam_trace.specs.declared.filled.Filled.TheVariants.{Added, Overflowed, AlreadyOver, Unsuited}
+use Rattle.ioam_trace.specs.declared.addition.Filled.{Filled}
+use Rattle.ioam_trace.specs.declared.addition.Filled.TheVariants.{Added, Overflowed, AlreadyOver, Unsuited}
 use Rattle.ioam_data.specs.Written.{element_of}
 use Rattle.ioam_audit.proofs.CheckLaws.{with_check-ones}
 use Rattle.ioam_audit.proofs.LawfulLaws.{wide}

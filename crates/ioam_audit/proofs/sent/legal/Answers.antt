@@ -1,6 +1,6 @@
 use Rattle.std.proofs.Common.{◌≡◌, ℕ, ◌<◌, List, slice_get, arith, sym, subst}
 use Rattle.ioam_ip.specs.Hop.{HopFits}
-use Rattle.ioam_ip.proofs.SoundLaws.{HopFits-IsSound}
+use Rattle.ioam_audit.proofs.HopFitsLaws.{HopFits-IsSound}
 use Rattle.ioam_topo.specs.Domain.{links}
 use Rattle.ioam_topo.specs.declared.domain.Domain.{Domain}
 use Rattle.ioam_audit.specs.Sent.{IsSentSo, end_of}
