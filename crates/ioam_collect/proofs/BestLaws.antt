@@ -62,20 +62,20 @@ best_has es e has =
 pub has_best : (es : List (Key × Entry)) (e : Key × Entry) → Has es e → (outdone es e ≡ true → ⊥) → Has (best es) e
 has_best es e has not_so = has_filter (λ e. not (outdone es e)) es e has (true_not (outdone es e) not_so)
 
-group-has : (es : List (Key × Entry)) (z : Key × Entry) → Has (kept_of es) z → Has es z × (outdone es z ≡ true → ⊥)
+pub group-has : (es : List (Key × Entry)) (z : Key × Entry) → Has (kept_of es) z → Has es z × (outdone es z ≡ true → ⊥)
 group-has es z has = best_has es z (arranged-has pair_cmp pair_total pair_same (best es) z has)
 
-has-group : (es : List (Key × Entry)) (z : Key × Entry) → Has es z → (outdone es z ≡ true → ⊥) → Has (kept_of es) z
+pub has-group : (es : List (Key × Entry)) (z : Key × Entry) → Has es z → (outdone es z ≡ true → ⊥) → Has (kept_of es) z
 has-group es z has kept = has-arranged pair_cmp pair_total pair_same (best es) z (has_best es z has kept)
 
 pub ordered : (es : List (Key × Entry)) → IsInOrder pair_cmp (kept_of es)
 ordered es = arranged-in_order pair_cmp pair_total pair_same (best es)
 
-same_group : (xs ys : List (Key × Entry)) → IsInOrder pair_cmp xs → IsInOrder pair_cmp ys → ((z : Key × Entry) → Has xs z → Has ys z) → ((z : Key × Entry) → Has ys z → Has xs z) → xs ≡ ys
+pub same_group : (xs ys : List (Key × Entry)) → IsInOrder pair_cmp xs → IsInOrder pair_cmp ys → ((z : Key × Entry) → Has xs z → Has ys z) → ((z : Key × Entry) → Has ys z → Has xs z) → xs ≡ ys
 same_group = same_members pair_cmp pair_total pair_same
 
 -- the best of what was read are kept
-full_kept : (es : List (Key × Entry)) (e : Key × Entry) → tells e ≡ true → outdone es e ≡ true → ⊥
+pub full_kept : (es : List (Key × Entry)) (e : Key × Entry) → tells e ≡ true → outdone es e ≡ true → ⊥
 full_kept es e full is_so = let by = outdone_by es e is_so in untold_tells by.0 e by.3 full
 
 module _ (es : List (Key × Entry)) (e : Key × Entry) where

@@ -3,6 +3,8 @@ pub mod Best
 pub mod Collected
 pub mod Gathered
 pub mod Inside
+pub mod Join
 pub mod Keyed
 pub mod Puts
 pub mod Slots
+pub mod Unite

@@ -9,6 +9,7 @@ mod growing;
 mod key;
 mod key_map;
 mod keying;
+mod laws;
 mod slots;
 mod store;
 
@@ -17,3 +18,7 @@ pub use collector::Collector;
 pub use grouping::{Group, Groups};
 pub use growing::Added;
 pub use key::Key;
+pub use laws::{
+    any_tree_joins, groups_join, groups_tell_what_is_kept, joining_is_a_union, neighbours_tell,
+    side_by_side,
+};

@@ -105,7 +105,7 @@ meet_back a b e = let r = meet_antisymm b a in rw e at r
 meet_forth : (a b : Entry) → meet a b ≡ Less → meet b a ≡ Greater
 meet_forth a b e = let r = meet_antisymm b a in rw e at r
 
-meet_even : (a b : Entry) → meet a b ≡ Equal → meet b a ≡ Equal
+pub meet_even : (a b : Entry) → meet a b ≡ Equal → meet b a ≡ Equal
 meet_even a b e = let r = meet_antisymm b a in rw e at r
 
 pub meet_cores : (a b : Entry) → cores a b ≡ Equal → extras a.extra b.extra ≡ Equal → meet a b ≡ Equal
