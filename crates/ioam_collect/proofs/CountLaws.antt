@@ -48,7 +48,7 @@ core_or_not : (es : List (Key × Entry)) (p : Key × Entry) → HasCore es p ⊎
 core_or_not es p = core_by es p (list_any (λ y. is_eq (pair_cmp (untold y) (untold p))) es) refl
 
 -- a pair is apart from those of a list
-abbrev ApartIn : List (Key × Entry) → Key × Entry → Type 0
+abbrev pub ApartIn : List (Key × Entry) → Key × Entry → Type 0
 ApartIn es p = (RepeatsIn es p → ⊥) × (ReplacesIn es p → ⊥)
 
 -- what a pair is to a list: a repeat, one that replaces another, or apart
@@ -102,13 +102,13 @@ replaced-length ps p absent replaces =
     let shorter : length rest + 1 ≡ length kept = left_out-length pair_cmp pair_total pair_same (untold p) kept (ordered ps) (has_from kept (untold p) replaces.1) in
     ap length (replaced_is ps p replaces) ∙ longer ∙ shorter
 
-apart-length : (ps : List (Key × Entry)) (p : Key × Entry) → ApartIn (kept_of ps) p → length (kept_with ps p) ≡ length (kept_of ps) + 1
+pub apart-length : (ps : List (Key × Entry)) (p : Key × Entry) → ApartIn (kept_of ps) p → length (kept_with ps p) ≡ length (kept_of ps) + 1
 apart-length ps p apart =
     let absent : Has (kept_of ps) p → ⊥ = λ has. apart.0 (inl (contains_from (kept_of ps) p has)) in
     ap length (kept_is ps p apart.0 apart.1) ∙ placed-length pair_cmp pair_total pair_same p (kept_of ps) absent
 
 -- as many, or the pair is apart and there is one more
-pair_more : (ps : List (Key × Entry)) (p : Key × Entry) → (length (kept_with ps p) ≡ length (kept_of ps))
+pub pair_more : (ps : List (Key × Entry)) (p : Key × Entry) → (length (kept_with ps p) ≡ length (kept_of ps))
     ⊎ (ApartIn (kept_of ps) p × (length (kept_with ps p) ≡ length (kept_of ps) + 1))
 pair_more ps p = elim (is_to (kept_of ps) p) [
   | inl repeats ↦ inl (ap length (repeat_is ps p repeats))

@@ -149,8 +149,8 @@ map_in_order : (key : Key) (es : List Entry) → IsInOrder order es → IsInOrde
 map_in_order key [] a = tt
 map_in_order key (e ∷ es) a = (
   all_from (λ z. pair_cmp (pair key e) z ≡ Less) (map (pair key) es) (λ z has.
-  let there = map_has (pair key) es z has in
-  subst (λ y. pair_cmp (pair key e) y ≡ Less) there.2 (pair_less key e there.0 (all_at (λ y. order e y ≡ Less) es there.0 a.0 there.1))),
+      let there = map_has (pair key) es z has in
+      subst (λ y. pair_cmp (pair key e) y ≡ Less) there.2 (pair_less key e there.0 (all_at (λ y. order e y ≡ Less) es there.0 a.0 there.1))),
   map_in_order key es a.1,
 )
 

@@ -155,7 +155,7 @@ kept_apart_by : (ps rest : List (Key × Entry)) → Within rest (kept_of ps) →
 kept_apart_by ps [] within a = tt
 kept_apart_by ps (p ∷ rest) within a = (
   all_from (λ z. pair_meet p z ≡ Less) rest (λ z has.
-  less_meets_by ps p z (within p (inl refl)) (within z (inr has)) (all_at (λ z. pair_cmp p z ≡ Less) rest z a.0 has) (pair_meet p z) refl),
+      less_meets_by ps p z (within p (inl refl)) (within z (inr has)) (all_at (λ z. pair_cmp p z ≡ Less) rest z a.0 has) (pair_meet p z) refl),
   kept_apart_by ps rest (λ z has. within z (inr has)) a.1,
 )
 

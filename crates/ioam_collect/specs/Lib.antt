@@ -4,7 +4,9 @@ pub mod Collected
 pub mod Gathered
 pub mod Inside
 pub mod Join
+pub mod Joining
 pub mod Keyed
 pub mod Puts
+pub mod Ranked
 pub mod Slots
 pub mod Unite

@@ -10,6 +10,7 @@ ghost use Rattle.ioam_collect.specs.Best.{groups_of};
 use crate::ahead::SIDE_BY_SIDE;
 use crate::grouping::Groups;
 use crate::growing::Added;
+use crate::joining::{Joined, join_stores};
 use crate::key::Key;
 use crate::keying::{keyed, write_core};
 use crate::store::Store;
@@ -50,6 +51,7 @@ impl Model for Collector {
 
 impl Collector {
     ghost use Rattle.ioam_collect.specs.Collected.{AddsPair, AddsRecord, Answers, Counts, IsOneMore, Stands};
+    ghost use Rattle.ioam_collect.specs.Joining.{Joins};
     ghost use Rattle.ioam_collect.specs.declared.growing.Added.TheVariants.{Full};
 
     /// A collector of so many records, below 2^31, which holds none.
@@ -132,6 +134,23 @@ impl Collector {
                 self.unkeyed = self.unkeyed.saturating_add(1);
             }
             Added::Full => {}
+        }
+    }
+
+    /// Takes in all that another collector holds: then this one stands for the records of both. `Full` comes
+    /// exactly where the groups of both have more records than may be held. Then, and without memory, the
+    /// collector is as before.
+    pub fn join(&mut self, other: &Collector) -> Result<Joined, NoMemory>
+        ensures { Joins self.old other.now result self.new }
+    {
+        match join_stores(self.alloc, &self.store, &other.store)? {
+            Some(store) => {
+                self.store = store;
+                self.read = self.read.saturating_add(other.read);
+                self.unkeyed = self.unkeyed.saturating_add(other.unkeyed);
+                Ok(Joined::Joined)
+            }
+            None => Ok(Joined::Full),
         }
     }
 

@@ -6,10 +6,12 @@ mod ahead;
 mod collector;
 mod grouping;
 mod growing;
+mod joining;
 mod key;
 mod key_map;
 mod keying;
 mod laws;
+mod ranking;
 mod slots;
 mod store;
 
@@ -17,8 +19,10 @@ pub use ahead::{SIDE_BY_SIDE, read_ahead};
 pub use collector::Collector;
 pub use grouping::{Group, Groups};
 pub use growing::Added;
+pub use joining::Joined;
 pub use key::Key;
 pub use laws::{
     any_tree_joins, groups_join, groups_tell_what_is_kept, joining_is_a_union, neighbours_tell,
     side_by_side,
 };
+pub use ranking::Ranking;

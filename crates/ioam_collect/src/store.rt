@@ -68,6 +68,14 @@ impl Store {
         self.pool.held()
     }
 
+    // How many items there may be.
+    pub(crate) fn limit(&self) -> u32
+        ensures limit { result ≡ self.now.limit }
+        ensures room { result < 2 ^ 31 }
+    {
+        self.limit
+    }
+
     // Adds an item to the group of its key.
     pub(crate) fn add(&mut self, key: Key, item: Item) -> Result<Added, NoMemory>
         requires { IsOfRecord item }

@@ -125,8 +125,9 @@ impl Item {
         extra.cmp(others)
     }
 
-    // Where the item stands to another, items that can't stand beside one another being equal.
-    pub(crate) fn meet(&self, other: &Parts<'_>) -> Ordering
+    /// Where the item stands to another, items that can't stand beside one another being equal: also those of
+    /// equal hop value and core where either has no extra part.
+    pub fn meet(&self, other: &Parts<'_>) -> Ordering
         ensures { result ≡ meet self.now other.now }
     {
         match self.cores(other) {
