@@ -1,0 +1,5 @@
+mod HeadLaws
+pub mod PartLaws
+mod PutLaws
+mod ReaderLaws
+mod TakingLaws

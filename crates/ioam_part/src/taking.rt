@@ -1,0 +1,112 @@
+//! Records that are taken off a part, one after the other.
+ghost use Rattle.std.specs.Prelude.{◌≡◌, ◌∷◌, ◌++◌, ◌+◌, ◌<◌, ◌^◌, [], ℕ, List, None, IfOk, OnOk, length, if◌then◌else◌};
+ghost use Rattle.std.specs.Bool.{OnTrue};
+ghost use Rattle.ioam_dex.specs.Record.{HasItsParts, Record, record_of, record_octets};
+ghost use Rattle.ioam_part.specs.Part.{AreInOrder};
+ghost use Rattle.ioam_part.specs.Reading.{Goes, Holds, Stops, Took, Turns};
+
+use crate::fault::PartFault;
+use crate::head::HEAD_SIZE;
+use crate::progress::Progress;
+use ioam_base::memory::NoMemory;
+use ioam_dex::{Export, ExportReader, Step};
+
+// So many octets where they are there.
+fn size_where(there: bool, size: u64) -> u64
+    ensures { result ≡ (if there then size else 0) }
+{
+    if there { size } else { 0 }
+}
+
+// The octets of a record.
+fn size_of(export: &Export<'_>) -> u64
+    requires parts { HasItsParts (record_of export.now) }
+    ensures { result ≡ length (record_octets (record_of export.now)) }
+{
+    let visit = size_where(export.visit.is_some(), 12);
+    let flow = size_where(export.flow.is_some(), 4);
+    let seq = size_where(export.seq.is_some(), 4);
+    10 + visit + flow + seq + export.element.len() as u64
+}
+
+/// The place in the part of what stands so far behind its head.
+pub(crate) fn place_of(end: u64) -> u64
+    ensures { end < 2 ^ 63 → result ≡ 12 + end }
+{
+    end.saturating_add(HEAD_SIZE as u64)
+}
+
+// Lets the collector hold a record, where it isn't full.
+fn hold(progress: &mut Progress, export: &Export<'_>) -> Result<(), NoMemory>
+    requires parts { HasItsParts (record_of export.now) }
+    ensures holds { OnOk result ((limit : ℕ) (xs : List Record) → AreInOrder (xs ++ record_of export.now ∷ [])
+        → Holds limit progress.old.full progress.old.collector xs
+        → Holds limit progress.new.full progress.new.collector (xs ++ record_of export.now ∷ [])) }
+    ensures others { progress.new ≡ record progress.old { collector = progress.new.collector; full = progress.new.full } }
+{
+    if progress.full {
+        return Ok(());
+    }
+    let added = progress.collector.add(export)?;
+    progress.full = added.is_full();
+    Ok(())
+}
+
+// Takes a record. False where it may not stand behind the last one, which is the fault then.
+fn take(progress: &mut Progress, export: &Export<'_>) -> Result<bool, NoMemory>
+    requires parts { HasItsParts (record_of export.now) }
+    ensures { IfOk result (λ fits. Goes progress.old (record_of export.now) fits progress.new) }
+{
+    if !progress.order.push(export)? {
+        progress.fault = Some((place_of(progress.end), PartFault::Order));
+        return Ok(false);
+    }
+    hold(progress, export)?;
+    progress.given = progress.given.saturating_add(1);
+    progress.end = progress.end.saturating_add(size_of(export));
+    Ok(true)
+}
+
+// Takes the next record that the octets fed so far show, of so many in all. False where none was taken.
+fn take_next(
+    reader: &mut ExportReader,
+    progress: &mut Progress,
+    count: u32,
+) -> Result<bool, NoMemory>
+    ensures turns { IfOk result (λ more. (limit : ℕ) (body : List ℕ) (xs : List Record) → progress.old.fault ≡ None
+        → Took count limit body xs reader.old progress.old → Turns count limit body xs more reader.new progress.new) }
+    ensures shorter { IfOk result (λ more. OnTrue more (length reader.new.pending < length reader.old.pending)) }
+{
+    if progress.given >= count {
+        if reader.fed() == progress.end {
+            return Ok(false);
+        }
+        progress.fault = Some((place_of(progress.end), PartFault::Rest));
+        return Ok(false);
+    }
+    match reader.next() {
+        Step::Export(export) => take(progress, &export),
+        Step::More => Ok(false),
+        Step::Bad { at, fault } => {
+            progress.fault = Some((place_of(at), PartFault::Record { fault }));
+            Ok(false)
+        }
+    }
+}
+
+/// Takes all records that the octets fed so far show, of so many in all.
+pub(crate) fn take_shown(
+    reader: &mut ExportReader,
+    progress: &mut Progress,
+    count: u32,
+) -> Result<(), NoMemory>
+    ensures { OnOk result ((limit : ℕ) (body : List ℕ) (xs : List Record) → progress.old.fault ≡ None
+        → Took count limit body xs reader.old progress.old
+        → (ys : List Record) × Stops count limit body ys reader.new progress.new) }
+{
+    'records: loop {
+        if !take_next(reader, progress, count)? {
+            return Ok(());
+        }
+    }
+}
