@@ -1,0 +1,27 @@
+//! What a set holds, by its id (RFC 7011 section 3.3.2).
+
+ghost use Rattle.std.specs.Prelude.{◌≡◌};
+ghost use Rattle.ioam_ipfix.specs.Sets.{set_kind};
+
+/// What a set holds.
+#[derive(Clone, Copy)]
+pub(crate) enum SetKind {
+    Templates,
+    Data,
+    /// Templates of options, and data sets of templates that aren't of the profile.
+    Skipped,
+    Reserved,
+}
+
+/// What a set of this id holds.
+pub(crate) fn set_kind(id: u16) -> SetKind
+    ensures { result ≡ set_kind id }
+{
+    match id {
+        2 => SetKind::Templates,
+        3 => SetKind::Skipped,
+        0..=255 => SetKind::Reserved,
+        256..=263 => SetKind::Data,
+        _ => SetKind::Skipped,
+    }
+}
