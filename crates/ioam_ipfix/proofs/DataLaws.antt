@@ -17,6 +17,7 @@ use Rattle.ioam_ipfix.specs.Chain.{Stops, IsFunctional}
 use Rattle.ioam_ipfix.specs.Templates.{IsTemplate, tells_flow, tells_seq, tells_visit}
 use Rattle.ioam_ipfix.specs.Data.{weight, template_of, front_octets, head_octets, tail_octets, data_octets, Spelled, front_of, prefix_at, size_at, data_size, element_at, data_with, data_at, HasRoom}
 use Rattle.ioam_ipfix.specs.Sets.{IsPadding, RecordPasses}
+use Rattle.ioam_ipfix.specs.Steps.{IsElementPlace}
 
 -- ---- what a template tells of its records
 
@@ -376,3 +377,21 @@ pub sayable-agrees : (id : ℕ) (octets : List ℕ) → IsOctets octets → IsRe
 sayable-agrees id octets small is =
     let shape = shaped-at id octets small (element_at (drop (front_of id) octets)) in
     (sym is.parts.flow ∙ shape.flow, sym is.parts.seq ∙ shape.seq)
+
+-- the element of a record that is there whole, as a slice
+pub element-slice : (id : ℕ) (octets : List ℕ) (from to : ℕ) → IsElementPlace id octets from to → take (to - from) (drop from octets) ≡ element_at (drop (front_of id) octets)
+element-slice id octets from to place =
+    let rest = drop (front_of id) octets in
+    let start = place.1 in
+    let end = place.2 in
+    let count : to - from ≡ size_at rest = omega (arith, start, end) in
+    ap (λ n. take n (drop from octets)) count ∙ ap (λ n. take (size_at rest) (drop n octets)) start
+    ∙ ap (take (size_at rest)) (sym (drop-drop (prefix_at rest) (front_of id) octets))
+
+prefix-least : (b : Bool) → 1 ≤ cond b 1 3
+prefix-least true = omega arith
+prefix-least false = omega arith
+
+-- a data record has 8 octets and more
+pub data_size-least : (id : ℕ) (octets : List ℕ) → 8 ≤ data_size id octets
+data_size-least id octets = let least = prefix-least (nat_lt (get_or (drop (front_of id) octets) 0 0) 255) in omega (arith, least)

@@ -4,5 +4,6 @@ pub mod Faults
 pub mod Messages
 pub mod Reads
 pub mod Sets
+pub mod Steps
 pub mod Templates
 pub mod Written

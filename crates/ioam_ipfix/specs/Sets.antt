@@ -1,6 +1,6 @@
 -- Sets (RFC 7011 section 3.3): id 16 bits, length with these four octets 16 bits, then templates or data records, and
 -- perhaps padding.
-use Rattle.std.specs.Prelude.{ℕ, ◌-◌, ◌≡◌, ◌<◌, ◌≤◌, Bool, nat_lt, ◌==◌, if◌then◌else◌, List, [], ◌++◌, length, take, drop, slice_index, EachIndex}
+use Rattle.std.specs.Prelude.{ℕ, ◌-◌, ◌≡◌, ◌<◌, ◌≤◌, Bool, nat_lt, ◌==◌, if◌then◌else◌, List, [], ◌++◌, length, take, drop, slice_index, EachIndex, ⊤}
 use Rattle.ioam_base.specs.Octets.{u16_at}
 use Rattle.ioam_dex.specs.Record.{Record}
 use Rattle.ioam_ipfix.specs.declared.kind.SetKind.{SetKind}
@@ -21,6 +21,13 @@ spot known octets = record { known = known; octets = octets }
 -- are skipped; data; the other ids are reserved
 abbrev pub set_kind : ℕ → SetKind
 set_kind id = if id == 2 then Templates else (if id == 3 then Skipped else (if nat_lt id 256 then Reserved else (if nat_lt id 264 then Data else Skipped)))
+
+-- the id of data is that of a template
+abbrev pub IsOfKind : SetKind → ℕ → Type 0
+IsOfKind Templates id = ⊤
+IsOfKind Data id = IsTemplate id
+IsOfKind Skipped id = ⊤
+IsOfKind Reserved id = ⊤
 
 -- fewer octets than a thing has, all zero
 abbrev pub IsPadding : ℕ → List ℕ → Type 0

@@ -1,7 +1,7 @@
 //! What a set holds, by its id (RFC 7011 section 3.3.2).
 
 ghost use Rattle.std.specs.Prelude.{◌≡◌};
-ghost use Rattle.ioam_ipfix.specs.Sets.{set_kind};
+ghost use Rattle.ioam_ipfix.specs.Sets.{set_kind, IsOfKind};
 
 /// What a set holds.
 #[derive(Clone, Copy)]
@@ -15,7 +15,8 @@ pub(crate) enum SetKind {
 
 /// What a set of this id holds.
 pub(crate) fn set_kind(id: u16) -> SetKind
-    ensures { result ≡ set_kind id }
+    ensures value { result ≡ set_kind id }
+    ensures data { IsOfKind result id }
 {
     match id {
         2 => SetKind::Templates,

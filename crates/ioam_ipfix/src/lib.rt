@@ -1,10 +1,12 @@
-//! Export records as IPFIX messages (RFC 7011): messages of sets, templates and data records. So far
-//! their definitions and laws.
+//! Export records as IPFIX messages (RFC 7011): messages of sets, templates and data records, both
+//! ways.
 #![tactic(auto)]
 
+mod data;
 mod fault;
 mod kind;
 mod laws;
+mod template;
 
 pub use fault::IpfixFault;
 pub use laws::{reads_one_way, runs_are_one, written_is_read};

@@ -1,0 +1,263 @@
+//! Data records (RFC 7011 section 3.4.3), both ways.
+
+ghost use Rattle.std.specs.Prelude.{◌≡◌, ℕ, ◌+◌, ◌-◌, ◌≤◌, ◌<◌, ◌↔◌, IsTrue, List, ◌++◌, length, take, drop, slice_index, EachIndex, MatchOption, vec_len, vec_capacity};
+ghost use Rattle.ioam_base.specs.Words.{four_octets_if};
+ghost use Rattle.ioam_data.specs.Elements.{IsFilled};
+ghost use Rattle.ioam_dex.specs.Numbers.{has_flow, has_seq, four_where, u32_where};
+ghost use Rattle.ioam_dex.specs.Visit.{visit_octets, twelve_where, visit_where};
+ghost use Rattle.ioam_dex.specs.Record.{IsRecord, record_of};
+ghost use Rattle.ioam_ipfix.specs.Data.{template_of, head_octets, tail_octets, data_octets, front_of, prefix_at, size_at, data_size, element_at, data_with, data_at, HasRoom};
+ghost use Rattle.ioam_ipfix.specs.Sets.{IsPadding};
+ghost use Rattle.ioam_ipfix.specs.Steps.{TellsData, IsVariable, IsElementPlace, Agrees};
+ghost use Rattle.ioam_ipfix.specs.Templates.{IsTemplate};
+
+use crate::template::{tells_flow, tells_seq, tells_visit, weight};
+use ioam_base::buffer::Buffer;
+use ioam_base::octets::{u16_at, u32_at, u64_at};
+use ioam_data::{Namespace, TraceType, split};
+use ioam_dex::{ELEMENT_MOST, Export};
+
+/// What octets where a data record is due show.
+#[derive(Clone, Copy)]
+pub(crate) enum DataStep {
+    /// A record of so many octets.
+    Whole(usize),
+    Padding,
+    Bad,
+}
+
+// ---- writing
+
+/// The template of a record.
+pub(crate) fn template_of(export: &Export<'_>) -> u16
+    ensures { result ≡ template_of (record_of export.now) }
+{
+    256 + weight(export.flow.is_some(), 4)
+        + weight(export.seq.is_some(), 2)
+        + weight(export.visit.is_some(), 1)
+}
+
+// Appends a visit, where it is there.
+fn put_visit(visit: Option<(u64, u32)>, buffer: &mut Buffer)
+    requires { length buffer.old + 12 ≤ 24 }
+    ensures value { buffer.new ≡ buffer.old ++ visit_octets visit }
+    ensures size { length buffer.new ≤ length buffer.old + 12 }
+{
+    if let Some(visit) = visit {
+        buffer.eight(visit.0);
+        buffer.four(visit.1);
+    }
+}
+
+// The namespace, the flags, the type and the visit.
+fn head(export: &Export<'_>) -> Buffer
+    ensures value { result ≡ head_octets (record_of export.now) }
+    ensures size { length result ≤ 19 }
+{
+    let mut head = Buffer::new();
+    head.two(export.namespace.0);
+    head.append(&[export.flags, export.ext]);
+    head.three(export.kind);
+    put_visit(export.visit, &mut head);
+    head
+}
+
+// The flow, the sequence number and the length of the element.
+fn tail(export: &Export<'_>) -> Buffer
+    requires { length export.now.element.now ≤ 244 }
+    ensures value { result ≡ tail_octets (record_of export.now) }
+    ensures size { length result ≤ 9 }
+{
+    let mut tail = Buffer::new();
+    tail.four_if(export.flow);
+    tail.four_if(export.seq);
+    tail.append(&[export.element.len() as u8]);
+    tail
+}
+
+// Appends octets for which there is room.
+pub(crate) fn put(part: &[u8], out: &mut Vec<u8>)
+    requires { vec_len out.old + length part.now ≤ vec_capacity out.old }
+    ensures items { out.new.items ≡ out.old.items ++ part.now }
+    ensures len { vec_len out.new ≡ vec_len out.old + length part.now }
+    ensures capacity { vec_capacity out.old ≤ vec_capacity out.new }
+{
+    // never refused: the room was taken before
+    out.extend_from_slice(part).unwrap();
+}
+
+/// Appends a data record, for which there is room.
+#[tactic(auto, using(crate::proofs::DataLaws::data_built))]
+pub(crate) fn put_data(export: &Export<'_>, out: &mut Vec<u8>)
+    requires short { length export.now.element.now ≤ 244 }
+    requires room { vec_len out.old + length (data_octets (record_of export.now)) ≤ vec_capacity out.old }
+    ensures items { out.new.items ≡ out.old.items ++ data_octets (record_of export.now) }
+    ensures len { vec_len out.new ≡ vec_len out.old + length (data_octets (record_of export.now)) }
+    ensures capacity { vec_capacity out.old ≤ vec_capacity out.new }
+{
+    put(head(export).octets(), out);
+    put(tail(export).octets(), out);
+    put(export.element, out);
+}
+
+// ---- reading
+
+// The octets in front of the element's length.
+fn front_of(id: u16) -> usize
+    ensures value { result ≡ front_of id }
+    ensures small { (7 ≤ result) × (result ≤ 27) }
+{
+    usize::from(
+        7 + weight(tells_visit(id), 12) + weight(tells_flow(id), 4) + weight(tells_seq(id), 4),
+    )
+}
+
+// How many octets a variable field's length takes, and the length, where the field is there whole.
+fn variable(rest: &[u8]) -> Option<(usize, usize)>
+    ensures { MatchOption result (length rest.now < prefix_at rest.now + size_at rest.now)
+        (λ found. IsVariable rest.now found.0 found.1) }
+{
+    if rest.is_empty() {
+        return None;
+    }
+    let (prefix, size) = if rest[0] < 255 {
+        (1, usize::from(rest[0]))
+    } else if rest.len() < 3 {
+        return None;
+    } else {
+        (3, usize::from(u16_at(rest, 1)))
+    };
+    if rest.len() < prefix + size {
+        return None;
+    }
+    Some((prefix, size))
+}
+
+// Where the element of a record begins and ends, where it is there whole.
+fn element_place(id: u16, octets: &[u8]) -> Option<(usize, usize)>
+    ensures { MatchOption result (HasRoom id octets.now → ⊥) (λ found. IsElementPlace id octets.now found.0 found.1) }
+{
+    let front = front_of(id);
+    if octets.len() < front {
+        return None;
+    }
+    match variable(&octets[front..]) {
+        Some((prefix, size)) => Some((front + prefix, front + prefix + size)),
+        None => None,
+    }
+}
+
+// The visit at a place, where it is told.
+fn visit_where(there: bool, octets: &[u8], at: usize) -> Option<(u64, u32)>
+    requires { at + twelve_where there ≤ length octets.now }
+    ensures { result ≡ visit_where there octets.now at }
+{
+    if there {
+        Some((u64_at(octets, at), u32_at(octets, at + 8)))
+    } else {
+        None
+    }
+}
+
+// The number at a place, where it is told.
+fn u32_where(there: bool, octets: &[u8], at: usize) -> Option<u32>
+    requires { at + four_where there ≤ length octets.now }
+    ensures { result ≡ u32_where there octets.now at }
+{
+    if there {
+        Some(u32_at(octets, at))
+    } else {
+        None
+    }
+}
+
+// The record whose front is there, with an element.
+fn with_element<'a>(id: u16, octets: &[u8], element: &'a [u8]) -> Export<'a>
+    requires { front_of id ≤ length octets.now }
+    ensures { record_of result ≡ data_with id octets.now element.now }
+{
+    let flow = 7 + usize::from(weight(tells_visit(id), 12));
+    let seq = flow + usize::from(weight(tells_flow(id), 4));
+    Export {
+        namespace: Namespace(u16_at(octets, 0)),
+        flags: octets[2],
+        ext: octets[3],
+        kind: TraceType::at(octets, 4).bits(),
+        visit: visit_where(tells_visit(id), octets, 7),
+        flow: u32_where(tells_flow(id), octets, flow),
+        seq: u32_where(tells_seq(id), octets, seq),
+        element,
+    }
+}
+
+// Whether octets are one element of a type, or nothing where it asks for nothing.
+fn is_filled(kind: TraceType, element: &[u8]) -> bool
+    ensures { IsTrue result ↔ IsFilled kind element.now }
+{
+    match split(kind, kind.words(), element) {
+        Some(size) => size == element.len(),
+        None => kind.words() == 0 && !kind.has_snapshot() && element.is_empty(),
+    }
+}
+
+// Whether the extension flags say what a template tells.
+#[tactic(auto, unfolding(ioam_dex::specs::Numbers::has_flow, ioam_dex::specs::Numbers::has_seq))]
+fn agrees(id: u16, ext: u8) -> bool
+    ensures { IsTrue result ↔ Agrees id ext }
+{
+    (ext / 128 % 2 == 1) == tells_flow(id) && (ext / 64 % 2 == 1) == tells_seq(id)
+}
+
+// The size of the record that stands in front, where it is there whole and may be said.
+fn data_whole(id: u16, octets: &[u8]) -> Option<usize>
+    ensures { MatchOption result (HasRoom id octets.now → IsRecord (data_at id octets.now) → ⊥)
+        (λ size. (size ≡ data_size id octets.now) × HasRoom id octets.now × IsRecord (data_at id octets.now)) }
+{
+    let Some((from, to)) = element_place(id, octets) else {
+        return None;
+    };
+    let element = &octets[from..to];
+    if agrees(id, octets[3])
+        && element.len() <= ELEMENT_MOST
+        && is_filled(TraceType::at(octets, 4), element)
+    {
+        Some(to)
+    } else {
+        None
+    }
+}
+
+/// Whether all octets are zero.
+pub(crate) fn all_zero(octets: &[u8]) -> bool
+    ensures { IsTrue result ↔ EachIndex octets.now (λ k. slice_index octets.now k ≡ 0) }
+{
+    octets.iter().all(|octet| *octet == 0)
+}
+
+/// What octets where a data record of a template is due show.
+pub(crate) fn data_step(id: u16, octets: &[u8]) -> DataStep
+    requires { IsTemplate id }
+    ensures { TellsData id octets.now result }
+{
+    if octets.len() < 8 {
+        return if all_zero(octets) {
+            DataStep::Padding
+        } else {
+            DataStep::Bad
+        };
+    }
+    match data_whole(id, octets) {
+        Some(size) => DataStep::Whole(size),
+        None => DataStep::Bad,
+    }
+}
+
+/// The data record of a template that stands in front.
+pub(crate) fn read_data(id: u16, octets: &[u8]) -> Export<'_>
+    requires { HasRoom id octets.now }
+    ensures { record_of result ≡ data_at id octets.now }
+{
+    // the room is there, so an element is found
+    let (from, to) = element_place(id, octets).unwrap();
+    with_element(id, octets, &octets[from..to])
+}
