@@ -2,7 +2,11 @@ pub mod ChainLaws
 pub mod DataLaws
 pub mod LongestLaws
 pub mod MessageLaws
+pub mod PlacesLaws
+pub mod ReaderLaws
 pub mod ReadsLaws
+pub mod RunLaws
 pub mod SetLaws
+pub mod StepLaws
 pub mod TemplateLaws
 pub mod WrittenLaws

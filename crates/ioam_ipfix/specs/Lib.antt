@@ -2,6 +2,9 @@ pub mod Chain
 pub mod Data
 pub mod Faults
 pub mod Messages
+pub mod Places
+pub mod Reader
+pub mod Reading
 pub mod Reads
 pub mod Sets
 pub mod Steps

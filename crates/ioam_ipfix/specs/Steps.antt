@@ -1,13 +1,22 @@
 -- What octets show of the thing that is due in front of them.
-use Rattle.std.specs.Prelude.{ℕ, ◌+◌, ◌≡◌, ◌≤◌, List, length, drop}
+use Rattle.std.specs.Prelude.{ℕ, ◌+◌, ◌≡◌, ◌<◌, ◌≤◌, Bool, List, [], ◌++◌, length, drop}
+use Rattle.ioam_base.specs.Octets.{u16_at}
 use Rattle.ioam_dex.specs.Numbers.{has_flow, has_seq}
-use Rattle.ioam_dex.specs.Record.{IsRecord}
+use Rattle.ioam_dex.specs.Record.{Record, IsRecord}
 use Rattle.ioam_ipfix.specs.declared.data.DataStep.{DataStep}
 use Rattle.ioam_ipfix.specs.declared.data.DataStep.TheVariants as data_step
-use Rattle.ioam_ipfix.specs.Chain.{Stops}
-use Rattle.ioam_ipfix.specs.Templates.{tells_flow, tells_seq}
+use Rattle.ioam_ipfix.specs.declared.message.HeadStep.{HeadStep}
+use Rattle.ioam_ipfix.specs.declared.message.HeadStep.TheVariants as head_step
+use Rattle.ioam_ipfix.specs.declared.place.Place.{Place}
+use Rattle.ioam_ipfix.specs.declared.set.TemplateStep.{TemplateStep}
+use Rattle.ioam_ipfix.specs.declared.set.TemplateStep.TheVariants as template_step
+use Rattle.ioam_ipfix.specs.Chain.{Chain, Stops}
+use Rattle.ioam_ipfix.specs.Templates.{tells_flow, tells_seq, with_templates}
 use Rattle.ioam_ipfix.specs.Data.{front_of, prefix_at, size_at, data_size, data_at, HasRoom}
-use Rattle.ioam_ipfix.specs.Sets.{IsPadding, RecordPasses}
+use Rattle.ioam_ipfix.specs.Sets.{spot, set_kind, IsPadding, RecordPasses, HasRecords, TemplatePasses, HasTemplates, HoldsAs, SetPasses}
+use Rattle.ioam_ipfix.specs.Messages.{joined, IsWhole, IsCut}
+use Rattle.ioam_ipfix.specs.Faults.{IsStuckTemplate, IsBadHead}
+use Rattle.ioam_ipfix.specs.Places.{records_at, AllPlaces}
 
 -- a variable field is there whole, its length in so many octets
 abbrev pub IsVariable : List ℕ → ℕ → ℕ → Type 0
@@ -26,3 +35,36 @@ TellsData id octets (data_step.Whole size) = (size ≡ data_size id octets) × H
     × RecordPasses id octets (data_at id octets) (drop size octets)
 TellsData id octets data_step.Padding = IsPadding 8 octets
 TellsData id octets data_step.Bad = (IsPadding 8 octets → ⊥) × Stops (RecordPasses id) octets
+
+abbrev pub TellsTemplate : List ℕ → TemplateStep → Type 0
+TellsTemplate octets (template_step.Whole id size) = TemplatePasses octets id (drop size octets) × (4 ≤ size) × (size ≤ length octets)
+TellsTemplate octets template_step.Padding = IsPadding 4 octets
+TellsTemplate octets (template_step.Bad f) = IsStuckTemplate octets f
+
+abbrev pub TellsHead : List ℕ → HeadStep → Type 0
+TellsHead octets (head_step.Whole size) = IsWhole octets × (size ≡ u16_at octets 2) × (size < 65536)
+TellsHead octets head_step.Cut = IsCut octets × (length octets < 65535)
+TellsHead octets (head_step.Bad f) = IsBadHead octets f
+
+-- ---- what was found of a message: which templates are known behind it, and where its records stand
+
+abbrev pub AddsTemplates : List ℕ → List Bool → List Bool → Type 0
+AddsTemplates content known behind = (ids : List ℕ) × HasTemplates content ids × (behind ≡ with_templates known ids)
+
+-- the places of these records more
+abbrev pub Adds : List ℕ → List Place → List Place → List Record → Type 0
+Adds message old new xs = (records_at message new ≡ records_at message old ++ xs) × AllPlaces message new
+
+abbrev pub AddsRecords : ℕ → List ℕ → List ℕ → List Place → List Place → Type 0
+AddsRecords id message content old new = (xs : List Record) × HasRecords id content xs × Adds message old new xs
+
+abbrev pub AddsContent : ℕ → List ℕ → List ℕ → List Bool → List Bool → List Place → List Place → Type 0
+AddsContent id message content known behind old new = (xs : List Record) × HoldsAs (set_kind id) known id content xs behind × Adds message old new xs
+
+abbrev pub AddsSet : List ℕ → ℕ → ℕ → List Bool → List Bool → List Place → List Place → Type 0
+AddsSet message at size known behind old new = (xs : List Record) × SetPasses (spot known (drop at message)) xs (spot behind (drop (at + size) message))
+    × (4 ≤ size) × (at + size ≤ length message) × Adds message old new xs
+
+abbrev pub TakesMessage : List ℕ → List Bool → List Bool → List Place → Type 0
+TakesMessage message known behind places = (sets : List (List Record)) × Chain SetPasses (spot known (drop 16 message)) sets (spot behind [])
+    × (records_at message places ≡ joined sets) × AllPlaces message places

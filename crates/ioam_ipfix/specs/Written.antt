@@ -2,7 +2,8 @@
 use Rattle.std.specs.Prelude.{ℕ, ◌+◌, ◌%◌, ◌≡◌, ◌≢◌, ◌≤◌, ◌⊎◌, ⊤, List, [], ◌∷◌, ◌++◌, length, flat_map}
 use Rattle.std.specs.List.{AllByRecursion}
 use Rattle.ioam_base.specs.Words.{two_octets, four_octets}
-use Rattle.ioam_dex.specs.Record.{Record, IsRecord}
+use Rattle.ioam_dex.specs.Record.{Record, IsRecord, record_octets}
+use Rattle.ioam_dex.specs.Reads.{records_octets}
 use Rattle.ioam_ipfix.specs.Templates.{template_octets, all_ids}
 use Rattle.ioam_ipfix.specs.Data.{template_of, data_octets}
 
@@ -45,3 +46,17 @@ AreLongest (run ∷ next ∷ runs) = ((length run.1 ≡ 32) ⊎ (run.0 ≢ next.
 -- what is written of runs
 abbrev pub messages_text : List (ℕ × List Record) → List ℕ
 messages_text runs = templates_message ++ runs_text 0 runs
+
+-- ---- records as they are handed to the writer
+
+-- the octets begin with a record
+abbrev pub BeginsRecord : List ℕ → Type 0
+BeginsRecord octets = (x : Record) × (behind : List ℕ) × IsRecord x × (octets ≡ record_octets x ++ behind)
+
+-- the octets are records one behind the other
+abbrev pub AreRecords : List ℕ → Type 0
+AreRecords octets = (xs : List Record) × AllByRecursion IsRecord xs × (octets ≡ records_octets xs)
+
+-- and these are a run
+abbrev pub IsRunText : List ℕ → Type 0
+IsRunText octets = (id : ℕ) × (xs : List Record) × IsRun id xs × (octets ≡ records_octets xs)

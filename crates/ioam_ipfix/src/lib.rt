@@ -6,7 +6,14 @@ mod data;
 mod fault;
 mod kind;
 mod laws;
+mod message;
+mod place;
+mod reader;
+mod set;
 mod template;
+mod writer;
 
 pub use fault::IpfixFault;
 pub use laws::{reads_one_way, runs_are_one, written_is_read};
+pub use reader::{IpfixReader, IpfixStep};
+pub use writer::{put_message, put_templates};

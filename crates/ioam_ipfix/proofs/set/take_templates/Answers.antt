@@ -1,0 +1,19 @@
+use Rattle.std.proofs.Common.{◌+◌, ◌≤◌, length, drop, sym, subst}
+use Rattle.std.specs.Prelude.{set, true}
+use Rattle.std.proofs.lemmas.List.{take_rest}
+use Rattle.ioam_ipfix.specs.Sets.{TemplatePasses}
+use Rattle.ioam_ipfix.proofs.PlacesLaws.{Took, Took-push}
+use Rattle.ioam_ipfix.proofs.set.take_templates.Goals as goal
+
+pub templates-preserved : goal.templates-preserved
+templates-preserved c =
+    let content = c.args.content.now in
+    let at = c.templates.at in
+    let id = c.in-Whole.id in
+    let size = c.in-Whole.size in
+    let whole = subst (λ o. TemplatePasses o id (drop size o) × (4 ≤ size) × (size ≤ length o)) (take_rest content at) c.in-Whole.ensures in
+    let took = Took-push content c.args.known.now at c.templates.known id size c.templates.invariant.took whole.0 whole.2 in
+    record {
+      within = took.within;
+      took = subst (λ k. Took content c.args.known.now (at + size) (set c.templates.known k true)) (sym c.from.ensures) took;
+    }

@@ -1,0 +1,229 @@
+//! Messages, read out of any pieces of them.
+
+ghost use Rattle.std.specs.Prelude.{◌≡◌, ◌+◌, ◌≤◌, ◌<◌, ◌^◌, ◌++◌, [], List, ℕ, length, IfOk, MatchOption, OnErr, OnOk};
+ghost use Rattle.std.specs.Borrow.{sem};
+
+use crate::data::read_data;
+use crate::fault::IpfixFault;
+use crate::message::{HeadStep, head_step, take_message};
+use crate::place::Place;
+use ioam_base::memory::NoMemory;
+use ioam_base::octets::drop_front;
+use ioam_dex::Export;
+use std::alloc::Global;
+use std::marker::Model;
+
+/// Octets that a reader has room for from the start: a piece as files are read in.
+const ROOM: usize = 65_536;
+
+/// Places that it has room for: a message, of 65,535 octets at most, has fewer records, of 8 at
+/// least.
+const PLACES: usize = 8_192;
+
+/// What a reader shows next of its input.
+#[derive(Clone, Copy, Debug)]
+pub enum IpfixStep<'a> {
+    /// A record was read, in a message that is without a fault.
+    Export(Export<'a>),
+    /// More octets are needed, or the input's end.
+    More,
+    /// At this place of the input begins a message that is faulty.
+    Bad { at: u64, fault: IpfixFault },
+}
+
+/// What stands behind the messages whose records were all given, or one of these that was taken.
+#[derive(Clone, Copy)]
+enum Found {
+    Due,
+    Taken,
+    More,
+    Bad(IpfixFault),
+}
+
+/// Reads messages out of any pieces of them. Each is checked whole before its first record is given.
+///
+/// It keeps the octets that were fed and not yet taken, those of the message whose records are due,
+/// and their places: less than two messages and one piece, where each piece is fed after `next`
+/// answered `More`. Each octet is copied into the buffer once, and moved to its front at most once.
+#[derive(Drop)]
+pub struct IpfixReader {
+    buffer: Vec<u8>,
+    // where in the buffer the message begins whose records are due, and how many octets it has
+    from: usize,
+    size: usize,
+    // the place in the input of the first octet behind it
+    start: u64,
+    known: [bool; 8],
+    // messages that were taken
+    messages: u64,
+    // where the records of the message stand, and how many of them were given
+    places: Vec<Place>,
+    given: usize,
+}
+
+impl Model for IpfixReader {
+    ghost use Rattle.std.specs.Prelude.{◌+◌, ◌-◌, ◌<◌, ◌≤◌, ◌^◌, take, drop, length, vec_capacity};
+    ghost use Rattle.ioam_ipfix.specs.Places.{AllPlaces, records_at};
+    ghost use Rattle.ioam_ipfix.specs.Reading.{Reading};
+
+    ghost Value = { Reading };
+
+    ghost view = { λ r. record {
+      known = r.known;
+      messages = r.messages;
+      due = records_at (take r.size (drop r.from r.buffer.items)) (drop r.given r.places.items);
+      start = r.start;
+      pending = drop (r.from + r.size) r.buffer.items;
+    } };
+
+    ghost invariant = { λ r. (r.from + r.size ≤ length r.buffer.items)
+        × (r.start + (length r.buffer.items - (r.from + r.size)) < 2 ^ 63)
+        × (r.messages ≤ r.start)
+        × (8192 ≤ vec_capacity r.places)
+        × (r.given ≤ length r.places.items)
+        × AllPlaces (take r.size (drop r.from r.buffer.items)) (drop r.given r.places.items) };
+}
+
+impl IpfixReader {
+    ghost use Rattle.ioam_ipfix.specs.declared.fault.IpfixFault.TheVariants.{Short};
+    ghost use Rattle.ioam_dex.specs.Record.{Record};
+    ghost use Rattle.ioam_ipfix.specs.Reading.{fresh, fed};
+    ghost use Rattle.ioam_ipfix.specs.Reader.{Stands, Waits, KeepsFault, Advances, Steps, RestsSo, ReadsSo, ending_of};
+
+    /// A reader that was fed nothing.
+    pub fn new(alloc: Global) -> Result<IpfixReader, NoMemory>
+        ensures exact { IfOk result (λ reader. reader ≡ fresh) }
+        ensures stands { IfOk result (λ reader. Stands reader [] []) }
+    {
+        let buffer = Vec::with_capacity(alloc, ROOM)?;
+        let places = Vec::with_capacity(alloc, PLACES)?;
+        Ok(IpfixReader {
+            buffer,
+            from: 0,
+            size: 0,
+            start: 0,
+            known: [false; 8],
+            messages: 0,
+            places,
+            given: 0,
+        })
+    }
+
+    /// How many octets were fed in all.
+    pub fn fed(&self) -> u64
+        ensures { result ≡ fed self.now }
+    {
+        self.start + (self.buffer.len() - (self.from + self.size)) as u64
+    }
+
+    /// How many messages were taken: with a record just given its own is the last of them.
+    pub fn messages(&self) -> u64
+        ensures { result ≡ self.now.messages }
+    {
+        self.messages
+    }
+
+    /// Feeds the next octets of the input, of which there are below 2^63 in all.
+    pub fn feed(&mut self, piece: &[u8]) -> Result<(), NoMemory>
+        requires { fed self.old + length piece.now < 2 ^ 63 }
+        ensures ok { OnOk result (self.new
+            ≡ record self.old { pending = self.old.pending ++ piece.now }) }
+        ensures stands { OnOk result ((octets : List ℕ) (given : List Record)
+            → Stands self.old octets given
+            → Stands self.new (octets ++ piece.now) given) }
+        // A fault of what is due stays, whatever is fed.
+        ensures faulty { OnOk result (KeepsFault self.old self.new) }
+        ensures err { OnErr result (self.new ≡ self.old) }
+    {
+        drop_front(&mut self.buffer, self.from);
+        self.from = 0;
+        self.buffer.extend_from_slice(piece)?;
+        Ok(())
+    }
+
+    // Looks at the message that is due, and takes it where it is whole and without a fault.
+    fn step(&mut self) -> Found
+        requires { self.old.due ≡ [] }
+        ensures { Steps self.old self.new result }
+    {
+        self.from += self.size;
+        self.size = 0;
+        self.places.clear();
+        self.given = 0;
+        match head_step(&self.buffer[self.from..]) {
+            HeadStep::Cut => Found::More,
+            HeadStep::Bad(fault) => Found::Bad(fault),
+            HeadStep::Whole(size) => {
+                let message = &self.buffer[self.from..self.from + size];
+                match take_message(message, self.known, &mut self.places) {
+                    Ok(known) => {
+                        self.known = known;
+                        self.size = size;
+                        self.start += size as u64;
+                        self.messages += 1;
+                        Found::Taken
+                    }
+                    Err(fault) => {
+                        self.places.clear();
+                        Found::Bad(fault)
+                    }
+                }
+            }
+        }
+    }
+
+    // Takes messages up to one with a record.
+    fn advance(&mut self) -> Found
+        ensures { Advances self.old self.new result }
+    {
+        'taking: loop {
+            if self.given < self.places.len() {
+                return Found::Due;
+            }
+            match self.step() {
+                Found::Taken => {}
+                Found::Due => return Found::Due,
+                Found::More => return Found::More,
+                Found::Bad(fault) => return Found::Bad(fault),
+            }
+        }
+    }
+
+    /// The next record of the input. After `Bad` every call answers the same.
+    pub fn next(&mut self) -> IpfixStep<'_>
+        ensures* { sem 𝓛 (RestsSo self.entry result) }
+    {
+        match self.advance() {
+            Found::Due => {
+                let place = self.places[self.given];
+                self.given += 1;
+                let from = self.from + usize::from(place.from);
+                let to = self.from + usize::from(place.to);
+                IpfixStep::Export(read_data(place.id, &self.buffer[from..to]))
+            }
+            Found::Taken => IpfixStep::More,
+            Found::More => IpfixStep::More,
+            Found::Bad(fault) => IpfixStep::Bad {
+                at: self.start,
+                fault,
+            },
+        }
+    }
+
+    /// What an ended input leaves over, once `next` answered `More`: nothing where its last message is
+    /// whole, else the place of the message that is cut, and how many octets of it are there.
+    pub fn finish(&self) -> Option<(u64, IpfixFault)>
+        requires { Waits self.now }
+        ensures left { MatchOption result (self.now.pending ≡ [])
+            (λ cut. (cut ≡ (self.now.start, Short (length self.now.pending))) × (0 < length self.now.pending)) }
+        // What was given is read of the octets that were fed, in whatever pieces, and nothing else.
+        ensures reads { (octets : List ℕ) (given : List Record) → Stands self.now octets given
+            → ReadsSo octets given (ending_of result) }
+    {
+        let have = self.buffer.len() - (self.from + self.size);
+        if have == 0 {
+            return None;
+        }
+        Some((self.start, IpfixFault::Short { have: have as u32 }))
+    }
+}
