@@ -15,7 +15,7 @@ use crate::template::{tells_flow, tells_seq, tells_visit, weight};
 use ioam_base::buffer::Buffer;
 use ioam_base::octets::{u16_at, u32_at, u64_at};
 use ioam_data::{Namespace, TraceType, split};
-use ioam_dex::{ELEMENT_MOST, Export};
+use ioam_dex::{Export, MOST_ELEMENT};
 
 /// What octets where a data record is due show.
 #[derive(Clone, Copy)]
@@ -218,7 +218,7 @@ fn data_whole(id: u16, octets: &[u8]) -> Option<usize>
     };
     let element = &octets[from..to];
     if agrees(id, octets[3])
-        && element.len() <= ELEMENT_MOST
+        && element.len() <= MOST_ELEMENT
         && is_filled(TraceType::at(octets, 4), element)
     {
         Some(to)
