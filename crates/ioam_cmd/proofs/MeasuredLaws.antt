@@ -136,6 +136,8 @@ module _ (octets : List ℕ) (read : List Record) (left : List ℕ) (reads : Rea
   collects content report old_in new_in old new (outcome.Domain fault) is leaves = leaves
   collects content report old_in new_in old new (outcome.Readings fault) is leaves = leaves
   collects content report old_in new_in old new (outcome.Capture name at fault) is leaves = leaves
+  collects content report old_in new_in old new (outcome.Ipfix at fault) is leaves = leaves
+  collects content report old_in new_in old new (outcome.Part name at fault) is leaves = leaves
   collects content report old_in new_in old new (outcome.Packets limit) is leaves = leaves
 
   are_collected : AreCollected read ending octets
@@ -269,6 +271,8 @@ module _ (opens : Bool) (words : List (List ℕ)) (old_in new_in : Reading) (old
   measures (outcome.Readings fault) left = tt
   measures (outcome.Names name) left = tt
   measures (outcome.Exports place fault) left = tt
+  measures (outcome.Ipfix place fault) left = tt
+  measures (outcome.Part which place fault) left = tt
   measures (outcome.Records limit) left = tt
 
 pub run-then-collect : RunThenCollect

@@ -56,11 +56,7 @@ module _ (read : List Record) (ending : Ending) where
   Collects old new report outcome.WriteFault = TellsPart old new report
   Collects old new report outcome.NoMemory = (new ≡ old) ⊎ TellsPart old new report
   Collects old new report (outcome.Names name) = new ≡ old
-  Collects old new report outcome.Usage = ⊥
-  Collects old new report (outcome.Domain fault) = ⊥
-  Collects old new report (outcome.Readings fault) = ⊥
-  Collects old new report (outcome.Capture name at fault) = ⊥
-  Collects old new report (outcome.Packets limit) = ⊥
+  Collects old new report _ = ⊥
 
   -- Where the records are no more than may be, and the names differ, the answer of their ending is what the octets ask of `collect`; and
   -- whatever `collect` leaves where EXPORTS holds these octets tells of the records.
@@ -120,12 +116,7 @@ module _ (opens : Bool) (words : List (List ℕ)) (old_in new_in : Reading) (old
       ⊎ OfTraffic opens words old_in new_in old new (λ course. AreOpened course new_in × IsAllMeasured course (PartsArrive course.lanes.contents new_in course.lanes.base))
   Measures outcome.WriteFault = OfTraffic opens words old_in new_in old new (λ course. IsPartMeasured course)
   Measures outcome.NoMemory = (new ≡ old) ⊎ OfTraffic opens words old_in new_in old new (λ course. IsPartMeasured course)
-  Measures outcome.Usage = ⊤
-  Measures (outcome.Domain fault) = ⊤
-  Measures (outcome.Readings fault) = ⊤
-  Measures (outcome.Names name) = ⊤
-  Measures (outcome.Exports place fault) = ⊤
-  Measures (outcome.Records limit) = ⊤
+  Measures _ = ⊤
 
 -- whatever `run` leaves
 abbrev pub RunThenCollect : Type 0

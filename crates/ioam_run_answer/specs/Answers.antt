@@ -5,6 +5,10 @@ use Rattle.ioam_clock.specs.declared.fault.ReadWhy.TheVariants as read
 use Rattle.ioam_clock.specs.declared.fault.ReadingsFault.{ReadingsFault}
 use Rattle.ioam_dex.specs.declared.export.ExportFault.{ExportFault}
 use Rattle.ioam_dex.specs.declared.export.ExportFault.TheVariants as export
+use Rattle.ioam_ipfix.specs.declared.fault.IpfixFault.{IpfixFault}
+use Rattle.ioam_ipfix.specs.declared.fault.IpfixFault.TheVariants as ipfix
+use Rattle.ioam_part.specs.declared.fault.PartFault.{PartFault}
+use Rattle.ioam_part.specs.declared.fault.PartFault.TheVariants as part
 use Rattle.ioam_pcap.specs.declared.capture.CapFault.{CapFault}
 use Rattle.ioam_pcap.specs.declared.capture.CapFault.TheVariants as fault
 use Rattle.ioam_topo_values.specs.declared.why.Why.{Why}
@@ -15,7 +19,7 @@ use Rattle.ioam_topo_entries.specs.declared.words.Field.TheVariants as field
 use Rattle.ioam_topo_entries.specs.declared.words.Table.{Table}
 use Rattle.ioam_topo_entries.specs.declared.words.Table.TheVariants as table
 use Rattle.ioam_run_answer.specs.declared.outcome.Outcome.{Outcome}
-use Rattle.ioam_run_answer.specs.declared.outcome.Outcome.TheVariants.{Done, Usage, Names, Domain, Readings, Capture, Exports, Packets, Records, ReadFault, WriteFault, NoMemory}
+use Rattle.ioam_run_answer.specs.declared.outcome.Outcome.TheVariants.{Done, Usage, Names, Domain, Readings, Capture, Exports, Packets, Records, ReadFault, WriteFault, NoMemory, Ipfix, Part}
 
 abbrev pub status_of : Outcome → ℕ
 status_of Done = 0
@@ -30,6 +34,8 @@ status_of (Records limit) = 8
 status_of ReadFault = 9
 status_of WriteFault = 10
 status_of NoMemory = 11
+status_of (Ipfix at fault) = 12
+status_of (Part name at fault) = 13
 
 -- the words for what is wrong with a domain file and with readings
 abbrev pub table_text : Table → List ℕ
@@ -147,6 +153,22 @@ export_text (export.Length found) = codes "length " ++ decimal found
 export_text (export.Element at) = codes "element " ++ decimal at
 export_text (export.Short have) = codes "short " ++ decimal have
 
+abbrev pub ipfix_text : IpfixFault → List ℕ
+ipfix_text (ipfix.Version found) = codes "version " ++ decimal found
+ipfix_text (ipfix.Length found) = codes "length " ++ decimal found
+ipfix_text (ipfix.Set found) = codes "set " ++ decimal found
+ipfix_text (ipfix.Template found) = codes "template " ++ decimal found
+ipfix_text (ipfix.Field at) = codes "field " ++ decimal at
+ipfix_text (ipfix.Short have) = codes "short " ++ decimal have
+
+abbrev pub part_text : PartFault → List ℕ
+part_text part.Mark = codes "mark"
+part_text (part.Count found) = codes "count " ++ decimal found
+part_text (part.Record fault) = codes "record " ++ export_text fault
+part_text part.Order = codes "order"
+part_text (part.Short have) = codes "short " ++ decimal have
+part_text part.Rest = codes "rest"
+
 abbrev pub line_text : Outcome → List ℕ
 line_text Done = codes "done"
 line_text Usage = codes "usage"
@@ -157,6 +179,8 @@ line_text (Capture name at fault) = codes "capture " ++ name ++ codes " " ++ dec
 line_text (Exports at fault) = codes "exports " ++ decimal at ++ codes " " ++ export_text fault
 line_text (Packets limit) = codes "packets " ++ decimal limit
 line_text (Records limit) = codes "records " ++ decimal limit
+line_text (Ipfix at fault) = codes "ipfix " ++ decimal at ++ codes " " ++ ipfix_text fault
+line_text (Part name at fault) = codes "part " ++ name ++ codes " " ++ decimal at ++ codes " " ++ part_text fault
 line_text ReadFault = codes "read fault"
 line_text WriteFault = codes "write fault"
 line_text NoMemory = codes "no memory"

@@ -1,12 +1,14 @@
 //! The exit status and the line of an answer.
 ghost use Rattle.std.specs.Prelude.{◌≡◌, ◌++◌, IfOk, codes, decimal, string_bytes};
-ghost use Rattle.ioam_run_answer.specs.Answers.{status_of, line_text, domain_text, readings_text, fault_text, export_text};
+ghost use Rattle.ioam_run_answer.specs.Answers.{status_of, line_text, domain_text, readings_text, fault_text, export_text, ipfix_text, part_text};
 
 use crate::outcome::Outcome;
 use crate::words::{field_text, read_why_text, table_text, why_text};
 use ioam_base::memory::NoMemory;
 use ioam_clock::ReadingsFault;
 use ioam_dex::ExportFault;
+use ioam_ipfix::IpfixFault;
+use ioam_part::PartFault;
 use ioam_pcap::CapFault;
 use ioam_topo_entries::DomainFault;
 use std::alloc::Global;
@@ -28,6 +30,8 @@ pub fn status(outcome: &Outcome) -> u8
         Outcome::ReadFault => 9,
         Outcome::WriteFault => 10,
         Outcome::NoMemory => 11,
+        Outcome::Ipfix { .. } => 12,
+        Outcome::Part { .. } => 13,
     }
 }
 
@@ -48,6 +52,8 @@ pub fn line(alloc: Global, outcome: &Outcome) -> Result<String, NoMemory>
         Outcome::Exports { at, fault } => exports_line(alloc, *at, *fault),
         Outcome::Packets { limit } => Ok(format!(in alloc; "packets {}", *limit)?),
         Outcome::Records { limit } => Ok(format!(in alloc; "records {}", *limit)?),
+        Outcome::Ipfix { at, fault } => ipfix_line(alloc, *at, *fault),
+        Outcome::Part { name, at, fault } => part_line(alloc, name.text(), *at, *fault),
         Outcome::ReadFault => Ok(String::from_str(alloc, "read fault")?),
         Outcome::WriteFault => Ok(String::from_str(alloc, "write fault")?),
         Outcome::NoMemory => Ok(String::from_str(alloc, "no memory")?),
@@ -124,4 +130,59 @@ fn export_line(alloc: Global, fault: ExportFault) -> Result<String, NoMemory>
         ExportFault::Short { have } => format!(in alloc; "short {have}")?,
     };
     Ok(line)
+}
+
+// The line of a faulty message.
+fn ipfix_line(alloc: Global, at: u64, fault: IpfixFault) -> Result<String, NoMemory>
+    ensures { IfOk result (λ line. string_bytes line
+        ≡ codes "ipfix " ++ decimal at ++ codes " " ++ ipfix_text fault) }
+{
+    let fault = message_line(alloc, fault)?;
+    Ok(format!(in alloc; "ipfix {} {}", at, fault)?)
+}
+
+// A message's fault, as its line ends.
+fn message_line(alloc: Global, fault: IpfixFault) -> Result<String, NoMemory>
+    ensures { IfOk result (λ line. string_bytes line ≡ ipfix_text fault) }
+{
+    let line = match fault {
+        IpfixFault::Version { found } => format!(in alloc; "version {found}")?,
+        IpfixFault::Length { found } => format!(in alloc; "length {found}")?,
+        IpfixFault::Set { found } => format!(in alloc; "set {found}")?,
+        IpfixFault::Template { found } => format!(in alloc; "template {found}")?,
+        IpfixFault::Field { at } => format!(in alloc; "field {at}")?,
+        IpfixFault::Short { have } => format!(in alloc; "short {have}")?,
+    };
+    Ok(line)
+}
+
+// The line of a faulty part.
+fn part_line(alloc: Global, name: &str, at: u64, fault: PartFault) -> Result<String, NoMemory>
+    ensures { IfOk result (λ line. string_bytes line
+        ≡ codes "part " ++ name.now ++ codes " " ++ decimal at ++ codes " " ++ part_text fault) }
+{
+    let fault = part_fault_line(alloc, fault)?;
+    Ok(format!(in alloc; "part {} {} {}", name, at, fault)?)
+}
+
+// A part's fault, as its line ends.
+fn part_fault_line(alloc: Global, fault: PartFault) -> Result<String, NoMemory>
+    ensures { IfOk result (λ line. string_bytes line ≡ part_text fault) }
+{
+    match fault {
+        PartFault::Mark => Ok(String::from_str(alloc, "mark")?),
+        PartFault::Count { found } => Ok(format!(in alloc; "count {found}")?),
+        PartFault::Record { fault } => part_record_line(alloc, fault),
+        PartFault::Order => Ok(String::from_str(alloc, "order")?),
+        PartFault::Short { have } => Ok(format!(in alloc; "short {have}")?),
+        PartFault::Rest => Ok(String::from_str(alloc, "rest")?),
+    }
+}
+
+// A faulty record of a part, as its line ends.
+fn part_record_line(alloc: Global, fault: ExportFault) -> Result<String, NoMemory>
+    ensures { IfOk result (λ line. string_bytes line ≡ codes "record " ++ export_text fault) }
+{
+    let fault = export_line(alloc, fault)?;
+    Ok(format!(in alloc; "record {}", fault)?)
 }

@@ -4,6 +4,8 @@ ghost use Rattle.std.specs.Prelude.{◌≡◌, ◌⊎◌};
 use ioam_base::name::Name;
 use ioam_clock::ReadingsFault;
 use ioam_dex::ExportFault;
+use ioam_ipfix::IpfixFault;
+use ioam_part::PartFault;
 use ioam_pcap::CapFault;
 use ioam_topo_entries::DomainFault;
 use std::alloc::Global;
@@ -45,6 +47,17 @@ pub enum Outcome {
     /// EXPORTS has more records, or more different ones to be grouped, than this many.
     Records {
         limit: u32,
+    },
+    /// The IPFIX message at this octet of IN, counted from 0, is faulty (RFC 7011 section 3).
+    Ipfix {
+        at: u64,
+        fault: IpfixFault,
+    },
+    /// A part is none, from this octet of the file on, counted from 0.
+    Part {
+        name: Name,
+        at: u64,
+        fault: PartFault,
     },
     /// An input could not be opened or read.
     ReadFault,

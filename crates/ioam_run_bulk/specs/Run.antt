@@ -49,27 +49,11 @@ module _ (seed count : ℕ) where
   Leaves report old new outcome.Done = HoldsReport report new
   Leaves report old new outcome.WriteFault = HoldsFront report old new
   Leaves report old new outcome.NoMemory = HoldsFront report old new
-  Leaves report old new outcome.ReadFault = ⊥
-  Leaves report old new outcome.Usage = ⊥
-  Leaves report old new (outcome.Names name) = ⊥
-  Leaves report old new (outcome.Domain fault) = ⊥
-  Leaves report old new (outcome.Readings fault) = ⊥
-  Leaves report old new (outcome.Capture name at fault) = ⊥
-  Leaves report old new (outcome.Packets limit) = ⊥
-  Leaves report old new (outcome.Exports place fault) = ⊥
-  Leaves report old new (outcome.Records limit) = ⊥
+  Leaves report old new _ = ⊥
 
 -- the cause of each answer; want of memory alone has none
 abbrev pub HasCause : Writing → Writing → Outcome → Type 0
 HasCause old new outcome.Done = ⊤
 HasCause old new outcome.WriteFault = Rose old.side.faults new.side.faults
 HasCause old new outcome.NoMemory = ⊤
-HasCause old new outcome.ReadFault = ⊥
-HasCause old new outcome.Usage = ⊥
-HasCause old new (outcome.Names name) = ⊥
-HasCause old new (outcome.Domain fault) = ⊥
-HasCause old new (outcome.Readings fault) = ⊥
-HasCause old new (outcome.Capture name at fault) = ⊥
-HasCause old new (outcome.Packets limit) = ⊥
-HasCause old new (outcome.Exports place fault) = ⊥
-HasCause old new (outcome.Records limit) = ⊥
+HasCause old new _ = ⊥

@@ -105,6 +105,8 @@ module _ (input output report : List ℕ) (old_in new_in : Reading) (old new : W
       from_held (holds old input) (EndsSo (Faulty at fault)) output report new (begins_ends (Faulty at fault)) leaves
   Leaves-bounded (outcome.Packets limit) leaves behind = from_held (holds old input) (ArePassed most_packets) output report new (begins_passed most_packets) leaves
   Leaves-bounded (outcome.Exports place fault) leaves behind = absurd leaves
+  Leaves-bounded (outcome.Ipfix place fault) leaves behind = absurd leaves
+  Leaves-bounded (outcome.Part which place fault) leaves behind = absurd leaves
   Leaves-bounded (outcome.Records limit) leaves behind = absurd leaves
   Leaves-bounded outcome.ReadFault leaves behind = ⊎_elim (λ unopened. absurd (omega (arith, unopened.0, behind)))
       (λ held. from_held (holds old input) (AreWhole (new_in.left old_in.side.slots)) output report new (begins_whole (new_in.left old_in.side.slots)) held.1) leaves

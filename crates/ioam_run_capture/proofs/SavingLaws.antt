@@ -62,6 +62,8 @@ module _ (input output : List ℕ) (old_in new_in : Reading) (old new : Writing)
   Leaves-saved (outcome.Capture name at fault) leaves done = absurd done
   Leaves-saved (outcome.Packets limit) leaves done = absurd done
   Leaves-saved (outcome.Exports place fault) leaves done = absurd done
+  Leaves-saved (outcome.Ipfix place fault) leaves done = absurd done
+  Leaves-saved (outcome.Part which place fault) leaves done = absurd done
   Leaves-saved (outcome.Records limit) leaves done = absurd done
   Leaves-saved outcome.ReadFault leaves done = absurd done
   Leaves-saved outcome.Usage leaves done = absurd done

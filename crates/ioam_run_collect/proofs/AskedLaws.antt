@@ -48,6 +48,8 @@ module _ (tells : Bool) (content : Option (List ℕ)) (exports report : List ℕ
   Asked-unique outcome.Done (outcome.Domain why') x y = absurd y
   Asked-unique outcome.Done (outcome.Readings why') x y = absurd y
   Asked-unique outcome.Done (outcome.Capture name' at' fault') x y = absurd y
+  Asked-unique outcome.Done (outcome.Ipfix at' fault') x y = absurd y
+  Asked-unique outcome.Done (outcome.Part name' at' fault') x y = absurd y
   Asked-unique outcome.Done (outcome.Packets limit') x y = absurd y
   Asked-unique outcome.Done outcome.ReadFault x y = absurd y
   Asked-unique outcome.Done outcome.WriteFault x y = absurd y
@@ -60,6 +62,8 @@ module _ (tells : Bool) (content : Option (List ℕ)) (exports report : List ℕ
   Asked-unique (outcome.Names name) (outcome.Domain why') x y = absurd y
   Asked-unique (outcome.Names name) (outcome.Readings why') x y = absurd y
   Asked-unique (outcome.Names name) (outcome.Capture name' at' fault') x y = absurd y
+  Asked-unique (outcome.Names name) (outcome.Ipfix at' fault') x y = absurd y
+  Asked-unique (outcome.Names name) (outcome.Part name' at' fault') x y = absurd y
   Asked-unique (outcome.Names name) (outcome.Packets limit') x y = absurd y
   Asked-unique (outcome.Names name) outcome.ReadFault x y = absurd y
   Asked-unique (outcome.Names name) outcome.WriteFault x y = absurd y
@@ -72,6 +76,8 @@ module _ (tells : Bool) (content : Option (List ℕ)) (exports report : List ℕ
   Asked-unique (outcome.Exports at fault) (outcome.Domain why') x y = absurd y
   Asked-unique (outcome.Exports at fault) (outcome.Readings why') x y = absurd y
   Asked-unique (outcome.Exports at fault) (outcome.Capture name' at' fault') x y = absurd y
+  Asked-unique (outcome.Exports at fault) (outcome.Ipfix at' fault') x y = absurd y
+  Asked-unique (outcome.Exports at fault) (outcome.Part name' at' fault') x y = absurd y
   Asked-unique (outcome.Exports at fault) (outcome.Packets limit') x y = absurd y
   Asked-unique (outcome.Exports at fault) outcome.ReadFault x y = absurd y
   Asked-unique (outcome.Exports at fault) outcome.WriteFault x y = absurd y
@@ -84,6 +90,8 @@ module _ (tells : Bool) (content : Option (List ℕ)) (exports report : List ℕ
   Asked-unique (outcome.Records limit) (outcome.Domain why') x y = absurd y
   Asked-unique (outcome.Records limit) (outcome.Readings why') x y = absurd y
   Asked-unique (outcome.Records limit) (outcome.Capture name' at' fault') x y = absurd y
+  Asked-unique (outcome.Records limit) (outcome.Ipfix at' fault') x y = absurd y
+  Asked-unique (outcome.Records limit) (outcome.Part name' at' fault') x y = absurd y
   Asked-unique (outcome.Records limit) (outcome.Packets limit') x y = absurd y
   Asked-unique (outcome.Records limit) outcome.ReadFault x y = absurd y
   Asked-unique (outcome.Records limit) outcome.WriteFault x y = absurd y
@@ -92,6 +100,8 @@ module _ (tells : Bool) (content : Option (List ℕ)) (exports report : List ℕ
   Asked-unique (outcome.Domain why) b x y = absurd x
   Asked-unique (outcome.Readings why) b x y = absurd x
   Asked-unique (outcome.Capture name at fault) b x y = absurd x
+  Asked-unique (outcome.Ipfix at fault) b x y = absurd x
+  Asked-unique (outcome.Part name at fault) b x y = absurd x
   Asked-unique (outcome.Packets limit) b x y = absurd x
   Asked-unique outcome.ReadFault b x y = absurd x
   Asked-unique outcome.WriteFault b x y = absurd x
@@ -110,6 +120,8 @@ module _ (tells : Bool) (content : Option (List ℕ)) (exports report : List ℕ
   HasCause-asked old_in new_in old new (outcome.Domain why) asked cause asks reads writes = absurd cause
   HasCause-asked old_in new_in old new (outcome.Readings why) asked cause asks reads writes = absurd cause
   HasCause-asked old_in new_in old new (outcome.Capture name at fault) asked cause asks reads writes = absurd cause
+  HasCause-asked old_in new_in old new (outcome.Ipfix at fault) asked cause asks reads writes = absurd cause
+  HasCause-asked old_in new_in old new (outcome.Part name at fault) asked cause asks reads writes = absurd cause
   HasCause-asked old_in new_in old new (outcome.Packets limit) asked cause asks reads writes = absurd cause
   HasCause-asked old_in new_in old new outcome.ReadFault asked cause asks reads writes = absurd (reads cause)
   HasCause-asked old_in new_in old new outcome.WriteFault asked cause asks reads writes = absurd (writes cause)

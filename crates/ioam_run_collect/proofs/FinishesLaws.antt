@@ -151,6 +151,8 @@ module _ (tells : Bool) (start : Start) (slot : ℕ) (first_in old_in new_in : d
   Finishes-cause reads writes (outcome.Domain why) finishes = absurd finishes
   Finishes-cause reads writes (outcome.Readings why) finishes = absurd finishes
   Finishes-cause reads writes (outcome.Capture name at fault) finishes = absurd finishes
+  Finishes-cause reads writes (outcome.Ipfix at fault) finishes = absurd finishes
+  Finishes-cause reads writes (outcome.Part name at fault) finishes = absurd finishes
   Finishes-cause reads writes (outcome.Packets limit) finishes = absurd finishes
   Finishes-cause reads writes outcome.ReadFault finishes = omega (arith, finishes.0, reads)
   Finishes-cause reads writes outcome.WriteFault finishes = omega (arith, finishes.0, writes)
@@ -170,6 +172,8 @@ module _ (tells : Bool) (start : Start) (slot : ℕ) (first_in old_in new_in : d
   Finishes-leaves told number opened (outcome.Domain why) finishes = absurd finishes
   Finishes-leaves told number opened (outcome.Readings why) finishes = absurd finishes
   Finishes-leaves told number opened (outcome.Capture name at fault) finishes = absurd finishes
+  Finishes-leaves told number opened (outcome.Ipfix at fault) finishes = absurd finishes
+  Finishes-leaves told number opened (outcome.Part name at fault) finishes = absurd finishes
   Finishes-leaves told number opened (outcome.Packets limit) finishes = absurd finishes
   Finishes-leaves told number opened outcome.ReadFault finishes =
       let P : ℕ → Type 0 = λ k. IsSomeAnd start.content (HoldsReport (AreWhole (new_in.left k)) new start.report) in
@@ -188,6 +192,8 @@ module _ (tells : Bool) (start : Start) (slot : ℕ) (first_in old_in new_in : d
   Finishes-drained number (outcome.Domain why) finishes done told = absurd done
   Finishes-drained number (outcome.Readings why) finishes done told = absurd done
   Finishes-drained number (outcome.Capture name at fault) finishes done told = absurd done
+  Finishes-drained number (outcome.Ipfix at fault) finishes done told = absurd done
+  Finishes-drained number (outcome.Part name at fault) finishes done told = absurd done
   Finishes-drained number (outcome.Packets limit) finishes done told = absurd done
   Finishes-drained number outcome.ReadFault finishes done told = absurd done
   Finishes-drained number outcome.WriteFault finishes done told = absurd done

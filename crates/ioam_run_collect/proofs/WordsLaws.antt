@@ -46,6 +46,8 @@ module _ (tells : Bool) (content : Option (List ℕ)) (exports report : List ℕ
   cause_of_file (outcome.Domain why) apart cause = absurd cause
   cause_of_file (outcome.Readings why) apart cause = absurd cause
   cause_of_file (outcome.Capture name at fault) apart cause = absurd cause
+  cause_of_file (outcome.Ipfix at fault) apart cause = absurd cause
+  cause_of_file (outcome.Part name at fault) apart cause = absurd cause
   cause_of_file (outcome.Packets limit) apart cause = absurd cause
   cause_of_file outcome.ReadFault apart cause = cause
   cause_of_file outcome.WriteFault apart cause = cause

@@ -43,12 +43,7 @@ module _ (tells : Bool) (content : Option (List ℕ)) (old_in new_in : Reading) 
   FileCause (outcome.Exports at fault) = IsTrue tells → IsSomeAnd content (IsExports (Faulty at fault))
   FileCause (outcome.Records limit) = IsLimit limit × (IsTrue tells → IsSomeAnd content (IsLong limit))
   FileCause outcome.Done = IsTrue tells → IsSomeAnd content (IsExports Whole)
-  FileCause (outcome.Names name) = ⊥
-  FileCause outcome.Usage = ⊥
-  FileCause (outcome.Domain why) = ⊥
-  FileCause (outcome.Readings why) = ⊥
-  FileCause (outcome.Capture name at fault) = ⊥
-  FileCause (outcome.Packets limit) = ⊥
+  FileCause _ = ⊥
 
 -- the report is a front of the text of some first records of EXPORTS
 pub record HoldsFront (new : Writing) (report : List ℕ) (octets : List ℕ) : Type 0 where
@@ -72,9 +67,4 @@ module _ (tells : Bool) (start : Start) (slot : ℕ) (old_in new_in : Reading) (
   Finishes outcome.ReadFault = Rose old_in.side.faults new_in.side.faults × Holds (AreWhole (new_in.left slot))
   Finishes outcome.WriteFault = Rose old.side.faults new.side.faults × Sticks
   Finishes outcome.NoMemory = Sticks
-  Finishes outcome.Usage = ⊥
-  Finishes (outcome.Domain why) = ⊥
-  Finishes (outcome.Readings why) = ⊥
-  Finishes (outcome.Names name) = ⊥
-  Finishes (outcome.Capture name at fault) = ⊥
-  Finishes (outcome.Packets limit) = ⊥
+  Finishes _ = ⊥

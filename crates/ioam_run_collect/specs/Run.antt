@@ -47,14 +47,7 @@ module _ (tells : Bool) (content : Option (List ℕ)) (exports report : List ℕ
   Asked (outcome.Exports at fault) = (exports ≢ report) × (IsTrue tells → IsSomeAnd content (IsExports (Faulty at fault)))
   Asked (outcome.Records limit) = (exports ≢ report) × IsLimit limit × (IsTrue tells → IsSomeAnd content (IsLong limit))
   Asked outcome.Done = (exports ≢ report) × (IsTrue tells → IsSomeAnd content (IsExports Whole))
-  Asked outcome.Usage = ⊥
-  Asked (outcome.Domain why) = ⊥
-  Asked (outcome.Readings why) = ⊥
-  Asked (outcome.Capture name at fault) = ⊥
-  Asked (outcome.Packets limit) = ⊥
-  Asked outcome.ReadFault = ⊥
-  Asked outcome.WriteFault = ⊥
-  Asked outcome.NoMemory = ⊥
+  Asked _ = ⊥
 
   -- the cause of each answer; want of memory alone has none
   module _ (old_in new_in : Reading) (old new : Writing) where
@@ -66,11 +59,7 @@ module _ (tells : Bool) (content : Option (List ℕ)) (exports report : List ℕ
     HasCause (outcome.Exports at fault) = Asked (outcome.Exports at fault)
     HasCause (outcome.Records limit) = Asked (outcome.Records limit)
     HasCause outcome.Done = Asked outcome.Done
-    HasCause outcome.Usage = ⊥
-    HasCause (outcome.Domain why) = ⊥
-    HasCause (outcome.Readings why) = ⊥
-    HasCause (outcome.Capture name at fault) = ⊥
-    HasCause (outcome.Packets limit) = ⊥
+    HasCause _ = ⊥
 
 -- the report is the text of some records, no more than may be, and of a run's records its groups are the paths of the run's
 -- packets, and the whole paths where EXPORTS holds what the run wrote and was read to its end; `Are` says which records of
@@ -104,8 +93,4 @@ module _ (content : Option (List ℕ)) (report : List ℕ) (old_in new_in : Read
   Leaves outcome.WriteFault = IsSomeAnd content (HoldsPart old new report)
   Leaves outcome.NoMemory = (new ≡ old) ⊎ IsSomeAnd content (HoldsPart old new report)
   Leaves (outcome.Names name) = new ≡ old
-  Leaves outcome.Usage = ⊥
-  Leaves (outcome.Domain why) = ⊥
-  Leaves (outcome.Readings why) = ⊥
-  Leaves (outcome.Capture name at fault) = ⊥
-  Leaves (outcome.Packets limit) = ⊥
+  Leaves _ = ⊥

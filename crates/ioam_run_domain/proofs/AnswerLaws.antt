@@ -96,6 +96,8 @@ unwritten opens tells words domain readings mid_in new_in old new outcome.Usage 
 unwritten opens tells words domain readings mid_in new_in old new (outcome.Capture name at fault) ends refusal = absurd refusal
 unwritten opens tells words domain readings mid_in new_in old new (outcome.Packets limit) ends refusal = absurd refusal
 unwritten opens tells words domain readings mid_in new_in old new (outcome.Exports place fault) ends refusal = absurd refusal
+unwritten opens tells words domain readings mid_in new_in old new (outcome.Ipfix place fault) ends refusal = absurd refusal
+unwritten opens tells words domain readings mid_in new_in old new (outcome.Part which place fault) ends refusal = absurd refusal
 unwritten opens tells words domain readings mid_in new_in old new (outcome.Records limit) ends refusal = absurd refusal
 unwritten opens tells words domain readings mid_in new_in old new outcome.ReadFault ends refusal = absurd refusal
 unwritten opens tells words domain readings mid_in new_in old new outcome.WriteFault ends refusal = absurd refusal
@@ -110,6 +112,8 @@ done_is (outcome.Readings fault) done = absurd done
 done_is (outcome.Capture name at fault) done = absurd done
 done_is (outcome.Packets limit) done = absurd done
 done_is (outcome.Exports place fault) done = absurd done
+done_is (outcome.Ipfix place fault) done = absurd done
+done_is (outcome.Part which place fault) done = absurd done
 done_is (outcome.Records limit) done = absurd done
 done_is outcome.ReadFault done = absurd done
 done_is outcome.WriteFault done = absurd done

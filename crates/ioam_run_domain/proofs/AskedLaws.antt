@@ -70,12 +70,16 @@ module _ (desk : Writing) (words : List (List ℕ)) where
   pub Asked-unique : (a b : Outcome) → Asked desk words a → Asked desk words b → a ≡ b
   Asked-unique outcome.Usage b x y = absurd x
   Asked-unique (outcome.Exports spot cut) b x y = absurd x
+  Asked-unique (outcome.Ipfix spot cut) b x y = absurd x
+  Asked-unique (outcome.Part which spot cut) b x y = absurd x
   Asked-unique (outcome.Records most) b x y = absurd x
   Asked-unique outcome.ReadFault b x y = absurd x
   Asked-unique outcome.WriteFault b x y = absurd x
   Asked-unique outcome.NoMemory b x y = absurd x
   Asked-unique (outcome.Domain f) outcome.Usage x y = absurd y
   Asked-unique (outcome.Domain f) (outcome.Exports spot cut) x y = absurd y
+  Asked-unique (outcome.Domain f) (outcome.Ipfix spot cut) x y = absurd y
+  Asked-unique (outcome.Domain f) (outcome.Part which spot cut) x y = absurd y
   Asked-unique (outcome.Domain f) (outcome.Records most) x y = absurd y
   Asked-unique (outcome.Domain f) outcome.ReadFault x y = absurd y
   Asked-unique (outcome.Domain f) outcome.WriteFault x y = absurd y
@@ -88,6 +92,8 @@ module _ (desk : Writing) (words : List (List ℕ)) where
   Asked-unique (outcome.Domain f) outcome.Done x y = absurd (fault_or_set desk words y.0 y.1 f x y.2.set)
   Asked-unique (outcome.Readings f) outcome.Usage x y = absurd y
   Asked-unique (outcome.Readings f) (outcome.Exports spot cut) x y = absurd y
+  Asked-unique (outcome.Readings f) (outcome.Ipfix spot cut) x y = absurd y
+  Asked-unique (outcome.Readings f) (outcome.Part which spot cut) x y = absurd y
   Asked-unique (outcome.Readings f) (outcome.Records most) x y = absurd y
   Asked-unique (outcome.Readings f) outcome.ReadFault x y = absurd y
   Asked-unique (outcome.Readings f) outcome.WriteFault x y = absurd y
@@ -100,6 +106,8 @@ module _ (desk : Writing) (words : List (List ℕ)) where
   Asked-unique (outcome.Readings f) outcome.Done x y = absurd (readings_or_set desk words y.0 y.1 f x y.2.set)
   Asked-unique (outcome.Names name) outcome.Usage x y = absurd y
   Asked-unique (outcome.Names name) (outcome.Exports spot cut) x y = absurd y
+  Asked-unique (outcome.Names name) (outcome.Ipfix spot cut) x y = absurd y
+  Asked-unique (outcome.Names name) (outcome.Part which spot cut) x y = absurd y
   Asked-unique (outcome.Names name) (outcome.Records most) x y = absurd y
   Asked-unique (outcome.Names name) outcome.ReadFault x y = absurd y
   Asked-unique (outcome.Names name) outcome.WriteFault x y = absurd y
@@ -112,6 +120,8 @@ module _ (desk : Writing) (words : List (List ℕ)) where
   Asked-unique (outcome.Names name) outcome.Done x y = absurd (named_or_ready x.0 y.0 x.1 y.1 x.3.0 x.2 x.3.1 y.2)
   Asked-unique (outcome.Packets limit) outcome.Usage x y = absurd y
   Asked-unique (outcome.Packets limit) (outcome.Exports spot cut) x y = absurd y
+  Asked-unique (outcome.Packets limit) (outcome.Ipfix spot cut) x y = absurd y
+  Asked-unique (outcome.Packets limit) (outcome.Part which spot cut) x y = absurd y
   Asked-unique (outcome.Packets limit) (outcome.Records most) x y = absurd y
   Asked-unique (outcome.Packets limit) outcome.ReadFault x y = absurd y
   Asked-unique (outcome.Packets limit) outcome.WriteFault x y = absurd y
@@ -124,6 +134,8 @@ module _ (desk : Writing) (words : List (List ℕ)) where
   Asked-unique (outcome.Packets limit) outcome.Done x y = absurd (exceeds_or_arrives x.0 y.0 x.1 y.1 x.2 y.2 _ x.4 y.3)
   Asked-unique (outcome.Capture name at fault) outcome.Usage x y = absurd y
   Asked-unique (outcome.Capture name at fault) (outcome.Exports spot cut) x y = absurd y
+  Asked-unique (outcome.Capture name at fault) (outcome.Ipfix spot cut) x y = absurd y
+  Asked-unique (outcome.Capture name at fault) (outcome.Part which spot cut) x y = absurd y
   Asked-unique (outcome.Capture name at fault) (outcome.Records most) x y = absurd y
   Asked-unique (outcome.Capture name at fault) outcome.ReadFault x y = absurd y
   Asked-unique (outcome.Capture name at fault) outcome.WriteFault x y = absurd y
@@ -136,6 +148,8 @@ module _ (desk : Writing) (words : List (List ℕ)) where
   Asked-unique (outcome.Capture name at fault) outcome.Done x y = absurd (broken_or_over _ _ _ (one_turn x.0 y.0 x.1 y.1 x.2 y.2 _ _ x.3.2 y.3))
   Asked-unique outcome.Done outcome.Usage x y = absurd y
   Asked-unique outcome.Done (outcome.Exports spot cut) x y = absurd y
+  Asked-unique outcome.Done (outcome.Ipfix spot cut) x y = absurd y
+  Asked-unique outcome.Done (outcome.Part which spot cut) x y = absurd y
   Asked-unique outcome.Done (outcome.Records most) x y = absurd y
   Asked-unique outcome.Done outcome.ReadFault x y = absurd y
   Asked-unique outcome.Done outcome.WriteFault x y = absurd y
@@ -159,6 +173,8 @@ module _ (desk : Writing) (words : List (List ℕ)) where
   HasCause-asked old_in new_in new (outcome.Capture name at fault) asked cause asks reads writes = inl (Asked-unique (outcome.Capture name at fault) asked cause asks)
   HasCause-asked old_in new_in new (outcome.Packets limit) asked cause asks reads writes = inl (Asked-unique (outcome.Packets limit) asked cause asks)
   HasCause-asked old_in new_in new (outcome.Exports place fault) asked cause asks reads writes = absurd cause
+  HasCause-asked old_in new_in new (outcome.Ipfix place fault) asked cause asks reads writes = absurd cause
+  HasCause-asked old_in new_in new (outcome.Part which place fault) asked cause asks reads writes = absurd cause
   HasCause-asked old_in new_in new (outcome.Records limit) asked cause asks reads writes = absurd cause
   HasCause-asked old_in new_in new outcome.ReadFault asked cause asks reads writes = absurd (reads cause)
   HasCause-asked old_in new_in new outcome.WriteFault asked cause asks reads writes = absurd (writes cause)

@@ -32,6 +32,8 @@ module _ (opens : Bool) (words : List (List ℕ)) (old_in new_in : Reading) (old
   Leaves-bounded (outcome.Capture name at fault) behind left = bounded left.0 left.1 left.2 _ left.3.2
   Leaves-bounded (outcome.Packets limit) behind left = bounded left.0 left.1 left.2 _ left.3
   Leaves-bounded (outcome.Exports place fault) behind left = absurd left
+  Leaves-bounded (outcome.Ipfix place fault) behind left = absurd left
+  Leaves-bounded (outcome.Part which place fault) behind left = absurd left
   Leaves-bounded (outcome.Records limit) behind left = absurd left
   Leaves-bounded outcome.ReadFault behind (inl early) = absurd (omega (arith, behind, ap (λ (w : Writing). w.side.slots) early.1))
   Leaves-bounded outcome.ReadFault behind (inr late) = bounded late.0 late.1 late.2 _ late.3.1

@@ -72,6 +72,8 @@ module _ (words : List (List ℕ)) (old_in mid_in : Reading) (opened : mid_in.si
           record { taken = more ++ passed.next ∷ []; begin = passed.begin; many = omega (arith, passed.all, length-append more (passed.next ∷ [])) },
         )
     Ends-cause (outcome.Exports place fault) ends = absurd ends
+    Ends-cause (outcome.Ipfix place fault) ends = absurd ends
+    Ends-cause (outcome.Part which place fault) ends = absurd ends
     Ends-cause (outcome.Records limit) ends = absurd ends
     Ends-cause outcome.ReadFault ends = omega (arith, ends.1.0, same_faults)
     Ends-cause outcome.WriteFault ends = ends.1.0
@@ -95,6 +97,8 @@ module _ (words : List (List ℕ)) (old_in mid_in : Reading) (opened : mid_in.si
     Ends-leaves (outcome.Packets limit) ends = of_traffic (λ course. HoldsFiles opens words old_in new_in old new course (ArePassed course)) ends.0
         (files (λ course. ArePassed course) (ends.2 told))
     Ends-leaves (outcome.Exports place fault) ends = absurd ends
+    Ends-leaves (outcome.Ipfix place fault) ends = absurd ends
+    Ends-leaves (outcome.Part which place fault) ends = absurd ends
     Ends-leaves (outcome.Records limit) ends = absurd ends
     Ends-leaves outcome.ReadFault ends = elim ends.1.1 [
       | inl early ↦ inl (inr (of_traffic (λ course. new_in.side.slots < course.lanes.base + length course.lanes.contents) ends.0 early.0), early.1)
@@ -144,6 +148,8 @@ Ends-differed opens tells words domain readings mid_in new_in old new (outcome.D
 Ends-differed opens tells words domain readings mid_in new_in old new (outcome.Readings fault) ends = tt
 Ends-differed opens tells words domain readings mid_in new_in old new (outcome.Names name) ends = tt
 Ends-differed opens tells words domain readings mid_in new_in old new (outcome.Exports place fault) ends = absurd ends
+Ends-differed opens tells words domain readings mid_in new_in old new (outcome.Ipfix place fault) ends = absurd ends
+Ends-differed opens tells words domain readings mid_in new_in old new (outcome.Part which place fault) ends = absurd ends
 Ends-differed opens tells words domain readings mid_in new_in old new (outcome.Records limit) ends = absurd ends
 Ends-differed opens tells words domain readings mid_in new_in old new outcome.ReadFault ends = tt
 Ends-differed opens tells words domain readings mid_in new_in old new outcome.WriteFault ends = tt
@@ -158,6 +164,8 @@ Ends-says opens tells words domain readings mid_in new_in old new (outcome.Captu
 Ends-says opens tells words domain readings mid_in new_in old new (outcome.Packets limit) ends = (ends.0, ends.1, ends.3)
 Ends-says opens tells words domain readings mid_in new_in old new outcome.Done ends = ends.0
 Ends-says opens tells words domain readings mid_in new_in old new (outcome.Exports place fault) ends = absurd ends
+Ends-says opens tells words domain readings mid_in new_in old new (outcome.Ipfix place fault) ends = absurd ends
+Ends-says opens tells words domain readings mid_in new_in old new (outcome.Part which place fault) ends = absurd ends
 Ends-says opens tells words domain readings mid_in new_in old new (outcome.Records limit) ends = absurd ends
 Ends-says opens tells words domain readings mid_in new_in old new outcome.ReadFault ends = ends.0
 Ends-says opens tells words domain readings mid_in new_in old new outcome.WriteFault ends = ends.0

@@ -31,11 +31,7 @@ module _ (opens tells : Bool) (words : List (List ℕ)) (domain : Domain) (readi
   Ends (outcome.Capture name at fault) = AreApart (run_files words domain)
       × ((place : ℕ) × (name ≡ name_at (run_inputs domain) place) × Ended (halt.Broken place at fault))
   Ends (outcome.Packets limit) = AreApart (run_files words domain) × (limit ≡ domain.packets) × Ended halt.Limit × IsLimit limit
-  Ends (outcome.Exports place fault) = ⊥
-  Ends (outcome.Records limit) = ⊥
   Ends outcome.ReadFault = AreApart (run_files words domain) × Ended halt.ReadFault
   Ends outcome.WriteFault = AreApart (run_files words domain) × Ended halt.WriteFault
   Ends outcome.NoMemory = (new ≡ old) ⊎ (AreApart (run_files words domain) × Ended halt.NoMemory)
-  Ends outcome.Usage = ⊥
-  Ends (outcome.Domain fault) = ⊥
-  Ends (outcome.Readings fault) = ⊥
+  Ends _ = ⊥

@@ -94,12 +94,7 @@ module _ (desk : Writing) (words : List (List ℕ)) where
   Asked (outcome.Capture name at fault) = (domain : Domain) × (readings : List (List Sample)) × IsReady domain readings
       × ((place : ℕ) × (name ≡ name_at (run_inputs domain) place) × Arrives domain (turn.Broken place at fault))
   Asked outcome.Done = (domain : Domain) × (readings : List (List Sample)) × IsReady domain readings × Arrives domain turn.Over
-  Asked outcome.Usage = ⊥
-  Asked (outcome.Exports place fault) = ⊥
-  Asked (outcome.Records limit) = ⊥
-  Asked outcome.ReadFault = ⊥
-  Asked outcome.WriteFault = ⊥
-  Asked outcome.NoMemory = ⊥
+  Asked _ = ⊥
 
 -- the files that the words name differ, where the captures were looked at; so much is known of real
 -- files too
@@ -111,26 +106,17 @@ HaveDiffered words outcome.Usage = ⊤
 HaveDiffered words (outcome.Domain fault) = ⊤
 HaveDiffered words (outcome.Readings fault) = ⊤
 HaveDiffered words (outcome.Names name) = ⊤
-HaveDiffered words (outcome.Exports place fault) = ⊥
-HaveDiffered words (outcome.Records limit) = ⊥
 HaveDiffered words outcome.ReadFault = ⊤
 HaveDiffered words outcome.WriteFault = ⊤
 HaveDiffered words outcome.NoMemory = ⊤
+HaveDiffered words _ = ⊥
 
 -- what `run` was given is refused before anything of its captures is looked at
 abbrev pub IsRefusal : Outcome → Type 0
 IsRefusal (outcome.Domain fault) = ⊤
 IsRefusal (outcome.Readings fault) = ⊤
 IsRefusal (outcome.Names name) = ⊤
-IsRefusal outcome.Done = ⊥
-IsRefusal outcome.Usage = ⊥
-IsRefusal (outcome.Capture name at fault) = ⊥
-IsRefusal (outcome.Packets limit) = ⊥
-IsRefusal (outcome.Exports place fault) = ⊥
-IsRefusal (outcome.Records limit) = ⊥
-IsRefusal outcome.ReadFault = ⊥
-IsRefusal outcome.WriteFault = ⊥
-IsRefusal outcome.NoMemory = ⊥
+IsRefusal _ = ⊥
 
 -- where the traffic of a domain begins, whose workers' gate opens always or may stay shut: DOMAIN and READINGS were read
 -- by two slots
@@ -148,18 +134,16 @@ course_for opens words reading writing domain readings = record {
 module _ (words : List (List ℕ)) (old_in new_in : Reading) (old new : Writing) where
   -- the cause of each answer, where the desk tells what its files hold; want of memory alone has none
   abbrev pub HasCause : Outcome → Type 0
-  HasCause (outcome.Exports place fault) = ⊥
-  HasCause (outcome.Records limit) = ⊥
   HasCause outcome.ReadFault = Rose old_in.side.faults new_in.side.faults
   HasCause outcome.WriteFault = Rose old.side.faults new.side.faults
   HasCause outcome.NoMemory = ⊤
-  HasCause outcome.Usage = ⊥
   HasCause outcome.Done = Asked old words outcome.Done
   HasCause (outcome.Domain fault) = Asked old words (outcome.Domain fault)
   HasCause (outcome.Readings fault) = Asked old words (outcome.Readings fault)
   HasCause (outcome.Names name) = Asked old words (outcome.Names name)
   HasCause (outcome.Packets limit) = Asked old words (outcome.Packets limit)
   HasCause (outcome.Capture name at fault) = Asked old words (outcome.Capture name at fault)
+  HasCause _ = ⊥
 
   -- no capture was opened, and no output
   abbrev pub OpensNone : Type 0
@@ -204,8 +188,6 @@ module _ (opens : Bool) (words : List (List ℕ)) (old_in new_in : Reading) (old
   Leaves (outcome.Capture name at fault) = OfTraffic (λ course. (place : ℕ) × (name ≡ name_at (run_inputs course.domain) place)
       × HoldsFiles course (Arrive course (turn.Broken place at fault)))
   Leaves (outcome.Packets limit) = OfTraffic (λ course. HoldsFiles course (ArePassed course))
-  Leaves (outcome.Exports place fault) = ⊥
-  Leaves (outcome.Records limit) = ⊥
   Leaves outcome.ReadFault = (StopsEarly × (new ≡ old))
       ⊎ OfTraffic (λ course. AreOpened course new_in × HoldsFiles course (PartsArrive course.lanes.contents new_in course.lanes.base))
   Leaves outcome.WriteFault = OfTraffic (λ course. HoldsFronts course old new)
@@ -214,6 +196,7 @@ module _ (opens : Bool) (words : List (List ℕ)) (old_in new_in : Reading) (old
   Leaves (outcome.Domain fault) = new ≡ old
   Leaves (outcome.Readings fault) = new ≡ old
   Leaves (outcome.Names name) = new ≡ old
+  Leaves _ = ⊥
 
   -- DOMAIN, READINGS and each of the captures were read to their ends
   abbrev pub AreDrained : Type 0
@@ -228,16 +211,9 @@ module _ (opens : Bool) (words : List (List ℕ)) (old_in new_in : Reading) (old
 abbrev pub IsUnset : Outcome → Type 0
 IsUnset (outcome.Domain fault) = ⊤
 IsUnset (outcome.Readings fault) = ⊤
-IsUnset (outcome.Exports place fault) = ⊥
-IsUnset (outcome.Records limit) = ⊥
 IsUnset outcome.ReadFault = ⊤
 IsUnset outcome.NoMemory = ⊤
-IsUnset outcome.Usage = ⊥
-IsUnset (outcome.Names name) = ⊥
-IsUnset outcome.Done = ⊥
-IsUnset (outcome.Capture name at fault) = ⊥
-IsUnset (outcome.Packets limit) = ⊥
-IsUnset outcome.WriteFault = ⊥
+IsUnset _ = ⊥
 
 -- what a domain may say of how many packets a run has at most
 abbrev pub IsLimit : ℕ → Type 0
@@ -252,14 +228,10 @@ Says words domain (outcome.Capture name at fault) = AreApart (run_files words do
     × ((place : ℕ) × (place < length (run_inputs domain)) × (name ≡ name_at (run_inputs domain) place))
 Says words domain (outcome.Packets limit) = AreApart (run_files words domain) × (limit ≡ domain.packets) × IsLimit limit
 Says words domain outcome.Done = AreApart (run_files words domain)
-Says words domain (outcome.Exports place fault) = ⊥
-Says words domain (outcome.Records limit) = ⊥
 Says words domain outcome.ReadFault = AreApart (run_files words domain)
 Says words domain outcome.WriteFault = AreApart (run_files words domain)
 Says words domain outcome.NoMemory = ⊤
-Says words domain outcome.Usage = ⊥
-Says words domain (outcome.Domain fault) = ⊥
-Says words domain (outcome.Readings fault) = ⊥
+Says words domain _ = ⊥
 
 module _ (tells : Bool) (words : List (List ℕ)) (old_in new_in : Reading) (old new : Writing) where
   -- the inputs of a domain were opened, all of them, each by a slot of its own

@@ -123,6 +123,8 @@ module _ (words : List (List ℕ)) (desk : Writing) where
   Asked-unique outcome.Done (outcome.Capture m place g) x y = absurd (whole_or_faulty place g (one_ending x.0 y.1.0 x.1 y.1.1 Ended (Faulty place g) x.2 y.1.2))
   Asked-unique outcome.Done (outcome.Packets m) x y = absurd (long_or_input y.0 x.0 y.1 x.1 Ended y.3 x.2)
   Asked-unique outcome.Done (outcome.Exports spot cut) x y = absurd y
+  Asked-unique outcome.Done (outcome.Ipfix spot cut) x y = absurd y
+  Asked-unique outcome.Done (outcome.Part which spot cut) x y = absurd y
   Asked-unique outcome.Done (outcome.Records most) x y = absurd y
   Asked-unique outcome.Done outcome.Usage x y = absurd y
   Asked-unique outcome.Done outcome.ReadFault x y = absurd y
@@ -135,6 +137,8 @@ module _ (words : List (List ℕ)) (desk : Writing) where
   Asked-unique (outcome.Domain f) (outcome.Capture m place g) x y = absurd (fault_or_domain desk (domain_file words) (readings_file words) y.1.0.domain f x y.1.1.setting.has_domain)
   Asked-unique (outcome.Domain f) (outcome.Packets m) x y = absurd (fault_or_domain desk (domain_file words) (readings_file words) y.0.domain f x y.1.setting.has_domain)
   Asked-unique (outcome.Domain f) (outcome.Exports spot cut) x y = absurd y
+  Asked-unique (outcome.Domain f) (outcome.Ipfix spot cut) x y = absurd y
+  Asked-unique (outcome.Domain f) (outcome.Part which spot cut) x y = absurd y
   Asked-unique (outcome.Domain f) (outcome.Records most) x y = absurd y
   Asked-unique (outcome.Domain f) outcome.Usage x y = absurd y
   Asked-unique (outcome.Domain f) outcome.ReadFault x y = absurd y
@@ -147,6 +151,8 @@ module _ (words : List (List ℕ)) (desk : Writing) where
   Asked-unique (outcome.Readings f) (outcome.Capture m place g) x y = absurd (fault_or_setting desk (domain_file words) (readings_file words) y.1.0.domain y.1.0.samples f x y.1.1.setting)
   Asked-unique (outcome.Readings f) (outcome.Packets m) x y = absurd (fault_or_setting desk (domain_file words) (readings_file words) y.0.domain y.0.samples f x y.1.setting)
   Asked-unique (outcome.Readings f) (outcome.Exports spot cut) x y = absurd y
+  Asked-unique (outcome.Readings f) (outcome.Ipfix spot cut) x y = absurd y
+  Asked-unique (outcome.Readings f) (outcome.Part which spot cut) x y = absurd y
   Asked-unique (outcome.Readings f) (outcome.Records most) x y = absurd y
   Asked-unique (outcome.Readings f) outcome.Usage x y = absurd y
   Asked-unique (outcome.Readings f) outcome.ReadFault x y = absurd y
@@ -159,6 +165,8 @@ module _ (words : List (List ℕ)) (desk : Writing) where
   Asked-unique (outcome.Names n) (outcome.Capture m place g) x y = absurd (unfit_or_ready x.0 n x.2.has_domain x.3 y.1.0 y.1.1)
   Asked-unique (outcome.Names n) (outcome.Packets m) x y = absurd (unfit_or_ready x.0 n x.2.has_domain x.3 y.0 y.1)
   Asked-unique (outcome.Names n) (outcome.Exports spot cut) x y = absurd y
+  Asked-unique (outcome.Names n) (outcome.Ipfix spot cut) x y = absurd y
+  Asked-unique (outcome.Names n) (outcome.Part which spot cut) x y = absurd y
   Asked-unique (outcome.Names n) (outcome.Records most) x y = absurd y
   Asked-unique (outcome.Names n) outcome.Usage x y = absurd y
   Asked-unique (outcome.Names n) outcome.ReadFault x y = absurd y
@@ -174,6 +182,8 @@ module _ (words : List (List ℕ)) (desk : Writing) where
       cc
   Asked-unique (outcome.Capture n at f) (outcome.Packets m) x y = absurd (long_or_input y.0 x.1.0 y.1 x.1.1 (Faulty at f) y.3 x.1.2)
   Asked-unique (outcome.Capture n at f) (outcome.Exports spot cut) x y = absurd y
+  Asked-unique (outcome.Capture n at f) (outcome.Ipfix spot cut) x y = absurd y
+  Asked-unique (outcome.Capture n at f) (outcome.Part which spot cut) x y = absurd y
   Asked-unique (outcome.Capture n at f) (outcome.Records most) x y = absurd y
   Asked-unique (outcome.Capture n at f) outcome.Usage x y = absurd y
   Asked-unique (outcome.Capture n at f) outcome.ReadFault x y = absurd y
@@ -186,6 +196,8 @@ module _ (words : List (List ℕ)) (desk : Writing) where
   Asked-unique (outcome.Packets n) (outcome.Capture m place g) x y = absurd (long_or_input x.0 y.1.0 x.1 y.1.1 (Faulty place g) x.3 y.1.2)
   Asked-unique (outcome.Packets n) (outcome.Packets m) x y = ap outcome.Packets (x.2 ∙ same_limit x.0 y.0 x.1 y.1 ∙ sym y.2)
   Asked-unique (outcome.Packets n) (outcome.Exports spot cut) x y = absurd y
+  Asked-unique (outcome.Packets n) (outcome.Ipfix spot cut) x y = absurd y
+  Asked-unique (outcome.Packets n) (outcome.Part which spot cut) x y = absurd y
   Asked-unique (outcome.Packets n) (outcome.Records most) x y = absurd y
   Asked-unique (outcome.Packets n) outcome.Usage x y = absurd y
   Asked-unique (outcome.Packets n) outcome.ReadFault x y = absurd y
@@ -196,6 +208,8 @@ module _ (words : List (List ℕ)) (desk : Writing) where
   Asked-unique outcome.WriteFault b x y = absurd x
   Asked-unique outcome.NoMemory b x y = absurd x
   Asked-unique (outcome.Exports spot cut) b x y = absurd x
+  Asked-unique (outcome.Ipfix spot cut) b x y = absurd x
+  Asked-unique (outcome.Part which spot cut) b x y = absurd x
   Asked-unique (outcome.Records most) b x y = absurd x
 
   -- what is asked for is answered, unless a call failed or no memory could be had
@@ -210,6 +224,8 @@ module _ (words : List (List ℕ)) (desk : Writing) where
   HasCause-asked old_in new_in new (outcome.Capture name at fault) asked cause asks reads writes = inl (Asked-unique (outcome.Capture name at fault) asked cause asks)
   HasCause-asked old_in new_in new (outcome.Packets limit) asked cause asks reads writes = inl (Asked-unique (outcome.Packets limit) asked cause asks)
   HasCause-asked old_in new_in new (outcome.Exports place fault) asked cause asks reads writes = absurd cause
+  HasCause-asked old_in new_in new (outcome.Ipfix place fault) asked cause asks reads writes = absurd cause
+  HasCause-asked old_in new_in new (outcome.Part which place fault) asked cause asks reads writes = absurd cause
   HasCause-asked old_in new_in new (outcome.Records limit) asked cause asks reads writes = absurd cause
   HasCause-asked old_in new_in new outcome.ReadFault asked cause asks reads writes = absurd (reads cause)
   HasCause-asked old_in new_in new outcome.WriteFault asked cause asks reads writes = absurd (writes cause)

@@ -75,6 +75,8 @@ module _ (words : List (List ℕ)) (old_in new_in : Reading) (old new : Writing)
   Leaves-bounded (outcome.Capture name at fault) leaves behind = of_all (λ seat. EndsSo (Faulty at fault)) leaves
   Leaves-bounded (outcome.Packets limit) leaves behind = of_all (λ seat. ArePassed seat.domain.packets) leaves
   Leaves-bounded (outcome.Exports place fault) leaves behind = absurd leaves
+  Leaves-bounded (outcome.Ipfix place fault) leaves behind = absurd leaves
+  Leaves-bounded (outcome.Part which place fault) leaves behind = absurd leaves
   Leaves-bounded (outcome.Records limit) leaves behind = absurd leaves
   Leaves-bounded outcome.ReadFault leaves behind = ⊎_elim
       (λ early. absurd (omega (arith, behind, ap (λ (w : Writing). w.side.slots) early.1)))

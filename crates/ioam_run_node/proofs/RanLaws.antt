@@ -33,6 +33,8 @@ done_is (outcome.Readings fault) done = absurd done
 done_is (outcome.Capture name at fault) done = absurd done
 done_is (outcome.Packets limit) done = absurd done
 done_is (outcome.Exports place fault) done = absurd done
+done_is (outcome.Ipfix place fault) done = absurd done
+done_is (outcome.Part which place fault) done = absurd done
 done_is (outcome.Records limit) done = absurd done
 done_is outcome.ReadFault done = absurd done
 done_is outcome.WriteFault done = absurd done
@@ -120,6 +122,8 @@ module _ (tells : Bool) (words : List (List ℕ)) (old_in mid_in : Reading) (ope
     cause (outcome.Capture name at fault) so told = (so.0, (seat, ready told, so.1 told))
     cause (outcome.Packets limit) so told = (seat, ready told, so.0, so.1 told)
     cause (outcome.Exports place fault) so told = absurd so
+    cause (outcome.Ipfix place fault) so told = absurd so
+    cause (outcome.Part which place fault) so told = absurd so
     cause (outcome.Records limit) so told = absurd so
     cause outcome.ReadFault so told = omega (arith, so, same_faults)
     cause outcome.WriteFault so told = so
@@ -136,6 +140,8 @@ module _ (tells : Bool) (words : List (List ℕ)) (old_in mid_in : Reading) (ope
     leaves (outcome.Capture name at fault) so told held = (seat, ready told, held)
     leaves (outcome.Packets limit) so told held = (seat, ready told, held)
     leaves (outcome.Exports place fault) so told held = absurd held
+    leaves (outcome.Ipfix place fault) so told held = absurd held
+    leaves (outcome.Part which place fault) so told held = absurd held
     leaves (outcome.Records limit) so told held = absurd held
     leaves outcome.ReadFault so told (inl early) = inl (inr (omega (arith, early.0, two_slots)), early.1)
     leaves outcome.ReadFault so told (inr late) =
@@ -156,6 +162,8 @@ module _ (tells : Bool) (words : List (List ℕ)) (old_in mid_in : Reading) (ope
   differed old new_in new seat (outcome.Capture name at fault) ran so = (ran.apart, so.0)
   differed old new_in new seat (outcome.Packets limit) ran so = ran.apart
   differed old new_in new seat (outcome.Exports place fault) ran so = absurd so
+  differed old new_in new seat (outcome.Ipfix place fault) ran so = absurd so
+  differed old new_in new seat (outcome.Part which place fault) ran so = absurd so
   differed old new_in new seat (outcome.Records limit) ran so = absurd so
   differed old new_in new seat outcome.ReadFault ran so = tt
   differed old new_in new seat outcome.WriteFault ran so = tt
@@ -175,6 +183,8 @@ module _ (tells : Bool) (words : List (List ℕ)) (old_in mid_in : Reading) (ope
   says old new_in new seat fit outcome.WriteFault ran so = fit
   says old new_in new seat fit outcome.NoMemory ran so = tt
   says old new_in new seat fit (outcome.Exports place fault) ran so = absurd so
+  says old new_in new seat fit (outcome.Ipfix place fault) ran so = absurd so
+  says old new_in new seat fit (outcome.Part which place fault) ran so = absurd so
   says old new_in new seat fit (outcome.Records limit) ran so = absurd so
   says old new_in new seat fit outcome.Usage ran so = absurd so
   says old new_in new seat fit (outcome.Names name) ran so = absurd so
@@ -187,6 +197,8 @@ module _ (tells : Bool) (words : List (List ℕ)) (old_in mid_in : Reading) (ope
   untouched old new_in new most (outcome.Capture name at fault) so = tt
   untouched old new_in new most (outcome.Packets limit) so = tt
   untouched old new_in new most (outcome.Exports place fault) so = tt
+  untouched old new_in new most (outcome.Ipfix place fault) so = tt
+  untouched old new_in new most (outcome.Part which place fault) so = tt
   untouched old new_in new most (outcome.Records limit) so = tt
   untouched old new_in new most outcome.ReadFault so = tt
   untouched old new_in new most outcome.WriteFault so = tt

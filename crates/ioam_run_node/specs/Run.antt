@@ -97,11 +97,7 @@ module _ (words : List (List ℕ)) where
   Says domain outcome.ReadFault = AreFit domain
   Says domain outcome.WriteFault = AreFit domain
   Says domain outcome.NoMemory = ⊤
-  Says domain outcome.Usage = ⊥
-  Says domain (outcome.Domain fault) = ⊥
-  Says domain (outcome.Readings fault) = ⊥
-  Says domain (outcome.Exports place fault) = ⊥
-  Says domain (outcome.Records limit) = ⊥
+  Says domain _ = ⊥
 
   module _ (desk : Writing) where
     -- DOMAIN holds the domain, READINGS the readings of its nodes, NODE and LINK say where the packets come, and no two files
@@ -124,22 +120,15 @@ module _ (words : List (List ℕ)) where
         × IsUnfit domain name
     Asked (outcome.Packets limit) = (seat : Seat) × IsReady seat × (limit ≡ seat.domain.packets)
         × IsSomeAnd (holds desk (input_file words)) (IsLong seat.domain.packets)
-    Asked (outcome.Exports place fault) = ⊥
-    Asked (outcome.Records limit) = ⊥
     Asked (outcome.Capture name at fault) = (name ≡ input_file words) × HasInput (λ most. IsInput most (Faulty at fault))
     Asked outcome.Done = HasInput (λ most. IsInput most Whole)
-    Asked outcome.Usage = ⊥
-    Asked outcome.ReadFault = ⊥
-    Asked outcome.WriteFault = ⊥
-    Asked outcome.NoMemory = ⊥
+    Asked _ = ⊥
 
   -- the files differ, where IN was looked at; so much is known of real files too
   abbrev pub HaveDiffered : Outcome → Type 0
   HaveDiffered outcome.Done = AreApart (node_files words)
   HaveDiffered (outcome.Capture name at fault) = AreApart (node_files words) × (name ≡ input_file words)
   HaveDiffered (outcome.Packets limit) = AreApart (node_files words)
-  HaveDiffered (outcome.Exports place fault) = ⊥
-  HaveDiffered (outcome.Records limit) = ⊥
   HaveDiffered outcome.Usage = ⊤
   HaveDiffered (outcome.Domain fault) = ⊤
   HaveDiffered (outcome.Readings fault) = ⊤
@@ -147,6 +136,7 @@ module _ (words : List (List ℕ)) where
   HaveDiffered outcome.ReadFault = ⊤
   HaveDiffered outcome.WriteFault = ⊤
   HaveDiffered outcome.NoMemory = ⊤
+  HaveDiffered _ = ⊥
 
   module _ (old_in new_in : Reading) (old new : Writing) where
     -- the cause of each answer, where the desk tells what its files hold; want of memory alone has none
@@ -154,15 +144,13 @@ module _ (words : List (List ℕ)) where
     HasCause outcome.ReadFault = Rose old_in.side.faults new_in.side.faults
     HasCause outcome.WriteFault = Rose old.side.faults new.side.faults
     HasCause outcome.NoMemory = ⊤
-    HasCause outcome.Usage = ⊥
     HasCause outcome.Done = Asked old outcome.Done
     HasCause (outcome.Domain fault) = Asked old (outcome.Domain fault)
     HasCause (outcome.Readings fault) = Asked old (outcome.Readings fault)
     HasCause (outcome.Names name) = Asked old (outcome.Names name)
     HasCause (outcome.Packets limit) = Asked old (outcome.Packets limit)
-    HasCause (outcome.Exports place fault) = ⊥
-    HasCause (outcome.Records limit) = ⊥
     HasCause (outcome.Capture name at fault) = Asked old (outcome.Capture name at fault)
+    HasCause _ = ⊥
 
     -- the outputs hold the texts of these records of IN
     abbrev pub Holds : (Seat → List Taken → List ℕ → Type 0) → Type 0
@@ -186,8 +174,6 @@ module _ (words : List (List ℕ)) where
     Leaves outcome.Done = Holds (λ seat. EndsSo Whole)
     Leaves (outcome.Capture name at fault) = Holds (λ seat. EndsSo (Faulty at fault))
     Leaves (outcome.Packets limit) = Holds (λ seat. ArePassed seat.domain.packets)
-    Leaves (outcome.Exports place fault) = ⊥
-    Leaves (outcome.Records limit) = ⊥
     Leaves outcome.ReadFault = (StopsEarly × (new ≡ old))
         ⊎ ((old_in.side.slots + 2 < new_in.side.slots) × Holds (λ seat. AreWhole (new_in.left (old_in.side.slots + 2))))
     Leaves outcome.WriteFault = HoldParts
@@ -196,6 +182,7 @@ module _ (words : List (List ℕ)) where
     Leaves (outcome.Domain fault) = new ≡ old
     Leaves (outcome.Readings fault) = new ≡ old
     Leaves (outcome.Names name) = new ≡ old
+    Leaves _ = ⊥
 
     -- IN wasn't opened, and no output
     abbrev pub OpensNone : Type 0
@@ -206,15 +193,7 @@ module _ (words : List (List ℕ)) where
     IsUntouched (outcome.Domain fault) = OpensNone
     IsUntouched (outcome.Readings fault) = OpensNone
     IsUntouched (outcome.Names name) = OpensNone
-    IsUntouched outcome.Done = ⊤
-    IsUntouched outcome.Usage = ⊤
-    IsUntouched (outcome.Capture name at fault) = ⊤
-    IsUntouched (outcome.Packets limit) = ⊤
-    IsUntouched (outcome.Exports place fault) = ⊤
-    IsUntouched (outcome.Records limit) = ⊤
-    IsUntouched outcome.ReadFault = ⊤
-    IsUntouched outcome.WriteFault = ⊤
-    IsUntouched outcome.NoMemory = ⊤
+    IsUntouched _ = ⊤
 
     -- DOMAIN, READINGS and IN were read to their ends
     abbrev pub AreDrained : Type 0

@@ -46,11 +46,15 @@ module _ (tells : Bool) (desk : Writing) (names : List (List ℕ)) (input : List
   Asked-unique outcome.WriteFault b x y = absurd x
   Asked-unique outcome.NoMemory b x y = absurd x
   Asked-unique (outcome.Exports spot cut) b x y = absurd x
+  Asked-unique (outcome.Ipfix spot cut) b x y = absurd x
+  Asked-unique (outcome.Part which spot cut) b x y = absurd x
   Asked-unique (outcome.Records most) b x y = absurd x
   Asked-unique outcome.Done outcome.Done x y = refl
   Asked-unique outcome.Done (outcome.Names name) x y = absurd (not_apart names y.0 y.1 x.0)
   Asked-unique outcome.Done (outcome.Packets limit) x y = absurd (too_long most_packets (holds desk input) Whole (y.2 told) (x.1 told))
   Asked-unique outcome.Done (outcome.Exports spot cut) x y = absurd y
+  Asked-unique outcome.Done (outcome.Ipfix spot cut) x y = absurd y
+  Asked-unique outcome.Done (outcome.Part which spot cut) x y = absurd y
   Asked-unique outcome.Done (outcome.Records most) x y = absurd y
   Asked-unique outcome.Done (outcome.Capture name at fault) x y = absurd (whole_or_faulty at fault (held_ending most_packets (holds desk input) Whole (Faulty at fault) (x.1 told) (y.2 told)))
   Asked-unique outcome.Done outcome.Usage x y = absurd y
@@ -65,6 +69,8 @@ module _ (tells : Bool) (desk : Writing) (names : List (List ℕ)) (input : List
       ap outcome.Names (x.2 ∙ ap (name_at names) same ∙ sym y.2)
   Asked-unique (outcome.Names name) (outcome.Packets limit) x y = absurd (not_apart names x.0 x.1 y.0)
   Asked-unique (outcome.Names name) (outcome.Exports spot cut) x y = absurd y
+  Asked-unique (outcome.Names name) (outcome.Ipfix spot cut) x y = absurd y
+  Asked-unique (outcome.Names name) (outcome.Part which spot cut) x y = absurd y
   Asked-unique (outcome.Names name) (outcome.Records most) x y = absurd y
   Asked-unique (outcome.Names name) (outcome.Capture other at fault) x y = absurd (not_apart names x.0 x.1 y.0)
   Asked-unique (outcome.Names name) outcome.Usage x y = absurd y
@@ -77,6 +83,8 @@ module _ (tells : Bool) (desk : Writing) (names : List (List ℕ)) (input : List
   Asked-unique (outcome.Packets limit) (outcome.Names name) x y = absurd (not_apart names y.0 y.1 x.0)
   Asked-unique (outcome.Packets limit) (outcome.Packets other) x y = ap outcome.Packets (x.1 ∙ sym y.1)
   Asked-unique (outcome.Packets limit) (outcome.Exports spot cut) x y = absurd y
+  Asked-unique (outcome.Packets limit) (outcome.Ipfix spot cut) x y = absurd y
+  Asked-unique (outcome.Packets limit) (outcome.Part which spot cut) x y = absurd y
   Asked-unique (outcome.Packets limit) (outcome.Records most) x y = absurd y
   Asked-unique (outcome.Packets limit) (outcome.Capture name at fault) x y = absurd (too_long most_packets (holds desk input) (Faulty at fault) (x.2 told) (y.2 told))
   Asked-unique (outcome.Packets limit) outcome.Usage x y = absurd y
@@ -89,6 +97,8 @@ module _ (tells : Bool) (desk : Writing) (names : List (List ℕ)) (input : List
   Asked-unique (outcome.Capture name at fault) (outcome.Names other) x y = absurd (not_apart names y.0 y.1 x.0)
   Asked-unique (outcome.Capture name at fault) (outcome.Packets limit) x y = absurd (too_long most_packets (holds desk input) (Faulty at fault) (y.2 told) (x.2 told))
   Asked-unique (outcome.Capture name at fault) (outcome.Exports spot cut) x y = absurd y
+  Asked-unique (outcome.Capture name at fault) (outcome.Ipfix spot cut) x y = absurd y
+  Asked-unique (outcome.Capture name at fault) (outcome.Part which spot cut) x y = absurd y
   Asked-unique (outcome.Capture name at fault) (outcome.Records most) x y = absurd y
   Asked-unique (outcome.Capture name at fault) (outcome.Capture other place cause) x y =
       let same : Faulty at fault ≡ Faulty place cause = held_ending most_packets (holds desk input) (Faulty at fault) (Faulty place cause) (x.2 told) (y.2 told) in
@@ -114,6 +124,8 @@ module _ (tells : Bool) (desk : Writing) (names : List (List ℕ)) (input : List
   HasCause-asked old_in new_in new_out (outcome.Capture name at fault) asked cause asks reads writes = inl (Asked-unique (outcome.Capture name at fault) asked cause asks)
   HasCause-asked old_in new_in new_out (outcome.Packets limit) asked cause asks reads writes = inl (Asked-unique (outcome.Packets limit) asked cause asks)
   HasCause-asked old_in new_in new_out (outcome.Exports place fault) asked cause asks reads writes = absurd cause
+  HasCause-asked old_in new_in new_out (outcome.Ipfix place fault) asked cause asks reads writes = absurd cause
+  HasCause-asked old_in new_in new_out (outcome.Part which place fault) asked cause asks reads writes = absurd cause
   HasCause-asked old_in new_in new_out (outcome.Records limit) asked cause asks reads writes = absurd cause
   HasCause-asked old_in new_in new_out outcome.ReadFault asked cause asks reads writes = absurd (reads cause)
   HasCause-asked old_in new_in new_out outcome.WriteFault asked cause asks reads writes = absurd (writes cause)

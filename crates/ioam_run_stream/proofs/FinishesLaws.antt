@@ -33,6 +33,8 @@ module _ {G : Type 0} (gathers : List Taken → List (List ℕ) → G → Type 0
   Stops-open (outcome.Capture name at fault) whole stops = (halted (EndsSo (Faulty at fault)) stops.1.0, stops.1.1)
   Stops-open (outcome.Packets limit) whole stops = (halted (ArePassed start.limit) stops.1.0, stops.1.1)
   Stops-open (outcome.Exports place fault) whole stops = absurd stops
+  Stops-open (outcome.Ipfix place fault) whole stops = absurd stops
+  Stops-open (outcome.Part which place fault) whole stops = absurd stops
   Stops-open (outcome.Records limit) whole stops = absurd stops
   Stops-open outcome.ReadFault whole stops = (halted (AreWhole (new_in.left slot)) stops.1.0, stops.1.1)
   Stops-open outcome.WriteFault whole stops = absurd (whole tt)
@@ -64,6 +66,8 @@ module _ {G : Type 0} (gathers : List Taken → List (List ℕ) → G → Type 0
       Finishes-written (outcome.Capture name at fault) whole stops = (stops.0, written (EndsSo (Faulty at fault)) stops.1.0)
       Finishes-written (outcome.Packets limit) whole stops = (stops.0, written (ArePassed start.limit) stops.1.0)
       Finishes-written (outcome.Exports place fault) whole stops = absurd stops
+      Finishes-written (outcome.Ipfix place fault) whole stops = absurd stops
+      Finishes-written (outcome.Part which place fault) whole stops = absurd stops
       Finishes-written (outcome.Records limit) whole stops = absurd stops
       Finishes-written outcome.ReadFault whole stops = (stops.0, written (AreWhole (new_in.left slot)) stops.1.0)
       Finishes-written outcome.WriteFault whole stops = absurd (whole tt)
@@ -85,6 +89,8 @@ module _ {G : Type 0} (gathers : List Taken → List (List ℕ) → G → Type 0
       Stops-sticks (outcome.Capture name at fault) whole stops = broken (EndsSo (Faulty at fault)) (begins_ends (Faulty at fault)) stops.1.0
       Stops-sticks (outcome.Packets limit) whole stops = broken (ArePassed start.limit) (begins_passed start.limit) stops.1.0
       Stops-sticks (outcome.Exports place fault) whole stops = absurd stops
+      Stops-sticks (outcome.Ipfix place fault) whole stops = absurd stops
+      Stops-sticks (outcome.Part which place fault) whole stops = absurd stops
       Stops-sticks (outcome.Records limit) whole stops = absurd stops
       Stops-sticks outcome.ReadFault whole stops = broken (AreWhole (new_in.left slot)) (begins_whole (new_in.left slot)) stops.1.0
       Stops-sticks outcome.WriteFault whole stops = absurd (whole tt)
@@ -125,6 +131,8 @@ module _ (tells : Bool) (start : Start) (Texts : List Taken → List (List ℕ) 
         }) finishes.1,
   )
   Finishes-cause reads writes (outcome.Exports place fault) finishes = absurd finishes
+  Finishes-cause reads writes (outcome.Ipfix place fault) finishes = absurd finishes
+  Finishes-cause reads writes (outcome.Part which place fault) finishes = absurd finishes
   Finishes-cause reads writes (outcome.Records limit) finishes = absurd finishes
   Finishes-cause reads writes outcome.ReadFault finishes = omega (arith, finishes.0, reads)
   Finishes-cause reads writes outcome.WriteFault finishes = omega (arith, finishes.0, writes)
@@ -158,6 +166,8 @@ module _ (tells : Bool) (base limit : ℕ) (names : List (List ℕ)) (Texts : Li
   Finishes-leaves (outcome.Capture name at fault) finishes = finishes.1 told
   Finishes-leaves (outcome.Packets limit) finishes = finishes.1 told
   Finishes-leaves (outcome.Exports place fault) finishes = absurd finishes
+  Finishes-leaves (outcome.Ipfix place fault) finishes = absurd finishes
+  Finishes-leaves (outcome.Part which place fault) finishes = absurd finishes
   Finishes-leaves (outcome.Records limit) finishes = absurd finishes
   Finishes-leaves outcome.ReadFault finishes =
       let P : ℕ → Type 0 = λ k. IsSomeAnd (holds first_out input) (HoldsAll limit Texts names (AreWhole (new_in.left k)) new_out) in
@@ -182,6 +192,8 @@ Finishes-drained tells start Texts input slot number old_in new_in old_out new_o
 Finishes-drained tells start Texts input slot number old_in new_in old_out new_out same (outcome.Capture name at fault) finishes done told = absurd done
 Finishes-drained tells start Texts input slot number old_in new_in old_out new_out same (outcome.Packets limit) finishes done told = absurd done
 Finishes-drained tells start Texts input slot number old_in new_in old_out new_out same (outcome.Exports place fault) finishes done told = absurd done
+Finishes-drained tells start Texts input slot number old_in new_in old_out new_out same (outcome.Ipfix place fault) finishes done told = absurd done
+Finishes-drained tells start Texts input slot number old_in new_in old_out new_out same (outcome.Part which place fault) finishes done told = absurd done
 Finishes-drained tells start Texts input slot number old_in new_in old_out new_out same (outcome.Records limit) finishes done told = absurd done
 Finishes-drained tells start Texts input slot number old_in new_in old_out new_out same outcome.ReadFault finishes done told = absurd done
 Finishes-drained tells start Texts input slot number old_in new_in old_out new_out same outcome.WriteFault finishes done told = absurd done

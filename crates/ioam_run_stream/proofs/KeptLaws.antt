@@ -67,6 +67,8 @@ module _ {G : Type 0} (gathers : List Taken → List (List ℕ) → G → Type 0
   Stops-writes (outcome.Capture name at fault) whole stops = writes start.base start.names stops.1.0.texts stops.1.0.told
   Stops-writes (outcome.Packets limit) whole stops = writes start.base start.names stops.1.0.texts stops.1.0.told
   Stops-writes (outcome.Exports place fault) whole stops = absurd stops
+  Stops-writes (outcome.Ipfix place fault) whole stops = absurd stops
+  Stops-writes (outcome.Part which place fault) whole stops = absurd stops
   Stops-writes (outcome.Records limit) whole stops = absurd stops
   Stops-writes outcome.ReadFault whole stops = writes start.base start.names stops.1.0.texts stops.1.0.told
   Stops-writes outcome.WriteFault whole stops = absurd (whole tt)

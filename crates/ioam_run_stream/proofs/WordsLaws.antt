@@ -46,6 +46,8 @@ module _ (tells : Bool) (names : List (List ℕ)) (input : List ℕ) (old_in : R
   cause_of_file (outcome.Capture name at fault) apart cause = (apart, cause.0, cause.1)
   cause_of_file (outcome.Packets limit) apart cause = (apart, cause.0, cause.1)
   cause_of_file (outcome.Exports place fault) apart cause = absurd cause
+  cause_of_file (outcome.Ipfix place fault) apart cause = absurd cause
+  cause_of_file (outcome.Part which place fault) apart cause = absurd cause
   cause_of_file (outcome.Records limit) apart cause = absurd cause
   cause_of_file outcome.ReadFault apart cause = cause
   cause_of_file outcome.WriteFault apart cause = cause

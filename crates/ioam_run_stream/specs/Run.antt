@@ -48,17 +48,10 @@ module _ (tells : Bool) (desk : Writing) (names : List (List ℕ)) (input : List
   abbrev pub Asked : Outcome → Type 0
   Asked (outcome.Names name) = (at : ℕ) × IsFirstRepeat names at × (name ≡ name_at names at)
   Asked (outcome.Packets limit) = AreApart names × (limit ≡ most_packets) × (IsTrue tells → IsSomeAnd (holds desk input) (IsLong most_packets))
-  Asked (outcome.Exports place fault) = ⊥
-  Asked (outcome.Records limit) = ⊥
   Asked (outcome.Capture name at fault) = AreApart names × (name ≡ input)
       × (IsTrue tells → IsSomeAnd (holds desk input) (IsInput most_packets (Faulty at fault)))
   Asked outcome.Done = AreApart names × (IsTrue tells → IsSomeAnd (holds desk input) (IsInput most_packets Whole))
-  Asked outcome.Usage = ⊥
-  Asked (outcome.Domain why) = ⊥
-  Asked (outcome.Readings why) = ⊥
-  Asked outcome.ReadFault = ⊥
-  Asked outcome.WriteFault = ⊥
-  Asked outcome.NoMemory = ⊥
+  Asked _ = ⊥
 
 -- the same causes where the names are known to differ, with this limit
 module _ (most : ℕ) (tells : Bool) (input : List ℕ) (old_in : Reading) (old_out : Writing) (new_in : Reading) (new_out : Writing) where
@@ -66,15 +59,10 @@ module _ (most : ℕ) (tells : Bool) (input : List ℕ) (old_in : Reading) (old_
   FileCause outcome.ReadFault = Rose old_in.side.faults new_in.side.faults
   FileCause outcome.WriteFault = Rose old_out.side.faults new_out.side.faults
   FileCause outcome.NoMemory = ⊤
-  FileCause outcome.Usage = ⊥
-  FileCause (outcome.Domain why) = ⊥
-  FileCause (outcome.Readings why) = ⊥
-  FileCause (outcome.Names name) = ⊥
   FileCause outcome.Done = IsTrue tells → IsSomeAnd (holds old_out input) (IsInput most Whole)
   FileCause (outcome.Packets limit) = (limit ≡ most) × (IsTrue tells → IsSomeAnd (holds old_out input) (IsLong most))
-  FileCause (outcome.Exports place fault) = ⊥
-  FileCause (outcome.Records limit) = ⊥
   FileCause (outcome.Capture name at fault) = (name ≡ input) × (IsTrue tells → IsSomeAnd (holds old_out input) (IsInput most (Faulty at fault)))
+  FileCause _ = ⊥
 
 -- the cause of each answer; want of memory alone has none
 module _ (tells : Bool) (names : List (List ℕ)) (input : List ℕ) (old_in : Reading) (old_out : Writing) (new_in : Reading) (new_out : Writing) where
@@ -82,15 +70,11 @@ module _ (tells : Bool) (names : List (List ℕ)) (input : List ℕ) (old_in : R
   HasCause outcome.ReadFault = Rose old_in.side.faults new_in.side.faults
   HasCause outcome.WriteFault = Rose old_out.side.faults new_out.side.faults
   HasCause outcome.NoMemory = ⊤
-  HasCause outcome.Usage = ⊥
-  HasCause (outcome.Domain why) = ⊥
-  HasCause (outcome.Readings why) = ⊥
   HasCause outcome.Done = Asked tells old_out names input outcome.Done
   HasCause (outcome.Names name) = Asked tells old_out names input (outcome.Names name)
   HasCause (outcome.Packets limit) = Asked tells old_out names input (outcome.Packets limit)
-  HasCause (outcome.Exports place fault) = ⊥
-  HasCause (outcome.Records limit) = ⊥
   HasCause (outcome.Capture name at fault) = Asked tells old_out names input (outcome.Capture name at fault)
+  HasCause _ = ⊥
 
 -- the octets read as these records, and end so
 abbrev pub EndsSo : Ending → List Taken → List ℕ → Type 0
@@ -142,8 +126,6 @@ module _ (most : ℕ) (Texts : List Taken → List (List ℕ) → Type 0) (outpu
     Leaves outcome.Done = IsSomeAnd (holds old input) (HoldsAll (EndsSo Whole) new)
     Leaves (outcome.Capture name at fault) = IsSomeAnd (holds old input) (HoldsAll (EndsSo (Faulty at fault)) new)
     Leaves (outcome.Packets limit) = IsSomeAnd (holds old input) (HoldsAll (ArePassed most) new)
-    Leaves (outcome.Exports place fault) = ⊥
-    Leaves (outcome.Records limit) = ⊥
     Leaves outcome.ReadFault = ((new_in.side.slots ≡ old_in.side.slots) × (new ≡ old))
         ⊎ ((old_in.side.slots < new_in.side.slots)
         × IsSomeAnd (holds old input) (HoldsAll (AreWhole (new_in.left old_in.side.slots)) new))
@@ -153,6 +135,7 @@ module _ (most : ℕ) (Texts : List Taken → List (List ℕ) → Type 0) (outpu
     Leaves (outcome.Domain why) = new ≡ old
     Leaves (outcome.Readings why) = new ≡ old
     Leaves (outcome.Names name) = new ≡ old
+    Leaves _ = ⊥
 
 -- what a command with these words owes for its answer, whose outputs have the texts that `Texts` says
 module _ (tells : Bool) (Texts : List Taken → List (List ℕ) → Type 0) (words : List (List ℕ)) (old_in new_in : Reading) (old new : Writing) where

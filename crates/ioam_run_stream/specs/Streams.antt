@@ -124,15 +124,10 @@ module _ (tells : Bool) (start : Start) (Texts : List Taken → List (List ℕ) 
     Stops outcome.Done = Tells (EndsSo Whole) × (IsTrue tells → IsTrue (new_in.ended slot))
     Stops (outcome.Capture name at fault) = (name ≡ input) × Tells (EndsSo (Faulty at fault))
     Stops (outcome.Packets limit) = (limit ≡ start.limit) × Tells (ArePassed start.limit)
-    Stops (outcome.Exports place fault) = ⊥
-    Stops (outcome.Records limit) = ⊥
     Stops outcome.ReadFault = Rose old_in.side.faults new_in.side.faults × Tells (AreWhole (new_in.left slot))
     Stops outcome.WriteFault = Rose old_out.side.faults new_out.side.faults × Sticks new_out
     Stops outcome.NoMemory = Sticks new_out
-    Stops outcome.Usage = ⊥
-    Stops (outcome.Domain why) = ⊥
-    Stops (outcome.Readings why) = ⊥
-    Stops (outcome.Names name) = ⊥
+    Stops _ = ⊥
 
   -- what a run over opened files answered
   module _ (input : List ℕ) (slot : ℕ) (old_in new_in : desk.Reading) (old_out new_out : Writing) where
@@ -144,27 +139,13 @@ module _ (tells : Bool) (start : Start) (Texts : List Taken → List (List ℕ) 
     Finishes outcome.Done = Holds (EndsSo Whole) × (IsTrue tells → IsTrue (new_in.ended slot))
     Finishes (outcome.Capture name at fault) = (name ≡ input) × Holds (EndsSo (Faulty at fault))
     Finishes (outcome.Packets limit) = (limit ≡ start.limit) × Holds (ArePassed start.limit)
-    Finishes (outcome.Exports place fault) = ⊥
-    Finishes (outcome.Records limit) = ⊥
     Finishes outcome.ReadFault = Rose old_in.side.faults new_in.side.faults × Holds (AreWhole (new_in.left slot))
     Finishes outcome.WriteFault = Rose old_out.side.faults new_out.side.faults × Sticks new_out
     Finishes outcome.NoMemory = Sticks new_out
-    Finishes outcome.Usage = ⊥
-    Finishes (outcome.Domain why) = ⊥
-    Finishes (outcome.Readings why) = ⊥
-    Finishes (outcome.Names name) = ⊥
+    Finishes _ = ⊥
 
 -- the answer comes where an output could not be written, or no memory could be had
 abbrev pub IsBroken : Outcome → Type 0
 IsBroken outcome.WriteFault = ⊤
 IsBroken outcome.NoMemory = ⊤
-IsBroken outcome.Done = ⊥
-IsBroken outcome.Usage = ⊥
-IsBroken (outcome.Domain why) = ⊥
-IsBroken (outcome.Readings why) = ⊥
-IsBroken (outcome.Names name) = ⊥
-IsBroken (outcome.Capture name at fault) = ⊥
-IsBroken (outcome.Packets limit) = ⊥
-IsBroken (outcome.Exports place fault) = ⊥
-IsBroken (outcome.Records limit) = ⊥
-IsBroken outcome.ReadFault = ⊥
+IsBroken _ = ⊥
