@@ -1,3 +1,3 @@
 mod MeasuredLaws
-mod SavedLaws
+mod PromiseLaws
 mod WordsLaws

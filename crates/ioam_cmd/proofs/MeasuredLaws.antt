@@ -7,15 +7,15 @@ use Rattle.ioam_base.specs.Octets.{IsFront}
 use Rattle.ioam_clock.specs.declared.sample.Sample.{Sample}
 use Rattle.ioam_collect.specs.Collected.{count_kept}
 use Rattle.ioam_collect.proofs.CountLaws.{count_kept-grows}
-use Rattle.ioam_run_collect.specs.Run as collect
-use Rattle.ioam_run_collect.specs.Run.{EndsSo, HoldsPart, HoldsReport, exports_file, report_file}
+use Rattle.ioam_run_collect.specs.Promise as collect
+use Rattle.ioam_run_collect.specs.Promise.{EndsSo, HoldsPart, HoldsReport}
 use Rattle.ioam_desk.specs.Desk.{Reading, Writing, holds}
 use Rattle.ioam_dex.specs.Faults.{IsCut}
 use Rattle.ioam_dex.specs.Reads.{Ending, EndsAt, Faulty, Reads, ReadsOnly, Splits, Whole}
 use Rattle.ioam_dex.specs.Record.{IsRecord, Record}
 use Rattle.ioam_dex.proofs.ReadsLaws.{Splits-feed, cut-no-record}
-use Rattle.ioam_run_domain.specs.Run as run
-use Rattle.ioam_run_domain.specs.Run.{HoldsFiles, IsReady, course_for}
+use Rattle.ioam_run_domain.specs.Promise as run
+use Rattle.ioam_run_domain.specs.Promise.{HoldsFiles, IsReady, RunNames, course_for}
 use Rattle.ioam_topo_file.specs.File.{IsDomainOf}
 use Rattle.ioam_run_texts.specs.Fate.{AreFates, Fate, Frame}
 use Rattle.ioam_run_texts.specs.Texts.{exports_text, report_text}
@@ -143,8 +143,8 @@ module _ (octets : List ℕ) (read : List Record) (left : List ℕ) (reads : Rea
   are_collected : AreCollected read ending octets
   are_collected = record {
     asks = asks ending octets read reads;
-    tells = λ words old_in new_in old new answer is leaves.
-        collects (holds old (exports_file words)) (report_file words) old_in new_in old new answer is leaves;
+    tells = λ files old_in new_in old new answer is leaves.
+        collects (holds old files.exports) files.report old_in new_in old new answer is leaves;
   }
 
 -- ---- of the octets that a run exported
@@ -217,15 +217,15 @@ held_domain : (content : Option (List ℕ)) (domain : Domain) → IsSomeAnd cont
 held_domain None domain is = absurd is
 held_domain (Some octets) domain is = (octets, is)
 
-module _ (opens : Bool) (words : List (List ℕ)) (old_in new_in : Reading) (old new : Writing) where
-  module _ (domain : Domain) (readings : List (List Sample)) (ready : IsReady old words domain readings) where
+module _ (opens : Bool) (files : RunNames) (old_in new_in : Reading) (old new : Writing) where
+  module _ (domain : Domain) (readings : List (List Sample)) (ready : IsReady old files domain readings) where
     abbrev course : Course
-    course = course_for opens words old_in old domain readings
+    course = course_for opens files old_in old domain readings
 
     is_told : (taken : List Arrival) (fates : List Fate) → length taken ≤ domain.packets → All traffic.IsTimely taken
         → AreFates domain readings (frames_of course.ports taken) fates → IsTold domain readings (frames_of course.ports taken) fates
     is_told taken fates few timely become =
-        let of = held_domain (holds old (run.domain_file words)) domain ready.set.has_domain in
+        let of = held_domain (holds old files.domain) domain ready.set.has_domain in
         let size : length (frames_of course.ports taken) ≡ length taken = length-map taken (frame_of course.ports) in record {
           run = record {
             within = domain_within of.0 domain of.1;
@@ -236,28 +236,28 @@ module _ (opens : Bool) (words : List (List ℕ)) (old_in new_in : Reading) (old
           timely = All-map IsTimely (frame_of course.ports) taken timely;
         }
 
-    measured : (Are : List Arrival → Type 0) → HoldsFiles opens words old_in new_in old new course Are
-        → IsAllMeasured opens words old_in new_in old new course Are
-    measured Are files = record {
-      files = files;
-      octets = exports_text domain readings files.fates;
-      held = files.exports;
-      collected = collected domain readings (frames_of course.ports files.taken) files.fates
-          (is_told files.taken files.fates files.few files.timely files.become);
+    measured : (Are : List Arrival → Type 0) → HoldsFiles opens files old_in new_in old new course Are
+        → IsAllMeasured opens files old_in new_in old new course Are
+    measured Are held = record {
+      holds_files = held;
+      octets = exports_text domain readings held.fates;
+      held = held.exports;
+      collected = collected domain readings (frames_of course.ports held.taken) held.fates
+          (is_told held.taken held.fates held.few held.timely held.become);
     }
 
-    part_measured : HoldsFronts course old new → IsPartMeasured opens words old_in new_in old new course
+    part_measured : HoldsFronts course old new → IsPartMeasured opens files old_in new_in old new course
     part_measured fronts =
         let told = is_told fronts.taken fronts.fates fronts.few fronts.timely fronts.become in record {
           fronts = fronts;
-          collected = λ gate opened. then_held (holds new (run.exports_file words)) (λ part. IsFront part (exports_text domain readings fronts.fates))
+          collected = λ gate opened. then_held (holds new files.exports) (λ part. IsFront part (exports_text domain readings fronts.fates))
               (IsPartCollected domain readings fronts.fates)
               (part_collected domain readings (frames_of course.ports fronts.taken) fronts.fates told)
-              (last_held old new _ _ (run.report_file words) (run.exports_file words) _ _ (report_text domain readings fronts.fates)
+              (last_held old new _ _ files.report files.exports _ _ (report_text domain readings fronts.fates)
               (exports_text domain readings fronts.fates) (fronts.held gate) opened);
         }
 
-  measures : (answer : Outcome) → run.Leaves opens words old_in new_in old new answer → Measures opens words old_in new_in old new answer
+  measures : (answer : Outcome) → run.Leaves opens files old_in new_in old new answer → Measures opens files old_in new_in old new answer
   measures outcome.Done left = (left.0, left.1, left.2, measured left.0 left.1 left.2 _ left.3)
   measures (outcome.Capture name at fault) left = (left.0, left.1, left.2, (left.3.0, left.3.1, measured left.0 left.1 left.2 _ left.3.2))
   measures (outcome.Packets limit) left = (left.0, left.1, left.2, measured left.0 left.1 left.2 _ left.3)
@@ -276,4 +276,4 @@ module _ (opens : Bool) (words : List (List ℕ)) (old_in new_in : Reading) (old
   measures (outcome.Records limit) left = tt
 
 pub run-then-collect : RunThenCollect
-run-then-collect opens words old_in new_in old new answer left = measures opens words old_in new_in old new answer left
+run-then-collect opens files old_in new_in old new answer left = measures opens files old_in new_in old new answer left

@@ -1,10 +1,11 @@
 -- Laws of the words that spell numbers, and of which command words are.
-use Rattle.std.proofs.Common.{◌≡◌, ℕ, ◌<◌, Bool, true, false, List, length, Option, Some, None, refl, sym, ◌∙◌, ap, subst, arith}
+use Rattle.std.proofs.Common.{◌≡◌, ℕ, ◌<◌, Bool, true, false, List, length, Option, Some, None, get_or, refl, sym, ◌∙◌, ap, subst, arith}
 use Rattle.std.specs.Prelude.{◌↔◌, ◌^◌, MatchOption, codes, decimal, nat_lt}
 use Rattle.std.proofs.lemmas.Bool.{ltb-true, ltb-false}
 use Rattle.std.proofs.lemmas.Fmt.{decimal_injective}
 use Rattle.std.proofs.lemmas.Option.{none-some}
 use Rattle.ioam_base.proofs.DecimalLaws.{decimal_iff}
+use Rattle.ioam_desk_outputs.specs.Names.{name_at}
 use Rattle.ioam_cmd.specs.Words.{IsForm, IsSeed}
 use Rattle.ioam_cmd.specs.declared.command.Command.{Command}
 use Rattle.ioam_cmd.specs.declared.command.Command.TheVariants.{Filter, Paths, Show, Save, Collect, Node, Run, Bulk}
@@ -30,6 +31,68 @@ spells_seed word None reads other = λ seed is. spells_less word seed reads othe
 spells_seed word (Some n) reads other =
     let found = (reads n).0 refl in
     (found.1, omega (arith, found.0))
+
+-- words of one number are of one command alone; those of three by their first
+module _ (P : Command → Type 0) (words : List (List ℕ)) where
+  pub filter-alone : length words ≡ 4 → P Filter → (command : Command) → IsForm command words → P command
+  filter-alone four holds Filter form = holds
+  filter-alone four holds Paths form = absurd (omega (arith, four, form.0))
+  filter-alone four holds Show form = absurd (omega (arith, four, form.0))
+  filter-alone four holds Save form = absurd (omega (arith, four, form.0))
+  filter-alone four holds Collect form = absurd (omega (arith, four, form.0))
+  filter-alone four holds Node form = absurd (omega (arith, four, form.0))
+  filter-alone four holds (Run workers) form = absurd (omega (arith, four, form.0))
+  filter-alone four holds (Bulk seed count number) form = absurd (omega (arith, four, form.0))
+
+  pub node-alone : length words ≡ 9 → P Node → (command : Command) → IsForm command words → P command
+  node-alone nine holds Filter form = absurd (omega (arith, nine, form.0))
+  node-alone nine holds Paths form = absurd (omega (arith, nine, form.0))
+  node-alone nine holds Show form = absurd (omega (arith, nine, form.0))
+  node-alone nine holds Save form = absurd (omega (arith, nine, form.0))
+  node-alone nine holds Collect form = absurd (omega (arith, nine, form.0))
+  node-alone nine holds Node form = holds
+  node-alone nine holds (Run workers) form = absurd (omega (arith, nine, form.0))
+  node-alone nine holds (Bulk seed count number) form = absurd (omega (arith, nine, form.0))
+
+  pub paths-alone : length words ≡ 3 → name_at words 0 ≡ codes "paths" → P Paths → (command : Command) → IsForm command words → P command
+  paths-alone three named holds Filter form = absurd (omega (arith, three, form.0))
+  paths-alone three named holds Paths form = holds
+  paths-alone three named holds Show form = let differ : 112 ≡ 115 = ap (λ (xs : List ℕ). get_or xs 0 0) (sym named ∙ form.1) in absurd (omega (arith, differ))
+  paths-alone three named holds Save form = let differ : 112 ≡ 115 = ap (λ (xs : List ℕ). get_or xs 0 0) (sym named ∙ form.1) in absurd (omega (arith, differ))
+  paths-alone three named holds Collect form = let differ : 112 ≡ 99 = ap (λ (xs : List ℕ). get_or xs 0 0) (sym named ∙ form.1) in absurd (omega (arith, differ))
+  paths-alone three named holds Node form = absurd (omega (arith, three, form.0))
+  paths-alone three named holds (Run workers) form = absurd (omega (arith, three, form.0))
+  paths-alone three named holds (Bulk seed count number) form = absurd (omega (arith, three, form.0))
+
+  pub show-alone : length words ≡ 3 → name_at words 0 ≡ codes "show" → P Show → (command : Command) → IsForm command words → P command
+  show-alone three named holds Filter form = absurd (omega (arith, three, form.0))
+  show-alone three named holds Paths form = let differ : 115 ≡ 112 = ap (λ (xs : List ℕ). get_or xs 0 0) (sym named ∙ form.1) in absurd (omega (arith, differ))
+  show-alone three named holds Show form = holds
+  show-alone three named holds Save form = let differ : 104 ≡ 97 = ap (λ (xs : List ℕ). get_or xs 1 0) (sym named ∙ form.1) in absurd (omega (arith, differ))
+  show-alone three named holds Collect form = let differ : 115 ≡ 99 = ap (λ (xs : List ℕ). get_or xs 0 0) (sym named ∙ form.1) in absurd (omega (arith, differ))
+  show-alone three named holds Node form = absurd (omega (arith, three, form.0))
+  show-alone three named holds (Run workers) form = absurd (omega (arith, three, form.0))
+  show-alone three named holds (Bulk seed count number) form = absurd (omega (arith, three, form.0))
+
+  pub save-alone : length words ≡ 3 → name_at words 0 ≡ codes "save" → P Save → (command : Command) → IsForm command words → P command
+  save-alone three named holds Filter form = absurd (omega (arith, three, form.0))
+  save-alone three named holds Paths form = let differ : 115 ≡ 112 = ap (λ (xs : List ℕ). get_or xs 0 0) (sym named ∙ form.1) in absurd (omega (arith, differ))
+  save-alone three named holds Show form = let differ : 97 ≡ 104 = ap (λ (xs : List ℕ). get_or xs 1 0) (sym named ∙ form.1) in absurd (omega (arith, differ))
+  save-alone three named holds Save form = holds
+  save-alone three named holds Collect form = let differ : 115 ≡ 99 = ap (λ (xs : List ℕ). get_or xs 0 0) (sym named ∙ form.1) in absurd (omega (arith, differ))
+  save-alone three named holds Node form = absurd (omega (arith, three, form.0))
+  save-alone three named holds (Run workers) form = absurd (omega (arith, three, form.0))
+  save-alone three named holds (Bulk seed count number) form = absurd (omega (arith, three, form.0))
+
+  pub collect-alone : length words ≡ 3 → name_at words 0 ≡ codes "collect" → P Collect → (command : Command) → IsForm command words → P command
+  collect-alone three named holds Filter form = absurd (omega (arith, three, form.0))
+  collect-alone three named holds Paths form = let differ : 99 ≡ 112 = ap (λ (xs : List ℕ). get_or xs 0 0) (sym named ∙ form.1) in absurd (omega (arith, differ))
+  collect-alone three named holds Show form = let differ : 99 ≡ 115 = ap (λ (xs : List ℕ). get_or xs 0 0) (sym named ∙ form.1) in absurd (omega (arith, differ))
+  collect-alone three named holds Save form = let differ : 99 ≡ 115 = ap (λ (xs : List ℕ). get_or xs 0 0) (sym named ∙ form.1) in absurd (omega (arith, differ))
+  collect-alone three named holds Collect form = holds
+  collect-alone three named holds Node form = absurd (omega (arith, three, form.0))
+  collect-alone three named holds (Run workers) form = absurd (omega (arith, three, form.0))
+  collect-alone three named holds (Bulk seed count number) form = absurd (omega (arith, three, form.0))
 
 -- six words are of one command alone
 pub run-alone : (P : Command → Type 0) (words : List (List ℕ)) → length words ≡ 6 → ((workers : ℕ) → P (Run workers))

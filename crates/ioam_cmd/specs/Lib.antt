@@ -1,3 +1,3 @@
 pub mod Words
 pub mod Measured
-pub mod Clauses
+pub mod Promise

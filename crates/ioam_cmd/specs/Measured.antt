@@ -5,13 +5,13 @@ use Rattle.ioam_base.specs.Octets.{IsFront}
 use Rattle.ioam_clock.specs.declared.sample.Sample.{Sample}
 use Rattle.ioam_collect.specs.Best.{groups_of}
 use Rattle.ioam_collect.specs.Keyed.{keyed}
-use Rattle.ioam_run_collect.specs.Run as collect
-use Rattle.ioam_run_collect.specs.Run.{report_file}
+use Rattle.ioam_run_collect.specs.Promise as collect
+use Rattle.ioam_run_collect.specs.Promise.{CollectNames}
 use Rattle.ioam_desk.specs.Desk.{Reading, Writing, holds}
 use Rattle.ioam_dex.specs.Reads.{Ending, Whole, Faulty, Reads, ReadsOnly}
 use Rattle.ioam_dex.specs.Record.{Record}
-use Rattle.ioam_run_domain.specs.Run as run
-use Rattle.ioam_run_domain.specs.Run.{HoldsFiles, OfTraffic, exports_file, run_inputs}
+use Rattle.ioam_run_domain.specs.Promise as run
+use Rattle.ioam_run_domain.specs.Promise.{HoldsFiles, OfTraffic, RunNames, run_inputs}
 use Rattle.ioam_run_texts.specs.Fate.{Fate}
 use Rattle.ioam_report_groups.specs.GroupsText.{records_text}
 use Rattle.ioam_capture_merge.specs.Merging.{PartsArrive}
@@ -63,10 +63,10 @@ module _ (read : List Record) (ending : Ending) where
   pub record AreCollected (octets : List ℕ) : Type 0 where
     pub asks : (tells : Bool) (exports report : List ℕ) → exports ≢ report → AreFew read
         → collect.Asked tells (Some octets) exports report (asked_by ending)
-    pub tells : (words : List (List ℕ)) (old_in new_in : Reading) (old new : Writing) (answer : Outcome)
-        → holds old (collect.exports_file words) ≡ Some octets
-        → collect.Leaves (holds old (collect.exports_file words)) (report_file words) old_in new_in old new answer
-        → Collects old new (report_file words) answer
+    pub tells : (files : CollectNames) (old_in new_in : Reading) (old new : Writing) (answer : Outcome)
+        → holds old files.exports ≡ Some octets
+        → collect.Leaves (holds old files.exports) files.report old_in new_in old new answer
+        → Collects old new files.report answer
 
 -- ---- the octets that a run exported
 
@@ -92,33 +92,33 @@ module _ (domain : Domain) (readings : List (List Sample)) (fates : List Fate) w
 
 -- ---- what `run` leaves
 
-module _ (opens : Bool) (words : List (List ℕ)) (old_in new_in : Reading) (old new : Writing) where
+module _ (opens : Bool) (files : RunNames) (old_in new_in : Reading) (old new : Writing) where
   -- the files hold the texts of these arrivals, and what EXPORTS holds, where the gate opens, is what `collect` regroups to their paths
   pub record IsAllMeasured (course : Course) (Are : List Arrival → Type 0) : Type 0 where
-    pub files : HoldsFiles opens words old_in new_in old new course Are
+    pub holds_files : HoldsFiles opens files old_in new_in old new course Are
     pub octets : List ℕ
-    pub held : IsTrue course.opens → holds new (exports_file words) ≡ Some octets
-    pub collected : IsCollected course.domain course.readings files.fates octets
+    pub held : IsTrue course.opens → holds new files.exports ≡ Some octets
+    pub collected : IsCollected course.domain course.readings holds_files.fates octets
 
   -- they hold fronts of the texts of some first arrivals; and so does EXPORTS, the last of them, where all were opened and the gate opens
   pub record IsPartMeasured (course : Course) : Type 0 where
     pub fronts : HoldsFronts course old new
     pub collected : IsTrue course.opens → old.side.slots + length course.names ≤ new.side.slots
-        → IsSomeAnd (holds new (exports_file words)) (IsPartCollected course.domain course.readings fronts.fates)
+        → IsSomeAnd (holds new files.exports) (IsPartCollected course.domain course.readings fronts.fates)
 
   -- so it is behind each answer that comes once an output was opened
   abbrev pub Measures : Outcome → Type 0
-  Measures outcome.Done = OfTraffic opens words old_in new_in old new (λ course. IsAllMeasured course (Arrive course turn.Over))
-  Measures (outcome.Capture name at fault) = OfTraffic opens words old_in new_in old new (λ course. (place : ℕ) × (name ≡ name_at (run_inputs course.domain) place)
+  Measures outcome.Done = OfTraffic opens files old_in new_in old new (λ course. IsAllMeasured course (Arrive course turn.Over))
+  Measures (outcome.Capture name at fault) = OfTraffic opens files old_in new_in old new (λ course. (place : ℕ) × (name ≡ name_at (run_inputs course.domain) place)
       × IsAllMeasured course (Arrive course (turn.Broken place at fault)))
-  Measures (outcome.Packets limit) = OfTraffic opens words old_in new_in old new (λ course. IsAllMeasured course (ArePassed course))
+  Measures (outcome.Packets limit) = OfTraffic opens files old_in new_in old new (λ course. IsAllMeasured course (ArePassed course))
   Measures outcome.ReadFault = (new ≡ old)
-      ⊎ OfTraffic opens words old_in new_in old new (λ course. AreOpened course new_in × IsAllMeasured course (PartsArrive course.lanes.contents new_in course.lanes.base))
-  Measures outcome.WriteFault = OfTraffic opens words old_in new_in old new (λ course. IsPartMeasured course)
-  Measures outcome.NoMemory = (new ≡ old) ⊎ OfTraffic opens words old_in new_in old new (λ course. IsPartMeasured course)
+      ⊎ OfTraffic opens files old_in new_in old new (λ course. AreOpened course new_in × IsAllMeasured course (PartsArrive course.lanes.contents new_in course.lanes.base))
+  Measures outcome.WriteFault = OfTraffic opens files old_in new_in old new (λ course. IsPartMeasured course)
+  Measures outcome.NoMemory = (new ≡ old) ⊎ OfTraffic opens files old_in new_in old new (λ course. IsPartMeasured course)
   Measures _ = ⊤
 
 -- whatever `run` leaves
 abbrev pub RunThenCollect : Type 0
-RunThenCollect = (opens : Bool) (words : List (List ℕ)) (old_in new_in : Reading) (old new : Writing) (answer : Outcome)
-    → run.Leaves opens words old_in new_in old new answer → Measures opens words old_in new_in old new answer
+RunThenCollect = (opens : Bool) (files : RunNames) (old_in new_in : Reading) (old new : Writing) (answer : Outcome)
+    → run.Leaves opens files old_in new_in old new answer → Measures opens files old_in new_in old new answer

@@ -18,7 +18,7 @@ use Rattle.ioam_topo.specs.Keyed.{name_of_node}
 use Rattle.ioam_topo.specs.declared.domain.Domain.{Domain}
 use Rattle.ioam_run_bulk.specs.Generated.{arrivals}
 use Rattle.ioam_run_bulk.specs.Load.{AreSums}
-use Rattle.ioam_run_bulk.specs.Run.{IsReport, no_readings}
+use Rattle.ioam_run_bulk.specs.Promise.{IsReport, no_readings}
 
 -- a file of no octets has no readings
 pub nothing_read : (domain : Domain) → readings_of (node_names domain) [] ≡ Ok (no_readings domain)

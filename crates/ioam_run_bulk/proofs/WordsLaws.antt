@@ -1,7 +1,6 @@
 -- The one name that is opened, and what it holds.
 use Rattle.std.proofs.Common.{◌≡◌, ℕ, zero, suc, ◌<◌, List, [], ◌∷◌, length, Ok, Err, refl, sym, ◌∙◌, ap, subst, inl, arith}
-use Rattle.std.specs.Prelude.{drop, take, ◌-◌, Contains, IfErr, OnOk, Result}
-use Rattle.std.proofs.lemmas.List.{take_rest}
+use Rattle.std.specs.Prelude.{Contains, IfErr, OnOk, Result}
 use Rattle.ioam_desk.specs.Asked.{IsFaultOf}
 use Rattle.ioam_desk.specs.Desk.{Side, Writing}
 use Rattle.ioam_desk.specs.declared.fault.DeskFault.{DeskFault}
@@ -10,16 +9,7 @@ use Rattle.ioam_desk_outputs.specs.Held.{HoldAllFronts, HoldFronts, HoldTexts}
 use Rattle.ioam_desk_outputs.specs.Names.{AreApart, Repeats, name_at}
 use Rattle.ioam_desk_outputs.specs.Told.{said_more, unsaid}
 use Rattle.ioam_desk_outputs.proofs.HeldLaws.{HoldAllFronts-holds}
-use Rattle.ioam_run_bulk.specs.Run.{HoldsFront, HoldsReport, IsReport, MayReport, report_file}
-
-pub one_report : (words : List (List ℕ)) → length words ≡ 5 → drop 4 words ≡ report_file words ∷ []
-one_report [] five = absurd (omega (arith, five))
-one_report (a ∷ []) five = absurd (omega (arith, five))
-one_report (a ∷ b ∷ []) five = absurd (omega (arith, five))
-one_report (a ∷ b ∷ c ∷ []) five = absurd (omega (arith, five))
-one_report (a ∷ b ∷ c ∷ d ∷ []) five = absurd (omega (arith, five))
-one_report (a ∷ b ∷ c ∷ d ∷ e ∷ []) five = refl
-one_report (a ∷ b ∷ c ∷ d ∷ e ∷ f ∷ more) five = absurd (omega (arith, five))
+use Rattle.ioam_run_bulk.specs.Promise.{HoldsFront, HoldsReport, IsReport, MayReport}
 
 none_earlier : (name : List ℕ) → Contains [] name → ⊥
 none_earlier name there = let below = there.1 in omega (arith, below)
@@ -68,7 +58,3 @@ err_since old mid new (Err fault) same cause = fault_since old mid new fault sam
 pub on_ok : {T E : Type 0} (result : Result T E) (P : Type 0) → P → OnOk result P
 on_ok (Ok x) P holds = holds
 on_ok (Err e) P holds = tt
-
--- the slice behind WORKERS
-pub reports_behind : (words : List (List ℕ)) → length words ≡ 5 → take (length words - 4) (drop 4 words) ≡ report_file words ∷ []
-reports_behind words five = take_rest words 4 ∙ one_report words five

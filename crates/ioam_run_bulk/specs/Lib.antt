@@ -1,3 +1,3 @@
 pub mod Generated
-pub mod Run
+pub mod Promise
 pub mod Load

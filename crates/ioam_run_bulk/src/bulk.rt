@@ -6,7 +6,8 @@ ghost use Rattle.ioam_desk.specs.Asked.{AsksFront, IsFaultOf};
 ghost use Rattle.ioam_desk.specs.Desk.{Rose};
 ghost use Rattle.ioam_desk.specs.Kept.{KeepsOutputs};
 ghost use Rattle.ioam_desk_outputs.specs.Names.{name_at};
-ghost use Rattle.ioam_run_bulk.specs.Run.{HasCause, HoldsFront, HoldsReport, Leaves, report_file};
+ghost use Rattle.ioam_run_answer.specs.Desks.{around};
+ghost use Rattle.ioam_run_bulk.specs.Promise.{HasCause, HoldsFront, HoldsReport, Keeps, Leaves};
 
 use crate::report::write_report;
 use ioam_base::name::Name;
@@ -15,6 +16,7 @@ use ioam_desk::{Desk, DeskFault};
 use ioam_desk_outputs::open_outputs;
 use ioam_run_answer::Outcome;
 use std::alloc::Global;
+use std::slice;
 use std::thread::Threads;
 
 /// Runs `bulk SEED COUNT WORKERS REPORT`: COUNT packets, 1 to 1,000,000, that are generated behind SEED
@@ -23,34 +25,48 @@ use std::thread::Threads;
 /// WORKERS workers, 1 to 64, each asking `gate` before its jobs, and forgotten, so that what is held at
 /// a time doesn't grow with COUNT. REPORT has the sums alone.
 ///
-/// The words are the command and these four, and `seed`, `count` and `workers` are the numbers that
-/// they spell. REPORT is opened first, and written behind the last arrival. No input is opened.
+/// REPORT is opened first, and written behind the last arrival. No input is opened.
 pub fn run_bulk<R: Threads + Sync, D: Desk, G: Gate>(
     rt: &R,
     alloc: Global,
     seed: u64,
     count: u32,
     workers: u32,
-    words: &[Name],
+    report: &Name,
     desk: &mut D,
     gate: &G,
 ) -> Outcome
-    requires words { length words.now ≡ 5 }
     requires count { (1 ≤ count) × (count ≤ 1000000) }
     requires staffed { (1 ≤ workers) × (workers ≤ 64) }
-    // The sums follow from the journeys alone, so they hold whether the gate opens or not.
-    ensures leaves { IsTrue D.tells → Leaves seed count (report_file words.now) (D.writing desk.old) (D.writing desk.new) result }
+    ensures keeps { Keeps (around D.tells (D.reading desk.old) (D.reading desk.new) (D.writing desk.old) (D.writing desk.new)) seed count report.now result }
+{
+    run_load(rt, alloc, seed, count, workers, report, desk, gate)
+}
+
+// The same, clause by clause.
+fn run_load<R: Threads + Sync, D: Desk, G: Gate>(
+    rt: &R,
+    alloc: Global,
+    seed: u64,
+    count: u32,
+    workers: u32,
+    report: &Name,
+    desk: &mut D,
+    gate: &G,
+) -> Outcome
+    requires count { (1 ≤ count) × (count ≤ 1000000) }
+    requires staffed { (1 ≤ workers) × (workers ≤ 64) }
+    ensures leaves { IsTrue D.tells → Leaves seed count report.now (D.writing desk.old) (D.writing desk.new) result }
     ensures cause { HasCause (D.writing desk.old) (D.writing desk.new) result }
-    // It is done, unless a call of the desk failed or no memory could be had.
     ensures exact { (Rose (D.writing desk.old).side.faults (D.writing desk.new).side.faults → ⊥)
         → (result ≡ Outcome.Done) ⊎ (result ≡ Outcome.NoMemory) }
-    ensures asked_out { AsksFront (D.writing desk.old).side.asked (D.writing desk.new).side.asked (report_file words.now ∷ []) }
-    ensures all_out { IsDone result → (D.writing desk.new).side.asked ≡ (D.writing desk.old).side.asked ++ report_file words.now ∷ [] }
-    // Inputs are as they were, and where the desk tells output slots that were there and names other than REPORT.
+    ensures asked_out { AsksFront (D.writing desk.old).side.asked (D.writing desk.new).side.asked (report.now ∷ []) }
+    ensures all_out { IsDone result → (D.writing desk.new).side.asked ≡ (D.writing desk.old).side.asked ++ report.now ∷ [] }
     ensures kept_in { D.reading desk.new ≡ D.reading desk.old }
     ensures kept_out { IsTrue D.tells → KeepsOutputs (D.writing desk.old) (D.writing desk.new) }
 {
-    match write_sums(rt, alloc, seed, count, workers, &words[4..], desk, gate) {
+    let reports = slice::from_ref(report);
+    match write_sums(rt, alloc, seed, count, workers, reports, desk, gate) {
         Ok(()) => Outcome::Done,
         Err(DeskFault::Failed) => Outcome::WriteFault,
         Err(DeskFault::NoMemory) => Outcome::NoMemory,

@@ -4,7 +4,7 @@ ghost use Rattle.ioam_desk.specs.Asked.{IsFaultOf};
 ghost use Rattle.ioam_desk.specs.Kept.{WritesFrom};
 ghost use Rattle.ioam_desk_outputs.specs.Held.{HoldAllFronts, HoldTexts};
 ghost use Rattle.ioam_desk_outputs.specs.Told.{Adds, AreOpen, AreTold, said_more};
-ghost use Rattle.ioam_run_bulk.specs.Run.{IsReport, MayReport, no_readings};
+ghost use Rattle.ioam_run_bulk.specs.Promise.{IsReport, MayReport, no_readings};
 
 use crate::load::sums_of;
 use crate::terms::Terms;

@@ -19,7 +19,7 @@ use Rattle.ioam_desk_outputs.specs.Names.{name_at}
 use Rattle.ioam_pcap.specs.Text.{Sends, IsSendable, IsCaptureOf}
 use Rattle.ioam_run_capture.specs.FilterText.{Filtered, FilterTexts, kept_of}
 use Rattle.ioam_run_answer.specs.Outcomes.{IsBehindAll}
-use Rattle.ioam_run_stream.specs.Run.{most_packets, HoldsAll, EndsSo, ArePassed, AreWhole, Leaves, output_names}
+use Rattle.ioam_run_stream.specs.Promise.{most_packets, HoldsAll, EndsSo, ArePassed, AreWhole, Leaves}
 use Rattle.ioam_run_capture.specs.Verdict.{Verdict, Keeps, Drops, FramingVerdict, AreVerdicts}
 use Rattle.ioam_run_stream.specs.Frame.{taken_framing}
 use Rattle.ioam_node.specs.declared.reason.Reason.{Reason}
@@ -117,11 +117,9 @@ module _ (input output report : List ℕ) (old_in new_in : Reading) (old new : W
   Leaves-bounded outcome.WriteFault leaves behind = absurd behind
   Leaves-bounded outcome.NoMemory leaves behind = absurd behind
 
--- the outputs of four words
-pub two_outputs : (words : List (List ℕ)) → length words ≡ 4 → output_names words ≡ name_at words 2 ∷ name_at words 3 ∷ []
-two_outputs [] four = absurd (omega (arith, four))
-two_outputs (a ∷ []) four = absurd (omega (arith, four))
-two_outputs (a ∷ b ∷ []) four = absurd (omega (arith, four))
-two_outputs (a ∷ b ∷ c ∷ []) four = absurd (omega (arith, four))
-two_outputs (a ∷ b ∷ c ∷ d ∷ []) four = refl
-two_outputs (a ∷ b ∷ c ∷ d ∷ e ∷ more) four = absurd (omega (arith, four))
+-- two names, each by its place
+pub two_names : (names : List (List ℕ)) → length names ≡ 2 → names ≡ name_at names 0 ∷ name_at names 1 ∷ []
+two_names [] two = absurd (omega (arith, two))
+two_names (a ∷ []) two = absurd (omega (arith, two))
+two_names (a ∷ b ∷ []) two = refl
+two_names (a ∷ b ∷ c ∷ more) two = absurd (omega (arith, two))

@@ -14,7 +14,7 @@ use Rattle.ioam_pcap.specs.Entries.{Taken}
 use Rattle.ioam_run_answer.specs.Outcomes.{IsDone}
 use Rattle.ioam_run_answer.specs.declared.outcome.Outcome.{Outcome}
 use Rattle.ioam_run_answer.specs.declared.outcome.Outcome.TheVariants as outcome
-use Rattle.ioam_run_stream.specs.Run.{most_packets, HoldsAll, EndsSo, Leaves, output_names}
+use Rattle.ioam_run_stream.specs.Promise.{most_packets, HoldsAll, EndsSo, Leaves}
 use Rattle.ioam_run_capture.specs.SaveText.{SaveTexts, SavesAll}
 use Rattle.ioam_run_capture.specs.Saving.{heads, Saves}
 use Rattle.ioam_run_capture.specs.declared.saving.Saving.{Saving}
@@ -73,10 +73,8 @@ module _ (input output : List ℕ) (old_in new_in : Reading) (old new : Writing)
   Leaves-saved outcome.WriteFault leaves done = absurd done
   Leaves-saved outcome.NoMemory leaves done = absurd done
 
--- the output of three words
-pub one_output : (words : List (List ℕ)) → length words ≡ 3 → output_names words ≡ name_at words 2 ∷ []
-one_output [] three = absurd (omega (arith, three))
-one_output (a ∷ []) three = absurd (omega (arith, three))
-one_output (a ∷ b ∷ []) three = absurd (omega (arith, three))
-one_output (a ∷ b ∷ c ∷ []) three = refl
-one_output (a ∷ b ∷ c ∷ d ∷ more) three = absurd (omega (arith, three))
+-- one name, by its place
+pub one_name : (names : List (List ℕ)) → length names ≡ 1 → names ≡ name_at names 0 ∷ []
+one_name [] one = absurd (omega (arith, one))
+one_name (a ∷ []) one = refl
+one_name (a ∷ b ∷ more) one = absurd (omega (arith, one))

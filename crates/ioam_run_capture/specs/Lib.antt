@@ -8,3 +8,4 @@ pub mod ShowText
 pub mod Listing
 pub mod SaveText
 pub mod Saving
+pub mod Promise

@@ -13,6 +13,7 @@ mod saving;
 mod show;
 
 pub use filter::run_filter;
+pub use ioam_run_stream::CaptureFiles;
 pub use paths::run_paths;
 pub use save::run_save;
 pub use show::run_show;

@@ -6,7 +6,7 @@ use Rattle.ioam_dex.specs.declared.export.ExportFault.{ExportFault}
 use Rattle.ioam_dex.proofs.ReadsLaws.{Reads-unique}
 use Rattle.ioam_run_answer.specs.declared.outcome.Outcome.{Outcome}
 use Rattle.ioam_run_answer.specs.declared.outcome.Outcome.TheVariants as outcome
-use Rattle.ioam_run_collect.specs.Run.{Asked, HasCause, IsExports, IsLong}
+use Rattle.ioam_run_collect.specs.Promise.{Asked, HasCause, IsExports, IsLong}
 use Rattle.ioam_run_collect.proofs.RecordsLaws.{long_or_few, long_once}
 
 both_held : (o : Option (List ℕ)) (P Q : List ℕ → Type 0) → IsSomeAnd o P → IsSomeAnd o Q → (octets : List ℕ) × P octets × Q octets

@@ -24,7 +24,7 @@ use Rattle.ioam_collect_stream.specs.declared.gathering.Halt.TheVariants as halt
 use Rattle.ioam_run_answer.specs.Outcomes.{IsDone}
 use Rattle.ioam_run_answer.specs.declared.outcome.Outcome.{Outcome}
 use Rattle.ioam_run_answer.specs.declared.outcome.Outcome.TheVariants as outcome
-use Rattle.ioam_run_collect.specs.Run.{EndsSo, AreFirst, IsExports, IsLong, HoldsReport, HoldsPart, Leaves}
+use Rattle.ioam_run_collect.specs.Promise.{EndsSo, AreFirst, IsExports, IsLong, HoldsReport, HoldsPart, Leaves}
 use Rattle.ioam_run_collect.specs.Ends.{Start, FileCause, HoldsFront, Holds, Sticks, Finishes, outcome_of, is_out}
 use Rattle.ioam_run_collect.proofs.RecordsLaws.{first_none, first_ends, first_passes, first_whole}
 

@@ -11,7 +11,7 @@ use Rattle.ioam_dex.proofs.ReadsLaws.{records_octets-append, Splits-feed, NoReco
 use Rattle.ioam_collect.specs.Collected.{count_kept}
 use Rattle.ioam_collect.proofs.CountLaws.{count_kept-grows}
 use Rattle.ioam_collect_stream.specs.Gathering.{AreFew, Passes, AreWhole}
-use Rattle.ioam_run_collect.specs.Run.{EndsSo, AreFirst, IsExports, IsLong}
+use Rattle.ioam_run_collect.specs.Promise.{EndsSo, AreFirst, IsExports, IsLong}
 
 -- ---- first records
 

@@ -1,21 +1,14 @@
--- The words of the command and its two files.
-use Rattle.std.proofs.Common.{◌≡◌, ◌≢◌, ℕ, zero, suc, ◌-◌, ◌<◌, ◌⊎◌, Bool, List, [], ◌∷◌, length, take, Option, refl, sym, ap, ◌∙◌, subst, ⊎_elim, arith}
-use Rattle.std.specs.Prelude.{drop, Contains}
+-- The names of the command's two files.
+use Rattle.std.proofs.Common.{◌≡◌, ◌≢◌, ℕ, zero, suc, ◌<◌, ◌⊎◌, Bool, List, [], ◌∷◌, Option, sym, ap, ◌∙◌, subst, ⊎_elim, arith}
+use Rattle.std.specs.Prelude.{Contains}
 use Rattle.ioam_desk.specs.Desk.{Reading, Writing}
 use Rattle.ioam_desk_outputs.specs.Names.{name_at, AreApart, Repeats}
 use Rattle.ioam_run_answer.specs.declared.outcome.Outcome.{Outcome}
 use Rattle.ioam_run_answer.specs.declared.outcome.Outcome.TheVariants as outcome
-use Rattle.ioam_run_collect.specs.Run.{HasCause, report_file}
+use Rattle.ioam_run_collect.specs.Promise.{HasCause}
 use Rattle.ioam_run_collect.specs.Ends.{FileCause}
 
--- the one name behind EXPORTS
-pub one_report : (words : List (List ℕ)) → length words ≡ 3 → take (length words - 2) (drop 2 words) ≡ report_file words ∷ []
-one_report [] three = absurd (omega (arith, three))
-one_report (a ∷ []) three = absurd (omega (arith, three))
-one_report (a ∷ b ∷ []) three = absurd (omega (arith, three))
-one_report (a ∷ b ∷ c ∷ []) three = refl
-one_report (a ∷ b ∷ c ∷ d ∷ more) three = absurd (omega (arith, three))
-
+-- a list of one name
 pub first_of_one : (names : List (List ℕ)) (name : List ℕ) → names ≡ name ∷ [] → name_at names 0 ≡ name
 first_of_one names name one = ap (λ (ns : List (List ℕ)). name_at ns 0) one
 

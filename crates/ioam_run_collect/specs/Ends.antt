@@ -10,7 +10,7 @@ use Rattle.ioam_collect_stream.specs.declared.gathering.Halt.{Halt}
 use Rattle.ioam_collect_stream.specs.declared.gathering.Halt.TheVariants as halt
 use Rattle.ioam_run_answer.specs.declared.outcome.Outcome.{Outcome}
 use Rattle.ioam_run_answer.specs.declared.outcome.Outcome.TheVariants as outcome
-use Rattle.ioam_run_collect.specs.Run.{EndsSo, AreFirst, IsExports, IsLong, HoldsReport}
+use Rattle.ioam_run_collect.specs.Promise.{EndsSo, AreFirst, IsExports, IsLong, HoldsReport}
 
 -- where a run began: what EXPORTS holds, the number of REPORT's slot, and its name
 pub record Start : Type 0 where

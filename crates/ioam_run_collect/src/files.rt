@@ -8,7 +8,7 @@ ghost use Rattle.ioam_desk_outputs.specs.Told.{AreTold};
 ghost use Rattle.ioam_collect_stream.specs.Feed.{Fed};
 ghost use Rattle.ioam_collect_stream.specs.Gathering.{Gathers, ReadsOne};
 ghost use Rattle.ioam_run_answer.specs.Outcomes.{IsDone, IsBehindAll};
-ghost use Rattle.ioam_run_collect.specs.Run.{Leaves};
+ghost use Rattle.ioam_run_collect.specs.Promise.{Leaves};
 ghost use Rattle.ioam_run_collect.specs.Ends.{FileCause, Finishes, Start, is_out, outcome_of};
 
 use ioam_base::memory::NoMemory;

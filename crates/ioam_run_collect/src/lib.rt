@@ -3,5 +3,7 @@
 
 mod collect;
 mod files;
+mod names;
 
 pub use collect::run_collect;
+pub use names::CollectFiles;

@@ -11,11 +11,11 @@ use Rattle.ioam_run_answer.specs.declared.outcome.Outcome.{Outcome}
 use Rattle.ioam_run_answer.specs.declared.outcome.Outcome.TheVariants as outcome
 use Rattle.ioam_topo.specs.declared.domain.Domain.{Domain}
 use Rattle.ioam_run_traffic.specs.Traffic.{frames_of}
-use Rattle.ioam_run_domain.specs.Run.{HoldsFiles, IsReady, Leaves, IsBounded, course_for}
+use Rattle.ioam_run_domain.specs.Promise.{RunNames, HoldsFiles, IsReady, Leaves, IsBounded, course_for}
 
-module _ (opens : Bool) (words : List (List ℕ)) (old_in new_in : Reading) (old new : Writing) where
-  bounded : (domain : Domain) (readings : List (List Sample)) → IsReady old words domain readings → (Are : List Arrival → Type 0)
-      → HoldsFiles opens words old_in new_in old new (course_for opens words old_in old domain readings) Are → IsBounded opens words old_in new_in old new
+module _ (opens : Bool) (files : RunNames) (old_in new_in : Reading) (old new : Writing) where
+  bounded : (domain : Domain) (readings : List (List Sample)) → IsReady old files domain readings → (Are : List Arrival → Type 0)
+      → HoldsFiles opens files old_in new_in old new (course_for opens files old_in old domain readings) Are → IsBounded opens files old_in new_in old new
   bounded domain readings ready Are all = (
     domain,
     readings,
@@ -23,11 +23,11 @@ module _ (opens : Bool) (words : List (List ℕ)) (old_in new_in : Reading) (old
     λ gate place port is.
         let P : Option (List ℕ) → Type 0 = λ o. IsSomeAnd o (IsCaptureOf MayLeave) in
         subst P (sym (all.outs gate place port is))
-        (outs-clean domain readings (frames_of (course_for opens words old_in old domain readings).ports all.taken) all.fates all.become place),
+        (outs-clean domain readings (frames_of (course_for opens files old_in old domain readings).ports all.taken) all.fates all.become place),
   )
 
-  pub Leaves-bounded : (answer : Outcome) → IsBehindAll (old.side.slots < new.side.slots) answer → Leaves opens words old_in new_in old new answer
-      → IsBounded opens words old_in new_in old new
+  pub Leaves-bounded : (answer : Outcome) → IsBehindAll (old.side.slots < new.side.slots) answer → Leaves opens files old_in new_in old new answer
+      → IsBounded opens files old_in new_in old new
   Leaves-bounded outcome.Done behind left = bounded left.0 left.1 left.2 _ left.3
   Leaves-bounded (outcome.Capture name at fault) behind left = bounded left.0 left.1 left.2 _ left.3.2
   Leaves-bounded (outcome.Packets limit) behind left = bounded left.0 left.1 left.2 _ left.3

@@ -24,11 +24,11 @@ use Rattle.ioam_topo.specs.declared.domain.Domain.{Domain}
 use Rattle.ioam_topo_entries.specs.declared.fault.DomainFault.{DomainFault}
 use Rattle.ioam_run_traffic.specs.Traffic.{Course, HoldsAll, HoldsFronts, ArePassed, AreOpened, Arrive}
 use Rattle.ioam_run_domain.specs.Ends.{Ends, begins}
-use Rattle.ioam_run_domain.specs.Run.{HasCause, IsUnset, Says, HaveDiffered, HoldsFiles, contents, Leaves, OfTraffic, AreDrained, IsSet, IsReady, domain_file, readings_file, run_files, run_inputs, run_outputs, word_files, course_for}
+use Rattle.ioam_run_domain.specs.Promise.{RunNames, HasCause, IsUnset, Says, HaveDiffered, HoldsFiles, contents, Leaves, OfTraffic, AreDrained, IsSet, IsReady, run_files, run_inputs, run_outputs, word_files, course_for}
 use Rattle.ioam_run_domain.proofs.FilesLaws.{files_held}
 
 -- the two files were opened by two slots
-module _ (words : List (List ℕ)) (old_in mid_in : Reading) (opened : mid_in.side ≡ opened_each old_in.side (domain_file words ∷ readings_file words ∷ [])) where
+module _ (files : RunNames) (old_in mid_in : Reading) (opened : mid_in.side ≡ opened_each old_in.side (files.domain ∷ files.readings ∷ [])) where
   pub same_faults : mid_in.side.faults ≡ old_in.side.faults
   same_faults = ap (λ (s : Side). s.faults) opened
 
@@ -36,7 +36,7 @@ module _ (words : List (List ℕ)) (old_in mid_in : Reading) (opened : mid_in.si
   two_slots = ap (λ (s : Side). s.slots) opened
 
   pub same_course : (opens : Bool) (old : Writing) (domain : Domain) (readings : List (List Sample))
-      → begins opens words domain readings mid_in old ≡ course_for opens words old_in old domain readings
+      → begins opens files domain readings mid_in old ≡ course_for opens files old_in old domain readings
   same_course opens old domain readings = ap (λ (base : ℕ). record {
     opens = opens;
     domain = domain;
@@ -44,18 +44,18 @@ module _ (words : List (List ℕ)) (old_in mid_in : Reading) (opened : mid_in.si
     ports = input_ports (ports domain);
     lanes = start_of base old (run_inputs domain);
     first = old.side.slots;
-    names = run_outputs words domain;
+    names = run_outputs files domain;
   }) two_slots
 
   module _ (opens tells : Bool) (new_in : Reading) (old new : Writing) (domain : Domain) (readings : List (List Sample)) (told : IsTrue tells)
-      (set : IsSet old words domain readings) where
-    ready : AreApart (run_files words domain) → IsReady old words domain readings
+      (set : IsSet old files domain readings) where
+    ready : AreApart (run_files files domain) → IsReady old files domain readings
     ready apart = record { set = set; apart = apart }
 
-    of_traffic : (P : Course → Type 0) → AreApart (run_files words domain) → P (begins opens words domain readings mid_in old) → OfTraffic opens words old_in new_in old new P
+    of_traffic : (P : Course → Type 0) → AreApart (run_files files domain) → P (begins opens files domain readings mid_in old) → OfTraffic opens files old_in new_in old new P
     of_traffic P apart holds = (domain, readings, ready apart, subst P (same_course opens old domain readings) holds)
 
-    pub Ends-cause : (answer : Outcome) → Ends opens tells words domain readings mid_in new_in old new answer → HasCause words old_in new_in old new answer
+    pub Ends-cause : (answer : Outcome) → Ends opens tells files domain readings mid_in new_in old new answer → HasCause files old_in new_in old new answer
     Ends-cause outcome.Done ends =
         let holds = (ends.1 told).0 in
         (domain, readings, ready ends.0, record { taken = holds.taken; arrive = holds.are; few = holds.few })
@@ -83,19 +83,19 @@ module _ (words : List (List ℕ)) (old_in mid_in : Reading) (opened : mid_in.si
     Ends-cause (outcome.Domain fault) ends = absurd ends
     Ends-cause (outcome.Readings fault) ends = absurd ends
 
-    files : (Are : Course → List Arrival → Type 0) → HoldsAll (begins opens words domain readings mid_in old) (Are (begins opens words domain readings mid_in old)) new
-        → HoldsFiles opens words old_in new_in old new (begins opens words domain readings mid_in old) (Are (begins opens words domain readings mid_in old))
-    files Are all = files_held opens words old_in new_in old new (begins opens words domain readings mid_in old) (Are (begins opens words domain readings mid_in old)) refl all
+    all_held : (Are : Course → List Arrival → Type 0) → HoldsAll (begins opens files domain readings mid_in old) (Are (begins opens files domain readings mid_in old)) new
+        → HoldsFiles opens files old_in new_in old new (begins opens files domain readings mid_in old) (Are (begins opens files domain readings mid_in old))
+    all_held Are all = files_held opens files old_in new_in old new (begins opens files domain readings mid_in old) (Are (begins opens files domain readings mid_in old)) refl all
 
-    pub Ends-leaves : (answer : Outcome) → Ends opens tells words domain readings mid_in new_in old new answer → Leaves opens words old_in new_in old new answer
-    Ends-leaves outcome.Done ends = of_traffic (λ course. HoldsFiles opens words old_in new_in old new course (Arrive course turn.Over)) ends.0
-        (files (λ course. Arrive course turn.Over) (ends.1 told).0)
+    pub Ends-leaves : (answer : Outcome) → Ends opens tells files domain readings mid_in new_in old new answer → Leaves opens files old_in new_in old new answer
+    Ends-leaves outcome.Done ends = of_traffic (λ course. HoldsFiles opens files old_in new_in old new course (Arrive course turn.Over)) ends.0
+        (all_held (λ course. Arrive course turn.Over) (ends.1 told).0)
     Ends-leaves (outcome.Capture name at fault) ends =
         of_traffic (λ course. (place : ℕ) × (name ≡ name_at (run_inputs course.domain) place)
-        × HoldsFiles opens words old_in new_in old new course (Arrive course (turn.Broken place at fault))) ends.0
-        (ends.1.0, ends.1.1, files (λ course. Arrive course (turn.Broken ends.1.0 at fault)) (ends.1.2.1 told))
-    Ends-leaves (outcome.Packets limit) ends = of_traffic (λ course. HoldsFiles opens words old_in new_in old new course (ArePassed course)) ends.0
-        (files (λ course. ArePassed course) (ends.2 told))
+        × HoldsFiles opens files old_in new_in old new course (Arrive course (turn.Broken place at fault))) ends.0
+        (ends.1.0, ends.1.1, all_held (λ course. Arrive course (turn.Broken ends.1.0 at fault)) (ends.1.2.1 told))
+    Ends-leaves (outcome.Packets limit) ends = of_traffic (λ course. HoldsFiles opens files old_in new_in old new course (ArePassed course)) ends.0
+        (all_held (λ course. ArePassed course) (ends.2 told))
     Ends-leaves (outcome.Exports place fault) ends = absurd ends
     Ends-leaves (outcome.Ipfix place fault) ends = absurd ends
     Ends-leaves (outcome.Part which place fault) ends = absurd ends
@@ -103,8 +103,8 @@ module _ (words : List (List ℕ)) (old_in mid_in : Reading) (opened : mid_in.si
     Ends-leaves outcome.ReadFault ends = elim ends.1.1 [
       | inl early ↦ inl (inr (of_traffic (λ course. new_in.side.slots < course.lanes.base + length course.lanes.contents) ends.0 early.0), early.1)
       | inr late ↦ inr (of_traffic (λ course. AreOpened course new_in
-          × HoldsFiles opens words old_in new_in old new course (PartsArrive course.lanes.contents new_in course.lanes.base)) ends.0
-          (late.0, files (λ course. PartsArrive course.lanes.contents new_in course.lanes.base) (late.1 told)))
+          × HoldsFiles opens files old_in new_in old new course (PartsArrive course.lanes.contents new_in course.lanes.base)) ends.0
+          (late.0, all_held (λ course. PartsArrive course.lanes.contents new_in course.lanes.base) (late.1 told)))
     ]
     Ends-leaves outcome.WriteFault ends = of_traffic (λ course. HoldsFronts course old new) ends.0 (ends.1.1 told)
     Ends-leaves outcome.NoMemory (inl same) = inl same
@@ -116,7 +116,7 @@ module _ (words : List (List ℕ)) (old_in mid_in : Reading) (opened : mid_in.si
     Ends-leaves (outcome.Readings fault) ends = absurd ends
 
     pub Ends-drained : IsTrue (mid_in.ended old_in.side.slots) → IsTrue (mid_in.ended (old_in.side.slots + 1)) → EndsKept mid_in.side.slots mid_in new_in
-        → Ends opens tells words domain readings mid_in new_in old new outcome.Done → AreDrained opens words old_in new_in old new
+        → Ends opens tells files domain readings mid_in new_in old new outcome.Done → AreDrained opens files old_in new_in old new
     Ends-drained first second kept ends = (domain, readings, ready ends.0, λ k below. drained k below)
       where
         E : Reading → ℕ → Type 0
@@ -125,7 +125,7 @@ module _ (words : List (List ℕ)) (old_in mid_in : Reading) (opened : mid_in.si
         early : (n : ℕ) → n < mid_in.side.slots → E mid_in n → E new_in n
         early n below was = subst (λ b. IsTrue b) (sym (ap (λ (s : Unread). s.ended) (kept n below))) was
 
-        drained : (k : ℕ) → k < 2 + length (contents old words domain) → E new_in (old_in.side.slots + k)
+        drained : (k : ℕ) → k < 2 + length (contents old files domain) → E new_in (old_in.side.slots + k)
         drained k below = elim (cases_lt k 1) [
           | inl none ↦ let at : old_in.side.slots ≡ old_in.side.slots + k = omega (arith, none) in
               subst (E new_in) at (early old_in.side.slots (omega (arith, two_slots)) first)
@@ -137,42 +137,42 @@ module _ (words : List (List ℕ)) (old_in mid_in : Reading) (opened : mid_in.si
           ]
         ]
 
--- the names of the words differ where all files do
-pub Ends-differed : (opens tells : Bool) (words : List (List ℕ)) (domain : Domain) (readings : List (List Sample)) (mid_in new_in : Reading) (old new : Writing) (answer : Outcome)
-    → Ends opens tells words domain readings mid_in new_in old new answer → HaveDiffered words answer
-Ends-differed opens tells words domain readings mid_in new_in old new outcome.Done ends = apart-words (ports domain) (links domain) (word_files words) ends.0
-Ends-differed opens tells words domain readings mid_in new_in old new (outcome.Capture name at fault) ends = apart-words (ports domain) (links domain) (word_files words) ends.0
-Ends-differed opens tells words domain readings mid_in new_in old new (outcome.Packets limit) ends = apart-words (ports domain) (links domain) (word_files words) ends.0
-Ends-differed opens tells words domain readings mid_in new_in old new outcome.Usage ends = tt
-Ends-differed opens tells words domain readings mid_in new_in old new (outcome.Domain fault) ends = tt
-Ends-differed opens tells words domain readings mid_in new_in old new (outcome.Readings fault) ends = tt
-Ends-differed opens tells words domain readings mid_in new_in old new (outcome.Names name) ends = tt
-Ends-differed opens tells words domain readings mid_in new_in old new (outcome.Exports place fault) ends = absurd ends
-Ends-differed opens tells words domain readings mid_in new_in old new (outcome.Ipfix place fault) ends = absurd ends
-Ends-differed opens tells words domain readings mid_in new_in old new (outcome.Part which place fault) ends = absurd ends
-Ends-differed opens tells words domain readings mid_in new_in old new (outcome.Records limit) ends = absurd ends
-Ends-differed opens tells words domain readings mid_in new_in old new outcome.ReadFault ends = tt
-Ends-differed opens tells words domain readings mid_in new_in old new outcome.WriteFault ends = tt
-Ends-differed opens tells words domain readings mid_in new_in old new outcome.NoMemory ends = tt
+-- the names of the files differ where all files do
+pub Ends-differed : (opens tells : Bool) (files : RunNames) (domain : Domain) (readings : List (List Sample)) (mid_in new_in : Reading) (old new : Writing) (answer : Outcome)
+    → Ends opens tells files domain readings mid_in new_in old new answer → HaveDiffered files answer
+Ends-differed opens tells files domain readings mid_in new_in old new outcome.Done ends = apart-words (ports domain) (links domain) (word_files files) ends.0
+Ends-differed opens tells files domain readings mid_in new_in old new (outcome.Capture name at fault) ends = apart-words (ports domain) (links domain) (word_files files) ends.0
+Ends-differed opens tells files domain readings mid_in new_in old new (outcome.Packets limit) ends = apart-words (ports domain) (links domain) (word_files files) ends.0
+Ends-differed opens tells files domain readings mid_in new_in old new outcome.Usage ends = tt
+Ends-differed opens tells files domain readings mid_in new_in old new (outcome.Domain fault) ends = tt
+Ends-differed opens tells files domain readings mid_in new_in old new (outcome.Readings fault) ends = tt
+Ends-differed opens tells files domain readings mid_in new_in old new (outcome.Names name) ends = tt
+Ends-differed opens tells files domain readings mid_in new_in old new (outcome.Exports place fault) ends = absurd ends
+Ends-differed opens tells files domain readings mid_in new_in old new (outcome.Ipfix place fault) ends = absurd ends
+Ends-differed opens tells files domain readings mid_in new_in old new (outcome.Part which place fault) ends = absurd ends
+Ends-differed opens tells files domain readings mid_in new_in old new (outcome.Records limit) ends = absurd ends
+Ends-differed opens tells files domain readings mid_in new_in old new outcome.ReadFault ends = tt
+Ends-differed opens tells files domain readings mid_in new_in old new outcome.WriteFault ends = tt
+Ends-differed opens tells files domain readings mid_in new_in old new outcome.NoMemory ends = tt
 
 -- what the answer says of the domain
-pub Ends-says : (opens tells : Bool) (words : List (List ℕ)) (domain : Domain) (readings : List (List Sample)) (mid_in new_in : Reading) (old new : Writing) (answer : Outcome)
-    → Ends opens tells words domain readings mid_in new_in old new answer → Says words domain answer
-Ends-says opens tells words domain readings mid_in new_in old new (outcome.Names name) ends = ends.0
-Ends-says opens tells words domain readings mid_in new_in old new (outcome.Capture name at fault) ends =
+pub Ends-says : (opens tells : Bool) (files : RunNames) (domain : Domain) (readings : List (List Sample)) (mid_in new_in : Reading) (old new : Writing) (answer : Outcome)
+    → Ends opens tells files domain readings mid_in new_in old new answer → Says files domain answer
+Ends-says opens tells files domain readings mid_in new_in old new (outcome.Names name) ends = ends.0
+Ends-says opens tells files domain readings mid_in new_in old new (outcome.Capture name at fault) ends =
     (ends.0, (ends.1.0, omega (arith, ends.1.2.0, length-map (run_inputs domain) (holds old)), ends.1.1))
-Ends-says opens tells words domain readings mid_in new_in old new (outcome.Packets limit) ends = (ends.0, ends.1, ends.3)
-Ends-says opens tells words domain readings mid_in new_in old new outcome.Done ends = ends.0
-Ends-says opens tells words domain readings mid_in new_in old new (outcome.Exports place fault) ends = absurd ends
-Ends-says opens tells words domain readings mid_in new_in old new (outcome.Ipfix place fault) ends = absurd ends
-Ends-says opens tells words domain readings mid_in new_in old new (outcome.Part which place fault) ends = absurd ends
-Ends-says opens tells words domain readings mid_in new_in old new (outcome.Records limit) ends = absurd ends
-Ends-says opens tells words domain readings mid_in new_in old new outcome.ReadFault ends = ends.0
-Ends-says opens tells words domain readings mid_in new_in old new outcome.WriteFault ends = ends.0
-Ends-says opens tells words domain readings mid_in new_in old new outcome.NoMemory ends = tt
-Ends-says opens tells words domain readings mid_in new_in old new outcome.Usage ends = absurd ends
-Ends-says opens tells words domain readings mid_in new_in old new (outcome.Domain fault) ends = absurd ends
-Ends-says opens tells words domain readings mid_in new_in old new (outcome.Readings fault) ends = absurd ends
+Ends-says opens tells files domain readings mid_in new_in old new (outcome.Packets limit) ends = (ends.0, ends.1, ends.3)
+Ends-says opens tells files domain readings mid_in new_in old new outcome.Done ends = ends.0
+Ends-says opens tells files domain readings mid_in new_in old new (outcome.Exports place fault) ends = absurd ends
+Ends-says opens tells files domain readings mid_in new_in old new (outcome.Ipfix place fault) ends = absurd ends
+Ends-says opens tells files domain readings mid_in new_in old new (outcome.Part which place fault) ends = absurd ends
+Ends-says opens tells files domain readings mid_in new_in old new (outcome.Records limit) ends = absurd ends
+Ends-says opens tells files domain readings mid_in new_in old new outcome.ReadFault ends = ends.0
+Ends-says opens tells files domain readings mid_in new_in old new outcome.WriteFault ends = ends.0
+Ends-says opens tells files domain readings mid_in new_in old new outcome.NoMemory ends = tt
+Ends-says opens tells files domain readings mid_in new_in old new outcome.Usage ends = absurd ends
+Ends-says opens tells files domain readings mid_in new_in old new (outcome.Domain fault) ends = absurd ends
+Ends-says opens tells files domain readings mid_in new_in old new (outcome.Readings fault) ends = absurd ends
 
 -- names that were asked for, and then others
 pub asks_more : (start mid new : List (List ℕ)) (first second : List ℕ) (names : List (List ℕ)) → mid ≡ start ++ first ∷ second ∷ []
@@ -189,22 +189,22 @@ pub asks_none : (start new names : List (List ℕ)) → new ≡ start → AsksFr
 asks_none start new names is = (0, is ∙ sym (append-nil start))
 
 -- a refusal of what a run is set by
-module _ (opens tells : Bool) (words : List (List ℕ)) (old_in new_in : Reading) (old : Writing) where
-  pub refused_cause : (why : Refusal) → Refuses old (domain_file words) (readings_file words) tells old_in new_in why → IsTrue tells
-      → HasCause words old_in new_in old old (refused_as why)
+module _ (opens tells : Bool) (files : RunNames) (old_in new_in : Reading) (old : Writing) where
+  pub refused_cause : (why : Refusal) → Refuses old files.domain files.readings tells old_in new_in why → IsTrue tells
+      → HasCause files old_in new_in old old (refused_as why)
   refused_cause (refusal.Domain fault) refuses told = refuses told
   refused_cause (refusal.Readings fault) refuses told = refuses told
   refused_cause refusal.ReadFault refuses told = refuses
   refused_cause refusal.NoMemory refuses told = tt
 
-  pub refused_leaves : (why : Refusal) → AsksFront old_in.side.asked new_in.side.asked (domain_file words ∷ readings_file words ∷ [])
-      → Leaves opens words old_in new_in old old (refused_as why)
+  pub refused_leaves : (why : Refusal) → AsksFront old_in.side.asked new_in.side.asked (files.domain ∷ files.readings ∷ [])
+      → Leaves opens files old_in new_in old old (refused_as why)
   refused_leaves (refusal.Domain fault) asked = refl
   refused_leaves (refusal.Readings fault) asked = refl
   refused_leaves refusal.ReadFault asked = inl (inl asked, refl)
   refused_leaves refusal.NoMemory asked = inl refl
 
-  pub refused_differed : (why : Refusal) → HaveDiffered words (refused_as why)
+  pub refused_differed : (why : Refusal) → HaveDiffered files (refused_as why)
   refused_differed (refusal.Domain fault) = tt
   refused_differed (refusal.Readings fault) = tt
   refused_differed refusal.ReadFault = tt
@@ -216,7 +216,7 @@ module _ (opens tells : Bool) (words : List (List ℕ)) (old_in new_in : Reading
   refused_domain refusal.ReadFault fault is = absurd (cc)
   refused_domain refusal.NoMemory fault is = absurd (cc)
 
-  pub refused_read : (why : Refusal) → Refuses old (domain_file words) (readings_file words) tells old_in new_in why
+  pub refused_read : (why : Refusal) → Refuses old files.domain files.readings tells old_in new_in why
       → refused_as why ≡ outcome.ReadFault → Rose old_in.side.faults new_in.side.faults
   refused_read (refusal.Domain fault) refuses is = absurd (cc)
   refused_read (refusal.Readings fault) refuses is = absurd (cc)
@@ -242,9 +242,9 @@ module _ (opens tells : Bool) (words : List (List ℕ)) (old_in new_in : Reading
   refused_unset refusal.NoMemory = tt
 
 -- a read fault, and a write fault, of the whole run
-module _ (opens tells : Bool) (words : List (List ℕ)) (domain : Domain) (readings : List (List Sample)) (mid_in new_in : Reading) (old new : Writing) where
-  pub Ends-read : Ends opens tells words domain readings mid_in new_in old new outcome.ReadFault → Rose mid_in.side.faults new_in.side.faults
+module _ (opens tells : Bool) (files : RunNames) (domain : Domain) (readings : List (List Sample)) (mid_in new_in : Reading) (old new : Writing) where
+  pub Ends-read : Ends opens tells files domain readings mid_in new_in old new outcome.ReadFault → Rose mid_in.side.faults new_in.side.faults
   Ends-read ends = ends.1.0
 
-  pub Ends-write : Ends opens tells words domain readings mid_in new_in old new outcome.WriteFault → Rose old.side.faults new.side.faults
+  pub Ends-write : Ends opens tells files domain readings mid_in new_in old new outcome.WriteFault → Rose old.side.faults new.side.faults
   Ends-write ends = ends.1.0

@@ -22,7 +22,7 @@ use Rattle.ioam_topo.specs.declared.ids.LinkId.{LinkId}
 use Rattle.ioam_topo.specs.declared.parts.Link.{Link}
 use Rattle.ioam_topo.specs.declared.parts.Port.{Port}
 use Rattle.ioam_run_traffic.specs.Traffic.{Course, HoldsAll, frames_of}
-use Rattle.ioam_run_domain.specs.Run.{HoldsFiles, report_file, exports_file, run_outputs}
+use Rattle.ioam_run_domain.specs.Promise.{RunNames, HoldsFiles, run_outputs}
 
 -- what becomes of arrivals leaves once
 all-leave : (domain : Domain) (readings : List (List Sample)) (earlier : List Itinerary) (frames : List Frame) (fates : List Fate)
@@ -92,11 +92,11 @@ module _ (new : Writing) (g : ℕ → List ℕ) where
 from_none : (place : ℕ) → 0 + place ≡ place
 from_none place = omega arith
 
-module _ (opens : Bool) (words : List (List ℕ)) (old_in new_in : Reading) (old new : Writing) (course : Course) (Are : List Arrival → Type 0)
-    (names : course.names ≡ run_outputs words course.domain) (all : HoldsAll course Are new) where
-  -- those of the words
+module _ (opens : Bool) (files : RunNames) (old_in new_in : Reading) (old new : Writing) (course : Course) (Are : List Arrival → Type 0)
+    (names : course.names ≡ run_outputs files course.domain) (all : HoldsAll course Are new) where
+  -- those of the files
   abbrev last_names : List (List ℕ)
-  last_names = report_file words ∷ exports_file words ∷ []
+  last_names = files.report ∷ files.exports ∷ []
 
   abbrev last_texts : List (List ℕ)
   last_texts = report_text course.domain course.readings all.fates ∷ exports_text course.domain course.readings all.fates ∷ []
@@ -108,7 +108,7 @@ module _ (opens : Bool) (words : List (List ℕ)) (old_in new_in : Reading) (old
   abbrev tap_texts : List (List ℕ)
   tap_texts = map (λ (link : LinkId). tap_text course.domain course.readings link.0 all.fates) (tapped (links course.domain)) ++ last_texts
 
-  in_order : IsTrue course.opens → HoldTexts new (run_outputs words course.domain) (texts_of course.domain course.readings all.fates)
+  in_order : IsTrue course.opens → HoldTexts new (run_outputs files course.domain) (texts_of course.domain course.readings all.fates)
   in_order gate = subst (λ (ns : List (List ℕ)). HoldTexts new ns (texts_of course.domain course.readings all.fates)) names (all.held gate)
 
   behind_ports : IsTrue course.opens → HoldTexts new tap_names tap_texts
@@ -117,7 +117,7 @@ module _ (opens : Bool) (words : List (List ℕ)) (old_in new_in : Reading) (old
   behind : IsTrue course.opens → HoldTexts new last_names last_texts
   behind gate = taps_behind new (λ k. tap_text course.domain course.readings k all.fates) (links course.domain) 0 last_names last_texts (behind_ports gate)
 
-  pub files_held : HoldsFiles opens words old_in new_in old new course Are
+  pub files_held : HoldsFiles opens files old_in new_in old new course Are
   files_held = record {
     taken = all.taken;
     fates = all.fates;

@@ -20,7 +20,7 @@ use Rattle.ioam_topo.specs.declared.domain.Domain.{Domain}
 use Rattle.ioam_topo_entries.specs.declared.fault.DomainFault.{DomainFault}
 use Rattle.ioam_topo.specs.declared.parts.Link.{Link}
 use Rattle.ioam_topo.specs.declared.parts.Port.{Port}
-use Rattle.ioam_run_domain.specs.Run.{IsSet, domain_file, readings_file, word_files, run_files, run_inputs}
+use Rattle.ioam_run_domain.specs.Promise.{RunNames, IsSet, word_files, run_files, run_inputs}
 
 same_handed : (f g : Handed) → f.octets ≡ g.octets → f.ended ≡ g.ended → f ≡ g
 same_handed f g octets ended =
@@ -69,39 +69,39 @@ FilesBegin-few contents xs ys last x y =
     let one = Arrives-unique y.files (xs ++ more) end ys last (subst (λ fs. Arrives fs (xs ++ more) end) same whole) y.arrive in
     omega (arith, ap (λ (l : List Arrival). length l) one.0, length-append xs more)
 
-module _ (desk : Writing) (words : List (List ℕ)) where
+module _ (desk : Writing) (files : RunNames) where
   -- one domain
-  pub one_set : (a b : Domain) (r s : List (List Sample)) → IsSet desk words a r → IsSet desk words b s → Agree a b
-  one_set a b r s x y = only.domains_agree desk (domain_file words) (readings_file words) a b x.has_domain y.has_domain
+  pub one_set : (a b : Domain) (r s : List (List Sample)) → IsSet desk files a r → IsSet desk files b s → Agree a b
+  one_set a b r s x y = only.domains_agree desk files.domain files.readings a b x.has_domain y.has_domain
 
   -- one fault of the domain's file
-  pub one_domain_fault : (f g : DomainFault) → HasDomainFault desk (domain_file words) (readings_file words) f
-      → HasDomainFault desk (domain_file words) (readings_file words) g → f ≡ g
-  one_domain_fault f g x y = only.one_domain_fault desk (domain_file words) (readings_file words) f g x y
+  pub one_domain_fault : (f g : DomainFault) → HasDomainFault desk files.domain files.readings f
+      → HasDomainFault desk files.domain files.readings g → f ≡ g
+  one_domain_fault f g x y = only.one_domain_fault desk files.domain files.readings f g x y
 
   -- a fault of it, or a domain
-  pub fault_or_set : (domain : Domain) (r : List (List Sample)) (f : DomainFault) → HasDomainFault desk (domain_file words) (readings_file words) f
-      → IsSet desk words domain r → ⊥
-  fault_or_set domain r f x y = only.fault_or_domain desk (domain_file words) (readings_file words) domain f x y.has_domain
+  pub fault_or_set : (domain : Domain) (r : List (List Sample)) (f : DomainFault) → HasDomainFault desk files.domain files.readings f
+      → IsSet desk files domain r → ⊥
+  fault_or_set domain r f x y = only.fault_or_domain desk files.domain files.readings domain f x y.has_domain
 
-  pub fault_or_readings : (f : DomainFault) (g : ReadingsFault) → HasDomainFault desk (domain_file words) (readings_file words) f
-      → HasReadingsFault desk (domain_file words) (readings_file words) g → ⊥
-  fault_or_readings f g x y = only.fault_or_domain desk (domain_file words) (readings_file words) y.domain f x y.has_domain
+  pub fault_or_readings : (f : DomainFault) (g : ReadingsFault) → HasDomainFault desk files.domain files.readings f
+      → HasReadingsFault desk files.domain files.readings g → ⊥
+  fault_or_readings f g x y = only.fault_or_domain desk files.domain files.readings y.domain f x y.has_domain
 
   -- one fault of the readings
-  pub one_readings_fault : (f g : ReadingsFault) → HasReadingsFault desk (domain_file words) (readings_file words) f
-      → HasReadingsFault desk (domain_file words) (readings_file words) g → f ≡ g
-  one_readings_fault f g x y = only.one_readings_fault desk (domain_file words) (readings_file words) f g x y
+  pub one_readings_fault : (f g : ReadingsFault) → HasReadingsFault desk files.domain files.readings f
+      → HasReadingsFault desk files.domain files.readings g → f ≡ g
+  one_readings_fault f g x y = only.one_readings_fault desk files.domain files.readings f g x y
 
   -- a fault of them, or readings
-  pub readings_or_set : (domain : Domain) (r : List (List Sample)) (f : ReadingsFault) → HasReadingsFault desk (domain_file words) (readings_file words) f
-      → IsSet desk words domain r → ⊥
-  readings_or_set domain r f x y = only.fault_or_setting desk (domain_file words) (readings_file words) domain r f x y
+  pub readings_or_set : (domain : Domain) (r : List (List Sample)) (f : ReadingsFault) → HasReadingsFault desk files.domain files.readings f
+      → IsSet desk files domain r → ⊥
+  readings_or_set domain r f x y = only.fault_or_setting desk files.domain files.readings domain r f x y
 
 -- domains that agree have the same files
-pub same_files : (words : List (List ℕ)) (a b : Domain) → Agree a b → run_files words a ≡ run_files words b
-same_files words a b agree = ap (λ (ps : List Port). file_names ps (links a) (word_files words)) agree.same_ports
-    ∙ ap (λ (ls : List Link). file_names (ports b) ls (word_files words)) agree.same_links
+pub same_files : (files : RunNames) (a b : Domain) → Agree a b → run_files files a ≡ run_files files b
+same_files files a b agree = ap (λ (ps : List Port). file_names ps (links a) (word_files files)) agree.same_ports
+    ∙ ap (λ (ls : List Link). file_names (ports b) ls (word_files files)) agree.same_links
 
 pub same_inputs : (a b : Domain) → Agree a b → run_inputs a ≡ run_inputs b
 same_inputs a b agree = ap input_names agree.same_ports

@@ -1,4 +1,4 @@
--- From what a run found among its names to the names of the words and of the domain.
+-- From what a run found among its names to the names of the files and of the domain.
 use Rattle.std.proofs.Common.{◌≡◌, ℕ, ◌<◌, Bool, List, length, get_or, subst}
 use Rattle.ioam_clock.specs.declared.sample.Sample.{Sample}
 use Rattle.ioam_desk.specs.Desk.{Reading, Writing}

@@ -1,3 +1,3 @@
-pub mod Run
+pub mod Promise
 pub mod Ends
 pub mod Left

@@ -2,5 +2,7 @@
 #![tactic(auto)]
 
 mod domain_run;
+mod names;
 
 pub use domain_run::run_domain;
+pub use names::RunFiles;

@@ -9,7 +9,7 @@ use Rattle.ioam_desk_outputs.proofs.NamesLaws.{first_unique}
 use Rattle.ioam_desk_outputs.specs.Names.{AreApart, name_at}
 use Rattle.ioam_pcap.specs.Ending.{Ending, Faulty}
 use Rattle.ioam_pcap.specs.Ending.{Whole as Ended}
-use Rattle.ioam_run_stream.specs.Run.{IsInput, IsLong}
+use Rattle.ioam_run_stream.specs.Promise.{IsInput, IsLong}
 use Rattle.ioam_run_stream.proofs.AskedLaws.{held_ending, too_long, whole_or_faulty, not_apart}
 use Rattle.ioam_run_files.specs.Setting.{HasDomain}
 use Rattle.ioam_run_files.proofs.OnlyLaws.{domains_agree, one_domain_fault, fault_or_domain, one_readings_fault, fault_or_setting}
@@ -20,7 +20,7 @@ use Rattle.ioam_topo.specs.declared.ids.NodeId.{NodeId}
 use Rattle.ioam_topo.specs.declared.ids.LinkId.{LinkId}
 use Rattle.ioam_topo.specs.declared.parts.Link.{Link}
 use Rattle.ioam_topo.specs.declared.parts.Node.{Node}
-use Rattle.ioam_run_node.specs.Run.{Asked, HasCause, IsAt, IsReady, IsUnfit, domain_file, readings_file, input_file, node_files, node_word, link_word, inward_by, inward_of}
+use Rattle.ioam_run_node.specs.Promise.{NodeNames, Asked, HasCause, IsAt, IsReady, IsUnfit, node_files, inward_by, inward_of}
 use Rattle.ioam_run_node.specs.Seat.{Seat}
 
 none_or_some : {A : Type 0} (o : Option A) (x : A) → o ≡ None → o ≡ Some x → ⊥
@@ -41,28 +41,28 @@ same_inward a b node name agree =
     let at : List Link → Option ℕ = λ ls. option_and_then (λ id. inward_by node (slice_get ls id.0)) (found ls) in
     ap at agree.same_links
 
-module _ (words : List (List ℕ)) (a b : Domain) (agree : Agree a b) where
+module _ (files : NodeNames) (a b : Domain) (agree : Agree a b) where
   -- where one is at a node, so is the other
-  IsAt-same : (node : NodeId) (inward : ℕ) → IsAt words a node inward → IsAt words b node inward
+  IsAt-same : (node : NodeId) (inward : ℕ) → IsAt files a node inward → IsAt files b node inward
   IsAt-same node inward at = record {
-    has_node = sym (same_node a b (node_word words) agree) ∙ at.has_node;
-    has_link = sym (same_inward a b node (link_word words) agree) ∙ at.has_link;
+    has_node = sym (same_node a b files.node agree) ∙ at.has_node;
+    has_link = sym (same_inward a b node files.link agree) ∙ at.has_link;
   }
 
-  no_node : (node : NodeId) → node_of_name a (node_word words) ≡ None → node_of_name b (node_word words) ≡ Some node → ⊥
-  no_node node none some = none_or_some (node_of_name b (node_word words)) node (sym (same_node a b (node_word words) agree) ∙ none) some
+  no_node : (node : NodeId) → node_of_name a files.node ≡ None → node_of_name b files.node ≡ Some node → ⊥
+  no_node node none some = none_or_some (node_of_name b files.node) node (sym (same_node a b files.node agree) ∙ none) some
 
-  no_link : (node other : NodeId) (inward : ℕ) → node_of_name a (node_word words) ≡ Some node → inward_of a node (link_word words) ≡ None
-      → IsAt words b other inward → ⊥
+  no_link : (node other : NodeId) (inward : ℕ) → node_of_name a files.node ≡ Some node → inward_of a node files.link ≡ None
+      → IsAt files b other inward → ⊥
   no_link node other inward here none at =
-      let same : node ≡ other = one_some (node_of_name b (node_word words)) node other (sym (same_node a b (node_word words) agree) ∙ here) at.has_node in
-      let P : NodeId → Type 0 = λ n. inward_of b n (link_word words) ≡ None in
-      none_or_some (inward_of b other (link_word words)) inward (subst P same (sym (same_inward a b node (link_word words) agree) ∙ none)) at.has_link
+      let same : node ≡ other = one_some (node_of_name b files.node) node other (sym (same_node a b files.node agree) ∙ here) at.has_node in
+      let P : NodeId → Type 0 = λ n. inward_of b n files.link ≡ None in
+      none_or_some (inward_of b other files.link) inward (subst P same (sym (same_inward a b node files.link agree) ∙ none)) at.has_link
 
-  unfit_or_at : (name : List ℕ) (node : NodeId) (inward : ℕ) → IsUnfit words a name → IsAt words b node inward → AreApart (node_files words) → ⊥
+  unfit_or_at : (name : List ℕ) (node : NodeId) (inward : ℕ) → IsUnfit files a name → IsAt files b node inward → AreApart (node_files files) → ⊥
   unfit_or_at name node inward (inl x) at apart = no_node node x.0 at.has_node
   unfit_or_at name node inward (inr (inl x)) at apart = no_link x.0 node inward x.1 x.2 at
-  unfit_or_at name node inward (inr (inr x)) at apart = not_apart (node_files words) x.3.0 x.3.1 apart
+  unfit_or_at name node inward (inr (inr x)) at apart = not_apart (node_files files) x.3.0 x.3.1 apart
 
 same_agree : (a b : Domain) → Agree a b → Agree b a
 same_agree a b agree = record {
@@ -77,48 +77,48 @@ same_agree a b agree = record {
 }
 
 -- one name is refused
-one_unfit : (words : List (List ℕ)) (a b : Domain) → Agree a b → (n m : List ℕ) → IsUnfit words a n → IsUnfit words b m → n ≡ m
-one_unfit words a b agree n m (inl x) (inl y) = x.1 ∙ sym y.1
-one_unfit words a b agree n m (inl x) (inr (inl y)) = absurd (no_node words a b agree y.0 x.0 y.1)
-one_unfit words a b agree n m (inl x) (inr (inr y)) = absurd (no_node words a b agree y.0 x.0 y.2.has_node)
-one_unfit words a b agree n m (inr (inl x)) (inl y) = absurd (no_node words b a (same_agree a b agree) x.0 y.0 x.1)
-one_unfit words a b agree n m (inr (inl x)) (inr (inl y)) = x.3 ∙ sym y.3
-one_unfit words a b agree n m (inr (inl x)) (inr (inr y)) = absurd (no_link words a b agree x.0 y.0 y.1 x.1 x.2 y.2)
-one_unfit words a b agree n m (inr (inr x)) (inl y) = absurd (no_node words b a (same_agree a b agree) x.0 y.0 x.2.has_node)
-one_unfit words a b agree n m (inr (inr x)) (inr (inl y)) = absurd (no_link words b a (same_agree a b agree) y.0 x.0 x.1 y.1 y.2 x.2)
-one_unfit words a b agree n m (inr (inr x)) (inr (inr y)) =
-    let same : x.3.0 ≡ y.3.0 = first_unique (node_files words) x.3.0 y.3.0 x.3.1 y.3.1 in
-    x.3.2 ∙ ap (name_at (node_files words)) same ∙ sym y.3.2
+one_unfit : (files : NodeNames) (a b : Domain) → Agree a b → (n m : List ℕ) → IsUnfit files a n → IsUnfit files b m → n ≡ m
+one_unfit files a b agree n m (inl x) (inl y) = x.1 ∙ sym y.1
+one_unfit files a b agree n m (inl x) (inr (inl y)) = absurd (no_node files a b agree y.0 x.0 y.1)
+one_unfit files a b agree n m (inl x) (inr (inr y)) = absurd (no_node files a b agree y.0 x.0 y.2.has_node)
+one_unfit files a b agree n m (inr (inl x)) (inl y) = absurd (no_node files b a (same_agree a b agree) x.0 y.0 x.1)
+one_unfit files a b agree n m (inr (inl x)) (inr (inl y)) = x.3 ∙ sym y.3
+one_unfit files a b agree n m (inr (inl x)) (inr (inr y)) = absurd (no_link files a b agree x.0 y.0 y.1 x.1 x.2 y.2)
+one_unfit files a b agree n m (inr (inr x)) (inl y) = absurd (no_node files b a (same_agree a b agree) x.0 y.0 x.2.has_node)
+one_unfit files a b agree n m (inr (inr x)) (inr (inl y)) = absurd (no_link files b a (same_agree a b agree) y.0 x.0 x.1 y.1 y.2 x.2)
+one_unfit files a b agree n m (inr (inr x)) (inr (inr y)) =
+    let same : x.3.0 ≡ y.3.0 = first_unique (node_files files) x.3.0 y.3.0 x.3.1 y.3.1 in
+    x.3.2 ∙ ap (name_at (node_files files)) same ∙ sym y.3.2
 
-module _ (words : List (List ℕ)) (desk : Writing) where
-  agree : (a b : Domain) → HasDomain desk (domain_file words) (readings_file words) a
-      → HasDomain desk (domain_file words) (readings_file words) b → Agree a b
-  agree a b x y = domains_agree desk (domain_file words) (readings_file words) a b x y
+module _ (files : NodeNames) (desk : Writing) where
+  agree : (a b : Domain) → HasDomain desk files.domain files.readings a
+      → HasDomain desk files.domain files.readings b → Agree a b
+  agree a b x y = domains_agree desk files.domain files.readings a b x y
 
-  unfit_or_ready : (a : Domain) (n : List ℕ) → HasDomain desk (domain_file words) (readings_file words) a → IsUnfit words a n
-      → (seat : Seat) → IsReady words desk seat → ⊥
+  unfit_or_ready : (a : Domain) (n : List ℕ) → HasDomain desk files.domain files.readings a → IsUnfit files a n
+      → (seat : Seat) → IsReady files desk seat → ⊥
   unfit_or_ready a n has unfit seat ready =
-      unfit_or_at words a seat.domain (agree a seat.domain has ready.setting.has_domain) n seat.node seat.inward unfit ready.at ready.apart
+      unfit_or_at files a seat.domain (agree a seat.domain has ready.setting.has_domain) n seat.node seat.inward unfit ready.at ready.apart
 
-  same_limit : (a b : Seat) → IsReady words desk a → IsReady words desk b → a.domain.packets ≡ b.domain.packets
+  same_limit : (a b : Seat) → IsReady files desk a → IsReady files desk b → a.domain.packets ≡ b.domain.packets
   same_limit a b x y = (agree a.domain b.domain x.setting.has_domain y.setting.has_domain).packets
 
-  long_or_input : (a b : Seat) → IsReady words desk a → IsReady words desk b → (d : Ending) → IsSomeAnd (holds desk (input_file words)) (IsLong a.domain.packets)
-      → IsSomeAnd (holds desk (input_file words)) (IsInput b.domain.packets d) → ⊥
+  long_or_input : (a b : Seat) → IsReady files desk a → IsReady files desk b → (d : Ending) → IsSomeAnd (holds desk files.input) (IsLong a.domain.packets)
+      → IsSomeAnd (holds desk files.input) (IsInput b.domain.packets d) → ⊥
   long_or_input a b x y d long so =
-      let P : ℕ → Type 0 = λ most. IsSomeAnd (holds desk (input_file words)) (IsLong most) in
-      too_long b.domain.packets (holds desk (input_file words)) d (subst P (same_limit a b x y) long) so
+      let P : ℕ → Type 0 = λ most. IsSomeAnd (holds desk files.input) (IsLong most) in
+      too_long b.domain.packets (holds desk files.input) d (subst P (same_limit a b x y) long) so
 
-  one_ending : (a b : Seat) → IsReady words desk a → IsReady words desk b → (d e : Ending) → IsSomeAnd (holds desk (input_file words)) (IsInput a.domain.packets d)
-      → IsSomeAnd (holds desk (input_file words)) (IsInput b.domain.packets e) → d ≡ e
+  one_ending : (a b : Seat) → IsReady files desk a → IsReady files desk b → (d e : Ending) → IsSomeAnd (holds desk files.input) (IsInput a.domain.packets d)
+      → IsSomeAnd (holds desk files.input) (IsInput b.domain.packets e) → d ≡ e
   one_ending a b x y d e so also =
-      let P : ℕ → Type 0 = λ most. IsSomeAnd (holds desk (input_file words)) (IsInput most d) in
-      held_ending b.domain.packets (holds desk (input_file words)) d e (subst P (same_limit a b x y) so) also
+      let P : ℕ → Type 0 = λ most. IsSomeAnd (holds desk files.input) (IsInput most d) in
+      held_ending b.domain.packets (holds desk files.input) d e (subst P (same_limit a b x y) so) also
 
-  Asked-unique : (a b : Outcome) → Asked words desk a → Asked words desk b → a ≡ b
+  Asked-unique : (a b : Outcome) → Asked files desk a → Asked files desk b → a ≡ b
   Asked-unique outcome.Done outcome.Done x y = refl
-  Asked-unique outcome.Done (outcome.Domain g) x y = absurd (fault_or_domain desk (domain_file words) (readings_file words) x.0.domain g y x.1.setting.has_domain)
-  Asked-unique outcome.Done (outcome.Readings g) x y = absurd (fault_or_setting desk (domain_file words) (readings_file words) x.0.domain x.0.samples g y x.1.setting)
+  Asked-unique outcome.Done (outcome.Domain g) x y = absurd (fault_or_domain desk files.domain files.readings x.0.domain g y x.1.setting.has_domain)
+  Asked-unique outcome.Done (outcome.Readings g) x y = absurd (fault_or_setting desk files.domain files.readings x.0.domain x.0.samples g y x.1.setting)
   Asked-unique outcome.Done (outcome.Names m) x y = absurd (unfit_or_ready y.0 m y.2.has_domain y.3 x.0 x.1)
   Asked-unique outcome.Done (outcome.Capture m place g) x y = absurd (whole_or_faulty place g (one_ending x.0 y.1.0 x.1 y.1.1 Ended (Faulty place g) x.2 y.1.2))
   Asked-unique outcome.Done (outcome.Packets m) x y = absurd (long_or_input y.0 x.0 y.1 x.1 Ended y.3 x.2)
@@ -130,12 +130,12 @@ module _ (words : List (List ℕ)) (desk : Writing) where
   Asked-unique outcome.Done outcome.ReadFault x y = absurd y
   Asked-unique outcome.Done outcome.WriteFault x y = absurd y
   Asked-unique outcome.Done outcome.NoMemory x y = absurd y
-  Asked-unique (outcome.Domain f) outcome.Done x y = absurd (fault_or_domain desk (domain_file words) (readings_file words) y.0.domain f x y.1.setting.has_domain)
-  Asked-unique (outcome.Domain f) (outcome.Domain g) x y = ap outcome.Domain (one_domain_fault desk (domain_file words) (readings_file words) f g x y)
-  Asked-unique (outcome.Domain f) (outcome.Readings g) x y = absurd (fault_or_domain desk (domain_file words) (readings_file words) y.domain f x y.has_domain)
-  Asked-unique (outcome.Domain f) (outcome.Names m) x y = absurd (fault_or_domain desk (domain_file words) (readings_file words) y.0 f x y.2.has_domain)
-  Asked-unique (outcome.Domain f) (outcome.Capture m place g) x y = absurd (fault_or_domain desk (domain_file words) (readings_file words) y.1.0.domain f x y.1.1.setting.has_domain)
-  Asked-unique (outcome.Domain f) (outcome.Packets m) x y = absurd (fault_or_domain desk (domain_file words) (readings_file words) y.0.domain f x y.1.setting.has_domain)
+  Asked-unique (outcome.Domain f) outcome.Done x y = absurd (fault_or_domain desk files.domain files.readings y.0.domain f x y.1.setting.has_domain)
+  Asked-unique (outcome.Domain f) (outcome.Domain g) x y = ap outcome.Domain (one_domain_fault desk files.domain files.readings f g x y)
+  Asked-unique (outcome.Domain f) (outcome.Readings g) x y = absurd (fault_or_domain desk files.domain files.readings y.domain f x y.has_domain)
+  Asked-unique (outcome.Domain f) (outcome.Names m) x y = absurd (fault_or_domain desk files.domain files.readings y.0 f x y.2.has_domain)
+  Asked-unique (outcome.Domain f) (outcome.Capture m place g) x y = absurd (fault_or_domain desk files.domain files.readings y.1.0.domain f x y.1.1.setting.has_domain)
+  Asked-unique (outcome.Domain f) (outcome.Packets m) x y = absurd (fault_or_domain desk files.domain files.readings y.0.domain f x y.1.setting.has_domain)
   Asked-unique (outcome.Domain f) (outcome.Exports spot cut) x y = absurd y
   Asked-unique (outcome.Domain f) (outcome.Ipfix spot cut) x y = absurd y
   Asked-unique (outcome.Domain f) (outcome.Part which spot cut) x y = absurd y
@@ -144,12 +144,12 @@ module _ (words : List (List ℕ)) (desk : Writing) where
   Asked-unique (outcome.Domain f) outcome.ReadFault x y = absurd y
   Asked-unique (outcome.Domain f) outcome.WriteFault x y = absurd y
   Asked-unique (outcome.Domain f) outcome.NoMemory x y = absurd y
-  Asked-unique (outcome.Readings f) outcome.Done x y = absurd (fault_or_setting desk (domain_file words) (readings_file words) y.0.domain y.0.samples f x y.1.setting)
-  Asked-unique (outcome.Readings f) (outcome.Domain g) x y = absurd (fault_or_domain desk (domain_file words) (readings_file words) x.domain g y x.has_domain)
-  Asked-unique (outcome.Readings f) (outcome.Readings g) x y = ap outcome.Readings (one_readings_fault desk (domain_file words) (readings_file words) f g x y)
-  Asked-unique (outcome.Readings f) (outcome.Names m) x y = absurd (fault_or_setting desk (domain_file words) (readings_file words) y.0 y.1 f x y.2)
-  Asked-unique (outcome.Readings f) (outcome.Capture m place g) x y = absurd (fault_or_setting desk (domain_file words) (readings_file words) y.1.0.domain y.1.0.samples f x y.1.1.setting)
-  Asked-unique (outcome.Readings f) (outcome.Packets m) x y = absurd (fault_or_setting desk (domain_file words) (readings_file words) y.0.domain y.0.samples f x y.1.setting)
+  Asked-unique (outcome.Readings f) outcome.Done x y = absurd (fault_or_setting desk files.domain files.readings y.0.domain y.0.samples f x y.1.setting)
+  Asked-unique (outcome.Readings f) (outcome.Domain g) x y = absurd (fault_or_domain desk files.domain files.readings x.domain g y x.has_domain)
+  Asked-unique (outcome.Readings f) (outcome.Readings g) x y = ap outcome.Readings (one_readings_fault desk files.domain files.readings f g x y)
+  Asked-unique (outcome.Readings f) (outcome.Names m) x y = absurd (fault_or_setting desk files.domain files.readings y.0 y.1 f x y.2)
+  Asked-unique (outcome.Readings f) (outcome.Capture m place g) x y = absurd (fault_or_setting desk files.domain files.readings y.1.0.domain y.1.0.samples f x y.1.1.setting)
+  Asked-unique (outcome.Readings f) (outcome.Packets m) x y = absurd (fault_or_setting desk files.domain files.readings y.0.domain y.0.samples f x y.1.setting)
   Asked-unique (outcome.Readings f) (outcome.Exports spot cut) x y = absurd y
   Asked-unique (outcome.Readings f) (outcome.Ipfix spot cut) x y = absurd y
   Asked-unique (outcome.Readings f) (outcome.Part which spot cut) x y = absurd y
@@ -159,9 +159,9 @@ module _ (words : List (List ℕ)) (desk : Writing) where
   Asked-unique (outcome.Readings f) outcome.WriteFault x y = absurd y
   Asked-unique (outcome.Readings f) outcome.NoMemory x y = absurd y
   Asked-unique (outcome.Names n) outcome.Done x y = absurd (unfit_or_ready x.0 n x.2.has_domain x.3 y.0 y.1)
-  Asked-unique (outcome.Names n) (outcome.Domain g) x y = absurd (fault_or_domain desk (domain_file words) (readings_file words) x.0 g y x.2.has_domain)
-  Asked-unique (outcome.Names n) (outcome.Readings g) x y = absurd (fault_or_setting desk (domain_file words) (readings_file words) x.0 x.1 g y x.2)
-  Asked-unique (outcome.Names n) (outcome.Names m) x y = ap outcome.Names (one_unfit words x.0 y.0 (agree x.0 y.0 x.2.has_domain y.2.has_domain) n m x.3 y.3)
+  Asked-unique (outcome.Names n) (outcome.Domain g) x y = absurd (fault_or_domain desk files.domain files.readings x.0 g y x.2.has_domain)
+  Asked-unique (outcome.Names n) (outcome.Readings g) x y = absurd (fault_or_setting desk files.domain files.readings x.0 x.1 g y x.2)
+  Asked-unique (outcome.Names n) (outcome.Names m) x y = ap outcome.Names (one_unfit files x.0 y.0 (agree x.0 y.0 x.2.has_domain y.2.has_domain) n m x.3 y.3)
   Asked-unique (outcome.Names n) (outcome.Capture m place g) x y = absurd (unfit_or_ready x.0 n x.2.has_domain x.3 y.1.0 y.1.1)
   Asked-unique (outcome.Names n) (outcome.Packets m) x y = absurd (unfit_or_ready x.0 n x.2.has_domain x.3 y.0 y.1)
   Asked-unique (outcome.Names n) (outcome.Exports spot cut) x y = absurd y
@@ -173,8 +173,8 @@ module _ (words : List (List ℕ)) (desk : Writing) where
   Asked-unique (outcome.Names n) outcome.WriteFault x y = absurd y
   Asked-unique (outcome.Names n) outcome.NoMemory x y = absurd y
   Asked-unique (outcome.Capture n at f) outcome.Done x y = absurd (whole_or_faulty at f (sym (one_ending x.1.0 y.0 x.1.1 y.1 (Faulty at f) Ended x.1.2 y.2)))
-  Asked-unique (outcome.Capture n at f) (outcome.Domain g) x y = absurd (fault_or_domain desk (domain_file words) (readings_file words) x.1.0.domain g y x.1.1.setting.has_domain)
-  Asked-unique (outcome.Capture n at f) (outcome.Readings g) x y = absurd (fault_or_setting desk (domain_file words) (readings_file words) x.1.0.domain x.1.0.samples g y x.1.1.setting)
+  Asked-unique (outcome.Capture n at f) (outcome.Domain g) x y = absurd (fault_or_domain desk files.domain files.readings x.1.0.domain g y x.1.1.setting.has_domain)
+  Asked-unique (outcome.Capture n at f) (outcome.Readings g) x y = absurd (fault_or_setting desk files.domain files.readings x.1.0.domain x.1.0.samples g y x.1.1.setting)
   Asked-unique (outcome.Capture n at f) (outcome.Names m) x y = absurd (unfit_or_ready y.0 m y.2.has_domain y.3 x.1.0 x.1.1)
   Asked-unique (outcome.Capture n at f) (outcome.Capture m place g) x y =
       let same : Faulty at f ≡ Faulty place g = one_ending x.1.0 y.1.0 x.1.1 y.1.1 (Faulty at f) (Faulty place g) x.1.2 y.1.2 in
@@ -190,8 +190,8 @@ module _ (words : List (List ℕ)) (desk : Writing) where
   Asked-unique (outcome.Capture n at f) outcome.WriteFault x y = absurd y
   Asked-unique (outcome.Capture n at f) outcome.NoMemory x y = absurd y
   Asked-unique (outcome.Packets n) outcome.Done x y = absurd (long_or_input x.0 y.0 x.1 y.1 Ended x.3 y.2)
-  Asked-unique (outcome.Packets n) (outcome.Domain g) x y = absurd (fault_or_domain desk (domain_file words) (readings_file words) x.0.domain g y x.1.setting.has_domain)
-  Asked-unique (outcome.Packets n) (outcome.Readings g) x y = absurd (fault_or_setting desk (domain_file words) (readings_file words) x.0.domain x.0.samples g y x.1.setting)
+  Asked-unique (outcome.Packets n) (outcome.Domain g) x y = absurd (fault_or_domain desk files.domain files.readings x.0.domain g y x.1.setting.has_domain)
+  Asked-unique (outcome.Packets n) (outcome.Readings g) x y = absurd (fault_or_setting desk files.domain files.readings x.0.domain x.0.samples g y x.1.setting)
   Asked-unique (outcome.Packets n) (outcome.Names m) x y = absurd (unfit_or_ready y.0 m y.2.has_domain y.3 x.0 x.1)
   Asked-unique (outcome.Packets n) (outcome.Capture m place g) x y = absurd (long_or_input x.0 y.1.0 x.1 y.1.1 (Faulty place g) x.3 y.1.2)
   Asked-unique (outcome.Packets n) (outcome.Packets m) x y = ap outcome.Packets (x.2 ∙ same_limit x.0 y.0 x.1 y.1 ∙ sym y.2)
@@ -213,7 +213,7 @@ module _ (words : List (List ℕ)) (desk : Writing) where
   Asked-unique (outcome.Records most) b x y = absurd x
 
   -- what is asked for is answered, unless a call failed or no memory could be had
-  pub HasCause-asked : (old_in new_in : Reading) (new : Writing) (answer asked : Outcome) → HasCause words old_in new_in desk new answer → Asked words desk asked
+  pub HasCause-asked : (old_in new_in : Reading) (new : Writing) (answer asked : Outcome) → HasCause files old_in new_in desk new answer → Asked files desk asked
       → (Rose old_in.side.faults new_in.side.faults → ⊥) → (Rose desk.side.faults new.side.faults → ⊥)
       → (answer ≡ asked) ⊎ (answer ≡ outcome.NoMemory)
   HasCause-asked old_in new_in new outcome.Done asked cause asks reads writes = inl (Asked-unique outcome.Done asked cause asks)

@@ -1,5 +1,5 @@
 -- What the node sends to a port is clean.
-use Rattle.std.proofs.Common.{◌≡◌, ℕ, suc, ◌+◌, ◌<◌, All, List, [], ◌∷◌, length, take, drop, IsSomeAnd, Option, Some, None, refl, ◌∙◌, ap, ⊎_elim, arith}
+use Rattle.std.proofs.Common.{◌≡◌, ℕ, suc, ◌+◌, ◌<◌, All, List, [], ◌∷◌, length, take, IsSomeAnd, Option, Some, None, ◌∙◌, ap, ⊎_elim, arith}
 use Rattle.std.specs.List.{AllByRecursion, flat_map}
 use Rattle.std.proofs.lemmas.List.Elements.{Contains-append_right}
 use Rattle.ioam_run_answer.specs.Outcomes.{IsBehindAll}
@@ -11,10 +11,10 @@ use Rattle.ioam_desk_outputs.specs.Names.{AreApart, name_at}
 use Rattle.ioam_pcap.specs.Ending.{Whole, Faulty}
 use Rattle.ioam_pcap.specs.Entries.{Taken}
 use Rattle.ioam_pcap.specs.Text.{IsSendable, capture_text}
-use Rattle.ioam_run_stream.specs.Run.{HoldsAll, EndsSo, ArePassed, AreWhole}
+use Rattle.ioam_run_stream.specs.Promise.{HoldsAll, EndsSo, ArePassed, AreWhole}
 use Rattle.ioam_run_node.specs.NodeText.{NodeTexts, sent_of}
 use Rattle.ioam_run_node.specs.Passage.{Passage, LeavesClean}
-use Rattle.ioam_run_node.specs.Run.{Holds, IsBounded, Leaves, input_file, node_files, output_files}
+use Rattle.ioam_run_node.specs.Promise.{NodeNames, Holds, IsBounded, Leaves, node_files, output_files}
 use Rattle.ioam_run_node.specs.Seat.{Seat}
 
 -- names without the first one
@@ -24,25 +24,11 @@ apart_tail name names apart = λ at inside repeats.
     apart (suc at) within (Contains-append_right (name ∷ []) (take at names) (name_at names at) repeats)
 
 -- the outputs differ
-pub apart_outputs : (words : List (List ℕ)) → AreApart (node_files words) → AreApart (output_files words)
-apart_outputs words apart =
-    apart_tail (name_at words 5) (output_files words)
-    (apart_tail (name_at words 2) (name_at words 5 ∷ output_files words)
-    (apart_tail (name_at words 1) (name_at words 2 ∷ name_at words 5 ∷ output_files words) apart))
-
--- there are three
-pub three_outputs : (words : List (List ℕ)) → length words ≡ 9 → drop 6 words ≡ output_files words
-three_outputs [] nine = absurd (omega (arith, nine))
-three_outputs (a ∷ []) nine = absurd (omega (arith, nine))
-three_outputs (a ∷ b ∷ []) nine = absurd (omega (arith, nine))
-three_outputs (a ∷ b ∷ c ∷ []) nine = absurd (omega (arith, nine))
-three_outputs (a ∷ b ∷ c ∷ d ∷ []) nine = absurd (omega (arith, nine))
-three_outputs (a ∷ b ∷ c ∷ d ∷ e ∷ []) nine = absurd (omega (arith, nine))
-three_outputs (a ∷ b ∷ c ∷ d ∷ e ∷ f ∷ []) nine = absurd (omega (arith, nine))
-three_outputs (a ∷ b ∷ c ∷ d ∷ e ∷ f ∷ g ∷ []) nine = absurd (omega (arith, nine))
-three_outputs (a ∷ b ∷ c ∷ d ∷ e ∷ f ∷ g ∷ h ∷ []) nine = absurd (omega (arith, nine))
-three_outputs (a ∷ b ∷ c ∷ d ∷ e ∷ f ∷ g ∷ h ∷ i ∷ []) nine = refl
-three_outputs (a ∷ b ∷ c ∷ d ∷ e ∷ f ∷ g ∷ h ∷ i ∷ j ∷ more) nine = absurd (omega (arith, nine))
+pub apart_outputs : (files : NodeNames) → AreApart (node_files files) → AreApart (output_files files)
+apart_outputs files apart =
+    apart_tail files.input (output_files files)
+    (apart_tail files.readings (files.input ∷ output_files files)
+    (apart_tail files.domain (files.readings ∷ files.input ∷ output_files files) apart))
 
 -- OUT holds such a capture
 abbrev IsHeld : Seat → List ℕ → Writing → Type 0
@@ -64,13 +50,13 @@ from_held seat most None Are out report exports new all = absurd all
 from_held seat most (Some octets) Are out report exports new all =
     clean_held seat all.taken all.texts out report exports new all.texts_are all.held
 
-module _ (words : List (List ℕ)) (old_in new_in : Reading) (old new : Writing) where
-  of_all : (Are : Seat → List Taken → List ℕ → Type 0) → Holds words old_in new_in old new Are → IsBounded words old_in new_in old new
-  of_all Are all = (all.0, all.1, from_held all.0 all.0.domain.packets (holds old (input_file words)) (Are all.0) (name_at words 6) (name_at words 7) (name_at words 8) new all.2)
+module _ (files : NodeNames) (old_in new_in : Reading) (old new : Writing) where
+  of_all : (Are : Seat → List Taken → List ℕ → Type 0) → Holds files old_in new_in old new Are → IsBounded files old_in new_in old new
+  of_all Are all = (all.0, all.1, from_held all.0 all.0.domain.packets (holds old files.input) (Are all.0) files.out files.report files.exports new all.2)
 
   -- each packet that the node sends to a port may leave a domain
-  pub Leaves-bounded : (answer : Outcome) → Leaves words old_in new_in old new answer → IsBehindAll (old.side.slots < new.side.slots) answer
-      → IsBounded words old_in new_in old new
+  pub Leaves-bounded : (answer : Outcome) → Leaves files old_in new_in old new answer → IsBehindAll (old.side.slots < new.side.slots) answer
+      → IsBounded files old_in new_in old new
   Leaves-bounded outcome.Done leaves behind = of_all (λ seat. EndsSo Whole) leaves
   Leaves-bounded (outcome.Capture name at fault) leaves behind = of_all (λ seat. EndsSo (Faulty at fault)) leaves
   Leaves-bounded (outcome.Packets limit) leaves behind = of_all (λ seat. ArePassed seat.domain.packets) leaves

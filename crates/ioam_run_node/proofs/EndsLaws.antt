@@ -1,5 +1,5 @@
 -- How a run ends in a domain that was read.
-use Rattle.std.proofs.Common.{◌≡◌, ℕ, ◌<◌, ◌≤◌, ◌⊎◌, Bool, List, [], ◌∷◌, length, get_or, Some, None, refl, sym, ◌∙◌, ap, subst, inl, inr, ⊎_elim}
+use Rattle.std.proofs.Common.{◌≡◌, ℕ, ◌<◌, ◌≤◌, ◌⊎◌, Bool, List, length, get_or, Some, None, refl, sym, ◌∙◌, ap, subst, inl, inr, ⊎_elim}
 use Rattle.ioam_run_answer.specs.declared.outcome.Outcome.{Outcome}
 use Rattle.ioam_run_answer.specs.declared.outcome.Outcome.TheVariants as outcome
 use Rattle.ioam_clock.specs.declared.sample.Sample.{Sample}
@@ -10,16 +10,16 @@ use Rattle.ioam_topo.specs.Domain.{node_of_name}
 use Rattle.ioam_topo.specs.declared.domain.Domain.{Domain}
 use Rattle.ioam_topo.specs.declared.ids.NodeId.{NodeId}
 use Rattle.ioam_run_node.specs.Ends.{Gathered, Stays, Ran, Ends, EndsAt}
-use Rattle.ioam_run_node.specs.Run.{IsAt, IsUnfit, inward_of, input_file, node_files, output_files, node_word, link_word}
+use Rattle.ioam_run_node.specs.Promise.{NodeNames, IsAt, IsUnfit, inward_of, node_files, output_files}
 use Rattle.ioam_run_node.specs.Seat.{Seat, seat_at}
 
-module _ (tells : Bool) (words : List (List ℕ)) (reading : Reading) (writing : Writing) where
+module _ (tells : Bool) (files : NodeNames) (reading : Reading) (writing : Writing) where
   -- no memory could be had
-  pub stays_none : (IsRefused : List ℕ → Type 0) → Stays tells words reading reading writing writing IsRefused outcome.NoMemory
+  pub stays_none : (IsRefused : List ℕ → Type 0) → Stays tells files reading reading writing writing IsRefused outcome.NoMemory
   stays_none IsRefused = record { why = inl refl; same_in = refl; same = refl }
 
   stays_named : (IsRefused : List ℕ → Type 0) (answer : Outcome) (name : List ℕ) → (answer ≡ outcome.Names name) ⊎ (answer ≡ outcome.NoMemory) → IsRefused name
-      → Stays tells words reading reading writing writing IsRefused answer
+      → Stays tells files reading reading writing writing IsRefused answer
   stays_named IsRefused answer name either refused = record {
     why = ⊎_elim (λ named. inr (name, named, refused)) (λ none. inl none) either;
     same_in = refl;
@@ -27,26 +27,26 @@ module _ (tells : Bool) (words : List (List ℕ)) (reading : Reading) (writing :
   }
 
   -- NODE is refused
-  pub stays_node : (domain : Domain) (samples : List (List Sample)) (answer : Outcome) (name text : List ℕ) → text ≡ name → name ≡ node_word words
+  pub stays_node : (domain : Domain) (samples : List (List Sample)) (answer : Outcome) (name text : List ℕ) → text ≡ name → name ≡ files.node
       → node_of_name domain text ≡ None → (answer ≡ outcome.Names name) ⊎ (answer ≡ outcome.NoMemory)
-      → Ends tells words reading reading writing writing domain samples answer
+      → Ends tells files reading reading writing writing domain samples answer
   stays_node domain samples answer name text same is none either =
-      inl (stays_named (IsUnfit words domain) answer name either
+      inl (stays_named (IsUnfit files domain) answer name either
       (inl (ap (node_of_name domain) (sym (same ∙ is)) ∙ none, is)))
 
   -- LINK is
-  pub stays_link : (domain : Domain) (samples : List (List Sample)) (answer : Outcome) (node : NodeId) (name text link : List ℕ) → text ≡ name → name ≡ node_word words
-      → node_of_name domain text ≡ Some node → link ≡ link_word words → inward_of domain node link ≡ None
+  pub stays_link : (domain : Domain) (samples : List (List Sample)) (answer : Outcome) (node : NodeId) (name text link : List ℕ) → text ≡ name → name ≡ files.node
+      → node_of_name domain text ≡ Some node → link ≡ files.link → inward_of domain node link ≡ None
       → (answer ≡ outcome.Names link) ⊎ (answer ≡ outcome.NoMemory)
-      → Ends tells words reading reading writing writing domain samples answer
+      → Ends tells files reading reading writing writing domain samples answer
   stays_link domain samples answer node name text link same is some link_is none either =
-      inl (stays_named (IsUnfit words domain) answer link either
+      inl (stays_named (IsUnfit files domain) answer link either
       (inr (inl (node, ap (node_of_name domain) (sym (same ∙ is)) ∙ some, ap (inward_of domain node) (sym link_is) ∙ none, link_is))))
 
   -- a file is
-  pub stays_file : (seat : Seat) (files : List (List ℕ)) (at : ℕ) (name : List ℕ) → files ≡ node_files words → IsFirstRepeat files at → name ≡ name_at files at
-      → EndsAt tells words reading reading writing writing seat (outcome.Names name)
-  stays_file seat files at name same first is =
+  pub stays_file : (seat : Seat) (names : List (List ℕ)) (at : ℕ) (name : List ℕ) → names ≡ node_files files → IsFirstRepeat names at → name ≡ name_at names at
+      → EndsAt tells files reading reading writing writing seat (outcome.Names name)
+  stays_file seat names at name same first is =
       let P : List (List ℕ) → Type 0 = λ fs. IsFirstRepeat fs at in
       inl (record {
         why = inr (name, refl, (at, subst P same first, is ∙ ap (λ (fs : List (List ℕ)). name_at fs at) same));
@@ -55,13 +55,13 @@ module _ (tells : Bool) (words : List (List ℕ)) (reading : Reading) (writing :
       })
 
 -- NODE and LINK are fit
-pub ends_at : (tells : Bool) (words : List (List ℕ)) (old_in new_in : Reading) (old new : Writing) (domain : Domain) (samples : List (List Sample))
-    (answer : Outcome) (node : NodeId) (inward : ℕ) (name text link : List ℕ) → text ≡ name → name ≡ node_word words
-    → node_of_name domain text ≡ Some node → link ≡ link_word words → inward_of domain node link ≡ Some inward
-    → EndsAt tells words old_in new_in old new (seat_at domain samples node inward) answer
-    → Ends tells words old_in new_in old new domain samples answer
-ends_at tells words old_in new_in old new domain samples answer node inward name text link same is some link_is found ends =
-    let at : IsAt words domain node inward = record {
+pub ends_at : (tells : Bool) (files : NodeNames) (old_in new_in : Reading) (old new : Writing) (domain : Domain) (samples : List (List Sample))
+    (answer : Outcome) (node : NodeId) (inward : ℕ) (name text link : List ℕ) → text ≡ name → name ≡ files.node
+    → node_of_name domain text ≡ Some node → link ≡ files.link → inward_of domain node link ≡ Some inward
+    → EndsAt tells files old_in new_in old new (seat_at domain samples node inward) answer
+    → Ends tells files old_in new_in old new domain samples answer
+ends_at tells files old_in new_in old new domain samples answer node inward name text link same is some link_is found ends =
+    let at : IsAt files domain node inward = record {
       has_node = ap (node_of_name domain) (sym (same ∙ is)) ∙ some;
       has_link = ap (inward_of domain node) (sym link_is) ∙ found;
     } in
@@ -72,26 +72,15 @@ ends_at tells words old_in new_in old new domain samples answer node inward name
     }))
     (λ ran. inr (record { seat = seat_at domain samples node inward; same_domain = refl; same_samples = refl; at = at; ran = ran })) ends
 
--- what was gathered of the words' files
-pub ran_from : (tells : Bool) (words : List (List ℕ)) (old_in new_in : Reading) (old new : Writing) (seat : Seat) (answer : Outcome)
-    (most : ℕ) (input : List ℕ) (outputs : List (List ℕ)) → most ≡ seat.domain.packets → input ≡ input_file words → outputs ≡ output_files words
-    → AreApart (node_files words) → 1 ≤ seat.domain.packets → seat.domain.packets ≤ 16777216 → Gathered tells old_in new_in old new seat answer most input outputs → Ran tells words old_in new_in old new seat answer
-ran_from tells words old_in new_in old new seat answer most input outputs limit named listed apart some few gathered =
+-- what was gathered of the files' files
+pub ran_from : (tells : Bool) (files : NodeNames) (old_in new_in : Reading) (old new : Writing) (seat : Seat) (answer : Outcome)
+    (most : ℕ) (input : List ℕ) (outputs : List (List ℕ)) → most ≡ seat.domain.packets → input ≡ files.input → outputs ≡ output_files files
+    → AreApart (node_files files) → 1 ≤ seat.domain.packets → seat.domain.packets ≤ 16777216 → Gathered tells old_in new_in old new seat answer most input outputs → Ran tells files old_in new_in old new seat answer
+ran_from tells files old_in new_in old new seat answer most input outputs limit named listed apart some few gathered =
     let P : ℕ → Type 0 = λ m. Gathered tells old_in new_in old new seat answer m input outputs in
     let Q : List ℕ → Type 0 = λ i. Gathered tells old_in new_in old new seat answer seat.domain.packets i outputs in
-    let R : List (List ℕ) → Type 0 = λ o. Gathered tells old_in new_in old new seat answer seat.domain.packets (input_file words) o in
+    let R : List (List ℕ) → Type 0 = λ o. Gathered tells old_in new_in old new seat answer seat.domain.packets files.input o in
     record { apart = apart; some = some; most = few; gathered = subst R listed (subst Q named (subst P limit gathered)) }
-
--- the six names are those of the words
-pub six_named : (a b c d e f : List ℕ) (words : List (List ℕ)) → a ≡ name_at words 1 → b ≡ name_at words 2 → c ≡ name_at words 5
-    → d ≡ name_at words 6 → e ≡ name_at words 7 → f ≡ name_at words 8 → (a ∷ b ∷ c ∷ d ∷ e ∷ f ∷ []) ≡ node_files words
-six_named a b c d e f words is_a is_b is_c is_d is_e is_f =
-    ap (λ (n : List ℕ). n ∷ b ∷ c ∷ d ∷ e ∷ f ∷ []) is_a
-    ∙ ap (λ (n : List ℕ). name_at words 1 ∷ n ∷ c ∷ d ∷ e ∷ f ∷ []) is_b
-    ∙ ap (λ (n : List ℕ). name_at words 1 ∷ name_at words 2 ∷ n ∷ d ∷ e ∷ f ∷ []) is_c
-    ∙ ap (λ (n : List ℕ). name_at words 1 ∷ name_at words 2 ∷ name_at words 5 ∷ n ∷ e ∷ f ∷ []) is_d
-    ∙ ap (λ (n : List ℕ). name_at words 1 ∷ name_at words 2 ∷ name_at words 5 ∷ name_at words 6 ∷ n ∷ f ∷ []) is_e
-    ∙ ap (λ (n : List ℕ). name_at words 1 ∷ name_at words 2 ∷ name_at words 5 ∷ name_at words 6 ∷ name_at words 7 ∷ n ∷ []) is_f
 
 -- what was taken out of a list that has these names
 pub taken_name : (names items : List (List ℕ)) (at : ℕ) (name : List ℕ) → items ≡ names → name ≡ get_or items at name → at < length names → name ≡ name_at names at

@@ -7,7 +7,7 @@ use Rattle.ioam_desk_outputs.specs.declared.output.Output.{Output}
 use Rattle.ioam_pcap.specs.Entries.{Taken}
 use Rattle.ioam_pcap.specs.Text.{IsSendable, Sent, records_text, capture_text, head_octets, record_octets}
 use Rattle.ioam_run_node.specs.NodeText.{added_of, sent_of, drop_of, export_of, passage_line, passage_lines}
-use Rattle.ioam_run_node.specs.Passage.{Passage, Goes, Drops, HasPassage, ArePassages, LeavesClean}
+use Rattle.ioam_run_node.specs.Passage.{Passage, Goes, Drops, HasPassage, LeavesClean}
 use Rattle.ioam_run_node.specs.Passing.{Sorts, Gathers, heads}
 use Rattle.ioam_run_node.specs.Seat.{Seat, seat_of}
 use Rattle.ioam_run_node.specs.declared.passing.Passing.{Passing}

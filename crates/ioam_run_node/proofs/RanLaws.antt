@@ -8,14 +8,15 @@ use Rattle.ioam_desk.specs.Asked.{AsksFront}
 use Rattle.ioam_desk.specs.Desk.{Side, Reading, Writing, holds, opened_each}
 use Rattle.ioam_desk.specs.Kept.{KeepsInputs}
 use Rattle.ioam_desk.proofs.KeptLaws.{KeepsInputs-then, KeepsOutputs-same}
-use Rattle.ioam_run_stream.specs.Run.{FileCause, HoldsAll, AreWhole}
-use Rattle.ioam_run_stream.specs.Run as capture
+use Rattle.ioam_run_stream.specs.Promise.{HoldsAll, AreWhole}
+use Rattle.ioam_run_stream.specs.Streams.{FileCause}
+use Rattle.ioam_run_stream.specs.Promise as capture
 use Rattle.ioam_run_files.specs.Setting.{IsSetting}
 use Rattle.ioam_run_files.specs.declared.setting.Refusal.TheVariants as refusal
 use Rattle.ioam_topo.specs.declared.domain.Domain.{Domain}
 use Rattle.ioam_run_node.specs.Ends.{Stays, Ran, RanAt, Ends}
 use Rattle.ioam_run_node.specs.NodeText.{NodeTexts}
-use Rattle.ioam_run_node.specs.Run.{AreFit, HasCause, HaveDiffered, IsReady, IsUnfit, IsUntouched, Leaves, Owes, Says, domain_file, readings_file, input_file, output_files}
+use Rattle.ioam_run_node.specs.Promise.{NodeNames, AreFit, HasCause, HaveDiffered, IsReady, IsUnfit, IsUntouched, Leaves, Owes, Says, output_files}
 use Rattle.ioam_run_node.specs.Seat.{Seat}
 use Rattle.ioam_run_node.proofs.RefusedLaws.{asks_wider}
 
@@ -40,7 +41,7 @@ done_is outcome.ReadFault done = absurd done
 done_is outcome.WriteFault done = absurd done
 done_is outcome.NoMemory done = absurd done
 
-module _ (tells : Bool) (words : List (List ℕ)) (old_in mid_in : Reading) (opened : mid_in.side ≡ opened_each old_in.side (domain_file words ∷ readings_file words ∷ []))
+module _ (tells : Bool) (files : NodeNames) (old_in mid_in : Reading) (opened : mid_in.side ≡ opened_each old_in.side (files.domain ∷ files.readings ∷ []))
     (ended : IsTrue tells → IsTrue (mid_in.ended old_in.side.slots) × IsTrue (mid_in.ended (old_in.side.slots + 1))) (kept : KeepsInputs old_in mid_in) where
   same_faults : mid_in.side.faults ≡ old_in.side.faults
   same_faults = ap (λ (s : Side). s.faults) opened
@@ -48,16 +49,16 @@ module _ (tells : Bool) (words : List (List ℕ)) (old_in mid_in : Reading) (ope
   two_slots : mid_in.side.slots ≡ old_in.side.slots + 2
   two_slots = ap (λ (s : Side). s.slots) opened
 
-  both_asked : mid_in.side.asked ≡ old_in.side.asked ++ domain_file words ∷ readings_file words ∷ []
+  both_asked : mid_in.side.asked ≡ old_in.side.asked ++ files.domain ∷ files.readings ∷ []
   both_asked = ap (λ (s : Side). s.asked) opened
 
-  both : AsksFront old_in.side.asked mid_in.side.asked (domain_file words ∷ readings_file words ∷ [])
+  both : AsksFront old_in.side.asked mid_in.side.asked (files.domain ∷ files.readings ∷ [])
   both = (2, both_asked)
 
   -- nothing more was opened
   module _ (old : Writing) (domain : Domain) (samples : List (List Sample))
-      (setting : IsTrue tells → IsSetting old (domain_file words) (readings_file words) domain samples) where
-    none_owes : Owes tells words old_in mid_in old old outcome.NoMemory
+      (setting : IsTrue tells → IsSetting old files.domain files.readings domain samples) where
+    none_owes : Owes tells files old_in mid_in old old outcome.NoMemory
     none_owes = record {
       read_fault = λ is. absurd (cc);
       write_fault = λ is. absurd (cc);
@@ -66,7 +67,7 @@ module _ (tells : Bool) (words : List (List ℕ)) (old_in mid_in : Reading) (ope
       cause = λ told. tt;
       leaves = λ told. inl refl;
       asks = record {
-        front_in = asks_wider old_in.side.asked mid_in.side.asked (domain_file words) (readings_file words) (input_file words) both;
+        front_in = asks_wider old_in.side.asked mid_in.side.asked files.domain files.readings files.input both;
         front_out = (0, sym (append-nil old.side.asked));
         all_in = λ all. absurd all;
         all_out = λ all. absurd all;
@@ -80,7 +81,7 @@ module _ (tells : Bool) (words : List (List ℕ)) (old_in mid_in : Reading) (ope
       kept_out = λ told. KeepsOutputs-same old old refl;
     }
 
-    names_owes : (name : List ℕ) → IsUnfit words domain name → Owes tells words old_in mid_in old old (outcome.Names name)
+    names_owes : (name : List ℕ) → IsUnfit files domain name → Owes tells files old_in mid_in old old (outcome.Names name)
     names_owes name unfit = record {
       read_fault = λ is. absurd (cc);
       write_fault = λ is. absurd (cc);
@@ -89,7 +90,7 @@ module _ (tells : Bool) (words : List (List ℕ)) (old_in mid_in : Reading) (ope
       cause = λ told. (domain, samples, setting told, unfit);
       leaves = λ told. refl;
       asks = record {
-        front_in = asks_wider old_in.side.asked mid_in.side.asked (domain_file words) (readings_file words) (input_file words) both;
+        front_in = asks_wider old_in.side.asked mid_in.side.asked files.domain files.readings files.input both;
         front_out = (0, sym (append-nil old.side.asked));
         all_in = λ all. absurd all;
         all_out = λ all. absurd all;
@@ -103,21 +104,21 @@ module _ (tells : Bool) (words : List (List ℕ)) (old_in mid_in : Reading) (ope
       kept_out = λ told. KeepsOutputs-same old old refl;
     }
 
-    stays_owes : (new_in : Reading) (new : Writing) (answer : Outcome) → Stays tells words mid_in new_in old new (IsUnfit words domain) answer
-        → Owes tells words old_in new_in old new answer
+    stays_owes : (new_in : Reading) (new : Writing) (answer : Outcome) → Stays tells files mid_in new_in old new (IsUnfit files domain) answer
+        → Owes tells files old_in new_in old new answer
     stays_owes new_in new answer stays =
-        let P : Reading → Type 0 = λ r. Owes tells words old_in r old new answer in
-        let Q : Writing → Type 0 = λ w. Owes tells words old_in mid_in old w answer in
-        let R : Outcome → Type 0 = λ a. Owes tells words old_in mid_in old old a in
+        let P : Reading → Type 0 = λ r. Owes tells files old_in r old new answer in
+        let Q : Writing → Type 0 = λ w. Owes tells files old_in mid_in old w answer in
+        let R : Outcome → Type 0 = λ a. Owes tells files old_in mid_in old old a in
         subst P (sym stays.same_in) (subst Q (sym stays.same) (elim stays.why [
           | inl none ↦ subst R (sym none) none_owes
           | inr named ↦ subst R (sym named.1) (names_owes named.0 named.2)
         ]))
 
   -- IN was gathered
-  module _ (old : Writing) (new_in : Reading) (new : Writing) (seat : Seat) (ready : IsTrue tells → IsReady words old seat) where
-    cause : (answer : Outcome) → FileCause seat.domain.packets tells (input_file words) mid_in old new_in new answer → IsTrue tells
-        → HasCause words old_in new_in old new answer
+  module _ (old : Writing) (new_in : Reading) (new : Writing) (seat : Seat) (ready : IsTrue tells → IsReady files old seat) where
+    cause : (answer : Outcome) → FileCause seat.domain.packets tells files.input mid_in old new_in new answer → IsTrue tells
+        → HasCause files old_in new_in old new answer
     cause outcome.Done so told = (seat, ready told, so told)
     cause (outcome.Capture name at fault) so told = (so.0, (seat, ready told, so.1 told))
     cause (outcome.Packets limit) so told = (seat, ready told, so.0, so.1 told)
@@ -133,9 +134,9 @@ module _ (tells : Bool) (words : List (List ℕ)) (old_in mid_in : Reading) (ope
     cause (outcome.Domain fault) so told = absurd so
     cause (outcome.Readings fault) so told = absurd so
 
-    leaves : (answer : Outcome) → FileCause seat.domain.packets tells (input_file words) mid_in old new_in new answer → IsTrue tells
-        → capture.Leaves seat.domain.packets (NodeTexts seat) (output_files words) (input_file words) mid_in new_in old new answer
-        → Leaves words old_in new_in old new answer
+    leaves : (answer : Outcome) → FileCause seat.domain.packets tells files.input mid_in old new_in new answer → IsTrue tells
+        → capture.Leaves seat.domain.packets (NodeTexts seat) (output_files files) files.input mid_in new_in old new answer
+        → Leaves files old_in new_in old new answer
     leaves outcome.Done so told held = (seat, ready told, held)
     leaves (outcome.Capture name at fault) so told held = (seat, ready told, held)
     leaves (outcome.Packets limit) so told held = (seat, ready told, held)
@@ -145,19 +146,19 @@ module _ (tells : Bool) (words : List (List ℕ)) (old_in mid_in : Reading) (ope
     leaves (outcome.Records limit) so told held = absurd held
     leaves outcome.ReadFault so told (inl early) = inl (inr (omega (arith, early.0, two_slots)), early.1)
     leaves outcome.ReadFault so told (inr late) =
-        let P : ℕ → Type 0 = λ slot. IsSomeAnd (holds old (input_file words))
-        (HoldsAll seat.domain.packets (NodeTexts seat) (output_files words) (AreWhole (new_in.left slot)) new) in
+        let P : ℕ → Type 0 = λ slot. IsSomeAnd (holds old files.input)
+        (HoldsAll seat.domain.packets (NodeTexts seat) (output_files files) (AreWhole (new_in.left slot)) new) in
         inr (omega (arith, late.0, two_slots), (seat, ready told, subst P two_slots late.1))
     leaves outcome.WriteFault so told held = (seat, ready told, held)
     leaves outcome.NoMemory so told (inl same) = inl same
     leaves outcome.NoMemory so told (inr held) = inr (seat, ready told, held)
-    leaves outcome.Usage so told held = held
+    leaves outcome.Usage so told held = absurd held
     leaves (outcome.Names name) so told held = held
-    leaves (outcome.Domain fault) so told held = held
-    leaves (outcome.Readings fault) so told held = held
+    leaves (outcome.Domain fault) so told held = absurd held
+    leaves (outcome.Readings fault) so told held = absurd held
 
-  differed : (old : Writing) (new_in : Reading) (new : Writing) (seat : Seat) (answer : Outcome) → Ran tells words mid_in new_in old new seat answer
-      → FileCause seat.domain.packets tells (input_file words) mid_in old new_in new answer → HaveDiffered words answer
+  differed : (old : Writing) (new_in : Reading) (new : Writing) (seat : Seat) (answer : Outcome) → Ran tells files mid_in new_in old new seat answer
+      → FileCause seat.domain.packets tells files.input mid_in old new_in new answer → HaveDiffered files answer
   differed old new_in new seat outcome.Done ran so = ran.apart
   differed old new_in new seat (outcome.Capture name at fault) ran so = (ran.apart, so.0)
   differed old new_in new seat (outcome.Packets limit) ran so = ran.apart
@@ -173,9 +174,9 @@ module _ (tells : Bool) (words : List (List ℕ)) (old_in mid_in : Reading) (ope
   differed old new_in new seat (outcome.Domain fault) ran so = tt
   differed old new_in new seat (outcome.Readings fault) ran so = tt
 
-  says : (old : Writing) (new_in : Reading) (new : Writing) (seat : Seat) → AreFit words seat.domain → (answer : Outcome)
-      → Ran tells words mid_in new_in old new seat answer → FileCause seat.domain.packets tells (input_file words) mid_in old new_in new answer
-      → Says words seat.domain answer
+  says : (old : Writing) (new_in : Reading) (new : Writing) (seat : Seat) → AreFit files seat.domain → (answer : Outcome)
+      → Ran tells files mid_in new_in old new seat answer → FileCause seat.domain.packets tells files.input mid_in old new_in new answer
+      → Says files seat.domain answer
   says old new_in new seat fit outcome.Done ran so = fit
   says old new_in new seat fit (outcome.Capture name at fault) ran so = (fit, so.0)
   says old new_in new seat fit (outcome.Packets limit) ran so = (fit, so.0, omega (arith, so.0, ran.some), omega (arith, so.0, ran.most))
@@ -192,7 +193,7 @@ module _ (tells : Bool) (words : List (List ℕ)) (old_in mid_in : Reading) (ope
   says old new_in new seat fit (outcome.Readings fault) ran so = absurd so
 
   untouched : (old : Writing) (new_in : Reading) (new : Writing) (most : ℕ) (answer : Outcome)
-      → FileCause most tells (input_file words) mid_in old new_in new answer → IsUntouched words old_in new_in old new answer
+      → FileCause most tells files.input mid_in old new_in new answer → IsUntouched files old_in new_in old new answer
   untouched old new_in new most outcome.Done so = tt
   untouched old new_in new most (outcome.Capture name at fault) so = tt
   untouched old new_in new most (outcome.Packets limit) so = tt
@@ -209,19 +210,19 @@ module _ (tells : Bool) (words : List (List ℕ)) (old_in mid_in : Reading) (ope
   untouched old new_in new most (outcome.Readings fault) so = absurd so
 
   module _ (old : Writing) (new_in : Reading) (new : Writing) (domain : Domain) (samples : List (List Sample))
-      (setting : IsTrue tells → IsSetting old (domain_file words) (readings_file words) domain samples) (answer : Outcome)
-      (at : RanAt tells words mid_in new_in old new domain samples answer) where
-    ready : IsTrue tells → IsReady words old at.seat
+      (setting : IsTrue tells → IsSetting old files.domain files.readings domain samples) (answer : Outcome)
+      (at : RanAt tells files mid_in new_in old new domain samples answer) where
+    ready : IsTrue tells → IsReady files old at.seat
     ready told = record {
-      setting = let P : Domain → Type 0 = λ d. IsSetting old (domain_file words) (readings_file words) d at.seat.samples in
-          let Q : List (List Sample) → Type 0 = λ s. IsSetting old (domain_file words) (readings_file words) domain s in
+      setting = let P : Domain → Type 0 = λ d. IsSetting old files.domain files.readings d at.seat.samples in
+          let Q : List (List Sample) → Type 0 = λ s. IsSetting old files.domain files.readings domain s in
           subst P (sym at.same_domain) (subst Q (sym at.same_samples) (setting told));
       at = at.at;
       apart = at.ran.apart;
     }
 
-    cause_for : (other : Outcome) → answer ≡ other → FileCause at.seat.domain.packets tells (input_file words) mid_in old new_in new other
-    cause_for other is = let P : Outcome → Type 0 = λ a. FileCause at.seat.domain.packets tells (input_file words) mid_in old new_in new a in
+    cause_for : (other : Outcome) → answer ≡ other → FileCause at.seat.domain.packets tells files.input mid_in old new_in new other
+    cause_for other is = let P : Outcome → Type 0 = λ a. FileCause at.seat.domain.packets tells files.input mid_in old new_in new a in
         subst P is at.ran.gathered.cause
 
     kept_ended : (k : ℕ) → k < mid_in.side.slots → IsTrue (mid_in.ended k) → IsTrue (new_in.ended k)
@@ -236,7 +237,7 @@ module _ (tells : Bool) (words : List (List ℕ)) (old_in mid_in : Reading) (ope
           subst P two_slots (at.ran.gathered.drained done told),
         )
 
-    ran_owes : Owes tells words old_in new_in old new answer
+    ran_owes : Owes tells files old_in new_in old new answer
     ran_owes = record {
       read_fault = λ is. omega (arith, cause_for outcome.ReadFault is, same_faults);
       write_fault = λ is. cause_for outcome.WriteFault is;
@@ -245,11 +246,11 @@ module _ (tells : Bool) (words : List (List ℕ)) (old_in mid_in : Reading) (ope
       cause = λ told. cause old new_in new at.seat ready answer at.ran.gathered.cause told;
       leaves = λ told. leaves old new_in new at.seat ready answer at.ran.gathered.cause told (at.ran.gathered.leaves told);
       asks = record {
-        front_in = asks_third old_in.side.asked mid_in.side.asked new_in.side.asked (domain_file words) (readings_file words) (input_file words)
+        front_in = asks_third old_in.side.asked mid_in.side.asked new_in.side.asked files.domain files.readings files.input
             both_asked at.ran.gathered.asked_in;
         front_out = at.ran.gathered.asked_out;
-        all_in = λ all. at.ran.gathered.all_in all ∙ ap (λ (names : List (List ℕ)). names ++ input_file words ∷ []) both_asked
-            ∙ append_assoc old_in.side.asked (domain_file words ∷ readings_file words ∷ []) (input_file words ∷ []);
+        all_in = λ all. at.ran.gathered.all_in all ∙ ap (λ (names : List (List ℕ)). names ++ files.input ∷ []) both_asked
+            ∙ append_assoc old_in.side.asked (files.domain ∷ files.readings ∷ []) (files.input ∷ []);
         all_out = at.ran.gathered.all_out;
         untouched = untouched old new_in new at.seat.domain.packets answer at.ran.gathered.cause;
         domain_first = λ fault is. absurd (cause_for (outcome.Domain fault) is);
@@ -269,10 +270,10 @@ module _ (tells : Bool) (words : List (List ℕ)) (old_in mid_in : Reading) (ope
     }
 
   pub ends_owes : (old mid new : Writing) (new_in : Reading) (domain : Domain) (samples : List (List Sample)) → mid ≡ old
-      → (IsTrue tells → IsSetting old (domain_file words) (readings_file words) domain samples) → (answer : Outcome)
-      → Ends tells words mid_in new_in mid new domain samples answer → Owes tells words old_in new_in old new answer
+      → (IsTrue tells → IsSetting old files.domain files.readings domain samples) → (answer : Outcome)
+      → Ends tells files mid_in new_in mid new domain samples answer → Owes tells files old_in new_in old new answer
   ends_owes old mid new new_in domain samples same setting answer ends =
-      let P : Writing → Type 0 = λ w. Ends tells words mid_in new_in w new domain samples answer in
+      let P : Writing → Type 0 = λ w. Ends tells files mid_in new_in w new domain samples answer in
       elim (subst P same ends) [
         | inl stays ↦ stays_owes old domain samples setting new_in new answer stays
         | inr at ↦ ran_owes old new_in new domain samples setting answer at

@@ -12,7 +12,7 @@ use Rattle.ioam_run_files.specs.Setting.{Refuses}
 use Rattle.ioam_run_files.specs.declared.setting.Refusal.{Refusal}
 use Rattle.ioam_run_files.specs.declared.setting.Refusal.TheVariants as refusal
 use Rattle.ioam_run_files.specs.Answer.{refused_as}
-use Rattle.ioam_run_node.specs.Run.{HasCause, HaveDiffered, IsUntouched, Leaves, Owes, domain_file, readings_file, input_file}
+use Rattle.ioam_run_node.specs.Promise.{NodeNames, HasCause, HaveDiffered, IsUntouched, Leaves, Owes}
 
 take_none : (n : ℕ) → take {A = List ℕ} n [] ≡ []
 take_none zero = refl
@@ -24,31 +24,31 @@ asks_wider old new a b c (zero, asked) = (0, asked)
 asks_wider old new a b c (suc zero, asked) = (1, asked)
 asks_wider old new a b c (suc (suc n), asked) = (2, asked ∙ ap (λ (rest : List (List ℕ)). old ++ a ∷ b ∷ rest) (take_none n))
 
-module _ (tells : Bool) (words : List (List ℕ)) (old_in new_in : Reading) (old : Writing) where
+module _ (tells : Bool) (files : NodeNames) (old_in new_in : Reading) (old : Writing) where
   abbrev Refused : Refusal → Type 0
-  Refused why = Refuses old (domain_file words) (readings_file words) tells old_in new_in why
+  Refused why = Refuses old files.domain files.readings tells old_in new_in why
 
-  cause : (why : Refusal) → Refused why → IsTrue tells → HasCause words old_in new_in old old (refused_as why)
+  cause : (why : Refusal) → Refused why → IsTrue tells → HasCause files old_in new_in old old (refused_as why)
   cause (refusal.Domain fault) refuses told = refuses told
   cause (refusal.Readings fault) refuses told = refuses told
   cause refusal.ReadFault refuses told = refuses
   cause refusal.NoMemory refuses told = tt
 
-  leaves : (why : Refusal) → AsksFront old_in.side.asked new_in.side.asked (domain_file words ∷ readings_file words ∷ [])
-      → Leaves words old_in new_in old old (refused_as why)
+  leaves : (why : Refusal) → AsksFront old_in.side.asked new_in.side.asked (files.domain ∷ files.readings ∷ [])
+      → Leaves files old_in new_in old old (refused_as why)
   leaves (refusal.Domain fault) asked = refl
   leaves (refusal.Readings fault) asked = refl
   leaves refusal.ReadFault asked = inl (inl asked, refl)
   leaves refusal.NoMemory asked = inl refl
 
-  untouched : (why : Refusal) → AsksFront old_in.side.asked new_in.side.asked (domain_file words ∷ readings_file words ∷ [])
-      → IsUntouched words old_in new_in old old (refused_as why)
+  untouched : (why : Refusal) → AsksFront old_in.side.asked new_in.side.asked (files.domain ∷ files.readings ∷ [])
+      → IsUntouched files old_in new_in old old (refused_as why)
   untouched (refusal.Domain fault) asked = (asked, refl)
   untouched (refusal.Readings fault) asked = (asked, refl)
   untouched refusal.ReadFault asked = tt
   untouched refusal.NoMemory asked = tt
 
-  differed : (why : Refusal) → HaveDiffered words (refused_as why)
+  differed : (why : Refusal) → HaveDiffered files (refused_as why)
   differed (refusal.Domain fault) = tt
   differed (refusal.Readings fault) = tt
   differed refusal.ReadFault = tt
@@ -91,10 +91,10 @@ module _ (tells : Bool) (words : List (List ℕ)) (old_in new_in : Reading) (old
   all refusal.NoMemory so = so
 
   module _ (why : Refusal) (refuses : Refused why)
-      (asked : AsksFront old_in.side.asked new_in.side.asked (domain_file words ∷ readings_file words ∷ []))
-      (first : (fault : DomainFault) → why ≡ refusal.Domain fault → AsksFront old_in.side.asked new_in.side.asked (domain_file words ∷ []))
+      (asked : AsksFront old_in.side.asked new_in.side.asked (files.domain ∷ files.readings ∷ []))
+      (first : (fault : DomainFault) → why ≡ refusal.Domain fault → AsksFront old_in.side.asked new_in.side.asked (files.domain ∷ []))
       (kept : KeepsInputs old_in new_in) where
-    owes : Owes tells words old_in new_in old old (refused_as why)
+    owes : Owes tells files old_in new_in old old (refused_as why)
     owes = record {
       read_fault = read why refuses;
       write_fault = λ is. absurd (write why is);
@@ -103,7 +103,7 @@ module _ (tells : Bool) (words : List (List ℕ)) (old_in new_in : Reading) (old
       cause = cause why refuses;
       leaves = λ told. leaves why asked;
       asks = record {
-        front_in = asks_wider old_in.side.asked new_in.side.asked (domain_file words) (readings_file words) (input_file words) asked;
+        front_in = asks_wider old_in.side.asked new_in.side.asked files.domain files.readings files.input asked;
         front_out = (0, sym (append-nil old.side.asked));
         all_in = λ so. absurd (all why so);
         all_out = λ so. absurd (all why so);
@@ -117,8 +117,8 @@ module _ (tells : Bool) (words : List (List ℕ)) (old_in new_in : Reading) (old
       kept_out = λ told. KeepsOutputs-same old old refl;
     }
 
-    pub refused_owes : (new : Writing) (answer : Outcome) → new ≡ old → answer ≡ refused_as why → Owes tells words old_in new_in old new answer
+    pub refused_owes : (new : Writing) (answer : Outcome) → new ≡ old → answer ≡ refused_as why → Owes tells files old_in new_in old new answer
     refused_owes new answer same is =
-        let P : Writing → Type 0 = λ w. Owes tells words old_in new_in old w answer in
-        let Q : Outcome → Type 0 = λ a. Owes tells words old_in new_in old old a in
+        let P : Writing → Type 0 = λ w. Owes tells files old_in new_in old w answer in
+        let Q : Outcome → Type 0 = λ a. Owes tells files old_in new_in old old a in
         subst P (sym same) (subst Q (sym is) owes)

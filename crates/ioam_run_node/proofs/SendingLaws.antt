@@ -93,7 +93,7 @@ whole_changed now items len long =
     let P : ℕ → Type 0 = λ n. take n (now ++ drop (length now) items) ≡ now in
     subst P long (take_front now (drop (length now) items))
 
--- what was added, in the words of the definition
+-- what was added, in the files of the definition
 pub adds_for : (seat : Seat) (old new : List Output) (number time : ℕ) (sent : Way) (packet p : List ℕ) (name : List ℕ) (notes : List NodeNote) (exports : List ℕ)
     → p ≡ passed_on seat time sent packet → name ≡ way_name seat.domain sent → notes ≡ noted seat time sent packet → exports ≡ exported seat time sent packet
     → Adds old new (record_octets time p ∷ out_lines number name notes ∷ exports ∷ []) → Adds old new (added_of seat number (Goes time sent packet))

@@ -8,11 +8,11 @@ use Rattle.ioam_desk.specs.Asked.{AsksFront}
 use Rattle.ioam_desk.specs.Desk.{Reading, Writing}
 use Rattle.ioam_desk.specs.Kept.{KeepsInputs, KeepsOutputs}
 use Rattle.ioam_desk_outputs.specs.Names.{name_at, AreApart, IsFirstRepeat}
-use Rattle.ioam_run_stream.specs.Run.{FileCause}
-use Rattle.ioam_run_stream.specs.Run as capture
+use Rattle.ioam_run_stream.specs.Streams.{FileCause}
+use Rattle.ioam_run_stream.specs.Promise as capture
 use Rattle.ioam_topo.specs.declared.domain.Domain.{Domain}
 use Rattle.ioam_run_node.specs.NodeText.{NodeTexts}
-use Rattle.ioam_run_node.specs.Run.{IsAt, IsUnfit, input_file, node_files, output_files}
+use Rattle.ioam_run_node.specs.Promise.{NodeNames, IsAt, IsUnfit, node_files, output_files}
 use Rattle.ioam_run_node.specs.Seat.{Seat}
 
 -- so many packets of this capture, at most, were gathered for these outputs
@@ -29,7 +29,7 @@ module _ (tells : Bool) (old_in new_in : Reading) (old new : Writing) (seat : Se
     pub kept_in : KeepsInputs old_in new_in
     pub kept_out : IsTrue tells → KeepsOutputs old new
 
-module _ (tells : Bool) (words : List (List ℕ)) (old_in new_in : Reading) (old new : Writing) where
+module _ (tells : Bool) (files : NodeNames) (old_in new_in : Reading) (old new : Writing) where
   -- nothing was opened: a name is refused, or no memory could be had
   pub record Stays (IsRefused : List ℕ → Type 0) (answer : Outcome) : Type 0 where
     pub why : (answer ≡ outcome.NoMemory) ⊎ ((name : List ℕ) × (answer ≡ outcome.Names name) × IsRefused name)
@@ -38,27 +38,27 @@ module _ (tells : Bool) (words : List (List ℕ)) (old_in new_in : Reading) (old
 
   -- IN was gathered, and no two files have one name
   pub record Ran (seat : Seat) (answer : Outcome) : Type 0 where
-    pub apart : AreApart (node_files words)
+    pub apart : AreApart (node_files files)
     pub some : 1 ≤ seat.domain.packets
     pub most : seat.domain.packets ≤ 16777216
-    pub gathered : Gathered tells old_in new_in old new seat answer seat.domain.packets (input_file words) (output_files words)
+    pub gathered : Gathered tells old_in new_in old new seat answer seat.domain.packets files.input (output_files files)
 
   -- the name of a file that equals an earlier one
   abbrev pub IsTwice : List ℕ → Type 0
-  IsTwice name = (at : ℕ) × IsFirstRepeat (node_files words) at × (name ≡ name_at (node_files words) at)
+  IsTwice name = (at : ℕ) × IsFirstRepeat (node_files files) at × (name ≡ name_at (node_files files) at)
 
   -- of a node
   abbrev pub EndsAt : Seat → Outcome → Type 0
   EndsAt seat answer = Stays IsTwice answer ⊎ Ran seat answer
 
-  -- this is a node of the domain, which the words name, and IN was gathered there
+  -- this is a node of the domain, which the files name, and IN was gathered there
   pub record RanAt (domain : Domain) (samples : List (List Sample)) (answer : Outcome) : Type 0 where
     pub seat : Seat
     pub same_domain : seat.domain ≡ domain
     pub same_samples : seat.samples ≡ samples
-    pub at : IsAt words seat.domain seat.node seat.inward
+    pub at : IsAt files seat.domain seat.node seat.inward
     pub ran : Ran seat answer
 
   -- in a domain
   abbrev pub Ends : Domain → List (List Sample) → Outcome → Type 0
-  Ends domain samples answer = Stays (IsUnfit words domain) answer ⊎ RanAt domain samples answer
+  Ends domain samples answer = Stays (IsUnfit files domain) answer ⊎ RanAt domain samples answer

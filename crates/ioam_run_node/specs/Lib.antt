@@ -4,5 +4,5 @@ pub mod Judged
 pub mod NotesText
 pub mod NodeText
 pub mod Passing
-pub mod Run
+pub mod Promise
 pub mod Ends

@@ -5,12 +5,13 @@
 #![tactic(auto)]
 
 mod judging;
+mod names;
 mod node_run;
 mod notes;
 mod passing;
 mod post;
 mod sending;
-mod words;
 
+pub use names::NodeFiles;
 pub use node_run::run_node;
 pub use notes::put_notes;

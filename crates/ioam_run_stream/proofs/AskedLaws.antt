@@ -1,12 +1,13 @@
 -- At most one answer is asked for.
-use Rattle.std.proofs.Common.{◌≡◌, ℕ, ◌⊎◌, Bool, IsTrue, IsSomeAnd, List, length, Option, Some, None, refl, sym, ◌∙◌, ap, inl, inr, arith}
-use Rattle.ioam_desk.specs.Desk.{Reading, Writing, Rose, holds}
+use Rattle.std.proofs.Common.{◌≡◌, ℕ, ◌⊎◌, IsTrue, IsSomeAnd, List, length, Option, Some, None, refl, sym, ◌∙◌, ap, inl, inr, arith}
+use Rattle.ioam_desk.specs.Desk.{Rose, holds}
 use Rattle.ioam_capture.proofs.ReadsLaws.{Reads-unique}
 use Rattle.ioam_pcap.specs.Ending.{Ending, Whole, Faulty}
 use Rattle.ioam_pcap.specs.Entries.{Taken, most}
 use Rattle.ioam_desk_outputs.proofs.NamesLaws.{first_unique}
 use Rattle.ioam_desk_outputs.specs.Names.{AreApart, IsFirstRepeat, name_at}
-use Rattle.ioam_run_stream.specs.Run.{most_packets, HasCause, Asked, IsInput, IsLong}
+use Rattle.ioam_run_stream.specs.Promise.{CaptureNames, all_names, most_packets, HasCause, Asked, IsInput, IsLong}
+use Rattle.ioam_run_answer.specs.Desks.{Desks}
 use Rattle.ioam_run_answer.specs.declared.outcome.Outcome.{Outcome}
 use Rattle.ioam_run_answer.specs.declared.outcome.Outcome.TheVariants as outcome
 
@@ -37,8 +38,14 @@ module _ (most : ℕ) where
 pub whole_or_faulty : (at : ℕ) (fault : _) → Whole ≡ Faulty at fault → ⊥
 whole_or_faulty at fault same = cc
 
-module _ (tells : Bool) (desk : Writing) (names : List (List ℕ)) (input : List ℕ) (told : IsTrue tells) where
-  pub Asked-unique : (a b : Outcome) → Asked tells desk names input a → Asked tells desk names input b → a ≡ b
+module _ (desks : Desks) (files : CaptureNames) (told : IsTrue desks.tells) where
+  abbrev names : List (List ℕ)
+  names = all_names files
+
+  abbrev content : Option (List ℕ)
+  content = holds desks.old files.input
+
+  pub Asked-unique : (a b : Outcome) → Asked desks files a → Asked desks files b → a ≡ b
   Asked-unique outcome.Usage b x y = absurd x
   Asked-unique (outcome.Domain why) b x y = absurd x
   Asked-unique (outcome.Readings why) b x y = absurd x
@@ -51,12 +58,12 @@ module _ (tells : Bool) (desk : Writing) (names : List (List ℕ)) (input : List
   Asked-unique (outcome.Records most) b x y = absurd x
   Asked-unique outcome.Done outcome.Done x y = refl
   Asked-unique outcome.Done (outcome.Names name) x y = absurd (not_apart names y.0 y.1 x.0)
-  Asked-unique outcome.Done (outcome.Packets limit) x y = absurd (too_long most_packets (holds desk input) Whole (y.2 told) (x.1 told))
+  Asked-unique outcome.Done (outcome.Packets limit) x y = absurd (too_long most_packets content Whole (y.2 told) (x.1 told))
   Asked-unique outcome.Done (outcome.Exports spot cut) x y = absurd y
   Asked-unique outcome.Done (outcome.Ipfix spot cut) x y = absurd y
   Asked-unique outcome.Done (outcome.Part which spot cut) x y = absurd y
   Asked-unique outcome.Done (outcome.Records most) x y = absurd y
-  Asked-unique outcome.Done (outcome.Capture name at fault) x y = absurd (whole_or_faulty at fault (held_ending most_packets (holds desk input) Whole (Faulty at fault) (x.1 told) (y.2 told)))
+  Asked-unique outcome.Done (outcome.Capture name at fault) x y = absurd (whole_or_faulty at fault (held_ending most_packets content Whole (Faulty at fault) (x.1 told) (y.2 told)))
   Asked-unique outcome.Done outcome.Usage x y = absurd y
   Asked-unique outcome.Done (outcome.Domain why) x y = absurd y
   Asked-unique outcome.Done (outcome.Readings why) x y = absurd y
@@ -79,29 +86,29 @@ module _ (tells : Bool) (desk : Writing) (names : List (List ℕ)) (input : List
   Asked-unique (outcome.Names name) outcome.ReadFault x y = absurd y
   Asked-unique (outcome.Names name) outcome.WriteFault x y = absurd y
   Asked-unique (outcome.Names name) outcome.NoMemory x y = absurd y
-  Asked-unique (outcome.Packets limit) outcome.Done x y = absurd (too_long most_packets (holds desk input) Whole (x.2 told) (y.1 told))
+  Asked-unique (outcome.Packets limit) outcome.Done x y = absurd (too_long most_packets content Whole (x.2 told) (y.1 told))
   Asked-unique (outcome.Packets limit) (outcome.Names name) x y = absurd (not_apart names y.0 y.1 x.0)
   Asked-unique (outcome.Packets limit) (outcome.Packets other) x y = ap outcome.Packets (x.1 ∙ sym y.1)
   Asked-unique (outcome.Packets limit) (outcome.Exports spot cut) x y = absurd y
   Asked-unique (outcome.Packets limit) (outcome.Ipfix spot cut) x y = absurd y
   Asked-unique (outcome.Packets limit) (outcome.Part which spot cut) x y = absurd y
   Asked-unique (outcome.Packets limit) (outcome.Records most) x y = absurd y
-  Asked-unique (outcome.Packets limit) (outcome.Capture name at fault) x y = absurd (too_long most_packets (holds desk input) (Faulty at fault) (x.2 told) (y.2 told))
+  Asked-unique (outcome.Packets limit) (outcome.Capture name at fault) x y = absurd (too_long most_packets content (Faulty at fault) (x.2 told) (y.2 told))
   Asked-unique (outcome.Packets limit) outcome.Usage x y = absurd y
   Asked-unique (outcome.Packets limit) (outcome.Domain why) x y = absurd y
   Asked-unique (outcome.Packets limit) (outcome.Readings why) x y = absurd y
   Asked-unique (outcome.Packets limit) outcome.ReadFault x y = absurd y
   Asked-unique (outcome.Packets limit) outcome.WriteFault x y = absurd y
   Asked-unique (outcome.Packets limit) outcome.NoMemory x y = absurd y
-  Asked-unique (outcome.Capture name at fault) outcome.Done x y = absurd (whole_or_faulty at fault (held_ending most_packets (holds desk input) Whole (Faulty at fault) (y.1 told) (x.2 told)))
+  Asked-unique (outcome.Capture name at fault) outcome.Done x y = absurd (whole_or_faulty at fault (held_ending most_packets content Whole (Faulty at fault) (y.1 told) (x.2 told)))
   Asked-unique (outcome.Capture name at fault) (outcome.Names other) x y = absurd (not_apart names y.0 y.1 x.0)
-  Asked-unique (outcome.Capture name at fault) (outcome.Packets limit) x y = absurd (too_long most_packets (holds desk input) (Faulty at fault) (y.2 told) (x.2 told))
+  Asked-unique (outcome.Capture name at fault) (outcome.Packets limit) x y = absurd (too_long most_packets content (Faulty at fault) (y.2 told) (x.2 told))
   Asked-unique (outcome.Capture name at fault) (outcome.Exports spot cut) x y = absurd y
   Asked-unique (outcome.Capture name at fault) (outcome.Ipfix spot cut) x y = absurd y
   Asked-unique (outcome.Capture name at fault) (outcome.Part which spot cut) x y = absurd y
   Asked-unique (outcome.Capture name at fault) (outcome.Records most) x y = absurd y
   Asked-unique (outcome.Capture name at fault) (outcome.Capture other place cause) x y =
-      let same : Faulty at fault ≡ Faulty place cause = held_ending most_packets (holds desk input) (Faulty at fault) (Faulty place cause) (x.2 told) (y.2 told) in
+      let same : Faulty at fault ≡ Faulty place cause = held_ending most_packets content (Faulty at fault) (Faulty place cause) (x.2 told) (y.2 told) in
       let named : name ≡ other = x.1 ∙ sym y.1 in
       cc
   Asked-unique (outcome.Capture name at fault) outcome.Usage x y = absurd y
@@ -112,21 +119,20 @@ module _ (tells : Bool) (desk : Writing) (names : List (List ℕ)) (input : List
   Asked-unique (outcome.Capture name at fault) outcome.NoMemory x y = absurd y
 
   -- what is asked for is answered, unless a call failed or no memory could be had
-  pub HasCause-asked : (old_in new_in : Reading) (new_out : Writing) (answer asked : Outcome)
-      → HasCause tells names input old_in desk new_in new_out answer → Asked tells desk names input asked
-      → (Rose old_in.side.faults new_in.side.faults → ⊥) → (Rose desk.side.faults new_out.side.faults → ⊥)
+  pub HasCause-asked : (answer asked : Outcome) → HasCause desks files answer → Asked desks files asked
+      → (Rose desks.old_in.side.faults desks.new_in.side.faults → ⊥) → (Rose desks.old.side.faults desks.new.side.faults → ⊥)
       → (answer ≡ asked) ⊎ (answer ≡ outcome.NoMemory)
-  HasCause-asked old_in new_in new_out outcome.Done asked cause asks reads writes = inl (Asked-unique outcome.Done asked cause asks)
-  HasCause-asked old_in new_in new_out outcome.Usage asked cause asks reads writes = absurd cause
-  HasCause-asked old_in new_in new_out (outcome.Domain why) asked cause asks reads writes = absurd cause
-  HasCause-asked old_in new_in new_out (outcome.Readings why) asked cause asks reads writes = absurd cause
-  HasCause-asked old_in new_in new_out (outcome.Names name) asked cause asks reads writes = inl (Asked-unique (outcome.Names name) asked cause asks)
-  HasCause-asked old_in new_in new_out (outcome.Capture name at fault) asked cause asks reads writes = inl (Asked-unique (outcome.Capture name at fault) asked cause asks)
-  HasCause-asked old_in new_in new_out (outcome.Packets limit) asked cause asks reads writes = inl (Asked-unique (outcome.Packets limit) asked cause asks)
-  HasCause-asked old_in new_in new_out (outcome.Exports place fault) asked cause asks reads writes = absurd cause
-  HasCause-asked old_in new_in new_out (outcome.Ipfix place fault) asked cause asks reads writes = absurd cause
-  HasCause-asked old_in new_in new_out (outcome.Part which place fault) asked cause asks reads writes = absurd cause
-  HasCause-asked old_in new_in new_out (outcome.Records limit) asked cause asks reads writes = absurd cause
-  HasCause-asked old_in new_in new_out outcome.ReadFault asked cause asks reads writes = absurd (reads cause)
-  HasCause-asked old_in new_in new_out outcome.WriteFault asked cause asks reads writes = absurd (writes cause)
-  HasCause-asked old_in new_in new_out outcome.NoMemory asked cause asks reads writes = inr refl
+  HasCause-asked outcome.Done asked cause asks reads writes = inl (Asked-unique outcome.Done asked cause asks)
+  HasCause-asked outcome.Usage asked cause asks reads writes = absurd cause
+  HasCause-asked (outcome.Domain why) asked cause asks reads writes = absurd cause
+  HasCause-asked (outcome.Readings why) asked cause asks reads writes = absurd cause
+  HasCause-asked (outcome.Names name) asked cause asks reads writes = inl (Asked-unique (outcome.Names name) asked cause asks)
+  HasCause-asked (outcome.Capture name at fault) asked cause asks reads writes = inl (Asked-unique (outcome.Capture name at fault) asked cause asks)
+  HasCause-asked (outcome.Packets limit) asked cause asks reads writes = inl (Asked-unique (outcome.Packets limit) asked cause asks)
+  HasCause-asked (outcome.Exports place fault) asked cause asks reads writes = absurd cause
+  HasCause-asked (outcome.Ipfix place fault) asked cause asks reads writes = absurd cause
+  HasCause-asked (outcome.Part which place fault) asked cause asks reads writes = absurd cause
+  HasCause-asked (outcome.Records limit) asked cause asks reads writes = absurd cause
+  HasCause-asked outcome.ReadFault asked cause asks reads writes = absurd (reads cause)
+  HasCause-asked outcome.WriteFault asked cause asks reads writes = absurd (writes cause)
+  HasCause-asked outcome.NoMemory asked cause asks reads writes = inr refl

@@ -11,7 +11,7 @@ use Rattle.ioam_desk_outputs.specs.declared.output.Output.{Output}
 use Rattle.ioam_desk_outputs.proofs.HeldLaws.{AreTold-fronts, more_fronts}
 use Rattle.ioam_desk_outputs.proofs.ToldLaws.{AreTold-adds, said_first, told_names}
 use Rattle.ioam_pcap.specs.Entries.{Taken}
-use Rattle.ioam_run_stream.specs.Run.{AreFirst, HoldsFronts}
+use Rattle.ioam_run_stream.specs.Promise.{AreFirst, HoldsFronts}
 use Rattle.ioam_run_stream.specs.Streams.{Start, Streams, Fronts, Sticks}
 use Rattle.ioam_run_stream.proofs.HaltsLaws.{held_so}
 

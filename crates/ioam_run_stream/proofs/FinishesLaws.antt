@@ -9,7 +9,8 @@ use Rattle.ioam_desk_outputs.proofs.HeldLaws.{HoldAllFronts-holds}
 use Rattle.ioam_desk_outputs.proofs.ToldLaws.{AreTold-open}
 use Rattle.ioam_pcap.specs.Ending.{Whole, Faulty}
 use Rattle.ioam_pcap.specs.Entries.{Taken}
-use Rattle.ioam_run_stream.specs.Run.{HoldsAll, HoldsFronts, EndsSo, ArePassed, AreWhole, IsInput, IsLong, FileCause, Leaves}
+use Rattle.ioam_run_stream.specs.Promise.{HoldsAll, HoldsFronts, EndsSo, ArePassed, AreWhole, IsInput, IsLong, Leaves}
+use Rattle.ioam_run_stream.specs.Streams.{FileCause}
 use Rattle.ioam_run_stream.specs.Streams.{Start, Halts, Fronts, Sticks, Stops, Finishes, IsBroken}
 use Rattle.ioam_run_answer.specs.Outcomes.{IsDone}
 use Rattle.ioam_run_answer.specs.declared.outcome.Outcome.{Outcome}

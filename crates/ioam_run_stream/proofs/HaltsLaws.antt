@@ -14,7 +14,7 @@ use Rattle.ioam_desk_outputs.proofs.ToldLaws.{told_names}
 use Rattle.ioam_pcap.specs.Ending.{Ending, Faulty}
 use Rattle.ioam_pcap.specs.Entries.{Taken}
 use Rattle.ioam_pcap.specs.declared.capture.CapFault.{CapFault}
-use Rattle.ioam_run_stream.specs.Run.{EndsSo, ArePassed, AreWhole}
+use Rattle.ioam_run_stream.specs.Promise.{EndsSo, ArePassed, AreWhole}
 use Rattle.ioam_run_stream.specs.Streams.{Start, Streams, Steps, Halts, IsWaiting, Pauses, Fronts, Sticks}
 use Rattle.ioam_run_stream.specs.declared.step.Pause.{Pause}
 use Rattle.ioam_run_stream.specs.declared.step.Pause.TheVariants as pause

@@ -8,7 +8,7 @@ use Rattle.ioam_capture.proofs.ReadsLaws.{Reads-total}
 use Rattle.ioam_capture.proofs.StandsLaws.{Stands-begins, Shows-front}
 use Rattle.ioam_pcap.specs.Ending.{Ending}
 use Rattle.ioam_pcap.specs.Entries.{Taken}
-use Rattle.ioam_run_stream.specs.Run.{AreFirst}
+use Rattle.ioam_run_stream.specs.Promise.{AreFirst}
 
 first_of : (octets : List ℕ) (taken : List Taken)
     → ((all : List Taken) (ending : Ending) → Reads octets all ending → (rest : List Taken) × (all ≡ taken ++ rest)) → AreFirst taken octets

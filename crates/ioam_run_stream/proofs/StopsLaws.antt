@@ -14,8 +14,8 @@ use Rattle.ioam_desk_outputs.proofs.ToldLaws.{told_names}
 use Rattle.ioam_pcap.specs.Ending.{Ending, Whole, Faulty}
 use Rattle.ioam_pcap.specs.Entries.{Taken}
 use Rattle.ioam_pcap.specs.declared.capture.CapFault.{CapFault}
-use Rattle.ioam_run_stream.specs.Run.{most_packets, EndsSo, AreFirst, ArePassed, AreWhole, outcome_of}
-use Rattle.ioam_run_stream.specs.Streams.{Start, Streams, Halts, Fronts, Sticks, Stops}
+use Rattle.ioam_run_stream.specs.Promise.{most_packets, EndsSo, AreFirst, ArePassed, AreWhole}
+use Rattle.ioam_run_stream.specs.Streams.{outcome_of, Start, Streams, Halts, Fronts, Sticks, Stops}
 use Rattle.ioam_run_answer.specs.declared.outcome.Outcome.{Outcome}
 use Rattle.ioam_run_answer.specs.declared.outcome.Outcome.TheVariants as outcome
 use Rattle.ioam_run_stream.proofs.HaltsLaws.{held_map}

@@ -1,3 +1,3 @@
 pub mod Frame
-pub mod Run
+pub mod Promise
 pub mod Streams

@@ -5,14 +5,14 @@ use Rattle.ioam_capture.specs.Reading.{Reading, pending, most_held, HoldsFew}
 use Rattle.ioam_capture.specs.Reads.{Reads}
 use Rattle.ioam_capture.specs.Streams.{ShowsSo}
 use Rattle.ioam_desk.specs.Desk as desk
-use Rattle.ioam_desk.specs.Desk.{Side, Writing, Rose, SameBut}
+use Rattle.ioam_desk.specs.Desk.{Side, Writing, Rose, SameBut, holds}
 use Rattle.ioam_capture_merge.specs.Feed.{Fed}
 use Rattle.ioam_desk_outputs.specs.Held.{HoldAllFronts}
 use Rattle.ioam_desk_outputs.specs.Told.{AreTold}
 use Rattle.ioam_desk_outputs.specs.declared.output.Output.{Output}
-use Rattle.ioam_pcap.specs.Ending.{Whole, Faulty}
+use Rattle.ioam_pcap.specs.Ending.{Ending, Whole, Faulty}
 use Rattle.ioam_pcap.specs.Entries.{Taken}
-use Rattle.ioam_run_stream.specs.Run.{HoldsAll, EndsSo, AreFirst, ArePassed, AreWhole}
+use Rattle.ioam_run_stream.specs.Promise.{HoldsAll, EndsSo, AreFirst, ArePassed, AreWhole, IsInput, IsLong}
 use Rattle.ioam_run_stream.specs.declared.step.Pause.{Pause}
 use Rattle.ioam_run_stream.specs.declared.step.Pause.TheVariants as pause
 use Rattle.ioam_run_stream.specs.declared.stream.Stream.{Stream}
@@ -149,3 +149,19 @@ abbrev pub IsBroken : Outcome → Type 0
 IsBroken outcome.WriteFault = ⊤
 IsBroken outcome.NoMemory = ⊤
 IsBroken _ = ⊥
+
+-- the causes of the answers where the names are known to differ, with this limit
+module _ (most : ℕ) (tells : Bool) (input : List ℕ) (old_in : desk.Reading) (old_out : Writing) (new_in : desk.Reading) (new_out : Writing) where
+  abbrev pub FileCause : Outcome → Type 0
+  FileCause outcome.ReadFault = Rose old_in.side.faults new_in.side.faults
+  FileCause outcome.WriteFault = Rose old_out.side.faults new_out.side.faults
+  FileCause outcome.NoMemory = ⊤
+  FileCause outcome.Done = IsTrue tells → IsSomeAnd (holds old_out input) (IsInput most Whole)
+  FileCause (outcome.Packets limit) = (limit ≡ most) × (IsTrue tells → IsSomeAnd (holds old_out input) (IsLong most))
+  FileCause (outcome.Capture name at fault) = (name ≡ input) × (IsTrue tells → IsSomeAnd (holds old_out input) (IsInput most (Faulty at fault)))
+  FileCause _ = ⊥
+
+-- the answer behind a capture that ends so
+abbrev pub outcome_of : List ℕ → Ending → Outcome
+outcome_of name Whole = outcome.Done
+outcome_of name (Faulty at fault) = outcome.Capture name at fault

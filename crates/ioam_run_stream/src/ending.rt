@@ -2,7 +2,7 @@
 ghost use Rattle.std.specs.Prelude.{◌≡◌, ◌⊎◌};
 ghost use Rattle.ioam_run_answer.specs.declared.outcome.Outcome.{Outcome};
 ghost use Rattle.ioam_pcap.specs.Ending.{ending_of as ending};
-ghost use Rattle.ioam_run_stream.specs.Run.{outcome_of};
+ghost use Rattle.ioam_run_stream.specs.Streams.{outcome_of};
 
 use ioam_base::name::Name;
 use ioam_pcap::CapFault;

@@ -5,12 +5,14 @@
 #![tactic(auto)]
 
 mod ending;
+mod files;
 mod frame;
 mod gather;
 mod over_capture;
 mod step;
 mod stream;
 
+pub use files::CaptureFiles;
 pub use frame::framed;
 pub use gather::Gather;
 pub use over_capture::{run_capture, run_over_capture};

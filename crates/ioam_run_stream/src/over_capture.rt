@@ -8,9 +8,11 @@ ghost use Rattle.ioam_capture_merge.specs.Feed.{Fed};
 ghost use Rattle.ioam_desk_outputs.specs.Names.{AreApart};
 ghost use Rattle.ioam_desk_outputs.specs.Told.{AreTold, GathersNothing, unsaid};
 ghost use Rattle.ioam_run_answer.specs.Outcomes.{IsDone, IsBehindAll, OpensNothing};
-ghost use Rattle.ioam_run_stream.specs.Run.{most_packets, HasCause, FileCause, Leaves, Owes, file_names, input_name, output_names};
-ghost use Rattle.ioam_run_stream.specs.Streams.{Begun, Finishes, IsBroken, ReadsOne};
+ghost use Rattle.ioam_run_answer.specs.Desks.{around};
+ghost use Rattle.ioam_run_stream.specs.Promise.{most_packets, HasCause, Keeps, Leaves, all_names};
+ghost use Rattle.ioam_run_stream.specs.Streams.{Begun, FileCause, Finishes, IsBroken, ReadsOne};
 
+use crate::files::CaptureFiles;
 use crate::gather::Gather;
 use crate::step::MOST_PACKETS;
 use crate::stream::{Stream, read_on, write_rest};
@@ -22,51 +24,58 @@ use ioam_desk_outputs::{Output, first_repeat, open_outputs};
 use ioam_run_answer::{Outcome, names_outcome};
 use std::alloc::Global;
 
-/// Runs a command whose words are its own name, the name of a capture and those of its outputs.
+/// Runs a command over the capture and the outputs that are named.
 ///
 /// Two names that are equal are refused first; then the capture is opened, and the outputs are. It is
 /// read in pieces, and what is gathered of its records is written in pieces: also before a fault of the
 /// capture, a fault of reading or the limit is answered, and at the end.
 pub fn run_over_capture<G: Gather, D: Desk>(
     alloc: Global,
-    words: &[Name],
+    files: &CaptureFiles<'_>,
     desk: &mut D,
     gathered: G,
 ) -> Outcome
-    requires words { length words.now ≡ 2 + G.width }
+    requires width { length files.now.outputs ≡ G.width }
     requires fresh { G.fresh gathered }
-    ensures owes { Owes D.tells (G.texts gathered) words.now (D.reading desk.old) (D.reading desk.new) (D.writing desk.old) (D.writing desk.new) result }
+    ensures keeps { Keeps (G.texts gathered) (around D.tells (D.reading desk.old) (D.reading desk.new) (D.writing desk.old) (D.writing desk.new)) files.now result }
 {
-    run_names::<G, D>(alloc, words, desk, gathered)
+    run_names::<G, D>(alloc, files, desk, gathered)
 }
 
 // The same, clause by clause.
 fn run_names<G: Gather, D: Desk>(
     alloc: Global,
-    words: &[Name],
+    files: &CaptureFiles<'_>,
     desk: &mut D,
     gathered: G,
 ) -> Outcome
-    requires words { length words.now ≡ 2 + G.width }
+    requires width { length files.now.outputs ≡ G.width }
     requires fresh { G.fresh gathered }
-    ensures cause { HasCause D.tells (file_names words.now) (input_name words.now) (D.reading desk.old) (D.writing desk.old)
-        (D.reading desk.new) (D.writing desk.new) result }
-    ensures leaves { IsTrue D.tells → Leaves most_packets (G.texts gathered) (output_names words.now) (input_name words.now) (D.reading desk.old) (D.reading desk.new)
+    ensures cause { HasCause (around D.tells (D.reading desk.old) (D.reading desk.new) (D.writing desk.old) (D.writing desk.new)) files.now result }
+    ensures leaves { IsTrue D.tells → Leaves most_packets (G.texts gathered) files.now.outputs files.now.input (D.reading desk.old) (D.reading desk.new)
         (D.writing desk.old) (D.writing desk.new) result }
-    ensures asked_in { AsksFront (D.reading desk.old).side.asked (D.reading desk.new).side.asked (input_name words.now ∷ []) }
-    ensures asked_out { AsksFront (D.writing desk.old).side.asked (D.writing desk.new).side.asked (output_names words.now) }
-    ensures all_in { IsBehindAll ⊥ result → (D.reading desk.new).side.asked ≡ (D.reading desk.old).side.asked ++ input_name words.now ∷ [] }
-    ensures all_out { IsBehindAll ⊥ result → (D.writing desk.new).side.asked ≡ (D.writing desk.old).side.asked ++ output_names words.now }
+    ensures asked_in { AsksFront (D.reading desk.old).side.asked (D.reading desk.new).side.asked (files.now.input ∷ []) }
+    ensures asked_out { AsksFront (D.writing desk.old).side.asked (D.writing desk.new).side.asked files.now.outputs }
+    ensures all_in { IsBehindAll ⊥ result → (D.reading desk.new).side.asked ≡ (D.reading desk.old).side.asked ++ files.now.input ∷ [] }
+    ensures all_out { IsBehindAll ⊥ result → (D.writing desk.new).side.asked ≡ (D.writing desk.old).side.asked ++ files.now.outputs }
     ensures unopened { OpensNothing result → D.reading desk.new ≡ D.reading desk.old }
-    ensures differed { (D.reading desk.new ≡ D.reading desk.old) ⊎ AreApart (file_names words.now) }
+    ensures differed { (D.reading desk.new ≡ D.reading desk.old) ⊎ AreApart (all_names files.now) }
     ensures no_output { (D.reading desk.new).side.slots ≡ (D.reading desk.old).side.slots → D.writing desk.new ≡ D.writing desk.old }
     ensures drained { IsDone result → IsTrue D.tells → IsTrue ((D.reading desk.new).ended (D.reading desk.old).side.slots) }
     ensures kept_in { KeepsInputs (D.reading desk.old) (D.reading desk.new) }
     ensures kept_out { IsTrue D.tells → KeepsOutputs (D.writing desk.old) (D.writing desk.new) }
 {
-    match first_repeat(&words[1..]) {
-        Some(at) => names_outcome(alloc, &words[1 + at]),
-        None => run_capture::<G, D>(alloc, desk, &words[1], &words[2..], gathered, MOST_PACKETS),
+    let names = files.all();
+    match first_repeat(names) {
+        Some(at) => names_outcome(alloc, &names[at]),
+        None => run_capture::<G, D>(
+            alloc,
+            desk,
+            files.input(),
+            files.outputs(),
+            gathered,
+            MOST_PACKETS,
+        ),
     }
 }
 

@@ -2,7 +2,7 @@
 ghost use Rattle.std.specs.Prelude.{◌≡◌, ◌≤◌, IfOk, Some, length};
 ghost use Rattle.ioam_capture.specs.Reading.{fed};
 ghost use Rattle.ioam_desk_outputs.specs.Told.{GathersFew};
-ghost use Rattle.ioam_run_stream.specs.Run.{most_packets};
+ghost use Rattle.ioam_run_stream.specs.Promise.{most_packets};
 ghost use Rattle.ioam_run_stream.specs.Streams.{Begun, HasStood, Steps};
 
 use crate::gather::Gather;

@@ -5,7 +5,7 @@ ghost use Rattle.ioam_desk.specs.Asked.{IsFaultOf};
 ghost use Rattle.ioam_desk.specs.Kept.{WritesFrom};
 ghost use Rattle.ioam_desk_outputs.specs.Held.{HoldAllFronts, HoldTexts};
 ghost use Rattle.ioam_desk_outputs.specs.Told.{AreTold, AreOpen, GathersFew, said_more};
-ghost use Rattle.ioam_run_stream.specs.Run.{most_packets};
+ghost use Rattle.ioam_run_stream.specs.Promise.{most_packets};
 ghost use Rattle.ioam_run_stream.specs.Streams.{Begun, IsStreaming, Pauses, ReadsOne, Sticks, Stops};
 
 use crate::ending::end_outcome;

@@ -7,10 +7,10 @@ use ioam_batch::Gate;
 use ioam_desk::Desk;
 use ioam_run_answer::Outcome;
 use ioam_run_bulk::run_bulk;
-use ioam_run_capture::{run_filter, run_paths, run_save, run_show};
-use ioam_run_collect::run_collect;
-use ioam_run_domain::run_domain;
-use ioam_run_node::run_node;
+use ioam_run_capture::{CaptureFiles, run_filter, run_paths, run_save, run_show};
+use ioam_run_collect::{CollectFiles, run_collect};
+use ioam_run_domain::{RunFiles, run_domain};
+use ioam_run_node::{NodeFiles, run_node};
 use std::alloc::Global;
 use std::thread::Threads;
 
@@ -18,42 +18,42 @@ use std::thread::Threads;
 pub fn filter_plainly<D: Desk>(alloc: Global, words: &[Name], desk: &mut D) -> Outcome
     requires { length words.now ≡ 4 }
 {
-    run_filter(alloc, words, desk)
+    run_filter(alloc, &CaptureFiles::of(words), desk)
 }
 
 /// [`run_paths`], without its clauses.
 pub fn paths_plainly<D: Desk>(alloc: Global, words: &[Name], desk: &mut D) -> Outcome
     requires { length words.now ≡ 3 }
 {
-    run_paths(alloc, words, desk)
+    run_paths(alloc, &CaptureFiles::of(words), desk)
 }
 
 /// [`run_save`], without its clauses.
 pub fn save_plainly<D: Desk>(alloc: Global, words: &[Name], desk: &mut D) -> Outcome
     requires { length words.now ≡ 3 }
 {
-    run_save(alloc, words, desk)
+    run_save(alloc, &CaptureFiles::of(words), desk)
 }
 
 /// [`run_show`], without its clauses.
 pub fn show_plainly<D: Desk>(alloc: Global, words: &[Name], desk: &mut D) -> Outcome
     requires { length words.now ≡ 3 }
 {
-    run_show(alloc, words, desk)
+    run_show(alloc, &CaptureFiles::of(words), desk)
 }
 
 /// [`run_collect`], without its clauses.
 pub fn collect_plainly<D: Desk>(alloc: Global, words: &[Name], desk: &mut D) -> Outcome
     requires { length words.now ≡ 3 }
 {
-    run_collect(alloc, words, desk)
+    run_collect(alloc, &CollectFiles::of(words), desk)
 }
 
 /// [`run_node`], without its clauses.
 pub fn node_plainly<D: Desk>(alloc: Global, words: &[Name], desk: &mut D) -> Outcome
     requires { length words.now ≡ 9 }
 {
-    run_node(alloc, words, desk)
+    run_node(alloc, &NodeFiles::of(words), desk)
 }
 
 /// [`run_domain`], without its clauses.
@@ -68,7 +68,7 @@ pub fn domain_plainly<R: Threads + Sync, D: Desk, G: Gate>(
     requires sized { length words.now ≡ 6 }
     requires staffed { (1 ≤ workers) × (workers ≤ 64) }
 {
-    run_domain(rt, alloc, workers, words, desk, gate)
+    run_domain(rt, alloc, workers, &RunFiles::of(words), desk, gate)
 }
 
 /// [`run_bulk`], without its clauses.
@@ -86,5 +86,5 @@ pub fn bulk_plainly<R: Threads + Sync, D: Desk, G: Gate>(
     requires count { (1 ≤ count) × (count ≤ 1000000) }
     requires staffed { (1 ≤ workers) × (workers ≤ 64) }
 {
-    run_bulk(rt, alloc, seed, count, workers, words, desk, gate)
+    run_bulk(rt, alloc, seed, count, workers, &words[4], desk, gate)
 }

@@ -1,39 +1,14 @@
-use Rattle.std.proofs.Common.{◌++◌, ◌∙◌, ℕ, List, length, ap, subst}
-use Rattle.ioam_desk.specs.Asked.{AsksFront}
-use Rattle.ioam_desk_outputs.specs.Names.{name_at}
-use Rattle.ioam_run_bulk.specs.Run.{HoldsFront, HoldsReport}
-use Rattle.ioam_run_bulk.proofs.WordsLaws.{reports_behind}
 use Rattle.ioam_run_bulk.proofs.bulk.run_bulk.Goals as goal
 
-pub write_sums-requires-clause-one : goal.write_sums-requires-clause-one
-write_sums-requires-clause-one g c κs within = ap length (reports_behind c.args.words.now c.requires.words)
-
-pub returns-in-Ok-clause-leaves : goal.returns-in-Ok-clause-leaves
-returns-in-Ok-clause-leaves g c = λ tells.
-    subst (λ (ns : List (List ℕ)). HoldsReport c.args.seed c.args.count (name_at ns 0) (g.D.Desk.writing c.write_sums.new.desk))
-    (reports_behind c.args.words.now c.requires.words) (c.in-Ok.ensures.held tells)
-
-pub returns-in-Err-Failed-clause-leaves : goal.returns-in-Err-Failed-clause-leaves
-returns-in-Err-Failed-clause-leaves g c = λ tells.
-    subst (λ (ns : List (List ℕ)). HoldsFront c.args.seed c.args.count (name_at ns 0) (g.D.Desk.writing c.args.desk.now) (g.D.Desk.writing c.write_sums.new.desk))
-    (reports_behind c.args.words.now c.requires.words) (c.in-Err-Failed.ensures.front tells)
-
-pub returns-in-Err-Failed-clause-cause : goal.returns-in-Err-Failed-clause-cause
-returns-in-Err-Failed-clause-cause g c = rw c.in-Err-Failed.field-0-is at c.in-Err-Failed.ensures.cause
-
-pub returns-in-Ok-clause-asked_out : goal.returns-in-Ok-clause-asked_out
-returns-in-Ok-clause-asked_out g c =
-    subst (λ (ns : List (List ℕ)). AsksFront (g.D.Desk.writing c.args.desk.now).side.asked (g.D.Desk.writing c.write_sums.new.desk).side.asked ns)
-    (reports_behind c.args.words.now c.requires.words) c.write_sums.ensures.asked_out
-
-pub returns-in-Err-Failed-clause-asked_out : goal.returns-in-Err-Failed-clause-asked_out
-returns-in-Err-Failed-clause-asked_out g c =
-    subst (λ (ns : List (List ℕ)). AsksFront (g.D.Desk.writing c.args.desk.now).side.asked (g.D.Desk.writing c.write_sums.new.desk).side.asked ns)
-    (reports_behind c.args.words.now c.requires.words) c.write_sums.ensures.asked_out
-
-pub returns-in-Ok-clause-all_out : goal.returns-in-Ok-clause-all_out
-returns-in-Ok-clause-all_out g c = λ done.
-    c.in-Ok.ensures.all_out ∙ ap (λ (ns : List (List ℕ)). (g.D.Desk.writing c.args.desk.now).side.asked ++ ns) (reports_behind c.args.words.now c.requires.words)
-
-pub returns-in-Err-Failed-clause-all_out : goal.returns-in-Err-Failed-clause-all_out
-returns-in-Err-Failed-clause-all_out g c = λ done. absurd done
+pub returns : goal.returns
+returns g c = record {
+  keeps = record {
+    cause = c.run_load.ensures.cause;
+    leaves = c.run_load.ensures.leaves;
+    exact = c.run_load.ensures.exact;
+    asked_out = c.run_load.ensures.asked_out;
+    all_out = c.run_load.ensures.all_out;
+    inputs = c.run_load.ensures.kept_in;
+    kept_out = c.run_load.ensures.kept_out;
+  };
+}

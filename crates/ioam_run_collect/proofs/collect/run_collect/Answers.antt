@@ -1,10 +1,25 @@
 use Rattle.ioam_desk.specs.Desk.{holds}
-use Rattle.ioam_run_collect.specs.Run.{exports_file, report_file}
 use Rattle.ioam_run_collect.proofs.AskedLaws.{HasCause-asked}
 use Rattle.ioam_run_collect.proofs.collect.run_collect.Goals as goal
 
-pub returns-clause-exact : goal.returns-clause-exact
-returns-clause-exact g c = λ asked told asks reads writes.
-    HasCause-asked g.D.Desk.tells (holds (g.D.Desk.writing c.args.desk.now) (exports_file c.args.words.now)) (exports_file c.args.words.now) (report_file c.args.words.now) told
-    (g.D.Desk.reading c.args.desk.now) (g.D.Desk.reading c.run_words.new.desk) (g.D.Desk.writing c.args.desk.now) (g.D.Desk.writing c.run_words.new.desk)
-    c.run_words.result asked c.run_words.ensures.cause asks reads writes
+pub returns : goal.returns
+returns g c = record {
+  keeps = record {
+    cause = c.run_names.ensures.cause;
+    leaves = c.run_names.ensures.leaves;
+    exact = λ asked told asks reads writes.
+        HasCause-asked g.D.Desk.tells (holds (g.D.Desk.writing c.args.desk.now) c.args.files.now.exports) c.args.files.now.exports c.args.files.now.report told
+        (g.D.Desk.reading c.args.desk.now) (g.D.Desk.reading c.run_names.new.desk) (g.D.Desk.writing c.args.desk.now) (g.D.Desk.writing c.run_names.new.desk)
+        c.run_names.result asked c.run_names.ensures.cause asks reads writes;
+    asked_in = c.run_names.ensures.asked_in;
+    asked_out = c.run_names.ensures.asked_out;
+    all_in = c.run_names.ensures.all_in;
+    all_out = c.run_names.ensures.all_out;
+    unopened = c.run_names.ensures.unopened;
+    differed = c.run_names.ensures.differed;
+    no_output = c.run_names.ensures.no_output;
+    drained = c.run_names.ensures.drained;
+    kept_in = c.run_names.ensures.kept_in;
+    kept_out = c.run_names.ensures.kept_out;
+  };
+}

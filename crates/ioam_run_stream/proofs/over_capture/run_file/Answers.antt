@@ -5,7 +5,7 @@ use Rattle.ioam_capture_merge.specs.Feed.{Fed}
 use Rattle.ioam_desk_outputs.specs.declared.output.Output.{Output}
 use Rattle.ioam_desk_outputs.specs.Told.{GathersNothing}
 use Rattle.ioam_desk_outputs.proofs.ToldLaws.{told_names}
-use Rattle.ioam_run_stream.specs.Run.{FileCause}
+use Rattle.ioam_run_stream.specs.Streams.{FileCause}
 use Rattle.ioam_run_stream.specs.Streams.{Start, Finishes, ReadsOne}
 use Rattle.ioam_run_stream.proofs.BeginLaws.{Fed-start, told_start, unwritten}
 use Rattle.ioam_run_stream.proofs.FinishesLaws.{Finishes-drained, Finishes-cause, Finishes-leaves}

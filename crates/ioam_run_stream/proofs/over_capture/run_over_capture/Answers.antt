@@ -1,16 +1,15 @@
-use Rattle.ioam_run_stream.specs.Run.{file_names, input_name}
+use Rattle.ioam_run_answer.specs.Desks.{around}
 use Rattle.ioam_run_stream.proofs.AskedLaws.{HasCause-asked}
 use Rattle.ioam_run_stream.proofs.over_capture.run_over_capture.Goals as goal
 
 pub returns : goal.returns
 returns g c = record {
-  owes = record {
+  keeps = record {
     cause = c.run_names.ensures.cause;
     leaves = c.run_names.ensures.leaves;
-    exact = λ asked told asks reads writes.
-        HasCause-asked g.D.Desk.tells (g.D.Desk.writing c.args.desk.now) (file_names c.args.words.now) (input_name c.args.words.now) told
-        (g.D.Desk.reading c.args.desk.now) (g.D.Desk.reading c.run_names.new.desk) (g.D.Desk.writing c.run_names.new.desk)
-        c.run_names.result asked c.run_names.ensures.cause asks reads writes;
+    exact = λ asked told asks reads writes. HasCause-asked (around g.D.Desk.tells (g.D.Desk.reading c.args.desk.now)
+        (g.D.Desk.reading c.run_names.new.desk) (g.D.Desk.writing c.args.desk.now) (g.D.Desk.writing c.run_names.new.desk))
+        c.args.files.now told c.run_names.result asked c.run_names.ensures.cause asks reads writes;
     asked_in = c.run_names.ensures.asked_in;
     asked_out = c.run_names.ensures.asked_out;
     all_in = c.run_names.ensures.all_in;

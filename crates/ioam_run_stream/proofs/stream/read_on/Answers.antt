@@ -5,7 +5,7 @@ use Rattle.ioam_desk.specs.Desk.{Side, Writing}
 use Rattle.ioam_desk.proofs.KeptLaws.{WritesFrom-same, WritesFrom-then}
 use Rattle.ioam_desk_outputs.specs.Held.{HoldAllFronts}
 use Rattle.ioam_pcap.specs.Ending.{Faulty, ending_of}
-use Rattle.ioam_run_stream.specs.Run.{EndsSo}
+use Rattle.ioam_run_stream.specs.Promise.{EndsSo}
 use Rattle.ioam_run_stream.proofs.HaltsLaws.{Streams-sticks, Streams-fronts, halts_waiting, halts_end}
 use Rattle.ioam_run_stream.proofs.StopsLaws.{begins_ends, Halts-sticks_here, Stops-bad, Stops-end, Halts-left, Streams-room, Streams-fed, Streams-ended}
 use Rattle.ioam_run_stream.proofs.KeptLaws.{ReadsOne-same, ReadsOne-on, ReadsOne-refilled}

@@ -1,6 +1,6 @@
 use Rattle.ioam_desk.specs.Desk.{holds}
 use Rattle.ioam_desk_outputs.specs.Names.{name_at}
-use Rattle.ioam_run_collect.proofs.collect.run_words.Given as goal
+use Rattle.ioam_run_collect.proofs.collect.run_names.Given as goal
 
 -- what EXPORTS holds before anything is opened
 abbrev pub ghost-run_files : goal.ghost-run_files

@@ -1,22 +1,21 @@
--- What `bulk SEED COUNT WORKERS REPORT` answers and leaves.
-use Rattle.std.specs.Prelude.{◌≡◌, ℕ, ◌⊎◌, ⊤, List, [], ◌∷◌, length, replicate, Some}
+-- What `bulk SEED COUNT WORKERS REPORT` promises.
+use Rattle.std.specs.Prelude.{◌≡◌, ℕ, ◌⊎◌, ⊤, IsTrue, List, [], ◌∷◌, ◌++◌, length, replicate, Some}
 use Rattle.ioam_run_answer.specs.declared.outcome.Outcome.{Outcome}
 use Rattle.ioam_run_answer.specs.declared.outcome.Outcome.TheVariants as outcome
 use Rattle.ioam_clock.specs.declared.sample.Sample.{Sample}
+use Rattle.ioam_desk.specs.Asked.{AsksFront}
 use Rattle.ioam_desk.specs.Desk.{Writing, Rose, holds}
+use Rattle.ioam_desk.specs.Kept.{KeepsOutputs}
+use Rattle.ioam_run_answer.specs.Desks.{Desks}
+use Rattle.ioam_run_answer.specs.Outcomes.{IsDone}
 use Rattle.ioam_run_texts.specs.Fate.{Fate, AreFates}
 use Rattle.ioam_run_texts.specs.Texts.{ways_of}
 use Rattle.ioam_topo_generated.specs.Bulk.{IsBulkDomain}
 use Rattle.ioam_desk_outputs.specs.Held.{HoldFronts}
-use Rattle.ioam_desk_outputs.specs.Names.{name_at}
 use Rattle.ioam_report.specs.SumsText.{arrivals_text}
 use Rattle.ioam_topo.specs.Domain.{nodes}
 use Rattle.ioam_topo.specs.declared.domain.Domain.{Domain}
 use Rattle.ioam_run_bulk.specs.Generated.{arrivals}
-
--- the file that the words name
-abbrev pub report_file : List (List ℕ) → List ℕ
-report_file words = name_at words 4
 
 -- no samples of any node
 abbrev pub no_readings : Domain → List (List Sample)
@@ -57,3 +56,20 @@ HasCause old new outcome.Done = ⊤
 HasCause old new outcome.WriteFault = Rose old.side.faults new.side.faults
 HasCause old new outcome.NoMemory = ⊤
 HasCause old new _ = ⊥
+
+-- ---- the promise
+
+-- of a load of this seed and count, whose sums go to this file
+module _ (desks : Desks) (seed count : ℕ) (report : List ℕ) where
+  pub record Keeps (answer : Outcome) : Type 0 where
+    pub cause : HasCause desks.old desks.new answer
+    -- the sums follow from the journeys alone, so they hold whether the gate opens or not
+    pub leaves : IsTrue desks.tells → Leaves seed count report desks.old desks.new answer
+    -- it is done, unless a call of the desk failed or no memory could be had
+    pub exact : (Rose desks.old.side.faults desks.new.side.faults → ⊥) → (answer ≡ outcome.Done) ⊎ (answer ≡ outcome.NoMemory)
+    -- REPORT alone is opened, and no input
+    pub asked_out : AsksFront desks.old.side.asked desks.new.side.asked (report ∷ [])
+    pub all_out : IsDone answer → desks.new.side.asked ≡ desks.old.side.asked ++ report ∷ []
+    pub inputs : desks.new_in ≡ desks.old_in
+    -- output slots that were there, and names other than REPORT, are as they were where the desk tells
+    pub kept_out : IsTrue desks.tells → KeepsOutputs desks.old desks.new

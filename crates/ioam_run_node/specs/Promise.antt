@@ -1,7 +1,8 @@
--- What `node DOMAIN READINGS NODE LINK IN OUT REPORT EXPORTS` answers and leaves: the packets of the capture IN come to
+-- What `node DOMAIN READINGS NODE LINK IN OUT REPORT EXPORTS` promises: the packets of the capture IN come to
 -- NODE by LINK, and it sends them on.
 use Rattle.std.specs.Prelude.{◌≡◌, ◌≢◌, ℕ, ◌+◌, ◌<◌, ◌≤◌, ◌⊎◌, ⊤, All, Bool, IsTrue, IsSomeAnd, nat_eq, if◌then◌else◌, List, [], ◌∷◌, ◌++◌, slice_get, Option, Some, None, option_and_then}
 use Rattle.std.specs.List.{AllByRecursion, flat_map}
+use Rattle.ioam_run_answer.specs.Desks.{Desks}
 use Rattle.ioam_run_answer.specs.Outcomes.{IsDone, IsBehindAll}
 use Rattle.ioam_run_answer.specs.declared.outcome.Outcome.{Outcome}
 use Rattle.ioam_run_answer.specs.declared.outcome.Outcome.TheVariants as outcome
@@ -14,7 +15,7 @@ use Rattle.ioam_desk_outputs.specs.Names.{name_at, AreApart, IsFirstRepeat}
 use Rattle.ioam_pcap.specs.Ending.{Whole, Faulty}
 use Rattle.ioam_pcap.specs.Entries.{Taken}
 use Rattle.ioam_pcap.specs.Text.{IsSendable, capture_text}
-use Rattle.ioam_run_stream.specs.Run.{IsInput, IsLong, HoldsAll, HoldsFronts, EndsSo, ArePassed, AreWhole}
+use Rattle.ioam_run_stream.specs.Promise.{IsInput, IsLong, HoldsAll, HoldsFronts, EndsSo, ArePassed, AreWhole}
 use Rattle.ioam_run_files.specs.Answer.{refused_as}
 use Rattle.ioam_run_files.specs.Setting.{HasDomainFault, HasReadingsFault, IsSetting}
 use Rattle.ioam_run_files.specs.declared.setting.Refusal.{Refusal}
@@ -26,29 +27,38 @@ use Rattle.ioam_run_node.specs.NodeText.{NodeTexts, sent_of}
 use Rattle.ioam_run_node.specs.Passage.{Passage, LeavesClean}
 use Rattle.ioam_run_node.specs.Seat.{Seat}
 
--- what the words name
-abbrev pub domain_file : List (List ℕ) → List ℕ
-domain_file words = name_at words 1
+-- ---- what its words name
 
-abbrev pub readings_file : List (List ℕ) → List ℕ
-readings_file words = name_at words 2
+pub record NodeNames : Type 0 where
+  pub domain : List ℕ
+  pub readings : List ℕ
+  pub node : List ℕ
+  pub link : List ℕ
+  pub input : List ℕ
+  pub out : List ℕ
+  pub report : List ℕ
+  pub exports : List ℕ
 
-abbrev pub node_word : List (List ℕ) → List ℕ
-node_word words = name_at words 3
+-- they stand behind the command's own name
+abbrev pub node_names : List (List ℕ) → NodeNames
+node_names words = record {
+  domain = name_at words 1;
+  readings = name_at words 2;
+  node = name_at words 3;
+  link = name_at words 4;
+  input = name_at words 5;
+  out = name_at words 6;
+  report = name_at words 7;
+  exports = name_at words 8;
+}
 
-abbrev pub link_word : List (List ℕ) → List ℕ
-link_word words = name_at words 4
-
-abbrev pub input_file : List (List ℕ) → List ℕ
-input_file words = name_at words 5
-
--- OUT, REPORT and EXPORTS
-abbrev pub output_files : List (List ℕ) → List (List ℕ)
-output_files words = name_at words 6 ∷ name_at words 7 ∷ name_at words 8 ∷ []
+-- the files that are written, in the order in which they are opened
+abbrev pub output_files : NodeNames → List (List ℕ)
+output_files files = files.out ∷ files.report ∷ files.exports ∷ []
 
 -- all files, in the order in which equal ones are looked for
-abbrev pub node_files : List (List ℕ) → List (List ℕ)
-node_files words = domain_file words ∷ readings_file words ∷ input_file words ∷ output_files words
+abbrev pub node_files : NodeNames → List (List ℕ)
+node_files files = files.domain ∷ files.readings ∷ files.input ∷ output_files files
 
 -- the id of the interface by which a node receives from a link, if the link ends there
 abbrev pub inward_by : NodeId → Option Link → Option ℕ
@@ -59,25 +69,25 @@ inward_by node (Some link) = if nat_eq link.to.0 node.0 then Some link.in_id els
 abbrev pub inward_of : Domain → NodeId → List ℕ → Option ℕ
 inward_of domain node name = option_and_then (λ id. inward_by node (slice_get (links domain) id.0)) (link_of_name domain name)
 
-module _ (words : List (List ℕ)) where
+module _ (files : NodeNames) where
   -- this is the node, and the interface of the link
   pub record IsAt (domain : Domain) (node : NodeId) (inward : ℕ) : Type 0 where
-    pub has_node : node_of_name domain (node_word words) ≡ Some node
-    pub has_link : inward_of domain node (link_word words) ≡ Some inward
+    pub has_node : node_of_name domain files.node ≡ Some node
+    pub has_link : inward_of domain node files.link ≡ Some inward
 
   -- NODE names no node
   abbrev pub NamesNoNode : Domain → List ℕ → Type 0
-  NamesNoNode domain name = (node_of_name domain (node_word words) ≡ None) × (name ≡ node_word words)
+  NamesNoNode domain name = (node_of_name domain files.node ≡ None) × (name ≡ files.node)
 
   -- LINK names no link that ends at the node
   abbrev pub NamesNoLink : Domain → List ℕ → Type 0
-  NamesNoLink domain name = (node : NodeId) × (node_of_name domain (node_word words) ≡ Some node)
-      × (inward_of domain node (link_word words) ≡ None) × (name ≡ link_word words)
+  NamesNoLink domain name = (node : NodeId) × (node_of_name domain files.node ≡ Some node)
+      × (inward_of domain node files.link ≡ None) × (name ≡ files.link)
 
   -- both are fit, and two files have one name
   abbrev pub NamesTwice : Domain → List ℕ → Type 0
   NamesTwice domain name = (node : NodeId) × (inward : ℕ) × IsAt domain node inward
-      × ((at : ℕ) × IsFirstRepeat (node_files words) at × (name ≡ name_at (node_files words) at))
+      × ((at : ℕ) × IsFirstRepeat (node_files files) at × (name ≡ name_at (node_files files) at))
 
   -- the first of these
   abbrev pub IsUnfit : Domain → List ℕ → Type 0
@@ -85,14 +95,14 @@ module _ (words : List (List ℕ)) where
 
   -- both are fit, and the files differ
   abbrev pub AreFit : Domain → Type 0
-  AreFit domain = (node : NodeId) × (inward : ℕ) × IsAt domain node inward × AreApart (node_files words)
+  AreFit domain = (node : NodeId) × (inward : ℕ) × IsAt domain node inward × AreApart (node_files files)
 
   -- What an answer says of the domain that was read: NODE and LINK name what it has and the files differ, but for the first
   -- name of which this isn't so; and the limit is the domain's.
   abbrev pub Says : Domain → Outcome → Type 0
   Says domain (outcome.Names name) = IsUnfit domain name
   Says domain (outcome.Packets limit) = AreFit domain × (limit ≡ domain.packets) × (1 ≤ limit) × (limit ≤ 16777216)
-  Says domain (outcome.Capture name at fault) = AreFit domain × (name ≡ input_file words)
+  Says domain (outcome.Capture name at fault) = AreFit domain × (name ≡ files.input)
   Says domain outcome.Done = AreFit domain
   Says domain outcome.ReadFault = AreFit domain
   Says domain outcome.WriteFault = AreFit domain
@@ -103,32 +113,32 @@ module _ (words : List (List ℕ)) where
     -- DOMAIN holds the domain, READINGS the readings of its nodes, NODE and LINK say where the packets come, and no two files
     -- have one name
     pub record IsReady (seat : Seat) : Type 0 where
-      pub setting : IsSetting desk (domain_file words) (readings_file words) seat.domain seat.samples
+      pub setting : IsSetting desk files.domain files.readings seat.domain seat.samples
       pub at : IsAt seat.domain seat.node seat.inward
-      pub apart : AreApart (node_files words)
+      pub apart : AreApart (node_files files)
 
     -- IN is so, by the domain's limit
     abbrev pub HasInput : (ℕ → List ℕ → Type 0) → Type 0
-    HasInput IsSo = (seat : Seat) × IsReady seat × IsSomeAnd (holds desk (input_file words)) (IsSo seat.domain.packets)
+    HasInput IsSo = (seat : Seat) × IsReady seat × IsSomeAnd (holds desk files.input) (IsSo seat.domain.packets)
 
-    -- What the words and the files ask for, where nothing fails: the first of the refusals in their order whose condition
+    -- What the files and the files ask for, where nothing fails: the first of the refusals in their order whose condition
     -- holds, or Done.
     abbrev pub Asked : Outcome → Type 0
-    Asked (outcome.Domain fault) = HasDomainFault desk (domain_file words) (readings_file words) fault
-    Asked (outcome.Readings fault) = HasReadingsFault desk (domain_file words) (readings_file words) fault
-    Asked (outcome.Names name) = (domain : Domain) × (samples : _) × IsSetting desk (domain_file words) (readings_file words) domain samples
+    Asked (outcome.Domain fault) = HasDomainFault desk files.domain files.readings fault
+    Asked (outcome.Readings fault) = HasReadingsFault desk files.domain files.readings fault
+    Asked (outcome.Names name) = (domain : Domain) × (samples : _) × IsSetting desk files.domain files.readings domain samples
         × IsUnfit domain name
     Asked (outcome.Packets limit) = (seat : Seat) × IsReady seat × (limit ≡ seat.domain.packets)
-        × IsSomeAnd (holds desk (input_file words)) (IsLong seat.domain.packets)
-    Asked (outcome.Capture name at fault) = (name ≡ input_file words) × HasInput (λ most. IsInput most (Faulty at fault))
+        × IsSomeAnd (holds desk files.input) (IsLong seat.domain.packets)
+    Asked (outcome.Capture name at fault) = (name ≡ files.input) × HasInput (λ most. IsInput most (Faulty at fault))
     Asked outcome.Done = HasInput (λ most. IsInput most Whole)
     Asked _ = ⊥
 
   -- the files differ, where IN was looked at; so much is known of real files too
   abbrev pub HaveDiffered : Outcome → Type 0
-  HaveDiffered outcome.Done = AreApart (node_files words)
-  HaveDiffered (outcome.Capture name at fault) = AreApart (node_files words) × (name ≡ input_file words)
-  HaveDiffered (outcome.Packets limit) = AreApart (node_files words)
+  HaveDiffered outcome.Done = AreApart (node_files files)
+  HaveDiffered (outcome.Capture name at fault) = AreApart (node_files files) × (name ≡ files.input)
+  HaveDiffered (outcome.Packets limit) = AreApart (node_files files)
   HaveDiffered outcome.Usage = ⊤
   HaveDiffered (outcome.Domain fault) = ⊤
   HaveDiffered (outcome.Readings fault) = ⊤
@@ -144,27 +154,21 @@ module _ (words : List (List ℕ)) where
     HasCause outcome.ReadFault = Rose old_in.side.faults new_in.side.faults
     HasCause outcome.WriteFault = Rose old.side.faults new.side.faults
     HasCause outcome.NoMemory = ⊤
-    HasCause outcome.Done = Asked old outcome.Done
-    HasCause (outcome.Domain fault) = Asked old (outcome.Domain fault)
-    HasCause (outcome.Readings fault) = Asked old (outcome.Readings fault)
-    HasCause (outcome.Names name) = Asked old (outcome.Names name)
-    HasCause (outcome.Packets limit) = Asked old (outcome.Packets limit)
-    HasCause (outcome.Capture name at fault) = Asked old (outcome.Capture name at fault)
-    HasCause _ = ⊥
+    HasCause answer = Asked old answer
 
     -- the outputs hold the texts of these records of IN
     abbrev pub Holds : (Seat → List Taken → List ℕ → Type 0) → Type 0
     Holds Are = (seat : Seat) × IsReady old seat
-        × IsSomeAnd (holds old (input_file words)) (HoldsAll seat.domain.packets (NodeTexts seat) (output_files words) (Are seat) new)
+        × IsSomeAnd (holds old files.input) (HoldsAll seat.domain.packets (NodeTexts seat) (output_files files) (Are seat) new)
 
     -- each output that was opened holds a front of its text
     abbrev pub HoldParts : Type 0
     HoldParts = (seat : Seat) × IsReady old seat
-        × IsSomeAnd (holds old (input_file words)) (HoldsFronts seat.domain.packets (NodeTexts seat) (output_files words) old new)
+        × IsSomeAnd (holds old files.input) (HoldsFronts seat.domain.packets (NodeTexts seat) (output_files files) old new)
 
     -- IN wasn't opened
     abbrev pub StopsEarly : Type 0
-    StopsEarly = AsksFront old_in.side.asked new_in.side.asked (domain_file words ∷ readings_file words ∷ [])
+    StopsEarly = AsksFront old_in.side.asked new_in.side.asked (files.domain ∷ files.readings ∷ [])
         ⊎ (new_in.side.slots < old_in.side.slots + 3)
 
     -- What the files hold afterwards, where the desk tells: the texts of all records of IN, of as many as the domain allows, or
@@ -186,7 +190,7 @@ module _ (words : List (List ℕ)) where
 
     -- IN wasn't opened, and no output
     abbrev pub OpensNone : Type 0
-    OpensNone = AsksFront old_in.side.asked new_in.side.asked (domain_file words ∷ readings_file words ∷ []) × (new ≡ old)
+    OpensNone = AsksFront old_in.side.asked new_in.side.asked (files.domain ∷ files.readings ∷ []) × (new ≡ old)
 
     -- what was given is refused before anything of IN is looked at
     abbrev pub IsUntouched : Outcome → Type 0
@@ -205,43 +209,57 @@ module _ (words : List (List ℕ)) where
     abbrev pub IsBounded : Type 0
     IsBounded = (seat : Seat) × IsReady old seat × ((passages : List Passage) × AllByRecursion (LeavesClean seat) passages
         × All IsSendable (flat_map (sent_of seat) passages)
-        × (holds new (name_at words 6) ≡ Some (capture_text (flat_map (sent_of seat) passages))))
+        × (holds new (files.out) ≡ Some (capture_text (flat_map (sent_of seat) passages))))
 
-module _ (tells : Bool) (words : List (List ℕ)) (old_in new_in : Reading) (old new : Writing) where
+module _ (tells : Bool) (files : NodeNames) (old_in new_in : Reading) (old new : Writing) where
   -- the answer is one over this domain, which DOMAIN holds where the desk tells; IN and outputs were opened only where NODE and
   -- LINK are fit in it and the files differ
   pub record IsOver (answer : Outcome) (domain : Domain) : Type 0 where
-    pub set : IsTrue tells → (samples : List (List Sample)) × IsSetting old (domain_file words) (readings_file words) domain samples
-    pub says : Says words domain answer
-    pub fit : OpensNone words old_in new_in old new ⊎ AreFit words domain
+    pub set : IsTrue tells → (samples : List (List Sample)) × IsSetting old files.domain files.readings domain samples
+    pub says : Says files domain answer
+    pub fit : OpensNone files old_in new_in old new ⊎ AreFit files domain
 
   -- what a run is set by was refused, or the answer is one over a domain
   abbrev pub IsOfDomain : Outcome → Type 0
-  IsOfDomain answer = (OpensNone words old_in new_in old new × ((why : Refusal) × (answer ≡ refused_as why)))
+  IsOfDomain answer = (OpensNone files old_in new_in old new × ((why : Refusal) × (answer ≡ refused_as why)))
       ⊎ ((domain : Domain) × IsOver answer domain)
 
   -- The names that were given to the opening calls, whatever the desk tells: a front of DOMAIN, READINGS and IN, and of the
   -- outputs; and those where the answer comes once the outputs were written. And what the answer says of the domain.
   pub record Asks (answer : Outcome) : Type 0 where
-    pub front_in : AsksFront old_in.side.asked new_in.side.asked (domain_file words ∷ readings_file words ∷ input_file words ∷ [])
-    pub front_out : AsksFront old.side.asked new.side.asked (output_files words)
-    pub all_in : IsBehindAll ⊥ answer → new_in.side.asked ≡ old_in.side.asked ++ domain_file words ∷ readings_file words ∷ input_file words ∷ []
-    pub all_out : IsBehindAll ⊥ answer → new.side.asked ≡ old.side.asked ++ output_files words
-    pub untouched : IsUntouched words old_in new_in old new answer
+    pub front_in : AsksFront old_in.side.asked new_in.side.asked (files.domain ∷ files.readings ∷ files.input ∷ [])
+    pub front_out : AsksFront old.side.asked new.side.asked (output_files files)
+    pub all_in : IsBehindAll ⊥ answer → new_in.side.asked ≡ old_in.side.asked ++ files.domain ∷ files.readings ∷ files.input ∷ []
+    pub all_out : IsBehindAll ⊥ answer → new.side.asked ≡ old.side.asked ++ output_files files
+    pub untouched : IsUntouched files old_in new_in old new answer
     pub domain_first : (fault : DomainFault) → answer ≡ outcome.Domain fault
-        → AsksFront old_in.side.asked new_in.side.asked (domain_file words ∷ [])
+        → AsksFront old_in.side.asked new_in.side.asked (files.domain ∷ [])
     pub no_output : new_in.side.slots < old_in.side.slots + 3 → new ≡ old
     pub of_domain : IsOfDomain answer
 
-  -- what a run owes for its answer: its cause, what was opened and read, and what the files hold
+  -- what is promised of the answer but that it is the one asked for: its cause, what was opened and read, and what the files hold
   pub record Owes (answer : Outcome) : Type 0 where
     pub read_fault : answer ≡ outcome.ReadFault → Rose old_in.side.faults new_in.side.faults
     pub write_fault : answer ≡ outcome.WriteFault → Rose old.side.faults new.side.faults
     pub usage : answer ≢ outcome.Usage
-    pub differed : HaveDiffered words answer
-    pub cause : IsTrue tells → HasCause words old_in new_in old new answer
-    pub leaves : IsTrue tells → Leaves words old_in new_in old new answer
+    pub differed : HaveDiffered files answer
+    pub cause : IsTrue tells → HasCause files old_in new_in old new answer
+    pub leaves : IsTrue tells → Leaves files old_in new_in old new answer
     pub asks : Asks answer
-    pub drained : IsDone answer → IsTrue tells → AreDrained words old_in new_in old new
+    pub drained : IsDone answer → IsTrue tells → AreDrained files old_in new_in old new
     pub kept_in : KeepsInputs old_in new_in
     pub kept_out : IsTrue tells → KeepsOutputs old new
+
+-- ---- the promise
+
+module _ (desks : Desks) (files : NodeNames) where
+  pub record Keeps (answer : Outcome) : Type 0 where
+    pub owes : Owes desks.tells files desks.old_in desks.new_in desks.old desks.new answer
+    -- what is asked for is answered, unless a call of the desk failed or no memory could be had
+    pub exact : (asked : Outcome) → IsTrue desks.tells → Asked files desks.old asked
+        → (Rose desks.old_in.side.faults desks.new_in.side.faults → ⊥) → (Rose desks.old.side.faults desks.new.side.faults → ⊥)
+        → (answer ≡ asked) ⊎ (answer ≡ outcome.NoMemory)
+    -- what the node sends has at most 262,144 octets, and what it sends to a port is one IPv6 packet, with a whole header chain
+    -- and without an IOAM option
+    pub boundary : IsBehindAll (desks.old.side.slots < desks.new.side.slots) answer → IsTrue desks.tells
+        → IsBounded files desks.old_in desks.new_in desks.old desks.new

@@ -1,4 +1,4 @@
--- What `run DOMAIN READINGS WORKERS REPORT EXPORTS` answers and leaves: the captures of the ports of
+-- What `run DOMAIN READINGS WORKERS REPORT EXPORTS` promises: the captures of the ports of
 -- the domain that DOMAIN describes are merged by time, and each port's capture of what leaves, each
 -- tap's of what crosses its link, the report and the export records are written.
 use Rattle.std.specs.Prelude.{◌≡◌, ◌≢◌, ℕ, ◌+◌, ◌<◌, ◌≤◌, ◌⊎◌, ⊤, All, Bool, IsTrue, IsSomeAnd, List, [], ◌∷◌, ◌++◌, length, map, slice_get, Option, Some}
@@ -15,6 +15,7 @@ use Rattle.ioam_capture.specs.Merge.{Arrival}
 use Rattle.ioam_pcap.specs.Text.{IsCaptureOf}
 use Rattle.ioam_capture.specs.declared.turns.Turn.{Turn}
 use Rattle.ioam_capture.specs.declared.turns.Turn.TheVariants as turn
+use Rattle.ioam_run_answer.specs.Desks.{Desks}
 use Rattle.ioam_run_answer.specs.Outcomes.{IsDone, IsBehindAll}
 use Rattle.ioam_run_answer.specs.declared.outcome.Outcome.{Outcome}
 use Rattle.ioam_run_answer.specs.declared.outcome.Outcome.TheVariants as outcome
@@ -28,43 +29,43 @@ use Rattle.ioam_topo.specs.declared.parts.Port.{Port}
 use Rattle.ioam_run_domain.specs.Left.{LeavesOnce}
 use Rattle.ioam_run_traffic.specs.Traffic.{AllOpened, Course, HoldsFronts, IsTimely, ArePassed, AreOpened, Arrive, frames_of}
 
--- the files that the words name
-abbrev pub domain_file : List (List ℕ) → List ℕ
-domain_file words = name_at words 1
+-- ---- its files
 
-abbrev pub readings_file : List (List ℕ) → List ℕ
-readings_file words = name_at words 2
+-- those that its words name
+pub record RunNames : Type 0 where
+  pub domain : List ℕ
+  pub readings : List ℕ
+  pub report : List ℕ
+  pub exports : List ℕ
 
-abbrev pub report_file : List (List ℕ) → List ℕ
-report_file words = name_at words 4
+-- they stand behind the command's own name; the number of workers stands among them
+abbrev pub run_names : List (List ℕ) → RunNames
+run_names words = record { domain = name_at words 1; readings = name_at words 2; report = name_at words 4; exports = name_at words 5 }
 
-abbrev pub exports_file : List (List ℕ) → List ℕ
-exports_file words = name_at words 5
-
-abbrev pub word_files : List (List ℕ) → List (List ℕ)
-word_files words = domain_file words ∷ readings_file words ∷ report_file words ∷ exports_file words ∷ []
+abbrev pub word_files : RunNames → List (List ℕ)
+word_files files = files.domain ∷ files.readings ∷ files.report ∷ files.exports ∷ []
 
 -- all files of a run, in the order in which equal ones are looked for
-abbrev pub run_files : List (List ℕ) → Domain → List (List ℕ)
-run_files words domain = file_names (ports domain) (links domain) (word_files words)
+abbrev pub run_files : RunNames → Domain → List (List ℕ)
+run_files files domain = file_names (ports domain) (links domain) (word_files files)
 
 -- those that are written, in the order in which they are opened
-abbrev pub run_outputs : List (List ℕ) → Domain → List (List ℕ)
-run_outputs words domain = output_names (ports domain) (links domain) (report_file words) (exports_file words)
+abbrev pub run_outputs : RunNames → Domain → List (List ℕ)
+run_outputs files domain = output_names (ports domain) (links domain) files.report files.exports
 
 -- the captures that are read, in the order in which they are opened
 abbrev pub run_inputs : Domain → List (List ℕ)
 run_inputs domain = input_names (ports domain)
 
-module _ (desk : Writing) (words : List (List ℕ)) where
+module _ (desk : Writing) (files : RunNames) where
   -- DOMAIN holds this domain, and READINGS these readings of its nodes
   abbrev pub IsSet : Domain → List (List Sample) → Type 0
-  IsSet domain readings = IsSetting desk (domain_file words) (readings_file words) domain readings
+  IsSet domain readings = IsSetting desk files.domain files.readings domain readings
 
   -- and no two files of the run have one name
   pub record IsReady (domain : Domain) (readings : List (List Sample)) : Type 0 where
     pub set : IsSet domain readings
-    pub apart : AreApart (run_files words domain)
+    pub apart : AreApart (run_files files domain)
 
   -- what the captures of a domain's ports hold
   abbrev pub contents : Domain → List (Option (List ℕ))
@@ -82,13 +83,13 @@ module _ (desk : Writing) (words : List (List ℕ)) where
     pub begin : FilesBegin (contents domain) taken
     pub many : domain.packets < length taken
 
-  -- What the words and the files ask for, where nothing fails: the first of the refusals in their
+  -- What the files and the files ask for, where nothing fails: the first of the refusals in their
   -- order whose condition holds, or Done.
   abbrev pub Asked : Outcome → Type 0
-  Asked (outcome.Domain fault) = HasDomainFault desk (domain_file words) (readings_file words) fault
-  Asked (outcome.Readings fault) = HasReadingsFault desk (domain_file words) (readings_file words) fault
+  Asked (outcome.Domain fault) = HasDomainFault desk files.domain files.readings fault
+  Asked (outcome.Readings fault) = HasReadingsFault desk files.domain files.readings fault
   Asked (outcome.Names name) = (domain : Domain) × (readings : List (List Sample)) × IsSet domain readings
-      × ((at : ℕ) × IsFirstRepeat (run_files words domain) at × (name ≡ name_at (run_files words domain) at))
+      × ((at : ℕ) × IsFirstRepeat (run_files files domain) at × (name ≡ name_at (run_files files domain) at))
   Asked (outcome.Packets limit) = (domain : Domain) × (readings : List (List Sample)) × IsReady domain readings
       × (limit ≡ domain.packets) × Exceeds domain
   Asked (outcome.Capture name at fault) = (domain : Domain) × (readings : List (List Sample)) × IsReady domain readings
@@ -96,20 +97,20 @@ module _ (desk : Writing) (words : List (List ℕ)) where
   Asked outcome.Done = (domain : Domain) × (readings : List (List Sample)) × IsReady domain readings × Arrives domain turn.Over
   Asked _ = ⊥
 
--- the files that the words name differ, where the captures were looked at; so much is known of real
+-- the files that the files name differ, where the captures were looked at; so much is known of real
 -- files too
-abbrev pub HaveDiffered : List (List ℕ) → Outcome → Type 0
-HaveDiffered words outcome.Done = AreApart (word_files words)
-HaveDiffered words (outcome.Capture name at fault) = AreApart (word_files words)
-HaveDiffered words (outcome.Packets limit) = AreApart (word_files words)
-HaveDiffered words outcome.Usage = ⊤
-HaveDiffered words (outcome.Domain fault) = ⊤
-HaveDiffered words (outcome.Readings fault) = ⊤
-HaveDiffered words (outcome.Names name) = ⊤
-HaveDiffered words outcome.ReadFault = ⊤
-HaveDiffered words outcome.WriteFault = ⊤
-HaveDiffered words outcome.NoMemory = ⊤
-HaveDiffered words _ = ⊥
+abbrev pub HaveDiffered : RunNames → Outcome → Type 0
+HaveDiffered files outcome.Done = AreApart (word_files files)
+HaveDiffered files (outcome.Capture name at fault) = AreApart (word_files files)
+HaveDiffered files (outcome.Packets limit) = AreApart (word_files files)
+HaveDiffered files outcome.Usage = ⊤
+HaveDiffered files (outcome.Domain fault) = ⊤
+HaveDiffered files (outcome.Readings fault) = ⊤
+HaveDiffered files (outcome.Names name) = ⊤
+HaveDiffered files outcome.ReadFault = ⊤
+HaveDiffered files outcome.WriteFault = ⊤
+HaveDiffered files outcome.NoMemory = ⊤
+HaveDiffered files _ = ⊥
 
 -- what `run` was given is refused before anything of its captures is looked at
 abbrev pub IsRefusal : Outcome → Type 0
@@ -120,45 +121,39 @@ IsRefusal _ = ⊥
 
 -- where the traffic of a domain begins, whose workers' gate opens always or may stay shut: DOMAIN and READINGS were read
 -- by two slots
-abbrev pub course_for : Bool → List (List ℕ) → Reading → Writing → Domain → List (List Sample) → Course
-course_for opens words reading writing domain readings = record {
+abbrev pub course_for : Bool → RunNames → Reading → Writing → Domain → List (List Sample) → Course
+course_for opens files reading writing domain readings = record {
   opens = opens;
   domain = domain;
   readings = readings;
   ports = input_ports (ports domain);
   lanes = start_of (reading.side.slots + 2) writing (run_inputs domain);
   first = writing.side.slots;
-  names = run_outputs words domain;
+  names = run_outputs files domain;
 }
 
-module _ (words : List (List ℕ)) (old_in new_in : Reading) (old new : Writing) where
+module _ (files : RunNames) (old_in new_in : Reading) (old new : Writing) where
   -- the cause of each answer, where the desk tells what its files hold; want of memory alone has none
   abbrev pub HasCause : Outcome → Type 0
   HasCause outcome.ReadFault = Rose old_in.side.faults new_in.side.faults
   HasCause outcome.WriteFault = Rose old.side.faults new.side.faults
   HasCause outcome.NoMemory = ⊤
-  HasCause outcome.Done = Asked old words outcome.Done
-  HasCause (outcome.Domain fault) = Asked old words (outcome.Domain fault)
-  HasCause (outcome.Readings fault) = Asked old words (outcome.Readings fault)
-  HasCause (outcome.Names name) = Asked old words (outcome.Names name)
-  HasCause (outcome.Packets limit) = Asked old words (outcome.Packets limit)
-  HasCause (outcome.Capture name at fault) = Asked old words (outcome.Capture name at fault)
-  HasCause _ = ⊥
+  HasCause answer = Asked old files answer
 
   -- no capture was opened, and no output
   abbrev pub OpensNone : Type 0
-  OpensNone = AsksFront old_in.side.asked new_in.side.asked (domain_file words ∷ readings_file words ∷ []) × (new ≡ old)
+  OpensNone = AsksFront old_in.side.asked new_in.side.asked (files.domain ∷ files.readings ∷ []) × (new ≡ old)
 
 -- whether the gate of the workers always opens
-module _ (opens : Bool) (words : List (List ℕ)) (old_in new_in : Reading) (old new : Writing) where
+module _ (opens : Bool) (files : RunNames) (old_in new_in : Reading) (old new : Writing) where
   -- so it is of the traffic of the domain that is held, by the readings that are held
   abbrev pub OfTraffic : (Course → Type 0) → Type 0
-  OfTraffic P = (domain : Domain) × (readings : List (List Sample)) × IsReady old words domain readings
-      × P (course_for opens words old_in old domain readings)
+  OfTraffic P = (domain : Domain) × (readings : List (List Sample)) × IsReady old files domain readings
+      × P (course_for opens files old_in old domain readings)
 
   -- no capture was opened yet, or not all of them
   abbrev pub StopsEarly : Type 0
-  StopsEarly = AsksFront old_in.side.asked new_in.side.asked (domain_file words ∷ readings_file words ∷ [])
+  StopsEarly = AsksFront old_in.side.asked new_in.side.asked (files.domain ∷ files.readings ∷ [])
       ⊎ OfTraffic (λ course. new_in.side.slots < course.lanes.base + length course.lanes.contents)
 
   -- What the files hold of these arrivals, of which nothing else becomes, where the gate opens: each port's capture has the
@@ -177,8 +172,8 @@ module _ (opens : Bool) (words : List (List ℕ)) (old_in new_in : Reading) (old
         → holds new port.output ≡ Some (out_text place fates)
     pub taps : IsTrue course.opens → (place : ℕ) (link : Link) (name : List ℕ) → slice_get (links course.domain) place ≡ Some link
         → link.tap ≡ Some name → holds new name ≡ Some (tap_text course.domain course.readings place fates)
-    pub report : IsTrue course.opens → holds new (report_file words) ≡ Some (report_text course.domain course.readings fates)
-    pub exports : IsTrue course.opens → holds new (exports_file words) ≡ Some (exports_text course.domain course.readings fates)
+    pub report : IsTrue course.opens → holds new files.report ≡ Some (report_text course.domain course.readings fates)
+    pub exports : IsTrue course.opens → holds new files.exports ≡ Some (exports_text course.domain course.readings fates)
 
   -- What the files hold afterwards, where the desk tells: the texts of all arrivals, of as many as the
   -- domain allows, or of those that what was handed out of the captures shows; or nothing was opened
@@ -222,21 +217,21 @@ IsLimit limit = (1 ≤ limit) × (limit ≤ 16777216)
 -- What an answer says of the domain and of its files: they differ, but for the first name that
 -- equals an earlier one; the capture that is faulty is one of those that are read, and the limit is
 -- the domain's.
-abbrev pub Says : List (List ℕ) → Domain → Outcome → Type 0
-Says words domain (outcome.Names name) = (at : ℕ) × IsFirstRepeat (run_files words domain) at × (name ≡ name_at (run_files words domain) at)
-Says words domain (outcome.Capture name at fault) = AreApart (run_files words domain)
+abbrev pub Says : RunNames → Domain → Outcome → Type 0
+Says files domain (outcome.Names name) = (at : ℕ) × IsFirstRepeat (run_files files domain) at × (name ≡ name_at (run_files files domain) at)
+Says files domain (outcome.Capture name at fault) = AreApart (run_files files domain)
     × ((place : ℕ) × (place < length (run_inputs domain)) × (name ≡ name_at (run_inputs domain) place))
-Says words domain (outcome.Packets limit) = AreApart (run_files words domain) × (limit ≡ domain.packets) × IsLimit limit
-Says words domain outcome.Done = AreApart (run_files words domain)
-Says words domain outcome.ReadFault = AreApart (run_files words domain)
-Says words domain outcome.WriteFault = AreApart (run_files words domain)
-Says words domain outcome.NoMemory = ⊤
-Says words domain _ = ⊥
+Says files domain (outcome.Packets limit) = AreApart (run_files files domain) × (limit ≡ domain.packets) × IsLimit limit
+Says files domain outcome.Done = AreApart (run_files files domain)
+Says files domain outcome.ReadFault = AreApart (run_files files domain)
+Says files domain outcome.WriteFault = AreApart (run_files files domain)
+Says files domain outcome.NoMemory = ⊤
+Says files domain _ = ⊥
 
-module _ (tells : Bool) (words : List (List ℕ)) (old_in new_in : Reading) (old new : Writing) where
+module _ (tells : Bool) (files : RunNames) (old_in new_in : Reading) (old new : Writing) where
   -- the inputs of a domain were opened, all of them, each by a slot of its own
   abbrev pub OpensInputs : Domain → Type 0
-  OpensInputs domain = AllOpened old_in.side new_in.side (domain_file words ∷ readings_file words ∷ run_inputs domain)
+  OpensInputs domain = AllOpened old_in.side new_in.side (files.domain ∷ files.readings ∷ run_inputs domain)
 
   -- What was asked of a desk for this domain, whatever the desk tells; where it tells, DOMAIN holds
   -- the domain. The names that were given to the opening of inputs are DOMAIN, READINGS and the
@@ -245,35 +240,45 @@ module _ (tells : Bool) (words : List (List ℕ)) (old_in new_in : Reading) (old
   -- output was opened only where all inputs had been; none of the captures and outputs, unless all
   -- files differ.
   pub record AsksOf (answer : Outcome) (domain : Domain) : Type 0 where
-    pub set : IsTrue tells → (readings : List (List Sample)) × IsSet old words domain readings
-    pub says : Says words domain answer
-    pub apart : OpensNone words old_in new_in old new ⊎ AreApart (run_files words domain)
-    pub asked_in : AsksFront old_in.side.asked new_in.side.asked (domain_file words ∷ readings_file words ∷ run_inputs domain)
-    pub asked_out : AsksFront old.side.asked new.side.asked (run_outputs words domain)
+    pub set : IsTrue tells → (readings : List (List Sample)) × IsSet old files domain readings
+    pub says : Says files domain answer
+    pub apart : OpensNone files old_in new_in old new ⊎ AreApart (run_files files domain)
+    pub asked_in : AsksFront old_in.side.asked new_in.side.asked (files.domain ∷ files.readings ∷ run_inputs domain)
+    pub asked_out : AsksFront old.side.asked new.side.asked (run_outputs files domain)
     pub inputs_first : (new ≡ old) ⊎ OpensInputs domain
     pub all_in : IsBehindAll ⊥ answer → OpensInputs domain
-    pub all_out : IsBehindAll ⊥ answer → new.side.asked ≡ old.side.asked ++ run_outputs words domain
+    pub all_out : IsBehindAll ⊥ answer → new.side.asked ≡ old.side.asked ++ run_outputs files domain
 
   -- no domain was read, and no capture and no output opened; or so much was asked for one domain
   abbrev pub Asks : Outcome → Type 0
-  Asks answer = (OpensNone words old_in new_in old new × IsUnset answer) ⊎ ((domain : Domain) × AsksOf answer domain)
+  Asks answer = (OpensNone files old_in new_in old new × IsUnset answer) ⊎ ((domain : Domain) × AsksOf answer domain)
 
-module _ (opens tells : Bool) (words : List (List ℕ)) (old_in new_in : Reading) (old new : Writing) where
-  -- what a run owes for its answer: its cause, what was opened and read, and what the files hold
-  pub record Owes (answer : Outcome) : Type 0 where
-    pub read_fault : answer ≡ outcome.ReadFault → Rose old_in.side.faults new_in.side.faults
-    pub write_fault : answer ≡ outcome.WriteFault → Rose old.side.faults new.side.faults
+-- ---- the promise
+
+-- where the gate of the workers always opens or may stay shut
+module _ (opens : Bool) (desks : Desks) (files : RunNames) where
+  pub record Keeps (answer : Outcome) : Type 0 where
+    -- a fault comes only where its count rose, told or not
+    pub read_fault : answer ≡ outcome.ReadFault → Rose desks.old_in.side.faults desks.new_in.side.faults
+    pub write_fault : answer ≡ outcome.WriteFault → Rose desks.old.side.faults desks.new.side.faults
     pub usage : answer ≢ outcome.Usage
-    pub differed : HaveDiffered words answer
-    pub cause : IsTrue tells → HasCause words old_in new_in old new answer
-    pub leaves : IsTrue tells → Leaves opens words old_in new_in old new answer
-    pub exact : (asked : Outcome) → IsTrue tells → Asked old words asked → (Rose old_in.side.faults new_in.side.faults → ⊥)
-        → (Rose old.side.faults new.side.faults → ⊥) → (answer ≡ asked) ⊎ (answer ≡ outcome.NoMemory)
-    pub domain_first : (fault : DomainFault) → answer ≡ outcome.Domain fault → AsksFront old_in.side.asked new_in.side.asked (domain_file words ∷ [])
-    pub asks : Asks tells words old_in new_in old new answer
-    pub no_output : new_in.side.slots < old_in.side.slots + 2 → new ≡ old
-    pub untouched : IsRefusal answer → OpensNone words old_in new_in old new
-    pub drained : IsDone answer → IsTrue tells → AreDrained opens words old_in new_in old new
-    pub boundary : IsBehindAll (old.side.slots < new.side.slots) answer → IsTrue tells → IsBounded opens words old_in new_in old new
-    pub kept_in : KeepsInputs old_in new_in
-    pub kept_out : IsTrue tells → KeepsOutputs old new
+    pub differed : HaveDiffered files answer
+    pub cause : IsTrue desks.tells → HasCause files desks.old_in desks.new_in desks.old desks.new answer
+    pub leaves : IsTrue desks.tells → Leaves opens files desks.old_in desks.new_in desks.old desks.new answer
+    -- what is asked for is answered, unless a call of the desk failed or no memory could be had
+    pub exact : (asked : Outcome) → IsTrue desks.tells → Asked desks.old files asked → (Rose desks.old_in.side.faults desks.new_in.side.faults → ⊥)
+        → (Rose desks.old.side.faults desks.new.side.faults → ⊥) → (answer ≡ asked) ⊎ (answer ≡ outcome.NoMemory)
+    -- the names that were opened: READINGS isn't where DOMAIN is refused; told or not, all is of one domain
+    pub domain_first : (fault : DomainFault) → answer ≡ outcome.Domain fault → AsksFront desks.old_in.side.asked desks.new_in.side.asked (files.domain ∷ [])
+    pub asks : Asks desks.tells files desks.old_in desks.new_in desks.old desks.new answer
+    -- no output is opened before DOMAIN and READINGS, nor an output or a capture where DOMAIN, READINGS or the names are refused
+    pub no_output : desks.new_in.side.slots < desks.old_in.side.slots + 2 → desks.new ≡ desks.old
+    pub untouched : IsRefusal answer → OpensNone files desks.old_in desks.new_in desks.old desks.new
+    pub drained : IsDone answer → IsTrue desks.tells → AreDrained opens files desks.old_in desks.new_in desks.old desks.new
+    -- where the gate opens, a port's capture is one of IPv6 packets, each with a whole header chain without an IOAM option and
+    -- of at most 262,144 octets
+    pub boundary : IsBehindAll (desks.old.side.slots < desks.new.side.slots) answer → IsTrue desks.tells
+        → IsBounded opens files desks.old_in desks.new_in desks.old desks.new
+    -- input slots that were there, and where the desk tells output slots that were there and names that weren't opened to be written, are as they were
+    pub kept_in : KeepsInputs desks.old_in desks.new_in
+    pub kept_out : IsTrue desks.tells → KeepsOutputs desks.old desks.new

@@ -1,7 +1,9 @@
--- What `collect EXPORTS REPORT` answers and leaves.
-use Rattle.std.specs.Prelude.{◌≡◌, ◌≢◌, ℕ, ◌<◌, ◌⊎◌, ⊤, Bool, IsTrue, IsSomeAnd, List, Option, Some}
+-- What `collect EXPORTS REPORT` promises.
+use Rattle.std.specs.Prelude.{◌≡◌, ◌≢◌, ℕ, ◌<◌, ◌⊎◌, ⊤, Bool, IsTrue, IsSomeAnd, List, [], ◌∷◌, ◌++◌, Option, Some}
 use Rattle.ioam_base.specs.Octets.{IsFront}
+use Rattle.ioam_desk.specs.Asked.{AsksFront}
 use Rattle.ioam_desk.specs.Desk.{Reading, Writing, Rose, holds}
+use Rattle.ioam_desk.specs.Kept.{KeepsInputs, KeepsOutputs}
 use Rattle.ioam_dex.specs.Record.{Record}
 use Rattle.ioam_dex.specs.Reads.{Ending, Whole, Faulty, Reads, Splits}
 use Rattle.ioam_report_groups.specs.GroupsText.{records_text}
@@ -9,15 +11,22 @@ use Rattle.ioam_desk_outputs.specs.Names.{name_at}
 use Rattle.ioam_collect_laws.specs.Exported.{TellsRun}
 use Rattle.ioam_collect_laws.specs.Paths.{Regroups}
 use Rattle.ioam_collect_stream.specs.Gathering.{AreFew, IsLimit, Passes, AreWhole}
+use Rattle.ioam_run_answer.specs.Desks.{Desks}
+use Rattle.ioam_run_answer.specs.Outcomes.{IsDone, IsBehindAll, OpensNothing}
 use Rattle.ioam_run_answer.specs.declared.outcome.Outcome.{Outcome}
 use Rattle.ioam_run_answer.specs.declared.outcome.Outcome.TheVariants as outcome
 
--- the names of the files
-abbrev pub exports_file : List (List ℕ) → List ℕ
-exports_file words = name_at words 1
+-- ---- its files
 
-abbrev pub report_file : List (List ℕ) → List ℕ
-report_file words = name_at words 2
+pub record CollectNames : Type 0 where
+  pub exports : List ℕ
+  pub report : List ℕ
+
+-- they stand behind the command's own name
+abbrev pub collect_names : List (List ℕ) → CollectNames
+collect_names words = record { exports = name_at words 1; report = name_at words 2 }
+
+-- ---- what EXPORTS may be
 
 -- the octets read as these records, and end so
 abbrev pub EndsSo : Ending → List Record → List ℕ → Type 0
@@ -39,6 +48,8 @@ pub record IsLong (limit : ℕ) (octets : List ℕ) : Type 0 where
   pub passes : Passes limit records octets
   pub few : AreFew records
 
+-- ---- which answer is asked for, and why each comes
+
 -- What the names and the files ask for, where nothing fails: the first of the refusals in their order whose
 -- condition holds, or Done. What EXPORTS holds is spoken of where the desk tells.
 module _ (tells : Bool) (content : Option (List ℕ)) (exports report : List ℕ) where
@@ -55,11 +66,9 @@ module _ (tells : Bool) (content : Option (List ℕ)) (exports report : List ℕ
     HasCause outcome.ReadFault = Rose old_in.side.faults new_in.side.faults
     HasCause outcome.WriteFault = Rose old.side.faults new.side.faults
     HasCause outcome.NoMemory = ⊤
-    HasCause (outcome.Names name) = Asked (outcome.Names name)
-    HasCause (outcome.Exports at fault) = Asked (outcome.Exports at fault)
-    HasCause (outcome.Records limit) = Asked (outcome.Records limit)
-    HasCause outcome.Done = Asked outcome.Done
-    HasCause _ = ⊥
+    HasCause answer = Asked answer
+
+-- ---- what REPORT holds afterwards
 
 -- the report is the text of some records, no more than may be, and of a run's records its groups are the paths of the run's
 -- packets, and the whole paths where EXPORTS holds what the run wrote and was read to its end; `Are` says which records of
@@ -94,3 +103,31 @@ module _ (content : Option (List ℕ)) (report : List ℕ) (old_in new_in : Read
   Leaves outcome.NoMemory = (new ≡ old) ⊎ IsSomeAnd content (HoldsPart old new report)
   Leaves (outcome.Names name) = new ≡ old
   Leaves _ = ⊥
+
+-- ---- the promise
+
+module _ (desks : Desks) (files : CollectNames) where
+  -- what EXPORTS holds
+  abbrev pub exported : Option (List ℕ)
+  exported = holds desks.old files.exports
+
+  pub record Keeps (answer : Outcome) : Type 0 where
+    pub cause : HasCause desks.tells exported files.exports files.report desks.old_in desks.new_in desks.old desks.new answer
+    pub leaves : IsTrue desks.tells → Leaves exported files.report desks.old_in desks.new_in desks.old desks.new answer
+    -- what is asked for is answered, unless a call of the desk failed or no memory could be had
+    pub exact : (asked : Outcome) → IsTrue desks.tells → Asked desks.tells exported files.exports files.report asked
+        → (Rose desks.old_in.side.faults desks.new_in.side.faults → ⊥) → (Rose desks.old.side.faults desks.new.side.faults → ⊥)
+        → (answer ≡ asked) ⊎ (answer ≡ outcome.NoMemory)
+    -- the names that were opened, told or not
+    pub asked_in : AsksFront desks.old_in.side.asked desks.new_in.side.asked (files.exports ∷ [])
+    pub asked_out : AsksFront desks.old.side.asked desks.new.side.asked (files.report ∷ [])
+    pub all_in : IsBehindAll ⊥ answer → desks.new_in.side.asked ≡ desks.old_in.side.asked ++ files.exports ∷ []
+    pub all_out : IsBehindAll ⊥ answer → desks.new.side.asked ≡ desks.old.side.asked ++ files.report ∷ []
+    -- nothing is opened where the names are equal, and no output before EXPORTS; where all is done it was read to its end
+    pub unopened : OpensNothing answer → desks.new_in ≡ desks.old_in
+    pub differed : (desks.new_in ≡ desks.old_in) ⊎ (files.exports ≢ files.report)
+    pub no_output : desks.new_in.side.slots ≡ desks.old_in.side.slots → desks.new ≡ desks.old
+    pub drained : IsDone answer → IsTrue desks.tells → IsTrue (desks.new_in.ended desks.old_in.side.slots)
+    -- input slots that were there, and where the desk tells output slots that were there and names that weren't opened to be written, are as they were
+    pub kept_in : KeepsInputs desks.old_in desks.new_in
+    pub kept_out : IsTrue desks.tells → KeepsOutputs desks.old desks.new

@@ -1,0 +1,57 @@
+-- What the top call promises of each command, in the words of the command's own crate. `opens` says that the gate of the
+-- workers always opens.
+use Rattle.std.specs.Prelude.{◌≡◌, ℕ, Bool, IsTrue, List}
+use Rattle.ioam_cmd.specs.Measured.{Measures}
+use Rattle.ioam_cmd.specs.declared.command.Command.{Command}
+use Rattle.ioam_cmd.specs.declared.command.Command.TheVariants.{Filter, Paths, Show, Save, Collect, Node, Run, Bulk}
+use Rattle.ioam_desk.specs.Desk.{holds}
+use Rattle.ioam_desk_outputs.specs.Names.{name_at}
+use Rattle.ioam_run_answer.specs.Desks.{Desks}
+use Rattle.ioam_run_answer.specs.declared.outcome.Outcome.{Outcome}
+use Rattle.ioam_run_answer.specs.declared.outcome.Outcome.TheVariants as outcome
+use Rattle.ioam_run_bulk.specs.Promise as bulk
+use Rattle.ioam_run_capture.specs.Promise.{FilterKeeps, PathsKeeps, SaveKeeps, ShowKeeps}
+use Rattle.ioam_run_collect.specs.Promise as collect
+use Rattle.ioam_run_collect.specs.Promise.{collect_names}
+use Rattle.ioam_run_domain.specs.Promise as domain
+use Rattle.ioam_run_domain.specs.Promise.{RunNames, run_names}
+use Rattle.ioam_run_node.specs.Promise as node
+use Rattle.ioam_run_node.specs.Promise.{node_names}
+use Rattle.ioam_run_stream.specs.Promise as capture
+use Rattle.ioam_run_stream.specs.Promise.{capture_names}
+
+-- of `run` also that what it leaves in EXPORTS is all records of its arrivals, and that of these octets, wherever it reads them
+-- later, `collect` tells the whole path of each packet that was exported of; after WriteFault and NoMemory it is a front of
+-- them, of which `collect` tells the paths as far as the records are whole
+pub record RunKeeps (opens : Bool) (desks : Desks) (files : RunNames) (answer : Outcome) : Type 0 where
+  pub keeps : domain.Keeps opens desks files answer
+  pub measured : IsTrue desks.tells → Measures opens files desks.old_in desks.new_in desks.old desks.new answer
+
+-- REPORT is the fourth word of `bulk`
+abbrev pub bulk_report : List (List ℕ) → List ℕ
+bulk_report words = name_at words 4
+
+-- the promise of each command
+module _ (opens : Bool) (desks : Desks) (words : List (List ℕ)) where
+  abbrev pub Keeps : Command → Outcome → Type 0
+  Keeps Filter answer = FilterKeeps desks (capture_names words) answer
+  Keeps Paths answer = PathsKeeps desks (capture_names words) answer
+  Keeps Show answer = ShowKeeps desks (capture_names words) answer
+  Keeps Save answer = SaveKeeps desks (capture_names words) answer
+  Keeps Collect answer = collect.Keeps desks (collect_names words) answer
+  Keeps Node answer = node.Keeps desks (node_names words) answer
+  Keeps (Run workers) answer = RunKeeps opens desks (run_names words) answer
+  Keeps (Bulk seed count workers) answer = bulk.Keeps desks seed count (bulk_report words) answer
+
+-- which answer the words and the files ask for, where nothing fails
+module _ (desks : Desks) (words : List (List ℕ)) where
+  abbrev pub Asked : Command → Outcome → Type 0
+  Asked Filter answer = capture.Asked desks (capture_names words) answer
+  Asked Paths answer = capture.Asked desks (capture_names words) answer
+  Asked Show answer = capture.Asked desks (capture_names words) answer
+  Asked Save answer = capture.Asked desks (capture_names words) answer
+  Asked Collect answer =
+      let files = collect_names words in collect.Asked desks.tells (holds desks.old files.exports) files.exports files.report answer
+  Asked Node answer = node.Asked (node_names words) desks.old answer
+  Asked (Run workers) answer = domain.Asked desks.old (run_names words) answer
+  Asked (Bulk seed count workers) answer = answer ≡ outcome.Done

@@ -1,0 +1,21 @@
+use Rattle.std.proofs.Common.{ap, Err}
+use Rattle.ioam_run_node.proofs.RanLaws.{ends_owes}
+use Rattle.ioam_run_node.proofs.RefusedLaws.{refused_owes}
+use Rattle.ioam_run_node.proofs.node_run.run_names.Goals as goal
+
+pub returns-in-Err : goal.returns-in-Err
+returns-in-Err g c = record {
+  owes = refused_owes g.D.Desk.tells c.args.files.now (g.D.Desk.reading c.args.desk.now) (g.D.Desk.reading c.read_names.new.desk)
+      (g.D.Desk.writing c.args.desk.now) c.in-Err.refusal c.in-Err.ensures.refused c.in-Err.ensures.asked
+      (λ fault is. c.in-Err.ensures.domain_first fault (ap Err is)) c.read_names.ensures.kept
+      (g.D.Desk.writing c.read_names.new.desk) c.refused.result c.in-Err.ensures.outputs c.refused.ensures;
+}
+
+pub returns-in-Ok : goal.returns-in-Ok
+returns-in-Ok g c = record {
+  owes = ends_owes g.D.Desk.tells c.args.files.now (g.D.Desk.reading c.args.desk.now) (g.D.Desk.reading c.read_names.new.desk)
+      c.in-Ok.ensures.side c.in-Ok.ensures.ended c.read_names.ensures.kept
+      (g.D.Desk.writing c.args.desk.now) (g.D.Desk.writing c.read_names.new.desk) (g.D.Desk.writing c.run_set.new.desk)
+      (g.D.Desk.reading c.run_set.new.desk) c.in-Ok.setting.domain c.in-Ok.setting.readings c.in-Ok.ensures.outputs c.in-Ok.ensures.read
+      c.run_set.result c.run_set.ensures.ends;
+}
