@@ -48,14 +48,33 @@ pub fn ioam<R: Threads + Sync, D: Desk, G: Gate>(
     ensures kept_out { IsTrue D.tells → KeepsOutputs (D.writing desk.old) (D.writing desk.new) }
 {
     match parse(words) {
-        Some(Command::Filter) => run_filter(alloc, &CaptureFiles::of(words), desk),
-        Some(Command::Paths) => run_paths(alloc, &CaptureFiles::of(words), desk),
-        Some(Command::Show) => run_show(alloc, &CaptureFiles::of(words), desk),
-        Some(Command::Save) => run_save(alloc, &CaptureFiles::of(words), desk),
-        Some(Command::Collect) => run_collect(alloc, &CollectFiles::of(words), desk),
-        Some(Command::Node) => run_node(alloc, &NodeFiles::of(words), desk),
+        Some(Command::Filter) => {
+            let files = CaptureFiles::of(words);
+            run_filter(alloc, &files, desk)
+        }
+        Some(Command::Paths) => {
+            let files = CaptureFiles::of(words);
+            run_paths(alloc, &files, desk)
+        }
+        Some(Command::Show) => {
+            let files = CaptureFiles::of(words);
+            run_show(alloc, &files, desk)
+        }
+        Some(Command::Save) => {
+            let files = CaptureFiles::of(words);
+            run_save(alloc, &files, desk)
+        }
+        Some(Command::Collect) => {
+            let files = CollectFiles::of(words);
+            run_collect(alloc, &files, desk)
+        }
+        Some(Command::Node) => {
+            let files = NodeFiles::of(words);
+            run_node(alloc, &files, desk)
+        }
         Some(Command::Run { workers }) => {
-            run_domain(rt, alloc, workers, &RunFiles::of(words), desk, gate)
+            let files = RunFiles::of(words);
+            run_domain(rt, alloc, workers, &files, desk, gate)
         }
         Some(
             Command::Bulk {

@@ -68,7 +68,11 @@ pub fn run_domain<R: Threads + Sync, D: Desk, G: Gate>(
 }
 
 // Reads the two files that the domain is set by.
-fn read_names<D: Desk>(alloc: Global, files: &RunFiles<'_>, desk: &mut D) -> Result<Setting, Refusal>
+fn read_names<D: Desk>(
+    alloc: Global,
+    files: &RunFiles<'_>,
+    desk: &mut D,
+) -> Result<Setting, Refusal>
     ensures read { IfOk result (λ setting. IsTrue D.tells
         → IsSetting (D.writing desk.old) files.now.domain files.now.readings setting.domain setting.readings) }
     ensures refused { IfErr result (Refuses (D.writing desk.old) files.now.domain files.now.readings D.tells (D.reading desk.old) (D.reading desk.new)) }

@@ -16,7 +16,6 @@ ghost use Rattle.ioam_run_node.specs.Seat.{seat_at};
 use crate::names::{NodeFiles, inward_of, node_files};
 use crate::passing::Passing;
 use crate::post::Post;
-
 use ioam_desk::Desk;
 use ioam_desk_outputs::first_repeat;
 use ioam_run_answer::{Outcome, names_outcome};
@@ -49,7 +48,11 @@ fn run_names<D: Desk>(alloc: Global, files: &NodeFiles<'_>, desk: &mut D) -> Out
 }
 
 // Reads the two files that the domain is set by.
-fn read_names<D: Desk>(alloc: Global, files: &NodeFiles<'_>, desk: &mut D) -> Result<Setting, Refusal>
+fn read_names<D: Desk>(
+    alloc: Global,
+    files: &NodeFiles<'_>,
+    desk: &mut D,
+) -> Result<Setting, Refusal>
     ensures read { IfOk result (λ setting. IsTrue D.tells
         → IsSetting (D.writing desk.old) files.now.domain files.now.readings setting.domain setting.readings) }
     ensures refused { IfErr result (Refuses (D.writing desk.old) files.now.domain files.now.readings D.tells (D.reading desk.old) (D.reading desk.new)) }
@@ -66,7 +69,12 @@ fn read_names<D: Desk>(alloc: Global, files: &NodeFiles<'_>, desk: &mut D) -> Re
 }
 
 // Runs the node that is named in a domain that was read.
-fn run_set<D: Desk>(alloc: Global, files: &NodeFiles<'_>, setting: &Setting, desk: &mut D) -> Outcome
+fn run_set<D: Desk>(
+    alloc: Global,
+    files: &NodeFiles<'_>,
+    setting: &Setting,
+    desk: &mut D,
+) -> Outcome
     ensures ends { Ends D.tells files.now (D.reading desk.old) (D.reading desk.new) (D.writing desk.old) (D.writing desk.new) setting.now.domain setting.now.readings result }
 {
     let Some(node) = setting.domain.node_named(files.node.text()) else {
