@@ -1,4 +1,5 @@
 pub mod LeadsLaws
+pub mod ChainLaws
 pub mod OctetsLaws
 pub mod ResultLaws
 pub mod WordsLaws

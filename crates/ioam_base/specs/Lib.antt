@@ -1,4 +1,5 @@
 pub mod Leads
+pub mod Chain
 pub mod Octets
 pub mod Words
 pub mod Decimal

@@ -1,19 +1,20 @@
 //! Octets that are fed in pieces, and taken from the front.
 ghost use Rattle.std.specs.Prelude.{◌≡◌, ◌+◌, ◌-◌, ◌≤◌, ◌<◌, ◌^◌, [], drop, length, IfOk, OnErr, OnOk};
-ghost use Rattle.ioam_base.specs.Fed.{fresh, fed, passed, with_piece};
+ghost use Rattle.ioam_base.specs.Fed.{fresh, fed, passed, still_given, with_piece};
 
 use crate::memory::NoMemory;
 use crate::octets::drop_front;
 use std::alloc::Global;
 use std::marker::Model;
 
-/// Octets that there is room for from the start: a piece as files are read in.
-const ROOM: usize = 65_536;
+/// How many octets a piece has, as files are read in: there is room for as many from the start.
+pub const PIECE: usize = 65_536;
 
 /// Octets that are fed in any pieces, and taken from the front. Those not yet taken are pending.
 ///
-/// Each octet is copied into the buffer once, and moved to its front at most once. Octets that were
-/// taken are kept until more are fed.
+/// Octets that were taken go, when others are taken, once they are half a piece and as many as are
+/// pending. So what is kept doesn't grow with what was fed, and for each octet that is fed at most
+/// one is moved within the buffer.
 #[derive(Drop)]
 pub struct Fed {
     buffer: Vec<u8>,
@@ -40,7 +41,7 @@ impl Fed {
         ensures { IfOk result (λ octets. octets ≡ fresh) }
     {
         Ok(Fed {
-            buffer: Vec::with_capacity(alloc, ROOM)?,
+            buffer: Vec::with_capacity(alloc, PIECE)?,
             taken: 0,
             start: 0,
         })
@@ -67,17 +68,25 @@ impl Fed {
         &self.buffer[self.taken..]
     }
 
-    /// Feeds the next octets, of which there are below 2^63 in all. Those that were taken are no
-    /// longer kept. Without memory the pending octets are as before.
+    /// Feeds the next octets, of which there are below 2^63 in all.
     pub fn feed(&mut self, piece: &[u8]) -> Result<(), NoMemory>
         requires { fed self.old + length piece.now < 2 ^ 63 }
         ensures ok { OnOk result (self.new ≡ with_piece piece.now self.old) }
-        ensures err { OnErr result (self.new ≡ record self.old { given = [] }) }
+        ensures err { OnErr result (self.new ≡ self.old) }
     {
-        drop_front(&mut self.buffer, self.taken);
-        self.taken = 0;
         self.buffer.extend_from_slice(piece)?;
         Ok(())
+    }
+
+    // Lets go of the octets that were taken, once they are many.
+    fn let_go(&mut self)
+        ensures { self.new ≡ record self.old { given = still_given self.old } }
+    {
+        let pending = self.buffer.len() - self.taken;
+        if self.taken >= pending.max(PIECE / 2) {
+            drop_front(&mut self.buffer, self.taken);
+            self.taken = 0;
+        }
     }
 
     /// Takes so many of the pending octets.
@@ -85,6 +94,7 @@ impl Fed {
         requires { count ≤ length self.old.pending }
         ensures { self.new ≡ passed count self.old }
     {
+        self.let_go();
         self.taken += count;
         self.start += count as u64;
     }

@@ -1,7 +1,10 @@
-use Rattle.std.proofs.Common.{ap, ◌∙◌}
-use Rattle.ioam_base.specs.Fed.{passed}
+use Rattle.std.proofs.Common.{◌+◌, ◌++◌, ap, take, drop, ◌∙◌}
+use Rattle.ioam_base.specs.Fed.{Kept}
 use Rattle.ioam_base.proofs.FedLaws.{moved_on}
 use Rattle.ioam_base.proofs.fed.Fed.take.Goals as goal
 
 pub returns : goal.returns
-returns c = moved_on c.self.inside.buffer.items c.self.inside.taken c.self.inside.start c.args.count ∙ ap (λ kept. passed c.args.count kept) c.self.view_is
+returns c =
+    let n = c.args.count in
+    let on : Kept → Kept = λ k. record { given = k.given ++ take n k.pending; start = k.start + n; pending = drop n k.pending } in
+    moved_on c.self.inside.buffer.items c.self.inside.taken c.self.inside.start n ∙ ap on (c.self.view_is ∙ c.let_go.ensures)
