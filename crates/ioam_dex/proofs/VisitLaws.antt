@@ -1,5 +1,5 @@
 -- A visit that is there or not, among octets.
-use Rattle.std.proofs.Common.{◌≡◌, ℕ, ◌+◌, ◌*◌, ◌/◌, ◌%◌, ◌<◌, ◌≤◌, Bool, true, false, List, ◌++◌, length, drop, Option, Some, None, arith, refl, sym, ap, ◌∙◌, inl, inr, append_assoc}
+use Rattle.std.proofs.Common.{◌≡◌, ℕ, ◌+◌, ◌≤◌, Bool, true, false, List, ◌++◌, length, drop, Option, Some, None, arith, refl, sym, ap, ◌∙◌, inl, inr, append_assoc}
 use Rattle.ioam_base.specs.Octets.{IsOctets, u32_at, u64_at}
 use Rattle.ioam_base.specs.Words.{four_octets, eight_octets}
 use Rattle.ioam_base.proofs.OctetsLaws.{u32_at-fits}

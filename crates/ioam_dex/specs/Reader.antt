@@ -2,6 +2,7 @@
 use Rattle.std.specs.Prelude.{◌≡◌, ℕ, ◌+◌, List, [], ◌∷◌, ◌++◌, length, Option, Some, None}
 use Rattle.std.specs.Io.BufRead.{Rests}
 use Rattle.std.specs.Borrow.{Fml, MutBor}
+use Rattle.ioam_base.specs.Fed.{KeepsFew}
 use Rattle.ioam_dex.specs.declared.export.ExportFault.{ExportFault}
 use Rattle.ioam_dex.specs.declared.reader.Step.{Step}
 use Rattle.ioam_dex.specs.declared.reader.Step.TheVariants.{Export, More, Bad}
@@ -11,18 +12,24 @@ use Rattle.ioam_dex.specs.Faults.{Fault, IsCut}
 use Rattle.ioam_dex.specs.Reads.{records_octets, Splits, Ending, Whole, Faulty, Reads, ReadsOnly}
 use Rattle.ioam_dex.specs.Reading.{Reading}
 
--- a reader that was fed these octets in all, in whatever pieces, and has given these records
+-- a reader that was fed these octets in all, in whatever pieces, and has given these records; few of the octets that
+-- it gave it still keeps, a record at a time, of 274 octets at most
 pub record Stands (reader : Reading) (octets : List ℕ) (records : List Record) : Type 0 where
   pub splits : Splits octets records reader.pending
   pub place : reader.start ≡ length (records_octets records)
+  pub few : KeepsFew 274 reader.given (length reader.pending)
 
 -- a reader that was fed nothing
 abbrev pub fresh : Reading
-fresh = record { start = 0; pending = [] }
+fresh = record { start = 0; pending = []; given = 0 }
 
 -- how many octets it was fed in all
 abbrev pub fed : Reading → ℕ
 fed reader = reader.start + length reader.pending
+
+-- how many octets it keeps
+abbrev pub held : Reading → ℕ
+held reader = reader.given + length reader.pending
 
 -- the record that is due is not whole and has no fault: more octets have to be fed, or the input ends
 abbrev pub Waits : Reading → Type 0

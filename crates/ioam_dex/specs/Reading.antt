@@ -2,7 +2,8 @@
 use Rattle.std.specs.Prelude.{ℕ, List}
 
 -- the place in the input of the first octet that was not yet taken, and the octets from there on that
--- were fed
+-- were fed; and how many octets that were given it still keeps
 pub record Reading : Type 0 where
   pub start : ℕ
   pub pending : List ℕ
+  pub given : ℕ

@@ -37,7 +37,7 @@ pub(crate) fn numbers_size(ext: u8) -> usize
 }
 
 /// The number at a place, where it is there.
-pub(crate) fn u32_where(there: bool, octets: &[u8], at: usize) -> Option<u32>
+pub fn u32_where(there: bool, octets: &[u8], at: usize) -> Option<u32>
     requires { at + four_where there ≤ length octets.now }
     ensures { result ≡ u32_where there octets.now at }
 {

@@ -24,25 +24,27 @@ pub enum Step<'a> {
 /// Reads export records out of any pieces of them.
 ///
 /// It keeps the octets that were fed and not yet taken: no more than one record and one piece, where
-/// each piece is fed after `next` answered `More`.
+/// each piece is fed after `next` answered `More`. Of those that it gave it keeps at most as many more,
+/// 548 and 32,768.
 #[derive(Drop)]
 pub struct ExportReader {
     octets: Fed,
 }
 
 impl Model for ExportReader {
+    ghost use Rattle.std.specs.Prelude.{length};
     ghost use Rattle.ioam_dex.specs.Reading.{Reading};
 
     ghost Value = { Reading };
 
-    ghost view = { λ r. record { start = r.octets.start; pending = r.octets.pending } };
+    ghost view = { λ r. record { start = r.octets.start; pending = r.octets.pending; given = length r.octets.given } };
 }
 
 impl ExportReader {
     ghost use Rattle.ioam_dex.specs.declared.export.ExportFault.TheVariants.{Short};
     ghost use Rattle.ioam_dex.specs.Record.{Record};
     ghost use Rattle.ioam_dex.specs.Reads.{Reads, ReadsOnly};
-    ghost use Rattle.ioam_dex.specs.Reader.{Stands, Waits, KeepsFault, RestsSo, fresh, fed, ending_of};
+    ghost use Rattle.ioam_dex.specs.Reader.{Stands, Waits, KeepsFault, RestsSo, fresh, fed, held, ending_of};
 
     /// A reader that was fed nothing.
     pub fn new(alloc: Global) -> Result<ExportReader, NoMemory>
@@ -71,6 +73,8 @@ impl ExportReader {
         // A fault of what is due stays, whatever is fed.
         ensures faulty { OnOk result (KeepsFault self.old self.new) }
         ensures err { OnErr result (self.new ≡ self.old) }
+        // What it keeps grows by the piece alone.
+        ensures held { OnOk result (held self.new ≡ held self.old + length piece.now) }
     {
         self.octets.feed(piece)
     }

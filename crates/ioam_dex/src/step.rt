@@ -32,8 +32,8 @@ impl RecordHead {
     }
 }
 
-// Whether octets are one element of a type, or nothing where it asks for nothing.
-fn is_filled(kind: TraceType, element: &[u8]) -> bool
+/// Whether octets are one element of a type, or nothing where it asks for nothing.
+pub fn is_filled(kind: TraceType, element: &[u8]) -> bool
     ensures { IsTrue result ↔ IsFilled kind element.now }
 {
     match split(kind, kind.words(), element) {

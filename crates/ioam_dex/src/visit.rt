@@ -48,7 +48,7 @@ pub fn visit_at(octets: &[u8], at: usize) -> (u64, u32)
 }
 
 /// The visit at a place, where it is there.
-pub(crate) fn visit_where(there: bool, octets: &[u8], at: usize) -> Option<(u64, u32)>
+pub fn visit_where(there: bool, octets: &[u8], at: usize) -> Option<(u64, u32)>
     requires { at + twelve_where there ≤ length octets.now }
     ensures { result ≡ visit_where there octets.now at }
 {
