@@ -2,6 +2,7 @@
 use Rattle.std.specs.Prelude.{◌≡◌, ℕ, ◌+◌, ◌*◌, ◌<◌, ◌≤◌, ◌^◌, List, [], ◌∷◌, ◌++◌, length, drop, Option, Some, None}
 use Rattle.std.specs.Io.BufRead.{Rests}
 use Rattle.std.specs.Borrow.{Fml, MutBor}
+use Rattle.ioam_base.specs.Fed.{KeepsFew}
 use Rattle.ioam_pcap.specs.declared.form.Link.{Link}
 use Rattle.ioam_pcap.specs.declared.capture.CapFault.{CapFault}
 use Rattle.ioam_pcap.specs.declared.capture.Packet as packet
@@ -15,19 +16,25 @@ use Rattle.ioam_pcap.specs.Entries.{Entry}
 use Rattle.ioam_pcap.specs.Reads.{Reached, FaultAt, CutAt, Shown, HeadShown, EntryShown, CutShown, FaultShown, Shows, Reads, ReadsOnly, Cap, link_by}
 use Rattle.ioam_pcap.specs.Reading.{Reading}
 
--- a reader that was fed these octets in all, and has given these records
+-- a reader that was fed these octets in all, and has given these records; few of the octets that it gave it still keeps,
+-- a record at a time, of 262,160 octets at most
 pub record Stands (reader : Reading) (octets : List ℕ) (entries : List Entry) : Type 0 where
   pub left : reader.pending ≡ drop reader.start octets
   pub inside : reader.start ≤ length octets
   pub reached : Reached octets reader.form entries reader.start
+  pub few : KeepsFew 262160 reader.given (length reader.pending)
 
 -- a reader that was fed nothing
 abbrev pub fresh : Reading
-fresh = record { form = None; start = 0; pending = [] }
+fresh = record { form = None; start = 0; pending = []; given = 0 }
 
 -- how many octets it was fed in all
 abbrev pub fed : Reading → ℕ
 fed reader = reader.start + length reader.pending
+
+-- how many octets it keeps
+abbrev pub held : Reading → ℕ
+held reader = reader.given + length reader.pending
 
 -- the most octets that a record has, its head included
 abbrev pub most_size : ℕ

@@ -3,8 +3,9 @@ use Rattle.std.specs.Prelude.{ℕ, List, Option}
 use Rattle.ioam_pcap.specs.declared.form.Form.{Form}
 
 -- the form, once the head was read; the place in the capture of the first octet that was not yet
--- taken; and the octets from there on that were fed
+-- taken; the octets from there on that were fed; and how many octets that were given it still keeps
 pub record Reading : Type 0 where
   pub form : Option Form
   pub start : ℕ
   pub pending : List ℕ
+  pub given : ℕ

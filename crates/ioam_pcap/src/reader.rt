@@ -15,7 +15,8 @@ use std::marker::Model;
 ///
 /// It keeps the octets that were fed and not yet taken. Where `next` answers `More` these are fewer
 /// than the 262,160 of the greatest record, so that a reader which is fed only then keeps less than
-/// a record and a piece.
+/// a record and a piece, and of the octets that it gave at most as many more, twice the greatest record
+/// and 32,768.
 #[derive(Drop)]
 pub struct CaptureReader {
     octets: Fed,
@@ -23,11 +24,12 @@ pub struct CaptureReader {
 }
 
 impl Model for CaptureReader {
+    ghost use Rattle.std.specs.Prelude.{length};
     ghost use Rattle.ioam_pcap.specs.Reading.{Reading};
 
     ghost Value = { Reading };
 
-    ghost view = { λ r. record { form = r.form; start = r.octets.start; pending = r.octets.pending } };
+    ghost view = { λ r. record { form = r.form; start = r.octets.start; pending = r.octets.pending; given = length r.octets.given } };
 }
 
 impl CaptureReader {
@@ -35,7 +37,7 @@ impl CaptureReader {
     ghost use Rattle.ioam_pcap.specs.Ending.{ending_of};
     ghost use Rattle.ioam_pcap.specs.Entries.{Entry};
     ghost use Rattle.ioam_pcap.specs.Reads.{Reads, ReadsOnly};
-    ghost use Rattle.ioam_pcap.specs.Reader.{Stands, HoldsFew, Waits, Looks, KeepsFault, RestsSo, fresh, fed, link_of};
+    ghost use Rattle.ioam_pcap.specs.Reader.{Stands, HoldsFew, Waits, Looks, KeepsFault, RestsSo, fresh, fed, held, link_of};
 
     /// A reader that was fed nothing.
     pub fn new(alloc: Global) -> Result<CaptureReader, NoMemory>
@@ -74,6 +76,8 @@ impl CaptureReader {
         // A fault of what is due stays, whatever is fed.
         ensures faulty { OnOk result (KeepsFault self.old self.new) }
         ensures err { OnErr result (self.new ≡ self.old) }
+        // What it keeps grows by the piece alone.
+        ensures held { OnOk result (held self.new ≡ held self.old + length piece.now) }
     {
         self.octets.feed(piece)
     }

@@ -1,12 +1,12 @@
 use Rattle.std.proofs.Common.{◌≡◌, ◌+◌, ◌≤◌, List, ℕ, length, take, drop, Option, refl, sym, ap, ◌∙◌, subst, rules, arith, Some, None}
-use Rattle.ioam_base.specs.Fed.{passed}
+use Rattle.ioam_base.specs.Fed.{KeepsFew, passed}
 use Rattle.ioam_pcap.specs.declared.form.Form.{Form}
 use Rattle.ioam_pcap.specs.Reading.{Reading}
 use Rattle.ioam_pcap.specs.Reads.{HeadFault, EntryFault, IsHeadCut, IsEntryCut, FaultAt, CutAt}
 use Rattle.ioam_pcap.specs.Form.{HasHead}
 use Rattle.ioam_pcap.specs.Entries.{Entry, IsWhole, captured, entry_at}
 use Rattle.ioam_pcap.specs.Reader.{Stands}
-use Rattle.ioam_pcap.proofs.StandsLaws.{cut_told, fault_told, octets_of_record, moved_by, Stands-head, Stands-step, Waits-few, EntryAt-step, length_left, length_of_record, entry_by}
+use Rattle.ioam_pcap.proofs.StandsLaws.{cut_told, fault_told, few_kept, octets_of_record, moved_by, Stands-head, Stands-step, Waits-few, EntryAt-step, length_left, length_of_record, entry_by}
 use Rattle.ioam_pcap.proofs.FaultLaws.{says_head, says_entry, says_cut, says_bad}
 use Rattle.ioam_pcap.proofs.reader.CaptureReader.next.Goals as goal
 
@@ -20,14 +20,15 @@ returns-in-Whole c =
     let new = moved_by c.self.inside.octets c.take.new.self c.self.inside.form old 24 c.self.view_is c.take.ensures in
     let rest = ap (λ r. r.pending) new in
     let with_form : Reading → Reading = λ r. record r { form = Some c.in-Whole.form } in
-    let after = ap with_form new in (
+    let after = ap with_form new in
+    let few = few_kept c.self.inside.octets c.take.new.self 24 c.take.ensures (omega (arith, head.0, ap (λ r. length r.pending) c.self.view_is)) (omega arith) in (
       (
         refl,
         λ _. tt,
         (
           (ap (λ r. r.start) new, rest, length_left _ old.pending 24 rest head.0, none, refl),
           λ octets entries stands.
-              let stood = Stands-head old c.in-Whole.form none head octets entries stands in
+              let stood = Stands-head old c.in-Whole.form none head octets entries stands (length c.take.new.self.given) (subst (λ p. KeepsFew 262160 (length c.take.new.self.given) (length p)) rest few) in
               let S : Reading → Type 0 = λ r. Stands r octets entries in
               ((none, (c.in-Whole.form, stood.reached.0, refl)), (refl, subst S (sym after) stood)),
           says_head old c.in-Whole.form none head _,
@@ -80,6 +81,7 @@ returns-in-Whole-entry_step c =
     let taken : behind ≡ passed size kept = c.take-in-Whole-entry_step.ensures ∙ ap (λ n. passed (16 + n) kept) told.1 in
     let new = moved_by kept behind c.self.inside.form old size c.self.view_is taken in
     let rest = ap (λ r. r.pending) new in
+    let few = few_kept kept behind size taken (omega (arith, told.0, ap (λ r. length r.pending) c.self.view_is)) (omega (arith, told.0.0)) in
     let octets = c.taken.result.now in
     let fits : 16 + h.captured ≤ length kept.pending = omega (arith, told.0, told.1, ap (λ r. length r.pending) c.self.view_is) in
     let shown : octets ≡ take (captured form old.pending 0) (drop 16 old.pending) =
@@ -101,7 +103,7 @@ returns-in-Whole-entry_step c =
             λ none. let wrong : ◌≡◌ {A = Option Form} (Some form) None = sym form_is ∙ none in absurd (cc),
             omega (arith, many, told.0.0),
           ),
-          λ all entries stands. (EntryAt-step old _ form form_is told.0 new entry entry_is all entries stands, Stands-step old _ form form_is told.0 new entry entry_is all entries stands),
+          λ all entries stands. (EntryAt-step old _ form form_is told.0 (ap (λ r. r.form) new) (ap (λ r. r.start) new) rest few entry entry_is all entries stands, Stands-step old _ form form_is told.0 (ap (λ r. r.form) new) (ap (λ r. r.start) new) rest few entry entry_is all entries stands),
           says_entry old form form_is told.0 _,
         ),
       ),
