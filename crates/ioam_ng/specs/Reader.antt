@@ -20,15 +20,16 @@ use Rattle.ioam_ng.specs.Blocks.{CanPass, Blocks, front, kind, packets, packet_t
 use Rattle.ioam_pcap.specs.Ending.{Faulty}
 use Rattle.ioam_pcap.specs.Entries.{Taken}
 use Rattle.ioam_ng.specs.BlockSteps.{taken_of, known_with}
-use Rattle.ioam_ng.specs.Reading.{Reading, place_of, fed}
+use Rattle.ioam_ng.specs.Reading.{Reading, place_of, fed, KeepsFewGiven}
 use Rattle.ioam_ng.specs.Reads.{HasFault, IsCut, Reads, ReadsOnly, CapNg}
 
--- a reader that was fed these octets in all, and has given these packets
+-- a reader that was fed these octets in all, and has given these packets; few of the octets that it took it still keeps
 pub record Stands (reader : Reading) (octets : List ℕ) (taken : List Taken) : Type 0 where
   pub blocks : List (Option Taken)
   pub leads : Blocks (front octets) blocks (place_of reader)
   pub given : taken ≡ packets blocks
   pub inside : fed reader ≡ length octets
+  pub few : KeepsFewGiven reader
 
 -- what is due is not whole and has no fault: more octets have to be fed, or the capture ends
 abbrev pub Waits : Reading → Type 0
@@ -61,9 +62,12 @@ faces_with faces (content.Face face) = faces ++ face ∷ []
 faces_with faces (content.Packet head) = faces
 faces_with faces content.Other = faces
 
--- a block was taken
+-- a block was taken, whatever is still kept of its octets
 abbrev pub moved_by : Reading → Block → Reading
-moved_by old b = record { known = known_with old.known b.order (faces_with old.known.faces b.content); start = old.start + b.size; pending = drop b.size old.pending }
+moved_by old b = record old { known = known_with old.known b.order (faces_with old.known.faces b.content); start = old.start + b.size; pending = drop b.size old.pending }
+
+abbrev pub IsMoved : Reading → Block → Reading → Type 0
+IsMoved old b new = new ≡ record (moved_by old b) { given = new.given }
 
 -- blocks without a packet were passed
 pub record Skips (old new : Reading) : Type 0 where
@@ -71,6 +75,8 @@ pub record Skips (old new : Reading) : Type 0 where
   pub leads : Blocks (place_of old) blocks (place_of new)
   pub none : packets blocks ≡ []
   pub fed : fed new ≡ fed old
+  pub still : blocks ≡ [] → new.given ≡ old.given
+  pub few : KeepsFewGiven old → KeepsFewGiven new
 
 -- what is due is a whole block without a fault, of this packet
 abbrev pub HasPacket : Reading → Taken → Type 0
@@ -117,7 +123,7 @@ IsDue reader found.NoMemory = IsFace reader
 
 -- one block was looked at, and passed where it has no packet
 abbrev pub Steps : Reading → Reading → Found → Type 0
-Steps old new found.Passed = IsPlain old × (place_of new ≡ behind (place_of old)) × (fed new ≡ fed old) × (length new.pending < length old.pending)
+Steps old new found.Passed = IsPlain old × (place_of new ≡ behind (place_of old)) × (fed new ≡ fed old) × (length new.pending < length old.pending) × KeepsFewGiven new
 Steps old new (found.Packet b) = (new ≡ old) × IsDue old (found.Packet b)
 Steps old new found.More = (new ≡ old) × IsDue old found.More
 Steps old new (found.Bad fault) = (new ≡ old) × IsDue old (found.Bad fault)

@@ -50,7 +50,8 @@ enum Found {
 /// Reads a capture in the form pcapng out of any pieces of it.
 ///
 /// It keeps the octets that were fed and not yet taken, and the interfaces of the section. Where
-/// `next` answers `More` these octets are fewer than the 16,777,216 of the largest block.
+/// `next` answers `More` these octets are fewer than the 16,777,216 of the largest block. Of those that
+/// it took it keeps at most as many more, twice the largest block and 32,768.
 #[derive(Drop)]
 pub struct NgReader {
     octets: Fed,
@@ -61,11 +62,12 @@ pub struct NgReader {
 }
 
 impl Model for NgReader {
+    ghost use Rattle.std.specs.Prelude.{length};
     ghost use Rattle.ioam_ng.specs.Reading.{Reading};
 
     ghost Value = { Reading };
 
-    ghost view = { λ r. record { known = record { count = r.count; order = r.order; faces = r.faces.items }; start = r.octets.start; pending = r.octets.pending } };
+    ghost view = { λ r. record { known = record { count = r.count; order = r.order; faces = r.faces.items }; start = r.octets.start; pending = r.octets.pending; given = length r.octets.given } };
 }
 
 impl NgReader {
@@ -73,9 +75,9 @@ impl NgReader {
     ghost use Rattle.ioam_pcap.specs.Ending.{ending_of};
     ghost use Rattle.ioam_pcap.specs.Entries.{Taken};
     ghost use Rattle.ioam_ng.specs.BlockSteps.{TellsBlock};
-    ghost use Rattle.ioam_ng.specs.Reading.{fresh, fed};
+    ghost use Rattle.ioam_ng.specs.Reading.{KeepsFewGiven, fresh, fed, held};
     ghost use Rattle.ioam_ng.specs.Reads.{Reads, ReadsOnly};
-    ghost use Rattle.ioam_ng.specs.Reader.{Stands, Waits, KeepsFault, StaysFaulty, Skips, IsDue, IsFace, HoldsFace, Shows, Steps, RestsSo, moved_by};
+    ghost use Rattle.ioam_ng.specs.Reader.{Stands, Waits, KeepsFault, StaysFaulty, Skips, IsDue, IsFace, HoldsFace, Shows, Steps, RestsSo, IsMoved};
 
     /// A reader that was fed nothing.
     pub fn new(alloc: Global) -> Result<NgReader, NoMemory>
@@ -108,6 +110,8 @@ impl NgReader {
         // A fault of what is due stays, whatever is fed.
         ensures faulty { OnOk result (KeepsFault self.old self.new) }
         ensures err { OnErr result (self.new ≡ self.old) }
+        // What it keeps grows by the piece alone.
+        ensures held { OnOk result (held self.new ≡ held self.old + length piece.now) }
     {
         self.octets.feed(piece)
     }
@@ -123,7 +127,9 @@ impl NgReader {
     fn keep(&mut self, block: Block) -> Result<(), NoMemory>
         requires fits { block.size ≤ length self.old.pending }
         requires count { self.old.known.count < 33554432 }
-        ensures ok { OnOk result (self.new ≡ moved_by self.old block) }
+        requires most { block.size ≤ 16777216 }
+        ensures ok { OnOk result (IsMoved self.old block self.new) }
+        ensures few { OnOk result (KeepsFewGiven self.new) }
         ensures err { OnErr result ((self.new ≡ self.old) × HoldsFace block.content) }
     {
         match block.content {
