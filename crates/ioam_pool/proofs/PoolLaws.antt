@@ -8,7 +8,7 @@ use Rattle.ioam_pool.specs.Order.{order, IsChain, IsInOrder, placed, without, Re
 use Rattle.ioam_pool.specs.Cells.{blank, cell_at, entry_at, entries_from, Chained, Ends, EndsWith, Parted, linked_in, head_then, Gap, Ties, IsLast, with_item}
 use Rattle.ioam_pool.specs.Chains.{Chains, chain_of, total, with_chain, with_one_more}
 use Rattle.ioam_pool.specs.Guides.{Guided}
-use Rattle.ioam_pool.specs.Kept.{seen, IsPool}
+use Rattle.ioam_pool.specs.Kept.{seen, IsPool, IsRoomFor}
 use Rattle.ioam_pool.specs.declared.cells.Cell.{Cell}
 use Rattle.ioam_pool.specs.declared.guides.Guide.{Guide}
 use Rattle.ioam_pool.proofs.ChainLaws.{Chained-unique, Chained-behind, split_first}
@@ -256,3 +256,12 @@ new_pool cells heads no_cells no_heads = rw (no_cells, no_heads) (record {
   in_order = λ d. tt;
   room = Rattle.std.proofs.Common.lit< tt;
 })
+
+-- the memory of a pool is as it was
+pub still_room : (cells chains a b c cells' chains' a' b' c' : ℕ) → IsRoomFor cells chains a b c → cells' ≡ cells → chains' ≡ chains → a' ≡ a → b' ≡ b → c' ≡ c
+    → IsRoomFor cells' chains' a' b' c'
+still_room cells chains a b c cells' chains' a' b' c' room of_cells of_chains of_a of_b of_c = record {
+  of_cells = of_a ∙ room.of_cells ∙ sym of_cells;
+  of_guides = rw (of_b, of_cells) room.of_guides;
+  of_heads = rw (of_c, of_chains) room.of_heads;
+}

@@ -1,5 +1,5 @@
 //! Cells at which searches of long chains begin.
-ghost use Rattle.std.specs.Prelude.{◌≡◌, ◌≤◌, ◌==◌, not, filter, length};
+ghost use Rattle.std.specs.Prelude.{◌≡◌, ◌+◌, ◌/◌, ◌≤◌, ◌==◌, not, filter, length, vec_capacity};
 ghost use Rattle.ioam_pool.specs.Cells.{Ends, entries_from};
 ghost use Rattle.ioam_pool.specs.Guides.{GuidesOn, IsStart, IsOn, KeepsGuides, StaysGuided};
 ghost use Rattle.ioam_pool.specs.Order.{IsChain};
@@ -98,12 +98,13 @@ fn find_guided(
 // room for it.
 fn add_guide(guides: &mut Vec<Guide>, count: usize, chain: u32, passed: Option<u32>)
     requires { count ≤ length guides.old.items }
-    ensures { KeepsGuides chain passed guides.old.items guides.new.items }
+    ensures guides { KeepsGuides chain passed guides.old.items guides.new.items }
+    ensures room { vec_capacity guides.new ≡ vec_capacity guides.old }
 {
     let Some(cell) = passed else {
         return;
     };
-    if guides.len() == guides.capacity() {
+    if guides.len() >= guides.capacity() {
         return;
     }
     let Ok(()) = guides.insert(count, Guide { chain, cell }) else {
@@ -142,6 +143,7 @@ pub(crate) fn seat_with_guide(
     requires guided { GuidesOn cells.now head chain guides.old.items }
     ensures seat { Seated cells.now head item.now result }
     ensures guides { StaysGuided cells.now head chain guides.old.items guides.new.items }
+    ensures room { vec_capacity guides.new ≡ vec_capacity guides.old }
 {
     let parts = item.parts();
     let count = count_in_front(guides, cells, chain, &parts);
@@ -150,9 +152,22 @@ pub(crate) fn seat_with_guide(
     found.seat
 }
 
+// Takes memory for a guide of every 32 of so many cells, and one: each has 32 cells of its chain in front and behind. Guides
+// only make searches shorter: where memory is wanting there is room for as many as before.
+pub(crate) fn make_guide_room(guides: &mut Vec<Guide>, cells: usize)
+    ensures items { guides.new.items ≡ guides.old.items }
+    ensures room { vec_capacity guides.old ≤ cells / 32 + 1 → vec_capacity guides.new ≤ cells / 32 + 1 }
+{
+    let most = cells / 32 + 1;
+    if guides.len() < most {
+        let _taken = guides.try_reserve_exact(most - guides.len());
+    }
+}
+
 // Drops the guides of a chain.
 pub(crate) fn drop_guides(guides: &mut Vec<Guide>, chain: u32)
-    ensures { guides.new.items ≡ filter (λ guide. not (guide.chain == chain)) guides.old.items }
+    ensures items { guides.new.items ≡ filter (λ guide. not (guide.chain == chain)) guides.old.items }
+    ensures room { vec_capacity guides.new ≡ vec_capacity guides.old }
 {
     guides.retain(|guide| guide.chain != chain);
 }

@@ -5,8 +5,8 @@ ghost use Rattle.ioam_pool.specs.Chains.{Chains, chain_of, total, with_chain, wi
 
 use crate::cells::Cell;
 use crate::freeing::last_of;
-use crate::growing::add_cells;
-use crate::guides::{Guide, drop_guides, seat_of, seat_with_guide};
+use crate::growing::{add_cells, add_head};
+use crate::guides::{Guide, drop_guides, make_guide_room, seat_of, seat_with_guide};
 use crate::item::Item;
 use crate::parts::Parts;
 use crate::seating::{Seat, gives_way, link_in, swap_item};
@@ -45,7 +45,8 @@ pub enum Inserted {
     Full(Item),
 }
 
-/// Chains of items over one array of cells.
+/// Chains of items over one array of cells. It has memory for its cells, for a guide of every 32 of them
+/// and one, and for at most twice its chains and four; only `grow` and `add_chain` take any.
 #[derive(Drop)]
 pub struct Pool {
     cells: Vec<Cell>,
@@ -61,11 +62,13 @@ impl Model for Pool {
     ghost Value = { Chains };
 
     ghost use Rattle.ioam_pool.specs.Guides.{Guided};
-    ghost use Rattle.ioam_pool.specs.Kept.{IsPool, seen};
+    ghost use Rattle.ioam_pool.specs.Kept.{IsPool, IsRoomFor, seen};
+    ghost use Rattle.std.specs.Prelude.{vec_len, vec_capacity};
 
     ghost view = { λ pool. seen pool.cells.items pool.heads.items };
 
-    ghost invariant = { λ pool. IsPool pool.cells.items pool.heads.items pool.free pool.held × Guided pool.cells.items pool.heads.items pool.guides.items };
+    ghost invariant = { λ pool. IsPool pool.cells.items pool.heads.items pool.free pool.held × Guided pool.cells.items pool.heads.items pool.guides.items
+        × IsRoomFor (vec_len pool.cells) (vec_len pool.heads) (vec_capacity pool.cells) (vec_capacity pool.guides) (vec_capacity pool.heads) };
 }
 
 impl Pool {
@@ -93,9 +96,7 @@ impl Pool {
         ensures { self.new ≡ (if is_ok result then record { chains = self.old.chains; capacity = self.old.capacity + more } else self.old) }
     {
         self.cells.try_reserve_exact(more as usize)?;
-        // Each guide has 32 cells of its chain in front and behind, so there is room for all.
-        self.guides
-            .try_reserve_exact((self.cells.len() + more as usize) / 32 + 1)?;
+        make_guide_room(&mut self.guides, self.cells.len() + more as usize);
         self.free = add_cells(&mut self.cells, self.free, more);
         Ok(())
     }
@@ -107,7 +108,7 @@ impl Pool {
         ensures chains { self.new ≡ (if is_ok result then with_one_more self.old else self.old) }
     {
         let number = self.heads.len() as u32;
-        self.heads.push(None)?;
+        add_head(&mut self.heads)?;
         Ok(Chain { number })
     }
 

@@ -1,5 +1,5 @@
 //! Where an item goes on a chain.
-ghost use Rattle.std.specs.Prelude.{◌≡◌, ◌<◌, ◌&&◌, not, length, vec_len};
+ghost use Rattle.std.specs.Prelude.{◌≡◌, ◌<◌, ◌&&◌, not, length, vec_len, vec_capacity};
 ghost use Rattle.std.specs.Option.{ForSome};
 ghost use Rattle.ioam_pool.specs.Cells.{Ends, entries_from, entry_at, linked_in, head_then, next_or, with_item};
 ghost use Rattle.ioam_pool.specs.Entry.{is_full};
@@ -129,6 +129,8 @@ pub(crate) fn link_in(
     requires chained { ForSome before (λ place. place < vec_len cells.old) }
     ensures cells { cells.new.items ≡ linked_in cells.old.items head before at item }
     ensures head { result ≡ head_then head before at }
+    ensures len { vec_len cells.new ≡ vec_len cells.old }
+    ensures room { vec_capacity cells.new ≡ vec_capacity cells.old }
 {
     match before {
         None => {
@@ -158,6 +160,8 @@ pub(crate) fn swap_item(cells: &mut Vec<Cell>, at: u32, item: Item) -> Item
     requires { at < vec_len cells.old }
     ensures cells { cells.new.items ≡ with_item cells.old.items at item }
     ensures item { result ≡ entry_at cells.old.items at }
+    ensures len { vec_len cells.new ≡ vec_len cells.old }
+    ensures room { vec_capacity cells.new ≡ vec_capacity cells.old }
 {
     let cell = &mut cells[at as usize];
     mem::replace(&mut cell.item, item)

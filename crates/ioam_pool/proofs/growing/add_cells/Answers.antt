@@ -10,4 +10,5 @@ adding-preserved c =
       grows = rw (c.push_reserved.ensures.items, at) more;
       len = omega arith;
       room = omega arith;
+      same = omega arith;
     }

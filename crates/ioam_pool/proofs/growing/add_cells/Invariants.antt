@@ -8,4 +8,5 @@ invariant-adding l = record {
   grows : Grows l.initial.cells.items l.fn.free l.cells.items l.first;
   len : vec_len l.cells ≡ vec_len l.initial.cells + l.added;
   room : vec_len l.initial.cells + l.more ≤ vec_capacity l.cells;
+  same : vec_capacity l.cells ≡ vec_capacity l.initial.cells;
 }

@@ -1,5 +1,5 @@
-use Rattle.std.proofs.Common.{arith}
-use Rattle.ioam_pool.proofs.PoolLaws.{ends_at, last_in_cells, freed_pool, freed_guided, freed_seen, freed_count, free_none}
+use Rattle.std.proofs.Common.{arith, refl}
+use Rattle.ioam_pool.proofs.PoolLaws.{ends_at, last_in_cells, freed_pool, freed_guided, freed_seen, freed_count, free_none, still_room}
 use Rattle.ioam_pool.proofs.pool.Pool.free.Goals as goal
 
 pub last_of-requires-clause-ends : goal.last_of-requires-clause-ends
@@ -25,7 +25,8 @@ invariant_of-self c =
     let there = rw (← c.self.view_is, ← c.chain.view_is) at c.requires in
     let found = rw c.deref.ensures.value at c.in-Some.ensures in (
       freed_pool _ _ _ _ c.self.invariant.0 _ there _ c.index-head.ensures _ _ found _ c.index_mut-cell.ensures.value,
-      freed_guided _ _ _ _ c.self.invariant.0 _ there _ c.index-head.ensures _ _ found _ c.index_mut-cell.ensures.value _ _ c.self.invariant.1 c.drop_guides.ensures,
+      freed_guided _ _ _ _ c.self.invariant.0 _ there _ c.index-head.ensures _ _ found _ c.index_mut-cell.ensures.value _ _ c.self.invariant.1 c.drop_guides.ensures.items,
+      still_room _ _ _ _ _ _ _ _ _ _ c.self.invariant.2 refl refl refl c.drop_guides.ensures.room refl,
     )
 
 pub returns-in-Some : goal.returns-in-Some

@@ -1,6 +1,6 @@
 use Rattle.std.proofs.Common.{refl, sym, ◌∙◌, arith}
 use Rattle.ioam_pool.proofs.GuideLaws.{guides_on}
-use Rattle.ioam_pool.proofs.PoolLaws.{head_is, ends_at, chain_order, kept_guided, swapped_guided, tied_in, gives, repeats, out_is, replaces, not_repeated, swapped_pool, swapped_seen, swapped_held, no_repeat, no_replace, full, first_in, before_in, kept_pool, kept_seen, kept_held, kept_room, kept_few}
+use Rattle.ioam_pool.proofs.PoolLaws.{head_is, ends_at, chain_order, kept_guided, swapped_guided, tied_in, gives, repeats, out_is, replaces, not_repeated, swapped_pool, swapped_seen, swapped_held, no_repeat, no_replace, full, first_in, before_in, kept_pool, kept_seen, kept_held, kept_room, kept_few, still_room}
 use Rattle.ioam_pool.proofs.pool.Pool.insert.Goals as goal
 
 pub seat_with_guide-requires-clause-ends : goal.seat_with_guide-requires-clause-ends
@@ -22,8 +22,11 @@ seat_with_guide-requires-clause-guided c =
 pub invariant_of-self-in_default : goal.invariant_of-self-in_default
 invariant_of-self-in_default c =
     let there = rw (← c.self.view_is, ← c.chain.view_is) at c.requires in
-    let guides = rw c.deref.ensures.value at c.in-Behind.ensures.guides in
-    (c.self.invariant.0, guides _ (head_is _ _ _ _ c.self.invariant.0 _ there _ c.index-head.ensures) c.self.invariant.1)
+    let guides = rw c.deref.ensures.value at c.in-Behind.ensures.guides in (
+      c.self.invariant.0,
+      guides _ (head_is _ _ _ _ c.self.invariant.0 _ there _ c.index-head.ensures) c.self.invariant.1,
+      still_room _ _ _ _ _ _ _ _ _ _ c.self.invariant.2 refl refl refl c.in-Behind.ensures.room refl,
+    )
 
 pub returns-in_default-clause-inserts : goal.returns-in_default-clause-inserts
 returns-in_default-clause-inserts c =
@@ -59,6 +62,7 @@ invariant_of-self-in-Behind c =
           _ c.link_in-first.ensures.cells _ c.link_in-first.ensures.head,
       kept_guided _ _ _ _ c.self.invariant.0 _ there _ c.index-head.ensures _ _ gap _ c.in-Some.is _ c.index.ensures
           _ c.link_in-first.ensures.cells _ c.link_in-first.ensures.head _ (guides _ (head_is _ _ _ _ c.self.invariant.0 _ there _ c.index-head.ensures) c.self.invariant.1),
+      still_room _ _ _ _ _ _ _ _ _ _ c.self.invariant.2 c.link_in-first.ensures.len refl c.link_in-first.ensures.room c.in-Behind.ensures.room refl,
     )
 
 pub returns-in-Some-clause-inserts : goal.returns-in-Some-clause-inserts
@@ -97,13 +101,17 @@ invariant_of-self c =
     rw c.swap_item.ensures.cells (
       swapped_pool _ _ _ _ c.self.invariant.0 _ there _ c.index-head.ensures _ _ tie both.0 both.1,
       swapped_guided _ _ _ _ c.self.invariant.0 _ there _ c.index-head.ensures _ _ tie both.0 both.1 _ (guides _ (head_is _ _ _ _ c.self.invariant.0 _ there _ c.index-head.ensures) c.self.invariant.1),
+      still_room _ _ _ _ _ _ _ _ _ _ c.self.invariant.2 c.swap_item.ensures.len refl c.swap_item.ensures.room c.in-Tied.ensures.room refl,
     )
 
 pub invariant_of-self-else-gives_way : goal.invariant_of-self-else-gives_way
 invariant_of-self-else-gives_way c =
     let there = rw (← c.self.view_is, ← c.chain.view_is) at c.requires in
-    let guides = rw c.deref.ensures.value at c.in-Tied.ensures.guides in
-    (c.self.invariant.0, guides _ (head_is _ _ _ _ c.self.invariant.0 _ there _ c.index-head.ensures) c.self.invariant.1)
+    let guides = rw c.deref.ensures.value at c.in-Tied.ensures.guides in (
+      c.self.invariant.0,
+      guides _ (head_is _ _ _ _ c.self.invariant.0 _ there _ c.index-head.ensures) c.self.invariant.1,
+      still_room _ _ _ _ _ _ _ _ _ _ c.self.invariant.2 refl refl refl c.in-Tied.ensures.room refl,
+    )
 
 pub returns-then-gives_way-clause-inserts : goal.returns-then-gives_way-clause-inserts
 returns-then-gives_way-clause-inserts c =
