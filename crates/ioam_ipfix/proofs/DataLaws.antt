@@ -13,7 +13,7 @@ use Rattle.ioam_dex.specs.Visit.{version_of, visit_octets, twelve_where, visit_w
 use Rattle.ioam_dex.specs.Record.{Record, IsRecord, IsNumbered}
 use Rattle.ioam_dex.proofs.NumbersLaws.{four_where-at, u32_where-is_some}
 use Rattle.ioam_dex.proofs.VisitLaws.{visit_where-at, visit_where-below, visit_octets-same}
-use Rattle.ioam_ipfix.specs.Chain.{Stops, IsFunctional}
+use Rattle.ioam_base.specs.Chain.{Stops, IsFunctional}
 use Rattle.ioam_ipfix.specs.Templates.{IsTemplate, tells_flow, tells_seq, tells_visit}
 use Rattle.ioam_ipfix.specs.Data.{weight, template_of, front_octets, head_octets, tail_octets, data_octets, Spelled, front_of, prefix_at, size_at, data_size, element_at, data_with, data_at, HasRoom}
 use Rattle.ioam_ipfix.specs.Sets.{IsPadding, RecordPasses}

@@ -1,4 +1,3 @@
-pub mod ChainLaws
 pub mod DataLaws
 pub mod LongestLaws
 pub mod MessageLaws

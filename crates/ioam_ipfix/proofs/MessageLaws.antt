@@ -7,11 +7,11 @@ use Rattle.ioam_base.proofs.OctetsLaws.{u16_at-append}
 use Rattle.ioam_dex.specs.Record.{Record}
 use Rattle.ioam_ipfix.specs.declared.fault.IpfixFault.{IpfixFault}
 use Rattle.ioam_ipfix.specs.declared.fault.IpfixFault.TheVariants as fault
-use Rattle.ioam_ipfix.specs.Chain.{Chain, Stops, IsFunctional}
+use Rattle.ioam_base.specs.Chain.{Chain, Stops, IsFunctional}
 use Rattle.ioam_ipfix.specs.Sets.{Spot, spot, SetPasses}
 use Rattle.ioam_ipfix.specs.Messages.{joined, IsWhole, message_of, MessagePasses, IsCut}
 use Rattle.ioam_ipfix.specs.Faults.{IsStuck, IsStuckInside, IsBadHead, HasFault}
-use Rattle.ioam_ipfix.proofs.ChainLaws.{Chain-unique, Chain-moved}
+use Rattle.ioam_base.proofs.ChainLaws.{Chain-unique, Chain-moved}
 use Rattle.ioam_ipfix.proofs.SetLaws.{set-functional, nothing-stops, stuck-stops, stuck-unique}
 
 pub message-functional : IsFunctional MessagePasses

@@ -7,7 +7,7 @@ use Rattle.ioam_dex.specs.Record.{Record, IsRecord}
 use Rattle.ioam_ipfix.specs.declared.fault.IpfixFault.{IpfixFault}
 use Rattle.ioam_ipfix.specs.declared.fault.IpfixFault.TheVariants as fault
 use Rattle.ioam_ipfix.specs.declared.place.Place.{Place}
-use Rattle.ioam_ipfix.specs.Chain.{Chain, Stops}
+use Rattle.ioam_base.specs.Chain.{Chain, Stops}
 use Rattle.ioam_ipfix.specs.Templates.{with_templates}
 use Rattle.ioam_ipfix.specs.Data.{data_at, data_size, HasRoom}
 use Rattle.ioam_ipfix.specs.Sets.{spot, set_kind, IsPadding, RecordPasses, TemplatePasses, HoldsAs, IsSized, content_of, SetPasses}
@@ -15,7 +15,7 @@ use Rattle.ioam_ipfix.specs.Messages.{joined}
 use Rattle.ioam_ipfix.specs.Faults.{IsUnsized, IsStuckTemplate, HasStuckTemplate, HasStuckRecord, IsStuckAs, IsStuck, IsStuckInside}
 use Rattle.ioam_ipfix.specs.Places.{slice, records_at, IsPlace, AllPlaces}
 use Rattle.ioam_ipfix.specs.Steps.{AddsTemplates, Adds, AddsRecords, AddsContent, AddsSet, TakesMessage}
-use Rattle.ioam_ipfix.proofs.ChainLaws.{Chain-push}
+use Rattle.ioam_base.proofs.ChainLaws.{Chain-push}
 use Rattle.ioam_ipfix.proofs.TemplateLaws.{with_templates-push}
 
 slice-rest : (from n to : ℕ) (message : List ℕ) → from + n ≤ to → drop n (slice from to message) ≡ slice (from + n) to message

@@ -2,10 +2,11 @@
 use Rattle.std.proofs.Common.{◌≡◌, ℕ, zero, suc, ◌+◌, ◌-◌, ◌<◌, ◌≤◌, Bool, List, [], ◌∷◌, ◌++◌, length, take, drop, length-drop, refl, sym, ap, ◌∙◌, subst, arith, inr, append_assoc, length-append}
 use Rattle.std.proofs.lemmas.List.{append-nil, drop-drop, take-append-le, drop-append-le}
 use Rattle.ioam_base.specs.Octets.{u16_at}
+use Rattle.ioam_base.proofs.FedLaws.{fed_few}
 use Rattle.ioam_dex.specs.Record.{Record}
 use Rattle.ioam_ipfix.specs.declared.fault.IpfixFault.{IpfixFault}
 use Rattle.ioam_ipfix.specs.declared.fault.IpfixFault.TheVariants as fault
-use Rattle.ioam_ipfix.specs.Chain.{Chain}
+use Rattle.ioam_base.specs.Chain.{Chain}
 use Rattle.ioam_ipfix.specs.Templates.{none_known}
 use Rattle.ioam_ipfix.specs.declared.place.Place.{Place}
 use Rattle.ioam_ipfix.specs.Places.{records_at}
@@ -15,7 +16,7 @@ use Rattle.ioam_ipfix.specs.Messages.{joined, IsWhole, MessagePasses, IpfixOf}
 use Rattle.ioam_ipfix.specs.Reads.{Ending, Whole, Faulty, Reads, ReadsOnly}
 use Rattle.ioam_ipfix.specs.Reading.{Reading, place_of, fed, fresh}
 use Rattle.ioam_ipfix.specs.Reader.{Stands, Waits, IsFaulty, Keeps, Takes, ReadsSo}
-use Rattle.ioam_ipfix.proofs.ChainLaws.{Chain-push}
+use Rattle.ioam_base.proofs.ChainLaws.{Chain-push}
 use Rattle.ioam_ipfix.proofs.MessageLaws.{fault-stops, cut-stops, messages-behind}
 use Rattle.ioam_ipfix.proofs.ReadsLaws.{Reads-unique, Reads-faulty}
 
@@ -24,7 +25,7 @@ joined-append [] yss = refl
 joined-append (xs ∷ xss) yss = ap (λ zs. xs ++ zs) (joined-append xss yss) ∙ sym (append_assoc xs (joined xss) (joined yss))
 
 pub Stands-fresh : Stands fresh [] []
-Stands-fresh = record { before = []; last = []; leads = refl; count = refl; inside = refl; single = omega arith; here = []; gave = refl; owes = refl }
+Stands-fresh = record { before = []; last = []; leads = refl; count = refl; inside = refl; single = omega arith; here = []; gave = refl; owes = refl; few = omega arith }
 
 -- a piece more
 pub Stands-feed : (reader : Reading) (piece octets : List ℕ) (given : List Record) → Stands reader octets given
@@ -41,6 +42,7 @@ Stands-feed reader piece octets given stands =
       here = stands.here;
       gave = stands.gave;
       owes = stands.owes;
+      few = fed_few 65535 reader.given reader.pending piece stands.few;
     }
 
 -- where nothing is due, all records of the messages taken were given
@@ -66,6 +68,7 @@ Stands-takes old new takes octets given stands =
       here = [];
       gave = given-all old octets given stands takes.none ∙ sym (append-nil (joined messages));
       owes = sym (append-nil new.due);
+      few = takes.few;
     }
 
 -- a record was given
@@ -81,6 +84,7 @@ Stands-gives old x xs due octets given stands = record {
   here = stands.here ++ x ∷ [];
   gave = ap (λ ys. ys ++ x ∷ []) stands.gave ∙ append_assoc (joined stands.before) stands.here (x ∷ []);
   owes = append_assoc stands.here (x ∷ []) xs ∙ ap (λ ys. stands.here ++ ys) (sym due) ∙ stands.owes;
+  few = stands.few;
 }
 
 -- what waits says
@@ -132,48 +136,52 @@ reads-cut reader waits some octets given stands =
 pub takes-not-faulty : (old new : Reading) → Takes old new → (f : IpfixFault) → IsFaulty old f → ⊥
 takes-not-faulty old new takes f bad = fault-stops (place_of old) f bad.1 new.due (place_of new) takes.passes
 
--- a message at a place of a buffer, of which all sets were taken
-pub takes-by : (known : List Bool) (messages start from n : ℕ) (items : List ℕ) (due : List Record) (behind : List Bool) (places : List Place)
-    → IsWhole (drop from items) → n ≡ u16_at (drop from items) 2 → due ≡ [] → TakesMessage (take n (drop from items)) known behind places
-    → Takes (record { known = known; messages = messages; due = due; start = start; pending = drop from items })
-    (record { known = behind; messages = messages + 1; due = records_at (take n (drop from items)) places; start = start + n; pending = drop (from + n) items })
-takes-by known messages start from n items due behind places whole is none found =
+-- a message at a place of a buffer, of which all sets were taken; octets in front of it may be kept no longer
+pub takes-by : (known : List Bool) (messages start from from' n : ℕ) (items items' : List ℕ) (due : List Record) (behind : List Bool) (places : List Place)
+    → IsWhole (drop from items) → n ≡ u16_at (drop from items) 2 → n < 65536 → due ≡ [] → TakesMessage (take n (drop from items)) known behind places
+    → drop from' items' ≡ drop from items → from' ≤ (length items - from) + 32768
+    → Takes (record { known = known; messages = messages; due = due; start = start; pending = drop from items; given = from })
+    (record { known = behind; messages = messages + 1; due = records_at (take n (drop from' items')) places; start = start + n; pending = drop (from' + n) items'; given = from' + n })
+takes-by known messages start from from' n items items' due behind places whole is small none found same few =
     let octets = drop from items in
     let there = whole.there in
     let least = whole.least in
-    let rest : drop (from + n) items ≡ drop n octets = sym (drop-drop n from items) in
-    let size : length (drop (from + n) items) ≡ length octets - n = ap length rest ∙ length-drop n octets in
+    let rest : drop (from' + n) items' ≡ drop n octets = sym (drop-drop n from' items') ∙ ap (drop n) same in
+    let size : length (drop (from' + n) items') ≡ length octets - n = ap length rest ∙ length-drop n octets in
+    let all = length-drop from items in
+    let records : List ℕ → List Record = λ o. records_at (take n o) places in
+    let through : List Record → Type 0 = λ xs. MessagePasses (spot known octets) xs (spot behind (drop (from' + n) items')) in
+    let over : records octets ≡ records (drop from' items') = ap records (sym same) in
     record {
-      passes = record {
+      passes = subst through over (record {
         whole = whole;
         behind = rest ∙ ap (λ k. drop k octets) is;
         sets = found.0;
         leads = subst (λ k. Chain SetPasses (spot known (drop 16 (take k octets))) found.0 (spot behind [])) is found.1;
         records = found.2;
-      };
+      });
       none = none;
       count = refl;
       fed = omega (arith, size, there, is);
       less = omega (arith, size, there, is, least);
+      few = omega (arith, size, there, is, small, few, all);
     }
 
 -- a piece more, in the fields of a reader
-pub feed-view : (known : List Bool) (messages start from size : ℕ) (items dropped fed piece : List ℕ) (places : List Place) (old : Reading)
-    → ◌≡◌ {A = Reading} (record { known = known; messages = messages; due = records_at (take size (drop from items)) places; start = start; pending = drop (from + size) items }) old
-    → from + size ≤ length items → dropped ≡ drop from items → fed ≡ dropped ++ piece
+pub feed-view : (known : List Bool) (messages start from size : ℕ) (items fed piece : List ℕ) (places : List Place) (old : Reading)
+    → ◌≡◌ {A = Reading} (record { known = known; messages = messages; due = records_at (take size (drop from items)) places; start = start; pending = drop (from + size) items; given = from + size }) old
+    → from + size ≤ length items → fed ≡ items ++ piece
     → ◌≡◌ {A = Reading} (record old { pending = old.pending ++ piece })
-    (record { known = known; messages = messages; due = records_at (take size (drop 0 fed)) places; start = start; pending = drop (0 + size) fed })
-feed-view known messages start from size items dropped fed piece places old view inside dropped-is fed-is =
-    let whole : fed ≡ drop from items ++ piece = fed-is ∙ ap (λ d. d ++ piece) dropped-is in
+    (record { known = known; messages = messages; due = records_at (take size (drop from fed)) places; start = start; pending = drop (from + size) fed; given = from + size })
+feed-view known messages start from size items fed piece places old view inside fed-is =
     let left = length-drop from items in
     let fits : size ≤ length (drop from items) = omega (arith, inside, left) in
-    let none : size ≡ 0 + size = omega arith in
-    let held : take size (drop from items) ≡ take size fed = sym (ap (take size) whole ∙ take-append-le size (drop from items) piece fits) in
-    let rest : drop (from + size) items ++ piece ≡ drop (0 + size) fed =
-    sym (ap (drop size) whole ∙ drop-append-le size (drop from items) piece fits ∙ ap (λ o. o ++ piece) (drop-drop size from items)) ∙ ap (λ n. drop n fed) none in
-    let new : Reading = record { known = known; messages = messages; due = records_at (take size (drop 0 fed)) places; start = start; pending = drop (0 + size) fed } in
+    let whole : drop from fed ≡ drop from items ++ piece = ap (drop from) fed-is ∙ drop-append-le from items piece (omega (arith, inside)) in
+    let held : take size (drop from items) ≡ take size (drop from fed) = sym (ap (take size) whole ∙ take-append-le size (drop from items) piece fits) in
+    let rest : drop (from + size) items ++ piece ≡ drop (from + size) fed = sym (ap (drop (from + size)) fed-is ∙ drop-append-le (from + size) items piece inside) in
+    let new : Reading = record { known = known; messages = messages; due = records_at (take size (drop from fed)) places; start = start; pending = drop (from + size) fed; given = from + size } in
     let P : Reading → Type 0 = λ r. ◌≡◌ {A = Reading} (record r { pending = r.pending ++ piece }) new in
-    subst P view (λ i. record { known = known; messages = messages; due = records_at (held i) places; start = start; pending = rest i })
+    subst P view (λ i. record { known = known; messages = messages; due = records_at (held i) places; start = start; pending = rest i; given = from + size })
 
 pub some-from : (n : ℕ) → (n ≡ 0 → ⊥) → 0 < n
 some-from zero other = absurd (other refl)

@@ -2,13 +2,13 @@
 use Rattle.std.proofs.Common.{◌≡◌, ℕ, ◌-◌, ◌<◌, ◌⊎◌, List, [], ◌++◌, length, refl, sym, ap, ◌∙◌, subst, arith, inl, inr, length-append}
 use Rattle.ioam_dex.specs.Record.{Record}
 use Rattle.ioam_ipfix.specs.declared.fault.IpfixFault.{IpfixFault}
-use Rattle.ioam_ipfix.specs.Chain.{Chain, Stops}
+use Rattle.ioam_base.specs.Chain.{Chain, Stops}
 use Rattle.ioam_ipfix.specs.Templates.{none_known}
 use Rattle.ioam_ipfix.specs.Sets.{Spot, spot}
 use Rattle.ioam_ipfix.specs.Messages.{MessagePasses, IpfixOf}
 use Rattle.ioam_ipfix.specs.Faults.{HasFault}
 use Rattle.ioam_ipfix.specs.Reads.{Ending, Whole, Faulty, IsShort, EndsAt, Reads}
-use Rattle.ioam_ipfix.proofs.ChainLaws.{Chain-unique}
+use Rattle.ioam_base.proofs.ChainLaws.{Chain-unique}
 use Rattle.ioam_ipfix.proofs.MessageLaws.{message-functional, fault-unique, fault-stops, cut-stops, cut-not-faulty, fault-inside, messages-behind, fault-behind}
 
 pub nothing-stops : (rest : Spot) → rest.octets ≡ [] → Stops MessagePasses rest

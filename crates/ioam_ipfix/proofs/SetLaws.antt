@@ -6,11 +6,11 @@ use Rattle.ioam_ipfix.specs.declared.fault.IpfixFault.{IpfixFault}
 use Rattle.ioam_ipfix.specs.declared.fault.IpfixFault.TheVariants as fault
 use Rattle.ioam_ipfix.specs.declared.kind.SetKind.{SetKind}
 use Rattle.ioam_ipfix.specs.declared.kind.SetKind.TheVariants.{Templates, Data, Skipped, Reserved}
-use Rattle.ioam_ipfix.specs.Chain.{Stops, IsFunctional}
+use Rattle.ioam_base.specs.Chain.{Stops, IsFunctional}
 use Rattle.ioam_ipfix.specs.Templates.{with_templates}
 use Rattle.ioam_ipfix.specs.Sets.{Spot, spot, set_kind, IsPadding, RecordPasses, HasRecords, HoldsAs, IsSized, content_of, SetPasses}
 use Rattle.ioam_ipfix.specs.Faults.{IsUnsized, HasStuckRecord, IsStuckAs, IsStuck}
-use Rattle.ioam_ipfix.proofs.ChainLaws.{Chain-unique}
+use Rattle.ioam_base.proofs.ChainLaws.{Chain-unique}
 use Rattle.ioam_ipfix.proofs.TemplateLaws.{templates-unique, templates-not-stuck, stuck_templates-unique}
 use Rattle.ioam_ipfix.proofs.DataLaws.{record-functional, record_padding-stops}
 

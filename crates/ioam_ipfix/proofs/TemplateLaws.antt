@@ -6,12 +6,12 @@ use Rattle.ioam_base.specs.Octets.{u16_at}
 use Rattle.ioam_base.specs.Words.{two_octets}
 use Rattle.ioam_base.proofs.WordsLaws.{two_octets-same}
 use Rattle.ioam_ipfix.specs.declared.fault.IpfixFault.{IpfixFault}
-use Rattle.ioam_ipfix.specs.Chain.{Stops, IsFunctional}
+use Rattle.ioam_base.specs.Chain.{Stops, IsFunctional}
 use Rattle.ioam_ipfix.specs.Templates.{IsTemplate, tells_visit, tells_flow, tells_seq, only, fields_with, fields, field_octets, template_octets, with_templates}
 use Rattle.ioam_ipfix.specs.Data.{weight}
 use Rattle.ioam_ipfix.specs.Sets.{IsPadding, TemplatePasses, HasTemplates}
 use Rattle.ioam_ipfix.specs.Faults.{IsStuckTemplate, HasStuckTemplate}
-use Rattle.ioam_ipfix.proofs.ChainLaws.{Chain-unique}
+use Rattle.ioam_base.proofs.ChainLaws.{Chain-unique}
 
 -- octets begin with one template
 pub template-same : (m n : ℕ) (r s : List ℕ) → m < 65536 → n < 65536 → template_octets m ++ r ≡ template_octets n ++ s → (m ≡ n) × (r ≡ s)

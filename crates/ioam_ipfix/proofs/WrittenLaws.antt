@@ -8,7 +8,7 @@ use Rattle.ioam_base.specs.Words.{two_octets, four_octets_if}
 use Rattle.ioam_dex.specs.Visit.{visit_octets}
 use Rattle.ioam_dex.specs.Record.{Record, IsRecord}
 use Rattle.ioam_ipfix.specs.declared.kind.SetKind.TheVariants.{Data}
-use Rattle.ioam_ipfix.specs.Chain.{Chain}
+use Rattle.ioam_base.specs.Chain.{Chain}
 use Rattle.ioam_ipfix.specs.Templates.{IsTemplate, fields_with, field_octets, template_octets, all_ids, none_known, IsKnown, with_templates, tells_visit, tells_flow, tells_seq}
 use Rattle.ioam_ipfix.specs.Data.{weight, template_of, front_octets, IsData, data_octets}
 use Rattle.ioam_ipfix.specs.Sets.{spot, set_kind, RecordPasses, TemplatePasses, HoldsAs, content_of, SetPasses}

@@ -7,7 +7,7 @@ use Rattle.ioam_ipfix.specs.declared.fault.IpfixFault.{IpfixFault}
 use Rattle.ioam_ipfix.specs.declared.fault.IpfixFault.TheVariants as fault
 use Rattle.ioam_ipfix.specs.declared.kind.SetKind.{SetKind}
 use Rattle.ioam_ipfix.specs.declared.kind.SetKind.TheVariants.{Templates, Data, Skipped, Reserved}
-use Rattle.ioam_ipfix.specs.Chain.{Chain, Stops}
+use Rattle.ioam_base.specs.Chain.{Chain, Stops}
 use Rattle.ioam_ipfix.specs.Templates.{IsKnown}
 use Rattle.ioam_ipfix.specs.Sets.{Spot, spot, set_kind, IsPadding, RecordPasses, TemplatePasses, IsSized, content_of, SetPasses}
 use Rattle.ioam_ipfix.specs.Messages.{IsWhole, message_of}

@@ -1,4 +1,3 @@
-pub mod Chain
 pub mod Data
 pub mod Faults
 pub mod Messages

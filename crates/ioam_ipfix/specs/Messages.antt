@@ -3,7 +3,7 @@
 use Rattle.std.specs.Prelude.{ℕ, ◌≡◌, ◌<◌, ◌≤◌, ◌⊎◌, List, [], ◌∷◌, ◌++◌, length, take, drop}
 use Rattle.ioam_base.specs.Octets.{u16_at}
 use Rattle.ioam_dex.specs.Record.{Record}
-use Rattle.ioam_ipfix.specs.Chain.{Chain, Stops}
+use Rattle.ioam_base.specs.Chain.{Chain, Stops}
 use Rattle.ioam_ipfix.specs.Templates.{none_known}
 use Rattle.ioam_ipfix.specs.Sets.{Spot, spot, SetPasses}
 

@@ -9,17 +9,17 @@ use Rattle.ioam_ipfix.specs.declared.reader.Found.TheVariants as found
 use Rattle.ioam_ipfix.specs.declared.reader.IpfixStep.{IpfixStep}
 use Rattle.ioam_ipfix.specs.declared.reader.IpfixStep.TheVariants.{Export, More, Bad}
 use Rattle.ioam_ipfix.specs.contracts.reader.IpfixReader.{the_row}
-use Rattle.ioam_ipfix.specs.Chain.{Chain}
+use Rattle.ioam_base.specs.Chain.{Chain}
 use Rattle.ioam_ipfix.specs.Templates.{none_known}
 use Rattle.ioam_ipfix.specs.Sets.{spot}
 use Rattle.ioam_ipfix.specs.Messages.{joined, MessagePasses, IsCut, IpfixOf}
 use Rattle.ioam_ipfix.specs.Faults.{HasFault}
 use Rattle.ioam_ipfix.specs.Reads.{Ending, Whole, Faulty, Reads, ReadsOnly}
-use Rattle.ioam_ipfix.specs.Reading.{Reading, place_of, fed}
+use Rattle.ioam_ipfix.specs.Reading.{Reading, KeepsFewGiven, place_of, fed}
 
 -- A reader that was fed these octets in all, in whatever pieces, and has given these records: it has taken messages one
 -- behind the other; what it gave is the records of those before the last and the first of the last, of which the others
--- are due.
+-- are due. Few of the octets that it took it still keeps.
 pub record Stands (reader : Reading) (octets : List ℕ) (given : List Record) : Type 0 where
   pub before : List (List Record)
   pub last : List (List Record)
@@ -30,6 +30,7 @@ pub record Stands (reader : Reading) (octets : List ℕ) (given : List Record) :
   pub here : List Record
   pub gave : given ≡ joined before ++ here
   pub owes : here ++ reader.due ≡ joined last
+  pub few : KeepsFewGiven reader
 
 -- all records of the messages taken were given, and what is due then is not whole and has no fault: more octets have to
 -- be fed, or the input ends; fewer octets than a message can have are left
@@ -59,6 +60,7 @@ pub record Takes (old new : Reading) : Type 0 where
   pub count : new.messages ≡ old.messages + 1
   pub fed : fed new ≡ fed old
   pub less : length new.pending < length old.pending
+  pub few : KeepsFewGiven new
 
 -- what is due: a record, more octets, or a fault
 abbrev pub IsDue : Reading → Found → Type 0

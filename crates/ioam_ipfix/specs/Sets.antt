@@ -5,7 +5,7 @@ use Rattle.ioam_base.specs.Octets.{u16_at}
 use Rattle.ioam_dex.specs.Record.{Record}
 use Rattle.ioam_ipfix.specs.declared.kind.SetKind.{SetKind}
 use Rattle.ioam_ipfix.specs.declared.kind.SetKind.TheVariants.{Templates, Data, Skipped, Reserved}
-use Rattle.ioam_ipfix.specs.Chain.{Chain}
+use Rattle.ioam_base.specs.Chain.{Chain}
 use Rattle.ioam_ipfix.specs.Templates.{IsTemplate, template_octets, IsKnown, with_templates}
 use Rattle.ioam_ipfix.specs.Data.{IsData}
 

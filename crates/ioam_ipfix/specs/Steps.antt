@@ -10,7 +10,7 @@ use Rattle.ioam_ipfix.specs.declared.message.HeadStep.TheVariants as head_step
 use Rattle.ioam_ipfix.specs.declared.place.Place.{Place}
 use Rattle.ioam_ipfix.specs.declared.set.TemplateStep.{TemplateStep}
 use Rattle.ioam_ipfix.specs.declared.set.TemplateStep.TheVariants as template_step
-use Rattle.ioam_ipfix.specs.Chain.{Chain, Stops}
+use Rattle.ioam_base.specs.Chain.{Chain, Stops}
 use Rattle.ioam_ipfix.specs.Templates.{tells_flow, tells_seq, with_templates}
 use Rattle.ioam_ipfix.specs.Data.{front_of, prefix_at, size_at, data_size, data_at, HasRoom}
 use Rattle.ioam_ipfix.specs.Sets.{spot, set_kind, IsPadding, RecordPasses, HasRecords, TemplatePasses, HasTemplates, HoldsAs, SetPasses}

@@ -2,9 +2,7 @@
 
 ghost use Rattle.std.specs.Prelude.{◌≡◌, ℕ, ◌+◌, ◌-◌, ◌≤◌, ◌<◌, ◌↔◌, IsTrue, List, ◌++◌, length, take, drop, slice_index, EachIndex, MatchOption, vec_len, vec_capacity};
 ghost use Rattle.ioam_base.specs.Words.{four_octets_if};
-ghost use Rattle.ioam_data.specs.Elements.{IsFilled};
-ghost use Rattle.ioam_dex.specs.Numbers.{has_flow, has_seq, four_where, u32_where};
-ghost use Rattle.ioam_dex.specs.Visit.{visit_octets, twelve_where, visit_where};
+ghost use Rattle.ioam_dex.specs.Numbers.{has_flow, has_seq};
 ghost use Rattle.ioam_dex.specs.Record.{IsRecord, record_of};
 ghost use Rattle.ioam_ipfix.specs.Data.{template_of, head_octets, tail_octets, data_octets, front_of, prefix_at, size_at, data_size, element_at, data_with, data_at, HasRoom};
 ghost use Rattle.ioam_ipfix.specs.Sets.{IsPadding};
@@ -13,9 +11,9 @@ ghost use Rattle.ioam_ipfix.specs.Templates.{IsTemplate};
 
 use crate::template::{tells_flow, tells_seq, tells_visit, weight};
 use ioam_base::buffer::Buffer;
-use ioam_base::octets::{u16_at, u32_at, u64_at};
-use ioam_data::{Namespace, TraceType, split};
-use ioam_dex::{Export, MOST_ELEMENT};
+use ioam_base::octets::u16_at;
+use ioam_data::{Namespace, TraceType};
+use ioam_dex::{Export, MOST_ELEMENT, is_filled, u32_where, visit_octets, visit_where};
 
 /// What octets where a data record is due show.
 #[derive(Clone, Copy)]
@@ -37,18 +35,6 @@ pub(crate) fn template_of(export: &Export<'_>) -> u16
         + weight(export.visit.is_some(), 1)
 }
 
-// Appends a visit, where it is there.
-fn put_visit(visit: Option<(u64, u32)>, buffer: &mut Buffer)
-    requires { length buffer.old + 12 ≤ 24 }
-    ensures value { buffer.new ≡ buffer.old ++ visit_octets visit }
-    ensures size { length buffer.new ≤ length buffer.old + 12 }
-{
-    if let Some(visit) = visit {
-        buffer.eight(visit.0);
-        buffer.four(visit.1);
-    }
-}
-
 // The namespace, the flags, the type and the visit.
 fn head(export: &Export<'_>) -> Buffer
     ensures value { result ≡ head_octets (record_of export.now) }
@@ -58,7 +44,7 @@ fn head(export: &Export<'_>) -> Buffer
     head.two(export.namespace.0);
     head.append(&[export.flags, export.ext]);
     head.three(export.kind);
-    put_visit(export.visit, &mut head);
+    head.append(visit_octets(export.visit).octets());
     head
 }
 
@@ -147,30 +133,6 @@ fn element_place(id: u16, octets: &[u8]) -> Option<(usize, usize)>
     }
 }
 
-// The visit at a place, where it is told.
-fn visit_where(there: bool, octets: &[u8], at: usize) -> Option<(u64, u32)>
-    requires { at + twelve_where there ≤ length octets.now }
-    ensures { result ≡ visit_where there octets.now at }
-{
-    if there {
-        Some((u64_at(octets, at), u32_at(octets, at + 8)))
-    } else {
-        None
-    }
-}
-
-// The number at a place, where it is told.
-fn u32_where(there: bool, octets: &[u8], at: usize) -> Option<u32>
-    requires { at + four_where there ≤ length octets.now }
-    ensures { result ≡ u32_where there octets.now at }
-{
-    if there {
-        Some(u32_at(octets, at))
-    } else {
-        None
-    }
-}
-
 // The record whose front is there, with an element.
 fn with_element<'a>(id: u16, octets: &[u8], element: &'a [u8]) -> Export<'a>
     requires { front_of id ≤ length octets.now }
@@ -187,16 +149,6 @@ fn with_element<'a>(id: u16, octets: &[u8], element: &'a [u8]) -> Export<'a>
         flow: u32_where(tells_flow(id), octets, flow),
         seq: u32_where(tells_seq(id), octets, seq),
         element,
-    }
-}
-
-// Whether octets are one element of a type, or nothing where it asks for nothing.
-fn is_filled(kind: TraceType, element: &[u8]) -> bool
-    ensures { IsTrue result ↔ IsFilled kind element.now }
-{
-    match split(kind, kind.words(), element) {
-        Some(size) => size == element.len(),
-        None => kind.words() == 0 && !kind.has_snapshot() && element.is_empty(),
     }
 }
 

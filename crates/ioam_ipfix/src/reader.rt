@@ -1,20 +1,18 @@
 //! Messages, read out of any pieces of them.
 
-ghost use Rattle.std.specs.Prelude.{◌≡◌, ◌+◌, ◌≤◌, ◌<◌, ◌^◌, ◌++◌, [], List, ℕ, length, IfOk, MatchOption, OnErr, OnOk};
+ghost use Rattle.std.specs.Prelude.{◌≡◌, ◌+◌, ◌-◌, ◌≤◌, ◌<◌, ◌^◌, ◌++◌, [], List, ℕ, drop, length, vec_len, IfOk, MatchOption, OnErr, OnOk};
 ghost use Rattle.std.specs.Borrow.{sem};
 
 use crate::data::read_data;
 use crate::fault::IpfixFault;
 use crate::message::{HeadStep, head_step, take_message};
 use crate::place::Place;
+use ioam_base::fed::PIECE;
 use ioam_base::memory::NoMemory;
 use ioam_base::octets::drop_front;
 use ioam_dex::Export;
 use std::alloc::Global;
 use std::marker::Model;
-
-/// Octets that a reader has room for from the start: a piece as files are read in.
-const ROOM: usize = 65_536;
 
 /// Places that it has room for: a message, of 65,535 octets at most, has fewer records, of 8 at
 /// least.
@@ -31,7 +29,23 @@ pub enum IpfixStep<'a> {
     Bad { at: u64, fault: IpfixFault },
 }
 
-/// What stands behind the messages whose records were all given, or one of these that was taken.
+/// Lets go of the octets in front of a place, once they are half a piece and as many as the others. Gives the place that it is
+// then.
+fn let_go(buffer: &mut Vec<u8>, from: usize) -> usize
+    requires { from ≤ vec_len buffer.old }
+    ensures rest { drop result buffer.new.items ≡ drop from buffer.old.items }
+    ensures inside { result + (vec_len buffer.old - from) ≡ vec_len buffer.new }
+    ensures few { result ≤ (vec_len buffer.old - from) + 32768 }
+{
+    let rest = buffer.len() - from;
+    if from < rest.max(PIECE / 2) {
+        return from;
+    }
+    drop_front(buffer, from);
+    0
+}
+
+// What stands behind the messages whose records were all given, or one of these that was taken.
 #[derive(Clone, Copy)]
 enum Found {
     Due,
@@ -44,7 +58,8 @@ enum Found {
 ///
 /// It keeps the octets that were fed and not yet taken, those of the message whose records are due,
 /// and their places: less than two messages and one piece, where each piece is fed after `next`
-/// answered `More`. Each octet is copied into the buffer once, and moved to its front at most once.
+/// answered `More`. Of the octets of messages that were taken it keeps at most as many as are pending,
+/// twice the greatest message and 32,768.
 #[derive(Drop)]
 pub struct IpfixReader {
     buffer: Vec<u8>,
@@ -74,6 +89,7 @@ impl Model for IpfixReader {
       due = records_at (take r.size (drop r.from r.buffer.items)) (drop r.given r.places.items);
       start = r.start;
       pending = drop (r.from + r.size) r.buffer.items;
+      given = r.from + r.size;
     } };
 
     ghost invariant = { λ r. (r.from + r.size ≤ length r.buffer.items)
@@ -87,7 +103,7 @@ impl Model for IpfixReader {
 impl IpfixReader {
     ghost use Rattle.ioam_ipfix.specs.declared.fault.IpfixFault.TheVariants.{Short};
     ghost use Rattle.ioam_dex.specs.Record.{Record};
-    ghost use Rattle.ioam_ipfix.specs.Reading.{fresh, fed};
+    ghost use Rattle.ioam_ipfix.specs.Reading.{fresh, fed, held};
     ghost use Rattle.ioam_ipfix.specs.Reader.{Stands, Waits, KeepsFault, Advances, Steps, RestsSo, ReadsSo, ending_of};
 
     /// A reader that was fed nothing.
@@ -95,7 +111,7 @@ impl IpfixReader {
         ensures exact { IfOk result (λ reader. reader ≡ fresh) }
         ensures stands { IfOk result (λ reader. Stands reader [] []) }
     {
-        let buffer = Vec::with_capacity(alloc, ROOM)?;
+        let buffer = Vec::with_capacity(alloc, PIECE)?;
         let places = Vec::with_capacity(alloc, PLACES)?;
         Ok(IpfixReader {
             buffer,
@@ -134,9 +150,9 @@ impl IpfixReader {
         // A fault of what is due stays, whatever is fed.
         ensures faulty { OnOk result (KeepsFault self.old self.new) }
         ensures err { OnErr result (self.new ≡ self.old) }
+        // What it keeps grows by the piece alone.
+        ensures held { OnOk result (held self.new ≡ held self.old + length piece.now) }
     {
-        drop_front(&mut self.buffer, self.from);
-        self.from = 0;
         self.buffer.extend_from_slice(piece)?;
         Ok(())
     }
@@ -157,6 +173,7 @@ impl IpfixReader {
                 let message = &self.buffer[self.from..self.from + size];
                 match take_message(message, self.known, &mut self.places) {
                     Ok(known) => {
+                        self.from = let_go(&mut self.buffer, self.from);
                         self.known = known;
                         self.size = size;
                         self.start += size as u64;

@@ -1,7 +1,7 @@
 //! Sets (RFC 7011 section 3.3), checked: templates and data records one behind the other.
 
 ghost use Rattle.std.specs.Prelude.{◌≡◌, ℕ, ◌+◌, ◌-◌, ◌*◌, ◌≤◌, ◌<◌, ◌↔◌, IsTrue, List, ◌++◌, length, take, drop, MatchResult, slice_index_or, false, vec_len, vec_capacity};
-ghost use Rattle.ioam_ipfix.specs.Chain.{Stops};
+ghost use Rattle.ioam_base.specs.Chain.{Stops};
 ghost use Rattle.ioam_ipfix.specs.Faults.{IsUnsized, HasStuckTemplate, HasStuckRecord, IsStuckAs, IsStuck};
 ghost use Rattle.ioam_ipfix.specs.Places.{slice, AllPlaces, HasRoomFor};
 ghost use Rattle.ioam_ipfix.specs.Sets.{spot, set_kind, IsPadding, IsSized};
