@@ -32,7 +32,8 @@ pub enum Step<'a> {
 /// its first four octets say.
 ///
 /// Where `next` answers `More` it holds back less than the greatest record of a classic capture, of
-/// 262,160 octets, or the greatest block of a pcapng capture, of 16,777,216.
+/// 262,160 octets, or the greatest block of a pcapng capture, of 16,777,216. Of the octets that it took
+/// it keeps at most as many as it holds back, twice these and 32,768.
 #[derive(Drop)]
 pub struct Reader {
     form: Form,
@@ -53,7 +54,7 @@ impl Reader {
     ghost use Rattle.ioam_pcap.specs.Ending.{ending_of};
     ghost use Rattle.ioam_pcap.specs.Entries.{Taken};
     ghost use Rattle.ioam_capture.specs.Reads.{Reads, ReadsOnly};
-    ghost use Rattle.ioam_capture.specs.Reading.{HasBlocks, HoldsFew, fed, fresh, most_held, pending};
+    ghost use Rattle.ioam_capture.specs.Reading.{HasBlocks, HoldsFew, fed, fresh, held, most_held, pending};
     ghost use Rattle.ioam_capture.specs.Reader.{IsDue, IsFace, IsFed, KeepsFault, KeepsOn, RestsSo, SaysFault, Stands, Waits};
 
     /// A reader that was fed nothing.
@@ -88,6 +89,8 @@ impl Reader {
         // A fault of what is due stays, whatever is fed.
         ensures faulty { OnOk result (KeepsFault self.old self.new) }
         ensures err { OnErr result (self.new ≡ self.old) }
+        // What it keeps grows by the piece alone.
+        ensures held { OnOk result (held self.new ≡ held self.old + length piece.now) }
     {
         match &mut self.form {
             Form::Front { alloc, held } => {
