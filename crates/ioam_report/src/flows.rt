@@ -3,6 +3,7 @@ ghost use Rattle.std.specs.Prelude.{◌≡◌, ◌+◌, ◌-◌, ◌++◌, ◌�
 ghost use Rattle.ioam_plan.specs.declared.itinerary.Itinerary.{Itinerary};
 ghost use Rattle.ioam_report.specs.Flows.{IsSumOf};
 
+use crate::filled::filled;
 use ioam_base::memory::NoMemory;
 use ioam_edge::Receiver;
 use ioam_plan::Itinerary;
@@ -61,7 +62,8 @@ impl FlowSum {
     }
 }
 
-/// What is counted of each flow, in file order. Contracts see it as a list.
+/// What is counted of each flow, in file order. Contracts see it as a list. It has memory for these and
+/// no more, so that a call which leaves it as long has taken none.
 #[derive(Debug, Drop)]
 pub struct FlowSums {
     held: Vec<FlowSum>,
@@ -73,7 +75,11 @@ impl Model for FlowSums {
 
     ghost Value = { List FlowSum };
 
+    ghost use Rattle.std.specs.Prelude.{◌≡◌, vec_len, vec_capacity};
+
     ghost view = { λ sums. sums.held.items };
+
+    ghost invariant = { λ sums. vec_capacity sums.held ≡ vec_len sums.held };
 }
 
 impl FlowSums {
@@ -83,7 +89,7 @@ impl FlowSums {
         ensures none { IfOk result (λ sums. (flow : ℕ) → flow < count → IsSomeAnd (slice_get sums flow) (IsSumOf flow [])) }
     {
         let none = FlowSum::new();
-        let held = vec![in alloc; none; count]?;
+        let held = filled(alloc, none, count)?;
         Ok(FlowSums { held })
     }
 

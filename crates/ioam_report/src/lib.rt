@@ -3,6 +3,7 @@
 #![tactic(auto)]
 
 mod arrivals;
+mod filled;
 mod flows;
 mod reasons;
 mod sums;

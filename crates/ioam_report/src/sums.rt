@@ -4,6 +4,7 @@ ghost use Rattle.ioam_topo.specs.declared.domain.Domain.{Domain};
 ghost use Rattle.ioam_plan.specs.declared.itinerary.Itinerary.{Itinerary};
 ghost use Rattle.ioam_report.specs.Sums.{is_at, IsEndBelow, Raised, StandFor};
 
+use crate::filled::filled;
 use crate::flows::FlowSums;
 use ioam_base::memory::NoMemory;
 use ioam_plan::{End, Itinerary, Visit};
@@ -20,7 +21,8 @@ pub struct NodeSum {
     pub dropped: u64,
 }
 
-/// What is counted at each node, in file order. Contracts see it as a list.
+/// What is counted at each node, in file order. Contracts see it as a list. It has memory for these and
+/// no more, so that a call which leaves it as long has taken none.
 #[derive(Debug, Drop)]
 pub struct NodeSums {
     held: Vec<NodeSum>,
@@ -32,7 +34,11 @@ impl Model for NodeSums {
 
     ghost Value = { List NodeSum };
 
+    ghost use Rattle.std.specs.Prelude.{◌≡◌, vec_len, vec_capacity};
+
     ghost view = { λ sums. sums.held.items };
+
+    ghost invariant = { λ sums. vec_capacity sums.held ≡ vec_len sums.held };
 }
 
 impl NodeSums {
@@ -44,7 +50,7 @@ impl NodeSums {
             seen: 0,
             dropped: 0,
         };
-        let held = vec![in alloc; none; count]?;
+        let held = filled(alloc, none, count)?;
         Ok(NodeSums { held })
     }
 
@@ -112,7 +118,8 @@ impl Sums {
 
     /// Counts an arrival more. Its nodes and its flow are those of the domain that the sums were made for, and fewer
     /// than 2^32 arrivals were counted before it. For every list of arrivals that the sums stand for,
-    /// they stand afterwards for the list with this one at its end.
+    /// they stand afterwards for the list with this one at its end. It takes no memory: what is counted at the
+    /// nodes and of the flows stays as long as it was.
     pub fn note(&mut self, itinerary: &Itinerary)
         requires packets { self.old.packets < 2 ^ 32 }
         requires visits { All (λ visit. visit.place.node.0 < length self.old.nodes) itinerary.now.visits }
