@@ -3,7 +3,7 @@ use Rattle.std.proofs.Common.{◌≡◌, ℕ, ◌+◌, ◌-◌, ◌*◌, ◌/◌
 use Rattle.std.proofs.lemmas.List.{get_or-set_other, length-set, drop-set-lt}
 use Rattle.ioam_base.proofs.WrittenLaws.{written-front}
 use Rattle.ioam_ip.specs.Chain.{IsSound}
-use Rattle.ioam_ip.specs.Hop.{has_hop, hop_head, hop_options, hop_stepped}
+use Rattle.ioam_ip.specs.Hop.{has_hop, hop_options, hop_stepped}
 use Rattle.ioam_ip.specs.Packet.{IsPacket}
 use Rattle.ioam_ip.specs.Rewriting.{options_in}
 use Rattle.ioam_ip.proofs.SoundLaws.{after, part, facts_of, zero_is}

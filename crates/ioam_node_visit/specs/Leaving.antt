@@ -1,5 +1,5 @@
 -- How a packet leaves the domain where its tunnel ends (RFC 2473 section 3).
-use Rattle.std.specs.Prelude.{◌≡◌, ◌<◌, ⊤, ℕ, List, length, drop, Result, Ok, Err}
+use Rattle.std.specs.Prelude.{◌≡◌, ◌<◌, ⊤, ℕ, List, length, drop, Ok, Err}
 use Rattle.std.specs.declared.ops.Range.{Range}
 use Rattle.ioam_ip.specs.Header.{HasFields}
 use Rattle.ioam_ip.specs.Packet.{IsPacket}

@@ -1,7 +1,7 @@
 //! Room for what a packet's visits note and export.
 ghost use Rattle.std.specs.Prelude.{◌≡◌, ◌≤◌, ◌+◌, ◌-◌, ◌*◌, ◌++◌, ◌∷◌, [], IfOk, length};
 ghost use Rattle.ioam_dex.specs.Record.{HasItsParts, record_of, record_octets};
-ghost use Rattle.ioam_node_visit.specs.Room.{Room};
+ghost use Rattle.ioam_node_visit.specs.Room.{Room, capacity};
 
 use crate::note::NodeNote;
 use ioam_base::memory::NoMemory;
@@ -9,16 +9,16 @@ use ioam_dex::{Export, ExportRoom, MOST_RECORD, put_export};
 use std::alloc::Global;
 use std::marker::Model;
 
-/// Room for the notes and export records of a packet's visits, all of it taken when it is made.
+/// Room for the notes and export records of a packet's visits, all of it taken when it is made. It is
+/// spare for as many notes as its memory has places for besides those that it holds.
 #[derive(Drop)]
 pub struct NodeRoom {
     notes: Vec<NodeNote>,
     exports: ExportRoom,
-    given: usize,
 }
 
 impl Model for NodeRoom {
-    ghost use Rattle.std.specs.Prelude.{◌-◌, ◌+◌, ◌*◌, ◌≤◌, length, vec_capacity};
+    ghost use Rattle.std.specs.Prelude.{◌≡◌, ◌-◌, ◌+◌, ◌*◌, ◌≤◌, length, vec_capacity};
     ghost use Rattle.ioam_node_visit.specs.Room.{Room};
 
     ghost Value = { Room };
@@ -26,12 +26,12 @@ impl Model for NodeRoom {
     ghost view = { λ room. record {
       notes = room.notes.items;
       exports = room.exports.octets;
-      spare = room.given - length room.notes.items;
+      spare = vec_capacity room.notes - length room.notes.items;
     } };
 
-    ghost invariant = { λ room. (length room.notes.items ≤ room.given) × (room.given ≤ vec_capacity room.notes) × (room.given ≤ 1048576)
-        × (274 * (room.given - length room.notes.items) ≤ room.exports.spare)
-        × (274 * room.given ≤ room.exports.spare + length room.exports.octets) };
+    ghost invariant = { λ room. (length room.notes.items ≤ vec_capacity room.notes) × (vec_capacity room.notes ≤ 1048576)
+        × (274 * (vec_capacity room.notes - length room.notes.items) ≤ room.exports.spare)
+        × (274 * vec_capacity room.notes ≡ room.exports.spare + length room.exports.octets) };
 }
 
 impl NodeRoom {
@@ -45,7 +45,6 @@ impl NodeRoom {
         Ok(NodeRoom {
             notes: Vec::with_capacity(alloc, given)?,
             exports: ExportRoom::new(alloc, MOST_RECORD * given)?,
-            given,
         })
     }
 
@@ -67,15 +66,16 @@ impl NodeRoom {
     pub fn spare(&self) -> u32
         ensures { result ≡ self.now.spare }
     {
-        (self.given - self.notes.len()) as u32
+        (self.notes.capacity() - self.notes.len()) as u32
     }
 
-    /// For how many IOAM options it was made.
+    /// For how many IOAM options it was made: its memory has a place for a note of each.
     pub fn given(&self) -> u32
         ensures value { result ≡ self.now.spare + length self.now.notes }
+        ensures capacity { result ≡ capacity self.now }
         ensures most { result ≤ 1048576 }
     {
-        self.given as u32
+        self.notes.capacity() as u32
     }
 
     /// Takes the notes and the records away. There is room again for all for which it was made.
@@ -93,8 +93,8 @@ impl NodeRoom {
         ensures exports { self.new.exports ≡ self.old.exports }
         ensures spare { self.new.spare ≡ self.old.spare - 1 }
     {
-        // never refused: `new` took the memory for all that was given
-        self.notes.push(note).unwrap();
+        // there is a place: `new` took the memory for all that was given
+        self.notes.push_reserved(note);
     }
 
     // Adds a note and a record.
@@ -105,7 +105,7 @@ impl NodeRoom {
         ensures exports { self.new.exports ≡ self.old.exports ++ record_octets (record_of export.now) }
         ensures spare { self.new.spare ≡ self.old.spare - 1 }
     {
-        self.notes.push(note).unwrap();
+        self.notes.push_reserved(note);
         put_export(export, &mut self.exports);
     }
 }

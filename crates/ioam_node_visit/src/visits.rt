@@ -11,6 +11,7 @@ ghost use Rattle.ioam_tunnel.specs.Wire.{Tunnel, IsTunnel};
 ghost use Rattle.ioam_node_visit.specs.Counted.{hop_exports, hop_notes};
 ghost use Rattle.ioam_node_visit.specs.Exports.{records_of};
 ghost use Rattle.ioam_node_visit.specs.Notes.{notes_of};
+ghost use Rattle.ioam_node_visit.specs.Room.{capacity};
 ghost use Rattle.ioam_node_visit.specs.Step.{node_step};
 ghost use Rattle.ioam_node_visit.specs.Visits.{Visited, closed_after, tunnel_records, wire_after};
 
@@ -46,6 +47,8 @@ pub fn begin(
         room.new.exports ≡ room.old.exports ++ hop_exports (records_of domain.now readings.now place time limit) packet.old }
     ensures spare { room.old.spare ≤ room.new.spare + option_count packet.old }
     ensures given { room.new.spare + length room.new.notes ≡ room.old.spare + length room.old.notes }
+    // It takes no memory: that of the notes has as many places as before.
+    ensures memory { capacity room.new ≡ capacity room.old }
     // It stays one packet with a whole chain, carries IOAM as before, and has as many IOAM options.
     ensures packet { IsPacket packet.new }
     ensures sound { IsSound packet.new }
@@ -95,6 +98,8 @@ pub fn transit(
         room.new.exports ≡ room.old.exports ++ hop_exports (records_of domain.now readings.now place time limit) packet.old }
     ensures spare { room.old.spare ≤ room.new.spare + option_count packet.old }
     ensures given { room.new.spare + length room.new.notes ≡ room.old.spare + length room.old.notes }
+    // It takes no memory: that of the notes has as many places as before.
+    ensures memory { capacity room.new ≡ capacity room.old }
     // It stays one packet with a whole chain, carries IOAM as before, and has as many IOAM options.
     ensures packet { IsPacket packet.new }
     ensures sound { IsSound packet.new }
@@ -148,6 +153,8 @@ pub fn exit(
         room.new.exports ≡ room.old.exports ++ hop_exports (records_of domain.now readings.now place time limit) packet.old }
     ensures spare { room.old.spare ≤ room.new.spare + option_count packet.old }
     ensures given { room.new.spare + length room.new.notes ≡ room.old.spare + length room.old.notes }
+    // It takes no memory: that of the notes has as many places as before.
+    ensures memory { capacity room.new ≡ capacity room.old }
     // It stays one packet with a whole chain, carries IOAM as before, and has as many IOAM options.
     ensures packet { IsPacket packet.new }
     ensures sound { IsSound packet.new }

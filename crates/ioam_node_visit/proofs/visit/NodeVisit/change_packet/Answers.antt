@@ -1,4 +1,4 @@
-use Rattle.std.proofs.Common.{◌≤◌, ◌+◌, ◌-◌, ◌++◌, List, ℕ, arith, length, length-append, take, drop, [], sym, ap, ◌∙◌}
+use Rattle.std.proofs.Common.{◌≤◌, ◌-◌, ◌++◌, List, ℕ, arith, length, length-append, take, drop, sym, ap, ◌∙◌}
 use Rattle.std.proofs.lemmas.List.{append-nil}
 use Rattle.ioam_dex.specs.Reads.{records_octets}
 use Rattle.ioam_ip.specs.Hop.{option_count}
