@@ -1,7 +1,10 @@
 pub mod CarriedLaws
 pub mod CountedLaws
+pub mod ExportedLaws
 pub mod PartsLaws
+pub mod PlacesLaws
 pub mod RecordsLaws
 pub mod SeeingLaws
 pub mod StepLaws
+pub mod SteppedLaws
 pub mod VisitLaws

@@ -66,7 +66,7 @@ unfolding met_of
 met-trace old = ap (λ b. cond b Trace Cut) (le_true 2 (length (0 ∷ 0 ∷ old)) (omega arith))
 
 -- what an option is, by its tests
-abbrev by_bits : Bool → Bool → Bool → Bool → Bool → Met
+abbrev pub by_bits : Bool → Bool → Bool → Bool → Bool → Met
 by_bits ioam long zero changing four = cond ioam (cond long (cond zero (cond changing Trace Other) (cond four Direct Other)) Cut) Other
 
 module _ (domain : Domain) (readings : List (List Sample)) (place : Place) (time hops : ℕ) where

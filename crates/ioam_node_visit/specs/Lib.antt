@@ -1,4 +1,5 @@
 pub mod Counted
+pub mod Exported
 pub mod Exports
 pub mod Leaving
 pub mod Met
@@ -6,4 +7,5 @@ pub mod Notes
 pub mod Room
 pub mod Seeing
 pub mod Step
+pub mod Stepped
 pub mod Visits

@@ -1,5 +1,5 @@
 //! The visits of a packet: at the entry of its tunnel, on the way, and at its exit.
-ghost use Rattle.std.specs.Prelude.{◌≡◌, ◌↔◌, ◌+◌, ◌-◌, ◌<◌, ◌≤◌, ◌^◌, ◌∷◌, [], ◌++◌, List, None, length, slice_index};
+ghost use Rattle.std.specs.Prelude.{◌≡◌, ◌↔◌, ◌+◌, ◌-◌, ◌<◌, ◌≤◌, ◌^◌, ◌∷◌, [], ◌++◌, ℕ, List, None, length, slice_index};
 ghost use Rattle.ioam_dex.specs.Reads.{records_octets};
 ghost use Rattle.ioam_ip.specs.Chain.{IsSound};
 ghost use Rattle.ioam_ip.specs.ChainOptions.{CarriesIoam};
@@ -9,10 +9,12 @@ ghost use Rattle.ioam_ip.specs.Packet.{IsPacket};
 ghost use Rattle.ioam_topo.specs.Domain.{nodes};
 ghost use Rattle.ioam_tunnel.specs.Wire.{Tunnel, IsTunnel};
 ghost use Rattle.ioam_node_visit.specs.Counted.{hop_exports, hop_notes};
+ghost use Rattle.ioam_node_visit.specs.Exported.{HasExported};
 ghost use Rattle.ioam_node_visit.specs.Exports.{records_of};
 ghost use Rattle.ioam_node_visit.specs.Notes.{notes_of};
 ghost use Rattle.ioam_node_visit.specs.Room.{capacity};
 ghost use Rattle.ioam_node_visit.specs.Step.{node_step};
+ghost use Rattle.ioam_node_visit.specs.Stepped.{Stepped};
 ghost use Rattle.ioam_node_visit.specs.Visits.{Visited, closed_after, tunnel_records, wire_after};
 
 use crate::room::NodeRoom;
@@ -61,6 +63,14 @@ pub fn begin(
     ensures exported { (tunnel : Tunnel) → IsTunnel tunnel → packet.old ≡ wire_after domain.now readings.now tunnel []
         → room.new.exports ≡ room.old.exports
         ++ records_octets (tunnel_records domain.now readings.now tunnel 0 (record { place = place; time = time })) }
+    // The records by the fields of the packet's direct export options.
+    ensures records { let limit = slice_index packet.old 7 in
+        HasExported domain.now readings.now place time limit packet.old room.old.exports room.new.exports }
+    // The packet place by place: this is all that may become of it.
+    ensures stepped { let hops = slice_index packet.old 7 in
+        Stepped domain.now readings.now place time hops hops packet.old packet.new }
+    ensures only { let hops = slice_index packet.old 7 in
+        (other : List ℕ) → Stepped domain.now readings.now place time hops hops packet.old other → other ≡ packet.new }
 {
     let hops = packet[HOP_LIMIT];
     let visit = NodeVisit {
@@ -114,6 +124,14 @@ pub fn transit(
         → packet.old ≡ wire_after domain.now readings.now tunnel visits
         → room.new.exports ≡ room.old.exports
         ++ records_octets (tunnel_records domain.now readings.now tunnel (length visits) (record { place = place; time = time })) }
+    // The records by the fields of the packet's direct export options.
+    ensures records { let limit = slice_index packet.old 7 - 1 in
+        HasExported domain.now readings.now place time limit packet.old room.old.exports room.new.exports }
+    // The packet place by place: this is all that may become of it.
+    ensures stepped { let hops = slice_index packet.old 7 - 1 in
+        Stepped domain.now readings.now place time hops hops packet.old packet.new }
+    ensures only { let hops = slice_index packet.old 7 - 1 in
+        (other : List ℕ) → Stepped domain.now readings.now place time hops hops packet.old other → other ≡ packet.new }
 {
     let hops = packet[HOP_LIMIT] - 1;
     packet[HOP_LIMIT] = hops;
@@ -169,6 +187,14 @@ pub fn exit(
         → packet.old ≡ wire_after domain.now readings.now tunnel visits
         → room.new.exports ≡ room.old.exports
         ++ records_octets (tunnel_records domain.now readings.now tunnel (length visits) (record { place = place; time = time })) }
+    // The records by the fields of the packet's direct export options.
+    ensures records { let limit = slice_index packet.old 7 - 1 in
+        HasExported domain.now readings.now place time limit packet.old room.old.exports room.new.exports }
+    // The packet place by place: this is all that may become of it.
+    ensures stepped { let hops = slice_index packet.old 7 - 1 in
+        Stepped domain.now readings.now place time hops (slice_index packet.old 7) packet.old packet.new }
+    ensures only { let hops = slice_index packet.old 7 - 1 in
+        (other : List ℕ) → Stepped domain.now readings.now place time hops (slice_index packet.old 7) packet.old other → other ≡ packet.new }
 {
     let hops = packet[HOP_LIMIT] - 1;
     let visit = NodeVisit {

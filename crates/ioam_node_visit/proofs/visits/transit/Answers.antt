@@ -1,4 +1,4 @@
-use Rattle.std.proofs.Common.{◌-◌, ◌++◌, slice_index, arith, ap, ◌∙◌}
+use Rattle.std.proofs.Common.{◌-◌, ◌++◌, slice_index, arith, ap, ◌∙◌, ℕ, List, sym, subst}
 use Rattle.std.proofs.lemmas.List.{get_or-set_same}
 use Rattle.ioam_dex.specs.Reads.{records_octets}
 use Rattle.ioam_ip.proofs.CarriedLaws.{CarriesIoam-lowered, CarriesIoam-raised}
@@ -6,6 +6,10 @@ use Rattle.ioam_ip.proofs.SoundLaws.{IsSound-lowered, option_count-lowered}
 use Rattle.ioam_node_visit.specs.Counted.{notes_in, records_in}
 use Rattle.ioam_node_visit.specs.Exports.{records_of}
 use Rattle.ioam_node_visit.specs.Notes.{notes_of}
+use Rattle.ioam_ip.specs.Hop.{hop_options}
+use Rattle.ioam_node_visit.specs.Stepped.{Stepped}
+use Rattle.ioam_node_visit.proofs.ExportedLaws.{exports-are, exports-only}
+use Rattle.ioam_node_visit.proofs.SteppedLaws.{stepped-lowered, stepped-only}
 use Rattle.ioam_node_visit.proofs.CountedLaws.{IsPacket-lowered, options_lowered}
 use Rattle.ioam_node_visit.proofs.RecordsLaws.{later-records}
 use Rattle.ioam_node_visit.proofs.VisitLaws.{transits}
@@ -63,3 +67,35 @@ returns-clause-exported c tunnel visits is some same =
     returns-clause-exports c
     ∙ ap (λ rs. c.args.room.now.exports ++ records_octets rs)
     (later-records c.args.domain.now c.args.readings.now tunnel is visits (record { place = c.args.place; time = c.args.time }) c.args.packet.now same some)
+
+pub returns-clause-records : goal.returns-clause-records
+returns-clause-records c =
+    let d = c.args.domain.now in
+    let r = c.args.readings.now in
+    let p = c.args.place in
+    let t = c.args.time in
+    let hops = slice_index c.args.packet.now 7 - 1 in
+    let options = hop_options c.args.packet.now in
+    record {
+      records = records_in (records_of d r p t hops) options;
+      are = exports-are d r p t hops options;
+      only = exports-only d r p t hops options;
+      is = returns-clause-exports c;
+    }
+
+pub returns-clause-stepped : goal.returns-clause-stepped
+returns-clause-stepped c =
+    let d = c.args.domain.now in
+    let r = c.args.readings.now in
+    let p = c.args.place in
+    let t = c.args.time in
+    let hops = slice_index c.args.packet.now 7 - 1 in
+    let packet = c.args.packet.now in
+    let P : List ℕ → Type 0 = λ xs. Stepped d r p t hops hops packet xs in
+    subst P (sym c.visit_packet.ensures.steps) (stepped-lowered d r p t hops packet hops c.requires.sound c.requires.packet)
+
+pub returns-clause-only : goal.returns-clause-only
+returns-clause-only c other given =
+    let hops = slice_index c.args.packet.now 7 - 1 in
+    stepped-only c.args.domain.now c.args.readings.now c.args.place c.args.time hops hops c.args.packet.now other c.visit_packet.new.packet
+    given (returns-clause-stepped c)
