@@ -42,7 +42,7 @@ four_seq : (ext : ℕ) → four_where (has_seq ext) ≡ 4 * seq_bit ext
 unfolding has_seq
 four_seq ext = four_by (ext / 64 % 2) (omega arith)
 
-type_is : (kind : ℕ) → export_type kind ≡ without_check kind
+pub type_is : (kind : ℕ) → export_type kind ≡ without_check kind
 unfolding has
 type_is kind = less_by (kind / 65536 % 2) kind (omega arith)
 

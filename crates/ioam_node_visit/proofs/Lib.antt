@@ -1,6 +1,7 @@
 pub mod CarriedLaws
 pub mod CountedLaws
 pub mod ExportedLaws
+pub mod FlowExportsLaws
 pub mod PartsLaws
 pub mod PlacesLaws
 pub mod RecordsLaws

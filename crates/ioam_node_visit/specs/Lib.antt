@@ -1,6 +1,7 @@
 pub mod Counted
 pub mod Exported
 pub mod Exports
+pub mod FlowExports
 pub mod Leaving
 pub mod Met
 pub mod Notes

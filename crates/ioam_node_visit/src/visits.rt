@@ -1,5 +1,5 @@
 //! The visits of a packet: at the entry of its tunnel, on the way, and at its exit.
-ghost use Rattle.std.specs.Prelude.{◌≡◌, ◌↔◌, ◌+◌, ◌-◌, ◌<◌, ◌≤◌, ◌^◌, ◌∷◌, [], ◌++◌, ℕ, List, None, length, slice_index};
+ghost use Rattle.std.specs.Prelude.{◌≡◌, ◌↔◌, ◌+◌, ◌-◌, ◌<◌, ◌≤◌, ◌^◌, ◌∷◌, [], ◌++◌, ℕ, List, Option, None, length, slice_index};
 ghost use Rattle.ioam_dex.specs.Reads.{records_octets};
 ghost use Rattle.ioam_ip.specs.Chain.{IsSound};
 ghost use Rattle.ioam_ip.specs.ChainOptions.{CarriesIoam};
@@ -7,10 +7,12 @@ ghost use Rattle.ioam_ip.specs.Hop.{hop_stepped, option_count};
 ghost use Rattle.ioam_ip.specs.Lowered.{lowered};
 ghost use Rattle.ioam_ip.specs.Packet.{IsPacket};
 ghost use Rattle.ioam_topo.specs.Domain.{nodes};
+ghost use Rattle.ioam_topo.specs.declared.parts.Flow.{Flow};
 ghost use Rattle.ioam_tunnel.specs.Wire.{Tunnel, IsTunnel};
 ghost use Rattle.ioam_node_visit.specs.Counted.{hop_exports, hop_notes};
 ghost use Rattle.ioam_node_visit.specs.Exported.{HasExported};
 ghost use Rattle.ioam_node_visit.specs.Exports.{records_of};
+ghost use Rattle.ioam_node_visit.specs.FlowExports.{CarriesDirect, HasFlowExports};
 ghost use Rattle.ioam_node_visit.specs.Notes.{notes_of};
 ghost use Rattle.ioam_node_visit.specs.Room.{capacity};
 ghost use Rattle.ioam_node_visit.specs.Step.{node_step};
@@ -26,7 +28,7 @@ use ioam_topo::Domain;
 
 /// The visit of the node at which a packet enters its tunnel, at a time in nanoseconds: it adds what it
 /// knows to each trace of the outer Hop-by-Hop header whose namespace it knows, and exports what its
-/// direct export options ask for. The hop limit stays.
+/// direct export options ask for. The hop limit stays. Takes no memory.
 pub fn begin(
     domain: &Domain,
     readings: &Readings,
@@ -63,9 +65,13 @@ pub fn begin(
     ensures exported { (tunnel : Tunnel) → IsTunnel tunnel → packet.old ≡ wire_after domain.now readings.now tunnel []
         → room.new.exports ≡ room.old.exports
         ++ records_octets (tunnel_records domain.now readings.now tunnel 0 (record { place = place; time = time })) }
-    // The records by the fields of the packet's direct export options.
+    // The export records by the fields of the packet's direct export options.
     ensures records { let limit = slice_index packet.old 7 in
         HasExported domain.now readings.now place time limit packet.old room.old.exports room.new.exports }
+    // Of an enclosed packet by the fields of its flow and its own number.
+    ensures flow { (tunnel : Tunnel) (flow : Flow) (number : Option ℕ) → IsTunnel tunnel → CarriesDirect tunnel flow number
+        → packet.old ≡ wire_after domain.now readings.now tunnel []
+        → HasFlowExports domain.now readings.now place time tunnel.hops flow number room.old.exports room.new.exports }
     // The packet place by place: this is all that may become of it.
     ensures stepped { let hops = slice_index packet.old 7 in
         Stepped domain.now readings.now place time hops hops packet.old packet.new }
@@ -84,7 +90,7 @@ pub fn begin(
 }
 
 /// The visit of a node on the way: it lowers the hop limit, which is 2 or more, and does as `begin` does.
-/// What it records is the hop limit with which the packet is sent on.
+/// What it records is the hop limit with which the packet is sent on. Takes no memory.
 pub fn transit(
     domain: &Domain,
     readings: &Readings,
@@ -124,9 +130,13 @@ pub fn transit(
         → packet.old ≡ wire_after domain.now readings.now tunnel visits
         → room.new.exports ≡ room.old.exports
         ++ records_octets (tunnel_records domain.now readings.now tunnel (length visits) (record { place = place; time = time })) }
-    // The records by the fields of the packet's direct export options.
+    // The export records by the fields of the packet's direct export options.
     ensures records { let limit = slice_index packet.old 7 - 1 in
         HasExported domain.now readings.now place time limit packet.old room.old.exports room.new.exports }
+    // Of an enclosed packet by the fields of its flow and its own number.
+    ensures flow { (tunnel : Tunnel) (visits : List Visited) (flow : Flow) (number : Option ℕ) → IsTunnel tunnel → CarriesDirect tunnel flow number → 1 ≤ length visits
+        → packet.old ≡ wire_after domain.now readings.now tunnel visits
+        → HasFlowExports domain.now readings.now place time (tunnel.hops - length visits) flow number room.old.exports room.new.exports }
     // The packet place by place: this is all that may become of it.
     ensures stepped { let hops = slice_index packet.old 7 - 1 in
         Stepped domain.now readings.now place time hops hops packet.old packet.new }
@@ -146,7 +156,7 @@ pub fn transit(
 }
 
 /// The visit of the node at which a packet leaves its tunnel: it does as `begin` does, and records the
-/// hop limit that came, which is 1 or more, less one. The hop limit stays.
+/// hop limit that came, which is 1 or more, less one. The hop limit stays. Takes no memory.
 pub fn exit(
     domain: &Domain,
     readings: &Readings,
@@ -187,9 +197,13 @@ pub fn exit(
         → packet.old ≡ wire_after domain.now readings.now tunnel visits
         → room.new.exports ≡ room.old.exports
         ++ records_octets (tunnel_records domain.now readings.now tunnel (length visits) (record { place = place; time = time })) }
-    // The records by the fields of the packet's direct export options.
+    // The export records by the fields of the packet's direct export options.
     ensures records { let limit = slice_index packet.old 7 - 1 in
         HasExported domain.now readings.now place time limit packet.old room.old.exports room.new.exports }
+    // Of an enclosed packet by the fields of its flow and its own number.
+    ensures flow { (tunnel : Tunnel) (visits : List Visited) (flow : Flow) (number : Option ℕ) → IsTunnel tunnel → CarriesDirect tunnel flow number → 1 ≤ length visits
+        → packet.old ≡ wire_after domain.now readings.now tunnel visits
+        → HasFlowExports domain.now readings.now place time (tunnel.hops - length visits) flow number room.old.exports room.new.exports }
     // The packet place by place: this is all that may become of it.
     ensures stepped { let hops = slice_index packet.old 7 - 1 in
         Stepped domain.now readings.now place time hops (slice_index packet.old 7) packet.old packet.new }

@@ -1,9 +1,12 @@
-use Rattle.std.proofs.Common.{◌++◌, [], refl, ap, ◌∙◌, ℕ, List, slice_index, sym, subst}
+use Rattle.std.proofs.Common.{◌-◌, ◌++◌, [], refl, ap, ◌∙◌, ℕ, List, slice_index, sym, subst, ◌≡◌, arith}
 use Rattle.ioam_dex.specs.Reads.{records_octets}
 use Rattle.ioam_ip.specs.Hop.{hop_options}
 use Rattle.ioam_node_visit.specs.Counted.{records_in}
 use Rattle.ioam_node_visit.specs.Exports.{records_of}
+use Rattle.ioam_node_visit.specs.FlowExports.{AreFlowExports}
 use Rattle.ioam_node_visit.specs.Stepped.{Stepped}
+use Rattle.ioam_node_visit.specs.Visits.{Visited, tunnel_records}
+use Rattle.ioam_node_visit.proofs.FlowExportsLaws.{flow-exports}
 use Rattle.ioam_node_visit.proofs.ExportedLaws.{exports-are, exports-only}
 use Rattle.ioam_node_visit.proofs.SteppedLaws.{stepped-is, stepped-only}
 use Rattle.ioam_node_visit.proofs.RecordsLaws.{first-records}
@@ -52,3 +55,17 @@ returns-clause-only c other given =
     let hops = slice_index c.args.packet.now 7 in
     stepped-only c.args.domain.now c.args.readings.now c.args.place c.args.time hops hops c.args.packet.now other c.visit_packet.new.packet
     given (returns-clause-stepped c)
+
+pub returns-clause-flow : goal.returns-clause-flow
+returns-clause-flow c tunnel flow number is carries same =
+    let d = c.args.domain.now in
+    let r = c.args.readings.now in
+    let visit : Visited = record { place = c.args.place; time = c.args.time } in
+    let records = tunnel_records d r tunnel 0 visit in
+    let hops : tunnel.hops - 0 ≡ tunnel.hops = omega arith in
+    let P : ℕ → Type 0 = λ n. AreFlowExports d r c.args.place c.args.time n flow flow.direct number records in
+    record {
+      records = records;
+      are = subst P hops (flow-exports d r tunnel 0 visit flow number carries);
+      is = returns-clause-exported c tunnel is same;
+    }

@@ -1,9 +1,11 @@
-use Rattle.std.proofs.Common.{◌++◌, ap, ◌∙◌, ◌-◌, ℕ, List, slice_index, sym, subst}
+use Rattle.std.proofs.Common.{◌++◌, ap, ◌∙◌, ◌-◌, ℕ, List, slice_index, sym, subst, length}
 use Rattle.ioam_dex.specs.Reads.{records_octets}
 use Rattle.ioam_ip.specs.Hop.{hop_options}
 use Rattle.ioam_node_visit.specs.Counted.{records_in}
 use Rattle.ioam_node_visit.specs.Exports.{records_of}
 use Rattle.ioam_node_visit.specs.Stepped.{Stepped}
+use Rattle.ioam_node_visit.specs.Visits.{Visited, tunnel_records}
+use Rattle.ioam_node_visit.proofs.FlowExportsLaws.{flow-exports}
 use Rattle.ioam_node_visit.proofs.ExportedLaws.{exports-are, exports-only}
 use Rattle.ioam_node_visit.proofs.SteppedLaws.{stepped-is, stepped-only}
 use Rattle.ioam_node_visit.proofs.RecordsLaws.{later-records}
@@ -52,3 +54,12 @@ returns-clause-only c other given =
     let hops = slice_index c.args.packet.now 7 - 1 in
     stepped-only c.args.domain.now c.args.readings.now c.args.place c.args.time hops (slice_index c.args.packet.now 7) c.args.packet.now other c.visit_packet.new.packet
     given (returns-clause-stepped c)
+
+pub returns-clause-flow : goal.returns-clause-flow
+returns-clause-flow c tunnel visits flow number is carries some same =
+    let visit : Visited = record { place = c.args.place; time = c.args.time } in
+    record {
+      records = tunnel_records c.args.domain.now c.args.readings.now tunnel (length visits) visit;
+      are = flow-exports c.args.domain.now c.args.readings.now tunnel (length visits) visit flow number carries;
+      is = returns-clause-exported c tunnel visits is some same;
+    }

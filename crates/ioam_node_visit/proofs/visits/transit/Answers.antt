@@ -1,4 +1,4 @@
-use Rattle.std.proofs.Common.{◌-◌, ◌++◌, slice_index, arith, ap, ◌∙◌, ℕ, List, sym, subst}
+use Rattle.std.proofs.Common.{◌-◌, ◌++◌, slice_index, arith, ap, ◌∙◌, ℕ, List, sym, subst, length}
 use Rattle.std.proofs.lemmas.List.{get_or-set_same}
 use Rattle.ioam_dex.specs.Reads.{records_octets}
 use Rattle.ioam_ip.proofs.CarriedLaws.{CarriesIoam-lowered, CarriesIoam-raised}
@@ -8,6 +8,8 @@ use Rattle.ioam_node_visit.specs.Exports.{records_of}
 use Rattle.ioam_node_visit.specs.Notes.{notes_of}
 use Rattle.ioam_ip.specs.Hop.{hop_options}
 use Rattle.ioam_node_visit.specs.Stepped.{Stepped}
+use Rattle.ioam_node_visit.specs.Visits.{Visited, tunnel_records}
+use Rattle.ioam_node_visit.proofs.FlowExportsLaws.{flow-exports}
 use Rattle.ioam_node_visit.proofs.ExportedLaws.{exports-are, exports-only}
 use Rattle.ioam_node_visit.proofs.SteppedLaws.{stepped-lowered, stepped-only}
 use Rattle.ioam_node_visit.proofs.CountedLaws.{IsPacket-lowered, options_lowered}
@@ -99,3 +101,12 @@ returns-clause-only c other given =
     let hops = slice_index c.args.packet.now 7 - 1 in
     stepped-only c.args.domain.now c.args.readings.now c.args.place c.args.time hops hops c.args.packet.now other c.visit_packet.new.packet
     given (returns-clause-stepped c)
+
+pub returns-clause-flow : goal.returns-clause-flow
+returns-clause-flow c tunnel visits flow number is carries some same =
+    let visit : Visited = record { place = c.args.place; time = c.args.time } in
+    record {
+      records = tunnel_records c.args.domain.now c.args.readings.now tunnel (length visits) visit;
+      are = flow-exports c.args.domain.now c.args.readings.now tunnel (length visits) visit flow number carries;
+      is = returns-clause-exported c tunnel visits is some same;
+    }
