@@ -4,3 +4,7 @@ pub mod StageLaws
 pub mod CountedLaws
 pub mod RidesLaws
 pub mod FlowLaws
+pub mod ChoiceLaws
+pub mod PassesLaws
+pub mod PlannedLaws
+pub mod TravelsLaws

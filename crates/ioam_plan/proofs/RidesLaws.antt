@@ -41,7 +41,7 @@ pub direct_there : (kind every : Option ℕ) (number : ℕ) → IsTrue (is_some 
 direct_there None every number there = there
 direct_there (Some kind) every number there = refl
 
-carried_none : (visits : List Visit) → carried_by visits None ≡ None
+pub carried_none : (visits : List Visit) → carried_by visits None ≡ None
 carried_none [] = refl
 carried_none (visit ∷ visits) = refl
 

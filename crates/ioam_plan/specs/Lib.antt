@@ -5,3 +5,5 @@ pub mod Steps
 pub mod Counted
 pub mod Drawn
 pub mod Plans
+pub mod Passes
+pub mod Travels

@@ -13,6 +13,7 @@ ghost use Rattle.ioam_plan.specs.Rides.{Rides};
 ghost use Rattle.ioam_plan.specs.declared.itinerary.Itinerary.{Itinerary};
 ghost use Rattle.ioam_clock.specs.declared.sample.Sample.{Sample};
 ghost use Rattle.ioam_plan.specs.Plans.{Plans, PlansBy, PlansPacket, PlansFlow, PlansDrop, start_of, flow_trip, entry_of};
+ghost use Rattle.ioam_plan.specs.Travels.{Travels};
 
 use crate::counters::Counters;
 use crate::drawing::{is_refused, numbers_of};
@@ -56,6 +57,9 @@ pub fn plan(
     // Nothing else is planned for it.
     ensures only { (earlier : List Itinerary) (other : Itinerary) → CountFor domain.now counters.old earlier
         → Plans domain.now readings.now earlier port time admitted.now other → IfOk result (λ it. it ≡ other) }
+    // So its packet goes from node to node.
+    ensures travels { (earlier : List Itinerary) → CountFor domain.now counters.old earlier
+        → IfOk result (Travels domain.now readings.now earlier port time admitted.now) }
     ensures counted { (earlier : List Itinerary) → CountFor domain.now counters.old earlier
         → IfOk result (λ it. CountFor domain.now counters.new (earlier ++ it ∷ [])) }
     ensures length { length counters.new ≡ length counters.old }
