@@ -40,6 +40,8 @@ link_no_port link port same = cc
 no_way : (o : Option Way) (a : Way) → o ≡ None → o ≡ Some a → ⊥
 no_way o a none some = let never : None ≡ Some a = sym none ∙ some in cc
 
+-- ---- a node that neither encloses the packet nor takes it out
+
 module _ (domain : Domain) (node : ℕ) (enclosed : Bool) (hops target size : ℕ) where
   abbrev way_here : Option Way
   way_here = way_to (routes domain) node target
@@ -47,6 +49,7 @@ module _ (domain : Domain) (node : ℕ) (enclosed : Bool) (hops target size : �
   abbrev Stops_here : Reason → Type 0
   Stops_here = Stops domain node enclosed hops target size
 
+  -- no reason holds in front of the one that is answered
   low_first : hops ≤ 1 → (other : Reason) → rank other < 7 → Stops_here other → ⊥
   low_first low reason.HopLimit below holds = omega (arith, below)
   low_first low reason.NoRoute below holds = omega (arith, below)
@@ -75,6 +78,7 @@ module _ (domain : Domain) (node : ℕ) (enclosed : Bool) (hops target size : �
   out_first high port is reason.IoamOut below holds = omega (arith, below)
   out_first high port is other below holds = holds
 
+  -- none holds of a packet that is sent
   link_goes : 2 ≤ hops → (link : LinkId) → way_here ≡ Some (way.Link link) → size ≤ mtu_of domain link → (other : Reason) → Stops_here other → ⊥
   link_goes high link is fits reason.HopLimit holds = omega (arith, high, holds)
   link_goes high link is fits reason.NoRoute holds = no_way way_here (way.Link link) holds is
@@ -123,6 +127,8 @@ module _ (domain : Domain) (node : ℕ) (enclosed : Bool) (hops target size : �
   pub choice_first : (r : Reason) → IsFirst Stops_here r → choice domain node enclosed hops target size ≡ Err r
   choice_first r first = only_first (Goes domain node enclosed hops target size) Stops_here (λ x y a b. one_way way_here x y a.0 b.0) (λ x a. a.1)
       (choice domain node enclosed hops target size) r choice_right first
+
+-- ---- the node that is to enclose it
 
 module _ (domain : Domain) (node : ℕ) (refused : Bool) (hops target size : ℕ) where
   abbrev way_in : Option Way
@@ -223,6 +229,8 @@ module _ (domain : Domain) (node : ℕ) (refused : Bool) (hops target size : ℕ
   pub entry_first : (r : Reason) → IsFirst Stops_in r → entry_choice domain node refused hops target size ≡ Err r
   entry_first r first = only_first (Enters domain node refused hops target size) Stops_in one_entry (λ x a. a.1)
       (entry_choice domain node refused hops target size) r entry_right first
+
+-- ---- the node at which it came out of its tunnel
 
 module _ (domain : Domain) (node hops target : ℕ) where
   abbrev way_out : Option Way

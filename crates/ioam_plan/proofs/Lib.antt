@@ -8,3 +8,4 @@ pub mod ChoiceLaws
 pub mod PassesLaws
 pub mod PlannedLaws
 pub mod TravelsLaws
+pub mod SomeWayLaws

@@ -39,7 +39,7 @@ use Rattle.ioam_plan.proofs.PassesLaws.{spot_at, plain_by, inside_by, Runs, over
 
 -- ---- ways of a domain
 
-there_in : {A : Type 0} (xs : List A) (i : ℕ) → i < length xs → (x : A) × (slice_get xs i ≡ Some x)
+pub there_in : {A : Type 0} (xs : List A) (i : ℕ) → i < length xs → (x : A) × (slice_get xs i ≡ Some x)
 there_in [] i inside = absurd (omega (arith, inside))
 there_in (x ∷ xs) zero inside = (x, refl)
 there_in (x ∷ xs) (suc i) inside = there_in xs i (omega (arith, inside))
@@ -58,14 +58,14 @@ module _ (domain : Domain) (node : NodeId) (target : ℕ) where
   way_there : (w : Way) → way_to (routes domain) node.0 target ≡ Some w → IsWayFrom (links domain) (ports domain) node.0 w
   way_there w is = way_by_route w (longest bits_of (fits node.0 target) (routes domain)) refl is
 
-  link_there : (id : LinkId) → way_to (routes domain) node.0 target ≡ Some (way.Link id)
+  pub link_there : (id : LinkId) → way_to (routes domain) node.0 target ≡ Some (way.Link id)
       → (link : Link) × (slice_get (links domain) id.0 ≡ Some link) × (link.from ≡ node)
   link_there id is =
       let from = way_there (way.Link id) is in
       let at = there_in (links domain) id.0 from.0 in
       (at.0, at.1, same_node at.0.from node (from.1 at.0 at.1))
 
-  port_there : (id : PortId) → way_to (routes domain) node.0 target ≡ Some (way.Port id)
+  pub port_there : (id : PortId) → way_to (routes domain) node.0 target ≡ Some (way.Port id)
       → (port : Port) × IsPortOf domain node id port
   port_there id is =
       let from = way_there (way.Port id) is in
@@ -122,7 +122,7 @@ module _ (domain : Domain) (enclosed : Bool) (target size : ℕ) (node : NodeId)
   abbrev step_by : Result Way Reason → JourneyStep
   step_by r = sent_on domain (spot_at node inward time hops) (hops - 1) r
 
-  right_by : (r : Result Way Reason) → answers ≡ r → MatchResult r Sent (IsFirst Held_up)
+  pub right_by : (r : Result Way Reason) → answers ≡ r → MatchResult r Sent (IsFirst Held_up)
   right_by r is = subst (λ (r : Result Way Reason). MatchResult r Sent (IsFirst Held_up)) is (choice_right domain node.0 enclosed hops target size)
 
   drops : (r : Result Way Reason) → answers ≡ r → (end : End) (exited : Bool) → step_by r ≡ Ends end exited
@@ -190,10 +190,10 @@ module _ (domain : Domain) (target size : ℕ) where
 
 -- ---- a packet in a tunnel
 
-here_is : (node exit : NodeId) → nat_eq exit.0 node.0 ≡ true → node ≡ exit
+pub here_is : (node exit : NodeId) → nat_eq exit.0 node.0 ≡ true → node ≡ exit
 here_is node exit on = same_node node exit (sym (eqb-true exit.0 node.0 on))
 
-not_here_is : (node exit : NodeId) → nat_eq exit.0 node.0 ≡ false → node ≢ exit
+pub not_here_is : (node exit : NodeId) → nat_eq exit.0 node.0 ≡ false → node ≢ exit
 not_here_is node exit off same = eqb-false exit.0 node.0 off (ap (λ (n : NodeId). n.0) (sym same))
 
 module _ (domain : Domain) (size : ℕ) (inside : Inside) where
@@ -288,7 +288,7 @@ module _ (domain : Domain) (id : FlowId) (flow : Flow) (numbers : Numbers) (refu
   abbrev Goes_in : NodeId → LinkId → Type 0
   Goes_in node = Enters domain node.0 refused hops (address_at domain flow.exit) size
 
-  right_in : (node : NodeId) (r : Result LinkId Reason) → entry_choice domain node.0 refused hops (address_at domain flow.exit) size ≡ r
+  pub right_in : (node : NodeId) (r : Result LinkId Reason) → entry_choice domain node.0 refused hops (address_at domain flow.exit) size ≡ r
       → MatchResult r (Goes_in node) (IsFirst (Drops_in node))
   right_in node r is = subst (λ (r : Result LinkId Reason). MatchResult r (Goes_in node) (IsFirst (Drops_in node))) is
       (entry_right domain node.0 refused hops (address_at domain flow.exit) size)

@@ -57,7 +57,7 @@ pub fn plan(
     // Nothing else is planned for it.
     ensures only { (earlier : List Itinerary) (other : Itinerary) → CountFor domain.now counters.old earlier
         → Plans domain.now readings.now earlier port time admitted.now other → IfOk result (λ it. it ≡ other) }
-    // So its packet goes from node to node.
+    // Its packet goes from node to node by the rules of the standards.
     ensures travels { (earlier : List Itinerary) → CountFor domain.now counters.old earlier
         → IfOk result (Travels domain.now readings.now earlier port time admitted.now) }
     ensures counted { (earlier : List Itinerary) → CountFor domain.now counters.old earlier
