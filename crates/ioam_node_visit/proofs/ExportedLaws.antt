@@ -1,7 +1,6 @@
 -- What a node exports, by the places of the options' fields, is what its records are as a function, and nothing else is.
 use Rattle.std.proofs.Common.{◌≡◌, inl, inr, ℕ, zero, suc, ◌+◌, ◌-◌, ◌*◌, ◌/◌, ◌%◌, ◌<◌, ◌≤◌, ◌⊎◌, ◌||◌, Bool, true, false, cond, eqb, leb, ltb, List, [], ◌∷◌, ◌++◌, length, slice_index, refl, sym, ap, ◌∙◌, subst, arith, length-drop}
 use Rattle.std.specs.Prelude.{Ok, Err}
-use Rattle.std.proofs.lemmas.Bool.Decides.{nat_tests}
 use Rattle.ioam_base.specs.Octets.{u16_at, u24_at}
 use Rattle.ioam_clock.specs.declared.sample.Sample.{Sample}
 use Rattle.ioam_data.specs.Kind.{has, words}
@@ -21,6 +20,7 @@ use Rattle.ioam_node_visit.specs.Met.{met_of}
 use Rattle.ioam_node_visit.specs.Seeing.{view_of}
 use Rattle.ioam_node_visit.specs.Step.{knows}
 use Rattle.ioam_node_visit.proofs.StepLaws.{by_bits}
+use Rattle.ioam_node_visit.proofs.TestsLaws.{false_is, false_le, false_lt, true_is, true_lt}
 
 -- ---- bits
 
@@ -56,21 +56,6 @@ seq_is ext octets = ap (λ n. number_if (seq_bit ext) octets (8 + n)) (four_flow
 
 -- ---- the data are whole
 
-le_false : (m n : ℕ) → leb m n ≡ false → n < m
-le_false m n is = grind (arith, nat_tests)
-
-lt_true : (m n : ℕ) → ltb m n ≡ true → m < n
-lt_true m n is = grind (arith, nat_tests)
-
-lt_false : (m n : ℕ) → ltb m n ≡ false → n ≤ m
-lt_false m n is = grind (arith, nat_tests)
-
-same_is : (m n : ℕ) → eqb m n ≡ true → m ≡ n
-same_is m n is = grind (arith, nat_tests)
-
-other_is : (m n : ℕ) → eqb m n ≡ false → m ≡ n → ⊥
-other_is m n is same = grind (arith, nat_tests)
-
 -- the octets that are wanted, where the first 8 are there
 wanted_by : (b : Bool) (octets : List ℕ) → ltb (length octets) 8 ≡ b → 8 ≤ cond b 8 (8 + numbers_size (slice_index octets 3))
 wanted_by true octets is = omega arith
@@ -79,7 +64,7 @@ wanted_by false octets is = omega arith
 wanted_long : (octets : List ℕ) → 8 ≤ length octets → wanted octets ≡ size_of octets
 wanted_long octets long = by_test (ltb (length octets) 8) refl where
   by_test : (b : Bool) → ltb (length octets) 8 ≡ b → cond b 8 (8 + numbers_size (slice_index octets 3)) ≡ size_of octets
-  by_test true is = let short = lt_true (length octets) 8 is in absurd (omega (arith, short, long))
+  by_test true is = let short = true_lt (length octets) 8 is in absurd (omega (arith, short, long))
   by_test false is = omega (arith, four_flow (slice_index octets 3), four_seq (slice_index octets 3))
 
 whole_is : (octets : List ℕ) → wanted octets ≤ length octets → size_of octets ≤ length octets
@@ -99,8 +84,8 @@ ioam_by false b is = inr is
 ioam_type : (kind : ℕ) → is_ioam_type kind ≡ true → (kind ≡ 0x11) ⊎ (kind ≡ 0x31)
 ioam_type kind is = by_case (ioam_by (eqb kind 0x11) (eqb kind 0x31) is) where
   by_case : (eqb kind 0x11 ≡ true) ⊎ (eqb kind 0x31 ≡ true) → (kind ≡ 0x11) ⊎ (kind ≡ 0x31)
-  by_case (inl is) = inl (same_is kind 0x11 is)
-  by_case (inr is) = inr (same_is kind 0x31 is)
+  by_case (inl is) = inl (true_is kind 0x11 is)
+  by_case (inr is) = inr (true_is kind 0x31 is)
 
 no_ioam : (kind : ℕ) → is_ioam_type kind ≡ false → (kind ≡ 0x11) ⊎ (kind ≡ 0x31) → ⊥
 no_ioam kind is (inl same) = absurd (cc (sym is ∙ ap is_ioam_type same))
@@ -182,24 +167,24 @@ module _ (domain : Domain) (readings : List (List Sample)) (place : Place) (time
         → knows domain place.node.0 (u16_at octets 0) ≡ n → Gets item
     by_tests false b t k d s n ea eb et ek ed es en = inl ((λ asks. no_ioam item.kind ea asks.type), met_is false b t k d ea eb et ek ed)
     by_tests true false t k d s n ea eb et ek ed es en =
-        let short = le_false 2 (length item.body) eb in
+        let short = false_le 2 (length item.body) eb in
         inl ((λ asks. let whole = asks.whole in omega (arith, short, whole, length-drop 2 item.body)), met_is true false t k d ea eb et ek ed)
     by_tests true true true true d s n ea eb et ek ed es en =
-        inl ((λ asks. let four = asks.direct in omega (arith, four, same_is (slice_index item.body 1) 0 et)), met_is true true true true d ea eb et ek ed)
+        inl ((λ asks. let four = asks.direct in omega (arith, four, true_is (slice_index item.body 1) 0 et)), met_is true true true true d ea eb et ek ed)
     by_tests true true true false d s n ea eb et ek ed es en =
-        inl ((λ asks. let four = asks.direct in omega (arith, four, same_is (slice_index item.body 1) 0 et)), met_is true true true false d ea eb et ek ed)
+        inl ((λ asks. let four = asks.direct in omega (arith, four, true_is (slice_index item.body 1) 0 et)), met_is true true true false d ea eb et ek ed)
     by_tests true true false k false s n ea eb et ek ed es en =
-        inl ((λ asks. other_is (slice_index item.body 1) 4 ed asks.direct), met_is true true false k false ea eb et ek ed)
+        inl ((λ asks. false_is (slice_index item.body 1) 4 ed asks.direct), met_is true true false k false ea eb et ek ed)
     by_tests true true false k true true n ea eb et ek ed es en =
-        inl ((λ asks. short_not octets (lt_true (length octets) (wanted octets) es) asks.whole), met_is true true false k true ea eb et ek ed ∙ read_is true es)
+        inl ((λ asks. short_not octets (true_lt (length octets) (wanted octets) es) asks.whole), met_is true true false k true ea eb et ek ed ∙ read_is true es)
     by_tests true true false k true false false ea eb et ek ed es en =
         inl ((λ asks. absurd (cc (sym en ∙ asks.known))), met_is true true false k true ea eb et ek ed ∙ read_is false es ∙ ap by_known en)
     by_tests true true false k true false true ea eb et ek ed es en =
         inr (
           record {
             type = ioam_type item.kind ea;
-            direct = same_is (slice_index item.body 1) 4 ed;
-            whole = whole_is octets (lt_false (length octets) (wanted octets) es);
+            direct = true_is (slice_index item.body 1) 4 ed;
+            whole = whole_is octets (false_lt (length octets) (wanted octets) es);
             known = en;
           },
           met_is true true false k true ea eb et ek ed ∙ read_is false es ∙ ap by_known en,

@@ -8,4 +8,5 @@ pub mod RecordsLaws
 pub mod SeeingLaws
 pub mod StepLaws
 pub mod SteppedLaws
+pub mod TestsLaws
 pub mod VisitLaws

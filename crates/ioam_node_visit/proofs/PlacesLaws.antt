@@ -11,9 +11,7 @@ use Rattle.ioam_ip.specs.OptionsLeft.{options_from}
 use Rattle.ioam_ip.specs.Rewriting.{options_in}
 use Rattle.ioam_ip.proofs.NextLaws.{suffix_same}
 use Rattle.ioam_ip.proofs.OptionsLaws.{option_size-pos}
-
-true_le : (m n : ℕ) → leb m n ≡ true → m ≤ n
-true_le m n is = grind (arith, nat_tests)
+use Rattle.ioam_node_visit.proofs.TestsLaws.{true_le}
 
 above_one : (k : ℕ) → ltb 1 k ≡ true → eqb k 0 ≡ false
 above_one k is = grind (arith, nat_tests)

@@ -2,7 +2,6 @@
 use Rattle.std.proofs.Common.{◌≡◌, inl, inr, ℕ, zero, suc, ◌+◌, ◌-◌, ◌<◌, ◌≤◌, ◌⊎◌, ◌&&◌, Bool, true, false, cond, eqb, leb, List, [], ◌∷◌, ◌++◌, length, take, drop, set, slice_index, slice_range, refl, sym, ap, ◌∙◌, subst, arith, length-take, length-drop, get_or-take, get_or-drop}
 use Rattle.std.specs.Prelude.{Contains, slice_index_or}
 use Rattle.std.proofs.lemmas.List.{get_or_append_left, drop_at, ext_get_or, get_or-set_other, get_or-set_same, length-set}
-use Rattle.std.proofs.lemmas.Bool.Decides.{nat_tests}
 use Rattle.ioam_base.specs.Octets.{u16_at, written}
 use Rattle.ioam_base.proofs.WrittenLaws.{length-written, written-front, written-behind}
 use Rattle.ioam_clock.specs.declared.sample.Sample.{Sample}
@@ -26,18 +25,7 @@ use Rattle.ioam_node_visit.specs.Stepped.{trace_start, trace_end, Fills, LiesInT
 use Rattle.ioam_node_visit.proofs.CountedLaws.{IsPacket-lowered, hops-stepped, options_lowered}
 use Rattle.ioam_node_visit.proofs.PlacesLaws.{contains-here, contains-there, contains-none, contains-map, index_behind, written_in, written_same, range_index, range_rest, Lies, lies-in, lies_same, body_stands}
 use Rattle.ioam_node_visit.proofs.StepLaws.{by_bits, length-step}
-
-true_le : (m n : ℕ) → leb m n ≡ true → m ≤ n
-true_le m n is = grind (arith, nat_tests)
-
-le_false : (m n : ℕ) → leb m n ≡ false → n < m
-le_false m n is = grind (arith, nat_tests)
-
-same_is : (m n : ℕ) → eqb m n ≡ true → m ≡ n
-same_is m n is = grind (arith, nat_tests)
-
-other_is : (m n : ℕ) → eqb m n ≡ false → m ≡ n → ⊥
-other_is m n is same = grind (arith, nat_tests)
+use Rattle.ioam_node_visit.proofs.TestsLaws.{false_is, false_le, true_is, true_le}
 
 module _ (domain : Domain) (readings : List (List Sample)) (place : Place) (time hops : ℕ) where
   abbrev step : ℕ → List ℕ → List ℕ
@@ -80,22 +68,22 @@ module _ (domain : Domain) (readings : List (List Sample)) (place : Place) (time
     by_tests false b t k d l n ea eb et ek ed el en =
         inr ((λ fills. absurd (cc (sym ea ∙ ap is_ioam_type fills.type))), met_is false b t k d ea eb et ek ed)
     by_tests true false t k d l n ea eb et ek ed el en =
-        let short = le_false 2 (length x.body) eb in
+        let short = false_le 2 (length x.body) eb in
         inr ((λ fills. let long = fills.header in omega (arith, short, long)), met_is true false t k d ea eb et ek ed)
     by_tests true true false k true l n ea eb et ek ed el en =
-        inr ((λ fills. other_is (slice_index x.body 1) 0 et fills.trace), met_is true true false k true ea eb et ek ed)
+        inr ((λ fills. false_is (slice_index x.body 1) 0 et fills.trace), met_is true true false k true ea eb et ek ed)
     by_tests true true false k false l n ea eb et ek ed el en =
-        inr ((λ fills. other_is (slice_index x.body 1) 0 et fills.trace), met_is true true false k false ea eb et ek ed)
+        inr ((λ fills. false_is (slice_index x.body 1) 0 et fills.trace), met_is true true false k false ea eb et ek ed)
     by_tests true true true false d l n ea eb et ek ed el en =
-        inr ((λ fills. other_is x.kind 0x31 ek fills.type), met_is true true true false d ea eb et ek ed)
+        inr ((λ fills. false_is x.kind 0x31 ek fills.type), met_is true true true false d ea eb et ek ed)
     by_tests true true true true d false n ea eb et ek ed el en =
-        let short = le_false 10 (length x.body) el in
+        let short = false_le 10 (length x.body) el in
         inr ((λ fills. let long = fills.header in omega (arith, short, long)), met_is true true true true d ea eb et ek ed ∙ trace_is false n el en)
     by_tests true true true true d true false ea eb et ek ed el en =
         inr ((λ fills. absurd (cc (sym en ∙ fills.known))), met_is true true true true d ea eb et ek ed ∙ trace_is true false el en)
     by_tests true true true true d true true ea eb et ek ed el en =
         inl (
-          record { type = same_is x.kind 0x31 ek; trace = same_is (slice_index x.body 1) 0 et; header = true_le 10 (length x.body) el; known = en },
+          record { type = true_is x.kind 0x31 ek; trace = true_is (slice_index x.body 1) 0 et; header = true_le 10 (length x.body) el; known = en },
           met_is true true true true d ea eb et ek ed ∙ trace_is true true el en,
         )
 
@@ -135,12 +123,12 @@ module _ (domain : Domain) (readings : List (List Sample)) (place : Place) (time
       → (front two here : Bool) → leb (x.at + 2) i ≡ front → leb (x.at + 4) i ≡ two → leb (x.at + 2 + length x.body) i ≡ here
       → slice_index (written head (x.at + 2) (step x.kind x.body)) i ≡ slice_index head i
   filled_stays x head i fills is within body out false two here ef et eh =
-      written-front head (step x.kind x.body) (x.at + 2) i (le_false (x.at + 2) i ef) (omega (arith, within))
+      written-front head (step x.kind x.body) (x.at + 2) i (false_le (x.at + 2) i ef) (omega (arith, within))
   filled_stays x head i fills is within body out true false here ef et eh =
-      two_stay x head i fills is within body (true_le (x.at + 2) i ef) (le_false (x.at + 4) i et)
+      two_stay x head i fills is within body (true_le (x.at + 2) i ef) (false_le (x.at + 4) i et)
   filled_stays x head i fills is within body out true true false ef et eh =
       let after = true_le (x.at + 4) i et in
-      let below = le_false (x.at + 2 + length x.body) i eh in
+      let below = false_le (x.at + 2 + length x.body) i eh in
       absurd (out fills (omega (arith, after)) (omega (arith, below)))
   filled_stays x head i fills is within body out true true true ef et eh =
       let size : length (step x.kind x.body) ≡ length x.body = keeps x.kind x.body in
@@ -212,13 +200,13 @@ module _ (domain : Domain) (readings : List (List Sample)) (place : Place) (time
 
     places_same : (i : ℕ) → has_hop packet ≡ true → (LiesInTrace domain place.node.0 packet i → ⊥) → (front inside : Bool)
         → leb 40 i ≡ front → leb (hop_end packet) i ≡ inside → slice_index (after step keeps packet) i ≡ slice_index packet i
-    places_same i there out false inside ef ei = written-front packet (part step keeps packet) 40 i (le_false 40 i ef) is.header_there
+    places_same i there out false inside ef ei = written-front packet (part step keeps packet) 40 i (false_le 40 i ef) is.header_there
     places_same i there out true true ef ei =
         index_behind (after step keeps packet) packet (hop_end packet) i (facts_there there).rest (true_le (hop_end packet) i ei)
     places_same i there out true false ef ei =
         let known = facts_there there in
         let here : 40 + (i - 40) ≡ i = let from = true_le 40 i ef in omega (arith, from) in
-        let below = le_false (hop_end packet) i ei in
+        let below = false_le (hop_end packet) i ei in
         let long = known.all.long in
         let fits = known.within in
         let size : length (hop_head packet) ≡ hop_end packet - 40 =
@@ -305,9 +293,9 @@ module _ (domain : Domain) (readings : List (List Sample)) (place : Place) (time
     here x = by_tests (steps x) (leb (trace_start x) i) (leb (trace_end x) i) refl refl where
       by_tests : Steps x → (a b : Bool) → leb (trace_start x) i ≡ a → leb (trace_end x) i ≡ b → Here x
       by_tests (inr none) a b ea eb = inr (λ fills from to. none.0 fills)
-      by_tests (inl some) false b ea eb = let short = le_false (trace_start x) i ea in inr (λ fills from to. omega (arith, short, from))
+      by_tests (inl some) false b ea eb = let short = false_le (trace_start x) i ea in inr (λ fills from to. omega (arith, short, from))
       by_tests (inl some) true true ea eb = let far = true_le (trace_end x) i eb in inr (λ fills from to. omega (arith, far, to))
-      by_tests (inl some) true false ea eb = inl (some.0, true_le (trace_start x) i ea, le_false (trace_end x) i eb)
+      by_tests (inl some) true false ea eb = inl (some.0, true_le (trace_start x) i ea, false_le (trace_end x) i eb)
 
     none_of : (x : Item) (xs : List Item) → (Filled_here x → trace_start x ≤ i → i < trace_end x → ⊥)
         → ((y : Item) → Contains xs y → Filled_here y → trace_start y ≤ i → i < trace_end y → ⊥)
@@ -333,7 +321,7 @@ module _ (domain : Domain) (readings : List (List Sample)) (place : Place) (time
   place_only : (limit : ℕ) (packet a b : List ℕ) → Stepped domain readings place time hops limit packet a → Stepped domain readings place time hops limit packet b
       → (i : ℕ) (seven : Bool) → eqb i 7 ≡ seven → Found packet i (hop_options packet) → slice_index a i ≡ slice_index b i
   place_only limit packet a b one two i true is found =
-      let here : i ≡ 7 = same_is i 7 is in
+      let here : i ≡ 7 = true_is i 7 is in
       ap (slice_index a) here ∙ one.limit_is ∙ sym two.limit_is ∙ sym (ap (slice_index b) here)
   place_only limit packet a b one two i false is (inl some) =
       let x = some.0 in
@@ -342,7 +330,7 @@ module _ (domain : Domain) (readings : List (List Sample)) (place : Place) (time
       ∙ range_index b (trace_start x) (trace_end x) i some.3 some.4
   place_only limit packet a b one two i false is (inr none) =
       let out : LiesInTrace domain place.node.0 packet i → ⊥ = λ lies. none lies.option lies.among lies.fills lies.from lies.below in
-      one.same i (other_is i 7 is) out ∙ sym (two.same i (other_is i 7 is) out)
+      one.same i (false_is i 7 is) out ∙ sym (two.same i (false_is i 7 is) out)
 
   pub stepped-only : (limit : ℕ) (packet a b : List ℕ) → Stepped domain readings place time hops limit packet a → Stepped domain readings place time hops limit packet b → a ≡ b
   stepped-only limit packet a b one two =
