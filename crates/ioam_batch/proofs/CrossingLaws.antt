@@ -1,6 +1,8 @@
 -- Laws of crossings: how the octets of one more visit are parted from those of the visits before, and found again.
-use Rattle.std.proofs.Common.{◌≡◌, ℕ, zero, suc, ◌+◌, ◌<◌, ◌≤◌, Bool, true, false, List, [], ◌∷◌, ◌++◌, length, get_or, map, take, drop, Option, Some, None, slice_get, refl, sym, ap, ◌∙◌, length-drop, drop-drop, arith, add-zero, zero-add, true≢false}
-use Rattle.std.proofs.lemmas.List.{get_or-drop, take-append-drop, take_all, take_more, take-append-le, drop-append-le}
+use Rattle.std.proofs.Common.{◌≡◌, ℕ, zero, suc, ◌+◌, ◌<◌, ◌≤◌, Bool, true, false, List, [], ◌∷◌, ◌++◌, length, get_or, map, take, drop, Option, Some, None, is_some, slice_get, refl, sym, ap, ◌∙◌, length-drop, length-take, drop-drop, arith, add-zero, zero-add, true≢false}
+use Rattle.std.specs.Prelude.{IfSome, MatchOption, unwrap_or}
+use Rattle.std.proofs.lemmas.List.{get_or-drop, take-append-drop, take_at, take_more, take-append-le, drop-append-le}
+use Rattle.ioam_base.specs.Octets.{written}
 use Rattle.ioam_batch.specs.Crossings.{filled, joined, parted, sent_if}
 
 pub filled-append : (size : ℕ) (xs ys : List Bool) → filled size (xs ++ ys) ≡ filled size xs + filled size ys
@@ -16,17 +18,38 @@ none-left : (octets : List ℕ) → length octets ≡ 0 → octets ≡ []
 none-left [] none = refl
 none-left (x ∷ xs) none = absurd (omega (arith, none))
 
-pub parted-true : (size : ℕ) (taps : List Bool) (octets more : List ℕ) → length octets ≡ filled size taps → length more ≡ size
-    → parted size (taps ++ true ∷ []) (octets ++ more) ≡ parted size taps octets ++ Some more ∷ []
-parted-true size [] octets more are sized =
-    ap (λ xs. Some (take size (xs ++ more)) ∷ []) (none-left octets are) ∙ ap (λ xs. Some xs ∷ []) (take_all size more (omega (arith, sized)))
-parted-true size (true ∷ taps) octets more are sized =
+pub parted-true : (size : ℕ) (taps : List Bool) (octets more rest : List ℕ) → length octets ≡ filled size taps → length more ≡ size
+    → parted size (taps ++ true ∷ []) (octets ++ (more ++ rest)) ≡ parted size taps octets ++ Some more ∷ []
+parted-true size [] octets more rest are sized =
+    ap (λ xs. Some (take size (xs ++ (more ++ rest))) ∷ []) (none-left octets are) ∙ ap (λ xs. Some xs ∷ []) (take_at more rest size sized)
+parted-true size (true ∷ taps) octets more rest are sized =
     let long : size ≤ length octets = omega (arith, are) in
     let left : length (drop size octets) ≡ filled size taps = omega (arith, are, length-drop size octets) in
-    ap (λ xs. Some xs ∷ parted size (taps ++ true ∷ []) (drop size (octets ++ more))) (take-append-le size octets more long)
-    ∙ ap (λ xs. Some (take size octets) ∷ parted size (taps ++ true ∷ []) xs) (drop-append-le size octets more long)
-    ∙ ap (λ xs. Some (take size octets) ∷ xs) (parted-true size taps (drop size octets) more left sized)
-parted-true size (false ∷ taps) octets more are sized = ap (λ xs. None ∷ xs) (parted-true size taps octets more (omega (arith, are)) sized)
+    ap (λ xs. Some xs ∷ parted size (taps ++ true ∷ []) (drop size (octets ++ (more ++ rest)))) (take-append-le size octets (more ++ rest) long)
+    ∙ ap (λ xs. Some (take size octets) ∷ parted size (taps ++ true ∷ []) xs) (drop-append-le size octets (more ++ rest) long)
+    ∙ ap (λ xs. Some (take size octets) ∷ xs) (parted-true size taps (drop size octets) more rest left sized)
+parted-true size (false ∷ taps) octets more rest are sized = ap (λ xs. None ∷ xs) (parted-true size taps octets more rest (omega (arith, are)) sized)
+
+-- octets behind those of all visits are none of them
+pub parted-front : (size : ℕ) (taps : List Bool) (octets rest : List ℕ) → length octets ≡ filled size taps
+    → parted size taps (octets ++ rest) ≡ parted size taps octets
+parted-front size [] octets rest are = refl
+parted-front size (true ∷ taps) octets rest are =
+    let long : size ≤ length octets = omega (arith, are) in
+    let left : length (drop size octets) ≡ filled size taps = omega (arith, are, length-drop size octets) in
+    ap (λ xs. Some xs ∷ parted size taps (drop size (octets ++ rest))) (take-append-le size octets rest long)
+    ∙ ap (λ xs. Some (take size octets) ∷ parted size taps xs) (drop-append-le size octets rest long)
+    ∙ ap (λ xs. Some (take size octets) ∷ xs) (parted-front size taps (drop size octets) rest left)
+parted-front size (false ∷ taps) octets rest are = ap (λ xs. None ∷ xs) (parted-front size taps octets rest (omega (arith, are)))
+
+-- the octets of one visit more, written behind those of the visits before
+pub parted-written : (size : ℕ) (taps : List Bool) (octets more : List ℕ) (at : ℕ) → at ≡ filled size taps → at ≤ length octets → length more ≡ size
+    → parted size (taps ++ true ∷ []) (written octets at more) ≡ parted size taps octets ++ Some more ∷ []
+parted-written size taps octets more at is within sized =
+    let front : length (take at octets) ≡ filled size taps = omega (arith, is, within, length-take at octets) in
+    parted-true size taps (take at octets) more (drop (at + length more) octets) front sized
+    ∙ ap (λ xs. xs ++ Some more ∷ []) (sym (parted-front size taps (take at octets) (drop at octets) front)
+    ∙ ap (λ xs. parted size taps xs) (take-append-drop at octets))
 
 pub parted-false : (size : ℕ) (taps : List Bool) (octets : List ℕ) → parted size (taps ++ false ∷ []) octets ≡ parted size taps octets ++ None ∷ []
 parted-false size [] octets = refl
@@ -55,6 +78,37 @@ filled-none size taps done some is = omega (arith, filled-next size taps done fa
 pub filled-front : (size : ℕ) (taps : List Bool) (done : ℕ) → filled size (take done taps) ≤ filled size taps
 filled-front size taps done =
     omega (arith, filled-append size (take done taps) (drop done taps), ap (filled size) (take-append-drop done taps))
+
+-- ---- which visits send on links with a tap
+
+taps-parted : (size : ℕ) (taps : List Bool) (octets : List ℕ) → map is_some (parted size taps octets) ≡ taps
+taps-parted size [] octets = refl
+taps-parted size (true ∷ taps) octets = ap (λ ts. true ∷ ts) (taps-parted size taps (drop size octets))
+taps-parted size (false ∷ taps) octets = ap (λ ts. false ∷ ts) (taps-parted size taps octets)
+
+-- those that are kept of all visits
+pub taps-all : (size : ℕ) (taps : List Bool) (done : ℕ) (octets : List ℕ) → map is_some (parted size (take done taps) octets) ++ drop done taps ≡ taps
+taps-all size taps done octets = ap (λ ts. ts ++ drop done taps) (taps-parted size (take done taps) octets) ∙ take-append-drop done taps
+
+some_sent : (taps : List Bool) (i : ℕ) → is_some (joined (slice_get (map (λ tap. sent_if tap []) taps) i)) ≡ get_or taps i false
+some_sent [] i = refl
+some_sent (true ∷ ts) zero = refl
+some_sent (false ∷ ts) zero = refl
+some_sent (t ∷ ts) (suc i) = some_sent ts i
+
+-- something is kept of a visit exactly where it sends on one
+pub some-at : (past : List (Option (List ℕ))) (ahead : List Bool) (i : ℕ)
+    → is_some (joined (slice_get (past ++ map (λ tap. sent_if tap []) ahead) i)) ≡ get_or (map is_some past ++ ahead) i false
+some-at [] ahead i = some_sent ahead i
+some-at (found ∷ past) ahead zero = refl
+some-at (found ∷ past) ahead (suc i) = some-at past ahead i
+
+-- before its visits nothing is
+pub none-before : (taps : List Bool) (i : ℕ) (octets : List ℕ) → joined (slice_get (map (λ tap. sent_if tap []) taps) i) ≡ Some octets → octets ≡ []
+none-before [] i octets is = absurd (cc is)
+none-before (true ∷ ts) zero octets is = ap (λ o. unwrap_or o octets) (sym is)
+none-before (false ∷ ts) zero octets is = absurd (cc is)
+none-before (t ∷ ts) (suc i) octets is = none-before ts i octets is
 
 -- ---- what a visit sent, so many of them being done
 
@@ -109,3 +163,21 @@ module _ (size : ℕ) where
   fits-done (true ∷ ts) (suc done) zero before is = omega arith
   fits-done (false ∷ ts) (suc done) zero before is = absurd (true≢false (sym is))
   fits-done (t ∷ ts) (suc done) (suc at) before is = omega (arith, fits-done ts done at (omega (arith, before)) is)
+
+-- ---- what is answered of a visit
+
+module _ {X : Type 0} (octets_of : X → List ℕ) where
+  -- octets are answered exactly where some are kept
+  pub some-said : (result : Option X) (kept : Option (List ℕ)) → MatchOption result (kept ≡ None) (λ x. kept ≡ Some (octets_of x))
+      → is_some result ≡ is_some kept
+  some-said None kept said = sym (ap is_some said)
+  some-said (Some x) kept said = sym (ap is_some said)
+
+  -- before any visit they are none
+  pub none-said : (result : Option X) (past : List (Option (List ℕ))) (ahead : List Bool) (i : ℕ) → past ≡ []
+      → MatchOption result (joined (slice_get (past ++ map (λ tap. sent_if tap []) ahead) i) ≡ None)
+      (λ x. joined (slice_get (past ++ map (λ tap. sent_if tap []) ahead) i) ≡ Some (octets_of x))
+      → IfSome result (λ x. octets_of x ≡ [])
+  none-said None past ahead i none said = tt
+  none-said (Some x) past ahead i none said = none-before ahead i (octets_of x)
+      (ap (λ ps. joined (slice_get (ps ++ map (λ tap. sent_if tap []) ahead) i)) (sym none) ∙ said)

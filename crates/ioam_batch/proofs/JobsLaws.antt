@@ -1,13 +1,15 @@
 -- Laws of jobs in a batch and in its chunks.
 use Rattle.std.proofs.Common.{◌≡◌, ℕ, ◌+◌, ◌<◌, ◌≤◌, List, [], ◌∷◌, ◌++◌, length, get_or, set, take, drop, All, refl, sym, ap, ◌∙◌, subst, inl, inr, add-zero, arith}
 use Rattle.std.specs.List.{AllZip}
+use Rattle.std.specs.Prelude.{vec_capacity}
 use Rattle.std.proofs.lemmas.Grind.{drop_more_same}
 use Rattle.std.proofs.lemmas.List.{get_or-drop, take_all, take_more, take_more_set, drop-set-lt}
 use Rattle.std.proofs.lemmas.List.Elements.{AllZip-push, All-nil, All-cons, All-head, All-tail}
 use Rattle.std.proofs.lemmas.List.Sums.{sum_by-cons}
 use Rattle.ioam_batch.specs.Batches.{MayRun, all_reserved}
-use Rattle.ioam_batch.specs.Jobs.{HasRun, Holds, reserved_of}
+use Rattle.ioam_batch.specs.Jobs.{HasRun, HasTaps, Holds, IsFresh, KeepsMemory, reserved_of}
 use Rattle.ioam_batch.specs.declared.job.Job.{Job}
+use Rattle.ioam_batch.proofs.RunLaws.{taps-fresh, taps-run}
 use Rattle.ioam_clock.specs.declared.sample.Sample.{Sample}
 use Rattle.ioam_topo.specs.declared.domain.Domain.{Domain}
 
@@ -87,3 +89,32 @@ module _ (domain : Domain) (readings : List (List Sample)) where
     may_reserved j k may.0,
     reserved-stays js ks may.1,
   )
+
+  may_keep : (old new : Job) → MayRun domain readings old new → KeepsMemory old new
+  may_keep old new may = elim may [ inl has ↦ has.memory | inr same ↦ keeps_same old new same ]
+    where
+      keeps_same : (was is : Job) → is ≡ was → KeepsMemory was is
+      keeps_same was is same = record {
+        packet = ap (λ (job : Job). vec_capacity job.packet) same;
+        crossings = ap (λ (job : Job). job.crossings.capacities) same;
+      }
+
+  -- no memory is taken for any
+  pub memory-stays : (old new : List Job) → AllZip (MayRun domain readings) old new → AllZip KeepsMemory old new
+  memory-stays [] [] may = tt
+  memory-stays [] (k ∷ ks) may = absurd may
+  memory-stays (j ∷ js) [] may = absurd may
+  memory-stays (j ∷ js) (k ∷ ks) may = (may_keep j k may.0, memory-stays js ks may.1)
+
+  may_taps : (old new : Job) → MayRun domain readings old new → IsFresh domain old → HasTaps domain new
+  may_taps old new may fresh =
+      let held = taps-fresh domain old fresh in
+      elim may [ inl has ↦ taps-run domain readings old new has held | inr same ↦ subst (HasTaps domain) (sym same) held ]
+
+  -- each keeps what its domain asks
+  pub taps-held : (old new : List Job) → AllZip (MayRun domain readings) old new → All (IsFresh domain) old → All (HasTaps domain) new
+  taps-held [] [] may fresh = All-nil (HasTaps domain)
+  taps-held [] (k ∷ ks) may fresh = absurd may
+  taps-held (j ∷ js) [] may fresh = absurd may
+  taps-held (j ∷ js) (k ∷ ks) may fresh =
+      All-cons (HasTaps domain) k ks (may_taps j k may.0 (All-head (IsFresh domain) j js fresh)) (taps-held js ks may.1 (All-tail (IsFresh domain) j js fresh))

@@ -38,12 +38,12 @@ module _ (domain : Domain) (flow : FlowId) (numbers : Numbers) (packet : List �
       by-found (Some f) some few = few
 
   pub short-of : (n : ℕ) → IfSome (slice_get (flows domain) flow.0) (λ f. n ≡ outer_size f (length packet) (is_some numbers.direct) (is_some numbers.limit))
-      → IfSome (slice_get (flows domain) flow.0) (λ f. MayEnclose f numbers packet) → n ≤ 131072
+      → IfSome (slice_get (flows domain) flow.0) (λ f. MayEnclose f numbers packet) → n ≤ 65575
   short-of n sized may = by-found (slice_get (flows domain) flow.0) (there (flows domain) flow.0 known) sized may
     where
       by-found : (found : Option Flow) → is_some found ≡ true
           → IfSome found (λ f. n ≡ outer_size f (length packet) (is_some numbers.direct) (is_some numbers.limit))
-          → IfSome found (λ f. MayEnclose f numbers packet) → n ≤ 131072
+          → IfSome found (λ f. MayEnclose f numbers packet) → n ≤ 65575
       by-found None some sized may = absurd (true≢false (sym some))
       by-found (Some f) some sized may = omega (arith, sized, may.size)
 
@@ -60,11 +60,11 @@ whole-by it octets None goes some = absurd (true≢false (sym some))
 whole-by it octets (Some carried) goes some = (goes.is_packet, goes.is_sound)
 
 pub holds-made : (domain : Domain) (packet : List ℕ) (job : Job) → Rides domain packet job.itinerary
-    → GoesBy job.itinerary.carried job.itinerary job.packet.items → length job.packet.items ≤ 131072 → Holds domain job
+    → GoesBy job.itinerary.carried job.itinerary job.packet.items → length job.packet.items ≤ 65575 → Holds domain job
 holds-made domain packet job rides goes short = record {
   port = rides.port;
   ends = rides.ends;
   flow = flow-known domain packet job.itinerary job.itinerary.carried rides.carries;
-  size = short;
+  size = omega (arith, short);
   sound = whole-by job.itinerary job.packet.items job.itinerary.carried goes;
 }

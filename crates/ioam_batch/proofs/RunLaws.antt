@@ -1,9 +1,10 @@
 -- Laws of a job whose visits are done.
 use Rattle.std.proofs.Common.{◌≡◌, ℕ, ◌<◌, ◌+◌, Bool, true, List, [], ◌++◌, Option, Some, None, is_some, length, map, sym, ap, ◌∙◌, subst, arith, append-nil, true≢false}
-use Rattle.std.specs.Prelude.{IfSome, IsSome}
-use Rattle.ioam_batch.specs.Crossings.{Crossed, crossings, sent_if}
-use Rattle.ioam_batch.specs.Jobs.{HasRun, Holds, IsFresh, RunsBy, RunsInTunnel}
+use Rattle.std.specs.Prelude.{IfSome, IsSome, vec_capacity}
+use Rattle.ioam_batch.specs.Crossings.{Crossed, crossings, filled, sent_if, taps_of}
+use Rattle.ioam_batch.specs.Jobs.{HasRun, HasTaps, Holds, IsFresh, RunsBy, RunsInTunnel, reserved_of}
 use Rattle.ioam_batch.specs.Ran.{RanBy, Sent}
+use Rattle.ioam_batch.specs.Taps.{is_tapped}
 use Rattle.ioam_batch.specs.declared.job.Job.{Job}
 use Rattle.ioam_batch.proofs.RanLaws.{starts}
 use Rattle.ioam_clock.specs.declared.sample.Sample.{Sample}
@@ -20,6 +21,15 @@ use Rattle.ioam_tunnel.specs.declared.numbers.Numbers.{Numbers}
 -- no visit is ahead
 pub none-ahead : (crossed : Crossed) → crossed.ahead ≡ [] → crossings crossed ≡ crossed.past
 none-ahead crossed none = ap (λ ts. crossed.past ++ map (λ tap. sent_if tap []) ts) none ∙ append-nil crossed.past
+
+-- it has room for as much
+pub reserved-stays : (old new : Job) → length new.packet.items ≡ length old.packet.items → new.crossings.size ≡ old.crossings.size
+    → taps_of new.crossings ≡ taps_of old.crossings → new.room.spare + length new.room.notes ≡ old.room.spare + length old.room.notes
+    → reserved_of new ≡ reserved_of old
+reserved-stays old new sized size taps given =
+    let filled_same : filled new.crossings.size (taps_of new.crossings) ≡ filled old.crossings.size (taps_of old.crossings) =
+    ap (λ n. filled n (taps_of new.crossings)) size ∙ ap (λ ts. filled old.crossings.size ts) taps in
+    omega (arith, sized, filled_same, given)
 
 -- what holds of a job before its visits holds of it behind them
 pub keeps-run : (domain : Domain) (old new : Job) → new.itinerary ≡ old.itinerary → length new.packet.items ≡ length old.packet.items
@@ -48,14 +58,17 @@ pub runs-in-tunnel : (domain : Domain) (readings : List (List Sample)) (old new 
     → IsPacket after
     → IsSound after
     → new.crossings.ahead ≡ []
-    → new.crossings.kept ≡ old.crossings.kept
+    → new.crossings.size ≡ old.crossings.size
+    → new.crossings.capacities ≡ old.crossings.capacities
+    → taps_of new.crossings ≡ taps_of old.crossings
+    → vec_capacity new.packet ≡ vec_capacity old.packet
     → new.room.spare + length new.room.notes ≡ old.room.spare + length old.room.notes
     → ((tunnel : Tunnel) → IsTunnel tunnel → Sent domain readings tunnel [] before old.crossings.past old.room
     → RanBy domain readings tunnel exited old.itinerary.visits after new.crossings.past new.room)
     → HasRun domain readings old new
-runs-in-tunnel domain readings old new exited before after fresh some exits same from to sized packet sound ahead kept given runs = record {
+runs-in-tunnel domain readings old new exited before after fresh some exits same from to sized packet sound ahead size capacities taps capacity given runs = record {
   itinerary = same;
-  reserved = omega (arith, ap length from, ap length to, sized, kept, given);
+  reserved = reserved-stays old new (omega (arith, ap length from, ap length to, sized)) size taps given;
   keeps = keeps-run domain old new same (omega (arith, ap length from, ap length to, sized))
       (λ there. (subst IsPacket (sym to) packet, subst IsSound (sym to) sound));
   runs = by-carried domain readings old.itinerary.carried old new some (λ tunnel is held.
@@ -67,4 +80,18 @@ runs-in-tunnel domain readings old new exited before after fresh some exits same
       subst (λ b. RanBy domain readings tunnel b visits new.packet.items (crossings new.crossings) new.room) (sym exits)
       (subst (λ xs. RanBy domain readings tunnel exited visits xs (crossings new.crossings) new.room) (sym to)
       (subst (λ ps. RanBy domain readings tunnel exited visits after ps new.room) (sym (none-ahead new.crossings ahead)) (runs tunnel is start))));
+  taps = taps;
+  memory = record { packet = capacity; crossings = capacities };
 }
+
+-- before any visit they are those of all visits
+pub taps-begin : (crossed : Crossed) (taps : List Bool) → crossed.past ≡ [] → crossed.ahead ≡ taps → taps_of crossed ≡ taps
+taps-begin crossed taps past ahead = ap (λ ps. map is_some ps ++ crossed.ahead) past ∙ ahead
+
+-- a job of which no visit is done keeps what its domain asks, and so does one that ran
+pub taps-fresh : (domain : Domain) (job : Job) → IsFresh domain job → HasTaps domain job
+taps-fresh domain job fresh = taps-begin job.crossings (map (is_tapped domain) job.itinerary.visits) fresh.past fresh.ahead
+
+pub taps-run : (domain : Domain) (readings : List (List Sample)) (old new : Job) → HasRun domain readings old new → HasTaps domain old → HasTaps domain new
+taps-run domain readings old new ran has =
+    ran.taps ∙ has ∙ ap (λ (it : Itinerary). map (is_tapped domain) it.visits) (sym ran.itinerary)

@@ -1,13 +1,17 @@
 -- The octets of a packet as its visits sent it on links with a tap.
-use Rattle.std.specs.Prelude.{ℕ, ◌+◌, Bool, true, false, List, [], ◌∷◌, ◌++◌, if◌then◌else◌, map, take, drop, Option, Some, None}
+use Rattle.std.specs.Prelude.{ℕ, ◌+◌, Bool, true, false, List, [], ◌∷◌, ◌++◌, if◌then◌else◌, map, take, drop, Option, Some, None, is_some}
 
 -- what each visit that is done sent on a link with a tap; of each visit ahead whether it will; how long the packet is, and
--- for how many octets there is room in all
+-- the capacities of the two vectors that hold this
 pub record Crossed : Type 0 where
   pub past : List (Option (List ℕ))
   pub ahead : List Bool
   pub size : ℕ
-  pub kept : ℕ
+  pub capacities : ℕ × ℕ
+
+-- of each visit, whether it sends on a link with a tap
+abbrev pub taps_of : Crossed → List Bool
+taps_of crossed = map is_some crossed.past ++ crossed.ahead
 
 -- what a visit sent on a link, if that has a tap
 abbrev pub sent_if : Bool → List ℕ → Option (List ℕ)

@@ -1,8 +1,8 @@
 -- Jobs: all visits of one packet.
-use Rattle.std.specs.Prelude.{ℕ, ◌≡◌, ◌<◌, ◌≤◌, ◌+◌, ◌-◌, ◌*◌, if◌then◌else◌, List, [], Option, Some, None, IfSome, IsSome, All, length, map, slice_index}
-use Rattle.ioam_batch.specs.Crossings.{crossings}
+use Rattle.std.specs.Prelude.{ℕ, ◌≡◌, ◌<◌, ◌≤◌, ◌+◌, ◌-◌, ◌*◌, if◌then◌else◌, List, [], Option, Some, None, IfSome, IsSome, All, length, map, slice_index, vec_capacity}
+use Rattle.ioam_batch.specs.Crossings.{crossings, filled, taps_of}
 use Rattle.ioam_batch.specs.Ran.{RanBy, lowered_from}
-use Rattle.ioam_batch.specs.Taps.{is_tapped}
+use Rattle.ioam_batch.specs.Taps.{is_tapped, tap_count}
 use Rattle.ioam_batch.specs.declared.job.Job.{Job}
 use Rattle.ioam_clock.specs.declared.sample.Sample.{Sample}
 use Rattle.ioam_ip.specs.Chain.{IsSound}
@@ -24,7 +24,12 @@ use Rattle.ioam_tunnel.specs.declared.numbers.Numbers.{Numbers}
 -- how many octets it has room for: its packet, that again for each visit that sends it on a link with a tap, and 274 for
 -- each IOAM option that a visit may meet
 abbrev pub reserved_of : Job → ℕ
-reserved_of job = length job.packet.items + job.crossings.kept + 274 * (job.room.spare + length job.room.notes)
+reserved_of job =
+    length job.packet.items + filled job.crossings.size (taps_of job.crossings) + 274 * (job.room.spare + length job.room.notes)
+
+-- what is kept of each visit of it is what this domain asks: octets exactly of those that send on a link with a tap
+abbrev pub HasTaps : Domain → Job → Type 0
+HasTaps domain job = taps_of job.crossings ≡ map (is_tapped domain) job.itinerary.visits
 
 -- ---- at any time
 
@@ -53,6 +58,12 @@ GoesBy (Some carried) itinerary packet = GoesInTunnel itinerary packet
 abbrev pub spare_by : Option (FlowId × Numbers) → Itinerary → List ℕ → ℕ
 spare_by None itinerary packet = 0
 spare_by (Some carried) itinerary packet = length itinerary.visits * option_count packet
+
+-- how many octets the visits of a packet ask for in all, by its length, the taps on its way and its IOAM options: the packet, that
+-- again for each visit that sends it on a link with a tap, and 274 for each IOAM option that a visit may meet
+abbrev pub asked_for : Domain → Itinerary → List ℕ → ℕ
+asked_for domain itinerary packet =
+    length packet + length packet * tap_count domain itinerary.visits + 274 * spare_by itinerary.carried itinerary packet
 
 -- no visit of it is done
 pub record IsFresh (domain : Domain) (job : Job) : Type 0 where
@@ -93,9 +104,16 @@ abbrev pub RunsBy : Domain → List (List Sample) → Option (FlowId × Numbers)
 RunsBy domain readings None old new = RunsPlain domain old new
 RunsBy domain readings (Some carried) old new = RunsInTunnel domain readings old new
 
+-- no memory was taken for it or handed back: its packet and what its visits sent stand in vectors of the capacities that they had
+pub record KeepsMemory (old new : Job) : Type 0 where
+  pub packet : vec_capacity new.packet ≡ vec_capacity old.packet
+  pub crossings : new.crossings.capacities ≡ old.crossings.capacities
+
 -- all visits of it are done
 pub record HasRun (domain : Domain) (readings : List (List Sample)) (old new : Job) : Type 0 where
   pub itinerary : new.itinerary ≡ old.itinerary
   pub reserved : reserved_of new ≡ reserved_of old
   pub keeps : Holds domain old → Holds domain new
   pub runs : RunsBy domain readings old.itinerary.carried old new
+  pub taps : taps_of new.crossings ≡ taps_of old.crossings
+  pub memory : KeepsMemory old new

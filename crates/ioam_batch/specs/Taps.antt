@@ -1,5 +1,5 @@
 -- Which visits send their packet on a link with a tap.
-use Rattle.std.specs.Prelude.{Bool, false, Option, Some, None, is_some, slice_get}
+use Rattle.std.specs.Prelude.{ℕ, Bool, false, List, map, get_or, Option, Some, None, count_by, is_some, slice_get}
 use Rattle.ioam_plan.specs.declared.itinerary.Visit.{Visit}
 use Rattle.ioam_topo.specs.declared.domain.Domain.{Domain}
 use Rattle.ioam_topo.specs.declared.ids.Way.{Way}
@@ -18,3 +18,11 @@ taps_by domain (Some (way.Port port)) = false
 
 abbrev pub is_tapped : Domain → Visit → Bool
 is_tapped domain visit = taps_by domain visit.way
+
+-- whether the one at this place does, of these visits; past the last there is none that does
+abbrev pub is_tapped_at : Domain → List Visit → ℕ → Bool
+is_tapped_at domain visits i = get_or (map (is_tapped domain) visits) i false
+
+-- how many of them do
+abbrev pub tap_count : Domain → List Visit → ℕ
+tap_count domain visits = count_by (is_tapped domain) visits

@@ -29,7 +29,7 @@ impl Model for Batch {
 
     ghost view = { λ batch. batch.jobs.items };
 
-    ghost invariant = { λ batch. (length batch.jobs.items ≤ 256) × (256 ≤ vec_capacity batch.jobs) × (batch.reserved ≡ all_reserved batch.jobs.items) };
+    ghost invariant = { λ batch. (length batch.jobs.items ≤ 256) × (vec_capacity batch.jobs ≡ 256) × (batch.reserved ≡ all_reserved batch.jobs.items) };
 }
 
 impl Batch {
@@ -51,14 +51,15 @@ impl Batch {
         self.jobs.len() < MOST_JOBS && self.reserved < MOST_RESERVED
     }
 
-    /// Puts a job behind the others. It takes no memory.
+    /// Puts a job behind the others. It takes no memory: the capacity of the vector of jobs is 256 before
+    /// and after, as the invariant says.
     pub fn push(&mut self, job: Job)
         requires { IsTrue (has_room self.old) }
         ensures { self.new ≡ self.old ++ job ∷ [] }
     {
         self.reserved += job.reserved() as u64;
-        // never refused: `new` took the memory for all jobs
-        let _ = self.jobs.push(job);
+        // never refused: `new` took the memory for all jobs. `insert` says that it stays in its block
+        let _ = self.jobs.insert(self.jobs.len(), job);
     }
 
     /// The jobs, in their order; at most 256.
@@ -69,7 +70,7 @@ impl Batch {
         &self.jobs
     }
 
-    /// Drops the jobs, and hands their memory back. The batch keeps its own.
+    /// Drops the jobs, and hands their memory back. The batch keeps its own: the capacity stays 256.
     pub fn clear(&mut self)
         ensures { self.new ≡ [] }
     {

@@ -1,8 +1,9 @@
 //! The octets of a packet as its visits sent it on links with a tap.
 ghost use Rattle.std.specs.Prelude.{◌≡◌, ◌<◌, ◌≤◌, ◌+◌, ◌++◌, ◌∷◌, [], ℕ, false, true, if◌then◌else◌, IfOk, IfSome, MatchOption, None, Some, drop, get_or, length, map, slice_get, take};
-ghost use Rattle.ioam_batch.specs.Crossings.{crossings, filled, joined, sent_if};
+ghost use Rattle.ioam_batch.specs.Crossings.{crossings, filled, joined, sent_if, taps_of};
 
 use ioam_base::memory::NoMemory;
+use ioam_base::octets::put_at;
 use std::alloc::Global;
 use std::marker::Model;
 
@@ -40,8 +41,8 @@ fn part(octets: &[u8], start: usize, size: usize) -> &[u8]
     &octets[start..start + size]
 }
 
-/// The octets of a packet after each of its visits that are done and sent it on a link with a tap, with
-/// room for those of the visits ahead, all of it taken when it is made.
+/// The octets of a packet after each of its visits that are done and sent it on a link with a tap. Those
+/// of the visits ahead have their places, zeros until then: no visit takes memory.
 #[derive(Drop)]
 pub(crate) struct Crossings {
     // For each visit, whether it sends on a link with a tap.
@@ -50,6 +51,7 @@ pub(crate) struct Crossings {
     size: usize,
     // How many visits are done.
     done: usize,
+    // So many for each visit with a tap, one behind the other.
     octets: Vec<u8>,
 }
 
@@ -63,12 +65,11 @@ impl Model for Crossings {
       past = parted crossings.size (take crossings.done crossings.taps.items) crossings.octets.items;
       ahead = drop crossings.done crossings.taps.items;
       size = crossings.size;
-      kept = filled crossings.size crossings.taps.items;
+      capacities = (vec_capacity crossings.taps, vec_capacity crossings.octets);
     } };
 
     ghost invariant = { λ crossings. (crossings.size ≤ 131072) × (length crossings.taps.items ≤ 256) × (crossings.done ≤ length crossings.taps.items)
-        × (length crossings.octets.items ≡ filled crossings.size (take crossings.done crossings.taps.items))
-        × (filled crossings.size crossings.taps.items ≤ vec_capacity crossings.octets) };
+        × (length crossings.octets.items ≡ filled crossings.size crossings.taps.items) };
 }
 
 impl Crossings {
@@ -79,9 +80,10 @@ impl Crossings {
         ensures past { IfOk result (λ made. made.past ≡ []) }
         ensures ahead { IfOk result (λ made. made.ahead ≡ taps.items) }
         ensures size { IfOk result (λ made. made.size ≡ size) }
-        ensures kept { IfOk result (λ made. made.kept ≡ filled size taps.items) }
     {
-        let octets = Vec::with_capacity(alloc, filled(size, &taps))?;
+        let room = filled(size, &taps);
+        let mut octets = Vec::with_capacity(alloc, room)?;
+        octets.resize(room, 0)?;
         Ok(Crossings {
             taps,
             size,
@@ -98,10 +100,11 @@ impl Crossings {
         ensures past { self.new.past ≡ self.old.past ++ Some octets.now ∷ [] }
         ensures ahead { self.new.ahead ≡ drop 1 self.old.ahead }
         ensures size { self.new.size ≡ self.old.size }
-        ensures kept { self.new.kept ≡ self.old.kept }
+        ensures capacities { self.new.capacities ≡ self.old.capacities }
+        ensures taps { taps_of self.new ≡ taps_of self.old }
     {
-        // never refused: `new` took the memory for all visits
-        self.octets.extend_from_slice(octets).unwrap();
+        let start = filled(self.size, &self.taps[..self.done]);
+        put_at(&mut self.octets, start, octets);
         self.done += 1;
     }
 
@@ -112,7 +115,8 @@ impl Crossings {
         ensures past { self.new.past ≡ self.old.past ++ None ∷ [] }
         ensures ahead { self.new.ahead ≡ drop 1 self.old.ahead }
         ensures size { self.new.size ≡ self.old.size }
-        ensures kept { self.new.kept ≡ self.old.kept }
+        ensures capacities { self.new.capacities ≡ self.old.capacities }
+        ensures taps { taps_of self.new ≡ taps_of self.old }
     {
         self.done += 1;
     }
@@ -132,7 +136,8 @@ impl Crossings {
         ensures past { self.new.past ≡ self.old.past ++ sent_if (get_or self.old.ahead 0 false) octets.now ∷ [] }
         ensures ahead { self.new.ahead ≡ drop 1 self.old.ahead }
         ensures size { self.new.size ≡ self.old.size }
-        ensures kept { self.new.kept ≡ self.old.kept }
+        ensures capacities { self.new.capacities ≡ self.old.capacities }
+        ensures taps { taps_of self.new ≡ taps_of self.old }
     {
         if self.is_next() {
             self.push(octets);
@@ -162,7 +167,7 @@ impl Crossings {
 
     /// For how many octets it has room in all.
     pub(crate) fn kept(&self) -> usize
-        ensures value { result ≡ self.now.kept }
+        ensures value { result ≡ filled self.now.size (taps_of self.now) }
         ensures small { result ≤ 33554432 }
     {
         filled(self.size, &self.taps)

@@ -1,8 +1,10 @@
 //! All visits of one packet.
-ghost use Rattle.std.specs.Prelude.{◌≡◌, ◌≤◌, ◌+◌, ◌^◌, IfOk, IfSome, MatchOption, None, Some, length, slice_get};
+ghost use Rattle.std.specs.Prelude.{◌≡◌, ◌≤◌, ◌+◌, ◌*◌, ◌^◌, [], IfOk, IfSome, MatchOption, None, Some, is_some, length, slice_get};
 ghost use Rattle.ioam_batch.specs.Crossings.{crossings, joined};
-ghost use Rattle.ioam_batch.specs.Jobs.{Holds, HoldsBy, IsJobOf, reserved_of};
+ghost use Rattle.ioam_batch.specs.Jobs.{HasTaps, Holds, HoldsBy, IsFresh, IsJobOf, asked_for, reserved_of};
+ghost use Rattle.ioam_batch.specs.Taps.{is_tapped_at};
 ghost use Rattle.ioam_plan.specs.Rides.{Rides, RidesBy};
+ghost use Rattle.ioam_topo.specs.declared.domain.Domain.{Domain};
 
 use crate::crossings::Crossings;
 use crate::making::{packet_of, room_for};
@@ -27,7 +29,8 @@ impl Job {
     /// The job of a packet that goes by an itinerary through a domain: the packet, or the outer packet
     /// around it, before any visit. The packet of an arrival that was dropped has no octets and no
     /// visits. No visit takes memory: room is made for the packet, for that again at each visit that
-    /// sends it on a link with a tap, and for what is noted and exported.
+    /// sends it on a link with a tap, and for what is noted and exported. That is 17 MiB at most, whatever
+    /// the packet and the domain.
     pub fn new(
         alloc: Global,
         domain: &Domain,
@@ -37,6 +40,9 @@ impl Job {
         requires { Rides domain.now packet.now itinerary }
         ensures of { IfOk result (IsJobOf domain.now packet.now itinerary) }
         ensures holds { IfOk result (Holds domain.now) }
+        ensures taps { IfOk result (HasTaps domain.now) }
+        ensures reserved { IfOk result (λ job. reserved_of job ≡ asked_for domain.now itinerary job.packet.items) }
+        ensures most { IfOk result (λ job. reserved_of job ≤ 17 * 1048576) }
     {
         let octets = packet_of(alloc, domain, &itinerary, packet)?;
         let room = room_for(alloc, &itinerary, &octets)?;
@@ -77,6 +83,8 @@ impl Job {
         ensures small { IfSome result (λ octets. length octets.now ≤ 131072) }
         ensures sent { MatchOption result (joined (slice_get (crossings self.now.crossings) visit) ≡ None)
             (λ octets. joined (slice_get (crossings self.now.crossings) visit) ≡ Some octets.now) }
+        ensures tapped { (domain : Domain) → HasTaps domain self.now → is_some result ≡ is_tapped_at domain self.now.itinerary.visits visit }
+        ensures before { (domain : Domain) → IsFresh domain self.now → IfSome result (λ octets. octets.now ≡ []) }
     {
         self.crossings.at(visit)
     }
@@ -85,6 +93,7 @@ impl Job {
     /// sends it on a link with a tap, and 274 for each IOAM option that a visit may meet.
     pub fn reserved(&self) -> usize
         ensures value { result ≡ reserved_of self.now }
+        ensures fresh { (domain : Domain) → IsFresh domain self.now → result ≡ asked_for domain self.now.itinerary self.now.packet.items }
         ensures small { result ≤ 2 ^ 63 + 2 ^ 29 }
     {
         self.packet.len() + self.crossings.kept() + MOST_RECORD * self.room.given() as usize

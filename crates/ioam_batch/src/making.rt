@@ -1,6 +1,7 @@
 //! The packet of a job before its visits, and room for what they note.
-ghost use Rattle.std.specs.Prelude.{◌≡◌, ◌≤◌, [], IfOk, length};
+ghost use Rattle.std.specs.Prelude.{◌≡◌, ◌≤◌, [], IfOk, IsSome, length};
 ghost use Rattle.ioam_batch.specs.Jobs.{GoesBy, GoesInTunnel, HoldsBy, spare_by};
+ghost use Rattle.ioam_ip.specs.Hop.{option_count};
 ghost use Rattle.ioam_plan.specs.Rides.{Rides, RidesTunnel};
 ghost use Rattle.ioam_tunnel.specs.Enclosed.{tunnel_of};
 ghost use Rattle.ioam_tunnel.specs.Wire.{IsTunnel, no_elements, wire};
@@ -26,7 +27,8 @@ fn enclosed(
     ensures tunnel { IfOk result (λ out. IsTunnel (tunnel_of domain.now flow numbers.now packet.now)) }
     ensures wire { IfOk result (λ out. out.items ≡ wire (tunnel_of domain.now flow numbers.now packet.now) 0 no_elements) }
     ensures goes { IfOk result (λ out. GoesInTunnel itinerary.now out.items) }
-    ensures short { IfOk result (λ out. length out.items ≤ 131072) }
+    ensures short { IfOk result (λ out. length out.items ≤ 65575) }
+    ensures options { IfOk result (λ out. option_count out.items ≤ 4) }
 {
     let out = enclose(alloc, domain, flow, numbers, packet)?;
     Ok(out)
@@ -51,7 +53,8 @@ pub(crate) fn packet_of(
     requires { Rides domain.now packet.now itinerary.now }
     ensures holds { IfOk result (λ octets. HoldsBy domain.now packet.now itinerary.now.carried octets.items) }
     ensures goes { IfOk result (λ octets. GoesBy itinerary.now.carried itinerary.now octets.items) }
-    ensures short { IfOk result (λ octets. length octets.items ≤ 131072) }
+    ensures short { IfOk result (λ octets. length octets.items ≤ 65575) }
+    ensures options { IfOk result (λ octets. IsSome itinerary.now.carried → option_count octets.items ≤ 4) }
 {
     match itinerary.carried {
         Some((flow, numbers)) => enclosed(alloc, domain, itinerary, flow, &numbers, packet),

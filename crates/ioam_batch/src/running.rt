@@ -1,5 +1,5 @@
 //! The visits of a job, done one after the other.
-ghost use Rattle.ioam_batch.specs.Jobs.{HasRun, Holds, IsFresh};
+ghost use Rattle.ioam_batch.specs.Jobs.{HasRun, HasTaps, Holds, IsFresh, KeepsMemory};
 ghost use Rattle.ioam_batch.specs.Sends.{SendsSo};
 
 use crate::job::Job;
@@ -49,6 +49,8 @@ pub fn run_job(domain: &Domain, readings: &Readings, job: &mut Job)
     ensures runs { HasRun domain.now readings.now job.old job.new }
     ensures keeps { Holds domain.now job.old → Holds domain.now job.new }
     ensures sent { SendsSo domain.now readings.now job.old job.new }
+    ensures taps { HasTaps domain.now job.new }
+    ensures memory { KeepsMemory job.old job.new }
 {
     do_visits(domain, readings, job);
 }

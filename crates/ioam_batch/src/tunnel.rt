@@ -1,5 +1,6 @@
 //! The visits of an enclosed packet.
 ghost use Rattle.std.specs.Prelude.{◌≡◌, ◌<◌, ◌≤◌, ◌+◌, ◌-◌, ◌*◌, ◌++◌, ◌∷◌, [], List, None, false, All, drop, get_or, length, map, slice_index, take};
+ghost use Rattle.ioam_batch.specs.Crossings.{taps_of};
 ghost use Rattle.ioam_batch.specs.Ran.{Closed, Exited, Sent};
 ghost use Rattle.ioam_batch.specs.Taps.{is_tapped};
 ghost use Rattle.ioam_ip.specs.Chain.{IsSound};
@@ -39,7 +40,8 @@ fn begin(
     ensures given { room.new.spare + length room.new.notes ≡ room.old.spare + length room.old.notes }
     ensures ahead { crossings.new.ahead ≡ drop 1 crossings.old.ahead }
     ensures size { crossings.new.size ≡ crossings.old.size }
-    ensures kept { crossings.new.kept ≡ crossings.old.kept }
+    ensures capacities { crossings.new.capacities ≡ crossings.old.capacities }
+    ensures taps { taps_of crossings.new ≡ taps_of crossings.old }
     ensures sent { (tunnel : Tunnel) → IsTunnel tunnel
         → Sent domain.now readings.now tunnel [] packet.old crossings.old.past room.old
         → Sent domain.now readings.now tunnel (visit.now ∷ []) packet.new crossings.new.past room.new }
@@ -73,7 +75,8 @@ fn transit(
     ensures given { room.new.spare + length room.new.notes ≡ room.old.spare + length room.old.notes }
     ensures ahead { crossings.new.ahead ≡ drop 1 crossings.old.ahead }
     ensures size { crossings.new.size ≡ crossings.old.size }
-    ensures kept { crossings.new.kept ≡ crossings.old.kept }
+    ensures capacities { crossings.new.capacities ≡ crossings.old.capacities }
+    ensures taps { taps_of crossings.new ≡ taps_of crossings.old }
     ensures sent { (tunnel : Tunnel) (visits : List Visit) → IsTunnel tunnel → 1 ≤ length visits
         → Sent domain.now readings.now tunnel visits packet.old crossings.old.past room.old
         → Sent domain.now readings.now tunnel (visits ++ visit.now ∷ []) packet.new crossings.new.past room.new }
@@ -104,7 +107,9 @@ fn exit(
     ensures sound { IsSound packet.new }
     ensures given { room.new.spare + length room.new.notes ≡ room.old.spare + length room.old.notes }
     ensures ahead { crossings.new.ahead ≡ drop 1 crossings.old.ahead }
-    ensures kept { crossings.new.kept ≡ crossings.old.kept }
+    ensures size { crossings.new.size ≡ crossings.old.size }
+    ensures capacities { crossings.new.capacities ≡ crossings.old.capacities }
+    ensures taps { taps_of crossings.new ≡ taps_of crossings.old }
     ensures closed { (tunnel : Tunnel) (visits : List Visit) → IsTunnel tunnel → 1 ≤ length visits
         → Sent domain.now readings.now tunnel visits packet.old crossings.old.past room.old
         → Closed domain.now readings.now tunnel visits visit.now packet.new crossings.new.past room.new }
@@ -140,7 +145,8 @@ pub(crate) fn send(
     ensures given { room.new.spare + length room.new.notes ≡ room.old.spare + length room.old.notes }
     ensures ahead { crossings.new.ahead ≡ drop count (map (is_tapped domain.now) visits.now) }
     ensures size { crossings.new.size ≡ crossings.old.size }
-    ensures kept { crossings.new.kept ≡ crossings.old.kept }
+    ensures capacities { crossings.new.capacities ≡ crossings.old.capacities }
+    ensures taps { taps_of crossings.new ≡ taps_of crossings.old }
     ensures sent { (tunnel : Tunnel) → IsTunnel tunnel
         → Sent domain.now readings.now tunnel [] packet.old crossings.old.past room.old
         → Sent domain.now readings.now tunnel (take count visits.now) packet.new crossings.new.past room.new }
@@ -172,7 +178,9 @@ pub(crate) fn send_out(
     ensures sound { IsSound packet.new }
     ensures given { room.new.spare + length room.new.notes ≡ room.old.spare + length room.old.notes }
     ensures ahead { crossings.new.ahead ≡ [] }
-    ensures kept { crossings.new.kept ≡ crossings.old.kept }
+    ensures size { crossings.new.size ≡ crossings.old.size }
+    ensures capacities { crossings.new.capacities ≡ crossings.old.capacities }
+    ensures taps { taps_of crossings.new ≡ taps_of crossings.old }
     ensures exited { (tunnel : Tunnel) → IsTunnel tunnel
         → Sent domain.now readings.now tunnel [] packet.old crossings.old.past room.old
         → Exited domain.now readings.now tunnel visits.now packet.new crossings.new.past room.new }

@@ -3,7 +3,7 @@ ghost use Rattle.std.specs.Prelude.{◌≡◌, ◌+◌, ◌≤◌, ◌<◌, ◌^
 ghost use Rattle.std.specs.List.{AllZip};
 ghost use Rattle.std.specs.Thread.{IsSync};
 ghost use Rattle.ioam_batch.specs.Batches.{MayRun};
-ghost use Rattle.ioam_batch.specs.Jobs.{HasRun, Holds, IsFresh};
+ghost use Rattle.ioam_batch.specs.Jobs.{HasRun, HasTaps, Holds, IsFresh, KeepsMemory};
 
 use crate::batch::Batch;
 use crate::gate::Gate;
@@ -116,6 +116,8 @@ pub fn run_batch<R: Threads + Sync, G: Gate>(
     ensures runs { IsTrue G.opens → AllZip (HasRun domain.now readings.now) batch.old batch.new }
     ensures may { AllZip (MayRun domain.now readings.now) batch.old batch.new }
     ensures holds { All (Holds domain.now) batch.old → All (Holds domain.now) batch.new }
+    ensures taps { All (HasTaps domain.now) batch.new }
+    ensures memory { AllZip KeepsMemory batch.old batch.new }
 {
     let size = batch.jobs.len().div_ceil(workers as usize);
     if size == 0 {

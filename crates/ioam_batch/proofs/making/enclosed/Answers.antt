@@ -1,5 +1,6 @@
 use Rattle.std.proofs.Common.{◌≤◌, ◌+◌, if◌then◌else◌, length, arith}
 use Rattle.ioam_batch.proofs.MakingLaws.{hops-of, short-of, start-limit}
+use Rattle.ioam_batch.proofs.ReservedLaws.{options-few}
 use Rattle.ioam_batch.proofs.making.enclosed.Goals as goal
 use Rattle.ioam_tunnel.specs.Enclosed.{tunnel_of}
 
@@ -22,3 +23,7 @@ pub returns-clause-short : goal.returns-clause-short
 returns-clause-short c =
     let rides = c.requires in
     short-of c.args.domain.now c.args.flow c.args.numbers.now c.args.packet.now rides.known (length c.in_ok-out.out.items) c.in_ok-out.ensures.size rides.may
+
+pub returns-clause-options : goal.returns-clause-options
+returns-clause-options c =
+    options-few c.args.domain.now c.args.flow c.args.numbers.now c.args.packet.now c.in_ok-out.out.items c.in_ok-out.ensures.tunnel c.in_ok-out.ensures.wire

@@ -17,5 +17,6 @@ loop-i-preserved c =
           ∙ invariant.1,
       omega (arith, invariant.2, some, ap length c.cross.ensures.ahead, length-drop 1 c.loop-i.crossings.ahead),
       c.cross.ensures.size ∙ invariant.3,
-      c.cross.ensures.kept ∙ invariant.4,
+      c.cross.ensures.capacities ∙ invariant.4,
+      c.cross.ensures.taps ∙ invariant.5,
     )

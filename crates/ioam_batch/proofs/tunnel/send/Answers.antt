@@ -18,7 +18,8 @@ loop-i-init c =
       c.begin.ensures.given,
       c.begin.ensures.ahead ∙ ap (drop 1) c.requires.ahead,
       c.begin.ensures.size,
-      c.begin.ensures.kept,
+      c.begin.ensures.capacities,
+      c.begin.ensures.taps,
       (λ tunnel is so.
           let P : List Visit → Type 0 = λ vs. Sent c.args.domain.now c.args.readings.now tunnel vs c.begin.new.packet c.begin.new.crossings.past c.begin.new.room in
           subst P (sym (take_more visits 0 _ inside)) (c.begin.ensures.sent tunnel is so)),
@@ -44,14 +45,15 @@ loop-i-preserved c =
       c.transit.ensures.given ∙ invariant.5,
       c.transit.ensures.ahead ∙ ap (drop 1) invariant.6 ∙ drop-drop 1 c.loop-i.i (map (is_tapped c.args.domain.now) visits),
       c.transit.ensures.size ∙ invariant.7,
-      c.transit.ensures.kept ∙ invariant.8,
+      c.transit.ensures.capacities ∙ invariant.8,
+      c.transit.ensures.taps ∙ invariant.9,
       (λ tunnel is so.
           let P : List Visit → Type 0 = λ vs. Sent c.args.domain.now c.args.readings.now tunnel vs c.transit.new.packet c.transit.new.crossings.past c.transit.new.room in
-          subst P (sym (take_more visits c.loop-i.i _ inside)) (c.transit.ensures.sent tunnel (take c.loop-i.i visits) is some (invariant.9 tunnel is so))),
+          subst P (sym (take_more visits c.loop-i.i _ inside)) (c.transit.ensures.sent tunnel (take c.loop-i.i visits) is some (invariant.10 tunnel is so))),
     )
 
 pub returns-clause-sent : goal.returns-clause-sent
 returns-clause-sent c tunnel is so =
     let same : c.loop-i.i ≡ c.args.count = omega arith in
     subst (λ k. Sent c.args.domain.now c.args.readings.now tunnel (take k c.args.visits.now) c.loop-i.packet c.loop-i.crossings.past c.loop-i.room) same
-    (c.loop-i.invariant.9 tunnel is so)
+    (c.loop-i.invariant.10 tunnel is so)

@@ -1,4 +1,5 @@
 use Rattle.std.proofs.Common.{◌≡◌, ◌+◌, ◌*◌, ◌≤◌, [], length, map, take, drop, slice_index}
+use Rattle.ioam_batch.specs.Crossings.{taps_of}
 use Rattle.ioam_batch.specs.Ran.{Sent}
 use Rattle.ioam_batch.specs.Taps.{is_tapped}
 use Rattle.ioam_ip.specs.Chain.{IsSound}
@@ -14,6 +15,7 @@ invariant-loop-i l =
     × (l.fn.room.spare ≤ l.room.spare + l.i * option_count l.fn.packet)
     × (l.room.spare + length l.room.notes ≡ l.fn.room.spare + length l.fn.room.notes)
     × (l.crossings.ahead ≡ drop l.i (map (is_tapped l.domain) l.visits))
-    × (l.crossings.size ≡ l.fn.crossings.size) × (l.crossings.kept ≡ l.fn.crossings.kept)
+    × (l.crossings.size ≡ l.fn.crossings.size) × (l.crossings.capacities ≡ l.fn.crossings.capacities)
+    × (taps_of l.crossings ≡ taps_of l.fn.crossings)
     × ((tunnel : Tunnel) → IsTunnel tunnel → Sent l.domain l.readings tunnel [] l.fn.packet l.fn.crossings.past l.fn.room
     → Sent l.domain l.readings tunnel (take l.i l.visits) l.packet l.crossings.past l.room)

@@ -1,7 +1,7 @@
 use Rattle.std.proofs.Common.{◌≡◌, ◌<◌, false, Some, drop, take, length, slice_get, sym, ap, ◌∙◌, arith}
 use Rattle.std.proofs.lemmas.List.{get_or_default}
 use Rattle.ioam_batch.specs.Crossings.{Crossed, crossings, filled, joined}
-use Rattle.ioam_batch.proofs.CrossingLaws.{at-ahead, at-done, at-none, at-past, fits-done}
+use Rattle.ioam_batch.proofs.CrossingLaws.{at-ahead, at-done, at-none, at-past, filled-front, fits-done}
 use Rattle.ioam_batch.proofs.crossings.Crossings.at.Goals as goal
 
 pub returns-then-visit-len-clause-sent : goal.returns-then-visit-len-clause-sent
@@ -31,10 +31,17 @@ part-requires-clause-within c =
     let i = c.self.inside in
     let inside : c.args.visit < length i.taps.items = omega arith in
     let tap = get_or_default i.taps.items c.args.visit false c.index.result.now inside ∙ sym c.index.ensures ∙ c.if-not-index.false in
-    let said : length i.octets.items ≡ filled i.size (take i.done i.taps.items) = c.self.invariant.3 in
+    let said : length i.octets.items ≡ filled i.size i.taps.items = c.self.invariant.3 in
     let start : c.filled-start.result ≡ filled i.size (take c.args.visit i.taps.items) =
     c.filled-start.ensures.value ∙ ap (λ ts. filled i.size (take c.args.visit ts)) c.deref-2.ensures.value in
-    omega (arith, said, start, ap length c.deref-3.ensures.value, fits-done i.size i.taps.items i.done c.args.visit (omega arith) tap)
+    omega (
+      arith,
+      said,
+      start,
+      ap length c.deref-3.ensures.value,
+      fits-done i.size i.taps.items i.done c.args.visit (omega arith) tap,
+      filled-front i.size i.taps.items i.done,
+    )
 
 pub returns-clause-sent : goal.returns-clause-sent
 returns-clause-sent c =
