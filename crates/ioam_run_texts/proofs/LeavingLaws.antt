@@ -1,6 +1,6 @@
 -- The packet of a job that leaves by a port.
-use Rattle.std.proofs.Common.{get_or, ◌≡◌, ℕ, zero, suc, ◌+◌, ◌-◌, ◌<◌, Bool, true, false, List, [], ◌∷◌, ◌++◌, Option, Some, None, length, map, set, length-set, slice_get, refl, sym, ap, ◌∙◌, subst, arith, append_assoc, append-nil, length-append}
-use Rattle.std.specs.Prelude.{IsSome, if◌then◌else◌, slice_index}
+use Rattle.std.proofs.Common.{get_or, ◌≡◌, ℕ, zero, suc, ◌+◌, ◌-◌, ◌<◌, Bool, true, false, List, [], ◌∷◌, ◌++◌, Option, Some, None, drop, length, map, set, length-set, slice_get, refl, sym, ap, ◌∙◌, subst, arith, append_assoc, append-nil, length-append}
+use Rattle.std.specs.Prelude.{IsSome, IsSomeAnd, MatchOption, if◌then◌else◌, slice_index}
 use Rattle.std.proofs.lemmas.Bool.{ne_eqb, eq-eqb}
 use Rattle.ioam_batch.specs.Ran.{passed}
 use Rattle.ioam_batch.specs.declared.job.Job.{Job}
@@ -27,7 +27,8 @@ use Rattle.ioam_topo.specs.declared.ids.NodeId.{NodeId}
 use Rattle.ioam_topo.specs.declared.ids.PortId.{PortId}
 use Rattle.ioam_tunnel.specs.Enclosed.{tunnel_of}
 use Rattle.ioam_tunnel.specs.declared.numbers.Numbers.{Numbers}
-use Rattle.ioam_run_texts.specs.Standing.{lowered_at}
+use Rattle.ioam_tunnel.specs.Inner.{InnerAt}
+use Rattle.ioam_run_texts.specs.Standing.{IsInside, LeavesAt, LeavesBy, lowered_at}
 use Rattle.ioam_run_texts.specs.Texts.{last_time, leaves_by, fate_leaves, sent_by_end}
 use Rattle.ioam_run_texts.specs.Told.{AreLeaving, AreSent, GivesInside}
 use Rattle.ioam_run_texts.proofs.AddsLaws.{port-told, none-told}
@@ -81,6 +82,31 @@ one-record old items s is = is ∙ ap (λ (t : List ℕ). old ++ t) (sym (append
 
 pub no-record : (old : List ℕ) → old ≡ old ++ records_text []
 no-record old = sym (append-nil old)
+
+-- ---- what leaves of a job, whether it ran or not
+
+-- what stands in a packet from a place on is what it carries
+pub inside-said : {X : Type 0} (octets_of : X → List ℕ) (result : Option X) (packet : List ℕ) (place : ℕ) → IsPacket packet → InnerAt packet place
+    → IsSomeAnd result (λ x. octets_of x ≡ drop place packet) → MatchOption result (IsInside packet None) (λ x. IsInside packet (Some (octets_of x)))
+inside-said octets_of None packet place is at found = absurd found
+inside-said octets_of (Some x) packet place is at found = (is, (place, at, found))
+
+module _ (job : Job) where
+  pub plain-by-job : (carried : Option (FlowId × Numbers)) (exited : Bool) (time : ℕ) → carried ≡ None → time ≡ last_time job.itinerary.visits
+      → LeavesBy carried exited job (record { time = time; octets = job.packet.items } ∷ [])
+  plain-by-job None exited time none when = ap (λ (t : ℕ). record { time = t; octets = job.packet.items } ∷ []) when
+  plain-by-job (Some carried) exited time none when = let never : Some carried ≡ None = none in cc
+
+  pub none-by-job : (carried : Option (FlowId × Numbers)) (exited : Bool) → IsSome carried → exited ≡ false → LeavesBy carried exited job []
+  none-by-job None exited some not = let never : false ≡ true = some in cc
+  none-by-job (Some carried) true some not = let never : true ≡ false = not in cc
+  none-by-job (Some carried) false some not = refl
+
+  pub inside-by-job : (carried : Option (FlowId × Numbers)) (exited : Bool) (time : ℕ) (inner : Option (List ℕ)) → IsSome carried → exited ≡ true
+      → time ≡ last_time job.itinerary.visits → IsInside job.packet.items inner → LeavesBy carried exited job (lowered_at time inner)
+  inside-by-job None exited time inner some out when is = let never : false ≡ true = some in cc
+  inside-by-job (Some carried) true time inner some out when is = (inner, is, ap (λ (t : ℕ). lowered_at t inner) when)
+  inside-by-job (Some carried) false time inner some out when is = let never : false ≡ true = out in cc
 
 -- ---- what leaves is what the arrival says
 
@@ -166,18 +192,25 @@ sent-elsewhere k port sent other = ap (λ (b : Bool). records_text (if b then se
 -- ---- the output of its port
 
 module _ (domain : Domain) (job : Job) (outputs : List Output) (long : length outputs ≡ outlet_count domain) where
+  -- where its journey ends so
+  abbrev Ends : List Output → End → Type 0
+  Ends new end = (left : List Sent) × Adds outputs new (of_outlets domain (λ port. records_text (sent_by_end port left end)) (λ link. []) [] [])
+      × AreSent domain job (λ port. sent_by_end port left end) × LeavesAt end job left
+
   abbrev pub Told : List Output → Type 0
-  Told new = (sent : ℕ → List Sent) × Adds outputs new (of_outlets domain (λ port. records_text (sent port)) (λ link. []) [] []) × AreSent domain job sent
+  Told new = Ends new job.itinerary.end
 
   pub left-told : (d after : Output) (port : PortId) (sent : List Sent) → job.itinerary.end ≡ Left port → port.0 < length (ports domain)
       → after.slot ≡ (get_or outputs port.0 d).slot → after.gathered.items ≡ (get_or outputs port.0 d).gathered.items ++ records_text sent
-      → AreLeaving domain job sent → Told (set outputs port.0 after)
-  left-told d after port sent is inside slot adds leaves = (
-    λ k. sent_by_end k sent (Left port),
+      → AreLeaving domain job sent → LeavesBy job.itinerary.carried job.itinerary.exited job sent → Told (set outputs port.0 after)
+  left-told d after port sent is inside slot adds leaves by = subst (Ends (set outputs port.0 after)) (sym is) (
+    sent,
     port-told domain outputs d after (λ k. records_text (sent_by_end k sent (Left port))) port.0 inside (λ k other. sent-elsewhere k port sent other) long slot
         (adds ∙ ap (λ (ss : List Sent). (get_or outputs port.0 d).gathered.items ++ records_text ss) (sym (sent-here port sent))),
-    λ readings fate ran k. ap (λ (e : End). sent_by_end k sent e) (sym is) ∙ sent-are domain job sent leaves readings fate ran k,
+    (λ readings fate ran k. ap (λ (e : End). sent_by_end k sent e) (sym is) ∙ sent-are domain job sent leaves readings fate ran k),
+    by,
   )
 
   pub drop-told : (reason : Reason) (node : NodeId) → job.itinerary.end ≡ Drop reason node → Told outputs
-  drop-told reason node is = (λ k. [], none-told domain outputs (λ k. []) (λ k. refl) long, drop-sent domain job reason node is)
+  drop-told reason node is = subst (Ends outputs) (sym is)
+      ([], none-told domain outputs (λ k. []) (λ k. refl) long, drop-sent domain job reason node is, refl)

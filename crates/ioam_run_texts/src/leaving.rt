@@ -6,8 +6,8 @@ ghost use Rattle.ioam_run_outputs.specs.Outlets.{of_outlets, outlet_count};
 ghost use Rattle.ioam_desk_outputs.specs.Told.{Adds};
 ghost use Rattle.ioam_pcap.specs.Entries.{most};
 ghost use Rattle.ioam_pcap.specs.Text.{Sent, record_octets, records_text};
-ghost use Rattle.ioam_run_texts.specs.Standing.{lowered_at};
-ghost use Rattle.ioam_run_texts.specs.Texts.{last_time};
+ghost use Rattle.ioam_run_texts.specs.Standing.{IsInside, LeavesAt, LeavesBy, lowered_at};
+ghost use Rattle.ioam_run_texts.specs.Texts.{last_time, sent_by_end};
 ghost use Rattle.ioam_run_texts.specs.Told.{AreLeaving, AreSent, GivesInside};
 
 use ioam_base::memory::NoMemory;
@@ -62,6 +62,7 @@ fn inside(packet: &[u8]) -> Option<&[u8]>
     ensures header { IfSome result (λ inner. 40 ≤ length inner.now) }
     ensures short { IfSome result (λ inner. length inner.now ≤ length packet.now) }
     ensures inner { MatchOption result (GivesInside packet.now None) (λ inner. GivesInside packet.now (Some inner.now)) }
+    ensures exact { MatchOption result (IsInside packet.now None) (λ inner. IsInside packet.now (Some inner.now)) }
 {
     match carried(packet) {
         Some(range) => rest(packet, range.start),
@@ -73,7 +74,8 @@ fn inside(packet: &[u8]) -> Option<&[u8]>
 // limit one less.
 fn put_inside(time: u64, packet: &[u8], out: &mut Vec<u8>) -> Result<(), NoMemory>
     requires { length packet.now ≤ most }
-    ensures { OnOk result ((inner : Option (List ℕ)) × (out.new.items ≡ out.old.items ++ records_text (lowered_at time inner)) × GivesInside packet.now inner) }
+    ensures { OnOk result ((inner : Option (List ℕ)) × (out.new.items ≡ out.old.items ++ records_text (lowered_at time inner)) × GivesInside packet.now inner
+        × IsInside packet.now inner) }
 {
     match inside(packet) {
         Some(inner) => {
@@ -88,7 +90,8 @@ fn put_inside(time: u64, packet: &[u8], out: &mut Vec<u8>) -> Result<(), NoMemor
 // carries. One that didn't reach the exit of its tunnel doesn't leave.
 fn put_leaving(job: &Job, out: &mut Vec<u8>) -> Result<(), NoMemory>
     requires { length job.now.packet.items ≤ most }
-    ensures { OnOk result ((sent : List Sent) × (out.new.items ≡ out.old.items ++ records_text sent) × ((domain : Domain) → AreLeaving domain job.now sent)) }
+    ensures { OnOk result ((sent : List Sent) × (out.new.items ≡ out.old.items ++ records_text sent) × ((domain : Domain) → AreLeaving domain job.now sent)
+        × LeavesBy job.now.itinerary.carried job.now.itinerary.exited job.now sent) }
 {
     let itinerary = job.itinerary();
     let time = last_time(itinerary.visits.list());
@@ -111,9 +114,10 @@ fn put_leaving(job: &Job, out: &mut Vec<u8>) -> Result<(), NoMemory>
 pub(crate) fn put_left(domain: &Domain, job: &Job, outputs: &mut [Output]) -> Result<(), NoMemory>
     requires holds { Holds domain.now job.now }
     requires width { length outputs.old ≡ outlet_count domain.now }
-    ensures { OnOk result ((sent : ℕ → List Sent)
-        × Adds outputs.old outputs.new (of_outlets domain.now (λ port. records_text (sent port)) (λ link. []) [] [])
-        × AreSent domain.now job.now sent) }
+    ensures { OnOk result ((left : List Sent)
+        × Adds outputs.old outputs.new (of_outlets domain.now (λ port. records_text (sent_by_end port left job.now.itinerary.end)) (λ link. []) [] [])
+        × AreSent domain.now job.now (λ port. sent_by_end port left job.now.itinerary.end)
+        × LeavesAt job.now.itinerary.end job.now left) }
 {
     match job.itinerary().end {
         End::Left { port } => {

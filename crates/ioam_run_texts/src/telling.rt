@@ -1,9 +1,11 @@
 //! What one arrival tells the outputs of a run.
 ghost use Rattle.std.specs.Prelude.{◌≡◌, List, ℕ, OnOk, length};
 ghost use Rattle.ioam_batch.specs.Jobs.{Holds};
+ghost use Rattle.ioam_pcap.specs.Text.{Sent};
 ghost use Rattle.ioam_run_outputs.specs.Outlets.{outlet_count, tapped};
 ghost use Rattle.ioam_desk_outputs.specs.Told.{Adds};
 ghost use Rattle.ioam_topo.specs.Domain.{links};
+ghost use Rattle.ioam_run_texts.specs.Standing.{LeavesAt, job_texts};
 ghost use Rattle.ioam_run_texts.specs.Texts.{heads};
 ghost use Rattle.ioam_run_texts.specs.Told.{AreTextsOf};
 
@@ -44,7 +46,10 @@ pub fn put_job(
     requires taps { taps.now ≡ tapped (links domain.now) }
     requires holds { Holds domain.now job.now }
     requires width { length outputs.old ≡ outlet_count domain.now }
-    ensures { OnOk result ((added : List (List ℕ)) × Adds outputs.old outputs.new added × AreTextsOf domain.now number job.now added) }
+    ensures texts { OnOk result ((added : List (List ℕ)) × Adds outputs.old outputs.new added × AreTextsOf domain.now number job.now added) }
+    // Whether it ran or not.
+    ensures exact { OnOk result ((left : List Sent) × LeavesAt job.now.itinerary.end job.now left
+        × Adds outputs.old outputs.new (job_texts domain.now number job.now left)) }
 {
     let report = domain.ports().len() + taps.len();
     put_left(domain, job, outputs)?;

@@ -8,7 +8,7 @@ jobs-init c = record { number = omega arith; width = c.requires.width; tells = T
 
 pub jobs-preserved : goal.jobs-preserved
 jobs-preserved c =
-    let added = c.in_ok-put_job.ensures in
+    let added = c.in_ok-put_job.ensures.texts in
     record {
       number = omega (arith, c.jobs.invariant.number);
       width = Adds-length c.jobs.outputs c.put_job.new.outputs added.0 added.1 ∙ c.jobs.invariant.width;

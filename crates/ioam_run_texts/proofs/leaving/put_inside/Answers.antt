@@ -8,4 +8,5 @@ returns-in_ok-put_lowered-in-Some c = (
   Some c.in-Some.inner.now,
   one-record c.args.out.now.items c.put_lowered.new.out.items (record { time = c.args.time; octets = lowered 1 c.in-Some.inner.now }) c.in_ok-put_lowered-in-Some.ensures,
   c.in-Some.ensures.inner,
+  c.in-Some.ensures.exact,
 )

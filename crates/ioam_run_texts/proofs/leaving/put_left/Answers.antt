@@ -13,4 +13,4 @@ returns-in_ok-put_leaving-in-Left c =
     let is = ap (λ (it : Itinerary). it.end) (sym c.itinerary.ensures) ∙ c.in-Left.is in
     let told = c.in_ok-put_leaving-in-Left.ensures in
     left-told c.args.domain.now c.args.job.now c.args.outputs.now c.requires.width _ _ c.in-Left.port told.0 is
-    (subst (EndsInside c.args.domain.now) is c.requires.holds.ends) refl told.1 (told.2 c.args.domain.now)
+    (subst (EndsInside c.args.domain.now) is c.requires.holds.ends) refl told.1 (told.2 c.args.domain.now) told.3
