@@ -7,6 +7,7 @@ use Rattle.std.proofs.lemmas.List.{get_or-drop, take_all, take_more, take_more_s
 use Rattle.std.proofs.lemmas.List.Elements.{AllZip-push, All-nil, All-cons, All-head, All-tail}
 use Rattle.std.proofs.lemmas.List.Sums.{sum_by-cons}
 use Rattle.ioam_batch.specs.Batches.{MayRun, all_reserved}
+use Rattle.ioam_node_visit.specs.Room.{capacity}
 use Rattle.ioam_batch.specs.Jobs.{HasRun, HasTaps, Holds, IsFresh, KeepsMemory, reserved_of}
 use Rattle.ioam_batch.specs.declared.job.Job.{Job}
 use Rattle.ioam_batch.proofs.RunLaws.{taps-fresh, taps-run}
@@ -97,6 +98,7 @@ module _ (domain : Domain) (readings : List (List Sample)) where
       keeps_same was is same = record {
         packet = ap (λ (job : Job). vec_capacity job.packet) same;
         crossings = ap (λ (job : Job). job.crossings.capacities) same;
+        room = ap (λ (job : Job). capacity job.room) same;
       }
 
   -- no memory is taken for any

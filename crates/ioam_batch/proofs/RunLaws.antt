@@ -81,7 +81,7 @@ runs-in-tunnel domain readings old new exited before after fresh some exits same
       (subst (λ xs. RanBy domain readings tunnel exited visits xs (crossings new.crossings) new.room) (sym to)
       (subst (λ ps. RanBy domain readings tunnel exited visits after ps new.room) (sym (none-ahead new.crossings ahead)) (runs tunnel is start))));
   taps = taps;
-  memory = record { packet = capacity; crossings = capacities };
+  memory = record { packet = capacity; crossings = capacities; room = given };
 }
 
 -- before any visit they are those of all visits

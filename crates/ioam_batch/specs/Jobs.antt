@@ -9,6 +9,7 @@ use Rattle.ioam_ip.specs.Chain.{IsSound}
 use Rattle.ioam_ip.specs.Hop.{option_count}
 use Rattle.ioam_ip.specs.Lowered.{lowered}
 use Rattle.ioam_ip.specs.Packet.{IsPacket}
+use Rattle.ioam_node_visit.specs.Room.{capacity}
 use Rattle.ioam_plan.specs.declared.itinerary.Itinerary.{Itinerary}
 use Rattle.ioam_plan.specs.Inside.{EndsInside}
 use Rattle.ioam_plan.specs.Rides.{IsVisitIn, SendsBy}
@@ -104,10 +105,12 @@ abbrev pub RunsBy : Domain → List (List Sample) → Option (FlowId × Numbers)
 RunsBy domain readings None old new = RunsPlain domain old new
 RunsBy domain readings (Some carried) old new = RunsInTunnel domain readings old new
 
--- no memory was taken for it or handed back: its packet and what its visits sent stand in vectors of the capacities that they had
+-- no memory was taken for it or handed back: its packet, what its visits sent and what they noted stand in vectors of the capacities
+-- that they had
 pub record KeepsMemory (old new : Job) : Type 0 where
   pub packet : vec_capacity new.packet ≡ vec_capacity old.packet
   pub crossings : new.crossings.capacities ≡ old.crossings.capacities
+  pub room : capacity new.room ≡ capacity old.room
 
 -- all visits of it are done
 pub record HasRun (domain : Domain) (readings : List (List Sample)) (old new : Job) : Type 0 where
