@@ -71,10 +71,6 @@ pub filled-tap : (size : ℕ) (taps : List Bool) (done : ℕ) → 0 < length (dr
     → filled size (take (done + 1) taps) ≡ filled size (take done taps) + size
 filled-tap size taps done some is = omega (arith, filled-next size taps done true some is)
 
-pub filled-none : (size : ℕ) (taps : List Bool) (done : ℕ) → 0 < length (drop done taps) → get_or (drop done taps) 0 false ≡ false
-    → filled size (take (done + 1) taps) ≡ filled size (take done taps)
-filled-none size taps done some is = omega (arith, filled-next size taps done false some is)
-
 pub filled-front : (size : ℕ) (taps : List Bool) (done : ℕ) → filled size (take done taps) ≤ filled size taps
 filled-front size taps done =
     omega (arith, filled-append size (take done taps) (drop done taps), ap (filled size) (take-append-drop done taps))

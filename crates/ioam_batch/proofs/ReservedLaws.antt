@@ -1,5 +1,5 @@
 -- Laws of how many octets a job has room for.
-use Rattle.std.proofs.Common.{◌≡◌, ℕ, zero, suc, ◌+◌, ◌*◌, ◌<◌, ◌≤◌, Bool, true, false, cond, List, [], ◌∷◌, ◌++◌, length, map, Option, Some, None, is_some, slice_get, refl, sym, ap, ◌∙◌, subst, arith, length-append, mul-le-mul_left, mul-suc}
+use Rattle.std.proofs.Common.{◌≡◌, ℕ, zero, suc, ◌+◌, ◌*◌, ◌≤◌, Bool, true, false, cond, List, [], ◌∷◌, length, map, Option, Some, None, slice_get, refl, sym, ap, ◌∙◌, subst, arith, length-append, mul-le-mul_left, mul-suc}
 use Rattle.std.specs.Prelude.{IsSome, count_by, unwrap_or}
 use Rattle.std.specs.List.{AllByRecursion}
 use Rattle.std.proofs.lemmas.List.{length-map}
@@ -12,7 +12,6 @@ use Rattle.ioam_batch.specs.declared.job.Job.{Job}
 use Rattle.ioam_batch.proofs.RunLaws.{taps-fresh}
 use Rattle.ioam_ip.specs.Hop.{has_hop, hop_head, hop_options, ioam_count, option_count}
 use Rattle.ioam_ip.specs.Laid.{Part, behind_part, items_of}
-use Rattle.ioam_ip.specs.Options.{Item}
 use Rattle.ioam_ip.specs.Findings.{is_ioam_type}
 use Rattle.ioam_ip.specs.Rewriting.{options_in}
 use Rattle.ioam_node_visit.proofs.PartsLaws.{hop_options-packet}
@@ -24,7 +23,7 @@ use Rattle.ioam_topo.specs.declared.ids.FlowId.{FlowId}
 use Rattle.ioam_topo.specs.declared.parts.Flow.{Flow}
 use Rattle.ioam_tunnel.proofs.WireLaws.{AreParts-hop}
 use Rattle.ioam_tunnel.specs.Enclosed.{direct_parts, room_of, tunnel_by, tunnel_of}
-use Rattle.ioam_tunnel.specs.Wire.{IsTunnel, Room, Tunnel, hop_parts, limit_after, no_elements, trace_part, trace_parts, wire}
+use Rattle.ioam_tunnel.specs.Wire.{IsTunnel, Tunnel, hop_parts, limit_after, no_elements, trace_part, trace_parts, wire}
 use Rattle.ioam_tunnel.specs.declared.numbers.Numbers.{Numbers}
 
 -- ---- the IOAM options of an enclosed packet

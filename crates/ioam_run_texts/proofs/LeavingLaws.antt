@@ -97,11 +97,6 @@ module _ (job : Job) where
   plain-by-job None exited time none when = ap (λ (t : ℕ). record { time = t; octets = job.packet.items } ∷ []) when
   plain-by-job (Some carried) exited time none when = let never : Some carried ≡ None = none in cc
 
-  pub none-by-job : (carried : Option (FlowId × Numbers)) (exited : Bool) → IsSome carried → exited ≡ false → LeavesBy carried exited job []
-  none-by-job None exited some not = let never : false ≡ true = some in cc
-  none-by-job (Some carried) true some not = let never : true ≡ false = not in cc
-  none-by-job (Some carried) false some not = refl
-
   pub inside-by-job : (carried : Option (FlowId × Numbers)) (exited : Bool) (time : ℕ) (inner : Option (List ℕ)) → IsSome carried → exited ≡ true
       → time ≡ last_time job.itinerary.visits → IsInside job.packet.items inner → LeavesBy carried exited job (lowered_at time inner)
   inside-by-job None exited time inner some out when is = let never : false ≡ true = some in cc

@@ -1,6 +1,5 @@
 use Rattle.std.proofs.Common.{◌≡◌, ◌<◌, ◌≤◌, ◌+◌, ◌++◌, ◌∷◌, [], ℕ, List, Bool, true, false, Some, drop, take, get_or, length, sym, ap, ◌∙◌, length-drop, arith}
 use Rattle.std.proofs.lemmas.List.{with_items_is}
-use Rattle.ioam_base.proofs.WrittenLaws.{length-written}
 use Rattle.ioam_base.specs.Octets.{written}
 use Rattle.ioam_batch.specs.Crossings.{Crossed, filled, parted, taps_of}
 use Rattle.ioam_batch.proofs.CrossingLaws.{filled-front, filled-tap, next-tap, parted-written, taps-all}

@@ -1,5 +1,4 @@
-use Rattle.std.proofs.Common.{◌≡◌, ◌+◌, ◌++◌, ◌≤◌, List, Bool, ℕ, length, map, ap, ◌∙◌, arith}
-use Rattle.ioam_batch.specs.Crossings.{taps_of}
+use Rattle.std.proofs.Common.{◌≡◌, ◌+◌, ◌≤◌, List, ℕ, length, map, ap, ◌∙◌, arith}
 use Rattle.ioam_batch.specs.Jobs.{asked_for, reserved_of, spare_by}
 use Rattle.ioam_batch.specs.Taps.{is_tapped}
 use Rattle.ioam_batch.specs.declared.job.Job.{Job}
