@@ -9,7 +9,7 @@ some_same x y e = ap (λ o. elim o [ None ↦ x | Some z ↦ z ]) e
 
 module _ {B A : Type 0} (Becomes : B → A → Type 0) where
   -- the first things of a list that are taken, in order, by recursion
-  abbrev Embeds : List B → List A → Type 0
+  abbrev pub Embeds : List B → List A → Type 0
   Embeds bs [] = Unit {0}
   Embeds [] (a ∷ ys) = ⊥
   Embeds (b ∷ bs) (a ∷ ys) = (Becomes b a × Embeds bs ys) ⊎ Embeds bs (a ∷ ys)
@@ -19,7 +19,7 @@ module _ {B A : Type 0} (Becomes : B → A → Type 0) where
   more_before b bs (a ∷ ys) e = inr e
 
   -- the others are taken where all are
-  fewer_after : (bs : List B) (a : A) (ys : List A) → Embeds bs (a ∷ ys) → Embeds bs ys
+  pub fewer_after : (bs : List B) (a : A) (ys : List A) → Embeds bs (a ∷ ys) → Embeds bs ys
   fewer_after [] a ys e = absurd e
   fewer_after (b ∷ bs) a ys e = elim e as (λ _. Embeds (b ∷ bs) ys) [
     | inl first ↦ more_before b bs ys first.1
@@ -59,7 +59,7 @@ module _ {B A : Type 0} (Becomes : B → A → Type 0) where
       inl (subst (λ n. IsSomeAnd (slice_get (b ∷ bs) n) (λ y. Becomes y a)) is (m.each 0 a refl), others (rest_of_map b bs a ys m))
   by_first b bs a ys m (suc k) is others behind = inr (behind (map_behind b bs a ys k m is))
 
-  from_map : (bs : List B) (ys : List A) → IsSentOn Becomes bs ys → Embeds bs ys
+  pub from_map : (bs : List B) (ys : List A) → IsSentOn Becomes bs ys → Embeds bs ys
   from_map bs [] m = tt
   from_map [] (a ∷ ys) m = m.each 0 a refl
   from_map (b ∷ bs) (a ∷ ys) m = by_first b bs a ys m (m.place 0) refl (from_map bs ys) (from_map bs (a ∷ ys))
@@ -97,7 +97,7 @@ module _ {B A : Type 0} (Becomes : B → A → Type 0) where
     each = m.each;
   }
 
-  to_map : (bs : List B) (ys : List A) → Embeds bs ys → IsSentOn Becomes bs ys
+  pub to_map : (bs : List B) (ys : List A) → Embeds bs ys → IsSentOn Becomes bs ys
   to_map bs [] e = no_map bs
   to_map [] (a ∷ ys) e = absurd e
   to_map (b ∷ bs) (a ∷ ys) e = elim e as (λ _. IsSentOn Becomes (b ∷ bs) (a ∷ ys)) [

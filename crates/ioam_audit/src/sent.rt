@@ -2,7 +2,7 @@
 ghost use Rattle.std.specs.Prelude.{◌≡◌, ◌<◌, ◌≤◌, ◌-◌, ◌↔◌, ℕ, List, IsTrue, IfSome, drop, length, slice_index, slice_range, slice_get};
 ghost use Rattle.ioam_clock.specs.declared.sample.Sample.{Sample};
 ghost use Rattle.ioam_ip.specs.Chain.{IsSound};
-ghost use Rattle.ioam_ip.specs.Hop.{HopFits, hop_end, hop_stepped};
+ghost use Rattle.ioam_ip.specs.Hop.{hop_stepped};
 ghost use Rattle.ioam_ip.specs.Lowered.{lowered};
 ghost use Rattle.ioam_ip.specs.Packet.{IsPacket};
 ghost use Rattle.ioam_node.specs.declared.place.Place.{Place};
@@ -15,7 +15,7 @@ ghost use Rattle.ioam_audit.specs.Sent.{IsLeft, IsSentAs, end_of};
 use crate::options::agree;
 use crate::parts::is_same;
 use crate::sight::Sight;
-use ioam_ip::{HEADER_OCTETS, HOP_LIMIT, NEXT_HEADER};
+use ioam_ip::{HEADER_OCTETS, HOP_LIMIT, hop_header};
 use ioam_topo::{Domain, LinkId, NodeId};
 
 // Whether the IPv6 header of a packet is that of another with its hop limit, 2 or more, one less.
@@ -31,17 +31,6 @@ fn is_lowered(before: &[u8], after: &[u8]) -> bool
             &after[HOP_LIMIT + 1..HEADER_OCTETS],
             &before[HOP_LIMIT + 1..HEADER_OCTETS],
         )
-}
-
-// The place behind the Hop-by-Hop Options header.
-fn hop_end(packet: &[u8]) -> usize
-    requires fits { HopFits packet.now }
-    requires there { slice_index packet.now 6 ≡ 0 }
-    ensures value { result ≡ hop_end packet.now }
-    ensures order { 40 ≤ result }
-    ensures within { result ≤ length packet.now }
-{
-    HEADER_OCTETS + (usize::from(packet[HEADER_OCTETS + 1]) + 1) * 8
 }
 
 // Whether the options header up to a place is as the node may have left it, and all behind it as it was.
@@ -71,21 +60,21 @@ fn is_left_to(
 
 // Whether all behind the IPv6 header is as the node may have left it.
 fn is_left(domain: &Domain, node: NodeId, sight: Sight, before: &[u8], after: &[u8]) -> bool
-    requires fits { HopFits before.now }
+    requires packet { IsPacket before.now }
+    requires sound { IsSound before.now }
     requires same { length after.now ≡ length before.now }
     ensures { IsTrue result ↔ IsLeftBehind domain.now node.0 sight.hops sight.id sight.inward before.now after.now }
 {
-    let next = before[NEXT_HEADER];
-    if next != 0 {
-        return is_same(&after[HEADER_OCTETS..], &before[HEADER_OCTETS..]);
+    match hop_header(before) {
+        Some(hop) => is_left_to(domain, node, sight, before, after, hop.end),
+        None => is_same(&after[HEADER_OCTETS..], &before[HEADER_OCTETS..]),
     }
-    let end = hop_end(before);
-    is_left_to(domain, node, sight, before, after, end)
 }
 
 // The same of the whole packet.
 fn is_sent(domain: &Domain, node: NodeId, sight: Sight, before: &[u8], after: &[u8]) -> bool
-    requires { HopFits before.now }
+    requires packet { IsPacket before.now }
+    requires sound { IsSound before.now }
     ensures { IsTrue result ↔ ((length after.now ≡ length before.now) × IsLowered before.now after.now
         × IsLeftBehind domain.now node.0 sight.hops sight.id sight.inward before.now after.now) }
 {

@@ -1,3 +1,4 @@
+//! What is known of a node that sent a packet on, and so what an element that it added must say (RFC 9197 section 4.4).
 ghost use Rattle.std.specs.Prelude.{◌≡◌, ◌<◌, ◌^◌};
 
 /// What is known of a node that sent a packet on.

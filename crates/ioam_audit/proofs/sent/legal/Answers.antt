@@ -14,9 +14,6 @@ told : (domain : Domain) (node hops id inward others from by : ℕ) (before afte
 told domain node hops id inward others from by before after e f g is =
     subst (λ n. IsSentSo domain node n from by before after) e (subst (λ n. IsSentSo domain node hops n by before after) f (subst (λ n. IsSentSo domain node hops id n before after) g is))
 
-pub is_sent-requires : goal.is_sent-requires
-is_sent-requires c = HopFits-IsSound c.args.before.now c.requires.packet c.requires.sound
-
 pub returns-clause-legal : goal.returns-clause-legal
 returns-clause-legal c =
     let domain = c.args.domain.now in
