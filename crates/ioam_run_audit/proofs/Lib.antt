@@ -1,0 +1,6 @@
+mod FatesLaws
+mod LinesLaws
+mod LaneLaws
+mod PairLaws
+mod RunLaws
+mod VerdictLaws

@@ -1,0 +1,45 @@
+-- What becomes of each thing of one list, where those of another are taken in their order: a relation, since nothing has to
+-- decide of any two things whether one can have become the other.
+use Rattle.std.specs.Prelude.{◌≡◌, ⊤, ℕ, ◌+◌, List, [], ◌∷◌, drop}
+use Rattle.ioam_node.specs.declared.reason.Reason.{Reason}
+use Rattle.ioam_run_audit.specs.declared.fate.Fate.{Fate}
+use Rattle.ioam_run_audit.specs.declared.fate.Fate.TheVariants.{Sent, Gone, Skipped}
+
+-- the number of the next thing of the second list, and that list, behind a thing of the first that became so
+abbrev pub number_behind : ℕ → Fate → ℕ
+number_behind number (Sent m) = number + 1
+number_behind number Gone = number
+number_behind number (Skipped why) = number
+
+abbrev pub numbers_behind : ℕ → List Fate → ℕ
+numbers_behind number [] = number
+numbers_behind number (fate ∷ fates) = numbers_behind (number_behind number fate) fates
+
+abbrev pub left_behind : {A : Type 0} → Fate → List A → List A
+left_behind (Sent m) ys = drop 1 ys
+left_behind Gone ys = ys
+left_behind (Skipped why) ys = ys
+
+module _ {B A : Type 0} (Skips : B → Reason → Type 0) (Fits : B → Type 0) (Becomes : B → A → Type 0) where
+  -- the next thing of the second list can be this one, or can't
+  abbrev pub IsNext : B → List A → Type 0
+  IsNext b [] = ⊥
+  IsNext b (a ∷ ys) = Becomes b a
+
+  abbrev pub IsNotNext : B → List A → Type 0
+  IsNotNext b [] = ⊤
+  IsNotNext b (a ∷ ys) = Becomes b a → ⊥
+
+  -- what becomes of a thing, where the next of the second list has this number: it is skipped, and why; or it is the next; or it
+  -- is gone, since the next can't be this one
+  abbrev pub IsFate : ℕ → B → List A → Fate → Type 0
+  IsFate number b ys (Skipped why) = Skips b why
+  IsFate number b ys Gone = Fits b × IsNotNext b ys
+  IsFate number b ys (Sent m) = (m ≡ number) × IsNext b ys
+
+  -- what becomes of all of them, and what is left of the second list behind them
+  abbrev pub AreFates : ℕ → List B → List A → List Fate → List A → Type 0
+  AreFates number [] ys [] rest = rest ≡ ys
+  AreFates number [] ys (fate ∷ fates) rest = ⊥
+  AreFates number (b ∷ bs) ys [] rest = ⊥
+  AreFates number (b ∷ bs) ys (fate ∷ fates) rest = IsFate number b ys fate × AreFates (number_behind number fate) bs (left_behind fate ys) fates rest

@@ -1,0 +1,90 @@
+//! What is answered behind both captures, and what stands behind the lines then.
+ghost use Rattle.std.specs.Prelude.{◌≡◌, ◌<◌, ◌≤◌, ◌+◌, ◌^◌, ◌⊎◌, ◌∷◌, ◌++◌, [], List, ℕ, IfErr, IsTrue, OnOk, length};
+ghost use Rattle.ioam_desk.specs.Asked.{IsFaultOf};
+ghost use Rattle.ioam_desk.specs.Kept.{WritesFrom};
+ghost use Rattle.ioam_desk_outputs.specs.Held.{HoldAllFronts, HoldTexts};
+ghost use Rattle.ioam_desk_outputs.specs.Told.{AreOpen, AreTold, said_more};
+ghost use Rattle.ioam_run_answer.specs.declared.outcome.Outcome.{Outcome};
+ghost use Rattle.ioam_run_audit.specs.Runs.{answer_of, behind_of, left_of};
+
+use crate::counts::Counts;
+use crate::files::AuditFiles;
+use crate::lane::{End, MOST_PACKETS};
+use crate::lines::{put_sums, put_verdict};
+use ioam_base::memory::NoMemory;
+use ioam_desk::{Desk, DeskFault};
+use ioam_desk_outputs::{Output, finish};
+use ioam_run_answer::{Outcome, capture_outcome};
+use std::alloc::Global;
+
+/// The answer where BEFORE and AFTER end so: what is wrong with BEFORE comes before what is wrong with AFTER.
+pub(crate) fn answer(alloc: Global, files: &AuditFiles<'_>, before: End, after: End) -> Outcome
+    ensures { (result ≡ answer_of files.now.before.now files.now.after.now before after) ⊎ (result ≡ Outcome.NoMemory) }
+{
+    match (before, after) {
+        (End::Bad { at, fault }, _) => capture_outcome(alloc, files.before, at, fault),
+        (End::Limit, _) | (End::Whole, End::Limit) => Outcome::Packets {
+            limit: MOST_PACKETS,
+        },
+        (End::Whole, End::Bad { at, fault }) => capture_outcome(alloc, files.after, at, fault),
+        (End::Whole, End::Whole) => Outcome::Done,
+    }
+}
+
+/// The number of the first packet of AFTER that is left, of so many that were taken.
+pub(crate) fn left_of(counts: Counts, taken: u32) -> Option<u32>
+    requires some { counts.sent ≤ taken }
+    requires few { taken ≤ 16777216 }
+    ensures { result ≡ left_of counts.sent taken }
+{
+    if taken == counts.sent {
+        None
+    } else {
+        Some(counts.sent + 1)
+    }
+}
+
+// Adds the sums, and the verdict if there is one.
+fn put_behind(
+    counts: Counts,
+    verdict: Option<Option<u32>>,
+    out: &mut Vec<u8>,
+) -> Result<(), NoMemory>
+    requires { counts.sent + counts.gone + counts.skipped < 2 ^ 32 }
+    ensures { OnOk result (out.new.items ≡ out.old.items ++ behind_of counts verdict) }
+{
+    put_sums(counts, out)?;
+    match verdict {
+        Some(left) => put_verdict(left, out),
+        None => Ok(()),
+    }
+}
+
+/// Adds the sums, and the verdict if there is one, and writes all that is gathered.
+pub(crate) fn close<D: Desk>(
+    counts: Counts,
+    verdict: Option<Option<u32>>,
+    outputs: &mut [Output],
+    desk: &mut D,
+) -> Result<(), DeskFault>
+    requires open { AreOpen (D.writing desk.old) outputs.old }
+    requires width { length outputs.old ≡ 1 }
+    requires few { counts.sent + counts.gone + counts.skipped < 2 ^ 32 }
+    ensures texts { OnOk result (IsTrue D.tells → (slot : ℕ) (names texts : List (List ℕ))
+        → AreTold D.tells (D.writing desk.old) slot names outputs.old texts
+        → HoldTexts (D.writing desk.new) names (said_more texts (behind_of counts verdict ∷ []))) }
+    ensures fronts { IsTrue D.tells → (slot : ℕ) (names texts : List (List ℕ))
+        → AreTold D.tells (D.writing desk.old) slot names outputs.old texts
+        → HoldAllFronts (D.writing desk.new) names (said_more texts (behind_of counts verdict ∷ [])) }
+    ensures cause { IfErr result (IsFaultOf (D.writing desk.old).side (D.writing desk.new).side) }
+    ensures asked { (D.writing desk.new).side.asked ≡ (D.writing desk.old).side.asked }
+    ensures slots { (D.writing desk.new).side.slots ≡ (D.writing desk.old).side.slots }
+    ensures kept { (slot : ℕ) (names texts : List (List ℕ)) → AreTold D.tells (D.writing desk.old) slot names outputs.old texts
+        → WritesFrom slot (D.writing desk.old) (D.writing desk.new) }
+    ensures inputs { D.reading desk.new ≡ D.reading desk.old }
+{
+    match put_behind(counts, verdict, &mut outputs[0].gathered) {
+        Ok(()) => finish(desk, outputs),
+        Err(NoMemory) => Err(DeskFault::NoMemory),
+    }
+}
