@@ -1,13 +1,12 @@
 -- A part that is read in pieces.
-use Rattle.std.proofs.Common.{◌≡◌, ℕ, ◌+◌, ◌-◌, ◌<◌, ◌≤◌, Bool, true, false, List, [], ◌∷◌, ◌++◌, length, length-append, length-take, take, drop, All, append_assoc, refl, sym, ap, ap₂, ◌∙◌, subst, arith, ◌⊎◌, inl, inr, Option, None, Some}
+use Rattle.std.proofs.Common.{◌≡◌, ℕ, ◌+◌, ◌*◌, ◌-◌, ◌<◌, ◌≤◌, Bool, true, false, List, [], ◌++◌, length, length-append, length-take, take, drop, append_assoc, refl, sym, ap, ap₂, ◌∙◌, subst, arith, ◌⊎◌, inl, inr, Option, None, Some}
 use Rattle.std.specs.Prelude.{is_some, min, Result, Ok, Err, IfOk}
 use Rattle.std.proofs.lemmas.Bool.Decides.{nat_tests}
 use Rattle.std.proofs.lemmas.List.{append-nil, take-append-drop, take_all}
 use Rattle.std.proofs.lemmas.List.Elements.{All-nil}
 use Rattle.ioam_base.specs.Octets.{u32_at}
-use Rattle.ioam_base.specs.Words.{four_octets}
 use Rattle.ioam_dex.specs.Faults.{IsCut}
-use Rattle.ioam_dex.specs.Record.{Record, IsRecord}
+use Rattle.ioam_dex.specs.Record.{Record}
 use Rattle.ioam_dex.specs.Reader as dex
 use Rattle.ioam_dex.specs.Reading.{Reading}
 use Rattle.ioam_dex.specs.Reads.{records_octets}
@@ -15,9 +14,9 @@ use Rattle.ioam_dex.specs.Visit.{has_visit, twelve_where}
 use Rattle.ioam_dex.proofs.RecordLaws.{numbers_size-small}
 use Rattle.ioam_collect.specs.Collected as collected
 use Rattle.ioam_collect.specs.Collected.{Collected, count_kept}
-use Rattle.ioam_part.specs.Part.{mark, most_records, head_octets, HasKey, AreInOrder, IsPart}
-use Rattle.ioam_part.specs.Faults.{Reaches, HasFaultBehind, IsBehindHead, HasFault}
-use Rattle.ioam_part.specs.Reading.{PartReading, Holds, Took, Rests, IsOpen, IsBehind, StandsBy, Stands, IsReadAs, FoundBehind, Stops}
+use Rattle.ioam_part.specs.Part.{most_records, head_octets, HasKey, IsPart}
+use Rattle.ioam_part.specs.Faults.{Reaches, IsBehindHead, HasFault}
+use Rattle.ioam_part.specs.Reading.{PartReading, Holds, Took, IsOpen, IsBehind, StandsBy, Stands, IsReadAs, FoundBehind, HoldsFew, Stops}
 use Rattle.ioam_part.specs.declared.fault.PartFault.{PartFault}
 use Rattle.ioam_part.specs.declared.fault.PartFault.TheVariants as fault
 use Rattle.ioam_part.specs.declared.progress.Progress.{Progress}
@@ -231,6 +230,20 @@ cut_few octets (inr (inr sized)) =
     let visit = twelve_small (has_visit (Rattle.std.specs.Prelude.slice_index octets 0)) in
     let numbers = numbers_size-small (Rattle.std.specs.Prelude.slice_index octets 1) in
     omega arith
+
+-- no more octets are kept than twice as many as are pending, and some
+took_few : (count limit : ℕ) (body : List ℕ) (xs : List Record) (reading : Reading) (p : Progress) → Took count limit body xs reading p
+    → length reading.pending < 274 → dex.held reading < 4 * 274 + 32768
+took_few count limit body xs reading p took small = let few = took.stands.few in omega (arith, few, small)
+
+pub keeps_few : (limit : ℕ) (octets : List ℕ) (r : PartReading) → Stands limit octets r → HoldsFew r
+keeps_few limit octets r stands none = elim (sound limit octets r none stands) [
+  | inl opened ↦
+      let took = opened.took 0 in
+      let pending : length r.reading.pending ≡ 0 = sym (ap length took.stands.splits.is) in
+      took_few 0 limit [] [] r.reading r.progress took (omega (arith, pending))
+  | inr b ↦ took_few b.count limit b.body b.records r.reading r.progress b.took (cut_few r.reading.pending b.rests.waits)
+]
 
 -- a number of 32 bits, of more
 pub kept_small : (x most n : ℕ) → n ≡ min x most → most ≡ 4294967295 → x < 4294967296 → n ≡ x

@@ -1,5 +1,5 @@
 -- A part that is read in pieces.
-use Rattle.std.specs.Prelude.{◌≡◌, ℕ, ◌+◌, ◌<◌, ◌≤◌, ◌⊎◌, min, Bool, true, false, List, [], ◌∷◌, ◌++◌, length, Option, Some, None, Result, Ok, Err, ⊤}
+use Rattle.std.specs.Prelude.{◌≡◌, ℕ, ◌+◌, ◌<◌, ◌≤◌, ◌⊎◌, min, Bool, true, false, List, [], ◌∷◌, ◌++◌, length, Option, Some, None, ⊤, ◌*◌}
 use Rattle.ioam_dex.specs.Faults.{IsCut}
 use Rattle.ioam_dex.specs.Record.{Record, record_octets}
 use Rattle.ioam_dex.specs.Reading.{Reading}
@@ -75,6 +75,10 @@ fed r = dex.fed r.reading
 -- the fault that was found, if any
 abbrev pub fault_of : PartReading → Option (ℕ × PartFault)
 fault_of r = r.progress.fault
+
+-- where no fault was found it keeps fewer octets than four of the greatest records and half a piece have
+abbrev pub HoldsFew : PartReading → Type 0
+HoldsFew r = fault_of r ≡ None → dex.held r.reading < 4 * 274 + 32768
 
 -- the collector stands for the records of the part
 abbrev pub IsReadAs : ℕ → List ℕ → Collected → Type 0

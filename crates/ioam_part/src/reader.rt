@@ -24,7 +24,8 @@ pub enum PartRefused {
     NoMemory,
 }
 
-/// Reads a part out of any pieces of it. It keeps the collector that it reads, and less than a record of the octets.
+/// Reads a part out of any pieces of it. It keeps the collector that it reads, less than a record of the octets that are not
+/// yet read, and of those that are few.
 #[derive(Drop)]
 pub struct PartReader {
     head: Buffer,
@@ -45,7 +46,7 @@ impl Model for PartReader {
 
 impl PartReader {
     ghost use Rattle.ioam_dex.specs.Reader as dex;
-    ghost use Rattle.ioam_part.specs.Reading.{IsReadAs, RefusedBy, Stands, fault_of, fed};
+    ghost use Rattle.ioam_part.specs.Reading.{HoldsFew, IsReadAs, RefusedBy, Stands, fault_of, fed};
 
     /// A reader that was fed nothing, of a part of at most so many records, below 2^31.
     pub fn new(alloc: Global, limit: u32) -> Result<PartReader, NoMemory>
@@ -78,8 +79,9 @@ impl PartReader {
     /// stays as it is.
     pub fn feed(self, piece: &[u8]) -> Result<PartReader, NoMemory>
         requires { fed self + length piece.now < 2 ^ 63 }
-        ensures { IfOk result (λ reader. (limit : ℕ) (octets : List ℕ) → Stands limit octets self
+        ensures stands { IfOk result (λ reader. (limit : ℕ) (octets : List ℕ) → Stands limit octets self
             → Stands limit (octets ++ piece.now) reader) }
+        ensures few { IfOk result (λ reader. (limit : ℕ) (octets : List ℕ) → Stands limit octets self → HoldsFew reader) }
     {
         let mut reader = self;
         reader.take_in(piece)?;
