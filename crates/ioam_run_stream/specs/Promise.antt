@@ -15,8 +15,6 @@ use Rattle.ioam_run_answer.specs.Outcomes.{IsDone, IsBehindAll, OpensNothing}
 use Rattle.ioam_run_answer.specs.declared.outcome.Outcome.{Outcome}
 use Rattle.ioam_run_answer.specs.declared.outcome.Outcome.TheVariants as outcome
 
--- ---- its files
-
 -- IN, and the outputs in their order
 pub record CaptureNames : Type 0 where
   pub input : List ℕ
@@ -29,8 +27,6 @@ capture_names words = record { input = name_at words 1; outputs = drop 2 words }
 -- all, in the order in which equal ones are looked for
 abbrev pub all_names : CaptureNames → List (List ℕ)
 all_names files = files.input ∷ files.outputs
-
--- ---- what IN may be
 
 -- the most records of IN that are taken
 abbrev pub most_packets : ℕ
@@ -70,8 +66,6 @@ module _ (desks : Desks) (files : CaptureNames) where
   HasCause outcome.WriteFault = Rose desks.old.side.faults desks.new.side.faults
   HasCause outcome.NoMemory = ⊤
   HasCause answer = Asked answer
-
--- ---- which records of IN the outputs tell of
 
 -- the octets read as these records, and end so
 abbrev pub EndsSo : Ending → List Taken → List ℕ → Type 0
@@ -131,8 +125,6 @@ module _ (most : ℕ) (Texts : List Taken → List (List ℕ) → Type 0) (outpu
     Leaves outcome.NoMemory = (new ≡ old) ⊎ IsSomeAnd (holds old input) (HoldsFronts old new)
     Leaves (outcome.Names name) = new ≡ old
     Leaves _ = ⊥
-
--- ---- the promise
 
 module _ (Texts : List Taken → List (List ℕ) → Type 0) (desks : Desks) (files : CaptureNames) where
   pub record Keeps (answer : Outcome) : Type 0 where
