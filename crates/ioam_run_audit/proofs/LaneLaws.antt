@@ -11,7 +11,7 @@ use Rattle.ioam_desk.specs.declared.fault.DeskFault.TheVariants.{Failed, NoMemor
 use Rattle.ioam_pcap.specs.Ending.{Ending, Faulty}
 use Rattle.ioam_pcap.specs.Entries.{Taken}
 use Rattle.ioam_pcap.specs.declared.capture.CapFault.{CapFault}
-use Rattle.ioam_run_stream.specs.Run.{EndsSo, AreFirst, ArePassed}
+use Rattle.ioam_run_stream.specs.Promise.{EndsSo, AreFirst, ArePassed}
 use Rattle.ioam_run_stream.proofs.HaltsLaws.{held_so}
 use Rattle.ioam_run_stream.proofs.OnwardLaws.{given_first}
 use Rattle.ioam_run_stream.proofs.StepLaws.{same_most}

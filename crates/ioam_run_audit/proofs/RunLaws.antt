@@ -13,7 +13,7 @@ use Rattle.ioam_desk_outputs.proofs.ToldLaws.{AreTold-adds}
 use Rattle.ioam_node.specs.declared.reason.Reason.{Reason}
 use Rattle.ioam_pcap.specs.Ending.{Whole, Faulty}
 use Rattle.ioam_pcap.specs.Entries.{Taken}
-use Rattle.ioam_run_stream.specs.Run.{AreFirst}
+use Rattle.ioam_run_stream.specs.Promise.{AreFirst}
 use Rattle.ioam_run_stream.proofs.HaltsLaws.{held_map}
 use Rattle.ioam_run_stream.proofs.StopsLaws.{begins_ends, begins_passed}
 use Rattle.ioam_run_audit.specs.Fit.{Place}

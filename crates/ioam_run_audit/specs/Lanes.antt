@@ -11,7 +11,7 @@ use Rattle.ioam_node.specs.declared.reason.Reason.{Reason}
 use Rattle.ioam_node.specs.declared.reason.Reason.TheVariants as reason
 use Rattle.ioam_pcap.specs.Ending.{Whole, Faulty}
 use Rattle.ioam_pcap.specs.Entries.{Taken}
-use Rattle.ioam_run_stream.specs.Run.{EndsSo, ArePassed}
+use Rattle.ioam_run_stream.specs.Promise.{EndsSo, ArePassed}
 use Rattle.ioam_run_audit.specs.Fit.{HoldsPacket, HasReason}
 use Rattle.ioam_run_audit.specs.declared.lane.End.{End}
 use Rattle.ioam_run_audit.specs.declared.lane.End.TheVariants as end

@@ -11,7 +11,7 @@ use Rattle.ioam_pcap.specs.Ending.{Whole}
 use Rattle.ioam_pcap.specs.Entries.{Taken}
 use Rattle.ioam_run_answer.specs.declared.outcome.Outcome.{Outcome}
 use Rattle.ioam_run_answer.specs.declared.outcome.Outcome.TheVariants as outcome
-use Rattle.ioam_run_stream.specs.Run.{AreFirst, EndsSo}
+use Rattle.ioam_run_stream.specs.Promise.{AreFirst, EndsSo}
 use Rattle.ioam_run_audit.specs.Fit.{Place}
 use Rattle.ioam_run_audit.specs.Lines.{BecomeOf, lines_of, report_of, sums_of, verdict_as, verdict_of}
 use Rattle.ioam_run_audit.specs.Pairs.{Ended, Pairs, ReadsTwo, Start, sums_as}
