@@ -1,10 +1,17 @@
 -- Which options a node may change.
-use Rattle.std.proofs.Common.{◌≡◌, ℕ, ◌≤◌, Bool, true, false, eqb, leb, ◌&&◌, List, length, slice_index, arith}
+use Rattle.std.proofs.Common.{◌≡◌, ℕ, ◌≤◌, Bool, true, false, eqb, leb, ◌&&◌, IsTrue, List, length, slice_index, arith, refl, sym}
 use Rattle.std.proofs.lemmas.Bool.{and_parts}
 use Rattle.std.proofs.lemmas.Bool.Decides.{nat_tests}
 use Rattle.ioam_node_visit.specs.Step.{adds, knows, space_in}
 use Rattle.ioam_topo.specs.declared.domain.Domain.{Domain}
 use Rattle.ioam_audit.specs.Sent.{is_changing}
+
+-- two tests that decide the same are one
+pub same_test : (s t : Bool) → (IsTrue s → IsTrue t) → (IsTrue t → IsTrue s) → s ≡ t
+same_test true true there back = refl
+same_test true false there back = sym (there refl)
+same_test false true there back = back refl
+same_test false false there back = refl
 
 all_true : (a b : Bool) → a ≡ true → b ≡ true → (a && b) ≡ true
 all_true true b first second = second

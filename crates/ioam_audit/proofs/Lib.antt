@@ -5,14 +5,11 @@ pub mod ChangesLaws
 pub mod ChangingLaws
 pub mod CheckLaws
 pub mod DataLaws
-pub mod FatesLaws
 pub mod LawfulLaws
 pub mod LeftLaws
 pub mod MatchLaws
-pub mod MatchingLaws
 pub mod NoneLaws
 pub mod PartsLaws
-pub mod ReportLaws
 pub mod SentLaws
 pub mod ShapeLaws
 pub mod SizeLaws

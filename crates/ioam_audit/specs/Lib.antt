@@ -1,11 +1,8 @@
 pub mod Becomes
 pub mod Changed
 pub mod Decided
-pub mod Fates
 pub mod Free
 pub mod Header
 pub mod Lawful
-pub mod Matching
 pub mod Parts
-pub mod Report
 pub mod Sent

@@ -7,7 +7,6 @@ mod data;
 mod fit;
 mod lawful;
 mod left;
-pub mod matching;
 mod options;
 mod parts;
 mod sent;

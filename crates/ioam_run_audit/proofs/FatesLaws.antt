@@ -1,12 +1,11 @@
 -- What becomes of things, one after the other.
 use Rattle.std.proofs.Common.{◌≡◌, ◌↔◌, inl, inr, ℕ, ◌+◌, List, [], ◌∷◌, ◌++◌, length, refl, sym, ap, ◌∙◌, subst, arith}
 use Rattle.std.specs.List.{AllByRecursion}
-use Rattle.ioam_audit.specs.Matching.{IsSentOn}
-use Rattle.ioam_audit.proofs.MatchingLaws.{Embeds, fewer_after, from_map, to_map}
 use Rattle.ioam_node.specs.declared.reason.Reason.{Reason}
-use Rattle.ioam_run_audit.specs.Fates.{AreFates, IsFate, number_behind, numbers_behind, left_behind}
+use Rattle.ioam_run_audit.specs.Fates.{AreFates, IsFate, number_behind, numbers_behind, left_behind, IsSentOn}
 use Rattle.ioam_run_audit.specs.declared.fate.Fate.{Fate}
 use Rattle.ioam_run_audit.specs.declared.fate.Fate.TheVariants.{Sent, Gone, Skipped}
+use Rattle.ioam_run_audit.proofs.MapLaws.{Embeds, fewer_after, from_map, to_map}
 
 -- how many were sent on
 abbrev pub sent_count : List Fate → ℕ

@@ -1,3 +1,4 @@
+mod MapLaws
 mod FatesLaws
 mod LinesLaws
 mod LaneLaws

@@ -1,7 +1,6 @@
 -- One line more.
 use Rattle.std.proofs.Common.{◌≡◌, ℕ, ◌+◌, List, [], ◌∷◌, ◌++◌, length, refl, sym, ap, ◌∙◌, arith, append_assoc, append-nil}
-use Rattle.ioam_audit.specs.Report.{Sums}
-use Rattle.ioam_run_audit.specs.Lines.{line_of, lines_of, sums_of, with_fate}
+use Rattle.ioam_run_audit.specs.Lines.{line_of, lines_of, sums_of, with_fate, Sums}
 use Rattle.ioam_run_audit.specs.declared.fate.Fate.{Fate}
 use Rattle.ioam_run_audit.specs.declared.fate.Fate.TheVariants.{Sent, Gone, Skipped}
 use Rattle.ioam_run_audit.proofs.FatesLaws.{sent_count, number_is}

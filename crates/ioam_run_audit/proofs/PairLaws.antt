@@ -1,7 +1,6 @@
 -- What becomes of one packet more of BEFORE.
 use Rattle.std.proofs.Common.{◌≡◌, ℕ, ◌+◌, ◌<◌, Bool, IsTrue, List, [], ◌∷◌, ◌++◌, length, Option, Some, None, refl, sym, ap, ◌∙◌, subst, inl, inr, arith, length-append, append-nil, append_assoc}
 use Rattle.std.specs.Prelude.{Result, Ok, Err, IfOk, slice_get}
-use Rattle.ioam_audit.specs.Report.{Sums}
 use Rattle.ioam_audit.specs.Sent.{IsSentAs, end_of}
 use Rattle.ioam_desk.specs.Desk as desk
 use Rattle.ioam_ip.specs.Chain.{IsSound}
@@ -14,7 +13,7 @@ use Rattle.ioam_topo.specs.Domain.{links}
 use Rattle.ioam_run_audit.specs.Fates.{IsFate, IsNext, IsNotNext, numbers_behind, left_behind}
 use Rattle.ioam_run_audit.specs.Fit.{CameFrom, HasReason, HoldsPacket, IsFit, Place}
 use Rattle.ioam_run_audit.specs.Lanes.{AtLane, IsHeld, IsOver, ReadsAlone, NextOf, RestOf}
-use Rattle.ioam_run_audit.specs.Lines.{BecomeOf, sums_of, with_fate}
+use Rattle.ioam_run_audit.specs.Lines.{BecomeOf, sums_of, with_fate, Sums}
 use Rattle.ioam_run_audit.specs.Pairs.{AfterIs, Due, Ended, FateOf, IsLegal, MayCome, Over, PairComes, Pairs, ReadsTwo, Start, pair_behind, sums_as}
 use Rattle.ioam_run_audit.specs.declared.fate.Fate.{Fate}
 use Rattle.ioam_run_audit.specs.declared.fate.Fate.TheVariants.{Sent, Gone, Skipped}

@@ -1,6 +1,5 @@
 -- What REPORT is told, and what it holds where nothing more is.
 use Rattle.std.proofs.Common.{◌≡◌, ℕ, ◌+◌, ◌≤◌, Bool, true, IsTrue, IsSomeAnd, List, [], ◌∷◌, ◌++◌, length, Option, refl, sym, ap, ◌∙◌, subst, inl, append-nil}
-use Rattle.ioam_audit.specs.Report.{sums_line}
 use Rattle.ioam_desk.specs.Desk as desk
 use Rattle.ioam_desk.specs.Desk.{Rose, Writing}
 use Rattle.ioam_desk.specs.Kept.{WritesFrom}
@@ -18,7 +17,7 @@ use Rattle.ioam_run_stream.proofs.HaltsLaws.{held_map}
 use Rattle.ioam_run_stream.proofs.StopsLaws.{begins_ends, begins_passed}
 use Rattle.ioam_run_audit.specs.Fit.{Place}
 use Rattle.ioam_run_audit.specs.Lanes.{EndsBy}
-use Rattle.ioam_run_audit.specs.Lines.{BecomeOf, line_of, lines_of, sums_of}
+use Rattle.ioam_run_audit.specs.Lines.{BecomeOf, line_of, lines_of, sums_of, sums_line}
 use Rattle.ioam_run_audit.specs.Pairs.{AfterIs, Due, Ended, FateOf, MayCome, Pairs, ReadsTwo, Start, pair_behind, sums_as}
 use Rattle.ioam_run_audit.specs.Runs.{Closed, Halted, IsTold, Matched, Moves, Running, Sticks, StopsBy}
 use Rattle.ioam_run_audit.specs.declared.counts.Counts.{Counts}

@@ -1,11 +1,10 @@
 -- What the verdict says.
 use Rattle.std.proofs.Common.{◌≡◌, ◌↔◌, ℕ, List, [], ◌∷◌, refl, ap}
 use Rattle.std.specs.List.{AllByRecursion}
-use Rattle.ioam_audit.specs.Matching.{IsSentOn}
-use Rattle.ioam_audit.specs.Report.{Yes}
 use Rattle.ioam_pcap.specs.Entries.{Taken}
+use Rattle.ioam_run_audit.specs.Fates.{IsSentOn}
 use Rattle.ioam_run_audit.specs.Fit.{CameFrom, HasReason, IsFit, Place}
-use Rattle.ioam_run_audit.specs.Lines.{BecomeOf, sums_of, verdict_of}
+use Rattle.ioam_run_audit.specs.Lines.{BecomeOf, sums_of, verdict_of, Yes}
 use Rattle.ioam_run_audit.specs.declared.fate.Fate.{Fate}
 use Rattle.ioam_run_audit.proofs.FatesLaws.{none_left_map}
 use Rattle.ioam_run_audit.proofs.PairLaws.{came_fit, skipped_apart}

@@ -1,6 +1,6 @@
 -- What becomes of each thing of one list, where those of another are taken in their order: a relation, since nothing has to
 -- decide of any two things whether one can have become the other.
-use Rattle.std.specs.Prelude.{◌≡◌, ⊤, ℕ, ◌+◌, List, [], ◌∷◌, drop}
+use Rattle.std.specs.Prelude.{◌≡◌, ⊤, ℕ, ◌+◌, ◌<◌, List, [], ◌∷◌, length, drop, Some, slice_get, IsSomeAnd}
 use Rattle.ioam_node.specs.declared.reason.Reason.{Reason}
 use Rattle.ioam_run_audit.specs.declared.fate.Fate.{Fate}
 use Rattle.ioam_run_audit.specs.declared.fate.Fate.TheVariants.{Sent, Gone, Skipped}
@@ -43,3 +43,9 @@ module _ {B A : Type 0} (Skips : B → Reason → Type 0) (Fits : B → Type 0) 
   AreFates number [] ys (fate ∷ fates) rest = ⊥
   AreFates number (b ∷ bs) ys [] rest = ⊥
   AreFates number (b ∷ bs) ys (fate ∷ fates) rest = IsFate number b ys fate × AreFates (number_behind number fate) bs (left_behind fate ys) fates rest
+
+-- a strictly increasing map takes each thing of the second list to one of the first that can have become it
+pub record IsSentOn {B A : Type 0} (Becomes : B → A → Type 0) (before : List B) (after : List A) : Type 0 where
+  pub place : ℕ → ℕ
+  pub rises : (i j : ℕ) → i < j → j < length after → place i < place j
+  pub each : (i : ℕ) (a : A) → slice_get after i ≡ Some a → IsSomeAnd (slice_get before (place i)) (λ b. Becomes b a)

@@ -1,6 +1,5 @@
 -- The two captures, read side by side: what became of the packets of BEFORE that were taken, by those of AFTER.
 use Rattle.std.specs.Prelude.{◌≡◌, ⊤, ℕ, ◌+◌, Bool, List, [], ◌∷◌, ◌++◌, Option, Some, None, slice_get}
-use Rattle.ioam_audit.specs.Report.{Sums}
 use Rattle.ioam_audit.specs.Sent.{IsSentAs, end_of}
 use Rattle.ioam_desk.specs.Desk as desk
 use Rattle.ioam_desk.specs.Desk.{Writing}
@@ -9,7 +8,7 @@ use Rattle.ioam_pcap.specs.Entries.{Taken}
 use Rattle.ioam_topo.specs.Domain.{links}
 use Rattle.ioam_run_audit.specs.Fit.{HoldsPacket, HasReason, Place}
 use Rattle.ioam_run_audit.specs.Lanes.{AtLane, IsHeld, IsOver}
-use Rattle.ioam_run_audit.specs.Lines.{BecomeOf, sums_of}
+use Rattle.ioam_run_audit.specs.Lines.{BecomeOf, sums_of, Sums}
 use Rattle.ioam_run_audit.specs.declared.counts.Counts.{Counts}
 use Rattle.ioam_run_audit.specs.declared.fate.Fate.{Fate}
 use Rattle.ioam_run_audit.specs.declared.fate.Fate.TheVariants.{Sent, Gone, Skipped}

@@ -1,6 +1,5 @@
 -- A run whose files were opened: REPORT is told the lines of the packets of BEFORE, one after the other.
 use Rattle.std.specs.Prelude.{◌≡◌, ◌⊎◌, ℕ, ◌+◌, ◌≤◌, Bool, true, ◌==◌, if◌then◌else◌, IsTrue, IsSomeAnd, List, [], ◌∷◌, ◌++◌, length, Option, Some, None, Result, Ok, Err}
-use Rattle.ioam_audit.specs.Report.{sums_line, verdict_line}
 use Rattle.ioam_desk.specs.Desk as desk
 use Rattle.ioam_desk.specs.Desk.{Writing, Rose}
 use Rattle.ioam_desk.specs.Kept.{WritesFrom}
@@ -13,7 +12,7 @@ use Rattle.ioam_run_answer.specs.declared.outcome.Outcome.{Outcome}
 use Rattle.ioam_run_answer.specs.declared.outcome.Outcome.TheVariants as outcome
 use Rattle.ioam_run_stream.specs.Promise.{AreFirst, EndsSo}
 use Rattle.ioam_run_audit.specs.Fit.{Place}
-use Rattle.ioam_run_audit.specs.Lines.{BecomeOf, lines_of, report_of, sums_of, verdict_as, verdict_of}
+use Rattle.ioam_run_audit.specs.Lines.{BecomeOf, lines_of, report_of, sums_of, verdict_as, verdict_of, sums_line, verdict_line}
 use Rattle.ioam_run_audit.specs.Pairs.{Ended, Pairs, ReadsTwo, Start, sums_as}
 use Rattle.ioam_run_audit.specs.declared.counts.Counts.{Counts}
 use Rattle.ioam_run_audit.specs.declared.fate.Fate.{Fate}

@@ -1,7 +1,6 @@
 //! The lines of REPORT.
 ghost use Rattle.std.specs.Prelude.{◌≡◌, ◌+◌, ◌<◌, ◌^◌, ◌++◌, OnOk, decimal};
-ghost use Rattle.ioam_audit.specs.Report.{sums_line, verdict_line};
-ghost use Rattle.ioam_run_audit.specs.Lines.{line_of, verdict_as};
+ghost use Rattle.ioam_run_audit.specs.Lines.{line_of, verdict_as, sums_line, verdict_line};
 ghost use Rattle.ioam_run_audit.specs.Pairs.{sums_as};
 
 use crate::counts::Counts;

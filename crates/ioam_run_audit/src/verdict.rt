@@ -1,11 +1,10 @@
 //! What the verdict says.
 ghost use Rattle.std.specs.Prelude.{◌≡◌, ◌↔◌, List};
 ghost use Rattle.std.specs.List.{AllByRecursion};
-ghost use Rattle.ioam_audit.specs.Matching.{IsSentOn};
-ghost use Rattle.ioam_audit.specs.Report.{Yes};
 ghost use Rattle.ioam_pcap.specs.Entries.{Taken};
+ghost use Rattle.ioam_run_audit.specs.Fates.{IsSentOn};
 ghost use Rattle.ioam_run_audit.specs.Fit.{CameFrom, IsFit, Place};
-ghost use Rattle.ioam_run_audit.specs.Lines.{BecomeOf, sums_of, verdict_of};
+ghost use Rattle.ioam_run_audit.specs.Lines.{BecomeOf, sums_of, verdict_of, Yes};
 ghost use Rattle.ioam_run_audit.specs.declared.fate.Fate.{Fate};
 
 /// A law: where each packet of BEFORE takes the next packet of AFTER that the node can have made of it, the verdict is yes exactly

@@ -83,7 +83,7 @@ module _ (desk : Writing) (files : RunNames) where
     pub begin : FilesBegin (contents domain) taken
     pub many : domain.packets < length taken
 
-  -- What the files and the files ask for, where nothing fails: the first of the refusals in their
+  -- What the names and the files ask for, where nothing fails: the first of the refusals in their
   -- order whose condition holds, or Done.
   abbrev pub Asked : Outcome → Type 0
   Asked (outcome.Domain fault) = HasDomainFault desk files.domain files.readings fault
@@ -97,7 +97,7 @@ module _ (desk : Writing) (files : RunNames) where
   Asked outcome.Done = (domain : Domain) × (readings : List (List Sample)) × IsReady domain readings × Arrives domain turn.Over
   Asked _ = ⊥
 
--- the files that the files name differ, where the captures were looked at; so much is known of real
+-- the files that the words name differ, where the captures were looked at; so much is known of real
 -- files too
 abbrev pub HaveDiffered : RunNames → Outcome → Type 0
 HaveDiffered files outcome.Done = AreApart (word_files files)

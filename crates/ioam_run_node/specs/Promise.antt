@@ -121,7 +121,7 @@ module _ (files : NodeNames) where
     abbrev pub HasInput : (ℕ → List ℕ → Type 0) → Type 0
     HasInput IsSo = (seat : Seat) × IsReady seat × IsSomeAnd (holds desk files.input) (IsSo seat.domain.packets)
 
-    -- What the files and the files ask for, where nothing fails: the first of the refusals in their order whose condition
+    -- What the names and the files ask for, where nothing fails: the first of the refusals in their order whose condition
     -- holds, or Done.
     abbrev pub Asked : Outcome → Type 0
     Asked (outcome.Domain fault) = HasDomainFault desk files.domain files.readings fault
@@ -209,7 +209,7 @@ module _ (files : NodeNames) where
     abbrev pub IsBounded : Type 0
     IsBounded = (seat : Seat) × IsReady old seat × ((passages : List Passage) × AllByRecursion (LeavesClean seat) passages
         × All IsSendable (flat_map (sent_of seat) passages)
-        × (holds new (files.out) ≡ Some (capture_text (flat_map (sent_of seat) passages))))
+        × (holds new files.out ≡ Some (capture_text (flat_map (sent_of seat) passages))))
 
 module _ (tells : Bool) (files : NodeNames) (old_in new_in : Reading) (old new : Writing) where
   -- the answer is one over this domain, which DOMAIN holds where the desk tells; IN and outputs were opened only where NODE and

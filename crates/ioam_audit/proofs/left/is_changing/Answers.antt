@@ -1,6 +1,5 @@
 use Rattle.ioam_audit.specs.Sent.{is_changing}
-use Rattle.ioam_audit.proofs.ChangingLaws.{changing-is, is-changing}
-use Rattle.ioam_audit.proofs.ReportLaws.{same_test}
+use Rattle.ioam_audit.proofs.ChangingLaws.{changing-is, is-changing, same_test}
 use Rattle.ioam_audit.proofs.left.is_changing.Goals as goal
 
 pub returns-clause-value : goal.returns-clause-value
