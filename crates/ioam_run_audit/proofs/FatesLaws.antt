@@ -67,7 +67,7 @@ module _ {B A : Type 0} (Skips : B → Reason → Type 0) (Fits : B → Type 0) 
     embeds_by number b bs (a ∷ ys) Gone is e = inr e
     embeds_by number b bs (a ∷ ys) (Skipped why) is e = inr e
 
-    to_embeds : (number : ℕ) (bs : List B) (ys : List A) (fates : List Fate) (rest : List A) → AreFates Skips Fits Becomes number bs ys fates rest
+    pub to_embeds : (number : ℕ) (bs : List B) (ys : List A) (fates : List Fate) (rest : List A) → AreFates Skips Fits Becomes number bs ys fates rest
         → rest ≡ [] → Embeds Becomes bs ys
     to_embeds number [] ys [] rest are none = subst (λ zs. Embeds Becomes [] zs) (sym none ∙ are) tt
     to_embeds number [] ys (f ∷ fates) rest are none = absurd are
@@ -89,7 +89,7 @@ module _ {B A : Type 0} (Skips : B → Reason → Type 0) (Fits : B → Type 0) 
     no_more [] e = refl
     no_more (a ∷ ys) e = absurd e
 
-    none_left : (number : ℕ) (bs : List B) (ys : List A) (fates : List Fate) (rest : List A) → AreFates Skips Fits Becomes number bs ys fates rest
+    pub none_left : (number : ℕ) (bs : List B) (ys : List A) (fates : List Fate) (rest : List A) → AreFates Skips Fits Becomes number bs ys fates rest
         → Embeds Becomes bs ys → rest ≡ []
     none_left number [] ys [] rest are e = are ∙ no_more ys e
     none_left number [] ys (f ∷ fates) rest are e = absurd are

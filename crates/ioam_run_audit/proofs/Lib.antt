@@ -5,3 +5,4 @@ mod LaneLaws
 mod PairLaws
 mod RunLaws
 mod VerdictLaws
+mod RefusedLaws

@@ -37,7 +37,7 @@ packet_in other CutShort = other
 packet_in other TooShort = other
 
 -- it holds one
-one_packet : (t : Taken) (p q : List ℕ) → taken_framing t ≡ Holds p → taken_framing t ≡ Holds q → p ≡ q
+pub one_packet : (t : Taken) (p q : List ℕ) → taken_framing t ≡ Holds p → taken_framing t ≡ Holds q → p ≡ q
 one_packet t p q first second = ap (packet_in p) (sym first ∙ second)
 
 no_reason : (why : Reason) → None ≡ Some why → ⊥

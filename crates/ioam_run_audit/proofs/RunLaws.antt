@@ -36,7 +36,7 @@ use Rattle.ioam_run_audit.proofs.LinesLaws.{lines_push}
 use Rattle.ioam_run_audit.proofs.PairLaws.{due_number, due_put, two_same, two_then}
 
 -- however a capture ends, what was taken comes first in it
-ends_first : (how : End) (taken : List Taken) (octets : List ℕ) → EndsBy how taken octets → AreFirst taken octets
+pub ends_first : (how : End) (taken : List Taken) (octets : List ℕ) → EndsBy how taken octets → AreFirst taken octets
 ends_first end.Whole taken octets ends = begins_ends Whole taken octets ends
 ends_first (end.Bad at fault) taken octets ends = begins_ends (Faulty at fault) taken octets ends
 ends_first end.Limit taken octets ends = begins_passed 16777216 taken octets ends

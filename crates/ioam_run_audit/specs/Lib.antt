@@ -1,7 +1,9 @@
-pub mod Files
 pub mod Fit
 pub mod Fates
 pub mod Lines
+pub mod Verdicts
 pub mod Lanes
 pub mod Pairs
 pub mod Runs
+pub mod Promise
+pub mod Ends

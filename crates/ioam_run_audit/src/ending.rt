@@ -8,25 +8,25 @@ ghost use Rattle.ioam_run_answer.specs.declared.outcome.Outcome.{Outcome};
 ghost use Rattle.ioam_run_audit.specs.Runs.{answer_of, behind_of, left_of};
 
 use crate::counts::Counts;
-use crate::files::AuditFiles;
 use crate::lane::{End, MOST_PACKETS};
 use crate::lines::{put_sums, put_verdict};
 use ioam_base::memory::NoMemory;
+use ioam_base::name::Name;
 use ioam_desk::{Desk, DeskFault};
 use ioam_desk_outputs::{Output, finish};
 use ioam_run_answer::{Outcome, capture_outcome};
 use std::alloc::Global;
 
-/// The answer where BEFORE and AFTER end so: what is wrong with BEFORE comes before what is wrong with AFTER.
-pub(crate) fn answer(alloc: Global, files: &AuditFiles<'_>, before: End, after: End) -> Outcome
-    ensures { (result ≡ answer_of files.now.before.now files.now.after.now before after) ⊎ (result ≡ Outcome.NoMemory) }
+/// The answer where BEFORE, of a name, ends so, and AFTER, of another, so: what is wrong with BEFORE comes before what is wrong with AFTER.
+pub(crate) fn answer(alloc: Global, before: &Name, after: &Name, how: End, last: End) -> Outcome
+    ensures { (result ≡ answer_of before.now after.now how last) ⊎ (result ≡ Outcome.NoMemory) }
 {
-    match (before, after) {
-        (End::Bad { at, fault }, _) => capture_outcome(alloc, files.before, at, fault),
+    match (how, last) {
+        (End::Bad { at, fault }, _) => capture_outcome(alloc, before, at, fault),
         (End::Limit, _) | (End::Whole, End::Limit) => Outcome::Packets {
             limit: MOST_PACKETS,
         },
-        (End::Whole, End::Bad { at, fault }) => capture_outcome(alloc, files.after, at, fault),
+        (End::Whole, End::Bad { at, fault }) => capture_outcome(alloc, after, at, fault),
         (End::Whole, End::Whole) => Outcome::Done,
     }
 }

@@ -4,16 +4,18 @@
 //! packet of AFTER, and `put_line` adds the line that says so.
 #![tactic(auto)]
 
+mod audit;
 mod counts;
 mod ending;
 mod fate;
-mod files;
 mod held;
 mod lane;
 mod lines;
 mod matching;
+mod names;
 mod pair;
 mod seat;
 mod verdict;
 
-pub use files::AuditFiles;
+pub use audit::run_audit;
+pub use names::AuditFiles;
