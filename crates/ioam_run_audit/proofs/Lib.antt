@@ -5,4 +5,13 @@ mod LaneLaws
 mod PairLaws
 mod RunLaws
 mod VerdictLaws
+mod FrontsLaws
+mod EndsLaws
+mod ClosedLaws
+mod OpeningLaws
+mod FilesLaws
+mod ReportsLaws
 mod RefusedLaws
+mod PlaceLaws
+mod OwesLaws
+mod AskedLaws

@@ -1,5 +1,5 @@
 -- What a run owes that opened no capture.
-use Rattle.std.proofs.Common.{◌≡◌, ℕ, zero, suc, ◌+◌, ◌≤◌, Bool, IsTrue, IsSomeAnd, List, [], ◌∷◌, ◌++◌, take, Err, refl, sym, ◌∙◌, ap, subst, inl, inr, append-nil, arith}
+use Rattle.std.proofs.Common.{◌≡◌, ℕ, zero, suc, ◌+◌, ◌≤◌, Bool, IsTrue, List, [], ◌∷◌, ◌++◌, take, Err, refl, sym, ◌∙◌, ap, subst, inl, inr, append-nil, arith}
 use Rattle.ioam_desk.specs.Asked.{AsksFront}
 use Rattle.ioam_desk.specs.Desk.{Reading, Writing, Rose, holds}
 use Rattle.ioam_desk.specs.Kept.{KeepsInputs}
@@ -7,13 +7,12 @@ use Rattle.ioam_desk.proofs.KeptLaws.{KeepsOutputs-same}
 use Rattle.ioam_run_answer.specs.Outcomes.{IsDone, IsBehindAll}
 use Rattle.ioam_run_answer.specs.declared.outcome.Outcome.{Outcome}
 use Rattle.ioam_run_answer.specs.declared.outcome.Outcome.TheVariants as outcome
-use Rattle.ioam_run_audit.specs.Promise.{AuditNames, HasCause, HasDomain, HaveDiffered, IsUnfit, IsUntouched, Leaves, Owes, input_files}
+use Rattle.ioam_run_audit.specs.Promise.{AuditNames, HasCause, HasDomain, HaveDiffered, IsUnfit, IsUntouched, Leaves, Owes}
 use Rattle.ioam_run_files.specs.Answer.{refused_as}
 use Rattle.ioam_run_files.specs.Reads.{IsDomainRead}
 use Rattle.ioam_run_files.specs.declared.setting.Refusal.{Refusal}
 use Rattle.ioam_run_files.specs.declared.setting.Refusal.TheVariants as refusal
 use Rattle.ioam_topo.specs.declared.domain.Domain.{Domain}
-use Rattle.ioam_topo_entries.specs.declared.fault.DomainFault.{DomainFault}
 
 take_none : (n : ℕ) → take {A = List ℕ} n [] ≡ []
 take_none zero = refl

@@ -19,7 +19,7 @@ use Rattle.ioam_run_audit.specs.Lanes.{EndsBy}
 use Rattle.ioam_run_audit.specs.Lines.{report_of, sums_of, verdict_line, verdict_of}
 use Rattle.ioam_run_audit.specs.Pairs.{Over, ReadsTwo, Start}
 use Rattle.ioam_run_audit.specs.Promise.{AuditNames, IsAt, IsTwice, IsUnfit, audit_files}
-use Rattle.ioam_run_audit.specs.Runs.{IsBehind, IsTold, Matched, Sticks, answer_of, left_of}
+use Rattle.ioam_run_audit.specs.Runs.{IsBehind, IsTold, Matched, answer_of, left_of}
 use Rattle.ioam_run_audit.specs.declared.counts.Counts.{Counts}
 use Rattle.ioam_run_audit.specs.declared.fate.Fate.{Fate}
 use Rattle.ioam_run_audit.specs.declared.lane.End.{End}

@@ -1,10 +1,24 @@
 //! `audit DOMAIN NODE LINK BEFORE AFTER REPORT`.
+ghost use Rattle.std.specs.Prelude.{◌≡◌, ◌+◌, ◌≤◌, ◌∷◌, [], Err, IfErr, IfOk, IsTrue, OnOk};
+ghost use Rattle.ioam_desk.specs.Asked.{AsksFront};
+ghost use Rattle.ioam_desk.specs.Desk.{holds, opened_side};
+ghost use Rattle.ioam_desk.specs.Kept.{KeepsInputs};
+ghost use Rattle.ioam_desk_outputs.specs.Names.{AreApart};
 ghost use Rattle.ioam_run_answer.specs.Desks.{around};
-ghost use Rattle.ioam_run_audit.specs.Promise.{Keeps};
+ghost use Rattle.ioam_run_audit.specs.Ends.{Ends, EndsAt, Ran};
+ghost use Rattle.ioam_run_audit.specs.Pairs.{place_of};
+ghost use Rattle.ioam_run_audit.specs.Promise.{Keeps, Owes, audit_files};
+ghost use Rattle.ioam_run_files.specs.Reads.{IsDomainRead};
 
-use crate::names::AuditFiles;
+use crate::domain_file::read_domain_file;
+use crate::files::run_files;
+use crate::names::{AuditFiles, audit_files, link_to};
+use crate::seat::Seat;
 use ioam_desk::Desk;
-use ioam_run_answer::Outcome;
+use ioam_desk_outputs::first_repeat;
+use ioam_run_answer::{Outcome, names_outcome};
+use ioam_run_files::{Refusal, refused};
+use ioam_topo::Domain;
 use std::alloc::Global;
 
 /// Runs `audit DOMAIN NODE LINK BEFORE AFTER REPORT`: REPORT says of each packet of the capture BEFORE whether the next packet of
@@ -13,9 +27,78 @@ use std::alloc::Global;
 /// verdict is whether each packet of AFTER is one of BEFORE, in their order.
 ///
 /// DOMAIN is read first; then NODE, LINK and two files of one name are refused; then BEFORE and AFTER are opened, and then REPORT.
-/// Up to 16,777,216 packets of each capture are taken.
-pub fn run_audit<D: Desk>(_alloc: Global, _files: &AuditFiles<'_>, _desk: &mut D) -> Outcome
-    ensures keeps { Keeps (around D.tells (D.reading _desk.old) (D.reading _desk.new) (D.writing _desk.old) (D.writing _desk.new)) _files.now result }
+/// Up to 16,777,216 packets of each capture are taken. What is wrong with BEFORE is answered before what is wrong with AFTER.
+pub fn run_audit<D: Desk>(alloc: Global, files: &AuditFiles<'_>, desk: &mut D) -> Outcome
+    ensures keeps { Keeps (around D.tells (D.reading desk.old) (D.reading desk.new) (D.writing desk.old) (D.writing desk.new)) files.now result }
 {
-    Outcome::NoMemory
+    run_names(alloc, files, desk)
+}
+
+// Reads the domain, and runs the command in it.
+fn run_names<D: Desk>(alloc: Global, files: &AuditFiles<'_>, desk: &mut D) -> Outcome
+    ensures owes { Owes D.tells files.now (D.reading desk.old) (D.reading desk.new) (D.writing desk.old) (D.writing desk.new) result }
+{
+    match read_named(alloc, files, desk) {
+        Ok(domain) => run_set(alloc, files, &domain, desk),
+        Err(refusal) => refused(refusal),
+    }
+}
+
+// Reads the domain.
+fn read_named<D: Desk>(
+    alloc: Global,
+    files: &AuditFiles<'_>,
+    desk: &mut D,
+) -> Result<Domain, Refusal>
+    ensures read { IsDomainRead D.tells (D.reading desk.old) (D.reading desk.new) (holds (D.writing desk.old) files.now.domain) result }
+    ensures side { OnOk result ((D.reading desk.new).side ≡ opened_side (D.reading desk.old).side files.now.domain) }
+    ensures ended { OnOk result (IsTrue D.tells → IsTrue ((D.reading desk.new).ended (D.reading desk.old).side.slots)) }
+    ensures asked { AsksFront (D.reading desk.old).side.asked (D.reading desk.new).side.asked (files.now.domain ∷ []) }
+    ensures few { (D.reading desk.new).side.slots ≤ (D.reading desk.old).side.slots + 1 }
+    ensures kept { KeepsInputs (D.reading desk.old) (D.reading desk.new) }
+    ensures outputs { D.writing desk.new ≡ D.writing desk.old }
+{
+    read_domain_file(alloc, desk, files.domain)
+}
+
+// Runs the command at the node and the link that are named in a domain.
+fn run_set<D: Desk>(alloc: Global, files: &AuditFiles<'_>, domain: &Domain, desk: &mut D) -> Outcome
+    ensures ends { Ends D.tells files.now (D.reading desk.old) (D.reading desk.new) (D.writing desk.old) (D.writing desk.new) domain.now result }
+{
+    let Some(node) = domain.node_named(files.node.text()) else {
+        return names_outcome(alloc, files.node);
+    };
+    let Some(link) = link_to(domain, node, files.link) else {
+        return names_outcome(alloc, files.link);
+    };
+    let seat = Seat { domain, node, link };
+    run_at(alloc, files, &seat, desk)
+}
+
+// Runs the command at a node and a link: the files have to differ.
+fn run_at<D: Desk>(alloc: Global, files: &AuditFiles<'_>, seat: &Seat<'_>, desk: &mut D) -> Outcome
+    ensures ends { EndsAt D.tells files.now (D.reading desk.old) (D.reading desk.new) (D.writing desk.old) (D.writing desk.new) (place_of seat.now) result }
+{
+    let Ok(mut names) = audit_files(alloc, files) else {
+        return Outcome::NoMemory;
+    };
+    match first_repeat(&names) {
+        Some(at) => Outcome::Names {
+            name: names.swap_remove(at),
+        },
+        None => run_apart(alloc, files, seat, desk),
+    }
+}
+
+// The same, where they differ.
+fn run_apart<D: Desk>(
+    alloc: Global,
+    files: &AuditFiles<'_>,
+    seat: &Seat<'_>,
+    desk: &mut D,
+) -> Outcome
+    requires apart { AreApart (audit_files files.now) }
+    ensures ran { Ran D.tells files.now (D.reading desk.old) (D.reading desk.new) (D.writing desk.old) (D.writing desk.new) (place_of seat.now) result }
+{
+    run_files(alloc, files.before, files.after, files.report, seat, desk)
 }

@@ -5,14 +5,18 @@
 #![tactic(auto)]
 
 mod audit;
+mod comparison;
 mod counts;
+mod domain_file;
 mod ending;
 mod fate;
+mod files;
 mod held;
 mod lane;
 mod lines;
 mod matching;
 mod names;
+mod opening;
 mod pair;
 mod seat;
 mod verdict;

@@ -1,8 +1,12 @@
 //! What the words of the command name.
-ghost use Rattle.std.specs.Prelude.{◌≡◌, length};
-ghost use Rattle.ioam_run_audit.specs.Promise.{audit_names};
+ghost use Rattle.std.specs.Prelude.{◌≡◌, ◌<◌, ◌∷◌, ◌++◌, [], IfOk, IfSome, OnOk, length};
+ghost use Rattle.ioam_run_audit.specs.Promise.{audit_files, audit_names, link_to};
+ghost use Rattle.ioam_topo.specs.Domain.{links};
 
+use ioam_base::memory::NoMemory;
 use ioam_base::name::Name;
+use ioam_topo::{Domain, LinkId, NodeId};
+use std::alloc::Global;
 use std::marker::Model;
 
 /// What the words of `audit DOMAIN NODE LINK BEFORE AFTER REPORT` name.
@@ -46,4 +50,35 @@ impl<'a> AuditFiles<'a> {
             report: &words[6],
         }
     }
+}
+
+/// A link of a name, where it ends at a node.
+pub(crate) fn link_to(domain: &Domain, node: NodeId, name: &Name) -> Option<LinkId>
+    ensures value { result ≡ link_to domain.now node name.now }
+    ensures inside { IfSome result (λ link. link.0 < length (links domain.now)) }
+{
+    let id = domain.link_named(name.text())?;
+    let link = domain.link(id);
+    if link.to.0 == node.0 { Some(id) } else { None }
+}
+
+// Puts a copy of a name behind these.
+fn push_name(alloc: Global, names: &mut Vec<Name>, name: &Name) -> Result<(), NoMemory>
+    ensures { OnOk result (names.new.items ≡ names.old.items ++ name.now ∷ []) }
+{
+    let copy = Name::new(alloc, name.text())?;
+    names.push(copy)?;
+    Ok(())
+}
+
+/// The names of all files, in the order in which equal ones are looked for: DOMAIN, BEFORE, AFTER and REPORT.
+pub(crate) fn audit_files(alloc: Global, files: &AuditFiles<'_>) -> Result<Vec<Name>, NoMemory>
+    ensures { IfOk result (λ names. names.items ≡ audit_files files.now) }
+{
+    let mut names = Vec::new(alloc);
+    push_name(alloc, &mut names, files.domain)?;
+    push_name(alloc, &mut names, files.before)?;
+    push_name(alloc, &mut names, files.after)?;
+    push_name(alloc, &mut names, files.report)?;
+    Ok(names)
 }

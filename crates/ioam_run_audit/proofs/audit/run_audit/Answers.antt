@@ -1,14 +1,12 @@
-use Rattle.std.proofs.Common.{refl, sym, inr, append-nil, arith}
-use Rattle.ioam_desk.proofs.KeptLaws.{KeepsInputs-same}
-use Rattle.ioam_run_audit.proofs.RefusedLaws.{none_owes}
+use Rattle.ioam_run_audit.proofs.AskedLaws.{HasCause-asked}
 use Rattle.ioam_run_audit.proofs.audit.run_audit.Goals as goal
 
 pub returns : goal.returns
-returns g c =
-    let old_in = g.D.Desk.reading c.args._desk.now in
-    record {
-      keeps = record {
-        owes = none_owes g.D.Desk.tells c.args._files.now old_in old_in (g.D.Desk.writing c.args._desk.now) (0, sym (append-nil old_in.side.asked)) (omega arith) (KeepsInputs-same old_in old_in refl);
-        exact = λ asked told asks reads writes. inr refl;
-      };
-    }
+returns g c = record {
+  keeps = record {
+    owes = c.run_names.ensures.owes;
+    exact = λ asked told asks reads writes.
+        HasCause-asked c.args.files.now (g.D.Desk.writing c.args.desk.now) (g.D.Desk.reading c.args.desk.now) (g.D.Desk.reading c.run_names.new.desk)
+        (g.D.Desk.writing c.run_names.new.desk) c.run_names.result asked (c.run_names.ensures.owes.cause told) asks reads writes;
+  };
+}

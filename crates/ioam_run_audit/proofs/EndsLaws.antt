@@ -1,0 +1,226 @@
+-- What REPORT holds once both captures were read, or a read failed.
+use Rattle.std.proofs.Common.{◌≡◌, ℕ, ◌+◌, ◌<◌, ◌≤◌, ◌^◌, Bool, IsTrue, List, [], ◌∷◌, ◌++◌, length, Option, Some, None, refl, sym, ap, ◌∙◌, subst, inl, inr, arith, append-nil}
+use Rattle.ioam_desk.specs.Desk as desk
+use Rattle.ioam_desk.specs.Desk.{Writing, Rose}
+use Rattle.ioam_desk_outputs.specs.Held.{HoldAllFronts, HoldTexts}
+use Rattle.ioam_desk_outputs.specs.Told.{AreOpen, AreTold, said_more}
+use Rattle.ioam_desk_outputs.specs.declared.output.Output.{Output}
+use Rattle.ioam_desk_outputs.proofs.ToldLaws.{AreTold-open, told_names}
+use Rattle.ioam_pcap.specs.Ending.{Whole}
+use Rattle.ioam_pcap.specs.Entries.{Taken}
+use Rattle.ioam_run_answer.specs.declared.outcome.Outcome.{Outcome}
+use Rattle.ioam_run_stream.specs.Promise.{AreFirst, EndsSo}
+use Rattle.ioam_run_stream.proofs.HaltsLaws.{held_map}
+use Rattle.ioam_run_audit.specs.Ends.{BehindBy, Both, Closes, NoneBehind, Parts, Written, verdict_by}
+use Rattle.ioam_run_audit.specs.Fit.{CameFrom, HasReason, IsFit, Place}
+use Rattle.ioam_run_audit.specs.Lanes.{EndsBy}
+use Rattle.ioam_run_audit.specs.Lines.{BecomeOf, lines_of, report_of, sums_line, sums_of, verdict_as, verdict_line, verdict_of}
+use Rattle.ioam_run_audit.specs.Pairs.{Over, Start, sums_as}
+use Rattle.ioam_run_audit.specs.Runs.{Halted, IsBehind, IsTold, Matched, Sticks, answer_of, behind_of, left_of}
+use Rattle.ioam_run_audit.specs.declared.counts.Counts.{Counts}
+use Rattle.ioam_run_audit.specs.declared.fate.Fate.{Fate}
+use Rattle.ioam_run_audit.specs.declared.lane.End.{End}
+use Rattle.ioam_run_audit.specs.declared.lane.End.TheVariants as end
+use Rattle.ioam_run_audit.specs.declared.pair.Pair.{Pair}
+use Rattle.ioam_run_audit.proofs.FatesLaws.{fates_many, fates_size}
+use Rattle.ioam_run_audit.proofs.LinesLaws.{sums_all, sums_sent}
+use Rattle.ioam_run_audit.proofs.RunLaws.{ends_first, matched_so}
+
+-- ---- what stands behind the lines
+
+-- behind the sums
+abbrev pub behind_text : Option (Option ℕ) → List ℕ
+behind_text None = []
+behind_text (Some left) = verdict_line (verdict_as left)
+
+behind_as : (counts : Counts) (fates : List Fate) → sums_as counts ≡ sums_of fates → (verdict : Option (Option ℕ))
+    → behind_of counts verdict ≡ sums_line (sums_of fates) ++ behind_text verdict
+behind_as counts fates same None = ap sums_line same ∙ sym (append-nil (sums_line (sums_of fates)))
+behind_as counts fates same (Some left) = ap (λ sums. sums_line sums ++ verdict_line (verdict_as left)) same
+
+left_by : (rest : List Taken) (sent taken : ℕ) → taken ≡ sent + length rest → verdict_as (left_of sent taken) ≡ verdict_of rest sent
+left_by [] sent taken size =
+    let same : taken ≡ sent = omega (arith, size) in
+    let none : left_of sent taken ≡ None = grind (arith, same) in
+    ap verdict_as none
+left_by (t ∷ rest) sent taken size =
+    let other : taken ≡ sent → ⊥ = λ same. absurd (omega (arith, same, size)) in
+    let some : left_of sent taken ≡ Some (sent + 1) = grind (arith, other) in
+    ap verdict_as some
+
+behind_by : (counts : Counts) (taken : ℕ) (fates : List Fate) (rest : List Taken) → counts.sent ≡ (sums_of fates).sent → taken ≡ counts.sent + length rest
+    → (how last : End) → BehindBy how last fates rest (behind_text (verdict_by counts taken how last))
+behind_by counts taken fates rest same size end.Whole end.Whole =
+    ap verdict_line (left_by rest counts.sent taken size ∙ ap (verdict_of rest) same)
+behind_by counts taken fates rest same size end.Whole end.Limit = refl
+behind_by counts taken fates rest same size end.Whole (end.Bad at fault) = refl
+behind_by counts taken fates rest same size end.Limit last = refl
+behind_by counts taken fates rest same size (end.Bad at fault) last = refl
+
+-- a verdict stands there only where both were read whole
+is_behind : (tells : Bool) (start : Start) (place : Place) → IsTrue tells → (fates : List Fate) (rest : List Taken) (behind : List ℕ) (how last : End)
+    → Matched tells start place (EndsBy how) (EndsBy last) fates rest → BehindBy how last fates rest behind → IsBehind start place fates rest behind
+is_behind tells start place told fates rest behind end.Whole end.Whole matched is =
+    inr (matched_so tells start place told (EndsSo Whole) (EndsSo Whole) fates rest matched, is)
+is_behind tells start place told fates rest behind end.Whole end.Limit matched is = inl is
+is_behind tells start place told fates rest behind end.Whole (end.Bad at fault) matched is = inl is
+is_behind tells start place told fates rest behind end.Limit last matched is = inl is
+is_behind tells start place told fates rest behind (end.Bad at fault) last matched is = inl is
+
+module _ (tells : Bool) (start : Start) (place : Place) where
+  -- REPORT holds a front
+  pub parts_sticks : (outputs : Writing) → Sticks tells start place outputs → IsTrue tells → Parts start place outputs
+  parts_sticks outputs sticks told =
+      let fronts = sticks told in
+      record { fates = fronts.fates; rest = fronts.rest; behind = fronts.behind; matched = fronts.matched; behind_is = fronts.behind_is; held = λ opened. fronts.held.0 }
+
+  pub over_matched : (inputs : desk.Reading) (pair : Pair) (fates : List Fate) (how last : End) (over : Over tells start place inputs pair fates how last)
+      → Matched tells start place (EndsBy how) (EndsBy last) fates over.rest
+  over_matched inputs pair fates how last over = record {
+    xs = over.xs;
+    ys = over.ys;
+    are = over.are;
+    of_before = over.before.ends;
+    of_after = over.after.ends;
+    few_before = over.before.few;
+    few_after = over.after.few;
+  }
+
+  matched_first : (fates : List Fate) (rest : List Taken) (how last : End) → Matched tells start place (EndsBy how) (EndsBy last) fates rest
+      → Matched tells start place AreFirst AreFirst fates rest
+  matched_first fates rest how last matched = record {
+    xs = matched.xs;
+    ys = matched.ys;
+    are = matched.are;
+    of_before = λ told. held_map start.before (EndsBy how matched.xs) (AreFirst matched.xs) (ends_first how matched.xs) (matched.of_before told);
+    of_after = λ told. held_map start.after (EndsBy last matched.ys) (AreFirst matched.ys) (ends_first last matched.ys) (matched.of_after told);
+    few_before = matched.few_before;
+    few_after = matched.few_after;
+  }
+
+  -- ---- so many there are
+
+  matched_sums : (P Q : List Taken → List ℕ → Type 0) (fates : List Fate) (rest : List Taken) (counts : Counts) → Matched tells start place P Q fates rest
+      → sums_as counts ≡ sums_of fates → counts.sent + counts.gone + counts.skipped < 2 ^ 32
+  matched_sums P Q fates rest counts matched same = omega (
+    arith,
+    ap (λ sums. sums.sent + sums.gone + sums.skipped) same,
+    sums_all fates,
+    fates_many HasReason IsFit (CameFrom place) 1 matched.xs matched.ys fates rest matched.are,
+    matched.few_before,
+  )
+
+  become_size : (xs ys : List Taken) (fates : List Fate) (rest : List Taken) (counts : Counts) → BecomeOf place xs ys fates rest
+      → sums_as counts ≡ sums_of fates → length ys ≡ counts.sent + length rest
+  become_size xs ys fates rest counts are same =
+      omega (arith, ap (λ sums. sums.sent) same, sums_sent fates, fates_size HasReason IsFit (CameFrom place) 1 xs ys fates rest are)
+
+  pub told_open : (outputs : Writing) (tellers : List Output) (fates : List Fate) → IsTold tells start place outputs tellers fates → AreOpen outputs tellers
+  told_open outputs tellers fates told = AreTold-open tells outputs start.base (start.report ∷ []) tellers (lines_of 1 fates ∷ []) told
+
+  pub told_one : (outputs : Writing) (tellers : List Output) (fates : List Fate) → IsTold tells start place outputs tellers fates → length tellers ≡ 1
+  told_one outputs tellers fates told = told_names tells outputs start.base (start.report ∷ []) tellers (lines_of 1 fates ∷ []) told
+
+  -- ---- behind both
+
+  module _ (inputs : desk.Reading) (outputs : Writing) (pair : Pair) (tellers : List Output) (how last : End)
+      (both : Both tells start place inputs outputs pair tellers how last) where
+    both_matched : Matched tells start place (EndsBy how) (EndsBy last) both.fates both.over.rest
+    both_matched = over_matched inputs pair both.fates how last both.over
+
+    pub both_sums : pair.counts.sent + pair.counts.gone + pair.counts.skipped < 2 ^ 32
+    both_sums = matched_sums (EndsBy how) (EndsBy last) both.fates both.over.rest pair.counts both_matched both.over.counts_are
+
+    both_size : pair.after.taken ≡ pair.counts.sent + length both.over.rest
+    both_size = both.over.after.count_is ∙ become_size both.over.xs both.over.ys both.fates both.over.rest pair.counts both.over.are both.over.counts_are
+
+    pub both_sent : pair.counts.sent ≤ pair.after.taken
+    both_sent = omega (arith, both_size)
+
+    pub both_few : pair.after.taken ≤ 16777216
+    both_few = omega (arith, both.over.after.count_is, both.over.after.few)
+
+    abbrev its_verdict : Option (Option ℕ)
+    its_verdict = verdict_by pair.counts pair.after.taken how last
+
+    abbrev its_text : List ℕ
+    its_text = report_of both.fates (behind_text its_verdict)
+
+    both_text : (lines_of 1 both.fates ++ behind_of pair.counts its_verdict) ∷ [] ≡ its_text ∷ []
+    both_text = ap (λ behind. (lines_of 1 both.fates ++ behind) ∷ []) (behind_as pair.counts both.fates both.over.counts_are its_verdict)
+
+    its_behind : BehindBy how last both.fates both.over.rest (behind_text its_verdict)
+    its_behind = behind_by pair.counts pair.after.taken both.fates both.over.rest (ap (λ sums. sums.sent) both.over.counts_are) both_size how last
+
+    -- all was written
+    pub closes : (before after : List ℕ) (new_in : desk.Reading) (new_out : Writing) (verdict : Option (Option ℕ)) (answer : Outcome) → verdict ≡ its_verdict
+        → new_in ≡ inputs → (IsTrue tells → (slot : ℕ) (names texts : List (List ℕ)) → AreTold tells outputs slot names tellers texts
+        → HoldTexts new_out names (said_more texts (behind_of pair.counts verdict ∷ [])))
+        → answer ≡ answer_of before after how last
+        → Closes tells start place before after pair.before.feed.slot pair.after.feed.slot new_in new_out answer
+    closes before after new_in new_out verdict answer is same texts said = record {
+      how = how;
+      last = last;
+      answer_is = said;
+      written = record {
+        fates = both.fates;
+        rest = both.over.rest;
+        behind = behind_text its_verdict;
+        matched = both_matched;
+        behind_is = its_behind;
+        held = λ told. subst (HoldTexts new_out (start.report ∷ [])) both_text
+            (subst (λ v. HoldTexts new_out (start.report ∷ []) ((lines_of 1 both.fates ++ behind_of pair.counts v) ∷ [])) is
+            (texts told start.base (start.report ∷ []) (lines_of 1 both.fates ∷ []) both.told));
+      };
+      drained_before = λ whole told. subst (λ (r : desk.Reading). IsTrue (r.ended pair.before.feed.slot)) (sym same) (both.over.before.drained whole told);
+      drained_after = λ whole told. subst (λ (r : desk.Reading). IsTrue (r.ended pair.after.feed.slot)) (sym same) (both.over.after.drained whole told);
+    }
+
+    -- some was
+    pub both_parts : (new_out : Writing) (verdict : Option (Option ℕ)) → verdict ≡ its_verdict
+        → (IsTrue tells → (slot : ℕ) (names texts : List (List ℕ)) → AreTold tells outputs slot names tellers texts
+        → HoldAllFronts new_out names (said_more texts (behind_of pair.counts verdict ∷ [])))
+        → IsTrue tells → Parts start place new_out
+    both_parts new_out verdict is fronts told = record {
+      fates = both.fates;
+      rest = both.over.rest;
+      behind = behind_text its_verdict;
+      matched = matched_so tells start place told AreFirst AreFirst both.fates both.over.rest (matched_first both.fates both.over.rest how last both_matched);
+      behind_is = is_behind tells start place told both.fates both.over.rest (behind_text its_verdict) how last both_matched its_behind;
+      held = λ opened. (subst (HoldAllFronts new_out (start.report ∷ [])) both_text
+          (subst (λ v. HoldAllFronts new_out (start.report ∷ []) ((lines_of 1 both.fates ++ behind_of pair.counts v) ∷ [])) is
+          (fronts told start.base (start.report ∷ []) (lines_of 1 both.fates ∷ []) both.told))).0;
+    }
+
+  -- ---- where a read failed
+
+  module _ (outputs : Writing) (counts : Counts) (tellers : List Output) (halted : Halted tells start place AreFirst AreFirst outputs counts tellers) where
+    pub halted_sums : counts.sent + counts.gone + counts.skipped < 2 ^ 32
+    halted_sums = matched_sums AreFirst AreFirst halted.fates halted.rest counts halted.matched halted.counts_are
+
+    halted_text : (lines_of 1 halted.fates ++ behind_of counts None) ∷ [] ≡ report_of halted.fates [] ∷ []
+    halted_text = ap (λ behind. (lines_of 1 halted.fates ++ behind) ∷ []) (behind_as counts halted.fates halted.counts_are None)
+
+    pub cut_written : (new_out : Writing) → (IsTrue tells → (slot : ℕ) (names texts : List (List ℕ)) → AreTold tells outputs slot names tellers texts
+        → HoldTexts new_out names (said_more texts (behind_of counts None ∷ []))) → Written tells start place AreFirst AreFirst NoneBehind new_out
+    cut_written new_out texts = record {
+      fates = halted.fates;
+      rest = halted.rest;
+      behind = [];
+      matched = halted.matched;
+      behind_is = refl;
+      held = λ told. subst (HoldTexts new_out (start.report ∷ [])) halted_text
+          (texts told start.base (start.report ∷ []) (lines_of 1 halted.fates ∷ []) halted.told);
+    }
+
+    pub cut_parts : (new_out : Writing) → (IsTrue tells → (slot : ℕ) (names texts : List (List ℕ)) → AreTold tells outputs slot names tellers texts
+        → HoldAllFronts new_out names (said_more texts (behind_of counts None ∷ []))) → IsTrue tells → Parts start place new_out
+    cut_parts new_out fronts told = record {
+      fates = halted.fates;
+      rest = halted.rest;
+      behind = [];
+      matched = matched_so tells start place told AreFirst AreFirst halted.fates halted.rest halted.matched;
+      behind_is = inl refl;
+      held = λ opened. (subst (HoldAllFronts new_out (start.report ∷ [])) halted_text
+          (fronts told start.base (start.report ∷ []) (lines_of 1 halted.fates ∷ []) halted.told)).0;
+    }

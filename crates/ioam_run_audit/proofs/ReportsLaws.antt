@@ -1,0 +1,110 @@
+-- What REPORT holds, in the words of the promise.
+use Rattle.std.proofs.Common.{◌≡◌, ℕ, ◌≤◌, Bool, true, IsTrue, IsSomeAnd, List, [], ◌++◌, length, Option, refl, inl, inr, arith, length-append}
+use Rattle.ioam_desk.specs.Desk as desk
+use Rattle.ioam_desk.specs.Desk.{Writing, holds}
+use Rattle.ioam_pcap.specs.Ending.{Ending, Whole, Faulty}
+use Rattle.ioam_pcap.specs.Entries.{Taken}
+use Rattle.ioam_run_stream.specs.Promise.{AreFirst, ArePassed, EndsSo, IsInput, IsLong}
+use Rattle.ioam_run_stream.proofs.HaltsLaws.{held_map}
+use Rattle.ioam_run_stream.proofs.StopsLaws.{begins_ends}
+use Rattle.ioam_run_audit.specs.Ends.{Parts, Written, start_of}
+use Rattle.ioam_run_audit.specs.Fit.{Place}
+use Rattle.ioam_run_audit.specs.Lanes.{EndsBy}
+use Rattle.ioam_run_audit.specs.Lines.{report_of, sums_of, verdict_line, verdict_of}
+use Rattle.ioam_run_audit.specs.Pairs.{Start}
+use Rattle.ioam_run_audit.specs.Promise.{AreTaken, AuditNames, Holds, HoldsPart, IsReady, MayHaveVerdict, Reports}
+use Rattle.ioam_run_audit.specs.Runs.{Matched}
+use Rattle.ioam_run_audit.specs.Verdicts.{HasVerdict, NoVerdict}
+use Rattle.ioam_run_audit.specs.declared.fate.Fate.{Fate}
+use Rattle.ioam_run_audit.specs.declared.lane.End.{End}
+use Rattle.ioam_run_audit.specs.declared.lane.End.TheVariants as end
+use Rattle.ioam_run_audit.proofs.FrontsLaws.{become_only, verdict_is}
+use Rattle.ioam_run_audit.proofs.RunLaws.{matched_so}
+
+-- however it ends, all records were taken, or as many as may be
+pub ends_taken : (how : End) (taken : List Taken) (octets : List ℕ) → EndsBy how taken octets → AreTaken taken octets
+ends_taken end.Whole taken octets ends = inl (Whole, ends)
+ends_taken (end.Bad at fault) taken octets ends = inl (Faulty at fault, ends)
+ends_taken end.Limit taken octets ends = inr ends
+
+-- what is held is a capture that ends so
+pub is_input : (held : Option (List ℕ)) (ending : Ending) (taken : List Taken) → length taken ≤ 16777216 → IsSomeAnd held (EndsSo ending taken)
+    → IsSomeAnd held (IsInput 16777216 ending)
+is_input held ending taken few ends = held_map held (EndsSo ending taken) (IsInput 16777216 ending)
+    (λ octets reads. record { taken = taken; reads = reads; few = few }) ends
+
+-- or has more records
+pub is_long : (held : Option (List ℕ)) (taken : List Taken) → IsSomeAnd held (ArePassed 16777216 taken) → IsSomeAnd held (IsLong 16777216)
+is_long held taken passed = held_map held (ArePassed 16777216 taken) (IsLong 16777216)
+    (λ octets all. record {
+      taken = taken ++ all.first.rest;
+      ending = all.first.ending;
+      reads = all.first.reads;
+      many = omega (arith, all.all, all.more, length-append taken all.first.rest);
+    }) passed
+
+module _ (tells : Bool) (files : AuditNames) (old_in new_in : desk.Reading) (old new : Writing) (place : Place) (told : IsTrue tells) (ready : IsReady files old place) where
+  abbrev start : Start
+  start = start_of old files.before files.after files.report
+
+  -- of some records of both
+  reports : (P Q IsOfBefore IsOfAfter : List Taken → List ℕ → Type 0) → ((taken : List Taken) (octets : List ℕ) → P taken octets → IsOfBefore taken octets)
+      → ((taken : List Taken) (octets : List ℕ) → Q taken octets → IsOfAfter taken octets)
+      → (Behind : Place → List Taken → List Taken → List ℕ → Type 0) (IsText : List ℕ → Type 0) (fates : List Fate) (rest : List Taken) (behind : List ℕ)
+      → (matched : Matched true start place P Q fates rest) → Behind place matched.xs matched.ys behind → IsText (report_of fates behind)
+      → Reports files old IsOfBefore IsOfAfter Behind IsText
+  reports P Q IsOfBefore IsOfAfter first second Behind IsText fates rest behind matched is text = record {
+    place = place;
+    ready = ready;
+    before = matched.xs;
+    after = matched.ys;
+    behind = behind;
+    text = report_of fates behind;
+    of_before = held_map (holds old files.before) (P matched.xs) (IsOfBefore matched.xs) (first matched.xs) (matched.of_before refl);
+    of_after = held_map (holds old files.after) (Q matched.ys) (IsOfAfter matched.ys) (second matched.ys) (matched.of_after refl);
+    few_before = matched.few_before;
+    few_after = matched.few_after;
+    behind_is = is;
+    report = record {
+      fates = fates;
+      rest = rest;
+      become = matched.are;
+      only = λ others left also. become_only place matched.xs matched.ys fates others rest left matched.are also;
+      text_is = refl;
+    };
+    text_is = text;
+  }
+
+  -- the verdict on all
+  has_verdict : (P Q : List Taken → List ℕ → Type 0) (fates : List Fate) (rest : List Taken) (behind : List ℕ) (matched : Matched true start place P Q fates rest)
+      → behind ≡ verdict_line (verdict_of rest (sums_of fates).sent) → HasVerdict place matched.xs matched.ys behind
+  has_verdict P Q fates rest behind matched is =
+      (verdict_of rest (sums_of fates).sent, verdict_is place matched.xs matched.ys fates rest matched.are, is)
+
+  module _ (P Q : List Taken → List ℕ → Type 0) where
+    -- without a verdict
+    pub no_verdict : (IsOfBefore IsOfAfter : List Taken → List ℕ → Type 0) → ((taken : List Taken) (octets : List ℕ) → P taken octets → IsOfBefore taken octets)
+        → ((taken : List Taken) (octets : List ℕ) → Q taken octets → IsOfAfter taken octets)
+        → Written tells start place P Q (λ fates rest behind. behind ≡ []) new
+        → Reports files old IsOfBefore IsOfAfter NoVerdict (Holds files old_in new_in old new)
+    no_verdict IsOfBefore IsOfAfter first second written =
+        reports P Q IsOfBefore IsOfAfter first second NoVerdict (Holds files old_in new_in old new) written.fates written.rest written.behind
+        (matched_so tells start place told P Q written.fates written.rest written.matched) written.behind_is (written.held told).0
+
+    -- with one
+    pub with_verdict : Written tells start place P Q (λ fates rest behind. behind ≡ verdict_line (verdict_of rest (sums_of fates).sent)) new
+        → Reports files old P Q HasVerdict (Holds files old_in new_in old new)
+    with_verdict written =
+        let matched = matched_so tells start place told P Q written.fates written.rest written.matched in
+        reports P Q P Q (λ taken octets is. is) (λ taken octets is. is) HasVerdict (Holds files old_in new_in old new) written.fates written.rest written.behind
+        matched (has_verdict P Q written.fates written.rest written.behind matched written.behind_is) (written.held told).0
+
+  -- a front
+  pub some_reports : Parts start place new → Reports files old AreFirst AreFirst (MayHaveVerdict files old) (HoldsPart files old_in new_in old new)
+  some_reports parts = elim parts.behind_is [
+    | inl none ↦ reports AreFirst AreFirst AreFirst AreFirst (λ taken octets is. is) (λ taken octets is. is) (MayHaveVerdict files old)
+        (HoldsPart files old_in new_in old new) parts.fates parts.rest parts.behind parts.matched (inl none) parts.held
+    | inr whole ↦ reports (EndsSo Whole) (EndsSo Whole) AreFirst AreFirst (begins_ends Whole) (begins_ends Whole) (MayHaveVerdict files old)
+        (HoldsPart files old_in new_in old new) parts.fates parts.rest parts.behind whole.0
+        (inr (whole.0.of_before refl, whole.0.of_after refl, has_verdict (EndsSo Whole) (EndsSo Whole) parts.fates parts.rest parts.behind whole.0 whole.1)) parts.held
+  ]

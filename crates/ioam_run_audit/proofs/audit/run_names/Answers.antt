@@ -1,0 +1,19 @@
+use Rattle.ioam_run_audit.proofs.OwesLaws.{ends_owes}
+use Rattle.ioam_run_audit.proofs.RefusedLaws.{refused_owes}
+use Rattle.ioam_run_audit.proofs.audit.run_names.Goals as goal
+
+pub returns-in-Err : goal.returns-in-Err
+returns-in-Err g c = record {
+  owes = refused_owes g.D.Desk.tells c.args.files.now (g.D.Desk.reading c.args.desk.now) (g.D.Desk.reading c.read_named.new.desk)
+      (g.D.Desk.writing c.args.desk.now) c.in-Err.ensures.asked c.in-Err.ensures.few c.in-Err.ensures.kept c.in-Err.refusal c.in-Err.ensures.read
+      (g.D.Desk.writing c.read_named.new.desk) c.refused.result c.in-Err.ensures.outputs c.refused.ensures;
+}
+
+pub returns-in-Ok : goal.returns-in-Ok
+returns-in-Ok g c = record {
+  owes = ends_owes g.D.Desk.tells c.args.files.now (g.D.Desk.reading c.args.desk.now) (g.D.Desk.reading c.read_named.new.desk)
+      c.in-Ok.ensures.side c.in-Ok.ensures.ended c.in-Ok.ensures.kept
+      (g.D.Desk.writing c.args.desk.now) (g.D.Desk.writing c.read_named.new.desk) (g.D.Desk.writing c.run_set.new.desk)
+      (g.D.Desk.reading c.run_set.new.desk) c.in-Ok.domain c.in-Ok.ensures.outputs c.in-Ok.ensures.read
+      c.run_set.result c.run_set.ensures.ends;
+}
