@@ -1,0 +1,5 @@
+pub mod Exports
+pub mod Messages
+pub mod Texts
+pub mod Packing
+pub mod Promise
