@@ -1,5 +1,5 @@
 -- Records that are packed into runs.
-use Rattle.std.proofs.Common.{◌≡◌, ◌≢◌, ℕ, ◌+◌, ◌<◌, ◌≤◌, ◌⊎◌, List, [], ◌∷◌, ◌++◌, length, refl, sym, ap, ◌∙◌, subst, inl, inr, append-nil, append_assoc, length-append, arith}
+use Rattle.std.proofs.Common.{◌≡◌, ◌≢◌, ℕ, zero, suc, ◌+◌, ◌<◌, ◌≤◌, ◌⊎◌, List, [], ◌∷◌, ◌++◌, length, refl, sym, ap, ◌∙◌, subst, inl, inr, append-nil, append_assoc, length-append, arith}
 use Rattle.std.specs.List.{AllByRecursion}
 use Rattle.ioam_dex.specs.Record.{Record, IsRecord, record_octets}
 use Rattle.ioam_dex.specs.Reads.{records_octets}
@@ -234,3 +234,21 @@ ends-some old mid out with_run some puts done records packed =
       put-run old mid out with_run puts some done records packed,
       text-last old done records packed,
     )
+
+-- the runs with the last one, which is still gathered
+pub packed-rest : (done : Runs) (records : List Record) (packing : Packed) → IsPacked done records packing
+    → (runs : Runs) × (added : List ℕ) × AreCut records runs × (runs_text 0 runs ≡ runs_text 0 done ++ added)
+packed-rest done records packing packed = elim (cases_zero packing.held) [
+  | inl none ↦ (done, [], none-packed packing done records none packed, sym (append-nil (runs_text 0 done)))
+  | inr some ↦
+      let last = last-run done packing.template packed.run (omega (arith, some, packed.held)) packed.last in (
+        done ++ (packing.template, packed.run) ∷ [],
+        run_message packing.before packing.template packed.run,
+        record { are = last.0; longest = last.1; joins = runs-push done packing.template packed.run ∙ sym packed.are },
+        text-last packing done records packed,
+      )
+]
+  where
+    cases_zero : (n : ℕ) → (n ≡ 0) ⊎ (0 < n)
+    cases_zero zero = inl refl
+    cases_zero (suc n) = inr (omega arith)

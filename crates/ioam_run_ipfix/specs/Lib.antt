@@ -1,5 +1,8 @@
+pub mod Ends
 pub mod Exports
 pub mod Messages
-pub mod Texts
+pub mod PackSteps
 pub mod Packing
 pub mod Promise
+pub mod Streams
+pub mod Texts

@@ -2,10 +2,14 @@
 #![tactic(auto)]
 
 mod ipfix;
+mod ipfix_stream;
+mod laws;
 mod names;
+mod opening;
 mod packing;
 mod records;
 
 pub use ipfix::run_ipfix;
+pub use laws::messages_bring_back;
 pub use names::{IpfixFiles, RecordsFiles};
 pub use records::run_records;

@@ -1,0 +1,83 @@
+-- The opening of a command's two files.
+use Rattle.std.proofs.Common.{◌≡◌, ◌≢◌, ℕ, zero, suc, ◌+◌, ◌<◌, Bool, IsTrue, IsSomeAnd, List, [], ◌∷◌, ◌++◌, length, take, Option, Some, Result, Ok, Err, refl, sym, ◌∙◌, ap, subst, append-nil, arith}
+use Rattle.std.specs.Prelude.{Contains}
+use Rattle.ioam_base.specs.Octets.{IsFront}
+use Rattle.ioam_desk.specs.Asked.{AsksFront}
+use Rattle.ioam_desk.specs.Desk.{Side, Reading, Writing, OpenIn, OpensInput, FailsToOpen, holds, opened_each}
+use Rattle.ioam_desk.specs.Kept.{KeepsInputs}
+use Rattle.ioam_desk.specs.declared.fault.DeskFault.{DeskFault}
+use Rattle.ioam_desk.specs.declared.fault.DeskFault.TheVariants.{Failed, NoMemory}
+use Rattle.ioam_desk.proofs.KeptLaws.{KeepsInputs-same, KeepsInputs-but}
+use Rattle.ioam_desk_outputs.specs.Held.{HoldFronts}
+use Rattle.ioam_desk_outputs.specs.Names.{name_at, AreApart, Repeats}
+use Rattle.ioam_desk_outputs.specs.Told.{AreTold, unsaid}
+use Rattle.ioam_desk_outputs.specs.declared.output.Output.{Output}
+use Rattle.ioam_run_ipfix.specs.Streams.{Start, Handed, IsSaid, IsUnwritten}
+
+-- ---- one name is apart
+
+none_earlier : (name : List ℕ) → Contains [] name → ⊥
+none_earlier name there = let below = there.1 in omega (arith, below)
+
+alone_apart : (name : List ℕ) (at : ℕ) → at < 1 → Repeats (name ∷ []) at → ⊥
+alone_apart name zero inside repeats = none_earlier name repeats
+alone_apart name (suc at) inside repeats = omega (arith, inside)
+
+pub one_apart : (names : List (List ℕ)) (name : List ℕ) → names ≡ name ∷ [] → AreApart names
+one_apart names name one =
+    let P : List (List ℕ) → Type 0 = λ ns. AreApart ns in
+    subst P (sym one) (alone_apart name)
+
+-- ---- the input
+
+pub asks_none : (asked : List (List ℕ)) (names : List (List ℕ)) → AsksFront asked asked names
+asks_none asked names = (0, sym (append-nil asked))
+
+pub asks_one : (old new : List (List ℕ)) (name other : List ℕ) → new ≡ old ++ name ∷ [] → name ≡ other → AsksFront old new (other ∷ [])
+asks_one old new name other is same = (1, is ∙ ap (λ (n : List ℕ). old ++ n ∷ []) same)
+
+-- it could not be opened
+pub KeepsInputs-unopened : (tells : Bool) (old new : Reading) (held : Option (List ℕ)) (name : List ℕ) (fault : DeskFault)
+    → OpenIn tells old held name (Err fault) new → KeepsInputs old new
+KeepsInputs-unopened tells old new held name Failed failed = record {
+  left = λ k below. ap (λ (left : ℕ → List ℕ). left k) failed.1;
+  ended = λ k below. ap (λ (ended : ℕ → Bool). ended k) failed.2;
+}
+KeepsInputs-unopened tells old new held name NoMemory same = KeepsInputs-same old new same
+
+pub KeepsInputs-opened : (tells : Bool) (old mid new : Reading) (held : Option (List ℕ)) (name : List ℕ) (slot : ℕ)
+    → OpensInput tells old mid held name slot → new ≡ mid → KeepsInputs old new
+KeepsInputs-opened tells old mid new held name slot opens same =
+    let P : Reading → Type 0 = λ r. KeepsInputs old r in
+    subst P (sym same) (KeepsInputs-but old mid slot (omega (arith, opens.number)) opens.other_left opens.other_ended)
+
+pub handed_none : (tells : Bool) (old mid new : Reading) (held content : Option (List ℕ)) (name : List ℕ) (slot : ℕ)
+    → OpensInput tells old mid held name slot → new ≡ mid → content ≡ held → Handed tells content new slot []
+handed_none tells old mid new held content name slot opens same is =
+    let P : Reading → Type 0 = λ r. Handed tells content r slot [] in
+    subst P (sym same) (record {
+      is_open = omega (arith, opens.number, ap (λ (s : Side). s.slots) opens.side);
+      held = λ told. is ∙ opens.left told;
+    })
+
+-- ---- OUT
+
+-- nothing was told to it yet
+pub said_none : (tells : Bool) (start : Start) (slot : ℕ) (outs : List (List ℕ)) (new : Writing) (outputs : List Output) → start.base ≡ slot → outs ≡ start.out ∷ []
+    → AreTold tells new slot outs outputs (unsaid outs) → IsSaid tells start new outputs []
+said_none tells start slot outs new outputs number one told =
+    let P : ℕ → Type 0 = λ k. AreTold tells new k (start.out ∷ []) outputs ([] ∷ []) in
+    let Q : List (List ℕ) → Type 0 = λ names. AreTold tells new slot names outputs (unsaid names) in
+    subst P (sym number) (subst Q one told)
+
+-- it could not be opened
+pub unwritten : (start : Start) (mid new : Writing) (outs : List (List ℕ)) (left : List ℕ) → start.content ≡ Some left → outs ≡ start.out ∷ []
+    → ((texts : List (List ℕ)) → length texts ≡ length outs → HoldFronts mid new 0 outs texts) → IsUnwritten start mid new
+unwritten start mid new outs left content one fronts = (
+  left,
+  content,
+  λ text opened.
+      let Q : List (List ℕ) → Type 0 = λ names. HoldFronts mid new 0 names (text ∷ []) in
+      let front = subst Q one (fronts (text ∷ []) (sym (ap length one))) in
+      front.0 (omega (arith, opened)),
+)
