@@ -1,5 +1,5 @@
 -- That `records` brings back what `ipfix` was given.
-use Rattle.std.proofs.Common.{◌≡◌, ℕ, ◌≤◌, Bool, IsTrue, IsSomeAnd, List, [], ◌∷◌, ◌++◌, length, length-append, Option, Some, None, refl, sym, ap, ◌∙◌, subst, append-nil, arith}
+use Rattle.std.proofs.Common.{◌≡◌, ℕ, ◌≤◌, IsSomeAnd, List, [], ◌∷◌, ◌++◌, length, length-append, Option, Some, sym, ap, ◌∙◌, subst, append-nil, arith}
 use Rattle.ioam_desk.specs.Desk.{Reading, Writing, holds}
 use Rattle.ioam_dex.specs.Record.{Record}
 use Rattle.ioam_dex.specs.Reads.{records_octets}
@@ -13,9 +13,9 @@ use Rattle.ioam_run_answer.specs.Outcomes.{IsDone}
 use Rattle.ioam_run_answer.specs.declared.outcome.Outcome.{Outcome}
 use Rattle.ioam_run_answer.specs.declared.outcome.Outcome.TheVariants as outcome
 use Rattle.ioam_run_ipfix.specs.Exports.{AreFew, EndsSo}
-use Rattle.ioam_run_ipfix.specs.Messages.{IsMessages, AreOf}
-use Rattle.ioam_run_ipfix.specs.Promise.{BringsBack, RecordsLeaves, IpfixLeaves}
-use Rattle.ioam_run_ipfix.specs.Texts.{AreCut, AreMessages, AreRecords, HoldsText}
+use Rattle.ioam_run_ipfix.specs.Messages.{IsMessages}
+use Rattle.ioam_run_ipfix.specs.Promise.{BringsBack, IpfixLeaves}
+use Rattle.ioam_run_ipfix.specs.Texts.{AreCut, AreMessages, HoldsText}
 use Rattle.ioam_run_ipfix.proofs.AskedLaws.{records-unique}
 use Rattle.ioam_run_ipfix.proofs.StreamLaws.{held_map}
 

@@ -1,11 +1,9 @@
 -- How `ipfix` ends, by what stopped the reading.
-use Rattle.std.proofs.Common.{◌≡◌, ◌≢◌, ℕ, ◌+◌, ◌<◌, ◌≤◌, Bool, IsTrue, IsSomeAnd, All, List, [], ◌∷◌, ◌++◌, length, Option, Some, None, refl, sym, ap, ◌∙◌, subst, inl, inr, ◌⊎◌, append-nil, append_assoc, arith}
+use Rattle.std.proofs.Common.{◌≡◌, ◌≢◌, ℕ, ◌+◌, ◌<◌, ◌≤◌, Bool, IsTrue, IsSomeAnd, List, [], ◌∷◌, ◌++◌, refl, sym, ap, ◌∙◌, subst, inl, inr, append-nil, append_assoc, arith}
 use Rattle.std.specs.List.{AllByRecursion}
 use Rattle.std.proofs.lemmas.List.Elements.{All-nil, All-from_recursion, recursion_from_All}
-use Rattle.ioam_base.specs.Octets.{IsFront}
 use Rattle.ioam_desk.specs.Desk as desk
 use Rattle.ioam_desk.specs.Desk.{Writing, Rose, holds}
-use Rattle.ioam_desk_outputs.specs.Told.{Adds}
 use Rattle.ioam_desk_outputs.specs.declared.output.Output.{Output}
 use Rattle.ioam_dex.specs.Record.{Record, IsRecord, record_octets}
 use Rattle.ioam_dex.specs.Reads.{records_octets, Splits, Ending, Whole, Faulty}
@@ -22,7 +20,7 @@ use Rattle.ioam_run_ipfix.specs.Packing.{Packed, IsPacked}
 use Rattle.ioam_run_ipfix.specs.PackSteps.{IsPacking, Halts, Begins}
 use Rattle.ioam_run_ipfix.specs.Promise.{IpfixCause, IpfixLeaves}
 use Rattle.ioam_run_ipfix.specs.Streams.{Start, Handed, IsSaid, IsUnwritten, Refuses, Fronts, Sticks, HoldsAll, HoldsSome}
-use Rattle.ioam_run_ipfix.specs.Texts.{AreCut, AreMessages, HoldsText, HoldsFront}
+use Rattle.ioam_run_ipfix.specs.Texts.{AreMessages, HoldsText, HoldsFront}
 use Rattle.ioam_run_ipfix.proofs.PackingLaws.{packed-count}
 use Rattle.ioam_run_ipfix.proofs.StreamLaws.{held_map, is_content, said-adds, said-front, held-front, sticks-by, of_content}
 

@@ -2,10 +2,15 @@ mod AskedLaws
 pub mod BackLaws
 mod BoundsLaws
 mod ExportsLaws
+mod GoesLaws
 mod IpfixLaws
 mod MessagesLaws
+mod NearLaws
 mod OpeningLaws
 mod PackEndLaws
 mod PackStepLaws
 mod PackingLaws
+mod RecordsLaws
 mod StreamLaws
+mod TakeEndLaws
+mod TakeStepLaws

@@ -1,5 +1,5 @@
 -- Which messages stand at the front of octets.
-use Rattle.std.proofs.Common.{◌≡◌, ℕ, ◌+◌, ◌<◌, ◌≤◌, ◌⊎◌, List, [], ◌∷◌, ◌++◌, length, length-append, refl, sym, ap, ◌∙◌, subst, inl, inr, append_assoc, append-nil, arith}
+use Rattle.std.proofs.Common.{◌≡◌, ℕ, ◌≤◌, ◌⊎◌, List, [], ◌∷◌, ◌++◌, length, length-append, refl, sym, ap, ◌∙◌, subst, inl, inr, append_assoc, append-nil, arith}
 use Rattle.ioam_base.specs.Chain.{Chain, Stops}
 use Rattle.ioam_dex.specs.Record.{Record}
 use Rattle.ioam_ipfix.specs.declared.fault.IpfixFault.{IpfixFault}

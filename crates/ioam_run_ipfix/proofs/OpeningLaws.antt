@@ -1,15 +1,14 @@
 -- The opening of a command's two files.
-use Rattle.std.proofs.Common.{◌≡◌, ◌≢◌, ℕ, zero, suc, ◌+◌, ◌<◌, Bool, IsTrue, IsSomeAnd, List, [], ◌∷◌, ◌++◌, length, take, Option, Some, Result, Ok, Err, refl, sym, ◌∙◌, ap, subst, append-nil, arith}
+use Rattle.std.proofs.Common.{◌≡◌, ℕ, zero, suc, ◌<◌, Bool, List, [], ◌∷◌, ◌++◌, length, Option, Some, Err, sym, ◌∙◌, ap, subst, append-nil, arith}
 use Rattle.std.specs.Prelude.{Contains}
-use Rattle.ioam_base.specs.Octets.{IsFront}
 use Rattle.ioam_desk.specs.Asked.{AsksFront}
-use Rattle.ioam_desk.specs.Desk.{Side, Reading, Writing, OpenIn, OpensInput, FailsToOpen, holds, opened_each}
+use Rattle.ioam_desk.specs.Desk.{Side, Reading, Writing, OpenIn, OpensInput}
 use Rattle.ioam_desk.specs.Kept.{KeepsInputs}
 use Rattle.ioam_desk.specs.declared.fault.DeskFault.{DeskFault}
 use Rattle.ioam_desk.specs.declared.fault.DeskFault.TheVariants.{Failed, NoMemory}
 use Rattle.ioam_desk.proofs.KeptLaws.{KeepsInputs-same, KeepsInputs-but}
 use Rattle.ioam_desk_outputs.specs.Held.{HoldFronts}
-use Rattle.ioam_desk_outputs.specs.Names.{name_at, AreApart, Repeats}
+use Rattle.ioam_desk_outputs.specs.Names.{AreApart, Repeats}
 use Rattle.ioam_desk_outputs.specs.Told.{AreTold, unsaid}
 use Rattle.ioam_desk_outputs.specs.declared.output.Output.{Output}
 use Rattle.ioam_run_ipfix.specs.Streams.{Start, Handed, IsSaid, IsUnwritten}

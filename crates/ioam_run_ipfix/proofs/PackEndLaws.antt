@@ -1,5 +1,5 @@
 -- How the packing of records ends.
-use Rattle.std.proofs.Common.{◌≡◌, ℕ, ◌+◌, ◌*◌, ◌<◌, ◌≤◌, ◌^◌, Bool, true, false, IsTrue, IsSomeAnd, List, [], ◌∷◌, ◌++◌, length, Option, Some, None, refl, sym, ap, ◌∙◌, subst, inl, inr, append_assoc, length-append, arith}
+use Rattle.std.proofs.Common.{◌≡◌, ℕ, ◌*◌, ◌<◌, ◌≤◌, Bool, true, false, IsTrue, IsSomeAnd, List, [], ◌∷◌, ◌++◌, length, Option, Some, None, refl, sym, ap, ◌∙◌, subst, inl, inr, append_assoc, length-append, arith}
 use Rattle.std.specs.List.{AllByRecursion}
 use Rattle.std.proofs.lemmas.List.Elements.{recursion_from_All}
 use Rattle.std.specs.Prelude.{slice_index}
@@ -8,25 +8,23 @@ use Rattle.ioam_desk.specs.Desk.{Writing, holds}
 use Rattle.ioam_desk_outputs.specs.Flush.{WritesTheirs}
 use Rattle.ioam_desk_outputs.specs.Held.{HoldTexts, HoldAllFronts}
 use Rattle.ioam_desk_outputs.specs.declared.output.Output.{Output}
-use Rattle.ioam_desk_outputs.specs.Told.{Adds, AreTold, AreOpen}
+use Rattle.ioam_desk_outputs.specs.Told.{AreTold, AreOpen}
 use Rattle.ioam_dex.specs.Record.{Record, IsRecord, record_octets}
 use Rattle.ioam_dex.specs.Visit.{has_visit, twelve_where}
 use Rattle.ioam_dex.specs.Faults.{IsCut}
-use Rattle.ioam_dex.specs.Reads.{records_octets, Ending, Whole, Faulty, Reads}
+use Rattle.ioam_dex.specs.Reads.{records_octets, Ending, Reads}
 use Rattle.ioam_dex.specs.Reading.{Reading}
 use Rattle.ioam_dex.specs.Reader.{Stands, Waits, fed, ending_of}
 use Rattle.ioam_dex.specs.declared.export.ExportFault.{ExportFault}
 use Rattle.ioam_dex.proofs.RecordLaws.{numbers_size-small, record_octets-length, record_size-small}
 use Rattle.ioam_ipfix.specs.Written.{templates_message, runs_text, messages_text}
-use Rattle.ioam_run_answer.specs.declared.outcome.Outcome.{Outcome}
-use Rattle.ioam_run_answer.specs.declared.outcome.Outcome.TheVariants as outcome
 use Rattle.ioam_run_ipfix.specs.Ends.{IpfixEnds}
-use Rattle.ioam_run_ipfix.specs.Exports.{AreFew, AreFirst, ArePassed, AreWhole, EndsSo}
+use Rattle.ioam_run_ipfix.specs.Exports.{AreWhole, EndsSo}
 use Rattle.ioam_run_ipfix.specs.Packing.{Packed, IsPacked, HasPacked}
 use Rattle.ioam_run_ipfix.specs.PackSteps.{Feeds, IsPacking, Halts, EndsMore, end_of}
-use Rattle.ioam_run_ipfix.specs.Streams.{Start, Handed, Frames, IsSaid, Sticks, HoldsAll, HoldsSome}
-use Rattle.ioam_run_ipfix.specs.Texts.{AreCut, AreMessages}
-use Rattle.ioam_run_ipfix.proofs.PackStepLaws.{all-cut, packing-sticks}
+use Rattle.ioam_run_ipfix.specs.Streams.{Start, Frames, IsSaid, HoldsAll, HoldsSome}
+use Rattle.ioam_run_ipfix.specs.Texts.{AreMessages}
+use Rattle.ioam_run_ipfix.proofs.PackStepLaws.{all-cut}
 use Rattle.ioam_run_ipfix.proofs.StreamLaws.{Frames-written, Handed-more, Handed-all, is_content, said-same, said-adds, said-text, said-front, said-open, front-flushed, held-front}
 
 -- ---- how much a reader holds

@@ -1,5 +1,5 @@
 -- Steps of a reader whose records are packed.
-use Rattle.std.proofs.Common.{◌≡◌, ℕ, ◌+◌, ◌<◌, ◌≤◌, Bool, IsTrue, IsSomeAnd, List, [], ◌∷◌, ◌++◌, length, Option, Some, get_or, set, refl, sym, ap, ◌∙◌, subst, append-nil, append_assoc, length-append, arith}
+use Rattle.std.proofs.Common.{◌≡◌, ℕ, ◌+◌, ◌<◌, ◌≤◌, Bool, IsTrue, IsSomeAnd, List, [], ◌∷◌, ◌++◌, length, Some, get_or, set, refl, sym, ap, ◌∙◌, subst, append-nil, append_assoc, length-append, arith}
 use Rattle.ioam_base.specs.Octets.{IsFront}
 use Rattle.ioam_desk.specs.Desk as desk
 use Rattle.ioam_desk.specs.Desk.{Writing, holds}
@@ -10,13 +10,13 @@ use Rattle.ioam_desk_outputs.specs.Told.{Adds, AreTold, AreOpen}
 use Rattle.ioam_dex.specs.Record.{Record}
 use Rattle.ioam_dex.specs.Reads.{Faulty}
 use Rattle.ioam_dex.specs.Reading.{Reading}
-use Rattle.ioam_dex.specs.Reader.{Stands, Waits}
+use Rattle.ioam_dex.specs.Reader.{Waits}
 use Rattle.ioam_dex.proofs.ReadsLaws.{Splits-feed}
 use Rattle.ioam_ipfix.specs.Written.{templates_message, runs_text, messages_text}
-use Rattle.ioam_run_ipfix.specs.Exports.{AreFew, AreFirst, ArePassed, EndsSo}
+use Rattle.ioam_run_ipfix.specs.Exports.{AreFirst, ArePassed, EndsSo}
 use Rattle.ioam_run_ipfix.specs.Packing.{Packed, IsPacked, Packs, Ends}
 use Rattle.ioam_run_ipfix.specs.PackSteps.{Gives, PacksMore, Steps, IsPacking, Halts, Pauses, EndsMore, Begins}
-use Rattle.ioam_run_ipfix.specs.Streams.{Start, Frames, IsSaid, Sticks}
+use Rattle.ioam_run_ipfix.specs.Streams.{Start, Frames, Sticks}
 use Rattle.ioam_run_ipfix.specs.Texts.{AreCut, AreMessages}
 use Rattle.ioam_run_ipfix.specs.declared.ipfix_stream.Pause.{Pause}
 use Rattle.ioam_run_ipfix.specs.declared.ipfix_stream.Pause.TheVariants as pause

@@ -5,4 +5,5 @@ pub mod PackSteps
 pub mod Packing
 pub mod Promise
 pub mod Streams
+pub mod TakeSteps
 pub mod Texts

@@ -1,11 +1,11 @@
 //! `ipfix`: its names, its files and its answer.
-ghost use Rattle.std.specs.Prelude.{◌≡◌, ◌≢◌, ◌⊎◌, ◌↔◌, ◌∷◌, [], IfOk, IsSomeAnd, IsTrue, OnOk, length};
+ghost use Rattle.std.specs.Prelude.{◌≡◌, ◌≢◌, ◌⊎◌, ◌∷◌, [], IfOk, IsSomeAnd, IsTrue, OnOk, length};
 ghost use Rattle.ioam_desk.specs.Desk.{holds};
 ghost use Rattle.ioam_desk_outputs.specs.Told.{GathersNothing};
 ghost use Rattle.ioam_dex.specs.Reader.{Stands};
 ghost use Rattle.ioam_run_answer.specs.Desks.{around};
 ghost use Rattle.ioam_run_answer.specs.Outcomes.{OpensNothing};
-ghost use Rattle.ioam_run_ipfix.specs.Ends.{IpfixEnds, IsBroken};
+ghost use Rattle.ioam_run_ipfix.specs.Ends.{IpfixEnds};
 ghost use Rattle.ioam_run_ipfix.specs.Exports.{AreFirst};
 ghost use Rattle.ioam_run_ipfix.specs.Packing.{IsPacked};
 ghost use Rattle.ioam_run_ipfix.specs.PackSteps.{Begins};
@@ -13,6 +13,7 @@ ghost use Rattle.ioam_run_ipfix.specs.Promise.{IpfixCause, IpfixKeeps, IpfixLeav
 ghost use Rattle.ioam_run_ipfix.specs.Streams.{Bounds, Frames, Handed, IsSaid, Start, Sticks};
 ghost use Rattle.ioam_run_ipfix.specs.Texts.{AreMessages, HoldsText};
 
+use crate::ending::is_broken;
 use crate::ipfix_stream::{Packer, read_on, write_rest};
 use crate::names::IpfixFiles;
 use crate::opening::{new_piece, open_files};
@@ -141,11 +142,4 @@ fn begin(outputs: &mut [Output]) -> Result<(), NoMemory>
     ensures ok { OnOk result (Begins outputs.old outputs.new) }
 {
     put_templates(&mut outputs[0].gathered)
-}
-
-// Whether the answer leaves OUT as it is.
-fn is_broken(answer: &Outcome) -> bool
-    ensures { IsTrue result ↔ IsBroken answer.now }
-{
-    matches!(answer, Outcome::WriteFault | Outcome::NoMemory)
 }

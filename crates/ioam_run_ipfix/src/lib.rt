@@ -1,6 +1,7 @@
 //! `ipfix EXPORTS OUT` and `records IN OUT`: export records as IPFIX messages (RFC 7011), and back.
 #![tactic(auto)]
 
+mod ending;
 mod ipfix;
 mod ipfix_stream;
 mod laws;
@@ -8,6 +9,7 @@ mod names;
 mod opening;
 mod packing;
 mod records;
+mod records_stream;
 
 pub use ipfix::run_ipfix;
 pub use laws::messages_bring_back;

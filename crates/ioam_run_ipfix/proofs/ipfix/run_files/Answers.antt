@@ -1,5 +1,4 @@
-use Rattle.std.proofs.Common.{◌≡◌, ℕ, ◌+◌, List, ap, sym, ◌∙◌, arith}
-use Rattle.ioam_desk.specs.Desk as desk
+use Rattle.std.proofs.Common.{◌≡◌, ◌+◌, ap, arith}
 use Rattle.ioam_desk.specs.Desk.{Side}
 use Rattle.ioam_run_ipfix.proofs.BoundsLaws.{Bounds-none, Bounds-opened, Bounds-refused, refused-opens}
 use Rattle.ioam_run_ipfix.proofs.IpfixLaws.{ends-cause, ends-leaves, ends-drained, ends-opened, refused-cause, refused-leaves}

@@ -1,7 +1,6 @@
 use Rattle.std.proofs.Common.{rules, sym, ap, ◌∙◌, arith}
 use Rattle.std.proofs.lemmas.Bool.{false≢true}
-use Rattle.ioam_desk.specs.Desk as desk
-use Rattle.ioam_desk.specs.Desk.{Side, Writing}
+use Rattle.ioam_desk.specs.Desk.{Side}
 use Rattle.std.specs.Prelude.{IsSomeAnd, IsTrue}
 use Rattle.ioam_run_ipfix.specs.Ends.{IsBroken}
 use Rattle.ioam_run_ipfix.specs.Texts.{AreMessages, HoldsText}

@@ -2,9 +2,9 @@ use Rattle.std.proofs.Common.{◌≡◌, ℕ, IsTrue, List, length, length-appen
 use Rattle.ioam_desk.specs.Desk as desk
 use Rattle.ioam_desk.specs.Desk.{Side, Writing}
 use Rattle.ioam_dex.specs.Reader.{fed, ending_of}
-use Rattle.ioam_run_ipfix.specs.Exports.{AreFirst, EndsSo}
-use Rattle.ioam_run_ipfix.specs.PackSteps.{Halts, Feeds, Pauses, PacksSo}
-use Rattle.ioam_run_ipfix.specs.Streams.{Sticks, Refills}
+use Rattle.ioam_run_ipfix.specs.Exports.{AreFirst}
+use Rattle.ioam_run_ipfix.specs.PackSteps.{Halts, Feeds}
+use Rattle.ioam_run_ipfix.specs.Streams.{Sticks}
 use Rattle.ioam_run_ipfix.specs.Texts.{AreMessages}
 use Rattle.ioam_run_ipfix.proofs.StreamLaws.{Frames-same, Frames-then, Frames-slot, Frames-read}
 use Rattle.ioam_run_ipfix.proofs.PackStepLaws.{packing-sticks_here}

@@ -1,7 +1,6 @@
-use Rattle.std.proofs.Common.{sym, arith}
 use Rattle.ioam_base.proofs.ResultLaws.{OnOk-map}
 use Rattle.ioam_run_ipfix.proofs.PackEndLaws.{rest-open, rest-texts, rest-fronts, rest-frames, rest-front}
-use Rattle.ioam_run_ipfix.proofs.StreamLaws.{Frames-same, OnErr-always}
+use Rattle.ioam_run_ipfix.proofs.StreamLaws.{OnErr-always}
 use Rattle.ioam_run_ipfix.proofs.ipfix_stream.write_rest.Goals as goal
 
 pub finish-requires : goal.finish-requires

@@ -1,5 +1,4 @@
-use Rattle.std.proofs.Common.{◌≡◌, ℕ, ◌+◌, ◌++◌, ◌∷◌, List, [], take, Option, Some, refl, ap, sym, ◌∙◌, subst, inl, inr, arith}
-use Rattle.ioam_desk.specs.Asked.{AsksFront}
+use Rattle.std.proofs.Common.{◌≡◌, ℕ, List, Some, ap, ◌∙◌, subst, inr}
 use Rattle.ioam_desk.specs.Desk.{Side, Reading, Writing, holds}
 use Rattle.ioam_run_ipfix.proofs.OpeningLaws.{asks_one, unwritten}
 use Rattle.ioam_run_ipfix.proofs.opening.open_files.Goals as goal

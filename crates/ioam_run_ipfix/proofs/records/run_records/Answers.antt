@@ -1,22 +1,25 @@
-use Rattle.std.proofs.Common.{refl, sym, inl, inr, append-nil}
-use Rattle.ioam_desk.proofs.KeptLaws.{KeepsInputs-same, KeepsOutputs-same}
+use Rattle.ioam_desk.specs.Desk.{holds}
+use Rattle.ioam_run_ipfix.proofs.AskedLaws.{records-exact}
 use Rattle.ioam_run_ipfix.proofs.records.run_records.Goals as goal
 
 pub returns : goal.returns
 returns g c = record {
   keeps = record {
-    cause = tt;
-    leaves = λ told. inl refl;
-    exact = λ asked told asks reads writes. inr refl;
-    asked_in = (0, sym (append-nil (g.D.Desk.reading c.args.desk.now).side.asked));
-    asked_out = (0, sym (append-nil (g.D.Desk.writing c.args.desk.now).side.asked));
-    all_in = λ none. absurd none;
-    all_out = λ none. absurd none;
-    unopened = λ none. absurd none;
-    differed = inl refl;
-    no_output = λ same. refl;
-    drained = λ none told. absurd none;
-    kept_in = KeepsInputs-same (g.D.Desk.reading c.args.desk.now) _ refl;
-    kept_out = λ told. KeepsOutputs-same (g.D.Desk.writing c.args.desk.now) _ refl;
+    cause = c.run_names.ensures.cause;
+    leaves = c.run_names.ensures.leaves;
+    exact = λ asked told asks reads writes.
+        records-exact g.D.Desk.tells (holds (g.D.Desk.writing c.args.desk.now) c.args.files.now.input) c.args.files.now.input c.args.files.now.out told
+        (g.D.Desk.reading c.args.desk.now) (g.D.Desk.reading c.run_names.new.desk) (g.D.Desk.writing c.args.desk.now) (g.D.Desk.writing c.run_names.new.desk)
+        c.run_names.result asked c.run_names.ensures.cause asks reads writes;
+    asked_in = c.run_names.ensures.bounds.asked_in;
+    asked_out = c.run_names.ensures.bounds.asked_out;
+    all_in = c.run_names.ensures.bounds.all_in;
+    all_out = c.run_names.ensures.bounds.all_out;
+    unopened = c.run_names.ensures.unopened;
+    differed = c.run_names.ensures.differed;
+    no_output = c.run_names.ensures.bounds.no_output;
+    drained = c.run_names.ensures.bounds.drained;
+    kept_in = c.run_names.ensures.bounds.kept_in;
+    kept_out = c.run_names.ensures.bounds.kept_out;
   };
 }

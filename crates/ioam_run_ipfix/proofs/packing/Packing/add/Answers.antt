@@ -1,4 +1,3 @@
-use Rattle.std.proofs.Common.{sym}
 use Rattle.ioam_dex.specs.Record.{record_of}
 use Rattle.ioam_run_ipfix.proofs.PackingLaws.{packs-add}
 use Rattle.ioam_run_ipfix.proofs.packing.Packing.add.Goals as goal

@@ -1,0 +1,23 @@
+use Rattle.std.proofs.Common.{◌≡◌, ◌-◌, length}
+use Rattle.ioam_ipfix.specs.Reading.{fed}
+use Rattle.ioam_run_ipfix.specs.TakeSteps.{TakesSo}
+use Rattle.ioam_run_ipfix.specs.Streams.{Frames}
+use Rattle.ioam_run_ipfix.proofs.records_stream.read_on.Given as goal
+
+-- the records that were given were told to OUT
+abbrev pub invariant-pieces : goal.invariant-pieces
+invariant-pieces g l = record {
+  takes : TakesSo g.D.Desk.tells g.start (g.D.Desk.reading l.desk) (g.D.Desk.writing l.desk) l.taker l.outputs;
+  room : length l.piece ≡ 65536;
+  inputs : (g.D.Desk.reading l.desk).side ≡ (g.D.Desk.reading l.initial.desk).side;
+  side : (g.D.Desk.writing l.desk).side ≡ (g.D.Desk.writing l.initial.desk).side;
+  slot : l.taker.slot ≡ l.initial.taker.slot;
+  frames : Frames g.start.base l.initial.taker.slot (g.D.Desk.reading l.initial.desk) (g.D.Desk.reading l.desk) (g.D.Desk.writing l.initial.desk) (g.D.Desk.writing l.desk);
+}
+
+-- what may still be fed: the greatest messages, the front of another, and a piece
+abbrev pub decreases-pieces : goal.decreases-pieces
+decreases-pieces g l = 4398000000000 - fed l.taker.reader
+
+abbrev pub ghost-take_shown : goal.ghost-take_shown
+ghost-take_shown g a = g.start
