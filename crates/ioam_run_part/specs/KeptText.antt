@@ -1,0 +1,20 @@
+-- How the records of a part are printed.
+use Rattle.std.specs.Prelude.{ℕ, List, ◌++◌, length, decimal, codes}
+use Rattle.std.specs.List.{flat_map}
+use Rattle.ioam_dex.specs.Record.{Record}
+use Rattle.ioam_collect.specs.Best.{groups_of}
+use Rattle.ioam_collect.specs.Collected.{Collected}
+use Rattle.ioam_collect.specs.Keyed.{keyed}
+use Rattle.ioam_report_groups.specs.GroupsText.{group_text}
+
+-- how many records are kept
+abbrev pub kept_line : ℕ → List ℕ
+kept_line count = codes "kept " ++ decimal count ++ codes "\n"
+
+-- the lines of a collector's groups, and how many records it holds
+abbrev pub kept_text : Collected → List ℕ
+kept_text c = flat_map group_text c.groups ++ kept_line c.held
+
+-- those of the records of a part
+abbrev pub part_lines : List Record → List ℕ
+part_lines xs = flat_map group_text (groups_of (keyed xs)) ++ kept_line (length xs)

@@ -1,0 +1,13 @@
+//! `part EXPORTS PART`, `merge ONE TWO PART` and `parts PART REPORT`: what a collector holds as a file, two of these
+//! joined, and one printed.
+#![tactic(auto)]
+
+mod merge;
+mod names;
+mod part;
+mod parts;
+
+pub use merge::run_merge;
+pub use names::{MergeFiles, PartFiles, PartsFiles};
+pub use part::run_part;
+pub use parts::run_parts;
