@@ -1,0 +1,14 @@
+mod FileLaws
+mod JoinedLaws
+mod KeptLaws
+mod MergeAskedLaws
+mod MergeLaws
+mod OneFault
+mod PartAskedLaws
+mod PartLaws
+mod PartsAskedLaws
+mod PartsLaws
+mod RecordsLaws
+mod StoredLaws
+mod TwoLaws
+mod UnreadLaws

@@ -1,6 +1,13 @@
 pub mod Files
-pub mod Records
-pub mod PartPromise
-pub mod MergePromise
+pub mod Joined
 pub mod KeptText
+pub mod MergeEnds
+pub mod MergePromise
+pub mod PartEnds
+pub mod PartPromise
+pub mod PartsEnds
 pub mod PartsPromise
+pub mod Records
+pub mod Stored
+pub mod Two
+pub mod Unread

@@ -19,17 +19,18 @@ use Rattle.ioam_run_part.specs.Records.{IsPartOfAll, IsAPart, HoldBoth, AreParts
 
 -- ---- which answer is asked for, and why each comes
 
--- What the names and the files ask for, where nothing fails: the first of the refusals in their order whose
--- condition holds, or Done. What ONE and TWO hold is spoken of where the desk tells.
-module _ (tells : Bool) (first second : Option (List ℕ)) (one two part : List ℕ) where
+module _ (tells : Bool) (first second : Option (List ℕ)) (one two : List ℕ) where
   -- ONE has this fault at this place; or ONE is a part, and TWO has it
   abbrev pub IsFaulty : List ℕ → ℕ → PartFault → Type 0
   IsFaulty name at fault = ((name ≡ one) × (IsTrue tells → IsSomeAnd first (λ octets. HasFault octets at fault)))
       ⊎ ((name ≡ two) × (IsTrue tells → HoldBoth first second (IsSecondFaulty at fault)))
 
+-- What the names and the files ask for, where nothing fails: the first of the refusals in their order whose
+-- condition holds, or Done. What ONE and TWO hold is spoken of where the desk tells.
+module _ (tells : Bool) (first second : Option (List ℕ)) (one two part : List ℕ) where
   abbrev pub MergeAsked : Outcome → Type 0
   MergeAsked (outcome.Names name) = IsRepeat one two part name
-  MergeAsked (outcome.Part name at fault) = AreApart one two part × IsFaulty name at fault
+  MergeAsked (outcome.Part name at fault) = AreApart one two part × IsFaulty tells first second one two name at fault
   MergeAsked (outcome.Records limit) = AreApart one two part × (limit ≡ 1048576) × (IsTrue tells → HoldBoth first second (AreParts KeepMany))
   MergeAsked outcome.Done = AreApart one two part × (IsTrue tells → HoldBoth first second (AreParts KeepFew))
   MergeAsked _ = ⊥

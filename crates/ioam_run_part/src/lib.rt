@@ -2,10 +2,17 @@
 //! joined, and one printed.
 #![tactic(auto)]
 
+mod exports;
+mod joined;
+mod kept;
 mod merge;
 mod names;
 mod part;
 mod parts;
+mod piece;
+mod stored;
+mod two;
+mod unread;
 
 pub use merge::run_merge;
 pub use names::{MergeFiles, PartFiles, PartsFiles};

@@ -1,24 +1,16 @@
-use Rattle.std.proofs.Common.{refl, sym, ap, inl, inr, append-nil, length, length-append, [], ◌∷◌, arith}
-use Rattle.ioam_desk.proofs.KeptLaws.{KeepsInputs-same, KeepsOutputs-same}
+use Rattle.std.proofs.Common.{refl}
+use Rattle.ioam_run_answer.specs.Desks.{around}
+use Rattle.ioam_run_part.proofs.MergeLaws.{keeps_apart, keeps_names}
 use Rattle.ioam_run_part.proofs.merge.run_merge.Goals as goal
 
-pub returns : goal.returns
-returns g c = record {
-  keeps = record {
-    cause = tt;
-    leaves = λ told. inl refl;
-    exact = λ asked told asks reads writes. inr refl;
-    asked_in = (0, sym (append-nil (g.D.Desk.reading c.args.desk.now).side.asked));
-    asked_out = (0, sym (append-nil (g.D.Desk.writing c.args.desk.now).side.asked));
-    all_in = λ none. absurd none;
-    all_out = λ none. absurd none;
-    unopened = λ none. refl;
-    differed = inl refl;
-    no_output = λ same. refl;
-    drained = λ none told. absurd none;
-    kept_in = KeepsInputs-same (g.D.Desk.reading c.args.desk.now) _ refl;
-    kept_out = λ told. KeepsOutputs-same (g.D.Desk.writing c.args.desk.now) _ refl;
-    in_turn = λ asked told. absurd (let size = ap length asked in let both = length-append (g.D.Desk.reading c.args.desk.now).side.asked (c.args.files.now.one ∷ c.args.files.now.two ∷ []) in omega (arith, size, both));
-    no_part = λ none. refl;
-  };
+pub returns-in-Some : goal.returns-in-Some
+returns-in-Some g c = record {
+  keeps = keeps_names (around g.D.Desk.tells (g.D.Desk.reading c.args.desk.now) (g.D.Desk.reading c.args.desk.now) (g.D.Desk.writing c.args.desk.now) (g.D.Desk.writing c.args.desk.now))
+      c.args.files.now refl refl c.names_outcome.result c.in-Some.name.now c.in-Some.ensures c.names_outcome.ensures;
+}
+
+pub returns-in-None : goal.returns-in-None
+returns-in-None g c = record {
+  keeps = keeps_apart (around g.D.Desk.tells (g.D.Desk.reading c.args.desk.now) (g.D.Desk.reading c.run_apart.new.desk) (g.D.Desk.writing c.args.desk.now) (g.D.Desk.writing c.run_apart.new.desk))
+      c.args.files.now c.run_apart.result c.in-None.ensures c.run_apart.ensures;
 }

@@ -1,23 +1,22 @@
-use Rattle.std.proofs.Common.{refl, sym, inl, inr, append-nil}
-use Rattle.ioam_desk.proofs.KeptLaws.{KeepsInputs-same, KeepsOutputs-same}
+use Rattle.std.proofs.Common.{◌≡◌, ◌≢◌, Bool, MatchBool, refl, subst}
+use Rattle.ioam_run_answer.specs.Desks.{Desks, around}
+use Rattle.ioam_run_part.specs.Files.{PartsNames}
+use Rattle.ioam_run_part.specs.PartsPromise.{PartsKeeps}
+use Rattle.ioam_run_part.proofs.PartsLaws.{keeps_apart, keeps_names}
 use Rattle.ioam_run_part.proofs.parts.run_parts.Goals as goal
 
-pub returns : goal.returns
-returns g c = record {
-  keeps = record {
-    cause = tt;
-    leaves = λ told. inl refl;
-    exact = λ asked told asks reads writes. inr refl;
-    asked_in = (0, sym (append-nil (g.D.Desk.reading c.args.desk.now).side.asked));
-    asked_out = (0, sym (append-nil (g.D.Desk.writing c.args.desk.now).side.asked));
-    all_in = λ none. absurd none;
-    all_out = λ none. absurd none;
-    unopened = λ none. refl;
-    differed = inl refl;
-    no_output = λ same. refl;
-    drained = λ none told. absurd none;
-    kept_in = KeepsInputs-same (g.D.Desk.reading c.args.desk.now) _ refl;
-    kept_out = λ told. KeepsOutputs-same (g.D.Desk.writing c.args.desk.now) _ refl;
-    no_report = λ none. refl;
-  };
-}
+pub returns-then-are_equal : goal.returns-then-are_equal
+returns-then-are_equal g c =
+    let names : PartsNames = record { part = c.files.inside.part.now; report = c.files.inside.report.now } in
+    let desks : Desks = around g.D.Desk.tells (g.D.Desk.reading c.args.desk.now) (g.D.Desk.reading c.args.desk.now) (g.D.Desk.writing c.args.desk.now) (g.D.Desk.writing c.args.desk.now) in
+    let B : Bool → Type 0 = λ b. MatchBool b (names.part ≡ names.report) (names.part ≢ names.report) in
+    let K : PartsNames → Type 0 = λ f. PartsKeeps desks f c.names_outcome.result in
+    record { keeps = subst K c.files.view_is (keeps_names desks names refl refl c.names_outcome.result names.report (subst B c.if-are_equal.true c.are_equal.ensures) refl c.names_outcome.ensures) }
+
+pub returns-else-are_equal : goal.returns-else-are_equal
+returns-else-are_equal g c =
+    let names : PartsNames = record { part = c.files.inside.part.now; report = c.files.inside.report.now } in
+    let desks : Desks = around g.D.Desk.tells (g.D.Desk.reading c.args.desk.now) (g.D.Desk.reading c.run_apart.new.desk) (g.D.Desk.writing c.args.desk.now) (g.D.Desk.writing c.run_apart.new.desk) in
+    let B : Bool → Type 0 = λ b. MatchBool b (names.part ≡ names.report) (names.part ≢ names.report) in
+    let K : PartsNames → Type 0 = λ f. PartsKeeps desks f c.run_apart.result in
+    record { keeps = subst K c.files.view_is (keeps_apart desks names c.run_apart.result (subst B c.if-are_equal.false c.are_equal.ensures) c.run_apart.ensures) }

@@ -1,0 +1,143 @@
+-- Which records stand at the front of octets.
+use Rattle.std.proofs.Common.{◌≡◌, ℕ, ◌+◌, ◌<◌, ◌≤◌, ◌⊎◌, List, [], ◌∷◌, ◌++◌, length, length-append, All, refl, sym, ap, ◌∙◌, subst, inl, inr, append_assoc, append-nil, arith}
+use Rattle.std.proofs.lemmas.List.Elements.{All-head, All-tail, All-nil}
+use Rattle.std.specs.List.{AllByRecursion}
+use Rattle.std.proofs.lemmas.List.Elements.{recursion_from_All, All-from_recursion}
+use Rattle.ioam_dex.specs.Record.{Record, IsRecord, record_octets}
+use Rattle.ioam_dex.specs.Reads.{records_octets, Splits, Ending, Whole, Faulty, EndsAt}
+use Rattle.ioam_dex.specs.declared.export.ExportFault.TheVariants as fault
+use Rattle.ioam_dex.proofs.RecordLaws.{record_octets-same}
+use Rattle.ioam_dex.proofs.ReadsLaws.{records_octets-append, Splits-feed, NoRecord, cut-no-record, fault-no-record}
+use Rattle.ioam_collect.specs.Collected.{count_kept}
+use Rattle.ioam_collect.proofs.CountLaws.{count_kept-grows}
+use Rattle.ioam_collect_stream.specs.Gathering.{AreFew, Passes, AreWhole}
+use Rattle.ioam_run_part.specs.Records.{EndsSo, AreFirst, IsExports, IsLong}
+
+-- ---- first records
+
+init_all : (xs ys : List Record) → AllByRecursion IsRecord (xs ++ ys) → AllByRecursion IsRecord xs
+init_all [] ys all = tt
+init_all (x ∷ xs) ys all = (all.0, init_all xs ys all.1)
+
+pub first_none : (octets : List ℕ) → AreFirst [] octets
+first_none octets = (octets, record { each = All-nil IsRecord; is = refl })
+
+pub first_ends : (ending : Ending) (records : List Record) (octets : List ℕ) → EndsSo ending records octets → AreFirst records octets
+first_ends ending records octets reads = (reads.rest, reads.splits)
+
+pub first_passes : (limit : ℕ) (records : List Record) (octets : List ℕ) → Passes limit records octets → AreFirst records octets
+first_passes limit records octets passes =
+    let last : List Record = passes.next ∷ [] in (
+      record_octets passes.next ++ passes.rest,
+      record {
+        each = All-from_recursion IsRecord records (init_all records last (recursion_from_All IsRecord (records ++ last) passes.splits.each));
+        is = passes.splits.is ∙ ap (λ o. o ++ passes.rest) (records_octets-append records last)
+            ∙ ap (λ o. (records_octets records ++ o) ++ passes.rest) (append-nil (record_octets passes.next))
+            ∙ append_assoc (records_octets records) (record_octets passes.next) passes.rest;
+      },
+    )
+
+pub first_whole : (left : List ℕ) (records : List Record) (octets : List ℕ) → AreWhole left records octets → AreFirst records octets
+first_whole left records octets whole =
+    let P : List ℕ → Type 0 = λ o. Splits o records (whole.rest ++ left) in
+    (whole.rest ++ left, subst P (sym whole.parts) (Splits-feed whole.handed left records whole.rest whole.splits))
+
+-- ---- fronts of one another
+
+-- records at the front of octets are some of the first of all
+front_of : (xs ys : List Record) (r s : List ℕ) → All IsRecord xs → All IsRecord ys → NoRecord s → records_octets xs ++ r ≡ records_octets ys ++ s
+    → (more : List Record) × (ys ≡ xs ++ more)
+front_of [] ys r s all_x all_y no_s same = (ys, refl)
+front_of (x ∷ xs) [] r s all_x all_y no_s same =
+    absurd (no_s x (records_octets xs ++ r) (All-head IsRecord x xs all_x) (sym same ∙ append_assoc (record_octets x) (records_octets xs) r))
+front_of (x ∷ xs) (y ∷ ys) r s all_x all_y no_s same =
+    let whole = sym (append_assoc (record_octets x) (records_octets xs) r) ∙ same ∙ append_assoc (record_octets y) (records_octets ys) s in
+    let first = record_octets-same x y (records_octets xs ++ r) (records_octets ys ++ s) (All-head IsRecord x xs all_x) (All-head IsRecord y ys all_y) whole in
+    let rest = front_of xs ys r s (All-tail IsRecord x xs all_x) (All-tail IsRecord y ys all_y) no_s first.1 in
+    let head : y ≡ x = sym first.0 in
+    (rest.0, ap (λ z. z ∷ ys) head ∙ ap (λ zs. x ∷ zs) rest.1)
+
+-- of two lists of records at the front of the same octets one is a front of the other
+one_front : (xs ys : List Record) (r s : List ℕ) → All IsRecord xs → All IsRecord ys → records_octets xs ++ r ≡ records_octets ys ++ s
+    → ((more : List Record) × (ys ≡ xs ++ more)) ⊎ ((more : List Record) × (xs ≡ ys ++ more))
+one_front [] ys r s all_x all_y same = inl (ys, refl)
+one_front (x ∷ xs) [] r s all_x all_y same = inr (x ∷ xs, refl)
+one_front (x ∷ xs) (y ∷ ys) r s all_x all_y same =
+    let whole = sym (append_assoc (record_octets x) (records_octets xs) r) ∙ same ∙ append_assoc (record_octets y) (records_octets ys) s in
+    let first = record_octets-same x y (records_octets xs ++ r) (records_octets ys ++ s) (All-head IsRecord x xs all_x) (All-head IsRecord y ys all_y) whole in
+    let head : x ≡ y = first.0 in
+    elim (one_front xs ys r s (All-tail IsRecord x xs all_x) (All-tail IsRecord y ys all_y) first.1) [
+      | inl (more, is) ↦ inl (more, ap (λ z. z ∷ ys) (sym head) ∙ ap (λ zs. x ∷ zs) is)
+      | inr (more, is) ↦ inr (more, ap (λ z. z ∷ xs) head ∙ ap (λ zs. y ∷ zs) is)
+    ]
+
+-- a list that goes on behind another has it in front of its last
+behind_front : (xs ys : List Record) (y m : Record) (ms : List Record) → ys ++ y ∷ [] ≡ xs ++ m ∷ ms → (more : List Record) × (ys ≡ xs ++ more)
+behind_front [] ys y m ms same = (ys, refl)
+behind_front (x ∷ xs) [] y m ms same =
+    let sizes : 1 ≡ length ((x ∷ xs) ++ m ∷ ms) = ap length same in
+    let size = length-append (x ∷ xs) (m ∷ ms) in
+    absurd (omega (arith, sizes, size))
+behind_front (x ∷ xs) (z ∷ ys) y m ms same =
+    let head : z ≡ x = cc in
+    let rest = behind_front xs ys y m ms (cc) in
+    (rest.0, ap (λ w. w ∷ ys) head ∙ ap (λ zs. x ∷ zs) rest.1)
+
+-- ---- limits
+
+-- as IsPast says, of the list with the record at its end
+abbrev pub Exceeds : ℕ → List Record → Type 0
+Exceeds limit xs = ((limit ≡ 1048576) × (1048576 < count_kept xs)) ⊎ ((limit ≡ 67108864) × (count_kept xs ≤ 1048576) × (67108864 < length xs))
+
+one_limit : (a b : ℕ) (xs : List Record) → Exceeds a xs → Exceeds b xs → a ≡ b
+one_limit a b xs (inl x) (inl y) = x.0 ∙ sym y.0
+one_limit a b xs (inl x) (inr y) = let more = x.1 in let few = y.1 in absurd (omega (arith, more, few))
+one_limit a b xs (inr x) (inl y) = let more = y.1 in let few = x.1 in absurd (omega (arith, more, few))
+one_limit a b xs (inr x) (inr y) = x.0 ∙ sym y.0
+
+-- no front of few records exceeds a limit
+no_front : (limit : ℕ) (xs ys more : List Record) → Exceeds limit xs → AreFew ys → ys ≡ xs ++ more → ⊥
+no_front limit xs ys more exceeds few is =
+    let grows = count_kept-grows xs more in
+    let kept : count_kept ys ≡ count_kept (xs ++ more) = ap count_kept is in
+    let size : length ys ≡ length xs + length more = ap length is ∙ length-append xs more in
+    elim exceeds [
+      | inl over ↦ let past = over.1 in omega (arith, past, grows, kept, few.held)
+      | inr over ↦ let past = over.2 in omega (arith, past, size, few.read)
+    ]
+
+-- of one octets' records one limit is passed first
+same_limit : (a b : ℕ) (xs ys more : List Record) (y : Record) → Exceeds a xs → Exceeds b (ys ++ y ∷ []) → AreFew ys → ys ++ y ∷ [] ≡ xs ++ more → a ≡ b
+same_limit a b xs ys [] y past also few is =
+    let P : List Record → Type 0 = λ zs. Exceeds b zs in
+    one_limit a b xs past (subst P (is ∙ append-nil xs) also)
+same_limit a b xs ys (m ∷ ms) y past also few is =
+    let front = behind_front xs ys y m ms is in
+    absurd (no_front a xs ys front.0 past few front.1)
+
+nothing-no-record : (rest : List ℕ) → rest ≡ [] → NoRecord rest
+nothing-no-record rest none x behind is_x front = absurd (cc (none, front))
+
+ends-no-record : (at : ℕ) (rest : List ℕ) (ending : Ending) → EndsAt at rest ending → NoRecord rest
+ends-no-record at rest Whole none = nothing-no-record rest none
+ends-no-record at rest (Faulty place (fault.Short have)) ends = cut-no-record rest ends.1
+ends-no-record at rest (Faulty place (fault.Version found)) ends = fault-no-record rest (fault.Version found) ends.1
+ends-no-record at rest (Faulty place (fault.Length found)) ends = fault-no-record rest (fault.Length found) ends.1
+ends-no-record at rest (Faulty place (fault.Element front)) ends = fault-no-record rest (fault.Element front) ends.1
+
+-- octets that have too many records don't end with few
+pub long_or_few : (limit : ℕ) (ending : Ending) (octets : List ℕ) → IsLong limit octets → IsExports ending octets → ⊥
+long_or_few limit ending octets long ends =
+    let xs : List Record = long.records ++ long.passes.next ∷ [] in
+    let front = front_of xs ends.records long.passes.rest ends.reads.rest long.passes.splits.each ends.reads.splits.each
+    (ends-no-record _ ends.reads.rest ending ends.reads.ends) (sym long.passes.splits.is ∙ ends.reads.splits.is) in
+    no_front limit xs ends.records front.0 long.passes.past ends.few front.1
+
+pub long_once : (a b : ℕ) (octets : List ℕ) → IsLong a octets → IsLong b octets → a ≡ b
+long_once a b octets x y =
+    let xs : List Record = x.records ++ x.passes.next ∷ [] in
+    let ys : List Record = y.records ++ y.passes.next ∷ [] in
+    elim (one_front xs ys x.passes.rest y.passes.rest x.passes.splits.each y.passes.splits.each (sym x.passes.splits.is ∙ y.passes.splits.is)) [
+      | inl (more, is) ↦ same_limit a b xs y.records more y.passes.next x.passes.past y.passes.past y.few is
+      | inr (more, is) ↦ sym (same_limit b a ys x.records more x.passes.next y.passes.past x.passes.past x.few is)
+    ]

@@ -1,0 +1,44 @@
+use Rattle.std.proofs.Common.{◌∷◌, [], IsTrue, sym, subst}
+use Rattle.ioam_desk.specs.Asked.{AsksFront}
+use Rattle.ioam_desk.specs.Desk as desk
+use Rattle.ioam_desk.specs.Desk.{Writing, holds}
+use Rattle.ioam_desk.specs.Kept.{KeepsOutputs}
+use Rattle.ioam_run_answer.specs.Desks.{Desks, around}
+use Rattle.ioam_run_part.specs.Files.{MergeNames}
+use Rattle.ioam_run_part.specs.Joined.{WritesJoined}
+use Rattle.ioam_run_part.specs.MergeEnds.{MergeEnds}
+use Rattle.ioam_run_part.specs.Two.{HoldsTwo, TriesTwo}
+use Rattle.ioam_run_part.proofs.MergeLaws.{ends_refused, ends_joined}
+use Rattle.ioam_run_part.proofs.merge.run_apart.Goals as goal
+
+pub write_joined-requires : goal.write_joined-requires
+write_joined-requires g c = record { limit = c.in-Ok.ensures.reads.first_held.limit }
+
+pub returns-in-Ok : goal.returns-in-Ok
+returns-in-Ok g c =
+    let names : MergeNames = record { one = c.files.inside.one.now; two = c.files.inside.two.now; part = c.files.inside.part.now } in
+    let tells = g.D.Desk.tells in
+    let old = g.D.Desk.writing c.args.desk.now in
+    let new = g.D.Desk.writing c.write_joined.new.desk in
+    let old_in = g.D.Desk.reading c.args.desk.now in
+    let new_in = g.D.Desk.reading c.write_joined.new.desk in
+    let first = holds old names.one in
+    let second = holds old names.two in
+    let P : desk.Reading → Type 0 = λ r. HoldsTwo tells first second names.one names.two old_in r c.in-Ok.first c.in-Ok.second in
+    let Q : desk.Reading → Type 0 = λ r. TriesTwo tells first names.one names.two old_in r in
+    let held = subst P (sym c.write_joined.ensures.inputs) c.in-Ok.ensures.reads in
+    let tries = subst Q (sym c.write_joined.ensures.inputs) c.in-Ok.ensures.tries in
+    let W : Writing → Type 0 = λ w. WritesJoined tells names.part held.first_held.records held.second_held.records w new c.write_joined.result in
+    let A : Writing → Type 0 = λ w. AsksFront w.side.asked new.side.asked (names.part ∷ []) in
+    let K : Writing → Type 0 = λ w. IsTrue tells → KeepsOutputs w new in
+    let E : MergeNames → Type 0 = λ f. MergeEnds (around tells old_in new_in old new) f c.write_joined.result in
+    subst E c.files.view_is (ends_joined (around tells old_in new_in old new) names c.in-Ok.first c.in-Ok.second held c.write_joined.result
+    (subst W c.in-Ok.ensures.outputs (c.write_joined.ensures.writes held.first_held.records held.second_held.records held.first_held.part.each held.second_held.part.each held.first_held.stands held.second_held.stands))
+    tries (subst A c.in-Ok.ensures.outputs c.write_joined.ensures.asked) (subst K c.in-Ok.ensures.outputs c.write_joined.ensures.kept))
+
+pub returns-in-Err : goal.returns-in-Err
+returns-in-Err g c =
+    let names : MergeNames = record { one = c.files.inside.one.now; two = c.files.inside.two.now; part = c.files.inside.part.now } in
+    let desks : Desks = around g.D.Desk.tells (g.D.Desk.reading c.args.desk.now) (g.D.Desk.reading c.read_two.new.desk) (g.D.Desk.writing c.args.desk.now) (g.D.Desk.writing c.read_two.new.desk) in
+    let E : MergeNames → Type 0 = λ f. MergeEnds desks f c.in-Err.answer in
+    subst E c.files.view_is (ends_refused desks names c.in-Err.ensures.outputs c.in-Err.answer c.in-Err.ensures.reads c.in-Err.ensures.tries)

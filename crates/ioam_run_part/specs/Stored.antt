@@ -1,0 +1,37 @@
+-- A text that becomes what a name holds.
+use Rattle.std.specs.Prelude.{◌≡◌, ℕ, ◌<◌, Bool, IsTrue, IsSomeAnd, List, [], ◌∷◌, ◌++◌, Some, Result, Ok, Err}
+use Rattle.ioam_base.specs.Octets.{IsFront}
+use Rattle.ioam_desk.specs.Desk.{Writing, Written, Rose, holds}
+use Rattle.ioam_desk.specs.declared.fault.DeskFault.{DeskFault}
+use Rattle.ioam_desk.specs.declared.fault.DeskFault.TheVariants.{Failed, NoMemory}
+use Rattle.ioam_run_answer.specs.declared.outcome.Outcome.{Outcome}
+use Rattle.ioam_run_answer.specs.declared.outcome.Outcome.TheVariants as outcome
+
+-- the name is tied to an output slot, to which nothing was written
+pub record IsBlank (tells : Bool) (desk : Writing) (name : List ℕ) (slot : ℕ) : Type 0 where
+  pub inside : slot < desk.side.slots
+  pub tied : IsTrue tells → desk.files name ≡ Some (Written slot)
+  pub blank : IsTrue tells → desk.written slot ≡ []
+
+-- the name holds a front of the text
+abbrev pub HoldsFrontOf : Writing → List ℕ → List ℕ → Type 0
+HoldsFrontOf desk name text = IsSomeAnd (holds desk name) (λ front. IsFront front text)
+
+-- what became of a text that was written to the slot of a name; what else changed is said beside
+module _ (tells : Bool) (name text : List ℕ) (old new : Writing) where
+  abbrev pub Writes : Result (Unit {0}) DeskFault → Type 0
+  Writes (Ok _) = (new.side ≡ old.side) × (IsTrue tells → holds new name ≡ Some text)
+  Writes (Err Failed) = Rose old.side.faults new.side.faults × (IsTrue tells → HoldsFrontOf new name text)
+  Writes (Err NoMemory) = IsTrue tells → HoldsFrontOf new name text
+
+  -- and of one whose name was opened before
+  abbrev pub Stores : Result (Unit {0}) DeskFault → Type 0
+  Stores (Ok _) = (new.side.asked ≡ old.side.asked ++ name ∷ []) × (IsTrue tells → holds new name ≡ Some text)
+  Stores (Err Failed) = Rose old.side.faults new.side.faults × (IsTrue tells → old.side.slots < new.side.slots → HoldsFrontOf new name text)
+  Stores (Err NoMemory) = IsTrue tells → old.side.slots < new.side.slots → HoldsFrontOf new name text
+
+-- the answer for what became of the writing
+abbrev pub answer_of : Result (Unit {0}) DeskFault → Outcome
+answer_of (Ok _) = outcome.Done
+answer_of (Err Failed) = outcome.WriteFault
+answer_of (Err NoMemory) = outcome.NoMemory

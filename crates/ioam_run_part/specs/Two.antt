@@ -1,0 +1,39 @@
+-- Two files that are read as parts, one after the other.
+use Rattle.std.specs.Prelude.{◌≡◌, ℕ, ◌+◌, ◌≤◌, ⊤, Bool, IsTrue, IsSomeAnd, List, [], ◌∷◌, ◌++◌, Option, Result, Ok, Err}
+use Rattle.ioam_desk.specs.Asked.{AsksFront}
+use Rattle.ioam_desk.specs.Desk as desk
+use Rattle.ioam_desk.specs.Desk.{Rose, opened_side}
+use Rattle.ioam_desk.specs.Kept.{KeepsInputs}
+use Rattle.ioam_collect.specs.Collected.{Collected}
+use Rattle.ioam_run_answer.specs.declared.outcome.Outcome.{Outcome}
+use Rattle.ioam_run_answer.specs.declared.outcome.Outcome.TheVariants as outcome
+use Rattle.ioam_run_part.specs.Records.{IsAPart}
+use Rattle.ioam_run_part.specs.MergePromise.{IsFaulty}
+use Rattle.ioam_run_part.specs.Unread.{IsHeld}
+
+-- whatever was answered: the names that were asked for, the second only where the first is a part, and what is as it was
+pub record TriesTwo (tells : Bool) (first : Option (List ℕ)) (one two : List ℕ) (old new : desk.Reading) : Type 0 where
+  pub asked : AsksFront old.side.asked new.side.asked (one ∷ two ∷ [])
+  pub in_turn : new.side.asked ≡ old.side.asked ++ one ∷ two ∷ [] → IsTrue tells → IsSomeAnd first IsAPart
+  pub slots : new.side.slots ≤ old.side.slots + 2
+  pub kept : KeepsInputs old new
+
+-- both were read to their ends
+pub record HoldsTwo (tells : Bool) (first second : Option (List ℕ)) (one two : List ℕ) (old new : desk.Reading) (a b : Collected) : Type 0 where
+  pub side : new.side ≡ opened_side (opened_side old.side one) two
+  pub first_held : IsHeld tells first a
+  pub second_held : IsHeld tells second b
+  pub first_ended : IsTrue tells → IsTrue (new.ended old.side.slots)
+  pub second_ended : IsTrue tells → IsTrue (new.ended (old.side.slots + 1))
+
+-- what both hold, or the answer for the first that wasn't read
+module _ (tells : Bool) (first second : Option (List ℕ)) (one two : List ℕ) (old new : desk.Reading) where
+  abbrev pub RefusesTwo : Outcome → Type 0
+  RefusesTwo (outcome.Part name at fault) = IsFaulty tells first second one two name at fault
+  RefusesTwo outcome.ReadFault = Rose old.side.faults new.side.faults
+  RefusesTwo outcome.NoMemory = ⊤
+  RefusesTwo _ = ⊥
+
+  abbrev pub ReadsTwo : Result (Collected × Collected) Outcome → Type 0
+  ReadsTwo (Ok both) = HoldsTwo tells first second one two old new both.0 both.1
+  ReadsTwo (Err answer) = RefusesTwo answer
