@@ -1,3 +1,4 @@
 mod MeasuredLaws
 mod PromiseLaws
 mod WordsLaws
+mod PartedLaws

@@ -24,6 +24,7 @@ use Rattle.ioam_capture.specs.Merge.{Arrival}
 use Rattle.ioam_run_answer.specs.declared.outcome.Outcome.{Outcome}
 use Rattle.ioam_run_answer.specs.declared.outcome.Outcome.TheVariants as outcome
 use Rattle.ioam_cmd.specs.Measured.{AreCollected, ArePaths, Collects, IsCollected, IsAllMeasured, IsPartCollected, IsPartMeasured, Measures, RunThenCollect, TellsFirst, TellsPart, asked_by}
+use Rattle.ioam_cmd.proofs.PartedLaws.{merged_is}
 use Rattle.ioam_desk_outputs.specs.Held.{HoldFronts, HoldsFront}
 use Rattle.ioam_collect_laws.specs.Exported.{AreFirst, AreFirstOfRun, IsTimely, IsTold, ending_with}
 use Rattle.ioam_collect_laws.specs.Paths.{AreOfRun, exports_of}
@@ -172,6 +173,7 @@ module _ (domain : Domain) (readings : List (List Sample)) (frames : List Frame)
         whole = whole_paths domain readings frames fates told.run;
         paths = first_paths all_records (record { more = []; are = sym (append-nil all_records) });
         collected = are_collected all_octets all_records [] read.reads read.only;
+        merged = λ tree part same is. merged_is tree all_records part same is;
       }
 
   part_collected : (octets : List ℕ) → IsFront octets all_octets → IsPartCollected domain readings fates octets

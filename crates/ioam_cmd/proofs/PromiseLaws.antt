@@ -2,18 +2,24 @@
 use Rattle.std.proofs.Common.{◌≡◌, ◌⊎◌, ℕ, Bool, IsTrue, List, sym, subst}
 use Rattle.ioam_cmd.specs.Promise.{Asked, Keeps}
 use Rattle.ioam_cmd.specs.declared.command.Command.{Command}
-use Rattle.ioam_cmd.specs.declared.command.Command.TheVariants.{Filter, Paths, Show, Save, Collect, Node, Run, Bulk}
+use Rattle.ioam_cmd.specs.declared.command.Command.TheVariants.{Filter, Paths, Show, Save, Node, Audit, Run, Bulk, Collect, Ipfix, Records, Part, Merge, Parts}
 use Rattle.ioam_desk.specs.Desk.{Rose, holds}
 use Rattle.ioam_desk.specs.Kept.{KeepsInputs, KeepsOutputs}
 use Rattle.ioam_desk.proofs.KeptLaws.{KeepsInputs-same}
-use Rattle.ioam_desk_outputs.specs.Names.{name_at}
+use Rattle.ioam_pcap.specs.Entries.{Taken}
 use Rattle.ioam_run_answer.specs.Desks.{Desks}
 use Rattle.ioam_run_answer.specs.declared.outcome.Outcome.{Outcome}
 use Rattle.ioam_run_answer.specs.declared.outcome.Outcome.TheVariants as outcome
 use Rattle.ioam_run_bulk.specs.Promise as bulk
 use Rattle.ioam_run_collect.specs.Promise as collect
+use Rattle.ioam_run_collect.specs.Promise.{CollectNames}
+use Rattle.ioam_run_ipfix.specs.Promise.{IpfixCause, IpfixKeeps, IpfixNames, RecordsCause, RecordsKeeps, RecordsNames}
+use Rattle.ioam_run_part.specs.Files.{MergeNames, PartNames, PartsNames}
+use Rattle.ioam_run_part.specs.MergePromise.{MergeCause, MergeKeeps}
+use Rattle.ioam_run_part.specs.PartPromise.{PartCause, PartKeeps}
+use Rattle.ioam_run_part.specs.PartsPromise.{PartsCause, PartsKeeps}
 use Rattle.ioam_run_stream.specs.Promise as capture
-use Rattle.ioam_run_stream.specs.Promise.{capture_names}
+use Rattle.ioam_run_stream.specs.Promise.{CaptureNames}
 
 -- what is asked for is answered, where nothing fails
 module _ (opens : Bool) (desks : Desks) (words : List (List ℕ)) (told : IsTrue desks.tells)
@@ -24,68 +30,154 @@ module _ (opens : Bool) (desks : Desks) (words : List (List ℕ)) (told : IsTrue
   answers_asked Paths answer asked keeps asks = keeps.exact asked told asks reads writes
   answers_asked Show answer asked keeps asks = keeps.exact asked told asks reads writes
   answers_asked Save answer asked keeps asks = keeps.keeps.exact asked told asks reads writes
-  answers_asked Collect answer asked keeps asks = keeps.exact asked told asks reads writes
   answers_asked Node answer asked keeps asks = keeps.exact asked told asks reads writes
+  answers_asked Audit answer asked keeps asks = keeps.exact asked told asks reads writes
   answers_asked (Run workers) answer asked keeps asks = keeps.keeps.exact asked told asks reads writes
   answers_asked (Bulk seed count workers) answer asked keeps asks =
       subst (λ (a : Outcome). (answer ≡ a) ⊎ (answer ≡ outcome.NoMemory)) (sym asks) (keeps.exact writes)
+  answers_asked Collect answer asked keeps asks = keeps.exact asked told asks reads writes
+  answers_asked Ipfix answer asked keeps asks = keeps.exact asked told asks reads writes
+  answers_asked Records answer asked keeps asks = keeps.exact asked told asks reads writes
+  answers_asked Part answer asked keeps asks = keeps.exact asked told asks reads writes
+  answers_asked Merge answer asked keeps asks = keeps.exact asked told asks reads writes
+  answers_asked Parts answer asked keeps asks = keeps.exact asked told asks reads writes
 
--- a fault of reading or writing comes only where its count rose, Usage never, and what isn't the run's is as it was
-module _ (opens : Bool) (desks : Desks) (words : List (List ℕ)) where
-  pub read_rose : (command : Command) (answer : Outcome) → Keeps opens desks words command answer → answer ≡ outcome.ReadFault
-      → Rose desks.old_in.side.faults desks.new_in.side.faults
-  read_rose Filter answer keeps is = subst (capture.HasCause desks (capture_names words)) is keeps.keeps.cause
-  read_rose Paths answer keeps is = subst (capture.HasCause desks (capture_names words)) is keeps.cause
-  read_rose Show answer keeps is = subst (capture.HasCause desks (capture_names words)) is keeps.cause
-  read_rose Save answer keeps is = subst (capture.HasCause desks (capture_names words)) is keeps.keeps.cause
-  read_rose Collect answer keeps is =
-      let P : Outcome → Type 0 = λ a. collect.HasCause desks.tells (holds desks.old (name_at words 1)) (name_at words 1) (name_at words 2) desks.old_in desks.new_in desks.old desks.new a in
-      subst P is keeps.cause
-  read_rose Node answer keeps is = keeps.owes.read_fault is
-  read_rose (Run workers) answer keeps is = keeps.keeps.read_fault is
-  read_rose (Bulk seed count workers) answer keeps is = let P : Outcome → Type 0 = λ a. bulk.HasCause desks.old desks.new a in absurd (subst P is keeps.cause)
+-- What the top call says of each answer: a fault of reading or writing comes only where its count rose, Usage never, and what
+-- isn't the run's is as it was.
+module _ (desks : Desks) (answer : Outcome) where
+  pub record Sound : Type 0 where
+    pub usage : answer ≡ outcome.Usage → ⊥
+    pub read_fault : answer ≡ outcome.ReadFault → Rose desks.old_in.side.faults desks.new_in.side.faults
+    pub write_fault : answer ≡ outcome.WriteFault → Rose desks.old.side.faults desks.new.side.faults
+    pub kept_in : KeepsInputs desks.old_in desks.new_in
+    pub kept_out : IsTrue desks.tells → KeepsOutputs desks.old desks.new
 
-  pub write_rose : (command : Command) (answer : Outcome) → Keeps opens desks words command answer → answer ≡ outcome.WriteFault
-      → Rose desks.old.side.faults desks.new.side.faults
-  write_rose Filter answer keeps is = subst (capture.HasCause desks (capture_names words)) is keeps.keeps.cause
-  write_rose Paths answer keeps is = subst (capture.HasCause desks (capture_names words)) is keeps.cause
-  write_rose Show answer keeps is = subst (capture.HasCause desks (capture_names words)) is keeps.cause
-  write_rose Save answer keeps is = subst (capture.HasCause desks (capture_names words)) is keeps.keeps.cause
-  write_rose Collect answer keeps is =
-      let P : Outcome → Type 0 = λ a. collect.HasCause desks.tells (holds desks.old (name_at words 1)) (name_at words 1) (name_at words 2) desks.old_in desks.new_in desks.old desks.new a in
-      subst P is keeps.cause
-  write_rose Node answer keeps is = keeps.owes.write_fault is
-  write_rose (Run workers) answer keeps is = keeps.keeps.write_fault is
-  write_rose (Bulk seed count workers) answer keeps is = let P : Outcome → Type 0 = λ a. bulk.HasCause desks.old desks.new a in subst P is keeps.cause
+  -- of a command over one capture
+  of_capture : (Texts : List Taken → List (List ℕ) → Type 0) (files : CaptureNames) → capture.Keeps Texts desks files answer → Sound
+  of_capture Texts files keeps =
+      let Cause : Outcome → Type 0 = capture.HasCause desks files in
+      record {
+        usage = λ is. subst Cause is keeps.cause;
+        read_fault = λ is. subst Cause is keeps.cause;
+        write_fault = λ is. subst Cause is keeps.cause;
+        kept_in = keeps.kept_in;
+        kept_out = keeps.kept_out;
+      }
 
-  pub never_usage : (command : Command) (answer : Outcome) → Keeps opens desks words command answer → answer ≡ outcome.Usage → ⊥
-  never_usage Filter answer keeps is = subst (capture.HasCause desks (capture_names words)) is keeps.keeps.cause
-  never_usage Paths answer keeps is = subst (capture.HasCause desks (capture_names words)) is keeps.cause
-  never_usage Show answer keeps is = subst (capture.HasCause desks (capture_names words)) is keeps.cause
-  never_usage Save answer keeps is = subst (capture.HasCause desks (capture_names words)) is keeps.keeps.cause
-  never_usage Collect answer keeps is =
-      let P : Outcome → Type 0 = λ a. collect.HasCause desks.tells (holds desks.old (name_at words 1)) (name_at words 1) (name_at words 2) desks.old_in desks.new_in desks.old desks.new a in
-      subst P is keeps.cause
-  never_usage Node answer keeps is = keeps.owes.usage is
-  never_usage (Run workers) answer keeps is = keeps.keeps.usage is
-  never_usage (Bulk seed count workers) answer keeps is = let P : Outcome → Type 0 = λ a. bulk.HasCause desks.old desks.new a in subst P is keeps.cause
+  of_collect : (files : CollectNames) → collect.Keeps desks files answer → Sound
+  of_collect files keeps =
+      let Cause : Outcome → Type 0 =
+      λ a. collect.HasCause desks.tells (holds desks.old files.exports) files.exports files.report desks.old_in desks.new_in desks.old desks.new a in
+      record {
+        usage = λ is. subst Cause is keeps.cause;
+        read_fault = λ is. subst Cause is keeps.cause;
+        write_fault = λ is. subst Cause is keeps.cause;
+        kept_in = keeps.kept_in;
+        kept_out = keeps.kept_out;
+      }
 
-  pub inputs_kept : (command : Command) (answer : Outcome) → Keeps opens desks words command answer → KeepsInputs desks.old_in desks.new_in
-  inputs_kept Filter answer keeps = keeps.keeps.kept_in
-  inputs_kept Paths answer keeps = keeps.kept_in
-  inputs_kept Show answer keeps = keeps.kept_in
-  inputs_kept Save answer keeps = keeps.keeps.kept_in
-  inputs_kept Collect answer keeps = keeps.kept_in
-  inputs_kept Node answer keeps = keeps.owes.kept_in
-  inputs_kept (Run workers) answer keeps = keeps.keeps.kept_in
-  inputs_kept (Bulk seed count workers) answer keeps = KeepsInputs-same desks.old_in desks.new_in keeps.inputs
+  of_ipfix : (files : IpfixNames) → IpfixKeeps desks files answer → Sound
+  of_ipfix files keeps =
+      let Cause : Outcome → Type 0 =
+      λ a. IpfixCause desks.tells (holds desks.old files.exports) files.exports files.out desks.old_in desks.new_in desks.old desks.new a in
+      record {
+        usage = λ is. subst Cause is keeps.cause;
+        read_fault = λ is. subst Cause is keeps.cause;
+        write_fault = λ is. subst Cause is keeps.cause;
+        kept_in = keeps.kept_in;
+        kept_out = keeps.kept_out;
+      }
 
-  pub outputs_kept : (command : Command) (answer : Outcome) → Keeps opens desks words command answer → IsTrue desks.tells → KeepsOutputs desks.old desks.new
-  outputs_kept Filter answer keeps told = keeps.keeps.kept_out told
-  outputs_kept Paths answer keeps told = keeps.kept_out told
-  outputs_kept Show answer keeps told = keeps.kept_out told
-  outputs_kept Save answer keeps told = keeps.keeps.kept_out told
-  outputs_kept Collect answer keeps told = keeps.kept_out told
-  outputs_kept Node answer keeps told = keeps.owes.kept_out told
-  outputs_kept (Run workers) answer keeps told = keeps.keeps.kept_out told
-  outputs_kept (Bulk seed count workers) answer keeps told = keeps.kept_out told
+  of_records : (files : RecordsNames) → RecordsKeeps desks files answer → Sound
+  of_records files keeps =
+      let Cause : Outcome → Type 0 =
+      λ a. RecordsCause desks.tells (holds desks.old files.input) files.input files.out desks.old_in desks.new_in desks.old desks.new a in
+      record {
+        usage = λ is. subst Cause is keeps.cause;
+        read_fault = λ is. subst Cause is keeps.cause;
+        write_fault = λ is. subst Cause is keeps.cause;
+        kept_in = keeps.kept_in;
+        kept_out = keeps.kept_out;
+      }
+
+  of_part : (files : PartNames) → PartKeeps desks files answer → Sound
+  of_part files keeps =
+      let Cause : Outcome → Type 0 =
+      λ a. PartCause desks.tells (holds desks.old files.exports) files.exports files.part desks.old_in desks.new_in desks.old desks.new a in
+      record {
+        usage = λ is. subst Cause is keeps.cause;
+        read_fault = λ is. subst Cause is keeps.cause;
+        write_fault = λ is. subst Cause is keeps.cause;
+        kept_in = keeps.kept_in;
+        kept_out = keeps.kept_out;
+      }
+
+  of_merge : (files : MergeNames) → MergeKeeps desks files answer → Sound
+  of_merge files keeps =
+      let Cause : Outcome → Type 0 =
+      λ a. MergeCause desks.tells (holds desks.old files.one) (holds desks.old files.two) files.one files.two files.part desks.old_in desks.new_in desks.old desks.new a in
+      record {
+        usage = λ is. subst Cause is keeps.cause;
+        read_fault = λ is. subst Cause is keeps.cause;
+        write_fault = λ is. subst Cause is keeps.cause;
+        kept_in = keeps.kept_in;
+        kept_out = keeps.kept_out;
+      }
+
+  of_parts : (files : PartsNames) → PartsKeeps desks files answer → Sound
+  of_parts files keeps =
+      let Cause : Outcome → Type 0 =
+      λ a. PartsCause desks.tells (holds desks.old files.part) files.part files.report desks.old_in desks.new_in desks.old desks.new a in
+      record {
+        usage = λ is. subst Cause is keeps.cause;
+        read_fault = λ is. subst Cause is keeps.cause;
+        write_fault = λ is. subst Cause is keeps.cause;
+        kept_in = keeps.kept_in;
+        kept_out = keeps.kept_out;
+      }
+
+  of_bulk : (seed count : ℕ) (report : List ℕ) → bulk.Keeps desks seed count report answer → Sound
+  of_bulk seed count report keeps =
+      let Cause : Outcome → Type 0 = λ a. bulk.HasCause desks.old desks.new a in
+      record {
+        usage = λ is. subst Cause is keeps.cause;
+        read_fault = λ is. absurd (subst Cause is keeps.cause);
+        write_fault = λ is. subst Cause is keeps.cause;
+        kept_in = KeepsInputs-same desks.old_in desks.new_in keeps.inputs;
+        kept_out = keeps.kept_out;
+      }
+
+pub sound : (opens : Bool) (desks : Desks) (words : List (List ℕ)) (command : Command) (answer : Outcome) → Keeps opens desks words command answer
+    → Sound desks answer
+sound opens desks words Filter answer keeps = of_capture desks answer _ _ keeps.keeps
+sound opens desks words Paths answer keeps = of_capture desks answer _ _ keeps
+sound opens desks words Show answer keeps = of_capture desks answer _ _ keeps
+sound opens desks words Save answer keeps = of_capture desks answer _ _ keeps.keeps
+sound opens desks words Node answer keeps = record {
+  usage = keeps.owes.usage;
+  read_fault = keeps.owes.read_fault;
+  write_fault = keeps.owes.write_fault;
+  kept_in = keeps.owes.kept_in;
+  kept_out = keeps.owes.kept_out;
+}
+sound opens desks words Audit answer keeps = record {
+  usage = keeps.owes.usage;
+  read_fault = keeps.owes.read_fault;
+  write_fault = keeps.owes.write_fault;
+  kept_in = keeps.owes.kept_in;
+  kept_out = keeps.owes.kept_out;
+}
+sound opens desks words (Run workers) answer keeps = record {
+  usage = keeps.keeps.usage;
+  read_fault = keeps.keeps.read_fault;
+  write_fault = keeps.keeps.write_fault;
+  kept_in = keeps.keeps.kept_in;
+  kept_out = keeps.keeps.kept_out;
+}
+sound opens desks words (Bulk seed count workers) answer keeps = of_bulk desks answer seed count _ keeps
+sound opens desks words Collect answer keeps = of_collect desks answer _ keeps
+sound opens desks words Ipfix answer keeps = of_ipfix desks answer _ keeps
+sound opens desks words Records answer keeps = of_records desks answer _ keeps
+sound opens desks words Part answer keeps = of_part desks answer _ keeps
+sound opens desks words Merge answer keeps = of_merge desks answer _ keeps
+sound opens desks words Parts answer keeps = of_parts desks answer _ keeps

@@ -1,14 +1,14 @@
 -- Laws of the words that spell numbers, and of which command words are.
 use Rattle.std.proofs.Common.{◌≡◌, ℕ, ◌<◌, Bool, true, false, List, length, Option, Some, None, get_or, refl, sym, ◌∙◌, ap, subst, arith}
-use Rattle.std.specs.Prelude.{◌↔◌, ◌^◌, MatchOption, codes, decimal, nat_lt}
+use Rattle.std.specs.Prelude.{◌↔◌, ◌+◌, ◌*◌, ◌^◌, MatchOption, if◌then◌else◌, codes, decimal, nat_eq, nat_lt}
 use Rattle.std.proofs.lemmas.Bool.{ltb-true, ltb-false}
 use Rattle.std.proofs.lemmas.Fmt.{decimal_injective}
 use Rattle.std.proofs.lemmas.Option.{none-some}
 use Rattle.ioam_base.proofs.DecimalLaws.{decimal_iff}
 use Rattle.ioam_desk_outputs.specs.Names.{name_at}
-use Rattle.ioam_cmd.specs.Words.{IsForm, IsSeed}
+use Rattle.ioam_cmd.specs.Words.{IsCount, IsForm, IsSeed, IsWorkers}
 use Rattle.ioam_cmd.specs.declared.command.Command.{Command}
-use Rattle.ioam_cmd.specs.declared.command.Command.TheVariants.{Filter, Paths, Show, Save, Collect, Node, Run, Bulk}
+use Rattle.ioam_cmd.specs.declared.command.Command.TheVariants.{Filter, Paths, Show, Save, Node, Audit, Run, Bulk, Collect, Ipfix, Records, Part, Merge, Parts}
 
 -- the greatest seed
 pub greatest : codes "18446744073709551615" ≡ decimal 18446744073709551615
@@ -32,92 +32,128 @@ spells_seed word (Some n) reads other =
     let found = (reads n).0 refl in
     (found.1, omega (arith, found.0))
 
--- words of one number are of one command alone; those of three by their first
-module _ (P : Command → Type 0) (words : List (List ℕ)) where
-  pub filter-alone : length words ≡ 4 → P Filter → (command : Command) → IsForm command words → P command
-  filter-alone four holds Filter form = holds
-  filter-alone four holds Paths form = absurd (omega (arith, four, form.0))
-  filter-alone four holds Show form = absurd (omega (arith, four, form.0))
-  filter-alone four holds Save form = absurd (omega (arith, four, form.0))
-  filter-alone four holds Collect form = absurd (omega (arith, four, form.0))
-  filter-alone four holds Node form = absurd (omega (arith, four, form.0))
-  filter-alone four holds (Run workers) form = absurd (omega (arith, four, form.0))
-  filter-alone four holds (Bulk seed count number) form = absurd (omega (arith, four, form.0))
+-- ---- words are of one command's form at most
 
-  pub node-alone : length words ≡ 9 → P Node → (command : Command) → IsForm command words → P command
-  node-alone nine holds Filter form = absurd (omega (arith, nine, form.0))
-  node-alone nine holds Paths form = absurd (omega (arith, nine, form.0))
-  node-alone nine holds Show form = absurd (omega (arith, nine, form.0))
-  node-alone nine holds Save form = absurd (omega (arith, nine, form.0))
-  node-alone nine holds Collect form = absurd (omega (arith, nine, form.0))
-  node-alone nine holds Node form = holds
-  node-alone nine holds (Run workers) form = absurd (omega (arith, nine, form.0))
-  node-alone nine holds (Bulk seed count number) form = absurd (omega (arith, nine, form.0))
+-- a command's own word
+abbrev named : Command → List ℕ
+named Filter = codes "filter"
+named Paths = codes "paths"
+named Show = codes "show"
+named Save = codes "save"
+named Node = codes "node"
+named Audit = codes "audit"
+named (Run workers) = codes "run"
+named (Bulk seed count workers) = codes "bulk"
+named Collect = codes "collect"
+named Ipfix = codes "ipfix"
+named Records = codes "records"
+named Part = codes "part"
+named Merge = codes "merge"
+named Parts = codes "parts"
 
-  pub paths-alone : length words ≡ 3 → name_at words 0 ≡ codes "paths" → P Paths → (command : Command) → IsForm command words → P command
-  paths-alone three named holds Filter form = absurd (omega (arith, three, form.0))
-  paths-alone three named holds Paths form = holds
-  paths-alone three named holds Show form = let differ : 112 ≡ 115 = ap (λ (xs : List ℕ). get_or xs 0 0) (sym named ∙ form.1) in absurd (omega (arith, differ))
-  paths-alone three named holds Save form = let differ : 112 ≡ 115 = ap (λ (xs : List ℕ). get_or xs 0 0) (sym named ∙ form.1) in absurd (omega (arith, differ))
-  paths-alone three named holds Collect form = let differ : 112 ≡ 99 = ap (λ (xs : List ℕ). get_or xs 0 0) (sym named ∙ form.1) in absurd (omega (arith, differ))
-  paths-alone three named holds Node form = absurd (omega (arith, three, form.0))
-  paths-alone three named holds (Run workers) form = absurd (omega (arith, three, form.0))
-  paths-alone three named holds (Bulk seed count number) form = absurd (omega (arith, three, form.0))
+is_named : (command : Command) (words : List (List ℕ)) → IsForm command words → name_at words 0 ≡ named command
+is_named Filter words form = form.1
+is_named Paths words form = form.1
+is_named Show words form = form.1
+is_named Save words form = form.1
+is_named Node words form = form.1
+is_named Audit words form = form.1
+is_named (Run workers) words form = form.1
+is_named (Bulk seed count workers) words form = form.1
+is_named Collect words form = form.1
+is_named Ipfix words form = form.1
+is_named Records words form = form.1
+is_named Part words form = form.1
+is_named Merge words form = form.1
+is_named Parts words form = form.1
 
-  pub show-alone : length words ≡ 3 → name_at words 0 ≡ codes "show" → P Show → (command : Command) → IsForm command words → P command
-  show-alone three named holds Filter form = absurd (omega (arith, three, form.0))
-  show-alone three named holds Paths form = let differ : 115 ≡ 112 = ap (λ (xs : List ℕ). get_or xs 0 0) (sym named ∙ form.1) in absurd (omega (arith, differ))
-  show-alone three named holds Show form = holds
-  show-alone three named holds Save form = let differ : 104 ≡ 97 = ap (λ (xs : List ℕ). get_or xs 1 0) (sym named ∙ form.1) in absurd (omega (arith, differ))
-  show-alone three named holds Collect form = let differ : 115 ≡ 99 = ap (λ (xs : List ℕ). get_or xs 0 0) (sym named ∙ form.1) in absurd (omega (arith, differ))
-  show-alone three named holds Node form = absurd (omega (arith, three, form.0))
-  show-alone three named holds (Run workers) form = absurd (omega (arith, three, form.0))
-  show-alone three named holds (Bulk seed count number) form = absurd (omega (arith, three, form.0))
+-- a number by which these words differ: their first, second, third and fifth letters
+abbrev key_of : List ℕ → ℕ
+key_of word = get_or word 0 0 + 256 * get_or word 1 0 + 65536 * get_or word 2 0 + 16777216 * get_or word 4 0
 
-  pub save-alone : length words ≡ 3 → name_at words 0 ≡ codes "save" → P Save → (command : Command) → IsForm command words → P command
-  save-alone three named holds Filter form = absurd (omega (arith, three, form.0))
-  save-alone three named holds Paths form = let differ : 115 ≡ 112 = ap (λ (xs : List ℕ). get_or xs 0 0) (sym named ∙ form.1) in absurd (omega (arith, differ))
-  save-alone three named holds Show form = let differ : 97 ≡ 104 = ap (λ (xs : List ℕ). get_or xs 1 0) (sym named ∙ form.1) in absurd (omega (arith, differ))
-  save-alone three named holds Save form = holds
-  save-alone three named holds Collect form = let differ : 115 ≡ 99 = ap (λ (xs : List ℕ). get_or xs 0 0) (sym named ∙ form.1) in absurd (omega (arith, differ))
-  save-alone three named holds Node form = absurd (omega (arith, three, form.0))
-  save-alone three named holds (Run workers) form = absurd (omega (arith, three, form.0))
-  save-alone three named holds (Bulk seed count number) form = absurd (omega (arith, three, form.0))
+-- the command of a key, with these numbers
+abbrev keyed : ℕ → ℕ → ℕ → ℕ → Command
+keyed key seed count workers =
+    if nat_eq key (key_of (codes "filter")) then Filter
+    else if nat_eq key (key_of (codes "paths")) then Paths
+    else if nat_eq key (key_of (codes "show")) then Show
+    else if nat_eq key (key_of (codes "save")) then Save
+    else if nat_eq key (key_of (codes "node")) then Node
+    else if nat_eq key (key_of (codes "audit")) then Audit
+    else if nat_eq key (key_of (codes "run")) then Run workers
+    else if nat_eq key (key_of (codes "bulk")) then Bulk seed count workers
+    else if nat_eq key (key_of (codes "collect")) then Collect
+    else if nat_eq key (key_of (codes "ipfix")) then Ipfix
+    else if nat_eq key (key_of (codes "records")) then Records
+    else if nat_eq key (key_of (codes "part")) then Part
+    else if nat_eq key (key_of (codes "merge")) then Merge
+    else Parts
 
-  pub collect-alone : length words ≡ 3 → name_at words 0 ≡ codes "collect" → P Collect → (command : Command) → IsForm command words → P command
-  collect-alone three named holds Filter form = absurd (omega (arith, three, form.0))
-  collect-alone three named holds Paths form = let differ : 99 ≡ 112 = ap (λ (xs : List ℕ). get_or xs 0 0) (sym named ∙ form.1) in absurd (omega (arith, differ))
-  collect-alone three named holds Show form = let differ : 99 ≡ 115 = ap (λ (xs : List ℕ). get_or xs 0 0) (sym named ∙ form.1) in absurd (omega (arith, differ))
-  collect-alone three named holds Save form = let differ : 99 ≡ 115 = ap (λ (xs : List ℕ). get_or xs 0 0) (sym named ∙ form.1) in absurd (omega (arith, differ))
-  collect-alone three named holds Collect form = holds
-  collect-alone three named holds Node form = absurd (omega (arith, three, form.0))
-  collect-alone three named holds (Run workers) form = absurd (omega (arith, three, form.0))
-  collect-alone three named holds (Bulk seed count number) form = absurd (omega (arith, three, form.0))
+abbrev seed_in : Command → ℕ
+seed_in (Bulk seed count workers) = seed
+seed_in _ = 0
 
--- six words are of one command alone
-pub run-alone : (P : Command → Type 0) (words : List (List ℕ)) → length words ≡ 6 → ((workers : ℕ) → P (Run workers))
-    → (command : Command) → IsForm command words → P command
-run-alone P words six holds Filter form = absurd (omega (arith, six, form.0))
-run-alone P words six holds Paths form = absurd (omega (arith, six, form.0))
-run-alone P words six holds Show form = absurd (omega (arith, six, form.0))
-run-alone P words six holds Save form = absurd (omega (arith, six, form.0))
-run-alone P words six holds Collect form = absurd (omega (arith, six, form.0))
-run-alone P words six holds Node form = absurd (omega (arith, six, form.0))
-run-alone P words six holds (Run workers) form = holds workers
-run-alone P words six holds (Bulk seed count workers) form = absurd (omega (arith, six, form.0))
+abbrev count_in : Command → ℕ
+count_in (Bulk seed count workers) = count
+count_in _ = 0
 
--- and five, whose numbers are spelled in one way
-pub bulk-alone : (P : Command → Type 0) (words : List (List ℕ)) (seed count number : ℕ) → IsForm (Bulk seed count number) words
-    → ((workers : ℕ) → P (Bulk seed count workers)) → (command : Command) → IsForm command words → P command
-bulk-alone P words seed count number five holds Filter form = absurd (omega (arith, five.0, form.0))
-bulk-alone P words seed count number five holds Paths form = absurd (omega (arith, five.0, form.0))
-bulk-alone P words seed count number five holds Show form = absurd (omega (arith, five.0, form.0))
-bulk-alone P words seed count number five holds Save form = absurd (omega (arith, five.0, form.0))
-bulk-alone P words seed count number five holds Collect form = absurd (omega (arith, five.0, form.0))
-bulk-alone P words seed count number five holds Node form = absurd (omega (arith, five.0, form.0))
-bulk-alone P words seed count number five holds (Run workers) form = absurd (omega (arith, five.0, form.0))
-bulk-alone P words seed count number five holds (Bulk s n workers) form =
-    let seeds : seed ≡ s = decimal_injective seed s five.2.1 form.2.1 (sym five.2.0 ∙ form.2.0) in
-    let counts : count ≡ n = decimal_injective count n (omega (arith, five.3.2)) (omega (arith, form.3.2))
-    (sym five.3.0 ∙ form.3.0) in
-    subst (λ k. P (Bulk k n workers)) seeds (subst (λ k. P (Bulk seed k workers)) counts (holds workers))
+abbrev workers_in : Command → ℕ
+workers_in (Run workers) = workers
+workers_in (Bulk seed count workers) = workers
+workers_in _ = 0
+
+abbrev with_numbers_of : Command → ℕ → Command
+with_numbers_of command key = keyed key (seed_in command) (count_in command) (workers_in command)
+
+is_keyed : (command : Command) → with_numbers_of command (key_of (named command)) ≡ command
+is_keyed Filter = refl
+is_keyed Paths = refl
+is_keyed Show = refl
+is_keyed Save = refl
+is_keyed Node = refl
+is_keyed Audit = refl
+is_keyed (Run workers) = refl
+is_keyed (Bulk seed count workers) = refl
+is_keyed Collect = refl
+is_keyed Ipfix = refl
+is_keyed Records = refl
+is_keyed Part = refl
+is_keyed Merge = refl
+is_keyed Parts = refl
+
+module _ (words : List (List ℕ)) where
+  -- another command of these words is this one, with its own numbers
+  other : (one command : Command) → IsForm one words → IsForm command words → with_numbers_of command (key_of (named one)) ≡ command
+  other one command is form =
+      ap (λ word. with_numbers_of command (key_of word)) (sym (is_named one words is) ∙ is_named command words form) ∙ is_keyed command
+
+  same_workers : (one workers : ℕ) (word : List ℕ) → IsWorkers one word → IsWorkers workers word → one ≡ workers
+  same_workers one workers word is form = decimal_injective one workers (omega (arith, is.2)) (omega (arith, form.2)) (sym is.0 ∙ form.0)
+
+  same_count : (one count : ℕ) (word : List ℕ) → IsCount one word → IsCount count word → one ≡ count
+  same_count one count word is form = decimal_injective one count (omega (arith, is.2)) (omega (arith, form.2)) (sym is.0 ∙ form.0)
+
+  pub one_form : (one command : Command) → IsForm one words → IsForm command words → one ≡ command
+  one_form Filter command is form = other Filter command is form
+  one_form Paths command is form = other Paths command is form
+  one_form Show command is form = other Show command is form
+  one_form Save command is form = other Save command is form
+  one_form Node command is form = other Node command is form
+  one_form Audit command is form = other Audit command is form
+  one_form Collect command is form = other Collect command is form
+  one_form Ipfix command is form = other Ipfix command is form
+  one_form Records command is form = other Records command is form
+  one_form Part command is form = other Part command is form
+  one_form Merge command is form = other Merge command is form
+  one_form Parts command is form = other Parts command is form
+  one_form (Run workers) command is form =
+      let same : Run (workers_in command) ≡ command = other (Run workers) command is form in
+      let its : IsForm (Run (workers_in command)) words = subst (λ k. IsForm k words) (sym same) form in
+      ap Run (same_workers workers (workers_in command) (name_at words 3) is.2 its.2) ∙ same
+  one_form (Bulk seed count workers) command is form =
+      let same : Bulk (seed_in command) (count_in command) (workers_in command) ≡ command = other (Bulk seed count workers) command is form in
+      let its : IsForm (Bulk (seed_in command) (count_in command) (workers_in command)) words = subst (λ k. IsForm k words) (sym same) form in
+      let seeds : seed ≡ seed_in command = decimal_injective seed (seed_in command) is.2.1 its.2.1 (sym is.2.0 ∙ its.2.0) in
+      let counts : count ≡ count_in command = same_count count (count_in command) (name_at words 2) is.3 its.3 in
+      let numbers : workers ≡ workers_in command = same_workers workers (workers_in command) (name_at words 3) is.4 its.4 in
+      ap (λ n. Bulk n count workers) seeds ∙ ap (λ n. Bulk (seed_in command) n workers) counts ∙ ap (λ n. Bulk (seed_in command) (count_in command) n) numbers ∙ same

@@ -1,3 +1,4 @@
 pub mod Words
+pub mod Parted
 pub mod Measured
 pub mod Promise

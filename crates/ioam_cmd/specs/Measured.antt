@@ -4,7 +4,10 @@ use Rattle.std.specs.Prelude.{◌≡◌, ◌≢◌, ℕ, ◌+◌, ◌<◌, ◌�
 use Rattle.ioam_base.specs.Octets.{IsFront}
 use Rattle.ioam_clock.specs.declared.sample.Sample.{Sample}
 use Rattle.ioam_collect.specs.Best.{groups_of}
+use Rattle.ioam_collect.specs.Join.{SameMembers, Tree, leaves}
 use Rattle.ioam_collect.specs.Keyed.{keyed}
+use Rattle.ioam_cmd.specs.Parted.{AreMerged}
+use Rattle.ioam_part.specs.Part.{PartOf}
 use Rattle.ioam_run_collect.specs.Promise as collect
 use Rattle.ioam_run_collect.specs.Promise.{CollectNames}
 use Rattle.ioam_desk.specs.Desk.{Reading, Writing, holds}
@@ -76,13 +79,16 @@ module _ (domain : Domain) (readings : List (List Sample)) (fates : List Fate) w
   ArePaths read = (records : List Record) → AreFirst records read → AreRegrouped domain readings fates records
 
   -- These octets are all records of the run, each once and in their order, to the end and in no other way; and so `collect` tells of them.
-  -- Their groups are the whole paths of the run's packets, none left out.
+  -- Their groups are the whole paths of the run's packets, none left out. Cut in any way, each record once or more, collected apart and
+  -- merged in any tree, they become the part of these groups.
   pub record IsCollected (octets : List ℕ) : Type 0 where
     pub reads : Reads octets (exports_of domain readings fates) Whole
     pub only : ReadsOnly octets (exports_of domain readings fates) Whole
     pub whole : AreWholePaths domain readings fates (groups_of (keyed (exports_of domain readings fates)))
     pub paths : ArePaths (exports_of domain readings fates)
     pub collected : AreCollected (exports_of domain readings fates) Whole octets
+    pub merged : (tree : Tree) (part : List ℕ) → SameMembers (leaves tree) (keyed (exports_of domain readings fates)) → AreMerged tree part
+        → PartOf part (groups_of (keyed (exports_of domain readings fates)))
 
   -- They are the first of these records, each whole, and behind them at most a front of the next; and so `collect` tells of them.
   pub record IsPartCollected (octets : List ℕ) : Type 0 where

@@ -3,20 +3,27 @@
 use Rattle.std.specs.Prelude.{◌≡◌, ℕ, Bool, IsTrue, List}
 use Rattle.ioam_cmd.specs.Measured.{Measures}
 use Rattle.ioam_cmd.specs.declared.command.Command.{Command}
-use Rattle.ioam_cmd.specs.declared.command.Command.TheVariants.{Filter, Paths, Show, Save, Collect, Node, Run, Bulk}
+use Rattle.ioam_cmd.specs.declared.command.Command.TheVariants.{Filter, Paths, Show, Save, Node, Audit, Run, Bulk, Collect, Ipfix, Records, Part, Merge, Parts}
 use Rattle.ioam_desk.specs.Desk.{holds}
 use Rattle.ioam_desk_outputs.specs.Names.{name_at}
 use Rattle.ioam_run_answer.specs.Desks.{Desks}
 use Rattle.ioam_run_answer.specs.declared.outcome.Outcome.{Outcome}
 use Rattle.ioam_run_answer.specs.declared.outcome.Outcome.TheVariants as outcome
+use Rattle.ioam_run_audit.specs.Promise as audit
+use Rattle.ioam_run_audit.specs.Promise.{audit_names}
 use Rattle.ioam_run_bulk.specs.Promise as bulk
 use Rattle.ioam_run_capture.specs.Promise.{FilterKeeps, PathsKeeps, SaveKeeps, ShowKeeps}
 use Rattle.ioam_run_collect.specs.Promise as collect
 use Rattle.ioam_run_collect.specs.Promise.{collect_names}
 use Rattle.ioam_run_domain.specs.Promise as domain
 use Rattle.ioam_run_domain.specs.Promise.{RunNames, run_names}
+use Rattle.ioam_run_ipfix.specs.Promise.{IpfixAsked, IpfixKeeps, RecordsAsked, RecordsKeeps, ipfix_names, records_names}
 use Rattle.ioam_run_node.specs.Promise as node
 use Rattle.ioam_run_node.specs.Promise.{node_names}
+use Rattle.ioam_run_part.specs.Files.{merge_names, part_names, parts_names}
+use Rattle.ioam_run_part.specs.MergePromise.{MergeAsked, MergeKeeps}
+use Rattle.ioam_run_part.specs.PartPromise.{PartAsked, PartKeeps}
+use Rattle.ioam_run_part.specs.PartsPromise.{PartsAsked, PartsKeeps}
 use Rattle.ioam_run_stream.specs.Promise as capture
 use Rattle.ioam_run_stream.specs.Promise.{capture_names}
 
@@ -38,10 +45,16 @@ module _ (opens : Bool) (desks : Desks) (words : List (List ℕ)) where
   Keeps Paths answer = PathsKeeps desks (capture_names words) answer
   Keeps Show answer = ShowKeeps desks (capture_names words) answer
   Keeps Save answer = SaveKeeps desks (capture_names words) answer
-  Keeps Collect answer = collect.Keeps desks (collect_names words) answer
   Keeps Node answer = node.Keeps desks (node_names words) answer
+  Keeps Audit answer = audit.Keeps desks (audit_names words) answer
   Keeps (Run workers) answer = RunKeeps opens desks (run_names words) answer
   Keeps (Bulk seed count workers) answer = bulk.Keeps desks seed count (bulk_report words) answer
+  Keeps Collect answer = collect.Keeps desks (collect_names words) answer
+  Keeps Ipfix answer = IpfixKeeps desks (ipfix_names words) answer
+  Keeps Records answer = RecordsKeeps desks (records_names words) answer
+  Keeps Part answer = PartKeeps desks (part_names words) answer
+  Keeps Merge answer = MergeKeeps desks (merge_names words) answer
+  Keeps Parts answer = PartsKeeps desks (parts_names words) answer
 
 -- which answer the words and the files ask for, where nothing fails
 module _ (desks : Desks) (words : List (List ℕ)) where
@@ -50,8 +63,19 @@ module _ (desks : Desks) (words : List (List ℕ)) where
   Asked Paths answer = capture.Asked desks (capture_names words) answer
   Asked Show answer = capture.Asked desks (capture_names words) answer
   Asked Save answer = capture.Asked desks (capture_names words) answer
-  Asked Collect answer =
-      let files = collect_names words in collect.Asked desks.tells (holds desks.old files.exports) files.exports files.report answer
   Asked Node answer = node.Asked (node_names words) desks.old answer
+  Asked Audit answer = audit.Asked (audit_names words) desks.old answer
   Asked (Run workers) answer = domain.Asked desks.old (run_names words) answer
   Asked (Bulk seed count workers) answer = answer ≡ outcome.Done
+  Asked Collect answer =
+      let files = collect_names words in collect.Asked desks.tells (holds desks.old files.exports) files.exports files.report answer
+  Asked Ipfix answer =
+      let files = ipfix_names words in IpfixAsked desks.tells (holds desks.old files.exports) files.exports files.out answer
+  Asked Records answer =
+      let files = records_names words in RecordsAsked desks.tells (holds desks.old files.input) files.input files.out answer
+  Asked Part answer =
+      let files = part_names words in PartAsked desks.tells (holds desks.old files.exports) files.exports files.part answer
+  Asked Merge answer =
+      let files = merge_names words in MergeAsked desks.tells (holds desks.old files.one) (holds desks.old files.two) files.one files.two files.part answer
+  Asked Parts answer =
+      let files = parts_names words in PartsAsked desks.tells (holds desks.old files.part) files.part files.report answer

@@ -16,14 +16,26 @@ pub enum Command {
     Show,
     /// `save IN OUT`
     Save,
-    /// `collect EXPORTS REPORT`
-    Collect,
     /// `node DOMAIN READINGS NODE LINK IN OUT REPORT EXPORTS`
     Node,
+    /// `audit DOMAIN NODE LINK BEFORE AFTER REPORT`
+    Audit,
     /// `run DOMAIN READINGS WORKERS REPORT EXPORTS`, with so many workers, 1 to 64.
     Run { workers: u32 },
     /// `bulk SEED COUNT WORKERS REPORT`: any seed of 64 bits, 1 to 1,000,000 arrivals, and 1 to 64 workers.
     Bulk { seed: u64, count: u32, workers: u32 },
+    /// `collect EXPORTS REPORT`
+    Collect,
+    /// `ipfix EXPORTS OUT`
+    Ipfix,
+    /// `records IN OUT`
+    Records,
+    /// `part EXPORTS PART`
+    Part,
+    /// `merge ONE TWO PART`
+    Merge,
+    /// `parts PART REPORT`
+    Parts,
 }
 
 // The number of workers that a word spells.
@@ -87,8 +99,8 @@ pub fn parse(words: &[Name]) -> Option<Command>
         [command, _, _] if command.text() == "paths" => Some(Command::Paths),
         [command, _, _] if command.text() == "show" => Some(Command::Show),
         [command, _, _] if command.text() == "save" => Some(Command::Save),
-        [command, _, _] if command.text() == "collect" => Some(Command::Collect),
         [command, _, _, _, _, _, _, _, _] if command.text() == "node" => Some(Command::Node),
+        [command, _, _, _, _, _, _] if command.text() == "audit" => Some(Command::Audit),
         [command, _, _, word, _, _] if command.text() == "run" => match workers_of(word) {
             Some(workers) => Some(Command::Run { workers }),
             None => None,
@@ -96,6 +108,12 @@ pub fn parse(words: &[Name]) -> Option<Command>
         [command, seed, count, workers, _] if command.text() == "bulk" => {
             bulk_of(seed, count, workers)
         }
+        [command, _, _] if command.text() == "collect" => Some(Command::Collect),
+        [command, _, _] if command.text() == "ipfix" => Some(Command::Ipfix),
+        [command, _, _] if command.text() == "records" => Some(Command::Records),
+        [command, _, _] if command.text() == "part" => Some(Command::Part),
+        [command, _, _, _] if command.text() == "merge" => Some(Command::Merge),
+        [command, _, _] if command.text() == "parts" => Some(Command::Parts),
         _ => None,
     }
 }

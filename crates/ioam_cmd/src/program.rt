@@ -14,11 +14,14 @@ use ioam_base::name::Name;
 use ioam_batch::Gate;
 use ioam_desk::{Desk, SureDesk};
 use ioam_run_answer::Outcome;
+use ioam_run_audit::{AuditFiles, run_audit};
 use ioam_run_bulk::run_bulk;
 use ioam_run_capture::{CaptureFiles, run_filter, run_paths, run_save, run_show};
 use ioam_run_collect::{CollectFiles, run_collect};
 use ioam_run_domain::{RunFiles, run_domain};
+use ioam_run_ipfix::{IpfixFiles, RecordsFiles, run_ipfix, run_records};
 use ioam_run_node::{NodeFiles, run_node};
+use ioam_run_part::{MergeFiles, PartFiles, PartsFiles, run_merge, run_part, run_parts};
 use std::alloc::Global;
 use std::thread::Threads;
 
@@ -48,42 +51,44 @@ pub fn ioam<R: Threads + Sync, D: Desk, G: Gate>(
     ensures kept_out { IsTrue D.tells → KeepsOutputs (D.writing desk.old) (D.writing desk.new) }
 {
     match parse(words) {
-        Some(Command::Filter) => {
-            let files = CaptureFiles::of(words);
-            run_filter(alloc, &files, desk)
-        }
-        Some(Command::Paths) => {
-            let files = CaptureFiles::of(words);
-            run_paths(alloc, &files, desk)
-        }
-        Some(Command::Show) => {
-            let files = CaptureFiles::of(words);
-            run_show(alloc, &files, desk)
-        }
-        Some(Command::Save) => {
-            let files = CaptureFiles::of(words);
-            run_save(alloc, &files, desk)
-        }
-        Some(Command::Collect) => {
-            let files = CollectFiles::of(words);
-            run_collect(alloc, &files, desk)
-        }
-        Some(Command::Node) => {
-            let files = NodeFiles::of(words);
-            run_node(alloc, &files, desk)
-        }
-        Some(Command::Run { workers }) => {
-            let files = RunFiles::of(words);
-            run_domain(rt, alloc, workers, &files, desk, gate)
-        }
-        Some(
-            Command::Bulk {
-                seed,
-                count,
-                workers,
-            },
-        ) => run_bulk(rt, alloc, seed, count, workers, &words[4], desk, gate),
+        Some(command) => run_command(rt, alloc, command, words, desk, gate),
         None => Outcome::Usage,
+    }
+}
+
+// Runs the command that the words ask for.
+fn run_command<R: Threads + Sync, D: Desk, G: Gate>(
+    rt: &R,
+    alloc: Global,
+    command: Command,
+    words: &[Name],
+    desk: &mut D,
+    gate: &G,
+) -> Outcome
+    requires form { IsForm command words.now }
+    ensures keeps { Keeps G.opens (around D.tells (D.reading desk.old) (D.reading desk.new) (D.writing desk.old) (D.writing desk.new)) words.now command result }
+{
+    match command {
+        Command::Filter => run_filter(alloc, &CaptureFiles::of(words), desk),
+        Command::Paths => run_paths(alloc, &CaptureFiles::of(words), desk),
+        Command::Show => run_show(alloc, &CaptureFiles::of(words), desk),
+        Command::Save => run_save(alloc, &CaptureFiles::of(words), desk),
+        Command::Node => run_node(alloc, &NodeFiles::of(words), desk),
+        Command::Audit => run_audit(alloc, &AuditFiles::of(words), desk),
+        Command::Run { workers } => {
+            run_domain(rt, alloc, workers, &RunFiles::of(words), desk, gate)
+        }
+        Command::Bulk {
+            seed,
+            count,
+            workers,
+        } => run_bulk(rt, alloc, seed, count, workers, &words[4], desk, gate),
+        Command::Collect => run_collect(alloc, &CollectFiles::of(words), desk),
+        Command::Ipfix => run_ipfix(alloc, &IpfixFiles::of(words), desk),
+        Command::Records => run_records(alloc, &RecordsFiles::of(words), desk),
+        Command::Part => run_part(alloc, &PartFiles::of(words), desk),
+        Command::Merge => run_merge(alloc, &MergeFiles::of(words), desk),
+        Command::Parts => run_parts(alloc, &PartsFiles::of(words), desk),
     }
 }
 

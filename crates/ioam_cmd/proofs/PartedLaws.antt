@@ -1,0 +1,31 @@
+-- Of parts that are merged: in whatever tree, they become the part of all that their leaves have.
+use Rattle.std.proofs.Common.{◌≡◌, ℕ, List, ◌++◌, ap, sym, ◌∙◌, subst}
+use Rattle.ioam_collect.specs.Best.{groups_of}
+use Rattle.ioam_collect.specs.Join.{SameMembers, Tree, Leaf, Join, leaves, merged, pairs_in}
+use Rattle.ioam_collect.specs.Keyed.{keyed}
+use Rattle.ioam_collect.specs.declared.key.Key.{Key}
+use Rattle.ioam_collect.proofs.JoinLaws.{merged_same}
+use Rattle.ioam_dex.specs.Record.{Record}
+use Rattle.ioam_part.specs.Part.{IsPart, JoinsTo, PartOf}
+use Rattle.ioam_part.proofs.PartLaws.{part_unique}
+use Rattle.ioam_pool.specs.Entry.{Entry}
+use Rattle.ioam_cmd.specs.Parted.{AreMerged}
+
+-- the records of a part are those of the groups that it is the part of
+pairs_of : (octets : List ℕ) (records : List Record) (groups : List (Key × List Entry)) → IsPart octets records → PartOf octets groups
+    → keyed records ≡ pairs_in groups
+pairs_of octets records groups is part = ap keyed (part_unique octets records part.records is part.part) ∙ part.same
+
+merged_part : (tree : Tree) (octets : List ℕ) → AreMerged tree octets → PartOf octets (merged tree)
+merged_part (Leaf ps) octets is = is
+merged_part (Join one two) octets is =
+    let joins = is.4 in
+    let firsts = pairs_of is.0 joins.firsts (merged one) joins.first (merged_part one is.0 is.2) in
+    let seconds = pairs_of is.1 joins.seconds (merged two) joins.second (merged_part two is.1 is.3) in
+    subst (λ (ps : List (Key × Entry)). PartOf octets (groups_of (ps ++ pairs_in (merged two)))) firsts
+        (subst (λ (ps : List (Key × Entry)). PartOf octets (groups_of (keyed joins.firsts ++ ps))) seconds joins.joined)
+
+-- where these are all of some records, and each at least once, it is the part of those
+pub merged_is : (tree : Tree) (records : List Record) (octets : List ℕ) → SameMembers (leaves tree) (keyed records) → AreMerged tree octets
+    → PartOf octets (groups_of (keyed records))
+merged_is tree records octets same is = subst (PartOf octets) (merged_same tree (Leaf (keyed records)) same) (merged_part tree octets is)
