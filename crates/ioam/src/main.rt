@@ -76,10 +76,3 @@ fn words_of<R: std::rt::Env + AllocGlobal>(rt: &R) -> Result<Vec<Name>, Outcome>
     }
     Ok(words)
 }
-
-#[cfg(test)]
-mod gated;
-#[cfg(test)]
-mod refusals;
-#[cfg(test)]
-mod tests;

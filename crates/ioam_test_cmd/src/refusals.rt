@@ -5,7 +5,7 @@ pub struct Refusal {
     pub line: &'static str,
 }
 
-const REFUSALS: [Refusal; 27] = [
+const REFUSALS: [Refusal; 30] = [
     Refusal {
         words: &["bulk", "18446744073709551616", "1", "1", "r"],
         line: "usage",
@@ -89,6 +89,18 @@ const REFUSALS: [Refusal; 27] = [
     Refusal {
         words: &["node", "a", "r", "n", "l", "a", "b"],
         line: "usage",
+    },
+    Refusal {
+        words: &["audit", "a", "n", "l", "b", "r"],
+        line: "usage",
+    },
+    Refusal {
+        words: &["ipfix", "a", "a"],
+        line: "names a",
+    },
+    Refusal {
+        words: &["merge", "b", "a", "b"],
+        line: "names b",
     },
     Refusal {
         words: &["run", "a", "b", "0", "r", "e"],
