@@ -177,6 +177,27 @@ want 0 done run domain.toml "$readings" 1 report exports
 want 0 done node domain.toml "$readings" b ab ab.pcap b ab exports && same b bc.pcap
 rm -f ab.pcap bc.pcap b ab report exports
 
+# The suite for routers: what `node` makes of it is as the rules allow, and four wrong answers are found at their vectors.
+suite=examples/conformance
+# judged STATUS LINES AFTER: what judge.sh says of a capture, but for its lines of answers that aren't wrong.
+judged() {
+    printf "$2" >wanted && IOAM=$work/ioam timeout 60 $as $suite/judge.sh $suite/suite.pcap "$3" >said 2>&1
+    got=$? && : >stderr && grep -E 'not legal|^judge' said >stdout
+    judge $got "$1" judge.sh "$3"
+}
+want 0 done node $suite/domain.toml $suite/readings router in $suite/suite.pcap out.pcap report exports
+judged 0 'sent 176 gone 2 not legal 0 unjudged 9 not played 0\n' out.pcap
+head -c 24 out.pcap >nothing && judged 0 'sent 0 gone 178 not legal 0 unjudged 9 not played 0\n' nothing
+judged 2 'judge.sh: save answers: read fault\n' missing
+judged 2 'judge.sh: save answers: capture text 0 magic 1751477356\n' text
+if command -v python3 >/dev/null; then
+    python3 $suite/wrong.py out.pcap wrong >vectors
+    while read -r name vector; do
+        judged 1 "$(printf '%6d' "$vector")  not legal  $(sed -n "s/^| $vector | \([^|]*\) | .*/\1/p" $suite/suite.md)\nsent 175 gone 2 not legal 1 unjudged 9 not played 0\n" "wrong/$name.pcap"
+    done <vectors
+fi
+rm -f out.pcap nothing report exports said vectors
+
 # An answer that can't be printed: the status says it, and the outputs are the same.
 want 0 done filter "$real" out report && cp out out-1 && cp report report-1
 for way in '>&-' '>/dev/full' '>&- <&-' '>&- 2>&- <&-' '| head -c 0'; do

@@ -65,6 +65,7 @@ def types(suite):
         put(suite, what, "9197 4.4.2", adds(words(kind)), trace(kind, 2 * words(kind)))
     put(suite, "bits 0 and 23: bit 23 is ignored", "9197 4.4.1", adds(1), trace(kind_of(0, RESERVED), 2))
     put(suite, "bit 23 alone: no field is asked for", "9197 4.4.1", LEAVES, trace(kind_of(RESERVED), 2))
+    put(suite, "bit 23 alone, and no room", "9197 4.4.1", LEAVES, trace(kind_of(RESERVED), 0))
     put(suite, "no bit at all", "9197 4.4.1", LEAVES, trace(0, 2))
     put(suite, "no bit at all, and no room", "9197 4.4.1", LEAVES, trace(0, 0))
     put(suite, "no bit at all, NodeLen 1", "9197 4.4.1", LEAVES, trace(0, 2, node_len=1))
@@ -80,7 +81,8 @@ def undefined_types(suite):
     put(suite, "all 24 bits", "9197 4.4.1", adds_snapshot(defined_too, 50) + f", or {LEAVES}", trace(0xFFFFFF, 50, node_len=25))
     mixed = kind_of(0, 12)
     put(suite, "bits 0 and 12", "9197 4.4.1", may_add(mixed), trace(mixed, 4))
-    put(suite, "bits 0 and 12, NodeLen 1: no word for bit 12", "9197 4.4.1", f"{adds(1)}, or {LEAVES}", trace(mixed, 4, node_len=1))
+    put(suite, "bits 0 and 12, NodeLen 1: no word for bit 12", "9197 4.4.1", f"{adds(1)}, or {LEAVES}",
+        trace(mixed, 4, node_len=1))
     put(suite, "bits 0 and 12, NodeLen 3", "9197 4.4.1", f"adds 3 words, two of them all ones, or {LEAVES}",
         trace(mixed, 4, node_len=3))
     put(suite, "bits 0 and 12, NodeLen 0: too small", "9197 4.4.1", LEAVES, trace(mixed, 4, node_len=0))
@@ -126,7 +128,8 @@ def flags(suite):
     """Overflow set before, and the flags of RFC 9322."""
     put(suite, "Overflow set, with room", "9197 4.4.1", LEAVES, trace(NODE, 2, flags=OVERFLOW))
     put(suite, "Overflow set, without room", "9197 4.4.1", LEAVES, trace(NODE, 0, flags=OVERFLOW))
-    put(suite, "Overflow set behind older elements", "9197 4.4.1", LEAVES, trace(NODE_AND_FACES, 1, flags=OVERFLOW, older=2 * OLDER))
+    put(suite, "Overflow set behind older elements", "9197 4.4.1", LEAVES,
+        trace(NODE_AND_FACES, 1, flags=OVERFLOW, older=2 * OLDER))
     put(suite, "Overflow set, bits 0 and 22", "9197 4.4.1", LEAVES, trace(kind_of(0, SNAPSHOT), 4, flags=OVERFLOW))
     put(suite, "Overflow set, bits 0 and 12", "9197 4.4.1", LEAVES, trace(kind_of(0, 12), 4, flags=OVERFLOW))
     put(suite, "Loopback set", "9322 3", adds(1), trace(NODE, 2, flags=LOOPBACK))
@@ -157,7 +160,8 @@ def several(suite):
     put(suite, "a trace of an unknown namespace, then one of 7", rfc, f"{adds(1)} to the second", foreign, first)
     put(suite, "a trace of 7, then one of an unknown namespace", rfc, f"{adds(1)} to the first", first, foreign)
     put(suite, "two equal traces of namespace 7", rfc, f"{adds(1)} to each", first, first)
-    put(suite, "two traces of namespace 7, the first without room", rfc, f"{FULL} in the first, {adds(1)} to the second", full, first)
+    put(suite, "two traces of namespace 7, the first without room", rfc, f"{FULL} in the first, {adds(1)} to the second",
+        full, first)
     put(suite, "two traces, the first with Overflow set", rfc, f"{adds(1)} to the second", trace(NODE, 2, flags=OVERFLOW), second)
     put(suite, "three traces, the second with too large a NodeLen", rfc, f"{adds(1)} to the first and third",
         first, trace(NODE, 4, node_len=3), second)
@@ -214,7 +218,8 @@ def other_options(suite):
     hop("an incremental trace, which IPv6 has no place for", rfc, room, INCREMENTAL, CHANGES)
     hop("unassigned IOAM Option-Type 5", "9197 7.1", room, 5, CHANGES)
     hop("unassigned IOAM Option-Type 255", "9197 7.1", room, 255)
-    suite.add("a trace and direct export", "9326 3", adds(1), **framed(suite, aligned(ioam(room), ioam(direct(NODE, 9, 4), DIRECT, STAYS))))
+    both = aligned(ioam(room), ioam(direct(NODE, 9, 4), DIRECT, STAYS))
+    suite.add("a trace and direct export", "9326 3", adds(1), **framed(suite, both))
 
 
 def snapshots(suite):
@@ -249,7 +254,8 @@ def chains(suite):
     """Other headers behind a trace, and packets within packets."""
     room = trace(NODE, 2)
     for left in (0, 1):
-        put(suite, f"a Routing header, {plural(left, 'segment')} left", "8200 4.4", adds(1), room, following=ROUTING, payload=routing(NOTHING, left))
+        put(suite, f"a Routing header, {plural(left, 'segment')} left", "8200 4.4", adds(1), room, following=ROUTING,
+            payload=routing(NOTHING, left))
     for what, offset, more in (("a first fragment", 0, 1), ("a later fragment", 2, 0), ("an atomic fragment", 0, 0)):
         payload = fragment(NOTHING, offset, more) + bytes(16)
         put(suite, what, "8200 4.5", adds(1), room, following=FRAGMENT, payload=payload)
@@ -257,7 +263,8 @@ def chains(suite):
     put(suite, "edge-to-edge data behind it", "9486 3", adds(1), room, following=DESTINATION,
         payload=edge_data + suite.way.udp(f"vector {suite.label()}"))
     inner = suite.way.packet(suite.label(), HOP_BY_HOP, options_header(NOTHING, aligned(ioam(room))), hops=9)
-    put(suite, "a nested packet with a trace of its own", "9197 4.2", f"{adds(1)} to the outer trace", room, following=NESTED, payload=inner)
+    put(suite, "a nested packet with a trace of its own", "9197 4.2", f"{adds(1)} to the outer trace", room, following=NESTED,
+        payload=inner)
     inner = suite.way.packet(suite.label(), HOP_BY_HOP, options_header(NOTHING, aligned(ioam(room))), hops=9)
     suite.add("a nested packet with a trace, none outside", "9197 4.2", PASSES, NESTED, inner)
 
