@@ -86,7 +86,7 @@ def fragment(following, offset, more):
 
 
 def routing(following, left):
-    """A Routing header of an experimental type with one address (RFC 8200 section 4.4, RFC 4727 section 4)."""
+    """A Routing header of an experimental type with one address (RFC 8200 section 4.4, RFC 4727)."""
     return bytes([following, 2, 253, left]) + bytes(4) + ipaddress.IPv6Address("2001:db8:30::1").packed
 
 

@@ -154,7 +154,7 @@ def namespaces(suite):
 def several(suite):
     """Several traces in one packet."""
     first, second, third = (trace(NODE, 2, namespace=namespace) for namespace in (KNOWN, OTHER_KNOWN, 0))
-    foreign, full, rfc = trace(NODE, 2, namespace=UNKNOWN), trace(NODE, 0), "9197 4.2"
+    foreign, full, rfc = trace(NODE, 2, namespace=UNKNOWN), trace(NODE, 0), "9197 4.3"
     put(suite, "traces of namespaces 7 and 123", rfc, f"{adds(1)} to each", first, second)
     put(suite, "traces of namespaces 7, 123 and 0", rfc, f"{adds(1)} to each", first, second, third)
     put(suite, "a trace of an unknown namespace, then one of 7", rfc, f"{adds(1)} to the second", foreign, first)
@@ -263,10 +263,10 @@ def chains(suite):
     put(suite, "edge-to-edge data behind it", "9486 3", adds(1), room, following=DESTINATION,
         payload=edge_data + suite.way.udp(f"vector {suite.label()}"))
     inner = suite.way.packet(suite.label(), HOP_BY_HOP, options_header(NOTHING, aligned(ioam(room))), hops=9)
-    put(suite, "a nested packet with a trace of its own", "9197 4.2", f"{adds(1)} to the outer trace", room, following=NESTED,
+    put(suite, "a nested packet with a trace of its own", "9197 3", f"{adds(1)} to the outer trace", room, following=NESTED,
         payload=inner)
     inner = suite.way.packet(suite.label(), HOP_BY_HOP, options_header(NOTHING, aligned(ioam(room))), hops=9)
-    suite.add("a nested packet with a trace, none outside", "9197 4.2", PASSES, NESTED, inner)
+    suite.add("a nested packet with a trace, none outside", "9197 3", PASSES, NESTED, inner)
 
 
 def cut_data(suite):
