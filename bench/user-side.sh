@@ -193,7 +193,7 @@ judged 2 'judge.sh: save answers: capture text 0 magic 1751477356\n' text
 if command -v python3 >/dev/null; then
     python3 $suite/wrong.py out.pcap wrong >vectors
     while read -r name vector; do
-        judged 1 "$(printf '%6d' "$vector")  not legal  $(sed -n "s/^| $vector | \([^|]*\) | .*/\1/p" $suite/suite.md)\nsent 175 gone 2 not legal 1 unjudged 9 not played 0\n" "wrong/$name.pcap"
+        judged 1 "$(printf '%6d' "$vector")  not legal  $(sed -n "s/^| $vector | \([^|]*\) | [^|]* | \(.*\) |$/\1 (wanted: \2)/p" $suite/suite.md)\nsent 175 gone 2 not legal 1 unjudged 9 not played 0\n" "wrong/$name.pcap"
     done <vectors
 fi
 rm -f out.pcap nothing report exports said vectors

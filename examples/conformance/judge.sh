@@ -71,8 +71,8 @@ awk -F ' [|] ' -v room="$room" '
             answer[n] = part[2] == "skip" ? "unjudged" : part[2]
         while ((getline line <(room "/wrong")) > 0) if (split(line, part, " ") && !(part[1] in wrong)) { wrong[part[1]] = part[4]; place[part[1]] = part[5] }
         print "vector  answer     what it is" }
-    /^[|] [0-9]/ { n = substr($1, 3) + 0; suite[n] = 1; said = n in wrong ? "not legal" : n in answer ? answer[n] : "not played"
-        answered(n, said, $2 (said != "unjudged" ? "" : n in passed ? "; it was sent" : "; it is gone")) }
+    /^[|] [0-9]/ { n = substr($1, 3) + 0; suite[n] = 1; said = n in wrong ? "not legal" : n in answer ? answer[n] : "not played"; sub(/ [|]$/, "", $4)
+        answered(n, said, $2 (n in wrong ? " (wanted: " $4 ")" : said != "unjudged" ? "" : n in passed ? "; it was sent" : "; it is gone")) }
     END {
         for (n in wrong) if (!(n in suite)) answered(n, "not legal", "a flow label of no vector")
         printf "sent %d gone %d not legal %d unjudged %d not played %d\n", count["sent"], count["gone"], count["not legal"], count["unjudged"], count["not played"]
