@@ -1,7 +1,8 @@
 #!/usr/bin/env python3
 """Compares `ioam run`, `collect` and `bulk` with a model of them over random
 inputs: the line, the status and each output, octet for octet, with 1, 3 and 64
-workers. The model (model/run_*.py and what they stand on) was written in
+workers; and over what a run left `audit` of two taps, messages of the records
+and back, and parts of pieces of them, merged along a random tree. The model (model/run_*.py and what they stand on) was written in
 another language and from the standards' rules alone.
 
     bench/differential.py [COUNT] [PROGRAM] [SEED]
@@ -19,6 +20,9 @@ import tempfile
 HERE = os.path.dirname(os.path.abspath(__file__))
 sys.path.insert(0, os.path.join(HERE, "model"))
 
+import faults_answers  # noqa: E402
+import faults_reach  # noqa: E402
+import parts_random  # noqa: E402
 import run_damage as damage  # noqa: E402
 from domain import Fault, read_domain  # noqa: E402
 from run_bulk import bulk  # noqa: E402
@@ -28,7 +32,7 @@ from run_inputs import World  # noqa: E402
 from run_packets import Packets  # noqa: E402
 from run_program import run  # noqa: E402
 from run_reach import REACHED  # noqa: E402
-from run_records import mixed  # noqa: E402
+from run_records import mixed, pieces  # noqa: E402
 
 WORDS = ["run", "domain", "readings", "1", "report", "exports"]
 WORKERS = ["1", "3", "64"]
@@ -151,6 +155,66 @@ def compare(program, files, words, wanted):
     return found
 
 
+class Second:
+    """What the model of the other commands answers."""
+
+    def __init__(self, words, files):
+        line, self.status, self.outputs = faults_answers.answer([word.encode() for word in words], files)
+        self.line = line + "\n"
+
+
+def audited(rng, program, files, outputs):
+    """What differs in `audit` of two taps of a run, one in front of a node and one behind it."""
+    try:
+        domain = read_domain(files.get("domain", b""))
+    except Fault:
+        return []
+    pairs = [(one, two) for one in domain.link for two in domain.link
+             if one["to"] == two["from"] and one["tap"] in outputs and two["tap"] in outputs and one["tap"] != two["tap"]]
+    if not pairs:
+        return []
+    before, after = rng.choice(pairs)
+    words = ["audit", "domain", domain.node[before["to"]]["name"], before["name"], "before", "after", "report"]
+    given = {"domain": files["domain"], "before": outputs[before["tap"]], "after": outputs[after["tap"]]}
+    return compare(program, given, words, Second(words, given))
+
+
+def through_messages(program, exports):
+    """What differs in the records of some octets as messages, and back."""
+    words, given = ["ipfix", "exports", "out"], {"exports": exports}
+    wanted = Second(words, given)
+    back, messages = ["records", "out", "exports"], {"out": wanted.outputs["out"]}
+    read = Second(back, messages)
+    if not exports.startswith(read.outputs["exports"]) or wanted.line == "done\n" and exports != read.outputs["exports"]:
+        return ["the model reads other records than it wrote"]
+    return compare(program, given, words, wanted) + compare(program, messages, back, read)
+
+
+def through_parts(rng, program, exports):
+    """What differs in the parts of pieces of some records, and where they are merged along a random tree."""
+    found = pieces(exports)
+    sites = [[] for _ in range(rng.choice((1, 2, 3, 5)))]
+    for one in found:
+        for site in rng.sample(sites, 1 if rng.random() < 0.8 else min(2, len(sites))):
+            site.append(one)
+    for site in sites:
+        rng.shuffle(site)
+    differ = []
+
+    def step(words, given, name):
+        program.put(given)
+        wanted = Second(words, given)
+        differ.extend(differences(words, wanted, program.answer(words, wanted.outputs)))
+        return wanted.outputs[name]
+
+    parts = [step(["part", "exports", "part"], {"exports": b"".join(site)}, "part") for site in sites]
+    whole = parts_random.merged(rng, parts, lambda one, two: step(["merge", "one", "two", "part"], {"one": one, "two": two}, "part"))
+    if whole != Second(["part", "exports", "part"], {"exports": b"".join(found)}).outputs["part"]:
+        differ.append("the merged parts are another part than that of all records")
+    step(["parts", "part", "report"], {"part": whole}, "report")
+    return differ
+
+
 def one(rng, program):
     """One random run, the collecting of what it exported, now and then a
     generated run, whose branches aren't counted; what differs."""
@@ -159,10 +223,15 @@ def one(rng, program):
     found = compare(program, files, words, wanted)
     if found:
         return found
+    found = audited(rng, program, files, wanted.outputs) if rng.random() < 0.5 else []
+    if found:
+        return found
     for _ in range(2):
         exports = {"exports": mixed(rng, wanted.outputs.get("exports", b""))}
         asked = ["collect", "exports", "groups" if rng.random() < 0.98 else "exports"]
         found = compare(program, exports, asked, collect(asked, exports))
+        if not found and rng.random() < 0.5:
+            found = through_messages(program, exports["exports"]) + through_parts(rng, program, exports["exports"])
         if found:
             return found
     if rng.random() < 0.1:
@@ -195,7 +264,7 @@ def main():
             print("\n".join(found))
             sys.exit(1)
     shutil.rmtree(folder)
-    for name, times in sorted(REACHED.items()):
+    for name, times in sorted((REACHED + faults_reach.REACHED).items()):
         print("%8d %s" % (times, name))
     print("%d runs, nothing differs" % count)
 

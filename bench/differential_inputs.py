@@ -4,10 +4,10 @@
     bench/differential_inputs.py [COUNT] [PROGRAM] [FIRST]
 
 COUNT random inputs (1,000 where it isn't given), numbered from FIRST (0) on; one number always gives the same input. PROGRAM is
-this repository's `ioam` where none is given. The inputs are those of `filter`, `paths`, `show`, `save`, `node` and `collect`, the
-faulty domain files and READINGS of `run` too, and words of no form: captures of both forms with each of their faults, packets
-with IOAM options of every kind, sound and broken, export records, domain files with faults of each table, key and reason. Of each
-the line, the status and every file are compared, octet for octet, and that no other file was made. Where something differs it
+this repository's `ioam` where none is given. The inputs are those of every command but `bulk`, of `run` the faulty domain files
+and READINGS alone, and words of no form: captures of both forms with each of their faults, packets with IOAM options of every
+kind, sound and broken, pairs of captures before and behind some node, export records, messages and parts with each of their
+faults, domain files with faults of each table, key and reason. Of each the line, the status and every file are compared, octet for octet, and that no other file was made. Where something differs it
 is said and the input's folder is kept; then the status is 1. At the end stands how often each answer, reason and branch of
 the second writing (bench/model/) was reached.
 """
@@ -22,7 +22,9 @@ TOP = os.path.dirname(os.path.dirname(os.path.abspath(__file__)))
 sys.dont_write_bytecode = True
 sys.path.insert(0, os.path.join(TOP, "bench", "model"))
 
+import audit_rows  # noqa: E402
 import faults_reach  # noqa: E402
+import messages_rows  # noqa: E402
 import texts_rows  # noqa: E402
 from faults_answers import answer, is_form  # noqa: E402
 from faults_words import some_input  # noqa: E402
@@ -97,7 +99,8 @@ def one(number, program, room):
 
 
 def main():
-    texts_rows.check()
+    for rows in (texts_rows, audit_rows, messages_rows):
+        rows.check()
     count = int(sys.argv[1]) if len(sys.argv) > 1 else 1000
     program = os.path.abspath(sys.argv[2] if len(sys.argv) > 2 else os.path.join(TOP, "ioam"))
     first = int(sys.argv[3]) if len(sys.argv) > 3 else 0

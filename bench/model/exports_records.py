@@ -78,23 +78,31 @@ def best(records):
     return chosen.values(), len(records) - len(keyed)
 
 
-def collected(records):
-    """The text of the groups: keys in order, each with its records by falling hop limit."""
-    kept, unkeyed = best(records)
-    groups = {}
-    for record in kept:
-        groups.setdefault((record.namespace, record.flow, record.seq), []).append(record)
-    text = []
-    for key in sorted(groups):
-        group = sorted(groups[key], key=lambda record: (-record.hops(), record.core, record.visit or ()))
+def order_of(record):
+    """Where a keyed record stands: by its key, its falling hop limit, its octets without a visit, and its visit."""
+    return (record.namespace, record.flow, record.seq), -record.hops(), record.core, record.visit or ()
+
+
+def group_lines(kept):
+    """The text of the groups of records that are kept: keys in order, each with its records by falling hop limit."""
+    groups, text = {}, []
+    for record in sorted(kept, key=order_of):
+        groups.setdefault(order_of(record)[0], []).append(record)
+    for key, group in groups.items():
         text.append(f"group {key[0]} {key[1]} {key[2]} {len(group)}\n")
         reached(f"collect: group of {min(len(group), 4)}")
         if len({record.hops() for record in group}) < len(group):
             reached("collect: ties")
         text.extend(record_line(record) for record in group)
+    return "".join(text)
+
+
+def collected(records):
+    """The text of the groups and the sums."""
+    kept, unkeyed = best(records)
     repeats = len(records) - len(kept) - unkeyed
-    text.append(f"records {len(records)} kept {len(kept)} repeats {repeats} unkeyed {unkeyed}\n")
-    return "".join(text).encode()
+    sums = f"records {len(records)} kept {len(kept)} repeats {repeats} unkeyed {unkeyed}\n"
+    return (group_lines(kept) + sums).encode()
 
 
 def record_line(record):

@@ -1,5 +1,6 @@
 """Random inputs of the program: words, and the files that they name."""
 
+import audit_random
 import ng_random
 from exports_random import exports
 from faults_domain import read_domain
@@ -7,7 +8,9 @@ from faults_random import domain_file
 from faults_shipped import over_shipped
 from faults_values import Fault
 from foreign_random import Aim, frame
+from messages_random import over_messages
 from ng_captures import CLASSIC_HEAD
+from parts_random import over_parts
 
 ODD_WORDS = (b"", b"run", b"bulk", b"node", b"filter", b"x", b"0", b"-1", b"I", b"\xff", b"\xc3\xa9", b"a b", b"D", b"R")
 NUMBERS = (b"0", b"1", b"64", b"65", b"01", b"+1", b"-1", b"1 ", b"", b"00", b"1000000", b"1000001", b"18446744073709551615",
@@ -124,6 +127,38 @@ def over_node(rng, faulty=False, faulty_readings=False):
     return [b"node", b"D", b"R", node.encode(), link.encode(), b"I", b"O", b"P", b"E"], files
 
 
+def over_audit(rng):
+    """`audit` over a domain and two captures; now and then the domain is faulty, or a name another one."""
+    octets, _ = domain_file(rng, rng.random() < 0.04)
+    times, files = times_of(rng), {"D": octets}
+    try:
+        domain = read_domain(octets)
+    except Fault:
+        domain = None
+    node, link = "a", "l0"
+    if domain is not None and domain.link:
+        place = rng.randrange(len(domain.link))
+        at = domain.link[place]["to"]
+        node, link = domain.node[at]["name"], domain.link[place]["name"]
+        maker = audit_random.Maker(rng, domain, at, place, aim_of(domain, at))
+        files["I"], files["J"] = audit_random.pair(rng, maker, times)
+    else:
+        files["I"], files["J"] = capture_of(rng), capture_of(rng)
+    if rng.random() < 0.02:
+        node, link = rng.choice(((link, node), ("zz", link), (node, "zz"), (node, "l1"), ("b", link)))
+    return [b"audit", b"D", node.encode(), link.encode(), b"I", b"J", b"P"], files
+
+
+def over_faulty_domain(rng):
+    """`node` or `run` over a domain file that may be faulty."""
+    return over_node(rng, faulty=True)
+
+
+def over_faulty_readings(rng):
+    """`node` or `run` over readings that may be faulty."""
+    return over_node(rng, faulty_readings=True)
+
+
 def sound_nodes(top):
     """The entries of the table of nodes that are tables."""
     nodes = top.get("node", [])
@@ -132,7 +167,7 @@ def sound_nodes(top):
 
 def odd_words(rng):
     """Words that are of no form, or name one file twice, or one that isn't there."""
-    words, files = rng.choice((over_capture, over_records, over_node))(rng)
+    words, files = rng.choice((over_capture, over_records, over_node, over_audit, over_messages, over_parts))(rng)
     way = rng.random()
     if way < 0.2:
         words = [rng.choice(ODD_WORDS) for _ in range(rng.randint(0, 10))]
@@ -148,19 +183,11 @@ def odd_words(rng):
     return words, files
 
 
+SHARES = ((over_capture, 16), (over_node, 16), (over_faulty_domain, 17), (over_faulty_readings, 3), (over_records, 6),
+          (over_shipped, 3), (odd_words, 4), (over_audit, 17), (over_messages, 9), (over_parts, 9))
+
+
 def some_input(rng):
     """Any input."""
-    way = rng.random()
-    if way < 0.25:
-        return over_capture(rng)
-    if way < 0.5:
-        return over_node(rng)
-    if way < 0.78:
-        return over_node(rng, faulty=True)
-    if way < 0.83:
-        return over_node(rng, faulty_readings=True)
-    if way < 0.92:
-        return over_records(rng)
-    if way < 0.96:
-        return over_shipped(rng)
-    return odd_words(rng)
+    makers, shares = zip(*SHARES)
+    return rng.choices(makers, shares)[0](rng)
