@@ -4,9 +4,10 @@
     bench/at_limits.py [PROGRAM]
 
 PROGRAM is this repository's `ioam` where none is given. The limits: 16,777,216 packets of a capture, 33,554,432 blocks of a pcapng
-capture and 16,777,216 octets of one, 67,108,864 export records and 1,048,576 that are held, 64 MiB of READINGS. Behind each stand
-what is one too many, a cut and a fault. The line, the status and each output's octets are compared; a line for each case, and
-status 1 where one differs. It needs 1.2 GB in the folder for temporary files, and takes about two minutes.
+capture and 16,777,216 octets of one, 67,108,864 export records, 67,108,865 messages with such and 1,048,576 that are held or stand
+in a part, 64 MiB of READINGS. Behind each stand what is one too many, a cut and a fault. The line, the status and each output's
+octets are compared; a line for each case, and status 1 where one differs. It needs 1.3 GB in the folder for temporary files, and
+takes about five minutes.
 """
 import hashlib
 import itertools
@@ -20,6 +21,11 @@ HEAD = bytes.fromhex("a1b23c4d0002000400000000000000000004000000000065")
 SECTION = bytes.fromhex("0a0d0d0a0000001c1a2b3c4d00010000ffffffffffffffff0000001c")
 SKIPPED = bytes.fromhex("00000bad0000000c0000000c")
 PACKETS, BLOCKS, READ, HELD, READINGS, BLOCK = 2**24, 2**25, 2**26, 2**20, 2**26, 2**24
+MESSAGES, MARK = READ + 1, b"IOAMPART"
+TWO_NODES = b"""
+node = [{ name = "a", id = 1, address = "::1" }, { name = "b", id = 2, address = "::2" }]
+link = [{ name = "ab", from = "a", to = "b", out_id = 1, in_id = 2, delay = 0, mtu = 1500 }]
+"""
 
 
 def many(unit, count):
@@ -46,15 +52,18 @@ def file_parts(name):
 
 
 def case(program, words, given, line, status, outputs):
-    """Runs one case; whether it is as wanted."""
+    """Runs one case; whether it is as wanted. An output for which nothing is given isn't to be there."""
     for name, parts in given.items():
         with open(name, "wb") as file:
             file.writelines(parts)
     run = subprocess.run([program, *words.split()], capture_output=True)
     same = run.stdout == (line + "\n").encode() and run.returncode == status
     for name, parts in outputs.items():
-        same &= checksum(file_parts(name)) == checksum(parts)
-        os.remove(name)
+        if parts is None:
+            same &= not os.path.exists(name)
+        else:
+            same &= checksum(file_parts(name)) == checksum(parts)
+            os.remove(name)
     print(f"{'ok' if same else 'DIFFERS':8}{words}: {line}" + ("" if same else f" (came {run.stdout!r}, {run.returncode})"), flush=True)
     return same
 
@@ -133,11 +142,105 @@ def readings(program):
         yield case(program, "run D R 1 P E", given, line, status, {} if status else outputs)
 
 
+def audited(program):
+    """Packets of both captures of `audit`: records without octets."""
+    exact, more = PACKETS, PACKETS + 1
+    ends = ((0, exact, b"", "done", 0), (0, more, b"", f"packets {PACKETS}", 7), (exact, exact, b"", "done", 0),
+            (exact, more, b"", f"packets {PACKETS}", 7), (more, more, b"", f"packets {PACKETS}", 7),
+            (more, 0, bytes(15), f"packets {PACKETS}", 7), (1, exact, bytes(15), f"capture J {24 + 16 * PACKETS} short 15", 5))
+    for before, after, cut, line, status in ends:
+        given = {"D": [TWO_NODES], "I": itertools.chain([HEAD], many(bytes(16), before)),
+                 "J": itertools.chain([HEAD], many(bytes(16), after), [cut])}
+        taken = min(before, PACKETS)
+        lines = (b"%d skip not-ipv6\n" % number for number in range(1, taken + 1))
+        sums = [b"packets %d sent 0 gone 0 skipped %d\n" % (taken, taken)] + [b"verdict no 1\n"] * (status == 0)
+        yield case(program, "audit D b ab I J P", given, line, status, {"P": itertools.chain(lines, sums)})
+
+
+def sized(kind, content):
+    """A message with one set."""
+    return b"\0\x0a" + (len(content) + 20).to_bytes(2, "big") + bytes(12) + kind.to_bytes(2, "big") + (len(content) + 4).to_bytes(2, "big") + content
+
+
+def templates():
+    """The content of the set of templates."""
+    content = b""
+    for bits in range(8):
+        keys = [1, 2, 3, 4] + [5, 6] * (bits & 1) + [7] * (bits >> 2) + [8] * (bits >> 1 & 1) + [9]
+        content += (256 + bits).to_bytes(2, "big") + len(keys).to_bytes(2, "big")
+        for key in keys:
+            size = (2, 1, 1, 3, 8, 4, 4, 4, 65_535)[key - 1]
+            content += (0x8000 + key).to_bytes(2, "big") + size.to_bytes(2, "big") + (32473).to_bytes(4, "big")
+    return content
+
+
+def messages(program):
+    """Messages that are read: they have no sets."""
+    empty = b"\0\x0a\0\x10" + bytes(12)
+    end = 16 * MESSAGES
+    ends = ((b"", "done", 0), (empty, f"packets {MESSAGES}", 7), (empty[:15], f"ipfix {end} short 15", 12),
+            (b"\0\x09", f"ipfix {end} version 9", 12), (b"\0\x0a\0\x11" + empty[4:] + b"\0", f"ipfix {end} length 1", 12))
+    for more, line, status in ends:
+        yield case(program, "records I E", {"I": itertools.chain(many(empty, MESSAGES), [more])}, line, status, {"E": []})
+
+
+def written(program):
+    """Records that `ipfix` writes as messages: unkeyed ones, of eight octets each there."""
+    unkeyed, count = bytes.fromhex("0100000a000000000000"), READ // 32
+    head, body = sized(256, bytes(256))[:8], sized(256, bytes(256))[12:]
+    for more, line, status in ((b"", "done", 0), (unkeyed, f"records {READ}", 8), (b"\3", f"exports {10 * READ} version 3", 6)):
+        out = (head + (32 * place).to_bytes(4, "big") + body for place in range(count))
+        given = {"E": itertools.chain(many(unkeyed, READ), [more])}
+        yield case(program, "ipfix E O", given, line, status, {"O": itertools.chain([sized(2, templates())], out)})
+
+
+def read_back(program):
+    """Records that `records` reads, of which one too many stands in a message of its own, or in the middle of one."""
+    unkeyed, some = bytes.fromhex("0100000a000000000000"), 4096
+    full, spoiled = sized(256, bytes(8 * some)), bytes(8 * some + 8) + bytes(7) + b"\1"
+    place = len(sized(2, templates())) + len(full) * (READ // some)
+    ends = ((full, "done", 0, READ), (full + sized(256, b""), "done", 0, READ), (full + sized(256, bytes(8)), f"records {READ}", 8, READ),
+            (sized(256, bytes(8 * some + 8)), f"records {READ}", 8, READ), (full + b"\0", f"ipfix {place} short 1", 12, READ),
+            (sized(256, spoiled), f"ipfix {place - len(full)} field {20 + 8 * some + 8}", 12, READ - some))
+    for more, line, status, found in ends:
+        given = {"I": itertools.chain([sized(2, templates())], many(full, READ // some - 1), [more])}
+        yield case(program, "records I E", given, line, status, {"E": many(unkeyed, found)})
+
+
+def part_parts(first, end, count=None):
+    """A part of the records of packets of their own with these numbers, in order."""
+    records = (one_record(number) for flow in range(7) for number in range(flow, end, 7) if number >= first)
+    return itertools.chain([MARK + (end - first if count is None else count).to_bytes(4, "big")], records)
+
+
+def parts(program):
+    """Records of a part, and of two that are merged."""
+    full, half = f"records {HELD}", HELD // 2
+    whole = {"P": part_parts(0, HELD)}
+    yield case(program, "part E P", {"E": (one_record(number) for number in range(HELD))}, "done", 0, whole)
+    yield case(program, "part E P", {"E": (one_record(number) for number in range(HELD + 1))}, full, 8, {"P": part_parts(0, HELD)})
+    for (one, two), line, status in ((((0, half), (half, HELD)), "done", 0), (((0, HELD), (0, HELD)), "done", 0),
+                                     (((0, HELD), (HELD, HELD + 1)), full, 8), (((0, half), (half - 1, HELD + 1)), full, 8)):
+        outputs = {"P": part_parts(0, HELD) if status == 0 else None}
+        yield case(program, "merge A B P", {"A": part_parts(*one), "B": part_parts(*two)}, line, status, outputs)
+    kept = itertools.chain(itertools.islice(held_text(False, (0, 0, 0, 0)), HELD), [b"kept %d\n" % HELD])
+    yield case(program, "parts A R", {"A": part_parts(0, HELD)}, "done", 0, {"R": kept})
+    last = one_record(HELD)
+    ends = ((part_parts(0, HELD + 1), f"8 count {HELD + 1}"), (itertools.chain(part_parts(0, HELD), [last]), f"{12 + 22 * HELD} rest"),
+            (part_parts(0, HELD - 1, HELD), f"{12 + 22 * (HELD - 1)} short 0"),
+            (itertools.chain([MARK + bytes(4)], many(bytes(10**6), 301)), "12 rest"))
+    for given, fault in ends:
+        yield case(program, "parts A R", {"A": given}, f"part A {fault}", 13, {"R": None})
+
+
+PARTS = (readings, blocks, held, read, packets, audited, messages, written, read_back, parts)
+
+
 def main():
     program = os.path.abspath(sys.argv[1] if len(sys.argv) > 1 else os.path.join(TOP, "ioam"))
     with tempfile.TemporaryDirectory() as room:
         os.chdir(room)
-        same = [one for part in (readings, blocks, held, read, packets) for one in part(program)]
+        same = [one for part in PARTS for one in part(program)]
         os.chdir(TOP)
     print(f"{len(same)} cases, {same.count(False)} differ")
     return 0 if all(same) else 1

@@ -61,5 +61,15 @@ mapfile -t outputs < <(grep -oE '(out|tap) = "[^"]*"' "$three/domain.toml" | cut
 outputs+=(report exports) && try run "$three/domain.toml" "$three/readings" 2 report exports
 cp whole.exports exports.all
 outputs=(groups) && try collect exports.all groups
+outputs=(messages) && try ipfix exports.all messages
+cp whole.messages messages.all
+outputs=(exports) && try records messages.all exports
+head -c 136 exports.all >exports.some # four of its records
+for name in all some; do "$ioam" part "exports.$name" "$name.part" >/dev/null; done
+outputs=(part) && try part exports.all part
+outputs=(part) && try merge some.part all.part part
+outputs=(groups) && try parts all.part groups
+cp whole.out.pcap after.pcap
+outputs=(report) && try audit "$one/domain.toml" three two-three "$real" after.pcap report
 outputs=(report) && try bulk 1 300 2 report
 [ "$wrong" = 0 ]

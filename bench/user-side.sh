@@ -17,12 +17,27 @@ mkdir folder shut && : >empty && : >none
 printf 'hello, world\n' | tee text >locked
 printf '\012\015\015\012\034\0\0\0\115\074\053\032\001\0\0\0\377\377\377\377\377\377\377\377\034\0\0\0' >pcapng
 head -c 27 pcapng >cut-block
+printf 'IOAMPART\0\020\0' >cut-part
 head -c 23 "$real" >cut-head
 head -c 100 "$real" >cut-record
 { head -c 20 "$real" && printf '\0\0\0\161'; } >wrong-link
 { head -c 24 "$real" && printf '\0\0\0\0\0\0\0\0\0\004\0\001\0\0\0\0'; } >too-long
 cp "$real" x && ln -s x soft && ln x hard && mkfifo pipe
 chmod 000 locked && chmod 555 shut
+printf 'IOAMPART\0\0\0\0' >none-part && head -c 24 "$real" >none-capture
+# What `ipfix` writes first: a set of eight templates of fields, each with its number, its length and an enterprise.
+first='\0\012\001\364\0\0\0\0\0\0\0\0\0\0\0\0\0\002\001\344' unsent='packets 0 sent 0 gone 0 skipped 0\n'
+for kind in 0 1 2 3 4 5 6 7; do
+    fields='1\0\002 2\0\001 3\0\001 4\0\003' count=5
+    case $kind in 1 | 3 | 5 | 7) fields="$fields 5\0\010 6\0\004" count=7 ;; esac
+    case $kind in 4 | 5 | 6 | 7) fields="$fields 7\0\004" count=$((count + 1)) ;; esac
+    case $kind in 2 | 3 | 6 | 7) fields="$fields 10\0\004" count=$((count + 1)) ;; esac
+    first="$first\001\00$kind\0\0$(printf %o $count)"
+    for field in $fields '11\377\377'; do
+        case $field in 1[01]*) ;; *) field=0$field ;; esac
+        first="$first\200\0$field\0\0\176\331"
+    done
+done
 as=
 if [ "$(id -u)" = 0 ]; then # root may open everything, so the program runs as nobody
     chown -R 65534:65534 . && as='setpriv --reuid=65534 --regid=65534 --clear-groups'
@@ -51,7 +66,8 @@ gone() { for name; do [ ! -e "$name" ] && : >stderr || echo >stderr; : >stdout &
 with_domain() { sed "s|$1 = \"[^\"]*\"|$1 = \"$2\"|" "$domain" >domain.toml; }
 # Words and names.
 for words in '' filter 'filter a b' 'filter a b c d' 'paths a' 'paths a b c' 'Filter a b c' --help 'run a b 1 c' \
-    'run a b 1 c d e' 'run a b 0 c d' 'run a b 01 c d' 'run a b x c d' 'run a b 65 c d' 'run a b -1 c d' 'collect a' 'collect a b c' 'node a b c d e f g' 'node a b c d e f g h i' 'Node a b c d e f g h' 'bulk 01 2 1 r' 'bulk 1 0 1 r' 'bulk 1 1000001 1 r' 'bulk 1 2 65 r'; do
+    'run a b 1 c d e' 'run a b 0 c d' 'run a b 01 c d' 'run a b x c d' 'run a b 65 c d' 'run a b -1 c d' 'collect a' 'collect a b c' 'node a b c d e f g' 'node a b c d e f g h i' 'Node a b c d e f g h' 'bulk 01 2 1 r' 'bulk 1 0 1 r' 'bulk 1 1000001 1 r' 'bulk 1 2 65 r' \
+    'audit a b c d e' 'audit a b c d e f g' 'Audit a b c d e f' 'ipfix a' 'ipfix a b c' 'records a' 'records a b c' 'part a' 'part a b c' 'merge a b' 'merge a b c d' 'parts a' 'parts a b c' 'parts'; do
     want 1 usage $words
 done
 want 1 usage filter "$(printf 'a\377')" out report
@@ -80,6 +96,16 @@ want 3 'domain link 1 mtu range' node domain.toml missing z zz missing out repor
 gone out report exports
 with_domain in west-out.pcap && want 2 'names west-out.pcap' run domain.toml "$readings" 1 report exports
 with_domain out domain.toml && want 2 'names domain.toml' run domain.toml "$readings" 1 report exports
+want 2 'names z' audit "$domain" z zz missing missing missing
+want 2 'names zz' audit "$domain" b zz "$real" missing report
+want 2 'names bc' audit "$domain" b bc "$real" missing report # bc ends at c
+want 2 "names $domain" audit "$domain" b ab "$domain" x report
+want 2 'names x' audit "$domain" b ab x x report
+want 2 'names x' audit "$domain" b ab "$real" x x
+want 2 "names $real" audit "$domain" b ab "$real" x "$real"
+want 3 'domain link 1 mtu range' audit domain.toml z zz missing missing missing
+for words in 'ipfix x x' 'records x x' 'part x x' 'parts x x' 'merge x x out' 'merge x out x' 'merge missing x x'; do want 2 'names x' $words; done
+gone out report missing
 # Each kind of file as IN, a port's `in`, DOMAIN and READINGS, first those after which no output is opened.
 for file in missing locked "$long"; do
     want 9 'read fault' filter "$file" out report
@@ -90,6 +116,12 @@ for file in missing locked "$long"; do
     want 9 'read fault' node "$domain" "$file" b ab "$real" out report exports
     want 9 'read fault' node "$domain" "$readings" b ab "$file" out report exports
     with_domain in "$file" && [ "$file" != "$long" ] && want 9 'read fault' run domain.toml "$readings" 1 report exports
+    want 9 'read fault' audit "$file" b ab "$real" x report
+    want 9 'read fault' audit "$domain" b ab "$file" x report
+    want 9 'read fault' audit "$domain" b ab "$real" "$file" report
+    for words in ipfix records part parts; do want 9 'read fault' $words "$file" out; done
+    want 9 'read fault' merge "$file" none-part out
+    want 9 'read fault' merge none-part "$file" out
 done
 want 3 'domain port 1 in range' run domain.toml "$readings" 1 report exports
 file=folder why='Is a directory'
@@ -97,8 +129,20 @@ want 9 'read fault' run folder "$readings" 1 report exports
 want 9 'read fault' run "$domain" folder 1 report exports
 want 9 'read fault' node folder "$readings" b ab "$real" out report exports
 want 9 'read fault' node "$domain" folder b ab "$real" out report exports
+want 9 'read fault' audit folder b ab "$real" x report
+want 9 'read fault' parts folder report
+want 9 'read fault' merge folder missing out
+want 9 'read fault' merge none-part folder out
+gone out report
+# behind these an output is opened, and has what belongs to the records or packets in front
+want 9 'read fault' ipfix folder out && holds out "$first"
+want 9 'read fault' records folder out && holds out ''
+want 9 'read fault' part folder out && holds out 'IOAMPART\0\0\0\0'
+want 9 'read fault' audit "$domain" b ab folder none-capture report && holds report "$unsent"
+want 9 'read fault' audit "$domain" b ab none-capture folder report && holds report "$unsent"
 why=
 for file in text pcapng; do
+    want 3 'domain top 0 - text' audit "$file" z zz missing missing missing
     want 3 'domain top 0 - text' run "$file" "$readings" 1 report exports
     want 3 'domain top 0 - text' node "$file" "$readings" b ab "$real" out report exports
 done
@@ -134,6 +178,47 @@ wrong-link 5 capture wrong-link 0 link 113
 too-long 5 capture too-long 24 long 262145
 ends
 
+# Export records, messages and parts: each kind of file, and what then stands in the output.
+while read -r file status line; do
+    want "$status" "$line" ipfix "$file" out && holds out "$first"
+    want "$status" "$line" part "$file" out && holds out 'IOAMPART\0\0\0\0'
+done <<ends
+none 0 done
+text 6 exports 0 version 104
+x 6 exports 0 version $(head -c 1 x | od -An -tu1 | tr -d ' ')
+ends
+while read -r file status line; do want "$status" "$line" records "$file" out && holds out ''; done <<ends
+none 0 done
+text 12 ipfix 0 version 26725
+pcapng 12 ipfix 0 version 2573
+none-part 12 ipfix 0 version 18767
+ends
+while read -r file line; do
+    want 13 "part $file $line" parts "$file" out && want 13 "part $file $line" merge "$file" missing out
+    want 13 "part $file $line" merge none-part "$file" out && gone out
+done <<ends
+none 0 short 0
+text 0 mark
+cut-part 8 short 3
+ends
+want 0 done parts none-part report && holds report 'kept 0\n'
+want 0 done audit "$domain" b ab none-capture x report && holds report "$unsent"'verdict no 1\n'
+want 5 'capture empty 0 short 0' audit "$domain" b ab empty x report && holds report "$unsent"
+want 5 'capture empty 0 short 0' audit "$domain" b ab none-capture empty report && holds report "$unsent"
+want 5 'capture empty 0 short 0' audit "$domain" b ab empty text report && holds report "$unsent"
+want 5 'capture cut-head 0 short 23' audit "$domain" b ab cut-head text report && holds report "$unsent"
+
+# Records that a run exported, as messages and back, and as parts that are merged.
+want 0 done run "$domain" "$readings" 1 report records.all && want 0 done ipfix records.all messages
+want 0 done records messages out && same out records.all && rm -f out
+head -c 136 records.all >records.some && want 0 done part records.some some.part && want 0 done part records.all all.part
+want 0 done merge some.part all.part out && same out all.part && want 0 done merge all.part none-part out && same out all.part
+want 0 done collect records.all collected && want 0 done parts all.part report && rm -f out
+sed '$d' collected >wanted && sed '$d' report >stdout && : >stderr && judge 0 0 '  groups in report'
+timeout 60 cat messages >pipe & want 0 done records pipe out && same out records.all && rm -f out
+timeout 60 cat all.part >pipe & want 0 done merge some.part pipe out && same out all.part && rm -f out
+timeout 60 cat x >pipe & want 0 done audit "$domain" b ab none-capture pipe report && rm -f report
+
 # Each kind of name as an output.
 for file in shut/out folder missing/out "$long" /dev/full; do
     want 10 'write fault' filter "$real" "$file" report
@@ -146,6 +231,10 @@ for file in shut/out folder missing/out "$long" /dev/full; do
     [ "$file" = /dev/full ] || want 10 'write fault' run "$domain" "$readings" 1 report "$file" # EXPORTS is empty
     with_domain out "$file" && sed -i 's|\(in = .*\)out = "[^"]*"|\1out = "west-out.pcap"|' domain.toml
     [ "$file" = "$long" ] || want 10 'write fault' run domain.toml "$readings" 1 report exports
+    want 10 'write fault' audit "$domain" b ab "$real" x "$file"
+    want 10 'write fault' ipfix records.all "$file" && want 10 'write fault' records messages "$file"
+    want 10 'write fault' part records.all "$file" && want 10 'write fault' parts all.part "$file"
+    want 10 'write fault' merge some.part all.part "$file"
 done
 
 # A file that is open, by another name as an output: it stays as it is. Devices and pipes may stand twice.
@@ -158,11 +247,19 @@ for file in ./x soft hard "$work/x"; do
     want 10 'write fault' node "$domain" "$readings" b ab x "$file" report exports
     want 10 'write fault' node "$domain" "$readings" b ab x out report "$file"
     with_domain in x && want 10 'write fault' run domain.toml "$readings" 1 "$file" exports
+    want 10 'write fault' audit "$domain" b ab x "$real" "$file" && want 10 'write fault' audit "$domain" b ab "$real" x "$file"
     with_domain in x && sed -i "s|\(in = .*\)out = \"[^\"]*\"|\1out = \"$file\"|" domain.toml
     want 10 'write fault' run domain.toml "$readings" 1 report exports
     same x "$real"
 done
-file=./$domain && want 10 'write fault' run "$domain" "$readings" 1 "$file" exports && want 10 'write fault' node "$domain" "$readings" b ab x "$file" report exports
+for name in records.all messages all.part; do
+    file=./$name && cp $name kept
+    case $name in records.all) words='ipfix part' ;; messages) words=records ;; *) words=parts ;; esac
+    for word in $words; do want 10 'write fault' $word $name "$file"; done
+    [ $name != all.part ] || { want 10 'write fault' merge some.part $name "$file" && want 10 'write fault' merge $name some.part "$file"; }
+    same $name kept
+done
+file=./$domain && want 10 'write fault' audit "$domain" b ab x "$real" "$file" && want 10 'write fault' run "$domain" "$readings" 1 "$file" exports && want 10 'write fault' node "$domain" "$readings" b ab x "$file" report exports
 file=./$readings && want 10 'write fault' run "$domain" "$readings" 1 report "$file" && want 10 'write fault' node "$domain" "$readings" b ab x out report "$file"
 file=./out why='is an output of this run already'
 want 10 'write fault' node "$domain" "$readings" b ab x out report ./out
