@@ -55,3 +55,18 @@ throw_away() {
     sed 's/"west-out.pcap"/"null1"/; s/"east-out.pcap"/"null2"/; s/"ab.pcap"/"null3"/; s/"cd.pcap"/"null4"/' domain.toml >null/domain.toml
     for name in null1 null2 null3 null4 report exports west-out.pcap east-out.pcap ab.pcap cd.pcap; do ln -s /dev/null "null/$name"; done
 }
+
+# COUNT export records over a fifth as many keys (make_exports.py), in `one` and `two` five in eight of them each, in `both` these one
+# behind the other, and of each of the two its part and its records as sorted lines.
+make_halves() {
+    local name
+    python3 "$here/make_exports.py" "$1" $(($1 / 5))
+    awk 'NR % 8 < 5' lines >one.lines
+    awk 'NR % 8 > 3 || NR % 8 == 0' lines >two.lines
+    for name in one two; do
+        python3 -c 'import sys; sys.stdout.buffer.write(bytes.fromhex(sys.stdin.read()))' <"$name.lines" >"$name"
+        "$ioam" part "$name" "$name.part" >/dev/null
+        LC_ALL=C sort -u -o "$name.lines" "$name.lines"
+    done
+    cat one two >both
+}
