@@ -1,5 +1,5 @@
 #!/usr/bin/env python3
-"""Runs the commands that README.md and docs/ show, and compares what they print with what is shown there.
+"""Runs the commands that README.md, docs/ and examples/ show, and compares what they print with what is shown there.
 
     bench/documented.py [PROGRAM]
 
@@ -57,6 +57,9 @@ def main():
     documents = [os.path.join(TOP, "README.md")]
     docs = os.path.join(TOP, "docs")
     documents += [os.path.join(docs, name) for name in sorted(os.listdir(docs)) if name.endswith(".md")]
+    examples = os.path.join(TOP, "examples")
+    folders = (os.path.join(examples, name, "README.md") for name in sorted(os.listdir(examples)))
+    documents += [path for path in folders if os.path.exists(path)]
     played = [play(path, program) for path in documents]
     cases, differ = (sum(column) for column in zip(*played))
     print(f"{cases} commands, {differ} differ")
