@@ -93,6 +93,7 @@ want 2 'names out' node "$domain" "$readings" b ab "$real" out out out
 want 2 'names report' node "$domain" "$readings" b ab missing out report report
 sed 's/mtu = 1500 }/mtu = 1279 }/' "$domain" >domain.toml
 want 3 'domain link 1 mtu range' node domain.toml missing z zz missing out report report
+want 3 'domain link 1 mtu range' audit domain.toml z zz missing missing missing
 gone out report exports
 with_domain in west-out.pcap && want 2 'names west-out.pcap' run domain.toml "$readings" 1 report exports
 with_domain out domain.toml && want 2 'names domain.toml' run domain.toml "$readings" 1 report exports
@@ -103,7 +104,6 @@ want 2 "names $domain" audit "$domain" b ab "$domain" x report
 want 2 'names x' audit "$domain" b ab x x report
 want 2 'names x' audit "$domain" b ab "$real" x x
 want 2 "names $real" audit "$domain" b ab "$real" x "$real"
-want 3 'domain link 1 mtu range' audit domain.toml z zz missing missing missing
 for words in 'ipfix x x' 'records x x' 'part x x' 'parts x x' 'merge x x out' 'merge x out x' 'merge missing x x'; do want 2 'names x' $words; done
 gone out report missing
 # Each kind of file as IN, a port's `in`, DOMAIN and READINGS, first those after which no output is opened.
