@@ -159,7 +159,8 @@ def audited(program):
 
 def sized(kind, content):
     """A message with one set."""
-    return b"\0\x0a" + (len(content) + 20).to_bytes(2, "big") + bytes(12) + kind.to_bytes(2, "big") + (len(content) + 4).to_bytes(2, "big") + content
+    head = b"\0\x0a" + (len(content) + 20).to_bytes(2, "big") + bytes(12)
+    return head + kind.to_bytes(2, "big") + (len(content) + 4).to_bytes(2, "big") + content
 
 
 def templates():

@@ -161,9 +161,12 @@ int main(int count, char **words) {
             waits = next_packet(&after);
         } else { gone++; fputs("gone\n", report); }
     }
-    fprintf(report, "packets %llu sent %llu gone %llu skipped %llu\n", (unsigned long long)(sent + gone + skipped), (unsigned long long)sent, (unsigned long long)gone, (unsigned long long)skipped);
-    if (waits) fprintf(report, "verdict no %llu\n", (unsigned long long)(sent + 1));
-    else fputs("verdict yes\n", report);
+    fputs("packets ", report);
+    number(sent + gone + skipped, " sent ");
+    number(sent, " gone ");
+    number(gone, " skipped ");
+    number(skipped, waits ? "\nverdict no " : "\nverdict yes\n");
+    if (waits) number(sent + 1, "\n");
     while (waits) waits = next_packet(&after);
     return fclose(report) != 0;
 }

@@ -7,7 +7,8 @@ record, namespace, flags, extension flags, type, time, interface, flow, number a
     messages_by_others.py elements               the fields' names and types for ipfixDump (--element-file), to standard output
     messages_by_others.py dump, pdml             the lines of what ipfixDump --hexdump=300 and tshark -T pdml print, from standard input
     messages_by_others.py read MESSAGES          the lines of what python3-ipfix reads
-    messages_by_others.py write EXPORTS OUT      the records as messages by python3-ipfix: in the same templates, as many a message as it has room for
+    messages_by_others.py write EXPORTS OUT      the records as messages by python3-ipfix: in the same templates, as many a message as
+                                                 it has room for
 """
 import os
 import random
@@ -33,7 +34,8 @@ def records_of(name):
         size = int.from_bytes(octets[at + 2:at + 4], "big")
         record, at = octets[at:at + size], at + size
         found, place = {1: record[4:6], 2: record[6:7], 3: record[1:2], 4: record[7:10]}, 10
-        for number, length, is_there in ((5, 8, record[0] == 2), (6, 4, record[0] == 2), (7, 4, record[1] & 0x80), (8, 4, record[1] & 0x40)):
+        visited, flow, number = record[0] == 2, record[1] & 0x80, record[1] & 0x40
+        for number, length, is_there in ((5, 8, visited), (6, 4, visited), (7, 4, flow), (8, 4, number)):
             if is_there:
                 found[number], place = record[place:place + length], place + length
         found[9] = record[place:]
@@ -109,8 +111,8 @@ def write(name, out):
             if template != last:
                 writer.set_export_template(template)
                 last = template
-            writer.export_namedict({"ioam" + FIELDS[number - 1][0]: octets if number in (4, 9) else int.from_bytes(octets, "big")
-                                    for number, octets in found.items()})
+            writer.export_namedict({"ioam" + FIELDS[key - 1][0]: octets if key in (4, 9) else int.from_bytes(octets, "big")
+                                    for key, octets in found.items()})
         writer.flush()
 
 

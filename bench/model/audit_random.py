@@ -38,7 +38,8 @@ class Maker:
         area = bytes(4 * free) if rng.random() < 0.7 else some(rng, 4 * free)
         older = some(rng, 4 * rng.choice((0, 0, size, 1)))
         space = rng.choice(self.aim.spaces)
-        return space.to_bytes(2, "big") + middle.to_bytes(2, "big") + kind.to_bytes(3, "big") + rng.choice((b"\0", some(rng, 1))) + area + older
+        head = space.to_bytes(2, "big") + middle.to_bytes(2, "big") + kind.to_bytes(3, "big")
+        return head + rng.choice((b"\0", some(rng, 1))) + area + older
 
     def with_traces(self):
         """A packet with a Hop-by-Hop Options header of traces and a short payload."""

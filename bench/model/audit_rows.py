@@ -125,7 +125,8 @@ def fault_rows():
     row(capture(BEFORE), b"", f"1 gone, {sums(1, 0, 1)}", "capture J 0 short 0")
     for words, line in ((b"audit D z ab I J P", "names z"), (b"audit D b bc I J P", "names bc"), (b"audit D b ab I I P", "names I"),
                         (b"audit D b ab I J J", "names J"), (b"audit D b ab I J", "usage"), (b"audit D b ab I K P", "read fault"),
-                        (b"audit D b ab D J P", "names D"), (b"audit K z zz I J P", "read fault"), (b"audit I z zz I J P", "domain top 0 - text")):
+                        (b"audit D b ab D J P", "names D"), (b"audit K z zz I J P", "read fault"),
+                        (b"audit I z zz I J P", "domain top 0 - text")):
         found = answer(words.split(), {"D": DOMAIN.encode(), "I": HEAD, "J": HEAD})
         if found[0] != line or found[2]:
             raise AssertionError(f"{words}: {found}, wanted {line}")

@@ -32,8 +32,8 @@ def two(value):
 
 def template_octets(template):
     """A template record (RFC 7011 section 3.4.1), each field with its enterprise number (section 3.2)."""
-    fields = fields_of(template)
-    return two(template) + two(len(fields)) + b"".join(two(0x8000 | key) + two(size) + ENTERPRISE.to_bytes(4, "big") for key, size in fields)
+    fields = [two(0x8000 | key) + two(size) + ENTERPRISE.to_bytes(4, "big") for key, size in fields_of(template)]
+    return two(template) + two(len(fields)) + b"".join(fields)
 
 
 def data_octets(record, long=False):

@@ -94,7 +94,8 @@ def part_rows():
     gives("merge A B P", {"A": two}, "read fault", {})
     gives("merge A A P", {"A": two}, "names A", {})
     gives("merge A B B", {"A": two}, "names B", {})
-    gives("parts P R", {"P": HEAD + b"\0\0\0\2" + PLAIN + later}, "done", {"R": b"group 7 9 0 2\n  800000 hop=64 node=1\n  800000 hop=64 node=2\nkept 2\n"})
+    text = b"group 7 9 0 2\n  800000 hop=64 node=1\n  800000 hop=64 node=2\nkept 2\n"
+    gives("parts P R", {"P": HEAD + b"\0\0\0\2" + PLAIN + later}, "done", {"R": text})
 
 
 def check():
