@@ -196,7 +196,7 @@ def after_packets(rng, maker, arrivals):
 def pair(rng, maker, times):
     """Two captures."""
     wrong = rng.choice((0, 0, 0.3, 1, 1))
-    count = rng.choice((0, 1, 1, 2, 3, 5, 8, 12, 20)) if rng.random() < 0.98 else 200
+    count = rng.choice((0, 1, 1, 2, 3, 5, 8, 12, 20)) if rng.random() < 0.985 else 700  # more octets than are read at once
     before = ng_random.capture(rng, ng_random.Size(count, times, False, wrong), maker.before)
     arrivals = read_capture(before)[0]
     if rng.random() < 0.12:

@@ -144,7 +144,7 @@ def stream(rng):
         made.octets += message_octets(made.template_set(list(TEMPLATES)))
         made.known += TEMPLATES
     while found:
-        size = rng.choice((1, 1, 2, 5, 32, 400))
+        size = rng.choice((1, 1, 2, 5, 32, 400, 1000 if rng.random() < 0.9 else 3000))
         made.add(found[:size])
         del found[:size]
         if rng.random() < 0.1:

@@ -76,7 +76,7 @@ def part(rng, records):
 
 def over_parts(rng):
     """`part` over records, `merge` and `parts` over parts; those that are merged have some records in common."""
-    count = rng.choice((0, 1, 2, 3, 8, 20, 60)) if rng.random() < 0.97 else 1500
+    count = rng.choice((0, 1, 2, 3, 8, 20, 60)) if rng.random() < 0.97 else 4000  # more octets than are read at once
     way = rng.random()
     if way < 0.2:
         return [b"part", b"E", b"P"], {"E": exports(rng, count)}
