@@ -23,7 +23,7 @@ merged_part (Join one two) octets is =
     let firsts = pairs_of is.0 joins.firsts (merged one) joins.first (merged_part one is.0 is.2) in
     let seconds = pairs_of is.1 joins.seconds (merged two) joins.second (merged_part two is.1 is.3) in
     subst (λ (ps : List (Key × Entry)). PartOf octets (groups_of (ps ++ pairs_in (merged two)))) firsts
-        (subst (λ (ps : List (Key × Entry)). PartOf octets (groups_of (keyed joins.firsts ++ ps))) seconds joins.joined)
+    (subst (λ (ps : List (Key × Entry)). PartOf octets (groups_of (keyed joins.firsts ++ ps))) seconds joins.joined)
 
 -- where these are all of some records, and each at least once, it is the part of those
 pub merged_is : (tree : Tree) (records : List Record) (octets : List ℕ) → SameMembers (leaves tree) (keyed records) → AreMerged tree octets
