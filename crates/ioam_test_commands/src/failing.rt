@@ -1,4 +1,5 @@
 //! Runs each of whose calls fails once.
+use crate::audit::failing::audit_fell;
 use crate::collect_rows::broken;
 use crate::desks::{Command, are_begun, are_held, desk_with, is_unopened, line_of};
 use crate::fronts::outputs_of;
@@ -127,6 +128,7 @@ enum Case {
     Show,
     Collect,
     Node,
+    Audit,
 }
 
 fn case_fell(alloc: Global, case: Case, piece: usize, call: u64) -> Result<Fell, NoMemory> {
@@ -135,6 +137,7 @@ fn case_fell(alloc: Global, case: Case, piece: usize, call: u64) -> Result<Fell,
         Case::Show => run_fell(alloc, &of_show(), piece, call),
         Case::Collect => run_fell(alloc, &of_collect(), piece, call),
         Case::Node => node_fell(alloc, piece, call),
+        Case::Audit => audit_fell(alloc, piece, call),
     }
 }
 
@@ -169,6 +172,8 @@ fn each_call_fails_once(rt: HostRuntime) {
         (Case::Collect, 5, [1, 3, 2]),
         (Case::Node, 65536, [5, 1, 5]),
         (Case::Node, 7, [5, 1, 5]),
+        (Case::Audit, 65536, [5, 3, 2]),
+        (Case::Audit, 7, [5, 3, 2]),
     ] {
         let faults = count_faults(&rt, alloc, case, piece);
         assert!(rt; are_as_many(faults, least), "pieces of {piece}");

@@ -1,8 +1,10 @@
 //! The tests of the commands but `run`: whole runs over desks in memory of `filter`, `paths`, `show` and
-//! `save` (`ioam_run_capture`), `collect` (`ioam_run_collect`), `node` (`transit`) and `bulk`. What the first four read
+//! `save` (`ioam_run_capture`), `collect` (`ioam_run_collect`), `node` (`transit`), `audit` and `bulk`. What the first four read
 //! and have to write stands in `ioam_test_rows`.
 #![tactic(auto)]
 
+#[cfg(test)]
+mod audit;
 #[cfg(test)]
 mod bulk;
 #[cfg(test)]

@@ -6,6 +6,7 @@ use ioam_base::name::Name;
 use ioam_batch::Gate;
 use ioam_desk::Desk;
 use ioam_run_answer::Outcome;
+use ioam_run_audit::{AuditFiles, run_audit};
 use ioam_run_bulk::run_bulk;
 use ioam_run_capture::{CaptureFiles, run_filter, run_paths, run_save, run_show};
 use ioam_run_collect::{CollectFiles, run_collect};
@@ -54,6 +55,13 @@ pub fn node_plainly<D: Desk>(alloc: Global, words: &[Name], desk: &mut D) -> Out
     requires { length words.now ≡ 9 }
 {
     run_node(alloc, &NodeFiles::of(words), desk)
+}
+
+/// [`run_audit`], without its clauses.
+pub fn audit_plainly<D: Desk>(alloc: Global, words: &[Name], desk: &mut D) -> Outcome
+    requires { length words.now ≡ 7 }
+{
+    run_audit(alloc, &AuditFiles::of(words), desk)
 }
 
 /// [`run_domain`], without its clauses.
