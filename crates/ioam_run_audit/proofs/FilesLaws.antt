@@ -15,7 +15,7 @@ use Rattle.ioam_run_audit.specs.Lines.{report_of}
 use Rattle.ioam_run_audit.specs.Pairs.{Pairs, ReadsTwo, Start}
 use Rattle.ioam_run_audit.specs.Runs.{Moves}
 use Rattle.ioam_run_audit.specs.declared.pair.Pair.{Pair}
-use Rattle.ioam_run_audit.proofs.PairLaws.{two_same}
+use Rattle.ioam_run_audit.proofs.SlotsLaws.{two_same}
 use Rattle.ioam_run_audit.proofs.RunLaws.{matched_so, pairs_matched}
 use Rattle.ioam_run_stream.specs.Promise.{AreFirst}
 

@@ -12,7 +12,7 @@ use Rattle.ioam_run_audit.specs.declared.fate.Fate.TheVariants.{Sent, Gone, Skip
 use Rattle.ioam_run_audit.proofs.FatesLaws.{sent_count, number_is, none_left, to_embeds}
 use Rattle.ioam_run_audit.proofs.LinesLaws.{sums_sent}
 use Rattle.ioam_run_audit.proofs.MapLaws.{from_map, to_map}
-use Rattle.ioam_run_audit.proofs.PairLaws.{reason_apart, skipped_apart}
+use Rattle.ioam_run_audit.proofs.RecordLaws.{reason_apart, skipped_apart}
 use Rattle.ioam_run_audit.proofs.VerdictLaws.{verdict_map}
 
 module _ {B A : Type 0} (Skips : B → Reason → Type 0) (Fits : B → Type 0) (Becomes : B → A → Type 0) where

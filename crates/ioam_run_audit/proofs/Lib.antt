@@ -2,6 +2,8 @@ mod MapLaws
 mod FatesLaws
 mod LinesLaws
 mod LaneLaws
+mod RecordLaws
+mod SlotsLaws
 mod PairLaws
 mod RunLaws
 mod VerdictLaws

@@ -1,20 +1,16 @@
 -- What becomes of one packet more of BEFORE.
-use Rattle.std.proofs.Common.{◌≡◌, ℕ, ◌+◌, ◌<◌, Bool, IsTrue, List, [], ◌∷◌, ◌++◌, length, Option, Some, None, refl, sym, ap, ◌∙◌, subst, inl, inr, arith, length-append, append-nil, append_assoc}
+use Rattle.std.proofs.Common.{◌≡◌, ℕ, ◌+◌, ◌<◌, Bool, IsTrue, List, [], ◌∷◌, ◌++◌, length, Option, None, refl, sym, ap, ◌∙◌, subst, arith, length-append, append-nil, append_assoc}
 use Rattle.std.specs.Prelude.{Result, Ok, Err, IfOk, slice_get}
 use Rattle.ioam_audit.specs.Sent.{IsSentAs, end_of}
 use Rattle.ioam_desk.specs.Desk as desk
-use Rattle.ioam_ip.specs.Chain.{IsSound}
-use Rattle.ioam_ip.specs.Framing.{Framing, Holds, NoIpv6, CutShort, TooShort}
-use Rattle.ioam_node.specs.Admission.{reason_of}
 use Rattle.ioam_node.specs.declared.reason.Reason.{Reason}
 use Rattle.ioam_pcap.specs.Entries.{Taken}
-use Rattle.ioam_run_stream.specs.Frame.{taken_framing}
 use Rattle.ioam_topo.specs.Domain.{links}
 use Rattle.ioam_run_audit.specs.Fates.{IsFate, IsNext, IsNotNext, numbers_behind, left_behind}
 use Rattle.ioam_run_audit.specs.Fit.{CameFrom, HasReason, HoldsPacket, IsFit, Place}
 use Rattle.ioam_run_audit.specs.Lanes.{AtLane, IsHeld, IsOver, ReadsAlone, NextOf, RestOf}
 use Rattle.ioam_run_audit.specs.Lines.{BecomeOf, sums_of, with_fate, Sums}
-use Rattle.ioam_run_audit.specs.Pairs.{AfterIs, Due, Ended, FateOf, IsLegal, MayCome, Over, PairComes, Pairs, ReadsTwo, Start, pair_behind, sums_as}
+use Rattle.ioam_run_audit.specs.Pairs.{AfterIs, Due, Ended, FateOf, IsLegal, MayCome, Over, PairComes, Pairs, Start, pair_behind, sums_as}
 use Rattle.ioam_run_audit.specs.declared.fate.Fate.{Fate}
 use Rattle.ioam_run_audit.specs.declared.fate.Fate.TheVariants.{Sent, Gone, Skipped}
 use Rattle.ioam_run_audit.specs.declared.lane.End.{End}
@@ -27,34 +23,7 @@ use Rattle.ioam_run_audit.specs.declared.pair.Waiting.TheVariants as waiting
 use Rattle.ioam_run_audit.proofs.FatesLaws.{fates_many, fates_push, number_is}
 use Rattle.ioam_run_audit.proofs.LaneLaws.{at_apart}
 use Rattle.ioam_run_audit.proofs.LinesLaws.{sums_all, sums_push, sums_sent}
-
--- ---- a record's packet
-
-abbrev packet_in : List ℕ → Framing → List ℕ
-packet_in other (Holds packet) = packet
-packet_in other NoIpv6 = other
-packet_in other CutShort = other
-packet_in other TooShort = other
-
--- it holds one
-pub one_packet : (t : Taken) (p q : List ℕ) → taken_framing t ≡ Holds p → taken_framing t ≡ Holds q → p ≡ q
-one_packet t p q first second = ap (packet_in p) (sym first ∙ second)
-
-no_reason : (why : Reason) → None ≡ Some why → ⊥
-no_reason why same = cc
-
--- what has a reason holds none
-pub reason_apart : (t : Taken) (why : Reason) (p : List ℕ) → HasReason t why → HoldsPacket t p → ⊥
-reason_apart t why p has holds = elim has as (λ _. ⊥) [
-  | inl framed ↦ no_reason why (sym (ap reason_of holds.framed) ∙ framed)
-  | inr broken ↦ broken.2 (subst IsSound (one_packet t p broken.0 holds.framed broken.1) holds.sound)
-]
-
-pub skipped_apart : (place : Place) (b : Taken) (why : Reason) (a : Taken) → HasReason b why → CameFrom place b a → ⊥
-skipped_apart place b why a has came = reason_apart b why came.sent has came.holds_sent
-
-pub came_fit : (place : Place) (b a : Taken) → CameFrom place b a → IsFit a
-came_fit place b a came = (came.came, came.holds_came)
+use Rattle.ioam_run_audit.proofs.RecordLaws.{one_packet, reason_apart}
 
 -- the two packets that are held
 module _ (place : Place) (pair : Pair) (x t : Taken) (holds : HoldsPacket x pair.before.packet.items) (held : HoldsPacket t pair.after.packet.items) where
@@ -324,27 +293,6 @@ module _ (tells : Bool) (start : Start) (place : Place) (old new : desk.Reading)
     counts_are = pairs.counts_are;
     apart = λ is. pairs.apart (sym same ∙ is);
   }
-
--- ---- the slots that were read
-
-pub two_first : (first second : ℕ) (old new : desk.Reading) → ReadsAlone first old new → ReadsTwo first second old new
-two_first first second old new is = record { asked = is.asked; slots = is.slots; left = λ k one other. is.left k one; ended = λ k one other. is.ended k one }
-
-pub two_second : (first second : ℕ) (old new : desk.Reading) → ReadsAlone second old new → ReadsTwo first second old new
-two_second first second old new is = record { asked = is.asked; slots = is.slots; left = λ k one other. is.left k other; ended = λ k one other. is.ended k other }
-
-pub two_same : (first second : ℕ) (old new : desk.Reading) → new ≡ old → ReadsTwo first second old new
-two_same first second old new same =
-    let P : desk.Reading → Type 0 = λ now. ReadsTwo first second old now in
-    subst P (sym same) (record { asked = refl; slots = refl; left = λ k one other. refl; ended = λ k one other. refl })
-
-pub two_then : (first second : ℕ) (a b c : desk.Reading) → ReadsTwo first second a b → ReadsTwo first second b c → ReadsTwo first second a c
-two_then first second a b c x y = record {
-  asked = y.asked ∙ x.asked;
-  slots = y.slots ∙ x.slots;
-  left = λ k one other. y.left k one other ∙ x.left k one other;
-  ended = λ k one other. y.ended k one other ∙ x.ended k one other;
-}
 
 -- ---- what is left of AFTER behind BEFORE
 

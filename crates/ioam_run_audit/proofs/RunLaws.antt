@@ -33,7 +33,8 @@ use Rattle.ioam_run_audit.specs.declared.pair.Waiting.{Waiting}
 use Rattle.ioam_run_audit.specs.declared.pair.Waiting.TheVariants as waiting
 use Rattle.ioam_run_audit.proofs.LaneLaws.{at_first}
 use Rattle.ioam_run_audit.proofs.LinesLaws.{lines_push}
-use Rattle.ioam_run_audit.proofs.PairLaws.{due_number, due_put, two_same, two_then}
+use Rattle.ioam_run_audit.proofs.PairLaws.{due_number, due_put}
+use Rattle.ioam_run_audit.proofs.SlotsLaws.{two_same, two_then}
 
 -- however a capture ends, what was taken comes first in it
 pub ends_first : (how : End) (taken : List Taken) (octets : List ℕ) → EndsBy how taken octets → AreFirst taken octets

@@ -7,7 +7,7 @@ use Rattle.ioam_run_audit.specs.Fit.{CameFrom, HasReason, IsFit, Place}
 use Rattle.ioam_run_audit.specs.Lines.{BecomeOf, sums_of, verdict_of, Yes}
 use Rattle.ioam_run_audit.specs.declared.fate.Fate.{Fate}
 use Rattle.ioam_run_audit.proofs.FatesLaws.{none_left_map}
-use Rattle.ioam_run_audit.proofs.PairLaws.{came_fit, skipped_apart}
+use Rattle.ioam_run_audit.proofs.RecordLaws.{came_fit, skipped_apart}
 
 none_by : (rest : List Taken) (sent : ℕ) → verdict_of rest sent ≡ Yes → rest ≡ []
 none_by [] sent is = refl

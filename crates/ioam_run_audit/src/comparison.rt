@@ -80,8 +80,8 @@ fn cut_off<D: Desk>(counts: Counts, outputs: &mut [Output], desk: &mut D) -> Out
     }
 }
 
-/// Judges all packets of BEFORE by those of AFTER, and writes REPORT. AFTER is read to its end behind BEFORE, however that ends, so that
-/// it is known what is wrong with either.
+/// Judges all packets of BEFORE by those of AFTER, and writes REPORT. AFTER is read to its end behind BEFORE, however that
+/// ends, so that it is known what is wrong with either.
 pub(crate) fn run_open<D: Desk>(
     alloc: Global,
     before: &Name,

@@ -17,7 +17,8 @@ use ioam_desk_outputs::{Output, finish};
 use ioam_run_answer::{Outcome, capture_outcome};
 use std::alloc::Global;
 
-/// The answer where BEFORE, of a name, ends so, and AFTER, of another, so: what is wrong with BEFORE comes before what is wrong with AFTER.
+/// The answer where BEFORE, of a name, ends so, and AFTER, of another, so: what is wrong with BEFORE comes before what is wrong
+/// with AFTER.
 pub(crate) fn answer(alloc: Global, before: &Name, after: &Name, how: End, last: End) -> Outcome
     ensures { (result ≡ answer_of before.now after.now how last) ⊎ (result ≡ Outcome.NoMemory) }
 {

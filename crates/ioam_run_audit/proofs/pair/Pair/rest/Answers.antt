@@ -5,7 +5,8 @@ use Rattle.ioam_run_audit.specs.Pairs.{Ended, Over, Start}
 use Rattle.ioam_run_audit.specs.declared.fate.Fate.{Fate}
 use Rattle.ioam_run_audit.specs.declared.lane.End.{End}
 use Rattle.ioam_run_audit.specs.declared.pair.Waiting.TheVariants as waiting
-use Rattle.ioam_run_audit.proofs.PairLaws.{ended_lane, ok_map, over_rest, over_still, two_second}
+use Rattle.ioam_run_audit.proofs.PairLaws.{ended_lane, ok_map, over_rest, over_still}
+use Rattle.ioam_run_audit.proofs.SlotsLaws.{two_second}
 use Rattle.ioam_run_audit.proofs.pair.Pair.rest.Goals as goal
 
 pub rest-requires : goal.rest-requires

@@ -1,0 +1,24 @@
+-- The slots that were read.
+use Rattle.std.proofs.Common.{◌≡◌, ℕ, refl, sym, ◌∙◌, subst}
+use Rattle.ioam_desk.specs.Desk as desk
+use Rattle.ioam_run_audit.specs.Lanes.{ReadsAlone}
+use Rattle.ioam_run_audit.specs.Pairs.{ReadsTwo}
+
+pub two_first : (first second : ℕ) (old new : desk.Reading) → ReadsAlone first old new → ReadsTwo first second old new
+two_first first second old new is = record { asked = is.asked; slots = is.slots; left = λ k one other. is.left k one; ended = λ k one other. is.ended k one }
+
+pub two_second : (first second : ℕ) (old new : desk.Reading) → ReadsAlone second old new → ReadsTwo first second old new
+two_second first second old new is = record { asked = is.asked; slots = is.slots; left = λ k one other. is.left k other; ended = λ k one other. is.ended k other }
+
+pub two_same : (first second : ℕ) (old new : desk.Reading) → new ≡ old → ReadsTwo first second old new
+two_same first second old new same =
+    let P : desk.Reading → Type 0 = λ now. ReadsTwo first second old now in
+    subst P (sym same) (record { asked = refl; slots = refl; left = λ k one other. refl; ended = λ k one other. refl })
+
+pub two_then : (first second : ℕ) (a b c : desk.Reading) → ReadsTwo first second a b → ReadsTwo first second b c → ReadsTwo first second a c
+two_then first second a b c x y = record {
+  asked = y.asked ∙ x.asked;
+  slots = y.slots ∙ x.slots;
+  left = λ k one other. y.left k one other ∙ x.left k one other;
+  ended = λ k one other. y.ended k one other ∙ x.ended k one other;
+}
