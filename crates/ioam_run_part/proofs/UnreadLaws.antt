@@ -173,3 +173,31 @@ module _ (tells : Bool) (content : Option (List ℕ)) (slot left : ℕ) (first o
   pub reads_failed : (into : List ℕ) (why : DeskFault) → ReadInto tells old slot into (Err why) new → ReadsSlot tells content slot first new (Err (unread_by why))
   reads_failed into Failed reads = subst (λ s. desk.Fails s new.side) side reads.0
   reads_failed into NoMemory reads = ap (λ (now : desk.Reading). now.side) reads ∙ side
+
+-- ---- how much is read
+
+-- so many octets were handed out, of which no more may be than were still to be read
+pub few_handed : (tells : Bool) (content : Option (List ℕ)) (old new : desk.Reading) (slot left : ℕ) (r : PartReading) (octets : List ℕ) → Fed tells content old slot left r
+    → (IsTrue tells → old.left slot ≡ octets ++ new.left slot) → length octets ≤ left → ReadsFew tells content slot new
+few_handed tells content old new slot left r octets fed handed most told =
+    let all : List ℕ = fed.octets ++ old.left slot in
+    let size = length-append fed.octets (old.left slot) in
+    let more : length (old.left slot) ≡ length octets + length (new.left slot) = ap length (handed told) ∙ length-append octets (new.left slot) in
+    let within = fed.within in
+    some_held content all (λ o. length o ≤ length (new.left slot) + 300000000) (fed.held told) (omega (arith, size, more, within, most))
+
+pub few_still : (tells : Bool) (content : Option (List ℕ)) (old : desk.Reading) (slot left : ℕ) (r : PartReading) → Fed tells content old slot left r → ReadsFew tells content slot old
+few_still tells content old slot left r fed = few_handed tells content old old slot left r [] fed (λ told. refl) (omega arith)
+
+pub few_read : (tells : Bool) (content : Option (List ℕ)) (old new : desk.Reading) (slot left count : ℕ) (into : List ℕ) (r : PartReading) → Fed tells content old slot left r
+    → ReadInto tells old slot into (Ok count) new → count ≤ left → ReadsFew tells content slot new
+few_read tells content old new slot left count into r fed reads fits =
+    let size = length-take-le count into reads.0 in
+    few_handed tells content old new slot left r (take count into) fed reads.1.left (omega (arith, size, fits))
+
+pub few_failed : (tells : Bool) (content : Option (List ℕ)) (old new : desk.Reading) (slot left : ℕ) (into : List ℕ) (why : DeskFault) (r : PartReading) → Fed tells content old slot left r
+    → ReadInto tells old slot into (Err why) new → ReadsFew tells content slot new
+few_failed tells content old new slot left into Failed r fed reads =
+    few_handed tells content old new slot left r [] fed (λ told. ap (λ (l : ℕ → List ℕ). l slot) (sym reads.1)) (omega arith)
+few_failed tells content old new slot left into NoMemory r fed reads =
+    few_handed tells content old new slot left r [] fed (λ told. ap (λ (now : desk.Reading). now.left slot) (sym reads)) (omega arith)

@@ -6,7 +6,7 @@ ghost use Rattle.ioam_desk.specs.Desk.{holds};
 ghost use Rattle.ioam_desk.specs.Kept.{KeepsInputs};
 ghost use Rattle.ioam_part.specs.Reading.{Stands, fault_of};
 ghost use Rattle.ioam_run_answer.specs.declared.outcome.Outcome.{Outcome};
-ghost use Rattle.ioam_run_part.specs.Unread.{Judges, ReadsFile, ReadsSlot, answer_of, unread_by};
+ghost use Rattle.ioam_run_part.specs.Unread.{Judges, ReadsFew, ReadsFile, ReadsSlot, answer_of, unread_by};
 
 use crate::piece::new_piece;
 use ioam_base::memory::NoMemory;
@@ -75,6 +75,7 @@ fn read_slot<D: Desk>(
     requires stands { Stands 1048576 [] reader }
     requires room { length piece.old ≡ PIECE }
     ensures reads { ReadsSlot D.tells content slot (D.reading desk.old) (D.reading desk.new) result }
+    ensures few { ReadsFew D.tells content slot (D.reading desk.new) }
     ensures kept_in { ReadsOne slot (D.reading desk.old) (D.reading desk.new) }
     ensures outputs { D.writing desk.new ≡ D.writing desk.old }
 {
@@ -105,6 +106,7 @@ pub(crate) fn read_held<D: Desk>(
     name: &Name,
 ) -> Result<Collector, Unread>
     ensures reads { ReadsFile D.tells (holds (D.writing desk.old) name.now) name.now (D.reading desk.old) (D.reading desk.new) result }
+    ensures few { (D.reading desk.old).side.slots < (D.reading desk.new).side.slots → ReadsFew D.tells (holds (D.writing desk.old) name.now) (D.reading desk.old).side.slots (D.reading desk.new) }
     ensures asked { AsksFront (D.reading desk.old).side.asked (D.reading desk.new).side.asked (name.now ∷ []) }
     ensures grew { (D.reading desk.old).side.slots ≤ (D.reading desk.new).side.slots }
     ensures slots { (D.reading desk.new).side.slots ≤ (D.reading desk.old).side.slots + 1 }
