@@ -5,8 +5,8 @@ use ioam_desk::MemoryDesk;
 use ioam_run_answer::line;
 use ioam_test_rows::digits::{is_front, words};
 use ioam_test_runs::{
-    collect_plainly, filter_plainly, holds, is_said, paths_plainly, put, save_plainly, set_up,
-    show_plainly,
+    collect_plainly, filter_plainly, holds, ipfix_plainly, is_said, paths_plainly, put,
+    records_plainly, save_plainly, set_up, show_plainly,
 };
 use std::alloc::Global;
 
@@ -18,6 +18,8 @@ pub(crate) enum Command {
     Show,
     Save,
     Collect,
+    Ipfix,
+    Records,
 }
 
 fn filtered(alloc: Global, desk: &mut MemoryDesk) -> Result<String, NoMemory> {
@@ -45,6 +47,16 @@ fn collected(alloc: Global, desk: &mut MemoryDesk) -> Result<String, NoMemory> {
     line(alloc, &collect_plainly(alloc, &names, desk))
 }
 
+fn exported(alloc: Global, desk: &mut MemoryDesk) -> Result<String, NoMemory> {
+    let names = words(alloc, &["ipfix", "in.pcap", "out"])?;
+    line(alloc, &ipfix_plainly(alloc, &names, desk))
+}
+
+fn imported(alloc: Global, desk: &mut MemoryDesk) -> Result<String, NoMemory> {
+    let names = words(alloc, &["records", "in.pcap", "out"])?;
+    line(alloc, &records_plainly(alloc, &names, desk))
+}
+
 /// The line of a run of a command.
 pub(crate) fn line_of(
     alloc: Global,
@@ -57,6 +69,8 @@ pub(crate) fn line_of(
         Command::Show => shown(alloc, desk),
         Command::Save => saved(alloc, desk),
         Command::Collect => collected(alloc, desk),
+        Command::Ipfix => exported(alloc, desk),
+        Command::Records => imported(alloc, desk),
     }
 }
 
@@ -77,7 +91,9 @@ pub(crate) fn desk_with(
 pub(crate) fn are_held(command: Command, desk: &MemoryDesk, out: &[u8], report: &[u8]) -> bool {
     match command {
         Command::Filter => holds(desk, "out", out) && holds(desk, "report.txt", report),
-        Command::Save => holds(desk, "out", out) && desk.file("report.txt").is_none(),
+        Command::Save | Command::Ipfix | Command::Records => {
+            holds(desk, "out", out) && desk.file("report.txt").is_none()
+        }
         _ => desk.file("out").is_none() && holds(desk, "report.txt", report),
     }
 }

@@ -3,6 +3,7 @@ use crate::audit::failing::audit_fell;
 use crate::collect_rows::broken;
 use crate::desks::{Command, are_begun, are_held, desk_with, is_unopened, line_of};
 use crate::fronts::outputs_of;
+use crate::message_faults::message_fell;
 use crate::transit::failing::node_fell;
 use ioam_base::memory::NoMemory;
 use ioam_desk::MemoryDesk;
@@ -127,6 +128,8 @@ enum Case {
     Filter,
     Show,
     Collect,
+    Ipfix,
+    Records,
     Node,
     Audit,
 }
@@ -136,6 +139,8 @@ fn case_fell(alloc: Global, case: Case, piece: usize, call: u64) -> Result<Fell,
         Case::Filter => run_fell(alloc, &of_filter(), piece, call),
         Case::Show => run_fell(alloc, &of_show(), piece, call),
         Case::Collect => run_fell(alloc, &of_collect(), piece, call),
+        Case::Ipfix => message_fell(alloc, Command::Ipfix, piece, call),
+        Case::Records => message_fell(alloc, Command::Records, piece, call),
         Case::Node => node_fell(alloc, piece, call),
         Case::Audit => audit_fell(alloc, piece, call),
     }
@@ -170,6 +175,10 @@ fn each_call_fails_once(rt: HostRuntime) {
         (Case::Filter, 1, [1, 2, 4]),
         (Case::Show, 52, [1, 3, 2]),
         (Case::Collect, 5, [1, 3, 2]),
+        (Case::Ipfix, 65536, [1, 2, 2]),
+        (Case::Ipfix, 22, [1, 4, 28]),
+        (Case::Records, 65536, [1, 2, 2]),
+        (Case::Records, 52, [1, 13, 3]),
         (Case::Node, 65536, [5, 1, 5]),
         (Case::Node, 7, [5, 1, 5]),
         (Case::Audit, 65536, [5, 3, 2]),

@@ -1,5 +1,5 @@
 //! The tests of the commands but `run`: whole runs over desks in memory of `filter`, `paths`, `show` and
-//! `save` (`ioam_run_capture`), `collect` (`ioam_run_collect`), `node` (`transit`), `audit` and `bulk`. What the first four read
+//! `save` (`ioam_run_capture`), `collect` (`ioam_run_collect`), `node` (`transit`), `audit`, `bulk`, and `ipfix` and `records` (`messages`). What the first four read
 //! and have to write stands in `ioam_test_rows`.
 #![tactic(auto)]
 
@@ -17,6 +17,12 @@ mod failing;
 mod fronts;
 #[cfg(test)]
 mod long;
+#[cfg(test)]
+mod message_faults;
+#[cfg(test)]
+mod message_rows;
+#[cfg(test)]
+mod messages;
 #[cfg(test)]
 mod transit;
 #[cfg(test)]

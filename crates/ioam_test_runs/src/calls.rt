@@ -11,6 +11,7 @@ use ioam_run_bulk::run_bulk;
 use ioam_run_capture::{CaptureFiles, run_filter, run_paths, run_save, run_show};
 use ioam_run_collect::{CollectFiles, run_collect};
 use ioam_run_domain::{RunFiles, run_domain};
+use ioam_run_ipfix::{IpfixFiles, RecordsFiles, run_ipfix, run_records};
 use ioam_run_node::{NodeFiles, run_node};
 use std::alloc::Global;
 use std::thread::Threads;
@@ -48,6 +49,20 @@ pub fn collect_plainly<D: Desk>(alloc: Global, words: &[Name], desk: &mut D) -> 
     requires { length words.now ≡ 3 }
 {
     run_collect(alloc, &CollectFiles::of(words), desk)
+}
+
+/// [`run_ipfix`], without its clauses.
+pub fn ipfix_plainly<D: Desk>(alloc: Global, words: &[Name], desk: &mut D) -> Outcome
+    requires { length words.now ≡ 3 }
+{
+    run_ipfix(alloc, &IpfixFiles::of(words), desk)
+}
+
+/// [`run_records`], without its clauses.
+pub fn records_plainly<D: Desk>(alloc: Global, words: &[Name], desk: &mut D) -> Outcome
+    requires { length words.now ≡ 3 }
+{
+    run_records(alloc, &RecordsFiles::of(words), desk)
 }
 
 /// [`run_node`], without its clauses.

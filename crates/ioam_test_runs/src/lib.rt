@@ -5,7 +5,7 @@ mod calls;
 mod desks;
 
 pub use calls::{
-    audit_plainly, bulk_plainly, collect_plainly, domain_plainly, filter_plainly, node_plainly,
-    paths_plainly, save_plainly, show_plainly,
+    audit_plainly, bulk_plainly, collect_plainly, domain_plainly, filter_plainly, ipfix_plainly,
+    node_plainly, paths_plainly, records_plainly, save_plainly, show_plainly,
 };
 pub use desks::{are_same, holds, is_said, put, set_up};
