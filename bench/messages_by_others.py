@@ -100,13 +100,17 @@ def write(name, out):
     """Has python3-ipfix write the records."""
     ipfix, spelled = with_ipfix()
     with open(out, "wb") as file:
-        writer, last = ipfix.writer.to_stream(file), None
+        writer, last, size = ipfix.writer.to_stream(file), None, 1000
         writer.set_domain(7)
         for bits in range(8):
             numbers = [1, 2, 3, 4] + [5, 6] * (bits & 1) + [7] * (bits >> 2) + [8] * (bits >> 1 & 1) + [9]
             specs = ipfix.ie.spec_list([spelled[number] for number in numbers])
             writer.add_template(ipfix.template.from_ielist(256 + bits, specs))
         for found in records_of(name):
+            size += len(found[9]) + 50  # more than a record takes: an octetArray that passes the end of a message is an error there
+            if size > 65_000:
+                writer.flush()
+                size, last = 0, None
             template = 256 + 4 * (7 in found) + 2 * (8 in found) + (5 in found)
             if template != last:
                 writer.set_export_template(template)
