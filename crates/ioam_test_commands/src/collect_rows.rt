@@ -156,3 +156,26 @@ pub(crate) fn paths_report(alloc: Global) -> Result<Vec<u8>, NoMemory> {
     append(&mut report, b"records 18 kept 9 repeats 9 unkeyed 0\n")?;
     Ok(report)
 }
+
+/// The records of the packet of this number, from 0 to 2, in another order.
+pub(crate) fn paths_by_number(alloc: Global, number: usize) -> Result<Vec<u8>, NoMemory> {
+    let mut exports = Vec::new(alloc);
+    for (place, digits) in NUMBERS.iter().rev().enumerate() {
+        if place == number {
+            put_records(alloc, digits, &VISITS, &mut exports)?;
+        }
+    }
+    Ok(exports)
+}
+
+/// The part of the records of all three packets.
+pub(crate) fn part_of_paths(alloc: Global) -> Result<Vec<u8>, NoMemory> {
+    let mut part = octets(alloc, &["494f414d50415254 00000009"])?;
+    for number in NUMBERS.iter().rev() {
+        for (head, element) in VISITS.iter().rev() {
+            let record = octets(alloc, &[*head, *number, *element])?;
+            append(&mut part, &record)?;
+        }
+    }
+    Ok(part)
+}

@@ -1,6 +1,7 @@
 //! The tests of the commands but `run`: whole runs over desks in memory of `filter`, `paths`, `show` and
-//! `save` (`ioam_run_capture`), `collect` (`ioam_run_collect`), `node` (`transit`), `audit`, `bulk`, and `ipfix` and `records` (`messages`). What the first four read
-//! and have to write stands in `ioam_test_rows`.
+//! `save` (`ioam_run_capture`), `collect` (`ioam_run_collect`), `part`, `merge` and `parts` (`parts`), `ipfix` and
+//! `records` (`messages`), `node` (`transit`), `audit` and `bulk`. What the first four read and have to write stands in
+//! `ioam_test_rows`.
 #![tactic(auto)]
 
 #[cfg(test)]
@@ -23,6 +24,8 @@ mod message_faults;
 mod message_rows;
 #[cfg(test)]
 mod messages;
+#[cfg(test)]
+mod parts;
 #[cfg(test)]
 mod transit;
 #[cfg(test)]
