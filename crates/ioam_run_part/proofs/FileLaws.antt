@@ -1,5 +1,5 @@
 -- A file that is opened, and read as a part.
-use Rattle.std.proofs.Common.{◌≡◌, ℕ, ◌+◌, Bool, IsTrue, IsSomeAnd, List, [], ◌∷◌, Option, Some, Ok, Err, sym, ap, ◌∙◌, subst, append-nil, arith}
+use Rattle.std.proofs.Common.{◌≡◌, ℕ, ◌+◌, ◌≤◌, length, Bool, IsTrue, IsSomeAnd, List, [], ◌∷◌, Option, Some, Ok, Err, sym, ap, ◌∙◌, subst, append-nil, arith}
 use Rattle.std.specs.Prelude.{Result}
 use Rattle.ioam_desk.specs.Asked.{AsksFront}
 use Rattle.ioam_desk.specs.Desk as desk
@@ -11,6 +11,7 @@ use Rattle.ioam_desk.proofs.KeptLaws.{KeepsInputs-same, KeepsInputs-but}
 use Rattle.ioam_collect.specs.Collected.{Collected}
 use Rattle.ioam_collect_stream.specs.Gathering.{ReadsOne}
 use Rattle.ioam_part.specs.Faults.{HasFault}
+use Rattle.ioam_run_part.specs.Records.{ReadsFew}
 use Rattle.ioam_run_part.specs.Unread.{ReadsFile, ReadsSlot}
 use Rattle.ioam_run_part.specs.declared.unread.Unread.{Unread}
 use Rattle.ioam_run_part.specs.declared.unread.Unread.TheVariants as unread
@@ -45,6 +46,12 @@ module _ (tells : Bool) (content : Option (List ℕ)) (name : List ℕ) (old mid
   pub file_slots : (r : Result Collected Unread) → ReadsSlot tells (Some (mid.left slot)) slot mid new r → new.side.slots ≡ old.side.slots + 1
   file_slots r reads = (slot_asked tells (Some (mid.left slot)) slot mid new r reads).1 ∙ ap (λ (s : Side). s.slots) opened.side
 
+  pub file_few : ReadsFew tells (Some (mid.left slot)) slot new → ReadsFew tells content old.side.slots new
+  file_few few told =
+      let P : ℕ → Type 0 = λ k. length (mid.left slot) ≤ length (new.left k) + 300000000 in
+      let Q : Option (List ℕ) → Type 0 = λ o. IsSomeAnd o (λ octets. length octets ≤ length (new.left old.side.slots) + 300000000) in
+      subst Q (sym (opened.left told)) (subst P opened.number (few told))
+
   pub file_kept : ReadsOne slot mid new → KeepsInputs old new
   file_kept reads = KeepsInputs-but old new slot (let number = opened.number in omega (arith, number))
       (λ k apart. reads.0 k apart ∙ opened.other_left k apart) (λ k apart. reads.1 k apart ∙ opened.other_ended k apart)
@@ -63,3 +70,8 @@ unopened_kept tells old new content name Failed failed = record {
   ended = λ k below. ap (λ (ended : ℕ → Bool). ended k) failed.2;
 }
 unopened_kept tells old new content name NoMemory same = KeepsInputs-same old new same
+
+pub unopened_slots : (tells : Bool) (old new : desk.Reading) (content : Option (List ℕ)) (name : List ℕ) (why : DeskFault) → OpenIn tells old content name (Err why) new
+    → new.side.slots ≡ old.side.slots
+unopened_slots tells old new content name Failed failed = failed.0.slots
+unopened_slots tells old new content name NoMemory same = ap (λ (r : desk.Reading). r.side.slots) same

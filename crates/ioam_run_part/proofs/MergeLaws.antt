@@ -60,7 +60,7 @@ module _ (desks : Desks) (files : MergeNames) (same : desks.new ≡ desks.old) w
   refused_done outcome.NoMemory refuses done = done
   refused_done _ refuses done = refuses
 
-  pub ends_refused : (answer : Outcome) → Refuses answer → TriesTwo desks.tells (one_held desks files) files.one files.two desks.old_in desks.new_in → MergeEnds desks files answer
+  pub ends_refused : (answer : Outcome) → Refuses answer → TriesTwo desks.tells (one_held desks files) (two_held desks files) files.one files.two desks.old_in desks.new_in → MergeEnds desks files answer
   ends_refused answer refuses tries = record {
     cause = refused_cause answer refuses;
     leaves = λ told. refused_leaves answer refuses;
@@ -72,6 +72,8 @@ module _ (desks : Desks) (files : MergeNames) (same : desks.new ≡ desks.old) w
     no_output = λ few. same;
     no_part = λ before. same;
     drained = λ done told. absurd (refused_done answer refuses done);
+    few_one = tries.few_one;
+    few_two = tries.few_two;
     kept_in = tries.kept;
     kept_out = λ told. KeepsOutputs-same desks.old desks.new same;
   }
@@ -140,7 +142,7 @@ module _ (desks : Desks) (files : MergeNames) (a b : Collected)
   both_asked : desks.new_in.side.asked ≡ desks.old_in.side.asked ++ files.one ∷ files.two ∷ []
   both_asked = ap (λ (s : Side). s.asked) holds_two.side ∙ append_assoc desks.old_in.side.asked (files.one ∷ []) (files.two ∷ [])
 
-  pub ends_joined : (answer : Outcome) → Writes answer → TriesTwo desks.tells (one_held desks files) files.one files.two desks.old_in desks.new_in
+  pub ends_joined : (answer : Outcome) → Writes answer → TriesTwo desks.tells (one_held desks files) (two_held desks files) files.one files.two desks.old_in desks.new_in
       → AsksFront desks.old.side.asked desks.new.side.asked (files.part ∷ []) → (IsTrue desks.tells → KeepsOutputs desks.old desks.new) → MergeEnds desks files answer
   ends_joined answer writes tries asked kept = record {
     cause = joined_cause answer writes;
@@ -153,6 +155,8 @@ module _ (desks : Desks) (files : MergeNames) (a b : Collected)
     no_output = λ few. (let slots : desks.new_in.side.slots ≡ desks.old_in.side.slots + 1 + 1 = ap (λ (s : Side). s.slots) holds_two.side in absurd (omega (arith, slots, few)));
     no_part = joined_no_part answer writes;
     drained = λ done told. (holds_two.first_ended told, holds_two.second_ended told);
+    few_one = tries.few_one;
+    few_two = tries.few_two;
     kept_in = tries.kept;
     kept_out = kept;
   }
@@ -213,6 +217,8 @@ module _ (desks : Desks) (files : MergeNames) where
         no_output = ends.no_output;
         no_part = ends.no_part;
         drained = ends.drained;
+        few_one = ends.few_one;
+        few_two = ends.few_two;
         kept_in = ends.kept_in;
         kept_out = ends.kept_out;
       }
@@ -239,6 +245,8 @@ module _ (desks : Desks) (files : MergeNames) where
       no_output = λ few. same;
       no_part = λ before. same;
       drained = λ done told. absurd (not_done done);
+      few_one = λ more. (let none = ap (λ (r : desk.Reading). r.side.slots) same_in in absurd (omega (arith, none, more)));
+      few_two = λ more. (let none = ap (λ (r : desk.Reading). r.side.slots) same_in in absurd (omega (arith, none, more)));
       kept_in = KeepsInputs-same desks.old_in desks.new_in same_in;
       kept_out = λ told. KeepsOutputs-same desks.old desks.new same;
     }

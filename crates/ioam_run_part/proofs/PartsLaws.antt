@@ -2,6 +2,7 @@
 use Rattle.std.proofs.Common.{◌≡◌, ◌≢◌, ℕ, ◌+◌, ◌<◌, ◌⊎◌, IsTrue, IsSomeAnd, List, [], ◌∷◌, ◌++◌, Some, Ok, Err, refl, sym, ap, ◌∙◌, subst, inl, inr, ⊎_elim, arith}
 use Rattle.std.specs.Prelude.{Result}
 use Rattle.ioam_desk.specs.Asked.{AsksFront}
+use Rattle.ioam_desk.specs.Desk as desk
 use Rattle.ioam_desk.specs.Desk.{Side, Rose}
 use Rattle.ioam_desk.specs.Kept.{KeepsInputs, KeepsOutputs}
 use Rattle.ioam_desk.specs.declared.fault.DeskFault.{DeskFault}
@@ -17,7 +18,7 @@ use Rattle.ioam_run_part.specs.KeptText.{part_lines}
 use Rattle.ioam_run_part.specs.MergePromise.{OpensNoPart}
 use Rattle.ioam_run_part.specs.PartsEnds.{ApartCause, PartsEnds}
 use Rattle.ioam_run_part.specs.PartsPromise.{HoldsLines, HoldsLinesFront, PartsAsked, PartsCause, PartsKeeps, PartsLeaves, part_held}
-use Rattle.ioam_run_part.specs.Records.{IsAPart}
+use Rattle.ioam_run_part.specs.Records.{IsAPart, ReadsFew}
 use Rattle.ioam_run_part.specs.Stored.{HoldsFrontOf, Stores, answer_of}
 use Rattle.ioam_run_part.specs.Unread.{ReadsFile}
 use Rattle.ioam_run_part.specs.Unread as unread_file
@@ -48,7 +49,8 @@ module _ (desks : Desks) (files : PartsNames) (same : desks.new ≡ desks.old) w
   unread_done unread.Failed done = done
   unread_done unread.NoMemory done = done
 
-  module _ (asked : AsksFront desks.old_in.side.asked desks.new_in.side.asked (files.part ∷ [])) (kept : KeepsInputs desks.old_in desks.new_in) where
+  module _ (asked : AsksFront desks.old_in.side.asked desks.new_in.side.asked (files.part ∷ [])) (kept : KeepsInputs desks.old_in desks.new_in)
+      (few : desks.old_in.side.slots < desks.new_in.side.slots → ReadsFew desks.tells (part_held desks files) desks.old_in.side.slots desks.new_in) where
     still_ends : (answer : Outcome) → ApartCause desks files answer → PartsLeaves (part_held desks files) files.report desks.old desks.new answer → (IsDone answer → ⊥) → PartsEnds desks files answer
     still_ends answer cause leaves not_done = record {
       cause = cause;
@@ -60,6 +62,7 @@ module _ (desks : Desks) (files : PartsNames) (same : desks.new ≡ desks.old) w
       no_output = λ none. same;
       no_report = λ before. same;
       drained = λ done told. absurd (not_done done);
+      few = few;
       kept_in = kept;
       kept_out = λ told. KeepsOutputs-same desks.old desks.new same;
     }
@@ -115,8 +118,9 @@ module _ (desks : Desks) (files : PartsNames) (c : Collected) (text : List ℕ) 
   part_asked = ap (λ (s : Side). s.asked) reads.0
 
   pub ends_stored : (r : Result (Unit {0}) DeskFault) → Put r → AsksFront desks.old.side.asked desks.new.side.asked (files.report ∷ []) → KeepsInputs desks.old_in desks.new_in
-      → (IsTrue desks.tells → KeepsOutputs desks.old desks.new) → PartsEnds desks files (answer_of r)
-  ends_stored r stores asked kept kept_out = record {
+      → (IsTrue desks.tells → KeepsOutputs desks.old desks.new) → (desks.old_in.side.slots < desks.new_in.side.slots → ReadsFew desks.tells (part_held desks files) desks.old_in.side.slots desks.new_in)
+      → PartsEnds desks files (answer_of r)
+  ends_stored r stores asked kept kept_out few = record {
     cause = stored_cause r stores;
     leaves = λ told. stored_leaves told r stores;
     asked_in = (1, part_asked);
@@ -126,6 +130,7 @@ module _ (desks : Desks) (files : PartsNames) (c : Collected) (text : List ℕ) 
     no_output = λ none. (let slots : desks.new_in.side.slots ≡ desks.old_in.side.slots + 1 = ap (λ (s : Side). s.slots) reads.0 in absurd (omega (arith, slots, none)));
     no_report = λ before. absurd (stored_before r before);
     drained = λ done told. reads.2 told;
+    few = few;
     kept_in = kept;
     kept_out = kept_out;
   }
@@ -176,6 +181,7 @@ module _ (desks : Desks) (files : PartsNames) where
         no_output = ends.no_output;
         no_report = ends.no_report;
         drained = ends.drained;
+        few = ends.few;
         kept_in = ends.kept_in;
         kept_out = ends.kept_out;
       }
@@ -196,6 +202,7 @@ module _ (desks : Desks) (files : PartsNames) where
       no_output = λ none. same;
       no_report = λ before. same;
       drained = λ done told. absurd (not_done done);
+      few = λ more. (let none = ap (λ (r : desk.Reading). r.side.slots) same_in in absurd (omega (arith, none, more)));
       kept_in = KeepsInputs-same desks.old_in desks.new_in same_in;
       kept_out = λ told. KeepsOutputs-same desks.old desks.new same;
     }

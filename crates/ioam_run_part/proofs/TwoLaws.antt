@@ -1,5 +1,5 @@
 -- Two files that are read as parts, one after the other.
-use Rattle.std.proofs.Common.{◌≡◌, ℕ, zero, suc, ◌+◌, ◌≤◌, ◌⊎◌, Bool, IsTrue, IsSomeAnd, List, [], ◌∷◌, ◌++◌, length, length-append, Option, None, Some, Ok, Err, refl, sym, ap, ◌∙◌, subst, inl, inr, append-nil, append_assoc, ⊎_elim, arith}
+use Rattle.std.proofs.Common.{◌≡◌, ℕ, zero, suc, ◌+◌, ◌<◌, ◌≤◌, ◌⊎◌, Bool, IsTrue, IsSomeAnd, List, [], ◌∷◌, ◌++◌, length, length-append, Option, None, Some, Ok, Err, refl, sym, ap, ◌∙◌, subst, inl, inr, append-nil, append_assoc, ⊎_elim, arith}
 use Rattle.std.proofs.Math.Seq.{take-nil}
 use Rattle.ioam_desk.specs.Asked.{AsksFront}
 use Rattle.ioam_desk.specs.Desk as desk
@@ -10,7 +10,7 @@ use Rattle.ioam_collect.specs.Collected.{Collected}
 use Rattle.ioam_part.specs.Faults.{HasFault}
 use Rattle.ioam_run_answer.specs.declared.outcome.Outcome.{Outcome}
 use Rattle.ioam_run_answer.specs.declared.outcome.Outcome.TheVariants as outcome
-use Rattle.ioam_run_part.specs.Records.{IsAPart, IsSecondFaulty}
+use Rattle.ioam_run_part.specs.Records.{IsAPart, IsSecondFaulty, ReadsFew}
 use Rattle.ioam_run_part.specs.Two.{TriesTwo, HoldsTwo, RefusesTwo}
 use Rattle.ioam_run_part.specs.Unread.{IsHeld, ReadsFile, answer_of}
 use Rattle.ioam_run_part.specs.declared.unread.Unread.{Unread}
@@ -56,8 +56,9 @@ module _ (tells : Bool) (first second : Option (List ℕ)) (one two : List ℕ) 
   first_refuses unread.Failed reads = reads.0
   first_refuses unread.NoMemory reads = tt
 
-  pub first_tries : AsksFront old.side.asked new.side.asked (one ∷ []) → new.side.slots ≤ old.side.slots + 1 → KeepsInputs old new → TriesTwo tells first one two old new
-  first_tries asked slots kept = record {
+  pub first_tries : AsksFront old.side.asked new.side.asked (one ∷ []) → new.side.slots ≤ old.side.slots + 1 → KeepsInputs old new
+      → (old.side.slots < new.side.slots → ReadsFew tells first old.side.slots new) → TriesTwo tells first second one two old new
+  first_tries asked slots kept few = record {
     asked = asks_first old.side.asked new.side.asked one two asked;
     in_turn = λ both told.
         let few = asks_few old.side.asked new.side.asked one asked in
@@ -66,6 +67,8 @@ module _ (tells : Bool) (first second : Option (List ℕ)) (one two : List ℕ) 
         absurd (omega (arith, few, size, more));
     slots = omega (arith, slots);
     kept = kept;
+    few_one = few;
+    few_two = λ more. absurd (omega (arith, slots, more));
   }
 
 -- ---- it was
@@ -89,12 +92,22 @@ module _ (tells : Bool) (first second : Option (List ℕ)) (one two : List ℕ) 
   second_refuses unread.Failed reads = subst (λ n. Rose n new.side.faults) mid_faults reads.0
   second_refuses unread.NoMemory reads = tt
 
-  pub second_tries : KeepsInputs old mid → AsksFront mid.side.asked new.side.asked (two ∷ []) → new.side.slots ≤ mid.side.slots + 1 → KeepsInputs mid new → TriesTwo tells first one two old new
-  second_tries kept_one asked slots kept = record {
+  pub second_tries : KeepsInputs old mid → AsksFront mid.side.asked new.side.asked (two ∷ []) → new.side.slots ≤ mid.side.slots + 1 → KeepsInputs mid new
+      → (old.side.slots < mid.side.slots → ReadsFew tells first old.side.slots mid) → (mid.side.slots < new.side.slots → ReadsFew tells second mid.side.slots new)
+      → TriesTwo tells first second one two old new
+  second_tries kept_one asked slots kept few_one few_two = record {
     asked = asks_second old.side.asked mid.side.asked new.side.asked one two mid_asked asked;
     in_turn = λ both told. is_a_part tells first a reads_one.1 told;
     slots = (let grew = mid_slots in omega (arith, slots, grew));
     kept = KeepsInputs-then old mid new (let grew = mid_slots in omega (arith, grew)) kept_one kept;
+    few_one = λ more.
+        let grew = mid_slots in
+        let same : new.left old.side.slots ≡ mid.left old.side.slots = kept.left old.side.slots (omega (arith, grew)) in
+        let P : List ℕ → Type 0 = λ left. IsTrue tells → IsSomeAnd first (λ octets. length octets ≤ length left + 300000000) in
+        subst P (sym same) (few_one (omega (arith, grew)));
+    few_two = λ more.
+        let grew = mid_slots in
+        subst (λ k. ReadsFew tells second k new) grew (few_two (omega (arith, grew, more)));
   }
 
   pub holds_two : KeepsInputs mid new → (b : Collected) → ReadsFile tells second two mid new (Ok b) → HoldsTwo tells first second one two old new a b

@@ -19,6 +19,7 @@ use Rattle.ioam_part.specs.Faults.{HasFault}
 use Rattle.ioam_part.specs.Reading as part
 use Rattle.ioam_part.specs.Reading.{PartReading, IsOpen, IsBehind, StandsBy, fault_of}
 use Rattle.ioam_part.specs.declared.fault.PartFault.{PartFault}
+use Rattle.ioam_run_part.specs.Records.{ReadsFew}
 use Rattle.ioam_run_part.specs.Unread.{Fed, Judges, ReadsSlot, unread_by}
 use Rattle.ioam_run_part.specs.declared.unread.Unread.{Unread}
 use Rattle.ioam_run_part.specs.declared.unread.Unread.TheVariants as unread

@@ -8,7 +8,7 @@ use Rattle.ioam_run_answer.specs.Outcomes.{IsDone, IsBehindAll}
 use Rattle.ioam_run_answer.specs.declared.outcome.Outcome.{Outcome}
 use Rattle.ioam_run_answer.specs.declared.outcome.Outcome.TheVariants as outcome
 use Rattle.ioam_run_part.specs.Files.{MergeNames}
-use Rattle.ioam_run_part.specs.Records.{IsAPart, HoldBoth, AreParts, KeepFew, KeepMany}
+use Rattle.ioam_run_part.specs.Records.{IsAPart, HoldBoth, AreParts, KeepFew, KeepMany, ReadsFew}
 use Rattle.ioam_run_part.specs.MergePromise.{IsFaulty, MergeLeaves, OpensNoPart, one_held, two_held}
 
 module _ (desks : Desks) (files : MergeNames) where
@@ -33,5 +33,7 @@ module _ (desks : Desks) (files : MergeNames) where
     pub no_part : OpensNoPart answer → desks.new ≡ desks.old
     pub drained : IsDone answer → IsTrue desks.tells → IsTrue (desks.new_in.ended desks.old_in.side.slots)
         × IsTrue (desks.new_in.ended (desks.old_in.side.slots + 1))
+    pub few_one : desks.old_in.side.slots < desks.new_in.side.slots → ReadsFew desks.tells (one_held desks files) desks.old_in.side.slots desks.new_in
+    pub few_two : desks.old_in.side.slots + 1 < desks.new_in.side.slots → ReadsFew desks.tells (two_held desks files) (desks.old_in.side.slots + 1) desks.new_in
     pub kept_in : KeepsInputs desks.old_in desks.new_in
     pub kept_out : IsTrue desks.tells → KeepsOutputs desks.old desks.new

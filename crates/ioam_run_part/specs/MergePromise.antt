@@ -15,7 +15,7 @@ use Rattle.ioam_run_answer.specs.Outcomes.{IsDone, IsBehindAll, OpensNothing}
 use Rattle.ioam_run_answer.specs.declared.outcome.Outcome.{Outcome}
 use Rattle.ioam_run_answer.specs.declared.outcome.Outcome.TheVariants as outcome
 use Rattle.ioam_run_part.specs.Files.{MergeNames, AreApart, IsRepeat}
-use Rattle.ioam_run_part.specs.Records.{IsPartOfAll, IsAPart, HoldBoth, AreParts, KeepFew, KeepMany, IsSecondFaulty}
+use Rattle.ioam_run_part.specs.Records.{IsPartOfAll, IsAPart, HoldBoth, AreParts, KeepFew, KeepMany, IsSecondFaulty, ReadsFew}
 
 -- ---- which answer is asked for, and why each comes
 
@@ -120,6 +120,9 @@ module _ (desks : Desks) (files : MergeNames) where
     pub no_part : OpensNoPart answer → desks.new ≡ desks.old
     pub drained : IsDone answer → IsTrue desks.tells → IsTrue (desks.new_in.ended desks.old_in.side.slots)
         × IsTrue (desks.new_in.ended (desks.old_in.side.slots + 1))
+    -- of each of the two at most the first 300,000,000 octets are read
+    pub few_one : desks.old_in.side.slots < desks.new_in.side.slots → ReadsFew desks.tells one_held desks.old_in.side.slots desks.new_in
+    pub few_two : desks.old_in.side.slots + 1 < desks.new_in.side.slots → ReadsFew desks.tells two_held (desks.old_in.side.slots + 1) desks.new_in
     -- input slots that were there, and where the desk tells output slots that were there and names that weren't opened to be written, are as they were
     pub kept_in : KeepsInputs desks.old_in desks.new_in
     pub kept_out : IsTrue desks.tells → KeepsOutputs desks.old desks.new

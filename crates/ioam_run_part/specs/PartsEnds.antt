@@ -1,5 +1,5 @@
 -- What a run of `parts` whose names differ leaves, by its answer.
-use Rattle.std.specs.Prelude.{◌≡◌, ⊤, IsTrue, IsSomeAnd, [], ◌∷◌, ◌++◌}
+use Rattle.std.specs.Prelude.{◌≡◌, ◌<◌, ⊤, IsTrue, IsSomeAnd, [], ◌∷◌, ◌++◌}
 use Rattle.ioam_desk.specs.Asked.{AsksFront}
 use Rattle.ioam_desk.specs.Desk.{Rose}
 use Rattle.ioam_desk.specs.Kept.{KeepsInputs, KeepsOutputs}
@@ -9,7 +9,7 @@ use Rattle.ioam_run_answer.specs.Outcomes.{IsDone}
 use Rattle.ioam_run_answer.specs.declared.outcome.Outcome.{Outcome}
 use Rattle.ioam_run_answer.specs.declared.outcome.Outcome.TheVariants as outcome
 use Rattle.ioam_run_part.specs.Files.{PartsNames}
-use Rattle.ioam_run_part.specs.Records.{IsAPart}
+use Rattle.ioam_run_part.specs.Records.{IsAPart, ReadsFew}
 use Rattle.ioam_run_part.specs.MergePromise.{OpensNoPart}
 use Rattle.ioam_run_part.specs.PartsPromise.{PartsLeaves, part_held}
 
@@ -32,5 +32,6 @@ module _ (desks : Desks) (files : PartsNames) where
     pub no_output : desks.new_in.side.slots ≡ desks.old_in.side.slots → desks.new ≡ desks.old
     pub no_report : OpensNoPart answer → desks.new ≡ desks.old
     pub drained : IsDone answer → IsTrue desks.tells → IsTrue (desks.new_in.ended desks.old_in.side.slots)
+    pub few : desks.old_in.side.slots < desks.new_in.side.slots → ReadsFew desks.tells (part_held desks files) desks.old_in.side.slots desks.new_in
     pub kept_in : KeepsInputs desks.old_in desks.new_in
     pub kept_out : IsTrue desks.tells → KeepsOutputs desks.old desks.new

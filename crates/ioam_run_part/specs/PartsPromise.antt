@@ -12,7 +12,7 @@ use Rattle.ioam_run_answer.specs.Outcomes.{IsDone, OpensNothing}
 use Rattle.ioam_run_answer.specs.declared.outcome.Outcome.{Outcome}
 use Rattle.ioam_run_answer.specs.declared.outcome.Outcome.TheVariants as outcome
 use Rattle.ioam_run_part.specs.Files.{PartsNames}
-use Rattle.ioam_run_part.specs.Records.{IsAPart}
+use Rattle.ioam_run_part.specs.Records.{IsAPart, ReadsFew}
 use Rattle.ioam_run_part.specs.KeptText.{part_lines}
 use Rattle.ioam_run_part.specs.MergePromise.{OpensNoPart}
 
@@ -86,6 +86,8 @@ module _ (desks : Desks) (files : PartsNames) where
     pub no_output : desks.new_in.side.slots ≡ desks.old_in.side.slots → desks.new ≡ desks.old
     pub no_report : OpensNoPart answer → desks.new ≡ desks.old
     pub drained : IsDone answer → IsTrue desks.tells → IsTrue (desks.new_in.ended desks.old_in.side.slots)
+    -- at most the first 300,000,000 octets of PART are read
+    pub few : desks.old_in.side.slots < desks.new_in.side.slots → ReadsFew desks.tells part_held desks.old_in.side.slots desks.new_in
     -- input slots that were there, and where the desk tells output slots that were there and names that weren't opened to be written, are as they were
     pub kept_in : KeepsInputs desks.old_in desks.new_in
     pub kept_out : IsTrue desks.tells → KeepsOutputs desks.old desks.new

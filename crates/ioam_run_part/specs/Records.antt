@@ -1,6 +1,7 @@
 -- What EXPORTS, and a file that ought to be a part, may be.
-use Rattle.std.specs.Prelude.{ℕ, ◌<◌, ◌≤◌, IsSomeAnd, List, ◌++◌, Option}
+use Rattle.std.specs.Prelude.{ℕ, ◌+◌, ◌<◌, ◌≤◌, Bool, IsTrue, IsSomeAnd, List, ◌++◌, length, Option}
 use Rattle.ioam_base.specs.Octets.{IsFront}
+use Rattle.ioam_desk.specs.Desk.{Reading}
 use Rattle.ioam_dex.specs.Record.{Record}
 use Rattle.ioam_dex.specs.Reads.{Ending, Reads, Splits}
 use Rattle.ioam_collect.specs.Best.{groups_of}
@@ -69,3 +70,9 @@ KeepMany firsts seconds = 1048576 < count_kept (firsts ++ seconds)
 -- the first is a part, and the second has this fault, at this place
 abbrev pub IsSecondFaulty : ℕ → PartFault → List ℕ → List ℕ → Type 0
 IsSecondFaulty at fault one two = IsAPart one × HasFault two at fault
+
+-- ---- how much is read
+
+-- where the desk tells, what was handed out of this slot, over what a name holds, was 300,000,000 octets at most
+abbrev pub ReadsFew : Bool → Option (List ℕ) → ℕ → Reading → Type 0
+ReadsFew tells content slot new = IsTrue tells → IsSomeAnd content (λ octets. length octets ≤ length (new.left slot) + 300000000)

@@ -1,5 +1,5 @@
 -- Two files that are read as parts, one after the other.
-use Rattle.std.specs.Prelude.{◌≡◌, ℕ, ◌+◌, ◌≤◌, ⊤, Bool, IsTrue, IsSomeAnd, List, [], ◌∷◌, ◌++◌, Option, Result, Ok, Err}
+use Rattle.std.specs.Prelude.{◌≡◌, ℕ, ◌+◌, ◌<◌, ◌≤◌, ⊤, Bool, IsTrue, IsSomeAnd, List, [], ◌∷◌, ◌++◌, Option, Result, Ok, Err}
 use Rattle.ioam_desk.specs.Asked.{AsksFront}
 use Rattle.ioam_desk.specs.Desk as desk
 use Rattle.ioam_desk.specs.Desk.{Rose, opened_side}
@@ -7,16 +7,19 @@ use Rattle.ioam_desk.specs.Kept.{KeepsInputs}
 use Rattle.ioam_collect.specs.Collected.{Collected}
 use Rattle.ioam_run_answer.specs.declared.outcome.Outcome.{Outcome}
 use Rattle.ioam_run_answer.specs.declared.outcome.Outcome.TheVariants as outcome
-use Rattle.ioam_run_part.specs.Records.{IsAPart}
+use Rattle.ioam_run_part.specs.Records.{IsAPart, ReadsFew}
 use Rattle.ioam_run_part.specs.MergePromise.{IsFaulty}
 use Rattle.ioam_run_part.specs.Unread.{IsHeld}
 
--- whatever was answered: the names that were asked for, the second only where the first is a part, and what is as it was
-pub record TriesTwo (tells : Bool) (first : Option (List ℕ)) (one two : List ℕ) (old new : desk.Reading) : Type 0 where
+-- whatever was answered: the names that were asked for, the second only where the first is a part, what is as it was, and how
+-- much was read
+pub record TriesTwo (tells : Bool) (first second : Option (List ℕ)) (one two : List ℕ) (old new : desk.Reading) : Type 0 where
   pub asked : AsksFront old.side.asked new.side.asked (one ∷ two ∷ [])
   pub in_turn : new.side.asked ≡ old.side.asked ++ one ∷ two ∷ [] → IsTrue tells → IsSomeAnd first IsAPart
   pub slots : new.side.slots ≤ old.side.slots + 2
   pub kept : KeepsInputs old new
+  pub few_one : old.side.slots < new.side.slots → ReadsFew tells first old.side.slots new
+  pub few_two : old.side.slots + 1 < new.side.slots → ReadsFew tells second (old.side.slots + 1) new
 
 -- both were read to their ends
 pub record HoldsTwo (tells : Bool) (first second : Option (List ℕ)) (one two : List ℕ) (old new : desk.Reading) (a b : Collected) : Type 0 where

@@ -38,10 +38,6 @@ pub record IsHeld (tells : Bool) (content : Option (List ℕ)) (c : Collected) :
 abbrev pub IsFaulty : Bool → Option (List ℕ) → ℕ → PartFault → Type 0
 IsFaulty tells content at fault = IsTrue tells → IsSomeAnd content (λ octets. HasFault octets at fault)
 
--- where the desk tells, all of what a name holds was handed out of this slot but for the rest that is left of it, 300,000,000 octets at most
-abbrev pub ReadsFew : Bool → Option (List ℕ) → ℕ → desk.Reading → Type 0
-ReadsFew tells content slot new = IsTrue tells → IsSomeAnd content (λ octets. length octets ≤ length (new.left slot) + 300000000)
-
 -- the verdict on octets that were read whole
 abbrev pub Judges : List ℕ → Result Collected Unread → Type 0
 Judges octets (Ok c) = part.IsReadAs 1048576 octets c

@@ -19,7 +19,7 @@ pub(crate) fn read_two<D: Desk>(
 ) -> Result<(Collector, Collector), Outcome>
     ensures reads { ReadsTwo D.tells (holds (D.writing desk.old) one.now) (holds (D.writing desk.old) two.now) one.now two.now
         (D.reading desk.old) (D.reading desk.new) result }
-    ensures tries { TriesTwo D.tells (holds (D.writing desk.old) one.now) one.now two.now (D.reading desk.old) (D.reading desk.new) }
+    ensures tries { TriesTwo D.tells (holds (D.writing desk.old) one.now) (holds (D.writing desk.old) two.now) one.now two.now (D.reading desk.old) (D.reading desk.new) }
     ensures outputs { D.writing desk.new ≡ D.writing desk.old }
 {
     let first = match read_held(alloc, desk, one) {

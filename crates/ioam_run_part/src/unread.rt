@@ -6,7 +6,8 @@ ghost use Rattle.ioam_desk.specs.Desk.{holds};
 ghost use Rattle.ioam_desk.specs.Kept.{KeepsInputs};
 ghost use Rattle.ioam_part.specs.Reading.{Stands, fault_of};
 ghost use Rattle.ioam_run_answer.specs.declared.outcome.Outcome.{Outcome};
-ghost use Rattle.ioam_run_part.specs.Unread.{Judges, ReadsFew, ReadsFile, ReadsSlot, answer_of, unread_by};
+ghost use Rattle.ioam_run_part.specs.Records.{ReadsFew};
+ghost use Rattle.ioam_run_part.specs.Unread.{Judges, ReadsFile, ReadsSlot, answer_of, unread_by};
 
 use crate::piece::new_piece;
 use ioam_base::memory::NoMemory;

@@ -2,7 +2,7 @@ use Rattle.std.proofs.Common.{◌≡◌, ℕ, ◌+◌, List, ◌∷◌, [], leng
 use Rattle.ioam_desk.specs.Desk as desk
 use Rattle.ioam_desk.specs.Desk.{OpenIn, OpensInput, holds}
 use Rattle.ioam_desk.proofs.KeptLaws.{KeepsInputs-same}
-use Rattle.ioam_run_part.proofs.FileLaws.{read_file, file_asked, file_slots, file_kept, none_asked, unopened_asked}
+use Rattle.ioam_run_part.proofs.FileLaws.{read_file, file_asked, file_slots, file_kept, none_asked, unopened_asked, file_few, unopened_slots}
 use Rattle.ioam_run_part.proofs.unread.read_held.Goals as goal
 
 pub returns-in_default-clause-asked : goal.returns-in_default-clause-asked
@@ -36,6 +36,7 @@ returns-in-Ok-open_in g c =
     let slots = file_slots g.D.Desk.tells (holds (g.D.Desk.writing c.args.desk.now) c.args.name.now) c.args.name.now old mid new c.in-Ok-open_in.slot opened c.read_slot.result c.read_slot.ensures.reads in
     record {
       reads = read_file g.D.Desk.tells (holds (g.D.Desk.writing c.args.desk.now) c.args.name.now) c.args.name.now old mid new c.in-Ok-open_in.slot opened c.read_slot.result c.read_slot.ensures.reads;
+      few = λ more. file_few g.D.Desk.tells (holds (g.D.Desk.writing c.args.desk.now) c.args.name.now) c.args.name.now old mid new c.in-Ok-open_in.slot opened c.read_slot.ensures.few;
       asked = file_asked g.D.Desk.tells (holds (g.D.Desk.writing c.args.desk.now) c.args.name.now) c.args.name.now old mid new c.in-Ok-open_in.slot opened c.read_slot.result c.read_slot.ensures.reads;
       grew = omega (arith, slots);
       slots = omega (arith, slots);
@@ -48,3 +49,9 @@ returns-clause-asked g c =
     let P : List ℕ → Type 0 = λ name. OpenIn g.D.Desk.tells (g.D.Desk.reading c.args.desk.now) (holds (g.D.Desk.writing c.args.desk.now) name) name (Err c.in-Err.fault) (g.D.Desk.reading c.open_in.new.self) in
     unopened_asked g.D.Desk.tells (g.D.Desk.reading c.args.desk.now) (g.D.Desk.reading c.open_in.new.self) (holds (g.D.Desk.writing c.args.desk.now) c.args.name.now) c.args.name.now c.in-Err.fault
     (subst P c.text.ensures c.in-Err.ensures.opened)
+
+pub returns-clause-few : goal.returns-clause-few
+returns-clause-few g c = λ more. absurd (
+    let same = unopened_slots g.D.Desk.tells (g.D.Desk.reading c.args.desk.now) (g.D.Desk.reading c.open_in.new.self) (holds (g.D.Desk.writing c.args.desk.now) c.text.result.now) c.text.result.now c.in-Err.fault
+    c.in-Err.ensures.opened in
+    omega (arith, same, more))
