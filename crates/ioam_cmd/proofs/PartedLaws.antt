@@ -1,12 +1,12 @@
 -- Of parts that are merged: in whatever tree, they become the part of all that their leaves have.
-use Rattle.std.proofs.Common.{◌≡◌, ℕ, List, ◌++◌, ap, sym, ◌∙◌, subst}
+use Rattle.std.proofs.Common.{◌≡◌, ℕ, List, ◌++◌, ap, ◌∙◌, subst}
 use Rattle.ioam_collect.specs.Best.{groups_of}
 use Rattle.ioam_collect.specs.Join.{SameMembers, Tree, Leaf, Join, leaves, merged, pairs_in}
 use Rattle.ioam_collect.specs.Keyed.{keyed}
 use Rattle.ioam_collect.specs.declared.key.Key.{Key}
 use Rattle.ioam_collect.proofs.JoinLaws.{merged_same}
 use Rattle.ioam_dex.specs.Record.{Record}
-use Rattle.ioam_part.specs.Part.{IsPart, JoinsTo, PartOf}
+use Rattle.ioam_part.specs.Part.{IsPart, PartOf}
 use Rattle.ioam_part.proofs.PartLaws.{part_unique}
 use Rattle.ioam_pool.specs.Entry.{Entry}
 use Rattle.ioam_cmd.specs.Parted.{AreMerged}
