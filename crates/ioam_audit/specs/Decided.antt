@@ -26,6 +26,8 @@ module _ (hops id inward : ℕ) (old new : List ℕ) where
     pub lawful : IsLawful hops id inward (fields_of (kind_of old) (node_len_of old) (between old new))
     pub is : new ≡ with_element old (remaining_of old - remaining_of new) (between old new)
 
+  -- what is left of the trace: the same octets where its type has an undefined bit set, or where it isn't open and fit; else
+  -- one element more, or the Overflow flag
   abbrev pub IsDecided : Type 0
   IsDecided = ((0 < undefined (kind_of old)) × (new ≡ old))
       ⊎ (((IsOpen old → IsFit old → ⊥) × (new ≡ old)) ⊎ (IsOpen old × IsFit old × (AddsSo ⊎ OverflowsSo old new)))

@@ -30,6 +30,7 @@ module _ (domain : Domain) (node hops id inward : ℕ) where
       ((take 2 new ≡ take 2 old) × MayBecome hops id inward (drop 2 old) (drop 2 new))
       (new ≡ old)
 
+  -- a node may leave the data of this option so
   abbrev pub MayLeaveItem : Item → List ℕ → Type 0
   MayLeaveItem item body = MayLeave item.kind item.body body
 

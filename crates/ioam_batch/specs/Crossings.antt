@@ -33,6 +33,7 @@ parted size (false ∷ taps) octets = None ∷ parted size taps octets
 abbrev pub crossings : Crossed → List (Option (List ℕ))
 crossings crossed = crossed.past ++ map (λ tap. sent_if tap []) crossed.ahead
 
+-- what the visit at a place sent on a link with a tap; nothing where there is no such visit
 abbrev pub joined : Option (Option (List ℕ)) → Option (List ℕ)
 joined None = None
 joined (Some found) = found

@@ -51,6 +51,7 @@ pub record GoesInTunnel (itinerary : Itinerary) (packet : List ℕ) : Type 0 whe
   pub sends : SendsBy itinerary.exited itinerary.visits
   pub hops : length itinerary.visits ≤ slice_index packet 7 + (if itinerary.exited then 1 else 0)
 
+-- before any visit: the packet's hop limit allows all of them, as it is or in its tunnel
 abbrev pub GoesBy : Option (FlowId × Numbers) → Itinerary → List ℕ → Type 0
 GoesBy None itinerary packet = length itinerary.visits ≤ slice_index packet 7 - 1
 GoesBy (Some carried) itinerary packet = GoesInTunnel itinerary packet
@@ -83,6 +84,7 @@ HoldsBy domain packet None octets = octets ≡ packet
 HoldsBy domain packet (Some carried) octets =
     IsTunnel (tunnel_of domain carried.0 carried.1 packet) × (octets ≡ wire (tunnel_of domain carried.0 carried.1 packet) 0 no_elements)
 
+-- the job is that of this packet and itinerary, and no visit of it is done
 pub record IsJobOf (domain : Domain) (packet : List ℕ) (itinerary : Itinerary) (job : Job) : Type 0 where
   pub itinerary_is : job.itinerary ≡ itinerary
   pub holds : HoldsBy domain packet itinerary.carried job.packet.items
@@ -101,6 +103,7 @@ pub record RunsPlain (domain : Domain) (old new : Job) : Type 0 where
   pub crossed : crossings new.crossings ≡ lowered_from old.packet.items 0 (map (is_tapped domain) old.itinerary.visits)
   pub room : new.room ≡ old.room
 
+-- what the visits of a job made of it, as its packet is enclosed or not
 abbrev pub RunsBy : Domain → List (List Sample) → Option (FlowId × Numbers) → Job → Job → Type 0
 RunsBy domain readings None old new = RunsPlain domain old new
 RunsBy domain readings (Some carried) old new = RunsInTunnel domain readings old new

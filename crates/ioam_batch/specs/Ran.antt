@@ -30,9 +30,11 @@ module _ (domain : Domain) (readings : List (List Sample)) (tunnel : Tunnel) whe
   abbrev pub crossed_at : List Visit → Visit → List (Option (List ℕ))
   crossed_at done visit = sent_if (is_tapped domain visit) (wired (done ++ visit ∷ [])) ∷ []
 
+  -- the notes of a visit, behind those that are done
   abbrev pub noted_at : List Visit → Visit → List NodeNote
   noted_at done visit = hop_notes (notes_of domain readings visit.place visit.time (tunnel.hops - length done)) (wired done)
 
+  -- the octets of the records that a visit exports, behind those that are done
   abbrev pub exported_at : List Visit → Visit → List ℕ
   exported_at done visit = records_octets (tunnel_records domain readings tunnel (length done) (passed visit))
 

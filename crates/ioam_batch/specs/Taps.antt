@@ -7,15 +7,18 @@ use Rattle.ioam_topo.specs.declared.ids.Way.TheVariants as way
 use Rattle.ioam_topo.specs.declared.parts.Link.{Link}
 use Rattle.ioam_topo.specs.Domain.{links}
 
+-- whether a link is there and has a tap
 abbrev pub has_tap : Option Link → Bool
 has_tap None = false
 has_tap (Some link) = is_some link.tap
 
+-- whether a way leads to a link with a tap
 abbrev pub taps_by : Domain → Option Way → Bool
 taps_by domain None = false
 taps_by domain (Some (way.Link link)) = has_tap (slice_get (links domain) link.0)
 taps_by domain (Some (way.Port port)) = false
 
+-- whether a visit sends its packet on a link with a tap
 abbrev pub is_tapped : Domain → Visit → Bool
 is_tapped domain visit = taps_by domain visit.way
 

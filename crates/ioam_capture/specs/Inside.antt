@@ -4,6 +4,7 @@ use Rattle.ioam_capture.specs.declared.form.Form.{Form}
 use Rattle.ioam_capture.specs.declared.form.Form.TheVariants as form
 use Rattle.ioam_capture.specs.Reading.{Reading, Front, Classic, Ng}
 
+-- a reader as its callers see it: its first octets, before its form is known, or the reader of a form
 abbrev pub seen : Form → Reading
 seen (form.Front alloc held) = Front held.items
 seen (form.Classic reader) = Classic reader

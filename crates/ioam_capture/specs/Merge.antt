@@ -18,6 +18,8 @@ pub record Stream : Type 0 where
   pub records : List Taken
   pub ending : Option Ending
 
+-- what is due of a capture that shows these records and then ends so: the first record by its time; or more octets; or its
+-- end; or its fault
 abbrev pub due_by : List Taken → Option Ending → Due
 due_by (t ∷ ts) ending = Record t.entry.time
 due_by [] None = More
@@ -45,6 +47,7 @@ stream_at [] place = record { records = []; ending = None }
 stream_at (s ∷ ss) zero = s
 stream_at (s ∷ ss) (suc place) = stream_at ss place
 
+-- the first of some records; of none, an empty one
 abbrev pub first_of : List Taken → Taken
 first_of [] = record { link = Raw; entry = record { time = 0; original = 0; octets = [] } }
 first_of (t ∷ ts) = t
@@ -81,6 +84,7 @@ arrival_by streams Over = taken_at streams 0
 arrival_by streams (Broken place at fault) = taken_at streams place
 arrival_by streams Unshown = taken_at streams 0
 
+-- the record that comes next of these captures
 abbrev pub arrival : List Stream → Arrival
 arrival streams = arrival_by streams (turn streams)
 
@@ -91,6 +95,7 @@ rest_by streams Over = streams
 rest_by streams (Broken place at fault) = streams
 rest_by streams Unshown = streams
 
+-- these captures once the record that comes next was taken
 abbrev pub rest : List Stream → List Stream
 rest streams = rest_by streams (turn streams)
 

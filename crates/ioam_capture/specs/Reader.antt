@@ -81,6 +81,8 @@ Says octets taken (Bad at fault) = ((more : List ℕ) → Reads (octets ++ more)
     × ((more : List ℕ) → ReadsOnly (octets ++ more) taken (Faulty at fault))
 Says octets taken NoMemory = ⊤
 
+-- a step tells of the octets that were fed and the records that were given: the reader stands for them with the step's record
+-- behind them, and what the step says of them holds
 abbrev pub Told : List ℕ → List Taken → Reading → Step → Type 0
 Told octets taken new step = Stands new octets (taken ++ given_by step) × Says octets taken step
 
@@ -101,6 +103,7 @@ RestsSo reader step = Rests the_row reader (λ new. Leaves reader.now new step)
 abbrev pub RestsClassic : MutBor classic_reading.Reading → Step → Fml
 RestsClassic reader step = Rests classic_row.the_row reader (λ new. Leaves (Classic reader.now) (Classic new) step)
 
+-- and that of a pcapng
 abbrev pub RestsNg : MutBor ng_reading.Reading → Step → Fml
 RestsNg reader step = Rests ng_row.the_row reader (λ new. Leaves (Ng reader.now) (Ng new) step)
 

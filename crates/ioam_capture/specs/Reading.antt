@@ -44,6 +44,7 @@ most_held (Front held) = 4
 most_held (Classic reader) = 262160
 most_held (Ng reader) = 16777216
 
+-- a reader holds back fewer octets than the greatest record or block of its form has
 abbrev pub HoldsFew : Reading → Type 0
 HoldsFew reader = length (pending reader) < most_held reader
 

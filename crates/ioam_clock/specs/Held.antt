@@ -4,6 +4,7 @@ use Rattle.ioam_clock.specs.declared.fault.ReadWhy.{ReadWhy}
 use Rattle.ioam_clock.specs.declared.line.Words.{Words}
 use Rattle.ioam_clock.specs.Lines.{Line}
 
+-- the words of a line as they stand in the file
 abbrev pub line_of : Words → Line
 line_of words = record {
   node = words.node.now;

@@ -25,6 +25,7 @@ pub record Line : Type 0 where
   pub queue : List ℕ
   pub buffer : List ℕ
 
+-- whether a word has no octets
 abbrev pub is_empty : List ℕ → Bool
 is_empty word = length word == 0
 
@@ -32,6 +33,7 @@ is_empty word = length word == 0
 abbrev pub has_empty : Line → Bool
 has_empty line = is_empty line.node || is_empty line.time || is_empty line.clock || is_empty line.delay || is_empty line.queue || is_empty line.buffer
 
+-- the line, where none of its words is empty; else that its words are wrong
 abbrev pub filled : Line → Result Line ReadWhy
 filled line = if has_empty line then Err Words else Ok line
 

@@ -16,6 +16,7 @@ sample_at samples time = last (filter (λ sample. nat_le sample.time time) sampl
 abbrev pub elapsed : ℕ → Sample → ℕ
 elapsed time sample = sample.clock + (time - sample.time)
 
+-- what a clock reads at a time, by the samples of its node; nothing before the first of them
 abbrev pub clock_at : List Sample → ℕ → Option ℕ
 clock_at samples time = option_map (elapsed time) (sample_at samples time)
 

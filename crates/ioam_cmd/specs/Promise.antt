@@ -40,6 +40,7 @@ bulk_report words = name_at words 4
 
 -- the promise of each command
 module _ (opens : Bool) (desks : Desks) (words : List (List ℕ)) where
+  -- the command keeps its promise, over the words and the desk, with this answer
   abbrev pub Keeps : Command → Outcome → Type 0
   Keeps Filter answer = FilterKeeps desks (capture_names words) answer
   Keeps Paths answer = PathsKeeps desks (capture_names words) answer
@@ -58,6 +59,7 @@ module _ (opens : Bool) (desks : Desks) (words : List (List ℕ)) where
 
 -- which answer the words and the files ask for, where nothing fails
 module _ (desks : Desks) (words : List (List ℕ)) where
+  -- the answer that the words and what the files hold ask of the command, where nothing fails
   abbrev pub Asked : Command → Outcome → Type 0
   Asked Filter answer = capture.Asked desks (capture_names words) answer
   Asked Paths answer = capture.Asked desks (capture_names words) answer

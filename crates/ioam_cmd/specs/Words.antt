@@ -12,6 +12,7 @@ IsWorkers workers word = (word ≡ decimal workers) × (1 ≤ workers) × (worke
 abbrev pub IsCount : ℕ → List ℕ → Type 0
 IsCount count word = (word ≡ decimal count) × (1 ≤ count) × (count ≤ 1000000)
 
+-- a word spells this seed in decimal digits: a number of 64 bits
 abbrev pub IsSeed : ℕ → List ℕ → Type 0
 IsSeed seed word = (word ≡ decimal seed) × (seed < 2 ^ 64)
 
@@ -45,5 +46,6 @@ abbrev pub IsBulk : List ℕ → List ℕ → List ℕ → Command → Type 0
 IsBulk first second third (Bulk seed count workers) = IsSeed seed first × IsCount count second × IsWorkers workers third
 IsBulk first second third _ = ⊥
 
+-- the three words spell no generated load
 abbrev pub IsNoBulk : List ℕ → List ℕ → List ℕ → Type 0
 IsNoBulk first second third = (seed count workers : ℕ) → IsSeed seed first → IsCount count second → IsWorkers workers third → ⊥

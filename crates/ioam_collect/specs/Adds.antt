@@ -13,6 +13,8 @@ pub record Turns (old : Gathered) (key : Key) (items : List Entry) (new : Gather
   pub others : (other : Key) → other ≢ key → group_in new.groups other ≡ group_in old.groups other
   pub limit : new.limit ≡ old.limit
 
+-- what is answered of an item and left: kept, where it is new and there is room; in place of the one without its extra part;
+-- nothing, where it repeats one or there is no room or no memory
 abbrev pub Adds : {E : Type 0} → Gathered → Key → Entry → Result Added E → Gathered → Type 0
 Adds old key item (Ok Kept) new =
     ¬ (Repeats (group_in old.groups key) item) × ¬ (Replaces (group_in old.groups key) item) × (old.held < old.limit)

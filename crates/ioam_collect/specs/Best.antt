@@ -46,6 +46,7 @@ of_key key (p ∷ ps) = cond (is_eq (key_cmp key p.0)) (p.1 ∷ of_key key ps) (
 abbrev pub keys_in : List (Key × Entry) → List Key
 keys_in ps = arranged key_cmp (map (λ p. p.0) ps)
 
+-- the group of a key: the key and its items
 abbrev pub group : List (Key × Entry) → Key → Key × List Entry
 group ps key = (key, of_key key ps)
 
@@ -61,5 +62,6 @@ RepeatsIn ps p = Contains ps p ⊎ ((tells p ≡ false) × (y : Key × Entry) ×
 abbrev pub ReplacesIn : List (Key × Entry) → Key × Entry → Type 0
 ReplacesIn ps p = (tells p ≡ true) × Contains ps (untold p)
 
+-- these pairs without this one
 abbrev pub without_pair : Key × Entry → List (Key × Entry) → List (Key × Entry)
 without_pair p ps = filter (λ y. not (is_eq (pair_cmp y p))) ps

@@ -18,6 +18,7 @@ pub record Collected : Type 0 where
   pub read : ℕ
   pub unkeyed : ℕ
 
+-- the groups of a collector, how many records they have, and how many they may have
 abbrev pub gathered_in : Collected → Gathered
 gathered_in c = record { groups = c.groups; held = c.held; limit = c.limit }
 
@@ -25,6 +26,7 @@ gathered_in c = record { groups = c.groups; held = c.held; limit = c.limit }
 abbrev pub capped : ℕ → ℕ
 capped number = min number 18446744073709551615
 
+-- one for a record without a key, none for one with a key
 abbrev pub one_where_none : Option (Key × Entry) → ℕ
 one_where_none None = 1
 one_where_none (Some p) = 0
@@ -54,6 +56,7 @@ AnswersKeyed old p Full =
 AnswersKeyed old p Kept =
     ¬ (Repeats (group_in old.groups p.0) p.1) × ¬ (Replaces (group_in old.groups p.0) p.1) × (old.held < old.limit)
 
+-- the answer for a record: Unkeyed where it has no key, else that for its key and item
 abbrev pub Answers : Collected → Option (Key × Entry) → Added → Type 0
 Answers old None added = added ≡ Unkeyed
 Answers old (Some p) added = AnswersKeyed old p added
@@ -74,6 +77,7 @@ held_more Repeat = 0
 held_more Unkeyed = 0
 held_more Full = 0
 
+-- adding a record answers so and leaves the collector so; where there is no memory the collector is as it was
 abbrev pub AddsRecord : {E : Type 0} → Collected → Record → Result Added E → Collected → Type 0
 AddsRecord old x (Ok added) new = Answers old (keyed_of x) added × Leaves added old x new × (new.held ≡ old.held + held_more added) × (new.limit ≡ old.limit)
 AddsRecord old x (Err _) new = new ≡ old
@@ -92,6 +96,8 @@ pub record Grown (old : Collected) (p : Key × Entry) (new : Collected) : Type 0
   pub read : new.read ≡ capped (old.read + 1)
   pub unkeyed : new.unkeyed ≡ old.unkeyed
 
+-- what a collector stands for behind a pair of a key and an item, by the answer: the list with the pair at its end; after
+-- Full as before
 abbrev pub LeavesPair : Added → Collected → Key × Entry → Collected → Type 0
 LeavesPair Full old p new = new ≡ old
 LeavesPair Unkeyed old p new = ⊥
@@ -99,6 +105,7 @@ LeavesPair Kept old p new = Grown old p new
 LeavesPair Replaced old p new = Grown old p new
 LeavesPair Repeat old p new = Grown old p new
 
+-- adding such a pair answers so and leaves the collector so; where there is no memory the collector is as it was
 abbrev pub AddsPair : {E : Type 0} → Collected → Key × Entry → Result Added E → Collected → Type 0
 AddsPair old p (Ok added) new = AnswersKeyed old p added × LeavesPair added old p new × (new.held ≡ old.held + held_more added) × (new.limit ≡ old.limit)
 AddsPair old p (Err _) new = new ≡ old

@@ -21,6 +21,7 @@ AreGroups gs = (ps : List (Key × Entry)) × (gs ≡ groups_of ps)
 abbrev pub IsPartOf : List (Key × Entry) → List (Key × Entry) → Type 0
 IsPartOf ps qs = (z : Key × Entry) → Contains ps z → Contains qs z
 
+-- two lists have the same members
 abbrev pub SameMembers : List (Key × Entry) → List (Key × Entry) → Type 0
 SameMembers ps qs = IsPartOf ps qs × IsPartOf qs ps
 
@@ -29,10 +30,12 @@ pub data Tree : Type 0 where
   Leaf : List (Key × Entry) → Tree
   Join : Tree → Tree → Tree
 
+-- the pairs of all collectors of a tree, from left to right
 abbrev pub leaves : Tree → List (Key × Entry)
 leaves (Leaf ps) = ps
 leaves (Join one two) = leaves one ++ leaves two
 
+-- the groups of a tree of collectors: those of each, joined two by two
 abbrev pub merged : Tree → List (Key × List Entry)
 merged (Leaf ps) = groups_of ps
 merged (Join one two) = joined (merged one) (merged two)

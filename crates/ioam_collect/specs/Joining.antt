@@ -55,6 +55,7 @@ pub record HasBoth (one other new : Gathered) : Type 0 where
   pub limit : new.limit ≡ one.limit
   pub are : (ps qs : List (Key × Entry)) → AreOf one ps → AreOf other qs → AreOf new (ps ++ qs)
 
+-- joining answers the groups of what either has; or none, where these would be more than the first may hold
 abbrev pub JoinsStores : Gathered → Gathered → Option Gathered → Type 0
 JoinsStores one other (Some new) = HasBoth one other new
 JoinsStores one other None = one.limit < count_in (joined one.groups other.groups)

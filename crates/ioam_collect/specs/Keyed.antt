@@ -33,6 +33,7 @@ core_of x = record x { visit = None }
 abbrev pub item_of : ℕ → Record → Entry
 item_of hops x = record { hops = hops; core = record_octets (core_of x); extra = visit_octets x.visit }
 
+-- the key and the item of a record, by its Flow ID, its Sequence Number and its hop value; none where one of them isn't there
 abbrev pub keyed_by : Record → Option ℕ → Option ℕ → Option ℕ → Option (Key × Entry)
 keyed_by x None seq hops = None
 keyed_by x (Some flow) None hops = None
@@ -43,6 +44,7 @@ keyed_by x (Some flow) (Some seq) (Some hops) = Some (record { namespace = recor
 abbrev pub keyed_of : Record → Option (Key × Entry)
 keyed_of x = keyed_by x x.flow x.seq (hops_of x)
 
+-- a list with the pair of a record in front, where the record has one
 abbrev pub with_keyed : Option (Key × Entry) → List (Key × Entry) → List (Key × Entry)
 with_keyed None ps = ps
 with_keyed (Some p) ps = p ∷ ps

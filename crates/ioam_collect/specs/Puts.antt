@@ -6,6 +6,8 @@ use Rattle.ioam_pool.specs.Chains.{Chains, chain_of, total, with_chain}
 use Rattle.ioam_collect.specs.declared.growing.Added.{Added}
 use Rattle.ioam_collect.specs.declared.growing.Added.TheVariants.{Kept, Replaced, Repeat, Unkeyed, Full}
 
+-- what an insertion answers and leaves: the item in its place in the chain, where it is new and the limit allows it; or in
+-- place of the one without its extra part; or the chains as they were
 abbrev pub Puts : {E : Type 0} → Chains → ℕ → ℕ → Entry → Result Added E → Chains → Type 0
 Puts old limit c item (Ok Kept) new =
     ¬ (Repeats (chain_of old c) item) × ¬ (Replaces (chain_of old c) item) × (total old < limit)

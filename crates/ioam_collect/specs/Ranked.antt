@@ -12,6 +12,7 @@ last_of [] = None
 last_of (p ∷ []) = Some p
 last_of (p ∷ q ∷ ps) = last_of (q ∷ ps)
 
+-- whether an order says that the first stands before the second
 abbrev pub is_less : Ordering → Bool
 is_less Less = true
 is_less Equal = false

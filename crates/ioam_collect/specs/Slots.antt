@@ -10,6 +10,7 @@ abbrev pub IsSlotOf : BTreeMap Key ℕ → Option Slot → Type 0
 IsSlotOf map None = ⊤
 IsSlotOf map (Some slot) = get key_cmp map slot.key ≡ Some slot.chain
 
+-- each slot is free, or has a key of the map with its chain
 abbrev pub AreSlotsOf : BTreeMap Key ℕ → List (Option Slot) → Type 0
 AreSlotsOf map slots = All (IsSlotOf map) slots
 

@@ -20,15 +20,19 @@ tied false false x left both right = x ∷ both
 tied false true x left both right = left
 tied true false x left both right = right
 
+-- the first of two lists in order, and what follows it: the smaller of their two first pairs, or one of the two where they
+-- tie
 abbrev pub one_by : Ordering → Key × Entry → Key × Entry → List (Key × Entry) → List (Key × Entry) → List (Key × Entry) → List (Key × Entry)
 one_by Less x y left both right = x ∷ left
 one_by Equal x y left both right = tied (tells x) (tells y) x left both right
 one_by Greater x y left both right = y ∷ right
 
+-- a pair in front of one list, joined with another list in order; `go` joins what follows the pair
 abbrev pub beside : Key × Entry → (List (Key × Entry) → List (Key × Entry)) → List (Key × Entry) → List (Key × Entry)
 beside x go [] = x ∷ go []
 beside x go (y ∷ ys) = one_by (pair_meet x y) x y (go (y ∷ ys)) (go ys) (beside x go ys)
 
+-- two lists in order as one: each pair once, and of two that differ in their visit alone the one that tells it
 abbrev pub united : List (Key × Entry) → List (Key × Entry) → List (Key × Entry)
 united [] ys = ys
 united (x ∷ xs) ys = beside x (united xs) ys
@@ -42,6 +46,7 @@ abbrev pub NextTo : Key × Entry → List (Key × Entry) → Type 0
 NextTo p [] = Unit {0}
 NextTo p (q ∷ ps) = (pair_meet p q ≡ Less) × NextTo q ps
 
+-- each pair is before the next, and none stands behind the one that is the same but for its visit
 abbrev pub AreNeighbours : List (Key × Entry) → Type 0
 AreNeighbours [] = Unit {0}
 AreNeighbours (p ∷ ps) = NextTo p ps

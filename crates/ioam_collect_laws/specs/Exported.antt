@@ -80,6 +80,7 @@ FrontsAreRead = (domain : Domain) (readings : List (List Sample)) (frames : List
 
 -- ---- the groups
 
+-- an item under a key, as a pair that is there
 abbrev pub item_under : Key → Entry → Option (Key × Entry)
 item_under key item = Some (under key item)
 

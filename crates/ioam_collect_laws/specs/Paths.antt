@@ -31,6 +31,7 @@ module _ (domain : Domain) (readings : List (List Sample)) where
   abbrev pub recorded_at : Tunnel → List Visit → Visit → List Record
   recorded_at tunnel done visit = tunnel_records domain readings tunnel (length done) (passed visit)
 
+  -- the records of a packet's visits, in their order; none where it wasn't enclosed
   abbrev pub records_by : List ℕ → List Visit → Option (FlowId × Numbers) → List Record
   records_by packet visits None = []
   records_by packet visits (Some carried) = along (recorded_at (tunnel_of domain carried.0 carried.1 packet)) [] visits
@@ -51,10 +52,12 @@ key_for namespace None seq = None
 key_for namespace (Some id) None = None
 key_for namespace (Some id) (Some seq) = Some (record { namespace = namespace; flow = id; seq = seq })
 
+-- the key of a packet of a flow with this number; none without a flow or a number
 abbrev pub flow_key : Option Flow → Option ℕ → Option Key
 flow_key None seq = None
 flow_key (Some flow) seq = key_for flow.namespace flow.flow_id seq
 
+-- the key of a packet that was enclosed so; none where it carries no direct export
 abbrev pub carried_key : Domain → Option (FlowId × Numbers) → Option Key
 carried_key domain None = None
 carried_key domain (Some carried) = flow_key (slice_get (flows domain) carried.0.0) carried.1.direct
@@ -84,6 +87,7 @@ AreShown read (x ∷ xs) shown = (rest : List Record) × AreShown read xs rest �
 
 -- ---- groups
 
+-- an item under a key, as a pair
 abbrev pub under : Key → Entry → Key × Entry
 under key item = (key, item)
 

@@ -21,6 +21,7 @@ use Rattle.ioam_collect_stream.specs.declared.gathering.Halt.TheVariants as halt
 abbrev pub most_records : ℕ
 most_records = 67108864
 
+-- the most records that a collector of the program holds: 1,048,576
 abbrev pub most_held : ℕ
 most_held = 1048576
 
@@ -60,6 +61,8 @@ SaysLimit collector x limit = ((limit ≡ most_held) × Answers collector (keyed
 
 -- what a step did: one record more was gathered; or nothing was, and why
 module _ (old new : Reading) (before after : Collected) where
+  -- what one step did: one record more was gathered; or more octets are needed, or the next record has this fault, or it is
+  -- one past this limit
   abbrev pub Steps : Option Pause → Type 0
   Steps None = (length new.pending < length old.pending)
       × ((octets : List ℕ) (records : List Record) → Gathers octets records old before → (x : Record) × Gathers octets (records ++ x ∷ []) new after)
@@ -72,6 +75,7 @@ module _ (old new : Reading) (before after : Collected) where
 
 -- what stopped the taking of records, some of which were gathered before
 module _ (octets : List ℕ) (reader : Reading) (collector : Collected) where
+  -- why the taking of records paused, and what was gathered then
   abbrev pub Pauses : Pause → Type 0
   Pauses pause.More = (records : List Record) × Gathers octets records reader collector × Waits reader
   Pauses (pause.Bad at fault) = (records : List Record) × Gathers octets records reader collector
@@ -100,10 +104,12 @@ ReadsOne slot old new = SameBut slot old.left new.left × SameBut slot old.ended
 
 -- the collector stands for some records; where the desk tells, this is what they are of what the name holds
 module _ (tells : Bool) (content : Option (List ℕ)) (slot : ℕ) (old new : desk.Reading) (collector : Collected) where
+  -- the collector stands for some records, no more than may be, which are so of what the name holds
   abbrev pub Of : (List Record → List ℕ → Type 0) → Type 0
   Of Are = (records : List Record) × collected.Stands collector records × AreFew records
       × (IsTrue tells → IsSomeAnd content (Are records))
 
+  -- why reading stopped, and for which records the collector stands then
   abbrev pub Halts : Halt → Type 0
   Halts halt.Done = Of (λ records octets. Reads octets records Whole) × (IsTrue tells → IsTrue (new.ended slot))
   Halts (halt.Exports at fault) = Of (λ records octets. Reads octets records (Faulty at fault))

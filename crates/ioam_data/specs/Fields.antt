@@ -22,6 +22,7 @@ pub record Held : Type 0 where
   pub filler : List ℕ
   pub snapshot : Option (ℕ × List ℕ)
 
+-- what an element says, in values of its own
 abbrev pub held : Fields → Held
 held fields = record {
   hop_node = fields.hop_node;
@@ -50,6 +51,7 @@ hop_node_at octets = (u32_at octets 0 / 16777216, u32_at octets 0 % 16777216)
 abbrev pub faces_at : List ℕ → ℕ × ℕ
 faces_at octets = (u32_at octets 0 / 65536, u32_at octets 0 % 65536)
 
+-- the first four octets as one number of 32 bits, the first one highest
 abbrev pub number_at : List ℕ → ℕ
 number_at octets = u32_at octets 0
 

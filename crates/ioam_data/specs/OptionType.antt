@@ -3,6 +3,7 @@ use Rattle.std.specs.Prelude.{ℕ, ◌==◌, if◌then◌else◌}
 use Rattle.ioam_data.specs.declared.option_type.OptionType.{OptionType}
 use Rattle.ioam_data.specs.declared.option_type.OptionType.TheVariants.{PreallocatedTrace, IncrementalTrace, ProofOfTransit, EdgeToEdge, DirectExport, Unassigned}
 
+-- the IOAM-Option-Type of a number: 0 to 4 as the RFCs assign them, any other unassigned
 abbrev pub option_type : ℕ → OptionType
 option_type value =
     if value == 0 then PreallocatedTrace

@@ -35,6 +35,7 @@ abbrev pub seconds_of : Option (ℕ × ℕ) → ℕ
 seconds_of None = 4294967295
 seconds_of (Some stamp) = stamp.0
 
+-- the fraction of a time; all ones without one
 abbrev pub fraction_of : Option (ℕ × ℕ) → ℕ
 fraction_of None = 4294967295
 fraction_of (Some stamp) = stamp.1

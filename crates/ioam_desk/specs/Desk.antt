@@ -28,6 +28,7 @@ pub record Writing : Type 0 where
   pub written : ℕ → List ℕ
   pub files : List ℕ → Option Held
 
+-- the octets of what a name holds: those stored under it, or those written so far to the slot that it is tied to
 abbrev pub held_octets : (ℕ → List ℕ) → Held → List ℕ
 held_octets written (Stored octets) = octets
 held_octets written (Written slot) = written slot

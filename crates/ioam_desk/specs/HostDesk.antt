@@ -21,6 +21,7 @@ untold_writing side = record { side = side; written = λ _. []; files = λ _. No
 abbrev pub reading_of : {R F : Type 0} → HostDesk R F → Reading
 reading_of desk = untold_reading (side_of desk.inputs)
 
+-- the outputs of the desk over real files, which don't tell what is written
 abbrev pub writing_of : {R F : Type 0} → HostDesk R F → Writing
 writing_of desk = untold_writing (side_of desk.outputs)
 
@@ -28,6 +29,7 @@ writing_of desk = untold_writing (side_of desk.outputs)
 abbrev pub inputs_of : {R F : Type 0} → HostDesk R F → List (Slot F)
 inputs_of desk = desk.inputs.slots.items
 
+-- the slots of its outputs, as `inputs_of` has those of its inputs
 abbrev pub outputs_of : {R F : Type 0} → HostDesk R F → List (Slot F)
 outputs_of desk = desk.outputs.slots.items
 
@@ -35,6 +37,7 @@ outputs_of desk = desk.outputs.slots.items
 abbrev pub read_fault_name : {R F : Type 0} → HostDesk R F → Option (List ℕ)
 read_fault_name desk = fault_name desk.inputs
 
+-- the name of the last call on outputs that failed
 abbrev pub write_fault_name : {R F : Type 0} → HostDesk R F → Option (List ℕ)
 write_fault_name desk = fault_name desk.outputs
 
@@ -42,6 +45,7 @@ write_fault_name desk = fault_name desk.outputs
 abbrev pub read_fault_reason : {R F : Type 0} → HostDesk R F → Option Reason
 read_fault_reason desk = fault_reason desk.inputs
 
+-- and why it failed
 abbrev pub write_fault_reason : {R F : Type 0} → HostDesk R F → Option Reason
 write_fault_reason desk = fault_reason desk.outputs
 

@@ -14,6 +14,7 @@ use Rattle.ioam_desk.specs.Faults.{with_fault}
 use Rattle.ioam_desk.specs.declared.fault.DeskFault.{DeskFault}
 use Rattle.ioam_desk.specs.declared.fault.DeskFault.TheVariants.{Failed, NoMemory}
 
+-- what one kind of slots shows: how many calls failed, the names that were asked for, and how many slots there are
 abbrev pub side_of : {F : Type 0} → HostSide F → Side
 side_of side = record { faults = side.faults; asked = side.asked.items; slots = vec_len side.slots }
 

@@ -9,6 +9,7 @@ use Rattle.ioam_desk.specs.declared.fault.DeskFault.TheVariants.{Failed, NoMemor
 abbrev pub next_call : ℕ → ℕ
 next_call made = one_more made
 
+-- whether the call of this number is one of those that are to fail
 abbrev pub is_listed : ℕ → List ℕ → Bool
 is_listed call failing = list_any (λ listed. listed == call) failing
 

@@ -56,5 +56,6 @@ pub record Ties (old new : List ℕ → Option Held) (name : List ℕ) (to : Hel
 abbrev pub no_reading : Reading
 no_reading = reading_from 0 [] []
 
+-- outputs of which none was opened, where no name holds anything
 abbrev pub no_writing : Writing
 no_writing = writing_from 0 [] [] (λ _. None)

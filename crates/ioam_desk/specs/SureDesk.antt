@@ -9,9 +9,11 @@ use Rattle.ioam_desk.specs.declared.sure_desk.SureDesk.{SureDesk}
 abbrev pub never_missing : (List ℕ → Option Held) → List ℕ → Option Held
 never_missing files name = Some (unwrap_or (files name) (Stored []))
 
+-- the inputs of the desk that never fails: no call of them has failed
 abbrev pub reading_of : SureDesk → Reading
 reading_of desk = reading_from 0 desk.inputs.asked.items desk.inputs.slots.items
 
+-- and its outputs, where a name that was never put holds no octets
 abbrev pub writing_of : SureDesk → Writing
 writing_of desk = writing_from 0 desk.outputs.asked.items desk.outputs.slots.items (never_missing (files_of desk.outputs.ties))
 

@@ -26,6 +26,8 @@ IsCut octets = (length octets < 1) ⊎ ((IsVersion (slice_index octets 0) × (le
 
 -- ---- what the steps tell
 
+-- what is answered of the octets where a record is due: how many stand in front of its element and how many it has in all; or
+-- it is cut; or it has this fault
 abbrev pub TellsSize : List ℕ → Sizing → Type 0
 TellsSize octets (sizing.Sized front size) = IsSized octets × (front ≡ front_of octets) × (size ≡ length_of octets)
 TellsSize octets sizing.Cut = IsCut octets
@@ -44,6 +46,8 @@ said head element = record {
   element = element;
 }
 
+-- the same of the whole record: it can be written, and the octets begin with it as it is written; or it is cut; or it has
+-- this fault
 abbrev pub TellsRecord : List ℕ → RecordStep → Type 0
 TellsRecord octets (step.Whole head) =
     let x = said head (element_of octets) in

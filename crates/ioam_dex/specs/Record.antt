@@ -59,6 +59,8 @@ front_size version ext = 10 + twelve_where (has_visit version) + numbers_size ex
 abbrev pub record_size : Record → ℕ
 record_size x = front_size (version_of x.visit) x.ext + length x.element
 
+-- all octets of a record: its version and head, the visit where it tells one, the Flow ID and the Sequence Number where they
+-- are there, and the element
 abbrev pub record_octets : Record → List ℕ
 record_octets x = version_of x.visit ∷ x.ext ∷ (two_octets (record_size x) ++ (two_octets x.namespace ++ (x.flags
     ∷ (three_octets x.kind ++ (visit_octets x.visit ++ (four_octets_if x.flow ++ (four_octets_if x.seq ++ x.element)))))))
@@ -79,6 +81,7 @@ pub record Rec (octets : List ℕ) (x : Record) : Type 0 where
 abbrev pub length_of : List ℕ → ℕ
 length_of octets = u16_at octets 2
 
+-- how many octets stand in front of the element of the record that is due, by its version and its extension flags
 abbrev pub front_of : List ℕ → ℕ
 front_of octets = front_size (slice_index octets 0) (slice_index octets 1)
 

@@ -29,6 +29,7 @@ abbrev pub notes_behind : List ℕ → List ℕ → List Note
 notes_behind earlier [] = []
 notes_behind earlier (n ∷ noted) = note_of earlier n ∷ notes_behind (earlier ++ n ∷ []) noted
 
+-- what each number of a list told as it was noted, the first behind none
 abbrev pub notes_of : List ℕ → List Note
 notes_of noted = notes_behind [] noted
 
@@ -39,18 +40,21 @@ gaps_in (Gap missed) = 1
 gaps_in Repeat = 0
 gaps_in Late = 0
 
+-- how many numbers a note adds to those that are missed
 abbrev pub missed_in : Note → ℕ
 missed_in Next = 0
 missed_in (Gap missed) = missed
 missed_in Repeat = 0
 missed_in Late = 0
 
+-- one more late number, where the note says so
 abbrev pub late_in : Note → ℕ
 late_in Next = 0
 late_in (Gap missed) = 0
 late_in Repeat = 0
 late_in Late = 1
 
+-- one more repeated number, where the note says so
 abbrev pub repeats_in : Note → ℕ
 repeats_in Next = 0
 repeats_in (Gap missed) = 0
@@ -74,6 +78,7 @@ counts_in notes = record {
 abbrev pub no_counts : Counts
 no_counts = record { gaps = 0; missed = 0; late = 0; repeats = 0 }
 
+-- the counts with one note more, none of which passes the greatest number of 64 bits
 abbrev pub counted : Counts → Note → Counts
 counted counts Next = counts
 counted counts (Gap missed) = record counts { gaps = capped (counts.gaps + 1); missed = capped (counts.missed + missed) }

@@ -6,6 +6,7 @@ use Rattle.std.specs.Int.{bit_at}
 abbrev pub moved_bit : ℕ → ℕ → ℕ → ℕ
 moved_bit window by k = if k == 0 then 1 else if nat_lt k by then 0 else bit_at window (k - by)
 
+-- the 64 bits of `moved` are those of the window moved up by so many, with the lowest one set
 abbrev pub Moved : ℕ → ℕ → ℕ → Type 0
 Moved window by moved = (k : ℕ) → k < 64 → bit_at moved k ≡ moved_bit window by k
 

@@ -24,6 +24,8 @@ kind_of value =
 abbrev pub said_size : List ℕ → ℕ → ℕ
 said_size p at = (slice_index p (at + 1) + 1) * 8
 
+-- how many octets a header of this kind takes: what it says, 8 for a Fragment header, 40 for an IPv6 header, none for what is
+-- no header of the chain
 abbrev pub size_by : List ℕ → ℕ → Kind → ℕ
 size_by p at HopByHop = said_size p at
 size_by p at Destination = said_size p at
@@ -89,6 +91,7 @@ EndsBy p at Fragment = (at + 8 ≤ length p) × (fragment_offset p at ≢ 0)
 EndsBy p at Nested = ⊥
 EndsBy p at Upper = Unit {0}
 
+-- the chain ends at the spot, by the kind of what stands there
 abbrev pub EndsAt : List ℕ → HeadSpot → Type 0
 EndsAt p spot = EndsBy p spot.at (kind_of spot.value)
 

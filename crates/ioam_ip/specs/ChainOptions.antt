@@ -45,9 +45,11 @@ pub record CarriesIoam (p : List ℕ) : Type 0 where
   pub chain : Chain p heads upper at
   pub has_ioam : Any (HasIoam p) heads
 
+-- an IPv6 header inside the packet (next header value 41)
 abbrev pub is_nested : Head → Bool
 is_nested head = head.value == 41
 
+-- a Destination Options header (next header value 60)
 abbrev pub is_destination : Head → Bool
 is_destination head = head.value == 60
 

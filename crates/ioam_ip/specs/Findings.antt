@@ -11,6 +11,7 @@ is_ioam_type kind = (kind == 0x11) || (kind == 0x31)
 abbrev pub is_ioam : Item → Bool
 is_ioam item = is_ioam_type item.kind
 
+-- whether some option among these is an IOAM option
 abbrev pub has_ioam : List Item → Bool
 has_ioam os = list_any is_ioam os
 

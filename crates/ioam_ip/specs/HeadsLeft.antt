@@ -19,6 +19,7 @@ goes_on_by p at Fragment = fragment_offset p at == 0
 goes_on_by p at Nested = true
 goes_on_by p at Upper = false
 
+-- whether the header at the spot has all its octets and the chain goes on behind it, if it is sound
 abbrev pub goes_on : List ℕ → HeadSpot → Bool
 goes_on p spot = nat_le (end_at p spot) (length p) && goes_on_by p spot.at (kind_of spot.value)
 
@@ -42,6 +43,7 @@ pub record AreHeads (p : List ℕ) (hs : List Head) : Type 0 where
 abbrev pub OnlyHeads : List ℕ → List Head → Type 0
 OnlyHeads p hs = (others : List Head) → AreHeads p others → others ≡ hs
 
+-- a Hop-by-Hop Options header (next header value 0)
 abbrev pub is_hop_by_hop : Head → Bool
 is_hop_by_hop head = head.value == 0
 

@@ -15,6 +15,7 @@ has_hop packet = slice_index packet 6 == 0
 abbrev pub hop_end : List ℕ → ℕ
 hop_end packet = 40 + said_size packet 40
 
+-- the octets of the Hop-by-Hop Options header, from place 40 to its end
 abbrev pub hop_head : List ℕ → List ℕ
 hop_head packet = slice_range packet 40 (hop_end packet)
 
@@ -45,5 +46,6 @@ abbrev pub ioam_count : List Item → ℕ
 ioam_count [] = 0
 ioam_count (item ∷ items) = (if is_ioam_type item.kind then 1 else 0) + ioam_count items
 
+-- how many IOAM options the outer Hop-by-Hop Options header of a packet has; none where there is no such header
 abbrev pub option_count : List ℕ → ℕ
 option_count packet = if has_hop packet then ioam_count (options_in (hop_head packet)) else 0

@@ -12,6 +12,7 @@ pub record Part : Type 0 where
 abbrev pub place_of : ℕ → Part → ℕ
 place_of size part = size + gap_before size part.kind
 
+-- the place behind an option that follows so many octets of its header: its type, its length and its data are passed
 abbrev pub behind_part : ℕ → Part → ℕ
 behind_part size part = place_of size part + 2 + length part.body
 

@@ -13,6 +13,7 @@ pub record Item : Type 0 where
 abbrev pub option_size : List ℕ → ℕ → ℕ
 option_size head at = if slice_index head at == 0 then 1 else slice_index head (at + 1) + 2
 
+-- the place behind the option or padding at a place
 abbrev pub option_end : List ℕ → ℕ → ℕ
 option_end head at = at + option_size head at
 
@@ -24,6 +25,7 @@ OptionFits head at = option_end head at ≤ length head
 abbrev pub body_at : List ℕ → ℕ → List ℕ
 body_at head at = if slice_index head at == 0 then [] else take (slice_index head (at + 1)) (drop (at + 2) head)
 
+-- the option or padding that stands at a place: its type, its place and its data
 abbrev pub item_at : List ℕ → ℕ → Item
 item_at head at = record { kind = slice_index head at; at = at; body = body_at head at }
 

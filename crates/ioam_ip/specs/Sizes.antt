@@ -8,6 +8,7 @@ pub record Sized : Type 0 where
   pub kind : ℕ
   pub size : ℕ
 
+-- the type of an option to be laid out, and how many octets its data has
 abbrev pub sized : Part → Sized
 sized part = record { kind = part.kind; size = length part.body }
 

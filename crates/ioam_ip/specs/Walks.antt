@@ -17,6 +17,7 @@ abbrev pub Tells : List ℕ → Walk → Type 0
 Tells p (Whole ioam upper at limit) = IsWhole p ioam upper at limit
 Tells p (Bad at) = BadAt p at × (IsSound p → ⊥)
 
+-- whether a walk found the chain whole
 abbrev pub is_whole : Walk → Bool
 is_whole (Whole ioam upper at limit) = true
 is_whole (Bad at) = false

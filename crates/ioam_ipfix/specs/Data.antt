@@ -7,6 +7,7 @@ use Rattle.ioam_dex.specs.Visit.{visit_octets, twelve_where, visit_where}
 use Rattle.ioam_dex.specs.Record.{Record, IsRecord}
 use Rattle.ioam_ipfix.specs.Templates.{tells_flow, tells_seq, tells_visit}
 
+-- a number where something is there, else 0
 abbrev pub weight : Bool → ℕ → ℕ
 weight there n = if there then n else 0
 
@@ -23,6 +24,7 @@ front_octets x = two_octets x.namespace ++ (x.flags ∷ x.ext ∷ (three_octets 
 abbrev pub head_octets : Record → List ℕ
 head_octets x = two_octets x.namespace ++ (x.flags ∷ x.ext ∷ (three_octets x.kind ++ visit_octets x.visit))
 
+-- the second part: the Flow ID and the Sequence Number where they are there, and the element's length in one octet
 abbrev pub tail_octets : Record → List ℕ
 tail_octets x = four_octets_if x.flow ++ (four_octets_if x.seq ++ (length x.element ∷ []))
 
@@ -52,6 +54,7 @@ front_of id = 7 + twelve_where (tells_visit id) + four_where (tells_flow id) + f
 abbrev pub prefix_at : List ℕ → ℕ
 prefix_at rest = if nat_lt (slice_index rest 0) 255 then 1 else 3
 
+-- the length that a variable field says in octets from its start on: in one octet, or behind 255 in two (RFC 7011 section 7)
 abbrev pub size_at : List ℕ → ℕ
 size_at rest = if nat_lt (slice_index rest 0) 255 then slice_index rest 0 else u16_at rest 1
 
@@ -59,6 +62,7 @@ size_at rest = if nat_lt (slice_index rest 0) 255 then slice_index rest 0 else u
 abbrev pub data_size : ℕ → List ℕ → ℕ
 data_size id octets = front_of id + (prefix_at (drop (front_of id) octets) + size_at (drop (front_of id) octets))
 
+-- the octets of the variable field at the front of these, without its length
 abbrev pub element_at : List ℕ → List ℕ
 element_at rest = take (size_at rest) (drop (prefix_at rest) rest)
 
@@ -77,6 +81,7 @@ data_with id octets element =
       element = element;
     }
 
+-- the record that the octets of a data record of this template say
 abbrev pub data_at : ℕ → List ℕ → Record
 data_at id octets = data_with id octets (element_at (drop (front_of id) octets))
 

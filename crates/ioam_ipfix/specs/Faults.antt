@@ -22,6 +22,7 @@ abbrev pub IsStuckTemplate : List ℕ → IpfixFault → Type 0
 IsStuckTemplate rest f = ((length rest < 4) × (IsPadding 4 rest → ⊥) × (f ≡ fault.Length (length rest)))
     ⊎ ((4 ≤ length rest) × Stops TemplatePasses rest × (f ≡ fault.Template (u16_at rest 0)))
 
+-- behind some whole templates of a set the next one is faulty
 abbrev pub HasStuckTemplate : List ℕ → IpfixFault → Type 0
 HasStuckTemplate content f = (ids : List ℕ) × (rest : List ℕ) × Chain TemplatePasses content ids rest × IsStuckTemplate rest f
 

@@ -7,6 +7,7 @@ use Rattle.ioam_base.specs.Chain.{Chain, Stops}
 use Rattle.ioam_ipfix.specs.Templates.{none_known}
 use Rattle.ioam_ipfix.specs.Sets.{Spot, spot, SetPasses}
 
+-- lists one behind the other, as one list
 abbrev pub joined : {X : Type 0} → List (List X) → List X
 joined [] = []
 joined (xs ∷ xss) = xs ++ joined xss

@@ -9,9 +9,11 @@ use Rattle.ioam_ipfix.specs.Data.{data_at, HasRoom}
 abbrev pub slice : ℕ → ℕ → List ℕ → List ℕ
 slice from to octets = take (to - from) (drop from octets)
 
+-- the octets of the message where a record stands
 abbrev pub octets_at : List ℕ → Place → List ℕ
 octets_at message p = slice p.from p.to message
 
+-- the record that these octets say
 abbrev pub record_there : List ℕ → Place → Record
 record_there message p = data_at p.id (octets_at message p)
 
@@ -26,6 +28,7 @@ pub record IsPlace (message : List ℕ) (p : Place) : Type 0 where
   pub room : HasRoom p.id (octets_at message p)
   pub sayable : IsRecord (record_there message p)
 
+-- at each of these places of the message a record stands
 abbrev pub AllPlaces : List ℕ → List Place → Type 0
 AllPlaces message places = AllByRecursion (λ p. IsPlace message p) places
 

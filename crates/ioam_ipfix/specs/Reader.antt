@@ -91,6 +91,8 @@ shown (Export e) = record_of e ∷ []
 shown More = []
 shown (Bad at fault) = []
 
+-- how a step leaves the reader: the record that it gives can be written; or more octets are needed; or the message that
+-- begins at this place has this fault
 abbrev pub Rested : Reading → IpfixStep → Type 0
 Rested new (Export e) = IsRecord (record_of e)
 Rested new More = Waits new
@@ -105,6 +107,8 @@ Says octets given new More = (messages : List (List Record)) × IpfixOf octets m
 Says octets given new (Bad at fault) = (messages : List (List Record)) × (given ≡ joined messages) × (new.messages ≡ length messages)
     × ((more : List ℕ) → Reads (octets ++ more) messages (Faulty at fault)) × ((more : List ℕ) → ReadsOnly (octets ++ more) messages (Faulty at fault))
 
+-- a step tells of the octets that were fed and the records that were given: the reader stands for them with the step's record
+-- behind them, and what the step says of them holds
 abbrev pub Told : List ℕ → List Record → Reading → IpfixStep → Type 0
 Told octets given new step = Stands new octets (given ++ shown step) × Says octets given new step
 

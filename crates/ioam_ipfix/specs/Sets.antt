@@ -14,6 +14,7 @@ pub record Spot : Type 0 where
   pub known : List Bool
   pub octets : List ℕ
 
+-- a place in octets: which templates were seen in front of it, and the octets from it on
 abbrev pub spot : List Bool → List ℕ → Spot
 spot known octets = record { known = known; octets = octets }
 
@@ -62,6 +63,7 @@ pub record IsSized (octets : List ℕ) : Type 0 where
   pub least : 4 ≤ u16_at octets 2
   pub there : u16_at octets 2 ≤ length octets
 
+-- what the set that is due holds: its octets behind its head of four
 abbrev pub content_of : List ℕ → List ℕ
 content_of octets = take (u16_at octets 2 - 4) (drop 4 octets)
 

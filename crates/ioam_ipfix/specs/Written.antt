@@ -12,6 +12,7 @@ abbrev pub message_octets : ℕ → ℕ → List ℕ → List ℕ
 message_octets count id content = two_octets 10 ++ (two_octets (length content + 20) ++ (four_octets 0 ++ (four_octets (count % 4294967296)
     ++ (four_octets 0 ++ (two_octets id ++ (two_octets (length content + 4) ++ content))))))
 
+-- the first message: the eight templates, as one set, behind no records
 abbrev pub templates_message : List ℕ
 templates_message = message_octets 0 2 (flat_map template_octets all_ids)
 
@@ -21,6 +22,7 @@ pub record IsRun (id : ℕ) (run : List Record) : Type 0 where
   pub few : length run ≤ 32
   pub alike : AllByRecursion (λ x. IsRecord x × (template_of x ≡ id)) run
 
+-- the message of a run of records of one template, behind so many records
 abbrev pub run_message : ℕ → ℕ → List Record → List ℕ
 run_message count id run = message_octets count id (flat_map data_octets run)
 
@@ -28,6 +30,7 @@ run_message count id run = message_octets count id (flat_map data_octets run)
 abbrev pub AreRuns : List (ℕ × List Record) → Type 0
 AreRuns runs = AllByRecursion (λ run. IsRun run.0 run.1) runs
 
+-- the records of each run, without its template
 abbrev pub runs_of : List (ℕ × List Record) → List (List Record)
 runs_of [] = []
 runs_of (run ∷ runs) = run.1 ∷ runs_of runs

@@ -25,6 +25,7 @@ IsBody order kind block (body.Face face) = (kind ≡ 1) × (face_at order block 
 IsBody order kind block body.Packet = (kind ≡ 6) × (32 + captured order block ≤ length block)
 IsBody order kind block body.Other = ((kind == 0x0a0d0d0a) ≡ false) × ((kind == 1) ≡ false) × ((kind == 6) ≡ false)
 
+-- what is answered of a block of this type: what its body holds, or that something passes it
 abbrev pub TellsBody : Order → ℕ → List ℕ → Option Body → Type 0
 TellsBody order kind block None = is_passed order block kind ≡ true
 TellsBody order kind block (Some b) = (is_passed order block kind ≡ false) × IsBody order kind block b
@@ -34,6 +35,7 @@ abbrev pub IsHead : Order → Face → List ℕ → PacketHead → Type 0
 IsHead order face block head = (head.link ≡ link_of face) × (time_of face (units order block) ≡ Some head.time)
     × (head.original ≡ number_at order block 24) × (head.captured ≡ captured order block) × (head.captured ≤ 262144) × (head.time < 2 ^ 62)
 
+-- what is answered of a packet block by its interface: what its head says, or the first fault that is looked for
 abbrev pub TellsPacket : Order → Face → List ℕ → Result PacketHead CapFault → Type 0
 TellsPacket order face block (Ok head) = (first (packet_checks order block face) ≡ None) × IsHead order face block head
 TellsPacket order face block (Err fault) = first (packet_checks order block face) ≡ Some fault
@@ -42,6 +44,7 @@ TellsPacket order face block (Err fault) = first (packet_checks order block face
 abbrev pub IsAmong : Order → List Face → List ℕ → PacketHead → Type 0
 IsAmong order faces block head = (face : Face) × (slice_get faces (face_number order block) ≡ Some face) × IsHead order face block head
 
+-- the same where the interface is looked up among those of the section
 abbrev pub TellsAmong : Order → List Face → List ℕ → Result PacketHead CapFault → Type 0
 TellsAmong order faces block (Ok head) = (packet_fault order block (slice_get faces (face_number order block)) ≡ None) × IsAmong order faces block head
 TellsAmong order faces block (Err fault) = packet_fault order block (slice_get faces (face_number order block)) ≡ Some fault
@@ -53,6 +56,7 @@ IsContent order kind faces block (content.Face face) = (kind ≡ 1) × (face_at 
 IsContent order kind faces block (content.Packet head) = (kind ≡ 6) × (32 + captured order block ≤ length block) × IsAmong order faces block head
 IsContent order kind faces block content.Other = ((kind == 0x0a0d0d0a) ≡ false) × ((kind == 1) ≡ false) × ((kind == 6) ≡ false)
 
+-- what is answered of a whole block: what it holds, or its first fault
 abbrev pub TellsContent : Order → ℕ → List Face → List ℕ → Result Content CapFault → Type 0
 TellsContent order kind faces block (Ok c) = (block_fault order block kind faces ≡ None) × IsContent order kind faces block c
 TellsContent order kind faces block (Err fault) = block_fault order block kind faces ≡ Some fault

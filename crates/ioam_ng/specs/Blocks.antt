@@ -29,6 +29,7 @@ module _ (order : Order) (block : List ℕ) where
   abbrev pub face_options : List ℕ
   face_options = take (length block - 20) (drop 16 block)
 
+  -- the interface that the block describes; none where an option passes the body
   abbrev pub face_at : Option Face
   face_at = face_in order (short_at order block 8) face_options
 
@@ -46,9 +47,11 @@ module _ (order : Order) (block : List ℕ) where
   abbrev pub face_number : ℕ
   face_number = number_at order block 8
 
+  -- the time of a packet in units of its interface, the upper 32 bits first
   abbrev pub units : ℕ
   units = number_at order block 12 * 4294967296 + number_at order block 16
 
+  -- how many octets of the packet were captured
   abbrev pub captured : ℕ
   captured = number_at order block 20
 
@@ -69,6 +72,7 @@ module _ (order : Order) (block : List ℕ) where
       ∷ record { is = is_none (time_of face units); fault = fault.Time units }
       ∷ []
 
+  -- the fault of a packet block whose interface is this; of one that names none of the section, that
   abbrev pub packet_fault : Option Face → Option CapFault
   packet_fault None = Some (fault.Face face_number)
   packet_fault (Some face) = first (packet_checks face)
@@ -81,9 +85,12 @@ module _ (order : Order) (block : List ℕ) where
       ∷ record { is = (kind == 2) || (kind == 3); fault = fault.Kind kind }
       ∷ []
 
+  -- the first fault of a whole block of this type, where there is one
   abbrev pub block_fault : ℕ → List Face → Option CapFault
   block_fault kind faces = option_or (first (block_checks kind)) (if kind == 6 then packet_fault (slice_get faces face_number) else None)
 
+  -- the packet of a block whose interface is this: its layer, its time in nanoseconds, its length as it was sent, and the
+  -- captured octets
   abbrev pub packet_of : Face → Taken
   packet_of face = record {
     link = link_of face;
@@ -94,6 +101,7 @@ module _ (order : Order) (block : List ℕ) where
     };
   }
 
+  -- the packet, where its interface is one of the section
   abbrev pub packet_from : Option Face → Option Taken
   packet_from None = None
   packet_from (Some face) = Some (packet_of face)
@@ -102,6 +110,8 @@ module _ (order : Order) (block : List ℕ) where
   abbrev pub packet_at : ℕ → List Face → Option Taken
   packet_at kind faces = if kind == 6 then packet_from (slice_get faces face_number) else None
 
+  -- the interfaces that are known behind a block of this type: none behind a section block, one more behind an interface
+  -- block
   abbrev pub faces_behind : ℕ → List Face → List Face
   faces_behind kind faces = if kind == 0x0a0d0d0a then [] else if kind == 1 then faces ++ option_to_list face_at else faces
 
@@ -112,21 +122,26 @@ abbrev pub fault_by : Option Order → List ℕ → ℕ → List Face → Option
 fault_by None block kind faces = None
 fault_by (Some order) block kind faces = block_fault order block kind faces
 
+-- the packet of a block of this type, where the order of its numbers is known; else none
 abbrev pub packet_by : Option Order → List ℕ → ℕ → List Face → Option Taken
 packet_by None block kind faces = None
 packet_by (Some order) block kind faces = packet_at order block kind faces
 
+-- the interfaces behind a block of this type, where the order is known; else as they were
 abbrev pub faces_by : Option Order → List ℕ → ℕ → List Face → List Face
 faces_by None block kind faces = faces
 faces_by (Some order) block kind faces = faces_behind order block kind faces
 
 module _ (known : Known) (octets : List ℕ) where
+  -- the total length that the block at the front says
   abbrev pub size : ℕ
   size = size_in known.order octets
 
+  -- the type of the block at the front
   abbrev pub kind : ℕ
   kind = kind_in known.order octets
 
+  -- whether the block at the front is there with all its octets
   abbrev pub is_whole : Bool
   is_whole = is_front octets && nat_le size (length octets)
 
@@ -160,6 +175,7 @@ CanPass p = (fault_in p.known p.octets ≡ None) × (is_whole p.known p.octets �
 abbrev pub packet_there : Place → Option Taken
 packet_there p = packet_in p.known p.octets
 
+-- the place behind the block at the front: what is known there, and the octets from there on
 abbrev pub behind : Place → Place
 behind p = record { known = known_behind p.known p.octets; octets = drop (size p.known p.octets) p.octets }
 
@@ -177,5 +193,6 @@ packets (Some packet ∷ blocks) = packet ∷ packets blocks
 abbrev pub nothing : Known
 nothing = record { count = 0; order = None; faces = [] }
 
+-- where a capture of these octets begins
 abbrev pub front : List ℕ → Place
 front octets = record { known = nothing; octets = octets }

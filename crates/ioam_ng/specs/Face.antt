@@ -34,6 +34,7 @@ unit_count r = if nat_lt r 128 then 10 ^ r else 2 ^ (r - 128)
 abbrev pub added : ℕ → ℕ
 added offset = if nat_lt offset 0x8000000000000000 then offset else 0
 
+-- the seconds that an offset takes off: those of a negative one
 abbrev pub taken_off : ℕ → ℕ
 taken_off offset = if nat_lt offset 0x8000000000000000 then 0 else 0x10000000000000000 - offset
 
@@ -41,8 +42,11 @@ taken_off offset = if nat_lt offset 0x8000000000000000 then 0 else 0x10000000000
 abbrev pub before_offset : Face → ℕ → ℕ
 before_offset face units = units * 1000000000 / unit_count face.resolution
 
+-- the nanoseconds between two numbers of them; none where the second is greater, or where they are 2^62 or more
 abbrev pub time_between : ℕ → ℕ → Option ℕ
 time_between plus minus = if nat_le minus plus && nat_lt (plus - minus) 0x4000000000000000 then Some (plus - minus) else None
 
+-- the time of a packet of an interface in nanoseconds, by its units and with the interface's offset; none where it is out of
+-- range
 abbrev pub time_of : Face → ℕ → Option ℕ
 time_of face units = time_between (before_offset face units + added face.offset * 1000000000) (taken_off face.offset * 1000000000)

@@ -25,6 +25,7 @@ is_section octets = u32_at octets 0 == 0x0a0d0d0a
 abbrev pub front_size : List ℕ → ℕ
 front_size octets = if is_section octets then 12 else 8
 
+-- whether all octets of a block's front are there
 abbrev pub is_front : List ℕ → Bool
 is_front octets = nat_le (front_size octets) (length octets)
 
@@ -32,6 +33,7 @@ is_front octets = nat_le (front_size octets) (length octets)
 abbrev pub order_in : Option Order → List ℕ → Option Order
 order_in known octets = if is_section octets then order_said (u32_at octets 8) else known
 
+-- the 32-bit number at a place, where the order is known; else 0
 abbrev pub number_by : Option Order → List ℕ → ℕ → ℕ
 number_by None octets at = 0
 number_by (Some order) octets at = number_at order octets at
@@ -40,6 +42,7 @@ number_by (Some order) octets at = number_at order octets at
 abbrev pub kind_in : Option Order → List ℕ → ℕ
 kind_in known octets = if is_section octets then 0x0a0d0d0a else number_by known octets 0
 
+-- the total length that the block at these octets says
 abbrev pub size_in : Option Order → List ℕ → ℕ
 size_in known octets = number_by (order_in known octets) octets 4
 

@@ -23,6 +23,7 @@ module _ (order : Order) where
   abbrev pub is_past : List ℕ → Bool
   is_past octets = nat_lt (length octets) (item_size octets)
 
+  -- the option at the front: its code and its value, without the padding
   abbrev pub item_in : List ℕ → Item
   item_in octets = record { code = short_at order octets 0; value = take (short_at order octets 2) (drop 4 octets) }
 
@@ -30,6 +31,7 @@ module _ (order : Order) where
   abbrev pub IsItem : List ℕ → Type 0
   IsItem octets = (is_end octets ≡ false) × (is_past octets ≡ false)
 
+  -- the octets behind the option at the front
   abbrev pub behind : List ℕ → List ℕ
   behind octets = drop (item_size octets) octets
 
@@ -49,6 +51,7 @@ module _ (order : Order) where
       else if is_past octets then None
       else option_map (λ items. item_in octets ∷ items) (items_by steps (behind octets))
 
+  -- the options that octets hold up to their end; none where one of them passes the octets
   abbrev pub items_in : List ℕ → Option (List Item)
   items_in octets = items_by (length octets) octets
 
@@ -56,6 +59,7 @@ module _ (order : Order) where
   abbrev pub is_resolution : Item → Bool
   is_resolution item = (item.code == 9) && (length item.value == 1)
 
+  -- an option that says the offset of an interface's times: code 14, and eight octets
   abbrev pub is_offset : Item → Bool
   is_offset item = (item.code == 14) && (length item.value == 8)
 
@@ -64,6 +68,7 @@ module _ (order : Order) where
   resolution_in [] = None
   resolution_in (item ∷ items) = if is_resolution item then Some (slice_index item.value 0) else resolution_in items
 
+  -- the offset that the first such option says
   abbrev pub offset_in : List Item → Option ℕ
   offset_in [] = None
   offset_in (item ∷ items) = if is_offset item then Some (long_at order item.value 0) else offset_in items

@@ -66,6 +66,7 @@ faces_with faces content.Other = faces
 abbrev pub moved_by : Reading → Block → Reading
 moved_by old b = record old { known = known_with old.known b.order (faces_with old.known.faces b.content); start = old.start + b.size; pending = drop b.size old.pending }
 
+-- the reader stands behind a block that was taken, whatever octets that it gave it still keeps
 abbrev pub IsMoved : Reading → Block → Reading → Type 0
 IsMoved old b new = new ≡ record (moved_by old b) { given = new.given }
 
@@ -133,6 +134,7 @@ Steps old new found.NoMemory = (new ≡ old) × IsDue old found.NoMemory
 abbrev pub shown_of : Link → packet.Packet → Taken
 shown_of link p = record { link = link; entry = record { time = p.time; original = p.original; octets = p.octets.now } }
 
+-- the packets that a step gives: one, or none
 abbrev pub packet_shown : NgStep → List Taken
 packet_shown (Packet link p) = shown_of link p ∷ []
 packet_shown More = []
@@ -161,6 +163,8 @@ Says octets taken new More = CapNg octets taken new.pending
 Says octets taken new (Bad at fault) = CapNg octets taken new.pending × EndsFaulty octets taken at fault
 Says octets taken new NoMemory = ⊤
 
+-- a step tells of the octets that were fed and the packets that were given: the reader stands for them with the step's packet
+-- behind them, and what the step says of them holds
 abbrev pub Told : List ℕ → List Taken → Reading → NgStep → Type 0
 Told octets taken new step = Stands new octets (taken ++ packet_shown step) × Says octets taken new step
 

@@ -29,6 +29,7 @@ size_checks kind size = record { is = nat_lt 16777216 size; fault = fault.Large 
     ∷ record { is = not (size % 4 == 0) || nat_lt size (least_size kind); fault = fault.Size size }
     ∷ []
 
+-- what is answered of a block's type and total length: that they are in their bounds, or the first fault that is looked for
 abbrev pub TellsSize : Order → ℕ → ℕ → FrontStep → Type 0
 TellsSize order kind size (step.There front) = (first (size_checks kind size) ≡ None) × (front.order ≡ order) × (front.kind ≡ kind) × (front.size ≡ size)
     × (size ≤ 16777216) × (least_size kind ≤ size) × (size % 4 ≡ 0)
@@ -40,10 +41,13 @@ abbrev pub number_checks : Option Order → List ℕ → List Check
 number_checks known octets = record { is = is_none (order_in known octets); fault = fault.Order (u32_at octets 8) }
     ∷ size_checks (kind_in known octets) (size_in known octets)
 
+-- these are the order, the type and the total length of the block at the octets, and they are in their bounds
 abbrev pub IsFrontOf : Option Order → List ℕ → Front → Type 0
 IsFrontOf known octets front = (order_in known octets ≡ Some front.order) × (front.kind ≡ kind_in known octets) × (front.size ≡ size_in known octets)
     × (front.size ≤ 16777216) × (least_size front.kind ≤ front.size) × (front.size % 4 ≡ 0)
 
+-- what is answered of the numbers of a front that is there: its order, type and total length, or the first fault that is
+-- looked for
 abbrev pub TellsNumbers : Option Order → List ℕ → FrontStep → Type 0
 TellsNumbers known octets (step.There front) = (first (number_checks known octets) ≡ None) × IsFrontOf known octets front
 TellsNumbers known octets step.Cut = ⊥

@@ -18,6 +18,7 @@ abbrev pub face_octets : ℕ → List ℕ
 face_octets kind = 0 ∷ 0 ∷ 0 ∷ 1 ∷ 0 ∷ 0 ∷ 0 ∷ 0x20 ∷ 0 ∷ kind ∷ 0 ∷ 0 ∷ 0 ∷ 4 ∷ 0 ∷ 0
     ∷ 0 ∷ 9 ∷ 0 ∷ 1 ∷ 9 ∷ 0 ∷ 0 ∷ 0 ∷ 0 ∷ 0 ∷ 0 ∷ 0 ∷ 0 ∷ 0 ∷ 0 ∷ 0x20 ∷ []
 
+-- the octets with which a capture begins: the section block and the two interface blocks
 abbrev pub head_octets : List ℕ
 head_octets = section_octets ++ (face_octets 101 ++ face_octets 1)
 
@@ -34,16 +35,20 @@ padding captured = (4 - captured % 4) % 4
 abbrev pub packet_size : ℕ → ℕ
 packet_size captured = 32 + captured + padding captured
 
+-- the first twelve octets of a packet block: its type, its total length and its interface
 abbrev pub packet_front : Link → ℕ → List ℕ
 packet_front link captured = (four_octets 6 ++ four_octets (packet_size captured)) ++ four_octets (face_for link)
 
+-- the next sixteen: the time in two halves, and how many octets were captured and how many the packet had
 abbrev pub packet_numbers : ℕ → ℕ → ℕ → List ℕ
 packet_numbers time captured original =
     ((four_octets (time / 4294967296) ++ four_octets (time % 4294967296)) ++ four_octets captured) ++ four_octets original
 
+-- what follows the captured octets: the padding, and the total length once more
 abbrev pub packet_tail : ℕ → List ℕ
 packet_tail captured = take (padding captured) (0 ∷ 0 ∷ 0 ∷ []) ++ four_octets (packet_size captured)
 
+-- the block of a packet
 abbrev pub packet_octets : Taken → List ℕ
 packet_octets p =
     let captured = length p.entry.octets in
@@ -54,6 +59,7 @@ abbrev pub packets_text : List Taken → List ℕ
 packets_text [] = []
 packets_text (p ∷ ps) = packet_octets p ++ packets_text ps
 
+-- a capture of packets: its head and the block of each
 abbrev pub capture_text : List Taken → List ℕ
 capture_text ps = head_octets ++ packets_text ps
 

@@ -8,6 +8,7 @@ use Rattle.ioam_node_visit.specs.declared.note.NodeNote.{NodeNote}
 
 -- the notes of these options
 module _ (notes : ℕ → List ℕ → List NodeNote) where
+  -- the notes of these options, in their order
   abbrev pub notes_in : List Item → List NodeNote
   notes_in [] = []
   notes_in (item ∷ items) = notes item.kind item.body ++ notes_in items
@@ -18,6 +19,7 @@ module _ (notes : ℕ → List ℕ → List NodeNote) where
 
 -- the records of these options
 module _ (records : ℕ → List ℕ → List Record) where
+  -- the export records of these options, in their order
   abbrev pub records_in : List Item → List Record
   records_in [] = []
   records_in (item ∷ items) = records item.kind item.body ++ records_in items
@@ -26,5 +28,6 @@ module _ (records : ℕ → List ℕ → List Record) where
   abbrev pub hop_records : List ℕ → List Record
   hop_records packet = records_in (hop_options packet)
 
+  -- the octets of the export records of a packet's Hop-by-Hop options
   abbrev pub hop_exports : List ℕ → List ℕ
   hop_exports packet = records_octets (hop_records packet)

@@ -17,6 +17,7 @@ use Rattle.ioam_node_visit.specs.Step.{knows}
 abbrev pub flow_bit : ℕ → ℕ
 flow_bit ext = ext / 128 % 2
 
+-- bit 1 of Extension-Flags: whether the Sequence Number is there
 abbrev pub seq_bit : ℕ → ℕ
 seq_bit ext = ext / 64 % 2
 

@@ -50,5 +50,6 @@ records_by domain readings place time hops Trace body = []
 records_by domain readings place time hops Exporting body = direct_records domain readings place time hops (read_of (drop 2 body))
 records_by domain readings place time hops Other body = []
 
+-- the export records that a node makes of an option of this type and data
 unfoldable pub records_of : Domain → List (List Sample) → Place → ℕ → ℕ → ℕ → List ℕ → List Record
 records_of domain readings place time hops kind body = records_by domain readings place time hops (met_of kind body) body

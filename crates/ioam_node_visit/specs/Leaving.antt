@@ -28,6 +28,7 @@ LeavesAs domain node packet header (Out port inner) = (exit_choice domain node h
 LeavesAs domain node packet header (Drop reason) = (exit_choice domain node header.hops header.target ≡ Err reason)
     × ((place : ℕ) × InnerAt packet place × HasFields (drop place packet) header)
 
+-- what is answered of a packet with some header, at the node where its tunnel ends
 pub record LeavesSo (domain : Domain) (node : ℕ) (packet : List ℕ) (answer : Leave) : Type 0 where
   pub header : Header
   pub leaves : LeavesAs domain node packet header answer

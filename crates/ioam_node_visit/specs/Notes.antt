@@ -58,5 +58,6 @@ notes_by domain readings place time hops met.Trace body = trace_note domain read
 notes_by domain readings place time hops met.Direct body = direct_note domain place.node.0 (read_of (drop 2 body)) ∷ []
 notes_by domain readings place time hops met.Other body = []
 
+-- the notes that a node makes of an option of this type and data
 unfoldable pub notes_of : Domain → List (List Sample) → Place → ℕ → ℕ → ℕ → List ℕ → List NodeNote
 notes_of domain readings place time hops kind body = notes_by domain readings place time hops (met_of kind body) body

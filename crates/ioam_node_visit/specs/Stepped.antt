@@ -16,6 +16,7 @@ use Rattle.ioam_node_visit.specs.Step.{knows}
 abbrev pub trace_start : Item → ℕ
 trace_start option = 44 + option.at
 
+-- the place behind the octets of the trace that an option holds
 abbrev pub trace_end : Item → ℕ
 trace_end option = 42 + option.at + length option.body
 

@@ -25,6 +25,7 @@ module _ (domain : Domain) (readings : List (List Sample)) (tunnel : Tunnel) whe
       then element_of room.kind (words room.kind) (view_of domain readings visit.place visit.time (tunnel.hops - before) room.namespace) ∷ []
       else []
 
+  -- the elements of visits in a trace, of which the first is so many visits after the entry's
   abbrev pub elements_from : Room → ℕ → List Visited → List (List ℕ)
   elements_from room before [] = []
   elements_from room before (visit ∷ visits) = element_at room before visit ++ elements_from room (before + 1) visits
@@ -43,6 +44,7 @@ module _ (domain : Domain) (readings : List (List Sample)) (tunnel : Tunnel) whe
 
 -- the records of options that are laid out, in their order
 module _ (records : ℕ → List ℕ → List Record) where
+  -- the export records of these options, in their order
   abbrev pub part_records : List Part → List Record
   part_records [] = []
   part_records (part ∷ parts) = records part.kind part.body ++ part_records parts

@@ -25,6 +25,7 @@ most_records = 1048576
 abbrev pub head_octets : ℕ → List ℕ
 head_octets count = mark ++ four_octets count
 
+-- a record has a key by which it is regrouped
 abbrev pub HasKey : Record → Type 0
 HasKey x = (p : Key × Entry) × (keyed_of x ≡ Some p)
 
@@ -34,6 +35,7 @@ pub record AreInOrder (xs : List Record) : Type 0 where
   pub keys : All HasKey xs
   pub apart : AreApart (keyed xs)
 
+-- the octets of a part of these records: its head, and each record
 abbrev pub part_octets : List Record → List ℕ
 part_octets xs = head_octets (length xs) ++ records_octets xs
 
@@ -56,6 +58,7 @@ pub record PartOf (octets : List ℕ) (groups : List (Key × List Entry)) : Type
 abbrev pub told_octets : List ℕ → List ℕ → List ℕ
 told_octets core extra = 2 ∷ slice_index core 1 ∷ (two_octets (length core + 12) ++ (take 6 (drop 4 core) ++ (extra ++ drop 10 core)))
 
+-- the octets of the record that an item is of, with its visit where that is told
 abbrev pub item_octets : Entry → List ℕ
 item_octets e = cond (is_full e) (told_octets e.core e.extra) e.core
 
@@ -67,6 +70,7 @@ items_octets es = flat_map item_octets es
 abbrev pub groups_octets : List (Key × List Entry) → List ℕ
 groups_octets groups = flat_map (λ (group : Key × List Entry). items_octets group.1) groups
 
+-- the octets of the part of what a collector holds
 abbrev pub part_text : Collected → List ℕ
 part_text c = head_octets c.held ++ groups_octets c.groups
 

@@ -59,6 +59,8 @@ pub record IsBehind (limit : ℕ) (octets : List ℕ) (r : PartReading) : Type 0
   pub took : Took count limit body records r.reading r.progress
   pub rests : Rests count records r.reading
 
+-- the reader found no fault: the head isn't whole yet, or it is and all whole records were taken; or it found this one, that
+-- of all octets that begin so
 abbrev pub StandsBy : ℕ → List ℕ → PartReading → Option (ℕ × PartFault) → Type 0
 StandsBy limit octets r None = IsOpen limit octets r ⊎ IsBehind limit octets r
 StandsBy limit octets r (Some bad) = (more : List ℕ) → HasFault (octets ++ more) bad.0 bad.1

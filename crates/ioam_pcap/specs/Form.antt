@@ -33,6 +33,7 @@ abbrev pub IsLinkType : ℕ → Link → Type 0
 IsLinkType number Ethernet = number ≡ 1
 IsLinkType number Raw = (number ≡ 101) ⊎ (number ≡ 229)
 
+-- the number is none of the link types that are read
 abbrev pub IsNoLinkType : ℕ → Type 0
 IsNoLinkType number = (number ≢ 1) × (number ≢ 101) × (number ≢ 229)
 

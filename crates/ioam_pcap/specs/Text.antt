@@ -20,6 +20,7 @@ word n = (n / 16777216 % 256) ∷ (n / 65536 % 256) ∷ (n / 256 % 256) ∷ (n %
 abbrev pub seconds_of : ℕ → ℕ
 seconds_of time = time / 1000000000 % 4294967296
 
+-- the nanoseconds of a time above its whole seconds
 abbrev pub fraction_of : ℕ → ℕ
 fraction_of time = time % 1000000000
 

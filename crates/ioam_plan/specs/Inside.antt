@@ -16,5 +16,6 @@ abbrev pub EndsInside : Domain → End → Type 0
 EndsInside domain (Left port) = port.0 < length (ports domain)
 EndsInside domain (Drop reason node) = node.0 < length (nodes domain)
 
+-- each visit is of a node of the domain, and the end is inside it
 abbrev pub StaysInside : Domain → Itinerary → Type 0
 StaysInside domain itinerary = All (IsVisitOf domain) itinerary.visits × EndsInside domain itinerary.end

@@ -60,6 +60,8 @@ module _ (domain : Domain) where
 
   -- a packet of this target and size that isn't enclosed comes to a node with this hop limit
   module _ (target size : ℕ) where
+    -- from this node, reached by this interface at this time with this hop limit, the packet makes these visits and then ends
+    -- so
     abbrev pub PassesPlain : NodeId → ℕ → ℕ → ℕ → List Visit → End → Type 0
     PassesPlain node inward time hops [] end = IsDropped (Stops domain node.0 false hops target size) node end
     PassesPlain node inward time hops (visit ∷ visits) end =
@@ -76,6 +78,8 @@ module _ (domain : Domain) where
   -- an outer packet of this size comes to a node on its way to the exit of its tunnel with this hop limit; the packet inside has a
   -- target and a hop limit of its own; `exited` says whether it reached the exit
   module _ (exit : NodeId) (size target inner : ℕ) where
+    -- from this node, reached by this interface at this time with this outer hop limit, the outer packet makes these visits
+    -- and the packet ends so
     abbrev pub PassesInside : NodeId → ℕ → ℕ → ℕ → List Visit → End → Bool → Type 0
     PassesInside node inward time hops [] end exited =
         (node ≢ exit) × IsDropped (Stops domain node.0 true hops (address_at domain exit) size) node end × (exited ≡ false)

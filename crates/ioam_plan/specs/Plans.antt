@@ -76,6 +76,8 @@ pub record PlansDrop (port : Port) (reason : Reason) (itinerary : Itinerary) : T
 -- ---- any of them
 
 module _ (domain : Domain) (readings : List (List Sample)) (earlier : List Itinerary) (time : ℕ) (itinerary : Itinerary) where
+  -- what is planned for a frame at this port, by what was answered of it there: a packet's own journey, none, or a journey in
+  -- its flow's tunnel
   abbrev pub PlansBy : Admit → Port → Type 0
   PlansBy (admit.Plain packet) port = PlansPacket domain port time packet.now itinerary
   PlansBy (admit.Drop reason) port = PlansDrop port reason itinerary

@@ -56,6 +56,7 @@ pub record RidesTunnel (domain : Domain) (packet : List ℕ) (flow : FlowId) (nu
   pub few : IfSome (slice_get (flows domain) flow.0) (λ f. length itinerary.visits ≤ f.hops + (if itinerary.exited then 1 else 0))
   pub sends : SendsBy itinerary.exited itinerary.visits
 
+-- the itinerary fits a packet that isn't enclosed, or one that is enclosed in this flow with these numbers
 abbrev pub RidesBy : Domain → List ℕ → Itinerary → Option (FlowId × Numbers) → Type 0
 RidesBy domain packet itinerary None = RidesPlain packet itinerary
 RidesBy domain packet itinerary (Some carried) = RidesTunnel domain packet carried.0 carried.1 itinerary

@@ -37,6 +37,8 @@ pub record TravelsPacket (domain : Domain) (port : Port) (time : ℕ) (packet : 
 -- size: there it is dropped as it is for the first reason that holds, one of which is that it may not be enclosed once more (RFC 2473
 -- section 4.1.1), or sent by a link inside an outer packet with the flow's hop limit, its own hop limit one less (section 3)
 module _ (domain : Domain) (id : FlowId) (flow : Flow) (numbers : Numbers) (refused : Bool) (size target hops : ℕ) where
+  -- from the entry node, reached by this interface at this time, the packet makes these visits, ends so, and was enclosed
+  -- with these numbers or not at all
   abbrev pub PassesEntry : NodeId → ℕ → ℕ → List Visit → End → Bool → Option (FlowId × Numbers) → Type 0
   PassesEntry node inward time [] end exited carried =
       IsDropped (StopsEntry domain node.0 refused hops (address_at domain flow.exit) size) node end × (exited ≡ false) × (carried ≡ None)

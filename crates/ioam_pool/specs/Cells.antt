@@ -6,12 +6,15 @@ use Rattle.ioam_pool.specs.Entry.{Entry}
 use Rattle.ioam_pool.specs.Order.{meet}
 use Rattle.ioam_pool.specs.declared.cells.Cell.{Cell}
 
+-- a cell of no use: what stands at a place where there is no cell
 abbrev pub blank : Cell
 blank = record { item = record { hops = 0; core = []; extra = [] }; next = None }
 
+-- the cell at a place
 abbrev pub cell_at : List Cell → ℕ → Cell
 cell_at cells i = slice_index_or cells i blank
 
+-- the item in the cell at a place
 abbrev pub entry_at : List Cell → ℕ → Entry
 entry_at cells i = (cell_at cells i).item
 
@@ -100,6 +103,7 @@ abbrev pub next_or : List Cell → Option ℕ → Option ℕ → Option ℕ
 next_or cells head None = head
 next_or cells head (Some i) = (cell_at cells i).next
 
+-- the head of a chain to which a cell was linked: the cell where it went to the front, else as before
 abbrev pub head_then : Option ℕ → Option ℕ → ℕ → Option ℕ
 head_then head None at = Some at
 head_then head (Some b) at = head

@@ -5,9 +5,12 @@ use Rattle.ioam_pool.specs.Cells.{Chained, Parted, entries_from}
 use Rattle.ioam_pool.specs.Chains.{Chains, total, chain_of}
 use Rattle.ioam_pool.specs.declared.cells.Cell.{Cell}
 
+-- the pool that cells and the heads of its chains show
 abbrev pub seen : List Cell → List (Option ℕ) → Chains
 seen cells heads = record { chains = map (entries_from cells) heads; capacity = length cells }
 
+-- what every pool keeps: each cell is on one chain or free, the count is that of the items, each chain is in order, and there
+-- are fewer than 2^31 cells
 pub record IsPool (cells : List Cell) (heads : List (Option ℕ)) (free : Option ℕ) (held : ℕ) : Type 0 where
   pub parted : Parted cells heads free
   pub count : held ≡ total (seen cells heads)

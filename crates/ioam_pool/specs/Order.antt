@@ -17,9 +17,11 @@ extras [] ys = Equal
 extras (x ∷ xs) [] = Equal
 extras (x ∷ xs) (y ∷ ys) = slice_cmp nat_cmp (x ∷ xs) (y ∷ ys)
 
+-- by falling hop values, then by core
 abbrev pub cores : Entry → Entry → Ordering
 cores a b = ordering_then (nat_cmp b.hops a.hops) (slice_cmp nat_cmp a.core b.core)
 
+-- as `order` has it, but that an item without an extra part is equal to each of its hop value and core
 abbrev pub meet : Entry → Entry → Ordering
 meet a b = ordering_then (cores a b) (extras a.extra b.extra)
 
@@ -39,6 +41,7 @@ placed_by Less x y ys more = x ∷ y ∷ ys
 placed_by Equal x y ys more = y ∷ ys
 placed_by Greater x y ys more = y ∷ more
 
+-- the list with one more, in its place among those in order, if none equal to it is there
 abbrev pub placed : {X : Type 0} → (X → X → Ordering) → X → List X → List X
 placed cmp x [] = x ∷ []
 placed cmp x (y ∷ ys) = placed_by (cmp x y) x y ys (placed cmp x ys)

@@ -31,9 +31,11 @@ reason_name IoamOut = codes "ioam-out"
 abbrev pub node_name : Domain → ℕ → List ℕ
 node_name domain place = option_map_or (λ node. node.name) (slice_get (nodes domain) place) []
 
+-- the name of the port at a place of the file, from 0; no octets where there is none
 abbrev pub port_name : Domain → ℕ → List ℕ
 port_name domain place = option_map_or (λ port. port.name) (slice_get (ports domain) place) []
 
+-- the name of the flow at a place of the file, from 0; no octets where there is none
 abbrev pub flow_name : Domain → ℕ → List ℕ
 flow_name domain place = option_map_or (λ flow. flow.name) (slice_get (flows domain) place) []
 

@@ -14,10 +14,12 @@ use Rattle.ioam_report.specs.Flows.{IsSumOf}
 abbrev pub is_at : ℕ → Visit → Bool
 is_at node visit = nat_eq node visit.place.node.0
 
+-- whether a journey ended at a port
 abbrev pub has_left : End → Bool
 has_left (Left port) = true
 has_left (Drop reason node) = false
 
+-- whether it ended by a drop
 abbrev pub is_dropped : End → Bool
 is_dropped (Left port) = false
 is_dropped (Drop reason node) = true

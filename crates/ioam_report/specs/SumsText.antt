@@ -18,10 +18,12 @@ use Rattle.ioam_report.specs.Flows.{is_exited_in, is_direct_in, exit_numbers}
 use Rattle.ioam_report.specs.Sums.{has_left, is_dropped, node_sum}
 use Rattle.ioam_report_lines.specs.TraceText.{line_feed}
 
+-- the line for all arrivals: how many there were, how many left and how many were dropped
 abbrev pub packets_line : ℕ → ℕ → ℕ → List ℕ
 packets_line packets left dropped =
     codes "packets " ++ decimal packets ++ codes " left " ++ decimal left ++ codes " dropped " ++ decimal dropped ++ line_feed
 
+-- the line for a node: how many packets it saw and how many it dropped
 abbrev pub node_line : List ℕ → NodeSum → List ℕ
 node_line name sum = codes "node " ++ name ++ codes " seen " ++ decimal sum.seen ++ codes " dropped " ++ decimal sum.dropped ++ line_feed
 
@@ -44,6 +46,8 @@ abbrev pub is_numbered : Option ℕ → Bool
 is_numbered None = false
 is_numbered (Some kind) = asks kind 0 || asks kind 1
 
+-- the line for a flow: how many packets were enclosed and came out, how many carried direct export, and the tally where they
+-- are numbered
 abbrev pub flow_line : Flow → ℕ → ℕ → ℕ → Tally → List ℕ
 flow_line flow enclosed exited direct tally = codes "flow " ++ flow.name ++ codes " enclosed " ++ decimal enclosed
     ++ codes " exited " ++ decimal exited ++ codes " direct " ++ decimal direct

@@ -12,6 +12,7 @@ use Rattle.ioam_trace.specs.declared.fault.TraceFault.TheVariants.{Short, Space,
 use Rattle.ioam_report_lines.specs.Digits.{digits_of}
 use Rattle.ioam_report_lines.specs.FieldsText.{element_text}
 
+-- the octet that ends a line
 abbrev pub line_feed : List ℕ
 line_feed = 10 ∷ []
 
@@ -37,6 +38,7 @@ fault_text (Space remaining) = codes "space " ++ decimal remaining
 fault_text (NodeLen found wanted) = codes "node-len " ++ decimal found ++ codes " " ++ decimal wanted
 fault_text (Element at) = codes "element " ++ decimal at
 
+-- the line for octets that are no trace
 abbrev pub bad_line : TraceFault → List ℕ
 bad_line fault = codes "  trace bad " ++ fault_text fault ++ line_feed
 

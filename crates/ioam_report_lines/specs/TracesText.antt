@@ -62,5 +62,6 @@ traces_from p (head ∷ heads) = if is_nested head then [] else traces_in p head
 unfoldable pub traces_of : List ℕ → List Item
 traces_of p = traces_from p (heads_from (length p) p (start p))
 
+-- the lines of all traces of a packet, as they are printed
 unfoldable pub traces_text : List ℕ → List ℕ
 traces_text p = traces_lines (traces_of p)

@@ -68,21 +68,25 @@ bad_text value = codes "bad " ++ decimal value ++ line_feed
 
 -- ---- what is said of the octets behind the Option-Type, one statement for each kind of option
 
+-- what is said of a pre-allocated trace: its header and its elements, or that it is bad
 abbrev pub TraceSays : List ℕ → List ℕ → Type 0
 TraceSays octets said =
     ((head : TraceHead) × (elements : List (List ℕ)) × TraceOf octets head elements × (said ≡ codes "trace " ++ trace_text head elements))
     ⊎ ((fault : TraceFault) × HasFault (remaining_of octets) octets fault × (said ≡ bad_text 0))
 
+-- what is said of an incremental trace: its header and its elements, or that it is bad
 abbrev pub IncrementalSays : List ℕ → List ℕ → Type 0
 IncrementalSays octets said =
     ((head : TraceHead) × (elements : List (List ℕ)) × IncrementalOf octets head elements × (said ≡ codes "incremental " ++ trace_text head elements))
     ⊎ ((fault : TraceFault) × HasFault 0 octets fault × (said ≡ bad_text 1))
 
+-- what is said of edge-to-edge data: its fields, or that it is bad
 abbrev pub EdgeSays : List ℕ → List ℕ → Type 0
 EdgeSays octets said =
     ((edge : Edge) × IsEdge edge × e2e.Reads octets (Ok edge) × (said ≡ edge_text edge))
     ⊎ ((fault : EdgeFault) × e2e.Reads octets (Err fault) × (said ≡ bad_text 3))
 
+-- what is said of direct export data: its fields, or that it is bad
 abbrev pub DirectSays : List ℕ → List ℕ → Type 0
 DirectSays octets said =
     ((direct : Direct) × IsDirect direct × dex.Reads octets (Ok direct) × (said ≡ direct_text direct))

@@ -21,6 +21,7 @@ use Rattle.ioam_topo_entries.specs.declared.words.Table.TheVariants as table
 use Rattle.ioam_run_answer.specs.declared.outcome.Outcome.{Outcome}
 use Rattle.ioam_run_answer.specs.declared.outcome.Outcome.TheVariants.{Done, Usage, Names, Domain, Readings, Capture, Exports, Packets, Records, ReadFault, WriteFault, NoMemory, Ipfix, Part}
 
+-- the exit status of each answer
 abbrev pub status_of : Outcome → ℕ
 status_of Done = 0
 status_of Usage = 1
@@ -48,6 +49,7 @@ table_text table.DataTable = codes "data"
 table_text table.FlowTable = codes "flow"
 table_text table.ExtraTable = codes "extra"
 
+-- the word for the key of a domain file that is wrong
 abbrev pub field_text : Field → List ℕ
 field_text field.FormatKey = codes "format"
 field_text field.PacketsKey = codes "packets"
@@ -108,6 +110,7 @@ is_flow_key field.LimitKey = true
 is_flow_key field.FlowKey = true
 is_flow_key _ = false
 
+-- the word for why it is wrong
 abbrev pub why_text : Why → List ℕ
 why_text why.Text = codes "text"
 why_text why.Long = codes "long"
@@ -118,6 +121,7 @@ why_text why.Unknown = codes "unknown"
 why_text why.Twice = codes "twice"
 why_text why.TooMany = codes "too-many"
 
+-- the word for what is wrong with a line of readings
 abbrev pub read_why_text : ReadWhy → List ℕ
 read_why_text read.Long = codes "long"
 read_why_text read.Words = codes "words"
@@ -125,13 +129,16 @@ read_why_text read.Node = codes "node"
 read_why_text read.Number = codes "number"
 read_why_text read.Order = codes "order"
 
+-- the line for a fault of a domain file: its table, its place, its key and why
 abbrev pub domain_text : DomainFault → List ℕ
 domain_text fault = codes "domain " ++ table_text fault.table ++ codes " " ++ decimal fault.place ++ codes " " ++ field_text fault.field
     ++ codes " " ++ why_text fault.why
 
+-- the line for a fault of readings: the line's number and why
 abbrev pub readings_text : ReadingsFault → List ℕ
 readings_text fault = codes "readings " ++ decimal fault.line ++ codes " " ++ read_why_text fault.why
 
+-- the words for a fault of a capture, with the number that was found
 abbrev pub fault_text : CapFault → List ℕ
 fault_text (fault.Magic found) = codes "magic " ++ decimal found
 fault_text (fault.Blocks limit) = codes "blocks " ++ decimal limit
@@ -147,12 +154,14 @@ fault_text (fault.RecordLong found) = codes "long " ++ decimal found
 fault_text (fault.Time found) = codes "time " ++ decimal found
 fault_text (fault.Short have) = codes "short " ++ decimal have
 
+-- the words for a fault of an export record, with the number that was found
 abbrev pub export_text : ExportFault → List ℕ
 export_text (export.Version found) = codes "version " ++ decimal found
 export_text (export.Length found) = codes "length " ++ decimal found
 export_text (export.Element at) = codes "element " ++ decimal at
 export_text (export.Short have) = codes "short " ++ decimal have
 
+-- the words for a fault of a message, with the number that was found
 abbrev pub ipfix_text : IpfixFault → List ℕ
 ipfix_text (ipfix.Version found) = codes "version " ++ decimal found
 ipfix_text (ipfix.Length found) = codes "length " ++ decimal found
@@ -161,6 +170,7 @@ ipfix_text (ipfix.Template found) = codes "template " ++ decimal found
 ipfix_text (ipfix.Field at) = codes "field " ++ decimal at
 ipfix_text (ipfix.Short have) = codes "short " ++ decimal have
 
+-- the words for a fault of a part
 abbrev pub part_text : PartFault → List ℕ
 part_text part.Mark = codes "mark"
 part_text (part.Count found) = codes "count " ++ decimal found
@@ -169,6 +179,7 @@ part_text part.Order = codes "order"
 part_text (part.Short have) = codes "short " ++ decimal have
 part_text part.Rest = codes "rest"
 
+-- the line of each answer, as it is printed
 abbrev pub line_text : Outcome → List ℕ
 line_text Done = codes "done"
 line_text Usage = codes "usage"

@@ -10,5 +10,6 @@ pub record Desks : Type 0 where
   pub old : Writing
   pub new : Writing
 
+-- the desk around a run, of these states of its inputs and outputs
 abbrev pub around : Bool → Reading → Reading → Writing → Writing → Desks
 around tells old_in new_in old new = record { tells = tells; old_in = old_in; new_in = new_in; old = old; new = new }

@@ -38,6 +38,7 @@ verdict_by counts taken (end.Bad at fault) last = None
 abbrev pub NoneBehind : List Fate → List Taken → List ℕ → Type 0
 NoneBehind fates rest behind = behind ≡ []
 
+-- what stands behind the sums: the verdict where both captures were read whole, else nothing
 abbrev pub BehindBy : End → End → List Fate → List Taken → List ℕ → Type 0
 BehindBy end.Whole end.Whole fates rest behind = behind ≡ verdict_line (verdict_of rest (sums_of fates).sent)
 BehindBy end.Whole end.Limit fates rest behind = behind ≡ []

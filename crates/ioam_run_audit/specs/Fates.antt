@@ -11,10 +11,12 @@ number_behind number (Sent m) = number + 1
 number_behind number Gone = number
 number_behind number (Skipped why) = number
 
+-- the number of the next thing of the second list, behind things of the first that became so
 abbrev pub numbers_behind : ℕ → List Fate → ℕ
 numbers_behind number [] = number
 numbers_behind number (fate ∷ fates) = numbers_behind (number_behind number fate) fates
 
+-- what is left of the second list behind a thing of the first that became so
 abbrev pub left_behind : {A : Type 0} → Fate → List A → List A
 left_behind (Sent m) ys = drop 1 ys
 left_behind Gone ys = ys
@@ -26,6 +28,7 @@ module _ {B A : Type 0} (Skips : B → Reason → Type 0) (Fits : B → Type 0) 
   IsNext b [] = ⊥
   IsNext b (a ∷ ys) = Becomes b a
 
+  -- the next thing of the second list can't have become of this one, or there is none
   abbrev pub IsNotNext : B → List A → Type 0
   IsNotNext b [] = ⊤
   IsNotNext b (a ∷ ys) = Becomes b a → ⊥

@@ -39,6 +39,7 @@ pub record At (tells : Bool) (content : Option (List ℕ)) (inputs : desk.Readin
   pub few : length taken ≤ 16777216
   pub held_back : length (pending reader) < most_held reader + 65536
 
+-- so much was handed out to this lane's reader, and these records were taken of it
 abbrev pub AtLane : Bool → Option (List ℕ) → desk.Reading → Lane → List Taken → Type 0
 AtLane tells content inputs lane taken = At tells content inputs lane.feed.slot lane.feed.reader lane.taken taken
 
@@ -64,6 +65,7 @@ abbrev pub Comes : Bool → Option (List ℕ) → desk.Reading → Lane → List
 Comes tells content inputs lane taken (next.Record why) = (t : Taken) × AtLane tells content inputs lane (taken ++ t ∷ []) × IsHeld t lane.packet.items why
 Comes tells content inputs lane taken (next.Over how) = IsOver tells content inputs lane.feed.slot lane.taken how taken
 
+-- whatever records were taken of the lane before, this comes next of it
 abbrev pub NextOf : Bool → desk.Reading → Lane → desk.Reading → Lane → Next → Type 0
 NextOf tells old before new after shown = (content : Option (List ℕ)) (taken : List Taken) → AtLane tells content old before taken
     → Comes tells content new after taken shown
@@ -82,6 +84,8 @@ pub record ReadsAlone (slot : ℕ) (old new : desk.Reading) : Type 0 where
 
 -- what a step of the reader did: nothing, since more octets are needed; or it gave the next record; or none is there
 module _ (old new : Reading) (before after : ℕ) (held : List ℕ) where
+  -- what one step did: a record more was taken, and is held where it gives a packet; or more octets are needed; or the
+  -- capture is over, by its fault or by its limit
   abbrev pub Steps : Option Next → Type 0
   Steps None = (after ≡ before) × Waits new × HoldsFew new × (length (pending new) ≤ length (pending old))
       × ((octets : List ℕ) (taken : List Taken) → Stands old octets taken → Stands new octets taken)

@@ -9,9 +9,11 @@ use Rattle.ioam_run_audit.specs.declared.fate.Fate.TheVariants.{Sent, Gone, Skip
 
 -- ---- a line for each packet of BEFORE, by its number
 
+-- the line of a packet of BEFORE that was sent on, as the packet of AFTER with the second number
 abbrev pub sent_line : ℕ → ℕ → List ℕ
 sent_line number sent = decimal number ++ codes " sent " ++ decimal sent ++ codes "\n"
 
+-- the line of a packet of BEFORE that is gone
 abbrev pub gone_line : ℕ → List ℕ
 gone_line number = decimal number ++ codes " gone\n"
 
@@ -32,31 +34,37 @@ lines_of number (fate ∷ fates) = line_of number fate ++ lines_of (number + 1) 
 
 -- ---- how many there are of each
 
+-- how many packets were sent on, are gone and were skipped
 pub record Sums : Type 0 where
   pub sent : ℕ
   pub gone : ℕ
   pub skipped : ℕ
 
+-- the line of these sums, the number of all packets first
 abbrev pub sums_line : Sums → List ℕ
 sums_line sums = codes "packets " ++ decimal (sums.sent + sums.gone + sums.skipped) ++ codes " sent " ++ decimal sums.sent
     ++ codes " gone " ++ decimal sums.gone ++ codes " skipped " ++ decimal sums.skipped ++ codes "\n"
 
+-- the sums with one packet more, of which this became
 abbrev pub with_fate : Fate → Sums → Sums
 with_fate (Sent m) sums = record { sent = sums.sent + 1; gone = sums.gone; skipped = sums.skipped }
 with_fate Gone sums = record { sent = sums.sent; gone = sums.gone + 1; skipped = sums.skipped }
 with_fate (Skipped why) sums = record { sent = sums.sent; gone = sums.gone; skipped = sums.skipped + 1 }
 
+-- the sums of what became of packets
 abbrev pub sums_of : List Fate → Sums
 sums_of [] = record { sent = 0; gone = 0; skipped = 0 }
 sums_of (fate ∷ fates) = with_fate fate (sums_of fates)
 
 -- ---- whether each packet of AFTER is one of BEFORE
 
+-- whether each packet of AFTER is one of BEFORE that the node can have sent on
 pub data Verdict : Type 0 where
   Yes : Verdict
   -- the first packet of AFTER that is left has this number
   No : ℕ → Verdict
 
+-- the line of the verdict
 abbrev pub verdict_line : Verdict → List ℕ
 verdict_line Yes = codes "verdict yes\n"
 verdict_line (No number) = codes "verdict no " ++ decimal number ++ codes "\n"
@@ -68,6 +76,8 @@ verdict_of (t ∷ rest) sent = No (sent + 1)
 
 -- ---- what becomes of the packets of BEFORE, by those of AFTER
 
+-- what becomes of the packets of BEFORE by those of AFTER, numbered from 1, where the node can have sent them on so, and
+-- which of AFTER are left
 abbrev pub BecomeOf : Place → List Taken → List Taken → List Fate → List Taken → Type 0
 BecomeOf place before after fates rest = AreFates HasReason IsFit (CameFrom place) 1 before after fates rest
 

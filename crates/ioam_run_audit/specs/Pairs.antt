@@ -25,6 +25,7 @@ use Rattle.ioam_run_audit.specs.declared.seat.Seat.{Seat}
 abbrev pub place_of : Seat → Place
 place_of seat = record { domain = seat.domain.now; node = seat.node; link = seat.link }
 
+-- the sums that a `Counts` is seen as
 abbrev pub sums_as : Counts → Sums
 sums_as counts = record { sent = counts.sent; gone = counts.gone; skipped = counts.skipped }
 
@@ -137,6 +138,7 @@ module _ (tells : Bool) (start : Start) (place : Place) (inputs : desk.Reading) 
 abbrev pub IsPair : Bool → desk.Reading → Pair → Type 0
 IsPair tells inputs pair = (start : Start) × (place : Place) × (fates : List Fate) × Pairs tells start place inputs pair fates
 
+-- some packets were taken of each, and of one more of BEFORE it isn't said yet what becomes of it, or why it gives no packet
 abbrev pub IsDue : Bool → desk.Reading → Pair → Option Reason → Type 0
 IsDue tells inputs pair why = (start : Start) × (place : Place) × (fates : List Fate) × Due tells start place inputs pair fates why
 

@@ -28,6 +28,7 @@ use Rattle.ioam_topo_file.specs.File.{IsDomainOf, HasFault}
 
 -- ---- what its words name
 
+-- the words of the command, by what they name: files, and the names of the node and of the link by which packets came to it
 pub record AuditNames : Type 0 where
   pub domain : List ℕ
   pub node : List ℕ
@@ -128,6 +129,7 @@ module _ (files : AuditNames) where
   HaveDiffered _ = ⊥
 
   module _ (desk : Writing) where
+    -- DOMAIN holds this domain
     abbrev pub HasDomain : Domain → Type 0
     HasDomain domain = IsSomeAnd (holds desk files.domain) (λ octets. IsDomainOf octets domain)
 
@@ -135,6 +137,7 @@ module _ (files : AuditNames) where
     abbrev pub BeforeIs : (List ℕ → Type 0) → Type 0
     BeforeIs IsSo = IsSomeAnd (holds desk files.before) IsSo
 
+    -- AFTER holds octets that are so
     abbrev pub AfterIs : (List ℕ → Type 0) → Type 0
     AfterIs IsSo = IsSomeAnd (holds desk files.after) IsSo
 
@@ -144,6 +147,7 @@ module _ (files : AuditNames) where
       pub at : IsAt place
       pub apart : AreApart (audit_files files)
 
+    -- the run is ready for some node and link
     abbrev pub AreReady : Type 0
     AreReady = (place : Place) × IsReady place
 
@@ -193,6 +197,7 @@ module _ (files : AuditNames) where
     abbrev pub Holds : List ℕ → Type 0
     Holds text = holds new files.report ≡ Some text
 
+    -- REPORT, where it was opened, holds a front of the text
     abbrev pub HoldsPart : List ℕ → Type 0
     HoldsPart text = old.side.slots < new.side.slots → IsSomeAnd (holds new files.report) (λ part. IsFront part text)
 
@@ -269,6 +274,7 @@ module _ (tells : Bool) (files : AuditNames) (old_in new_in : Reading) (old new 
 -- ---- the promise
 
 module _ (desks : Desks) (files : AuditNames) where
+  -- what `audit` promises of its answer
   pub record Keeps (answer : Outcome) : Type 0 where
     pub owes : Owes desks.tells files desks.old_in desks.new_in desks.old desks.new answer
     -- what is asked for is answered, unless a call of the desk failed or no memory could be had

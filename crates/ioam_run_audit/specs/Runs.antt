@@ -25,6 +25,8 @@ use Rattle.ioam_run_audit.specs.declared.pair.Pair.{Pair}
 -- Some records of BEFORE and some of AFTER, 16,777,216 of each at most, and what becomes of the packets of the first by those
 -- of the second. What these records are of what the names hold is said where the desk tells.
 module _ (tells : Bool) (start : Start) (place : Place) (IsOfBefore IsOfAfter : List Taken → List ℕ → Type 0) where
+  -- these fates are of records of BEFORE by records of AFTER, 16,777,216 of each at most, that the names hold, and these are
+  -- left of AFTER
   pub record Matched (fates : List Fate) (rest : List Taken) : Type 0 where
     pub xs : List Taken
     pub ys : List Taken
@@ -36,6 +38,7 @@ module _ (tells : Bool) (start : Start) (place : Place) (IsOfBefore IsOfAfter : 
 
 -- nothing stands behind the sums; or, where both were read whole, the verdict
 module _ (start : Start) (place : Place) where
+  -- what stands behind the sums in the text of which REPORT holds a front: nothing, or the verdict where both were read whole
   abbrev pub IsBehind : List Fate → List Taken → List ℕ → Type 0
   IsBehind fates rest behind = (behind ≡ [])
       ⊎ (Matched true start place (EndsSo Whole) (EndsSo Whole) fates rest × (behind ≡ verdict_line (verdict_of rest (sums_of fates).sent)))
@@ -50,6 +53,7 @@ module _ (start : Start) (place : Place) where
     pub held : HoldAllFronts outputs (start.report ∷ []) (report_of fates behind ∷ [])
 
 module _ (tells : Bool) (start : Start) (place : Place) where
+  -- where the desk tells, REPORT holds a front of such a text
   abbrev pub Sticks : Writing → Type 0
   Sticks outputs = IsTrue tells → Fronts start place outputs
 

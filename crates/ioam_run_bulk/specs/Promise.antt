@@ -61,6 +61,7 @@ HasCause old new _ = ⊥
 
 -- of a load of this seed and count, whose sums go to this file
 module _ (desks : Desks) (seed count : ℕ) (report : List ℕ) where
+  -- what `bulk` promises of its answer
   pub record Keeps (answer : Outcome) : Type 0 where
     pub cause : HasCause desks.old desks.new answer
     -- the sums follow from the journeys alone, so they hold whether the gate opens or not

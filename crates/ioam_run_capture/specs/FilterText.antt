@@ -12,6 +12,7 @@ kept_of (t ∷ ts) [] = []
 kept_of (t ∷ ts) (Keeps packet ∷ vs) = record { time = t.entry.time; octets = packet } ∷ kept_of ts vs
 kept_of (t ∷ ts) (Drops reason ∷ vs) = kept_of ts vs
 
+-- the line of a packet: that it is kept, or the reason why it is dropped
 abbrev pub verdict_line : ℕ → Verdict → List ℕ
 verdict_line number (Keeps packet) = decimal number ++ codes " kept\n"
 verdict_line number (Drops reason) = decimal number ++ codes " drop " ++ reason_name reason ++ codes "\n"
@@ -21,20 +22,24 @@ abbrev pub verdict_lines : ℕ → List Verdict → List ℕ
 verdict_lines number [] = []
 verdict_lines number (v ∷ vs) = verdict_line number v ++ verdict_lines (number + 1) vs
 
+-- how many of these are kept
 abbrev pub count_kept : List Verdict → ℕ
 count_kept [] = 0
 count_kept (Keeps packet ∷ vs) = 1 + count_kept vs
 count_kept (Drops reason ∷ vs) = count_kept vs
 
+-- how many of these are dropped
 abbrev pub count_dropped : List Verdict → ℕ
 count_dropped [] = 0
 count_dropped (Keeps packet ∷ vs) = count_dropped vs
 count_dropped (Drops reason ∷ vs) = 1 + count_dropped vs
 
+-- the last line: how many packets there were, how many were kept and how many dropped
 abbrev pub sums_line : ℕ → ℕ → List ℕ
 sums_line kept dropped = codes "packets " ++ decimal (kept + dropped) ++ codes " kept " ++ decimal kept
     ++ codes " dropped " ++ decimal dropped ++ codes "\n"
 
+-- the report: a line for each packet, numbered from 1, and the sums
 abbrev pub report_text : List Verdict → List ℕ
 report_text vs = verdict_lines 1 vs ++ sums_line (count_kept vs) (count_dropped vs)
 

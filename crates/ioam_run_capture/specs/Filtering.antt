@@ -53,6 +53,7 @@ no_others : (others : List Verdict) → AreVerdicts [] others → others ≡ []
 no_others [] are = refl
 no_others (v ∷ vs) are = absurd are
 
+-- where no record was taken, the texts are those of no records
 pub Gathers-begins : (gathered : Filtering) → IsFresh gathered → Gathers [] heads gathered
 Gathers-begins gathered fresh = record {
   verdicts = [];
@@ -64,6 +65,7 @@ Gathers-begins gathered fresh = record {
   dropped_is = fresh.1;
 }
 
+-- where no record was taken, none is counted
 pub IsFresh-none : (gathered : Filtering) → IsFresh gathered → taken gathered ≡ 0
 IsFresh-none gathered fresh = ap (λ (kept : ℕ). kept + gathered.dropped) fresh.0 ∙ ap (λ (dropped : ℕ). 0 + dropped) fresh.1
 
@@ -83,11 +85,14 @@ Gathers-ends records (out ∷ report ∷ []) gathered gathers = record {
 }
 Gathers-ends records (out ∷ report ∷ more ∷ texts) gathered gathers = absurd gathers
 
+-- two texts stand behind the last record, one for each output
 pub sums-sized : (gathered : Filtering) → length (sums gathered) ≡ 2
 sums-sized gathered = refl
 
+-- these are the texts of no records
 pub empty-texts : FilterTexts [] empty
 empty-texts = record { verdicts = []; are = tt; only = no_others; out_is = refl; report_is = refl }
 
+-- and they are two
 pub empty-sized : length empty ≡ 2
 empty-sized = refl

@@ -4,6 +4,7 @@ use Rattle.ioam_run_capture.specs.Verdict.{Verdict, Keeps, Drops}
 use Rattle.ioam_run_capture.specs.declared.judge.Judgement.{Judgement}
 use Rattle.ioam_run_capture.specs.declared.judge.Judgement.TheVariants.{Kept, Dropped}
 
+-- the verdict that a judgement is
 abbrev pub verdict_of : Judgement → Verdict
 verdict_of (Kept packet) = Keeps packet.now
 verdict_of (Dropped reason) = Drops reason

@@ -9,9 +9,11 @@ use Rattle.ioam_run_stream.specs.Frame.{taken_framing}
 use Rattle.ioam_node.specs.declared.reason.Reason.{Reason}
 use Rattle.ioam_node.specs.declared.reason.Reason.TheVariants as reason
 
+-- the line of a packet that is passed over, and why
 abbrev pub skip_line : ℕ → Reason → List ℕ
 skip_line number reason = decimal number ++ codes " skip " ++ reason_name reason ++ codes "\n"
 
+-- the last line: how many packets there were
 abbrev pub packets_line : ℕ → List ℕ
 packets_line count = codes "packets " ++ decimal count ++ codes "\n"
 
@@ -21,6 +23,7 @@ module _ (Tells : List ℕ → List ℕ → Type 0) where
   PacketLines number packet text = ((IsSound packet → ⊥) × (text ≡ skip_line number reason.Chain))
       ⊎ (IsSound packet × ((told : List ℕ) × Tells packet told × (text ≡ decimal number ++ told)))
 
+  -- the lines of a frame: those of its packet, or the reason why it has none
   abbrev pub FramingLines : ℕ → Framing → List ℕ → Type 0
   FramingLines number (Holds packet) text = PacketLines number packet text
   FramingLines number NoIpv6 text = text ≡ skip_line number reason.NotIpv6

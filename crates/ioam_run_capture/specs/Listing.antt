@@ -27,12 +27,15 @@ listed gathered = gathered.packets
 abbrev pub IsFresh : {L : Type 0} → Listing L → Type 0
 IsFresh gathered = gathered.packets ≡ 0
 
+-- where no record was taken, none is counted
 pub IsFresh-none : {L : Type 0} → (gathered : Listing L) → IsFresh gathered → listed gathered ≡ 0
 IsFresh-none gathered fresh = fresh
 
+-- the text of no records is one
 pub empty-sized : length empty ≡ 1
 empty-sized = refl
 
+-- one text stands behind the last record
 pub sums-sized : {L : Type 0} → (gathered : Listing L) → length (sums gathered) ≡ 1
 sums-sized gathered = refl
 

@@ -5,6 +5,7 @@ use Rattle.ioam_report_lines.specs.TracesText.{TracesText}
 use Rattle.ioam_report_lines.proofs.TracesLaws.{TracesText-unique}
 use Rattle.ioam_run_capture.specs.ListText.{ListTexts}
 
+-- the report of `paths` over these records: the traces of each packet
 abbrev pub PathsTexts : List Taken → List (List ℕ) → Type 0
 PathsTexts taken texts = ListTexts TracesText taken texts
 

@@ -18,6 +18,7 @@ use Rattle.ioam_run_stream.specs.Promise.{CaptureNames, Keeps}
 abbrev pub PathsKeeps : Desks → CaptureNames → Outcome → Type 0
 PathsKeeps = Keeps PathsTexts
 
+-- what `show` promises of its answer: REPORT lists the IOAM options of each packet
 abbrev pub ShowKeeps : Desks → CaptureNames → Outcome → Type 0
 ShowKeeps = Keeps ShowTexts
 

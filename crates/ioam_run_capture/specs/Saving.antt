@@ -27,6 +27,7 @@ Saves records (out ∷ more ∷ texts) gathered = ⊥
 abbrev pub heads : List (List ℕ)
 heads = capture_text [] ∷ []
 
+-- nothing is added behind the last record
 abbrev pub sums : Saving → List (List ℕ)
 sums gathered = [] ∷ []
 
@@ -40,9 +41,11 @@ IsFresh gathered = gathered.packets ≡ 0
 
 -- The laws from here on stand among the definitions, since a ghost member of an `impl` cites specs/ alone.
 
+-- where no record was taken, none is counted
 pub IsFresh-none : (gathered : Saving) → IsFresh gathered → saved gathered ≡ 0
 IsFresh-none gathered fresh = fresh
 
+-- where no record was taken, the capture is that of no records
 pub Saves-begins : (gathered : Saving) → IsFresh gathered → Saves [] heads gathered
 Saves-begins gathered fresh = record { out_is = refl; fits = All-nil IsSendable; count = fresh }
 
@@ -65,11 +68,14 @@ Saves-ends records (out ∷ []) gathered saves =
     record { out_is = is; fits = saves.fits; reads = saved-reads records (out ++ []) is saves.fits }
 Saves-ends records (out ∷ more ∷ texts) gathered saves = absurd saves
 
+-- the head of a capture alone is the text of no records
 pub empty-texts : SaveTexts [] heads
 empty-texts = record { out_is = refl; fits = All-nil IsSendable; reads = saved-reads [] (capture_text []) refl (All-nil IsSendable) }
 
+-- and it is one text
 pub heads-sized : length heads ≡ 1
 heads-sized = refl
 
+-- one text stands behind the last record
 pub sums-sized : (gathered : Saving) → length (sums gathered) ≡ 1
 sums-sized gathered = refl

@@ -5,6 +5,7 @@ use Rattle.ioam_report_options.specs.OptionsText.{CountedText}
 use Rattle.ioam_report_options.proofs.UniqueLaws.{CountedText-unique}
 use Rattle.ioam_run_capture.specs.ListText.{ListTexts}
 
+-- the report of `show` over these records: the IOAM options of each packet
 abbrev pub ShowTexts : List Taken → List (List ℕ) → Type 0
 ShowTexts taken texts = ListTexts CountedText taken texts
 

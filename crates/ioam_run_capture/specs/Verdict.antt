@@ -9,6 +9,7 @@ use Rattle.ioam_run_stream.specs.Frame.{taken_framing}
 use Rattle.ioam_node.specs.declared.reason.Reason.{Reason}
 use Rattle.ioam_node.specs.declared.reason.Reason.TheVariants as reason
 
+-- the packet that is kept, or the reason why the frame is dropped
 pub data Verdict : Type 0 where
   Keeps : (packet : List ℕ) → Verdict
   Drops : Reason → Verdict
@@ -28,6 +29,7 @@ PacketVerdict packet (Drops reason.EncapLimit) = ⊥
 PacketVerdict packet (Drops reason.TooBig) = ⊥
 PacketVerdict packet (Drops reason.IoamOut) = ⊥
 
+-- the verdict on a frame: that on its packet, or the reason why it has none
 abbrev pub FramingVerdict : Framing → Verdict → Type 0
 FramingVerdict (Holds packet) verdict = PacketVerdict packet verdict
 FramingVerdict NoIpv6 verdict = verdict ≡ Drops reason.NotIpv6

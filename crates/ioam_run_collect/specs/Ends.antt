@@ -36,6 +36,7 @@ is_out halt.ReadFault = false
 
 -- the cause of an answer where the names differ
 module _ (tells : Bool) (content : Option (List ℕ)) (old_in new_in : Reading) (old new : Writing) where
+  -- the cause of each answer over opened files, by what EXPORTS holds and by the counts of faults
   abbrev pub FileCause : Outcome → Type 0
   FileCause outcome.ReadFault = Rose old_in.side.faults new_in.side.faults
   FileCause outcome.WriteFault = Rose old.side.faults new.side.faults
@@ -53,9 +54,11 @@ pub record HoldsFront (new : Writing) (report : List ℕ) (octets : List ℕ) : 
   pub held : IsSomeAnd (holds new report) (λ part. IsFront part (records_text records))
 
 module _ (tells : Bool) (start : Start) (slot : ℕ) (old_in new_in : Reading) (old new : Writing) where
+  -- where the desk tells, the report is that of records that are so of what EXPORTS holds
   abbrev pub Holds : (List Record → List ℕ → Type 0) → Type 0
   Holds Are = IsTrue tells → IsSomeAnd start.content (HoldsReport Are new start.report)
 
+  -- where the desk tells, the report is a front of such a text
   abbrev pub Sticks : Type 0
   Sticks = IsTrue tells → IsSomeAnd start.content (HoldsFront new start.report)
 

@@ -18,6 +18,7 @@ use Rattle.ioam_run_answer.specs.declared.outcome.Outcome.TheVariants as outcome
 
 -- ---- its files
 
+-- the files that the words of the command name
 pub record CollectNames : Type 0 where
   pub exports : List ℕ
   pub report : List ℕ
@@ -53,6 +54,7 @@ pub record IsLong (limit : ℕ) (octets : List ℕ) : Type 0 where
 -- What the names and the files ask for, where nothing fails: the first of the refusals in their order whose
 -- condition holds, or Done. What EXPORTS holds is spoken of where the desk tells.
 module _ (tells : Bool) (content : Option (List ℕ)) (exports report : List ℕ) where
+  -- the answer that the names and what EXPORTS holds ask for, where nothing fails
   abbrev pub Asked : Outcome → Type 0
   Asked (outcome.Names name) = (exports ≡ report) × (name ≡ report)
   Asked (outcome.Exports at fault) = (exports ≢ report) × (IsTrue tells → IsSomeAnd content (IsExports (Faulty at fault)))
@@ -62,6 +64,7 @@ module _ (tells : Bool) (content : Option (List ℕ)) (exports report : List ℕ
 
   -- the cause of each answer; want of memory alone has none
   module _ (old_in new_in : Reading) (old new : Writing) where
+    -- the cause of an answer: a count of faults that rose, or that the answer is asked for; want of memory alone needs none
     abbrev pub HasCause : Outcome → Type 0
     HasCause outcome.ReadFault = Rose old_in.side.faults new_in.side.faults
     HasCause outcome.WriteFault = Rose old.side.faults new.side.faults
@@ -92,6 +95,8 @@ pub record HoldsPart (old new : Writing) (report : List ℕ) (octets : List ℕ)
 -- of one too many, or of those that are whole in what was handed out of EXPORTS; or nothing was opened for writing;
 -- or it holds a front of its text.
 module _ (content : Option (List ℕ)) (report : List ℕ) (old_in new_in : Reading) (old new : Writing) where
+  -- what the report holds, by the answer: the text of all records, of those in front of the fault or limit, or of those that
+  -- had been handed out whole; or a front of it, or nothing was opened
   abbrev pub Leaves : Outcome → Type 0
   Leaves outcome.Done = IsSomeAnd content (HoldsReport (EndsSo Whole) new report)
   Leaves (outcome.Exports at fault) = IsSomeAnd content (HoldsReport (EndsSo (Faulty at fault)) new report)
@@ -111,6 +116,7 @@ module _ (desks : Desks) (files : CollectNames) where
   abbrev pub exported : Option (List ℕ)
   exported = holds desks.old files.exports
 
+  -- what `collect` promises of its answer
   pub record Keeps (answer : Outcome) : Type 0 where
     pub cause : HasCause desks.tells exported files.exports files.report desks.old_in desks.new_in desks.old desks.new answer
     pub leaves : IsTrue desks.tells → Leaves exported files.report desks.old_in desks.new_in desks.old desks.new answer

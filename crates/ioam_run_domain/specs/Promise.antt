@@ -42,6 +42,7 @@ pub record RunNames : Type 0 where
 abbrev pub run_names : List (List ℕ) → RunNames
 run_names words = record { domain = name_at words 1; readings = name_at words 2; report = name_at words 4; exports = name_at words 5 }
 
+-- DOMAIN, READINGS, REPORT and EXPORTS, in the order of the words
 abbrev pub word_files : RunNames → List (List ℕ)
 word_files files = files.domain ∷ files.readings ∷ files.report ∷ files.exports ∷ []
 
@@ -257,6 +258,7 @@ module _ (tells : Bool) (files : RunNames) (old_in new_in : Reading) (old new : 
 
 -- where the gate of the workers always opens or may stay shut
 module _ (opens : Bool) (desks : Desks) (files : RunNames) where
+  -- what `run` promises of its answer
   pub record Keeps (answer : Outcome) : Type 0 where
     -- a fault comes only where its count rose, told or not
     pub read_fault : answer ≡ outcome.ReadFault → Rose desks.old_in.side.faults desks.new_in.side.faults

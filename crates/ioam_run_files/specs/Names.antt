@@ -26,6 +26,7 @@ abbrev pub ports_from : ℕ → List Port → List PortId
 ports_from place [] = []
 ports_from place (port ∷ ports) = port_with place port.input ++ ports_from (suc place) ports
 
+-- the ports that have a capture of arrivals, in file order
 abbrev pub input_ports : List Port → List PortId
 input_ports ports = ports_from 0 ports
 
@@ -50,6 +51,7 @@ output_names ports links report exports = map (λ port. port.output) ports ++ (t
 abbrev pub output_at : List Port → ℕ → List ℕ
 output_at ports place = option_map_or (λ port. port.output) (slice_get ports place) []
 
+-- the file of the tap of the link at a place
 abbrev pub tap_name_at : List Link → ℕ → List ℕ
 tap_name_at links place = option_map_or (λ link. option_map_or (λ name. name) link.tap []) (slice_get links place) []
 

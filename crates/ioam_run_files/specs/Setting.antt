@@ -32,6 +32,7 @@ module _ (desk : Writing) (domain_file readings_file : List ℕ) where
 
   -- why there is no setting; want of memory alone is free
   module _ (tells : Bool) (old new : Reading) where
+    -- why a run isn't set: a fault of the domain file, one of the readings behind a domain, a failed read, or want of memory
     abbrev pub Refuses : Refusal → Type 0
     Refuses (refusal.Domain fault) = IsTrue tells → HasDomainFault fault
     Refuses (refusal.Readings fault) = IsTrue tells → HasReadingsFault fault

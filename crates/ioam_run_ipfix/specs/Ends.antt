@@ -11,6 +11,7 @@ use Rattle.ioam_run_ipfix.specs.Exports as exports
 use Rattle.ioam_run_ipfix.specs.Messages as messages
 
 module _ (tells : Bool) (slot : ℕ) (old_in new_in : Reading) (old new : Writing) (Holds : (List Record → List ℕ → Type 0) → Type 0) (Sticks : Type 0) where
+  -- how a run of `ipfix` ends, by its answer
   abbrev pub IpfixEnds : Outcome → Type 0
   IpfixEnds outcome.Done = Holds (exports.EndsSo dex.Whole) × (IsTrue tells → IsTrue (new_in.ended slot))
   IpfixEnds (outcome.Exports at fault) = Holds (exports.EndsSo (dex.Faulty at fault))
@@ -20,6 +21,7 @@ module _ (tells : Bool) (slot : ℕ) (old_in new_in : Reading) (old new : Writin
   IpfixEnds outcome.NoMemory = Sticks
   IpfixEnds _ = ⊥
 
+  -- how a run of `records` ends, by its answer
   abbrev pub RecordsEnds : Outcome → Type 0
   RecordsEnds outcome.Done = Holds (messages.AreOf ipfix.Whole) × (IsTrue tells → IsTrue (new_in.ended slot))
   RecordsEnds (outcome.Ipfix at fault) = Holds (messages.AreOf (ipfix.Faulty at fault))

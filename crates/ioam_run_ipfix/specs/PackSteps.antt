@@ -37,9 +37,12 @@ PacksMore before after x tellers now = (done : List (ℕ × List Record)) (recor
 
 -- what a step did: one record more was packed; or nothing was, and why
 module _ (old new : Reading) (before after : Packed) (tellers now : List Output) where
+  -- nothing was packed, and nothing gathered
   abbrev pub Stays : Type 0
   Stays = (after ≡ before) × (now ≡ tellers)
 
+  -- what one step did: one record more was packed; or more octets are needed, the next record has this fault, or it is one
+  -- past the limit
   abbrev pub Steps : Option Pause → Type 0
   Steps None = (before.before + before.held < 67108864) × ((x : Record) × Gives old new x × PacksMore before after x tellers now)
   Steps (Some pause.More) = Stays × (new ≡ old) × Waits old
@@ -69,6 +72,7 @@ module _ (tells : Bool) (start : Start) where
     pub said : IsSaid tells start outs tellers (messages_text done)
     pub are : IsTrue tells → IsSomeAnd start.content (Are records)
 
+  -- what `IsPacking` says, of the parts of a packer
   abbrev pub PacksSo : desk.Reading → Writing → Packer → List Output → Type 0
   PacksSo inputs outs packer tellers = IsPacking inputs outs packer.slot packer.reader packer.packing tellers
 

@@ -18,10 +18,12 @@ use Rattle.ioam_run_ipfix.specs.Texts.{AreCut, AreMessages, AreRecords, HoldsTex
 
 -- ---- the files
 
+-- the files that the words of `ipfix` name
 pub record IpfixNames : Type 0 where
   pub exports : List ℕ
   pub out : List ℕ
 
+-- the files that the words of `records` name
 pub record RecordsNames : Type 0 where
   pub input : List ℕ
   pub out : List ℕ
@@ -30,6 +32,7 @@ pub record RecordsNames : Type 0 where
 abbrev pub ipfix_names : List (List ℕ) → IpfixNames
 ipfix_names words = record { exports = name_at words 1; out = name_at words 2 }
 
+-- likewise the files of `records`
 abbrev pub records_names : List (List ℕ) → RecordsNames
 records_names words = record { input = name_at words 1; out = name_at words 2 }
 
@@ -38,6 +41,7 @@ records_names words = record { input = name_at words 1; out = name_at words 2 }
 -- What the names and the files ask for, where nothing fails: the first of the refusals in their order whose
 -- condition holds, or Done. What the input holds is spoken of where the desk tells.
 module _ (tells : Bool) (content : Option (List ℕ)) (input out : List ℕ) where
+  -- the answer of `ipfix` that the names and what EXPORTS holds ask for, where nothing fails
   abbrev pub IpfixAsked : Outcome → Type 0
   IpfixAsked (outcome.Names name) = (input ≡ out) × (name ≡ out)
   IpfixAsked (outcome.Exports at fault) = (input ≢ out) × (IsTrue tells → IsSomeAnd content (exports.IsExports (dex.Faulty at fault)))
@@ -45,6 +49,7 @@ module _ (tells : Bool) (content : Option (List ℕ)) (input out : List ℕ) whe
   IpfixAsked outcome.Done = (input ≢ out) × (IsTrue tells → IsSomeAnd content (exports.IsExports dex.Whole))
   IpfixAsked _ = ⊥
 
+  -- the answer of `records` that the names and what IN holds ask for, where nothing fails
   abbrev pub RecordsAsked : Outcome → Type 0
   RecordsAsked (outcome.Names name) = (input ≡ out) × (name ≡ out)
   RecordsAsked (outcome.Ipfix at fault) = (input ≢ out) × (IsTrue tells → IsSomeAnd content (messages.IsMessages (ipfix.Faulty at fault)))
@@ -55,12 +60,14 @@ module _ (tells : Bool) (content : Option (List ℕ)) (input out : List ℕ) whe
 
   -- the cause of each answer; want of memory alone has none
   module _ (old_in new_in : Reading) (old new : Writing) where
+    -- the cause of an answer of `ipfix`: a count of faults that rose, or that the answer is asked for
     abbrev pub IpfixCause : Outcome → Type 0
     IpfixCause outcome.ReadFault = Rose old_in.side.faults new_in.side.faults
     IpfixCause outcome.WriteFault = Rose old.side.faults new.side.faults
     IpfixCause outcome.NoMemory = ⊤
     IpfixCause answer = IpfixAsked answer
 
+    -- the cause of an answer of `records`: a count of faults that rose, or that the answer is asked for
     abbrev pub RecordsCause : Outcome → Type 0
     RecordsCause outcome.ReadFault = Rose old_in.side.faults new_in.side.faults
     RecordsCause outcome.WriteFault = Rose old.side.faults new.side.faults
@@ -73,6 +80,7 @@ module _ (tells : Bool) (content : Option (List ℕ)) (input out : List ℕ) whe
 -- of one too many, or of those that are whole in what was handed out of EXPORTS; or nothing was opened for writing;
 -- or it holds a front of such messages.
 module _ (content : Option (List ℕ)) (out : List ℕ) (old_in new_in : Reading) (old new : Writing) where
+  -- what OUT of `ipfix` holds, by the answer
   abbrev pub IpfixLeaves : Outcome → Type 0
   IpfixLeaves outcome.Done = IsSomeAnd content (HoldsText AreMessages (exports.EndsSo dex.Whole) new out)
   IpfixLeaves (outcome.Exports at fault) = IsSomeAnd content (HoldsText AreMessages (exports.EndsSo (dex.Faulty at fault)) new out)
@@ -89,6 +97,7 @@ module _ (content : Option (List ℕ)) (out : List ℕ) (old_in new_in : Reading
 -- of one too many, as many as may be, or those of the messages that are whole in what was handed out of IN; or nothing
 -- was opened for writing; or it holds a front of such records.
 module _ (content : Option (List ℕ)) (out : List ℕ) (old_in new_in : Reading) (old new : Writing) where
+  -- what OUT of `records` holds, by the answer
   abbrev pub RecordsLeaves : Outcome → Type 0
   RecordsLeaves outcome.Done = IsSomeAnd content (HoldsText AreRecords (messages.AreOf ipfix.Whole) new out)
   RecordsLeaves (outcome.Ipfix at fault) = IsSomeAnd content (HoldsText AreRecords (messages.AreOf (ipfix.Faulty at fault)) new out)
@@ -127,6 +136,7 @@ module _ (desks : Desks) (files : IpfixNames) where
   abbrev pub exported : Option (List ℕ)
   exported = holds desks.old files.exports
 
+  -- what `ipfix` promises of its answer
   pub record IpfixKeeps (answer : Outcome) : Type 0 where
     pub cause : IpfixCause desks.tells exported files.exports files.out desks.old_in desks.new_in desks.old desks.new answer
     pub leaves : IsTrue desks.tells → IpfixLeaves exported files.out desks.old_in desks.new_in desks.old desks.new answer
@@ -156,6 +166,7 @@ module _ (desks : Desks) (files : RecordsNames) where
   abbrev pub read : Option (List ℕ)
   read = holds desks.old files.input
 
+  -- what `records` promises of its answer
   pub record RecordsKeeps (answer : Outcome) : Type 0 where
     pub cause : RecordsCause desks.tells read files.input files.out desks.old_in desks.new_in desks.old desks.new answer
     pub leaves : IsTrue desks.tells → RecordsLeaves read files.out desks.old_in desks.new_in desks.old desks.new answer

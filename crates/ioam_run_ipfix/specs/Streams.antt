@@ -42,6 +42,7 @@ pub record Frames (base slot : ℕ) (old_in new_in : Reading) (old new : Writing
 -- what reading the next piece, of at most so many octets, answered: what reader holds them, or nothing was left, or
 -- the read failed, or no memory could be had
 module _ (tells : Bool) (old new : Reading) (slot most : ℕ) (Feeds : List ℕ → Type 0) (Same : Type 0) where
+  -- what the reading answered, by what was handed out of the slot: a piece, nothing more, or why not
   abbrev pub Refills : Result Bool DeskFault → Type 0
   Refills (Ok true) = (piece : List ℕ) × (0 < length piece) × (length piece ≤ most) × Gives tells old new slot piece × Feeds piece
   Refills (Ok false) = Gives tells old new slot [] × Same
@@ -50,6 +51,7 @@ module _ (tells : Bool) (old new : Reading) (slot most : ℕ) (Feeds : List ℕ 
 
 -- ---- both files are opened
 
+-- the input was opened by a slot of its own, of which nothing was read; OUT was opened, and nothing was told to it
 pub record IsOpened (tells : Bool) (start : Start) (input : List ℕ) (old_in new_in : Reading) (old new : Writing) (slot : ℕ) (outputs : List Output) : Type 0 where
   pub number : slot ≡ old_in.side.slots
   pub side_in : new_in.side ≡ opened_side old_in.side input
@@ -68,6 +70,7 @@ IsUnwritten start old new = (octets : List ℕ) × (start.content ≡ Some octet
 
 -- what an answer that comes before both files are open says
 module _ (tells : Bool) (start : Start) (old_in new_in : Reading) (old new : Writing) where
+  -- why one of the files couldn't be opened, and what was left then
   abbrev pub Refuses : Outcome → Type 0
   Refuses outcome.ReadFault = Rose old_in.side.faults new_in.side.faults × (new_in.side.slots ≡ old_in.side.slots) × (new ≡ old)
   Refuses outcome.WriteFault = Rose old.side.faults new.side.faults × (IsTrue tells → IsUnwritten start old new)
@@ -76,6 +79,7 @@ module _ (tells : Bool) (start : Start) (old_in new_in : Reading) (old new : Wri
 
 -- ---- what a run leaves of the desk, whatever its answer
 
+-- the names that were opened, in their order, and what stayed as it was
 pub record Bounds (tells : Bool) (input out : List ℕ) (old_in new_in : Reading) (old new : Writing) (answer : Outcome) : Type 0 where
   pub asked_in : AsksFront old_in.side.asked new_in.side.asked (input ∷ [])
   pub asked_out : AsksFront old.side.asked new.side.asked (out ∷ [])
@@ -107,13 +111,16 @@ module _ (Is : List Record → List ℕ → Type 0) (tells : Bool) (start : Star
     pub is : Is records text
     pub held : IsSomeAnd (holds outs start.out) (λ part. IsFront part text)
 
+  -- where the desk tells, OUT holds a front of the text of such records
   abbrev pub Sticks : (List Record → List ℕ → Type 0) → Writing → Type 0
   Sticks Are outs = IsTrue tells → IsSomeAnd start.content (Fronts Are outs)
 
 -- OUT holds the text of these records, or a front of it
 module _ (Is : List Record → List ℕ → Type 0) (out : List ℕ) (outs : Writing) (records : List Record) where
+  -- OUT holds the text of these records
   abbrev pub HoldsAll : Type 0
   HoldsAll = (text : List ℕ) × Is records text × (holds outs out ≡ Some text)
 
+  -- OUT holds a front of the text of these records
   abbrev pub HoldsSome : Type 0
   HoldsSome = (text : List ℕ) × Is records text × IsSomeAnd (holds outs out) (λ part. IsFront part text)

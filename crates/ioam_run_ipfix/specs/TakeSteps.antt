@@ -70,9 +70,12 @@ TakesMore x tellers now = Adds tellers now (record_octets x ∷ [])
 
 -- what a step did: a record more was taken; or none was, and why
 module _ (old new : Reading) (given after : ℕ) (tellers now : List Output) where
+  -- nothing was taken, and nothing gathered
   abbrev pub Stays : Type 0
   Stays = (after ≡ given) × (now ≡ tellers)
 
+  -- what one step did: one record more was taken; or more octets are needed, the next message has this fault, or a limit is
+  -- passed
   abbrev pub Steps : Option Pause → Type 0
   Steps None = (given < 67108864) × (after ≡ given + 1) × (new.messages ≤ 67108865)
       × ((x : Record) × IsRecord x × Goes old new (x ∷ []) × TakesMore x tellers now)
@@ -106,6 +109,7 @@ module _ (tells : Bool) (start : Start) where
     pub said : IsSaid tells start outs tellers (records_octets records)
     pub are : IsTrue tells → IsSomeAnd start.content (Are records)
 
+  -- what `IsTaking` says, of the parts of a taker, which has room for a record
   abbrev pub TakesSo : desk.Reading → Writing → Taker → List Output → Type 0
   TakesSo inputs outs taker tellers = IsTaking inputs outs taker.slot taker.reader taker.given tellers × HasRoom taker
 

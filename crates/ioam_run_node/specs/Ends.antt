@@ -17,6 +17,7 @@ use Rattle.ioam_run_node.specs.Seat.{Seat}
 
 -- so many packets of this capture, at most, were gathered for these outputs
 module _ (tells : Bool) (old_in new_in : Reading) (old new : Writing) (seat : Seat) (answer : Outcome) where
+  -- what such a run leaves: the cause of its answer, what the outputs hold, what was opened and read, and what is as it was
   pub record Gathered (most : ℕ) (input : List ℕ) (outputs : List (List ℕ)) : Type 0 where
     pub cause : FileCause most tells input old_in old new_in new answer
     pub leaves : IsTrue tells → capture.Leaves most (NodeTexts seat) outputs input old_in new_in old new answer

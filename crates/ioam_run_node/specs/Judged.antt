@@ -5,6 +5,7 @@ use Rattle.ioam_run_node.specs.Seat.{Seat}
 use Rattle.ioam_run_node.specs.declared.judging.Judged.{Judged}
 use Rattle.ioam_run_node.specs.declared.judging.Judged.TheVariants as judged
 
+-- what becomes of a packet at a time, as it was judged: the way by which it goes on and what it then is, or why it is dropped
 abbrev pub passage_of : ℕ → Judged → Passage
 passage_of time (judged.Goes way packet) = Goes time way packet.now
 passage_of time (judged.Drops why) = Drops why

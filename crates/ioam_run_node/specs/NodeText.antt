@@ -24,6 +24,7 @@ abbrev pub way_name : Domain → Way → List ℕ
 way_name domain (way.Link link) = link_name domain link.0
 way_name domain (way.Port port) = port_name domain port.0
 
+-- the last line: how many packets there were, how many were sent on and how many dropped
 abbrev pub sums_line : ℕ → ℕ → List ℕ
 sums_line sent dropped = codes "packets " ++ decimal (sent + dropped) ++ codes " out " ++ decimal sent
     ++ codes " dropped " ++ decimal dropped ++ codes "\n"

@@ -23,6 +23,7 @@ what_line direct namespace what.Unknown = done_line direct namespace (codes "unk
 what_line direct namespace what.Exported = done_line direct namespace (codes "exported")
 what_line direct namespace what.Short = codes "  option short\n"
 
+-- the line of a note: the kind of option, its namespace, and what was done
 abbrev pub note_line : NodeNote → List ℕ
 note_line note = what_line note.direct note.namespace.0 note.what
 

@@ -36,6 +36,7 @@ pub data Passage : Type 0 where
 abbrev pub hops_of : List ℕ → ℕ
 hops_of packet = slice_index packet 7
 
+-- the target of a packet, as a number of 128 bits
 abbrev pub target_of : List ℕ → ℕ
 target_of packet = from_be_bytes w128 (slice_range packet 24 40)
 

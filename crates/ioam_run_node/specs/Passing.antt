@@ -34,6 +34,7 @@ Gathers begun records (out ∷ report ∷ []) gathered = ⊥
 Gathers begun records (out ∷ report ∷ exports ∷ []) gathered = Sorts (seat_of begun.post) records out report exports gathered
 Gathers begun records (out ∷ report ∷ exports ∷ more ∷ texts) gathered = ⊥
 
+-- the three texts of records at the node where the run began
 abbrev pub Texts : Passing → List Taken → List (List ℕ) → Type 0
 Texts begun records texts = NodeTexts (seat_of begun.post) records texts
 
@@ -64,6 +65,7 @@ no_others : (seat : Seat) (others : List Passage) → ArePassages seat [] others
 no_others seat [] are = refl
 no_others seat (p ∷ ps) are = absurd are
 
+-- where no record was taken, the texts are those of no records
 pub Gathers-begins : (begun : Passing) → IsFresh begun → Gathers begun [] heads begun
 Gathers-begins begun fresh = record {
   same = refl;
@@ -79,6 +81,7 @@ Gathers-begins begun fresh = record {
   dropped_is = fresh.1;
 }
 
+-- where no record was taken, none is counted
 pub IsFresh-none : (gathered : Passing) → IsFresh gathered → taken gathered ≡ 0
 IsFresh-none gathered fresh = ap (λ (sent : ℕ). sent + gathered.dropped) fresh.0 ∙ ap (λ (dropped : ℕ). 0 + dropped) fresh.1
 
@@ -103,9 +106,11 @@ Gathers-ends begun records (out ∷ report ∷ exports ∷ []) gathered gathers 
 }
 Gathers-ends begun records (out ∷ report ∷ exports ∷ more ∷ texts) gathered gathers = absurd gathers
 
+-- three texts stand behind the last record, one for each output
 pub sums-sized : (gathered : Passing) → length (sums gathered) ≡ 3
 sums-sized gathered = refl
 
+-- these are the texts of no records
 pub empty-texts : (begun : Passing) → Texts begun [] empty
 empty-texts begun = record {
   passages = [];
@@ -118,5 +123,6 @@ empty-texts begun = record {
   exports_is = refl;
 }
 
+-- and they are three
 pub empty-sized : length empty ≡ 3
 empty-sized = refl

@@ -29,6 +29,7 @@ use Rattle.ioam_run_node.specs.Seat.{Seat}
 
 -- ---- what its words name
 
+-- the words of the command, by what they name: files, and the names of a node and of the link by which packets come to it
 pub record NodeNames : Type 0 where
   pub domain : List ℕ
   pub readings : List ℕ
@@ -253,6 +254,7 @@ module _ (tells : Bool) (files : NodeNames) (old_in new_in : Reading) (old new :
 -- ---- the promise
 
 module _ (desks : Desks) (files : NodeNames) where
+  -- what `node` promises of its answer
   pub record Keeps (answer : Outcome) : Type 0 where
     pub owes : Owes desks.tells files desks.old_in desks.new_in desks.old desks.new answer
     -- what is asked for is answered, unless a call of the desk failed or no memory could be had

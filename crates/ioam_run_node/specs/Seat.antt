@@ -6,6 +6,7 @@ use Rattle.ioam_topo.specs.declared.domain.Domain.{Domain}
 use Rattle.ioam_topo.specs.declared.ids.NodeId.{NodeId}
 use Rattle.ioam_run_node.specs.declared.post.Post.{Post}
 
+-- a node of a domain, the readings of all nodes' clocks, and the interface of the node by which packets come
 pub record Seat : Type 0 where
   pub domain : Domain
   pub samples : List (List Sample)

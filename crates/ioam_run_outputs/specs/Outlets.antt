@@ -16,6 +16,7 @@ abbrev pub tapped_from : ℕ → List Link → List LinkId
 tapped_from place [] = []
 tapped_from place (link ∷ links) = tap_at place link.tap ++ tapped_from (suc place) links
 
+-- the links that have a tap, in file order
 abbrev pub tapped : List Link → List LinkId
 tapped links = tapped_from 0 links
 

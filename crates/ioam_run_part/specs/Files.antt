@@ -22,9 +22,11 @@ pub record PartsNames : Type 0 where
 abbrev pub part_names : List (List ℕ) → PartNames
 part_names words = record { exports = name_at words 1; part = name_at words 2 }
 
+-- likewise the files of `merge`
 abbrev pub merge_names : List (List ℕ) → MergeNames
 merge_names words = record { one = name_at words 1; two = name_at words 2; part = name_at words 3 }
 
+-- likewise the files of `parts`
 abbrev pub parts_names : List (List ℕ) → PartsNames
 parts_names words = record { part = name_at words 1; report = name_at words 2 }
 

@@ -38,6 +38,7 @@ module _ (tells : Bool) (name : List ℕ) (xs ys : List Record) (old new : Writi
     pub part : IsPartOfAll (xs ++ ys) text
     pub held : IsTrue tells → old.side.slots < new.side.slots → HoldsFrontOf new name text
 
+  -- what became of writing them, by the answer: the part of both; nothing, where both keep too many; or a front of it
   abbrev pub WritesJoined : Outcome → Type 0
   WritesJoined outcome.Done = KeepFew xs ys × HoldsBoth × (new.side.asked ≡ old.side.asked ++ name ∷ [])
   WritesJoined (outcome.Records limit) = (limit ≡ 1048576) × KeepMany xs ys × (new ≡ old)

@@ -12,6 +12,7 @@ use Rattle.ioam_run_part.specs.Records.{IsAPart, HoldBoth, AreParts, KeepFew, Ke
 use Rattle.ioam_run_part.specs.MergePromise.{IsFaulty, MergeLeaves, OpensNoPart, one_held, two_held}
 
 module _ (desks : Desks) (files : MergeNames) where
+  -- the cause of each answer where the names differ, by what ONE and TWO hold and by the counts of faults
   abbrev pub ApartCause : Outcome → Type 0
   ApartCause outcome.Done = IsTrue desks.tells → HoldBoth (one_held desks files) (two_held desks files) (AreParts KeepFew)
   ApartCause (outcome.Part name at fault) = IsFaulty desks.tells (one_held desks files) (two_held desks files) files.one files.two name at fault
@@ -21,6 +22,8 @@ module _ (desks : Desks) (files : MergeNames) where
   ApartCause outcome.NoMemory = ⊤
   ApartCause _ = ⊥
 
+  -- what such a run leaves: the cause of its answer, what PART holds, what was opened and read, in which order, and what is
+  -- as it was
   pub record MergeEnds (answer : Outcome) : Type 0 where
     pub cause : ApartCause answer
     pub leaves : IsTrue desks.tells → MergeLeaves (one_held desks files) (two_held desks files) files.part desks.old desks.new answer

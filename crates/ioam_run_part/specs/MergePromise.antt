@@ -28,6 +28,7 @@ module _ (tells : Bool) (first second : Option (List ℕ)) (one two : List ℕ) 
 -- What the names and the files ask for, where nothing fails: the first of the refusals in their order whose
 -- condition holds, or Done. What ONE and TWO hold is spoken of where the desk tells.
 module _ (tells : Bool) (first second : Option (List ℕ)) (one two part : List ℕ) where
+  -- the answer that the names and what ONE and TWO hold ask for, where nothing fails
   abbrev pub MergeAsked : Outcome → Type 0
   MergeAsked (outcome.Names name) = IsRepeat one two part name
   MergeAsked (outcome.Part name at fault) = AreApart one two part × IsFaulty tells first second one two name at fault
@@ -37,6 +38,7 @@ module _ (tells : Bool) (first second : Option (List ℕ)) (one two part : List 
 
   -- the cause of each answer; want of memory alone has none
   module _ (old_in new_in : Reading) (old new : Writing) where
+    -- the cause of an answer: a count of faults that rose, or that the answer is asked for; want of memory alone needs none
     abbrev pub MergeCause : Outcome → Type 0
     MergeCause outcome.ReadFault = Rose old_in.side.faults new_in.side.faults
     MergeCause outcome.WriteFault = Rose old.side.faults new.side.faults
@@ -71,6 +73,8 @@ pub record HoldsMergedFront (old new : Writing) (part : List ℕ) (one two : Lis
 
 -- What PART holds afterwards, where the desk tells: what ONE and TWO join to, or a front of that; or nothing was opened for writing.
 module _ (first second : Option (List ℕ)) (part : List ℕ) (old new : Writing) where
+  -- what PART holds, by the answer: what both parts join to, or a front of that; nothing was opened where a name or a part is
+  -- refused, a read failed or both keep too many
   abbrev pub MergeLeaves : Outcome → Type 0
   MergeLeaves outcome.Done = HoldBoth first second (HoldsMerged new part)
   MergeLeaves outcome.WriteFault = HoldBoth first second (HoldsMergedFront old new part)
@@ -96,9 +100,11 @@ module _ (desks : Desks) (files : MergeNames) where
   abbrev pub one_held : Option (List ℕ)
   one_held = holds desks.old files.one
 
+  -- what TWO holds
   abbrev pub two_held : Option (List ℕ)
   two_held = holds desks.old files.two
 
+  -- what `merge` promises of its answer
   pub record MergeKeeps (answer : Outcome) : Type 0 where
     pub cause : MergeCause desks.tells one_held two_held files.one files.two files.part desks.old_in desks.new_in desks.old desks.new answer
     pub leaves : IsTrue desks.tells → MergeLeaves one_held two_held files.part desks.old desks.new answer

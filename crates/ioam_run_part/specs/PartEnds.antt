@@ -43,9 +43,11 @@ pub record HoldsStart (new : Writing) (part : List ℕ) (octets : List ℕ) : Ty
 
 -- these octets were left of the slot of EXPORTS
 module _ (tells : Bool) (octets : List ℕ) (part : List ℕ) (slot : ℕ) (old_in new_in : Reading) (old new : Writing) where
+  -- where the desk tells, PART is that of records that are so of what EXPORTS holds
   abbrev pub Holds : (List Record → List ℕ → Type 0) → Type 0
   Holds Are = IsTrue tells → HoldsPart Are new part octets
 
+  -- where the desk tells, PART is a front of such a part
   abbrev pub Sticks : Type 0
   Sticks = IsTrue tells → HoldsStart new part octets
 
@@ -72,6 +74,7 @@ module _ (desks : Desks) (files : PartNames) where
   ApartCause outcome.Done = IsTrue desks.tells → IsSomeAnd (exported desks files) (IsExports Whole)
   ApartCause _ = ⊥
 
+  -- what such a run leaves: the cause of its answer, what PART holds, what was opened and read, and what is as it was
   pub record PartEnds (answer : Outcome) : Type 0 where
     pub cause : ApartCause answer
     pub leaves : IsTrue desks.tells → PartLeaves (exported desks files) files.part desks.old_in desks.new_in desks.old desks.new answer

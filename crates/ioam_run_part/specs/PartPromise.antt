@@ -18,6 +18,7 @@ use Rattle.ioam_run_part.specs.Records.{EndsSo, AreFirst, IsExports, IsLong, IsP
 -- What the names and the files ask for, where nothing fails: the first of the refusals in their order whose
 -- condition holds, or Done. What EXPORTS holds is spoken of where the desk tells.
 module _ (tells : Bool) (content : Option (List ℕ)) (exports part : List ℕ) where
+  -- the answer that the names and what EXPORTS holds ask for, where nothing fails
   abbrev pub PartAsked : Outcome → Type 0
   PartAsked (outcome.Names name) = (exports ≡ part) × (name ≡ part)
   PartAsked (outcome.Exports at fault) = (exports ≢ part) × (IsTrue tells → IsSomeAnd content (IsExports (Faulty at fault)))
@@ -27,6 +28,7 @@ module _ (tells : Bool) (content : Option (List ℕ)) (exports part : List ℕ) 
 
   -- the cause of each answer; want of memory alone has none
   module _ (old_in new_in : Reading) (old new : Writing) where
+    -- the cause of an answer: a count of faults that rose, or that the answer is asked for; want of memory alone needs none
     abbrev pub PartCause : Outcome → Type 0
     PartCause outcome.ReadFault = Rose old_in.side.faults new_in.side.faults
     PartCause outcome.WriteFault = Rose old.side.faults new.side.faults
@@ -53,6 +55,8 @@ pub record HoldsFront (old new : Writing) (part : List ℕ) (octets : List ℕ) 
 -- of one too many, or of those that are whole in what was handed out of EXPORTS; or nothing was opened for writing;
 -- or it holds a front of a part.
 module _ (content : Option (List ℕ)) (part : List ℕ) (old_in new_in : Reading) (old new : Writing) where
+  -- what PART holds, by the answer: the part of all records, of those in front of the fault or limit, or of those that had
+  -- been handed out whole; or a front of it, or nothing was opened
   abbrev pub PartLeaves : Outcome → Type 0
   PartLeaves outcome.Done = IsSomeAnd content (HoldsPart (EndsSo Whole) new part)
   PartLeaves (outcome.Exports at fault) = IsSomeAnd content (HoldsPart (EndsSo (Faulty at fault)) new part)
@@ -72,6 +76,7 @@ module _ (desks : Desks) (files : PartNames) where
   abbrev pub exported : Option (List ℕ)
   exported = holds desks.old files.exports
 
+  -- what `part` promises of its answer
   pub record PartKeeps (answer : Outcome) : Type 0 where
     pub cause : PartCause desks.tells exported files.exports files.part desks.old_in desks.new_in desks.old desks.new answer
     pub leaves : IsTrue desks.tells → PartLeaves exported files.part desks.old_in desks.new_in desks.old desks.new answer

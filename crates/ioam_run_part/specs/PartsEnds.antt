@@ -14,6 +14,7 @@ use Rattle.ioam_run_part.specs.MergePromise.{OpensNoPart}
 use Rattle.ioam_run_part.specs.PartsPromise.{PartsLeaves, part_held}
 
 module _ (desks : Desks) (files : PartsNames) where
+  -- the cause of each answer where the names differ, by what PART holds and by the counts of faults
   abbrev pub ApartCause : Outcome → Type 0
   ApartCause outcome.Done = IsTrue desks.tells → IsSomeAnd (part_held desks files) IsAPart
   ApartCause (outcome.Part name at fault) = (name ≡ files.part) × (IsTrue desks.tells → IsSomeAnd (part_held desks files) (λ octets. HasFault octets at fault))
@@ -22,6 +23,7 @@ module _ (desks : Desks) (files : PartsNames) where
   ApartCause outcome.NoMemory = ⊤
   ApartCause _ = ⊥
 
+  -- what such a run leaves: the cause of its answer, what REPORT holds, what was opened and read, and what is as it was
   pub record PartsEnds (answer : Outcome) : Type 0 where
     pub cause : ApartCause answer
     pub leaves : IsTrue desks.tells → PartsLeaves (part_held desks files) files.report desks.old desks.new answer

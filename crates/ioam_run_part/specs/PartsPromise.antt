@@ -21,6 +21,7 @@ use Rattle.ioam_run_part.specs.MergePromise.{OpensNoPart}
 -- What the names and the files ask for, where nothing fails: the first of the refusals in their order whose
 -- condition holds, or Done. What PART holds is spoken of where the desk tells.
 module _ (tells : Bool) (content : Option (List ℕ)) (part report : List ℕ) where
+  -- the answer that the names and what PART holds ask for, where nothing fails
   abbrev pub PartsAsked : Outcome → Type 0
   PartsAsked (outcome.Names name) = (part ≡ report) × (name ≡ report)
   PartsAsked (outcome.Part name at fault) = (part ≢ report) × (name ≡ part) × (IsTrue tells → IsSomeAnd content (λ octets. HasFault octets at fault))
@@ -29,6 +30,7 @@ module _ (tells : Bool) (content : Option (List ℕ)) (part report : List ℕ) w
 
   -- the cause of each answer; want of memory alone has none
   module _ (old_in new_in : Reading) (old new : Writing) where
+    -- the cause of an answer: a count of faults that rose, or that the answer is asked for; want of memory alone needs none
     abbrev pub PartsCause : Outcome → Type 0
     PartsCause outcome.ReadFault = Rose old_in.side.faults new_in.side.faults
     PartsCause outcome.WriteFault = Rose old.side.faults new.side.faults
@@ -51,6 +53,8 @@ pub record HoldsLinesFront (old new : Writing) (report : List ℕ) (octets : Lis
 
 -- What REPORT holds afterwards, where the desk tells: the text of the records of PART, or a front of it; or nothing was opened for writing.
 module _ (content : Option (List ℕ)) (report : List ℕ) (old new : Writing) where
+  -- what REPORT holds, by the answer: the text of the part's records, or a front of it; and it wasn't opened where PART is
+  -- refused or couldn't be read
   abbrev pub PartsLeaves : Outcome → Type 0
   PartsLeaves outcome.Done = IsSomeAnd content (HoldsLines new report)
   PartsLeaves outcome.WriteFault = IsSomeAnd content (HoldsLinesFront old new report)
@@ -67,6 +71,7 @@ module _ (desks : Desks) (files : PartsNames) where
   abbrev pub part_held : Option (List ℕ)
   part_held = holds desks.old files.part
 
+  -- what `parts` promises of its answer
   pub record PartsKeeps (answer : Outcome) : Type 0 where
     pub cause : PartsCause desks.tells part_held files.part files.report desks.old_in desks.new_in desks.old desks.new answer
     pub leaves : IsTrue desks.tells → PartsLeaves part_held files.report desks.old desks.new answer

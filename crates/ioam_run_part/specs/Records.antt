@@ -64,6 +64,7 @@ pub record AreParts (Are : List Record → List Record → Type 0) (one two : Li
 abbrev pub KeepFew : List Record → List Record → Type 0
 KeepFew firsts seconds = count_kept (firsts ++ seconds) ≤ 1048576
 
+-- what is kept of both is more than a part may have: 1,048,576
 abbrev pub KeepMany : List Record → List Record → Type 0
 KeepMany firsts seconds = 1048576 < count_kept (firsts ++ seconds)
 

@@ -19,6 +19,7 @@ HoldsFrontOf desk name text = IsSomeAnd (holds desk name) (λ front. IsFront fro
 
 -- what became of a text that was written to the slot of a name; what else changed is said beside
 module _ (tells : Bool) (name text : List ℕ) (old new : Writing) where
+  -- the name holds the text; or, where the writing failed or no memory could be had, a front of it
   abbrev pub Writes : Result (Unit {0}) DeskFault → Type 0
   Writes (Ok _) = (new.side ≡ old.side) × (IsTrue tells → holds new name ≡ Some text)
   Writes (Err Failed) = Rose old.side.faults new.side.faults × (IsTrue tells → HoldsFrontOf new name text)

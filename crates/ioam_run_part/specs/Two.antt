@@ -31,12 +31,14 @@ pub record HoldsTwo (tells : Bool) (first second : Option (List ℕ)) (one two :
 
 -- what both hold, or the answer for the first that wasn't read
 module _ (tells : Bool) (first second : Option (List ℕ)) (one two : List ℕ) (old new : desk.Reading) where
+  -- the answer where one of the two wasn't read: the fault of a part, a failed read, or want of memory
   abbrev pub RefusesTwo : Outcome → Type 0
   RefusesTwo (outcome.Part name at fault) = IsFaulty tells first second one two name at fault
   RefusesTwo outcome.ReadFault = Rose old.side.faults new.side.faults
   RefusesTwo outcome.NoMemory = ⊤
   RefusesTwo _ = ⊥
 
+  -- both were read, or this is the answer
   abbrev pub ReadsTwo : Result (Collected × Collected) Outcome → Type 0
   ReadsTwo (Ok both) = HoldsTwo tells first second one two old new both.0 both.1
   ReadsTwo (Err answer) = RefusesTwo answer

@@ -47,6 +47,7 @@ Judges octets (Err unread.NoMemory) = ⊤
 
 -- what was read of an open slot
 module _ (tells : Bool) (content : Option (List ℕ)) (slot : ℕ) (old new : desk.Reading) where
+  -- what an open slot gave: a collector of the part that was read to its end; or the fault, a failed read, or want of memory
   abbrev pub ReadsSlot : Result Collected Unread → Type 0
   ReadsSlot (Ok c) = (new.side ≡ old.side) × IsHeld tells content c × (IsTrue tells → IsTrue (new.ended slot))
   ReadsSlot (Err (unread.Fault at fault)) = (new.side ≡ old.side) × IsFaulty tells content at fault
@@ -55,6 +56,8 @@ module _ (tells : Bool) (content : Option (List ℕ)) (slot : ℕ) (old new : de
 
 -- what was read of a name
 module _ (tells : Bool) (content : Option (List ℕ)) (name : List ℕ) (old new : desk.Reading) where
+  -- what a file gave: a collector of the part that was read to its end; or the fault, a failed opening or read, or want of
+  -- memory
   abbrev pub ReadsFile : Result Collected Unread → Type 0
   ReadsFile (Ok c) = (new.side ≡ opened_side old.side name) × IsHeld tells content c × (IsTrue tells → IsTrue (new.ended old.side.slots))
   ReadsFile (Err (unread.Fault at fault)) = (new.side ≡ opened_side old.side name) × IsFaulty tells content at fault

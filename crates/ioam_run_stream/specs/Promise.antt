@@ -114,6 +114,8 @@ module _ (most : ℕ) (Texts : List Taken → List (List ℕ) → Type 0) (outpu
   -- the texts, of all records, of the first, or of those that are whole in what was handed out of IN; or nothing was
   -- opened for writing; or each output that was opened holds a front of its text
   module _ (input : List ℕ) (old_in new_in : Reading) (old new : Writing) where
+    -- what the outputs hold, by the answer: the texts of all records of IN, of those in front of its fault or limit, or of
+    -- those that had been handed out whole; or fronts of them, or nothing was opened
     abbrev pub Leaves : Outcome → Type 0
     Leaves outcome.Done = IsSomeAnd (holds old input) (HoldsAll (EndsSo Whole) new)
     Leaves (outcome.Capture name at fault) = IsSomeAnd (holds old input) (HoldsAll (EndsSo (Faulty at fault)) new)
@@ -127,6 +129,7 @@ module _ (most : ℕ) (Texts : List Taken → List (List ℕ) → Type 0) (outpu
     Leaves _ = ⊥
 
 module _ (Texts : List Taken → List (List ℕ) → Type 0) (desks : Desks) (files : CaptureNames) where
+  -- what each of these commands promises of its answer
   pub record Keeps (answer : Outcome) : Type 0 where
     pub cause : HasCause desks files answer
     pub leaves : IsTrue desks.tells → Leaves most_packets Texts files.outputs files.input desks.old_in desks.new_in desks.old desks.new answer

@@ -55,14 +55,18 @@ module _ {G : Type 0} (gathers : List Taken → List (List ℕ) → G → Type 0
     pub few : length taken ≤ start.limit
     pub held_back : length (pending reader) < most_held reader + 65536
 
+  -- what `Streams` says, of the parts of a stream
   abbrev pub IsStreaming : Bool → Start → desk.Reading → Writing → Stream G → List Output → Type 0
   IsStreaming tells start inputs outputs s tellers = Streams tells start inputs outputs s.feed.slot s.feed.reader s.gathered tellers
 
   -- what a step did: what streams still does, with one record more; or nothing, and why; or it gave a record past the limit
   module _ (limit : ℕ) (old new : Reading) (before after : G) (tellers now_tellers : List Output) where
+    -- nothing was gathered
     abbrev pub Stays : Type 0
     Stays = (after ≡ before) × (now_tellers ≡ tellers)
 
+    -- what one step did: one record more was taken; or more octets are needed, or the capture has this fault, or it has a
+    -- record past the limit
     abbrev pub Steps : Option Pause → Type 0
     Steps None = (count before < limit) × (count after ≡ count before + 1)
         × ((tells : Bool) (start : Start) (inputs : desk.Reading) (outputs : Writing) (slot : ℕ) → start.limit ≡ limit
@@ -110,6 +114,7 @@ module _ (tells : Bool) (start : Start) (Texts : List Taken → List (List ℕ) 
     pub texts_are : Texts taken texts
     pub held : HoldAllFronts outputs start.names texts
 
+  -- where the desk tells, each output holds a front of its text
   abbrev pub Sticks : Writing → Type 0
   Sticks outputs = IsTrue tells → IsSomeAnd start.content (Fronts outputs)
 
@@ -120,6 +125,7 @@ module _ (tells : Bool) (start : Start) (Texts : List Taken → List (List ℕ) 
     abbrev pub Tells : (List Taken → List ℕ → Type 0) → Type 0
     Tells Are = Halts gathers count tells start Are new_out gathered tellers × (new_out.side ≡ old_out.side)
 
+    -- why reading stopped, and whose texts the outputs were told then
     abbrev pub Stops : Outcome → Type 0
     Stops outcome.Done = Tells (EndsSo Whole) × (IsTrue tells → IsTrue (new_in.ended slot))
     Stops (outcome.Capture name at fault) = (name ≡ input) × Tells (EndsSo (Faulty at fault))
@@ -135,6 +141,7 @@ module _ (tells : Bool) (start : Start) (Texts : List Taken → List (List ℕ) 
     abbrev pub Holds : (List Taken → List ℕ → Type 0) → Type 0
     Holds Are = IsTrue tells → IsSomeAnd start.content (HoldsAll start.limit Texts start.names Are new_out)
 
+    -- how a run over opened files ended, and whose texts the outputs hold then
     abbrev pub Finishes : Outcome → Type 0
     Finishes outcome.Done = Holds (EndsSo Whole) × (IsTrue tells → IsTrue (new_in.ended slot))
     Finishes (outcome.Capture name at fault) = (name ≡ input) × Holds (EndsSo (Faulty at fault))
@@ -152,6 +159,7 @@ IsBroken _ = ⊥
 
 -- the causes of the answers where the names are known to differ, with this limit
 module _ (most : ℕ) (tells : Bool) (input : List ℕ) (old_in : desk.Reading) (old_out : Writing) (new_in : desk.Reading) (new_out : Writing) where
+  -- the cause of each answer over opened files, by what IN holds and by the counts of faults
   abbrev pub FileCause : Outcome → Type 0
   FileCause outcome.ReadFault = Rose old_in.side.faults new_in.side.faults
   FileCause outcome.WriteFault = Rose old_out.side.faults new_out.side.faults

@@ -59,6 +59,7 @@ abbrev pub kept_from : ℕ → List (Option (List ℕ)) → ℕ → List Visit �
 kept_from link kept number [] = []
 kept_from link kept number (visit ∷ visits) = kept_on link visit (joined (slice_get kept number)) ++ kept_from link kept (suc number) visits
 
+-- what a job's visits sent on the link with this number, each packet at its time
 abbrev pub job_crossed : Job → ℕ → List Sent
 job_crossed job link = kept_from link (crossings job.crossings) 0 job.itinerary.visits
 
@@ -70,6 +71,7 @@ hop_lines true (Some carried) packet = hop_traces_text packet
 hop_lines true None packet = []
 hop_lines false carried packet = []
 
+-- a job's lines in the report: its arrival's, and those of its traces where it reached the exit of its tunnel
 abbrev pub job_lines : Domain → ℕ → Job → List ℕ
 job_lines domain number job = arrival_line domain number job.itinerary ++ hop_lines job.itinerary.exited job.itinerary.carried job.packet.items
 

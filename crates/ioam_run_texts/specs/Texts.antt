@@ -45,6 +45,8 @@ leaves_by packet visits exited None = record { time = last_time visits; octets =
 leaves_by packet visits true (Some carried) = record { time = last_time visits; octets = lowered 2 packet } ∷ []
 leaves_by packet visits false (Some carried) = []
 
+-- the packet of an arrival as it would leave, at the time of its last visit; none of one that was enclosed and didn't reach
+-- its exit
 abbrev pub fate_leaves : Fate → List Sent
 fate_leaves fate = leaves_by fate.packet fate.itinerary.visits fate.itinerary.exited fate.itinerary.carried
 
@@ -75,6 +77,7 @@ goes_by link (Some (way.Port port)) = false
 abbrev pub way_of : Fate → Itinerary
 way_of fate = fate.itinerary
 
+-- the itineraries of arrivals, which the sums count
 abbrev pub ways_of : List Fate → List Itinerary
 ways_of fates = map way_of fates
 
@@ -96,6 +99,7 @@ module _ (domain : Domain) (readings : List (List Sample)) where
   abbrev pub crossed_by : ℕ → List Fate → List Sent
   crossed_by link fates = flat_map (fate_crossed link) fates
 
+  -- the capture of what crossed a link
   abbrev pub tap_text : ℕ → List Fate → List ℕ
   tap_text link fates = capture_text (crossed_by link fates)
 
@@ -116,6 +120,7 @@ module _ (domain : Domain) (readings : List (List Sample)) where
   paths_by packet visits true None = []
   paths_by packet visits false carried = []
 
+  -- the lines of an arrival's traces
   abbrev pub fate_paths : Fate → List ℕ
   fate_paths fate = paths_by fate.packet fate.itinerary.visits fate.itinerary.exited fate.itinerary.carried
 
@@ -139,6 +144,7 @@ module _ (domain : Domain) (readings : List (List Sample)) where
   exports_by packet visits None = []
   exports_by packet visits (Some carried) = along (exported_at domain readings (tunnel_of domain carried.0 carried.1 packet)) [] visits
 
+  -- the octets of the records that an arrival's visits export
   abbrev pub fate_exports : Fate → List ℕ
   fate_exports fate = exports_by fate.packet fate.itinerary.visits fate.itinerary.carried
 

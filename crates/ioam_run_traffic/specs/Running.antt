@@ -63,6 +63,8 @@ module _ (tells : Bool) (course : Course) where
       abbrev pub Tells : (List Arrival → Type 0) → Type 0
       Tells Are = Halted Are new_out gathered tellers × (new_out.side ≡ old_out.side)
 
+      -- how the taking of arrivals stopped, and which arrivals the outputs were told then: all, those in front of a fault or
+      -- of the limit, those that had come whole; or why the outputs hold fronts only
       abbrev pub Stops : Halt → Type 0
       Stops Over = Tells (λ taken. Arrive course turn.Over taken × HaveEnded course.lanes new_in)
       Stops (Broken place at fault) = (place < length course.lanes.contents) × Tells (Arrive course (turn.Broken place at fault))

@@ -29,6 +29,7 @@ port_at ports place = slice_index_or ports place (record { 0 = 0 })
 abbrev pub frame_of : List PortId → Arrival → Frame
 frame_of ports arrival = record { port = port_at ports arrival.capture; ethernet = is_ethernet arrival.link; entry = arrival.entry }
 
+-- what arrives with each of some records that were taken
 abbrev pub frames_of : List PortId → List Arrival → List Frame
 frames_of ports taken = map (frame_of ports) taken
 
@@ -107,6 +108,8 @@ module _ (course : Course) where
 
   -- what the end of the traffic says; where the desk tells, also what the outputs hold then
   module _ (tells : Bool) (old_in new_in : Reading) (old_out new_out : Writing) where
+    -- how a run over these captures ends, and which arrivals the outputs then hold: all, those in front of a fault or of the
+    -- limit, those that had come whole; or fronts of some first arrivals
     abbrev pub Finishes : Halt → Type 0
     Finishes Over = IsTrue tells → HoldsAll (Arrive turn.Over) new_out × HaveEnded course.lanes new_in
     Finishes (Broken place at fault) = (place < length course.lanes.contents)

@@ -17,12 +17,15 @@ use Rattle.ioam_topo.specs.declared.parts.Flow.{Flow}
 abbrev pub nodes : Domain → List Node
 nodes domain = domain.parts.nodes.items
 
+-- its links, in file order
 abbrev pub links : Domain → List Link
 links domain = domain.parts.links.items
 
+-- its ports, in file order
 abbrev pub ports : Domain → List Port
 ports domain = domain.parts.ports.items
 
+-- its routes, in file order
 abbrev pub routes : Domain → List Route
 routes domain = domain.parts.routes.items
 
@@ -30,6 +33,7 @@ routes domain = domain.parts.routes.items
 abbrev pub node_data : Domain → List NodeData
 node_data domain = domain.parts.data.items
 
+-- the flows of a domain, in file order
 abbrev pub flows : Domain → List Flow
 flows domain = domain.parts.flows.items
 

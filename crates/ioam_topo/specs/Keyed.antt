@@ -17,6 +17,7 @@ place_of names name = position (bytes_eq name) names
 abbrev pub name_of_node : Node → List ℕ
 name_of_node node = node.name
 
+-- the address of a node
 abbrev pub address_of_node : Node → ℕ
 address_of_node node = node.address
 

@@ -12,6 +12,7 @@ use Rattle.ioam_topo_entries.specs.declared.fault.DomainFault.{DomainFault}
 use Rattle.ioam_topo_entries.specs.declared.fault.DomainRefused.{DomainRefused}
 use Rattle.ioam_topo_entries.specs.declared.fault.DomainRefused.TheVariants.{Fault, NoMemory}
 
+-- a fault of this table, at this place, of this key, for this reason
 abbrev pub fault : Table → ℕ → Field → Why → DomainFault
 fault table place field why = record { table = table; place = place; field = field; why = why }
 

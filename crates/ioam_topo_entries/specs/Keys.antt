@@ -8,6 +8,7 @@ use Rattle.ioam_topo_values.specs.declared.why.Why.TheVariants.{Unknown}
 use Rattle.ioam_topo_entries.specs.declared.words.Table.{Table}
 use Rattle.ioam_topo_entries.specs.declared.words.Table.TheVariants.{Top, NodeTable, LinkTable, PortTable, RouteTable, DataTable, FlowTable, ExtraTable}
 
+-- the keys that an entry of each table, and the file itself, may have
 abbrev pub listed : Table → List (List ℕ)
 listed Top = codes "format" ∷ codes "packets" ∷ codes "node" ∷ codes "link" ∷ codes "port" ∷ codes "route" ∷ codes "data" ∷ codes "flow"
     ∷ codes "extra" ∷ []

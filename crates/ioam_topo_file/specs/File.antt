@@ -59,6 +59,7 @@ pub record IsLongFile (octets : List ℕ) (found : DomainFault) : Type 0 where
   pub many : 1048576 < length octets
   pub is : found ≡ fault Top 0 NoKey Long
 
+-- the fault of a file whose octets are no TOML document
 pub record IsFaultyText (octets : List ℕ) (found : DomainFault) : Type 0 where
   pub text : IsNoText octets
   pub is : found ≡ fault Top 0 NoKey Text

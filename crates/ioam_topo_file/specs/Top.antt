@@ -24,6 +24,7 @@ abbrev pub format_named : List ℕ → Result Format Why
 format_named s = if bytes_eq s (codes "ptp") then Ok Ptp else if bytes_eq s (codes "ntp") then Ok Ntp else
     if bytes_eq s (codes "posix") then Ok Posix else Err Range
 
+-- the format of the times: one of the three names
 abbrev pub format : Data → Result Format Why
 format d = text d ▷ format_named
 

@@ -21,12 +21,15 @@ use Rattle.ioam_topo_entries.specs.Keys.{own_keys}
 abbrev pub data_entries : Members → List Members
 data_entries t = entries (get_member (codes "data") t)
 
+-- the namespace of an entry: 0 to 65,535, and needed
 abbrev pub data_space : Members → Result ℕ Why
 data_space m = needed (number 0 65535) (get_member (codes "namespace") m)
 
+-- the namespace specific data of 32 bits, where it has one (RFC 9197 section 4.4.2.8)
 abbrev pub data_short : Members → Result (Option ℕ) Why
 data_short m = maybe (number 0 4294967295) (get_member (codes "short") m)
 
+-- the wide namespace specific data, where it has one: 0 to 2^63 - 1
 abbrev pub data_wide : Members → Result (Option ℕ) Why
 data_wide m = maybe (number 0 9223372036854775807) (get_member (codes "wide") m)
 
@@ -34,11 +37,13 @@ data_wide m = maybe (number 0 9223372036854775807) (get_member (codes "wide") m)
 abbrev pub data_schema : Members → Result (Option ℕ) Why
 data_schema m = maybe (number 0 16777214) (get_member (codes "schema") m) ▷ beside (is_some (get_member (codes "snapshot") m))
 
+-- the opaque state snapshot, which is needed where there is a schema
 abbrev pub data_snapshot : Members → Result (Option (List ℕ)) Why
 data_snapshot m = maybe octets (get_member (codes "snapshot") m) ▷ beside (is_some (get_member (codes "schema") m))
 
 -- `nodes` are the names of the nodes
 module _ (nodes : List (List ℕ)) where
+  -- the node of an entry, by its place
   abbrev pub data_node : Members → Result ℕ Why
   data_node m = needed name (get_member (codes "node") m) ▷ known nodes
 
@@ -46,6 +51,7 @@ module _ (nodes : List (List ℕ)) where
   abbrev pub data_key : Members → Result (ℕ × ℕ) Why
   data_key m = data_node m ▷ (λ node. data_space m ▷ (λ space. Ok (node, space)))
 
+  -- the data of a node in a namespace, where all keys are read; else the first reason why not
   abbrev pub data_of : Members → Result NodeData Why
   data_of m = data_node m ▷ (λ node. data_space m ▷ (λ space. data_short m ▷ (λ short. data_wide m ▷ (λ wide.
       data_schema m ▷ (λ schema. data_snapshot m ▷ (λ snapshot.

@@ -24,6 +24,7 @@ use Rattle.ioam_topo_flows.specs.ExtraTable.{extra_flow, extra_key, extra_of, ti
 abbrev pub place_of_extra : ℕ × FlowTrace → ℕ
 place_of_extra extra = extra.0
 
+-- the flow of an extra trace by its place, and the trace's namespace
 abbrev pub key_of_extra : ℕ × FlowTrace → ℕ × ℕ
 key_of_extra extra = (extra.0, extra.1.namespace.0)
 
@@ -48,12 +49,15 @@ pub record KeepsFlows (nodes : Nodes) (flows : Flows) : Type 0 where
 
 -- behind these nodes and flows
 module _ (nodes : Nodes) (flows : Flows) where
+  -- the flow of an entry, behind these flows and nodes
   abbrev pub flow_behind : Members → Result ℕ Why
   flow_behind = extra_flow flows.names (map look_of flows.items.items) (map list_of nodes.items.items)
 
+  -- what no two extra traces share, behind these flows and nodes
   abbrev pub key_behind : Members → Result (ℕ × ℕ) Why
   key_behind = extra_key flows.names (map look_of flows.items.items) (map list_of nodes.items.items)
 
+  -- the extra trace of an entry, behind these flows and nodes
   abbrev pub extra_behind : Members → Result (ℕ × FlowTrace) Why
   extra_behind = extra_of flows.names (map look_of flows.items.items) (map list_of nodes.items.items)
 

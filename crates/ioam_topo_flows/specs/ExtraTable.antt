@@ -59,9 +59,11 @@ abbrev pub unlike : Result ℕ Why → ℕ → Result ℕ Why
 unlike (Ok own) n = if own == n then Err Twice else Ok n
 unlike (Err why) n = Ok n
 
+-- the trace type of an extra trace, which is needed
 abbrev pub extra_trace : Members → Result ℕ Why
 extra_trace m = needed trace_type (get_member (codes "trace") m)
 
+-- how many words it has room for: 1 to 61
 abbrev pub extra_capacity : Members → Result ℕ Why
 extra_capacity m = needed (number 1 61) (get_member (codes "capacity") m)
 
@@ -71,6 +73,7 @@ module _ (flows : List (List ℕ)) (looks : List FlowLook) (lists : List (Result
   abbrev pub extra_flow : Members → Result ℕ Why
   extra_flow m = needed name (get_member (codes "flow") m) ▷ known flows ▷ (λ i. traced_at (seen (slice_get looks i)).trace i)
 
+  -- what is known of the flow that an entry names
   abbrev pub extra_look : Members → FlowLook
   extra_look m = look_in looks (extra_flow m)
 

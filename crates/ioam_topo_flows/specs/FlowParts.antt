@@ -22,15 +22,19 @@ use Rattle.ioam_topo_entries.specs.Goods.{known, differs}
 use Rattle.ioam_topo_flows.specs.Apart.{fresh_some}
 use Rattle.ioam_topo_flows.specs.Spaces.{known_at}
 
+-- the prefix of the sources of a flow's packets, which is needed
 abbrev pub flow_source : Members → Result Prefix Why
 flow_source m = needed prefix (get_member (codes "source") m)
 
+-- the prefix of their targets, which is needed
 abbrev pub flow_target : Members → Result Prefix Why
 flow_target m = needed prefix (get_member (codes "target") m)
 
+-- the hop limit of a flow's outer packets: 1 to 255
 abbrev pub flow_hops : Members → Result ℕ Why
 flow_hops m = needed (number 1 255) (get_member (codes "hops") m)
 
+-- their flow label: 0 to 2^20 - 1, and 0 where the key is absent
 abbrev pub flow_label : Members → Result ℕ Why
 flow_label m = optional 0 (number 0 1048575) (get_member (codes "label") m)
 
@@ -38,9 +42,11 @@ flow_label m = optional 0 (number 0 1048575) (get_member (codes "label") m)
 abbrev pub flow_trace : Members → Result (Option ℕ) Why
 flow_trace m = maybe trace_type (get_member (codes "trace") m) ▷ beside (is_some (get_member (codes "capacity") m))
 
+-- how many words the trace has room for: 1 to 61, and needed where there is a trace
 abbrev pub flow_capacity : Members → Result (Option ℕ) Why
 flow_capacity m = maybe (number 1 61) (get_member (codes "capacity") m) ▷ beside (is_some (get_member (codes "trace") m))
 
+-- the type of edge-to-edge data that its packets carry, where they carry any
 abbrev pub flow_edge : Members → Result (Option ℕ) Why
 flow_edge m = maybe edge_type (get_member (codes "edge") m)
 
@@ -49,12 +55,15 @@ abbrev pub flow_direct : Members → Result (Option ℕ) Why
 flow_direct m = maybe direct_type (get_member (codes "direct") m)
     ▷ beside (is_some (get_member (codes "every") m) || is_some (get_member (codes "flow_id") m))
 
+-- of so many packets one carries direct export: 1 to 1,000,000, and needed where there is direct export
 abbrev pub flow_every : Members → Result (Option ℕ) Why
 flow_every m = maybe (number 1 1000000) (get_member (codes "every") m) ▷ beside (is_some (get_member (codes "direct") m))
 
+-- the Flow ID of its direct exports: 0 to 2^32 - 1, and needed where there is direct export
 abbrev pub flow_id : Members → Result (Option ℕ) Why
 flow_id m = maybe (number 0 4294967295) (get_member (codes "flow_id") m) ▷ beside (is_some (get_member (codes "direct") m))
 
+-- the tunnel encapsulation limit of its outer packets, where it sets one: 0 to 255 (RFC 2473 section 4.1.1)
 abbrev pub flow_limit : Members → Result (Option ℕ) Why
 flow_limit m = maybe (number 0 255) (get_member (codes "limit") m)
 
@@ -62,6 +71,7 @@ flow_limit m = maybe (number 0 255) (get_member (codes "limit") m)
 abbrev pub outer_of : Members → Result Outer Why
 outer_of m = flow_hops m ▷ (λ hops. flow_label m ▷ (λ label. Ok (record { hops = hops; label = label })))
 
+-- the faults of the outer header's keys
 abbrev pub outer_keys : ℕ → Members → List DomainFault
 outer_keys place m = at FlowTable place HopsKey (flow_hops m) ++ at FlowTable place LabelKey (flow_label m)
 
@@ -70,6 +80,7 @@ abbrev pub tracing_of : Members → Result Tracing Why
 tracing_of m = flow_trace m ▷ (λ trace. flow_capacity m ▷ (λ capacity. flow_edge m ▷ (λ edge.
     Ok (record { trace = trace; capacity = capacity; edge = edge }))))
 
+-- the faults of the keys of the options that every packet carries
 abbrev pub tracing_keys : ℕ → Members → List DomainFault
 tracing_keys place m = at FlowTable place TraceKey (flow_trace m) ++ (at FlowTable place CapacityKey (flow_capacity m) ++ at FlowTable place EdgeKey (flow_edge m))
 
@@ -88,9 +99,11 @@ exporting_keys place space seen m =
 
 -- `nodes` are the names of the nodes, and `lists` the namespaces that these list
 module _ (nodes : List (List ℕ)) (lists : List (Result (List Namespace) Why)) where
+  -- the entry node of a flow, by its place
   abbrev pub flow_entry : Members → Result ℕ Why
   flow_entry m = needed name (get_member (codes "entry") m) ▷ known nodes
 
+  -- its exit node, by its place: another one
   abbrev pub flow_exit : Members → Result ℕ Why
   flow_exit m = needed name (get_member (codes "exit") m) ▷ known nodes ▷ differs (flow_entry m)
 
@@ -103,6 +116,7 @@ module _ (nodes : List (List ℕ)) (lists : List (Result (List Namespace) Why)) 
   selection_of m = flow_entry m ▷ (λ entry. flow_exit m ▷ (λ exit. flow_source m ▷ (λ source. flow_target m ▷ (λ target. flow_space m ▷ (λ space.
       Ok (record { entry = entry; exit = exit; source = source; target = target; namespace = space }))))))
 
+  -- the faults of the keys that say which packets are enclosed
   abbrev pub selection_keys : ℕ → Members → List DomainFault
   selection_keys place m =
       at FlowTable place EntryKey (flow_entry m)

@@ -33,6 +33,7 @@ pub record FlowLook : Type 0 where
   pub space : Result ℕ Why
   pub trace : Result (Option ℕ) Why
 
+-- the name of a flow, which is needed
 abbrev pub flow_name : Members → Result (List ℕ) Why
 flow_name m = needed name (get_member (codes "name") m)
 
@@ -71,6 +72,7 @@ module _ (nodes : List (List ℕ)) (lists : List (Result (List Namespace) Why)) 
   abbrev pub flow_key : Members → Result (ℕ × ℕ) Why
   flow_key m = id_key (flow_space nodes lists m) m
 
+  -- a flow with its own trace alone, where all its keys are read; else the first reason why not
   abbrev pub flow_of : Members → Result Flow Why
   flow_of m = flow_name m ▷ (λ name. selection_of nodes lists m ▷ (λ s. outer_of m ▷ (λ o. tracing_of m ▷ (λ t. exporting_of m ▷ (λ e.
       Ok (flow_with name s o t e))))))

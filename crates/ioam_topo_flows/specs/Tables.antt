@@ -29,6 +29,7 @@ module _ (nodes : List (List ℕ)) (lists : List (Result (List Namespace) Why)) 
   abbrev pub flow_names : List (List ℕ)
   flow_names = goods flow_name (flow_entries t)
 
+  -- what is known of the ends, the namespace and the trace of each flow
   abbrev pub flow_looks : List FlowLook
   flow_looks = goods (flow_look nodes lists) (flow_entries t)
 
@@ -36,6 +37,7 @@ module _ (nodes : List (List ℕ)) (lists : List (Result (List Namespace) Why)) 
   abbrev pub flows_behind : List Flow
   flows_behind = traced 0 (goods (flow_of nodes lists) (flow_entries t)) (goods (extra_of flow_names flow_looks lists) (extra_entries t))
 
+  -- the faults of the table `data`, of no more than 4,096 entries
   abbrev pub data_table_faults : List DomainFault
   data_table_faults = table_faults DataTable 4096 (get_member (codes "data") t) (data_faults nodes)
 
@@ -43,6 +45,7 @@ module _ (nodes : List (List ℕ)) (lists : List (Result (List Namespace) Why)) 
   abbrev pub flow_table_faults : ℕ → List DomainFault
   flow_table_faults most = table_faults FlowTable most (get_member (codes "flow") t) (flow_faults nodes lists)
 
+  -- the faults of no more than so many extra traces
   abbrev pub extra_table_faults : ℕ → List DomainFault
   extra_table_faults most = table_faults ExtraTable most (get_member (codes "extra") t) (extra_faults flow_names flow_looks lists)
 

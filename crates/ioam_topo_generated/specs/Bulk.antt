@@ -34,6 +34,7 @@ bulk_nodes = node_of (codes "n1") 1 seven ∷ node_of (codes "n2") 2 seven ∷ n
 abbrev pub link_of : List ℕ → ℕ → Link
 link_of name at = record { name = name; from = record { 0 = at }; to = record { 0 = at + 1 }; out_id = 2; in_id = 1; delay = 1000; mtu = 1500; tap = None }
 
+-- the four links, each from a node of the row to the next
 unfoldable pub bulk_links : List Link
 bulk_links = link_of (codes "n1n2") 0 ∷ link_of (codes "n2n3") 1 ∷ link_of (codes "n3n4") 2 ∷ link_of (codes "n4n5") 3 ∷ []
 
@@ -49,12 +50,15 @@ bulk_ports = port_of (codes "west") 0 1 (codes "west-out.pcap") ∷ port_of (cod
 abbrev pub to_last : Prefix
 to_last = record { bits = 42540766411282592856903984951653826565; length = 128 }
 
+-- 2001:db8:2::/48, the prefix of what leaves at east
 abbrev pub to_east : Prefix
 to_east = record { bits = 42540766411285010708543214210003238912; length = 48 }
 
+-- a route of the node of a place
 abbrev pub route_of : ℕ → Prefix → Way → Route
 route_of at prefix way = record { node = record { 0 = at }; prefix = prefix; way = way }
 
+-- the way by the link of a place
 abbrev pub by_link : ℕ → Way
 by_link at = ByLink (record { 0 = at })
 

@@ -17,6 +17,7 @@ use Rattle.ioam_topo_entries.specs.Faults.{at}
 use Rattle.ioam_topo_entries.specs.Goods.{goods, fresh}
 use Rattle.ioam_topo_entries.specs.Keys.{own_keys}
 
+-- the name of a node, which is needed
 abbrev pub node_name : Members → Result (List ℕ) Why
 node_name m = needed name (get_member (codes "name") m)
 
@@ -24,9 +25,11 @@ node_name m = needed name (get_member (codes "name") m)
 abbrev pub node_id : Members → Result ℕ Why
 node_id m = needed (number 0 72057594037927935) (get_member (codes "id") m)
 
+-- the address of a node, which is needed
 abbrev pub node_address : Members → Result ℕ Why
 node_address m = needed address (get_member (codes "address") m)
 
+-- the namespaces that a node lists; none where the key is absent
 abbrev pub node_spaces : Members → Result (List Namespace) Why
 node_spaces m = optional [] namespaces (get_member (codes "namespaces") m)
 

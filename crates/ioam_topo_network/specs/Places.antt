@@ -25,12 +25,15 @@ use Rattle.ioam_topo_network.specs.RouteTable.{route_faults, route_of}
 abbrev pub node_entries : Members → List Members
 node_entries t = entries (get_member (codes "node") t)
 
+-- the entries of the table `link`
 abbrev pub link_entries : Members → List Members
 link_entries t = entries (get_member (codes "link") t)
 
+-- the entries of the table `port`
 abbrev pub port_entries : Members → List Members
 port_entries t = entries (get_member (codes "port") t)
 
+-- the entries of the table `route`
 abbrev pub route_entries : Members → List Members
 route_entries t = entries (get_member (codes "route") t)
 

@@ -19,12 +19,15 @@ module _ (parts : Parts) where
   abbrev pub keys_behind : ℕ → List (ℕ × Prefix) → Members → List DomainFault
   keys_behind = route_keys parts.nodes.names parts.links.names (map from_of parts.links.items.items) parts.ports.names (map node_of_port parts.ports.items.items)
 
+  -- the faults of a route's entry behind others, over these nodes, links and ports
   abbrev pub faults_behind : List Members → Members → List DomainFault
   faults_behind = route_faults parts.nodes.names parts.links.names (map from_of parts.links.items.items) parts.ports.names (map node_of_port parts.ports.items.items)
 
+  -- the route of an entry, over these
   abbrev pub route_behind : Members → Result Route Why
   route_behind = route_of parts.nodes.names parts.links.names (map from_of parts.links.items.items) parts.ports.names (map node_of_port parts.ports.items.items)
 
+  -- the node and the prefix of an entry's route, which no two routes share
   abbrev pub key_behind : Members → Result (ℕ × Prefix) Why
   key_behind = route_key parts.nodes.names parts.links.names (map from_of parts.links.items.items) parts.ports.names (map node_of_port parts.ports.items.items)
 

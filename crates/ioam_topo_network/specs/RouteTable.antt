@@ -46,11 +46,13 @@ way_of (Some i) port = Ok (Link (record { 0 = i }))
 way_of None (Some i) = Ok (Port (record { 0 = i }))
 way_of None None = Err Missing
 
+-- the prefix of a route, which is needed
 abbrev pub route_prefix : Members → Result Prefix Why
 route_prefix m = needed prefix (get_member (codes "prefix") m)
 
 -- `nodes`, `links` and `ports` are names; `froms` and `homes` are the nodes of the links and of the ports of these names
 module _ (nodes links : List (List ℕ)) (froms : List (Result ℕ Why)) (ports : List (List ℕ)) (homes : List (Result ℕ Why)) where
+  -- the node of a route, by its place
   abbrev pub route_node : Members → Result ℕ Why
   route_node m = needed name (get_member (codes "node") m) ▷ known nodes
 
@@ -58,6 +60,7 @@ module _ (nodes links : List (List ℕ)) (froms : List (Result ℕ Why)) (ports 
   abbrev pub link_in : Members → Data → Result ℕ Why
   link_in m d = name d ▷ known links ▷ (λ i. agrees (route_node m) (read_at froms i) i)
 
+  -- the link of a route: needed where there is no port, and from the route's node
   abbrev pub route_link : Members → Result (Option ℕ) Why
   route_link m = link_part (link_in m) (get_member (codes "link") m) (is_some (get_member (codes "port") m))
 
@@ -65,6 +68,7 @@ module _ (nodes links : List (List ℕ)) (froms : List (Result ℕ Why)) (ports 
   abbrev pub port_in : Members → Data → Result ℕ Why
   port_in m d = name d ▷ known ports ▷ (λ i. agrees (route_node m) (read_at homes i) i)
 
+  -- the port of a route: where there is no link, and at the route's node
   abbrev pub route_port : Members → Result (Option ℕ) Why
   route_port m = port_part (port_in m) (get_member (codes "port") m) (is_some (get_member (codes "link") m))
 
@@ -72,6 +76,7 @@ module _ (nodes links : List (List ℕ)) (froms : List (Result ℕ Why)) (ports 
   abbrev pub route_key : Members → Result (ℕ × Prefix) Why
   route_key m = route_node m ▷ (λ node. route_prefix m ▷ (λ p. Ok (node, p)))
 
+  -- a route, where all its keys are read; else the first reason why not
   abbrev pub route_of : Members → Result Route Why
   route_of m = route_node m ▷ (λ node. route_prefix m ▷ (λ p. route_link m ▷ (λ link. route_port m ▷ (λ port. way_of link port ▷ (λ way.
       Ok (record { node = record { 0 = node }; prefix = p; way = way }))))))

@@ -42,5 +42,6 @@ abbrev pub ranged : {A : Type 0} → Option A → Result A Why
 ranged None = Err Range
 ranged (Some x) = Ok x
 
+-- an IPv6 address, of a text that spells one, or why there is none
 abbrev pub address : Data → Result ℕ Why
 address d = text d ▷ (λ s. ranged (address_of s))

@@ -52,6 +52,7 @@ are_whole no_items = true
 are_whole (item (integer z) ds) = are_whole ds
 are_whole (item _ ds) = false
 
+-- the namespace of a number
 abbrev pub namespace : ℕ → Namespace
 namespace n = record { 0 = n }
 
@@ -70,6 +71,7 @@ abbrev pub apart_from : List ℕ → List Namespace → Bool
 apart_from seen [] = true
 apart_from seen (s ∷ ss) = not (list_any (nat_eq s.0) seen) && apart_from (seen ++ s.0 ∷ []) ss
 
+-- these namespaces, where no two of them are the same
 abbrev pub apart : List Namespace → Result (List Namespace) Why
 apart ss = if apart_from [] ss then Ok ss else Err Twice
 

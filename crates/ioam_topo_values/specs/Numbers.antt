@@ -15,5 +15,6 @@ abbrev pub within : ℕ → ℕ → ℤ → Result ℕ Why
 within low high (pos n) = if nat_le low n && nat_le n high then Ok n else Err Range
 within low high (negsuc n) = Err Range
 
+-- a whole number between two bounds, both allowed, or why there is none
 abbrev pub number : ℕ → ℕ → Data → Result ℕ Why
 number low high d = whole d ▷ within low high

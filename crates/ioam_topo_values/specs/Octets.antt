@@ -17,5 +17,6 @@ decoded (Err e) = Err Range
 abbrev pub octets_of : List ℕ → Result (List ℕ) Why
 octets_of s = if (length s % 8 == 0) && nat_le (length s) 360 then decoded (decode_of s) else Err Range
 
+-- the octets of a text of hexadecimal digits, or why there are none
 abbrev pub octets : Data → Result (List ℕ) Why
 octets d = text d ▷ octets_of

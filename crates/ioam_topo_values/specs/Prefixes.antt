@@ -13,6 +13,7 @@ use Rattle.ioam_topo_values.specs.Addresses.{address_of, ranged, Spells}
 abbrev pub length_of : List ℕ → Option ℕ
 length_of s = decimal_below 129 s
 
+-- a prefix of an address and a length that were read, with the bits beyond the length cleared; none where either wasn't
 abbrev pub prefix_of : Option ℕ → Option ℕ → Option Prefix
 prefix_of (Some bits) (Some n) = Some (record { bits = masked n bits; length = n })
 prefix_of _ _ = None
@@ -22,9 +23,11 @@ abbrev pub parted : Option ℕ → List ℕ → Option Prefix
 parted None s = None
 parted (Some i) s = prefix_of (address_of (take i s)) (length_of (drop (i + 1) s))
 
+-- the place of the first `/` of a text
 abbrev pub slash_at : List ℕ → Option ℕ
 slash_at s = position (λ b. b == 47) s
 
+-- a prefix, of a text that spells one, or why there is none
 abbrev pub prefix : Data → Result Prefix Why
 prefix d = text d ▷ (λ s. ranged (parted (slash_at s) s))
 

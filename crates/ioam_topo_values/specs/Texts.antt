@@ -6,6 +6,7 @@ use Rattle.ioam_topo_values.specs.declared.why.Why.{Why}
 use Rattle.ioam_topo_values.specs.declared.why.Why.TheVariants.{Kind, Range}
 use Rattle.ioam_topo_values.specs.Reads.{◌▷◌}
 
+-- the octets of a text, or that the value is no text
 abbrev pub text : Data → Result (List ℕ) Why
 text (string s) = Ok s
 text _ = Err Kind
@@ -27,8 +28,10 @@ is_file_name s = nat_le 1 (length s) && nat_le (length s) 255 && list_all (λ b.
 abbrev pub formed : (List ℕ → Bool) → List ℕ → Result (List ℕ) Why
 formed test s = if test s then Ok s else Err Range
 
+-- a text that is a name, or why it is none
 abbrev pub name : Data → Result (List ℕ) Why
 name d = text d ▷ formed is_name
 
+-- a text that is the name of a file, or why it is none
 abbrev pub file_name : Data → Result (List ℕ) Why
 file_name d = text d ▷ formed is_file_name

@@ -55,6 +55,7 @@ run_from (suc fuel) kind node_len used at = if stands kind node_len used at
     then element_at kind node_len used at ∷ run_from fuel kind node_len used (behind kind node_len used at)
     else []
 
+-- the place where the run of elements from a place on ends: the first at which no whole element stands
 unfoldable pub end_from : ℕ → ℕ → ℕ → List ℕ → ℕ → ℕ
 end_from zero kind node_len used at = at
 end_from (suc fuel) kind node_len used at = if stands kind node_len used at

@@ -12,6 +12,7 @@ header namespace node_len flags remaining kind reserved = to_be_bytes w16 namesp
     ++ to_be_bytes w16 (node_len * 2048 + flags * 128 + remaining)
     ++ to_be_bytes w32 (kind * 256 + reserved)
 
+-- the 8 octets of the header with the fields of a trace's head
 abbrev pub head_octets : TraceHead → List ℕ
 head_octets head = header head.namespace.0 head.node_len head.flags head.remaining head.kind head.reserved
 

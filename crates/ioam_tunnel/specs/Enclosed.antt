@@ -47,6 +47,7 @@ abbrev pub seconds_of : Option (ℕ × ℕ) → ℕ
 seconds_of None = 4294967295
 seconds_of (Some stamp) = stamp.0
 
+-- the fraction of a stamp; all ones without one
 abbrev pub fraction_of : Option (ℕ × ℕ) → ℕ
 fraction_of None = 4294967295
 fraction_of (Some stamp) = stamp.1
@@ -84,6 +85,7 @@ limit_parts (Some limit) = record { kind = 4; body = limit ∷ [] } ∷ []
 abbrev pub class_of : List ℕ → ℕ
 class_of packet = u32_at packet 0 / 1048576 % 256
 
+-- the address of a node; 0 of none
 abbrev pub address_of : Option Node → ℕ
 address_of None = 0
 address_of (Some node) = node.address
@@ -113,6 +115,7 @@ tunnel_by domain None numbers packet =
     record { class = 0; label = 0; source = 0; target = 0; hops = 0; traces = []; others = []; targets = []; inner = packet }
 tunnel_by domain (Some flow) numbers packet = tunnel_between (address_at domain flow.entry) (address_at domain flow.exit) flow numbers packet
 
+-- the tunnel of a packet of the flow of an id, with these numbers
 abbrev pub tunnel_of : Domain → FlowId → Numbers → List ℕ → Tunnel
 tunnel_of domain id numbers packet = tunnel_by domain (slice_get (flows domain) id.0) numbers packet
 

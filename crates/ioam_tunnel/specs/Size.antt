@@ -13,6 +13,7 @@ trace_size trace = record { kind = 0x31; size = 10 + 4 * trace.capacity }
 abbrev pub direct_sizes : Bool → List Sized
 direct_sizes direct = if direct then record { kind = 0x11; size = 18 } ∷ [] else []
 
+-- the option of the tunnel encapsulation limit has one octet of data (RFC 2473 section 4.1.1)
 abbrev pub limit_sizes : Bool → List Sized
 limit_sizes limit = if limit then record { kind = 4; size = 1 } ∷ [] else []
 

@@ -57,9 +57,11 @@ abbrev pub outer_start : ℕ → ℕ → ℕ → ℕ → ℕ → List ℕ
 outer_start class label payload next limit =
     to_be_bytes w32 ((6 * 256 + class) * 1048576 + label) ++ to_be_bytes w16 payload ++ (next ∷ limit ∷ [])
 
+-- a source and a target, 16 octets each
 abbrev pub addresses : ℕ → ℕ → List ℕ
 addresses source target = to_be_bytes w128 source ++ to_be_bytes w128 target
 
+-- the 40 octets of the outer header of a tunnel, with this payload length, next header value and hop limit
 abbrev pub outer_header : Tunnel → ℕ → ℕ → ℕ → List ℕ
 outer_header tunnel payload next limit = outer_start tunnel.class tunnel.label payload next limit ++ addresses tunnel.source tunnel.target
 
