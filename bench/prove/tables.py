@@ -10,13 +10,14 @@ Without a CRATE: all crates of crates.txt, in its order. `missing` ends with sta
 import glob
 import os
 import re
+import signal
 import sys
 
 TOP = os.path.dirname(os.path.dirname(os.path.dirname(os.path.abspath(__file__))))
 # a word of specs/: a name for a term, a statement of several fields, one of several cases, a law that a crate asks for
 WORD = re.compile(r"^(?:\s*(?:(?:abbrev|unfoldable) pub|pub (?:record|data))|pub(?= [\w-]+ :)) ([\w-]+)")
-FUNCTION = re.compile(r"^(\s*)pub (?:const )?(?:unsafe )?fn (\w+)")
-TYPE = re.compile(r"^\s*(?:impl\b.*? for )?(?:impl|pub (?:struct|enum|trait)|for)\b(?:<[^>]*>)? ?(\w+)")
+FUNCTION = re.compile(r"^\s*pub (?:const |unsafe )*fn \w+")
+METHOD = re.compile(r"^\s+fn \w+")
 CLAUSE = re.compile(r"^\s*(?:requires|ensures|ghost)\b")
 
 
@@ -36,11 +37,13 @@ def files(crate, folder, ending):
 
 
 def above(lines, at, mark):
-    """The sentence that stands directly above a line, in comments that begin with the mark."""
+    """The sentence that stands directly above a line, in comments that begin with the mark, and above its attributes."""
+    while at > 0 and lines[at - 1].strip().startswith("#["):
+        at -= 1
     first = at
     while first > 0 and lines[first - 1].strip().startswith(mark):
         first -= 1
-    return " ".join(line.strip()[len(mark):].strip() for line in lines[first:at])
+    return " ".join(" ".join(line.strip().lstrip(mark[0]) for line in lines[first:at]).split())
 
 
 def words(crate):
@@ -54,17 +57,18 @@ def words(crate):
 
 def contract(lines, at):
     """The signature of the function at a line, and its clauses, each from its first line to its last."""
-    parts, closed = [[]], False
+    parts = [[]]
     for line in lines[at:]:
         text = line.strip()
-        if closed and text.startswith("{") or text.endswith(";") and not CLAUSE.match(line) and len(parts) == 1:
+        if text == "{":
             break
         if CLAUSE.match(line):
             parts.append([])
-        if text and not text.startswith("//"):
-            parts[-1].append(text)
-        closed = closed or CLAUSE.match(line) or text.startswith(")") or ") ->" in text or text.endswith(")")
-    return [" ".join(part) for part in parts]
+        if not text.startswith("//"):
+            parts[-1].append(text.removesuffix(";") if text.endswith(";") else text.removesuffix(" {") if len(parts) == 1 else text)
+        if text.endswith(";") or text.endswith(" {") and len(parts) == 1:
+            break
+    return [" ".join(" ".join(part).split()) for part in parts]
 
 
 def print_definitions(names):
@@ -80,11 +84,10 @@ def print_contracts(names):
         for name, lines in files(crate, "src", "rt"):
             of = ""
             for at, line in enumerate(lines):
-                kind = re.match(r"^(?:pub )?(?:impl|trait)\b", line)
-                of = line.rstrip(" {") if kind else "" if line == "}" else of
-                if FUNCTION.match(line):
+                of = line.rstrip(" {") if re.match(r"^(?:pub trait|impl)\b", line) else "" if line == "}" else of
+                if FUNCTION.match(line) or of.startswith("pub trait") and METHOD.match(line):
                     signature, *clauses = contract(lines, at)
-                    print(f"\n### `{signature}`\n\n{name}:{at + 1}{', ' if of else ''}{of}. {above(lines, at, '///')}\n")
+                    print(f"\n### `{signature}`\n\n{name}:{at + 1}{', ' if of else ''}{of}. {above(lines, at, '//')}\n")
                     print("\n".join(f"    {it}" for it in clauses) or "(no clause)")
 
 
@@ -98,8 +101,10 @@ def print_missing(names):
 
 def main():
     tables = {"definitions": print_definitions, "contracts": print_contracts, "missing": print_missing}
-    if len(sys.argv) < 2 or sys.argv[1] not in tables:
+    unknown = [it for it in sys.argv[2:] if it not in crates()]
+    if len(sys.argv) < 2 or sys.argv[1] not in tables or unknown:
         sys.exit(__doc__.strip())
+    signal.signal(signal.SIGPIPE, signal.SIG_DFL)
     return tables[sys.argv[1]](sys.argv[2:] or crates())
 
 
