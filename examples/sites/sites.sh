@@ -4,7 +4,7 @@
 #
 #     examples/sites/sites.sh [EXPORTS [SITES]]
 #
-# EXPORTS (3,000 records that bench/make_exports.py makes, where none is given) is cut behind its records into SITES pieces (8), of
+# EXPORTS (3,000 records that bench/make/make_exports.py makes, where none is given) is cut behind its records into SITES pieces (8), of
 # which some records stand in two. A part is made of each, and the parts are merged
 #   - one behind the other,
 #   - in a tree by `make -j`,
@@ -23,7 +23,7 @@ given=${1:+$(realpath "$1")}
 work=$(mktemp -d)
 trap 'rm -rf "$work"' EXIT
 cd "$work"
-if [ -n "$given" ]; then cp "$given" exports; else python3 "$top/bench/make_exports.py" 3000 600; fi
+if [ -n "$given" ]; then cp "$given" exports; else python3 "$top/bench/make/make_exports.py" 3000 600; fi
 
 # the pieces: each site has its own records, and every third of its neighbour's
 python3 - "$sites" <<'PY'

@@ -1,0 +1,120 @@
+#!/usr/bin/env python3
+"""Compares what the program answers and writes with what a second writing of the same rules, in Python, says.
+
+    bench/compare/differential_inputs.py [COUNT] [PROGRAM] [FIRST]
+
+COUNT random inputs (1,000 where it isn't given), numbered from FIRST (0) on; one number always gives the same input. PROGRAM is
+this repository's `ioam` where none is given. The inputs are those of every command but `bulk`, of `run` the faulty domain files
+and READINGS alone, and words of no form: captures of both forms with each of their faults, packets with IOAM options of every
+kind, sound and broken, pairs of captures before and behind some node, export records, messages and parts with each of their
+faults, domain files with faults of each table, key and reason. Of each the line, the status and every file are compared, octet for octet, and that no other file was made. Where something differs it
+is said and the input's folder is kept; then the status is 1. At the end stands how often each answer, reason and branch of
+the second writing (bench/compare/model/) was reached.
+"""
+import os
+import random
+import shutil
+import subprocess
+import sys
+import tempfile
+
+sys.dont_write_bytecode = True
+sys.path.insert(0, os.path.join(os.path.dirname(os.path.abspath(__file__)), "model"))
+
+import audit_rows  # noqa: E402
+import faults_reach  # noqa: E402
+import messages_rows  # noqa: E402
+import texts_rows  # noqa: E402
+from faults_answers import answer, is_form  # noqa: E402
+from faults_words import some_input  # noqa: E402
+from repository import program_at  # noqa: E402
+
+
+def is_left_out(words):
+    """Whether the second writing doesn't say what words give: `bulk` with its numbers."""
+    try:
+        decoded = [word.decode() for word in words]
+    except UnicodeDecodeError:
+        return False
+    return decoded[:1] == ["bulk"] and is_form(decoded)
+
+
+def wanted_of(words, files):
+    """What an input should give: the line, the status, and the files that there then are; None where a folder can't hold them."""
+    line, status, outputs = answer(words, files)
+    if any(name in ("", ".", "..") or "/" in name for name in outputs):
+        return None
+    return line, status, {**files, **outputs}
+
+
+def came_of(program, words, files, room):
+    """What an input gives in a folder of its own."""
+    for name, octets in files.items():
+        with open(os.path.join(room, name), "wb") as file:
+            file.write(octets)
+    run = subprocess.run([program, *words], cwd=room, capture_output=True, timeout=120)
+    found = {}
+    for name in os.listdir(room):
+        with open(os.path.join(room, name), "rb") as file:
+            found[name] = file.read()
+    return run.stdout, run.returncode, found
+
+
+def difference(wanted, came):
+    """What differs, in words; empty where nothing does."""
+    line, status, files = wanted
+    printed, ended, found = came
+    said = []
+    if printed != (line + "\n").encode():
+        said.append(f"the line: wanted {line!r}, came {printed!r}")
+    if ended != status:
+        said.append(f"the status: wanted {status}, came {ended}")
+    for name in sorted(set(files) | set(found)):
+        if files.get(name) != found.get(name):
+            said.append(f"the file {name!r}: " + file_difference(files.get(name), found.get(name)))
+    return said
+
+
+def file_difference(wanted, came):
+    """Where two files begin to differ."""
+    if wanted is None or came is None:
+        return "should not be there" if wanted is None else "isn't there"
+    place = next((at for at, pair in enumerate(zip(wanted, came)) if pair[0] != pair[1]), min(len(wanted), len(came)))
+    start = max(0, place - 40)
+    return f"from octet {place} on: wanted {wanted[start:place + 60]!r}, came {came[start:place + 60]!r}"
+
+
+def one(number, program, room):
+    """Compares one input; whether it is the same."""
+    words, files = some_input(random.Random(f"ioam {number}"))
+    wanted = None if is_left_out(words) else wanted_of(words, files)
+    if wanted is None:
+        return True
+    said = difference(wanted, came_of(program, words, files, room))
+    for text in said:
+        print(f"input {number}: {text}")
+    if said:
+        print(f"  words {words}, kept in {room}")
+    return not said
+
+
+def main():
+    for rows in (texts_rows, audit_rows, messages_rows):
+        rows.check()
+    count = int(sys.argv[1]) if len(sys.argv) > 1 else 1000
+    program = program_at(2)
+    first = int(sys.argv[3]) if len(sys.argv) > 3 else 0
+    faults_reach.REACHED.clear()
+    differ = 0
+    for number in range(first, first + count):
+        room = tempfile.mkdtemp(prefix=f"ioam-input-{number}-")
+        if one(number, program, room):
+            shutil.rmtree(room)
+        else:
+            differ += 1
+    print(faults_reach.table() + f"{count} inputs, {differ} differ")
+    return 1 if differ else 0
+
+
+if __name__ == "__main__":
+    sys.exit(main())

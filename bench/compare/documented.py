@@ -1,0 +1,71 @@
+#!/usr/bin/env python3
+"""Runs the commands that README.md, docs/ and examples/ show, and compares what they print with what is shown there.
+
+    bench/compare/documented.py [PROGRAM]
+
+PROGRAM is what `./ioam` in the documents stands for: this repository's `ioam` where none is given. Each
+document is played in a new folder with a copy of examples/. A line for each command: `ok` or `DIFFERS`, and
+then what was wanted and what came. Ends with status 1 where one differs. Commands that print nothing are shown
+without lines behind them; other commands of the documents (`rt ci`, say) stand without `$` and aren't run.
+"""
+import os
+import shutil
+import subprocess
+import sys
+import tempfile
+
+from repository import TOP, program_at
+
+
+
+def shown(path):
+    """The commands of a document, each with the lines that are shown behind it."""
+    commands = []
+    inside = False
+    for line in open(path, encoding="utf-8"):
+        text = line.rstrip("\n")
+        if text.startswith("    $ "):
+            commands.append((text[6:], []))
+            inside = True
+        elif text.startswith("    ") and inside:
+            commands[-1][1].append(text[4:])
+        else:
+            inside = False
+    return commands
+
+
+def play(path, program):
+    """Runs a document's commands in one folder; how many there are, and how many differ."""
+    commands = shown(path)
+    differ = 0
+    with tempfile.TemporaryDirectory() as room:
+        shutil.copytree(os.path.join(TOP, "examples"), os.path.join(room, "examples"))
+        os.symlink(program, os.path.join(room, "ioam"))
+        for command, wanted in commands:
+            run = subprocess.run(["bash", "-c", command], cwd=room, capture_output=True, text=True)
+            came = run.stdout.splitlines()
+            same = came == wanted
+            differ += not same
+            print(f"{'ok' if same else 'DIFFERS':8}{os.path.relpath(path, TOP)}: {command}")
+            if not same:
+                print("  wanted:", *wanted, sep="\n    ")
+                print("  came:", *(came + run.stderr.splitlines()), sep="\n    ")
+    return len(commands), differ
+
+
+def main():
+    program = program_at(1)
+    documents = [os.path.join(TOP, "README.md")]
+    docs = os.path.join(TOP, "docs")
+    documents += [os.path.join(docs, name) for name in sorted(os.listdir(docs)) if name.endswith(".md")]
+    examples = os.path.join(TOP, "examples")
+    folders = (os.path.join(examples, name, "README.md") for name in sorted(os.listdir(examples)))
+    documents += [path for path in folders if os.path.exists(path)]
+    played = [play(path, program) for path in documents]
+    cases, differ = (sum(column) for column in zip(*played))
+    print(f"{cases} commands, {differ} differ")
+    return 1 if differ else 0
+
+
+if __name__ == "__main__":
+    sys.exit(main())
