@@ -1,12 +1,14 @@
 #!/usr/bin/env python3
-"""Runs the commands that README.md, docs/ and examples/ show, and compares what they print with what is shown there.
+"""Runs the commands that README.md, docs/, examples/ and the manual page show, and compares what they print with what is shown
+there; those of the manual page are to print `done`.
 
     bench/compare/documented.py [PROGRAM]
 
 PROGRAM is what `./ioam` in the documents stands for: this repository's `ioam` where none is given. Each
 document is played in a new folder with a copy of examples/. A line for each command: `ok` or `DIFFERS`, and
 then what was wanted and what came. Ends with status 1 where one differs. Commands that print nothing are shown
-without lines behind them; other commands of the documents (`rt ci`, say) stand without `$` and aren't run.
+without lines behind them; other commands of the documents (`rt ci`, say) stand without `$` and aren't run. Where gnuplot is missing,
+those that name a picture are left out.
 """
 import os
 import shutil
@@ -34,15 +36,34 @@ def shown(path):
     return commands
 
 
+def shown_in_manual(path):
+    """The commands in the displays of a manual page, each of which answers `done`."""
+    commands = []
+    inside = False
+    for line in open(path, encoding="utf-8"):
+        text = line.rstrip("\n").replace("\\e", "\\")
+        if text.startswith((".Bd", ".Ed")):
+            inside = text.startswith(".Bd")
+        elif inside and text.startswith("$ "):
+            commands.append((text[2:], ["done"]))
+        elif inside:
+            commands[-1] = commands[-1][0].rstrip("\\") + text.lstrip(), ["done"]
+    return commands
+
+
 def play(path, program):
     """Runs a document's commands in one folder; how many there are, and how many differ."""
-    commands = shown(path)
+    commands = shown_in_manual(path) if path.endswith(".1") else shown(path)
     differ = 0
     with tempfile.TemporaryDirectory() as room:
         shutil.copytree(os.path.join(TOP, "examples"), os.path.join(room, "examples"))
         os.symlink(program, os.path.join(room, "ioam"))
         for command, wanted in commands:
-            run = subprocess.run(["bash", "-c", command], cwd=room, capture_output=True, text=True)
+            if ".png" in command and not shutil.which("gnuplot"):
+                print(f"left    {os.path.relpath(path, TOP)}: {command}")
+                continue
+            found = {**os.environ, "PATH": room + os.pathsep + os.environ["PATH"]}
+            run = subprocess.run(["bash", "-c", command], cwd=room, env=found, capture_output=True, text=True)
             came = run.stdout.splitlines()
             same = came == wanted
             differ += not same
@@ -57,7 +78,7 @@ def main():
     program = program_at(1)
     documents = [os.path.join(TOP, "README.md")]
     docs = os.path.join(TOP, "docs")
-    documents += [os.path.join(docs, name) for name in sorted(os.listdir(docs)) if name.endswith(".md")]
+    documents += [os.path.join(docs, name) for name in sorted(os.listdir(docs)) if name.endswith((".md", ".1"))]
     examples = os.path.join(TOP, "examples")
     folders = (os.path.join(examples, name, "README.md") for name in sorted(os.listdir(examples)))
     documents += [path for path in folders if os.path.exists(path)]
