@@ -63,6 +63,8 @@ want() {
 # holds FILE TEXT: what a file has now, and removes it; gone FILE..: what isn't there.
 holds() { : >stderr && printf "$2" >wanted && cat "$1" >stdout 2>stderr; judge 0 0 "  in $1" && rm -f "$1"; }
 gone() { for name; do [ ! -e "$name" ] && : >stderr || echo >stderr; : >stdout && : >wanted && judge 0 0 "  no $name"; done; }
+# same FILE OTHER: whether two files hold the same.
+same() { : >stderr && cat "$2" >wanted && cat "$1" >stdout; judge 0 0 "  $1 is $2"; }
 # with_domain KEY NAME: the three nodes, with another name for `in`, or for each `out`.
 with_domain() { sed "s|$1 = \"[^\"]*\"|$1 = \"$2\"|" "$domain" >domain.toml; }
 # Words and names.
@@ -240,7 +242,6 @@ done
 
 # A file that is open, by another name as an output: it stays as it is. Devices and pipes may stand twice.
 # same FILE OTHER: they hold the same.
-same() { : >stderr && cat "$2" >wanted && cat "$1" >stdout; judge 0 0 "  $1 is $2"; }
 for file in ./x soft hard "$work/x"; do
     why='is an input of this run'
     want 10 'write fault' filter x "$file" report && want 10 'write fault' filter x out "$file"
