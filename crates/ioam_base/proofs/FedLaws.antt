@@ -1,9 +1,8 @@
 -- Laws of octets that are taken from the front.
-use Rattle.std.proofs.Common.{◌≡◌, ℕ, ◌+◌, ◌-◌, ◌≤◌, Bool, true, false, List, [], ◌++◌, length, take, drop, arith, refl, sym, ap, ◌∙◌, length-append, length-take-le, length-drop, leb-false}
-use Rattle.std.specs.Prelude.{max, nat_le, if◌then◌else◌}
+use Rattle.std.proofs.Common.{◌≡◌, ℕ, ◌+◌, ◌-◌, ◌≤◌, List, [], ◌++◌, length, take, drop, arith, sym, ap, ◌∙◌, length-append, length-take-le, length-drop}
 use Rattle.std.proofs.lemmas.List.{drop-drop, drop-take}
 use Rattle.std.proofs.Math.Seq.{take-add, drop-append-add}
-use Rattle.ioam_base.specs.Fed.{Kept, KeepsFew, passed, still_given}
+use Rattle.ioam_base.specs.Fed.{Kept, passed}
 
 -- so many octets more of a buffer were taken
 pub moved_on : (items : List ℕ) (taken start count : ℕ)
@@ -18,7 +17,7 @@ moved_on items taken start count =
 pub last_taken : (kept : Kept) (count last : ℕ) → count ≤ length kept.pending → last ≤ count
     → drop (length (passed count kept).given - last) (passed count kept).given ≡ take last (drop (count - last) kept.pending)
 last_taken kept count last fits few =
-    let before = still_given kept in
+    let before = kept.given in
     let front = take count kept.pending in
     let many : length front ≡ count = length-take-le count kept.pending fits in
     let all : length (before ++ front) ≡ length before + length front = length-append before front in
@@ -27,29 +26,13 @@ last_taken kept count last fits few =
     ap (λ n. drop n (before ++ front)) at ∙ drop-append-add before front (count - last)
     ∙ ap (λ n. drop (count - last) (take n kept.pending)) split ∙ drop-take (count - last) last kept.pending
 
--- few of the octets that were taken are still kept when others are
-still_few : (given pending : ℕ) (b : Bool) → nat_le (max pending 32768) given ≡ b → (if b then 0 else given) ≤ pending + 32768
-still_few given pending true is = omega arith
-still_few given pending false is = omega (arith, leb-false (max pending 32768) given is)
-
-still_length : (given : List ℕ) (b : Bool) → length (if b then [] else given) ≡ (if b then 0 else length given)
-still_length given true = refl
-still_length given false = refl
-
-pub passed_few : (kept : Kept) (most count : ℕ) → count ≤ length kept.pending → count ≤ most
-    → KeepsFew most (length (passed count kept).given) (length (passed count kept).pending)
-passed_few kept most count fits few =
-    let goes = nat_le (max (length kept.pending) 32768) (length kept.given) in
-    let still = still_few (length kept.given) (length kept.pending) goes refl in
+-- taking octets lets go of none
+pub passed_held : (kept : Kept) (count : ℕ) → count ≤ length kept.pending
+    → length (passed count kept).given + length (passed count kept).pending ≡ length kept.given + length kept.pending
+passed_held kept count fits =
     omega (
       arith,
-      still,
-      still_length kept.given goes,
-      length-append (still_given kept) (take count kept.pending),
+      length-append kept.given (take count kept.pending),
       length-take-le count kept.pending fits,
       length-drop count kept.pending,
     )
-
--- and when more are fed
-pub fed_few : (most given : ℕ) (pending piece : List ℕ) → KeepsFew most given (length pending) → KeepsFew most given (length (pending ++ piece))
-fed_few most given pending piece few = omega (arith, few, length-append pending piece)

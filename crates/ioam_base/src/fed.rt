@@ -1,6 +1,6 @@
 //! Octets that are fed in pieces, and taken from the front.
 ghost use Rattle.std.specs.Prelude.{◌≡◌, ◌+◌, ◌-◌, ◌≤◌, ◌<◌, ◌^◌, [], drop, length, IfOk, OnErr, OnOk};
-ghost use Rattle.ioam_base.specs.Fed.{fresh, fed, passed, still_given, with_piece};
+ghost use Rattle.ioam_base.specs.Fed.{fresh, fed, passed, with_piece};
 
 use crate::memory::NoMemory;
 use crate::octets::drop_front;
@@ -12,9 +12,8 @@ pub const PIECE: usize = 65_536;
 
 /// Octets that are fed in any pieces, and taken from the front. Those not yet taken are pending.
 ///
-/// Octets that were taken go, when others are taken, once they are half a piece and as many as are
-/// pending. So what is kept doesn't grow with what was fed, and for each octet that is fed at most
-/// one is moved within the buffer.
+/// Octets that were taken go when others are fed. So what is kept doesn't grow with what was fed, and
+/// of a piece only what is pending when the next one is fed is moved within the buffer.
 #[derive(Drop)]
 pub struct Fed {
     buffer: Vec<u8>,
@@ -68,25 +67,20 @@ impl Fed {
         &self.buffer[self.taken..]
     }
 
-    /// Feeds the next octets, of which there are below 2^63 in all.
+    /// Feeds the next octets, of which there are below 2^63 in all, and lets go of those that were taken.
+    /// Where no memory can be had nothing changes.
     pub fn feed(&mut self, piece: &[u8]) -> Result<(), NoMemory>
         requires { fed self.old + length piece.now < 2 ^ 63 }
         ensures ok { OnOk result (self.new ≡ with_piece piece.now self.old) }
         ensures err { OnErr result (self.new ≡ self.old) }
     {
-        self.buffer.extend_from_slice(piece)?;
+        let more = piece.len().saturating_sub(self.taken);
+        self.buffer.reserve(more)?;
+        drop_front(&mut self.buffer, self.taken);
+        self.taken = 0;
+        // never refused: there is room for as many more
+        self.buffer.extend_from_slice(piece).unwrap();
         Ok(())
-    }
-
-    // Lets go of the octets that were taken, once they are many.
-    fn let_go(&mut self)
-        ensures { self.new ≡ record self.old { given = still_given self.old } }
-    {
-        let pending = self.buffer.len() - self.taken;
-        if self.taken >= pending.max(PIECE / 2) {
-            drop_front(&mut self.buffer, self.taken);
-            self.taken = 0;
-        }
     }
 
     /// Takes so many of the pending octets.
@@ -94,7 +88,6 @@ impl Fed {
         requires { count ≤ length self.old.pending }
         ensures { self.new ≡ passed count self.old }
     {
-        self.let_go();
         self.taken += count;
         self.start += count as u64;
     }

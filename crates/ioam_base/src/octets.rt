@@ -1,5 +1,5 @@
 //! Numbers in octets, the most significant octet first, and octets written over others.
-ghost use Rattle.std.specs.Prelude.{◌≡◌, ◌+◌, ◌≤◌, ◌<◌, ◌^◌, drop, length, vec_len};
+ghost use Rattle.std.specs.Prelude.{◌≡◌, ◌+◌, ◌≤◌, ◌<◌, ◌^◌, drop, length, vec_capacity, vec_len};
 ghost use Rattle.ioam_base.specs.Octets.{u16_at, u24_at, u32_at, u64_at, written};
 ghost use Rattle.ioam_base.specs.Words.{two_octets, three_octets, four_octets, eight_octets};
 
@@ -79,15 +79,16 @@ pub fn put_at(octets: &mut [u8], at: usize, part: &[u8])
     octets[at..at + part.len()].copy_from_slice(part);
 }
 
-/// Takes so many octets off the front of a buffer; those behind them move to its front.
+/// Takes so many octets off the front of a buffer; those behind them move to its front. It keeps its room.
 pub fn drop_front(buffer: &mut Vec<u8>, count: usize)
     requires { count ≤ vec_len buffer.old }
-    ensures { buffer.new.items ≡ drop count buffer.old.items }
+    ensures items { buffer.new.items ≡ drop count buffer.old.items }
+    ensures room { vec_capacity buffer.new ≡ vec_capacity buffer.old }
 {
     if count == 0 {
         return;
     }
     let len = buffer.len();
-    buffer.as_mut_slice().copy_within(count..len, 0);
+    buffer.copy_within(count..len, 0);
     buffer.truncate(len - count);
 }

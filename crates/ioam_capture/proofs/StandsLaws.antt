@@ -9,19 +9,13 @@ use Rattle.ioam_pcap.specs.Reader as classic
 use Rattle.ioam_pcap.proofs.StandsLaws as classic_laws
 use Rattle.ioam_ng.proofs.LaterLaws as ng_later
 use Rattle.ioam_ng.proofs.SizeLaws as ng_laws
-use Rattle.ioam_capture.specs.Reading.{Reading, Front, Classic, Ng, fed, HoldsFew, KeepsFewGiven}
+use Rattle.ioam_capture.specs.Reading.{Reading, Front, Classic, Ng, fed, HoldsFew}
 use Rattle.ioam_capture.specs.Reads.{IsClassicly, of_link, Reads}
 use Rattle.ioam_capture.specs.Reader.{Stands, Waits}
 use Rattle.ioam_capture.specs.Streams.{ShowsSo}
 use Rattle.ioam_capture.proofs.ClassicLaws.{Classic-total, Classic-short, Classic-begins, Classic-cut}
 use Rattle.ioam_capture.proofs.NgLaws.{Ng-waits}
 use Rattle.ioam_capture.proofs.ReadsLaws.{Reads-total, Reads-later}
-
--- few of the octets that a reader gave it still keeps
-pub Stands-keeps : (reader : Reading) (octets : List ℕ) (taken : List Taken) → Stands reader octets taken → KeepsFewGiven reader
-Stands-keeps (Front held) octets taken stands = tt
-Stands-keeps (Classic reader) octets taken stands = let (entries, stood, is) = stands.2 in stood.few
-Stands-keeps (Ng reader) octets taken stands = stands.1.few
 
 -- what a reader has given begins all that the octets read as
 pub Stands-first : (reader : Reading) (octets : List ℕ) (taken : List Taken) → Stands reader octets taken

@@ -19,7 +19,7 @@ use Rattle.ioam_ng.specs.Reading as ng_reading
 use Rattle.ioam_ng.specs.Reader as ng
 use Rattle.ioam_capture.specs.declared.reader.Step.{Step}
 use Rattle.ioam_capture.specs.declared.reader.Step.TheVariants.{Packet, More, Bad, NoMemory}
-use Rattle.ioam_capture.specs.Reading.{Reading, Classic, Ng, pending, fed, HoldsFew}
+use Rattle.ioam_capture.specs.Reading.{Reading, Classic, Ng, pending, fed, held, HoldsFew}
 use Rattle.ioam_capture.specs.Reads.{of_link, Reads}
 use Rattle.ioam_capture.specs.Reader.{Stands, Waits, HasFault, IsFace, KeepsOn, Leaves, taken_of}
 use Rattle.ioam_capture.proofs.ReadsLaws.{IsNg-behind, not_ng-behind, Reads-unique}
@@ -27,7 +27,7 @@ use Rattle.ioam_capture.proofs.StandsLaws.{Stands-shows}
 
 -- ---- of either form
 
-module _ (old new : Reading) (same : fed new ≡ fed old) (less : length (pending new) ≤ length (pending old)) where
+module _ (old new : Reading) (same : fed new ≡ fed old) (less : length (pending new) ≤ length (pending old)) (kept : held new ≡ held old) where
   nothing_more : (octets : List ℕ) (taken : List Taken) → Stands new octets taken → Stands new octets (taken ++ [])
   nothing_more octets taken stands = subst (Stands new octets) (sym (append-nil taken)) stands
 
@@ -39,6 +39,7 @@ module _ (old new : Reading) (same : fed new ≡ fed old) (less : length (pendin
     λ octets taken stands.
         let stood = keeps octets taken stands in
         (nothing_more octets taken stood, Stands-shows new octets taken stood waits),
+    kept,
   )
 
   leaves_bad : KeepsOn old new → (at : ℕ) (f : CapFault) → HasFault new at f → ((octets : List ℕ) (taken : List Taken) → Stands old octets taken → (more : List ℕ) → Reads (octets ++ more) taken (Faulty at f))
@@ -52,14 +53,15 @@ module _ (old new : Reading) (same : fed new ≡ fed old) (less : length (pendin
           nothing_more octets taken (keeps octets taken stands),
           (reads, λ more others end others_read. Reads-unique (octets ++ more) others taken end (Faulty at f) others_read (reads more)),
         ),
+    kept,
   )
 
   leaves_no_memory : KeepsOn old new → IsFace new → Leaves old new NoMemory
-  leaves_no_memory keeps face = (face, same, less, λ octets taken stands. (nothing_more octets taken (keeps octets taken stands), tt))
+  leaves_no_memory keeps face = (face, same, less, (λ octets taken stands. (nothing_more octets taken (keeps octets taken stands), tt)), kept)
 
   -- what stands before the record was passed first
   pub leaves_after : KeepsOn old new → (last : Reading) (step : Step) → Leaves new last step → Leaves old last step
-  leaves_after keeps last step leaves = (leaves.0, leaves.1 ∙ same, omega (arith, leaves.2, less), λ octets taken stands. leaves.3 octets taken (keeps octets taken stands))
+  leaves_after keeps last step leaves = (leaves.0, leaves.1 ∙ same, omega (arith, leaves.2, less), (λ octets taken stands. leaves.3 octets taken (keeps octets taken stands)), leaves.4 ∙ kept)
 
 -- a reader that changes nothing
 keeps_same : (old new : Reading) → new ≡ old → KeepsOn old new
@@ -69,7 +71,7 @@ pub leaves_waiting : (old new : Reading) → new ≡ old → Waits old → Holds
 leaves_waiting old new same waits few =
     let Q : Reading → Type 0 = λ r. Waits r × HoldsFew r in
     let there = subst Q (sym same) (waits, few) in
-    leaves_more old new (ap fed same) (omega (arith, ap (λ r. length (pending r)) same)) (keeps_same old new same) there.0 there.1
+    leaves_more old new (ap fed same) (omega (arith, ap (λ r. length (pending r)) same)) (ap held same) (keeps_same old new same) there.0 there.1
 
 -- ---- of the classic form
 
@@ -89,9 +91,9 @@ module _ (old new : classic_reading.Reading) where
   classic_kept : new ≡ old → KeepsOn (Classic old) (Classic new)
   classic_kept same = keeps_same (Classic old) (Classic new) (ap Classic same)
 
-  pub classic_packet : (link : Link) → classic.link_of old ≡ Some link → (p : packet.Packet) → classic.Moved old new (cap.Packet p) → Tells (cap.Packet p)
+  pub classic_packet : (link : Link) → classic.link_of old ≡ Some link → (p : packet.Packet) → classic.Moved old new (cap.Packet p) → Tells (cap.Packet p) → classic.held new ≡ classic.held old
       → Leaves (Classic old) (Classic new) (Packet link p)
-  classic_packet link linked p moved tells = (
+  classic_packet link linked p moved tells kept = (
     (moved.4, moved.6),
     omega (arith, moved.1, moved.3),
     omega (arith, moved.3),
@@ -101,6 +103,7 @@ module _ (old new : classic_reading.Reading) where
         let all : taken ++ taken_of link p ∷ [] ≡ of_link (classic.link_of new) (entries ++ classic.entry_of p ∷ []) =
         with_record link entries (classic.entry_of p) taken (classic.link_of old) (classic.link_of new) linked (ap link_by moved.0) is in
         ((stands.0, stands.1, (entries ++ classic.entry_of p ∷ [], told.1, all)), tt),
+    kept,
   )
 
   pub classic_more : classic.Moved old new cap.More → Leaves (Classic old) (Classic new) More
@@ -110,7 +113,7 @@ module _ (old new : classic_reading.Reading) where
   classic_bad at f moved tells =
       let same : Classic new ≡ Classic old = ap Classic moved.0 in
       let Q : Reading → Type 0 = λ r. HasFault r at f in
-      leaves_bad (Classic old) (Classic new) (ap fed same) (omega (arith, ap (λ r. length (pending r)) same)) (classic_kept moved.0) at f
+      leaves_bad (Classic old) (Classic new) (ap fed same) (omega (arith, ap (λ r. length (pending r)) same)) (ap held same) (classic_kept moved.0) at f
       (subst Q (sym same) (moved.1, moved.2)) faulty
     where
       faulty : (octets : List ℕ) (taken : List Taken) → Stands (Classic old) octets taken → (more : List ℕ) → Reads (octets ++ more) taken (Faulty at f)
@@ -141,7 +144,7 @@ module _ (old new : classic_reading.Reading) where
 
   -- what a step of the form's reader leaves
   abbrev pub ClassicLeaves : CapStep → Type 0
-  ClassicLeaves step = classic.Moved old new step × Tells step × classic.SaysFault old step
+  ClassicLeaves step = classic.Moved old new step × Tells step × classic.SaysFault old step × (classic.held new ≡ classic.held old)
 
   abbrev pub ClassicGives : Link → CapStep → Type 0
   ClassicGives link (cap.Packet p) = Leaves (Classic old) (Classic new) (Packet link p)
@@ -150,14 +153,15 @@ module _ (old new : classic_reading.Reading) where
   ClassicGives link (cap.Head other) = ⊥
 
   pub classic_step : (link : Link) → classic.link_of old ≡ Some link → (step : CapStep) → ClassicLeaves step → ClassicGives link step
-  classic_step link linked (cap.Packet p) leaves = classic_packet link linked p leaves.0 leaves.1
+  classic_step link linked (cap.Packet p) leaves = classic_packet link linked p leaves.0 leaves.1 leaves.3
   classic_step link linked cap.More leaves = classic_more leaves.0
   classic_step link linked (cap.Bad at f) leaves = classic_bad at f leaves.0 leaves.1
   classic_step link linked (cap.Head other) leaves = no_head link other linked leaves.0
 
 -- ---- of the form pcapng
 
-module _ (old new : ng_reading.Reading) (same : ng_reading.fed new ≡ ng_reading.fed old) (less : length new.pending ≤ length old.pending) where
+module _ (old new : ng_reading.Reading) (same : ng_reading.fed new ≡ ng_reading.fed old) (less : length new.pending ≤ length old.pending)
+    (kept : ng_reading.held new ≡ ng_reading.held old) where
   abbrev pub NgTells : NgStep → Type 0
   NgTells step = (octets : List ℕ) (taken : List Taken) → ng.Stands old octets taken → ng.Told octets taken new step
 
@@ -167,23 +171,23 @@ module _ (old new : ng_reading.Reading) (same : ng_reading.fed new ≡ ng_readin
       (stands.0, subst (ng.Stands new octets) all (tells octets taken stands.1).0)
 
   pub ng_packet : (link : Link) (p : packet.Packet) → ng.Rested new (ng_step.Packet link p) → NgTells (ng_step.Packet link p) → Leaves (Ng old) (Ng new) (Packet link p)
-  ng_packet link p rested tells = (rested, same, less, λ octets taken stands. ((stands.0, (tells octets taken stands.1).0), tt))
+  ng_packet link p rested tells = (rested, same, less, (λ octets taken stands. ((stands.0, (tells octets taken stands.1).0), tt)), kept)
 
   pub ng_more : ng.Rested new ng_step.More → NgTells ng_step.More → Leaves (Ng old) (Ng new) More
-  ng_more rested tells = leaves_more (Ng old) (Ng new) same less (ng_keeps ng_step.More refl tells) rested.0 rested.1
+  ng_more rested tells = leaves_more (Ng old) (Ng new) same less kept (ng_keeps ng_step.More refl tells) rested.0 rested.1
 
   pub ng_bad : (at : ℕ) (f : CapFault) → ng.Rested new (ng_step.Bad at f) → NgTells (ng_step.Bad at f) → Leaves (Ng old) (Ng new) (Bad at f)
-  ng_bad at f rested tells = leaves_bad (Ng old) (Ng new) same less (ng_keeps (ng_step.Bad at f) refl tells) at f rested
+  ng_bad at f rested tells = leaves_bad (Ng old) (Ng new) same less kept (ng_keeps (ng_step.Bad at f) refl tells) at f rested
       (λ octets taken stands more. inl (IsNg-behind octets more stands.0, (tells octets taken stands.1).1.1.0 more))
 
   pub ng_no_memory : ng.Rested new ng_step.NoMemory → NgTells ng_step.NoMemory → Leaves (Ng old) (Ng new) NoMemory
-  ng_no_memory rested tells = leaves_no_memory (Ng old) (Ng new) same less (ng_keeps ng_step.NoMemory refl tells) rested
+  ng_no_memory rested tells = leaves_no_memory (Ng old) (Ng new) same less kept (ng_keeps ng_step.NoMemory refl tells) rested
 
 -- what a step of the form's reader leaves, by what its clause says
 abbrev pub NgLeaves : ng_reading.Reading → ng_reading.Reading → NgStep → Type 0
 NgLeaves old new step = ng.Rested new step × (ng_reading.fed new ≡ ng_reading.fed old) × (length new.pending ≤ length old.pending)
     × ((octets : List ℕ) (taken : List Taken) → ng.Stands old octets taken → ng.Told octets taken new step) × ng.SaysFault old new step × ng.SaysPacket old step
-    × ng.StandsBehind old new step
+    × ng.StandsBehind old new step × (ng_reading.held new ≡ ng_reading.held old)
 
 abbrev pub NgGives : ng_reading.Reading → ng_reading.Reading → NgStep → Type 0
 NgGives old new (ng_step.Packet link p) = Leaves (Ng old) (Ng new) (Packet link p)
@@ -192,7 +196,7 @@ NgGives old new (ng_step.Bad at f) = Leaves (Ng old) (Ng new) (Bad at f)
 NgGives old new ng_step.NoMemory = Leaves (Ng old) (Ng new) NoMemory
 
 pub ng_gives : (old new : ng_reading.Reading) (step : NgStep) → NgLeaves old new step → NgGives old new step
-ng_gives old new (ng_step.Packet link p) leaves = ng_packet old new leaves.1 leaves.2 link p leaves.0 leaves.3
-ng_gives old new ng_step.More leaves = ng_more old new leaves.1 leaves.2 leaves.0 leaves.3
-ng_gives old new (ng_step.Bad at f) leaves = ng_bad old new leaves.1 leaves.2 at f leaves.0 leaves.3
-ng_gives old new ng_step.NoMemory leaves = ng_no_memory old new leaves.1 leaves.2 leaves.0 leaves.3
+ng_gives old new (ng_step.Packet link p) leaves = ng_packet old new leaves.1 leaves.2 leaves.7 link p leaves.0 leaves.3
+ng_gives old new ng_step.More leaves = ng_more old new leaves.1 leaves.2 leaves.7 leaves.0 leaves.3
+ng_gives old new (ng_step.Bad at f) leaves = ng_bad old new leaves.1 leaves.2 leaves.7 at f leaves.0 leaves.3
+ng_gives old new ng_step.NoMemory leaves = ng_no_memory old new leaves.1 leaves.2 leaves.7 leaves.0 leaves.3

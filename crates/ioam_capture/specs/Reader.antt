@@ -19,7 +19,7 @@ use Rattle.ioam_capture.specs.declared.reader.Step.{Step}
 use Rattle.ioam_capture.specs.declared.reader.Step.TheVariants.{Packet, More, Bad, NoMemory}
 use Rattle.ioam_capture.specs.declared.turns.Due.{Due}
 use Rattle.ioam_capture.specs.Merge.{Stream, due_of}
-use Rattle.ioam_capture.specs.Reading.{Reading, Front, Classic, Ng, pending, start, fed, HoldsFew}
+use Rattle.ioam_capture.specs.Reading.{Reading, Front, Classic, Ng, pending, start, fed, held, HoldsFew}
 use Rattle.ioam_capture.specs.Reads.{IsNg, of_link, Reads, ReadsOnly}
 use Rattle.ioam_capture.specs.Streams.{ShowsSo, Streams}
 
@@ -86,10 +86,11 @@ Says octets taken NoMemory = ⊤
 abbrev pub Told : List ℕ → List Taken → Reading → Step → Type 0
 Told octets taken new step = Stands new octets (taken ++ given_by step) × Says octets taken step
 
--- what a step leaves, and what it says; it takes off octets and loses none
+-- what a step leaves, and what it says; it takes off octets and loses none, and as many are kept
 abbrev pub Leaves : Reading → Reading → Step → Type 0
 Leaves old new step = Rested new step × (fed new ≡ fed old) × (length (pending new) ≤ length (pending old))
     × ((octets : List ℕ) (taken : List Taken) → Stands old octets taken → Told octets taken new step)
+    × (held new ≡ held old)
 
 -- where what is due has a fault a step says this fault
 abbrev pub SaysFault : Reading → Step → Type 0

@@ -1,6 +1,5 @@
 -- A reader of a capture of either form, as its callers see it.
 use Rattle.std.specs.Prelude.{⊤, ℕ, ◌+◌, ◌<◌, List, [], length}
-use Rattle.ioam_base.specs.Fed.{KeepsFew}
 use Rattle.ioam_pcap.specs.Reading as classic
 use Rattle.ioam_pcap.specs.Reader as classic_reader
 use Rattle.ioam_ng.specs.Reading as ng
@@ -53,9 +52,3 @@ abbrev pub held : Reading → ℕ
 held (Front octets) = length octets
 held (Classic reader) = classic_reader.held reader
 held (Ng reader) = ng.held reader
-
--- few of those that were given or passed: no more than are pending, twice the greatest record or block, and half a piece
-abbrev pub KeepsFewGiven : Reading → Type 0
-KeepsFewGiven (Front octets) = ⊤
-KeepsFewGiven (Classic reader) = KeepsFew 262160 reader.given (length reader.pending)
-KeepsFewGiven (Ng reader) = ng.KeepsFewGiven reader

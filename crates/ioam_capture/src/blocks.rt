@@ -3,7 +3,7 @@
 ghost use Rattle.std.specs.Prelude.{◌≡◌, ◌≤◌, IfOk, OnErr, length};
 ghost use Rattle.std.specs.Borrow.{sem};
 ghost use Rattle.ioam_ng.specs.Reader.{Waits, HoldsFew, IsFace};
-ghost use Rattle.ioam_ng.specs.Reading.{fed};
+ghost use Rattle.ioam_ng.specs.Reading.{fed, held};
 ghost use Rattle.ioam_capture.specs.Reading.{Ng};
 ghost use Rattle.ioam_capture.specs.Reader.{IsDue, KeepsFault, KeepsOn, RestsNg, SaysFault};
 
@@ -47,6 +47,7 @@ pub(crate) fn due_packet(reader: &mut NgReader, ended: bool) -> Result<Due, NoMe
     ensures few { IfOk result (λ due. due ≡ Due.More → HoldsFew reader.new) }
     ensures fed { fed reader.new ≡ fed reader.old }
     ensures kept { length reader.new.pending ≤ length reader.old.pending }
+    ensures held { held reader.new ≡ held reader.old }
     ensures memory { OnErr result (IsFace reader.new) }
 {
     match reader.pass()? {

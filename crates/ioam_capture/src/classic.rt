@@ -1,7 +1,7 @@
 //! The next record of a classic capture, and what is due of it; its head is passed.
 ghost use Rattle.std.specs.Prelude.{◌≡◌, ◌≤◌, None, Some, length};
 ghost use Rattle.std.specs.Borrow.{sem};
-ghost use Rattle.ioam_pcap.specs.Reader.{Waits, HoldsFew, fed, link_of};
+ghost use Rattle.ioam_pcap.specs.Reader.{Waits, HoldsFew, fed, held, link_of};
 ghost use Rattle.ioam_capture.specs.Reading.{Classic};
 ghost use Rattle.ioam_capture.specs.Reader.{IsDue, KeepsFault, KeepsOn, RestsClassic, SaysFault};
 
@@ -81,6 +81,7 @@ pub(crate) fn due_classic(reader: &mut CaptureReader, ended: bool) -> Due
     ensures few { result ≡ Due.More → HoldsFew reader.new }
     ensures fed { fed reader.new ≡ fed reader.old }
     ensures kept { length reader.new.pending ≤ length reader.old.pending }
+    ensures held { held reader.new ≡ held reader.old }
 {
     if reader.link().is_some() {
         return due_record(reader, ended);

@@ -32,8 +32,8 @@ pub enum Step<'a> {
 /// its first four octets say.
 ///
 /// Where `next` answers `More` it holds back less than the greatest record of a classic capture, of
-/// 262,160 octets, or the greatest block of a pcapng capture, of 16,777,216. Of the octets that it took
-/// it keeps at most as many as it holds back, twice these and 32,768.
+/// 262,160 octets, or the greatest block of a pcapng capture, of 16,777,216. It keeps what it holds back,
+/// and until it is fed again the octets that it took since it was fed last.
 #[derive(Drop)]
 pub struct Reader {
     form: Form,
@@ -89,8 +89,8 @@ impl Reader {
         // A fault of what is due stays, whatever is fed.
         ensures faulty { OnOk result (KeepsFault self.old self.new) }
         ensures err { OnErr result (self.new ≡ self.old) }
-        // What it keeps grows by the piece alone.
-        ensures held { OnOk result (held self.new ≡ held self.old + length piece.now) }
+        // It keeps what was pending and the piece: none of the octets that it gave or passed.
+        ensures held { OnOk result (held self.new ≡ length (pending self.old) + length piece.now) }
     {
         match &mut self.form {
             Form::Front { alloc, held } => {
@@ -132,6 +132,7 @@ impl Reader {
         ensures few { IfOk result (λ due. due ≡ Due.More → HoldsFew self.new) }
         ensures fed { fed self.new ≡ fed self.old }
         ensures kept { length (pending self.new) ≤ length (pending self.old) }
+        ensures held { held self.new ≡ held self.old }
         // Memory is wanted only for an interface block of a capture in the form pcapng, which is due then.
         ensures memory { OnErr result (IsFace self.new) }
     {

@@ -31,7 +31,7 @@ pub record FeedsPiece (tells : Bool) (old : desk.Reading) (slot most : ℕ) (rea
   pub some : 0 < length piece
   pub fits : length piece ≤ most
   pub gives : Gives tells old new slot piece
-  pub fed : now ≡ record reader { pending = reader.pending ++ piece }
+  pub fed : now ≡ record reader { pending = reader.pending ++ piece; given = 0 }
   pub kept : FedOn tells old slot reader piece new now
 
 -- nothing was left of the slot: all that the name holds was handed out

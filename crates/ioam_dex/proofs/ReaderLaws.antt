@@ -1,8 +1,8 @@
 -- What a reader stands for after a piece or a step.
 use Rattle.std.proofs.Common.{◌≡◌, ℕ, ◌+◌, ◌-◌, ◌≤◌, List, [], ◌∷◌, ◌++◌, length, take, drop, arith, sym, ap, ◌∙◌, subst, length-append}
 use Rattle.std.proofs.lemmas.List.{append-nil}
-use Rattle.ioam_base.specs.Fed.{Kept, KeepsFew, passed, with_piece}
-use Rattle.ioam_base.proofs.FedLaws.{fed_few, last_taken, passed_few}
+use Rattle.ioam_base.specs.Fed.{Kept, passed, with_piece}
+use Rattle.ioam_base.proofs.FedLaws.{last_taken, passed_held}
 use Rattle.ioam_dex.specs.declared.export.ExportFault.{ExportFault}
 use Rattle.ioam_dex.specs.declared.head.RecordHead.{RecordHead}
 use Rattle.ioam_dex.specs.declared.head.RecordStep.TheVariants as step
@@ -12,31 +12,29 @@ use Rattle.ioam_dex.specs.Reads.{records_octets, Faulty, Reads, ReadsOnly}
 use Rattle.ioam_dex.specs.Reading.{Reading}
 use Rattle.ioam_dex.specs.declared.reader.Step.{Step}
 use Rattle.ioam_dex.specs.declared.reader.Step.TheVariants.{Export, More, Bad}
-use Rattle.ioam_dex.specs.Reader.{Stands, Waits, Moved, SaysFault}
+use Rattle.ioam_dex.specs.Reader.{Stands, Waits, Moved, SaysFault, held as held_by}
 use Rattle.ioam_dex.proofs.FaultLaws.{cut-not-faulty, fault-unique}
-use Rattle.ioam_dex.proofs.RecordLaws.{front-length, record_octets-length, record_size-small}
+use Rattle.ioam_dex.proofs.RecordLaws.{front-length}
 use Rattle.ioam_dex.proofs.ReadsLaws.{records_octets-append, Splits-feed, Splits-push, Splits-unique, cut-no-record, fault-no-record, Reads-unique, Reads-faulty}
 
 -- a piece more
 pub Stands-feed : (reader : Reading) (piece octets : List ℕ) (records : List Record) → Stands reader octets records
-    → Stands (record reader { pending = reader.pending ++ piece }) (octets ++ piece) records
+    → Stands (record reader { pending = reader.pending ++ piece; given = 0 }) (octets ++ piece) records
 Stands-feed reader piece octets records stands = record {
   splits = Splits-feed octets piece records reader.pending stands.splits;
   place = stands.place;
-  few = fed_few 274 reader.given reader.pending piece stands.few;
 }
 
 -- a record more
 pub Stands-step : (old new : Reading) (x : Record) → IsRecord x → old.pending ≡ record_octets x ++ new.pending
-    → new.start ≡ old.start + length (record_octets x) → KeepsFew 274 new.given (length new.pending)
+    → new.start ≡ old.start + length (record_octets x)
     → (octets : List ℕ) (records : List Record) → Stands old octets records
     → Stands new octets (records ++ x ∷ [])
-Stands-step old new x is_x front place few octets records stands = record {
+Stands-step old new x is_x front place octets records stands = record {
   splits = Splits-push octets records old.pending x new.pending stands.splits is_x front;
   place = place ∙ ap (λ n. n + length (record_octets x)) stands.place ∙ sym (length-append (records_octets records) (record_octets x))
       ∙ ap (λ o. length (records_octets records ++ o)) (sym (append-nil (record_octets x)))
       ∙ ap length (sym (records_octets-append records (x ∷ [])));
-  few = few;
 }
 
 -- a step that takes nothing off
@@ -72,9 +70,9 @@ Stands-unique one other octets xs ys cut cuts stands stood =
 -- the reader's value where a piece more was fed
 pub fed_with : (held new : Kept) (old : Reading) (piece : List ℕ)
     → ◌≡◌ {A = Reading} (record { start = held.start; pending = held.pending; given = length held.given }) old → new ≡ with_piece piece held
-    → ◌≡◌ {A = Reading} (record old { pending = old.pending ++ piece }) (record { start = new.start; pending = new.pending; given = length new.given })
+    → ◌≡◌ {A = Reading} (record old { pending = old.pending ++ piece; given = 0 }) (record { start = new.start; pending = new.pending; given = length new.given })
 fed_with held new old piece view fed =
-    sym (ap (λ (k : Kept). record { start = k.start; pending = k.pending; given = length k.given }) fed ∙ ap (λ (r : Reading). record r { pending = r.pending ++ piece }) view)
+    sym (ap (λ (k : Kept). record { start = k.start; pending = k.pending; given = length k.given }) fed ∙ ap (λ (r : Reading). record r { pending = r.pending ++ piece; given = 0 }) view)
 
 -- a whole record in front of the pending octets, as it is taken off
 module _ (held new : Kept) (head : RecordHead) (old : Reading) (view : ◌≡◌ {A = Reading} (record { start = held.start; pending = held.pending; given = length held.given }) old)
@@ -98,14 +96,10 @@ module _ (held new : Kept) (head : RecordHead) (old : Reading) (view : ◌≡◌
       ∙ ap (λ n. take (n - head.front) (drop head.front old.pending)) size-is
       ∙ ap (λ n. take (length_of old.pending - n) (drop n old.pending)) told.0
 
-  -- few octets that were given are still kept
-  pub few_kept : KeepsFew 274 (length new.given) (length new.pending)
-  few_kept =
-      let parts = told.2.parts in
-      let x = said head (element_of old.pending) in
-      let most : head.size ≤ 274 = omega (arith, told.1, record_octets-length x parts, record_size-small x parts) in
-      let Few : Kept → Type 0 = λ k. KeepsFew 274 (length k.given) (length k.pending) in
-      subst Few (sym taken) (passed_few held 274 head.size fits most)
+  -- as many octets are kept
+  pub held_kept : length new.given + length new.pending ≡ held_by old
+  held_kept =
+      ap (λ (k : Kept). length k.given + length k.pending) taken ∙ passed_held held head.size fits ∙ ap (λ (r : Reading). held_by r) view
 
   pub taken_off : head.front ≤ head.size → IsRecord (said head element) × (old.pending ≡ record_octets (said head element) ++ new.pending)
       × (new.start ≡ old.start + length (record_octets (said head element)))

@@ -2,7 +2,6 @@
 use Rattle.std.specs.Prelude.{◌≡◌, ℕ, ◌+◌, List, [], ◌∷◌, ◌++◌, length, Option, Some, None}
 use Rattle.std.specs.Io.BufRead.{Rests}
 use Rattle.std.specs.Borrow.{Fml, MutBor}
-use Rattle.ioam_base.specs.Fed.{KeepsFew}
 use Rattle.ioam_dex.specs.declared.export.ExportFault.{ExportFault}
 use Rattle.ioam_dex.specs.declared.reader.Step.{Step}
 use Rattle.ioam_dex.specs.declared.reader.Step.TheVariants.{Export, More, Bad}
@@ -12,12 +11,10 @@ use Rattle.ioam_dex.specs.Faults.{Fault, IsCut}
 use Rattle.ioam_dex.specs.Reads.{records_octets, Splits, Ending, Whole, Faulty, Reads, ReadsOnly}
 use Rattle.ioam_dex.specs.Reading.{Reading}
 
--- a reader that was fed these octets in all, in whatever pieces, and has given these records; few of the octets that
--- it gave it still keeps, a record at a time, of 274 octets at most
+-- a reader that was fed these octets in all, in whatever pieces, and has given these records
 pub record Stands (reader : Reading) (octets : List ℕ) (records : List Record) : Type 0 where
   pub splits : Splits octets records reader.pending
   pub place : reader.start ≡ length (records_octets records)
-  pub few : KeepsFew 274 reader.given (length reader.pending)
 
 -- a reader that was fed nothing
 abbrev pub fresh : Reading
@@ -62,11 +59,11 @@ Leaves octets records new More = Stands new octets records
 Leaves octets records new (Bad at fault) = Stands new octets records
     × ((more : List ℕ) → Reads (octets ++ more) records (Faulty at fault) × ReadsOnly (octets ++ more) records (Faulty at fault))
 
--- so the reader is once the step's octets are no longer lent
+-- so the reader is once the step's octets are no longer lent: it keeps as many octets as before
 abbrev pub RestsSo : MutBor Reading → Step → Fml
 RestsSo reader step = Rests the_row reader (λ new. Moved reader.now new step
     × ((octets : List ℕ) (records : List Record) → Stands reader.now octets records → Leaves octets records new step)
-    × SaysFault reader.now new step)
+    × SaysFault reader.now new step × (held new ≡ held reader.now))
 
 -- the ending of an input that was fed whole, by what `finish` answers
 abbrev pub ending_of : Option (ℕ × ExportFault) → Ending

@@ -2,7 +2,7 @@
 use Rattle.std.specs.Prelude.{ℕ, List}
 
 -- the place in the input of the first octet that was not yet taken, and the octets from there on that
--- were fed; and how many octets that were given it still keeps
+-- were fed; and how many octets that it took it still keeps
 pub record Reading : Type 0 where
   pub start : ℕ
   pub pending : List ℕ

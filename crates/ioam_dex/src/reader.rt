@@ -23,9 +23,8 @@ pub enum Step<'a> {
 
 /// Reads export records out of any pieces of them.
 ///
-/// It keeps the octets that were fed and not yet taken: no more than one record and one piece, where
-/// each piece is fed after `next` answered `More`. Of those that it gave it keeps at most as many more,
-/// 548 and 32,768.
+/// It keeps the octets that were fed and not yet taken, and those that it gave until it is fed again: no
+/// more than one record and one piece, where each piece is fed after `next` answered `More`.
 #[derive(Drop)]
 pub struct ExportReader {
     octets: Fed,
@@ -62,19 +61,20 @@ impl ExportReader {
         self.octets.fed()
     }
 
-    /// Feeds the next octets of the input, of which there are below 2^63 in all.
+    /// Feeds the next octets of the input, of which there are below 2^63 in all. It keeps none of the
+    /// octets that it gave.
     pub fn feed(&mut self, piece: &[u8]) -> Result<(), NoMemory>
         requires { fed self.old + length piece.now < 2 ^ 63 }
         ensures ok { OnOk result (self.new
-            ≡ record self.old { pending = self.old.pending ++ piece.now }) }
+            ≡ record self.old { pending = self.old.pending ++ piece.now; given = 0 }) }
         ensures stands { OnOk result ((octets : List ℕ) (records : List Record)
             → Stands self.old octets records
             → Stands self.new (octets ++ piece.now) records) }
         // A fault of what is due stays, whatever is fed.
         ensures faulty { OnOk result (KeepsFault self.old self.new) }
         ensures err { OnErr result (self.new ≡ self.old) }
-        // What it keeps grows by the piece alone.
-        ensures held { OnOk result (held self.new ≡ held self.old + length piece.now) }
+        // It keeps what was pending and the piece.
+        ensures held { OnOk result (held self.new ≡ length self.old.pending + length piece.now) }
     {
         self.octets.feed(piece)
     }

@@ -2,7 +2,6 @@
 use Rattle.std.proofs.Common.{◌≡◌, ℕ, zero, suc, ◌+◌, ◌-◌, ◌<◌, ◌≤◌, Bool, List, [], ◌∷◌, ◌++◌, length, take, drop, length-drop, refl, sym, ap, ◌∙◌, subst, arith, inr, append_assoc, length-append}
 use Rattle.std.proofs.lemmas.List.{append-nil, drop-drop, take-append-le, drop-append-le}
 use Rattle.ioam_base.specs.Octets.{u16_at}
-use Rattle.ioam_base.proofs.FedLaws.{fed_few}
 use Rattle.ioam_dex.specs.Record.{Record}
 use Rattle.ioam_ipfix.specs.declared.fault.IpfixFault.{IpfixFault}
 use Rattle.ioam_ipfix.specs.declared.fault.IpfixFault.TheVariants as fault
@@ -42,7 +41,7 @@ Stands-feed reader piece octets given stands =
       here = stands.here;
       gave = stands.gave;
       owes = stands.owes;
-      few = fed_few 65535 reader.given reader.pending piece stands.few;
+      few = let few = stands.few in omega (arith, few, length-append reader.pending piece);
     }
 
 -- where nothing is due, all records of the messages taken were given

@@ -1,6 +1,5 @@
 -- A reader of messages as its callers see it.
-use Rattle.std.specs.Prelude.{ℕ, ◌+◌, Bool, List, [], length}
-use Rattle.ioam_base.specs.Fed.{KeepsFew}
+use Rattle.std.specs.Prelude.{ℕ, ◌+◌, ◌*◌, ◌≤◌, Bool, List, [], length}
 use Rattle.ioam_dex.specs.Record.{Record}
 use Rattle.ioam_ipfix.specs.Templates.{none_known}
 use Rattle.ioam_ipfix.specs.Sets.{Spot, spot}
@@ -32,6 +31,6 @@ fed reader = reader.start + length reader.pending
 abbrev pub held : Reading → ℕ
 held reader = reader.given + length reader.pending
 
--- few of those that were taken, a message at a time, of 65,535 octets at most
+-- few of those that were taken: no more than are pending, those of two of the greatest messages, of 65,535 octets, and half a piece
 abbrev pub KeepsFewGiven : Reading → Type 0
-KeepsFewGiven reader = KeepsFew 65535 reader.given (length reader.pending)
+KeepsFewGiven reader = reader.given ≤ length reader.pending + (2 * 65535 + 32768)

@@ -1,8 +1,8 @@
 -- What a reader stands for after a piece or a step.
 use Rattle.std.proofs.Common.{◌≡◌, ℕ, ◌+◌, ◌-◌, ◌<◌, ◌≤◌, List, [], ◌∷◌, ◌++◌, length, take, drop, Option, Some, None, arith, refl, sym, ap, ◌∙◌, subst, inl, length-append, length-drop, length-take, ◌^◌}
 use Rattle.std.proofs.lemmas.List.{append-nil, take-take}
-use Rattle.ioam_base.specs.Fed.{Kept, KeepsFew, passed, with_piece}
-use Rattle.ioam_base.proofs.FedLaws.{fed_few, last_taken, passed_few}
+use Rattle.ioam_base.specs.Fed.{Kept, passed, with_piece}
+use Rattle.ioam_base.proofs.FedLaws.{last_taken, passed_held}
 use Rattle.ioam_ng.specs.Front.{Known}
 use Rattle.ioam_base.proofs.LeadsLaws.{Leads-push, Leads-append}
 use Rattle.ioam_pcap.specs.declared.capture.CapFault.{CapFault}
@@ -16,11 +16,10 @@ use Rattle.ioam_ng.specs.declared.block.Content.TheVariants as content
 use Rattle.ioam_ng.specs.BlockSteps.{taken_of}
 use Rattle.ioam_ng.specs.Blocks.{Place, CanPass, packet_there, behind, Blocks, packets, front, size}
 use Rattle.ioam_pcap.specs.Entries.{Taken}
-use Rattle.ioam_ng.specs.Reading.{Reading, KeepsFewGiven, place_of, fed}
+use Rattle.ioam_ng.specs.Reading.{Reading, place_of, fed, held}
 use Rattle.ioam_pcap.specs.Ending.{Faulty}
 use Rattle.ioam_ng.specs.Reads.{Reads, CapNg}
 use Rattle.ioam_ng.specs.Reader.{StandsBehind, Stands, Skips, Waits, HoldsFew, IsFaulty, IsPlain, IsFace, HasPacket, Rested, Told, SaysFault, SaysPacket, EndsFaulty, IsMoved, IsPacket, moved_by, faces_with}
-use Rattle.ioam_ng.proofs.SizeLaws.{whole_few}
 use Rattle.ioam_ng.proofs.ReadsLaws.{with_more, Blocks-behind, HasFault-behind, fault_stops, cut_stops, cut_sound, fault_unique, Reads-unique}
 
 pub packets-append : (xs ys : List (Option Taken)) → packets (xs ++ ys) ≡ packets xs ++ packets ys
@@ -30,21 +29,20 @@ packets-append (Some x ∷ xs) ys = ap (λ rest. x ∷ rest) (packets-append xs 
 
 -- a piece more
 pub Stands-feed : (reader : Reading) (piece octets : List ℕ) (taken : List Taken) → Stands reader octets taken
-    → Stands (record reader { pending = reader.pending ++ piece }) (octets ++ piece) taken
+    → Stands (record reader { pending = reader.pending ++ piece; given = 0 }) (octets ++ piece) taken
 Stands-feed reader piece octets taken stands = record {
   blocks = stands.blocks;
   leads = Blocks-behind piece (front octets) stands.blocks (place_of reader) stands.leads;
   given = stands.given;
   inside = omega (arith, stands.inside, length-append reader.pending piece, length-append octets piece);
-  few = fed_few 16777216 reader.given reader.pending piece stands.few;
 }
 
 -- no block was passed, or one more without a packet
 pub Skips-none : (reader : Reading) → Skips reader reader
-Skips-none reader = record { blocks = []; leads = refl; none = refl; fed = refl; still = λ _. refl; few = λ few. few }
+Skips-none reader = record { blocks = []; leads = refl; none = refl; fed = refl; still = λ _. refl; held = refl }
 
-pub Skips-push : (old mid new : Reading) → Skips old mid → IsPlain mid → place_of new ≡ behind (place_of mid) → fed new ≡ fed mid → KeepsFewGiven new → Skips old new
-Skips-push old mid new skips plain next same few =
+pub Skips-push : (old mid new : Reading) → Skips old mid → IsPlain mid → place_of new ≡ behind (place_of mid) → fed new ≡ fed mid → held new ≡ held mid → Skips old new
+Skips-push old mid new skips plain next same kept =
     let pushed = Leads-push CanPass packet_there behind (place_of old) skips.blocks (place_of mid) skips.leads plain.0 in
     let blocks = skips.blocks ++ packet_there (place_of mid) ∷ [] in
     let Q : Place → Type 0 = λ p. Blocks (place_of old) blocks p in
@@ -55,7 +53,7 @@ Skips-push old mid new skips plain next same few =
       none = packets-append skips.blocks (packet_there (place_of mid) ∷ []) ∙ (λ i. skips.none i ++ last i);
       fed = same ∙ skips.fed;
       still = λ none. absurd (omega (arith, ap length none, length-append skips.blocks (packet_there (place_of mid) ∷ [])));
-      few = λ _. few;
+      held = kept ∙ skips.held;
     }
 
 pub Stands-skips : (old new : Reading) → Skips old new → (octets : List ℕ) (taken : List Taken) → Stands old octets taken → Stands new octets taken
@@ -64,14 +62,13 @@ Stands-skips old new skips octets taken stands = record {
   leads = Leads-append CanPass packet_there behind (front octets) stands.blocks (place_of old) skips.blocks (place_of new) stands.leads skips.leads;
   given = sym (packets-append stands.blocks skips.blocks ∙ ap (λ xs. packets stands.blocks ++ xs) skips.none ∙ append-nil (packets stands.blocks) ∙ sym stands.given);
   inside = skips.fed ∙ stands.inside;
-  few = skips.few stands.few;
 }
 
 -- a packet was taken
 pub Stands-packet : (mid new : Reading) (packet : Taken) → CanPass (place_of mid) → packet_there (place_of mid) ≡ Some packet
-    → place_of new ≡ behind (place_of mid) → fed new ≡ fed mid → KeepsFewGiven new → (octets : List ℕ) (taken : List Taken) → Stands mid octets taken
+    → place_of new ≡ behind (place_of mid) → fed new ≡ fed mid → (octets : List ℕ) (taken : List Taken) → Stands mid octets taken
     → Stands new octets (taken ++ packet ∷ [])
-Stands-packet mid new packet pass there next same few octets taken stands =
+Stands-packet mid new packet pass there next same octets taken stands =
     let pushed = Leads-push CanPass packet_there behind (front octets) stands.blocks (place_of mid) stands.leads pass in
     let blocks = stands.blocks ++ packet_there (place_of mid) ∷ [] in
     let Q : Place → Type 0 = λ p. Blocks (front octets) blocks p in
@@ -81,7 +78,6 @@ Stands-packet mid new packet pass there next same few octets taken stands =
       leads = subst Q (sym next) pushed;
       given = sym (packets-append stands.blocks (packet_there (place_of mid) ∷ []) ∙ (λ i. (sym stands.given) i ++ last i));
       inside = same ∙ stands.inside;
-      few = few;
     }
 
 -- exactly blocks and a rest
@@ -142,6 +138,7 @@ module _ (old mid new : Reading) (skips : Skips old mid) where
   abbrev pub Tells : NgStep → Type 0
   Tells step = Rested new step × (fed new ≡ fed old) × (length new.pending ≤ length old.pending)
       × ((octets : List ℕ) (taken : List Taken) → Stands old octets taken → Told octets taken new step) × SaysFault old new step × SaysPacket old step × StandsBehind old new step
+      × (held new ≡ held old)
 
   module _ (same : new ≡ mid) where
     fed_same : fed new ≡ fed old
@@ -152,6 +149,9 @@ module _ (old mid new : Reading) (skips : Skips old mid) where
         let Q : Reading → Type 0 = λ r. Stands r octets taken in
         let R : List Taken → Type 0 = λ xs. Stands new octets xs in
         subst R (sym (append-nil taken)) (subst Q (sym same) (Stands-skips old mid skips octets taken stands))
+
+    held_same : held new ≡ held old
+    held_same = ap held same ∙ skips.held
 
     kept : length new.pending ≤ length old.pending
     kept = omega (arith, Skips-kept old mid skips, ap (λ r. length r.pending) same)
@@ -177,6 +177,7 @@ module _ (old mid new : Reading) (skips : Skips old mid) where
           λ f bad. absurd (cut_sound (place_of mid) f waits (unended f bad)),
           λ packet has. absurd (cut_stops (place_of mid) waits (packet_due old mid skips packet has).0),
           skipped,
+          held_same,
         )
 
     pub tells_bad : (at : ℕ) (f : CapFault) → at ≡ mid.start → IsFaulty mid f → Tells (Bad at f)
@@ -202,6 +203,7 @@ module _ (old mid new : Reading) (skips : Skips old mid) where
               (λ i. Bad (places i) (faults i), same ∙ still),
           λ packet has. absurd (fault_stops (place_of mid) f bad (packet_due old mid skips packet has).0),
           skipped,
+          held_same,
         )
 
     pub tells_memory : IsFace mid → Tells NoMemory
@@ -216,6 +218,7 @@ module _ (old mid new : Reading) (skips : Skips old mid) where
               let wrong : ◌≡◌ {A = Option Taken} None (Some packet) = sym plain.0.1 ∙ (packet_due old mid skips packet has).1 in
               absurd (cc),
           skipped,
+          held_same,
         )
 
 -- ---- a packet
@@ -232,9 +235,9 @@ octets_of_packet held new size captured taken fits few =
 -- the reader's value where a piece more was fed
 pub fed_with : (held new : Kept) (known : Known) (old : Reading) (piece : List ℕ)
     → ◌≡◌ {A = Reading} (record { known = known; start = held.start; pending = held.pending; given = length held.given }) old → new ≡ with_piece piece held
-    → ◌≡◌ {A = Reading} (record old { pending = old.pending ++ piece }) (record { known = known; start = new.start; pending = new.pending; given = length new.given })
+    → ◌≡◌ {A = Reading} (record old { pending = old.pending ++ piece; given = 0 }) (record { known = known; start = new.start; pending = new.pending; given = length new.given })
 fed_with held new known old piece view fed =
-    sym (ap (λ (k : Kept). record { known = known; start = k.start; pending = k.pending; given = length k.given }) fed ∙ ap (λ (r : Reading). record r { pending = r.pending ++ piece }) view)
+    sym (ap (λ (k : Kept). record { known = known; start = k.start; pending = k.pending; given = length k.given }) fed ∙ ap (λ (r : Reading). record r { pending = r.pending ++ piece; given = 0 }) view)
 
 -- and behind the block of a packet
 pub moved_packet : (held new : Kept) (count : ℕ) (order : Option Order) (faces : List Face) (mid : Reading) (b : Block) (head : PacketHead)
@@ -252,34 +255,29 @@ moved_packet held new count order faces mid b head view is taken =
       given = length new.given;
     })
 
--- few of the octets that were taken are still kept then
-pub few_kept : (held new : Kept) (size : ℕ) → new ≡ passed size held → size ≤ length held.pending → size ≤ 16777216
-    → KeepsFew 16777216 (length new.given) (length new.pending)
-few_kept held new size taken fits most =
-    let Few : Kept → Type 0 = λ k. KeepsFew 16777216 (length k.given) (length k.pending) in
-    subst Few (sym taken) (passed_few held 16777216 size fits most)
-
--- the block of a packet is no larger than the largest
-pub packet_few : (mid : Reading) (b : Block) (head : PacketHead) → IsPacket mid b (content.Packet head) → b.size ≤ 16777216
-packet_few mid b head is =
-    let whole = whole_few mid.known mid.pending is.0.0 is.0.1 in
-    omega (arith, whole.0, whole.1, is.3, ap (λ p. length p.octets) is.2, length-drop b.size mid.pending, length-drop (size mid.known mid.pending) mid.pending)
+-- as many octets are kept then
+pub held_kept : (kept new : Kept) (known : Known) (mid : Reading) (size : ℕ)
+    → ◌≡◌ {A = Reading} (record { known = known; start = kept.start; pending = kept.pending; given = length kept.given }) mid
+    → new ≡ passed size kept → size ≤ length kept.pending → length new.given + length new.pending ≡ held mid
+held_kept kept new known mid size view taken fits =
+    ap (λ (k : Kept). length k.given + length k.pending) taken ∙ passed_held kept size fits ∙ ap (λ (r : Reading). held r) view
 
 -- what a step tells that has a packet
-pub packet_told : (old mid new : Reading) → Skips old mid → (b : Block) (head : PacketHead) → IsPacket mid b (content.Packet head) → IsMoved mid b new → KeepsFewGiven new
+pub packet_told : (old mid new : Reading) → Skips old mid → (b : Block) (head : PacketHead) → IsPacket mid b (content.Packet head) → IsMoved mid b new → held new ≡ held mid
     → (octets : List ℕ) → octets ≡ take head.captured (drop 28 mid.pending)
     → ((head.time < 2 ^ 62) × (length octets ≤ 262144)) × (fed new ≡ fed old) × (length new.pending ≤ length old.pending)
     × ((all : List ℕ) (taken : List Taken) → Stands old all taken → Stands new all (taken ++ taken_of head octets ∷ []))
     × ((step : NgStep) → SaysFault old new step)
     × ((packet : Taken) → HasPacket old packet → taken_of head octets ∷ [] ≡ packet ∷ [])
     × ((before : Reading) × Skips old before × HasPacket before (taken_of head octets) × (place_of new ≡ behind (place_of before)))
-packet_told old mid new skips b head is moved few octets shown =
+    × (held new ≡ held old)
+packet_told old mid new skips b head is moved kept octets shown =
     let same : fed new ≡ fed mid = ap fed moved ∙ (omega (arith, is.3, length-drop b.size mid.pending)) in
     let there = is.1 ∙ ap (λ xs. Some (taken_of head xs)) (sym shown) in (
       (is.6, omega (arith, is.5, ap length shown, length-take head.captured (drop 28 mid.pending))),
       same ∙ skips.fed,
       omega (arith, Skips-kept old mid skips, ap (λ r. length r.pending) moved, length-drop b.size mid.pending),
-      λ all taken stands. Stands-packet mid new (taken_of head octets) is.0 there (ap place_of moved ∙ is.2) same few all taken (Stands-skips old mid skips all taken stands),
+      λ all taken stands. Stands-packet mid new (taken_of head octets) is.0 there (ap place_of moved ∙ is.2) same all taken (Stands-skips old mid skips all taken stands),
       λ step f bad.
           let Q : Reading → Type 0 = λ r. IsFaulty r f in
           absurd (fault_stops (place_of mid) f (subst Q (sym (skips_fault old mid skips f bad)) bad) is.0),
@@ -287,4 +285,5 @@ packet_told old mid new skips b head is moved few octets shown =
           let both : ◌≡◌ {A = Option Taken} (Some (taken_of head octets)) (Some packet) = sym there ∙ (packet_due old mid skips packet has).1 in
           ap (λ x. x ∷ []) (cc),
       (mid, skips, (is.0, there), ap place_of moved ∙ is.2),
+      kept ∙ skips.held,
     )

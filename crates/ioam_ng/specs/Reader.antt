@@ -20,16 +20,15 @@ use Rattle.ioam_ng.specs.Blocks.{CanPass, Blocks, front, kind, packets, packet_t
 use Rattle.ioam_pcap.specs.Ending.{Faulty}
 use Rattle.ioam_pcap.specs.Entries.{Taken}
 use Rattle.ioam_ng.specs.BlockSteps.{taken_of, known_with}
-use Rattle.ioam_ng.specs.Reading.{Reading, place_of, fed, KeepsFewGiven}
+use Rattle.ioam_ng.specs.Reading.{Reading, place_of, fed, held}
 use Rattle.ioam_ng.specs.Reads.{HasFault, IsCut, Reads, ReadsOnly, CapNg}
 
--- a reader that was fed these octets in all, and has given these packets; few of the octets that it took it still keeps
+-- a reader that was fed these octets in all, and has given these packets
 pub record Stands (reader : Reading) (octets : List ℕ) (taken : List Taken) : Type 0 where
   pub blocks : List (Option Taken)
   pub leads : Blocks (front octets) blocks (place_of reader)
   pub given : taken ≡ packets blocks
   pub inside : fed reader ≡ length octets
-  pub few : KeepsFewGiven reader
 
 -- what is due is not whole and has no fault: more octets have to be fed, or the capture ends
 abbrev pub Waits : Reading → Type 0
@@ -77,7 +76,7 @@ pub record Skips (old new : Reading) : Type 0 where
   pub none : packets blocks ≡ []
   pub fed : fed new ≡ fed old
   pub still : blocks ≡ [] → new.given ≡ old.given
-  pub few : KeepsFewGiven old → KeepsFewGiven new
+  pub held : held new ≡ held old
 
 -- what is due is a whole block without a fault, of this packet
 abbrev pub HasPacket : Reading → Taken → Type 0
@@ -124,7 +123,7 @@ IsDue reader found.NoMemory = IsFace reader
 
 -- one block was looked at, and passed where it has no packet
 abbrev pub Steps : Reading → Reading → Found → Type 0
-Steps old new found.Passed = IsPlain old × (place_of new ≡ behind (place_of old)) × (fed new ≡ fed old) × (length new.pending < length old.pending) × KeepsFewGiven new
+Steps old new found.Passed = IsPlain old × (place_of new ≡ behind (place_of old)) × (fed new ≡ fed old) × (length new.pending < length old.pending) × (held new ≡ held old)
 Steps old new (found.Packet b) = (new ≡ old) × IsDue old (found.Packet b)
 Steps old new found.More = (new ≡ old) × IsDue old found.More
 Steps old new (found.Bad fault) = (new ≡ old) × IsDue old (found.Bad fault)
@@ -184,9 +183,10 @@ StandsBehind old new More = Skips old new
 StandsBehind old new (Bad at fault) = Skips old new
 StandsBehind old new NoMemory = Skips old new
 
--- so the reader is once the step's octets are no longer lent
+-- so the reader is once the step's octets are no longer lent: it keeps as many octets as before
 abbrev pub RestsSo : MutBor Reading → NgStep → Fml
 RestsSo reader step = Rests the_row reader (λ new. Rested new step × (fed new ≡ fed reader.now)
     × (length new.pending ≤ length reader.now.pending)
     × ((octets : List ℕ) (taken : List Taken) → Stands reader.now octets taken → Told octets taken new step)
-    × SaysFault reader.now new step × SaysPacket reader.now step × StandsBehind reader.now new step)
+    × SaysFault reader.now new step × SaysPacket reader.now step × StandsBehind reader.now new step
+    × (held new ≡ held reader.now))

@@ -1,11 +1,10 @@
 -- A reader of a capture as its callers see it.
 use Rattle.std.specs.Prelude.{ℕ, ◌+◌, List, [], length}
-use Rattle.ioam_base.specs.Fed.{KeepsFew}
 use Rattle.ioam_ng.specs.Front.{Known}
 use Rattle.ioam_ng.specs.Blocks.{Place, nothing}
 
 -- what is known where a block is due; the place of that block in the capture; the octets from there on that were fed;
--- and how many octets that were given or passed it still keeps
+-- and how many octets that it took it still keeps
 pub record Reading : Type 0 where
   pub known : Known
   pub start : ℕ
@@ -27,7 +26,3 @@ fed reader = reader.start + length reader.pending
 -- how many octets it keeps
 abbrev pub held : Reading → ℕ
 held reader = reader.given + length reader.pending
-
--- few of those that were given or passed, a block at a time, of 16,777,216 octets at most
-abbrev pub KeepsFewGiven : Reading → Type 0
-KeepsFewGiven reader = KeepsFew 16777216 reader.given (length reader.pending)

@@ -75,7 +75,7 @@ impl NgReader {
     ghost use Rattle.ioam_pcap.specs.Ending.{ending_of};
     ghost use Rattle.ioam_pcap.specs.Entries.{Taken};
     ghost use Rattle.ioam_ng.specs.BlockSteps.{TellsBlock};
-    ghost use Rattle.ioam_ng.specs.Reading.{KeepsFewGiven, fresh, fed, held};
+    ghost use Rattle.ioam_ng.specs.Reading.{fresh, fed, held};
     ghost use Rattle.ioam_ng.specs.Reads.{Reads, ReadsOnly};
     ghost use Rattle.ioam_ng.specs.Reader.{Stands, Waits, KeepsFault, StaysFaulty, Skips, IsDue, IsFace, HoldsFace, Shows, Steps, RestsSo, IsMoved};
 
@@ -99,19 +99,20 @@ impl NgReader {
         self.octets.fed()
     }
 
-    /// Feeds the next octets of the capture, of which there are below 2^63 in all.
+    /// Feeds the next octets of the capture, of which there are below 2^63 in all. It keeps none of the
+    /// octets that it gave or passed.
     pub fn feed(&mut self, piece: &[u8]) -> Result<(), NoMemory>
         requires { fed self.old + length piece.now < 2 ^ 63 }
         ensures ok { OnOk result (self.new
-            ≡ record self.old { pending = self.old.pending ++ piece.now }) }
+            ≡ record self.old { pending = self.old.pending ++ piece.now; given = 0 }) }
         ensures stands { OnOk result ((octets : List ℕ) (taken : List Taken)
             → Stands self.old octets taken
             → Stands self.new (octets ++ piece.now) taken) }
         // A fault of what is due stays, whatever is fed.
         ensures faulty { OnOk result (KeepsFault self.old self.new) }
         ensures err { OnErr result (self.new ≡ self.old) }
-        // What it keeps grows by the piece alone.
-        ensures held { OnOk result (held self.new ≡ held self.old + length piece.now) }
+        // It keeps what was pending and the piece.
+        ensures held { OnOk result (held self.new ≡ length self.old.pending + length piece.now) }
     {
         self.octets.feed(piece)
     }
@@ -127,9 +128,8 @@ impl NgReader {
     fn keep(&mut self, block: Block) -> Result<(), NoMemory>
         requires fits { block.size ≤ length self.old.pending }
         requires count { self.old.known.count < 33554432 }
-        requires most { block.size ≤ 16777216 }
         ensures ok { OnOk result (IsMoved self.old block self.new) }
-        ensures few { OnOk result (KeepsFewGiven self.new) }
+        ensures held { OnOk result (held self.new ≡ held self.old) }
         ensures err { OnErr result ((self.new ≡ self.old) × HoldsFace block.content) }
     {
         match block.content {
@@ -181,6 +181,7 @@ impl NgReader {
             → Stands self.new octets taken }
         ensures fed { fed self.new ≡ fed self.old }
         ensures kept { length self.new.pending ≤ length self.old.pending }
+        ensures held { held self.new ≡ held self.old }
         // Nothing is passed where what is due has a fault.
         ensures faulty { StaysFaulty self.old self.new }
         ensures shows { IfOk result (λ look. Shows self.new look) }

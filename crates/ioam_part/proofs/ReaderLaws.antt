@@ -1,6 +1,6 @@
 -- A part that is read in pieces.
 use Rattle.std.proofs.Common.{◌≡◌, ℕ, ◌+◌, ◌*◌, ◌-◌, ◌<◌, ◌≤◌, Bool, true, false, List, [], ◌++◌, length, length-append, length-take, take, drop, append_assoc, refl, sym, ap, ap₂, ◌∙◌, subst, arith, ◌⊎◌, inl, inr, Option, None, Some}
-use Rattle.std.specs.Prelude.{is_some, min, Result, Ok, Err, IfOk}
+use Rattle.std.specs.Prelude.{is_some, max, min, Result, Ok, Err, IfOk}
 use Rattle.std.proofs.lemmas.Bool.Decides.{nat_tests}
 use Rattle.std.proofs.lemmas.List.{append-nil, take-append-drop, take_all}
 use Rattle.std.proofs.lemmas.List.Elements.{All-nil}
@@ -178,7 +178,7 @@ module _ (limit : ℕ) (octets : List ℕ) (r : PartReading) (count : ℕ) (body
   stopped stops = stopped_by r.progress.fault refl stops
 
 pub taken : (limit : ℕ) (octets piece head : List ℕ) (r r' : PartReading) (filled count : ℕ) (fed : Reading) → head ≡ r.head ++ take filled piece
-    → filled ≤ 12 - length r.head → head ≡ head_octets count → count ≤ most_records → fed ≡ record r.reading { pending = r.reading.pending ++ drop filled piece }
+    → filled ≤ 12 - length r.head → head ≡ head_octets count → count ≤ most_records → fed ≡ record r.reading { pending = r.reading.pending ++ drop filled piece; given = 0 }
     → r'.head ≡ head
     → ((limit : ℕ) (body : List ℕ) (xs : List Record) → r.progress.fault ≡ None → Took count limit body xs fed r.progress
     → (ys : List Record) × Stops count limit body ys r'.reading r'.progress)
@@ -231,19 +231,25 @@ cut_few octets (inr (inr sized)) =
     let numbers = numbers_size-small (Rattle.std.specs.Prelude.slice_index octets 1) in
     omega arith
 
--- no more octets are kept than twice as many as are pending, and some
-took_few : (count limit : ℕ) (body : List ℕ) (xs : List Record) (reading : Reading) (p : Progress) → Took count limit body xs reading p
-    → length reading.pending < 274 → dex.held reading < 4 * 274 + 32768
-took_few count limit body xs reading p took small = let few = took.stands.few in omega (arith, few, small)
-
+-- what is pending then is less than a record
 pub keeps_few : (limit : ℕ) (octets : List ℕ) (r : PartReading) → Stands limit octets r → HoldsFew r
 keeps_few limit octets r stands none = elim (sound limit octets r none stands) [
   | inl opened ↦
       let took = opened.took 0 in
       let pending : length r.reading.pending ≡ 0 = sym (ap length took.stands.splits.is) in
-      took_few 0 limit [] [] r.reading r.progress took (omega (arith, pending))
-  | inr b ↦ took_few b.count limit b.body b.records r.reading r.progress b.took (cut_few r.reading.pending b.rests.waits)
+      omega (arith, pending)
+  | inr b ↦ cut_few r.reading.pending b.rests.waits
 ]
+
+-- what is kept where a piece was fed, and where it wasn't
+pub kept_fed : (old now more pending : ℕ) → now ≤ pending + more → now ≤ max old (pending + more)
+kept_fed old now more pending few = grind (arith, nat_tests)
+
+kept_still : (old more pending : ℕ) → old ≤ max old (pending + more)
+kept_still old more pending = grind (arith, nat_tests)
+
+pub kept_same : (now old more pending : ℕ) → now ≡ old → now ≤ max old (pending + more)
+kept_same now old more pending same = subst (λ n. n ≤ max old (pending + more)) (sym same) (kept_still old more pending)
 
 -- a number of 32 bits, of more
 pub kept_small : (x most n : ℕ) → n ≡ min x most → most ≡ 4294967295 → x < 4294967296 → n ≡ x

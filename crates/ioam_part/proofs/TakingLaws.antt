@@ -288,7 +288,7 @@ shown count limit body xs reading p took small reading' x sayable front place p'
 
 -- a piece more
 pub took_fed : (count limit : ℕ) (body piece : List ℕ) (xs : List Record) (reading reading' : Reading) (p : Progress)
-    → reading' ≡ record reading { pending = reading.pending ++ piece } → Took count limit body xs reading p → Took count limit (body ++ piece) xs reading' p
+    → reading' ≡ record reading { pending = reading.pending ++ piece; given = 0 } → Took count limit body xs reading p → Took count limit (body ++ piece) xs reading' p
 took_fed count limit body piece xs reading reading' p is took =
     subst (λ r. Took count limit (body ++ piece) xs r p) (sym is) (record {
       stands = Stands-feed reading piece body xs took.stands;

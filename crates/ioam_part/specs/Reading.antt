@@ -1,5 +1,5 @@
 -- A part that is read in pieces.
-use Rattle.std.specs.Prelude.{◌≡◌, ℕ, ◌+◌, ◌<◌, ◌≤◌, ◌⊎◌, min, Bool, true, false, List, [], ◌∷◌, ◌++◌, length, Option, Some, None, ⊤, ◌*◌}
+use Rattle.std.specs.Prelude.{◌≡◌, ℕ, ◌+◌, ◌<◌, ◌≤◌, ◌⊎◌, max, min, Bool, true, false, List, [], ◌∷◌, ◌++◌, length, Option, Some, None, ⊤, ◌*◌}
 use Rattle.ioam_dex.specs.Faults.{IsCut}
 use Rattle.ioam_dex.specs.Record.{Record, record_octets}
 use Rattle.ioam_dex.specs.Reading.{Reading}
@@ -78,9 +78,17 @@ fed r = dex.fed r.reading
 abbrev pub fault_of : PartReading → Option (ℕ × PartFault)
 fault_of r = r.progress.fault
 
--- where no fault was found it keeps fewer octets than four of the greatest records and half a piece have
+-- how many octets behind the head it keeps
+abbrev pub held : PartReading → ℕ
+held r = dex.held r.reading
+
+-- where no fault was found fewer octets than the greatest record has are not yet taken
 abbrev pub HoldsFew : PartReading → Type 0
-HoldsFew r = fault_of r ≡ None → dex.held r.reading < 4 * 274 + 32768
+HoldsFew r = fault_of r ≡ None → length r.reading.pending < 274
+
+-- so many octets more were fed: it keeps these and what was not yet taken, and no more; or what it kept before
+abbrev pub KeepsFew : PartReading → ℕ → PartReading → Type 0
+KeepsFew old more new = held new ≤ max (held old) (length old.reading.pending + more)
 
 -- the collector stands for the records of the part
 abbrev pub IsReadAs : ℕ → List ℕ → Collected → Type 0

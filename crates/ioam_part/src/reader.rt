@@ -25,7 +25,7 @@ pub enum PartRefused {
 }
 
 /// Reads a part out of any pieces of it. It keeps the collector that it reads, less than a record of the octets that are not
-/// yet read, and of those that are few.
+/// yet read, and those of the last piece.
 #[derive(Drop)]
 pub struct PartReader {
     head: Buffer,
@@ -46,13 +46,14 @@ impl Model for PartReader {
 
 impl PartReader {
     ghost use Rattle.ioam_dex.specs.Reader as dex;
-    ghost use Rattle.ioam_part.specs.Reading.{HoldsFew, IsReadAs, RefusedBy, Stands, fault_of, fed};
+    ghost use Rattle.ioam_part.specs.Reading.{HoldsFew, IsReadAs, KeepsFew, RefusedBy, Stands, fault_of, fed, held};
 
     /// A reader that was fed nothing, of a part of at most so many records, below 2^31.
     pub fn new(alloc: Global, limit: u32) -> Result<PartReader, NoMemory>
         requires { limit < 2 ^ 31 }
         ensures stands { IfOk result (λ reader. Stands limit [] reader) }
         ensures fed { IfOk result (λ reader. fed reader ≡ 0) }
+        ensures held { IfOk result (λ reader. held reader ≡ 0) }
     {
         Ok(PartReader {
             head: Buffer::new(),
@@ -82,6 +83,7 @@ impl PartReader {
         ensures stands { IfOk result (λ reader. (limit : ℕ) (octets : List ℕ) → Stands limit octets self
             → Stands limit (octets ++ piece.now) reader) }
         ensures few { IfOk result (λ reader. (limit : ℕ) (octets : List ℕ) → Stands limit octets self → HoldsFew reader) }
+        ensures kept { IfOk result (λ reader. KeepsFew self (length piece.now) reader) }
     {
         let mut reader = self;
         reader.take_in(piece)?;
@@ -91,8 +93,9 @@ impl PartReader {
     // Takes in the next octets.
     fn take_in(&mut self, piece: &[u8]) -> Result<(), NoMemory>
         requires { fed self.old + length piece.now < 2 ^ 63 }
-        ensures { OnOk result ((limit : ℕ) (octets : List ℕ) → Stands limit octets self.old
+        ensures stands { OnOk result ((limit : ℕ) (octets : List ℕ) → Stands limit octets self.old
             → Stands limit (octets ++ piece.now) self.new) }
+        ensures kept { OnOk result (KeepsFew self.old (length piece.now) self.new) }
     {
         if self.progress.fault.is_some() {
             return Ok(());

@@ -1,6 +1,7 @@
 //! Records that are taken off a part, one after the other.
 ghost use Rattle.std.specs.Prelude.{◌≡◌, ◌∷◌, ◌++◌, ◌+◌, ◌<◌, ◌^◌, [], ℕ, List, None, IfOk, OnOk, length, if◌then◌else◌};
 ghost use Rattle.std.specs.Bool.{OnTrue};
+ghost use Rattle.ioam_dex.specs.Reader.{held};
 ghost use Rattle.ioam_dex.specs.Record.{HasItsParts, Record, record_of, record_octets};
 ghost use Rattle.ioam_part.specs.Part.{AreInOrder};
 ghost use Rattle.ioam_part.specs.Reading.{Goes, Holds, Stops, Took, Turns};
@@ -76,6 +77,7 @@ fn take_next(
     ensures turns { IfOk result (λ more. (limit : ℕ) (body : List ℕ) (xs : List Record) → progress.old.fault ≡ None
         → Took count limit body xs reader.old progress.old → Turns count limit body xs more reader.new progress.new) }
     ensures shorter { IfOk result (λ more. OnTrue more (length reader.new.pending < length reader.old.pending)) }
+    ensures held { held reader.new ≡ held reader.old }
 {
     if progress.given >= count {
         if reader.fed() == progress.end {
@@ -100,9 +102,10 @@ pub(crate) fn take_shown(
     progress: &mut Progress,
     count: u32,
 ) -> Result<(), NoMemory>
-    ensures { OnOk result ((limit : ℕ) (body : List ℕ) (xs : List Record) → progress.old.fault ≡ None
+    ensures stops { OnOk result ((limit : ℕ) (body : List ℕ) (xs : List Record) → progress.old.fault ≡ None
         → Took count limit body xs reader.old progress.old
         → (ys : List Record) × Stops count limit body ys reader.new progress.new) }
+    ensures held { OnOk result (held reader.new ≡ held reader.old) }
 {
     'records: loop {
         if !take_next(reader, progress, count)? {

@@ -2,8 +2,8 @@
 use Rattle.std.proofs.Common.{◌≡◌, ℕ, ◌+◌, ◌*◌, ◌-◌, ◌≤◌, ◌<◌, List, [], ◌∷◌, ◌++◌, length, take, drop, Option, Some, None, arith, refl, sym, ap, ◌∙◌, subst, length-drop, length-take-le, length-append, inl, inr}
 use Rattle.std.specs.Option.{IsSome}
 use Rattle.std.proofs.lemmas.List.{append-nil, drop-drop, drop-append-le}
-use Rattle.ioam_base.specs.Fed.{Kept, KeepsFew, passed, with_piece}
-use Rattle.ioam_base.proofs.FedLaws.{fed_few, last_taken, passed_few}
+use Rattle.ioam_base.specs.Fed.{Kept, passed, with_piece}
+use Rattle.ioam_base.proofs.FedLaws.{last_taken, passed_held}
 use Rattle.ioam_base.proofs.LeadsLaws.{Leads-push}
 use Rattle.ioam_pcap.specs.declared.form.Form.{Form}
 use Rattle.ioam_pcap.specs.declared.form.Link.{Link}
@@ -14,19 +14,18 @@ use Rattle.ioam_pcap.specs.Ending.{Faulty}
 use Rattle.ioam_pcap.specs.Entries.{Entry, Entries, captured, IsWhole, entry_at, behind}
 use Rattle.ioam_pcap.specs.Reads.{HeadFault, EntryFault, IsHeadCut, IsEntryCut, Reached, EntryAt, FaultAt, CutAt, EndsAt, Reads, ReadsOnly, link_by}
 use Rattle.ioam_pcap.specs.Reading.{Reading}
-use Rattle.ioam_pcap.specs.Reader.{Stands, Waits, HoldsFew, IsCap, link_of, most_size, most_start}
+use Rattle.ioam_pcap.specs.Reader.{Stands, Waits, HoldsFew, IsCap, held, link_of, most_size, most_start}
 use Rattle.ioam_pcap.proofs.DropLaws.{captured-drop, IsWhole-drop, entry_at-drop, EntryFault-drop, IsEntryCut-drop}
 use Rattle.ioam_pcap.proofs.BehindLaws.{Reached-behind, FaultAt-behind}
 use Rattle.ioam_pcap.proofs.ReadsLaws.{entry_uncut, entry_sound, Reads-unique}
 
 -- a piece more
 pub Stands-feed : (reader : Reading) (piece octets : List ℕ) (entries : List Entry) → Stands reader octets entries
-    → Stands (record reader { pending = reader.pending ++ piece }) (octets ++ piece) entries
+    → Stands (record reader { pending = reader.pending ++ piece; given = 0 }) (octets ++ piece) entries
 Stands-feed reader piece octets entries stands = record {
   left = ap (λ p. p ++ piece) stands.left ∙ sym (drop-append-le reader.start octets piece stands.inside);
   inside = omega (arith, length-append octets piece);
   reached = Reached-behind octets piece reader.form entries reader.start stands.reached;
-  few = fed_few 262160 reader.given reader.pending piece stands.few;
 }
 
 -- a reader that was fed nothing yet takes the place of the front
@@ -125,7 +124,7 @@ module _ (old : Reading) (form : Form) (read : old.form ≡ Some form) (whole : 
 
 -- a whole record was taken
 module _ (old new : Reading) (form : Form) (read : old.form ≡ Some form) (whole : IsWhole form old.pending 0) (form_was : new.form ≡ old.form) (start_is : new.start ≡ old.start + (16 + captured form old.pending 0))
-    (left_is : new.pending ≡ drop (16 + captured form old.pending 0) old.pending) (few : KeepsFew 262160 new.given (length new.pending)) where
+    (left_is : new.pending ≡ drop (16 + captured form old.pending 0) old.pending) where
   pub EntryAt-step : (e : Entry) → e ≡ entry_at form old.pending 0 → (octets : List ℕ) (entries : List Entry) → Stands old octets entries → EntryAt octets old.form old.start e
   EntryAt-step e shown octets entries stands =
       let Q : Entry → Type 0 = λ d. EntryAt octets old.form old.start d in
@@ -148,15 +147,14 @@ module _ (old new : Reading) (form : Form) (read : old.form ≡ Some form) (whol
             ∙ ap (λ n. drop n octets) (sym start_is);
         inside = omega (arith, start_is);
         reached = subst R (sym form_is) (reached.0, rw (next, same) pushed);
-        few = few;
       }
 
 -- the reader's value where a piece more was fed
 pub fed_with : (kept new : Kept) (form : Option Form) (old : Reading) (piece : List ℕ)
     → ◌≡◌ {A = Reading} (record { form = form; start = kept.start; pending = kept.pending; given = length kept.given }) old → new ≡ with_piece piece kept
-    → ◌≡◌ {A = Reading} (record old { pending = old.pending ++ piece }) (record { form = form; start = new.start; pending = new.pending; given = length new.given })
+    → ◌≡◌ {A = Reading} (record old { pending = old.pending ++ piece; given = 0 }) (record { form = form; start = new.start; pending = new.pending; given = length new.given })
 fed_with kept new form old piece view fed =
-    sym (ap (λ (k : Kept). record { form = form; start = k.start; pending = k.pending; given = length k.given }) fed ∙ ap (λ (r : Reading). record r { pending = r.pending ++ piece }) view)
+    sym (ap (λ (k : Kept). record { form = form; start = k.start; pending = k.pending; given = length k.given }) fed ∙ ap (λ (r : Reading). record r { pending = r.pending ++ piece; given = 0 }) view)
 
 -- and where so many octets were taken
 pub moved_by : (kept new : Kept) (form : Option Form) (old : Reading) (size : ℕ)
@@ -167,12 +165,12 @@ moved_by kept new form old size view taken =
     ap (λ (k : Kept). record { form = form; start = k.start; pending = k.pending; given = length new.given }) taken
     ∙ ap (λ (r : Reading). record { form = r.form; start = r.start + size; pending = drop size r.pending; given = length new.given }) view
 
--- few octets that were given are still kept then
-pub few_kept : (kept new : Kept) (size : ℕ) → new ≡ passed size kept → size ≤ length kept.pending → size ≤ 262160
-    → KeepsFew 262160 (length new.given) (length new.pending)
-few_kept kept new size taken fits most =
-    let Few : Kept → Type 0 = λ k. KeepsFew 262160 (length k.given) (length k.pending) in
-    subst Few (sym taken) (passed_few kept 262160 size fits most)
+-- as many octets are kept then
+pub held_kept : (kept new : Kept) (form : Option Form) (old : Reading) (size : ℕ)
+    → ◌≡◌ {A = Reading} (record { form = form; start = kept.start; pending = kept.pending; given = length kept.given }) old → new ≡ passed size kept
+    → size ≤ length kept.pending → length new.given + length new.pending ≡ held old
+held_kept kept new form old size view taken fits =
+    ap (λ (k : Kept). length k.given + length k.pending) taken ∙ passed_held kept size fits ∙ ap (λ (r : Reading). held r) view
 
 -- a record's octets, as the last that were taken
 pub octets_of_record : (kept new : Kept) (size : ℕ) → new ≡ passed (16 + size) kept → 16 + size ≤ length kept.pending
@@ -184,9 +182,9 @@ octets_of_record kept new size taken fits =
 
 -- the head was read
 pub Stands-head : (old : Reading) (form : Form) → old.form ≡ None → HasHead old.pending form → (octets : List ℕ) (entries : List Entry)
-    → Stands old octets entries → (given : ℕ) → KeepsFew 262160 given (length (drop 24 old.pending))
+    → Stands old octets entries → (given : ℕ)
     → Stands (record { form = Some form; start = old.start + 24; pending = drop 24 old.pending; given = given }) octets entries
-Stands-head old form none head octets entries stands given few =
+Stands-head old form none head octets entries stands given =
     let front = front_pending old octets entries none stands in
     let Q : List ℕ → Type 0 = λ p. HasHead p form in
     let here : HasHead octets form = subst Q front.0 head in
@@ -195,7 +193,6 @@ Stands-head old form none head octets entries stands given few =
       left = ap (drop 24) front.0 ∙ ap (λ n. drop n octets) (sym behind_head);
       inside = omega arith;
       reached = (here, rw (front.2, behind_head) refl);
-      few = few;
     }
 
 -- as many octets less are left

@@ -2,7 +2,6 @@
 use Rattle.std.specs.Prelude.{◌≡◌, ℕ, ◌+◌, ◌*◌, ◌<◌, ◌≤◌, ◌^◌, List, [], ◌∷◌, ◌++◌, length, drop, Option, Some, None}
 use Rattle.std.specs.Io.BufRead.{Rests}
 use Rattle.std.specs.Borrow.{Fml, MutBor}
-use Rattle.ioam_base.specs.Fed.{KeepsFew}
 use Rattle.ioam_pcap.specs.declared.form.Link.{Link}
 use Rattle.ioam_pcap.specs.declared.capture.CapFault.{CapFault}
 use Rattle.ioam_pcap.specs.declared.capture.Packet as packet
@@ -16,13 +15,11 @@ use Rattle.ioam_pcap.specs.Entries.{Entry}
 use Rattle.ioam_pcap.specs.Reads.{Reached, FaultAt, CutAt, Shown, HeadShown, EntryShown, CutShown, FaultShown, Shows, Reads, ReadsOnly, Cap, link_by}
 use Rattle.ioam_pcap.specs.Reading.{Reading}
 
--- a reader that was fed these octets in all, and has given these records; few of the octets that it gave it still keeps,
--- a record at a time, of 262,160 octets at most
+-- a reader that was fed these octets in all, and has given these records
 pub record Stands (reader : Reading) (octets : List ℕ) (entries : List Entry) : Type 0 where
   pub left : reader.pending ≡ drop reader.start octets
   pub inside : reader.start ≤ length octets
   pub reached : Reached octets reader.form entries reader.start
-  pub few : KeepsFew 262160 reader.given (length reader.pending)
 
 -- a reader that was fed nothing
 abbrev pub fresh : Reading
@@ -120,8 +117,8 @@ Looks octets reader (look.Packet time size) = (entry : Entry) × Shows octets re
 Looks octets reader look.More = Shows octets reader.form reader.start CutShown
 Looks octets reader (look.Bad at fault) = (at ≡ reader.start) × Shows octets reader.form reader.start (FaultShown fault)
 
--- so the reader is once the step's octets are no longer lent
+-- so the reader is once the step's octets are no longer lent: it keeps as many octets as before
 abbrev pub RestsSo : MutBor Reading → CapStep → Fml
 RestsSo reader step = Rests the_row reader (λ new. Moved reader.now new step
     × ((octets : List ℕ) (entries : List Entry) → Stands reader.now octets entries → Told octets entries reader.now new step)
-    × SaysFault reader.now step)
+    × SaysFault reader.now step × (held new ≡ held reader.now))

@@ -13,10 +13,9 @@ use std::marker::Model;
 
 /// Reads a classic capture file out of any pieces of it.
 ///
-/// It keeps the octets that were fed and not yet taken. Where `next` answers `More` these are fewer
-/// than the 262,160 of the greatest record, so that a reader which is fed only then keeps less than
-/// a record and a piece, and of the octets that it gave at most as many more, twice the greatest record
-/// and 32,768.
+/// It keeps the octets that were fed and not yet taken, and those that it gave until it is fed again.
+/// Where `next` answers `More` fewer are pending than the 262,160 of the greatest record, so that a
+/// reader which is fed only then keeps less than a record and a piece.
 #[derive(Drop)]
 pub struct CaptureReader {
     octets: Fed,
@@ -65,19 +64,20 @@ impl CaptureReader {
         Some(form.link)
     }
 
-    /// Feeds the next octets of the capture, of which there are below 2^63 in all.
+    /// Feeds the next octets of the capture, of which there are below 2^63 in all. It keeps none of the
+    /// octets that it gave.
     pub fn feed(&mut self, piece: &[u8]) -> Result<(), NoMemory>
         requires { fed self.old + length piece.now < 2 ^ 63 }
         ensures ok { OnOk result (self.new
-            ≡ record self.old { pending = self.old.pending ++ piece.now }) }
+            ≡ record self.old { pending = self.old.pending ++ piece.now; given = 0 }) }
         ensures stands { OnOk result ((octets : List ℕ) (entries : List Entry)
             → Stands self.old octets entries
             → Stands self.new (octets ++ piece.now) entries) }
         // A fault of what is due stays, whatever is fed.
         ensures faulty { OnOk result (KeepsFault self.old self.new) }
         ensures err { OnErr result (self.new ≡ self.old) }
-        // What it keeps grows by the piece alone.
-        ensures held { OnOk result (held self.new ≡ held self.old + length piece.now) }
+        // It keeps what was pending and the piece.
+        ensures held { OnOk result (held self.new ≡ length self.old.pending + length piece.now) }
     {
         self.octets.feed(piece)
     }

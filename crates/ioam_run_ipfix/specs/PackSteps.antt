@@ -22,7 +22,7 @@ use Rattle.ioam_run_ipfix.specs.declared.ipfix_stream.Pause.TheVariants as pause
 
 -- a piece more was fed to the reader
 abbrev pub Feeds : Reading → Reading → List ℕ → Type 0
-Feeds old new piece = (new ≡ record old { pending = old.pending ++ piece })
+Feeds old new piece = (new ≡ record old { pending = old.pending ++ piece; given = 0 })
     × ((octets : List ℕ) (records : List Record) → Stands old octets records → Stands new (octets ++ piece) records)
 
 -- the reader gave this record

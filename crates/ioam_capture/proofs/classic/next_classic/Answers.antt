@@ -12,7 +12,7 @@ returns-in-Head c =
     let mid = c.next.follows.lender-at-none in
     let passed = classic_head old mid c.in-Head.link told.0 told.1 in
     let then = c.next_record-in-Head in (
-      (refl, λ _. tt, leaves_after (Classic old) (Classic mid) passed.0 passed.1 passed.2 (Classic then.follows.lender-at-none) then.result then.follows.holds-at-none),
+      (refl, λ _. tt, leaves_after (Classic old) (Classic mid) passed.0 passed.1 told.3 passed.2 (Classic then.follows.lender-at-none) then.result then.follows.holds-at-none),
       record { rests = tt; memory = then.ensures.memory; faulty = λ at f has. absurd (classic_says old (Head c.in-Head.link) told.2 at f has) },
     )
 

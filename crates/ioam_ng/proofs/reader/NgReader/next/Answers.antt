@@ -1,7 +1,7 @@
 use Rattle.std.proofs.Common.{◌≡◌, ◌≤◌, length, take, drop, arith, refl, ap, ◌∙◌, subst}
 use Rattle.ioam_ng.specs.declared.block.Content.{Content}
 use Rattle.ioam_ng.specs.Reader.{IsPacket}
-use Rattle.ioam_ng.proofs.StandsLaws.{tells_more, tells_bad, tells_memory, octets_of_packet, few_kept, moved_packet, packet_few, packet_told}
+use Rattle.ioam_ng.proofs.StandsLaws.{tells_more, tells_bad, tells_memory, octets_of_packet, held_kept, moved_packet, packet_told}
 use Rattle.ioam_ng.proofs.reader.NgReader.next.Goals as goal
 
 pub returns-in-More : goal.returns-in-More
@@ -31,10 +31,10 @@ returns-in-Packet-content c =
     let is = subst Q c.in-Packet-content.is e.due in
     let moved = moved_packet kept c.take.new.self c.self.inside.count c.self.inside.order c.self.inside.faces.items mid b head c.self.view_is c.in-Packet-content.is c.take.ensures in
     let fits : b.size ≤ length kept.pending = omega (arith, is.3, ap (λ r. length r.pending) c.self.view_is) in
-    let few = few_kept kept c.take.new.self b.size c.take.ensures fits (packet_few mid b head is) in
+    let same = held_kept kept c.take.new.self _ mid b.size c.self.view_is c.take.ensures fits in
     let octets = take head.captured c.taken-octets.result.now in
     let shown : octets ≡ take head.captured (drop 28 mid.pending) =
     ap (take head.captured) c.taken-octets.ensures ∙ octets_of_packet kept c.take.new.self b.size head.captured c.take.ensures fits is.4
     ∙ ap (λ r. take head.captured (drop 28 r.pending)) c.self.view_is in
-    let told = packet_told old mid _ e.skips b head is moved few octets shown in
-    ((refl, λ _. tt, (told.0, told.1, told.2, λ all taken stands. (told.3 all taken stands, tt), told.4 _, told.5, told.6)), tt)
+    let told = packet_told old mid _ e.skips b head is moved same octets shown in
+    ((refl, λ _. tt, (told.0, told.1, told.2, λ all taken stands. (told.3 all taken stands, tt), told.4 _, told.5, told.6, told.7)), tt)

@@ -9,3 +9,6 @@ returns-clause-kept c = Skips-kept c.args.self.now c.advance.new.self c.advance.
 
 pub returns-clause-faulty : goal.returns-clause-faulty
 returns-clause-faulty c = skips_fault c.args.self.now c.advance.new.self c.advance.ensures.skips
+
+pub returns-clause-held : goal.returns-clause-held
+returns-clause-held c = c.advance.ensures.skips.held

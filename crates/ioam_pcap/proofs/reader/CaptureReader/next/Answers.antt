@@ -1,12 +1,12 @@
 use Rattle.std.proofs.Common.{◌≡◌, ◌+◌, ◌≤◌, List, ℕ, length, take, drop, Option, refl, sym, ap, ◌∙◌, subst, rules, arith, Some, None}
-use Rattle.ioam_base.specs.Fed.{KeepsFew, passed}
+use Rattle.ioam_base.specs.Fed.{passed}
 use Rattle.ioam_pcap.specs.declared.form.Form.{Form}
 use Rattle.ioam_pcap.specs.Reading.{Reading}
 use Rattle.ioam_pcap.specs.Reads.{HeadFault, EntryFault, IsHeadCut, IsEntryCut, FaultAt, CutAt}
 use Rattle.ioam_pcap.specs.Form.{HasHead}
 use Rattle.ioam_pcap.specs.Entries.{Entry, IsWhole, captured, entry_at}
-use Rattle.ioam_pcap.specs.Reader.{Stands}
-use Rattle.ioam_pcap.proofs.StandsLaws.{cut_told, fault_told, few_kept, octets_of_record, moved_by, Stands-head, Stands-step, Waits-few, EntryAt-step, length_left, length_of_record, entry_by}
+use Rattle.ioam_pcap.specs.Reader.{Stands, held}
+use Rattle.ioam_pcap.proofs.StandsLaws.{cut_told, fault_told, held_kept, octets_of_record, moved_by, Stands-head, Stands-step, Waits-few, EntryAt-step, length_left, length_of_record, entry_by}
 use Rattle.ioam_pcap.proofs.FaultLaws.{says_head, says_entry, says_cut, says_bad}
 use Rattle.ioam_pcap.proofs.reader.CaptureReader.next.Goals as goal
 
@@ -21,17 +21,18 @@ returns-in-Whole c =
     let rest = ap (λ r. r.pending) new in
     let with_form : Reading → Reading = λ r. record r { form = Some c.in-Whole.form } in
     let after = ap with_form new in
-    let few = few_kept c.self.inside.octets c.take.new.self 24 c.take.ensures (omega (arith, head.0, ap (λ r. length r.pending) c.self.view_is)) (omega arith) in (
+    let same = held_kept c.self.inside.octets c.take.new.self c.self.inside.form old 24 c.self.view_is c.take.ensures (omega (arith, head.0, ap (λ r. length r.pending) c.self.view_is)) in (
       (
         refl,
         λ _. tt,
         (
           (ap (λ r. r.start) new, rest, length_left _ old.pending 24 rest head.0, none, refl),
           λ octets entries stands.
-              let stood = Stands-head old c.in-Whole.form none head octets entries stands (length c.take.new.self.given) (subst (λ p. KeepsFew 262160 (length c.take.new.self.given) (length p)) rest few) in
+              let stood = Stands-head old c.in-Whole.form none head octets entries stands (length c.take.new.self.given) in
               let S : Reading → Type 0 = λ r. Stands r octets entries in
               ((none, (c.in-Whole.form, stood.reached.0, refl)), (refl, subst S (sym after) stood)),
           says_head old c.in-Whole.form none head _,
+          same,
         ),
       ),
       tt,
@@ -52,6 +53,7 @@ returns-in-Bad c =
           (c.self.view_is, start, bad),
           λ octets entries stands. fault_told old _ c.self.view_is octets entries stands _ c.in-Bad.fault start bad,
           says_bad old _ c.in-Bad.fault start bad,
+          ap (λ (r : Reading). held r) c.self.view_is,
         ),
       ),
       tt,
@@ -64,7 +66,7 @@ returns-in-Cut c =
     let pending = c.pending-pending.ensures ∙ ap (λ r. r.pending) c.self.view_is in
     let Q : List ℕ → Type 0 = λ p. IsHeadCut p in
     let cut : CutAt old.pending old.form 0 = rw none (subst Q pending c.in-Cut.ensures) in
-    ((refl, λ _. tt, ((c.self.view_is, cut, Waits-few old cut), λ octets entries stands. cut_told old _ c.self.view_is octets entries stands cut, says_cut old cut _)), tt)
+    ((refl, λ _. tt, ((c.self.view_is, cut, Waits-few old cut), λ octets entries stands. cut_told old _ c.self.view_is octets entries stands cut, says_cut old cut _, ap (λ (r : Reading). held r) c.self.view_is)), tt)
 
 pub returns-in-Whole-entry_step : goal.returns-in-Whole-entry_step
 returns-in-Whole-entry_step c =
@@ -81,7 +83,8 @@ returns-in-Whole-entry_step c =
     let taken : behind ≡ passed size kept = c.take-in-Whole-entry_step.ensures ∙ ap (λ n. passed (16 + n) kept) told.1 in
     let new = moved_by kept behind c.self.inside.form old size c.self.view_is taken in
     let rest = ap (λ r. r.pending) new in
-    let few = few_kept kept behind size taken (omega (arith, told.0, ap (λ r. length r.pending) c.self.view_is)) (omega (arith, told.0.0)) in
+    let after : Reading = record { form = c.self.inside.form; start = behind.start; pending = behind.pending; given = length behind.given } in
+    let same = held_kept kept behind c.self.inside.form old size c.self.view_is taken (omega (arith, told.0, ap (λ r. length r.pending) c.self.view_is)) in
     let octets = c.taken.result.now in
     let fits : 16 + h.captured ≤ length kept.pending = omega (arith, told.0, told.1, ap (λ r. length r.pending) c.self.view_is) in
     let shown : octets ≡ take (captured form old.pending 0) (drop 16 old.pending) =
@@ -103,8 +106,9 @@ returns-in-Whole-entry_step c =
             λ none. let wrong : ◌≡◌ {A = Option Form} (Some form) None = sym form_is ∙ none in absurd (cc),
             omega (arith, many, told.0.0),
           ),
-          λ all entries stands. (EntryAt-step old _ form form_is told.0 (ap (λ r. r.form) new) (ap (λ r. r.start) new) rest few entry entry_is all entries stands, Stands-step old _ form form_is told.0 (ap (λ r. r.form) new) (ap (λ r. r.start) new) rest few entry entry_is all entries stands),
+          λ all entries stands. (EntryAt-step old after form form_is told.0 (ap (λ r. r.form) new) (ap (λ r. r.start) new) rest entry entry_is all entries stands, Stands-step old after form form_is told.0 (ap (λ r. r.form) new) (ap (λ r. r.start) new) rest entry entry_is all entries stands),
           says_entry old form form_is told.0 _,
+          same,
         ),
       ),
       tt,
@@ -117,7 +121,7 @@ returns-in-Cut-entry_step c =
     let pending = c.pending-pending.ensures ∙ ap (λ r. r.pending) c.self.view_is in
     let Q : List ℕ → Type 0 = λ p. IsEntryCut c.in-Some.form p 0 in
     let cut : CutAt old.pending old.form 0 = rw form (subst Q pending c.in-Cut-entry_step.ensures.tells) in
-    ((refl, λ _. tt, ((c.self.view_is, cut, Waits-few old cut), λ octets entries stands. cut_told old _ c.self.view_is octets entries stands cut, says_cut old cut _)), tt)
+    ((refl, λ _. tt, ((c.self.view_is, cut, Waits-few old cut), λ octets entries stands. cut_told old _ c.self.view_is octets entries stands cut, says_cut old cut _, ap (λ (r : Reading). held r) c.self.view_is)), tt)
 
 pub returns-in-Bad-entry_step : goal.returns-in-Bad-entry_step
 returns-in-Bad-entry_step c =
@@ -134,6 +138,7 @@ returns-in-Bad-entry_step c =
           (c.self.view_is, start, bad),
           λ octets entries stands. fault_told old _ c.self.view_is octets entries stands _ c.in-Bad-entry_step.fault start bad,
           says_bad old _ c.in-Bad-entry_step.fault start bad,
+          ap (λ (r : Reading). held r) c.self.view_is,
         ),
       ),
       tt,
