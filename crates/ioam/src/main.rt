@@ -3,10 +3,8 @@
 
 use ioam_base::memory::NoMemory;
 use ioam_base::name::Name;
-use ioam_batch::OpenGate;
-use ioam_cmd::ioam;
+use ioam_cmd::{OpenGate, Outcome, ioam, line, status};
 use ioam_desk::{Fault, FileSystem, HostDesk, MachineFiles};
-use ioam_run_answer::{Outcome, line, status};
 use std::alloc::Global;
 use std::env;
 use std::io::ErrorKind;

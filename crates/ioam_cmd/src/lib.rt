@@ -9,5 +9,8 @@ mod measured;
 mod program;
 
 pub use command::{Command, parse};
+// What the program hands it, and what it does with the answer: its line and its status.
+pub use ioam_run_answer::{Outcome, line, status};
+pub use ioam_run_domain::{Gate, OpenGate};
 pub use measured::runs_are_collected;
 pub use program::{ioam, ioam_surely};

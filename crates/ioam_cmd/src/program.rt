@@ -11,14 +11,13 @@ ghost use Rattle.ioam_run_answer.specs.declared.outcome.Outcome.{Outcome};
 
 use crate::command::{Command, parse};
 use ioam_base::name::Name;
-use ioam_batch::Gate;
 use ioam_desk::{Desk, SureDesk};
 use ioam_run_answer::Outcome;
 use ioam_run_audit::{AuditFiles, run_audit};
 use ioam_run_bulk::run_bulk;
 use ioam_run_capture::{CaptureFiles, run_filter, run_paths, run_save, run_show};
 use ioam_run_collect::{CollectFiles, run_collect};
-use ioam_run_domain::{RunFiles, run_domain};
+use ioam_run_domain::{Gate, RunFiles, run_domain};
 use ioam_run_ipfix::{IpfixFiles, RecordsFiles, run_ipfix, run_records};
 use ioam_run_node::{NodeFiles, run_node};
 use ioam_run_part::{MergeFiles, PartFiles, PartsFiles, run_merge, run_part, run_parts};

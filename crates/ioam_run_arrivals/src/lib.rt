@@ -8,3 +8,5 @@ mod skipping;
 mod telling;
 
 pub use forwarding::Forwarding;
+// What its caller hands it: whether workers may begin.
+pub use ioam_batch::{Gate, OpenGate};

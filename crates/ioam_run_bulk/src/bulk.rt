@@ -11,7 +11,7 @@ ghost use Rattle.ioam_run_bulk.specs.Promise.{HasCause, HoldsFront, HoldsReport,
 
 use crate::report::write_report;
 use ioam_base::name::Name;
-use ioam_batch::Gate;
+use ioam_run_arrivals::Gate;
 use ioam_desk::{Desk, DeskFault};
 use ioam_desk_outputs::open_outputs;
 use ioam_run_answer::Outcome;

@@ -9,7 +9,7 @@ ghost use Rattle.ioam_run_bulk.specs.Load.{AreSums, Loads};
 use crate::generator::{PACKET_MOST, next_state, put_packet};
 use crate::terms::Terms;
 use ioam_base::memory::NoMemory;
-use ioam_batch::Gate;
+use ioam_run_arrivals::Gate;
 use ioam_pcap::Packet;
 use ioam_report::Sums;
 use ioam_run_arrivals::Forwarding;

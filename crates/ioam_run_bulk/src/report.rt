@@ -9,7 +9,7 @@ ghost use Rattle.ioam_run_bulk.specs.Promise.{IsReport, MayReport, no_readings};
 use crate::load::sums_of;
 use crate::terms::Terms;
 use ioam_base::memory::NoMemory;
-use ioam_batch::Gate;
+use ioam_run_arrivals::Gate;
 use ioam_clock::{Readings, read_readings};
 use ioam_desk::{Desk, DeskFault};
 use ioam_desk_outputs::{Output, finish};

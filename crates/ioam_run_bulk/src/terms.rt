@@ -1,5 +1,5 @@
 //! What a generated run goes by.
-use ioam_batch::Gate;
+use ioam_run_arrivals::Gate;
 use ioam_clock::Readings;
 use ioam_topo::Domain;
 use std::thread::Threads;

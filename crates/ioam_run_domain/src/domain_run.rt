@@ -18,15 +18,13 @@ ghost use Rattle.ioam_run_domain.specs.Promise.{Keeps, run_files, run_inputs, ru
 use crate::names::RunFiles;
 use ioam_base::memory::NoMemory;
 use ioam_base::name::Name;
-use ioam_batch::Gate;
 use ioam_clock::Readings;
 use ioam_desk::Desk;
 use ioam_desk_outputs::first_repeat;
-use ioam_run_answer::Outcome;
 use ioam_run_files::{
-    Refusal, Setting, file_names, input_names, input_ports, output_names, read_setting, refused,
+    Outcome, Refusal, Setting, file_names, input_names, input_ports, output_names, read_setting, refused,
 };
-use ioam_run_traffic::{Halt, run_traffic};
+use ioam_run_traffic::{Gate, Halt, run_traffic};
 use ioam_topo::Domain;
 use std::alloc::Global;
 use std::thread::Threads;

@@ -10,4 +10,6 @@ mod traffic;
 mod turns;
 
 pub use halt::Halt;
+// What its caller hands it: whether workers may begin.
+pub use ioam_run_arrivals::{Gate, OpenGate};
 pub use traffic::run_traffic;

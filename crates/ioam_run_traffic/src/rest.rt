@@ -12,7 +12,7 @@ ghost use Rattle.ioam_run_traffic.specs.Running.{HoldSo};
 
 use crate::terms::Terms;
 use ioam_base::memory::NoMemory;
-use ioam_batch::Gate;
+use ioam_run_arrivals::Gate;
 use ioam_desk::{Desk, DeskFault};
 use ioam_desk_outputs::{Output, finish};
 use ioam_run_arrivals::Forwarding;

@@ -1,5 +1,5 @@
 //! What the traffic of a domain goes by.
-use ioam_batch::Gate;
+use ioam_run_arrivals::Gate;
 use ioam_clock::Readings;
 use ioam_topo::{Domain, PortId};
 use std::thread::Threads;

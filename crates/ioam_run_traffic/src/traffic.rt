@@ -16,7 +16,7 @@ use crate::rest::put_rest;
 use crate::terms::Terms;
 use crate::turns::carry_on;
 use ioam_base::name::Name;
-use ioam_batch::Gate;
+use ioam_run_arrivals::Gate;
 use ioam_capture_merge::{Merge, open_merge};
 use ioam_clock::Readings;
 use ioam_desk::{Desk, DeskFault};

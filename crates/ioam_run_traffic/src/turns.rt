@@ -13,7 +13,7 @@ use crate::halt::Halt;
 use crate::progress::Progress;
 use crate::terms::Terms;
 use ioam_base::memory::NoMemory;
-use ioam_batch::Gate;
+use ioam_run_arrivals::Gate;
 use ioam_capture::Turn;
 use ioam_desk::{Desk, DeskFault};
 use ioam_desk_outputs::{Output, flush_full};
