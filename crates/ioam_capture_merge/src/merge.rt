@@ -8,7 +8,7 @@ use crate::capture::Capture;
 use crate::feed::Feed;
 use ioam_base::memory::NoMemory;
 use ioam_capture::{Due, Turn, next_turn};
-use ioam_desk::{Desk, DeskFault, PIECE};
+use ioam_desk::{Desk, DeskFault, PIECE, new_piece};
 use std::alloc::Global;
 
 /// Several captures of a desk, merged by time.
@@ -31,8 +31,7 @@ impl Merge {
     {
         let captures = Vec::with_capacity(alloc, count)?;
         let dues = Vec::with_capacity(alloc, count)?;
-        let mut piece = Vec::new(alloc);
-        piece.resize(PIECE, 0)?;
+        let piece = new_piece(alloc)?;
         Ok(Merge {
             captures,
             dues,

@@ -10,6 +10,7 @@ mod host_desk;
 mod host_fault;
 mod host_side;
 mod memory_desk;
+mod piece;
 mod room;
 mod store;
 mod sure_desk;
@@ -21,5 +22,8 @@ pub use file_system::{FileSystem, Identity, MachineFiles};
 pub use host_desk::HostDesk;
 pub use host_fault::{Fault, Reason};
 pub use memory_desk::MemoryDesk;
+pub use piece::new_piece;
 pub use sure_desk::SureDesk;
-pub use whole::{PIECE, read_whole, write_all};
+pub use whole::{read_whole, write_all};
+// How many octets a read asks for.
+pub use ioam_base::fed::PIECE;

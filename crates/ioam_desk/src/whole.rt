@@ -5,10 +5,8 @@ ghost use Rattle.ioam_desk.specs.Whole.{Hands, HandsMore, ReadsRest, FailsRest, 
 
 use crate::desk::Desk;
 use crate::fault::{DeskFault, WholeFault, WriteAll};
+use crate::piece::new_piece;
 use std::alloc::Global;
-
-/// How many octets a read asks for.
-pub const PIECE: usize = 65536;
 
 /// The octets of a file that holds no more than `limit`. The name is opened once, and nothing else
 /// is; other input slots are as before.
@@ -26,12 +24,9 @@ pub fn read_whole<D: Desk>(
         (FailsWhole D.tells (D.reading desk.old) (D.reading desk.new) (holds (D.writing desk.old) name.now) name.now limit) }
     ensures outputs { D.writing desk.new ≡ D.writing desk.old }
 {
-    let Ok(mut piece) = Vec::with_capacity(alloc, PIECE) else {
+    let Ok(mut piece) = new_piece(alloc) else {
         return Err(WholeFault::NoMemory);
     };
-    if piece.resize(PIECE, 0).is_err() {
-        return Err(WholeFault::NoMemory);
-    }
     let slot = match desk.open_in(name) {
         Ok(slot) => slot,
         Err(DeskFault::Failed) => return Err(WholeFault::Failed),

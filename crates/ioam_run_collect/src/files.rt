@@ -15,7 +15,7 @@ use ioam_base::memory::NoMemory;
 use ioam_base::name::Name;
 use ioam_collect::Collector;
 use ioam_collect_stream::{ExportFeed, Halt, MOST_HELD, gather, open_exports, write_report};
-use ioam_desk::{Desk, DeskFault, PIECE};
+use ioam_desk::{Desk, DeskFault, PIECE, new_piece};
 use ioam_desk_outputs::{Output, open_outputs};
 use ioam_run_answer::Outcome;
 use std::alloc::Global;
@@ -76,8 +76,7 @@ fn new_tools(alloc: Global) -> Result<Tools, NoMemory>
     ensures limit { IfOk result (λ tools. tools.collector.limit ≡ 1048576) }
 {
     let collector = Collector::new(alloc, MOST_HELD)?;
-    let mut piece = Vec::with_capacity(alloc, PIECE)?;
-    piece.resize(PIECE, 0)?;
+    let piece = new_piece(alloc)?;
     Ok(Tools { collector, piece })
 }
 

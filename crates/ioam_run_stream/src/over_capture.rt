@@ -16,10 +16,9 @@ use crate::files::CaptureFiles;
 use crate::gather::Gather;
 use crate::step::MOST_PACKETS;
 use crate::stream::{Stream, read_on, write_rest};
-use ioam_base::memory::NoMemory;
 use ioam_base::name::Name;
 use ioam_capture_merge::{Feed, open_feed};
-use ioam_desk::{Desk, DeskFault, PIECE};
+use ioam_desk::{Desk, DeskFault, PIECE, new_piece};
 use ioam_desk_outputs::{Output, first_repeat, open_outputs};
 use ioam_run_answer::{Outcome, names_outcome};
 use std::alloc::Global;
@@ -163,15 +162,6 @@ fn run_file<G: Gather, D: Desk>(
         Err(DeskFault::Failed) => Outcome::WriteFault,
         Err(DeskFault::NoMemory) => Outcome::NoMemory,
     }
-}
-
-// Room for what one read of a file hands out.
-fn new_piece(alloc: Global) -> Result<Vec<u8>, NoMemory>
-    ensures { IfOk result (λ piece. length piece.items ≡ PIECE) }
-{
-    let mut piece = Vec::with_capacity(alloc, PIECE)?;
-    piece.resize(PIECE, 0)?;
-    Ok(piece)
 }
 
 // Runs a command whose files were opened.
