@@ -1,9 +1,12 @@
 -- The text of a list, with one record more.
-use Rattle.std.proofs.Common.{◌≡◌, ℕ, ◌+◌, List, [], ◌∷◌, ◌++◌, length, Result, Ok, Err, OnOk, refl, sym, ◌∙◌, ap, subst, inl, inr, append_assoc, append-nil, length-append, arith}
+use Rattle.std.proofs.Common.{◌≡◌, ℕ, ◌+◌, List, [], ◌∷◌, ◌++◌, length, Result, Ok, Err, OnOk, Option, Some, refl, sym, ◌∙◌, ap, subst, inl, inr, append_assoc, append-nil, length-append, arith}
 use Rattle.std.specs.Prelude.{decimal, is_ok, if◌then◌else◌}
 use Rattle.ioam_ip.specs.Chain.{IsSound}
+use Rattle.ioam_ip.specs.Framing.{Framing, Holds, NoIpv6, CutShort, TooShort}
+use Rattle.ioam_node.specs.Admission.{reason_of}
+use Rattle.ioam_node.specs.declared.reason.Reason.{Reason}
 use Rattle.ioam_pcap.specs.Entries.{Taken}
-use Rattle.ioam_run_capture.specs.ListText.{PacketLines, EntryLines, Lines, skip_line}
+use Rattle.ioam_run_capture.specs.ListText.{PacketLines, FramingLines, EntryLines, Lines, skip_line}
 use Rattle.ioam_desk_outputs.specs.Told.{said_more}
 use Rattle.ioam_run_capture.specs.Listing.{Lists}
 use Rattle.ioam_run_capture.specs.declared.listing.Listing.{Listing}
@@ -24,6 +27,14 @@ module _ (Tells : List ℕ → List ℕ → Type 0) where
   pub packet_skipped : (number : ℕ) (packet old new : List ℕ) → (IsSound packet → ⊥) → new ≡ old ++ skip_line number reason.Chain
       → (text : List ℕ) × PacketLines Tells number packet text × (new ≡ old ++ text)
   packet_skipped number packet old new unsound is = (skip_line number reason.Chain, inl (unsound, refl), is)
+
+  -- the line of a frame that holds no packet says its reason
+  pub FramingLines-skip : (number : ℕ) (framing : Framing) (why : Reason) → reason_of framing ≡ Some why
+      → FramingLines Tells number framing (skip_line number why)
+  FramingLines-skip number (Holds packet) why is = absurd (cc is)
+  FramingLines-skip number NoIpv6 why is = let same : why ≡ reason.NotIpv6 = cc is in ap (λ (r : Reason). skip_line number r) same
+  FramingLines-skip number CutShort why is = let same : why ≡ reason.Cut = cc is in ap (λ (r : Reason). skip_line number r) same
+  FramingLines-skip number TooShort why is = let same : why ≡ reason.Length = cc is in ap (λ (r : Reason). skip_line number r) same
 
   Lines-push : (number : ℕ) (ts : List Taken) (lines : List ℕ) (t : Taken) (text : List ℕ) → Lines Tells number ts lines
       → EntryLines Tells (number + length ts) t text → Lines Tells number (ts ++ t ∷ []) (lines ++ text)

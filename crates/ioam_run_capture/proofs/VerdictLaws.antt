@@ -1,6 +1,7 @@
 -- A record has one verdict only.
-use Rattle.std.proofs.Common.{◌≡◌, ℕ, ◌≤◌, List, [], ◌∷◌, length, arith, refl, sym, ap, ◌∙◌, subst}
+use Rattle.std.proofs.Common.{◌≡◌, ℕ, ◌≤◌, List, [], ◌∷◌, length, Option, Some, arith, refl, sym, ap, ◌∙◌, subst}
 use Rattle.ioam_ip.specs.Framing.{Framing, Holds, NoIpv6, CutShort, TooShort}
+use Rattle.ioam_node.specs.Admission.{reason_of}
 use Rattle.ioam_node.specs.declared.reason.Reason.{Reason}
 use Rattle.ioam_node.specs.declared.reason.Reason.TheVariants as reason
 use Rattle.ioam_pcap.specs.Entries.{Taken}
@@ -67,6 +68,13 @@ one_of_frame (Holds packet) first other x y = one_verdict packet first other x y
 one_of_frame NoIpv6 first other x y = x ∙ sym y
 one_of_frame CutShort first other x y = x ∙ sym y
 one_of_frame TooShort first other x y = x ∙ sym y
+
+-- a frame that holds no packet is dropped for its reason
+pub FramingVerdict-drop : (framing : Framing) (why : Reason) → reason_of framing ≡ Some why → FramingVerdict framing (Drops why)
+FramingVerdict-drop (Holds packet) why is = absurd (cc is)
+FramingVerdict-drop NoIpv6 why is = cc is
+FramingVerdict-drop CutShort why is = cc is
+FramingVerdict-drop TooShort why is = cc is
 
 -- a record that gives this frame has no other verdict than one of the frame
 pub only_verdict : (t : Taken) (framing : Framing) (first other : Verdict) → framing ≡ taken_framing t

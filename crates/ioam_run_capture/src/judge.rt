@@ -5,8 +5,8 @@ ghost use Rattle.ioam_ip.specs.Packet.{IsPacket};
 ghost use Rattle.ioam_run_capture.specs.Verdict.{Verdict, HasVerdict, PacketVerdict};
 ghost use Rattle.ioam_run_capture.specs.Judgement.{verdict_of, IsWithin};
 
-use ioam_ip::{Framed, Walk, walk};
-use ioam_node::Reason;
+use ioam_ip::{Walk, walk};
+use ioam_node::{Reason, packet_or_reason};
 use ioam_pcap::{Link, Packet};
 use ioam_run_stream::framed;
 
@@ -26,11 +26,9 @@ pub fn judge<'a>(link: Link, captured: &Packet<'a>) -> Judgement<'a>
     ensures only { (verdict : Verdict) → HasVerdict (taken_of link captured.now) verdict → verdict_of result ≡ verdict }
     ensures within { IsWithin (verdict_of result) captured.now.octets.now }
 {
-    match framed(link, captured) {
-        Framed::Packet(octets) => judge_packet(octets),
-        Framed::NotIpv6 => Judgement::Dropped(Reason::NotIpv6),
-        Framed::Cut => Judgement::Dropped(Reason::Cut),
-        Framed::Length => Judgement::Dropped(Reason::Length),
+    match packet_or_reason(framed(link, captured)) {
+        Ok(packet) => judge_packet(packet),
+        Err(reason) => Judgement::Dropped(reason),
     }
 }
 

@@ -9,8 +9,8 @@ use crate::packet_text::PacketText;
 use ioam_base::memory::NoMemory;
 use ioam_base::text::{append, append_decimal};
 use ioam_desk_outputs::Output;
-use ioam_ip::{Framed, Walk, walk};
-use ioam_node::Reason;
+use ioam_ip::{Walk, walk};
+use ioam_node::{Reason, packet_or_reason};
 use ioam_pcap::{Link, Packet};
 use ioam_report::reason_text;
 use ioam_run_stream::{Gather, framed};
@@ -109,11 +109,9 @@ fn put_entry<L: PacketText>(
     ensures { OnOk result ((text : List _) × EntryLines L.tells number (taken_of link captured.now) text
         × (out.new.items ≡ out.old.items ++ text)) }
 {
-    match framed(link, captured) {
-        Framed::Packet(octets) => put_packet::<L>(number, octets, out),
-        Framed::NotIpv6 => put_skip(number, Reason::NotIpv6, out),
-        Framed::Cut => put_skip(number, Reason::Cut, out),
-        Framed::Length => put_skip(number, Reason::Length, out),
+    match packet_or_reason(framed(link, captured)) {
+        Ok(packet) => put_packet::<L>(number, packet, out),
+        Err(reason) => put_skip(number, reason, out),
     }
 }
 

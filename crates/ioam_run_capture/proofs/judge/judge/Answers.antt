@@ -1,29 +1,38 @@
-use Rattle.std.proofs.Common.{refl}
+use Rattle.std.proofs.Common.{sym, ◌∙◌, subst}
 use Rattle.ioam_capture.specs.Reader.{taken_of}
-use Rattle.ioam_ip.specs.Framing.{Holds, NoIpv6, CutShort, TooShort}
-use Rattle.ioam_node.specs.declared.reason.Reason.TheVariants as reason
+use Rattle.ioam_ip.specs.Framing.{Framing, Holds, IfHolds}
+use Rattle.ioam_ip.specs.Packet.{IsPacket}
 use Rattle.ioam_run_capture.specs.Judgement.{verdict_of}
-use Rattle.ioam_run_capture.specs.Verdict.{Drops}
+use Rattle.ioam_run_capture.specs.Verdict.{Drops, FramingVerdict}
 use Rattle.ioam_ip.proofs.WithinLaws.{held-within}
-use Rattle.ioam_run_capture.proofs.VerdictLaws.{IsWithin-le, only_verdict}
+use Rattle.ioam_run_capture.proofs.VerdictLaws.{FramingVerdict-drop, IsWithin-le, only_verdict}
 use Rattle.ioam_run_capture.proofs.judge.judge.Goals as goal
 
-pub returns-in-Packet-clause-within : goal.returns-in-Packet-clause-within
-returns-in-Packet-clause-within c = IsWithin-le _ _ _ (held-within _ _ _ _ c.in-Packet.ensures.framing) c.judge_packet.ensures.within
+pub judge_packet-requires : goal.judge_packet-requires
+judge_packet-requires c =
+    let P : Framing → Type 0 = λ f. IfHolds f (λ packet. IsPacket packet) in
+    subst P c.in-Ok.ensures.packet c.framed.ensures.packet
 
-pub returns-in-Packet-clause-only : goal.returns-in-Packet-clause-only
-returns-in-Packet-clause-only c = λ verdict has.
-    only_verdict (taken_of c.args.link c.args.captured.now) (Holds c.in-Packet.octets.now) (verdict_of c.judge_packet.result) verdict
-    c.in-Packet.ensures.framing c.judge_packet.ensures.verdict has
+pub returns-in-Ok-clause-verdict : goal.returns-in-Ok-clause-verdict
+returns-in-Ok-clause-verdict c =
+    let P : Framing → Type 0 = λ f. FramingVerdict f (verdict_of c.judge_packet.result) in
+    subst P (sym c.in-Ok.ensures.packet ∙ c.framed.ensures.framing) c.judge_packet.ensures.verdict
 
-pub returns-in-NotIpv6-clause-only : goal.returns-in-NotIpv6-clause-only
-returns-in-NotIpv6-clause-only c = λ verdict has.
-    only_verdict (taken_of c.args.link c.args.captured.now) NoIpv6 (Drops reason.NotIpv6) verdict c.in-NotIpv6.ensures.framing refl has
+pub returns-in-Ok-clause-within : goal.returns-in-Ok-clause-within
+returns-in-Ok-clause-within c =
+    IsWithin-le _ _ _ (held-within _ _ _ _ (sym c.in-Ok.ensures.packet ∙ c.framed.ensures.framing)) c.judge_packet.ensures.within
 
-pub returns-in-Cut-clause-only : goal.returns-in-Cut-clause-only
-returns-in-Cut-clause-only c = λ verdict has.
-    only_verdict (taken_of c.args.link c.args.captured.now) CutShort (Drops reason.Cut) verdict c.in-Cut.ensures.framing refl has
+pub returns-in-Ok-clause-only : goal.returns-in-Ok-clause-only
+returns-in-Ok-clause-only c = λ verdict has.
+    only_verdict (taken_of c.args.link c.args.captured.now) (Holds c.in-Ok.packet.now) (verdict_of c.judge_packet.result) verdict
+    (sym c.in-Ok.ensures.packet ∙ c.framed.ensures.framing) c.judge_packet.ensures.verdict has
 
-pub returns-in-Length-clause-only : goal.returns-in-Length-clause-only
-returns-in-Length-clause-only c = λ verdict has.
-    only_verdict (taken_of c.args.link c.args.captured.now) TooShort (Drops reason.Length) verdict c.in-Length.ensures.framing refl has
+pub returns-in-Err-clause-verdict : goal.returns-in-Err-clause-verdict
+returns-in-Err-clause-verdict c =
+    let P : Framing → Type 0 = λ f. FramingVerdict f (Drops c.in-Err.reason) in
+    subst P c.framed.ensures.framing (FramingVerdict-drop _ c.in-Err.reason c.in-Err.ensures.reason)
+
+pub returns-in-Err-clause-only : goal.returns-in-Err-clause-only
+returns-in-Err-clause-only c = λ verdict has.
+    only_verdict (taken_of c.args.link c.args.captured.now) _ (Drops c.in-Err.reason) verdict
+    c.framed.ensures.framing (FramingVerdict-drop _ c.in-Err.reason c.in-Err.ensures.reason) has
