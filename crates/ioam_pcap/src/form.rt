@@ -19,14 +19,23 @@ pub fn is_ethernet(link: Link) -> bool
     matches!(link, Link::Ethernet)
 }
 
+/// The link type of packets that begin with an Ethernet header.
+const ETHERNET: u32 = 1;
+
+/// The link type of packets that begin with an IP header, which captures are written with.
+pub(crate) const RAW: u32 = 101;
+
+/// The link type of packets that begin with an IPv6 header.
+const IPV6: u32 = 229;
+
 /// The layer that the packets of a link type begin at; None for a type that is not read.
 pub fn link_type(number: u32) -> Option<Link>
     ensures exact { result ≡ link_type number }
     ensures says { MatchOption result (IsNoLinkType number) (λ link. IsLinkType number link) }
 {
     match number {
-        1 => Some(Link::Ethernet),
-        101 | 229 => Some(Link::Raw),
+        ETHERNET => Some(Link::Ethernet),
+        RAW | IPV6 => Some(Link::Raw),
         _ => None,
     }
 }

@@ -7,6 +7,7 @@ ghost use Rattle.ioam_pcap.specs.Text.{Sent, IsSendable, head_octets, record_hea
 ghost use Rattle.ioam_pcap.specs.declared.form.Link.TheVariants as Link;
 
 use crate::capture::MOST_PACKET;
+use crate::form::RAW;
 use crate::numbers::EntryNumbers;
 use byteorder::BigEndian;
 use ioam_base::memory::NoMemory;
@@ -24,7 +25,7 @@ fn head() -> [u8; 24]
     put_u16_at(&mut head, 4, 2);
     put_u16_at(&mut head, 6, 4);
     put_u32_at(&mut head, 16, MOST_PACKET);
-    put_u32_at(&mut head, 20, 101);
+    put_u32_at(&mut head, 20, RAW);
     head
 }
 
