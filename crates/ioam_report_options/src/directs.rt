@@ -5,6 +5,7 @@ ghost use Rattle.ioam_report_options.specs.OptionText.{direct_text, DirectSays};
 
 use crate::fields::{plain_narrow, put_bad};
 use ioam_base::memory::NoMemory;
+use ioam_data::option_type::DIRECT_EXPORT;
 use ioam_dex::{Direct, read};
 use ioam_report_lines::{Piece, put_pieces};
 
@@ -32,6 +33,6 @@ pub(crate) fn put_direct(octets: &[u8], out: &mut Vec<u8>) -> Result<(), NoMemor
 {
     match read(octets) {
         Ok(direct) => put_value(&direct, out),
-        Err(_) => put_bad(4, out),
+        Err(_) => put_bad(DIRECT_EXPORT, out),
     }
 }

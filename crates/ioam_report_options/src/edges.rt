@@ -6,6 +6,7 @@ ghost use Rattle.ioam_report_options.specs.OptionText.{edge_text, EdgeSays};
 use crate::fields::{plain, plain_narrow, put_bad};
 use ioam_base::buffer::Buffer;
 use ioam_base::memory::NoMemory;
+use ioam_data::option_type::EDGE_TO_EDGE;
 use ioam_edge::{Edge, read};
 use ioam_report_lines::{Piece, number, put_pieces};
 
@@ -37,6 +38,6 @@ pub(crate) fn put_edge(octets: &[u8], out: &mut Vec<u8>) -> Result<(), NoMemory>
 {
     match read(octets) {
         Ok(edge) => put_value(&edge, out),
-        Err(_) => put_bad(3, out),
+        Err(_) => put_bad(EDGE_TO_EDGE, out),
     }
 }

@@ -8,6 +8,7 @@ ghost use Rattle.ioam_report_options.specs.OptionText.{head_text, trace_text, Tr
 
 use crate::fields::put_bad;
 use ioam_base::memory::NoMemory;
+use ioam_data::option_type::{INCREMENTAL_TRACE, PREALLOCATED_TRACE};
 use ioam_report_lines::{Piece, put_element_line, put_element_lines, put_pieces, settle};
 use ioam_trace::{Incremental, Trace, TraceHead};
 
@@ -72,7 +73,7 @@ pub(crate) fn put_trace(octets: &[u8], out: &mut Vec<u8>) -> Result<(), NoMemory
 {
     match Trace::read(octets) {
         Ok(trace) => put_whole(&trace, out),
-        Err(_) => put_bad(0, out),
+        Err(_) => put_bad(PREALLOCATED_TRACE, out),
     }
 }
 
@@ -82,6 +83,6 @@ pub(crate) fn put_incremental(octets: &[u8], out: &mut Vec<u8>) -> Result<(), No
 {
     match Incremental::decode(octets) {
         Ok(trace) => put_grown(&trace, out),
-        Err(_) => put_bad(1, out),
+        Err(_) => put_bad(INCREMENTAL_TRACE, out),
     }
 }
