@@ -8,33 +8,39 @@ use Rattle.ioam_desk_outputs.specs.declared.output.Output.{Output}
 use Rattle.ioam_run_answer.specs.declared.outcome.Outcome.{Outcome}
 use Rattle.ioam_run_answer.specs.declared.outcome.Outcome.TheVariants as outcome
 use Rattle.ioam_run_stream.specs.Promise.{AreFirst}
-use Rattle.ioam_run_audit.specs.Ends.{Both, Breaks, Closes, Finishes, NoneBehind, Parts, Written}
+use Rattle.ioam_run_audit.specs.Ends.{Both, Breaks, Closes, Finishes, Parts, WrittenCut}
 use Rattle.ioam_run_audit.specs.Fit.{Place}
 use Rattle.ioam_run_audit.specs.Pairs.{Ended, Over, ReadsTwo, Start, sums_as}
-use Rattle.ioam_run_audit.specs.Runs.{Closed, Halted, Moves}
-use Rattle.ioam_run_audit.specs.declared.counts.Counts.{Counts}
+use Rattle.ioam_run_audit.specs.Runs.{Closed, Cut, IsJudged, Moves}
 use Rattle.ioam_run_audit.specs.declared.fate.Fate.{Fate}
 use Rattle.ioam_run_audit.specs.declared.lane.End.{End}
 use Rattle.ioam_run_audit.specs.declared.pair.Pair.{Pair}
+use Rattle.ioam_run_audit.proofs.CutLaws.{ended_by, ends_first, ends_taken}
 use Rattle.ioam_run_audit.proofs.EndsLaws.{parts_sticks}
-use Rattle.ioam_run_audit.proofs.RunLaws.{ended_matched, lines_stick, moves_read, moves_then, told_fronts, told_on}
+use Rattle.ioam_run_audit.proofs.RunLaws.{lines_stick, moves_read, moves_then, told_fronts, told_on}
 
 module _ (tells : Bool) (start : Start) (place : Place) (inputs : desk.Reading) (outputs : Writing) (pair : Pair) (tellers : List Output) (how : End)
     (closed : Closed tells start place inputs outputs pair tellers how) (now : Writing) (same : now ≡ outputs) where
   -- AFTER couldn't be read on
-  pub closed_halts : (counts : Counts) → counts ≡ pair.counts → Halted tells start place AreFirst AreFirst now counts tellers
-  closed_halts counts is = record {
-    fates = closed.fates;
-    rest = closed.ended.rest;
-    matched = ended_matched tells start place inputs pair closed.fates how closed.ended;
-    counts_are = ap sums_as is ∙ closed.ended.counts_are;
-    told = told_on tells start place outputs now tellers closed.fates same closed.told;
-  }
+  pub closed_halts : (new_in : desk.Reading) (after : Pair) → after.counts ≡ pair.counts → Cut tells start place new_in now after tellers
+  closed_halts new_in after is =
+      let first = after.before.feed.slot in
+      let second = after.after.feed.slot in
+      let all = ended_by tells start place inputs pair closed.fates how closed.ended (IsJudged start place new_in first second)
+      (λ taken octets ends. inl (ends_taken how taken octets ends)) in
+      record {
+        fates = closed.fates;
+        rest = all.0;
+        matched = all.1;
+        counts_are = ap sums_as is ∙ closed.ended.counts_are;
+        told = told_on tells start place outputs now tellers closed.fates same closed.told;
+      }
 
   pub closed_parts : IsTrue tells → Parts start place now
-  closed_parts = subst (λ w. IsTrue tells → Parts start place w) (sym same) (parts_sticks tells start place outputs
-      (lines_stick tells start place outputs closed.fates closed.ended.rest (ended_matched tells start place inputs pair closed.fates how closed.ended)
-      (told_fronts tells start place outputs tellers closed.fates closed.told)))
+  closed_parts =
+      let all = ended_by tells start place inputs pair closed.fates how closed.ended AreFirst (ends_first how) in
+      subst (λ w. IsTrue tells → Parts start place w) (sym same) (parts_sticks tells start place outputs
+      (lines_stick tells start place outputs closed.fates all.0 all.1 (told_fronts tells start place outputs tellers closed.fates closed.told)))
 
   -- it was read too
   pub closed_both : (new_in : desk.Reading) (after : Pair) (last : End)
@@ -67,14 +73,15 @@ module _ (tells : Bool) (start : Start) (place : Place) (before after : List ℕ
   ]
 
   -- and where a read failed
-  pub cut_finishes : (mid_in : desk.Reading) → Rose old_in.side.faults mid_in.side.faults → new_in ≡ mid_in
-      → ((answer ≡ outcome.ReadFault) × Written tells start place AreFirst AreFirst NoneBehind new_out) ⊎ Breaks tells start place mid_out new_out answer
+  pub cut_finishes : (mid_in : desk.Reading) (one other : ℕ) → one ≡ first → other ≡ second → Rose old_in.side.faults mid_in.side.faults → new_in ≡ mid_in
+      → ((answer ≡ outcome.ReadFault) × WrittenCut tells start place mid_in one other new_out) ⊎ Breaks tells start place mid_out new_out answer
       → Finishes tells start place before after first second old_in new_in old_out new_out answer
-  cut_finishes mid_in rose same ends = elim ends [
+  cut_finishes mid_in one other is also rose same ends = elim ends [
     | inl cuts ↦ inr (inl (record {
       answer_is = cuts.0;
       rose = subst (λ (r : desk.Reading). Rose old_in.side.faults r.side.faults) (sym same) rose;
-      written = cuts.1;
+      written = subst (λ (r : desk.Reading). WrittenCut tells start place r first second new_out) (sym same)
+          (subst (λ k. WrittenCut tells start place mid_in first k new_out) also (subst (λ k. WrittenCut tells start place mid_in k other new_out) is cuts.1));
     }))
     | inr breaks ↦ inr (inr (breaks_on breaks))
   ]

@@ -11,20 +11,22 @@ use Rattle.ioam_pcap.specs.Entries.{Taken}
 use Rattle.ioam_run_answer.specs.declared.outcome.Outcome.{Outcome}
 use Rattle.ioam_run_stream.specs.Promise.{AreFirst, EndsSo}
 use Rattle.ioam_run_stream.proofs.HaltsLaws.{held_map}
-use Rattle.ioam_run_audit.specs.Ends.{BehindBy, Both, Closes, NoneBehind, Parts, Written, verdict_by}
+use Rattle.ioam_run_audit.specs.Ends.{BehindBy, Both, Closes, Parts, WrittenCut, verdict_by}
 use Rattle.ioam_run_audit.specs.Fit.{CameFrom, HasReason, IsFit, Place}
 use Rattle.ioam_run_audit.specs.Lanes.{EndsBy}
 use Rattle.ioam_run_audit.specs.Lines.{BecomeOf, lines_of, report_of, sums_line, sums_of, verdict_as, verdict_line, verdict_of}
 use Rattle.ioam_run_audit.specs.Pairs.{Over, Start, sums_as}
-use Rattle.ioam_run_audit.specs.Runs.{Halted, IsBehind, IsTold, Matched, Sticks, answer_of, behind_of, left_of}
+use Rattle.ioam_run_audit.specs.Promise.{AreTaken}
+use Rattle.ioam_run_audit.specs.Runs.{Cut, IsBehind, IsJudged, IsTold, Matched, Sticks, answer_of, behind_of, left_of}
 use Rattle.ioam_run_audit.specs.declared.counts.Counts.{Counts}
 use Rattle.ioam_run_audit.specs.declared.fate.Fate.{Fate}
 use Rattle.ioam_run_audit.specs.declared.lane.End.{End}
 use Rattle.ioam_run_audit.specs.declared.lane.End.TheVariants as end
 use Rattle.ioam_run_audit.specs.declared.pair.Pair.{Pair}
+use Rattle.ioam_run_audit.proofs.CutLaws.{ends_first, ends_taken, judged_first}
 use Rattle.ioam_run_audit.proofs.FatesLaws.{fates_many, fates_size}
 use Rattle.ioam_run_audit.proofs.LinesLaws.{sums_all, sums_sent}
-use Rattle.ioam_run_audit.proofs.RunLaws.{ends_first, matched_so}
+use Rattle.ioam_run_audit.proofs.RunLaws.{matched_so}
 
 -- ---- what stands behind the lines
 
@@ -87,13 +89,13 @@ module _ (tells : Bool) (start : Start) (place : Place) where
   }
 
   matched_first : (fates : List Fate) (rest : List Taken) (how last : End) → Matched tells start place (EndsBy how) (EndsBy last) fates rest
-      → Matched tells start place AreFirst AreFirst fates rest
+      → Matched tells start place AreFirst AreTaken fates rest
   matched_first fates rest how last matched = record {
     xs = matched.xs;
     ys = matched.ys;
     are = matched.are;
     of_before = λ told. held_map start.before (EndsBy how matched.xs) (AreFirst matched.xs) (ends_first how matched.xs) (matched.of_before told);
-    of_after = λ told. held_map start.after (EndsBy last matched.ys) (AreFirst matched.ys) (ends_first last matched.ys) (matched.of_after told);
+    of_after = λ told. held_map start.after (EndsBy last matched.ys) (AreTaken matched.ys) (ends_taken last matched.ys) (matched.of_after told);
     few_before = matched.few_before;
     few_after = matched.few_after;
   }
@@ -185,7 +187,7 @@ module _ (tells : Bool) (start : Start) (place : Place) where
       fates = both.fates;
       rest = both.over.rest;
       behind = behind_text its_verdict;
-      matched = matched_so tells start place told AreFirst AreFirst both.fates both.over.rest (matched_first both.fates both.over.rest how last both_matched);
+      matched = matched_so tells start place told AreFirst AreTaken both.fates both.over.rest (matched_first both.fates both.over.rest how last both_matched);
       behind_is = is_behind tells start place told both.fates both.over.rest (behind_text its_verdict) how last both_matched its_behind;
       held = λ opened. (subst (HoldAllFronts new_out (start.report ∷ [])) both_text
           (subst (λ v. HoldAllFronts new_out (start.report ∷ []) ((lines_of 1 both.fates ++ behind_of pair.counts v) ∷ [])) is
@@ -194,15 +196,31 @@ module _ (tells : Bool) (start : Start) (place : Place) where
 
   -- ---- where a read failed
 
-  module _ (outputs : Writing) (counts : Counts) (tellers : List Output) (halted : Halted tells start place AreFirst AreFirst outputs counts tellers) where
-    pub halted_sums : counts.sent + counts.gone + counts.skipped < 2 ^ 32
-    halted_sums = matched_sums AreFirst AreFirst halted.fates halted.rest counts halted.matched halted.counts_are
+  module _ (inputs : desk.Reading) (outputs : Writing) (pair : Pair) (tellers : List Output) (halted : Cut tells start place inputs outputs pair tellers) where
+    abbrev Judged : List Taken → List ℕ → Type 0
+    Judged = IsJudged start place inputs pair.before.feed.slot pair.after.feed.slot
 
-    halted_text : (lines_of 1 halted.fates ++ behind_of counts None) ∷ [] ≡ report_of halted.fates [] ∷ []
-    halted_text = ap (λ behind. (lines_of 1 halted.fates ++ behind) ∷ []) (behind_as counts halted.fates halted.counts_are None)
+    pub halted_sums : pair.counts.sent + pair.counts.gone + pair.counts.skipped < 2 ^ 32
+    halted_sums = matched_sums Judged AreTaken halted.fates halted.rest pair.counts halted.matched halted.counts_are
+
+    halted_text : (lines_of 1 halted.fates ++ behind_of pair.counts None) ∷ [] ≡ report_of halted.fates [] ∷ []
+    halted_text = ap (λ behind. (lines_of 1 halted.fates ++ behind) ∷ []) (behind_as pair.counts halted.fates halted.counts_are None)
+
+    halted_first : Matched tells start place AreFirst AreTaken halted.fates halted.rest
+    halted_first = record {
+      xs = halted.matched.xs;
+      ys = halted.matched.ys;
+      are = halted.matched.are;
+      of_before = λ told. held_map start.before (Judged halted.matched.xs) (AreFirst halted.matched.xs)
+          (judged_first place start.after (inputs.left pair.before.feed.slot) (inputs.left pair.after.feed.slot) halted.matched.xs) (halted.matched.of_before told);
+      of_after = halted.matched.of_after;
+      few_before = halted.matched.few_before;
+      few_after = halted.matched.few_after;
+    }
 
     pub cut_written : (new_out : Writing) → (IsTrue tells → (slot : ℕ) (names texts : List (List ℕ)) → AreTold tells outputs slot names tellers texts
-        → HoldTexts new_out names (said_more texts (behind_of counts None ∷ []))) → Written tells start place AreFirst AreFirst NoneBehind new_out
+        → HoldTexts new_out names (said_more texts (behind_of pair.counts None ∷ [])))
+        → WrittenCut tells start place inputs pair.before.feed.slot pair.after.feed.slot new_out
     cut_written new_out texts = record {
       fates = halted.fates;
       rest = halted.rest;
@@ -214,12 +232,12 @@ module _ (tells : Bool) (start : Start) (place : Place) where
     }
 
     pub cut_parts : (new_out : Writing) → (IsTrue tells → (slot : ℕ) (names texts : List (List ℕ)) → AreTold tells outputs slot names tellers texts
-        → HoldAllFronts new_out names (said_more texts (behind_of counts None ∷ []))) → IsTrue tells → Parts start place new_out
+        → HoldAllFronts new_out names (said_more texts (behind_of pair.counts None ∷ []))) → IsTrue tells → Parts start place new_out
     cut_parts new_out fronts told = record {
       fates = halted.fates;
       rest = halted.rest;
       behind = [];
-      matched = matched_so tells start place told AreFirst AreFirst halted.fates halted.rest halted.matched;
+      matched = matched_so tells start place told AreFirst AreTaken halted.fates halted.rest halted_first;
       behind_is = inl refl;
       held = λ opened. (subst (HoldAllFronts new_out (start.report ∷ [])) halted_text
           (fronts told start.base (start.report ∷ []) (lines_of 1 halted.fates ∷ []) halted.told)).0;

@@ -6,6 +6,8 @@ use Rattle.ioam_desk.specs.Desk.{Rose, Side, Writing, opened_each}
 use Rattle.ioam_desk.specs.Kept.{KeepsInputs, KeepsOutputs}
 use Rattle.ioam_desk.proofs.KeptLaws.{KeepsOutputs-from, KeepsOutputs-same}
 use Rattle.ioam_desk_outputs.specs.Held.{HoldFronts}
+use Rattle.ioam_desk_outputs.specs.Told.{AreTold, unsaid}
+use Rattle.ioam_desk_outputs.specs.declared.output.Output.{Output}
 use Rattle.ioam_run_answer.specs.Outcomes.{IsBehindAll}
 use Rattle.ioam_run_answer.specs.declared.outcome.Outcome.{Outcome}
 use Rattle.ioam_run_answer.specs.declared.outcome.Outcome.TheVariants as outcome
@@ -13,11 +15,30 @@ use Rattle.ioam_run_audit.specs.Ends.{Finishes, Parts, RunsFiles, RunsPair, star
 use Rattle.ioam_run_audit.specs.Fit.{Place}
 use Rattle.ioam_run_audit.specs.Lines.{report_of}
 use Rattle.ioam_run_audit.specs.Pairs.{Pairs, ReadsTwo, Start}
-use Rattle.ioam_run_audit.specs.Runs.{Moves}
+use Rattle.ioam_run_audit.specs.Promise.{AreTaken}
+use Rattle.ioam_run_audit.specs.Runs.{Moves, Running}
 use Rattle.ioam_run_audit.specs.declared.pair.Pair.{Pair}
 use Rattle.ioam_run_audit.proofs.SlotsLaws.{two_same}
-use Rattle.ioam_run_audit.proofs.RunLaws.{matched_so, pairs_matched}
+use Rattle.ioam_run_audit.proofs.CutLaws.{pairs_matched}
+use Rattle.ioam_run_audit.proofs.RunLaws.{matched_so}
 use Rattle.ioam_run_stream.specs.Promise.{AreFirst}
+
+-- nothing was said to REPORT yet
+pub opened_runs : (tells : Bool) (start : Start) (place : Place) (old_in new_in : desk.Reading) (new_out : Writing) (base : ℕ) (names : List (List ℕ)) (report : List ℕ)
+    (pair : Pair) (outputs lent : List Output) → new_in ≡ old_in → start.base ≡ base → start.report ≡ report → names ≡ report ∷ [] → lent ≡ outputs
+    → Pairs tells start place old_in pair [] → AreTold tells new_out base names outputs (unsaid names) → Running tells start place new_in new_out pair lent
+opened_runs tells start place old_in new_in new_out base names report pair outputs lent reads based named one same pairs told =
+    let of_one : AreTold tells new_out base (report ∷ []) outputs ([] ∷ []) =
+    subst (λ (all : List (List ℕ)). AreTold tells new_out base all outputs (unsaid all)) one told in
+    let by_name : AreTold tells new_out base (start.report ∷ []) outputs ([] ∷ []) =
+    subst (λ (name : List ℕ). AreTold tells new_out base (name ∷ []) outputs ([] ∷ [])) (sym named) of_one in
+    let by_slot : AreTold tells new_out start.base (start.report ∷ []) outputs ([] ∷ []) =
+    subst (λ slot. AreTold tells new_out slot (start.report ∷ []) outputs ([] ∷ [])) (sym based) by_name in
+    record {
+      fates = [];
+      pairs = subst (λ (inputs : desk.Reading). Pairs tells start place inputs pair []) (sym reads) pairs;
+      told = subst (λ (tellers : List Output). AreTold tells new_out start.base (start.report ∷ []) tellers ([] ∷ [])) (sym same) by_slot;
+    }
 
 module _ (tells : Bool) (start : Start) (place : Place) (before after : List ℕ) (first second : ℕ) where
   -- from an earlier time, since when nothing failed
@@ -66,15 +87,17 @@ module _ (tells : Bool) (start : Start) (place : Place) (before after : List ℕ
       (kept : IsTrue tells → KeepsOutputs old_out new_out)
       (fronts : IsTrue tells → (texts : List (List ℕ)) → length texts ≡ 1 → HoldFronts old_out new_out 0 (report ∷ []) texts) where
     missed_parts : IsTrue tells → Parts start place new_out
-    missed_parts told = record {
-      fates = [];
-      rest = pairs.rest;
-      behind = [];
-      matched = matched_so tells start place told AreFirst AreFirst [] pairs.rest (pairs_matched tells start place old_in pair [] pairs);
-      behind_is = inl refl;
-      held = λ opened. (subst (λ (name : List ℕ). HoldFronts old_out new_out 0 (name ∷ []) (report_of [] [] ∷ [])) (sym named) (fronts told (report_of [] [] ∷ []) refl)).0
-          (omega (arith, opened, based));
-    }
+    missed_parts told =
+        let all = pairs_matched tells start place old_in pair [] pairs in
+        record {
+          fates = [];
+          rest = all.0;
+          behind = [];
+          matched = matched_so tells start place told AreFirst AreTaken [] all.0 all.1;
+          behind_is = inl refl;
+          held = λ opened. (subst (λ (name : List ℕ). HoldFronts old_out new_out 0 (name ∷ []) (report_of [] [] ∷ [])) (sym named) (fronts told (report_of [] [] ∷ []) refl)).0
+              (omega (arith, opened, based));
+        }
 
     runs_missed : (answer : Outcome) → ((answer ≡ outcome.WriteFault) × Rose old_out.side.faults new_out.side.faults) ⊎ (answer ≡ outcome.NoMemory)
         → (IsBehindAll ⊥ answer → ⊥) → RunsPair tells start place before after first second old_in new_in old_out new_out answer

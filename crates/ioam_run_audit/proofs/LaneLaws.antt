@@ -1,8 +1,9 @@
 -- A capture that is read one record at a time.
-use Rattle.std.proofs.Common.{◌≡◌, ℕ, ◌+◌, ◌<◌, ◌≤◌, ◌^◌, Bool, true, false, IsTrue, IsSomeAnd, List, [], ◌∷◌, ◌++◌, length, Option, Some, Result, Ok, Err, refl, sym, ap, ◌∙◌, subst, arith, length-append, append-nil, append_assoc}
+use Rattle.std.proofs.Common.{◌≡◌, ℕ, ◌+◌, ◌<◌, ◌≤◌, ◌^◌, Bool, true, false, IsTrue, IsSomeAnd, List, [], ◌∷◌, ◌++◌, length, Option, Some, None, Result, Ok, Err, refl, sym, ap, ◌∙◌, subst, arith, length-append, append-nil, append_assoc}
 use Rattle.ioam_capture.specs.Reader.{Stands}
 use Rattle.ioam_capture.specs.Reading.{Reading, pending, most_held, HoldsFew, fed}
 use Rattle.ioam_capture.specs.Reads.{Reads}
+use Rattle.ioam_capture.specs.Streams.{ShowsSo}
 use Rattle.ioam_capture.proofs.StandsLaws.{Stands-room}
 use Rattle.ioam_capture_merge.specs.Feed.{FeedsPiece, FindsEnd, Refills}
 use Rattle.ioam_desk.specs.Desk as desk
@@ -11,7 +12,7 @@ use Rattle.ioam_desk.specs.declared.fault.DeskFault.TheVariants.{Failed, NoMemor
 use Rattle.ioam_pcap.specs.Ending.{Ending, Faulty}
 use Rattle.ioam_pcap.specs.Entries.{Taken}
 use Rattle.ioam_pcap.specs.declared.capture.CapFault.{CapFault}
-use Rattle.ioam_run_stream.specs.Promise.{EndsSo, AreFirst, ArePassed}
+use Rattle.ioam_run_stream.specs.Promise.{EndsSo, AreFirst, ArePassed, AreWhole}
 use Rattle.ioam_run_stream.proofs.HaltsLaws.{held_so}
 use Rattle.ioam_run_stream.proofs.OnwardLaws.{given_first}
 use Rattle.ioam_run_stream.proofs.StepLaws.{same_most}
@@ -143,6 +144,17 @@ module _ (tells : Bool) (content : Option (List ℕ)) where
         count_is = at.count_is;
         few = at.few;
         held_back = held;
+      })
+
+  -- the read behind it failed, where the octets show no more
+  pub at_whole : (inputs new : desk.Reading) (slot : ℕ) (reader now : Reading) (count : ℕ) (taken : List Taken) → new.left ≡ inputs.left
+      → ((octets : List ℕ) (taken : List Taken) → Stands reader octets taken → Stands now octets taken × ShowsSo octets false taken None)
+      → At tells content inputs slot reader count taken → IsTrue tells → IsSomeAnd content (AreWhole (new.left slot) taken)
+  at_whole inputs new slot reader now count taken same shows at told =
+      held_so content (at.octets ++ inputs.left slot) (AreWhole (new.left slot) taken) (at.given.held told) (record {
+        handed = at.octets;
+        parts = ap (λ (left : ℕ → List ℕ). at.octets ++ left slot) (sym same);
+        shows = (shows at.octets taken at.given.stands).1;
       })
 
   -- a record is faulty

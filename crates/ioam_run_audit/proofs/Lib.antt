@@ -5,9 +5,11 @@ mod LaneLaws
 mod RecordLaws
 mod SlotsLaws
 mod PairLaws
-mod RunLaws
 mod VerdictLaws
 mod FrontsLaws
+mod CutLaws
+mod FailsLaws
+mod RunLaws
 mod EndsLaws
 mod ClosedLaws
 mod OpeningLaws

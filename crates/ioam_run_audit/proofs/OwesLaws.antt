@@ -8,10 +8,10 @@ use Rattle.ioam_pcap.specs.Ending.{Whole, Faulty}
 use Rattle.ioam_run_answer.specs.Outcomes.{IsDone, IsBehindAll}
 use Rattle.ioam_run_answer.specs.declared.outcome.Outcome.{Outcome}
 use Rattle.ioam_run_answer.specs.declared.outcome.Outcome.TheVariants as outcome
-use Rattle.ioam_run_stream.specs.Promise.{AreFirst, EndsSo}
+use Rattle.ioam_run_stream.specs.Promise.{EndsSo}
 use Rattle.ioam_topo.specs.declared.domain.Domain.{Domain}
 use Rattle.ioam_topo_entries.specs.declared.fault.DomainFault.{DomainFault}
-use Rattle.ioam_run_audit.specs.Ends.{BehindBy, Ends, NoneBehind, Ran, RanAt, Stays, Written, start_of}
+use Rattle.ioam_run_audit.specs.Ends.{BehindBy, Ends, NoneBehind, Ran, RanAt, Stays, Written, WrittenCut, start_of}
 use Rattle.ioam_run_audit.specs.Fit.{Place}
 use Rattle.ioam_run_audit.specs.Lanes.{EndsBy}
 use Rattle.ioam_run_audit.specs.Pairs.{Start}
@@ -19,8 +19,9 @@ use Rattle.ioam_run_audit.specs.Promise.{AreDrained, AreFit, AreTaken, AuditName
 use Rattle.ioam_run_audit.specs.Runs.{answer_of}
 use Rattle.ioam_run_audit.specs.declared.lane.End.{End}
 use Rattle.ioam_run_audit.specs.declared.lane.End.TheVariants as end
+use Rattle.ioam_run_audit.proofs.CutLaws.{ends_taken}
 use Rattle.ioam_run_audit.proofs.RefusedLaws.{names_owes, none_owes}
-use Rattle.ioam_run_audit.proofs.ReportsLaws.{ends_taken, is_input, is_long, no_verdict, some_reports, with_verdict}
+use Rattle.ioam_run_audit.proofs.ReportsLaws.{cut_reports, is_input, is_long, no_verdict, some_reports, with_verdict}
 
 -- what is owed of an answer by itself
 record Core (tells : Bool) (files : AuditNames) (old_in new_in : Reading) (old new : Writing) (domain : Domain) (answer : Outcome) : Type 0 where
@@ -240,7 +241,9 @@ module _ (tells : Bool) (files : AuditNames) (old_in mid_in : Reading) (opened :
         | inr other ↦ elim other [
           | inl cuts ↦ subst Its (sym cuts.answer_is) (core_read cuts.rose (λ told. inr (
             omega (arith, opens.slots, one_slot),
-            no_verdict tells files old_in new_in old new place told (ready told) AreFirst AreFirst AreFirst AreFirst (λ taken octets is. is) (λ taken octets is. is) cuts.written,
+            cut_reports tells files old_in new_in old new place told (ready told) (old_in.side.slots + 1) (old_in.side.slots + 2)
+                (subst (λ k. WrittenCut tells start place new_in (old_in.side.slots + 1) k new) next_slot
+                (subst (λ k. WrittenCut tells start place new_in k (mid_in.side.slots + 1) new) one_slot cuts.written)),
           )))
           | inr breaks ↦ elim breaks.why [
             | inl failed ↦ subst Its (sym failed.0) (core_write failed.1 (λ told. some_reports tells files old_in new_in old new place told (ready told) (breaks.parts told)))

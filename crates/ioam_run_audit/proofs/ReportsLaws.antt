@@ -2,30 +2,22 @@
 use Rattle.std.proofs.Common.{◌≡◌, ℕ, ◌≤◌, Bool, true, IsTrue, IsSomeAnd, List, [], ◌++◌, length, Option, refl, inl, inr, arith, length-append}
 use Rattle.ioam_desk.specs.Desk as desk
 use Rattle.ioam_desk.specs.Desk.{Writing, holds}
-use Rattle.ioam_pcap.specs.Ending.{Ending, Whole, Faulty}
+use Rattle.ioam_pcap.specs.Ending.{Ending, Whole}
 use Rattle.ioam_pcap.specs.Entries.{Taken}
 use Rattle.ioam_run_stream.specs.Promise.{AreFirst, ArePassed, EndsSo, IsInput, IsLong}
 use Rattle.ioam_run_stream.proofs.HaltsLaws.{held_map}
 use Rattle.ioam_run_stream.proofs.StopsLaws.{begins_ends}
-use Rattle.ioam_run_audit.specs.Ends.{Parts, Written, start_of}
+use Rattle.ioam_run_audit.specs.Ends.{Parts, Written, WrittenCut, start_of}
 use Rattle.ioam_run_audit.specs.Fit.{Place}
-use Rattle.ioam_run_audit.specs.Lanes.{EndsBy}
 use Rattle.ioam_run_audit.specs.Lines.{report_of, sums_of, verdict_line, verdict_of}
 use Rattle.ioam_run_audit.specs.Pairs.{Start}
-use Rattle.ioam_run_audit.specs.Promise.{AreTaken, AuditNames, Holds, HoldsPart, IsReady, MayHaveVerdict, Reports}
-use Rattle.ioam_run_audit.specs.Runs.{Matched}
+use Rattle.ioam_run_audit.specs.Promise.{AreTaken, AuditNames, Holds, HoldsPart, IsCutOff, IsReady, MayHaveVerdict, Reports}
+use Rattle.ioam_run_audit.specs.Runs.{IsJudged, Matched}
 use Rattle.ioam_run_audit.specs.Verdicts.{HasVerdict, NoVerdict}
 use Rattle.ioam_run_audit.specs.declared.fate.Fate.{Fate}
-use Rattle.ioam_run_audit.specs.declared.lane.End.{End}
-use Rattle.ioam_run_audit.specs.declared.lane.End.TheVariants as end
+use Rattle.ioam_run_audit.proofs.CutLaws.{judged_first}
 use Rattle.ioam_run_audit.proofs.FrontsLaws.{become_only, verdict_is}
 use Rattle.ioam_run_audit.proofs.RunLaws.{matched_so}
-
--- however it ends, all records were taken, or as many as may be
-pub ends_taken : (how : End) (taken : List Taken) (octets : List ℕ) → EndsBy how taken octets → AreTaken taken octets
-ends_taken end.Whole taken octets ends = inl (Whole, ends)
-ends_taken (end.Bad at fault) taken octets ends = inl (Faulty at fault, ends)
-ends_taken end.Limit taken octets ends = inr ends
 
 -- what is held is a capture that ends so
 pub is_input : (held : Option (List ℕ)) (ending : Ending) (taken : List Taken) → length taken ≤ 16777216 → IsSomeAnd held (EndsSo ending taken)
@@ -99,12 +91,22 @@ module _ (tells : Bool) (files : AuditNames) (old_in new_in : desk.Reading) (old
         reports P Q P Q (λ taken octets is. is) (λ taken octets is. is) HasVerdict (Holds files old_in new_in old new) written.fates written.rest written.behind
         matched (has_verdict P Q written.fates written.rest written.behind matched written.behind_is) (written.held told).0
 
+  -- of all packets of BEFORE that can be judged
+  pub cut_reports : (first second : ℕ) → WrittenCut tells start place new_in first second new
+      → Reports files old AreFirst AreTaken (IsCutOff files old (new_in.left first) (new_in.left second)) (Holds files old_in new_in old new)
+  cut_reports first second written =
+      let matched = matched_so tells start place told (IsJudged start place new_in first second) AreTaken written.fates written.rest written.matched in
+      reports (IsJudged start place new_in first second) AreTaken AreFirst AreTaken
+      (judged_first place start.after (new_in.left first) (new_in.left second)) (λ taken octets is. is)
+      (IsCutOff files old (new_in.left first) (new_in.left second)) (Holds files old_in new_in old new) written.fates written.rest written.behind
+      matched (written.behind_is, matched.of_before refl) (written.held told).0
+
   -- a front
-  pub some_reports : Parts start place new → Reports files old AreFirst AreFirst (MayHaveVerdict files old) (HoldsPart files old_in new_in old new)
+  pub some_reports : Parts start place new → Reports files old AreFirst AreTaken (MayHaveVerdict files old) (HoldsPart files old_in new_in old new)
   some_reports parts = elim parts.behind_is [
-    | inl none ↦ reports AreFirst AreFirst AreFirst AreFirst (λ taken octets is. is) (λ taken octets is. is) (MayHaveVerdict files old)
+    | inl none ↦ reports AreFirst AreTaken AreFirst AreTaken (λ taken octets is. is) (λ taken octets is. is) (MayHaveVerdict files old)
         (HoldsPart files old_in new_in old new) parts.fates parts.rest parts.behind parts.matched (inl none) parts.held
-    | inr whole ↦ reports (EndsSo Whole) (EndsSo Whole) AreFirst AreFirst (begins_ends Whole) (begins_ends Whole) (MayHaveVerdict files old)
+    | inr whole ↦ reports (EndsSo Whole) (EndsSo Whole) AreFirst AreTaken (begins_ends Whole) (λ taken octets reads. inl (Whole, reads)) (MayHaveVerdict files old)
         (HoldsPart files old_in new_in old new) parts.fates parts.rest parts.behind whole.0
         (inr (whole.0.of_before refl, whole.0.of_after refl, has_verdict (EndsSo Whole) (EndsSo Whole) parts.fates parts.rest parts.behind whole.0 whole.1)) parts.held
   ]

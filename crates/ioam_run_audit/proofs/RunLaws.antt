@@ -10,88 +10,25 @@ use Rattle.ioam_desk_outputs.specs.declared.output.Output.{Output}
 use Rattle.ioam_desk_outputs.proofs.HeldLaws.{AreTold-fronts, more_fronts}
 use Rattle.ioam_desk_outputs.proofs.ToldLaws.{AreTold-adds}
 use Rattle.ioam_node.specs.declared.reason.Reason.{Reason}
-use Rattle.ioam_pcap.specs.Ending.{Whole, Faulty}
 use Rattle.ioam_pcap.specs.Entries.{Taken}
 use Rattle.ioam_run_stream.specs.Promise.{AreFirst}
-use Rattle.ioam_run_stream.proofs.HaltsLaws.{held_map}
-use Rattle.ioam_run_stream.proofs.StopsLaws.{begins_ends, begins_passed}
 use Rattle.ioam_run_audit.specs.Fit.{Place}
-use Rattle.ioam_run_audit.specs.Lanes.{EndsBy}
-use Rattle.ioam_run_audit.specs.Lines.{BecomeOf, line_of, lines_of, sums_of, sums_line}
-use Rattle.ioam_run_audit.specs.Pairs.{AfterIs, Due, Ended, FateOf, MayCome, Pairs, ReadsTwo, Start, pair_behind, sums_as}
-use Rattle.ioam_run_audit.specs.Runs.{Closed, Halted, IsTold, Matched, Moves, Running, Sticks, StopsBy}
-use Rattle.ioam_run_audit.specs.declared.counts.Counts.{Counts}
+use Rattle.ioam_run_audit.specs.Lines.{line_of, lines_of, sums_of, sums_line}
+use Rattle.ioam_run_audit.specs.Pairs.{Due, Ended, FateOf, Pairs, ReadsTwo, Start, pair_behind, sums_as}
+use Rattle.ioam_run_audit.specs.Promise.{AreTaken}
+use Rattle.ioam_run_audit.specs.Runs.{AreCut, Closed, Cut, IsTold, Matched, Moves, Running, Sticks, StopsBy}
 use Rattle.ioam_run_audit.specs.declared.fate.Fate.{Fate}
 use Rattle.ioam_run_audit.specs.declared.fate.Fate.TheVariants.{Sent, Gone, Skipped}
 use Rattle.ioam_run_audit.specs.declared.lane.End.{End}
-use Rattle.ioam_run_audit.specs.declared.lane.End.TheVariants as end
-use Rattle.ioam_run_audit.specs.declared.lane.Lane.{Lane}
 use Rattle.ioam_run_audit.specs.declared.matching.Stop.{Stop}
 use Rattle.ioam_run_audit.specs.declared.matching.Stop.TheVariants as stop
 use Rattle.ioam_run_audit.specs.declared.pair.Pair.{Pair}
-use Rattle.ioam_run_audit.specs.declared.pair.Waiting.{Waiting}
-use Rattle.ioam_run_audit.specs.declared.pair.Waiting.TheVariants as waiting
-use Rattle.ioam_run_audit.proofs.LaneLaws.{at_first}
+use Rattle.ioam_run_audit.proofs.CutLaws.{pairs_matched}
 use Rattle.ioam_run_audit.proofs.LinesLaws.{lines_push}
 use Rattle.ioam_run_audit.proofs.PairLaws.{due_number, due_put}
 use Rattle.ioam_run_audit.proofs.SlotsLaws.{two_same, two_then}
 
--- however a capture ends, what was taken comes first in it
-pub ends_first : (how : End) (taken : List Taken) (octets : List ℕ) → EndsBy how taken octets → AreFirst taken octets
-ends_first end.Whole taken octets ends = begins_ends Whole taken octets ends
-ends_first (end.Bad at fault) taken octets ends = begins_ends (Faulty at fault) taken octets ends
-ends_first end.Limit taken octets ends = begins_passed 16777216 taken octets ends
-
--- so it is of AFTER, whatever is known of what comes next
-after_first : (tells : Bool) (content : Option (List ℕ)) (inputs : desk.Reading) (lane : Lane) (ys rest : List Taken) (w : Waiting)
-    → AfterIs tells content inputs lane ys rest w → (IsTrue tells → IsSomeAnd content (AreFirst ys)) × (length ys ≤ 16777216)
-after_first tells content inputs lane ys rest waiting.Asked after = (at_first tells content inputs lane.feed.slot lane.feed.reader lane.taken ys after.0, after.0.few)
-after_first tells content inputs lane ys rest waiting.Held after = (at_first tells content inputs lane.feed.slot lane.feed.reader lane.taken ys after.0, after.0.few)
-after_first tells content inputs lane ys rest waiting.Unfit after = (at_first tells content inputs lane.feed.slot lane.feed.reader lane.taken ys after.0, after.0.few)
-after_first tells content inputs lane ys rest (waiting.Over how) after =
-    (λ told. held_map content (EndsBy how ys) (AreFirst ys) (ends_first how ys) (after.0.ends told), after.0.few)
-
-none_more : (w : Waiting) → MayCome w []
-none_more waiting.Asked = tt
-none_more waiting.Held = tt
-none_more waiting.Unfit = tt
-none_more (waiting.Over how) = refl
-
--- where nothing more comes
-now_are : (place : Place) (xs ys rest : List Taken) (fates : List Fate) → BecomeOf place xs (ys ++ []) fates (rest ++ []) → BecomeOf place xs ys fates rest
-now_are place xs ys rest fates are =
-    subst (λ r. BecomeOf place xs ys fates r) (append-nil rest) (subst (λ zs. BecomeOf place xs zs fates (rest ++ [])) (append-nil ys) are)
-
 module _ (tells : Bool) (start : Start) (place : Place) where
-  -- the records that were taken come first in both
-  pub pairs_matched : (inputs : desk.Reading) (pair : Pair) (fates : List Fate) (pairs : Pairs tells start place inputs pair fates)
-      → Matched tells start place AreFirst AreFirst fates pairs.rest
-  pairs_matched inputs pair fates pairs =
-      let after = after_first tells start.after inputs pair.after pairs.ys pairs.rest pair.waiting pairs.after in
-      record {
-        xs = pairs.xs;
-        ys = pairs.ys;
-        are = now_are place pairs.xs pairs.ys pairs.rest fates (pairs.are [] (none_more pair.waiting));
-        of_before = at_first tells start.before inputs pair.before.feed.slot pair.before.feed.reader pair.before.taken pairs.xs pairs.before;
-        of_after = after.0;
-        few_before = pairs.before.few;
-        few_after = after.1;
-      }
-
-  pub ended_matched : (inputs : desk.Reading) (pair : Pair) (fates : List Fate) (how : End) (ended : Ended tells start place inputs pair fates how)
-      → Matched tells start place AreFirst AreFirst fates ended.rest
-  ended_matched inputs pair fates how ended =
-      let after = after_first tells start.after inputs pair.after ended.ys ended.rest pair.waiting ended.after in
-      record {
-        xs = ended.xs;
-        ys = ended.ys;
-        are = now_are place ended.xs ended.ys ended.rest fates (ended.are [] (none_more pair.waiting));
-        of_before = λ told. held_map start.before (EndsBy how ended.xs) (AreFirst ended.xs) (ends_first how ended.xs) (ended.before.ends told);
-        of_after = after.0;
-        few_before = ended.before.few;
-        few_after = after.1;
-      }
-
   -- where the desk tells
   pub matched_so : IsTrue tells → (IsOfBefore IsOfAfter : List Taken → List ℕ → Type 0) (fates : List Fate) (rest : List Taken)
       → Matched tells start place IsOfBefore IsOfAfter fates rest → Matched true start place IsOfBefore IsOfAfter fates rest
@@ -111,13 +48,13 @@ module _ (tells : Bool) (start : Start) (place : Place) where
   told_fronts outputs tellers fates is told = AreTold-fronts tells outputs start.base (start.report ∷ []) tellers (lines_of 1 fates ∷ []) told is
 
   -- and so of a whole text
-  pub lines_stick : (outputs : Writing) (fates : List Fate) (rest : List Taken) → Matched tells start place AreFirst AreFirst fates rest
+  pub lines_stick : (outputs : Writing) (fates : List Fate) (rest : List Taken) → Matched tells start place AreFirst AreTaken fates rest
       → (IsTrue tells → HoldAllFronts outputs (start.report ∷ []) (lines_of 1 fates ∷ [])) → Sticks tells start place outputs
   lines_stick outputs fates rest matched fronts = λ told. record {
     fates = fates;
     rest = rest;
     behind = [];
-    matched = matched_so told AreFirst AreFirst fates rest matched;
+    matched = matched_so told AreFirst AreTaken fates rest matched;
     behind_is = inl refl;
     held = more_fronts outputs (start.report ∷ []) (lines_of 1 fates ∷ []) ((sums_line (sums_of fates) ++ []) ∷ []) refl (fronts told);
   }
@@ -125,19 +62,21 @@ module _ (tells : Bool) (start : Start) (place : Place) where
   pub running_sticks : (inputs : desk.Reading) (outputs now : Writing) (pair : Pair) (tellers : List Output) → now ≡ outputs
       → Running tells start place inputs outputs pair tellers → Sticks tells start place now
   running_sticks inputs outputs now pair tellers same running =
-      subst (Sticks tells start place) (sym same)
-      (lines_stick outputs running.fates running.pairs.rest (pairs_matched inputs pair running.fates running.pairs) (told_fronts outputs tellers running.fates running.told))
+      let all = pairs_matched tells start place inputs pair running.fates running.pairs in
+      subst (Sticks tells start place) (sym same) (lines_stick outputs running.fates all.0 all.1 (told_fronts outputs tellers running.fates running.told))
 
   pub told_on : (outputs now : Writing) (tellers : List Output) (fates : List Fate) → now ≡ outputs → IsTold tells start place outputs tellers fates
       → IsTold tells start place now tellers fates
   told_on outputs now tellers fates same is = subst (λ w. IsTold tells start place w tellers fates) (sym same) is
 
-  pub running_halts : (inputs : desk.Reading) (outputs now : Writing) (pair : Pair) (counts : Counts) (tellers : List Output) → now ≡ outputs → counts ≡ pair.counts
-      → Running tells start place inputs outputs pair tellers → Halted tells start place AreFirst AreFirst now counts tellers
-  running_halts inputs outputs now pair counts tellers same is running = record {
+  -- a read failed
+  pub running_halts : (inputs new_in : desk.Reading) (outputs now : Writing) (pair after : Pair) (tellers : List Output) → now ≡ outputs → after.counts ≡ pair.counts
+      → (running : Running tells start place inputs outputs pair tellers) → AreCut tells start place new_in after running.fates
+      → Cut tells start place new_in now after tellers
+  running_halts inputs new_in outputs now pair after tellers same is running cut = record {
     fates = running.fates;
-    rest = running.pairs.rest;
-    matched = pairs_matched inputs pair running.fates running.pairs;
+    rest = cut.0;
+    matched = cut.1;
     counts_are = ap sums_as is ∙ running.pairs.counts_are;
     told = told_on outputs now tellers running.fates same running.told;
   }
@@ -203,7 +142,7 @@ module _ (tells : Bool) (start : Start) (place : Place) (inputs : desk.Reading) 
   pub put_pairs : Pairs tells start place inputs (pair_behind fate pair) (fates ++ fate ∷ [])
   put_pairs = due_put tells start place inputs pair fates why due fate of
 
-  put_matched : Matched tells start place AreFirst AreFirst (fates ++ fate ∷ []) put_pairs.rest
+  put_matched : (rest : List Taken) × Matched tells start place AreFirst AreTaken (fates ++ fate ∷ []) rest
   put_matched = pairs_matched tells start place inputs (pair_behind fate pair) (fates ++ fate ∷ []) put_pairs
 
   pub put_runs : (after : Pair) (outputs : Writing) (tellers : List Output) → after ≡ pair_behind fate pair → IsTold tells start place outputs tellers (fates ++ fate ∷ [])
@@ -215,7 +154,7 @@ module _ (tells : Bool) (start : Start) (place : Place) (inputs : desk.Reading) 
   })
 
   pub put_sticks : (outputs : Writing) → (IsTrue tells → HoldAllFronts outputs (start.report ∷ []) (lines_of 1 (fates ++ fate ∷ []) ∷ [])) → Sticks tells start place outputs
-  put_sticks outputs fronts = lines_stick tells start place outputs (fates ++ fate ∷ []) put_pairs.rest put_matched fronts
+  put_sticks outputs fronts = lines_stick tells start place outputs (fates ++ fate ∷ []) put_matched.0 put_matched.1 fronts
 
   pub put_same : (pair_behind fate pair).before ≡ pair.before
   put_same = by_fate fate where
@@ -238,11 +177,11 @@ moves_slots first second one other base old_in new_in old_out new_out is too mov
     subst (λ k. Moves first k base old_in new_in old_out new_out) too (subst (λ k. Moves k other base old_in new_in old_out new_out) is moves)
 
 -- from the start of all rounds
-pub stops_on : (tells : Bool) (start : Start) (place : Place) (first_in mid_in new_in : desk.Reading) (first_out mid_out new_out : Writing) (counts : Counts) (tellers : List Output)
-    → mid_in.side ≡ first_in.side → mid_out.side ≡ first_out.side → (why : Stop) → StopsBy tells start place mid_in new_in mid_out new_out counts tellers why
-    → StopsBy tells start place first_in new_in first_out new_out counts tellers why
-stops_on tells start place first_in mid_in new_in first_out mid_out new_out counts tellers reads writes stop.Read stops =
+pub stops_on : (tells : Bool) (start : Start) (place : Place) (first_in mid_in new_in : desk.Reading) (first_out mid_out new_out : Writing) (pair : Pair) (tellers : List Output)
+    → mid_in.side ≡ first_in.side → mid_out.side ≡ first_out.side → (why : Stop) → StopsBy tells start place mid_in new_in mid_out new_out pair tellers why
+    → StopsBy tells start place first_in new_in first_out new_out pair tellers why
+stops_on tells start place first_in mid_in new_in first_out mid_out new_out pair tellers reads writes stop.Read stops =
     (subst (λ (s : desk.Side). Rose s.faults new_in.side.faults) reads stops.0, stops.1 ∙ writes, stops.2)
-stops_on tells start place first_in mid_in new_in first_out mid_out new_out counts tellers reads writes stop.Write stops =
+stops_on tells start place first_in mid_in new_in first_out mid_out new_out pair tellers reads writes stop.Write stops =
     (subst (λ (s : desk.Side). Rose s.faults new_out.side.faults) writes stops.0, stops.1)
-stops_on tells start place first_in mid_in new_in first_out mid_out new_out counts tellers reads writes stop.NoMemory stops = stops
+stops_on tells start place first_in mid_in new_in first_out mid_out new_out pair tellers reads writes stop.NoMemory stops = stops

@@ -18,8 +18,8 @@ use Rattle.ioam_run_audit.specs.Fit.{Place}
 use Rattle.ioam_run_audit.specs.Lanes.{EndsBy}
 use Rattle.ioam_run_audit.specs.Lines.{report_of, sums_of, verdict_line, verdict_of}
 use Rattle.ioam_run_audit.specs.Pairs.{Over, ReadsTwo, Start}
-use Rattle.ioam_run_audit.specs.Promise.{AuditNames, IsAt, IsTwice, IsUnfit, audit_files}
-use Rattle.ioam_run_audit.specs.Runs.{IsBehind, IsTold, Matched, answer_of, left_of}
+use Rattle.ioam_run_audit.specs.Promise.{AreTaken, AuditNames, IsAt, IsTwice, IsUnfit, audit_files}
+use Rattle.ioam_run_audit.specs.Runs.{IsBehind, IsJudged, IsTold, Matched, answer_of, left_of}
 use Rattle.ioam_run_audit.specs.declared.counts.Counts.{Counts}
 use Rattle.ioam_run_audit.specs.declared.fate.Fate.{Fate}
 use Rattle.ioam_run_audit.specs.declared.lane.End.{End}
@@ -50,12 +50,12 @@ BehindBy (end.Bad at fault) last fates rest behind = behind ≡ []
 abbrev pub start_of : Writing → List ℕ → List ℕ → List ℕ → Start
 start_of old before after report = record { before = holds old before; after = holds old after; base = old.side.slots; report = report }
 
--- where REPORT was opened it holds a front of the text of some first packets of both
+-- where REPORT was opened it holds a front of the text of some first packets of BEFORE by all of AFTER
 pub record Parts (start : Start) (place : Place) (outputs : Writing) : Type 0 where
   pub fates : List Fate
   pub rest : List Taken
   pub behind : List ℕ
-  pub matched : Matched true start place AreFirst AreFirst fates rest
+  pub matched : Matched true start place AreFirst AreTaken fates rest
   pub behind_is : IsBehind start place fates rest behind
   pub held : start.base < outputs.side.slots → IsSomeAnd (holds outputs start.report) (λ part. IsFront part (report_of fates behind))
 
@@ -84,11 +84,15 @@ module _ (tells : Bool) (start : Start) (place : Place) where
     pub drained_before : how ≡ end.Whole → IsTrue tells → IsTrue (inputs.ended first)
     pub drained_after : last ≡ end.Whole → IsTrue tells → IsTrue (inputs.ended second)
 
-  -- a read failed, and REPORT was written as far as both were read
-  pub record CutsOff (old_in new_in : desk.Reading) (outputs : Writing) (answer : Outcome) : Type 0 where
+  -- REPORT holds the text of all packets of BEFORE that can be judged
+  abbrev pub WrittenCut : desk.Reading → ℕ → ℕ → Writing → Type 0
+  WrittenCut inputs first second outputs = Written (IsJudged start place inputs first second) AreTaken NoneBehind outputs
+
+  -- a read failed, and REPORT was written as far as it can be
+  pub record CutsOff (first second : ℕ) (old_in new_in : desk.Reading) (outputs : Writing) (answer : Outcome) : Type 0 where
     pub answer_is : answer ≡ outcome.ReadFault
     pub rose : Rose old_in.side.faults new_in.side.faults
-    pub written : Written AreFirst AreFirst NoneBehind outputs
+    pub written : WrittenCut new_in first second outputs
 
   -- a write failed, or no memory could be had
   pub record Breaks (old_out new_out : Writing) (answer : Outcome) : Type 0 where
@@ -99,7 +103,7 @@ module _ (tells : Bool) (start : Start) (place : Place) where
     -- what is answered once the files were opened
     abbrev pub Finishes : Outcome → Type 0
     Finishes answer = Closes before after first second new_in new_out answer
-        ⊎ (CutsOff old_in new_in new_out answer ⊎ Breaks old_out new_out answer)
+        ⊎ (CutsOff first second old_in new_in new_out answer ⊎ Breaks old_out new_out answer)
 
   -- REPORT was to be opened, and the rest
   pub record RunsPair (before after : List ℕ) (first second : ℕ) (old_in new_in : desk.Reading) (old_out new_out : Writing) (answer : Outcome) : Type 0 where

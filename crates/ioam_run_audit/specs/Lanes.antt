@@ -1,17 +1,20 @@
 -- One of the two captures, read one record at a time.
-use Rattle.std.specs.Prelude.{◌≡◌, ℕ, ◌+◌, ◌<◌, ◌≤◌, Bool, IsTrue, IsSomeAnd, List, [], ◌∷◌, ◌++◌, length, Option, Some, None}
+use Rattle.std.specs.Prelude.{◌≡◌, ⊤, ℕ, ◌+◌, ◌<◌, ◌≤◌, Bool, false, IsTrue, IsSomeAnd, List, [], ◌∷◌, ◌++◌, length, Option, Some, None}
 use Rattle.ioam_capture.specs.Reader.{Stands, Waits}
 use Rattle.ioam_capture.specs.Reading.{Reading, pending, most_held, HoldsFew}
 use Rattle.ioam_capture.specs.Reads.{Reads}
+use Rattle.ioam_capture.specs.Streams.{ShowsSo}
 use Rattle.ioam_capture_merge.specs.Feed.{Fed}
 use Rattle.ioam_desk.specs.Desk as desk
 use Rattle.ioam_desk.specs.Desk.{SameBut}
+use Rattle.ioam_desk.specs.declared.fault.DeskFault.{DeskFault}
+use Rattle.ioam_desk.specs.declared.fault.DeskFault.TheVariants.{Failed, NoMemory}
 use Rattle.ioam_ip.specs.Chain.{IsSound}
 use Rattle.ioam_node.specs.declared.reason.Reason.{Reason}
 use Rattle.ioam_node.specs.declared.reason.Reason.TheVariants as reason
 use Rattle.ioam_pcap.specs.Ending.{Whole, Faulty}
 use Rattle.ioam_pcap.specs.Entries.{Taken}
-use Rattle.ioam_run_stream.specs.Promise.{EndsSo, ArePassed}
+use Rattle.ioam_run_stream.specs.Promise.{EndsSo, ArePassed, AreWhole}
 use Rattle.ioam_run_audit.specs.Fit.{HoldsPacket, HasReason}
 use Rattle.ioam_run_audit.specs.declared.lane.End.{End}
 use Rattle.ioam_run_audit.specs.declared.lane.End.TheVariants as end
@@ -70,6 +73,12 @@ abbrev pub NextOf : Bool → desk.Reading → Lane → desk.Reading → Lane →
 NextOf tells old before new after shown = (content : Option (List ℕ)) (taken : List Taken) → AtLane tells content old before taken
     → Comes tells content new after taken shown
 
+-- a read failed: the records that were taken are all that are whole in what was handed out
+abbrev pub FailsOf : Bool → desk.Reading → Lane → desk.Reading → DeskFault → Type 0
+FailsOf tells old before new Failed = (content : Option (List ℕ)) (taken : List Taken) → AtLane tells content old before taken
+    → IsTrue tells → IsSomeAnd content (AreWhole (new.left before.feed.slot) taken)
+FailsOf tells old before new NoMemory = ⊤
+
 -- all that is left of it was taken
 abbrev pub RestOf : Bool → desk.Reading → Lane → desk.Reading → Lane → End → Type 0
 RestOf tells old before new after how = (content : Option (List ℕ)) (taken : List Taken) → AtLane tells content old before taken
@@ -82,13 +91,13 @@ pub record ReadsAlone (slot : ℕ) (old new : desk.Reading) : Type 0 where
   pub left : SameBut slot old.left new.left
   pub ended : SameBut slot old.ended new.ended
 
--- what a step of the reader did: nothing, since more octets are needed; or it gave the next record; or none is there
+-- what a step of the reader did: nothing, since the octets show no more whole records; or it gave the next record; or none is there
 module _ (old new : Reading) (before after : ℕ) (held : List ℕ) where
   -- what one step did: a record more was taken, and is held where it gives a packet; or more octets are needed; or the
   -- capture is over, by its fault or by its limit
   abbrev pub Steps : Option Next → Type 0
   Steps None = (after ≡ before) × Waits new × HoldsFew new × (length (pending new) ≤ length (pending old))
-      × ((octets : List ℕ) (taken : List Taken) → Stands old octets taken → Stands new octets taken)
+      × ((octets : List ℕ) (taken : List Taken) → Stands old octets taken → Stands new octets taken × ShowsSo octets false taken None)
   Steps (Some (next.Record why)) = (before < 16777216) × (after ≡ before + 1) × (length (pending new) ≤ length (pending old))
       × ((t : Taken) × ((octets : List ℕ) (taken : List Taken) → Stands old octets taken → Stands new octets (taken ++ t ∷ [])) × IsHeld t held why)
   Steps (Some (next.Over end.Whole)) = ⊥

@@ -14,10 +14,11 @@ use Rattle.ioam_run_answer.specs.Outcomes.{IsDone, IsBehindAll}
 use Rattle.ioam_run_answer.specs.declared.outcome.Outcome.{Outcome}
 use Rattle.ioam_run_answer.specs.declared.outcome.Outcome.TheVariants as outcome
 use Rattle.ioam_run_audit.specs.Fit.{Place}
-use Rattle.ioam_run_audit.specs.Verdicts.{HasVerdict, IsReport, NoVerdict}
+use Rattle.ioam_run_audit.specs.Lines.{Yes}
+use Rattle.ioam_run_audit.specs.Verdicts.{HasVerdict, IsReport, IsVerdict, NoVerdict}
 use Rattle.ioam_run_files.specs.Answer.{refused_as}
 use Rattle.ioam_run_files.specs.declared.setting.Refusal.{Refusal}
-use Rattle.ioam_run_stream.specs.Promise.{AreFirst, ArePassed, EndsSo, IsInput, IsLong}
+use Rattle.ioam_run_stream.specs.Promise.{AreFirst, ArePassed, AreWhole, EndsSo, IsInput, IsLong}
 use Rattle.ioam_topo.specs.Domain.{links, node_of_name, link_of_name}
 use Rattle.ioam_topo.specs.declared.domain.Domain.{Domain}
 use Rattle.ioam_topo.specs.declared.ids.LinkId.{LinkId}
@@ -68,6 +69,20 @@ link_to domain node name = option_and_then (λ id. link_by node id (slice_get (l
 -- all records of the octets, or as many of the first as are taken, where more come
 abbrev pub AreTaken : List Taken → List ℕ → Type 0
 AreTaken taken octets = ((ending : Ending) × Reads octets taken ending) ⊎ ArePassed 16777216 taken octets
+
+-- the records of AFTER that are whole in what was handed out of these octets, all but what is left, are each one of these of
+-- BEFORE that the node can have sent on, in their order
+abbrev pub AreFound : Place → List Taken → List ℕ → List ℕ → Type 0
+AreFound place before left octets = (whole : List Taken) × AreWhole left whole octets × IsVerdict place before whole Yes
+
+-- These records of BEFORE are all of which it can be said what becomes of them where so much of both captures is left to hand
+-- out: BEFORE is over; or they are all that are whole in what was handed out of it; or no record is whole in what was handed out
+-- of AFTER that isn't one of these.
+module _ (place : Place) (after : Option (List ℕ)) (left_before left_after : List ℕ) where
+  -- the records of BEFORE that were judged
+  abbrev pub AreJudged : List Taken → List ℕ → Type 0
+  AreJudged before octets = AreTaken before octets
+      ⊎ (AreWhole left_before before octets ⊎ (AreFirst before octets × IsSomeAnd after (AreFound place before left_after)))
 
 module _ (files : AuditNames) where
   -- NODE is this node, and LINK this link, which ends there
@@ -185,6 +200,11 @@ module _ (files : AuditNames) where
     MayHaveVerdict place before after behind = NoVerdict place before after behind
         ⊎ (BeforeIs (EndsSo Whole before) × AfterIs (EndsSo Whole after) × HasVerdict place before after behind)
 
+    -- no verdict stands there, and the records of BEFORE are all that can be judged where so much of both is left
+    abbrev pub IsCutOff : List ℕ → List ℕ → Place → List Taken → List Taken → List ℕ → Type 0
+    IsCutOff left_before left_after place before after behind = NoVerdict place before after behind
+        × BeforeIs (AreJudged place (holds desk files.after) left_before left_after before)
+
   module _ (old_in new_in : Reading) (old new : Writing) where
     -- the cause of each answer, where the desk tells what its files hold; want of memory alone has none
     abbrev pub HasCause : Outcome → Type 0
@@ -202,16 +222,18 @@ module _ (files : AuditNames) where
     HoldsPart text = old.side.slots < new.side.slots → IsSomeAnd (holds new files.report) (λ part. IsFront part text)
 
     -- What REPORT holds afterwards, where the desk tells: the lines and the sums of all packets of BEFORE by all of AFTER, and
-    -- behind Done alone the verdict; after a fault of reading those of some first packets of each; or nothing was opened for
-    -- writing; or where it was opened it holds a front of such a text.
+    -- behind Done alone the verdict; after a fault of reading those of all packets of BEFORE that can be judged by what was
+    -- handed out; or nothing was opened for writing; or where it was opened it holds a front of the text of some first packets of
+    -- BEFORE, likewise by all of AFTER.
     abbrev pub Leaves : Outcome → Type 0
     Leaves outcome.Done = Reports old (EndsSo Whole) (EndsSo Whole) HasVerdict Holds
     Leaves (outcome.Capture name at fault) = Reports old AreTaken AreTaken NoVerdict Holds
     Leaves (outcome.Packets limit) = Reports old AreTaken AreTaken NoVerdict Holds
     Leaves outcome.ReadFault = ((new_in.side.slots < old_in.side.slots + 3) × (new ≡ old))
-        ⊎ ((old_in.side.slots + 2 < new_in.side.slots) × Reports old AreFirst AreFirst NoVerdict Holds)
-    Leaves outcome.WriteFault = Reports old AreFirst AreFirst (MayHaveVerdict old) HoldsPart
-    Leaves outcome.NoMemory = (new ≡ old) ⊎ Reports old AreFirst AreFirst (MayHaveVerdict old) HoldsPart
+        ⊎ ((old_in.side.slots + 2 < new_in.side.slots) × Reports old AreFirst AreTaken
+        (IsCutOff old (new_in.left (old_in.side.slots + 1)) (new_in.left (old_in.side.slots + 2))) Holds)
+    Leaves outcome.WriteFault = Reports old AreFirst AreTaken (MayHaveVerdict old) HoldsPart
+    Leaves outcome.NoMemory = (new ≡ old) ⊎ Reports old AreFirst AreTaken (MayHaveVerdict old) HoldsPart
     Leaves outcome.Usage = new ≡ old
     Leaves (outcome.Domain fault) = new ≡ old
     Leaves (outcome.Names name) = new ≡ old

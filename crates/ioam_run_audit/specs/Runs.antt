@@ -1,8 +1,10 @@
 -- A run whose files were opened: REPORT is told the lines of the packets of BEFORE, one after the other.
-use Rattle.std.specs.Prelude.{◌≡◌, ◌⊎◌, ℕ, ◌+◌, ◌≤◌, Bool, true, ◌==◌, if◌then◌else◌, IsTrue, IsSomeAnd, List, [], ◌∷◌, ◌++◌, length, Option, Some, None, Result, Ok, Err}
+use Rattle.std.specs.Prelude.{◌≡◌, ◌⊎◌, ⊤, ℕ, ◌+◌, ◌≤◌, Bool, true, ◌==◌, if◌then◌else◌, IsTrue, IsSomeAnd, List, [], ◌∷◌, ◌++◌, length, Option, Some, None, Result, Ok, Err}
 use Rattle.ioam_desk.specs.Desk as desk
 use Rattle.ioam_desk.specs.Desk.{Writing, Rose}
 use Rattle.ioam_desk.specs.Kept.{WritesFrom}
+use Rattle.ioam_desk.specs.declared.fault.DeskFault.{DeskFault}
+use Rattle.ioam_desk.specs.declared.fault.DeskFault.TheVariants as desk_fault
 use Rattle.ioam_desk_outputs.specs.Held.{HoldAllFronts}
 use Rattle.ioam_desk_outputs.specs.Told.{AreTold}
 use Rattle.ioam_desk_outputs.specs.declared.output.Output.{Output}
@@ -14,6 +16,7 @@ use Rattle.ioam_run_stream.specs.Promise.{AreFirst, EndsSo}
 use Rattle.ioam_run_audit.specs.Fit.{Place}
 use Rattle.ioam_run_audit.specs.Lines.{BecomeOf, lines_of, report_of, sums_of, verdict_as, verdict_of, sums_line, verdict_line}
 use Rattle.ioam_run_audit.specs.Pairs.{Ended, Pairs, ReadsTwo, Start, sums_as}
+use Rattle.ioam_run_audit.specs.Promise.{AreJudged, AreTaken}
 use Rattle.ioam_run_audit.specs.declared.counts.Counts.{Counts}
 use Rattle.ioam_run_audit.specs.declared.fate.Fate.{Fate}
 use Rattle.ioam_run_audit.specs.declared.lane.End.{End}
@@ -43,12 +46,16 @@ module _ (start : Start) (place : Place) where
   IsBehind fates rest behind = (behind ≡ [])
       ⊎ (Matched true start place (EndsSo Whole) (EndsSo Whole) fates rest × (behind ≡ verdict_line (verdict_of rest (sums_of fates).sent)))
 
-  -- REPORT holds a front of the text of some first packets of both
+  -- these records of BEFORE are all that can be judged, where this is what the two slots have still to hand out
+  abbrev pub IsJudged : desk.Reading → ℕ → ℕ → List Taken → List ℕ → Type 0
+  IsJudged inputs first second = AreJudged place start.after (inputs.left first) (inputs.left second)
+
+  -- REPORT holds a front of the text of some first packets of BEFORE by all of AFTER
   pub record Fronts (outputs : Writing) : Type 0 where
     pub fates : List Fate
     pub rest : List Taken
     pub behind : List ℕ
-    pub matched : Matched true start place AreFirst AreFirst fates rest
+    pub matched : Matched true start place AreFirst AreTaken fates rest
     pub behind_is : IsBehind fates rest behind
     pub held : HoldAllFronts outputs (start.report ∷ []) (report_of fates behind ∷ [])
 
@@ -81,23 +88,37 @@ module _ (tells : Bool) (start : Start) (place : Place) where
     pub counts_are : sums_as counts ≡ sums_of fates
     pub told : IsTold outputs tellers fates
 
+  -- these became of them, by all packets of AFTER
+  abbrev pub AreCut : desk.Reading → Pair → List Fate → Type 0
+  AreCut inputs pair fates = (rest : List Taken)
+      × Matched tells start place (IsJudged start place inputs pair.before.feed.slot pair.after.feed.slot) AreTaken fates rest
+
+  -- they did where a read failed
+  abbrev pub FailsBy : desk.Reading → Pair → List Fate → DeskFault → Type 0
+  FailsBy inputs pair fates desk_fault.Failed = AreCut inputs pair fates
+  FailsBy inputs pair fates desk_fault.NoMemory = ⊤
+
+  -- a read failed: the lines of these, and how many there are of each
+  abbrev pub Cut : desk.Reading → Writing → Pair → List Output → Type 0
+  Cut inputs outputs pair tellers = Halted (IsJudged start place inputs pair.before.feed.slot pair.after.feed.slot) AreTaken outputs pair.counts tellers
+
   module _ (old_in new_in : desk.Reading) (old_out new_out : Writing) where
     -- why the two weren't read on
-    abbrev pub StopsBy : Counts → List Output → Stop → Type 0
-    StopsBy counts tellers stop.Read = Rose old_in.side.faults new_in.side.faults × (new_out.side ≡ old_out.side) × Halted AreFirst AreFirst new_out counts tellers
-    StopsBy counts tellers stop.Write = Rose old_out.side.faults new_out.side.faults × Sticks new_out
-    StopsBy counts tellers stop.NoMemory = Sticks new_out
+    abbrev pub StopsBy : Pair → List Output → Stop → Type 0
+    StopsBy pair tellers stop.Read = Rose old_in.side.faults new_in.side.faults × (new_out.side ≡ old_out.side) × Cut new_in new_out pair tellers
+    StopsBy pair tellers stop.Write = Rose old_out.side.faults new_out.side.faults × Sticks new_out
+    StopsBy pair tellers stop.NoMemory = Sticks new_out
 
     -- one packet more of BEFORE was judged, or there is none
     abbrev pub JudgesOne : Pair → Pair → List Output → Result (Option End) Stop → Type 0
     JudgesOne old new tellers (Ok None) = Running new_in new_out new tellers × (new.before.taken ≡ old.before.taken + 1)
     JudgesOne old new tellers (Ok (Some how)) = Closed new_in new_out new tellers how
-    JudgesOne old new tellers (Err why) = StopsBy new.counts tellers why
+    JudgesOne old new tellers (Err why) = StopsBy new tellers why
 
     -- all were
     abbrev pub JudgesAll : Pair → List Output → Result End Stop → Type 0
     JudgesAll new tellers (Ok how) = Closed new_in new_out new tellers how
-    JudgesAll new tellers (Err why) = StopsBy new.counts tellers why
+    JudgesAll new tellers (Err why) = StopsBy new tellers why
 
 -- nothing was opened, no input slots but these two were read, and no output slot below this number was written to
 pub record Moves (first second base : ℕ) (old_in new_in : desk.Reading) (old_out new_out : Writing) : Type 0 where

@@ -1,12 +1,12 @@
 //! The two captures compared, once they and REPORT were opened.
 ghost use Rattle.std.specs.Prelude.{◌≡◌, ◌≤◌, ◌⊎◌, length};
 ghost use Rattle.ioam_desk.specs.Kept.{WritesFrom};
+ghost use Rattle.ioam_desk_outputs.specs.Told.{GathersFew};
 ghost use Rattle.ioam_run_answer.specs.declared.outcome.Outcome.{Outcome};
-ghost use Rattle.ioam_run_stream.specs.Promise.{AreFirst};
-ghost use Rattle.ioam_run_audit.specs.Ends.{Both, Closes, Breaks, Finishes, NoneBehind, Written, verdict_by};
+ghost use Rattle.ioam_run_audit.specs.Ends.{Both, Closes, Breaks, Finishes, WrittenCut, verdict_by};
 ghost use Rattle.ioam_run_audit.specs.Fit.{Place};
 ghost use Rattle.ioam_run_audit.specs.Pairs.{Start, place_of};
-ghost use Rattle.ioam_run_audit.specs.Runs.{Halted, Moves, Running};
+ghost use Rattle.ioam_run_audit.specs.Runs.{Cut, Moves, Running};
 
 use crate::counts::Counts;
 use crate::ending::{answer, close, left_of};
@@ -61,19 +61,19 @@ fn finish_with<D: Desk>(
     }
 }
 
-// Writes the sums behind the lines of the packets that were taken, where a read failed.
-fn cut_off<D: Desk>(counts: Counts, outputs: &mut [Output], desk: &mut D) -> Outcome
-    requires halted { (start : Start) × (place : Place) × Halted D.tells start place AreFirst AreFirst (D.writing desk.old) counts outputs.old }
-    ensures cuts { (start : Start) (place : Place) → Halted D.tells start place AreFirst AreFirst (D.writing desk.old) counts outputs.old
-        → ((result ≡ Outcome.ReadFault) × Written D.tells start place AreFirst AreFirst NoneBehind (D.writing desk.new))
+// Writes the sums behind the lines of the packets that were judged, where a read failed.
+fn cut_off<D: Desk>(pair: &Pair, outputs: &mut [Output], desk: &mut D) -> Outcome
+    requires cut { (start : Start) × (place : Place) × Cut D.tells start place (D.reading desk.old) (D.writing desk.old) pair.now outputs.old }
+    ensures cuts { (start : Start) (place : Place) → Cut D.tells start place (D.reading desk.old) (D.writing desk.old) pair.now outputs.old
+        → ((result ≡ Outcome.ReadFault) × WrittenCut D.tells start place (D.reading desk.old) pair.now.before.feed.slot pair.now.after.feed.slot (D.writing desk.new))
         ⊎ Breaks D.tells start place (D.writing desk.old) (D.writing desk.new) result }
-    ensures kept { (start : Start) (place : Place) → Halted D.tells start place AreFirst AreFirst (D.writing desk.old) counts outputs.old
+    ensures kept { (start : Start) (place : Place) → Cut D.tells start place (D.reading desk.old) (D.writing desk.old) pair.now outputs.old
         → WritesFrom start.base (D.writing desk.old) (D.writing desk.new) }
     ensures asked { (D.writing desk.new).side.asked ≡ (D.writing desk.old).side.asked }
     ensures slots { (D.writing desk.new).side.slots ≡ (D.writing desk.old).side.slots }
     ensures inputs { D.reading desk.new ≡ D.reading desk.old }
 {
-    match close(counts, None, outputs, desk) {
+    match close(pair.counts, None, outputs, desk) {
         Ok(()) => Outcome::ReadFault,
         Err(DeskFault::Failed) => Outcome::WriteFault,
         Err(DeskFault::NoMemory) => Outcome::NoMemory,
@@ -95,6 +95,7 @@ pub(crate) fn run_open<D: Desk>(
     ghost start: { Start }
     requires running { Running D.tells start (place_of seat.now) (D.reading desk.old) (D.writing desk.old) pair.old outputs.old }
     requires room { length piece.old ≡ PIECE }
+    requires waiting { GathersFew outputs.old }
     ensures finishes { Finishes D.tells start (place_of seat.now) before.now after.now pair.old.before.feed.slot pair.old.after.feed.slot
         (D.reading desk.old) (D.reading desk.new) (D.writing desk.old) (D.writing desk.new) result }
     ensures moves { Moves pair.old.before.feed.slot pair.old.after.feed.slot start.base
@@ -102,13 +103,13 @@ pub(crate) fn run_open<D: Desk>(
 {
     let how = match judge_all(seat, pair, outputs, desk, piece) {
         Ok(how) => how,
-        Err(Stop::Read) => return cut_off(pair.counts, outputs, desk),
+        Err(Stop::Read) => return cut_off(pair, outputs, desk),
         Err(Stop::Write) => return Outcome::WriteFault,
         Err(Stop::NoMemory) => return Outcome::NoMemory,
     };
     let last = match pair.rest(desk, piece) {
         Ok(last) => last,
-        Err(DeskFault::Failed) => return cut_off(pair.counts, outputs, desk),
+        Err(DeskFault::Failed) => return cut_off(pair, outputs, desk),
         Err(DeskFault::NoMemory) => return Outcome::NoMemory,
     };
     finish_with(alloc, before, after, pair, how, last, outputs, desk)

@@ -5,7 +5,7 @@ ghost use Rattle.ioam_capture.specs.Reading.{fed};
 ghost use Rattle.ioam_desk.specs.Asked.{IsFaultOf};
 ghost use Rattle.ioam_pcap.specs.Ending.{ending_of};
 ghost use Rattle.ioam_pcap.specs.Entries.{Taken};
-ghost use Rattle.ioam_run_audit.specs.Lanes.{EndsBy, IsLane, NextOf, ReadsAlone, RestOf, Steps};
+ghost use Rattle.ioam_run_audit.specs.Lanes.{EndsBy, FailsOf, IsLane, NextOf, ReadsAlone, RestOf, Steps};
 
 use crate::held::hold;
 use ioam_base::memory::NoMemory;
@@ -84,7 +84,7 @@ impl Lane {
     /// The next record of the capture, of which pieces are read until it is known, of 65,536 octets at most; its packet is
     /// held in place of the one before. No more than 16,777,216 records are taken. After `Over` it isn't asked again.
     ///
-    /// `Failed`: a read failed, and the desk's count of faults rose.
+    /// `Failed`: a read failed, and the desk's count of faults rose; all records were taken that are whole in what was handed out.
     pub(crate) fn next<D: Desk>(
         &mut self,
         desk: &mut D,
@@ -93,6 +93,7 @@ impl Lane {
         requires lane { IsLane D.tells (D.reading desk.old) self.old }
         requires room { length piece.old ≡ PIECE }
         ensures next { IfOk result (NextOf D.tells (D.reading desk.old) self.old (D.reading desk.new) self.new) }
+        ensures failed { IfErr result (FailsOf D.tells (D.reading desk.old) self.old (D.reading desk.new)) }
         ensures alone { ReadsAlone self.old.feed.slot (D.reading desk.old) (D.reading desk.new) }
         ensures same { OnOk result ((D.reading desk.new).side ≡ (D.reading desk.old).side) }
         ensures cause { IfErr result (IsFaultOf (D.reading desk.old).side (D.reading desk.new).side) }

@@ -1,5 +1,6 @@
 //! The packets of BEFORE, judged one after the other.
 ghost use Rattle.std.specs.Prelude.{◌≡◌, ◌+◌, OnOk, length};
+ghost use Rattle.ioam_desk_outputs.specs.Told.{GathersFew};
 ghost use Rattle.ioam_run_audit.specs.Pairs.{Start, place_of};
 ghost use Rattle.ioam_run_audit.specs.Runs.{JudgesAll, JudgesOne, Moves, Running};
 
@@ -21,7 +22,8 @@ pub(crate) enum Stop {
     NoMemory,
 }
 
-// Judges the next packet of BEFORE. The answer is none where one was judged, and else why there is none.
+// Judges the next packet of BEFORE, and writes the lines where they are a full piece, so that less than a piece waits. The answer
+// is none where one was judged, and else why there is none.
 fn judge_next<D: Desk>(
     seat: &Seat<'_>,
     pair: &mut Pair,
@@ -32,12 +34,14 @@ fn judge_next<D: Desk>(
     ghost start: { Start }
     requires running { Running D.tells start (place_of seat.now) (D.reading desk.old) (D.writing desk.old) pair.old outputs.old }
     requires room { length piece.old ≡ PIECE }
+    requires waiting { GathersFew outputs.old }
     ensures judged { JudgesOne D.tells start (place_of seat.now) (D.reading desk.old) (D.reading desk.new) (D.writing desk.old) (D.writing desk.new)
         pair.old pair.new outputs.new result }
     ensures moves { Moves pair.old.before.feed.slot pair.old.after.feed.slot start.base
         (D.reading desk.old) (D.reading desk.new) (D.writing desk.old) (D.writing desk.new) }
     ensures same_in { OnOk result ((D.reading desk.new).side ≡ (D.reading desk.old).side) }
     ensures same_out { OnOk result ((D.writing desk.new).side ≡ (D.writing desk.old).side) }
+    ensures waiting { OnOk result (GathersFew outputs.new) }
     ensures slot_before { pair.new.before.feed.slot ≡ pair.old.before.feed.slot }
     ensures slot_after { pair.new.after.feed.slot ≡ pair.old.after.feed.slot }
 {
@@ -57,7 +61,8 @@ fn judge_next<D: Desk>(
     }
 }
 
-/// Judges the packets of BEFORE, up to its end or what stops it, which is the answer.
+/// Judges the packets of BEFORE, up to its end or what stops it, which is the answer. Behind each less than a piece of 65,536
+/// octets waits to be written.
 pub(crate) fn judge_all<D: Desk>(
     seat: &Seat<'_>,
     pair: &mut Pair,
@@ -68,12 +73,14 @@ pub(crate) fn judge_all<D: Desk>(
     ghost start: { Start }
     requires running { Running D.tells start (place_of seat.now) (D.reading desk.old) (D.writing desk.old) pair.old outputs.old }
     requires room { length piece.old ≡ PIECE }
+    requires waiting { GathersFew outputs.old }
     ensures judged { JudgesAll D.tells start (place_of seat.now) (D.reading desk.old) (D.reading desk.new) (D.writing desk.old) (D.writing desk.new)
         pair.new outputs.new result }
     ensures moves { Moves pair.old.before.feed.slot pair.old.after.feed.slot start.base
         (D.reading desk.old) (D.reading desk.new) (D.writing desk.old) (D.writing desk.new) }
     ensures same_in { OnOk result ((D.reading desk.new).side ≡ (D.reading desk.old).side) }
     ensures same_out { OnOk result ((D.writing desk.new).side ≡ (D.writing desk.old).side) }
+    ensures waiting { OnOk result (GathersFew outputs.new) }
     ensures slot_before { pair.new.before.feed.slot ≡ pair.old.before.feed.slot }
     ensures slot_after { pair.new.after.feed.slot ≡ pair.old.after.feed.slot }
 {

@@ -7,6 +7,7 @@ ghost use Rattle.ioam_run_audit.specs.Fit.{Place};
 ghost use Rattle.ioam_run_audit.specs.Lanes.{ReadsAlone};
 ghost use Rattle.ioam_run_audit.specs.Lines.{line_of};
 ghost use Rattle.ioam_run_audit.specs.Pairs.{Ended, FateOf, IsEnded, IsPair, Over, PairComes, Pairs, ReadsTwo, Start, pair_behind, place_of};
+ghost use Rattle.ioam_run_audit.specs.Runs.{FailsBy};
 ghost use Rattle.ioam_run_audit.specs.declared.fate.Fate.{Fate};
 ghost use Rattle.ioam_run_audit.specs.declared.lane.End.{End};
 ghost use Rattle.ioam_run_audit.specs.declared.pair.Waiting.{Waiting};
@@ -51,6 +52,8 @@ impl Pair {
         requires room { length piece.old ≡ PIECE }
         ensures pairs { OnOk result ((start : Start) (place : Place) (fates : List Fate)
             → Pairs D.tells start place (D.reading desk.old) self.old fates → Pairs D.tells start place (D.reading desk.new) self.new fates) }
+        ensures failed { IfErr result (λ fault. (start : Start) (place : Place) (fates : List Fate)
+            → Pairs D.tells start place (D.reading desk.old) self.old fates → FailsBy D.tells start place (D.reading desk.new) self.new fates fault) }
         ensures known { OnOk result (self.new.waiting ≡ Waiting.Asked → ⊥) }
         ensures alone { ReadsAlone self.old.after.feed.slot (D.reading desk.old) (D.reading desk.new) }
         ensures same { OnOk result ((D.reading desk.new).side ≡ (D.reading desk.old).side) }
@@ -76,7 +79,8 @@ impl Pair {
     /// What comes next of BEFORE. What comes next of AFTER is made known first, so that each packet of BEFORE that is taken can
     /// be judged, also where the next read fails.
     ///
-    /// `Failed`: a read failed, and the desk's count of faults rose.
+    /// `Failed`: a read failed, and the desk's count of faults rose; all packets of BEFORE were judged that can be by what was
+    /// handed out of both.
     pub(crate) fn next<D: Desk>(
         &mut self,
         desk: &mut D,
@@ -86,6 +90,8 @@ impl Pair {
         requires room { length piece.old ≡ PIECE }
         ensures comes { IfOk result (λ next. (start : Start) (place : Place) (fates : List Fate)
             → Pairs D.tells start place (D.reading desk.old) self.old fates → PairComes D.tells start place (D.reading desk.new) self.new fates next) }
+        ensures failed { IfErr result (λ fault. (start : Start) (place : Place) (fates : List Fate)
+            → Pairs D.tells start place (D.reading desk.old) self.old fates → FailsBy D.tells start place (D.reading desk.new) self.new fates fault) }
         ensures two { ReadsTwo self.old.before.feed.slot self.old.after.feed.slot (D.reading desk.old) (D.reading desk.new) }
         ensures same { OnOk result ((D.reading desk.new).side ≡ (D.reading desk.old).side) }
         ensures cause { IfErr result (IsFaultOf (D.reading desk.old).side (D.reading desk.new).side) }

@@ -4,12 +4,12 @@ use Rattle.ioam_run_audit.proofs.comparison.cut_off.Goals as goal
 
 pub close-requires-clause-few : goal.close-requires-clause-few
 close-requires-clause-few g c =
-    let (start, place, halted) = c.requires.halted in
-    halted_sums g.D.Desk.tells start place (g.D.Desk.writing c.args.desk.now) c.args.counts c.args.outputs.now halted
+    let (start, place, halted) = c.requires.cut in
+    halted_sums g.D.Desk.tells start place (g.D.Desk.reading c.args.desk.now) (g.D.Desk.writing c.args.desk.now) c.args.pair.now c.args.outputs.now halted
 
 pub returns-in-Ok-clause-cuts : goal.returns-in-Ok-clause-cuts
 returns-in-Ok-clause-cuts g c = λ start place halted.
-    inl (refl, cut_written g.D.Desk.tells start place (g.D.Desk.writing c.args.desk.now) c.args.counts c.args.outputs.now halted (g.D.Desk.writing c.close.new.desk) c.in-Ok.ensures.texts)
+    inl (refl, cut_written g.D.Desk.tells start place (g.D.Desk.reading c.args.desk.now) (g.D.Desk.writing c.args.desk.now) c.args.pair.now c.args.outputs.now halted (g.D.Desk.writing c.close.new.desk) c.in-Ok.ensures.texts)
 
 pub returns-in-Ok-clause-kept : goal.returns-in-Ok-clause-kept
 returns-in-Ok-clause-kept g c = λ start place halted. c.in-Ok.ensures.kept start.base (start.report ∷ []) _ halted.told
@@ -18,7 +18,7 @@ pub returns-in-Err-Failed-clause-cuts : goal.returns-in-Err-Failed-clause-cuts
 returns-in-Err-Failed-clause-cuts g c = λ start place halted.
     inr (record {
       why = inl (refl, rw c.in-Err-Failed.field-0-is at c.in-Err-Failed.ensures.cause);
-      parts = cut_parts g.D.Desk.tells start place (g.D.Desk.writing c.args.desk.now) c.args.counts c.args.outputs.now halted (g.D.Desk.writing c.close.new.desk)
+      parts = cut_parts g.D.Desk.tells start place (g.D.Desk.reading c.args.desk.now) (g.D.Desk.writing c.args.desk.now) c.args.pair.now c.args.outputs.now halted (g.D.Desk.writing c.close.new.desk)
           c.in-Err-Failed.ensures.fronts;
     })
 
@@ -29,7 +29,7 @@ pub returns-in-Err-NoMemory-clause-cuts : goal.returns-in-Err-NoMemory-clause-cu
 returns-in-Err-NoMemory-clause-cuts g c = λ start place halted.
     inr (record {
       why = inr refl;
-      parts = cut_parts g.D.Desk.tells start place (g.D.Desk.writing c.args.desk.now) c.args.counts c.args.outputs.now halted (g.D.Desk.writing c.close.new.desk)
+      parts = cut_parts g.D.Desk.tells start place (g.D.Desk.reading c.args.desk.now) (g.D.Desk.writing c.args.desk.now) c.args.pair.now c.args.outputs.now halted (g.D.Desk.writing c.close.new.desk)
           c.in-Err-NoMemory.ensures.fronts;
     })
 

@@ -10,14 +10,16 @@ use Rattle.ioam_run_audit.proofs.comparison.run_open.Goals as goal
 pub cut_off-requires : goal.cut_off-requires
 cut_off-requires g c =
     let judged = rw c.in-Err-Read.field-0-is at c.in-Err-Read.ensures.judged in
-    record { halted = (g.start, place_of c.args.seat.now, judged.2) }
+    record { cut = (g.start, place_of c.args.seat.now, judged.2) }
 
 pub returns-in-Err-Read-clause-finishes : goal.returns-in-Err-Read-clause-finishes
 returns-in-Err-Read-clause-finishes g c =
     let judged = rw c.in-Err-Read.field-0-is at c.in-Err-Read.ensures.judged in
     cut_finishes g.D.Desk.tells g.start (place_of c.args.seat.now) c.args.before.now c.args.after.now c.args.pair.now.before.feed.slot c.args.pair.now.after.feed.slot
     (g.D.Desk.reading c.args.desk.now) (g.D.Desk.reading c.cut_off.new.desk) (g.D.Desk.writing c.args.desk.now) (g.D.Desk.writing c.judge_all.new.desk)
-    (g.D.Desk.writing c.cut_off.new.desk) c.cut_off.result judged.1 (g.D.Desk.reading c.judge_all.new.desk) judged.0 c.cut_off.ensures.inputs
+    (g.D.Desk.writing c.cut_off.new.desk) c.cut_off.result judged.1 (g.D.Desk.reading c.judge_all.new.desk)
+    c.judge_all.new.pair.before.feed.slot c.judge_all.new.pair.after.feed.slot c.in-Err-Read.ensures.slot_before c.in-Err-Read.ensures.slot_after
+    judged.0 c.cut_off.ensures.inputs
     (c.cut_off.ensures.cuts g.start (place_of c.args.seat.now) judged.2)
 
 pub returns-in-Err-Read-clause-moves : goal.returns-in-Err-Read-clause-moves
@@ -32,23 +34,27 @@ returns-in-Err-Read-clause-moves g c =
 
 pub cut_off-requires-in-Err-Failed : goal.cut_off-requires-in-Err-Failed
 cut_off-requires-in-Err-Failed g c = record {
-  halted = (
+  cut = (
     g.start,
     place_of c.args.seat.now,
     closed_halts g.D.Desk.tells g.start (place_of c.args.seat.now) (g.D.Desk.reading c.judge_all.new.desk) (g.D.Desk.writing c.judge_all.new.desk) c.judge_all.new.pair
-        c.judge_all.new.outputs c.in-Ok.how c.in-Ok.ensures.judged (g.D.Desk.writing c.rest.new.desk) c.in-Err-Failed.ensures.outputs c.rest.new.self.counts c.in-Err-Failed.ensures.counts,
+        c.judge_all.new.outputs c.in-Ok.how c.in-Ok.ensures.judged (g.D.Desk.writing c.rest.new.desk) c.in-Err-Failed.ensures.outputs
+        (g.D.Desk.reading c.rest.new.desk) c.rest.new.self c.in-Err-Failed.ensures.counts,
   );
 }
 
 pub returns-in-Err-Failed-clause-finishes : goal.returns-in-Err-Failed-clause-finishes
 returns-in-Err-Failed-clause-finishes g c =
     let halted = closed_halts g.D.Desk.tells g.start (place_of c.args.seat.now) (g.D.Desk.reading c.judge_all.new.desk) (g.D.Desk.writing c.judge_all.new.desk) c.judge_all.new.pair
-    c.judge_all.new.outputs c.in-Ok.how c.in-Ok.ensures.judged (g.D.Desk.writing c.rest.new.desk) c.in-Err-Failed.ensures.outputs c.rest.new.self.counts c.in-Err-Failed.ensures.counts in
+    c.judge_all.new.outputs c.in-Ok.how c.in-Ok.ensures.judged (g.D.Desk.writing c.rest.new.desk) c.in-Err-Failed.ensures.outputs
+    (g.D.Desk.reading c.rest.new.desk) c.rest.new.self c.in-Err-Failed.ensures.counts in
     let rose = rw c.in-Err-Failed.field-0-is at c.in-Err-Failed.ensures.cause in
     cut_finishes g.D.Desk.tells g.start (place_of c.args.seat.now) c.args.before.now c.args.after.now c.args.pair.now.before.feed.slot c.args.pair.now.after.feed.slot
     (g.D.Desk.reading c.args.desk.now) (g.D.Desk.reading c.cut_off-in-Err-Failed.new.desk) (g.D.Desk.writing c.args.desk.now) (g.D.Desk.writing c.rest.new.desk)
     (g.D.Desk.writing c.cut_off-in-Err-Failed.new.desk) c.cut_off-in-Err-Failed.result
     (ap (λ (w : Writing). w.side) c.in-Err-Failed.ensures.outputs ∙ c.in-Ok.ensures.same_out) (g.D.Desk.reading c.rest.new.desk)
+    c.rest.new.self.before.feed.slot c.rest.new.self.after.feed.slot (c.in-Err-Failed.ensures.slot_before ∙ c.in-Ok.ensures.slot_before)
+    (c.in-Err-Failed.ensures.slot_after ∙ c.in-Ok.ensures.slot_after)
     (subst (λ (s : desk.Side). Rose s.faults (g.D.Desk.reading c.rest.new.desk).side.faults) c.in-Ok.ensures.same_in rose) c.cut_off-in-Err-Failed.ensures.inputs
     (c.cut_off-in-Err-Failed.ensures.cuts g.start (place_of c.args.seat.now) halted)
 
@@ -57,7 +63,8 @@ returns-in-Err-Failed-clause-moves g c =
     let first = c.args.pair.now.before.feed.slot in
     let second = c.args.pair.now.after.feed.slot in
     let halted = closed_halts g.D.Desk.tells g.start (place_of c.args.seat.now) (g.D.Desk.reading c.judge_all.new.desk) (g.D.Desk.writing c.judge_all.new.desk) c.judge_all.new.pair
-    c.judge_all.new.outputs c.in-Ok.how c.in-Ok.ensures.judged (g.D.Desk.writing c.rest.new.desk) c.in-Err-Failed.ensures.outputs c.rest.new.self.counts c.in-Err-Failed.ensures.counts in
+    c.judge_all.new.outputs c.in-Ok.how c.in-Ok.ensures.judged (g.D.Desk.writing c.rest.new.desk) c.in-Err-Failed.ensures.outputs
+    (g.D.Desk.reading c.rest.new.desk) c.rest.new.self c.in-Err-Failed.ensures.counts in
     let read = moves_rest first second g.start.base (g.D.Desk.reading c.args.desk.now) (g.D.Desk.reading c.judge_all.new.desk) (g.D.Desk.reading c.rest.new.desk)
     (g.D.Desk.writing c.args.desk.now) (g.D.Desk.writing c.judge_all.new.desk) (g.D.Desk.writing c.rest.new.desk) c.in-Ok.ensures.moves
     c.judge_all.new.pair.before.feed.slot c.judge_all.new.pair.after.feed.slot c.in-Ok.ensures.slot_before c.in-Ok.ensures.slot_after c.in-Err-Failed.ensures.two c.in-Err-Failed.ensures.outputs in

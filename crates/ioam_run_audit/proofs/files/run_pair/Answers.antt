@@ -1,10 +1,29 @@
-use Rattle.std.proofs.Common.{◌≡◌, ℕ, List, length, IsTrue, ◌∙◌, ap, subst}
+use Rattle.std.proofs.Common.{◌≡◌, ℕ, List, length, IsTrue, ◌∙◌, ap, subst, sym, rules}
 use Rattle.ioam_desk.specs.Asked.{AsksFront}
 use Rattle.ioam_desk.specs.Desk.{opened_each}
 use Rattle.ioam_desk_outputs.specs.Held.{HoldFronts}
+use Rattle.ioam_desk_outputs.specs.Told.{GathersNothing}
+use Rattle.ioam_desk_outputs.specs.declared.output.Output.{Output}
+use Rattle.ioam_desk_outputs.proofs.ToldLaws.{Nothing-few}
 use Rattle.ioam_run_audit.specs.Pairs.{place_of}
-use Rattle.ioam_run_audit.proofs.FilesLaws.{runs_failed, runs_none, runs_opened}
+use Rattle.ioam_run_audit.proofs.FilesLaws.{opened_runs, runs_failed, runs_none, runs_opened}
 use Rattle.ioam_run_audit.proofs.files.run_pair.Goals as goal
+
+-- nothing was said to REPORT yet, and nothing waits
+pub run_open-requires : goal.run_open-requires
+run_open-requires g c κs within = (
+  search rules,
+  (
+    opened_runs g.D.Desk.tells g.start (place_of c.args.seat.now) (g.D.Desk.reading c.args.desk.now) (g.D.Desk.reading c.open_outputs.new.desk)
+        (g.D.Desk.writing c.open_outputs.new.desk) (g.D.Desk.writing c.args.desk.now).side.slots _ c.args.report.now c.args.pair.now
+        c.in-Ok.outputs.items c.deref_mut.result.now c.in-Ok.ensures.inputs c.requires.1.1.0 c.requires.1.1.1.0 c.from_ref.ensures.value
+        c.deref_mut.ensures.value c.requires.1.0 c.in-Ok.ensures.opened,
+    (
+      c.requires.1.1.1.1,
+      Nothing-few c.deref_mut.result.now (subst (λ (o : List Output). GathersNothing o) (sym c.deref_mut.ensures.value) c.in-Ok.ensures.nothing),
+    ),
+  ),
+)
 
 pub returns-in-Ok : goal.returns-in-Ok
 returns-in-Ok g c = record {

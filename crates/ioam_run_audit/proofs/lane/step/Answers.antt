@@ -1,5 +1,6 @@
 use Rattle.std.proofs.Common.{refl, arith}
 use Rattle.ioam_capture.specs.Reader.{taken_of}
+use Rattle.ioam_run_stream.proofs.StepLaws.{stands_still}
 use Rattle.ioam_run_audit.proofs.lane.step.Goals as goal
 
 pub returns-then-taken-ge-MOST_PACKETS-clause-stepped : goal.returns-then-taken-ge-MOST_PACKETS-clause-stepped
@@ -23,3 +24,13 @@ pub returns-in-Bad-clause-stepped : goal.returns-in-Bad-clause-stepped
 returns-in-Bad-clause-stepped c =
     let told = rw c.in-Bad.is at c.next.follows.holds-at-none in
     (refl, λ octets taken stands more. (told.3 octets taken stands).1.0 more)
+
+pub returns-in-More-clause-stepped : goal.returns-in-More-clause-stepped
+returns-in-More-clause-stepped c =
+    let told = rw c.in-More.is at c.next.follows.holds-at-none in (
+      refl,
+      told.0.0,
+      told.0.1,
+      told.2,
+      λ octets taken stands. let here = told.3 octets taken stands in (stands_still c.next.follows.lender-at-none octets taken here.0, here.1),
+    )

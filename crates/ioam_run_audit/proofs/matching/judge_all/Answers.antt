@@ -6,10 +6,11 @@ use Rattle.ioam_run_audit.proofs.matching.judge_all.Goals as goal
 pub packets-init : goal.packets-init
 packets-init g c = record {
   running = c.requires.1.0;
-  room = c.requires.1.1;
+  room = c.requires.1.1.0;
   moves = moves_same c.args.pair.now.before.feed.slot c.args.pair.now.after.feed.slot g.start.base (g.D.Desk.reading c.args.desk.now) _ (g.D.Desk.writing c.args.desk.now) _ refl refl;
   side_in = refl;
   side_out = refl;
+  waiting = c.requires.1.1.1;
   slot_before = refl;
   slot_after = refl;
 }
@@ -33,6 +34,7 @@ packets-preserved g c =
           (g.D.Desk.writing c.packets.desk) (g.D.Desk.writing c.judge_next.new.desk) c.packets.invariant.slot_before c.packets.invariant.slot_after c.in-Ok-None.ensures.moves);
       side_in = c.in-Ok-None.ensures.same_in ∙ c.packets.invariant.side_in;
       side_out = c.in-Ok-None.ensures.same_out ∙ c.packets.invariant.side_out;
+      waiting = c.in-Ok-None.ensures.waiting;
       slot_before = c.in-Ok-None.ensures.slot_before ∙ c.packets.invariant.slot_before;
       slot_after = c.in-Ok-None.ensures.slot_after ∙ c.packets.invariant.slot_after;
     }
@@ -43,7 +45,7 @@ returns-in-Ok-Some-clause-judged g c = rw c.in-Ok-Some.field-0-is at c.in-Ok-Som
 pub returns-in-Err-clause-judged : goal.returns-in-Err-clause-judged
 returns-in-Err-clause-judged g c =
     stops_on g.D.Desk.tells g.start (place_of c.args.seat.now) (g.D.Desk.reading c.args.desk.now) (g.D.Desk.reading c.packets.desk) (g.D.Desk.reading c.judge_next.new.desk)
-    (g.D.Desk.writing c.args.desk.now) (g.D.Desk.writing c.packets.desk) (g.D.Desk.writing c.judge_next.new.desk) c.judge_next.new.pair.counts c.judge_next.new.outputs
+    (g.D.Desk.writing c.args.desk.now) (g.D.Desk.writing c.packets.desk) (g.D.Desk.writing c.judge_next.new.desk) c.judge_next.new.pair c.judge_next.new.outputs
     c.packets.invariant.side_in c.packets.invariant.side_out c.in-Err.stop c.in-Err.ensures.judged
 
 pub returns-in-Ok-Some-clause-moves : goal.returns-in-Ok-Some-clause-moves

@@ -1,4 +1,5 @@
 use Rattle.std.proofs.Common.{◌≡◌, ◌-◌, length}
+use Rattle.ioam_desk_outputs.specs.Told.{GathersFew}
 use Rattle.ioam_run_audit.specs.Pairs.{place_of}
 use Rattle.ioam_run_audit.specs.Runs.{Moves, Running}
 use Rattle.ioam_run_audit.proofs.matching.judge_all.Given as goal
@@ -12,6 +13,7 @@ invariant-packets g l = record {
       (g.D.Desk.reading l.initial.desk) (g.D.Desk.reading l.desk) (g.D.Desk.writing l.initial.desk) (g.D.Desk.writing l.desk);
   side_in : (g.D.Desk.reading l.desk).side ≡ (g.D.Desk.reading l.initial.desk).side;
   side_out : (g.D.Desk.writing l.desk).side ≡ (g.D.Desk.writing l.initial.desk).side;
+  waiting : GathersFew l.outputs;
   slot_before : l.pair.before.feed.slot ≡ l.initial.pair.before.feed.slot;
   slot_after : l.pair.after.feed.slot ≡ l.initial.pair.after.feed.slot;
 }

@@ -26,8 +26,11 @@ pub returns-in-Err-Failed-clause-judged : goal.returns-in-Err-Failed-clause-judg
 returns-in-Err-Failed-clause-judged g c = (
   rw c.in-Err-Failed.field-0-is at c.in-Err-Failed.ensures.cause,
   ap (λ (w : Writing). w.side) c.in-Err-Failed.ensures.outputs,
-  running_halts g.D.Desk.tells g.start (place_of c.args.seat.now) (g.D.Desk.reading c.args.desk.now) (g.D.Desk.writing c.args.desk.now) (g.D.Desk.writing c.next.new.desk)
-      c.args.pair.now c.next.new.self.counts c.args.outputs.now c.in-Err-Failed.ensures.outputs c.in-Err-Failed.ensures.counts c.requires.1.0,
+  running_halts g.D.Desk.tells g.start (place_of c.args.seat.now) (g.D.Desk.reading c.args.desk.now) (g.D.Desk.reading c.next.new.desk)
+      (g.D.Desk.writing c.args.desk.now) (g.D.Desk.writing c.next.new.desk) c.args.pair.now c.next.new.self c.args.outputs.now
+      c.in-Err-Failed.ensures.outputs c.in-Err-Failed.ensures.counts c.requires.1.0
+      (let failed = rw c.in-Err-Failed.field-0-is at c.in-Err-Failed.ensures.failed in
+      failed g.start (place_of c.args.seat.now) c.requires.1.0.fates c.requires.1.0.pairs),
 )
 
 pub returns-in-Err-NoMemory-clause-judged : goal.returns-in-Err-NoMemory-clause-judged

@@ -1,6 +1,7 @@
 use Rattle.std.proofs.Common.{ℕ, List, length, length-append, refl, ap, ◌∙◌, arith}
 use Rattle.ioam_capture.specs.Reading.{pending}
 use Rattle.ioam_pcap.specs.Ending.{ending_of}
+use Rattle.ioam_run_audit.proofs.FailsLaws.{lane_fails}
 use Rattle.ioam_run_audit.proofs.LaneLaws.{alone_same, alone_fed, at_fed, at_room, at_still, over_end, step_comes}
 use Rattle.ioam_run_audit.proofs.lane.Lane.next.Goals as goal
 
@@ -35,7 +36,7 @@ refill-requires-clause-fits g c =
       c.pieces.invariant.room,
       at_room g.D.Desk.tells content (g.D.Desk.reading c.pieces.desk) c.pieces.self.feed.slot c.step.new.reader c.step.new.taken taken
           (at_still g.D.Desk.tells content (g.D.Desk.reading c.pieces.desk) c.pieces.self.feed.slot c.pieces.self.feed.reader c.step.new.reader
-          c.pieces.self.taken c.step.new.taken taken stepped.0 stepped.3 stepped.4 (c.pieces.invariant.still content taken at)) stepped.2,
+          c.pieces.self.taken c.step.new.taken taken stepped.0 stepped.3 (λ octets taken stands. (stepped.4 octets taken stands).0) (c.pieces.invariant.still content taken at)) stepped.2,
     )
 
 pub pieces-smaller : goal.pieces-smaller
@@ -47,7 +48,7 @@ pieces-smaller g c =
       arith,
       at_room g.D.Desk.tells content (g.D.Desk.reading c.pieces.desk) c.pieces.self.feed.slot c.step.new.reader c.step.new.taken taken
           (at_still g.D.Desk.tells content (g.D.Desk.reading c.pieces.desk) c.pieces.self.feed.slot c.pieces.self.feed.reader c.step.new.reader
-          c.pieces.self.taken c.step.new.taken taken stepped.0 stepped.3 stepped.4 (c.pieces.invariant.still content taken at)) stepped.2,
+          c.pieces.self.taken c.step.new.taken taken stepped.0 stepped.3 (λ octets taken stands. (stepped.4 octets taken stands).0) (c.pieces.invariant.still content taken at)) stepped.2,
       c.in-Ok-None.ensures.fed,
       feeds.some,
       ap (λ (o : List ℕ). length o) feeds.fed.0,
@@ -64,7 +65,7 @@ pieces-preserved g c =
           c.refill.new.self.slot _ c.step.new.reader c.refill.new.self.reader c.step.new.taken taken c.in-Ok-true.ensures.slot feeds
           (omega (arith, c.in-Ok-true.ensures.kept, c.pieces.invariant.room))
           (at_still g.D.Desk.tells content (g.D.Desk.reading c.pieces.desk) c.pieces.self.feed.slot c.pieces.self.feed.reader c.step.new.reader
-          c.pieces.self.taken c.step.new.taken taken stepped.0 stepped.3 stepped.4 (c.pieces.invariant.still content taken at));
+          c.pieces.self.taken c.step.new.taken taken stepped.0 stepped.3 (λ octets taken stands. (stepped.4 octets taken stands).0) (c.pieces.invariant.still content taken at));
       alone = alone_fed g.D.Desk.tells (g.D.Desk.reading c.args.desk.now) (g.D.Desk.reading c.pieces.desk) (g.D.Desk.reading c.refill.new.desk)
           c.args.self.now.feed.slot c.pieces.self.feed.slot _ c.step.new.reader c.refill.new.self.reader c.pieces.invariant.slot c.pieces.invariant.alone feeds;
       side = feeds.gives.side ∙ c.pieces.invariant.side;
@@ -81,4 +82,11 @@ returns-in-Ok-false-clause-next g c = λ content taken at.
     c.step.new.reader c.refill.new.self.reader c.step.new.taken taken c.end_of.result (ending_of c.finish.result) c.in-Ok-false.ensures.slot finds
     c.finish.ensures.reads c.end_of.ensures
     (at_still g.D.Desk.tells content (g.D.Desk.reading c.pieces.desk) c.pieces.self.feed.slot c.pieces.self.feed.reader c.step.new.reader
-    c.pieces.self.taken c.step.new.taken taken stepped.0 stepped.3 stepped.4 (c.pieces.invariant.still content taken at))
+    c.pieces.self.taken c.step.new.taken taken stepped.0 stepped.3 (λ octets taken stands. (stepped.4 octets taken stands).0) (c.pieces.invariant.still content taken at))
+
+pub returns-in-Err-refill-clause-failed : goal.returns-in-Err-refill-clause-failed
+returns-in-Err-refill-clause-failed g c =
+    let stepped = rw c.in-Ok-None.field-0-is at c.in-Ok-None.ensures.stepped in
+    lane_fails g.D.Desk.tells (g.D.Desk.reading c.args.desk.now) (g.D.Desk.reading c.pieces.desk) (g.D.Desk.reading c.refill.new.desk) c.args.self.now
+    c.pieces.self.feed.slot (length c.pieces.piece) c.pieces.self.feed.reader c.step.new.reader c.refill.new.self.reader c.pieces.self.taken c.in-Err-refill.fault
+    c.pieces.invariant.slot c.in-Err-refill.ensures.read stepped.4 c.pieces.invariant.still

@@ -1,3 +1,4 @@
+use Rattle.ioam_run_audit.proofs.FailsLaws.{after_fails}
 use Rattle.ioam_run_audit.proofs.PairLaws.{after_asked, shown_held, shown_over, shown_unfit}
 use Rattle.ioam_run_audit.proofs.pair.Pair.show_after.Goals as goal
 
@@ -32,3 +33,8 @@ returns-in-Ok-Over-clause-pairs g c = λ start place fates pairs.
     let comes = rw c.in-Ok-Over.field-0-is at c.in-Ok-Over.ensures.next in
     shown_over g.D.Desk.tells start place old new c.args.self.now fates c.next.new.self alone same pairs c.in-Asked.is c.in-Ok-Over.end
     (comes start.after pairs.ys (after_asked g.D.Desk.tells start place old new c.args.self.now fates c.next.new.self alone same pairs c.in-Asked.is).0)
+
+pub returns-in-Err-clause-failed : goal.returns-in-Err-clause-failed
+returns-in-Err-clause-failed g c = λ start place fates pairs.
+    after_fails g.D.Desk.tells start place (g.D.Desk.reading c.args.desk.now) (g.D.Desk.reading c.next.new.desk) c.args.self.now fates c.next.new.self pairs
+    c.in-Err.ensures.alone c.in-Err.ensures.slot c.in-Asked.is c.in-Err.fault c.in-Err.ensures.failed
