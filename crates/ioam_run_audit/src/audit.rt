@@ -10,14 +10,13 @@ ghost use Rattle.ioam_run_audit.specs.Pairs.{place_of};
 ghost use Rattle.ioam_run_audit.specs.Promise.{Keeps, Owes, audit_files};
 ghost use Rattle.ioam_run_files.specs.Reads.{IsDomainRead};
 
-use crate::domain_file::read_domain_file;
 use crate::files::run_files;
 use crate::names::{AuditFiles, audit_files, link_to};
 use crate::seat::Seat;
 use ioam_desk::Desk;
 use ioam_desk_outputs::first_repeat;
 use ioam_run_answer::{Outcome, names_outcome};
-use ioam_run_files::{Refusal, refused};
+use ioam_run_files::{Refusal, read_domain_file, refused};
 use ioam_topo::Domain;
 use std::alloc::Global;
 

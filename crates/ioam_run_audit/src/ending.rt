@@ -8,13 +8,14 @@ ghost use Rattle.ioam_run_answer.specs.declared.outcome.Outcome.{Outcome};
 ghost use Rattle.ioam_run_audit.specs.Runs.{answer_of, behind_of, left_of};
 
 use crate::counts::Counts;
-use crate::lane::{End, MOST_PACKETS};
+use crate::lane::End;
 use crate::lines::{put_sums, put_verdict};
 use ioam_base::memory::NoMemory;
 use ioam_base::name::Name;
 use ioam_desk::{Desk, DeskFault};
 use ioam_desk_outputs::{Output, finish};
 use ioam_run_answer::{Outcome, capture_outcome};
+use ioam_run_stream::MOST_PACKETS;
 use std::alloc::Global;
 
 /// The answer where BEFORE, of a name, ends so, and AFTER, of another, so: what is wrong with BEFORE comes before what is wrong

@@ -1,5 +1,5 @@
 //! The files of the command but for DOMAIN: BEFORE, AFTER, and REPORT behind them.
-ghost use Rattle.std.specs.Prelude.{◌≡◌, [], IfOk, length};
+ghost use Rattle.std.specs.Prelude.{◌≡◌, [], length};
 ghost use Rattle.ioam_run_audit.specs.Ends.{RunsFiles, RunsPair};
 ghost use Rattle.ioam_run_audit.specs.Pairs.{Pairs, Start, place_of};
 
@@ -7,22 +7,12 @@ use crate::comparison::run_open;
 use crate::opening::open_pair;
 use crate::pair::Pair;
 use crate::seat::Seat;
-use ioam_base::memory::NoMemory;
 use ioam_base::name::Name;
-use ioam_desk::{Desk, DeskFault, PIECE};
+use ioam_desk::{Desk, DeskFault, PIECE, new_piece};
 use ioam_desk_outputs::open_outputs;
 use ioam_run_answer::Outcome;
 use std::alloc::Global;
 use std::slice;
-
-// Room for what one read of a file hands out.
-fn new_piece(alloc: Global) -> Result<Vec<u8>, NoMemory>
-    ensures { IfOk result (λ piece. length piece.items ≡ PIECE) }
-{
-    let mut piece = Vec::with_capacity(alloc, PIECE)?;
-    piece.resize(PIECE, 0)?;
-    Ok(piece)
-}
 
 // Opens REPORT, and compares the two captures that were opened.
 fn run_pair<D: Desk>(

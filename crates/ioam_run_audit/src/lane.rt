@@ -14,9 +14,7 @@ use ioam_capture_merge::Feed;
 use ioam_desk::{Desk, DeskFault, PIECE};
 use ioam_node::Reason;
 use ioam_pcap::CapFault;
-
-/// The most records that are taken of a capture.
-pub(crate) const MOST_PACKETS: u32 = 16_777_216;
+use ioam_run_stream::MOST_PACKETS;
 
 /// Why no record is taken of a capture any more.
 #[derive(Clone, Copy)]

@@ -8,7 +8,6 @@
 mod audit;
 mod comparison;
 mod counts;
-mod domain_file;
 mod ending;
 mod fate;
 mod files;

@@ -1,5 +1,5 @@
 //! The two files that a run is set by.
-ghost use Rattle.std.specs.Prelude.{◌≡◌, ◌+◌, ◌∷◌, [], IsTrue, Err, IfOk, IfErr, OnOk, MatchResult};
+ghost use Rattle.std.specs.Prelude.{◌≡◌, ◌+◌, ◌≤◌, ◌∷◌, [], IsTrue, Err, IfOk, IfErr, OnOk, MatchResult};
 ghost use Rattle.ioam_clock.specs.Reading.{node_names};
 ghost use Rattle.ioam_desk.specs.Asked.{AsksFront};
 ghost use Rattle.ioam_desk.specs.Desk.{SameBut, holds, opened_side, opened_each};
@@ -50,18 +50,25 @@ fn read_file<D: Desk>(
         (λ octets. ReadsWhole D.tells (D.reading desk.old) (D.reading desk.new) (holds (D.writing desk.old) name.now) name.now limit octets.items)
         (FailsWhole D.tells (D.reading desk.old) (D.reading desk.new) (holds (D.writing desk.old) name.now) name.now limit) }
     ensures asked { AsksFront (D.reading desk.old).side.asked (D.reading desk.new).side.asked (name.now ∷ []) }
+    ensures few { (D.reading desk.new).side.slots ≤ (D.reading desk.old).side.slots + 1 }
     ensures kept { KeepsInputs (D.reading desk.old) (D.reading desk.new) }
     ensures outputs { D.writing desk.new ≡ D.writing desk.old }
 {
     read_whole(alloc, desk, name.text(), limit)
 }
 
-// Reads the domain file.
-fn read_domain_file<D: Desk>(alloc: Global, desk: &mut D, name: &Name) -> Result<Domain, Refusal>
+/// Reads the domain file alone: at most 1 MiB. A file that holds more is refused as one with a fault (`long_file`), and one that
+/// can't be opened or read as a fault of reading; nothing else is opened.
+pub fn read_domain_file<D: Desk>(
+    alloc: Global,
+    desk: &mut D,
+    name: &Name,
+) -> Result<Domain, Refusal>
     ensures read { IsDomainRead D.tells (D.reading desk.old) (D.reading desk.new) (holds (D.writing desk.old) name.now) result }
     ensures side { OnOk result ((D.reading desk.new).side ≡ opened_side (D.reading desk.old).side name.now) }
     ensures ended { OnOk result (IsTrue D.tells → IsTrue ((D.reading desk.new).ended (D.reading desk.old).side.slots)) }
     ensures asked { AsksFront (D.reading desk.old).side.asked (D.reading desk.new).side.asked (name.now ∷ []) }
+    ensures few { (D.reading desk.new).side.slots ≤ (D.reading desk.old).side.slots + 1 }
     ensures kept { KeepsInputs (D.reading desk.old) (D.reading desk.new) }
     ensures outputs { D.writing desk.new ≡ D.writing desk.old }
 {

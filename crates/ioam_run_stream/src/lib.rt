@@ -16,3 +16,4 @@ pub use files::CaptureFiles;
 pub use frame::framed;
 pub use gather::Gather;
 pub use over_capture::{run_capture, run_over_capture};
+pub use step::MOST_PACKETS;

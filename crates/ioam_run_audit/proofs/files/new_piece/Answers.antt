@@ -1,5 +1,0 @@
-use Rattle.std.proofs.Common.{arith}
-use Rattle.ioam_run_audit.proofs.files.new_piece.Goals as goal
-
-pub returns : goal.returns
-returns c = omega (arith, c.in_ok-resize.ensures.len, c.resize.new.self.ok.0)
