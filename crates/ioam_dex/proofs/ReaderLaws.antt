@@ -1,6 +1,6 @@
 -- What a reader stands for after a piece or a step.
 use Rattle.std.proofs.Common.{◌≡◌, ℕ, ◌+◌, ◌-◌, ◌≤◌, List, [], ◌∷◌, ◌++◌, length, take, drop, arith, sym, ap, ◌∙◌, subst, length-append}
-use Rattle.std.proofs.lemmas.List.{append-nil}
+use Rattle.std.proofs.lemmas.List.{append-nil, take_at}
 use Rattle.ioam_base.specs.Fed.{Kept, passed, with_piece}
 use Rattle.ioam_base.proofs.FedLaws.{last_taken, passed_held}
 use Rattle.ioam_dex.specs.declared.export.ExportFault.{ExportFault}
@@ -111,4 +111,25 @@ module _ (held new : Kept) (head : RecordHead) (old : Reading) (view : ◌≡◌
         subst P (sym says) told.2,
         told.3 ∙ ap (λ x. record_octets x ++ drop head.size old.pending) (sym says) ∙ ap (λ o. record_octets (said head element) ++ o) rest,
         ap (λ k. k.start) taken ∙ ap (λ r. r.start + head.size) view ∙ ap (λ n. old.start + n) size,
+      )
+
+  -- the octets that were taken off are the record's
+  pub octets_off : drop (length new.given - head.size) new.given ≡ record_octets (said head (element_of old.pending))
+  octets_off =
+      let x = said head (element_of old.pending) in
+      let none : head.size - head.size ≡ 0 = omega arith in
+      ap (λ k. drop (length k.given - head.size) k.given) taken
+      ∙ last_taken held head.size head.size fits (omega arith)
+      ∙ ap (λ n. take head.size (drop n held.pending)) none
+      ∙ ap (λ r. take head.size r.pending) view
+      ∙ ap (take head.size) told.3
+      ∙ take_at (record_octets x) (drop head.size old.pending) head.size (sym told.1)
+
+  pub whole_off : (old.pending ≡ record_octets (said head (element_of old.pending)) ++ new.pending)
+      × (new.start ≡ old.start + length (record_octets (said head (element_of old.pending))))
+  whole_off =
+      let x = said head (element_of old.pending) in
+      let rest : drop head.size old.pending ≡ new.pending = sym (ap (λ k. k.pending) taken ∙ ap (λ r. drop head.size r.pending) view) in (
+        told.3 ∙ ap (λ o. record_octets x ++ o) rest,
+        ap (λ k. k.start) taken ∙ ap (λ r. r.start + head.size) view ∙ ap (λ n. old.start + n) told.1,
       )

@@ -6,4 +6,5 @@ pub mod Reading
 pub mod Reads
 pub mod Record
 pub mod Room
+pub mod Showing
 pub mod Visit

@@ -20,7 +20,7 @@ pub use exporting::{export_of, put_export};
 pub use layout::{MOST_ELEMENT, MOST_RECORD, element_in};
 pub use numbers::u32_where;
 pub use putting::put;
-pub use reader::{ExportReader, Step};
+pub use reader::{ExportReader, Shown, Step};
 pub use reading::read;
 pub use room::ExportRoom;
 pub use step::is_filled;

@@ -21,6 +21,17 @@ pub enum Step<'a> {
     Bad { at: u64, fault: ExportFault },
 }
 
+/// What a reader shows next of its input, where a record is shown by its octets.
+#[derive(Clone, Copy, Debug)]
+pub enum Shown<'a> {
+    /// These octets are a record.
+    Record(&'a [u8]),
+    /// More octets are needed, or the input's end.
+    More,
+    /// At this place of the input begins a record that is faulty.
+    Bad { at: u64, fault: ExportFault },
+}
+
 /// Reads export records out of any pieces of them.
 ///
 /// It keeps the octets that were fed and not yet taken, and those that it gave until it is fed again: no
@@ -44,6 +55,7 @@ impl ExportReader {
     ghost use Rattle.ioam_dex.specs.Record.{Record};
     ghost use Rattle.ioam_dex.specs.Reads.{Reads, ReadsOnly};
     ghost use Rattle.ioam_dex.specs.Reader.{Stands, Waits, KeepsFault, RestsSo, fresh, fed, held, ending_of};
+    ghost use Rattle.ioam_dex.specs.Showing.{ShowsSo};
 
     /// A reader that was fed nothing.
     pub fn new(alloc: Global) -> Result<ExportReader, NoMemory>
@@ -91,6 +103,23 @@ impl ExportReader {
             }
             RecordStep::Cut => Step::More,
             RecordStep::Bad(fault) => Step::Bad {
+                at: self.octets.start(),
+                fault,
+            },
+        }
+    }
+
+    /// The octets of the next record of the input. After `Bad` every call answers the same.
+    pub fn show(&mut self) -> Shown<'_>
+        ensures* { sem 𝓛 (ShowsSo self.entry result) }
+    {
+        match record_step(self.octets.pending()) {
+            RecordStep::Whole(head) => {
+                self.octets.take(head.size);
+                Shown::Record(self.octets.taken(head.size))
+            }
+            RecordStep::Cut => Shown::More,
+            RecordStep::Bad(fault) => Shown::Bad {
                 at: self.octets.start(),
                 fault,
             },

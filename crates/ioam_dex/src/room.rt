@@ -61,8 +61,8 @@ impl ExportRoom {
         self.octets.clear();
     }
 
-    // Appends octets, for which there is room.
-    pub(crate) fn append(&mut self, part: &[u8])
+    /// Appends octets, for which there is room.
+    pub fn append(&mut self, part: &[u8])
         requires { length part.now ≤ self.old.spare }
         ensures { self.new ≡ appended self.old part.now }
     {
