@@ -9,13 +9,14 @@ use Rattle.ioam_base.proofs.OctetsLaws.{u32_at-fits}
 use Rattle.ioam_base.proofs.WordsLaws.{octet-at, two-at, three-at, two_octets-front, two_octets-same, three_octets-same, four_octets_if-same}
 use Rattle.ioam_data.specs.Elements.{IsFilled}
 use Rattle.ioam_dex.specs.Numbers.{has_flow, has_seq, four_where, u32_where}
-use Rattle.ioam_dex.specs.Visit.{version_of, visit_octets, twelve_where, visit_where}
-use Rattle.ioam_dex.specs.Record.{Record, IsRecord, IsNumbered}
+use Rattle.ioam_dex.specs.Visit.{has_visit, version_of, visit_octets, twelve_where, visit_where}
+use Rattle.ioam_dex.specs.Record.{Record, IsRecord, IsNumbered, Rec, record_size, record_octets}
+use Rattle.ioam_dex.proofs.RecordLaws.{record_octets-length, record_size-small}
 use Rattle.ioam_dex.proofs.NumbersLaws.{four_where-at, u32_where-is_some}
 use Rattle.ioam_dex.proofs.VisitLaws.{visit_where-at, visit_where-below, visit_octets-same}
 use Rattle.ioam_base.specs.Chain.{Stops, IsFunctional}
 use Rattle.ioam_ipfix.specs.Templates.{IsTemplate, tells_flow, tells_seq, tells_visit}
-use Rattle.ioam_ipfix.specs.Data.{weight, template_of, front_octets, head_octets, tail_octets, data_octets, Spelled, front_of, prefix_at, size_at, data_size, element_at, data_with, data_at, HasRoom}
+use Rattle.ioam_ipfix.specs.Data.{weight, template_at, template_of, front_octets, data_octets, moved, back, Spelled, front_of, prefix_at, size_at, data_size, element_at, data_with, data_at, HasRoom}
 use Rattle.ioam_ipfix.specs.Sets.{IsPadding, RecordPasses}
 use Rattle.ioam_ipfix.specs.Steps.{IsElementPlace}
 
@@ -101,13 +102,70 @@ front-length id x shape = omega (
   flow-length x.seq (tells_seq id) shape.seq,
 )
 
-built : (o n k v a b e : List ℕ) (flags ext size : ℕ)
-    → ((o ++ (n ++ (flags ∷ ext ∷ (k ++ v)))) ++ (a ++ (b ++ (size ∷ [])))) ++ e ≡ o ++ ((n ++ (flags ∷ ext ∷ (k ++ (v ++ (a ++ b))))) ++ (size ∷ e))
-built o n k v a b e flags ext size = simp append_assoc
+visit-told : (visit : Option (ℕ × ℕ)) → has_visit (version_of visit) ≡ is_some visit
+visit-told None = refl
+visit-told (Some v) = refl
 
--- a record is written in three parts
-pub data_built : (out : List ℕ) (x : Record) → ((out ++ head_octets x) ++ tail_octets x) ++ x.element ≡ out ++ data_octets x
-data_built out x = built out (two_octets x.namespace) (three_octets x.kind) (visit_octets x.visit) (four_octets_if x.flow) (four_octets_if x.seq) x.element x.flags x.ext (length x.element)
+-- the template of a record by its octets
+pub template-by : (octets : List ℕ) (x : Record) → Rec octets x → template_at octets ≡ template_of x
+template-by octets x whole =
+    let ext : get_or octets 1 0 ≡ x.ext = ap (λ o. get_or o 1 0) whole.is in
+    let version : get_or octets 0 0 ≡ version_of x.visit = ap (λ o. get_or o 0 0) whole.is in
+    let flow : has_flow (get_or octets 1 0) ≡ is_some x.flow = ap has_flow ext ∙ sym whole.sayable.parts.flow in
+    let seq : has_seq (get_or octets 1 0) ≡ is_some x.seq = ap has_seq ext ∙ sym whole.sayable.parts.seq in
+    let visit : has_visit (get_or octets 0 0) ≡ is_some x.visit = ap has_visit version ∙ visit-told x.visit in
+    λ i. form (flow i) (seq i) (visit i)
+
+-- the fields of an export record are appended in four parts
+pub moved_built : (out octets : List ℕ) (front : ℕ)
+    → (((out ++ (get_or octets 4 0 ∷ get_or octets 5 0 ∷ get_or octets 6 0 ∷ get_or octets 1 0 ∷ [])) ++ take (front - 7) (drop 7 octets))
+    ++ ((length octets - front) ∷ [])) ++ drop front octets ≡ out ++ moved front octets
+moved_built out octets front =
+    let a = get_or octets 4 0 ∷ get_or octets 5 0 ∷ get_or octets 6 0 ∷ get_or octets 1 0 ∷ [] in
+    let m = take (front - 7) (drop 7 octets) in
+    let s = (length octets - front) ∷ [] in
+    append_assoc ((out ++ a) ++ m) s (drop front octets) ∙ append_assoc (out ++ a) m (s ++ drop front octets) ∙ append_assoc out a (m ++ (s ++ drop front octets))
+
+-- octets of which the element stands behind seven and some others
+moved-plain : (a b c d e f g : ℕ) (m element : List ℕ)
+    → moved (7 + length m) (a ∷ b ∷ c ∷ d ∷ e ∷ f ∷ g ∷ (m ++ element)) ≡ e ∷ f ∷ g ∷ b ∷ (m ++ (length element ∷ element))
+moved-plain a b c d e f g m element =
+    let octets : List ℕ = a ∷ b ∷ c ∷ d ∷ e ∷ f ∷ g ∷ (m ++ element) in
+    let seven : length m ≡ 7 + length m - 7 = omega arith in
+    let middle : take (7 + length m - 7) (m ++ element) ≡ m = take_at m element (7 + length m - 7) seven in
+    let size : length octets - (7 + length m) ≡ length element = omega (arith, length-append m element) in
+    let last : drop (7 + length m) octets ≡ element = sym (drop-drop (length m) 7 octets) ∙ drop_at m element (length m) refl in
+    ap (λ o. e ∷ f ∷ g ∷ b ∷ (o ++ ((length octets - (7 + length m)) ∷ drop (7 + length m) octets))) middle
+    ∙ ap (λ n. e ∷ f ∷ g ∷ b ∷ (m ++ (n ∷ drop (7 + length m) octets))) size
+    ∙ ap (λ o. e ∷ f ∷ g ∷ b ∷ (m ++ (length element ∷ o))) last
+
+-- what stands between an export record's flags and its element
+abbrev middle_octets : Record → List ℕ
+middle_octets x = three_octets x.kind ++ (visit_octets x.visit ++ (four_octets_if x.flow ++ four_octets_if x.seq))
+
+middle-front : (k v a b e : List ℕ) → k ++ (v ++ (a ++ (b ++ e))) ≡ (k ++ (v ++ (a ++ b))) ++ e
+middle-front k v a b e = simp append_assoc
+
+-- an export record so moved is a data record
+pub moved-is : (x : Record) (front : ℕ) → front + length x.element ≡ length (record_octets x) → moved front (record_octets x) ≡ data_octets x
+moved-is x front at =
+    let m = middle_octets x in
+    let e = x.element in
+    let split : three_octets x.kind ++ (visit_octets x.visit ++ (four_octets_if x.flow ++ (four_octets_if x.seq ++ e))) ≡ m ++ e =
+    middle-front (three_octets x.kind) (visit_octets x.visit) (four_octets_if x.flow) (four_octets_if x.seq) e in
+    let whole : record_octets x ≡ version_of x.visit ∷ x.ext ∷ (two_octets (record_size x) ++ (two_octets x.namespace ++ (x.flags ∷ (m ++ e)))) =
+    ap (λ o. version_of x.visit ∷ x.ext ∷ (two_octets (record_size x) ++ (two_octets x.namespace ++ (x.flags ∷ o)))) split in
+    let here : front ≡ 7 + length m = omega (arith, at, ap length whole, length-append m e) in
+    ap (λ n. moved n (record_octets x)) here
+    ∙ ap (moved (7 + length m)) whole
+    ∙ moved-plain (version_of x.visit) x.ext (get_or (two_octets (record_size x)) 0 0) (get_or (two_octets (record_size x)) 1 0) (get_or (two_octets x.namespace) 0 0)
+    (get_or (two_octets x.namespace) 1 0) x.flags m e
+    ∙ ap (λ o. two_octets x.namespace ++ (x.flags ∷ x.ext ∷ o)) (sym (middle-front (three_octets x.kind) (visit_octets x.visit) (four_octets_if x.flow) (four_octets_if x.seq) (length e ∷ e)))
+    ∙ data-front x
+  where
+    data-front : (x : Record) → two_octets x.namespace ++ (x.flags ∷ x.ext ∷ (three_octets x.kind ++ (visit_octets x.visit ++ (four_octets_if x.flow ++ (four_octets_if x.seq ++ (length x.element ∷ x.element))))))
+        ≡ data_octets x
+    data-front x = sym (front-octets x (length x.element ∷ x.element))
 
 -- a record by its fields
 record-by : (x y : Record) → x.namespace ≡ y.namespace → x.flags ≡ y.flags → x.ext ≡ y.ext → x.kind ≡ y.kind → x.visit ≡ y.visit → x.flow ≡ y.flow
@@ -395,3 +453,67 @@ prefix-least false = omega arith
 -- a data record has 8 octets and more
 pub data_size-least : (id : ℕ) (octets : List ℕ) → 8 ≤ data_size id octets
 data_size-least id octets = let least = prefix-least (nat_lt (get_or (drop (front_of id) octets) 0 0) 255) in omega (arith, least)
+
+-- ---- a data record as an export record
+
+version-by : (b : Bool) (octets : List ℕ) → 1 + weight b 1 ≡ version_of (visit_where b octets 7)
+version-by true octets = refl
+version-by false octets = refl
+
+back-plain : (a b f e : ℕ) (m rest octets : List ℕ) (front : ℕ) → octets ≡ a ∷ b ∷ f ∷ e ∷ (m ++ rest) → front ≡ 4 + length m
+    → take (front - 4) (drop 4 octets) ≡ m
+back-plain a b f e m rest octets front is at =
+    let four : length m ≡ front - 4 = omega (arith, at) in
+    ap (λ o. take (front - 4) (drop 4 o)) is ∙ take_at m rest (front - 4) four
+
+module _ (id : ℕ) (octets : List ℕ) (small : IsOctets octets) (from to : ℕ) (place : IsElementPlace id octets from to) (sayable : IsRecord (data_at id octets)) where
+  abbrev x : Record
+  x = data_at id octets
+
+  abbrev rest : List ℕ
+  rest = drop (front_of id) octets
+
+  abbrev m : List ℕ
+  m = middle_octets x
+
+  cells : octets ≡ two_octets x.namespace ++ (x.flags ∷ x.ext ∷ (m ++ rest))
+  cells =
+      let room = place.0 in
+      front-at id octets small (element_at rest) (omega (arith, room)) ∙ front-octets x rest
+      ∙ ap (λ o. two_octets x.namespace ++ (x.flags ∷ x.ext ∷ o)) (middle-front (three_octets x.kind) (visit_octets x.visit) (four_octets_if x.flow) (four_octets_if x.seq) rest)
+
+  count : front_of id ≡ 4 + length m
+  count = let front = front-length id x (shaped-at id octets small (element_at rest)) in omega (arith, front)
+
+  middle : take (front_of id - 4) (drop 4 octets) ≡ m
+  middle = back-plain (get_or (two_octets x.namespace) 0 0) (get_or (two_octets x.namespace) 1 0) x.flags x.ext m rest octets (front_of id) cells count
+
+  last : take (to - from) (drop from octets) ≡ x.element
+  last = element-slice id octets from to place
+
+  whole : record_octets x ≡ version_of x.visit ∷ x.ext ∷ (two_octets (record_size x) ++ (two_octets x.namespace ++ (x.flags ∷ (m ++ x.element))))
+  whole = ap (λ o. version_of x.visit ∷ x.ext ∷ (two_octets (record_size x) ++ (two_octets x.namespace ++ (x.flags ∷ o))))
+      (middle-front (three_octets x.kind) (visit_octets x.visit) (four_octets_if x.flow) (four_octets_if x.seq) x.element)
+
+  -- the octets of that record
+  pub back-size : front_of id + 3 + (to - from) ≡ record_size x
+  back-size =
+      let room = place.0 in
+      let start = place.1 in
+      let end = place.2 in
+      let left = length-drop from octets in
+      let wide : length (take (to - from) (drop from octets)) ≡ to - from = length-take-le (to - from) (drop from octets) (omega (arith, left, room, end)) in
+      let element = ap length last in
+      let size = ap length whole in
+      let parts = length-append m x.element in
+      let front = count in
+      omega (arith, record_octets-length x sayable.parts, size, parts, front, wide, element)
+
+  -- its parts in the order of an export record are that record
+  pub back-is : back id octets from to ≡ record_octets x
+  back-is =
+      let size = back-size in
+      let zeroth : get_or octets 0 0 ≡ get_or (two_octets x.namespace) 0 0 = ap (λ o. get_or o 0 0) cells in
+      let first : get_or octets 1 0 ≡ get_or (two_octets x.namespace) 1 0 = ap (λ o. get_or o 1 0) cells in
+      (λ i. version-by (tells_visit id) octets i ∷ x.ext ∷ (two_octets (size i) ++ (zeroth i ∷ first i ∷ x.flags ∷ (middle i ++ last i))))
+      ∙ sym whole

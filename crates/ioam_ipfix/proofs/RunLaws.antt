@@ -1,7 +1,6 @@
 -- Records that are handed to the writer one behind the other, and the data records that it puts of them.
 use Rattle.std.proofs.Common.{◌≡◌, ℕ, zero, suc, ◌+◌, ◌-◌, ◌*◌, ◌%◌, ◌<◌, ◌≤◌, List, [], ◌∷◌, ◌++◌, length, take, drop, refl, sym, ap, ◌∙◌, arith, rules, append_assoc, length-append, length-drop}
-use Rattle.std.specs.Prelude.{flat_map, replicate, Option, Some, None, IsSome, IsSomeAnd}
-use Rattle.ioam_dex.specs.declared.export.Export as dex
+use Rattle.std.specs.Prelude.{flat_map, replicate}
 use Rattle.std.specs.List.{AllByRecursion}
 use Rattle.std.proofs.lemmas.List.{append-nil, take_all, take_at, drop_at, drop-drop, drop_all, flat_map_more}
 use Rattle.ioam_base.specs.Octets.{u16_at, written}
@@ -17,13 +16,10 @@ use Rattle.ioam_ipfix.specs.Written.{message_octets, IsRun, AreRecords, BeginsRe
 
 -- ---- one record
 
--- a data record has two octets fewer than the record
-pub data-less : (x : Record) → length (data_octets x) + 2 ≡ length (record_octets x)
-data-less x = omega (
+-- seven octets and others stand in front of its element
+pub front-small : (x : Record) → 7 + length x.element ≤ length (record_octets x)
+front-small x = omega (
   arith,
-  length-append (front_octets x) (length x.element ∷ x.element),
-  length-append (visit_octets x.visit) (four_octets_if x.flow ++ four_octets_if x.seq),
-  length-append (four_octets_if x.flow) (four_octets_if x.seq),
   length-append (visit_octets x.visit) (four_octets_if x.flow ++ (four_octets_if x.seq ++ x.element)),
   length-append (four_octets_if x.flow) (four_octets_if x.seq ++ x.element),
   length-append (four_octets_if x.seq) x.element,
@@ -102,11 +98,6 @@ heads-written front content start count id size at is =
     let four : size - 16 ≡ length content + 4 = omega (arith, is) in
     written-at front (replicate 20 0) (two_octets 10 ++ (two_octets size ++ (four_octets 0 ++ (four_octets count ++ (four_octets 0 ++ (two_octets id ++ two_octets (size - 16))))))) content start at refl
     ∙ (λ i. front ++ (two_octets 10 ++ (two_octets (is i) ++ (four_octets 0 ++ (four_octets count ++ (four_octets 0 ++ (two_octets id ++ (two_octets (four i) ++ content))))))))
-
--- what is there is some
-pub is-some : (found : Option dex.Export) (P : dex.Export → Type 0) → IsSomeAnd found P → IsSome found
-is-some None P is = absurd is
-is-some (Some e) P is = search rules
 
 -- ---- a run, and the eight templates
 

@@ -7,13 +7,10 @@ use Rattle.ioam_ipfix.specs.declared.fault.IpfixFault.{IpfixFault}
 use Rattle.ioam_ipfix.specs.declared.reader.IpfixStep.{IpfixStep}
 use Rattle.ioam_ipfix.specs.declared.reader.IpfixStep.TheVariants.{Export, More, Bad}
 use Rattle.ioam_ipfix.specs.Reading.{Reading, place_of, fed}
-use Rattle.ioam_ipfix.specs.Reader.{Stands, Waits, IsFaulty, Keeps, StaysFaulty, Rested, Told, SaysFault, SaysDue}
+use Rattle.ioam_ipfix.specs.Reader.{Stands, Waits, IsFaulty, Keeps, StaysFaulty, Rested, Told, SaysFault, SaysDue, Tells}
+use Rattle.ioam_ipfix.specs.Showing.{Gives}
 use Rattle.ioam_ipfix.proofs.MessageLaws.{cut-not-faulty, fault-unique}
 use Rattle.ioam_ipfix.proofs.ReaderLaws.{Stands-gives, says-more, says-bad}
-
-abbrev Tells : Reading → Reading → IpfixStep → Type 0
-Tells old new step = Rested new step × (fed new ≡ fed old) × ((octets : List ℕ) (given : List Record) → Stands old octets given → Told octets given new step)
-    × SaysFault old new step × SaysDue old new step
 
 module _ (old mid : Reading) (keeps : Keeps old mid) (same : fed mid ≡ fed old) (faulty : StaysFaulty old mid) (still : 0 < length old.due → mid ≡ old) where
   -- what is due of the old is due of the new
@@ -74,3 +71,19 @@ module _ (old mid : Reading) (keeps : Keeps old mid) (same : fed mid ≡ fed old
             ((λ i. first i ∷ []), (λ i. record (one i) { due = rest i }))),
       ) in
       subst (λ r. Tells old r (Export e)) (sym is) made
+
+  pub gives-record : (x : Record) (xs : List Record) (new : Reading) → mid.due ≡ x ∷ xs → ◌≡◌ {A = Reading} new (record mid { due = xs }) → Gives old new x
+  gives-record x xs new due is =
+      let after : Reading = record mid { due = xs } in
+      let made : Gives old after x = record {
+        fed = same;
+        stands = λ octets given stands. Stands-gives mid x xs due octets given (keeps octets given stands);
+        due = λ y ys had.
+            let both : x ∷ xs ≡ y ∷ ys = sym due ∙ due-stays y ys had in
+            let first : x ≡ y = cc in
+            let rest : xs ≡ ys = ap (drop 1) both in
+            let some : 0 < length old.due = (let size = ap length had in omega (arith, size)) in
+            let one : mid ≡ old = still some in
+            (first, (λ i. record (one i) { due = rest i }));
+      } in
+      subst (λ r. Gives old r x) (sym is) made

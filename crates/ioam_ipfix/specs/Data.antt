@@ -1,9 +1,9 @@
 -- Data records (RFC 7011 section 3.4.3): the values of a template's fields, one behind the other.
-use Rattle.std.specs.Prelude.{ℕ, ◌+◌, ◌≡◌, ◌<◌, ◌≤◌, ◌⊎◌, Bool, nat_lt, if◌then◌else◌, List, [], ◌∷◌, ◌++◌, length, take, drop, slice_index, is_some}
+use Rattle.std.specs.Prelude.{ℕ, ◌+◌, ◌-◌, ◌≡◌, ◌<◌, ◌≤◌, ◌⊎◌, Bool, nat_lt, if◌then◌else◌, List, [], ◌∷◌, ◌++◌, length, take, drop, slice_index, is_some}
 use Rattle.ioam_base.specs.Octets.{u16_at, u24_at}
 use Rattle.ioam_base.specs.Words.{two_octets, three_octets, four_octets_if}
-use Rattle.ioam_dex.specs.Numbers.{four_where, u32_where}
-use Rattle.ioam_dex.specs.Visit.{visit_octets, twelve_where, visit_where}
+use Rattle.ioam_dex.specs.Numbers.{has_flow, has_seq, four_where, u32_where}
+use Rattle.ioam_dex.specs.Visit.{has_visit, visit_octets, twelve_where, visit_where}
 use Rattle.ioam_dex.specs.Record.{Record, IsRecord}
 use Rattle.ioam_ipfix.specs.Templates.{tells_flow, tells_seq, tells_visit}
 
@@ -20,14 +20,6 @@ abbrev pub front_octets : Record → List ℕ
 front_octets x = two_octets x.namespace ++ (x.flags ∷ x.ext ∷ (three_octets x.kind ++ (visit_octets x.visit ++ (four_octets_if x.flow
     ++ four_octets_if x.seq))))
 
--- the same in two parts, with the element's length in one octet behind
-abbrev pub head_octets : Record → List ℕ
-head_octets x = two_octets x.namespace ++ (x.flags ∷ x.ext ∷ (three_octets x.kind ++ visit_octets x.visit))
-
--- the second part: the Flow ID and the Sequence Number where they are there, and the element's length in one octet
-abbrev pub tail_octets : Record → List ℕ
-tail_octets x = four_octets_if x.flow ++ (four_octets_if x.seq ++ (length x.element ∷ []))
-
 -- the length of a variable field (RFC 7011 section 7): one octet below 255, or 255 and two octets
 abbrev pub Spelled : ℕ → List ℕ → Type 0
 Spelled size octets = ((size < 255) × (octets ≡ size ∷ [])) ⊎ ((size < 65536) × (octets ≡ 255 ∷ two_octets size))
@@ -43,6 +35,16 @@ pub record IsData (id : ℕ) (x : Record) (octets : List ℕ) : Type 0 where
 -- as it is written
 abbrev pub data_octets : Record → List ℕ
 data_octets x = front_octets x ++ (length x.element ∷ x.element)
+
+-- the template of a record by its octets
+abbrev pub template_at : List ℕ → ℕ
+template_at octets = 256 + weight (has_flow (slice_index octets 1)) 4 + weight (has_seq (slice_index octets 1)) 2
+    + weight (has_visit (slice_index octets 0)) 1
+
+-- the fields of an export record with its element from a place on, in this order
+abbrev pub moved : ℕ → List ℕ → List ℕ
+moved front octets = slice_index octets 4 ∷ slice_index octets 5 ∷ slice_index octets 6 ∷ slice_index octets 1
+    ∷ (take (front - 7) (drop 7 octets) ++ ((length octets - front) ∷ drop front octets))
 
 -- ---- the same by places, in octets from where a data record is due
 
@@ -88,3 +90,8 @@ data_at id octets = data_with id octets (element_at (drop (front_of id) octets))
 -- it is there whole
 abbrev pub HasRoom : ℕ → List ℕ → Type 0
 HasRoom id octets = data_size id octets ≤ length octets
+
+-- the parts of a data record in the order of an export record, its element from a place to another
+abbrev pub back : ℕ → List ℕ → ℕ → ℕ → List ℕ
+back id octets from to = (1 + weight (tells_visit id) 1) ∷ slice_index octets 3 ∷ (two_octets (front_of id + 3 + (to - from))
+    ++ (slice_index octets 0 ∷ slice_index octets 1 ∷ slice_index octets 2 ∷ (take (front_of id - 4) (drop 4 octets) ++ take (to - from) (drop from octets))))

@@ -6,6 +6,7 @@ pub mod Reader
 pub mod Reading
 pub mod Reads
 pub mod Sets
+pub mod Showing
 pub mod Steps
 pub mod Templates
 pub mod Written

@@ -120,11 +120,14 @@ SaysFault old new step = (fault : IpfixFault) → IsFaulty old fault → (step �
 abbrev pub SaysDue : Reading → Reading → IpfixStep → Type 0
 SaysDue old new step = (x : Record) (xs : List Record) → old.due ≡ x ∷ xs → (shown step ≡ x ∷ []) × (new ≡ record old { due = xs })
 
+-- what a step tells
+abbrev pub Tells : Reading → Reading → IpfixStep → Type 0
+Tells old new step = Rested new step × (fed new ≡ fed old) × ((octets : List ℕ) (given : List Record) → Stands old octets given → Told octets given new step)
+    × SaysFault old new step × SaysDue old new step
+
 -- so the reader is once the step's octets are no longer lent
 abbrev pub RestsSo : MutBor Reading → IpfixStep → Fml
-RestsSo reader step = Rests the_row reader (λ new. Rested new step × (fed new ≡ fed reader.now)
-    × ((octets : List ℕ) (given : List Record) → Stands reader.now octets given → Told octets given new step)
-    × SaysFault reader.now new step × SaysDue reader.now new step)
+RestsSo reader step = Rests the_row reader (λ new. Tells reader.now new step)
 
 -- the ending of an input that was fed whole, by what `finish` answers
 abbrev pub ending_of : Option (ℕ × IpfixFault) → Ending

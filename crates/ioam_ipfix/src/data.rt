@@ -1,19 +1,32 @@
 //! Data records (RFC 7011 section 3.4.3), both ways.
 
 ghost use Rattle.std.specs.Prelude.{◌≡◌, ℕ, ◌+◌, ◌-◌, ◌≤◌, ◌<◌, ◌↔◌, IsTrue, List, ◌++◌, length, take, drop, slice_index, EachIndex, MatchOption, vec_len, vec_capacity};
-ghost use Rattle.ioam_base.specs.Words.{four_octets_if};
 ghost use Rattle.ioam_dex.specs.Numbers.{has_flow, has_seq};
-ghost use Rattle.ioam_dex.specs.Record.{IsRecord, record_of};
-ghost use Rattle.ioam_ipfix.specs.Data.{template_of, head_octets, tail_octets, data_octets, front_of, prefix_at, size_at, data_size, element_at, data_with, data_at, HasRoom};
+ghost use Rattle.ioam_dex.specs.Record.{IsRecord, Rec, Record, record_octets, record_of};
+ghost use Rattle.ioam_ipfix.specs.Data.{template_at, template_of, moved, back, front_of, prefix_at, size_at, data_size, element_at, data_with, data_at, HasRoom};
+ghost use Rattle.ioam_dex.specs.Room.{appended};
 ghost use Rattle.ioam_ipfix.specs.Sets.{IsPadding};
 ghost use Rattle.ioam_ipfix.specs.Steps.{TellsData, IsVariable, IsElementPlace, Agrees};
 ghost use Rattle.ioam_ipfix.specs.Templates.{IsTemplate};
 
 use crate::template::{tells_flow, tells_seq, tells_visit, weight};
-use ioam_base::buffer::Buffer;
 use ioam_base::octets::u16_at;
 use ioam_data::{Namespace, TraceType};
-use ioam_dex::{Export, MOST_ELEMENT, is_filled, u32_where, visit_octets, visit_where};
+use ioam_dex::{Export, ExportRoom, MOST_ELEMENT, is_filled, u32_where, visit_where};
+
+// Where an export record has its version, its extension flags, its namespace, its flags and its type, behind which stand visit,
+// flow, sequence number and element; and the version of one with a visit.
+const VERSION: usize = 0;
+
+const EXTENSIONS: usize = 1;
+
+const NAMESPACE: usize = 4;
+
+const FLAGS: usize = 6;
+
+const TRACE_TYPE: usize = 7;
+
+const VISITED: u8 = 2;
 
 /// What octets where a data record is due show.
 #[derive(Clone, Copy)]
@@ -26,39 +39,24 @@ pub(crate) enum DataStep {
 
 // ---- writing
 
-/// The template of a record.
-pub(crate) fn template_of(export: &Export<'_>) -> u16
-    ensures { result ≡ template_of (record_of export.now) }
+// The template of an export record, by its version and its extension flags.
+#[tactic(auto, unfolding(ioam_dex::specs::Numbers::has_flow, ioam_dex::specs::Numbers::has_seq))]
+fn template_at(octets: &[u8]) -> u16
+    requires { 2 ≤ length octets.now }
+    ensures { result ≡ template_at octets.now }
 {
-    256 + weight(export.flow.is_some(), 4)
-        + weight(export.seq.is_some(), 2)
-        + weight(export.visit.is_some(), 1)
+    let ext = octets[EXTENSIONS];
+    256 + weight(ext / 128 % 2 == 1, 4)
+        + weight(ext / 64 % 2 == 1, 2)
+        + weight(octets[VERSION] == VISITED, 1)
 }
 
-// The namespace, the flags, the type and the visit.
-fn head(export: &Export<'_>) -> Buffer
-    ensures value { result ≡ head_octets (record_of export.now) }
-    ensures size { length result ≤ 19 }
+/// The template of the octets of an export record.
+pub fn template_of(octets: &[u8]) -> u16
+    requires { (x : Record) × Rec octets.now x }
+    ensures { (x : Record) → Rec octets.now x → result ≡ template_of x }
 {
-    let mut head = Buffer::new();
-    head.two(export.namespace.0);
-    head.append(&[export.flags, export.ext]);
-    head.three(export.kind);
-    head.append(visit_octets(export.visit).octets());
-    head
-}
-
-// The flow, the sequence number and the length of the element.
-fn tail(export: &Export<'_>) -> Buffer
-    requires { length export.now.element.now ≤ 244 }
-    ensures value { result ≡ tail_octets (record_of export.now) }
-    ensures size { length result ≤ 9 }
-{
-    let mut tail = Buffer::new();
-    tail.four_if(export.flow);
-    tail.four_if(export.seq);
-    tail.append(&[export.element.len() as u8]);
-    tail
+    template_at(octets)
 }
 
 // Appends octets for which there is room.
@@ -72,18 +70,26 @@ pub(crate) fn put(part: &[u8], out: &mut Vec<u8>)
     out.extend_from_slice(part).unwrap();
 }
 
-/// Appends a data record, for which there is room.
-#[tactic(auto, using(crate::proofs::DataLaws::data_built))]
-pub(crate) fn put_data(export: &Export<'_>, out: &mut Vec<u8>)
-    requires short { length export.now.element.now ≤ 244 }
-    requires room { vec_len out.old + length (data_octets (record_of export.now)) ≤ vec_capacity out.old }
-    ensures items { out.new.items ≡ out.old.items ++ data_octets (record_of export.now) }
-    ensures len { vec_len out.new ≡ vec_len out.old + length (data_octets (record_of export.now)) }
+/// Appends the fields of an export record in the order of a data record, its element from a place on, for which there is room.
+#[tactic(auto, using(crate::proofs::DataLaws::moved_built))]
+pub(crate) fn put_moved(octets: &[u8], front: usize, out: &mut Vec<u8>)
+    requires inside { (7 ≤ front) × (front ≤ length octets.now) }
+    requires short { length octets.now < front + 256 }
+    requires room { vec_len out.old + length octets.now ≤ vec_capacity out.old }
+    ensures items { out.new.items ≡ out.old.items ++ moved front octets.now }
+    ensures len { vec_len out.new + 2 ≡ vec_len out.old + length octets.now }
     ensures capacity { vec_capacity out.old ≤ vec_capacity out.new }
 {
-    put(head(export).octets(), out);
-    put(tail(export).octets(), out);
-    put(export.element, out);
+    let first = [
+        octets[NAMESPACE],
+        octets[NAMESPACE + 1],
+        octets[FLAGS],
+        octets[EXTENSIONS],
+    ];
+    put(&first, out);
+    put(&octets[TRACE_TYPE..front], out);
+    put(&[(octets.len() - front) as u8], out);
+    put(&octets[front..], out);
 }
 
 // ---- reading
@@ -212,4 +218,38 @@ pub(crate) fn read_data(id: u16, octets: &[u8]) -> Export<'_>
     // the room is there, so an element is found
     let (from, to) = element_place(id, octets).unwrap();
     with_element(id, octets, &octets[from..to])
+}
+
+// Appends the parts of a data record in the order of an export record, its element from a place to another.
+fn put_back(id: u16, octets: &[u8], from: usize, to: usize, room: &mut ExportRoom)
+    requires place { IsElementPlace id octets.now from to }
+    requires spare { front_of id + 3 + (to - from) ≤ room.old.spare }
+    ensures { room.new ≡ appended room.old (back id octets.now from to) }
+{
+    let front = front_of(id);
+    let size = front + 3 + (to - from);
+    room.append(&[
+        1 + weight(tells_visit(id), 1) as u8,
+        octets[3],
+        (size / 256 % 256) as u8,
+        (size % 256) as u8,
+        octets[0],
+        octets[1],
+        octets[2],
+    ]);
+    room.append(&octets[4..front]);
+    room.append(&octets[from..to]);
+}
+
+/// Appends the export record that a data record of a template says, which stands in front of octets, and takes no memory.
+pub fn put_record(id: u16, octets: &[u8], room: &mut ExportRoom)
+    requires whole { HasRoom id octets.now }
+    requires sayable { IsRecord (data_at id octets.now) }
+    requires spare { 274 ≤ room.old.spare }
+    ensures appended { room.new ≡ appended room.old (record_octets (data_at id octets.now)) }
+    ensures spare { room.new.spare + length (record_octets (data_at id octets.now)) ≡ room.old.spare }
+{
+    // the room is there, so an element is found
+    let (from, to) = element_place(id, octets).unwrap();
+    put_back(id, octets, from, to, room);
 }

@@ -13,7 +13,8 @@ mod set;
 mod template;
 mod writer;
 
+pub use data::{put_record, template_of};
 pub use fault::IpfixFault;
 pub use laws::{reads_one_way, runs_are_one, written_is_read};
-pub use reader::{IpfixReader, IpfixStep};
+pub use reader::{IpfixReader, IpfixShown, IpfixStep};
 pub use writer::{put_message, put_templates};

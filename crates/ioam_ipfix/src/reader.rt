@@ -29,6 +29,17 @@ pub enum IpfixStep<'a> {
     Bad { at: u64, fault: IpfixFault },
 }
 
+/// What a reader shows next of its input, where a record is shown by the octets of its message.
+#[derive(Clone, Copy, Debug)]
+pub enum IpfixShown<'a> {
+    /// These octets begin with a data record of this template, in a message that is without a fault.
+    Record { id: u16, octets: &'a [u8] },
+    /// More octets are needed, or the input's end.
+    More,
+    /// At this place of the input begins a message that is faulty.
+    Bad { at: u64, fault: IpfixFault },
+}
+
 /// Lets go of the octets in front of a place, once they are half a piece and as many as the others. Gives the place that it is
 // then.
 fn let_go(buffer: &mut Vec<u8>, from: usize) -> usize
@@ -105,6 +116,7 @@ impl IpfixReader {
     ghost use Rattle.ioam_dex.specs.Record.{Record};
     ghost use Rattle.ioam_ipfix.specs.Reading.{fresh, fed, held};
     ghost use Rattle.ioam_ipfix.specs.Reader.{Stands, Waits, KeepsFault, Advances, Steps, RestsSo, ReadsSo, ending_of};
+    ghost use Rattle.ioam_ipfix.specs.Showing.{ShowsSo};
 
     /// A reader that was fed nothing.
     pub fn new(alloc: Global) -> Result<IpfixReader, NoMemory>
@@ -221,6 +233,30 @@ impl IpfixReader {
             Found::Taken => IpfixStep::More,
             Found::More => IpfixStep::More,
             Found::Bad(fault) => IpfixStep::Bad {
+                at: self.start,
+                fault,
+            },
+        }
+    }
+
+    /// The octets of the next record of the input. After `Bad` every call answers the same.
+    pub fn show(&mut self) -> IpfixShown<'_>
+        ensures* { sem 𝓛 (ShowsSo self.entry result) }
+    {
+        match self.advance() {
+            Found::Due => {
+                let place = self.places[self.given];
+                self.given += 1;
+                let from = self.from + usize::from(place.from);
+                let to = self.from + usize::from(place.to);
+                IpfixShown::Record {
+                    id: place.id,
+                    octets: &self.buffer[from..to],
+                }
+            }
+            Found::Taken => IpfixShown::More,
+            Found::More => IpfixShown::More,
+            Found::Bad(fault) => IpfixShown::Bad {
                 at: self.start,
                 fault,
             },

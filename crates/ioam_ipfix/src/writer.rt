@@ -2,18 +2,18 @@
 
 ghost use Rattle.std.specs.Prelude.{◌≡◌, ℕ, ◌+◌, ◌-◌, ◌≤◌, ◌<◌, List, ◌++◌, length, replicate, flat_map, OnOk, OnErr, vec_len, vec_capacity};
 ghost use Rattle.std.specs.List.{AllByRecursion};
-ghost use Rattle.ioam_dex.specs.Record.{Record, IsRecord, record_octets};
+ghost use Rattle.ioam_dex.specs.Record.{Record, IsRecord, Rec, record_octets};
 ghost use Rattle.ioam_dex.specs.Reads.{records_octets};
 ghost use Rattle.ioam_ipfix.specs.Data.{template_of, data_octets};
 ghost use Rattle.ioam_ipfix.specs.Templates.{template_octets, all_ids};
 ghost use Rattle.ioam_ipfix.specs.Written.{message_octets, templates_message, IsRun, run_message, BeginsRecord, AreRecords, IsRunText};
 
-use crate::data::{put, put_data, template_of};
+use crate::data::{put, put_moved, template_of};
 use crate::template::template;
 use ioam_base::buffer::Buffer;
 use ioam_base::memory::NoMemory;
 use ioam_base::octets::{put_at, u16_at};
-use ioam_dex::export_of;
+use ioam_dex::element_in;
 
 /// The octets of the heads of a message and of its one set.
 const HEADS: usize = 20;
@@ -80,6 +80,15 @@ pub fn put_templates(out: &mut Vec<u8>) -> Result<(), NoMemory>
     Ok(())
 }
 
+// The octets in front of a record's element.
+fn front_in(octets: &[u8]) -> usize
+    requires { (x : Record) × Rec octets.now x }
+    ensures { (x : Record) → Rec octets.now x → result + length x.element ≡ length octets.now }
+{
+    let kind_and_element = element_in(octets);
+    octets.len() - kind_and_element.1.len()
+}
+
 // Appends the data record of the record in front of octets, for which there is room, and answers how
 // many of them that takes.
 fn put_first(rest: &[u8], out: &mut Vec<u8>) -> usize
@@ -92,8 +101,8 @@ fn put_first(rest: &[u8], out: &mut Vec<u8>) -> usize
     ensures capacity { vec_capacity out.old ≤ vec_capacity out.new }
 {
     let size = usize::from(u16_at(rest, 2));
-    let export = export_of(&rest[..size]).unwrap();
-    put_data(&export, out);
+    let first = &rest[..size];
+    put_moved(first, front_in(first), out);
     size
 }
 
@@ -117,7 +126,7 @@ fn first_template(run: &[u8]) -> u16
     ensures { (x : Record) (behind : List ℕ) → IsRecord x → run.now ≡ record_octets x ++ behind → result ≡ template_of x }
 {
     let size = usize::from(u16_at(run, 2));
-    template_of(&export_of(&run[..size]).unwrap())
+    template_of(&run[..size])
 }
 
 /// Appends the message of a run: 1 to 32 records of one template, one behind the other as
