@@ -4,40 +4,40 @@ use Rattle.std.specs.Prelude.{◌≢◌, All, Contains}
 use Rattle.std.proofs.lemmas.List.{length-map}
 use Rattle.std.proofs.lemmas.List.Elements.{All-map, Contains-append_left, recursion_from_All}
 use Rattle.ioam_base.specs.Octets.{IsFront}
-use Rattle.ioam_clock.specs.declared.sample.Sample.{Sample}
-use Rattle.ioam_collect.specs.Collected.{count_kept}
-use Rattle.ioam_collect.proofs.CountLaws.{count_kept-grows}
+use Rattle.ioam_run_answer.specs.Sample.{Sample}
+use Rattle.ioam_run_collect.specs.Collected.{count_kept}
+use Rattle.ioam_run_collect.proofs.CountLaws.{count_kept-grows}
 use Rattle.ioam_run_collect.specs.Promise as collect
 use Rattle.ioam_run_collect.specs.Promise.{EndsSo, HoldsPart, HoldsReport}
 use Rattle.ioam_desk.specs.Desk.{Reading, Writing, holds}
-use Rattle.ioam_dex.specs.Faults.{IsCut}
-use Rattle.ioam_dex.specs.Reads.{Ending, EndsAt, Faulty, Reads, ReadsOnly, Splits, Whole}
-use Rattle.ioam_dex.specs.Record.{IsRecord, Record}
-use Rattle.ioam_dex.proofs.ReadsLaws.{Splits-feed, cut-no-record}
+use Rattle.ioam_run_answer.specs.Faults.{IsCut}
+use Rattle.ioam_run_answer.specs.Reads.{Ending, EndsAt, Faulty, Reads, ReadsOnly, Splits, Whole}
+use Rattle.ioam_run_answer.specs.Record.{IsRecord, Record}
+use Rattle.ioam_run_answer.proofs.ReadsLaws.{Splits-feed, cut-no-record}
 use Rattle.ioam_run_domain.specs.Promise as run
 use Rattle.ioam_run_domain.specs.Promise.{HoldsFiles, IsReady, RunNames, course_for}
-use Rattle.ioam_topo_file.specs.File.{IsDomainOf}
-use Rattle.ioam_run_texts.specs.Fate.{AreFates, Fate, Frame}
-use Rattle.ioam_run_texts.specs.Texts.{exports_text, report_text}
-use Rattle.ioam_report_groups.specs.GroupsText.{records_text}
-use Rattle.ioam_capture.specs.Merge.{Arrival}
+use Rattle.ioam_run_audit.specs.File.{IsDomainOf}
+use Rattle.ioam_run_bulk.specs.Fate.{AreFates, Fate, Frame}
+use Rattle.ioam_run_bulk.specs.Texts.{exports_text, report_text}
+use Rattle.ioam_run_part.specs.GroupsText.{records_text}
+use Rattle.ioam_run_audit.specs.Merge.{Arrival}
 use Rattle.ioam_run_answer.specs.declared.outcome.Outcome.{Outcome}
 use Rattle.ioam_run_answer.specs.declared.outcome.Outcome.TheVariants as outcome
 use Rattle.ioam_cmd.specs.Measured.{AreCollected, ArePaths, Collects, IsCollected, IsAllMeasured, IsPartCollected, IsPartMeasured, Measures, RunThenCollect, TellsFirst, TellsPart, asked_by}
 use Rattle.ioam_cmd.proofs.PartedLaws.{merged_is}
-use Rattle.ioam_desk_outputs.specs.Held.{HoldFronts, HoldsFront}
-use Rattle.ioam_collect_laws.specs.Exported.{AreFirst, AreFirstOfRun, IsTimely, IsTold, ending_with}
-use Rattle.ioam_collect_laws.specs.Paths.{AreOfRun, exports_of}
-use Rattle.ioam_collect_laws.proofs.ExportLaws.{reads-run}
-use Rattle.ioam_collect_laws.proofs.FacesLaws.{domain_faces}
-use Rattle.ioam_collect_laws.proofs.FrontLaws.{first_among}
-use Rattle.ioam_collect_laws.proofs.ReadLaws.{regrouped}
-use Rattle.ioam_collect_laws.proofs.WholeLaws.{fronts-read, whole_paths}
-use Rattle.ioam_collect_laws.proofs.WithinLaws.{domain_within}
-use Rattle.ioam_collect_stream.specs.Gathering.{AreFew, AreWhole, IsPast, Passes}
-use Rattle.ioam_topo.specs.declared.domain.Domain.{Domain}
-use Rattle.ioam_run_traffic.specs.Traffic as traffic
-use Rattle.ioam_run_traffic.specs.Traffic.{Course, HoldsFronts, frame_of, frames_of}
+use Rattle.ioam_run_audit.specs.Held.{HoldFronts, HoldsFront}
+use Rattle.ioam_run_collect.specs.Exported.{AreFirst, AreFirstOfRun, IsTimely, IsTold, ending_with}
+use Rattle.ioam_run_collect.specs.Paths.{AreOfRun, exports_of}
+use Rattle.ioam_run_collect.proofs.ExportLaws.{reads-run}
+use Rattle.ioam_run_collect.proofs.FacesLaws.{domain_faces}
+use Rattle.ioam_run_collect.proofs.FrontLaws.{first_among}
+use Rattle.ioam_run_collect.proofs.ReadLaws.{regrouped}
+use Rattle.ioam_run_collect.proofs.WholeLaws.{fronts-read, whole_paths}
+use Rattle.ioam_run_collect.proofs.WithinLaws.{domain_within}
+use Rattle.ioam_run_collect.specs.Gathering.{AreFew, AreWhole, IsPast, Passes}
+use Rattle.ioam_run_audit.specs.Domain.{Domain}
+use Rattle.ioam_run_domain.specs.Traffic as traffic
+use Rattle.ioam_run_domain.specs.Traffic.{Course, HoldsFronts, frame_of, frames_of}
 
 -- what is so of a file's octets is so of those that it holds
 of_held : (content : Option (List ℕ)) (octets : List ℕ) (P : List ℕ → Type 0) → content ≡ Some octets → IsSomeAnd content P → P octets

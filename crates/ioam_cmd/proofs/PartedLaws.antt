@@ -1,14 +1,14 @@
 -- Of parts that are merged: in whatever tree, they become the part of all that their leaves have.
 use Rattle.std.proofs.Common.{◌≡◌, ℕ, List, ◌++◌, ap, ◌∙◌, subst}
-use Rattle.ioam_collect.specs.Best.{groups_of}
-use Rattle.ioam_collect.specs.Join.{SameMembers, Tree, Leaf, Join, leaves, merged, pairs_in}
-use Rattle.ioam_collect.specs.Keyed.{keyed}
-use Rattle.ioam_collect.specs.declared.key.Key.{Key}
-use Rattle.ioam_collect.proofs.JoinLaws.{merged_same}
-use Rattle.ioam_dex.specs.Record.{Record}
-use Rattle.ioam_part.specs.Part.{IsPart, PartOf}
-use Rattle.ioam_part.proofs.PartLaws.{part_unique}
-use Rattle.ioam_pool.specs.Entry.{Entry}
+use Rattle.ioam_run_collect.specs.Best.{groups_of}
+use Rattle.ioam_run_collect.specs.Join.{SameMembers, Tree, Leaf, Join, leaves, merged, pairs_in}
+use Rattle.ioam_run_collect.specs.Keyed.{keyed}
+use Rattle.ioam_run_collect.specs.Key.{Key}
+use Rattle.ioam_run_collect.proofs.JoinLaws.{merged_same}
+use Rattle.ioam_run_answer.specs.Record.{Record}
+use Rattle.ioam_run_answer.specs.Part.{IsPart, PartOf}
+use Rattle.ioam_run_answer.proofs.PartLaws.{part_unique}
+use Rattle.ioam_run_answer.specs.Entry.{Entry}
 use Rattle.ioam_cmd.specs.Parted.{AreMerged}
 
 -- the records of a part are those of the groups that it is the part of

@@ -6,7 +6,7 @@ use Rattle.ioam_cmd.specs.declared.command.Command.TheVariants.{Filter, Paths, S
 use Rattle.ioam_desk.specs.Desk.{Rose, holds}
 use Rattle.ioam_desk.specs.Kept.{KeepsInputs, KeepsOutputs}
 use Rattle.ioam_desk.proofs.KeptLaws.{KeepsInputs-same}
-use Rattle.ioam_pcap.specs.Entries.{Taken}
+use Rattle.ioam_run_answer.specs.Entries.{Taken}
 use Rattle.ioam_run_answer.specs.Desks.{Desks}
 use Rattle.ioam_run_answer.specs.declared.outcome.Outcome.{Outcome}
 use Rattle.ioam_run_answer.specs.declared.outcome.Outcome.TheVariants as outcome
@@ -18,8 +18,8 @@ use Rattle.ioam_run_part.specs.Files.{MergeNames, PartNames, PartsNames}
 use Rattle.ioam_run_part.specs.MergePromise.{MergeCause, MergeKeeps}
 use Rattle.ioam_run_part.specs.PartPromise.{PartCause, PartKeeps}
 use Rattle.ioam_run_part.specs.PartsPromise.{PartsCause, PartsKeeps}
-use Rattle.ioam_run_stream.specs.Promise as capture
-use Rattle.ioam_run_stream.specs.Promise.{CaptureNames}
+use Rattle.ioam_run_audit.specs.RunStreamPromise as capture
+use Rattle.ioam_run_audit.specs.RunStreamPromise.{CaptureNames}
 
 -- what is asked for is answered, where nothing fails
 module _ (opens : Bool) (desks : Desks) (words : List (List ℕ)) (told : IsTrue desks.tells)

@@ -5,7 +5,7 @@ use Rattle.ioam_cmd.specs.Measured.{Measures}
 use Rattle.ioam_cmd.specs.declared.command.Command.{Command}
 use Rattle.ioam_cmd.specs.declared.command.Command.TheVariants.{Filter, Paths, Show, Save, Node, Audit, Run, Bulk, Collect, Ipfix, Records, Part, Merge, Parts}
 use Rattle.ioam_desk.specs.Desk.{holds}
-use Rattle.ioam_desk_outputs.specs.Names.{name_at}
+use Rattle.ioam_run_audit.specs.Names.{name_at}
 use Rattle.ioam_run_answer.specs.Desks.{Desks}
 use Rattle.ioam_run_answer.specs.declared.outcome.Outcome.{Outcome}
 use Rattle.ioam_run_answer.specs.declared.outcome.Outcome.TheVariants as outcome
@@ -24,8 +24,8 @@ use Rattle.ioam_run_part.specs.Files.{merge_names, part_names, parts_names}
 use Rattle.ioam_run_part.specs.MergePromise.{MergeAsked, MergeKeeps}
 use Rattle.ioam_run_part.specs.PartPromise.{PartAsked, PartKeeps}
 use Rattle.ioam_run_part.specs.PartsPromise.{PartsAsked, PartsKeeps}
-use Rattle.ioam_run_stream.specs.Promise as capture
-use Rattle.ioam_run_stream.specs.Promise.{capture_names}
+use Rattle.ioam_run_audit.specs.RunStreamPromise as capture
+use Rattle.ioam_run_audit.specs.RunStreamPromise.{capture_names}
 
 -- of `run` also that what it leaves in EXPORTS is all records of its arrivals, and that of these octets, wherever it reads them
 -- later, `collect` tells the whole path of each packet that was exported of; after WriteFault and NoMemory it is a front of

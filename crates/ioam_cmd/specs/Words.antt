@@ -1,6 +1,6 @@
 -- The forms of a command line.
 use Rattle.std.specs.Prelude.{◌≡◌, ◌≤◌, ◌<◌, ◌^◌, ℕ, List, length, codes, decimal}
-use Rattle.ioam_desk_outputs.specs.Names.{name_at}
+use Rattle.ioam_run_audit.specs.Names.{name_at}
 use Rattle.ioam_cmd.specs.declared.command.Command.{Command}
 use Rattle.ioam_cmd.specs.declared.command.Command.TheVariants.{Filter, Paths, Show, Save, Node, Audit, Run, Bulk, Collect, Ipfix, Records, Part, Merge, Parts}
 

@@ -10,3 +10,6 @@ pub mod Puts
 pub mod Ranked
 pub mod Slots
 pub mod Unite
+-- of the crates below, for the crates above
+pub use Rattle.ioam_pool.specs.Entry
+pub use Rattle.ioam_pool.specs.Order

@@ -4,25 +4,25 @@ use Rattle.std.specs.Prelude.{IsSomeAnd, unwrap_or}
 use Rattle.std.specs.List.{AllByRecursion}
 use Rattle.std.proofs.lemmas.List.Sums.{count_by-le-length, sum_by_push}
 use Rattle.std.proofs.lemmas.Bool.{eq-eqb}
-use Rattle.ioam_clock.specs.declared.sample.Sample.{Sample}
+use Rattle.ioam_run_texts.specs.Sample.{Sample}
 use Rattle.ioam_run_texts.specs.Fate.{Frame, Fate, HasFate, AreFatesFrom}
-use Rattle.ioam_node.specs.declared.answer.Admit.{Admit}
-use Rattle.ioam_node.specs.declared.answer.Admit.TheVariants as admit
-use Rattle.ioam_plan.specs.Counted.{enclosed_in, is_enclosed_in, is_of_flow}
-use Rattle.ioam_plan.specs.Drawn.{direct_number, numbers_of}
-use Rattle.ioam_plan.specs.Journey.{carried_by}
-use Rattle.ioam_plan.specs.Plans.{PlansBy, PlansFlow, flow_trip, start_of, entry_of}
-use Rattle.ioam_plan.specs.declared.itinerary.Itinerary.{Itinerary}
-use Rattle.ioam_plan.specs.declared.itinerary.Visit.{Visit}
-use Rattle.ioam_plan.specs.declared.stage.Inside.{Inside}
-use Rattle.ioam_plan.specs.declared.stage.Stage.TheVariants.{Enter}
+use Rattle.ioam_run_texts.specs.Admit.{Admit}
+use Rattle.ioam_run_texts.specs.Admit.TheVariants as admit
+use Rattle.ioam_run_texts.specs.Counted.{enclosed_in, is_enclosed_in, is_of_flow}
+use Rattle.ioam_run_texts.specs.Drawn.{direct_number, numbers_of}
+use Rattle.ioam_run_texts.specs.Journey.{carried_by}
+use Rattle.ioam_run_texts.specs.Plans.{PlansBy, PlansFlow, flow_trip, start_of, entry_of}
+use Rattle.ioam_run_texts.specs.Itinerary.{Itinerary}
+use Rattle.ioam_run_texts.specs.Visit.{Visit}
+use Rattle.ioam_run_texts.specs.Inside.{Inside}
+use Rattle.ioam_run_texts.specs.Stage.TheVariants.{Enter}
 use Rattle.ioam_topo.specs.Domain.{flows, ports}
 use Rattle.ioam_topo.specs.Sound.{IsFlow}
 use Rattle.ioam_topo.specs.declared.domain.Domain.{Domain}
 use Rattle.ioam_topo.specs.declared.ids.FlowId.{FlowId}
 use Rattle.ioam_topo.specs.declared.parts.Flow.{Flow}
 use Rattle.ioam_topo.specs.declared.parts.Port.{Port}
-use Rattle.ioam_tunnel.specs.declared.numbers.Numbers.{Numbers}
+use Rattle.ioam_run_texts.specs.Numbers.{Numbers}
 use Rattle.ioam_collect_laws.proofs.FewLaws.{few}
 use Rattle.std.proofs.lemmas.List.Elements.{recursion_from_All}
 

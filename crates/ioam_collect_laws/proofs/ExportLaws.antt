@@ -2,8 +2,8 @@
 use Rattle.std.proofs.Common.{◌≡◌, ℕ, zero, suc, ◌-◌, ◌<◌, Bool, true, false, cond, List, [], ◌∷◌, ◌++◌, length, Option, Some, None, slice_get, refl, sym, ap, ap₂, ◌∙◌, subst, arith}
 use Rattle.std.specs.List.{AllByRecursion, flat_map}
 use Rattle.std.proofs.lemmas.List.Elements.{All-from_recursion, recursion_from_All}
-use Rattle.ioam_batch.specs.Along.{along}
-use Rattle.ioam_clock.specs.declared.sample.Sample.{Sample}
+use Rattle.ioam_run_texts.specs.Along.{along}
+use Rattle.ioam_run_texts.specs.Sample.{Sample}
 use Rattle.ioam_data.specs.Kind.{has}
 use Rattle.ioam_data.proofs.ElementLaws.{exported-filled, exported-short}
 use Rattle.ioam_dex.specs.Direct.{IsDirect, HasItsNumbers}
@@ -13,20 +13,20 @@ use Rattle.ioam_dex.specs.declared.direct.Direct.{Direct}
 use Rattle.ioam_dex.proofs.ReadsLaws.{Reads-octets, Reads-unique}
 use Rattle.ioam_run_texts.specs.Fate.{Frame, Fate}
 use Rattle.ioam_run_texts.specs.Texts.{exports_text}
-use Rattle.ioam_node.specs.declared.place.Place.{Place}
-use Rattle.ioam_plan.specs.declared.itinerary.Visit.{Visit}
-use Rattle.ioam_plan.specs.Drawn.{direct_number}
+use Rattle.ioam_run_texts.specs.Place.{Place}
+use Rattle.ioam_run_texts.specs.Visit.{Visit}
+use Rattle.ioam_run_texts.specs.Drawn.{direct_number}
 use Rattle.ioam_topo.specs.Sound.{IsFlow}
 use Rattle.ioam_topo.specs.declared.domain.Domain.{Domain}
 use Rattle.ioam_topo.specs.declared.ids.FlowId.{FlowId}
 use Rattle.ioam_topo.specs.declared.parts.Flow.{Flow}
-use Rattle.ioam_tunnel.specs.Enclosed.{direct_of, direct_parts, tunnel_by}
-use Rattle.ioam_tunnel.specs.Wire.{Tunnel}
-use Rattle.ioam_tunnel.specs.declared.numbers.Numbers.{Numbers}
-use Rattle.ioam_node_visit.specs.Exports.{export_type, record_for}
-use Rattle.ioam_node_visit.specs.Seeing.{view_of}
-use Rattle.ioam_node_visit.specs.Step.{knows}
-use Rattle.ioam_node_visit.proofs.SeeingLaws.{view_of-right}
+use Rattle.ioam_run_texts.specs.Enclosed.{direct_of, direct_parts, tunnel_by}
+use Rattle.ioam_run_texts.specs.Wire.{Tunnel}
+use Rattle.ioam_run_texts.specs.Numbers.{Numbers}
+use Rattle.ioam_run_texts.specs.Exports.{export_type, record_for}
+use Rattle.ioam_run_texts.specs.Seeing.{view_of}
+use Rattle.ioam_run_texts.specs.Step.{knows}
+use Rattle.ioam_run_texts.proofs.SeeingLaws.{view_of-right}
 use Rattle.ioam_collect_laws.specs.Exported.{ExportsAreRead, IsTimely, IsTold, ReadsRun}
 use Rattle.ioam_collect_laws.specs.Paths.{IsWithin, exports_of, path_of, recorded_at, records_by}
 use Rattle.ioam_collect_laws.proofs.RunLaws.{along_none, known_at, numbered, parts_none, within_at}

@@ -3,14 +3,14 @@ use Rattle.std.proofs.Common.{◌≡◌, ◌<◌, ℕ, codes, List, Option, Resu
 use Rattle.std.specs.List.{All}
 use Rattle.toml.specs.Data.{Members, get_member}
 use Rattle.ioam_topo_file.specs.File.{IsDomainOf}
-use Rattle.ioam_topo_entries.proofs.GoodsLaws.{goods_all}
-use Rattle.ioam_topo_entries.proofs.ReadLaws.{needed_bounds}
-use Rattle.ioam_topo_network.specs.LinkTable.{link_delay, link_from, link_in_id, link_mtu, link_name, link_of, link_out_id, link_to}
-use Rattle.ioam_topo_network.specs.Places.{link_entries, node_names, port_entries}
-use Rattle.ioam_topo_network.specs.PortTable.{port_id, port_input, port_name, port_node, port_of, port_output}
-use Rattle.ioam_topo_values.specs.Reads.{◌▷◌, maybe}
-use Rattle.ioam_topo_values.specs.Texts.{file_name}
-use Rattle.ioam_topo_values.specs.declared.why.Why.{Why}
+use Rattle.ioam_topo_file.proofs.GoodsLaws.{goods_all}
+use Rattle.ioam_topo_file.proofs.ReadLaws.{needed_bounds}
+use Rattle.ioam_topo_file.specs.LinkTable.{link_delay, link_from, link_in_id, link_mtu, link_name, link_of, link_out_id, link_to}
+use Rattle.ioam_topo_file.specs.Places.{link_entries, node_names, port_entries}
+use Rattle.ioam_topo_file.specs.PortTable.{port_id, port_input, port_name, port_node, port_of, port_output}
+use Rattle.ioam_topo_file.specs.Reads.{◌▷◌, maybe}
+use Rattle.ioam_topo_file.specs.Texts.{file_name}
+use Rattle.ioam_topo_file.specs.Why.{Why}
 use Rattle.ioam_topo.specs.declared.domain.Domain.{Domain}
 use Rattle.ioam_topo.specs.declared.parts.Link.{Link}
 use Rattle.ioam_topo.specs.declared.parts.Port.{Port}

@@ -2,17 +2,17 @@
 use Rattle.std.proofs.Common.{◌≡◌, ℕ, zero, suc, ◌+◌, ◌-◌, ◌<◌, ◌≤◌, Bool, true, false, cond, List, [], ◌∷◌, length, Option, Some, None, slice_get, refl, sym, ap, subst, arith}
 use Rattle.std.specs.Prelude.{⊤, Ok, Err, nat_eq, nat_le, nat_lt, option_map, unwrap_or}
 use Rattle.std.proofs.lemmas.Bool.{leb-false}
-use Rattle.ioam_node.specs.Choice.{mtu_of, link_by, way_by, choice}
-use Rattle.ioam_node.specs.declared.reason.Reason.TheVariants as reason
-use Rattle.ioam_plan.specs.Journey.{Reaches, across, crossed, sent_in, sent_on, step_at, visit_by}
-use Rattle.ioam_plan.specs.declared.itinerary.Visit.{Visit}
-use Rattle.ioam_plan.specs.declared.stage.Inside.{Inside}
-use Rattle.ioam_plan.specs.declared.stage.JourneySpot.{JourneySpot}
-use Rattle.ioam_plan.specs.declared.stage.Stage.{Stage}
-use Rattle.ioam_plan.specs.declared.stage.Stage.TheVariants.{Enter, At, Gone, Out}
-use Rattle.ioam_plan.specs.declared.stage.JourneyStep.{JourneyStep}
-use Rattle.ioam_plan.specs.declared.stage.JourneyStep.TheVariants.{Goes, Ends}
-use Rattle.ioam_plan.specs.declared.stage.Trip.{Trip}
+use Rattle.ioam_run_texts.specs.Choice.{mtu_of, link_by, way_by, choice}
+use Rattle.ioam_run_texts.specs.Reason.TheVariants as reason
+use Rattle.ioam_run_texts.specs.Journey.{Reaches, across, crossed, sent_in, sent_on, step_at, visit_by}
+use Rattle.ioam_run_texts.specs.Visit.{Visit}
+use Rattle.ioam_run_texts.specs.Inside.{Inside}
+use Rattle.ioam_run_texts.specs.JourneySpot.{JourneySpot}
+use Rattle.ioam_run_texts.specs.Stage.{Stage}
+use Rattle.ioam_run_texts.specs.Stage.TheVariants.{Enter, At, Gone, Out}
+use Rattle.ioam_run_texts.specs.JourneyStep.{JourneyStep}
+use Rattle.ioam_run_texts.specs.JourneyStep.TheVariants.{Goes, Ends}
+use Rattle.ioam_run_texts.specs.Trip.{Trip}
 use Rattle.ioam_topo.specs.Domain.{nodes, links, ports, routes}
 use Rattle.ioam_topo.specs.Forward.{IsWayFrom, bits_of, fits, longest, way_to}
 use Rattle.ioam_topo.specs.declared.domain.Domain.{Domain}

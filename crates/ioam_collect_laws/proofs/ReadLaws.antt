@@ -3,7 +3,7 @@ use Rattle.std.proofs.Common.{◌≡◌, ℕ, ◌<◌, zero, suc, Bool, true, fa
 use Rattle.std.specs.Prelude.{Contains, unwrap_or}
 use Rattle.std.specs.List.{AllByRecursion, flat_map}
 use Rattle.std.proofs.lemmas.Bool.{cases_Bool}
-use Rattle.ioam_clock.specs.declared.sample.Sample.{Sample}
+use Rattle.ioam_run_texts.specs.Sample.{Sample}
 use Rattle.ioam_collect.specs.Best.{best, group, groups_of, keys_in, kept_of, of_key, outdone, pair_cmp}
 use Rattle.ioam_collect.specs.Keyed.{core_of, key_cmp, keyed, keyed_of, with_keyed}
 use Rattle.ioam_collect.specs.declared.key.Key.{Key}

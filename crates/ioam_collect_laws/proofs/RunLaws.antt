@@ -2,24 +2,24 @@
 use Rattle.std.proofs.Common.{◌≡◌, ℕ, ◌-◌, ◌*◌, true, List, [], ◌∷◌, ◌++◌, length, Option, Some, None, slice_get, refl, sym, ap, ap₂, ◌∙◌, subst, arith}
 use Rattle.std.specs.Prelude.{is_some, unwrap_or}
 use Rattle.std.proofs.lemmas.List.Elements.{recursion_from_All}
-use Rattle.ioam_batch.specs.Along.{along}
-use Rattle.ioam_clock.specs.declared.sample.Sample.{Sample}
+use Rattle.ioam_run_texts.specs.Along.{along}
+use Rattle.ioam_run_texts.specs.Sample.{Sample}
 use Rattle.ioam_collect.specs.declared.key.Key.{Key}
 use Rattle.ioam_collect.proofs.Members.{Has}
 use Rattle.ioam_dex.specs.Record.{Record}
 use Rattle.ioam_run_texts.specs.Fate.{Frame, Fate}
 use Rattle.ioam_ip.specs.Laid.{Part}
-use Rattle.ioam_plan.specs.Drawn.{direct_number}
-use Rattle.ioam_plan.specs.declared.itinerary.Visit.{Visit}
+use Rattle.ioam_run_texts.specs.Drawn.{direct_number}
+use Rattle.ioam_run_texts.specs.Visit.{Visit}
 use Rattle.ioam_topo.specs.Domain.{flows}
 use Rattle.ioam_topo.specs.declared.domain.Domain.{Domain}
 use Rattle.ioam_topo.specs.declared.ids.FlowId.{FlowId}
 use Rattle.ioam_topo.specs.declared.parts.Flow.{Flow}
-use Rattle.ioam_tunnel.specs.Enclosed.{direct_parts, tunnel_by}
-use Rattle.ioam_tunnel.specs.Wire.{Tunnel}
-use Rattle.ioam_tunnel.specs.declared.numbers.Numbers.{Numbers}
-use Rattle.ioam_node_visit.specs.Exports.{records_of}
-use Rattle.ioam_node_visit.specs.Visits.{part_records}
+use Rattle.ioam_run_texts.specs.Enclosed.{direct_parts, tunnel_by}
+use Rattle.ioam_run_texts.specs.Wire.{Tunnel}
+use Rattle.ioam_run_texts.specs.Numbers.{Numbers}
+use Rattle.ioam_run_texts.specs.Exports.{records_of}
+use Rattle.ioam_run_texts.specs.Visits.{part_records}
 use Rattle.ioam_collect_laws.specs.Paths.{IsRun, IsWithin, carried_key, flow_key, key_for, key_of, path_of, recorded_at, records_by}
 use Rattle.ioam_collect_laws.proofs.EnclosedLaws.{Encloses, Known, all_get, known, same_place}
 use Rattle.ioam_collect_laws.proofs.TrailLaws.{IsTrail, key_parts, number_is, some_is, trail_of}

@@ -1,18 +1,18 @@
 -- The export records of a run are the octets that it writes.
 use Rattle.std.proofs.Common.{◌≡◌, ℕ, List, [], ◌∷◌, ◌++◌, Option, Some, None, refl, ap, ap₂, ◌∙◌}
-use Rattle.ioam_batch.specs.Along.{along}
-use Rattle.ioam_batch.specs.Ran.{exported_at}
-use Rattle.ioam_clock.specs.declared.sample.Sample.{Sample}
+use Rattle.ioam_run_texts.specs.Along.{along}
+use Rattle.ioam_run_texts.specs.Ran.{exported_at}
+use Rattle.ioam_run_texts.specs.Sample.{Sample}
 use Rattle.ioam_dex.specs.Reads.{records_octets}
 use Rattle.ioam_dex.proofs.ReadsLaws.{records_octets-append}
 use Rattle.ioam_run_texts.specs.Fate.{Fate}
 use Rattle.ioam_run_texts.specs.Texts.{exports_by, exports_text}
-use Rattle.ioam_plan.specs.declared.itinerary.Visit.{Visit}
+use Rattle.ioam_run_texts.specs.Visit.{Visit}
 use Rattle.ioam_topo.specs.declared.domain.Domain.{Domain}
 use Rattle.ioam_topo.specs.declared.ids.FlowId.{FlowId}
-use Rattle.ioam_tunnel.specs.Enclosed.{tunnel_of}
-use Rattle.ioam_tunnel.specs.Wire.{Tunnel}
-use Rattle.ioam_tunnel.specs.declared.numbers.Numbers.{Numbers}
+use Rattle.ioam_run_texts.specs.Enclosed.{tunnel_of}
+use Rattle.ioam_run_texts.specs.Wire.{Tunnel}
+use Rattle.ioam_run_texts.specs.Numbers.{Numbers}
 use Rattle.ioam_collect_laws.specs.Paths.{recorded_at, records_by, path_of, exports_of}
 
 module _ (domain : Domain) (readings : List (List Sample)) where

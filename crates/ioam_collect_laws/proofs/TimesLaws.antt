@@ -3,25 +3,25 @@ use Rattle.std.proofs.Common.{◌≡◌, ℕ, zero, suc, ◌+◌, ◌-◌, ◌*�
 use Rattle.std.specs.Prelude.{⊤, IsSomeAnd, Result, Ok, Err, nat_eq, unwrap_or}
 use Rattle.std.specs.List.{AllByRecursion}
 use Rattle.std.proofs.lemmas.List.Elements.{recursion_from_All}
-use Rattle.ioam_clock.specs.declared.sample.Sample.{Sample}
+use Rattle.ioam_run_texts.specs.Sample.{Sample}
 use Rattle.ioam_run_texts.specs.Fate.{Frame, Fate, HasFate, AreFatesFrom}
-use Rattle.ioam_node.specs.Choice.{choice, entry_choice}
-use Rattle.ioam_node.specs.declared.answer.Admit.{Admit}
-use Rattle.ioam_node.specs.declared.answer.Admit.TheVariants as admit
-use Rattle.ioam_node.specs.declared.reason.Reason.{Reason}
-use Rattle.ioam_plan.specs.Counted.{enclosed_in}
-use Rattle.ioam_plan.specs.Drawn.{numbers_of}
-use Rattle.ioam_plan.specs.Journey.{Reaches, crossed, led, sent_in, sent_on, step_at, visit_by}
-use Rattle.ioam_plan.specs.Plans.{PlansBy, PlansFlow, flow_trip, start_of, entry_of}
-use Rattle.ioam_plan.specs.declared.itinerary.Itinerary.{Itinerary}
-use Rattle.ioam_plan.specs.declared.itinerary.Visit.{Visit}
-use Rattle.ioam_plan.specs.declared.stage.Inside.{Inside}
-use Rattle.ioam_plan.specs.declared.stage.JourneySpot.{JourneySpot}
-use Rattle.ioam_plan.specs.declared.stage.Stage.{Stage}
-use Rattle.ioam_plan.specs.declared.stage.Stage.TheVariants.{Enter, At, Gone, Out}
-use Rattle.ioam_plan.specs.declared.stage.JourneyStep.{JourneyStep}
-use Rattle.ioam_plan.specs.declared.stage.JourneyStep.TheVariants.{Goes, Ends}
-use Rattle.ioam_plan.specs.declared.stage.Trip.{Trip}
+use Rattle.ioam_run_texts.specs.Choice.{choice, entry_choice}
+use Rattle.ioam_run_texts.specs.Admit.{Admit}
+use Rattle.ioam_run_texts.specs.Admit.TheVariants as admit
+use Rattle.ioam_run_texts.specs.Reason.{Reason}
+use Rattle.ioam_run_texts.specs.Counted.{enclosed_in}
+use Rattle.ioam_run_texts.specs.Drawn.{numbers_of}
+use Rattle.ioam_run_texts.specs.Journey.{Reaches, crossed, led, sent_in, sent_on, step_at, visit_by}
+use Rattle.ioam_run_texts.specs.Plans.{PlansBy, PlansFlow, flow_trip, start_of, entry_of}
+use Rattle.ioam_run_texts.specs.Itinerary.{Itinerary}
+use Rattle.ioam_run_texts.specs.Visit.{Visit}
+use Rattle.ioam_run_texts.specs.Inside.{Inside}
+use Rattle.ioam_run_texts.specs.JourneySpot.{JourneySpot}
+use Rattle.ioam_run_texts.specs.Stage.{Stage}
+use Rattle.ioam_run_texts.specs.Stage.TheVariants.{Enter, At, Gone, Out}
+use Rattle.ioam_run_texts.specs.JourneyStep.{JourneyStep}
+use Rattle.ioam_run_texts.specs.JourneyStep.TheVariants.{Goes, Ends}
+use Rattle.ioam_run_texts.specs.Trip.{Trip}
 use Rattle.ioam_topo.specs.Domain.{flows, links, ports}
 use Rattle.ioam_topo.specs.Sound.{IsLink}
 use Rattle.ioam_topo.specs.declared.domain.Domain.{Domain}
@@ -32,7 +32,7 @@ use Rattle.ioam_topo.specs.declared.ids.Way.TheVariants as way
 use Rattle.ioam_topo.specs.declared.parts.Flow.{Flow}
 use Rattle.ioam_topo.specs.declared.parts.Link.{Link}
 use Rattle.ioam_topo.specs.declared.parts.Port.{Port}
-use Rattle.ioam_tunnel.specs.declared.numbers.Numbers.{Numbers}
+use Rattle.ioam_run_texts.specs.Numbers.{Numbers}
 use Rattle.ioam_collect_laws.specs.Exported.{HasFaces, IsTimely}
 use Rattle.ioam_collect_laws.proofs.EnclosedLaws.{all_get, none_carried}
 

@@ -7,8 +7,8 @@ use Rattle.std.proofs.lemmas.Nat.{div-add-mod'}
 use Rattle.std.proofs.lemmas.Bool.{and_parts, eqb-true}
 use Rattle.std.proofs.lemmas.List.{append-nil}
 use Rattle.std.proofs.lemmas.List.Elements.{recursion_from_All}
-use Rattle.ioam_batch.specs.Along.{along}
-use Rattle.ioam_clock.specs.declared.sample.Sample.{Sample}
+use Rattle.ioam_run_texts.specs.Along.{along}
+use Rattle.ioam_run_texts.specs.Sample.{Sample}
 use Rattle.ioam_collect.specs.Keyed.{core_of, hops_of, item_of, keyed_by, keyed_of}
 use Rattle.ioam_collect.specs.declared.key.Key.{Key}
 use Rattle.ioam_data.specs.Kind.{has, is_entry_type}
@@ -19,10 +19,10 @@ use Rattle.ioam_dex.specs.Record.{Record}
 use Rattle.ioam_dex.specs.Visit.{visit_octets}
 use Rattle.ioam_dex.specs.declared.direct.Direct.{Direct}
 use Rattle.ioam_ip.specs.Laid.{Part}
-use Rattle.ioam_node.specs.declared.place.Place.{Place}
-use Rattle.ioam_plan.specs.Drawn.{direct_number}
-use Rattle.ioam_plan.specs.declared.itinerary.Itinerary.{Itinerary}
-use Rattle.ioam_plan.specs.declared.itinerary.Visit.{Visit}
+use Rattle.ioam_run_texts.specs.Place.{Place}
+use Rattle.ioam_run_texts.specs.Drawn.{direct_number}
+use Rattle.ioam_run_texts.specs.Itinerary.{Itinerary}
+use Rattle.ioam_run_texts.specs.Visit.{Visit}
 use Rattle.ioam_pool.specs.Entry.{Entry, bare, has_some, is_full}
 use Rattle.ioam_topo.specs.Domain.{flows, nodes}
 use Rattle.ioam_topo.specs.Sound.{IsFlow, IsNode}
@@ -30,14 +30,14 @@ use Rattle.ioam_topo.specs.declared.domain.Domain.{Domain}
 use Rattle.ioam_topo.specs.declared.ids.FlowId.{FlowId}
 use Rattle.ioam_topo.specs.declared.parts.Flow.{Flow}
 use Rattle.ioam_topo.specs.declared.parts.Node.{Node}
-use Rattle.ioam_tunnel.specs.Enclosed.{direct_of, direct_parts, tunnel_by, tunnel_of}
-use Rattle.ioam_tunnel.specs.Wire.{Tunnel}
-use Rattle.ioam_tunnel.specs.declared.numbers.Numbers.{Numbers}
-use Rattle.ioam_node_visit.specs.Exports.{export_type, record_for, records_of}
-use Rattle.ioam_node_visit.specs.Seeing.{id_of, view_of}
-use Rattle.ioam_node_visit.specs.Step.{knows}
-use Rattle.ioam_node_visit.specs.Visits.{part_records}
-use Rattle.ioam_node_visit.proofs.RecordsLaws.{records-direct}
+use Rattle.ioam_run_texts.specs.Enclosed.{direct_of, direct_parts, tunnel_by, tunnel_of}
+use Rattle.ioam_run_texts.specs.Wire.{Tunnel}
+use Rattle.ioam_run_texts.specs.Numbers.{Numbers}
+use Rattle.ioam_run_texts.specs.Exports.{export_type, record_for, records_of}
+use Rattle.ioam_run_texts.specs.Seeing.{id_of, view_of}
+use Rattle.ioam_run_texts.specs.Step.{knows}
+use Rattle.ioam_run_texts.specs.Visits.{part_records}
+use Rattle.ioam_run_texts.proofs.RecordsLaws.{records-direct}
 use Rattle.ioam_collect_laws.specs.Paths.{IsWithin, flow_key, key_for, recorded_at}
 use Rattle.ioam_collect_laws.proofs.EnclosedLaws.{Encloses}
 use Rattle.ioam_collect_laws.proofs.HopLaws.{hops-read}

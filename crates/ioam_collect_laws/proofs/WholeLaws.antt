@@ -4,7 +4,7 @@ use Rattle.std.specs.Prelude.{Contains, unwrap_or}
 use Rattle.std.specs.List.{AllByRecursion, flat_map}
 use Rattle.std.proofs.lemmas.List.Elements.{recursion_from_All}
 use Rattle.ioam_base.specs.Octets.{IsFront}
-use Rattle.ioam_clock.specs.declared.sample.Sample.{Sample}
+use Rattle.ioam_run_texts.specs.Sample.{Sample}
 use Rattle.ioam_collect.specs.Best.{groups_of}
 use Rattle.ioam_collect.specs.Keyed.{keyed, keyed_of, with_keyed}
 use Rattle.ioam_collect.specs.declared.key.Key.{Key}

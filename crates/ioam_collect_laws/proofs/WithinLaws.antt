@@ -6,20 +6,20 @@ use Rattle.std.proofs.lemmas.List.Elements.{All-from_recursion, recursion_from_A
 use Rattle.toml.specs.Data.{Members, get_member}
 use Rattle.ioam_data.specs.declared.namespace.Namespace.{Namespace}
 use Rattle.ioam_topo_file.specs.File.{IsDomainOf}
-use Rattle.ioam_topo_entries.proofs.GoodsLaws.{goods_all}
-use Rattle.ioam_topo_entries.proofs.ReadLaws.{number_bounds, needed_bounds, beside_off, maybe_for}
-use Rattle.ioam_topo_entries.specs.Goods.{goods}
-use Rattle.ioam_topo_network.specs.Places.{node_lists, node_names}
-use Rattle.ioam_topo_flows.specs.ExtraTable.{extra_entries, extra_of, traced}
-use Rattle.ioam_topo_flows.specs.FlowParts.{flow_direct, flow_entry, flow_every, flow_exit, flow_hops, flow_id, flow_label, flow_limit, flow_source, flow_space, flow_target, exporting_of, outer_of, selection_of, tracing_of}
-use Rattle.ioam_topo_flows.specs.FlowTable.{flow_entries, flow_name, flow_of, flow_with}
-use Rattle.ioam_topo_flows.specs.Spaces.{known_at, known_in}
-use Rattle.ioam_topo_flows.specs.Tables.{flow_looks, flow_names}
-use Rattle.ioam_topo_values.specs.Numbers.{number}
-use Rattle.ioam_topo_values.specs.Reads.{◌▷◌, maybe, needed}
-use Rattle.ioam_topo_values.specs.Types.{direct_type, passing}
-use Rattle.ioam_topo_values.specs.declared.why.Why.{Why}
-use Rattle.ioam_topo_values.specs.declared.why.Why.TheVariants.{Range}
+use Rattle.ioam_topo_file.proofs.GoodsLaws.{goods_all}
+use Rattle.ioam_topo_file.proofs.ReadLaws.{number_bounds, needed_bounds, beside_off, maybe_for}
+use Rattle.ioam_topo_file.specs.Goods.{goods}
+use Rattle.ioam_topo_file.specs.Places.{node_lists, node_names}
+use Rattle.ioam_topo_file.specs.ExtraTable.{extra_entries, extra_of, traced}
+use Rattle.ioam_topo_file.specs.FlowParts.{flow_direct, flow_entry, flow_every, flow_exit, flow_hops, flow_id, flow_label, flow_limit, flow_source, flow_space, flow_target, exporting_of, outer_of, selection_of, tracing_of}
+use Rattle.ioam_topo_file.specs.FlowTable.{flow_entries, flow_name, flow_of, flow_with}
+use Rattle.ioam_topo_file.specs.Spaces.{known_at, known_in}
+use Rattle.ioam_topo_file.specs.Tables.{flow_looks, flow_names}
+use Rattle.ioam_topo_file.specs.Numbers.{number}
+use Rattle.ioam_topo_file.specs.Reads.{◌▷◌, maybe, needed}
+use Rattle.ioam_topo_file.specs.Types.{direct_type, passing}
+use Rattle.ioam_topo_file.specs.Why.{Why}
+use Rattle.ioam_topo_file.specs.Why.TheVariants.{Range}
 use Rattle.ioam_topo.specs.Domain.{flows}
 use Rattle.ioam_topo.specs.Spaces.{knows_space}
 use Rattle.ioam_topo.specs.Types.{is_direct_type}

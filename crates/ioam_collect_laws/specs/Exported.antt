@@ -3,7 +3,7 @@
 use Rattle.std.specs.Prelude.{◌≡◌, ℕ, ◌<◌, ◌^◌, List, [], ◌∷◌, ◌++◌, length, map, Contains, Option, Some, slice_get}
 use Rattle.std.specs.List.{All}
 use Rattle.ioam_base.specs.Octets.{IsFront}
-use Rattle.ioam_clock.specs.declared.sample.Sample.{Sample}
+use Rattle.ioam_run_texts.specs.Sample.{Sample}
 use Rattle.ioam_collect.specs.Best.{groups_of}
 use Rattle.ioam_collect.specs.Keyed.{keyed, keyed_of}
 use Rattle.ioam_collect.specs.declared.key.Key.{Key}

@@ -2,9 +2,9 @@
 -- as far as records of it were read (RFC 9326 section 3.2).
 use Rattle.std.specs.Prelude.{◌≡◌, ℕ, ◌<◌, ◌≤◌, ◌⊎◌, List, [], ◌∷◌, length, map, Contains, Option, None, Some, IfSome, slice_get}
 use Rattle.std.specs.List.{All, flat_map}
-use Rattle.ioam_batch.specs.Along.{along}
-use Rattle.ioam_batch.specs.Ran.{passed}
-use Rattle.ioam_clock.specs.declared.sample.Sample.{Sample}
+use Rattle.ioam_run_texts.specs.Along.{along}
+use Rattle.ioam_run_texts.specs.Ran.{passed}
+use Rattle.ioam_run_texts.specs.Sample.{Sample}
 use Rattle.ioam_collect.specs.Best.{groups_of}
 use Rattle.ioam_collect.specs.Keyed.{core_of, keyed}
 use Rattle.ioam_collect.specs.declared.key.Key.{Key}
@@ -13,16 +13,16 @@ use Rattle.ioam_dex.specs.Reads.{records_octets}
 use Rattle.ioam_dex.specs.Record.{Record}
 use Rattle.ioam_run_texts.specs.Fate.{Frame, Fate, AreFates}
 use Rattle.ioam_run_texts.specs.Texts.{exports_text}
-use Rattle.ioam_plan.specs.declared.itinerary.Visit.{Visit}
+use Rattle.ioam_run_texts.specs.Visit.{Visit}
 use Rattle.ioam_pool.specs.Entry.{Entry}
 use Rattle.ioam_topo.specs.Domain.{flows}
 use Rattle.ioam_topo.specs.declared.domain.Domain.{Domain}
 use Rattle.ioam_topo.specs.declared.ids.FlowId.{FlowId}
 use Rattle.ioam_topo.specs.declared.parts.Flow.{Flow}
-use Rattle.ioam_tunnel.specs.Enclosed.{tunnel_of}
-use Rattle.ioam_tunnel.specs.Wire.{Tunnel}
-use Rattle.ioam_tunnel.specs.declared.numbers.Numbers.{Numbers}
-use Rattle.ioam_node_visit.specs.Visits.{tunnel_records}
+use Rattle.ioam_run_texts.specs.Enclosed.{tunnel_of}
+use Rattle.ioam_run_texts.specs.Wire.{Tunnel}
+use Rattle.ioam_run_texts.specs.Numbers.{Numbers}
+use Rattle.ioam_run_texts.specs.Visits.{tunnel_records}
 
 -- ---- the records of a run
 

@@ -10,3 +10,11 @@ pub mod Seeing
 pub mod Step
 pub mod Stepped
 pub mod Visits
+-- of the crates below, for the crates above
+pub use Rattle.ioam_data.specs.Kind
+pub use Rattle.ioam_node.specs.Admission
+pub use Rattle.ioam_node.specs.Choice
+pub use Rattle.ioam_node.specs.declared.answer.Admit
+pub use Rattle.ioam_node.specs.declared.place.Place
+pub use Rattle.ioam_node.specs.declared.reason.Reason
+pub use Rattle.ioam_trace.specs.Data

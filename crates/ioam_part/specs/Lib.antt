@@ -1,3 +1,5 @@
 pub mod Faults
 pub mod Part
 pub mod Reading
+-- of the crates below, for the crates above
+pub use Rattle.ioam_pool.specs.Entry

@@ -2,8 +2,8 @@
 use Rattle.std.proofs.Common.{◌≡◌, ℕ, ◌≤◌, Bool, List, length, Option, Some, None, IsSomeAnd, refl, sym, subst, ap, arith}
 use Rattle.std.specs.Prelude.{⊤}
 use Rattle.ioam_clock.specs.declared.sample.Sample.{Sample}
-use Rattle.ioam_ip.specs.Framing.{Framing, Holds, NoIpv6, CutShort, TooShort, framing_of}
-use Rattle.ioam_ip.proofs.WithinLaws.{Within, framing-within}
+use Rattle.ioam_run_texts.specs.Framing.{Framing, Holds, NoIpv6, CutShort, TooShort, framing_of}
+use Rattle.ioam_run_texts.proofs.WithinLaws.{Within, framing-within}
 use Rattle.ioam_node.specs.Admission.{Admits, packet_of}
 use Rattle.ioam_node.specs.declared.answer.Admit.{Admit}
 use Rattle.ioam_node.specs.declared.answer.Admit.TheVariants as admit

@@ -2,13 +2,13 @@
 use Rattle.std.proofs.Common.{◌≡◌, ℕ, zero, suc, ◌+◌, ◌<◌, ◌≤◌, Bool, true, false, List, [], ◌∷◌, ◌++◌, length, length-set, Option, Some, None, IsSomeAnd, slice_get, refl, sym, ap, ◌∙◌, subst, arith, if◌then◌else◌}
 use Rattle.std.specs.Prelude.{All, ⊤, ◌-◌, map, nat_eq, slice_index}
 use Rattle.std.proofs.lemmas.List.Elements.{All-nil, All-cons, All-append}
-use Rattle.ioam_ip.proofs.CleanLaws.{leaving-lowered}
-use Rattle.ioam_ip.proofs.FramingLaws.{framing-packet}
+use Rattle.ioam_run_texts.proofs.CleanLaws.{leaving-lowered}
+use Rattle.ioam_run_texts.proofs.FramingLaws.{framing-packet}
 use Rattle.ioam_clock.specs.declared.sample.Sample.{Sample}
-use Rattle.ioam_ip.specs.Clean.{MayLeave}
-use Rattle.ioam_ip.specs.Framing.{Framing, Holds, NoIpv6, CutShort, TooShort, IfHolds, framing_of}
-use Rattle.ioam_ip.specs.Lowered.{lowered}
-use Rattle.ioam_ip.specs.Packet.{IsPacket}
+use Rattle.ioam_run_texts.specs.Clean.{MayLeave}
+use Rattle.ioam_run_texts.specs.Framing.{Framing, Holds, NoIpv6, CutShort, TooShort, IfHolds, framing_of}
+use Rattle.ioam_run_texts.specs.Lowered.{lowered}
+use Rattle.ioam_run_texts.specs.Packet.{IsPacket}
 use Rattle.ioam_node.specs.Admission.{Admits}
 use Rattle.ioam_node.specs.declared.answer.Admit.{Admit}
 use Rattle.ioam_node.specs.declared.answer.Admit.TheVariants as admit
@@ -23,7 +23,7 @@ use Rattle.ioam_topo.specs.Domain.{links, ports}
 use Rattle.ioam_topo.specs.declared.domain.Domain.{Domain}
 use Rattle.ioam_topo.specs.declared.ids.FlowId.{FlowId}
 use Rattle.ioam_topo.specs.declared.parts.Port.{Port}
-use Rattle.ioam_tunnel.specs.declared.numbers.Numbers.{Numbers}
+use Rattle.ioam_batch.specs.Numbers.{Numbers}
 use Rattle.ioam_run_texts.specs.Fate.{Frame, Fate, HasFate, AreFates, AreFatesFrom, packet_of}
 use Rattle.ioam_run_texts.specs.Texts.{last_time, leaves_by, fate_leaves, sent_by_end, fate_sent, sent_by, out_text}
 use Rattle.ioam_run_outputs.specs.Outlets.{each_from, of_outlets, tapped}

@@ -4,3 +4,6 @@ pub mod OneFateLaws
 pub mod TextsLaws
 mod AnswerLaws
 mod TellsLaws
+-- of the crates below, for the crates above
+pub use Rattle.ioam_run_outputs.proofs.OutletsLaws
+pub use Rattle.ioam_run_texts.proofs.OutLaws

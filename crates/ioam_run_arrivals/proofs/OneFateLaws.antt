@@ -1,7 +1,7 @@
 -- What becomes of an arrival is one thing only.
 use Rattle.std.proofs.Common.{◌≡◌, ℕ, Bool, IsSomeAnd, List, [], ◌∷◌, ◌++◌, length, arith, Option, Some, None, slice_get, refl, sym, ◌∙◌, ap, subst}
 use Rattle.ioam_clock.specs.declared.sample.Sample.{Sample}
-use Rattle.ioam_ip.specs.Framing.{framing_of}
+use Rattle.ioam_run_texts.specs.Framing.{framing_of}
 use Rattle.ioam_node.specs.Admission.{Admits}
 use Rattle.ioam_node.specs.declared.answer.Admit.{Admit}
 use Rattle.ioam_node.specs.declared.answer.Admit.TheVariants as admit

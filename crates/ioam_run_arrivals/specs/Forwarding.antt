@@ -8,7 +8,7 @@ use Rattle.ioam_clock.specs.declared.sample.Sample.{Sample}
 use Rattle.ioam_run_texts.specs.Fate.{Frame, Fate, HasFate, AreFates, CanRide}
 use Rattle.ioam_run_texts.specs.Texts.{texts_of, texts_so_far, ways_of}
 use Rattle.ioam_run_texts.specs.Told.{RanFor}
-use Rattle.ioam_ip.specs.Clean.{MayLeave}
+use Rattle.ioam_run_texts.specs.Clean.{MayLeave}
 use Rattle.ioam_run_outputs.specs.Outlets.{tapped}
 use Rattle.ioam_desk_outputs.specs.Told.{Adds, said_more}
 use Rattle.ioam_desk_outputs.specs.declared.output.Output.{Output}

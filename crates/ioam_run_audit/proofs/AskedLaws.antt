@@ -18,7 +18,7 @@ use Rattle.ioam_topo.specs.declared.ids.LinkId.{LinkId}
 use Rattle.ioam_topo.specs.declared.ids.NodeId.{NodeId}
 use Rattle.ioam_topo.specs.declared.parts.Link.{Link}
 use Rattle.ioam_topo.specs.declared.parts.Node.{Node}
-use Rattle.ioam_topo_file.specs.File.{Agree}
+use Rattle.ioam_run_files.specs.File.{Agree}
 use Rattle.ioam_run_audit.specs.Fit.{Place}
 use Rattle.ioam_run_audit.specs.Promise.{AuditNames, Asked, HasCause, HasDomain, IsAt, IsReady, IsUnfit, audit_files, link_by, link_to}
 

@@ -10,7 +10,7 @@ use Rattle.ioam_run_answer.specs.declared.outcome.Outcome.{Outcome}
 use Rattle.ioam_run_answer.specs.declared.outcome.Outcome.TheVariants as outcome
 use Rattle.ioam_run_stream.specs.Promise.{EndsSo}
 use Rattle.ioam_topo.specs.declared.domain.Domain.{Domain}
-use Rattle.ioam_topo_entries.specs.declared.fault.DomainFault.{DomainFault}
+use Rattle.ioam_run_answer.specs.DomainFault.{DomainFault}
 use Rattle.ioam_run_audit.specs.Ends.{BehindBy, Ends, NoneBehind, Ran, RanAt, Stays, Written, WrittenCut, start_of}
 use Rattle.ioam_run_audit.specs.Fit.{Place}
 use Rattle.ioam_run_audit.specs.Lanes.{EndsBy}

@@ -24,8 +24,8 @@ use Rattle.ioam_topo.specs.declared.domain.Domain.{Domain}
 use Rattle.ioam_topo.specs.declared.ids.LinkId.{LinkId}
 use Rattle.ioam_topo.specs.declared.ids.NodeId.{NodeId}
 use Rattle.ioam_topo.specs.declared.parts.Link.{Link}
-use Rattle.ioam_topo_entries.specs.declared.fault.DomainFault.{DomainFault}
-use Rattle.ioam_topo_file.specs.File.{IsDomainOf, HasFault}
+use Rattle.ioam_run_answer.specs.DomainFault.{DomainFault}
+use Rattle.ioam_run_files.specs.File.{IsDomainOf, HasFault}
 
 -- ---- what its words name
 

@@ -1,8 +1,8 @@
 -- Laws of the arrivals that were taken.
 use Rattle.std.proofs.Common.{◌≡◌, ℕ, ◌+◌, ◌*◌, ◌++◌, false, List, [], ◌∷◌, length, sym, ◌∙◌, ap, subst, arith}
 use Rattle.ioam_clock.specs.declared.sample.Sample.{Sample}
-use Rattle.ioam_run_texts.specs.Fate.{Frame}
-use Rattle.ioam_run_texts.specs.Texts.{texts_so_far}
+use Rattle.ioam_run_arrivals.specs.Fate.{Frame}
+use Rattle.ioam_run_arrivals.specs.Texts.{texts_so_far}
 use Rattle.ioam_run_arrivals.specs.Forwarding.{Forwards, taken}
 use Rattle.ioam_run_arrivals.specs.declared.forwarding.Forwarding.{Forwarding}
 use Rattle.ioam_topo.specs.declared.domain.Domain.{Domain}

@@ -4,12 +4,12 @@ use Rattle.std.specs.Prelude.{replicate, Result, OnOk, is_ok, if◌then◌else�
 use Rattle.std.proofs.lemmas.List.{length-map}
 use Rattle.ioam_clock.specs.Reading.{node_names, readings_of}
 use Rattle.ioam_clock.specs.declared.sample.Sample.{Sample}
-use Rattle.ioam_run_texts.specs.Fate.{AreFates}
+use Rattle.ioam_run_arrivals.specs.Fate.{AreFates}
 use Rattle.ioam_run_arrivals.proofs.OneFateLaws.{AreFates-unique}
 use Rattle.ioam_topo_generated.specs.Bulk.{IsBulkDomain, bulk_ports}
 use Rattle.ioam_desk_outputs.specs.declared.output.Output.{Output}
 use Rattle.ioam_desk_outputs.specs.Told.{Adds}
-use Rattle.ioam_plan.specs.declared.itinerary.Itinerary.{Itinerary}
+use Rattle.ioam_run_arrivals.specs.Itinerary.{Itinerary}
 use Rattle.ioam_report.specs.Sums.{StandFor}
 use Rattle.ioam_report.specs.SumsText.{sums_text, arrivals_text}
 use Rattle.ioam_report.specs.declared.sums.Sums.{Sums}

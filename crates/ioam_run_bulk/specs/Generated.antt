@@ -1,6 +1,6 @@
 -- The arrivals of a generated run.
 use Rattle.std.specs.Prelude.{ℕ, zero, suc, ◌+◌, ◌*◌, ◌/◌, ◌%◌, ◌^◌, false, List, [], ◌∷◌, ◌++◌, length, replicate}
-use Rattle.ioam_run_texts.specs.Fate.{Frame}
+use Rattle.ioam_run_arrivals.specs.Fate.{Frame}
 use Rattle.ioam_pcap.specs.Entries.{Entry}
 
 -- ---- the generator

@@ -1,8 +1,8 @@
 -- A generated run while its arrivals are taken.
 use Rattle.std.specs.Prelude.{◌≡◌, ℕ, false, List, []}
 use Rattle.ioam_clock.specs.declared.sample.Sample.{Sample}
-use Rattle.ioam_run_texts.specs.Fate.{Fate, AreFates}
-use Rattle.ioam_run_texts.specs.Texts.{texts_so_far, ways_of}
+use Rattle.ioam_run_arrivals.specs.Fate.{Fate, AreFates}
+use Rattle.ioam_run_arrivals.specs.Texts.{texts_so_far, ways_of}
 use Rattle.ioam_run_arrivals.specs.Forwarding.{Forwards, taken}
 use Rattle.ioam_run_arrivals.specs.declared.forwarding.Forwarding.{Forwarding}
 use Rattle.ioam_report.specs.Sums.{StandFor}

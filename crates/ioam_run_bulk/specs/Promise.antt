@@ -8,8 +8,8 @@ use Rattle.ioam_desk.specs.Desk.{Writing, Rose, holds}
 use Rattle.ioam_desk.specs.Kept.{KeepsOutputs}
 use Rattle.ioam_run_answer.specs.Desks.{Desks}
 use Rattle.ioam_run_answer.specs.Outcomes.{IsDone}
-use Rattle.ioam_run_texts.specs.Fate.{Fate, AreFates}
-use Rattle.ioam_run_texts.specs.Texts.{ways_of}
+use Rattle.ioam_run_arrivals.specs.Fate.{Fate, AreFates}
+use Rattle.ioam_run_arrivals.specs.Texts.{ways_of}
 use Rattle.ioam_topo_generated.specs.Bulk.{IsBulkDomain}
 use Rattle.ioam_desk_outputs.specs.Held.{HoldFronts}
 use Rattle.ioam_report.specs.SumsText.{arrivals_text}

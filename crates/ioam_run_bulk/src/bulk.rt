@@ -11,10 +11,10 @@ ghost use Rattle.ioam_run_bulk.specs.Promise.{HasCause, HoldsFront, HoldsReport,
 
 use crate::report::write_report;
 use ioam_base::name::Name;
-use ioam_run_arrivals::Gate;
 use ioam_desk::{Desk, DeskFault};
 use ioam_desk_outputs::open_outputs;
 use ioam_run_answer::Outcome;
+use ioam_run_arrivals::Gate;
 use std::alloc::Global;
 use std::slice;
 use std::thread::Threads;

@@ -1,7 +1,7 @@
 //! The arrivals of a generated run, taken one by one.
 ghost use Rattle.std.specs.Prelude.{◌≡◌, ◌+◌, ◌<◌, ◌≤◌, ◌^◌, false, List, ℕ, IsTrue, IfOk, OnOk, length};
 ghost use Rattle.ioam_clock.specs.declared.sample.Sample.{Sample};
-ghost use Rattle.ioam_run_texts.specs.Fate.{Frame};
+ghost use Rattle.ioam_run_arrivals.specs.Fate.{Frame};
 ghost use Rattle.ioam_run_arrivals.specs.Forwarding.{Forwards, IsOf, has_room, taken};
 ghost use Rattle.ioam_topo.specs.Domain.{ports};
 ghost use Rattle.ioam_run_bulk.specs.Load.{AreSums, Loads};
@@ -9,10 +9,9 @@ ghost use Rattle.ioam_run_bulk.specs.Load.{AreSums, Loads};
 use crate::generator::{PACKET_MOST, next_state, put_packet};
 use crate::terms::Terms;
 use ioam_base::memory::NoMemory;
-use ioam_run_arrivals::Gate;
 use ioam_pcap::Packet;
 use ioam_report::Sums;
-use ioam_run_arrivals::Forwarding;
+use ioam_run_arrivals::{Forwarding, Gate};
 use ioam_topo::{Domain, PortId};
 use std::alloc::Global;
 use std::thread::Threads;

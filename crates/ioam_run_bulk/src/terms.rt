@@ -1,6 +1,6 @@
 //! What a generated run goes by.
-use ioam_run_arrivals::Gate;
 use ioam_clock::Readings;
+use ioam_run_arrivals::Gate;
 use ioam_topo::Domain;
 use std::thread::Threads;
 

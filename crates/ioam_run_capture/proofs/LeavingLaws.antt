@@ -10,7 +10,7 @@ use Rattle.ioam_ip.proofs.WithinLaws.{Within, framing-within}
 use Rattle.ioam_ip.specs.Framing.{Framing, Holds, NoIpv6, CutShort, TooShort, IfHolds}
 use Rattle.ioam_ip.specs.Packet.{IsPacket}
 use Rattle.ioam_pcap.specs.Cut.{is_cut}
-use Rattle.ioam_capture.proofs.ShortLaws.{Reads-short}
+use Rattle.ioam_run_stream.proofs.ShortLaws.{Reads-short}
 use Rattle.ioam_pcap.specs.Ending.{Whole, Faulty}
 use Rattle.ioam_pcap.specs.Entries.{Taken, most}
 use Rattle.ioam_pcap.specs.Link.{is_ethernet}

@@ -1,8 +1,8 @@
 -- The capture that `save` writes, with one record more, and that it reads as what IN reads as.
 use Rattle.std.proofs.Common.{◌≡◌, ℕ, ◌+◌, ◌<◌, ◌≤◌, All, IsSomeAnd, List, [], ◌∷◌, ◌++◌, length, Option, refl, sym, ◌∙◌, ap, subst, length-append, arith}
 use Rattle.std.proofs.lemmas.List.Elements.{All-nil, All-cons, All-push}
-use Rattle.ioam_capture.specs.Reads.{Reads}
-use Rattle.ioam_capture.proofs.ReadsLaws.{Reads-unique}
+use Rattle.ioam_run_stream.specs.Reads.{Reads}
+use Rattle.ioam_run_stream.proofs.ReadsLaws.{Reads-unique}
 use Rattle.ioam_desk.specs.Desk.{Reading, Writing, holds}
 use Rattle.ioam_ng.specs.Text.{capture_text, packet_octets, IsSendable}
 use Rattle.ioam_ng.proofs.TextLaws.{capture_text-with}

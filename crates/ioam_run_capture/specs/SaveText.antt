@@ -1,6 +1,6 @@
 -- What `save` writes: the records of a capture, as a capture of the form pcapng.
 use Rattle.std.specs.Prelude.{◌≡◌, ℕ, ◌≤◌, All, IsSomeAnd, List, [], ◌∷◌, length}
-use Rattle.ioam_capture.specs.Reads.{Reads}
+use Rattle.ioam_run_stream.specs.Reads.{Reads}
 use Rattle.ioam_desk.specs.Desk.{Writing, holds}
 use Rattle.ioam_ng.specs.Text.{capture_text, IsSendable}
 use Rattle.ioam_pcap.specs.Ending.{Whole}

@@ -2,7 +2,7 @@
 use Rattle.std.specs.Prelude.{◌≡◌, ℕ, ◌≤◌, All, List, [], ◌∷◌, ◌++◌, length, refl}
 use Rattle.std.proofs.Common.{◌∙◌, append-nil, arith, sym, subst, inl}
 use Rattle.std.proofs.lemmas.List.Elements.{All-nil}
-use Rattle.ioam_capture.specs.Reads.{IsNg, Reads}
+use Rattle.ioam_run_stream.specs.Reads.{IsNg, Reads}
 use Rattle.ioam_ng.specs.Text.{capture_text, IsSendable}
 use Rattle.ioam_ng.proofs.TextLaws.{Reads-text}
 use Rattle.ioam_desk_outputs.specs.Told.{said_more}

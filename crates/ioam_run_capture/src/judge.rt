@@ -1,6 +1,6 @@
 //! What becomes of a captured frame at the boundary of a domain.
 ghost use Rattle.std.specs.Prelude.{◌≡◌, ◌≤◌, length};
-ghost use Rattle.ioam_capture.specs.Reader.{taken_of};
+ghost use Rattle.ioam_run_stream.specs.Reader.{taken_of};
 ghost use Rattle.ioam_ip.specs.Packet.{IsPacket};
 ghost use Rattle.ioam_run_capture.specs.Verdict.{Verdict, HasVerdict, PacketVerdict};
 ghost use Rattle.ioam_run_capture.specs.Judgement.{verdict_of, IsWithin};

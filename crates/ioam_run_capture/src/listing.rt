@@ -1,6 +1,6 @@
 //! The text of a command that lists something of each packet, gathered record by record.
 ghost use Rattle.std.specs.Prelude.{◌≡◌, ◌++◌, List, OnOk};
-ghost use Rattle.ioam_capture.specs.Reader.{taken_of};
+ghost use Rattle.ioam_run_stream.specs.Reader.{taken_of};
 ghost use Rattle.ioam_ip.specs.Packet.{IsPacket};
 ghost use Rattle.ioam_run_capture.specs.Listing.{IsFresh};
 ghost use Rattle.ioam_run_capture.specs.ListText.{EntryLines, PacketLines, skip_line, packets_line};

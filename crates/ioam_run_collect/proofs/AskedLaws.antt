@@ -1,9 +1,9 @@
 -- The words and the files ask for one answer.
 use Rattle.std.proofs.Common.{◌≡◌, ℕ, ◌⊎◌, Bool, IsTrue, IsSomeAnd, List, Option, Some, None, refl, sym, ap, ◌∙◌, inl, inr}
 use Rattle.ioam_desk.specs.Desk.{Reading, Writing, Rose}
-use Rattle.ioam_dex.specs.Reads.{Ending, Whole, Faulty}
-use Rattle.ioam_dex.specs.declared.export.ExportFault.{ExportFault}
-use Rattle.ioam_dex.proofs.ReadsLaws.{Reads-unique}
+use Rattle.ioam_run_answer.specs.Reads.{Ending, Whole, Faulty}
+use Rattle.ioam_run_answer.specs.ExportFault.{ExportFault}
+use Rattle.ioam_run_answer.proofs.ReadsLaws.{Reads-unique}
 use Rattle.ioam_run_answer.specs.declared.outcome.Outcome.{Outcome}
 use Rattle.ioam_run_answer.specs.declared.outcome.Outcome.TheVariants as outcome
 use Rattle.ioam_run_collect.specs.Promise.{Asked, HasCause, IsExports, IsLong}

@@ -3,13 +3,13 @@ use Rattle.std.proofs.Common.{◌≡◌, ℕ, ◌<◌, ◌^◌, Bool, false, IsT
 use Rattle.ioam_base.specs.Octets.{IsFront}
 use Rattle.ioam_desk.specs.Desk as desk
 use Rattle.ioam_desk.specs.Desk.{Writing, holds}
-use Rattle.ioam_dex.specs.Record.{Record}
-use Rattle.ioam_dex.specs.Reads.{Whole, Faulty}
-use Rattle.ioam_dex.specs.Reading.{Reading}
-use Rattle.ioam_dex.specs.Reader.{Stands}
+use Rattle.ioam_run_answer.specs.Record.{Record}
+use Rattle.ioam_run_answer.specs.Reads.{Whole, Faulty}
+use Rattle.ioam_run_answer.specs.Reading.{Reading}
+use Rattle.ioam_run_answer.specs.Reader.{Stands}
 use Rattle.ioam_collect.specs.Collected as collected
 use Rattle.ioam_collect.specs.Collected.{Collected, count_kept}
-use Rattle.ioam_report_groups.specs.GroupsText.{collected_text, records_text}
+use Rattle.ioam_collect_stream.specs.GroupsText.{collected_text, records_text}
 use Rattle.ioam_desk_outputs.specs.Held.{HoldTexts, HoldAllFronts, HoldFronts}
 use Rattle.ioam_desk_outputs.specs.Told.{AreTold, AreOpen, said_more, unsaid}
 use Rattle.ioam_desk_outputs.specs.declared.output.Output.{Output}

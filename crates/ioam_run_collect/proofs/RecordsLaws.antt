@@ -3,11 +3,11 @@ use Rattle.std.proofs.Common.{◌≡◌, ℕ, ◌+◌, ◌<◌, ◌≤◌, ◌�
 use Rattle.std.proofs.lemmas.List.Elements.{All-head, All-tail, All-nil}
 use Rattle.std.specs.List.{AllByRecursion}
 use Rattle.std.proofs.lemmas.List.Elements.{recursion_from_All, All-from_recursion}
-use Rattle.ioam_dex.specs.Record.{Record, IsRecord, record_octets}
-use Rattle.ioam_dex.specs.Reads.{records_octets, Splits, Ending, Whole, Faulty, EndsAt}
-use Rattle.ioam_dex.specs.declared.export.ExportFault.TheVariants as fault
-use Rattle.ioam_dex.proofs.RecordLaws.{record_octets-same}
-use Rattle.ioam_dex.proofs.ReadsLaws.{records_octets-append, Splits-feed, NoRecord, cut-no-record, fault-no-record}
+use Rattle.ioam_run_answer.specs.Record.{Record, IsRecord, record_octets}
+use Rattle.ioam_run_answer.specs.Reads.{records_octets, Splits, Ending, Whole, Faulty, EndsAt}
+use Rattle.ioam_run_answer.specs.ExportFault.TheVariants as fault
+use Rattle.ioam_run_answer.proofs.RecordLaws.{record_octets-same}
+use Rattle.ioam_run_answer.proofs.ReadsLaws.{records_octets-append, Splits-feed, NoRecord, cut-no-record, fault-no-record}
 use Rattle.ioam_collect.specs.Collected.{count_kept}
 use Rattle.ioam_collect.proofs.CountLaws.{count_kept-grows}
 use Rattle.ioam_collect_stream.specs.Gathering.{AreFew, Passes, AreWhole}

@@ -2,9 +2,9 @@
 use Rattle.std.specs.Prelude.{ℕ, ⊤, Bool, true, false, IsTrue, IsSomeAnd, List, Option}
 use Rattle.ioam_base.specs.Octets.{IsFront}
 use Rattle.ioam_desk.specs.Desk.{Reading, Writing, Rose, holds}
-use Rattle.ioam_dex.specs.Record.{Record}
-use Rattle.ioam_dex.specs.Reads.{Whole, Faulty}
-use Rattle.ioam_report_groups.specs.GroupsText.{records_text}
+use Rattle.ioam_run_answer.specs.Record.{Record}
+use Rattle.ioam_run_answer.specs.Reads.{Whole, Faulty}
+use Rattle.ioam_collect_stream.specs.GroupsText.{records_text}
 use Rattle.ioam_collect_stream.specs.Gathering.{AreFew, IsLimit, Passes, AreWhole}
 use Rattle.ioam_collect_stream.specs.declared.gathering.Halt.{Halt}
 use Rattle.ioam_collect_stream.specs.declared.gathering.Halt.TheVariants as halt

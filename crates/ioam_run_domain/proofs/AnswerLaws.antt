@@ -6,17 +6,17 @@ use Rattle.ioam_desk.specs.Desk.{Side, Reading, Writing, Rose, opened_each}
 use Rattle.ioam_desk.specs.Kept.{KeepsInputs, KeepsOutputs}
 use Rattle.ioam_desk.specs.Unread.{Unread}
 use Rattle.ioam_desk.proofs.KeptLaws.{KeepsInputs-then, KeepsOutputs-same}
-use Rattle.ioam_capture_merge.specs.Merging.{EndsKept}
+use Rattle.ioam_run_traffic.specs.Merging.{EndsKept}
 use Rattle.ioam_desk_outputs.specs.Names.{AreApart}
-use Rattle.ioam_run_answer.specs.Desks.{around}
-use Rattle.ioam_run_answer.specs.Outcomes.{IsDone, IsBehindAll}
-use Rattle.ioam_run_answer.specs.declared.outcome.Outcome.{Outcome}
-use Rattle.ioam_run_answer.specs.declared.outcome.Outcome.TheVariants as outcome
+use Rattle.ioam_run_files.specs.Desks.{around}
+use Rattle.ioam_run_files.specs.Outcomes.{IsDone, IsBehindAll}
+use Rattle.ioam_run_files.specs.Outcome.{Outcome}
+use Rattle.ioam_run_files.specs.Outcome.TheVariants as outcome
 use Rattle.ioam_run_files.specs.Setting.{Refuses}
 use Rattle.ioam_run_files.specs.declared.setting.Refusal.{Refusal}
 use Rattle.ioam_run_files.specs.declared.setting.Refusal.TheVariants as refusal
 use Rattle.ioam_topo.specs.declared.domain.Domain.{Domain}
-use Rattle.ioam_topo_entries.specs.declared.fault.DomainFault.{DomainFault}
+use Rattle.ioam_run_files.specs.DomainFault.{DomainFault}
 use Rattle.ioam_run_traffic.specs.Traffic.{AllOpened}
 use Rattle.ioam_run_files.specs.Answer.{refused_as}
 use Rattle.ioam_run_domain.specs.Ends.{Ends}

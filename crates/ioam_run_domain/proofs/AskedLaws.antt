@@ -3,15 +3,15 @@ use Rattle.std.proofs.Common.{◌≡◌, ℕ, ◌⊎◌, List, refl, sym, ◌∙
 use Rattle.std.specs.Prelude.{map}
 use Rattle.ioam_clock.specs.declared.sample.Sample.{Sample}
 use Rattle.ioam_desk.specs.Desk.{Reading, Writing, Rose, holds}
-use Rattle.ioam_capture_merge.specs.Merging.{FilesArrive, FilesBegin}
+use Rattle.ioam_run_traffic.specs.Merging.{FilesArrive, FilesBegin}
 use Rattle.ioam_desk_outputs.proofs.NamesLaws.{first_unique}
 use Rattle.ioam_desk_outputs.specs.Names.{IsFirstRepeat, name_at}
-use Rattle.ioam_pcap.specs.declared.capture.CapFault.{CapFault}
-use Rattle.ioam_capture.specs.declared.turns.Turn.{Turn}
-use Rattle.ioam_capture.specs.declared.turns.Turn.TheVariants.{Over, Broken}
-use Rattle.ioam_run_answer.specs.declared.outcome.Outcome.{Outcome}
-use Rattle.ioam_run_answer.specs.declared.outcome.Outcome.TheVariants as outcome
-use Rattle.ioam_topo_file.specs.File.{Agree}
+use Rattle.ioam_run_traffic.specs.CapFault.{CapFault}
+use Rattle.ioam_run_traffic.specs.Turn.{Turn}
+use Rattle.ioam_run_traffic.specs.Turn.TheVariants.{Over, Broken}
+use Rattle.ioam_run_files.specs.Outcome.{Outcome}
+use Rattle.ioam_run_files.specs.Outcome.TheVariants as outcome
+use Rattle.ioam_run_files.specs.File.{Agree}
 use Rattle.ioam_topo.specs.declared.domain.Domain.{Domain}
 use Rattle.ioam_run_domain.specs.Promise.{RunNames, HasCause, Asked, IsSet, IsReady, Arrives, Exceeds, contents, run_files, run_inputs}
 use Rattle.ioam_run_domain.proofs.SameLaws.{FilesArrive-unique, FilesBegin-few, one_set, one_domain_fault, fault_or_set, fault_or_readings, one_readings_fault, readings_or_set, same_files, same_inputs}

@@ -2,13 +2,13 @@
 use Rattle.std.proofs.Common.{ℕ, ◌<◌, Bool, IsSomeAnd, List, Option, sym, ap, subst, inl, inr, arith}
 use Rattle.ioam_clock.specs.declared.sample.Sample.{Sample}
 use Rattle.ioam_desk.specs.Desk.{Reading, Writing}
-use Rattle.ioam_ip.specs.Clean.{MayLeave}
-use Rattle.ioam_run_arrivals.proofs.CleanLaws.{outs-clean}
-use Rattle.ioam_capture.specs.Merge.{Arrival}
-use Rattle.ioam_pcap.specs.Text.{IsCaptureOf}
-use Rattle.ioam_run_answer.specs.Outcomes.{IsBehindAll}
-use Rattle.ioam_run_answer.specs.declared.outcome.Outcome.{Outcome}
-use Rattle.ioam_run_answer.specs.declared.outcome.Outcome.TheVariants as outcome
+use Rattle.ioam_run_traffic.specs.Clean.{MayLeave}
+use Rattle.ioam_run_traffic.proofs.CleanLaws.{outs-clean}
+use Rattle.ioam_run_traffic.specs.Merge.{Arrival}
+use Rattle.ioam_run_traffic.specs.Text.{IsCaptureOf}
+use Rattle.ioam_run_files.specs.Outcomes.{IsBehindAll}
+use Rattle.ioam_run_files.specs.Outcome.{Outcome}
+use Rattle.ioam_run_files.specs.Outcome.TheVariants as outcome
 use Rattle.ioam_topo.specs.declared.domain.Domain.{Domain}
 use Rattle.ioam_run_traffic.specs.Traffic.{frames_of}
 use Rattle.ioam_run_domain.specs.Promise.{RunNames, HoldsFiles, IsReady, Leaves, IsBounded, course_for}

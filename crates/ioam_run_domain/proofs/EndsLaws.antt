@@ -7,12 +7,12 @@ use Rattle.ioam_desk.specs.Asked.{AsksFront}
 use Rattle.ioam_desk.specs.Desk.{Side, Reading, Writing, Rose, holds, opened_each}
 use Rattle.ioam_desk.specs.Unread.{Unread}
 use Rattle.ioam_desk_outputs.specs.Names.{AreApart, name_at}
-use Rattle.ioam_capture_merge.specs.Merging.{EndsKept, PartsArrive, start_of}
-use Rattle.ioam_capture.specs.Merge.{Arrival}
-use Rattle.ioam_capture.specs.declared.turns.Turn.TheVariants as turn
-use Rattle.ioam_run_answer.specs.declared.outcome.Outcome.{Outcome}
-use Rattle.ioam_run_answer.specs.declared.outcome.Outcome.TheVariants as outcome
-use Rattle.ioam_run_answer.specs.Outcomes.{IsDone}
+use Rattle.ioam_run_traffic.specs.Merging.{EndsKept, PartsArrive, start_of}
+use Rattle.ioam_run_traffic.specs.Merge.{Arrival}
+use Rattle.ioam_run_traffic.specs.Turn.TheVariants as turn
+use Rattle.ioam_run_files.specs.Outcome.{Outcome}
+use Rattle.ioam_run_files.specs.Outcome.TheVariants as outcome
+use Rattle.ioam_run_files.specs.Outcomes.{IsDone}
 use Rattle.ioam_run_files.proofs.NamesLaws.{apart-words}
 use Rattle.ioam_run_files.specs.Answer.{refused_as}
 use Rattle.ioam_run_files.specs.Names.{input_ports}
@@ -21,7 +21,7 @@ use Rattle.ioam_run_files.specs.declared.setting.Refusal.{Refusal}
 use Rattle.ioam_run_files.specs.declared.setting.Refusal.TheVariants as refusal
 use Rattle.ioam_topo.specs.Domain.{links, ports}
 use Rattle.ioam_topo.specs.declared.domain.Domain.{Domain}
-use Rattle.ioam_topo_entries.specs.declared.fault.DomainFault.{DomainFault}
+use Rattle.ioam_run_files.specs.DomainFault.{DomainFault}
 use Rattle.ioam_run_traffic.specs.Traffic.{Course, HoldsAll, HoldsFronts, ArePassed, AreOpened, Arrive}
 use Rattle.ioam_run_domain.specs.Ends.{Ends, begins}
 use Rattle.ioam_run_domain.specs.Promise.{RunNames, HasCause, IsUnset, Says, HaveDiffered, HoldsFiles, contents, Leaves, OfTraffic, AreDrained, IsSet, IsReady, run_files, run_inputs, run_outputs, word_files, course_for}

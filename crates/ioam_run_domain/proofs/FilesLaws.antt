@@ -7,15 +7,15 @@ use Rattle.ioam_desk.specs.Desk.{Reading, Writing, holds}
 use Rattle.std.specs.Prelude.{All}
 use Rattle.std.proofs.lemmas.List.Elements.{All-cons, All-nil}
 use Rattle.ioam_clock.specs.declared.sample.Sample.{Sample}
-use Rattle.ioam_run_texts.specs.Fate.{Fate, Frame, AreFatesFrom}
-use Rattle.ioam_run_texts.proofs.OutLaws.{one-leaves}
-use Rattle.ioam_plan.specs.declared.itinerary.Itinerary.{Itinerary}
+use Rattle.ioam_run_traffic.specs.Fate.{Fate, Frame, AreFatesFrom}
+use Rattle.ioam_run_traffic.proofs.OutLaws.{one-leaves}
+use Rattle.ioam_run_traffic.specs.Itinerary.{Itinerary}
 use Rattle.ioam_topo.specs.declared.domain.Domain.{Domain}
 use Rattle.ioam_run_domain.specs.Left.{LeavesOnce}
-use Rattle.ioam_run_texts.specs.Texts.{out_text, tap_text, report_text, exports_text, texts_of}
-use Rattle.ioam_run_outputs.specs.Outlets.{each_from, tap_at, tapped_from, tapped}
+use Rattle.ioam_run_traffic.specs.Texts.{out_text, tap_text, report_text, exports_text, texts_of}
+use Rattle.ioam_run_files.specs.Outlets.{each_from, tap_at, tapped_from, tapped}
 use Rattle.ioam_desk_outputs.specs.Held.{HoldTexts}
-use Rattle.ioam_capture.specs.Merge.{Arrival}
+use Rattle.ioam_run_traffic.specs.Merge.{Arrival}
 use Rattle.ioam_run_files.specs.Names.{tap_name}
 use Rattle.ioam_topo.specs.Domain.{links, ports}
 use Rattle.ioam_topo.specs.declared.ids.LinkId.{LinkId}

@@ -5,19 +5,19 @@ use Rattle.std.proofs.lemmas.Option.{same_Some}
 use Rattle.ioam_clock.specs.declared.fault.ReadingsFault.{ReadingsFault}
 use Rattle.ioam_clock.specs.declared.sample.Sample.{Sample}
 use Rattle.ioam_desk.specs.Desk.{Writing}
-use Rattle.ioam_capture_merge.specs.Merging.{Begins, IsFile, FilesArrive, FilesBegin}
-use Rattle.ioam_capture.specs.Arrives.{Handed, Arrives}
-use Rattle.ioam_capture.specs.Merge.{Arrival}
-use Rattle.ioam_capture.specs.declared.turns.Turn.{Turn}
-use Rattle.ioam_capture.proofs.ArrivesLaws.{Arrives-unique}
-use Rattle.ioam_capture.proofs.MergeLaws.{TakesAll-total, Takes-append}
+use Rattle.ioam_run_traffic.specs.Merging.{Begins, IsFile, FilesArrive, FilesBegin}
+use Rattle.ioam_run_traffic.specs.Arrives.{Handed, Arrives}
+use Rattle.ioam_run_traffic.specs.Merge.{Arrival}
+use Rattle.ioam_run_traffic.specs.Turn.{Turn}
+use Rattle.ioam_run_traffic.proofs.ArrivesLaws.{Arrives-unique}
+use Rattle.ioam_run_traffic.proofs.MergeLaws.{TakesAll-total, Takes-append}
 use Rattle.ioam_run_files.specs.Names.{input_names, file_names}
 use Rattle.ioam_run_files.specs.Setting.{HasDomainFault, HasReadingsFault}
 use Rattle.ioam_run_files.proofs.OnlyLaws as only
-use Rattle.ioam_topo_file.specs.File.{Agree}
+use Rattle.ioam_run_files.specs.File.{Agree}
 use Rattle.ioam_topo.specs.Domain.{links, ports}
 use Rattle.ioam_topo.specs.declared.domain.Domain.{Domain}
-use Rattle.ioam_topo_entries.specs.declared.fault.DomainFault.{DomainFault}
+use Rattle.ioam_run_files.specs.DomainFault.{DomainFault}
 use Rattle.ioam_topo.specs.declared.parts.Link.{Link}
 use Rattle.ioam_topo.specs.declared.parts.Port.{Port}
 use Rattle.ioam_run_domain.specs.Promise.{RunNames, IsSet, word_files, run_files, run_inputs}

@@ -1,9 +1,9 @@
 -- Packets that leave a domain.
 use Rattle.std.specs.Prelude.{◌≡◌, [], ◌∷◌, if◌then◌else◌, is_some, length}
-use Rattle.ioam_run_texts.specs.Fate.{Fate}
-use Rattle.ioam_run_texts.specs.Texts.{fate_leaves, last_time}
-use Rattle.ioam_ip.specs.Lowered.{lowered}
-use Rattle.ioam_plan.specs.declared.itinerary.End.TheVariants.{Left}
+use Rattle.ioam_run_traffic.specs.Fate.{Fate}
+use Rattle.ioam_run_traffic.specs.Texts.{fate_leaves, last_time}
+use Rattle.ioam_run_traffic.specs.Lowered.{lowered}
+use Rattle.ioam_run_traffic.specs.End.TheVariants.{Left}
 use Rattle.ioam_topo.specs.declared.ids.PortId.{PortId}
 
 -- An arrival whose journey ends by a port leaves as one packet, at the time of its last visit: as it came, but for its hop

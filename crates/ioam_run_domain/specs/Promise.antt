@@ -6,24 +6,24 @@ use Rattle.ioam_clock.specs.declared.sample.Sample.{Sample}
 use Rattle.ioam_desk.specs.Asked.{AsksFront}
 use Rattle.ioam_desk.specs.Desk.{Reading, Writing, Rose, holds}
 use Rattle.ioam_desk.specs.Kept.{KeepsInputs, KeepsOutputs}
-use Rattle.ioam_run_texts.specs.Fate.{Fate, AreFates}
-use Rattle.ioam_run_texts.specs.Texts.{out_text, tap_text, report_text, exports_text}
-use Rattle.ioam_ip.specs.Clean.{MayLeave}
-use Rattle.ioam_capture_merge.specs.Merging.{FilesArrive, FilesBegin, PartsArrive, start_of}
+use Rattle.ioam_run_traffic.specs.Fate.{Fate, AreFates}
+use Rattle.ioam_run_traffic.specs.Texts.{out_text, tap_text, report_text, exports_text}
+use Rattle.ioam_run_traffic.specs.Clean.{MayLeave}
+use Rattle.ioam_run_traffic.specs.Merging.{FilesArrive, FilesBegin, PartsArrive, start_of}
 use Rattle.ioam_desk_outputs.specs.Names.{name_at, AreApart, IsFirstRepeat}
-use Rattle.ioam_capture.specs.Merge.{Arrival}
-use Rattle.ioam_pcap.specs.Text.{IsCaptureOf}
-use Rattle.ioam_capture.specs.declared.turns.Turn.{Turn}
-use Rattle.ioam_capture.specs.declared.turns.Turn.TheVariants as turn
-use Rattle.ioam_run_answer.specs.Desks.{Desks}
-use Rattle.ioam_run_answer.specs.Outcomes.{IsDone, IsBehindAll}
-use Rattle.ioam_run_answer.specs.declared.outcome.Outcome.{Outcome}
-use Rattle.ioam_run_answer.specs.declared.outcome.Outcome.TheVariants as outcome
+use Rattle.ioam_run_traffic.specs.Merge.{Arrival}
+use Rattle.ioam_run_traffic.specs.Text.{IsCaptureOf}
+use Rattle.ioam_run_traffic.specs.Turn.{Turn}
+use Rattle.ioam_run_traffic.specs.Turn.TheVariants as turn
+use Rattle.ioam_run_files.specs.Desks.{Desks}
+use Rattle.ioam_run_files.specs.Outcomes.{IsDone, IsBehindAll}
+use Rattle.ioam_run_files.specs.Outcome.{Outcome}
+use Rattle.ioam_run_files.specs.Outcome.TheVariants as outcome
 use Rattle.ioam_run_files.specs.Names.{input_names, input_ports, output_names, file_names}
 use Rattle.ioam_run_files.specs.Setting.{HasDomainFault, HasReadingsFault, IsSetting}
 use Rattle.ioam_topo.specs.Domain.{links, ports}
 use Rattle.ioam_topo.specs.declared.domain.Domain.{Domain}
-use Rattle.ioam_topo_entries.specs.declared.fault.DomainFault.{DomainFault}
+use Rattle.ioam_run_files.specs.DomainFault.{DomainFault}
 use Rattle.ioam_topo.specs.declared.parts.Link.{Link}
 use Rattle.ioam_topo.specs.declared.parts.Port.{Port}
 use Rattle.ioam_run_domain.specs.Left.{LeavesOnce}

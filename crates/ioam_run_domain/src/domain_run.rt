@@ -3,14 +3,14 @@ ghost use Rattle.std.specs.Prelude.{◌≡◌, ◌+◌, ◌≤◌, ◌⊎◌, �
 ghost use Rattle.ioam_desk.specs.Asked.{AsksFront};
 ghost use Rattle.ioam_desk.specs.Desk.{opened_each};
 ghost use Rattle.ioam_desk.specs.Kept.{KeepsInputs, KeepsOutputs};
-ghost use Rattle.ioam_capture_merge.specs.Merging.{EndsKept};
+ghost use Rattle.ioam_run_traffic.specs.Merging.{EndsKept};
 ghost use Rattle.ioam_desk_outputs.specs.Names.{AreApart};
-ghost use Rattle.ioam_run_answer.specs.Desks.{around};
-ghost use Rattle.ioam_run_answer.specs.Outcomes.{IsBehindAll};
+ghost use Rattle.ioam_run_files.specs.Desks.{around};
+ghost use Rattle.ioam_run_files.specs.Outcomes.{IsBehindAll};
 ghost use Rattle.ioam_run_files.specs.Setting.{IsSetting, Refuses};
 ghost use Rattle.ioam_run_files.specs.declared.setting.Refusal.{Refusal};
-ghost use Rattle.ioam_run_outputs.specs.Outlets.{outlet_count};
-ghost use Rattle.ioam_topo_entries.specs.declared.fault.DomainFault.{DomainFault};
+ghost use Rattle.ioam_run_files.specs.Outlets.{outlet_count};
+ghost use Rattle.ioam_run_files.specs.DomainFault.{DomainFault};
 ghost use Rattle.ioam_run_traffic.specs.Traffic.{AllOpened};
 ghost use Rattle.ioam_run_domain.specs.Ends.{Ends};
 ghost use Rattle.ioam_run_domain.specs.Promise.{Keeps, run_files, run_inputs, run_outputs};
@@ -22,7 +22,8 @@ use ioam_clock::Readings;
 use ioam_desk::Desk;
 use ioam_desk_outputs::first_repeat;
 use ioam_run_files::{
-    Outcome, Refusal, Setting, file_names, input_names, input_ports, output_names, read_setting, refused,
+    Outcome, Refusal, Setting, file_names, input_names, input_ports, output_names, read_setting,
+    refused,
 };
 use ioam_run_traffic::{Gate, Halt, run_traffic};
 use ioam_topo::Domain;

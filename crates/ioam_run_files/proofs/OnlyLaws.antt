@@ -7,7 +7,7 @@ use Rattle.ioam_clock.specs.declared.sample.Sample.{Sample}
 use Rattle.ioam_desk.specs.Desk.{Writing, holds}
 use Rattle.ioam_topo_file.specs.File.{IsDomainOf, HasFault, Agree}
 use Rattle.ioam_topo_file.proofs.FileLaws.{one_domain, one_fault, domain_or_fault}
-use Rattle.ioam_topo_entries.specs.declared.fault.DomainFault.{DomainFault}
+use Rattle.ioam_run_answer.specs.DomainFault.{DomainFault}
 use Rattle.ioam_topo.specs.Keyed.{name_of_node}
 use Rattle.ioam_topo.specs.declared.domain.Domain.{Domain}
 use Rattle.ioam_topo.specs.declared.parts.Node.{Node}

@@ -9,7 +9,7 @@ use Rattle.ioam_desk.specs.declared.fault.WholeFault.{WholeFault}
 use Rattle.ioam_desk.specs.declared.fault.WholeFault.TheVariants as whole
 use Rattle.ioam_desk.proofs.KeptLaws.{KeepsInputs-but}
 use Rattle.ioam_topo.specs.declared.domain.Domain.{Domain}
-use Rattle.ioam_topo_entries.specs.declared.fault.DomainFault.{DomainFault}
+use Rattle.ioam_run_answer.specs.DomainFault.{DomainFault}
 use Rattle.ioam_run_files.specs.Reads.{IsDomainRead, AreReadingsRead}
 use Rattle.ioam_run_files.specs.Setting.{Refuses}
 use Rattle.ioam_run_files.specs.declared.setting.Refusal.{Refusal}

@@ -5,7 +5,7 @@ ghost use Rattle.ioam_desk.specs.Asked.{AsksFront};
 ghost use Rattle.ioam_desk.specs.Desk.{SameBut, holds, opened_side, opened_each};
 ghost use Rattle.ioam_desk.specs.Kept.{KeepsInputs};
 ghost use Rattle.ioam_desk.specs.Whole.{ReadsWhole, FailsWhole};
-ghost use Rattle.ioam_topo_entries.specs.declared.fault.DomainFault.{DomainFault};
+ghost use Rattle.ioam_run_answer.specs.DomainFault.{DomainFault};
 ghost use Rattle.ioam_run_files.specs.Reads.{IsDomainRead, AreReadingsRead};
 ghost use Rattle.ioam_run_files.specs.Setting.{IsSetting, Refuses};
 ghost use Rattle.ioam_run_files.specs.declared.setting.Refusal.{Refusal};

@@ -1,10 +1,10 @@
 -- At most one answer is asked for.
 use Rattle.std.proofs.Common.{◌≡◌, ℕ, ◌⊎◌, IsSomeAnd, List, Option, Some, None, refl, sym, ◌∙◌, ap, subst, inl, inr}
 use Rattle.std.specs.Prelude.{map, option_map, option_and_then, slice_get}
-use Rattle.ioam_run_answer.specs.declared.outcome.Outcome.{Outcome}
-use Rattle.ioam_run_answer.specs.declared.outcome.Outcome.TheVariants as outcome
+use Rattle.ioam_run_files.specs.Outcome.{Outcome}
+use Rattle.ioam_run_files.specs.Outcome.TheVariants as outcome
 use Rattle.ioam_desk.specs.Desk.{Reading, Writing, Rose, holds}
-use Rattle.ioam_topo_file.specs.File.{Agree}
+use Rattle.ioam_run_files.specs.File.{Agree}
 use Rattle.ioam_desk_outputs.proofs.NamesLaws.{first_unique}
 use Rattle.ioam_desk_outputs.specs.Names.{AreApart, name_at}
 use Rattle.ioam_pcap.specs.Ending.{Ending, Faulty}

@@ -2,9 +2,9 @@
 use Rattle.std.proofs.Common.{◌≡◌, ℕ, suc, ◌+◌, ◌<◌, All, List, [], ◌∷◌, length, take, IsSomeAnd, Option, Some, None, ◌∙◌, ap, ⊎_elim, arith}
 use Rattle.std.specs.List.{AllByRecursion, flat_map}
 use Rattle.std.proofs.lemmas.List.Elements.{Contains-append_right}
-use Rattle.ioam_run_answer.specs.Outcomes.{IsBehindAll}
-use Rattle.ioam_run_answer.specs.declared.outcome.Outcome.{Outcome}
-use Rattle.ioam_run_answer.specs.declared.outcome.Outcome.TheVariants as outcome
+use Rattle.ioam_run_files.specs.Outcomes.{IsBehindAll}
+use Rattle.ioam_run_files.specs.Outcome.{Outcome}
+use Rattle.ioam_run_files.specs.Outcome.TheVariants as outcome
 use Rattle.ioam_desk.specs.Desk.{Reading, Writing, holds}
 use Rattle.ioam_desk_outputs.specs.Held.{HoldTexts}
 use Rattle.ioam_desk_outputs.specs.Names.{AreApart, name_at}

@@ -1,7 +1,7 @@
 -- How a run ends in a domain that was read.
 use Rattle.std.proofs.Common.{◌≡◌, ℕ, ◌<◌, ◌≤◌, ◌⊎◌, Bool, List, length, get_or, Some, None, refl, sym, ◌∙◌, ap, subst, inl, inr, ⊎_elim}
-use Rattle.ioam_run_answer.specs.declared.outcome.Outcome.{Outcome}
-use Rattle.ioam_run_answer.specs.declared.outcome.Outcome.TheVariants as outcome
+use Rattle.ioam_run_files.specs.Outcome.{Outcome}
+use Rattle.ioam_run_files.specs.Outcome.TheVariants as outcome
 use Rattle.ioam_clock.specs.declared.sample.Sample.{Sample}
 use Rattle.ioam_desk.specs.Desk.{Reading, Writing}
 use Rattle.ioam_desk_outputs.proofs.NamesLaws.{found_name}

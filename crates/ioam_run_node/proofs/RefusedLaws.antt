@@ -1,13 +1,13 @@
 -- What a run owes whose domain or readings are refused.
 use Rattle.std.proofs.Common.{◌≡◌, ℕ, zero, suc, Bool, IsTrue, List, [], ◌∷◌, ◌++◌, take, refl, sym, ◌∙◌, ap, subst, inl, append-nil}
-use Rattle.ioam_run_answer.specs.Outcomes.{IsDone, IsBehindAll}
-use Rattle.ioam_run_answer.specs.declared.outcome.Outcome.{Outcome}
-use Rattle.ioam_run_answer.specs.declared.outcome.Outcome.TheVariants as outcome
+use Rattle.ioam_run_files.specs.Outcomes.{IsDone, IsBehindAll}
+use Rattle.ioam_run_files.specs.Outcome.{Outcome}
+use Rattle.ioam_run_files.specs.Outcome.TheVariants as outcome
 use Rattle.ioam_desk.specs.Asked.{AsksFront}
 use Rattle.ioam_desk.specs.Desk.{Reading, Writing, Rose}
 use Rattle.ioam_desk.specs.Kept.{KeepsInputs}
 use Rattle.ioam_desk.proofs.KeptLaws.{KeepsOutputs-same}
-use Rattle.ioam_topo_entries.specs.declared.fault.DomainFault.{DomainFault}
+use Rattle.ioam_run_files.specs.DomainFault.{DomainFault}
 use Rattle.ioam_run_files.specs.Setting.{Refuses}
 use Rattle.ioam_run_files.specs.declared.setting.Refusal.{Refusal}
 use Rattle.ioam_run_files.specs.declared.setting.Refusal.TheVariants as refusal

@@ -2,15 +2,15 @@
 -- NODE by LINK, and it sends them on.
 use Rattle.std.specs.Prelude.{◌≡◌, ◌≢◌, ℕ, ◌+◌, ◌<◌, ◌≤◌, ◌⊎◌, ⊤, All, Bool, IsTrue, IsSomeAnd, nat_eq, if◌then◌else◌, List, [], ◌∷◌, ◌++◌, slice_get, Option, Some, None, option_and_then}
 use Rattle.std.specs.List.{AllByRecursion, flat_map}
-use Rattle.ioam_run_answer.specs.Desks.{Desks}
-use Rattle.ioam_run_answer.specs.Outcomes.{IsDone, IsBehindAll}
-use Rattle.ioam_run_answer.specs.declared.outcome.Outcome.{Outcome}
-use Rattle.ioam_run_answer.specs.declared.outcome.Outcome.TheVariants as outcome
+use Rattle.ioam_run_files.specs.Desks.{Desks}
+use Rattle.ioam_run_files.specs.Outcomes.{IsDone, IsBehindAll}
+use Rattle.ioam_run_files.specs.Outcome.{Outcome}
+use Rattle.ioam_run_files.specs.Outcome.TheVariants as outcome
 use Rattle.ioam_clock.specs.declared.sample.Sample.{Sample}
 use Rattle.ioam_desk.specs.Asked.{AsksFront}
 use Rattle.ioam_desk.specs.Desk.{Reading, Writing, Rose, holds}
 use Rattle.ioam_desk.specs.Kept.{KeepsInputs, KeepsOutputs}
-use Rattle.ioam_topo_entries.specs.declared.fault.DomainFault.{DomainFault}
+use Rattle.ioam_run_files.specs.DomainFault.{DomainFault}
 use Rattle.ioam_desk_outputs.specs.Names.{name_at, AreApart, IsFirstRepeat}
 use Rattle.ioam_pcap.specs.Ending.{Whole, Faulty}
 use Rattle.ioam_pcap.specs.Entries.{Taken}

@@ -1,6 +1,6 @@
 //! What becomes of a packet that comes to a node.
 ghost use Rattle.std.specs.Prelude.{◌≡◌, ◌≤◌, ◌↔◌, IsTrue, IfOk, length};
-ghost use Rattle.ioam_capture.specs.Reader.{taken_of};
+ghost use Rattle.ioam_run_stream.specs.Reader.{taken_of};
 ghost use Rattle.ioam_ip.specs.Chain.{IsSound};
 ghost use Rattle.ioam_ip.specs.ChainOptions.{CarriesIoam};
 ghost use Rattle.ioam_ip.specs.Packet.{IsPacket};

@@ -1,10 +1,10 @@
 //! `node DOMAIN READINGS NODE LINK IN OUT REPORT EXPORTS`.
 ghost use Rattle.std.specs.Prelude.{◌≡◌, ◌+◌, ◌<◌, ◌∷◌, [], IsTrue, Err, IfOk, IfErr, OnOk, length};
-ghost use Rattle.ioam_run_answer.specs.Desks.{around};
+ghost use Rattle.ioam_run_files.specs.Desks.{around};
 ghost use Rattle.ioam_desk.specs.Asked.{AsksFront};
 ghost use Rattle.ioam_desk.specs.Desk.{opened_each};
 ghost use Rattle.ioam_desk.specs.Kept.{KeepsInputs};
-ghost use Rattle.ioam_topo_entries.specs.declared.fault.DomainFault.{DomainFault};
+ghost use Rattle.ioam_run_files.specs.DomainFault.{DomainFault};
 ghost use Rattle.ioam_desk_outputs.specs.Names.{AreApart};
 ghost use Rattle.ioam_run_files.specs.Setting.{IsSetting, Refuses};
 ghost use Rattle.ioam_run_files.specs.declared.setting.Refusal.{Refusal};

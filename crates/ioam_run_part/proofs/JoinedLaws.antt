@@ -5,7 +5,7 @@ use Rattle.std.proofs.lemmas.List.Elements.{All-append}
 use Rattle.ioam_desk.specs.Desk.{Writing}
 use Rattle.ioam_desk.specs.declared.fault.DeskFault.{DeskFault}
 use Rattle.ioam_desk.specs.declared.fault.DeskFault.TheVariants.{Failed, NoMemory}
-use Rattle.ioam_dex.specs.Record.{IsRecord, Record}
+use Rattle.ioam_run_answer.specs.Record.{IsRecord, Record}
 use Rattle.ioam_collect.specs.Best.{groups_of, kept_of}
 use Rattle.ioam_collect.specs.Collected.{Collected, Stands, count_kept}
 use Rattle.ioam_collect.specs.Join.{joined}

@@ -5,8 +5,8 @@ use Rattle.std.proofs.Math.Seq.{take-append_seam}
 use Rattle.std.proofs.lemmas.Bool.Decides.{nat_tests}
 use Rattle.std.proofs.lemmas.List.{append_cancel_right}
 use Rattle.std.proofs.lemmas.List.Elements.{All-head, All-tail}
-use Rattle.ioam_dex.specs.Record.{Record}
-use Rattle.ioam_pool.specs.Entry.{Entry}
+use Rattle.ioam_run_answer.specs.Record.{Record}
+use Rattle.ioam_collect.specs.Entry.{Entry}
 use Rattle.ioam_collect.specs.Best.{groups_of, kept_of}
 use Rattle.ioam_collect.specs.Collected.{Collected, Stands, capped, count_kept, count_unkeyed, one_where_none}
 use Rattle.ioam_collect.specs.Keyed.{keyed, keyed_of, with_keyed}

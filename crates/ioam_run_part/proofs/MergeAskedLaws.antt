@@ -1,7 +1,7 @@
 -- The words, ONE and TWO ask for one answer of `merge`.
 use Rattle.std.proofs.Common.{◌≡◌, ℕ, ◌⊎◌, Bool, IsTrue, IsSomeAnd, List, ◌++◌, Option, Some, None, refl, sym, ap, ap₂, ◌∙◌, inl, inr, arith}
 use Rattle.ioam_desk.specs.Desk.{Reading, Writing, Rose}
-use Rattle.ioam_dex.specs.Record.{Record}
+use Rattle.ioam_run_answer.specs.Record.{Record}
 use Rattle.ioam_collect.specs.Collected.{count_kept}
 use Rattle.ioam_part.specs.Faults.{HasFault}
 use Rattle.ioam_part.specs.declared.fault.PartFault.{PartFault}

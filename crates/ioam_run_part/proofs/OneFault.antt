@@ -7,13 +7,13 @@ use Rattle.std.proofs.lemmas.List.{append-nil}
 use Rattle.std.proofs.lemmas.List.Elements.{All-head, All-tail, recursion_from_All, All-from_recursion}
 use Rattle.ioam_base.specs.Words.{four_octets}
 use Rattle.ioam_base.proofs.WordsLaws.{four_octets-same}
-use Rattle.ioam_dex.specs.Faults.{Fault, IsCut}
-use Rattle.ioam_dex.specs.Record.{Record, IsRecord, record_octets}
-use Rattle.ioam_dex.specs.Reads.{records_octets}
-use Rattle.ioam_dex.proofs.FaultLaws.{fault-unique, cut-not-faulty}
-use Rattle.ioam_dex.proofs.ReadsLaws.{cut-no-record, fault-no-record}
-use Rattle.ioam_dex.proofs.RecordLaws.{record_octets-same}
-use Rattle.ioam_pool.specs.Order.{IsInOrder}
+use Rattle.ioam_run_answer.specs.Faults.{Fault, IsCut}
+use Rattle.ioam_run_answer.specs.Record.{Record, IsRecord, record_octets}
+use Rattle.ioam_run_answer.specs.Reads.{records_octets}
+use Rattle.ioam_run_answer.proofs.FaultLaws.{fault-unique, cut-not-faulty}
+use Rattle.ioam_run_answer.proofs.ReadsLaws.{cut-no-record, fault-no-record}
+use Rattle.ioam_run_answer.proofs.RecordLaws.{record_octets-same}
+use Rattle.ioam_collect.specs.Order.{IsInOrder}
 use Rattle.ioam_collect.specs.Keyed.{keyed}
 use Rattle.ioam_collect.specs.Unite.{AreApart}
 use Rattle.ioam_collect.proofs.JoiningLaws.{keyed-append}

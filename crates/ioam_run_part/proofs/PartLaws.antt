@@ -8,11 +8,11 @@ use Rattle.ioam_desk.specs.Desk.{Side, Writing, Rose, OpenIn, OpensInput, OpenOu
 use Rattle.ioam_desk.specs.Kept.{KeepsInputs, WritesFrom}
 use Rattle.ioam_desk.specs.declared.fault.DeskFault.TheVariants.{Failed}
 use Rattle.ioam_desk.proofs.KeptLaws.{KeepsInputs-same, KeepsInputs-but, KeepsOutputs-same, KeepsOutputs-asked, KeepsOutputs-from}
-use Rattle.ioam_desk_outputs.proofs.HeldLaws.{holds_slot}
-use Rattle.ioam_dex.specs.Record.{IsRecord, Record}
-use Rattle.ioam_dex.specs.Reads.{Whole, Faulty}
-use Rattle.ioam_dex.specs.Reading.{Reading}
-use Rattle.ioam_dex.specs.Reader.{Stands}
+use Rattle.ioam_collect_stream.proofs.HeldLaws.{holds_slot}
+use Rattle.ioam_run_answer.specs.Record.{IsRecord, Record}
+use Rattle.ioam_run_answer.specs.Reads.{Whole, Faulty}
+use Rattle.ioam_run_answer.specs.Reading.{Reading}
+use Rattle.ioam_run_answer.specs.Reader.{Stands}
 use Rattle.ioam_collect.specs.Collected as collected
 use Rattle.ioam_collect.specs.Collected.{Collected, count_kept}
 use Rattle.ioam_collect_stream.specs.Feed.{Fed}

@@ -6,7 +6,7 @@ use Rattle.ioam_desk.specs.Asked.{AsksFront}
 use Rattle.ioam_desk.specs.Desk.{Side, Writing, Grows, OpenOut, Rose, holds}
 use Rattle.ioam_desk.specs.declared.fault.DeskFault.{DeskFault}
 use Rattle.ioam_desk.specs.declared.fault.DeskFault.TheVariants.{Failed, NoMemory}
-use Rattle.ioam_desk_outputs.proofs.HeldLaws.{holds_slot, front_held}
+use Rattle.ioam_collect_stream.proofs.HeldLaws.{holds_slot, front_held}
 use Rattle.ioam_run_part.specs.Stored.{IsBlank, HoldsFrontOf, Writes, Stores}
 
 module _ (tells : Bool) (name : List ℕ) (old new : Writing) (slot : ℕ) (blank : IsBlank tells old name slot) where

@@ -6,13 +6,13 @@ use Rattle.ioam_desk.specs.Desk as desk
 use Rattle.ioam_desk.specs.Desk.{Gives, ReadInto, SameBut}
 use Rattle.ioam_desk.specs.declared.fault.DeskFault.{DeskFault}
 use Rattle.ioam_desk.specs.declared.fault.DeskFault.TheVariants.{Failed, NoMemory}
-use Rattle.ioam_dex.specs.Faults.{IsCut}
-use Rattle.ioam_dex.specs.Reader as dex
-use Rattle.ioam_dex.specs.Reading.{Reading}
-use Rattle.ioam_dex.specs.Record.{Record, IsRecord, record_octets}
-use Rattle.ioam_dex.specs.Reads.{records_octets}
-use Rattle.ioam_dex.specs.Visit.{has_visit, twelve_where}
-use Rattle.ioam_dex.proofs.RecordLaws.{numbers_size-small, record_octets-length, record_size-small}
+use Rattle.ioam_run_answer.specs.Faults.{IsCut}
+use Rattle.ioam_run_answer.specs.Reader as dex
+use Rattle.ioam_run_answer.specs.Reading.{Reading}
+use Rattle.ioam_run_answer.specs.Record.{Record, IsRecord, record_octets}
+use Rattle.ioam_run_answer.specs.Reads.{records_octets}
+use Rattle.ioam_run_answer.specs.Visit.{has_visit, twelve_where}
+use Rattle.ioam_run_answer.proofs.RecordLaws.{numbers_size-small, record_octets-length, record_size-small}
 use Rattle.ioam_collect.specs.Collected.{Collected}
 use Rattle.ioam_collect_stream.specs.Gathering.{ReadsOne}
 use Rattle.ioam_part.specs.Faults.{HasFault}

@@ -1,6 +1,6 @@
 -- The files that the words of the commands name.
 use Rattle.std.specs.Prelude.{◌≡◌, ◌≢◌, ℕ, ◌⊎◌, List}
-use Rattle.ioam_desk_outputs.specs.Names.{name_at}
+use Rattle.ioam_collect_stream.specs.Names.{name_at}
 
 -- those of `part EXPORTS PART`
 pub record PartNames : Type 0 where

@@ -1,7 +1,7 @@
 -- What two collectors hold, joined and written as a part.
 use Rattle.std.specs.Prelude.{◌≡◌, ℕ, ◌<◌, ◌≤◌, ◌⊎◌, ⊤, Bool, IsTrue, List, [], ◌∷◌, ◌++◌, Some}
 use Rattle.ioam_desk.specs.Desk.{Writing, Rose, holds}
-use Rattle.ioam_dex.specs.Record.{Record}
+use Rattle.ioam_run_answer.specs.Record.{Record}
 use Rattle.ioam_collect.specs.Collected.{Collected, Stands, count_kept}
 use Rattle.ioam_collect.specs.declared.joining.Joined.{Joined}
 use Rattle.ioam_collect.specs.declared.joining.Joined.TheVariants as joined

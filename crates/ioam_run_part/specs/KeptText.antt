@@ -1,7 +1,7 @@
 -- How the records of a part are printed.
 use Rattle.std.specs.Prelude.{ℕ, List, ◌++◌, length, decimal, codes}
 use Rattle.std.specs.List.{flat_map}
-use Rattle.ioam_dex.specs.Record.{Record}
+use Rattle.ioam_run_answer.specs.Record.{Record}
 use Rattle.ioam_collect.specs.Best.{groups_of}
 use Rattle.ioam_collect.specs.Collected.{Collected}
 use Rattle.ioam_collect.specs.Keyed.{keyed}

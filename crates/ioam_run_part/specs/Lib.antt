@@ -11,3 +11,5 @@ pub mod Records
 pub mod Stored
 pub mod Two
 pub mod Unread
+-- of the crates below, for the crates above
+pub use Rattle.ioam_report_groups.specs.GroupsText

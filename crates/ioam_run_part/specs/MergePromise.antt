@@ -4,7 +4,7 @@ use Rattle.ioam_base.specs.Octets.{IsFront}
 use Rattle.ioam_desk.specs.Asked.{AsksFront}
 use Rattle.ioam_desk.specs.Desk.{Reading, Writing, Rose, holds}
 use Rattle.ioam_desk.specs.Kept.{KeepsInputs, KeepsOutputs}
-use Rattle.ioam_dex.specs.Record.{Record}
+use Rattle.ioam_run_answer.specs.Record.{Record}
 use Rattle.ioam_collect.specs.Best.{groups_of}
 use Rattle.ioam_collect.specs.Keyed.{keyed}
 use Rattle.ioam_part.specs.Faults.{HasFault}

@@ -3,8 +3,8 @@ use Rattle.std.specs.Prelude.{◌≡◌, ℕ, ⊤, Bool, true, false, IsTrue, Is
 use Rattle.ioam_desk.specs.Asked.{AsksFront}
 use Rattle.ioam_desk.specs.Desk.{Reading, Writing, Rose, holds}
 use Rattle.ioam_desk.specs.Kept.{KeepsInputs, KeepsOutputs}
-use Rattle.ioam_dex.specs.Record.{Record}
-use Rattle.ioam_dex.specs.Reads.{Whole, Faulty}
+use Rattle.ioam_run_answer.specs.Record.{Record}
+use Rattle.ioam_run_answer.specs.Reads.{Whole, Faulty}
 use Rattle.ioam_collect_stream.specs.Gathering.{AreFew, IsLimit, Passes, AreWhole}
 use Rattle.ioam_collect_stream.specs.declared.gathering.Halt.{Halt}
 use Rattle.ioam_collect_stream.specs.declared.gathering.Halt.TheVariants as halt

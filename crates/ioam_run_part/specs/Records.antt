@@ -2,8 +2,8 @@
 use Rattle.std.specs.Prelude.{ℕ, ◌+◌, ◌<◌, ◌≤◌, Bool, IsTrue, IsSomeAnd, List, ◌++◌, length, Option}
 use Rattle.ioam_base.specs.Octets.{IsFront}
 use Rattle.ioam_desk.specs.Desk.{Reading}
-use Rattle.ioam_dex.specs.Record.{Record}
-use Rattle.ioam_dex.specs.Reads.{Ending, Reads, Splits}
+use Rattle.ioam_run_answer.specs.Record.{Record}
+use Rattle.ioam_run_answer.specs.Reads.{Ending, Reads, Splits}
 use Rattle.ioam_collect.specs.Best.{groups_of}
 use Rattle.ioam_collect.specs.Collected.{count_kept}
 use Rattle.ioam_collect.specs.Keyed.{keyed}

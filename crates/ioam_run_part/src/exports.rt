@@ -1,7 +1,7 @@
 //! The files of `part`: EXPORTS, and PART behind it.
 ghost use Rattle.std.specs.Prelude.{◌≡◌, ◌<◌, ◌≤◌, [], All, IfOk, List, Some, ℕ, length};
 ghost use Rattle.ioam_desk.specs.Kept.{WritesFrom};
-ghost use Rattle.ioam_dex.specs.Record.{IsRecord, Record};
+ghost use Rattle.ioam_run_answer.specs.Record.{IsRecord, Record};
 ghost use Rattle.ioam_collect.specs.Collected as collected;
 ghost use Rattle.ioam_collect_stream.specs.Feed.{Fed};
 ghost use Rattle.ioam_collect_stream.specs.Gathering.{Gathers, ReadsOne};

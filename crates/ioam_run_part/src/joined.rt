@@ -3,7 +3,7 @@ ghost use Rattle.std.specs.Prelude.{◌≡◌, ◌∷◌, [], IfOk, IsTrue, List
 ghost use Rattle.ioam_collect.specs.Collected.{Stands};
 ghost use Rattle.ioam_desk.specs.Asked.{AsksFront};
 ghost use Rattle.ioam_desk.specs.Kept.{KeepsOutputs};
-ghost use Rattle.ioam_dex.specs.Record.{IsRecord, Record};
+ghost use Rattle.ioam_run_answer.specs.Record.{IsRecord, Record};
 ghost use Rattle.ioam_run_part.specs.Joined.{IsJoinedText, JoinsRecords, RefusesJoined, WritesJoined};
 
 use crate::stored::{store, stored_outcome};

@@ -1,7 +1,7 @@
 //! The lines of what a collector holds.
 ghost use Rattle.std.specs.Prelude.{◌≡◌, ◌≤◌, ◌++◌, List, OnOk, length};
 ghost use Rattle.ioam_collect.specs.Collected.{Stands};
-ghost use Rattle.ioam_dex.specs.Record.{Record};
+ghost use Rattle.ioam_run_answer.specs.Record.{Record};
 ghost use Rattle.ioam_part.specs.Part.{AreInOrder};
 ghost use Rattle.ioam_report_groups.specs.GroupsText.{counts_line};
 ghost use Rattle.ioam_run_part.specs.KeptText.{kept_line, kept_text, part_lines};

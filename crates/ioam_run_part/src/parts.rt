@@ -1,7 +1,7 @@
 //! `parts PART REPORT`: a part printed.
 ghost use Rattle.std.specs.Prelude.{◌≡◌, ◌≤◌, IfOk, List, length};
 ghost use Rattle.ioam_collect.specs.Collected.{Stands};
-ghost use Rattle.ioam_dex.specs.Record.{Record};
+ghost use Rattle.ioam_run_answer.specs.Record.{Record};
 ghost use Rattle.ioam_part.specs.Part.{AreInOrder};
 ghost use Rattle.ioam_run_answer.specs.Desks.{around};
 ghost use Rattle.ioam_run_part.specs.KeptText.{part_lines};

@@ -8,3 +8,6 @@ pub mod FinishesLaws
 pub mod WordsLaws
 pub mod AskedLaws
 mod KeptLaws
+-- of the crates below, for the crates above
+pub use Rattle.ioam_capture.proofs.ReadsLaws
+pub use Rattle.ioam_capture.proofs.ShortLaws

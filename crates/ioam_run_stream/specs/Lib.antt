@@ -1,3 +1,6 @@
 pub mod Frame
 pub mod Promise
 pub mod Streams
+-- of the crates below, for the crates above
+pub use Rattle.ioam_capture.specs.Reader
+pub use Rattle.ioam_capture.specs.Reads

@@ -6,7 +6,7 @@ use Rattle.ioam_batch.specs.Crossings.{crossings}
 use Rattle.ioam_batch.specs.Jobs.{HoldsBy, RunsBy}
 use Rattle.ioam_batch.specs.Ran.{RanBy, exported_at}
 use Rattle.ioam_batch.specs.declared.job.Job.{Job}
-use Rattle.ioam_clock.specs.declared.sample.Sample.{Sample}
+use Rattle.ioam_batch.specs.Sample.{Sample}
 use Rattle.ioam_ip.specs.Lowered.{lowered}
 use Rattle.ioam_plan.specs.declared.itinerary.Itinerary.{Itinerary}
 use Rattle.ioam_plan.specs.declared.itinerary.Visit.{Visit}
@@ -14,9 +14,9 @@ use Rattle.ioam_topo.specs.Domain.{flows}
 use Rattle.ioam_topo.specs.declared.domain.Domain.{Domain}
 use Rattle.ioam_topo.specs.declared.ids.FlowId.{FlowId}
 use Rattle.ioam_topo.specs.declared.parts.Flow.{Flow}
-use Rattle.ioam_tunnel.specs.Enclosed.{tunnel_of, tunnel_by}
-use Rattle.ioam_tunnel.specs.Wire.{IsTunnel}
-use Rattle.ioam_tunnel.specs.declared.numbers.Numbers.{Numbers}
+use Rattle.ioam_batch.specs.Enclosed.{tunnel_of, tunnel_by}
+use Rattle.ioam_batch.specs.Wire.{IsTunnel}
+use Rattle.ioam_batch.specs.Numbers.{Numbers}
 use Rattle.ioam_node_visit.specs.Room.{Room}
 use Rattle.ioam_run_texts.specs.Fate.{Fate}
 use Rattle.ioam_run_texts.specs.Texts.{exports_by, fate_exports}

@@ -11,7 +11,7 @@ use Rattle.ioam_batch.specs.Sends.{packet_after}
 use Rattle.ioam_batch.specs.Taps.{has_tap, taps_by}
 use Rattle.ioam_batch.specs.declared.job.Job.{Job}
 use Rattle.ioam_batch.proofs.SendsLaws.{crossing_is}
-use Rattle.ioam_clock.specs.declared.sample.Sample.{Sample}
+use Rattle.ioam_batch.specs.Sample.{Sample}
 use Rattle.ioam_run_outputs.specs.Outlets.{HasTap}
 use Rattle.ioam_pcap.specs.Text.{Sent, records_text, record_octets}
 use Rattle.ioam_plan.specs.declared.itinerary.Itinerary.{Itinerary}

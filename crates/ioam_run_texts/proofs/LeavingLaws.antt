@@ -5,7 +5,7 @@ use Rattle.std.proofs.lemmas.Bool.{ne_eqb, eq-eqb}
 use Rattle.ioam_batch.specs.Ran.{passed}
 use Rattle.ioam_batch.specs.declared.job.Job.{Job}
 use Rattle.ioam_batch.proofs.RanLaws.{lowered-more}
-use Rattle.ioam_clock.specs.declared.sample.Sample.{Sample}
+use Rattle.ioam_batch.specs.Sample.{Sample}
 use Rattle.ioam_ip.specs.Chain.{IsSound}
 use Rattle.ioam_ip.specs.Lowered.{lowered}
 use Rattle.ioam_ip.specs.Packet.{IsPacket}
@@ -19,15 +19,15 @@ use Rattle.ioam_plan.specs.declared.itinerary.End.{End}
 use Rattle.ioam_plan.specs.declared.itinerary.End.TheVariants.{Left, Drop}
 use Rattle.ioam_plan.specs.declared.itinerary.Itinerary.{Itinerary}
 use Rattle.ioam_plan.specs.declared.itinerary.Visit.{Visit}
-use Rattle.ioam_node.specs.declared.reason.Reason.{Reason}
+use Rattle.ioam_node_visit.specs.Reason.{Reason}
 use Rattle.ioam_topo.specs.Domain.{ports}
 use Rattle.ioam_topo.specs.declared.domain.Domain.{Domain}
 use Rattle.ioam_topo.specs.declared.ids.FlowId.{FlowId}
 use Rattle.ioam_topo.specs.declared.ids.NodeId.{NodeId}
 use Rattle.ioam_topo.specs.declared.ids.PortId.{PortId}
-use Rattle.ioam_tunnel.specs.Enclosed.{tunnel_of}
-use Rattle.ioam_tunnel.specs.declared.numbers.Numbers.{Numbers}
-use Rattle.ioam_tunnel.specs.Inner.{InnerAt}
+use Rattle.ioam_batch.specs.Enclosed.{tunnel_of}
+use Rattle.ioam_batch.specs.Numbers.{Numbers}
+use Rattle.ioam_batch.specs.Inner.{InnerAt}
 use Rattle.ioam_run_texts.specs.Standing.{IsInside, LeavesAt, LeavesBy, lowered_at}
 use Rattle.ioam_run_texts.specs.Texts.{last_time, leaves_by, fate_leaves, sent_by_end}
 use Rattle.ioam_run_texts.specs.Told.{AreLeaving, AreSent, GivesInside}

@@ -1,13 +1,13 @@
 -- A packet that is enclosed leaves the domain behind its exit only, whatever the domain.
 use Rattle.std.proofs.Common.{◌≡◌, ℕ, ◌-◌, Bool, true, false, List, [], ◌∷◌, Option, Some, None, length, slice_get, refl, ap, ◌∙◌, subst}
 use Rattle.std.specs.Prelude.{⊤, IsSome, IsSomeAnd, Result, Ok, Err, nat_eq, nat_le, nat_lt, is_some, if◌then◌else◌}
-use Rattle.ioam_clock.specs.declared.sample.Sample.{Sample}
+use Rattle.ioam_batch.specs.Sample.{Sample}
 use Rattle.ioam_ip.specs.Lowered.{lowered}
-use Rattle.ioam_node.specs.Choice.{way_by, mtu_of, choice, entry_choice}
-use Rattle.ioam_node.specs.declared.answer.Admit.{Admit}
-use Rattle.ioam_node.specs.declared.answer.Admit.TheVariants as admit
-use Rattle.ioam_node.specs.declared.reason.Reason.{Reason}
-use Rattle.ioam_node.specs.declared.reason.Reason.TheVariants as reason
+use Rattle.ioam_node_visit.specs.Choice.{way_by, mtu_of, choice, entry_choice}
+use Rattle.ioam_node_visit.specs.Admit.{Admit}
+use Rattle.ioam_node_visit.specs.Admit.TheVariants as admit
+use Rattle.ioam_node_visit.specs.Reason.{Reason}
+use Rattle.ioam_node_visit.specs.Reason.TheVariants as reason
 use Rattle.ioam_plan.specs.Journey.{Journey, Reaches, carried_by, sent_in, sent_on, step_at}
 use Rattle.ioam_plan.specs.Plans.{PlansBy, PlansFlow}
 use Rattle.ioam_plan.specs.declared.itinerary.End.{End}
@@ -31,7 +31,7 @@ use Rattle.ioam_topo.specs.declared.ids.Way.{Way}
 use Rattle.ioam_topo.specs.declared.ids.Way.TheVariants as way
 use Rattle.ioam_topo.specs.declared.parts.Flow.{Flow}
 use Rattle.ioam_topo.specs.declared.parts.Port.{Port}
-use Rattle.ioam_tunnel.specs.declared.numbers.Numbers.{Numbers}
+use Rattle.ioam_batch.specs.Numbers.{Numbers}
 use Rattle.ioam_run_texts.specs.Fate.{Frame, Fate, HasFate}
 use Rattle.ioam_run_texts.specs.Texts.{fate_leaves, last_time, leaves_by}
 

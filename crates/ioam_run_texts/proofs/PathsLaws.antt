@@ -7,7 +7,7 @@ use Rattle.std.proofs.lemmas.List.{map-append}
 use Rattle.std.proofs.lemmas.List.Elements.{All-head, All-tail}
 use Rattle.ioam_batch.specs.Ran.{passed}
 use Rattle.ioam_batch.specs.declared.job.Job.{Job}
-use Rattle.ioam_clock.specs.declared.sample.Sample.{Sample}
+use Rattle.ioam_batch.specs.Sample.{Sample}
 use Rattle.ioam_ip.specs.Laid.{Part, items_of, behind_part, place_of}
 use Rattle.ioam_ip.specs.Options.{Item}
 use Rattle.ioam_plan.specs.declared.itinerary.Itinerary.{Itinerary}
@@ -18,10 +18,10 @@ use Rattle.ioam_report_lines.specs.TracesText.{option_lines}
 use Rattle.ioam_report_lines.proofs.FilledLaws.{trace_lines-recorded}
 use Rattle.ioam_topo.specs.declared.domain.Domain.{Domain}
 use Rattle.ioam_topo.specs.declared.ids.FlowId.{FlowId}
-use Rattle.ioam_trace.specs.Data.{trace_data}
-use Rattle.ioam_tunnel.specs.Enclosed.{tunnel_of}
-use Rattle.ioam_tunnel.specs.Wire.{Room, Tunnel, IsRoom, IsTunnel, AreConstant, hop_parts, limit_after, trace_part, trace_parts}
-use Rattle.ioam_tunnel.specs.declared.numbers.Numbers.{Numbers}
+use Rattle.ioam_node_visit.specs.Data.{trace_data}
+use Rattle.ioam_batch.specs.Enclosed.{tunnel_of}
+use Rattle.ioam_batch.specs.Wire.{Room, Tunnel, IsRoom, IsTunnel, AreConstant, hop_parts, limit_after, trace_part, trace_parts}
+use Rattle.ioam_batch.specs.Numbers.{Numbers}
 use Rattle.ioam_node_visit.specs.Visits.{Visited, closed_after, elements}
 use Rattle.ioam_node_visit.proofs.PartsLaws.{hop_options-packet}
 use Rattle.ioam_node_visit.proofs.VisitLaws.{are_parts, can_hold}

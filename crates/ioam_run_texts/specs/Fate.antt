@@ -1,10 +1,10 @@
 -- What becomes of the arrivals of a domain.
 use Rattle.std.specs.Prelude.{◌≡◌, ℕ, ⊤, Bool, IsSomeAnd, List, [], ◌∷◌, ◌++◌, slice_get}
-use Rattle.ioam_clock.specs.declared.sample.Sample.{Sample}
+use Rattle.ioam_batch.specs.Sample.{Sample}
 use Rattle.ioam_ip.specs.Framing.{framing_of}
-pub use Rattle.ioam_node.specs.Admission.{packet_of}
-use Rattle.ioam_node.specs.Admission.{Admits}
-use Rattle.ioam_node.specs.declared.answer.Admit.{Admit}
+pub use Rattle.ioam_node_visit.specs.Admission.{packet_of}
+use Rattle.ioam_node_visit.specs.Admission.{Admits}
+use Rattle.ioam_node_visit.specs.Admit.{Admit}
 use Rattle.ioam_pcap.specs.Cut.{is_cut}
 use Rattle.ioam_pcap.specs.Entries.{Entry, IsShort}
 use Rattle.ioam_plan.specs.Plans.{Plans}

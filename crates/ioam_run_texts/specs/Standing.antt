@@ -13,8 +13,8 @@ use Rattle.ioam_report.specs.RunText.{arrival_line}
 use Rattle.ioam_run_outputs.specs.Outlets.{of_outlets}
 use Rattle.ioam_topo.specs.declared.domain.Domain.{Domain}
 use Rattle.ioam_topo.specs.declared.ids.FlowId.{FlowId}
-use Rattle.ioam_tunnel.specs.Inner.{InnerAt}
-use Rattle.ioam_tunnel.specs.declared.numbers.Numbers.{Numbers}
+use Rattle.ioam_batch.specs.Inner.{InnerAt}
+use Rattle.ioam_batch.specs.Numbers.{Numbers}
 use Rattle.ioam_run_texts.specs.Texts.{goes_by, last_time, sent_by_end}
 
 -- ---- the capture of a port

@@ -5,8 +5,8 @@ use Rattle.std.specs.List.{flat_map}
 use Rattle.ioam_batch.specs.Along.{along}
 use Rattle.ioam_batch.specs.Ran.{exported_at, passed}
 use Rattle.ioam_batch.specs.Sends.{packet_after}
-use Rattle.ioam_clock.specs.declared.sample.Sample.{Sample}
-use Rattle.ioam_data.specs.Kind.{words}
+use Rattle.ioam_batch.specs.Sample.{Sample}
+use Rattle.ioam_node_visit.specs.Kind.{words}
 use Rattle.ioam_ip.specs.Lowered.{lowered}
 use Rattle.ioam_run_outputs.specs.Outlets.{of_outlets}
 use Rattle.ioam_pcap.specs.Text.{Sent, records_text, capture_text}
@@ -22,10 +22,10 @@ use Rattle.ioam_topo.specs.declared.domain.Domain.{Domain}
 use Rattle.ioam_topo.specs.declared.ids.FlowId.{FlowId}
 use Rattle.ioam_topo.specs.declared.ids.Way.{Way}
 use Rattle.ioam_topo.specs.declared.ids.Way.TheVariants as way
-use Rattle.ioam_trace.specs.Data.{is_over, recorded}
-use Rattle.ioam_tunnel.specs.Enclosed.{tunnel_of}
-use Rattle.ioam_tunnel.specs.Wire.{Room, Tunnel}
-use Rattle.ioam_tunnel.specs.declared.numbers.Numbers.{Numbers}
+use Rattle.ioam_node_visit.specs.Data.{is_over, recorded}
+use Rattle.ioam_batch.specs.Enclosed.{tunnel_of}
+use Rattle.ioam_batch.specs.Wire.{Room, Tunnel}
+use Rattle.ioam_batch.specs.Numbers.{Numbers}
 use Rattle.ioam_node_visit.specs.Visits.{Visited, elements}
 use Rattle.ioam_run_texts.specs.Fate.{Fate}
 

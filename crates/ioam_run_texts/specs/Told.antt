@@ -2,12 +2,12 @@
 use Rattle.std.specs.Prelude.{◌≡◌, ℕ, List, Option, Some}
 use Rattle.ioam_batch.specs.Jobs.{HasRun, IsJobOf}
 use Rattle.ioam_batch.specs.declared.job.Job.{Job}
-use Rattle.ioam_clock.specs.declared.sample.Sample.{Sample}
+use Rattle.ioam_batch.specs.Sample.{Sample}
 use Rattle.ioam_ip.specs.Chain.{IsSound}
 use Rattle.ioam_ip.specs.Packet.{IsPacket}
 use Rattle.ioam_pcap.specs.Text.{Sent}
 use Rattle.ioam_topo.specs.declared.domain.Domain.{Domain}
-use Rattle.ioam_tunnel.specs.Wire.{IsTunnel, Tunnel}
+use Rattle.ioam_batch.specs.Wire.{IsTunnel, Tunnel}
 use Rattle.ioam_node_visit.specs.Visits.{Visited, closed_after}
 use Rattle.ioam_run_texts.specs.Fate.{Fate, CanRide}
 use Rattle.ioam_run_texts.specs.Texts.{added_by, fate_leaves, fate_sent}

@@ -4,14 +4,14 @@ use Rattle.std.proofs.lemmas.List.{length-map}
 use Rattle.std.proofs.lemmas.List.Elements.{All-nil}
 use Rattle.ioam_desk.specs.Desk.{Side, Reading, Writing, holds, opened_each}
 use Rattle.ioam_clock.specs.declared.sample.Sample.{Sample}
-use Rattle.ioam_run_texts.specs.Texts.{texts_so_far, texts_of}
+use Rattle.ioam_run_arrivals.specs.Texts.{texts_so_far, texts_of}
 use Rattle.ioam_run_arrivals.specs.Forwarding.{Forwards}
 use Rattle.ioam_run_arrivals.specs.declared.forwarding.Forwarding.{Forwarding}
 use Rattle.ioam_run_arrivals.proofs.OneFateLaws.{AreFates-unique}
 use Rattle.ioam_capture_merge.specs.Merging.{Merging, start_of}
 use Rattle.ioam_capture_merge.specs.declared.merge.Merge.{Merge}
-use Rattle.ioam_run_outputs.specs.Outlets.{outlet_count, of_outlets}
-use Rattle.ioam_run_outputs.proofs.OutletsLaws.{length-of_outlets}
+use Rattle.ioam_run_arrivals.specs.Outlets.{outlet_count, of_outlets}
+use Rattle.ioam_run_arrivals.proofs.OutletsLaws.{length-of_outlets}
 use Rattle.ioam_desk_outputs.specs.Held.{HoldAllFronts, HoldFronts}
 use Rattle.ioam_desk_outputs.specs.Told.{AreTold, Adds, unsaid}
 use Rattle.ioam_desk_outputs.specs.declared.output.Output.{Output}

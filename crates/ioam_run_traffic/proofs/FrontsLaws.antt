@@ -6,11 +6,11 @@ use Rattle.std.proofs.lemmas.List.Elements.{All-append, All-cons, All-nil}
 use Rattle.ioam_base.specs.Octets.{IsFront}
 use Rattle.ioam_clock.specs.declared.sample.Sample.{Sample}
 use Rattle.ioam_desk.specs.Desk.{Writing, holds}
-use Rattle.ioam_run_texts.specs.Fate.{Frame, Fate}
-use Rattle.ioam_run_texts.specs.Texts.{exports_text, fate_crossed, fate_exports, fate_lines, fate_sent, out_text, report_lines, report_text, tap_text, texts_of, texts_so_far}
+use Rattle.ioam_run_arrivals.specs.Fate.{Frame, Fate}
+use Rattle.ioam_run_arrivals.specs.Texts.{exports_text, fate_crossed, fate_exports, fate_lines, fate_sent, out_text, report_lines, report_text, tap_text, texts_of, texts_so_far}
 use Rattle.ioam_run_arrivals.specs.Forwarding.{Forwards}
 use Rattle.ioam_run_arrivals.specs.declared.forwarding.Forwarding.{Forwarding}
-use Rattle.ioam_run_outputs.specs.Outlets.{each_from, of_outlets, tapped}
+use Rattle.ioam_run_arrivals.specs.Outlets.{each_from, of_outlets, tapped}
 use Rattle.ioam_desk_outputs.specs.Held.{HoldAllFronts}
 use Rattle.ioam_pcap.specs.Text.{Sent, capture_text, head_octets, record_octets, records_text}
 use Rattle.ioam_topo.specs.Domain.{links, ports as ports_of}

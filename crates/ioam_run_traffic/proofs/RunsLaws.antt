@@ -6,8 +6,8 @@ use Rattle.std.proofs.lemmas.List.{map-append, length-map}
 use Rattle.std.proofs.lemmas.List.Elements.{All-append, All-cons, All-nil}
 use Rattle.ioam_desk.specs.Desk.{Reading, Writing}
 use Rattle.ioam_clock.specs.declared.sample.Sample.{Sample}
-use Rattle.ioam_run_texts.specs.Fate.{Frame}
-use Rattle.ioam_run_texts.specs.Texts.{way_of}
+use Rattle.ioam_run_arrivals.specs.Fate.{Frame}
+use Rattle.ioam_run_arrivals.specs.Texts.{way_of}
 use Rattle.ioam_run_arrivals.proofs.OneFateLaws.{AreFates-length}
 use Rattle.ioam_run_arrivals.specs.Forwarding.{Forwards, IsOf, taken}
 use Rattle.ioam_run_arrivals.specs.declared.forwarding.Forwarding.{Forwarding}

@@ -2,7 +2,7 @@
 use Rattle.std.proofs.Common.{◌≡◌, ℕ, ◌≤◌, Bool, IsTrue, List, ◌∙◌, ap, inr, arith}
 use Rattle.ioam_desk.specs.Desk.{Reading, Writing, Side}
 use Rattle.ioam_desk.specs.Kept.{WritesFrom}
-use Rattle.ioam_run_texts.specs.Fate.{Frame}
+use Rattle.ioam_run_arrivals.specs.Fate.{Frame}
 use Rattle.ioam_run_arrivals.specs.Forwarding.{Forwards, IsOf, taken as count_taken}
 use Rattle.ioam_run_arrivals.specs.declared.forwarding.Forwarding.{Forwarding}
 use Rattle.ioam_run_arrivals.proofs.OneFateLaws.{AreFates-unique}

@@ -2,8 +2,8 @@
 use Rattle.std.specs.Prelude.{◌≡◌, ℕ, ◌<◌, ◌≤◌, All, Bool, IsTrue, List, length}
 use Rattle.ioam_desk.specs.Desk.{Reading, Writing, Rose}
 use Rattle.ioam_clock.specs.declared.sample.Sample.{Sample}
-use Rattle.ioam_run_texts.specs.Fate.{Frame, Fate, AreFates}
-use Rattle.ioam_run_texts.specs.Texts.{texts_of}
+use Rattle.ioam_run_arrivals.specs.Fate.{Frame, Fate, AreFates}
+use Rattle.ioam_run_arrivals.specs.Texts.{texts_of}
 use Rattle.ioam_run_arrivals.specs.Forwarding.{Forwards}
 use Rattle.ioam_run_arrivals.specs.declared.forwarding.Forwarding.{Forwarding}
 use Rattle.ioam_capture_merge.specs.Merging.{Merging, Comes, FilesBegin, PartsArrive, HaveEnded}

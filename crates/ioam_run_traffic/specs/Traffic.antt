@@ -3,8 +3,8 @@
 use Rattle.std.specs.Prelude.{◌≡◌, ℕ, ◌+◌, ◌<◌, ◌≤◌, ◌^◌, ◌⊎◌, All, Bool, IsTrue, List, [], ◌∷◌, ◌++◌, length, map, slice_index_or}
 use Rattle.ioam_clock.specs.declared.sample.Sample.{Sample}
 use Rattle.ioam_desk.specs.Desk.{Side, Reading, Writing, Rose}
-use Rattle.ioam_run_texts.specs.Fate.{Frame, Fate, AreFates}
-use Rattle.ioam_run_texts.specs.Texts.{texts_of}
+use Rattle.ioam_run_arrivals.specs.Fate.{Frame, Fate, AreFates}
+use Rattle.ioam_run_arrivals.specs.Texts.{texts_of}
 use Rattle.ioam_capture_merge.specs.Merging as merging
 use Rattle.ioam_capture_merge.specs.Merging.{FilesArrive, FilesBegin, PartsArrive, HaveEnded, start_of}
 use Rattle.ioam_desk_outputs.specs.Held.{HoldTexts, HoldFronts}

@@ -3,19 +3,18 @@ ghost use Rattle.std.specs.Prelude.{◌≡◌, ◌<◌, ◌≤◌, ◌^◌, Bool
 ghost use Rattle.ioam_clock.specs.declared.sample.Sample.{Sample};
 ghost use Rattle.ioam_desk.specs.Asked.{IsFaultOf};
 ghost use Rattle.ioam_desk.specs.Kept.{WritesFrom};
-ghost use Rattle.ioam_run_texts.specs.Fate.{Frame};
+ghost use Rattle.ioam_run_arrivals.specs.Fate.{Frame};
 ghost use Rattle.ioam_run_arrivals.specs.Forwarding.{Forwards, IsOf, NoneWaits, taken};
-ghost use Rattle.ioam_run_outputs.specs.Outlets.{outlet_count};
+ghost use Rattle.ioam_run_arrivals.specs.Outlets.{outlet_count};
 ghost use Rattle.ioam_desk_outputs.specs.Held.{HoldAllFronts, HoldTexts};
 ghost use Rattle.ioam_desk_outputs.specs.Told.{AreTold, AreOpen};
 ghost use Rattle.ioam_run_traffic.specs.Running.{HoldSo};
 
 use crate::terms::Terms;
 use ioam_base::memory::NoMemory;
-use ioam_run_arrivals::Gate;
 use ioam_desk::{Desk, DeskFault};
 use ioam_desk_outputs::{Output, finish};
-use ioam_run_arrivals::Forwarding;
+use ioam_run_arrivals::{Forwarding, Gate};
 use ioam_topo::Domain;
 use std::thread::Threads;
 

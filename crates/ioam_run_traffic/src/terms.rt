@@ -1,6 +1,6 @@
 //! What the traffic of a domain goes by.
-use ioam_run_arrivals::Gate;
 use ioam_clock::Readings;
+use ioam_run_arrivals::Gate;
 use ioam_topo::{Domain, PortId};
 use std::thread::Threads;
 

@@ -3,7 +3,7 @@ ghost use Rattle.std.specs.Prelude.{◌≡◌, ◌+◌, ◌<◌, ◌≤◌, ◌^
 ghost use Rattle.ioam_desk.specs.Kept.{WritesFrom};
 ghost use Rattle.ioam_run_arrivals.specs.Forwarding.{has_room, taken};
 ghost use Rattle.ioam_capture_merge.specs.Merging.{EndsKept};
-ghost use Rattle.ioam_run_outputs.specs.Outlets.{outlet_count};
+ghost use Rattle.ioam_run_arrivals.specs.Outlets.{outlet_count};
 ghost use Rattle.ioam_desk_outputs.specs.Told.{GathersFew};
 ghost use Rattle.ioam_topo.specs.Domain.{ports as ports_of};
 ghost use Rattle.ioam_run_traffic.specs.Running.{Coming, Running, Stops};
@@ -13,10 +13,10 @@ use crate::halt::Halt;
 use crate::progress::Progress;
 use crate::terms::Terms;
 use ioam_base::memory::NoMemory;
-use ioam_run_arrivals::Gate;
 use ioam_capture::Turn;
 use ioam_desk::{Desk, DeskFault};
 use ioam_desk_outputs::{Output, flush_full};
+use ioam_run_arrivals::Gate;
 use std::alloc::Global;
 use std::thread::Threads;
 

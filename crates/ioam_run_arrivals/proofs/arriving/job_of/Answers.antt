@@ -1,5 +1,5 @@
 use Rattle.std.proofs.Common.{Bool, ◌∷◌, ◌++◌, [], IsSomeAnd, List, ℕ, slice_get, subst, sym}
-use Rattle.ioam_ip.specs.Framing.{framing_of}
+use Rattle.ioam_run_texts.specs.Framing.{framing_of}
 use Rattle.ioam_node.specs.Admission.{Admits}
 use Rattle.ioam_plan.specs.Counted.{CountFor}
 use Rattle.ioam_plan.specs.Rides.{Rides}

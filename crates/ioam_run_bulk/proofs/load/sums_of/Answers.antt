@@ -1,5 +1,5 @@
 use Rattle.std.proofs.Common.{◌≡◌, ℕ, [], subst, arith}
-use Rattle.ioam_run_texts.specs.Texts.{texts_so_far}
+use Rattle.ioam_run_arrivals.specs.Texts.{texts_so_far}
 use Rattle.ioam_run_bulk.specs.Generated.{arrivals}
 use Rattle.ioam_run_bulk.specs.Load.{AreSums}
 use Rattle.ioam_run_bulk.proofs.LoadLaws.{Takes-sums}

@@ -1,5 +1,5 @@
 use Rattle.std.proofs.Common.{sym, ◌∙◌, subst}
-use Rattle.ioam_capture.specs.Reader.{taken_of}
+use Rattle.ioam_run_stream.specs.Reader.{taken_of}
 use Rattle.ioam_ip.specs.Framing.{Framing, Holds, IfHolds}
 use Rattle.ioam_ip.specs.Packet.{IsPacket}
 use Rattle.ioam_run_capture.specs.Judgement.{verdict_of}

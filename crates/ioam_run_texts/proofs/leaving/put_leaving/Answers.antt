@@ -4,7 +4,7 @@ use Rattle.ioam_run_texts.specs.Standing.{IsInside, lowered_at}
 use Rattle.ioam_run_texts.specs.Texts.{last_time}
 use Rattle.ioam_run_texts.specs.Told.{GivesInside}
 use Rattle.ioam_topo.specs.declared.ids.FlowId.{FlowId}
-use Rattle.ioam_tunnel.specs.declared.numbers.Numbers.{Numbers}
+use Rattle.ioam_batch.specs.Numbers.{Numbers}
 use Rattle.std.specs.Prelude.{IsSome}
 use Rattle.ioam_plan.specs.declared.itinerary.Itinerary.{Itinerary}
 use Rattle.ioam_plan.specs.declared.itinerary.Visit.{Visit}

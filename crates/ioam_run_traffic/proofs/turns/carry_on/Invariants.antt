@@ -3,7 +3,7 @@ use Rattle.ioam_desk.specs.Kept.{WritesFrom}
 use Rattle.ioam_run_arrivals.specs.Forwarding.{taken}
 use Rattle.ioam_capture_merge.specs.Merging.{EndsKept}
 use Rattle.ioam_desk_outputs.specs.Told.{GathersFew}
-use Rattle.ioam_run_outputs.specs.Outlets.{outlet_count}
+use Rattle.ioam_run_arrivals.specs.Outlets.{outlet_count}
 use Rattle.ioam_run_traffic.specs.Running.{Running}
 use Rattle.ioam_run_traffic.specs.Traffic.{course_with}
 use Rattle.ioam_run_traffic.proofs.turns.carry_on.Given as goal

@@ -1,5 +1,5 @@
 use Rattle.std.proofs.Common.{refl, [], ◌∷◌, arith}
-use Rattle.ioam_capture.specs.Reader.{taken_of}
+use Rattle.ioam_run_stream.specs.Reader.{taken_of}
 use Rattle.ioam_ng.specs.Text.{packet_octets}
 use Rattle.ioam_run_stream.proofs.AddsLaws.{Adds-one}
 use Rattle.ioam_run_capture.proofs.SavingLaws.{Saves-push}

@@ -1,6 +1,6 @@
 use Rattle.std.proofs.Common.{[], refl, ◌+◌, arith}
 use Rattle.std.proofs.lemmas.List.Elements.{All-nil, All-cons}
-use Rattle.ioam_capture.specs.Reader.{taken_of}
+use Rattle.ioam_run_stream.specs.Reader.{taken_of}
 use Rattle.ioam_pcap.specs.Text.{IsSendable}
 use Rattle.ioam_run_node.specs.NodeText.{added_of}
 use Rattle.ioam_run_node.specs.Passage.{Goes, Drops}
