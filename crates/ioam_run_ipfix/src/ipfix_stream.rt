@@ -18,7 +18,7 @@ use crate::packing::Packing;
 use ioam_base::memory::NoMemory;
 use ioam_desk::{Desk, DeskFault, PIECE};
 use ioam_desk_outputs::{Output, finish, flush_full};
-use ioam_dex::{ExportFault, ExportReader, Step};
+use ioam_dex::{ExportFault, ExportReader, Shown};
 use ioam_run_answer::Outcome;
 
 /// The most records that are read.
@@ -55,16 +55,16 @@ fn step(
     ensures stepped { IfOk result (Steps reader.old reader.new packing.old packing.new outputs.old outputs.new) }
     ensures fed { fed reader.new ≡ fed reader.old }
 {
-    match reader.next() {
-        Step::Export(export) => {
+    match reader.show() {
+        Shown::Record(record) => {
             if packing.taken() >= u64::from(MOST_RECORDS) {
                 return Ok(Some(Pause::Limit));
             }
-            packing.add(&export, &mut outputs[0].gathered)?;
+            packing.add(record, &mut outputs[0].gathered)?;
             Ok(None)
         }
-        Step::More => Ok(Some(Pause::More)),
-        Step::Bad { at, fault } => Ok(Some(Pause::Bad { at, fault })),
+        Shown::More => Ok(Some(Pause::More)),
+        Shown::Bad { at, fault } => Ok(Some(Pause::Bad { at, fault })),
     }
 }
 

@@ -1,32 +1,15 @@
 //! Records that are gathered into runs of one template, each put as a message.
-ghost use Rattle.std.specs.Prelude.{◌≡◌, ◌+◌, ◌<◌, ◌≤◌, ◌++◌, ◌∷◌, [], IfOk, OnOk, length};
-ghost use Rattle.ioam_dex.specs.Record.{IsRecord, record_of, record_octets};
-ghost use Rattle.ioam_ipfix.specs.Data.{template_of};
+ghost use Rattle.std.specs.Prelude.{◌≡◌, ◌+◌, ◌<◌, ◌≤◌, ◌++◌, [], IfOk, OnOk, length};
+ghost use Rattle.ioam_dex.specs.Record.{Rec, Record};
 
 use ioam_base::memory::NoMemory;
-use ioam_dex::{Export, ExportRoom, MOST_RECORD, put_export};
-use ioam_ipfix::put_message;
+use ioam_dex::{ExportRoom, MOST_RECORD};
+use ioam_ipfix::{put_message, template_of};
 use std::alloc::Global;
 use std::marker::Model;
 
 /// The most records of a run.
 const MOST_OF_RUN: u32 = 32;
-
-// A part of a template's id (RFC 7011 section 3.4.1), where a record has the fields that it tells.
-fn weight(there: bool, part: u16) -> u16
-    ensures { result ≡ Rattle.ioam_ipfix.specs.Data.weight there part }
-{
-    if there { part } else { 0 }
-}
-
-// The template of a record.
-fn template_of(export: &Export<'_>) -> u16
-    ensures { result ≡ template_of (record_of export.now) }
-{
-    256 + weight(export.flow.is_some(), 4)
-        + weight(export.seq.is_some(), 2)
-        + weight(export.visit.is_some(), 1)
-}
 
 /// Records that are gathered into runs: the last run, which isn't put yet, and how many records stand in the messages
 /// that were put.
@@ -100,32 +83,32 @@ impl Packing {
         self.put_run(out)
     }
 
-    // Takes a record into the run.
-    fn push(&mut self, export: &Export<'_>, template: u16)
-        requires record { IsRecord (record_of export.now) }
+    // Takes the octets of a record into the run.
+    fn push(&mut self, octets: &[u8], template: u16)
+        requires short { length octets.now ≤ 274 }
         requires room { self.old.held < 32 }
         ensures { self.new ≡ record {
-          octets = self.old.octets ++ record_octets (record_of export.now);
+          octets = self.old.octets ++ octets.now;
           held = self.old.held + 1;
           template = template;
           before = self.old.before;
         } }
     {
-        put_export(export, &mut self.run);
+        self.run.append(octets);
         self.held += 1;
         self.template = template;
     }
 
-    /// Takes a record, of which there are at most 67,108,864 in all. The run that it can't belong to is put before.
-    pub(crate) fn add(&mut self, export: &Export<'_>, out: &mut Vec<u8>) -> Result<(), NoMemory>
-        requires record { IsRecord (record_of export.now) }
+    /// Takes the octets of a record, of which there are at most 67,108,864 in all. The run that it can't belong to is put before.
+    pub(crate) fn add(&mut self, octets: &[u8], out: &mut Vec<u8>) -> Result<(), NoMemory>
+        requires whole { (x : Record) × Rec octets.now x }
         requires packed { HasPacked self.old }
         requires few { self.old.before + self.old.held < 67108864 }
-        ensures { OnOk result (Packs self.old self.new (record_of export.now) out.old.items out.new.items) }
+        ensures { OnOk result ((x : Record) → Rec octets.now x → Packs self.old self.new x out.old.items out.new.items) }
     {
-        let template = template_of(export);
+        let template = template_of(octets);
         self.close(template, out)?;
-        self.push(export, template);
+        self.push(octets, template);
         Ok(())
     }
 

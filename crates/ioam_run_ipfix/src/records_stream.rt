@@ -15,8 +15,8 @@ use ioam_base::memory::NoMemory;
 use ioam_base::text::append;
 use ioam_desk::{Desk, DeskFault, PIECE};
 use ioam_desk_outputs::{Output, flush_full};
-use ioam_dex::{ExportRoom, put_export};
-use ioam_ipfix::{IpfixFault, IpfixReader, IpfixStep};
+use ioam_dex::ExportRoom;
+use ioam_ipfix::{IpfixFault, IpfixReader, IpfixShown, put_record};
 use ioam_run_answer::Outcome;
 
 /// The most messages that are read: one with templates, and one for each of the most records.
@@ -64,13 +64,13 @@ fn show(reader: &mut IpfixReader, room: &mut ExportRoom) -> Shown
     ensures room { room.new.spare + length room.new.octets ≡ 274 }
 {
     room.clear();
-    match reader.next() {
-        IpfixStep::Export(export) => {
-            put_export(&export, room);
+    match reader.show() {
+        IpfixShown::Record { id, octets } => {
+            put_record(id, octets, room);
             Shown::Record
         }
-        IpfixStep::More => Shown::More,
-        IpfixStep::Bad { at, fault } => Shown::Bad { at, fault },
+        IpfixShown::More => Shown::More,
+        IpfixShown::Bad { at, fault } => Shown::Bad { at, fault },
     }
 }
 
