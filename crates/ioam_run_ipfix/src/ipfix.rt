@@ -116,6 +116,7 @@ fn run_open<D: Desk>(
     requires stands { Stands packer.old.reader [] [] }
     requires packed { IsPacked [] [] packer.old.packing }
     requires said { IsSaid D.tells start (D.writing desk.old) outputs.old [] }
+    requires nothing { GathersNothing outputs.old }
     requires room { length piece.old ≡ PIECE }
     ensures ends { IpfixEnds D.tells packer.old.slot (D.reading desk.old) (D.reading desk.new) (D.writing desk.old) (D.writing desk.new)
         (λ Are. IsTrue D.tells → IsSomeAnd start.content (HoldsText AreMessages Are (D.writing desk.new) start.out))

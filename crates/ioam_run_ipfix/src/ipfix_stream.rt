@@ -3,11 +3,11 @@ ghost use Rattle.std.specs.Prelude.{◌≡◌, ◌+◌, ◌<◌, ◌≤◌, ◌^
 ghost use Rattle.ioam_base.specs.Octets.{IsFront};
 ghost use Rattle.ioam_desk.specs.Asked.{IsFaultOf};
 ghost use Rattle.ioam_desk.specs.Desk.{holds};
-ghost use Rattle.ioam_desk_outputs.specs.Told.{AreOpen, GathersFew};
+ghost use Rattle.ioam_desk_outputs.specs.Told.{GathersFew};
 ghost use Rattle.ioam_dex.specs.Record.{Record};
 ghost use Rattle.ioam_dex.specs.Reader.{fed};
 ghost use Rattle.ioam_ipfix.specs.Written.{messages_text};
-ghost use Rattle.ioam_run_ipfix.specs.Ends.{IpfixEnds};
+ghost use Rattle.ioam_run_ipfix.specs.Ends.{IsBroken, IpfixEnds};
 ghost use Rattle.ioam_run_ipfix.specs.Exports.{AreFirst};
 ghost use Rattle.ioam_run_ipfix.specs.Packing.{HasPacked, IsPacked};
 ghost use Rattle.ioam_run_ipfix.specs.PackSteps.{EndsMore, Feeds, Halts, PacksSo, Pauses, Steps, end_of};
@@ -100,8 +100,10 @@ fn take_shown<D: Desk>(
 ) -> Result<Pause, DeskFault>
     ghost start: { Start }
     requires packs { PacksSo D.tells start (D.reading desk.old) (D.writing desk.old) packer.old outputs.old }
+    requires waiting { GathersFew outputs.old }
     ensures paused { IfOk result (Pauses D.tells start (D.reading desk.new) (D.writing desk.new) packer.new outputs.new) }
     ensures same { OnOk result ((D.writing desk.new).side ≡ (D.writing desk.old).side) }
+    ensures waiting { OnOk result (GathersFew outputs.new) }
     ensures sticks { OnErr result (Sticks AreMessages D.tells start AreFirst (D.writing desk.new)) }
     ensures cause { IfErr result (IsFaultOf (D.writing desk.old).side (D.writing desk.new).side) }
     ensures frames { Frames start.base packer.old.slot (D.reading desk.old) (D.reading desk.new) (D.writing desk.old) (D.writing desk.new) }
@@ -128,10 +130,12 @@ pub(crate) fn read_on<D: Desk>(
 ) -> Outcome
     ghost start: { Start }
     requires packs { PacksSo D.tells start (D.reading desk.old) (D.writing desk.old) packer.old outputs.old }
+    requires waiting { GathersFew outputs.old }
     requires room { length piece.old ≡ PIECE }
     ensures ends { IpfixEnds D.tells packer.old.slot (D.reading desk.old) (D.reading desk.new) (D.writing desk.old) (D.writing desk.new)
         (λ Are. Halts D.tells start Are (D.writing desk.new) packer.new.packing outputs.new × ((D.writing desk.new).side ≡ (D.writing desk.old).side))
         (Sticks AreMessages D.tells start AreFirst (D.writing desk.new)) result }
+    ensures waiting { (IsBroken result → ⊥) → GathersFew outputs.new }
     ensures frames { Frames start.base packer.old.slot (D.reading desk.old) (D.reading desk.new) (D.writing desk.old) (D.writing desk.new) }
 {
     'pieces: loop {

@@ -1,6 +1,7 @@
 //! `records`: its names, its files and its answer.
 ghost use Rattle.std.specs.Prelude.{◌≡◌, ◌≢◌, ◌⊎◌, ◌+◌, ◌∷◌, [], IfOk, IsSomeAnd, IsTrue, length};
 ghost use Rattle.ioam_desk.specs.Desk.{holds};
+ghost use Rattle.ioam_desk_outputs.specs.Told.{GathersNothing};
 ghost use Rattle.ioam_ipfix.specs.Reading.{fresh};
 ghost use Rattle.ioam_run_answer.specs.Desks.{around};
 ghost use Rattle.ioam_run_answer.specs.Outcomes.{OpensNothing};
@@ -116,6 +117,7 @@ fn run_open<D: Desk>(
     requires given { taker.old.given ≡ 0 }
     requires held { HasRoom taker.old }
     requires said { IsSaid D.tells start (D.writing desk.old) outputs.old [] }
+    requires nothing { GathersNothing outputs.old }
     requires room { length piece.old ≡ PIECE }
     ensures ends { RecordsEnds D.tells taker.old.slot (D.reading desk.old) (D.reading desk.new) (D.writing desk.old) (D.writing desk.new)
         (λ Are. IsTrue D.tells → IsSomeAnd start.content (HoldsText AreRecords Are (D.writing desk.new) start.out))

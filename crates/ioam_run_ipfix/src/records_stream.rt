@@ -4,7 +4,8 @@ ghost use Rattle.ioam_ipfix.specs.Reader.{Stands};
 ghost use Rattle.ioam_ipfix.specs.Reading.{fed};
 ghost use Rattle.ioam_dex.specs.Record.{Record};
 ghost use Rattle.ioam_desk.specs.Asked.{IsFaultOf};
-ghost use Rattle.ioam_run_ipfix.specs.Ends.{RecordsEnds};
+ghost use Rattle.ioam_desk_outputs.specs.Told.{GathersFew};
+ghost use Rattle.ioam_run_ipfix.specs.Ends.{IsBroken, RecordsEnds};
 ghost use Rattle.ioam_run_ipfix.specs.Messages.{AreFirst};
 ghost use Rattle.ioam_run_ipfix.specs.Texts.{AreRecords};
 ghost use Rattle.ioam_run_ipfix.specs.Streams.{Frames, IsSaid, Refills, Start, Sticks};
@@ -159,8 +160,10 @@ fn take_shown<D: Desk>(
 ) -> Result<Pause, DeskFault>
     ghost start: { Start }
     requires takes { TakesSo D.tells start (D.reading desk.old) (D.writing desk.old) taker.old outputs.old }
+    requires waiting { GathersFew outputs.old }
     ensures paused { IfOk result (Pauses D.tells start (D.reading desk.new) (D.writing desk.new) taker.new outputs.new) }
     ensures same { OnOk result ((D.writing desk.new).side ≡ (D.writing desk.old).side) }
+    ensures waiting { OnOk result (GathersFew outputs.new) }
     ensures sticks { OnErr result (Sticks AreRecords D.tells start AreFirst (D.writing desk.new)) }
     ensures cause { IfErr result (IsFaultOf (D.writing desk.old).side (D.writing desk.new).side) }
     ensures frames { Frames start.base taker.old.slot (D.reading desk.old) (D.reading desk.new) (D.writing desk.old) (D.writing desk.new) }
@@ -187,10 +190,12 @@ pub(crate) fn read_on<D: Desk>(
 ) -> Outcome
     ghost start: { Start }
     requires takes { TakesSo D.tells start (D.reading desk.old) (D.writing desk.old) taker.old outputs.old }
+    requires waiting { GathersFew outputs.old }
     requires room { length piece.old ≡ PIECE }
     ensures ends { RecordsEnds D.tells taker.old.slot (D.reading desk.old) (D.reading desk.new) (D.writing desk.old) (D.writing desk.new)
         (λ Are. Halts D.tells start Are (D.writing desk.new) outputs.new × ((D.writing desk.new).side ≡ (D.writing desk.old).side))
         (Sticks AreRecords D.tells start AreFirst (D.writing desk.new)) result }
+    ensures waiting { (IsBroken result → ⊥) → GathersFew outputs.new }
     ensures frames { Frames start.base taker.old.slot (D.reading desk.old) (D.reading desk.new) (D.writing desk.old) (D.writing desk.new) }
 {
     'pieces: loop {

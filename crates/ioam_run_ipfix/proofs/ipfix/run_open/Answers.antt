@@ -4,6 +4,7 @@ use Rattle.ioam_desk.specs.Desk.{Side}
 use Rattle.std.specs.Prelude.{IsSomeAnd, IsTrue}
 use Rattle.ioam_run_ipfix.specs.Ends.{IsBroken}
 use Rattle.ioam_run_ipfix.specs.Texts.{AreMessages, HoldsText}
+use Rattle.ioam_run_ipfix.proofs.FewLaws.{begins-few}
 use Rattle.ioam_run_ipfix.proofs.StreamLaws.{Frames-then, said-one}
 use Rattle.ioam_run_ipfix.proofs.IpfixLaws.{begun, begun-sticks, has-halted, halted-few, halted-sticks, written-ends, broken-ends}
 use Rattle.ioam_run_ipfix.proofs.ipfix.run_open.Goals as goal
@@ -21,7 +22,7 @@ read_on-answer-requires g c κs within = (
   (
     begun g.D.Desk.tells g.start (g.D.Desk.reading c.args.desk.now) (g.D.Desk.writing c.args.desk.now) c.args.packer.now.slot c.args.packer.now.reader c.args.packer.now.packing
         c.args.outputs.now c.begin.new.outputs c.requires.1.0 c.requires.1.1.0 c.requires.1.1.1.0 c.requires.1.1.1.1.0 c.in-Ok.ensures.ok,
-    c.requires.1.1.1.1.1,
+    (begins-few c.args.outputs.now c.begin.new.outputs c.requires.1.1.1.1.1.0 c.in-Ok.ensures.ok, c.requires.1.1.1.1.1.1),
   ),
 )
 

@@ -14,7 +14,8 @@ use Rattle.ioam_run_ipfix.proofs.ipfix_stream.read_on.Goals as goal
 pub pieces-init : goal.pieces-init
 pieces-init g c = record {
   packs = c.requires.1.0;
-  room = c.requires.1.1;
+  waiting = c.requires.1.1.0;
+  room = c.requires.1.1.1;
   inputs = refl;
   side = refl;
   slot = refl;
@@ -53,6 +54,7 @@ pieces-preserved g c =
       packs = packing-fed g.D.Desk.tells g.start (g.D.Desk.reading c.take_shown.new.desk) (g.D.Desk.writing c.take_shown.new.desk) c.take_shown.new.packer.slot
           c.take_shown.new.packer.reader c.take_shown.new.packer.packing c.take_shown.new.outputs paused.0 (g.D.Desk.reading c.refill.new.desk) (g.D.Desk.writing c.refill.new.desk)
           c.refill.new.reader feeds.0 c.refill.ensures.outputs feeds.3 feeds.4;
+      waiting = c.in-Ok-More.ensures.waiting;
       room = omega (arith, c.pieces.invariant.room, c.refill.auto.piece);
       inputs = feeds.3.side ∙ ap (λ (r : desk.Reading). r.side) c.take_shown.ensures.inputs ∙ c.pieces.invariant.inputs;
       side = ap (λ (w : Writing). w.side) c.refill.ensures.outputs ∙ c.in-Ok-More.ensures.same ∙ c.pieces.invariant.side;

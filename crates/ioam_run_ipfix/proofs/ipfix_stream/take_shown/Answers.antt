@@ -1,12 +1,14 @@
 use Rattle.std.proofs.Common.{refl, ◌∙◌, arith}
 use Rattle.std.proofs.lemmas.Result.{err_from_is_err_and}
+use Rattle.ioam_run_ipfix.proofs.FewLaws.{packs-few}
 use Rattle.ioam_run_ipfix.proofs.StreamLaws.{Frames-same, Frames-then}
 use Rattle.ioam_run_ipfix.proofs.PackStepLaws.{packing-few, packing-one, packing-open, packing-record, packing-count, packing-flushed, packing-frames, packing-sticks_here, packing-sticks_flushed, pauses-step}
 use Rattle.ioam_run_ipfix.proofs.ipfix_stream.take_shown.Goals as goal
 
 pub records-init : goal.records-init
 records-init g c = record {
-  packs = c.requires.1;
+  packs = c.requires.1.0;
+  waiting = c.requires.1.1;
   inputs = refl;
   side = refl;
   fed = refl;
@@ -29,6 +31,10 @@ pub returns-in-Ok-Some-clause-paused : goal.returns-in-Ok-Some-clause-paused
 returns-in-Ok-Some-clause-paused g c = pauses-step g.D.Desk.tells g.start (g.D.Desk.reading c.records.desk) (g.D.Desk.writing c.records.desk) c.records.packer.slot
     c.records.packer.reader c.records.packer.packing c.records.outputs c.records.invariant.packs c.step.new.reader c.step.new.packing c.step.new.outputs _
     (rw c.in-Ok-Some.field-0-is at c.in-Ok-Some.ensures.stepped)
+
+pub returns-in-Ok-Some-clause-waiting : goal.returns-in-Ok-Some-clause-waiting
+returns-in-Ok-Some-clause-waiting g c = packs-few c.records.packer.reader c.step.new.reader c.records.packer.packing c.step.new.packing c.records.outputs c.step.new.outputs _
+    (rw c.in-Ok-Some.field-0-is at c.in-Ok-Some.ensures.stepped) c.records.invariant.waiting
 
 pub returns-in-Err-clause-sticks : goal.returns-in-Err-clause-sticks
 returns-in-Err-clause-sticks g c = packing-sticks_here g.D.Desk.tells g.start (g.D.Desk.reading c.records.desk) (g.D.Desk.writing c.records.desk) c.records.packer.slot c.records.packer.reader
@@ -71,6 +77,7 @@ records-preserved g c =
       packs = packing-flushed g.D.Desk.tells g.start (g.D.Desk.reading c.records.desk) (g.D.Desk.writing c.records.desk) c.records.packer.slot c.step.new.reader
           c.step.new.packing c.step.new.outputs packs (g.D.Desk.reading c.flush_full.new.desk) (g.D.Desk.writing c.flush_full.new.desk) c.flush_full.new.outputs
           c.flush_full.ensures.inputs c.flush_full.ensures.told;
+      waiting = c.in_ok-flush_full.ensures.few;
       inputs = c.flush_full.ensures.inputs ∙ c.records.invariant.inputs;
       side = c.in_ok-flush_full.ensures.same ∙ c.records.invariant.side;
       fed = c.in-Ok-None.ensures.fed ∙ c.records.invariant.fed;

@@ -1,5 +1,6 @@
 use Rattle.std.proofs.Common.{◌≡◌, ◌-◌, ◌+◌}
 use Rattle.ioam_dex.specs.Reader.{fed}
+use Rattle.ioam_desk_outputs.specs.Told.{GathersFew}
 use Rattle.ioam_run_ipfix.specs.PackSteps.{PacksSo}
 use Rattle.ioam_run_ipfix.specs.Streams.{Frames}
 use Rattle.ioam_run_ipfix.proofs.ipfix_stream.take_shown.Given as goal
@@ -8,6 +9,7 @@ use Rattle.ioam_run_ipfix.proofs.ipfix_stream.take_shown.Given as goal
 abbrev pub invariant-records : goal.invariant-records
 invariant-records g l = record {
   packs : PacksSo g.D.Desk.tells g.start (g.D.Desk.reading l.desk) (g.D.Desk.writing l.desk) l.packer l.outputs;
+  waiting : GathersFew l.outputs;
   inputs : g.D.Desk.reading l.desk ≡ g.D.Desk.reading l.initial.desk;
   side : (g.D.Desk.writing l.desk).side ≡ (g.D.Desk.writing l.initial.desk).side;
   fed : fed l.packer.reader ≡ fed l.initial.packer.reader;

@@ -2,6 +2,7 @@ use Rattle.std.proofs.Common.{rules, sym, ap, ◌∙◌, arith}
 use Rattle.std.proofs.lemmas.Bool.{false≢true}
 use Rattle.ioam_desk.specs.Desk.{Side}
 use Rattle.std.specs.Prelude.{IsSomeAnd, IsTrue}
+use Rattle.ioam_desk_outputs.proofs.ToldLaws.{Nothing-few}
 use Rattle.ioam_run_ipfix.specs.Ends.{IsBroken}
 use Rattle.ioam_run_ipfix.specs.Texts.{AreRecords, HoldsText}
 use Rattle.ioam_run_ipfix.proofs.StreamLaws.{Frames-then}
@@ -17,7 +18,7 @@ read_on-answer-requires g c κs within = (
           c.args.outputs.now c.requires.1.0 c.requires.1.1.0 c.requires.1.1.1.0 c.requires.1.1.1.1.1.0,
       c.requires.1.1.1.1.0,
     ),
-    c.requires.1.1.1.1.1.1,
+    (Nothing-few c.args.outputs.now c.requires.1.1.1.1.1.1.0, c.requires.1.1.1.1.1.1.1),
   ),
 )
 

@@ -15,7 +15,8 @@ use Rattle.ioam_run_ipfix.proofs.records_stream.read_on.Goals as goal
 pub pieces-init : goal.pieces-init
 pieces-init g c = record {
   takes = c.requires.1.0;
-  room = c.requires.1.1;
+  waiting = c.requires.1.1.0;
+  room = c.requires.1.1.1;
   inputs = refl;
   side = refl;
   slot = refl;
@@ -62,6 +63,7 @@ pieces-preserved g c =
             c.refill.new.reader feeds.0 paused.1 c.refill.ensures.outputs feeds.2 feeds.3 feeds.4,
         paused.0.1,
       );
+      waiting = c.in-Ok-More.ensures.waiting;
       room = omega (arith, c.pieces.invariant.room, c.refill.auto.piece);
       inputs = feeds.3.side ∙ ap (λ (r : desk.Reading). r.side) c.take_shown.ensures.inputs ∙ c.pieces.invariant.inputs;
       side = ap (λ (w : Writing). w.side) c.refill.ensures.outputs ∙ c.in-Ok-More.ensures.same ∙ c.pieces.invariant.side;

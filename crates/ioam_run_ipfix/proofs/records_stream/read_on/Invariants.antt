@@ -1,5 +1,6 @@
 use Rattle.std.proofs.Common.{◌≡◌, ◌-◌, length}
 use Rattle.ioam_ipfix.specs.Reading.{fed}
+use Rattle.ioam_desk_outputs.specs.Told.{GathersFew}
 use Rattle.ioam_run_ipfix.specs.TakeSteps.{TakesSo}
 use Rattle.ioam_run_ipfix.specs.Streams.{Frames}
 use Rattle.ioam_run_ipfix.proofs.records_stream.read_on.Given as goal
@@ -8,6 +9,7 @@ use Rattle.ioam_run_ipfix.proofs.records_stream.read_on.Given as goal
 abbrev pub invariant-pieces : goal.invariant-pieces
 invariant-pieces g l = record {
   takes : TakesSo g.D.Desk.tells g.start (g.D.Desk.reading l.desk) (g.D.Desk.writing l.desk) l.taker l.outputs;
+  waiting : GathersFew l.outputs;
   room : length l.piece ≡ 65536;
   inputs : (g.D.Desk.reading l.desk).side ≡ (g.D.Desk.reading l.initial.desk).side;
   side : (g.D.Desk.writing l.desk).side ≡ (g.D.Desk.writing l.initial.desk).side;

@@ -1,12 +1,14 @@
 use Rattle.std.proofs.Common.{refl, ◌∙◌, arith}
 use Rattle.std.proofs.lemmas.Result.{err_from_is_err_and}
+use Rattle.ioam_run_ipfix.proofs.FewLaws.{takes-few}
 use Rattle.ioam_run_ipfix.proofs.StreamLaws.{Frames-same, Frames-then}
 use Rattle.ioam_run_ipfix.proofs.TakeStepLaws.{taking-few, taking-one, taking-open, taking-record, taking-slot, taking-flushed, taking-frames, taking-sticks_here, taking-sticks_flushed, pauses-step}
 use Rattle.ioam_run_ipfix.proofs.records_stream.take_shown.Goals as goal
 
 pub records-init : goal.records-init
 records-init g c = record {
-  takes = c.requires.1;
+  takes = c.requires.1.0;
+  waiting = c.requires.1.1;
   inputs = refl;
   side = refl;
   fed = refl;
@@ -29,6 +31,10 @@ pub returns-in-Ok-Some-clause-paused : goal.returns-in-Ok-Some-clause-paused
 returns-in-Ok-Some-clause-paused g c = pauses-step g.D.Desk.tells g.start (g.D.Desk.reading c.records.desk) (g.D.Desk.writing c.records.desk) c.records.taker.slot c.records.taker.reader
     c.records.taker.given c.records.outputs c.records.invariant.takes.0 c.step.new.taker.reader c.step.new.taker.given c.step.new.outputs c.step.new.taker _
     c.in-Ok-Some.ensures.slot refl refl c.in-Ok-Some.ensures.room (rw c.in-Ok-Some.field-0-is at c.in-Ok-Some.ensures.stepped)
+
+pub returns-in-Ok-Some-clause-waiting : goal.returns-in-Ok-Some-clause-waiting
+returns-in-Ok-Some-clause-waiting g c = takes-few c.records.taker.reader c.step.new.taker.reader c.records.taker.given c.step.new.taker.given c.records.outputs c.step.new.outputs _
+    (rw c.in-Ok-Some.field-0-is at c.in-Ok-Some.ensures.stepped) c.records.invariant.waiting
 
 pub returns-in-Err-clause-sticks : goal.returns-in-Err-clause-sticks
 returns-in-Err-clause-sticks g c = taking-sticks_here g.D.Desk.tells g.start (g.D.Desk.reading c.records.desk) (g.D.Desk.writing c.records.desk) c.records.taker.slot c.records.taker.reader
@@ -80,6 +86,7 @@ records-preserved g c =
             c.flush_full.ensures.inputs c.flush_full.ensures.told),
         c.in-Ok-None.ensures.room,
       );
+      waiting = c.in_ok-flush_full.ensures.few;
       inputs = c.flush_full.ensures.inputs ∙ c.records.invariant.inputs;
       side = c.in_ok-flush_full.ensures.same ∙ c.records.invariant.side;
       fed = stepped.3.2.fed ∙ c.records.invariant.fed;
