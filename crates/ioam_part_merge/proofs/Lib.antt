@@ -1,0 +1,4 @@
+mod RecordLaws
+mod SideLaws
+mod TurnLaws
+pub mod WalkLaws
