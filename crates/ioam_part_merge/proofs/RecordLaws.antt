@@ -6,7 +6,7 @@ use Rattle.ioam_dex.specs.Record.{Record, IsRecord, record_octets, record_size}
 use Rattle.ioam_dex.specs.Reads.{records_octets}
 use Rattle.ioam_dex.specs.Visit.{visit_octets}
 use Rattle.ioam_dex.proofs.RecordLaws.{record_octets-length}
-use Rattle.ioam_pool.specs.Entry.{Entry, has_some, is_full}
+use Rattle.ioam_collect.specs.Entry.{Entry, has_some, is_full}
 use Rattle.ioam_collect.specs.Keyed.{core_of, keyed_of, keyed, with_keyed, hops_of}
 use Rattle.ioam_collect.specs.declared.key.Key.{Key}
 use Rattle.ioam_collect.proofs.Members.{Has}

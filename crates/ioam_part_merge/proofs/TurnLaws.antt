@@ -8,7 +8,7 @@ use Rattle.ioam_dex.specs.Record.{Record, IsRecord, record_of}
 use Rattle.ioam_dex.specs.Reads.{records_octets}
 use Rattle.ioam_dex.specs.Visit.{visit_octets}
 use Rattle.ioam_dex.specs.declared.export.Export.{Export}
-use Rattle.ioam_pool.specs.Entry.{Entry, has_some}
+use Rattle.ioam_collect.specs.Entry.{Entry, has_some}
 use Rattle.ioam_collect.specs.Best.{tells}
 use Rattle.ioam_collect.specs.Keyed.{keyed, keyed_by, keyed_of, hops_of, item_of}
 use Rattle.ioam_collect.specs.Unite.{pair_meet, tied, one_by, united}

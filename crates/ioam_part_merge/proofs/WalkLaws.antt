@@ -5,7 +5,7 @@ use Rattle.std.specs.Prelude.{IfSome, IsTrue, is_some}
 use Rattle.ioam_dex.specs.Record.{Record, IsRecord, Rec, record_of, record_octets}
 use Rattle.ioam_dex.specs.Reads.{records_octets}
 use Rattle.ioam_dex.specs.declared.export.Export.{Export}
-use Rattle.ioam_pool.specs.Entry.{Entry}
+use Rattle.ioam_collect.specs.Entry.{Entry}
 use Rattle.ioam_collect.specs.Best.{groups_of, kept_of}
 use Rattle.ioam_collect.specs.Collected.{count_kept}
 use Rattle.ioam_collect.specs.Keyed.{keyed}

@@ -1,7 +1,7 @@
 -- The key and the item of a record that has a key.
 use Rattle.std.specs.Prelude.{unwrap_or}
 use Rattle.ioam_dex.specs.Record.{Record}
-use Rattle.ioam_pool.specs.Entry.{Entry}
+use Rattle.ioam_collect.specs.Entry.{Entry}
 use Rattle.ioam_collect.specs.Keyed.{hops_of, item_of}
 use Rattle.ioam_collect.specs.declared.key.Key.{Key}
 
@@ -13,5 +13,6 @@ key_of x = record { namespace = record { 0 = x.namespace }; flow = unwrap_or x.f
 abbrev pub entry_of : Record → Entry
 entry_of x = item_of (unwrap_or (hops_of x) 0) x
 
+-- both
 abbrev pub pair_of : Record → Key × Entry
 pair_of x = (key_of x, entry_of x)

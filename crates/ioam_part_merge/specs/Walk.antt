@@ -6,7 +6,7 @@ use Rattle.std.specs.declared.cmp.Ordering.TheVariants.{Less, Equal, Greater}
 use Rattle.ioam_dex.specs.Record.{Record, IsRecord, Rec, record_of, record_octets}
 use Rattle.ioam_dex.specs.Reads.{records_octets}
 use Rattle.ioam_dex.specs.declared.export.Export.{Export}
-use Rattle.ioam_pool.specs.Entry.{Entry}
+use Rattle.ioam_collect.specs.Entry.{Entry}
 use Rattle.ioam_collect.specs.Keyed.{keyed, keyed_of}
 use Rattle.ioam_collect.specs.Unite.{pair_meet, united}
 use Rattle.ioam_collect.specs.declared.key.Key.{Key}
@@ -60,6 +60,7 @@ turn_of (Some e) (Some f) = turn_by (pair_meet (pair_of (record_of e)) (pair_of 
 abbrev pub Finds : Key × Entry → List Record → List Record → List Record → List Record → Type 0
 Finds pair xs ys rest others = united (keyed xs) (keyed ys) ≡ pair ∷ united (keyed rest) (keyed others)
 
+-- the first record of the one list comes next, and its pair is found first
 pub record TakesFirst (xs ys : List Record) : Type 0 where
   pub one : Record
   pub rest : List Record
@@ -68,6 +69,7 @@ pub record TakesFirst (xs ys : List Record) : Type 0 where
   pub says : keyed_of one ≡ Some pair
   pub finds : Finds pair xs ys rest ys
 
+-- that of the other list
 pub record TakesSecond (xs ys : List Record) : Type 0 where
   pub one : Record
   pub rest : List Record
@@ -76,6 +78,7 @@ pub record TakesSecond (xs ys : List Record) : Type 0 where
   pub says : keyed_of one ≡ Some pair
   pub finds : Finds pair xs ys xs rest
 
+-- both have the pair that is found first, and both are taken
 pub record TakesBoth (xs ys : List Record) : Type 0 where
   pub one : Record
   pub other : Record
@@ -94,12 +97,14 @@ pub record LeavesFirst (xs ys : List Record) : Type 0 where
   pub are : xs ≡ one ∷ rest
   pub goes : united (keyed xs) (keyed ys) ≡ united (keyed rest) (keyed ys)
 
+-- or without the first of the other
 pub record LeavesSecond (xs ys : List Record) : Type 0 where
   pub one : Record
   pub rest : List Record
   pub are : ys ≡ one ∷ rest
   pub goes : united (keyed xs) (keyed ys) ≡ united (keyed xs) (keyed rest)
 
+-- what a turn does with the records that are left of both lists
 abbrev pub TurnsSo : Turn → List Record → List Record → Type 0
 TurnsSo turn.Done xs ys = (xs ≡ []) × (ys ≡ [])
 TurnsSo turn.First xs ys = TakesFirst xs ys
@@ -124,6 +129,7 @@ pub record Walking : Type 0 where
   pub first : Side
   pub second : Side
 
+-- a walk of these two sides
 abbrev pub sides : Side → Side → Walking
 sides first second = record { first = first; second = second }
 
@@ -147,9 +153,11 @@ pub record NextIs (ps : List (Key × Entry)) (octets : List ℕ) (new : Walking)
 abbrev pub left_of : Side → ℕ
 left_of side = length side.octets.now + length side.behind.now
 
+-- the same of a walk
 abbrev pub left : Walking → ℕ
 left walk = left_of walk.first + left_of walk.second
 
+-- what a step leaves of the pairs that come
 abbrev pub StepsSo : List (Key × Entry) → Step → Walking → Type 0
 StepsSo ps step.Done new = ps ≡ []
 StepsSo ps step.Without new = Comes new ps

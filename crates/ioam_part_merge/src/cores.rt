@@ -4,7 +4,7 @@ ghost use Rattle.std.specs.Cmp.Lexicographic.{slice_cmp};
 ghost use Rattle.std.specs.Ordering.{nat_cmp};
 ghost use Rattle.ioam_dex.specs.Record.{HasItsParts, record_octets, record_of};
 ghost use Rattle.ioam_dex.specs.Visit.{visit_octets};
-ghost use Rattle.ioam_pool.specs.Order as order;
+ghost use Rattle.ioam_collect.specs.Order as order;
 ghost use Rattle.ioam_collect.specs.Keyed as collect;
 ghost use Rattle.ioam_collect.specs.Unite.{pair_meet};
 ghost use Rattle.ioam_part_merge.specs.Pairs.{entry_of, key_of, pair_of};

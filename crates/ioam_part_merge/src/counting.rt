@@ -1,6 +1,6 @@
 //! How many records two parts hold together, and the head of the part that has them.
 ghost use Rattle.std.specs.Prelude.{◌≡◌, ◌<◌, ◌≤◌, List, MatchOption, length};
-ghost use Rattle.ioam_pool.specs.Entry.{Entry};
+ghost use Rattle.ioam_collect.specs.Entry.{Entry};
 ghost use Rattle.ioam_collect.specs.declared.key.Key.{Key};
 ghost use Rattle.ioam_part.specs.Part.{head_octets};
 ghost use Rattle.ioam_part_merge.specs.Walk.{Comes};

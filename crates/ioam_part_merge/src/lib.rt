@@ -14,3 +14,5 @@ mod walk;
 pub use counting::{count_both, head_of};
 pub use keeper::{PartKeeper, PartOctets};
 pub use walk::Walk;
+// The most octets of a record that comes of a walk.
+pub use ioam_dex::MOST_RECORD;

@@ -1,6 +1,6 @@
 //! Steps along two parts.
 ghost use Rattle.std.specs.Prelude.{◌≡◌, ◌<◌, [], IfSome, List, MatchOption};
-ghost use Rattle.ioam_pool.specs.Entry.{Entry};
+ghost use Rattle.ioam_collect.specs.Entry.{Entry};
 ghost use Rattle.ioam_collect.specs.declared.key.Key.{Key};
 ghost use Rattle.ioam_part_merge.specs.Walk.{Comes, Goes, NextIs, Says, StepsSo, left, sides};
 

@@ -1,7 +1,7 @@
 //! Two parts that are walked side by side.
 ghost use Rattle.std.specs.Prelude.{◌≡◌, ◌<◌, ◌≤◌, [], IfOk, IfSome, List, MatchOption, drop, length};
 ghost use Rattle.ioam_dex.specs.Record.{Record};
-ghost use Rattle.ioam_pool.specs.Entry.{Entry};
+ghost use Rattle.ioam_collect.specs.Entry.{Entry};
 ghost use Rattle.ioam_collect.specs.Keyed.{keyed};
 ghost use Rattle.ioam_collect.specs.Unite.{united};
 ghost use Rattle.ioam_collect.specs.declared.key.Key.{Key};

@@ -1,26 +1,25 @@
 -- What two parts join to.
-use Rattle.std.proofs.Common.{◌≡◌, ℕ, ◌<◌, ◌≤◌, Bool, List, ◌++◌, length, All, refl, sym, ap, ap₂, ◌∙◌, subst, inl, inr, [], arith, Ok, Err}
-use Rattle.std.specs.Prelude.{Result, IfOk}
-use Rattle.std.proofs.lemmas.List.Elements.{All-append}
+use Rattle.std.proofs.Common.{◌≡◌, ℕ, ◌<◌, ◌≤◌, Bool, List, length, ◌++◌, refl, sym, ap, ap₂, ◌∙◌, subst, inl, inr, arith, Option, None, Some, Ok, Err}
+use Rattle.std.specs.Prelude.{Result, MatchOption}
 use Rattle.ioam_desk.specs.Desk.{Writing}
 use Rattle.ioam_desk.specs.declared.fault.DeskFault.{DeskFault}
 use Rattle.ioam_desk.specs.declared.fault.DeskFault.TheVariants.{Failed, NoMemory}
-use Rattle.ioam_run_answer.specs.Record.{IsRecord, Record}
-use Rattle.ioam_collect.specs.Best.{groups_of, kept_of}
-use Rattle.ioam_collect.specs.Collected.{Collected, Stands, count_kept}
-use Rattle.ioam_collect.specs.Join.{joined}
-use Rattle.ioam_collect.specs.Joining.{count_in, Joins}
-use Rattle.ioam_collect.specs.declared.joining.Joined.{Joined}
-use Rattle.ioam_collect.specs.declared.joining.Joined.TheVariants as answer
+use Rattle.ioam_run_answer.specs.Record.{Record}
+use Rattle.ioam_collect.specs.Best.{groups_of}
+use Rattle.ioam_collect.specs.Entry.{Entry}
 use Rattle.ioam_collect.specs.Keyed.{keyed}
-use Rattle.ioam_collect.proofs.JoinLaws.{groups_join, pairs_groups}
+use Rattle.ioam_collect.specs.Unite.{united}
+use Rattle.ioam_collect.specs.declared.key.Key.{Key}
+use Rattle.ioam_collect.proofs.JoinLaws.{pairs_groups}
 use Rattle.ioam_collect.proofs.JoiningLaws.{keyed-append}
 use Rattle.ioam_collect.proofs.UniteLaws.{apart_kept}
-use Rattle.ioam_part.specs.Part.{IsPart, PartOf, JoinsTo}
+use Rattle.ioam_part.specs.Part.{IsPart, PartOf, JoinsTo, head_octets}
 use Rattle.ioam_part.proofs.PartLaws.{joined_is, joined_only, joined_swaps, joined_associates, joined_repeats, groups_same, part_same}
+use Rattle.ioam_part_merge.specs.Walk.{Walking, Comes, pairs_octets, pairs_text}
+use Rattle.ioam_part_merge.proofs.WalkLaws.{count_is, text_is_part}
 use Rattle.ioam_run_answer.specs.declared.outcome.Outcome.{Outcome}
 use Rattle.ioam_run_answer.specs.declared.outcome.Outcome.TheVariants as outcome
-use Rattle.ioam_run_part.specs.Joined.{IsJoinedText, JoinsRecords, RefusesJoined, WritesJoined}
+use Rattle.ioam_run_part.specs.Joined.{Counts, CountsBoth, IsPlan, RefusesJoined, WritesJoined}
 use Rattle.ioam_run_part.specs.MergePromise.{IsMerged}
 use Rattle.ioam_run_part.specs.Records.{IsPartOfAll, KeepFew}
 use Rattle.ioam_run_part.specs.Stored.{Stores, answer_of}
@@ -45,20 +44,6 @@ merged one two both xs ys first second all =
       );
     }
 
--- how many records both groups have
-pub count_both : (a b : Collected) (xs ys : List Record) → a.groups ≡ groups_of (keyed xs) → b.groups ≡ groups_of (keyed ys)
-    → count_in (joined a.groups b.groups) ≡ count_kept (xs ++ ys)
-count_both a b xs ys first second =
-    ap count_in (ap₂ joined first second ∙ groups_join (keyed xs) (keyed ys)) ∙ ap length (pairs_groups (keyed xs ++ keyed ys))
-    ∙ ap (λ ps. length (kept_of ps)) (sym (keyed-append xs ys))
-
-pub many_both : (limit : ℕ) (a b : Collected) (xs ys : List Record) → a.groups ≡ groups_of (keyed xs) → b.groups ≡ groups_of (keyed ys)
-    → limit < count_in (joined a.groups b.groups) → limit < count_kept (xs ++ ys)
-many_both limit a b xs ys first second past = let same = count_both a b xs ys first second in omega (arith, same, past)
-
-pub few_both : (c : Collected) (xs ys : List Record) → Stands c (xs ++ ys) → c.held ≤ 1048576 → KeepFew xs ys
-few_both c xs ys stands within = let held = stands.groups.held in omega (arith, held, within)
-
 -- the part of both was written, or a front of it
 pub written : (tells : Bool) (name : List ℕ) (xs ys : List Record) (old new : Writing) (text : List ℕ) (r : Result (Unit {0}) DeskFault) → KeepFew xs ys
     → IsPartOfAll (xs ++ ys) text → Stores tells name text old new r → WritesJoined tells name xs ys old new (answer_of r)
@@ -66,22 +51,32 @@ written tells name xs ys old new text (Ok done) few part stores = (few, record {
 written tells name xs ys old new text (Err Failed) few part stores = (stores.0, record { text = text; part = part; held = stores.1 })
 written tells name xs ys old new text (Err NoMemory) few part stores = inr (record { text = text; part = part; held = stores })
 
--- what joining answers, of the records that both stand for
-pub joins_records : {E : Type 0} (a b new : Collected) (r : Result Joined E) → ((xs : List Record) → Stands a xs → a.groups ≡ groups_of (keyed xs))
-    → ((ys : List Record) → Stands b ys → b.groups ≡ groups_of (keyed ys)) → Joins a b r new
-    → IfOk r (λ answer. (xs ys : List Record) → Stands a xs → Stands b ys → JoinsRecords a.limit xs ys answer new)
-joins_records a b new (Ok answer.Joined) first second joins = λ xs ys of_a of_b. (joins.stands xs ys of_a of_b, joins.within)
-joins_records a b new (Ok answer.Full) first second joins = λ xs ys of_a of_b. many_both a.limit a b xs ys (first xs of_a) (second ys of_b) joins.0
-joins_records a b new (Err why) first second joins = tt
+-- what a walk was found to have
+pub counts_as : (ps : List (Key × Entry)) (count : Option ℕ) → MatchOption count (1048576 < length ps) (λ n. (n ≡ length ps) × (n ≤ 1048576)) → Counts ps count
+counts_as ps None past = past
+counts_as ps (Some n) counts = counts
 
--- the part of both, once they were joined
-pub joined_text : (c : Collected) (xs ys : List Record) (before after text : List ℕ) → All IsRecord xs → All IsRecord ys → Stands c (xs ++ ys) → c.held ≤ 1048576
-    → ((zs : List Record) → All IsRecord zs → Stands c zs → c.held ≤ 1048576 → PartOf text (groups_of (keyed zs))) → before ≡ [] → after ≡ before ++ text
-    → IsJoinedText xs ys after
-joined_text c xs ys before after text all_x all_y stands within part none is = (
-  few_both c xs ys stands within,
-  subst (IsPartOfAll (xs ++ ys)) (sym (is ∙ ap (λ o. o ++ text) none)) (part (xs ++ ys) (All-append IsRecord xs ys all_x all_y) stands within),
-)
+-- how many records both have, by how many come of a walk
+pub counted : (one two : List ℕ) (xs ys : List Record) (count : Option ℕ) → IsPart one xs → IsPart two ys → Counts (united (keyed xs) (keyed ys)) count → CountsBoth xs ys count
+counted one two xs ys None p q past = let same = count_is one two xs ys p q in omega (arith, same, past)
+counted one two xs ys (Some count) p q counts = let same = count_is one two xs ys p q in let is = counts.0 in let few = counts.1 in omega (arith, same, is, few)
+
+-- what a plan has
+pub plan_is : (one two : List ℕ) (xs ys : List Record) (walk : Walking) (gathered : List ℕ) (count : ℕ) → IsPart one xs → IsPart two ys
+    → Counts (united (keyed xs) (keyed ys)) (Some count) → Comes walk (united (keyed xs) (keyed ys)) → gathered ≡ head_octets count → IsPlan xs ys walk gathered
+plan_is one two xs ys walk gathered count p q counts comes head =
+    record { few = counted one two xs ys (Some count) p q counts; comes = comes; head = head ∙ ap head_octets counts.0 }
+
+-- what a plan writes is the part of both
+pub planned : (one two : List ℕ) (xs ys : List Record) (walk : Walking) (gathered : List ℕ) → IsPart one xs → IsPart two ys → IsPlan xs ys walk gathered
+    → IsPartOfAll (xs ++ ys) (gathered ++ pairs_octets (united (keyed xs) (keyed ys)))
+planned one two xs ys walk gathered p q plan =
+    let same = count_is one two xs ys p q in
+    let few = plan.few in
+    let us : List (Key × Entry) = united (keyed xs) (keyed ys) in
+    let text : PartOf (pairs_text us) (groups_of (keyed xs ++ keyed ys)) = text_is_part one two xs ys p q (omega (arith, same, few)) in
+    subst (λ ps. PartOf (gathered ++ pairs_octets us) (groups_of ps)) (sym (keyed-append xs ys))
+    (subst (λ o. PartOf (o ++ pairs_octets us) (groups_of (keyed xs ++ keyed ys))) (sym plan.head) text)
 
 -- nothing was opened
 pub unwritten : (tells : Bool) (name : List ℕ) (xs ys : List Record) (old : Writing) (answer : Outcome) → RefusesJoined xs ys answer → WritesJoined tells name xs ys old old answer

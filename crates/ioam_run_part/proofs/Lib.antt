@@ -1,4 +1,5 @@
 mod FileLaws
+mod FlatLaws
 mod JoinedLaws
 mod KeptLaws
 mod MergeAskedLaws
@@ -12,3 +13,4 @@ mod RecordsLaws
 mod StoredLaws
 mod TwoLaws
 mod UnreadLaws
+mod WalkedLaws

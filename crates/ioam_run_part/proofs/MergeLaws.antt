@@ -6,7 +6,6 @@ use Rattle.ioam_desk.specs.Desk.{Side, Writing, Rose}
 use Rattle.ioam_desk.specs.Kept.{KeepsOutputs}
 use Rattle.ioam_desk.proofs.KeptLaws.{KeepsInputs-same, KeepsOutputs-same}
 use Rattle.ioam_run_answer.specs.Record.{Record}
-use Rattle.ioam_collect.specs.Collected.{Collected}
 use Rattle.ioam_run_answer.specs.Desks.{Desks}
 use Rattle.ioam_run_answer.specs.Outcomes.{IsDone, IsBehindAll, OpensNothing}
 use Rattle.ioam_run_answer.specs.declared.outcome.Outcome.{Outcome}
@@ -80,7 +79,7 @@ module _ (desks : Desks) (files : MergeNames) (same : desks.new ≡ desks.old) w
 
 -- ---- both were read
 
-module _ (desks : Desks) (files : MergeNames) (a b : Collected)
+module _ (desks : Desks) (files : MergeNames) (a b : List ℕ)
     (holds_two : HoldsTwo desks.tells (one_held desks files) (two_held desks files) files.one files.two desks.old_in desks.new_in a b) where
   abbrev xs : List Record
   xs = holds_two.first_held.records
@@ -91,17 +90,17 @@ module _ (desks : Desks) (files : MergeNames) (a b : Collected)
   abbrev Writes : Outcome → Type 0
   Writes = WritesJoined desks.tells files.part xs ys desks.old desks.new
 
-  hold_both : (P : List ℕ → List ℕ → Type 0) → IsTrue desks.tells → P holds_two.first_held.octets holds_two.second_held.octets → HoldBoth (one_held desks files) (two_held desks files) P
-  hold_both P told held = both_held (one_held desks files) (two_held desks files) holds_two.first_held.octets holds_two.second_held.octets P (holds_two.first_held.is told) (holds_two.second_held.is told) held
+  hold_both : (P : List ℕ → List ℕ → Type 0) → IsTrue desks.tells → P a b → HoldBoth (one_held desks files) (two_held desks files) P
+  hold_both P told held = both_held (one_held desks files) (two_held desks files) a b P (holds_two.first_held.is told) (holds_two.second_held.is told) held
 
-  parts_are : (P : List Record → List Record → Type 0) → P xs ys → AreParts P holds_two.first_held.octets holds_two.second_held.octets
+  parts_are : (P : List Record → List Record → Type 0) → P xs ys → AreParts P a b
   parts_are P are = record { firsts = xs; seconds = ys; first = holds_two.first_held.part; second = holds_two.second_held.part; are = are }
 
   merged_whole : IsTrue desks.tells → HoldsBoth desks.tells files.part xs ys desks.old desks.new
       → HoldBoth (one_held desks files) (two_held desks files) (HoldsMerged desks.new files.part)
   merged_whole told held = hold_both (HoldsMerged desks.new files.part) told (record {
     both = held.text;
-    merged = merged holds_two.first_held.octets holds_two.second_held.octets held.text xs ys holds_two.first_held.part holds_two.second_held.part held.part;
+    merged = merged a b held.text xs ys holds_two.first_held.part holds_two.second_held.part held.part;
     held = held.held told;
   })
 
@@ -109,7 +108,7 @@ module _ (desks : Desks) (files : MergeNames) (a b : Collected)
       → HoldBoth (one_held desks files) (two_held desks files) (HoldsMergedFront desks.old desks.new files.part)
   merged_front told held = hold_both (HoldsMergedFront desks.old desks.new files.part) told (record {
     both = held.text;
-    merged = merged holds_two.first_held.octets holds_two.second_held.octets held.text xs ys holds_two.first_held.part holds_two.second_held.part held.part;
+    merged = merged a b held.text xs ys holds_two.first_held.part holds_two.second_held.part held.part;
     held = held.held told;
   })
 

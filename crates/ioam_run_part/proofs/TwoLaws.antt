@@ -6,13 +6,13 @@ use Rattle.ioam_desk.specs.Desk as desk
 use Rattle.ioam_desk.specs.Desk.{Side, Rose, opened_side}
 use Rattle.ioam_desk.specs.Kept.{KeepsInputs}
 use Rattle.ioam_desk.proofs.KeptLaws.{KeepsInputs-then}
-use Rattle.ioam_collect.specs.Collected.{Collected}
 use Rattle.ioam_part.specs.Faults.{HasFault}
 use Rattle.ioam_run_answer.specs.declared.outcome.Outcome.{Outcome}
 use Rattle.ioam_run_answer.specs.declared.outcome.Outcome.TheVariants as outcome
 use Rattle.ioam_run_part.specs.Records.{IsAPart, IsSecondFaulty, ReadsFew}
 use Rattle.ioam_run_part.specs.Two.{TriesTwo, HoldsTwo, RefusesTwo}
-use Rattle.ioam_run_part.specs.Unread.{IsHeld, ReadsFile, answer_of}
+use Rattle.ioam_run_part.specs.Flat.{IsFlat, ReadsFlatFile}
+use Rattle.ioam_run_part.specs.Unread.{answer_of}
 use Rattle.ioam_run_part.specs.declared.unread.Unread.{Unread}
 use Rattle.ioam_run_part.specs.declared.unread.Unread.TheVariants as unread
 use Rattle.ioam_run_part.proofs.MergeLaws.{some_held}
@@ -38,8 +38,8 @@ some_map : (o : Option (List ℕ)) (P Q : List ℕ → Type 0) → ((octets : Li
 some_map None P Q f held = absurd held
 some_map (Some octets) P Q f held = f octets held
 
-is_a_part : (tells : Bool) (content : Option (List ℕ)) (c : Collected) → IsHeld tells content c → IsTrue tells → IsSomeAnd content IsAPart
-is_a_part tells content c held told = some_held content held.octets IsAPart (held.is told) (held.records, held.part)
+is_a_part : (tells : Bool) (content : Option (List ℕ)) (c : List ℕ) → IsFlat tells content c → IsTrue tells → IsSomeAnd content IsAPart
+is_a_part tells content c held told = some_held content c IsAPart (held.is told) (held.records, held.part)
 
 -- an answer, or want of memory
 pub either_refuses : (tells : Bool) (first second : Option (List ℕ)) (one two : List ℕ) (old new : desk.Reading) (answer is : Outcome)
@@ -51,7 +51,7 @@ either_refuses tells first second one two old new answer is either refuses =
 -- ---- the first wasn't read
 
 module _ (tells : Bool) (first second : Option (List ℕ)) (one two : List ℕ) (old new : desk.Reading) where
-  pub first_refuses : (why : Unread) → ReadsFile tells first one old new (Err why) → RefusesTwo tells first second one two old new (answer_of one why)
+  pub first_refuses : (why : Unread) → ReadsFlatFile tells first one old new (Err why) → RefusesTwo tells first second one two old new (answer_of one why)
   first_refuses (unread.Fault at fault) reads = inl (refl, reads.1)
   first_refuses unread.Failed reads = reads.0
   first_refuses unread.NoMemory reads = tt
@@ -73,7 +73,7 @@ module _ (tells : Bool) (first second : Option (List ℕ)) (one two : List ℕ) 
 
 -- ---- it was
 
-module _ (tells : Bool) (first second : Option (List ℕ)) (one two : List ℕ) (old mid new : desk.Reading) (a : Collected) (reads_one : ReadsFile tells first one old mid (Ok a)) where
+module _ (tells : Bool) (first second : Option (List ℕ)) (one two : List ℕ) (old mid new : desk.Reading) (a : List ℕ) (reads_one : ReadsFlatFile tells first one old mid (Ok a)) where
   mid_asked : mid.side.asked ≡ old.side.asked ++ one ∷ []
   mid_asked = ap (λ (s : Side). s.asked) reads_one.0
 
@@ -83,11 +83,11 @@ module _ (tells : Bool) (first second : Option (List ℕ)) (one two : List ℕ) 
   mid_faults : mid.side.faults ≡ old.side.faults
   mid_faults = ap (λ (s : Side). s.faults) reads_one.0
 
-  pub second_refuses : (why : Unread) → ReadsFile tells second two mid new (Err why) → RefusesTwo tells first second one two old new (answer_of two why)
+  pub second_refuses : (why : Unread) → ReadsFlatFile tells second two mid new (Err why) → RefusesTwo tells first second one two old new (answer_of two why)
   second_refuses (unread.Fault at fault) reads = inr (
     refl,
-    λ told. some_held first reads_one.1.octets (λ o. IsSomeAnd second (IsSecondFaulty at fault o)) (reads_one.1.is told)
-        (some_map second (λ o. HasFault o at fault) (IsSecondFaulty at fault reads_one.1.octets) (λ octets bad. ((reads_one.1.records, reads_one.1.part), bad)) (reads.1 told)),
+    λ told. some_held first a (λ o. IsSomeAnd second (IsSecondFaulty at fault o)) (reads_one.1.is told)
+        (some_map second (λ o. HasFault o at fault) (IsSecondFaulty at fault a) (λ octets bad. ((reads_one.1.records, reads_one.1.part), bad)) (reads.1 told)),
   )
   second_refuses unread.Failed reads = subst (λ n. Rose n new.side.faults) mid_faults reads.0
   second_refuses unread.NoMemory reads = tt
@@ -110,7 +110,7 @@ module _ (tells : Bool) (first second : Option (List ℕ)) (one two : List ℕ) 
         subst (λ k. ReadsFew tells second k new) grew (few_two (omega (arith, grew, more)));
   }
 
-  pub holds_two : KeepsInputs mid new → (b : Collected) → ReadsFile tells second two mid new (Ok b) → HoldsTwo tells first second one two old new a b
+  pub holds_two : KeepsInputs mid new → (b : List ℕ) → ReadsFlatFile tells second two mid new (Ok b) → HoldsTwo tells first second one two old new a b
   holds_two kept b reads = record {
     side = reads.0 ∙ ap (λ (s : Side). opened_side s two) reads_one.0;
     first_held = reads_one.1;

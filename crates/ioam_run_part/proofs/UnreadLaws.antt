@@ -57,24 +57,24 @@ fed_all reading body xs stands =
     let size : length body ≡ length (records_octets xs) + length reading.pending = ap length stands.splits.is ∙ length-append (records_octets xs) reading.pending in
     omega (arith, at, size)
 
-sound : (octets : List ℕ) (r : PartReading) → fault_of r ≡ None → part.Stands 1048576 octets r → IsOpen 1048576 octets r ⊎ IsBehind 1048576 octets r
-sound octets r none stands = subst (StandsBy 1048576 octets r) none stands
+sound : (limit : ℕ) (octets : List ℕ) (r : PartReading) → fault_of r ≡ None → part.Stands limit octets r → IsOpen limit octets r ⊎ IsBehind limit octets r
+sound limit octets r none stands = subst (StandsBy limit octets r) none stands
 
-fed_by : (octets : List ℕ) (r : PartReading) → IsOpen 1048576 octets r ⊎ IsBehind 1048576 octets r → part.fed r ≤ length octets
-fed_by octets r (inl opened) = let none = fed_all r.reading [] [] (opened.took 0).stands in omega (arith, none)
-fed_by octets r (inr behind) =
+fed_by : (limit : ℕ) (octets : List ℕ) (r : PartReading) → IsOpen limit octets r ⊎ IsBehind limit octets r → part.fed r ≤ length octets
+fed_by limit octets r (inl opened) = let none = fed_all r.reading [] [] (opened.took 0).stands in omega (arith, none)
+fed_by limit octets r (inr behind) =
     let all = fed_all r.reading behind.body behind.records behind.took.stands in
     let size : length octets ≡ length r.head + length behind.body = ap length behind.is ∙ length-append r.head behind.body in
     omega (arith, all, size)
 
 -- no more than it was handed
-pub fed_few : (octets : List ℕ) (r : PartReading) → fault_of r ≡ None → part.Stands 1048576 octets r → part.fed r ≤ length octets
-fed_few octets r none stands = fed_by octets r (sound octets r none stands)
+pub fed_few : (limit : ℕ) (octets : List ℕ) (r : PartReading) → fault_of r ≡ None → part.Stands limit octets r → part.fed r ≤ length octets
+fed_few limit octets r none stands = fed_by limit octets r (sound limit octets r none stands)
 
 -- octets in which no fault was found are no more than the longest part, and the front of a record
-few_by : (octets : List ℕ) (r : PartReading) → IsOpen 1048576 octets r ⊎ IsBehind 1048576 octets r → length octets < 287311000
-few_by octets r (inl opened) = let short = opened.short in omega (arith, short)
-few_by octets r (inr behind) =
+few_by : (limit : ℕ) (octets : List ℕ) (r : PartReading) → IsOpen limit octets r ⊎ IsBehind limit octets r → length octets < 287311000
+few_by limit octets r (inl opened) = let short = opened.short in omega (arith, short)
+few_by limit octets r (inr behind) =
     let stands = behind.took.stands in
     let size : length octets ≡ length r.head + length behind.body = ap length behind.is ∙ length-append r.head behind.body in
     let head : length r.head ≡ 12 = ap length behind.head in
@@ -85,8 +85,8 @@ few_by octets r (inr behind) =
     let most = behind.few in
     omega (arith, size, head, body, few, cut, within, most)
 
-pub undecided_few : (octets : List ℕ) (r : PartReading) → fault_of r ≡ None → part.Stands 1048576 octets r → length octets < 287311000
-undecided_few octets r none stands = few_by octets r (sound octets r none stands)
+pub undecided_few : (limit : ℕ) (octets : List ℕ) (r : PartReading) → fault_of r ≡ None → part.Stands limit octets r → length octets < 287311000
+undecided_few limit octets r none stands = few_by limit octets r (sound limit octets r none stands)
 
 -- ---- a piece more
 
@@ -107,7 +107,7 @@ decided tells content inputs slot left r fed so = by (fault_of r) refl so
     by : (o : Option (ℕ × PartFault)) → fault_of r ≡ o → (is_some o || nat_lt left 65536) ≡ true → (bad : ℕ × PartFault) × (fault_of r ≡ Some bad)
     by (Some bad) is so = (bad, is)
     by None is so =
-        let few = undecided_few fed.octets r is fed.stands in
+        let few = undecided_few 1048576 fed.octets r is fed.stands in
         let less : left < 65536 = grind (arith, so) in
         let within = fed.within in
         absurd (omega (arith, few, less, within))

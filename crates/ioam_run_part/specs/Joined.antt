@@ -1,23 +1,33 @@
--- What two collectors hold, joined and written as a part.
-use Rattle.std.specs.Prelude.{◌≡◌, ℕ, ◌<◌, ◌≤◌, ◌⊎◌, ⊤, Bool, IsTrue, List, [], ◌∷◌, ◌++◌, Some}
+-- Two parts, joined and written as one.
+use Rattle.std.specs.Prelude.{◌≡◌, ℕ, ◌<◌, ◌≤◌, ◌⊎◌, ⊤, Bool, IsTrue, List, [], ◌∷◌, ◌++◌, length, Option, None, Some}
 use Rattle.ioam_desk.specs.Desk.{Writing, Rose, holds}
 use Rattle.ioam_run_answer.specs.Record.{Record}
-use Rattle.ioam_collect.specs.Collected.{Collected, Stands, count_kept}
-use Rattle.ioam_collect.specs.declared.joining.Joined.{Joined}
-use Rattle.ioam_collect.specs.declared.joining.Joined.TheVariants as joined
+use Rattle.ioam_collect.specs.Entry.{Entry}
+use Rattle.ioam_collect.specs.Keyed.{keyed}
+use Rattle.ioam_collect.specs.Unite.{united}
+use Rattle.ioam_collect.specs.declared.key.Key.{Key}
+use Rattle.ioam_part.specs.Part.{head_octets}
+use Rattle.ioam_part_merge.specs.Walk.{Walking, Comes}
 use Rattle.ioam_run_answer.specs.declared.outcome.Outcome.{Outcome}
 use Rattle.ioam_run_answer.specs.declared.outcome.Outcome.TheVariants as outcome
 use Rattle.ioam_run_part.specs.Records.{IsPartOfAll, KeepFew, KeepMany}
 use Rattle.ioam_run_part.specs.Stored.{HoldsFrontOf}
 
--- the collector stands for the records of both; or what is kept of both is more than it may hold
-abbrev pub JoinsRecords : ℕ → List Record → List Record → Joined → Collected → Type 0
-JoinsRecords limit xs ys joined.Joined new = Stands new (xs ++ ys) × (new.held ≤ limit)
-JoinsRecords limit xs ys joined.Full new = limit < count_kept (xs ++ ys)
+-- how many pairs these are, or none where they are more than a part may have
+abbrev pub Counts : List (Key × Entry) → Option ℕ → Type 0
+Counts ps None = 1048576 < length ps
+Counts ps (Some count) = (count ≡ length ps) × (count ≤ 1048576)
 
--- the text is the part of the records of both, which are no more than a part may have
-abbrev pub IsJoinedText : List Record → List Record → List ℕ → Type 0
-IsJoinedText xs ys text = KeepFew xs ys × IsPartOfAll (xs ++ ys) text
+-- the same of the records that are kept of both
+abbrev pub CountsBoth : List Record → List Record → Option ℕ → Type 0
+CountsBoth xs ys None = KeepMany xs ys
+CountsBoth xs ys (Some count) = KeepFew xs ys
+
+-- what comes of the walk are the records of both, which are no more than a part may have, and this is their head
+pub record IsPlan (xs ys : List Record) (walk : Walking) (gathered : List ℕ) : Type 0 where
+  pub few : KeepFew xs ys
+  pub comes : Comes walk (united (keyed xs) (keyed ys))
+  pub head : gathered ≡ head_octets (length (united (keyed xs) (keyed ys)))
 
 -- or the answer where there is none
 abbrev pub RefusesJoined : List Record → List Record → Outcome → Type 0

@@ -1,4 +1,5 @@
 pub mod Files
+pub mod Flat
 pub mod Joined
 pub mod KeptText
 pub mod MergeEnds
@@ -11,5 +12,6 @@ pub mod Records
 pub mod Stored
 pub mod Two
 pub mod Unread
+pub mod Walked
 -- of the crates below, for the crates above
 pub use Rattle.ioam_report_groups.specs.GroupsText

@@ -4,12 +4,11 @@ use Rattle.ioam_desk.specs.Asked.{AsksFront}
 use Rattle.ioam_desk.specs.Desk as desk
 use Rattle.ioam_desk.specs.Desk.{Rose, opened_side}
 use Rattle.ioam_desk.specs.Kept.{KeepsInputs}
-use Rattle.ioam_collect.specs.Collected.{Collected}
 use Rattle.ioam_run_answer.specs.declared.outcome.Outcome.{Outcome}
 use Rattle.ioam_run_answer.specs.declared.outcome.Outcome.TheVariants as outcome
 use Rattle.ioam_run_part.specs.Records.{IsAPart, ReadsFew}
 use Rattle.ioam_run_part.specs.MergePromise.{IsFaulty}
-use Rattle.ioam_run_part.specs.Unread.{IsHeld}
+use Rattle.ioam_run_part.specs.Flat.{IsFlat}
 
 -- whatever was answered: the names that were asked for, the second only where the first is a part, what is as it was, and how
 -- much was read
@@ -22,14 +21,14 @@ pub record TriesTwo (tells : Bool) (first second : Option (List ℕ)) (one two :
   pub few_two : old.side.slots + 1 < new.side.slots → ReadsFew tells second (old.side.slots + 1) new
 
 -- both were read to their ends
-pub record HoldsTwo (tells : Bool) (first second : Option (List ℕ)) (one two : List ℕ) (old new : desk.Reading) (a b : Collected) : Type 0 where
+pub record HoldsTwo (tells : Bool) (first second : Option (List ℕ)) (one two : List ℕ) (old new : desk.Reading) (a b : List ℕ) : Type 0 where
   pub side : new.side ≡ opened_side (opened_side old.side one) two
-  pub first_held : IsHeld tells first a
-  pub second_held : IsHeld tells second b
+  pub first_held : IsFlat tells first a
+  pub second_held : IsFlat tells second b
   pub first_ended : IsTrue tells → IsTrue (new.ended old.side.slots)
   pub second_ended : IsTrue tells → IsTrue (new.ended (old.side.slots + 1))
 
--- what both hold, or the answer for the first that wasn't read
+-- the octets of both, or the answer for the first that wasn't read
 module _ (tells : Bool) (first second : Option (List ℕ)) (one two : List ℕ) (old new : desk.Reading) where
   -- the answer where one of the two wasn't read: the fault of a part, a failed read, or want of memory
   abbrev pub RefusesTwo : Outcome → Type 0
@@ -39,6 +38,6 @@ module _ (tells : Bool) (first second : Option (List ℕ)) (one two : List ℕ) 
   RefusesTwo _ = ⊥
 
   -- both were read, or this is the answer
-  abbrev pub ReadsTwo : Result (Collected × Collected) Outcome → Type 0
+  abbrev pub ReadsTwo : Result (List ℕ × List ℕ) Outcome → Type 0
   ReadsTwo (Ok both) = HoldsTwo tells first second one two old new both.0 both.1
   ReadsTwo (Err answer) = RefusesTwo answer

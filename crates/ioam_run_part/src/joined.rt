@@ -1,76 +1,117 @@
-//! What two collectors hold, joined and written as a part.
-ghost use Rattle.std.specs.Prelude.{◌≡◌, ◌∷◌, [], IfOk, IsTrue, List, All, MatchResult};
-ghost use Rattle.ioam_collect.specs.Collected.{Stands};
+//! Two parts, joined and written as one.
+ghost use Rattle.std.specs.Prelude.{◌≡◌, ◌∷◌, ◌++◌, [], IfOk, IsTrue, List, MatchResult, length, ℕ};
 ghost use Rattle.ioam_desk.specs.Asked.{AsksFront};
 ghost use Rattle.ioam_desk.specs.Kept.{KeepsOutputs};
-ghost use Rattle.ioam_run_answer.specs.Record.{IsRecord, Record};
-ghost use Rattle.ioam_run_part.specs.Joined.{IsJoinedText, JoinsRecords, RefusesJoined, WritesJoined};
+ghost use Rattle.ioam_run_answer.specs.Record.{Record};
+ghost use Rattle.ioam_collect.specs.Keyed.{keyed};
+ghost use Rattle.ioam_collect.specs.Unite.{united};
+ghost use Rattle.ioam_part.specs.Part.{IsPart, head_octets};
+ghost use Rattle.ioam_part_merge.specs.Walk.{Comes, pairs_octets};
+ghost use Rattle.ioam_collect.specs.Entry.{Entry};
+ghost use Rattle.ioam_collect.specs.declared.key.Key.{Key};
+ghost use Rattle.ioam_run_part.specs.Stored.{Stores};
+ghost use Rattle.ioam_run_part.specs.Joined.{Counts, IsPlan, RefusesJoined, WritesJoined};
 
-use crate::stored::{store, stored_outcome};
+use crate::stored::stored_outcome;
+use crate::walked::store_walk;
 use ioam_base::memory::NoMemory;
 use ioam_base::name::Name;
-use ioam_collect::{Collector, Joined};
+use ioam_base::text::append;
 use ioam_collect_stream::MOST_HELD;
-use ioam_desk::Desk;
-use ioam_part::put_part;
+use ioam_desk::{Desk, DeskFault, PIECE};
+use ioam_part_merge::{MOST_RECORD, PartOctets, Walk, count_both, head_of};
 use ioam_run_answer::Outcome;
 use std::alloc::Global;
 
-// Joins what one holds with what the other does. Whether both are too many is told of their groups, which are looked at.
-fn join(first: &mut Collector, second: &Collector) -> Result<Joined, NoMemory>
-    ensures { IfOk result (λ joined. (xs ys : List Record) → Stands first.old xs → Stands second.now ys → JoinsRecords first.old.limit xs ys joined first.new) }
-{
-    first.groups();
-    second.groups();
-    first.join(second)
+// A walk along two parts, and the head of what comes of it, with room for a piece and a record.
+#[derive(Drop)]
+struct Plan<'a> {
+    walk: Walk<'a>,
+    gathered: Vec<u8>,
 }
 
-// The part of what both hold: the first takes in what the second has.
-fn put_joined(alloc: Global, first: &mut Collector, second: &Collector) -> Result<Vec<u8>, Outcome>
-    requires limit { first.old.limit ≡ 1048576 }
-    ensures { (xs ys : List Record) → All IsRecord xs → All IsRecord ys → Stands first.old xs → Stands second.now ys
-        → MatchResult result (λ text. IsJoinedText xs ys text.items) (RefusesJoined xs ys) }
+// The head of a part of so many records, with room for a piece and a record behind it.
+fn gather_head(alloc: Global, count: u32) -> Result<Vec<u8>, NoMemory>
+    ensures { IfOk result (λ gathered. gathered.items ≡ head_octets count) }
 {
-    match join(first, second) {
-        Ok(Joined::Joined) => {}
-        Ok(Joined::Full) => return Err(Outcome::Records { limit: MOST_HELD }),
+    let mut gathered = Vec::with_capacity(alloc, PIECE + MOST_RECORD)?;
+    append(&mut gathered, head_of(count).octets())?;
+    Ok(gathered)
+}
+
+// How many records two parts hold together. None where they are too many.
+fn count_of(alloc: Global, one: &[u8], two: &[u8]) -> Result<Option<u32>, NoMemory>
+    ensures { IfOk result (λ count. (xs ys : List Record) → IsPart one.now xs → IsPart two.now ys
+        → Counts (united (keyed xs) (keyed ys)) count) }
+{
+    let mut walk = Walk::new(alloc, one, two)?;
+    Ok(count_both(&mut walk))
+}
+
+// All that is needed before a name is opened.
+fn plan_of<'a>(
+    alloc: Global,
+    one: &'a [u8],
+    two: &'a [u8],
+    count: u32,
+) -> Result<Plan<'a>, NoMemory>
+    ensures { IfOk result (λ plan. (xs ys : List Record) → IsPart one.now xs → IsPart two.now ys
+        → Comes plan.walk (united (keyed xs) (keyed ys)) × (plan.gathered.items ≡ head_octets count)) }
+{
+    Ok(Plan {
+        walk: Walk::new(alloc, one, two)?,
+        gathered: gather_head(alloc, count)?,
+    })
+}
+
+// The same, or the answer where there is none.
+fn make_plan<'a>(alloc: Global, one: &'a [u8], two: &'a [u8]) -> Result<Plan<'a>, Outcome>
+    ensures { (xs ys : List Record) → IsPart one.now xs → IsPart two.now ys
+        → MatchResult result (λ plan. IsPlan xs ys plan.walk plan.gathered.items) (RefusesJoined xs ys) }
+{
+    let count = match count_of(alloc, one, two) {
+        Ok(Some(count)) => count,
+        Ok(None) => return Err(Outcome::Records { limit: MOST_HELD }),
         Err(NoMemory) => return Err(Outcome::NoMemory),
-    }
-    let mut text = Vec::new(alloc);
-    match put_part(first, &mut text) {
-        Ok(()) => Ok(text),
+    };
+    match plan_of(alloc, one, two, count) {
+        Ok(plan) => Ok(plan),
         Err(NoMemory) => Err(Outcome::NoMemory),
     }
 }
 
-// The same. Both are let go.
-fn joined_text(alloc: Global, first: Collector, second: Collector) -> Result<Vec<u8>, Outcome>
-    requires limit { first.limit ≡ 1048576 }
-    ensures { (xs ys : List Record) → All IsRecord xs → All IsRecord ys → Stands first xs → Stands second ys
-        → MatchResult result (λ text. IsJoinedText xs ys text.items) (RefusesJoined xs ys) }
+// Opens a name, and writes there what a plan has.
+fn write_plan<D: Desk>(plan: Plan<'_>, part: &Name, desk: &mut D) -> Result<(), DeskFault>
+    ensures stores { (ps : List (Key × Entry)) → Comes plan.entry.walk ps
+        → Stores D.tells part.now (plan.entry.gathered.items ++ pairs_octets ps) (D.writing desk.old) (D.writing desk.new) result }
+    ensures asked { AsksFront (D.writing desk.old).side.asked (D.writing desk.new).side.asked (part.now ∷ []) }
+    ensures kept { IsTrue D.tells → KeepsOutputs (D.writing desk.old) (D.writing desk.new) }
+    ensures inputs { D.reading desk.new ≡ D.reading desk.old }
 {
-    let mut first = first;
-    put_joined(alloc, &mut first, &second)
+    let Plan {
+        mut walk,
+        mut gathered,
+    } = plan;
+    store_walk(desk, part, &mut walk, &mut gathered)
 }
 
-/// Joins what two collectors hold, opens a name and writes it there as a part. Where it is more than 1,048,576 records,
+/// Opens a name, and writes there the part of the records that either of two parts has. Where they are more than 1,048,576,
 /// the name isn't opened.
-pub(crate) fn write_joined<D: Desk>(
+pub(crate) fn write_joined<'a, D: Desk>(
     alloc: Global,
-    first: Collector,
-    second: Collector,
+    first: &'a PartOctets,
+    second: &'a PartOctets,
     part: &Name,
     desk: &mut D,
 ) -> Outcome
-    requires limit { first.limit ≡ 1048576 }
-    ensures writes { (xs ys : List Record) → All IsRecord xs → All IsRecord ys → Stands first xs → Stands second ys
+    ensures writes { (xs ys : List Record) → IsPart first.now xs → IsPart second.now ys
         → WritesJoined D.tells part.now xs ys (D.writing desk.old) (D.writing desk.new) result }
     ensures asked { AsksFront (D.writing desk.old).side.asked (D.writing desk.new).side.asked (part.now ∷ []) }
     ensures kept { IsTrue D.tells → KeepsOutputs (D.writing desk.old) (D.writing desk.new) }
     ensures inputs { D.reading desk.new ≡ D.reading desk.old }
 {
-    match joined_text(alloc, first, second) {
-        Ok(text) => stored_outcome(store(desk, part, &text)),
+    match make_plan(alloc, first.octets(), second.octets()) {
+        Ok(plan) => stored_outcome(write_plan(plan, part, desk)),
         Err(answer) => answer,
     }
 }

@@ -3,6 +3,7 @@
 #![tactic(auto)]
 
 mod exports;
+mod flat;
 mod joined;
 mod kept;
 mod merge;
@@ -13,6 +14,7 @@ mod piece;
 mod stored;
 mod two;
 mod unread;
+mod walked;
 
 pub use merge::run_merge;
 pub use names::{MergeFiles, PartFiles, PartsFiles};

@@ -45,7 +45,7 @@ fn run_apart<D: Desk>(alloc: Global, files: &MergeFiles<'_>, desk: &mut D) -> Ou
     ensures { MergeEnds (around D.tells (D.reading desk.old) (D.reading desk.new) (D.writing desk.old) (D.writing desk.new)) files.now result }
 {
     match read_two(alloc, files.one, files.two, desk) {
-        Ok((first, second)) => write_joined(alloc, first, second, files.part, desk),
+        Ok((first, second)) => write_joined(alloc, &first, &second, files.part, desk),
         Err(answer) => answer,
     }
 }

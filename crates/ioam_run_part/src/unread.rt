@@ -19,10 +19,10 @@ use ioam_part::{PartFault, PartReader, PartRefused};
 use ioam_run_answer::Outcome;
 use std::alloc::Global;
 
-// At most so many octets of a file are read. No part has as many.
-const MOST_OCTETS: usize = 300_000_000;
+/// At most so many octets of a file are read. No part has as many.
+pub(crate) const MOST_OCTETS: usize = 300_000_000;
 
-/// Why no collector was read of a file.
+/// Why a file wasn't read as a part.
 #[derive(Clone, Copy)]
 pub(crate) enum Unread {
     /// The octets are no part: the place of their first fault, and the fault.
@@ -45,11 +45,10 @@ fn verdict(reader: PartReader) -> Result<Collector, Unread>
     }
 }
 
-// Why nothing is read on. The reader is let go.
-fn give_up(reader: PartReader, fault: DeskFault) -> Unread
+/// Why nothing is read on.
+pub(crate) fn unread_by(fault: DeskFault) -> Unread
     ensures { result ≡ unread_by fault }
 {
-    drop(reader);
     match fault {
         DeskFault::Failed => Unread::Failed,
         DeskFault::NoMemory => Unread::NoMemory,
@@ -85,7 +84,7 @@ fn read_slot<D: Desk>(
     'pieces: while !is_decided(&reader, left) {
         let count = match desk.read(slot, piece) {
             Ok(count) => count,
-            Err(fault) => return Err(give_up(reader, fault)),
+            Err(fault) => return Err(unread_by(fault)),
         };
         if count == 0 {
             return verdict(reader);
@@ -122,7 +121,7 @@ pub(crate) fn read_held<D: Desk>(
     };
     match desk.open_in(name.text()) {
         Ok(slot) => read_slot(desk, slot, reader, &mut piece),
-        Err(fault) => Err(give_up(reader, fault)),
+        Err(fault) => Err(unread_by(fault)),
     }
 }
 

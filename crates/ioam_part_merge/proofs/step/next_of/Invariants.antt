@@ -1,5 +1,5 @@
 use Rattle.std.proofs.Common.{◌≤◌, List}
-use Rattle.ioam_pool.specs.Entry.{Entry}
+use Rattle.ioam_collect.specs.Entry.{Entry}
 use Rattle.ioam_collect.specs.declared.key.Key.{Key}
 use Rattle.ioam_part_merge.specs.Walk.{Comes, Says, left, sides}
 use Rattle.ioam_part_merge.proofs.step.next_of.Given as goal

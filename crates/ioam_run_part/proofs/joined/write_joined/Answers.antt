@@ -1,19 +1,26 @@
-use Rattle.std.proofs.Common.{◌++◌, sym, subst}
+use Rattle.std.proofs.Common.{◌++◌, List, sym, subst}
+use Rattle.ioam_run_answer.specs.Record.{Record}
+use Rattle.ioam_collect.specs.Keyed.{keyed}
+use Rattle.ioam_collect.specs.Unite.{united}
+use Rattle.ioam_part.specs.Part.{IsPart}
+use Rattle.ioam_part_merge.specs.Walk.{pairs_octets}
 use Rattle.ioam_run_answer.specs.declared.outcome.Outcome.{Outcome}
 use Rattle.ioam_run_part.specs.Joined.{WritesJoined}
-use Rattle.ioam_run_part.specs.Records.{IsPartOfAll}
-use Rattle.ioam_run_part.proofs.JoinedLaws.{unwritten, written}
+use Rattle.ioam_run_part.proofs.JoinedLaws.{planned, unwritten, written}
 use Rattle.ioam_run_part.proofs.joined.write_joined.Goals as goal
 
 pub returns-in-Ok-clause-writes : goal.returns-in-Ok-clause-writes
-returns-in-Ok-clause-writes g c = λ xs ys all_x all_y of_first of_second.
-    let text = c.in-Ok.ensures xs ys all_x all_y of_first of_second in
+returns-in-Ok-clause-writes g c = λ xs ys p q.
+    let plan = c.in-Ok.ensures xs ys (subst (λ o. IsPart o xs) (sym c.octets.ensures) p) (subst (λ o. IsPart o ys) (sym c.octets-2.ensures) q) in
     let old = g.D.Desk.writing c.args.desk.now in
-    let new = g.D.Desk.writing c.store.new.desk in
+    let new = g.D.Desk.writing c.write_plan.new.desk in
     let P : Outcome → Type 0 = λ answer. WritesJoined g.D.Desk.tells c.args.part.now xs ys old new answer in
     subst P (sym c.stored_outcome.ensures)
-    (written g.D.Desk.tells c.args.part.now xs ys old new c.deref.result.now c.store.result text.0 (subst (IsPartOfAll (xs ++ ys)) (sym c.deref.ensures.value) text.1) c.store.ensures.stores)
+    (written g.D.Desk.tells c.args.part.now xs ys old new (c.in-Ok.plan.gathered.items ++ pairs_octets (united (keyed xs) (keyed ys))) c.write_plan.result plan.few
+    (planned c.args.first.now c.args.second.now xs ys c.in-Ok.plan.walk c.in-Ok.plan.gathered.items p q plan)
+    (c.write_plan.ensures.stores (united (keyed xs) (keyed ys)) plan.comes))
 
 pub returns-in-Err-clause-writes : goal.returns-in-Err-clause-writes
-returns-in-Err-clause-writes g c = λ xs ys all_x all_y of_first of_second.
-    unwritten g.D.Desk.tells c.args.part.now xs ys (g.D.Desk.writing c.args.desk.now) c.in-Err.answer (c.in-Err.ensures xs ys all_x all_y of_first of_second)
+returns-in-Err-clause-writes g c = λ xs ys p q.
+    unwritten g.D.Desk.tells c.args.part.now xs ys (g.D.Desk.writing c.args.desk.now) c.in-Err.answer
+    (c.in-Err.ensures xs ys (subst (λ o. IsPart o xs) (sym c.octets.ensures) p) (subst (λ o. IsPart o ys) (sym c.octets-2.ensures) q))

@@ -11,9 +11,6 @@ use Rattle.ioam_run_part.specs.Two.{HoldsTwo, TriesTwo}
 use Rattle.ioam_run_part.proofs.MergeLaws.{ends_refused, ends_joined}
 use Rattle.ioam_run_part.proofs.merge.run_apart.Goals as goal
 
-pub write_joined-requires : goal.write_joined-requires
-write_joined-requires g c = record { limit = c.in-Ok.ensures.reads.first_held.limit }
-
 pub returns-in-Ok : goal.returns-in-Ok
 returns-in-Ok g c =
     let names : MergeNames = record { one = c.files.inside.one.now; two = c.files.inside.two.now; part = c.files.inside.part.now } in
@@ -33,7 +30,7 @@ returns-in-Ok g c =
     let K : Writing → Type 0 = λ w. IsTrue tells → KeepsOutputs w new in
     let E : MergeNames → Type 0 = λ f. MergeEnds (around tells old_in new_in old new) f c.write_joined.result in
     subst E c.files.view_is (ends_joined (around tells old_in new_in old new) names c.in-Ok.first c.in-Ok.second held c.write_joined.result
-    (subst W c.in-Ok.ensures.outputs (c.write_joined.ensures.writes held.first_held.records held.second_held.records held.first_held.part.each held.second_held.part.each held.first_held.stands held.second_held.stands))
+    (subst W c.in-Ok.ensures.outputs (c.write_joined.ensures.writes held.first_held.records held.second_held.records held.first_held.part held.second_held.part))
     tries (subst A c.in-Ok.ensures.outputs c.write_joined.ensures.asked) (subst K c.in-Ok.ensures.outputs c.write_joined.ensures.kept))
 
 pub returns-in-Err : goal.returns-in-Err

@@ -14,7 +14,7 @@ returns-then-count-eq0-clause-reads g c =
 pub feed-requires : goal.feed-requires
 feed-requires g c =
     let none = undecided (fault_of c.pieces.reader) c.pieces.left (sym c.is_decided.ensures ∙ c.pieces-test.true) in
-    let few = fed_few c.pieces.invariant.fed.octets c.pieces.reader none.0 c.pieces.invariant.fed.stands in
+    let few = fed_few 1048576 c.pieces.invariant.fed.octets c.pieces.reader none.0 c.pieces.invariant.fed.stands in
     let size = length-take-le c.in-Ok.count c.read.new.into c.in-Ok.ensures.read.0 in
     omega (arith, few, size, c.pieces.invariant.fed.within, c.in-Ok.ensures.read.0, c.read.auto.into, c.pieces.invariant.room)
 
