@@ -6,32 +6,33 @@
 Each frame goes to ROUTER_MAC from the address of INTERFACE, 2 ms apart, whatever stands in the capture.
 """
 
+import re
 import socket
 import sys
 import time
 
-
-def frames_of(octets):
-    """The frames of a capture as make_suite.py writes it: big-endian, 24 octets in front, and 16 before each frame."""
-    place = 24
-    while place < len(octets):
-        size = int.from_bytes(octets[place + 8:place + 12], "big")
-        yield octets[place + 16:place + 16 + size]
-        place += 16 + size
+sys.dont_write_bytecode = True
+from frames import ETHERNET, frames, refuse
 
 
 def main(words):
     if len(words) != 3:
         sys.exit(__doc__)
     interface, router_mac, capture = words
-    with open(capture, "rb") as file:
-        octets = file.read()
-    with socket.socket(socket.AF_PACKET, socket.SOCK_RAW) as out:
-        out.bind((interface, 0))
-        addresses = bytes.fromhex(router_mac.replace(":", "")) + out.getsockname()[4]
-        for frame in frames_of(octets):
-            out.send(addresses + frame[12:])
-            time.sleep(0.002)
+    if not re.fullmatch("([0-9a-fA-F]{2}:){5}[0-9a-fA-F]{2}", router_mac):
+        refuse(f"{router_mac} is no Ethernet address")
+    octets, link, places = frames(capture)
+    if link != ETHERNET:
+        refuse(f"{capture} is of link type {link}; this sends frames of Ethernet")
+    try:
+        with socket.socket(socket.AF_PACKET, socket.SOCK_RAW) as out:
+            out.bind((interface, 0))
+            addresses = bytes.fromhex(router_mac.replace(":", "")) + out.getsockname()[4]
+            for start, end in places:
+                out.send(addresses + octets[start + len(addresses):end])
+                time.sleep(0.002)
+    except OSError as fault:
+        refuse(f"{interface}: {fault.strerror}")
     return 0
 
 

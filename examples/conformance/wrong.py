@@ -3,13 +3,16 @@
 
     wrong.py RIGHT FOLDER
 
-RIGHT is a capture that `ioam node` wrote over suite.pcap. FOLDER gets one capture for each mistake, wrong at one vector, and the
-mistake and the vector are printed.
+RIGHT is a classic capture of what a right router sent of suite.pcap, as `ioam node` or tcpdump writes it. FOLDER gets one capture
+for each mistake, wrong at one vector; the mistake, the vector and how many packets were changed are printed.
 """
 
 import os
 import re
 import sys
+
+sys.dont_write_bytecode = True
+from frames import ETHERNET, ETHERNET_HEAD, IP_LINKS, frames, read, refuse
 
 AREA = 56  # where the words of a trace begin, if it is the first option: its head has 8 octets in front of them
 
@@ -48,36 +51,42 @@ MISTAKES = (("another-id", "bits 0 and 1", another_id), ("hop-limit", "three fre
 
 def numbers():
     """The number of each vector by what it is."""
-    path = os.path.join(os.path.dirname(os.path.abspath(__file__)), "suite.md")
-    with open(path, encoding="utf-8") as file:
-        return {match[2]: int(match[1]) for match in re.finditer(r"^\| (\d+) \| ([^|]+) \|", file.read(), re.MULTILINE)}
+    text = read(os.path.join(os.path.dirname(os.path.abspath(__file__)), "suite.md")).decode()
+    return {match[2]: int(match[1]) for match in re.finditer(r"^\| (\d+) \| ([^|]+) \|", text, re.MULTILINE)}
 
 
-def spoiled(capture, vector, mistake):
-    """The capture with a mistake in the packet of one vector."""
-    octets, place = bytearray(capture), 24
-    while place < len(octets):
-        start, size = place + 16, int.from_bytes(octets[place + 8:place + 12], "big")
-        if int.from_bytes(octets[start + 1:start + 4], "big") & 0xFFFFF == vector:
-            packet = octets[start:start + size]
+def spoiled(capture, places, vector, mistake):
+    """The capture with a mistake in the packets of one vector, and how many these are."""
+    octets, count = bytearray(capture), 0
+    for start, end in places:
+        if end - start > AREA and octets[start] >> 4 == 6 and int.from_bytes(octets[start + 1:start + 4], "big") & 0xFFFFF == vector:
+            packet = octets[start:end]
             mistake(packet)
-            octets[start:start + size] = packet
-        place = start + size
-    return octets
+            octets[start:end] = packet
+            count += 1
+    return octets, count
 
 
 def main(words):
     if len(words) != 2:
         sys.exit(__doc__)
     right, folder = words
-    with open(right, "rb") as file:
-        capture = file.read()
-    os.makedirs(folder, exist_ok=True)
+    capture, link, places = frames(right)
+    if link != ETHERNET and link not in IP_LINKS:
+        refuse(f"{right} is of link type {link}; this reads 1 (Ethernet), 101 and 229 (IP)")
+    skip = ETHERNET_HEAD if link == ETHERNET else 0
     vectors = numbers()
-    for name, what, mistake in MISTAKES:
-        with open(os.path.join(folder, name + ".pcap"), "wb") as file:
-            file.write(spoiled(capture, vectors[what], mistake))
-        print(name, vectors[what])
+    try:
+        os.makedirs(folder, exist_ok=True)
+        for name, what, mistake in MISTAKES:
+            octets, count = spoiled(capture, [(start + skip, end) for start, end in places], vectors[what], mistake)
+            if count == 0:
+                refuse(f"{right} has no packet of vector {vectors[what]}")
+            with open(os.path.join(folder, name + ".pcap"), "wb") as file:
+                file.write(octets)
+            print(name, vectors[what], count)
+    except OSError as fault:
+        refuse(f"{fault.filename}: {fault.strerror}")
     return 0
 
 
