@@ -285,14 +285,14 @@ judged() {
     judge $got "$1" judge.sh "$3"
 }
 want 0 done node $suite/domain.toml $suite/readings router in $suite/suite.pcap out.pcap report exports
-judged 0 'sent 176 gone 2 not legal 0 unjudged 9 not played 0\n' out.pcap
-head -c 24 out.pcap >nothing && judged 0 'sent 0 gone 178 not legal 0 unjudged 9 not played 0\n' nothing
+judged 0 'sent 173 gone 2 not legal 0 unjudged 12 not played 0\n' out.pcap
+head -c 24 out.pcap >nothing && judged 2 'judge.sh: nothing has no packet of the suite (without VLAN tags, and between its addresses)\n' nothing
 judged 2 'judge.sh: save answers: read fault\n' missing
 judged 2 'judge.sh: save answers: capture text 0 magic 1751477356\n' text
 if command -v python3 >/dev/null; then
     python3 $suite/wrong.py out.pcap wrong >vectors
-    while read -r name vector; do
-        judged 1 "$(printf '%6d' "$vector")  not legal  $(sed -n "s/^| $vector | \([^|]*\) | [^|]* | \(.*\) |$/\1 (wanted: \2)/p" $suite/suite.md)\nsent 175 gone 2 not legal 1 unjudged 9 not played 0\n" "wrong/$name.pcap"
+    while read -r name vector _; do
+        judged 1 "$(printf '%6d' "$vector")  not legal  $(sed -n "s/^| $vector | \([^|]*\) | [^|]* | \(.*\) |$/\1 (wanted: \2)/p" $suite/suite.md)\nsent 172 gone 2 not legal 1 unjudged 12 not played 0\n" "wrong/$name.pcap"
     done <vectors
 fi
 rm -f out.pcap nothing report exports said vectors

@@ -7,12 +7,16 @@
 set -u
 here=$(cd "$(dirname "$0")" && pwd) || exit 2
 program=${IOAM:-$here/../../ioam} domain=${DOMAIN:-$here/domain.toml} suite=${SUITE:-$here}
+cannot() { echo "judge.sh: $1" >&2; exit 2; }
 [ $# = 2 ] || { echo "judge.sh BEFORE AFTER" >&2; exit 2; }
+[ ! -d "$program" ] && command -v "$program" >/dev/null || cannot "there is no program $program"
+for file in "$suite/suite.pcap" "$suite/suite.md" "$domain"; do [ -f "$file" ] || cannot "there is no file $file"; done
 room=$(mktemp -d) || exit 2
 trap 'rm -rf "$room"' EXIT
+trap 'exit 2' INT TERM
 
 # ask WORD..: runs the program; what it refuses ends this too.
-ask() { "$program" "$@" >"$room/said" || { echo "judge.sh: $1 answers: $(cat "$room/said")" >&2; exit 2; }; }
+ask() { "$program" "$@" >"$room/said" || cannot "$1 answers: $(cat "$room/said")"; }
 # list NAME CAPTURE: NAME.list gets a line for each packet of the suite, by vector: the vector, the place and length of its block
 # in NAME.ng, its octets and the line's number N; NAME.N gets the block. The plain pcapng that `save` writes has blocks from
 # octet 92 on: the length at 4, the interface at 8 (1 is Ethernet), the captured length at 20, the frame at 28.
@@ -34,11 +38,13 @@ lay() { { head -c 92 "$room/$2.ng" && awk -v name="$room/$2." '{ print name $5 }
 
 way=$(head -c 94 "$suite/suite.pcap" | tail -c 32 | od -An -v -tx1 | tr -d ' \n') # both addresses of the first packet
 list before "$1" && list after "$2"
-[ -s "$room/before.list" ] || { echo "judge.sh: $1 has no packet of the suite" >&2; exit 2; }
-# A packet that no command reads isn't judged, sent or not. Of the others audit says which is the first of AFTER that is left:
-# that one is wrong, and is taken away, and audit looks at the rest, until nothing is left.
-awk 'FILENAME ~ /show$/ { if ($2 == "skip") skipped[$1] = 1; next } FILENAME ~ /before.list$/ { if ($5 in skipped) apart[$1] = 1; next }
-    !($1 in apart)' "$room/before.show" "$room/before.list" "$room/after.list" >"$room/left.list"
+[ -s "$room/before.list" ] || cannot "$1 has no packet of the suite"
+[ -s "$room/after.list" ] || cannot "$2 has no packet of the suite (without VLAN tags, and between its addresses)"
+# A packet that no command reads isn't judged, sent or not, and neither is one of which suite.md says so. Of the others audit says
+# which is the first of AFTER that is left: that one is wrong, and is taken away, and audit looks at the rest, until nothing is left.
+awk 'FILENAME ~ /md$/ { if (/ isn.t judged: /) apart[$2] = 1; next }
+    FILENAME ~ /show$/ { if ($2 == "skip") skipped[$1] = 1; next } FILENAME ~ /before.list$/ { if ($5 in skipped) apart[$1] = 1; next }
+    !($1 in apart)' "$suite/suite.md" "$room/before.show" "$room/before.list" "$room/after.list" >"$room/left.list"
 : >"$room/wrong"
 while lay left after && ask audit "$domain" router in "$room/before.pcapng" "$room/left.pcapng" "$room/audit" &&
     first=$(sed -n 's/^verdict no //p' "$room/audit") && [ -n "$first" ]; do
@@ -63,16 +69,25 @@ awk -F ' [|] ' -v room="$room" '
         for (i = 2; i <= rows || i <= more; i++) pair(i <= rows ? left[i] : "", i <= more ? right[i] : "")
         if (length(old[n]) == length(wrong[n])) differences(old[n], wrong[n])
     }
+    function octet(octets, at) { return 16 * (index(hex, substr(octets, 2 * at + 1, 1)) - 1) + index(hex, substr(octets, 2 * at + 2, 1)) - 1 }
+    function wanted(n, may, ours, text, came, sent) { # what suite.md wants of packet n, and what is wrong without a look into the trace
+        text = " (wanted" (ours ? ", by our reading" : "") ": " may ")"; came = octet(old[n], 7); sent = octet(wrong[n], 7)
+        if (sent != came - 1) text = text "; hop limit " sent (came > 1 ? ", wanted " came - 1 : ", wanted none")
+        if (passed[n] > arrived[n]) text = text "; sent " (passed[n] == 2 ? "twice" : passed[n] " times")
+        return text
+    }
     function answered(n, said, what) { count[said]++; printf "%6d  %-10s %s\n", n, said, what; if (n in wrong) tell(n) }
     BEGIN {
-        while ((getline line <(room "/before.list")) > 0) { split(line, part, " "); vector[part[5]] = part[1]; old[part[1]] = part[4]; old_place[part[1]] = part[5] }
-        while ((getline line <(room "/after.list")) > 0) { split(line, part, " "); passed[part[1]] = 1 }
+        hex = "0123456789abcdef"
+        while ((getline line <(room "/before.list")) > 0) { split(line, part, " "); vector[part[5]] = part[1]; arrived[part[1]]++; old[part[1]] = part[4]; old_place[part[1]] = part[5] }
+        while ((getline line <(room "/after.list")) > 0) { split(line, part, " "); passed[part[1]]++ }
         while ((getline line <(room "/audit")) > 0) if (split(line, part, " ") && part[1] in vector && answer[n = vector[part[1]]] != "sent")
             answer[n] = part[2] == "skip" ? "unjudged" : part[2]
         while ((getline line <(room "/wrong")) > 0) if (split(line, part, " ") && !(part[1] in wrong)) { wrong[part[1]] = part[4]; place[part[1]] = part[5] }
         print "vector  answer     what it is" }
-    /^[|] [0-9]/ { n = substr($1, 3) + 0; suite[n] = 1; said = n in wrong ? "not legal" : n in answer ? answer[n] : "not played"; sub(/ [|]$/, "", $4)
-        answered(n, said, $2 (n in wrong ? " (wanted: " $4 ")" : said != "unjudged" ? "" : n in passed ? "; it was sent" : "; it is gone")) }
+    /^[|] [0-9]/ { n = substr($1, 3) + 0; suite[n] = 1; sub(/ [|]$/, "", $4)
+        said = n in wrong ? "not legal" : !(n in answer) ? "not played" : $4 ~ /^isn.t judged: / ? "unjudged" : answer[n]
+        answered(n, said, $2 (n in wrong ? wanted(n, $4, $3 ~ /our reading$/) : said != "unjudged" ? "" : n in passed ? "; it was sent" : "; it is gone")) }
     END {
         for (n in wrong) if (!(n in suite)) answered(n, "not legal", "a flow label of no vector")
         printf "sent %d gone %d not legal %d unjudged %d not played %d\n", count["sent"], count["gone"], count["not legal"], count["unjudged"], count["not played"]

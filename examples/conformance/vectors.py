@@ -7,7 +7,8 @@ from layout import (ACTIVE, CHANGES, DEFINED, DESTINATION, DIRECT, EDGE, FLAG_3,
 
 FULL, LEAVES, PASSES, DROPS = "sets Overflow", "leaves the trace", "passes it on", "drops it"
 UNJUDGED = "isn't judged: its header chain isn't whole"
-DROPS_OPTION = f"{DROPS}; `audit` doesn't look at other options, and takes one with 1 word added"
+UNJUDGED_OPTION = f"isn't judged: who doesn't know that option {DROPS}, and `audit` looks at IOAM's options alone"
+OURS = "9197 4.4.1, our reading"
 NODE = kind_of(0)
 NODE_AND_FACES = kind_of(0, 1)
 ALL_DEFINED = kind_of(*DEFINED)
@@ -64,11 +65,11 @@ def types(suite):
         kind = kind_of(*bits)
         put(suite, what, "9197 4.4.2", adds(words(kind)), trace(kind, 2 * words(kind)))
     put(suite, "bits 0 and 23: bit 23 is ignored", "9197 4.4.1", adds(1), trace(kind_of(0, RESERVED), 2))
-    put(suite, "bit 23 alone: no field is asked for", "9197 4.4.1", LEAVES, trace(kind_of(RESERVED), 2))
-    put(suite, "bit 23 alone, and no room", "9197 4.4.1", LEAVES, trace(kind_of(RESERVED), 0))
-    put(suite, "no bit at all", "9197 4.4.1", LEAVES, trace(0, 2))
-    put(suite, "no bit at all, and no room", "9197 4.4.1", LEAVES, trace(0, 0))
-    put(suite, "no bit at all, NodeLen 1", "9197 4.4.1", LEAVES, trace(0, 2, node_len=1))
+    put(suite, "bit 23 alone: no field is asked for", OURS, LEAVES, trace(kind_of(RESERVED), 2))
+    put(suite, "bit 23 alone, and no room", OURS, LEAVES, trace(kind_of(RESERVED), 0))
+    put(suite, "no bit at all", OURS, LEAVES, trace(0, 2))
+    put(suite, "no bit at all, and no room", OURS, LEAVES, trace(0, 0))
+    put(suite, "no bit at all, NodeLen 1", OURS, LEAVES, trace(0, 2, node_len=1))
 
 
 def undefined_types(suite):
@@ -85,8 +86,8 @@ def undefined_types(suite):
         trace(mixed, 4, node_len=1))
     put(suite, "bits 0 and 12, NodeLen 3", "9197 4.4.1", f"adds 3 words, two of them all ones, or {LEAVES}",
         trace(mixed, 4, node_len=3))
-    put(suite, "bits 0 and 12, NodeLen 0: too small", "9197 4.4.1", LEAVES, trace(mixed, 4, node_len=0))
-    put(suite, "bit 12, NodeLen 0", "9197 4.4.1", LEAVES, trace(kind_of(12), 4, node_len=0))
+    put(suite, "bits 0 and 12, NodeLen 0: too small", OURS, LEAVES, trace(mixed, 4, node_len=0))
+    put(suite, "bit 12, NodeLen 0", OURS, LEAVES, trace(kind_of(12), 4, node_len=0))
     put(suite, "bits 0 and 12, one word too few", "9197 4.4.1", f"{FULL}, or {LEAVES}", trace(mixed, 1))
 
 
@@ -97,7 +98,7 @@ def node_lens(suite):
                                  (ALL_DEFINED, "bits 0 to 11", 16), (kind_of(SNAPSHOT), "bit 22", 1),
                                  (kind_of(0, SNAPSHOT), "bits 0 and 22", 2)):
         size = "small" if node_len < words(kind) else "large"
-        put(suite, f"{text}, NodeLen {node_len}: too {size}", "9197 4.4.1", LEAVES, trace(kind, 32, node_len=node_len))
+        put(suite, f"{text}, NodeLen {node_len}: too {size}", OURS, LEAVES, trace(kind, 32, node_len=node_len))
 
 
 def rooms(suite):
@@ -111,17 +112,17 @@ def rooms(suite):
     put(suite, "one free word in front of two older elements", rfc, adds(1), trace(NODE, 1, older=2 * older))
     put(suite, "three free words in front of one older element", rfc, adds(1), trace(NODE, 3, older=older))
     put(suite, "three free words for elements of two", rfc, adds(2), trace(NODE_AND_FACES, 3))
-    put(suite, "RemainingLen one beyond the words that are there", rfc, LEAVES, trace(NODE, 2, remaining=3))
-    put(suite, "RemainingLen 127 with four words", rfc, LEAVES, trace(NODE, 4, remaining=127))
-    put(suite, "RemainingLen 1 without a word", rfc, LEAVES, trace(NODE, 0, remaining=1))
-    put(suite, "RemainingLen 2 with one word, for elements of two", rfc, LEAVES, trace(NODE_AND_FACES, 1, remaining=2))
+    put(suite, "RemainingLen one beyond the words that are there", OURS, LEAVES, trace(NODE, 2, remaining=3))
+    put(suite, "RemainingLen 127 with four words", OURS, LEAVES, trace(NODE, 4, remaining=127))
+    put(suite, "RemainingLen 1 without a word", OURS, LEAVES, trace(NODE, 0, remaining=1))
+    put(suite, "RemainingLen 2 with one word, for elements of two", OURS, LEAVES, trace(NODE_AND_FACES, 1, remaining=2))
     put(suite, "61 free words, the most that fit an option", rfc, adds(1), trace(NODE, 61))
     put(suite, "61 words in use", rfc, FULL, trace(NODE, 0, older=61 * older))
     put(suite, "bits 0 to 11, just enough room", rfc, adds(15), trace(ALL_DEFINED, 15))
     put(suite, "bits 0 to 11, one word too few", rfc, FULL, trace(ALL_DEFINED, 14))
     put(suite, "free words that aren't zero", rfc, adds(1), trace(NODE, 3, free=bytes.fromhex("deadbeef") * 3))
     for rest in (1, 2, 3):
-        put(suite, f"an area of two words and {plural(rest, 'octet')}", rfc, LEAVES, trace(NODE, 2, older=bytes(rest)))
+        put(suite, f"an area of two words and {plural(rest, 'octet')}", OURS, LEAVES, trace(NODE, 2, older=bytes(rest)))
 
 
 def flags(suite):
@@ -163,7 +164,7 @@ def several(suite):
     put(suite, "two traces of namespace 7, the first without room", rfc, f"{FULL} in the first, {adds(1)} to the second",
         full, first)
     put(suite, "two traces, the first with Overflow set", rfc, f"{adds(1)} to the second", trace(NODE, 2, flags=OVERFLOW), second)
-    put(suite, "three traces, the second with too large a NodeLen", rfc, f"{adds(1)} to the first and third",
+    put(suite, "three traces, the second with too large a NodeLen", "9197 4.3, our reading", f"{adds(1)} to the first and third",
         first, trace(NODE, 4, node_len=3), second)
     put(suite, "two traces of 61 words", rfc, f"{adds(1)} to each", trace(NODE, 61), trace(NODE, 61, namespace=OTHER_KNOWN))
 
@@ -184,9 +185,9 @@ def places(suite):
     at("in front of an unknown option", rfc, adds(1), padding(2) + option + bytes([0x1E, 2]) + bytes(2))
     at("in front of six Pad1", rfc, adds(1), padding(2) + option + bytes(6) + padding(2))
     for off in (1, 2, 3):
-        at(f"{plural(off, 'octet')} off its alignment", "9486 3", adds(1), padding((2 + off) % 4) + option)
+        at(f"{plural(off, 'octet')} off its alignment", "9486 3, our reading", adds(1), padding((2 + off) % 4) + option)
     for kind, text in ((0x5E, "01, which says to drop"), (0x9E, "10, which says to drop"), (0xDE, "11, which says to drop")):
-        at(f"behind an unknown option of action {text}", rfc, DROPS_OPTION, bytes([kind, 4]) + bytes(4) + option)
+        at(f"behind an unknown option of action {text}", rfc, UNJUDGED_OPTION, bytes([kind, 4]) + bytes(4) + option)
     at("the option's reserved octet isn't zero", "9486 3", adds(1), padding(2) + ioam(trace(NODE, 2), reserved=0xFF))
     at("the trace's reserved octet isn't zero", "9197 4.4.1", adds(1), padding(2) + ioam(trace(NODE, 2, reserved=0xFF)))
 
@@ -260,7 +261,7 @@ def chains(suite):
         payload = fragment(NOTHING, offset, more) + bytes(16)
         put(suite, what, "8200 4.5", adds(1), room, following=FRAGMENT, payload=payload)
     edge_data = options_header(UDP, aligned(ioam(edge(5), EDGE, STAYS)))
-    put(suite, "edge-to-edge data behind it", "9486 3", adds(1), room, following=DESTINATION,
+    put(suite, "a trace with edge-to-edge data behind it", "9486 3", adds(1), room, following=DESTINATION,
         payload=edge_data + suite.way.udp(f"vector {suite.label()}"))
     inner = suite.way.packet(suite.label(), HOP_BY_HOP, options_header(NOTHING, aligned(ioam(room))), hops=9)
     put(suite, "a nested packet with a trace of its own", "9197 3", f"{adds(1)} to the outer trace", room, following=NESTED,
@@ -274,7 +275,7 @@ def cut_data(suite):
     whole = ioam(trace(NODE, 0))[2:]
     for size in range(10):
         octets = padding(2) + bytes([CHANGES, size]) + whole[:size]
-        suite.add(f"an option of {plural(size, 'octet')} of data", "9486 3", PASSES, **framed(suite, octets))
+        suite.add(f"an option of {plural(size, 'octet')} of data", "9486 3, our reading", PASSES, **framed(suite, octets))
 
 
 def broken(suite):
