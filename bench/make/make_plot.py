@@ -2,7 +2,7 @@
 """make_plot.py FOLDER
 
 The example of examples/plot: READINGS and west.pcap for its domain. 200 packets come in four seconds, most of them for the flow whose
-path goes through b; the packets that come to b between 1.2 and 2.6 seconds wait there up to 2.4 milliseconds."""
+path goes through b; of those that come to b between 1.2 and 2.6 seconds it writes a transit delay of up to 2.5 milliseconds."""
 import math
 import os
 import random
@@ -16,7 +16,7 @@ TARGETS = [2] * 12 + [3] * 5 + [4] * 3
 
 
 def readings(dice):
-    """The clocks agree; each node says how long packets wait in it."""
+    """The clocks agree; each node says a transit delay, which delays no packet of `run`."""
     lines = []
     for at in range(0, LAST, READ):
         queue = max(0.0, math.sin((at / SECOND - 1.2) / 1.4 * math.pi)) if 1.2 <= at / SECOND <= 2.6 else 0.0
