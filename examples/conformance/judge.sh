@@ -79,7 +79,8 @@ awk -F ' [|] ' -v room="$room" '
     function answered(n, said, what) { count[said]++; printf "%6d  %-10s %s\n", n, said, what; if (n in wrong) tell(n) }
     BEGIN {
         hex = "0123456789abcdef"
-        while ((getline line <(room "/before.list")) > 0) { split(line, part, " "); vector[part[5]] = part[1]; arrived[part[1]]++; old[part[1]] = part[4]; old_place[part[1]] = part[5] }
+        while ((getline line <(room "/before.list")) > 0) {
+            split(line, part, " "); vector[part[5]] = part[1]; arrived[part[1]]++; old[part[1]] = part[4]; old_place[part[1]] = part[5] }
         while ((getline line <(room "/after.list")) > 0) { split(line, part, " "); passed[part[1]]++ }
         while ((getline line <(room "/audit")) > 0) if (split(line, part, " ") && part[1] in vector && answer[n = vector[part[1]]] != "sent")
             answer[n] = part[2] == "skip" ? "unjudged" : part[2]
