@@ -1,5 +1,5 @@
 //! Names of files and entries.
-ghost use Rattle.std.specs.Prelude.{◌≡◌, List, ℕ, string_bytes, IfOk};
+ghost use Rattle.std.specs.Prelude.{◌≡◌, ◌≢◌, ◌∷◌, ◌++◌, [], List, ℕ, string_bytes, IfOk, MatchBool, OnOk};
 
 use crate::memory::NoMemory;
 use std::alloc::Global;
@@ -32,4 +32,20 @@ impl Name {
     {
         self.text.as_str()
     }
+
+    /// Whether it is the same text as another.
+    pub fn is(&self, other: &Name) -> bool
+        ensures { MatchBool result (self.now ≡ other.now) (self.now ≢ other.now) }
+    {
+        self.text() == other.text()
+    }
+}
+
+/// Puts a copy of a name behind others.
+pub fn push_name(alloc: Global, names: &mut Vec<Name>, name: &Name) -> Result<(), NoMemory>
+    ensures { OnOk result (names.new.items ≡ names.old.items ++ name.now ∷ []) }
+{
+    let copy = Name::new(alloc, name.text())?;
+    names.push(copy)?;
+    Ok(())
 }

@@ -1,5 +1,5 @@
 //! Texts that are appended whole or not at all.
-ghost use Rattle.std.specs.Prelude.{◌≡◌, ◌++◌, decimal, is_ok, if◌then◌else◌};
+ghost use Rattle.std.specs.Prelude.{◌≡◌, ◌++◌, decimal, is_ok, if◌then◌else◌, take};
 
 use crate::memory::NoMemory;
 use itoa::Buffer;
@@ -18,4 +18,22 @@ pub fn append_decimal(out: &mut Vec<u8>, number: u64) -> Result<(), NoMemory>
 {
     let mut digits = Buffer::new();
     append(out, digits.format(number).as_bytes())
+}
+
+/// Hands an answer on. Where it is a refusal, what was appended from a place on is taken back.
+pub fn settle(
+    out: &mut Vec<u8>,
+    before: usize,
+    answer: Result<(), NoMemory>,
+) -> Result<(), NoMemory>
+    ensures answer { is_ok result ≡ is_ok answer }
+    ensures kept { out.new.items ≡ (if is_ok result then out.old.items else take before out.old.items) }
+{
+    match answer {
+        Ok(()) => Ok(()),
+        Err(NoMemory) => {
+            out.truncate(before);
+            Err(NoMemory)
+        }
+    }
 }
