@@ -45,8 +45,15 @@ if [ "$(id -u)" = 0 ]; then # root may open everything, so the program runs as n
 fi
 cases=0 wrong=0 file= why=
 
-# named STATUS: a fault of reading or writing names the file on stderr, and why; else nothing stands there.
-named() { case $1 in 9 | 10) [ "$(wc -l <stderr)" = 1 ] && grep -qF "ioam: $file: $why" stderr ;; *) [ ! -s stderr ] ;; esac }
+# named STATUS: a fault of reading or writing names the file on stderr, and why; `usage` the forms of the command line; else nothing
+# stands there.
+named() {
+    case $1 in
+    1) [ -s stderr ] && ! grep -qvE '^ioam: usage: ioam [a-z]+( [A-Z]+)+$' stderr ;;
+    9 | 10) [ "$(wc -l <stderr)" = 1 ] && grep -qF "ioam: $file: $why" stderr ;;
+    *) [ ! -s stderr ] ;;
+    esac
+}
 # judge GOT STATUS WORD..: stdout is to be as wanted, and stderr too.
 judge() {
     got=$1 said=DIFFERS
@@ -74,6 +81,9 @@ for words in '' filter 'filter a b' 'filter a b c d' 'paths a' 'paths a b c' 'Fi
     want 1 usage $words
 done
 want 1 usage filter "$(printf 'a\377')" out report
+# Which forms are said: that of the command, or all.
+timeout 60 $as ./ioam part a 2>&1 >/dev/null | sed 's/^ioam: usage: //' >stdout && printf 'ioam part EXPORTS PART\n' >wanted && : >stderr && judge 0 0 '  the form of part'
+timeout 60 $as ./ioam help 2>&1 >/dev/null | sed 's/^ioam: usage: //' >stdout && grep -oE '^\| `[a-z].*` \|' "$top/README.md" | grep -oE '`[a-z]+( [A-Z]+)+`' | sed 's/`\(.*\)`/ioam \1/' >wanted && sort -o stdout stdout && sort -o wanted wanted && : >stderr && judge 0 0 '  all forms'
 want 1 usage run "$domain" "$readings" '' report exports
 want 2 "names $real" filter "$real" "$real" report
 want 2 "names $real" filter "$real" out "$real"
