@@ -9,9 +9,9 @@ use Rattle.ioam_ip.specs.Header.{first_word, header_octets, HasFields, FieldsFit
 use Rattle.ioam_ip.specs.declared.packet.Header.{Header}
 use Rattle.ioam_ip.proofs.WideOctets.{from_be_bytes-to_be_bytes_16, be_bytes_16, small_front}
 
-class_of : (class label word : ℕ) → class < 256 → label < 1048576 → word ≡ (6 * 256 + class) * 1048576 + label
+in_word : (class label word : ℕ) → class < 256 → label < 1048576 → word ≡ (6 * 256 + class) * 1048576 + label
     → (class ≡ word / 1048576 % 256) × (label ≡ word % 1048576)
-class_of class label word small low is = (omega arith, omega arith)
+in_word class label word small low is = (omega arith, omega arith)
 
 word_of : (n : ℕ) → n < 2 ^ 32 → u32_at (to_be_bytes w32 n) 0 ≡ n
 word_of n fits = from_be_bytes-to_be_bytes_4 n fits
@@ -20,7 +20,7 @@ word_of n fits = from_be_bytes-to_be_bytes_4 n fits
 pub HasFields-written : (header : Header) → FieldsFit header → HasFields (header_octets header) header
 HasFields-written header fits =
     let word : u32_at (header_octets header) 0 ≡ first_word header = word_of (first_word header) (omega arith) in
-    let top = class_of header.class header.label (u32_at (header_octets header) 0) fits.class fits.label word in
+    let top = in_word header.class header.label (u32_at (header_octets header) 0) fits.class fits.label word in
     record {
       class = top.0;
       label = top.1;

@@ -16,9 +16,13 @@ header_octets header = to_be_bytes w32 (first_word header)
     ++ to_be_bytes w128 header.source
     ++ to_be_bytes w128 header.target
 
+-- the traffic class that octets begin with: the 8 bits behind the version
+abbrev pub class_of : List ℕ → ℕ
+class_of octets = u32_at octets 0 / 1048576 % 256
+
 -- the fields that the first 40 octets have
 pub record HasFields (octets : List ℕ) (header : Header) : Type 0 where
-  pub class : header.class ≡ u32_at octets 0 / 1048576 % 256
+  pub class : header.class ≡ class_of octets
   pub label : header.label ≡ u32_at octets 0 % 1048576
   pub payload : header.payload ≡ u16_at octets 4
   pub next : header.next ≡ slice_index octets 6

@@ -3,7 +3,7 @@ ghost use Rattle.std.specs.Prelude.{◌≡◌, ◌↔◌, IsTrue, IsSome, IfSome
 ghost use Rattle.std.specs.Int.{w128, from_be_bytes, to_be_bytes};
 ghost use Rattle.ioam_base.specs.Octets.{written};
 ghost use Rattle.ioam_ip.specs.Packet.{IsPacket};
-ghost use Rattle.ioam_ip.specs.Header.{HasFields, FieldsFit, header_octets};
+ghost use Rattle.ioam_ip.specs.Header.{HasFields, FieldsFit, class_of, header_octets};
 
 use crate::packet::{HEADER_OCTETS, HOP_LIMIT, Header, NEXT_HEADER};
 use byteorder::{BigEndian, ByteOrder};
@@ -23,13 +23,21 @@ pub fn header(octets: &[u8]) -> Option<Header>
     Some(read_fields(octets))
 }
 
+/// The traffic class of a packet (RFC 8200 section 3).
+pub fn class_of(packet: &[u8]) -> u8
+    requires { IsPacket packet.now }
+    ensures { result ≡ class_of packet.now }
+{
+    (u32_at(packet, 0) / 0x10_0000 % 256) as u8
+}
+
 fn read_fields(octets: &[u8]) -> Header
     requires { IsPacket octets.now }
     ensures { HasFields octets.now result }
 {
     let word = u32_at(octets, 0);
     Header {
-        class: (word / 0x10_0000 % 256) as u8,
+        class: class_of(octets),
         label: word % 0x10_0000,
         payload: u16_at(octets, 4),
         next: octets[NEXT_HEADER],

@@ -22,7 +22,7 @@ mod walks;
 pub use answer::Walk;
 pub use chain::Head;
 pub use checks::{check_options, options};
-pub use codec::{header, put_header};
+pub use codec::{class_of, header, put_header};
 pub use finds::{heads, hop_header, target_header};
 pub use frame::{Framed, packet_of};
 pub use headers::Heads;

@@ -12,5 +12,8 @@ pub const ROUTING: u8 = 43;
 /// Fragment (RFC 8200 section 4.5).
 pub const FRAGMENT: u8 = 44;
 
+/// No Next Header: nothing stands behind (RFC 8200 section 4.7).
+pub const NO_NEXT: u8 = 59;
+
 /// Destination Options (RFC 8200 section 4.6).
 pub const DESTINATION: u8 = 60;
