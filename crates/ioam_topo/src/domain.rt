@@ -54,7 +54,7 @@ pub struct Domain {
     ghost addresses: { ArePlaces nat_eq (map address_of_node parts.nodes.items) by_address },
     ghost prefixes: { ArePlaces (λ k. is_route k.0 k.1) (map key_of_route parts.routes.items) by_prefix },
     ghost namespaces: { ArePlaces (λ k. is_pair k.0 k.1) (map key_of_data parts.data.items) by_namespace },
-    ghost indexed: { IsIndex (length parts.nodes.items) parts.routes.items parts.flows.items index.items },
+    ghost indexed: { IsIndex (length parts.nodes.items) parts.routes.items parts.flows.items parts.data.items index.items },
 }
 
 impl Domain {
@@ -90,7 +90,13 @@ impl Domain {
         let by_address = places_of(alloc, &addresses_of(alloc, &parts.nodes)?)?;
         let by_prefix = places_of(alloc, &prefixes_of(alloc, &parts.routes)?)?;
         let by_namespace = places_of(alloc, &namespaces_of(alloc, &parts.data)?)?;
-        let index = index_of(alloc, parts.nodes.len(), &parts.routes, &parts.flows)?;
+        let index = index_of(
+            alloc,
+            parts.nodes.len(),
+            &parts.routes,
+            &parts.flows,
+            &parts.data,
+        )?;
         Ok(Domain {
             format,
             packets,

@@ -10,9 +10,9 @@ use crate::masks::{masked, matches};
 use crate::parts::Route;
 use crate::prefix::Prefix;
 
-/// Of so many routes of a node each is looked at; of more those that have the target's bits are looked
-/// up.
-const FEW: usize = 32;
+/// Of so many routes of a node, and of so many of its data, each is looked at; of more those that have
+/// the target's bits, and those of the namespace, are looked up.
+pub(crate) const FEW: usize = 32;
 
 // Whether a route is one of the node, and the target has its prefix.
 fn fits(route: &Route, node: NodeId, target: u128) -> bool

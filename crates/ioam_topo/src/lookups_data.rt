@@ -3,14 +3,15 @@ ghost use Rattle.std.specs.Prelude.{◌≡◌, ◌<◌, ◌≤◌, length, map, 
 ghost use Rattle.std.specs.List.{All};
 ghost use Rattle.std.specs.Option.{option_copied};
 ghost use Rattle.ioam_topo.specs.Sound.{IsNodeData, IsFlow};
-ghost use Rattle.ioam_topo.specs.Finding.{data_at, encloses, flow_at};
+ghost use Rattle.ioam_topo.specs.Finding.{data_at, encloses, flow_at, is_data_of};
 ghost use Rattle.ioam_topo.specs.Kept.{IsOfNode, JoinsEnds};
 ghost use Rattle.ioam_topo.specs.Known.{IsKnownAtEnds};
 ghost use Rattle.ioam_topo.specs.Apart.{AreApart, FlowsApart};
 ghost use Rattle.ioam_topo.specs.Keyed.{is_pair, key_of_data};
-ghost use Rattle.ioam_topo.specs.Index.{flows_of, first_place, passes};
+ghost use Rattle.ioam_topo.specs.Index.{flows_of, rows_of, first_place, passes};
 
 use crate::domain::Domain;
+use crate::forward::FEW;
 use crate::ids::{FlowId, NodeId};
 use crate::masks::matches;
 use crate::parts::{Flow, NodeData};
@@ -41,6 +42,36 @@ fn first_of(flows: &[Flow], places: &[u32], node: NodeId, source: u128, target: 
 {
     for at in places {
         if encloses_at(flows, *at, node, source, target) {
+            return Some(*at);
+        }
+    }
+    None
+}
+
+// Whether data are those of a node in a namespace.
+fn is_data_of(row: &NodeData, node: NodeId, namespace: Namespace) -> bool
+    ensures { result ≡ is_data_of node.0 namespace.0 row.now }
+{
+    node.0 == row.node.0 && namespace.0 == row.namespace.0
+}
+
+// Whether those at a place are.
+fn is_data_at(rows: &[NodeData], at: u32, node: NodeId, namespace: Namespace) -> bool
+    ensures { result ≡ passes (is_data_of node.0 namespace.0) (slice_get rows.now at) }
+{
+    match rows.get(at as usize) {
+        Some(row) => is_data_of(row, node, namespace),
+        None => false,
+    }
+}
+
+// The first of some places whose data are those of a node in a namespace.
+fn first_row(rows: &[NodeData], places: &[u32], node: NodeId, namespace: Namespace) -> Option<u32>
+    ensures value { result ≡ first_place (is_data_of node.0 namespace.0) rows.now places.now }
+    ensures within { IfSome result (λ at. at < length rows.now) }
+{
+    for at in places {
+        if is_data_at(rows, *at, node, namespace) {
             return Some(*at);
         }
     }
@@ -97,12 +128,35 @@ impl Domain {
         &self.parts.data[at as usize]
     }
 
+    // The places of a node's data, in file order.
+    fn rows_at(&self, node: NodeId) -> &[u32]
+        ensures { result.now ≡ rows_of (node_data self.now) node.0 }
+    {
+        match self.index.get(node.0 as usize) {
+            Some(at) => at.rows.as_slice(),
+            None => &[],
+        }
+    }
+
+    // The place of the data of a node in a namespace, by the table of all.
+    fn place_in_table(&self, node: NodeId, namespace: Namespace) -> Option<u32>
+        ensures value { result ≡ position (is_pair node.0 namespace.0) (map key_of_data (node_data self.now)) }
+        ensures within { IfSome result (λ at. at < length (node_data self.now)) }
+    {
+        self.by_namespace.get(&(node.0, namespace.0)).copied()
+    }
+
     // The place of the data of a node in a namespace.
     fn place_of_data(&self, node: NodeId, namespace: Namespace) -> Option<u32>
         ensures value { result ≡ position (is_pair node.0 namespace.0) (map key_of_data (node_data self.now)) }
         ensures within { IfSome result (λ at. at < length (node_data self.now)) }
     {
-        self.by_namespace.get(&(node.0, namespace.0)).copied()
+        let own = self.rows_at(node);
+        if own.len() <= FEW {
+            first_row(self.data(), own, node, namespace)
+        } else {
+            self.place_in_table(node, namespace)
+        }
     }
 
     /// The data of a node in a namespace, where the file has them.
@@ -110,9 +164,6 @@ impl Domain {
         ensures value { option_copied result ≡ data_at (node_data self.now) node.0 namespace.0 }
         ensures sound { IfSome result (λ row. IsNodeData row.now) }
     {
-        if self.parts.data.is_empty() {
-            return None;
-        }
         match self.place_of_data(node, namespace) {
             Some(at) => Some(self.row(at)),
             None => None,
