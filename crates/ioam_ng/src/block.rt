@@ -4,8 +4,9 @@ ghost use Rattle.ioam_ng.specs.Blocks.{TellsFace, face_at, units};
 ghost use Rattle.ioam_ng.specs.Front.{least_size};
 ghost use Rattle.ioam_ng.specs.BlockSteps.{TellsBody, TellsPacket, TellsAmong, TellsContent, TellsBlock};
 
+use crate::codes::{ENHANCED_PACKET, INTERFACE, OBSOLETE_PACKET, SECTION, SIMPLE_PACKET};
 use crate::face::{Face, is_resolved, time_of};
-use crate::front::{Front, FrontStep, SECTION, front_step};
+use crate::front::{Front, FrontStep, front_step};
 use crate::numbers::short_at;
 use crate::option::face_in;
 use ioam_pcap::{CapFault, Link, MOST_PACKET, Order, link_type, number_at};
@@ -76,8 +77,8 @@ fn body_in(front: Front, block: &[u8]) -> Option<Body>
 {
     match front.kind {
         SECTION => Some(Body::Section),
-        1 => face_at(front.order, block).map(Body::Face),
-        6 => {
+        INTERFACE => face_at(front.order, block).map(Body::Face),
+        ENHANCED_PACKET => {
             let captured = number_at(front.order, block, 20);
             if block.len() < 32 + captured as usize {
                 None
@@ -154,7 +155,7 @@ fn content_in(front: Front, faces: &[Face], block: &[u8]) -> Result<Content, Cap
     if trail != front.size {
         return Err(CapFault::Trail { found: trail });
     }
-    if front.kind == 2 || front.kind == 3 {
+    if front.kind == OBSOLETE_PACKET || front.kind == SIMPLE_PACKET {
         return Err(CapFault::Kind { found: front.kind });
     }
     match body {

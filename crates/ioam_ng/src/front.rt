@@ -3,12 +3,10 @@ ghost use Rattle.std.specs.Prelude.{◌≡◌, ◌≤◌, true, false, length};
 ghost use Rattle.ioam_ng.specs.Front.{is_section, is_front, is_alien, least_size};
 ghost use Rattle.ioam_ng.specs.Steps.{TellsFront, TellsNumbers, TellsSize};
 
+use crate::codes::{ENHANCED_PACKET, INTERFACE, SECTION};
 use crate::numbers::order_said;
 use ioam_base::octets::u32_at;
 use ioam_pcap::{CapFault, Order, number_at};
-
-/// The type of a section block, the same in both orders of octets.
-pub const SECTION: u32 = 0x0a0d_0d0a;
 
 /// The most blocks of a capture.
 const MOST_BLOCKS: u32 = 33_554_432;
@@ -66,8 +64,8 @@ fn least_size(kind: u32) -> u32
 {
     match kind {
         SECTION => 28,
-        1 => 20,
-        6 => 32,
+        INTERFACE => 20,
+        ENHANCED_PACKET => 32,
         _ => 12,
     }
 }

@@ -3,6 +3,7 @@
 #![tactic(auto)]
 
 mod block;
+mod codes;
 mod face;
 mod front;
 mod numbers;
@@ -11,7 +12,7 @@ mod put;
 mod reader;
 
 pub use block::face_at;
+pub use codes::SECTION;
 pub use face::Face;
-pub use front::SECTION;
 pub use put::{put_ng_head, put_ng_packet};
 pub use reader::{NgLook, NgReader, NgStep};

@@ -5,6 +5,7 @@ ghost use Rattle.ioam_ng.specs.Face.{face_in, face_with};
 ghost use Rattle.ioam_ng.specs.Steps.{TellsOption};
 ghost use Rattle.ioam_ng.specs.Options.{Item, is_end, is_past, item_in, item_size, resolution_in, offset_in};
 
+use crate::codes::{NO_MORE, OFFSET, RESOLUTION};
 use crate::face::Face;
 use crate::numbers::{long_at, short_at};
 use ioam_pcap::Order;
@@ -20,7 +21,7 @@ pub struct Said {
 fn is_end(order: Order, octets: &[u8]) -> bool
     ensures { result ≡ is_end order octets.now }
 {
-    octets.len() < 4 || short_at(order, octets, 0) == 0
+    octets.len() < 4 || short_at(order, octets, 0) == NO_MORE
 }
 
 // The octets that the option at the front takes.
@@ -48,10 +49,10 @@ impl Said {
             ≡ option_or self.offset (offset_in order (record { code = code; value = value.now } ∷ items)) }
     {
         let mut found = self;
-        if code == 9 && value.len() == 1 && found.resolution.is_none() {
+        if code == RESOLUTION && value.len() == 1 && found.resolution.is_none() {
             found.resolution = Some(value[0]);
         }
-        if code == 14 && value.len() == 8 && found.offset.is_none() {
+        if code == OFFSET && value.len() == 8 && found.offset.is_none() {
             found.offset = Some(long_at(order, value, 0));
         }
         found

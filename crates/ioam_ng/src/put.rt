@@ -5,17 +5,25 @@ ghost use Rattle.ioam_ng.specs.Reads.{Reads};
 ghost use Rattle.ioam_pcap.specs.Ending.{Whole};
 ghost use Rattle.ioam_ng.specs.Text.{head_octets, face_for, packet_front, packet_numbers, packet_tail, packet_octets, packet_size, taken_by, capture_text, IsSendable};
 
+use crate::codes::{ENHANCED_PACKET, INTERFACE, RESOLUTION};
 use ioam_base::buffer::Buffer;
 use ioam_base::memory::NoMemory;
-use ioam_base::text::append;
+use ioam_base::text::{append, settle};
 use ioam_pcap::{Link, Packet};
 
-/// The section block and the two interface blocks of what is written.
+// The last octets of the type of an interface block and of the code of its resolution; those in front are 0.
+const FACE_TYPE: u8 = INTERFACE as u8;
+
+const UNIT_CODE: u8 = RESOLUTION as u8;
+
+// The section block and the two interface blocks of what is written.
 const HEAD: [u8; 92] = [
-    0x0a, 0x0d, 0x0d, 0x0a, 0, 0, 0, 0x1c, 0x1a, 0x2b, 0x3c, 0x4d, 0, 1, 0, 0, 0xff, 0xff, 0xff,
-    0xff, 0xff, 0xff, 0xff, 0xff, 0, 0, 0, 0x1c, 0, 0, 0, 1, 0, 0, 0, 0x20, 0, 0x65, 0, 0, 0, 4, 0,
-    0, 0, 9, 0, 1, 9, 0, 0, 0, 0, 0, 0, 0, 0, 0, 0, 0x20, 0, 0, 0, 1, 0, 0, 0, 0x20, 0, 1, 0, 0, 0,
-    4, 0, 0, 0, 9, 0, 1, 9, 0, 0, 0, 0, 0, 0, 0, 0, 0, 0, 0x20,
+    0x0a, 0x0d, 0x0d, 0x0a, 0, 0, 0, 0x1c, 0x1a, 0x2b, 0x3c, 0x4d, 0, 1, 0, 0, //
+    0xff, 0xff, 0xff, 0xff, 0xff, 0xff, 0xff, 0xff, 0, 0, 0, 0x1c, //
+    0, 0, 0, FACE_TYPE, 0, 0, 0, 0x20, 0, 101, 0, 0, 0, 4, 0, 0, //
+    0, UNIT_CODE, 0, 1, 9, 0, 0, 0, 0, 0, 0, 0, 0, 0, 0, 0x20, //
+    0, 0, 0, FACE_TYPE, 0, 0, 0, 0x20, 0, 1, 0, 0, 0, 4, 0, 0, //
+    0, UNIT_CODE, 0, 1, 9, 0, 0, 0, 0, 0, 0, 0, 0, 0, 0, 0x20,
 ];
 
 /// Appends what stands before the packets of a capture: 92 octets, big-endian, a section and two
@@ -55,7 +63,7 @@ fn packet_front(link: Link, captured: u32) -> Buffer
     ensures { result ≡ packet_front link captured }
 {
     let mut front = Buffer::new();
-    front.four(6);
+    front.four(ENHANCED_PACKET);
     front.four(packet_size(captured));
     front.four(face_for(link));
     front
@@ -91,13 +99,8 @@ fn append_two(first: &[u8], second: &[u8], out: &mut Vec<u8>) -> Result<(), NoMe
 {
     let before = out.len();
     append(out, first)?;
-    match append(out, second) {
-        Ok(()) => Ok(()),
-        Err(no_memory) => {
-            out.truncate(before);
-            Err(no_memory)
-        }
-    }
+    let answer = append(out, second);
+    settle(out, before, answer)
 }
 
 // Appends a block by its parts, or leaves what was there.
@@ -113,13 +116,8 @@ fn append_block(
 {
     let before = out.len();
     append_two(front, numbers, out)?;
-    match append_two(octets, tail, out) {
-        Ok(()) => Ok(()),
-        Err(no_memory) => {
-            out.truncate(before);
-            Err(no_memory)
-        }
-    }
+    let answer = append_two(octets, tail, out);
+    settle(out, before, answer)
 }
 
 /// Appends the block of a packet of at most 262,144 octets and of a time below 2^62 nanoseconds,
