@@ -11,7 +11,7 @@ use Rattle.ioam_ng.specs.Front.{Known, is_section, front_size, is_front, order_i
 use Rattle.ioam_ng.specs.Blocks.{Place, behind, Blocks, fault_in, fault_by, is_whole, size, kind}
 use Rattle.ioam_pcap.specs.Entries.{Taken}
 use Rattle.ioam_ng.specs.Reading.{Reading, place_of}
-use Rattle.ioam_ng.specs.Reader.{Stands, Waits, HoldsFew, most_start}
+use Rattle.ioam_ng.specs.Reader.{Stands, Waits, HoldsFew}
 use Rattle.ioam_ng.proofs.ReadsLaws.{none_some}
 
 -- where the first of several isn't there, none of them is
@@ -104,8 +104,8 @@ Blocks-count p (x ∷ xs) q few leads =
     let there = (and_parts (is_front p.octets) (nat_le (size p.known p.octets) (length p.octets)) leads.0.1).0 in
     Blocks-count (behind p) xs q (omega (arith, count_few p.known p.octets leads.0.0 there)) leads.2
 
--- so many octets were taken at most
-pub Stands-start : (reader : Reading) (octets : List ℕ) (taken : List Taken) → Stands reader octets taken → reader.start ≤ most_start
+-- a reader has taken no more octets than 33,554,432 of the largest blocks have, 2^49
+pub Stands-start : (reader : Reading) (octets : List ℕ) (taken : List Taken) → Stands reader octets taken → reader.start ≤ 562949953421312
 Stands-start reader octets taken stands =
     let most = Blocks-most _ stands.blocks (place_of reader) stands.leads in
     let count = Blocks-count _ stands.blocks (place_of reader) (omega arith) stands.leads in

@@ -38,10 +38,6 @@ Waits reader = IsCut (place_of reader)
 abbrev pub HoldsFew : Reading → Type 0
 HoldsFew reader = length reader.pending < 16777216
 
--- a reader has taken no more octets than 33,554,432 of the largest blocks have, 2^49
-abbrev pub most_start : ℕ
-most_start = 562949953421312
-
 -- what is due has this fault
 abbrev pub IsFaulty : Reading → CapFault → Type 0
 IsFaulty reader fault = HasFault (place_of reader) fault

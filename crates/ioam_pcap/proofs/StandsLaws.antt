@@ -14,7 +14,7 @@ use Rattle.ioam_pcap.specs.Ending.{Faulty}
 use Rattle.ioam_pcap.specs.Entries.{Entry, Entries, captured, IsWhole, entry_at, behind}
 use Rattle.ioam_pcap.specs.Reads.{HeadFault, EntryFault, IsHeadCut, IsEntryCut, Reached, EntryAt, FaultAt, CutAt, EndsAt, Reads, ReadsOnly, link_by}
 use Rattle.ioam_pcap.specs.Reading.{Reading}
-use Rattle.ioam_pcap.specs.Reader.{Stands, Waits, HoldsFew, IsCap, held, link_of, most_size, most_start}
+use Rattle.ioam_pcap.specs.Reader.{Stands, Waits, HoldsFew, IsCap, held, link_of, most_size}
 use Rattle.ioam_pcap.proofs.DropLaws.{captured-drop, IsWhole-drop, entry_at-drop, EntryFault-drop, IsEntryCut-drop}
 use Rattle.ioam_pcap.proofs.BehindLaws.{Reached-behind, FaultAt-behind}
 use Rattle.ioam_pcap.proofs.ReadsLaws.{entry_uncut, entry_sound, Reads-unique}
@@ -71,11 +71,12 @@ Entries-most : (form : Form) (octets : List ℕ) (from : ℕ) (entries : List En
 Entries-most form octets from [] to same = omega (arith, same)
 Entries-most form octets from (e ∷ entries) to leads = omega (arith, leads.0.0, Entries-most form octets (behind form octets from) entries to leads.2)
 
--- so many octets were taken at most
-pub Stands-start : (reader : Reading) (octets : List ℕ) (entries : List Entry) → Stands reader octets entries → reader.start ≤ most_start (length entries)
+-- a reader that has given so many records has taken no more octets than the head and these
+pub Stands-start : (reader : Reading) (octets : List ℕ) (entries : List Entry) → Stands reader octets entries
+    → reader.start ≤ 24 + length entries * most_size
 Stands-start reader octets entries stands = start_by reader.form stands.reached
   where
-    start_by : (form : Option Form) → Reached octets form entries reader.start → reader.start ≤ most_start (length entries)
+    start_by : (form : Option Form) → Reached octets form entries reader.start → reader.start ≤ 24 + length entries * most_size
     start_by None reached = omega (arith, reached.1)
     start_by (Some form) reached = Entries-most form octets 24 entries reader.start reached.1
 

@@ -1,5 +1,5 @@
 -- What a reader stands for, and what its steps tell of the octets that it was fed.
-use Rattle.std.specs.Prelude.{◌≡◌, ℕ, ◌+◌, ◌*◌, ◌<◌, ◌≤◌, ◌^◌, List, [], ◌∷◌, ◌++◌, length, drop, Option, Some, None}
+use Rattle.std.specs.Prelude.{◌≡◌, ℕ, ◌+◌, ◌<◌, ◌≤◌, ◌^◌, List, [], ◌∷◌, ◌++◌, length, drop, Option, Some, None}
 use Rattle.std.specs.Io.BufRead.{Rests}
 use Rattle.std.specs.Borrow.{Fml, MutBor}
 use Rattle.ioam_pcap.specs.declared.form.Link.{Link}
@@ -36,10 +36,6 @@ held reader = reader.given + length reader.pending
 -- the most octets that a record has, its head included
 abbrev pub most_size : ℕ
 most_size = 262160
-
--- a reader that has given so many records has taken no more octets than these
-abbrev pub most_start : ℕ → ℕ
-most_start count = 24 + count * most_size
 
 -- a reader holds back less than the octets of a record
 abbrev pub HoldsFew : Reading → Type 0
