@@ -1,4 +1,5 @@
 //! Why a call on a desk failed.
+use ioam_base::memory::NoMemory;
 use thiserror::Error;
 
 /// Why a call of a desk gave no answer.
@@ -10,6 +11,17 @@ pub enum DeskFault {
     /// No memory could be had. The desk is as it was.
     #[error("no memory")]
     NoMemory,
+}
+
+impl From<NoMemory> for DeskFault {
+    ghost use Rattle.std.specs.Prelude.{◌≡◌};
+    ghost use Rattle.ioam_desk.specs.declared.fault.DeskFault.TheVariants as fault;
+
+    ghost from_gives = { λ _ made. made ≡ fault.NoMemory };
+
+    fn from(_error: NoMemory) -> DeskFault {
+        DeskFault::NoMemory
+    }
 }
 
 /// Why a file could not be read whole.

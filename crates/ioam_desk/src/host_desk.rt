@@ -11,7 +11,6 @@ use crate::fault::DeskFault;
 use crate::file_system::FileSystem;
 use crate::host_fault::{Fault, Reason};
 use crate::host_side::{HostSide, Opened};
-use ioam_base::memory::NoMemory;
 use std::alloc::Global;
 
 /// Real files. What they hold isn't told.
@@ -135,13 +134,9 @@ impl<R: FileSystem> Desk for HostDesk<R> {
         ensures unasked { result ≡ Err DeskFault.NoMemory → self.new.files ≡ self.old.files }
         ensures last { result ≢ Err DeskFault.Failed → self.new.inputs.last ≡ self.old.inputs.last }
     {
-        match self.inputs.make_room(self.alloc, name) {
-            Ok(names) => {
-                let opened = opened(&mut self.files, name);
-                self.inputs.add(names, opened)
-            }
-            Err(NoMemory) => Err(DeskFault::NoMemory),
-        }
+        let names = self.inputs.make_room(self.alloc, name)?;
+        let opened = opened(&mut self.files, name);
+        self.inputs.add(names, opened)
     }
 
     fn read(&mut self, slot: u32, into: &mut [u8]) -> Result<usize, DeskFault>
@@ -184,13 +179,9 @@ impl<R: FileSystem> Desk for HostDesk<R> {
         ensures unasked { result ≡ Err DeskFault.NoMemory → self.new.files ≡ self.old.files }
         ensures last { result ≢ Err DeskFault.Failed → self.new.outputs.last ≡ self.old.outputs.last }
     {
-        match self.outputs.make_room(self.alloc, name) {
-            Ok(names) => {
-                let opened = created(&mut self.files, &self.inputs, &self.outputs, name);
-                self.outputs.add(names, opened)
-            }
-            Err(NoMemory) => Err(DeskFault::NoMemory),
-        }
+        let names = self.outputs.make_room(self.alloc, name)?;
+        let opened = created(&mut self.files, &self.inputs, &self.outputs, name);
+        self.outputs.add(names, opened)
     }
 
     fn write(&mut self, slot: u32, from: &[u8]) -> Result<usize, DeskFault>

@@ -143,13 +143,9 @@ impl MemoryDesk {
         ensures faults { self.new.read_faults ≡ self.old.read_faults }
         ensures plan { plan_of self.new ≡ plan_after (plan_of self.old) result }
     {
-        match self.inputs.open(self.alloc, name, octets) {
-            Ok(slot) => {
-                self.calls.count();
-                Ok(slot)
-            }
-            Err(NoMemory) => Err(DeskFault::NoMemory),
-        }
+        let slot = self.inputs.open(self.alloc, name, octets)?;
+        self.calls.count();
+        Ok(slot)
     }
 
     /// Fails to open an input slot.
@@ -161,10 +157,8 @@ impl MemoryDesk {
         ensures faults { self.new.read_faults ≡ faults_after self.old.read_faults result }
         ensures plan { plan_of self.new ≡ plan_after (plan_of self.old) result }
     {
-        match self.inputs.refuse(self.alloc, name) {
-            Ok(()) => Err(self.input_failed()),
-            Err(NoMemory) => Err(DeskFault::NoMemory),
-        }
+        self.inputs.refuse(self.alloc, name)?;
+        Err(self.input_failed())
     }
 
     /// Fails to open an output slot.
@@ -175,10 +169,8 @@ impl MemoryDesk {
         ensures faults { self.new.write_faults ≡ faults_after self.old.write_faults result }
         ensures plan { plan_of self.new ≡ plan_after (plan_of self.old) result }
     {
-        match self.outputs.refuse(self.alloc, name) {
-            Ok(()) => Err(self.output_failed()),
-            Err(NoMemory) => Err(DeskFault::NoMemory),
-        }
+        self.outputs.refuse(self.alloc, name)?;
+        Err(self.output_failed())
     }
 }
 
@@ -199,10 +191,9 @@ impl Desk for MemoryDesk {
             ≡ faults_after (reading_of self.old).side.faults result }
         ensures plan { plan_of self.new ≡ plan_after (plan_of self.old) result }
     {
-        match self.to_open(name) {
-            Ok(Some(octets)) => self.open_over(name, octets),
-            Ok(None) => self.refuse_in(name),
-            Err(NoMemory) => Err(DeskFault::NoMemory),
+        match self.to_open(name)? {
+            Some(octets) => self.open_over(name, octets),
+            None => self.refuse_in(name),
         }
     }
 
@@ -239,13 +230,9 @@ impl Desk for MemoryDesk {
         if self.calls.next_fails() {
             return self.refuse_out(name);
         }
-        match self.outputs.open(self.alloc, name) {
-            Ok(slot) => {
-                self.calls.count();
-                Ok(slot)
-            }
-            Err(NoMemory) => Err(DeskFault::NoMemory),
-        }
+        let slot = self.outputs.open(self.alloc, name)?;
+        self.calls.count();
+        Ok(slot)
     }
 
     fn write(&mut self, slot: u32, from: &[u8]) -> Result<usize, DeskFault>
@@ -265,12 +252,8 @@ impl Desk for MemoryDesk {
             return Err(self.output_failed());
         }
         let count = self.piece.of(from.len());
-        match self.outputs.write(slot, &from[..count]) {
-            Ok(()) => {
-                self.calls.count();
-                Ok(count)
-            }
-            Err(NoMemory) => Err(DeskFault::NoMemory),
-        }
+        self.outputs.write(slot, &from[..count])?;
+        self.calls.count();
+        Ok(count)
     }
 }

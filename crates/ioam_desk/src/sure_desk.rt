@@ -110,10 +110,8 @@ impl Desk for SureDesk {
         ensures fails { FailsIf false result }
         ensures piece { piece_of self.new ≡ piece_of self.old }
     {
-        match self.open_over(name) {
-            Ok(slot) => Ok(slot),
-            Err(NoMemory) => Err(DeskFault::NoMemory),
-        }
+        let slot = self.open_over(name)?;
+        Ok(slot)
     }
 
     fn read(&mut self, slot: u32, into: &mut [u8]) -> Result<usize, DeskFault>
@@ -137,10 +135,8 @@ impl Desk for SureDesk {
         ensures fails { FailsIf false result }
         ensures piece { piece_of self.new ≡ piece_of self.old }
     {
-        match self.outputs.open(self.alloc, name) {
-            Ok(slot) => Ok(slot),
-            Err(NoMemory) => Err(DeskFault::NoMemory),
-        }
+        let slot = self.outputs.open(self.alloc, name)?;
+        Ok(slot)
     }
 
     fn write(&mut self, slot: u32, from: &[u8]) -> Result<usize, DeskFault>
@@ -155,9 +151,7 @@ impl Desk for SureDesk {
         ensures piece { piece_of self.new ≡ piece_of self.old }
     {
         let count = self.piece.of(from.len());
-        match self.outputs.write(slot, &from[..count]) {
-            Ok(()) => Ok(count),
-            Err(NoMemory) => Err(DeskFault::NoMemory),
-        }
+        self.outputs.write(slot, &from[..count])?;
+        Ok(count)
     }
 }
