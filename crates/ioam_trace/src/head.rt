@@ -7,12 +7,13 @@ use ioam_base::octets::u16_at;
 use ioam_data::{Namespace, TraceType};
 
 /// The octets of a header.
-pub(crate) const HEAD_OCTETS: usize = 8;
+pub const HEAD_OCTETS: usize = 8;
 
-// Where the namespace, the IOAM-Trace-Type and the reserved octet stand in a header.
+/// The place of the IOAM-Trace-Type in a header.
+pub const TRACE_TYPE: usize = 4;
+
+// The places of the namespace and of the reserved octet.
 const NAMESPACE: usize = 0;
-
-pub(crate) const TRACE_TYPE: usize = 4;
 
 const RESERVED: usize = 7;
 

@@ -17,9 +17,9 @@ const FLAGS: u16 = 1 << 7;
 // The most significant flag, Overflow.
 const OVERFLOW: u16 = 1 << 10;
 
-/// The length word.
-#[derive(Clone, Copy)]
-pub(crate) struct Lengths(pub u16);
+/// The length word of a trace: NodeLen, the flags and RemainingLen.
+#[derive(Clone, Copy, Debug)]
+pub struct Lengths(pub u16);
 
 impl Lengths {
     // The word of these numbers.
@@ -32,8 +32,8 @@ impl Lengths {
         Lengths(u16::from(node_len) * NODE_LEN + u16::from(flags) * FLAGS + u16::from(remaining))
     }
 
-    // The word of the header that the octets begin with.
-    pub(crate) fn read(octets: &[u8]) -> Lengths
+    /// The word of the header that the octets begin with.
+    pub fn read(octets: &[u8]) -> Lengths
         requires { 8 ≤ length octets.now }
         ensures { result.0 ≡ u16_at octets.now 2 }
     {
@@ -49,13 +49,15 @@ impl Lengths {
         put_u16_at(octets, PLACE, self.0);
     }
 
-    pub(crate) fn node_len(self) -> u8
+    /// NodeLen: the words that a node adds, the snapshot not counted.
+    pub fn node_len(self) -> u8
         ensures value { result ≡ self.0 / 2048 }
         ensures below { result < 32 }
     {
         (self.0 / NODE_LEN) as u8
     }
 
+    // The four flags, Overflow the most significant.
     pub(crate) fn flags(self) -> u8
         ensures value { result ≡ self.0 / 128 % 16 }
         ensures below { result < 16 }
@@ -63,29 +65,30 @@ impl Lengths {
         (self.0 / FLAGS % 16) as u8
     }
 
-    // Whether Overflow is set.
-    pub(crate) fn is_over(self) -> bool
+    /// Whether Overflow is set.
+    pub fn is_over(self) -> bool
         ensures { IsTrue result ↔ (self.0 / 1024 % 2 ≡ 1) }
     {
         self.0 / OVERFLOW % 2 == 1
     }
 
-    pub(crate) fn remaining(self) -> u8
+    /// RemainingLen: the free words.
+    pub fn remaining(self) -> u8
         ensures value { result ≡ self.0 % 128 }
         ensures below { result < 128 }
     {
         (self.0 % FLAGS) as u8
     }
 
-    // The place behind the header and the free words.
-    pub(crate) fn used(self) -> usize
+    /// The place behind the header and the free words.
+    pub fn used(self) -> usize
         ensures { result ≡ 8 + 4 * (self.0 % 128) }
     {
         HEAD_OCTETS + 4 * usize::from(self.remaining())
     }
 
-    // The word with Overflow, which is clear.
-    pub(crate) fn with_overflow(self) -> Lengths
+    /// The word with Overflow, which is clear.
+    pub fn with_overflow(self) -> Lengths
         requires { self.0 / 1024 % 2 ≡ 0 }
         ensures { result.0 ≡ self.0 + 1024 }
     {

@@ -16,6 +16,7 @@ pub use addition::{Filled, fill};
 pub use beginning::put_trace;
 pub use elements::Elements;
 pub use fault::TraceFault;
-pub use head::TraceHead;
+pub use head::{HEAD_OCTETS, TRACE_TYPE, TraceHead};
 pub use incremental::Incremental;
+pub use lengths::Lengths;
 pub use trace::Trace;
