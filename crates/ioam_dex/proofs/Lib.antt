@@ -4,5 +4,6 @@ pub mod NumbersLaws
 pub mod ReaderLaws
 pub mod ReadsLaws
 pub mod RecordLaws
+pub mod RoomLaws
 pub mod TotalLaws
 pub mod VisitLaws

@@ -9,6 +9,14 @@ use Rattle.ioam_dex.specs.Numbers.{has_flow, has_seq, four_where, numbers_size, 
 use Rattle.ioam_dex.specs.declared.export.Export.{Export}
 use Rattle.ioam_dex.specs.Visit.{IsVersion, has_visit, version_of, visit_octets, twelve_where, visit_where, IsVisitBelow}
 
+-- the most octets of one: 30 in front of an element of 244
+abbrev pub most_record : ℕ
+most_record = 274
+
+-- the most records of a file of them
+abbrev pub most_records : ℕ
+most_records = 67108864
+
 -- what a record says
 pub record Record : Type 0 where
   pub namespace : ℕ

@@ -9,7 +9,7 @@ pub struct Direct {
     pub namespace: Namespace,
     /// The eight flags, of which none is defined.
     pub flags: u8,
-    /// The extension flags: bit 0, 0x80, has a Flow ID follow, bit 1, 0x40, a Sequence Number.
+    /// The extension flags, [`crate::extension`].
     pub ext: u8,
     /// What a node is to export.
     pub kind: TraceType,

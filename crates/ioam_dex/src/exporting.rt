@@ -12,7 +12,6 @@ use crate::layout::front_size;
 use crate::room::ExportRoom;
 use crate::step::record_step;
 use crate::visit::version_of;
-use ioam_base::buffer::Buffer;
 
 // The numbers of a record and its sizes.
 fn head_of(export: &Export<'_>) -> RecordHead
@@ -41,13 +40,11 @@ fn put_front(head: &RecordHead, room: &mut ExportRoom)
     ensures { room.new ≡ appended room.old (version_of head.now.visit ∷ head.now.ext ∷ (two_octets head.now.size
         ++ (two_octets head.now.namespace.0 ++ (head.now.flags ∷ three_octets head.now.kind)))) }
 {
-    let mut front = Buffer::new();
-    front.append(&[version_of(head.visit), head.ext]);
-    front.two(head.size as u16);
-    front.two(head.namespace.0);
-    front.append(&[head.flags]);
-    front.three(head.kind);
-    room.append(front.octets());
+    room.append(&[version_of(head.visit), head.ext]);
+    room.two(head.size as u16);
+    room.two(head.namespace.0);
+    room.append(&[head.flags]);
+    room.three(head.kind);
 }
 
 // Appends a record to the room.
@@ -74,6 +71,7 @@ pub fn put_export(export: &Export<'_>, room: &mut ExportRoom)
     requires spare { 274 ≤ room.old.spare }
     ensures appended { room.new ≡ appended room.old (record_octets (record_of export.now)) }
     ensures spare { room.new.spare + length (record_octets (record_of export.now)) ≡ room.old.spare }
+    ensures capacity { room.new.capacity ≡ room.old.capacity }
     ensures size { length (record_octets (record_of export.now)) ≤ 274 }
     // What was appended is one record with these contents.
     ensures says { Rec (record_octets (record_of export.now)) (record_of export.now) }

@@ -14,6 +14,9 @@ pub const MOST_ELEMENT: usize = 244;
 /// The most octets of a record: a front of 30, and an element.
 pub const MOST_RECORD: usize = 274;
 
+/// The most records of a file of export records.
+pub const MOST_RECORDS: u32 = 67_108_864;
+
 pub(crate) const VERSION: usize = 0;
 
 pub(crate) const EXTENSIONS: usize = 1;

@@ -4,6 +4,7 @@
 mod direct;
 mod export;
 mod exporting;
+pub mod extension;
 mod head;
 mod layout;
 mod numbers;
@@ -17,7 +18,7 @@ mod visit;
 pub use direct::{Direct, DirectFault};
 pub use export::{Export, ExportFault};
 pub use exporting::{export_of, put_export};
-pub use layout::{MOST_ELEMENT, MOST_RECORD, element_in};
+pub use layout::{MOST_ELEMENT, MOST_RECORD, MOST_RECORDS, element_in};
 pub use numbers::u32_where;
 pub use putting::put;
 pub use reader::{ExportReader, Shown, Step};

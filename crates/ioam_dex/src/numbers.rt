@@ -2,6 +2,7 @@
 ghost use Rattle.std.specs.Prelude.{◌≡◌, ◌+◌, ◌≤◌, ◌<◌, length};
 ghost use Rattle.ioam_dex.specs.Numbers.{has_flow, has_seq, four_where, numbers_size, u32_where};
 
+use crate::extension::{FLOW_ID, SEQUENCE_NUMBER};
 use ioam_base::octets::u32_at;
 
 /// Whether the extension flags have a Flow ID.
@@ -9,7 +10,7 @@ use ioam_base::octets::u32_at;
 pub(crate) fn has_flow(ext: u8) -> bool
     ensures { result ≡ has_flow ext }
 {
-    ext / 128 % 2 == 1
+    ext / FLOW_ID % 2 == 1
 }
 
 /// Whether they have a Sequence Number.
@@ -17,7 +18,7 @@ pub(crate) fn has_flow(ext: u8) -> bool
 pub(crate) fn has_seq(ext: u8) -> bool
     ensures { result ≡ has_seq ext }
 {
-    ext / 64 % 2 == 1
+    ext / SEQUENCE_NUMBER % 2 == 1
 }
 
 /// The octets of a number that is there or not.

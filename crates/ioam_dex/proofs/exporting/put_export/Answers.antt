@@ -18,3 +18,6 @@ returns-clause-says c = record {
   sayable = record { parts = c.requires.parts; numbers = c.append_record.ensures.numbers };
   is = refl;
 }
+
+pub returns-clause-capacity : goal.returns-clause-capacity
+returns-clause-capacity c = ap (λ r. r.capacity) c.append_record.ensures.appended
