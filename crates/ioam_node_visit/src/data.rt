@@ -107,6 +107,7 @@ impl NodeVisit<'_> {
         ensures exports { let given = record_for self.now.domain.now self.now.readings.now self.now.place self.now.time self.now.hops direct.now in
             room.new.exports ≡ room.old.exports ++ records_octets (given ∷ []) }
         ensures spare { room.new.spare ≡ room.old.spare - 1 }
+        ensures capacities { room.new.capacities ≡ room.old.capacities }
     {
         let kind = export_type(direct.kind);
         let view = self.view(sample, direct.namespace);
@@ -140,6 +141,7 @@ impl NodeVisit<'_> {
         ensures exports { let records = direct_records self.now.domain.now self.now.readings.now self.now.place self.now.time self.now.hops (read_of octets.now) in
             room.new.exports ≡ room.old.exports ++ records_octets records }
         ensures spare { room.new.spare ≡ room.old.spare - 1 }
+        ensures capacities { room.new.capacities ≡ room.old.capacities }
     {
         let Ok(direct) = read(octets) else {
             room.add(short_note());
@@ -174,6 +176,7 @@ impl NodeVisit<'_> {
         ensures exports { let records = records_of self.now.domain.now self.now.readings.now self.now.place self.now.time self.now.hops kind body.old in
             room.new.exports ≡ room.old.exports ++ records_octets records }
         ensures spare { room.new.spare + length (notes_of self.now.domain.now self.now.readings.now self.now.place self.now.time self.now.hops kind body.old) ≡ room.old.spare }
+        ensures capacities { room.new.capacities ≡ room.old.capacities }
     {
         match meet(kind, body) {
             Met::Cut => room.add(short_note()),

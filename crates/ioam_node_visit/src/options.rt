@@ -33,6 +33,7 @@ impl NodeVisit<'_> {
             room.new.exports ≡ room.old.exports ++ records_octets (records_in records (options_in head.old)) }
         ensures spare { let notes = notes_of self.now.domain.now self.now.readings.now self.now.place self.now.time self.now.hops in
             room.new.spare + length (notes_in notes (options_in head.old)) ≡ room.old.spare }
+        ensures capacities { room.new.capacities ≡ room.old.capacities }
         ensures steps { let step = node_step self.now.domain.now self.now.readings.now self.now.place self.now.time self.now.hops in
             head.new ≡ with_steps step head.old (options_in head.old) }
         ensures said { slice_index head.new 1 ≡ slice_index head.old 1 }
@@ -59,6 +60,7 @@ impl NodeVisit<'_> {
             room.new.exports ≡ room.old.exports ++ hop_exports records packet.old }
         ensures spare { room.old.spare ≤ room.new.spare + option_count packet.old }
         ensures given { room.new.spare + length room.new.notes ≡ room.old.spare + length room.old.notes }
+        ensures capacities { room.new.capacities ≡ room.old.capacities }
         ensures steps { let step = node_step self.now.domain.now self.now.readings.now self.now.place self.now.time self.now.hops in
             packet.new ≡ hop_stepped step packet.old }
     {
@@ -82,6 +84,7 @@ impl NodeVisit<'_> {
             room.new.exports ≡ room.old.exports ++ hop_exports records packet.old }
         ensures spare { room.old.spare ≤ room.new.spare + option_count packet.old }
         ensures given { room.new.spare + length room.new.notes ≡ room.old.spare + length room.old.notes }
+        ensures capacities { room.new.capacities ≡ room.old.capacities }
         ensures steps { let step = node_step self.now.domain.now self.now.readings.now self.now.place self.now.time self.now.hops in
             packet.new ≡ hop_stepped step packet.old }
         ensures packet { IsPacket packet.new }

@@ -14,7 +14,6 @@ ghost use Rattle.ioam_node_visit.specs.Exported.{HasExported};
 ghost use Rattle.ioam_node_visit.specs.Exports.{records_of};
 ghost use Rattle.ioam_node_visit.specs.FlowExports.{CarriesDirect, HasFlowExports};
 ghost use Rattle.ioam_node_visit.specs.Notes.{notes_of};
-ghost use Rattle.ioam_node_visit.specs.Room.{capacity};
 ghost use Rattle.ioam_node_visit.specs.Step.{node_step};
 ghost use Rattle.ioam_node_visit.specs.Stepped.{Stepped};
 ghost use Rattle.ioam_node_visit.specs.Visits.{Visited, closed_after, tunnel_records, wire_after};
@@ -51,8 +50,8 @@ pub fn begin(
         room.new.exports ≡ room.old.exports ++ hop_exports (records_of domain.now readings.now place time limit) packet.old }
     ensures spare { room.old.spare ≤ room.new.spare + option_count packet.old }
     ensures given { room.new.spare + length room.new.notes ≡ room.old.spare + length room.old.notes }
-    // It takes no memory: that of the notes has as many places as before.
-    ensures memory { capacity room.new ≡ capacity room.old }
+    // It takes no memory: that of the notes and of the records has as many places as before.
+    ensures capacities { room.new.capacities ≡ room.old.capacities }
     // It stays one packet with a whole chain, carries IOAM as before, and has as many IOAM options.
     ensures packet { IsPacket packet.new }
     ensures sound { IsSound packet.new }
@@ -114,8 +113,8 @@ pub fn transit(
         room.new.exports ≡ room.old.exports ++ hop_exports (records_of domain.now readings.now place time limit) packet.old }
     ensures spare { room.old.spare ≤ room.new.spare + option_count packet.old }
     ensures given { room.new.spare + length room.new.notes ≡ room.old.spare + length room.old.notes }
-    // It takes no memory: that of the notes has as many places as before.
-    ensures memory { capacity room.new ≡ capacity room.old }
+    // It takes no memory: that of the notes and of the records has as many places as before.
+    ensures capacities { room.new.capacities ≡ room.old.capacities }
     // It stays one packet with a whole chain, carries IOAM as before, and has as many IOAM options.
     ensures packet { IsPacket packet.new }
     ensures sound { IsSound packet.new }
@@ -181,8 +180,8 @@ pub fn exit(
         room.new.exports ≡ room.old.exports ++ hop_exports (records_of domain.now readings.now place time limit) packet.old }
     ensures spare { room.old.spare ≤ room.new.spare + option_count packet.old }
     ensures given { room.new.spare + length room.new.notes ≡ room.old.spare + length room.old.notes }
-    // It takes no memory: that of the notes has as many places as before.
-    ensures memory { capacity room.new ≡ capacity room.old }
+    // It takes no memory: that of the notes and of the records has as many places as before.
+    ensures capacities { room.new.capacities ≡ room.old.capacities }
     // It stays one packet with a whole chain, carries IOAM as before, and has as many IOAM options.
     ensures packet { IsPacket packet.new }
     ensures sound { IsSound packet.new }

@@ -48,6 +48,7 @@ options-preserved c =
       ap (λ xs. xs ++ records_octets (records_in records rest)) c.change.ensures.exports
           ∙ append_assoc c.options.room.exports _ (records_octets (records_in records rest))
           ∙ ap (λ xs. c.options.room.exports ++ xs) (sym given) ∙ invariant.7,
+      c.change.ensures.capacities ∙ invariant.8,
     )
 
 pub returns-clause-steps : goal.returns-clause-steps

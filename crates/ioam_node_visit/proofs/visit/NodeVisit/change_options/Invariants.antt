@@ -23,6 +23,7 @@ invariant-options l =
     × (l.room.spare + length (notes_in notes all) ≡ l.initial.room.spare + length (notes_in notes left))
     × (length (notes_in notes left) ≤ l.room.spare)
     × (l.room.exports ++ records_octets (records_in records left) ≡ l.initial.room.exports ++ records_octets (records_in records all))
+    × (l.room.capacities ≡ l.initial.room.capacities)
 
 abbrev pub decreases-options : goal.decreases-options
 decreases-options l = length l.head - l.at
