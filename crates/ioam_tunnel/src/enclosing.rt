@@ -71,9 +71,11 @@ fn head_of(flow: &Flow, ends: Ends, fields: Fields) -> [u8; HEADER_OCTETS]
     head
 }
 
-// A packet of a flow put into the tunnel between two addresses.
+// A packet of a flow put into the tunnel between two addresses, in the memory of a spare vector where
+// that has the room.
 fn enclose_between(
     alloc: Global,
+    spare: Vec<u8>,
     flow: &Flow,
     ends: Ends,
     numbers: &Numbers,
@@ -98,7 +100,7 @@ fn enclose_between(
         hops: flow.hops,
     };
     let head = head_of(flow, ends, fields);
-    let mut outer = Outer::new(alloc, &head, HEADER_OCTETS + behind)?;
+    let mut outer = Outer::new(alloc, spare, &head, HEADER_OCTETS + behind)?;
     lay_hop(&mut outer, next, flow, numbers.direct)?;
     lay_targets(&mut outer, flow, numbers)?;
     let out = outer.carry(packet)?;
@@ -109,8 +111,11 @@ fn enclose_between(
 /// header, a Hop-by-Hop Options header with the flow's traces, without elements, and direct export
 /// data, a Destination Options header with the encapsulation limit and edge-to-edge data, each
 /// where it has an option, and the packet with its hop limit one less.
-pub fn enclose(
+///
+/// It stands in the memory of a spare vector where that has the room; else that is handed back.
+pub fn enclose_in(
     alloc: Global,
+    spare: Vec<u8>,
     domain: &Domain,
     flow: FlowId,
     numbers: &Numbers,
@@ -135,6 +140,29 @@ pub fn enclose(
         source: entry.address,
         target: exit.address,
     };
-    let out = enclose_between(alloc, found, ends, numbers, packet)?;
+    let out = enclose_between(alloc, spare, found, ends, numbers, packet)?;
     Ok(out)
+}
+
+/// Puts a packet of a flow into the flow's tunnel as [`enclose_in`] does, in memory of its own.
+pub fn enclose(
+    alloc: Global,
+    domain: &Domain,
+    flow: FlowId,
+    numbers: &Numbers,
+    packet: &[u8],
+) -> Result<Vec<u8>, NoMemory>
+    requires known { flow.0 < length (flows domain.now) }
+    requires packet { IsPacket packet.now }
+    requires hops { 2 ≤ slice_index packet.now 7 }
+    requires may { IfSome (slice_get (flows domain.now) flow.0) (λ f. MayEnclose f numbers.now packet.now) }
+    ensures wire { IfOk result (λ out. out.items ≡ wire (tunnel_of domain.now flow numbers.now packet.now) 0 no_elements) }
+    ensures size { IfOk result (λ out. IfSome (slice_get (flows domain.now) flow.0)
+        (λ f. length out.items ≡ outer_size f (length packet.now) (is_some numbers.now.direct) (is_some numbers.now.limit))) }
+    ensures tunnel { IfOk result (λ out. IsTunnel (tunnel_of domain.now flow numbers.now packet.now)) }
+    ensures packet { IfOk result (λ out. IsPacket out.items) }
+    ensures sound { IfOk result (λ out. IsSound packet.now → IsSound out.items) }
+    ensures fits { IfOk result (λ out. HopFits out.items) }
+{
+    enclose_in(alloc, Vec::new(alloc), domain, flow, numbers, packet)
 }

@@ -11,7 +11,7 @@ mod numbers;
 mod outer;
 mod sizes;
 
-pub use enclosing::enclose;
+pub use enclosing::{enclose, enclose_in};
 pub use inside::inner;
 pub use limit::{Limit, limit_of};
 pub use numbers::Numbers;

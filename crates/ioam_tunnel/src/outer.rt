@@ -10,6 +10,7 @@ ghost use Rattle.ioam_tunnel.specs.Enclosed.{room_of};
 ghost use Rattle.ioam_tunnel.specs.Wire.{IsRoom};
 
 use ioam_base::memory::NoMemory;
+use ioam_base::spare::emptied;
 use ioam_base::text::append;
 use ioam_dex::Direct;
 use ioam_edge::Edge;
@@ -39,16 +40,18 @@ impl Model for Outer {
 }
 
 impl Outer {
-    /// A packet that begins with this header, with room for so many octets in all.
+    /// A packet that begins with this header, with room for so many octets in all, in the memory of a
+    /// spare vector where that has the room.
     pub(crate) fn new(
         alloc: Global,
+        spare: Vec<u8>,
         head: &[u8; HEADER_OCTETS],
         size: usize,
     ) -> Result<Outer, NoMemory>
         ensures front { IfOk result (λ outer. outer.front ≡ head.now) }
         ensures laid { IfOk result (λ outer. outer.laid ≡ []) }
     {
-        let mut octets = Vec::with_capacity(alloc, size)?;
+        let mut octets = emptied(alloc, spare, size)?;
         append(&mut octets, head)?;
         let start = octets.len();
         Ok(Outer { octets, start })

@@ -10,7 +10,7 @@ use Rattle.ioam_tunnel.specs.Size.{outer_size}
 use Rattle.ioam_tunnel.specs.Wire.{Tunnel, IsTunnel, wire, no_elements, limit_after, hop_parts}
 use Rattle.ioam_tunnel.proofs.EncloseLaws.{IsPacket-wire, IsSound-wire}
 use Rattle.ioam_tunnel.proofs.WireLaws.{HopFits-packet}
-use Rattle.ioam_tunnel.proofs.enclosing.enclose.Goals as goal
+use Rattle.ioam_tunnel.proofs.enclosing.enclose_in.Goals as goal
 
 pub enclose_between-requires-clause-may : goal.enclose_between-requires-clause-may
 enclose_between-requires-clause-may c =
