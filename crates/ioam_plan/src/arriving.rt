@@ -17,7 +17,7 @@ ghost use Rattle.ioam_plan.specs.Travels.{Travels};
 
 use crate::counters::Counters;
 use crate::drawing::{is_refused, numbers_of};
-use crate::itinerary::{End, Itinerary};
+use crate::itinerary::{End, Itinerary, Visits};
 use crate::planning::travel;
 use crate::stage::{Entry, Inside, JourneySpot, Stage, Trip};
 use ioam_base::memory::NoMemory;
@@ -37,6 +37,52 @@ use std::alloc::Global;
 /// The readings and the counters are those of the domain. The counters stand for the arrivals before,
 /// of which fewer than 2^32 were enclosed in any flow, and then for this one too. A packet that is
 /// dropped where it arrives takes no number. Without memory they are as before.
+///
+/// The visits stand in the memory of spare ones where that has the room; else that is handed back.
+pub fn plan_in(
+    alloc: Global,
+    spare: Visits,
+    domain: &Domain,
+    readings: &Readings,
+    counters: &mut Counters,
+    port: PortId,
+    time: u64,
+    admitted: &Admit<'_>,
+) -> Result<Itinerary, NoMemory>
+    requires port { port.0 < length (ports domain.now) }
+    requires time { time < 2 ^ 62 }
+    requires packet { HoldsPacket admitted.now }
+    requires flow { KnowsFlow domain.now admitted.now }
+    requires counters { length counters.old ≡ length (flows domain.now) }
+    requires few { All (λ number. number < 2 ^ 32) counters.old }
+    ensures plans { (earlier : List Itinerary) → CountFor domain.now counters.old earlier
+        → IfOk result (Plans domain.now readings.now earlier port time admitted.now) }
+    // Nothing else is planned for it.
+    ensures only { (earlier : List Itinerary) (other : Itinerary) → CountFor domain.now counters.old earlier
+        → Plans domain.now readings.now earlier port time admitted.now other → IfOk result (λ it. it ≡ other) }
+    // Its packet goes from node to node by the rules of the standards.
+    ensures travels { (earlier : List Itinerary) → CountFor domain.now counters.old earlier
+        → IfOk result (Travels domain.now readings.now earlier port time admitted.now) }
+    ensures counted { (earlier : List Itinerary) → CountFor domain.now counters.old earlier
+        → IfOk result (λ it. CountFor domain.now counters.new (earlier ++ it ∷ [])) }
+    ensures length { length counters.new ≡ length counters.old }
+    ensures as_before { IfErr result (λ _. counters.new ≡ counters.old) }
+    ensures rides { IfOk result (Rides domain.now (packet_of admitted.now)) }
+    ensures inside { IfOk result (StaysInside domain.now) }
+{
+    let at = port_of(domain, port);
+    match plan_at(
+        alloc, spare, domain, readings, counters, port, at, time, admitted,
+    ) {
+        Ok(itinerary) => {
+            counters.note(&itinerary);
+            Ok(itinerary)
+        }
+        Err(NoMemory) => Err(NoMemory),
+    }
+}
+
+/// What becomes of a frame that arrives at a port at a time, as [`plan_in`] says it, in memory of its own.
 pub fn plan(
     alloc: Global,
     domain: &Domain,
@@ -67,14 +113,10 @@ pub fn plan(
     ensures rides { IfOk result (Rides domain.now (packet_of admitted.now)) }
     ensures inside { IfOk result (StaysInside domain.now) }
 {
-    let at = port_of(domain, port);
-    match plan_at(alloc, domain, readings, counters, port, at, time, admitted) {
-        Ok(itinerary) => {
-            counters.note(&itinerary);
-            Ok(itinerary)
-        }
-        Err(NoMemory) => Err(NoMemory),
-    }
+    let spare = Visits::none(alloc);
+    plan_in(
+        alloc, spare, domain, readings, counters, port, time, admitted,
+    )
 }
 
 // The port of a place in the file.
@@ -99,6 +141,7 @@ fn flow_of(domain: &Domain, flow: FlowId) -> &Flow
 // What becomes of a frame at a port.
 fn plan_at(
     alloc: Global,
+    spare: Visits,
     domain: &Domain,
     readings: &Readings,
     counters: &Counters,
@@ -120,8 +163,8 @@ fn plan_at(
     ensures rides { IfOk result (Rides domain.now (packet_of admitted.now)) }
 {
     match admitted {
-        Admit::Plain { packet } => plan_packet(alloc, domain, by, port, time, packet),
-        Admit::Drop(reason) => Ok(dropped(alloc, domain, by, port, *reason)),
+        Admit::Plain { packet } => plan_packet(alloc, spare, domain, by, port, time, packet),
+        Admit::Drop(reason) => Ok(dropped(spare, domain, by, port, *reason)),
         Admit::Enclose {
             flow,
             packet,
@@ -129,7 +172,7 @@ fn plan_at(
         } => {
             let number = counters.enclosed(*flow);
             plan_flow(
-                alloc, domain, readings, number, by, port, time, *flow, packet, *limit,
+                alloc, spare, domain, readings, number, by, port, time, *flow, packet, *limit,
             )
         }
     }
@@ -163,6 +206,7 @@ fn header_of(packet: &[u8]) -> Header
 // The journey of a packet from its port on.
 fn plan_packet(
     alloc: Global,
+    spare: Visits,
     domain: &Domain,
     by: PortId,
     port: &Port,
@@ -184,7 +228,7 @@ fn plan_packet(
         inside: None,
     };
     let start = Stage::At(start_of(port, time, &header));
-    match travel(alloc, domain, by, &trip, start) {
+    match travel(alloc, spare, domain, by, &trip, start) {
         Ok(itinerary) => Ok(itinerary),
         Err(NoMemory) => Err(NoMemory),
     }
@@ -231,6 +275,7 @@ fn entry_of(flow: &Flow, found: Option<u8>) -> Entry
 // The journey of a packet that is to be enclosed in a flow, from its port on.
 fn plan_flow(
     alloc: Global,
+    spare: Visits,
     domain: &Domain,
     readings: &Readings,
     number: u64,
@@ -258,14 +303,14 @@ fn plan_flow(
     let numbers = numbers_of(domain, readings, flow, number, found, time);
     let trip = flow_trip(domain, id, flow, numbers, &header, packet);
     let start = Stage::Enter(start_of(port, time, &header), entry_of(flow, found));
-    match travel(alloc, domain, by, &trip, start) {
+    match travel(alloc, spare, domain, by, &trip, start) {
         Ok(itinerary) => Ok(itinerary),
         Err(NoMemory) => Err(NoMemory),
     }
 }
 
 // A frame that is dropped where it arrives.
-fn dropped(alloc: Global, domain: &Domain, by: PortId, port: &Port, reason: Reason) -> Itinerary
+fn dropped(spare: Visits, domain: &Domain, by: PortId, port: &Port, reason: Reason) -> Itinerary
     requires by { by.0 < length (ports domain.now) }
     requires place { IsAtNode (length (nodes domain.now)) port.now }
     ensures port { result.port ≡ by }
@@ -276,5 +321,5 @@ fn dropped(alloc: Global, domain: &Domain, by: PortId, port: &Port, reason: Reas
         reason,
         node: port.node,
     };
-    Itinerary::of(by, Vec::new(alloc), end, false, None)
+    Itinerary::of(by, spare.cleared(), end, false, None)
 }

@@ -1,11 +1,12 @@
 //! What is planned of a packet: its visits, how its journey ends, and in which flow it is enclosed.
-ghost use Rattle.std.specs.Prelude.{◌≡◌, ◌≤◌, length};
+ghost use Rattle.std.specs.Prelude.{◌≡◌, ◌≤◌, [], length};
 ghost use Rattle.ioam_plan.specs.Journey.{carried_by};
 
 use crate::stage::Inside;
 use ioam_node::{Place, Reason};
 use ioam_topo::{FlowId, NodeId, PortId, Way};
 use ioam_tunnel::Numbers;
+use std::alloc::Global;
 use std::marker::Model;
 
 /// One visit of a packet at a node from which it is sent on, or at which it comes out of its tunnel.
@@ -46,12 +47,30 @@ impl Model for Visits {
 }
 
 impl Visits {
+    /// No visits. Takes no memory.
+    pub fn none(alloc: Global) -> Visits
+        ensures { result ≡ [] }
+    {
+        Visits {
+            held: Vec::new(alloc),
+        }
+    }
+
     /// The visits, at most 256.
     pub fn list(&self) -> &[Visit]
         ensures visits { result.now ≡ self.now }
         ensures few { length self.now ≤ 256 }
     {
         self.held.as_slice()
+    }
+
+    /// Their memory, in which no visit stands.
+    pub(crate) fn cleared(self) -> Vec<Visit>
+        ensures { result.items ≡ [] }
+    {
+        let Visits { mut held, .. } = self;
+        held.clear();
+        held
     }
 }
 

@@ -12,7 +12,7 @@ mod planning;
 mod stage;
 mod stepping;
 
-pub use arriving::plan;
+pub use arriving::{plan, plan_in};
 pub use counters::Counters;
 pub use itinerary::{End, Itinerary, Visit, Visits};
 pub use laws::one_journey;

@@ -5,10 +5,11 @@ ghost use Rattle.ioam_plan.specs.Journey.{Journey};
 ghost use Rattle.ioam_plan.specs.Rides.{IsVisitIn};
 ghost use Rattle.ioam_plan.specs.Steps.{IsHere, LedTo, HasRidden, left};
 
-use crate::itinerary::{Itinerary, Visit};
+use crate::itinerary::{Itinerary, Visit, Visits};
 use crate::stage::{JourneyStep, Stage, Trip};
 use crate::stepping::take_step;
 use ioam_base::memory::NoMemory;
+use ioam_base::spare::emptied;
 use ioam_topo::{Domain, PortId};
 use std::alloc::Global;
 
@@ -23,9 +24,11 @@ fn put(visits: &mut Vec<Visit>, visit: Visit) -> Result<(), NoMemory>
     Ok(())
 }
 
-/// The journey of a packet from a stage on, which came by a port.
+/// The journey of a packet from a stage on, which came by a port. Its visits stand in the memory of spare
+/// ones where that has the room.
 pub(crate) fn travel(
     alloc: Global,
+    spare: Visits,
     domain: &Domain,
     port: PortId,
     trip: &Trip,
@@ -41,7 +44,7 @@ pub(crate) fn travel(
     ensures ridden { IfOk result (λ it. HasRidden trip.now.size trip.now.inside it.exited it.visits) }
     ensures ends { IfOk result (λ it. EndsInside domain.now it.end) }
 {
-    let mut visits = Vec::with_capacity(alloc, MOSTLY)?;
+    let mut visits = emptied(alloc, spare.cleared(), MOSTLY)?;
     let mut stage = start;
     'visits: loop {
         match take_step(domain, trip, stage) {

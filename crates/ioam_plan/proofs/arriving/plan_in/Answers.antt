@@ -3,7 +3,7 @@ use Rattle.ioam_topo.specs.declared.parts.Port.{Port}
 use Rattle.ioam_plan.specs.Plans.{PlansBy}
 use Rattle.ioam_plan.proofs.PlansLaws.{Plans-unique}
 use Rattle.ioam_plan.proofs.TravelsLaws.{Plans-travels}
-use Rattle.ioam_plan.proofs.arriving.plan.Goals as goal
+use Rattle.ioam_plan.proofs.arriving.plan_in.Goals as goal
 
 pub returns-in-Ok-clause-only : goal.returns-in-Ok-clause-only
 returns-in-Ok-clause-only c earlier other stand plans =
