@@ -15,6 +15,7 @@ ghost use Rattle.ioam_clock.specs.declared.sample.Sample.{Sample};
 ghost use Rattle.ioam_plan.specs.Plans.{Plans, PlansBy, PlansPacket, PlansFlow, PlansDrop, start_of, flow_trip, entry_of};
 ghost use Rattle.ioam_plan.specs.Travels.{Travels};
 
+use crate::arrival::Arrival;
 use crate::counters::Counters;
 use crate::drawing::{is_refused, numbers_of};
 use crate::itinerary::{End, Itinerary, Visits};
@@ -71,9 +72,14 @@ pub fn plan_in(
     ensures inside { IfOk result (StaysInside domain.now) }
 {
     let at = port_of(domain, port);
-    match plan_at(
-        alloc, spare, domain, readings, counters, port, at, time, admitted,
-    ) {
+    let arrival = Arrival {
+        domain,
+        readings,
+        id: port,
+        port: at,
+        time,
+    };
+    match arrival.plan_by(alloc, spare, counters, admitted) {
         Ok(itinerary) => {
             counters.note(&itinerary);
             Ok(itinerary)
@@ -138,58 +144,6 @@ fn flow_of(domain: &Domain, flow: FlowId) -> &Flow
     domain.flow(flow)
 }
 
-// What becomes of a frame at a port.
-fn plan_at(
-    alloc: Global,
-    spare: Visits,
-    domain: &Domain,
-    readings: &Readings,
-    counters: &Counters,
-    by: PortId,
-    port: &Port,
-    time: u64,
-    admitted: &Admit<'_>,
-) -> Result<Itinerary, NoMemory>
-    requires by { by.0 < length (ports domain.now) }
-    requires place { IsAtNode (length (nodes domain.now)) port.now }
-    requires time { time < 2 ^ 62 }
-    requires packet { HoldsPacket admitted.now }
-    requires flow { KnowsFlow domain.now admitted.now }
-    requires counters { length counters.now ≡ length (flows domain.now) }
-    requires few { All (λ number. number < 2 ^ 32) counters.now }
-    ensures port { IfOk result (λ it. it.port ≡ by) }
-    ensures plans { (earlier : List Itinerary) → CountFor domain.now counters.now earlier
-        → IfOk result (λ it. PlansBy domain.now readings.now earlier time it admitted.now port.now) }
-    ensures rides { IfOk result (Rides domain.now (packet_of admitted.now)) }
-{
-    match admitted {
-        Admit::Plain { packet } => plan_packet(alloc, spare, domain, by, port, time, packet),
-        Admit::Drop(reason) => Ok(dropped(spare, domain, by, port, *reason)),
-        Admit::Enclose {
-            flow,
-            packet,
-            limit,
-        } => {
-            let number = counters.enclosed(*flow);
-            plan_flow(
-                alloc, spare, domain, readings, number, by, port, time, *flow, packet, *limit,
-            )
-        }
-    }
-}
-
-// Where a packet is as it arrives.
-fn start_of(port: &Port, time: u64, header: &Header) -> JourneySpot
-    ensures { result ≡ start_of port.now time header.now.hops }
-{
-    JourneySpot {
-        node: port.node,
-        inward: port.id,
-        time,
-        hops: header.hops,
-    }
-}
-
 // The header of a packet.
 fn header_of(packet: &[u8]) -> Header
     requires { IsPacket packet.now }
@@ -200,37 +154,6 @@ fn header_of(packet: &[u8]) -> Header
     match header(packet) {
         Some(header) => header,
         None => unreachable!(),
-    }
-}
-
-// The journey of a packet from its port on.
-fn plan_packet(
-    alloc: Global,
-    spare: Visits,
-    domain: &Domain,
-    by: PortId,
-    port: &Port,
-    time: u64,
-    packet: &[u8],
-) -> Result<Itinerary, NoMemory>
-    requires by { by.0 < length (ports domain.now) }
-    requires place { IsAtNode (length (nodes domain.now)) port.now }
-    requires time { time < 2 ^ 62 }
-    requires packet { IsPacket packet.now }
-    ensures port { IfOk result (λ it. it.port ≡ by) }
-    ensures plans { IfOk result (PlansPacket domain.now port.now time packet.now) }
-    ensures rides { IfOk result (Rides domain.now packet.now) }
-{
-    let header = header_of(packet);
-    let trip = Trip {
-        target: header.target,
-        size: packet.len(),
-        inside: None,
-    };
-    let start = Stage::At(start_of(port, time, &header));
-    match travel(alloc, spare, domain, by, &trip, start) {
-        Ok(itinerary) => Ok(itinerary),
-        Err(NoMemory) => Err(NoMemory),
     }
 }
 
@@ -272,54 +195,115 @@ fn entry_of(flow: &Flow, found: Option<u8>) -> Entry
     Entry::new(flow.hops, is_refused(flow, found))
 }
 
-// The journey of a packet that is to be enclosed in a flow, from its port on.
-fn plan_flow(
-    alloc: Global,
-    spare: Visits,
-    domain: &Domain,
-    readings: &Readings,
-    number: u64,
-    by: PortId,
-    port: &Port,
-    time: u64,
-    id: FlowId,
-    packet: &[u8],
-    found: Option<u8>,
-) -> Result<Itinerary, NoMemory>
-    requires by { by.0 < length (ports domain.now) }
-    requires place { IsAtNode (length (nodes domain.now)) port.now }
-    requires number { number < 2 ^ 32 }
-    requires time { time < 2 ^ 62 }
-    requires known { id.0 < length (flows domain.now) }
-    requires packet { IsPacket packet.now }
-    requires sound { IsSound packet.now }
-    ensures port { IfOk result (λ it. it.port ≡ by) }
-    ensures plans { IfOk result (λ it. IsSomeAnd (slice_get (flows domain.now) id.0)
-        (λ flow. PlansFlow domain.now readings.now number port.now time id flow packet.now found it)) }
-    ensures rides { IfOk result (Rides domain.now packet.now) }
-{
-    let flow = flow_of(domain, id);
-    let header = header_of(packet);
-    let numbers = numbers_of(domain, readings, flow, number, found, time);
-    let trip = flow_trip(domain, id, flow, numbers, &header, packet);
-    let start = Stage::Enter(start_of(port, time, &header), entry_of(flow, found));
-    match travel(alloc, spare, domain, by, &trip, start) {
-        Ok(itinerary) => Ok(itinerary),
-        Err(NoMemory) => Err(NoMemory),
+impl Arrival<'_> {
+    // What becomes of the frame.
+    fn plan_by(
+        &self,
+        alloc: Global,
+        spare: Visits,
+        counters: &Counters,
+        admitted: &Admit<'_>,
+    ) -> Result<Itinerary, NoMemory>
+        requires packet { HoldsPacket admitted.now }
+        requires flow { KnowsFlow self.now.domain.now admitted.now }
+        requires counters { length counters.now ≡ length (flows self.now.domain.now) }
+        requires few { All (λ number. number < 2 ^ 32) counters.now }
+        ensures port { IfOk result (λ it. it.port ≡ self.now.id) }
+        ensures plans { (earlier : List Itinerary) → CountFor self.now.domain.now counters.now earlier → IfOk result
+            (λ it. PlansBy self.now.domain.now self.now.readings.now earlier self.now.time it admitted.now self.now.port.now) }
+        ensures rides { IfOk result (Rides self.now.domain.now (packet_of admitted.now)) }
+    {
+        match admitted {
+            Admit::Plain { packet } => self.plan_packet(alloc, spare, packet),
+            Admit::Drop(reason) => Ok(self.dropped(spare, *reason)),
+            Admit::Enclose {
+                flow,
+                packet,
+                limit,
+            } => {
+                let number = counters.enclosed(*flow);
+                self.plan_flow(alloc, spare, number, *flow, packet, *limit)
+            }
+        }
     }
-}
 
-// A frame that is dropped where it arrives.
-fn dropped(spare: Visits, domain: &Domain, by: PortId, port: &Port, reason: Reason) -> Itinerary
-    requires by { by.0 < length (ports domain.now) }
-    requires place { IsAtNode (length (nodes domain.now)) port.now }
-    ensures port { result.port ≡ by }
-    ensures plans { PlansDrop port.now reason result }
-    ensures rides { Rides domain.now [] result }
-{
-    let end = End::Drop {
-        reason,
-        node: port.node,
-    };
-    Itinerary::of(by, spare.cleared(), end, false, None)
+    // Where a packet is as it arrives.
+    fn start_of(&self, header: &Header) -> JourneySpot
+        ensures { result ≡ start_of self.now.port.now self.now.time header.now.hops }
+    {
+        JourneySpot {
+            node: self.port.node,
+            inward: self.port.id,
+            time: self.time,
+            hops: header.hops,
+        }
+    }
+
+    // The journey of a packet from its port on.
+    fn plan_packet(
+        &self,
+        alloc: Global,
+        spare: Visits,
+        packet: &[u8],
+    ) -> Result<Itinerary, NoMemory>
+        requires packet { IsPacket packet.now }
+        ensures port { IfOk result (λ it. it.port ≡ self.now.id) }
+        ensures plans { IfOk result (PlansPacket self.now.domain.now self.now.port.now self.now.time packet.now) }
+        ensures rides { IfOk result (Rides self.now.domain.now packet.now) }
+    {
+        let header = header_of(packet);
+        let trip = Trip {
+            target: header.target,
+            size: packet.len(),
+            inside: None,
+        };
+        let start = Stage::At(self.start_of(&header));
+        match travel(alloc, spare, self.domain, self.id, &trip, start) {
+            Ok(itinerary) => Ok(itinerary),
+            Err(NoMemory) => Err(NoMemory),
+        }
+    }
+
+    // The journey of a packet that is to be enclosed in a flow, from its port on.
+    fn plan_flow(
+        &self,
+        alloc: Global,
+        spare: Visits,
+        number: u64,
+        id: FlowId,
+        packet: &[u8],
+        found: Option<u8>,
+    ) -> Result<Itinerary, NoMemory>
+        requires number { number < 2 ^ 32 }
+        requires known { id.0 < length (flows self.now.domain.now) }
+        requires packet { IsPacket packet.now }
+        requires sound { IsSound packet.now }
+        ensures port { IfOk result (λ it. it.port ≡ self.now.id) }
+        ensures plans { IfOk result (λ it. IsSomeAnd (slice_get (flows self.now.domain.now) id.0) (λ flow.
+            PlansFlow self.now.domain.now self.now.readings.now number self.now.port.now self.now.time id flow packet.now found it)) }
+        ensures rides { IfOk result (Rides self.now.domain.now packet.now) }
+    {
+        let flow = flow_of(self.domain, id);
+        let header = header_of(packet);
+        let numbers = numbers_of(self.domain, self.readings, flow, number, found, self.time);
+        let trip = flow_trip(self.domain, id, flow, numbers, &header, packet);
+        let start = Stage::Enter(self.start_of(&header), entry_of(flow, found));
+        match travel(alloc, spare, self.domain, self.id, &trip, start) {
+            Ok(itinerary) => Ok(itinerary),
+            Err(NoMemory) => Err(NoMemory),
+        }
+    }
+
+    // A frame that is dropped where it arrives.
+    fn dropped(&self, spare: Visits, reason: Reason) -> Itinerary
+        ensures port { result.port ≡ self.now.id }
+        ensures plans { PlansDrop self.now.port.now reason result }
+        ensures rides { Rides self.now.domain.now [] result }
+    {
+        let end = End::Drop {
+            reason,
+            node: self.port.node,
+        };
+        Itinerary::of(self.id, spare.cleared(), end, false, None)
+    }
 }

@@ -3,6 +3,7 @@
 //! of it.
 #![tactic(auto)]
 
+mod arrival;
 mod arriving;
 mod counters;
 mod drawing;
