@@ -1,11 +1,11 @@
 -- What an entry node puts around a packet of a flow (RFC 2473 section 3, RFC 9197 sections 4.4 and 4.6, RFC 9326 section 3.2).
 use Rattle.std.specs.Prelude.{ℕ, ◌^◌, ◌+◌, ◌*◌, ◌/◌, ◌%◌, ◌<◌, ◌≤◌, Bool, true, false, IsTrue, if◌then◌else◌, List, [], ◌∷◌, ◌++◌, length, map, Option, Some, None, IfSome, is_some, slice_get}
-use Rattle.ioam_base.specs.Octets.{u32_at}
 use Rattle.ioam_data.specs.declared.namespace.Namespace.{Namespace}
 use Rattle.ioam_dex.specs.Direct.{direct_octets}
 use Rattle.ioam_dex.specs.declared.direct.Direct.{Direct}
 use Rattle.ioam_edge.specs.Edge.{asks, edge_octets}
 use Rattle.ioam_edge.specs.declared.edge.Edge.{Edge}
+use Rattle.ioam_ip.specs.Header.{class_of}
 use Rattle.ioam_ip.specs.Laid.{Part}
 use Rattle.ioam_ip.specs.Lowered.{lowered}
 use Rattle.ioam_topo.specs.Domain.{nodes, flows}
@@ -80,10 +80,6 @@ has_parts (part ∷ parts) = true
 abbrev pub limit_parts : Option ℕ → List Part
 limit_parts None = []
 limit_parts (Some limit) = record { kind = 4; body = limit ∷ [] } ∷ []
-
--- the traffic class of a packet
-abbrev pub class_of : List ℕ → ℕ
-class_of packet = u32_at packet 0 / 1048576 % 256
 
 -- the address of a node; 0 of none
 abbrev pub address_of : Option Node → ℕ

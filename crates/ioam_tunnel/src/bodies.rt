@@ -7,11 +7,9 @@ ghost use Rattle.ioam_tunnel.specs.Enclosed.{direct_of, edge_of, if_asked, secon
 use crate::numbers::Numbers;
 use ioam_data::{Namespace, TraceType};
 use ioam_dex::Direct;
+use ioam_dex::extension::{FLOW_ID, SEQUENCE_NUMBER};
 use ioam_edge::{Edge, asks};
 use ioam_topo::Flow;
-
-/// The extension flags of direct export data that have a Flow ID and a Sequence Number.
-const FLOW_AND_SEQUENCE: u8 = 0xC0;
 
 /// The direct export data of a packet with this sequence number.
 #[tactic(auto, using(crate::proofs::SizeLaws::direct_numbers))]
@@ -23,7 +21,7 @@ pub(crate) fn direct_of(flow: &Flow, kind: TraceType, seq: u32) -> Direct
     Direct {
         namespace: flow.namespace,
         flags: 0,
-        ext: FLOW_AND_SEQUENCE,
+        ext: FLOW_ID + SEQUENCE_NUMBER,
         kind,
         flow: flow.flow_id,
         seq: Some(seq),

@@ -5,7 +5,7 @@ ghost use Rattle.ioam_ip.specs.Chain.{IsSound};
 ghost use Rattle.ioam_ip.specs.Hop.{HopFits};
 ghost use Rattle.ioam_topo.specs.Domain.{flows, nodes};
 ghost use Rattle.ioam_topo.specs.Sound.{IsFlow};
-ghost use Rattle.ioam_tunnel.specs.Enclosed.{MayEnclose, class_of, tunnel_between, tunnel_of, address_at};
+ghost use Rattle.ioam_tunnel.specs.Enclosed.{MayEnclose, tunnel_between, tunnel_of, address_at};
 ghost use Rattle.ioam_tunnel.specs.Size.{outer_size};
 ghost use Rattle.ioam_tunnel.specs.Wire.{IsTunnel, no_elements, wire, outer_start, addresses};
 
@@ -14,9 +14,8 @@ use crate::numbers::Numbers;
 use crate::outer::Outer;
 use crate::sizes::{hop_size, target_size};
 use ioam_base::memory::NoMemory;
-use ioam_base::octets::u32_at;
 use ioam_ip::next_header::{DESTINATION, HOP_BY_HOP, IPV6};
-use ioam_ip::{HEADER_OCTETS, Header, put_header};
+use ioam_ip::{HEADER_OCTETS, Header, class_of, put_header};
 use ioam_topo::{Domain, Flow, FlowId};
 use std::alloc::Global;
 
@@ -25,14 +24,6 @@ fn value_in_front(value: u8, size: usize, next: u8) -> u8
     ensures { result ≡ (if size == 0 then next else value) }
 {
     if size == 0 { next } else { value }
-}
-
-// The traffic class of a packet.
-fn class_of(packet: &[u8]) -> u8
-    requires { IsPacket packet.now }
-    ensures { result ≡ class_of packet.now }
-{
-    (u32_at(packet, 0) / 1_048_576 % 256) as u8
 }
 
 // The addresses of a tunnel's ends.
