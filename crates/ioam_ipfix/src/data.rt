@@ -133,10 +133,8 @@ fn element_place(id: u16, octets: &[u8]) -> Option<(usize, usize)>
     if octets.len() < front {
         return None;
     }
-    match variable(&octets[front..]) {
-        Some((prefix, size)) => Some((front + prefix, front + prefix + size)),
-        None => None,
-    }
+    let (prefix, size) = variable(&octets[front..])?;
+    Some((front + prefix, front + prefix + size))
 }
 
 // The record whose front is there, with an element.

@@ -62,10 +62,8 @@ pub(crate) fn take_message(
     let mut behind = known;
     let mut at = HEAD;
     'sets: while at < message.len() {
-        match take_set(message, at, &mut behind, places) {
-            Ok(size) => at += size,
-            Err(fault) => return Err(fault),
-        }
+        let size = take_set(message, at, &mut behind, places)?;
+        at += size;
     }
     Ok(behind)
 }

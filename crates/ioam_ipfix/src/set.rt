@@ -173,11 +173,7 @@ pub(crate) fn take_set(
         (λ fault. IsStuck at (spot known.old (drop at message.now)) fault) }
 {
     let rest = &message[at..];
-    match set_size(rest) {
-        Ok(size) => match take_content(message, at, at + size, u16_at(rest, 0), known, places) {
-            Ok(()) => Ok(size),
-            Err(fault) => Err(fault),
-        },
-        Err(fault) => Err(fault),
-    }
+    let size = set_size(rest)?;
+    take_content(message, at, at + size, u16_at(rest, 0), known, places)?;
+    Ok(size)
 }
