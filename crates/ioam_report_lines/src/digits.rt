@@ -2,9 +2,8 @@
 ghost use Rattle.std.specs.Prelude.{◌≡◌, ◌++◌, ◌<◌, is_ok, if◌then◌else◌};
 ghost use Rattle.ioam_report_lines.specs.Digits.{digit_of, digits_of};
 
-use crate::settling::settle;
 use ioam_base::memory::NoMemory;
-use ioam_base::text::append;
+use ioam_base::text::{append, settle};
 
 // The digit of a number below 16.
 pub(crate) fn digit(value: u8) -> u8

@@ -11,9 +11,8 @@ ghost use Rattle.ioam_report_lines.specs.TraceText.{line_feed};
 
 use crate::line::Line;
 use crate::piece::append_labelled;
-use crate::settling::settle;
 use ioam_base::memory::NoMemory;
-use ioam_base::text::append;
+use ioam_base::text::{append, settle};
 use ioam_data::{Fields, TraceType, fields};
 
 // Puts the fields of bits 0 to 11 in front of a line.

@@ -7,8 +7,8 @@ ghost use Rattle.ioam_ip.specs.Spot.{item_in, spot_end};
 ghost use Rattle.ioam_report_lines.specs.HopText.{is_changing_trace, changing_lines, hop_traces_text};
 
 use crate::lines::put_trace_lines;
-use crate::settling::settle;
 use ioam_base::memory::NoMemory;
+use ioam_base::text::settle;
 use ioam_data::option_type::PREALLOCATED_TRACE;
 use ioam_ip::option_type::IOAM_CHANGING;
 use ioam_ip::{OptionSpot, hop_header, next_option};

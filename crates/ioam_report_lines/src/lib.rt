@@ -10,16 +10,15 @@ mod lines;
 mod listed;
 mod piece;
 mod put;
-mod settling;
 mod traces;
 mod values;
 
 pub use elements::{put_element, put_fields};
 pub use hop_traces::put_hop_traces;
+pub use ioam_base::text::settle;
 pub use line::Line;
 pub use lines::{put_element_line, put_element_lines, put_trace_lines};
 pub use piece::{Piece, append_both};
 pub use put::put_pieces;
-pub use settling::settle;
 pub use traces::put_traces;
 pub use values::number;

@@ -9,9 +9,8 @@ use crate::elements::put_fields_line;
 use crate::line::Line;
 use crate::piece::Piece;
 use crate::put::put_pieces;
-use crate::settling::settle;
 use ioam_base::memory::NoMemory;
-use ioam_base::text::append;
+use ioam_base::text::{append, settle};
 use ioam_data::{TraceType, fields};
 use ioam_trace::{Trace, TraceFault, TraceHead};
 

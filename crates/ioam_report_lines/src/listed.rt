@@ -7,8 +7,8 @@ ghost use Rattle.ioam_ip.specs.OptionsLeft.{item_of, options_from};
 ghost use Rattle.ioam_report_lines.specs.TracesText.{is_trace, option_lines, traces_in};
 
 use crate::lines::put_trace_lines;
-use crate::settling::settle;
 use ioam_base::memory::NoMemory;
+use ioam_base::text::settle;
 use ioam_data::option_type::PREALLOCATED_TRACE;
 use ioam_ip::option_type::is_ioam_type;
 use ioam_ip::{Head, Opt, options};

@@ -3,9 +3,8 @@ ghost use Rattle.std.specs.Prelude.{◌≡◌, ◌++◌, ◌+◌, decimal, is_ok
 ghost use Rattle.ioam_report_lines.specs.Digits.{digits_of};
 
 use crate::digits::append_digits;
-use crate::settling::settle;
 use ioam_base::memory::NoMemory;
-use ioam_base::text::{append, append_decimal};
+use ioam_base::text::{append, append_decimal, settle};
 
 /// A piece of a line. What a number or digits stand behind is their label.
 #[derive(Clone, Copy)]

@@ -5,10 +5,9 @@ ghost use Rattle.ioam_base.specs.Words.{four_octets, eight_octets};
 ghost use Rattle.ioam_report_lines.specs.Piece.{piece_text};
 
 use crate::piece::{Piece, append_both, append_labelled, append_number};
-use crate::settling::settle;
 use ioam_base::memory::NoMemory;
 use ioam_base::octets::{put_u32_at, put_u64_at};
-use ioam_base::text::append;
+use ioam_base::text::{append, settle};
 
 // The octets of a number, the most significant first.
 pub(crate) fn four_octets(number: u32) -> [u8; 4]

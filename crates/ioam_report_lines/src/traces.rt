@@ -8,8 +8,8 @@ ghost use Rattle.ioam_report_lines.specs.TracesText.{option_lines, traces_of, tr
 use crate::listed::{count_in, put_in};
 use crate::piece::Piece;
 use crate::put::put_pieces;
-use crate::settling::settle;
 use ioam_base::memory::NoMemory;
+use ioam_base::text::settle;
 use ioam_ip::heads;
 use ioam_ip::next_header::IPV6;
 

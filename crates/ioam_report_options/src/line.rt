@@ -11,10 +11,10 @@ use crate::edges::put_edge;
 use crate::fields::digits_or_dash;
 use crate::traces::{put_incremental, put_trace};
 use ioam_base::memory::NoMemory;
-use ioam_base::text::append;
+use ioam_base::text::{append, settle};
 use ioam_data::OptionType;
 use ioam_ip::Opt;
-use ioam_report_lines::{Piece, put_pieces, settle};
+use ioam_report_lines::{Piece, put_pieces};
 
 // A proof of transit, whose octets are printed as they are.
 fn put_proof(octets: &[u8], out: &mut Vec<u8>) -> Result<(), NoMemory>

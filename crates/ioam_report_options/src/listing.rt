@@ -11,9 +11,10 @@ ghost use Rattle.ioam_report_options.specs.OptionsText.{ioam_among, ioam_in, ioa
 use crate::counting::count_options;
 use crate::line::put_line;
 use ioam_base::memory::NoMemory;
+use ioam_base::text::settle;
 use ioam_ip::option_type::is_ioam_type;
 use ioam_ip::{Head, Opt, heads, options};
-use ioam_report_lines::{Piece, put_pieces, settle};
+use ioam_report_lines::{Piece, put_pieces};
 
 // Appends the lines of an option of a header that starts at a place of the packet, if it is an IOAM
 // option.

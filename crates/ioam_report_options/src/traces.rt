@@ -8,8 +8,9 @@ ghost use Rattle.ioam_report_options.specs.OptionText.{head_text, trace_text, Tr
 
 use crate::fields::put_bad;
 use ioam_base::memory::NoMemory;
+use ioam_base::text::settle;
 use ioam_data::option_type::{INCREMENTAL_TRACE, PREALLOCATED_TRACE};
-use ioam_report_lines::{Piece, put_element_line, put_element_lines, put_pieces, settle};
+use ioam_report_lines::{Piece, put_element_line, put_element_lines, put_pieces};
 use ioam_trace::{Incremental, Trace, TraceHead};
 
 // The header of a trace.
