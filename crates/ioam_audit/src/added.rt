@@ -10,15 +10,11 @@ ghost use Rattle.ioam_audit.specs.Becomes.{IsFit};
 ghost use Rattle.ioam_audit.specs.Decided.{AddsSo, OverflowsSo};
 ghost use Rattle.ioam_audit.specs.Lawful.{IsLawful};
 
-use crate::fit::{HEADER, TRACE_TYPE, node_len_of, remaining_of};
 use crate::lawful::is_lawful;
 use crate::parts::{has_word, is_same, is_same_but};
 use crate::sight::Sight;
-use ioam_base::octets::u16_at;
 use ioam_data::{TraceType, fields, split};
-
-// What Overflow adds to the word of NodeLen, Flags and RemainingLen.
-const OVERFLOW: u16 = 1024;
+use ioam_trace::{HEAD_OCTETS, Lengths, TRACE_TYPE};
 
 // Whether octets are one element, whole, with lawful fields.
 fn is_lawful_element(sight: Sight, kind: TraceType, node_len: u8, element: &[u8]) -> bool
@@ -40,12 +36,13 @@ fn is_between(sight: Sight, old: &[u8], new: &[u8], before: u8, after: u8) -> bo
         × IsElement (kind_of old.now) (node_len_of old.now) (slice_range new.now (8 + 4 * after) (8 + 4 * before))
         × IsLawful sight.hops sight.id sight.inward (fields_of (kind_of old.now) (node_len_of old.now) (slice_range new.now (8 + 4 * after) (8 + 4 * before)))) }
 {
-    let word = u16_at(old, 2) - u16::from(before - after);
-    let start = HEADER + 4 * usize::from(after);
-    let end = HEADER + 4 * usize::from(before);
+    let lengths = Lengths::read(old);
+    let word = lengths.0 - u16::from(before - after);
+    let start = HEAD_OCTETS + 4 * usize::from(after);
+    let end = HEAD_OCTETS + 4 * usize::from(before);
     let kind = TraceType::at(old, TRACE_TYPE);
     is_same_but(old, new, word, start, end)
-        && is_lawful_element(sight, kind, node_len_of(old), &new[start..end])
+        && is_lawful_element(sight, kind, lengths.node_len(), &new[start..end])
 }
 
 /// Whether an element that the node may write was added, and nothing else changed.
@@ -55,8 +52,8 @@ pub(crate) fn is_added(sight: Sight, old: &[u8], new: &[u8]) -> bool
     requires fit { IsFit old.now }
     ensures { IsTrue result ↔ AddsSo sight.hops sight.id sight.inward old.now new.now }
 {
-    let before = remaining_of(old);
-    let after = remaining_of(new);
+    let before = Lengths::read(old).remaining();
+    let after = Lengths::read(new).remaining();
     if before < after {
         return false;
     }
@@ -68,7 +65,8 @@ fn may_overflow(octets: &[u8]) -> bool
     requires { 8 ≤ length octets.now }
     ensures { IsTrue result ↔ ((has (kind_of octets.now) 22 ≡ true) ⊎ (remaining_of octets.now < node_len_of octets.now)) }
 {
-    TraceType::at(octets, TRACE_TYPE).has_snapshot() || remaining_of(octets) < node_len_of(octets)
+    let lengths = Lengths::read(octets);
+    TraceType::at(octets, TRACE_TYPE).has_snapshot() || lengths.remaining() < lengths.node_len()
 }
 
 /// Whether Overflow was set where an element may have been too long, and nothing else changed.
@@ -77,7 +75,7 @@ pub(crate) fn is_overflow(old: &[u8], new: &[u8]) -> bool
     requires is_open { IsOpen old.now }
     ensures { IsTrue result ↔ OverflowsSo old.now new.now }
 {
-    may_overflow(old) && has_word(old, new, u16_at(old, 2) + OVERFLOW)
+    may_overflow(old) && has_word(old, new, Lengths::read(old).with_overflow().0)
 }
 
 /// Whether all stayed, as it may where bits of the type are undefined.

@@ -4,8 +4,7 @@ ghost use Rattle.ioam_base.specs.Octets.{written};
 ghost use Rattle.ioam_trace.specs.Filling.{with_lengths};
 ghost use Rattle.ioam_audit.specs.Parts.{AreAlike};
 
-use crate::fit::TRACE_TYPE;
-use ioam_base::octets::u16_at;
+use ioam_trace::{Lengths, TRACE_TYPE};
 
 /// Whether octets are the same.
 pub(crate) fn is_same(one: &[u8], other: &[u8]) -> bool
@@ -23,7 +22,7 @@ fn is_alike(old: &[u8], new: &[u8], word: u16, start: usize, end: usize) -> bool
     ensures { IsTrue result ↔ AreAlike old.now new.now word start end }
 {
     is_same(&new[..2], &old[..2])
-        && u16_at(new, 2) == word
+        && Lengths::read(new).0 == word
         && is_same(&new[TRACE_TYPE..start], &old[TRACE_TYPE..start])
         && is_same(&new[end..], &old[end..])
 }
