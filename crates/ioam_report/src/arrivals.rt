@@ -7,10 +7,10 @@ ghost use Rattle.ioam_report.specs.RunText.{reason_name, node_name, port_name, f
 
 use crate::reasons::reason_text;
 use ioam_base::memory::NoMemory;
-use ioam_base::text::append;
+use ioam_base::text::{append, settle};
 use ioam_node::Reason;
 use ioam_plan::{End, Itinerary};
-use ioam_report_lines::{Line, append_both, settle};
+use ioam_report_lines::{Line, append_both};
 use ioam_topo::{Domain, FlowId, NodeId, PortId};
 use ioam_tunnel::Numbers;
 

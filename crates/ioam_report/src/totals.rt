@@ -9,9 +9,9 @@ ghost use Rattle.ioam_report_lines.specs.Piece.{piece_text};
 use crate::flows::FlowSum;
 use crate::sums::{NodeSum, Sums};
 use ioam_base::memory::NoMemory;
-use ioam_base::text::append;
+use ioam_base::text::{append, settle};
 use ioam_edge::{Tally, asks};
-use ioam_report_lines::{Piece, put_pieces, settle};
+use ioam_report_lines::{Piece, put_pieces};
 use ioam_topo::{Domain, Flow, Node};
 
 // Appends the line for all arrivals.

@@ -9,9 +9,9 @@ ghost use Rattle.ioam_report_groups.specs.GroupsText.{key_line, group_text, coun
 use crate::ahead::make_room;
 use crate::items::put_items;
 use ioam_base::memory::NoMemory;
-use ioam_base::text::append;
+use ioam_base::text::{append, settle};
 use ioam_collect::{Collector, Group, Groups, Key, SIDE_BY_SIDE};
-use ioam_report_lines::{Line, Piece, put_pieces, settle};
+use ioam_report_lines::{Line, Piece, put_pieces};
 
 // Puts the line of a key together, its last word first.
 fn put_key(key: Key, count: u64, line: &mut Line)

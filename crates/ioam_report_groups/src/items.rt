@@ -9,11 +9,11 @@ ghost use Rattle.ioam_collect.specs.Keyed.{IsOfRecord};
 ghost use Rattle.ioam_report_groups.specs.GroupsText.{visit_text, record_line, item_line};
 
 use ioam_base::memory::NoMemory;
-use ioam_base::text::append;
+use ioam_base::text::{append, settle};
 use ioam_data::TraceType;
 use ioam_dex::{element_in, visit_at};
 use ioam_pool::{Item, Items};
-use ioam_report_lines::{Line, put_element, settle};
+use ioam_report_lines::{Line, put_element};
 
 // Puts what stands in front of the fields in front of a line.
 fn put_kind(kind: TraceType, line: &mut Line)

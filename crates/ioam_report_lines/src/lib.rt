@@ -15,7 +15,6 @@ mod values;
 
 pub use elements::{put_element, put_fields};
 pub use hop_traces::put_hop_traces;
-pub use ioam_base::text::settle;
 pub use line::Line;
 pub use lines::{put_element_line, put_element_lines, put_trace_lines};
 pub use piece::{Piece, append_both};

@@ -3,9 +3,9 @@ ghost use Rattle.std.specs.Prelude.{◌≡◌, ◌++◌, is_ok, if◌then◌else
 ghost use Rattle.ioam_run_node.specs.NotesText.{done_line, kind_text, note_line, notes_text};
 
 use ioam_base::memory::NoMemory;
-use ioam_base::text::append;
+use ioam_base::text::{append, settle};
 use ioam_node_visit::{NodeNote, What};
-use ioam_report_lines::{Piece, put_pieces, settle};
+use ioam_report_lines::{Piece, put_pieces};
 
 // The kind of an option.
 fn kind_of(direct: bool) -> &'static [u8]
