@@ -9,6 +9,12 @@ use ioam_topo::Format;
 use ioam_topo_entries::{DomainRefused, Field, Spot, Table, own_keys};
 use ioam_topo_values::{Why, find, number_or, text_of};
 
+// The most packets of a run that a file may say, 2^24.
+const MOST_PACKETS: u64 = 16_777_216;
+
+// The most packets of a run where the file says none.
+const USUAL_PACKETS: u64 = 1_000_000;
+
 // The file's own keys.
 #[derive(Clone, Copy)]
 pub(crate) struct Own {
@@ -45,7 +51,7 @@ fn format_of(top: &toml::Table) -> Result<Format, Why>
 fn packets_of(top: &toml::Table) -> Result<u32, Why>
     ensures { result ≡ packets_of (table_view top.now) }
 {
-    Ok(number_or(top, "packets", 1, 16_777_216, 1_000_000)? as u32)
+    Ok(number_or(top, "packets", 1, MOST_PACKETS, USUAL_PACKETS)? as u32)
 }
 
 // The file's own keys.
