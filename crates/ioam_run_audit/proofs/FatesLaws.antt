@@ -2,10 +2,15 @@
 use Rattle.std.proofs.Common.{◌≡◌, ◌↔◌, inl, inr, ℕ, ◌+◌, List, [], ◌∷◌, ◌++◌, length, refl, sym, ap, ◌∙◌, subst, arith}
 use Rattle.std.specs.List.{AllByRecursion}
 use Rattle.ioam_node.specs.declared.reason.Reason.{Reason}
-use Rattle.ioam_run_audit.specs.Fates.{AreFates, IsFate, number_behind, numbers_behind, left_behind, IsSentOn}
+use Rattle.ioam_run_audit.specs.Fates.{AreFates, IsFate, number_behind, left_behind, IsSentOn}
 use Rattle.ioam_run_audit.specs.declared.fate.Fate.{Fate}
 use Rattle.ioam_run_audit.specs.declared.fate.Fate.TheVariants.{Sent, Gone, Skipped}
 use Rattle.ioam_run_audit.proofs.MapLaws.{Embeds, fewer_after, from_map, to_map}
+
+-- the number of the next thing of the second list, behind things of the first that became so
+abbrev pub numbers_behind : ℕ → List Fate → ℕ
+numbers_behind number [] = number
+numbers_behind number (fate ∷ fates) = numbers_behind (number_behind number fate) fates
 
 -- how many were sent on
 abbrev pub sent_count : List Fate → ℕ

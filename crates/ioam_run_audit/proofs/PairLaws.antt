@@ -6,7 +6,7 @@ use Rattle.ioam_desk.specs.Desk as desk
 use Rattle.ioam_node.specs.declared.reason.Reason.{Reason}
 use Rattle.ioam_pcap.specs.Entries.{Taken}
 use Rattle.ioam_topo.specs.Domain.{links}
-use Rattle.ioam_run_audit.specs.Fates.{IsFate, IsNext, IsNotNext, numbers_behind, left_behind}
+use Rattle.ioam_run_audit.specs.Fates.{IsFate, IsNext, IsNotNext, left_behind}
 use Rattle.ioam_run_audit.specs.Fit.{CameFrom, HasReason, HoldsPacket, IsFit, Place}
 use Rattle.ioam_run_audit.specs.Lanes.{AtLane, IsHeld, IsOver, ReadsAlone, NextOf, RestOf}
 use Rattle.ioam_run_audit.specs.Lines.{BecomeOf, sums_of, with_fate, Sums}
@@ -20,7 +20,7 @@ use Rattle.ioam_run_audit.specs.declared.lane.Next.TheVariants as next
 use Rattle.ioam_run_audit.specs.declared.pair.Pair.{Pair}
 use Rattle.ioam_run_audit.specs.declared.pair.Waiting.{Waiting}
 use Rattle.ioam_run_audit.specs.declared.pair.Waiting.TheVariants as waiting
-use Rattle.ioam_run_audit.proofs.FatesLaws.{fates_many, fates_push, number_is}
+use Rattle.ioam_run_audit.proofs.FatesLaws.{fates_many, fates_push, number_is, numbers_behind}
 use Rattle.ioam_run_audit.proofs.LaneLaws.{at_apart}
 use Rattle.ioam_run_audit.proofs.LinesLaws.{sums_all, sums_push, sums_sent}
 use Rattle.ioam_run_audit.proofs.RecordLaws.{one_packet, reason_apart}

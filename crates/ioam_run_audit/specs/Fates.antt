@@ -11,11 +11,6 @@ number_behind number (Sent m) = number + 1
 number_behind number Gone = number
 number_behind number (Skipped why) = number
 
--- the number of the next thing of the second list, behind things of the first that became so
-abbrev pub numbers_behind : ℕ → List Fate → ℕ
-numbers_behind number [] = number
-numbers_behind number (fate ∷ fates) = numbers_behind (number_behind number fate) fates
-
 -- what is left of the second list behind a thing of the first that became so
 abbrev pub left_behind : {A : Type 0} → Fate → List A → List A
 left_behind (Sent m) ys = drop 1 ys
