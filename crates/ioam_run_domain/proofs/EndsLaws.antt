@@ -13,7 +13,7 @@ use Rattle.ioam_run_traffic.specs.Turn.TheVariants as turn
 use Rattle.ioam_run_files.specs.Outcome.{Outcome}
 use Rattle.ioam_run_files.specs.Outcome.TheVariants as outcome
 use Rattle.ioam_run_files.specs.Outcomes.{IsDone}
-use Rattle.ioam_run_files.proofs.NamesLaws.{apart-words}
+use Rattle.ioam_run_domain.proofs.ApartLaws.{apart-words}
 use Rattle.ioam_run_files.specs.Answer.{refused_as}
 use Rattle.ioam_run_files.specs.Names.{input_ports}
 use Rattle.ioam_run_files.specs.Setting.{Refuses}

@@ -1,3 +1,4 @@
+mod ApartLaws
 mod EndsLaws
 mod SameLaws
 mod AskedLaws

@@ -47,14 +47,6 @@ tap_names links = flat_map (λ link. tap_name link.tap) links
 abbrev pub output_names : List Port → List Link → List ℕ → List ℕ → List (List ℕ)
 output_names ports links report exports = map (λ port. port.output) ports ++ (tap_names links ++ report ∷ exports ∷ [])
 
--- the capture of the packets that leave by the port at a place, and that of the tap of the link at a place
-abbrev pub output_at : List Port → ℕ → List ℕ
-output_at ports place = option_map_or (λ port. port.output) (slice_get ports place) []
-
--- the file of the tap of the link at a place
-abbrev pub tap_name_at : List Link → ℕ → List ℕ
-tap_name_at links place = option_map_or (λ link. option_map_or (λ name. name) link.tap []) (slice_get links place) []
-
 -- all files, in the order in which equal ones are looked for: those of the words, those of each port, those of the taps
 abbrev pub file_names : List Port → List Link → List (List ℕ) → List (List ℕ)
 file_names ports links words = words ++ (flat_map (λ port. input_of port.input ++ port.output ∷ []) ports ++ tap_names links)

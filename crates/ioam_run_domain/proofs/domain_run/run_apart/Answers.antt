@@ -2,7 +2,7 @@ use Rattle.std.proofs.Common.{◌≡◌, ◌<◌, length, sym, ◌∙◌, subst,
 use Rattle.std.proofs.lemmas.List.{length-map}
 use Rattle.ioam_desk.specs.Desk.{holds}
 use Rattle.ioam_desk_outputs.specs.Names.{AreApart}
-use Rattle.ioam_run_files.proofs.NamesLaws.{apart-outputs}
+use Rattle.ioam_run_domain.proofs.ApartLaws.{apart-outputs}
 use Rattle.ioam_topo.specs.Domain.{links, ports}
 use Rattle.ioam_run_traffic.specs.declared.halt.Halt.TheVariants as halt
 use Rattle.ioam_run_domain.specs.Promise.{run_outputs, run_inputs}
