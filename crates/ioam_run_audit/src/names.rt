@@ -1,10 +1,10 @@
 //! What the words of the command name.
-ghost use Rattle.std.specs.Prelude.{◌≡◌, ◌<◌, ◌∷◌, ◌++◌, [], IfOk, IfSome, OnOk, length};
+ghost use Rattle.std.specs.Prelude.{◌≡◌, ◌<◌, IfOk, IfSome, length};
 ghost use Rattle.ioam_run_audit.specs.Promise.{audit_files, audit_names, link_to};
 ghost use Rattle.ioam_topo.specs.Domain.{links};
 
 use ioam_base::memory::NoMemory;
-use ioam_base::name::Name;
+use ioam_base::name::{Name, push_name};
 use ioam_topo::{Domain, LinkId, NodeId};
 use std::alloc::Global;
 use std::marker::Model;
@@ -60,15 +60,6 @@ pub(crate) fn link_to(domain: &Domain, node: NodeId, name: &Name) -> Option<Link
     let id = domain.link_named(name.text())?;
     let link = domain.link(id);
     if link.to.0 == node.0 { Some(id) } else { None }
-}
-
-// Puts a copy of a name behind these.
-fn push_name(alloc: Global, names: &mut Vec<Name>, name: &Name) -> Result<(), NoMemory>
-    ensures { OnOk result (names.new.items ≡ names.old.items ++ name.now ∷ []) }
-{
-    let copy = Name::new(alloc, name.text())?;
-    names.push(copy)?;
-    Ok(())
 }
 
 /// The names of all files, in the order in which equal ones are looked for: DOMAIN, BEFORE, AFTER and REPORT.

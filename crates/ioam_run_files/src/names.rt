@@ -6,18 +6,9 @@ ghost use Rattle.ioam_topo.specs.Domain.{links, ports};
 ghost use Rattle.ioam_run_files.specs.Names.{input_of, input_names, port_with, input_ports, inputs_at, tap_name, tap_names, output_names, file_names};
 
 use ioam_base::memory::NoMemory;
-use ioam_base::name::Name;
+use ioam_base::name::{Name, push_name};
 use ioam_topo::{Domain, Link, Port, PortId};
 use std::alloc::Global;
-
-// Puts a copy of a name behind these.
-fn push_name(alloc: Global, names: &mut Vec<Name>, name: &Name) -> Result<(), NoMemory>
-    ensures { OnOk result (names.new.items ≡ names.old.items ++ name.now ∷ []) }
-{
-    let copy = Name::new(alloc, name.text())?;
-    names.push(copy)?;
-    Ok(())
-}
 
 // Puts a copy of the name of a port's arrivals behind these, if it has one.
 fn push_input(alloc: Global, names: &mut Vec<Name>, input: &Option<Name>) -> Result<(), NoMemory>

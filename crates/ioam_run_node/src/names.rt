@@ -3,7 +3,7 @@ ghost use Rattle.std.specs.Prelude.{◌≡◌, IfOk, OnOk, ◌∷◌, ◌++◌, 
 ghost use Rattle.ioam_run_node.specs.Promise.{inward_of, node_files, node_names, output_files};
 
 use ioam_base::memory::NoMemory;
-use ioam_base::name::Name;
+use ioam_base::name::{Name, push_name};
 use ioam_topo::{Domain, NodeId};
 use std::alloc::Global;
 use std::marker::Model;
@@ -78,15 +78,6 @@ pub fn inward_of(domain: &Domain, node: NodeId, name: &Name) -> Option<u32>
     } else {
         None
     }
-}
-
-// Puts a copy of a name behind these.
-fn push_name(alloc: Global, names: &mut Vec<Name>, name: &Name) -> Result<(), NoMemory>
-    ensures { OnOk result (names.new.items ≡ names.old.items ++ name.now ∷ []) }
-{
-    let copy = Name::new(alloc, name.text())?;
-    names.push(copy)?;
-    Ok(())
 }
 
 // Copies of the names of the files that are read.
