@@ -1,13 +1,15 @@
 -- One thing becomes of a record.
-use Rattle.std.proofs.Common.{◌≡◌, ◌↔◌, ℕ, ◌≤◌, Bool, true, false, IsTrue, List, [], ◌∷◌, ◌++◌, length, arith, refl, sym, ap, ◌∙◌, subst, inl, inr}
+use Rattle.std.proofs.Common.{◌≡◌, ◌↔◌, ℕ, ◌≤◌, Bool, true, false, IsTrue, List, [], ◌∷◌, ◌++◌, length, Some, arith, refl, sym, ap, ◌∙◌, subst, inl, inr}
 use Rattle.std.proofs.lemmas.Bool.{false≢true}
 use Rattle.ioam_ip.specs.Framing.{Framing, Holds, NoIpv6, CutShort, TooShort}
+use Rattle.ioam_node.specs.Admission.{reason_of}
+use Rattle.ioam_node.specs.declared.reason.Reason.{Reason}
 use Rattle.ioam_pcap.specs.Entries.{Taken}
 use Rattle.ioam_run_stream.specs.Frame.{taken_framing}
 use Rattle.ioam_run_node.specs.Judged.{IsFit}
 use Rattle.ioam_run_node.specs.declared.judging.Judged.{Judged}
 use Rattle.ioam_run_node.specs.declared.judging.Judged.TheVariants as judged
-use Rattle.ioam_run_node.specs.Passage.{Passage, PacketPassage, FramingPassage, HasPassage, ArePassages, passage_by, way_for}
+use Rattle.ioam_run_node.specs.Passage.{Passage, Drops, PacketPassage, FramingPassage, HasPassage, ArePassages, passage_by, way_for}
 use Rattle.ioam_run_node.specs.Seat.{Seat}
 
 -- what is told of by two flags
@@ -31,6 +33,13 @@ module _ (seat : Seat) where
   one_of_frame time NoIpv6 first other x y = x ∙ sym y
   one_of_frame time CutShort first other x y = x ∙ sym y
   one_of_frame time TooShort first other x y = x ∙ sym y
+
+  -- a frame that holds no packet is dropped for its reason
+  pub FramingPassage-drop : (time : ℕ) (framing : Framing) (why : Reason) → reason_of framing ≡ Some why → FramingPassage seat time framing (Drops why)
+  FramingPassage-drop time (Holds packet) why is = absurd (cc is)
+  FramingPassage-drop time NoIpv6 why is = cc is
+  FramingPassage-drop time CutShort why is = cc is
+  FramingPassage-drop time TooShort why is = cc is
 
   -- of a record whose frame is this
   pub framed_so : (t : Taken) (framing : Framing) (passage : Passage) → framing ≡ taken_framing t

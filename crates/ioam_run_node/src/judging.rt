@@ -11,8 +11,8 @@ ghost use Rattle.ioam_run_node.specs.Passage.{Passage, HasPassage, PacketPassage
 ghost use Rattle.ioam_run_node.specs.Seat.{seat_of};
 
 use crate::post::Post;
-use ioam_ip::{Framed, Walk, header, walk};
-use ioam_node::{Reason, transit};
+use ioam_ip::{Walk, header, walk};
+use ioam_node::{Reason, packet_or_reason, transit};
 use ioam_pcap::{Link, Packet};
 use ioam_run_stream::framed;
 use ioam_topo::Way;
@@ -32,11 +32,9 @@ impl Post<'_> {
         ensures passage { HasPassage (seat_of self.now) (taken_of link captured.now) (passage_of captured.now.time result) }
         ensures fit { IsFit (seat_of self.now) captured.now.octets.now result }
     {
-        match framed(link, captured) {
-            Framed::Packet(packet) => self.judge_packet(packet),
-            Framed::NotIpv6 => Judged::Drops(Reason::NotIpv6),
-            Framed::Cut => Judged::Drops(Reason::Cut),
-            Framed::Length => Judged::Drops(Reason::Length),
+        match packet_or_reason(framed(link, captured)) {
+            Ok(packet) => self.judge_packet(packet),
+            Err(reason) => Judged::Drops(reason),
         }
     }
 

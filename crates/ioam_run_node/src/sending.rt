@@ -14,6 +14,7 @@ ghost use Rattle.ioam_run_node.specs.Seat.{seat_of};
 use crate::notes::put_notes;
 use crate::post::Post;
 use ioam_base::memory::NoMemory;
+use ioam_base::spare::copied;
 use ioam_base::text::{append, append_decimal};
 use ioam_desk_outputs::Output;
 use ioam_node::Place;
@@ -50,15 +51,6 @@ fn put_sent(number: u64, name: &str, notes: &[NodeNote], out: &mut Vec<u8>) -> R
     append(out, name.as_bytes())?;
     append(out, b"\n")?;
     put_notes(notes, out)
-}
-
-// A copy of octets.
-fn copied(alloc: Global, octets: &[u8]) -> Result<Vec<u8>, NoMemory>
-    ensures { IfOk result (λ copy. copy.items ≡ octets.now) }
-{
-    let mut copy = Vec::with_capacity(alloc, octets.len())?;
-    append(&mut copy, octets)?;
-    Ok(copy)
 }
 
 // Adds a packet to OUT.
