@@ -3,15 +3,14 @@ ghost use Rattle.std.specs.Prelude.{◌≡◌, ◌<◌, ◌≤◌, OnOk};
 ghost use Rattle.ioam_run_bulk.specs.Generated.{header, hop_limit, next_state, packet, payload_size, subnet};
 
 use ioam_base::memory::NoMemory;
-
-/// The most octets that a packet has: a header of 40, and a payload of 1,399.
-pub(crate) const PACKET_MOST: usize = 1_439;
+use ioam_ip::HEADER_OCTETS;
+use ioam_ip::next_header::NO_NEXT;
 
 // The most octets of a payload, and one.
 const PAYLOADS: u64 = 1_400;
 
-// No header follows the IPv6 header (RFC 8200 section 4.7).
-const NO_NEXT: u8 = 59;
+/// The most octets that a packet has: a header of 40, and a payload of 1,399.
+pub(crate) const PACKET_MOST: usize = HEADER_OCTETS + PAYLOADS as usize - 1;
 
 /// The state behind a state: a linear congruential generator modulo 2^64.
 pub(crate) fn next_state(state: u64) -> u64
@@ -68,6 +67,6 @@ pub(crate) fn put_packet(state: u64, octets: &mut Vec<u8>) -> Result<(), NoMemor
     octets.clear();
     let header = header(state);
     octets.extend_from_slice(&header)?;
-    octets.resize(40 + usize::from(payload_size(state)), 0)?;
+    octets.resize(HEADER_OCTETS + usize::from(payload_size(state)), 0)?;
     Ok(())
 }
