@@ -16,11 +16,11 @@ ghost use Rattle.ioam_run_ipfix.specs.Texts.{AreMessages, HoldsText};
 use crate::ending::is_broken;
 use crate::ipfix_stream::{Packer, read_on, write_rest};
 use crate::names::IpfixFiles;
-use crate::opening::{new_piece, open_files};
+use crate::opening::open_files;
 use crate::packing::Packing;
 use ioam_base::memory::NoMemory;
 use ioam_base::name::Name;
-use ioam_desk::{Desk, DeskFault, PIECE};
+use ioam_desk::{Desk, DeskFault, PIECE, new_piece};
 use ioam_desk_outputs::Output;
 use ioam_dex::ExportReader;
 use ioam_ipfix::put_templates;
@@ -49,7 +49,7 @@ fn run_names<D: Desk>(alloc: Global, files: &IpfixFiles<'_>, desk: &mut D) -> Ou
     ensures unopened { OpensNothing result → D.reading desk.new ≡ D.reading desk.old }
     ensures differed { (D.reading desk.new ≡ D.reading desk.old) ⊎ (files.now.exports ≢ files.now.out) }
 {
-    if files.exports.text() == files.out.text() {
+    if files.exports.is(files.out) {
         names_outcome(alloc, files.out)
     } else {
         run_files(alloc, files.exports, slice::from_ref(files.out), desk)

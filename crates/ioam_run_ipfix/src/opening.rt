@@ -1,13 +1,12 @@
 //! The two files of a command: its input, and OUT behind it.
-ghost use Rattle.std.specs.Prelude.{◌≡◌, ◌∷◌, [], IfOk, IfErr, IsTrue, length};
+ghost use Rattle.std.specs.Prelude.{◌≡◌, ◌∷◌, [], IfOk, IfErr, IsTrue};
 ghost use Rattle.ioam_desk.specs.Asked.{AsksFront};
 ghost use Rattle.ioam_desk.specs.Desk.{holds};
 ghost use Rattle.ioam_desk.specs.Kept.{KeepsInputs, KeepsOutputs};
 ghost use Rattle.ioam_run_ipfix.specs.Streams.{IsOpened, Refuses, Start};
 
-use ioam_base::memory::NoMemory;
 use ioam_base::name::Name;
-use ioam_desk::{Desk, DeskFault, PIECE};
+use ioam_desk::{Desk, DeskFault};
 use ioam_desk_outputs::{Output, open_outputs};
 use ioam_run_answer::Outcome;
 use std::alloc::Global;
@@ -51,13 +50,4 @@ pub(crate) fn open_files<D: Desk>(
         Err(DeskFault::Failed) => Err(Outcome::WriteFault),
         Err(DeskFault::NoMemory) => Err(Outcome::NoMemory),
     }
-}
-
-/// Room for what one read hands out.
-pub(crate) fn new_piece(alloc: Global) -> Result<Vec<u8>, NoMemory>
-    ensures { IfOk result (λ piece. length piece.items ≡ PIECE) }
-{
-    let mut piece = Vec::with_capacity(alloc, PIECE)?;
-    piece.resize(PIECE, 0)?;
-    Ok(piece)
 }

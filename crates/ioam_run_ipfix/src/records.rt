@@ -14,11 +14,11 @@ ghost use Rattle.ioam_run_ipfix.specs.Texts.{AreRecords, HoldsText};
 
 use crate::ending::is_broken;
 use crate::names::RecordsFiles;
-use crate::opening::{new_piece, open_files};
+use crate::opening::open_files;
 use crate::records_stream::{Taker, read_on};
 use ioam_base::memory::NoMemory;
 use ioam_base::name::Name;
-use ioam_desk::{Desk, DeskFault, PIECE};
+use ioam_desk::{Desk, DeskFault, PIECE, new_piece};
 use ioam_desk_outputs::{Output, finish};
 use ioam_dex::{ExportRoom, MOST_RECORD};
 use ioam_ipfix::IpfixReader;
@@ -48,7 +48,7 @@ fn run_names<D: Desk>(alloc: Global, files: &RecordsFiles<'_>, desk: &mut D) -> 
     ensures unopened { OpensNothing result → D.reading desk.new ≡ D.reading desk.old }
     ensures differed { (D.reading desk.new ≡ D.reading desk.old) ⊎ (files.now.input ≢ files.now.out) }
 {
-    if files.input.text() == files.out.text() {
+    if files.input.is(files.out) {
         names_outcome(alloc, files.out)
     } else {
         run_files(alloc, files.input, slice::from_ref(files.out), desk)
