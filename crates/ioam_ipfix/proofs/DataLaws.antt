@@ -11,7 +11,7 @@ use Rattle.ioam_data.specs.Elements.{IsFilled}
 use Rattle.ioam_dex.specs.Numbers.{has_flow, has_seq, four_where, u32_where}
 use Rattle.ioam_dex.specs.Visit.{has_visit, version_of, visit_octets, twelve_where, visit_where}
 use Rattle.ioam_dex.specs.Record.{Record, IsRecord, IsNumbered, Rec, record_size, record_octets}
-use Rattle.ioam_dex.proofs.RecordLaws.{record_octets-length, record_size-small}
+use Rattle.ioam_dex.proofs.RecordLaws.{record_octets-length}
 use Rattle.ioam_dex.proofs.NumbersLaws.{four_where-at, u32_where-is_some}
 use Rattle.ioam_dex.proofs.VisitLaws.{visit_where-at, visit_where-below, visit_octets-same}
 use Rattle.ioam_base.specs.Chain.{Stops, IsFunctional}

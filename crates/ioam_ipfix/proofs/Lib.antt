@@ -9,3 +9,4 @@ pub mod SetLaws
 pub mod StepLaws
 pub mod TemplateLaws
 pub mod WrittenLaws
+pub mod ViewLaws

@@ -223,15 +223,12 @@ next-place message places given p inside is all =
     let here : drop given places ≡ p ∷ drop (given + 1) places = drop_more places given p inside ∙ ap (λ q. q ∷ drop (given + 1) places) (sym is) in
     ((subst (λ ps. AllPlaces message ps) here all).0, here)
 
--- its octets in the buffer
-pub held-slice : (items : List ℕ) (from size first last : ℕ) → first ≤ last → last ≤ length (take size (drop from items))
-    → take (from + last - (from + first)) (drop (from + first) items) ≡ slice first last (take size (drop from items))
-held-slice items from size first last ordered inside =
-    let rest = drop from items in
-    let most = length-take size rest in
+-- its octets among those that are pending, which begin with its message
+pub held-slice : (pending : List ℕ) (size first last : ℕ) → first ≤ last → last ≤ length (take size pending)
+    → slice first last pending ≡ slice first last (take size pending)
+held-slice pending size first last ordered inside =
+    let most = length-take size pending in
     let within : last ≤ size = omega (arith, inside, most) in
-    let count : from + last - (from + first) ≡ last - first = omega arith in
     let all : size ≡ first + (size - first) = omega (arith, ordered, within) in
-    ap (λ n. take n (drop (from + first) items)) count ∙ ap (take (last - first)) (sym (drop-drop first from items))
-    ∙ sym (ap (λ n. take (last - first) (drop first (take n rest))) all ∙ ap (take (last - first)) (drop-take first (size - first) rest)
-    ∙ take-take (last - first) (size - first) (drop first rest) (omega (arith, within)))
+    sym (ap (λ n. take (last - first) (drop first (take n pending))) all ∙ ap (take (last - first)) (drop-take first (size - first) pending)
+    ∙ take-take (last - first) (size - first) (drop first pending) (omega (arith, within)))

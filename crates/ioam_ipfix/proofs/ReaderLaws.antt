@@ -1,20 +1,15 @@
 -- What a reader stands for after a piece or a step.
-use Rattle.std.proofs.Common.{◌≡◌, ℕ, zero, suc, ◌+◌, ◌-◌, ◌<◌, ◌≤◌, Bool, List, [], ◌∷◌, ◌++◌, length, take, drop, length-drop, refl, sym, ap, ◌∙◌, subst, arith, inr, append_assoc, length-append}
-use Rattle.std.proofs.lemmas.List.{append-nil, drop-drop, take-append-le, drop-append-le}
-use Rattle.ioam_base.specs.Octets.{u16_at}
+use Rattle.std.proofs.Common.{◌≡◌, ℕ, zero, suc, ◌-◌, ◌<◌, ◌≤◌, List, [], ◌∷◌, ◌++◌, length, refl, sym, ap, ◌∙◌, subst, arith, inl, inr, append_assoc, length-append}
+use Rattle.std.proofs.lemmas.List.{append-nil}
 use Rattle.ioam_dex.specs.Record.{Record}
 use Rattle.ioam_ipfix.specs.declared.fault.IpfixFault.{IpfixFault}
 use Rattle.ioam_ipfix.specs.declared.fault.IpfixFault.TheVariants as fault
-use Rattle.ioam_base.specs.Chain.{Chain}
 use Rattle.ioam_ipfix.specs.Templates.{none_known}
-use Rattle.ioam_ipfix.specs.declared.place.Place.{Place}
-use Rattle.ioam_ipfix.specs.Places.{records_at}
-use Rattle.ioam_ipfix.specs.Steps.{TakesMessage}
-use Rattle.ioam_ipfix.specs.Sets.{spot, SetPasses}
-use Rattle.ioam_ipfix.specs.Messages.{joined, IsWhole, MessagePasses, IpfixOf}
+use Rattle.ioam_ipfix.specs.Sets.{spot}
+use Rattle.ioam_ipfix.specs.Messages.{joined, MessagePasses, IpfixOf}
 use Rattle.ioam_ipfix.specs.Reads.{Ending, Whole, Faulty, Reads, ReadsOnly}
-use Rattle.ioam_ipfix.specs.Reading.{Reading, place_of, fed, fresh}
-use Rattle.ioam_ipfix.specs.Reader.{Stands, Waits, IsFaulty, Keeps, Takes, ReadsSo}
+use Rattle.ioam_ipfix.specs.Reading.{Reading, OwesFew, place_of, fresh, while_due, with_due, with_piece}
+use Rattle.ioam_ipfix.specs.Reader.{Stands, Waits, IsFaulty, Keeps, Takes, GoesOver, ReadsSo}
 use Rattle.ioam_base.proofs.ChainLaws.{Chain-push}
 use Rattle.ioam_ipfix.proofs.MessageLaws.{fault-stops, cut-stops, messages-behind}
 use Rattle.ioam_ipfix.proofs.ReadsLaws.{Reads-unique, Reads-faulty}
@@ -23,12 +18,44 @@ joined-append : (xss yss : List (List Record)) → joined (xss ++ yss) ≡ joine
 joined-append [] yss = refl
 joined-append (xs ∷ xss) yss = ap (λ zs. xs ++ zs) (joined-append xss yss) ∙ sym (append_assoc xs (joined xss) (joined yss))
 
+-- ---- what is owed
+
+pub while_due-most : (due : List Record) (size : ℕ) → while_due due size ≤ size
+while_due-most [] size = omega arith
+while_due-most (x ∷ due) size = omega arith
+
+pub while_due-none : (due : List Record) (size : ℕ) → due ≡ [] → while_due due size ≡ 0
+while_due-none due size none = ap (λ xs. while_due xs size) none
+
+OwesFew-piece : (piece : List ℕ) (reader : Reading) → OwesFew reader → OwesFew (with_piece piece reader)
+OwesFew-piece piece reader owes = record { few = owes.few; among = omega arith; none = owes.none }
+
+OwesFew-due : (due : List Record) (reader : Reading) → OwesFew reader → OwesFew (with_due due reader)
+OwesFew-due due reader owes =
+    let most = while_due-most due reader.owed in
+    let few = owes.few in
+    let among = owes.among in
+    record { few = omega (arith, most, few); among = omega (arith, most, among); none = λ none. while_due-none due reader.owed none }
+
+-- ---- what it stands for
+
 pub Stands-fresh : Stands fresh [] []
-Stands-fresh = record { before = []; last = []; leads = refl; count = refl; inside = refl; single = omega arith; here = []; gave = refl; owes = refl; few = omega arith }
+Stands-fresh = record {
+  before = [];
+  last = [];
+  leads = refl;
+  count = refl;
+  inside = refl;
+  single = omega arith;
+  here = [];
+  gave = refl;
+  owes = refl;
+  few = record { few = omega arith; among = omega arith; none = λ none. refl };
+}
 
 -- a piece more
 pub Stands-feed : (reader : Reading) (piece octets : List ℕ) (given : List Record) → Stands reader octets given
-    → Stands (record reader { pending = reader.pending ++ piece }) (octets ++ piece) given
+    → Stands (with_piece piece reader) (octets ++ piece) given
 Stands-feed reader piece octets given stands =
     let inside = stands.inside in
     record {
@@ -41,7 +68,7 @@ Stands-feed reader piece octets given stands =
       here = stands.here;
       gave = stands.gave;
       owes = stands.owes;
-      few = let few = stands.few in omega (arith, few, length-append reader.pending piece);
+      few = OwesFew-piece piece reader stands.few;
     }
 
 -- where nothing is due, all records of the messages taken were given
@@ -72,7 +99,7 @@ Stands-takes old new takes octets given stands =
 
 -- a record was given
 pub Stands-gives : (old : Reading) (x : Record) (xs : List Record) → old.due ≡ x ∷ xs → (octets : List ℕ) (given : List Record) → Stands old octets given
-    → Stands (record old { due = xs }) octets (given ++ x ∷ [])
+    → Stands (with_due xs old) octets (given ++ x ∷ [])
 Stands-gives old x xs due octets given stands = record {
   before = stands.before;
   last = stands.last;
@@ -83,8 +110,64 @@ Stands-gives old x xs due octets given stands = record {
   here = stands.here ++ x ∷ [];
   gave = ap (λ ys. ys ++ x ∷ []) stands.gave ∙ append_assoc (joined stands.before) stands.here (x ∷ []);
   owes = append_assoc stands.here (x ∷ []) xs ∙ ap (λ ys. stands.here ++ ys) (sym due) ∙ stands.owes;
-  few = stands.few;
+  few = OwesFew-due xs old stands.few;
 }
+
+-- ---- the messages that were taken
+
+front-nil : (xs ys : List Record) → xs ++ ys ≡ [] → xs ≡ []
+front-nil [] ys none = refl
+front-nil (x ∷ xs) ys none = let size = ap length none in absurd (omega (arith, size))
+
+rest-nil : (xs ys : List Record) → xs ++ ys ≡ [] → ys ≡ []
+rest-nil [] ys none = none
+rest-nil (x ∷ xs) ys none = let size = ap length none in absurd (omega (arith, size))
+
+pub goes-none : (reader : Reading) → GoesOver reader reader []
+goes-none reader = record {
+  before = [];
+  bare = refl;
+  last = [];
+  single = omega arith;
+  leads = refl;
+  count = omega arith;
+  owes = append-nil reader.due;
+  still = inr refl;
+}
+
+-- one more, behind others without a record
+pub goes-takes : (old mid new : Reading) → GoesOver old mid [] → Takes mid new → GoesOver old new []
+goes-takes old mid new goes takes =
+    let passed = goes.before ++ goes.last in
+    let had = goes.count in
+    let has = takes.count in
+    let nothing : old.due ++ joined goes.last ≡ [] = goes.owes ∙ takes.none in
+    let first : old.due ≡ [] = front-nil old.due (joined goes.last) nothing in
+    record {
+      before = passed;
+      bare = joined-append goes.before goes.last ∙ ap (λ xs. xs ++ joined goes.last) goes.bare ∙ rest-nil old.due (joined goes.last) nothing;
+      last = new.due ∷ [];
+      single = omega arith;
+      leads = Chain-push MessagePasses (place_of old) passed (place_of mid) new.due (place_of new) goes.leads takes.passes;
+      count = omega (arith, had, has, length-append passed (new.due ∷ []));
+      owes = ap (λ xs. xs ++ (new.due ++ [])) first ∙ append-nil new.due;
+      still = inl first;
+    }
+
+-- and the record that was given then
+pub goes-gives : (old mid : Reading) (x : Record) (xs : List Record) → GoesOver old mid [] → mid.due ≡ x ∷ xs → GoesOver old (with_due xs mid) (x ∷ [])
+goes-gives old mid x xs goes due = record {
+  before = goes.before;
+  bare = goes.bare;
+  last = goes.last;
+  single = goes.single;
+  leads = goes.leads;
+  count = goes.count;
+  owes = goes.owes ∙ due;
+  still = goes.still;
+}
+
+-- ---- what its steps say
 
 -- what waits says
 pub says-more : (reader : Reading) → Waits reader → (octets : List ℕ) (given : List Record) → Stands reader octets given
@@ -134,53 +217,6 @@ reads-cut reader waits some octets given stands =
 -- a message that is taken has no fault
 pub takes-not-faulty : (old new : Reading) → Takes old new → (f : IpfixFault) → IsFaulty old f → ⊥
 takes-not-faulty old new takes f bad = fault-stops (place_of old) f bad.1 new.due (place_of new) takes.passes
-
--- a message at a place of a buffer, of which all sets were taken; octets in front of it may be kept no longer
-pub takes-by : (known : List Bool) (messages start from from' n : ℕ) (items items' : List ℕ) (due : List Record) (behind : List Bool) (places : List Place)
-    → IsWhole (drop from items) → n ≡ u16_at (drop from items) 2 → n < 65536 → due ≡ [] → TakesMessage (take n (drop from items)) known behind places
-    → drop from' items' ≡ drop from items → from' ≤ (length items - from) + 32768
-    → Takes (record { known = known; messages = messages; due = due; start = start; pending = drop from items; given = from })
-    (record { known = behind; messages = messages + 1; due = records_at (take n (drop from' items')) places; start = start + n; pending = drop (from' + n) items'; given = from' + n })
-takes-by known messages start from from' n items items' due behind places whole is small none found same few =
-    let octets = drop from items in
-    let there = whole.there in
-    let least = whole.least in
-    let rest : drop (from' + n) items' ≡ drop n octets = sym (drop-drop n from' items') ∙ ap (drop n) same in
-    let size : length (drop (from' + n) items') ≡ length octets - n = ap length rest ∙ length-drop n octets in
-    let all = length-drop from items in
-    let records : List ℕ → List Record = λ o. records_at (take n o) places in
-    let through : List Record → Type 0 = λ xs. MessagePasses (spot known octets) xs (spot behind (drop (from' + n) items')) in
-    let over : records octets ≡ records (drop from' items') = ap records (sym same) in
-    record {
-      passes = subst through over (record {
-        whole = whole;
-        behind = rest ∙ ap (λ k. drop k octets) is;
-        sets = found.0;
-        leads = subst (λ k. Chain SetPasses (spot known (drop 16 (take k octets))) found.0 (spot behind [])) is found.1;
-        records = found.2;
-      });
-      none = none;
-      count = refl;
-      fed = omega (arith, size, there, is);
-      less = omega (arith, size, there, is, least);
-      few = omega (arith, size, there, is, small, few, all);
-    }
-
--- a piece more, in the fields of a reader
-pub feed-view : (known : List Bool) (messages start from size : ℕ) (items fed piece : List ℕ) (places : List Place) (old : Reading)
-    → ◌≡◌ {A = Reading} (record { known = known; messages = messages; due = records_at (take size (drop from items)) places; start = start; pending = drop (from + size) items; given = from + size }) old
-    → from + size ≤ length items → fed ≡ items ++ piece
-    → ◌≡◌ {A = Reading} (record old { pending = old.pending ++ piece })
-    (record { known = known; messages = messages; due = records_at (take size (drop from fed)) places; start = start; pending = drop (from + size) fed; given = from + size })
-feed-view known messages start from size items fed piece places old view inside fed-is =
-    let left = length-drop from items in
-    let fits : size ≤ length (drop from items) = omega (arith, inside, left) in
-    let whole : drop from fed ≡ drop from items ++ piece = ap (drop from) fed-is ∙ drop-append-le from items piece (omega (arith, inside)) in
-    let held : take size (drop from items) ≡ take size (drop from fed) = sym (ap (take size) whole ∙ take-append-le size (drop from items) piece fits) in
-    let rest : drop (from + size) items ++ piece ≡ drop (from + size) fed = sym (ap (drop (from + size)) fed-is ∙ drop-append-le (from + size) items piece inside) in
-    let new : Reading = record { known = known; messages = messages; due = records_at (take size (drop from fed)) places; start = start; pending = drop (from + size) fed; given = from + size } in
-    let P : Reading → Type 0 = λ r. ◌≡◌ {A = Reading} (record r { pending = r.pending ++ piece }) new in
-    subst P view (λ i. record { known = known; messages = messages; due = records_at (held i) places; start = start; pending = rest i; given = from + size })
 
 pub some-from : (n : ℕ) → (n ≡ 0 → ⊥) → 0 < n
 some-from zero other = absurd (other refl)

@@ -1,5 +1,5 @@
 -- Records that are handed to the writer one behind the other, and the data records that it puts of them.
-use Rattle.std.proofs.Common.{◌≡◌, ℕ, zero, suc, ◌+◌, ◌-◌, ◌*◌, ◌%◌, ◌<◌, ◌≤◌, List, [], ◌∷◌, ◌++◌, length, take, drop, refl, sym, ap, ◌∙◌, arith, rules, append_assoc, length-append, length-drop}
+use Rattle.std.proofs.Common.{◌≡◌, ℕ, zero, suc, ◌+◌, ◌-◌, ◌*◌, ◌%◌, ◌<◌, ◌≤◌, List, [], ◌∷◌, ◌++◌, length, take, drop, refl, sym, ap, ◌∙◌, arith, append_assoc, length-append, length-drop}
 use Rattle.std.specs.Prelude.{flat_map, replicate}
 use Rattle.std.specs.List.{AllByRecursion}
 use Rattle.std.proofs.lemmas.List.{append-nil, take_all, take_at, drop_at, drop-drop, drop_all, flat_map_more}
@@ -11,7 +11,7 @@ use Rattle.ioam_dex.specs.Record.{Record, IsRecord, Rec, record_octets}
 use Rattle.ioam_dex.specs.Reads.{records_octets}
 use Rattle.ioam_dex.proofs.RecordLaws.{front-length, record_octets-length, record_size-small}
 use Rattle.ioam_ipfix.specs.Templates.{template_octets, all_ids}
-use Rattle.ioam_ipfix.specs.Data.{template_of, front_octets, data_octets}
+use Rattle.ioam_ipfix.specs.Data.{template_of, data_octets}
 use Rattle.ioam_ipfix.specs.Written.{message_octets, IsRun, AreRecords, BeginsRecord, IsRunText}
 
 -- ---- one record

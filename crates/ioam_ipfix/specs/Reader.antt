@@ -1,5 +1,5 @@
 -- What a reader stands for, and what its steps tell of the octets that it was fed.
-use Rattle.std.specs.Prelude.{◌≡◌, ⊤, ℕ, ◌+◌, ◌<◌, ◌≤◌, List, [], ◌∷◌, ◌++◌, length, Option, Some, None}
+use Rattle.std.specs.Prelude.{◌≡◌, ⊤, ℕ, ◌+◌, ◌<◌, ◌≤◌, ◌⊎◌, List, [], ◌∷◌, ◌++◌, length, Option, Some, None}
 use Rattle.std.specs.Io.BufRead.{Rests}
 use Rattle.std.specs.Borrow.{Fml, MutBor}
 use Rattle.ioam_dex.specs.Record.{Record, IsRecord, record_of}
@@ -15,11 +15,11 @@ use Rattle.ioam_ipfix.specs.Sets.{spot}
 use Rattle.ioam_ipfix.specs.Messages.{joined, MessagePasses, IsCut, IpfixOf}
 use Rattle.ioam_ipfix.specs.Faults.{HasFault}
 use Rattle.ioam_ipfix.specs.Reads.{Ending, Whole, Faulty, Reads, ReadsOnly}
-use Rattle.ioam_ipfix.specs.Reading.{Reading, KeepsFewGiven, place_of, fed}
+use Rattle.ioam_ipfix.specs.Reading.{Reading, OwesFew, place_of, fed, held, with_due}
 
 -- A reader that was fed these octets in all, in whatever pieces, and has given these records: it has taken messages one
 -- behind the other; what it gave is the records of those before the last and the first of the last, of which the others
--- are due. Few of the octets that it took it still keeps.
+-- are due. Of what it took it owes the octets of the last alone, while a record of it is due.
 pub record Stands (reader : Reading) (octets : List ℕ) (given : List Record) : Type 0 where
   pub before : List (List Record)
   pub last : List (List Record)
@@ -30,7 +30,7 @@ pub record Stands (reader : Reading) (octets : List ℕ) (given : List Record) :
   pub here : List Record
   pub gave : given ≡ joined before ++ here
   pub owes : here ++ reader.due ≡ joined last
-  pub few : KeepsFewGiven reader
+  pub few : OwesFew reader
 
 -- all records of the messages taken were given, and what is due then is not whole and has no fault: more octets have to
 -- be fed, or the input ends; fewer octets than a message can have are left
@@ -60,7 +60,8 @@ pub record Takes (old new : Reading) : Type 0 where
   pub count : new.messages ≡ old.messages + 1
   pub fed : fed new ≡ fed old
   pub less : length new.pending < length old.pending
-  pub few : KeepsFewGiven new
+  pub held : held new ≡ held old
+  pub few : OwesFew new
 
 -- what is due: a record, more octets, or a fault
 abbrev pub IsDue : Reading → Found → Type 0
@@ -69,11 +70,25 @@ IsDue reader found.Taken = ⊥
 IsDue reader found.More = Waits reader
 IsDue reader (found.Bad fault) = IsFaulty reader fault
 
+-- The messages that were taken on the way to the records that were given, one behind the other: some that have no record,
+-- and then perhaps a last one, of which these were given and the others are due. Where a record was due none was taken.
+pub record GoesOver (old new : Reading) (given : List Record) : Type 0 where
+  pub before : List (List Record)
+  pub bare : joined before ≡ []
+  pub last : List (List Record)
+  pub single : length last ≤ 1
+  pub leads : Chain MessagePasses (place_of old) (before ++ last) (place_of new)
+  pub count : new.messages ≡ old.messages + length (before ++ last)
+  pub owes : old.due ++ joined last ≡ given ++ new.due
+  pub still : (old.due ≡ []) ⊎ (before ++ last ≡ [])
+
 -- Messages were taken up to one with a record, or one that waits or has a fault: none where what is due has a fault or is
 -- a record.
 pub record Advances (old new : Reading) (found : Found) : Type 0 where
   pub keeps : Keeps old new
   pub fed : fed new ≡ fed old
+  pub held : held new ≡ held old
+  pub goes : GoesOver old new []
   pub faulty : StaysFaulty old new
   pub still : 0 < length old.due → new ≡ old
   pub due : IsDue new found
@@ -118,12 +133,13 @@ SaysFault old new step = (fault : IpfixFault) → IsFaulty old fault → (step �
 
 -- where a record is due a step gives it, and changes nothing else
 abbrev pub SaysDue : Reading → Reading → IpfixStep → Type 0
-SaysDue old new step = (x : Record) (xs : List Record) → old.due ≡ x ∷ xs → (shown step ≡ x ∷ []) × (new ≡ record old { due = xs })
+SaysDue old new step = (x : Record) (xs : List Record) → old.due ≡ x ∷ xs → (shown step ≡ x ∷ []) × (new ≡ with_due xs old)
 
--- what a step tells
+-- what a step tells: it keeps as many octets as before, and the record that it gives is the first of the last message that
+-- it took, if it took any
 abbrev pub Tells : Reading → Reading → IpfixStep → Type 0
 Tells old new step = Rested new step × (fed new ≡ fed old) × ((octets : List ℕ) (given : List Record) → Stands old octets given → Told octets given new step)
-    × SaysFault old new step × SaysDue old new step
+    × SaysFault old new step × SaysDue old new step × (held new ≡ held old) × GoesOver old new (shown step)
 
 -- so the reader is once the step's octets are no longer lent
 abbrev pub RestsSo : MutBor Reading → IpfixStep → Fml

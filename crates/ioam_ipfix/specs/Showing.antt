@@ -8,14 +8,17 @@ use Rattle.ioam_ipfix.specs.declared.reader.IpfixShown.{IpfixShown}
 use Rattle.ioam_ipfix.specs.declared.reader.IpfixShown.TheVariants as shown
 use Rattle.ioam_ipfix.specs.contracts.reader.IpfixReader.{the_row}
 use Rattle.ioam_ipfix.specs.Data.{data_at, HasRoom}
-use Rattle.ioam_ipfix.specs.Reading.{Reading, fed}
-use Rattle.ioam_ipfix.specs.Reader.{Stands, Tells}
+use Rattle.ioam_ipfix.specs.Reading.{Reading, fed, held, with_due}
+use Rattle.ioam_ipfix.specs.Reader.{Stands, GoesOver, Tells}
 
--- a record more was given: where one was due this one, and nothing else changed
+-- a record more was given: where one was due this one, and nothing else changed, and else the first of the last message
+-- that was taken then; as many octets are kept as before
 pub record Gives (old new : Reading) (x : Record) : Type 0 where
   pub fed : fed new ≡ fed old
+  pub held : held new ≡ held old
+  pub goes : GoesOver old new (x ∷ [])
   pub stands : (octets : List ℕ) (given : List Record) → Stands old octets given → Stands new octets (given ++ x ∷ [])
-  pub due : (y : Record) (ys : List Record) → old.due ≡ y ∷ ys → (x ≡ y) × (new ≡ record old { due = ys })
+  pub due : (y : Record) (ys : List Record) → old.due ≡ y ∷ ys → (x ≡ y) × (new ≡ with_due ys old)
 
 -- the octets begin with a data record of the template, which was given; without one it is as with every step
 abbrev pub Finds : Reading → Reading → IpfixShown → Type 0

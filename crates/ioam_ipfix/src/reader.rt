@@ -1,15 +1,14 @@
 //! Messages, read out of any pieces of them.
 
-ghost use Rattle.std.specs.Prelude.{◌≡◌, ◌+◌, ◌-◌, ◌≤◌, ◌<◌, ◌^◌, ◌++◌, [], List, ℕ, drop, length, vec_len, IfOk, MatchOption, OnErr, OnOk};
+ghost use Rattle.std.specs.Prelude.{◌≡◌, ◌+◌, ◌<◌, ◌^◌, ◌++◌, [], List, ℕ, length, IfOk, MatchOption, OnErr, OnOk};
 ghost use Rattle.std.specs.Borrow.{sem};
 
 use crate::data::read_data;
 use crate::fault::IpfixFault;
 use crate::message::{HeadStep, head_step, take_message};
 use crate::place::Place;
-use ioam_base::fed::PIECE;
+use ioam_base::fed::Fed;
 use ioam_base::memory::NoMemory;
-use ioam_base::octets::drop_front;
 use ioam_dex::Export;
 use std::alloc::Global;
 use std::marker::Model;
@@ -40,22 +39,6 @@ pub enum IpfixShown<'a> {
     Bad { at: u64, fault: IpfixFault },
 }
 
-/// Lets go of the octets in front of a place, once they are half a piece and as many as the others. Gives the place that it is
-// then.
-fn let_go(buffer: &mut Vec<u8>, from: usize) -> usize
-    requires { from ≤ vec_len buffer.old }
-    ensures rest { drop result buffer.new.items ≡ drop from buffer.old.items }
-    ensures inside { result + (vec_len buffer.old - from) ≡ vec_len buffer.new }
-    ensures few { result ≤ (vec_len buffer.old - from) + 32768 }
-{
-    let rest = buffer.len() - from;
-    if from < rest.max(PIECE / 2) {
-        return from;
-    }
-    drop_front(buffer, from);
-    0
-}
-
 // What stands behind the messages whose records were all given, or one of these that was taken.
 #[derive(Clone, Copy)]
 enum Found {
@@ -67,18 +50,14 @@ enum Found {
 
 /// Reads messages out of any pieces of them. Each is checked whole before its first record is given.
 ///
-/// It keeps the octets that were fed and not yet taken, those of the message whose records are due,
-/// and their places: less than two messages and one piece, where each piece is fed after `next`
-/// answered `More`. Of the octets of messages that were taken it keeps at most as many as are pending,
-/// twice the greatest message and 32,768.
+/// It keeps the octets that were fed and not yet taken, and those of messages that it took until it is
+/// fed again: then it keeps of these the message alone whose records are due, of 65,535 octets at most.
+/// So where each piece is fed after `next` answered `More` it keeps less than one message and one piece.
 #[derive(Drop)]
 pub struct IpfixReader {
-    buffer: Vec<u8>,
-    // where in the buffer the message begins whose records are due, and how many octets it has
-    from: usize,
+    octets: Fed,
+    // how many octets the message has that was taken last: the pending ones begin with it
     size: usize,
-    // the place in the input of the first octet behind it
-    start: u64,
     known: [bool; 8],
     // messages that were taken
     messages: u64,
@@ -88,33 +67,34 @@ pub struct IpfixReader {
 }
 
 impl Model for IpfixReader {
-    ghost use Rattle.std.specs.Prelude.{◌+◌, ◌-◌, ◌<◌, ◌≤◌, ◌^◌, take, drop, length, vec_capacity};
+    ghost use Rattle.std.specs.Prelude.{◌+◌, ◌<◌, ◌≤◌, ◌^◌, take, drop, length, vec_capacity};
     ghost use Rattle.ioam_ipfix.specs.Places.{AllPlaces, records_at};
-    ghost use Rattle.ioam_ipfix.specs.Reading.{Reading};
+    ghost use Rattle.ioam_ipfix.specs.Reading.{Reading, while_due};
 
     ghost Value = { Reading };
 
     ghost view = { λ r. record {
       known = r.known;
       messages = r.messages;
-      due = records_at (take r.size (drop r.from r.buffer.items)) (drop r.given r.places.items);
-      start = r.start;
-      pending = drop (r.from + r.size) r.buffer.items;
-      given = r.from + r.size;
+      due = records_at (take r.size r.octets.pending) (drop r.given r.places.items);
+      start = r.octets.start + r.size;
+      pending = drop r.size r.octets.pending;
+      given = length r.octets.given + r.size;
+      owed = while_due (records_at (take r.size r.octets.pending) (drop r.given r.places.items)) r.size;
     } };
 
-    ghost invariant = { λ r. (r.from + r.size ≤ length r.buffer.items)
-        × (r.start + (length r.buffer.items - (r.from + r.size)) < 2 ^ 63)
-        × (r.messages ≤ r.start)
+    ghost invariant = { λ r. (r.size ≤ length r.octets.pending)
+        × (r.octets.start + length r.octets.pending < 2 ^ 63)
+        × (r.messages ≤ r.octets.start + r.size)
         × (8192 ≤ vec_capacity r.places)
         × (r.given ≤ length r.places.items)
-        × AllPlaces (take r.size (drop r.from r.buffer.items)) (drop r.given r.places.items) };
+        × AllPlaces (take r.size r.octets.pending) (drop r.given r.places.items) };
 }
 
 impl IpfixReader {
     ghost use Rattle.ioam_ipfix.specs.declared.fault.IpfixFault.TheVariants.{Short};
     ghost use Rattle.ioam_dex.specs.Record.{Record};
-    ghost use Rattle.ioam_ipfix.specs.Reading.{fresh, fed, held};
+    ghost use Rattle.ioam_ipfix.specs.Reading.{fresh, fed, held, with_piece};
     ghost use Rattle.ioam_ipfix.specs.Reader.{Stands, Waits, KeepsFault, Advances, Steps, RestsSo, ReadsSo, ending_of};
     ghost use Rattle.ioam_ipfix.specs.Showing.{ShowsSo};
 
@@ -123,13 +103,11 @@ impl IpfixReader {
         ensures exact { IfOk result (λ reader. reader ≡ fresh) }
         ensures stands { IfOk result (λ reader. Stands reader [] []) }
     {
-        let buffer = Vec::with_capacity(alloc, PIECE)?;
+        let octets = Fed::new(alloc)?;
         let places = Vec::with_capacity(alloc, PLACES)?;
         Ok(IpfixReader {
-            buffer,
-            from: 0,
+            octets,
             size: 0,
-            start: 0,
             known: [false; 8],
             messages: 0,
             places,
@@ -141,7 +119,7 @@ impl IpfixReader {
     pub fn fed(&self) -> u64
         ensures { result ≡ fed self.now }
     {
-        self.start + (self.buffer.len() - (self.from + self.size)) as u64
+        self.octets.fed()
     }
 
     /// How many messages were taken: with a record just given its own is the last of them.
@@ -151,21 +129,42 @@ impl IpfixReader {
         self.messages
     }
 
-    /// Feeds the next octets of the input, of which there are below 2^63 in all.
+    // The place in the input of the first octet behind the message that was taken last.
+    fn start(&self) -> u64
+        ensures { result ≡ self.now.start }
+    {
+        self.octets.start() + self.size as u64
+    }
+
+    // How many octets the message has whose records are due.
+    fn owed(&self) -> usize
+        ensures { result ≡ self.now.owed }
+    {
+        if self.given < self.places.len() {
+            self.size
+        } else {
+            0
+        }
+    }
+
+    /// Feeds the next octets of the input, of which there are below 2^63 in all. Of the octets of
+    /// messages that it took it keeps those alone of the message whose records are due.
     pub fn feed(&mut self, piece: &[u8]) -> Result<(), NoMemory>
         requires { fed self.old + length piece.now < 2 ^ 63 }
-        ensures ok { OnOk result (self.new
-            ≡ record self.old { pending = self.old.pending ++ piece.now }) }
+        ensures ok { OnOk result (self.new ≡ with_piece piece.now self.old) }
         ensures stands { OnOk result ((octets : List ℕ) (given : List Record)
             → Stands self.old octets given
             → Stands self.new (octets ++ piece.now) given) }
         // A fault of what is due stays, whatever is fed.
         ensures faulty { OnOk result (KeepsFault self.old self.new) }
         ensures err { OnErr result (self.new ≡ self.old) }
-        // What it keeps grows by the piece alone.
-        ensures held { OnOk result (held self.new ≡ held self.old + length piece.now) }
+        // It keeps the message whose records are due, what was pending and the piece.
+        ensures held { OnOk result (held self.new ≡ self.old.owed + length self.old.pending + length piece.now) }
     {
-        self.buffer.extend_from_slice(piece)?;
+        let owed = self.owed();
+        self.octets.take(self.size - owed);
+        self.size = owed;
+        self.octets.feed(piece)?;
         Ok(())
     }
 
@@ -174,21 +173,19 @@ impl IpfixReader {
         requires { self.old.due ≡ [] }
         ensures { Steps self.old self.new result }
     {
-        self.from += self.size;
+        self.octets.take(self.size);
         self.size = 0;
         self.places.clear();
         self.given = 0;
-        match head_step(&self.buffer[self.from..]) {
+        let pending = self.octets.pending();
+        match head_step(pending) {
             HeadStep::Cut => Found::More,
             HeadStep::Bad(fault) => Found::Bad(fault),
             HeadStep::Whole(size) => {
-                let message = &self.buffer[self.from..self.from + size];
-                match take_message(message, self.known, &mut self.places) {
+                match take_message(&pending[..size], self.known, &mut self.places) {
                     Ok(known) => {
-                        self.from = let_go(&mut self.buffer, self.from);
                         self.known = known;
                         self.size = size;
-                        self.start += size as u64;
                         self.messages += 1;
                         Found::Taken
                     }
@@ -226,14 +223,14 @@ impl IpfixReader {
             Found::Due => {
                 let place = self.places[self.given];
                 self.given += 1;
-                let from = self.from + usize::from(place.from);
-                let to = self.from + usize::from(place.to);
-                IpfixStep::Export(read_data(place.id, &self.buffer[from..to]))
+                let from = usize::from(place.from);
+                let to = usize::from(place.to);
+                IpfixStep::Export(read_data(place.id, &self.octets.pending()[from..to]))
             }
             Found::Taken => IpfixStep::More,
             Found::More => IpfixStep::More,
             Found::Bad(fault) => IpfixStep::Bad {
-                at: self.start,
+                at: self.start(),
                 fault,
             },
         }
@@ -247,17 +244,17 @@ impl IpfixReader {
             Found::Due => {
                 let place = self.places[self.given];
                 self.given += 1;
-                let from = self.from + usize::from(place.from);
-                let to = self.from + usize::from(place.to);
+                let from = usize::from(place.from);
+                let to = usize::from(place.to);
                 IpfixShown::Record {
                     id: place.id,
-                    octets: &self.buffer[from..to],
+                    octets: &self.octets.pending()[from..to],
                 }
             }
             Found::Taken => IpfixShown::More,
             Found::More => IpfixShown::More,
             Found::Bad(fault) => IpfixShown::Bad {
-                at: self.start,
+                at: self.start(),
                 fault,
             },
         }
@@ -273,10 +270,10 @@ impl IpfixReader {
         ensures reads { (octets : List ℕ) (given : List Record) → Stands self.now octets given
             → ReadsSo octets given (ending_of result) }
     {
-        let have = self.buffer.len() - (self.from + self.size);
+        let have = self.octets.pending().len() - self.size;
         if have == 0 {
             return None;
         }
-        Some((self.start, IpfixFault::Short { have: have as u32 }))
+        Some((self.start(), IpfixFault::Short { have: have as u32 }))
     }
 }

@@ -1,74 +1,68 @@
 -- How a reader of messages goes on.
-use Rattle.std.proofs.Common.{◌≡◌, ℕ, ◌+◌, List, [], ◌∷◌, ◌++◌, length, length-append, refl, sym, ap, ◌∙◌, inl, inr, append_assoc, arith}
+use Rattle.std.proofs.Common.{◌≡◌, ℕ, ◌+◌, ◌<◌, ◌≤◌, List, [], ◌∷◌, ◌++◌, length, take, drop, length-append, length-drop, refl, sym, ap, ◌∙◌, subst, append_assoc, arith}
+use Rattle.std.proofs.lemmas.List.{take-append-drop, take-append-le, length-take-le}
 use Rattle.ioam_base.specs.Chain.{Chain}
 use Rattle.ioam_dex.specs.Record.{Record}
 use Rattle.ioam_ipfix.specs.Messages.{joined, MessagePasses}
-use Rattle.ioam_ipfix.specs.Reading.{Reading, fed, place_of}
-use Rattle.ioam_ipfix.specs.Reader.{Stands, Waits, IsFaulty}
-use Rattle.ioam_ipfix.specs.declared.fault.IpfixFault.{IpfixFault}
-use Rattle.ioam_ipfix.specs.Sets.{spot}
-use Rattle.ioam_ipfix.specs.Templates.{none_known}
-use Rattle.ioam_ipfix.proofs.MessageLaws.{fault-stops, cut-stops}
-use Rattle.ioam_run_ipfix.specs.TakeSteps.{Goes}
-use Rattle.ioam_run_ipfix.proofs.MessagesLaws.{compare, joined-append, joined-longer}
+use Rattle.ioam_ipfix.specs.Reading.{Reading, place_of}
+use Rattle.ioam_ipfix.specs.Reader.{GoesOver, Stands}
+use Rattle.ioam_ipfix.specs.Sets.{Spot}
+use Rattle.ioam_run_ipfix.proofs.MessagesLaws.{joined-append, joined-longer}
+use Rattle.ioam_run_ipfix.proofs.SizeLaws.{chain-append, chain-split}
 
--- all messages that a reader took
-abbrev pub all_of : {reader : Reading} {octets : List ℕ} {given : List Record} → Stands reader octets given → List (List Record)
-all_of stands = stands.before ++ stands.last
-
--- their records were given, or are due
+-- all records of the messages that a reader took were given, or are due
 pub all-given : (reader : Reading) (octets : List ℕ) (given : List Record) (stands : Stands reader octets given) → joined (stands.before ++ stands.last) ≡ given ++ reader.due
 all-given reader octets given stands = joined-append stands.before stands.last ∙ ap (λ xs. joined stands.before ++ xs) (sym stands.owes)
     ∙ sym (append_assoc (joined stands.before) stands.here reader.due) ∙ ap (λ xs. xs ++ reader.due) (sym stands.gave)
 
-module _ (old new : Reading) (given : List Record) (octets : List ℕ) (before : List Record) (stood : Stands old octets before)
-    (stands : (o : List ℕ) (g : List Record) → Stands old o g → Stands new o (g ++ given)) (same_fed : fed new ≡ fed old)
-    (due : (x : Record) (xs : List Record) → old.due ≡ x ∷ xs → (given ≡ x ∷ []) × (new ≡ record old { due = xs })) where
-  -- where no record was due, it can't have gone back
-  goes-by : (rest : List Record) → old.due ≡ rest
-      → ((next : List Record) (more : List (List Record)) → stood.before ++ stood.last ≡ ((stands octets before stood).before ++ (stands octets before stood).last) ++ next ∷ more
-      → Chain MessagePasses (place_of new) (next ∷ more) (place_of old) → old.due ≡ [] → ⊥)
-      → Goes old new given
-  goes-by [] none back =
-      let now = stands octets before stood in
-      elim (compare (spot none_known octets) (stood.before ++ stood.last) (place_of old) (now.before ++ now.last) (place_of new) stood.leads now.leads) [
-        | inl (more, is, leads) ↦ record {
-          messages = more;
-          leads = leads;
-          count = let had = stood.count in let has = now.count in let sizes = ap length is in let parts = length-append (stood.before ++ stood.last) more in
-              omega (arith, had, has, sizes, parts);
-          due = inl none;
-          fed = same_fed;
-          stands = stands;
+none-long : (xs : List Record) → length xs ≤ 0 → xs ≡ []
+none-long [] short = refl
+none-long (x ∷ xs) short = absurd (omega (arith, short))
+
+-- the first ones of messages without a record have none
+bare-front : (count : ℕ) (before : List (List Record)) → joined before ≡ [] → joined (take count before) ≡ []
+bare-front count before bare =
+    let longer = joined-longer (take count before) (drop count before) in
+    let same = ap (λ xss. length (joined xss)) (take-append-drop count before) in
+    let none = ap length bare in
+    none-long (joined (take count before)) (omega (arith, longer, same, none))
+
+-- of the messages that it went over so many first ones, which have no record, and another behind them
+pub record Further (a : Spot) (count : ℕ) : Type 0 where
+  pub front : List (List Record)
+  pub next : List Record
+  pub place : Spot
+  pub leads : Chain MessagePasses a (front ++ next ∷ []) place
+  pub size : length front ≡ count
+  pub bare : joined front ≡ []
+
+pub goes-further : (old new : Reading) (given : List Record) (count : ℕ) (goes : GoesOver old new given) → count < length (goes.before ++ goes.last) → Further (place_of old) count
+goes-further old new given count goes more = by-rest (drop count all) refl
+  where
+    all : List (List Record)
+    all = goes.before ++ goes.last
+
+    within : count ≤ length goes.before
+    within = let single = goes.single in omega (arith, more, single, length-append goes.before goes.last)
+
+    front : List (List Record)
+    front = take count all
+
+    front-is : front ≡ take count goes.before
+    front-is = take-append-le count goes.before goes.last within
+
+    by-rest : (rest : List (List Record)) → drop count all ≡ rest → Further (place_of old) count
+    by-rest [] none = let left = length-drop count all in let size = ap length none in absurd (omega (arith, left, size, more))
+    by-rest (next ∷ rest) is =
+        let parts : all ≡ front ++ next ∷ rest = sym (take-append-drop count all) ∙ ap (λ xss. front ++ xss) is in
+        let split = chain-split (place_of old) front (next ∷ rest) (place_of new)
+        (subst (λ xss. Chain MessagePasses (place_of old) xss (place_of new)) parts goes.leads) in
+        let here = split.2 in
+        record {
+          front = front;
+          next = next;
+          place = here.0;
+          leads = chain-append (place_of old) front split.0 (next ∷ []) here.0 split.1 (here.0, here.1, refl);
+          size = length-take-le count all (omega (arith, more));
+          bare = ap joined front-is ∙ bare-front count goes.before goes.bare;
         }
-        | inr (next, more, is, leads) ↦ absurd (back next more is leads none)
-      ]
-  goes-by (x ∷ xs) is back =
-      let same = (due x xs is).1 in record {
-        messages = [];
-        leads = sym (ap place_of same);
-        count = ap (λ (r : Reading). r.messages) same ∙ (let none : old.messages ≡ old.messages + 0 = omega arith in none);
-        due = inr (ap (λ (r : Reading). r.messages) same);
-        fed = same_fed;
-        stands = stands;
-      }
-
-  pub goes-export : (x : Record) → given ≡ x ∷ [] → Goes old new given
-  goes-export x one = goes-by old.due refl (λ next more is leads none.
-      let now = stands octets before stood in
-      let had = ap length (all-given old octets before stood) in
-      let has = ap length (all-given new octets (before ++ given) now) in
-      let longer = joined-longer (now.before ++ now.last) (next ∷ more) in
-      let same = ap (λ xss. length (joined xss)) is in
-      let size_had = length-append before old.due in
-      let nothing = ap length none in
-      let size_has = length-append (before ++ given) new.due in
-      let size_given = length-append before given in
-      let some = ap length one in
-      omega (arith, had, has, longer, same, size_had, nothing, size_has, size_given, some))
-
-  pub goes-more : Waits new → Goes old new given
-  goes-more waits = goes-by old.due refl (λ next more is leads none. cut-stops (place_of new) waits.1 next leads.0 leads.1)
-
-  pub goes-bad : (f : IpfixFault) → IsFaulty new f → Goes old new given
-  goes-bad f bad = goes-by old.due refl (λ next more is leads none. fault-stops (place_of new) f bad.1 next leads.0 leads.1)

@@ -6,12 +6,12 @@ mod FewLaws
 mod GoesLaws
 mod IpfixLaws
 mod MessagesLaws
-mod NearLaws
 mod OpeningLaws
 mod PackEndLaws
 mod PackStepLaws
 mod PackingLaws
 mod RecordsLaws
+mod SizeLaws
 mod StreamLaws
 mod TakeEndLaws
 mod TakeStepLaws

@@ -95,7 +95,6 @@ begun tells start inputs outs slot reader given tellers handed is none said =
       few = none-few;
       count = none;
       few_messages = omega arith;
-      near = inl (omega arith);
       small = λ i. omega arith;
       said = said;
     })

@@ -19,7 +19,7 @@ use Rattle.ioam_run_ipfix.specs.Streams.{Start}
 use Rattle.ioam_run_ipfix.specs.TakeSteps.{Feeds, IsTaking, Halts, end_of}
 use Rattle.ioam_run_ipfix.proofs.GoesLaws.{all-given}
 use Rattle.ioam_run_ipfix.proofs.MessagesLaws.{stop-front}
-use Rattle.ioam_run_ipfix.proofs.NearLaws.{octets-append, near-fed, reader-room}
+use Rattle.ioam_run_ipfix.proofs.SizeLaws.{octets-append, reader-room}
 use Rattle.ioam_run_ipfix.proofs.StreamLaws.{Handed-more, Handed-all, is_content, said-same}
 
 module _ (tells : Bool) (start : Start) (inputs : desk.Reading) (outs : Writing) (slot : ℕ) (reader : Reading) (given : ℕ) (tellers : List Output)
@@ -29,21 +29,20 @@ module _ (tells : Bool) (start : Start) (inputs : desk.Reading) (outs : Writing)
   taking-room waits = reader-room reader takes.octets takes.records takes.stands takes.small takes.few_messages waits
 
   -- a piece more was fed
-  pub taking-fed : (new : desk.Reading) (now_outs : Writing) (now : Reading) (piece : List ℕ) → Waits reader → now_outs ≡ outs → length piece ≤ 65536
+  pub taking-fed : (new : desk.Reading) (now_outs : Writing) (now : Reading) (piece : List ℕ) → now_outs ≡ outs
       → desk.Gives tells inputs new slot piece → Feeds reader now piece → IsTaking tells start new now_outs slot now given tellers
-  taking-fed new now_outs now piece waits same few gives feeds =
-      let messages = ap (λ (r : Reading). r.messages) feeds.0.0 in
+  taking-fed new now_outs now piece same gives feeds =
+      let messages = ap (λ (r : Reading). r.messages) feeds.0 in
       record {
         octets = takes.octets ++ piece;
         records = takes.records;
-        stands = feeds.0.2 takes.octets takes.records takes.stands;
+        stands = feeds.2 takes.octets takes.records takes.stands;
         handed = Handed-more tells start.content inputs new slot takes.octets piece gives takes.handed;
         each = takes.each;
         few = takes.few;
         count = takes.count;
         few_messages = let had = takes.few_messages in omega (arith, messages, had);
-        near = near-fed reader now piece waits feeds few;
-        small = octets-append takes.octets piece takes.small feeds.0.1;
+        small = octets-append takes.octets piece takes.small feeds.1;
         said = said-same tells start outs now_outs tellers (records_octets takes.records) same takes.said;
       }
 

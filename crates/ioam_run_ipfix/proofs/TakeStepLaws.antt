@@ -1,5 +1,5 @@
 -- Steps of a reader of messages whose records are told.
-use Rattle.std.proofs.Common.{◌≡◌, ℕ, ◌+◌, ◌<◌, ◌≤◌, Bool, IsTrue, IsSomeAnd, List, [], ◌∷◌, ◌++◌, length, Some, refl, sym, ap, ◌∙◌, subst, inl, inr, append-nil, append_assoc, length-append, arith}
+use Rattle.std.proofs.Common.{◌≡◌, ℕ, ◌+◌, ◌-◌, ◌<◌, ◌≤◌, Bool, IsTrue, IsSomeAnd, List, [], ◌∷◌, ◌++◌, length, Some, refl, sym, ap, ◌∙◌, subst, inl, inr, append-nil, append_assoc, length-append, arith}
 use Rattle.std.proofs.lemmas.List.Elements.{All-push}
 use Rattle.ioam_base.specs.Chain.{Chain}
 use Rattle.ioam_base.specs.Octets.{IsFront}
@@ -26,18 +26,13 @@ use Rattle.ioam_run_ipfix.specs.Texts.{AreRecords}
 use Rattle.ioam_run_ipfix.specs.declared.records_stream.Pause.{Pause}
 use Rattle.ioam_run_ipfix.specs.declared.records_stream.Pause.TheVariants as pause
 use Rattle.ioam_run_ipfix.specs.declared.records_stream.Taker.{Taker}
-use Rattle.ioam_run_ipfix.proofs.GoesLaws.{all-given}
-use Rattle.ioam_run_ipfix.proofs.NearLaws.{chain-append, near-goes, near-one}
+use Rattle.ioam_run_ipfix.proofs.GoesLaws.{all-given, goes-further}
+use Rattle.ioam_run_ipfix.proofs.MessagesLaws.{joined-append}
+use Rattle.ioam_run_ipfix.proofs.SizeLaws.{chain-append}
 use Rattle.ioam_run_ipfix.proofs.StreamLaws.{Frames-written, of_content, said-adds, said-text, said-front, said-open, said-one, said-flushed, front-flushed, sticks-by}
 
 octets-push : (records : List Record) (x : Record) → records_octets records ++ record_octets x ≡ records_octets (records ++ x ∷ [])
 octets-push records x = sym (records_octets-append records (x ∷ []) ∙ ap (λ o. records_octets records ++ o) (append-nil (record_octets x)))
-
--- the one message of a list
-one-of : (messages : List (List Record)) → length messages ≡ 1 → (next : List Record) × (messages ≡ next ∷ [])
-one-of [] one = absurd (omega (arith, one))
-one-of (x ∷ []) one = (x, refl)
-one-of (x ∷ y ∷ messages) one = absurd (omega (arith, one))
 
 -- messages stand at the front of all that begins so
 pub begins-behind : (octets rest : List ℕ) (messages : List (List Record)) (place : Spot) → BeginSo octets messages place → BeginSo (octets ++ rest) messages (spot place.known (place.octets ++ rest))
@@ -60,7 +55,6 @@ module _ (tells : Bool) (start : Start) (inputs : desk.Reading) (outs : Writing)
         few = omega (arith, size, count, room);
         count = omega (arith, counted, count, size);
         few_messages = few;
-        near = near-goes old new (x ∷ []) takes.near goes;
         small = takes.small;
         said = said-text tells start outs now (records_octets takes.records ++ record_octets x) (records_octets (takes.records ++ x ∷ [])) (octets-push takes.records x)
             (said-adds tells start outs tellers now (records_octets takes.records) (record_octets x) takes.said more);
@@ -81,7 +75,6 @@ module _ (tells : Bool) (start : Start) (inputs : desk.Reading) (outs : Writing)
         few = takes.few;
         count = takes.count;
         few_messages = takes.few_messages;
-        near = takes.near;
         small = takes.small;
         said = said-flushed tells start outs now_outs tellers now told (records_octets takes.records) takes.said;
       })
@@ -130,27 +123,32 @@ module _ (tells : Bool) (start : Start) (inputs : desk.Reading) (outs : Writing)
   -- a message too many
   before-by : (new : Reading) (xs : List Record) → most_messages < new.messages → Goes old new xs → (rest : List ℕ) → AreBefore takes.records (takes.octets ++ rest)
   before-by new xs many goes rest =
-      let one = near-one old new xs takes.near goes takes.few_messages many in
-      let next = one-of goes.messages one.0 in
       let all : List (List Record) = takes.stands.before ++ takes.stands.last in
-      let leads : Chain MessagePasses (place_of old) (next.0 ∷ []) (place_of new) = subst (λ ms. Chain MessagePasses (place_of old) ms (place_of new)) next.1 goes.leads in
       let count = takes.stands.count in
-      let went = goes.count in
-      let nothing : old.due ≡ [] = elim goes.due [
+      let had = takes.few_messages in
+      let went = goes.over.count in
+      let more : most_messages - length all < length (goes.over.before ++ goes.over.last) = omega (arith, count, went, many, had) in
+      let further = goes-further old new xs (most_messages - length all) goes.over more in
+      let size_front = further.size in
+      let nothing : old.due ≡ [] = elim goes.over.still [
         | inl none ↦ none
-        | inr same ↦ absurd (omega (arith, same, went, one.0))
+        | inr none ↦ let size = ap length none in absurd (omega (arith, size, more))
       ] in
-      let are : takes.records ≡ joined all = sym (append-nil takes.records) ∙ ap (λ ys. takes.records ++ ys) (sym nothing) ∙ sym (all-given old takes.octets takes.records takes.stands) in
+      let are : takes.records ≡ joined (all ++ further.front) =
+      sym (append-nil takes.records) ∙ ap (λ ys. takes.records ++ ys) (sym nothing) ∙ sym (all-given old takes.octets takes.records takes.stands)
+      ∙ sym (append-nil (joined all)) ∙ ap (λ ys. joined all ++ ys) (sym further.bare) ∙ sym (joined-append all further.front) in
       let few = takes.few in
       let size = ap length are in
+      let leads : Chain MessagePasses (spot none_known takes.octets) ((all ++ further.front) ++ further.next ∷ []) further.place =
+      subst (λ ms. Chain MessagePasses (spot none_known takes.octets) ms further.place) (sym (append_assoc all further.front (further.next ∷ [])))
+      (chain-append (spot none_known takes.octets) all (place_of old) (further.front ++ further.next ∷ []) further.place takes.stands.leads further.leads) in
       record {
         crowded = record {
-          messages = all;
-          next = next.0;
-          rest = spot new.known (new.pending ++ rest);
-          begins = begins-behind takes.octets rest (all ++ next.0 ∷ []) (place_of new)
-              (chain-append (spot none_known takes.octets) all (place_of old) (next.0 ∷ []) (place_of new) takes.stands.leads leads);
-          all = omega (arith, count, one.1);
+          messages = all ++ further.front;
+          next = further.next;
+          rest = spot further.place.known (further.place.octets ++ rest);
+          begins = begins-behind takes.octets rest ((all ++ further.front) ++ further.next ∷ []) further.place leads;
+          all = omega (arith, count, had, size_front, length-append all further.front);
           few = omega (arith, few, size);
         };
         are = are;
@@ -195,7 +193,6 @@ module _ (tells : Bool) (start : Start) (inputs : desk.Reading) (outs : Writing)
         few = takes.few;
         count = takes.count;
         few_messages = steps.1;
-        near = near-goes old new [] takes.near goes;
         small = takes.small;
         said = takes.said;
       } in

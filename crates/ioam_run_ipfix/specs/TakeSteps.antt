@@ -1,6 +1,5 @@
 -- IN that is read in pieces while the records of its messages are written.
-use Rattle.std.specs.Prelude.{◌≡◌, ℕ, ◌+◌, ◌*◌, ◌<◌, ◌≤◌, ◌⊎◌, Bool, IsTrue, IsSomeAnd, All, List, [], ◌∷◌, ◌++◌, length, Option, Some, None}
-use Rattle.ioam_base.specs.Chain.{Chain}
+use Rattle.std.specs.Prelude.{◌≡◌, ℕ, ◌+◌, ◌<◌, ◌≤◌, Bool, IsTrue, IsSomeAnd, All, List, [], ◌∷◌, ◌++◌, length, Option, Some, None}
 use Rattle.ioam_base.specs.Octets.{IsOctets}
 use Rattle.ioam_desk.specs.Desk as desk
 use Rattle.ioam_desk.specs.Desk.{Writing}
@@ -8,11 +7,10 @@ use Rattle.ioam_desk_outputs.specs.Told.{Adds}
 use Rattle.ioam_desk_outputs.specs.declared.output.Output.{Output}
 use Rattle.ioam_dex.specs.Record.{Record, IsRecord, record_octets}
 use Rattle.ioam_dex.specs.Reads.{records_octets}
-use Rattle.ioam_ipfix.specs.Messages.{joined, MessagePasses}
+use Rattle.ioam_ipfix.specs.Messages.{joined}
 use Rattle.ioam_ipfix.specs.Reads.{Faulty, Reads}
-use Rattle.ioam_ipfix.specs.Reading.{Reading, fed, place_of}
-use Rattle.ioam_ipfix.specs.Reader.{Stands, Waits}
-use Rattle.ioam_ipfix.specs.Sets.{Spot}
+use Rattle.ioam_ipfix.specs.Reading.{Reading, fed, with_piece}
+use Rattle.ioam_ipfix.specs.Reader.{GoesOver, Stands, Waits}
 use Rattle.ioam_ipfix.specs.declared.fault.IpfixFault.{IpfixFault}
 use Rattle.ioam_run_answer.specs.declared.outcome.Outcome.{Outcome}
 use Rattle.ioam_run_answer.specs.declared.outcome.Outcome.TheVariants as outcome
@@ -25,34 +23,18 @@ use Rattle.ioam_run_ipfix.specs.declared.records_stream.Pause.TheVariants as pau
 use Rattle.ioam_run_ipfix.specs.declared.records_stream.Shown.{Shown}
 use Rattle.ioam_run_ipfix.specs.declared.records_stream.Shown.TheVariants as shown
 
--- octets more were fed to the reader
-abbrev pub IsFed : Reading → Reading → List ℕ → Type 0
-IsFed old new piece = (new ≡ record old { pending = old.pending ++ piece }) × IsOctets piece
-    × ((octets : List ℕ) (given : List Record) → Stands old octets given → Stands new (octets ++ piece) given)
-
--- a piece more was: one octet at most, where a whole one could hold more messages than may still be read
+-- a piece more was fed to the reader
 abbrev pub Feeds : Reading → Reading → List ℕ → Type 0
-Feeds old new piece = IsFed old new piece × ((old.messages + 8192 ≤ 67108865) ⊎ (length piece ≤ 1))
+Feeds old new piece = (new ≡ with_piece piece old) × IsOctets piece
+    × ((octets : List ℕ) (given : List Record) → Stands old octets given → Stands new (octets ++ piece) given)
 
 -- there is room for a record
 abbrev pub HasRoom : Taker → Type 0
 HasRoom taker = taker.room.spare + length taker.room.octets ≡ 274
 
--- no more than one message stands at a place
-abbrev pub IsAlone : Spot → Type 0
-IsAlone place = (messages : List (List Record)) (behind : Spot) → Chain MessagePasses place messages behind → length messages ≤ 1
-
--- Of the octets that are there, of 16 at least a message, none makes the messages more than may be; or they are one message
--- at most.
-abbrev pub IsNear : Reading → Type 0
-IsNear reader = (16 * reader.messages + length reader.pending ≤ 16 * most_messages) ⊎ IsAlone (place_of reader)
-
--- The reader went on over these messages, at its place, and gave these records. Where a record was due before, it took none.
+-- the reader went on over messages, and gave these records
 pub record Goes (old new : Reading) (given : List Record) : Type 0 where
-  pub messages : List (List Record)
-  pub leads : Chain MessagePasses (place_of old) messages (place_of new)
-  pub count : new.messages ≡ old.messages + length messages
-  pub due : (old.due ≡ []) ⊎ (new.messages ≡ old.messages)
+  pub over : GoesOver old new given
   pub fed : fed new ≡ fed old
   pub stands : (octets : List ℕ) (before : List Record) → Stands old octets before → Stands new octets (before ++ given)
 
@@ -97,7 +79,6 @@ module _ (tells : Bool) (start : Start) where
     pub few : AreFew records
     pub count : given ≡ length records
     pub few_messages : reader.messages ≤ most_messages
-    pub near : IsNear reader
     pub small : IsOctets octets
     pub said : IsSaid tells start outs tellers (records_octets records)
 

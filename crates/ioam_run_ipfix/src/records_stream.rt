@@ -1,5 +1,5 @@
 //! IN, read in pieces while the records of its messages are written.
-ghost use Rattle.std.specs.Prelude.{◌≡◌, ◌+◌, ◌<◌, ◌≤◌, ◌^◌, ◌⊎◌, ◌∷◌, [], ℕ, List, IfOk, IfErr, IsSomeAnd, IsTrue, OnErr, OnOk, Some, length};
+ghost use Rattle.std.specs.Prelude.{◌≡◌, ◌+◌, ◌<◌, ◌≤◌, ◌^◌, ◌∷◌, [], ℕ, List, IfOk, IfErr, IsSomeAnd, IsTrue, OnErr, OnOk, Some, length};
 ghost use Rattle.ioam_ipfix.specs.Reader.{Stands};
 ghost use Rattle.ioam_ipfix.specs.Reading.{fed};
 ghost use Rattle.ioam_dex.specs.Record.{Record};
@@ -9,7 +9,7 @@ ghost use Rattle.ioam_run_ipfix.specs.Ends.{IsBroken, RecordsEnds};
 ghost use Rattle.ioam_run_ipfix.specs.Messages.{AreFirst};
 ghost use Rattle.ioam_run_ipfix.specs.Texts.{AreRecords};
 ghost use Rattle.ioam_run_ipfix.specs.Streams.{Frames, IsSaid, Refills, Start, Sticks};
-ghost use Rattle.ioam_run_ipfix.specs.TakeSteps.{Feeds, Halts, HasRoom, IsFed, Pauses, Shows, Steps, TakesSo, end_of};
+ghost use Rattle.ioam_run_ipfix.specs.TakeSteps.{Feeds, Halts, HasRoom, Pauses, Shows, Steps, TakesSo, end_of};
 
 use crate::ipfix_stream::MOST_RECORDS;
 use ioam_base::memory::NoMemory;
@@ -22,9 +22,6 @@ use ioam_run_answer::Outcome;
 
 /// The most messages that are read: one with templates, and one for each of the most records.
 const MOST_MESSAGES: u32 = 67_108_865;
-
-/// So many messages, of 16 octets at least, stand at most in a piece of 65,536 octets and the front of a message of 65,535.
-const MOST_IN_PIECES: u64 = 8_192;
 
 /// IN, room for a record of it, and how many records were given.
 #[derive(Drop)]
@@ -60,7 +57,6 @@ pub(crate) enum Shown {
 // Puts the octets of the next record into the room, if there is one.
 fn show(reader: &mut IpfixReader, room: &mut ExportRoom) -> Shown
     requires room { room.old.spare + length room.old.octets ≡ 274 }
-    requires stands { (octets : List ℕ) × (given : List Record) × Stands reader.old octets given }
     ensures shows { Shows reader.old reader.new room.new.octets result }
     ensures room { room.new.spare + length room.new.octets ≡ 274 }
 {
@@ -78,7 +74,6 @@ fn show(reader: &mut IpfixReader, room: &mut ExportRoom) -> Shown
 // Takes the next record that the octets fed so far show. The answer is None where one was taken. The count of messages is
 // looked at first: a message in front of its records, also of one that is faulty behind others without a record.
 fn step(taker: &mut Taker, outputs: &mut [Output]) -> Result<Option<Pause>, NoMemory>
-    requires stands { (octets : List ℕ) × (given : List Record) × Stands taker.old.reader octets given }
     requires room { HasRoom taker.old }
     requires few { taker.old.given ≤ 67108864 }
     requires width { length outputs.old ≡ 1 }
@@ -104,29 +99,15 @@ fn step(taker: &mut Taker, outputs: &mut [Output]) -> Result<Option<Pause>, NoMe
     }
 }
 
-// How many octets are read at most. Where a piece could hold more messages than may still be read it is one octet, so that
-// no step of the reader takes more than one message.
-fn most_read(reader: &IpfixReader) -> usize
-    requires few { reader.now.messages ≤ 67108865 }
-    ensures some { (0 < result) × (result ≤ PIECE) }
-    ensures near { (reader.now.messages + 8192 ≤ 67108865) ⊎ (result ≤ 1) }
-{
-    if reader.messages() + MOST_IN_PIECES <= u64::from(MOST_MESSAGES) {
-        PIECE
-    } else {
-        1
-    }
-}
-
-// Feeds the next octets of the input.
+// Feeds the next piece of the input.
 fn feed(reader: &mut IpfixReader, piece: &[u8]) -> Result<(), NoMemory>
     requires fits { fed reader.old + length piece.now < 2 ^ 63 }
-    ensures { OnOk result (IsFed reader.old reader.new piece.now) }
+    ensures { OnOk result (Feeds reader.old reader.new piece.now) }
 {
     reader.feed(piece)
 }
 
-// Reads the next octets of the input into a buffer, and feeds them. The answer is false exactly where the input has ended.
+// Reads the next piece of the input into a buffer, and feeds it. The answer is false exactly where the input has ended.
 fn refill<D: Desk>(
     reader: &mut IpfixReader,
     slot: u32,
@@ -135,13 +116,11 @@ fn refill<D: Desk>(
 ) -> Result<bool, DeskFault>
     requires open { slot < (D.reading desk.old).side.slots }
     requires room { length piece.old ≡ PIECE }
-    requires few { reader.old.messages ≤ 67108865 }
     requires fits { fed reader.old + PIECE < 2 ^ 63 }
     ensures read { Refills D.tells (D.reading desk.old) (D.reading desk.new) slot 65536 (Feeds reader.old reader.new) (reader.new ≡ reader.old) result }
     ensures outputs { D.writing desk.new ≡ D.writing desk.old }
 {
-    let most = most_read(reader);
-    let count = desk.read(slot, &mut piece[..most])?;
+    let count = desk.read(slot, piece)?;
     if count == 0 {
         return Ok(false);
     }

@@ -33,11 +33,6 @@ refill-requires-clause-fits g c =
           c.take_shown.new.taker.reader c.take_shown.new.taker.given c.take_shown.new.outputs paused.0.0 paused.1,
     )
 
-pub refill-requires-clause-few : goal.refill-requires-clause-few
-refill-requires-clause-few g c =
-    let paused = rw c.in-Ok-More.field-0-is at c.in-Ok-More.ensures.paused in
-    paused.0.0.few_messages
-
 pub pieces-smaller : goal.pieces-smaller
 pieces-smaller g c =
     let paused = rw c.in-Ok-More.field-0-is at c.in-Ok-More.ensures.paused in
@@ -48,7 +43,7 @@ pieces-smaller g c =
           c.take_shown.new.taker.reader c.take_shown.new.taker.given c.take_shown.new.outputs paused.0.0 paused.1,
       c.in-Ok-More.ensures.fed,
       feeds.1,
-      ap fed feeds.4.0.0,
+      ap fed feeds.4.0,
       length-append c.take_shown.new.taker.reader.pending feeds.0,
     )
 
@@ -60,7 +55,7 @@ pieces-preserved g c =
       takes = (
         taking-fed g.D.Desk.tells g.start (g.D.Desk.reading c.take_shown.new.desk) (g.D.Desk.writing c.take_shown.new.desk) c.take_shown.new.taker.slot
             c.take_shown.new.taker.reader c.take_shown.new.taker.given c.take_shown.new.outputs paused.0.0 (g.D.Desk.reading c.refill.new.desk) (g.D.Desk.writing c.refill.new.desk)
-            c.refill.new.reader feeds.0 paused.1 c.refill.ensures.outputs feeds.2 feeds.3 feeds.4,
+            c.refill.new.reader feeds.0 c.refill.ensures.outputs feeds.3 feeds.4,
         paused.0.1,
       );
       waiting = c.in-Ok-More.ensures.waiting;

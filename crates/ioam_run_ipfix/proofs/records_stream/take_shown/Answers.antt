@@ -16,9 +16,6 @@ records-init g c = record {
   frames = Frames-same g.start.base c.args.taker.now.slot (g.D.Desk.reading c.args.desk.now) _ (g.D.Desk.writing c.args.desk.now) _ refl refl;
 }
 
-pub step-requires-clause-stands : goal.step-requires-clause-stands
-step-requires-clause-stands g c = let takes = c.records.invariant.takes.0 in (takes.octets, takes.records, takes.stands)
-
 pub step-requires-clause-few : goal.step-requires-clause-few
 step-requires-clause-few g c = taking-few g.D.Desk.tells g.start (g.D.Desk.reading c.records.desk) (g.D.Desk.writing c.records.desk) c.records.taker.slot c.records.taker.reader
     c.records.taker.given c.records.outputs c.records.invariant.takes.0
