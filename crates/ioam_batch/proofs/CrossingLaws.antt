@@ -1,5 +1,5 @@
 -- Laws of crossings: how the octets of one more visit are parted from those of the visits before, and found again.
-use Rattle.std.proofs.Common.{◌≡◌, ℕ, zero, suc, ◌+◌, ◌<◌, ◌≤◌, Bool, true, false, List, [], ◌∷◌, ◌++◌, length, get_or, map, take, drop, Option, Some, None, is_some, slice_get, refl, sym, ap, ◌∙◌, length-drop, length-take, drop-drop, arith, add-zero, zero-add, true≢false}
+use Rattle.std.proofs.Common.{◌≡◌, ℕ, zero, suc, ◌+◌, ◌*◌, ◌<◌, ◌≤◌, Bool, true, false, if◌then◌else◌, List, [], ◌∷◌, ◌++◌, length, get_or, map, take, drop, Option, Some, None, is_some, slice_get, refl, sym, ap, ◌∙◌, length-drop, length-take, drop-drop, arith, add-zero, zero-add, true≢false}
 use Rattle.std.specs.Prelude.{IfSome, MatchOption, unwrap_or}
 use Rattle.std.proofs.lemmas.List.{get_or-drop, take-append-drop, take_at, take_more, take-append-le, drop-append-le}
 use Rattle.ioam_base.specs.Octets.{written}
@@ -71,9 +71,21 @@ pub filled-tap : (size : ℕ) (taps : List Bool) (done : ℕ) → 0 < length (dr
     → filled size (take (done + 1) taps) ≡ filled size (take done taps) + size
 filled-tap size taps done some is = omega (arith, filled-next size taps done true some is)
 
+pub filled-none : (size : ℕ) (taps : List Bool) (done : ℕ) → 0 < length (drop done taps) → get_or (drop done taps) 0 false ≡ false
+    → filled size (take (done + 1) taps) ≡ filled size (take done taps)
+filled-none size taps done some is = omega (arith, filled-next size taps done false some is)
+
 pub filled-front : (size : ℕ) (taps : List Bool) (done : ℕ) → filled size (take done taps) ≤ filled size taps
 filled-front size taps done =
     omega (arith, filled-append size (take done taps) (drop done taps), ap (filled size) (take-append-drop done taps))
+
+one-few : (size : ℕ) (tap : Bool) → size ≤ 131072 → (if tap then size else 0) ≤ 131072
+one-few size true few = few
+one-few size false few = omega arith
+
+pub filled-most : (size : ℕ) (taps : List Bool) → size ≤ 131072 → filled size taps ≤ 131072 * length taps
+filled-most size [] few = omega arith
+filled-most size (tap ∷ taps) few = omega (arith, one-few size tap few, filled-most size taps few)
 
 -- ---- which visits send on links with a tap
 

@@ -63,10 +63,11 @@ pub runs-in-tunnel : (domain : Domain) (readings : List (List Sample)) (old new 
     → taps_of new.crossings ≡ taps_of old.crossings
     → vec_capacity new.packet ≡ vec_capacity old.packet
     → new.room.spare + length new.room.notes ≡ old.room.spare + length old.room.notes
+    → new.room.capacities ≡ old.room.capacities
     → ((tunnel : Tunnel) → IsTunnel tunnel → Sent domain readings tunnel [] before old.crossings.past old.room
     → RanBy domain readings tunnel exited old.itinerary.visits after new.crossings.past new.room)
     → HasRun domain readings old new
-runs-in-tunnel domain readings old new exited before after fresh some exits same from to sized packet sound ahead size capacities taps capacity given runs = record {
+runs-in-tunnel domain readings old new exited before after fresh some exits same from to sized packet sound ahead size capacities taps capacity given held runs = record {
   itinerary = same;
   reserved = reserved-stays old new (omega (arith, ap length from, ap length to, sized)) size taps given;
   keeps = keeps-run domain old new same (omega (arith, ap length from, ap length to, sized))
@@ -81,7 +82,7 @@ runs-in-tunnel domain readings old new exited before after fresh some exits same
       (subst (λ xs. RanBy domain readings tunnel exited visits xs (crossings new.crossings) new.room) (sym to)
       (subst (λ ps. RanBy domain readings tunnel exited visits after ps new.room) (sym (none-ahead new.crossings ahead)) (runs tunnel is start))));
   taps = taps;
-  memory = record { packet = capacity; crossings = capacities; room = given };
+  memory = record { packet = capacity; crossings = capacities; room = held };
 }
 
 -- before any visit they are those of all visits

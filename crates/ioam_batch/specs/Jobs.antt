@@ -9,7 +9,6 @@ use Rattle.ioam_ip.specs.Chain.{IsSound}
 use Rattle.ioam_ip.specs.Hop.{option_count}
 use Rattle.ioam_ip.specs.Lowered.{lowered}
 use Rattle.ioam_ip.specs.Packet.{IsPacket}
-use Rattle.ioam_node_visit.specs.Room.{capacity}
 use Rattle.ioam_plan.specs.declared.itinerary.Itinerary.{Itinerary}
 use Rattle.ioam_plan.specs.Inside.{EndsInside}
 use Rattle.ioam_plan.specs.Rides.{IsVisitIn, SendsBy}
@@ -113,7 +112,7 @@ RunsBy domain readings (Some carried) old new = RunsInTunnel domain readings old
 pub record KeepsMemory (old new : Job) : Type 0 where
   pub packet : vec_capacity new.packet ≡ vec_capacity old.packet
   pub crossings : new.crossings.capacities ≡ old.crossings.capacities
-  pub room : capacity new.room ≡ capacity old.room
+  pub room : new.room.capacities ≡ old.room.capacities
 
 -- all visits of it are done
 pub record HasRun (domain : Domain) (readings : List (List Sample)) (old new : Job) : Type 0 where

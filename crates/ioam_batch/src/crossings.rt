@@ -1,9 +1,14 @@
 //! The octets of a packet as its visits sent it on links with a tap.
 ghost use Rattle.std.specs.Prelude.{◌≡◌, ◌<◌, ◌≤◌, ◌+◌, ◌++◌, ◌∷◌, [], ℕ, false, true, if◌then◌else◌, IfOk, IfSome, MatchOption, None, Some, drop, get_or, length, map, slice_get, take};
 ghost use Rattle.ioam_batch.specs.Crossings.{crossings, filled, joined, sent_if, taps_of};
+ghost use Rattle.ioam_batch.specs.Taps.{is_tapped};
 
+use crate::taps::taps_of;
 use ioam_base::memory::NoMemory;
 use ioam_base::octets::put_at;
+use ioam_base::spare::emptied;
+use ioam_plan::Visit;
+use ioam_topo::Domain;
 use std::alloc::Global;
 use std::marker::Model;
 
@@ -41,8 +46,21 @@ fn part(octets: &[u8], start: usize, size: usize) -> &[u8]
     &octets[start..start + size]
 }
 
+// So many octets or more, in the memory of spare ones where that has the room. What they are is of no
+// account: zeros are written only where there are too few.
+fn grown(alloc: Global, spare: Vec<u8>, count: usize) -> Result<Vec<u8>, NoMemory>
+    ensures { IfOk result (λ octets. count ≤ length octets.items) }
+{
+    if count <= spare.len() {
+        return Ok(spare);
+    }
+    let mut octets = emptied(alloc, spare, count)?;
+    octets.resize(count, 0)?;
+    Ok(octets)
+}
+
 /// The octets of a packet after each of its visits that are done and sent it on a link with a tap. Those
-/// of the visits ahead have their places, zeros until then: no visit takes memory.
+/// of the visits ahead have their places, in which anything stands until then: no visit takes memory.
 #[derive(Drop)]
 pub(crate) struct Crossings {
     // For each visit, whether it sends on a link with a tap.
@@ -51,7 +69,9 @@ pub(crate) struct Crossings {
     size: usize,
     // How many visits are done.
     done: usize,
-    // So many for each visit with a tap, one behind the other.
+    // Where the octets of the next visit with a tap begin.
+    next: usize,
+    // So many for each visit with a tap, one behind the other, and perhaps more.
     octets: Vec<u8>,
 }
 
@@ -69,25 +89,50 @@ impl Model for Crossings {
     } };
 
     ghost invariant = { λ crossings. (crossings.size ≤ 131072) × (length crossings.taps.items ≤ 256) × (crossings.done ≤ length crossings.taps.items)
-        × (length crossings.octets.items ≡ filled crossings.size crossings.taps.items) };
+        × (filled crossings.size crossings.taps.items ≤ length crossings.octets.items)
+        × (crossings.next ≡ filled crossings.size (take crossings.done crossings.taps.items)) };
 }
 
 impl Crossings {
-    /// Room for a packet of so many octets, by which of its visits send it on links with a tap.
-    pub(crate) fn new(alloc: Global, taps: Vec<bool>, size: usize) -> Result<Crossings, NoMemory>
+    /// Those of no visit. It takes no memory.
+    pub(crate) fn none(alloc: Global) -> Crossings
+        ensures past { result.past ≡ [] }
+        ensures ahead { result.ahead ≡ [] }
+        ensures size { result.size ≡ 0 }
+        ensures capacities { result.capacities ≡ (0, 0) }
+    {
+        Crossings {
+            taps: Vec::new(alloc),
+            size: 0,
+            done: 0,
+            next: 0,
+            octets: Vec::new(alloc),
+        }
+    }
+
+    /// Room for a packet of so many octets that goes by these visits, in the memory of these crossings
+    /// where that has the room. Nothing of what they hold stays.
+    pub(crate) fn renewed(
+        self,
+        alloc: Global,
+        domain: &Domain,
+        visits: &[Visit],
+        size: usize,
+    ) -> Result<Crossings, NoMemory>
         requires size { size ≤ 131072 }
-        requires few { length taps.items ≤ 256 }
+        requires few { length visits.now ≤ 256 }
         ensures past { IfOk result (λ made. made.past ≡ []) }
-        ensures ahead { IfOk result (λ made. made.ahead ≡ taps.items) }
+        ensures ahead { IfOk result (λ made. made.ahead ≡ map (is_tapped domain.now) visits.now) }
         ensures size { IfOk result (λ made. made.size ≡ size) }
     {
-        let room = filled(size, &taps);
-        let mut octets = Vec::with_capacity(alloc, room)?;
-        octets.resize(room, 0)?;
+        let Crossings { taps, octets, .. } = self;
+        let taps = taps_of(alloc, taps, domain, visits)?;
+        let octets = grown(alloc, octets, filled(size, &taps))?;
         Ok(Crossings {
             taps,
             size,
             done: 0,
+            next: 0,
             octets,
         })
     }
@@ -103,8 +148,8 @@ impl Crossings {
         ensures capacities { self.new.capacities ≡ self.old.capacities }
         ensures taps { taps_of self.new ≡ taps_of self.old }
     {
-        let start = filled(self.size, &self.taps[..self.done]);
-        put_at(&mut self.octets, start, octets);
+        put_at(&mut self.octets, self.next, octets);
+        self.next += self.size;
         self.done += 1;
     }
 

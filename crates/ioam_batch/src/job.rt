@@ -8,7 +8,7 @@ ghost use Rattle.ioam_topo.specs.declared.domain.Domain.{Domain};
 
 use crate::crossings::Crossings;
 use crate::making::{packet_of, room_for};
-use crate::taps::taps_of;
+use crate::memory::JobMemory;
 use ioam_base::memory::NoMemory;
 use ioam_dex::MOST_RECORD;
 use ioam_node_visit::NodeRoom;
@@ -44,16 +44,61 @@ impl Job {
         ensures reserved { IfOk result (λ job. reserved_of job ≡ asked_for domain.now itinerary job.packet.items) }
         ensures most { IfOk result (λ job. reserved_of job ≤ 17 * 1048576) }
     {
-        let octets = packet_of(alloc, domain, &itinerary, packet)?;
-        let room = room_for(alloc, &itinerary, &octets)?;
-        let taps = taps_of(alloc, domain, itinerary.visits.list())?;
-        let crossings = Crossings::new(alloc, taps, octets.len())?;
+        Job::renewed(alloc, JobMemory::none(alloc), domain, itinerary, packet)
+    }
+
+    /// The same, in the memory of a job that was told: more is taken only where that has too little room.
+    pub fn renewed(
+        alloc: Global,
+        memory: JobMemory,
+        domain: &Domain,
+        itinerary: Itinerary,
+        packet: &[u8],
+    ) -> Result<Job, NoMemory>
+        requires { Rides domain.now packet.now itinerary }
+        ensures of { IfOk result (IsJobOf domain.now packet.now itinerary) }
+        ensures holds { IfOk result (Holds domain.now) }
+        ensures taps { IfOk result (HasTaps domain.now) }
+        ensures reserved { IfOk result (λ job. reserved_of job ≡ asked_for domain.now itinerary job.packet.items) }
+        ensures most { IfOk result (λ job. reserved_of job ≤ 17 * 1048576) }
+    {
+        let JobMemory {
+            packet: held,
+            crossings,
+            room,
+            ..
+        } = memory;
+        let octets = packet_of(alloc, held, domain, &itinerary, packet)?;
+        let room = room_for(alloc, room, &itinerary, &octets)?;
+        let visits = itinerary.visits.list();
+        let crossings = crossings.renewed(alloc, domain, visits, octets.len())?;
         Ok(Job {
             itinerary,
             packet: octets,
             crossings,
             room,
         })
+    }
+
+    /// Its memory, for a job to come. What it holds is of no account then.
+    pub(crate) fn memory(self) -> JobMemory
+        ensures visits { result.visits ≡ self.itinerary.visits }
+        ensures packet { result.packet ≡ self.packet }
+        ensures crossings { result.crossings ≡ self.crossings }
+        ensures room { result.room ≡ self.room }
+    {
+        let Job {
+            itinerary,
+            packet,
+            crossings,
+            room,
+        } = self;
+        JobMemory {
+            visits: itinerary.visits,
+            packet,
+            crossings,
+            room,
+        }
     }
 
     /// The packet as it stands.

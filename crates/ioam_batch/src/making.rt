@@ -7,16 +7,17 @@ ghost use Rattle.ioam_tunnel.specs.Enclosed.{tunnel_of};
 ghost use Rattle.ioam_tunnel.specs.Wire.{IsTunnel, no_elements, wire};
 
 use ioam_base::memory::NoMemory;
-use ioam_base::text::append;
+use ioam_base::spare::copied_in;
 use ioam_node_visit::{NodeRoom, option_count};
 use ioam_plan::Itinerary;
 use ioam_topo::{Domain, FlowId};
-use ioam_tunnel::{Numbers, enclose};
+use ioam_tunnel::{Numbers, enclose_in};
 use std::alloc::Global;
 
 // The outer packet around a packet that goes by an itinerary.
 fn enclosed(
     alloc: Global,
+    spare: Vec<u8>,
     domain: &Domain,
     itinerary: &Itinerary,
     flow: FlowId,
@@ -30,22 +31,15 @@ fn enclosed(
     ensures short { IfOk result (λ out. length out.items ≤ 65575) }
     ensures options { IfOk result (λ out. option_count out.items ≤ 4) }
 {
-    let out = enclose(alloc, domain, flow, numbers, packet)?;
+    let out = enclose_in(alloc, spare, domain, flow, numbers, packet)?;
     Ok(out)
 }
 
-// The same octets.
-fn copied(alloc: Global, packet: &[u8]) -> Result<Vec<u8>, NoMemory>
-    ensures { IfOk result (λ octets. octets.items ≡ packet.now) }
-{
-    let mut octets = Vec::with_capacity(alloc, packet.len())?;
-    append(&mut octets, packet)?;
-    Ok(octets)
-}
-
-/// The packet that goes by an itinerary, or the outer packet around it.
+/// The packet that goes by an itinerary, or the outer packet around it, in the memory of a spare vector
+/// where that has the room.
 pub(crate) fn packet_of(
     alloc: Global,
+    spare: Vec<u8>,
     domain: &Domain,
     itinerary: &Itinerary,
     packet: &[u8],
@@ -57,14 +51,15 @@ pub(crate) fn packet_of(
     ensures options { IfOk result (λ octets. IsSome itinerary.now.carried → option_count octets.items ≤ 4) }
 {
     match itinerary.carried {
-        Some((flow, numbers)) => enclosed(alloc, domain, itinerary, flow, &numbers, packet),
-        None => copied(alloc, packet),
+        Some((flow, numbers)) => enclosed(alloc, spare, domain, itinerary, flow, &numbers, packet),
+        None => copied_in(alloc, spare, packet),
     }
 }
 
-/// Room for what its visits note and export.
+/// Room for what its visits note and export, in that of visits of which nothing is told any more.
 pub(crate) fn room_for(
     alloc: Global,
+    spare: NodeRoom,
     itinerary: &Itinerary,
     packet: &[u8],
 ) -> Result<NodeRoom, NoMemory>
@@ -77,8 +72,8 @@ pub(crate) fn room_for(
     match itinerary.carried {
         Some(_) => {
             let visits = itinerary.visits.list().len() as u32;
-            NodeRoom::new(alloc, visits, option_count(packet))
+            spare.renewed(alloc, visits, option_count(packet))
         }
-        None => NodeRoom::new(alloc, 0, 0),
+        None => spare.renewed(alloc, 0, 0),
     }
 }

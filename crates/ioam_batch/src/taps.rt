@@ -4,6 +4,7 @@ ghost use Rattle.ioam_batch.specs.Taps.{has_tap, is_tapped};
 ghost use Rattle.ioam_topo.specs.Domain.{links};
 
 use ioam_base::memory::NoMemory;
+use ioam_base::spare::emptied;
 use ioam_plan::Visit;
 use ioam_topo::{Domain, LinkId, Way};
 use std::alloc::Global;
@@ -29,15 +30,16 @@ fn is_tapped(domain: &Domain, visit: &Visit) -> bool
     }
 }
 
-/// Whether each of these visits does.
+/// Whether each of these visits does, in the memory of a spare vector where that has the room.
 pub(crate) fn taps_of(
     alloc: Global,
+    spare: Vec<bool>,
     domain: &Domain,
     visits: &[Visit],
 ) -> Result<Vec<bool>, NoMemory>
     ensures { IfOk result (λ taps. taps.items ≡ map (is_tapped domain.now) visits.now) }
 {
-    let mut taps = Vec::with_capacity(alloc, visits.len())?;
+    let mut taps = emptied(alloc, spare, visits.len())?;
     for visit in visits {
         taps.push(is_tapped(domain, visit))?;
     }

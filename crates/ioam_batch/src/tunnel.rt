@@ -38,6 +38,7 @@ fn begin(
     ensures hops { slice_index packet.new 7 ≡ slice_index packet.old 7 }
     ensures spare { room.old.spare ≤ room.new.spare + option_count packet.old }
     ensures given { room.new.spare + length room.new.notes ≡ room.old.spare + length room.old.notes }
+    ensures memory { room.new.capacities ≡ room.old.capacities }
     ensures ahead { crossings.new.ahead ≡ drop 1 crossings.old.ahead }
     ensures size { crossings.new.size ≡ crossings.old.size }
     ensures capacities { crossings.new.capacities ≡ crossings.old.capacities }
@@ -73,6 +74,7 @@ fn transit(
     ensures hops { slice_index packet.new 7 ≡ slice_index packet.old 7 - 1 }
     ensures spare { room.old.spare ≤ room.new.spare + option_count packet.old }
     ensures given { room.new.spare + length room.new.notes ≡ room.old.spare + length room.old.notes }
+    ensures memory { room.new.capacities ≡ room.old.capacities }
     ensures ahead { crossings.new.ahead ≡ drop 1 crossings.old.ahead }
     ensures size { crossings.new.size ≡ crossings.old.size }
     ensures capacities { crossings.new.capacities ≡ crossings.old.capacities }
@@ -106,6 +108,7 @@ fn exit(
     ensures packet { IsPacket packet.new }
     ensures sound { IsSound packet.new }
     ensures given { room.new.spare + length room.new.notes ≡ room.old.spare + length room.old.notes }
+    ensures memory { room.new.capacities ≡ room.old.capacities }
     ensures ahead { crossings.new.ahead ≡ drop 1 crossings.old.ahead }
     ensures size { crossings.new.size ≡ crossings.old.size }
     ensures capacities { crossings.new.capacities ≡ crossings.old.capacities }
@@ -143,6 +146,7 @@ pub(crate) fn send(
     ensures hops { 1 ≤ slice_index packet.new 7 }
     ensures spare { room.old.spare ≤ room.new.spare + count * option_count packet.old }
     ensures given { room.new.spare + length room.new.notes ≡ room.old.spare + length room.old.notes }
+    ensures memory { room.new.capacities ≡ room.old.capacities }
     ensures ahead { crossings.new.ahead ≡ drop count (map (is_tapped domain.now) visits.now) }
     ensures size { crossings.new.size ≡ crossings.old.size }
     ensures capacities { crossings.new.capacities ≡ crossings.old.capacities }
@@ -177,6 +181,7 @@ pub(crate) fn send_out(
     ensures packet { IsPacket packet.new }
     ensures sound { IsSound packet.new }
     ensures given { room.new.spare + length room.new.notes ≡ room.old.spare + length room.old.notes }
+    ensures memory { room.new.capacities ≡ room.old.capacities }
     ensures ahead { crossings.new.ahead ≡ [] }
     ensures size { crossings.new.size ≡ crossings.old.size }
     ensures capacities { crossings.new.capacities ≡ crossings.old.capacities }

@@ -14,7 +14,7 @@ returns-then-job c =
     c.if-is_none.ensures c.if-job.true refl c.deref_mut-then-job.ensures.value
     (with_items_is old.packet after (omega arith)) (omega arith)
     c.send_out.ensures.packet c.send_out.ensures.sound c.send_out.ensures.ahead
-    c.send_out.ensures.size c.send_out.ensures.capacities c.send_out.ensures.taps refl c.send_out.ensures.given
+    c.send_out.ensures.size c.send_out.ensures.capacities c.send_out.ensures.taps refl c.send_out.ensures.given c.send_out.ensures.memory
     (λ tunnel is so.
     let P : List Visit → Type 0 = λ vs. RanBy c.args.domain.now c.args.readings.now tunnel true vs after c.send_out.new.crossings.past c.send_out.new.room in
     subst P c.list-visits.ensures.visits (c.send_out.ensures.exited tunnel is so))
@@ -30,7 +30,7 @@ returns-else-job c =
     (with_items_is old.packet after (omega arith)) (omega arith)
     c.send.ensures.packet c.send.ensures.sound
     (c.send.ensures.ahead ∙ drop_all (length visits) (map f visits) (omega (arith, length-map visits f)))
-    c.send.ensures.size c.send.ensures.capacities c.send.ensures.taps refl c.send.ensures.given
+    c.send.ensures.size c.send.ensures.capacities c.send.ensures.taps refl c.send.ensures.given c.send.ensures.memory
     (λ tunnel is so.
     let P : List Visit → Type 0 = λ vs. RanBy c.args.domain.now c.args.readings.now tunnel false vs after c.send.new.crossings.past c.send.new.room in
     subst P (take_all (length visits) visits (omega arith) ∙ c.list-visits.ensures.visits) (c.send.ensures.sent tunnel is so))

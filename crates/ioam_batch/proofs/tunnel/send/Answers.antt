@@ -23,6 +23,7 @@ loop-i-init c =
       (λ tunnel is so.
           let P : List Visit → Type 0 = λ vs. Sent c.args.domain.now c.args.readings.now tunnel vs c.begin.new.packet c.begin.new.crossings.past c.begin.new.room in
           subst P (sym (take_more visits 0 _ inside)) (c.begin.ensures.sent tunnel is so)),
+      c.begin.ensures.memory,
     )
 
 pub transit-requires-clause-tap : goal.transit-requires-clause-tap
@@ -50,6 +51,7 @@ loop-i-preserved c =
       (λ tunnel is so.
           let P : List Visit → Type 0 = λ vs. Sent c.args.domain.now c.args.readings.now tunnel vs c.transit.new.packet c.transit.new.crossings.past c.transit.new.room in
           subst P (sym (take_more visits c.loop-i.i _ inside)) (c.transit.ensures.sent tunnel (take c.loop-i.i visits) is some (invariant.10 tunnel is so))),
+      c.transit.ensures.memory ∙ invariant.11,
     )
 
 pub returns-clause-sent : goal.returns-clause-sent

@@ -19,3 +19,4 @@ invariant-loop-i l =
     × (taps_of l.crossings ≡ taps_of l.fn.crossings)
     × ((tunnel : Tunnel) → IsTunnel tunnel → Sent l.domain l.readings tunnel [] l.fn.packet l.fn.crossings.past l.fn.room
     → Sent l.domain l.readings tunnel (take l.i l.visits) l.packet l.crossings.past l.room)
+    × (l.room.capacities ≡ l.fn.room.capacities)

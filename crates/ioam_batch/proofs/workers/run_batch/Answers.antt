@@ -21,12 +21,13 @@ pub invariant_of-batch : goal.invariant_of-batch
 invariant_of-batch g c =
     let before = c.batch.inside.jobs in
     let after = c.run_chunks.new.jobs in
-    let P : List Job → Type 0 = λ jobs. length jobs ≤ 256 × before.cap ≡ 256 × c.batch.inside.reserved ≡ all_reserved jobs in
+    let P : List Job → Type 0 = λ jobs. length jobs ≤ 256 × before.cap ≡ 256 × c.batch.inside.reserved ≡ all_reserved jobs × c.batch.inside.spares.cap ≡ 256 in
     subst P (sym (with_items_is before after (omega arith))) (
       omega arith,
       c.batch.invariant.1,
       c.batch.invariant.2 ∙ ap all_reserved (sym c.deref_mut.ensures.value)
           ∙ sym (reserved-stays c.args.domain.now c.args.readings.now c.deref_mut.result.now after c.run_chunks.ensures.may),
+      c.batch.invariant.3,
     )
 
 pub returns-clause-taps : goal.returns-clause-taps

@@ -1,4 +1,4 @@
-use Rattle.std.proofs.Common.{◌≡◌, ◌<◌, false, Some, drop, take, length, slice_get, sym, ap, ◌∙◌, arith}
+use Rattle.std.proofs.Common.{◌≡◌, ◌<◌, ◌≤◌, false, Some, drop, take, length, slice_get, sym, ap, ◌∙◌, arith}
 use Rattle.std.proofs.lemmas.List.{get_or_default}
 use Rattle.ioam_batch.specs.Crossings.{Crossed, crossings, filled, joined}
 use Rattle.ioam_batch.proofs.CrossingLaws.{at-ahead, at-done, at-none, at-past, filled-front, fits-done}
@@ -31,7 +31,7 @@ part-requires-clause-within c =
     let i = c.self.inside in
     let inside : c.args.visit < length i.taps.items = omega arith in
     let tap = get_or_default i.taps.items c.args.visit false c.index.result.now inside ∙ sym c.index.ensures ∙ c.if-not-index.false in
-    let said : length i.octets.items ≡ filled i.size i.taps.items = c.self.invariant.3 in
+    let said : filled i.size i.taps.items ≤ length i.octets.items = c.self.invariant.3 in
     let start : c.filled-start.result ≡ filled i.size (take c.args.visit i.taps.items) =
     c.filled-start.ensures.value ∙ ap (λ ts. filled i.size (take c.args.visit ts)) c.deref-2.ensures.value in
     omega (

@@ -5,7 +5,7 @@ use Rattle.ioam_batch.specs.declared.job.Job.{Job}
 use Rattle.ioam_batch.proofs.MakingLaws.{holds-made}
 use Rattle.ioam_batch.proofs.ReservedLaws.{asked-most, reserved-is}
 use Rattle.ioam_batch.proofs.RunLaws.{taps-begin}
-use Rattle.ioam_batch.proofs.job.Job.new.Goals as goal
+use Rattle.ioam_batch.proofs.job.Job.renewed.Goals as goal
 use Rattle.ioam_plan.specs.declared.itinerary.Visit.{Visit}
 
 pub returns-clause-holds : goal.returns-clause-holds
@@ -17,7 +17,7 @@ returns-clause-reserved c =
     let it = c.args.itinerary in
     let octets = c.in_ok-octets.octets in
     let job : Job = record { itinerary = it; packet = octets; crossings = c.in_ok-crossings.crossings; room = c.in_ok-room.room } in
-    let ahead = c.in_ok-crossings.ensures.ahead ∙ c.in_ok-taps.ensures ∙ ap (λ (vs : List Visit). map (is_tapped c.args.domain.now) vs) c.list.ensures.visits in
+    let ahead = c.in_ok-crossings.ensures.ahead ∙ ap (λ (vs : List Visit). map (is_tapped c.args.domain.now) vs) c.list-visits.ensures.visits in
     let spare : job.room.spare ≡ spare_by it.carried it octets.items =
     c.in_ok-room.ensures.spare ∙ ap (λ (xs : List ℕ). spare_by it.carried it xs) c.deref.ensures.value in
     let given : job.room.spare + length job.room.notes ≡ spare_by it.carried it octets.items =
@@ -30,7 +30,7 @@ returns-clause-most c =
     let it = c.args.itinerary in
     let octets = c.in_ok-octets.octets in
     let job : Job = record { itinerary = it; packet = octets; crossings = c.in_ok-crossings.crossings; room = c.in_ok-room.room } in
-    let ahead = c.in_ok-crossings.ensures.ahead ∙ c.in_ok-taps.ensures ∙ ap (λ (vs : List Visit). map (is_tapped c.args.domain.now) vs) c.list.ensures.visits in
+    let ahead = c.in_ok-crossings.ensures.ahead ∙ ap (λ (vs : List Visit). map (is_tapped c.args.domain.now) vs) c.list-visits.ensures.visits in
     let spare : job.room.spare ≡ spare_by it.carried it octets.items =
     c.in_ok-room.ensures.spare ∙ ap (λ (xs : List ℕ). spare_by it.carried it xs) c.deref.ensures.value in
     let given : job.room.spare + length job.room.notes ≡ spare_by it.carried it octets.items =
