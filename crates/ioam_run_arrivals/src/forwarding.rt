@@ -19,6 +19,7 @@ use ioam_desk_outputs::Output;
 use ioam_pcap::Packet;
 use ioam_plan::Counters;
 use ioam_report::{Sums, put_sums};
+use ioam_run_outputs::place_of_report;
 use ioam_run_texts::put_heads;
 use ioam_topo::{Domain, LinkId, PortId};
 use std::alloc::Global;
@@ -155,7 +156,7 @@ impl Forwarding {
             → Forwards opens domain.now readings frames so_far self.now
             → Forwarded opens domain.now readings frames (said_more so_far (sums_by domain.now self.now.sums))) }
     {
-        let report = outputs.len() - 2;
+        let report = place_of_report(outputs.len());
         put_sums(domain, &self.sums, &mut outputs[report].gathered)?;
         Ok(())
     }

@@ -4,6 +4,7 @@ use Rattle.std.specs.Prelude.{ℕ, zero, suc, ◌+◌, List, [], ◌∷◌, ◌+
 use Rattle.ioam_topo.specs.Domain.{links, ports}
 use Rattle.ioam_topo.specs.declared.domain.Domain.{Domain}
 use Rattle.ioam_topo.specs.declared.ids.LinkId.{LinkId}
+use Rattle.ioam_topo.specs.declared.ids.PortId.{PortId}
 use Rattle.ioam_topo.specs.declared.parts.Link.{Link}
 
 -- the link at a place of the file, if it has a tap
@@ -27,6 +28,22 @@ HasTap links id = IsSomeAnd (slice_get links id.0) (λ (link : Link). IsSome lin
 -- how many outputs there are: a capture for each port and for each tap, the report and the exports
 abbrev pub outlet_count : Domain → ℕ
 outlet_count domain = length (ports domain) + length (tapped (links domain)) + 2
+
+-- the place of the output of a port: they stand in file order, in front of all others
+abbrev pub place_of_port : PortId → ℕ
+place_of_port port = port.0
+
+-- of that of a tap, behind so many other taps
+abbrev pub place_of_tap : Domain → ℕ → ℕ
+place_of_tap domain tap = length (ports domain) + tap
+
+-- of the report, behind all captures
+abbrev pub place_of_report : Domain → ℕ
+place_of_report domain = length (ports domain) + length (tapped (links domain))
+
+-- of the exports, behind the report
+abbrev pub place_of_exports : Domain → ℕ
+place_of_exports domain = place_of_report domain + 1
 
 -- something for each of so many places, from one on
 abbrev pub each_from : {A : Type 0} → ℕ → ℕ → (ℕ → A) → List A

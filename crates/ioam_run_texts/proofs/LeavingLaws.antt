@@ -10,7 +10,7 @@ use Rattle.ioam_ip.specs.Chain.{IsSound}
 use Rattle.ioam_ip.specs.Lowered.{lowered}
 use Rattle.ioam_ip.specs.Packet.{IsPacket}
 use Rattle.ioam_ip.proofs.SoundLaws.{IsPacket-lowered, IsSound-lowered}
-use Rattle.ioam_run_outputs.specs.Outlets.{of_outlets, outlet_count}
+use Rattle.ioam_run_outputs.specs.Outlets.{of_outlets, outlet_count, place_of_port}
 use Rattle.ioam_desk_outputs.specs.Told.{Adds}
 use Rattle.ioam_desk_outputs.specs.declared.output.Output.{Output}
 use Rattle.ioam_pcap.specs.Text.{Sent, record_head, record_octets, records_text}
@@ -205,6 +205,16 @@ module _ (domain : Domain) (job : Job) (outputs : List Output) (long : length ou
     (λ readings fate ran k. ap (λ (e : End). sent_by_end k sent e) (sym is) ∙ sent-are domain job sent leaves readings fate ran k),
     by,
   )
+
+  -- at the place of the port
+  pub left-there : (d after : Output) (port : PortId) (at : ℕ) (sent : List Sent) → at ≡ place_of_port port → job.itinerary.end ≡ Left port
+      → port.0 < length (ports domain)
+      → after.slot ≡ (get_or outputs at d).slot → after.gathered.items ≡ (get_or outputs at d).gathered.items ++ records_text sent
+      → AreLeaving domain job sent → LeavesBy job.itinerary.carried job.itinerary.exited job sent → Told (set outputs at after)
+  left-there d after port at sent place is inside slot adds leaves by =
+      subst (λ (n : ℕ). Told (set outputs n after)) (sym place)
+      (left-told d after port sent is inside (slot ∙ ap (λ (n : ℕ). (get_or outputs n d).slot) place)
+      (adds ∙ ap (λ (n : ℕ). (get_or outputs n d).gathered.items ++ records_text sent) place) leaves by)
 
   pub drop-told : (reason : Reason) (node : NodeId) → job.itinerary.end ≡ Drop reason node → Told outputs
   drop-told reason node is = subst (Ends outputs) (sym is)

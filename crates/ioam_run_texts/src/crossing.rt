@@ -13,6 +13,7 @@ use ioam_batch::Job;
 use ioam_desk_outputs::Output;
 use ioam_pcap::put_record;
 use ioam_plan::Visit;
+use ioam_run_outputs::place_of_tap;
 use ioam_topo::{Domain, LinkId, Way};
 
 // Whether a visit sends its packet on a link.
@@ -81,9 +82,9 @@ pub(crate) fn put_taps(
     ensures { OnOk result (Adds outputs.old outputs.new
         (of_outlets domain.now (λ port. []) (λ link. records_text (job_crossed job.now link)) [] [])) }
 {
-    let ports = domain.ports().len();
     'taps: for k in 0..taps.len() {
-        put_link(job, taps[k], &mut outputs[ports + k].gathered)?;
+        let at = place_of_tap(domain, k);
+        put_link(job, taps[k], &mut outputs[at].gathered)?;
     }
     Ok(())
 }

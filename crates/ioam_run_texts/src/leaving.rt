@@ -17,6 +17,7 @@ use ioam_ip::{HEADER_OCTETS, HOP_LIMIT};
 use ioam_node_visit::carried;
 use ioam_pcap::put_record;
 use ioam_plan::{End, Visit};
+use ioam_run_outputs::place_of_port;
 use ioam_topo::Domain;
 
 // When the last visit was, in nanoseconds.
@@ -121,7 +122,8 @@ pub(crate) fn put_left(domain: &Domain, job: &Job, outputs: &mut [Output]) -> Re
 {
     match job.itinerary().end {
         End::Left { port } => {
-            put_leaving(job, &mut outputs[port.0 as usize].gathered)?;
+            let at = place_of_port(port);
+            put_leaving(job, &mut outputs[at].gathered)?;
             Ok(())
         }
         End::Drop { .. } => Ok(()),

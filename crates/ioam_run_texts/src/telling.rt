@@ -16,7 +16,7 @@ use ioam_base::memory::NoMemory;
 use ioam_batch::Job;
 use ioam_desk_outputs::Output;
 use ioam_pcap::put_head;
-use ioam_run_outputs::outlet_count;
+use ioam_run_outputs::place_of_report;
 use ioam_topo::{Domain, LinkId};
 
 /// Appends the head of a capture to the output of each port and of each tap. Without memory a part of it may
@@ -25,7 +25,7 @@ pub fn put_heads(domain: &Domain, outputs: &mut [Output]) -> Result<(), NoMemory
     requires { length outputs.old ≡ outlet_count domain.now }
     ensures { OnOk result (Adds outputs.old outputs.new (heads domain.now)) }
 {
-    'captures: for at in 0..outlet_count(domain) - 2 {
+    'captures: for at in 0..place_of_report(outputs.len()) {
         put_head(&mut outputs[at].gathered)?;
     }
     Ok(())
@@ -51,10 +51,9 @@ pub fn put_job(
     ensures exact { OnOk result ((left : List Sent) × LeavesAt job.now.itinerary.end job.now left
         × Adds outputs.old outputs.new (job_texts domain.now number job.now left)) }
 {
-    let report = domain.ports().len() + taps.len();
     put_left(domain, job, outputs)?;
     put_taps(domain, taps, job, outputs)?;
-    put_report(domain, report, number, job, outputs)?;
-    put_exports(domain, report + 1, job, outputs)?;
+    put_report(domain, number, job, outputs)?;
+    put_exports(domain, job, outputs)?;
     Ok(())
 }

@@ -1,4 +1,4 @@
-use Rattle.std.proofs.Common.{refl, arith, length, ap}
+use Rattle.std.proofs.Common.{refl, sym, arith, length, ap}
 use Rattle.ioam_run_texts.proofs.AddsLaws.{taps-begin, taps-more, taps-end}
 use Rattle.ioam_run_texts.proofs.crossing.put_taps.Goals as goal
 
@@ -7,7 +7,7 @@ taps-init c = record { told = taps-begin c.args.domain.now _ c.args.outputs.now 
 
 pub taps-preserved : goal.taps-preserved
 taps-preserved c = record {
-  told = taps-more c.args.domain.now _ c.taps.k _ _ _ c.args.taps.now c.args.outputs.now c.taps.outputs _ _ _ _ c.requires.taps (omega arith) refl (omega (arith, ap length c.ports-ports.ensures.value)) (omega (arith, ap length c.ports-ports.ensures.value)) (omega (arith, ap length c.ports-ports.ensures.value))
+  told = taps-more c.args.domain.now _ c.taps.k _ _ _ c.args.taps.now c.args.outputs.now c.taps.outputs _ _ _ _ c.requires.taps (omega arith) refl c.place_of_tap-at.ensures (sym c.place_of_tap-at.ensures) (omega (arith, c.place_of_tap-at.ensures))
       c.taps.invariant.told refl c.in_ok-put_link.ensures;
 }
 
