@@ -1,14 +1,18 @@
 -- What is kept of a list of pairs with one more at its end.
-use Rattle.std.proofs.Common.{◌≡◌, Bool, true, false, not, ◌&&◌, List, [], ◌∷◌, ◌++◌, refl, sym, ap, ◌∙◌, subst, ◌⊎◌, inl, inr}
+use Rattle.std.proofs.Common.{◌≡◌, Bool, true, false, not, ◌&&◌, List, [], ◌∷◌, ◌++◌, filter, refl, sym, ap, ◌∙◌, subst, ◌⊎◌, inl, inr}
 use Rattle.std.specs.Ordering.{is_eq}
 use Rattle.std.proofs.lemmas.Bool.{cases_Bool}
 use Rattle.ioam_pool.specs.Entry.{Entry}
 use Rattle.ioam_pool.specs.Order.{IsInOrder, placed}
-use Rattle.ioam_collect.specs.Best.{pair_cmp, tells, untold, outdone, best, kept_of, RepeatsIn, ReplacesIn, without_pair}
+use Rattle.ioam_collect.specs.Best.{pair_cmp, tells, untold, outdone, best, kept_of, RepeatsIn, ReplacesIn}
 use Rattle.ioam_collect.specs.declared.key.Key.{Key}
 use Rattle.ioam_collect.proofs.Members.{Has, has_from, contains_from, any_from, any_at, filter_has, has_filter}
 use Rattle.ioam_collect.proofs.KeyLaws.{pair_total, pair_same, pair_itself, eq_equal, untold_tells, untold_itself}
 use Rattle.ioam_collect.proofs.Sorting.{same_members, arranged-in_order, arranged-has, has-arranged, placed-has, has-placed, placed-in_order, filter-in_order}
+
+-- these pairs without this one
+abbrev pub without_pair : Key × Entry → List (Key × Entry) → List (Key × Entry)
+without_pair p ps = filter (λ y. not (is_eq (pair_cmp y p))) ps
 
 pub append-has : (es : List (Key × Entry)) (e z : Key × Entry) → Has (es ++ e ∷ []) z → Has es z ⊎ (e ≡ z)
 append-has [] e z (inl is) = inr is

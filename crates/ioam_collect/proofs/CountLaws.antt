@@ -7,7 +7,7 @@ use Rattle.ioam_dex.specs.Record.{Record}
 use Rattle.ioam_pool.specs.Entry.{Entry}
 use Rattle.ioam_pool.specs.Order.{placed}
 use Rattle.ioam_collect.specs.Keyed.{keyed_of, keyed, with_keyed}
-use Rattle.ioam_collect.specs.Best.{pair_cmp, tells, untold, kept_of, RepeatsIn, ReplacesIn, without_pair}
+use Rattle.ioam_collect.specs.Best.{pair_cmp, tells, untold, kept_of, RepeatsIn, ReplacesIn}
 use Rattle.ioam_collect.specs.Collected.{Collected, Stands, Answers, AnswersKeyed, count_kept, held_more}
 use Rattle.ioam_collect.specs.declared.growing.Added.{Added}
 use Rattle.ioam_collect.specs.declared.growing.Added.TheVariants.{Kept, Replaced, Repeat, Unkeyed, Full}
@@ -15,7 +15,7 @@ use Rattle.ioam_collect.specs.declared.key.Key.{Key}
 use Rattle.ioam_collect.proofs.Members.{Has, has_from, contains_from, any_from, any_at, filter_has}
 use Rattle.ioam_collect.proofs.KeyLaws.{pair_total, pair_same, pair_itself, eq_equal}
 use Rattle.ioam_collect.proofs.Sorting.{placed-length, left_out-length}
-use Rattle.ioam_collect.proofs.BestLaws.{ordered, repeat_is, replaced_is, kept_is}
+use Rattle.ioam_collect.proofs.BestLaws.{without_pair, ordered, repeat_is, replaced_is, kept_is}
 use Rattle.ioam_collect.proofs.CollectedLaws.{keyed-push, append-none, full_more, more_full}
 
 -- a pair is in a list, or it isn't

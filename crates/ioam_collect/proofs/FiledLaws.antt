@@ -9,7 +9,7 @@ use Rattle.ioam_pool.specs.Entry.{Entry, bare}
 use Rattle.ioam_pool.specs.Order.{order, IsInOrder, placed, without, Repeats, Replaces}
 use Rattle.ioam_pool.proofs.OrderLaws.{order_total, order_same}
 use Rattle.ioam_collect.specs.Keyed.{key_cmp}
-use Rattle.ioam_collect.specs.Best.{pair_cmp, kept_of, of_key, RepeatsIn, ReplacesIn, without_pair}
+use Rattle.ioam_collect.specs.Best.{pair_cmp, kept_of, of_key, RepeatsIn, ReplacesIn}
 use Rattle.ioam_collect.specs.Gathered.{Gathered, group_in, AreOf}
 use Rattle.ioam_collect.specs.Adds.{Adds, IsOf, Turns}
 use Rattle.ioam_collect.specs.declared.growing.Added.{Added}
@@ -18,7 +18,7 @@ use Rattle.ioam_collect.specs.declared.key.Key.{Key}
 use Rattle.ioam_collect.proofs.Members.{Has, has_from, contains_from, all_at, all_from, filter_has, has_filter}
 use Rattle.ioam_collect.proofs.Sorting.{same_members, placed-has, has-placed, placed-in_order, filter-in_order, placed-length, left_out-length}
 use Rattle.ioam_collect.proofs.KeyLaws.{key_total, key_same, key_itself, key_or_not, eq_equal, pair, pair_total, pair_same, pair_itself}
-use Rattle.ioam_collect.proofs.BestLaws.{ordered, repeat_is, replaced_is, kept_is, not_true, true_not}
+use Rattle.ioam_collect.proofs.BestLaws.{without_pair, ordered, repeat_is, replaced_is, kept_is, not_true, true_not}
 
 -- the items of a key are those that stand with it
 of_key_by : (b : Bool) (y e : Entry) (more : List Entry) → Has (cond b (y ∷ more) more) e → ((b ≡ true) × (y ≡ e)) ⊎ Has more e

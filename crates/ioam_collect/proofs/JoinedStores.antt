@@ -1,9 +1,9 @@
 -- What is left of two stores that are added to an empty one, one after the other.
-use Rattle.std.proofs.Common.{◌≡◌, ℕ, ◌<◌, Bool, true, false, List, [], ◌++◌, refl, sym, ap, ap₂, ◌∙◌, subst, Option, None, Some}
+use Rattle.std.proofs.Common.{◌≡◌, ℕ, Bool, true, false, List, [], ap, ◌∙◌, subst, None, Some}
 use Rattle.ioam_pool.specs.Entry.{Entry}
 use Rattle.ioam_collect.specs.Gathered.{Gathered}
 use Rattle.ioam_collect.specs.Join.{pairs_in}
-use Rattle.ioam_collect.specs.Joining.{AreAdded, ArePast, Takes, JoinsStores}
+use Rattle.ioam_collect.specs.Joining.{Takes, JoinsStores}
 use Rattle.ioam_collect.specs.declared.key.Key.{Key}
 use Rattle.ioam_collect.proofs.JoiningLaws.{InOrder, added_more, has_both, past_behind, past_both, past_front}
 

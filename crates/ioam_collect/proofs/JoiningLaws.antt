@@ -1,6 +1,6 @@
 -- Laws of pairs that are added one after the other, and of stores and collectors that are joined.
 use Rattle.std.proofs.Common.{◌≡◌, ◌≢◌, ℕ, ◌+◌, ◌<◌, ◌≤◌, Bool, List, [], ◌∷◌, ◌++◌, length, not, append_assoc, append-nil, refl, sym, ap, ap₂, ◌∙◌, subst, arith, inl, inr, Option, None, Some}
-use Rattle.std.specs.Prelude.{Result, Ok, min}
+use Rattle.std.specs.Prelude.{Ok}
 use Rattle.std.specs.Map.{keys_of}
 use Rattle.std.specs.List.{AllByRecursion}
 use Rattle.std.specs.List.Sorted.{IsStrictlySortedBy}
@@ -8,11 +8,11 @@ use Rattle.std.proofs.lemmas.Bool.Decides.{nat_tests}
 use Rattle.ioam_dex.specs.Record.{Record}
 use Rattle.ioam_pool.specs.Entry.{Entry}
 use Rattle.ioam_collect.specs.Adds.{Adds, IsOf}
-use Rattle.ioam_collect.specs.Best.{kept_of, of_key, groups_of}
-use Rattle.ioam_collect.specs.Collected.{Collected, Stands, capped, count_unkeyed, gathered_in, one_where_none}
-use Rattle.ioam_collect.specs.Gathered.{Gathered, group_in, AreOf}
+use Rattle.ioam_collect.specs.Best.{kept_of, of_key}
+use Rattle.ioam_collect.specs.Collected.{Collected, capped, count_unkeyed, gathered_in}
+use Rattle.ioam_collect.specs.Gathered.{Gathered, AreOf}
 use Rattle.ioam_collect.specs.Join.{pairs_in, joined}
-use Rattle.ioam_collect.specs.Joining.{count_in, is_full, AreAdded, ArePast, Takes, HasBoth, JoinsStores, IsJoined}
+use Rattle.ioam_collect.specs.Joining.{count_in, is_full, AreAdded, ArePast, Takes, HasBoth, IsJoined}
 use Rattle.ioam_collect.specs.Keyed.{key_cmp, keyed_of, keyed, with_keyed}
 use Rattle.ioam_collect.specs.declared.growing.Added.{Added}
 use Rattle.ioam_collect.specs.declared.growing.Added.TheVariants.{Kept, Replaced, Repeat, Unkeyed, Full}

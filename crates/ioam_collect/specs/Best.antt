@@ -61,7 +61,3 @@ RepeatsIn ps p = Contains ps p ⊎ ((tells p ≡ false) × (y : Key × Entry) ×
 -- the pair tells its visit, and the one that doesn't is among these
 abbrev pub ReplacesIn : List (Key × Entry) → Key × Entry → Type 0
 ReplacesIn ps p = (tells p ≡ true) × Contains ps (untold p)
-
--- these pairs without this one
-abbrev pub without_pair : Key × Entry → List (Key × Entry) → List (Key × Entry)
-without_pair p ps = filter (λ y. not (is_eq (pair_cmp y p))) ps

@@ -1,6 +1,7 @@
 //! Items that are read before they are needed, those of several chains side by side.
 ghost use Rattle.std.specs.Prelude.{◌≤◌, ◌*◌, length};
 
+use crate::grouping::Groups;
 use ioam_pool::Items;
 
 /// Of so many groups the items are read side by side.
@@ -36,4 +37,18 @@ pub fn read_ahead(groups: &mut [Option<Items<'_>>], most: u32) -> usize
         count = count.saturating_add(found);
     }
     count
+}
+
+// The items of each of the next groups.
+fn next_items<'a>(groups: &mut Groups<'a>) -> [Option<Items<'a>>; SIDE_BY_SIDE] {
+    [(); SIDE_BY_SIDE].map(|()| groups.next().map(|group| group.items))
+}
+
+/// Goes along the next groups, of which it reads at most `most` items each, and says how many it read. So groups that are lent
+/// twice are at hand in the one loan when the other has gone ahead.
+pub fn read_next_groups(groups: &mut Groups<'_>, most: u32) -> usize
+    ensures { result ≤ most * 16 }
+{
+    let mut items = next_items(groups);
+    read_ahead(&mut items, most)
 }

@@ -23,8 +23,8 @@ fn first_hops(export: &Export<'_>) -> u8
     (u32_at(export.element, 0) / HOPS) as u8
 }
 
-// The hop value of a record: that of bit 0 of its type, or of bit 8 where bit 0 isn't there.
-fn hop_value(export: &Export<'_>) -> Option<u8>
+/// The hop value of a record: that of bit 0 of its type, or of bit 8 where bit 0 isn't there.
+pub fn hop_value(export: &Export<'_>) -> Option<u8>
     requires parts { HasItsParts (record_of export.now) }
     ensures { result ≡ hops_of (record_of export.now) }
 {
@@ -43,7 +43,7 @@ fn hop_value(export: &Export<'_>) -> Option<u8>
 }
 
 /// Writes the version 1 record of a record into the room, and nothing else.
-pub(crate) fn write_core(export: &Export<'_>, room: &mut ExportRoom)
+pub fn write_core(export: &Export<'_>, room: &mut ExportRoom)
     requires parts { HasItsParts (record_of export.now) }
     requires room { 274 ≤ room.old.spare + length room.old.octets }
     ensures core { IsCoreOf (record_of export.now) room.new.octets }

@@ -15,12 +15,13 @@ mod ranking;
 mod slots;
 mod store;
 
-pub use ahead::{SIDE_BY_SIDE, read_ahead};
-pub use collector::Collector;
+pub use ahead::{SIDE_BY_SIDE, read_ahead, read_next_groups};
+pub use collector::{Collector, MOST_HELD};
 pub use grouping::{Group, Groups};
 pub use growing::Added;
 pub use joining::Joined;
 pub use key::Key;
+pub use keying::{hop_value, write_core};
 pub use laws::{
     any_tree_joins, groups_join, groups_tell_what_is_kept, joining_is_a_union, neighbours_tell,
     side_by_side,

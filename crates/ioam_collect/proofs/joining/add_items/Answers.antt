@@ -1,4 +1,4 @@
-use Rattle.std.proofs.Common.{◌≡◌, List, [], ◌∷◌, true, false, rules, ap, sym, ◌∙◌, subst}
+use Rattle.std.proofs.Common.{◌≡◌, List, [], ◌∷◌, rules, ap, subst}
 use Rattle.ioam_pool.specs.Entry.{Entry}
 use Rattle.ioam_collect.specs.Joining.{AreAdded, ArePast, Takes, under}
 use Rattle.ioam_collect.specs.declared.key.Key.{Key}

@@ -1,6 +1,4 @@
 use Rattle.std.proofs.Common.{sym, subst}
-use Rattle.std.specs.Map.{keys_of}
-use Rattle.ioam_collect.specs.Gathered.{Gathered}
 use Rattle.ioam_collect.proofs.JoiningLaws.{InOrder}
 use Rattle.ioam_collect.proofs.JoinedStores.{both_taken, first_past, second_past}
 use Rattle.ioam_collect.proofs.joining.join_stores.Goals as goal
