@@ -2,4 +2,5 @@ mod HeadLaws
 pub mod PartLaws
 mod PutLaws
 mod ReaderLaws
+pub mod RecordLaws
 mod TakingLaws

@@ -4,19 +4,28 @@ ghost use Rattle.ioam_part.specs.Part.{head_octets, most_records};
 ghost use Rattle.ioam_part.specs.Faults.{HasFault};
 
 use crate::fault::PartFault;
+use ioam_base::buffer::Buffer;
 use ioam_base::octets::{u32_at, u64_at};
-
-/// The most records of a part.
-pub const MOST_RECORDS: u32 = 1_048_576;
+use ioam_collect::MOST_HELD;
 
 /// The octets of the mark and the count.
-pub(crate) const HEAD_SIZE: usize = 12;
+pub const HEAD_SIZE: usize = 12;
 
 /// The octets of the mark.
 pub(crate) const MARK_SIZE: usize = 8;
 
-/// IOAMPART.
-pub(crate) const MARK: u64 = 0x494f_414d_5041_5254;
+// IOAMPART.
+const MARK: u64 = 0x494f_414d_5041_5254;
+
+/// The head of a part of so many records.
+pub fn head_of(count: u32) -> Buffer
+    ensures { result ≡ head_octets count }
+{
+    let mut head = Buffer::new();
+    head.eight(MARK);
+    head.four(count);
+    head
+}
 
 /// The count that a head says, or its fault and the place of that.
 pub(crate) fn count_of(head: &[u8]) -> Result<u32, (u64, PartFault)>
@@ -29,7 +38,7 @@ pub(crate) fn count_of(head: &[u8]) -> Result<u32, (u64, PartFault)>
         return Err((0, PartFault::Mark));
     }
     let found = u32_at(head, MARK_SIZE);
-    if found > MOST_RECORDS {
+    if found > MOST_HELD {
         return Err((MARK_SIZE as u64, PartFault::Count { found }));
     }
     Ok(found)

@@ -1,11 +1,17 @@
 //! Laws of parts. Each function says one by its contract, and does nothing.
-ghost use Rattle.std.specs.Prelude.{◌≡◌, ◌++◌, List, ℕ};
-ghost use Rattle.ioam_dex.specs.Record.{Record};
+ghost use Rattle.std.specs.Prelude.{◌≡◌, ◌++◌, List, Some, ℕ};
+ghost use Rattle.ioam_dex.specs.Record.{IsRecord, Record, record_octets};
 ghost use Rattle.ioam_pool.specs.Entry.{Entry};
 ghost use Rattle.ioam_collect.specs.Best.{groups_of};
-ghost use Rattle.ioam_collect.specs.Keyed.{keyed};
+ghost use Rattle.ioam_collect.specs.Keyed.{keyed, keyed_of};
 ghost use Rattle.ioam_collect.specs.declared.key.Key.{Key};
-ghost use Rattle.ioam_part.specs.Part.{IsPart, JoinsTo, PartOf};
+ghost use Rattle.ioam_part.specs.Part.{IsPart, JoinsTo, PartOf, item_octets};
+
+/// Says that what is kept of a record with a key gives that record: put together of its version 1 record and its visit it has the
+/// octets that records have.
+pub fn items_tell_their_records()
+    ensures { (x : Record) (p : Key × Entry) → IsRecord x → keyed_of x ≡ Some p → item_octets p.1 ≡ record_octets x }
+{}
 
 /// Says that groups have one part, and octets are the part of one list of records: two parts are equal octets exactly
 /// where their groups are equal.

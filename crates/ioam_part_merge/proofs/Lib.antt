@@ -1,4 +1,3 @@
-mod RecordLaws
 mod SideLaws
 mod TurnLaws
 pub mod WalkLaws

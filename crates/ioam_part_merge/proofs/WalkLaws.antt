@@ -17,7 +17,7 @@ use Rattle.ioam_collect.proofs.JoiningLaws.{keyed-append}
 use Rattle.ioam_collect.proofs.Members.{Has}
 use Rattle.ioam_collect.proofs.UniteLaws.{kept_apart, united_kept}
 use Rattle.ioam_part.specs.Part.{HasKey, IsPart, PartOf, head_octets}
-use Rattle.ioam_part_merge.proofs.RecordLaws.{item_is, records_for, said}
+use Rattle.ioam_part.proofs.RecordLaws.{item_is, records_for, said}
 use Rattle.ioam_part_merge.specs.Walk.{ShowsNext, Says, IsSide, TakesFirst, TakesSecond, TakesBoth, LeavesFirst, LeavesSecond, TurnsSo, Walking, Comes, NextIs, left_of, pairs_text}
 use Rattle.ioam_part_merge.specs.declared.side.Side.{Side}
 

@@ -9,9 +9,8 @@ ghost use Rattle.ioam_collect.specs.Keyed as collect;
 ghost use Rattle.ioam_collect.specs.Unite.{pair_meet};
 ghost use Rattle.ioam_part_merge.specs.Pairs.{entry_of, key_of, pair_of};
 
-use crate::keying::{hop_value, write_core};
 use ioam_base::memory::NoMemory;
-use ioam_collect::Key;
+use ioam_collect::{Key, hop_value, write_core};
 use ioam_dex::{Export, ExportRoom, MOST_RECORD, visit_octets};
 use std::alloc::Global;
 use std::cmp::Ordering;

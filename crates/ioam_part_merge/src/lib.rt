@@ -4,15 +4,16 @@
 mod cores;
 mod counting;
 mod keeper;
-mod keying;
 mod making;
 mod side;
 mod step;
 mod turn;
 mod walk;
 
-pub use counting::{count_both, head_of};
+pub use counting::count_both;
 pub use keeper::{PartKeeper, PartOctets};
 pub use walk::Walk;
 // The most octets of a record that comes of a walk.
 pub use ioam_dex::MOST_RECORD;
+// The head of the part that a walk's records make.
+pub use ioam_part::head_of;

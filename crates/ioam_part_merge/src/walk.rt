@@ -12,11 +12,9 @@ use crate::making::side_of;
 use crate::side::Side;
 use crate::step::next_of;
 use ioam_base::memory::NoMemory;
+use ioam_part::HEAD_SIZE;
 use std::alloc::Global;
 use std::marker::Model;
-
-// The octets of the mark and the count.
-const HEAD_SIZE: usize = 12;
 
 /// Two parts that are walked side by side: the records that either has, each once and in their order. Of a record that one
 /// tells with its visit and the other without, the one with it comes.

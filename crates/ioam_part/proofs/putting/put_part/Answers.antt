@@ -3,10 +3,4 @@ use Rattle.ioam_part.proofs.PutLaws.{put_is}
 use Rattle.ioam_part.proofs.putting.put_part.Goals as goal
 
 pub returns-clause-part : goal.returns-clause-part
-returns-clause-part c = λ xs all s few. put_is c.args.collector.now xs (sym c.groups.ensures.groups ∙ c.groups.ensures.exact xs s) all s few
-
-pub returns-in_err-try_reserve_exact-clause-part : goal.returns-in_err-try_reserve_exact-clause-part
-returns-in_err-try_reserve_exact-clause-part c = λ xs all s few. put_is c.args.collector.now xs (sym c.groups.ensures.groups ∙ c.groups.ensures.exact xs s) all s few
-
-pub returns-in_err-put_head-clause-part : goal.returns-in_err-put_head-clause-part
-returns-in_err-put_head-clause-part c = λ xs all s few. put_is c.args.collector.now xs (sym c.groups.ensures.groups ∙ c.groups.ensures.exact xs s) all s few
+returns-clause-part c = λ xs all s few. put_is c.args.collector.now xs (sym c.groups-ahead.ensures.groups ∙ c.groups-ahead.ensures.exact xs s) all s few

@@ -20,8 +20,8 @@ returns-in-None c = λ ps comes.
     let within = c.records.invariant.within in
     (omega (arith, none, all), within)
 
-pub returns-then-count-ge-MOST_RECORDS : goal.returns-then-count-ge-MOST_RECORDS
-returns-then-count-ge-MOST_RECORDS c = λ ps comes.
+pub returns-then-count-ge-MOST_HELD : goal.returns-then-count-ge-MOST_HELD
+returns-then-count-ge-MOST_HELD c = λ ps comes.
     let now = c.records.invariant.came ps comes in
     let next = c.in-Some.ensures.next now.0 now.1 in
     let one = ap length next.are in

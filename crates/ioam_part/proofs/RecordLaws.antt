@@ -1,18 +1,18 @@
 -- Records of which pairs are.
 use Rattle.std.proofs.Common.{◌≡◌, ℕ, ◌+◌, Bool, true, false, cond, List, [], ◌∷◌, ◌++◌, length, All, refl, sym, ap, ap₂, ◌∙◌, subst, arith, inl, inr, Option, None, Some}
+use Rattle.std.specs.List.{flat_map}
 use Rattle.std.proofs.lemmas.List.Elements.{All-nil, All-cons, All-head, All-tail}
 use Rattle.ioam_base.specs.Words.{two_octets, three_octets, four_octets_if}
 use Rattle.ioam_dex.specs.Record.{Record, IsRecord, record_octets, record_size}
 use Rattle.ioam_dex.specs.Reads.{records_octets}
 use Rattle.ioam_dex.specs.Visit.{visit_octets}
 use Rattle.ioam_dex.proofs.RecordLaws.{record_octets-length}
-use Rattle.ioam_collect.specs.Entry.{Entry, has_some, is_full}
+use Rattle.ioam_pool.specs.Entry.{Entry, has_some, is_full}
 use Rattle.ioam_collect.specs.Keyed.{core_of, keyed_of, keyed, with_keyed, hops_of}
 use Rattle.ioam_collect.specs.declared.key.Key.{Key}
 use Rattle.ioam_collect.proofs.Members.{Has}
 use Rattle.ioam_part.specs.Part.{HasKey, told_octets, item_octets}
 use Rattle.ioam_part.proofs.PartLaws.{item_parts, core_sayable, keyed-cons}
-use Rattle.ioam_part_merge.specs.Walk.{pairs_octets}
 
 -- ---- one record
 
@@ -43,6 +43,10 @@ item_is x p is_x is =
     item_by x p.1 x.visit is_x refl parts.0 parts.1
 
 -- ---- the records of pairs
+
+-- their octets, one behind the other
+abbrev pub pairs_octets : List (Key × Entry) → List ℕ
+pairs_octets ps = flat_map (λ (p : Key × Entry). item_octets p.1) ps
 
 -- records for pairs
 pub record For (ps : List (Key × Entry)) : Type 0 where
