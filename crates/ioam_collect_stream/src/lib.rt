@@ -10,4 +10,4 @@ mod step;
 pub use feed::{ExportFeed, open_exports};
 pub use gathering::{Halt, gather};
 pub use reporting::write_report;
-pub use step::{MOST_HELD, MOST_RECORDS};
+pub use step::MOST_RECORDS;

@@ -5,14 +5,11 @@ ghost use Rattle.ioam_dex.specs.Record.{HasItsParts, record_of};
 ghost use Rattle.ioam_collect_stream.specs.Gathering.{SaysLimit, Steps, is_full, most_held};
 
 use ioam_base::memory::NoMemory;
-use ioam_collect::{Added, Collector};
+use ioam_collect::{Added, Collector, MOST_HELD};
 use ioam_dex::{Export, ExportFault, ExportReader, Step};
 
 /// The most records that are read.
 pub const MOST_RECORDS: u32 = 67_108_864;
-
-/// The most records that are held.
-pub const MOST_HELD: u32 = 1_048_576;
 
 /// Why no record was taken.
 #[derive(Clone, Copy)]

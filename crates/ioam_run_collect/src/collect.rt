@@ -43,7 +43,7 @@ fn run_names<D: Desk>(alloc: Global, files: &CollectFiles<'_>, desk: &mut D) -> 
     ensures kept_in { KeepsInputs (D.reading desk.old) (D.reading desk.new) }
     ensures kept_out { IsTrue D.tells → KeepsOutputs (D.writing desk.old) (D.writing desk.new) }
 {
-    if files.exports.text() == files.report.text() {
+    if files.exports.is(files.report) {
         names_outcome(alloc, files.report)
     } else {
         run_files(alloc, files.exports, slice::from_ref(files.report), desk)

@@ -13,8 +13,8 @@ ghost use Rattle.ioam_run_collect.specs.Ends.{FileCause, Finishes, Start, is_out
 
 use ioam_base::memory::NoMemory;
 use ioam_base::name::Name;
-use ioam_collect::Collector;
-use ioam_collect_stream::{ExportFeed, Halt, MOST_HELD, gather, open_exports, write_report};
+use ioam_collect::{Collector, MOST_HELD};
+use ioam_collect_stream::{ExportFeed, Halt, gather, open_exports, write_report};
 use ioam_desk::{Desk, DeskFault, PIECE, new_piece};
 use ioam_desk_outputs::{Output, open_outputs};
 use ioam_run_answer::Outcome;

@@ -10,13 +10,12 @@ ghost use Rattle.ioam_run_part.specs.PartEnds.{Finishes, PartEnds, is_out, outco
 ghost use Rattle.ioam_run_part.specs.Records.{IsPartOfAll};
 ghost use Rattle.ioam_run_part.specs.Stored.{IsBlank};
 
-use crate::piece::new_piece;
 use crate::stored::write_text;
 use ioam_base::memory::NoMemory;
 use ioam_base::name::Name;
-use ioam_collect::Collector;
-use ioam_collect_stream::{ExportFeed, Halt, MOST_HELD, gather, open_exports};
-use ioam_desk::{Desk, DeskFault, PIECE};
+use ioam_collect::{Collector, MOST_HELD};
+use ioam_collect_stream::{ExportFeed, Halt, gather, open_exports};
+use ioam_desk::{Desk, DeskFault, PIECE, new_piece};
 use ioam_part::put_part;
 use ioam_run_answer::Outcome;
 use std::alloc::Global;

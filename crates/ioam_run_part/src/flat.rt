@@ -9,11 +9,10 @@ ghost use Rattle.ioam_run_part.specs.Flat.{JudgesFlat, ReadsFlatFile, ReadsFlatS
 ghost use Rattle.ioam_run_part.specs.Records.{ReadsFew};
 ghost use Rattle.ioam_run_part.specs.Unread.{unread_by};
 
-use crate::piece::new_piece;
 use crate::unread::{MOST_OCTETS, Unread, unread_by};
 use ioam_base::memory::NoMemory;
 use ioam_base::name::Name;
-use ioam_desk::{Desk, PIECE};
+use ioam_desk::{Desk, PIECE, new_piece};
 use ioam_part::PartRefused;
 use ioam_part_merge::{PartKeeper, PartOctets};
 use std::alloc::Global;

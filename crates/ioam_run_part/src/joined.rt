@@ -17,7 +17,7 @@ use crate::walked::store_walk;
 use ioam_base::memory::NoMemory;
 use ioam_base::name::Name;
 use ioam_base::text::append;
-use ioam_collect_stream::MOST_HELD;
+use ioam_collect::MOST_HELD;
 use ioam_desk::{Desk, DeskFault, PIECE};
 use ioam_part_merge::{MOST_RECORD, PartOctets, Walk, count_both, head_of};
 use ioam_run_answer::Outcome;

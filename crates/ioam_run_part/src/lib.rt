@@ -10,7 +10,6 @@ mod merge;
 mod names;
 mod part;
 mod parts;
-mod piece;
 mod stored;
 mod two;
 mod unread;

@@ -6,7 +6,7 @@ ghost use Rattle.ioam_run_part.specs.MergeEnds.{MergeEnds};
 ghost use Rattle.ioam_run_part.specs.MergePromise.{MergeKeeps};
 
 use crate::joined::write_joined;
-use crate::names::{MergeFiles, are_equal};
+use crate::names::MergeFiles;
 use crate::two::read_two;
 use ioam_base::name::Name;
 use ioam_desk::Desk;
@@ -31,10 +31,10 @@ fn repeat<'a>(files: &MergeFiles<'a>) -> Option<&'a Name>
     ensures { MatchOption result (AreApart files.now.one files.now.two files.now.part)
         (λ name. IsRepeat files.now.one files.now.two files.now.part name.now) }
 {
-    if are_equal(files.one, files.two) {
+    if files.one.is(files.two) {
         return Some(files.two);
     }
-    if are_equal(files.one, files.part) || are_equal(files.two, files.part) {
+    if files.one.is(files.part) || files.two.is(files.part) {
         return Some(files.part);
     }
     None

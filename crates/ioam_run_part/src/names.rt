@@ -1,16 +1,9 @@
 //! The files that the words of the commands name.
-ghost use Rattle.std.specs.Prelude.{◌≡◌, ◌≢◌, MatchBool, length};
+ghost use Rattle.std.specs.Prelude.{◌≡◌, length};
 ghost use Rattle.ioam_run_part.specs.Files.{merge_names, part_names, parts_names};
 
 use ioam_base::name::Name;
 use std::marker::Model;
-
-/// Whether two names are equal.
-pub(crate) fn are_equal(one: &Name, other: &Name) -> bool
-    ensures { MatchBool result (one.now ≡ other.now) (one.now ≢ other.now) }
-{
-    one.text() == other.text()
-}
 
 /// The names of the files of `part EXPORTS PART`.
 #[derive(Drop)]

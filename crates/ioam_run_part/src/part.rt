@@ -3,7 +3,7 @@ ghost use Rattle.ioam_run_answer.specs.Desks.{around};
 ghost use Rattle.ioam_run_part.specs.PartPromise.{PartKeeps};
 
 use crate::exports::run_files;
-use crate::names::{PartFiles, are_equal};
+use crate::names::PartFiles;
 use ioam_desk::Desk;
 use ioam_run_answer::{Outcome, names_outcome};
 use std::alloc::Global;
@@ -17,7 +17,7 @@ use std::alloc::Global;
 pub fn run_part<D: Desk>(alloc: Global, files: &PartFiles<'_>, desk: &mut D) -> Outcome
     ensures keeps { PartKeeps (around D.tells (D.reading desk.old) (D.reading desk.new) (D.writing desk.old) (D.writing desk.new)) files.now result }
 {
-    if are_equal(files.exports, files.part) {
+    if files.exports.is(files.part) {
         names_outcome(alloc, files.part)
     } else {
         run_files(alloc, files.exports, files.part, desk)

@@ -9,7 +9,7 @@ ghost use Rattle.ioam_run_part.specs.PartsEnds.{PartsEnds};
 ghost use Rattle.ioam_run_part.specs.PartsPromise.{PartsKeeps};
 
 use crate::kept::put_kept;
-use crate::names::{PartsFiles, are_equal};
+use crate::names::PartsFiles;
 use crate::stored::{store, stored_outcome};
 use crate::unread::{read_held, unread_outcome};
 use ioam_base::memory::NoMemory;
@@ -27,7 +27,7 @@ use std::alloc::Global;
 pub fn run_parts<D: Desk>(alloc: Global, files: &PartsFiles<'_>, desk: &mut D) -> Outcome
     ensures keeps { PartsKeeps (around D.tells (D.reading desk.old) (D.reading desk.new) (D.writing desk.old) (D.writing desk.new)) files.now result }
 {
-    if are_equal(files.part, files.report) {
+    if files.part.is(files.report) {
         names_outcome(alloc, files.report)
     } else {
         run_apart(alloc, files.part, files.report, desk)

@@ -9,12 +9,10 @@ ghost use Rattle.ioam_run_answer.specs.declared.outcome.Outcome.{Outcome};
 ghost use Rattle.ioam_run_part.specs.Records.{ReadsFew};
 ghost use Rattle.ioam_run_part.specs.Unread.{Judges, ReadsFile, ReadsSlot, answer_of, unread_by};
 
-use crate::piece::new_piece;
 use ioam_base::memory::NoMemory;
 use ioam_base::name::Name;
-use ioam_collect::Collector;
-use ioam_collect_stream::MOST_HELD;
-use ioam_desk::{Desk, DeskFault, PIECE};
+use ioam_collect::{Collector, MOST_HELD};
+use ioam_desk::{Desk, DeskFault, PIECE, new_piece};
 use ioam_part::{PartFault, PartReader, PartRefused};
 use ioam_run_answer::Outcome;
 use std::alloc::Global;

@@ -4,7 +4,7 @@ use crate::collect_rows::broken;
 use crate::desks::{Command, are_begun, are_held, desk_with, is_unopened, line_of};
 use crate::fronts::outputs_of;
 use crate::message_faults::message_fell;
-use crate::parts::failing::merge_fell;
+use crate::parts::failing::{merge_fell, part_fell, parts_fell};
 use crate::transit::failing::node_fell;
 use ioam_base::memory::NoMemory;
 use ioam_desk::MemoryDesk;
@@ -133,7 +133,9 @@ enum Case {
     Records,
     Node,
     Audit,
+    Part,
     Merge,
+    Parts,
 }
 
 fn case_fell(alloc: Global, case: Case, piece: usize, call: u64) -> Result<Fell, NoMemory> {
@@ -145,7 +147,9 @@ fn case_fell(alloc: Global, case: Case, piece: usize, call: u64) -> Result<Fell,
         Case::Records => message_fell(alloc, Command::Records, piece, call),
         Case::Node => node_fell(alloc, piece, call),
         Case::Audit => audit_fell(alloc, piece, call),
+        Case::Part => part_fell(alloc, piece, call),
         Case::Merge => merge_fell(alloc, piece, call),
+        Case::Parts => parts_fell(alloc, piece, call),
     }
 }
 
@@ -182,8 +186,12 @@ fn each_call_fails_once(rt: HostRuntime) {
         (Case::Ipfix, 22, [1, 4, 28]),
         (Case::Records, 65536, [1, 2, 2]),
         (Case::Records, 52, [1, 13, 3]),
+        (Case::Part, 65536, [1, 1, 2]),
+        (Case::Part, 11, [1, 3, 5]),
         (Case::Merge, 65536, [6, 0, 2]),
         (Case::Merge, 7, [17, 0, 13]),
+        (Case::Parts, 65536, [3, 0, 2]),
+        (Case::Parts, 7, [10, 0, 11]),
         (Case::Node, 65536, [5, 1, 5]),
         (Case::Node, 7, [5, 1, 5]),
         (Case::Audit, 65536, [5, 3, 2]),

@@ -248,3 +248,18 @@ pub(crate) fn sound() -> &'static [&'static str] {
 pub(crate) fn failing() -> &'static Row {
     &JOINED[3]
 }
+
+/// A run of `part` whose calls fail so: a whole record, and an octet that begins none.
+pub(crate) fn failing_part() -> &'static Row {
+    &PARTS_WRITTEN[3]
+}
+
+/// A run of `parts` whose calls fail so.
+pub(crate) fn failing_print() -> &'static PrintedRow {
+    &PRINTED[2]
+}
+
+/// The part of no records.
+pub(crate) fn nothing() -> &'static [&'static str] {
+    &[NONE]
+}
