@@ -12,13 +12,19 @@ use Rattle.ioam_run_texts.specs.Clean.{MayLeave}
 use Rattle.ioam_run_outputs.specs.Outlets.{tapped}
 use Rattle.ioam_desk_outputs.specs.Told.{Adds, said_more}
 use Rattle.ioam_desk_outputs.specs.declared.output.Output.{Output}
+use Rattle.ioam_pcap.specs.Reader.{entry_of}
 use Rattle.ioam_pcap.specs.Text.{IsCaptureOf}
 use Rattle.ioam_plan.specs.Counted.{CountFor}
 use Rattle.ioam_plan.specs.declared.itinerary.Itinerary.{Itinerary}
 use Rattle.ioam_report.specs.Sums.{StandFor}
 use Rattle.ioam_topo.specs.Domain.{links, ports}
 use Rattle.ioam_topo.specs.declared.domain.Domain.{Domain}
+use Rattle.ioam_run_arrivals.specs.declared.arriving.Arrival.{Arrival}
 use Rattle.ioam_run_arrivals.specs.declared.forwarding.Forwarding.{Forwarding}
+
+-- an arrival by its port, its form and its record
+abbrev pub frame_of : Arrival → Frame
+frame_of arrival = record { port = arrival.port; ethernet = arrival.ethernet; entry = entry_of arrival.captured }
 
 -- sums, numbers and jobs are those of some arrivals in the domain
 pub record IsOf (domain : Domain) (gathered : Forwarding) : Type 0 where

@@ -3,20 +3,30 @@ ghost use Rattle.std.specs.Prelude.{◌≡◌, ◌<◌, ◌≤◌, ◌^◌, ◌�
 ghost use Rattle.ioam_batch.specs.Jobs.{Holds, IsFresh};
 ghost use Rattle.ioam_node.specs.Admission.{packet_of};
 ghost use Rattle.ioam_pcap.specs.Entries.{most};
-ghost use Rattle.ioam_pcap.specs.Reader.{entry_of};
 ghost use Rattle.ioam_plan.specs.Counted.{CountFor};
 ghost use Rattle.ioam_plan.specs.declared.itinerary.Itinerary.{Itinerary};
 ghost use Rattle.ioam_topo.specs.Domain.{flows, ports};
-ghost use Rattle.ioam_run_arrivals.specs.Forwarding.{Arrived};
+ghost use Rattle.ioam_run_arrivals.specs.Forwarding.{Arrived, frame_of};
 
 use ioam_base::memory::NoMemory;
-use ioam_batch::Job;
+use ioam_batch::{Job, JobMemory};
 use ioam_clock::Readings;
 use ioam_node::{Admit, admit};
 use ioam_pcap::Packet;
-use ioam_plan::{Counters, plan};
+use ioam_plan::{Counters, plan_in};
 use ioam_topo::{Domain, PortId};
 use std::alloc::Global;
+
+/// A packet that was captured at a port, and whether its frame begins with an Ethernet header.
+#[derive(Clone, Copy)]
+pub struct Arrival<'a> {
+    /// The port by which it comes.
+    pub port: PortId,
+    /// Whether an Ethernet header stands in front of the packet.
+    pub ethernet: bool,
+    /// What was captured of it, and when.
+    pub captured: Packet<'a>,
+}
 
 // The packet that is taken in; no octets where the frame is dropped.
 fn packet_of<'a>(admitted: &Admit<'a>) -> &'a [u8]
@@ -29,20 +39,20 @@ fn packet_of<'a>(admitted: &Admit<'a>) -> &'a [u8]
     }
 }
 
-/// The job of an arrival, of which no visit is done. Where it is enclosed it draws its number: the
-/// counters, which stand for the arrivals before, then stand for this one too.
+/// The job of an arrival, of which no visit is done, in the memory of a job that was told where that has
+/// the room. Where it is enclosed it draws its number: the counters, which stand for the arrivals before,
+/// then stand for this one too.
 pub(crate) fn job_of(
     alloc: Global,
+    mut memory: JobMemory,
     domain: &Domain,
     readings: &Readings,
     counters: &mut Counters,
-    port: PortId,
-    ethernet: bool,
-    captured: &Packet<'_>,
+    arrival: &Arrival<'_>,
 ) -> Result<Job, NoMemory>
-    requires port { port.0 < length (ports domain.now) }
-    requires time { captured.now.time < 2 ^ 62 }
-    requires short { length captured.now.octets.now ≤ most }
+    requires port { arrival.now.port.0 < length (ports domain.now) }
+    requires time { arrival.now.captured.time < 2 ^ 62 }
+    requires short { length arrival.now.captured.octets.now ≤ most }
     requires counters { length counters.old ≡ length (flows domain.now) }
     requires few { All (λ number. number < 2 ^ 32) counters.old }
     ensures fresh { IfOk result (IsFresh domain.now) }
@@ -50,19 +60,26 @@ pub(crate) fn job_of(
     ensures counted { (earlier : List Itinerary) → CountFor domain.now counters.old earlier
         → IfOk result (λ job. CountFor domain.now counters.new (earlier ++ job.itinerary ∷ [])) }
     ensures arrived { (earlier : List Itinerary) → CountFor domain.now counters.old earlier
-        → IfOk result (Arrived domain.now readings.now earlier
-        (record { port = port; ethernet = ethernet; entry = entry_of captured.now })) }
+        → IfOk result (Arrived domain.now readings.now earlier (frame_of arrival.now)) }
 {
-    let admitted = admit(domain, port, ethernet, captured.is_cut(), captured.octets);
-    let itinerary = plan(
+    let captured = &arrival.captured;
+    let admitted = admit(
+        domain,
+        arrival.port,
+        arrival.ethernet,
+        captured.is_cut(),
+        captured.octets,
+    );
+    let itinerary = plan_in(
         alloc,
+        memory.take_visits(alloc),
         domain,
         readings,
         counters,
-        port,
+        arrival.port,
         captured.time,
         &admitted,
     )?;
-    let job = Job::new(alloc, domain, itinerary, packet_of(&admitted))?;
+    let job = Job::renewed(alloc, memory, domain, itinerary, packet_of(&admitted))?;
     Ok(job)
 }

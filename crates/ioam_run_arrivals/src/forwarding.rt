@@ -6,22 +6,20 @@ ghost use Rattle.ioam_run_texts.specs.Texts.{sums_by, texts_so_far};
 ghost use Rattle.ioam_run_outputs.specs.Outlets.{outlet_count};
 ghost use Rattle.ioam_desk_outputs.specs.Told.{Adds, said_more};
 ghost use Rattle.ioam_pcap.specs.Entries.{most};
-ghost use Rattle.ioam_pcap.specs.Reader.{entry_of};
 ghost use Rattle.ioam_topo.specs.Domain.{ports};
-ghost use Rattle.ioam_run_arrivals.specs.Forwarding.{Forwards, Forwarded, IsOf, NoneWaits, has_room, taken};
+ghost use Rattle.ioam_run_arrivals.specs.Forwarding.{Forwards, Forwarded, IsOf, NoneWaits, frame_of, has_room, taken};
 
-use crate::arriving::job_of;
+use crate::arriving::{Arrival, job_of};
 use crate::telling::put_jobs;
 use ioam_base::memory::NoMemory;
 use ioam_batch::{Batch, Gate, run_batch};
 use ioam_clock::Readings;
 use ioam_desk_outputs::Output;
-use ioam_pcap::Packet;
 use ioam_plan::Counters;
 use ioam_report::{Sums, put_sums};
 use ioam_run_outputs::place_of_report;
 use ioam_run_texts::put_heads;
-use ioam_topo::{Domain, LinkId, PortId};
+use ioam_topo::{Domain, LinkId};
 use std::alloc::Global;
 use std::thread::Threads;
 
@@ -76,40 +74,31 @@ impl Forwarding {
         self.batch.has_room()
     }
 
-    /// Takes the next arrival: `ethernet` says that its frame begins with an Ethernet header. It draws
-    /// its number where it is enclosed, is counted, and its job waits; nothing is told. Fewer than 2^32
-    /// arrivals were taken. After NoMemory nothing is known of what was counted and waits.
+    /// Takes the next arrival. It draws its number where it is enclosed, is counted, and its job waits, in
+    /// the memory of one that was told where that has the room; nothing is told. Fewer than 2^32 arrivals
+    /// were taken. After NoMemory nothing is known of what was counted and waits.
     pub fn take(
         &mut self,
         alloc: Global,
         domain: &Domain,
         readings: &Readings,
-        port: PortId,
-        ethernet: bool,
-        captured: &Packet<'_>,
+        arrival: &Arrival<'_>,
     ) -> Result<(), NoMemory>
         requires of { IsOf domain.now self.old }
         requires room { IsTrue (has_room self.old) }
-        requires port { port.0 < length (ports domain.now) }
-        requires time { captured.now.time < 2 ^ 62 }
-        requires short { length captured.now.octets.now ≤ most }
+        requires port { arrival.now.port.0 < length (ports domain.now) }
+        requires time { arrival.now.captured.time < 2 ^ 62 }
+        requires short { length arrival.now.captured.octets.now ≤ most }
         requires few { taken self.old < 2 ^ 32 }
         ensures of { OnOk result (IsOf domain.now self.new) }
         ensures counted { OnOk result (taken self.new ≡ taken self.old + 1) }
         ensures gathers { OnOk result ((opens : Bool) (frames : List Frame) (so_far : List (List ℕ))
             → Forwards opens domain.now readings.now frames so_far self.old
             → Forwards opens domain.now readings.now
-            (frames ++ record { port = port; ethernet = ethernet; entry = entry_of captured.now } ∷ []) so_far self.new) }
+            (frames ++ frame_of arrival.now ∷ []) so_far self.new) }
     {
-        let job = job_of(
-            alloc,
-            domain,
-            readings,
-            &mut self.counters,
-            port,
-            ethernet,
-            captured,
-        )?;
+        let memory = self.batch.spare(alloc);
+        let job = job_of(alloc, memory, domain, readings, &mut self.counters, arrival)?;
         self.sums.note(job.itinerary());
         self.batch.push(job);
         Ok(())

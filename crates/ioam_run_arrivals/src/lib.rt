@@ -7,6 +7,7 @@ mod forwarding;
 mod skipping;
 mod telling;
 
+pub use arriving::Arrival;
 pub use forwarding::Forwarding;
 // What its caller hands it: whether workers may begin.
 pub use ioam_batch::{Gate, OpenGate};

@@ -11,7 +11,7 @@ use crate::terms::Terms;
 use ioam_base::memory::NoMemory;
 use ioam_pcap::Packet;
 use ioam_report::Sums;
-use ioam_run_arrivals::{Forwarding, Gate};
+use ioam_run_arrivals::{Arrival, Forwarding, Gate};
 use ioam_topo::{Domain, PortId};
 use std::alloc::Global;
 use std::thread::Threads;
@@ -80,19 +80,17 @@ fn take_next<R: Threads + Sync, G: Gate>(
 {
     make_room(terms, &mut load.gathered);
     put_packet(load.state, &mut load.octets)?;
-    let captured = Packet {
-        time: u64::from(number) * PAUSE,
-        original: load.octets.len() as u32,
-        octets: &load.octets,
+    let arrival = Arrival {
+        port: PortId(0),
+        ethernet: false,
+        captured: Packet {
+            time: u64::from(number) * PAUSE,
+            original: load.octets.len() as u32,
+            octets: &load.octets,
+        },
     };
-    load.gathered.take(
-        alloc,
-        terms.domain,
-        terms.readings,
-        PortId(0),
-        false,
-        &captured,
-    )?;
+    load.gathered
+        .take(alloc, terms.domain, terms.readings, &arrival)?;
     load.state = next_state(load.state);
     Ok(())
 }

@@ -13,7 +13,7 @@ use ioam_capture::Step;
 use ioam_capture_merge::Merge;
 use ioam_clock::Readings;
 use ioam_pcap::is_ethernet;
-use ioam_run_arrivals::Forwarding;
+use ioam_run_arrivals::{Arrival, Forwarding};
 use ioam_topo::{Domain, PortId};
 use std::alloc::Global;
 
@@ -52,8 +52,12 @@ impl Progress {
         match capture.feed.reader.next() {
             Step::Packet { link, packet } => {
                 let ethernet = is_ethernet(link);
-                self.gathered
-                    .take(alloc, domain, readings, port, ethernet, &packet)
+                let arrival = Arrival {
+                    port,
+                    ethernet,
+                    captured: packet,
+                };
+                self.gathered.take(alloc, domain, readings, &arrival)
             }
             Step::NoMemory => Err(NoMemory),
             _ => unreachable!(),

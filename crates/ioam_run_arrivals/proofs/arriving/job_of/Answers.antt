@@ -9,13 +9,13 @@ use Rattle.ioam_run_arrivals.proofs.arriving.job_of.Goals as goal
 
 pub returns-clause-counted : goal.returns-clause-counted
 returns-clause-counted c = λ earlier counts.
-    subst (λ (it : Itinerary). CountFor c.args.domain.now c.plan.new.counters (earlier ++ it ∷ [])) (sym c.in_ok-job.ensures.of.itinerary_is)
+    subst (λ (it : Itinerary). CountFor c.args.domain.now c.plan_in.new.counters (earlier ++ it ∷ [])) (sym c.in_ok-job.ensures.of.itinerary_is)
     (c.in_ok-itinerary.ensures.counted earlier counts)
 
 pub returns-clause-arrived : goal.returns-clause-arrived
 returns-clause-arrived c = λ earlier counts.
-    let P : Bool → Type 0 = λ cut. IsSomeAnd (slice_get (ports c.args.domain.now) c.args.port.0)
-    (λ at. Admits c.args.domain.now at.node.0 (framing_of c.args.ethernet cut c.args.captured.now.octets.now) c.admit-admitted.result) in
+    let P : Bool → Type 0 = λ cut. IsSomeAnd (slice_get (ports c.args.domain.now) c.args.arrival.now.port.0)
+    (λ at. Admits c.args.domain.now at.node.0 (framing_of c.args.arrival.now.ethernet cut c.args.arrival.now.captured.octets.now) c.admit-admitted.result) in
     let it = c.in_ok-itinerary.itinerary in
     record {
       fate = record { packet = c.packet_of.result.now; itinerary = it };

@@ -1,5 +1,6 @@
-use Rattle.std.proofs.Common.{◌<◌, ◌^◌, ◌∷◌, ◌++◌, [], List, All, length, refl, sym, subst, arith}
+use Rattle.std.proofs.Common.{◌≡◌, ◌<◌, ◌^◌, ◌∷◌, ◌++◌, ◌∙◌, [], List, All, length, refl, sym, ap, subst, arith}
 use Rattle.std.specs.Prelude.{IfSome}
+use Rattle.ioam_batch.specs.declared.job.Job.{Job}
 use Rattle.ioam_plan.specs.declared.itinerary.Itinerary.{Itinerary}
 use Rattle.ioam_plan.specs.declared.itinerary.Visit.{Visit}
 use Rattle.ioam_report.specs.Sums.{IsEndBelow, StandFor}
@@ -32,14 +33,14 @@ pub returns-clause-of : goal.returns-clause-of
 returns-clause-of c =
     let sums = subst (λ (it : Itinerary). (arrivals : List Itinerary) → StandFor c.args.domain.now c.args.self.now.sums arrivals
     → StandFor c.args.domain.now c.note.new.self (arrivals ++ it ∷ [])) c.itinerary.ensures (c.note.ensures.stands c.args.domain.now) in
-    IsOf-push c.args.domain.now c.args.self.now _ c.in_ok-job.job c.push.ensures refl c.in_ok-job.ensures.counted sums
+    IsOf-push c.args.domain.now c.args.self.now _ c.in_ok-job.job (c.push.ensures ∙ ap (λ (jobs : List Job). jobs ++ c.in_ok-job.job ∷ []) c.spare-memory.ensures) refl c.in_ok-job.ensures.counted sums
     refl c.in_ok-job.ensures.fresh c.in_ok-job.ensures.holds c.requires.of
 
 pub returns-clause-gathers : goal.returns-clause-gathers
 returns-clause-gathers c = λ opens frames so_far.
     let sums = subst (λ (it : Itinerary). (arrivals : List Itinerary) → StandFor c.args.domain.now c.args.self.now.sums arrivals
     → StandFor c.args.domain.now c.note.new.self (arrivals ++ it ∷ [])) c.itinerary.ensures (c.note.ensures.stands c.args.domain.now) in
-    let of = IsOf-push c.args.domain.now c.args.self.now _ c.in_ok-job.job c.push.ensures refl c.in_ok-job.ensures.counted sums
+    let of = IsOf-push c.args.domain.now c.args.self.now _ c.in_ok-job.job (c.push.ensures ∙ ap (λ (jobs : List Job). jobs ++ c.in_ok-job.job ∷ []) c.spare-memory.ensures) refl c.in_ok-job.ensures.counted sums
     refl c.in_ok-job.ensures.fresh c.in_ok-job.ensures.holds c.requires.of in
-    Forwards-push c.args.domain.now c.args.self.now _ c.in_ok-job.job c.push.ensures refl c.in_ok-job.ensures.counted sums
+    Forwards-push c.args.domain.now c.args.self.now _ c.in_ok-job.job (c.push.ensures ∙ ap (λ (jobs : List Job). jobs ++ c.in_ok-job.job ∷ []) c.spare-memory.ensures) refl c.in_ok-job.ensures.counted sums
     c.args.readings.now _ c.in_ok-job.ensures.arrived of opens frames so_far
