@@ -10,4 +10,3 @@ mod step;
 pub use feed::{ExportFeed, open_exports};
 pub use gathering::{Halt, gather};
 pub use reporting::write_report;
-pub use step::MOST_RECORDS;

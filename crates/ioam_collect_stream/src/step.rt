@@ -6,10 +6,7 @@ ghost use Rattle.ioam_collect_stream.specs.Gathering.{SaysLimit, Steps, is_full,
 
 use ioam_base::memory::NoMemory;
 use ioam_collect::{Added, Collector, MOST_HELD};
-use ioam_dex::{Export, ExportFault, ExportReader, Step};
-
-/// The most records that are read.
-pub const MOST_RECORDS: u32 = 67_108_864;
+use ioam_dex::{Export, ExportFault, ExportReader, MOST_RECORDS, Step};
 
 /// Why no record was taken.
 #[derive(Clone, Copy)]

@@ -12,6 +12,7 @@ ghost use Rattle.ioam_ipfix.specs.Templates.{IsTemplate};
 use crate::template::{tells_flow, tells_seq, tells_visit, weight};
 use ioam_base::octets::u16_at;
 use ioam_data::{Namespace, TraceType};
+use ioam_dex::extension::{FLOW_ID, SEQUENCE_NUMBER};
 use ioam_dex::{Export, ExportRoom, MOST_ELEMENT, is_filled, u32_where, visit_where};
 
 // Where an export record has its version, its extension flags, its namespace, its flags and its type, behind which stand visit,
@@ -46,8 +47,8 @@ fn template_at(octets: &[u8]) -> u16
     ensures { result ≡ template_at octets.now }
 {
     let ext = octets[EXTENSIONS];
-    256 + weight(ext / 128 % 2 == 1, 4)
-        + weight(ext / 64 % 2 == 1, 2)
+    256 + weight(ext / FLOW_ID % 2 == 1, 4)
+        + weight(ext / SEQUENCE_NUMBER % 2 == 1, 2)
         + weight(octets[VERSION] == VISITED, 1)
 }
 
@@ -161,7 +162,7 @@ fn with_element<'a>(id: u16, octets: &[u8], element: &'a [u8]) -> Export<'a>
 fn agrees(id: u16, ext: u8) -> bool
     ensures { IsTrue result ↔ Agrees id ext }
 {
-    (ext / 128 % 2 == 1) == tells_flow(id) && (ext / 64 % 2 == 1) == tells_seq(id)
+    (ext / FLOW_ID % 2 == 1) == tells_flow(id) && (ext / SEQUENCE_NUMBER % 2 == 1) == tells_seq(id)
 }
 
 // The size of the record that stands in front, where it is there whole and may be said.

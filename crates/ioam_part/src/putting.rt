@@ -70,11 +70,7 @@ fn put_items(items: Items<'_>, out: &mut Vec<u8>) -> Result<(), NoMemory>
 }
 
 // Appends the records of groups. The same groups, lent once more, are read ahead. Without memory a front of them may be left.
-fn put_all(
-    groups: Groups<'_>,
-    ahead: &mut Groups<'_>,
-    out: &mut Vec<u8>,
-) -> Result<(), NoMemory>
+fn put_all(groups: Groups<'_>, ahead: &mut Groups<'_>, out: &mut Vec<u8>) -> Result<(), NoMemory>
     requires { AllByRecursion (λ group. AllByRecursion IsOfRecord group.1) groups }
     ensures ok { OnOk result (out.new.items ≡ out.old.items ++ groups_octets groups.entry) }
     ensures kept { OnErr result (take (length out.old.items) out.new.items ≡ out.old.items) }

@@ -18,11 +18,8 @@ use crate::packing::Packing;
 use ioam_base::memory::NoMemory;
 use ioam_desk::{Desk, DeskFault, PIECE};
 use ioam_desk_outputs::{Output, finish, flush_full};
-use ioam_dex::{ExportFault, ExportReader, Shown};
+use ioam_dex::{ExportFault, ExportReader, MOST_RECORDS, Shown};
 use ioam_run_answer::Outcome;
-
-/// The most records that are read.
-pub(crate) const MOST_RECORDS: u32 = 67_108_864;
 
 /// EXPORTS, and what is packed of its records.
 #[derive(Drop)]

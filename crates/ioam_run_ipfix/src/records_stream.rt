@@ -11,12 +11,11 @@ ghost use Rattle.ioam_run_ipfix.specs.Texts.{AreRecords};
 ghost use Rattle.ioam_run_ipfix.specs.Streams.{Frames, IsSaid, Refills, Start, Sticks};
 ghost use Rattle.ioam_run_ipfix.specs.TakeSteps.{Feeds, Halts, HasRoom, Pauses, Shows, Steps, TakesSo, end_of};
 
-use crate::ipfix_stream::MOST_RECORDS;
 use ioam_base::memory::NoMemory;
 use ioam_base::text::append;
 use ioam_desk::{Desk, DeskFault, PIECE};
 use ioam_desk_outputs::{Output, flush_full};
-use ioam_dex::ExportRoom;
+use ioam_dex::{ExportRoom, MOST_RECORDS};
 use ioam_ipfix::{IpfixFault, IpfixReader, IpfixShown, put_record};
 use ioam_run_answer::Outcome;
 
