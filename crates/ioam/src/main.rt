@@ -65,6 +65,7 @@ fn line_of(alloc: Global, fault: Option<Fault<'_>>) -> Option<String> {
 
 // Why the words of the command line aren't there: one isn't UTF-8, which no command's word is, or no
 // memory could be had.
+#[derive(Clone, Copy)]
 enum Unread {
     Word,
     NoMemory,
