@@ -19,7 +19,7 @@ need() {
 # The program: built first where it is the repository's.
 program() {
     if [ -n "${IOAM:-}" ]; then ioam=$(realpath "$IOAM"); else
-        "$top/ioam" >/dev/null || true
+        "$top/ioam" save x x >/dev/null || true
         ioam=$top/crates/ioam/out/ioam
     fi
     need "$ioam"

@@ -6,7 +6,7 @@
 set -u
 top=$(cd "$(dirname "$0")/../.." && pwd) || exit 1
 # The program is the one that IOAM names, or the repository's, built where that is needed.
-if [ -n "${IOAM:-}" ]; then IOAM=$(realpath "$IOAM") && export IOAM; else "$top/ioam" >/dev/null; fi
+if [ -n "${IOAM:-}" ]; then IOAM=$(realpath "$IOAM") && export IOAM; else "$top/ioam" save x x >/dev/null; fi
 program=${IOAM:-$top/crates/ioam/out/ioam}
 work=$(mktemp -d) && cd "$work" || exit 1
 trap 'chmod -R u+rwX "$work"; rm -rf "$work"' EXIT
@@ -49,7 +49,7 @@ cases=0 wrong=0 file= why=
 # stands there.
 named() {
     case $1 in
-    1) [ -s stderr ] && ! grep -qvE '^ioam: usage: ioam [a-z]+( [A-Z]+)+$' stderr ;;
+    1) if [ "$(cat wanted)" = usage ]; then [ -s stderr ] && ! grep -qvE '^ioam: usage: ioam [a-z]+( [A-Z]+)+$' stderr; else [ ! -s stderr ]; fi ;;
     9 | 10) [ "$(wc -l <stderr)" = 1 ] && grep -qF "ioam: $file: $why" stderr ;;
     *) [ ! -s stderr ] ;;
     esac
