@@ -16,6 +16,7 @@ ghost use Rattle.ioam_run_node.specs.Seat.{seat_at};
 use crate::names::{NodeFiles, inward_of, node_files};
 use crate::passing::Passing;
 use crate::post::Post;
+use crate::sending::Sent;
 use ioam_desk::Desk;
 use ioam_desk_outputs::first_repeat;
 use ioam_run_files::{Outcome, Refusal, Setting, names_outcome, read_setting, refused};
@@ -133,6 +134,7 @@ fn run_apart<D: Desk>(
         },
         sent: 0,
         dropped: 0,
+        spare: Sent::none(alloc),
     };
     let limit = setting.domain.packets();
     run_capture::<Passing<'_>, D>(alloc, desk, files.input, files.outputs(), none, limit)

@@ -4,6 +4,7 @@ ghost use Rattle.ioam_run_node.specs.NodeText.{drop_line, sums_line};
 
 use crate::judging::Judged;
 use crate::post::Post;
+use crate::sending::Sent;
 use ioam_base::memory::NoMemory;
 use ioam_base::text::{append, append_decimal};
 use ioam_desk_outputs::Output;
@@ -12,8 +13,10 @@ use ioam_pcap::{Link, Packet, put_head};
 use ioam_report::reason_text;
 use ioam_run_stream::Gather;
 use std::alloc::Global;
+use std::mem;
 
-/// How many packets a node has sent and dropped so far. The outputs are the capture of the packets that
+/// How many packets a node has sent and dropped so far, and the memory of the last that it sent, which the
+/// next one takes. The outputs are the capture of the packets that
 /// it sends, the report, and the export records.
 #[derive(Drop)]
 pub struct Passing<'a> {
@@ -21,6 +24,7 @@ pub struct Passing<'a> {
     pub(crate) post: Post<'a>,
     pub(crate) sent: u64,
     pub(crate) dropped: u64,
+    pub(crate) spare: Sent,
 }
 
 impl Gather for Passing<'_> {
@@ -60,8 +64,12 @@ impl Gather for Passing<'_> {
         let number = self.sent + self.dropped + 1;
         match self.post.judge(link, captured) {
             Judged::Goes(way, packet) => {
-                self.post
-                    .send(self.alloc, number, captured.time, way, packet, outputs)?;
+                let spare = mem::replace(&mut self.spare, Sent::none(self.alloc));
+                let time = captured.time;
+                let sent = self
+                    .post
+                    .send(self.alloc, spare, number, time, way, packet, outputs)?;
+                self.spare = sent;
                 self.sent += 1;
             }
             Judged::Drops(reason) => {

@@ -14,7 +14,7 @@ ghost use Rattle.ioam_run_node.specs.Seat.{seat_of};
 use crate::notes::put_notes;
 use crate::post::Post;
 use ioam_base::memory::NoMemory;
-use ioam_base::spare::copied;
+use ioam_base::spare::copied_in;
 use ioam_base::text::{append, append_decimal};
 use ioam_desk_outputs::Output;
 use ioam_node::Place;
@@ -24,11 +24,21 @@ use ioam_plan::outward_of;
 use ioam_topo::{Domain, Way};
 use std::alloc::Global;
 
-/// A packet that a node has passed on, and what it noted and exported.
+/// A packet that a node has passed on, and what it noted and exported. The next one takes its memory.
 #[derive(Drop)]
 pub struct Sent {
     pub(crate) packet: Vec<u8>,
     pub(crate) room: NodeRoom,
+}
+
+impl Sent {
+    /// None yet. It takes no memory.
+    pub(crate) fn none(alloc: Global) -> Sent {
+        Sent {
+            packet: Vec::new(alloc),
+            room: NodeRoom::none(alloc),
+        }
+    }
 }
 
 // The name of the link or the port of a way.
@@ -124,8 +134,15 @@ impl Post<'_> {
         transit(self.domain, self.readings, place, time, packet, room);
     }
 
-    // A packet that came at a time, as the node sends it by a way.
-    fn pass(&self, alloc: Global, time: u64, way: Way, packet: &[u8]) -> Result<Sent, NoMemory>
+    // A packet that came at a time, as the node sends it by a way, in the memory of one that was sent.
+    fn pass(
+        &self,
+        alloc: Global,
+        spare: Sent,
+        time: u64,
+        way: Way,
+        packet: &[u8],
+    ) -> Result<Sent, NoMemory>
         requires time { time < 2 ^ 62 }
         requires short { length packet.now ≤ most }
         requires can_go { CanGo (seat_of self.now) way packet.now }
@@ -135,22 +152,25 @@ impl Post<'_> {
         ensures exports { IfOk result (λ sent. sent.room.exports ≡ exported (seat_of self.now) time way packet.now) }
         ensures clean { OnOk result (LeavesClean (seat_of self.now) (Goes time way packet.now)) }
     {
-        let mut room = NodeRoom::new(alloc, 1, option_count(packet))?;
-        let mut sent = copied(alloc, packet)?;
+        let Sent { packet: held, room } = spare;
+        let mut room = room.renewed(alloc, 1, option_count(packet))?;
+        let mut sent = copied_in(alloc, held, packet)?;
         self.visit(time, way, &mut sent, &mut room);
         Ok(Sent { packet: sent, room })
     }
 
-    /// Adds a packet that goes on to the three outputs.
+    /// Adds a packet that goes on to the three outputs, put together in the memory of one that was sent,
+    /// and hands its memory on.
     pub(crate) fn send(
         &self,
         alloc: Global,
+        spare: Sent,
         number: u64,
         time: u64,
         way: Way,
         packet: &[u8],
         outputs: &mut [Output],
-    ) -> Result<(), NoMemory>
+    ) -> Result<Sent, NoMemory>
         requires width { length outputs.old ≡ 3 }
         requires time { time < 2 ^ 62 }
         requires short { length packet.now ≤ most }
@@ -159,8 +179,8 @@ impl Post<'_> {
         ensures clean { OnOk result (LeavesClean (seat_of self.now) (Goes time way packet.now)) }
         ensures fits { OnOk result (length (passed_on (seat_of self.now) time way packet.now) ≤ most) }
     {
-        let sent = self.pass(alloc, time, way, packet)?;
+        let sent = self.pass(alloc, spare, time, way, packet)?;
         put_all(number, time, way_name(self.domain, way), &sent, outputs)?;
-        Ok(())
+        Ok(sent)
     }
 }
