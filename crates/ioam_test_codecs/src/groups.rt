@@ -15,13 +15,17 @@ fn add_record(collector: &mut Collector, octets: &[u8]) -> Result<Added, Fail> {
 }
 
 // Adds the record of these digits.
-fn add(alloc: Global, collector: &mut Collector, digits: &[&str]) -> Result<Added, Fail> {
+pub(crate) fn add(
+    alloc: Global,
+    collector: &mut Collector,
+    digits: &[&str],
+) -> Result<Added, Fail> {
     let octets = octets(alloc, digits)?;
     add_record(collector, &octets)
 }
 
 // Whether the collector's groups have these lines.
-fn has_lines(alloc: Global, collector: &Collector, lines: &str) -> Result<bool, Fail> {
+pub(crate) fn has_lines(alloc: Global, collector: &Collector, lines: &str) -> Result<bool, Fail> {
     let mut out = Vec::new(alloc);
     put_groups(collector, &mut out)?;
     Ok(out.as_slice() == lines.as_bytes())
@@ -67,9 +71,10 @@ fn regroup(alloc: Global, rows: &[[&str; 5]], times: u32, lines: &str) -> Result
 }
 
 // One record of namespace 7, flow 9 and sequence number 0, without its visit and with it.
-const FIRST: &str = "01c00016 0007 00 800000 00000009 00000000 40000001";
+pub(crate) const FIRST: &str = "01c00016 0007 00 800000 00000009 00000000 40000001";
 
-const SECOND: &str = "02c00022 0007 00 800000 000000003b9aca00 0000000a 00000009 00000000 40000001";
+pub(crate) const SECOND: &str =
+    "02c00022 0007 00 800000 000000003b9aca00 0000000a 00000009 00000000 40000001";
 
 const ONE: &str = "group 7 9 0 1
   800000 hop=64 node=1 at=1000000000 from=10
@@ -77,7 +82,7 @@ records 3 kept 1 repeats 2 unkeyed 0
 ";
 
 // Three records, and one without numbers.
-const LATER: &str = "01c00016 0007 00 800000 00000009 00000000 3f000002";
+pub(crate) const LATER: &str = "01c00016 0007 00 800000 00000009 00000000 3f000002";
 
 const OTHER: &str = "01c00016 0006 00 800000 00000009 00000001 3e000003";
 

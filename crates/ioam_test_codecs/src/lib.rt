@@ -1,7 +1,8 @@
 //! The tests of packets and their header chains (`ioam_ip`, RFC 8200), of the lines of options
 //! (`ioam_report_options`), of the data fields (`ioam_data`, `ioam_trace`, `ioam_edge`, RFC 9197), of direct
-//! export data and export records (`ioam_dex`, RFC 9326), and of these regrouped (`ioam_pool`,
-//! `ioam_collect`, `ioam_report_groups`), a file for each. Octets and lines are by hand, from the RFCs' formats.
+//! export data and export records (`ioam_dex`, RFC 9326), of these regrouped (`ioam_pool`, `ioam_collect`,
+//! `ioam_report_groups`) and as parts (`ioam_part`), a file for each. Octets and lines are by hand, from the
+//! RFCs' formats.
 #![tactic(auto)]
 
 #[cfg(test)]
@@ -16,6 +17,8 @@ mod edge;
 mod groups;
 #[cfg(test)]
 mod ip;
+#[cfg(test)]
+mod joining;
 #[cfg(test)]
 mod layout;
 #[cfg(test)]
