@@ -60,7 +60,7 @@ def contract(lines, at):
     parts = [[]]
     for line in lines[at:]:
         text = line.strip()
-        if text == "{":
+        if text in ("{", "{}"):
             break
         if CLAUSE.match(line):
             parts.append([])
