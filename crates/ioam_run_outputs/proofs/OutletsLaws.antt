@@ -131,10 +131,6 @@ length-of_outlets domain port tap report exports =
       length-map (tapped (links domain)) (λ (link : LinkId). tap link.0),
     )
 
--- the outputs of a run are so many, by the count of the links with a tap
-pub outlets_by_taps : (domain : Domain) → outlet_count domain ≡ length (ports domain) + taps_of (links domain) + 2
-outlets_by_taps domain = ap (λ n. length (ports domain) + n + 2) (length-tapped (links domain))
-
 -- what is made of each
 pub map-each_from : {A B : Type 0} (g : A → B) (count place : ℕ) (f : ℕ → A) → map g (each_from count place f) ≡ each_from count place (λ n. g (f n))
 map-each_from g zero place f = refl

@@ -5,5 +5,5 @@
 mod outlets;
 mod places;
 
-pub use outlets::{outlet_count, tapped_links};
+pub use outlets::tapped_links;
 pub use places::{place_of_exports, place_of_port, place_of_report, place_of_tap};

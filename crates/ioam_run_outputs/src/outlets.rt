@@ -1,8 +1,7 @@
 //! The outputs of a run in their one order.
 ghost use Rattle.std.specs.Prelude.{◌≡◌, ◌≤◌, ◌<◌, ◌++◌, length, All, IfOk, OnOk};
 ghost use Rattle.ioam_topo.specs.Domain.{links};
-ghost use Rattle.ioam_topo.specs.Keyed.{count_of, taps_of};
-ghost use Rattle.ioam_run_outputs.specs.Outlets.{tap_at, tapped, outlet_count, HasTap};
+ghost use Rattle.ioam_run_outputs.specs.Outlets.{tap_at, tapped, HasTap};
 
 use ioam_base::memory::NoMemory;
 use ioam_topo::{Domain, Link, LinkId};
@@ -34,35 +33,4 @@ pub fn tapped_links(alloc: Global, domain: &Domain) -> Result<Vec<LinkId>, NoMem
         push_link(&mut ids, place as u32, link)?;
     }
     Ok(ids)
-}
-
-// One where the link has a tap.
-fn tap_of(link: &Link) -> usize
-    ensures value { result ≡ count_of link.now.tap }
-    ensures few { result ≤ 1 }
-{
-    match &link.tap {
-        Some(_) => 1,
-        None => 0,
-    }
-}
-
-// How many of these links have a tap.
-fn count_taps(links: &[Link]) -> usize
-    ensures { result ≡ taps_of links.now }
-{
-    let mut taps = 0;
-    'links: for link in links {
-        taps += tap_of(link);
-    }
-    taps
-}
-
-/// How many outputs a run over the domain has, 2 to 130: a capture for each port, one for each link
-/// with a tap, the report and the exports.
-pub fn outlet_count(domain: &Domain) -> usize
-    ensures value { result ≡ outlet_count domain.now }
-    ensures few { result ≤ 130 }
-{
-    domain.ports().len() + count_taps(domain.links()) + 2
 }
