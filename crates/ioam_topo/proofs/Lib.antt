@@ -7,3 +7,4 @@ pub mod PlacesLaws
 pub mod TracesLaws
 pub mod IndexLaws
 pub mod PrefixLaws
+pub mod RankedLaws

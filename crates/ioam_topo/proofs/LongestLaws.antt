@@ -1,6 +1,6 @@
 -- Laws of the longest.
 use Rattle.std.proofs.Common.{◌≡◌, ℕ, ◌+◌, suc, Bool, true, false, not, cond, nat_lt, nat_eq, ◌&&◌, ◌<◌, ◌≤◌, List, [], ◌∷◌, length, Option, Some, None, refl, ap, sym, ◌∙◌, subst, arith, slice_get, slice_index_or}
-use Rattle.std.specs.List.{All, Contains, position, position_or_len}
+use Rattle.std.specs.List.{All, Contains, filter, find, position, position_or_len}
 use Rattle.std.proofs.lemmas.Bool.Decides.{nat_tests}
 use Rattle.std.proofs.lemmas.List.Elements.{All-cons, All-nil}
 use Rattle.ioam_topo.specs.Forward.{longer, longest}
@@ -188,3 +188,32 @@ module _ {A : Type 0} (size : A → ℕ) where
       let both : (test x ≡ true → size x ≤ size y) × ((z : A) → longest size test xs ≡ Some z → size z ≤ size y) = most_one x y (longest size test xs) (test x) is in
       All-cons (λ x. test x ≡ true → size x ≤ size y) x xs both.0
       (rest_most test xs y (longest size test xs) refl both.1 (longest_most test xs) (longest_out test xs))
+
+  and_on : (b : Bool) → (b && true) ≡ b
+  and_on true = refl
+  and_on false = refl
+
+  and_off : (b : Bool) → (b && false) ≡ false
+  and_off true = refl
+  and_off false = refl
+
+  found_one : (pass : A → Bool) (n : ℕ) (x : A) (own : List A) (mine so_long : Bool) (o : Option A) → nat_eq n (size x) ≡ so_long → ((z : A) → o ≡ Some z → size z ≡ n)
+      → find pass (filter (λ y. nat_eq n (size y)) own) ≡ o
+      → find pass (filter (λ y. nat_eq n (size y)) (cond mine (x ∷ own) own)) ≡ cond ((mine && pass x) && so_long) (Some (longer size x o)) o
+  found_one pass n x own false so_long o is by more = more
+  found_one pass n x own true false o is by more =
+      ap (λ b. find pass (cond b (x ∷ filter (λ y. nat_eq n (size y)) own) (filter (λ y. nat_eq n (size y)) own))) is ∙ more
+      ∙ sym (ap (λ b. cond b (Some (longer size x o)) o) (and_off (pass x)))
+  found_one pass n x own true true o is by more =
+      let here : size x ≡ n = grind (arith, nat_tests, is) in
+      let alone : longer size x o ≡ x = longer_first x o (λ z e. let f : size z ≡ n = by z e in omega (arith, f, here)) in
+      ap (λ b. find pass (cond b (x ∷ filter (λ y. nat_eq n (size y)) own) (filter (λ y. nat_eq n (size y)) own))) is
+      ∙ ap (λ p. cond (pass x) (Some x) p) more
+      ∙ sym (ap (λ b. cond b (Some (longer size x o)) o) (and_on (pass x)) ∙ ap (λ y. cond (pass x) (Some y) o) alone)
+
+  -- of one's own that have one length the longest that passes is the first that does
+  pub longest_found : (mine pass : A → Bool) (n : ℕ) (xs : List A)
+      → find pass (filter (λ x. nat_eq n (size x)) (filter mine xs)) ≡ longest size (λ x. (mine x && pass x) && nat_eq n (size x)) xs
+  longest_found mine pass n [] = refl
+  longest_found mine pass n (x ∷ xs) = found_one pass n x (filter mine xs) (mine x) (nat_eq n (size x)) (longest size (λ y. (mine y && pass y) && nat_eq n (size y)) xs) refl
+      (λ z e. sized (mine z && pass z) n (size z) (longest_passes (λ y. (mine y && pass y) && nat_eq n (size y)) xs z e)) (longest_found mine pass n xs)

@@ -6,6 +6,10 @@ use Rattle.ioam_topo.specs.declared.prefix.Prefix.{Prefix}
 abbrev pub masked : ℕ → ℕ → ℕ
 masked n bits = bits - bits % 2 ^ (128 - n)
 
+-- the address of which only so many first bits are 1
+abbrev pub mask_of : ℕ → ℕ
+mask_of n = 2 ^ 128 - 2 ^ (128 - n)
+
 -- whether an address has these bits
 abbrev pub matches : Prefix → ℕ → Bool
 matches p target = masked p.length target == p.bits

@@ -1,12 +1,13 @@
 //! Where a node sends a target: along the route with the longest prefix.
-ghost use Rattle.std.specs.Prelude.{◌≡◌, ◌<◌, nat_eq, ◌&&◌, length, map, position, slice_get, Some, IfSome};
+ghost use Rattle.std.specs.Prelude.{◌≡◌, ◌<◌, nat_eq, ◌&&◌, length, map, option_map, position, find, slice_get, Some, IfSome};
 ghost use Rattle.ioam_topo.specs.Keyed.{is_route, key_of_route};
-ghost use Rattle.ioam_topo.specs.Forward.{longer, longest, bits_of, fits, way_to, IsWayTo, IsWayFrom};
-ghost use Rattle.ioam_topo.specs.Index.{routes_of, lengths_of};
+ghost use Rattle.ioam_topo.specs.Forward.{longest, bits_of, fits, way_to, IsWayTo, IsWayFrom};
+ghost use Rattle.ioam_topo.specs.Index.{lengths_of, ranked, takes, with_mask};
 
 use crate::domain::Domain;
 use crate::ids::{NodeId, Way};
-use crate::masks::{masked, matches};
+use crate::index::MaskedRoute;
+use crate::masks::masked;
 use crate::parts::Route;
 use crate::prefix::Prefix;
 
@@ -14,40 +15,23 @@ use crate::prefix::Prefix;
 /// the target's bits, and those of the namespace, are looked up.
 pub(crate) const FEW: usize = 32;
 
-// Whether a route is one of the node, and the target has its prefix.
-fn fits(route: &Route, node: NodeId, target: u128) -> bool
-    ensures { result ≡ fits node.0 target route.now }
+// Whether a target has the prefix of a route.
+fn takes(own: &MaskedRoute, target: u128) -> bool
+    ensures { result ≡ takes target own.now }
 {
-    node.0 == route.node.0 && matches(route.prefix, target)
+    target & own.mask == own.route.prefix.bits
 }
 
-// The longer of a route and what was found behind it.
-fn longer(route: &Route, found: Option<Route>) -> Route
-    ensures { result ≡ longer bits_of route.now found }
+// The first of these routes whose prefix a target has.
+fn first_of(routes: &[MaskedRoute], target: u128) -> Option<Route>
+    ensures { result ≡ option_map (λ own. own.route) (find (takes target) routes.now) }
 {
-    match found {
-        Some(other) => if route.prefix.length < other.prefix.length {
-            other
-        } else {
-            *route
-        },
-        None => *route,
-    }
-}
-
-// The route of a node for a target among these, which is the longest.
-fn longest_of(routes: &[Route], node: NodeId, target: u128) -> Option<Route>
-    ensures { result ≡ longest bits_of (fits node.0 target) routes.now }
-{
-    let mut found = None;
-    let mut left = routes.len();
-    'routes: while left > 0 {
-        left -= 1;
-        if fits(&routes[left], node, target) {
-            found = Some(longer(&routes[left], found));
+    for own in routes {
+        if takes(own, target) {
+            return Some(own.route);
         }
     }
-    found
+    None
 }
 
 impl Domain {
@@ -61,9 +45,9 @@ impl Domain {
         self.parts.routes[at as usize]
     }
 
-    // The routes of a node, in file order.
-    fn routes_at(&self, node: NodeId) -> &[Route]
-        ensures { result.now ≡ routes_of (routes self.now) node.0 }
+    // The routes of a node, those with the longest prefixes first.
+    fn routes_at(&self, node: NodeId) -> &[MaskedRoute]
+        ensures { result.now ≡ map with_mask (ranked (routes self.now) node.0) }
     {
         match self.index.get(node.0 as usize) {
             Some(at) => at.routes.as_slice(),
@@ -122,7 +106,7 @@ impl Domain {
     {
         let own = self.routes_at(node);
         if own.len() <= FEW {
-            longest_of(own, node, target)
+            first_of(own, target)
         } else {
             self.route_by_length(node, target)
         }

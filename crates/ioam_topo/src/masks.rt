@@ -1,6 +1,6 @@
 //! The bits of an address that a prefix counts.
 ghost use Rattle.std.specs.Prelude.{◌≡◌};
-ghost use Rattle.ioam_topo.specs.Prefixes.{masked, matches};
+ghost use Rattle.ioam_topo.specs.Prefixes.{mask_of, masked, matches};
 
 use crate::prefix::Prefix;
 
@@ -14,6 +14,13 @@ pub fn masked(length: u8, bits: u128) -> u128
         let rest = 128_u8.saturating_sub(length);
         (bits >> rest) << rest
     }
+}
+
+// The address whose first so many bits are 1, from 128 on all; the others are 0.
+pub(crate) fn mask_of(length: u8) -> u128
+    ensures { result ≡ mask_of length }
+{
+    masked(length, u128::MAX)
 }
 
 /// Whether an address has the bits of a prefix.
