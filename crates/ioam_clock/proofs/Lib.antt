@@ -4,3 +4,4 @@ mod LineLaws
 mod ReadingLaws
 mod FileLaws
 mod SpelledLaws
+mod GuessLaws

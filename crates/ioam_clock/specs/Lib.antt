@@ -2,6 +2,7 @@ pub mod Lines
 pub mod Held
 pub mod Numbers
 pub mod Samples
+pub mod Guess
 pub mod Reading
 pub mod Adding
 pub mod File

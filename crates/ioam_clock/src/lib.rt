@@ -4,6 +4,7 @@
 
 mod adding;
 mod fault;
+mod guess;
 mod line;
 mod numbers;
 mod reading;

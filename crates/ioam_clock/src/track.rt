@@ -1,7 +1,9 @@
 //! The samples of one node.
-ghost use Rattle.std.specs.Prelude.{◌≡◌, ◌++◌, ◌∷◌, ◌≤◌, [], length, IsTrue, IfSome, OnOk, OnErr};
+ghost use Rattle.std.specs.Prelude.{◌≡◌, ◌++◌, ◌∷◌, ◌≤◌, ◌<◌, [], length, IsTrue, IfSome, OnOk, OnErr};
 ghost use Rattle.ioam_clock.specs.Samples.{sample_at, follows, IsSmall, IsCut, Rise};
+ghost use Rattle.ioam_clock.specs.Guess.{rate_with, guess, is_in_force};
 
+use crate::guess::{come, rate};
 use crate::sample::Sample;
 use ioam_base::memory::NoMemory;
 use std::alloc::Global;
@@ -11,6 +13,8 @@ use std::marker::Model;
 #[derive(Debug, Drop)]
 pub(crate) struct Track {
     samples: Vec<Sample>,
+    // How many samples come in 2^64 nanoseconds, by which the one of a time is guessed.
+    rate: u64,
 }
 
 impl Model for Track {
@@ -25,13 +29,56 @@ impl Model for Track {
     ghost invariant = { λ track. AreSamples track.samples.items };
 }
 
-// How many samples aren't after a time, where the times rise.
-fn count_until(samples: &[Sample], time: u64) -> usize
+// How many samples aren't after a time, where the times rise, by halves.
+fn search_until(samples: &[Sample], time: u64) -> usize
     requires { Rise samples.now }
     ensures within { result ≤ length samples.now }
     ensures cut { IsCut samples.now time result }
 {
     samples.partition_point(|sample| sample.time <= time)
+}
+
+// How many samples come at a rate until a time, the first among them, and at most all.
+fn guess(samples: &[Sample], rate: u64, time: u64) -> usize
+    ensures value { result ≡ guess samples.now rate time }
+    ensures within { result ≤ length samples.now }
+{
+    match samples.first() {
+        Some(first) => {
+            let behind = come(rate, time.saturating_sub(first.time));
+            behind.min(samples.len() - 1) + 1
+        }
+        None => 0,
+    }
+}
+
+// Whether the sample at a place isn't after a time, and the next is, where there is one.
+fn is_in_force(samples: &[Sample], time: u64, at: usize) -> bool
+    requires { at < length samples.now }
+    ensures { result ≡ is_in_force samples.now time at }
+{
+    let ends = match samples.get(at + 1) {
+        Some(next) => time < next.time,
+        None => true,
+    };
+    samples[at].time <= time && ends
+}
+
+// How many samples aren't after a time, where the times rise: as many as are guessed or one more, or
+// else by halves.
+fn count_until(samples: &[Sample], rate: u64, time: u64) -> usize
+    requires { Rise samples.now }
+    ensures within { result ≤ length samples.now }
+    ensures cut { IsCut samples.now time result }
+{
+    let count = guess(samples, rate, time);
+    if count > 0 && is_in_force(samples, time, count - 1) {
+        count
+    } else if count < samples.len() && is_in_force(samples, time, count) {
+        count + 1
+    } else {
+        search_until(samples, time)
+    }
 }
 
 impl Track {
@@ -40,6 +87,7 @@ impl Track {
     {
         Track {
             samples: Vec::new(alloc),
+            rate: 0,
         }
     }
 
@@ -53,6 +101,20 @@ impl Track {
         }
     }
 
+    // The rate of these samples and of one that may stand behind them.
+    fn rate_with(&self, sample: &Sample) -> u64
+        requires { IsSmall sample.now }
+        ensures { result ≡ rate_with self.now sample.now }
+    {
+        match self.samples.as_slice().first() {
+            Some(first) => {
+                let span = sample.time.saturating_sub(first.time);
+                rate(span, self.samples.len() as u64)
+            }
+            None => 0,
+        }
+    }
+
     // Adds a sample that may stand behind these.
     pub(crate) fn push(&mut self, sample: Sample) -> Result<(), NoMemory>
         requires follows { IsTrue (follows self.old sample) }
@@ -60,6 +122,7 @@ impl Track {
         ensures ok { OnOk result (self.new ≡ self.old ++ sample ∷ []) }
         ensures err { OnErr result (self.new ≡ self.old) }
     {
+        self.rate = self.rate_with(&sample);
         match self.samples.push(sample) {
             Ok(()) => Ok(()),
             Err(_) => Err(NoMemory),
@@ -74,7 +137,7 @@ impl Track {
         ensures before { IfSome result (λ sample. sample.time ≤ time) }
     {
         let samples = self.samples.as_slice();
-        let count = count_until(samples, time);
+        let count = count_until(samples, self.rate, time);
         if count == 0 {
             return None;
         }

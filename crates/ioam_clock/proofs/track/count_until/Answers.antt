@@ -1,9 +1,11 @@
-use Rattle.std.proofs.Common.{nat_le, rules}
-use Rattle.std.proofs.lemmas.List.Sorted.{IsPartitionedBy-leb, IsPartitionPoint-from_clause}
-use Rattle.ioam_clock.specs.declared.sample.Sample.{Sample}
-use Rattle.ioam_clock.proofs.TrackLaws.{Rise-steady}
+use Rattle.std.proofs.Common.{◌-◌, arith, sym, ◌∙◌}
+use Rattle.ioam_clock.proofs.GuessLaws.{cut_at, cut_in_force}
 use Rattle.ioam_clock.proofs.track.count_until.Goals as goal
 
-pub returns-clause-cut : goal.returns-clause-cut
-returns-clause-cut c = IsPartitionPoint-from_clause (λ (y : Sample). nat_le y.time c.args.time) c.args.samples.now c.partition_point.result c.partition_point.ensures.partitioned
-    (IsPartitionedBy-leb (λ (y : Sample). y.time) c.args.samples.now c.args.time (Rise-steady c.args.samples.now c.requires)) (λ a r f' q. search rules)
+pub returns-then-is_in_force-clause-cut : goal.returns-then-is_in_force-clause-cut
+returns-then-is_in_force-clause-cut c = cut_at c.args.samples.now c.args.time (c.guess-count.result - 1) c.guess-count.result c.requires
+    (omega (arith, c.guess-count.ensures.within, c.if-count-gt0.true)) (sym c.is_in_force.ensures ∙ c.if-is_in_force.true) (omega (arith, c.if-count-gt0.true))
+
+pub returns-then-is_in_force-2-clause-cut : goal.returns-then-is_in_force-2-clause-cut
+returns-then-is_in_force-2-clause-cut c = cut_in_force c.args.samples.now c.args.time c.guess-count.result c.requires
+    c.if-count-samples.true (sym c.is_in_force-then-count-samples.ensures ∙ c.if-is_in_force-2.true)
