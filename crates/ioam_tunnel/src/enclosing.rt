@@ -91,9 +91,9 @@ fn enclose_between(
         hops: flow.hops,
     };
     let head = head_of(flow, ends, fields);
-    let mut outer = Outer::new(alloc, spare, &head, HEADER_OCTETS + behind)?;
-    lay_hop(&mut outer, next, flow, numbers.direct)?;
-    lay_targets(&mut outer, flow, numbers)?;
+    let mut outer = Outer::new(alloc, spare, &head, hop + targets, packet.len())?;
+    lay_hop(&mut outer, next, flow, numbers.direct);
+    lay_targets(&mut outer, flow, numbers);
     let out = outer.carry(packet)?;
     Ok(out)
 }

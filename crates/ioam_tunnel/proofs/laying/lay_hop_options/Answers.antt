@@ -1,37 +1,64 @@
-use Rattle.std.proofs.Common.{◌≡◌, ◌∷◌, [], ◌++◌, List, ℕ, length, map, sym, ap, ◌∙◌, arith}
-use Rattle.ioam_ip.specs.Layout.{finished}
+use Rattle.std.proofs.Common.{◌≤◌, List, length, map, sym, ap, ◌∙◌, subst, arith}
 use Rattle.ioam_ip.specs.Laid.{laid_with}
-use Rattle.ioam_ip.proofs.LayLaws.{laid_with-append, finished-laid}
+use Rattle.ioam_topo.specs.declared.traces.FlowTrace.{FlowTrace}
 use Rattle.ioam_tunnel.specs.Enclosed.{room_of, direct_parts}
+use Rattle.ioam_tunnel.specs.Outer.{with_parts}
 use Rattle.ioam_tunnel.specs.Wire.{trace_parts, no_elements}
-use Rattle.ioam_tunnel.proofs.LayLaws.{laid_grows}
+use Rattle.ioam_tunnel.proofs.LayLaws.{header-laid, laid-some, most-kept, room-first, room-second, room-finished}
 use Rattle.ioam_tunnel.proofs.laying.lay_hop_options.Goals as goal
+
+pub add_traces-requires-clause-room : goal.add_traces-requires-clause-room
+add_traces-requires-clause-room c =
+    let flow = c.args.flow.now in
+    let traces = trace_parts (map room_of flow.traces) no_elements in
+    let directs = direct_parts flow flow.direct c.args.seq in
+    subst (λ (ts : List FlowTrace). length (laid_with c.append.new.self.laid (trace_parts (map room_of ts) no_elements)) ≤ c.append.new.self.most) (sym c.traces.ensures)
+    (room-first c.args.outer.now c.append.new.self c.args.next traces directs c.requires.none c.append.ensures.value c.requires.room)
+
+pub add_direct-requires-clause-room : goal.add_direct-requires-clause-room
+add_direct-requires-clause-room c =
+    let flow = c.args.flow.now in
+    let traces = trace_parts (map room_of flow.traces) no_elements in
+    let directs = direct_parts flow flow.direct c.args.seq in
+    let laid = c.add_traces.ensures.value ∙ ap (λ (ts : List FlowTrace). with_parts c.append.new.self (trace_parts (map room_of ts) no_elements)) c.traces.ensures in
+    room-second c.args.outer.now c.append.new.self c.args.next traces directs c.requires.none c.append.ensures.value c.requires.room c.add_traces.new.outer laid
 
 pub finish-requires-clause-some : goal.finish-requires-clause-some
 finish-requires-clause-some c =
     let flow = c.args.flow.now in
-    let begun : c.append.new.self.laid ≡ c.args.next ∷ 0 ∷ [] = c.in_ok-append.ensures.laid ∙ ap (λ xs. xs ++ (c.args.next ∷ 0 ∷ [])) c.requires.none in
-    omega (
-      arith,
-      ap length begun,
-      laid_grows c.append.new.self.laid (trace_parts (map room_of c.traces.result.now) no_elements),
-      ap length c.in_ok-add_traces.ensures.ok,
-      laid_grows c.add_traces.new.outer.laid (direct_parts flow flow.direct c.args.seq),
-      ap length c.in_ok-add_direct.ensures.ok,
-    )
-
-pub returns-clause-octets : goal.returns-clause-octets
-returns-clause-octets c =
-    let flow = c.args.flow.now in
-    let next = c.args.next in
     let traces = trace_parts (map room_of flow.traces) no_elements in
     let directs = direct_parts flow flow.direct c.args.seq in
-    let begun : c.append.new.self.laid ≡ next ∷ 0 ∷ [] = c.in_ok-append.ensures.laid ∙ ap (λ xs. xs ++ (next ∷ 0 ∷ [])) c.requires.none in
-    let front = c.in_ok-add_direct.ensures.front ∙ c.in_ok-add_traces.ensures.front ∙ c.in_ok-append.ensures.front in
-    let laid = ap (λ xs. finished xs) (c.in_ok-add_direct.ensures.ok
-    ∙ ap (λ xs. laid_with xs directs) (c.in_ok-add_traces.ensures.ok
-    ∙ ap (λ ts. laid_with c.append.new.self.laid (trace_parts (map room_of ts) no_elements)) c.traces.ensures
-    ∙ ap (λ xs. laid_with xs traces) begun)
-    ∙ sym (laid_with-append (next ∷ 0 ∷ []) traces directs))
-    ∙ finished-laid next (traces ++ directs) in
-    c.in_ok-finish.ensures.front ∙ (λ i. front i ++ laid i)
+    let laid = c.add_traces.ensures.value ∙ ap (λ (ts : List FlowTrace). with_parts c.append.new.self (trace_parts (map room_of ts) no_elements)) c.traces.ensures in
+    laid-some c.args.outer.now c.append.new.self c.args.next traces directs c.requires.none c.append.ensures.value
+    c.add_traces.new.outer c.add_direct.new.outer laid c.add_direct.ensures
+
+pub finish-requires-clause-small : goal.finish-requires-clause-small
+finish-requires-clause-small c =
+    let flow = c.args.flow.now in
+    let traces = trace_parts (map room_of flow.traces) no_elements in
+    let directs = direct_parts flow flow.direct c.args.seq in
+    let laid = c.add_traces.ensures.value ∙ ap (λ (ts : List FlowTrace). with_parts c.append.new.self (trace_parts (map room_of ts) no_elements)) c.traces.ensures in
+    omega (
+      arith,
+      c.requires.small,
+      most-kept c.args.outer.now c.append.new.self c.args.next traces directs c.requires.none c.append.ensures.value
+          c.add_traces.new.outer c.add_direct.new.outer laid c.add_direct.ensures,
+    )
+
+pub finish-requires-clause-room : goal.finish-requires-clause-room
+finish-requires-clause-room c =
+    let flow = c.args.flow.now in
+    let traces = trace_parts (map room_of flow.traces) no_elements in
+    let directs = direct_parts flow flow.direct c.args.seq in
+    let laid = c.add_traces.ensures.value ∙ ap (λ (ts : List FlowTrace). with_parts c.append.new.self (trace_parts (map room_of ts) no_elements)) c.traces.ensures in
+    room-finished c.args.outer.now c.append.new.self c.args.next traces directs c.requires.none c.append.ensures.value c.requires.room
+    c.add_traces.new.outer c.add_direct.new.outer laid c.add_direct.ensures
+
+pub returns-clause-value : goal.returns-clause-value
+returns-clause-value c =
+    let flow = c.args.flow.now in
+    let traces = trace_parts (map room_of flow.traces) no_elements in
+    let directs = direct_parts flow flow.direct c.args.seq in
+    let laid = c.add_traces.ensures.value ∙ ap (λ (ts : List FlowTrace). with_parts c.append.new.self (trace_parts (map room_of ts) no_elements)) c.traces.ensures in
+    header-laid c.args.outer.now c.append.new.self c.args.next traces directs c.requires.none c.append.ensures.value
+    c.add_traces.new.outer c.add_direct.new.outer c.finish.new.self laid c.add_direct.ensures c.finish.ensures

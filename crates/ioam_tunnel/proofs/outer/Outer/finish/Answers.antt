@@ -1,24 +1,22 @@
-use Rattle.std.proofs.Common.{◌≡◌, ◌≤◌, ◌+◌, ◌-◌, ◌/◌, ◌++◌, ℕ, List, length, drop, take, slice_set, ap, ◌∙◌, arith, length-drop}
-use Rattle.std.proofs.lemmas.List.{length-set, take_all}
-use Rattle.ioam_ip.specs.Layout.{padding, padded, finished}
-use Rattle.ioam_tunnel.specs.Outer.{Writing}
-use Rattle.ioam_tunnel.proofs.OuterLaws.{finished-behind}
+use Rattle.std.proofs.Common.{◌≡◌, ◌≤◌, ◌+◌, ◌-◌, ◌/◌, ◌++◌, length, slice_set, sym, ap, ◌∙◌, arith}
+use Rattle.ioam_ip.specs.Layout.{padding, padded}
+use Rattle.ioam_tunnel.specs.Outer.{Writing, writing_of, more, behind}
+use Rattle.ioam_tunnel.proofs.OuterLaws.{length-laid, closed}
 use Rattle.ioam_tunnel.proofs.outer.Outer.finish.Goals as goal
 
-pub returns-clause-front : goal.returns-clause-front
-returns-clause-front c =
-    let i = c.self.inside in
-    let octets = i.octets.items in
-    let laid : List ℕ = drop i.start octets in
-    let within : i.start ≤ length octets = c.self.invariant in
-    let size : ℕ = c.len.result - i.start in
-    let whole : ℕ = c.padded-whole.result in
-    let said : ℕ = whole / 8 - 1 in
-    let size_is : size ≡ length laid = omega (arith, c.len.ensures, length-drop i.start octets) in
-    let whole_is : whole ≡ padded (length laid) = c.padded-whole.ensures ∙ ap padded size_is in
-    let all : List ℕ = slice_set c.pad.new.octets.items (i.start + 1) said in
-    take_all c.len-self-inside.result all (omega (arith, c.len-self-inside.ensures, length-set c.pad.new.octets.items (i.start + 1) said))
-    ∙ ap (λ xs. slice_set xs (i.start + 1) said) c.in_ok-pad.ensures
-    ∙ finished-behind i.start said octets (padding (whole - size)) within
-    ∙ (λ k. take i.start octets ++ slice_set (laid ++ padding (whole_is k - size_is k)) 1 (whole_is k / 8 - 1))
-    ∙ ap (λ (v : Writing). v.front ++ finished v.laid) c.self.view_is
+pub returns : goal.returns
+returns c =
+    let old = c.args.self.now in
+    let first = c.self.inside in
+    let i = c.self-2.inside in
+    let size : first.end - first.start ≡ length old.laid =
+    sym (length-laid first.octets.items first.start first.end c.self.invariant.1) ∙ ap (λ (w : Writing). length w.laid) c.self.view_is in
+    let whole : c.padded-whole.result ≡ padded (length old.laid) = c.padded-whole.ensures ∙ ap (λ n. padded n) size in
+    let count : c.padded-whole.result - (first.end - first.start) ≡ padded (length old.laid) - length old.laid = λ k. whole k - size k in
+    let pad = padding (padded (length old.laid) - length old.laid) in
+    let now : writing_of i.octets.items i.start i.end ≡ more old pad = c.self-2.view_is ∙ c.pad.ensures.value ∙ ap (λ n. more old (padding n)) count in
+    let long : length c.pad.new.self.laid ≡ i.end - i.start =
+    sym (ap (λ (w : Writing). length w.laid) c.self-2.view_is) ∙ length-laid i.octets.items i.start i.end c.self-2.invariant.1 in
+    let some : i.start + 2 ≤ i.end = omega (arith, c.requires.some, c.pad.ensures.size, long, c.self-2.invariant.0) in
+    closed i.octets.items i.start i.end (c.padded-whole.result / 8 - 1) (more old pad) now c.self-2.invariant.0 c.self-2.invariant.1 some
+    ∙ ap (λ n. behind old (slice_set (old.laid ++ pad) 1 (n / 8 - 1))) whole
