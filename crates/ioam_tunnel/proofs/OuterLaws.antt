@@ -93,6 +93,37 @@ module _ (now head : List ℕ) (options : ℕ) (long : length head ≡ 40) (is :
   pub headed-laid : drop 40 (take 40 now) ≡ []
   headed-laid = drop_all 40 (take 40 now) (omega (arith, length-take 40 now, headed-length))
 
+-- two octets, one after the other
+pair-behind : (front rest : List ℕ) (n a b : ℕ) → length front ≡ n → 2 ≤ length rest → slice_set (slice_set (front ++ rest) n a) (n + 1) b ≡ front ++ (a ∷ b ∷ drop 2 rest)
+pair-behind front [] n a b is long = absurd (omega (arith, long))
+pair-behind front (x ∷ []) n a b is long = absurd (omega (arith, long))
+pair-behind front (x ∷ y ∷ rest) n a b is long =
+    let here : n - n ≡ 0 = omega arith in
+    let next : n + 1 - n ≡ 1 = omega arith in
+    let first : slice_set (front ++ (x ∷ y ∷ rest)) n a ≡ front ++ (a ∷ y ∷ rest) =
+    set-append_right front (x ∷ y ∷ rest) n n a is (omega arith) ∙ ap (λ k. front ++ slice_set (x ∷ y ∷ rest) k a) here in
+    ap (λ xs. slice_set xs (n + 1) b) first
+    ∙ set-append_right front (a ∷ y ∷ rest) n (n + 1) b is (omega arith) ∙ ap (λ k. front ++ slice_set (a ∷ y ∷ rest) k b) next
+
+pub pair-written : (octets : List ℕ) (end a b : ℕ) → end + 2 ≤ length octets → slice_set (slice_set octets end a) (end + 1) b ≡ written octets end (a ∷ b ∷ [])
+pair-written octets end a b fits =
+    let front : length (take end octets) ≡ end = omega (arith, length-take end octets) in
+    ap (λ xs. slice_set (slice_set xs end a) (end + 1) b) (sym (take-append-drop end octets))
+    ∙ pair-behind (take end octets) (drop end octets) end a b front (omega (arith, length-drop end octets))
+    ∙ ap (λ xs. take end octets ++ (a ∷ b ∷ xs)) (drop-drop 2 end octets)
+
+pub two_pair : (number : ℕ) → number < 65536 → (number / 256) ∷ (number % 256) ∷ [] ≡ two_octets number
+two_pair number below =
+    let first : number / 256 ≡ number / 256 % 256 = omega arith in
+    λ i. first i ∷ (number % 256) ∷ []
+
+pub four_pair : (number : ℕ) → two_octets (number / 65536) ++ two_octets (number % 65536) ≡ four_octets number
+four_pair number =
+    let first : number / 65536 / 256 % 256 ≡ number / 16777216 % 256 = omega arith in
+    let third : number % 65536 / 256 % 256 ≡ number / 256 % 256 = omega arith in
+    let last : number % 65536 % 256 ≡ number % 256 = omega arith in
+    λ i. first i ∷ (number / 65536 % 256) ∷ third i ∷ last i ∷ []
+
 -- ---- padding
 
 pad_short : (count : ℕ) → count < 2 → replicate count 0 ≡ padding count

@@ -103,7 +103,7 @@ fn lay_hop_options(outer: &mut Outer, next: u8, flow: &Flow, seq: Option<u32>)
     ensures value { outer.new ≡ behind outer.old
         (header_of next (trace_parts (map room_of flow.now.traces) no_elements ++ direct_parts flow.now flow.now.direct seq)) }
 {
-    outer.append(&[next, 0]);
+    outer.pair(next, 0);
     add_traces(outer, flow.traces());
     add_direct(outer, flow, seq);
     outer.finish();
@@ -144,7 +144,7 @@ fn lay_target_options(outer: &mut Outer, flow: &Flow, numbers: &Numbers)
     ensures { outer.new ≡ behind outer.old
         (header_of 41 (limit_parts numbers.now.limit ++ edge_parts flow.now.namespace flow.now.edge numbers.now)) }
 {
-    outer.append(&[IPV6, 0]);
+    outer.pair(IPV6, 0);
     add_limit(outer, numbers.limit);
     add_edge(outer, flow, numbers);
     outer.finish();

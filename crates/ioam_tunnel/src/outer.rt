@@ -24,6 +24,12 @@ use ioam_topo::FlowTrace;
 use std::alloc::Global;
 use std::marker::Model;
 
+// What the first of two octets counts in.
+const OCTET: u16 = 1 << 8;
+
+// What the first two of four octets count in.
+const TWO_OCTETS: u32 = 1 << 16;
+
 // What NodeLen counts in, in the word of a trace's lengths (RFC 9197 section 4.4.1).
 const NODE_LEN: u16 = 1 << 11;
 
@@ -105,6 +111,18 @@ impl Outer {
         self.end += part.len();
     }
 
+    /// Appends two octets.
+    pub(crate) fn pair(&mut self, first: u8, second: u8)
+        requires { length self.old.laid + 2 ≤ self.old.most }
+        ensures value { self.new ≡ more self.old (first ∷ second ∷ []) }
+        ensures size { length self.new.laid ≡ length self.old.laid + 2 }
+        ensures most { self.new.most ≡ self.old.most }
+    {
+        self.octets[self.end] = first;
+        self.octets[self.end + 1] = second;
+        self.end += 2;
+    }
+
     // Appends so many zeros, which stand there already.
     fn skip(&mut self, count: usize)
         requires { length self.old.laid + count ≤ self.old.most }
@@ -122,7 +140,7 @@ impl Outer {
         ensures size { length self.new.laid ≡ length self.old.laid + 2 }
         ensures most { self.new.most ≡ self.old.most }
     {
-        self.append(&number.to_be_bytes());
+        self.pair((number / OCTET) as u8, (number % OCTET) as u8);
     }
 
     // Appends a number as four octets.
@@ -132,7 +150,8 @@ impl Outer {
         ensures size { length self.new.laid ≡ length self.old.laid + 4 }
         ensures most { self.new.most ≡ self.old.most }
     {
-        self.append(&number.to_be_bytes());
+        self.two((number / TWO_OCTETS) as u16);
+        self.two((number % TWO_OCTETS) as u16);
     }
 
     // Appends a number as four octets, where it is there.
@@ -180,7 +199,7 @@ impl Outer {
         ensures size { length self.new.laid ≡ length self.old.laid + count }
         ensures most { self.new.most ≡ self.old.most }
     {
-        self.append(&[PADN, (count - 2) as u8]);
+        self.pair(PADN, (count - 2) as u8);
         self.skip(count - 2);
     }
 
@@ -212,7 +231,8 @@ impl Outer {
     {
         let gap = gap_behind(self.end - self.start);
         self.pad(gap);
-        self.append(&[kind, size, 0, option_type]);
+        self.pair(kind, size);
+        self.pair(0, option_type);
     }
 
     /// Appends a trace without elements.
@@ -235,7 +255,7 @@ impl Outer {
         ensures { self.new ≡ more self.old (direct_octets direct.now 0) }
     {
         self.two(direct.namespace.0);
-        self.append(&[direct.flags, direct.ext]);
+        self.pair(direct.flags, direct.ext);
         self.kind(direct.kind);
         self.four_if(direct.flow);
         self.four_if(direct.seq);

@@ -12,24 +12,24 @@ add_traces-requires-clause-room c =
     let flow = c.args.flow.now in
     let traces = trace_parts (map room_of flow.traces) no_elements in
     let directs = direct_parts flow flow.direct c.args.seq in
-    subst (λ (ts : List FlowTrace). length (laid_with c.append.new.self.laid (trace_parts (map room_of ts) no_elements)) ≤ c.append.new.self.most) (sym c.traces.ensures)
-    (room-first c.args.outer.now c.append.new.self c.args.next traces directs c.requires.none c.append.ensures.value c.requires.room)
+    subst (λ (ts : List FlowTrace). length (laid_with c.pair.new.self.laid (trace_parts (map room_of ts) no_elements)) ≤ c.pair.new.self.most) (sym c.traces.ensures)
+    (room-first c.args.outer.now c.pair.new.self c.args.next traces directs c.requires.none c.pair.ensures.value c.requires.room)
 
 pub add_direct-requires-clause-room : goal.add_direct-requires-clause-room
 add_direct-requires-clause-room c =
     let flow = c.args.flow.now in
     let traces = trace_parts (map room_of flow.traces) no_elements in
     let directs = direct_parts flow flow.direct c.args.seq in
-    let laid = c.add_traces.ensures.value ∙ ap (λ (ts : List FlowTrace). with_parts c.append.new.self (trace_parts (map room_of ts) no_elements)) c.traces.ensures in
-    room-second c.args.outer.now c.append.new.self c.args.next traces directs c.requires.none c.append.ensures.value c.requires.room c.add_traces.new.outer laid
+    let laid = c.add_traces.ensures.value ∙ ap (λ (ts : List FlowTrace). with_parts c.pair.new.self (trace_parts (map room_of ts) no_elements)) c.traces.ensures in
+    room-second c.args.outer.now c.pair.new.self c.args.next traces directs c.requires.none c.pair.ensures.value c.requires.room c.add_traces.new.outer laid
 
 pub finish-requires-clause-some : goal.finish-requires-clause-some
 finish-requires-clause-some c =
     let flow = c.args.flow.now in
     let traces = trace_parts (map room_of flow.traces) no_elements in
     let directs = direct_parts flow flow.direct c.args.seq in
-    let laid = c.add_traces.ensures.value ∙ ap (λ (ts : List FlowTrace). with_parts c.append.new.self (trace_parts (map room_of ts) no_elements)) c.traces.ensures in
-    laid-some c.args.outer.now c.append.new.self c.args.next traces directs c.requires.none c.append.ensures.value
+    let laid = c.add_traces.ensures.value ∙ ap (λ (ts : List FlowTrace). with_parts c.pair.new.self (trace_parts (map room_of ts) no_elements)) c.traces.ensures in
+    laid-some c.args.outer.now c.pair.new.self c.args.next traces directs c.requires.none c.pair.ensures.value
     c.add_traces.new.outer c.add_direct.new.outer laid c.add_direct.ensures
 
 pub finish-requires-clause-small : goal.finish-requires-clause-small
@@ -37,11 +37,11 @@ finish-requires-clause-small c =
     let flow = c.args.flow.now in
     let traces = trace_parts (map room_of flow.traces) no_elements in
     let directs = direct_parts flow flow.direct c.args.seq in
-    let laid = c.add_traces.ensures.value ∙ ap (λ (ts : List FlowTrace). with_parts c.append.new.self (trace_parts (map room_of ts) no_elements)) c.traces.ensures in
+    let laid = c.add_traces.ensures.value ∙ ap (λ (ts : List FlowTrace). with_parts c.pair.new.self (trace_parts (map room_of ts) no_elements)) c.traces.ensures in
     omega (
       arith,
       c.requires.small,
-      most-kept c.args.outer.now c.append.new.self c.args.next traces directs c.requires.none c.append.ensures.value
+      most-kept c.args.outer.now c.pair.new.self c.args.next traces directs c.requires.none c.pair.ensures.value
           c.add_traces.new.outer c.add_direct.new.outer laid c.add_direct.ensures,
     )
 
@@ -50,8 +50,8 @@ finish-requires-clause-room c =
     let flow = c.args.flow.now in
     let traces = trace_parts (map room_of flow.traces) no_elements in
     let directs = direct_parts flow flow.direct c.args.seq in
-    let laid = c.add_traces.ensures.value ∙ ap (λ (ts : List FlowTrace). with_parts c.append.new.self (trace_parts (map room_of ts) no_elements)) c.traces.ensures in
-    room-finished c.args.outer.now c.append.new.self c.args.next traces directs c.requires.none c.append.ensures.value c.requires.room
+    let laid = c.add_traces.ensures.value ∙ ap (λ (ts : List FlowTrace). with_parts c.pair.new.self (trace_parts (map room_of ts) no_elements)) c.traces.ensures in
+    room-finished c.args.outer.now c.pair.new.self c.args.next traces directs c.requires.none c.pair.ensures.value c.requires.room
     c.add_traces.new.outer c.add_direct.new.outer laid c.add_direct.ensures
 
 pub returns-clause-value : goal.returns-clause-value
@@ -59,6 +59,6 @@ returns-clause-value c =
     let flow = c.args.flow.now in
     let traces = trace_parts (map room_of flow.traces) no_elements in
     let directs = direct_parts flow flow.direct c.args.seq in
-    let laid = c.add_traces.ensures.value ∙ ap (λ (ts : List FlowTrace). with_parts c.append.new.self (trace_parts (map room_of ts) no_elements)) c.traces.ensures in
-    header-laid c.args.outer.now c.append.new.self c.args.next traces directs c.requires.none c.append.ensures.value
+    let laid = c.add_traces.ensures.value ∙ ap (λ (ts : List FlowTrace). with_parts c.pair.new.self (trace_parts (map room_of ts) no_elements)) c.traces.ensures in
+    header-laid c.args.outer.now c.pair.new.self c.args.next traces directs c.requires.none c.pair.ensures.value
     c.add_traces.new.outer c.add_direct.new.outer c.finish.new.self laid c.add_direct.ensures c.finish.ensures

@@ -1,4 +1,4 @@
-use Rattle.std.proofs.Common.{◌≡◌, ◌-◌, [], ◌∷◌, length, ap, sym, ◌∙◌, arith}
+use Rattle.std.proofs.Common.{◌++◌, ◌≡◌, ◌-◌, [], ◌∷◌, length, append_assoc, ap, sym, ◌∙◌, arith}
 use Rattle.ioam_ip.specs.Layout.{padding, gap_before}
 use Rattle.ioam_tunnel.specs.Outer.{Writing, more}
 use Rattle.ioam_tunnel.proofs.OuterLaws.{length-laid, more_twice}
@@ -13,14 +13,23 @@ pad-requires-clause-room c =
     c.gap_behind-gap.ensures.value c.args.kind c.requires.ioam ∙ ap (λ n. gap_before n c.args.kind) laid in
     omega (arith, c.requires.room, gap)
 
-pub append-requires : goal.append-requires
-append-requires c =
+pub pair-requires : goal.pair-requires
+pair-requires c =
     let i = c.self.inside in
     let laid : i.end - i.start ≡ length c.args.self.now.laid =
     sym (length-laid i.octets.items i.start i.end c.self.invariant.1) ∙ ap (λ (w : Writing). length w.laid) c.self.view_is in
     let gap : c.gap_behind-gap.result ≡ gap_before (length c.args.self.now.laid) c.args.kind =
     c.gap_behind-gap.ensures.value c.args.kind c.requires.ioam ∙ ap (λ n. gap_before n c.args.kind) laid in
     omega (arith, c.requires.room, gap, c.pad.ensures.size, c.pad.ensures.most)
+
+pub pair-requires-2 : goal.pair-requires-2
+pair-requires-2 c =
+    let i = c.self.inside in
+    let laid : i.end - i.start ≡ length c.args.self.now.laid =
+    sym (length-laid i.octets.items i.start i.end c.self.invariant.1) ∙ ap (λ (w : Writing). length w.laid) c.self.view_is in
+    let gap : c.gap_behind-gap.result ≡ gap_before (length c.args.self.now.laid) c.args.kind =
+    c.gap_behind-gap.ensures.value c.args.kind c.requires.ioam ∙ ap (λ n. gap_before n c.args.kind) laid in
+    omega (arith, c.requires.room, gap, c.pad.ensures.size, c.pad.ensures.most, c.pair.ensures.size, c.pair.ensures.most)
 
 pub returns-clause-value : goal.returns-clause-value
 returns-clause-value c =
@@ -30,10 +39,14 @@ returns-clause-value c =
     sym (length-laid i.octets.items i.start i.end c.self.invariant.1) ∙ ap (λ (w : Writing). length w.laid) c.self.view_is in
     let gap : c.gap_behind-gap.result ≡ gap_before (length c.args.self.now.laid) c.args.kind =
     c.gap_behind-gap.ensures.value c.args.kind c.requires.ioam ∙ ap (λ n. gap_before n c.args.kind) laid in
-    let head = c.args.kind ∷ c.args.size ∷ 0 ∷ c.args.option_type ∷ [] in
-    c.append.ensures.value
-    ∙ ap (λ (w : Writing). more w head) (c.pad.ensures.value ∙ ap (λ n. more old (padding n)) gap)
-    ∙ more_twice old (padding (gap_before (length old.laid) c.args.kind)) head
+    let pad = padding (gap_before (length old.laid) c.args.kind) in
+    let kinds = c.args.kind ∷ c.args.size ∷ [] in
+    let opening = 0 ∷ c.args.option_type ∷ [] in
+    c.pair-2.ensures.value
+    ∙ ap (λ (w : Writing). more w opening)
+    (c.pair.ensures.value ∙ ap (λ (w : Writing). more w kinds) (c.pad.ensures.value ∙ ap (λ n. more old (padding n)) gap) ∙ more_twice old pad kinds)
+    ∙ more_twice old (pad ++ kinds) opening
+    ∙ ap (λ xs. more old xs) (append_assoc pad kinds opening)
 
 pub returns-clause-size : goal.returns-clause-size
 returns-clause-size c =
@@ -42,4 +55,4 @@ returns-clause-size c =
     sym (length-laid i.octets.items i.start i.end c.self.invariant.1) ∙ ap (λ (w : Writing). length w.laid) c.self.view_is in
     let gap : c.gap_behind-gap.result ≡ gap_before (length c.args.self.now.laid) c.args.kind =
     c.gap_behind-gap.ensures.value c.args.kind c.requires.ioam ∙ ap (λ n. gap_before n c.args.kind) laid in
-    omega (arith, gap, c.pad.ensures.size, c.append.ensures.size)
+    omega (arith, gap, c.pad.ensures.size, c.pair.ensures.size, c.pair-2.ensures.size)

@@ -8,6 +8,6 @@ returns-clause-value c =
     let old = c.args.self.now in
     let count = c.args.count in
     c.skip.ensures.value
-    ∙ ap (λ (w : Writing). more w (replicate (count - 2) 0)) c.append.ensures.value
+    ∙ ap (λ (w : Writing). more w (replicate (count - 2) 0)) c.pair.ensures.value
     ∙ more_twice old (1 ∷ (count - 2) ∷ []) (replicate (count - 2) 0)
     ∙ ap (λ xs. more old xs) (pad_long count c.requires.some)
