@@ -1,3 +1,4 @@
+pub mod AlikeLaws
 pub mod CarriedLaws
 pub mod CountedLaws
 pub mod ExportedLaws

@@ -1,10 +1,12 @@
 -- What a node knows of a packet that it visits (RFC 9197 section 4.4.2).
-use Rattle.std.specs.Prelude.{◌≡◌, ◌≤◌, ℕ, Option, Some, None, IfSome, List, option_map, option_and_then, slice_get}
+use Rattle.std.specs.Prelude.{◌≡◌, ℕ, Bool, ◌||◌, Option, Some, None, List, option_map, option_and_then, slice_get}
 use Rattle.ioam_clock.specs.declared.sample.Sample.{Sample}
 use Rattle.ioam_clock.specs.Reading.{samples_of}
-use Rattle.ioam_clock.specs.Samples.{IsSmall, sample_at, clock_at}
+use Rattle.ioam_clock.specs.Samples.{sample_at, clock_at}
 use Rattle.ioam_clock.specs.Stamp.{stamp}
+use Rattle.ioam_data.specs.Kind.{has}
 use Rattle.ioam_data.specs.View.{Seen}
+use Rattle.ioam_data.specs.Written.{element_of, element_words}
 use Rattle.ioam_node.specs.declared.place.Place.{Place}
 use Rattle.ioam_topo.specs.declared.domain.Domain.{Domain}
 use Rattle.ioam_topo.specs.declared.parts.Node.{Node}
@@ -28,12 +30,6 @@ abbrev pub snapshot_in : Option NodeData → Option (ℕ × List ℕ)
 snapshot_in None = None
 snapshot_in (Some row) = both row.schema row.snapshot
 
--- the sample in force at a time, of these samples of a node
-pub record IsInForce (samples : List Sample) (time : ℕ) (sample : Option Sample) : Type 0 where
-  pub is : sample ≡ sample_at samples time
-  pub small : IfSome sample IsSmall
-  pub before : IfSome sample (λ sample. sample.time ≤ time)
-
 -- what the node at a place knows at a time, of a packet that is sent on with this hop limit and of a namespace
 unfoldable pub view_of : Domain → List (List Sample) → Place → ℕ → ℕ → ℕ → Seen
 view_of domain readings place time hops space = record {
@@ -49,3 +45,17 @@ view_of domain readings place time hops space = record {
   wide = option_and_then (λ row. row.wide) (data_at (node_data domain) place.node.0 space);
   snapshot = snapshot_in (data_at (node_data domain) place.node.0 space);
 }
+
+-- a type asks for what a node reads at a time: the seconds or the fraction of its clock, the transit delay, the queue
+-- depth or the buffer occupancy
+abbrev pub asks_reading : ℕ → Bool
+asks_reading kind = has kind 2 || (has kind 3 || (has kind 4 || (has kind 6 || has kind 11)))
+
+-- a type asks for what a node's data say: namespace data of 32 bits or of 64, or the opaque state snapshot
+abbrev pub asks_data : ℕ → Bool
+asks_data kind = has kind 5 || (has kind 10 || has kind 22)
+
+-- two views of which a node writes the same element under a type, whatever NodeLen is
+pub record AreAlike (kind : ℕ) (one other : Seen) : Type 0 where
+  pub element : (node_len : ℕ) → element_of kind node_len one ≡ element_of kind node_len other
+  pub words : (node_len : ℕ) → element_words kind node_len one ≡ element_words kind node_len other

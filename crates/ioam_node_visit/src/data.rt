@@ -1,14 +1,12 @@
 //! What a node does to one option: it fills a trace, or exports what direct export asks for.
 ghost use Rattle.std.specs.Prelude.{◌≡◌, ◌<◌, ◌≤◌, ◌^◌, ◌-◌, ◌+◌, ◌++◌, ◌∷◌, [], true, if◌then◌else◌, length};
-ghost use Rattle.ioam_clock.specs.Reading.{samples_of};
-ghost use Rattle.ioam_data.specs.View.{seen};
 ghost use Rattle.ioam_dex.specs.Direct.{HasItsNumbers, read_of};
 ghost use Rattle.ioam_dex.specs.Reads.{records_octets};
 ghost use Rattle.ioam_topo.specs.Domain.{nodes};
 ghost use Rattle.ioam_trace.specs.Filled.{filled};
 ghost use Rattle.ioam_node_visit.specs.Exports.{direct_records, export_type, record_for, records_of};
 ghost use Rattle.ioam_node_visit.specs.Notes.{direct_note, filled_what, note, notes_of, short_note, trace_note, what_done};
-ghost use Rattle.ioam_node_visit.specs.Seeing.{IsInForce, view_of};
+ghost use Rattle.ioam_node_visit.specs.Seeing.{view_of};
 ghost use Rattle.ioam_node_visit.specs.declared.note.What.TheVariants.{Exported};
 ghost use Rattle.ioam_node_visit.specs.Step.{knows, node_step, trace_step};
 
@@ -17,10 +15,9 @@ use crate::note::{NodeNote, What};
 use crate::room::NodeRoom;
 use crate::visit::NodeVisit;
 use ioam_base::octets::u16_at;
-use ioam_clock::Sample;
-use ioam_data::{ElementBuf, Namespace, TraceType, bit, put_exported};
+use ioam_data::{ElementBuf, Namespace, TraceType, bit};
 use ioam_dex::{Direct, Export, read};
-use ioam_trace::{Filled, fill};
+use ioam_trace::Filled;
 
 // What was done, as a note says it.
 fn what_done(filled: Filled) -> What
@@ -59,10 +56,10 @@ fn export_type(kind: TraceType) -> TraceType
 
 impl NodeVisit<'_> {
     // Adds the node's data to the octets of a trace of a namespace, and says what was done.
-    fn fill_known(&self, sample: Option<Sample>, namespace: Namespace, octets: &mut [u8]) -> What
+    fn fill_known(&self, namespace: Namespace, octets: &mut [u8]) -> What
+        requires begins { 8 ≤ length octets.old }
         requires node { self.now.place.node.0 < length (nodes self.now.domain.now) }
         requires time { self.now.time < 2 ^ 63 }
-        requires sample { IsInForce (samples_of self.now.readings.now self.now.place.node.0) self.now.time sample }
         ensures octets { let view = view_of self.now.domain.now self.now.readings.now self.now.place self.now.time self.now.hops namespace.0 in
             octets.new ≡ (if knows self.now.domain.now self.now.place.node.0 namespace.0 then filled octets.old view else octets.old) }
         ensures what { result ≡ filled_what self.now.domain.now self.now.readings.now self.now.place self.now.time self.now.hops namespace.0 octets.old }
@@ -70,16 +67,14 @@ impl NodeVisit<'_> {
         if !self.domain.knows(self.place.node, namespace) {
             return What::Unknown;
         }
-        let view = self.view(sample, namespace);
-        what_done(fill(octets, &view))
+        what_done(self.fill_seen(namespace, octets))
     }
 
     // Adds the node's data to a trace, and gives the note of what was done.
     #[tactic(auto, unfolding(crate::specs::Step::trace_step, crate::specs::Notes::trace_note))]
-    fn fill_trace(&self, sample: Option<Sample>, body: &mut [u8]) -> NodeNote
+    fn fill_trace(&self, body: &mut [u8]) -> NodeNote
         requires node { self.now.place.node.0 < length (nodes self.now.domain.now) }
         requires time { self.now.time < 2 ^ 63 }
-        requires sample { IsInForce (samples_of self.now.readings.now self.now.place.node.0) self.now.time sample }
         ensures octets { body.new ≡ trace_step self.now.domain.now self.now.readings.now self.now.place self.now.time self.now.hops body.old }
         ensures note { result ≡ trace_note self.now.domain.now self.now.readings.now self.now.place self.now.time self.now.hops body.old }
     {
@@ -87,7 +82,7 @@ impl NodeVisit<'_> {
             return short_note();
         }
         let namespace = Namespace(u16_at(body, 2));
-        let what = self.fill_known(sample, namespace, &mut body[2..]);
+        let what = self.fill_known(namespace, &mut body[2..]);
         NodeNote {
             namespace,
             direct: false,
@@ -97,10 +92,9 @@ impl NodeVisit<'_> {
 
     // Exports what direct export data of a namespace that the node knows ask for.
     #[tactic(auto, unfolding(crate::specs::Exports::record_for))]
-    fn export_known(&self, sample: Option<Sample>, direct: &Direct, room: &mut NodeRoom)
+    fn export_known(&self, direct: &Direct, room: &mut NodeRoom)
         requires node { self.now.place.node.0 < length (nodes self.now.domain.now) }
         requires time { self.now.time < 2 ^ 63 }
-        requires sample { IsInForce (samples_of self.now.readings.now self.now.place.node.0) self.now.time sample }
         requires numbers { HasItsNumbers direct.now }
         requires room { 1 ≤ room.old.spare }
         ensures notes { room.new.notes ≡ room.old.notes ++ note direct.now.namespace.0 true Exported ∷ [] }
@@ -110,9 +104,8 @@ impl NodeVisit<'_> {
         ensures capacities { room.new.capacities ≡ room.old.capacities }
     {
         let kind = export_type(direct.kind);
-        let view = self.view(sample, direct.namespace);
         let mut buffer = ElementBuf::new();
-        put_exported(kind, &view, &mut buffer);
+        self.put_seen(kind, direct.namespace, &mut buffer);
         let export = Export {
             namespace: direct.namespace,
             flags: direct.flags,
@@ -132,10 +125,9 @@ impl NodeVisit<'_> {
     }
 
     // Exports what direct export data ask for, and notes it.
-    fn export(&self, sample: Option<Sample>, octets: &[u8], room: &mut NodeRoom)
+    fn export(&self, octets: &[u8], room: &mut NodeRoom)
         requires node { self.now.place.node.0 < length (nodes self.now.domain.now) }
         requires time { self.now.time < 2 ^ 63 }
-        requires sample { IsInForce (samples_of self.now.readings.now self.now.place.node.0) self.now.time sample }
         requires room { 1 ≤ room.old.spare }
         ensures notes { room.new.notes ≡ room.old.notes ++ direct_note self.now.domain.now self.now.place.node.0 (read_of octets.now) ∷ [] }
         ensures exports { let records = direct_records self.now.domain.now self.now.readings.now self.now.place self.now.time self.now.hops (read_of octets.now) in
@@ -155,21 +147,14 @@ impl NodeVisit<'_> {
             });
             return;
         }
-        self.export_known(sample, &direct, room);
+        self.export_known(&direct, room);
     }
 
     // Changes the data of an option as the node does, notes what was done, and exports what is asked for.
     #[tactic(auto, unfolding(crate::specs::Step::node_step, crate::specs::Notes::notes_of, crate::specs::Exports::records_of))]
-    pub(crate) fn change(
-        &self,
-        sample: Option<Sample>,
-        kind: u8,
-        body: &mut [u8],
-        room: &mut NodeRoom,
-    )
+    pub(crate) fn change(&self, kind: u8, body: &mut [u8], room: &mut NodeRoom)
         requires node { self.now.place.node.0 < length (nodes self.now.domain.now) }
         requires time { self.now.time < 2 ^ 63 }
-        requires sample { IsInForce (samples_of self.now.readings.now self.now.place.node.0) self.now.time sample }
         requires room { length (notes_of self.now.domain.now self.now.readings.now self.now.place self.now.time self.now.hops kind body.old) ≤ room.old.spare }
         ensures octets { body.new ≡ node_step self.now.domain.now self.now.readings.now self.now.place self.now.time self.now.hops kind body.old }
         ensures notes { room.new.notes ≡ room.old.notes ++ notes_of self.now.domain.now self.now.readings.now self.now.place self.now.time self.now.hops kind body.old }
@@ -180,8 +165,8 @@ impl NodeVisit<'_> {
     {
         match meet(kind, body) {
             Met::Cut => room.add(short_note()),
-            Met::Trace => room.add(self.fill_trace(sample, body)),
-            Met::Direct => self.export(sample, &body[2..], room),
+            Met::Trace => room.add(self.fill_trace(body)),
+            Met::Direct => self.export(&body[2..], room),
             Met::Other => {}
         }
     }

@@ -1,6 +1,5 @@
 //! The options of a header, changed one after the other.
 ghost use Rattle.std.specs.Prelude.{◌≡◌, ◌↔◌, ◌<◌, ◌≤◌, ◌^◌, ◌+◌, ◌++◌, length, slice_index};
-ghost use Rattle.ioam_clock.specs.Reading.{samples_of};
 ghost use Rattle.ioam_dex.specs.Reads.{records_octets};
 ghost use Rattle.ioam_ip.specs.Chain.{IsSound};
 ghost use Rattle.ioam_ip.specs.ChainOptions.{CarriesIoam};
@@ -11,20 +10,17 @@ ghost use Rattle.ioam_topo.specs.Domain.{nodes};
 ghost use Rattle.ioam_node_visit.specs.Counted.{hop_exports, hop_notes, notes_in, records_in};
 ghost use Rattle.ioam_node_visit.specs.Exports.{records_of};
 ghost use Rattle.ioam_node_visit.specs.Notes.{notes_of};
-ghost use Rattle.ioam_node_visit.specs.Seeing.{IsInForce};
 ghost use Rattle.ioam_node_visit.specs.Step.{node_step};
 
 use crate::room::NodeRoom;
 use crate::visit::NodeVisit;
-use ioam_clock::Sample;
 use ioam_ip::{hop_header, next_option};
 
 impl NodeVisit<'_> {
     // Changes the options of a header as the node does.
-    fn change_options(&self, sample: Option<Sample>, head: &mut [u8], room: &mut NodeRoom)
+    fn change_options(&self, head: &mut [u8], room: &mut NodeRoom)
         requires node { self.now.place.node.0 < length (nodes self.now.domain.now) }
         requires time { self.now.time < 2 ^ 63 }
-        requires sample { IsInForce (samples_of self.now.readings.now self.now.place.node.0) self.now.time sample }
         requires room { let notes = notes_of self.now.domain.now self.now.readings.now self.now.place self.now.time self.now.hops in
             length (notes_in notes (options_in head.old)) ≤ room.old.spare }
         ensures notes { let notes = notes_of self.now.domain.now self.now.readings.now self.now.place self.now.time self.now.hops in
@@ -42,7 +38,7 @@ impl NodeVisit<'_> {
         'options: while let Some(spot) = next_option(head, at) {
             let start = spot.at + 2;
             let end = start + spot.size;
-            self.change(sample, spot.kind, &mut head[start..end], room);
+            self.change(spot.kind, &mut head[start..end], room);
             at = end;
         }
     }
@@ -67,8 +63,7 @@ impl NodeVisit<'_> {
         let Some(hop) = hop_header(packet) else {
             return;
         };
-        let sample = self.sample();
-        self.change_options(sample, &mut packet[hop], room);
+        self.change_options(&mut packet[hop], room);
     }
 
     // The same of a packet with a whole chain.

@@ -1,19 +1,25 @@
 //! What a node knows of a packet that it visits.
-ghost use Rattle.std.specs.Prelude.{◌≡◌, ◌<◌, ◌≤◌, ◌^◌, length, option_map, option_and_then, IfSome};
+ghost use Rattle.std.specs.Prelude.{◌≡◌, ◌<◌, ◌≤◌, ◌^◌, length, option_map, option_and_then, IfSome, None, if◌then◌else◌};
 ghost use Rattle.std.specs.Option.{ForSome, option_copied};
 ghost use Rattle.ioam_clock.specs.Reading.{samples_of};
-ghost use Rattle.ioam_clock.specs.Samples.{IsSmall, elapsed};
+ghost use Rattle.ioam_clock.specs.Samples.{IsSmall, elapsed, sample_at};
 ghost use Rattle.ioam_clock.specs.Stamp.{stamp};
+ghost use Rattle.ioam_data.specs.Elements.{IsFilled};
+ghost use Rattle.ioam_data.specs.Kind.{words};
 ghost use Rattle.ioam_data.specs.Snapshot.{IsSnapshot};
 ghost use Rattle.ioam_data.specs.View.{seen, snapshot_data};
-ghost use Rattle.ioam_topo.specs.Domain.{nodes};
+ghost use Rattle.ioam_data.specs.Written.{element_of};
+ghost use Rattle.ioam_topo.specs.Domain.{nodes, node_data};
+ghost use Rattle.ioam_topo.specs.Finding.{data_at};
 ghost use Rattle.ioam_topo.specs.Sound.{IsNodeData};
-ghost use Rattle.ioam_node_visit.specs.Seeing.{IsInForce, snapshot_in, view_of};
+ghost use Rattle.ioam_trace.specs.Filled.{answer_of, filled};
+ghost use Rattle.ioam_node_visit.specs.Seeing.{AreAlike, asks_data, asks_reading, snapshot_in, view_of};
 
 use crate::visit::NodeVisit;
 use ioam_clock::{Sample, stamp};
-use ioam_data::{Namespace, View};
+use ioam_data::{ElementBuf, Namespace, TraceType, View, bit, put_exported};
 use ioam_topo::{Format, NodeData};
+use ioam_trace::{Filled, TRACE_TYPE, fill};
 
 // The timestamp of a node's clock at a time, by the sample in force there.
 fn stamp_in(format: Format, sample: Option<Sample>, time: u64) -> Option<(u32, u32)>
@@ -71,24 +77,62 @@ fn wide_in(row: Option<&NodeData>) -> Option<u64>
     row?.wide
 }
 
+// Whether a type asks for what a node reads at a time: its clock, its delay, its queue or its buffer.
+fn asks_reading(kind: TraceType) -> bool
+    ensures { result ≡ asks_reading kind }
+{
+    kind.has(bit::SECONDS)
+        || kind.has(bit::FRACTION)
+        || kind.has(bit::DELAY)
+        || kind.has(bit::QUEUE)
+        || kind.has(bit::BUFFER)
+}
+
+// Whether a type asks for what a node's data say of a namespace.
+fn asks_data(kind: TraceType) -> bool
+    ensures { result ≡ asks_data kind }
+{
+    kind.has(bit::SHORT_DATA) || kind.has(bit::WIDE_DATA) || kind.has_snapshot()
+}
+
 impl NodeVisit<'_> {
-    // The sample in force at the node.
-    pub(crate) fn sample(&self) -> Option<Sample>
-        ensures { IsInForce (samples_of self.now.readings.now self.now.place.node.0) self.now.time result }
+    // The sample in force at the node, where a type asks for what it tells.
+    fn sample_for(&self, kind: TraceType) -> Option<Sample>
+        ensures value { let sample = sample_at (samples_of self.now.readings.now self.now.place.node.0) self.now.time in
+            result ≡ (if asks_reading kind then sample else None) }
+        ensures small { IfSome result IsSmall }
+        ensures before { IfSome result (λ sample. sample.time ≤ self.now.time) }
     {
-        self.readings.view(self.place.node, self.time)
+        if asks_reading(kind) {
+            self.readings.view(self.place.node, self.time)
+        } else {
+            None
+        }
     }
 
-    // What the node knows, of a namespace, by the sample in force there.
-    #[tactic(auto, unfolding(crate::specs::Seeing::view_of))]
-    pub(crate) fn view(&self, sample: Option<Sample>, namespace: Namespace) -> View<'_>
+    // The data of the node in a namespace, where a type asks for what they say.
+    fn data_for(&self, kind: TraceType, namespace: Namespace) -> Option<&NodeData>
+        ensures value { let row = data_at (node_data self.now.domain.now) self.now.place.node.0 namespace.0 in
+            option_copied result ≡ (if asks_data kind then row else None) }
+        ensures sound { IfSome result (λ row. IsNodeData row.now) }
+    {
+        if asks_data(kind) {
+            self.domain.node_data(self.place.node, namespace)
+        } else {
+            None
+        }
+    }
+
+    // What the node knows, of a namespace, as far as a type asks for it.
+    #[inline(always)]
+    fn view(&self, kind: TraceType, namespace: Namespace) -> View<'_>
         requires node { self.now.place.node.0 < length (nodes self.now.domain.now) }
         requires time { self.now.time < 2 ^ 63 }
-        requires sample { IsInForce (samples_of self.now.readings.now self.now.place.node.0) self.now.time sample }
-        ensures { seen result ≡ view_of self.now.domain.now self.now.readings.now self.now.place self.now.time self.now.hops namespace.0 }
+        ensures { AreAlike kind (seen result) (view_of self.now.domain.now self.now.readings.now self.now.place self.now.time self.now.hops namespace.0) }
     {
         let node = self.place.node;
-        let row = self.domain.node_data(node, namespace);
+        let sample = self.sample_for(kind);
+        let row = self.data_for(kind, namespace);
         View {
             hops: self.hops,
             id: self.domain.node(node).id,
@@ -102,5 +146,31 @@ impl NodeVisit<'_> {
             wide: wide_in(row),
             snapshot: snapshot_of(row),
         }
+    }
+
+    // Adds what the node knows, of a namespace, to the octets of a trace.
+    pub(crate) fn fill_seen(&self, namespace: Namespace, octets: &mut [u8]) -> Filled
+        requires node { self.now.place.node.0 < length (nodes self.now.domain.now) }
+        requires time { self.now.time < 2 ^ 63 }
+        requires begins { 8 ≤ length octets.old }
+        ensures octets { octets.new ≡ filled octets.old (view_of self.now.domain.now self.now.readings.now self.now.place self.now.time self.now.hops namespace.0) }
+        ensures answer { result ≡ answer_of octets.old (view_of self.now.domain.now self.now.readings.now self.now.place self.now.time self.now.hops namespace.0) }
+    {
+        let kind = TraceType::at(octets, TRACE_TYPE);
+        let view = self.view(kind, namespace);
+        fill(octets, &view)
+    }
+
+    // Writes into a buffer what the node exports, of a namespace, under a type.
+    pub(crate) fn put_seen(&self, kind: TraceType, namespace: Namespace, into: &mut ElementBuf)
+        requires node { self.now.place.node.0 < length (nodes self.now.domain.now) }
+        requires time { self.now.time < 2 ^ 63 }
+        ensures octets { let view = view_of self.now.domain.now self.now.readings.now self.now.place self.now.time self.now.hops namespace.0 in
+            into.new ≡ element_of kind (words kind) view }
+        ensures whole { IsFilled kind into.new }
+        ensures size { length into.new ≤ 244 }
+    {
+        let view = self.view(kind, namespace);
+        put_exported(kind, &view, into);
     }
 }
