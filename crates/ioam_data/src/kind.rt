@@ -1,5 +1,5 @@
 //! The IOAM-Trace-Type: which fields a node adds.
-ghost use Rattle.std.specs.Prelude.{◌≡◌, ℕ, ◌+◌, ◌-◌, ◌*◌, ◌/◌, ◌%◌, ◌^◌, ◌<◌, ◌≤◌, length};
+ghost use Rattle.std.specs.Prelude.{◌≡◌, ℕ, ◌+◌, ◌-◌, ◌*◌, ◌/◌, ◌%◌, ◌^◌, ◌<◌, ◌≤◌, ◌||◌, nat_lt, length};
 ghost use Rattle.std.specs.Bool.{OnTrue};
 ghost use Rattle.ioam_base.specs.Octets.{u24_at};
 ghost use Rattle.ioam_data.specs.Kind.{has, where_has, words, undefined, fits_type, can_add, is_entry_type};
@@ -75,25 +75,76 @@ impl TraceType {
         if self.has(bit) { amount } else { 0 }
     }
 
+    // Whether the type has one of bits 4 to 7.
+    #[tactic(auto, using(crate::proofs::KindLaws::one_of_4_to_7))]
+    pub(crate) fn has_one_of_4_to_7(self) -> bool
+        ensures { result ≡ (has self 4 || (has self 5 || (has self 6 || has self 7))) }
+    {
+        (self.0 >> (23 - bit::CHECKSUM)) % 16 != 0
+    }
+
+    // Whether it has one of bits 8 to 11.
+    #[tactic(auto, using(crate::proofs::KindLaws::one_of_8_to_11))]
+    pub(crate) fn has_one_of_8_to_11(self) -> bool
+        ensures { result ≡ (has self 8 || (has self 9 || (has self 10 || has self 11))) }
+    {
+        (self.0 >> (23 - bit::BUFFER)) % 16 != 0
+    }
+
+    // The words of the fields of bits 0 to 3.
+    fn words_0_to_3(self) -> u8
+        ensures value { result ≡ where_has self 0 1 + where_has self 1 1 + where_has self 2 1 + where_has self 3 1 }
+        ensures small { result ≤ 4 }
+    {
+        self.part(bit::HOP_NODE, 1)
+            + self.part(bit::INTERFACES, 1)
+            + self.part(bit::SECONDS, 1)
+            + self.part(bit::FRACTION, 1)
+    }
+
+    // Those of bits 4 to 7, which most types don't have.
+    fn words_4_to_7(self) -> u8
+        ensures value { result ≡ where_has self 4 1 + where_has self 5 1 + where_has self 6 1 + where_has self 7 1 }
+        ensures small { result ≤ 4 }
+    {
+        if !self.has_one_of_4_to_7() {
+            return 0;
+        }
+        self.part(bit::DELAY, 1)
+            + self.part(bit::SHORT_DATA, 1)
+            + self.part(bit::QUEUE, 1)
+            + self.part(bit::CHECKSUM, 1)
+    }
+
+    // Those of bits 8 to 11, likewise.
+    fn words_8_to_11(self) -> u8
+        ensures value { result ≡ where_has self 8 2 + where_has self 9 2 + where_has self 10 2 + where_has self 11 1 }
+        ensures small { result ≤ 7 }
+    {
+        if !self.has_one_of_8_to_11() {
+            return 0;
+        }
+        self.part(bit::WIDE_HOP_NODE, 2)
+            + self.part(bit::WIDE_INTERFACES, 2)
+            + self.part(bit::WIDE_DATA, 2)
+            + self.part(bit::BUFFER, 1)
+    }
+
     /// The 4-octet words of the fields of bits 0 to 11, 0 to 15. The snapshot is not counted.
     #[tactic(auto, unfolding(crate::specs::Kind::words))]
     pub fn words(self) -> u8
         ensures value { result ≡ words self }
         ensures small { result ≤ 15 }
     {
-        let narrow = self.part(bit::HOP_NODE, 1)
-            + self.part(bit::INTERFACES, 1)
-            + self.part(bit::SECONDS, 1)
-            + self.part(bit::FRACTION, 1);
-        let middle = self.part(bit::DELAY, 1)
-            + self.part(bit::SHORT_DATA, 1)
-            + self.part(bit::QUEUE, 1)
-            + self.part(bit::CHECKSUM, 1);
-        let wide = self.part(bit::WIDE_HOP_NODE, 2)
-            + self.part(bit::WIDE_INTERFACES, 2)
-            + self.part(bit::WIDE_DATA, 2)
-            + self.part(bit::BUFFER, 1);
-        narrow + middle + wide
+        self.words_0_to_3() + self.words_4_to_7() + self.words_8_to_11()
+    }
+
+    // Whether the type has one of the undefined bits 12 to 21.
+    #[tactic(auto, using(crate::proofs::KindLaws::some_undefined))]
+    fn has_undefined(self) -> bool
+        ensures { result ≡ nat_lt 0 (undefined self) }
+    {
+        (self.0 >> 2) % 1024 != 0
     }
 
     /// How many of the undefined bits 12 to 21 the type has.
@@ -114,11 +165,10 @@ impl TraceType {
         ensures value { result ≡ fits_type self node_len }
         ensures room { OnTrue result (words self ≤ node_len) }
     {
-        let undefined = self.undefined();
-        if undefined == 0 {
-            node_len == self.words()
+        if self.has_undefined() {
+            self.words() + self.undefined() <= node_len
         } else {
-            self.words() + undefined <= node_len
+            node_len == self.words()
         }
     }
 
@@ -138,6 +188,6 @@ impl TraceType {
     pub fn is_entry_type(self) -> bool
         ensures { result ≡ is_entry_type self }
     {
-        self.undefined() == 0 && !self.has(bit::RESERVED) && self.bits() > 1
+        !self.has_undefined() && !self.has(bit::RESERVED) && self.bits() > 1
     }
 }
