@@ -127,6 +127,9 @@ fn put_bits_4_to_7(octets: &mut [u8], at: usize, kind: TraceType, view: &View<'_
         + 4 * (where_has kind 4 1 + where_has kind 5 1 + where_has kind 6 1 + where_has kind 7 1) }
     ensures size { length octets.new ≡ length octets.old }
 {
+    if !kind.has_one_of_4_to_7() {
+        return at;
+    }
     let first = put(octets, at, kind, bit::DELAY, delay_word(view.delay));
     let second = put(octets, first, kind, bit::SHORT_DATA, or_ones(view.short));
     let third = put(octets, second, kind, bit::QUEUE, or_ones(view.queue));
@@ -142,6 +145,9 @@ fn put_bits_8_to_11(octets: &mut [u8], at: usize, kind: TraceType, view: &View<'
         + 4 * (where_has kind 8 2 + where_has kind 9 2 + where_has kind 10 2 + where_has kind 11 1) }
     ensures size { length octets.new ≡ length octets.old }
 {
+    if !kind.has_one_of_8_to_11() {
+        return at;
+    }
     let hop_node = u64::from(view.hops) * OVER_56 + view.id;
     let interfaces = u64::from(or_ones(view.inward)) * OVER_32 + u64::from(or_ones(view.outward));
     let first = put_wide(octets, at, kind, bit::WIDE_HOP_NODE, hop_node);
@@ -163,6 +169,9 @@ fn put_ones(octets: &mut [u8], from: usize, to: usize)
     ensures value { octets.new ≡ written octets.old from (replicate (to - from) 255) }
     ensures size { length octets.new ≡ length octets.old }
 {
+    if from == to {
+        return;
+    }
     octets[from..to].fill(u8::MAX);
 }
 
