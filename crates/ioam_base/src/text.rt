@@ -37,3 +37,13 @@ pub fn settle(
         }
     }
 }
+
+/// Appends octets and others behind them, or leaves what was there.
+pub fn append_two(out: &mut Vec<u8>, first: &[u8], second: &[u8]) -> Result<(), NoMemory>
+    ensures { out.new.items ≡ (if is_ok result then out.old.items ++ (first.now ++ second.now) else out.old.items) }
+{
+    let before = out.len();
+    append(out, first)?;
+    let answer = append(out, second);
+    settle(out, before, answer)
+}

@@ -8,7 +8,7 @@ ghost use Rattle.ioam_ng.specs.Text.{head_octets, face_for, packet_front, packet
 use crate::codes::{ENHANCED_PACKET, INTERFACE, RESOLUTION};
 use ioam_base::buffer::Buffer;
 use ioam_base::memory::NoMemory;
-use ioam_base::text::{append, settle};
+use ioam_base::text::{append, append_two, settle};
 use ioam_pcap::{Link, Packet};
 
 // The last octets of the type of an interface block and of the code of its resolution; those in front are 0.
@@ -93,16 +93,6 @@ fn packet_tail(captured: u32) -> Buffer
     tail
 }
 
-// Appends two parts, or leaves what was there.
-fn append_two(first: &[u8], second: &[u8], out: &mut Vec<u8>) -> Result<(), NoMemory>
-    ensures { out.new.items ≡ (if is_ok result then out.old.items ++ (first.now ++ second.now) else out.old.items) }
-{
-    let before = out.len();
-    append(out, first)?;
-    let answer = append(out, second);
-    settle(out, before, answer)
-}
-
 // Appends a block by its parts, or leaves what was there.
 fn append_block(
     front: &[u8],
@@ -115,8 +105,8 @@ fn append_block(
         ≡ (if is_ok result then out.old.items ++ (front.now ++ (numbers.now ++ (octets.now ++ tail.now))) else out.old.items) }
 {
     let before = out.len();
-    append_two(front, numbers, out)?;
-    let answer = append_two(octets, tail, out);
+    append_two(out, front, numbers)?;
+    let answer = append_two(out, octets, tail);
     settle(out, before, answer)
 }
 

@@ -7,10 +7,10 @@ ghost use Rattle.ioam_report.specs.RunText.{reason_name, node_name, port_name, f
 
 use crate::reasons::reason_text;
 use ioam_base::memory::NoMemory;
-use ioam_base::text::{append, settle};
+use ioam_base::text::{append, append_two, settle};
 use ioam_node::Reason;
 use ioam_plan::{End, Itinerary};
-use ioam_report_lines::{Line, append_both};
+use ioam_report_lines::Line;
 use ioam_topo::{Domain, FlowId, NodeId, PortId};
 use ioam_tunnel::Numbers;
 
@@ -48,7 +48,7 @@ fn append_three(
     ensures { out.new.items ≡ (if is_ok result then out.old.items ++ (first.now ++ second.now ++ third.now) else out.old.items) }
 {
     let before = out.len();
-    append_both(out, first, second)?;
+    append_two(out, first, second)?;
     let answer = append(out, third);
     settle(out, before, answer)
 }
@@ -96,7 +96,7 @@ fn put_end(domain: &Domain, end: End, out: &mut Vec<u8>) -> Result<(), NoMemory>
     ensures { out.new.items ≡ (if is_ok result then out.old.items ++ end_text domain.now end else out.old.items) }
 {
     match end {
-        End::Left { port } => append_both(out, b"left ", port_name(domain, port)),
+        End::Left { port } => append_two(out, b"left ", port_name(domain, port)),
         End::Drop { reason, node } => put_drop(domain, reason, node, out),
     }
 }

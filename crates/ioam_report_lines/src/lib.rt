@@ -17,7 +17,7 @@ pub use elements::{put_element, put_fields};
 pub use hop_traces::put_hop_traces;
 pub use line::Line;
 pub use lines::{put_element_line, put_element_lines, put_trace_lines};
-pub use piece::{Piece, append_both};
+pub use piece::Piece;
 pub use put::put_pieces;
 pub use traces::put_traces;
 pub use values::number;

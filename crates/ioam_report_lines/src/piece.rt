@@ -37,16 +37,6 @@ pub(crate) fn append_number(out: &mut Vec<u8>, label: &[u8], number: u64) -> Res
     settle(out, before, answer)
 }
 
-/// Appends a label and octets. Where it finds no memory `out` is as it was before.
-pub fn append_both(out: &mut Vec<u8>, label: &[u8], octets: &[u8]) -> Result<(), NoMemory>
-    ensures { out.new.items ≡ (if is_ok result then out.old.items ++ (label.now ++ octets.now) else out.old.items) }
-{
-    let before = out.len();
-    append(out, label)?;
-    let answer = append(out, octets);
-    settle(out, before, answer)
-}
-
 // Appends a label and the digits of octets.
 pub(crate) fn append_labelled(
     out: &mut Vec<u8>,

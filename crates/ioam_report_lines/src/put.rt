@@ -4,10 +4,10 @@ ghost use Rattle.std.specs.List.{flat_map};
 ghost use Rattle.ioam_base.specs.Words.{four_octets, eight_octets};
 ghost use Rattle.ioam_report_lines.specs.Piece.{piece_text};
 
-use crate::piece::{Piece, append_both, append_labelled, append_number};
+use crate::piece::{Piece, append_labelled, append_number};
 use ioam_base::memory::NoMemory;
 use ioam_base::octets::{put_u32_at, put_u64_at};
-use ioam_base::text::{append, settle};
+use ioam_base::text::{append, append_two, settle};
 
 // The octets of a number, the most significant first.
 pub(crate) fn four_octets(number: u32) -> [u8; 4]
@@ -35,7 +35,7 @@ fn put_piece(piece: Piece<'_>, out: &mut Vec<u8>) -> Result<(), NoMemory>
         Piece::Nothing => Ok(()),
         Piece::Text(octets) => append(out, octets),
         Piece::Number(label, number) => append_number(out, label, number),
-        Piece::Dash(label) => append_both(out, label, b"-"),
+        Piece::Dash(label) => append_two(out, label, b"-"),
         Piece::Narrow(label, number) => append_labelled(out, label, &four_octets(number)[1..]),
         Piece::Word(label, number) => append_labelled(out, label, &four_octets(number)),
         Piece::Wide(label, number) => append_labelled(out, label, &eight_octets(number)),
