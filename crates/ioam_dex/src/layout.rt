@@ -1,9 +1,9 @@
-//! Where the parts of an export record stand: version 8 bits, extension flags 8, length 16, Namespace-ID 16, flags 8,
-//! IOAM-Trace-Type 24, the visit of a record of version 2, Flow ID and Sequence Number as the flags have them, the element.
+//! How many octets an export record has, and its element.
 ghost use Rattle.std.specs.Prelude.{◌≡◌, ◌≤◌, length};
 ghost use Rattle.ioam_data.specs.Elements.{IsFilled};
 ghost use Rattle.ioam_dex.specs.Record.{Record, Rec, front_size, kind_of, element_of};
 
+use crate::fields::{EXTENSIONS, TRACE_TYPE, VERSION, VISIT};
 use crate::numbers::numbers_size;
 use crate::visit::{has_visit, twelve_where};
 use ioam_data::TraceType;
@@ -16,20 +16,6 @@ pub const MOST_RECORD: usize = 274;
 
 /// The most records of a file of export records.
 pub const MOST_RECORDS: u32 = 67_108_864;
-
-pub(crate) const VERSION: usize = 0;
-
-pub(crate) const EXTENSIONS: usize = 1;
-
-pub(crate) const LENGTH: usize = 2;
-
-pub(crate) const NAMESPACE: usize = 4;
-
-pub(crate) const FLAGS: usize = 6;
-
-pub(crate) const TRACE_TYPE: usize = 7;
-
-pub(crate) const VISIT: usize = 10;
 
 /// The octets in front of an element, by the version and the extension flags.
 pub(crate) fn front_size(version: u8, ext: u8) -> usize

@@ -5,6 +5,7 @@ mod direct;
 mod export;
 mod exporting;
 pub mod extension;
+pub mod fields;
 mod head;
 mod layout;
 mod numbers;

@@ -5,12 +5,13 @@ ghost use Rattle.ioam_dex.specs.Record.{record_at, record_of, element_of, front_
 ghost use Rattle.ioam_dex.specs.Faults.{TellsSize, TellsRecord, said};
 
 use crate::export::{Export, ExportFault};
-use crate::head::{RecordHead, RecordStep, Sizing};
-use crate::layout::{
-    EXTENSIONS, FLAGS, LENGTH, MOST_ELEMENT, NAMESPACE, TRACE_TYPE, VERSION, VISIT, front_size,
+use crate::fields::{
+    EXTENSIONS, FLAGS, LENGTH, NAMESPACE, PLAIN, SIZED, TRACE_TYPE, VERSION, VISIT, VISITED,
 };
+use crate::head::{RecordHead, RecordStep, Sizing};
+use crate::layout::{MOST_ELEMENT, front_size};
 use crate::numbers::{four_where, has_flow, has_seq, u32_where};
-use crate::visit::{PLAIN, VISITED, has_visit, twelve_where, visit_where};
+use crate::visit::{has_visit, twelve_where, visit_where};
 use ioam_base::octets::u16_at;
 use ioam_data::{Namespace, TraceType, split};
 
@@ -53,7 +54,7 @@ fn size_step(octets: &[u8]) -> Sizing
     if version != PLAIN && version != VISITED {
         return Sizing::Bad(ExportFault::Version { found: version });
     }
-    if octets.len() < 4 {
+    if octets.len() < SIZED {
         return Sizing::Cut;
     }
     let front = front_size(version, octets[EXTENSIONS]);

@@ -3,16 +3,9 @@ ghost use Rattle.std.specs.Prelude.{◌≡◌, ◌+◌, ◌≤◌, length};
 ghost use Rattle.ioam_base.specs.Octets.{u32_at, u64_at};
 ghost use Rattle.ioam_dex.specs.Visit.{has_visit, twelve_where, version_of, visit_octets, visit_where};
 
+use crate::fields::{PLAIN, VISIT_SIZE, VISITED};
 use ioam_base::buffer::Buffer;
 use ioam_base::octets::{u32_at, u64_at};
-
-// The versions of records, without a visit and with one.
-pub(crate) const PLAIN: u8 = 1;
-
-pub(crate) const VISITED: u8 = 2;
-
-// The octets of a visit.
-const VISIT_OCTETS: usize = 12;
 
 /// Whether a record of this version tells a visit.
 pub(crate) fn has_visit(version: u8) -> bool
@@ -36,7 +29,7 @@ pub(crate) fn twelve_where(there: bool) -> usize
     ensures value { result ≡ twelve_where there }
     ensures small { result ≤ 12 }
 {
-    if there { VISIT_OCTETS } else { 0 }
+    if there { VISIT_SIZE } else { 0 }
 }
 
 /// The visit at a place: the time, and the interface.

@@ -13,21 +13,8 @@ use crate::template::{tells_flow, tells_seq, tells_visit, weight};
 use ioam_base::octets::u16_at;
 use ioam_data::{Namespace, TraceType};
 use ioam_dex::extension::{FLOW_ID, SEQUENCE_NUMBER};
+use ioam_dex::fields::{EXTENSIONS, FLAGS, NAMESPACE, TRACE_TYPE, VERSION, VISITED};
 use ioam_dex::{Export, ExportRoom, MOST_ELEMENT, is_filled, u32_where, visit_where};
-
-// Where an export record has its version, its extension flags, its namespace, its flags and its type, behind which stand visit,
-// flow, sequence number and element; and the version of one with a visit.
-const VERSION: usize = 0;
-
-const EXTENSIONS: usize = 1;
-
-const NAMESPACE: usize = 4;
-
-const FLAGS: usize = 6;
-
-const TRACE_TYPE: usize = 7;
-
-const VISITED: u8 = 2;
 
 /// What octets where a data record is due show.
 #[derive(Clone, Copy)]

@@ -14,6 +14,7 @@ use ioam_base::buffer::Buffer;
 use ioam_base::memory::NoMemory;
 use ioam_base::octets::{put_at, u16_at};
 use ioam_dex::element_in;
+use ioam_dex::fields::LENGTH;
 
 /// The octets of the heads of a message and of its one set.
 const HEADS: usize = 20;
@@ -100,7 +101,7 @@ fn put_first(rest: &[u8], out: &mut Vec<u8>) -> usize
     ensures len { (vec_len out.old ≤ vec_len out.new) × (vec_len out.new ≤ vec_len out.old + result) }
     ensures capacity { vec_capacity out.old ≤ vec_capacity out.new }
 {
-    let size = usize::from(u16_at(rest, 2));
+    let size = usize::from(u16_at(rest, LENGTH));
     let first = &rest[..size];
     put_moved(first, front_in(first), out);
     size
@@ -125,7 +126,7 @@ fn first_template(run: &[u8]) -> u16
     requires { BeginsRecord run.now }
     ensures { (x : Record) (behind : List ℕ) → IsRecord x → run.now ≡ record_octets x ++ behind → result ≡ template_of x }
 {
-    let size = usize::from(u16_at(run, 2));
+    let size = usize::from(u16_at(run, LENGTH));
     template_of(&run[..size])
 }
 

@@ -13,20 +13,8 @@ use ioam_base::buffer::Buffer;
 use ioam_base::memory::NoMemory;
 use ioam_base::text::{append, settle};
 use ioam_collect::{Collector, Groups};
+use ioam_dex::fields::{EXTENSIONS, NAMESPACE, VISIT, VISIT_SIZE, VISITED};
 use ioam_pool::{Item, Items};
-
-// The version of a record that tells its visit.
-const VISITED: u8 = 2;
-
-// The octets of a visit.
-const VISIT_SIZE: usize = 12;
-
-// Where a record's extension flags stand, where what follows its length, and where its visit.
-const EXTENSIONS: usize = 1;
-
-const NAMESPACE: usize = 4;
-
-const VISIT: usize = 10;
 
 // Appends the record that tells this visit, of which the version 1 record is given. Without memory a front of it may be left.
 fn put_told(core: &[u8], visit: &[u8], out: &mut Vec<u8>) -> Result<(), NoMemory>

@@ -8,12 +8,7 @@ ghost use Rattle.ioam_part_merge.specs.Walk.{IsSide, Says};
 use crate::side::Side;
 use ioam_base::octets::u16_at;
 use ioam_dex::export_of;
-
-// The octets in front of a record's length, and this.
-const SIZED: usize = 4;
-
-// Where a record's length stands.
-const LENGTH: usize = 2;
+use ioam_dex::fields::{LENGTH, SIZED};
 
 // How many octets the record has that octets begin with, as it says itself. None where it isn't there.
 fn size_in(octets: &[u8]) -> Option<usize>
