@@ -1,5 +1,5 @@
 -- What a reader stands for after a piece or a step.
-use Rattle.std.proofs.Common.{◌≡◌, ℕ, zero, suc, ◌-◌, ◌<◌, ◌≤◌, List, [], ◌∷◌, ◌++◌, length, refl, sym, ap, ◌∙◌, subst, arith, inl, inr, append_assoc, length-append}
+use Rattle.std.proofs.Common.{◌≡◌, ℕ, zero, suc, ◌+◌, ◌-◌, ◌<◌, ◌≤◌, List, [], ◌∷◌, ◌++◌, length, refl, sym, ap, ◌∙◌, subst, arith, inl, inr, append_assoc, length-append}
 use Rattle.std.proofs.lemmas.List.{append-nil}
 use Rattle.ioam_dex.specs.Record.{Record}
 use Rattle.ioam_ipfix.specs.declared.fault.IpfixFault.{IpfixFault}
@@ -8,7 +8,7 @@ use Rattle.ioam_ipfix.specs.Templates.{none_known}
 use Rattle.ioam_ipfix.specs.Sets.{spot}
 use Rattle.ioam_ipfix.specs.Messages.{joined, MessagePasses, IpfixOf}
 use Rattle.ioam_ipfix.specs.Reads.{Ending, Whole, Faulty, Reads, ReadsOnly}
-use Rattle.ioam_ipfix.specs.Reading.{Reading, OwesFew, place_of, fresh, while_due, with_due, with_piece}
+use Rattle.ioam_ipfix.specs.Reading.{Reading, OwesFew, place_of, fresh, held, while_due, with_due, with_piece}
 use Rattle.ioam_ipfix.specs.Reader.{Stands, Waits, IsFaulty, Keeps, Takes, GoesOver, ReadsSo}
 use Rattle.ioam_base.proofs.ChainLaws.{Chain-push}
 use Rattle.ioam_ipfix.proofs.MessageLaws.{fault-stops, cut-stops, messages-behind}
@@ -36,6 +36,14 @@ OwesFew-due due reader owes =
     let few = owes.few in
     let among = owes.among in
     record { few = omega (arith, most, few); among = omega (arith, most, among); none = λ none. while_due-none due reader.owed none }
+
+-- what it keeps of the messages that were taken is what is owed, once it keeps so many octets in all
+pub fed-exact : (piece : List ℕ) (old new : Reading) → new ≡ record (with_piece piece old) { given = new.given }
+    → held new ≡ old.owed + length old.pending + length piece → new ≡ with_piece piece old
+fed-exact piece old new rest all =
+    let long = ap (λ (r : Reading). length r.pending) rest in
+    let given : new.given ≡ old.owed = omega (arith, all, long, length-append old.pending piece) in
+    rest ∙ ap (λ (n : ℕ). record (with_piece piece old) { given = n }) given
 
 -- ---- what it stands for
 

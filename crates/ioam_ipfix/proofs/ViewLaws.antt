@@ -11,7 +11,7 @@ use Rattle.ioam_ipfix.specs.declared.fault.IpfixFault.{IpfixFault}
 use Rattle.ioam_ipfix.specs.Faults.{IsStuckInside, IsBadHead, HasFault}
 use Rattle.ioam_ipfix.specs.Messages.{IsWhole, MessagePasses, IsCut}
 use Rattle.ioam_ipfix.specs.Places.{AllPlaces, records_at}
-use Rattle.ioam_ipfix.specs.Reading.{Reading, fed, fresh, place_of, while_due, with_due, with_piece}
+use Rattle.ioam_ipfix.specs.Reading.{Reading, fed, fresh, held, place_of, while_due, with_due, with_piece}
 use Rattle.ioam_ipfix.specs.Reader.{Waits, IsFaulty, Takes}
 use Rattle.ioam_ipfix.specs.Sets.{spot, SetPasses}
 use Rattle.ioam_ipfix.specs.Steps.{TakesMessage}
@@ -64,23 +64,22 @@ module _ (octets : Kept) (size : ℕ) (fits : size ≤ length octets.pending) (k
       λ i. record { known = known; messages = messages; due = due i; start = start i; pending = rest i; given = given i; owed = owed i } in
       ap₂ (λ (k : Kept) (ps : List Place). view_of k 0 known messages ps) took is ∙ taken
 
-  -- what isn't owed may be taken off
-  pub let-go-rest : (places : List Place) (owed : ℕ) → owed ≡ (view_of octets size known messages places).owed
-      → ◌≡◌ {A = Reading} (view_of (passed (size - owed) octets) owed known messages places) (view_of octets size known messages places)
-  let-go-rest [] owed is =
-      let zero : owed ≡ 0 = is in
-      let all : size - owed + owed ≡ size = omega (arith, zero) in
-      let start = start-is (size - owed) owed all in
-      let rest = rest-is (size - owed) owed all in
-      let given = given-is (size - owed) owed all in
+  -- what isn't owed may be taken off: all of the message or a part where no record is due, and else nothing
+  pub let-go-rest : (places : List Place) (owed gone : ℕ) → owed ≡ (view_of octets size known messages places).owed → gone ≤ size → (owed ≡ size → gone ≡ 0)
+      → ◌≡◌ {A = Reading} (view_of (passed gone octets) (size - gone) known messages places) (view_of octets size known messages places)
+  let-go-rest [] owed gone is small stays =
+      let all : gone + (size - gone) ≡ size = omega (arith, small) in
+      let start = start-is gone (size - gone) all in
+      let rest = rest-is gone (size - gone) all in
+      let given = given-is gone (size - gone) all in
       λ i. record { known = known; messages = messages; due = []; start = start i; pending = rest i; given = given i; owed = 0 }
-  let-go-rest (p ∷ places) owed is =
-      let same : owed ≡ size = is in
-      let all : size - owed + owed ≡ size = omega (arith, same) in
-      let none : size - owed ≡ 0 = omega (arith, same) in
-      let start = start-is (size - owed) owed all in
-      let rest = rest-is (size - owed) owed all in
-      let given = given-is (size - owed) owed all in
+  let-go-rest (p ∷ places) owed gone is small stays =
+      let none : gone ≡ 0 = stays is in
+      let same : size - gone ≡ size = omega (arith, none) in
+      let all : gone + (size - gone) ≡ size = omega (arith, small) in
+      let start = start-is gone (size - gone) all in
+      let rest = rest-is gone (size - gone) all in
+      let given = given-is gone (size - gone) all in
       λ i. record {
         known = known;
         messages = messages;
@@ -91,21 +90,19 @@ module _ (octets : Kept) (size : ℕ) (fits : size ≤ length octets.pending) (k
         owed = same i;
       }
 
-  -- a piece more, where all is owed
-  pub fed-view : (places : List Place) → (view_of octets size known messages places).owed ≡ size → (piece : List ℕ)
-      → ◌≡◌ {A = Reading} (with_piece piece (view_of octets size known messages places)) (view_of (base.with_piece piece octets) size known messages places)
-  fed-view places owed piece =
-      let front = sym (take-append-le size octets.pending piece fits) in
-      let rest = sym (drop-append-le size octets.pending piece fits) in
-      let none : size ≡ 0 + size = omega arith in
-      let given : while_due (records_at (take size octets.pending) places) size ≡ 0 + size = owed ∙ none in
+  -- a piece more: of the messages that were taken the last one is kept
+  pub fed-view : (places : List Place) (piece : List ℕ) → ◌≡◌ {A = Reading} (view_of (base.with_piece piece octets) size known messages places)
+      (record (with_piece piece (view_of octets size known messages places)) { given = 0 + size })
+  fed-view places piece =
+      let front = take-append-le size octets.pending piece fits in
+      let rest = drop-append-le size octets.pending piece fits in
       λ i. record {
         known = known;
         messages = messages;
         due = records_at (front i) places;
         start = octets.start + size;
         pending = rest i;
-        given = given i;
+        given = 0 + size;
         owed = while_due (records_at (front i) places) size;
       }
 
@@ -136,12 +133,6 @@ owed-some message places given size more = some-by (drop given places) (let left
 pub owed-none : (message : List ℕ) (places : List Place) (given size : ℕ) → length places ≤ given → 0 ≡ while_due (records_at message (drop given places)) size
 owed-none message places given size all = ap (λ ps. while_due (records_at message ps) size) (sym (drop_all given places all))
 
--- what is owed is all, once the rest was taken off
-pub owed-all : (octets : Kept) (size : ℕ) (known : List Bool) (messages : ℕ) (places : List Place) (owed : ℕ) (kept : Kept)
-    → owed ≡ (view_of octets size known messages places).owed → (view_of kept owed known messages places).owed ≡ owed
-owed-all octets size known messages [] owed kept is = sym is
-owed-all octets size known messages (p ∷ places) owed kept is = refl
-
 -- ---- what its fields keep
 
 -- the octets begin with the message that was taken last, all places in the input fit, and at these places of it records stand
@@ -150,13 +141,13 @@ Inside octets size messages places = (size ≤ length octets.pending) × (octets
     × AllPlaces (take size octets.pending) places
 
 -- the places of the records that are due are as they were
-places-kept : (octets : Kept) (size : ℕ) (places : List Place) (owed : ℕ) → owed ≡ while_due (records_at (take size octets.pending) places) size
-    → AllPlaces (take size octets.pending) places → AllPlaces (take owed (drop (size - owed) octets.pending)) places
-places-kept octets size [] owed is all = tt
-places-kept octets size (p ∷ places) owed is all =
-    let same : owed ≡ size = is in
-    let none : size - owed ≡ 0 = omega (arith, same) in
-    let here : take owed (drop (size - owed) octets.pending) ≡ take size octets.pending = λ i. take (same i) (drop (none i) octets.pending) in
+places-kept : (octets : Kept) (size : ℕ) (places : List Place) (owed gone : ℕ) → owed ≡ while_due (records_at (take size octets.pending) places) size
+    → (owed ≡ size → gone ≡ 0) → AllPlaces (take size octets.pending) places → AllPlaces (take (size - gone) (drop gone octets.pending)) places
+places-kept octets size [] owed gone is stays all = tt
+places-kept octets size (p ∷ places) owed gone is stays all =
+    let none : gone ≡ 0 = stays is in
+    let same : size - gone ≡ size = omega (arith, none) in
+    let here : take (size - gone) (drop gone octets.pending) ≡ take size octets.pending = λ i. take (same i) (drop (none i) octets.pending) in
     subst (λ o. AllPlaces o (p ∷ places)) (sym here) all
 
 pub gone-inside : (octets kept : Kept) (size messages : ℕ) (places none : List Place) → kept ≡ passed size octets → none ≡ [] → Inside octets size messages places
@@ -185,43 +176,62 @@ whole-inside octets kept size n known behind messages due places pending took is
 
 -- ---- a piece more
 
-module _ (octets taken now : Kept) (size : ℕ) (known : List Bool) (messages : ℕ) (places : List Place) (old : Reading) (owed : ℕ) (fits : size ≤ length octets.pending)
-    (view : ◌≡◌ {A = Reading} (view_of octets size known messages places) old) (is : owed ≡ old.owed) (took : taken ≡ passed (size - owed) octets) where
+-- no more is owed than the message has
+pub owed-most : (octets : Kept) (size : ℕ) (known : List Bool) (messages : ℕ) (places : List Place) (old : Reading)
+    → ◌≡◌ {A = Reading} (view_of octets size known messages places) old → old.owed ≤ size
+owed-most octets size known messages places old view =
+    let most = while_due-most (records_at (take size octets.pending) places) size in
+    let same = ap (λ (r : Reading). r.owed) view in
+    omega (arith, most, same)
+
+-- so many octets of the message that was taken last are let go of, none of them where all are owed
+module _ (octets taken now : Kept) (size : ℕ) (known : List Bool) (messages : ℕ) (places : List Place) (old : Reading) (owed gone : ℕ) (fits : size ≤ length octets.pending)
+    (view : ◌≡◌ {A = Reading} (view_of octets size known messages places) old) (is : owed ≡ old.owed) (took : taken ≡ passed gone octets) (small : gone ≤ size)
+    (stays : owed ≡ size → gone ≡ 0) where
   -- what is owed, of what it held before
   owed-is : owed ≡ (view_of octets size known messages places).owed
   owed-is = is ∙ sym (ap (λ (r : Reading). r.owed) view)
 
-  pub owed-most : owed ≤ size
-  owed-most = let most = while_due-most (records_at (take size octets.pending) places) size in let same = owed-is in omega (arith, most, same)
+  -- the value is the same
+  let-gone : ◌≡◌ {A = Reading} (view_of taken (size - gone) known messages places) old
+  let-gone =
+      ap (λ (k : Kept). view_of k (size - gone) known messages places) took
+      ∙ let-go-rest octets size fits known messages places owed gone owed-is small stays
+      ∙ view
 
-  -- the rest was let go of
-  let-gone : ◌≡◌ {A = Reading} (view_of taken owed known messages places) old
-  let-gone = ap (λ (k : Kept). view_of k owed known messages places) took ∙ let-go-rest octets size fits known messages places owed owed-is ∙ view
+  begins-is : length taken.pending ≡ length octets.pending - gone
+  begins-is = ap (λ (k : Kept). length k.pending) took ∙ length-drop gone octets.pending
 
-  owed-fits : owed ≤ length taken.pending
-  owed-fits =
-      let left = length-drop (size - owed) octets.pending in
-      let same = ap (λ (k : Kept). length k.pending) took in
-      let most = owed-most in
-      omega (arith, left, same, most, fits)
-
-  -- a piece more was fed
-  pub fed-whole : (piece : List ℕ) → now ≡ base.with_piece piece taken → ◌≡◌ {A = Reading} (with_piece piece old) (view_of now owed known messages places)
-  fed-whole piece is_fed =
-      ap (with_piece piece) (sym let-gone)
-      ∙ fed-view taken owed owed-fits known messages places (owed-all octets size known messages places owed taken owed-is) piece
-      ∙ ap (λ (k : Kept). view_of k owed known messages places) (sym is_fed)
-
-  begins-is : length taken.pending ≡ length octets.pending - (size - owed)
-  begins-is = ap (λ (k : Kept). length k.pending) took ∙ length-drop (size - owed) octets.pending
-
-  at-is : taken.start ≡ octets.start + (size - owed)
+  at-is : taken.start ≡ octets.start + gone
   at-is = ap (λ (k : Kept). k.start) took
 
-  places-are : AllPlaces (take size octets.pending) places → AllPlaces (take owed taken.pending) places
-  places-are all = subst (λ (k : Kept). AllPlaces (take owed k.pending) places) (sym took) (places-kept octets size places owed owed-is all)
+  left-fits : size - gone ≤ length taken.pending
+  left-fits = let begins = begins-is in omega (arith, begins, small, fits)
 
-  pub fed-inside : (piece : List ℕ) → now ≡ base.with_piece piece taken → fed old + length piece < 2 ^ 63 → Inside octets size messages places → Inside now owed messages places
+  -- a piece more was fed
+  pub fed-rest : (piece : List ℕ) → now ≡ base.with_piece piece taken → ◌≡◌ {A = Reading} (view_of now (size - gone) known messages places)
+      (record (with_piece piece old) { given = (view_of now (size - gone) known messages places).given })
+  fed-rest piece is_fed =
+      let P : Kept → Type 0 = λ k. ◌≡◌ {A = Reading} (view_of k (size - gone) known messages places)
+      (record (with_piece piece old) { given = (view_of k (size - gone) known messages places).given }) in
+      subst P (sym is_fed) (
+      fed-view taken (size - gone) left-fits known messages places piece
+      ∙ ap (λ (r : Reading). record (with_piece piece r) { given = 0 + (size - gone) }) let-gone
+      )
+
+  -- it keeps what of the message is left, what was pending and the piece
+  pub fed-held : (piece : List ℕ) → now ≡ base.with_piece piece taken
+      → held (view_of now (size - gone) known messages places) ≡ size - gone + length old.pending + length piece
+  fed-held piece is_fed =
+      let rest = ap (λ (r : Reading). length r.pending) (fed-rest piece is_fed) in
+      let given = ap (λ (k : Kept). length k.given) is_fed in
+      omega (arith, rest, given, length-append old.pending piece)
+
+  places-are : AllPlaces (take size octets.pending) places → AllPlaces (take (size - gone) taken.pending) places
+  places-are all = subst (λ (k : Kept). AllPlaces (take (size - gone) k.pending) places) (sym took) (places-kept octets size places owed gone owed-is stays all)
+
+  pub fed-inside : (piece : List ℕ) → now ≡ base.with_piece piece taken → fed old + length piece < 2 ^ 63 → Inside octets size messages places
+      → Inside now (size - gone) messages places
   fed-inside piece is_fed room inside =
       let long : length now.pending ≡ length taken.pending + length piece = ap (λ (k : Kept). length k.pending) is_fed ∙ length-append taken.pending piece in
       let start : now.start ≡ taken.start = ap (λ (k : Kept). k.start) is_fed in
@@ -229,31 +239,29 @@ module _ (octets taken now : Kept) (size : ℕ) (known : List Bool) (messages : 
       let rest = length-drop size octets.pending in
       let begins = begins-is in
       let at = at-is in
-      let most = owed-most in
-      let front : take owed taken.pending ≡ take owed now.pending =
-      sym (ap (λ (k : Kept). take owed k.pending) is_fed ∙ take-append-le owed taken.pending piece owed-fits) in (
-        omega (arith, long, begins, most, fits),
-        omega (arith, long, start, begins, at, most, fits, all, rest, room),
-        omega (arith, start, at, most, inside.2),
+      let front : take (size - gone) taken.pending ≡ take (size - gone) now.pending =
+      sym (ap (λ (k : Kept). take (size - gone) k.pending) is_fed ∙ take-append-le (size - gone) taken.pending piece left-fits) in (
+        omega (arith, long, begins, small, fits),
+        omega (arith, long, start, begins, at, small, fits, all, rest, room),
+        omega (arith, start, at, small, inside.2),
         subst (λ o. AllPlaces o places) front (places-are inside.3),
       )
 
-  pub kept-inside : now ≡ taken → Inside octets size messages places → Inside now owed messages places
+  pub kept-inside : now ≡ taken → Inside octets size messages places → Inside now (size - gone) messages places
   kept-inside same inside =
       let begins = begins-is in
       let at = at-is in
-      let most = owed-most in
-      let made : Inside taken owed messages places = (
-        omega (arith, begins, most, fits),
-        omega (arith, begins, at, most, fits, inside.1),
-        omega (arith, at, most, inside.2),
+      let made : Inside taken (size - gone) messages places = (
+        omega (arith, begins, small, fits),
+        omega (arith, begins, at, small, fits, inside.1),
+        omega (arith, at, small, inside.2),
         places-are inside.3,
       ) in
-      subst (λ (k : Kept). Inside k owed messages places) (sym same) made
+      subst (λ (k : Kept). Inside k (size - gone) messages places) (sym same) made
 
   -- or none
-  pub fed-none : now ≡ taken → ◌≡◌ {A = Reading} (view_of now owed known messages places) old
-  fed-none same = ap (λ (k : Kept). view_of k owed known messages places) same ∙ let-gone
+  pub fed-none : now ≡ taken → ◌≡◌ {A = Reading} (view_of now (size - gone) known messages places) old
+  fed-none same = ap (λ (k : Kept). view_of k (size - gone) known messages places) same ∙ let-gone
 
 -- a message in front of the pending octets, of which all sets were taken
 pub takes-by : (octets kept : Kept) (size n : ℕ) (known behind : List Bool) (messages : ℕ) (due : List Place) (places : List Place)

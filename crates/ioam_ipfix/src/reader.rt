@@ -147,6 +147,22 @@ impl IpfixReader {
         }
     }
 
+    // Feeds the next octets of the input, and lets go of what is owed no longer. What `rest` leaves open, how
+    // many octets of messages that were taken it keeps, `held` says.
+    fn feed_piece(&mut self, piece: &[u8]) -> Result<(), NoMemory>
+        requires { fed self.old + length piece.now < 2 ^ 63 }
+        ensures rest { OnOk result (self.new ≡ record (with_piece piece.now self.old) { given = self.new.given }) }
+        ensures err { OnErr result (self.new ≡ self.old) }
+        ensures held { OnOk result (held self.new ≡ self.old.owed + length self.old.pending + length piece.now) }
+    {
+        let owed = self.owed();
+        let gone = self.size - owed;
+        self.octets.take(gone);
+        self.size -= gone;
+        self.octets.feed(piece)?;
+        Ok(())
+    }
+
     /// Feeds the next octets of the input, of which there are below 2^63 in all. Of the octets of
     /// messages that it took it keeps those alone of the message whose records are due.
     pub fn feed(&mut self, piece: &[u8]) -> Result<(), NoMemory>
@@ -161,10 +177,7 @@ impl IpfixReader {
         // It keeps the message whose records are due, what was pending and the piece.
         ensures held { OnOk result (held self.new ≡ self.old.owed + length self.old.pending + length piece.now) }
     {
-        let owed = self.owed();
-        self.octets.take(self.size - owed);
-        self.size = owed;
-        self.octets.feed(piece)?;
+        self.feed_piece(piece)?;
         Ok(())
     }
 
