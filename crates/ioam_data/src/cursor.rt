@@ -7,10 +7,13 @@ use crate::kind::TraceType;
 use crate::units::{OVER_16, OVER_24, OVER_32};
 use ioam_base::octets::u32_at;
 
-/// What is left of an element while its fields are read in bit order.
+/// What is left of an element while its fields are read in bit order. Each call reads the field of a
+/// bit and goes on behind it, where the type has the bit.
 #[derive(Clone, Copy)]
-pub(crate) struct Cursor<'a> {
+pub struct Cursor<'a> {
+    /// The type of the element.
     pub kind: TraceType,
+    /// The octets that are left.
     pub rest: &'a [u8],
 }
 
@@ -18,6 +21,7 @@ impl<'a> Cursor<'a> {
     ghost use Rattle.ioam_data.specs.Cursor.{Passes, HasRoom, GoesOn};
 
     // Goes on behind so many octets.
+    #[inline]
     fn pass(&mut self, octets: usize)
         requires { octets ≤ length self.old.rest.now }
         ensures { GoesOn self.old self.new octets }
@@ -25,7 +29,9 @@ impl<'a> Cursor<'a> {
         self.rest = &self.rest[octets..];
     }
 
-    pub(crate) fn number(&mut self, bit: u8) -> Option<u32>
+    /// A field of 32 bits.
+    #[inline]
+    pub fn number(&mut self, bit: u8) -> Option<u32>
         requires bit { bit < 24 }
         requires room { HasRoom self.old bit 1 }
         ensures value { result ≡ when_has self.old.kind bit (number_at self.old.rest.now) }
@@ -39,7 +45,9 @@ impl<'a> Cursor<'a> {
         Some(number)
     }
 
-    pub(crate) fn hop_node(&mut self, bit: u8) -> Option<(u8, u32)>
+    /// Hop_Lim and the node id of 24 bits.
+    #[inline]
+    pub fn hop_node(&mut self, bit: u8) -> Option<(u8, u32)>
         requires bit { bit < 24 }
         requires room { HasRoom self.old bit 1 }
         ensures value { result ≡ when_has self.old.kind bit (hop_node_at self.old.rest.now) }
@@ -49,7 +57,9 @@ impl<'a> Cursor<'a> {
         Some(((word / OVER_24) as u8, word % OVER_24))
     }
 
-    pub(crate) fn faces(&mut self, bit: u8) -> Option<(u16, u16)>
+    /// Ingress and egress interface of 16 bits.
+    #[inline]
+    pub fn faces(&mut self, bit: u8) -> Option<(u16, u16)>
         requires bit { bit < 24 }
         requires room { HasRoom self.old bit 1 }
         ensures value { result ≡ when_has self.old.kind bit (faces_at self.old.rest.now) }
@@ -59,7 +69,9 @@ impl<'a> Cursor<'a> {
         Some(((word / OVER_16) as u16, (word % OVER_16) as u16))
     }
 
-    pub(crate) fn wide_faces(&mut self, bit: u8) -> Option<(u32, u32)>
+    /// Ingress and egress interface of 32 bits.
+    #[inline]
+    pub fn wide_faces(&mut self, bit: u8) -> Option<(u32, u32)>
         requires bit { bit < 24 }
         requires room { HasRoom self.old bit 2 }
         ensures value { result ≡ when_has self.old.kind bit (wide_faces_at self.old.rest.now) }
@@ -73,7 +85,9 @@ impl<'a> Cursor<'a> {
         Some(words)
     }
 
-    pub(crate) fn wide(&mut self, bit: u8) -> Option<u64>
+    /// A field of 64 bits.
+    #[inline]
+    pub fn wide(&mut self, bit: u8) -> Option<u64>
         requires bit { bit < 24 }
         requires room { HasRoom self.old bit 2 }
         ensures value { result ≡ when_has self.old.kind bit (wide_at self.old.rest.now) }
@@ -83,7 +97,9 @@ impl<'a> Cursor<'a> {
         Some(u64::from(first) * OVER_32 + u64::from(second))
     }
 
-    pub(crate) fn wide_hop_node(&mut self, bit: u8) -> Option<(u8, u64)>
+    /// Hop_Lim and the node id of 56 bits.
+    #[inline]
+    pub fn wide_hop_node(&mut self, bit: u8) -> Option<(u8, u64)>
         requires bit { bit < 24 }
         requires room { HasRoom self.old bit 2 }
         ensures value { result ≡ when_has self.old.kind bit (wide_hop_node_at self.old.rest.now) }

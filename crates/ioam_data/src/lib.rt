@@ -17,6 +17,7 @@ mod view;
 mod writer;
 
 pub use buffer::ElementBuf;
+pub use cursor::Cursor;
 pub use exported::put_exported;
 pub use held::Fields;
 pub use kind::TraceType;
