@@ -63,6 +63,7 @@ impl Line {
     }
 
     /// Puts octets in front. They and those that it holds are 1,024 at most.
+    #[inline]
     pub fn put(&mut self, part: &[u8])
         requires { length part.now + length self.old ≤ 1024 }
         ensures value { self.new ≡ part.now ++ self.old }
@@ -74,6 +75,7 @@ impl Line {
     }
 
     /// Puts a number in decimal digits in front, 20 at most, without a leading zero save `0` itself.
+    #[inline]
     pub fn number(&mut self, number: u64)
         requires { 20 + length self.old ≤ 1024 }
         ensures value { self.new ≡ decimal number ++ self.old }

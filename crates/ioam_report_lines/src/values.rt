@@ -22,6 +22,7 @@ pub fn number<'a>(label: &'a [u8], field: Option<u32>) -> Piece<'a>
 
 impl Line {
     // Puts a number in decimal digits in front, or `-` where it is all ones.
+    #[inline]
     fn known(&mut self, number: u64, ones: u64)
         requires { 20 + length self.old ≤ 1024 }
         ensures value { self.new ≡ known ones number ++ self.old }
@@ -35,6 +36,7 @@ impl Line {
     }
 
     // Puts a label and a number behind it.
+    #[inline]
     fn labelled(&mut self, label: &[u8], number: u64, ones: u64)
         requires label { length label.now ≤ 8 }
         requires room { 28 + length self.old ≤ 1024 }
@@ -46,6 +48,7 @@ impl Line {
     }
 
     // Puts a label and a hop limit behind it, a number always.
+    #[inline]
     fn hop(&mut self, label: &[u8], hop: u8)
         requires label { length label.now ≤ 8 }
         requires room { 28 + length self.old ≤ 1024 }
@@ -57,6 +60,7 @@ impl Line {
     }
 
     // A field of 32 bits in decimal digits.
+    #[inline]
     pub(crate) fn number_field(&mut self, label: &[u8], field: Option<u32>)
         requires label { length label.now ≤ 8 }
         requires room { 28 + length self.old ≤ 1024 }
@@ -70,6 +74,7 @@ impl Line {
     }
 
     // A number of 32 bits in hexadecimal digits, or `-` where it is all ones.
+    #[inline]
     fn known_word(&mut self, value: u32)
         requires { 20 + length self.old ≤ 1024 }
         ensures value { self.new ≡ known_word value ++ self.old }
@@ -83,6 +88,7 @@ impl Line {
     }
 
     // A field of 32 bits in hexadecimal digits.
+    #[inline]
     pub(crate) fn word_field(&mut self, label: &[u8], field: Option<u32>)
         requires label { length label.now ≤ 8 }
         requires room { 28 + length self.old ≤ 1024 }
@@ -128,6 +134,7 @@ impl Line {
     }
 
     // Hop limit and node id of bit 0.
+    #[inline]
     pub(crate) fn hop_node_field(&mut self, field: Option<(u8, u32)>)
         requires { 56 + length self.old ≤ 1024 }
         ensures value { self.new ≡ when_there field (λ value. codes " hop=" ++ decimal value.0)
@@ -144,6 +151,7 @@ impl Line {
     }
 
     // The interfaces of bit 1.
+    #[inline]
     pub(crate) fn faces_field(&mut self, field: Option<(u16, u16)>)
         requires { 56 + length self.old ≤ 1024 }
         ensures value { self.new ≡ when_there field (λ value. codes " in=" ++ known 65535 value.0)
