@@ -1,3 +1,4 @@
+mod EarlyLaws
 pub mod ElementsLaws
 pub mod HopTracesLaws
 pub mod FilledLaws

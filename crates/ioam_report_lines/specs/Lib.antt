@@ -1,4 +1,5 @@
 pub mod Digits
+pub mod Early
 pub mod FieldsText
 pub mod HopText
 pub mod Piece

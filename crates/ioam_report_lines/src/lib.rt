@@ -3,6 +3,7 @@
 #![tactic(auto)]
 
 mod digits;
+mod early;
 mod elements;
 mod hop_traces;
 mod line;

@@ -1,10 +1,12 @@
 //! The lines of a trace.
-ghost use Rattle.std.specs.Prelude.{◌≡◌, ◌++◌, ◌*◌, ◌/◌, [], length, is_ok, if◌then◌else◌};
+ghost use Rattle.std.specs.Prelude.{◌≡◌, ◌++◌, ◌*◌, ◌/◌, [], IsTrue, length, is_ok, if◌then◌else◌};
 ghost use Rattle.std.specs.List.{flat_map};
 ghost use Rattle.ioam_data.specs.Elements.{IsElement};
 ghost use Rattle.ioam_trace.specs.Read.{elements_in};
+ghost use Rattle.ioam_report_lines.specs.Early.{IsEarly};
 ghost use Rattle.ioam_report_lines.specs.TraceText.{element_line, first_line, whole_lines, bad_line, trace_lines, IsTraceText};
 
+use crate::early::{is_early, put_early_line};
 use crate::elements::put_fields_line;
 use crate::line::Line;
 use crate::piece::Piece;
@@ -70,8 +72,25 @@ fn put_first_line(head: &TraceHead, count: u64, line: &mut Line)
     line.put(b"  trace ");
 }
 
-// Appends the line of an element; the line that is lent holds anything before and after.
-fn put_line(
+// Appends the line of an element of bits 0 to 3 alone; the line that is lent holds anything before and after.
+fn append_early_line(
+    kind: TraceType,
+    node_len: u8,
+    element: &[u8],
+    line: &mut Line,
+    out: &mut Vec<u8>,
+) -> Result<(), NoMemory>
+    requires element { IsElement kind node_len element.now }
+    requires early { IsEarly kind node_len }
+    ensures { out.new.items ≡ (if is_ok result then out.old.items ++ element_line kind node_len element.now else out.old.items) }
+{
+    line.clear();
+    put_early_line(kind, node_len, element, line);
+    append(out, line.octets())
+}
+
+// Appends the line of an element.
+fn append_any_line(
     kind: TraceType,
     node_len: u8,
     element: &[u8],
@@ -82,6 +101,26 @@ fn put_line(
     ensures { out.new.items ≡ (if is_ok result then out.old.items ++ element_line kind node_len element.now else out.old.items) }
 {
     put_fields_line(&fields(kind, node_len, element), line, out)
+}
+
+// Appends the line of an element, which may be known to be one of bits 0 to 3 alone.
+fn put_line(
+    kind: TraceType,
+    node_len: u8,
+    element: &[u8],
+    early: bool,
+    line: &mut Line,
+    out: &mut Vec<u8>,
+) -> Result<(), NoMemory>
+    requires element { IsElement kind node_len element.now }
+    requires early { IsTrue early → IsEarly kind node_len }
+    ensures { out.new.items ≡ (if is_ok result then out.old.items ++ element_line kind node_len element.now else out.old.items) }
+{
+    if early {
+        append_early_line(kind, node_len, element, line, out)
+    } else {
+        append_any_line(kind, node_len, element, line, out)
+    }
 }
 
 /// Appends the line of an element of a trace: four spaces and its fields. Without memory nothing is
@@ -95,7 +134,7 @@ pub fn put_element_line(
     requires { IsElement kind node_len element.now }
     ensures { out.new.items ≡ (if is_ok result then out.old.items ++ element_line kind node_len element.now else out.old.items) }
 {
-    put_line(kind, node_len, element, &mut Line::new(), out)
+    append_any_line(kind, node_len, element, &mut Line::new(), out)
 }
 
 // How many elements a trace has.
@@ -113,9 +152,11 @@ fn put_lines(trace: &Trace<'_>, line: &mut Line, out: &mut Vec<u8>) -> Result<()
         then out.old.items ++ flat_map (element_line trace.now.head.kind trace.now.head.node_len) (elements_in trace.now)
         else out.old.items) }
 {
+    let (kind, node_len) = (trace.head.kind, trace.head.node_len);
+    let early = is_early(kind, node_len);
     let before = out.len();
     for element in trace.elements() {
-        let answer = put_line(trace.head.kind, trace.head.node_len, element, line, out);
+        let answer = put_line(kind, node_len, element, early, line, out);
         settle(out, before, answer)?;
     }
     Ok(())

@@ -4,7 +4,7 @@ use Rattle.ioam_report_lines.specs.FieldsText.{element_text}
 use Rattle.ioam_report_lines.specs.Spaced.{spaced_fields}
 use Rattle.ioam_report_lines.specs.TraceText.{line_feed}
 use Rattle.ioam_report_lines.proofs.WordsLaws.{element_text_is}
-use Rattle.ioam_report_lines.proofs.lines.put_line.Goals as goal
+use Rattle.ioam_report_lines.proofs.lines.append_any_line.Goals as goal
 
 pub returns : goal.returns
 returns c =
