@@ -1,3 +1,4 @@
+mod CountLaws
 mod EarlyLaws
 pub mod ElementsLaws
 pub mod HopTracesLaws

@@ -1,5 +1,5 @@
 //! The lines of a trace.
-ghost use Rattle.std.specs.Prelude.{◌≡◌, ◌++◌, ◌*◌, ◌/◌, [], IsTrue, length, is_ok, if◌then◌else◌};
+ghost use Rattle.std.specs.Prelude.{◌≡◌, ◌++◌, ◌*◌, ◌/◌, ◌<◌, [], IsTrue, length, is_ok, if◌then◌else◌};
 ghost use Rattle.std.specs.List.{flat_map};
 ghost use Rattle.ioam_data.specs.Elements.{IsElement};
 ghost use Rattle.ioam_trace.specs.Read.{elements_in};
@@ -146,14 +146,43 @@ fn count_elements(trace: &Trace<'_>) -> u64
     trace.elements().count() as u64
 }
 
-// Appends the lines of the elements of a trace, one put together after the other.
-fn put_lines(trace: &Trace<'_>, line: &mut Line, out: &mut Vec<u8>) -> Result<(), NoMemory>
+// The same where all have one size, since they are fields of bits 0 to 3 alone.
+fn count_early(trace: &Trace<'_>) -> u64
+    requires early { IsEarly trace.now.head.kind trace.now.head.node_len }
+    requires filled { 0 < trace.now.head.node_len }
+    ensures { result ≡ length (elements_in trace.now) }
+{
+    let free = 4 * usize::from(trace.head.remaining);
+    let used = trace.area.len().saturating_sub(free);
+    (used / (4 * usize::from(trace.head.node_len))) as u64
+}
+
+// The same where they may be known to be such fields alone.
+fn count(trace: &Trace<'_>, early: bool) -> u64
+    requires { IsTrue early → IsEarly trace.now.head.kind trace.now.head.node_len }
+    ensures { result ≡ length (elements_in trace.now) }
+{
+    if early && trace.head.node_len > 0 {
+        count_early(trace)
+    } else {
+        count_elements(trace)
+    }
+}
+
+// Appends the lines of the elements of a trace, one put together after the other. They may be known to be fields
+// of bits 0 to 3 alone.
+fn put_lines(
+    trace: &Trace<'_>,
+    early: bool,
+    line: &mut Line,
+    out: &mut Vec<u8>,
+) -> Result<(), NoMemory>
+    requires { IsTrue early → IsEarly trace.now.head.kind trace.now.head.node_len }
     ensures { out.new.items ≡ (if is_ok result
         then out.old.items ++ flat_map (element_line trace.now.head.kind trace.now.head.node_len) (elements_in trace.now)
         else out.old.items) }
 {
     let (kind, node_len) = (trace.head.kind, trace.head.node_len);
-    let early = is_early(kind, node_len);
     let before = out.len();
     for element in trace.elements() {
         let answer = put_line(kind, node_len, element, early, line, out);
@@ -169,7 +198,8 @@ pub fn put_element_lines(trace: &Trace<'_>, out: &mut Vec<u8>) -> Result<(), NoM
         then out.old.items ++ flat_map (element_line trace.now.head.kind trace.now.head.node_len) (elements_in trace.now)
         else out.old.items) }
 {
-    put_lines(trace, &mut Line::new(), out)
+    let early = is_early(trace.head.kind, trace.head.node_len);
+    put_lines(trace, early, &mut Line::new(), out)
 }
 
 // Appends the lines of a trace that was read.
@@ -179,10 +209,11 @@ fn put_whole_lines(trace: &Trace<'_>, out: &mut Vec<u8>) -> Result<(), NoMemory>
         else out.old.items) }
 {
     let before = out.len();
+    let early = is_early(trace.head.kind, trace.head.node_len);
     let mut line = Line::new();
-    put_first_line(&trace.head, count_elements(trace), &mut line);
+    put_first_line(&trace.head, count(trace, early), &mut line);
     append(out, line.octets())?;
-    let answer = put_lines(trace, &mut line, out);
+    let answer = put_lines(trace, early, &mut line, out);
     settle(out, before, answer)
 }
 
