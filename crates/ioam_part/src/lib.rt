@@ -9,6 +9,7 @@ mod progress;
 mod putting;
 mod reader;
 mod reading;
+mod records;
 mod taking;
 
 pub use fault::PartFault;
@@ -20,3 +21,4 @@ pub use laws::{
 pub use putting::put_part;
 pub use reader::{PartReader, PartRefused};
 pub use reading::read_part;
+pub use records::PartRecords;

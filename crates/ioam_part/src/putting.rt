@@ -33,8 +33,8 @@ fn put_told(core: &[u8], visit: &[u8], out: &mut Vec<u8>) -> Result<(), NoMemory
     append(out, &core[VISIT..])
 }
 
-// Appends the record of an item. Without memory a front of it may be left.
-fn put_item(item: &Item, out: &mut Vec<u8>) -> Result<(), NoMemory>
+/// Appends the record of an item. Without memory a front of it may be left.
+pub(crate) fn put_item(item: &Item, out: &mut Vec<u8>) -> Result<(), NoMemory>
     requires { IsOfRecord item.now }
     ensures ok { OnOk result (out.new.items ≡ out.old.items ++ item_octets item.now) }
     ensures kept { OnErr result (take (length out.old.items) out.new.items ≡ out.old.items) }
@@ -65,7 +65,7 @@ fn put_all(groups: Groups<'_>, ahead: &mut Groups<'_>, out: &mut Vec<u8>) -> Res
 {
     let mut due = 0;
     for group in groups {
-        due = go_ahead(ahead, due, out);
+        due = go_ahead(ahead, due);
         put_items(group.items, out)?;
     }
     Ok(())
