@@ -2,8 +2,9 @@
 ghost use Rattle.std.specs.Prelude.{◌≡◌, ◌<◌, ◌^◌, ◌++◌, List, length, is_ok, if◌then◌else◌};
 ghost use Rattle.std.specs.List.{AllByRecursion, flat_map};
 ghost use Rattle.ioam_dex.specs.Record.{Record};
+ghost use Rattle.ioam_collect.specs.Best.{groups_of};
 ghost use Rattle.ioam_collect.specs.Collected.{Stands};
-ghost use Rattle.ioam_collect.specs.Keyed.{IsOfRecord};
+ghost use Rattle.ioam_collect.specs.Keyed.{IsOfRecord, keyed};
 ghost use Rattle.ioam_report_groups.specs.GroupsText.{key_line, group_text, counts_line, collected_text, records_text};
 
 use crate::ahead::make_room;
@@ -85,16 +86,25 @@ fn put_counts(read: u64, kept: u64, unkeyed: u64, out: &mut Vec<u8>) -> Result<(
 /// Appends the lines of a collector's groups, in the order of their keys: for each a line `group` with the
 /// namespace, the Flow ID, the Sequence Number and the count of its records, and for each record a line
 /// with the type and the fields of its element (RFC 9197 section 4.4.2), and of a record that tells its
-/// visit the time and the interface. Then a line with how many records were read, are kept, were there
-/// already and have no key. Without memory nothing is appended.
+/// visit the time and the interface. Without memory nothing is appended.
+pub fn put_lines(collector: &Collector, out: &mut Vec<u8>) -> Result<(), NoMemory>
+    ensures text { out.new.items ≡ (if is_ok result then out.old.items ++ flat_map group_text collector.now.groups else out.old.items) }
+    // Where the collector stands for records, these are the groups of them.
+    ensures groups { (xs : List Record) → Stands collector.now xs → collector.now.groups ≡ groups_of (keyed xs) }
+{
+    let mut ahead = collector.groups();
+    put_all(collector.groups(), &mut ahead, &mut Line::new(), out)
+}
+
+/// Appends the lines of a collector's groups ([`put_lines`]), and then a line with how many records were
+/// read, are kept, were there already and have no key. Without memory nothing is appended.
 pub fn put_groups(collector: &Collector, out: &mut Vec<u8>) -> Result<(), NoMemory>
     ensures text { out.new.items ≡ (if is_ok result then out.old.items ++ collected_text collector.now else out.old.items) }
     // Where the collector stands for records, this is their text.
     ensures records { (xs : List Record) → Stands collector.now xs → length xs < 2 ^ 64 → collected_text collector.now ≡ records_text xs }
 {
     let before = out.len();
-    let mut ahead = collector.groups();
-    put_all(collector.groups(), &mut ahead, &mut Line::new(), out)?;
+    put_lines(collector, out)?;
     let answer = put_counts(
         collector.read(),
         u64::from(collector.held()),

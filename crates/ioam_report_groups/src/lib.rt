@@ -6,4 +6,4 @@ mod ahead;
 mod groups;
 mod items;
 
-pub use groups::put_groups;
+pub use groups::{put_groups, put_lines};
