@@ -9,6 +9,7 @@ mod PartAskedLaws
 mod PartLaws
 mod PartsAskedLaws
 mod PartsLaws
+mod PiecesLaws
 mod RecordsLaws
 mod StoredLaws
 mod TwoLaws

@@ -1,22 +1,19 @@
 //! The files of `part`: EXPORTS, and PART behind it.
-ghost use Rattle.std.specs.Prelude.{◌≡◌, ◌<◌, ◌≤◌, [], All, IfOk, List, Some, ℕ, length};
+ghost use Rattle.std.specs.Prelude.{◌≡◌, ◌<◌, [], IfOk, List, Some, ℕ, length};
 ghost use Rattle.ioam_desk.specs.Kept.{WritesFrom};
-ghost use Rattle.ioam_run_answer.specs.Record.{IsRecord, Record};
 ghost use Rattle.ioam_collect.specs.Collected as collected;
 ghost use Rattle.ioam_collect_stream.specs.Feed.{Fed};
 ghost use Rattle.ioam_collect_stream.specs.Gathering.{Gathers, ReadsOne};
 ghost use Rattle.ioam_run_answer.specs.Desks.{around};
 ghost use Rattle.ioam_run_part.specs.PartEnds.{Finishes, PartEnds, is_out, outcome_of};
-ghost use Rattle.ioam_run_part.specs.Records.{IsPartOfAll};
 ghost use Rattle.ioam_run_part.specs.Stored.{IsBlank};
 
-use crate::stored::write_text;
+use crate::pieces::write_part;
 use ioam_base::memory::NoMemory;
 use ioam_base::name::Name;
 use ioam_collect::{Collector, MOST_HELD};
 use ioam_collect_stream::{ExportFeed, Halt, gather, open_exports};
 use ioam_desk::{Desk, DeskFault, PIECE, new_piece};
-use ioam_part::put_part;
 use ioam_run_answer::Outcome;
 use std::alloc::Global;
 
@@ -94,23 +91,11 @@ fn run_open<D: Desk>(
     if is_out(halt) {
         return Outcome::NoMemory;
     }
-    let Ok(text) = text_of(alloc, collector) else {
-        return Outcome::NoMemory;
-    };
-    match write_text(desk, slot, &text) {
+    match write_part(alloc, desk, slot, collector) {
         Ok(()) => outcome_of(halt),
         Err(DeskFault::Failed) => Outcome::WriteFault,
         Err(DeskFault::NoMemory) => Outcome::NoMemory,
     }
-}
-
-// The part of what a collector holds.
-fn text_of(alloc: Global, collector: &Collector) -> Result<Vec<u8>, NoMemory>
-    ensures { IfOk result (λ text. (xs : List Record) → All IsRecord xs → collected.Stands collector.now xs → collector.now.held ≤ 1048576 → IsPartOfAll xs text.items) }
-{
-    let mut text = Vec::new(alloc);
-    put_part(collector, &mut text)?;
-    Ok(text)
 }
 
 // Whether no memory could be had.

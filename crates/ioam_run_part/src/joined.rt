@@ -12,14 +12,14 @@ ghost use Rattle.ioam_collect.specs.declared.key.Key.{Key};
 ghost use Rattle.ioam_run_part.specs.Stored.{Stores};
 ghost use Rattle.ioam_run_part.specs.Joined.{Counts, IsPlan, RefusesJoined, WritesJoined};
 
+use crate::gathered::gather_head;
 use crate::stored::stored_outcome;
 use crate::walked::store_walk;
 use ioam_base::memory::NoMemory;
 use ioam_base::name::Name;
-use ioam_base::text::append;
 use ioam_collect::MOST_HELD;
-use ioam_desk::{Desk, DeskFault, PIECE};
-use ioam_part_merge::{MOST_RECORD, PartOctets, Walk, count_both, head_of};
+use ioam_desk::{Desk, DeskFault};
+use ioam_part_merge::{PartOctets, Walk, count_both};
 use ioam_run_answer::Outcome;
 use std::alloc::Global;
 
@@ -28,15 +28,6 @@ use std::alloc::Global;
 struct Plan<'a> {
     walk: Walk<'a>,
     gathered: Vec<u8>,
-}
-
-// The head of a part of so many records, with room for a piece and a record behind it.
-fn gather_head(alloc: Global, count: u32) -> Result<Vec<u8>, NoMemory>
-    ensures { IfOk result (λ gathered. gathered.items ≡ head_octets count) }
-{
-    let mut gathered = Vec::with_capacity(alloc, PIECE + MOST_RECORD)?;
-    append(&mut gathered, head_of(count).octets())?;
-    Ok(gathered)
 }
 
 // How many records two parts hold together. None where they are too many.

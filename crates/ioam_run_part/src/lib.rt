@@ -4,12 +4,14 @@
 
 mod exports;
 mod flat;
+mod gathered;
 mod joined;
 mod kept;
 mod merge;
 mod names;
 mod part;
 mod parts;
+mod pieces;
 mod stored;
 mod two;
 mod unread;

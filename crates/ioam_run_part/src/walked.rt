@@ -8,27 +8,12 @@ ghost use Rattle.ioam_part_merge.specs.Walk.{Comes, pairs_octets};
 ghost use Rattle.ioam_run_part.specs.Stored.{Stores};
 ghost use Rattle.ioam_run_part.specs.Walked.{Puts, Sends};
 
+use crate::gathered::send;
 use ioam_base::memory::NoMemory;
 use ioam_base::name::Name;
 use ioam_base::text::append;
-use ioam_desk::{Desk, DeskFault, PIECE, WriteAll, write_all};
+use ioam_desk::{Desk, DeskFault, PIECE};
 use ioam_part_merge::Walk;
-
-// Writes octets to a slot.
-fn send<D: Desk>(desk: &mut D, slot: u32, octets: &[u8]) -> Result<(), DeskFault>
-    requires { slot < (D.writing desk.old).side.slots }
-    ensures sends { Sends D.tells slot octets.now (D.writing desk.old) (D.writing desk.new) result }
-    ensures asked { (D.writing desk.new).side.asked ≡ (D.writing desk.old).side.asked }
-    ensures slots { (D.writing desk.new).side.slots ≡ (D.writing desk.old).side.slots }
-    ensures kept { WritesFrom slot (D.writing desk.old) (D.writing desk.new) }
-    ensures inputs { D.reading desk.new ≡ D.reading desk.old }
-{
-    match write_all(desk, slot, octets) {
-        Ok(()) => Ok(()),
-        Err(WriteAll::Failed { .. }) => Err(DeskFault::Failed),
-        Err(WriteAll::NoMemory { .. }) => Err(DeskFault::NoMemory),
-    }
-}
 
 // Gathers octets, and writes what is gathered where that is a full piece.
 fn put<D: Desk>(

@@ -1,5 +1,5 @@
 use Rattle.ioam_run_part.proofs.WalkedLaws.{all_taken, front_taken}
-use Rattle.ioam_run_part.proofs.walked.send.Goals as goal
+use Rattle.ioam_run_part.proofs.gathered.send.Goals as goal
 
 pub returns-in-Ok-clause-sends : goal.returns-in-Ok-clause-sends
 returns-in-Ok-clause-sends g c = (
