@@ -52,6 +52,6 @@ fn lines(alloc: Global, collector: Collector) -> Result<Vec<u8>, NoMemory>
     ensures { IfOk result (λ text. (xs : List Record) → AreInOrder xs → length xs ≤ 1048576 → Stands collector xs → text.items ≡ part_lines xs) }
 {
     let mut text = Vec::new(alloc);
-    put_kept(alloc, &collector, &mut text)?;
+    put_kept(&collector, &mut text)?;
     Ok(text)
 }
