@@ -1,7 +1,7 @@
 -- Laws of jobs in a batch and in its chunks.
 use Rattle.std.proofs.Common.{◌≡◌, ℕ, ◌+◌, ◌<◌, ◌≤◌, List, [], ◌∷◌, ◌++◌, length, get_or, set, take, drop, All, Option, Some, None, refl, sym, ap, ◌∙◌, subst, inl, inr, add-zero, arith}
 use Rattle.std.specs.List.{AllZip}
-use Rattle.std.specs.Prelude.{MatchOption, vec_capacity}
+use Rattle.std.specs.Prelude.{vec_capacity}
 use Rattle.std.proofs.lemmas.Grind.{drop_more_same}
 use Rattle.std.proofs.lemmas.List.{get_or-drop, take_all, take_more, take_more_set, drop-set-lt}
 use Rattle.std.proofs.lemmas.List.Elements.{AllZip-push, All-nil, All-cons, All-head, All-tail}
@@ -12,17 +12,6 @@ use Rattle.ioam_batch.specs.declared.job.Job.{Job}
 use Rattle.ioam_batch.proofs.RunLaws.{taps-fresh, taps-run}
 use Rattle.ioam_clock.specs.declared.sample.Sample.{Sample}
 use Rattle.ioam_topo.specs.declared.domain.Domain.{Domain}
-
--- as many as none are none
-pub no-jobs : (jobs : List Job) → length jobs ≡ 0 → jobs ≡ []
-no-jobs [] none = refl
-no-jobs (job ∷ jobs) none = absurd (omega (arith, none))
-
--- none is left where none was handed out
-pub none-left : (result : Option Job) (before after : ℕ) → result ≡ None
-    → MatchOption result ((before ≡ 0) × (after ≡ 0)) (λ job. after + 1 ≡ before) → after ≡ 0
-none-left None before after none said = said.1
-none-left (Some job) before after none said = absurd (cc none)
 
 -- what is so of the pairs of two lists and of two more is so of both together
 pub AllZip-both : {X : Type 0} (R : X → X → Type 0) (xs ys vs ws : List X) → AllZip R xs vs → AllZip R ys ws → AllZip R (xs ++ ys) (vs ++ ws)

@@ -2,6 +2,7 @@ pub mod Along
 pub mod Batches
 pub mod Crossings
 pub mod Jobs
+pub mod Made
 pub mod Ran
 pub mod Sends
 pub mod Taps

@@ -1,10 +1,15 @@
 //! Jobs that are run together.
-ghost use Rattle.std.specs.Prelude.{◌≡◌, ◌≤◌, ◌++◌, ◌∷◌, [], IfOk, IsTrue, length, vec_capacity};
+ghost use Rattle.std.specs.Prelude.{◌≡◌, ◌<◌, ◌≤◌, ◌++◌, ◌∷◌, [], List, IfErr, IfOk, IsTrue, OnOk, length};
 ghost use Rattle.ioam_batch.specs.Batches.{has_room};
+ghost use Rattle.ioam_batch.specs.Made.{IsMade};
+ghost use Rattle.ioam_batch.specs.declared.job.Job.{Job};
+ghost use Rattle.ioam_plan.specs.Rides.{Rides};
 
 use crate::job::Job;
-use crate::memory::JobMemory;
+use crate::places::{keep_small, make_at, make_place, put_at, visits_at};
 use ioam_base::memory::NoMemory;
+use ioam_plan::{Itinerary, Visits};
+use ioam_topo::Domain;
 use std::alloc::Global;
 use std::marker::Model;
 
@@ -17,56 +22,41 @@ const MOST_RESERVED: u64 = 67_108_864;
 /// The memory of a job is kept for one to come where it has no more octets reserved.
 const MOST_KEPT: usize = 65_536;
 
-// Keeps the memory of a job, where that is small and one more has room.
-fn keep(job: Job, spares: &mut Vec<JobMemory>)
-    ensures { vec_capacity spares.new ≡ vec_capacity spares.old }
-{
-    if job.reserved() <= MOST_KEPT && spares.len() < spares.capacity() {
-        spares.push_reserved(job.memory());
-    }
-}
-
-// Takes all jobs away, and keeps the memory of those that are small while there is room.
-fn keep_all(jobs: &mut Vec<Job>, spares: &mut Vec<JobMemory>)
-    ensures none { jobs.new.items ≡ [] }
-    ensures jobs { vec_capacity jobs.new ≡ vec_capacity jobs.old }
-    ensures spares { vec_capacity spares.new ≡ vec_capacity spares.old }
-{
-    'keeping: while let Some(job) = jobs.pop() {
-        keep(job, spares);
-    }
-}
-
-/// Jobs that are run together, and the memory of jobs that were told, which others take over.
+/// Jobs that are run together, and behind them jobs that were told, in whose memory others are made.
 #[derive(Drop)]
 pub struct Batch {
     pub(crate) jobs: Vec<Job>,
+    // So many of the jobs wait: the first.
+    pub(crate) count: usize,
+    // How many octets these have reserved.
     pub(crate) reserved: u64,
-    pub(crate) spares: Vec<JobMemory>,
+    // Whether one of all jobs may have more octets reserved than are kept for one to come.
+    pub(crate) has_large: bool,
 }
 
 impl Model for Batch {
-    ghost use Rattle.std.specs.Prelude.{◌≡◌, ◌≤◌, List, length, vec_capacity};
+    ghost use Rattle.std.specs.Prelude.{◌≡◌, ◌≤◌, List, length, take, vec_capacity};
     ghost use Rattle.ioam_batch.specs.Batches.{all_reserved};
     ghost use Rattle.ioam_batch.specs.declared.job.Job.{Job};
 
     ghost Value = { List Job };
 
-    ghost view = { λ batch. batch.jobs.items };
+    ghost view = { λ batch. take batch.count batch.jobs.items };
 
-    ghost invariant = { λ batch. (length batch.jobs.items ≤ 256) × (vec_capacity batch.jobs ≡ 256) × (batch.reserved ≡ all_reserved batch.jobs.items)
-        × (vec_capacity batch.spares ≡ 256) };
+    ghost invariant = { λ batch. (batch.count ≤ length batch.jobs.items) × (length batch.jobs.items ≤ 256) × (vec_capacity batch.jobs ≡ 256)
+        × (batch.reserved ≡ all_reserved (take batch.count batch.jobs.items)) };
 }
 
 impl Batch {
-    /// A batch of no jobs, with room for as many as it ever has, and for the memory of as many.
+    /// A batch of no jobs, with room for as many as it ever has.
     pub fn new(alloc: Global) -> Result<Batch, NoMemory>
         ensures { IfOk result (λ batch. batch ≡ []) }
     {
         Ok(Batch {
             jobs: Vec::with_capacity(alloc, MOST_JOBS)?,
+            count: 0,
             reserved: 0,
-            spares: Vec::with_capacity(alloc, MOST_JOBS)?,
+            has_large: false,
         })
     }
 
@@ -75,7 +65,7 @@ impl Batch {
     pub fn has_room(&self) -> bool
         ensures { result ≡ has_room self.now }
     {
-        self.jobs.len() < MOST_JOBS && self.reserved < MOST_RESERVED
+        self.count < MOST_JOBS && self.reserved < MOST_RESERVED
     }
 
     /// Puts a job behind the others. It takes no memory: the capacity of the vector of jobs is 256 before
@@ -84,9 +74,42 @@ impl Batch {
         requires { IsTrue (has_room self.old) }
         ensures { self.new ≡ self.old ++ job ∷ [] }
     {
-        self.reserved += job.reserved() as u64;
-        // never refused: `new` took the memory for all jobs. `insert` says that it stays in its block
-        let _ = self.jobs.insert(self.jobs.len(), job);
+        let reserved = job.reserved();
+        put_at(&mut self.jobs, self.count, job);
+        self.count += 1;
+        self.reserved += reserved as u64;
+        self.has_large = self.has_large || reserved > MOST_KEPT;
+    }
+
+    /// Makes the job of a packet that goes by an itinerary, as [`Job::new`] says it, behind the others, in
+    /// the memory of one that was told: more is taken only where that has too little room. After NoMemory
+    /// the jobs are as they were.
+    pub fn make(
+        &mut self,
+        alloc: Global,
+        domain: &Domain,
+        itinerary: Itinerary,
+        packet: &[u8],
+    ) -> Result<(), NoMemory>
+        requires room { IsTrue (has_room self.old) }
+        requires rides { Rides domain.now packet.now itinerary }
+        ensures made { OnOk result ((job : Job) × IsMade domain.now packet.now itinerary job × (self.new ≡ self.old ++ job ∷ [])) }
+        ensures as_before { IfErr result (λ _. self.new ≡ self.old) }
+    {
+        make_place(alloc, &mut self.jobs, self.count);
+        match make_at(alloc, &mut self.jobs, self.count, domain, itinerary, packet) {
+            Ok(reserved) => {
+                self.count += 1;
+                self.reserved += reserved as u64;
+                self.has_large = self.has_large || reserved > MOST_KEPT;
+                Ok(())
+            }
+            Err(NoMemory) => {
+                // what is half made may be large
+                self.has_large = true;
+                Err(NoMemory)
+            }
+        }
     }
 
     /// The jobs, in their order; at most 256.
@@ -94,26 +117,36 @@ impl Batch {
         ensures value { result.now ≡ self.now }
         ensures few { length self.now ≤ 256 }
     {
-        &self.jobs
+        &self.jobs[..self.count]
     }
 
-    /// The memory of a job that was told, for the next; that of none where none is kept. It takes no memory.
-    pub fn spare(&mut self, alloc: Global) -> JobMemory
+    /// The last of the jobs.
+    pub fn last(&self) -> &Job
+        requires { 0 < length self.now }
+        ensures { (front : List Job) × (self.now ≡ front ++ result.now ∷ []) }
+    {
+        &self.jobs[self.count - 1]
+    }
+
+    /// The memory of the visits of a job that was told, for a way to be planned in; that of none where
+    /// there is no such job. It takes no memory.
+    pub fn spare(&mut self, alloc: Global) -> Visits
         ensures { self.new ≡ self.old }
     {
-        match self.spares.pop() {
-            Some(memory) => memory,
-            None => JobMemory::none(alloc),
-        }
+        visits_at(alloc, &mut self.jobs, self.count)
     }
 
     /// Takes the jobs away. Their memory is kept for jobs to come: that of at most 256 jobs, each of which
     /// had at most 65,536 octets reserved; that of the others is handed back. The batch keeps its own: the
-    /// capacities of both its vectors stay 256.
+    /// capacity of its vector stays 256.
     pub fn clear(&mut self)
         ensures { self.new ≡ [] }
     {
-        keep_all(&mut self.jobs, &mut self.spares);
+        if self.has_large {
+            keep_small(&mut self.jobs, MOST_KEPT);
+            self.has_large = false;
+        }
+        self.count = 0;
         self.reserved = 0;
     }
 }

@@ -1,16 +1,16 @@
 //! The octets of a packet as its visits sent it on links with a tap.
-ghost use Rattle.std.specs.Prelude.{◌≡◌, ◌<◌, ◌≤◌, ◌+◌, ◌++◌, ◌∷◌, [], ℕ, false, true, if◌then◌else◌, IfOk, IfSome, MatchOption, None, Some, drop, get_or, length, map, slice_get, take};
+ghost use Rattle.std.specs.Prelude.{◌≡◌, ◌<◌, ◌≤◌, ◌+◌, ◌++◌, ◌∷◌, [], ℕ, false, true, if◌then◌else◌, IfSome, OnOk, MatchOption, None, Some, drop, get_or, length, map, slice_get, take};
 ghost use Rattle.ioam_batch.specs.Crossings.{crossings, filled, joined, sent_if, taps_of};
 ghost use Rattle.ioam_batch.specs.Taps.{is_tapped};
 
 use crate::taps::taps_of;
 use ioam_base::memory::NoMemory;
 use ioam_base::octets::put_at;
-use ioam_base::spare::emptied;
 use ioam_plan::Visit;
 use ioam_topo::Domain;
 use std::alloc::Global;
 use std::marker::Model;
+use std::mem;
 
 // So many octets for each visit that sends on a link with a tap.
 fn filled(size: usize, taps: &[bool]) -> usize
@@ -46,17 +46,18 @@ fn part(octets: &[u8], start: usize, size: usize) -> &[u8]
     &octets[start..start + size]
 }
 
-// So many octets or more, in the memory of spare ones where that has the room. What they are is of no
-// account: zeros are written only where there are too few.
-fn grown(alloc: Global, spare: Vec<u8>, count: usize) -> Result<Vec<u8>, NoMemory>
-    ensures { IfOk result (λ octets. count ≤ length octets.items) }
+// Makes so many octets or more of these. What they are is of no account: zeros are written only where
+// there are too few.
+fn grow(alloc: Global, octets: &mut Vec<u8>, count: usize) -> Result<(), NoMemory>
+    ensures { OnOk result (count ≤ length octets.new.items) }
 {
-    if count <= spare.len() {
-        return Ok(spare);
+    if count <= octets.len() {
+        return Ok(());
     }
-    let mut octets = emptied(alloc, spare, count)?;
-    octets.resize(count, 0)?;
-    Ok(octets)
+    let mut made = Vec::with_capacity(alloc, count)?;
+    made.resize(count, 0)?;
+    *octets = made;
+    Ok(())
 }
 
 /// The octets of a packet after each of its visits that are done and sent it on a link with a tap. Those
@@ -110,31 +111,29 @@ impl Crossings {
         }
     }
 
-    /// Room for a packet of so many octets that goes by these visits, in the memory of these crossings
-    /// where that has the room. Nothing of what they hold stays.
-    pub(crate) fn renewed(
-        self,
+    /// Becomes room for a packet of so many octets that goes by these visits, in the memory that it has
+    /// where that suffices. Nothing of what it held stays.
+    pub(crate) fn renew(
+        &mut self,
         alloc: Global,
         domain: &Domain,
         visits: &[Visit],
         size: usize,
-    ) -> Result<Crossings, NoMemory>
+    ) -> Result<(), NoMemory>
         requires size { size ≤ 131072 }
         requires few { length visits.now ≤ 256 }
-        ensures past { IfOk result (λ made. made.past ≡ []) }
-        ensures ahead { IfOk result (λ made. made.ahead ≡ map (is_tapped domain.now) visits.now) }
-        ensures size { IfOk result (λ made. made.size ≡ size) }
+        ensures past { OnOk result (self.new.past ≡ []) }
+        ensures ahead { OnOk result (self.new.ahead ≡ map (is_tapped domain.now) visits.now) }
+        ensures size { OnOk result (self.new.size ≡ size) }
     {
-        let Crossings { taps, octets, .. } = self;
-        let taps = taps_of(alloc, taps, domain, visits)?;
-        let octets = grown(alloc, octets, filled(size, &taps))?;
-        Ok(Crossings {
-            taps,
-            size,
-            done: 0,
-            next: 0,
-            octets,
-        })
+        self.done = 0;
+        self.next = 0;
+        let spare = mem::replace(&mut self.taps, Vec::new(alloc));
+        let taps = taps_of(alloc, spare, domain, visits)?;
+        grow(alloc, &mut self.octets, filled(size, &taps))?;
+        self.taps = taps;
+        self.size = size;
+        Ok(())
     }
 
     // The next visit sent the packet as these octets on a link with a tap.

@@ -1,5 +1,5 @@
 //! All visits of one packet.
-ghost use Rattle.std.specs.Prelude.{◌≡◌, ◌≤◌, ◌+◌, ◌*◌, ◌^◌, [], IfOk, IfSome, MatchOption, None, Some, is_some, length, slice_get};
+ghost use Rattle.std.specs.Prelude.{◌≡◌, ◌≤◌, ◌+◌, ◌*◌, ◌^◌, [], IfOk, IfSome, OnOk, MatchOption, None, Some, is_some, length, slice_get};
 ghost use Rattle.ioam_batch.specs.Crossings.{crossings, joined};
 ghost use Rattle.ioam_batch.specs.Jobs.{HasTaps, Holds, HoldsBy, IsFresh, IsJobOf, asked_for, reserved_of};
 ghost use Rattle.ioam_batch.specs.Taps.{is_tapped_at};
@@ -8,13 +8,13 @@ ghost use Rattle.ioam_topo.specs.declared.domain.Domain.{Domain};
 
 use crate::crossings::Crossings;
 use crate::making::{packet_of, room_for};
-use crate::memory::JobMemory;
 use ioam_base::memory::NoMemory;
 use ioam_dex::MOST_RECORD;
 use ioam_node_visit::NodeRoom;
-use ioam_plan::Itinerary;
-use ioam_topo::Domain;
+use ioam_plan::{End, Itinerary, Visits};
+use ioam_topo::{Domain, PortId};
 use std::alloc::Global;
+use std::mem;
 
 /// All visits of one packet, with all the room that they need.
 #[derive(Drop)]
@@ -26,6 +26,27 @@ pub struct Job {
 }
 
 impl Job {
+    /// A place for a job that is to be made: that of a packet of no octets and no visits. It takes no
+    /// memory.
+    pub(crate) fn none(alloc: Global) -> Job
+        ensures visits { result.itinerary.visits ≡ [] }
+        ensures packet { result.packet.items ≡ [] }
+        ensures reserved { reserved_of result ≡ 0 }
+    {
+        Job {
+            itinerary: Itinerary {
+                port: PortId(0),
+                visits: Visits::none(alloc),
+                end: End::Left { port: PortId(0) },
+                exited: false,
+                carried: None,
+            },
+            packet: Vec::new(alloc),
+            crossings: Crossings::none(alloc),
+            room: NodeRoom::none(alloc),
+        }
+    }
+
     /// The job of a packet that goes by an itinerary through a domain: the packet, or the outer packet
     /// around it, before any visit. The packet of an arrival that was dropped has no octets and no
     /// visits. No visit takes memory: room is made for the packet, for that again at each visit that
@@ -44,61 +65,46 @@ impl Job {
         ensures reserved { IfOk result (λ job. reserved_of job ≡ asked_for domain.now itinerary job.packet.items) }
         ensures most { IfOk result (λ job. reserved_of job ≤ 17 * 1048576) }
     {
-        Job::renewed(alloc, JobMemory::none(alloc), domain, itinerary, packet)
+        let mut job = Job::none(alloc);
+        job.renew(alloc, domain, itinerary, packet)?;
+        Ok(job)
     }
 
-    /// The same, in the memory of a job that was told: more is taken only where that has too little room.
-    pub fn renewed(
+    /// Becomes that job, as `new` makes it, in the memory that it has: more is taken only where that has
+    /// too little room. Nothing of the job that it was stays. After NoMemory it is some job, of which
+    /// nothing is known.
+    pub(crate) fn renew(
+        &mut self,
         alloc: Global,
-        memory: JobMemory,
         domain: &Domain,
         itinerary: Itinerary,
         packet: &[u8],
-    ) -> Result<Job, NoMemory>
+    ) -> Result<(), NoMemory>
         requires { Rides domain.now packet.now itinerary }
-        ensures of { IfOk result (IsJobOf domain.now packet.now itinerary) }
-        ensures holds { IfOk result (Holds domain.now) }
-        ensures taps { IfOk result (HasTaps domain.now) }
-        ensures reserved { IfOk result (λ job. reserved_of job ≡ asked_for domain.now itinerary job.packet.items) }
-        ensures most { IfOk result (λ job. reserved_of job ≤ 17 * 1048576) }
+        ensures of { OnOk result (IsJobOf domain.now packet.now itinerary self.new) }
+        ensures holds { OnOk result (Holds domain.now self.new) }
+        ensures taps { OnOk result (HasTaps domain.now self.new) }
+        ensures reserved { OnOk result (reserved_of self.new ≡ asked_for domain.now itinerary self.new.packet.items) }
+        ensures most { OnOk result (reserved_of self.new ≤ 17 * 1048576) }
     {
-        let JobMemory {
-            packet: held,
-            crossings,
-            room,
-            ..
-        } = memory;
-        let octets = packet_of(alloc, held, domain, &itinerary, packet)?;
-        let room = room_for(alloc, room, &itinerary, &octets)?;
+        let spare = mem::replace(&mut self.packet, Vec::new(alloc));
+        let octets = packet_of(alloc, spare, domain, &itinerary, packet)?;
+        let spare = mem::replace(&mut self.room, NodeRoom::none(alloc));
+        let room = room_for(alloc, spare, &itinerary, &octets)?;
         let visits = itinerary.visits.list();
-        let crossings = crossings.renewed(alloc, domain, visits, octets.len())?;
-        Ok(Job {
-            itinerary,
-            packet: octets,
-            crossings,
-            room,
-        })
+        self.crossings.renew(alloc, domain, visits, octets.len())?;
+        self.itinerary = itinerary;
+        self.packet = octets;
+        self.room = room;
+        Ok(())
     }
 
-    /// Its memory, for a job to come. What it holds is of no account then.
-    pub(crate) fn memory(self) -> JobMemory
-        ensures visits { result.visits ≡ self.itinerary.visits }
-        ensures packet { result.packet ≡ self.packet }
-        ensures crossings { result.crossings ≡ self.crossings }
-        ensures room { result.room ≡ self.room }
+    /// Takes the memory of its visits out, for a way to be planned in. It takes no memory.
+    pub(crate) fn take_visits(&mut self, alloc: Global) -> Visits
+        ensures visits { result ≡ self.old.itinerary.visits }
+        ensures reserved { reserved_of self.new ≡ reserved_of self.old }
     {
-        let Job {
-            itinerary,
-            packet,
-            crossings,
-            room,
-        } = self;
-        JobMemory {
-            visits: itinerary.visits,
-            packet,
-            crossings,
-            room,
-        }
+        mem::replace(&mut self.itinerary.visits, Visits::none(alloc))
     }
 
     /// The packet as it stands.

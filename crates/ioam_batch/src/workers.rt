@@ -1,5 +1,5 @@
 //! The jobs of a batch in chunks, each run by a worker.
-ghost use Rattle.std.specs.Prelude.{◌≡◌, ◌+◌, ◌≤◌, ◌<◌, ◌^◌, All, IsTrue, length};
+ghost use Rattle.std.specs.Prelude.{◌≡◌, ◌+◌, ◌≤◌, ◌<◌, ◌^◌, All, IsTrue, length, take};
 ghost use Rattle.std.specs.List.{AllZip};
 ghost use Rattle.std.specs.Thread.{IsSync};
 ghost use Rattle.ioam_batch.specs.Batches.{MayRun};
@@ -95,6 +95,27 @@ fn run_beside<R: Threads + Sync, G: Gate>(
     join_mut(rt, &mut front, &mut back);
 }
 
+// Runs the first so many of these jobs in chunks of this size.
+fn run_front<R: Threads + Sync, G: Gate>(
+    rt: &R,
+    domain: &Domain,
+    readings: &Readings,
+    gate: &G,
+    size: usize,
+    count: usize,
+    jobs: &mut [Job],
+)
+    requires size { 0 < size }
+    requires count { count ≤ length jobs.old }
+    requires few { count < 2 ^ 32 }
+    requires fresh { All (IsFresh domain.now) (take count jobs.old) }
+    ensures runs { IsTrue G.opens → AllZip (HasRun domain.now readings.now) (take count jobs.old) (take count jobs.new) }
+    ensures may { AllZip (MayRun domain.now readings.now) (take count jobs.old) (take count jobs.new) }
+{
+    let (waiting, _) = jobs.split_at_mut(count);
+    run_chunks(rt, domain, readings, gate, 0, size, waiting);
+}
+
 /// Runs the jobs of a batch by so many workers, each on a chunk of ceil(jobs / workers) jobs that it
 /// alone may write. A worker calls the gate once before its chunk, and runs the chunk's jobs exactly
 /// where it answers true. With one worker no thread is started. It takes no memory and can't fail.
@@ -119,9 +140,17 @@ pub fn run_batch<R: Threads + Sync, G: Gate>(
     ensures taps { All (HasTaps domain.now) batch.new }
     ensures memory { AllZip KeepsMemory batch.old batch.new }
 {
-    let size = batch.jobs.len().div_ceil(workers as usize);
+    let size = batch.count.div_ceil(workers as usize);
     if size == 0 {
         return;
     }
-    run_chunks(rt, domain, readings, gate, 0, size, &mut batch.jobs);
+    run_front(
+        rt,
+        domain,
+        readings,
+        gate,
+        size,
+        batch.count,
+        &mut batch.jobs,
+    );
 }

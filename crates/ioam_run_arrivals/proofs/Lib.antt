@@ -2,6 +2,7 @@ pub mod CleanLaws
 pub mod ForwardsLaws
 pub mod OneFateLaws
 pub mod TextsLaws
+mod AddingLaws
 mod AnswerLaws
 mod TellsLaws
 -- of the crates below, for the crates above

@@ -1,3 +1,4 @@
+pub mod Adding
 pub mod Forwarding
 -- of the crates below, for the crates above
 pub use Rattle.ioam_plan.specs.declared.itinerary.End

@@ -1,15 +1,14 @@
 //! Arrivals that are made into jobs.
-ghost use Rattle.std.specs.Prelude.{◌≡◌, ◌<◌, ◌≤◌, ◌^◌, ◌∷◌, ◌++◌, [], List, All, IfOk, length};
-ghost use Rattle.ioam_batch.specs.Jobs.{Holds, IsFresh};
+ghost use Rattle.std.specs.Prelude.{◌≡◌, ◌<◌, ◌≤◌, ◌^◌, ◌∷◌, ◌++◌, [], All, IfErr, IsTrue, OnOk, length};
+ghost use Rattle.ioam_batch.specs.Batches.{has_room};
+ghost use Rattle.ioam_batch.specs.declared.job.Job.{Job};
 ghost use Rattle.ioam_node.specs.Admission.{packet_of};
 ghost use Rattle.ioam_pcap.specs.Entries.{most};
-ghost use Rattle.ioam_plan.specs.Counted.{CountFor};
-ghost use Rattle.ioam_plan.specs.declared.itinerary.Itinerary.{Itinerary};
 ghost use Rattle.ioam_topo.specs.Domain.{flows, ports};
-ghost use Rattle.ioam_run_arrivals.specs.Forwarding.{Arrived, frame_of};
+ghost use Rattle.ioam_run_arrivals.specs.Adding.{IsAdded};
 
 use ioam_base::memory::NoMemory;
-use ioam_batch::{Job, JobMemory};
+use ioam_batch::Batch;
 use ioam_clock::Readings;
 use ioam_node::{Admit, admit};
 use ioam_pcap::Packet;
@@ -39,28 +38,26 @@ fn packet_of<'a>(admitted: &Admit<'a>) -> &'a [u8]
     }
 }
 
-/// The job of an arrival, of which no visit is done, in the memory of a job that was told where that has
-/// the room. Where it is enclosed it draws its number: the counters, which stand for the arrivals before,
-/// then stand for this one too.
-pub(crate) fn job_of(
+/// Makes the job of an arrival, of which no visit is done, behind those of a batch, in the memory of a job
+/// that was told where that has the room. Where it is enclosed it draws its number: the counters, which
+/// stand for the arrivals before, then stand for this one too. After NoMemory the batch is as it was.
+pub(crate) fn add_job(
     alloc: Global,
-    mut memory: JobMemory,
+    batch: &mut Batch,
     domain: &Domain,
     readings: &Readings,
     counters: &mut Counters,
     arrival: &Arrival<'_>,
-) -> Result<Job, NoMemory>
+) -> Result<(), NoMemory>
+    requires room { IsTrue (has_room batch.old) }
     requires port { arrival.now.port.0 < length (ports domain.now) }
     requires time { arrival.now.captured.time < 2 ^ 62 }
     requires short { length arrival.now.captured.octets.now ≤ most }
     requires counters { length counters.old ≡ length (flows domain.now) }
     requires few { All (λ number. number < 2 ^ 32) counters.old }
-    ensures fresh { IfOk result (IsFresh domain.now) }
-    ensures holds { IfOk result (Holds domain.now) }
-    ensures counted { (earlier : List Itinerary) → CountFor domain.now counters.old earlier
-        → IfOk result (λ job. CountFor domain.now counters.new (earlier ++ job.itinerary ∷ [])) }
-    ensures arrived { (earlier : List Itinerary) → CountFor domain.now counters.old earlier
-        → IfOk result (Arrived domain.now readings.now earlier (frame_of arrival.now)) }
+    ensures added { OnOk result ((job : Job) × IsAdded domain.now readings.now counters.old counters.new arrival.now job
+        × (batch.new ≡ batch.old ++ job ∷ [])) }
+    ensures as_before { IfErr result (λ _. batch.new ≡ batch.old) }
 {
     let captured = &arrival.captured;
     let admitted = admit(
@@ -72,7 +69,7 @@ pub(crate) fn job_of(
     );
     let itinerary = plan_in(
         alloc,
-        memory.take_visits(alloc),
+        batch.spare(alloc),
         domain,
         readings,
         counters,
@@ -80,6 +77,6 @@ pub(crate) fn job_of(
         captured.time,
         &admitted,
     )?;
-    let job = Job::renewed(alloc, memory, domain, itinerary, packet_of(&admitted))?;
-    Ok(job)
+    batch.make(alloc, domain, itinerary, packet_of(&admitted))?;
+    Ok(())
 }

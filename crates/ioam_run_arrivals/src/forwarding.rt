@@ -9,7 +9,7 @@ ghost use Rattle.ioam_pcap.specs.Entries.{most};
 ghost use Rattle.ioam_topo.specs.Domain.{ports};
 ghost use Rattle.ioam_run_arrivals.specs.Forwarding.{Forwards, Forwarded, IsOf, NoneWaits, frame_of, has_room, taken};
 
-use crate::arriving::{Arrival, job_of};
+use crate::arriving::{Arrival, add_job};
 use crate::telling::put_jobs;
 use ioam_base::memory::NoMemory;
 use ioam_batch::{Batch, Gate, run_batch};
@@ -97,10 +97,15 @@ impl Forwarding {
             → Forwards opens domain.now readings.now
             (frames ++ frame_of arrival.now ∷ []) so_far self.new) }
     {
-        let memory = self.batch.spare(alloc);
-        let job = job_of(alloc, memory, domain, readings, &mut self.counters, arrival)?;
-        self.sums.note(job.itinerary());
-        self.batch.push(job);
+        add_job(
+            alloc,
+            &mut self.batch,
+            domain,
+            readings,
+            &mut self.counters,
+            arrival,
+        )?;
+        self.sums.note(self.batch.last().itinerary());
         Ok(())
     }
 

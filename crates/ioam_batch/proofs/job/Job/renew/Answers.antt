@@ -5,7 +5,7 @@ use Rattle.ioam_batch.specs.declared.job.Job.{Job}
 use Rattle.ioam_batch.proofs.MakingLaws.{holds-made}
 use Rattle.ioam_batch.proofs.ReservedLaws.{asked-most, reserved-is}
 use Rattle.ioam_batch.proofs.RunLaws.{taps-begin}
-use Rattle.ioam_batch.proofs.job.Job.renewed.Goals as goal
+use Rattle.ioam_batch.proofs.job.Job.renew.Goals as goal
 use Rattle.ioam_plan.specs.declared.itinerary.Visit.{Visit}
 
 pub returns-clause-holds : goal.returns-clause-holds
@@ -16,28 +16,28 @@ pub returns-clause-reserved : goal.returns-clause-reserved
 returns-clause-reserved c =
     let it = c.args.itinerary in
     let octets = c.in_ok-octets.octets in
-    let job : Job = record { itinerary = it; packet = octets; crossings = c.in_ok-crossings.crossings; room = c.in_ok-room.room } in
-    let ahead = c.in_ok-crossings.ensures.ahead ∙ ap (λ (vs : List Visit). map (is_tapped c.args.domain.now) vs) c.list-visits.ensures.visits in
+    let job : Job = record { itinerary = it; packet = octets; crossings = c.renew.new.self; room = c.in_ok-room.room } in
+    let ahead = c.in_ok-renew.ensures.ahead ∙ ap (λ (vs : List Visit). map (is_tapped c.args.domain.now) vs) c.list-visits.ensures.visits in
     let spare : job.room.spare ≡ spare_by it.carried it octets.items =
     c.in_ok-room.ensures.spare ∙ ap (λ (xs : List ℕ). spare_by it.carried it xs) c.deref.ensures.value in
     let given : job.room.spare + length job.room.notes ≡ spare_by it.carried it octets.items =
     omega (arith, spare, ap length c.in_ok-room.ensures.notes) in
-    let size : job.crossings.size ≡ length octets.items = omega (arith, c.in_ok-crossings.ensures.size, c.len.ensures) in
-    reserved-is c.args.domain.now job (taps-begin job.crossings _ c.in_ok-crossings.ensures.past ahead) size given
+    let size : job.crossings.size ≡ length octets.items = omega (arith, c.in_ok-renew.ensures.size, c.len.ensures) in
+    reserved-is c.args.domain.now job (taps-begin job.crossings _ c.in_ok-renew.ensures.past ahead) size given
 
 pub returns-clause-most : goal.returns-clause-most
 returns-clause-most c =
     let it = c.args.itinerary in
     let octets = c.in_ok-octets.octets in
-    let job : Job = record { itinerary = it; packet = octets; crossings = c.in_ok-crossings.crossings; room = c.in_ok-room.room } in
-    let ahead = c.in_ok-crossings.ensures.ahead ∙ ap (λ (vs : List Visit). map (is_tapped c.args.domain.now) vs) c.list-visits.ensures.visits in
+    let job : Job = record { itinerary = it; packet = octets; crossings = c.renew.new.self; room = c.in_ok-room.room } in
+    let ahead = c.in_ok-renew.ensures.ahead ∙ ap (λ (vs : List Visit). map (is_tapped c.args.domain.now) vs) c.list-visits.ensures.visits in
     let spare : job.room.spare ≡ spare_by it.carried it octets.items =
     c.in_ok-room.ensures.spare ∙ ap (λ (xs : List ℕ). spare_by it.carried it xs) c.deref.ensures.value in
     let given : job.room.spare + length job.room.notes ≡ spare_by it.carried it octets.items =
     omega (arith, spare, ap length c.in_ok-room.ensures.notes) in
-    let size : job.crossings.size ≡ length octets.items = omega (arith, c.in_ok-crossings.ensures.size, c.len.ensures) in
+    let size : job.crossings.size ≡ length octets.items = omega (arith, c.in_ok-renew.ensures.size, c.len.ensures) in
     let is : reserved_of job ≡ asked_for c.args.domain.now it octets.items =
-    reserved-is c.args.domain.now job (taps-begin job.crossings _ c.in_ok-crossings.ensures.past ahead) size given in
+    reserved-is c.args.domain.now job (taps-begin job.crossings _ c.in_ok-renew.ensures.past ahead) size given in
     let most : asked_for c.args.domain.now it octets.items ≤ 17825792 =
     asked-most c.args.domain.now it octets.items c.requires.few c.in_ok-octets.ensures.short c.in_ok-octets.ensures.options in
     omega (arith, is, most)
