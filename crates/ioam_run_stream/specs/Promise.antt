@@ -71,7 +71,7 @@ module _ (desks : Desks) (files : CaptureNames) where
 abbrev pub EndsSo : Ending → List Taken → List ℕ → Type 0
 EndsSo ending taken octets = Reads octets taken ending
 
--- these are the first records of the octets, and others come behind them
+-- these are the first records of the octets, and perhaps others come behind them
 pub record AreFirst (taken : List Taken) (octets : List ℕ) : Type 0 where
   pub rest : List Taken
   pub ending : Ending
