@@ -43,11 +43,11 @@ taken_first taken octets (inl all) = begins_ends all.0 taken octets all.1
 taken_first taken octets (inr passed) = begins_passed 16777216 taken octets passed
 
 -- as those that can be judged do
-pub judged_first : (place : Place) (after : Option (List ℕ)) (left_before left_after : List ℕ) (taken : List Taken) (octets : List ℕ)
-    → AreJudged place after left_before left_after taken octets → AreFirst taken octets
-judged_first place after left_before left_after taken octets (inl all) = taken_first taken octets all
-judged_first place after left_before left_after taken octets (inr (inl whole)) = begins_whole left_before taken octets whole
-judged_first place after left_before left_after taken octets (inr (inr found)) = found.0
+pub judged_first : (place : Place) (after : Option (List ℕ)) (ended_after : Bool) (left_before left_after : List ℕ) (taken : List Taken) (octets : List ℕ)
+    → AreJudged place after ended_after left_before left_after taken octets → AreFirst taken octets
+judged_first place after ended_after left_before left_after taken octets (inl all) = taken_first taken octets all
+judged_first place after ended_after left_before left_after taken octets (inr (inl whole)) = begins_whole left_before taken octets whole
+judged_first place after ended_after left_before left_after taken octets (inr (inr found)) = found.1
 
 -- ---- all records of AFTER, or as many as may be taken
 
@@ -165,24 +165,26 @@ module _ (tells : Bool) (start : Start) (place : Place) (inputs : desk.Reading) 
     pairs_matched = pairs_by AreFirst before_first
 
     -- BEFORE couldn't be read on
-    pub cut_before : (left_before left_after : List ℕ) → (IsTrue tells → IsSomeAnd start.before (AreWhole left_before pairs.xs))
-        → (rest : List Taken) × Matched tells start place (AreJudged place start.after left_before left_after) AreTaken fates rest
-    cut_before left_before left_after whole = pairs_by (AreJudged place start.after left_before left_after)
-        (λ told. held_map start.before (AreWhole left_before pairs.xs) (AreJudged place start.after left_before left_after pairs.xs)
+    pub cut_before : (ended_after : Bool) (left_before left_after : List ℕ) → (IsTrue tells → IsSomeAnd start.before (AreWhole left_before pairs.xs))
+        → (rest : List Taken) × Matched tells start place (AreJudged place start.after ended_after left_before left_after) AreTaken fates rest
+    cut_before ended_after left_before left_after whole = pairs_by (AreJudged place start.after ended_after left_before left_after)
+        (λ told. held_map start.before (AreWhole left_before pairs.xs) (AreJudged place start.after ended_after left_before left_after pairs.xs)
         (λ octets is. inr (inl is)) (whole told))
 
     -- AFTER couldn't
-    pub cut_after : (left_before left_after : List ℕ) → pairs.rest ≡ [] → (IsTrue tells → IsSomeAnd start.after (AreWhole left_after pairs.ys))
-        → (rest : List Taken) × Matched tells start place (AreJudged place start.after left_before left_after) AreTaken fates rest
-    cut_after left_before left_after none whole =
+    pub cut_after : (ended_after : Bool) (left_before left_after : List ℕ) → pairs.rest ≡ []
+        → (IsTrue tells → IsSomeAnd start.after (AreWhole left_after pairs.ys) × (ended_after ≡ false))
+        → (rest : List Taken) × Matched tells start place (AreJudged place start.after ended_after left_before left_after) AreTaken fates rest
+    cut_after ended_after left_before left_after none whole =
         let are : BecomeOf place pairs.xs pairs.ys fates [] = subst (λ r. BecomeOf place pairs.xs pairs.ys fates r) none
         (now_are place pairs.xs pairs.ys pairs.rest fates (pairs.are [] (none_more pair.waiting))) in
         let yes : IsVerdict place pairs.xs pairs.ys Yes = verdict_is place pairs.xs pairs.ys fates [] are in
-        pairs_by (AreJudged place start.after left_before left_after)
-        (λ told. held_map start.before (AreFirst pairs.xs) (AreJudged place start.after left_before left_after pairs.xs)
+        pairs_by (AreJudged place start.after ended_after left_before left_after)
+        (λ told. held_map start.before (AreFirst pairs.xs) (AreJudged place start.after ended_after left_before left_after pairs.xs)
         (λ octets first. inr (inr (
+          (whole told).1,
           first,
-          held_map start.after (AreWhole left_after pairs.ys) (AreFound place pairs.xs left_after) (λ others is. (pairs.ys, is, yes)) (whole told),
+          held_map start.after (AreWhole left_after pairs.ys) (AreFound place pairs.xs left_after) (λ others is. (pairs.ys, is, yes)) (whole told).0,
         ))) (before_first told))
 
   -- there is none more of BEFORE

@@ -212,7 +212,8 @@ module _ (tells : Bool) (start : Start) (place : Place) where
       ys = halted.matched.ys;
       are = halted.matched.are;
       of_before = λ told. held_map start.before (Judged halted.matched.xs) (AreFirst halted.matched.xs)
-          (judged_first place start.after (inputs.left pair.before.feed.slot) (inputs.left pair.after.feed.slot) halted.matched.xs) (halted.matched.of_before told);
+          (judged_first place start.after (inputs.ended pair.after.feed.slot) (inputs.left pair.before.feed.slot) (inputs.left pair.after.feed.slot)
+          halted.matched.xs) (halted.matched.of_before told);
       of_after = halted.matched.of_after;
       few_before = halted.matched.few_before;
       few_after = halted.matched.few_after;

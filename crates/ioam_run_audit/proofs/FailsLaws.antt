@@ -1,5 +1,5 @@
 -- A read of one of the two captures failed.
-use Rattle.std.proofs.Common.{◌≡◌, ℕ, Bool, false, IsTrue, IsSomeAnd, List, Option, None, Result, Ok, Err, sym, subst}
+use Rattle.std.proofs.Common.{◌≡◌, ℕ, Bool, false, IsTrue, IsSomeAnd, List, Option, None, Result, Ok, Err, ap, ◌∙◌, sym, subst}
 use Rattle.std.specs.Prelude.{IfErr}
 use Rattle.ioam_capture.specs.Reader.{Stands}
 use Rattle.ioam_capture.specs.Reading.{Reading}
@@ -32,9 +32,11 @@ pub lane_fails : (tells : Bool) (first old new : desk.Reading) (begun : Lane) (s
     → ((octets : List ℕ) (taken : List Taken) → Stands reader octets taken → Stands stepped octets taken × ShowsSo octets false taken None)
     → ((content : Option (List ℕ)) (taken : List Taken) → AtLane tells content first begun taken → At tells content old slot reader count taken)
     → FailsOf tells first begun new fault
-lane_fails tells first old new begun slot most reader stepped now count Failed same fails shows still = λ content taken at told.
-    subst (λ k. IsSomeAnd content (AreWhole (new.left k) taken)) same
-    (at_whole tells content old new slot reader stepped count taken fails.left shows (still content taken at) told)
+lane_fails tells first old new begun slot most reader stepped now count Failed same fails shows still = λ content taken at told. (
+  subst (λ k. IsSomeAnd content (AreWhole (new.left k) taken)) same
+      (at_whole tells content old new slot reader stepped count taken fails.left shows (still content taken at) told),
+  subst (λ k. new.ended k ≡ false) same (ap (λ (ended : ℕ → Bool). ended slot) fails.ended ∙ (still content taken at).unended told),
+)
 lane_fails tells first old new begun slot most reader stepped now count NoMemory same fails shows still = tt
 
 module _ (tells : Bool) (start : Start) (place : Place) (old new : desk.Reading) (pair : Pair) (fates : List Fate) (lane : Lane)
@@ -45,14 +47,14 @@ module _ (tells : Bool) (start : Start) (place : Place) (old new : desk.Reading)
       → FailsBy tells start place new (record { before = pair.before; after = lane; waiting = pair.waiting; counts = pair.counts }) fates fault
   after_fails alone same asked Failed fails =
       let (at, none) = after_asked tells start place old new pair fates lane alone same pairs asked in
-      cut_after tells start place old pair fates pairs (new.left pair.before.feed.slot) (new.left lane.feed.slot) none
-      (λ told. subst (λ k. IsSomeAnd start.after (AreWhole (new.left k) pairs.ys)) (sym same) (fails start.after pairs.ys at told))
+      cut_after tells start place old pair fates pairs (new.ended lane.feed.slot) (new.left pair.before.feed.slot) (new.left lane.feed.slot) none
+      (λ told. subst (λ k. IsSomeAnd start.after (AreWhole (new.left k) pairs.ys) × (new.ended k ≡ false)) (sym same) (fails start.after pairs.ys at told))
   after_fails alone same asked NoMemory fails = tt
 
   -- that of BEFORE
   pub before_fails : lane.feed.slot ≡ pair.before.feed.slot → (fault : DeskFault) → FailsOf tells old pair.before new fault
       → FailsBy tells start place new (record { before = lane; after = pair.after; waiting = pair.waiting; counts = pair.counts }) fates fault
   before_fails same Failed fails =
-      cut_before tells start place old pair fates pairs (new.left lane.feed.slot) (new.left pair.after.feed.slot)
-      (λ told. subst (λ k. IsSomeAnd start.before (AreWhole (new.left k) pairs.xs)) (sym same) (fails start.before pairs.xs pairs.before told))
+      cut_before tells start place old pair fates pairs (new.ended pair.after.feed.slot) (new.left lane.feed.slot) (new.left pair.after.feed.slot)
+      (λ told. subst (λ k. IsSomeAnd start.before (AreWhole (new.left k) pairs.xs)) (sym same) (fails start.before pairs.xs pairs.before told).0)
   before_fails same NoMemory fails = tt

@@ -1,5 +1,5 @@
 -- A capture that is read one record at a time.
-use Rattle.std.proofs.Common.{◌≡◌, ℕ, ◌+◌, ◌<◌, ◌≤◌, ◌^◌, Bool, true, false, IsTrue, IsSomeAnd, List, [], ◌∷◌, ◌++◌, length, Option, Some, None, Result, Ok, Err, refl, sym, ap, ◌∙◌, subst, arith, length-append, append-nil, append_assoc}
+use Rattle.std.proofs.Common.{◌≡◌, ◌↔◌, ℕ, ◌+◌, ◌<◌, ◌≤◌, ◌^◌, Bool, true, false, IsTrue, IsSomeAnd, List, [], ◌∷◌, ◌++◌, length, Option, Some, None, Result, Ok, Err, refl, sym, ap, ◌∙◌, subst, arith, length-append, append-nil, append_assoc}
 use Rattle.ioam_capture.specs.Reader.{Stands}
 use Rattle.ioam_capture.specs.Reading.{Reading, pending, most_held, HoldsFew, fed}
 use Rattle.ioam_capture.specs.Reads.{Reads}
@@ -75,6 +75,11 @@ pub alone_fed : (tells : Bool) (first old new : desk.Reading) (slot other most :
     → other ≡ slot → ReadsAlone slot first old → FeedsPiece tells old other most reader new now → ReadsAlone slot first new
 alone_fed tells first old new slot other most reader now same one is = alone_on tells first old new slot other most reader now (Ok true) same one is
 
+-- a slot hasn't ended of which a piece was handed out
+not_ended : (ended : Bool) (piece : List ℕ) → (IsTrue ended ↔ (piece ≡ [])) → 0 < length piece → ended ≡ false
+not_ended true piece both some = absurd (omega (arith, some, ap (λ (octets : List ℕ). length octets) (both.0 refl)))
+not_ended false piece both some = refl
+
 module _ (tells : Bool) (content : Option (List ℕ)) where
   -- the records that were taken are the first
   pub at_first : (inputs : desk.Reading) (slot : ℕ) (reader : Reading) (count : ℕ) (taken : List Taken) → At tells content inputs slot reader count taken
@@ -92,6 +97,7 @@ module _ (tells : Bool) (content : Option (List ℕ)) where
       is_open = omega (arith, at.given.is_open, alone.slots);
       held = λ told. at.given.held told ∙ ap (λ left. Some (at.octets ++ left)) (sym (alone.left slot apart));
     };
+    unended = λ told. alone.ended slot apart ∙ at.unended told;
     count_is = at.count_is;
     few = at.few;
     held_back = at.held_back;
@@ -112,6 +118,7 @@ module _ (tells : Bool) (content : Option (List ℕ)) where
       record {
         octets = at.octets;
         given = record { stands = here; is_open = at.given.is_open; held = at.given.held };
+        unended = at.unended;
         count_is = same ∙ at.count_is;
         few = at.few;
         held_back = omega (arith, less, at.held_back, same_most old new at.octets taken taken at.given.stands here);
@@ -128,6 +135,7 @@ module _ (tells : Bool) (content : Option (List ℕ)) where
       record {
         octets = at.octets;
         given = record { stands = here; is_open = at.given.is_open; held = at.given.held };
+        unended = at.unended;
         count_is = omega (arith, one, at.count_is, size);
         few = omega (arith, few, at.count_is, size);
         held_back = omega (arith, less, at.held_back, same_most old new at.octets taken (taken ++ t ∷ []) at.given.stands here);
@@ -141,6 +149,7 @@ module _ (tells : Bool) (content : Option (List ℕ)) where
       subst (λ k. At tells content new k now count taken) (sym same) (record {
         octets = at.octets ++ feeds.piece;
         given = feeds.kept content at.octets taken at.given;
+        unended = λ told. not_ended (new.ended slot) feeds.piece (feeds.gives.ended told) feeds.some;
         count_is = at.count_is;
         few = at.few;
         held_back = held;

@@ -1,5 +1,5 @@
 -- The two captures, opened.
-use Rattle.std.proofs.Common.{◌≡◌, ℕ, zero, suc, ◌+◌, Bool, List, [], ◌∷◌, ◌++◌, take, length, Option, Some, Err, refl, sym, ap, ◌∙◌, subst, arith, append-nil, append_assoc}
+use Rattle.std.proofs.Common.{◌≡◌, ℕ, zero, suc, ◌+◌, Bool, false, List, [], ◌∷◌, ◌++◌, take, length, Option, Some, Err, refl, sym, ap, ◌∙◌, subst, arith, append-nil, append_assoc}
 use Rattle.ioam_capture.specs.Reading.{Reading, fresh, most_held, pending}
 use Rattle.ioam_capture_merge.specs.Feed.{Fed}
 use Rattle.ioam_desk.specs.Asked.{AsksFront, IsFaultOf}
@@ -18,10 +18,11 @@ use Rattle.ioam_run_audit.specs.declared.pair.Waiting.TheVariants as waiting
 
 -- no record was taken yet
 pub fed_at : (tells : Bool) (content : Option (List ℕ)) (inputs : desk.Reading) (slot : ℕ) (reader : Reading) → Fed tells content inputs slot reader [] [] → reader ≡ fresh
-    → At tells content inputs slot reader 0 []
-fed_at tells content inputs slot reader given new = record {
+    → inputs.ended slot ≡ false → At tells content inputs slot reader 0 []
+fed_at tells content inputs slot reader given new unended = record {
   octets = [];
   given = given;
+  unended = λ told. unended;
   count_is = refl;
   few = omega arith;
   held_back = omega (arith, ap (λ (r : Reading). length (pending r)) new, ap most_held new);
@@ -38,6 +39,7 @@ at_opened tells content held old new slot other name reader count taken opens at
     held = λ told. at.given.held told ∙ ap (λ left. Some (at.octets ++ left))
         (sym (opens.other_left slot (λ same. absurd (omega (arith, same, opens.number, at.given.is_open)))));
   };
+  unended = λ told. opens.other_ended slot (λ same. absurd (omega (arith, same, opens.number, at.given.is_open))) ∙ at.unended told;
   count_is = at.count_is;
   few = at.few;
   held_back = at.held_back;

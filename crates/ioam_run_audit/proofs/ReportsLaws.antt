@@ -93,12 +93,12 @@ module _ (tells : Bool) (files : AuditNames) (old_in new_in : desk.Reading) (old
 
   -- of all packets of BEFORE that can be judged
   pub cut_reports : (first second : ℕ) → WrittenCut tells start place new_in first second new
-      → Reports files old AreFirst AreTaken (IsCutOff files old (new_in.left first) (new_in.left second)) (Holds files old_in new_in old new)
+      → Reports files old AreFirst AreTaken (IsCutOff files old (new_in.ended second) (new_in.left first) (new_in.left second)) (Holds files old_in new_in old new)
   cut_reports first second written =
       let matched = matched_so tells start place told (IsJudged start place new_in first second) AreTaken written.fates written.rest written.matched in
       reports (IsJudged start place new_in first second) AreTaken AreFirst AreTaken
-      (judged_first place start.after (new_in.left first) (new_in.left second)) (λ taken octets is. is)
-      (IsCutOff files old (new_in.left first) (new_in.left second)) (Holds files old_in new_in old new) written.fates written.rest written.behind
+      (judged_first place start.after (new_in.ended second) (new_in.left first) (new_in.left second)) (λ taken octets is. is)
+      (IsCutOff files old (new_in.ended second) (new_in.left first) (new_in.left second)) (Holds files old_in new_in old new) written.fates written.rest written.behind
       matched (written.behind_is, matched.of_before refl) (written.held told).0
 
   -- a front

@@ -32,12 +32,13 @@ abbrev pub IsHeldSo : List ℕ → List ℕ → Option Reason → Type 0
 IsHeldSo packet held None = (held ≡ packet) × IsSound packet
 IsHeldSo packet held (Some why) = (why ≡ reason.Chain) × (IsSound packet → ⊥)
 
--- So much of what a name holds was handed out, by this slot, to this reader, and these records were taken of it, no more than
--- 16,777,216, so many as were counted. Less than the greatest record or block of its form and a piece of 65,536 octets is held
--- back in memory.
+-- So much of what a name holds was handed out, by this slot, which hasn't ended, to this reader, and these records were taken of
+-- it, no more than 16,777,216, so many as were counted. Less than the greatest record or block of its form and a piece of 65,536
+-- octets is held back in memory.
 pub record At (tells : Bool) (content : Option (List ℕ)) (inputs : desk.Reading) (slot : ℕ) (reader : Reading) (count : ℕ) (taken : List Taken) : Type 0 where
   pub octets : List ℕ
   pub given : Fed tells content inputs slot reader octets taken
+  pub unended : IsTrue tells → inputs.ended slot ≡ false
   pub count_is : count ≡ length taken
   pub few : length taken ≤ 16777216
   pub held_back : length (pending reader) < most_held reader + 65536
@@ -73,10 +74,10 @@ abbrev pub NextOf : Bool → desk.Reading → Lane → desk.Reading → Lane →
 NextOf tells old before new after shown = (content : Option (List ℕ)) (taken : List Taken) → AtLane tells content old before taken
     → Comes tells content new after taken shown
 
--- a read failed: the records that were taken are all that are whole in what was handed out
+-- a read failed: the records that were taken are all that are whole in what was handed out, and the capture hasn't ended
 abbrev pub FailsOf : Bool → desk.Reading → Lane → desk.Reading → DeskFault → Type 0
 FailsOf tells old before new Failed = (content : Option (List ℕ)) (taken : List Taken) → AtLane tells content old before taken
-    → IsTrue tells → IsSomeAnd content (AreWhole (new.left before.feed.slot) taken)
+    → IsTrue tells → IsSomeAnd content (AreWhole (new.left before.feed.slot) taken) × (new.ended before.feed.slot ≡ false)
 FailsOf tells old before new NoMemory = ⊤
 
 -- all that is left of it was taken

@@ -1,6 +1,6 @@
 -- What `audit DOMAIN NODE LINK BEFORE AFTER REPORT` promises: whether each packet of the capture AFTER can be one of the capture
 -- BEFORE that NODE, to which it came by LINK, sent on.
-use Rattle.std.specs.Prelude.{◌≡◌, ◌≢◌, ℕ, ◌+◌, ◌<◌, ◌≤◌, ◌⊎◌, ⊤, Bool, IsTrue, IsSomeAnd, nat_eq, if◌then◌else◌, List, [], ◌∷◌, ◌++◌, length, slice_get, Option, Some, None, option_and_then}
+use Rattle.std.specs.Prelude.{◌≡◌, ◌≢◌, ℕ, ◌+◌, ◌<◌, ◌≤◌, ◌⊎◌, ⊤, Bool, false, IsTrue, IsSomeAnd, nat_eq, if◌then◌else◌, List, [], ◌∷◌, ◌++◌, length, slice_get, Option, Some, None, option_and_then}
 use Rattle.ioam_base.specs.Octets.{IsFront}
 use Rattle.ioam_capture.specs.Reads.{Reads}
 use Rattle.ioam_desk.specs.Asked.{AsksFront}
@@ -76,13 +76,15 @@ abbrev pub AreFound : Place → List Taken → List ℕ → List ℕ → Type 0
 AreFound place before left octets = (whole : List Taken) × AreWhole left whole octets × IsVerdict place before whole Yes
 
 -- These records of BEFORE are all of which it can be said what becomes of them where so much of both captures is left to hand
--- out: BEFORE is over; or they are all that are whole in what was handed out of it; or no record is whole in what was handed out
--- of AFTER that isn't one of these.
-module _ (place : Place) (after : Option (List ℕ)) (left_before left_after : List ℕ) where
+-- out: BEFORE is over; or they are all that are whole in what was handed out of it; or the next record of AFTER isn't known, since
+-- AFTER hasn't ended, and no record is whole in what was handed out of it that isn't one of these. Where AFTER has ended, each
+-- record of BEFORE that was handed out whole is judged.
+module _ (place : Place) (after : Option (List ℕ)) (ended_after : Bool) (left_before left_after : List ℕ) where
   -- the records of BEFORE that were judged
   abbrev pub AreJudged : List Taken → List ℕ → Type 0
   AreJudged before octets = AreTaken before octets
-      ⊎ (AreWhole left_before before octets ⊎ (AreFirst before octets × IsSomeAnd after (AreFound place before left_after)))
+      ⊎ (AreWhole left_before before octets
+      ⊎ ((ended_after ≡ false) × AreFirst before octets × IsSomeAnd after (AreFound place before left_after)))
 
 module _ (files : AuditNames) where
   -- NODE is this node, and LINK this link, which ends there
@@ -200,10 +202,11 @@ module _ (files : AuditNames) where
     MayHaveVerdict place before after behind = NoVerdict place before after behind
         ⊎ (BeforeIs (EndsSo Whole before) × AfterIs (EndsSo Whole after) × HasVerdict place before after behind)
 
-    -- no verdict stands there, and the records of BEFORE are all that can be judged where so much of both is left
-    abbrev pub IsCutOff : List ℕ → List ℕ → Place → List Taken → List Taken → List ℕ → Type 0
-    IsCutOff left_before left_after place before after behind = NoVerdict place before after behind
-        × BeforeIs (AreJudged place (holds desk files.after) left_before left_after before)
+    -- no verdict stands there, and the records of BEFORE are all that can be judged where so much of both is left, and AFTER has
+    -- ended or hasn't
+    abbrev pub IsCutOff : Bool → List ℕ → List ℕ → Place → List Taken → List Taken → List ℕ → Type 0
+    IsCutOff ended_after left_before left_after place before after behind = NoVerdict place before after behind
+        × BeforeIs (AreJudged place (holds desk files.after) ended_after left_before left_after before)
 
   module _ (old_in new_in : Reading) (old new : Writing) where
     -- the cause of each answer, where the desk tells what its files hold; want of memory alone has none
@@ -213,7 +216,7 @@ module _ (files : AuditNames) where
     HasCause outcome.NoMemory = ⊤
     HasCause answer = Asked old answer
 
-    -- REPORT holds the text, or where it was opened a front of it
+    -- REPORT holds the text
     abbrev pub Holds : List ℕ → Type 0
     Holds text = holds new files.report ≡ Some text
 
@@ -231,7 +234,7 @@ module _ (files : AuditNames) where
     Leaves (outcome.Packets limit) = Reports old AreTaken AreTaken NoVerdict Holds
     Leaves outcome.ReadFault = ((new_in.side.slots < old_in.side.slots + 3) × (new ≡ old))
         ⊎ ((old_in.side.slots + 2 < new_in.side.slots) × Reports old AreFirst AreTaken
-        (IsCutOff old (new_in.left (old_in.side.slots + 1)) (new_in.left (old_in.side.slots + 2))) Holds)
+        (IsCutOff old (new_in.ended (old_in.side.slots + 2)) (new_in.left (old_in.side.slots + 1)) (new_in.left (old_in.side.slots + 2))) Holds)
     Leaves outcome.WriteFault = Reports old AreFirst AreTaken (MayHaveVerdict old) HoldsPart
     Leaves outcome.NoMemory = (new ≡ old) ⊎ Reports old AreFirst AreTaken (MayHaveVerdict old) HoldsPart
     Leaves outcome.Usage = new ≡ old

@@ -46,9 +46,10 @@ module _ (start : Start) (place : Place) where
   IsBehind fates rest behind = (behind ≡ [])
       ⊎ (Matched true start place (EndsSo Whole) (EndsSo Whole) fates rest × (behind ≡ verdict_line (verdict_of rest (sums_of fates).sent)))
 
-  -- these records of BEFORE are all that can be judged, where this is what the two slots have still to hand out
+  -- these records of BEFORE are all that can be judged, where this is what the two slots have still to hand out, and the second has
+  -- ended or hasn't
   abbrev pub IsJudged : desk.Reading → ℕ → ℕ → List Taken → List ℕ → Type 0
-  IsJudged inputs first second = AreJudged place start.after (inputs.left first) (inputs.left second)
+  IsJudged inputs first second = AreJudged place start.after (inputs.ended second) (inputs.left first) (inputs.left second)
 
   -- REPORT holds a front of the text of some first packets of BEFORE by all of AFTER
   pub record Fronts (outputs : Writing) : Type 0 where
