@@ -2,7 +2,7 @@
 use Rattle.std.proofs.Common.{◌≡◌, ℕ, ◌+◌, ◌≤◌, ◌⊎◌, Bool, IsTrue, List, [], ◌∷◌, ◌++◌, length, refl, sym, ap, ◌∙◌, subst, inl, inr, arith, append-nil}
 use Rattle.ioam_desk.specs.Asked.{AsksFront}
 use Rattle.ioam_desk.specs.Desk as desk
-use Rattle.ioam_desk.specs.Desk.{Rose, Side, Writing, opened_each}
+use Rattle.ioam_desk.specs.Desk.{Rose, Side, Writing, holds, opened_each}
 use Rattle.ioam_desk.specs.Kept.{KeepsInputs, KeepsOutputs}
 use Rattle.ioam_desk.proofs.KeptLaws.{KeepsOutputs-from, KeepsOutputs-same}
 use Rattle.ioam_desk_outputs.specs.Held.{HoldFronts}
@@ -14,7 +14,7 @@ use Rattle.ioam_run_answer.specs.declared.outcome.Outcome.TheVariants as outcome
 use Rattle.ioam_run_audit.specs.Ends.{Finishes, Parts, RunsFiles, RunsPair, start_of}
 use Rattle.ioam_run_audit.specs.Fit.{Place}
 use Rattle.ioam_run_audit.specs.Lines.{report_of}
-use Rattle.ioam_run_audit.specs.Pairs.{Pairs, ReadsTwo, Start}
+use Rattle.ioam_run_audit.specs.Pairs.{AreUnread, Pairs, ReadsTwo, Start}
 use Rattle.ioam_run_audit.specs.Promise.{AreTaken}
 use Rattle.ioam_run_audit.specs.Runs.{Moves, Running}
 use Rattle.ioam_run_audit.specs.declared.pair.Pair.{Pair}
@@ -73,11 +73,13 @@ module _ (tells : Bool) (start : Start) (place : Place) (before after : List ℕ
   runs_opened old_in mid_in new_in old_out mid_out new_out answer report named based same side kept finishes moves =
       let asked : new_out.side.asked ≡ old_out.side.asked ++ start.report ∷ [] = moves.asked_out ∙ ap (λ (s : Side). s.asked) side
       ∙ ap (λ (name : List ℕ). old_out.side.asked ++ name ∷ []) (sym named) in
+      let slots : new_out.side.slots ≡ old_out.side.slots + 1 = moves.slots_out ∙ ap (λ (s : Side). s.slots) side in
       record {
         finishes = finishes_from old_in mid_in new_in old_out mid_out new_out answer (ap (λ (r : desk.Reading). r.side.faults) same) (ap (λ (s : Side). s.faults) side) finishes;
         two = subst (λ (r : desk.Reading). ReadsTwo first second r new_in) same moves.two;
         asked = (1, asked);
         all = λ all. asked;
+        unread = λ none. absurd (omega (arith, none, slots));
         kept = λ told. KeepsOutputs-from old_out mid_out new_out start.base (kept told) (omega (arith, based)) moves.slots_out moves.asked_out moves.kept_out;
       }
 
@@ -106,6 +108,7 @@ module _ (tells : Bool) (start : Start) (place : Place) (before after : List ℕ
       two = two_same first second old_in new_in same;
       asked = subst (λ (name : List ℕ). AsksFront old_out.side.asked new_out.side.asked (name ∷ [])) (sym named) asked;
       all = λ all. absurd (early all);
+      unread = λ none. same;
       kept = kept;
     }
 
@@ -118,7 +121,7 @@ module _ (tells : Bool) (start : Start) (place : Place) (before after : List ℕ
 module _ (tells : Bool) (place : Place) (before after report : List ℕ) (old_in new_in : desk.Reading) (old new : Writing) where
   -- a capture wasn't opened
   module _ (asked : AsksFront old_in.side.asked new_in.side.asked (before ∷ after ∷ [])) (few : new_in.side.slots ≤ old_in.side.slots + 1) (kept : KeepsInputs old_in new_in)
-      (same : new ≡ old) where
+      (unread : IsTrue tells → AreUnread new_in (holds old before) (holds old after) old_in.side.slots (old_in.side.slots + 1)) (same : new ≡ old) where
     files_missed : (answer : Outcome) → ((answer ≡ outcome.ReadFault) × Rose old_in.side.faults new_in.side.faults) ⊎ (answer ≡ outcome.NoMemory)
         → (IsBehindAll ⊥ answer → ⊥) → RunsFiles tells place before after report old_in new_in old new answer
     files_missed answer why early = record {
@@ -126,6 +129,7 @@ module _ (tells : Bool) (place : Place) (before after report : List ℕ) (old_in
       asked_in = asked;
       asked_out = (0, ap (λ (w : Writing). w.side.asked) same ∙ sym (append-nil old.side.asked));
       all_out = λ all. absurd (early all);
+      unread = λ told none. unread told;
       kept_in = kept;
       kept_out = λ told. KeepsOutputs-same old new same;
     }
@@ -138,10 +142,11 @@ module _ (tells : Bool) (place : Place) (before after report : List ℕ) (old_in
 
   -- both were
   pub files_opened : (mid_in : desk.Reading) (mid : Writing) (start : Start) (first second : ℕ) (answer : Outcome) → mid_in.side ≡ opened_each old_in.side (before ∷ after ∷ [])
-      → KeepsInputs old_in mid_in → mid ≡ old → start ≡ start_of old before after report → first ≡ old_in.side.slots → second ≡ old_in.side.slots + 1
+      → KeepsInputs old_in mid_in → (IsTrue tells → AreUnread mid_in (holds old before) (holds old after) old_in.side.slots (old_in.side.slots + 1))
+      → mid ≡ old → start ≡ start_of old before after report → first ≡ old_in.side.slots → second ≡ old_in.side.slots + 1
       → RunsPair tells start place before after first second mid_in new_in mid new answer
       → RunsFiles tells place before after report old_in new_in old new answer
-  files_opened mid_in mid start first second answer side kept same is one other runs =
+  files_opened mid_in mid start first second answer side kept unread same is one other runs =
       let slots : new_in.side.slots ≡ old_in.side.slots + 2 = runs.two.slots ∙ ap (λ (s : Side). s.slots) side in
       let asked : new_in.side.asked ≡ old_in.side.asked ++ before ∷ after ∷ [] = runs.two.asked ∙ ap (λ (s : Side). s.asked) side in
       let named : start.report ≡ report = ap (λ (s : Start). s.report) is in
@@ -160,6 +165,8 @@ module _ (tells : Bool) (place : Place) (before after report : List ℕ) (old_in
         asked_out = subst (λ (name : List ℕ). AsksFront old.side.asked new.side.asked (name ∷ [])) named
             (subst (λ (w : Writing). AsksFront w.side.asked new.side.asked (start.report ∷ [])) same runs.asked);
         all_out = λ all. runs.all all ∙ ap (λ (w : Writing). w.side.asked ++ start.report ∷ []) same ∙ ap (λ (name : List ℕ). old.side.asked ++ name ∷ []) named;
+        unread = λ told none. subst (λ (r : desk.Reading). AreUnread r (holds old before) (holds old after) old_in.side.slots (old_in.side.slots + 1))
+            (sym (runs.unread (none ∙ ap (λ (w : Writing). w.side.slots) (sym same)))) (unread told);
         kept_in = record {
           left = λ k below. runs.two.left k (λ at. absurd (omega (arith, at, one, below))) (λ at. absurd (omega (arith, at, other, below))) ∙ kept.left k below;
           ended = λ k below. runs.two.ended k (λ at. absurd (omega (arith, at, one, below))) (λ at. absurd (omega (arith, at, other, below))) ∙ kept.ended k below;

@@ -1,5 +1,5 @@
 -- The two captures, opened.
-use Rattle.std.proofs.Common.{◌≡◌, ℕ, zero, suc, ◌+◌, Bool, false, List, [], ◌∷◌, ◌++◌, take, length, Option, Some, Err, refl, sym, ap, ◌∙◌, subst, arith, append-nil, append_assoc}
+use Rattle.std.proofs.Common.{◌≡◌, ℕ, zero, suc, ◌+◌, Bool, false, IsTrue, List, [], ◌∷◌, ◌++◌, take, length, Option, Some, Err, refl, sym, ap, ◌∙◌, subst, arith, append-nil, append_assoc}
 use Rattle.ioam_capture.specs.Reading.{Reading, fresh, most_held, pending}
 use Rattle.ioam_capture_merge.specs.Feed.{Fed}
 use Rattle.ioam_desk.specs.Asked.{AsksFront, IsFaultOf}
@@ -12,7 +12,7 @@ use Rattle.ioam_desk.proofs.KeptLaws.{KeepsInputs-but, KeepsInputs-same, KeepsIn
 use Rattle.ioam_pcap.specs.Entries.{Taken}
 use Rattle.ioam_run_audit.specs.Fit.{Place}
 use Rattle.ioam_run_audit.specs.Lanes.{At, AtLane}
-use Rattle.ioam_run_audit.specs.Pairs.{Pairs, Start}
+use Rattle.ioam_run_audit.specs.Pairs.{AreUnread, Pairs, Start}
 use Rattle.ioam_run_audit.specs.declared.lane.Lane.{Lane}
 use Rattle.ioam_run_audit.specs.declared.pair.Waiting.TheVariants as waiting
 
@@ -120,3 +120,31 @@ module _ (tells : Bool) (old mid new : desk.Reading) (first second : Option (Lis
     counts_are = refl;
     apart = λ same. absurd (omega (arith, same, opens.number, second_slot));
   }
+
+-- ---- nothing was read
+
+-- neither was opened
+pub none_unread : (old new : desk.Reading) (first second : Option (List ℕ)) → new.side.slots ≡ old.side.slots
+    → AreUnread new first second old.side.slots (old.side.slots + 1)
+none_unread old new first second same = (λ opened. absurd (omega (arith, opened, same)), λ opened. absurd (omega (arith, opened, same)))
+
+module _ (tells : Bool) (old mid new : desk.Reading) (first second : Option (List ℕ)) (before : List ℕ) (slot : ℕ)
+    (opens : OpensInput tells old mid first before slot) (kept : KeepsInputs mid new) where
+  mid_slots : mid.side.slots ≡ old.side.slots + 1
+  mid_slots = ap (λ (s : Side). s.slots) opens.side
+
+  first_unread : IsTrue tells → first ≡ Some (new.left old.side.slots)
+  first_unread told =
+      let P : ℕ → Type 0 = λ k. first ≡ Some (mid.left k) in
+      subst P opens.number (opens.left told) ∙ ap (λ (left : List ℕ). Some left) (sym (kept.left old.side.slots (omega (arith, mid_slots))))
+
+  -- the second wasn't opened
+  pub one_unread : new.side.slots ≡ mid.side.slots → IsTrue tells → AreUnread new first second old.side.slots (old.side.slots + 1)
+  one_unread same told = (λ opened. first_unread told, λ opened. absurd (omega (arith, opened, same, mid_slots)))
+
+  -- it was
+  pub both_unread : (after : List ℕ) (held : Option (List ℕ)) (other : ℕ) → OpensInput tells mid new held after other → second ≡ held → IsTrue tells
+      → AreUnread new first second old.side.slots (old.side.slots + 1)
+  both_unread after held other then same told =
+      let P : ℕ → Type 0 = λ k. held ≡ Some (new.left k) in
+      (λ opened. first_unread told, λ opened. same ∙ subst P (then.number ∙ mid_slots) (then.left told))

@@ -1,7 +1,7 @@
 -- What a run owes whose domain was read.
 use Rattle.std.proofs.Common.{◌≡◌, ◌≢◌, ℕ, suc, ◌+◌, ◌<◌, ◌≤◌, Bool, IsTrue, List, [], ◌∷◌, ◌++◌, take, refl, sym, ap, ◌∙◌, subst, inl, inr, arith, append_assoc}
 use Rattle.ioam_desk.specs.Asked.{AsksFront}
-use Rattle.ioam_desk.specs.Desk.{Side, Reading, Writing, Rose, opened_side}
+use Rattle.ioam_desk.specs.Desk.{Side, Reading, Writing, Rose, holds, opened_side}
 use Rattle.ioam_desk.specs.Kept.{KeepsInputs}
 use Rattle.ioam_desk.proofs.KeptLaws.{KeepsInputs-then}
 use Rattle.ioam_pcap.specs.Ending.{Whole, Faulty}
@@ -14,7 +14,7 @@ use Rattle.ioam_run_answer.specs.DomainFault.{DomainFault}
 use Rattle.ioam_run_audit.specs.Ends.{BehindBy, Ends, NoneBehind, Ran, RanAt, Stays, Written, WrittenCut, start_of}
 use Rattle.ioam_run_audit.specs.Fit.{Place}
 use Rattle.ioam_run_audit.specs.Lanes.{EndsBy}
-use Rattle.ioam_run_audit.specs.Pairs.{Start}
+use Rattle.ioam_run_audit.specs.Pairs.{AreUnread, Start}
 use Rattle.ioam_run_audit.specs.Promise.{AreDrained, AreFit, AreTaken, AuditNames, HasCause, HasDomain, HaveDiffered, IsAt, IsCapture, IsReady, IsUnfit, IsUntouched, Leaves, Owes, Says, input_files}
 use Rattle.ioam_run_audit.specs.Runs.{answer_of}
 use Rattle.ioam_run_audit.specs.declared.lane.End.{End}
@@ -269,6 +269,11 @@ module _ (tells : Bool) (files : AuditNames) (old_in mid_in : Reading) (opened :
       | inr opens ↦ absurd (omega (arith, few, opens.slots, one_slot))
     ]
 
+    unread : IsTrue tells → new.side.slots ≡ old.side.slots
+        → AreUnread new_in (holds old files.before) (holds old files.after) (old_in.side.slots + 1) (old_in.side.slots + 2)
+    unread told none = subst (λ k. AreUnread new_in (holds old files.before) (holds old files.after) (old_in.side.slots + 1) k) next_slot
+        (subst (λ k. AreUnread new_in (holds old files.before) (holds old files.after) k (mid_in.side.slots + 1)) one_slot (ran.runs.unread told none))
+
     ran_owes : Owes tells files old_in new_in old new answer
     ran_owes = record {
       read_fault = its_core.read_fault;
@@ -287,6 +292,7 @@ module _ (tells : Bool) (files : AuditNames) (old_in mid_in : Reading) (opened :
         no_output = no_output;
         of_domain = inr (place.domain, record { set = λ told. (ready told).has_domain; says = its_core.says; fit = inr fit });
       };
+      unread = unread;
       drained = its_core.drained;
       kept_in = KeepsInputs-then old_in mid_in new_in (omega (arith, one_slot)) kept ran.runs.kept_in;
       kept_out = ran.runs.kept_out;

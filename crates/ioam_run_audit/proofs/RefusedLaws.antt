@@ -7,6 +7,7 @@ use Rattle.ioam_desk.proofs.KeptLaws.{KeepsOutputs-same}
 use Rattle.ioam_run_answer.specs.Outcomes.{IsDone, IsBehindAll}
 use Rattle.ioam_run_answer.specs.declared.outcome.Outcome.{Outcome}
 use Rattle.ioam_run_answer.specs.declared.outcome.Outcome.TheVariants as outcome
+use Rattle.ioam_run_audit.specs.Pairs.{AreUnread}
 use Rattle.ioam_run_audit.specs.Promise.{AuditNames, HasCause, HasDomain, HaveDiffered, IsUnfit, IsUntouched, Leaves, Owes}
 use Rattle.ioam_run_files.specs.Answer.{refused_as}
 use Rattle.ioam_run_files.specs.Reads.{IsDomainRead}
@@ -26,6 +27,9 @@ asks_wider old new a b c (suc n, asked) = (1, asked ∙ ap (λ (rest : List (Lis
 module _ (tells : Bool) (files : AuditNames) (old_in new_in : Reading) (old : Writing)
     (asked : AsksFront old_in.side.asked new_in.side.asked (files.domain ∷ [])) (few : new_in.side.slots ≤ old_in.side.slots + 1)
     (kept : KeepsInputs old_in new_in) where
+  unread : AreUnread new_in (holds old files.before) (holds old files.after) (old_in.side.slots + 1) (old_in.side.slots + 2)
+  unread = (λ opened. absurd (omega (arith, opened, few)), λ opened. absurd (omega (arith, opened, few)))
+
   -- no memory could be had
   pub none_owes : Owes tells files old_in new_in old old outcome.NoMemory
   none_owes = record {
@@ -45,6 +49,7 @@ module _ (tells : Bool) (files : AuditNames) (old_in new_in : Reading) (old : Wr
       no_output = λ early. refl;
       of_domain = inl ((asked, refl), (refusal.NoMemory, refl));
     };
+    unread = λ told none. unread;
     drained = λ done told. absurd done;
     kept_in = kept;
     kept_out = λ told. KeepsOutputs-same old old refl;
@@ -70,6 +75,7 @@ module _ (tells : Bool) (files : AuditNames) (old_in new_in : Reading) (old : Wr
       no_output = λ early. refl;
       of_domain = inr (domain, record { set = has; says = unfit; fit = inl (asked, refl) });
     };
+    unread = λ told none. unread;
     drained = λ done told. absurd done;
     kept_in = kept;
     kept_out = λ told. KeepsOutputs-same old old refl;
@@ -152,6 +158,7 @@ module _ (tells : Bool) (files : AuditNames) (old_in new_in : Reading) (old : Wr
       no_output = λ early. refl;
       of_domain = inl ((asked, refl), (why, refl));
     };
+    unread = λ told none. unread;
     drained = λ so told. absurd (done why so);
     kept_in = kept;
     kept_out = λ told. KeepsOutputs-same old old refl;

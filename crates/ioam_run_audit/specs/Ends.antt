@@ -17,7 +17,7 @@ use Rattle.ioam_topo.specs.declared.domain.Domain.{Domain}
 use Rattle.ioam_run_audit.specs.Fit.{Place}
 use Rattle.ioam_run_audit.specs.Lanes.{EndsBy}
 use Rattle.ioam_run_audit.specs.Lines.{report_of, sums_of, verdict_line, verdict_of}
-use Rattle.ioam_run_audit.specs.Pairs.{Over, ReadsTwo, Start}
+use Rattle.ioam_run_audit.specs.Pairs.{AreUnread, Over, ReadsTwo, Start}
 use Rattle.ioam_run_audit.specs.Promise.{AreTaken, AuditNames, IsAt, IsTwice, IsUnfit, audit_files}
 use Rattle.ioam_run_audit.specs.Runs.{IsBehind, IsJudged, IsTold, Matched, answer_of, left_of}
 use Rattle.ioam_run_audit.specs.declared.counts.Counts.{Counts}
@@ -111,6 +111,7 @@ module _ (tells : Bool) (start : Start) (place : Place) where
     pub two : ReadsTwo first second old_in new_in
     pub asked : AsksFront old_out.side.asked new_out.side.asked (start.report ∷ [])
     pub all : IsBehindAll ⊥ answer → new_out.side.asked ≡ old_out.side.asked ++ start.report ∷ []
+    pub unread : new_out.side.slots ≡ old_out.side.slots → new_in ≡ old_in
     pub kept : IsTrue tells → KeepsOutputs old_out new_out
 
 -- one of the captures couldn't be opened
@@ -132,6 +133,8 @@ module _ (tells : Bool) (place : Place) (before after report : List ℕ) (old_in
     pub asked_in : AsksFront old_in.side.asked new_in.side.asked (before ∷ after ∷ [])
     pub asked_out : AsksFront old.side.asked new.side.asked (report ∷ [])
     pub all_out : IsBehindAll ⊥ answer → new.side.asked ≡ old.side.asked ++ report ∷ []
+    pub unread : IsTrue tells → new.side.slots ≡ old.side.slots
+        → AreUnread new_in (holds old before) (holds old after) old_in.side.slots (old_in.side.slots + 1)
     pub kept_in : KeepsInputs old_in new_in
     pub kept_out : IsTrue tells → KeepsOutputs old new
 

@@ -1,5 +1,5 @@
 -- The two captures, read side by side: what became of the packets of BEFORE that were taken, by those of AFTER.
-use Rattle.std.specs.Prelude.{◌≡◌, ⊤, ℕ, ◌+◌, Bool, List, [], ◌∷◌, ◌++◌, Option, Some, None, slice_get}
+use Rattle.std.specs.Prelude.{◌≡◌, ⊤, ℕ, ◌+◌, ◌<◌, Bool, List, [], ◌∷◌, ◌++◌, Option, Some, None, slice_get}
 use Rattle.ioam_audit.specs.Sent.{IsSentAs, end_of}
 use Rattle.ioam_desk.specs.Desk as desk
 use Rattle.ioam_desk.specs.Desk.{Writing}
@@ -152,3 +152,8 @@ pub record ReadsTwo (first second : ℕ) (old new : desk.Reading) : Type 0 where
   pub slots : new.side.slots ≡ old.side.slots
   pub left : (k : ℕ) → (k ≡ first → ⊥) → (k ≡ second → ⊥) → new.left k ≡ old.left k
   pub ended : (k : ℕ) → (k ≡ first → ⊥) → (k ≡ second → ⊥) → new.ended k ≡ old.ended k
+
+-- of what these hold nothing was read, each as far as it was opened, by this slot
+abbrev pub AreUnread : desk.Reading → Option (List ℕ) → Option (List ℕ) → ℕ → ℕ → Type 0
+AreUnread inputs before after first second = (first < inputs.side.slots → before ≡ Some (inputs.left first))
+    × (second < inputs.side.slots → after ≡ Some (inputs.left second))

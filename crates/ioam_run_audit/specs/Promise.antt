@@ -292,6 +292,10 @@ module _ (tells : Bool) (files : AuditNames) (old_in new_in : Reading) (old new 
     pub cause : IsTrue tells → HasCause files old_in new_in old new answer
     pub leaves : IsTrue tells → Leaves files old_in new_in old new answer
     pub asks : Asks answer
+    -- nothing of BEFORE and of AFTER is read before REPORT is opened
+    pub unread : IsTrue tells → new.side.slots ≡ old.side.slots
+        → (old_in.side.slots + 1 < new_in.side.slots → holds old files.before ≡ Some (new_in.left (old_in.side.slots + 1)))
+        × (old_in.side.slots + 2 < new_in.side.slots → holds old files.after ≡ Some (new_in.left (old_in.side.slots + 2)))
     pub drained : IsDone answer → IsTrue tells → AreDrained files old_in new_in old new
     pub kept_in : KeepsInputs old_in new_in
     pub kept_out : IsTrue tells → KeepsOutputs old new

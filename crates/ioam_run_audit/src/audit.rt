@@ -25,8 +25,9 @@ use std::alloc::Global;
 /// pre-allocated trace of the outer Hop-by-Hop Options header what a node may add (RFC 9197 section 4.4, RFC 9486 section 3). Its
 /// verdict is whether each packet of AFTER is one of BEFORE, in their order.
 ///
-/// DOMAIN is read first; then NODE, LINK and two files of one name are refused; then BEFORE and AFTER are opened, and then REPORT.
-/// Up to 16,777,216 packets of each capture are taken. What is wrong with BEFORE is answered before what is wrong with AFTER.
+/// DOMAIN is read first; then NODE, LINK and two files of one name are refused; then BEFORE and AFTER are opened, then REPORT, and
+/// only then anything of the two captures is read. Up to 16,777,216 packets of each are taken. What is wrong with BEFORE is answered
+/// before what is wrong with AFTER.
 pub fn run_audit<D: Desk>(alloc: Global, files: &AuditFiles<'_>, desk: &mut D) -> Outcome
     ensures keeps { Keeps (around D.tells (D.reading desk.old) (D.reading desk.new) (D.writing desk.old) (D.writing desk.new)) files.now result }
 {

@@ -14,7 +14,7 @@ use ioam_run_answer::Outcome;
 use std::alloc::Global;
 use std::slice;
 
-// Opens REPORT, and compares the two captures that were opened.
+// Opens REPORT, and compares the two captures that were opened, of which nothing was read.
 fn run_pair<D: Desk>(
     alloc: Global,
     before: &Name,

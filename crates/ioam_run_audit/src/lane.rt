@@ -82,7 +82,8 @@ impl Lane {
     /// The next record of the capture, of which pieces are read until it is known, of 65,536 octets at most; its packet is
     /// held in place of the one before. No more than 16,777,216 records are taken. After `Over` it isn't asked again.
     ///
-    /// `Failed`: a read failed, and the desk's count of faults rose; all records were taken that are whole in what was handed out.
+    /// `Failed`: a read failed, and the desk's count of faults rose; the capture hasn't ended, and all records were taken that are
+    /// whole in what was handed out.
     pub(crate) fn next<D: Desk>(
         &mut self,
         desk: &mut D,

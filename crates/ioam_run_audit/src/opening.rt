@@ -1,11 +1,11 @@
 //! The two captures, opened.
-ghost use Rattle.std.specs.Prelude.{◌≡◌, ◌+◌, ◌≤◌, ◌∷◌, [], IfErr, IfOk, OnErr, OnOk};
+ghost use Rattle.std.specs.Prelude.{◌≡◌, ◌+◌, ◌≤◌, ◌∷◌, [], IfErr, IfOk, IsTrue, OnErr, OnOk};
 ghost use Rattle.ioam_desk.specs.Asked.{AsksFront, IsFaultOf};
 ghost use Rattle.ioam_desk.specs.Desk.{OpensInput, holds, opened_each};
 ghost use Rattle.ioam_desk.specs.Kept.{KeepsInputs};
 ghost use Rattle.ioam_run_audit.specs.Fit.{Place};
 ghost use Rattle.ioam_run_audit.specs.Lanes.{AtLane};
-ghost use Rattle.ioam_run_audit.specs.Pairs.{Pairs, Start};
+ghost use Rattle.ioam_run_audit.specs.Pairs.{AreUnread, Pairs, Start};
 
 use crate::counts::Counts;
 use crate::lane::Lane;
@@ -36,7 +36,7 @@ fn open_lane<D: Desk>(alloc: Global, desk: &mut D, name: &Name) -> Result<Lane, 
     }
 }
 
-/// Opens BEFORE, and then AFTER. No record of either was taken.
+/// Opens BEFORE, and then AFTER. Nothing of either was read.
 ///
 /// `Failed`: one couldn't be opened, and the desk's count of faults rose.
 pub(crate) fn open_pair<D: Desk>(
@@ -51,6 +51,8 @@ pub(crate) fn open_pair<D: Desk>(
     ensures second { IfOk result (λ pair. pair.after.feed.slot ≡ (D.reading desk.old).side.slots + 1) }
     ensures side { OnOk result ((D.reading desk.new).side ≡ opened_each (D.reading desk.old).side (before.now ∷ after.now ∷ [])) }
     ensures few { OnErr result ((D.reading desk.new).side.slots ≤ (D.reading desk.old).side.slots + 1) }
+    ensures unread { IsTrue D.tells → AreUnread (D.reading desk.new) (holds (D.writing desk.old) before.now) (holds (D.writing desk.old) after.now)
+        (D.reading desk.old).side.slots ((D.reading desk.old).side.slots + 1) }
     ensures asked { AsksFront (D.reading desk.old).side.asked (D.reading desk.new).side.asked (before.now ∷ after.now ∷ []) }
     ensures kept { KeepsInputs (D.reading desk.old) (D.reading desk.new) }
     ensures cause { IfErr result (IsFaultOf (D.reading desk.old).side (D.reading desk.new).side) }

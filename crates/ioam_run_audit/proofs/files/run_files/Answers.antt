@@ -13,7 +13,7 @@ returns-in-Ok-open_pair g c =
           (g.D.Desk.reading c.open_pair.new.desk) (g.D.Desk.writing c.open_pair.new.desk)
           (start_of (g.D.Desk.writing c.open_pair.new.desk) c.args.before.now c.args.after.now c.args.report.now)
           c.in-Ok-open_pair.pair.before.feed.slot c.in-Ok-open_pair.pair.after.feed.slot c.run_pair.result c.in-Ok-open_pair.ensures.side c.in-Ok-open_pair.ensures.kept
-          c.in-Ok-open_pair.ensures.outputs
+          c.in-Ok-open_pair.ensures.unread c.in-Ok-open_pair.ensures.outputs
           (ap (λ (w : Writing). start_of w c.args.before.now c.args.after.now c.args.report.now) c.in-Ok-open_pair.ensures.outputs)
           c.in-Ok-open_pair.ensures.first c.in-Ok-open_pair.ensures.second c.run_pair.ensures.runs;
     }
