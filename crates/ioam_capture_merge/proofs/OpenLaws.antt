@@ -1,11 +1,13 @@
 -- Captures that are opened one behind the other, of which nothing was taken.
-use Rattle.std.proofs.Common.{◌≡◌, ℕ, zero, suc, ◌+◌, ◌<◌, ◌≤◌, ◌⊎◌, Bool, false, List, [], ◌∷◌, ◌++◌, length, Option, Some, arith, refl, sym, ap, ◌∙◌, subst, inl, inr, length-append, take, get_or, append-nil, append_assoc}
-use Rattle.std.specs.Prelude.{map, slice_get, Err}
+use Rattle.std.proofs.Common.{◌≡◌, ℕ, zero, suc, ◌+◌, ◌-◌, ◌<◌, ◌≤◌, ◌⊎◌, Bool, IsTrue, false, List, [], ◌∷◌, ◌++◌, length, Option, Some, arith, refl, sym, ap, ◌∙◌, subst, inl, inr, length-append, length-take, take, get_or, append-nil, append_assoc}
+use Rattle.std.specs.Prelude.{map, option_map, slice_get, Err}
+use Rattle.std.proofs.lemmas.Bool.{cases_lt}
 use Rattle.std.proofs.lemmas.List.{take_more}
-use Rattle.std.proofs.lemmas.Option.{none-some, same_Some}
+use Rattle.std.proofs.lemmas.Option.{none-some, same_Some, slice_get-map, slice_get_read}
 use Rattle.ioam_desk.specs.Desk as desk
 use Rattle.ioam_desk.specs.Asked.{AsksFront}
 use Rattle.ioam_desk.specs.Desk.{Side, Writing, OpensInput, OpenIn, holds, opened_side, opened_each}
+use Rattle.ioam_desk.specs.Unread.{Unread}
 use Rattle.ioam_desk.specs.declared.fault.DeskFault.{DeskFault}
 use Rattle.ioam_desk.specs.declared.fault.DeskFault.TheVariants.{Failed, NoMemory}
 use Rattle.ioam_capture_merge.specs.Feed.{Fed}
@@ -13,7 +15,7 @@ use Rattle.ioam_capture.specs.Arrives.{Handed}
 use Rattle.ioam_capture.specs.Reading.{Reading, fresh, pending, most_held}
 use Rattle.ioam_capture.specs.declared.turns.Due.TheVariants.{More}
 use Rattle.ioam_capture.proofs.ArrivesLaws.{Arrives-total}
-use Rattle.ioam_capture_merge.specs.Merging.{Begins, EndsKept, Start, Row, IsRow, Merging, with_content, start_of, slot_of}
+use Rattle.ioam_capture_merge.specs.Merging.{AreUnread, Begins, EndsKept, Start, Row, IsRow, Merging, with_content, start_of, slot_of}
 use Rattle.ioam_capture_merge.specs.declared.capture.Capture.{Capture}
 use Rattle.ioam_capture_merge.specs.declared.merge.Merge.{Merge}
 use Rattle.ioam_capture_merge.proofs.MergingLaws.{Lane-other, map_length, same_slot}
@@ -159,3 +161,48 @@ failing_kept tells old new held name NoMemory fails = λ k below. ap (λ (r : de
 
 pub kept_on : (base : ℕ) (a b c : desk.Reading) → base ≤ b.side.slots → EndsKept base a b → EndsKept b.side.slots b c → EndsKept base a c
 kept_on base a b c inside first second = λ k below. second k (omega (arith, below, inside)) ∙ first k below
+
+-- an opening reads nothing, whatever it answers
+pub opening_unread : (tells : Bool) (old new : desk.Reading) (outputs : Writing) (name : List ℕ) (slot : ℕ) → OpensInput tells old new (holds outputs name) name slot
+    → IsTrue tells → AreUnread (start_of old.side.slots outputs (name ∷ [])) new
+opening_unread tells old new outputs name slot opens told = λ k below. unread_at k below
+  where
+    unread_at : (k : ℕ) → old.side.slots + k < new.side.slots → slice_get (holds outputs name ∷ []) k ≡ Some (Some (new.left (old.side.slots + k)))
+    unread_at zero below =
+        let at : slot ≡ old.side.slots + 0 = omega (arith, opens.number) in
+        ap Some (opens.left told) ∙ ap (λ (n : ℕ). Some (Some (new.left n))) at
+    unread_at (suc k) below = absurd (omega (arith, below, ap (λ (s : Side). s.slots) opens.side))
+
+pub failing_unread : (tells : Bool) (old new : desk.Reading) (outputs : Writing) (name : List ℕ) (fault : DeskFault) → OpenIn tells old (holds outputs name) name (Err fault) new
+    → AreUnread (start_of old.side.slots outputs (name ∷ [])) new
+failing_unread tells old new outputs name Failed fails = λ k below. absurd (omega (arith, below, fails.0.slots))
+failing_unread tells old new outputs name NoMemory fails = λ k below. absurd (omega (arith, below, ap (λ (r : desk.Reading). r.side.slots) fails))
+
+-- nothing was read of those before, and nothing of the next
+pub unread_more : (outputs : Writing) (names : List (List ℕ)) (i : ℕ) (name : List ℕ) (start before after : desk.Reading) → i < length names → name ≡ get_or names i name
+    → before.side ≡ opened_each start.side (take i names) → AreUnread (start_of start.side.slots outputs names) before
+    → AreUnread (start_of before.side.slots outputs (name ∷ [])) after → EndsKept before.side.slots before after
+    → AreUnread (start_of start.side.slots outputs names) after
+unread_more outputs names i name start before after inside is side was opened kept = λ k below. unread_at k below (cases_lt (start.side.slots + k) before.side.slots)
+  where
+    IsUnread : ℕ → Type 0
+    IsUnread k = slice_get (map (holds outputs) names) k ≡ Some (Some (after.left (start.side.slots + k)))
+
+    many : before.side.slots ≡ start.side.slots + i
+    many = omega (arith, inside, ap (λ (s : Side). s.slots) side, length-take i names)
+
+    -- by the place behind those before
+    last : (j k : ℕ) → before.side.slots + j ≡ start.side.slots + k → before.side.slots + j < after.side.slots → IsUnread k
+    last zero k same below =
+        let here : i ≡ k = omega (arith, same, many) in
+        let found : slice_get names i ≡ Some name = slice_get_read names (length names) i name refl inside is in
+        slice_get-map (holds outputs) names k
+        ∙ ap (λ (o : Option (List ℕ)). option_map (holds outputs) o) (subst (λ (n : ℕ). slice_get names n ≡ Some name) here found)
+        ∙ opened zero below ∙ ap (λ (n : ℕ). Some (Some (after.left n))) same
+    last (suc j) k same below = absurd (none-some (Some (after.left (before.side.slots + suc j))) (opened (suc j) below))
+
+    unread_at : (k : ℕ) → start.side.slots + k < after.side.slots → ((start.side.slots + k < before.side.slots) ⊎ (before.side.slots ≤ start.side.slots + k)) → IsUnread k
+    unread_at k below (inl early) = was k early ∙ ap (λ (u : Unread). Some (Some u.left)) (sym (kept (start.side.slots + k) early))
+    unread_at k below (inr late) =
+        let same : before.side.slots + ((start.side.slots + k) - before.side.slots) ≡ start.side.slots + k = omega (arith, late) in
+        last ((start.side.slots + k) - before.side.slots) k same (omega (arith, below, late))

@@ -141,6 +141,10 @@ EndsKept base old new = (k : ℕ) → k < base → slot_of new k ≡ slot_of old
 abbrev pub HaveEnded : Start → desk.Reading → Type 0
 HaveEnded start new = (k : ℕ) → k < length start.contents → IsTrue (new.ended (start.base + k))
 
+-- of each capture that was opened nothing was read: all that its name holds is left
+abbrev pub AreUnread : Start → desk.Reading → Type 0
+AreUnread start new = (k : ℕ) → start.base + k < new.side.slots → slice_get start.contents k ≡ Some (Some (new.left (start.base + k)))
+
 module _ (tells : Bool) (start : Start) (taken : List Arrival) (new : desk.Reading) (merge : Merge) where
   -- so far it is known what is due of so many captures
   abbrev pub Shows : ℕ → Result (Unit {0}) DeskFault → Type 0

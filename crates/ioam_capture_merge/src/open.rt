@@ -1,8 +1,8 @@
 //! Opening of several captures.
-ghost use Rattle.std.specs.Prelude.{◌≡◌, ◌+◌, ◌∷◌, [], IfErr, IfOk, OnOk, length, vec_len};
+ghost use Rattle.std.specs.Prelude.{◌≡◌, ◌+◌, ◌∷◌, [], IfErr, IfOk, IsTrue, OnOk, length, vec_len};
 ghost use Rattle.ioam_desk.specs.Asked.{AsksFront, IsFaultOf};
 ghost use Rattle.ioam_desk.specs.Desk.{holds, opened_side, opened_each};
-ghost use Rattle.ioam_capture_merge.specs.Merging.{Start, Merging, LeavesFewer, EndsKept, start_of, with_content};
+ghost use Rattle.ioam_capture_merge.specs.Merging.{Start, Merging, LeavesFewer, AreUnread, EndsKept, start_of, with_content};
 
 use crate::feed::open_feed;
 use crate::merge::Merge;
@@ -26,6 +26,7 @@ fn open_one<D: Desk>(
     ensures asked { AsksFront (D.reading desk.old).side.asked (D.reading desk.new).side.asked (name.now ∷ []) }
     ensures cause { IfErr result (IsFaultOf (D.reading desk.old).side (D.reading desk.new).side) }
     ensures fewer { IfErr result (λ fault. LeavesFewer fault (D.reading desk.new).side.slots ((D.reading desk.old).side.slots + 1)) }
+    ensures unread { IsTrue D.tells → AreUnread (start_of (D.reading desk.old).side.slots (D.writing desk.old) (name.now ∷ [])) (D.reading desk.new) }
     ensures outputs { D.writing desk.new ≡ D.writing desk.old }
     ensures below { EndsKept (D.reading desk.old).side.slots (D.reading desk.old) (D.reading desk.new) }
 {
@@ -36,10 +37,10 @@ fn open_one<D: Desk>(
     }
 }
 
-/// Opens a capture for each of these names, in their order. Nothing is taken of them yet.
+/// Opens a capture for each of these names, in their order. Nothing of them is read yet.
 ///
 /// Where a name can't be opened (`Failed`), or no memory can be had, the names behind it are not
-/// opened.
+/// opened, and nothing was read of those before it.
 pub fn open_merge<D: Desk>(alloc: Global, desk: &mut D, names: &[Name]) -> Result<Merge, DeskFault>
     ensures opened { IfOk result (λ merge. Merging D.tells
         (start_of (D.reading desk.old).side.slots (D.writing desk.old) names.now) (D.reading desk.new) merge []) }
@@ -47,6 +48,7 @@ pub fn open_merge<D: Desk>(alloc: Global, desk: &mut D, names: &[Name]) -> Resul
     ensures asked { AsksFront (D.reading desk.old).side.asked (D.reading desk.new).side.asked names.now }
     ensures cause { IfErr result (IsFaultOf (D.reading desk.old).side (D.reading desk.new).side) }
     ensures fewer { IfErr result (λ fault. LeavesFewer fault (D.reading desk.new).side.slots ((D.reading desk.old).side.slots + length names.now)) }
+    ensures unread { IsTrue D.tells → AreUnread (start_of (D.reading desk.old).side.slots (D.writing desk.old) names.now) (D.reading desk.new) }
     ensures outputs { D.writing desk.new ≡ D.writing desk.old }
     ensures below { EndsKept (D.reading desk.old).side.slots (D.reading desk.old) (D.reading desk.new) }
 {

@@ -1,12 +1,12 @@
 -- What a run promises for each of its answers: where it isn't set, and where its traffic ended.
-use Rattle.std.proofs.Common.{◌≡◌, ℕ, ◌+◌, ◌<◌, ◌⊎◌, Bool, IsTrue, List, [], ◌∷◌, ◌++◌, refl, sym, ◌∙◌, ap, subst, inl, inr, ⊎_elim, append_assoc, arith}
+use Rattle.std.proofs.Common.{◌≡◌, ℕ, ◌+◌, ◌<◌, ◌⊎◌, Bool, IsTrue, List, [], ◌∷◌, ◌++◌, length, refl, sym, ◌∙◌, ap, subst, inl, inr, ⊎_elim, append_assoc, arith}
 use Rattle.ioam_clock.specs.declared.sample.Sample.{Sample}
 use Rattle.ioam_desk.specs.Asked.{AsksFront}
 use Rattle.ioam_desk.specs.Desk.{Side, Reading, Writing, Rose, opened_each}
 use Rattle.ioam_desk.specs.Kept.{KeepsInputs, KeepsOutputs}
 use Rattle.ioam_desk.specs.Unread.{Unread}
 use Rattle.ioam_desk.proofs.KeptLaws.{KeepsInputs-then, KeepsOutputs-same}
-use Rattle.ioam_run_traffic.specs.Merging.{EndsKept}
+use Rattle.ioam_run_traffic.specs.Merging.{AreUnread, EndsKept, start_of}
 use Rattle.ioam_desk_outputs.specs.Names.{AreApart}
 use Rattle.ioam_run_files.specs.Desks.{around}
 use Rattle.ioam_run_files.specs.Outcomes.{IsDone, IsBehindAll}
@@ -170,6 +170,16 @@ module _ (opens tells : Bool) (files : RunNames) (old_in mid_in new_in : Reading
     omega (arith, all.1, ap (λ (s : Side). s.slots) opened),
   )
 
+  -- and nothing was read of them, counted from where DOMAIN is opened
+  ended-unread : (IsTrue tells → new.side.slots < mid.side.slots + length (run_outputs files domain)
+      → AreUnread (start_of mid_in.side.slots mid (run_inputs domain)) new_in)
+      → IsTrue tells → new.side.slots < old.side.slots + length (run_outputs files domain)
+      → AreUnread (start_of (old_in.side.slots + 2) old (run_inputs domain)) new_in
+  ended-unread unread told few =
+      let P : Writing → Type 0 = λ w. AreUnread (start_of mid_in.side.slots w (run_inputs domain)) new_in in
+      let Q : ℕ → Type 0 = λ n. AreUnread (start_of n old (run_inputs domain)) new_in in
+      subst Q (ap (λ (s : Side). s.slots) opened) (subst P same (unread told (omega (arith, few, ap (λ (w : Writing). w.side.slots) same))))
+
   none_asked : new_in ≡ mid_in → AsksFront old_in.side.asked new_in.side.asked (files.domain ∷ files.readings ∷ [])
   none_asked still = asks_both old_in.side.asked new_in.side.asked files.domain files.readings
       (ap (λ (r : Reading). r.side.asked) still ∙ ap (λ (s : Side). s.asked) opened)
@@ -191,7 +201,9 @@ module _ (opens tells : Bool) (files : RunNames) (old_in mid_in new_in : Reading
 
     module _ (all_in : IsBehindAll ⊥ answer → AllOpened mid_in.side new_in.side (run_inputs domain))
         (all_out : IsBehindAll ⊥ answer → AreApart (run_files files domain) × (new.side.asked ≡ mid.side.asked ++ run_outputs files domain))
-        (first : (new ≡ mid) ⊎ AllOpened mid_in.side new_in.side (run_inputs domain)) where
+        (first : (new ≡ mid) ⊎ AllOpened mid_in.side new_in.side (run_inputs domain))
+        (unread : IsTrue tells → new.side.slots < mid.side.slots + length (run_outputs files domain)
+        → AreUnread (start_of mid_in.side.slots mid (run_inputs domain)) new_in) where
       ended-all_out : IsBehindAll ⊥ answer → new.side.asked ≡ old.side.asked ++ run_outputs files domain
       ended-all_out all = let P : Writing → Type 0 = λ w. new.side.asked ≡ w.side.asked ++ run_outputs files domain in subst P same (all_out all).1
 
@@ -205,6 +217,7 @@ module _ (opens tells : Bool) (files : RunNames) (old_in mid_in new_in : Reading
           asked_in = front_in;
           asked_out = front_out;
           inputs_first = ⊎_elim (λ still. inl (still ∙ same)) (λ all. inr (all_read all)) first;
+          unread = ended-unread unread;
           all_in = λ all. all_read (all_in all);
           all_out = ended-all_out;
         },
@@ -233,6 +246,8 @@ module _ (opens tells : Bool) (files : RunNames) (old_in mid_in new_in : Reading
       (all_in : IsBehindAll ⊥ answer → AllOpened mid_in.side new_in.side (run_inputs domain))
       (all_out : IsBehindAll ⊥ answer → AreApart (run_files files domain) × (new.side.asked ≡ mid.side.asked ++ run_outputs files domain))
       (first : (new ≡ mid) ⊎ AllOpened mid_in.side new_in.side (run_inputs domain))
+      (unread : IsTrue tells → new.side.slots < mid.side.slots + length (run_outputs files domain)
+      → AreUnread (start_of mid_in.side.slots mid (run_inputs domain)) new_in)
       (kept_in : KeepsInputs old_in mid_in) (kept_out : IsTrue tells → KeepsOutputs mid new) where
     pub ended-keeps : Keeps opens (around tells old_in new_in old new) files answer
     ended-keeps = record {
@@ -244,7 +259,7 @@ module _ (opens tells : Bool) (files : RunNames) (old_in mid_in new_in : Reading
       leaves = ended-leaves;
       exact = ended-exact;
       domain_first = λ fault so. absurd (subst (λ (a : Outcome). Ends opens tells files domain readings mid_in new_in old new a) so ends);
-      asks = ended-asks asked_in asked_out all_in all_out first;
+      asks = ended-asks asked_in asked_out all_in all_out first unread;
       no_output = ended-no_output first;
       untouched = ended-untouched;
       drained = ended-drained both kept;

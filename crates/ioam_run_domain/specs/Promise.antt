@@ -9,7 +9,7 @@ use Rattle.ioam_desk.specs.Kept.{KeepsInputs, KeepsOutputs}
 use Rattle.ioam_run_traffic.specs.Fate.{Fate, AreFates}
 use Rattle.ioam_run_traffic.specs.Texts.{out_text, tap_text, report_text, exports_text}
 use Rattle.ioam_run_traffic.specs.Clean.{MayLeave}
-use Rattle.ioam_run_traffic.specs.Merging.{FilesArrive, FilesBegin, PartsArrive, start_of}
+use Rattle.ioam_run_traffic.specs.Merging.{AreUnread, FilesArrive, FilesBegin, PartsArrive, start_of}
 use Rattle.ioam_desk_outputs.specs.Names.{name_at, AreApart, IsFirstRepeat}
 use Rattle.ioam_run_traffic.specs.Merge.{Arrival}
 use Rattle.ioam_run_traffic.specs.Text.{IsCaptureOf}
@@ -239,7 +239,8 @@ module _ (tells : Bool) (files : RunNames) (old_in new_in : Reading) (old new : 
   -- captures of the ports that are read, or a front of these; those given to the opening of outputs
   -- the captures of the ports that are written, those of the taps, REPORT and EXPORTS, or a front. An
   -- output was opened only where all inputs had been; none of the captures and outputs, unless all
-  -- files differ.
+  -- files differ. Where the desk tells nothing was read of a capture before all outputs were opened:
+  -- the captures' slots are those behind that of READINGS.
   pub record AsksOf (answer : Outcome) (domain : Domain) : Type 0 where
     pub set : IsTrue tells → (readings : List (List Sample)) × IsSet old files domain readings
     pub says : Says files domain answer
@@ -247,6 +248,8 @@ module _ (tells : Bool) (files : RunNames) (old_in new_in : Reading) (old new : 
     pub asked_in : AsksFront old_in.side.asked new_in.side.asked (files.domain ∷ files.readings ∷ run_inputs domain)
     pub asked_out : AsksFront old.side.asked new.side.asked (run_outputs files domain)
     pub inputs_first : (new ≡ old) ⊎ OpensInputs domain
+    pub unread : IsTrue tells → new.side.slots < old.side.slots + length (run_outputs files domain)
+        → AreUnread (start_of (old_in.side.slots + 2) old (run_inputs domain)) new_in
     pub all_in : IsBehindAll ⊥ answer → OpensInputs domain
     pub all_out : IsBehindAll ⊥ answer → new.side.asked ≡ old.side.asked ++ run_outputs files domain
 

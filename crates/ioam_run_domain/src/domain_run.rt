@@ -1,9 +1,9 @@
 //! `run DOMAIN READINGS WORKERS REPORT EXPORTS`.
-ghost use Rattle.std.specs.Prelude.{◌≡◌, ◌+◌, ◌≤◌, ◌⊎◌, ◌∷◌, ◌++◌, [], IsTrue, Err, IfOk, IfErr, OnOk, length};
+ghost use Rattle.std.specs.Prelude.{◌≡◌, ◌+◌, ◌<◌, ◌≤◌, ◌⊎◌, ◌∷◌, ◌++◌, [], IsTrue, Err, IfOk, IfErr, OnOk, length};
 ghost use Rattle.ioam_desk.specs.Asked.{AsksFront};
 ghost use Rattle.ioam_desk.specs.Desk.{opened_each};
 ghost use Rattle.ioam_desk.specs.Kept.{KeepsInputs, KeepsOutputs};
-ghost use Rattle.ioam_run_traffic.specs.Merging.{EndsKept};
+ghost use Rattle.ioam_run_traffic.specs.Merging.{AreUnread, EndsKept, start_of};
 ghost use Rattle.ioam_desk_outputs.specs.Names.{AreApart};
 ghost use Rattle.ioam_run_files.specs.Desks.{around};
 ghost use Rattle.ioam_run_files.specs.Outcomes.{IsBehindAll};
@@ -39,7 +39,8 @@ use std::thread::Threads;
 ///
 /// Packets are sent on their ways by so many workers, 1 to 64; the files are the same whatever their
 /// number. DOMAIN is read first, then READINGS; then two files of one name are refused; then the
-/// captures are opened, and then the outputs: the ports' captures, the taps', REPORT and EXPORTS.
+/// captures are opened, and then the outputs: the ports' captures, the taps', REPORT and EXPORTS. Only
+/// then are the captures read.
 pub fn run_domain<R: Threads + Sync, D: Desk, G: Gate>(
     rt: &R,
     alloc: Global,
@@ -131,6 +132,8 @@ fn run_set<R: Threads + Sync, D: Desk, G: Gate>(
         × ((D.writing desk.new).side.asked ≡ (D.writing desk.old).side.asked ++ run_outputs files.now domain.now) }
     ensures inputs_first { (D.writing desk.new ≡ D.writing desk.old)
         ⊎ AllOpened (D.reading desk.old).side (D.reading desk.new).side (run_inputs domain.now) }
+    ensures unread { IsTrue D.tells → (D.writing desk.new).side.slots < (D.writing desk.old).side.slots + length (run_outputs files.now domain.now)
+        → AreUnread (start_of (D.reading desk.old).side.slots (D.writing desk.old) (run_inputs domain.now)) (D.reading desk.new) }
     ensures kept { EndsKept (D.reading desk.old).side.slots (D.reading desk.old) (D.reading desk.new) }
     ensures kept_out { IsTrue D.tells → KeepsOutputs (D.writing desk.old) (D.writing desk.new) }
 {
@@ -165,6 +168,8 @@ fn run_apart<R: Threads + Sync, D: Desk, G: Gate>(
     ensures all_out { IsBehindAll ⊥ result → (D.writing desk.new).side.asked ≡ (D.writing desk.old).side.asked ++ run_outputs files.now domain.now }
     ensures inputs_first { (D.writing desk.new ≡ D.writing desk.old)
         ⊎ AllOpened (D.reading desk.old).side (D.reading desk.new).side (run_inputs domain.now) }
+    ensures unread { IsTrue D.tells → (D.writing desk.new).side.slots < (D.writing desk.old).side.slots + length (run_outputs files.now domain.now)
+        → AreUnread (start_of (D.reading desk.old).side.slots (D.writing desk.old) (run_inputs domain.now)) (D.reading desk.new) }
     ensures kept { EndsKept (D.reading desk.old).side.slots (D.reading desk.old) (D.reading desk.new) }
     ensures kept_out { IsTrue D.tells → KeepsOutputs (D.writing desk.old) (D.writing desk.new) }
 {

@@ -1,8 +1,8 @@
 //! The traffic of a domain: its files, and how it ends.
-ghost use Rattle.std.specs.Prelude.{◌≡◌, ◌↔◌, ◌⊎◌, ◌<◌, ◌≤◌, ◌++◌, [], All, IsTrue, length};
+ghost use Rattle.std.specs.Prelude.{◌≡◌, ◌↔◌, ◌⊎◌, ◌+◌, ◌<◌, ◌≤◌, ◌++◌, [], All, IsTrue, length};
 ghost use Rattle.ioam_desk.specs.Asked.{AsksFront};
 ghost use Rattle.ioam_desk.specs.Kept.{KeepsOutputs, WritesFrom};
-ghost use Rattle.ioam_capture_merge.specs.Merging.{EndsKept, Merging};
+ghost use Rattle.ioam_capture_merge.specs.Merging.{AreUnread, EndsKept, Merging, start_of};
 ghost use Rattle.ioam_run_arrivals.specs.Outlets.{outlet_count};
 ghost use Rattle.ioam_desk_outputs.specs.Names.{AreApart};
 ghost use Rattle.ioam_desk_outputs.specs.Told.{AreTold, GathersNothing, unsaid};
@@ -31,11 +31,11 @@ use std::thread::Threads;
 /// merged by time; of equal times the first in this order comes first. `readings` are those of the
 /// domain's nodes. `outputs` are the names of the outputs: the captures of what leaves by each port of
 /// the domain and of what crosses each link with a tap, in file order, the report and the exports.
-/// First all captures are opened, then all outputs. The captures are read in pieces. Arrivals wait in
-/// batches, which so many `workers` run, each asking `gate` before its jobs; what a batch leaves is told
-/// the outputs in the order of arrival, and written in pieces. All that waits is run, told and written
-/// also before a faulty capture, a failing read or the domain's limit ends the traffic. Where the gate
-/// may stay shut nothing is said of what the outputs hold.
+/// First all captures are opened, then all outputs, and only then are the captures read, in pieces.
+/// Arrivals wait in batches, which so many `workers` run, each asking `gate` before its jobs; what a batch
+/// leaves is told the outputs in the order of arrival, and written in pieces. All that waits is run, told
+/// and written also before a faulty capture, a failing read or the domain's limit ends the traffic. Where
+/// the gate may stay shut nothing is said of what the outputs hold.
 pub fn run_traffic<R: Threads + Sync, D: Desk, G: Gate>(
     rt: &R,
     alloc: Global,
@@ -60,6 +60,8 @@ pub fn run_traffic<R: Threads + Sync, D: Desk, G: Gate>(
     ensures all_in { IsEnd result → AllOpened (D.reading desk.old).side (D.reading desk.new).side inputs.now }
     ensures all_out { IsEnd result → (D.writing desk.new).side.asked ≡ (D.writing desk.old).side.asked ++ outputs.now }
     ensures inputs_first { (D.writing desk.new ≡ D.writing desk.old) ⊎ AllOpened (D.reading desk.old).side (D.reading desk.new).side inputs.now }
+    ensures unread { IsTrue D.tells → (D.writing desk.new).side.slots < (D.writing desk.old).side.slots + length outputs.now
+        → AreUnread (start_of (D.reading desk.old).side.slots (D.writing desk.old) inputs.now) (D.reading desk.new) }
     ensures kept { EndsKept (D.reading desk.old).side.slots (D.reading desk.old) (D.reading desk.new) }
     ensures kept_out { IsTrue D.tells → KeepsOutputs (D.writing desk.old) (D.writing desk.new) }
 {
@@ -96,6 +98,8 @@ fn run_files<R: Threads + Sync, D: Desk, G: Gate>(
     ensures all_in { IsEnd result → AllOpened (D.reading desk.old).side (D.reading desk.new).side inputs.now }
     ensures all_out { IsEnd result → (D.writing desk.new).side.asked ≡ (D.writing desk.old).side.asked ++ outputs.now }
     ensures inputs_first { (D.writing desk.new ≡ D.writing desk.old) ⊎ AllOpened (D.reading desk.old).side (D.reading desk.new).side inputs.now }
+    ensures unread { IsTrue D.tells → (D.writing desk.new).side.slots < (D.writing desk.old).side.slots + length outputs.now
+        → AreUnread (start_of (D.reading desk.old).side.slots (D.writing desk.old) inputs.now) (D.reading desk.new) }
     ensures kept { EndsKept (D.reading desk.old).side.slots (D.reading desk.old) (D.reading desk.new) }
     ensures kept_out { IsTrue D.tells → KeepsOutputs (D.writing desk.old) (D.writing desk.new) }
 {

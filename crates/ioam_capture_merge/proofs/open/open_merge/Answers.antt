@@ -1,7 +1,7 @@
-use Rattle.std.proofs.Common.{◌≡◌, ◌<◌, ◌∙◌, ◌++◌, List, ℕ, length, append-nil, [], take, get_or, refl, sym, ap, subst, arith}
+use Rattle.std.proofs.Common.{◌≡◌, ◌<◌, ◌∙◌, ◌∷◌, ◌++◌, List, ℕ, length, append-nil, [], take, get_or, refl, sym, ap, subst, arith}
 use Rattle.ioam_desk.specs.Desk.{Side, Writing, holds, opened_each}
-use Rattle.ioam_capture_merge.specs.Merging.{Start, Merging, start_of, with_content}
-use Rattle.ioam_capture_merge.proofs.OpenLaws.{Merging-none, start_more, side_more, asks_more, kept_on}
+use Rattle.ioam_capture_merge.specs.Merging.{AreUnread, Start, Merging, start_of, with_content}
+use Rattle.ioam_capture_merge.proofs.OpenLaws.{Merging-none, start_more, side_more, asks_more, kept_on, unread_more}
 use Rattle.ioam_capture_merge.proofs.open.open_merge.Goals as goal
 
 pub names-init : goal.names-init
@@ -10,6 +10,7 @@ names-init g c = record {
       c.in-Ok.ensures.0 c.in-Ok.ensures.1 (omega (arith, c.in-Ok.ensures.2, c.in-Ok.merge.piece.ok.0));
   count = omega (arith, c.in-Ok.merge.captures.ok.0, ap length c.in-Ok.ensures.0);
   side = side_none (g.D.Desk.reading c.args.desk.now).side;
+  unread = λ told k below. absurd (omega (arith, below));
   below = λ k lt. refl;
   outputs = refl;
 }
@@ -38,11 +39,15 @@ names-preserved g c =
     let opened = c.in_ok-open_one.ensures.opened (start_of base writing (take i names)) c.names.invariant.merging c.names.invariant.count in
     let P : Writing → Type 0 = λ w. Merging g.D.Desk.tells (with_content (start_of base writing (take i names)) (holds w name)) (g.D.Desk.reading c.open_one.new.desk) c.open_one.new.merge [] in
     let Q : Start → Type 0 = λ s. Merging g.D.Desk.tells s (g.D.Desk.reading c.open_one.new.desk) c.open_one.new.merge [] in
+    let U : Writing → Type 0 = λ w. AreUnread (start_of (g.D.Desk.reading c.names.desk).side.slots w (name ∷ [])) (g.D.Desk.reading c.open_one.new.desk) in
     record {
       merging = subst Q (start_more base writing names i name inside is) (subst P c.names.invariant.outputs opened);
       count = omega (arith, c.names.invariant.count, c.in_ok-open_one.ensures.count, ap (λ (s : Side). s.slots) c.in_ok-open_one.ensures.side);
       side = side_more (g.D.Desk.reading c.args.desk.now).side (g.D.Desk.reading c.names.desk).side (g.D.Desk.reading c.open_one.new.desk).side names i name inside is
           c.names.invariant.side c.in_ok-open_one.ensures.side;
+      unread = λ told. unread_more writing names i name (g.D.Desk.reading c.args.desk.now) (g.D.Desk.reading c.names.desk) (g.D.Desk.reading c.open_one.new.desk)
+          inside is c.names.invariant.side (c.names.invariant.unread told) (subst U c.names.invariant.outputs (c.in_ok-open_one.ensures.unread told))
+          c.in_ok-open_one.ensures.below;
       below = kept_on base (g.D.Desk.reading c.args.desk.now) (g.D.Desk.reading c.names.desk) (g.D.Desk.reading c.open_one.new.desk)
           (omega (arith, c.names.invariant.count)) c.names.invariant.below c.in_ok-open_one.ensures.below;
       outputs = c.in_ok-open_one.ensures.outputs ∙ c.names.invariant.outputs;
@@ -51,3 +56,18 @@ names-preserved g c =
 pub returns-in_err-open_one-clause-below : goal.returns-in_err-open_one-clause-below
 returns-in_err-open_one-clause-below g c = kept_on (g.D.Desk.reading c.args.desk.now).side.slots (g.D.Desk.reading c.args.desk.now) (g.D.Desk.reading c.names.desk)
     (g.D.Desk.reading c.open_one.new.desk) (omega (arith, c.names.invariant.count)) c.names.invariant.below c.in_err-open_one.ensures.below
+
+pub returns-in_err-open_one-clause-unread : goal.returns-in_err-open_one-clause-unread
+returns-in_err-open_one-clause-unread g c = λ told.
+    let name = c.text.result.now in
+    let i = c.names.name-index in
+    let names = c.args.names.now in
+    let inside : i < length names = omega arith in
+    let is : name ≡ get_or names i name = subst (λ (x : List ℕ). x ≡ get_or names i x) (sym c.text.ensures) c.name-item.is in
+    let U : Writing → Type 0 = λ w. AreUnread (start_of (g.D.Desk.reading c.names.desk).side.slots w (name ∷ [])) (g.D.Desk.reading c.open_one.new.desk) in
+    unread_more (g.D.Desk.writing c.args.desk.now) names i name (g.D.Desk.reading c.args.desk.now) (g.D.Desk.reading c.names.desk) (g.D.Desk.reading c.open_one.new.desk)
+    inside is c.names.invariant.side (c.names.invariant.unread told) (subst U c.names.invariant.outputs (c.in_err-open_one.ensures.unread told))
+    c.in_err-open_one.ensures.below
+
+pub returns-in-Err-clause-unread : goal.returns-in-Err-clause-unread
+returns-in-Err-clause-unread g c = λ told k below. absurd (omega (arith, below))

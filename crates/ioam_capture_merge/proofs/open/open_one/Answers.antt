@@ -1,6 +1,6 @@
 use Rattle.std.proofs.Common.{refl, ap, length, arith, false}
 use Rattle.ioam_desk.specs.Desk.{holds}
-use Rattle.ioam_capture_merge.proofs.OpenLaws.{Merging-push, opening_kept, failing_kept}
+use Rattle.ioam_capture_merge.proofs.OpenLaws.{Merging-push, opening_kept, failing_kept, opening_unread, failing_unread}
 use Rattle.ioam_capture_merge.proofs.open.open_one.Goals as goal
 
 pub returns-in-Ok-clause-opened : goal.returns-in-Ok-clause-opened
@@ -21,3 +21,15 @@ returns-in-Err-clause-below g c = opening_kept g.D.Desk.tells (g.D.Desk.reading 
 pub returns-in_err-feed-clause-below : goal.returns-in_err-feed-clause-below
 returns-in_err-feed-clause-below g c = failing_kept g.D.Desk.tells (g.D.Desk.reading c.args.desk.now) (g.D.Desk.reading c.open_feed.new.desk)
     (holds (g.D.Desk.writing c.args.desk.now) c.args.name.now) c.args.name.now c.in_err-feed.field-0.0 c.in_err-feed.ensures.fault
+
+pub returns-in-Ok-clause-unread : goal.returns-in-Ok-clause-unread
+returns-in-Ok-clause-unread g c = opening_unread g.D.Desk.tells (g.D.Desk.reading c.args.desk.now) (g.D.Desk.reading c.open_feed.new.desk)
+    (g.D.Desk.writing c.args.desk.now) c.args.name.now c.in_ok-feed.feed.slot c.in_ok-feed.ensures.opened
+
+pub returns-in-Err-clause-unread : goal.returns-in-Err-clause-unread
+returns-in-Err-clause-unread g c = opening_unread g.D.Desk.tells (g.D.Desk.reading c.args.desk.now) (g.D.Desk.reading c.open_feed.new.desk)
+    (g.D.Desk.writing c.args.desk.now) c.args.name.now c.in_ok-feed.feed.slot c.in_ok-feed.ensures.opened
+
+pub returns-in_err-feed-clause-unread : goal.returns-in_err-feed-clause-unread
+returns-in_err-feed-clause-unread g c = λ told. failing_unread g.D.Desk.tells (g.D.Desk.reading c.args.desk.now) (g.D.Desk.reading c.open_feed.new.desk)
+    (g.D.Desk.writing c.args.desk.now) c.args.name.now c.in_err-feed.field-0.0 c.in_err-feed.ensures.fault

@@ -1,4 +1,4 @@
-use Rattle.std.proofs.Common.{◌≡◌, ℕ, List, refl, ◌∙◌, subst, inr}
+use Rattle.std.proofs.Common.{◌≡◌, ℕ, List, refl, ◌∙◌, subst, inr, arith}
 use Rattle.ioam_desk_outputs.specs.Names.{AreApart, IsFirstRepeat}
 use Rattle.ioam_run_domain.specs.Promise.{run_files}
 use Rattle.ioam_run_domain.proofs.WordsLaws.{taken_name}
@@ -45,3 +45,9 @@ returns-in_default-clause-kept_out g c = λ told. KeepsOutputs-same (g.D.Desk.wr
 
 pub returns-in-Some-clause-kept_out : goal.returns-in-Some-clause-kept_out
 returns-in-Some-clause-kept_out g c = λ told. KeepsOutputs-same (g.D.Desk.writing c.args.desk.now) _ refl
+
+pub returns-in_default-clause-unread : goal.returns-in_default-clause-unread
+returns-in_default-clause-unread g c = λ told few k below. absurd (omega (arith, below))
+
+pub returns-in-Some-clause-unread : goal.returns-in-Some-clause-unread
+returns-in-Some-clause-unread g c = λ told few k below. absurd (omega (arith, below))

@@ -3,7 +3,7 @@ use Rattle.ioam_desk.specs.Desk.{Reading, Writing, Side}
 use Rattle.ioam_desk_outputs.specs.declared.output.Output.{Output}
 use Rattle.ioam_desk_outputs.specs.Told.{GathersNothing}
 use Rattle.ioam_desk_outputs.proofs.ToldLaws.{told_names}
-use Rattle.ioam_capture_merge.specs.Merging.{slot_of}
+use Rattle.ioam_capture_merge.specs.Merging.{AreUnread, slot_of, start_of}
 use Rattle.ioam_run_traffic.specs.Traffic.{Files, course_with}
 use Rattle.ioam_run_traffic.proofs.BeginLaws.{all_opened, known_fronts, known_merging, known_opened, known_sized, known_told}
 use Rattle.ioam_run_traffic.proofs.StopsLaws.{Ends-finishes}
@@ -156,3 +156,26 @@ returns-in-Ok-open_outputs-clause-kept_out g c = λ told.
     (KeepsOutputs-then (g.D.Desk.writing c.args.desk.now) (g.D.Desk.writing c.open_merge.new.desk) (g.D.Desk.writing c.open_outputs.new.desk)
     (KeepsOutputs-same (g.D.Desk.writing c.args.desk.now) _ c.open_merge.ensures.outputs) (c.open_outputs.ensures.kept told))
     (omega (arith, first)) c.run_open.ensures.slots_out c.run_open.ensures.asked_out c.run_open.ensures.kept_out
+
+pub returns-in-Err-Failed-clause-unread : goal.returns-in-Err-Failed-clause-unread
+returns-in-Err-Failed-clause-unread g c = λ told few. c.open_merge.ensures.unread told
+
+pub returns-in-Err-NoMemory-clause-unread : goal.returns-in-Err-NoMemory-clause-unread
+returns-in-Err-NoMemory-clause-unread g c = λ told few. c.open_merge.ensures.unread told
+
+pub returns-in-Ok-open_outputs-clause-unread : goal.returns-in-Ok-open_outputs-clause-unread
+returns-in-Ok-open_outputs-clause-unread g c = λ told few.
+    let slots : (g.D.Desk.writing c.run_open.new.desk).side.slots ≡ (g.D.Desk.writing c.args.desk.now).side.slots + length c.args.outputs.now =
+    c.run_open.ensures.slots_out ∙ ap (λ (s : Side). s.slots) c.in-Ok-open_outputs.ensures.side
+    ∙ ap (λ (w : Writing). w.side.slots + length c.args.outputs.now) c.in-Ok.ensures.outputs in
+    absurd (omega (arith, few, slots))
+
+pub returns-in-Err-Failed-open_outputs-clause-unread : goal.returns-in-Err-Failed-open_outputs-clause-unread
+returns-in-Err-Failed-open_outputs-clause-unread g c = λ told few.
+    let P : Reading → Type 0 = λ r. AreUnread (start_of (g.D.Desk.reading c.args.desk.now).side.slots (g.D.Desk.writing c.args.desk.now) c.args.inputs.now) r in
+    subst P (sym c.open_outputs.ensures.inputs) (c.open_merge.ensures.unread told)
+
+pub returns-clause-unread : goal.returns-clause-unread
+returns-clause-unread g c = λ told few.
+    let P : Reading → Type 0 = λ r. AreUnread (start_of (g.D.Desk.reading c.args.desk.now).side.slots (g.D.Desk.writing c.args.desk.now) c.args.inputs.now) r in
+    subst P (sym c.open_outputs.ensures.inputs) (c.open_merge.ensures.unread told)
