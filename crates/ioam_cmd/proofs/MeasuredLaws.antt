@@ -265,9 +265,9 @@ module _ (opens : Bool) (files : RunNames) (old_in new_in : Reading) (old new : 
   measures (outcome.Packets limit) left = (left.0, left.1, left.2, measured left.0 left.1 left.2 _ left.3)
   measures outcome.ReadFault (inl early) = inl early.1
   measures outcome.ReadFault (inr late) = inr (late.0, late.1, late.2, (late.3.0, measured late.0 late.1 late.2 _ late.3.1))
-  measures outcome.WriteFault left = (left.0, left.1, left.2, part_measured left.0 left.1 left.2 left.3)
+  measures outcome.WriteFault left = (left.0, left.1, left.2, part_measured left.0 left.1 left.2 left.3.fronts)
   measures outcome.NoMemory (inl same) = inl same
-  measures outcome.NoMemory (inr some) = inr (some.0, some.1, some.2, part_measured some.0 some.1 some.2 some.3)
+  measures outcome.NoMemory (inr some) = inr (some.0, some.1, some.2, part_measured some.0 some.1 some.2 some.3.fronts)
   measures outcome.Usage left = tt
   measures (outcome.Domain fault) left = tt
   measures (outcome.Readings fault) left = tt

@@ -24,8 +24,8 @@ use Rattle.ioam_topo.specs.declared.domain.Domain.{Domain}
 use Rattle.ioam_run_files.specs.DomainFault.{DomainFault}
 use Rattle.ioam_run_traffic.specs.Traffic.{Course, HoldsAll, HoldsFronts, ArePassed, AreOpened, Arrive}
 use Rattle.ioam_run_domain.specs.Ends.{Ends, begins}
-use Rattle.ioam_run_domain.specs.Promise.{RunNames, HasCause, IsUnset, Says, HaveDiffered, HoldsFiles, contents, Leaves, OfTraffic, AreDrained, IsSet, IsReady, run_files, run_inputs, run_outputs, word_files, course_for}
-use Rattle.ioam_run_domain.proofs.FilesLaws.{files_held}
+use Rattle.ioam_run_domain.specs.Promise.{RunNames, HasCause, IsUnset, Says, HaveDiffered, HoldsCleanFronts, HoldsFiles, contents, Leaves, OfTraffic, AreDrained, IsSet, IsReady, run_files, run_inputs, run_outputs, word_files, course_for}
+use Rattle.ioam_run_domain.proofs.FilesLaws.{files_held, fronts_held}
 
 -- the two files were opened by two slots
 module _ (files : RunNames) (old_in mid_in : Reading) (opened : mid_in.side ≡ opened_each old_in.side (files.domain ∷ files.readings ∷ [])) where
@@ -87,6 +87,9 @@ module _ (files : RunNames) (old_in mid_in : Reading) (opened : mid_in.side ≡ 
         → HoldsFiles opens files old_in new_in old new (begins opens files domain readings mid_in old) (Are (begins opens files domain readings mid_in old))
     all_held Are all = files_held opens files old_in new_in old new (begins opens files domain readings mid_in old) (Are (begins opens files domain readings mid_in old)) refl all
 
+    clean_fronts : HoldsFronts (begins opens files domain readings mid_in old) old new → HoldsCleanFronts (begins opens files domain readings mid_in old) old new
+    clean_fronts fronts = fronts_held files old new (begins opens files domain readings mid_in old) refl fronts
+
     pub Ends-leaves : (answer : Outcome) → Ends opens tells files domain readings mid_in new_in old new answer → Leaves opens files old_in new_in old new answer
     Ends-leaves outcome.Done ends = of_traffic (λ course. HoldsFiles opens files old_in new_in old new course (Arrive course turn.Over)) ends.0
         (all_held (λ course. Arrive course turn.Over) (ends.1 told).0)
@@ -106,10 +109,10 @@ module _ (files : RunNames) (old_in mid_in : Reading) (opened : mid_in.side ≡ 
           × HoldsFiles opens files old_in new_in old new course (PartsArrive course.lanes.contents new_in course.lanes.base)) ends.0
           (late.0, all_held (λ course. PartsArrive course.lanes.contents new_in course.lanes.base) (late.1 told)))
     ]
-    Ends-leaves outcome.WriteFault ends = of_traffic (λ course. HoldsFronts course old new) ends.0 (ends.1.1 told)
+    Ends-leaves outcome.WriteFault ends = of_traffic (λ course. HoldsCleanFronts course old new) ends.0 (clean_fronts (ends.1.1 told))
     Ends-leaves outcome.NoMemory (inl same) = inl same
     Ends-leaves outcome.NoMemory (inr (apart, inl same)) = inl same
-    Ends-leaves outcome.NoMemory (inr (apart, inr fronts)) = inr (of_traffic (λ course. HoldsFronts course old new) apart (fronts told))
+    Ends-leaves outcome.NoMemory (inr (apart, inr fronts)) = inr (of_traffic (λ course. HoldsCleanFronts course old new) apart (clean_fronts (fronts told)))
     Ends-leaves outcome.Usage ends = absurd ends
     Ends-leaves (outcome.Names name) ends = ends.2
     Ends-leaves (outcome.Domain fault) ends = absurd ends

@@ -2,6 +2,7 @@
 -- the domain that DOMAIN describes are merged by time, and each port's capture of what leaves, each
 -- tap's of what crosses its link, the report and the export records are written.
 use Rattle.std.specs.Prelude.{◌≡◌, ◌≢◌, ℕ, ◌+◌, ◌<◌, ◌≤◌, ◌⊎◌, ⊤, All, Bool, IsTrue, IsSomeAnd, List, [], ◌∷◌, ◌++◌, length, map, slice_get, Option, Some}
+use Rattle.ioam_base.specs.Octets.{IsFront}
 use Rattle.ioam_clock.specs.declared.sample.Sample.{Sample}
 use Rattle.ioam_desk.specs.Asked.{AsksFront}
 use Rattle.ioam_desk.specs.Desk.{Reading, Writing, Rose, holds}
@@ -145,6 +146,16 @@ module _ (files : RunNames) (old_in new_in : Reading) (old new : Writing) where
   abbrev pub OpensNone : Type 0
   OpensNone = AsksFront old_in.side.asked new_in.side.asked (files.domain ∷ files.readings ∷ []) × (new ≡ old)
 
+-- What the files hold where one could not be written or no memory could be had: each that was opened a front of its text of
+-- some first arrivals, of which nothing else becomes and which leave once. Where the gate opens, a port's capture that was
+-- opened is a front of one of IPv6 packets, each with a whole header chain without an IOAM option and of at most 262,144 octets.
+pub record HoldsCleanFronts (course : Course) (old new : Writing) : Type 0 where
+  pub fronts : HoldsFronts course old new
+  pub leave : All LeavesOnce fronts.fates
+  pub clean : IsTrue course.opens → (place : ℕ) (port : Port) → slice_get (ports course.domain) place ≡ Some port
+      → old.side.slots + place < new.side.slots
+      → IsSomeAnd (holds new port.output) (λ part. (whole : List ℕ) × IsFront part whole × IsCaptureOf MayLeave whole)
+
 -- whether the gate of the workers always opens
 module _ (opens : Bool) (files : RunNames) (old_in new_in : Reading) (old new : Writing) where
   -- so it is of the traffic of the domain that is held, by the readings that are held
@@ -186,8 +197,8 @@ module _ (opens : Bool) (files : RunNames) (old_in new_in : Reading) (old new : 
   Leaves (outcome.Packets limit) = OfTraffic (λ course. HoldsFiles course (ArePassed course))
   Leaves outcome.ReadFault = (StopsEarly × (new ≡ old))
       ⊎ OfTraffic (λ course. AreOpened course new_in × HoldsFiles course (PartsArrive course.lanes.contents new_in course.lanes.base))
-  Leaves outcome.WriteFault = OfTraffic (λ course. HoldsFronts course old new)
-  Leaves outcome.NoMemory = (new ≡ old) ⊎ OfTraffic (λ course. HoldsFronts course old new)
+  Leaves outcome.WriteFault = OfTraffic (λ course. HoldsCleanFronts course old new)
+  Leaves outcome.NoMemory = (new ≡ old) ⊎ OfTraffic (λ course. HoldsCleanFronts course old new)
   Leaves outcome.Usage = new ≡ old
   Leaves (outcome.Domain fault) = new ≡ old
   Leaves (outcome.Readings fault) = new ≡ old
