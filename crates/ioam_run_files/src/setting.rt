@@ -104,6 +104,7 @@ fn read_readings_file<D: Desk>(
     ensures ended { OnOk result (IsTrue D.tells → IsTrue ((D.reading desk.new).ended (D.reading desk.old).side.slots)) }
     ensures other_ended { OnOk result (SameBut (D.reading desk.old).side.slots (D.reading desk.old).ended (D.reading desk.new).ended) }
     ensures asked { AsksFront (D.reading desk.old).side.asked (D.reading desk.new).side.asked (name.now ∷ []) }
+    ensures few { (D.reading desk.new).side.slots ≤ (D.reading desk.old).side.slots + 1 }
     ensures kept { KeepsInputs (D.reading desk.old) (D.reading desk.new) }
     ensures outputs { D.writing desk.new ≡ D.writing desk.old }
 {
@@ -135,6 +136,7 @@ pub fn read_setting<D: Desk>(
     ensures ended { OnOk result (IsTrue D.tells → IsTrue ((D.reading desk.new).ended (D.reading desk.old).side.slots)
         × IsTrue ((D.reading desk.new).ended ((D.reading desk.old).side.slots + 1))) }
     ensures asked { AsksFront (D.reading desk.old).side.asked (D.reading desk.new).side.asked (domain.now ∷ readings.now ∷ []) }
+    ensures few { (D.reading desk.new).side.slots ≤ (D.reading desk.old).side.slots + 2 }
     ensures kept { KeepsInputs (D.reading desk.old) (D.reading desk.new) }
     // After a fault of the domain file the readings weren't opened.
     ensures domain_first { (fault : DomainFault) → result ≡ Err (Refusal.Domain fault)

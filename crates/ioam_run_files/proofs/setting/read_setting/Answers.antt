@@ -44,3 +44,12 @@ returns-in_err-readings-clause-kept g c = KeepsInputs-then (g.D.Desk.reading c.a
 pub returns-clause-kept : goal.returns-clause-kept
 returns-clause-kept g c = KeepsInputs-then (g.D.Desk.reading c.args.desk.now) (g.D.Desk.reading c.read_domain_file.new.desk) (g.D.Desk.reading c.read_readings_file.new.desk)
     (omega (arith, ap (λ (s : Side). s.slots) c.in_ok-domain.ensures.side)) c.read_domain_file.ensures.kept c.read_readings_file.ensures.kept
+
+pub returns-in_err-domain-clause-few : goal.returns-in_err-domain-clause-few
+returns-in_err-domain-clause-few g c = omega (arith, c.read_domain_file.ensures.few)
+
+pub returns-in_err-readings-clause-few : goal.returns-in_err-readings-clause-few
+returns-in_err-readings-clause-few g c = omega (arith, c.read_readings_file.ensures.few, ap (λ (s : Side). s.slots) c.in_ok-domain.ensures.side)
+
+pub returns-clause-few : goal.returns-clause-few
+returns-clause-few g c = omega (arith, c.read_readings_file.ensures.few, ap (λ (s : Side). s.slots) c.in_ok-domain.ensures.side)
