@@ -1,5 +1,5 @@
 -- What a command over one capture leaves as it was.
-use Rattle.std.proofs.Common.{◌≡◌, ℕ, Bool, true, false, List, Option, Result, Ok, Err, refl, sym, ◌∙◌, ap, subst, arith}
+use Rattle.std.proofs.Common.{◌≡◌, ℕ, Bool, true, false, IsTrue, List, Option, Some, Result, Ok, Err, refl, sym, ◌∙◌, ap, subst, arith}
 use Rattle.ioam_capture.specs.Reading.{Reading}
 use Rattle.ioam_desk.specs.Desk as desk
 use Rattle.ioam_desk.specs.Desk.{Writing, OpenIn, OpensInput}
@@ -55,6 +55,14 @@ pub KeepsInputs-opened : (tells : Bool) (old mid new : desk.Reading) (held : Opt
     → OpensInput tells old mid held name slot → ReadsOne slot mid new → KeepsInputs old new
 KeepsInputs-opened tells old mid new held name slot opens reads = KeepsInputs-but old new slot (omega (arith, opens.number))
     (λ k apart. reads.0 k apart ∙ opens.other_left k apart) (λ k apart. reads.1 k apart ∙ opens.other_ended k apart)
+
+-- one that was opened, and of which nothing was read
+pub unread : (tells : Bool) (old mid new : desk.Reading) (content held : Option (List ℕ)) (name : List ℕ) (slot : ℕ)
+    → OpensInput tells old mid held name slot → content ≡ held → new ≡ mid → IsTrue tells → content ≡ Some (new.left old.side.slots)
+unread tells old mid new content held name slot opens same on told =
+    let P : ℕ → Type 0 = λ k. content ≡ Some (mid.left k) in
+    let Q : desk.Reading → Type 0 = λ now. content ≡ Some (now.left old.side.slots) in
+    subst Q (sym on) (subst P opens.number (same ∙ opens.left told))
 
 -- behind all records the rest of the texts is written, from the first output's slot on
 module _ {G : Type 0} (gathers : List Taken → List (List ℕ) → G → Type 0) (count : G → ℕ) (tells : Bool) (start : Start)

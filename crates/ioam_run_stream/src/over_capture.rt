@@ -1,5 +1,5 @@
 //! A command over one capture: its names, its files and its answer.
-ghost use Rattle.std.specs.Prelude.{◌≡◌, ◌≢◌, ◌↔◌, ◌∷◌, ◌++◌, ◌+◌, ◌<◌, ◌≤◌, ◌⊎◌, [], IfOk, IsTrue, length};
+ghost use Rattle.std.specs.Prelude.{◌≡◌, ◌≢◌, ◌↔◌, ◌∷◌, ◌++◌, ◌+◌, ◌<◌, ◌≤◌, ◌⊎◌, [], IfOk, IsTrue, Some, length};
 ghost use Rattle.ioam_capture.specs.Reading.{fresh};
 ghost use Rattle.ioam_desk.specs.Asked.{AsksFront};
 ghost use Rattle.ioam_desk.specs.Desk.{holds};
@@ -60,6 +60,9 @@ fn run_names<G: Gather, D: Desk>(
     ensures unopened { OpensNothing result → D.reading desk.new ≡ D.reading desk.old }
     ensures differed { (D.reading desk.new ≡ D.reading desk.old) ⊎ AreApart (all_names files.now) }
     ensures no_output { (D.reading desk.new).side.slots ≡ (D.reading desk.old).side.slots → D.writing desk.new ≡ D.writing desk.old }
+    ensures unread { IsTrue D.tells → (D.writing desk.new).side.slots < (D.writing desk.old).side.slots + length files.now.outputs
+        → (D.reading desk.old).side.slots < (D.reading desk.new).side.slots
+        → holds (D.writing desk.old) files.now.input ≡ Some ((D.reading desk.new).left (D.reading desk.old).side.slots) }
     ensures drained { IsDone result → IsTrue D.tells → IsTrue ((D.reading desk.new).ended (D.reading desk.old).side.slots) }
     ensures kept_in { KeepsInputs (D.reading desk.old) (D.reading desk.new) }
     ensures kept_out { IsTrue D.tells → KeepsOutputs (D.writing desk.old) (D.writing desk.new) }
@@ -100,6 +103,9 @@ pub fn run_capture<G: Gather, D: Desk>(
     ensures all_in { IsBehindAll ⊥ result → (D.reading desk.new).side.asked ≡ (D.reading desk.old).side.asked ++ input.now ∷ [] }
     ensures all_out { IsBehindAll ⊥ result → (D.writing desk.new).side.asked ≡ (D.writing desk.old).side.asked ++ names.now }
     ensures no_output { (D.reading desk.new).side.slots ≤ (D.reading desk.old).side.slots → D.writing desk.new ≡ D.writing desk.old }
+    ensures unread { IsTrue D.tells → (D.writing desk.new).side.slots < (D.writing desk.old).side.slots + length names.now
+        → (D.reading desk.old).side.slots < (D.reading desk.new).side.slots
+        → holds (D.writing desk.old) input.now ≡ Some ((D.reading desk.new).left (D.reading desk.old).side.slots) }
     ensures drained { IsDone result → IsTrue D.tells → IsTrue ((D.reading desk.new).ended (D.reading desk.old).side.slots) }
     ensures kept_in { KeepsInputs (D.reading desk.old) (D.reading desk.new) }
     ensures kept_out { IsTrue D.tells → KeepsOutputs (D.writing desk.old) (D.writing desk.new) }
@@ -136,6 +142,9 @@ fn run_file<G: Gather, D: Desk>(
     ensures all_in { IsBehindAll ⊥ result → (D.reading desk.new).side.asked ≡ (D.reading desk.old).side.asked ++ input.now ∷ [] }
     ensures all_out { IsBehindAll ⊥ result → (D.writing desk.new).side.asked ≡ (D.writing desk.old).side.asked ++ names.now }
     ensures no_output { (D.reading desk.new).side.slots ≤ (D.reading desk.old).side.slots → D.writing desk.new ≡ D.writing desk.old }
+    ensures unread { IsTrue D.tells → (D.writing desk.new).side.slots < (D.writing desk.old).side.slots + length names.now
+        → (D.reading desk.old).side.slots < (D.reading desk.new).side.slots
+        → holds (D.writing desk.old) input.now ≡ Some ((D.reading desk.new).left (D.reading desk.old).side.slots) }
     ensures drained { IsDone result → IsTrue D.tells → IsTrue ((D.reading desk.new).ended (D.reading desk.old).side.slots) }
     ensures kept_in { KeepsInputs (D.reading desk.old) (D.reading desk.new) }
     ensures kept_out { IsTrue D.tells → KeepsOutputs (D.writing desk.old) (D.writing desk.new) }

@@ -10,7 +10,7 @@ use Rattle.ioam_run_stream.specs.Streams.{Start, Finishes, ReadsOne}
 use Rattle.ioam_run_stream.proofs.BeginLaws.{Fed-start, told_start, unwritten}
 use Rattle.ioam_run_stream.proofs.FinishesLaws.{Finishes-drained, Finishes-cause, Finishes-leaves}
 use Rattle.ioam_desk.proofs.KeptLaws.{KeepsInputs-same, KeepsOutputs-same, KeepsOutputs-then, KeepsOutputs-from}
-use Rattle.ioam_run_stream.proofs.KeptLaws.{ReadsOne-same, KeepsInputs-unopened, KeepsInputs-opened}
+use Rattle.ioam_run_stream.proofs.KeptLaws.{ReadsOne-same, KeepsInputs-unopened, KeepsInputs-opened, unread}
 use Rattle.ioam_run_stream.proofs.over_capture.run_file.Goals as goal
 
 pub run_open-requires : goal.run_open-requires
@@ -306,3 +306,35 @@ returns-clause-kept_in g c = KeepsInputs-opened g.D.Desk.tells (g.D.Desk.reading
 pub returns-clause-kept_out : goal.returns-clause-kept_out
 returns-clause-kept_out g c = λ told. KeepsOutputs-then (g.D.Desk.writing c.args.desk.now) (g.D.Desk.writing c.open_feed.new.desk) (g.D.Desk.writing c.open_outputs.new.desk)
     (KeepsOutputs-same (g.D.Desk.writing c.args.desk.now) _ c.open_feed.ensures.outputs) (c.open_outputs.ensures.kept told)
+
+pub returns-in_default-clause-unread : goal.returns-in_default-clause-unread
+returns-in_default-clause-unread g c = λ told unopened opened. absurd (omega (arith, opened))
+
+pub returns-in-Err-Failed-clause-unread : goal.returns-in-Err-Failed-clause-unread
+returns-in-Err-Failed-clause-unread g c =
+    let failed = rw c.in-Err-Failed.field-0-is at c.in-Err-Failed.ensures.fault in
+    λ told unopened opened. absurd (omega (arith, opened, failed.0.slots))
+
+pub returns-in-Err-NoMemory-clause-unread : goal.returns-in-Err-NoMemory-clause-unread
+returns-in-Err-NoMemory-clause-unread g c =
+    let same = rw c.in-Err-NoMemory.field-0-is at c.in-Err-NoMemory.ensures.fault in
+    λ told unopened opened. absurd (omega (arith, opened, ap (λ (r : desk.Reading). r.side.slots) same))
+
+pub returns-in-Ok-open_outputs-clause-unread : goal.returns-in-Ok-open_outputs-clause-unread
+returns-in-Ok-open_outputs-clause-unread g c =
+    let slots : (g.D.Desk.writing c.open_outputs.new.desk).side.slots ≡ (g.D.Desk.writing c.args.desk.now).side.slots + length c.args.names.now =
+    ap (λ (s : Side). s.slots) c.in-Ok-open_outputs.ensures.side
+    ∙ ap (λ (w : Writing). w.side.slots + length c.args.names.now) c.in-Ok-open_feed.ensures.outputs in
+    λ told unopened opened. absurd (omega (arith, unopened, slots, c.run_open.ensures.slots_out))
+
+pub returns-in-Err-Failed-open_outputs-clause-unread : goal.returns-in-Err-Failed-open_outputs-clause-unread
+returns-in-Err-Failed-open_outputs-clause-unread g c = λ told unopened opened.
+    unread g.D.Desk.tells (g.D.Desk.reading c.args.desk.now) (g.D.Desk.reading c.open_feed.new.desk) (g.D.Desk.reading c.open_outputs.new.desk)
+    (holds (g.D.Desk.writing c.args.desk.now) c.args.input.now) _ _ c.in-Ok-open_feed.feed.slot c.in-Ok-open_feed.ensures.opened
+    (ap (λ (name : List ℕ). holds (g.D.Desk.writing c.args.desk.now) name) (sym c.text.ensures)) c.open_outputs.ensures.inputs told
+
+pub returns-clause-unread : goal.returns-clause-unread
+returns-clause-unread g c = λ told unopened opened.
+    unread g.D.Desk.tells (g.D.Desk.reading c.args.desk.now) (g.D.Desk.reading c.open_feed.new.desk) (g.D.Desk.reading c.open_outputs.new.desk)
+    (holds (g.D.Desk.writing c.args.desk.now) c.args.input.now) _ _ c.in-Ok-open_feed.feed.slot c.in-Ok-open_feed.ensures.opened
+    (ap (λ (name : List ℕ). holds (g.D.Desk.writing c.args.desk.now) name) (sym c.text.ensures)) c.open_outputs.ensures.inputs told

@@ -34,3 +34,6 @@ returns-in-Some-clause-kept_out g c = λ told. KeepsOutputs-same (g.D.Desk.writi
 
 pub returns-in-None-clause-no_output : goal.returns-in-None-clause-no_output
 returns-in-None-clause-no_output g c = λ same. c.run_capture.ensures.no_output (omega (arith, same))
+
+pub returns-in-Some-clause-unread : goal.returns-in-Some-clause-unread
+returns-in-Some-clause-unread g c = λ told unopened opened. absurd (omega (arith, opened))
