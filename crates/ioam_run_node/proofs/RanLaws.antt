@@ -1,5 +1,5 @@
 -- What a run owes whose domain and readings were read by two slots.
-use Rattle.std.proofs.Common.{◌≡◌, ℕ, suc, ◌+◌, ◌<◌, Bool, IsTrue, IsSomeAnd, List, [], ◌∷◌, ◌++◌, take, refl, sym, ◌∙◌, ap, subst, inl, inr, append-nil, append_assoc, arith}
+use Rattle.std.proofs.Common.{◌≡◌, ℕ, suc, ◌+◌, ◌<◌, Bool, IsTrue, IsSomeAnd, List, [], ◌∷◌, ◌++◌, length, take, Some, refl, sym, ◌∙◌, ap, subst, inl, inr, append-nil, append_assoc, arith}
 use Rattle.ioam_run_files.specs.Outcomes.{IsDone}
 use Rattle.ioam_run_files.specs.Outcome.{Outcome}
 use Rattle.ioam_run_files.specs.Outcome.TheVariants as outcome
@@ -76,6 +76,7 @@ module _ (tells : Bool) (files : NodeNames) (old_in mid_in : Reading) (opened : 
         no_output = λ few. refl;
         of_domain = inl ((both, refl), (refusal.NoMemory, refl));
       };
+      unread = λ told unopened opened. absurd (omega (arith, opened, two_slots));
       drained = λ done told. absurd done;
       kept_in = kept;
       kept_out = λ told. KeepsOutputs-same old old refl;
@@ -99,6 +100,7 @@ module _ (tells : Bool) (files : NodeNames) (old_in mid_in : Reading) (opened : 
         no_output = λ few. refl;
         of_domain = inr (domain, record { set = λ told. (samples, setting told); says = unfit; fit = inl (both, refl) });
       };
+      unread = λ told unopened opened. absurd (omega (arith, opened, two_slots));
       drained = λ done told. absurd done;
       kept_in = kept;
       kept_out = λ told. KeepsOutputs-same old old refl;
@@ -237,6 +239,12 @@ module _ (tells : Bool) (files : NodeNames) (old_in mid_in : Reading) (opened : 
           subst P two_slots (at.ran.gathered.drained done told),
         )
 
+    unread : IsTrue tells → new.side.slots < old.side.slots + length (output_files files) → old_in.side.slots + 2 < new_in.side.slots
+        → holds old files.input ≡ Some (new_in.left (old_in.side.slots + 2))
+    unread told unopened opened =
+        let P : ℕ → Type 0 = λ k. holds old files.input ≡ Some (new_in.left k) in
+        subst P two_slots (at.ran.gathered.unread told unopened (omega (arith, opened, two_slots)))
+
     ran_owes : Owes tells files old_in new_in old new answer
     ran_owes = record {
       read_fault = λ is. omega (arith, cause_for outcome.ReadFault is, same_faults);
@@ -264,6 +272,7 @@ module _ (tells : Bool) (files : NodeNames) (old_in mid_in : Reading) (opened : 
           },
         );
       };
+      unread = unread;
       drained = drained;
       kept_in = KeepsInputs-then old_in mid_in new_in (omega (arith, two_slots)) kept at.ran.gathered.kept_in;
       kept_out = at.ran.gathered.kept_out;

@@ -1,5 +1,5 @@
 -- What a run owes whose domain or readings are refused.
-use Rattle.std.proofs.Common.{◌≡◌, ℕ, zero, suc, Bool, IsTrue, List, [], ◌∷◌, ◌++◌, take, refl, sym, ◌∙◌, ap, subst, inl, append-nil}
+use Rattle.std.proofs.Common.{◌≡◌, ℕ, zero, suc, ◌+◌, ◌≤◌, Bool, IsTrue, List, [], ◌∷◌, ◌++◌, take, refl, sym, ◌∙◌, ap, subst, inl, append-nil, arith}
 use Rattle.ioam_run_files.specs.Outcomes.{IsDone, IsBehindAll}
 use Rattle.ioam_run_files.specs.Outcome.{Outcome}
 use Rattle.ioam_run_files.specs.Outcome.TheVariants as outcome
@@ -93,7 +93,7 @@ module _ (tells : Bool) (files : NodeNames) (old_in new_in : Reading) (old : Wri
   module _ (why : Refusal) (refuses : Refused why)
       (asked : AsksFront old_in.side.asked new_in.side.asked (files.domain ∷ files.readings ∷ []))
       (first : (fault : DomainFault) → why ≡ refusal.Domain fault → AsksFront old_in.side.asked new_in.side.asked (files.domain ∷ []))
-      (kept : KeepsInputs old_in new_in) where
+      (few : new_in.side.slots ≤ old_in.side.slots + 2) (kept : KeepsInputs old_in new_in) where
     owes : Owes tells files old_in new_in old old (refused_as why)
     owes = record {
       read_fault = read why refuses;
@@ -112,6 +112,7 @@ module _ (tells : Bool) (files : NodeNames) (old_in new_in : Reading) (old : Wri
         no_output = λ few. refl;
         of_domain = inl ((asked, refl), (why, refl));
       };
+      unread = λ told unopened opened. absurd (omega (arith, opened, few));
       drained = λ so told. absurd (done why so);
       kept_in = kept;
       kept_out = λ told. KeepsOutputs-same old old refl;

@@ -1,11 +1,11 @@
 -- How a run ended whose domain and readings were read.
-use Rattle.std.specs.Prelude.{◌≡◌, ℕ, ◌≤◌, ◌⊎◌, Bool, IsTrue, List, [], ◌∷◌, ◌++◌}
+use Rattle.std.specs.Prelude.{◌≡◌, ℕ, ◌+◌, ◌<◌, ◌≤◌, ◌⊎◌, Bool, IsTrue, List, [], ◌∷◌, ◌++◌, length, Some}
 use Rattle.ioam_run_files.specs.Outcomes.{IsDone, IsBehindAll}
 use Rattle.ioam_run_files.specs.Outcome.{Outcome}
 use Rattle.ioam_run_files.specs.Outcome.TheVariants as outcome
 use Rattle.ioam_clock.specs.declared.sample.Sample.{Sample}
 use Rattle.ioam_desk.specs.Asked.{AsksFront}
-use Rattle.ioam_desk.specs.Desk.{Reading, Writing}
+use Rattle.ioam_desk.specs.Desk.{Reading, Writing, holds}
 use Rattle.ioam_desk.specs.Kept.{KeepsInputs, KeepsOutputs}
 use Rattle.ioam_desk_outputs.specs.Names.{name_at, AreApart, IsFirstRepeat}
 use Rattle.ioam_run_stream.specs.Streams.{FileCause}
@@ -26,6 +26,8 @@ module _ (tells : Bool) (old_in new_in : Reading) (old new : Writing) (seat : Se
     pub all_in : IsBehindAll ⊥ answer → new_in.side.asked ≡ old_in.side.asked ++ input ∷ []
     pub all_out : IsBehindAll ⊥ answer → new.side.asked ≡ old.side.asked ++ outputs
     pub no_output : new_in.side.slots ≤ old_in.side.slots → new ≡ old
+    pub unread : IsTrue tells → new.side.slots < old.side.slots + length outputs → old_in.side.slots < new_in.side.slots
+        → holds old input ≡ Some (new_in.left old_in.side.slots)
     pub drained : IsDone answer → IsTrue tells → IsTrue (new_in.ended old_in.side.slots)
     pub kept_in : KeepsInputs old_in new_in
     pub kept_out : IsTrue tells → KeepsOutputs old new

@@ -1,6 +1,6 @@
 -- What `node DOMAIN READINGS NODE LINK IN OUT REPORT EXPORTS` promises: the packets of the capture IN come to
 -- NODE by LINK, and it sends them on.
-use Rattle.std.specs.Prelude.{◌≡◌, ◌≢◌, ℕ, ◌+◌, ◌<◌, ◌≤◌, ◌⊎◌, ⊤, All, Bool, IsTrue, IsSomeAnd, nat_eq, if◌then◌else◌, List, [], ◌∷◌, ◌++◌, slice_get, Option, Some, None, option_and_then}
+use Rattle.std.specs.Prelude.{◌≡◌, ◌≢◌, ℕ, ◌+◌, ◌<◌, ◌≤◌, ◌⊎◌, ⊤, All, Bool, IsTrue, IsSomeAnd, nat_eq, if◌then◌else◌, List, [], ◌∷◌, ◌++◌, length, slice_get, Option, Some, None, option_and_then}
 use Rattle.std.specs.List.{AllByRecursion, flat_map}
 use Rattle.ioam_run_files.specs.Desks.{Desks}
 use Rattle.ioam_run_files.specs.Outcomes.{IsDone, IsBehindAll}
@@ -247,6 +247,9 @@ module _ (tells : Bool) (files : NodeNames) (old_in new_in : Reading) (old new :
     pub cause : IsTrue tells → HasCause files old_in new_in old new answer
     pub leaves : IsTrue tells → Leaves files old_in new_in old new answer
     pub asks : Asks answer
+    -- nothing of IN is read before all outputs are opened
+    pub unread : IsTrue tells → new.side.slots < old.side.slots + length (output_files files) → old_in.side.slots + 2 < new_in.side.slots
+        → holds old files.input ≡ Some (new_in.left (old_in.side.slots + 2))
     pub drained : IsDone answer → IsTrue tells → AreDrained files old_in new_in old new
     pub kept_in : KeepsInputs old_in new_in
     pub kept_out : IsTrue tells → KeepsOutputs old new

@@ -1,5 +1,5 @@
 //! `node DOMAIN READINGS NODE LINK IN OUT REPORT EXPORTS`.
-ghost use Rattle.std.specs.Prelude.{◌≡◌, ◌+◌, ◌<◌, ◌∷◌, [], IsTrue, Err, IfOk, IfErr, OnOk, length};
+ghost use Rattle.std.specs.Prelude.{◌≡◌, ◌+◌, ◌<◌, ◌≤◌, ◌∷◌, [], IsTrue, Err, IfOk, IfErr, OnOk, length};
 ghost use Rattle.ioam_run_files.specs.Desks.{around};
 ghost use Rattle.ioam_desk.specs.Asked.{AsksFront};
 ghost use Rattle.ioam_desk.specs.Desk.{opened_each};
@@ -60,6 +60,7 @@ fn read_names<D: Desk>(
     ensures ended { OnOk result (IsTrue D.tells → IsTrue ((D.reading desk.new).ended (D.reading desk.old).side.slots)
         × IsTrue ((D.reading desk.new).ended ((D.reading desk.old).side.slots + 1))) }
     ensures asked { AsksFront (D.reading desk.old).side.asked (D.reading desk.new).side.asked (files.now.domain ∷ files.now.readings ∷ []) }
+    ensures few { (D.reading desk.new).side.slots ≤ (D.reading desk.old).side.slots + 2 }
     ensures domain_first { (fault : DomainFault) → result ≡ Err (Refusal.Domain fault)
         → AsksFront (D.reading desk.old).side.asked (D.reading desk.new).side.asked (files.now.domain ∷ []) }
     ensures kept { KeepsInputs (D.reading desk.old) (D.reading desk.new) }

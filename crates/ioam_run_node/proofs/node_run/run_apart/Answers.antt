@@ -24,6 +24,7 @@ returns g c = record {
         all_in = c.run_capture.ensures.all_in;
         all_out = c.run_capture.ensures.all_out;
         no_output = c.run_capture.ensures.no_output;
+        unread = c.run_capture.ensures.unread;
         drained = c.run_capture.ensures.drained;
         kept_in = c.run_capture.ensures.kept_in;
         kept_out = c.run_capture.ensures.kept_out;
