@@ -15,7 +15,7 @@ use Rattle.ioam_desk_outputs.specs.Names.{name_at, AreApart, IsFirstRepeat}
 use Rattle.ioam_pcap.specs.Ending.{Whole, Faulty}
 use Rattle.ioam_pcap.specs.Entries.{Taken}
 use Rattle.ioam_pcap.specs.Text.{IsSendable, capture_text}
-use Rattle.ioam_run_stream.specs.Promise.{IsInput, IsLong, HoldsAll, HoldsFronts, EndsSo, ArePassed, AreWhole}
+use Rattle.ioam_run_stream.specs.Promise.{AreFirst, IsInput, IsLong, HoldsAll, HoldsFronts, EndsSo, ArePassed, AreWhole}
 use Rattle.ioam_run_files.specs.Answer.{refused_as}
 use Rattle.ioam_run_files.specs.Setting.{HasDomainFault, HasReadingsFault, IsSetting}
 use Rattle.ioam_run_files.specs.declared.setting.Refusal.{Refusal}
@@ -24,7 +24,7 @@ use Rattle.ioam_topo.specs.declared.domain.Domain.{Domain}
 use Rattle.ioam_topo.specs.declared.ids.NodeId.{NodeId}
 use Rattle.ioam_topo.specs.declared.parts.Link.{Link}
 use Rattle.ioam_run_node.specs.NodeText.{NodeTexts, sent_of}
-use Rattle.ioam_run_node.specs.Passage.{Passage, LeavesClean}
+use Rattle.ioam_run_node.specs.Passage.{ArePassages, Passage, LeavesClean}
 use Rattle.ioam_run_node.specs.Seat.{Seat}
 
 -- ---- what its words name
@@ -205,12 +205,18 @@ module _ (files : NodeNames) where
     AreDrained = IsTrue (new_in.ended old_in.side.slots) × IsTrue (new_in.ended (old_in.side.slots + 1))
         × IsTrue (new_in.ended (old_in.side.slots + 2))
 
-    -- OUT is a capture of what the node sends of packets that came, each of at most 262,144 octets, and what leaves by a port is
-    -- one IPv6 packet, with a whole chain and without IOAM
-    abbrev pub IsBounded : Type 0
-    IsBounded = (seat : Seat) × IsReady old seat × ((passages : List Passage) × AllByRecursion (LeavesClean seat) passages
-        × All IsSendable (flat_map (sent_of seat) passages)
-        × (holds new files.out ≡ Some (capture_text (flat_map (sent_of seat) passages))))
+    -- OUT is a capture of what the node sends of some first records of IN, each packet of at most 262,144 octets, and what leaves by
+    -- a port is one IPv6 packet, with a whole chain and without IOAM
+    pub record IsBounded : Type 0 where
+      pub seat : Seat
+      pub ready : IsReady old seat
+      pub taken : List Taken
+      pub passages : List Passage
+      pub first : IsSomeAnd (holds old files.input) (AreFirst taken)
+      pub are : ArePassages seat taken passages
+      pub clean : AllByRecursion (LeavesClean seat) passages
+      pub fits : All IsSendable (flat_map (sent_of seat) passages)
+      pub out_is : holds new files.out ≡ Some (capture_text (flat_map (sent_of seat) passages))
 
 module _ (tells : Bool) (files : NodeNames) (old_in new_in : Reading) (old new : Writing) where
   -- the answer is one over this domain, which DOMAIN holds where the desk tells; IN and outputs were opened only where NODE and
