@@ -29,8 +29,8 @@ use std::alloc::Global;
 /// the outer Hop-by-Hop Options header (RFC 9197 section 4.4, RFC 9486 section 3) what the node adds. REPORT says what became of each
 /// packet, and EXPORTS has the records that its direct export options ask for (RFC 9326 section 3).
 ///
-/// DOMAIN is read first, then READINGS; then NODE, LINK and two files of one name are refused; then IN is opened, and then
-/// the outputs. Up to as many packets as the domain allows are taken.
+/// DOMAIN is read first, then READINGS; then NODE, LINK and two files of one name are refused; then IN is opened, then the
+/// outputs, and only then anything of IN is read. Up to as many packets as the domain allows are taken.
 pub fn run_node<D: Desk>(alloc: Global, files: &NodeFiles<'_>, desk: &mut D) -> Outcome
     ensures keeps { Keeps (around D.tells (D.reading desk.old) (D.reading desk.new) (D.writing desk.old) (D.writing desk.new)) files.now result }
 {

@@ -141,11 +141,11 @@ module _ (Texts : List Taken → List (List ℕ) → Type 0) (desks : Desks) (fi
     pub asked_out : AsksFront desks.old.side.asked desks.new.side.asked files.outputs
     pub all_in : IsBehindAll ⊥ answer → desks.new_in.side.asked ≡ desks.old_in.side.asked ++ files.input ∷ []
     pub all_out : IsBehindAll ⊥ answer → desks.new.side.asked ≡ desks.old.side.asked ++ files.outputs
-    -- IN is opened only where the names differ, no output before IN, and nothing of IN is read before all outputs are opened;
-    -- where all is done it was read to its end
+    -- IN is opened only where the names differ, and no output before IN; where all is done it was read to its end
     pub unopened : OpensNothing answer → desks.new_in ≡ desks.old_in
     pub differed : (desks.new_in ≡ desks.old_in) ⊎ AreApart (all_names files)
     pub no_output : desks.new_in.side.slots ≡ desks.old_in.side.slots → desks.new ≡ desks.old
+    -- nothing of IN is read before all outputs are opened
     pub unread : IsTrue desks.tells → desks.new.side.slots < desks.old.side.slots + length files.outputs
         → desks.old_in.side.slots < desks.new_in.side.slots
         → holds desks.old files.input ≡ Some (desks.new_in.left desks.old_in.side.slots)

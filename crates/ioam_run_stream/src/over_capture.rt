@@ -25,9 +25,9 @@ use std::alloc::Global;
 
 /// Runs a command over the capture and the outputs that are named.
 ///
-/// Two names that are equal are refused first; then the capture is opened, and the outputs are. It is
-/// read in pieces, and what is gathered of its records is written in pieces: also before a fault of the
-/// capture, a fault of reading or the limit is answered, and at the end.
+/// Two names that are equal are refused first; then the capture is opened, and the outputs are, and
+/// nothing of it is read before. It is read in pieces, and what is gathered of its records is written in
+/// pieces: also before a fault of the capture, a fault of reading or the limit is answered, and at the end.
 pub fn run_over_capture<G: Gather, D: Desk>(
     alloc: Global,
     files: &CaptureFiles<'_>,
@@ -81,8 +81,8 @@ fn run_names<G: Gather, D: Desk>(
     }
 }
 
-/// Opens a capture, and then outputs whose names differ, and gathers the texts of its records, up to `limit`
-/// of them, which is 16,777,216 at most.
+/// Opens a capture, and then outputs whose names differ, and then reads it and gathers the texts of its
+/// records, up to `limit` of them, which is 16,777,216 at most.
 pub fn run_capture<G: Gather, D: Desk>(
     alloc: Global,
     desk: &mut D,
