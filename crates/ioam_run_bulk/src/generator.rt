@@ -44,7 +44,7 @@ fn subnet(state: u64) -> u8
 }
 
 // The header: from 2001:db8:1::1 to 2001:db8:2:s::1, where s is the subnet.
-fn header(state: u64) -> [u8; 40]
+fn header(state: u64) -> [u8; HEADER_OCTETS]
     ensures { result ≡ header state }
 {
     let size = payload_size(state);
