@@ -10,6 +10,7 @@ ghost use Rattle.ioam_run_answer.specs.Desks.{around};
 ghost use Rattle.ioam_run_bulk.specs.Promise.{HasCause, HoldsFront, HoldsReport, Keeps, Leaves};
 
 use crate::report::write_report;
+use crate::terms::Demand;
 use ioam_base::name::Name;
 use ioam_desk::{Desk, DeskFault};
 use ioam_desk_outputs::open_outputs;
@@ -40,23 +41,26 @@ pub fn run_bulk<R: Threads + Sync, D: Desk, G: Gate>(
     requires staffed { (1 ≤ workers) × (workers ≤ 64) }
     ensures keeps { Keeps (around D.tells (D.reading desk.old) (D.reading desk.new) (D.writing desk.old) (D.writing desk.new)) seed count report.now result }
 {
-    run_load(rt, alloc, seed, count, workers, report, desk, gate)
+    let demand = Demand {
+        rt,
+        workers,
+        gate,
+        seed,
+        count,
+    };
+    run_load(&demand, alloc, report, desk)
 }
 
 // The same, clause by clause.
 fn run_load<R: Threads + Sync, D: Desk, G: Gate>(
-    rt: &R,
+    demand: &Demand<'_, R, G>,
     alloc: Global,
-    seed: u64,
-    count: u32,
-    workers: u32,
     report: &Name,
     desk: &mut D,
-    gate: &G,
 ) -> Outcome
-    requires count { (1 ≤ count) × (count ≤ 1000000) }
-    requires staffed { (1 ≤ workers) × (workers ≤ 64) }
-    ensures leaves { IsTrue D.tells → Leaves seed count report.now (D.writing desk.old) (D.writing desk.new) result }
+    requires count { (1 ≤ demand.now.count) × (demand.now.count ≤ 1000000) }
+    requires staffed { (1 ≤ demand.now.workers) × (demand.now.workers ≤ 64) }
+    ensures leaves { IsTrue D.tells → Leaves demand.now.seed demand.now.count report.now (D.writing desk.old) (D.writing desk.new) result }
     ensures cause { HasCause (D.writing desk.old) (D.writing desk.new) result }
     ensures exact { (Rose (D.writing desk.old).side.faults (D.writing desk.new).side.faults → ⊥)
         → (result ≡ Outcome.Done) ⊎ (result ≡ Outcome.NoMemory) }
@@ -66,7 +70,7 @@ fn run_load<R: Threads + Sync, D: Desk, G: Gate>(
     ensures kept_out { IsTrue D.tells → KeepsOutputs (D.writing desk.old) (D.writing desk.new) }
 {
     let reports = slice::from_ref(report);
-    match write_sums(rt, alloc, seed, count, workers, reports, desk, gate) {
+    match write_sums(demand, alloc, reports, desk) {
         Ok(()) => Outcome::Done,
         Err(DeskFault::Failed) => Outcome::WriteFault,
         Err(DeskFault::NoMemory) => Outcome::NoMemory,
@@ -75,20 +79,16 @@ fn run_load<R: Threads + Sync, D: Desk, G: Gate>(
 
 // Opens the one file, and writes the sums to it.
 fn write_sums<R: Threads + Sync, D: Desk, G: Gate>(
-    rt: &R,
+    demand: &Demand<'_, R, G>,
     alloc: Global,
-    seed: u64,
-    count: u32,
-    workers: u32,
     reports: &[Name],
     desk: &mut D,
-    gate: &G,
 ) -> Result<(), DeskFault>
     requires one { length reports.now ≡ 1 }
-    requires count { (1 ≤ count) × (count ≤ 1000000) }
-    requires staffed { (1 ≤ workers) × (workers ≤ 64) }
-    ensures held { OnOk result (IsTrue D.tells → HoldsReport seed count (name_at reports.now 0) (D.writing desk.new)) }
-    ensures front { IsTrue D.tells → HoldsFront seed count (name_at reports.now 0) (D.writing desk.old) (D.writing desk.new) }
+    requires count { (1 ≤ demand.now.count) × (demand.now.count ≤ 1000000) }
+    requires staffed { (1 ≤ demand.now.workers) × (demand.now.workers ≤ 64) }
+    ensures held { OnOk result (IsTrue D.tells → HoldsReport demand.now.seed demand.now.count (name_at reports.now 0) (D.writing desk.new)) }
+    ensures front { IsTrue D.tells → HoldsFront demand.now.seed demand.now.count (name_at reports.now 0) (D.writing desk.old) (D.writing desk.new) }
     ensures cause { IfErr result (IsFaultOf (D.writing desk.old).side (D.writing desk.new).side) }
     ensures asked_out { AsksFront (D.writing desk.old).side.asked (D.writing desk.new).side.asked reports.now }
     ensures all_out { OnOk result ((D.writing desk.new).side.asked ≡ (D.writing desk.old).side.asked ++ reports.now) }
@@ -96,9 +96,7 @@ fn write_sums<R: Threads + Sync, D: Desk, G: Gate>(
     ensures kept_out { IsTrue D.tells → KeepsOutputs (D.writing desk.old) (D.writing desk.new) }
 {
     match open_outputs(alloc, desk, reports) {
-        Ok(mut outputs) => {
-            write_report(rt, alloc, seed, count, workers, gate, &mut outputs, desk)
-        }
+        Ok(mut outputs) => write_report(demand, alloc, &mut outputs, desk),
         Err(fault) => Err(fault),
     }
 }

@@ -7,7 +7,7 @@ ghost use Rattle.ioam_desk_outputs.specs.Told.{Adds, AreOpen, AreTold, said_more
 ghost use Rattle.ioam_run_bulk.specs.Promise.{IsReport, MayReport, no_readings};
 
 use crate::load::sums_of;
-use crate::terms::Terms;
+use crate::terms::{Demand, Terms};
 use ioam_base::memory::NoMemory;
 use ioam_clock::{Readings, read_readings};
 use ioam_desk::{Desk, DeskFault};
@@ -31,71 +31,59 @@ fn no_readings(alloc: Global, domain: &Domain) -> Result<Readings, NoMemory>
 
 // Appends the sums of so many arrivals behind a seed.
 fn append_report<R: Threads + Sync, G: Gate>(
-    rt: &R,
+    demand: &Demand<'_, R, G>,
     alloc: Global,
-    seed: u64,
-    count: u32,
-    workers: u32,
-    gate: &G,
     out: &mut Vec<u8>,
 ) -> Result<(), NoMemory>
-    requires count { (1 ≤ count) × (count ≤ 1000000) }
-    requires staffed { (1 ≤ workers) × (workers ≤ 64) }
-    ensures { OnOk result ((text : List ℕ) × IsReport seed count text × (out.new.items ≡ out.old.items ++ text)) }
+    requires count { (1 ≤ demand.now.count) × (demand.now.count ≤ 1000000) }
+    requires staffed { (1 ≤ demand.now.workers) × (demand.now.workers ≤ 64) }
+    ensures { OnOk result ((text : List ℕ) × IsReport demand.now.seed demand.now.count text × (out.new.items ≡ out.old.items ++ text)) }
 {
-    let domain = bulk_domain(alloc, count)?;
+    let domain = bulk_domain(alloc, demand.count)?;
     let readings = no_readings(alloc, &domain)?;
     let terms = Terms {
-        rt,
-        workers,
-        gate,
+        rt: demand.rt,
+        workers: demand.workers,
+        gate: demand.gate,
         domain: &domain,
         readings: &readings,
     };
-    let sums = sums_of(&terms, alloc, seed, count)?;
+    let sums = sums_of(&terms, alloc, demand.seed, demand.count)?;
     put_sums(&domain, &sums, out)
 }
 
 // Gathers the sums for the one output.
 fn put_report<R: Threads + Sync, G: Gate>(
-    rt: &R,
+    demand: &Demand<'_, R, G>,
     alloc: Global,
-    seed: u64,
-    count: u32,
-    workers: u32,
-    gate: &G,
     outputs: &mut [Output],
 ) -> Result<(), NoMemory>
-    requires count { (1 ≤ count) × (count ≤ 1000000) }
-    requires staffed { (1 ≤ workers) × (workers ≤ 64) }
+    requires count { (1 ≤ demand.now.count) × (demand.now.count ≤ 1000000) }
+    requires staffed { (1 ≤ demand.now.workers) × (demand.now.workers ≤ 64) }
     requires width { length outputs.old ≡ 1 }
-    ensures { OnOk result ((text : List ℕ) × IsReport seed count text × Adds outputs.old outputs.new (text ∷ [])) }
+    ensures { OnOk result ((text : List ℕ) × IsReport demand.now.seed demand.now.count text × Adds outputs.old outputs.new (text ∷ [])) }
 {
     let out = &mut outputs[0].gathered;
-    append_report(rt, alloc, seed, count, workers, gate, out)
+    append_report(demand, alloc, out)
 }
 
 /// Takes so many arrivals behind a seed, and writes their sums to the one output.
 pub(crate) fn write_report<R: Threads + Sync, D: Desk, G: Gate>(
-    rt: &R,
+    demand: &Demand<'_, R, G>,
     alloc: Global,
-    seed: u64,
-    count: u32,
-    workers: u32,
-    gate: &G,
     outputs: &mut [Output],
     desk: &mut D,
 ) -> Result<(), DeskFault>
-    requires count { (1 ≤ count) × (count ≤ 1000000) }
-    requires staffed { (1 ≤ workers) × (workers ≤ 64) }
+    requires count { (1 ≤ demand.now.count) × (demand.now.count ≤ 1000000) }
+    requires staffed { (1 ≤ demand.now.workers) × (demand.now.workers ≤ 64) }
     requires open { AreOpen (D.writing desk.old) outputs.old }
     requires width { length outputs.old ≡ 1 }
     ensures texts { OnOk result (IsTrue D.tells → (slot : ℕ) (names texts : List (List ℕ))
         → AreTold D.tells (D.writing desk.old) slot names outputs.old texts
-        → (text : List ℕ) × IsReport seed count text × HoldTexts (D.writing desk.new) names (said_more texts (text ∷ []))) }
+        → (text : List ℕ) × IsReport demand.now.seed demand.now.count text × HoldTexts (D.writing desk.new) names (said_more texts (text ∷ []))) }
     ensures fronts { IsTrue D.tells → (slot : ℕ) (names texts : List (List ℕ))
         → AreTold D.tells (D.writing desk.old) slot names outputs.old texts
-        → (text : List ℕ) × MayReport seed count text × HoldAllFronts (D.writing desk.new) names (said_more texts (text ∷ [])) }
+        → (text : List ℕ) × MayReport demand.now.seed demand.now.count text × HoldAllFronts (D.writing desk.new) names (said_more texts (text ∷ [])) }
     ensures cause { IfErr result (IsFaultOf (D.writing desk.old).side (D.writing desk.new).side) }
     ensures asked { (D.writing desk.new).side.asked ≡ (D.writing desk.old).side.asked }
     ensures slots { (D.writing desk.new).side.slots ≡ (D.writing desk.old).side.slots }
@@ -103,7 +91,7 @@ pub(crate) fn write_report<R: Threads + Sync, D: Desk, G: Gate>(
         → WritesFrom slot (D.writing desk.old) (D.writing desk.new) }
     ensures inputs { D.reading desk.new ≡ D.reading desk.old }
 {
-    match put_report(rt, alloc, seed, count, workers, gate, outputs) {
+    match put_report(demand, alloc, outputs) {
         Ok(()) => finish(desk, outputs),
         Err(NoMemory) => Err(DeskFault::NoMemory),
     }

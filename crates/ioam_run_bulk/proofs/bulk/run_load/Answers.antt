@@ -9,12 +9,12 @@ write_sums-requires-clause-one g c κs within = c.from_ref-reports.ensures.len
 
 pub returns-in-Ok-clause-leaves : goal.returns-in-Ok-clause-leaves
 returns-in-Ok-clause-leaves g c = λ tells.
-    subst (λ (ns : List (List ℕ)). HoldsReport c.args.seed c.args.count (name_at ns 0) (g.D.Desk.writing c.write_sums.new.desk))
+    subst (λ (ns : List (List ℕ)). HoldsReport c.args.demand.now.seed c.args.demand.now.count (name_at ns 0) (g.D.Desk.writing c.write_sums.new.desk))
     c.from_ref-reports.ensures.value (c.in-Ok.ensures.held tells)
 
 pub returns-in-Err-Failed-clause-leaves : goal.returns-in-Err-Failed-clause-leaves
 returns-in-Err-Failed-clause-leaves g c = λ tells.
-    subst (λ (ns : List (List ℕ)). HoldsFront c.args.seed c.args.count (name_at ns 0) (g.D.Desk.writing c.args.desk.now) (g.D.Desk.writing c.write_sums.new.desk))
+    subst (λ (ns : List (List ℕ)). HoldsFront c.args.demand.now.seed c.args.demand.now.count (name_at ns 0) (g.D.Desk.writing c.args.desk.now) (g.D.Desk.writing c.write_sums.new.desk))
     c.from_ref-reports.ensures.value (c.in-Err-Failed.ensures.front tells)
 
 pub returns-in-Err-Failed-clause-cause : goal.returns-in-Err-Failed-clause-cause

@@ -30,7 +30,7 @@ returns-in-Ok-clause-held g c =
     let told = subst (λ (o : List Output). AreTold g.D.Desk.tells mid old.side.slots names o (unsaid names)) (sym c.deref_mut.ensures.value) c.in-Ok.ensures.opened in
     OnOk-map c.write_report.result _ _ c.write_report.ensures.texts
     (λ holds tells. let it = holds tells old.side.slots names (unsaid names) told in
-    held_report names (name_at names 0) (only_name names c.requires.one) c.args.seed c.args.count old (g.D.Desk.writing c.write_report.new.desk) it.0 it.1 it.2)
+    held_report names (name_at names 0) (only_name names c.requires.one) c.args.demand.now.seed c.args.demand.now.count old (g.D.Desk.writing c.write_report.new.desk) it.0 it.1 it.2)
 
 pub returns-in-Ok-clause-front : goal.returns-in-Ok-clause-front
 returns-in-Ok-clause-front g c =
@@ -39,7 +39,7 @@ returns-in-Ok-clause-front g c =
     let names = c.args.reports.now in
     let told = subst (λ (o : List Output). AreTold g.D.Desk.tells mid old.side.slots names o (unsaid names)) (sym c.deref_mut.ensures.value) c.in-Ok.ensures.opened in
     λ tells. let it = c.write_report.ensures.fronts tells old.side.slots names (unsaid names) told in
-    held_front names (name_at names 0) (only_name names c.requires.one) c.args.seed c.args.count old (g.D.Desk.writing c.write_report.new.desk) it.0 it.1 it.2
+    held_front names (name_at names 0) (only_name names c.requires.one) c.args.demand.now.seed c.args.demand.now.count old (g.D.Desk.writing c.write_report.new.desk) it.0 it.1 it.2
 
 pub returns-in-Ok-clause-cause : goal.returns-in-Ok-clause-cause
 returns-in-Ok-clause-cause g c =
@@ -64,5 +64,5 @@ returns-in-Ok-clause-kept_out g c =
 pub returns-in-Err-clause-front : goal.returns-in-Err-clause-front
 returns-in-Err-clause-front g c =
     let names = c.args.reports.now in
-    λ tells. unopened_front names (name_at names 0) (only_name names c.requires.one) c.args.seed c.args.count (g.D.Desk.writing c.args.desk.now)
+    λ tells. unopened_front names (name_at names 0) (only_name names c.requires.one) c.args.demand.now.seed c.args.demand.now.count (g.D.Desk.writing c.args.desk.now)
     (g.D.Desk.writing c.open_outputs.new.desk) (c.in-Err.ensures.fault.1 tells)
