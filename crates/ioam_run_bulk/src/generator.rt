@@ -10,7 +10,7 @@ use ioam_ip::next_header::NO_NEXT;
 const PAYLOADS: u64 = 1_400;
 
 /// The most octets that a packet has: a header of 40, and a payload of 1,399.
-pub(crate) const PACKET_MOST: usize = HEADER_OCTETS + PAYLOADS as usize - 1;
+pub(crate) const MOST_GENERATED: usize = HEADER_OCTETS + PAYLOADS as usize - 1;
 
 /// The state behind a state: a linear congruential generator modulo 2^64.
 pub(crate) fn next_state(state: u64) -> u64

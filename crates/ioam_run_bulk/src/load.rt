@@ -6,7 +6,7 @@ ghost use Rattle.ioam_run_arrivals.specs.Forwarding.{Forwards, IsOf, has_room, t
 ghost use Rattle.ioam_topo.specs.Domain.{ports};
 ghost use Rattle.ioam_run_bulk.specs.Load.{AreSums, Loads};
 
-use crate::generator::{PACKET_MOST, next_state, put_packet};
+use crate::generator::{MOST_GENERATED, next_state, put_packet};
 use crate::terms::Terms;
 use ioam_base::memory::NoMemory;
 use ioam_pcap::Packet;
@@ -32,7 +32,7 @@ fn new_load(alloc: Global, domain: &Domain, seed: u64) -> Result<Load, NoMemory>
     ensures { IfOk result (λ load. (readings : List (List Sample)) → Loads domain.now readings seed 0 load) }
 {
     let gathered = Forwarding::start(alloc, domain)?;
-    let octets = Vec::with_capacity(alloc, PACKET_MOST)?;
+    let octets = Vec::with_capacity(alloc, MOST_GENERATED)?;
     Ok(Load {
         gathered,
         state: seed,
