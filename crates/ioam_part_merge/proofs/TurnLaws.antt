@@ -1,6 +1,6 @@
 -- Which record comes next of two parts.
 use Rattle.std.proofs.Common.{◌≡◌, ℕ, Bool, true, false, List, [], ◌∷◌, All, Option, None, Some, refl, sym, ap, ap₂, ◌∙◌, subst}
-use Rattle.std.specs.Prelude.{is_some, unwrap_or}
+use Rattle.std.specs.Prelude.{⊤, IsTrue, is_some, unwrap_or}
 use Rattle.std.specs.declared.cmp.Ordering.{Ordering}
 use Rattle.std.specs.declared.cmp.Ordering.TheVariants.{Less, Equal, Greater}
 use Rattle.std.proofs.lemmas.List.Elements.{All-head, All-tail}
@@ -16,10 +16,78 @@ use Rattle.ioam_collect.specs.declared.key.Key.{Key}
 use Rattle.ioam_part.specs.Part.{HasKey}
 use Rattle.ioam_part.proofs.PartLaws.{item_parts, keyed-cons}
 use Rattle.ioam_part_merge.specs.Pairs.{pair_of}
-use Rattle.ioam_part_merge.specs.Walk.{ShowsNext, IsSide, Shows, turn_by, turn_of, TakesFirst, TakesSecond, TakesBoth, LeavesFirst, LeavesSecond, TurnsSo}
+use Rattle.ioam_part_merge.specs.Walk.{ShowsNext, IsSide, turn_by, turn_of}
 use Rattle.ioam_part_merge.specs.declared.side.Side.{Side}
 use Rattle.ioam_part_merge.specs.declared.turn.Turn.{Turn}
 use Rattle.ioam_part_merge.specs.declared.turn.Turn.TheVariants as turn
+
+-- ---- what a turn does
+
+-- what one finds going along two lists side by side begins with this pair and goes on so
+abbrev pub Finds : Key × Entry → List Record → List Record → List Record → List Record → Type 0
+Finds pair xs ys rest others = united (keyed xs) (keyed ys) ≡ pair ∷ united (keyed rest) (keyed others)
+
+-- the first record of the one list comes next, and its pair is found first
+pub record TakesFirst (xs ys : List Record) : Type 0 where
+  pub one : Record
+  pub rest : List Record
+  pub pair : Key × Entry
+  pub are : xs ≡ one ∷ rest
+  pub says : keyed_of one ≡ Some pair
+  pub finds : Finds pair xs ys rest ys
+
+-- that of the other list
+pub record TakesSecond (xs ys : List Record) : Type 0 where
+  pub one : Record
+  pub rest : List Record
+  pub pair : Key × Entry
+  pub are : ys ≡ one ∷ rest
+  pub says : keyed_of one ≡ Some pair
+  pub finds : Finds pair xs ys xs rest
+
+-- both have the pair that is found first, and both are taken
+pub record TakesBoth (xs ys : List Record) : Type 0 where
+  pub one : Record
+  pub other : Record
+  pub rest : List Record
+  pub others : List Record
+  pub pair : Key × Entry
+  pub are : xs ≡ one ∷ rest
+  pub are_others : ys ≡ other ∷ others
+  pub says : keyed_of one ≡ Some pair
+  pub finds : Finds pair xs ys rest others
+
+-- or goes on without the first of the one list
+pub record LeavesFirst (xs ys : List Record) : Type 0 where
+  pub one : Record
+  pub rest : List Record
+  pub are : xs ≡ one ∷ rest
+  pub goes : united (keyed xs) (keyed ys) ≡ united (keyed rest) (keyed ys)
+
+-- or without the first of the other
+pub record LeavesSecond (xs ys : List Record) : Type 0 where
+  pub one : Record
+  pub rest : List Record
+  pub are : ys ≡ one ∷ rest
+  pub goes : united (keyed xs) (keyed ys) ≡ united (keyed xs) (keyed rest)
+
+-- what a turn does with the records that are left of both lists
+abbrev pub TurnsSo : Turn → List Record → List Record → Type 0
+TurnsSo turn.Done xs ys = (xs ≡ []) × (ys ≡ [])
+TurnsSo turn.First xs ys = TakesFirst xs ys
+TurnsSo turn.Second xs ys = TakesSecond xs ys
+TurnsSo turn.Both xs ys = TakesBoth xs ys
+TurnsSo turn.WithoutFirst xs ys = LeavesFirst xs ys
+TurnsSo turn.WithoutSecond xs ys = LeavesSecond xs ys
+
+-- what is taken or left out is there
+abbrev pub Shows : Turn → Option Export → Option Export → Type 0
+Shows turn.Done first second = ⊤
+Shows turn.First first second = IsTrue (is_some first)
+Shows turn.Second first second = IsTrue (is_some second)
+Shows turn.Both first second = IsTrue (is_some first) × IsTrue (is_some second)
+Shows turn.WithoutFirst first second = IsTrue (is_some first)
+Shows turn.WithoutSecond first second = IsTrue (is_some second)
 
 -- ---- what a side shows
 

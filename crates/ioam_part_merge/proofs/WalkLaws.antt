@@ -18,8 +18,9 @@ use Rattle.ioam_collect.proofs.Members.{Has}
 use Rattle.ioam_collect.proofs.UniteLaws.{kept_apart, united_kept}
 use Rattle.ioam_part.specs.Part.{HasKey, IsPart, PartOf, head_octets}
 use Rattle.ioam_part.proofs.RecordLaws.{item_is, records_for, said}
-use Rattle.ioam_part_merge.specs.Walk.{ShowsNext, Says, IsSide, TakesFirst, TakesSecond, TakesBoth, LeavesFirst, LeavesSecond, TurnsSo, Walking, Comes, NextIs, left_of, pairs_text}
+use Rattle.ioam_part_merge.specs.Walk.{ShowsNext, Says, IsSide, Walking, Comes, NextIs, left_of, pairs_octets}
 use Rattle.ioam_part_merge.specs.declared.side.Side.{Side}
+use Rattle.ioam_part_merge.proofs.TurnLaws.{TakesFirst, TakesSecond, TakesBoth, LeavesFirst, LeavesSecond}
 
 -- ---- a side goes on
 
@@ -149,7 +150,7 @@ begins one two walk xs ys p q first second = record { firsts = xs; seconds = ys;
 -- ---- what comes of it is the part of both
 
 pub text_is_part : (one two : List ℕ) (xs ys : List Record) → IsPart one xs → IsPart two ys → length (united (keyed xs) (keyed ys)) ≤ 1048576
-    → PartOf (pairs_text (united (keyed xs) (keyed ys))) (groups_of (keyed xs ++ keyed ys))
+    → PartOf (head_octets (length (united (keyed xs) (keyed ys))) ++ pairs_octets (united (keyed xs) (keyed ys))) (groups_of (keyed xs ++ keyed ys))
 text_is_part one two xs ys p q few =
     let ps : List (Key × Entry) = keyed xs ++ keyed ys in
     let us : List (Key × Entry) = united (keyed xs) (keyed ys) in

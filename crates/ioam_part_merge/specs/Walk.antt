@@ -1,16 +1,16 @@
 -- Two parts that are walked side by side.
-use Rattle.std.specs.Prelude.{◌≡◌, ℕ, ◌+◌, ⊤, Bool, true, false, List, [], ◌∷◌, ◌++◌, length, All, Option, None, Some, IfSome, is_some, IsTrue}
+use Rattle.std.specs.Prelude.{◌≡◌, ℕ, ◌+◌, ⊤, Bool, true, false, List, [], ◌∷◌, length, All, Option, None, Some, IfSome, is_some}
 use Rattle.std.specs.List.{flat_map}
 use Rattle.std.specs.declared.cmp.Ordering.{Ordering}
 use Rattle.std.specs.declared.cmp.Ordering.TheVariants.{Less, Equal, Greater}
-use Rattle.ioam_dex.specs.Record.{Record, IsRecord, Rec, record_of, record_octets}
+use Rattle.ioam_dex.specs.Record.{Record, IsRecord, Rec, record_of}
 use Rattle.ioam_dex.specs.Reads.{records_octets}
 use Rattle.ioam_dex.specs.declared.export.Export.{Export}
 use Rattle.ioam_collect.specs.Entry.{Entry}
-use Rattle.ioam_collect.specs.Keyed.{keyed, keyed_of}
+use Rattle.ioam_collect.specs.Keyed.{keyed}
 use Rattle.ioam_collect.specs.Unite.{pair_meet, united}
 use Rattle.ioam_collect.specs.declared.key.Key.{Key}
-use Rattle.ioam_part.specs.Part.{HasKey, head_octets, item_octets}
+use Rattle.ioam_part.specs.Part.{HasKey, item_octets}
 use Rattle.ioam_part_merge.specs.Pairs.{pair_of}
 use Rattle.ioam_part_merge.specs.declared.side.Side.{Side}
 use Rattle.ioam_part_merge.specs.declared.turn.Turn.{Turn}
@@ -55,72 +55,6 @@ turn_of None None = turn.Done
 turn_of None (Some f) = turn.Second
 turn_of (Some e) None = turn.First
 turn_of (Some e) (Some f) = turn_by (pair_meet (pair_of (record_of e)) (pair_of (record_of f))) (is_some e.visit) (is_some f.visit)
-
--- what one finds going along two lists side by side begins with this pair and goes on so
-abbrev pub Finds : Key × Entry → List Record → List Record → List Record → List Record → Type 0
-Finds pair xs ys rest others = united (keyed xs) (keyed ys) ≡ pair ∷ united (keyed rest) (keyed others)
-
--- the first record of the one list comes next, and its pair is found first
-pub record TakesFirst (xs ys : List Record) : Type 0 where
-  pub one : Record
-  pub rest : List Record
-  pub pair : Key × Entry
-  pub are : xs ≡ one ∷ rest
-  pub says : keyed_of one ≡ Some pair
-  pub finds : Finds pair xs ys rest ys
-
--- that of the other list
-pub record TakesSecond (xs ys : List Record) : Type 0 where
-  pub one : Record
-  pub rest : List Record
-  pub pair : Key × Entry
-  pub are : ys ≡ one ∷ rest
-  pub says : keyed_of one ≡ Some pair
-  pub finds : Finds pair xs ys xs rest
-
--- both have the pair that is found first, and both are taken
-pub record TakesBoth (xs ys : List Record) : Type 0 where
-  pub one : Record
-  pub other : Record
-  pub rest : List Record
-  pub others : List Record
-  pub pair : Key × Entry
-  pub are : xs ≡ one ∷ rest
-  pub are_others : ys ≡ other ∷ others
-  pub says : keyed_of one ≡ Some pair
-  pub finds : Finds pair xs ys rest others
-
--- or goes on without the first of the one list
-pub record LeavesFirst (xs ys : List Record) : Type 0 where
-  pub one : Record
-  pub rest : List Record
-  pub are : xs ≡ one ∷ rest
-  pub goes : united (keyed xs) (keyed ys) ≡ united (keyed rest) (keyed ys)
-
--- or without the first of the other
-pub record LeavesSecond (xs ys : List Record) : Type 0 where
-  pub one : Record
-  pub rest : List Record
-  pub are : ys ≡ one ∷ rest
-  pub goes : united (keyed xs) (keyed ys) ≡ united (keyed xs) (keyed rest)
-
--- what a turn does with the records that are left of both lists
-abbrev pub TurnsSo : Turn → List Record → List Record → Type 0
-TurnsSo turn.Done xs ys = (xs ≡ []) × (ys ≡ [])
-TurnsSo turn.First xs ys = TakesFirst xs ys
-TurnsSo turn.Second xs ys = TakesSecond xs ys
-TurnsSo turn.Both xs ys = TakesBoth xs ys
-TurnsSo turn.WithoutFirst xs ys = LeavesFirst xs ys
-TurnsSo turn.WithoutSecond xs ys = LeavesSecond xs ys
-
--- what is taken or left out is there
-abbrev pub Shows : Turn → Option Export → Option Export → Type 0
-Shows turn.Done first second = ⊤
-Shows turn.First first second = IsTrue (is_some first)
-Shows turn.Second first second = IsTrue (is_some second)
-Shows turn.Both first second = IsTrue (is_some first) × IsTrue (is_some second)
-Shows turn.WithoutFirst first second = IsTrue (is_some first)
-Shows turn.WithoutSecond first second = IsTrue (is_some second)
 
 -- ---- the walk
 
@@ -174,7 +108,3 @@ Goes (step.Taken octets) P = P
 -- the records of pairs, one behind the other
 abbrev pub pairs_octets : List (Key × Entry) → List ℕ
 pairs_octets ps = flat_map (λ (p : Key × Entry). item_octets p.1) ps
-
--- with their head
-abbrev pub pairs_text : List (Key × Entry) → List ℕ
-pairs_text ps = head_octets (length ps) ++ pairs_octets ps

@@ -15,7 +15,7 @@ use Rattle.ioam_collect.proofs.JoiningLaws.{keyed-append}
 use Rattle.ioam_collect.proofs.UniteLaws.{apart_kept}
 use Rattle.ioam_part.specs.Part.{IsPart, PartOf, JoinsTo, head_octets}
 use Rattle.ioam_part.proofs.PartLaws.{joined_is, joined_only, joined_swaps, joined_associates, joined_repeats, groups_same, part_same}
-use Rattle.ioam_part_merge.specs.Walk.{Walking, Comes, pairs_octets, pairs_text}
+use Rattle.ioam_part_merge.specs.Walk.{Walking, Comes, pairs_octets}
 use Rattle.ioam_part_merge.proofs.WalkLaws.{count_is, text_is_part}
 use Rattle.ioam_run_answer.specs.declared.outcome.Outcome.{Outcome}
 use Rattle.ioam_run_answer.specs.declared.outcome.Outcome.TheVariants as outcome
@@ -74,7 +74,7 @@ planned one two xs ys walk gathered p q plan =
     let same = count_is one two xs ys p q in
     let few = plan.few in
     let us : List (Key × Entry) = united (keyed xs) (keyed ys) in
-    let text : PartOf (pairs_text us) (groups_of (keyed xs ++ keyed ys)) = text_is_part one two xs ys p q (omega (arith, same, few)) in
+    let text : PartOf (head_octets (length us) ++ pairs_octets us) (groups_of (keyed xs ++ keyed ys)) = text_is_part one two xs ys p q (omega (arith, same, few)) in
     subst (λ ps. PartOf (gathered ++ pairs_octets us) (groups_of ps)) (sym (keyed-append xs ys))
     (subst (λ o. PartOf (o ++ pairs_octets us) (groups_of (keyed xs ++ keyed ys))) (sym plan.head) text)
 
