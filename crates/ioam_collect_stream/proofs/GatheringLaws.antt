@@ -15,6 +15,7 @@ use Rattle.ioam_dex.proofs.RecordLaws.{numbers_size-small, record_octets-length,
 use Rattle.ioam_collect.specs.Keyed.{keyed_of}
 use Rattle.ioam_collect.specs.Collected as collected
 use Rattle.ioam_collect.specs.Collected.{Collected, Answers, Leaves, capped, count_kept, held_more}
+use Rattle.ioam_collect.specs.Joining.{is_full}
 use Rattle.ioam_collect.proofs.CountLaws.{full_count, fits_count, held_within}
 use Rattle.ioam_collect.specs.declared.growing.Added.{Added}
 use Rattle.ioam_collect.specs.declared.growing.Added.TheVariants.{Kept, Replaced, Repeat, Unkeyed, Full}
@@ -27,7 +28,7 @@ use Rattle.ioam_collect_stream.specs.Feed.{Fed, FeedsPiece, FindsEnd, Refills}
 use Rattle.std.specs.Prelude.{Result, Err}
 use Rattle.ioam_desk.specs.declared.fault.DeskFault.{DeskFault}
 use Rattle.ioam_desk.specs.declared.fault.DeskFault.TheVariants.{Failed, NoMemory}
-use Rattle.ioam_collect_stream.specs.Gathering.{AreFew, Gathers, IsLimit, IsPast, SaysLimit, Steps, Pauses, Passes, AreWhole, is_full, ReadsOne}
+use Rattle.ioam_collect_stream.specs.Gathering.{AreFew, Gathers, IsLimit, IsPast, SaysLimit, Steps, Pauses, Passes, AreWhole, ReadsOne}
 
 twelve_small : (there : Bool) → twelve_where there ≤ 12
 twelve_small true = omega arith

@@ -1,5 +1,5 @@
 -- Export records that are read in pieces while a collector regroups them.
-use Rattle.std.specs.Prelude.{◌≡◌, ℕ, ◌<◌, ◌≤◌, ◌⊎◌, ⊤, Bool, true, false, IsTrue, IsSomeAnd, List, [], ◌∷◌, ◌++◌, length, Option, Some, None}
+use Rattle.std.specs.Prelude.{◌≡◌, ℕ, ◌<◌, ◌≤◌, ◌⊎◌, ⊤, Bool, IsTrue, IsSomeAnd, List, [], ◌∷◌, ◌++◌, length, Option, Some, None}
 use Rattle.ioam_desk.specs.Desk as desk
 use Rattle.ioam_desk.specs.Desk.{Rose, SameBut}
 use Rattle.ioam_dex.specs.Record.{Record}
@@ -10,8 +10,7 @@ use Rattle.ioam_dex.specs.Reader.{Stands, Waits}
 use Rattle.ioam_collect.specs.Keyed.{keyed_of}
 use Rattle.ioam_collect.specs.Collected as collected
 use Rattle.ioam_collect.specs.Collected.{Collected, Answers, count_kept}
-use Rattle.ioam_collect.specs.declared.growing.Added.{Added}
-use Rattle.ioam_collect.specs.declared.growing.Added.TheVariants.{Kept, Replaced, Repeat, Unkeyed, Full}
+use Rattle.ioam_collect.specs.declared.growing.Added.TheVariants.{Full}
 use Rattle.ioam_collect_stream.specs.declared.step.Pause.{Pause}
 use Rattle.ioam_collect_stream.specs.declared.step.Pause.TheVariants as pause
 use Rattle.ioam_collect_stream.specs.declared.gathering.Halt.{Halt}
@@ -41,14 +40,6 @@ pub record Gathers (octets : List ℕ) (records : List Record) (reader : Reading
   pub stands_for : collected.Stands collector records
   pub few : AreFew records
   pub limit : collector.limit ≡ most_held
-
--- no more may be held
-abbrev pub is_full : Added → Bool
-is_full Full = true
-is_full Kept = false
-is_full Replaced = false
-is_full Repeat = false
-is_full Unkeyed = false
 
 -- one of the two limits
 abbrev pub IsLimit : ℕ → Type 0

@@ -2,10 +2,10 @@
 ghost use Rattle.std.specs.Prelude.{◌≡◌, IfOk};
 ghost use Rattle.ioam_dex.specs.Reader.{fed};
 ghost use Rattle.ioam_dex.specs.Record.{HasItsParts, record_of};
-ghost use Rattle.ioam_collect_stream.specs.Gathering.{SaysLimit, Steps, is_full, most_held};
+ghost use Rattle.ioam_collect_stream.specs.Gathering.{SaysLimit, Steps, most_held};
 
 use ioam_base::memory::NoMemory;
-use ioam_collect::{Added, Collector, MOST_HELD};
+use ioam_collect::{Collector, MOST_HELD};
 use ioam_dex::{Export, ExportFault, ExportReader, MOST_RECORDS, Step};
 
 /// Why no record was taken.
@@ -17,13 +17,6 @@ pub(crate) enum Pause {
     Bad { at: u64, fault: ExportFault },
     /// As many records were read, or are held, as may be, and there is another.
     Limit { limit: u32 },
-}
-
-// Whether no more may be held.
-fn is_full(added: Added) -> bool
-    ensures { result ≡ is_full added }
-{
-    matches!(added, Added::Full)
 }
 
 // Which limit a record passes where as many were read as may be. Where it would be one too many to be
@@ -57,7 +50,7 @@ pub(crate) fn step(
                 return Ok(Some(Pause::Limit { limit }));
             }
             let added = collector.add(&export)?;
-            if is_full(added) {
+            if added.is_full() {
                 return Ok(Some(Pause::Limit { limit: MOST_HELD }));
             }
             Ok(None)
