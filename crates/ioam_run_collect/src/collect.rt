@@ -1,5 +1,5 @@
 //! The command: its names, its files and its answer.
-ghost use Rattle.std.specs.Prelude.{◌≡◌, ◌≢◌, ◌⊎◌, ◌∷◌, ◌++◌, [], IsTrue};
+ghost use Rattle.std.specs.Prelude.{◌≡◌, ◌≢◌, ◌<◌, ◌⊎◌, ◌∷◌, ◌++◌, [], IsTrue, Some};
 ghost use Rattle.ioam_desk.specs.Asked.{AsksFront};
 ghost use Rattle.ioam_desk.specs.Desk.{holds};
 ghost use Rattle.ioam_desk.specs.Kept.{KeepsInputs, KeepsOutputs};
@@ -39,6 +39,8 @@ fn run_names<D: Desk>(alloc: Global, files: &CollectFiles<'_>, desk: &mut D) -> 
     ensures unopened { OpensNothing result → D.reading desk.new ≡ D.reading desk.old }
     ensures differed { (D.reading desk.new ≡ D.reading desk.old) ⊎ (files.now.exports ≢ files.now.report) }
     ensures no_output { (D.reading desk.new).side.slots ≡ (D.reading desk.old).side.slots → D.writing desk.new ≡ D.writing desk.old }
+    ensures unread { IsTrue D.tells → (D.writing desk.new).side.slots ≡ (D.writing desk.old).side.slots → (D.reading desk.old).side.slots < (D.reading desk.new).side.slots
+        → holds (D.writing desk.old) files.now.exports ≡ Some ((D.reading desk.new).left (D.reading desk.old).side.slots) }
     ensures drained { IsDone result → IsTrue D.tells → IsTrue ((D.reading desk.new).ended (D.reading desk.old).side.slots) }
     ensures kept_in { KeepsInputs (D.reading desk.old) (D.reading desk.new) }
     ensures kept_out { IsTrue D.tells → KeepsOutputs (D.writing desk.old) (D.writing desk.new) }

@@ -1,5 +1,5 @@
 //! The files of the command: EXPORTS, and REPORT behind it.
-ghost use Rattle.std.specs.Prelude.{◌≡◌, ◌∷◌, ◌++◌, ◌≤◌, [], IfOk, IsTrue, length};
+ghost use Rattle.std.specs.Prelude.{◌≡◌, ◌∷◌, ◌++◌, ◌<◌, ◌≤◌, [], IfOk, IsTrue, Some, length};
 ghost use Rattle.ioam_desk.specs.Asked.{AsksFront};
 ghost use Rattle.ioam_desk.specs.Desk.{holds};
 ghost use Rattle.ioam_desk.specs.Kept.{KeepsInputs, KeepsOutputs, WritesFrom};
@@ -38,6 +38,8 @@ pub(crate) fn run_files<D: Desk>(
     ensures all_in { IsBehindAll ⊥ result → (D.reading desk.new).side.asked ≡ (D.reading desk.old).side.asked ++ exports.now ∷ [] }
     ensures all_out { IsBehindAll ⊥ result → (D.writing desk.new).side.asked ≡ (D.writing desk.old).side.asked ++ start.report ∷ [] }
     ensures no_output { (D.reading desk.new).side.slots ≤ (D.reading desk.old).side.slots → D.writing desk.new ≡ D.writing desk.old }
+    ensures unread { IsTrue D.tells → (D.writing desk.new).side.slots ≡ (D.writing desk.old).side.slots → (D.reading desk.old).side.slots < (D.reading desk.new).side.slots
+        → start.content ≡ Some ((D.reading desk.new).left (D.reading desk.old).side.slots) }
     ensures drained { IsDone result → IsTrue D.tells → IsTrue ((D.reading desk.new).ended (D.reading desk.old).side.slots) }
     ensures kept_in { KeepsInputs (D.reading desk.old) (D.reading desk.new) }
     ensures kept_out { IsTrue D.tells → KeepsOutputs (D.writing desk.old) (D.writing desk.new) }

@@ -6,7 +6,7 @@ use Rattle.ioam_desk.proofs.KeptLaws.{KeepsInputs-same, KeepsOutputs-same, Keeps
 use Rattle.ioam_collect_stream.specs.Feed.{Fed}
 use Rattle.ioam_collect_stream.specs.Gathering.{ReadsOne}
 use Rattle.ioam_run_collect.proofs.FinishesLaws.{Finishes-cause, Finishes-leaves, Finishes-drained, fed_start, gathers_none, unwritten, unsaid_start}
-use Rattle.ioam_run_collect.proofs.KeptLaws.{ReadsOne-same, KeepsInputs-unopened, KeepsInputs-opened}
+use Rattle.ioam_run_collect.proofs.KeptLaws.{ReadsOne-same, KeepsInputs-unopened, KeepsInputs-opened, unread}
 use Rattle.ioam_run_collect.proofs.WordsLaws.{one_apart}
 use Rattle.ioam_run_collect.proofs.files.run_files.Goals as goal
 
@@ -286,3 +286,40 @@ returns-clause-kept_in g c = KeepsInputs-opened g.D.Desk.tells (g.D.Desk.reading
 pub returns-clause-kept_out : goal.returns-clause-kept_out
 returns-clause-kept_out g c = λ told. KeepsOutputs-then (g.D.Desk.writing c.args.desk.now) (g.D.Desk.writing c.open_exports.new.desk) (g.D.Desk.writing c.open_outputs.new.desk)
     (KeepsOutputs-same (g.D.Desk.writing c.args.desk.now) _ c.open_exports.ensures.outputs) (c.open_outputs.ensures.kept told)
+
+pub returns-in_default-clause-unread : goal.returns-in_default-clause-unread
+returns-in_default-clause-unread g c = λ told unopened opened. absurd (omega (arith, opened))
+
+pub returns-in-Err-Failed-clause-unread : goal.returns-in-Err-Failed-clause-unread
+returns-in-Err-Failed-clause-unread g c =
+    let failed = rw c.in-Err-Failed.field-0-is at c.in-Err-Failed.ensures.fault in
+    λ told unopened opened. absurd (omega (arith, opened, failed.0.slots))
+
+pub returns-in-Err-NoMemory-clause-unread : goal.returns-in-Err-NoMemory-clause-unread
+returns-in-Err-NoMemory-clause-unread g c =
+    let same = rw c.in-Err-NoMemory.field-0-is at c.in-Err-NoMemory.ensures.fault in
+    let slots : (g.D.Desk.reading c.open_exports.new.desk).side.slots ≡ (g.D.Desk.reading c.args.desk.now).side.slots =
+    ap (λ (r : desk.Reading). r.side.slots) same in
+    λ told unopened opened. absurd (omega (arith, opened, slots))
+
+pub returns-in-Ok-open_outputs-clause-unread : goal.returns-in-Ok-open_outputs-clause-unread
+returns-in-Ok-open_outputs-clause-unread g c =
+    let one : length c.args.reports.now ≡ 1 = ap (λ (names : List (List ℕ)). length names) c.requires.1.1.1 in
+    let slots : (g.D.Desk.writing c.open_outputs.new.desk).side.slots ≡ (g.D.Desk.writing c.args.desk.now).side.slots + length c.args.reports.now =
+    ap (λ (s : Side). s.slots) c.in-Ok-open_outputs.ensures.side
+    ∙ ap (λ (w : Writing). w.side.slots + length c.args.reports.now) c.in-Ok-open_exports.ensures.outputs in
+    λ told unopened opened. absurd (omega (arith, one, slots, c.run_open.ensures.slots_out, unopened))
+
+pub returns-in-Err-Failed-open_outputs-clause-unread : goal.returns-in-Err-Failed-open_outputs-clause-unread
+returns-in-Err-Failed-open_outputs-clause-unread g c = λ told unopened opened.
+    unread g.D.Desk.tells g.start.content _ (g.D.Desk.reading c.args.desk.now) (g.D.Desk.reading c.open_exports.new.desk) (g.D.Desk.reading c.open_outputs.new.desk)
+    _ c.in-Ok-open_exports.feed.slot c.in-Ok-open_exports.ensures.opened
+    (c.requires.1.0 ∙ sym (ap (λ (name : List ℕ). holds (g.D.Desk.writing c.args.desk.now) name) c.text.ensures))
+    c.in-Err-Failed-open_outputs.ensures.inputs told
+
+pub returns-clause-unread : goal.returns-clause-unread
+returns-clause-unread g c = λ told unopened opened.
+    unread g.D.Desk.tells g.start.content _ (g.D.Desk.reading c.args.desk.now) (g.D.Desk.reading c.open_exports.new.desk) (g.D.Desk.reading c.open_outputs.new.desk)
+    _ c.in-Ok-open_exports.feed.slot c.in-Ok-open_exports.ensures.opened
+    (c.requires.1.0 ∙ sym (ap (λ (name : List ℕ). holds (g.D.Desk.writing c.args.desk.now) name) c.text.ensures))
+    c.in-Err-NoMemory-open_outputs.ensures.inputs told
