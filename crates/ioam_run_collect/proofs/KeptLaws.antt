@@ -33,9 +33,9 @@ KeepsInputs-opened tells old mid new held name slot opens reads = KeepsInputs-bu
     (λ k apart. reads.0 k apart ∙ opens.other_left k apart) (λ k apart. reads.1 k apart ∙ opens.other_ended k apart)
 
 -- EXPORTS was opened, and nothing of it was read
-pub unread : (tells : Bool) (content held : Option (List ℕ)) (old mid new : desk.Reading) (name : List ℕ) (slot : ℕ)
+pub untouched : (tells : Bool) (content held : Option (List ℕ)) (old mid new : desk.Reading) (name : List ℕ) (slot : ℕ)
     → OpensInput tells old mid held name slot → content ≡ held → new ≡ mid → IsTrue tells → content ≡ Some (new.left old.side.slots)
-unread tells content held old mid new name slot opens same on told =
+untouched tells content held old mid new name slot opens same on told =
     let P : ℕ → Type 0 = λ k. content ≡ Some (mid.left k) in
     let Q : desk.Reading → Type 0 = λ now. content ≡ Some (now.left old.side.slots) in
     subst Q (sym on) (subst P opens.number (same ∙ opens.left told))

@@ -6,7 +6,7 @@ use Rattle.ioam_desk.proofs.KeptLaws.{KeepsInputs-same, KeepsOutputs-same, Keeps
 use Rattle.ioam_collect_stream.specs.Feed.{Fed}
 use Rattle.ioam_collect_stream.specs.Gathering.{ReadsOne}
 use Rattle.ioam_run_collect.proofs.FinishesLaws.{Finishes-cause, Finishes-leaves, Finishes-drained, fed_start, gathers_none, unwritten, unsaid_start}
-use Rattle.ioam_run_collect.proofs.KeptLaws.{ReadsOne-same, KeepsInputs-unopened, KeepsInputs-opened, unread}
+use Rattle.ioam_run_collect.proofs.KeptLaws.{ReadsOne-same, KeepsInputs-unopened, KeepsInputs-opened, untouched}
 use Rattle.ioam_run_collect.proofs.WordsLaws.{one_apart}
 use Rattle.ioam_run_collect.proofs.files.run_files.Goals as goal
 
@@ -312,14 +312,14 @@ returns-in-Ok-open_outputs-clause-unread g c =
 
 pub returns-in-Err-Failed-open_outputs-clause-unread : goal.returns-in-Err-Failed-open_outputs-clause-unread
 returns-in-Err-Failed-open_outputs-clause-unread g c = λ told unopened opened.
-    unread g.D.Desk.tells g.start.content _ (g.D.Desk.reading c.args.desk.now) (g.D.Desk.reading c.open_exports.new.desk) (g.D.Desk.reading c.open_outputs.new.desk)
+    untouched g.D.Desk.tells g.start.content _ (g.D.Desk.reading c.args.desk.now) (g.D.Desk.reading c.open_exports.new.desk) (g.D.Desk.reading c.open_outputs.new.desk)
     _ c.in-Ok-open_exports.feed.slot c.in-Ok-open_exports.ensures.opened
     (c.requires.1.0 ∙ sym (ap (λ (name : List ℕ). holds (g.D.Desk.writing c.args.desk.now) name) c.text.ensures))
     c.in-Err-Failed-open_outputs.ensures.inputs told
 
 pub returns-clause-unread : goal.returns-clause-unread
 returns-clause-unread g c = λ told unopened opened.
-    unread g.D.Desk.tells g.start.content _ (g.D.Desk.reading c.args.desk.now) (g.D.Desk.reading c.open_exports.new.desk) (g.D.Desk.reading c.open_outputs.new.desk)
+    untouched g.D.Desk.tells g.start.content _ (g.D.Desk.reading c.args.desk.now) (g.D.Desk.reading c.open_exports.new.desk) (g.D.Desk.reading c.open_outputs.new.desk)
     _ c.in-Ok-open_exports.feed.slot c.in-Ok-open_exports.ensures.opened
     (c.requires.1.0 ∙ sym (ap (λ (name : List ℕ). holds (g.D.Desk.writing c.args.desk.now) name) c.text.ensures))
     c.in-Err-NoMemory-open_outputs.ensures.inputs told
