@@ -1,5 +1,5 @@
 -- How a run of `part` ends.
-use Rattle.std.proofs.Common.{◌≡◌, ◌≢◌, ℕ, ◌+◌, ◌≤◌, ◌⊎◌, Bool, false, IsTrue, IsSomeAnd, List, [], ◌∷◌, ◌++◌, All, Option, None, Some, Ok, Err, refl, sym, ap, ◌∙◌, subst, inl, inr, ⊎_elim, arith}
+use Rattle.std.proofs.Common.{◌≡◌, ◌≢◌, ℕ, ◌+◌, ◌<◌, ◌≤◌, ◌⊎◌, Bool, false, IsTrue, IsSomeAnd, List, [], ◌∷◌, ◌++◌, All, Option, None, Some, Ok, Err, refl, sym, ap, ◌∙◌, subst, inl, inr, ⊎_elim, arith}
 use Rattle.std.proofs.lemmas.List.Elements.{All-nil}
 use Rattle.ioam_base.specs.Octets.{IsFront}
 use Rattle.ioam_desk.specs.Asked.{AsksFront}
@@ -129,9 +129,16 @@ module _ (desks : Desks) (files : PartNames) where
   abbrev Leaves : Outcome → Type 0
   Leaves = PartLeaves content files.part desks.old_in desks.new_in desks.old desks.new
 
+  -- nothing of EXPORTS was read, if it was opened
+  abbrev Untouched : Type 0
+  Untouched = IsTrue desks.tells → desks.old_in.side.slots < desks.new_in.side.slots → content ≡ Some (desks.new_in.left desks.old_in.side.slots)
+
+  pub never_opened : desks.new_in.side.slots ≡ desks.old_in.side.slots → Untouched
+  never_opened slots told opened = absurd (omega (arith, slots, opened))
+
   module _ (same : desks.new ≡ desks.old) (asked : AsksFront desks.old_in.side.asked desks.new_in.side.asked (files.exports ∷ [])) (kept : KeepsInputs desks.old_in desks.new_in) where
-    still_ends : (answer : Outcome) → ApartCause desks files answer → Leaves answer → (IsBehindAll ⊥ answer → ⊥) → (IsDone answer → ⊥) → PartEnds desks files answer
-    still_ends answer cause leaves not_behind not_done = record {
+    still_ends : (answer : Outcome) → ApartCause desks files answer → Leaves answer → (IsBehindAll ⊥ answer → ⊥) → (IsDone answer → ⊥) → Untouched → PartEnds desks files answer
+    still_ends answer cause leaves not_behind not_done untouched = record {
       cause = cause;
       leaves = λ told. leaves;
       asked_in = asked;
@@ -139,17 +146,18 @@ module _ (desks : Desks) (files : PartNames) where
       all_in = λ behind. absurd (not_behind behind);
       all_out = λ behind. absurd (not_behind behind);
       no_output = λ none. same;
+      unread = λ told unopened. untouched told;
       drained = λ done told. absurd (not_done done);
       kept_in = kept;
       kept_out = λ told. KeepsOutputs-same desks.old desks.new same;
     }
 
-    -- no memory could be had, or EXPORTS could not be opened
-    pub ends_wanting : PartEnds desks files outcome.NoMemory
+    -- no memory could be had, or a file could not be opened
+    pub ends_wanting : Untouched → PartEnds desks files outcome.NoMemory
     ends_wanting = still_ends outcome.NoMemory tt (inl same) (λ behind. behind) (λ done. done)
 
     pub ends_unread : Rose desks.old_in.side.faults desks.new_in.side.faults → desks.new_in.side.slots ≡ desks.old_in.side.slots → PartEnds desks files outcome.ReadFault
-    ends_unread rose slots = still_ends outcome.ReadFault rose (inl (slots, same)) (λ behind. behind) (λ done. done)
+    ends_unread rose slots = still_ends outcome.ReadFault rose (inl (slots, same)) (λ behind. behind) (λ done. done) (never_opened slots)
 
   -- ---- EXPORTS was opened
 
@@ -181,6 +189,12 @@ module _ (desks : Desks) (files : PartNames) where
       reads_none : ReadsOne slot_in mid_in desks.new_in
       reads_none = ((λ k apart. ap (λ (r : desk.Reading). r.left k) same_in), (λ k apart. ap (λ (r : desk.Reading). r.ended k) same_in))
 
+      untouched : IsTrue desks.tells → content ≡ Some (desks.new_in.left desks.old_in.side.slots)
+      untouched told =
+          let P : ℕ → Type 0 = λ k. content ≡ Some (mid_in.left k) in
+          let Q : desk.Reading → Type 0 = λ r. content ≡ Some (r.left desks.old_in.side.slots) in
+          subst Q (sym same_in) (subst P opened.number (opened.left told))
+
       pub ends_unwritten : OpenOut desks.tells desks.old files.part (Err Failed) desks.new → PartEnds desks files outcome.WriteFault
       ends_unwritten failed = record {
         cause = failed.0.rose;
@@ -195,13 +209,14 @@ module _ (desks : Desks) (files : PartNames) where
         all_in = λ none. absurd none;
         all_out = λ none. absurd none;
         no_output = λ none. (let slots = now_slots in absurd (omega (arith, slots, none)));
+        unread = λ told unopened more. untouched told;
         drained = λ none told. absurd none;
         kept_in = kept_one reads_none;
         kept_out = λ told. KeepsOutputs-asked desks.tells desks.old desks.new files.part (Err Failed) failed told;
       }
 
       pub ends_unopened : desks.new ≡ desks.old → PartEnds desks files outcome.NoMemory
-      ends_unopened same = ends_wanting same (1, now_asked) (kept_one reads_none)
+      ends_unopened same = ends_wanting same (1, now_asked) (kept_one reads_none) (λ told more. untouched told)
 
     -- it was
     module _ (mid : Writing) (slot : ℕ) (opened_out : OpenOut desks.tells desks.old files.part (Ok slot) mid) where
@@ -252,6 +267,7 @@ module _ (desks : Desks) (files : PartNames) where
             all_in = λ behind. all_in;
             all_out = λ behind. all_out;
             no_output = λ none. (let grew = mid_slots in absurd (omega (arith, slots_in, grew, none)));
+            unread = λ told unopened more. (let grew : mid.side.slots ≡ desks.old.side.slots + 1 = ap (λ (s : Side). s.slots) opened_out.1 in absurd (omega (arith, slots_out, grew, unopened)));
             drained = drained_of answer ends;
             kept_in = kept_one reads;
             kept_out = λ told. KeepsOutputs-from desks.old mid desks.new slot (KeepsOutputs-asked desks.tells desks.old mid files.part (Ok slot) opened_out told)
@@ -304,6 +320,7 @@ module _ (desks : Desks) (files : PartNames) where
         unopened = λ opens. absurd (opens_apart answer ends.cause opens);
         differed = inr apart;
         no_output = ends.no_output;
+        unread = ends.unread;
         drained = ends.drained;
         kept_in = ends.kept_in;
         kept_out = ends.kept_out;
@@ -324,6 +341,7 @@ module _ (desks : Desks) (files : PartNames) where
       unopened = λ opens. same_in;
       differed = inl same_in;
       no_output = λ none. same;
+      unread = λ told unopened. never_opened desks files (ap (λ (r : desk.Reading). r.side.slots) same_in) told;
       drained = λ done told. absurd (not_done done);
       kept_in = KeepsInputs-same desks.old_in desks.new_in same_in;
       kept_out = λ told. KeepsOutputs-same desks.old desks.new same;

@@ -7,7 +7,7 @@ use Rattle.ioam_run_answer.specs.Desks.{Desks, around}
 use Rattle.ioam_run_part.specs.Files.{PartNames}
 use Rattle.ioam_run_part.proofs.FileLaws.{none_asked, unopened_asked, unopened_kept}
 use Rattle.ioam_run_part.proofs.StoredLaws.{blank_opened}
-use Rattle.ioam_run_part.proofs.PartLaws.{ends_wanting, ends_unread, ends_unwritten, ends_unopened, ends_finished, fed_left, gathers_none}
+use Rattle.ioam_run_part.proofs.PartLaws.{never_opened, ends_wanting, ends_unread, ends_unwritten, ends_unopened, ends_finished, fed_left, gathers_none}
 use Rattle.ioam_run_part.proofs.exports.run_files.Goals as goal
 
 pub returns-in_default : goal.returns-in_default
@@ -15,7 +15,7 @@ returns-in_default g c =
     let names : PartNames = record { exports = c.args.exports.now; part = c.args.part.now } in
     let desks : Desks = around g.D.Desk.tells (g.D.Desk.reading c.args.desk.now) (g.D.Desk.reading c.args.desk.now) (g.D.Desk.writing c.args.desk.now) (g.D.Desk.writing c.args.desk.now) in
     ends_wanting desks names refl (none_asked (g.D.Desk.reading c.args.desk.now) (g.D.Desk.reading c.args.desk.now) (c.args.exports.now ∷ []) refl)
-    (KeepsInputs-same (g.D.Desk.reading c.args.desk.now) (g.D.Desk.reading c.args.desk.now) refl)
+    (KeepsInputs-same (g.D.Desk.reading c.args.desk.now) (g.D.Desk.reading c.args.desk.now) refl) (never_opened desks names refl)
 
 pub returns-in-Err-Failed : goal.returns-in-Err-Failed
 returns-in-Err-Failed g c =
@@ -37,6 +37,7 @@ returns-in-Err-NoMemory g c =
     let desks : Desks = around g.D.Desk.tells old_in new_in (g.D.Desk.writing c.args.desk.now) (g.D.Desk.writing c.open_exports.new.desk) in
     let same = rw c.in-Err-NoMemory.field-0-is at c.in-Err-NoMemory.ensures.fault in
     ends_wanting desks names c.in-Err-NoMemory.ensures.outputs (none_asked old_in new_in (c.args.exports.now ∷ []) same) (KeepsInputs-same old_in new_in same)
+    (never_opened desks names (ap (λ (r : desk.Reading). r.side.slots) same))
 
 pub run_open-requires : goal.run_open-requires
 run_open-requires g c = record {
