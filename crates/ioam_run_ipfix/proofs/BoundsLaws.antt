@@ -1,7 +1,7 @@
 -- What a run leaves of the desk.
-use Rattle.std.proofs.Common.{◌≡◌, ℕ, ◌+◌, Bool, IsTrue, List, [], ◌∷◌, ◌++◌, refl, sym, ap, ◌∙◌, subst, append-nil, arith}
+use Rattle.std.proofs.Common.{◌≡◌, ℕ, ◌+◌, ◌<◌, Bool, IsTrue, List, [], ◌∷◌, ◌++◌, Some, refl, sym, ap, ◌∙◌, subst, append-nil, arith}
 use Rattle.ioam_desk.specs.Asked.{AsksFront}
-use Rattle.ioam_desk.specs.Desk.{Side, Reading, Writing}
+use Rattle.ioam_desk.specs.Desk.{Side, Reading, Writing, holds}
 use Rattle.ioam_desk.specs.Kept.{KeepsInputs, KeepsOutputs}
 use Rattle.ioam_desk.proofs.KeptLaws.{KeepsInputs-same, KeepsInputs-but, KeepsOutputs-same, KeepsOutputs-from}
 use Rattle.ioam_desk_outputs.specs.declared.output.Output.{Output}
@@ -19,6 +19,7 @@ Bounds-none tells input out reads writes answer behind done = record {
   all_in = λ all. absurd (behind all);
   all_out = λ all. absurd (behind all);
   no_output = λ same. refl;
+  unread = λ told unopened opened. absurd (omega (arith, opened));
   drained = λ is told. absurd (done is);
   kept_in = KeepsInputs-same reads reads refl;
   kept_out = λ told. KeepsOutputs-same writes writes refl;
@@ -32,6 +33,7 @@ Bounds-opened tells start input old_in mid_in new_in old mid new slot outputs an
     let asked_in : new_in.side.asked ≡ old_in.side.asked ++ input ∷ [] = frames.asked_in ∙ ap (λ (s : Side). s.asked) opened.side_in in
     let asked_out : new.side.asked ≡ old.side.asked ++ start.out ∷ [] = frames.asked_out ∙ ap (λ (s : Side). s.asked) opened.side_out in
     let slots : mid_in.side.slots ≡ old_in.side.slots + 1 = ap (λ (s : Side). s.slots) opened.side_in in
+    let one : mid.side.slots ≡ old.side.slots + 1 = ap (λ (s : Side). s.slots) opened.side_out in
     let P : ℕ → Type 0 = λ k. IsTrue (new_in.ended k) in
     record {
       asked_in = (1, asked_in);
@@ -39,6 +41,7 @@ Bounds-opened tells start input old_in mid_in new_in old mid new slot outputs an
       all_in = λ all. asked_in;
       all_out = λ all. asked_out;
       no_output = λ same. absurd (omega (arith, same, slots, frames.slots_in));
+      unread = λ told unopened more. absurd (omega (arith, unopened, one, frames.slots_out));
       drained = λ done told. subst P opened.number (drained done told);
       kept_in = KeepsInputs-but old_in new_in slot (omega (arith, opened.number))
           (λ k other. frames.left k other ∙ opened.other_left k other) (λ k other. frames.ended k other ∙ opened.other_ended k other);
@@ -80,14 +83,16 @@ module _ (tells : Bool) (start : Start) (old_in new_in : Reading) (old new : Wri
 
   -- a file could not be opened
   pub Bounds-refused : (input : List ℕ) (answer : Outcome) → Refuses tells start old_in new_in old new answer → AsksFront old_in.side.asked new_in.side.asked (input ∷ [])
-      → AsksFront old.side.asked new.side.asked (start.out ∷ []) → (new_in.side.slots ≡ old_in.side.slots → new ≡ old) → KeepsInputs old_in new_in
-      → (IsTrue tells → KeepsOutputs old new) → Bounds tells input start.out old_in new_in old new answer
-  Bounds-refused input answer refuses asked_in asked_out no_output kept_in kept_out = record {
+      → AsksFront old.side.asked new.side.asked (start.out ∷ []) → (new_in.side.slots ≡ old_in.side.slots → new ≡ old)
+      → (IsTrue tells → new.side.slots ≡ old.side.slots → old_in.side.slots < new_in.side.slots → holds old input ≡ Some (new_in.left old_in.side.slots))
+      → KeepsInputs old_in new_in → (IsTrue tells → KeepsOutputs old new) → Bounds tells input start.out old_in new_in old new answer
+  Bounds-refused input answer refuses asked_in asked_out no_output unread kept_in kept_out = record {
     asked_in = asked_in;
     asked_out = asked_out;
     all_in = λ all. absurd (refused-behind answer refuses all);
     all_out = λ all. absurd (refused-behind answer refuses all);
     no_output = no_output;
+    unread = unread;
     drained = λ done told. absurd (refused-behind answer refuses (done-behind answer done));
     kept_in = kept_in;
     kept_out = kept_out;

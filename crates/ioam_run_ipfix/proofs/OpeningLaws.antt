@@ -1,5 +1,5 @@
 -- The opening of a command's two files.
-use Rattle.std.proofs.Common.{◌≡◌, ℕ, zero, suc, ◌<◌, Bool, List, [], ◌∷◌, ◌++◌, length, Option, Some, Err, sym, ◌∙◌, ap, subst, append-nil, arith}
+use Rattle.std.proofs.Common.{◌≡◌, ℕ, zero, suc, ◌<◌, Bool, IsTrue, List, [], ◌∷◌, ◌++◌, length, Option, Some, Err, sym, ◌∙◌, ap, subst, append-nil, arith}
 use Rattle.std.specs.Prelude.{Contains}
 use Rattle.ioam_desk.specs.Asked.{AsksFront}
 use Rattle.ioam_desk.specs.Desk.{Side, Reading, Writing, OpenIn, OpensInput}
@@ -49,6 +49,14 @@ pub KeepsInputs-opened : (tells : Bool) (old mid new : Reading) (held : Option (
 KeepsInputs-opened tells old mid new held name slot opens same =
     let P : Reading → Type 0 = λ r. KeepsInputs old r in
     subst P (sym same) (KeepsInputs-but old mid slot (omega (arith, opens.number)) opens.other_left opens.other_ended)
+
+-- it was opened, and nothing of it was read
+pub untouched : (tells : Bool) (old mid new : Reading) (held : Option (List ℕ)) (name : List ℕ) (slot : ℕ)
+    → OpensInput tells old mid held name slot → new ≡ mid → IsTrue tells → held ≡ Some (new.left old.side.slots)
+untouched tells old mid new held name slot opens same told =
+    let P : ℕ → Type 0 = λ k. held ≡ Some (mid.left k) in
+    let Q : Reading → Type 0 = λ r. held ≡ Some (r.left old.side.slots) in
+    subst Q (sym same) (subst P opens.number (opens.left told))
 
 pub handed_none : (tells : Bool) (old mid new : Reading) (held content : Option (List ℕ)) (name : List ℕ) (slot : ℕ)
     → OpensInput tells old mid held name slot → new ≡ mid → content ≡ held → Handed tells content new slot []

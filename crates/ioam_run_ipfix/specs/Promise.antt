@@ -156,6 +156,9 @@ module _ (desks : Desks) (files : IpfixNames) where
     pub unopened : OpensNothing answer → desks.new_in ≡ desks.old_in
     pub differed : (desks.new_in ≡ desks.old_in) ⊎ (files.exports ≢ files.out)
     pub no_output : desks.new_in.side.slots ≡ desks.old_in.side.slots → desks.new ≡ desks.old
+    -- nothing of EXPORTS is read before OUT is opened
+    pub unread : IsTrue desks.tells → desks.new.side.slots ≡ desks.old.side.slots → desks.old_in.side.slots < desks.new_in.side.slots
+        → exported ≡ Some (desks.new_in.left desks.old_in.side.slots)
     pub drained : IsDone answer → IsTrue desks.tells → IsTrue (desks.new_in.ended desks.old_in.side.slots)
     -- input slots that were there, and where the desk tells output slots that were there and names that weren't opened to be written, are as they were
     pub kept_in : KeepsInputs desks.old_in desks.new_in
@@ -183,6 +186,9 @@ module _ (desks : Desks) (files : RecordsNames) where
     pub unopened : OpensNothing answer → desks.new_in ≡ desks.old_in
     pub differed : (desks.new_in ≡ desks.old_in) ⊎ (files.input ≢ files.out)
     pub no_output : desks.new_in.side.slots ≡ desks.old_in.side.slots → desks.new ≡ desks.old
+    -- nothing of IN is read before OUT is opened
+    pub unread : IsTrue desks.tells → desks.new.side.slots ≡ desks.old.side.slots → desks.old_in.side.slots < desks.new_in.side.slots
+        → read ≡ Some (desks.new_in.left desks.old_in.side.slots)
     pub drained : IsDone answer → IsTrue desks.tells → IsTrue (desks.new_in.ended desks.old_in.side.slots)
     -- input slots that were there, and where the desk tells output slots that were there and names that weren't opened to be written, are as they were
     pub kept_in : KeepsInputs desks.old_in desks.new_in

@@ -86,6 +86,7 @@ pub record Bounds (tells : Bool) (input out : List ℕ) (old_in new_in : Reading
   pub all_in : IsBehindAll ⊥ answer → new_in.side.asked ≡ old_in.side.asked ++ input ∷ []
   pub all_out : IsBehindAll ⊥ answer → new.side.asked ≡ old.side.asked ++ out ∷ []
   pub no_output : new_in.side.slots ≡ old_in.side.slots → new ≡ old
+  pub unread : IsTrue tells → new.side.slots ≡ old.side.slots → old_in.side.slots < new_in.side.slots → holds old input ≡ Some (new_in.left old_in.side.slots)
   pub drained : IsDone answer → IsTrue tells → IsTrue (new_in.ended old_in.side.slots)
   pub kept_in : KeepsInputs old_in new_in
   pub kept_out : IsTrue tells → KeepsOutputs old new

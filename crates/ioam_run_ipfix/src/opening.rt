@@ -1,5 +1,5 @@
 //! The two files of a command: its input, and OUT behind it.
-ghost use Rattle.std.specs.Prelude.{◌≡◌, ◌∷◌, [], IfOk, IfErr, IsTrue};
+ghost use Rattle.std.specs.Prelude.{◌≡◌, ◌<◌, ◌∷◌, [], IfOk, IfErr, IsTrue, Some};
 ghost use Rattle.ioam_desk.specs.Asked.{AsksFront};
 ghost use Rattle.ioam_desk.specs.Desk.{holds};
 ghost use Rattle.ioam_desk.specs.Kept.{KeepsInputs, KeepsOutputs};
@@ -37,6 +37,8 @@ pub(crate) fn open_files<D: Desk>(
     ensures asked_in { AsksFront (D.reading desk.old).side.asked (D.reading desk.new).side.asked (input.now ∷ []) }
     ensures asked_out { AsksFront (D.writing desk.old).side.asked (D.writing desk.new).side.asked (start.out ∷ []) }
     ensures no_output { (D.reading desk.new).side.slots ≡ (D.reading desk.old).side.slots → D.writing desk.new ≡ D.writing desk.old }
+    ensures unread { IsTrue D.tells → (D.writing desk.new).side.slots ≡ (D.writing desk.old).side.slots → (D.reading desk.old).side.slots < (D.reading desk.new).side.slots
+        → holds (D.writing desk.old) input.now ≡ Some ((D.reading desk.new).left (D.reading desk.old).side.slots) }
     ensures kept_in { KeepsInputs (D.reading desk.old) (D.reading desk.new) }
     ensures kept_out { IsTrue D.tells → KeepsOutputs (D.writing desk.old) (D.writing desk.new) }
 {

@@ -46,7 +46,7 @@ returns-in-Err-clause-leaves g c = λ told. refused-leaves g.D.Desk.tells g.star
 pub returns-in-Err-clause-bounds : goal.returns-in-Err-clause-bounds
 returns-in-Err-clause-bounds g c = Bounds-refused g.D.Desk.tells g.start (g.D.Desk.reading c.args.desk.now) (g.D.Desk.reading c.open_files.new.desk)
     (g.D.Desk.writing c.args.desk.now) (g.D.Desk.writing c.open_files.new.desk) c.args.exports.now c.in-Err.answer c.in-Err.ensures.refused
-    c.open_files.ensures.asked_in c.open_files.ensures.asked_out c.open_files.ensures.no_output c.open_files.ensures.kept_in c.open_files.ensures.kept_out
+    c.open_files.ensures.asked_in c.open_files.ensures.asked_out c.open_files.ensures.no_output c.open_files.ensures.unread c.open_files.ensures.kept_in c.open_files.ensures.kept_out
 
 pub returns-in-Err-clause-unopened : goal.returns-in-Err-clause-unopened
 returns-in-Err-clause-unopened g c = λ none. absurd (refused-opens g.D.Desk.tells g.start (g.D.Desk.reading c.args.desk.now) (g.D.Desk.reading c.open_files.new.desk)

@@ -23,6 +23,7 @@ returns g c = record {
     unopened = c.run_names.ensures.unopened;
     differed = c.run_names.ensures.differed;
     no_output = c.run_names.ensures.bounds.no_output;
+    unread = c.run_names.ensures.bounds.unread;
     drained = c.run_names.ensures.bounds.drained;
     kept_in = c.run_names.ensures.bounds.kept_in;
     kept_out = c.run_names.ensures.bounds.kept_out;

@@ -1,6 +1,6 @@
-use Rattle.std.proofs.Common.{◌≡◌, ℕ, List, Some, ap, ◌∙◌, subst, inr}
-use Rattle.ioam_desk.specs.Desk.{Side, Reading, Writing, holds}
-use Rattle.ioam_run_ipfix.proofs.OpeningLaws.{asks_one, unwritten}
+use Rattle.std.proofs.Common.{◌≡◌, ℕ, ◌+◌, List, Some, length, ap, ◌∙◌, subst, inr, arith}
+use Rattle.ioam_desk.specs.Desk.{OpensInput, Side, Reading, Writing, holds}
+use Rattle.ioam_run_ipfix.proofs.OpeningLaws.{asks_one, untouched, unwritten}
 use Rattle.ioam_run_ipfix.proofs.opening.open_files.Goals as goal
 
 pub returns-in-Err-Failed-open_outputs-clause-refused : goal.returns-in-Err-Failed-open_outputs-clause-refused
@@ -37,3 +37,34 @@ pub returns-in-Err-NoMemory-open_outputs-clause-asked_in : goal.returns-in-Err-N
 returns-in-Err-NoMemory-open_outputs-clause-asked_in g c =
     asks_one (g.D.Desk.reading c.args.desk.now).side.asked (g.D.Desk.reading c.open_outputs.new.desk).side.asked c.text.result.now c.args.input.now
     (ap (λ (r : Reading). r.side.asked) c.in-Err-NoMemory-open_outputs.ensures.inputs ∙ ap (λ (s : Side). s.asked) c.in-Ok.ensures.opened.side) c.text.ensures
+
+pub returns-in-Err-Failed-clause-unread : goal.returns-in-Err-Failed-clause-unread
+returns-in-Err-Failed-clause-unread g c =
+    let failed = rw c.in-Err-Failed.field-0-is at c.in-Err-Failed.ensures.opened in
+    λ told unopened opened. absurd (omega (arith, opened, failed.0.slots))
+
+pub returns-in-Err-NoMemory-clause-unread : goal.returns-in-Err-NoMemory-clause-unread
+returns-in-Err-NoMemory-clause-unread g c =
+    let same = rw c.in-Err-NoMemory.field-0-is at c.in-Err-NoMemory.ensures.opened in
+    λ told unopened opened. absurd (omega (arith, opened, ap (λ (r : Reading). r.side.slots) same))
+
+pub returns-in-Ok-open_outputs-clause-unread : goal.returns-in-Ok-open_outputs-clause-unread
+returns-in-Ok-open_outputs-clause-unread g c =
+    let one : length c.args.outs.now ≡ 1 = ap (λ (names : List (List ℕ)). length names) c.requires.1.1.1 in
+    let slots : (g.D.Desk.writing c.open_outputs.new.desk).side.slots ≡ (g.D.Desk.writing c.args.desk.now).side.slots + length c.args.outs.now =
+    ap (λ (s : Side). s.slots) c.in-Ok-open_outputs.ensures.side ∙ ap (λ (w : Writing). w.side.slots + length c.args.outs.now) c.in-Ok.ensures.outputs in
+    λ told unopened opened. absurd (omega (arith, one, slots, unopened))
+
+pub returns-in-Err-Failed-open_outputs-clause-unread : goal.returns-in-Err-Failed-open_outputs-clause-unread
+returns-in-Err-Failed-open_outputs-clause-unread g c =
+    let P : List ℕ → Type 0 = λ name. OpensInput g.D.Desk.tells (g.D.Desk.reading c.args.desk.now) (g.D.Desk.reading c.open_in.new.self) (holds (g.D.Desk.writing c.args.desk.now) name) name c.in-Ok.slot in
+    λ told unopened opened. untouched g.D.Desk.tells (g.D.Desk.reading c.args.desk.now) (g.D.Desk.reading c.open_in.new.self) (g.D.Desk.reading c.open_outputs.new.desk)
+    (holds (g.D.Desk.writing c.args.desk.now) c.args.input.now) c.args.input.now c.in-Ok.slot (subst P c.text.ensures c.in-Ok.ensures.opened)
+    c.in-Err-Failed-open_outputs.ensures.inputs told
+
+pub returns-in-Err-NoMemory-open_outputs-clause-unread : goal.returns-in-Err-NoMemory-open_outputs-clause-unread
+returns-in-Err-NoMemory-open_outputs-clause-unread g c =
+    let P : List ℕ → Type 0 = λ name. OpensInput g.D.Desk.tells (g.D.Desk.reading c.args.desk.now) (g.D.Desk.reading c.open_in.new.self) (holds (g.D.Desk.writing c.args.desk.now) name) name c.in-Ok.slot in
+    λ told unopened opened. untouched g.D.Desk.tells (g.D.Desk.reading c.args.desk.now) (g.D.Desk.reading c.open_in.new.self) (g.D.Desk.reading c.open_outputs.new.desk)
+    (holds (g.D.Desk.writing c.args.desk.now) c.args.input.now) c.args.input.now c.in-Ok.slot (subst P c.text.ensures c.in-Ok.ensures.opened)
+    c.in-Err-NoMemory-open_outputs.ensures.inputs told
