@@ -5,10 +5,13 @@ use ioam_test_rows::ng_rows::NG_HEAD;
 /// A record of a packet at one second, by its length, that comes and that is sent.
 #[derive(Clone, Copy)]
 pub struct Passed {
+    /// How many packets DOMAIN allows, if it says so.
+    pub limit: &'static str,
     pub came: &'static [&'static str],
     pub sent: &'static [&'static str],
     pub report: &'static str,
     pub exports: &'static [&'static str],
+    pub line: &'static str,
     /// NODE.
     pub node: &'static str,
     pub link: &'static str,
@@ -49,10 +52,11 @@ const LEFT_REPORT: &str = "1 out east
 packets 2 out 1 dropped 1
 ";
 
-const ROWS: [Passed; 3] = [
+const ROWS: [Passed; 4] = [
     // RemainingLen is above the words of the option; two words fit, with filler; Overflow was set; the namespace
     // isn't known; two traces; direct export, and the same with bit 7 of its type; an option too short.
     Passed {
+        limit: "",
         node: "b",
         link: "ab",
         came: &[
@@ -164,9 +168,11 @@ packets 8 out 8 dropped 0
             "02 00 001a 0007 00 800000 000000003b9aca00 00000015 3f000002",
             "02 00 001a 0007 00 800000 000000003b9aca00 00000015 3f000002",
         ],
+        line: "done",
     },
     // To the node itself, a hop limit of 1, without a route, and with an option that doesn't fit its header.
     Passed {
+        limit: "",
         node: "b",
         link: "ab",
         came: &[
@@ -197,9 +203,44 @@ packets 8 out 8 dropped 0
 packets 4 out 0 dropped 4
 ",
         exports: &[],
+        line: "done",
+    },
+    // One packet more than the domain allows: of two with direct export the texts of the first.
+    Passed {
+        limit: "packets = 1\n",
+        node: "b",
+        link: "ab",
+        came: &[
+            HEAD,
+            OF_56,
+            "60000000 0010 00 40",
+            SOURCE,
+            TO_C,
+            "3b010100 110a0004 00070000 80000000",
+            OF_56,
+            "60000000 0010 00 40",
+            SOURCE,
+            TO_C,
+            "3b010100 110a0004 00070000 80000000",
+        ],
+        sent: &[
+            HEAD,
+            OF_56,
+            "60000000 0010 00 3f",
+            SOURCE,
+            TO_C,
+            "3b010100 110a0004 00070000 80000000",
+        ],
+        report: "1 out bc
+  direct 7 exported
+packets 1 out 1 dropped 0
+",
+        exports: &["02 00 001a 0007 00 800000 000000003b9aca00 00000015 3f000002"],
+        line: "packets 1",
     },
     // By a port: without IOAM, and with it.
     Passed {
+        limit: "",
         node: "c",
         link: "bc",
         came: &[
@@ -217,11 +258,13 @@ packets 4 out 0 dropped 4
         sent: LEFT,
         report: LEFT_REPORT,
         exports: &[],
+        line: "done",
     },
 ];
 
 // The last of the rows as pcapng: a packet, and an Ethernet frame with a packet.
 const SECTIONED: [Passed; 1] = [Passed {
+    limit: "",
     node: "c",
     link: "bc",
     came: &[
@@ -242,6 +285,7 @@ const SECTIONED: [Passed; 1] = [Passed {
     sent: LEFT,
     report: LEFT_REPORT,
     exports: &[],
+    line: "done",
 }];
 
 /// That one.
