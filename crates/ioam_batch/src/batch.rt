@@ -6,7 +6,7 @@ ghost use Rattle.ioam_batch.specs.declared.job.Job.{Job};
 ghost use Rattle.ioam_plan.specs.Rides.{Rides};
 
 use crate::job::Job;
-use crate::places::{keep_small, make_at, make_place, put_at, visits_at};
+use crate::places::{keep_small, make_at, make_place, put_job_at, visits_at};
 use ioam_base::memory::NoMemory;
 use ioam_plan::{Itinerary, Visits};
 use ioam_topo::Domain;
@@ -75,7 +75,7 @@ impl Batch {
         ensures { self.new ≡ self.old ++ job ∷ [] }
     {
         let reserved = job.reserved();
-        put_at(&mut self.jobs, self.count, job);
+        put_job_at(&mut self.jobs, self.count, job);
         self.count += 1;
         self.reserved += reserved as u64;
         self.has_large = self.has_large || reserved > MOST_KEPT;
@@ -130,7 +130,7 @@ impl Batch {
 
     /// The memory of the visits of a job that was told, for a way to be planned in; that of none where
     /// there is no such job. It takes no memory.
-    pub fn spare(&mut self, alloc: Global) -> Visits
+    pub fn spare_visits(&mut self, alloc: Global) -> Visits
         ensures { self.new ≡ self.old }
     {
         visits_at(alloc, &mut self.jobs, self.count)

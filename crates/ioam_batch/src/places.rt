@@ -22,7 +22,7 @@ fn append(jobs: &mut Vec<Job>, job: Job)
 }
 
 /// Puts a job into a place: over the one that stands there, or behind all others. It takes no memory.
-pub(crate) fn put_at(jobs: &mut Vec<Job>, place: usize, job: Job)
+pub(crate) fn put_job_at(jobs: &mut Vec<Job>, place: usize, job: Job)
     requires place { place ≤ length jobs.old.items }
     requires room { place < vec_capacity jobs.old }
     ensures front { take (place + 1) jobs.new.items ≡ take place jobs.old.items ++ job ∷ [] }

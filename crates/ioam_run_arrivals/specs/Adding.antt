@@ -9,7 +9,7 @@ use Rattle.ioam_topo.specs.declared.domain.Domain.{Domain}
 use Rattle.ioam_run_arrivals.specs.Forwarding.{Arrived, frame_of}
 use Rattle.ioam_run_arrivals.specs.declared.arriving.Arrival.{Arrival}
 
--- The job of an arrival, of which no visit is done. What was counted before it stands for the arrivals before, and what is
+-- the job of an arrival, of which no visit is done; what was counted before it stands for the arrivals before, and what is
 -- counted behind it for these and this one.
 pub record IsAdded (domain : Domain) (readings : List (List Sample)) (before behind : List ℕ) (arrival : Arrival) (job : Job) : Type 0 where
   pub fresh : IsFresh domain job

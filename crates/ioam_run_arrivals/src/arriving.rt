@@ -69,7 +69,7 @@ pub(crate) fn add_job(
     );
     let itinerary = plan_in(
         alloc,
-        batch.spare(alloc),
+        batch.spare_visits(alloc),
         domain,
         readings,
         counters,

@@ -36,5 +36,5 @@ returns-clause-added c =
           };
         };
       },
-      made.2 ∙ ap (λ (jobs : List Job). jobs ++ made.0 ∷ []) c.spare.ensures,
+      made.2 ∙ ap (λ (jobs : List Job). jobs ++ made.0 ∷ []) c.spare_visits.ensures,
     )
