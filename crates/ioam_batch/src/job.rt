@@ -1,9 +1,10 @@
 //! All visits of one packet.
-ghost use Rattle.std.specs.Prelude.{◌≡◌, ◌≤◌, ◌+◌, ◌*◌, ◌^◌, [], IfOk, IfSome, OnOk, MatchOption, None, Some, is_some, length, slice_get};
+ghost use Rattle.std.specs.Prelude.{◌≡◌, ◌≤◌, ◌+◌, ◌^◌, [], IfOk, IfSome, OnOk, MatchOption, None, Some, is_some, length, slice_get};
 ghost use Rattle.ioam_batch.specs.Crossings.{crossings, joined};
-ghost use Rattle.ioam_batch.specs.Jobs.{HasTaps, Holds, HoldsBy, IsFresh, IsJobOf, asked_for, reserved_of};
+ghost use Rattle.ioam_batch.specs.Jobs.{HasTaps, IsFresh, asked_for, reserved_of};
+ghost use Rattle.ioam_batch.specs.Made.{IsMade};
 ghost use Rattle.ioam_batch.specs.Taps.{is_tapped_at};
-ghost use Rattle.ioam_plan.specs.Rides.{Rides, RidesBy};
+ghost use Rattle.ioam_plan.specs.Rides.{Rides};
 ghost use Rattle.ioam_topo.specs.declared.domain.Domain.{Domain};
 
 use crate::crossings::Crossings;
@@ -59,11 +60,7 @@ impl Job {
         packet: &[u8],
     ) -> Result<Job, NoMemory>
         requires { Rides domain.now packet.now itinerary }
-        ensures of { IfOk result (IsJobOf domain.now packet.now itinerary) }
-        ensures holds { IfOk result (Holds domain.now) }
-        ensures taps { IfOk result (HasTaps domain.now) }
-        ensures reserved { IfOk result (λ job. reserved_of job ≡ asked_for domain.now itinerary job.packet.items) }
-        ensures most { IfOk result (λ job. reserved_of job ≤ 17 * 1048576) }
+        ensures { IfOk result (IsMade domain.now packet.now itinerary) }
     {
         let mut job = Job::none(alloc);
         job.renew(alloc, domain, itinerary, packet)?;
@@ -81,11 +78,7 @@ impl Job {
         packet: &[u8],
     ) -> Result<(), NoMemory>
         requires { Rides domain.now packet.now itinerary }
-        ensures of { OnOk result (IsJobOf domain.now packet.now itinerary self.new) }
-        ensures holds { OnOk result (Holds domain.now self.new) }
-        ensures taps { OnOk result (HasTaps domain.now self.new) }
-        ensures reserved { OnOk result (reserved_of self.new ≡ asked_for domain.now itinerary self.new.packet.items) }
-        ensures most { OnOk result (reserved_of self.new ≤ 17 * 1048576) }
+        ensures made { OnOk result (IsMade domain.now packet.now itinerary self.new) }
     {
         let spare = mem::replace(&mut self.packet, Vec::new(alloc));
         let octets = packet_of(alloc, spare, domain, &itinerary, packet)?;

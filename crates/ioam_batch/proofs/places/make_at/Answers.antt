@@ -3,10 +3,9 @@ use Rattle.ioam_batch.proofs.places.make_at.Goals as goal
 
 pub returns-in-Ok-clause-made : goal.returns-in-Ok-clause-made
 returns-in-Ok-clause-made c =
-    let job = c.renew.new.self in
-    let made = c.in-Ok.ensures in (
+    let job = c.renew.new.self in (
       job,
-      record { of = made.of; holds = made.holds; taps = made.taps; reserved = made.reserved; most = made.most },
+      c.in-Ok.ensures.made,
       c.reserved.ensures.value,
       take_more_set c.args.jobs.now.items c.args.place job c.requires.place,
     )
