@@ -78,7 +78,7 @@ impl Batch {
         put_job_at(&mut self.jobs, self.count, job);
         self.count += 1;
         self.reserved += reserved as u64;
-        self.has_large = self.has_large || reserved > MOST_KEPT;
+        self.has_large |= reserved > MOST_KEPT;
     }
 
     /// Makes the job of a packet that goes by an itinerary, as [`Job::new`] says it, behind the others, in
@@ -97,19 +97,11 @@ impl Batch {
         ensures as_before { IfErr result (λ _. self.new ≡ self.old) }
     {
         make_place(alloc, &mut self.jobs, self.count);
-        match make_at(alloc, &mut self.jobs, self.count, domain, itinerary, packet) {
-            Ok(reserved) => {
-                self.count += 1;
-                self.reserved += reserved as u64;
-                self.has_large = self.has_large || reserved > MOST_KEPT;
-                Ok(())
-            }
-            Err(NoMemory) => {
-                // what is half made may be large
-                self.has_large = true;
-                Err(NoMemory)
-            }
-        }
+        let reserved = make_at(alloc, &mut self.jobs, self.count, domain, itinerary, packet)?;
+        self.count += 1;
+        self.reserved += reserved as u64;
+        self.has_large |= reserved > MOST_KEPT;
+        Ok(())
     }
 
     /// The jobs, in their order; at most 256.
