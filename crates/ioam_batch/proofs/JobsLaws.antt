@@ -6,7 +6,7 @@ use Rattle.std.proofs.lemmas.Grind.{drop_more_same}
 use Rattle.std.proofs.lemmas.List.{get_or-drop, take_all, take_more, take_more_set, drop-set-lt}
 use Rattle.std.proofs.lemmas.List.Elements.{AllZip-push, All-nil, All-cons, All-head, All-tail}
 use Rattle.std.proofs.lemmas.List.Sums.{sum_by-cons}
-use Rattle.ioam_batch.specs.Batches.{MayRun, all_reserved}
+use Rattle.ioam_batch.specs.Batches.{IsSmall, MayRun, all_reserved}
 use Rattle.ioam_batch.specs.Jobs.{HasRun, HasTaps, Holds, IsFresh, KeepsMemory, reserved_of}
 use Rattle.ioam_batch.specs.declared.job.Job.{Job}
 use Rattle.ioam_batch.proofs.RunLaws.{taps-fresh, taps-run}
@@ -89,6 +89,17 @@ module _ (domain : Domain) (readings : List (List Sample)) where
     may_reserved j k may.0,
     reserved-stays js ks may.1,
   )
+
+  may_small : (old new : Job) → MayRun domain readings old new → IsSmall old → IsSmall new
+  may_small old new may small = omega (arith, may_reserved old new may, small)
+
+  -- those that were small are
+  pub small-stay : (old new : List Job) → AllZip (MayRun domain readings) old new → All IsSmall old → All IsSmall new
+  small-stay [] [] may small = All-nil IsSmall
+  small-stay [] (k ∷ ks) may small = absurd may
+  small-stay (j ∷ js) [] may small = absurd may
+  small-stay (j ∷ js) (k ∷ ks) may small =
+      All-cons IsSmall k ks (may_small j k may.0 (All-head IsSmall j js small)) (small-stay js ks may.1 (All-tail IsSmall j js small))
 
   may_keep : (old new : Job) → MayRun domain readings old new → KeepsMemory old new
   may_keep old new may = elim may [ inl has ↦ has.memory | inr same ↦ keeps_same old new same ]

@@ -1,4 +1,5 @@
 pub mod AlongLaws
+pub mod BatchLaws
 pub mod CrossingLaws
 pub mod JobsLaws
 pub mod MakingLaws

@@ -1,6 +1,6 @@
 //! Jobs that are run together.
-ghost use Rattle.std.specs.Prelude.{◌≡◌, ◌<◌, ◌≤◌, ◌++◌, ◌∷◌, [], List, IfErr, IfOk, IsTrue, OnOk, length};
-ghost use Rattle.ioam_batch.specs.Batches.{has_room};
+ghost use Rattle.std.specs.Prelude.{◌≡◌, ◌<◌, ◌≤◌, ◌++◌, ◌∷◌, [], All, List, IfErr, IfOk, IsTrue, OnOk, length};
+ghost use Rattle.ioam_batch.specs.Batches.{IsSmall, has_room};
 ghost use Rattle.ioam_batch.specs.Made.{IsMade};
 ghost use Rattle.ioam_batch.specs.declared.job.Job.{Job};
 ghost use Rattle.ioam_plan.specs.Rides.{Rides};
@@ -30,27 +30,26 @@ pub struct Batch {
     pub(crate) count: usize,
     // How many octets these have reserved.
     pub(crate) reserved: u64,
-    // Whether one of all jobs may have more octets reserved than are kept for one to come.
+    // Whether one of these may have more octets reserved than are kept for one to come. None behind has.
     pub(crate) has_large: bool,
 }
 
 impl Model for Batch {
-    ghost use Rattle.std.specs.Prelude.{◌≡◌, ◌≤◌, List, length, take, vec_capacity};
-    ghost use Rattle.ioam_batch.specs.Batches.{all_reserved};
-    ghost use Rattle.ioam_batch.specs.declared.job.Job.{Job};
+    ghost use Rattle.std.specs.Prelude.{drop, take, vec_capacity};
+    ghost use Rattle.ioam_batch.specs.Batches.{Batched, IsBatch};
 
-    ghost Value = { List Job };
+    ghost Value = { Batched };
 
-    ghost view = { λ batch. take batch.count batch.jobs.items };
+    ghost view = { λ batch. record { jobs = take batch.count batch.jobs.items; kept = drop batch.count batch.jobs.items } };
 
-    ghost invariant = { λ batch. (batch.count ≤ length batch.jobs.items) × (length batch.jobs.items ≤ 256) × (vec_capacity batch.jobs ≡ 256)
-        × (batch.reserved ≡ all_reserved (take batch.count batch.jobs.items)) };
+    ghost invariant = { λ batch. IsBatch batch.jobs.items (vec_capacity batch.jobs) batch.count batch.reserved batch.has_large };
 }
 
 impl Batch {
     /// A batch of no jobs, with room for as many as it ever has.
     pub fn new(alloc: Global) -> Result<Batch, NoMemory>
-        ensures { IfOk result (λ batch. batch ≡ []) }
+        ensures jobs { IfOk result (λ batch. batch.jobs ≡ []) }
+        ensures kept { IfOk result (λ batch. batch.kept ≡ []) }
     {
         Ok(Batch {
             jobs: Vec::with_capacity(alloc, MOST_JOBS)?,
@@ -63,7 +62,7 @@ impl Batch {
     /// Whether one more job may be pushed: exactly where there are fewer than 256, and the octets that
     /// they have reserved are fewer than 64 MiB.
     pub fn has_room(&self) -> bool
-        ensures { result ≡ has_room self.now }
+        ensures { result ≡ has_room self.now.jobs }
     {
         self.count < MOST_JOBS && self.reserved < MOST_RESERVED
     }
@@ -71,8 +70,8 @@ impl Batch {
     /// Puts a job behind the others. It takes no memory: the capacity of the vector of jobs is 256 before
     /// and after, as the invariant says.
     pub fn push(&mut self, job: Job)
-        requires { IsTrue (has_room self.old) }
-        ensures { self.new ≡ self.old ++ job ∷ [] }
+        requires { IsTrue (has_room self.old.jobs) }
+        ensures { self.new.jobs ≡ self.old.jobs ++ job ∷ [] }
     {
         let reserved = job.reserved();
         put_job_at(&mut self.jobs, self.count, job);
@@ -91,10 +90,10 @@ impl Batch {
         itinerary: Itinerary,
         packet: &[u8],
     ) -> Result<(), NoMemory>
-        requires room { IsTrue (has_room self.old) }
+        requires room { IsTrue (has_room self.old.jobs) }
         requires rides { Rides domain.now packet.now itinerary }
-        ensures made { OnOk result ((job : Job) × IsMade domain.now packet.now itinerary job × (self.new ≡ self.old ++ job ∷ [])) }
-        ensures as_before { IfErr result (λ _. self.new ≡ self.old) }
+        ensures made { OnOk result ((job : Job) × IsMade domain.now packet.now itinerary job × (self.new.jobs ≡ self.old.jobs ++ job ∷ [])) }
+        ensures as_before { IfErr result (λ _. self.new.jobs ≡ self.old.jobs) }
     {
         make_place(alloc, &mut self.jobs, self.count);
         let reserved = make_at(alloc, &mut self.jobs, self.count, domain, itinerary, packet)?;
@@ -106,16 +105,16 @@ impl Batch {
 
     /// The jobs, in their order; at most 256.
     pub fn jobs(&self) -> &[Job]
-        ensures value { result.now ≡ self.now }
-        ensures few { length self.now ≤ 256 }
+        ensures value { result.now ≡ self.now.jobs }
+        ensures few { length self.now.jobs ≤ 256 }
     {
         &self.jobs[..self.count]
     }
 
     /// The last of the jobs.
     pub fn last(&self) -> &Job
-        requires { 0 < length self.now }
-        ensures { (front : List Job) × (self.now ≡ front ++ result.now ∷ []) }
+        requires { 0 < length self.now.jobs }
+        ensures { (front : List Job) × (self.now.jobs ≡ front ++ result.now ∷ []) }
     {
         &self.jobs[self.count - 1]
     }
@@ -123,16 +122,18 @@ impl Batch {
     /// The memory of the visits of a job that was told, for a way to be planned in; that of none where
     /// there is no such job. It takes no memory.
     pub fn spare_visits(&mut self, alloc: Global) -> Visits
-        ensures { self.new ≡ self.old }
+        ensures { self.new.jobs ≡ self.old.jobs }
     {
         visits_at(alloc, &mut self.jobs, self.count)
     }
 
     /// Takes the jobs away. Their memory is kept for jobs to come: that of at most 256 jobs, each of which
-    /// had at most 65,536 octets reserved; that of the others is handed back. The batch keeps its own: the
-    /// capacity of its vector stays 256.
+    /// had at most 65,536 octets reserved, 16 MiB in all; that of the others is handed back. The batch keeps
+    /// its own: the capacity of its vector stays 256.
     pub fn clear(&mut self)
-        ensures { self.new ≡ [] }
+        ensures none { self.new.jobs ≡ [] }
+        ensures few { length self.new.kept ≤ 256 }
+        ensures small { All IsSmall self.new.kept }
     {
         if self.has_large {
             keep_small(&mut self.jobs, MOST_KEPT);

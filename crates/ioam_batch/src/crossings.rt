@@ -1,5 +1,5 @@
 //! The octets of a packet as its visits sent it on links with a tap.
-ghost use Rattle.std.specs.Prelude.{◌≡◌, ◌<◌, ◌≤◌, ◌+◌, ◌++◌, ◌∷◌, [], ℕ, false, true, if◌then◌else◌, IfSome, OnOk, MatchOption, None, Some, drop, get_or, length, map, slice_get, take};
+ghost use Rattle.std.specs.Prelude.{◌≡◌, ◌<◌, ◌≤◌, ◌+◌, ◌++◌, ◌∷◌, [], ℕ, false, true, if◌then◌else◌, IfErr, IfSome, OnOk, MatchOption, None, Some, drop, get_or, length, map, slice_get, take};
 ghost use Rattle.ioam_batch.specs.Crossings.{crossings, filled, joined, sent_if, taps_of};
 ghost use Rattle.ioam_batch.specs.Taps.{is_tapped};
 
@@ -112,7 +112,7 @@ impl Crossings {
     }
 
     /// Becomes room for a packet of so many octets that goes by these visits, in the memory that it has
-    /// where that suffices. Nothing of what it held stays.
+    /// where that suffices. Nothing of what it held stays. After NoMemory it is room for no visit.
     pub(crate) fn renew(
         &mut self,
         alloc: Global,
@@ -125,6 +125,7 @@ impl Crossings {
         ensures past { OnOk result (self.new.past ≡ []) }
         ensures ahead { OnOk result (self.new.ahead ≡ map (is_tapped domain.now) visits.now) }
         ensures size { OnOk result (self.new.size ≡ size) }
+        ensures lost { IfErr result (λ _. taps_of self.new ≡ []) }
     {
         self.done = 0;
         self.next = 0;

@@ -1,5 +1,5 @@
 //! All visits of one packet.
-ghost use Rattle.std.specs.Prelude.{◌≡◌, ◌≤◌, ◌+◌, ◌^◌, [], IfOk, IfSome, OnOk, MatchOption, None, Some, is_some, length, slice_get};
+ghost use Rattle.std.specs.Prelude.{◌≡◌, ◌≤◌, ◌+◌, ◌^◌, [], IfErr, IfOk, IfSome, OnOk, MatchOption, None, Some, is_some, length, slice_get};
 ghost use Rattle.ioam_batch.specs.Crossings.{crossings, joined};
 ghost use Rattle.ioam_batch.specs.Jobs.{HasTaps, IsFresh, asked_for, reserved_of};
 ghost use Rattle.ioam_batch.specs.Made.{IsMade};
@@ -68,8 +68,8 @@ impl Job {
     }
 
     /// Becomes that job, as `new` makes it, in the memory that it has: more is taken only where that has
-    /// too little room. Nothing of the job that it was stays. After NoMemory it is some job, of which
-    /// nothing is known.
+    /// too little room. Nothing of the job that it was stays. After NoMemory it is some job, with no more
+    /// octets reserved than it had.
     pub(crate) fn renew(
         &mut self,
         alloc: Global,
@@ -79,6 +79,7 @@ impl Job {
     ) -> Result<(), NoMemory>
         requires { Rides domain.now packet.now itinerary }
         ensures made { OnOk result (IsMade domain.now packet.now itinerary self.new) }
+        ensures lost { IfErr result (λ _. reserved_of self.new ≤ reserved_of self.old) }
     {
         let spare = mem::replace(&mut self.packet, Vec::new(alloc));
         let octets = packet_of(alloc, spare, domain, &itinerary, packet)?;

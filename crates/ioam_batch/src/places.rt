@@ -1,5 +1,6 @@
 //! The places of a batch: jobs that wait and, behind them, jobs in whose memory others are made.
-ghost use Rattle.std.specs.Prelude.{◌≡◌, ◌⊎◌, ◌+◌, ◌<◌, ◌≤◌, ◌++◌, ◌∷◌, [], IfOk, length, take, vec_capacity};
+ghost use Rattle.std.specs.Prelude.{◌≡◌, ◌+◌, ◌<◌, ◌≤◌, ◌++◌, ◌∷◌, [], All, IfErr, IfOk, drop, length, take, vec_capacity};
+ghost use Rattle.ioam_batch.specs.Batches.{IsSmall};
 ghost use Rattle.ioam_batch.specs.Jobs.{reserved_of};
 ghost use Rattle.ioam_batch.specs.Made.{IsMade};
 ghost use Rattle.ioam_batch.specs.declared.job.Job.{Job};
@@ -26,8 +27,8 @@ pub(crate) fn put_job_at(jobs: &mut Vec<Job>, place: usize, job: Job)
     requires place { place ≤ length jobs.old.items }
     requires room { place < vec_capacity jobs.old }
     ensures front { take (place + 1) jobs.new.items ≡ take place jobs.old.items ++ job ∷ [] }
+    ensures behind { drop (place + 1) jobs.new.items ≡ drop (place + 1) jobs.old.items }
     ensures there { place < length jobs.new.items }
-    ensures few { (length jobs.new.items ≡ length jobs.old.items) ⊎ (length jobs.new.items ≡ place + 1) }
     ensures room { vec_capacity jobs.new ≡ vec_capacity jobs.old }
 {
     if place < jobs.len() {
@@ -42,8 +43,8 @@ pub(crate) fn make_place(alloc: Global, jobs: &mut Vec<Job>, place: usize)
     requires place { place ≤ length jobs.old.items }
     requires room { place < vec_capacity jobs.old }
     ensures front { take place jobs.new.items ≡ take place jobs.old.items }
+    ensures small { All IsSmall (drop place jobs.old.items) → All IsSmall (drop place jobs.new.items) }
     ensures there { place < length jobs.new.items }
-    ensures few { (length jobs.new.items ≡ length jobs.old.items) ⊎ (length jobs.new.items ≡ place + 1) }
     ensures room { vec_capacity jobs.new ≡ vec_capacity jobs.old }
 {
     if place == jobs.len() {
@@ -52,7 +53,7 @@ pub(crate) fn make_place(alloc: Global, jobs: &mut Vec<Job>, place: usize)
 }
 
 /// Makes the job of a packet at a place, in the memory of the one that stands there, and answers how many
-/// octets it has reserved.
+/// octets it has reserved. After NoMemory the one there has no more than it had.
 pub(crate) fn make_at(
     alloc: Global,
     jobs: &mut Vec<Job>,
@@ -66,6 +67,8 @@ pub(crate) fn make_at(
     ensures made { IfOk result (λ reserved. (job : Job) × IsMade domain.now packet.now itinerary job × (reserved ≡ reserved_of job)
         × (take (place + 1) jobs.new.items ≡ take place jobs.old.items ++ job ∷ [])) }
     ensures front { take place jobs.new.items ≡ take place jobs.old.items }
+    ensures behind { drop (place + 1) jobs.new.items ≡ drop (place + 1) jobs.old.items }
+    ensures small { IfErr result (λ _. All IsSmall (drop place jobs.old.items) → All IsSmall (drop place jobs.new.items)) }
     ensures few { length jobs.new.items ≡ length jobs.old.items }
     ensures room { vec_capacity jobs.new ≡ vec_capacity jobs.old }
 {
@@ -79,6 +82,7 @@ pub(crate) fn make_at(
 /// Takes the memory of the visits of the job at a place out; that of none where no job stands there.
 pub(crate) fn visits_at(alloc: Global, jobs: &mut Vec<Job>, place: usize) -> Visits
     ensures front { take place jobs.new.items ≡ take place jobs.old.items }
+    ensures small { All IsSmall (drop place jobs.old.items) → All IsSmall (drop place jobs.new.items) }
     ensures few { length jobs.new.items ≡ length jobs.old.items }
     ensures room { vec_capacity jobs.new ≡ vec_capacity jobs.old }
 {
@@ -91,7 +95,7 @@ pub(crate) fn visits_at(alloc: Global, jobs: &mut Vec<Job>, place: usize) -> Vis
 
 /// Hands the memory of all jobs back that have more octets reserved than these.
 pub(crate) fn keep_small(jobs: &mut Vec<Job>, most: usize)
-    ensures few { length jobs.new.items ≤ length jobs.old.items }
+    ensures small { All (λ job. reserved_of job ≤ most) jobs.new.items }
     ensures room { vec_capacity jobs.new ≡ vec_capacity jobs.old }
 {
     jobs.retain(|job| job.reserved() <= most);

@@ -1,5 +1,5 @@
 //! The jobs of a batch in chunks, each run by a worker.
-ghost use Rattle.std.specs.Prelude.{◌≡◌, ◌+◌, ◌≤◌, ◌<◌, ◌^◌, All, IsTrue, length, take};
+ghost use Rattle.std.specs.Prelude.{◌≡◌, ◌+◌, ◌≤◌, ◌<◌, ◌^◌, All, IsTrue, drop, length, take};
 ghost use Rattle.std.specs.List.{AllZip};
 ghost use Rattle.std.specs.Thread.{IsSync};
 ghost use Rattle.ioam_batch.specs.Batches.{MayRun};
@@ -111,6 +111,7 @@ fn run_front<R: Threads + Sync, G: Gate>(
     requires fresh { All (IsFresh domain.now) (take count jobs.old) }
     ensures runs { IsTrue G.opens → AllZip (HasRun domain.now readings.now) (take count jobs.old) (take count jobs.new) }
     ensures may { AllZip (MayRun domain.now readings.now) (take count jobs.old) (take count jobs.new) }
+    ensures behind { drop count jobs.new ≡ drop count jobs.old }
 {
     let (waiting, _) = jobs.split_at_mut(count);
     run_chunks(rt, domain, readings, gate, 0, size, waiting);
@@ -133,12 +134,12 @@ pub fn run_batch<R: Threads + Sync, G: Gate>(
 )
     requires some { 1 ≤ workers }
     requires few { workers ≤ 64 }
-    requires fresh { All (IsFresh domain.now) batch.old }
-    ensures runs { IsTrue G.opens → AllZip (HasRun domain.now readings.now) batch.old batch.new }
-    ensures may { AllZip (MayRun domain.now readings.now) batch.old batch.new }
-    ensures holds { All (Holds domain.now) batch.old → All (Holds domain.now) batch.new }
-    ensures taps { All (HasTaps domain.now) batch.new }
-    ensures memory { AllZip KeepsMemory batch.old batch.new }
+    requires fresh { All (IsFresh domain.now) batch.old.jobs }
+    ensures runs { IsTrue G.opens → AllZip (HasRun domain.now readings.now) batch.old.jobs batch.new.jobs }
+    ensures may { AllZip (MayRun domain.now readings.now) batch.old.jobs batch.new.jobs }
+    ensures holds { All (Holds domain.now) batch.old.jobs → All (Holds domain.now) batch.new.jobs }
+    ensures taps { All (HasTaps domain.now) batch.new.jobs }
+    ensures memory { AllZip KeepsMemory batch.old.jobs batch.new.jobs }
 {
     let size = batch.count.div_ceil(workers as usize);
     if size == 0 {

@@ -90,7 +90,7 @@ counters-few domain counters earlier most counted few = All-from_get_or (λ (num
 
 -- nothing was told of no arrivals, and none waits
 pub IsOf-begin : (domain : Domain) (gathered : Forwarding) → StandFor domain gathered.sums [] → CountFor domain gathered.counters []
-    → gathered.taps.items ≡ tapped (links domain) → gathered.batch ≡ [] → gathered.told ≡ 0 → IsOf domain gathered
+    → gathered.taps.items ≡ tapped (links domain) → gathered.batch.jobs ≡ [] → gathered.told ≡ 0 → IsOf domain gathered
 IsOf-begin domain gathered stands counted taps none told = record {
   ways = [];
   stands = stands;
@@ -102,7 +102,7 @@ IsOf-begin domain gathered stands counted taps none told = record {
 }
 
 pub Forwards-begin : (domain : Domain) (gathered : Forwarding) → StandFor domain gathered.sums [] → CountFor domain gathered.counters []
-    → gathered.batch ≡ [] → gathered.told ≡ 0 → IsOf domain gathered → (opens : Bool) (readings : List (List Sample))
+    → gathered.batch.jobs ≡ [] → gathered.told ≡ 0 → IsOf domain gathered → (opens : Bool) (readings : List (List Sample))
     → Forwards opens domain readings [] (texts_so_far domain readings []) gathered
 Forwards-begin domain gathered stands counted none told of = λ opens readings. record {
   told = [];
@@ -118,7 +118,7 @@ Forwards-begin domain gathered stands counted none told of = λ opens readings. 
 
 -- ---- one more waits
 
-module _ (domain : Domain) (old new : Forwarding) (job : Job) (pushed : new.batch ≡ old.batch ++ job ∷ []) (same : new.told ≡ old.told)
+module _ (domain : Domain) (old new : Forwarding) (job : Job) (pushed : new.batch.jobs ≡ old.batch.jobs ++ job ∷ []) (same : new.told ≡ old.told)
     (counts : (earlier : List Itinerary) → CountFor domain old.counters earlier → CountFor domain new.counters (earlier ++ job.itinerary ∷ []))
     (sums : (earlier : List Itinerary) → StandFor domain old.sums earlier → StandFor domain new.sums (earlier ++ job.itinerary ∷ [])) where
   pub IsOf-push : new.taps.items ≡ old.taps.items → IsFresh domain job → Holds domain job → IsOf domain old → IsOf domain new
@@ -130,15 +130,15 @@ module _ (domain : Domain) (old new : Forwarding) (job : Job) (pushed : new.batc
         counted = counts of.ways of.counted;
         taps = taps ∙ of.taps;
         fresh = subst (λ (jobs : List Job). All (IsFresh domain) jobs) (sym pushed)
-            (All-append (IsFresh domain) old.batch (job ∷ []) of.fresh (All-cons (IsFresh domain) job [] fresh (All-nil (IsFresh domain))));
+            (All-append (IsFresh domain) old.batch.jobs (job ∷ []) of.fresh (All-cons (IsFresh domain) job [] fresh (All-nil (IsFresh domain))));
         holds = subst (λ (jobs : List Job). All (Holds domain) jobs) (sym pushed)
-            (All-append (Holds domain) old.batch (job ∷ []) of.holds (All-cons (Holds domain) job [] holds (All-nil (Holds domain))));
+            (All-append (Holds domain) old.batch.jobs (job ∷ []) of.holds (All-cons (Holds domain) job [] holds (All-nil (Holds domain))));
         count = omega (
           arith,
           same,
           of.count,
           ap length pushed,
-          length-append old.batch (job ∷ []),
+          length-append old.batch.jobs (job ∷ []),
           stands.packets,
           of.stands.packets,
           length-append of.ways (job.itinerary ∷ []),
@@ -165,13 +165,13 @@ module _ (domain : Domain) (old new : Forwarding) (job : Job) (pushed : new.batc
         sums = subst (StandFor domain new.sums) ways (sums before forwards.sums);
         counted = subst (CountFor domain new.counters) ways (counts before forwards.counted);
         jobs = subst (λ (jobs : List Job). AllZip (IsWaiting domain) waiting jobs) (sym pushed)
-            (AllZip-push (IsWaiting domain) forwards.waiting old.batch it.fate job forwards.jobs it.waits);
+            (AllZip-push (IsWaiting domain) forwards.waiting old.batch.jobs it.fate job forwards.jobs it.waits);
         of = of;
       }
 
 -- ---- what waits is told
 
-module _ (domain : Domain) (old new : Forwarding) (ran : List Job) (many : length ran ≡ length old.batch) (none : new.batch ≡ [])
+module _ (domain : Domain) (old new : Forwarding) (ran : List Job) (many : length ran ≡ length old.batch.jobs) (none : new.batch.jobs ≡ [])
     (told : new.told ≡ old.told + length ran) (counters : new.counters ≡ old.counters) (sums : new.sums ≡ old.sums) where
   pub IsOf-tell : new.taps.items ≡ old.taps.items → IsOf domain old → IsOf domain new
   IsOf-tell taps of = record {
@@ -202,7 +202,7 @@ module _ (domain : Domain) (old new : Forwarding) (ran : List Job) (many : lengt
           many,
           forwards.count,
           length-append forwards.told forwards.waiting,
-          AllZip-length (IsWaiting domain) forwards.waiting old.batch forwards.jobs,
+          AllZip-length (IsWaiting domain) forwards.waiting old.batch.jobs forwards.jobs,
         );
         sums = subst (λ (s : Sums). StandFor domain s (ways_of (all ++ []))) (sym sums)
             (subst (λ (fs : List Fate). StandFor domain old.sums (ways_of fs)) whole forwards.sums);
@@ -213,14 +213,14 @@ module _ (domain : Domain) (old new : Forwarding) (ran : List Job) (many : lengt
       }
 
   pub Forwards-tell : (opens : Bool) (readings : List (List Sample)) (added : List (List ℕ))
-      → (IsTrue opens → AllZip (HasRun domain readings) old.batch ran) → AreOfJobs domain old.told ran added → IsOf domain new
+      → (IsTrue opens → AllZip (HasRun domain readings) old.batch.jobs ran) → AreOfJobs domain old.told ran added → IsOf domain new
       → (frames : List Frame) (so_far : List (List ℕ)) → Forwards opens domain readings frames so_far old
       → Forwards opens domain readings frames (said_more so_far added) new
   Forwards-tell opens readings added runs are of frames so_far forwards =
       Forwards-over opens readings of frames so_far (said_more so_far added) forwards
       (λ opened. ap (λ (ts : List (List ℕ)). said_more ts added) (forwards.texts_are opened)
       ∙ are readings forwards.told forwards.waiting (sym forwards.count)
-      (all-ran domain readings forwards.waiting old.batch ran forwards.jobs (runs opened)))
+      (all-ran domain readings forwards.waiting old.batch.jobs ran forwards.jobs (runs opened)))
 
   -- with any, where the gate may stay shut
   pub Forwards-skip : (readings : List (List Sample)) → IsOf domain new → (frames : List Frame) (texts : List (List ℕ))
@@ -230,14 +230,14 @@ module _ (domain : Domain) (old new : Forwarding) (ran : List Job) (many : lengt
 -- ---- the end
 
 -- where none waits the texts are whole with the sums
-pub Forwards-ends : (domain : Domain) (gathered : Forwarding) → gathered.batch ≡ []
+pub Forwards-ends : (domain : Domain) (gathered : Forwarding) → gathered.batch.jobs ≡ []
     → ((arrivals : List Itinerary) → StandFor domain gathered.sums arrivals → sums_text domain gathered.sums ≡ arrivals_text domain arrivals)
     → (opens : Bool) (readings : List (List Sample)) (frames : List Frame) (so_far : List (List ℕ)) → Forwards opens domain readings frames so_far gathered
     → Forwarded opens domain readings frames (said_more so_far (sums_by domain gathered.sums))
 Forwards-ends domain gathered none sums opens readings frames so_far forwards =
     let added : List (List ℕ) = sums_by domain gathered.sums in
     let all : forwards.told ++ forwards.waiting ≡ forwards.told =
-    ap (λ (fs : List Fate). forwards.told ++ fs) (none-waits domain forwards.waiting gathered.batch forwards.jobs none) ∙ append-nil forwards.told in
+    ap (λ (fs : List Fate). forwards.told ++ fs) (none-waits domain forwards.waiting gathered.batch.jobs forwards.jobs none) ∙ append-nil forwards.told in
     let are : AreFates domain readings frames forwards.told = subst (AreFates domain readings frames) all forwards.are in
     let stands : StandFor domain gathered.sums (ways_of forwards.told) =
     subst (λ (fs : List Fate). StandFor domain gathered.sums (ways_of fs)) all forwards.sums in

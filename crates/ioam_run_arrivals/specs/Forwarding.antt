@@ -32,9 +32,9 @@ pub record IsOf (domain : Domain) (gathered : Forwarding) : Type 0 where
   pub stands : StandFor domain gathered.sums ways
   pub counted : CountFor domain gathered.counters ways
   pub taps : gathered.taps.items ≡ tapped (links domain)
-  pub fresh : All (IsFresh domain) gathered.batch
-  pub holds : All (Holds domain) gathered.batch
-  pub count : gathered.told + length gathered.batch ≡ gathered.sums.packets
+  pub fresh : All (IsFresh domain) gathered.batch.jobs
+  pub holds : All (Holds domain) gathered.batch.jobs
+  pub count : gathered.told + length gathered.batch.jobs ≡ gathered.sums.packets
 
 -- the job of what becomes of an arrival, of which no visit is done
 pub record IsWaiting (domain : Domain) (fate : Fate) (job : Job) : Type 0 where
@@ -67,7 +67,7 @@ pub record Forwards (opens : Bool) (domain : Domain) (readings : List (List Samp
   pub count : gathered.told ≡ length told
   pub sums : StandFor domain gathered.sums (ways_of (told ++ waiting))
   pub counted : CountFor domain gathered.counters (ways_of (told ++ waiting))
-  pub jobs : AllZip (IsWaiting domain) waiting gathered.batch
+  pub jobs : AllZip (IsWaiting domain) waiting gathered.batch.jobs
   pub of : IsOf domain gathered
 
 -- The texts of these arrivals, with the sums. What leaves by the ports of the domain is one packet each, with a whole
@@ -84,8 +84,8 @@ taken gathered = gathered.sums.packets
 
 -- none of them waits
 abbrev pub NoneWaits : Forwarding → Type 0
-NoneWaits gathered = gathered.batch ≡ []
+NoneWaits gathered = gathered.batch.jobs ≡ []
 
 -- one more may be taken before what waits is told
 abbrev pub has_room : Forwarding → Bool
-has_room gathered = batches.has_room gathered.batch
+has_room gathered = batches.has_room gathered.batch.jobs

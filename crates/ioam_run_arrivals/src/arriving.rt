@@ -49,15 +49,15 @@ pub(crate) fn add_job(
     counters: &mut Counters,
     arrival: &Arrival<'_>,
 ) -> Result<(), NoMemory>
-    requires room { IsTrue (has_room batch.old) }
+    requires room { IsTrue (has_room batch.old.jobs) }
     requires port { arrival.now.port.0 < length (ports domain.now) }
     requires time { arrival.now.captured.time < 2 ^ 62 }
     requires short { length arrival.now.captured.octets.now ≤ most }
     requires counters { length counters.old ≡ length (flows domain.now) }
     requires few { All (λ number. number < 2 ^ 32) counters.old }
     ensures added { OnOk result ((job : Job) × IsAdded domain.now readings.now counters.old counters.new arrival.now job
-        × (batch.new ≡ batch.old ++ job ∷ [])) }
-    ensures as_before { IfErr result (λ _. batch.new ≡ batch.old) }
+        × (batch.new.jobs ≡ batch.old.jobs ++ job ∷ [])) }
+    ensures as_before { IfErr result (λ _. batch.new.jobs ≡ batch.old.jobs) }
 {
     let captured = &arrival.captured;
     let admitted = admit(

@@ -25,7 +25,7 @@ fn job(rt: &impl Abort, alloc: Global, domain: &Domain, readings: &Readings) -> 
 
 // Two of them.
 fn two_jobs(rt: &impl Abort, alloc: Global, domain: &Domain, readings: &Readings) -> Batch
-    ensures { All (IsFresh domain.now) result }
+    ensures { All (IsFresh domain.now) result.jobs }
 {
     let mut batch = Batch::new(alloc).expect(rt, "memory");
     batch.push(job(rt, alloc, domain, readings));

@@ -1,6 +1,6 @@
-use Rattle.std.proofs.Common.{◌≡◌, ◌++◌, List, length, take, sym, subst, arith}
+use Rattle.std.proofs.Common.{◌≡◌, ◌++◌, List, length, take, sym, subst, ◌∙◌, arith}
 use Rattle.std.specs.List.{AllZip}
-use Rattle.std.proofs.lemmas.List.{take_at}
+use Rattle.std.proofs.lemmas.List.{drop_at, take_at}
 use Rattle.ioam_batch.specs.Batches.{MayRun}
 use Rattle.ioam_batch.specs.Jobs.{HasRun}
 use Rattle.ioam_batch.specs.declared.job.Job.{Job}
@@ -23,3 +23,8 @@ returns-clause-may g c =
     let P : List Job → Type 0 = λ jobs. AllZip (MayRun c.args.domain.now c.args.readings.now) jobs waiting in
     let Q : List Job → Type 0 = λ jobs. AllZip (MayRun c.args.domain.now c.args.readings.now) (take c.args.count c.args.jobs.now) jobs in
     subst Q (sym front) (subst P cut.ensures.front c.run_chunks.ensures.may)
+
+pub returns-clause-behind : goal.returns-clause-behind
+returns-clause-behind g c =
+    let cut = c.split_at_mut-waiting in
+    drop_at c.run_chunks.new.jobs cut.result.1.now c.args.count (omega (arith, cut.ensures.front_len)) ∙ cut.ensures.back

@@ -15,14 +15,14 @@ add_job-requires-clause-few c = counters-few c.args.domain.now c.args.self.now.c
 pub last-requires : goal.last-requires
 last-requires c =
     let added = c.in_ok-add_job.ensures.added in
-    omega (arith, ap length added.2, length-append c.args.self.now.batch (added.0 ∷ []))
+    omega (arith, ap length added.2, length-append c.args.self.now.batch.jobs (added.0 ∷ []))
 
 pub note-requires-clause-visits : goal.note-requires-clause-visits
 note-requires-clause-visits c =
     let count = length c.args.self.now.sums.nodes in
     let added = c.in_ok-add_job.ensures.added in
     let last = c.last.ensures in
-    let same : c.last.result.now ≡ added.0 = last-same last.0 c.args.self.now.batch c.last.result.now added.0 (sym last.1 ∙ added.2) in
+    let same : c.last.result.now ≡ added.0 = last-same last.0 c.args.self.now.batch.jobs c.last.result.now added.0 (sym last.1 ∙ added.2) in
     subst (λ (it : Itinerary). All (λ (visit : Visit). visit.place.node.0 < count) it.visits) (sym (c.itinerary.ensures ∙ ap (λ (job : Job). job.itinerary) same))
     (visits-counted c.args.domain.now count _ c.requires.of.stands.count added.1.fresh.visits)
 
@@ -31,7 +31,7 @@ note-requires-clause-ends c =
     let count = length c.args.self.now.sums.nodes in
     let added = c.in_ok-add_job.ensures.added in
     let last = c.last.ensures in
-    let same : c.last.result.now ≡ added.0 = last-same last.0 c.args.self.now.batch c.last.result.now added.0 (sym last.1 ∙ added.2) in
+    let same : c.last.result.now ≡ added.0 = last-same last.0 c.args.self.now.batch.jobs c.last.result.now added.0 (sym last.1 ∙ added.2) in
     subst (λ (it : Itinerary). IsEndBelow count it.end) (sym (c.itinerary.ensures ∙ ap (λ (job : Job). job.itinerary) same))
     (end-counted c.args.domain.now count _ c.requires.of.stands.count added.1.holds.ends)
 
@@ -40,7 +40,7 @@ note-requires-clause-flow c =
     let count = length c.args.self.now.sums.flows in
     let added = c.in_ok-add_job.ensures.added in
     let last = c.last.ensures in
-    let same : c.last.result.now ≡ added.0 = last-same last.0 c.args.self.now.batch c.last.result.now added.0 (sym last.1 ∙ added.2) in
+    let same : c.last.result.now ≡ added.0 = last-same last.0 c.args.self.now.batch.jobs c.last.result.now added.0 (sym last.1 ∙ added.2) in
     subst (λ (it : Itinerary). IfSome it.carried (λ carried. carried.0.0 < count)) (sym (c.itinerary.ensures ∙ ap (λ (job : Job). job.itinerary) same))
     (flow-counted c.args.domain.now count _ c.requires.of.stands.flow_count added.1.holds.flow)
 
@@ -48,7 +48,7 @@ pub returns-clause-of : goal.returns-clause-of
 returns-clause-of c =
     let added = c.in_ok-add_job.ensures.added in
     let last = c.last.ensures in
-    let same : c.last.result.now ≡ added.0 = last-same last.0 c.args.self.now.batch c.last.result.now added.0 (sym last.1 ∙ added.2) in
+    let same : c.last.result.now ≡ added.0 = last-same last.0 c.args.self.now.batch.jobs c.last.result.now added.0 (sym last.1 ∙ added.2) in
     let sums = subst (λ (it : Itinerary). (arrivals : List Itinerary) → StandFor c.args.domain.now c.args.self.now.sums arrivals
     → StandFor c.args.domain.now c.note.new.self (arrivals ++ it ∷ [])) (c.itinerary.ensures ∙ ap (λ (job : Job). job.itinerary) same) (c.note.ensures.stands c.args.domain.now) in
     IsOf-push c.args.domain.now c.args.self.now _ added.0 added.2 refl added.1.counted sums
@@ -58,7 +58,7 @@ pub returns-clause-gathers : goal.returns-clause-gathers
 returns-clause-gathers c = λ opens frames so_far.
     let added = c.in_ok-add_job.ensures.added in
     let last = c.last.ensures in
-    let same : c.last.result.now ≡ added.0 = last-same last.0 c.args.self.now.batch c.last.result.now added.0 (sym last.1 ∙ added.2) in
+    let same : c.last.result.now ≡ added.0 = last-same last.0 c.args.self.now.batch.jobs c.last.result.now added.0 (sym last.1 ∙ added.2) in
     let sums = subst (λ (it : Itinerary). (arrivals : List Itinerary) → StandFor c.args.domain.now c.args.self.now.sums arrivals
     → StandFor c.args.domain.now c.note.new.self (arrivals ++ it ∷ [])) (c.itinerary.ensures ∙ ap (λ (job : Job). job.itinerary) same) (c.note.ensures.stands c.args.domain.now) in
     let of = IsOf-push c.args.domain.now c.args.self.now _ added.0 added.2 refl added.1.counted sums
