@@ -1,5 +1,5 @@
 -- What the node sends to a port is clean.
-use Rattle.std.proofs.Common.{◌≡◌, ℕ, suc, ◌+◌, ◌<◌, List, [], ◌∷◌, length, take, IsSomeAnd, Option, Some, None, ◌∙◌, ap, ⊎_elim, arith}
+use Rattle.std.proofs.Common.{ℕ, suc, ◌+◌, ◌<◌, List, [], ◌∷◌, length, take, IsSomeAnd, Option, Some, None, ◌∙◌, ap, ⊎_elim, arith}
 use Rattle.std.proofs.lemmas.List.Elements.{Contains-append_right}
 use Rattle.ioam_run_files.specs.Outcomes.{IsBehindAll}
 use Rattle.ioam_run_files.specs.Outcome.{Outcome}

@@ -83,8 +83,7 @@ pub record ArePassed (most : ℕ) (taken : List Taken) (octets : List ℕ) : Typ
   pub all : length taken ≡ most
   pub more : 0 < length first.rest
 
--- these are the records that are whole in the octets but for those that are left, and what is due
--- behind them isn't whole there
+-- these are the records that are whole in the octets but for those that are left, and what is due behind them isn't
 pub record AreWhole (left : List ℕ) (taken : List Taken) (octets : List ℕ) : Type 0 where
   pub handed : List ℕ
   pub parts : octets ≡ handed ++ left
@@ -111,8 +110,6 @@ module _ (most : ℕ) (Texts : List Taken → List (List ℕ) → Type 0) (outpu
     pub texts_are : Texts taken texts
     pub held : HoldFronts old new 0 outputs texts
 
-  -- the texts, of all records, of the first, or of those that are whole in what was handed out of IN; or nothing was
-  -- opened for writing; or each output that was opened holds a front of its text
   module _ (input : List ℕ) (old_in new_in : Reading) (old new : Writing) where
     -- what the outputs hold, by the answer: the texts of all records of IN, of those in front of its fault or limit, or of
     -- those that had been handed out whole; or fronts of them, or nothing was opened
@@ -121,8 +118,7 @@ module _ (most : ℕ) (Texts : List Taken → List (List ℕ) → Type 0) (outpu
     Leaves (outcome.Capture name at fault) = IsSomeAnd (holds old input) (HoldsAll (EndsSo (Faulty at fault)) new)
     Leaves (outcome.Packets limit) = IsSomeAnd (holds old input) (HoldsAll (ArePassed most) new)
     Leaves outcome.ReadFault = ((new_in.side.slots ≡ old_in.side.slots) × (new ≡ old))
-        ⊎ ((old_in.side.slots < new_in.side.slots)
-        × IsSomeAnd (holds old input) (HoldsAll (AreWhole (new_in.left old_in.side.slots)) new))
+        ⊎ ((old_in.side.slots < new_in.side.slots) × IsSomeAnd (holds old input) (HoldsAll (AreWhole (new_in.left old_in.side.slots)) new))
     Leaves outcome.WriteFault = IsSomeAnd (holds old input) (HoldsFronts old new)
     Leaves outcome.NoMemory = (new ≡ old) ⊎ IsSomeAnd (holds old input) (HoldsFronts old new)
     Leaves (outcome.Names name) = new ≡ old
@@ -146,8 +142,7 @@ module _ (Texts : List Taken → List (List ℕ) → Type 0) (desks : Desks) (fi
     pub differed : (desks.new_in ≡ desks.old_in) ⊎ AreApart (all_names files)
     pub no_output : desks.new_in.side.slots ≡ desks.old_in.side.slots → desks.new ≡ desks.old
     -- nothing of IN is read before all outputs are opened
-    pub unread : IsTrue desks.tells → desks.new.side.slots < desks.old.side.slots + length files.outputs
-        → desks.old_in.side.slots < desks.new_in.side.slots
+    pub unread : IsTrue desks.tells → desks.new.side.slots < desks.old.side.slots + length files.outputs → desks.old_in.side.slots < desks.new_in.side.slots
         → holds desks.old files.input ≡ Some (desks.new_in.left desks.old_in.side.slots)
     pub drained : IsDone answer → IsTrue desks.tells → IsTrue (desks.new_in.ended desks.old_in.side.slots)
     -- input slots that were there, and where the desk tells output slots that were there and names that weren't opened to be written, are as they were
