@@ -1,13 +1,12 @@
 -- A text that is written to an empty slot.
-use Rattle.std.proofs.Common.{◌≡◌, ℕ, ◌+◌, Bool, IsTrue, List, [], ◌∷◌, ◌++◌, length, take, drop, append-nil, Some, Ok, Err, sym, ap, ◌∙◌, subst, arith}
+use Rattle.std.proofs.Common.{◌≡◌, ℕ, ◌+◌, Bool, IsTrue, List, [], ◌∷◌, ◌++◌, append-nil, Some, Ok, Err, sym, ap, ◌∙◌, subst, arith}
 use Rattle.std.specs.Prelude.{Result}
-use Rattle.std.proofs.lemmas.List.{take-append-drop, take_all}
 use Rattle.ioam_desk.specs.Asked.{AsksFront}
 use Rattle.ioam_desk.specs.Desk.{Side, Writing, Grows, OpenOut, Rose, holds}
 use Rattle.ioam_desk.specs.declared.fault.DeskFault.{DeskFault}
 use Rattle.ioam_desk.specs.declared.fault.DeskFault.TheVariants.{Failed, NoMemory}
-use Rattle.ioam_collect_stream.proofs.HeldLaws.{holds_slot, front_held}
-use Rattle.ioam_run_part.specs.Stored.{IsBlank, HoldsFrontOf, Writes, Stores}
+use Rattle.ioam_collect_stream.proofs.HeldLaws.{holds_slot}
+use Rattle.ioam_run_part.specs.Stored.{IsBlank, Writes, Stores}
 
 module _ (tells : Bool) (name : List ℕ) (old new : Writing) (slot : ℕ) (blank : IsBlank tells old name slot) where
   -- what the name holds once octets were appended
@@ -15,13 +14,6 @@ module _ (tells : Bool) (name : List ℕ) (old new : Writing) (slot : ℕ) (blan
   held_grown octets grows told =
       holds_slot new name slot (ap (λ (files : List ℕ → _). files name) grows.files ∙ blank.tied told)
       ∙ ap Some (grows.written told ∙ ap (λ o. o ++ octets) (blank.blank told))
-
-  pub front_grown : (text : List ℕ) (count : ℕ) → Grows tells old new slot (take count text) → IsTrue tells → HoldsFrontOf new name text
-  front_grown text count grows told =
-      front_held (holds new name) (take count text) text (held_grown (take count text) grows told) (record { rest = drop count text; is = sym (take-append-drop count text) })
-
-  pub whole_grown : (text : List ℕ) → Grows tells old new slot (take (length text) text) → IsTrue tells → holds new name ≡ Some text
-  whole_grown text grows told = held_grown (take (length text) text) grows told ∙ ap Some (take_all (length text) text (omega arith))
 
 -- a name that was opened
 pub blank_opened : (tells : Bool) (old new : Writing) (name : List ℕ) (slot : ℕ) → OpenOut tells old name (Ok slot) new → IsBlank tells new name slot

@@ -2,26 +2,29 @@ use Rattle.std.proofs.Common.{ℕ, List, ap, ◌∙◌, subst, Ok, Err, arith}
 use Rattle.ioam_desk.specs.Desk.{Side, OpenOut}
 use Rattle.ioam_desk.proofs.KeptLaws.{KeepsOutputs-asked, KeepsOutputs-from}
 use Rattle.ioam_run_part.proofs.StoredLaws.{asks_unopened, blank_opened, stored, unstored}
+use Rattle.ioam_run_part.proofs.WalkedLaws.{writes_sent}
 use Rattle.ioam_run_part.proofs.stored.store.Goals as goal
 
-pub write_text-requires : goal.write_text-requires
-write_text-requires g c = (blank_opened g.D.Desk.tells (g.D.Desk.writing c.args.desk.now) (g.D.Desk.writing c.open_out.new.self) c.text.result.now c.in-Ok.slot c.in-Ok.ensures.opened).inside
+pub send-requires : goal.send-requires
+send-requires g c = (blank_opened g.D.Desk.tells (g.D.Desk.writing c.args.desk.now) (g.D.Desk.writing c.open_out.new.self) c.text.result.now c.in-Ok.slot c.in-Ok.ensures.opened).inside
 
 pub returns-in-Ok : goal.returns-in-Ok
 returns-in-Ok g c =
     let opened : OpenOut g.D.Desk.tells (g.D.Desk.writing c.args.desk.now) c.args.name.now (Ok c.in-Ok.slot) (g.D.Desk.writing c.open_out.new.self) =
     (let P : List ℕ → Type 0 = λ name. OpenOut g.D.Desk.tells (g.D.Desk.writing c.args.desk.now) name (Ok c.in-Ok.slot) (g.D.Desk.writing c.open_out.new.self) in subst P c.text.ensures c.in-Ok.ensures.opened) in
+    let mid = g.D.Desk.writing c.open_out.new.self in
+    let new = g.D.Desk.writing c.send.new.desk in
+    let blank = blank_opened g.D.Desk.tells (g.D.Desk.writing c.args.desk.now) mid c.args.name.now c.in-Ok.slot opened in
     record {
-      stores = stored g.D.Desk.tells (g.D.Desk.writing c.args.desk.now) (g.D.Desk.writing c.open_out.new.self) (g.D.Desk.writing c.write_text.new.desk) c.args.name.now c.args.text.now c.in-Ok.slot
-          c.write_text.result opened c.write_text.ensures.asked
-          (c.write_text.ensures.writes c.args.name.now (blank_opened g.D.Desk.tells (g.D.Desk.writing c.args.desk.now) (g.D.Desk.writing c.open_out.new.self) c.args.name.now c.in-Ok.slot opened));
-      asked = (1, c.write_text.ensures.asked ∙ ap (λ (s : Side). s.asked) opened.1);
+      stores = stored g.D.Desk.tells (g.D.Desk.writing c.args.desk.now) mid new c.args.name.now c.args.text.now c.in-Ok.slot c.send.result opened c.send.ensures.asked
+          (writes_sent g.D.Desk.tells c.args.name.now c.args.text.now mid new c.in-Ok.slot blank c.send.result c.send.ensures.sends);
+      asked = (1, c.send.ensures.asked ∙ ap (λ (s : Side). s.asked) opened.1);
       kept = λ told.
           let number = opened.0 in
-          KeepsOutputs-from (g.D.Desk.writing c.args.desk.now) (g.D.Desk.writing c.open_out.new.self) (g.D.Desk.writing c.write_text.new.desk) c.in-Ok.slot
+          KeepsOutputs-from (g.D.Desk.writing c.args.desk.now) (g.D.Desk.writing c.open_out.new.self) (g.D.Desk.writing c.send.new.desk) c.in-Ok.slot
           (KeepsOutputs-asked g.D.Desk.tells (g.D.Desk.writing c.args.desk.now) (g.D.Desk.writing c.open_out.new.self) c.args.name.now (Ok c.in-Ok.slot) opened told)
-          (omega (arith, number)) c.write_text.ensures.slots c.write_text.ensures.asked c.write_text.ensures.kept;
-      inputs = c.write_text.ensures.inputs ∙ c.open_out.ensures.inputs;
+          (omega (arith, number)) c.send.ensures.slots c.send.ensures.asked c.send.ensures.kept;
+      inputs = c.send.ensures.inputs ∙ c.open_out.ensures.inputs;
     }
 
 pub returns-in-Err : goal.returns-in-Err
