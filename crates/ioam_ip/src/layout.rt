@@ -5,7 +5,7 @@ ghost use Rattle.ioam_ip.specs.Layout.{padding, gap_before, with_option, padded,
 ghost use Rattle.ioam_ip.specs.Options.{AreOptions};
 ghost use Rattle.ioam_ip.specs.Sizes.{size_with};
 
-use crate::option_type::is_ioam_type;
+use crate::option_type::{PADN, is_ioam_type};
 use ioam_base::memory::NoMemory;
 use ioam_base::text::append;
 use std::alloc::Global;
@@ -13,6 +13,9 @@ use std::marker::Model;
 
 /// The most octets that a header is laid out to.
 pub const MOST_OCTETS: usize = 2048;
+
+// An IOAM option stands at a multiple of so many octets (RFC 9486 section 3).
+const ALIGNMENT: usize = 4;
 
 /// Why an option isn't added.
 #[derive(Clone, Copy, Debug, PartialEq, Eq)]
@@ -118,33 +121,35 @@ pub fn padded(size: usize) -> usize
     (size + 7) / 8 * 8
 }
 
-// The octets of padding in front of an option.
-fn gap_before(size: usize, kind: u8) -> usize
-    ensures { result ≡ gap_before size kind }
+/// The octets of padding in front of an option of this type behind `size` octets of its header, 0 to 3:
+/// an IOAM option stands at a multiple of 4 octets (RFC 9486 section 3), any other anywhere.
+pub fn gap_before(size: usize, kind: u8) -> usize
+    ensures value { result ≡ gap_before size kind }
+    ensures small { result < 4 }
 {
     if is_ioam_type(kind) {
-        (4 - size % 4) % 4
+        (ALIGNMENT - size % ALIGNMENT) % ALIGNMENT
     } else {
         0
     }
 }
 
-/// Appends padding of up to 8 octets: Pad1 for one, PadN with zeros for more (RFC 8200 section 4.2). Without
-/// memory nothing is appended.
-pub fn pad(octets: &mut Vec<u8>, count: usize) -> Result<(), NoMemory>
+// Appends padding of up to 8 octets: Pad1 for one, PadN with zeros for more (RFC 8200 section 4.2). Without
+// memory nothing is appended.
+fn pad(octets: &mut Vec<u8>, count: usize) -> Result<(), NoMemory>
     requires { count ≤ 8 }
     ensures { octets.new.items ≡ (if is_ok result then octets.old.items ++ padding count else octets.old.items) }
 {
     match count {
         0 => Ok(()),
         1 => append(octets, &[0]),
-        2 => append(octets, &[1, 0]),
-        3 => append(octets, &[1, 1, 0]),
-        4 => append(octets, &[1, 2, 0, 0]),
-        5 => append(octets, &[1, 3, 0, 0, 0]),
-        6 => append(octets, &[1, 4, 0, 0, 0, 0]),
-        7 => append(octets, &[1, 5, 0, 0, 0, 0, 0]),
-        _ => append(octets, &[1, 6, 0, 0, 0, 0, 0, 0]),
+        2 => append(octets, &[PADN, 0]),
+        3 => append(octets, &[PADN, 1, 0]),
+        4 => append(octets, &[PADN, 2, 0, 0]),
+        5 => append(octets, &[PADN, 3, 0, 0, 0]),
+        6 => append(octets, &[PADN, 4, 0, 0, 0, 0]),
+        7 => append(octets, &[PADN, 5, 0, 0, 0, 0, 0]),
+        _ => append(octets, &[PADN, 6, 0, 0, 0, 0, 0, 0]),
     }
 }
 

@@ -27,7 +27,7 @@ pub use finds::{heads, hop_header, target_header};
 pub use frame::{Framed, packet_of};
 pub use headers::Heads;
 pub use items::{Opt, Options};
-pub use layout::{Layout, LayoutFault, MOST_OCTETS, pad, padded, size_with};
+pub use layout::{Layout, LayoutFault, MOST_OCTETS, gap_before, padded, size_with};
 pub use next::{OptionSpot, next_option};
 pub use packet::{HEADER_OCTETS, HOP_LIMIT, Header, NEXT_HEADER};
 pub use walks::walk;

@@ -2,6 +2,9 @@
 ghost use Rattle.std.specs.Prelude.{◌≡◌};
 ghost use Rattle.ioam_ip.specs.Findings.{is_ioam_type};
 
+/// PadN, padding of two octets or more: a type, a length and zeros (RFC 8200 section 4.2).
+pub const PADN: u8 = 1;
+
 /// Tunnel Encapsulation Limit (RFC 2473 section 4.1.1).
 pub const ENCAPSULATION_LIMIT: u8 = 4;
 

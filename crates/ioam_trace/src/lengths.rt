@@ -22,8 +22,8 @@ const OVERFLOW: u16 = 1 << 10;
 pub struct Lengths(pub u16);
 
 impl Lengths {
-    // The word of these numbers.
-    pub(crate) fn new(node_len: u8, flags: u8, remaining: u8) -> Lengths
+    /// The word of these numbers: NodeLen below 32, the flags below 16, RemainingLen below 128.
+    pub fn new(node_len: u8, flags: u8, remaining: u8) -> Lengths
         requires node_len { node_len < 32 }
         requires flags { flags < 16 }
         requires remaining { remaining < 128 }

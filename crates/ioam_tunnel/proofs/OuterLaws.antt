@@ -1,13 +1,12 @@
 -- An outer packet whose octets are all there, and what is laid out of it.
-use Rattle.std.proofs.Common.{◌≡◌, ℕ, zero, suc, ◌+◌, ◌-◌, ◌*◌, ◌/◌, ◌%◌, ◌<◌, ◌≤◌, Bool, true, false, cond, List, [], ◌∷◌, ◌++◌, length, take, drop, replicate, slice_set, append_assoc, refl, sym, ap, ◌∙◌, arith, length-append, length-take, length-drop}
+use Rattle.std.proofs.Common.{◌≡◌, ℕ, zero, suc, ◌+◌, ◌-◌, ◌*◌, ◌/◌, ◌%◌, ◌<◌, ◌≤◌, List, [], ◌∷◌, ◌++◌, length, take, drop, replicate, slice_set, append_assoc, refl, sym, ap, ◌∙◌, arith, length-append, length-take, length-drop}
 use Rattle.std.proofs.Math.Seq.{take-add}
 use Rattle.std.proofs.lemmas.List.{take-append-drop, take-append-le, drop-append-le, set-append_left, set-append_right, length-set, length-replicate, replicate-append-replicate, take-replicate, drop-replicate, take_all, take_at, drop_all, drop_at, drop-drop}
 use Rattle.ioam_base.specs.Octets.{written}
 use Rattle.ioam_base.specs.Words.{two_octets, three_octets, four_octets}
 use Rattle.ioam_base.proofs.WrittenLaws.{length-written, written-ahead, written-at, written-behind}
 use Rattle.ioam_data.specs.Kind.{words}
-use Rattle.ioam_ip.specs.Findings.{is_ioam_type}
-use Rattle.ioam_ip.specs.Layout.{padding, gap_before, padded, finished}
+use Rattle.ioam_ip.specs.Layout.{padding, padded, finished}
 use Rattle.ioam_trace.specs.Data.{trace_data, header}
 use Rattle.ioam_trace.proofs.DataLaws.{trace_data-none}
 use Rattle.ioam_tunnel.specs.Outer.{Writing, writing_of, more, behind}
@@ -145,14 +144,6 @@ pub length-padding : (n : ℕ) → length (padding n) ≡ n
 length-padding zero = refl
 length-padding (suc zero) = refl
 length-padding (suc (suc n)) = ap (λ m. suc (suc m)) (length-replicate n 0)
-
-gap-by : (b : Bool) (size : ℕ) → b ≡ true → (4 - size % 4) % 4 ≡ cond b ((4 - size % 4) % 4) 0
-gap-by true size is = refl
-gap-by false size is = absurd (cc is)
-
--- before each of the types of IOAM options
-pub gap_is : (size kind : ℕ) → is_ioam_type kind ≡ true → (4 - size % 4) % 4 ≡ gap_before size kind
-gap_is size kind is = gap-by (is_ioam_type kind) size is
 
 pub more_twice : (writing : Writing) (a b : List ℕ) → more (more writing a) b ≡ more writing (a ++ b)
 more_twice writing a b = λ i. record { front = writing.front; laid = append_assoc writing.laid a b i; most = writing.most }

@@ -4,8 +4,7 @@ use Rattle.std.proofs.lemmas.List.{length-replicate}
 use Rattle.ioam_base.specs.Words.{four_octets_if}
 use Rattle.ioam_data.specs.Kind.{words}
 use Rattle.ioam_data.specs.declared.namespace.Namespace.{Namespace}
-use Rattle.ioam_dex.specs.Direct.{HasItsNumbers, direct_octets}
-use Rattle.ioam_dex.specs.Numbers.{has_flow, has_seq}
+use Rattle.ioam_dex.specs.Direct.{direct_octets}
 use Rattle.ioam_dex.specs.declared.direct.Direct.{Direct}
 use Rattle.ioam_edge.specs.Edge.{asks, edge_octets, fields_size, HasItsFields}
 use Rattle.ioam_edge.proofs.EdgeLaws.{length-edge_octets}
@@ -42,11 +41,6 @@ length_direct direct flow seq =
       four_if direct.flow ∙ ap (λ b. cond b 4 0) flow,
       four_if direct.seq ∙ ap (λ b. cond b 4 0) seq,
     )
-
--- both numbers are there by its extension flags
-pub direct_numbers : (flow : Flow) (kind seq : ℕ) → is_some flow.flow_id ≡ true → HasItsNumbers (direct_of flow kind seq)
-unfolding has_flow has_seq
-direct_numbers flow kind seq id = record { flow = id; seq = refl }
 
 asked : (b : Bool) (number : ℕ) → is_some (cond b (Some number) None) ≡ b
 asked true number = refl

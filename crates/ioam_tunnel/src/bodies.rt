@@ -1,7 +1,5 @@
 //! What the options of an outer packet hold (RFC 9486 section 3).
-ghost use Rattle.std.specs.Prelude.{◌≡◌, ◌^◌, ◌<◌, ◌≤◌, true, is_some};
-ghost use Rattle.ioam_dex.specs.Direct.{HasItsNumbers};
-ghost use Rattle.ioam_edge.specs.Edge.{HasItsFields};
+ghost use Rattle.std.specs.Prelude.{◌≡◌, ◌^◌, ◌<◌, ◌≤◌};
 ghost use Rattle.ioam_tunnel.specs.Enclosed.{direct_of, edge_of, if_asked, seconds_of, fraction_of};
 
 use crate::numbers::Numbers;
@@ -12,11 +10,8 @@ use ioam_edge::{Edge, asks};
 use ioam_topo::Flow;
 
 /// The direct export data of a packet with this sequence number.
-#[tactic(auto, using(crate::proofs::SizeLaws::direct_numbers))]
 pub(crate) fn direct_of(flow: &Flow, kind: TraceType, seq: u32) -> Direct
-    requires { is_some flow.now.flow_id ≡ true }
-    ensures value { result ≡ direct_of flow.now kind seq }
-    ensures numbers { HasItsNumbers result }
+    ensures { result ≡ direct_of flow.now kind seq }
 {
     Direct {
         namespace: flow.namespace,
@@ -57,8 +52,7 @@ fn stamp_of(numbers: &Numbers) -> (u32, u32)
 /// The edge-to-edge data of a type.
 pub(crate) fn edge_of(namespace: Namespace, kind: u16, numbers: &Numbers) -> Edge
     requires { numbers.now.number < 2 ^ 32 }
-    ensures value { result ≡ edge_of namespace kind numbers.now }
-    ensures fields { HasItsFields result }
+    ensures { result ≡ edge_of namespace kind numbers.now }
 {
     let (seconds, fraction) = stamp_of(numbers);
     Edge {

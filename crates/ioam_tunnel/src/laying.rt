@@ -25,7 +25,7 @@ fn add_trace(outer: &mut Outer, trace: FlowTrace)
     ensures value { outer.new ≡ with_parts outer.old (trace_parts (room_of trace ∷ []) no_elements) }
     ensures sound { IsRoom (room_of trace) }
 {
-    outer.begin(IOAM_CHANGING, 10 + 4 * trace.capacity, PREALLOCATED_TRACE);
+    outer.begin_option(IOAM_CHANGING, 10 + 4 * trace.capacity, PREALLOCATED_TRACE);
     outer.put_trace(trace);
 }
 
@@ -47,7 +47,7 @@ fn add_direct_of(outer: &mut Outer, flow: &Flow, kind: TraceType, seq: u32)
     requires room { length (laid_with outer.old.laid (direct_parts flow.now (Some kind) (Some seq))) ≤ outer.old.most }
     ensures { outer.new ≡ with_parts outer.old (direct_parts flow.now (Some kind) (Some seq)) }
 {
-    outer.begin(IOAM, 18, DIRECT_EXPORT);
+    outer.begin_option(IOAM, 18, DIRECT_EXPORT);
     outer.put_direct(&direct_of(flow, kind, seq));
 }
 
@@ -78,7 +78,7 @@ fn add_edge_of(outer: &mut Outer, namespace: Namespace, kind: u16, numbers: &Num
     requires room { length (laid_with outer.old.laid (edge_parts namespace (Some kind) numbers.now)) ≤ outer.old.most }
     ensures { outer.new ≡ with_parts outer.old (edge_parts namespace (Some kind) numbers.now) }
 {
-    outer.begin(IOAM, (2 + data_size(kind)) as u8, EDGE_TO_EDGE);
+    outer.begin_option(IOAM, (2 + data_size(kind)) as u8, EDGE_TO_EDGE);
     outer.put_edge(&edge_of(namespace, kind, numbers));
 }
 

@@ -1,9 +1,8 @@
 //! An outer packet as it is written, from its first octet to its last.
-ghost use Rattle.std.specs.Prelude.{ℕ, ◌≡◌, ◌≤◌, ◌<◌, ◌+◌, ◌*◌, ◌%◌, ◌++◌, [], ◌∷◌, length, true, replicate, slice_index, IfOk, OnOk};
+ghost use Rattle.std.specs.Prelude.{◌≡◌, ◌≤◌, ◌+◌, ◌*◌, ◌++◌, [], ◌∷◌, length, replicate, slice_index, IfOk, OnOk};
 ghost use Rattle.ioam_base.specs.Words.{two_octets, three_octets, four_octets, eight_octets, four_octets_if, eight_octets_if};
 ghost use Rattle.ioam_dex.specs.Direct.{direct_octets};
 ghost use Rattle.ioam_edge.specs.Edge.{edge_octets};
-ghost use Rattle.ioam_ip.specs.Findings.{is_ioam_type};
 ghost use Rattle.ioam_ip.specs.Layout.{padding, gap_before, finished};
 ghost use Rattle.ioam_ip.specs.Lowered.{lowered};
 ghost use Rattle.ioam_topo.specs.Traces.{IsFlowTrace};
@@ -19,8 +18,10 @@ use ioam_base::text::append;
 use ioam_data::TraceType;
 use ioam_dex::Direct;
 use ioam_edge::Edge;
-use ioam_ip::{HEADER_OCTETS, HOP_LIMIT, padded};
+use ioam_ip::option_type::PADN;
+use ioam_ip::{HEADER_OCTETS, HOP_LIMIT, gap_before, padded};
 use ioam_topo::FlowTrace;
+use ioam_trace::Lengths;
 use std::alloc::Global;
 use std::marker::Model;
 
@@ -30,17 +31,8 @@ const OCTET: u16 = 1 << 8;
 // What the first two of four octets count in.
 const TWO_OCTETS: u32 = 1 << 16;
 
-// What NodeLen counts in, in the word of a trace's lengths (RFC 9197 section 4.4.1).
-const NODE_LEN: u16 = 1 << 11;
-
-// What an IOAM-Trace-Type counts in, in a word whose last octet is reserved (RFC 9197 section 4.4.1).
-const TRACE_TYPE: u32 = 1 << 8;
-
-// An IOAM option stands at a multiple of so many octets (RFC 9486 section 3).
-const ALIGNMENT: usize = 4;
-
-// The type of the padding of more than one octet (RFC 8200 section 4.2).
-const PADN: u8 = 1;
+// What a type of 24 bits counts in, in front of a reserved octet (RFC 9197 section 4.4.1, RFC 9326 section 3.2).
+const OVER_RESERVED: u32 = 1 << 8;
 
 /// An outer packet whose headers have all their octets from the first on, and where in it the options
 /// header begins that is laid out now, and ends as far as it is. From there on its octets are zeros.
@@ -63,15 +55,6 @@ impl Model for Outer {
 
     ghost invariant = { λ outer. (outer.start ≤ outer.end) × (outer.end ≤ length outer.octets.items)
         × (drop outer.end outer.octets.items ≡ replicate (length outer.octets.items - outer.end) 0) };
-}
-
-// The octets of padding in front of an IOAM option behind so many octets of its header.
-#[tactic(auto, using(crate::proofs::OuterLaws::gap_is))]
-fn gap_behind(size: usize) -> usize
-    ensures value { (kind : ℕ) → is_ioam_type kind ≡ true → result ≡ gap_before size kind }
-    ensures small { result < 4 }
-{
-    (ALIGNMENT - size % ALIGNMENT) % ALIGNMENT
 }
 
 impl Outer {
@@ -111,7 +94,8 @@ impl Outer {
         self.end += part.len();
     }
 
-    /// Appends two octets.
+    /// Appends two octets, each by itself: what a slice's copy takes besides, a test and a call, is more
+    /// than so few octets take.
     pub(crate) fn pair(&mut self, first: u8, second: u8)
         requires { length self.old.laid + 2 ≤ self.old.most }
         ensures value { self.new ≡ more self.old (first ∷ second ∷ []) }
@@ -180,14 +164,14 @@ impl Outer {
 
     // Appends a type of 24 bits as three octets, and a reserved octet.
     #[tactic(auto, using(crate::proofs::OuterLaws::kind_word))]
-    fn kind(&mut self, kind: TraceType)
+    fn put_kind(&mut self, kind: TraceType)
         requires { length self.old.laid + 4 ≤ self.old.most }
         ensures value { self.new ≡ more self.old (three_octets kind ++ (0 ∷ [])) }
         ensures word { self.new ≡ more self.old (four_octets (kind * 256 + 0)) }
         ensures size { length self.new.laid ≡ length self.old.laid + 4 }
         ensures most { self.new.most ≡ self.old.most }
     {
-        self.four(kind.bits() * TRACE_TYPE);
+        self.four(kind.bits() * OVER_RESERVED);
     }
 
     // Appends padding of two octets or more: PadN with zeros (RFC 8200 section 4.2).
@@ -222,14 +206,13 @@ impl Outer {
 
     /// Begins an IOAM option: the padding in front of it, its type, the length of its data, and as the
     /// first of these a reserved octet and the IOAM-Option-Type.
-    pub(crate) fn begin(&mut self, kind: u8, size: u8, option_type: u8)
-        requires ioam { is_ioam_type kind ≡ true }
-        requires room { length self.old.laid + gap_before (length self.old.laid) kind + 4 ≤ self.old.most }
+    pub(crate) fn begin_option(&mut self, kind: u8, size: u8, option_type: u8)
+        requires { length self.old.laid + gap_before (length self.old.laid) kind + 4 ≤ self.old.most }
         ensures value { self.new ≡ more self.old (padding (gap_before (length self.old.laid) kind) ++ (kind ∷ size ∷ 0 ∷ option_type ∷ [])) }
         ensures size { length self.new.laid ≡ length self.old.laid + gap_before (length self.old.laid) kind + 4 }
         ensures most { self.new.most ≡ self.old.most }
     {
-        let gap = gap_behind(self.end - self.start);
+        let gap = gap_before(self.end - self.start, kind);
         self.pad(gap);
         self.pair(kind, size);
         self.pair(0, option_type);
@@ -242,10 +225,10 @@ impl Outer {
         ensures value { self.new ≡ more self.old (trace_data trace.namespace.0 trace.kind trace.capacity []) }
         ensures sound { IsRoom (room_of trace) }
     {
-        let lengths = u16::from(trace.kind.words()) * NODE_LEN + u16::from(trace.capacity);
+        let lengths = Lengths::new(trace.kind.words(), 0, trace.capacity);
         self.two(trace.namespace.0);
-        self.two(lengths);
-        self.kind(trace.kind);
+        self.two(lengths.0);
+        self.put_kind(trace.kind);
         self.skip(4 * usize::from(trace.capacity));
     }
 
@@ -256,7 +239,7 @@ impl Outer {
     {
         self.two(direct.namespace.0);
         self.pair(direct.flags, direct.ext);
-        self.kind(direct.kind);
+        self.put_kind(direct.kind);
         self.four_if(direct.flow);
         self.four_if(direct.seq);
     }

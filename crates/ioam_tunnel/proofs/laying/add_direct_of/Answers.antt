@@ -6,8 +6,8 @@ use Rattle.ioam_tunnel.proofs.LayLaws.{length-option, option-laid}
 use Rattle.ioam_tunnel.proofs.SizeLaws.{length_direct}
 use Rattle.ioam_tunnel.proofs.laying.add_direct_of.Goals as goal
 
-pub begin-requires-clause-room : goal.begin-requires-clause-room
-begin-requires-clause-room c =
+pub begin_option-requires : goal.begin_option-requires
+begin_option-requires c =
     let octets : List ℕ = direct_octets (direct_of c.args.flow.now c.args.kind c.args.seq) 0 in
     omega (arith, c.requires.room, length-option c.args.outer.now.laid octets 0x11 4)
 
@@ -18,15 +18,15 @@ put_direct-requires c =
       arith,
       c.requires.room,
       length-option c.args.outer.now.laid octets 0x11 4,
-      ap (λ d. length (direct_octets d 0)) c.direct_of.ensures.value,
-      c.begin.ensures.size,
-      c.begin.ensures.most,
+      ap (λ d. length (direct_octets d 0)) c.direct_of.ensures,
+      c.begin_option.ensures.size,
+      c.begin_option.ensures.most,
     )
 
 pub returns : goal.returns
 returns c =
     let direct = direct_of c.args.flow.now c.args.kind c.args.seq in
     let octets : List ℕ = direct_octets direct 0 in
-    option-laid c.args.outer.now c.begin.new.self c.put_direct.new.self octets 0x11 18 4
-    (omega (arith, length_direct direct c.requires.id refl)) c.begin.ensures.value
-    (c.put_direct.ensures ∙ ap (λ d. more c.begin.new.self (direct_octets d 0)) c.direct_of.ensures.value)
+    option-laid c.args.outer.now c.begin_option.new.self c.put_direct.new.self octets 0x11 18 4
+    (omega (arith, length_direct direct c.requires.id refl)) c.begin_option.ensures.value
+    (c.put_direct.ensures ∙ ap (λ d. more c.begin_option.new.self (direct_octets d 0)) c.direct_of.ensures)

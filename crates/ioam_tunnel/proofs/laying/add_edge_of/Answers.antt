@@ -7,8 +7,8 @@ use Rattle.ioam_tunnel.proofs.LayLaws.{length-option, option-laid}
 use Rattle.ioam_tunnel.proofs.SizeLaws.{edge-fields}
 use Rattle.ioam_tunnel.proofs.laying.add_edge_of.Goals as goal
 
-pub begin-requires-clause-room : goal.begin-requires-clause-room
-begin-requires-clause-room c =
+pub begin_option-requires : goal.begin_option-requires
+begin_option-requires c =
     let octets : List ℕ = edge_octets (edge_of c.args.namespace c.args.kind c.args.numbers.now) in
     omega (arith, c.requires.room, length-option c.args.outer.now.laid octets 0x11 3)
 
@@ -19,9 +19,9 @@ put_edge-requires c =
       arith,
       c.requires.room,
       length-option c.args.outer.now.laid octets 0x11 3,
-      ap (λ e. length (edge_octets e)) c.edge_of.ensures.value,
-      c.begin.ensures.size,
-      c.begin.ensures.most,
+      ap (λ e. length (edge_octets e)) c.edge_of.ensures,
+      c.begin_option.ensures.size,
+      c.begin_option.ensures.most,
     )
 
 pub returns : goal.returns
@@ -29,6 +29,6 @@ returns c =
     let edge = edge_of c.args.namespace c.args.kind c.args.numbers.now in
     let octets : List ℕ = edge_octets edge in
     let long : length octets ≡ 4 + fields_size c.args.kind = length-edge_octets edge (edge-fields c.args.namespace c.args.kind c.args.numbers.now) in
-    option-laid c.args.outer.now c.begin.new.self c.put_edge.new.self octets 0x11 (2 + c.data_size.result) 3
-    (omega (arith, long, c.data_size.ensures.value)) c.begin.ensures.value
-    (c.put_edge.ensures ∙ ap (λ e. more c.begin.new.self (edge_octets e)) c.edge_of.ensures.value)
+    option-laid c.args.outer.now c.begin_option.new.self c.put_edge.new.self octets 0x11 (2 + c.data_size.result) 3
+    (omega (arith, long, c.data_size.ensures.value)) c.begin_option.ensures.value
+    (c.put_edge.ensures ∙ ap (λ e. more c.begin_option.new.self (edge_octets e)) c.edge_of.ensures)

@@ -4,8 +4,8 @@ use Rattle.ioam_tunnel.proofs.LayLaws.{length-option, option-laid}
 use Rattle.ioam_tunnel.proofs.SizeLaws.{length_trace}
 use Rattle.ioam_tunnel.proofs.laying.add_trace.Goals as goal
 
-pub begin-requires-clause-room : goal.begin-requires-clause-room
-begin-requires-clause-room c =
+pub begin_option-requires : goal.begin_option-requires
+begin_option-requires c =
     let trace = c.args.trace in
     let octets : List ℕ = trace_data trace.namespace.0 trace.kind trace.capacity [] in
     omega (arith, c.requires.room, length-option c.args.outer.now.laid octets 0x31 0)
@@ -19,13 +19,13 @@ put_trace-requires-clause-room c =
       c.requires.room,
       length-option c.args.outer.now.laid octets 0x31 0,
       length_trace trace.namespace.0 trace.kind trace.capacity,
-      c.begin.ensures.size,
-      c.begin.ensures.most,
+      c.begin_option.ensures.size,
+      c.begin_option.ensures.most,
     )
 
 pub returns-clause-value : goal.returns-clause-value
 returns-clause-value c =
     let trace = c.args.trace in
     let octets : List ℕ = trace_data trace.namespace.0 trace.kind trace.capacity [] in
-    option-laid c.args.outer.now c.begin.new.self c.put_trace.new.self octets 0x31 (10 + 4 * trace.capacity) 0
-    (omega (arith, length_trace trace.namespace.0 trace.kind trace.capacity)) c.begin.ensures.value c.put_trace.ensures.value
+    option-laid c.args.outer.now c.begin_option.new.self c.put_trace.new.self octets 0x31 (10 + 4 * trace.capacity) 0
+    (omega (arith, length_trace trace.namespace.0 trace.kind trace.capacity)) c.begin_option.ensures.value c.put_trace.ensures.value
