@@ -8,6 +8,14 @@ use crate::bit;
 use ioam_base::octets::u24_at;
 use std::marker::Model;
 
+// The last of the undefined bits, which begin at 12.
+const LAST_UNDEFINED: u8 = 21;
+
+// How many values four bits have, and ten.
+const FOUR_BITS: u32 = 1 << 4;
+
+const TEN_BITS: u32 = 1 << 10;
+
 /// An IOAM-Trace-Type (RFC 9197 section 4.4.1): 24 bits, of which bit 0 is the most significant.
 /// Contracts see it as its number, below 2^24.
 #[derive(Clone, Copy, Debug, PartialEq, Eq)]
@@ -75,20 +83,20 @@ impl TraceType {
         if self.has(bit) { amount } else { 0 }
     }
 
-    // Whether the type has one of bits 4 to 7.
+    /// Whether the type has one of bits 4 to 7.
     #[tactic(auto, using(crate::proofs::KindLaws::one_of_4_to_7))]
-    pub(crate) fn has_one_of_4_to_7(self) -> bool
+    pub fn has_one_of_4_to_7(self) -> bool
         ensures { result ≡ (has self 4 || (has self 5 || (has self 6 || has self 7))) }
     {
-        (self.0 >> (23 - bit::CHECKSUM)) % 16 != 0
+        (self.0 >> (23 - bit::CHECKSUM)) % FOUR_BITS != 0
     }
 
-    // Whether it has one of bits 8 to 11.
+    /// Whether the type has one of bits 8 to 11.
     #[tactic(auto, using(crate::proofs::KindLaws::one_of_8_to_11))]
-    pub(crate) fn has_one_of_8_to_11(self) -> bool
+    pub fn has_one_of_8_to_11(self) -> bool
         ensures { result ≡ (has self 8 || (has self 9 || (has self 10 || has self 11))) }
     {
-        (self.0 >> (23 - bit::BUFFER)) % 16 != 0
+        (self.0 >> (23 - bit::BUFFER)) % FOUR_BITS != 0
     }
 
     // The words of the fields of bits 0 to 3.
@@ -144,7 +152,7 @@ impl TraceType {
     fn has_undefined(self) -> bool
         ensures { result ≡ nat_lt 0 (undefined self) }
     {
-        (self.0 >> 2) % 1024 != 0
+        (self.0 >> (23 - LAST_UNDEFINED)) % TEN_BITS != 0
     }
 
     /// How many of the undefined bits 12 to 21 the type has.

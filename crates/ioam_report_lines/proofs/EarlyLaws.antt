@@ -1,11 +1,12 @@
 -- Laws of elements of the fields of bits 0 to 3 alone.
-use Rattle.std.proofs.Common.{◌≡◌, ℕ, ◌-◌, ◌/◌, ◌%◌, ◌^◌, ◌==◌, false, List, [], ◌++◌, length, drop, None, Option, arith, refl, ap, ◌∙◌}
+use Rattle.std.proofs.Common.{◌≡◌, ℕ, ◌/◌, ◌||◌, Bool, false, List, [], ◌++◌, length, drop, None, Option, arith, refl, sym, ap, ◌∙◌}
+use Rattle.std.proofs.lemmas.Bool.{or_parts}
 use Rattle.std.proofs.lemmas.List.{append-nil}
 use Rattle.ioam_data.specs.Fields.{Held, fields_of}
 use Rattle.ioam_data.specs.Kind.{has, words}
-use Rattle.ioam_report_lines.specs.Early.{early_text, early_words}
+use Rattle.ioam_report_lines.specs.Early.{IsEarly, early_text}
 use Rattle.ioam_report_lines.specs.FieldsText.{element_text}
-use Rattle.ioam_report_lines.specs.Spaced.{bits_text, fillers_text, snapshot_text, spaced_fields}
+use Rattle.ioam_report_lines.specs.Spaced.{bits_text, early_words, fillers_text, snapshot_text, spaced_fields}
 use Rattle.ioam_report_lines.proofs.FittingLaws.{no-fill}
 use Rattle.ioam_report_lines.proofs.WordsLaws.{element_text_is}
 
@@ -19,23 +20,40 @@ same-words {hop_node} {hop_node'} {faces} {faces'} {seconds} {seconds'} {fractio
     ∙ ap (λ x. early_words hop_node' faces' x fraction) c
     ∙ ap (λ x. early_words hop_node' faces' seconds' x) d
 
-no_bit : (kind bit : ℕ) → kind / 2 ^ (23 - bit) % 2 ≡ 0 → has kind bit ≡ false
-unfolding has
-no_bit kind bit none = ap (λ n. n == 1) none
+-- ---- types that have none of four bits
+
+none_of_four : (a b c d : Bool) → (a || (b || (c || d))) ≡ false → (a ≡ false) × (b ≡ false) × (c ≡ false) × (d ≡ false)
+none_of_four a b c d none =
+    let first = or_parts a (b || (c || d)) none in
+    let second = or_parts b (c || d) first.1 in
+    let third = or_parts c d second.1 in
+    (first.0, second.0, third.0, third.1)
+
+pub early_of : (kind node_len : ℕ) → words kind ≡ node_len → (has kind 4 || (has kind 5 || (has kind 6 || has kind 7))) ≡ false
+    → (has kind 8 || (has kind 9 || (has kind 10 || has kind 11))) ≡ false → has kind 22 ≡ false → IsEarly kind node_len
+early_of kind node_len exact first second no_snapshot =
+    let narrow = none_of_four (has kind 4) (has kind 5) (has kind 6) (has kind 7) first in
+    let wide = none_of_four (has kind 8) (has kind 9) (has kind 10) (has kind 11) second in
+    record {
+      exact = exact;
+      no_delay = narrow.0;
+      no_short = narrow.1;
+      no_queue = narrow.2;
+      no_check = narrow.3;
+      no_wide_hop_node = wide.0;
+      no_wide_faces = wide.1;
+      no_wide = wide.2;
+      no_buffer = wide.3;
+      no_snapshot = no_snapshot;
+    }
+
+-- ---- the text of an element
 
 -- the fields of a type with none of the bits 4 to 11
-early-bits : (kind : ℕ) (octets : List ℕ) → kind / 4096 % 256 ≡ 0 → bits_text (fields_of kind (words kind) octets) ≡ early_text kind octets
+early-bits : (kind node_len : ℕ) (octets : List ℕ) → IsEarly kind node_len → bits_text (fields_of kind (words kind) octets) ≡ early_text kind octets
 unfolding bits_text fields_of
-early-bits kind octets none =
-    let bit_4 : has kind 4 ≡ false = no_bit kind 4 (omega (arith, none)) in
-    let bit_5 : has kind 5 ≡ false = no_bit kind 5 (omega (arith, none)) in
-    let bit_6 : has kind 6 ≡ false = no_bit kind 6 (omega (arith, none)) in
-    let bit_7 : has kind 7 ≡ false = no_bit kind 7 (omega (arith, none)) in
-    let bit_8 : has kind 8 ≡ false = no_bit kind 8 (omega (arith, none)) in
-    let bit_9 : has kind 9 ≡ false = no_bit kind 9 (omega (arith, none)) in
-    let bit_10 : has kind 10 ≡ false = no_bit kind 10 (omega (arith, none)) in
-    let bit_11 : has kind 11 ≡ false = no_bit kind 11 (omega (arith, none)) in
-    rw (bit_4, bit_5, bit_6, bit_7, bit_8, bit_9, bit_10, bit_11) (simp append-nil)
+early-bits kind node_len octets is =
+    rw (is.no_delay, is.no_short, is.no_queue, is.no_check, is.no_wide_hop_node, is.no_wide_faces, is.no_wide, is.no_buffer) (simp append-nil)
 
 -- fields that nothing follows
 only-bits : (held : Held) → length held.filler ≡ 0 → held.snapshot ≡ None → spaced_fields held ≡ bits_text held
@@ -52,9 +70,10 @@ unfolding fields_of
 no_snapshot_field kind octets none = rw none refl
 
 -- the text of an element of these fields alone
-pub early_text-is : (kind : ℕ) (octets : List ℕ) → (octets ≡ [] → ⊥) → kind / 4096 % 256 ≡ 0 → has kind 22 ≡ false
-    → element_text kind (words kind) octets ≡ drop 1 (early_text kind octets)
-early_text-is kind octets some none no_snapshot =
-    element_text_is kind (words kind) octets some
-    ∙ ap (drop 1) (only-bits (fields_of kind (words kind) octets) (no-fill kind octets) (no_snapshot_field kind octets no_snapshot))
-    ∙ ap (drop 1) (early-bits kind octets none)
+pub early_text-is : (kind node_len : ℕ) (octets : List ℕ) → (octets ≡ [] → ⊥) → IsEarly kind node_len
+    → element_text kind node_len octets ≡ drop 1 (early_text kind octets)
+early_text-is kind node_len octets some is =
+    ap (λ n. element_text kind n octets) (sym is.exact)
+    ∙ element_text_is kind (words kind) octets some
+    ∙ ap (drop 1) (only-bits (fields_of kind (words kind) octets) (no-fill kind octets) (no_snapshot_field kind octets is.no_snapshot))
+    ∙ ap (drop 1) (early-bits kind node_len octets is)

@@ -10,16 +10,20 @@ abbrev pub when_there : {T : Type 0} → Option T → (T → List ℕ) → List 
 when_there None text = []
 when_there (Some value) text = text value
 
--- The fields of bits 0 to 11. A hop limit is a number always.
+-- The fields of bits 0 to 3. A hop limit is a number always.
+abbrev pub early_words : Option (ℕ × ℕ) → Option (ℕ × ℕ) → Option ℕ → Option ℕ → List ℕ
+early_words hop_node faces seconds fraction =
+    when_there hop_node (λ value. codes " hop=" ++ decimal value.0)
+    ++ (when_there hop_node (λ value. codes " node=" ++ known 16777215 value.1)
+    ++ (when_there faces (λ value. codes " in=" ++ known 65535 value.0)
+    ++ (when_there faces (λ value. codes " out=" ++ known 65535 value.1)
+    ++ (when_there seconds (λ value. codes " sec=" ++ known 4294967295 value)
+    ++ when_there fraction (λ value. codes " frac=" ++ known 4294967295 value)))))
+
+-- the fields of bits 0 to 11
 unfoldable pub bits_text : Held → List ℕ
-bits_text held = concat (
-    when_there held.hop_node (λ value. codes " hop=" ++ decimal value.0)
-    ∷ when_there held.hop_node (λ value. codes " node=" ++ known 16777215 value.1)
-    ∷ when_there held.faces (λ value. codes " in=" ++ known 65535 value.0)
-    ∷ when_there held.faces (λ value. codes " out=" ++ known 65535 value.1)
-    ∷ when_there held.seconds (λ value. codes " sec=" ++ known 4294967295 value)
-    ∷ when_there held.fraction (λ value. codes " frac=" ++ known 4294967295 value)
-    ∷ when_there held.delay (λ value. codes " delay=" ++ known 4294967295 value)
+bits_text held = early_words held.hop_node held.faces held.seconds held.fraction ++ concat (
+    when_there held.delay (λ value. codes " delay=" ++ known 4294967295 value)
     ∷ when_there held.short (λ value. codes " data=" ++ known_word value)
     ∷ when_there held.queue (λ value. codes " queue=" ++ known 4294967295 value)
     ∷ when_there held.check (λ value. codes " check=" ++ known_word value)

@@ -2,27 +2,27 @@
 ghost use Rattle.std.specs.Prelude.{◌≡◌, ◌++◌, ◌+◌, ◌*◌, ◌≤◌, IsTrue, drop, length};
 ghost use Rattle.ioam_data.specs.Elements.{IsElement};
 ghost use Rattle.ioam_data.specs.Kind.{words};
-ghost use Rattle.ioam_report_lines.specs.Early.{IsEarly, early_text, early_words};
+ghost use Rattle.ioam_report_lines.specs.Early.{IsEarly, early_text};
+ghost use Rattle.ioam_report_lines.specs.Spaced.{early_words};
 ghost use Rattle.ioam_report_lines.specs.TraceText.{element_line};
 
 use crate::line::Line;
 use ioam_data::{Cursor, TraceType, bit};
 
-// What bits 0 to 11 of a type count in, and how many values bits 4 to 11 have.
-const OVER_12: u32 = 1 << 12;
-
-const LATE: u32 = 1 << 8;
-
 /// Whether the elements of a type with this NodeLen are fields of bits 0 to 3 alone.
+#[tactic(auto, using(crate::proofs::EarlyLaws::early_of))]
 pub(crate) fn is_early(kind: TraceType, node_len: u8) -> bool
     ensures { IsTrue result → IsEarly kind node_len }
 {
-    kind.bits() / OVER_12 % LATE == 0 && !kind.has_snapshot() && kind.words() == node_len
+    !kind.has_one_of_4_to_7()
+        && !kind.has_one_of_8_to_11()
+        && !kind.has_snapshot()
+        && kind.words() == node_len
 }
 
-// Puts the fields of bits 0 to 3 in front of a line, with a space in front of each word.
-#[inline]
-fn put_fields(
+/// Puts the fields of bits 0 to 3 in front of a line, with a space in front of each word.
+#[inline(always)]
+pub(crate) fn put_early_fields(
     hop_node: Option<(u8, u32)>,
     faces: Option<(u16, u16)>,
     seconds: Option<u32>,
@@ -56,7 +56,7 @@ fn put_early(kind: TraceType, element: &[u8], line: &mut Line)
     let faces = cursor.faces(bit::INTERFACES);
     let seconds = cursor.number(bit::SECONDS);
     let fraction = cursor.number(bit::FRACTION);
-    put_fields(hop_node, faces, seconds, fraction, line);
+    put_early_fields(hop_node, faces, seconds, fraction, line);
 }
 
 // Puts them in front of a line, with a space between each two words.
@@ -69,9 +69,7 @@ fn put_words(kind: TraceType, element: &[u8], line: &mut Line)
 {
     let before = line.octets().len();
     put_early(kind, element, line);
-    if before < line.octets().len() {
-        line.drop_first();
-    }
+    line.drop_space(before);
 }
 
 /// Puts the line of such an element in front of those that a line holds: four spaces, its fields and a

@@ -9,6 +9,7 @@ ghost use Rattle.ioam_report_lines.specs.FieldsText.{element_text, known_narrow,
 ghost use Rattle.ioam_report_lines.specs.Spaced.{bits_text, fillers_text, snapshot_text, spaced_fields, when_there};
 ghost use Rattle.ioam_report_lines.specs.TraceText.{line_feed};
 
+use crate::early::put_early_fields;
 use crate::line::Line;
 use crate::piece::append_labelled;
 use ioam_base::memory::NoMemory;
@@ -30,10 +31,13 @@ fn put_bits(fields: &Fields<'_>, line: &mut Line)
     line.number_field(b" queue=", fields.queue);
     line.word_field(b" data=", fields.short);
     line.number_field(b" delay=", fields.delay);
-    line.number_field(b" frac=", fields.fraction);
-    line.number_field(b" sec=", fields.seconds);
-    line.faces_field(fields.faces);
-    line.hop_node_field(fields.hop_node);
+    put_early_fields(
+        fields.hop_node,
+        fields.faces,
+        fields.seconds,
+        fields.fraction,
+        line,
+    );
 }
 
 // Puts a snapshot in front of a line.
@@ -89,9 +93,7 @@ fn put_words(fields: &Fields<'_>, line: &mut Line)
 {
     let before = line.octets().len();
     put_spaced(fields, line);
-    if before < line.octets().len() {
-        line.drop_first();
-    }
+    line.drop_space(before);
 }
 
 // Appends the fields of bits 0 to 11.

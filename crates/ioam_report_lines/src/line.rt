@@ -1,5 +1,5 @@
 //! Lines that are put together from their end.
-ghost use Rattle.std.specs.Prelude.{◌≡◌, ◌+◌, ◌*◌, ◌≤◌, ◌++◌, [], drop, length, decimal};
+ghost use Rattle.std.specs.Prelude.{◌≡◌, ◌+◌, ◌*◌, ◌≤◌, ◌++◌, [], List, ℕ, drop, length, decimal};
 ghost use Rattle.std.specs.Int.{w32, to_be_bytes};
 ghost use Rattle.ioam_report_lines.specs.Digits.{pair_of, digits_of};
 
@@ -52,12 +52,15 @@ impl Line {
         self.start = 1024;
     }
 
-    /// Takes the first octet away, if there is one.
-    pub fn drop_first(&mut self)
-        ensures value { self.new ≡ drop 1 self.old }
+    /// Takes away the first octet of words that were put in front of so many octets, where there are any: so words with a
+    /// space in front of each have a space between each two.
+    #[inline]
+    pub(crate) fn drop_space(&mut self, before: usize)
+        ensures value { (words line : List ℕ) → self.old ≡ words ++ line → before ≡ length line → self.new ≡ drop 1 words ++ line }
         ensures size { length self.new ≤ length self.old }
     {
-        if self.start < 1024 {
+        let held = 1024 - self.start;
+        if before < held {
             self.start += 1;
         }
     }

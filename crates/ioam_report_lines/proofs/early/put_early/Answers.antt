@@ -11,4 +11,4 @@ returns-clause-value c =
     let faces : c.faces-faces.result ≡ when_has kind 1 (faces_at (past kind 0 1 octets)) = search rules in
     let seconds : c.number-seconds.result ≡ when_has kind 2 (number_at (past kind 1 1 (past kind 0 1 octets))) = search rules in
     let fraction : c.number-fraction.result ≡ when_has kind 3 (number_at (past kind 2 1 (past kind 1 1 (past kind 0 1 octets)))) = search rules in
-    c.put_fields.ensures.value ∙ ap (λ xs. xs ++ c.args.line.now) (same-words hop_node faces seconds fraction)
+    c.put_early_fields.ensures.value ∙ ap (λ xs. xs ++ c.args.line.now) (same-words hop_node faces seconds fraction)

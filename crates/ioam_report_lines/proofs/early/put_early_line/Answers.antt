@@ -9,10 +9,9 @@ pub returns-clause-value : goal.returns-clause-value
 returns-clause-value c =
     let kind = c.args.kind in
     let element = c.args.element.now in
-    let early = c.requires.early in
     let some : element ≡ [] → ⊥ = λ none. omega (arith, c.requires.element.stands.filled, c.requires.element.stands.inside, ap length none) in
     let text : element_text kind c.args.node_len element ≡ drop 1 (early_text kind element) =
-    ap (λ n. element_text kind n element) (sym early.exact) ∙ early_text-is kind element some early.none_late early.no_snapshot in
+    early_text-is kind c.args.node_len element some c.requires.early in
     let put : c.put-2.new.self ≡ codes "    " ++ (drop 1 (early_text kind element) ++ (line_feed ++ c.args.line.now)) = search rules in
     put
     ∙ ap (λ xs. codes "    " ++ (xs ++ (line_feed ++ c.args.line.now))) (sym text)
