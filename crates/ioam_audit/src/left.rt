@@ -10,9 +10,10 @@ use crate::parts::is_same;
 use crate::sight::Sight;
 use ioam_base::octets::u16_at;
 use ioam_data::Namespace;
-use ioam_data::option_type::PREALLOCATED_TRACE;
+use ioam_data::option_type::holds_trace;
 use ioam_ip::option_type::IOAM_CHANGING;
 use ioam_topo::{Domain, NodeId};
+use ioam_trace::HEAD_OCTETS;
 
 // Whether an option is a pre-allocated trace that may change on the way, with a header, of a namespace that a node knows.
 fn is_known_trace(domain: &Domain, node: NodeId, kind: u8, body: &[u8]) -> bool
@@ -20,8 +21,8 @@ fn is_known_trace(domain: &Domain, node: NodeId, kind: u8, body: &[u8]) -> bool
         × (knows domain.now node.0 (space_in body.now) ≡ true)) }
 {
     kind == IOAM_CHANGING
-        && body.len() >= 10
-        && body[1] == PREALLOCATED_TRACE
+        && body.len() >= 2 + HEAD_OCTETS
+        && holds_trace(body)
         && domain.knows(node, Namespace(u16_at(body, 2)))
 }
 

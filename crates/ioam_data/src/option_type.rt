@@ -1,7 +1,7 @@
 //! What an IOAM option holds, by its IOAM-Option-Type (RFC 9197 section 7.1, RFC 9326 section 3): the second octet
 //! of the option's data, in front of what [`OptionType`] names.
-ghost use Rattle.std.specs.Prelude.{◌≡◌};
-ghost use Rattle.ioam_data.specs.OptionType.{option_type};
+ghost use Rattle.std.specs.Prelude.{◌≡◌, ◌≤◌, IsTrue, length};
+ghost use Rattle.ioam_data.specs.OptionType.{holds_trace, option_type};
 
 /// A pre-allocated trace (RFC 9197 section 4.4).
 pub const PREALLOCATED_TRACE: u8 = 0;
@@ -44,4 +44,13 @@ impl OptionType {
             _ => OptionType::Unassigned,
         }
     }
+}
+
+/// Whether the data of an IOAM option are those of a pre-allocated trace (RFC 9486 section 3): two octets or more, of which
+/// the second, the IOAM-Option-Type, says so.
+pub fn holds_trace(body: &[u8]) -> bool
+    ensures value { result ≡ holds_trace body.now }
+    ensures long { IsTrue result → 2 ≤ length body.now }
+{
+    body.len() >= 2 && body[1] == PREALLOCATED_TRACE
 }

@@ -1,7 +1,8 @@
 -- How the traces of a packet are listed: those of the options headers that stand in front of any nested
 -- IPv6 header (RFC 8200 section 4, RFC 9486 section 3).
-use Rattle.std.specs.Prelude.{◌≡◌, ℕ, ◌==◌, ◌&&◌, nat_le, if◌then◌else◌, Bool, List, [], ◌∷◌, ◌++◌, length, drop, slice_index, filter, decimal, codes}
+use Rattle.std.specs.Prelude.{◌≡◌, ℕ, ◌&&◌, if◌then◌else◌, Bool, List, [], ◌∷◌, ◌++◌, length, drop, filter, decimal, codes}
 use Rattle.std.specs.List.{flat_map}
+use Rattle.ioam_data.specs.OptionType.{holds_trace}
 use Rattle.ioam_ip.specs.Chain.{Chain, start}
 use Rattle.ioam_ip.specs.ChainOptions.{octets_of, is_options_head, is_nested, OptionsOf}
 use Rattle.ioam_ip.specs.Findings.{is_ioam}
@@ -11,10 +12,9 @@ use Rattle.ioam_ip.specs.OptionsLeft.{options_from}
 use Rattle.ioam_ip.specs.declared.chain.Head.{Head}
 use Rattle.ioam_report_lines.specs.TraceText.{line_feed, trace_lines}
 
--- A pre-allocated trace is an IOAM option whose data has two octets or more, of which the second, the
--- IOAM-Option-Type, is 0.
+-- a pre-allocated trace in an option of either type of IOAM options
 abbrev pub is_trace : Item → Bool
-is_trace item = is_ioam item && (nat_le 2 (length item.body) && (slice_index item.body 1 == 0))
+is_trace item = is_ioam item && holds_trace item.body
 
 -- the headers in front of the first nested IPv6 header
 abbrev pub in_front : List Head → List Head

@@ -9,7 +9,7 @@ ghost use Rattle.ioam_report_lines.specs.HopText.{is_changing_trace, changing_li
 use crate::lines::put_trace_lines;
 use ioam_base::memory::NoMemory;
 use ioam_base::text::settle;
-use ioam_data::option_type::PREALLOCATED_TRACE;
+use ioam_data::option_type::holds_trace;
 use ioam_ip::option_type::IOAM_CHANGING;
 use ioam_ip::{OptionSpot, hop_header, next_option};
 
@@ -18,7 +18,7 @@ fn is_changing_trace(kind: u8, body: &[u8]) -> bool
     ensures value { (at : ℕ) → result ≡ is_changing_trace (record { kind = kind; at = at; body = body.now }) }
     ensures long { IsTrue result → 2 ≤ length body.now }
 {
-    kind == IOAM_CHANGING && body.len() >= 2 && body[1] == PREALLOCATED_TRACE
+    kind == IOAM_CHANGING && holds_trace(body)
 }
 
 // Appends the lines of an option, where it is such a trace.

@@ -9,7 +9,7 @@ ghost use Rattle.ioam_report_lines.specs.TracesText.{is_trace, option_lines, tra
 use crate::lines::put_trace_lines;
 use ioam_base::memory::NoMemory;
 use ioam_base::text::settle;
-use ioam_data::option_type::PREALLOCATED_TRACE;
+use ioam_data::option_type::holds_trace;
 use ioam_ip::option_type::is_ioam_type;
 use ioam_ip::{Head, Opt, options};
 
@@ -17,7 +17,7 @@ use ioam_ip::{Head, Opt, options};
 fn is_trace(option: &Opt<'_>) -> bool
     ensures { result ≡ is_trace (item_of option.now) }
 {
-    is_ioam_type(option.kind) && option.body.len() >= 2 && option.body[1] == PREALLOCATED_TRACE
+    is_ioam_type(option.kind) && holds_trace(option.body)
 }
 
 // How many traces an options header has.
