@@ -1,10 +1,13 @@
 //! A whole block, and what it holds.
 ghost use Rattle.std.specs.Prelude.{◌≡◌, ◌≤◌, length};
 ghost use Rattle.ioam_ng.specs.Blocks.{TellsFace, face_at, units};
+ghost use Rattle.ioam_pcap.specs.Form.{number_at};
 ghost use Rattle.ioam_ng.specs.Front.{least_size};
 ghost use Rattle.ioam_ng.specs.BlockSteps.{TellsBody, TellsPacket, TellsAmong, TellsContent, TellsBlock};
 
-use crate::codes::{ENHANCED_PACKET, INTERFACE, OBSOLETE_PACKET, SECTION, SIMPLE_PACKET};
+use crate::codes::{
+    ENHANCED_PACKET, INTERFACE, LEAST_PACKET, OBSOLETE_PACKET, SECTION, SIMPLE_PACKET,
+};
 use crate::face::{Face, is_resolved, time_of};
 use crate::front::{Front, FrontStep, front_step};
 use crate::numbers::short_at;
@@ -70,6 +73,14 @@ pub fn face_at(order: Order, block: &[u8]) -> Option<Face>
     )
 }
 
+// How many octets a packet block says were captured.
+fn captured_in(order: Order, block: &[u8]) -> u32
+    requires { 32 ≤ length block.now }
+    ensures { result ≡ number_at order block.now 20 }
+{
+    number_at(order, block, 20)
+}
+
 // The body of a block of a type; None where the captured octets or an option pass it.
 fn body_in(front: Front, block: &[u8]) -> Option<Body>
     requires { least_size front.kind ≤ length block.now }
@@ -79,8 +90,8 @@ fn body_in(front: Front, block: &[u8]) -> Option<Body>
         SECTION => Some(Body::Section),
         INTERFACE => face_at(front.order, block).map(Body::Face),
         ENHANCED_PACKET => {
-            let captured = number_at(front.order, block, 20);
-            if block.len() < 32 + captured as usize {
+            let captured = captured_in(front.order, block);
+            if block.len() < LEAST_PACKET as usize + captured as usize {
                 None
             } else {
                 Some(Body::Packet)
@@ -97,7 +108,7 @@ fn units_in(order: Order, block: &[u8]) -> u64
 {
     let high = u64::from(number_at(order, block, 12));
     let low = u64::from(number_at(order, block, 16));
-    high * 4_294_967_296 + low
+    high * (1 << 32) + low
 }
 
 // What a packet block of an interface says.
@@ -114,7 +125,7 @@ fn packet_in(order: Order, face: Face, block: &[u8]) -> Result<PacketHead, CapFa
             found: u32::from(face.resolution),
         });
     }
-    let captured = number_at(order, block, 20);
+    let captured = captured_in(order, block);
     if MOST_PACKET < captured {
         return Err(CapFault::RecordLong { found: captured });
     }

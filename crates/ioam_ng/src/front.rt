@@ -3,16 +3,18 @@ ghost use Rattle.std.specs.Prelude.{◌≡◌, ◌≤◌, true, false, length};
 ghost use Rattle.ioam_ng.specs.Front.{is_section, is_front, is_alien, least_size};
 ghost use Rattle.ioam_ng.specs.Steps.{TellsFront, TellsNumbers, TellsSize};
 
-use crate::codes::{ENHANCED_PACKET, INTERFACE, SECTION};
+use crate::codes::{
+    ENHANCED_PACKET, INTERFACE, LEAST_INTERFACE, LEAST_PACKET, LEAST_SECTION, LEAST_SIZE, SECTION,
+};
 use crate::numbers::order_said;
 use ioam_base::octets::u32_at;
 use ioam_pcap::{CapFault, Order, number_at};
 
 /// The most blocks of a capture.
-const MOST_BLOCKS: u32 = 33_554_432;
+const MOST_BLOCKS: u32 = 1 << 25;
 
 /// The most octets of a block.
-const MOST_BLOCK: u32 = 16_777_216;
+const MOST_BLOCK: u32 = 1 << 24;
 
 /// The front of a block.
 #[derive(Clone, Copy)]
@@ -63,10 +65,10 @@ fn least_size(kind: u32) -> u32
     ensures { result ≡ least_size kind }
 {
     match kind {
-        SECTION => 28,
-        INTERFACE => 20,
-        ENHANCED_PACKET => 32,
-        _ => 12,
+        SECTION => LEAST_SECTION,
+        INTERFACE => LEAST_INTERFACE,
+        ENHANCED_PACKET => LEAST_PACKET,
+        _ => LEAST_SIZE,
     }
 }
 

@@ -2,6 +2,7 @@
 ghost use Rattle.std.specs.Prelude.{◌≡◌, ◌+◌, ◌≤◌, length};
 ghost use Rattle.ioam_ng.specs.Numbers.{short_at, long_at, order_said};
 
+use crate::codes::{MAGIC, SWAPPED_MAGIC};
 use ioam_pcap::{Order, number_at};
 
 // The order that a section block's third number, read big-endian, says.
@@ -9,8 +10,8 @@ pub fn order_said(number: u32) -> Option<Order>
     ensures { result ≡ order_said number }
 {
     match number {
-        0x1a2b_3c4d => Some(Order::Big),
-        0x4d3c_2b1a => Some(Order::Little),
+        MAGIC => Some(Order::Big),
+        SWAPPED_MAGIC => Some(Order::Little),
         _ => None,
     }
 }
@@ -36,7 +37,7 @@ pub fn long_at(order: Order, octets: &[u8], at: usize) -> u64
     let first = u64::from(number_at(order, octets, at));
     let second = u64::from(number_at(order, octets, at + 4));
     match order {
-        Order::Big => first * 4_294_967_296 + second,
-        Order::Little => first + second * 4_294_967_296,
+        Order::Big => first * (1 << 32) + second,
+        Order::Little => first + second * (1 << 32),
     }
 }

@@ -3,28 +3,67 @@ ghost use Rattle.std.specs.Prelude.{◌≡◌, ◌+◌, ◌≤◌, ◌<◌, ◌^
 ghost use Rattle.ioam_pcap.specs.Entries.{Taken};
 ghost use Rattle.ioam_ng.specs.Reads.{Reads};
 ghost use Rattle.ioam_pcap.specs.Ending.{Whole};
-ghost use Rattle.ioam_ng.specs.Text.{head_octets, face_for, packet_front, packet_numbers, packet_tail, packet_octets, packet_size, taken_by, capture_text, IsSendable};
+ghost use Rattle.ioam_ng.specs.Text.{head_octets, section_octets, face_octets, face_for, packet_front, packet_numbers, packet_tail, packet_octets, packet_size, taken_by, capture_text, IsSendable};
 
-use crate::codes::{ENHANCED_PACKET, INTERFACE, RESOLUTION};
+use crate::codes::{
+    ENHANCED_PACKET, INTERFACE, LEAST_PACKET, LEAST_SECTION, MAGIC, RESOLUTION, SECTION,
+};
 use ioam_base::buffer::Buffer;
 use ioam_base::memory::NoMemory;
+use ioam_base::octets::{put_u16_at, put_u32_at, put_u64_at};
 use ioam_base::text::{append, append_two, settle};
-use ioam_pcap::{Link, Packet};
+use ioam_pcap::{ETHERNET, Link, MOST_PACKET, Packet, RAW};
 
-// The last octets of the type of an interface block and of the code of its resolution; those in front are 0.
-const FACE_TYPE: u8 = INTERFACE as u8;
+// The resolution of times in nanoseconds: 10 to the power of -9 seconds (if_tsresol).
+const NANOSECONDS: u8 = 9;
 
-const UNIT_CODE: u8 = RESOLUTION as u8;
+// The octets of an interface block that has its resolution and the end of its options.
+const INTERFACE_SIZE: u32 = 32;
 
-// The section block and the two interface blocks of what is written.
-const HEAD: [u8; 92] = [
-    0x0a, 0x0d, 0x0d, 0x0a, 0, 0, 0, 0x1c, 0x1a, 0x2b, 0x3c, 0x4d, 0, 1, 0, 0, //
-    0xff, 0xff, 0xff, 0xff, 0xff, 0xff, 0xff, 0xff, 0, 0, 0, 0x1c, //
-    0, 0, 0, FACE_TYPE, 0, 0, 0, 0x20, 0, 101, 0, 0, 0, 4, 0, 0, //
-    0, UNIT_CODE, 0, 1, 9, 0, 0, 0, 0, 0, 0, 0, 0, 0, 0, 0x20, //
-    0, 0, 0, FACE_TYPE, 0, 0, 0, 0x20, 0, 1, 0, 0, 0, 4, 0, 0, //
-    0, UNIT_CODE, 0, 1, 9, 0, 0, 0, 0, 0, 0, 0, 0, 0, 0, 0x20,
-];
+// The section block of what is written, of version 1.0 and of no said length.
+fn section_block() -> [u8; 28]
+    ensures { result ≡ section_octets }
+{
+    let mut block = [0; 28];
+    put_u32_at(&mut block, 0, SECTION);
+    put_u32_at(&mut block, 4, LEAST_SECTION);
+    put_u32_at(&mut block, 8, MAGIC);
+    put_u16_at(&mut block, 12, 1);
+    put_u64_at(&mut block, 16, u64::MAX);
+    put_u32_at(&mut block, 24, LEAST_SECTION);
+    block
+}
+
+// An interface block of what is written, by the last octet of its link type.
+fn interface_block(kind: u8) -> [u8; 32]
+    ensures { result ≡ face_octets kind }
+{
+    let mut block = [0; 32];
+    put_u32_at(&mut block, 0, INTERFACE);
+    put_u32_at(&mut block, 4, INTERFACE_SIZE);
+    block[9] = kind;
+    put_u32_at(&mut block, 12, MOST_PACKET);
+    put_u16_at(&mut block, 16, RESOLUTION);
+    put_u16_at(&mut block, 18, 1);
+    block[20] = NANOSECONDS;
+    put_u32_at(&mut block, 28, INTERFACE_SIZE);
+    block
+}
+
+// Appends the three blocks that stand before the packets, or leaves what was there.
+fn append_blocks(out: &mut Vec<u8>) -> Result<(), NoMemory>
+    ensures { out.new.items
+        ≡ (if is_ok result then out.old.items ++ head_octets else out.old.items) }
+{
+    let before = out.len();
+    append(out, &section_block())?;
+    let answer = append_two(
+        out,
+        &interface_block(RAW as u8),
+        &interface_block(ETHERNET as u8),
+    );
+    settle(out, before, answer)
+}
 
 /// Appends what stands before the packets of a capture: 92 octets, big-endian, a section and two
 /// interfaces in nanoseconds, the first of packets that begin with an IP header (link type 101), the
@@ -35,7 +74,7 @@ pub fn put_ng_head(out: &mut Vec<u8>) -> Result<(), NoMemory>
     ensures begins { out.old.items ≡ [] → OnOk result (out.new.items ≡ capture_text []) }
     ensures reads { out.old.items ≡ [] → OnOk result (Reads out.new.items [] Whole) }
 {
-    append(out, &HEAD)
+    append_blocks(out)
 }
 
 // The interface of a packet's link.
@@ -54,7 +93,7 @@ fn packet_size(captured: u32) -> u32
     ensures value { result ≡ packet_size captured }
     ensures few { result ≤ captured + 35 }
 {
-    32 + captured + (4 - captured % 4) % 4
+    LEAST_PACKET + captured + (4 - captured % 4) % 4
 }
 
 // The front of a packet's block.

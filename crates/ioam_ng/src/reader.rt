@@ -3,15 +3,13 @@ ghost use Rattle.std.specs.Prelude.{◌≡◌, ◌+◌, ◌≤◌, ◌<◌, ◌^
 ghost use Rattle.std.specs.Borrow.{sem};
 
 use crate::block::{Block, BlockStep, Content, block_step};
+use crate::codes::PACKET_FRONT;
 use crate::face::Face;
 use ioam_base::fed::Fed;
 use ioam_base::memory::NoMemory;
 use ioam_pcap::{CapFault, Link, Order, Packet};
 use std::alloc::Global;
 use std::marker::Model;
-
-/// The octets of a packet block in front of its packet.
-const PACKET_FRONT: usize = 28;
 
 /// What a reader shows next of its capture.
 #[derive(Clone, Copy, Debug)]

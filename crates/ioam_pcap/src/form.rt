@@ -20,10 +20,10 @@ pub fn is_ethernet(link: Link) -> bool
 }
 
 /// The link type of packets that begin with an Ethernet header.
-const ETHERNET: u32 = 1;
+pub const ETHERNET: u32 = 1;
 
 /// The link type of packets that begin with an IP header, which captures are written with.
-pub(crate) const RAW: u32 = 101;
+pub const RAW: u32 = 101;
 
 /// The link type of packets that begin with an IPv6 header.
 const IPV6: u32 = 229;

@@ -16,15 +16,26 @@ pub enum HeadStep {
     Bad(CapFault),
 }
 
+// The magic number of a capture whose fractions are microseconds, as it reads in the order of its numbers.
+const MICRO_MAGIC: u32 = 0xa1b2_c3d4;
+
+/// The magic number of a capture whose fractions are nanoseconds, as it reads in the order of its numbers.
+pub(crate) const NANO_MAGIC: u32 = 0xa1b2_3c4d;
+
+// The same two as they read in the other order.
+const SWAPPED_MICRO_MAGIC: u32 = 0xd4c3_b2a1;
+
+const SWAPPED_NANO_MAGIC: u32 = 0x4d3c_b2a1;
+
 // The order and the fraction that a magic number spells.
 fn spelled(magic: u32) -> Option<(Order, Fraction)>
     ensures { MatchOption result (IsUnspelled magic) (λ s. magic ≡ spelling s.0 s.1) }
 {
     match magic {
-        0xa1b2_c3d4 => Some((Order::Big, Fraction::Micro)),
-        0xa1b2_3c4d => Some((Order::Big, Fraction::Nano)),
-        0xd4c3_b2a1 => Some((Order::Little, Fraction::Micro)),
-        0x4d3c_b2a1 => Some((Order::Little, Fraction::Nano)),
+        MICRO_MAGIC => Some((Order::Big, Fraction::Micro)),
+        NANO_MAGIC => Some((Order::Big, Fraction::Nano)),
+        SWAPPED_MICRO_MAGIC => Some((Order::Little, Fraction::Micro)),
+        SWAPPED_NANO_MAGIC => Some((Order::Little, Fraction::Nano)),
         _ => None,
     }
 }

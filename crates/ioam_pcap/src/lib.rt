@@ -13,7 +13,7 @@ mod put;
 mod reader;
 
 pub use capture::{CapFault, CapLook, CapStep, MOST_PACKET, Packet};
-pub use form::{Link, Order, is_ethernet, link_type};
+pub use form::{ETHERNET, Link, Order, RAW, is_ethernet, link_type};
 pub use numbers::number_at;
 pub use picking::pick;
 pub use put::{put_head, put_record};

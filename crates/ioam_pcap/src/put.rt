@@ -8,6 +8,7 @@ ghost use Rattle.ioam_pcap.specs.declared.form.Link.TheVariants as Link;
 
 use crate::capture::MOST_PACKET;
 use crate::form::RAW;
+use crate::head::NANO_MAGIC;
 use crate::numbers::EntryNumbers;
 use byteorder::BigEndian;
 use ioam_base::memory::NoMemory;
@@ -21,7 +22,7 @@ fn head() -> [u8; 24]
     ensures { result ≡ head_octets }
 {
     let mut head = [0; 24];
-    put_u32_at(&mut head, 0, 0xa1b2_3c4d);
+    put_u32_at(&mut head, 0, NANO_MAGIC);
     put_u16_at(&mut head, 4, 2);
     put_u16_at(&mut head, 6, 4);
     put_u32_at(&mut head, 16, MOST_PACKET);
