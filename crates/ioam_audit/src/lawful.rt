@@ -5,24 +5,13 @@ ghost use Rattle.ioam_data.specs.Written.{narrow_face, narrow_id};
 ghost use Rattle.ioam_audit.specs.Lawful.{ComesBy, IsLawful};
 
 use crate::sight::Sight;
-use ioam_data::Fields;
+use ioam_data::{Fields, narrow_face, narrow_id};
 
-// A node id in 24 bits.
-fn narrow_id(id: u64) -> u32
-    ensures { result ≡ narrow_id id }
-{
-    if id < 1 << 24 { id as u32 } else { 0xFFFFFF }
-}
-
-// An interface in 16 bits.
-fn narrow_face(face: u32) -> u16
+// An interface as bit 1 has it, in 16 bits.
+fn short_face(face: u32) -> u16
     ensures { result ≡ narrow_face (Some face) }
 {
-    if face < 1 << 16 {
-        face as u16
-    } else {
-        u16::MAX
-    }
+    narrow_face(Some(face)) as u16
 }
 
 // Whether bit 0 has the hop limit and the id.
@@ -77,7 +66,7 @@ fn is_one_outward(faces: Option<(u16, u16)>, wide_faces: Option<(u32, u32)>) -> 
     ensures { IsTrue result ↔ IfSome faces (λ pair. IfSome wide_faces (λ wide. pair.1 ≡ narrow_face (Some wide.1))) }
 {
     match (faces, wide_faces) {
-        (Some((_, narrow)), Some((_, wide))) => narrow == narrow_face(wide),
+        (Some((_, narrow)), Some((_, wide))) => narrow == short_face(wide),
         _ => true,
     }
 }
@@ -104,7 +93,7 @@ fn has_lawful_faces(sight: Sight, fields: &Fields<'_>) -> bool
     ensures { IsTrue result ↔ ((ComesBy (narrow_face (Some sight.inward)) sight.inward (held fields.now) ⊎ ComesBy 65535 4294967295 (held fields.now))
         × IfSome fields.now.faces (λ pair. IfSome fields.now.wide_faces (λ wide. pair.1 ≡ narrow_face (Some wide.1)))) }
 {
-    let given = comes_by(narrow_face(sight.inward), sight.inward, fields);
+    let given = comes_by(short_face(sight.inward), sight.inward, fields);
     let absent = comes_by(u16::MAX, u32::MAX, fields);
     (given || absent) && is_one_outward(fields.faces, fields.wide_faces)
 }

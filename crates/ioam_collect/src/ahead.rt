@@ -25,7 +25,7 @@ fn read_one_of_each(groups: &mut [Option<Items<'_>>]) -> usize
 /// Reads at most `most` items of each of these groups, and says how many it read. The cells of one chain, which lie anywhere
 /// in memory, are found one behind the other, but those of several chains at the same time: so items that were read here
 /// are at hand when they are wanted.
-pub fn read_ahead(groups: &mut [Option<Items<'_>>], most: u32) -> usize
+pub(crate) fn read_ahead(groups: &mut [Option<Items<'_>>], most: u32) -> usize
     ensures { result ≤ most * length groups.old }
 {
     let mut count: usize = 0;

@@ -15,7 +15,7 @@ mod ranking;
 mod slots;
 mod store;
 
-pub use ahead::{SIDE_BY_SIDE, read_ahead, read_next_groups};
+pub use ahead::{SIDE_BY_SIDE, read_next_groups};
 pub use collector::{Collector, MOST_HELD};
 pub use grouping::{Group, Groups};
 pub use growing::Added;

@@ -27,4 +27,4 @@ pub use reading::fields;
 pub use recording::element;
 pub use size::split;
 pub use view::View;
-pub use writer::{element_words, put_element};
+pub use writer::{element_words, narrow_face, narrow_id, put_element};

@@ -28,8 +28,8 @@ fn or_wide_ones(number: Option<u64>) -> u64
     number.unwrap_or(u64::MAX)
 }
 
-// An interface in 16 bits.
-fn narrow_face(face: Option<u32>) -> u32
+/// An interface in 16 bits: all ones where none is known or it needs more.
+pub fn narrow_face(face: Option<u32>) -> u32
     ensures value { result ≡ narrow_face face }
     ensures below { result < 2 ^ 16 }
 {
@@ -39,8 +39,8 @@ fn narrow_face(face: Option<u32>) -> u32
     }
 }
 
-// A node id in 24 bits.
-fn narrow_id(id: u64) -> u32
+/// A node id in 24 bits: all ones where it needs more.
+pub fn narrow_id(id: u64) -> u32
     ensures value { result ≡ narrow_id id }
     ensures below { result < 2 ^ 24 }
 {

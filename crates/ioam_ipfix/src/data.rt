@@ -9,6 +9,7 @@ ghost use Rattle.ioam_ipfix.specs.Sets.{IsPadding};
 ghost use Rattle.ioam_ipfix.specs.Steps.{TellsData, IsVariable, IsElementPlace, Agrees};
 ghost use Rattle.ioam_ipfix.specs.Templates.{IsTemplate};
 
+use crate::kind::FIRST_TEMPLATE;
 use crate::template::{tells_flow, tells_seq, tells_visit, weight};
 use ioam_base::octets::u16_at;
 use ioam_data::{Namespace, TraceType};
@@ -34,7 +35,8 @@ fn template_at(octets: &[u8]) -> u16
     ensures { result ≡ template_at octets.now }
 {
     let ext = octets[EXTENSIONS];
-    256 + weight(ext / FLOW_ID % 2 == 1, 4)
+    FIRST_TEMPLATE
+        + weight(ext / FLOW_ID % 2 == 1, 4)
         + weight(ext / SEQUENCE_NUMBER % 2 == 1, 2)
         + weight(octets[VERSION] == VISITED, 1)
 }

@@ -3,6 +3,11 @@
 ghost use Rattle.std.specs.Prelude.{◌≡◌};
 ghost use Rattle.ioam_ipfix.specs.Sets.{set_kind, IsOfKind};
 
+/// The ids of the templates of the profile, one for each choice of the three parts that an export may have.
+pub(crate) const FIRST_TEMPLATE: u16 = 256;
+
+pub(crate) const LAST_TEMPLATE: u16 = 263;
+
 /// What a set holds.
 #[derive(Clone, Copy)]
 pub(crate) enum SetKind {
@@ -22,7 +27,7 @@ pub(crate) fn set_kind(id: u16) -> SetKind
         2 => SetKind::Templates,
         3 => SetKind::Skipped,
         0..=255 => SetKind::Reserved,
-        256..=263 => SetKind::Data,
+        FIRST_TEMPLATE..=LAST_TEMPLATE => SetKind::Data,
         _ => SetKind::Skipped,
     }
 }

@@ -147,8 +147,8 @@ impl IpfixReader {
         }
     }
 
-    // Feeds the next octets of the input, and lets go of what is owed no longer. What `rest` leaves open, how
-    // many octets of messages that were taken it keeps, `held` says.
+    // What `feed` does, apart from its clauses, so that how many octets of messages that were taken are kept
+    // is said by `held` alone: `rest` leaves it open. What is owed no longer is let go of.
     fn feed_piece(&mut self, piece: &[u8]) -> Result<(), NoMemory>
         requires { fed self.old + length piece.now < 2 ^ 63 }
         ensures rest { OnOk result (self.new ≡ record (with_piece piece.now self.old) { given = self.new.given }) }

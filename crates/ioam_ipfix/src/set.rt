@@ -11,7 +11,7 @@ ghost use Rattle.ioam_base.specs.Octets.{u16_at};
 
 use crate::data::{DataStep, all_zero, data_step};
 use crate::fault::IpfixFault;
-use crate::kind::{SetKind, set_kind};
+use crate::kind::{FIRST_TEMPLATE, LAST_TEMPLATE, SetKind, set_kind};
 use crate::place::Place;
 use crate::template::template;
 use ioam_base::octets::u16_at;
@@ -45,7 +45,7 @@ fn template_step(octets: &[u8]) -> TemplateStep
         });
     }
     let id = u16_at(octets, 0);
-    if id < 256 || id > 263 {
+    if id < FIRST_TEMPLATE || id > LAST_TEMPLATE {
         return TemplateStep::Bad(IpfixFault::Template { found: id });
     }
     let known = template(id);
@@ -65,7 +65,7 @@ fn take_templates(content: &[u8], known: &mut [bool; 8]) -> Result<(), IpfixFaul
     'templates: loop {
         match template_step(&content[at..]) {
             TemplateStep::Whole { id, size } => {
-                known[usize::from(id - 256)] = true;
+                known[usize::from(id - FIRST_TEMPLATE)] = true;
                 at += size;
             }
             TemplateStep::Padding => return Ok(()),
@@ -129,7 +129,7 @@ fn take_content(
     match set_kind(id) {
         SetKind::Templates => take_templates(&message[at + 4..to], known),
         SetKind::Data => {
-            if !known[usize::from(id - 256)] {
+            if !known[usize::from(id - FIRST_TEMPLATE)] {
                 return Err(IpfixFault::Template { found: id });
             }
             note_records(message, at + 4, to, id, places)

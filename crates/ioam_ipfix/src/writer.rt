@@ -9,6 +9,7 @@ ghost use Rattle.ioam_ipfix.specs.Templates.{template_octets, all_ids};
 ghost use Rattle.ioam_ipfix.specs.Written.{message_octets, templates_message, IsRun, run_message, BeginsRecord, AreRecords, IsRunText};
 
 use crate::data::{put, put_moved, template_of};
+use crate::kind::{FIRST_TEMPLATE, LAST_TEMPLATE};
 use crate::template::template;
 use ioam_base::buffer::Buffer;
 use ioam_base::memory::NoMemory;
@@ -63,7 +64,7 @@ fn put_all(out: &mut Vec<u8>)
     ensures items { out.new.items ≡ out.old.items ++ flat_map template_octets all_ids }
     ensures len { (vec_len out.old ≤ vec_len out.new) × (vec_len out.new ≤ vec_len out.old + 608) }
 {
-    'templates: for id in 256..264 {
+    'templates: for id in FIRST_TEMPLATE..LAST_TEMPLATE + 1 {
         put(template(id).octets(), out);
     }
 }

@@ -17,7 +17,7 @@ use crate::visit::NodeVisit;
 use ioam_base::octets::u16_at;
 use ioam_data::{ElementBuf, Namespace, TraceType, bit};
 use ioam_dex::{Direct, Export, read};
-use ioam_trace::Filled;
+use ioam_trace::{Filled, HEAD_OCTETS};
 
 // What was done, as a note says it.
 fn what_done(filled: Filled) -> What
@@ -48,7 +48,7 @@ fn export_type(kind: TraceType) -> TraceType
     ensures { result ≡ export_type kind }
 {
     if kind.has(bit::CHECKSUM) {
-        TraceType::new(kind.bits() - 65536)
+        TraceType::new(kind.bits() - (1 << 16))
     } else {
         kind
     }
@@ -78,7 +78,7 @@ impl NodeVisit<'_> {
         ensures octets { body.new ≡ trace_step self.now.domain.now self.now.readings.now self.now.place self.now.time self.now.hops body.old }
         ensures note { result ≡ trace_note self.now.domain.now self.now.readings.now self.now.place self.now.time self.now.hops body.old }
     {
-        if body.len() < 10 {
+        if body.len() < 2 + HEAD_OCTETS {
             return short_note();
         }
         let namespace = Namespace(u16_at(body, 2));

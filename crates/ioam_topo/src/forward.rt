@@ -11,8 +11,8 @@ use crate::masks::masked;
 use crate::parts::Route;
 use crate::prefix::Prefix;
 
-/// Of so many routes of a node, and of so many of its data, each is looked at; of more those that have
-/// the target's bits, and those of the namespace, are looked up.
+/// Up to so many routes of a node are gone along, from the longest prefix on, and so many of its data; of
+/// more those that have the target's bits, and those of the namespace, are looked up.
 pub(crate) const FEW: usize = 32;
 
 // Whether a target has the prefix of a route.

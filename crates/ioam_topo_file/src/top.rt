@@ -9,8 +9,8 @@ use ioam_topo::Format;
 use ioam_topo_entries::{DomainRefused, Field, Spot, Table, own_keys};
 use ioam_topo_values::{Why, find, number_or, text_of};
 
-// The most packets of a run that a file may say, 2^24.
-const MOST_PACKETS: u64 = 16_777_216;
+// The most packets of a run that a file may say.
+const MOST_PACKETS: u64 = 1 << 24;
 
 // The most packets of a run where the file says none.
 const USUAL_PACKETS: u64 = 1_000_000;

@@ -21,6 +21,11 @@ use ioam_topo_tables::{Links, Nodes};
 use ioam_topo_values::{Why, maybe_file_name};
 use std::alloc::Global;
 
+// The least MTU of a link (RFC 8200 section 5), and the greatest: an IPv6 packet of the longest payload.
+const LEAST_MTU: u64 = 1280;
+
+const MOST_MTU: u64 = 65575;
+
 // The ends of a link.
 #[derive(Clone, Copy)]
 struct Ends {
@@ -55,7 +60,7 @@ fn link_numbers(spot: Spot, entry: &toml::Table) -> Result<Numbers, DomainRefuse
     let out_id = spot.key(Field::OutIdKey, number32(entry, "out_id", 0, 4_294_967_295))?;
     let in_id = spot.key(Field::InIdKey, number32(entry, "in_id", 0, 4_294_967_295))?;
     let delay = spot.key(Field::DelayKey, number32(entry, "delay", 0, 1_000_000_000))?;
-    let mtu = spot.key(Field::MtuKey, number32(entry, "mtu", 1280, 65575))?;
+    let mtu = spot.key(Field::MtuKey, number32(entry, "mtu", LEAST_MTU, MOST_MTU))?;
     Ok(Numbers {
         out_id,
         in_id,

@@ -12,7 +12,8 @@ use crate::why::Why;
 use ioam_data::{TraceType, bit};
 use toml::{Table, Value};
 
-const MOST_TYPE: u64 = 16_777_215;
+// The greatest number of 24 bits.
+const MOST_TYPE: u64 = (1 << 24) - 1;
 
 // A value that is to be a type that entry nodes write.
 fn trace_type_of(value: &Value) -> Result<TraceType, Why>

@@ -3,7 +3,7 @@ ghost use Rattle.std.specs.Prelude.{◌≡◌, ℕ, ◌+◌, ◌*◌, ◌<◌, �
 ghost use Rattle.ioam_data.specs.Kind.{is_entry_type};
 ghost use Rattle.ioam_trace.specs.Data.{head_octets, trace_data};
 
-use crate::head::TraceHead;
+use crate::head::{HEAD_OCTETS, TraceHead};
 use ioam_base::memory::NoMemory;
 use ioam_base::octets::put_at;
 use ioam_base::text::append;
@@ -19,7 +19,7 @@ fn put_empty(head: &TraceHead, words: u8, out: &mut Vec<u8>) -> Result<(), NoMem
     // a header and 61 words, the most that a capacity may be
     let mut octets = [0; 252];
     put_at(&mut octets, 0, head.in_octets().octets());
-    append(out, &octets[..8 + 4 * usize::from(words)])
+    append(out, &octets[..HEAD_OCTETS + 4 * usize::from(words)])
 }
 
 /// Appends the octets of an empty pre-allocated trace, those behind the IOAM-Option-Type: a header
