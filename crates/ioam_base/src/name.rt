@@ -1,5 +1,5 @@
 //! Names of files and entries.
-ghost use Rattle.std.specs.Prelude.{◌≡◌, ◌≢◌, ◌∷◌, ◌++◌, [], List, ℕ, string_bytes, IfOk, MatchBool, OnOk};
+ghost use Rattle.std.specs.Prelude.{◌≡◌, ◌≢◌, ◌∷◌, ◌++◌, [], List, ℕ, string_bytes, IfOk, MatchBool, OnOk, OnErr};
 
 use crate::memory::NoMemory;
 use std::alloc::Global;
@@ -41,9 +41,10 @@ impl Name {
     }
 }
 
-/// Puts a copy of a name behind others.
+/// Puts a copy of a name behind others. Without memory they are as they were.
 pub fn push_name(alloc: Global, names: &mut Vec<Name>, name: &Name) -> Result<(), NoMemory>
-    ensures { OnOk result (names.new.items ≡ names.old.items ++ name.now ∷ []) }
+    ensures ok { OnOk result (names.new.items ≡ names.old.items ++ name.now ∷ []) }
+    ensures err { OnErr result (names.new.items ≡ names.old.items) }
 {
     let copy = Name::new(alloc, name.text())?;
     names.push(copy)?;

@@ -10,6 +10,7 @@ use std::alloc::Global;
 pub fn emptied<T: Drop>(alloc: Global, spare: Vec<T>, count: usize) -> Result<Vec<T>, NoMemory>
     ensures items { IfOk result (λ made. made.items ≡ []) }
     ensures room { IfOk result (λ made. count ≤ vec_capacity made) }
+    ensures same { count ≤ vec_capacity spare → IfOk result (λ made. vec_capacity made ≡ vec_capacity spare) }
     ensures few { OnErr result (vec_capacity spare < count) }
 {
     if spare.capacity() < count {
