@@ -1,3 +1,4 @@
+pub mod FailuresLaws
 -- of the crates below, for the crates above
 pub use Rattle.ioam_dex.proofs.FaultLaws
 pub use Rattle.ioam_dex.proofs.ReadsLaws

@@ -1,6 +1,7 @@
 pub mod Outcomes
 pub mod Answers
 pub mod Desks
+pub mod Failures
 -- of the crates below, for the crates above
 pub use Rattle.ioam_clock.specs.declared.sample.Sample
 pub use Rattle.ioam_dex.specs.Faults

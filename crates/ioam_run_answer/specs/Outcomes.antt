@@ -25,3 +25,10 @@ abbrev pub OpensNothing : Outcome → Type 0
 OpensNothing outcome.Usage = ⊤
 OpensNothing (outcome.Names name) = ⊤
 OpensNothing _ = ⊥
+
+-- the words and the files decided it: neither a call of the outside that failed nor want of memory
+abbrev pub IsSettled : Outcome → Type 0
+IsSettled outcome.ReadFault = ⊥
+IsSettled outcome.WriteFault = ⊥
+IsSettled outcome.NoMemory = ⊥
+IsSettled _ = ⊤
