@@ -11,6 +11,7 @@ use Rattle.ioam_pcap.specs.Entries.{Taken}
 use Rattle.ioam_capture.specs.Reads.{Reads}
 use Rattle.ioam_capture.specs.Streams.{ShowsSo}
 use Rattle.ioam_run_answer.specs.Desks.{Desks}
+use Rattle.ioam_run_answer.specs.Failures.{AnswersFailures}
 use Rattle.ioam_run_answer.specs.Outcomes.{IsDone, IsBehindAll, OpensNothing}
 use Rattle.ioam_run_answer.specs.declared.outcome.Outcome.{Outcome}
 use Rattle.ioam_run_answer.specs.declared.outcome.Outcome.TheVariants as outcome
@@ -145,6 +146,9 @@ module _ (Texts : List Taken → List (List ℕ) → Type 0) (desks : Desks) (fi
     pub unread : IsTrue desks.tells → desks.new.side.slots < desks.old.side.slots + length files.outputs → desks.old_in.side.slots < desks.new_in.side.slots
         → holds desks.old files.input ≡ Some (desks.new_in.left desks.old_in.side.slots)
     pub drained : IsDone answer → IsTrue desks.tells → IsTrue (desks.new_in.ended desks.old_in.side.slots)
+    -- what failed is answered, told or not: no call on IN failed where the words and IN decided the answer, and none on an output where it is any but
+    -- WriteFault
+    pub failures : AnswersFailures desks answer
     -- input slots that were there, and where the desk tells output slots that were there and names that weren't opened to be written, are as they were
     pub kept_in : KeepsInputs desks.old_in desks.new_in
     pub kept_out : IsTrue desks.tells → KeepsOutputs desks.old desks.new

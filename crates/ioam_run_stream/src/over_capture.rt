@@ -9,6 +9,7 @@ ghost use Rattle.ioam_desk_outputs.specs.Names.{AreApart};
 ghost use Rattle.ioam_desk_outputs.specs.Told.{AreTold, GathersNothing, unsaid};
 ghost use Rattle.ioam_run_answer.specs.Outcomes.{IsDone, IsBehindAll, OpensNothing};
 ghost use Rattle.ioam_run_answer.specs.Desks.{around};
+ghost use Rattle.ioam_run_answer.specs.Failures.{AnswersFailures};
 ghost use Rattle.ioam_run_stream.specs.Promise.{most_packets, HasCause, Keeps, Leaves, all_names};
 ghost use Rattle.ioam_run_stream.specs.Streams.{Begun, FileCause, Finishes, IsBroken, ReadsOne};
 
@@ -64,6 +65,7 @@ fn run_names<G: Gather, D: Desk>(
         → (D.reading desk.old).side.slots < (D.reading desk.new).side.slots
         → holds (D.writing desk.old) files.now.input ≡ Some ((D.reading desk.new).left (D.reading desk.old).side.slots) }
     ensures drained { IsDone result → IsTrue D.tells → IsTrue ((D.reading desk.new).ended (D.reading desk.old).side.slots) }
+    ensures failures { AnswersFailures (around D.tells (D.reading desk.old) (D.reading desk.new) (D.writing desk.old) (D.writing desk.new)) result }
     ensures kept_in { KeepsInputs (D.reading desk.old) (D.reading desk.new) }
     ensures kept_out { IsTrue D.tells → KeepsOutputs (D.writing desk.old) (D.writing desk.new) }
 {
@@ -107,6 +109,7 @@ pub fn run_capture<G: Gather, D: Desk>(
         → (D.reading desk.old).side.slots < (D.reading desk.new).side.slots
         → holds (D.writing desk.old) input.now ≡ Some ((D.reading desk.new).left (D.reading desk.old).side.slots) }
     ensures drained { IsDone result → IsTrue D.tells → IsTrue ((D.reading desk.new).ended (D.reading desk.old).side.slots) }
+    ensures failures { AnswersFailures (around D.tells (D.reading desk.old) (D.reading desk.new) (D.writing desk.old) (D.writing desk.new)) result }
     ensures kept_in { KeepsInputs (D.reading desk.old) (D.reading desk.new) }
     ensures kept_out { IsTrue D.tells → KeepsOutputs (D.writing desk.old) (D.writing desk.new) }
 {
@@ -146,6 +149,7 @@ fn run_file<G: Gather, D: Desk>(
         → (D.reading desk.old).side.slots < (D.reading desk.new).side.slots
         → holds (D.writing desk.old) input.now ≡ Some ((D.reading desk.new).left (D.reading desk.old).side.slots) }
     ensures drained { IsDone result → IsTrue D.tells → IsTrue ((D.reading desk.new).ended (D.reading desk.old).side.slots) }
+    ensures failures { AnswersFailures (around D.tells (D.reading desk.old) (D.reading desk.new) (D.writing desk.old) (D.writing desk.new)) result }
     ensures kept_in { KeepsInputs (D.reading desk.old) (D.reading desk.new) }
     ensures kept_out { IsTrue D.tells → KeepsOutputs (D.writing desk.old) (D.writing desk.new) }
 {
@@ -200,6 +204,7 @@ fn run_open<G: Gather, D: Desk>(
     ensures slots_in { (D.reading desk.new).side.slots ≡ (D.reading desk.old).side.slots }
     ensures asked_out { (D.writing desk.new).side.asked ≡ (D.writing desk.old).side.asked }
     ensures slots_out { (D.writing desk.new).side.slots ≡ (D.writing desk.old).side.slots }
+    ensures failures { AnswersFailures (around D.tells (D.reading desk.old) (D.reading desk.new) (D.writing desk.old) (D.writing desk.new)) result }
     ensures kept_in { ReadsOne feed.slot (D.reading desk.old) (D.reading desk.new) }
     ensures kept_out { WritesFrom begun.start.base (D.writing desk.old) (D.writing desk.new) }
 {

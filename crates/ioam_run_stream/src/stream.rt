@@ -5,6 +5,8 @@ ghost use Rattle.ioam_desk.specs.Asked.{IsFaultOf};
 ghost use Rattle.ioam_desk.specs.Kept.{WritesFrom};
 ghost use Rattle.ioam_desk_outputs.specs.Held.{HoldAllFronts, HoldTexts};
 ghost use Rattle.ioam_desk_outputs.specs.Told.{AreTold, AreOpen, GathersFew, said_more};
+ghost use Rattle.ioam_run_answer.specs.Desks.{around};
+ghost use Rattle.ioam_run_answer.specs.Failures.{AnswersFailures};
 ghost use Rattle.ioam_run_stream.specs.Promise.{most_packets};
 ghost use Rattle.ioam_run_stream.specs.Streams.{Begun, IsStreaming, Pauses, ReadsOne, Sticks, Stops};
 
@@ -88,6 +90,7 @@ pub fn read_on<G: Gather, D: Desk>(
     ensures slots_in { (D.reading desk.new).side.slots ≡ (D.reading desk.old).side.slots }
     ensures asked_out { (D.writing desk.new).side.asked ≡ (D.writing desk.old).side.asked }
     ensures slots_out { (D.writing desk.new).side.slots ≡ (D.writing desk.old).side.slots }
+    ensures failures { AnswersFailures (around D.tells (D.reading desk.old) (D.reading desk.new) (D.writing desk.old) (D.writing desk.new)) result }
     ensures kept_in { ReadsOne stream.old.feed.slot (D.reading desk.old) (D.reading desk.new) }
     ensures kept_out { WritesFrom begun.start.base (D.writing desk.old) (D.writing desk.new) }
 {
@@ -125,6 +128,7 @@ pub fn write_rest<G: Gather, D: Desk>(
     ensures fronts { IsTrue D.tells → (slot : ℕ) (names texts : List (List ℕ))
         → AreTold D.tells (D.writing desk.old) slot names outputs.old texts
         → HoldAllFronts (D.writing desk.new) names (said_more texts (G.sums gathered.now)) }
+    ensures same { OnOk result ((D.writing desk.new).side ≡ (D.writing desk.old).side) }
     ensures cause { IfErr result (IsFaultOf (D.writing desk.old).side (D.writing desk.new).side) }
     ensures asked { (D.writing desk.new).side.asked ≡ (D.writing desk.old).side.asked }
     ensures slots { (D.writing desk.new).side.slots ≡ (D.writing desk.old).side.slots }

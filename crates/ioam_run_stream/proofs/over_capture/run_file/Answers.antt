@@ -10,6 +10,7 @@ use Rattle.ioam_run_stream.specs.Streams.{Start, Finishes, ReadsOne}
 use Rattle.ioam_run_stream.proofs.BeginLaws.{Fed-start, told_start, unwritten}
 use Rattle.ioam_run_stream.proofs.FinishesLaws.{Finishes-drained, Finishes-cause, Finishes-leaves}
 use Rattle.ioam_desk.proofs.KeptLaws.{KeepsInputs-same, KeepsOutputs-same, KeepsOutputs-then, KeepsOutputs-from}
+use Rattle.ioam_run_answer.proofs.FailuresLaws.{failures-none, failures-read, failures-write, failures-memory, failures-behind}
 use Rattle.ioam_run_stream.proofs.KeptLaws.{ReadsOne-same, KeepsInputs-unopened, KeepsInputs-opened, unread}
 use Rattle.ioam_run_stream.proofs.over_capture.run_file.Goals as goal
 
@@ -338,3 +339,36 @@ returns-clause-unread g c = λ told unopened opened.
     unread g.D.Desk.tells (g.D.Desk.reading c.args.desk.now) (g.D.Desk.reading c.open_feed.new.desk) (g.D.Desk.reading c.open_outputs.new.desk)
     (holds (g.D.Desk.writing c.args.desk.now) c.args.input.now) _ _ c.in-Ok-open_feed.feed.slot c.in-Ok-open_feed.ensures.opened
     (ap (λ (name : List ℕ). holds (g.D.Desk.writing c.args.desk.now) name) (sym c.text.ensures)) c.open_outputs.ensures.inputs told
+
+pub returns-in_default-clause-failures : goal.returns-in_default-clause-failures
+returns-in_default-clause-failures g c =
+    failures-none g.D.Desk.tells (g.D.Desk.reading c.args.desk.now) _ (g.D.Desk.writing c.args.desk.now) _ _ refl refl
+
+pub returns-in-Err-Failed-clause-failures : goal.returns-in-Err-Failed-clause-failures
+returns-in-Err-Failed-clause-failures g c =
+    failures-read g.D.Desk.tells (g.D.Desk.reading c.args.desk.now) (g.D.Desk.reading c.open_feed.new.desk) (g.D.Desk.writing c.args.desk.now) (g.D.Desk.writing c.open_feed.new.desk)
+    (ap (λ (w : Writing). w.side.faults) c.in-Err-Failed.ensures.outputs)
+
+pub returns-in-Err-NoMemory-clause-failures : goal.returns-in-Err-NoMemory-clause-failures
+returns-in-Err-NoMemory-clause-failures g c =
+    failures-memory g.D.Desk.tells (g.D.Desk.reading c.args.desk.now) (g.D.Desk.reading c.open_feed.new.desk) (g.D.Desk.writing c.args.desk.now) (g.D.Desk.writing c.open_feed.new.desk)
+    (ap (λ (w : Writing). w.side.faults) c.in-Err-NoMemory.ensures.outputs)
+
+pub returns-in-Ok-open_outputs-clause-failures : goal.returns-in-Ok-open_outputs-clause-failures
+returns-in-Ok-open_outputs-clause-failures g c =
+    failures-behind g.D.Desk.tells (g.D.Desk.reading c.args.desk.now) (g.D.Desk.reading c.open_outputs.new.desk) (g.D.Desk.reading c.run_open.new.desk)
+    (g.D.Desk.writing c.args.desk.now) (g.D.Desk.writing c.open_outputs.new.desk) (g.D.Desk.writing c.run_open.new.desk)
+    c.run_open.result
+    (ap (λ (r : desk.Reading). r.side.faults) c.in-Ok-open_outputs.ensures.inputs ∙ ap (λ (s : Side). s.faults) c.in-Ok-open_feed.ensures.opened.side)
+    (ap (λ (s : Side). s.faults) c.in-Ok-open_outputs.ensures.side ∙ ap (λ (w : Writing). w.side.faults) c.in-Ok-open_feed.ensures.outputs)
+    c.run_open.ensures.failures
+
+pub returns-in-Err-Failed-open_outputs-clause-failures : goal.returns-in-Err-Failed-open_outputs-clause-failures
+returns-in-Err-Failed-open_outputs-clause-failures g c =
+    failures-write g.D.Desk.tells (g.D.Desk.reading c.args.desk.now) (g.D.Desk.reading c.open_outputs.new.desk) (g.D.Desk.writing c.args.desk.now) (g.D.Desk.writing c.open_outputs.new.desk)
+
+pub returns-clause-failures : goal.returns-clause-failures
+returns-clause-failures g c =
+    let lacks = rw c.in-Err-NoMemory-open_outputs.field-0-is at c.in-Err-NoMemory-open_outputs.ensures.fault in
+    failures-memory g.D.Desk.tells (g.D.Desk.reading c.args.desk.now) (g.D.Desk.reading c.open_outputs.new.desk) (g.D.Desk.writing c.args.desk.now) (g.D.Desk.writing c.open_outputs.new.desk)
+    (lacks.0 ∙ ap (λ (w : Writing). w.side.faults) c.in-Ok-open_feed.ensures.outputs)

@@ -6,6 +6,8 @@ use Rattle.ioam_run_stream.specs.Streams.{Finishes, IsBroken}
 use Rattle.ioam_run_stream.proofs.BeginLaws.{begins_same, Streams-begin, Sticks-begin}
 use Rattle.ioam_run_stream.proofs.FinishesLaws.{Stops-open, Finishes-written, Stops-sticks}
 use Rattle.ioam_desk.proofs.KeptLaws.{WritesFrom-same, WritesFrom-then}
+use Rattle.ioam_run_answer.proofs.FailuresLaws.{failures-none, failures-write, failures-memory, failures-before}
+use Rattle.ioam_run_stream.proofs.BrokenLaws.{whole_write}
 use Rattle.ioam_run_stream.proofs.KeptLaws.{ReadsOne-same, ReadsOne-on, Stops-writes}
 use Rattle.ioam_run_stream.proofs.over_capture.run_open.Goals as goal
 
@@ -112,3 +114,25 @@ returns-clause-kept_out g c = WritesFrom-then g.begun.start.base (g.D.Desk.writi
     (g.D.Desk.reading c.args.desk.now) (g.D.Desk.reading c.read_on-answer.new.desk) (g.D.Desk.writing c.args.desk.now) (g.D.Desk.writing c.read_on-answer.new.desk) (g.D.Desk.writing c.write_rest.new.desk)
     c.read_on-answer.new.stream.gathered c.read_on-answer.new.outputs c.write_rest.ensures.kept
     c.read_on-answer.result (λ broken. false≢true (sym c.if-is_broken.false ∙ c.is_broken.ensures.1 broken)) c.read_on-answer.ensures.stopped)
+
+pub returns-in_default-clause-failures : goal.returns-in_default-clause-failures
+returns-in_default-clause-failures g c =
+    failures-none g.D.Desk.tells (g.D.Desk.reading c.args.desk.now) _ (g.D.Desk.writing c.args.desk.now) _ _ refl refl
+
+pub returns-in-Ok-write_rest-clause-failures : goal.returns-in-Ok-write_rest-clause-failures
+returns-in-Ok-write_rest-clause-failures g c =
+    failures-before g.D.Desk.tells (g.D.Desk.reading c.args.desk.now) (g.D.Desk.reading c.read_on-answer.new.desk) (g.D.Desk.reading c.write_rest.new.desk)
+    (g.D.Desk.writing c.args.desk.now) (g.D.Desk.writing c.read_on-answer.new.desk) (g.D.Desk.writing c.write_rest.new.desk)
+    c.read_on-answer.result (ap (λ (r : desk.Reading). r.side.faults) c.in-Ok-write_rest.ensures.inputs) (ap (λ (s : Side). s.faults) c.in-Ok-write_rest.ensures.same)
+    c.read_on-answer.ensures.failures
+
+pub returns-in-Err-Failed-clause-failures : goal.returns-in-Err-Failed-clause-failures
+returns-in-Err-Failed-clause-failures g c =
+    failures-write g.D.Desk.tells (g.D.Desk.reading c.args.desk.now) (g.D.Desk.reading c.write_rest.new.desk) (g.D.Desk.writing c.args.desk.now) (g.D.Desk.writing c.write_rest.new.desk)
+
+pub returns-clause-failures : goal.returns-clause-failures
+returns-clause-failures g c =
+    let same = rw c.in-Err-NoMemory.field-0-is at c.in-Err-NoMemory.ensures.cause in
+    let other = whole_write c.read_on-answer.result (λ broken. false≢true (sym c.if-is_broken.false ∙ c.is_broken.ensures.1 broken)) in
+    failures-memory g.D.Desk.tells (g.D.Desk.reading c.args.desk.now) (g.D.Desk.reading c.write_rest.new.desk) (g.D.Desk.writing c.args.desk.now) (g.D.Desk.writing c.write_rest.new.desk)
+    (same ∙ c.read_on-answer.ensures.failures.writes other)
