@@ -9,7 +9,8 @@ use Rattle.ioam_desk.proofs.KeptLaws.{KeepsInputs-then, KeepsOutputs-same}
 use Rattle.ioam_run_traffic.specs.Merging.{AreUnread, EndsKept, start_of}
 use Rattle.ioam_desk_outputs.specs.Names.{AreApart}
 use Rattle.ioam_run_files.specs.Desks.{around}
-use Rattle.ioam_run_files.specs.Outcomes.{IsDone, IsBehindAll}
+use Rattle.ioam_run_files.specs.Failures.{AnswersFailures}
+use Rattle.ioam_run_files.specs.Outcomes.{IsDone, IsBehindAll, IsSettled}
 use Rattle.ioam_run_files.specs.Outcome.{Outcome}
 use Rattle.ioam_run_files.specs.Outcome.TheVariants as outcome
 use Rattle.ioam_run_files.specs.Setting.{Refuses}
@@ -28,6 +29,7 @@ use Rattle.ioam_run_domain.proofs.EndsLaws.{same_faults, Ends-cause, Ends-differ
 -- the domain or the readings are refused
 module _ (opens tells : Bool) (files : RunNames) (old_in new_in : Reading) (old new : Writing) (why : Refusal) (answer : Outcome)
     (refuses : Refuses old files.domain files.readings tells old_in new_in why)
+    (settled : IsSettled (refused_as why) → new_in.side.faults ≡ old_in.side.faults)
     (asked : AsksFront old_in.side.asked new_in.side.asked (files.domain ∷ files.readings ∷ []))
     (first : (fault : DomainFault) → why ≡ refusal.Domain fault → AsksFront old_in.side.asked new_in.side.asked (files.domain ∷ []))
     (same : new ≡ old) (is : answer ≡ refused_as why) (kept : KeepsInputs old_in new_in) where
@@ -62,6 +64,12 @@ module _ (opens tells : Bool) (files : RunNames) (old_in new_in : Reading) (old 
   refused-drained : IsDone answer → AreDrained opens files old_in new_in old new
   refused-drained done = absurd (refused_done opens tells files old_in new_in old why (subst IsDone is done))
 
+  refused-failures : AnswersFailures (around tells old_in new_in old new) answer
+  refused-failures = record {
+    reads = λ decided. settled (subst IsSettled is decided);
+    writes = λ other. ap (λ (w : Writing). w.side.faults) same;
+  }
+
   pub refused-keeps : Keeps opens (around tells old_in new_in old new) files answer
   refused-keeps = record {
     read_fault = refused-read_fault;
@@ -77,6 +85,7 @@ module _ (opens tells : Bool) (files : RunNames) (old_in new_in : Reading) (old 
     untouched = λ refusal. (asked, same);
     drained = λ done told. refused-drained done;
     boundary = λ behind told. refused-bounded behind;
+    failures = refused-failures;
     kept_in = kept;
     kept_out = λ told. KeepsOutputs-same old new same;
   }
@@ -239,6 +248,12 @@ module _ (opens tells : Bool) (files : RunNames) (old_in mid_in new_in : Reading
   ended-untouched : IsRefusal answer → OpensNone files old_in new_in old new
   ended-untouched refusal = let none = unwritten opens tells files domain readings mid_in new_in old new answer ends refusal in (none_asked none.0, none.1)
 
+  ended-failures : AnswersFailures (around tells mid_in new_in mid new) answer → AnswersFailures (around tells old_in new_in old new) answer
+  ended-failures failures = record {
+    reads = λ settled. failures.reads settled ∙ ap (λ (s : Side). s.faults) opened;
+    writes = λ other. failures.writes other ∙ ap (λ (w : Writing). w.side.faults) same;
+  }
+
   module _ (both : IsTrue tells → IsTrue (mid_in.ended old_in.side.slots) × IsTrue (mid_in.ended (old_in.side.slots + 1)))
       (kept : EndsKept mid_in.side.slots mid_in new_in)
       (asked_in : (new_in ≡ mid_in) ⊎ (AreApart (run_files files domain) × AsksFront mid_in.side.asked new_in.side.asked (run_inputs domain)))
@@ -248,7 +263,8 @@ module _ (opens tells : Bool) (files : RunNames) (old_in mid_in new_in : Reading
       (first : (new ≡ mid) ⊎ AllOpened mid_in.side new_in.side (run_inputs domain))
       (unread : IsTrue tells → new.side.slots < mid.side.slots + length (run_outputs files domain)
       → AreUnread (start_of mid_in.side.slots mid (run_inputs domain)) new_in)
-      (kept_in : KeepsInputs old_in mid_in) (kept_out : IsTrue tells → KeepsOutputs mid new) where
+      (kept_in : KeepsInputs old_in mid_in) (kept_out : IsTrue tells → KeepsOutputs mid new)
+      (failures : AnswersFailures (around tells mid_in new_in mid new) answer) where
     pub ended-keeps : Keeps opens (around tells old_in new_in old new) files answer
     ended-keeps = record {
       read_fault = ended-read_fault;
@@ -264,6 +280,7 @@ module _ (opens tells : Bool) (files : RunNames) (old_in mid_in new_in : Reading
       untouched = ended-untouched;
       drained = ended-drained both kept;
       boundary = ended-bounded;
+      failures = ended-failures failures;
       kept_in = ended-kept_in kept_in kept;
       kept_out = ended-kept_out kept_out;
     }

@@ -17,6 +17,7 @@ use Rattle.ioam_run_traffic.specs.Text.{IsCaptureOf}
 use Rattle.ioam_run_traffic.specs.Turn.{Turn}
 use Rattle.ioam_run_traffic.specs.Turn.TheVariants as turn
 use Rattle.ioam_run_files.specs.Desks.{Desks}
+use Rattle.ioam_run_files.specs.Failures.{AnswersFailures}
 use Rattle.ioam_run_files.specs.Outcomes.{IsDone, IsBehindAll}
 use Rattle.ioam_run_files.specs.Outcome.{Outcome}
 use Rattle.ioam_run_files.specs.Outcome.TheVariants as outcome
@@ -295,6 +296,9 @@ module _ (opens : Bool) (desks : Desks) (files : RunNames) where
     -- of at most 262,144 octets
     pub boundary : IsBehindAll (desks.old.side.slots < desks.new.side.slots) answer → IsTrue desks.tells
         → IsBounded opens files desks.old_in desks.new_in desks.old desks.new
+    -- what failed is answered: told or not, no opening or read of an input failed where the words and the files decided the
+    -- answer, and no opening or write of an output where the answer is any but WriteFault
+    pub failures : AnswersFailures desks answer
     -- input slots that were there, and where the desk tells output slots that were there and names that weren't opened to be written, are as they were
     pub kept_in : KeepsInputs desks.old_in desks.new_in
     pub kept_out : IsTrue desks.tells → KeepsOutputs desks.old desks.new

@@ -5,8 +5,10 @@ ghost use Rattle.ioam_desk.specs.Desk.{opened_each};
 ghost use Rattle.ioam_desk.specs.Kept.{KeepsInputs, KeepsOutputs};
 ghost use Rattle.ioam_run_traffic.specs.Merging.{AreUnread, EndsKept, start_of};
 ghost use Rattle.ioam_desk_outputs.specs.Names.{AreApart};
+ghost use Rattle.ioam_run_files.specs.Answer.{refused_as};
 ghost use Rattle.ioam_run_files.specs.Desks.{around};
-ghost use Rattle.ioam_run_files.specs.Outcomes.{IsBehindAll};
+ghost use Rattle.ioam_run_files.specs.Failures.{AnswersFailures};
+ghost use Rattle.ioam_run_files.specs.Outcomes.{IsBehindAll, IsSettled};
 ghost use Rattle.ioam_run_files.specs.Setting.{IsSetting, Refuses};
 ghost use Rattle.ioam_run_files.specs.declared.setting.Refusal.{Refusal};
 ghost use Rattle.ioam_run_files.specs.Outlets.{outlet_count};
@@ -76,6 +78,8 @@ fn read_names<D: Desk>(
     ensures read { IfOk result (λ setting. IsTrue D.tells
         → IsSetting (D.writing desk.old) files.now.domain files.now.readings setting.domain setting.readings) }
     ensures refused { IfErr result (Refuses (D.writing desk.old) files.now.domain files.now.readings D.tells (D.reading desk.old) (D.reading desk.new)) }
+    ensures settled { IfErr result (λ refusal. IsSettled (refused_as refusal)
+        → (D.reading desk.new).side.faults ≡ (D.reading desk.old).side.faults) }
     ensures side { OnOk result ((D.reading desk.new).side ≡ opened_each (D.reading desk.old).side (files.now.domain ∷ files.now.readings ∷ [])) }
     ensures ended { OnOk result (IsTrue D.tells → IsTrue ((D.reading desk.new).ended (D.reading desk.old).side.slots)
         × IsTrue ((D.reading desk.new).ended ((D.reading desk.old).side.slots + 1))) }
@@ -123,6 +127,7 @@ fn run_set<R: Threads + Sync, D: Desk, G: Gate>(
 ) -> Outcome
     requires staffed { (1 ≤ workers) × (workers ≤ 64) }
     ensures ends { Ends G.opens D.tells files.now domain.now readings.now (D.reading desk.old) (D.reading desk.new) (D.writing desk.old) (D.writing desk.new) result }
+    ensures failures { AnswersFailures (around D.tells (D.reading desk.old) (D.reading desk.new) (D.writing desk.old) (D.writing desk.new)) result }
     ensures asked_in { (D.reading desk.new ≡ D.reading desk.old) ⊎ (AreApart (run_files files.now domain.now)
         × AsksFront (D.reading desk.old).side.asked (D.reading desk.new).side.asked (run_inputs domain.now)) }
     ensures asked_out { (D.writing desk.new ≡ D.writing desk.old) ⊎ (AreApart (run_files files.now domain.now)
@@ -162,6 +167,7 @@ fn run_apart<R: Threads + Sync, D: Desk, G: Gate>(
     requires staffed { (1 ≤ workers) × (workers ≤ 64) }
     requires apart { AreApart (run_files files.now domain.now) }
     ensures ends { Ends G.opens D.tells files.now domain.now readings.now (D.reading desk.old) (D.reading desk.new) (D.writing desk.old) (D.writing desk.new) result }
+    ensures failures { AnswersFailures (around D.tells (D.reading desk.old) (D.reading desk.new) (D.writing desk.old) (D.writing desk.new)) result }
     ensures asked_in { AsksFront (D.reading desk.old).side.asked (D.reading desk.new).side.asked (run_inputs domain.now) }
     ensures asked_out { AsksFront (D.writing desk.old).side.asked (D.writing desk.new).side.asked (run_outputs files.now domain.now) }
     ensures all_in { IsBehindAll ⊥ result → AllOpened (D.reading desk.old).side (D.reading desk.new).side (run_inputs domain.now) }

@@ -6,6 +6,8 @@ ghost use Rattle.ioam_desk.specs.Desk.{SameBut, holds, opened_side, opened_each}
 ghost use Rattle.ioam_desk.specs.Kept.{KeepsInputs};
 ghost use Rattle.ioam_desk.specs.Whole.{ReadsWhole, FailsWhole};
 ghost use Rattle.ioam_run_answer.specs.DomainFault.{DomainFault};
+ghost use Rattle.ioam_run_answer.specs.Outcomes.{IsSettled};
+ghost use Rattle.ioam_run_files.specs.Answer.{refused_as};
 ghost use Rattle.ioam_run_files.specs.Reads.{IsDomainRead, AreReadingsRead};
 ghost use Rattle.ioam_run_files.specs.Setting.{IsSetting, Refuses};
 ghost use Rattle.ioam_run_files.specs.declared.setting.Refusal.{Refusal};
@@ -65,6 +67,9 @@ pub fn read_domain_file<D: Desk>(
     name: &Name,
 ) -> Result<Domain, Refusal>
     ensures read { IsDomainRead D.tells (D.reading desk.old) (D.reading desk.new) (holds (D.writing desk.old) name.now) result }
+    // A call that failed is answered.
+    ensures settled { IfErr result (λ refusal. IsSettled (refused_as refusal)
+        → (D.reading desk.new).side.faults ≡ (D.reading desk.old).side.faults) }
     ensures side { OnOk result ((D.reading desk.new).side ≡ opened_side (D.reading desk.old).side name.now) }
     ensures ended { OnOk result (IsTrue D.tells → IsTrue ((D.reading desk.new).ended (D.reading desk.old).side.slots)) }
     ensures asked { AsksFront (D.reading desk.old).side.asked (D.reading desk.new).side.asked (name.now ∷ []) }
@@ -100,6 +105,9 @@ fn read_readings_file<D: Desk>(
 ) -> Result<Readings, Refusal>
     ensures read { AreReadingsRead D.tells (D.reading desk.old) (D.reading desk.new) (holds (D.writing desk.old) name.now)
         (node_names domain.now) result }
+    // A call that failed is answered.
+    ensures settled { IfErr result (λ refusal. IsSettled (refused_as refusal)
+        → (D.reading desk.new).side.faults ≡ (D.reading desk.old).side.faults) }
     ensures side { OnOk result ((D.reading desk.new).side ≡ opened_side (D.reading desk.old).side name.now) }
     ensures ended { OnOk result (IsTrue D.tells → IsTrue ((D.reading desk.new).ended (D.reading desk.old).side.slots)) }
     ensures other_ended { OnOk result (SameBut (D.reading desk.old).side.slots (D.reading desk.old).ended (D.reading desk.new).ended) }
@@ -132,6 +140,9 @@ pub fn read_setting<D: Desk>(
     ensures read { IfOk result (λ setting. IsTrue D.tells
         → IsSetting (D.writing desk.old) domain.now readings.now setting.domain setting.readings) }
     ensures refused { IfErr result (Refuses (D.writing desk.old) domain.now readings.now D.tells (D.reading desk.old) (D.reading desk.new)) }
+    // A call that failed is answered.
+    ensures settled { IfErr result (λ refusal. IsSettled (refused_as refusal)
+        → (D.reading desk.new).side.faults ≡ (D.reading desk.old).side.faults) }
     ensures side { OnOk result ((D.reading desk.new).side ≡ opened_each (D.reading desk.old).side (domain.now ∷ readings.now ∷ [])) }
     ensures ended { OnOk result (IsTrue D.tells → IsTrue ((D.reading desk.new).ended (D.reading desk.old).side.slots)
         × IsTrue ((D.reading desk.new).ended ((D.reading desk.old).side.slots + 1))) }

@@ -34,6 +34,7 @@ fn put_end<D: Desk>(
     ensures fronts { IsTrue D.tells → (opens : Bool) (readings : List (List Sample)) (base : ℕ) (names texts : List (List ℕ)) (frames : List Frame)
         → AreTold D.tells (D.writing desk.old) base names outputs.old texts → Forwards opens domain.now readings frames texts gathered.now
         → HoldSo opens domain.now readings frames (HoldAllFronts (D.writing desk.new) names) }
+    ensures same { OnOk result ((D.writing desk.new).side ≡ (D.writing desk.old).side) }
     ensures cause { IfErr result (IsFaultOf (D.writing desk.old).side (D.writing desk.new).side) }
     ensures asked { (D.writing desk.new).side.asked ≡ (D.writing desk.old).side.asked }
     ensures slots { (D.writing desk.new).side.slots ≡ (D.writing desk.old).side.slots }
@@ -65,6 +66,7 @@ pub fn put_rest<R: Threads + Sync, D: Desk, G: Gate>(
     ensures fronts { IsTrue D.tells → (base : ℕ) (names texts : List (List ℕ)) (frames : List Frame)
         → AreTold D.tells (D.writing desk.old) base names outputs.old texts → Forwards G.opens terms.now.domain.now terms.now.readings.now frames texts gathered.old
         → HoldSo G.opens terms.now.domain.now terms.now.readings.now frames (HoldAllFronts (D.writing desk.new) names) }
+    ensures same { OnOk result ((D.writing desk.new).side ≡ (D.writing desk.old).side) }
     ensures cause { IfErr result (IsFaultOf (D.writing desk.old).side (D.writing desk.new).side) }
     ensures asked { (D.writing desk.new).side.asked ≡ (D.writing desk.old).side.asked }
     ensures slots { (D.writing desk.new).side.slots ≡ (D.writing desk.old).side.slots }

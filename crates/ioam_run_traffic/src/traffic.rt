@@ -1,5 +1,5 @@
 //! The traffic of a domain: its files, and how it ends.
-ghost use Rattle.std.specs.Prelude.{◌≡◌, ◌↔◌, ◌⊎◌, ◌+◌, ◌<◌, ◌≤◌, ◌++◌, [], All, IsTrue, length};
+ghost use Rattle.std.specs.Prelude.{◌≡◌, ◌≢◌, ◌↔◌, ◌⊎◌, ◌+◌, ◌<◌, ◌≤◌, ◌++◌, [], All, IsTrue, length};
 ghost use Rattle.ioam_desk.specs.Asked.{AsksFront};
 ghost use Rattle.ioam_desk.specs.Kept.{KeepsOutputs, WritesFrom};
 ghost use Rattle.ioam_capture_merge.specs.Merging.{AreUnread, EndsKept, Merging, start_of};
@@ -9,6 +9,7 @@ ghost use Rattle.ioam_desk_outputs.specs.Told.{AreTold, GathersNothing, unsaid};
 ghost use Rattle.ioam_topo.specs.Domain.{ports as ports_of};
 ghost use Rattle.ioam_run_traffic.specs.Running.{Ends, IsBroken};
 ghost use Rattle.ioam_run_traffic.specs.Traffic.{Files, files_of, course_with, begun, AllOpened, Finishes, IsEnd};
+ghost use Rattle.ioam_run_traffic.specs.declared.halt.Halt.{Halt};
 
 use crate::halt::Halt;
 use crate::progress::Progress;
@@ -55,6 +56,9 @@ pub fn run_traffic<R: Threads + Sync, D: Desk, G: Gate>(
     requires apart { AreApart outputs.now }
     ensures finishes { Finishes (begun G.opens domain.now readings.now ports.now inputs.now outputs.now (D.reading desk.old) (D.writing desk.old)) D.tells
         (D.reading desk.old) (D.reading desk.new) (D.writing desk.old) (D.writing desk.new) result }
+    // What failed is answered: no read where the captures decided the end, and no write but where the answer says so.
+    ensures faults_in { IsEnd result → (D.reading desk.new).side.faults ≡ (D.reading desk.old).side.faults }
+    ensures faults_out { result ≢ Halt.WriteFault → (D.writing desk.new).side.faults ≡ (D.writing desk.old).side.faults }
     ensures asked_in { AsksFront (D.reading desk.old).side.asked (D.reading desk.new).side.asked inputs.now }
     ensures asked_out { AsksFront (D.writing desk.old).side.asked (D.writing desk.new).side.asked outputs.now }
     ensures all_in { IsEnd result → AllOpened (D.reading desk.old).side (D.reading desk.new).side inputs.now }
@@ -93,6 +97,9 @@ fn run_files<R: Threads + Sync, D: Desk, G: Gate>(
     requires apart { AreApart outputs.now }
     ensures finishes { Finishes (course_with G.opens domain.now readings.now ports.now files) D.tells
         (D.reading desk.old) (D.reading desk.new) (D.writing desk.old) (D.writing desk.new) result }
+    // What failed is answered: no read where the captures decided the end, and no write but where the answer says so.
+    ensures faults_in { IsEnd result → (D.reading desk.new).side.faults ≡ (D.reading desk.old).side.faults }
+    ensures faults_out { result ≢ Halt.WriteFault → (D.writing desk.new).side.faults ≡ (D.writing desk.old).side.faults }
     ensures asked_in { AsksFront (D.reading desk.old).side.asked (D.reading desk.new).side.asked inputs.now }
     ensures asked_out { AsksFront (D.writing desk.old).side.asked (D.writing desk.new).side.asked outputs.now }
     ensures all_in { IsEnd result → AllOpened (D.reading desk.old).side (D.reading desk.new).side inputs.now }
@@ -141,6 +148,9 @@ fn run_open<R: Threads + Sync, D: Desk, G: Gate>(
     requires nothing { GathersNothing outputs.old }
     ensures ends { Ends D.tells (course_with G.opens terms.now.domain.now terms.now.readings.now terms.now.ports.now files) (D.reading desk.old) (D.reading desk.new)
         (D.writing desk.old) (D.writing desk.new) result }
+    // What failed is answered: no read where the captures decided the end, and no write but where the answer says so.
+    ensures faults_in { IsEnd result → (D.reading desk.new).side.faults ≡ (D.reading desk.old).side.faults }
+    ensures faults_out { result ≢ Halt.WriteFault → (D.writing desk.new).side.faults ≡ (D.writing desk.old).side.faults }
     ensures asked_in { (D.reading desk.new).side.asked ≡ (D.reading desk.old).side.asked }
     ensures slots_in { (D.reading desk.new).side.slots ≡ (D.reading desk.old).side.slots }
     ensures asked_out { (D.writing desk.new).side.asked ≡ (D.writing desk.old).side.asked }

@@ -1,5 +1,5 @@
 //! The turns of the captures of a domain's ports, one after the other.
-ghost use Rattle.std.specs.Prelude.{◌≡◌, ◌+◌, ◌<◌, ◌≤◌, ◌^◌, All, IsTrue, IfErr, IfOk, OnOk, length};
+ghost use Rattle.std.specs.Prelude.{◌≡◌, ◌≢◌, ◌+◌, ◌<◌, ◌≤◌, ◌^◌, All, IsTrue, IfErr, IfOk, OnOk, length};
 ghost use Rattle.ioam_desk.specs.Kept.{WritesFrom};
 ghost use Rattle.ioam_run_arrivals.specs.Forwarding.{has_room, taken};
 ghost use Rattle.ioam_capture_merge.specs.Merging.{EndsKept};
@@ -8,6 +8,7 @@ ghost use Rattle.ioam_desk_outputs.specs.Told.{GathersFew};
 ghost use Rattle.ioam_topo.specs.Domain.{ports as ports_of};
 ghost use Rattle.ioam_run_traffic.specs.Running.{Coming, Running, Stops};
 ghost use Rattle.ioam_run_traffic.specs.Traffic.{Files, course_with};
+ghost use Rattle.ioam_run_traffic.specs.declared.halt.Halt.{Halt};
 
 use crate::halt::Halt;
 use crate::progress::Progress;
@@ -42,6 +43,7 @@ fn make_room<R: Threads + Sync, D: Desk, G: Gate>(
     ensures counted { OnOk result (taken progress.new.gathered ≡ taken progress.old.gathered) }
     ensures waiting { OnOk result (GathersFew outputs.new) }
     ensures same { OnOk result ((D.writing desk.new).side ≡ (D.writing desk.old).side) }
+    ensures faults { IfErr result (λ halt. halt ≢ Halt.WriteFault → (D.writing desk.new).side.faults ≡ (D.writing desk.old).side.faults) }
     ensures stops { IfErr result (Stops D.tells (course_with G.opens terms.now.domain.now terms.now.readings.now terms.now.ports.now files)
         (D.reading desk.old) (D.reading desk.new) (D.writing desk.old) (D.writing desk.new) progress.new.gathered outputs.new) }
     ensures asked { (D.writing desk.new).side.asked ≡ (D.writing desk.old).side.asked }
@@ -94,6 +96,7 @@ fn pass_on<R: Threads + Sync, D: Desk, G: Gate>(
     ensures few { OnOk result (taken progress.old.gathered < terms.now.domain.now.packets) }
     ensures waiting { OnOk result (GathersFew outputs.new) }
     ensures same { OnOk result ((D.writing desk.new).side ≡ (D.writing desk.old).side) }
+    ensures faults { IfErr result (λ halt. halt ≢ Halt.WriteFault → (D.writing desk.new).side.faults ≡ (D.writing desk.old).side.faults) }
     ensures stops { IfErr result (Stops D.tells (course_with G.opens terms.now.domain.now terms.now.readings.now terms.now.ports.now files)
         (D.reading desk.old) (D.reading desk.new) (D.writing desk.old) (D.writing desk.new) progress.new.gathered outputs.new) }
     ensures asked { (D.writing desk.new).side.asked ≡ (D.writing desk.old).side.asked }
@@ -133,6 +136,8 @@ pub fn carry_on<R: Threads + Sync, D: Desk, G: Gate>(
     requires waiting { GathersFew outputs.old }
     ensures stops { Stops D.tells (course_with G.opens terms.now.domain.now terms.now.readings.now terms.now.ports.now files) (D.reading desk.old) (D.reading desk.new)
         (D.writing desk.old) (D.writing desk.new) progress.new.gathered outputs.new result }
+    ensures faults_in { result ≢ Halt.ReadFault → (D.reading desk.new).side.faults ≡ (D.reading desk.old).side.faults }
+    ensures faults_out { result ≢ Halt.WriteFault → (D.writing desk.new).side.faults ≡ (D.writing desk.old).side.faults }
     ensures asked_in { (D.reading desk.new).side.asked ≡ (D.reading desk.old).side.asked }
     ensures slots_in { (D.reading desk.new).side.slots ≡ (D.reading desk.old).side.slots }
     ensures asked_out { (D.writing desk.new).side.asked ≡ (D.writing desk.old).side.asked }
