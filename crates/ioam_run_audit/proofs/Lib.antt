@@ -19,3 +19,4 @@ mod RefusedLaws
 mod PlaceLaws
 mod OwesLaws
 mod AskedLaws
+mod FailuresLaws

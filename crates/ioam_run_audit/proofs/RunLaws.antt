@@ -184,4 +184,5 @@ stops_on tells start place first_in mid_in new_in first_out mid_out new_out pair
     (subst (λ (s : desk.Side). Rose s.faults new_in.side.faults) reads stops.0, stops.1 ∙ writes, stops.2)
 stops_on tells start place first_in mid_in new_in first_out mid_out new_out pair tellers reads writes stop.Write stops =
     (subst (λ (s : desk.Side). Rose s.faults new_out.side.faults) writes stops.0, stops.1)
-stops_on tells start place first_in mid_in new_in first_out mid_out new_out pair tellers reads writes stop.NoMemory stops = stops
+stops_on tells start place first_in mid_in new_in first_out mid_out new_out pair tellers reads writes stop.NoMemory stops =
+    (stops.0 ∙ ap (λ (s : desk.Side). s.faults) writes, stops.1)

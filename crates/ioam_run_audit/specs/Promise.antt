@@ -10,6 +10,7 @@ use Rattle.ioam_desk_outputs.specs.Names.{name_at, AreApart, IsFirstRepeat}
 use Rattle.ioam_pcap.specs.Ending.{Ending, Whole, Faulty}
 use Rattle.ioam_pcap.specs.Entries.{Taken}
 use Rattle.ioam_run_answer.specs.Desks.{Desks}
+use Rattle.ioam_run_answer.specs.Failures.{AnswersFailures}
 use Rattle.ioam_run_answer.specs.Outcomes.{IsDone, IsBehindAll}
 use Rattle.ioam_run_answer.specs.declared.outcome.Outcome.{Outcome}
 use Rattle.ioam_run_answer.specs.declared.outcome.Outcome.TheVariants as outcome
@@ -310,3 +311,6 @@ module _ (desks : Desks) (files : AuditNames) where
     pub exact : (asked : Outcome) → IsTrue desks.tells → Asked files desks.old asked
         → (Rose desks.old_in.side.faults desks.new_in.side.faults → ⊥) → (Rose desks.old.side.faults desks.new.side.faults → ⊥)
         → (answer ≡ asked) ⊎ (answer ≡ outcome.NoMemory)
+    -- what failed is answered: no call of an input failed where the words and the files decided the answer, and none of REPORT
+    -- where the answer is any but WriteFault
+    pub failures : AnswersFailures desks answer

@@ -104,11 +104,11 @@ module _ (tells : Bool) (start : Start) (place : Place) where
   Cut inputs outputs pair tellers = Halted (IsJudged start place inputs pair.before.feed.slot pair.after.feed.slot) AreTaken outputs pair.counts tellers
 
   module _ (old_in new_in : desk.Reading) (old_out new_out : Writing) where
-    -- why the two weren't read on
+    -- why the two weren't read on; no write failed but where it is Write
     abbrev pub StopsBy : Pair → List Output → Stop → Type 0
     StopsBy pair tellers stop.Read = Rose old_in.side.faults new_in.side.faults × (new_out.side ≡ old_out.side) × Cut new_in new_out pair tellers
     StopsBy pair tellers stop.Write = Rose old_out.side.faults new_out.side.faults × Sticks new_out
-    StopsBy pair tellers stop.NoMemory = Sticks new_out
+    StopsBy pair tellers stop.NoMemory = (new_out.side.faults ≡ old_out.side.faults) × Sticks new_out
 
     -- one packet more of BEFORE was judged, or there is none
     abbrev pub JudgesOne : Pair → Pair → List Output → Result (Option End) Stop → Type 0

@@ -5,9 +5,12 @@ ghost use Rattle.ioam_desk.specs.Desk.{holds, opened_side};
 ghost use Rattle.ioam_desk.specs.Kept.{KeepsInputs};
 ghost use Rattle.ioam_desk_outputs.specs.Names.{AreApart};
 ghost use Rattle.ioam_run_answer.specs.Desks.{around};
+ghost use Rattle.ioam_run_answer.specs.Failures.{AnswersFailures};
+ghost use Rattle.ioam_run_answer.specs.Outcomes.{IsSettled};
 ghost use Rattle.ioam_run_audit.specs.Ends.{Ends, EndsAt, Ran};
 ghost use Rattle.ioam_run_audit.specs.Pairs.{place_of};
 ghost use Rattle.ioam_run_audit.specs.Promise.{Keeps, Owes, audit_files};
+ghost use Rattle.ioam_run_files.specs.Answer.{refused_as};
 ghost use Rattle.ioam_run_files.specs.Reads.{IsDomainRead};
 
 use crate::files::run_files;
@@ -37,6 +40,7 @@ pub fn run_audit<D: Desk>(alloc: Global, files: &AuditFiles<'_>, desk: &mut D) -
 // Reads the domain, and runs the command in it.
 fn run_names<D: Desk>(alloc: Global, files: &AuditFiles<'_>, desk: &mut D) -> Outcome
     ensures owes { Owes D.tells files.now (D.reading desk.old) (D.reading desk.new) (D.writing desk.old) (D.writing desk.new) result }
+    ensures failures { AnswersFailures (around D.tells (D.reading desk.old) (D.reading desk.new) (D.writing desk.old) (D.writing desk.new)) result }
 {
     match read_named(alloc, files, desk) {
         Ok(domain) => run_set(alloc, files, &domain, desk),
@@ -51,6 +55,8 @@ fn read_named<D: Desk>(
     desk: &mut D,
 ) -> Result<Domain, Refusal>
     ensures read { IsDomainRead D.tells (D.reading desk.old) (D.reading desk.new) (holds (D.writing desk.old) files.now.domain) result }
+    ensures settled { IfErr result (λ refusal. IsSettled (refused_as refusal)
+        → (D.reading desk.new).side.faults ≡ (D.reading desk.old).side.faults) }
     ensures side { OnOk result ((D.reading desk.new).side ≡ opened_side (D.reading desk.old).side files.now.domain) }
     ensures ended { OnOk result (IsTrue D.tells → IsTrue ((D.reading desk.new).ended (D.reading desk.old).side.slots)) }
     ensures asked { AsksFront (D.reading desk.old).side.asked (D.reading desk.new).side.asked (files.now.domain ∷ []) }
@@ -64,6 +70,7 @@ fn read_named<D: Desk>(
 // Runs the command at the node and the link that are named in a domain.
 fn run_set<D: Desk>(alloc: Global, files: &AuditFiles<'_>, domain: &Domain, desk: &mut D) -> Outcome
     ensures ends { Ends D.tells files.now (D.reading desk.old) (D.reading desk.new) (D.writing desk.old) (D.writing desk.new) domain.now result }
+    ensures failures { AnswersFailures (around D.tells (D.reading desk.old) (D.reading desk.new) (D.writing desk.old) (D.writing desk.new)) result }
 {
     let Some(node) = domain.node_named(files.node.text()) else {
         return names_outcome(alloc, files.node);
@@ -78,6 +85,7 @@ fn run_set<D: Desk>(alloc: Global, files: &AuditFiles<'_>, domain: &Domain, desk
 // Runs the command at a node and a link: the files have to differ.
 fn run_at<D: Desk>(alloc: Global, files: &AuditFiles<'_>, seat: &Seat<'_>, desk: &mut D) -> Outcome
     ensures ends { EndsAt D.tells files.now (D.reading desk.old) (D.reading desk.new) (D.writing desk.old) (D.writing desk.new) (place_of seat.now) result }
+    ensures failures { AnswersFailures (around D.tells (D.reading desk.old) (D.reading desk.new) (D.writing desk.old) (D.writing desk.new)) result }
 {
     let Ok(mut names) = audit_files(alloc, files) else {
         return Outcome::NoMemory;
@@ -99,6 +107,7 @@ fn run_apart<D: Desk>(
 ) -> Outcome
     requires apart { AreApart (audit_files files.now) }
     ensures ran { Ran D.tells files.now (D.reading desk.old) (D.reading desk.new) (D.writing desk.old) (D.writing desk.new) (place_of seat.now) result }
+    ensures failures { AnswersFailures (around D.tells (D.reading desk.old) (D.reading desk.new) (D.writing desk.old) (D.writing desk.new)) result }
 {
     run_files(alloc, files.before, files.after, files.report, seat, desk)
 }

@@ -1,7 +1,10 @@
 //! The two captures compared, once they and REPORT were opened.
-ghost use Rattle.std.specs.Prelude.{◌≡◌, ◌≤◌, ◌⊎◌, length};
+ghost use Rattle.std.specs.Prelude.{◌≡◌, ◌≢◌, ◌≤◌, ◌⊎◌, length};
 ghost use Rattle.ioam_desk.specs.Kept.{WritesFrom};
 ghost use Rattle.ioam_desk_outputs.specs.Told.{GathersFew};
+ghost use Rattle.ioam_run_answer.specs.Desks.{around};
+ghost use Rattle.ioam_run_answer.specs.Failures.{AnswersFailures};
+ghost use Rattle.ioam_run_answer.specs.Outcomes.{IsSettled};
 ghost use Rattle.ioam_run_answer.specs.declared.outcome.Outcome.{Outcome};
 ghost use Rattle.ioam_run_audit.specs.Ends.{Both, Closes, Breaks, Finishes, WrittenCut, verdict_by};
 ghost use Rattle.ioam_run_audit.specs.Fit.{Place};
@@ -49,6 +52,7 @@ fn finish_with<D: Desk>(
         ⊎ Breaks D.tells start place (D.writing desk.old) (D.writing desk.new) result }
     ensures kept { (start : Start) (place : Place) → Both D.tells start place (D.reading desk.old) (D.writing desk.old) pair.now outputs.old how last
         → WritesFrom start.base (D.writing desk.old) (D.writing desk.new) }
+    ensures faults { result ≢ Outcome.WriteFault → (D.writing desk.new).side.faults ≡ (D.writing desk.old).side.faults }
     ensures asked { (D.writing desk.new).side.asked ≡ (D.writing desk.old).side.asked }
     ensures slots { (D.writing desk.new).side.slots ≡ (D.writing desk.old).side.slots }
     ensures inputs { D.reading desk.new ≡ D.reading desk.old }
@@ -69,6 +73,8 @@ fn cut_off<D: Desk>(pair: &Pair, outputs: &mut [Output], desk: &mut D) -> Outcom
         ⊎ Breaks D.tells start place (D.writing desk.old) (D.writing desk.new) result }
     ensures kept { (start : Start) (place : Place) → Cut D.tells start place (D.reading desk.old) (D.writing desk.old) pair.now outputs.old
         → WritesFrom start.base (D.writing desk.old) (D.writing desk.new) }
+    ensures unsettled { IsSettled result → ⊥ }
+    ensures faults { result ≢ Outcome.WriteFault → (D.writing desk.new).side.faults ≡ (D.writing desk.old).side.faults }
     ensures asked { (D.writing desk.new).side.asked ≡ (D.writing desk.old).side.asked }
     ensures slots { (D.writing desk.new).side.slots ≡ (D.writing desk.old).side.slots }
     ensures inputs { D.reading desk.new ≡ D.reading desk.old }
@@ -98,6 +104,7 @@ pub(crate) fn run_open<D: Desk>(
     requires waiting { GathersFew outputs.old }
     ensures finishes { Finishes D.tells start (place_of seat.now) before.now after.now pair.old.before.feed.slot pair.old.after.feed.slot
         (D.reading desk.old) (D.reading desk.new) (D.writing desk.old) (D.writing desk.new) result }
+    ensures failures { AnswersFailures (around D.tells (D.reading desk.old) (D.reading desk.new) (D.writing desk.old) (D.writing desk.new)) result }
     ensures moves { Moves pair.old.before.feed.slot pair.old.after.feed.slot start.base
         (D.reading desk.old) (D.reading desk.new) (D.writing desk.old) (D.writing desk.new) }
 {

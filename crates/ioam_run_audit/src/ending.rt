@@ -79,6 +79,7 @@ pub(crate) fn close<D: Desk>(
         → AreTold D.tells (D.writing desk.old) slot names outputs.old texts
         → HoldAllFronts (D.writing desk.new) names (said_more texts (behind_of counts verdict ∷ [])) }
     ensures cause { IfErr result (IsFaultOf (D.writing desk.old).side (D.writing desk.new).side) }
+    ensures same { OnOk result ((D.writing desk.new).side ≡ (D.writing desk.old).side) }
     ensures asked { (D.writing desk.new).side.asked ≡ (D.writing desk.old).side.asked }
     ensures slots { (D.writing desk.new).side.slots ≡ (D.writing desk.old).side.slots }
     ensures kept { (slot : ℕ) (names texts : List (List ℕ)) → AreTold D.tells (D.writing desk.old) slot names outputs.old texts

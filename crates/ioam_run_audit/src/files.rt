@@ -1,5 +1,7 @@
 //! The files of the command but for DOMAIN: BEFORE, AFTER, and REPORT behind them.
 ghost use Rattle.std.specs.Prelude.{◌≡◌, [], length};
+ghost use Rattle.ioam_run_answer.specs.Desks.{around};
+ghost use Rattle.ioam_run_answer.specs.Failures.{AnswersFailures};
 ghost use Rattle.ioam_run_audit.specs.Ends.{RunsFiles, RunsPair};
 ghost use Rattle.ioam_run_audit.specs.Pairs.{Pairs, Start, place_of};
 
@@ -32,6 +34,7 @@ fn run_pair<D: Desk>(
     requires room { length piece.old ≡ PIECE }
     ensures runs { RunsPair D.tells start (place_of seat.now) before.now after.now pair.old.before.feed.slot pair.old.after.feed.slot
         (D.reading desk.old) (D.reading desk.new) (D.writing desk.old) (D.writing desk.new) result }
+    ensures failures { AnswersFailures (around D.tells (D.reading desk.old) (D.reading desk.new) (D.writing desk.old) (D.writing desk.new)) result }
 {
     match open_outputs(alloc, desk, slice::from_ref(report)) {
         Ok(mut outputs) => run_open(alloc, before, after, seat, pair, &mut outputs, piece, desk),
@@ -51,6 +54,7 @@ pub(crate) fn run_files<D: Desk>(
 ) -> Outcome
     ensures runs { RunsFiles D.tells (place_of seat.now) before.now after.now report.now
         (D.reading desk.old) (D.reading desk.new) (D.writing desk.old) (D.writing desk.new) result }
+    ensures failures { AnswersFailures (around D.tells (D.reading desk.old) (D.reading desk.new) (D.writing desk.old) (D.writing desk.new)) result }
 {
     let Ok(mut piece) = new_piece(alloc) else {
         return Outcome::NoMemory;

@@ -1,6 +1,8 @@
 -- What a run owes whose domain or readings are refused.
 use Rattle.std.proofs.Common.{◌≡◌, ℕ, zero, suc, ◌+◌, ◌≤◌, Bool, IsTrue, List, [], ◌∷◌, ◌++◌, take, refl, sym, ◌∙◌, ap, subst, inl, append-nil, arith}
-use Rattle.ioam_run_files.specs.Outcomes.{IsDone, IsBehindAll}
+use Rattle.ioam_run_files.specs.Desks.{around}
+use Rattle.ioam_run_files.specs.Failures.{AnswersFailures}
+use Rattle.ioam_run_files.specs.Outcomes.{IsDone, IsBehindAll, IsSettled}
 use Rattle.ioam_run_files.specs.Outcome.{Outcome}
 use Rattle.ioam_run_files.specs.Outcome.TheVariants as outcome
 use Rattle.ioam_desk.specs.Asked.{AsksFront}
@@ -123,3 +125,10 @@ module _ (tells : Bool) (files : NodeNames) (old_in new_in : Reading) (old : Wri
         let P : Writing → Type 0 = λ w. Owes tells files old_in new_in old w answer in
         let Q : Outcome → Type 0 = λ a. Owes tells files old_in new_in old old a in
         subst P (sym same) (subst Q (sym is) owes)
+
+-- what failed before it is answered
+pub refused_failures : (tells : Bool) (old_in new_in : Reading) (old new : Writing) (why : Refusal) (answer : Outcome) → answer ≡ refused_as why
+    → (IsSettled (refused_as why) → new_in.side.faults ≡ old_in.side.faults) → new ≡ old → AnswersFailures (around tells old_in new_in old new) answer
+refused_failures tells old_in new_in old new why answer is settled same =
+    let P : Outcome → Type 0 = λ a. IsSettled a → new_in.side.faults ≡ old_in.side.faults in
+    record { reads = subst P (sym is) settled; writes = λ other. ap (λ (w : Writing). w.side.faults) same }

@@ -3,6 +3,7 @@
 use Rattle.std.specs.Prelude.{◌≡◌, ◌≢◌, ℕ, ◌+◌, ◌<◌, ◌≤◌, ◌⊎◌, ⊤, All, Bool, IsTrue, IsSomeAnd, nat_eq, if◌then◌else◌, List, [], ◌∷◌, ◌++◌, length, slice_get, Option, Some, None, option_and_then}
 use Rattle.std.specs.List.{AllByRecursion, flat_map}
 use Rattle.ioam_run_files.specs.Desks.{Desks}
+use Rattle.ioam_run_files.specs.Failures.{AnswersFailures}
 use Rattle.ioam_run_files.specs.Outcomes.{IsDone, IsBehindAll}
 use Rattle.ioam_run_files.specs.Outcome.{Outcome}
 use Rattle.ioam_run_files.specs.Outcome.TheVariants as outcome
@@ -270,6 +271,9 @@ module _ (desks : Desks) (files : NodeNames) where
     pub exact : (asked : Outcome) → IsTrue desks.tells → Asked files desks.old asked
         → (Rose desks.old_in.side.faults desks.new_in.side.faults → ⊥) → (Rose desks.old.side.faults desks.new.side.faults → ⊥)
         → (answer ≡ asked) ⊎ (answer ≡ outcome.NoMemory)
+    -- what failed is answered, told or not: no call on an input failed where the words and the files decided the answer, and none on an output where
+    -- it is any but WriteFault
+    pub failures : AnswersFailures desks answer
     -- what the node sends has at most 262,144 octets, and what it sends to a port is one IPv6 packet, with a whole header chain
     -- and without an IOAM option
     pub boundary : IsBehindAll (desks.old.side.slots < desks.new.side.slots) answer → IsTrue desks.tells

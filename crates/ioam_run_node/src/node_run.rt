@@ -6,6 +6,9 @@ ghost use Rattle.ioam_desk.specs.Desk.{opened_each};
 ghost use Rattle.ioam_desk.specs.Kept.{KeepsInputs};
 ghost use Rattle.ioam_run_files.specs.DomainFault.{DomainFault};
 ghost use Rattle.ioam_desk_outputs.specs.Names.{AreApart};
+ghost use Rattle.ioam_run_files.specs.Answer.{refused_as};
+ghost use Rattle.ioam_run_files.specs.Failures.{AnswersFailures};
+ghost use Rattle.ioam_run_files.specs.Outcomes.{IsSettled};
 ghost use Rattle.ioam_run_files.specs.Setting.{IsSetting, Refuses};
 ghost use Rattle.ioam_run_files.specs.declared.setting.Refusal.{Refusal};
 ghost use Rattle.ioam_topo.specs.Domain.{nodes};
@@ -40,6 +43,7 @@ pub fn run_node<D: Desk>(alloc: Global, files: &NodeFiles<'_>, desk: &mut D) -> 
 // Reads the two files that the domain is set by, and runs the node.
 fn run_names<D: Desk>(alloc: Global, files: &NodeFiles<'_>, desk: &mut D) -> Outcome
     ensures owes { Owes D.tells files.now (D.reading desk.old) (D.reading desk.new) (D.writing desk.old) (D.writing desk.new) result }
+    ensures failures { AnswersFailures (around D.tells (D.reading desk.old) (D.reading desk.new) (D.writing desk.old) (D.writing desk.new)) result }
 {
     match read_names(alloc, files, desk) {
         Ok(setting) => run_set(alloc, files, &setting, desk),
@@ -56,6 +60,8 @@ fn read_names<D: Desk>(
     ensures read { IfOk result (λ setting. IsTrue D.tells
         → IsSetting (D.writing desk.old) files.now.domain files.now.readings setting.domain setting.readings) }
     ensures refused { IfErr result (Refuses (D.writing desk.old) files.now.domain files.now.readings D.tells (D.reading desk.old) (D.reading desk.new)) }
+    ensures settled { IfErr result (λ refusal. IsSettled (refused_as refusal)
+        → (D.reading desk.new).side.faults ≡ (D.reading desk.old).side.faults) }
     ensures side { OnOk result ((D.reading desk.new).side ≡ opened_each (D.reading desk.old).side (files.now.domain ∷ files.now.readings ∷ [])) }
     ensures ended { OnOk result (IsTrue D.tells → IsTrue ((D.reading desk.new).ended (D.reading desk.old).side.slots)
         × IsTrue ((D.reading desk.new).ended ((D.reading desk.old).side.slots + 1))) }
@@ -77,6 +83,7 @@ fn run_set<D: Desk>(
     desk: &mut D,
 ) -> Outcome
     ensures ends { Ends D.tells files.now (D.reading desk.old) (D.reading desk.new) (D.writing desk.old) (D.writing desk.new) setting.now.domain setting.now.readings result }
+    ensures failures { AnswersFailures (around D.tells (D.reading desk.old) (D.reading desk.new) (D.writing desk.old) (D.writing desk.new)) result }
 {
     let Some(node) = setting.domain.node_named(files.node.text()) else {
         return names_outcome(alloc, files.node);
@@ -99,6 +106,7 @@ fn run_at<D: Desk>(
     requires inside { node.0 < length (nodes setting.now.domain) }
     ensures ends { EndsAt D.tells files.now (D.reading desk.old) (D.reading desk.new) (D.writing desk.old) (D.writing desk.new)
         (seat_at setting.now.domain setting.now.readings node inward) result }
+    ensures failures { AnswersFailures (around D.tells (D.reading desk.old) (D.reading desk.new) (D.writing desk.old) (D.writing desk.new)) result }
 {
     let Ok(mut names) = node_files(alloc, files) else {
         return Outcome::NoMemory;
@@ -124,6 +132,7 @@ fn run_apart<D: Desk>(
     requires apart { AreApart (node_files files.now) }
     ensures ran { Ran D.tells files.now (D.reading desk.old) (D.reading desk.new) (D.writing desk.old) (D.writing desk.new)
         (seat_at setting.now.domain setting.now.readings node inward) result }
+    ensures failures { AnswersFailures (around D.tells (D.reading desk.old) (D.reading desk.new) (D.writing desk.old) (D.writing desk.new)) result }
 {
     let none = Passing {
         alloc,

@@ -10,4 +10,5 @@ returns g c = record {
       c.files.inside.node.now c.text.result.now c.files.inside.link.now c.text.ensures
       (ap (λ (n : AuditNames). n.node) c.files.view_is) (sym c.node_named.ensures.value ∙ c.in-Some.is)
       (ap (λ (n : AuditNames). n.link) c.files.view_is) (sym c.link_to.ensures.value ∙ c.in-Some-link_to.is) c.run_at.ensures.ends;
+  failures = c.run_at.ensures.failures;
 }

@@ -3,6 +3,7 @@ use Rattle.ioam_desk.specs.Desk as desk
 use Rattle.ioam_desk.specs.Desk.{Rose, Writing}
 use Rattle.ioam_run_audit.specs.Pairs.{place_of}
 use Rattle.ioam_run_audit.proofs.ClosedLaws.{closed_both, closed_finishes, closed_halts, closed_parts, cut_finishes, moves_on, moves_rest}
+use Rattle.ioam_run_answer.proofs.FailuresLaws.{failures-memory, failures-unsettled, failures-write}
 use Rattle.ioam_run_audit.proofs.comparison.run_open.Goals as goal
 
 -- ---- a read failed while the packets of BEFORE were judged
@@ -30,7 +31,27 @@ returns-in-Err-Read-clause-moves g c =
     (g.D.Desk.writing c.args.desk.now) (g.D.Desk.writing c.judge_all.new.desk) (g.D.Desk.writing c.cut_off.new.desk) c.in-Err-Read.ensures.moves
     c.cut_off.ensures.inputs c.cut_off.ensures.asked c.cut_off.ensures.slots (c.cut_off.ensures.kept g.start (place_of c.args.seat.now) judged.2)
 
--- ---- one failed behind BEFORE
+pub returns-in-Err-Read-clause-failures : goal.returns-in-Err-Read-clause-failures
+returns-in-Err-Read-clause-failures g c =
+    let judged = rw c.in-Err-Read.field-0-is at c.in-Err-Read.ensures.judged in
+    failures-unsettled g.D.Desk.tells (g.D.Desk.reading c.args.desk.now) (g.D.Desk.reading c.cut_off.new.desk)
+    (g.D.Desk.writing c.args.desk.now) (g.D.Desk.writing c.cut_off.new.desk) c.cut_off.result c.cut_off.ensures.unsettled
+    (λ other. c.cut_off.ensures.faults other ∙ ap (λ (s : desk.Side). s.faults) judged.1)
+
+-- ---- a write failed, or no memory could be had
+
+pub returns-in-Err-Write-clause-failures : goal.returns-in-Err-Write-clause-failures
+returns-in-Err-Write-clause-failures g c =
+    failures-write g.D.Desk.tells (g.D.Desk.reading c.args.desk.now) (g.D.Desk.reading c.judge_all.new.desk)
+    (g.D.Desk.writing c.args.desk.now) (g.D.Desk.writing c.judge_all.new.desk)
+
+pub returns-in-Err-NoMemory-clause-failures : goal.returns-in-Err-NoMemory-clause-failures
+returns-in-Err-NoMemory-clause-failures g c =
+    let judged = rw c.in-Err-NoMemory.field-0-is at c.in-Err-NoMemory.ensures.judged in
+    failures-memory g.D.Desk.tells (g.D.Desk.reading c.args.desk.now) (g.D.Desk.reading c.judge_all.new.desk)
+    (g.D.Desk.writing c.args.desk.now) (g.D.Desk.writing c.judge_all.new.desk) judged.0
+
+-- ---- a read failed behind BEFORE
 
 pub cut_off-requires-in-Err-Failed : goal.cut_off-requires-in-Err-Failed
 cut_off-requires-in-Err-Failed g c = record {
@@ -72,6 +93,20 @@ returns-in-Err-Failed-clause-moves g c =
     (g.D.Desk.writing c.args.desk.now) (g.D.Desk.writing c.rest.new.desk) (g.D.Desk.writing c.cut_off-in-Err-Failed.new.desk) read
     c.cut_off-in-Err-Failed.ensures.inputs c.cut_off-in-Err-Failed.ensures.asked c.cut_off-in-Err-Failed.ensures.slots
     (c.cut_off-in-Err-Failed.ensures.kept g.start (place_of c.args.seat.now) halted)
+
+pub returns-in-Err-Failed-clause-failures : goal.returns-in-Err-Failed-clause-failures
+returns-in-Err-Failed-clause-failures g c =
+    failures-unsettled g.D.Desk.tells (g.D.Desk.reading c.args.desk.now) (g.D.Desk.reading c.cut_off-in-Err-Failed.new.desk)
+    (g.D.Desk.writing c.args.desk.now) (g.D.Desk.writing c.cut_off-in-Err-Failed.new.desk) c.cut_off-in-Err-Failed.result
+    c.cut_off-in-Err-Failed.ensures.unsettled
+    (λ other. c.cut_off-in-Err-Failed.ensures.faults other ∙ ap (λ (w : Writing). w.side.faults) c.in-Err-Failed.ensures.outputs
+    ∙ ap (λ (s : desk.Side). s.faults) c.in-Ok.ensures.same_out)
+
+pub returns-in-Err-NoMemory-rest-clause-failures : goal.returns-in-Err-NoMemory-rest-clause-failures
+returns-in-Err-NoMemory-rest-clause-failures g c =
+    failures-memory g.D.Desk.tells (g.D.Desk.reading c.args.desk.now) (g.D.Desk.reading c.rest.new.desk)
+    (g.D.Desk.writing c.args.desk.now) (g.D.Desk.writing c.rest.new.desk)
+    (ap (λ (w : Writing). w.side.faults) c.in-Err-NoMemory-rest.ensures.outputs ∙ ap (λ (s : desk.Side). s.faults) c.in-Ok.ensures.same_out)
 
 pub returns-in-Err-NoMemory-rest-clause-finishes : goal.returns-in-Err-NoMemory-rest-clause-finishes
 returns-in-Err-NoMemory-rest-clause-finishes g c = inr (inr (record {
@@ -117,3 +152,11 @@ returns-clause-moves g c =
     moves_on first second g.start.base (g.D.Desk.reading c.args.desk.now) (g.D.Desk.reading c.rest.new.desk) (g.D.Desk.reading c.finish_with.new.desk)
     (g.D.Desk.writing c.args.desk.now) (g.D.Desk.writing c.rest.new.desk) (g.D.Desk.writing c.finish_with.new.desk) read
     c.finish_with.ensures.inputs c.finish_with.ensures.asked c.finish_with.ensures.slots (c.finish_with.ensures.kept g.start (place_of c.args.seat.now) both)
+
+pub returns-clause-failures : goal.returns-clause-failures
+returns-clause-failures g c = record {
+  reads = λ settled. ap (λ (r : desk.Reading). r.side.faults) c.finish_with.ensures.inputs ∙ ap (λ (s : desk.Side). s.faults) c.in-Ok-rest.ensures.same
+      ∙ ap (λ (s : desk.Side). s.faults) c.in-Ok.ensures.same_in;
+  writes = λ other. c.finish_with.ensures.faults other ∙ ap (λ (w : Writing). w.side.faults) c.in-Ok-rest.ensures.outputs
+      ∙ ap (λ (s : desk.Side). s.faults) c.in-Ok.ensures.same_out;
+}

@@ -1,7 +1,8 @@
 use Rattle.std.proofs.Common.{ap}
-use Rattle.ioam_desk.specs.Desk.{Writing}
+use Rattle.ioam_desk.specs.Desk.{Side, Writing}
 use Rattle.ioam_run_audit.specs.Ends.{start_of}
 use Rattle.ioam_run_audit.specs.Pairs.{place_of}
+use Rattle.ioam_run_answer.proofs.FailuresLaws.{failures-behind}
 use Rattle.ioam_run_audit.proofs.FilesLaws.{files_opened}
 use Rattle.ioam_run_audit.proofs.files.run_files.Goals as goal
 
@@ -16,4 +17,8 @@ returns-in-Ok-open_pair g c =
           c.in-Ok-open_pair.ensures.unread c.in-Ok-open_pair.ensures.outputs
           (ap (λ (w : Writing). start_of w c.args.before.now c.args.after.now c.args.report.now) c.in-Ok-open_pair.ensures.outputs)
           c.in-Ok-open_pair.ensures.first c.in-Ok-open_pair.ensures.second c.run_pair.ensures.runs;
+      failures = failures-behind g.D.Desk.tells (g.D.Desk.reading c.args.desk.now) (g.D.Desk.reading c.open_pair.new.desk) (g.D.Desk.reading c.run_pair.new.desk)
+          (g.D.Desk.writing c.args.desk.now) (g.D.Desk.writing c.open_pair.new.desk) (g.D.Desk.writing c.run_pair.new.desk) c.run_pair.result
+          (ap (λ (s : Side). s.faults) c.in-Ok-open_pair.ensures.side) (ap (λ (w : Writing). w.side.faults) c.in-Ok-open_pair.ensures.outputs)
+          c.run_pair.ensures.failures;
     }

@@ -1,11 +1,12 @@
 use Rattle.std.proofs.Common.{◌≡◌, ℕ, List, length, IsTrue, ◌∙◌, ap, subst, sym, rules}
 use Rattle.ioam_desk.specs.Asked.{AsksFront}
-use Rattle.ioam_desk.specs.Desk.{opened_each}
+use Rattle.ioam_desk.specs.Desk.{Reading, Side, opened_each}
 use Rattle.ioam_desk_outputs.specs.Held.{HoldFronts}
 use Rattle.ioam_desk_outputs.specs.Told.{GathersNothing}
 use Rattle.ioam_desk_outputs.specs.declared.output.Output.{Output}
 use Rattle.ioam_desk_outputs.proofs.ToldLaws.{Nothing-few}
 use Rattle.ioam_run_audit.specs.Pairs.{place_of}
+use Rattle.ioam_run_answer.proofs.FailuresLaws.{failures-memory, failures-behind, failures-write}
 use Rattle.ioam_run_audit.proofs.FilesLaws.{opened_runs, runs_failed, runs_none, runs_opened}
 use Rattle.ioam_run_audit.proofs.files.run_pair.Goals as goal
 
@@ -33,6 +34,9 @@ returns-in-Ok g c = record {
       c.requires.1.1.1.0 c.requires.1.1.0 c.in-Ok.ensures.inputs
       (c.in-Ok.ensures.side ∙ ap (λ (names : List (List ℕ)). opened_each (g.D.Desk.writing c.args.desk.now).side names) c.from_ref.ensures.value)
       c.in-Ok.ensures.kept c.run_open.ensures.finishes c.run_open.ensures.moves;
+  failures = failures-behind g.D.Desk.tells (g.D.Desk.reading c.args.desk.now) (g.D.Desk.reading c.open_outputs.new.desk) (g.D.Desk.reading c.run_open.new.desk)
+      (g.D.Desk.writing c.args.desk.now) (g.D.Desk.writing c.open_outputs.new.desk) (g.D.Desk.writing c.run_open.new.desk) c.run_open.result
+      (ap (λ (r : Reading). r.side.faults) c.in-Ok.ensures.inputs) (ap (λ (s : Side). s.faults) c.in-Ok.ensures.side) c.run_open.ensures.failures;
 }
 
 pub returns-in-Err-Failed : goal.returns-in-Err-Failed
@@ -47,6 +51,7 @@ returns-in-Err-Failed g c =
       runs = runs_failed g.D.Desk.tells g.start (place_of c.args.seat.now) c.args.before.now c.args.after.now c.args.pair.now.before.feed.slot c.args.pair.now.after.feed.slot
           (g.D.Desk.reading c.args.desk.now) (g.D.Desk.reading c.open_outputs.new.desk) old new c.args.report.now c.args.pair.now
           c.requires.1.1.1.0 c.requires.1.1.0 c.requires.1.0 c.in-Err-Failed.ensures.inputs asked c.in-Err-Failed.ensures.kept fronts fault.0;
+      failures = failures-write g.D.Desk.tells (g.D.Desk.reading c.args.desk.now) (g.D.Desk.reading c.open_outputs.new.desk) old new;
     }
 
 pub returns-in-Err-NoMemory : goal.returns-in-Err-NoMemory
@@ -61,4 +66,5 @@ returns-in-Err-NoMemory g c =
       runs = runs_none g.D.Desk.tells g.start (place_of c.args.seat.now) c.args.before.now c.args.after.now c.args.pair.now.before.feed.slot c.args.pair.now.after.feed.slot
           (g.D.Desk.reading c.args.desk.now) (g.D.Desk.reading c.open_outputs.new.desk) old new c.args.report.now c.args.pair.now
           c.requires.1.1.1.0 c.requires.1.1.0 c.requires.1.0 c.in-Err-NoMemory.ensures.inputs asked c.in-Err-NoMemory.ensures.kept fronts;
+      failures = failures-memory g.D.Desk.tells (g.D.Desk.reading c.args.desk.now) (g.D.Desk.reading c.open_outputs.new.desk) old new fault.0;
     }

@@ -1,4 +1,4 @@
-use Rattle.std.proofs.Common.{[], ◌∷◌, refl, ap, sym, subst, arith}
+use Rattle.std.proofs.Common.{[], ◌∷◌, refl, ap, sym, ◌∙◌, subst, arith}
 use Rattle.ioam_desk.specs.Desk as desk
 use Rattle.ioam_desk.specs.Desk.{Rose, Writing}
 use Rattle.ioam_desk_outputs.proofs.ToldLaws.{told_names, told_writes}
@@ -34,14 +34,18 @@ returns-in-Err-Failed-clause-judged g c = (
 )
 
 pub returns-in-Err-NoMemory-clause-judged : goal.returns-in-Err-NoMemory-clause-judged
-returns-in-Err-NoMemory-clause-judged g c =
-    running_sticks g.D.Desk.tells g.start (place_of c.args.seat.now) (g.D.Desk.reading c.args.desk.now) (g.D.Desk.writing c.args.desk.now) (g.D.Desk.writing c.next.new.desk)
-    c.args.pair.now c.args.outputs.now c.in-Err-NoMemory.ensures.outputs c.requires.1.0
+returns-in-Err-NoMemory-clause-judged g c = (
+  ap (λ (w : Writing). w.side.faults) c.in-Err-NoMemory.ensures.outputs,
+  running_sticks g.D.Desk.tells g.start (place_of c.args.seat.now) (g.D.Desk.reading c.args.desk.now) (g.D.Desk.writing c.args.desk.now) (g.D.Desk.writing c.next.new.desk)
+      c.args.pair.now c.args.outputs.now c.in-Err-NoMemory.ensures.outputs c.requires.1.0,
+)
 
 pub returns-in_default-clause-judged : goal.returns-in_default-clause-judged
-returns-in_default-clause-judged g c =
-    running_sticks g.D.Desk.tells g.start (place_of c.args.seat.now) (g.D.Desk.reading c.args.desk.now) (g.D.Desk.writing c.args.desk.now) (g.D.Desk.writing c.next.new.desk)
-    c.args.pair.now c.args.outputs.now c.in-Ok-Record.ensures.outputs c.requires.1.0
+returns-in_default-clause-judged g c = (
+  ap (λ (w : Writing). w.side.faults) c.in-Ok-Record.ensures.outputs,
+  running_sticks g.D.Desk.tells g.start (place_of c.args.seat.now) (g.D.Desk.reading c.args.desk.now) (g.D.Desk.writing c.args.desk.now) (g.D.Desk.writing c.next.new.desk)
+      c.args.pair.now c.args.outputs.now c.in-Ok-Record.ensures.outputs c.requires.1.0,
+)
 
 pub put-requires-clause-packet : goal.put-requires-clause-packet
 put-requires-clause-packet g c =
@@ -146,8 +150,11 @@ returns-in-Err-NoMemory-flush_full-clause-judged g c =
     let one = told_names tells (g.D.Desk.writing c.args.desk.now) g.start.base (g.start.report ∷ []) c.args.outputs.now (lines_of 1 running.fates ∷ []) running.told in
     let before = told_on tells g.start place (g.D.Desk.writing c.args.desk.now) mid_out c.args.outputs.now running.fates c.in-Ok-Record.ensures.outputs running.told in
     let told = put_told tells g.start place mid_in pair running.fates why fate due of mid_out c.args.outputs.now _ (Adds-one _ _ _ _ one refl text) before in
-    put_sticks tells g.start place mid_in pair running.fates why fate due of (g.D.Desk.writing c.flush_full.new.desk)
-    (λ so. c.in-Err-NoMemory-flush_full.ensures.fronts so g.start.base (g.start.report ∷ []) _ told)
+    let same = rw c.in-Err-NoMemory-flush_full.field-0-is at c.in-Err-NoMemory-flush_full.ensures.cause in (
+      same ∙ ap (λ (w : Writing). w.side.faults) c.in-Ok-Record.ensures.outputs,
+      put_sticks tells g.start place mid_in pair running.fates why fate due of (g.D.Desk.writing c.flush_full.new.desk)
+          (λ so. c.in-Err-NoMemory-flush_full.ensures.fronts so g.start.base (g.start.report ∷ []) _ told),
+    )
 
 pub returns-in-Ok-flush_full-clause-moves : goal.returns-in-Ok-flush_full-clause-moves
 returns-in-Ok-flush_full-clause-moves g c =

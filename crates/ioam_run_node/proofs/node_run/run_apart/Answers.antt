@@ -29,4 +29,5 @@ returns g c = record {
         kept_in = c.run_capture.ensures.kept_in;
         kept_out = c.run_capture.ensures.kept_out;
       });
+  failures = c.run_capture.ensures.failures;
 }

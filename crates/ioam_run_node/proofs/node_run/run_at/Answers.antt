@@ -4,13 +4,17 @@ use Rattle.ioam_run_node.specs.Ends.{IsTwice}
 use Rattle.ioam_run_node.specs.Promise.{node_files}
 use Rattle.ioam_run_node.specs.Seat.{seat_at}
 use Rattle.ioam_run_node.proofs.EndsLaws.{stays_file, stays_none, taken_name}
+use Rattle.ioam_run_stream.proofs.FailuresLaws.{failures-none}
 use Rattle.ioam_run_node.proofs.node_run.run_at.Goals as goal
 
 pub returns-in_default : goal.returns-in_default
 returns-in_default g c =
     let reading = g.D.Desk.reading c.args.desk.now in
     let writing = g.D.Desk.writing c.args.desk.now in
-    record { ends = inl (stays_none g.D.Desk.tells c.args.files.now reading writing (IsTwice g.D.Desk.tells c.args.files.now reading reading writing writing)) }
+    record {
+      ends = inl (stays_none g.D.Desk.tells c.args.files.now reading writing (IsTwice g.D.Desk.tells c.args.files.now reading reading writing writing));
+      failures = failures-none g.D.Desk.tells reading reading writing writing _ refl refl;
+    }
 
 pub returns-in-Some : goal.returns-in-Some
 returns-in-Some g c =
@@ -22,6 +26,7 @@ returns-in-Some g c =
       ends = stays_file g.D.Desk.tells files (g.D.Desk.reading c.args.desk.now) (g.D.Desk.writing c.args.desk.now)
           (seat_at c.args.setting.now.domain c.args.setting.now.readings c.args.node c.args.inward) (node_files files) c.in-Some.at c.swap_remove.result refl first
           (taken_name (node_files files) c.in-Ok.names.items c.in-Some.at c.swap_remove.result c.in-Ok.ensures c.swap_remove.ensures.value first.inside);
+      failures = failures-none g.D.Desk.tells (g.D.Desk.reading c.args.desk.now) _ (g.D.Desk.writing c.args.desk.now) _ _ refl refl;
     }
 
 pub run_apart-requires-clause-apart : goal.run_apart-requires-clause-apart
@@ -30,4 +35,4 @@ run_apart-requires-clause-apart g c =
     subst AreApart lent c.in-None.ensures
 
 pub returns : goal.returns
-returns g c = record { ends = inr c.run_apart.ensures.ran }
+returns g c = record { ends = inr c.run_apart.ensures.ran; failures = c.run_apart.ensures.failures }

@@ -9,6 +9,7 @@ returns g c = record {
     exact = λ asked told asks reads writes.
         HasCause-asked c.args.files.now (g.D.Desk.writing c.args.desk.now) (g.D.Desk.reading c.args.desk.now) (g.D.Desk.reading c.run_names.new.desk)
         (g.D.Desk.writing c.run_names.new.desk) c.run_names.result asked (c.run_names.ensures.owes.cause told) asks reads writes;
+    failures = c.run_names.ensures.failures;
     boundary = λ behind told.
         Leaves-bounded c.args.files.now (g.D.Desk.reading c.args.desk.now) (g.D.Desk.reading c.run_names.new.desk)
         (g.D.Desk.writing c.args.desk.now) (g.D.Desk.writing c.run_names.new.desk) c.run_names.result (c.run_names.ensures.owes.leaves told) behind;

@@ -10,4 +10,5 @@ returns g c = record {
       c.in-Some.node c.in-Some-inward_of.inward c.files.inside.node.now c.text.result.now c.files.inside.link.now c.text.ensures
       (ap (λ (n : NodeNames). n.node) c.files.view_is) (sym c.node_named.ensures.value ∙ c.in-Some.is)
       (ap (λ (n : NodeNames). n.link) c.files.view_is) (sym c.inward_of.ensures ∙ c.in-Some-inward_of.is) c.run_at.ensures.ends;
+  failures = c.run_at.ensures.failures;
 }
