@@ -1,5 +1,5 @@
 //! Export records that are read in pieces and regrouped, to their end or to what stops them.
-ghost use Rattle.std.specs.Prelude.{◌≡◌, List, ℕ, Option, IfOk, length};
+ghost use Rattle.std.specs.Prelude.{◌≡◌, ◌≢◌, List, ℕ, Option, IfOk, length};
 ghost use Rattle.ioam_dex.specs.Record.{Record};
 ghost use Rattle.ioam_dex.specs.Reader.{fed};
 ghost use Rattle.ioam_collect_stream.specs.Feed.{Fed};
@@ -63,6 +63,8 @@ pub fn gather<D: Desk>(
         × Gathers octets records feed.old.reader collector.old }
     requires room { length piece.old ≡ PIECE }
     ensures halts { Halts D.tells content feed.old.slot (D.reading desk.old) (D.reading desk.new) collector.new result }
+    // A read that failed is answered: behind any other answer the side of the inputs is as it was.
+    ensures same { result ≢ Halt.ReadFault → (D.reading desk.new).side ≡ (D.reading desk.old).side }
     ensures kept_in { ReadsOne feed.old.slot (D.reading desk.old) (D.reading desk.new) }
     ensures asked { (D.reading desk.new).side.asked ≡ (D.reading desk.old).side.asked }
     ensures slots { (D.reading desk.new).side.slots ≡ (D.reading desk.old).side.slots }

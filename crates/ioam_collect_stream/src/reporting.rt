@@ -40,6 +40,7 @@ pub fn write_report<D: Desk>(
     // Where the collector stands for records, the report is their text.
     ensures records { (xs : List Record) → Stands collector.now xs → length xs < 2 ^ 64 → collected_text collector.now ≡ records_text xs }
     ensures cause { IfErr result (IsFaultOf (D.writing desk.old).side (D.writing desk.new).side) }
+    ensures same { OnOk result ((D.writing desk.new).side ≡ (D.writing desk.old).side) }
     ensures asked { (D.writing desk.new).side.asked ≡ (D.writing desk.old).side.asked }
     ensures slots { (D.writing desk.new).side.slots ≡ (D.writing desk.old).side.slots }
     ensures kept { (slot : ℕ) (names texts : List (List ℕ)) → AreTold D.tells (D.writing desk.old) slot names outputs.old texts

@@ -7,6 +7,7 @@ use Rattle.ioam_desk.specs.Asked.{AsksFront}
 use Rattle.ioam_desk.specs.Desk.{Writing, Rose, holds}
 use Rattle.ioam_desk.specs.Kept.{KeepsOutputs}
 use Rattle.ioam_run_answer.specs.Desks.{Desks}
+use Rattle.ioam_run_answer.specs.Failures.{AnswersFailures}
 use Rattle.ioam_run_answer.specs.Outcomes.{IsDone}
 use Rattle.ioam_run_arrivals.specs.Fate.{Fate, AreFates}
 use Rattle.ioam_run_arrivals.specs.Texts.{ways_of}
@@ -72,5 +73,7 @@ module _ (desks : Desks) (seed count : ℕ) (report : List ℕ) where
     pub asked_out : AsksFront desks.old.side.asked desks.new.side.asked (report ∷ [])
     pub all_out : IsDone answer → desks.new.side.asked ≡ desks.old.side.asked ++ report ∷ []
     pub inputs : desks.new_in ≡ desks.old_in
+    -- what failed is answered: neither passed over nor tried again
+    pub failures : AnswersFailures desks answer
     -- output slots that were there, and names other than REPORT, are as they were where the desk tells
     pub kept_out : IsTrue desks.tells → KeepsOutputs desks.old desks.new

@@ -1,5 +1,5 @@
 //! `bulk SEED COUNT WORKERS REPORT`.
-ghost use Rattle.std.specs.Prelude.{◌≡◌, ◌⊎◌, ◌≤◌, ◌∷◌, ◌++◌, [], IfErr, IsTrue, OnOk, length};
+ghost use Rattle.std.specs.Prelude.{◌≡◌, ◌≢◌, ◌⊎◌, ◌≤◌, ◌∷◌, ◌++◌, [], IfErr, IsTrue, OnOk, length};
 ghost use Rattle.ioam_run_answer.specs.Outcomes.{IsDone};
 ghost use Rattle.ioam_run_answer.specs.declared.outcome.Outcome.{Outcome};
 ghost use Rattle.ioam_desk.specs.Asked.{AsksFront, IsFaultOf};
@@ -64,6 +64,7 @@ fn run_load<R: Threads + Sync, D: Desk, G: Gate>(
     ensures cause { HasCause (D.writing desk.old) (D.writing desk.new) result }
     ensures exact { (Rose (D.writing desk.old).side.faults (D.writing desk.new).side.faults → ⊥)
         → (result ≡ Outcome.Done) ⊎ (result ≡ Outcome.NoMemory) }
+    ensures faults { result ≢ Outcome.WriteFault → (D.writing desk.new).side.faults ≡ (D.writing desk.old).side.faults }
     ensures asked_out { AsksFront (D.writing desk.old).side.asked (D.writing desk.new).side.asked (report.now ∷ []) }
     ensures all_out { IsDone result → (D.writing desk.new).side.asked ≡ (D.writing desk.old).side.asked ++ report.now ∷ [] }
     ensures kept_in { D.reading desk.new ≡ D.reading desk.old }
@@ -90,6 +91,7 @@ fn write_sums<R: Threads + Sync, D: Desk, G: Gate>(
     ensures held { OnOk result (IsTrue D.tells → HoldsReport demand.now.seed demand.now.count (name_at reports.now 0) (D.writing desk.new)) }
     ensures front { IsTrue D.tells → HoldsFront demand.now.seed demand.now.count (name_at reports.now 0) (D.writing desk.old) (D.writing desk.new) }
     ensures cause { IfErr result (IsFaultOf (D.writing desk.old).side (D.writing desk.new).side) }
+    ensures faults { OnOk result ((D.writing desk.new).side.faults ≡ (D.writing desk.old).side.faults) }
     ensures asked_out { AsksFront (D.writing desk.old).side.asked (D.writing desk.new).side.asked reports.now }
     ensures all_out { OnOk result ((D.writing desk.new).side.asked ≡ (D.writing desk.old).side.asked ++ reports.now) }
     ensures kept_in { D.reading desk.new ≡ D.reading desk.old }

@@ -85,6 +85,7 @@ pub(crate) fn write_report<R: Threads + Sync, D: Desk, G: Gate>(
         → AreTold D.tells (D.writing desk.old) slot names outputs.old texts
         → (text : List ℕ) × MayReport demand.now.seed demand.now.count text × HoldAllFronts (D.writing desk.new) names (said_more texts (text ∷ [])) }
     ensures cause { IfErr result (IsFaultOf (D.writing desk.old).side (D.writing desk.new).side) }
+    ensures same { OnOk result ((D.writing desk.new).side ≡ (D.writing desk.old).side) }
     ensures asked { (D.writing desk.new).side.asked ≡ (D.writing desk.old).side.asked }
     ensures slots { (D.writing desk.new).side.slots ≡ (D.writing desk.old).side.slots }
     ensures kept { (slot : ℕ) (names texts : List (List ℕ)) → AreTold D.tells (D.writing desk.old) slot names outputs.old texts

@@ -1,5 +1,6 @@
 mod RecordsLaws
 mod AskedLaws
+mod FailuresLaws
 mod FinishesLaws
 mod KeptLaws
 mod WordsLaws

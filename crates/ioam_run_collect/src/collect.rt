@@ -4,6 +4,7 @@ ghost use Rattle.ioam_desk.specs.Asked.{AsksFront};
 ghost use Rattle.ioam_desk.specs.Desk.{holds};
 ghost use Rattle.ioam_desk.specs.Kept.{KeepsInputs, KeepsOutputs};
 ghost use Rattle.ioam_run_answer.specs.Desks.{around};
+ghost use Rattle.ioam_run_answer.specs.Failures.{AnswersFailures};
 ghost use Rattle.ioam_run_answer.specs.Outcomes.{IsDone, IsBehindAll, OpensNothing};
 ghost use Rattle.ioam_run_collect.specs.Promise.{HasCause, Keeps, Leaves};
 
@@ -42,6 +43,7 @@ fn run_names<D: Desk>(alloc: Global, files: &CollectFiles<'_>, desk: &mut D) -> 
     ensures unread { IsTrue D.tells → (D.writing desk.new).side.slots ≡ (D.writing desk.old).side.slots → (D.reading desk.old).side.slots < (D.reading desk.new).side.slots
         → holds (D.writing desk.old) files.now.exports ≡ Some ((D.reading desk.new).left (D.reading desk.old).side.slots) }
     ensures drained { IsDone result → IsTrue D.tells → IsTrue ((D.reading desk.new).ended (D.reading desk.old).side.slots) }
+    ensures failures { AnswersFailures (around D.tells (D.reading desk.old) (D.reading desk.new) (D.writing desk.old) (D.writing desk.new)) result }
     ensures kept_in { KeepsInputs (D.reading desk.old) (D.reading desk.new) }
     ensures kept_out { IsTrue D.tells → KeepsOutputs (D.writing desk.old) (D.writing desk.new) }
 {

@@ -7,6 +7,8 @@ ghost use Rattle.ioam_collect.specs.Collected as collected;
 ghost use Rattle.ioam_desk_outputs.specs.Told.{AreTold};
 ghost use Rattle.ioam_collect_stream.specs.Feed.{Fed};
 ghost use Rattle.ioam_collect_stream.specs.Gathering.{Gathers, ReadsOne};
+ghost use Rattle.ioam_run_answer.specs.Desks.{around};
+ghost use Rattle.ioam_run_answer.specs.Failures.{AnswersFailures};
 ghost use Rattle.ioam_run_answer.specs.Outcomes.{IsDone, IsBehindAll};
 ghost use Rattle.ioam_run_collect.specs.Promise.{Leaves};
 ghost use Rattle.ioam_run_collect.specs.Ends.{FileCause, Finishes, Start, is_out, outcome_of};
@@ -41,6 +43,7 @@ pub(crate) fn run_files<D: Desk>(
     ensures unread { IsTrue D.tells → (D.writing desk.new).side.slots ≡ (D.writing desk.old).side.slots → (D.reading desk.old).side.slots < (D.reading desk.new).side.slots
         → start.content ≡ Some ((D.reading desk.new).left (D.reading desk.old).side.slots) }
     ensures drained { IsDone result → IsTrue D.tells → IsTrue ((D.reading desk.new).ended (D.reading desk.old).side.slots) }
+    ensures failures { AnswersFailures (around D.tells (D.reading desk.old) (D.reading desk.new) (D.writing desk.old) (D.writing desk.new)) result }
     ensures kept_in { KeepsInputs (D.reading desk.old) (D.reading desk.new) }
     ensures kept_out { IsTrue D.tells → KeepsOutputs (D.writing desk.old) (D.writing desk.new) }
 {
@@ -100,6 +103,7 @@ fn run_open<D: Desk>(
     ensures slots_in { (D.reading desk.new).side.slots ≡ (D.reading desk.old).side.slots }
     ensures asked_out { (D.writing desk.new).side.asked ≡ (D.writing desk.old).side.asked }
     ensures slots_out { (D.writing desk.new).side.slots ≡ (D.writing desk.old).side.slots }
+    ensures failures { AnswersFailures (around D.tells (D.reading desk.old) (D.reading desk.new) (D.writing desk.old) (D.writing desk.new)) result }
     ensures kept_in { ReadsOne feed.old.slot (D.reading desk.old) (D.reading desk.new) }
     ensures kept_out { WritesFrom start.base (D.writing desk.old) (D.writing desk.new) }
 {

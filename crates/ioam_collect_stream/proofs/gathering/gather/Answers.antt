@@ -129,3 +129,15 @@ pieces-init g c = record {
   kept = ReadsOne-same c.args.feed.now.slot (g.D.Desk.reading c.args.desk.now);
   outputs = refl;
 }
+
+pub returns-in-Some-clause-same : goal.returns-in-Some-clause-same
+returns-in-Some-clause-same g c = λ other. let ends = rw c.in-Ok-false.field-0-test at c.in-Ok-false.ensures.read in ends.gives.side ∙ c.pieces.invariant.side
+
+pub returns-in-None-clause-same : goal.returns-in-None-clause-same
+returns-in-None-clause-same g c = λ other. let ends = rw c.in-Ok-false.field-0-test at c.in-Ok-false.ensures.read in ends.gives.side ∙ c.pieces.invariant.side
+
+pub returns-in-Err-Failed-clause-same : goal.returns-in-Err-Failed-clause-same
+returns-in-Err-Failed-clause-same g c = λ other. absurd (other refl)
+
+pub returns-in-Err-NoMemory-clause-same : goal.returns-in-Err-NoMemory-clause-same
+returns-in-Err-NoMemory-clause-same g c = λ other. let lacks = rw c.in-Err-NoMemory.field-0-is at c.in-Err-NoMemory.ensures.read in lacks.side ∙ c.pieces.invariant.side

@@ -1,3 +1,5 @@
+use Rattle.std.proofs.Common.{ap}
+use Rattle.ioam_desk.specs.Desk.{Reading}
 use Rattle.ioam_run_bulk.proofs.bulk.run_bulk.Goals as goal
 
 pub returns : goal.returns
@@ -9,6 +11,10 @@ returns g c = record {
     asked_out = c.run_load.ensures.asked_out;
     all_out = c.run_load.ensures.all_out;
     inputs = c.run_load.ensures.kept_in;
+    failures = record {
+      reads = λ settled. ap (λ (r : Reading). r.side.faults) c.run_load.ensures.kept_in;
+      writes = c.run_load.ensures.faults;
+    };
     kept_out = c.run_load.ensures.kept_out;
   };
 }

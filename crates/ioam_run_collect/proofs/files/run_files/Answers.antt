@@ -5,6 +5,9 @@ use Rattle.ioam_desk.specs.Desk.{Side, Writing, Rose, holds}
 use Rattle.ioam_desk.proofs.KeptLaws.{KeepsInputs-same, KeepsOutputs-same, KeepsOutputs-then, KeepsOutputs-from}
 use Rattle.ioam_collect_stream.specs.Feed.{Fed}
 use Rattle.ioam_collect_stream.specs.Gathering.{ReadsOne}
+use Rattle.ioam_run_answer.specs.Desks.{around}
+use Rattle.ioam_run_answer.specs.declared.outcome.Outcome.TheVariants as outcome
+use Rattle.ioam_run_answer.proofs.FailuresLaws.{failures-read, failures-write, failures-memory, failures-none, failures-behind}
 use Rattle.ioam_run_collect.proofs.FinishesLaws.{Finishes-cause, Finishes-leaves, Finishes-drained, fed_start, gathers_none, unwritten, unsaid_start}
 use Rattle.ioam_run_collect.proofs.KeptLaws.{ReadsOne-same, KeepsInputs-unopened, KeepsInputs-opened, untouched}
 use Rattle.ioam_run_collect.proofs.WordsLaws.{one_apart}
@@ -323,3 +326,33 @@ returns-clause-unread g c = λ told unopened opened.
     _ c.in-Ok-open_exports.feed.slot c.in-Ok-open_exports.ensures.opened
     (c.requires.1.0 ∙ sym (ap (λ (name : List ℕ). holds (g.D.Desk.writing c.args.desk.now) name) c.text.ensures))
     c.in-Err-NoMemory-open_outputs.ensures.inputs told
+
+pub returns-in_default-clause-failures : goal.returns-in_default-clause-failures
+returns-in_default-clause-failures g c = failures-none g.D.Desk.tells (g.D.Desk.reading c.args.desk.now) (g.D.Desk.reading c.args.desk.now) (g.D.Desk.writing c.args.desk.now) (g.D.Desk.writing c.args.desk.now) outcome.NoMemory refl refl
+
+pub returns-in-Err-Failed-clause-failures : goal.returns-in-Err-Failed-clause-failures
+returns-in-Err-Failed-clause-failures g c =
+    failures-read g.D.Desk.tells (g.D.Desk.reading c.args.desk.now) (g.D.Desk.reading c.open_exports.new.desk) (g.D.Desk.writing c.args.desk.now) (g.D.Desk.writing c.open_exports.new.desk)
+    (ap (λ (w : Writing). w.side.faults) c.in-Err-Failed.ensures.outputs)
+
+pub returns-in-Err-NoMemory-clause-failures : goal.returns-in-Err-NoMemory-clause-failures
+returns-in-Err-NoMemory-clause-failures g c =
+    failures-memory g.D.Desk.tells (g.D.Desk.reading c.args.desk.now) (g.D.Desk.reading c.open_exports.new.desk) (g.D.Desk.writing c.args.desk.now) (g.D.Desk.writing c.open_exports.new.desk)
+    (ap (λ (w : Writing). w.side.faults) c.in-Err-NoMemory.ensures.outputs)
+
+pub returns-in-Ok-open_outputs-clause-failures : goal.returns-in-Ok-open_outputs-clause-failures
+returns-in-Ok-open_outputs-clause-failures g c = failures-behind g.D.Desk.tells
+    (g.D.Desk.reading c.args.desk.now) (g.D.Desk.reading c.open_outputs.new.desk) (g.D.Desk.reading c.run_open.new.desk)
+    (g.D.Desk.writing c.args.desk.now) (g.D.Desk.writing c.open_outputs.new.desk) (g.D.Desk.writing c.run_open.new.desk) c.run_open.result
+    (ap (λ (r : desk.Reading). r.side.faults) c.in-Ok-open_outputs.ensures.inputs ∙ ap (λ (s : Side). s.faults) c.in-Ok-open_exports.ensures.opened.side)
+    (ap (λ (s : Side). s.faults) c.in-Ok-open_outputs.ensures.side ∙ ap (λ (w : Writing). w.side.faults) c.in-Ok-open_exports.ensures.outputs)
+    c.run_open.ensures.failures
+
+pub returns-in-Err-Failed-open_outputs-clause-failures : goal.returns-in-Err-Failed-open_outputs-clause-failures
+returns-in-Err-Failed-open_outputs-clause-failures g c = failures-write g.D.Desk.tells (g.D.Desk.reading c.args.desk.now) (g.D.Desk.reading c.open_outputs.new.desk) (g.D.Desk.writing c.args.desk.now) (g.D.Desk.writing c.open_outputs.new.desk)
+
+pub returns-clause-failures : goal.returns-clause-failures
+returns-clause-failures g c =
+    let failed = rw c.in-Err-NoMemory-open_outputs.field-0-is at c.in-Err-NoMemory-open_outputs.ensures.fault in
+    failures-memory g.D.Desk.tells (g.D.Desk.reading c.args.desk.now) (g.D.Desk.reading c.open_outputs.new.desk) (g.D.Desk.writing c.args.desk.now) (g.D.Desk.writing c.open_outputs.new.desk)
+    (failed.0 ∙ ap (λ (w : Writing). w.side.faults) c.in-Ok-open_exports.ensures.outputs)

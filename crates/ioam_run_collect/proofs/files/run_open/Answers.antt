@@ -3,6 +3,9 @@ use Rattle.ioam_desk.specs.Desk as desk
 use Rattle.ioam_desk.specs.Desk.{Side, Writing}
 use Rattle.ioam_desk.proofs.KeptLaws.{WritesFrom-same, WritesFrom-then}
 use Rattle.ioam_run_collect.specs.Ends.{Finishes, outcome_of}
+use Rattle.ioam_run_answer.specs.Desks.{around}
+use Rattle.ioam_run_answer.proofs.FailuresLaws.{failures-write, failures-memory}
+use Rattle.ioam_run_collect.proofs.FailuresLaws.{answers_halt}
 use Rattle.ioam_run_collect.proofs.FinishesLaws.{unsaid_still, unsaid_open, unsaid_one, Sticks-begun, Finishes-written, Halts-sticks}
 use Rattle.ioam_run_collect.proofs.KeptLaws.{ReadsOne-on}
 use Rattle.ioam_run_collect.proofs.files.run_open.Goals as goal
@@ -83,3 +86,22 @@ returns-in-Err-NoMemory-clause-finishes g c =
     Halts-sticks g.D.Desk.tells g.start c.args.feed.now.slot (g.D.Desk.reading c.args.desk.now) (g.D.Desk.reading c.gather-halt.new.desk)
     (g.D.Desk.writing c.args.desk.now) (g.D.Desk.writing c.gather-halt.new.desk) (g.D.Desk.writing c.write_report.new.desk) c.args.outputs.now c.gather-halt.new.collector told
     c.write_report.ensures.records c.write_report.ensures.fronts c.gather-halt.result (sym c.is_out.ensures ∙ c.if-is_out.false) c.gather-halt.ensures.halts
+
+pub returns-then-is_out-clause-failures : goal.returns-then-is_out-clause-failures
+returns-then-is_out-clause-failures g c =
+    failures-memory g.D.Desk.tells (g.D.Desk.reading c.args.desk.now) (g.D.Desk.reading c.gather-halt.new.desk) (g.D.Desk.writing c.args.desk.now) (g.D.Desk.writing c.gather-halt.new.desk)
+    (ap (λ (w : Writing). w.side.faults) c.gather-halt.ensures.outputs)
+
+pub returns-in-Ok-clause-failures : goal.returns-in-Ok-clause-failures
+returns-in-Ok-clause-failures g c = rw c.outcome_of.ensures (answers_halt g.D.Desk.tells (g.D.Desk.reading c.args.desk.now) (g.D.Desk.reading c.gather-halt.new.desk) (g.D.Desk.reading c.write_report.new.desk)
+    (g.D.Desk.writing c.args.desk.now) (g.D.Desk.writing c.gather-halt.new.desk) (g.D.Desk.writing c.write_report.new.desk) c.gather-halt.result
+    c.gather-halt.ensures.same c.write_report.ensures.inputs c.gather-halt.ensures.outputs c.in-Ok.ensures.same)
+
+pub returns-in-Err-Failed-clause-failures : goal.returns-in-Err-Failed-clause-failures
+returns-in-Err-Failed-clause-failures g c = failures-write g.D.Desk.tells (g.D.Desk.reading c.args.desk.now) (g.D.Desk.reading c.write_report.new.desk) (g.D.Desk.writing c.args.desk.now) (g.D.Desk.writing c.write_report.new.desk)
+
+pub returns-in-Err-NoMemory-clause-failures : goal.returns-in-Err-NoMemory-clause-failures
+returns-in-Err-NoMemory-clause-failures g c =
+    let same = rw c.in-Err-NoMemory.field-0-is at c.in-Err-NoMemory.ensures.cause in
+    failures-memory g.D.Desk.tells (g.D.Desk.reading c.args.desk.now) (g.D.Desk.reading c.write_report.new.desk) (g.D.Desk.writing c.args.desk.now) (g.D.Desk.writing c.write_report.new.desk)
+    (same ∙ ap (λ (w : Writing). w.side.faults) c.gather-halt.ensures.outputs)
