@@ -2,6 +2,7 @@ mod AskedLaws
 pub mod BackLaws
 mod BoundsLaws
 mod ExportsLaws
+mod BrokenLaws
 mod FewLaws
 mod GoesLaws
 mod IpfixLaws

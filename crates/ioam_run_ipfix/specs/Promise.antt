@@ -9,6 +9,7 @@ use Rattle.ioam_dex.specs.Reads as dex
 use Rattle.ioam_ipfix.specs.Reads as ipfix
 use Rattle.ioam_ipfix.specs.Written.{runs_of}
 use Rattle.ioam_run_answer.specs.Desks.{Desks}
+use Rattle.ioam_run_answer.specs.Failures.{AnswersFailures}
 use Rattle.ioam_run_answer.specs.Outcomes.{IsDone, IsBehindAll, OpensNothing}
 use Rattle.ioam_run_answer.specs.declared.outcome.Outcome.{Outcome}
 use Rattle.ioam_run_answer.specs.declared.outcome.Outcome.TheVariants as outcome
@@ -160,6 +161,9 @@ module _ (desks : Desks) (files : IpfixNames) where
     pub unread : IsTrue desks.tells → desks.new.side.slots ≡ desks.old.side.slots → desks.old_in.side.slots < desks.new_in.side.slots
         → exported ≡ Some (desks.new_in.left desks.old_in.side.slots)
     pub drained : IsDone answer → IsTrue desks.tells → IsTrue (desks.new_in.ended desks.old_in.side.slots)
+    -- what failed is answered, told or not: no call of an input failed where the words and the files decided the answer, and
+    -- none of an output where it is any but WriteFault
+    pub failures : AnswersFailures desks answer
     -- input slots that were there, and where the desk tells output slots that were there and names that weren't opened to be written, are as they were
     pub kept_in : KeepsInputs desks.old_in desks.new_in
     pub kept_out : IsTrue desks.tells → KeepsOutputs desks.old desks.new
@@ -190,6 +194,9 @@ module _ (desks : Desks) (files : RecordsNames) where
     pub unread : IsTrue desks.tells → desks.new.side.slots ≡ desks.old.side.slots → desks.old_in.side.slots < desks.new_in.side.slots
         → read ≡ Some (desks.new_in.left desks.old_in.side.slots)
     pub drained : IsDone answer → IsTrue desks.tells → IsTrue (desks.new_in.ended desks.old_in.side.slots)
+    -- what failed is answered, told or not: no call of an input failed where the words and the files decided the answer, and
+    -- none of an output where it is any but WriteFault
+    pub failures : AnswersFailures desks answer
     -- input slots that were there, and where the desk tells output slots that were there and names that weren't opened to be written, are as they were
     pub kept_in : KeepsInputs desks.old_in desks.new_in
     pub kept_out : IsTrue desks.tells → KeepsOutputs desks.old desks.new

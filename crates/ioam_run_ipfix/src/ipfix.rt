@@ -4,6 +4,7 @@ ghost use Rattle.ioam_desk.specs.Desk.{holds};
 ghost use Rattle.ioam_desk_outputs.specs.Told.{GathersNothing};
 ghost use Rattle.ioam_dex.specs.Reader.{Stands};
 ghost use Rattle.ioam_run_answer.specs.Desks.{around};
+ghost use Rattle.ioam_run_answer.specs.Failures.{AnswersFailures};
 ghost use Rattle.ioam_run_answer.specs.Outcomes.{OpensNothing};
 ghost use Rattle.ioam_run_ipfix.specs.Ends.{IpfixEnds};
 ghost use Rattle.ioam_run_ipfix.specs.Exports.{AreFirst};
@@ -45,6 +46,7 @@ fn run_names<D: Desk>(alloc: Global, files: &IpfixFiles<'_>, desk: &mut D) -> Ou
         (D.reading desk.old) (D.reading desk.new) (D.writing desk.old) (D.writing desk.new) result }
     ensures leaves { IsTrue D.tells → IpfixLeaves (holds (D.writing desk.old) files.now.exports) files.now.out
         (D.reading desk.old) (D.reading desk.new) (D.writing desk.old) (D.writing desk.new) result }
+    ensures failures { AnswersFailures (around D.tells (D.reading desk.old) (D.reading desk.new) (D.writing desk.old) (D.writing desk.new)) result }
     ensures bounds { Bounds D.tells files.now.exports files.now.out (D.reading desk.old) (D.reading desk.new) (D.writing desk.old) (D.writing desk.new) result }
     ensures unopened { OpensNothing result → D.reading desk.new ≡ D.reading desk.old }
     ensures differed { (D.reading desk.new ≡ D.reading desk.old) ⊎ (files.now.exports ≢ files.now.out) }
@@ -65,6 +67,7 @@ fn run_files<D: Desk>(alloc: Global, exports: &Name, outs: &[Name], desk: &mut D
     requires apart { exports.now ≢ start.out }
     ensures cause { IpfixCause D.tells start.content exports.now start.out (D.reading desk.old) (D.reading desk.new) (D.writing desk.old) (D.writing desk.new) result }
     ensures leaves { IsTrue D.tells → IpfixLeaves start.content start.out (D.reading desk.old) (D.reading desk.new) (D.writing desk.old) (D.writing desk.new) result }
+    ensures failures { AnswersFailures (around D.tells (D.reading desk.old) (D.reading desk.new) (D.writing desk.old) (D.writing desk.new)) result }
     ensures bounds { Bounds D.tells exports.now start.out (D.reading desk.old) (D.reading desk.new) (D.writing desk.old) (D.writing desk.new) result }
     ensures unopened { OpensNothing result → D.reading desk.new ≡ D.reading desk.old }
 {
@@ -121,6 +124,7 @@ fn run_open<D: Desk>(
     ensures ends { IpfixEnds D.tells packer.old.slot (D.reading desk.old) (D.reading desk.new) (D.writing desk.old) (D.writing desk.new)
         (λ Are. IsTrue D.tells → IsSomeAnd start.content (HoldsText AreMessages Are (D.writing desk.new) start.out))
         (Sticks AreMessages D.tells start AreFirst (D.writing desk.new)) result }
+    ensures failures { AnswersFailures (around D.tells (D.reading desk.old) (D.reading desk.new) (D.writing desk.old) (D.writing desk.new)) result }
     ensures frames { Frames start.base packer.old.slot (D.reading desk.old) (D.reading desk.new) (D.writing desk.old) (D.writing desk.new) }
 {
     let Ok(()) = begin(outputs) else {

@@ -7,6 +7,8 @@ ghost use Rattle.ioam_desk_outputs.specs.Told.{GathersFew};
 ghost use Rattle.ioam_dex.specs.Record.{Record};
 ghost use Rattle.ioam_dex.specs.Reader.{fed};
 ghost use Rattle.ioam_ipfix.specs.Written.{messages_text};
+ghost use Rattle.ioam_run_answer.specs.Desks.{around};
+ghost use Rattle.ioam_run_answer.specs.Failures.{AnswersFailures};
 ghost use Rattle.ioam_run_ipfix.specs.Ends.{IsBroken, IpfixEnds};
 ghost use Rattle.ioam_run_ipfix.specs.Exports.{AreFirst};
 ghost use Rattle.ioam_run_ipfix.specs.Packing.{HasPacked, IsPacked};
@@ -49,6 +51,8 @@ fn step(
     requires packed { HasPacked packing.old }
     requires few { packing.old.before + packing.old.held ≤ 67108864 }
     requires width { length outputs.old ≡ 1 }
+    // less than a piece waits to be written where a record is taken
+    requires waiting { GathersFew outputs.old }
     ensures stepped { IfOk result (Steps reader.old reader.new packing.old packing.new outputs.old outputs.new) }
     ensures fed { fed reader.new ≡ fed reader.old }
 {
@@ -133,6 +137,7 @@ pub(crate) fn read_on<D: Desk>(
         (λ Are. Halts D.tells start Are (D.writing desk.new) packer.new.packing outputs.new × ((D.writing desk.new).side ≡ (D.writing desk.old).side))
         (Sticks AreMessages D.tells start AreFirst (D.writing desk.new)) result }
     ensures waiting { (IsBroken result → ⊥) → GathersFew outputs.new }
+    ensures failures { AnswersFailures (around D.tells (D.reading desk.old) (D.reading desk.new) (D.writing desk.old) (D.writing desk.new)) result }
     ensures frames { Frames start.base packer.old.slot (D.reading desk.old) (D.reading desk.new) (D.writing desk.old) (D.writing desk.new) }
 {
     'pieces: loop {
@@ -180,6 +185,7 @@ pub(crate) fn write_rest<D: Desk>(
         → IsSaid D.tells start (D.writing desk.old) outputs.old (messages_text done) → HoldsAll AreMessages start.out (D.writing desk.new) records) }
     ensures fronts { OnErr result (IsTrue D.tells → (done : List (ℕ × List Record)) (records : List Record) → IsPacked done records packing.old
         → IsSaid D.tells start (D.writing desk.old) outputs.old (messages_text done) → HoldsSome AreMessages start.out (D.writing desk.new) records) }
+    ensures same { OnOk result ((D.writing desk.new).side ≡ (D.writing desk.old).side) }
     ensures cause { IfErr result (IsFaultOf (D.writing desk.old).side (D.writing desk.new).side) }
     ensures frames { (slot : ℕ) → Frames start.base slot (D.reading desk.old) (D.reading desk.new) (D.writing desk.old) (D.writing desk.new) }
     ensures inputs { D.reading desk.new ≡ D.reading desk.old }

@@ -3,6 +3,8 @@ ghost use Rattle.std.specs.Prelude.{◌≡◌, ◌<◌, ◌∷◌, [], IfOk, IfE
 ghost use Rattle.ioam_desk.specs.Asked.{AsksFront};
 ghost use Rattle.ioam_desk.specs.Desk.{holds};
 ghost use Rattle.ioam_desk.specs.Kept.{KeepsInputs, KeepsOutputs};
+ghost use Rattle.ioam_run_answer.specs.Desks.{around};
+ghost use Rattle.ioam_run_answer.specs.Failures.{AnswersFailures};
 ghost use Rattle.ioam_run_ipfix.specs.Streams.{IsOpened, Refuses, Start};
 
 use ioam_base::name::Name;
@@ -34,6 +36,7 @@ pub(crate) fn open_files<D: Desk>(
     ensures opened { IfOk result (λ files. IsOpened D.tells start input.now (D.reading desk.old) (D.reading desk.new)
         (D.writing desk.old) (D.writing desk.new) files.slot files.outputs.items) }
     ensures refused { IfErr result (Refuses D.tells start (D.reading desk.old) (D.reading desk.new) (D.writing desk.old) (D.writing desk.new)) }
+    ensures failures { IfErr result (AnswersFailures (around D.tells (D.reading desk.old) (D.reading desk.new) (D.writing desk.old) (D.writing desk.new))) }
     ensures asked_in { AsksFront (D.reading desk.old).side.asked (D.reading desk.new).side.asked (input.now ∷ []) }
     ensures asked_out { AsksFront (D.writing desk.old).side.asked (D.writing desk.new).side.asked (start.out ∷ []) }
     ensures no_output { (D.reading desk.new).side.slots ≡ (D.reading desk.old).side.slots → D.writing desk.new ≡ D.writing desk.old }

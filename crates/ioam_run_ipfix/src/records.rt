@@ -4,6 +4,7 @@ ghost use Rattle.ioam_desk.specs.Desk.{holds};
 ghost use Rattle.ioam_desk_outputs.specs.Told.{GathersNothing};
 ghost use Rattle.ioam_ipfix.specs.Reading.{fresh};
 ghost use Rattle.ioam_run_answer.specs.Desks.{around};
+ghost use Rattle.ioam_run_answer.specs.Failures.{AnswersFailures};
 ghost use Rattle.ioam_run_answer.specs.Outcomes.{OpensNothing};
 ghost use Rattle.ioam_run_ipfix.specs.Ends.{RecordsEnds};
 ghost use Rattle.ioam_run_ipfix.specs.Messages.{AreFirst};
@@ -44,6 +45,7 @@ fn run_names<D: Desk>(alloc: Global, files: &RecordsFiles<'_>, desk: &mut D) -> 
         (D.reading desk.old) (D.reading desk.new) (D.writing desk.old) (D.writing desk.new) result }
     ensures leaves { IsTrue D.tells → RecordsLeaves (holds (D.writing desk.old) files.now.input) files.now.out
         (D.reading desk.old) (D.reading desk.new) (D.writing desk.old) (D.writing desk.new) result }
+    ensures failures { AnswersFailures (around D.tells (D.reading desk.old) (D.reading desk.new) (D.writing desk.old) (D.writing desk.new)) result }
     ensures bounds { Bounds D.tells files.now.input files.now.out (D.reading desk.old) (D.reading desk.new) (D.writing desk.old) (D.writing desk.new) result }
     ensures unopened { OpensNothing result → D.reading desk.new ≡ D.reading desk.old }
     ensures differed { (D.reading desk.new ≡ D.reading desk.old) ⊎ (files.now.input ≢ files.now.out) }
@@ -64,6 +66,7 @@ fn run_files<D: Desk>(alloc: Global, input: &Name, outs: &[Name], desk: &mut D) 
     requires apart { input.now ≢ start.out }
     ensures cause { RecordsCause D.tells start.content input.now start.out (D.reading desk.old) (D.reading desk.new) (D.writing desk.old) (D.writing desk.new) result }
     ensures leaves { IsTrue D.tells → RecordsLeaves start.content start.out (D.reading desk.old) (D.reading desk.new) (D.writing desk.old) (D.writing desk.new) result }
+    ensures failures { AnswersFailures (around D.tells (D.reading desk.old) (D.reading desk.new) (D.writing desk.old) (D.writing desk.new)) result }
     ensures bounds { Bounds D.tells input.now start.out (D.reading desk.old) (D.reading desk.new) (D.writing desk.old) (D.writing desk.new) result }
     ensures unopened { OpensNothing result → D.reading desk.new ≡ D.reading desk.old }
 {
@@ -122,6 +125,7 @@ fn run_open<D: Desk>(
     ensures ends { RecordsEnds D.tells taker.old.slot (D.reading desk.old) (D.reading desk.new) (D.writing desk.old) (D.writing desk.new)
         (λ Are. IsTrue D.tells → IsSomeAnd start.content (HoldsText AreRecords Are (D.writing desk.new) start.out))
         (Sticks AreRecords D.tells start AreFirst (D.writing desk.new)) result }
+    ensures failures { AnswersFailures (around D.tells (D.reading desk.old) (D.reading desk.new) (D.writing desk.old) (D.writing desk.new)) result }
     ensures frames { Frames start.base taker.old.slot (D.reading desk.old) (D.reading desk.new) (D.writing desk.old) (D.writing desk.new) }
 {
     let answer = read_on(taker, outputs, desk, piece);

@@ -5,6 +5,8 @@ ghost use Rattle.ioam_ipfix.specs.Reading.{fed};
 ghost use Rattle.ioam_dex.specs.Record.{Record};
 ghost use Rattle.ioam_desk.specs.Asked.{IsFaultOf};
 ghost use Rattle.ioam_desk_outputs.specs.Told.{GathersFew};
+ghost use Rattle.ioam_run_answer.specs.Desks.{around};
+ghost use Rattle.ioam_run_answer.specs.Failures.{AnswersFailures};
 ghost use Rattle.ioam_run_ipfix.specs.Ends.{IsBroken, RecordsEnds};
 ghost use Rattle.ioam_run_ipfix.specs.Messages.{AreFirst};
 ghost use Rattle.ioam_run_ipfix.specs.Texts.{AreRecords};
@@ -76,6 +78,8 @@ fn step(taker: &mut Taker, outputs: &mut [Output]) -> Result<Option<Pause>, NoMe
     requires room { HasRoom taker.old }
     requires few { taker.old.given ≤ 67108864 }
     requires width { length outputs.old ≡ 1 }
+    // less than a piece waits to be written where a record is taken
+    requires waiting { GathersFew outputs.old }
     ensures stepped { IfOk result (Steps taker.old.reader taker.new.reader taker.old.given taker.new.given outputs.old outputs.new) }
     ensures room { HasRoom taker.new }
     ensures slot { taker.new.slot ≡ taker.old.slot }
@@ -174,6 +178,7 @@ pub(crate) fn read_on<D: Desk>(
         (λ Are. Halts D.tells start Are (D.writing desk.new) outputs.new × ((D.writing desk.new).side ≡ (D.writing desk.old).side))
         (Sticks AreRecords D.tells start AreFirst (D.writing desk.new)) result }
     ensures waiting { (IsBroken result → ⊥) → GathersFew outputs.new }
+    ensures failures { AnswersFailures (around D.tells (D.reading desk.old) (D.reading desk.new) (D.writing desk.old) (D.writing desk.new)) result }
     ensures frames { Frames start.base taker.old.slot (D.reading desk.old) (D.reading desk.new) (D.writing desk.old) (D.writing desk.new) }
 {
     'pieces: loop {

@@ -1,5 +1,6 @@
-use Rattle.std.proofs.Common.{rules, sym, ap, ◌∙◌, arith}
+use Rattle.std.proofs.Common.{rules, refl, sym, ap, ◌∙◌, arith}
 use Rattle.std.proofs.lemmas.Bool.{false≢true}
+use Rattle.ioam_desk.specs.Desk as desk
 use Rattle.ioam_desk.specs.Desk.{Side}
 use Rattle.std.specs.Prelude.{IsSomeAnd, IsTrue}
 use Rattle.ioam_run_ipfix.specs.Ends.{IsBroken}
@@ -7,6 +8,8 @@ use Rattle.ioam_run_ipfix.specs.Texts.{AreMessages, HoldsText}
 use Rattle.ioam_run_ipfix.proofs.FewLaws.{begins-few}
 use Rattle.ioam_run_ipfix.proofs.StreamLaws.{Frames-then, said-one}
 use Rattle.ioam_run_ipfix.proofs.IpfixLaws.{begun, begun-sticks, has-halted, halted-few, halted-sticks, written-ends, broken-ends}
+use Rattle.ioam_run_answer.proofs.FailuresLaws.{failures-none, failures-write, failures-memory, failures-before}
+use Rattle.ioam_run_ipfix.proofs.BrokenLaws.{whole-write}
 use Rattle.ioam_run_ipfix.proofs.ipfix.run_open.Goals as goal
 
 pub begin-requires : goal.begin-requires
@@ -98,3 +101,24 @@ returns-clause-frames g c =
     Frames-then g.start.base c.args.packer.now.slot (g.D.Desk.reading c.args.desk.now) (g.D.Desk.reading c.read_on-answer.new.desk) (g.D.Desk.reading c.write_rest.new.desk)
     (g.D.Desk.writing c.args.desk.now) (g.D.Desk.writing c.read_on-answer.new.desk) (g.D.Desk.writing c.write_rest.new.desk) c.read_on-answer.ensures.frames
     (c.write_rest.ensures.frames c.args.packer.now.slot)
+
+pub returns-in_default-clause-failures : goal.returns-in_default-clause-failures
+returns-in_default-clause-failures g c =
+    failures-none g.D.Desk.tells (g.D.Desk.reading c.args.desk.now) _ (g.D.Desk.writing c.args.desk.now) _ _ refl refl
+
+pub returns-in-Ok-write_rest-clause-failures : goal.returns-in-Ok-write_rest-clause-failures
+returns-in-Ok-write_rest-clause-failures g c =
+    failures-before g.D.Desk.tells (g.D.Desk.reading c.args.desk.now) (g.D.Desk.reading c.read_on-answer.new.desk) (g.D.Desk.reading c.write_rest.new.desk)
+    (g.D.Desk.writing c.args.desk.now) (g.D.Desk.writing c.read_on-answer.new.desk) (g.D.Desk.writing c.write_rest.new.desk) c.read_on-answer.result
+    (ap (λ (r : desk.Reading). r.side.faults) c.write_rest.ensures.inputs) (ap (λ (s : Side). s.faults) c.in-Ok-write_rest.ensures.same) c.read_on-answer.ensures.failures
+
+pub returns-in-Err-Failed-clause-failures : goal.returns-in-Err-Failed-clause-failures
+returns-in-Err-Failed-clause-failures g c =
+    failures-write g.D.Desk.tells (g.D.Desk.reading c.args.desk.now) (g.D.Desk.reading c.write_rest.new.desk) (g.D.Desk.writing c.args.desk.now) (g.D.Desk.writing c.write_rest.new.desk)
+
+pub returns-clause-failures : goal.returns-clause-failures
+returns-clause-failures g c =
+    let whole : IsBroken c.read_on-answer.result → ⊥ = λ broken. false≢true (sym c.if-is_broken.false ∙ c.is_broken.ensures.1 broken) in
+    let lacks = rw c.in-Err-NoMemory.field-0-is at c.in-Err-NoMemory.ensures.cause in
+    failures-memory g.D.Desk.tells (g.D.Desk.reading c.args.desk.now) (g.D.Desk.reading c.write_rest.new.desk) (g.D.Desk.writing c.args.desk.now) (g.D.Desk.writing c.write_rest.new.desk)
+    (lacks ∙ c.read_on-answer.ensures.failures.writes (whole-write c.read_on-answer.result whole))

@@ -27,6 +27,9 @@ pub step-requires-clause-width : goal.step-requires-clause-width
 step-requires-clause-width g c = packing-one g.D.Desk.tells g.start (g.D.Desk.reading c.records.desk) (g.D.Desk.writing c.records.desk) c.records.packer.slot c.records.packer.reader
     c.records.packer.packing c.records.outputs c.records.invariant.packs
 
+pub step-requires-clause-waiting : goal.step-requires-clause-waiting
+step-requires-clause-waiting g c = c.records.invariant.waiting
+
 pub returns-in-Ok-Some-clause-paused : goal.returns-in-Ok-Some-clause-paused
 returns-in-Ok-Some-clause-paused g c = pauses-step g.D.Desk.tells g.start (g.D.Desk.reading c.records.desk) (g.D.Desk.writing c.records.desk) c.records.packer.slot
     c.records.packer.reader c.records.packer.packing c.records.outputs c.records.invariant.packs c.step.new.reader c.step.new.packing c.step.new.outputs _

@@ -1,6 +1,7 @@
 use Rattle.std.proofs.Common.{◌≡◌, ℕ, ◌+◌, List, Some, length, ap, ◌∙◌, subst, inr, arith}
 use Rattle.ioam_desk.specs.Desk.{OpensInput, Side, Reading, Writing, holds}
 use Rattle.ioam_run_ipfix.proofs.OpeningLaws.{asks_one, untouched, unwritten}
+use Rattle.ioam_run_answer.proofs.FailuresLaws.{failures-read, failures-write, failures-memory}
 use Rattle.ioam_run_ipfix.proofs.opening.open_files.Goals as goal
 
 pub returns-in-Err-Failed-open_outputs-clause-refused : goal.returns-in-Err-Failed-open_outputs-clause-refused
@@ -68,3 +69,21 @@ returns-in-Err-NoMemory-open_outputs-clause-unread g c =
     λ told unopened opened. untouched g.D.Desk.tells (g.D.Desk.reading c.args.desk.now) (g.D.Desk.reading c.open_in.new.self) (g.D.Desk.reading c.open_outputs.new.desk)
     (holds (g.D.Desk.writing c.args.desk.now) c.args.input.now) c.args.input.now c.in-Ok.slot (subst P c.text.ensures c.in-Ok.ensures.opened)
     c.in-Err-NoMemory-open_outputs.ensures.inputs told
+
+pub returns-in-Err-Failed-clause-failures : goal.returns-in-Err-Failed-clause-failures
+returns-in-Err-Failed-clause-failures g c =
+    failures-read g.D.Desk.tells (g.D.Desk.reading c.args.desk.now) (g.D.Desk.reading c.open_in.new.self) (g.D.Desk.writing c.args.desk.now) (g.D.Desk.writing c.open_in.new.self) (ap (λ (w : Writing). w.side.faults) c.in-Err-Failed.ensures.outputs)
+
+pub returns-in-Err-NoMemory-clause-failures : goal.returns-in-Err-NoMemory-clause-failures
+returns-in-Err-NoMemory-clause-failures g c =
+    failures-memory g.D.Desk.tells (g.D.Desk.reading c.args.desk.now) (g.D.Desk.reading c.open_in.new.self) (g.D.Desk.writing c.args.desk.now) (g.D.Desk.writing c.open_in.new.self) (ap (λ (w : Writing). w.side.faults) c.in-Err-NoMemory.ensures.outputs)
+
+pub returns-in-Err-Failed-open_outputs-clause-failures : goal.returns-in-Err-Failed-open_outputs-clause-failures
+returns-in-Err-Failed-open_outputs-clause-failures g c =
+    failures-write g.D.Desk.tells (g.D.Desk.reading c.args.desk.now) (g.D.Desk.reading c.open_outputs.new.desk) (g.D.Desk.writing c.args.desk.now) (g.D.Desk.writing c.open_outputs.new.desk)
+
+pub returns-in-Err-NoMemory-open_outputs-clause-failures : goal.returns-in-Err-NoMemory-open_outputs-clause-failures
+returns-in-Err-NoMemory-open_outputs-clause-failures g c =
+    let lacks = rw c.in-Err-NoMemory-open_outputs.field-0-is at c.in-Err-NoMemory-open_outputs.ensures.fault in
+    failures-memory g.D.Desk.tells (g.D.Desk.reading c.args.desk.now) (g.D.Desk.reading c.open_outputs.new.desk) (g.D.Desk.writing c.args.desk.now) (g.D.Desk.writing c.open_outputs.new.desk)
+    (lacks.0 ∙ ap (λ (w : Writing). w.side.faults) c.in-Ok.ensures.outputs)

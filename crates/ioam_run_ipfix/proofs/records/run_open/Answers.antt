@@ -1,5 +1,6 @@
 use Rattle.std.proofs.Common.{rules, sym, ap, ◌∙◌, arith}
 use Rattle.std.proofs.lemmas.Bool.{false≢true}
+use Rattle.ioam_desk.specs.Desk as desk
 use Rattle.ioam_desk.specs.Desk.{Side}
 use Rattle.std.specs.Prelude.{IsSomeAnd, IsTrue}
 use Rattle.ioam_desk_outputs.proofs.ToldLaws.{Nothing-few}
@@ -7,6 +8,8 @@ use Rattle.ioam_run_ipfix.specs.Ends.{IsBroken}
 use Rattle.ioam_run_ipfix.specs.Texts.{AreRecords, HoldsText}
 use Rattle.ioam_run_ipfix.proofs.StreamLaws.{Frames-then}
 use Rattle.ioam_run_ipfix.proofs.RecordsLaws.{begun, has-halted, halted-open, halted-frames, halted-sticks, written-ends, broken-ends}
+use Rattle.ioam_run_answer.proofs.FailuresLaws.{failures-write, failures-memory, failures-before}
+use Rattle.ioam_run_ipfix.proofs.BrokenLaws.{whole-write}
 use Rattle.ioam_run_ipfix.proofs.records.run_open.Goals as goal
 
 pub read_on-answer-requires : goal.read_on-answer-requires
@@ -98,3 +101,20 @@ returns-clause-frames g c =
     (halted-frames g.D.Desk.tells g.start c.args.taker.now.slot (g.D.Desk.reading c.args.desk.now) (g.D.Desk.reading c.read_on-answer.new.desk)
     (g.D.Desk.writing c.args.desk.now) (g.D.Desk.writing c.read_on-answer.new.desk) c.read_on-answer.new.outputs has c.args.taker.now.slot (g.D.Desk.reading c.finish.new.desk) (g.D.Desk.writing c.finish.new.desk)
     c.finish.ensures.inputs c.finish.ensures.asked c.finish.ensures.slots c.finish.ensures.others)
+
+pub returns-in-Ok-clause-failures : goal.returns-in-Ok-clause-failures
+returns-in-Ok-clause-failures g c =
+    failures-before g.D.Desk.tells (g.D.Desk.reading c.args.desk.now) (g.D.Desk.reading c.read_on-answer.new.desk) (g.D.Desk.reading c.finish.new.desk)
+    (g.D.Desk.writing c.args.desk.now) (g.D.Desk.writing c.read_on-answer.new.desk) (g.D.Desk.writing c.finish.new.desk) c.read_on-answer.result
+    (ap (λ (r : desk.Reading). r.side.faults) c.finish.ensures.inputs) (ap (λ (s : Side). s.faults) c.in-Ok.ensures.same) c.read_on-answer.ensures.failures
+
+pub returns-in-Err-Failed-clause-failures : goal.returns-in-Err-Failed-clause-failures
+returns-in-Err-Failed-clause-failures g c =
+    failures-write g.D.Desk.tells (g.D.Desk.reading c.args.desk.now) (g.D.Desk.reading c.finish.new.desk) (g.D.Desk.writing c.args.desk.now) (g.D.Desk.writing c.finish.new.desk)
+
+pub returns-clause-failures : goal.returns-clause-failures
+returns-clause-failures g c =
+    let whole : IsBroken c.read_on-answer.result → ⊥ = λ broken. false≢true (sym c.if-is_broken.false ∙ c.is_broken.ensures.1 broken) in
+    let lacks = rw c.in-Err-NoMemory.field-0-is at c.in-Err-NoMemory.ensures.cause in
+    failures-memory g.D.Desk.tells (g.D.Desk.reading c.args.desk.now) (g.D.Desk.reading c.finish.new.desk) (g.D.Desk.writing c.args.desk.now) (g.D.Desk.writing c.finish.new.desk)
+    (lacks ∙ c.read_on-answer.ensures.failures.writes (whole-write c.read_on-answer.result whole))

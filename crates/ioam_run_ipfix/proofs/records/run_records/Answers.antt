@@ -20,6 +20,7 @@ returns g c = record {
     no_output = c.run_names.ensures.bounds.no_output;
     unread = c.run_names.ensures.bounds.unread;
     drained = c.run_names.ensures.bounds.drained;
+    failures = c.run_names.ensures.failures;
     kept_in = c.run_names.ensures.bounds.kept_in;
     kept_out = c.run_names.ensures.bounds.kept_out;
   };

@@ -10,6 +10,7 @@ use Rattle.ioam_run_ipfix.specs.Texts.{AreRecords}
 use Rattle.ioam_run_ipfix.proofs.StreamLaws.{Frames-same, Frames-then, Frames-slot, Frames-read}
 use Rattle.ioam_run_ipfix.proofs.TakeStepLaws.{taking-sticks_here}
 use Rattle.ioam_run_ipfix.proofs.TakeEndLaws.{taking-room, taking-fed, taking-ended, taking-left, ends-by}
+use Rattle.ioam_run_answer.proofs.FailuresLaws.{failures-none, failures-read, failures-write, failures-memory}
 use Rattle.ioam_run_ipfix.proofs.records_stream.read_on.Goals as goal
 
 pub pieces-init : goal.pieces-init
@@ -213,3 +214,48 @@ returns-in-Err-NoMemory-refill-clause-ends g c =
     subst (λ (w : Writing). Sticks AreRecords g.D.Desk.tells g.start AreFirst w) (sym c.refill.ensures.outputs)
     (taking-sticks_here g.D.Desk.tells g.start (g.D.Desk.reading c.take_shown.new.desk) (g.D.Desk.writing c.take_shown.new.desk) c.take_shown.new.taker.slot
     c.take_shown.new.taker.reader c.take_shown.new.taker.given c.take_shown.new.outputs paused.0.0)
+
+pub returns-in-Ok-Bad-clause-failures : goal.returns-in-Ok-Bad-clause-failures
+returns-in-Ok-Bad-clause-failures g c =
+    failures-none g.D.Desk.tells (g.D.Desk.reading c.args.desk.now) (g.D.Desk.reading c.take_shown.new.desk) (g.D.Desk.writing c.args.desk.now) (g.D.Desk.writing c.take_shown.new.desk) _
+    (ap (λ (r : desk.Reading). r.side.faults) c.take_shown.ensures.inputs ∙ ap (λ (s : Side). s.faults) c.pieces.invariant.inputs)
+    (ap (λ (s : Side). s.faults) c.in-Ok-Bad.ensures.same ∙ ap (λ (s : Side). s.faults) c.pieces.invariant.side)
+
+pub returns-in-Ok-Messages-clause-failures : goal.returns-in-Ok-Messages-clause-failures
+returns-in-Ok-Messages-clause-failures g c =
+    failures-none g.D.Desk.tells (g.D.Desk.reading c.args.desk.now) (g.D.Desk.reading c.take_shown.new.desk) (g.D.Desk.writing c.args.desk.now) (g.D.Desk.writing c.take_shown.new.desk) _
+    (ap (λ (r : desk.Reading). r.side.faults) c.take_shown.ensures.inputs ∙ ap (λ (s : Side). s.faults) c.pieces.invariant.inputs)
+    (ap (λ (s : Side). s.faults) c.in-Ok-Messages.ensures.same ∙ ap (λ (s : Side). s.faults) c.pieces.invariant.side)
+
+pub returns-in-Ok-Records-clause-failures : goal.returns-in-Ok-Records-clause-failures
+returns-in-Ok-Records-clause-failures g c =
+    failures-none g.D.Desk.tells (g.D.Desk.reading c.args.desk.now) (g.D.Desk.reading c.take_shown.new.desk) (g.D.Desk.writing c.args.desk.now) (g.D.Desk.writing c.take_shown.new.desk) _
+    (ap (λ (r : desk.Reading). r.side.faults) c.take_shown.ensures.inputs ∙ ap (λ (s : Side). s.faults) c.pieces.invariant.inputs)
+    (ap (λ (s : Side). s.faults) c.in-Ok-Records.ensures.same ∙ ap (λ (s : Side). s.faults) c.pieces.invariant.side)
+
+pub returns-in-Err-Failed-clause-failures : goal.returns-in-Err-Failed-clause-failures
+returns-in-Err-Failed-clause-failures g c =
+    failures-write g.D.Desk.tells (g.D.Desk.reading c.args.desk.now) (g.D.Desk.reading c.take_shown.new.desk) (g.D.Desk.writing c.args.desk.now) (g.D.Desk.writing c.take_shown.new.desk)
+
+pub returns-in-Err-NoMemory-clause-failures : goal.returns-in-Err-NoMemory-clause-failures
+returns-in-Err-NoMemory-clause-failures g c =
+    let lacks = rw c.in-Err-NoMemory.field-0-is at c.in-Err-NoMemory.ensures.cause in
+    failures-memory g.D.Desk.tells (g.D.Desk.reading c.args.desk.now) (g.D.Desk.reading c.take_shown.new.desk) (g.D.Desk.writing c.args.desk.now) (g.D.Desk.writing c.take_shown.new.desk)
+    (lacks ∙ ap (λ (s : Side). s.faults) c.pieces.invariant.side)
+
+pub returns-in-Ok-false-clause-failures : goal.returns-in-Ok-false-clause-failures
+returns-in-Ok-false-clause-failures g c =
+    let ends = rw c.in-Ok-false.field-0-test at c.in-Ok-false.ensures.read in
+    failures-none g.D.Desk.tells (g.D.Desk.reading c.args.desk.now) (g.D.Desk.reading c.refill.new.desk) (g.D.Desk.writing c.args.desk.now) (g.D.Desk.writing c.refill.new.desk) c.end_outcome.result
+    (ap (λ (s : Side). s.faults) ends.0.side ∙ ap (λ (r : desk.Reading). r.side.faults) c.take_shown.ensures.inputs ∙ ap (λ (s : Side). s.faults) c.pieces.invariant.inputs)
+    (ap (λ (w : Writing). w.side.faults) c.refill.ensures.outputs ∙ ap (λ (s : Side). s.faults) c.in-Ok-More.ensures.same ∙ ap (λ (s : Side). s.faults) c.pieces.invariant.side)
+
+pub returns-in-Err-Failed-refill-clause-failures : goal.returns-in-Err-Failed-refill-clause-failures
+returns-in-Err-Failed-refill-clause-failures g c =
+    failures-read g.D.Desk.tells (g.D.Desk.reading c.args.desk.now) (g.D.Desk.reading c.refill.new.desk) (g.D.Desk.writing c.args.desk.now) (g.D.Desk.writing c.refill.new.desk)
+    (ap (λ (w : Writing). w.side.faults) c.refill.ensures.outputs ∙ ap (λ (s : Side). s.faults) c.in-Ok-More.ensures.same ∙ ap (λ (s : Side). s.faults) c.pieces.invariant.side)
+
+pub returns-in-Err-NoMemory-refill-clause-failures : goal.returns-in-Err-NoMemory-refill-clause-failures
+returns-in-Err-NoMemory-refill-clause-failures g c =
+    failures-memory g.D.Desk.tells (g.D.Desk.reading c.args.desk.now) (g.D.Desk.reading c.refill.new.desk) (g.D.Desk.writing c.args.desk.now) (g.D.Desk.writing c.refill.new.desk)
+    (ap (λ (w : Writing). w.side.faults) c.refill.ensures.outputs ∙ ap (λ (s : Side). s.faults) c.in-Ok-More.ensures.same ∙ ap (λ (s : Side). s.faults) c.pieces.invariant.side)

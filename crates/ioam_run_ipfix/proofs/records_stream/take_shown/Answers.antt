@@ -24,6 +24,9 @@ pub step-requires-clause-width : goal.step-requires-clause-width
 step-requires-clause-width g c = taking-one g.D.Desk.tells g.start (g.D.Desk.reading c.records.desk) (g.D.Desk.writing c.records.desk) c.records.taker.slot c.records.taker.reader
     c.records.taker.given c.records.outputs c.records.invariant.takes.0
 
+pub step-requires-clause-waiting : goal.step-requires-clause-waiting
+step-requires-clause-waiting g c = c.records.invariant.waiting
+
 pub returns-in-Ok-Some-clause-paused : goal.returns-in-Ok-Some-clause-paused
 returns-in-Ok-Some-clause-paused g c = pauses-step g.D.Desk.tells g.start (g.D.Desk.reading c.records.desk) (g.D.Desk.writing c.records.desk) c.records.taker.slot c.records.taker.reader
     c.records.taker.given c.records.outputs c.records.invariant.takes.0 c.step.new.taker.reader c.step.new.taker.given c.step.new.outputs c.step.new.taker _
