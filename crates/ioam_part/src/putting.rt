@@ -1,5 +1,5 @@
 //! A collector that is written as a part.
-ghost use Rattle.std.specs.Prelude.{◌≡◌, ◌++◌, ◌≤◌, List, OnErr, OnOk, length, is_ok, if◌then◌else◌, take, All};
+ghost use Rattle.std.specs.Prelude.{◌+◌, ◌≡◌, ◌++◌, ◌≤◌, List, OnErr, OnOk, length, is_ok, if◌then◌else◌, take, All};
 ghost use Rattle.std.specs.List.{AllByRecursion};
 ghost use Rattle.ioam_dex.specs.Record.{IsRecord, Record};
 ghost use Rattle.ioam_collect.specs.Best.{groups_of};
@@ -22,6 +22,7 @@ fn put_told(core: &[u8], visit: &[u8], out: &mut Vec<u8>) -> Result<(), NoMemory
     requires fits { length core.now ≤ 262 }
     requires visit { length visit.now ≡ 12 }
     ensures ok { OnOk result (out.new.items ≡ out.old.items ++ told_octets core.now visit.now) }
+    ensures few { OnOk result (length out.new.items ≤ length out.old.items + 274) }
     ensures kept { OnErr result (take (length out.old.items) out.new.items ≡ out.old.items) }
 {
     let mut front = Buffer::new();
@@ -37,6 +38,8 @@ fn put_told(core: &[u8], visit: &[u8], out: &mut Vec<u8>) -> Result<(), NoMemory
 pub(crate) fn put_item(item: &Item, out: &mut Vec<u8>) -> Result<(), NoMemory>
     requires { IsOfRecord item.now }
     ensures ok { OnOk result (out.new.items ≡ out.old.items ++ item_octets item.now) }
+    // no record has more
+    ensures few { OnOk result (length out.new.items ≤ length out.old.items + 274) }
     ensures kept { OnErr result (take (length out.old.items) out.new.items ≡ out.old.items) }
 {
     if item.extra().is_empty() {

@@ -1,5 +1,5 @@
 //! The records of a part that is written of a collector, as many at a time as are wanted.
-ghost use Rattle.std.specs.Prelude.{◌≡◌, ◌++◌, ◌≤◌, ◌⊎◌, [], List, IfOk, OnOk, length, All};
+ghost use Rattle.std.specs.Prelude.{◌+◌, ◌<◌, ◌≡◌, ◌++◌, ◌≤◌, ◌⊎◌, [], List, IfOk, OnOk, length, All};
 ghost use Rattle.std.specs.Bool.{OnTrue};
 ghost use Rattle.std.specs.List.{AllByRecursion};
 ghost use Rattle.ioam_dex.specs.Record.{IsRecord, Record};
@@ -46,6 +46,7 @@ fn put_some(items: &mut Items<'_>, enough: usize, out: &mut Vec<u8>) -> Result<(
     requires { AllByRecursion IsOfRecord items.old }
     ensures octets { OnOk result (out.new.items ++ items_octets items.new ≡ out.old.items ++ items_octets items.old) }
     ensures ends { OnOk result ((enough ≤ length out.new.items) ⊎ (items.new ≡ [])) }
+    ensures few { OnOk result (length out.old.items < enough + 274 → length out.new.items < enough + 274) }
     ensures each { AllByRecursion IsOfRecord items.new }
 {
     'records: while out.len() < enough {
@@ -66,6 +67,7 @@ fn put_begun(
     requires { AllByRecursion IsOfRecord (begun items.old) }
     ensures octets { OnOk result (out.new.items ++ items_octets (begun items.new) ≡ out.old.items ++ items_octets (begun items.old)) }
     ensures ends { OnOk result ((enough ≤ length out.new.items) ⊎ (begun items.new ≡ [])) }
+    ensures few { OnOk result (length out.old.items < enough + 274 → length out.new.items < enough + 274) }
     ensures each { AllByRecursion IsOfRecord (begun items.new) }
 {
     match items {
@@ -95,6 +97,8 @@ impl<'a> PartRecords<'a> {
     pub fn put(&mut self, enough: usize, out: &mut Vec<u8>) -> Result<bool, NoMemory>
         ensures octets { OnOk result (out.new.items ++ self.new ≡ out.old.items ++ self.old) }
         ensures leaves { IfOk result (λ full. Leaves full enough out.new.items self.new) }
+        // No record is begun where there are so many octets, and none has more than 274.
+        ensures few { OnOk result (length out.old.items < enough + 274 → length out.new.items < enough + 274) }
     {
         'groups: loop {
             put_begun(&mut self.items, enough, out)?;

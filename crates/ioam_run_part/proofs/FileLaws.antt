@@ -1,5 +1,5 @@
 -- A file that is opened, and read as a part.
-use Rattle.std.proofs.Common.{◌≡◌, ℕ, ◌+◌, ◌≤◌, length, Bool, IsTrue, IsSomeAnd, List, [], ◌∷◌, Option, Some, Ok, Err, sym, ap, ◌∙◌, subst, append-nil, arith}
+use Rattle.std.proofs.Common.{◌≡◌, ℕ, ◌+◌, ◌≤◌, length, Bool, IsTrue, IsSomeAnd, List, [], ◌∷◌, Option, Some, Ok, Err, refl, sym, ap, ◌∙◌, subst, append-nil, arith}
 use Rattle.std.specs.Prelude.{Result}
 use Rattle.ioam_desk.specs.Asked.{AsksFront}
 use Rattle.ioam_desk.specs.Desk as desk
@@ -12,7 +12,7 @@ use Rattle.ioam_collect.specs.Collected.{Collected}
 use Rattle.ioam_collect_stream.specs.Gathering.{ReadsOne}
 use Rattle.ioam_part.specs.Faults.{HasFault}
 use Rattle.ioam_run_part.specs.Records.{ReadsFew}
-use Rattle.ioam_run_part.specs.Unread.{ReadsFile, ReadsSlot}
+use Rattle.ioam_run_part.specs.Unread.{AnswersReads, ReadsFile, ReadsSlot}
 use Rattle.ioam_run_part.specs.declared.unread.Unread.{Unread}
 use Rattle.ioam_run_part.specs.declared.unread.Unread.TheVariants as unread
 
@@ -23,6 +23,12 @@ slot_asked tells content slot old new (Ok c) reads = (ap (λ (s : Side). s.asked
 slot_asked tells content slot old new (Err (unread.Fault at fault)) reads = (ap (λ (s : Side). s.asked) reads.0, ap (λ (s : Side). s.slots) reads.0)
 slot_asked tells content slot old new (Err unread.Failed) reads = (reads.asked, reads.slots)
 slot_asked tells content slot old new (Err unread.NoMemory) reads = (ap (λ (s : Side). s.asked) reads, ap (λ (s : Side). s.slots) reads)
+
+slot_faults : (tells : Bool) (content : Option (List ℕ)) (slot : ℕ) (old new : desk.Reading) (r : Result Collected Unread) → ReadsSlot tells content slot old new r → AnswersReads old new r
+slot_faults tells content slot old new (Ok c) reads other = ap (λ (s : Side). s.faults) reads.0
+slot_faults tells content slot old new (Err (unread.Fault at fault)) reads other = ap (λ (s : Side). s.faults) reads.0
+slot_faults tells content slot old new (Err unread.Failed) reads other = absurd (other refl)
+slot_faults tells content slot old new (Err unread.NoMemory) reads other = ap (λ (s : Side). s.faults) reads
 
 module _ (tells : Bool) (content : Option (List ℕ)) (name : List ℕ) (old mid new : desk.Reading) (slot : ℕ) (opened : OpensInput tells old mid content name slot) where
   faults_same : mid.side.faults ≡ old.side.faults
@@ -42,6 +48,9 @@ module _ (tells : Bool) (content : Option (List ℕ)) (name : List ℕ) (old mid
 
   pub file_asked : (r : Result Collected Unread) → ReadsSlot tells (Some (mid.left slot)) slot mid new r → AsksFront old.side.asked new.side.asked (name ∷ [])
   file_asked r reads = (1, (slot_asked tells (Some (mid.left slot)) slot mid new r reads).0 ∙ ap (λ (s : Side). s.asked) opened.side)
+
+  pub file_faults : (r : Result Collected Unread) → ReadsSlot tells (Some (mid.left slot)) slot mid new r → AnswersReads old new r
+  file_faults r reads other = slot_faults tells (Some (mid.left slot)) slot mid new r reads other ∙ ap (λ (s : Side). s.faults) opened.side
 
   pub file_slots : (r : Result Collected Unread) → ReadsSlot tells (Some (mid.left slot)) slot mid new r → new.side.slots ≡ old.side.slots + 1
   file_slots r reads = (slot_asked tells (Some (mid.left slot)) slot mid new r reads).1 ∙ ap (λ (s : Side). s.slots) opened.side

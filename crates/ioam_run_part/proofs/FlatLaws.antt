@@ -1,21 +1,19 @@
 -- A file that is read as a part and kept as it is.
-use Rattle.std.proofs.Common.{◌≡◌, ℕ, ◌+◌, ◌-◌, ◌<◌, ◌≤◌, ◌⊎◌, Bool, true, false, IsTrue, IsSomeAnd, List, [], ◌∷◌, ◌++◌, length, length-append, length-take-le, take, Option, None, Some, Ok, Err, refl, sym, ap, ◌∙◌, subst, inl, inr, append-nil, append_assoc, arith}
+use Rattle.std.proofs.Common.{◌≡◌, ℕ, ◌+◌, ◌-◌, ◌<◌, ◌≤◌, Bool, true, IsTrue, IsSomeAnd, List, [], ◌∷◌, ◌++◌, length, length-append, length-take-le, take, Option, None, Some, Ok, Err, refl, sym, ap, ◌∙◌, subst, append-nil, append_assoc, arith}
 use Rattle.std.specs.Prelude.{Result, is_some, nat_lt, ◌||◌}
 use Rattle.ioam_desk.specs.Asked.{AsksFront}
 use Rattle.ioam_desk.specs.Desk as desk
 use Rattle.ioam_desk.specs.Desk.{Side, Gives, ReadInto, Rose, OpensInput}
 use Rattle.ioam_desk.specs.declared.fault.DeskFault.{DeskFault}
 use Rattle.ioam_desk.specs.declared.fault.DeskFault.TheVariants.{Failed, NoMemory}
-use Rattle.ioam_run_answer.specs.Record.{Record}
 use Rattle.ioam_part.specs.Faults.{HasFault}
 use Rattle.ioam_part.specs.Part.{IsPart}
-use Rattle.ioam_part.specs.Reading as part
 use Rattle.ioam_part.specs.Reading.{StandsBy}
 use Rattle.ioam_part.specs.declared.fault.PartFault.{PartFault}
 use Rattle.ioam_part_merge.specs.Keeping.{Keeping, Keeps, fault_of}
 use Rattle.ioam_run_part.specs.Flat.{FedFlat, JudgesFlat, ReadsFlatFile, ReadsFlatSlot}
 use Rattle.ioam_run_part.specs.Records.{ReadsFew}
-use Rattle.ioam_run_part.specs.Unread.{unread_by}
+use Rattle.ioam_run_part.specs.Unread.{AnswersReads, unread_by}
 use Rattle.ioam_run_part.specs.declared.unread.Unread.{Unread}
 use Rattle.ioam_run_part.specs.declared.unread.Unread.TheVariants as unread
 use Rattle.ioam_run_part.proofs.OneFault.{one_fault, part_or_fault}
@@ -132,6 +130,12 @@ slot_asked tells content slot old new (Err (unread.Fault at fault)) reads = (ap 
 slot_asked tells content slot old new (Err unread.Failed) reads = (reads.asked, reads.slots)
 slot_asked tells content slot old new (Err unread.NoMemory) reads = (ap (λ (s : Side). s.asked) reads, ap (λ (s : Side). s.slots) reads)
 
+slot_faults : (tells : Bool) (content : Option (List ℕ)) (slot : ℕ) (old new : desk.Reading) (r : Result (List ℕ) Unread) → ReadsFlatSlot tells content slot old new r → AnswersReads old new r
+slot_faults tells content slot old new (Ok kept) reads other = ap (λ (s : Side). s.faults) reads.0
+slot_faults tells content slot old new (Err (unread.Fault at fault)) reads other = ap (λ (s : Side). s.faults) reads.0
+slot_faults tells content slot old new (Err unread.Failed) reads other = absurd (other refl)
+slot_faults tells content slot old new (Err unread.NoMemory) reads other = ap (λ (s : Side). s.faults) reads
+
 module _ (tells : Bool) (content : Option (List ℕ)) (name : List ℕ) (old mid new : desk.Reading) (slot : ℕ) (opened : OpensInput tells old mid content name slot) where
   pub read_file : (r : Result (List ℕ) Unread) → ReadsFlatSlot tells (Some (mid.left slot)) slot mid new r → ReadsFlatFile tells content name old new r
   read_file (Ok kept) reads = (
@@ -147,6 +151,9 @@ module _ (tells : Bool) (content : Option (List ℕ)) (name : List ℕ) (old mid
 
   pub file_asked : (r : Result (List ℕ) Unread) → ReadsFlatSlot tells (Some (mid.left slot)) slot mid new r → AsksFront old.side.asked new.side.asked (name ∷ [])
   file_asked r reads = (1, (slot_asked tells (Some (mid.left slot)) slot mid new r reads).0 ∙ ap (λ (s : Side). s.asked) opened.side)
+
+  pub file_faults : (r : Result (List ℕ) Unread) → ReadsFlatSlot tells (Some (mid.left slot)) slot mid new r → AnswersReads old new r
+  file_faults r reads other = slot_faults tells (Some (mid.left slot)) slot mid new r reads other ∙ ap (λ (s : Side). s.faults) opened.side
 
   pub file_slots : (r : Result (List ℕ) Unread) → ReadsFlatSlot tells (Some (mid.left slot)) slot mid new r → new.side.slots ≡ old.side.slots + 1
   file_slots r reads = (slot_asked tells (Some (mid.left slot)) slot mid new r reads).1 ∙ ap (λ (s : Side). s.slots) opened.side

@@ -1,3 +1,4 @@
+mod FailuresLaws
 mod FileLaws
 mod FlatLaws
 mod JoinedLaws

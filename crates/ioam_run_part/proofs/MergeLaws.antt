@@ -1,13 +1,14 @@
 -- How a run of `merge` ends whose names differ.
-use Rattle.std.proofs.Common.{◌≡◌, ℕ, ◌+◌, ◌⊎◌, IsTrue, IsSomeAnd, List, [], ◌∷◌, ◌++◌, length, length-append, Option, Some, sym, ap, ◌∙◌, subst, inl, inr, ⊎_elim, arith, append-nil, append_assoc}
+use Rattle.std.proofs.Common.{◌≡◌, ◌≢◌, ℕ, ◌+◌, ◌⊎◌, IsTrue, IsSomeAnd, List, [], ◌∷◌, ◌++◌, length, length-append, Option, Some, sym, ap, ◌∙◌, subst, inl, inr, ⊎_elim, arith, append-nil, append_assoc}
 use Rattle.ioam_desk.specs.Asked.{AsksFront}
 use Rattle.ioam_desk.specs.Desk as desk
 use Rattle.ioam_desk.specs.Desk.{Side, Writing, Rose}
 use Rattle.ioam_desk.specs.Kept.{KeepsOutputs}
 use Rattle.ioam_desk.proofs.KeptLaws.{KeepsInputs-same, KeepsOutputs-same}
+use Rattle.ioam_part.specs.declared.fault.PartFault.{PartFault}
 use Rattle.ioam_run_answer.specs.Record.{Record}
 use Rattle.ioam_run_answer.specs.Desks.{Desks}
-use Rattle.ioam_run_answer.specs.Outcomes.{IsDone, IsBehindAll, OpensNothing}
+use Rattle.ioam_run_answer.specs.Outcomes.{IsDone, IsBehindAll, IsSettled, OpensNothing}
 use Rattle.ioam_run_answer.specs.declared.outcome.Outcome.{Outcome}
 use Rattle.ioam_run_answer.specs.declared.outcome.Outcome.TheVariants as outcome
 use Rattle.ioam_run_part.specs.Files.{MergeNames, AreApart, IsRepeat}
@@ -15,7 +16,8 @@ use Rattle.ioam_run_part.specs.Joined.{HoldsBoth, HoldsBothFront, WritesJoined}
 use Rattle.ioam_run_part.specs.MergeEnds.{ApartCause, MergeEnds}
 use Rattle.ioam_run_part.specs.MergePromise.{HoldsMerged, HoldsMergedFront, MergeAsked, MergeCause, MergeKeeps, MergeLeaves, OpensNoPart, one_held, two_held}
 use Rattle.ioam_run_part.specs.Records.{HoldBoth, AreParts, KeepFew, KeepMany}
-use Rattle.ioam_run_part.specs.Two.{TriesTwo, HoldsTwo, RefusesTwo}
+use Rattle.ioam_run_part.specs.Two.{TriesTwo, HoldsTwo, OpensUpTo, RefusesTwo}
+use Rattle.ioam_run_answer.proofs.FailuresLaws.{failures-none}
 use Rattle.ioam_run_part.proofs.FileLaws.{none_asked}
 use Rattle.ioam_run_part.proofs.JoinedLaws.{merged}
 use Rattle.ioam_run_part.proofs.MergeAskedLaws.{merge_asked}
@@ -36,7 +38,7 @@ module _ (desks : Desks) (files : MergeNames) (same : desks.new ≡ desks.old) w
   Refuses = RefusesTwo desks.tells (one_held desks files) (two_held desks files) files.one files.two desks.old_in desks.new_in
 
   refused_cause : (answer : Outcome) → Refuses answer → ApartCause desks files answer
-  refused_cause (outcome.Part name at fault) refuses = refuses
+  refused_cause (outcome.Part name at fault) refuses = refuses.0
   refused_cause outcome.ReadFault refuses = refuses
   refused_cause outcome.NoMemory refuses = tt
   refused_cause _ refuses = absurd refuses
@@ -59,8 +61,9 @@ module _ (desks : Desks) (files : MergeNames) (same : desks.new ≡ desks.old) w
   refused_done outcome.NoMemory refuses done = done
   refused_done _ refuses done = refuses
 
-  pub ends_refused : (answer : Outcome) → Refuses answer → TriesTwo desks.tells (one_held desks files) (two_held desks files) files.one files.two desks.old_in desks.new_in → MergeEnds desks files answer
-  ends_refused answer refuses tries = record {
+  pub ends_refused : (answer : Outcome) → Refuses answer → TriesTwo desks.tells (one_held desks files) (two_held desks files) files.one files.two desks.old_in desks.new_in
+      → (IsSettled answer → desks.new_in.side.faults ≡ desks.old_in.side.faults) → MergeEnds desks files answer
+  ends_refused answer refuses tries reads = record {
     cause = refused_cause answer refuses;
     leaves = λ told. refused_leaves answer refuses;
     asked_in = tries.asked;
@@ -68,11 +71,13 @@ module _ (desks : Desks) (files : MergeNames) (same : desks.new ≡ desks.old) w
     all_in = λ behind. absurd (refused_behind answer refuses behind);
     all_out = λ done. absurd (refused_done answer refuses done);
     in_turn = tries.in_turn;
+    up_to = λ name at fault is. (subst Refuses is refuses).1;
     no_output = λ few. same;
     no_part = λ before. same;
     drained = λ done told. absurd (refused_done answer refuses done);
     few_one = tries.few_one;
     few_two = tries.few_two;
+    failures = record { reads = reads; writes = λ other. ap (λ (w : Writing). w.side.faults) same };
     kept_in = tries.kept;
     kept_out = λ told. KeepsOutputs-same desks.old desks.new same;
   }
@@ -142,8 +147,9 @@ module _ (desks : Desks) (files : MergeNames) (a b : List ℕ)
   both_asked = ap (λ (s : Side). s.asked) holds_two.side ∙ append_assoc desks.old_in.side.asked (files.one ∷ []) (files.two ∷ [])
 
   pub ends_joined : (answer : Outcome) → Writes answer → TriesTwo desks.tells (one_held desks files) (two_held desks files) files.one files.two desks.old_in desks.new_in
-      → AsksFront desks.old.side.asked desks.new.side.asked (files.part ∷ []) → (IsTrue desks.tells → KeepsOutputs desks.old desks.new) → MergeEnds desks files answer
-  ends_joined answer writes tries asked kept = record {
+      → AsksFront desks.old.side.asked desks.new.side.asked (files.part ∷ []) → (IsTrue desks.tells → KeepsOutputs desks.old desks.new)
+      → (answer ≢ outcome.WriteFault → desks.new.side.faults ≡ desks.old.side.faults) → MergeEnds desks files answer
+  ends_joined answer writes tries asked kept failed = record {
     cause = joined_cause answer writes;
     leaves = λ told. joined_leaves told answer writes;
     asked_in = tries.asked;
@@ -151,11 +157,13 @@ module _ (desks : Desks) (files : MergeNames) (a b : List ℕ)
     all_in = λ behind. both_asked;
     all_out = joined_out answer writes;
     in_turn = tries.in_turn;
+    up_to = λ name at fault is. absurd (subst Writes is writes);
     no_output = λ few. (let slots : desks.new_in.side.slots ≡ desks.old_in.side.slots + 1 + 1 = ap (λ (s : Side). s.slots) holds_two.side in absurd (omega (arith, slots, few)));
     no_part = joined_no_part answer writes;
     drained = λ done told. (holds_two.first_ended told, holds_two.second_ended told);
     few_one = tries.few_one;
     few_two = tries.few_two;
+    failures = record { reads = λ settled. ap (λ (s : Side). s.faults) holds_two.side; writes = failed };
     kept_in = tries.kept;
     kept_out = kept;
   }
@@ -182,6 +190,15 @@ module _ (desks : Desks) (files : MergeNames) where
   opens_apart outcome.WriteFault cause opens = opens
   opens_apart outcome.NoMemory cause opens = opens
   opens_apart _ cause opens = cause
+
+-- ---- what was opened where one of the two is no part
+
+module _ (one two : List ℕ) (old new : desk.Reading) (apart : one ≢ two) where
+  up_to_one : OpensUpTo one two old new one → new.side.asked ≡ old.side.asked ++ one ∷ []
+  up_to_one opens = ⊎_elim (λ first. first.1) (λ second. absurd (apart second.0)) opens
+
+  up_to_two : OpensUpTo one two old new two → new.side.asked ≡ old.side.asked ++ one ∷ two ∷ []
+  up_to_two opens = ⊎_elim (λ first. absurd (apart (sym first.0))) (λ second. second.1) opens
 
 -- ---- the promise
 
@@ -211,6 +228,8 @@ module _ (desks : Desks) (files : MergeNames) where
         all_in = ends.all_in;
         all_out = ends.all_out;
         in_turn = ends.in_turn;
+        one_alone = λ at fault is. up_to_one files.one files.two desks.old_in desks.new_in apart.inputs (ends.up_to files.one at fault is);
+        both_asked = λ at fault is. up_to_two files.one files.two desks.old_in desks.new_in apart.inputs (ends.up_to files.two at fault is);
         unopened = λ opens. absurd (opens_apart desks files answer ends.cause opens);
         differed = inr apart;
         no_output = ends.no_output;
@@ -218,6 +237,7 @@ module _ (desks : Desks) (files : MergeNames) where
         drained = ends.drained;
         few_one = ends.few_one;
         few_two = ends.few_two;
+        failures = ends.failures;
         kept_in = ends.kept_in;
         kept_out = ends.kept_out;
       }
@@ -225,8 +245,8 @@ module _ (desks : Desks) (files : MergeNames) where
   module _ (same_in : desks.new_in ≡ desks.old_in) (same : desks.new ≡ desks.old) where
     -- nothing was opened
     still : (answer : Outcome) → Cause answer → MergeLeaves (one_held desks files) (two_held desks files) files.part desks.old desks.new answer
-        → (IsBehindAll ⊥ answer → ⊥) → (IsDone answer → ⊥) → MergeKeeps desks files answer
-    still answer cause leaves not_behind not_done = record {
+        → ((name : List ℕ) (at : ℕ) (fault : PartFault) → answer ≡ outcome.Part name at fault → ⊥) → (IsBehindAll ⊥ answer → ⊥) → (IsDone answer → ⊥) → MergeKeeps desks files answer
+    still answer cause leaves not_part not_behind not_done = record {
       cause = cause;
       leaves = λ told. leaves;
       exact = exact answer cause;
@@ -239,6 +259,8 @@ module _ (desks : Desks) (files : MergeNames) where
           let size = ap length both in
           let more = length-append desks.old_in.side.asked (files.one ∷ files.two ∷ []) in
           absurd (omega (arith, none, size, more));
+      one_alone = λ at fault is. absurd (not_part files.one at fault is);
+      both_asked = λ at fault is. absurd (not_part files.two at fault is);
       unopened = λ opens. same_in;
       differed = inl same_in;
       no_output = λ few. same;
@@ -246,6 +268,7 @@ module _ (desks : Desks) (files : MergeNames) where
       drained = λ done told. absurd (not_done done);
       few_one = λ more. (let none = ap (λ (r : desk.Reading). r.side.slots) same_in in absurd (omega (arith, none, more)));
       few_two = λ more. (let none = ap (λ (r : desk.Reading). r.side.slots) same_in in absurd (omega (arith, none, more)));
+      failures = failures-none desks.tells desks.old_in desks.new_in desks.old desks.new answer (ap (λ (r : desk.Reading). r.side.faults) same_in) (ap (λ (w : Writing). w.side.faults) same);
       kept_in = KeepsInputs-same desks.old_in desks.new_in same_in;
       kept_out = λ told. KeepsOutputs-same desks.old desks.new same;
     }
@@ -253,5 +276,5 @@ module _ (desks : Desks) (files : MergeNames) where
     pub keeps_names : (answer : Outcome) (name : List ℕ) → IsRepeat files.one files.two files.part name → (answer ≡ outcome.Names name) ⊎ (answer ≡ outcome.NoMemory) → MergeKeeps desks files answer
     keeps_names answer name repeat either =
         let P : Outcome → Type 0 = λ o. MergeKeeps desks files o in
-        ⊎_elim (λ named. subst P (sym named) (still (outcome.Names name) repeat same (λ none. none) (λ none. none)))
-        (λ none. subst P (sym none) (still outcome.NoMemory tt (inl same) (λ none'. none') (λ none'. none'))) either
+        ⊎_elim (λ named. subst P (sym named) (still (outcome.Names name) repeat same (λ other at fault is. subst OpensNothing is tt) (λ none. none) (λ none. none)))
+        (λ none. subst P (sym none) (still outcome.NoMemory tt (inl same) (λ other at fault is. subst OpensNoPart (sym is) tt) (λ none'. none') (λ none'. none'))) either

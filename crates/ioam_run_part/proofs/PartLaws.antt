@@ -20,7 +20,8 @@ use Rattle.ioam_collect_stream.specs.Gathering.{AreFew, Gathers, Passes, AreWhol
 use Rattle.ioam_collect_stream.specs.declared.gathering.Halt.{Halt}
 use Rattle.ioam_collect_stream.specs.declared.gathering.Halt.TheVariants as halt
 use Rattle.ioam_part.specs.Part.{HasKey, head_octets}
-use Rattle.ioam_run_answer.specs.Desks.{Desks}
+use Rattle.ioam_run_answer.specs.Desks.{Desks, around}
+use Rattle.ioam_run_answer.specs.Failures.{AnswersFailures}
 use Rattle.ioam_run_answer.specs.Outcomes.{IsDone, IsBehindAll, OpensNothing}
 use Rattle.ioam_run_answer.specs.declared.outcome.Outcome.{Outcome}
 use Rattle.ioam_run_answer.specs.declared.outcome.Outcome.TheVariants as outcome
@@ -29,6 +30,7 @@ use Rattle.ioam_run_part.specs.PartEnds.{ApartCause, Finishes, Holds, HoldsStart
 use Rattle.ioam_run_part.specs.PartPromise.{HoldsFront, HoldsPart, PartAsked, PartCause, PartKeeps, PartLeaves, exported}
 use Rattle.ioam_run_part.specs.Records.{AreFirst, EndsSo, IsExports, IsFrontOfPart, IsLong, IsPartOfAll}
 use Rattle.ioam_run_part.specs.Stored.{HoldsFrontOf, IsBlank}
+use Rattle.ioam_run_answer.proofs.FailuresLaws.{failures-read, failures-write, failures-memory, failures-none, failures-behind}
 use Rattle.ioam_run_part.proofs.FileLaws.{none_asked}
 use Rattle.ioam_run_part.proofs.JoinedLaws.{of_part}
 use Rattle.ioam_run_part.proofs.MergeLaws.{none_asked_out, some_held}
@@ -137,8 +139,9 @@ module _ (desks : Desks) (files : PartNames) where
   never_opened slots told opened = absurd (omega (arith, slots, opened))
 
   module _ (same : desks.new ≡ desks.old) (asked : AsksFront desks.old_in.side.asked desks.new_in.side.asked (files.exports ∷ [])) (kept : KeepsInputs desks.old_in desks.new_in) where
-    still_ends : (answer : Outcome) → ApartCause desks files answer → Leaves answer → (IsBehindAll ⊥ answer → ⊥) → (IsDone answer → ⊥) → Untouched → PartEnds desks files answer
-    still_ends answer cause leaves not_behind not_done untouched = record {
+    still_ends : (answer : Outcome) → ApartCause desks files answer → Leaves answer → (IsBehindAll ⊥ answer → ⊥) → (IsDone answer → ⊥) → Untouched → AnswersFailures desks answer
+        → PartEnds desks files answer
+    still_ends answer cause leaves not_behind not_done untouched failures = record {
       cause = cause;
       leaves = λ told. leaves;
       asked_in = asked;
@@ -148,16 +151,17 @@ module _ (desks : Desks) (files : PartNames) where
       no_output = λ none. same;
       unread = λ told unopened. untouched told;
       drained = λ done told. absurd (not_done done);
+      failures = failures;
       kept_in = kept;
       kept_out = λ told. KeepsOutputs-same desks.old desks.new same;
     }
 
     -- no memory could be had, or a file could not be opened
     pub ends_wanting : Untouched → PartEnds desks files outcome.NoMemory
-    ends_wanting = still_ends outcome.NoMemory tt (inl same) (λ behind. behind) (λ done. done)
+    ends_wanting untouched = still_ends outcome.NoMemory tt (inl same) (λ behind. behind) (λ done. done) untouched (failures-memory desks.tells desks.old_in desks.new_in desks.old desks.new (ap (λ (w : Writing). w.side.faults) same))
 
     pub ends_unread : Rose desks.old_in.side.faults desks.new_in.side.faults → desks.new_in.side.slots ≡ desks.old_in.side.slots → PartEnds desks files outcome.ReadFault
-    ends_unread rose slots = still_ends outcome.ReadFault rose (inl (slots, same)) (λ behind. behind) (λ done. done) (never_opened slots)
+    ends_unread rose slots = still_ends outcome.ReadFault rose (inl (slots, same)) (λ behind. behind) (λ done. done) (never_opened slots) (failures-read desks.tells desks.old_in desks.new_in desks.old desks.new (ap (λ (w : Writing). w.side.faults) same))
 
   -- ---- EXPORTS was opened
 
@@ -211,6 +215,7 @@ module _ (desks : Desks) (files : PartNames) where
         no_output = λ none. (let slots = now_slots in absurd (omega (arith, slots, none)));
         unread = λ told unopened more. untouched told;
         drained = λ none told. absurd none;
+        failures = failures-write desks.tells desks.old_in desks.new_in desks.old desks.new;
         kept_in = kept_one reads_none;
         kept_out = λ told. KeepsOutputs-asked desks.tells desks.old desks.new files.part (Err Failed) failed told;
       }
@@ -255,8 +260,9 @@ module _ (desks : Desks) (files : PartNames) where
       drained_of _ ends done told = absurd done
 
       pub ends_finished : (answer : Outcome) → Ends answer → desks.new_in.side.asked ≡ mid_in.side.asked → desks.new_in.side.slots ≡ mid_in.side.slots
-          → desks.new.side.asked ≡ mid.side.asked → desks.new.side.slots ≡ mid.side.slots → ReadsOne slot_in mid_in desks.new_in → WritesFrom slot mid desks.new → PartEnds desks files answer
-      ends_finished answer ends asked_in slots_in asked_out slots_out reads writes =
+          → desks.new.side.asked ≡ mid.side.asked → desks.new.side.slots ≡ mid.side.slots → ReadsOne slot_in mid_in desks.new_in → WritesFrom slot mid desks.new
+          → AnswersFailures (around desks.tells mid_in desks.new_in mid desks.new) answer → PartEnds desks files answer
+      ends_finished answer ends asked_in slots_in asked_out slots_out reads writes failures =
           let all_in = asked_in ∙ mid_asked in
           let all_out = asked_out ∙ ap (λ (s : Side). s.asked) opened_out.1 in
           record {
@@ -269,6 +275,7 @@ module _ (desks : Desks) (files : PartNames) where
             no_output = λ none. (let grew = mid_slots in absurd (omega (arith, slots_in, grew, none)));
             unread = λ told unopened more. (let grew : mid.side.slots ≡ desks.old.side.slots + 1 = ap (λ (s : Side). s.slots) opened_out.1 in absurd (omega (arith, slots_out, grew, unopened)));
             drained = drained_of answer ends;
+            failures = failures-behind desks.tells desks.old_in mid_in desks.new_in desks.old mid desks.new answer mid_faults out_faults failures;
             kept_in = kept_one reads;
             kept_out = λ told. KeepsOutputs-from desks.old mid desks.new slot (KeepsOutputs-asked desks.tells desks.old mid files.part (Ok slot) opened_out told)
                 (let number = opened_out.0 in omega (arith, number)) slots_out asked_out writes;
@@ -322,6 +329,7 @@ module _ (desks : Desks) (files : PartNames) where
         no_output = ends.no_output;
         unread = ends.unread;
         drained = ends.drained;
+        failures = ends.failures;
         kept_in = ends.kept_in;
         kept_out = ends.kept_out;
       }
@@ -343,6 +351,7 @@ module _ (desks : Desks) (files : PartNames) where
       no_output = λ none. same;
       unread = λ told unopened. never_opened desks files (ap (λ (r : desk.Reading). r.side.slots) same_in) told;
       drained = λ done told. absurd (not_done done);
+      failures = failures-none desks.tells desks.old_in desks.new_in desks.old desks.new answer (ap (λ (r : desk.Reading). r.side.faults) same_in) (ap (λ (w : Writing). w.side.faults) same);
       kept_in = KeepsInputs-same desks.old_in desks.new_in same_in;
       kept_out = λ told. KeepsOutputs-same desks.old desks.new same;
     }

@@ -3,13 +3,14 @@ use Rattle.std.proofs.Common.{◌≡◌, ◌≢◌, ℕ, ◌+◌, ◌<◌, ◌�
 use Rattle.std.specs.Prelude.{Result}
 use Rattle.ioam_desk.specs.Asked.{AsksFront}
 use Rattle.ioam_desk.specs.Desk as desk
-use Rattle.ioam_desk.specs.Desk.{Side, Rose}
+use Rattle.ioam_desk.specs.Desk.{Side, Writing, Rose}
 use Rattle.ioam_desk.specs.Kept.{KeepsInputs, KeepsOutputs}
 use Rattle.ioam_desk.specs.declared.fault.DeskFault.{DeskFault}
 use Rattle.ioam_desk.specs.declared.fault.DeskFault.TheVariants.{Failed, NoMemory}
 use Rattle.ioam_desk.proofs.KeptLaws.{KeepsInputs-same, KeepsOutputs-same}
 use Rattle.ioam_collect.specs.Collected.{Collected}
 use Rattle.ioam_run_answer.specs.Desks.{Desks}
+use Rattle.ioam_run_answer.specs.Failures.{AnswersFailures}
 use Rattle.ioam_run_answer.specs.Outcomes.{IsDone, OpensNothing}
 use Rattle.ioam_run_answer.specs.declared.outcome.Outcome.{Outcome}
 use Rattle.ioam_run_answer.specs.declared.outcome.Outcome.TheVariants as outcome
@@ -19,11 +20,13 @@ use Rattle.ioam_run_part.specs.MergePromise.{OpensNoPart}
 use Rattle.ioam_run_part.specs.PartsEnds.{ApartCause, PartsEnds}
 use Rattle.ioam_run_part.specs.PartsPromise.{HoldsLines, HoldsLinesFront, PartsAsked, PartsCause, PartsKeeps, PartsLeaves, part_held}
 use Rattle.ioam_run_part.specs.Records.{IsAPart, ReadsFew}
-use Rattle.ioam_run_part.specs.Stored.{HoldsFrontOf, Stores, answer_of}
-use Rattle.ioam_run_part.specs.Unread.{ReadsFile}
+use Rattle.ioam_run_part.specs.Stored.{AnswersWrites, HoldsFrontOf, Stores, answer_of}
+use Rattle.ioam_run_part.specs.Unread.{AnswersReads, ReadsFile}
 use Rattle.ioam_run_part.specs.Unread as unread_file
 use Rattle.ioam_run_part.specs.declared.unread.Unread.{Unread}
 use Rattle.ioam_run_part.specs.declared.unread.Unread.TheVariants as unread
+use Rattle.ioam_run_answer.proofs.FailuresLaws.{failures-memory, failures-none}
+use Rattle.ioam_run_part.proofs.FailuresLaws.{read_answered, written_answered}
 use Rattle.ioam_run_part.proofs.FileLaws.{none_asked}
 use Rattle.ioam_run_part.proofs.MergeLaws.{some_held, none_asked_out}
 use Rattle.ioam_run_part.proofs.PartsAskedLaws.{parts_asked}
@@ -51,8 +54,9 @@ module _ (desks : Desks) (files : PartsNames) (same : desks.new ≡ desks.old) w
 
   module _ (asked : AsksFront desks.old_in.side.asked desks.new_in.side.asked (files.part ∷ [])) (kept : KeepsInputs desks.old_in desks.new_in)
       (few : desks.old_in.side.slots < desks.new_in.side.slots → ReadsFew desks.tells (part_held desks files) desks.old_in.side.slots desks.new_in) where
-    still_ends : (answer : Outcome) → ApartCause desks files answer → PartsLeaves (part_held desks files) files.report desks.old desks.new answer → (IsDone answer → ⊥) → PartsEnds desks files answer
-    still_ends answer cause leaves not_done = record {
+    still_ends : (answer : Outcome) → ApartCause desks files answer → PartsLeaves (part_held desks files) files.report desks.old desks.new answer → (IsDone answer → ⊥) → AnswersFailures desks answer
+        → PartsEnds desks files answer
+    still_ends answer cause leaves not_done failures = record {
       cause = cause;
       leaves = λ told. leaves;
       asked_in = asked;
@@ -63,18 +67,22 @@ module _ (desks : Desks) (files : PartsNames) (same : desks.new ≡ desks.old) w
       no_report = λ before. same;
       drained = λ done told. absurd (not_done done);
       few = few;
+      failures = failures;
       kept_in = kept;
       kept_out = λ told. KeepsOutputs-same desks.old desks.new same;
     }
 
     -- no memory could be had
     pub ends_wanting : PartsEnds desks files outcome.NoMemory
-    ends_wanting = still_ends outcome.NoMemory tt (inl same) (λ done. done)
+    ends_wanting = still_ends outcome.NoMemory tt (inl same) (λ done. done) (failures-memory desks.tells desks.old_in desks.new_in desks.old desks.new (ap (λ (w : Writing). w.side.faults) same))
 
-    pub ends_unread : (answer : Outcome) (why : Unread) → Reads (Err why) → (answer ≡ unread_file.answer_of files.part why) ⊎ (answer ≡ outcome.NoMemory) → PartsEnds desks files answer
-    ends_unread answer why reads either =
+    pub ends_unread : (answer : Outcome) (why : Unread) → Reads (Err why) → (answer ≡ unread_file.answer_of files.part why) ⊎ (answer ≡ outcome.NoMemory)
+        → AnswersReads {A = Collected} desks.old_in desks.new_in (Err why) → PartsEnds desks files answer
+    ends_unread answer why reads either failed =
         let P : Outcome → Type 0 = λ o. PartsEnds desks files o in
-        ⊎_elim (λ is. subst P (sym is) (still_ends (unread_file.answer_of files.part why) (unread_cause why reads) (unread_leaves why) (unread_done why)))
+        let named : Outcome = unread_file.answer_of files.part why in
+        ⊎_elim (λ is. subst P (sym is) (still_ends named (unread_cause why reads) (unread_leaves why) (unread_done why)
+        (record { reads = read_answered desks.old_in desks.new_in files.part why named (inl refl) failed; writes = λ other. ap (λ (w : Writing). w.side.faults) same })))
         (λ none. subst P (sym none) ends_wanting) either
 
 -- ---- it was
@@ -119,8 +127,8 @@ module _ (desks : Desks) (files : PartsNames) (c : Collected) (text : List ℕ) 
 
   pub ends_stored : (r : Result (Unit {0}) DeskFault) → Put r → AsksFront desks.old.side.asked desks.new.side.asked (files.report ∷ []) → KeepsInputs desks.old_in desks.new_in
       → (IsTrue desks.tells → KeepsOutputs desks.old desks.new) → (desks.old_in.side.slots < desks.new_in.side.slots → ReadsFew desks.tells (part_held desks files) desks.old_in.side.slots desks.new_in)
-      → PartsEnds desks files (answer_of r)
-  ends_stored r stores asked kept kept_out few = record {
+      → AnswersWrites desks.old desks.new r → PartsEnds desks files (answer_of r)
+  ends_stored r stores asked kept kept_out few failed = record {
     cause = stored_cause r stores;
     leaves = λ told. stored_leaves told r stores;
     asked_in = (1, part_asked);
@@ -131,6 +139,7 @@ module _ (desks : Desks) (files : PartsNames) (c : Collected) (text : List ℕ) 
     no_report = λ before. absurd (stored_before r before);
     drained = λ done told. reads.2 told;
     few = few;
+    failures = record { reads = λ settled. ap (λ (s : Side). s.faults) reads.0; writes = written_answered desks.old desks.new r (answer_of r) refl failed };
     kept_in = kept;
     kept_out = kept_out;
   }
@@ -182,6 +191,7 @@ module _ (desks : Desks) (files : PartsNames) where
         no_report = ends.no_report;
         drained = ends.drained;
         few = ends.few;
+        failures = ends.failures;
         kept_in = ends.kept_in;
         kept_out = ends.kept_out;
       }
@@ -203,6 +213,7 @@ module _ (desks : Desks) (files : PartsNames) where
       no_report = λ before. same;
       drained = λ done told. absurd (not_done done);
       few = λ more. (let none = ap (λ (r : desk.Reading). r.side.slots) same_in in absurd (omega (arith, none, more)));
+      failures = failures-none desks.tells desks.old_in desks.new_in desks.old desks.new answer (ap (λ (r : desk.Reading). r.side.faults) same_in) (ap (λ (w : Writing). w.side.faults) same);
       kept_in = KeepsInputs-same desks.old_in desks.new_in same_in;
       kept_out = λ told. KeepsOutputs-same desks.old desks.new same;
     }

@@ -52,7 +52,7 @@ either_refuses tells first second one two old new answer is either refuses =
 
 module _ (tells : Bool) (first second : Option (List ℕ)) (one two : List ℕ) (old new : desk.Reading) where
   pub first_refuses : (why : Unread) → ReadsFlatFile tells first one old new (Err why) → RefusesTwo tells first second one two old new (answer_of one why)
-  first_refuses (unread.Fault at fault) reads = inl (refl, reads.1)
+  first_refuses (unread.Fault at fault) reads = (inl (refl, reads.1), inl (refl, ap (λ (s : Side). s.asked) reads.0))
   first_refuses unread.Failed reads = reads.0
   first_refuses unread.NoMemory reads = tt
 
@@ -80,14 +80,17 @@ module _ (tells : Bool) (first second : Option (List ℕ)) (one two : List ℕ) 
   mid_slots : mid.side.slots ≡ old.side.slots + 1
   mid_slots = ap (λ (s : Side). s.slots) reads_one.0
 
-  mid_faults : mid.side.faults ≡ old.side.faults
+  pub mid_faults : mid.side.faults ≡ old.side.faults
   mid_faults = ap (λ (s : Side). s.faults) reads_one.0
 
   pub second_refuses : (why : Unread) → ReadsFlatFile tells second two mid new (Err why) → RefusesTwo tells first second one two old new (answer_of two why)
-  second_refuses (unread.Fault at fault) reads = inr (
-    refl,
-    λ told. some_held first a (λ o. IsSomeAnd second (IsSecondFaulty at fault o)) (reads_one.1.is told)
-        (some_map second (λ o. HasFault o at fault) (IsSecondFaulty at fault a) (λ octets bad. ((reads_one.1.records, reads_one.1.part), bad)) (reads.1 told)),
+  second_refuses (unread.Fault at fault) reads = (
+    inr (
+      refl,
+      λ told. some_held first a (λ o. IsSomeAnd second (IsSecondFaulty at fault o)) (reads_one.1.is told)
+          (some_map second (λ o. HasFault o at fault) (IsSecondFaulty at fault a) (λ octets bad. ((reads_one.1.records, reads_one.1.part), bad)) (reads.1 told)),
+    ),
+    inr (refl, ap (λ (s : Side). s.asked) reads.0 ∙ ap (λ (t : List (List ℕ)). t ++ two ∷ []) mid_asked ∙ append_assoc old.side.asked (one ∷ []) (two ∷ [])),
   )
   second_refuses unread.Failed reads = subst (λ n. Rose n new.side.faults) mid_faults reads.0
   second_refuses unread.NoMemory reads = tt

@@ -11,6 +11,7 @@ use Rattle.ioam_part.specs.Faults.{HasFault}
 use Rattle.ioam_part.specs.Part.{JoinsTo}
 use Rattle.ioam_part.specs.declared.fault.PartFault.{PartFault}
 use Rattle.ioam_run_answer.specs.Desks.{Desks}
+use Rattle.ioam_run_answer.specs.Failures.{AnswersFailures}
 use Rattle.ioam_run_answer.specs.Outcomes.{IsDone, IsBehindAll, OpensNothing}
 use Rattle.ioam_run_answer.specs.declared.outcome.Outcome.{Outcome}
 use Rattle.ioam_run_answer.specs.declared.outcome.Outcome.TheVariants as outcome
@@ -118,6 +119,9 @@ module _ (desks : Desks) (files : MergeNames) where
     pub all_in : IsBehindAll ⊥ answer → desks.new_in.side.asked ≡ desks.old_in.side.asked ++ files.one ∷ files.two ∷ []
     pub all_out : IsDone answer → desks.new.side.asked ≡ desks.old.side.asked ++ files.part ∷ []
     pub in_turn : desks.new_in.side.asked ≡ desks.old_in.side.asked ++ files.one ∷ files.two ∷ [] → IsTrue desks.tells → IsSomeAnd one_held IsAPart
+    -- where ONE is no part TWO isn't opened, told or not; where TWO is none both were
+    pub one_alone : (at : ℕ) (fault : PartFault) → answer ≡ outcome.Part files.one at fault → desks.new_in.side.asked ≡ desks.old_in.side.asked ++ files.one ∷ []
+    pub both_asked : (at : ℕ) (fault : PartFault) → answer ≡ outcome.Part files.two at fault → desks.new_in.side.asked ≡ desks.old_in.side.asked ++ files.one ∷ files.two ∷ []
     -- nothing is opened where two names are equal, and no output before both were read, nor where one is no part or both have too
     -- many records; where all is done both were read to their ends
     pub unopened : OpensNothing answer → desks.new_in ≡ desks.old_in
@@ -129,6 +133,9 @@ module _ (desks : Desks) (files : MergeNames) where
     -- of each of the two at most the first 300,000,000 octets are read
     pub few_one : desks.old_in.side.slots < desks.new_in.side.slots → ReadsFew desks.tells one_held desks.old_in.side.slots desks.new_in
     pub few_two : desks.old_in.side.slots + 1 < desks.new_in.side.slots → ReadsFew desks.tells two_held (desks.old_in.side.slots + 1) desks.new_in
+    -- what failed is answered: no call of ONE and TWO failed where the words and the files decided the answer, and none of PART
+    -- unless the answer is WriteFault
+    pub failures : AnswersFailures desks answer
     -- input slots that were there, and where the desk tells output slots that were there and names that weren't opened to be written, are as they were
     pub kept_in : KeepsInputs desks.old_in desks.new_in
     pub kept_out : IsTrue desks.tells → KeepsOutputs desks.old desks.new

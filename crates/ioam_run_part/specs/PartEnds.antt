@@ -9,6 +9,7 @@ use Rattle.ioam_collect_stream.specs.Gathering.{AreFew, IsLimit, Passes, AreWhol
 use Rattle.ioam_collect_stream.specs.declared.gathering.Halt.{Halt}
 use Rattle.ioam_collect_stream.specs.declared.gathering.Halt.TheVariants as halt
 use Rattle.ioam_run_answer.specs.Desks.{Desks}
+use Rattle.ioam_run_answer.specs.Failures.{AnswersFailures}
 use Rattle.ioam_run_answer.specs.Outcomes.{IsDone, IsBehindAll}
 use Rattle.ioam_run_answer.specs.declared.outcome.Outcome.{Outcome}
 use Rattle.ioam_run_answer.specs.declared.outcome.Outcome.TheVariants as outcome
@@ -74,7 +75,8 @@ module _ (desks : Desks) (files : PartNames) where
   ApartCause outcome.Done = IsTrue desks.tells → IsSomeAnd (exported desks files) (IsExports Whole)
   ApartCause _ = ⊥
 
-  -- what such a run leaves: the cause of its answer, what PART holds, what was opened and read, and what is as it was
+  -- what such a run leaves: the cause of its answer, what PART holds, what was opened and read, that what
+  -- failed is answered, and what is as it was
   pub record PartEnds (answer : Outcome) : Type 0 where
     pub cause : ApartCause answer
     pub leaves : IsTrue desks.tells → PartLeaves (exported desks files) files.part desks.old_in desks.new_in desks.old desks.new answer
@@ -86,5 +88,6 @@ module _ (desks : Desks) (files : PartNames) where
     pub unread : IsTrue desks.tells → desks.new.side.slots ≡ desks.old.side.slots → desks.old_in.side.slots < desks.new_in.side.slots
         → exported desks files ≡ Some (desks.new_in.left desks.old_in.side.slots)
     pub drained : IsDone answer → IsTrue desks.tells → IsTrue (desks.new_in.ended desks.old_in.side.slots)
+    pub failures : AnswersFailures desks answer
     pub kept_in : KeepsInputs desks.old_in desks.new_in
     pub kept_out : IsTrue desks.tells → KeepsOutputs desks.old desks.new

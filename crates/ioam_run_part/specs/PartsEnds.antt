@@ -5,6 +5,7 @@ use Rattle.ioam_desk.specs.Desk.{Rose}
 use Rattle.ioam_desk.specs.Kept.{KeepsInputs, KeepsOutputs}
 use Rattle.ioam_part.specs.Faults.{HasFault}
 use Rattle.ioam_run_answer.specs.Desks.{Desks}
+use Rattle.ioam_run_answer.specs.Failures.{AnswersFailures}
 use Rattle.ioam_run_answer.specs.Outcomes.{IsDone}
 use Rattle.ioam_run_answer.specs.declared.outcome.Outcome.{Outcome}
 use Rattle.ioam_run_answer.specs.declared.outcome.Outcome.TheVariants as outcome
@@ -23,7 +24,8 @@ module _ (desks : Desks) (files : PartsNames) where
   ApartCause outcome.NoMemory = ⊤
   ApartCause _ = ⊥
 
-  -- what such a run leaves: the cause of its answer, what REPORT holds, what was opened and read, and what is as it was
+  -- what such a run leaves: the cause of its answer, what REPORT holds, what was opened and read, that what
+  -- failed is answered, and what is as it was
   pub record PartsEnds (answer : Outcome) : Type 0 where
     pub cause : ApartCause answer
     pub leaves : IsTrue desks.tells → PartsLeaves (part_held desks files) files.report desks.old desks.new answer
@@ -35,5 +37,6 @@ module _ (desks : Desks) (files : PartsNames) where
     pub no_report : OpensNoPart answer → desks.new ≡ desks.old
     pub drained : IsDone answer → IsTrue desks.tells → IsTrue (desks.new_in.ended desks.old_in.side.slots)
     pub few : desks.old_in.side.slots < desks.new_in.side.slots → ReadsFew desks.tells (part_held desks files) desks.old_in.side.slots desks.new_in
+    pub failures : AnswersFailures desks answer
     pub kept_in : KeepsInputs desks.old_in desks.new_in
     pub kept_out : IsTrue desks.tells → KeepsOutputs desks.old desks.new

@@ -8,6 +8,7 @@ use Rattle.ioam_run_answer.specs.Record.{Record}
 use Rattle.ioam_part.specs.Faults.{HasFault}
 use Rattle.ioam_part.specs.Part.{IsPart}
 use Rattle.ioam_run_answer.specs.Desks.{Desks}
+use Rattle.ioam_run_answer.specs.Failures.{AnswersFailures}
 use Rattle.ioam_run_answer.specs.Outcomes.{IsDone, OpensNothing}
 use Rattle.ioam_run_answer.specs.declared.outcome.Outcome.{Outcome}
 use Rattle.ioam_run_answer.specs.declared.outcome.Outcome.TheVariants as outcome
@@ -93,6 +94,9 @@ module _ (desks : Desks) (files : PartsNames) where
     pub drained : IsDone answer → IsTrue desks.tells → IsTrue (desks.new_in.ended desks.old_in.side.slots)
     -- at most the first 300,000,000 octets of PART are read
     pub few : desks.old_in.side.slots < desks.new_in.side.slots → ReadsFew desks.tells part_held desks.old_in.side.slots desks.new_in
+    -- what failed is answered: no call of PART failed where the words and the file decided the answer, and none of REPORT
+    -- unless the answer is WriteFault
+    pub failures : AnswersFailures desks answer
     -- input slots that were there, and where the desk tells output slots that were there and names that weren't opened to be written, are as they were
     pub kept_in : KeepsInputs desks.old_in desks.new_in
     pub kept_out : IsTrue desks.tells → KeepsOutputs desks.old desks.new

@@ -1,5 +1,5 @@
 -- A text that becomes what a name holds.
-use Rattle.std.specs.Prelude.{◌≡◌, ℕ, ◌<◌, Bool, IsTrue, IsSomeAnd, List, [], ◌∷◌, ◌++◌, Some, Result, Ok, Err}
+use Rattle.std.specs.Prelude.{◌≡◌, ◌≢◌, ℕ, ◌<◌, Bool, IsTrue, IsSomeAnd, List, [], ◌∷◌, ◌++◌, Some, Result, Ok, Err}
 use Rattle.ioam_base.specs.Octets.{IsFront}
 use Rattle.ioam_desk.specs.Desk.{Writing, Written, Rose, holds}
 use Rattle.ioam_desk.specs.declared.fault.DeskFault.{DeskFault}
@@ -30,6 +30,10 @@ module _ (tells : Bool) (name text : List ℕ) (old new : Writing) where
   Stores (Ok _) = (new.side.asked ≡ old.side.asked ++ name ∷ []) × (IsTrue tells → holds new name ≡ Some text)
   Stores (Err Failed) = Rose old.side.faults new.side.faults × (IsTrue tells → old.side.slots < new.side.slots → HoldsFrontOf new name text)
   Stores (Err NoMemory) = IsTrue tells → old.side.slots < new.side.slots → HoldsFrontOf new name text
+
+-- what failed is answered: unless that is the answer no write failed, and no opening
+abbrev pub AnswersWrites : Writing → Writing → Result (Unit {0}) DeskFault → Type 0
+AnswersWrites old new result = result ≢ Err Failed → new.side.faults ≡ old.side.faults
 
 -- the answer for what became of the writing
 abbrev pub answer_of : Result (Unit {0}) DeskFault → Outcome

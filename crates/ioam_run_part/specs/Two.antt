@@ -1,5 +1,5 @@
 -- Two files that are read as parts, one after the other.
-use Rattle.std.specs.Prelude.{◌≡◌, ℕ, ◌+◌, ◌<◌, ◌≤◌, ⊤, Bool, IsTrue, IsSomeAnd, List, [], ◌∷◌, ◌++◌, Option, Result, Ok, Err}
+use Rattle.std.specs.Prelude.{◌≡◌, ℕ, ◌+◌, ◌<◌, ◌≤◌, ◌⊎◌, ⊤, Bool, IsTrue, IsSomeAnd, List, [], ◌∷◌, ◌++◌, Option, Result, Ok, Err}
 use Rattle.ioam_desk.specs.Asked.{AsksFront}
 use Rattle.ioam_desk.specs.Desk as desk
 use Rattle.ioam_desk.specs.Desk.{Rose, opened_side}
@@ -28,11 +28,16 @@ pub record HoldsTwo (tells : Bool) (first second : Option (List ℕ)) (one two :
   pub first_ended : IsTrue tells → IsTrue (new.ended old.side.slots)
   pub second_ended : IsTrue tells → IsTrue (new.ended (old.side.slots + 1))
 
+-- the names that were opened where the one of this name is no part: ONE alone where that is ONE, and both where it is TWO
+abbrev pub OpensUpTo : List ℕ → List ℕ → desk.Reading → desk.Reading → List ℕ → Type 0
+OpensUpTo one two old new name = ((name ≡ one) × (new.side.asked ≡ old.side.asked ++ one ∷ []))
+    ⊎ ((name ≡ two) × (new.side.asked ≡ old.side.asked ++ one ∷ two ∷ []))
+
 -- the octets of both, or the answer for the first that wasn't read
 module _ (tells : Bool) (first second : Option (List ℕ)) (one two : List ℕ) (old new : desk.Reading) where
-  -- the answer where one of the two wasn't read: the fault of a part, a failed read, or want of memory
+  -- the answer where one of the two wasn't read: the fault of a part, and then what was opened; a failed read; or want of memory
   abbrev pub RefusesTwo : Outcome → Type 0
-  RefusesTwo (outcome.Part name at fault) = IsFaulty tells first second one two name at fault
+  RefusesTwo (outcome.Part name at fault) = IsFaulty tells first second one two name at fault × OpensUpTo one two old new name
   RefusesTwo outcome.ReadFault = Rose old.side.faults new.side.faults
   RefusesTwo outcome.NoMemory = ⊤
   RefusesTwo _ = ⊥

@@ -5,6 +5,7 @@ ghost use Rattle.ioam_collect.specs.Collected as collected;
 ghost use Rattle.ioam_collect_stream.specs.Feed.{Fed};
 ghost use Rattle.ioam_collect_stream.specs.Gathering.{Gathers, ReadsOne};
 ghost use Rattle.ioam_run_answer.specs.Desks.{around};
+ghost use Rattle.ioam_run_answer.specs.Failures.{AnswersFailures};
 ghost use Rattle.ioam_run_part.specs.PartEnds.{Finishes, PartEnds, is_out, outcome_of};
 ghost use Rattle.ioam_run_part.specs.Stored.{IsBlank};
 
@@ -80,6 +81,7 @@ fn run_open<D: Desk>(
     requires room { length piece.old ≡ PIECE }
     ensures finishes { (part : List ℕ) → IsBlank D.tells (D.writing desk.old) part slot → Finishes D.tells ((D.reading desk.old).left feed.old.slot) part feed.old.slot
         (D.reading desk.old) (D.reading desk.new) (D.writing desk.old) (D.writing desk.new) result }
+    ensures failures { AnswersFailures (around D.tells (D.reading desk.old) (D.reading desk.new) (D.writing desk.old) (D.writing desk.new)) result }
     ensures asked_in { (D.reading desk.new).side.asked ≡ (D.reading desk.old).side.asked }
     ensures slots_in { (D.reading desk.new).side.slots ≡ (D.reading desk.old).side.slots }
     ensures asked_out { (D.writing desk.new).side.asked ≡ (D.writing desk.old).side.asked }

@@ -7,7 +7,7 @@ ghost use Rattle.ioam_desk.specs.Kept.{KeepsInputs};
 ghost use Rattle.ioam_part_merge.specs.Keeping.{Keeps, fault_of};
 ghost use Rattle.ioam_run_part.specs.Flat.{JudgesFlat, ReadsFlatFile, ReadsFlatSlot};
 ghost use Rattle.ioam_run_part.specs.Records.{ReadsFew};
-ghost use Rattle.ioam_run_part.specs.Unread.{unread_by};
+ghost use Rattle.ioam_run_part.specs.Unread.{AnswersReads, unread_by};
 
 use crate::unread::{MOST_OCTETS, Unread, unread_by};
 use ioam_base::memory::NoMemory;
@@ -79,6 +79,7 @@ pub(crate) fn read_flat<D: Desk>(
 ) -> Result<PartOctets, Unread>
     ensures reads { ReadsFlatFile D.tells (holds (D.writing desk.old) name.now) name.now (D.reading desk.old) (D.reading desk.new) result }
     ensures few { (D.reading desk.old).side.slots < (D.reading desk.new).side.slots → ReadsFew D.tells (holds (D.writing desk.old) name.now) (D.reading desk.old).side.slots (D.reading desk.new) }
+    ensures faults { AnswersReads (D.reading desk.old) (D.reading desk.new) result }
     ensures asked { AsksFront (D.reading desk.old).side.asked (D.reading desk.new).side.asked (name.now ∷ []) }
     ensures grew { (D.reading desk.old).side.slots ≤ (D.reading desk.new).side.slots }
     ensures slots { (D.reading desk.new).side.slots ≤ (D.reading desk.old).side.slots + 1 }

@@ -1,5 +1,5 @@
 //! Two parts, joined and written as one.
-ghost use Rattle.std.specs.Prelude.{◌≡◌, ◌∷◌, ◌++◌, [], IfOk, IsTrue, List, MatchResult, length, ℕ};
+ghost use Rattle.std.specs.Prelude.{◌≡◌, ◌≢◌, ◌∷◌, ◌++◌, ◌<◌, [], IfOk, IsTrue, List, MatchResult, length, ℕ};
 ghost use Rattle.ioam_desk.specs.Asked.{AsksFront};
 ghost use Rattle.ioam_desk.specs.Kept.{KeepsOutputs};
 ghost use Rattle.ioam_run_answer.specs.Record.{Record};
@@ -9,7 +9,7 @@ ghost use Rattle.ioam_part.specs.Part.{IsPart, head_octets};
 ghost use Rattle.ioam_part_merge.specs.Walk.{Comes, pairs_octets};
 ghost use Rattle.ioam_collect.specs.Entry.{Entry};
 ghost use Rattle.ioam_collect.specs.declared.key.Key.{Key};
-ghost use Rattle.ioam_run_part.specs.Stored.{Stores};
+ghost use Rattle.ioam_run_part.specs.Stored.{AnswersWrites, Stores};
 ghost use Rattle.ioam_run_part.specs.Joined.{Counts, IsPlan, RefusesJoined, WritesJoined};
 
 use crate::gathered::gather_head;
@@ -46,8 +46,9 @@ fn plan_of<'a>(
     two: &'a [u8],
     count: u32,
 ) -> Result<Plan<'a>, NoMemory>
-    ensures { IfOk result (λ plan. (xs ys : List Record) → IsPart one.now xs → IsPart two.now ys
+    ensures plan { IfOk result (λ plan. (xs ys : List Record) → IsPart one.now xs → IsPart two.now ys
         → Comes plan.walk (united (keyed xs) (keyed ys)) × (plan.gathered.items ≡ head_octets count)) }
+    ensures few { IfOk result (λ plan. length plan.gathered.items < 65536) }
 {
     Ok(Plan {
         walk: Walk::new(alloc, one, two)?,
@@ -57,8 +58,9 @@ fn plan_of<'a>(
 
 // The same, or the answer where there is none.
 fn make_plan<'a>(alloc: Global, one: &'a [u8], two: &'a [u8]) -> Result<Plan<'a>, Outcome>
-    ensures { (xs ys : List Record) → IsPart one.now xs → IsPart two.now ys
+    ensures plan { (xs ys : List Record) → IsPart one.now xs → IsPart two.now ys
         → MatchResult result (λ plan. IsPlan xs ys plan.walk plan.gathered.items) (RefusesJoined xs ys) }
+    ensures few { IfOk result (λ plan. length plan.gathered.items < 65536) }
 {
     let count = match count_of(alloc, one, two) {
         Ok(Some(count)) => count,
@@ -73,8 +75,10 @@ fn make_plan<'a>(alloc: Global, one: &'a [u8], two: &'a [u8]) -> Result<Plan<'a>
 
 // Opens a name, and writes there what a plan has.
 fn write_plan<D: Desk>(plan: Plan<'_>, part: &Name, desk: &mut D) -> Result<(), DeskFault>
+    requires few { length plan.gathered.items < 65536 }
     ensures stores { (ps : List (Key × Entry)) → Comes plan.entry.walk ps
         → Stores D.tells part.now (plan.entry.gathered.items ++ pairs_octets ps) (D.writing desk.old) (D.writing desk.new) result }
+    ensures faults { AnswersWrites (D.writing desk.old) (D.writing desk.new) result }
     ensures asked { AsksFront (D.writing desk.old).side.asked (D.writing desk.new).side.asked (part.now ∷ []) }
     ensures kept { IsTrue D.tells → KeepsOutputs (D.writing desk.old) (D.writing desk.new) }
     ensures inputs { D.reading desk.new ≡ D.reading desk.old }
@@ -97,6 +101,7 @@ pub(crate) fn write_joined<'a, D: Desk>(
 ) -> Outcome
     ensures writes { (xs ys : List Record) → IsPart first.now xs → IsPart second.now ys
         → WritesJoined D.tells part.now xs ys (D.writing desk.old) (D.writing desk.new) result }
+    ensures faults { result ≢ Outcome.WriteFault → (D.writing desk.new).side.faults ≡ (D.writing desk.old).side.faults }
     ensures asked { AsksFront (D.writing desk.old).side.asked (D.writing desk.new).side.asked (part.now ∷ []) }
     ensures kept { IsTrue D.tells → KeepsOutputs (D.writing desk.old) (D.writing desk.new) }
     ensures inputs { D.reading desk.new ≡ D.reading desk.old }

@@ -7,7 +7,7 @@ ghost use Rattle.ioam_desk.specs.Kept.{KeepsInputs};
 ghost use Rattle.ioam_part.specs.Reading.{Stands, fault_of};
 ghost use Rattle.ioam_run_answer.specs.declared.outcome.Outcome.{Outcome};
 ghost use Rattle.ioam_run_part.specs.Records.{ReadsFew};
-ghost use Rattle.ioam_run_part.specs.Unread.{Judges, ReadsFile, ReadsSlot, answer_of, unread_by};
+ghost use Rattle.ioam_run_part.specs.Unread.{AnswersReads, Judges, ReadsFile, ReadsSlot, answer_of, unread_by};
 
 use ioam_base::memory::NoMemory;
 use ioam_base::name::Name;
@@ -105,6 +105,7 @@ pub(crate) fn read_held<D: Desk>(
 ) -> Result<Collector, Unread>
     ensures reads { ReadsFile D.tells (holds (D.writing desk.old) name.now) name.now (D.reading desk.old) (D.reading desk.new) result }
     ensures few { (D.reading desk.old).side.slots < (D.reading desk.new).side.slots → ReadsFew D.tells (holds (D.writing desk.old) name.now) (D.reading desk.old).side.slots (D.reading desk.new) }
+    ensures faults { AnswersReads (D.reading desk.old) (D.reading desk.new) result }
     ensures asked { AsksFront (D.reading desk.old).side.asked (D.reading desk.new).side.asked (name.now ∷ []) }
     ensures grew { (D.reading desk.old).side.slots ≤ (D.reading desk.new).side.slots }
     ensures slots { (D.reading desk.new).side.slots ≤ (D.reading desk.old).side.slots + 1 }

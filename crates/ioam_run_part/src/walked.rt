@@ -1,11 +1,11 @@
 //! Records that are written as they come of a walk along two parts.
-ghost use Rattle.std.specs.Prelude.{◌≡◌, ◌<◌, ◌++◌, ◌∷◌, [], IfErr, IsTrue, List, OnOk, ℕ};
+ghost use Rattle.std.specs.Prelude.{◌≡◌, ◌<◌, ◌++◌, ◌∷◌, [], IfErr, IsTrue, List, OnOk, length, ℕ};
 ghost use Rattle.ioam_desk.specs.Asked.{AsksFront};
 ghost use Rattle.ioam_desk.specs.Kept.{KeepsOutputs, WritesFrom};
 ghost use Rattle.ioam_collect.specs.Entry.{Entry};
 ghost use Rattle.ioam_collect.specs.declared.key.Key.{Key};
 ghost use Rattle.ioam_part_merge.specs.Walk.{Comes, pairs_octets};
-ghost use Rattle.ioam_run_part.specs.Stored.{Stores};
+ghost use Rattle.ioam_run_part.specs.Stored.{AnswersWrites, Stores};
 ghost use Rattle.ioam_run_part.specs.Walked.{Puts, Sends};
 
 use crate::gathered::send;
@@ -22,8 +22,12 @@ fn put<D: Desk>(
     gathered: &mut Vec<u8>,
     octets: &[u8],
 ) -> Result<(), DeskFault>
-    requires { slot < (D.writing desk.old).side.slots }
+    requires slot { slot < (D.writing desk.old).side.slots }
+    // less than a piece waits to be written where more is gathered
+    requires few { length gathered.old.items < 65536 }
     ensures puts { Puts D.tells slot (gathered.old.items ++ octets.now) gathered.new.items (D.writing desk.old) (D.writing desk.new) result }
+    ensures few { OnOk result (length gathered.new.items < 65536) }
+    ensures faults { AnswersWrites (D.writing desk.old) (D.writing desk.new) result }
     ensures asked { (D.writing desk.new).side.asked ≡ (D.writing desk.old).side.asked }
     ensures slots { (D.writing desk.new).side.slots ≡ (D.writing desk.old).side.slots }
     ensures kept { WritesFrom slot (D.writing desk.old) (D.writing desk.new) }
@@ -52,9 +56,11 @@ fn write_walk<D: Desk>(
     walk: &mut Walk<'_>,
     gathered: &mut Vec<u8>,
 ) -> Result<(), DeskFault>
-    requires { slot < (D.writing desk.old).side.slots }
+    requires slot { slot < (D.writing desk.old).side.slots }
+    requires few { length gathered.old.items < 65536 }
     ensures sends { (ps : List (Key × Entry)) → Comes walk.old ps
         → Sends D.tells slot (gathered.old.items ++ pairs_octets ps) (D.writing desk.old) (D.writing desk.new) result }
+    ensures faults { AnswersWrites (D.writing desk.old) (D.writing desk.new) result }
     ensures asked { (D.writing desk.new).side.asked ≡ (D.writing desk.old).side.asked }
     ensures slots { (D.writing desk.new).side.slots ≡ (D.writing desk.old).side.slots }
     ensures kept { WritesFrom slot (D.writing desk.old) (D.writing desk.new) }
@@ -78,8 +84,10 @@ pub(crate) fn store_walk<D: Desk>(
     walk: &mut Walk<'_>,
     gathered: &mut Vec<u8>,
 ) -> Result<(), DeskFault>
+    requires few { length gathered.old.items < 65536 }
     ensures stores { (ps : List (Key × Entry)) → Comes walk.old ps
         → Stores D.tells name.now (gathered.old.items ++ pairs_octets ps) (D.writing desk.old) (D.writing desk.new) result }
+    ensures faults { AnswersWrites (D.writing desk.old) (D.writing desk.new) result }
     ensures asked { AsksFront (D.writing desk.old).side.asked (D.writing desk.new).side.asked (name.now ∷ []) }
     ensures kept { IsTrue D.tells → KeepsOutputs (D.writing desk.old) (D.writing desk.new) }
     ensures inputs { D.reading desk.new ≡ D.reading desk.old }

@@ -1,4 +1,4 @@
-use Rattle.std.proofs.Common.{◌≡◌, ◌++◌, length}
+use Rattle.std.proofs.Common.{◌≡◌, ◌+◌, ◌<◌, ◌++◌, length}
 use Rattle.std.specs.List.{AllByRecursion}
 use Rattle.ioam_collect.specs.Keyed.{IsOfRecord}
 use Rattle.ioam_part.specs.Part.{items_octets}
@@ -9,6 +9,7 @@ abbrev pub invariant-records : goal.invariant-records
 invariant-records l = record {
   octets : l.out.items ++ items_octets l.items ≡ l.initial.out.items ++ items_octets l.initial.items;
   each : AllByRecursion IsOfRecord l.items;
+  few : length l.initial.out.items < l.enough + 274 → length l.out.items < l.enough + 274;
 }
 
 abbrev pub decreases-records : goal.decreases-records

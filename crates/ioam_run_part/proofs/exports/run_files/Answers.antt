@@ -67,6 +67,7 @@ returns-in-Ok-open_out g c =
     ends_finished desks names mid_in slot_in opened mid c.in-Ok-open_out.slot opened_out c.run_open.result
     (c.run_open.ensures.finishes c.args.part.now (blank_opened tells old mid c.args.part.now c.in-Ok-open_out.slot opened_out))
     c.run_open.ensures.asked_in c.run_open.ensures.slots_in c.run_open.ensures.asked_out c.run_open.ensures.slots_out c.run_open.ensures.kept_in c.run_open.ensures.kept_out
+    c.run_open.ensures.failures
 
 pub returns-in-Err-Failed-open_out : goal.returns-in-Err-Failed-open_out
 returns-in-Err-Failed-open_out g c =

@@ -2,8 +2,9 @@ use Rattle.std.proofs.Common.{◌≡◌, ℕ, ◌+◌, List, ◌∷◌, [], leng
 use Rattle.ioam_desk.specs.Desk as desk
 use Rattle.ioam_desk.specs.Desk.{OpenIn, OpensInput, holds}
 use Rattle.ioam_desk.proofs.KeptLaws.{KeepsInputs-same}
+use Rattle.ioam_run_part.proofs.FailuresLaws.{read_unopened}
 use Rattle.ioam_run_part.proofs.FileLaws.{file_few, file_kept, none_asked, unopened_asked, unopened_slots}
-use Rattle.ioam_run_part.proofs.FlatLaws.{read_file, file_asked, file_slots}
+use Rattle.ioam_run_part.proofs.FlatLaws.{read_file, file_asked, file_faults, file_slots}
 use Rattle.ioam_run_part.proofs.flat.read_flat.Goals as goal
 
 pub returns-in_default-clause-asked : goal.returns-in_default-clause-asked
@@ -38,6 +39,7 @@ returns-in-Ok-open_in g c =
     record {
       reads = read_file g.D.Desk.tells (holds (g.D.Desk.writing c.args.desk.now) c.args.name.now) c.args.name.now old mid new c.in-Ok-open_in.slot opened c.read_slot.result c.read_slot.ensures.reads;
       few = λ more. file_few g.D.Desk.tells (holds (g.D.Desk.writing c.args.desk.now) c.args.name.now) c.args.name.now old mid new c.in-Ok-open_in.slot opened c.read_slot.ensures.few;
+      faults = file_faults g.D.Desk.tells (holds (g.D.Desk.writing c.args.desk.now) c.args.name.now) c.args.name.now old mid new c.in-Ok-open_in.slot opened c.read_slot.result c.read_slot.ensures.reads;
       asked = file_asked g.D.Desk.tells (holds (g.D.Desk.writing c.args.desk.now) c.args.name.now) c.args.name.now old mid new c.in-Ok-open_in.slot opened c.read_slot.result c.read_slot.ensures.reads;
       grew = omega (arith, slots);
       slots = omega (arith, slots);
@@ -56,3 +58,7 @@ returns-clause-few g c = λ more. absurd (
     let same = unopened_slots g.D.Desk.tells (g.D.Desk.reading c.args.desk.now) (g.D.Desk.reading c.open_in.new.self) (holds (g.D.Desk.writing c.args.desk.now) c.text.result.now) c.text.result.now c.in-Err.fault
     c.in-Err.ensures.opened in
     omega (arith, same, more))
+
+pub returns-clause-faults : goal.returns-clause-faults
+returns-clause-faults g c = rw c.unread_by.ensures (read_unopened (g.D.Desk.reading c.args.desk.now) (g.D.Desk.reading c.open_in.new.self) g.D.Desk.tells
+    (holds (g.D.Desk.writing c.args.desk.now) c.text.result.now) c.text.result.now c.in-Err.fault c.in-Err.ensures.opened)

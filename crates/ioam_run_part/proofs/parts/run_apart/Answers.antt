@@ -8,7 +8,7 @@ use Rattle.ioam_run_answer.specs.declared.outcome.Outcome.{Outcome}
 use Rattle.ioam_run_part.specs.Files.{PartsNames}
 use Rattle.ioam_run_part.specs.PartsEnds.{PartsEnds}
 use Rattle.ioam_run_part.specs.Records.{ReadsFew}
-use Rattle.ioam_run_part.specs.Stored.{Stores}
+use Rattle.ioam_run_part.specs.Stored.{AnswersWrites, Stores}
 use Rattle.ioam_run_part.specs.Unread.{ReadsFile}
 use Rattle.ioam_run_part.proofs.PartsLaws.{ends_stored, ends_unread, ends_wanting}
 use Rattle.ioam_run_part.proofs.parts.run_apart.Goals as goal
@@ -28,12 +28,14 @@ returns-in-Ok-lines g c =
     let S : Writing → Type 0 = λ w. Stores tells c.args.report.now c.deref.result.now w new c.store.result in
     let A : Writing → Type 0 = λ w. AsksFront w.side.asked new.side.asked (c.args.report.now ∷ []) in
     let O : Writing → Type 0 = λ w. IsTrue tells → KeepsOutputs w new in
+    let G : Writing → Type 0 = λ w. AnswersWrites w new c.store.result in
     let E : Outcome → Type 0 = λ o. PartsEnds (around tells old_in new_in old new) names o in
     subst E (sym c.stored_outcome.ensures)
     (ends_stored (around tells old_in new_in old new) names c.in-Ok.collector c.deref.result.now reads
     (c.deref.ensures.value ∙ c.in-Ok-lines.ensures reads.1.records reads.1.part.in_order reads.1.part.few reads.1.stands)
     c.store.result (subst S c.in-Ok.ensures.outputs c.store.ensures.stores) (subst A c.in-Ok.ensures.outputs c.store.ensures.asked)
-    (subst K (sym c.store.ensures.inputs) c.in-Ok.ensures.kept_in) (subst O c.in-Ok.ensures.outputs c.store.ensures.kept) (subst F (sym c.store.ensures.inputs) c.in-Ok.ensures.few))
+    (subst K (sym c.store.ensures.inputs) c.in-Ok.ensures.kept_in) (subst O c.in-Ok.ensures.outputs c.store.ensures.kept) (subst F (sym c.store.ensures.inputs) c.in-Ok.ensures.few)
+    (subst G c.in-Ok.ensures.outputs c.store.ensures.faults))
 
 pub returns-in-Err-lines : goal.returns-in-Err-lines
 returns-in-Err-lines g c =
@@ -45,4 +47,4 @@ pub returns-in-Err : goal.returns-in-Err
 returns-in-Err g c =
     let names : PartsNames = record { part = c.args.part.now; report = c.args.report.now } in
     let desks : Desks = around g.D.Desk.tells (g.D.Desk.reading c.args.desk.now) (g.D.Desk.reading c.read_held.new.desk) (g.D.Desk.writing c.args.desk.now) (g.D.Desk.writing c.read_held.new.desk) in
-    ends_unread desks names c.in-Err.ensures.outputs c.in-Err.ensures.asked c.in-Err.ensures.kept_in c.in-Err.ensures.few c.unread_outcome.result c.in-Err.why c.in-Err.ensures.reads c.unread_outcome.ensures
+    ends_unread desks names c.in-Err.ensures.outputs c.in-Err.ensures.asked c.in-Err.ensures.kept_in c.in-Err.ensures.few c.unread_outcome.result c.in-Err.why c.in-Err.ensures.reads c.unread_outcome.ensures c.in-Err.ensures.faults

@@ -1,6 +1,7 @@
 use Rattle.std.proofs.Common.{ℕ, List, ap, ◌∙◌, subst, Ok, Err, arith}
 use Rattle.ioam_desk.specs.Desk.{Side, OpenOut}
 use Rattle.ioam_desk.proofs.KeptLaws.{KeepsOutputs-asked, KeepsOutputs-from}
+use Rattle.ioam_run_part.proofs.FailuresLaws.{written_unopened}
 use Rattle.ioam_run_part.proofs.StoredLaws.{asks_unopened, blank_opened, stored, unstored}
 use Rattle.ioam_run_part.proofs.WalkedLaws.{writes_sent}
 use Rattle.ioam_run_part.proofs.stored.store.Goals as goal
@@ -18,6 +19,7 @@ returns-in-Ok g c =
     record {
       stores = stored g.D.Desk.tells (g.D.Desk.writing c.args.desk.now) mid new c.args.name.now c.args.text.now c.in-Ok.slot c.send.result opened c.send.ensures.asked
           (writes_sent g.D.Desk.tells c.args.name.now c.args.text.now mid new c.in-Ok.slot blank c.send.result c.send.ensures.sends);
+      faults = λ other. c.send.ensures.faults other ∙ ap (λ (s : Side). s.faults) opened.1;
       asked = (1, c.send.ensures.asked ∙ ap (λ (s : Side). s.asked) opened.1);
       kept = λ told.
           let number = opened.0 in
@@ -33,6 +35,7 @@ returns-in-Err g c =
     (let P : List ℕ → Type 0 = λ name. OpenOut g.D.Desk.tells (g.D.Desk.writing c.args.desk.now) name (Err c.in-Err.fault) (g.D.Desk.writing c.open_out.new.self) in subst P c.text.ensures c.in-Err.ensures.opened) in
     record {
       stores = unstored g.D.Desk.tells (g.D.Desk.writing c.args.desk.now) (g.D.Desk.writing c.open_out.new.self) c.args.name.now c.args.text.now c.in-Err.fault opened;
+      faults = written_unopened (g.D.Desk.writing c.args.desk.now) (g.D.Desk.writing c.open_out.new.self) g.D.Desk.tells c.args.name.now c.in-Err.fault opened;
       asked = asks_unopened g.D.Desk.tells (g.D.Desk.writing c.args.desk.now) (g.D.Desk.writing c.open_out.new.self) c.args.name.now c.in-Err.fault opened;
       kept = λ told. KeepsOutputs-asked g.D.Desk.tells (g.D.Desk.writing c.args.desk.now) (g.D.Desk.writing c.open_out.new.self) c.args.name.now (Err c.in-Err.fault) opened told;
       inputs = c.open_out.ensures.inputs;

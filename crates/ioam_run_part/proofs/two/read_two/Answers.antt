@@ -3,7 +3,8 @@ use Rattle.ioam_desk.specs.Desk.{Writing, holds}
 use Rattle.ioam_run_part.specs.Records.{ReadsFew}
 use Rattle.ioam_run_part.specs.Flat.{ReadsFlatFile}
 use Rattle.ioam_run_part.specs.Unread.{answer_of}
-use Rattle.ioam_run_part.proofs.TwoLaws.{either_refuses, first_refuses, first_tries, second_refuses, second_tries, holds_two}
+use Rattle.ioam_run_part.proofs.FailuresLaws.{read_answered}
+use Rattle.ioam_run_part.proofs.TwoLaws.{mid_faults, either_refuses, first_refuses, first_tries, second_refuses, second_tries, holds_two}
 use Rattle.ioam_run_part.proofs.two.read_two.Goals as goal
 
 pub returns-in-Err : goal.returns-in-Err
@@ -17,6 +18,7 @@ returns-in-Err g c =
           (first_refuses g.D.Desk.tells first second c.args.one.now c.args.two.now old new c.in-Err.why c.in-Err.ensures.reads);
       tries = first_tries g.D.Desk.tells first second c.args.one.now c.args.two.now old new c.in-Err.ensures.asked c.in-Err.ensures.slots c.in-Err.ensures.kept_in
           c.in-Err.ensures.few;
+      faults = read_answered old new c.args.one.now c.in-Err.why c.unread_outcome.result c.unread_outcome.ensures c.in-Err.ensures.faults;
       outputs = c.in-Err.ensures.outputs;
     }
 
@@ -34,6 +36,7 @@ returns-in-Ok-read_flat g c =
       reads = holds_two g.D.Desk.tells first second c.args.one.now c.args.two.now old mid new c.in-Ok.part c.in-Ok.ensures.reads c.in-Ok-read_flat.ensures.kept_in c.in-Ok-read_flat.second reads;
       tries = second_tries g.D.Desk.tells first second c.args.one.now c.args.two.now old mid new c.in-Ok.part c.in-Ok.ensures.reads c.in-Ok.ensures.kept_in
           c.in-Ok-read_flat.ensures.asked c.in-Ok-read_flat.ensures.slots c.in-Ok-read_flat.ensures.kept_in c.in-Ok.ensures.few (subst F c.in-Ok.ensures.outputs c.in-Ok-read_flat.ensures.few);
+      faults = tt;
       outputs = c.in-Ok-read_flat.ensures.outputs ∙ c.in-Ok.ensures.outputs;
     }
 
@@ -53,5 +56,8 @@ returns-in-Err-read_flat g c =
           (second_refuses g.D.Desk.tells first second c.args.one.now c.args.two.now old mid new c.in-Ok.part c.in-Ok.ensures.reads c.in-Err-read_flat.why reads);
       tries = second_tries g.D.Desk.tells first second c.args.one.now c.args.two.now old mid new c.in-Ok.part c.in-Ok.ensures.reads c.in-Ok.ensures.kept_in
           c.in-Err-read_flat.ensures.asked c.in-Err-read_flat.ensures.slots c.in-Err-read_flat.ensures.kept_in c.in-Ok.ensures.few (subst F c.in-Ok.ensures.outputs c.in-Err-read_flat.ensures.few);
+      faults = λ settled.
+          read_answered mid new c.args.two.now c.in-Err-read_flat.why c.unread_outcome-in-Err-read_flat.result c.unread_outcome-in-Err-read_flat.ensures c.in-Err-read_flat.ensures.faults settled
+          ∙ mid_faults g.D.Desk.tells first second c.args.one.now c.args.two.now old mid new c.in-Ok.part c.in-Ok.ensures.reads;
       outputs = c.in-Err-read_flat.ensures.outputs ∙ c.in-Ok.ensures.outputs;
     }

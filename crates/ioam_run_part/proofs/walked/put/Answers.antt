@@ -1,5 +1,5 @@
-use Rattle.std.proofs.Common.{◌++◌, [], List, ℕ, refl, sym, ◌∙◌, subst, Err}
-use Rattle.ioam_desk.specs.Desk.{Grows}
+use Rattle.std.proofs.Common.{◌++◌, [], List, ℕ, refl, ap, sym, ◌∙◌, subst, Err, arith}
+use Rattle.ioam_desk.specs.Desk.{Side, Grows}
 use Rattle.ioam_desk.proofs.KeptLaws.{WritesFrom-same}
 use Rattle.ioam_run_part.specs.Walked.{Sends}
 use Rattle.ioam_run_part.proofs.WalkedLaws.{front_none, grows_none, puts_sent, puts_unsent}
@@ -10,6 +10,8 @@ returns-in-Err g c =
     let desk = g.D.Desk.writing c.args.desk.now in
     record {
       puts = front_none g.D.Desk.tells c.args.slot desk (c.args.gathered.now.items ++ c.args.octets.now);
+      few = tt;
+      faults = λ other. refl;
       asked = refl;
       slots = refl;
       kept = WritesFrom-same c.args.slot desk desk refl;
@@ -21,6 +23,8 @@ returns-then-len-lt-PIECE g c =
     let desk = g.D.Desk.writing c.args.desk.now in
     record {
       puts = (refl, record { sent = []; grows = grows_none g.D.Desk.tells c.args.slot desk; are = sym c.in-Ok.ensures });
+      few = omega (arith, c.if-len-lt-PIECE.true);
+      faults = λ other. refl;
       asked = refl;
       slots = refl;
       kept = WritesFrom-same c.args.slot desk desk refl;
@@ -42,3 +46,6 @@ returns-in-Err-send-clause-puts g c =
     let P : List ℕ → Type 0 = λ o. Sends g.D.Desk.tells c.args.slot o old new (Err c.in-Err-send.fault) in
     puts_unsent g.D.Desk.tells c.args.slot old new (c.args.gathered.now.items ++ c.args.octets.now) c.append.new.out.items c.in-Err-send.fault
     (subst P (c.deref.ensures.value ∙ c.in-Ok.ensures) c.in-Err-send.ensures.sends)
+
+pub returns-in-Ok-send-clause-faults : goal.returns-in-Ok-send-clause-faults
+returns-in-Ok-send-clause-faults g c = λ other. ap (λ (s : Side). s.faults) c.in-Ok-send.ensures.sends.0

@@ -1,5 +1,5 @@
 use Rattle.std.proofs.Common.{◌++◌, List, ℕ, ap, ◌∙◌, subst}
-use Rattle.ioam_desk.specs.Desk.{Side, Writing}
+use Rattle.ioam_desk.specs.Desk.{Side}
 use Rattle.ioam_desk.proofs.KeptLaws.{WritesFrom-then}
 use Rattle.ioam_part_merge.specs.Walk.{pairs_octets}
 use Rattle.ioam_run_part.specs.Walked.{Sends}
@@ -17,6 +17,7 @@ records-preserved g c =
           let next = c.in-Some.ensures.next was.rest was.comes in
           waits_more g.D.Desk.tells c.args.slot (c.args.gathered.now.items ++ pairs_octets ps) c.records.gathered.items c.in-Some.octets.now c.records.walk c.next.new.self first now then was next
           c.put.new.gathered.items c.in-Ok.ensures.puts.1;
+      few = c.in-Ok.ensures.few;
       side = c.in-Ok.ensures.puts.0 ∙ c.records.invariant.side;
       kept = WritesFrom-then c.args.slot first now then c.records.invariant.kept c.in-Ok.ensures.kept;
       inputs = c.in-Ok.ensures.inputs ∙ c.records.invariant.inputs;
@@ -33,6 +34,7 @@ returns-in-Err g c =
           let next = c.in-Some.ensures.next was.rest was.comes in
           puts_fails g.D.Desk.tells c.args.slot (c.args.gathered.now.items ++ pairs_octets ps) c.records.gathered.items c.in-Some.octets.now c.records.walk c.next.new.self first now then was next
           c.records.invariant.side c.put.new.gathered.items c.in-Err.fault c.in-Err.ensures.puts;
+      faults = λ other. c.in-Err.ensures.faults other ∙ ap (λ (s : Side). s.faults) c.records.invariant.side;
       asked = c.in-Err.ensures.asked ∙ ap (λ (s : Side). s.asked) c.records.invariant.side;
       slots = c.in-Err.ensures.slots ∙ ap (λ (s : Side). s.slots) c.records.invariant.side;
       kept = WritesFrom-then c.args.slot first now then c.records.invariant.kept c.in-Err.ensures.kept;
@@ -50,6 +52,7 @@ returns-in-None g c =
           sends_last g.D.Desk.tells c.args.slot (c.args.gathered.now.items ++ pairs_octets ps) c.records.gathered.items c.records.walk first now then was c.records.invariant.side
           (c.in-None.ensures.next was.rest was.comes) c.send.result
           (subst (λ (o : List ℕ). Sends g.D.Desk.tells c.args.slot o now then c.send.result) c.deref.ensures.value c.send.ensures.sends);
+      faults = λ other. c.send.ensures.faults other ∙ ap (λ (s : Side). s.faults) c.records.invariant.side;
       asked = c.send.ensures.asked ∙ ap (λ (s : Side). s.asked) c.records.invariant.side;
       slots = c.send.ensures.slots ∙ ap (λ (s : Side). s.slots) c.records.invariant.side;
       kept = WritesFrom-then c.args.slot first now then c.records.invariant.kept c.send.ensures.kept;
