@@ -23,8 +23,8 @@ use Rattle.ioam_run_part.specs.GroupsText.{records_text}
 use Rattle.ioam_run_audit.specs.Merge.{Arrival}
 use Rattle.ioam_run_answer.specs.declared.outcome.Outcome.{Outcome}
 use Rattle.ioam_run_answer.specs.declared.outcome.Outcome.TheVariants as outcome
-use Rattle.ioam_cmd.specs.Measured.{AreCollected, ArePaths, Collects, IsCollected, IsAllMeasured, IsPartCollected, IsPartMeasured, Measures, RunThenCollect, TellsFirst, TellsPart, asked_by}
-use Rattle.ioam_cmd.proofs.PartedLaws.{merged_is}
+use Rattle.ioam_cmd.specs.Measured.{AreCollected, ArePaths, Collects, IsCollected, IsAllMeasured, IsPartCollected, IsPartMeasured, Measures, RunThenCollect, TellsFirst, TellsPart, TellsPassed, asked_by}
+use Rattle.ioam_cmd.proofs.PartedLaws.{merged_is, printed_same}
 use Rattle.ioam_run_audit.specs.Held.{HoldFronts, HoldsFront}
 use Rattle.ioam_run_collect.specs.Exported.{AreFirst, AreFirstOfRun, IsTimely, IsTold, ending_with}
 use Rattle.ioam_run_collect.specs.Paths.{AreOfRun, exports_of}
@@ -90,16 +90,12 @@ module _ (octets : List ℕ) (read : List Record) (left : List ℕ) (reads : Rea
         let same = only held.records other held.are in
         (sym same.1, held.held ∙ ap (λ (xs : List Record). Some (records_text xs)) same.0)
 
-    passed : (limit : ℕ) → HoldsReport (Passes limit) new report octets → (AreFew read → ⊥) × TellsFirst read ending new report
+    passed : (limit : ℕ) → HoldsReport (Passes limit) new report octets → (AreFew read → ⊥) × TellsPassed read ending limit new report
     passed limit held =
         let last : List Record = held.are.next ∷ [] in
         let begin = begins (held.records ++ last) held.are.rest held.are.splits in (
           past_few limit held.records held.are.next begin.more read held.are.past begin.are,
-          record {
-            records = held.records;
-            first = record { more = last ++ begin.more; are = begin.are ∙ append_assoc held.records last begin.more };
-            held = held.held;
-          },
+          record { records = held.records; next = held.are.next; first = begin; past = held.are.past; held = held.held },
         )
 
     whole_told : (behind : List ℕ) → HoldsReport (AreWhole behind) new report octets → TellsFirst read ending new report
@@ -174,6 +170,7 @@ module _ (domain : Domain) (readings : List (List Sample)) (frames : List Frame)
         paths = first_paths all_records (record { more = []; are = sym (append-nil all_records) });
         collected = are_collected all_octets all_records [] read.reads read.only;
         merged = λ tree part same is. merged_is tree all_records part same is;
+        printed = λ part records of is. printed_same part records all_records of is;
       }
 
   part_collected : (octets : List ℕ) → IsFront octets all_octets → IsPartCollected domain readings fates octets

@@ -1,13 +1,13 @@
 -- Of parts that are merged: in whatever tree, they become the part of all that their leaves have.
-use Rattle.std.proofs.Common.{◌≡◌, ℕ, List, ◌++◌, ap, ◌∙◌, subst}
-use Rattle.ioam_run_collect.specs.Best.{groups_of}
+use Rattle.std.proofs.Common.{◌≡◌, ℕ, List, ◌++◌, ap, sym, ◌∙◌, subst}
+use Rattle.ioam_run_collect.specs.Best.{groups_of, kept_of}
 use Rattle.ioam_run_collect.specs.Join.{SameMembers, Tree, Leaf, Join, leaves, merged, pairs_in}
 use Rattle.ioam_run_collect.specs.Keyed.{keyed}
 use Rattle.ioam_run_collect.specs.Key.{Key}
-use Rattle.ioam_run_collect.proofs.JoinLaws.{merged_same}
+use Rattle.ioam_run_collect.proofs.JoinLaws.{kept_again, merged_same, pairs_groups}
 use Rattle.ioam_run_answer.specs.Record.{Record}
 use Rattle.ioam_run_answer.specs.Part.{IsPart, PartOf}
-use Rattle.ioam_run_answer.proofs.PartLaws.{part_unique}
+use Rattle.ioam_run_answer.proofs.PartLaws.{groups_same, part_unique}
 use Rattle.ioam_run_answer.specs.Entry.{Entry}
 use Rattle.ioam_cmd.specs.Parted.{AreMerged}
 
@@ -29,3 +29,12 @@ merged_part (Join one two) octets is =
 pub merged_is : (tree : Tree) (records : List Record) (octets : List ℕ) → SameMembers (leaves tree) (keyed records) → AreMerged tree octets
     → PartOf octets (groups_of (keyed records))
 merged_is tree records octets same is = subst (PartOf octets) (merged_same tree (Leaf (keyed records)) same) (merged_part tree octets is)
+
+-- the groups of the records of a part are those that it is the part of
+pub printed_same : (part : List ℕ) (records all : List Record) → PartOf part (groups_of (keyed all)) → IsPart part records
+    → groups_of (keyed records) ≡ groups_of (keyed all)
+printed_same part records all of is =
+    let kept : keyed records ≡ kept_of (keyed all) = pairs_of part records (groups_of (keyed all)) is of ∙ pairs_groups (keyed all) in
+    let again : kept_of (keyed records) ≡ keyed records = ap kept_of kept ∙ kept_again (keyed all) ∙ sym kept in
+    groups_same part (keyed records) (keyed all)
+    (record { records = records; part = is; same = sym again ∙ sym (pairs_groups (keyed records)) }) of

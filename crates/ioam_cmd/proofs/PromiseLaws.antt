@@ -8,6 +8,7 @@ use Rattle.ioam_desk.specs.Kept.{KeepsInputs, KeepsOutputs}
 use Rattle.ioam_desk.proofs.KeptLaws.{KeepsInputs-same}
 use Rattle.ioam_run_answer.specs.Entries.{Taken}
 use Rattle.ioam_run_answer.specs.Desks.{Desks}
+use Rattle.ioam_run_answer.specs.Failures.{AnswersFailures}
 use Rattle.ioam_run_answer.specs.declared.outcome.Outcome.{Outcome}
 use Rattle.ioam_run_answer.specs.declared.outcome.Outcome.TheVariants as outcome
 use Rattle.ioam_run_bulk.specs.Promise as bulk
@@ -42,13 +43,14 @@ module _ (opens : Bool) (desks : Desks) (words : List (List ℕ)) (told : IsTrue
   answers_asked Merge answer asked keeps asks = keeps.exact asked told asks reads writes
   answers_asked Parts answer asked keeps asks = keeps.exact asked told asks reads writes
 
--- What the top call says of each answer: a fault of reading or writing comes only where its count rose, Usage never, and what
--- isn't the run's is as it was.
+-- What the top call says of each answer: a fault of reading or writing comes only where its count rose, what failed is answered,
+-- Usage never comes, and what isn't the run's is as it was.
 module _ (desks : Desks) (answer : Outcome) where
   pub record Sound : Type 0 where
     pub usage : answer ≡ outcome.Usage → ⊥
     pub read_fault : answer ≡ outcome.ReadFault → Rose desks.old_in.side.faults desks.new_in.side.faults
     pub write_fault : answer ≡ outcome.WriteFault → Rose desks.old.side.faults desks.new.side.faults
+    pub failures : AnswersFailures desks answer
     pub kept_in : KeepsInputs desks.old_in desks.new_in
     pub kept_out : IsTrue desks.tells → KeepsOutputs desks.old desks.new
 
@@ -60,6 +62,7 @@ module _ (desks : Desks) (answer : Outcome) where
         usage = λ is. subst Cause is keeps.cause;
         read_fault = λ is. subst Cause is keeps.cause;
         write_fault = λ is. subst Cause is keeps.cause;
+        failures = keeps.failures;
         kept_in = keeps.kept_in;
         kept_out = keeps.kept_out;
       }
@@ -72,6 +75,7 @@ module _ (desks : Desks) (answer : Outcome) where
         usage = λ is. subst Cause is keeps.cause;
         read_fault = λ is. subst Cause is keeps.cause;
         write_fault = λ is. subst Cause is keeps.cause;
+        failures = keeps.failures;
         kept_in = keeps.kept_in;
         kept_out = keeps.kept_out;
       }
@@ -84,6 +88,7 @@ module _ (desks : Desks) (answer : Outcome) where
         usage = λ is. subst Cause is keeps.cause;
         read_fault = λ is. subst Cause is keeps.cause;
         write_fault = λ is. subst Cause is keeps.cause;
+        failures = keeps.failures;
         kept_in = keeps.kept_in;
         kept_out = keeps.kept_out;
       }
@@ -96,6 +101,7 @@ module _ (desks : Desks) (answer : Outcome) where
         usage = λ is. subst Cause is keeps.cause;
         read_fault = λ is. subst Cause is keeps.cause;
         write_fault = λ is. subst Cause is keeps.cause;
+        failures = keeps.failures;
         kept_in = keeps.kept_in;
         kept_out = keeps.kept_out;
       }
@@ -108,6 +114,7 @@ module _ (desks : Desks) (answer : Outcome) where
         usage = λ is. subst Cause is keeps.cause;
         read_fault = λ is. subst Cause is keeps.cause;
         write_fault = λ is. subst Cause is keeps.cause;
+        failures = keeps.failures;
         kept_in = keeps.kept_in;
         kept_out = keeps.kept_out;
       }
@@ -120,6 +127,7 @@ module _ (desks : Desks) (answer : Outcome) where
         usage = λ is. subst Cause is keeps.cause;
         read_fault = λ is. subst Cause is keeps.cause;
         write_fault = λ is. subst Cause is keeps.cause;
+        failures = keeps.failures;
         kept_in = keeps.kept_in;
         kept_out = keeps.kept_out;
       }
@@ -132,6 +140,7 @@ module _ (desks : Desks) (answer : Outcome) where
         usage = λ is. subst Cause is keeps.cause;
         read_fault = λ is. subst Cause is keeps.cause;
         write_fault = λ is. subst Cause is keeps.cause;
+        failures = keeps.failures;
         kept_in = keeps.kept_in;
         kept_out = keeps.kept_out;
       }
@@ -143,6 +152,7 @@ module _ (desks : Desks) (answer : Outcome) where
         usage = λ is. subst Cause is keeps.cause;
         read_fault = λ is. absurd (subst Cause is keeps.cause);
         write_fault = λ is. subst Cause is keeps.cause;
+        failures = keeps.failures;
         kept_in = KeepsInputs-same desks.old_in desks.new_in keeps.inputs;
         kept_out = keeps.kept_out;
       }
@@ -157,6 +167,7 @@ sound opens desks words Node answer keeps = record {
   usage = keeps.owes.usage;
   read_fault = keeps.owes.read_fault;
   write_fault = keeps.owes.write_fault;
+  failures = keeps.failures;
   kept_in = keeps.owes.kept_in;
   kept_out = keeps.owes.kept_out;
 }
@@ -164,6 +175,7 @@ sound opens desks words Audit answer keeps = record {
   usage = keeps.owes.usage;
   read_fault = keeps.owes.read_fault;
   write_fault = keeps.owes.write_fault;
+  failures = keeps.failures;
   kept_in = keeps.owes.kept_in;
   kept_out = keeps.owes.kept_out;
 }
@@ -171,6 +183,7 @@ sound opens desks words (Run workers) answer keeps = record {
   usage = keeps.keeps.usage;
   read_fault = keeps.keeps.read_fault;
   write_fault = keeps.keeps.write_fault;
+  failures = keeps.keeps.failures;
   kept_in = keeps.keeps.kept_in;
   kept_out = keeps.keeps.kept_out;
 }

@@ -1,13 +1,13 @@
 -- What `run` leaves in EXPORTS, and what `collect` makes of these octets later, whatever desk it reads them from: the paths of the
 -- packets that were exported of (RFC 9326 section 3.2), the whole paths where the run wrote all that it had to.
-use Rattle.std.specs.Prelude.{◌≡◌, ◌≢◌, ℕ, ◌+◌, ◌<◌, ◌≤◌, ◌⊎◌, ⊤, Bool, IsTrue, IsSomeAnd, List, length, Some}
+use Rattle.std.specs.Prelude.{◌≡◌, ◌≢◌, ℕ, ◌+◌, ◌<◌, ◌≤◌, ◌⊎◌, ⊤, Bool, IsTrue, IsSomeAnd, List, [], ◌∷◌, ◌++◌, length, Some}
 use Rattle.ioam_base.specs.Octets.{IsFront}
 use Rattle.ioam_run_answer.specs.Sample.{Sample}
 use Rattle.ioam_run_collect.specs.Best.{groups_of}
 use Rattle.ioam_run_collect.specs.Join.{SameMembers, Tree, leaves}
 use Rattle.ioam_run_collect.specs.Keyed.{keyed}
 use Rattle.ioam_cmd.specs.Parted.{AreMerged}
-use Rattle.ioam_run_answer.specs.Part.{PartOf}
+use Rattle.ioam_run_answer.specs.Part.{IsPart, PartOf}
 use Rattle.ioam_run_collect.specs.Promise as collect
 use Rattle.ioam_run_collect.specs.Promise.{CollectNames}
 use Rattle.ioam_desk.specs.Desk.{Reading, Writing, holds}
@@ -25,7 +25,7 @@ use Rattle.ioam_run_answer.specs.declared.outcome.Outcome.{Outcome}
 use Rattle.ioam_run_answer.specs.declared.outcome.Outcome.TheVariants as outcome
 use Rattle.ioam_run_collect.specs.Exported.{AreFirst, AreWholePaths, ReadsFront, ending_with}
 use Rattle.ioam_run_collect.specs.Paths.{AreRegrouped, exports_of}
-use Rattle.ioam_run_collect.specs.Gathering.{AreFew}
+use Rattle.ioam_run_collect.specs.Gathering.{AreFew, IsPast}
 use Rattle.ioam_run_audit.specs.Domain.{Domain}
 use Rattle.ioam_run_domain.specs.Traffic.{Course, HoldsFronts, ArePassed, AreOpened, Arrive}
 
@@ -43,6 +43,14 @@ module _ (read : List Record) (ending : Ending) where
     pub first : AreFirst records read
     pub held : holds new report ≡ Some (records_text records)
 
+  -- REPORT is the text of as many of the first of the records as may be, behind which one is too many
+  pub record TellsPassed (limit : ℕ) (new : Writing) (report : List ℕ) : Type 0 where
+    pub records : List Record
+    pub next : Record
+    pub first : AreFirst (records ++ next ∷ []) read
+    pub past : IsPast limit records next
+    pub held : holds new report ≡ Some (records_text records)
+
   -- where it was opened, it is a front of the text of the first of them
   pub record TellsPart (old new : Writing) (report : List ℕ) : Type 0 where
     pub records : List Record
@@ -54,7 +62,7 @@ module _ (read : List Record) (ending : Ending) where
   abbrev pub Collects : Writing → Writing → List ℕ → Outcome → Type 0
   Collects old new report outcome.Done = (ending ≡ Whole) × (holds new report ≡ Some (records_text read))
   Collects old new report (outcome.Exports at fault) = (ending ≡ Faulty at fault) × (holds new report ≡ Some (records_text read))
-  Collects old new report (outcome.Records limit) = ¬ (AreFew read) × TellsFirst new report
+  Collects old new report (outcome.Records limit) = ¬ (AreFew read) × TellsPassed limit new report
   Collects old new report outcome.ReadFault = (new ≡ old) ⊎ TellsFirst new report
   Collects old new report outcome.WriteFault = TellsPart old new report
   Collects old new report outcome.NoMemory = (new ≡ old) ⊎ TellsPart old new report
@@ -89,6 +97,9 @@ module _ (domain : Domain) (readings : List (List Sample)) (fates : List Fate) w
     pub collected : AreCollected (exports_of domain readings fates) Whole octets
     pub merged : (tree : Tree) (part : List ℕ) → SameMembers (leaves tree) (keyed (exports_of domain readings fates)) → AreMerged tree part
         → PartOf part (groups_of (keyed (exports_of domain readings fates)))
+    -- and what `parts` prints of that part, whose records it reads, are these groups
+    pub printed : (part : List ℕ) (records : List Record) → PartOf part (groups_of (keyed (exports_of domain readings fates))) → IsPart part records
+        → groups_of (keyed records) ≡ groups_of (keyed (exports_of domain readings fates))
 
   -- They are the first of these records, each whole, and behind them at most a front of the next; and so `collect` tells of them.
   pub record IsPartCollected (octets : List ℕ) : Type 0 where

@@ -7,6 +7,7 @@ ghost use Rattle.ioam_desk.specs.Desk.{Rose};
 ghost use Rattle.ioam_desk.specs.Kept.{KeepsInputs, KeepsOutputs};
 ghost use Rattle.ioam_desk.specs.SureDesk.{reading_of, writing_of};
 ghost use Rattle.ioam_run_answer.specs.Desks.{around};
+ghost use Rattle.ioam_run_answer.specs.Failures.{AnswersFailures};
 ghost use Rattle.ioam_run_answer.specs.declared.outcome.Outcome.{Outcome};
 
 use crate::command::{Command, parse};
@@ -40,6 +41,10 @@ pub fn ioam<R: Threads + Sync, D: Desk, G: Gate>(
     // A fault of reading or writing comes only where the desk's count of such faults rose.
     ensures read_fault { result ≡ Outcome.ReadFault → Rose (D.reading desk.old).side.faults (D.reading desk.new).side.faults }
     ensures write_fault { result ≡ Outcome.WriteFault → Rose (D.writing desk.old).side.faults (D.writing desk.new).side.faults }
+
+    // What failed is answered: no call of an input failed where the words and the files decided the answer, and none of an output
+    // where it is any but WriteFault.
+    ensures failures { AnswersFailures (around D.tells (D.reading desk.old) (D.reading desk.new) (D.writing desk.old) (D.writing desk.new)) result }
 
     // The command of the words keeps its promise.
     ensures keeps { (command : Command) → IsForm command words.now
@@ -102,6 +107,7 @@ pub fn ioam_surely<R: Threads + Sync, G: Gate>(
     ensures no_read_fault { result ≢ Outcome.ReadFault }
     ensures no_write_fault { result ≢ Outcome.WriteFault }
     ensures usage { (result ≡ Outcome.Usage) ↔ IsNoForm words.now }
+    ensures unopened { result ≡ Outcome.Usage → (reading_of desk.new ≡ reading_of desk.old) × (writing_of desk.new ≡ writing_of desk.old) }
 
     // What is asked for is answered, unless no memory could be had.
     ensures exact { (command : Command) → IsForm command words.now → (asked : Outcome)
@@ -111,6 +117,8 @@ pub fn ioam_surely<R: Threads + Sync, G: Gate>(
     // The command of the words keeps its promise.
     ensures keeps { (command : Command) → IsForm command words.now
         → Keeps G.opens (around true (reading_of desk.old) (reading_of desk.new) (writing_of desk.old) (writing_of desk.new)) words.now command result }
+    ensures kept_in { KeepsInputs (reading_of desk.old) (reading_of desk.new) }
+    ensures kept_out { KeepsOutputs (writing_of desk.old) (writing_of desk.new) }
 {
     ioam(rt, alloc, words, desk, gate)
 }

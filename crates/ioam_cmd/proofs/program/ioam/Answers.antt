@@ -1,4 +1,4 @@
-use Rattle.std.proofs.Common.{subst}
+use Rattle.std.proofs.Common.{refl, subst}
 use Rattle.ioam_cmd.specs.Promise.{Keeps}
 use Rattle.ioam_cmd.proofs.PromiseLaws.{sound}
 use Rattle.ioam_cmd.proofs.WordsLaws.{one_form}
@@ -17,3 +17,12 @@ returns-in-Some-clause-kept_out g c =
     let desks = around g.D.Desk.tells (g.D.Desk.reading c.args.desk.now) (g.D.Desk.reading c.run_command.new.desk)
     (g.D.Desk.writing c.args.desk.now) (g.D.Desk.writing c.run_command.new.desk) in
     (sound g.G.Gate.opens desks c.args.words.now c.in-Some.command c.run_command.result c.run_command.ensures.keeps).kept_out
+
+pub returns-in-Some-clause-failures : goal.returns-in-Some-clause-failures
+returns-in-Some-clause-failures g c =
+    let desks = around g.D.Desk.tells (g.D.Desk.reading c.args.desk.now) (g.D.Desk.reading c.run_command.new.desk)
+    (g.D.Desk.writing c.args.desk.now) (g.D.Desk.writing c.run_command.new.desk) in
+    (sound g.G.Gate.opens desks c.args.words.now c.in-Some.command c.run_command.result c.run_command.ensures.keeps).failures
+
+pub returns-in-None-clause-failures : goal.returns-in-None-clause-failures
+returns-in-None-clause-failures g c = record { reads = λ settled. refl; writes = λ other. refl }
