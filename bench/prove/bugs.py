@@ -12,6 +12,8 @@ A line for each bug: `refused`, `beside` (it was never judged without a bug in w
 says nothing of the function, or the body doesn't compile), `left` (no round came to it), `gone` (what it changes
 doesn't stand once in its file), or `PROVED`, which is either no bug, as the function means the same, or a contract
 that says too little; of a constant also that only crates above use it. Ends with status 1 where one was proved.
+
+The copy takes what this repository has proved of the crate and of those below it, so run `rt check` in the crate first.
 """
 import os
 import re
@@ -125,6 +127,31 @@ def judged(bug, said):
     return "beside" if all(it.startswith(("proved", "no proof: it calls")) for it in words) else "refused"
 
 
+def below(crate, top):
+    """The crates of the repository that a crate stands on, directly or not, and itself."""
+    listed = re.findall(r"^([a-z]\w*)[^:\n]*:(.*)$", read(os.path.join(top, "crates.txt")), re.M)
+    names, found = {name: words.split() for name, words in listed}, set()
+    left = [crate]
+    while left:
+        name = left.pop()
+        if name in names and name not in found:
+            found.add(name)
+            left += names[name]
+    return found
+
+
+def lend(crate, top):
+    """Gives a copy of the repository what was proved here: a kit that keeps nothing itself would prove all of it anew."""
+    for name in below(crate, TOP):
+        kept, out = (os.path.join(it, "crates", name, "out") for it in (TOP, top))
+        for part in ("rlib", "incremental") if name == crate else ("rlib",):
+            if os.path.isdir(os.path.join(kept, part)):
+                os.makedirs(out, exist_ok=True)
+                # (a library is replaced as a whole, so that links to its files do; what a check keeps is written to)
+                how = "-a" if part == "incremental" else "-al"
+                subprocess.run(["cp", how, os.path.join(kept, part), out], check=True)
+
+
 class Trial:
     """The bugs of a crate, tried in a copy of the repository."""
 
@@ -176,6 +203,7 @@ def main():
     with tempfile.TemporaryDirectory() as room:
         top = os.path.join(room, "copy")
         subprocess.run(["git", "clone", "-q", TOP, top], check=True)
+        lend(crate, top)
         found = placed(listed(crate), os.path.join(top, "crates", crate, "src"))
         trial = Trial(crate, top)
         trial.rounds([it for it in found if it.function != "-"], rounds)
