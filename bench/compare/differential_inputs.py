@@ -50,13 +50,17 @@ def wanted_of(words, files):
 def came_of(program, words, files, room):
     """What an input gives in a folder of its own."""
     for name, octets in files.items():
-        with open(os.path.join(room, name), "wb") as file:
+        path = os.path.join(room, name)
+        os.makedirs(os.path.dirname(path), exist_ok=True)
+        with open(path, "wb") as file:
             file.write(octets)
     run = subprocess.run([program, *words], cwd=room, capture_output=True, timeout=120)
     found = {}
-    for name in os.listdir(room):
-        with open(os.path.join(room, name), "rb") as file:
-            found[name] = file.read()
+    for folder, _, names in os.walk(room):
+        for name in names:
+            path = os.path.join(folder, name)
+            with open(path, "rb") as file:
+                found[os.path.relpath(path, room)] = file.read()
     return run.stdout, run.returncode, found
 
 
