@@ -30,7 +30,7 @@ narrow_face (Some face) = if nat_lt face 65536 then face else 65535
 abbrev pub narrow_id : ℕ → ℕ
 narrow_id id = if nat_lt id 16777216 then id else 16777215
 
--- the seconds and the fraction of a time
+-- the seconds of a time; all ones without one
 abbrev pub seconds_of : Option (ℕ × ℕ) → ℕ
 seconds_of None = 4294967295
 seconds_of (Some stamp) = stamp.0

@@ -17,7 +17,8 @@ use Rattle.ioam_trace.specs.Data.{trace_data}
 use Rattle.ioam_trace.proofs.DataLaws.{trace_data-none}
 use Rattle.ioam_trace.proofs.HeadLaws.{length-header}
 use Rattle.ioam_tunnel.specs.declared.numbers.Numbers.{Numbers}
-use Rattle.ioam_tunnel.specs.Enclosed.{room_of, direct_of, direct_parts, if_asked, edge_of, edge_parts, limit_parts, seconds_of, fraction_of}
+use Rattle.ioam_data.specs.Written.{seconds_of, fraction_of}
+use Rattle.ioam_tunnel.specs.Enclosed.{room_of, direct_of, direct_parts, if_asked, edge_of, edge_parts, limit_parts}
 use Rattle.ioam_tunnel.specs.Size.{trace_size, direct_sizes, limit_sizes, edge_sizes}
 use Rattle.ioam_tunnel.specs.Wire.{trace_parts, no_elements}
 

@@ -1,5 +1,6 @@
 -- What an entry node puts around a packet of a flow (RFC 2473 section 3, RFC 9197 sections 4.4 and 4.6, RFC 9326 section 3.2).
 use Rattle.std.specs.Prelude.{ℕ, ◌^◌, ◌+◌, ◌*◌, ◌/◌, ◌%◌, ◌<◌, ◌≤◌, Bool, true, false, IsTrue, if◌then◌else◌, List, [], ◌∷◌, ◌++◌, length, map, Option, Some, None, IfSome, is_some, slice_get}
+use Rattle.ioam_data.specs.Written.{seconds_of, fraction_of}
 use Rattle.ioam_data.specs.declared.namespace.Namespace.{Namespace}
 use Rattle.ioam_dex.specs.Direct.{direct_octets}
 use Rattle.ioam_dex.specs.declared.direct.Direct.{Direct}
@@ -41,16 +42,6 @@ direct_parts flow None seq = []
 -- a number where a type asks for it
 abbrev pub if_asked : ℕ → ℕ → ℕ → Option ℕ
 if_asked kind bit number = if asks kind bit then Some number else None
-
--- the seconds and the fraction of a stamp; all ones without one
-abbrev pub seconds_of : Option (ℕ × ℕ) → ℕ
-seconds_of None = 4294967295
-seconds_of (Some stamp) = stamp.0
-
--- the fraction of a stamp; all ones without one
-abbrev pub fraction_of : Option (ℕ × ℕ) → ℕ
-fraction_of None = 4294967295
-fraction_of (Some stamp) = stamp.1
 
 -- the data of a type: the packet's number in its flow as the one or the other sequence number, and its stamp
 abbrev pub edge_of : Namespace → ℕ → Numbers → Edge

@@ -1,6 +1,7 @@
 //! What the options of an outer packet hold (RFC 9486 section 3).
 ghost use Rattle.std.specs.Prelude.{◌≡◌, ◌^◌, ◌<◌, ◌≤◌};
-ghost use Rattle.ioam_tunnel.specs.Enclosed.{direct_of, edge_of, if_asked, seconds_of, fraction_of};
+ghost use Rattle.ioam_data.specs.Written.{seconds_of, fraction_of};
+ghost use Rattle.ioam_tunnel.specs.Enclosed.{direct_of, edge_of, if_asked};
 
 use crate::numbers::Numbers;
 use ioam_data::{Namespace, TraceType};

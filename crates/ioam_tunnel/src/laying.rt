@@ -11,9 +11,9 @@ ghost use Rattle.ioam_tunnel.specs.Wire.{IsRoom, trace_parts, no_elements};
 use crate::bodies::{direct_of, edge_of};
 use crate::numbers::Numbers;
 use crate::outer::Outer;
+use crate::sizes::{DIRECT_DATA_LEN, edge_data_len, trace_data_len};
 use ioam_data::option_type::{DIRECT_EXPORT, EDGE_TO_EDGE, PREALLOCATED_TRACE};
 use ioam_data::{Namespace, TraceType};
-use ioam_edge::data_size;
 use ioam_ip::next_header::IPV6;
 use ioam_ip::option_type::{ENCAPSULATION_LIMIT, IOAM, IOAM_CHANGING};
 use ioam_topo::{Flow, FlowTrace};
@@ -25,7 +25,11 @@ fn add_trace(outer: &mut Outer, trace: FlowTrace)
     ensures value { outer.new ≡ with_parts outer.old (trace_parts (room_of trace ∷ []) no_elements) }
     ensures sound { IsRoom (room_of trace) }
 {
-    outer.begin_option(IOAM_CHANGING, 10 + 4 * trace.capacity, PREALLOCATED_TRACE);
+    outer.begin_option(
+        IOAM_CHANGING,
+        trace_data_len(trace.capacity),
+        PREALLOCATED_TRACE,
+    );
     outer.put_trace(trace);
 }
 
@@ -47,7 +51,7 @@ fn add_direct_of(outer: &mut Outer, flow: &Flow, kind: TraceType, seq: u32)
     requires room { length (laid_with outer.old.laid (direct_parts flow.now (Some kind) (Some seq))) ≤ outer.old.most }
     ensures { outer.new ≡ with_parts outer.old (direct_parts flow.now (Some kind) (Some seq)) }
 {
-    outer.begin_option(IOAM, 18, DIRECT_EXPORT);
+    outer.begin_option(IOAM, DIRECT_DATA_LEN, DIRECT_EXPORT);
     outer.put_direct(&direct_of(flow, kind, seq));
 }
 
@@ -78,7 +82,7 @@ fn add_edge_of(outer: &mut Outer, namespace: Namespace, kind: u16, numbers: &Num
     requires room { length (laid_with outer.old.laid (edge_parts namespace (Some kind) numbers.now)) ≤ outer.old.most }
     ensures { outer.new ≡ with_parts outer.old (edge_parts namespace (Some kind) numbers.now) }
 {
-    outer.begin_option(IOAM, (2 + data_size(kind)) as u8, EDGE_TO_EDGE);
+    outer.begin_option(IOAM, edge_data_len(kind), EDGE_TO_EDGE);
     outer.put_edge(&edge_of(namespace, kind, numbers));
 }
 

@@ -1,6 +1,7 @@
 //! How long an outer packet is.
-ghost use Rattle.std.specs.Prelude.{◌≡◌, ◌≤◌, ◌+◌, ◌∷◌, ◌++◌, List, [], length, map};
+ghost use Rattle.std.specs.Prelude.{◌≡◌, ◌≤◌, ◌+◌, ◌*◌, ◌∷◌, ◌++◌, List, [], length, map};
 ghost use Rattle.std.specs.List.{All};
+ghost use Rattle.ioam_edge.specs.Edge.{fields_size};
 ghost use Rattle.ioam_ip.specs.Sizes.{Sized, options_end, header_size};
 ghost use Rattle.ioam_topo.specs.Sound.{IsFlow};
 ghost use Rattle.ioam_topo.specs.Traces.{IsFlowTrace};
@@ -10,6 +11,31 @@ use ioam_edge::data_size;
 use ioam_ip::option_type::{ENCAPSULATION_LIMIT, IOAM, IOAM_CHANGING};
 use ioam_ip::{HEADER_OCTETS, padded, size_with};
 use ioam_topo::{Flow, FlowTrace};
+use ioam_trace::HEAD_OCTETS;
+
+// The reserved octet and the IOAM-Option-Type, with which an IOAM option's data begin (RFC 9486 section 3).
+const IN_FRONT: usize = 2;
+
+/// How many octets of data the option of direct export has: those two, 8 of the header, the flow's id and the sequence
+/// number (RFC 9326 section 3.2).
+pub(crate) const DIRECT_DATA_LEN: u8 = 18;
+
+/// How many octets of data the option of a trace has: those two, the header and the free words (RFC 9197 section 4.4).
+pub(crate) fn trace_data_len(capacity: u8) -> u8
+    requires { capacity ≤ 61 }
+    ensures { result ≡ 10 + 4 * capacity }
+{
+    (IN_FRONT + HEAD_OCTETS) as u8 + 4 * capacity
+}
+
+/// How many octets of data the option of edge-to-edge data of a type has: those two, the header and the fields (RFC 9197
+/// section 4.6).
+pub(crate) fn edge_data_len(kind: u16) -> u8
+    ensures value { result ≡ 6 + fields_size kind }
+    ensures small { result ≤ 26 }
+{
+    (IN_FRONT + data_size(kind)) as u8
+}
 
 // Where the options of traces end.
 fn traces_end(traces: &[FlowTrace]) -> usize
@@ -32,7 +58,11 @@ fn trace_end(size: usize, trace: &FlowTrace) -> usize
     ensures value { result ≡ options_end size (trace_size trace.now ∷ []) }
     ensures small { result ≤ size + 259 }
 {
-    size_with(size, IOAM_CHANGING, 10 + 4 * usize::from(trace.capacity))
+    size_with(
+        size,
+        IOAM_CHANGING,
+        usize::from(trace_data_len(trace.capacity)),
+    )
 }
 
 // Where the option of direct export ends behind so many octets, if there is one.
@@ -42,7 +72,7 @@ fn direct_end(size: usize, direct: bool) -> usize
     ensures small { result ≤ size + 23 }
 {
     if direct {
-        size_with(size, IOAM, 18)
+        size_with(size, IOAM, usize::from(DIRECT_DATA_LEN))
     } else {
         size
     }
@@ -67,7 +97,7 @@ fn edge_end(size: usize, edge: Option<u16>) -> usize
     ensures small { result ≤ size + 31 }
 {
     match edge {
-        Some(kind) => size_with(size, IOAM, 2 + data_size(kind)),
+        Some(kind) => size_with(size, IOAM, usize::from(edge_data_len(kind))),
         None => size,
     }
 }

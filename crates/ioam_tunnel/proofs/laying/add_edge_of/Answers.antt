@@ -29,6 +29,6 @@ returns c =
     let edge = edge_of c.args.namespace c.args.kind c.args.numbers.now in
     let octets : List ℕ = edge_octets edge in
     let long : length octets ≡ 4 + fields_size c.args.kind = length-edge_octets edge (edge-fields c.args.namespace c.args.kind c.args.numbers.now) in
-    option-laid c.args.outer.now c.begin_option.new.self c.put_edge.new.self octets 0x11 (2 + c.data_size.result) 3
-    (omega (arith, long, c.data_size.ensures.value)) c.begin_option.ensures.value
+    option-laid c.args.outer.now c.begin_option.new.self c.put_edge.new.self octets 0x11 c.edge_data_len.result 3
+    (omega (arith, long, c.edge_data_len.ensures.value)) c.begin_option.ensures.value
     (c.put_edge.ensures ∙ ap (λ e. more c.begin_option.new.self (edge_octets e)) c.edge_of.ensures)

@@ -27,5 +27,5 @@ pub returns-clause-value : goal.returns-clause-value
 returns-clause-value c =
     let trace = c.args.trace in
     let octets : List ℕ = trace_data trace.namespace.0 trace.kind trace.capacity [] in
-    option-laid c.args.outer.now c.begin_option.new.self c.put_trace.new.self octets 0x31 (10 + 4 * trace.capacity) 0
-    (omega (arith, length_trace trace.namespace.0 trace.kind trace.capacity)) c.begin_option.ensures.value c.put_trace.ensures.value
+    option-laid c.args.outer.now c.begin_option.new.self c.put_trace.new.self octets 0x31 c.trace_data_len.result 0
+    (omega (arith, length_trace trace.namespace.0 trace.kind trace.capacity, c.trace_data_len.ensures)) c.begin_option.ensures.value c.put_trace.ensures.value
