@@ -23,6 +23,7 @@ use Rattle.ioam_topo.specs.declared.ids.FlowId.{FlowId}
 use Rattle.ioam_topo.specs.declared.parts.Flow.{Flow}
 use Rattle.ioam_topo.specs.declared.parts.Port.{Port}
 use Rattle.ioam_run_texts.specs.Numbers.{Numbers}
+use Rattle.ioam_run_texts.proofs.FateLaws.{plans_of}
 use Rattle.ioam_collect_laws.proofs.FewLaws.{few}
 use Rattle.std.proofs.lemmas.List.Elements.{recursion_from_All}
 
@@ -92,7 +93,8 @@ pub encloses : (domain : Domain) (readings : List (List Sample)) (earlier : List
     → HasFate domain readings earlier frame fate → fate.itinerary.carried ≡ Some (id, numbers)
     → Encloses domain fate.itinerary id numbers (enclosed_in id.0 earlier)
 encloses domain readings earlier frame fate id numbers has some =
-    by_port domain readings earlier frame.entry.time fate.itinerary id numbers some (slice_get (ports domain) frame.port.0) has.answer has.plans.1
+    by_port domain readings earlier frame.entry.time fate.itinerary id numbers some (slice_get (ports domain) frame.port.0) has.answer
+    (plans_of domain readings earlier frame fate has).1
 
 -- ---- how many are counted
 

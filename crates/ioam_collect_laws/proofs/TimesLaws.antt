@@ -33,6 +33,7 @@ use Rattle.ioam_topo.specs.declared.parts.Flow.{Flow}
 use Rattle.ioam_topo.specs.declared.parts.Link.{Link}
 use Rattle.ioam_topo.specs.declared.parts.Port.{Port}
 use Rattle.ioam_run_texts.specs.Numbers.{Numbers}
+use Rattle.ioam_run_texts.proofs.FateLaws.{plans_of}
 use Rattle.ioam_collect_laws.specs.Exported.{HasFaces, IsTimely}
 use Rattle.ioam_collect_laws.proofs.EnclosedLaws.{all_get, none_carried}
 
@@ -150,6 +151,7 @@ module _ (domain : Domain) (faces : HasFaces domain) where
   visits_at readings earlier (frame ∷ frames) (f ∷ fates) zero fate id numbers are timely there some short =
       let same : f ≡ fate = ap (λ o. unwrap_or o fate) there in
       let has = subst (HasFate domain readings earlier frame) same are.0 in
-      by_port readings earlier frame.entry.time fate.itinerary id numbers some short timely.0 frame.port.0 (slice_get (ports domain) frame.port.0) has.answer refl has.plans.1
+      by_port readings earlier frame.entry.time fate.itinerary id numbers some short timely.0 frame.port.0 (slice_get (ports domain) frame.port.0) has.answer refl
+      (plans_of domain readings earlier frame fate has).1
   visits_at readings earlier (frame ∷ frames) (f ∷ fates) (suc i) fate id numbers are timely there some short =
       visits_at readings (earlier ++ f.itinerary ∷ []) frames fates i fate id numbers are.1 timely.1 there some short

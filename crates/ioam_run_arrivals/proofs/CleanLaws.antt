@@ -26,6 +26,7 @@ use Rattle.ioam_topo.specs.declared.parts.Port.{Port}
 use Rattle.ioam_batch.specs.Numbers.{Numbers}
 use Rattle.ioam_run_texts.specs.Fate.{Frame, Fate, HasFate, AreFates, AreFatesFrom, packet_of}
 use Rattle.ioam_run_texts.specs.Texts.{last_time, leaves_by, fate_leaves, sent_by_end, fate_sent, sent_by, out_text}
+use Rattle.ioam_run_texts.proofs.FateLaws.{plans_of}
 use Rattle.ioam_run_outputs.specs.Outlets.{each_from, of_outlets, tapped}
 use Rattle.ioam_run_arrivals.proofs.AnswerLaws.{DropsAlike, answer-within, plan-drops}
 
@@ -96,7 +97,7 @@ fate-clean domain readings earlier frame fate has port =
     subst (λ (packet : List ℕ). All (Sends MayLeave) (sent_by_end port (leaves_by packet fate.itinerary.visits fate.itinerary.exited fate.itinerary.carried) fate.itinerary.end)) (sym has.packet)
     (sent-clean port has.answer fate.itinerary fate.itinerary.end
     (answer-clean domain at (framing_of frame.ethernet cut frame.entry.octets) has.answer (framing-packet frame.ethernet cut frame.entry.octets) has.answered)
-    (plan-drops domain readings earlier at frame.entry.time has.answer fate.itinerary has.plans.1))
+    (plan-drops domain readings earlier at frame.entry.time has.answer fate.itinerary (plans_of domain readings earlier frame fate has).1))
 
 -- every packet that leaves by a port has a whole chain and no IOAM option
 all-clean : (domain : Domain) (readings : List (List Sample)) (earlier : List Itinerary) (frames : List Frame) (fates : List Fate)

@@ -13,6 +13,7 @@ use Rattle.ioam_topo.specs.Domain.{ports}
 use Rattle.ioam_topo.specs.declared.domain.Domain.{Domain}
 use Rattle.ioam_topo.specs.declared.parts.Port.{Port}
 use Rattle.ioam_run_texts.specs.Fate.{Frame, Fate, HasFate, AreFates, AreFatesFrom, packet_of}
+use Rattle.ioam_run_texts.proofs.FateLaws.{plans_of}
 
 one_answer : (domain : Domain) (at : Option Port) (ethernet cut : Bool) (frame : List ℕ) (a b : Admit)
     → IsSomeAnd at (λ port. Admits domain port.node.0 (framing_of ethernet cut frame) a)
@@ -45,7 +46,7 @@ module _ (domain : Domain) (readings : List (List Sample)) where
       let same : IsSame first.answer second.answer = one_answer domain (slice_get (ports domain) frame.port.0) frame.ethernet (is_cut frame.entry)
       frame.entry.octets first.answer second.answer first.answered second.answered in
       let plans : fate.itinerary ≡ other.itinerary = Plans-same domain readings earlier frame.entry.time fate.itinerary other.itinerary frame.port
-      first.answer second.answer same first.plans second.plans in
+      first.answer second.answer same (plans_of domain readings earlier frame fate first) (plans_of domain readings earlier frame other second) in
       same_fate fate other (first.packet ∙ one_packet first.answer second.answer same ∙ sym second.packet) plans
 
   -- and one list of fates of arrivals

@@ -1,6 +1,7 @@
 pub mod AddsLaws
 mod AfterLaws
 mod CrossedLaws
+pub mod FateLaws
 mod LeavingLaws
 pub mod OutLaws
 mod PathsLaws

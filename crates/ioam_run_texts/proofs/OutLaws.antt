@@ -34,6 +34,7 @@ use Rattle.ioam_topo.specs.declared.parts.Port.{Port}
 use Rattle.ioam_batch.specs.Numbers.{Numbers}
 use Rattle.ioam_run_texts.specs.Fate.{Frame, Fate, HasFate}
 use Rattle.ioam_run_texts.specs.Texts.{fate_leaves, last_time, leaves_by}
+use Rattle.ioam_run_texts.proofs.FateLaws.{plans_of}
 
 -- it didn't leave by a port on its way
 abbrev IsIn : Stage → Type 0
@@ -127,7 +128,8 @@ module _ (domain : Domain) (readings : List (List Sample)) (earlier : List Itine
 pub leaves-exited : (domain : Domain) (readings : List (List Sample)) (earlier : List Itinerary) (frame : Frame) (fate : Fate) (port : PortId)
     → HasFate domain readings earlier frame fate → fate.itinerary.end ≡ Left port → IsSome fate.itinerary.carried → fate.itinerary.exited ≡ true
 leaves-exited domain readings earlier frame fate port has ends some =
-    by-port domain readings earlier frame.entry.time fate.itinerary port ends some (slice_get (ports domain) frame.port.0) has.answer has.plans.1
+    by-port domain readings earlier frame.entry.time fate.itinerary port ends some (slice_get (ports domain) frame.port.0) has.answer
+    (plans_of domain readings earlier frame fate has).1
 
 leaves-one : (packet : List ℕ) (visits : List Visit) (exited : Bool) (carried : Option (FlowId × Numbers)) → (IsSome carried → exited ≡ true)
     → leaves_by packet visits exited carried

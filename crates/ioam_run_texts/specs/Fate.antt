@@ -7,8 +7,8 @@ use Rattle.ioam_node_visit.specs.Admission.{Admits}
 use Rattle.ioam_node_visit.specs.Admit.{Admit}
 use Rattle.ioam_pcap.specs.Cut.{is_cut}
 use Rattle.ioam_pcap.specs.Entries.{Entry, IsShort}
-use Rattle.ioam_plan.specs.Plans.{Plans}
 use Rattle.ioam_plan.specs.Rides.{Rides}
+use Rattle.ioam_plan.specs.Travels.{Travels}
 use Rattle.ioam_plan.specs.declared.itinerary.Itinerary.{Itinerary}
 use Rattle.ioam_topo.specs.Domain.{ports}
 use Rattle.ioam_topo.specs.declared.domain.Domain.{Domain}
@@ -31,12 +31,12 @@ abbrev pub IsAnswered : Domain → Frame → Admit → Type 0
 IsAnswered domain frame answer = IsSomeAnd (slice_get (ports domain) frame.port.0)
     (λ at. Admits domain at.node.0 (framing_of frame.ethernet (is_cut frame.entry) frame.entry.octets) answer)
 
--- what becomes of an arrival behind these, by what is answered of it at its port and the journey from there; its
+-- what becomes of an arrival behind these, by what is answered of it at its port and how its packet goes from there; its
 -- record has no more octets than one may have
 pub record HasFate (domain : Domain) (readings : List (List Sample)) (earlier : List Itinerary) (frame : Frame) (fate : Fate) : Type 0 where
   pub answer : Admit
   pub answered : IsAnswered domain frame answer
-  pub plans : Plans domain readings earlier frame.port frame.entry.time answer fate.itinerary
+  pub travels : Travels domain readings earlier frame.port frame.entry.time answer fate.itinerary
   pub packet : fate.packet ≡ packet_of answer
   pub short : IsShort frame.entry
 

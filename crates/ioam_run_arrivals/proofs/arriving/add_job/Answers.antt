@@ -26,7 +26,7 @@ returns-clause-added c =
           has = record {
             answer = c.admit-admitted.result;
             answered = subst P c.is_cut.ensures c.admit-admitted.ensures.admits;
-            plans = c.in_ok-itinerary.ensures.plans earlier counts;
+            travels = c.in_ok-itinerary.ensures.travels earlier counts;
             packet = c.packet_of.ensures;
             short = c.requires.short;
           };
