@@ -138,10 +138,6 @@ module _ (tells : Bool) (start : Start) (place : Place) (inputs : desk.Reading) 
 abbrev pub IsPair : Bool → desk.Reading → Pair → Type 0
 IsPair tells inputs pair = (start : Start) × (place : Place) × (fates : List Fate) × Pairs tells start place inputs pair fates
 
--- some packets were taken of each, and of one more of BEFORE it isn't said yet what becomes of it, or why it gives no packet
-abbrev pub IsDue : Bool → desk.Reading → Pair → Option Reason → Type 0
-IsDue tells inputs pair why = (start : Start) × (place : Place) × (fates : List Fate) × Due tells start place inputs pair fates why
-
 -- there is none more of BEFORE
 abbrev pub IsEnded : Bool → desk.Reading → Pair → Type 0
 IsEnded tells inputs pair = (start : Start) × (place : Place) × (fates : List Fate) × (how : End) × Ended tells start place inputs pair fates how

@@ -1,12 +1,8 @@
 -- What EXPORTS may be, and which of its records are written as messages.
 use Rattle.std.specs.Prelude.{◌≡◌, ℕ, ◌≤◌, List, [], ◌∷◌, ◌++◌, length}
-use Rattle.ioam_dex.specs.Record.{Record}
+use Rattle.ioam_dex.specs.Record.{Record, most_records}
 use Rattle.ioam_dex.specs.Faults.{IsCut}
 use Rattle.ioam_dex.specs.Reads.{Ending, Reads, Splits}
-
--- the most records that are read
-abbrev pub most_records : ℕ
-most_records = 67108864
 
 -- no more than may be
 abbrev pub AreFew : List Record → Type 0

@@ -1,12 +1,11 @@
 -- What IN may be, and which records of its messages are written.
 use Rattle.std.specs.Prelude.{◌≡◌, ℕ, ◌<◌, ◌≤◌, List, [], ◌∷◌, ◌++◌, length}
 use Rattle.ioam_base.specs.Chain.{Chain}
-use Rattle.ioam_dex.specs.Record.{Record}
+use Rattle.ioam_dex.specs.Record.{Record, most_records}
 use Rattle.ioam_ipfix.specs.Messages.{joined, MessagePasses, IsCut}
 use Rattle.ioam_ipfix.specs.Reads.{Ending, Reads}
 use Rattle.ioam_ipfix.specs.Sets.{Spot, spot}
 use Rattle.ioam_ipfix.specs.Templates.{none_known}
-use Rattle.ioam_run_ipfix.specs.Exports.{most_records}
 
 -- the most messages that are read: one with templates, and one for each of the most records
 abbrev pub most_messages : ℕ

@@ -94,15 +94,6 @@ pub record Bounds (tells : Bool) (input out : List ℕ) (old_in new_in : Reading
 -- ---- what was told of records
 
 module _ (Is : List Record → List ℕ → Type 0) (tells : Bool) (start : Start) where
-  -- the text of some records was told; `Are` says which records of the input
-  pub record Tells (Are : List Record → List ℕ → Type 0) (outs : Writing) (tellers : List Output) : Type 0 where
-    pub records : List Record
-    pub few : AreFew records
-    pub text : List ℕ
-    pub is : Is records text
-    pub said : IsSaid tells start outs tellers text
-    pub are : IsTrue tells → IsSomeAnd start.content (Are records)
-
   -- OUT holds a front of the text of some records, which `Are` says
   pub record Fronts (Are : List Record → List ℕ → Type 0) (outs : Writing) (octets : List ℕ) : Type 0 where
     pub records : List Record
