@@ -17,10 +17,10 @@ use std::marker::Model;
 const MOST_JOBS: usize = 256;
 
 /// A batch has room while its jobs have fewer octets reserved: 64 MiB.
-const MOST_RESERVED: u64 = 67_108_864;
+const MOST_RESERVED: u64 = 1 << 26;
 
 /// The memory of a job is kept for one to come where it has no more octets reserved.
-const MOST_KEPT: usize = 65_536;
+const MOST_KEPT: usize = 1 << 16;
 
 /// Jobs that are run together, and behind them jobs that were told, in whose memory others are made.
 #[derive(Drop)]

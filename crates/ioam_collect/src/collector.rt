@@ -21,7 +21,7 @@ use std::alloc::Global;
 use std::marker::Model;
 
 /// The most records that a collector of the commands holds, and that a part has.
-pub const MOST_HELD: u32 = 1_048_576;
+pub const MOST_HELD: u32 = 1 << 20;
 
 /// Export records regrouped by the packets that they tell of: each record once, under its key, by
 /// falling hop value.

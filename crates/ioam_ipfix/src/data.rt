@@ -14,8 +14,16 @@ use crate::template::{tells_flow, tells_seq, tells_visit, weight};
 use ioam_base::octets::u16_at;
 use ioam_data::{Namespace, TraceType};
 use ioam_dex::extension::{FLOW_ID, SEQUENCE_NUMBER};
-use ioam_dex::fields::{EXTENSIONS, FLAGS, NAMESPACE, TRACE_TYPE, VERSION, VISITED};
+use ioam_dex::fields::{
+    EXTENSIONS, FLAGS, NAMESPACE, PLAIN, TRACE_TYPE, VERSION, VISIT_SIZE, VISITED,
+};
 use ioam_dex::{Export, ExportRoom, MOST_ELEMENT, is_filled, u32_where, visit_where};
+
+// The octets of the fields that each record has but its element: Namespace-ID, flags, extension flags and IOAM-Trace-Type.
+const FIXED: u16 = 7;
+
+// Those of Flow ID, and of Sequence Number.
+const NUMBER: u16 = 4;
 
 /// What octets where a data record is due show.
 #[derive(Clone, Copy)]
@@ -90,7 +98,10 @@ fn front_of(id: u16) -> usize
     ensures small { (7 ≤ result) × (result ≤ 27) }
 {
     usize::from(
-        7 + weight(tells_visit(id), 12) + weight(tells_flow(id), 4) + weight(tells_seq(id), 4),
+        FIXED
+            + weight(tells_visit(id), VISIT_SIZE as u16)
+            + weight(tells_flow(id), NUMBER)
+            + weight(tells_seq(id), NUMBER),
     )
 }
 
@@ -132,14 +143,14 @@ fn with_element<'a>(id: u16, octets: &[u8], element: &'a [u8]) -> Export<'a>
     requires { front_of id ≤ length octets.now }
     ensures { record_of result ≡ data_with id octets.now element.now }
 {
-    let flow = 7 + usize::from(weight(tells_visit(id), 12));
-    let seq = flow + usize::from(weight(tells_flow(id), 4));
+    let flow = usize::from(FIXED + weight(tells_visit(id), VISIT_SIZE as u16));
+    let seq = flow + usize::from(weight(tells_flow(id), NUMBER));
     Export {
         namespace: Namespace(u16_at(octets, 0)),
         flags: octets[2],
         ext: octets[3],
         kind: TraceType::at(octets, 4).bits(),
-        visit: visit_where(tells_visit(id), octets, 7),
+        visit: visit_where(tells_visit(id), octets, usize::from(FIXED)),
         flow: u32_where(tells_flow(id), octets, flow),
         seq: u32_where(tells_seq(id), octets, seq),
         element,
@@ -217,7 +228,7 @@ fn put_back(id: u16, octets: &[u8], from: usize, to: usize, room: &mut ExportRoo
     let front = front_of(id);
     let size = front + 3 + (to - from);
     room.append(&[
-        1 + weight(tells_visit(id), 1) as u8,
+        if tells_visit(id) { VISITED } else { PLAIN },
         octets[3],
         (size / 256 % 256) as u8,
         (size % 256) as u8,

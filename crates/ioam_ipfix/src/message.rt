@@ -10,7 +10,7 @@ use crate::set::take_set;
 use ioam_base::octets::u16_at;
 
 /// The octets in front of a message's sets.
-const HEAD: usize = 16;
+pub(crate) const HEAD: usize = 16;
 
 /// What octets where a message is due show of its head.
 #[derive(Clone, Copy)]

@@ -10,6 +10,7 @@ ghost use Rattle.ioam_ipfix.specs.Written.{message_octets, templates_message, Is
 
 use crate::data::{put, put_moved, template_of};
 use crate::kind::{FIRST_TEMPLATE, LAST_TEMPLATE};
+use crate::message::HEAD;
 use crate::template::template;
 use ioam_base::buffer::Buffer;
 use ioam_base::memory::NoMemory;
@@ -19,9 +20,6 @@ use ioam_dex::fields::LENGTH;
 
 /// The octets of the heads of a message and of its one set.
 const HEADS: usize = 20;
-
-/// The octets of the heads and of sets that stand in front of them in a message.
-const MESSAGE_HEAD: usize = 16;
 
 /// The most octets of the eight templates.
 const TEMPLATES_MOST: usize = 608;
@@ -54,7 +52,7 @@ fn write_heads(start: usize, count: u64, id: u16, out: &mut Vec<u8>)
     heads.four((count % (1 << 32)) as u32);
     heads.four(0);
     heads.two(id);
-    heads.two((size - MESSAGE_HEAD) as u16);
+    heads.two((size - HEAD) as u16);
     put_at(out.as_mut_slice(), start, heads.octets());
 }
 

@@ -8,7 +8,7 @@ use ioam_collect::Collector;
 use std::alloc::Global;
 
 // No slice has as many octets.
-const TOO_MANY: u64 = 9_223_372_036_854_775_808;
+const TOO_MANY: u64 = 1 << 63;
 
 /// The collector of a part of at most so many records, below 2^31. `Full` comes exactly where the octets are a part, of
 /// more records; a fault is that of the first place that has one.

@@ -10,6 +10,7 @@ use crate::fault::PartFault;
 use crate::head::HEAD_SIZE;
 use crate::progress::Progress;
 use ioam_base::memory::NoMemory;
+use ioam_dex::fields::{VISIT, VISIT_SIZE};
 use ioam_dex::{Export, ExportReader, Step};
 
 // So many octets where they are there.
@@ -24,10 +25,10 @@ fn size_of(export: &Export<'_>) -> u64
     requires parts { HasItsParts (record_of export.now) }
     ensures { result ≡ length (record_octets (record_of export.now)) }
 {
-    let visit = size_where(export.visit.is_some(), 12);
+    let visit = size_where(export.visit.is_some(), VISIT_SIZE as u64);
     let flow = size_where(export.flow.is_some(), 4);
     let seq = size_where(export.seq.is_some(), 4);
-    10 + visit + flow + seq + export.element.len() as u64
+    VISIT as u64 + visit + flow + seq + export.element.len() as u64
 }
 
 /// The place in the part of what stands so far behind its head.

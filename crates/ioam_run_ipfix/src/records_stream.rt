@@ -22,7 +22,7 @@ use ioam_ipfix::{IpfixFault, IpfixReader, IpfixShown, put_record};
 use ioam_run_answer::Outcome;
 
 /// The most messages that are read: one with templates, and one for each of the most records.
-const MOST_MESSAGES: u32 = 67_108_865;
+const MOST_MESSAGES: u32 = MOST_RECORDS + 1;
 
 /// IN, room for a record of it, and how many records were given.
 #[derive(Drop)]

@@ -12,7 +12,7 @@ use ioam_desk_outputs::Output;
 use ioam_pcap::CapFault;
 
 /// The most records that are taken of a capture by a command over it alone.
-pub const MOST_PACKETS: u32 = 16_777_216;
+pub const MOST_PACKETS: u32 = 1 << 24;
 
 /// Why no record was taken.
 #[derive(Clone, Copy)]
