@@ -54,12 +54,10 @@ fn fault_line<R: FileSystem>(
 }
 
 fn line_of(alloc: Global, fault: Option<Fault<'_>>) -> Option<String> {
-    match fault {
-        Some(fault) => match format!(in alloc; "{fault}") {
-            Ok(line) => Some(line),
-            Err(_) => None,
-        },
-        None => None,
+    let fault = fault?;
+    match format!(in alloc; "{fault}") {
+        Ok(line) => Some(line),
+        Err(_) => None,
     }
 }
 

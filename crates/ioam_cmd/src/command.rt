@@ -101,10 +101,10 @@ pub fn parse(words: &[Name]) -> Option<Command>
         [command, _, _] if command.text() == "save" => Some(Command::Save),
         [command, _, _, _, _, _, _, _, _] if command.text() == "node" => Some(Command::Node),
         [command, _, _, _, _, _, _] if command.text() == "audit" => Some(Command::Audit),
-        [command, _, _, word, _, _] if command.text() == "run" => match workers_of(word) {
-            Some(workers) => Some(Command::Run { workers }),
-            None => None,
-        },
+        [command, _, _, word, _, _] if command.text() == "run" => {
+            let workers = workers_of(word)?;
+            Some(Command::Run { workers })
+        }
         [command, seed, count, workers, _] if command.text() == "bulk" => {
             bulk_of(seed, count, workers)
         }

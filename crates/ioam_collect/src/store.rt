@@ -125,10 +125,7 @@ impl Store {
 
     // The same, where there is a key.
     fn items_of(&self, key: Option<Key>) -> Option<Items<'_>> {
-        match key {
-            Some(key) => self.items_at_slot(key),
-            None => None,
-        }
+        self.items_at_slot(key?)
     }
 
     // Reads the slots of keys, and the first items of those that stand there. Says how many items it read.

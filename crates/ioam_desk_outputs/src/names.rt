@@ -20,5 +20,5 @@ pub fn first_repeat(names: &[Name]) -> Option<usize>
 fn stands_in(names: &[Name], name: &Name) -> bool
     ensures { IsTrue result ↔ Contains names.now name.now }
 {
-    names.iter().any(|other| other.text() == name.text())
+    names.iter().any(|other| other.is(name))
 }
