@@ -177,7 +177,7 @@ fn content_in(front: Front, faces: &[Face], block: &[u8]) -> Result<Content, Cap
     }
 }
 
-// What the octets where a block is due show of it, behind so many blocks.
+/// What the octets where a block is due show of it, behind so many blocks.
 pub fn block_step(count: u32, known: Option<Order>, faces: &[Face], octets: &[u8]) -> BlockStep
     ensures { TellsBlock (record { count = count; order = known; faces = faces.now }) octets.now result }
 {

@@ -15,7 +15,7 @@ pub struct Face {
 
 const NANOSECONDS: u128 = 1_000_000_000;
 
-// A resolution is one that is read.
+/// A resolution is one that is read.
 pub fn is_resolved(resolution: u8) -> bool
     ensures { result ≡ is_resolved resolution }
 {
@@ -72,7 +72,7 @@ fn time_between(plus: u128, minus: u128) -> Option<u64>
     }
 }
 
-// The nanoseconds of so many units, at an interface whose resolution is read.
+/// The nanoseconds of so many units, at an interface whose resolution is read.
 pub fn time_of(face: Face, units: u64) -> Option<u64>
     requires { IsTrue (is_resolved face.resolution) }
     ensures value { result ≡ time_of face units }

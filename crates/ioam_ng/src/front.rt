@@ -72,7 +72,7 @@ fn least_size(kind: u32) -> u32
     }
 }
 
-// What the octets where a block is due show of its front, behind so many blocks.
+/// What the octets where a block is due show of its front, behind so many blocks.
 pub fn front_step(count: u32, known: Option<Order>, octets: &[u8]) -> FrontStep
     ensures { TellsFront count known octets.now result }
 {

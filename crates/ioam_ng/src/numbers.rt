@@ -5,7 +5,7 @@ ghost use Rattle.ioam_ng.specs.Numbers.{short_at, long_at, order_said};
 use crate::codes::{MAGIC, SWAPPED_MAGIC};
 use ioam_pcap::{Order, number_at};
 
-// The order that a section block's third number, read big-endian, says.
+/// The order that a section block's third number, read big-endian, says.
 pub fn order_said(number: u32) -> Option<Order>
     ensures { result ≡ order_said number }
 {
@@ -16,7 +16,7 @@ pub fn order_said(number: u32) -> Option<Order>
     }
 }
 
-// The 16-bit number at a place.
+/// The 16-bit number at a place.
 pub fn short_at(order: Order, octets: &[u8], at: usize) -> u16
     requires { at + 2 ≤ length octets.now }
     ensures { result ≡ short_at order octets.now at }
@@ -29,7 +29,7 @@ pub fn short_at(order: Order, octets: &[u8], at: usize) -> u16
     }
 }
 
-// The 64-bit number at a place.
+/// The 64-bit number at a place.
 pub fn long_at(order: Order, octets: &[u8], at: usize) -> u64
     requires { at + 8 ≤ length octets.now }
     ensures { result ≡ long_at order octets.now at }

@@ -86,7 +86,7 @@ impl Said {
     }
 }
 
-// The interface of a link type with these octets of options; None where an option passes them.
+/// The interface of a link type with these octets of options; None where an option passes them.
 pub fn face_in(order: Order, kind: u16, octets: &[u8]) -> Option<Face>
     ensures { result ≡ face_in order kind octets.now }
 {

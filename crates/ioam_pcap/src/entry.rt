@@ -22,7 +22,7 @@ pub enum EntryStep {
     Bad(CapFault),
 }
 
-// What the octets that begin where a record is due show of it.
+/// What the octets that begin where a record is due show of it.
 pub fn entry_step(form: Form, octets: &[u8]) -> EntryStep
     ensures tells { TellsEntry form octets.now result }
     ensures timely { IsTimely result }

@@ -40,7 +40,7 @@ fn spelled(magic: u32) -> Option<(Order, Fraction)>
     }
 }
 
-// What the octets at the front of a capture show of its head.
+/// What the octets at the front of a capture show of its head.
 pub fn head_step(octets: &[u8]) -> HeadStep
     ensures { TellsHead octets.now result }
 {

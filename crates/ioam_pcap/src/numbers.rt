@@ -32,7 +32,7 @@ impl EntryNumbers {
         }
     }
 
-    // Their octets, in an order.
+    /// Their octets, in an order.
     pub fn in_octets<B: ByteOrder>(self) -> [u8; 16]
         ensures { result ≡ B.bytes_of 4 self.seconds ++ (B.bytes_of 4 self.fraction
             ++ (B.bytes_of 4 self.captured ++ B.bytes_of 4 self.original)) }
@@ -62,7 +62,7 @@ fn put_at<B: ByteOrder>(octets: &mut [u8], at: usize, number: u32)
     B::write_u32(&mut octets[at..], number);
 }
 
-// The numbers of the record's head that octets begin with, in the order of a file.
+/// The numbers of the record's head that octets begin with, in the order of a file.
 pub fn entry_numbers(order: Order, octets: &[u8]) -> EntryNumbers
     requires { 16 ≤ length octets.now }
     ensures seconds { result.seconds ≡ number_at order octets.now 0 }
