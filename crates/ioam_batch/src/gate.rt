@@ -1,8 +1,8 @@
 //! What a worker asks before its chunk of jobs.
 ghost use Rattle.std.specs.Prelude.{Bool, true, IsTrue};
 
-/// What a worker asks before its chunk of jobs. It runs the chunk's jobs exactly where `pass` answers
-/// true.
+/// What a worker asks before its chunk of jobs: it runs the chunk's jobs where `pass` answers true. By contract they are run
+/// behind a gate that always opens, and each job is run or as it was behind any other.
 pub trait Gate: Sync {
     // whether it always opens
     ghost opens: { Bool };

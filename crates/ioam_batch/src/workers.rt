@@ -118,8 +118,8 @@ fn run_front<R: Threads + Sync, G: Gate>(
 }
 
 /// Runs the jobs of a batch by so many workers, each on a chunk of ceil(jobs / workers) jobs that it
-/// alone may write. A worker calls the gate once before its chunk, and runs the chunk's jobs exactly
-/// where it answers true. With one worker no thread is started. It takes no memory and can't fail.
+/// alone may write. A worker calls the gate once before its chunk, and runs the chunk's jobs where it
+/// answers true. With one worker no thread is started. It takes no memory and can't fail.
 ///
 /// With a gate that always opens each job is as [`run_job`] leaves it, whatever its chunk and the
 /// workers; with any other each is so or as it was. Their number and their order stay, and what holds
