@@ -1,10 +1,10 @@
 //! The first item of a key.
-ghost use Rattle.std.specs.Prelude.{◌≡◌, ◌<◌, Some, None, IfOk};
+ghost use Rattle.std.specs.Prelude.{◌≡◌, ◌<◌, Some, None, IfOk, vec_capacity};
 ghost use Rattle.std.specs.BTreeMap.{get};
 ghost use Rattle.ioam_collect.specs.Keyed.{key_cmp, IsOfRecord};
 ghost use Rattle.ioam_collect.specs.Inside.{IsStore, gathered};
 ghost use Rattle.ioam_collect.specs.Adds.{Adds};
-ghost use Rattle.ioam_collect.specs.Slots.{AreSlotsOf};
+ghost use Rattle.ioam_collect.specs.Slots.{AreSlotsOf, HasFewSlots};
 
 use crate::growing::{Added, make_room};
 use crate::key::Key;
@@ -47,9 +47,11 @@ pub(crate) fn add_first(
     requires inside { IsStore pool.old chains.old.map spare.old limit }
     requires of_record { IsOfRecord item }
     requires slots { AreSlotsOf chains.old.map chains.old.slots.items }
+    requires few { HasFewSlots chains.old.map (vec_capacity chains.old.slots) }
     requires absent { get key_cmp chains.old.map key ≡ None }
     ensures inside { IsStore pool.new chains.new.map spare.new limit }
     ensures slots { AreSlotsOf chains.new.map chains.new.slots.items }
+    ensures few { HasFewSlots chains.new.map (vec_capacity chains.new.slots) }
     ensures adds { Adds (gathered pool.old chains.old.map limit) key item result (gathered pool.new chains.new.map limit) }
 {
     if pool.held() == limit {

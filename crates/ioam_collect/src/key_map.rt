@@ -1,9 +1,9 @@
 //! The chains of keys.
-ghost use Rattle.std.specs.Prelude.{◌≡◌, Some, None, IfSome, OnErr, OnOk};
+ghost use Rattle.std.specs.Prelude.{◌≡◌, Some, None, IfSome, OnErr, OnOk, vec_capacity};
 ghost use Rattle.std.specs.List.{All};
 ghost use Rattle.std.specs.BTreeMap.{get, IsEmpty, IsOrdered, IsUnchanged, Updates};
 ghost use Rattle.ioam_collect.specs.Keyed.{key_cmp};
-ghost use Rattle.ioam_collect.specs.Slots.{AreSlotsOf};
+ghost use Rattle.ioam_collect.specs.Slots.{AreSlotsOf, HasFewSlots};
 
 use crate::key::Key;
 use crate::slots::{Slot, chain_in, put_in, widen};
@@ -25,6 +25,7 @@ impl KeyMap {
     pub(crate) fn new(alloc: Global) -> KeyMap
         ensures empty { IsEmpty result.map }
         ensures slots { AreSlotsOf result.map result.slots.items }
+        ensures few { HasFewSlots result.map (vec_capacity result.slots) }
     {
         KeyMap {
             map: BTreeMap::new(alloc),
@@ -53,6 +54,7 @@ impl KeyMap {
         ensures value { result ≡ get key_cmp self.old.map key }
         ensures same { self.new.map ≡ self.old.map }
         ensures slots { AreSlotsOf self.new.map self.new.slots.items }
+        ensures capacity { vec_capacity self.new.slots ≡ vec_capacity self.old.slots }
     {
         if let Some(chain) = chain_in(&self.slots, key) {
             return Some(chain);
@@ -66,9 +68,11 @@ impl KeyMap {
     pub(crate) fn insert(&mut self, key: Key, chain: Chain) -> Result<(), NoMemory>
         requires absent { get key_cmp self.old.map key ≡ None }
         requires slots { AreSlotsOf self.old.map self.old.slots.items }
+        requires few { HasFewSlots self.old.map (vec_capacity self.old.slots) }
         ensures updates { OnOk result (Updates key_cmp self.old.map self.new.map key (Some chain)) }
         ensures err { OnErr result (IsUnchanged self.old.map self.new.map) }
         ensures slots { AreSlotsOf self.new.map self.new.slots.items }
+        ensures few { HasFewSlots self.new.map (vec_capacity self.new.slots) }
     {
         let Ok(_) = self.map.insert(key, chain) else {
             return Err(NoMemory);

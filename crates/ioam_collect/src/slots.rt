@@ -1,5 +1,5 @@
 //! Slots in front of a map from keys to chains: a key is looked for in two slots before the map is searched.
-ghost use Rattle.std.specs.Prelude.{◌≡◌, ◌+◌, ◌≤◌, ◌<◌, ℕ, Some, IfSome, length, vec_len, vec_capacity};
+ghost use Rattle.std.specs.Prelude.{◌≡◌, ◌+◌, ◌*◌, ◌≤◌, ◌<◌, ℕ, Some, IfSome, length, max, vec_len, vec_capacity};
 ghost use Rattle.std.specs.BTreeMap.{BTreeMap, get};
 ghost use Rattle.ioam_collect.specs.Keyed.{key_cmp};
 ghost use Rattle.ioam_collect.specs.Slots.{AreSlotsOf, StaySlots};
@@ -59,7 +59,8 @@ pub(crate) fn chain_in(slots: &[Option<Slot>], key: Key) -> Option<Chain>
 
 // Puts a key and its chain into the first of the slots of the key. What was there goes into the second.
 pub(crate) fn put_in(slots: &mut Vec<Option<Slot>>, key: Key, chain: Chain)
-    ensures { (map : BTreeMap Key ℕ) → get key_cmp map key ≡ Some chain → AreSlotsOf map slots.old.items → AreSlotsOf map slots.new.items }
+    ensures slots { (map : BTreeMap Key ℕ) → get key_cmp map key ≡ Some chain → AreSlotsOf map slots.old.items → AreSlotsOf map slots.new.items }
+    ensures capacity { vec_capacity slots.new ≡ vec_capacity slots.old }
 {
     if slots.len() < 2 {
         return;
@@ -72,7 +73,9 @@ pub(crate) fn put_in(slots: &mut Vec<Option<Slot>>, key: Key, chain: Chain)
 // Adds so many slots, which are free.
 fn add_slots(slots: &mut Vec<Option<Slot>>, more: usize)
     requires { vec_len slots.old + more ≤ vec_capacity slots.old }
-    ensures { StaySlots slots.old.items slots.new.items }
+    ensures stay { StaySlots slots.old.items slots.new.items }
+    ensures len { vec_len slots.new ≡ vec_len slots.old + more }
+    ensures capacity { vec_capacity slots.new ≡ vec_capacity slots.old }
 {
     'adding: for _ in 0..more {
         slots.push_reserved(None);
@@ -81,7 +84,10 @@ fn add_slots(slots: &mut Vec<Option<Slot>>, more: usize)
 
 // Doubles the slots where there are fewer than two for each of so many keys. Without memory they stay as they are.
 pub(crate) fn widen(slots: &mut Vec<Option<Slot>>, keys: usize)
-    ensures { StaySlots slots.old.items slots.new.items }
+    ensures stay { StaySlots slots.old.items slots.new.items }
+    // There are no more than there were, or else four for each key and 1,024.
+    ensures few { vec_len slots.new ≤ max (vec_len slots.old) (4 * keys + 1024) }
+    ensures room { vec_capacity slots.new ≤ max (vec_capacity slots.old) (4 * keys + 1024) }
 {
     let len = slots.len();
     if len / 2 >= keys {

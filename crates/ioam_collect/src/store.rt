@@ -37,12 +37,14 @@ impl Model for Store {
     ghost Value = { Gathered };
 
     ghost use Rattle.ioam_collect.specs.Inside.{IsStore, gathered};
-    ghost use Rattle.ioam_collect.specs.Slots.{AreSlotsOf};
+    ghost use Rattle.ioam_collect.specs.Slots.{AreSlotsOf, HasFewSlots};
+    ghost use Rattle.std.specs.Prelude.{vec_capacity};
 
     ghost view = { λ inside. gathered inside.pool inside.chains.map inside.limit };
 
     ghost invariant = { λ inside. IsStore inside.pool inside.chains.map inside.spare inside.limit
-        × AreSlotsOf inside.chains.map inside.chains.slots.items };
+        × AreSlotsOf inside.chains.map inside.chains.slots.items
+        × HasFewSlots inside.chains.map (vec_capacity inside.chains.slots) };
 }
 
 impl Store {

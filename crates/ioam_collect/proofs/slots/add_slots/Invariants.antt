@@ -7,5 +7,6 @@ abbrev pub invariant-adding : goal.invariant-adding
 invariant-adding l = record {
   stay : StaySlots l.initial.slots.items l.slots.items;
   len : vec_len l.slots ≡ vec_len l.initial.slots + l.counter;
+  capacity : vec_capacity l.slots ≡ vec_capacity l.initial.slots;
   room : vec_len l.initial.slots + l.more ≤ vec_capacity l.slots;
 }

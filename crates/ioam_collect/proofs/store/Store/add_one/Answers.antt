@@ -8,9 +8,11 @@ put-requires-clause-there c = c.self.invariant.0.below c.args.key c.in-Some.chai
 pub invariant_of-self : goal.invariant_of-self
 invariant_of-self c =
     let slots = rw c.in-Some.ensures.same at c.in-Some.ensures.slots in
+    let few = c.self.invariant.2 in
     rw c.in-Some.ensures.same (
       (put_adds _ _ _ _ _ c.self.invariant.0 c.args.key _ (sym c.in-Some.ensures.value) c.put.ensures.within _ c.requires _ c.put.ensures.puts).0,
       slots,
+      rw c.in-Some.ensures.capacity few,
     )
 
 pub returns-in-Some : goal.returns-in-Some
