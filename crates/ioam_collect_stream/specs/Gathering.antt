@@ -16,7 +16,7 @@ use Rattle.ioam_collect_stream.specs.declared.step.Pause.TheVariants as pause
 use Rattle.ioam_collect_stream.specs.declared.gathering.Halt.{Halt}
 use Rattle.ioam_collect_stream.specs.declared.gathering.Halt.TheVariants as halt
 
--- the most records that are read, and that are held
+-- the most records that are read: 67,108,864
 abbrev pub most_records : ℕ
 most_records = 67108864
 
