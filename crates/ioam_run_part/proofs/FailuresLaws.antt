@@ -1,5 +1,5 @@
 -- What failed is answered: of the answer for what stopped the reading, of one output, and of one input.
-use Rattle.std.proofs.Common.{◌≡◌, ◌⊎◌, ℕ, List, Option, Ok, Err, ap, ◌∙◌, refl, subst, ⊎_elim}
+use Rattle.std.proofs.Common.{◌≡◌, ℕ, List, Option, Ok, Err, ap, ◌∙◌, refl, subst}
 use Rattle.std.specs.Prelude.{◌≢◌, Bool, Result}
 use Rattle.ioam_desk.specs.Desk.{Reading, Writing, Side, OpenIn, OpenOut}
 use Rattle.ioam_desk.specs.declared.fault.DeskFault.{DeskFault}
@@ -15,7 +15,6 @@ use Rattle.ioam_run_part.specs.PartEnds.{outcome_of}
 use Rattle.ioam_run_part.specs.Stored.{AnswersWrites}
 use Rattle.ioam_run_part.specs.Stored as stored
 use Rattle.ioam_run_part.specs.Unread.{AnswersReads, unread_by}
-use Rattle.ioam_run_part.specs.Unread as unread_file
 use Rattle.ioam_run_part.specs.declared.unread.Unread.{Unread}
 use Rattle.ioam_run_part.specs.declared.unread.Unread.TheVariants as unread
 
@@ -59,10 +58,7 @@ module _ (old new : Reading) where
   read_unopened tells held name Failed opened other = absurd (other refl)
   read_unopened tells held name NoMemory same other = ap (λ (r : Reading). r.side.faults) same
 
-  -- the answer for a file that wasn't read
-  pub read_answered : {A : Type 0} (name : List ℕ) (why : Unread) (answer : Outcome) → (answer ≡ unread_file.answer_of name why) ⊎ (answer ≡ outcome.NoMemory)
-      → AnswersReads {A = A} old new (Err why) → IsSettled answer → new.side.faults ≡ old.side.faults
-  read_answered name why answer either answers settled = answers (λ failed.
-      let is : why ≡ unread.Failed = cc in
-      let P : Unread → Type 0 = λ u. IsSettled (unread_file.answer_of name u) in
-      ⊎_elim (λ same. subst P is (subst IsSettled same settled)) (λ none. subst IsSettled none settled) either)
+  -- the answer for a file that wasn't read, which a failed read alone has as its own
+  pub read_failed : {A : Type 0} (why : Unread) (answer : Outcome) → (why ≡ unread.Failed → answer ≡ outcome.ReadFault)
+      → AnswersReads {A = A} old new (Err why) → answer ≢ outcome.ReadFault → new.side.faults ≡ old.side.faults
+  read_failed why answer failed answers other = answers (λ is. let same : why ≡ unread.Failed = cc in other (failed same))

@@ -62,7 +62,7 @@ module _ (desks : Desks) (files : MergeNames) (same : desks.new ≡ desks.old) w
   refused_done _ refuses done = refuses
 
   pub ends_refused : (answer : Outcome) → Refuses answer → TriesTwo desks.tells (one_held desks files) (two_held desks files) files.one files.two desks.old_in desks.new_in
-      → (IsSettled answer → desks.new_in.side.faults ≡ desks.old_in.side.faults) → MergeEnds desks files answer
+      → (answer ≢ outcome.ReadFault → desks.new_in.side.faults ≡ desks.old_in.side.faults) → MergeEnds desks files answer
   ends_refused answer refuses tries reads = record {
     cause = refused_cause answer refuses;
     leaves = λ told. refused_leaves answer refuses;
@@ -77,7 +77,8 @@ module _ (desks : Desks) (files : MergeNames) (same : desks.new ≡ desks.old) w
     drained = λ done told. absurd (refused_done answer refuses done);
     few_one = tries.few_one;
     few_two = tries.few_two;
-    failures = record { reads = reads; writes = λ other. ap (λ (w : Writing). w.side.faults) same };
+    failures = record { reads = λ settled. reads (λ is. subst IsSettled is settled); writes = λ other. ap (λ (w : Writing). w.side.faults) same };
+    read_failed = reads;
     kept_in = tries.kept;
     kept_out = λ told. KeepsOutputs-same desks.old desks.new same;
   }
@@ -164,6 +165,7 @@ module _ (desks : Desks) (files : MergeNames) (a b : List ℕ)
     few_one = tries.few_one;
     few_two = tries.few_two;
     failures = record { reads = λ settled. ap (λ (s : Side). s.faults) holds_two.side; writes = failed };
+    read_failed = λ other. ap (λ (s : Side). s.faults) holds_two.side;
     kept_in = tries.kept;
     kept_out = kept;
   }
@@ -238,6 +240,7 @@ module _ (desks : Desks) (files : MergeNames) where
         few_one = ends.few_one;
         few_two = ends.few_two;
         failures = ends.failures;
+        read_failed = ends.read_failed;
         kept_in = ends.kept_in;
         kept_out = ends.kept_out;
       }
@@ -269,6 +272,7 @@ module _ (desks : Desks) (files : MergeNames) where
       few_one = λ more. (let none = ap (λ (r : desk.Reading). r.side.slots) same_in in absurd (omega (arith, none, more)));
       few_two = λ more. (let none = ap (λ (r : desk.Reading). r.side.slots) same_in in absurd (omega (arith, none, more)));
       failures = failures-none desks.tells desks.old_in desks.new_in desks.old desks.new answer (ap (λ (r : desk.Reading). r.side.faults) same_in) (ap (λ (w : Writing). w.side.faults) same);
+      read_failed = λ other. ap (λ (r : desk.Reading). r.side.faults) same_in;
       kept_in = KeepsInputs-same desks.old_in desks.new_in same_in;
       kept_out = λ told. KeepsOutputs-same desks.old desks.new same;
     }

@@ -10,8 +10,7 @@ use Rattle.ioam_desk.specs.declared.fault.DeskFault.TheVariants.{Failed, NoMemor
 use Rattle.ioam_desk.proofs.KeptLaws.{KeepsInputs-same, KeepsOutputs-same}
 use Rattle.ioam_collect.specs.Collected.{Collected}
 use Rattle.ioam_run_answer.specs.Desks.{Desks}
-use Rattle.ioam_run_answer.specs.Failures.{AnswersFailures}
-use Rattle.ioam_run_answer.specs.Outcomes.{IsDone, OpensNothing}
+use Rattle.ioam_run_answer.specs.Outcomes.{IsDone, IsSettled, OpensNothing}
 use Rattle.ioam_run_answer.specs.declared.outcome.Outcome.{Outcome}
 use Rattle.ioam_run_answer.specs.declared.outcome.Outcome.TheVariants as outcome
 use Rattle.ioam_run_part.specs.Files.{PartsNames}
@@ -25,8 +24,8 @@ use Rattle.ioam_run_part.specs.Unread.{AnswersReads, ReadsFile}
 use Rattle.ioam_run_part.specs.Unread as unread_file
 use Rattle.ioam_run_part.specs.declared.unread.Unread.{Unread}
 use Rattle.ioam_run_part.specs.declared.unread.Unread.TheVariants as unread
-use Rattle.ioam_run_answer.proofs.FailuresLaws.{failures-memory, failures-none}
-use Rattle.ioam_run_part.proofs.FailuresLaws.{read_answered, written_answered}
+use Rattle.ioam_run_answer.proofs.FailuresLaws.{failures-none}
+use Rattle.ioam_run_part.proofs.FailuresLaws.{read_failed, written_answered}
 use Rattle.ioam_run_part.proofs.FileLaws.{none_asked}
 use Rattle.ioam_run_part.proofs.MergeLaws.{some_held, none_asked_out}
 use Rattle.ioam_run_part.proofs.PartsAskedLaws.{parts_asked}
@@ -54,9 +53,9 @@ module _ (desks : Desks) (files : PartsNames) (same : desks.new ≡ desks.old) w
 
   module _ (asked : AsksFront desks.old_in.side.asked desks.new_in.side.asked (files.part ∷ [])) (kept : KeepsInputs desks.old_in desks.new_in)
       (few : desks.old_in.side.slots < desks.new_in.side.slots → ReadsFew desks.tells (part_held desks files) desks.old_in.side.slots desks.new_in) where
-    still_ends : (answer : Outcome) → ApartCause desks files answer → PartsLeaves (part_held desks files) files.report desks.old desks.new answer → (IsDone answer → ⊥) → AnswersFailures desks answer
-        → PartsEnds desks files answer
-    still_ends answer cause leaves not_done failures = record {
+    still_ends : (answer : Outcome) → ApartCause desks files answer → PartsLeaves (part_held desks files) files.report desks.old desks.new answer → (IsDone answer → ⊥)
+        → (answer ≢ outcome.ReadFault → desks.new_in.side.faults ≡ desks.old_in.side.faults) → PartsEnds desks files answer
+    still_ends answer cause leaves not_done reads = record {
       cause = cause;
       leaves = λ told. leaves;
       asked_in = asked;
@@ -67,23 +66,24 @@ module _ (desks : Desks) (files : PartsNames) (same : desks.new ≡ desks.old) w
       no_report = λ before. same;
       drained = λ done told. absurd (not_done done);
       few = few;
-      failures = failures;
+      failures = record { reads = λ settled. reads (λ is. subst IsSettled is settled); writes = λ other. ap (λ (w : Writing). w.side.faults) same };
+      read_failed = reads;
       kept_in = kept;
       kept_out = λ told. KeepsOutputs-same desks.old desks.new same;
     }
 
-    -- no memory could be had
-    pub ends_wanting : PartsEnds desks files outcome.NoMemory
-    ends_wanting = still_ends outcome.NoMemory tt (inl same) (λ done. done) (failures-memory desks.tells desks.old_in desks.new_in desks.old desks.new (ap (λ (w : Writing). w.side.faults) same))
+    -- no memory could be had, and no read failed
+    pub ends_wanting : desks.new_in.side.faults ≡ desks.old_in.side.faults → PartsEnds desks files outcome.NoMemory
+    ends_wanting none = still_ends outcome.NoMemory tt (inl same) (λ done. done) (λ other. none)
 
     pub ends_unread : (answer : Outcome) (why : Unread) → Reads (Err why) → (answer ≡ unread_file.answer_of files.part why) ⊎ (answer ≡ outcome.NoMemory)
-        → AnswersReads {A = Collected} desks.old_in desks.new_in (Err why) → PartsEnds desks files answer
-    ends_unread answer why reads either failed =
+        → (why ≡ unread.Failed → answer ≡ outcome.ReadFault) → AnswersReads {A = Collected} desks.old_in desks.new_in (Err why) → PartsEnds desks files answer
+    ends_unread answer why reads either failed answers =
         let P : Outcome → Type 0 = λ o. PartsEnds desks files o in
         let named : Outcome = unread_file.answer_of files.part why in
-        ⊎_elim (λ is. subst P (sym is) (still_ends named (unread_cause why reads) (unread_leaves why) (unread_done why)
-        (record { reads = read_answered desks.old_in desks.new_in files.part why named (inl refl) failed; writes = λ other. ap (λ (w : Writing). w.side.faults) same })))
-        (λ none. subst P (sym none) ends_wanting) either
+        let other : answer ≢ outcome.ReadFault → desks.new_in.side.faults ≡ desks.old_in.side.faults = read_failed desks.old_in desks.new_in why answer failed answers in
+        ⊎_elim (λ is. subst P (sym is) (still_ends named (unread_cause why reads) (unread_leaves why) (unread_done why) (λ apart. other (λ it. apart (sym is ∙ it)))))
+        (λ none. subst P (sym none) (ends_wanting (other (λ it. let bad = sym none ∙ it in cc)))) either
 
 -- ---- it was
 
@@ -140,6 +140,7 @@ module _ (desks : Desks) (files : PartsNames) (c : Collected) (text : List ℕ) 
     drained = λ done told. reads.2 told;
     few = few;
     failures = record { reads = λ settled. ap (λ (s : Side). s.faults) reads.0; writes = written_answered desks.old desks.new r (answer_of r) refl failed };
+    read_failed = λ other. ap (λ (s : Side). s.faults) reads.0;
     kept_in = kept;
     kept_out = kept_out;
   }
@@ -192,6 +193,7 @@ module _ (desks : Desks) (files : PartsNames) where
         drained = ends.drained;
         few = ends.few;
         failures = ends.failures;
+        read_failed = ends.read_failed;
         kept_in = ends.kept_in;
         kept_out = ends.kept_out;
       }
@@ -214,6 +216,7 @@ module _ (desks : Desks) (files : PartsNames) where
       drained = λ done told. absurd (not_done done);
       few = λ more. (let none = ap (λ (r : desk.Reading). r.side.slots) same_in in absurd (omega (arith, none, more)));
       failures = failures-none desks.tells desks.old_in desks.new_in desks.old desks.new answer (ap (λ (r : desk.Reading). r.side.faults) same_in) (ap (λ (w : Writing). w.side.faults) same);
+      read_failed = λ other. ap (λ (r : desk.Reading). r.side.faults) same_in;
       kept_in = KeepsInputs-same desks.old_in desks.new_in same_in;
       kept_out = λ told. KeepsOutputs-same desks.old desks.new same;
     }

@@ -1,5 +1,5 @@
 -- What a run of `merge` whose names differ leaves, by its answer.
-use Rattle.std.specs.Prelude.{◌≡◌, ℕ, ◌+◌, ◌<◌, ⊤, IsTrue, IsSomeAnd, List, [], ◌∷◌, ◌++◌}
+use Rattle.std.specs.Prelude.{◌≡◌, ◌≢◌, ℕ, ◌+◌, ◌<◌, ⊤, IsTrue, IsSomeAnd, List, [], ◌∷◌, ◌++◌}
 use Rattle.ioam_desk.specs.Asked.{AsksFront}
 use Rattle.ioam_desk.specs.Desk.{Rose}
 use Rattle.ioam_desk.specs.Kept.{KeepsInputs, KeepsOutputs}
@@ -26,7 +26,7 @@ module _ (desks : Desks) (files : MergeNames) where
   ApartCause _ = ⊥
 
   -- what such a run leaves: the cause of its answer, what PART holds, what was opened and read, in which order,
-  -- that what failed is answered, and what is as it was
+  -- that what failed is answered, a failed read as nothing else, and what is as it was
   pub record MergeEnds (answer : Outcome) : Type 0 where
     pub cause : ApartCause answer
     pub leaves : IsTrue desks.tells → MergeLeaves (one_held desks files) (two_held desks files) files.part desks.old desks.new answer
@@ -43,5 +43,6 @@ module _ (desks : Desks) (files : MergeNames) where
     pub few_one : desks.old_in.side.slots < desks.new_in.side.slots → ReadsFew desks.tells (one_held desks files) desks.old_in.side.slots desks.new_in
     pub few_two : desks.old_in.side.slots + 1 < desks.new_in.side.slots → ReadsFew desks.tells (two_held desks files) (desks.old_in.side.slots + 1) desks.new_in
     pub failures : AnswersFailures desks answer
+    pub read_failed : answer ≢ outcome.ReadFault → desks.new_in.side.faults ≡ desks.old_in.side.faults
     pub kept_in : KeepsInputs desks.old_in desks.new_in
     pub kept_out : IsTrue desks.tells → KeepsOutputs desks.old desks.new

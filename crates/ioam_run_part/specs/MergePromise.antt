@@ -1,5 +1,5 @@
 -- What `merge ONE TWO PART` promises.
-use Rattle.std.specs.Prelude.{◌≡◌, ℕ, ◌+◌, ◌<◌, ◌⊎◌, ◌↔◌, ⊤, Bool, IsTrue, IsSomeAnd, List, [], ◌∷◌, ◌++◌, Option, Some}
+use Rattle.std.specs.Prelude.{◌≡◌, ◌≢◌, ℕ, ◌+◌, ◌<◌, ◌⊎◌, ◌↔◌, ⊤, Bool, IsTrue, IsSomeAnd, List, [], ◌∷◌, ◌++◌, Option, Some}
 use Rattle.ioam_base.specs.Octets.{IsFront}
 use Rattle.ioam_desk.specs.Asked.{AsksFront}
 use Rattle.ioam_desk.specs.Desk.{Reading, Writing, Rose, holds}
@@ -136,6 +136,8 @@ module _ (desks : Desks) (files : MergeNames) where
     -- what failed is answered: no call of ONE and TWO failed where the words and the files decided the answer, and none of PART
     -- unless the answer is WriteFault
     pub failures : AnswersFailures desks answer
+    -- a failed opening or read of ONE or TWO is answered as such, and as nothing else
+    pub read_failed : answer ≢ outcome.ReadFault → desks.new_in.side.faults ≡ desks.old_in.side.faults
     -- input slots that were there, and where the desk tells output slots that were there and names that weren't opened to be written, are as they were
     pub kept_in : KeepsInputs desks.old_in desks.new_in
     pub kept_out : IsTrue desks.tells → KeepsOutputs desks.old desks.new

@@ -1,5 +1,5 @@
 -- What a run of `parts` whose names differ leaves, by its answer.
-use Rattle.std.specs.Prelude.{◌≡◌, ◌<◌, ⊤, IsTrue, IsSomeAnd, [], ◌∷◌, ◌++◌}
+use Rattle.std.specs.Prelude.{◌≡◌, ◌≢◌, ◌<◌, ⊤, IsTrue, IsSomeAnd, [], ◌∷◌, ◌++◌}
 use Rattle.ioam_desk.specs.Asked.{AsksFront}
 use Rattle.ioam_desk.specs.Desk.{Rose}
 use Rattle.ioam_desk.specs.Kept.{KeepsInputs, KeepsOutputs}
@@ -25,7 +25,7 @@ module _ (desks : Desks) (files : PartsNames) where
   ApartCause _ = ⊥
 
   -- what such a run leaves: the cause of its answer, what REPORT holds, what was opened and read, that what
-  -- failed is answered, and what is as it was
+  -- failed is answered, a failed read as nothing else, and what is as it was
   pub record PartsEnds (answer : Outcome) : Type 0 where
     pub cause : ApartCause answer
     pub leaves : IsTrue desks.tells → PartsLeaves (part_held desks files) files.report desks.old desks.new answer
@@ -38,5 +38,6 @@ module _ (desks : Desks) (files : PartsNames) where
     pub drained : IsDone answer → IsTrue desks.tells → IsTrue (desks.new_in.ended desks.old_in.side.slots)
     pub few : desks.old_in.side.slots < desks.new_in.side.slots → ReadsFew desks.tells (part_held desks files) desks.old_in.side.slots desks.new_in
     pub failures : AnswersFailures desks answer
+    pub read_failed : answer ≢ outcome.ReadFault → desks.new_in.side.faults ≡ desks.old_in.side.faults
     pub kept_in : KeepsInputs desks.old_in desks.new_in
     pub kept_out : IsTrue desks.tells → KeepsOutputs desks.old desks.new

@@ -97,6 +97,8 @@ module _ (desks : Desks) (files : PartsNames) where
     -- what failed is answered: no call of PART failed where the words and the file decided the answer, and none of REPORT
     -- unless the answer is WriteFault
     pub failures : AnswersFailures desks answer
+    -- a failed opening or read of PART is answered as such, and as nothing else
+    pub read_failed : answer ≢ outcome.ReadFault → desks.new_in.side.faults ≡ desks.old_in.side.faults
     -- input slots that were there, and where the desk tells output slots that were there and names that weren't opened to be written, are as they were
     pub kept_in : KeepsInputs desks.old_in desks.new_in
     pub kept_out : IsTrue desks.tells → KeepsOutputs desks.old desks.new

@@ -126,7 +126,8 @@ pub(crate) fn read_held<D: Desk>(
 
 /// The answer for a file that wasn't read.
 pub(crate) fn unread_outcome(alloc: Global, name: &Name, why: Unread) -> Outcome
-    ensures { (result ≡ answer_of name.now why) ⊎ (result ≡ Outcome.NoMemory) }
+    ensures answer { (result ≡ answer_of name.now why) ⊎ (result ≡ Outcome.NoMemory) }
+    ensures failed { why ≡ Unread.Failed → result ≡ Outcome.ReadFault }
 {
     match why {
         Unread::Fault { at, fault } => part_outcome(alloc, name, at, fault),

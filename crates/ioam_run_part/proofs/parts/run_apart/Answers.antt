@@ -1,7 +1,7 @@
-use Rattle.std.proofs.Common.{◌∷◌, [], IsTrue, Ok, sym, ◌∙◌, subst, ◌<◌}
+use Rattle.std.proofs.Common.{◌∷◌, [], IsTrue, Ok, ap, sym, ◌∙◌, subst, ◌<◌}
 use Rattle.ioam_desk.specs.Asked.{AsksFront}
 use Rattle.ioam_desk.specs.Desk as desk
-use Rattle.ioam_desk.specs.Desk.{Writing, holds}
+use Rattle.ioam_desk.specs.Desk.{Side, Writing, holds}
 use Rattle.ioam_desk.specs.Kept.{KeepsInputs, KeepsOutputs}
 use Rattle.ioam_run_answer.specs.Desks.{Desks, around}
 use Rattle.ioam_run_answer.specs.declared.outcome.Outcome.{Outcome}
@@ -41,10 +41,11 @@ pub returns-in-Err-lines : goal.returns-in-Err-lines
 returns-in-Err-lines g c =
     let names : PartsNames = record { part = c.args.part.now; report = c.args.report.now } in
     let desks : Desks = around g.D.Desk.tells (g.D.Desk.reading c.args.desk.now) (g.D.Desk.reading c.read_held.new.desk) (g.D.Desk.writing c.args.desk.now) (g.D.Desk.writing c.read_held.new.desk) in
-    ends_wanting desks names c.in-Ok.ensures.outputs c.in-Ok.ensures.asked c.in-Ok.ensures.kept_in c.in-Ok.ensures.few
+    ends_wanting desks names c.in-Ok.ensures.outputs c.in-Ok.ensures.asked c.in-Ok.ensures.kept_in c.in-Ok.ensures.few (ap (λ (s : Side). s.faults) c.in-Ok.ensures.reads.0)
 
 pub returns-in-Err : goal.returns-in-Err
 returns-in-Err g c =
     let names : PartsNames = record { part = c.args.part.now; report = c.args.report.now } in
     let desks : Desks = around g.D.Desk.tells (g.D.Desk.reading c.args.desk.now) (g.D.Desk.reading c.read_held.new.desk) (g.D.Desk.writing c.args.desk.now) (g.D.Desk.writing c.read_held.new.desk) in
-    ends_unread desks names c.in-Err.ensures.outputs c.in-Err.ensures.asked c.in-Err.ensures.kept_in c.in-Err.ensures.few c.unread_outcome.result c.in-Err.why c.in-Err.ensures.reads c.unread_outcome.ensures c.in-Err.ensures.faults
+    ends_unread desks names c.in-Err.ensures.outputs c.in-Err.ensures.asked c.in-Err.ensures.kept_in c.in-Err.ensures.few c.unread_outcome.result c.in-Err.why c.in-Err.ensures.reads
+    c.unread_outcome.ensures.answer c.unread_outcome.ensures.failed c.in-Err.ensures.faults

@@ -3,7 +3,7 @@ use Rattle.ioam_desk.specs.Desk.{Writing, holds}
 use Rattle.ioam_run_part.specs.Records.{ReadsFew}
 use Rattle.ioam_run_part.specs.Flat.{ReadsFlatFile}
 use Rattle.ioam_run_part.specs.Unread.{answer_of}
-use Rattle.ioam_run_part.proofs.FailuresLaws.{read_answered}
+use Rattle.ioam_run_part.proofs.FailuresLaws.{read_failed}
 use Rattle.ioam_run_part.proofs.TwoLaws.{mid_faults, either_refuses, first_refuses, first_tries, second_refuses, second_tries, holds_two}
 use Rattle.ioam_run_part.proofs.two.read_two.Goals as goal
 
@@ -14,11 +14,11 @@ returns-in-Err g c =
     let old = g.D.Desk.reading c.args.desk.now in
     let new = g.D.Desk.reading c.read_flat.new.desk in
     record {
-      reads = either_refuses g.D.Desk.tells first second c.args.one.now c.args.two.now old new c.unread_outcome.result (answer_of c.args.one.now c.in-Err.why) c.unread_outcome.ensures
+      reads = either_refuses g.D.Desk.tells first second c.args.one.now c.args.two.now old new c.unread_outcome.result (answer_of c.args.one.now c.in-Err.why) c.unread_outcome.ensures.answer
           (first_refuses g.D.Desk.tells first second c.args.one.now c.args.two.now old new c.in-Err.why c.in-Err.ensures.reads);
       tries = first_tries g.D.Desk.tells first second c.args.one.now c.args.two.now old new c.in-Err.ensures.asked c.in-Err.ensures.slots c.in-Err.ensures.kept_in
           c.in-Err.ensures.few;
-      faults = read_answered old new c.args.one.now c.in-Err.why c.unread_outcome.result c.unread_outcome.ensures c.in-Err.ensures.faults;
+      faults = read_failed old new c.in-Err.why c.unread_outcome.result c.unread_outcome.ensures.failed c.in-Err.ensures.faults;
       outputs = c.in-Err.ensures.outputs;
     }
 
@@ -52,12 +52,12 @@ returns-in-Err-read_flat g c =
     let reads = subst P c.in-Ok.ensures.outputs c.in-Err-read_flat.ensures.reads in
     record {
       reads = either_refuses g.D.Desk.tells first second c.args.one.now c.args.two.now old new c.unread_outcome-in-Err-read_flat.result (answer_of c.args.two.now c.in-Err-read_flat.why)
-          c.unread_outcome-in-Err-read_flat.ensures
+          c.unread_outcome-in-Err-read_flat.ensures.answer
           (second_refuses g.D.Desk.tells first second c.args.one.now c.args.two.now old mid new c.in-Ok.part c.in-Ok.ensures.reads c.in-Err-read_flat.why reads);
       tries = second_tries g.D.Desk.tells first second c.args.one.now c.args.two.now old mid new c.in-Ok.part c.in-Ok.ensures.reads c.in-Ok.ensures.kept_in
           c.in-Err-read_flat.ensures.asked c.in-Err-read_flat.ensures.slots c.in-Err-read_flat.ensures.kept_in c.in-Ok.ensures.few (subst F c.in-Ok.ensures.outputs c.in-Err-read_flat.ensures.few);
-      faults = λ settled.
-          read_answered mid new c.args.two.now c.in-Err-read_flat.why c.unread_outcome-in-Err-read_flat.result c.unread_outcome-in-Err-read_flat.ensures c.in-Err-read_flat.ensures.faults settled
+      faults = λ other.
+          read_failed mid new c.in-Err-read_flat.why c.unread_outcome-in-Err-read_flat.result c.unread_outcome-in-Err-read_flat.ensures.failed c.in-Err-read_flat.ensures.faults other
           ∙ mid_faults g.D.Desk.tells first second c.args.one.now c.args.two.now old mid new c.in-Ok.part c.in-Ok.ensures.reads;
       outputs = c.in-Err-read_flat.ensures.outputs ∙ c.in-Ok.ensures.outputs;
     }
