@@ -27,6 +27,8 @@ fn put<D: Desk>(
     requires few { length gathered.old.items < 65536 }
     ensures puts { Puts D.tells slot (gathered.old.items ++ octets.now) gathered.new.items (D.writing desk.old) (D.writing desk.new) result }
     ensures few { OnOk result (length gathered.new.items < 65536) }
+    // and all of it waits where it is less than a piece
+    ensures pieces { OnOk result (length (gathered.old.items ++ octets.now) < 65536 → gathered.new.items ≡ gathered.old.items ++ octets.now) }
     ensures faults { AnswersWrites (D.writing desk.old) (D.writing desk.new) result }
     ensures asked { (D.writing desk.new).side.asked ≡ (D.writing desk.old).side.asked }
     ensures slots { (D.writing desk.new).side.slots ≡ (D.writing desk.old).side.slots }

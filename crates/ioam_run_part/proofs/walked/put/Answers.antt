@@ -1,4 +1,4 @@
-use Rattle.std.proofs.Common.{◌++◌, [], List, ℕ, refl, ap, sym, ◌∙◌, subst, Err, arith}
+use Rattle.std.proofs.Common.{◌++◌, [], List, ℕ, length, refl, ap, sym, ◌∙◌, subst, Err, arith}
 use Rattle.ioam_desk.specs.Desk.{Side, Grows}
 use Rattle.ioam_desk.proofs.KeptLaws.{WritesFrom-same}
 use Rattle.ioam_run_part.specs.Walked.{Sends}
@@ -11,6 +11,7 @@ returns-in-Err g c =
     record {
       puts = front_none g.D.Desk.tells c.args.slot desk (c.args.gathered.now.items ++ c.args.octets.now);
       few = tt;
+      pieces = tt;
       faults = λ other. refl;
       asked = refl;
       slots = refl;
@@ -24,6 +25,7 @@ returns-then-len-lt-PIECE g c =
     record {
       puts = (refl, record { sent = []; grows = grows_none g.D.Desk.tells c.args.slot desk; are = sym c.in-Ok.ensures });
       few = omega (arith, c.if-len-lt-PIECE.true);
+      pieces = λ less. c.in-Ok.ensures;
       faults = λ other. refl;
       asked = refl;
       slots = refl;
@@ -38,6 +40,11 @@ returns-in-Ok-send-clause-puts g c =
     let sends = c.in-Ok-send.ensures.sends in
     puts_sent g.D.Desk.tells c.args.slot old new (c.args.gathered.now.items ++ c.args.octets.now) c.clear.new.self.items c.clear.ensures.items sends.0
     (subst (Grows g.D.Desk.tells old new c.args.slot) (c.deref.ensures.value ∙ c.in-Ok.ensures) sends.1)
+
+pub returns-in-Ok-send-clause-pieces : goal.returns-in-Ok-send-clause-pieces
+returns-in-Ok-send-clause-pieces g c = λ less.
+    let size = ap length c.in-Ok.ensures in
+    absurd (omega (arith, less, size, c.if-len-lt-PIECE.false))
 
 pub returns-in-Err-send-clause-puts : goal.returns-in-Err-send-clause-puts
 returns-in-Err-send-clause-puts g c =
