@@ -1,5 +1,5 @@
 -- What two parts join to.
-use Rattle.std.proofs.Common.{◌≡◌, ℕ, ◌<◌, ◌≤◌, Bool, List, length, ◌++◌, refl, sym, ap, ap₂, ◌∙◌, subst, inl, inr, arith, Option, None, Some, Ok, Err}
+use Rattle.std.proofs.Common.{◌≡◌, ℕ, ◌<◌, ◌≤◌, Bool, List, length, ◌++◌, refl, sym, ap, ◌∙◌, subst, inl, inr, arith, Option, None, Some, Ok, Err}
 use Rattle.std.specs.Prelude.{Result, MatchOption}
 use Rattle.ioam_desk.specs.Desk.{Writing}
 use Rattle.ioam_desk.specs.declared.fault.DeskFault.{DeskFault}

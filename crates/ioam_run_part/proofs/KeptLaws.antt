@@ -6,7 +6,7 @@ use Rattle.ioam_run_answer.specs.Record.{Record}
 use Rattle.ioam_collect.specs.Entry.{Entry}
 use Rattle.ioam_collect.specs.Best.{groups_of}
 use Rattle.ioam_collect.specs.Collected.{Collected, Stands, count_kept}
-use Rattle.ioam_collect.specs.Keyed.{keyed, keyed_of, with_keyed}
+use Rattle.ioam_collect.specs.Keyed.{keyed, with_keyed}
 use Rattle.ioam_collect.specs.declared.key.Key.{Key}
 use Rattle.ioam_collect.proofs.UniteLaws.{apart_kept}
 use Rattle.ioam_part.specs.Part.{AreInOrder, HasKey}

@@ -1,15 +1,14 @@
 -- Octets that are written to a slot, some of which wait.
-use Rattle.std.proofs.Common.{◌≡◌, ℕ, Bool, IsTrue, List, [], ◌∷◌, ◌++◌, length, take, drop, Ok, Err, refl, sym, ap, ◌∙◌, subst, append-nil, append_assoc, arith}
+use Rattle.std.proofs.Common.{◌≡◌, ℕ, Bool, List, [], ◌++◌, length, take, drop, Ok, Err, refl, sym, ap, ◌∙◌, subst, append-nil, append_assoc, arith}
 use Rattle.std.specs.Prelude.{Result}
 use Rattle.std.proofs.lemmas.List.{take-append-drop, take_all}
-use Rattle.ioam_desk.specs.Desk.{Writing, Side, Grows, Fails, holds}
+use Rattle.ioam_desk.specs.Desk.{Writing, Grows, Fails, holds}
 use Rattle.ioam_desk.specs.declared.fault.DeskFault.{DeskFault}
 use Rattle.ioam_desk.specs.declared.fault.DeskFault.TheVariants.{Failed, NoMemory}
 use Rattle.ioam_desk.proofs.DeskLaws.{Grows-then}
 use Rattle.ioam_collect_stream.proofs.HeldLaws.{front_held}
 use Rattle.ioam_collect.specs.Entry.{Entry}
 use Rattle.ioam_collect.specs.declared.key.Key.{Key}
-use Rattle.ioam_part.specs.Part.{item_octets}
 use Rattle.ioam_part_merge.specs.Walk.{Walking, Comes, NextIs, pairs_octets}
 use Rattle.ioam_run_part.specs.Stored.{IsBlank, Writes}
 use Rattle.ioam_run_part.specs.Walked.{GrowsFront, GrowsBut, Puts, Sends}

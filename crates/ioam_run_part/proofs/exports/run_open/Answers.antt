@@ -3,7 +3,6 @@ use Rattle.ioam_desk.specs.Desk as desk
 use Rattle.ioam_desk.specs.Desk.{Writing, Rose}
 use Rattle.ioam_part.specs.Part.{part_text}
 use Rattle.ioam_run_answer.specs.declared.outcome.Outcome.{Outcome}
-use Rattle.ioam_run_answer.specs.Desks.{around}
 use Rattle.ioam_run_part.specs.PartEnds.{Finishes}
 use Rattle.ioam_run_answer.proofs.FailuresLaws.{failures-write, failures-memory}
 use Rattle.ioam_run_part.proofs.FailuresLaws.{answers_halt, written_done, written_wanting}
