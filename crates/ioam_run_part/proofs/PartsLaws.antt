@@ -9,6 +9,7 @@ use Rattle.ioam_desk.specs.declared.fault.DeskFault.{DeskFault}
 use Rattle.ioam_desk.specs.declared.fault.DeskFault.TheVariants.{Failed, NoMemory}
 use Rattle.ioam_desk.proofs.KeptLaws.{KeepsInputs-same, KeepsOutputs-same}
 use Rattle.ioam_collect.specs.Collected.{Collected}
+use Rattle.ioam_part.specs.declared.fault.PartFault.{PartFault}
 use Rattle.ioam_run_answer.specs.Desks.{Desks}
 use Rattle.ioam_run_answer.specs.Outcomes.{IsDone, IsSettled, OpensNothing}
 use Rattle.ioam_run_answer.specs.declared.outcome.Outcome.{Outcome}
@@ -51,17 +52,26 @@ module _ (desks : Desks) (files : PartsNames) (same : desks.new ≡ desks.old) w
   unread_done unread.Failed done = done
   unread_done unread.NoMemory done = done
 
+  abbrev Opens : Outcome → Type 0
+  Opens answer = (at : ℕ) (fault : PartFault) → answer ≡ outcome.Part files.part at fault → desks.new_in.side.asked ≡ desks.old_in.side.asked ++ files.part ∷ []
+
+  unread_opened : (why : Unread) → Reads (Err why) → Opens (unread_file.answer_of files.part why)
+  unread_opened (unread.Fault at' fault') reads at fault is = ap (λ (s : Side). s.asked) reads.0
+  unread_opened unread.Failed reads at fault is = reads.1
+  unread_opened unread.NoMemory reads at fault is = absurd (subst OpensNoPart (sym is) tt)
+
   module _ (asked : AsksFront desks.old_in.side.asked desks.new_in.side.asked (files.part ∷ [])) (kept : KeepsInputs desks.old_in desks.new_in)
       (few : desks.old_in.side.slots < desks.new_in.side.slots → ReadsFew desks.tells (part_held desks files) desks.old_in.side.slots desks.new_in) where
-    still_ends : (answer : Outcome) → ApartCause desks files answer → PartsLeaves (part_held desks files) files.report desks.old desks.new answer → (IsDone answer → ⊥)
+    still_ends : (answer : Outcome) → ApartCause desks files answer → PartsLeaves (part_held desks files) files.report desks.old desks.new answer → Opens answer → (IsDone answer → ⊥)
         → (answer ≢ outcome.ReadFault → desks.new_in.side.faults ≡ desks.old_in.side.faults) → PartsEnds desks files answer
-    still_ends answer cause leaves not_done reads = record {
+    still_ends answer cause leaves opens not_done reads = record {
       cause = cause;
       leaves = λ told. leaves;
       asked_in = asked;
       asked_out = none_asked_out desks.old desks.new files.report same;
       all_in = λ done. absurd (not_done done);
       all_out = λ done. absurd (not_done done);
+      opened = opens;
       no_output = λ none. same;
       no_report = λ before. same;
       drained = λ done told. absurd (not_done done);
@@ -74,7 +84,7 @@ module _ (desks : Desks) (files : PartsNames) (same : desks.new ≡ desks.old) w
 
     -- no memory could be had, and no read failed
     pub ends_wanting : desks.new_in.side.faults ≡ desks.old_in.side.faults → PartsEnds desks files outcome.NoMemory
-    ends_wanting none = still_ends outcome.NoMemory tt (inl same) (λ done. done) (λ other. none)
+    ends_wanting none = still_ends outcome.NoMemory tt (inl same) (λ at fault is. absurd (subst OpensNoPart (sym is) tt)) (λ done. done) (λ other. none)
 
     pub ends_unread : (answer : Outcome) (why : Unread) → Reads (Err why) → (answer ≡ unread_file.answer_of files.part why) ⊎ (answer ≡ outcome.NoMemory)
         → (why ≡ unread.Failed → answer ≡ outcome.ReadFault) → AnswersReads {A = Collected} desks.old_in desks.new_in (Err why) → PartsEnds desks files answer
@@ -82,7 +92,7 @@ module _ (desks : Desks) (files : PartsNames) (same : desks.new ≡ desks.old) w
         let P : Outcome → Type 0 = λ o. PartsEnds desks files o in
         let named : Outcome = unread_file.answer_of files.part why in
         let other : answer ≢ outcome.ReadFault → desks.new_in.side.faults ≡ desks.old_in.side.faults = read_failed desks.old_in desks.new_in why answer failed answers in
-        ⊎_elim (λ is. subst P (sym is) (still_ends named (unread_cause why reads) (unread_leaves why) (unread_done why) (λ apart. other (λ it. apart (sym is ∙ it)))))
+        ⊎_elim (λ is. subst P (sym is) (still_ends named (unread_cause why reads) (unread_leaves why) (unread_opened why reads) (unread_done why) (λ apart. other (λ it. apart (sym is ∙ it)))))
         (λ none. subst P (sym none) (ends_wanting (other (λ it. let bad = sym none ∙ it in cc)))) either
 
 -- ---- it was
@@ -135,6 +145,7 @@ module _ (desks : Desks) (files : PartsNames) (c : Collected) (text : List ℕ) 
     asked_out = asked;
     all_in = λ done. part_asked;
     all_out = stored_out r stores;
+    opened = λ at fault is. part_asked;
     no_output = λ none. (let slots : desks.new_in.side.slots ≡ desks.old_in.side.slots + 1 = ap (λ (s : Side). s.slots) reads.0 in absurd (omega (arith, slots, none)));
     no_report = λ before. absurd (stored_before r before);
     drained = λ done told. reads.2 told;
@@ -186,6 +197,7 @@ module _ (desks : Desks) (files : PartsNames) where
         asked_out = ends.asked_out;
         all_in = ends.all_in;
         all_out = ends.all_out;
+        opened = ends.opened;
         unopened = λ opens. absurd (opens_apart answer ends.cause opens);
         differed = inr apart;
         no_output = ends.no_output;
@@ -200,8 +212,9 @@ module _ (desks : Desks) (files : PartsNames) where
 
   module _ (same_in : desks.new_in ≡ desks.old_in) (same : desks.new ≡ desks.old) where
     -- nothing was opened
-    still : (answer : Outcome) → Cause answer → PartsLeaves (part_held desks files) files.report desks.old desks.new answer → (IsDone answer → ⊥) → PartsKeeps desks files answer
-    still answer cause leaves not_done = record {
+    still : (answer : Outcome) → Cause answer → PartsLeaves (part_held desks files) files.report desks.old desks.new answer
+        → ((at : ℕ) (fault : PartFault) → answer ≡ outcome.Part files.part at fault → ⊥) → (IsDone answer → ⊥) → PartsKeeps desks files answer
+    still answer cause leaves not_part not_done = record {
       cause = cause;
       leaves = λ told. leaves;
       exact = exact answer cause;
@@ -209,6 +222,7 @@ module _ (desks : Desks) (files : PartsNames) where
       asked_out = none_asked_out desks.old desks.new files.report same;
       all_in = λ done. absurd (not_done done);
       all_out = λ done. absurd (not_done done);
+      opened = λ at fault is. absurd (not_part at fault is);
       unopened = λ opens. same_in;
       differed = inl same_in;
       no_output = λ none. same;
@@ -224,5 +238,5 @@ module _ (desks : Desks) (files : PartsNames) where
     pub keeps_names : (answer : Outcome) (name : List ℕ) → files.part ≡ files.report → name ≡ files.report → (answer ≡ outcome.Names name) ⊎ (answer ≡ outcome.NoMemory) → PartsKeeps desks files answer
     keeps_names answer name equal is either =
         let P : Outcome → Type 0 = λ o. PartsKeeps desks files o in
-        ⊎_elim (λ named. subst P (sym named) (still (outcome.Names name) (equal, is) same (λ none. none)))
-        (λ none. subst P (sym none) (still outcome.NoMemory tt (inl same) (λ none'. none'))) either
+        ⊎_elim (λ named. subst P (sym named) (still (outcome.Names name) (equal, is) same (λ at fault is'. subst OpensNothing is' tt) (λ none. none)))
+        (λ none. subst P (sym none) (still outcome.NoMemory tt (inl same) (λ at fault is'. subst OpensNoPart (sym is') tt) (λ none'. none'))) either

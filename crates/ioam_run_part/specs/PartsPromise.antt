@@ -7,6 +7,7 @@ use Rattle.ioam_desk.specs.Kept.{KeepsInputs, KeepsOutputs}
 use Rattle.ioam_run_answer.specs.Record.{Record}
 use Rattle.ioam_part.specs.Faults.{HasFault}
 use Rattle.ioam_part.specs.Part.{IsPart}
+use Rattle.ioam_part.specs.declared.fault.PartFault.{PartFault}
 use Rattle.ioam_run_answer.specs.Desks.{Desks}
 use Rattle.ioam_run_answer.specs.Failures.{AnswersFailures}
 use Rattle.ioam_run_answer.specs.Outcomes.{IsDone, OpensNothing}
@@ -85,6 +86,8 @@ module _ (desks : Desks) (files : PartsNames) where
     pub asked_out : AsksFront desks.old.side.asked desks.new.side.asked (files.report ∷ [])
     pub all_in : IsDone answer → desks.new_in.side.asked ≡ desks.old_in.side.asked ++ files.part ∷ []
     pub all_out : IsDone answer → desks.new.side.asked ≡ desks.old.side.asked ++ files.report ∷ []
+    -- where it is answered that PART is none it was opened, told or not
+    pub opened : (at : ℕ) (fault : PartFault) → answer ≡ outcome.Part files.part at fault → desks.new_in.side.asked ≡ desks.old_in.side.asked ++ files.part ∷ []
     -- nothing is opened where the names are equal, and no output before PART was read, nor where it is none; where all is done it was read
     -- to its end
     pub unopened : OpensNothing answer → desks.new_in ≡ desks.old_in
