@@ -71,6 +71,7 @@ module _ (desks : Desks) (files : MergeNames) (same : desks.new ≡ desks.old) w
     all_in = λ behind. absurd (refused_behind answer refuses behind);
     all_out = λ done. absurd (refused_done answer refuses done);
     in_turn = tries.in_turn;
+    one_opened = tries.opened;
     up_to = λ name at fault is. (subst Refuses is refuses).1;
     no_output = λ few. same;
     no_part = λ before. same;
@@ -158,6 +159,7 @@ module _ (desks : Desks) (files : MergeNames) (a b : List ℕ)
     all_in = λ behind. both_asked;
     all_out = joined_out answer writes;
     in_turn = tries.in_turn;
+    one_opened = tries.opened;
     up_to = λ name at fault is. absurd (subst Writes is writes);
     no_output = λ few. (let slots : desks.new_in.side.slots ≡ desks.old_in.side.slots + 1 + 1 = ap (λ (s : Side). s.slots) holds_two.side in absurd (omega (arith, slots, few)));
     no_part = joined_no_part answer writes;
@@ -230,6 +232,7 @@ module _ (desks : Desks) (files : MergeNames) where
         all_in = ends.all_in;
         all_out = ends.all_out;
         in_turn = ends.in_turn;
+        one_opened = ends.one_opened;
         one_alone = λ at fault is. up_to_one files.one files.two desks.old_in desks.new_in apart.inputs (ends.up_to files.one at fault is);
         both_asked = λ at fault is. up_to_two files.one files.two desks.old_in desks.new_in apart.inputs (ends.up_to files.two at fault is);
         unopened = λ opens. absurd (opens_apart desks files answer ends.cause opens);
@@ -246,6 +249,13 @@ module _ (desks : Desks) (files : MergeNames) where
       }
 
   module _ (same_in : desks.new_in ≡ desks.old_in) (same : desks.new ≡ desks.old) where
+    none_both : desks.new_in.side.asked ≡ desks.old_in.side.asked ++ files.one ∷ files.two ∷ [] → ⊥
+    none_both both =
+        let none = ap (λ (r : desk.Reading). length r.side.asked) same_in in
+        let size = ap length both in
+        let more = length-append desks.old_in.side.asked (files.one ∷ files.two ∷ []) in
+        omega (arith, none, size, more)
+
     -- nothing was opened
     still : (answer : Outcome) → Cause answer → MergeLeaves (one_held desks files) (two_held desks files) files.part desks.old desks.new answer
         → ((name : List ℕ) (at : ℕ) (fault : PartFault) → answer ≡ outcome.Part name at fault → ⊥) → (IsBehindAll ⊥ answer → ⊥) → (IsDone answer → ⊥) → MergeKeeps desks files answer
@@ -257,11 +267,8 @@ module _ (desks : Desks) (files : MergeNames) where
       asked_out = none_asked_out desks.old desks.new files.part same;
       all_in = λ behind. absurd (not_behind behind);
       all_out = λ done. absurd (not_done done);
-      in_turn = λ both told.
-          let none = ap (λ (r : desk.Reading). length r.side.asked) same_in in
-          let size = ap length both in
-          let more = length-append desks.old_in.side.asked (files.one ∷ files.two ∷ []) in
-          absurd (omega (arith, none, size, more));
+      in_turn = λ both told. absurd (none_both both);
+      one_opened = λ both. absurd (none_both both);
       one_alone = λ at fault is. absurd (not_part files.one at fault is);
       both_asked = λ at fault is. absurd (not_part files.two at fault is);
       unopened = λ opens. same_in;

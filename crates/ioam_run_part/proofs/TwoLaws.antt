@@ -56,15 +56,19 @@ module _ (tells : Bool) (first second : Option (List ℕ)) (one two : List ℕ) 
   first_refuses unread.Failed reads = reads.0
   first_refuses unread.NoMemory reads = tt
 
+  first_alone : AsksFront old.side.asked new.side.asked (one ∷ []) → new.side.asked ≡ old.side.asked ++ one ∷ two ∷ [] → ⊥
+  first_alone asked both =
+      let few = asks_few old.side.asked new.side.asked one asked in
+      let size = ap length both in
+      let more = length-append old.side.asked (one ∷ two ∷ []) in
+      omega (arith, few, size, more)
+
   pub first_tries : AsksFront old.side.asked new.side.asked (one ∷ []) → new.side.slots ≤ old.side.slots + 1 → KeepsInputs old new
       → (old.side.slots < new.side.slots → ReadsFew tells first old.side.slots new) → TriesTwo tells first second one two old new
   first_tries asked slots kept few = record {
     asked = asks_first old.side.asked new.side.asked one two asked;
-    in_turn = λ both told.
-        let few = asks_few old.side.asked new.side.asked one asked in
-        let size = ap length both in
-        let more = length-append old.side.asked (one ∷ two ∷ []) in
-        absurd (omega (arith, few, size, more));
+    in_turn = λ both told. absurd (first_alone asked both);
+    opened = λ both. absurd (first_alone asked both);
     slots = omega (arith, slots);
     kept = kept;
     few_one = few;
@@ -95,12 +99,13 @@ module _ (tells : Bool) (first second : Option (List ℕ)) (one two : List ℕ) 
   second_refuses unread.Failed reads = subst (λ n. Rose n new.side.faults) mid_faults reads.0
   second_refuses unread.NoMemory reads = tt
 
-  pub second_tries : KeepsInputs old mid → AsksFront mid.side.asked new.side.asked (two ∷ []) → new.side.slots ≤ mid.side.slots + 1 → KeepsInputs mid new
+  pub second_tries : KeepsInputs old mid → AsksFront mid.side.asked new.side.asked (two ∷ []) → mid.side.slots ≤ new.side.slots → new.side.slots ≤ mid.side.slots + 1 → KeepsInputs mid new
       → (old.side.slots < mid.side.slots → ReadsFew tells first old.side.slots mid) → (mid.side.slots < new.side.slots → ReadsFew tells second mid.side.slots new)
       → TriesTwo tells first second one two old new
-  second_tries kept_one asked slots kept few_one few_two = record {
+  second_tries kept_one asked grows slots kept few_one few_two = record {
     asked = asks_second old.side.asked mid.side.asked new.side.asked one two mid_asked asked;
     in_turn = λ both told. is_a_part tells first a reads_one.1 told;
+    opened = λ both. (let grew = mid_slots in omega (arith, grew, grows));
     slots = (let grew = mid_slots in omega (arith, slots, grew));
     kept = KeepsInputs-then old mid new (let grew = mid_slots in omega (arith, grew)) kept_one kept;
     few_one = λ more.

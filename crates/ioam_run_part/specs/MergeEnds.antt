@@ -35,6 +35,7 @@ module _ (desks : Desks) (files : MergeNames) where
     pub all_in : IsBehindAll ⊥ answer → desks.new_in.side.asked ≡ desks.old_in.side.asked ++ files.one ∷ files.two ∷ []
     pub all_out : IsDone answer → desks.new.side.asked ≡ desks.old.side.asked ++ files.part ∷ []
     pub in_turn : desks.new_in.side.asked ≡ desks.old_in.side.asked ++ files.one ∷ files.two ∷ [] → IsTrue desks.tells → IsSomeAnd (one_held desks files) IsAPart
+    pub one_opened : desks.new_in.side.asked ≡ desks.old_in.side.asked ++ files.one ∷ files.two ∷ [] → desks.old_in.side.slots < desks.new_in.side.slots
     pub up_to : (name : List ℕ) (at : ℕ) (fault : PartFault) → answer ≡ outcome.Part name at fault → OpensUpTo files.one files.two desks.old_in desks.new_in name
     pub no_output : desks.new_in.side.slots < desks.old_in.side.slots + 2 → desks.new ≡ desks.old
     pub no_part : OpensNoPart answer → desks.new ≡ desks.old

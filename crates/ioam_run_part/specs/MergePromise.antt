@@ -119,6 +119,8 @@ module _ (desks : Desks) (files : MergeNames) where
     pub all_in : IsBehindAll ⊥ answer → desks.new_in.side.asked ≡ desks.old_in.side.asked ++ files.one ∷ files.two ∷ []
     pub all_out : IsDone answer → desks.new.side.asked ≡ desks.old.side.asked ++ files.part ∷ []
     pub in_turn : desks.new_in.side.asked ≡ desks.old_in.side.asked ++ files.one ∷ files.two ∷ [] → IsTrue desks.tells → IsSomeAnd one_held IsAPart
+    -- TWO is asked for only where ONE was opened, told or not
+    pub one_opened : desks.new_in.side.asked ≡ desks.old_in.side.asked ++ files.one ∷ files.two ∷ [] → desks.old_in.side.slots < desks.new_in.side.slots
     -- where ONE is no part TWO isn't opened, told or not; where TWO is none both were
     pub one_alone : (at : ℕ) (fault : PartFault) → answer ≡ outcome.Part files.one at fault → desks.new_in.side.asked ≡ desks.old_in.side.asked ++ files.one ∷ []
     pub both_asked : (at : ℕ) (fault : PartFault) → answer ≡ outcome.Part files.two at fault → desks.new_in.side.asked ≡ desks.old_in.side.asked ++ files.one ∷ files.two ∷ []

@@ -10,11 +10,12 @@ use Rattle.ioam_run_part.specs.Records.{IsAPart, ReadsFew}
 use Rattle.ioam_run_part.specs.MergePromise.{IsFaulty}
 use Rattle.ioam_run_part.specs.Flat.{IsFlat}
 
--- whatever was answered: the names that were asked for, the second only where the first is a part, what is as it was, and how
--- much was read
+-- whatever was answered: the names that were asked for, the second only where the first was opened and, where the desk tells, is
+-- a part; what is as it was, and how much was read
 pub record TriesTwo (tells : Bool) (first second : Option (List ℕ)) (one two : List ℕ) (old new : desk.Reading) : Type 0 where
   pub asked : AsksFront old.side.asked new.side.asked (one ∷ two ∷ [])
   pub in_turn : new.side.asked ≡ old.side.asked ++ one ∷ two ∷ [] → IsTrue tells → IsSomeAnd first IsAPart
+  pub opened : new.side.asked ≡ old.side.asked ++ one ∷ two ∷ [] → old.side.slots < new.side.slots
   pub slots : new.side.slots ≤ old.side.slots + 2
   pub kept : KeepsInputs old new
   pub few_one : old.side.slots < new.side.slots → ReadsFew tells first old.side.slots new

@@ -35,7 +35,7 @@ returns-in-Ok-read_flat g c =
     record {
       reads = holds_two g.D.Desk.tells first second c.args.one.now c.args.two.now old mid new c.in-Ok.part c.in-Ok.ensures.reads c.in-Ok-read_flat.ensures.kept_in c.in-Ok-read_flat.second reads;
       tries = second_tries g.D.Desk.tells first second c.args.one.now c.args.two.now old mid new c.in-Ok.part c.in-Ok.ensures.reads c.in-Ok.ensures.kept_in
-          c.in-Ok-read_flat.ensures.asked c.in-Ok-read_flat.ensures.slots c.in-Ok-read_flat.ensures.kept_in c.in-Ok.ensures.few (subst F c.in-Ok.ensures.outputs c.in-Ok-read_flat.ensures.few);
+          c.in-Ok-read_flat.ensures.asked c.in-Ok-read_flat.ensures.grew c.in-Ok-read_flat.ensures.slots c.in-Ok-read_flat.ensures.kept_in c.in-Ok.ensures.few (subst F c.in-Ok.ensures.outputs c.in-Ok-read_flat.ensures.few);
       faults = tt;
       outputs = c.in-Ok-read_flat.ensures.outputs ∙ c.in-Ok.ensures.outputs;
     }
@@ -55,7 +55,7 @@ returns-in-Err-read_flat g c =
           c.unread_outcome-in-Err-read_flat.ensures.answer
           (second_refuses g.D.Desk.tells first second c.args.one.now c.args.two.now old mid new c.in-Ok.part c.in-Ok.ensures.reads c.in-Err-read_flat.why reads);
       tries = second_tries g.D.Desk.tells first second c.args.one.now c.args.two.now old mid new c.in-Ok.part c.in-Ok.ensures.reads c.in-Ok.ensures.kept_in
-          c.in-Err-read_flat.ensures.asked c.in-Err-read_flat.ensures.slots c.in-Err-read_flat.ensures.kept_in c.in-Ok.ensures.few (subst F c.in-Ok.ensures.outputs c.in-Err-read_flat.ensures.few);
+          c.in-Err-read_flat.ensures.asked c.in-Err-read_flat.ensures.grew c.in-Err-read_flat.ensures.slots c.in-Err-read_flat.ensures.kept_in c.in-Ok.ensures.few (subst F c.in-Ok.ensures.outputs c.in-Err-read_flat.ensures.few);
       faults = λ other.
           read_failed mid new c.in-Err-read_flat.why c.unread_outcome-in-Err-read_flat.result c.unread_outcome-in-Err-read_flat.ensures.failed c.in-Err-read_flat.ensures.faults other
           ∙ mid_faults g.D.Desk.tells first second c.args.one.now c.args.two.now old mid new c.in-Ok.part c.in-Ok.ensures.reads;
