@@ -1,4 +1,4 @@
--- Files that are read as parts and kept as they are, each to its end or to its first fault.
+-- Files that are read as parts and kept as they are, each to its end where it is one; at most the first 300,000,000 octets of each.
 use Rattle.std.specs.Prelude.{◌≡◌, ℕ, ◌+◌, ⊤, Bool, IsTrue, List, [], ◌∷◌, ◌++◌, length, Option, Some, Result, Ok, Err}
 use Rattle.ioam_desk.specs.Desk as desk
 use Rattle.ioam_desk.specs.Desk.{Rose, Fails, opened_side}

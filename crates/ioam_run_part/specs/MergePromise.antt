@@ -113,7 +113,7 @@ module _ (desks : Desks) (files : MergeNames) where
     pub exact : (asked : Outcome) → IsTrue desks.tells → MergeAsked desks.tells one_held two_held files.one files.two files.part asked
         → (Rose desks.old_in.side.faults desks.new_in.side.faults → ⊥) → (Rose desks.old.side.faults desks.new.side.faults → ⊥)
         → (answer ≡ asked) ⊎ (answer ≡ outcome.NoMemory)
-    -- the names that were opened, told or not; TWO only where ONE is a part
+    -- the names that were opened, told or not; and, where the desk tells, TWO only where ONE is a part
     pub asked_in : AsksFront desks.old_in.side.asked desks.new_in.side.asked (files.one ∷ files.two ∷ [])
     pub asked_out : AsksFront desks.old.side.asked desks.new.side.asked (files.part ∷ [])
     pub all_in : IsBehindAll ⊥ answer → desks.new_in.side.asked ≡ desks.old_in.side.asked ++ files.one ∷ files.two ∷ []
@@ -124,8 +124,8 @@ module _ (desks : Desks) (files : MergeNames) where
     -- where ONE is no part TWO isn't opened, told or not; where TWO is none both were
     pub one_alone : (at : ℕ) (fault : PartFault) → answer ≡ outcome.Part files.one at fault → desks.new_in.side.asked ≡ desks.old_in.side.asked ++ files.one ∷ []
     pub both_asked : (at : ℕ) (fault : PartFault) → answer ≡ outcome.Part files.two at fault → desks.new_in.side.asked ≡ desks.old_in.side.asked ++ files.one ∷ files.two ∷ []
-    -- nothing is opened where two names are equal, and no output before both were read, nor where one is no part or both have too
-    -- many records; where all is done both were read to their ends
+    -- nothing is opened where two names are equal, and no output before both were opened, nor where one is no part or both have
+    -- too many records; where all is done both were read to their ends, where the desk tells
     pub unopened : OpensNothing answer → desks.new_in ≡ desks.old_in
     pub differed : (desks.new_in ≡ desks.old_in) ⊎ AreApart files.one files.two files.part
     pub no_output : desks.new_in.side.slots < desks.old_in.side.slots + 2 → desks.new ≡ desks.old

@@ -81,15 +81,15 @@ module _ (desks : Desks) (files : PartsNames) where
     pub exact : (asked : Outcome) → IsTrue desks.tells → PartsAsked desks.tells part_held files.part files.report asked
         → (Rose desks.old_in.side.faults desks.new_in.side.faults → ⊥) → (Rose desks.old.side.faults desks.new.side.faults → ⊥)
         → (answer ≡ asked) ⊎ (answer ≡ outcome.NoMemory)
-    -- the names that were opened, told or not; REPORT only where PART is a part
+    -- the names that were opened, told or not; that REPORT is opened only where PART is a part is said where the desk tells (`leaves`)
     pub asked_in : AsksFront desks.old_in.side.asked desks.new_in.side.asked (files.part ∷ [])
     pub asked_out : AsksFront desks.old.side.asked desks.new.side.asked (files.report ∷ [])
     pub all_in : IsDone answer → desks.new_in.side.asked ≡ desks.old_in.side.asked ++ files.part ∷ []
     pub all_out : IsDone answer → desks.new.side.asked ≡ desks.old.side.asked ++ files.report ∷ []
     -- where it is answered that PART is none it was opened, told or not
     pub opened : (at : ℕ) (fault : PartFault) → answer ≡ outcome.Part files.part at fault → desks.new_in.side.asked ≡ desks.old_in.side.asked ++ files.part ∷ []
-    -- nothing is opened where the names are equal, and no output before PART was read, nor where it is none; where all is done it was read
-    -- to its end
+    -- nothing is opened where the names are equal, and no output before PART was opened, nor where it is none; where all is done it
+    -- was read to its end, where the desk tells
     pub unopened : OpensNothing answer → desks.new_in ≡ desks.old_in
     pub differed : (desks.new_in ≡ desks.old_in) ⊎ (files.part ≢ files.report)
     pub no_output : desks.new_in.side.slots ≡ desks.old_in.side.slots → desks.new ≡ desks.old

@@ -1,4 +1,4 @@
-//! A file that is read as a part and kept as it is, in pieces, to its end or to its first fault.
+//! A file that is read as a part and kept as it is, in pieces: to its end where it is one, and at most its first 300,000,000 octets.
 ghost use Rattle.std.specs.Prelude.{◌≡◌, ◌<◌, ◌≤◌, ◌+◌, ◌∷◌, [], List, ℕ, Option, Some, IsTrue, length, is_some, nat_lt, ◌||◌};
 ghost use Rattle.ioam_collect_stream.specs.Gathering.{ReadsOne};
 ghost use Rattle.ioam_desk.specs.Asked.{AsksFront};
