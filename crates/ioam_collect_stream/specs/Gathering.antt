@@ -2,7 +2,7 @@
 use Rattle.std.specs.Prelude.{◌≡◌, ℕ, ◌<◌, ◌≤◌, ◌⊎◌, ⊤, Bool, IsTrue, IsSomeAnd, List, [], ◌∷◌, ◌++◌, length, Option, Some, None}
 use Rattle.ioam_desk.specs.Desk as desk
 use Rattle.ioam_desk.specs.Desk.{Rose, SameBut}
-use Rattle.ioam_dex.specs.Record.{Record}
+use Rattle.ioam_dex.specs.Record.{Record, most_records}
 use Rattle.ioam_dex.specs.Reads.{Whole, Faulty, Reads, Splits}
 use Rattle.ioam_dex.specs.Faults.{IsCut}
 use Rattle.ioam_dex.specs.Reading.{Reading}
@@ -15,10 +15,6 @@ use Rattle.ioam_collect_stream.specs.declared.step.Pause.{Pause}
 use Rattle.ioam_collect_stream.specs.declared.step.Pause.TheVariants as pause
 use Rattle.ioam_collect_stream.specs.declared.gathering.Halt.{Halt}
 use Rattle.ioam_collect_stream.specs.declared.gathering.Halt.TheVariants as halt
-
--- the most records that are read: 67,108,864
-abbrev pub most_records : ℕ
-most_records = 67108864
 
 -- the most records that a collector of the program holds: 1,048,576
 abbrev pub most_held : ℕ

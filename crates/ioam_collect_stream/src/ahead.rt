@@ -10,7 +10,7 @@ use std::alloc::Global;
 use std::marker::Model;
 
 // So many octets are read ahead at most.
-const MOST_OCTETS: u64 = 4_611_686_018_427_387_903;
+const MOST_OCTETS: u64 = (1 << 62) - 1;
 
 /// A second reader of the same octets, which is some records ahead. It tells what may be read ahead, and nothing else
 /// depends on it. It holds less than a record, of 274 octets, and a piece.
