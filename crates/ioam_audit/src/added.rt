@@ -37,11 +37,13 @@ fn is_between(sight: Sight, old: &[u8], new: &[u8], before: u8, after: u8) -> bo
         × IsLawful sight.hops sight.id sight.inward (fields_of (kind_of old.now) (node_len_of old.now) (slice_range new.now (8 + 4 * after) (8 + 4 * before)))) }
 {
     let lengths = Lengths::read(old);
-    let word = lengths.0 - u16::from(before - after);
+    let Some(word) = lengths.less(before - after) else {
+        return false;
+    };
     let start = HEAD_OCTETS + 4 * usize::from(after);
     let end = HEAD_OCTETS + 4 * usize::from(before);
     let kind = TraceType::at(old, TRACE_TYPE);
-    is_same_but(old, new, word, start, end)
+    is_same_but(old, new, word.0, start, end)
         && is_lawful_element(sight, kind, lengths.node_len(), &new[start..end])
 }
 

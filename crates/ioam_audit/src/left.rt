@@ -10,7 +10,7 @@ use crate::parts::is_same;
 use crate::sight::Sight;
 use ioam_base::octets::u16_at;
 use ioam_data::Namespace;
-use ioam_data::option_type::holds_trace;
+use ioam_data::option_type::{IN_FRONT, holds_trace};
 use ioam_ip::option_type::IOAM_CHANGING;
 use ioam_topo::{Domain, NodeId};
 use ioam_trace::HEAD_OCTETS;
@@ -21,9 +21,9 @@ fn is_known_trace(domain: &Domain, node: NodeId, kind: u8, body: &[u8]) -> bool
         × (knows domain.now node.0 (space_in body.now) ≡ true)) }
 {
     kind == IOAM_CHANGING
-        && body.len() >= 2 + HEAD_OCTETS
+        && body.len() >= IN_FRONT + HEAD_OCTETS
         && holds_trace(body)
-        && domain.knows(node, Namespace(u16_at(body, 2)))
+        && domain.knows(node, Namespace(u16_at(body, IN_FRONT)))
 }
 
 // Whether a node may change the data of an option.
@@ -41,7 +41,8 @@ fn is_trace_left(sight: Sight, old: &[u8], new: &[u8]) -> bool
     ensures { IsTrue result ↔ ((take 2 new.now ≡ take 2 old.now)
         × MayBecome sight.hops sight.id sight.inward (drop 2 old.now) (drop 2 new.now)) }
 {
-    is_same(&new[..2], &old[..2]) && may_become(sight, &old[2..], &new[2..])
+    is_same(&new[..IN_FRONT], &old[..IN_FRONT])
+        && may_become(sight, &old[IN_FRONT..], &new[IN_FRONT..])
 }
 
 /// Whether the data of an option are what a node may have left of them.

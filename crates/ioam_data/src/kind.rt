@@ -2,7 +2,7 @@
 ghost use Rattle.std.specs.Prelude.{◌≡◌, ℕ, ◌+◌, ◌-◌, ◌*◌, ◌/◌, ◌%◌, ◌^◌, ◌<◌, ◌≤◌, ◌||◌, nat_lt, length};
 ghost use Rattle.std.specs.Bool.{OnTrue};
 ghost use Rattle.ioam_base.specs.Octets.{u24_at};
-ghost use Rattle.ioam_data.specs.Kind.{has, where_has, words, undefined, fits_type, can_add, is_entry_type};
+ghost use Rattle.ioam_data.specs.Kind.{has, without_checksum, where_has, words, undefined, fits_type, can_add, is_entry_type};
 
 use crate::bit;
 use ioam_base::octets::u24_at;
@@ -10,6 +10,9 @@ use std::marker::Model;
 
 // The last of the undefined bits, which begin at 12.
 const LAST_UNDEFINED: u8 = 21;
+
+// What bit 7 counts in the number of a type.
+const CHECKSUM: u32 = 1 << (23 - bit::CHECKSUM);
 
 // How many values four bits have, and ten.
 const FOUR_BITS: u32 = 1 << 4;
@@ -72,6 +75,18 @@ impl TraceType {
         ensures { result ≡ has self 22 }
     {
         self.has(bit::SNAPSHOT)
+    }
+
+    /// The type without bit 7, the checksum complement.
+    #[tactic(auto, unfolding(crate::specs::Kind::has))]
+    pub fn without_checksum(self) -> TraceType
+        ensures { result ≡ without_checksum self }
+    {
+        if self.has(bit::CHECKSUM) {
+            TraceType(self.0 - CHECKSUM)
+        } else {
+            self
+        }
     }
 
     // So many words where the type has the bit.

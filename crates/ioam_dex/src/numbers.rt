@@ -5,9 +5,9 @@ ghost use Rattle.ioam_dex.specs.Numbers.{has_flow, has_seq, four_where, numbers_
 use crate::extension::{FLOW_ID, SEQUENCE_NUMBER};
 use ioam_base::octets::u32_at;
 
-/// Whether the extension flags have a Flow ID.
+/// Whether the extension flags (RFC 9326 section 3.2) have a Flow ID.
 #[tactic(auto, unfolding(crate::specs::Numbers::has_flow))]
-pub(crate) fn has_flow(ext: u8) -> bool
+pub fn has_flow(ext: u8) -> bool
     ensures { result ≡ has_flow ext }
 {
     ext / FLOW_ID % 2 == 1
@@ -15,7 +15,7 @@ pub(crate) fn has_flow(ext: u8) -> bool
 
 /// Whether they have a Sequence Number.
 #[tactic(auto, unfolding(crate::specs::Numbers::has_seq))]
-pub(crate) fn has_seq(ext: u8) -> bool
+pub fn has_seq(ext: u8) -> bool
     ensures { result ≡ has_seq ext }
 {
     ext / SEQUENCE_NUMBER % 2 == 1

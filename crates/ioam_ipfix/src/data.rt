@@ -13,11 +13,12 @@ use crate::kind::FIRST_TEMPLATE;
 use crate::template::{tells_flow, tells_seq, tells_visit, weight};
 use ioam_base::octets::u16_at;
 use ioam_data::{Namespace, TraceType};
-use ioam_dex::extension::{FLOW_ID, SEQUENCE_NUMBER};
 use ioam_dex::fields::{
     EXTENSIONS, FLAGS, NAMESPACE, PLAIN, TRACE_TYPE, VERSION, VISIT_SIZE, VISITED,
 };
-use ioam_dex::{Export, ExportRoom, MOST_ELEMENT, is_filled, u32_where, visit_where};
+use ioam_dex::{
+    Export, ExportRoom, MOST_ELEMENT, has_flow, has_seq, is_filled, u32_where, visit_where,
+};
 
 // The octets of the fields that each record has but its element: Namespace-ID, flags, extension flags and IOAM-Trace-Type.
 const FIXED: u16 = 7;
@@ -37,15 +38,14 @@ pub(crate) enum DataStep {
 // ---- writing
 
 // The template of an export record, by its version and its extension flags.
-#[tactic(auto, unfolding(ioam_dex::specs::Numbers::has_flow, ioam_dex::specs::Numbers::has_seq))]
 fn template_at(octets: &[u8]) -> u16
     requires { 2 ≤ length octets.now }
     ensures { result ≡ template_at octets.now }
 {
     let ext = octets[EXTENSIONS];
     FIRST_TEMPLATE
-        + weight(ext / FLOW_ID % 2 == 1, 4)
-        + weight(ext / SEQUENCE_NUMBER % 2 == 1, 2)
+        + weight(has_flow(ext), 4)
+        + weight(has_seq(ext), 2)
         + weight(octets[VERSION] == VISITED, 1)
 }
 
@@ -158,11 +158,10 @@ fn with_element<'a>(id: u16, octets: &[u8], element: &'a [u8]) -> Export<'a>
 }
 
 // Whether the extension flags say what a template tells.
-#[tactic(auto, unfolding(ioam_dex::specs::Numbers::has_flow, ioam_dex::specs::Numbers::has_seq))]
 fn agrees(id: u16, ext: u8) -> bool
     ensures { IsTrue result ↔ Agrees id ext }
 {
-    (ext / FLOW_ID % 2 == 1) == tells_flow(id) && (ext / SEQUENCE_NUMBER % 2 == 1) == tells_seq(id)
+    has_flow(ext) == tells_flow(id) && has_seq(ext) == tells_seq(id)
 }
 
 // The size of the record that stands in front, where it is there whole and may be said.
@@ -228,7 +227,7 @@ fn put_back(id: u16, octets: &[u8], from: usize, to: usize, room: &mut ExportRoo
     let front = front_of(id);
     let size = front + 3 + (to - from);
     room.append(&[
-        if tells_visit(id) { VISITED } else { PLAIN },
+        PLAIN + weight(tells_visit(id), u16::from(VISITED - PLAIN)) as u8,
         octets[3],
         (size / 256 % 256) as u8,
         (size % 256) as u8,

@@ -1,8 +1,8 @@
 -- What a node exports of the direct export options that it meets (RFC 9326 section 3.2): one record for each of a
 -- namespace that it knows.
-use Rattle.std.specs.Prelude.{ℕ, ◌-◌, if◌then◌else◌, List, [], ◌∷◌, drop, Some, Result, Ok, Err}
+use Rattle.std.specs.Prelude.{ℕ, if◌then◌else◌, List, [], ◌∷◌, drop, Some, Result, Ok, Err}
 use Rattle.ioam_clock.specs.declared.sample.Sample.{Sample}
-use Rattle.ioam_data.specs.Kind.{has, words}
+use Rattle.ioam_data.specs.Kind.{without_checksum, words}
 use Rattle.ioam_data.specs.Written.{element_of}
 use Rattle.ioam_dex.specs.Direct.{read_of}
 use Rattle.ioam_dex.specs.Record.{Record}
@@ -18,7 +18,7 @@ use Rattle.ioam_node_visit.specs.declared.met.Met.TheVariants.{Cut, Trace, Direc
 
 -- the type of what is exported: bit 7, the checksum complement, is left out
 abbrev pub export_type : ℕ → ℕ
-export_type kind = if has kind 7 then kind - 65536 else kind
+export_type kind = without_checksum kind
 
 -- the record: of version 2, with the packet's time at the node and the interface by which it came, the option's
 -- flags and numbers, and what the node at a place knows of the option's namespace at that time, of a packet that is

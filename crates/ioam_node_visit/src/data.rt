@@ -4,7 +4,7 @@ ghost use Rattle.ioam_dex.specs.Direct.{HasItsNumbers, read_of};
 ghost use Rattle.ioam_dex.specs.Reads.{records_octets};
 ghost use Rattle.ioam_topo.specs.Domain.{nodes};
 ghost use Rattle.ioam_trace.specs.Filled.{filled};
-ghost use Rattle.ioam_node_visit.specs.Exports.{direct_records, export_type, record_for, records_of};
+ghost use Rattle.ioam_node_visit.specs.Exports.{direct_records, record_for, records_of};
 ghost use Rattle.ioam_node_visit.specs.Notes.{direct_note, filled_what, note, notes_of, short_note, trace_note, what_done};
 ghost use Rattle.ioam_node_visit.specs.Seeing.{view_of};
 ghost use Rattle.ioam_node_visit.specs.declared.note.What.TheVariants.{Exported};
@@ -15,7 +15,8 @@ use crate::note::{NodeNote, What};
 use crate::room::NodeRoom;
 use crate::visit::NodeVisit;
 use ioam_base::octets::u16_at;
-use ioam_data::{ElementBuf, Namespace, TraceType, bit};
+use ioam_data::option_type::IN_FRONT;
+use ioam_data::{ElementBuf, Namespace};
 use ioam_dex::{Direct, Export, read};
 use ioam_trace::{Filled, HEAD_OCTETS};
 
@@ -39,18 +40,6 @@ fn short_note() -> NodeNote
         namespace: Namespace(0),
         direct: false,
         what: What::Short,
-    }
-}
-
-// The type of what is exported: without bit 7, the checksum complement, which no node fills in.
-#[tactic(auto, unfolding(ioam_data::specs::Kind::has))]
-fn export_type(kind: TraceType) -> TraceType
-    ensures { result ≡ export_type kind }
-{
-    if kind.has(bit::CHECKSUM) {
-        TraceType::new(kind.bits() - (1 << 16))
-    } else {
-        kind
     }
 }
 
@@ -78,11 +67,11 @@ impl NodeVisit<'_> {
         ensures octets { body.new ≡ trace_step self.now.domain.now self.now.readings.now self.now.place self.now.time self.now.hops body.old }
         ensures note { result ≡ trace_note self.now.domain.now self.now.readings.now self.now.place self.now.time self.now.hops body.old }
     {
-        if body.len() < 2 + HEAD_OCTETS {
+        if body.len() < IN_FRONT + HEAD_OCTETS {
             return short_note();
         }
-        let namespace = Namespace(u16_at(body, 2));
-        let what = self.fill_known(namespace, &mut body[2..]);
+        let namespace = Namespace(u16_at(body, IN_FRONT));
+        let what = self.fill_known(namespace, &mut body[IN_FRONT..]);
         NodeNote {
             namespace,
             direct: false,
@@ -103,7 +92,8 @@ impl NodeVisit<'_> {
         ensures spare { room.new.spare ≡ room.old.spare - 1 }
         ensures capacities { room.new.capacities ≡ room.old.capacities }
     {
-        let kind = export_type(direct.kind);
+        // no node fills in a checksum complement
+        let kind = direct.kind.without_checksum();
         let mut buffer = ElementBuf::new();
         self.put_seen(kind, direct.namespace, &mut buffer);
         let export = Export {
@@ -166,7 +156,7 @@ impl NodeVisit<'_> {
         match meet(kind, body) {
             Met::Cut => room.add(short_note()),
             Met::Trace => room.add(self.fill_trace(body)),
-            Met::Direct => self.export(&body[2..], room),
+            Met::Direct => self.export(&body[IN_FRONT..], room),
             Met::Other => {}
         }
     }

@@ -3,7 +3,7 @@ ghost use Rattle.std.specs.Prelude.{◌≡◌, ◌≤◌, length};
 ghost use Rattle.ioam_node_visit.specs.Met.{met_by, met_of};
 ghost use Rattle.ioam_node_visit.specs.declared.met.Met.TheVariants as met;
 
-use ioam_data::option_type::{DIRECT_EXPORT, PREALLOCATED_TRACE};
+use ioam_data::option_type::{DIRECT_EXPORT, IN_FRONT, PREALLOCATED_TRACE};
 use ioam_ip::option_type::{IOAM_CHANGING, is_ioam_type};
 
 /// What an option is to a node that visits the packet.
@@ -39,7 +39,7 @@ pub(crate) fn meet(kind: u8, body: &[u8]) -> Met
     if !is_ioam_type(kind) {
         return Met::Other;
     }
-    if body.len() < 2 {
+    if body.len() < IN_FRONT {
         return Met::Cut;
     }
     met_by(kind, body[1])

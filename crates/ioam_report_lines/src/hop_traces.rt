@@ -9,7 +9,7 @@ ghost use Rattle.ioam_report_lines.specs.HopText.{is_changing_trace, changing_li
 use crate::lines::put_trace_lines;
 use ioam_base::memory::NoMemory;
 use ioam_base::text::settle;
-use ioam_data::option_type::holds_trace;
+use ioam_data::option_type::{IN_FRONT, holds_trace};
 use ioam_ip::option_type::IOAM_CHANGING;
 use ioam_ip::{OptionSpot, hop_header, next_option};
 
@@ -30,7 +30,7 @@ fn put_option(head: &[u8], spot: &OptionSpot, out: &mut Vec<u8>) -> Result<(), N
 {
     let body = &head[spot.at + 2..spot.at + 2 + spot.size];
     if is_changing_trace(spot.kind, body) {
-        put_trace_lines(&body[2..], out)
+        put_trace_lines(&body[IN_FRONT..], out)
     } else {
         Ok(())
     }

@@ -58,7 +58,7 @@ fn put_first_line(head: &TraceHead, count: u64, line: &mut Line)
     requires { line.old ≡ [] }
     ensures { line.new ≡ first_line head.now.namespace.0 head.now.kind (head.now.flags / 8) count }
 {
-    let label: &[u8] = if head.flags / 8 == 1 {
+    let label: &[u8] = if head.has_overflow() {
         b" overflow "
     } else {
         b" whole "

@@ -9,7 +9,7 @@ ghost use Rattle.ioam_report_lines.specs.TracesText.{is_trace, option_lines, tra
 use crate::lines::put_trace_lines;
 use ioam_base::memory::NoMemory;
 use ioam_base::text::settle;
-use ioam_data::option_type::holds_trace;
+use ioam_data::option_type::{IN_FRONT, holds_trace};
 use ioam_ip::option_type::is_ioam_type;
 use ioam_ip::{Head, Opt, options};
 
@@ -46,7 +46,7 @@ fn put_options(head: &[u8], out: &mut Vec<u8>) -> Result<(), NoMemory>
     let before = out.len();
     for option in options(head) {
         if is_trace(&option) {
-            let answer = put_trace_lines(&option.body[2..], out);
+            let answer = put_trace_lines(&option.body[IN_FRONT..], out);
             settle(out, before, answer)?;
         }
     }

@@ -13,6 +13,7 @@ use crate::traces::{put_incremental, put_trace};
 use ioam_base::memory::NoMemory;
 use ioam_base::text::{append, settle};
 use ioam_data::OptionType;
+use ioam_data::option_type::IN_FRONT;
 use ioam_ip::Opt;
 use ioam_report_lines::{Piece, put_pieces};
 
@@ -62,10 +63,10 @@ fn put_typed(value: u8, octets: &[u8], out: &mut Vec<u8>) -> Result<(), NoMemory
 fn put_said(body: &[u8], out: &mut Vec<u8>) -> Result<(), NoMemory>
     ensures { Appends result (Says body.now) out.old.items out.new.items }
 {
-    if body.len() < 2 {
+    if body.len() < IN_FRONT {
         append(out, b"short\n")
     } else {
-        put_typed(body[1], &body[2..], out)
+        put_typed(body[1], &body[IN_FRONT..], out)
     }
 }
 

@@ -1,7 +1,7 @@
 //! The header of a trace.
 ghost use Rattle.std.specs.Prelude.{◌≡◌, ◌+◌, ◌*◌, ◌<◌};
 
-use crate::lengths::Lengths;
+use crate::lengths::{Lengths, has_overflow};
 use ioam_base::buffer::Buffer;
 use ioam_base::octets::u16_at;
 use ioam_data::{Namespace, TraceType};
@@ -24,7 +24,7 @@ pub struct TraceHead {
     pub namespace: Namespace,
     /// The 4-octet words that a node adds, the snapshot not counted, 0 to 31.
     pub node_len: u8,
-    /// The four flags, 0 to 15; Overflow is 8.
+    /// The four flags, 0 to 15; of Overflow [`TraceHead::has_overflow`] tells.
     pub flags: u8,
     /// RemainingLen, the free words, 0 to 127.
     pub remaining: u8,
@@ -38,7 +38,7 @@ pub struct TraceHead {
 }
 
 impl TraceHead {
-    ghost use Rattle.std.specs.Prelude.{◌≡◌, ℕ, ◌≤◌, length};
+    ghost use Rattle.std.specs.Prelude.{◌≡◌, ℕ, ◌/◌, ◌≤◌, ◌↔◌, IsTrue, length};
     ghost use Rattle.ioam_trace.specs.Read.{IsHead};
     ghost use Rattle.ioam_trace.specs.Data.{head_octets};
 
@@ -56,6 +56,13 @@ impl TraceHead {
             kind: TraceType::at(octets, TRACE_TYPE),
             reserved: octets[RESERVED],
         }
+    }
+
+    /// Whether a node found no room for its data and set Overflow.
+    pub fn has_overflow(&self) -> bool
+        ensures { IsTrue result ↔ (self.now.flags / 8 ≡ 1) }
+    {
+        has_overflow(self.flags)
     }
 
     // The eight octets of the header.

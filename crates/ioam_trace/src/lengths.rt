@@ -14,8 +14,16 @@ const NODE_LEN: u16 = 1 << 11;
 
 const FLAGS: u16 = 1 << 7;
 
-// The most significant flag, Overflow.
-const OVERFLOW: u16 = 1 << 10;
+// Overflow, the most significant flag.
+const OVERFLOW: u8 = 8;
+
+// Whether Overflow is among four flags.
+pub(crate) fn has_overflow(flags: u8) -> bool
+    requires { flags < 16 }
+    ensures { IsTrue result ↔ (flags / 8 ≡ 1) }
+{
+    flags / OVERFLOW == 1
+}
 
 /// The length word of a trace: NodeLen, the flags and RemainingLen.
 #[derive(Clone, Copy, Debug)]
@@ -57,7 +65,7 @@ impl Lengths {
         (self.0 / NODE_LEN) as u8
     }
 
-    // The four flags, Overflow the most significant.
+    // The four flags.
     pub(crate) fn flags(self) -> u8
         ensures value { result ≡ self.0 / 128 % 16 }
         ensures below { result < 16 }
@@ -69,7 +77,7 @@ impl Lengths {
     pub fn is_over(self) -> bool
         ensures { IsTrue result ↔ (self.0 / 1024 % 2 ≡ 1) }
     {
-        self.0 / OVERFLOW % 2 == 1
+        has_overflow(self.flags())
     }
 
     /// RemainingLen: the free words.
@@ -92,11 +100,11 @@ impl Lengths {
         requires { self.0 / 1024 % 2 ≡ 0 }
         ensures { result.0 ≡ self.0 + 1024 }
     {
-        Lengths(self.0 + OVERFLOW)
+        Lengths(self.0 + u16::from(OVERFLOW) * FLAGS)
     }
 
-    // The word with RemainingLen less by so many words, where it has them.
-    pub(crate) fn less(self, words: u8) -> Option<Lengths>
+    /// The word with RemainingLen less by so many words, where it has them.
+    pub fn less(self, words: u8) -> Option<Lengths>
         ensures { MatchOption result (self.0 % 128 < words)
             (λ less. (words ≤ self.0 % 128) × (less.0 ≡ self.0 - words) × (less.0 % 128 ≡ self.0 % 128 - words)) }
     {

@@ -7,20 +7,18 @@ ghost use Rattle.ioam_topo.specs.Sound.{IsFlow};
 ghost use Rattle.ioam_topo.specs.Traces.{IsFlowTrace};
 ghost use Rattle.ioam_tunnel.specs.Size.{trace_size, direct_sizes, limit_sizes, edge_sizes, outer_size};
 
+use ioam_data::option_type::IN_FRONT;
 use ioam_edge::data_size;
 use ioam_ip::option_type::{ENCAPSULATION_LIMIT, IOAM, IOAM_CHANGING};
 use ioam_ip::{HEADER_OCTETS, padded, size_with};
 use ioam_topo::{Flow, FlowTrace};
 use ioam_trace::HEAD_OCTETS;
 
-// The reserved octet and the IOAM-Option-Type, with which an IOAM option's data begin (RFC 9486 section 3).
-const IN_FRONT: usize = 2;
-
-/// How many octets of data the option of direct export has: those two, 8 of the header, the flow's id and the sequence
+/// How many octets of data the option of direct export has: those two in front, 8 of the header, the flow's id and the sequence
 /// number (RFC 9326 section 3.2).
 pub(crate) const DIRECT_DATA_LEN: u8 = 18;
 
-/// How many octets of data the option of a trace has: those two, the header and the free words (RFC 9197 section 4.4).
+/// How many octets of data the option of a trace has: those two in front, the header and the free words (RFC 9197 section 4.4).
 pub(crate) fn trace_data_len(capacity: u8) -> u8
     requires { capacity ≤ 61 }
     ensures { result ≡ 10 + 4 * capacity }
@@ -28,7 +26,7 @@ pub(crate) fn trace_data_len(capacity: u8) -> u8
     (IN_FRONT + HEAD_OCTETS) as u8 + 4 * capacity
 }
 
-/// How many octets of data the option of edge-to-edge data of a type has: those two, the header and the fields (RFC 9197
+/// How many octets of data the option of edge-to-edge data of a type has: those two in front, the header and the fields (RFC 9197
 /// section 4.6).
 pub(crate) fn edge_data_len(kind: u16) -> u8
     ensures value { result ≡ 6 + fields_size kind }
