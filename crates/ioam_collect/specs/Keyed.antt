@@ -33,6 +33,12 @@ core_of x = record x { visit = None }
 abbrev pub item_of : ℕ → Record → Entry
 item_of hops x = record { hops = hops; core = record_octets (core_of x); extra = visit_octets x.visit }
 
+-- the key of a record of a namespace, by its Flow ID and its Sequence Number; none where one of them isn't there
+abbrev pub key_by : ℕ → Option ℕ → Option ℕ → Option Key
+key_by namespace None seq = None
+key_by namespace (Some flow) None = None
+key_by namespace (Some flow) (Some seq) = Some (record { namespace = record { 0 = namespace }; flow = flow; seq = seq })
+
 -- the key and the item of a record, by its Flow ID, its Sequence Number and its hop value; none where one of them isn't there
 abbrev pub keyed_by : Record → Option ℕ → Option ℕ → Option ℕ → Option (Key × Entry)
 keyed_by x None seq hops = None

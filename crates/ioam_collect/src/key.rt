@@ -1,5 +1,6 @@
 //! What the records of one packet have in common.
 use ioam_data::Namespace;
+use ioam_dex::Export;
 
 /// What the export records of one packet have in common (RFC 9326 section 3.2). Keys are ordered by
 /// namespace, then by Flow ID, then by Sequence Number.
@@ -11,4 +12,22 @@ pub struct Key {
     pub flow: u32,
     /// The Sequence Number.
     pub seq: u32,
+}
+
+impl Key {
+    ghost use Rattle.std.specs.Prelude.{◌≡◌};
+    ghost use Rattle.ioam_collect.specs.Keyed.{key_by};
+
+    /// The key of a record. None without a Flow ID or a Sequence Number.
+    pub fn of(export: &Export<'_>) -> Option<Key>
+        ensures { result ≡ key_by export.now.namespace.0 export.now.flow export.now.seq }
+    {
+        let flow = export.flow?;
+        let seq = export.seq?;
+        Some(Key {
+            namespace: export.namespace,
+            flow,
+            seq,
+        })
+    }
 }

@@ -76,13 +76,7 @@ pub(crate) fn keyed<'a>(
     ensures keyed { result ≡ keyed_of (record_of export.now) }
     ensures of_record { IfSome result (λ found. IsOfRecord found.1) }
 {
-    let flow = export.flow?;
-    let seq = export.seq?;
+    let key = Key::of(export)?;
     let hops = hop_value(export)?;
-    let key = Key {
-        namespace: export.namespace,
-        flow,
-        seq,
-    };
     Some((key, Parts::new(hops, core, visit)))
 }

@@ -5,7 +5,7 @@ ghost use Rattle.ioam_dex.specs.Reader.{Waits, held};
 use ioam_base::fed::PIECE;
 use ioam_base::memory::NoMemory;
 use ioam_collect::{Collector, Key, SIDE_BY_SIDE};
-use ioam_dex::{Export, ExportReader, Step};
+use ioam_dex::{ExportReader, Step};
 use std::alloc::Global;
 use std::marker::Model;
 
@@ -35,23 +35,12 @@ impl Model for Ahead {
     ghost invariant = { λ ahead. (held ahead.reader < 274 + 65536) × (ahead.lead < 16) };
 }
 
-// The key of a record that has both numbers.
-fn key_of(export: &Export<'_>) -> Option<Key> {
-    let flow = export.flow?;
-    let seq = export.seq?;
-    Some(Key {
-        namespace: export.namespace,
-        flow,
-        seq,
-    })
-}
-
 // The key of the next record.
 fn next_key(reader: &mut ExportReader) -> Option<Key>
     ensures { held reader.new ≡ held reader.old }
 {
     match reader.next() {
-        Step::Export(export) => key_of(&export),
+        Step::Export(export) => Key::of(&export),
         Step::More => None,
         Step::Bad { .. } => None,
     }
