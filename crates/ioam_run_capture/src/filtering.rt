@@ -12,6 +12,11 @@ use ioam_pcap::{Link, Packet, put_head, put_record};
 use ioam_report::reason_text;
 use ioam_run_stream::Gather;
 
+// The places of the two outputs.
+const OUT: usize = 0;
+
+const REPORT: usize = 1;
+
 /// How many packets are kept and dropped so far. Its outputs are the capture of the kept packets and
 /// the report.
 #[derive(Drop)]
@@ -41,7 +46,7 @@ impl Gather for Filtering {
     ghost empty = { empty };
 
     fn begin(&self, outputs: &mut [Output]) -> Result<(), NoMemory> {
-        put_head(&mut outputs[0].gathered)?;
+        put_head(&mut outputs[OUT].gathered)?;
         Ok(())
     }
 
@@ -58,12 +63,12 @@ impl Gather for Filtering {
         let number = self.kept + self.dropped + 1;
         match judge(link, captured) {
             Judgement::Kept(octets) => {
-                put_record(captured.time, octets, &mut outputs[0].gathered)?;
-                put_kept(number, &mut outputs[1].gathered)?;
+                put_record(captured.time, octets, &mut outputs[OUT].gathered)?;
+                put_kept(number, &mut outputs[REPORT].gathered)?;
                 self.kept += 1;
             }
             Judgement::Dropped(reason) => {
-                put_dropped(number, reason, &mut outputs[1].gathered)?;
+                put_dropped(number, reason, &mut outputs[REPORT].gathered)?;
                 self.dropped += 1;
             }
         }
@@ -71,7 +76,7 @@ impl Gather for Filtering {
     }
 
     fn put_sums(&self, outputs: &mut [Output]) -> Result<(), NoMemory> {
-        put_sums(self.kept, self.dropped, &mut outputs[1].gathered)
+        put_sums(self.kept, self.dropped, &mut outputs[REPORT].gathered)
     }
 
     ghost begins = { Gathers-begins };

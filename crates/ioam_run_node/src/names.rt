@@ -8,6 +8,13 @@ use ioam_topo::{Domain, NodeId};
 use std::alloc::Global;
 use std::marker::Model;
 
+// The places of the files that are written, among these.
+pub(crate) const OUT: usize = 0;
+
+pub(crate) const REPORT: usize = 1;
+
+pub(crate) const EXPORTS: usize = 2;
+
 /// What the words of `node DOMAIN READINGS NODE LINK IN OUT REPORT EXPORTS` name.
 #[derive(Drop)]
 pub struct NodeFiles<'a> {
@@ -16,7 +23,7 @@ pub struct NodeFiles<'a> {
     pub(crate) node: &'a Name,
     pub(crate) link: &'a Name,
     pub(crate) input: &'a Name,
-    // OUT, REPORT and EXPORTS
+    // by OUT, REPORT and EXPORTS
     written: &'a [Name],
 }
 
@@ -118,6 +125,12 @@ pub fn node_files(alloc: Global, files: &NodeFiles<'_>) -> Result<Vec<Name>, NoM
 {
     let mut names = read_files(alloc, files.domain, files.readings, files.input)?;
     let written = files.outputs();
-    push_written(alloc, &mut names, &written[0], &written[1], &written[2])?;
+    push_written(
+        alloc,
+        &mut names,
+        &written[OUT],
+        &written[REPORT],
+        &written[EXPORTS],
+    )?;
     Ok(names)
 }

@@ -3,6 +3,7 @@ ghost use Rattle.std.specs.Prelude.{◌≡◌, ◌+◌, ◌<◌, ◌^◌, ◌++�
 ghost use Rattle.ioam_run_node.specs.NodeText.{drop_line, sums_line};
 
 use crate::judging::Judged;
+use crate::names::{OUT, REPORT};
 use crate::post::Post;
 use crate::sending::Sent;
 use ioam_base::memory::NoMemory;
@@ -16,8 +17,7 @@ use std::alloc::Global;
 use std::mem;
 
 /// How many packets a node has sent and dropped so far, and the memory of the last that it sent, which the
-/// next one takes. The outputs are the capture of the packets that
-/// it sends, the report, and the export records.
+/// next one takes. The outputs are the capture of the packets that it sends, the report, and the export records.
 #[derive(Drop)]
 pub struct Passing<'a> {
     pub(crate) alloc: Global,
@@ -47,7 +47,7 @@ impl Gather for Passing<'_> {
     ghost empty = { empty };
 
     fn begin(&self, outputs: &mut [Output]) -> Result<(), NoMemory> {
-        put_head(&mut outputs[0].gathered)?;
+        put_head(&mut outputs[OUT].gathered)?;
         Ok(())
     }
 
@@ -73,7 +73,7 @@ impl Gather for Passing<'_> {
                 self.sent += 1;
             }
             Judged::Drops(reason) => {
-                put_drop(number, reason, &mut outputs[1].gathered)?;
+                put_drop(number, reason, &mut outputs[REPORT].gathered)?;
                 self.dropped += 1;
             }
         }
@@ -81,7 +81,7 @@ impl Gather for Passing<'_> {
     }
 
     fn put_sums(&self, outputs: &mut [Output]) -> Result<(), NoMemory> {
-        put_sums(self.sent, self.dropped, &mut outputs[1].gathered)
+        put_sums(self.sent, self.dropped, &mut outputs[REPORT].gathered)
     }
 
     ghost begins = { Gathers-begins };

@@ -11,6 +11,7 @@ ghost use Rattle.ioam_run_node.specs.NodeText.{added_of, out_lines, way_name};
 ghost use Rattle.ioam_run_node.specs.Passage.{CanGo, Goes, LeavesClean, exported, noted, passed_on};
 ghost use Rattle.ioam_run_node.specs.Seat.{seat_of};
 
+use crate::names::{EXPORTS, OUT, REPORT};
 use crate::notes::put_notes;
 use crate::post::Post;
 use ioam_base::memory::NoMemory;
@@ -69,7 +70,7 @@ fn add_packet(time: u64, packet: &[u8], outputs: &mut [Output]) -> Result<(), No
     requires short { length packet.now ≤ most }
     ensures { OnOk result (Adds outputs.old outputs.new (record_octets time packet.now ∷ [] ∷ [] ∷ [])) }
 {
-    put_record(time, packet, &mut outputs[0].gathered)?;
+    put_record(time, packet, &mut outputs[OUT].gathered)?;
     Ok(())
 }
 
@@ -83,7 +84,7 @@ fn add_lines(
     requires { length outputs.old ≡ 3 }
     ensures { OnOk result (Adds outputs.old outputs.new ([] ∷ out_lines number name.now notes.now ∷ [] ∷ [])) }
 {
-    put_sent(number, name, notes, &mut outputs[1].gathered)?;
+    put_sent(number, name, notes, &mut outputs[REPORT].gathered)?;
     Ok(())
 }
 
@@ -92,7 +93,7 @@ fn add_exports(exports: &[u8], outputs: &mut [Output]) -> Result<(), NoMemory>
     requires { length outputs.old ≡ 3 }
     ensures { OnOk result (Adds outputs.old outputs.new ([] ∷ [] ∷ exports.now ∷ [])) }
 {
-    append(&mut outputs[2].gathered, exports)?;
+    append(&mut outputs[EXPORTS].gathered, exports)?;
     Ok(())
 }
 
