@@ -1,11 +1,12 @@
 #!/usr/bin/env python3
 """Compares what the program answers and writes with what a second writing of the same rules, in Python, says.
 
-    bench/compare/differential_inputs.py [COUNT] [PROGRAM] [FIRST]
+    bench/compare/differential_inputs.py [COUNT] [PROGRAM] [FIRST [COMMAND]]
 
 COUNT random inputs (1,000 where it isn't given), numbered from FIRST (0) on; one number always gives the same input. PROGRAM is
-this repository's `ioam` where none is given. The inputs are those of every command but `bulk`, of `run` the faulty domain files
-and READINGS alone, and words of no form: captures of both forms with each of their faults, packets with IOAM options of every
+this repository's `ioam` where none is given. With COMMAND they are inputs of that command alone (of `run` faulty domain files,
+of `bulk` 300 packets at most). Without, they are those of every command but `bulk`, of `run` the faulty domain files and READINGS
+alone, and words of no form: captures of both forms with each of their faults, packets with IOAM options of every
 kind, sound and broken, pairs of captures before and behind some node, export records, messages and parts with each of their
 faults, domain files with faults of each table, key and reason. Of each the line, the status and every file are compared, octet for octet, and that no other file was made. Where something differs it
 is said and the input's folder is kept; then the status is 1. At the end stands how often each answer, reason and branch of
@@ -26,22 +27,43 @@ import faults_reach  # noqa: E402
 import messages_rows  # noqa: E402
 import texts_rows  # noqa: E402
 from faults_answers import answer, is_form  # noqa: E402
-from faults_words import some_input  # noqa: E402
+from faults_words import MAKERS, input_of, some_input  # noqa: E402
 from repository import program_at  # noqa: E402
+from run_bulk import bulk  # noqa: E402
+
+# `bulk` with more packets takes the second writing too long
+MOST_BULK = 1000
+
+
+def decoded(words):
+    """Words as text, none where one of them isn't."""
+    try:
+        return [word.decode() for word in words]
+    except UnicodeDecodeError:
+        return []
+
+
+def is_bulk(words):
+    """Whether words are those of `bulk`, with its numbers."""
+    return decoded(words)[:1] == ["bulk"] and is_form(decoded(words))
 
 
 def is_left_out(words):
-    """Whether the second writing doesn't say what words give: `bulk` with its numbers."""
-    try:
-        decoded = [word.decode() for word in words]
-    except UnicodeDecodeError:
-        return False
-    return decoded[:1] == ["bulk"] and is_form(decoded)
+    """Whether there is no time to ask the second writing."""
+    return is_bulk(words) and int(words[2]) > MOST_BULK
+
+
+def answered(words, files):
+    """The line, the status and the outputs that words should give."""
+    if not is_bulk(words):
+        return answer(words, files)
+    given = bulk(decoded(words))
+    return given.line.rstrip("\n"), given.status, given.outputs
 
 
 def wanted_of(words, files):
     """What an input should give: the line, the status, and the files that there then are; None where a folder can't hold them."""
-    line, status, outputs = answer(words, files)
+    line, status, outputs = answered(words, files)
     if any(name in ("", ".", "..") or "/" in name for name in outputs):
         return None
     return line, status, {**files, **outputs}
@@ -88,9 +110,10 @@ def file_difference(wanted, came):
     return f"from octet {place} on: wanted {wanted[start:place + 60]!r}, came {came[start:place + 60]!r}"
 
 
-def one(number, program, room):
+def one(number, command, program, room):
     """Compares one input; whether it is the same."""
-    words, files = some_input(random.Random(f"ioam {number}"))
+    rng = random.Random(f"ioam {number}")
+    words, files = input_of(rng, command) if command else some_input(rng)
     wanted = None if is_left_out(words) else wanted_of(words, files)
     if wanted is None:
         return True
@@ -108,11 +131,14 @@ def main():
     count = int(sys.argv[1]) if len(sys.argv) > 1 else 1000
     program = program_at(2)
     first = int(sys.argv[3]) if len(sys.argv) > 3 else 0
+    command = sys.argv[4] if len(sys.argv) > 4 else None
+    if command and command not in MAKERS:
+        sys.exit(f"no such command: {command}")
     faults_reach.REACHED.clear()
     differ = 0
     for number in range(first, first + count):
         room = tempfile.mkdtemp(prefix=f"ioam-input-{number}-")
-        if one(number, program, room):
+        if one(number, command, program, room):
             shutil.rmtree(room)
         else:
             differ += 1

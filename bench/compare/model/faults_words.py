@@ -165,6 +165,16 @@ def sound_nodes(top):
     return [node for node in nodes if isinstance(node, dict)] if isinstance(nodes, list) else []
 
 
+def over_numbers(rng):
+    """`bulk` with few packets."""
+    seed = rng.choice((0, 1, 2**63, 2**64 - 1, rng.getrandbits(64), rng.getrandbits(64)))
+    count = rng.choice((1, 2, 3, 50, 255, 256, 257, 300)) if rng.random() < 0.2 else rng.randint(1, 60)
+    words = [b"bulk", b"%d" % seed, b"%d" % count, b"%d" % rng.choice((1, 1, 2, 3, 64)), b"P"]
+    if rng.random() < 0.1:
+        words[rng.randint(1, 3)] = rng.choice(NUMBERS)
+    return words, {}
+
+
 def odd_words(rng):
     """Words that are of no form, or name one file twice, or one that isn't there."""
     words, files = rng.choice((over_capture, over_records, over_node, over_audit, over_messages, over_parts))(rng)
@@ -187,7 +197,20 @@ SHARES = ((over_capture, 16), (over_node, 16), (over_faulty_domain, 17), (over_f
           (over_shipped, 3), (odd_words, 4), (over_audit, 17), (over_messages, 9), (over_parts, 9))
 
 
+MAKERS = {"filter": over_capture, "paths": over_capture, "show": over_capture, "save": over_capture, "node": over_node,
+          "run": over_faulty_domain, "collect": over_records, "audit": over_audit, "ipfix": over_messages,
+          "records": over_messages, "part": over_parts, "merge": over_parts, "parts": over_parts, "bulk": over_numbers}
+
+
 def some_input(rng):
     """Any input."""
     makers, shares = zip(*SHARES)
     return rng.choices(makers, shares)[0](rng)
+
+
+def input_of(rng, command):
+    """An input of one command."""
+    while True:
+        words, files = MAKERS[command](rng)
+        if words[:1] == [command.encode()]:
+            return words, files
