@@ -1,12 +1,11 @@
 //! Direct export data and export records.
 ghost use Rattle.std.specs.Prelude.{◌<◌, ◌≡◌};
 ghost use Rattle.ioam_dex.specs.Direct.{HasItsNumbers};
-ghost use Rattle.ioam_dex.specs.Numbers.{has_flow, has_seq};
 
 use ioam_data::{Namespace, TraceType};
 use ioam_dex::{
-    Direct, DirectFault, ExportFault, ExportReader, ExportRoom, Step, export_of, put, put_export,
-    read,
+    Direct, DirectFault, ExportFault, ExportReader, ExportRoom, Step, export_of, has_flow, has_seq,
+    put, put_export, read,
 };
 use std::alloc::Global;
 use std::test::Fail;
@@ -28,22 +27,6 @@ const SHORT: [(&[u8], u32, u32); 3] = [
     (&[0, 7, 0, 0xC0, 0x80, 0, 0], 7, 8),
     (&[0, 7, 0, 0x40, 0x80, 0, 0, 0, 1, 2, 3], 11, 12),
 ];
-
-// Whether the extension flags have a Flow ID.
-#[tactic(auto, unfolding(ioam_dex::specs::Numbers::has_flow))]
-fn has_flow(ext: u8) -> bool
-    ensures { result ≡ has_flow ext }
-{
-    ext / 128 % 2 == 1
-}
-
-// Whether they have a Sequence Number.
-#[tactic(auto, unfolding(ioam_dex::specs::Numbers::has_seq))]
-fn has_seq(ext: u8) -> bool
-    ensures { result ≡ has_seq ext }
-{
-    ext / 64 % 2 == 1
-}
 
 // The value of extension flags, its numbers those of DIRECT.
 fn direct_of(ext: u8) -> Direct

@@ -40,18 +40,29 @@ fn part_of(alloc: Global, collector: &Collector) -> Result<Vec<u8>, Fail> {
     Ok(part)
 }
 
+// Whether a collector that takes another in answers so.
+fn answers(collector: &mut Collector, other: &Collector, wanted: Joined) -> Result<bool, Fail> {
+    Ok(collector.join(other)? == wanted)
+}
+
 // Whether a collector of this record, joined to one of that, answers so and has these lines.
 fn joins(alloc: Global, to: &str, joined: &str, wanted: Joined, lines: &str) -> Result<bool, Fail> {
     let mut collector = of_one(alloc, to)?;
     let other = of_one(alloc, joined)?;
-    Ok(collector.join(&other)? == wanted && has_lines(alloc, &collector, lines)?)
+    Ok(answers(&mut collector, &other, wanted)? && has_lines(alloc, &collector, lines)?)
+}
+
+// What a collector holds, read back from its part.
+fn copied(alloc: Global, collector: &Collector) -> Result<Collector, Fail> {
+    let part = part_of(alloc, collector)?;
+    Ok(read_part(alloc, &part, 1)?)
 }
 
 // Whether a collector takes its own part in, and holds no more then.
 fn takes_its_part_in(alloc: Global) -> Result<bool, Fail> {
     let mut collector = of_one(alloc, FIRST)?;
-    let copy = read_part(alloc, &part_of(alloc, &collector)?, 1)?;
-    Ok(collector.join(&copy)? == Joined::Joined && has_lines(alloc, &collector, ONE_TWICE)?)
+    let copy = copied(alloc, &collector)?;
+    Ok(answers(&mut collector, &copy, Joined::Joined)? && has_lines(alloc, &collector, ONE_TWICE)?)
 }
 
 #[test]
