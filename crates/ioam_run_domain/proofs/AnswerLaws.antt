@@ -13,9 +13,10 @@ use Rattle.ioam_run_files.specs.Failures.{AnswersFailures}
 use Rattle.ioam_run_files.specs.Outcomes.{IsDone, IsBehindAll, IsSettled}
 use Rattle.ioam_run_files.specs.Outcome.{Outcome}
 use Rattle.ioam_run_files.specs.Outcome.TheVariants as outcome
-use Rattle.ioam_run_files.specs.Setting.{Refuses}
+use Rattle.ioam_run_files.specs.Setting.{IsDomainFirst, Refuses}
 use Rattle.ioam_run_files.specs.declared.setting.Refusal.{Refusal}
 use Rattle.ioam_run_files.specs.declared.setting.Refusal.TheVariants as refusal
+use Rattle.ioam_run_files.proofs.SettingLaws.{in_turn}
 use Rattle.ioam_topo.specs.declared.domain.Domain.{Domain}
 use Rattle.ioam_run_files.specs.DomainFault.{DomainFault}
 use Rattle.ioam_run_traffic.specs.Traffic.{AllOpened}
@@ -32,6 +33,7 @@ module _ (opens tells : Bool) (files : RunNames) (old_in new_in : Reading) (old 
     (settled : IsSettled (refused_as why) → new_in.side.faults ≡ old_in.side.faults)
     (asked : AsksFront old_in.side.asked new_in.side.asked (files.domain ∷ files.readings ∷ []))
     (first : (fault : DomainFault) → why ≡ refusal.Domain fault → AsksFront old_in.side.asked new_in.side.asked (files.domain ∷ []))
+    (turn : IsDomainFirst old files.domain files.readings tells old_in new_in)
     (same : new ≡ old) (is : answer ≡ refused_as why) (kept : KeepsInputs old_in new_in) where
   refused-read_fault : answer ≡ outcome.ReadFault → Rose old_in.side.faults new_in.side.faults
   refused-read_fault read = refused_read opens tells files old_in new_in old why refuses (sym is ∙ read)
@@ -80,6 +82,7 @@ module _ (opens tells : Bool) (files : RunNames) (old_in new_in : Reading) (old 
     leaves = λ told. refused-leaves;
     exact = refused-exact;
     domain_first = λ fault so. first fault (refused_domain opens tells files old_in new_in old why fault (sym is ∙ so));
+    in_turn = record { domain_first = turn; setting_first = inl asked };
     asks = inl ((asked, same), subst IsUnset (sym is) (refused_unset opens tells files old_in new_in old why));
     no_output = λ early. same;
     untouched = λ refusal. (asked, same);
@@ -236,11 +239,14 @@ module _ (opens tells : Bool) (files : RunNames) (old_in mid_in new_in : Reading
   ended-no_output first few = ⊎_elim (λ still. still ∙ same)
       (λ all. absurd (omega (arith, few, all.1, ap (λ (s : Side). s.slots) opened))) first
 
-  ended-kept_in : KeepsInputs old_in mid_in → EndsKept mid_in.side.slots mid_in new_in → KeepsInputs old_in new_in
-  ended-kept_in first kept = KeepsInputs-then old_in mid_in new_in (omega (arith, ap (λ (s : Side). s.slots) opened)) first (record {
+  both_kept : EndsKept mid_in.side.slots mid_in new_in → KeepsInputs mid_in new_in
+  both_kept kept = record {
     left = λ k below. ap (λ (s : Unread). s.left) (kept k below);
     ended = λ k below. ap (λ (s : Unread). s.ended) (kept k below);
-  })
+  }
+
+  ended-kept_in : KeepsInputs old_in mid_in → EndsKept mid_in.side.slots mid_in new_in → KeepsInputs old_in new_in
+  ended-kept_in first kept = KeepsInputs-then old_in mid_in new_in (omega (arith, ap (λ (s : Side). s.slots) opened)) first (both_kept kept)
 
   ended-kept_out : (IsTrue tells → KeepsOutputs mid new) → IsTrue tells → KeepsOutputs old new
   ended-kept_out kept told = let P : Writing → Type 0 = λ w. KeepsOutputs w new in subst P same (kept told)
@@ -275,6 +281,7 @@ module _ (opens tells : Bool) (files : RunNames) (old_in mid_in new_in : Reading
       leaves = ended-leaves;
       exact = ended-exact;
       domain_first = λ fault so. absurd (subst (λ (a : Outcome). Ends opens tells files domain readings mid_in new_in old new a) so ends);
+      in_turn = in_turn tells old_in mid_in new_in old files.domain files.readings domain readings set opened both (both_kept kept);
       asks = ended-asks asked_in asked_out all_in all_out first unread;
       no_output = ended-no_output first;
       untouched = ended-untouched;

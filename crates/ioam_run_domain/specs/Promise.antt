@@ -22,7 +22,7 @@ use Rattle.ioam_run_files.specs.Outcomes.{IsDone, IsBehindAll}
 use Rattle.ioam_run_files.specs.Outcome.{Outcome}
 use Rattle.ioam_run_files.specs.Outcome.TheVariants as outcome
 use Rattle.ioam_run_files.specs.Names.{input_names, input_ports, output_names, file_names}
-use Rattle.ioam_run_files.specs.Setting.{HasDomainFault, HasReadingsFault, IsSetting}
+use Rattle.ioam_run_files.specs.Setting.{HasDomainFault, HasReadingsFault, InTurn, IsSetting}
 use Rattle.ioam_topo.specs.Domain.{links, ports}
 use Rattle.ioam_topo.specs.declared.domain.Domain.{Domain}
 use Rattle.ioam_run_files.specs.DomainFault.{DomainFault}
@@ -285,8 +285,10 @@ module _ (opens : Bool) (desks : Desks) (files : RunNames) where
     -- what is asked for is answered, unless a call of the desk failed or no memory could be had
     pub exact : (asked : Outcome) → IsTrue desks.tells → Asked desks.old files asked → (Rose desks.old_in.side.faults desks.new_in.side.faults → ⊥)
         → (Rose desks.old.side.faults desks.new.side.faults → ⊥) → (answer ≡ asked) ⊎ (answer ≡ outcome.NoMemory)
-    -- the names that were opened: READINGS isn't where DOMAIN is refused; told or not, all is of one domain
+    -- the names that were opened: READINGS isn't where DOMAIN is refused, nor before DOMAIN was read, nor is more before both were; told or not, all is
+    -- of one domain
     pub domain_first : (fault : DomainFault) → answer ≡ outcome.Domain fault → AsksFront desks.old_in.side.asked desks.new_in.side.asked (files.domain ∷ [])
+    pub in_turn : InTurn desks.old files.domain files.readings desks.tells desks.old_in desks.new_in
     pub asks : Asks desks.tells files desks.old_in desks.new_in desks.old desks.new answer
     -- no output is opened before DOMAIN and READINGS, nor an output or a capture where DOMAIN, READINGS or the names are refused
     pub no_output : desks.new_in.side.slots < desks.old_in.side.slots + 2 → desks.new ≡ desks.old

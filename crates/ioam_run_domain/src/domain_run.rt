@@ -9,7 +9,7 @@ ghost use Rattle.ioam_run_files.specs.Answer.{refused_as};
 ghost use Rattle.ioam_run_files.specs.Desks.{around};
 ghost use Rattle.ioam_run_files.specs.Failures.{AnswersFailures};
 ghost use Rattle.ioam_run_files.specs.Outcomes.{IsBehindAll, IsSettled};
-ghost use Rattle.ioam_run_files.specs.Setting.{IsSetting, Refuses};
+ghost use Rattle.ioam_run_files.specs.Setting.{IsDomainFirst, IsSetting, Refuses};
 ghost use Rattle.ioam_run_files.specs.declared.setting.Refusal.{Refusal};
 ghost use Rattle.ioam_run_files.specs.Outlets.{outlet_count};
 ghost use Rattle.ioam_run_files.specs.DomainFault.{DomainFault};
@@ -86,6 +86,7 @@ fn read_names<D: Desk>(
     ensures asked { AsksFront (D.reading desk.old).side.asked (D.reading desk.new).side.asked (files.now.domain ∷ files.now.readings ∷ []) }
     ensures domain_first { (fault : DomainFault) → result ≡ Err (Refusal.Domain fault)
         → AsksFront (D.reading desk.old).side.asked (D.reading desk.new).side.asked (files.now.domain ∷ []) }
+    ensures in_turn { IsDomainFirst (D.writing desk.old) files.now.domain files.now.readings D.tells (D.reading desk.old) (D.reading desk.new) }
     ensures kept { KeepsInputs (D.reading desk.old) (D.reading desk.new) }
     ensures outputs { D.writing desk.new ≡ D.writing desk.old }
 {

@@ -1,8 +1,9 @@
 -- Laws of the two files that a run is set by: what the second one's reading says once the first was read.
-use Rattle.std.proofs.Common.{◌≡◌, ℕ, suc, Bool, IsSomeAnd, Option, List, [], ◌∷◌, ◌++◌, take, Result, Ok, Err, MatchResult, ◌∙◌, ap, subst, append_assoc, arith}
+use Rattle.std.proofs.Common.{◌≡◌, ℕ, suc, ◌+◌, ◌<◌, Bool, IsTrue, IsSomeAnd, Option, List, [], ◌∷◌, ◌++◌, take, Result, Ok, Err, MatchResult, sym, ◌∙◌, ap, subst, inr, append_assoc, arith}
 use Rattle.ioam_clock.specs.Reading.{readings_of, node_names}
+use Rattle.ioam_clock.specs.declared.sample.Sample.{Sample}
 use Rattle.ioam_desk.specs.Asked.{AsksFront}
-use Rattle.ioam_desk.specs.Desk.{Side, Reading, Writing, Rose, holds, opened_side}
+use Rattle.ioam_desk.specs.Desk.{Side, Reading, Writing, Rose, holds, opened_each, opened_side}
 use Rattle.ioam_desk.specs.Kept.{KeepsInputs}
 use Rattle.ioam_desk.specs.Whole.{ReadsWhole, FailsWhole}
 use Rattle.ioam_desk.specs.declared.fault.WholeFault.{WholeFault}
@@ -11,7 +12,7 @@ use Rattle.ioam_desk.proofs.KeptLaws.{KeepsInputs-but}
 use Rattle.ioam_topo.specs.declared.domain.Domain.{Domain}
 use Rattle.ioam_run_answer.specs.DomainFault.{DomainFault}
 use Rattle.ioam_run_files.specs.Reads.{IsDomainRead, AreReadingsRead}
-use Rattle.ioam_run_files.specs.Setting.{Refuses}
+use Rattle.ioam_run_files.specs.Setting.{InTurn, IsDomainFirst, IsSetting, Refuses}
 use Rattle.ioam_run_files.specs.declared.setting.Refusal.{Refusal}
 use Rattle.ioam_run_files.specs.declared.setting.Refusal.TheVariants as refusal
 
@@ -42,6 +43,35 @@ module _ (tells : Bool) (old mid new : Reading) (desk next : Writing) (domain_fi
   refuses_next read opened same refusal.ReadFault refused =
       subst (λ (s : Side). Rose s.faults new.side.faults) opened refused
   refuses_next read opened same refusal.NoMemory refused = tt
+
+-- what was read to its end stays so
+still_ended : (old new : Reading) (k : ℕ) → KeepsInputs old new → k < old.side.slots → IsTrue (old.ended k) → IsTrue (new.ended k)
+still_ended old new k kept below ended = subst (λ (b : Bool). IsTrue b) (sym (kept.ended k below)) ended
+
+module _ (tells : Bool) (old mid new : Reading) (desk : Writing) (domain_file readings_file : List ℕ) (domain : Domain) where
+  -- the domain was read, and whatever came then
+  pub domain_first : IsDomainRead tells old mid (holds desk domain_file) (Ok domain) → mid.side ≡ opened_side old.side domain_file
+      → (IsTrue tells → IsTrue (mid.ended old.side.slots)) → KeepsInputs mid new → IsDomainFirst desk domain_file readings_file tells old new
+  domain_first read opened ended kept = inr (λ told. (
+    still_ended mid new old.side.slots kept (omega (arith, ap (λ (s : Side). s.slots) opened)) (ended told),
+    (domain, read told),
+  ))
+
+  -- both were read
+  pub in_turn : (samples : List (List Sample)) → (IsTrue tells → IsSetting desk domain_file readings_file domain samples)
+      → mid.side ≡ opened_each old.side (domain_file ∷ readings_file ∷ [])
+      → (IsTrue tells → IsTrue (mid.ended old.side.slots) × IsTrue (mid.ended (old.side.slots + 1))) → KeepsInputs mid new
+      → InTurn desk domain_file readings_file tells old new
+  in_turn samples setting opened ended kept = record {
+    domain_first = inr (λ told. (
+      still_ended mid new old.side.slots kept (omega (arith, ap (λ (s : Side). s.slots) opened)) (ended told).0,
+      (domain, (setting told).has_domain),
+    ));
+    setting_first = inr (λ told. (
+      still_ended mid new (old.side.slots + 1) kept (omega (arith, ap (λ (s : Side). s.slots) opened)) (ended told).1,
+      (domain, samples, setting told),
+    ));
+  }
 
 -- the readings' file has no fault of the domain file
 pub none_of_domain : (tells : Bool) (mid new : Reading) (held : Option (List ℕ)) (names : List (List ℕ)) (why : Refusal) (fault : DomainFault)

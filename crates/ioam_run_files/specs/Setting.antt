@@ -1,8 +1,9 @@
 -- What a run over a domain is set by: the domain file, and the readings of its nodes' clocks.
-use Rattle.std.specs.Prelude.{◌≡◌, ℕ, ⊤, Bool, IsTrue, IsSomeAnd, List, Ok, Err}
+use Rattle.std.specs.Prelude.{◌≡◌, ℕ, ◌+◌, ◌⊎◌, ⊤, Bool, IsTrue, IsSomeAnd, List, [], ◌∷◌, Ok, Err}
 use Rattle.ioam_clock.specs.Reading.{readings_of, node_names}
 use Rattle.ioam_clock.specs.declared.fault.ReadingsFault.{ReadingsFault}
 use Rattle.ioam_clock.specs.declared.sample.Sample.{Sample}
+use Rattle.ioam_desk.specs.Asked.{AsksFront}
 use Rattle.ioam_desk.specs.Desk.{Reading, Writing, Rose, holds}
 use Rattle.ioam_topo_file.specs.File.{IsDomainOf, HasFault}
 use Rattle.ioam_topo.specs.declared.domain.Domain.{Domain}
@@ -38,3 +39,20 @@ module _ (desk : Writing) (domain_file readings_file : List ℕ) where
     Refuses (refusal.Readings fault) = IsTrue tells → HasReadingsFault fault
     Refuses refusal.ReadFault = Rose old.side.faults new.side.faults
     Refuses refusal.NoMemory = ⊤
+
+  -- what came before what, whatever the answer
+  module _ (tells : Bool) (old new : Reading) where
+    -- READINGS wasn't asked for; or DOMAIN was read to its end before, and holds a domain
+    abbrev pub IsDomainFirst : Type 0
+    IsDomainFirst = AsksFront old.side.asked new.side.asked (domain_file ∷ [])
+        ⊎ (IsTrue tells → IsTrue (new.ended old.side.slots) × ((domain : Domain) × HasDomain domain))
+
+    -- nothing but the two was asked for; or READINGS was read to its end before, too, and holds what a run is set by
+    abbrev pub IsSettingFirst : Type 0
+    IsSettingFirst = AsksFront old.side.asked new.side.asked (domain_file ∷ readings_file ∷ [])
+        ⊎ (IsTrue tells → IsTrue (new.ended (old.side.slots + 1)) × ((domain : Domain) × (samples : List (List Sample)) × IsSetting domain samples))
+
+    -- DOMAIN, READINGS and what is behind them are asked for in turn, each once those before it were read
+    pub record InTurn : Type 0 where
+      pub domain_first : IsDomainFirst
+      pub setting_first : IsSettingFirst

@@ -9,7 +9,7 @@ ghost use Rattle.ioam_run_answer.specs.DomainFault.{DomainFault};
 ghost use Rattle.ioam_run_answer.specs.Outcomes.{IsSettled};
 ghost use Rattle.ioam_run_files.specs.Answer.{refused_as};
 ghost use Rattle.ioam_run_files.specs.Reads.{IsDomainRead, AreReadingsRead};
-ghost use Rattle.ioam_run_files.specs.Setting.{IsSetting, Refuses};
+ghost use Rattle.ioam_run_files.specs.Setting.{IsDomainFirst, IsSetting, Refuses};
 ghost use Rattle.ioam_run_files.specs.declared.setting.Refusal.{Refusal};
 
 use ioam_base::name::Name;
@@ -149,7 +149,8 @@ pub fn read_setting<D: Desk>(
     ensures asked { AsksFront (D.reading desk.old).side.asked (D.reading desk.new).side.asked (domain.now ∷ readings.now ∷ []) }
     ensures few { (D.reading desk.new).side.slots ≤ (D.reading desk.old).side.slots + 2 }
     ensures kept { KeepsInputs (D.reading desk.old) (D.reading desk.new) }
-    // After a fault of the domain file the readings weren't opened.
+    // The readings weren't opened but behind a domain, which was read to its end; and not after a fault of it, told or not.
+    ensures in_turn { IsDomainFirst (D.writing desk.old) domain.now readings.now D.tells (D.reading desk.old) (D.reading desk.new) }
     ensures domain_first { (fault : DomainFault) → result ≡ Err (Refusal.Domain fault)
         → AsksFront (D.reading desk.old).side.asked (D.reading desk.new).side.asked (domain.now ∷ []) }
     ensures outputs { D.writing desk.new ≡ D.writing desk.old }

@@ -7,12 +7,13 @@ use Rattle.ioam_clock.specs.declared.sample.Sample.{Sample}
 use Rattle.ioam_desk.specs.Asked.{AsksFront}
 use Rattle.ioam_desk.specs.Desk.{Side, Reading, Writing, holds, opened_each}
 use Rattle.ioam_desk.specs.Kept.{KeepsInputs}
-use Rattle.ioam_desk.proofs.KeptLaws.{KeepsInputs-then, KeepsOutputs-same}
+use Rattle.ioam_desk.proofs.KeptLaws.{KeepsInputs-same, KeepsInputs-then, KeepsOutputs-same}
 use Rattle.ioam_run_stream.specs.Promise.{HoldsAll, AreWhole}
 use Rattle.ioam_run_stream.specs.Streams.{FileCause}
 use Rattle.ioam_run_stream.specs.Promise as capture
 use Rattle.ioam_run_files.specs.Setting.{IsSetting}
 use Rattle.ioam_run_files.specs.declared.setting.Refusal.TheVariants as refusal
+use Rattle.ioam_run_files.proofs.SettingLaws.{in_turn}
 use Rattle.ioam_topo.specs.declared.domain.Domain.{Domain}
 use Rattle.ioam_run_node.specs.Ends.{Stays, Ran, RanAt, Ends}
 use Rattle.ioam_run_node.specs.NodeText.{NodeTexts}
@@ -73,6 +74,7 @@ module _ (tells : Bool) (files : NodeNames) (old_in mid_in : Reading) (opened : 
         all_out = λ all. absurd all;
         untouched = tt;
         domain_first = λ fault is. absurd (cc);
+        in_turn = in_turn tells old_in mid_in mid_in old files.domain files.readings domain samples setting opened ended (KeepsInputs-same mid_in mid_in refl);
         no_output = λ few. refl;
         of_domain = inl ((both, refl), (refusal.NoMemory, refl));
       };
@@ -97,6 +99,7 @@ module _ (tells : Bool) (files : NodeNames) (old_in mid_in : Reading) (opened : 
         all_out = λ all. absurd all;
         untouched = (both, refl);
         domain_first = λ fault is. absurd (cc);
+        in_turn = in_turn tells old_in mid_in mid_in old files.domain files.readings domain samples setting opened ended (KeepsInputs-same mid_in mid_in refl);
         no_output = λ few. refl;
         of_domain = inr (domain, record { set = λ told. (samples, setting told); says = unfit; fit = inl (both, refl) });
       };
@@ -262,6 +265,7 @@ module _ (tells : Bool) (files : NodeNames) (old_in mid_in : Reading) (opened : 
         all_out = at.ran.gathered.all_out;
         untouched = untouched old new_in new at.seat.domain.packets answer at.ran.gathered.cause;
         domain_first = λ fault is. absurd (cause_for (outcome.Domain fault) is);
+        in_turn = in_turn tells old_in mid_in new_in old files.domain files.readings domain samples setting opened ended at.ran.gathered.kept_in;
         no_output = λ few. at.ran.gathered.no_output (omega (arith, few, two_slots));
         of_domain = inr (
           at.seat.domain,

@@ -10,7 +10,7 @@ use Rattle.ioam_desk.specs.Desk.{Reading, Writing, Rose}
 use Rattle.ioam_desk.specs.Kept.{KeepsInputs}
 use Rattle.ioam_desk.proofs.KeptLaws.{KeepsOutputs-same}
 use Rattle.ioam_run_files.specs.DomainFault.{DomainFault}
-use Rattle.ioam_run_files.specs.Setting.{Refuses}
+use Rattle.ioam_run_files.specs.Setting.{IsDomainFirst, Refuses}
 use Rattle.ioam_run_files.specs.declared.setting.Refusal.{Refusal}
 use Rattle.ioam_run_files.specs.declared.setting.Refusal.TheVariants as refusal
 use Rattle.ioam_run_files.specs.Answer.{refused_as}
@@ -95,7 +95,8 @@ module _ (tells : Bool) (files : NodeNames) (old_in new_in : Reading) (old : Wri
   module _ (why : Refusal) (refuses : Refused why)
       (asked : AsksFront old_in.side.asked new_in.side.asked (files.domain ∷ files.readings ∷ []))
       (first : (fault : DomainFault) → why ≡ refusal.Domain fault → AsksFront old_in.side.asked new_in.side.asked (files.domain ∷ []))
-      (few : new_in.side.slots ≤ old_in.side.slots + 2) (kept : KeepsInputs old_in new_in) where
+      (few : new_in.side.slots ≤ old_in.side.slots + 2) (kept : KeepsInputs old_in new_in)
+      (turn : IsDomainFirst old files.domain files.readings tells old_in new_in) where
     owes : Owes tells files old_in new_in old old (refused_as why)
     owes = record {
       read_fault = read why refuses;
@@ -111,6 +112,7 @@ module _ (tells : Bool) (files : NodeNames) (old_in new_in : Reading) (old : Wri
         all_out = λ so. absurd (all why so);
         untouched = untouched why asked;
         domain_first = λ fault is. first fault (domain why fault is);
+        in_turn = record { domain_first = turn; setting_first = inl asked };
         no_output = λ few. refl;
         of_domain = inl ((asked, refl), (why, refl));
       };

@@ -18,7 +18,7 @@ use Rattle.ioam_pcap.specs.Entries.{Taken}
 use Rattle.ioam_pcap.specs.Text.{IsSendable, capture_text}
 use Rattle.ioam_run_stream.specs.Promise.{AreFirst, IsInput, IsLong, HoldsAll, HoldsFronts, EndsSo, ArePassed, AreWhole}
 use Rattle.ioam_run_files.specs.Answer.{refused_as}
-use Rattle.ioam_run_files.specs.Setting.{HasDomainFault, HasReadingsFault, IsSetting}
+use Rattle.ioam_run_files.specs.Setting.{HasDomainFault, HasReadingsFault, InTurn, IsSetting}
 use Rattle.ioam_run_files.specs.declared.setting.Refusal.{Refusal}
 use Rattle.ioam_topo.specs.Domain.{links, node_of_name, link_of_name}
 use Rattle.ioam_topo.specs.declared.domain.Domain.{Domain}
@@ -242,6 +242,7 @@ module _ (tells : Bool) (files : NodeNames) (old_in new_in : Reading) (old new :
     pub untouched : IsUntouched files old_in new_in old new answer
     pub domain_first : (fault : DomainFault) → answer ≡ outcome.Domain fault
         → AsksFront old_in.side.asked new_in.side.asked (files.domain ∷ [])
+    pub in_turn : InTurn old files.domain files.readings tells old_in new_in
     pub no_output : new_in.side.slots < old_in.side.slots + 3 → new ≡ old
     pub of_domain : IsOfDomain answer
 

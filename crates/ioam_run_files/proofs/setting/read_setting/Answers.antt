@@ -1,10 +1,9 @@
-use Rattle.std.proofs.Common.{ap, arith}
+use Rattle.std.proofs.Common.{ap, inl, arith}
 use Rattle.std.proofs.lemmas.Result.{err_from_is_err_and}
 use Rattle.ioam_clock.specs.Reading.{node_names}
 use Rattle.ioam_desk.specs.Desk.{Side, holds}
 use Rattle.ioam_desk.proofs.KeptLaws.{KeepsInputs-then}
-use Rattle.ioam_run_files.specs.declared.setting.Refusal.TheVariants as refusal
-use Rattle.ioam_run_files.proofs.SettingLaws.{asks_next, refuses_next, none_of_domain, same_refusal}
+use Rattle.ioam_run_files.proofs.SettingLaws.{asks_next, domain_first, refuses_next, none_of_domain, same_refusal}
 use Rattle.ioam_run_files.proofs.setting.read_setting.Goals as goal
 
 pub returns-in_err-readings-clause-refused :
@@ -28,6 +27,19 @@ returns-clause-asked g c =
     asks_next (g.D.Desk.reading c.args.desk.now).side (g.D.Desk.reading c.read_domain_file.new.desk).side
     (g.D.Desk.reading c.read_readings_file.new.desk).side c.args.domain.now c.args.readings.now c.in_ok-domain.ensures.side
     c.in_ok-readings.ensures.asked
+
+pub returns-in_err-domain-clause-in_turn : goal.returns-in_err-domain-clause-in_turn
+returns-in_err-domain-clause-in_turn g c = inl c.read_domain_file.ensures.asked
+
+pub returns-in_err-readings-clause-in_turn : goal.returns-in_err-readings-clause-in_turn
+returns-in_err-readings-clause-in_turn g c = domain_first g.D.Desk.tells (g.D.Desk.reading c.args.desk.now) (g.D.Desk.reading c.read_domain_file.new.desk)
+    (g.D.Desk.reading c.read_readings_file.new.desk) (g.D.Desk.writing c.args.desk.now) c.args.domain.now c.args.readings.now c.in_ok-domain.domain
+    c.in_ok-domain.ensures.read c.in_ok-domain.ensures.side c.in_ok-domain.ensures.ended c.read_readings_file.ensures.kept
+
+pub returns-clause-in_turn : goal.returns-clause-in_turn
+returns-clause-in_turn g c = domain_first g.D.Desk.tells (g.D.Desk.reading c.args.desk.now) (g.D.Desk.reading c.read_domain_file.new.desk)
+    (g.D.Desk.reading c.read_readings_file.new.desk) (g.D.Desk.writing c.args.desk.now) c.args.domain.now c.args.readings.now c.in_ok-domain.domain
+    c.in_ok-domain.ensures.read c.in_ok-domain.ensures.side c.in_ok-domain.ensures.ended c.read_readings_file.ensures.kept
 
 pub returns-in_err-readings-clause-domain_first :
     goal.returns-in_err-readings-clause-domain_first

@@ -9,7 +9,7 @@ pub returns-in-Err : goal.returns-in-Err
 returns-in-Err g c = record {
   owes = refused_owes g.D.Desk.tells c.args.files.now (g.D.Desk.reading c.args.desk.now) (g.D.Desk.reading c.read_names.new.desk)
       (g.D.Desk.writing c.args.desk.now) c.in-Err.refusal c.in-Err.ensures.refused c.in-Err.ensures.asked
-      (λ fault is. c.in-Err.ensures.domain_first fault (ap Err is)) c.read_names.ensures.few c.read_names.ensures.kept
+      (λ fault is. c.in-Err.ensures.domain_first fault (ap Err is)) c.read_names.ensures.few c.read_names.ensures.kept c.read_names.ensures.in_turn
       (g.D.Desk.writing c.read_names.new.desk) c.refused.result c.in-Err.ensures.outputs c.refused.ensures;
   failures = refused_failures g.D.Desk.tells (g.D.Desk.reading c.args.desk.now) (g.D.Desk.reading c.read_names.new.desk)
       (g.D.Desk.writing c.args.desk.now) (g.D.Desk.writing c.read_names.new.desk) c.in-Err.refusal c.refused.result c.refused.ensures
