@@ -1,13 +1,11 @@
 //! `ioam`: packets with In Situ OAM (RFC 9197), read from and written to packet captures.
 #![tactic(auto)]
 
-mod usage;
-
-use crate::usage::say_usage;
 use ioam_base::memory::NoMemory;
 use ioam_base::name::Name;
 use ioam_cmd::{OpenGate, Outcome, ioam, line, status};
 use ioam_desk::{Fault, FileSystem, HostDesk, MachineFiles};
+use ioam_words::say_usage;
 use std::alloc::Global;
 use std::env;
 use std::io::ErrorKind;

@@ -1,4 +1,1 @@
-mod MeasuredLaws
 mod PromiseLaws
-mod WordsLaws
-mod PartedLaws

@@ -1,8 +1,8 @@
 -- Of what the commands promise: what the top call says of each of them alike.
 use Rattle.std.proofs.Common.{◌≡◌, ◌⊎◌, ℕ, Bool, IsTrue, List, sym, subst}
 use Rattle.ioam_cmd.specs.Promise.{Asked, Keeps}
-use Rattle.ioam_cmd.specs.declared.command.Command.{Command}
-use Rattle.ioam_cmd.specs.declared.command.Command.TheVariants.{Filter, Paths, Show, Save, Node, Audit, Run, Bulk, Collect, Ipfix, Records, Part, Merge, Parts}
+use Rattle.ioam_words.specs.declared.command.Command.{Command}
+use Rattle.ioam_words.specs.declared.command.Command.TheVariants.{Filter, Paths, Show, Save, Node, Audit, Run, Bulk, Collect, Ipfix, Records, Part, Merge, Parts}
 use Rattle.ioam_desk.specs.Desk.{Rose, holds}
 use Rattle.ioam_desk.specs.Kept.{KeepsInputs, KeepsOutputs}
 use Rattle.ioam_desk.proofs.KeptLaws.{KeepsInputs-same}

@@ -1,4 +1,1 @@
-pub mod Words
-pub mod Parted
-pub mod Measured
 pub mod Promise

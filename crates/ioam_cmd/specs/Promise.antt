@@ -1,9 +1,9 @@
 -- What the top call promises of each command, in the words of the command's own crate. `opens` says that the gate of the
 -- workers always opens.
 use Rattle.std.specs.Prelude.{◌≡◌, ℕ, Bool, IsTrue, List}
-use Rattle.ioam_cmd.specs.Measured.{Measures}
-use Rattle.ioam_cmd.specs.declared.command.Command.{Command}
-use Rattle.ioam_cmd.specs.declared.command.Command.TheVariants.{Filter, Paths, Show, Save, Node, Audit, Run, Bulk, Collect, Ipfix, Records, Part, Merge, Parts}
+use Rattle.ioam_run_measured.specs.Measured.{Measures}
+use Rattle.ioam_words.specs.declared.command.Command.{Command}
+use Rattle.ioam_words.specs.declared.command.Command.TheVariants.{Filter, Paths, Show, Save, Node, Audit, Run, Bulk, Collect, Ipfix, Records, Part, Merge, Parts}
 use Rattle.ioam_desk.specs.Desk.{holds}
 use Rattle.ioam_run_audit.specs.Names.{name_at}
 use Rattle.ioam_run_answer.specs.Desks.{Desks}

@@ -1,8 +1,8 @@
 //! The top call: one run of a command over a desk.
 ghost use Rattle.std.specs.Prelude.{true, ◌≡◌, ◌≢◌, ◌↔◌, ◌⊎◌, IsTrue};
 ghost use Rattle.ioam_cmd.specs.Promise.{Asked, Keeps};
-ghost use Rattle.ioam_cmd.specs.Words.{IsForm, IsNoForm};
-ghost use Rattle.ioam_cmd.specs.declared.command.Command.{Command};
+ghost use Rattle.ioam_words.specs.Words.{IsForm, IsNoForm};
+ghost use Rattle.ioam_words.specs.declared.command.Command.{Command};
 ghost use Rattle.ioam_desk.specs.Desk.{Rose};
 ghost use Rattle.ioam_desk.specs.Kept.{KeepsInputs, KeepsOutputs};
 ghost use Rattle.ioam_desk.specs.SureDesk.{reading_of, writing_of};
@@ -10,7 +10,6 @@ ghost use Rattle.ioam_run_answer.specs.Desks.{around};
 ghost use Rattle.ioam_run_answer.specs.Failures.{AnswersFailures};
 ghost use Rattle.ioam_run_answer.specs.declared.outcome.Outcome.{Outcome};
 
-use crate::command::{Command, parse};
 use ioam_base::name::Name;
 use ioam_desk::{Desk, SureDesk};
 use ioam_run_answer::Outcome;
@@ -22,6 +21,7 @@ use ioam_run_domain::{Gate, RunFiles, run_domain};
 use ioam_run_ipfix::{IpfixFiles, RecordsFiles, run_ipfix, run_records};
 use ioam_run_node::{NodeFiles, run_node};
 use ioam_run_part::{MergeFiles, PartFiles, PartsFiles, run_merge, run_part, run_parts};
+use ioam_words::{Command, parse};
 use std::alloc::Global;
 use std::thread::Threads;
 

@@ -1,7 +1,7 @@
 use Rattle.std.proofs.Common.{refl, subst}
 use Rattle.ioam_cmd.specs.Promise.{Keeps}
 use Rattle.ioam_cmd.proofs.PromiseLaws.{sound}
-use Rattle.ioam_cmd.proofs.WordsLaws.{one_form}
+use Rattle.ioam_words.proofs.WordsLaws.{one_form}
 use Rattle.ioam_run_answer.specs.Desks.{around}
 use Rattle.ioam_cmd.proofs.program.ioam.Goals as goal
 

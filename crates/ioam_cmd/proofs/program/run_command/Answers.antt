@@ -1,7 +1,7 @@
 use Rattle.std.proofs.Common.{sym, subst}
 use Rattle.ioam_cmd.specs.Promise.{Keeps}
-use Rattle.ioam_cmd.specs.declared.command.Command.TheVariants.{Run}
-use Rattle.ioam_cmd.proofs.MeasuredLaws.{run-then-collect}
+use Rattle.ioam_words.specs.declared.command.Command.TheVariants.{Run}
+use Rattle.ioam_run_measured.proofs.MeasuredLaws.{run-then-collect}
 use Rattle.ioam_run_answer.specs.Desks.{around}
 use Rattle.ioam_run_domain.specs.Promise as domain
 use Rattle.ioam_run_domain.specs.Promise.{RunNames, run_names}

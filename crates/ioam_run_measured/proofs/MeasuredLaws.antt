@@ -16,16 +16,16 @@ use Rattle.ioam_run_answer.specs.Record.{IsRecord, Record}
 use Rattle.ioam_run_answer.proofs.ReadsLaws.{Splits-feed, cut-no-record}
 use Rattle.ioam_run_domain.specs.Promise as run
 use Rattle.ioam_run_domain.specs.Promise.{HoldsFiles, IsReady, RunNames, course_for}
-use Rattle.ioam_run_audit.specs.File.{IsDomainOf}
-use Rattle.ioam_run_bulk.specs.Fate.{AreFates, Fate, Frame}
-use Rattle.ioam_run_bulk.specs.Texts.{exports_text, report_text}
-use Rattle.ioam_run_part.specs.GroupsText.{records_text}
-use Rattle.ioam_run_audit.specs.Merge.{Arrival}
+use Rattle.ioam_run_files.specs.File.{IsDomainOf}
+use Rattle.ioam_run_arrivals.specs.Fate.{AreFates, Fate, Frame}
+use Rattle.ioam_run_arrivals.specs.Texts.{exports_text, report_text}
+use Rattle.ioam_report_groups.specs.GroupsText.{records_text}
+use Rattle.ioam_capture.specs.Merge.{Arrival}
 use Rattle.ioam_run_answer.specs.declared.outcome.Outcome.{Outcome}
 use Rattle.ioam_run_answer.specs.declared.outcome.Outcome.TheVariants as outcome
-use Rattle.ioam_cmd.specs.Measured.{AreCollected, ArePaths, Collects, IsCollected, IsAllMeasured, IsPartCollected, IsPartMeasured, Measures, RunThenCollect, TellsFirst, TellsPart, TellsPassed, asked_by}
-use Rattle.ioam_cmd.proofs.PartedLaws.{merged_is, printed_same}
-use Rattle.ioam_run_audit.specs.Held.{HoldFronts, HoldsFront}
+use Rattle.ioam_run_measured.specs.Measured.{AreCollected, ArePaths, Collects, IsCollected, IsAllMeasured, IsPartCollected, IsPartMeasured, Measures, RunThenCollect, TellsFirst, TellsPart, TellsPassed, asked_by}
+use Rattle.ioam_run_measured.proofs.PartedLaws.{merged_is, printed_same}
+use Rattle.ioam_desk_outputs.specs.Held.{HoldFronts, HoldsFront}
 use Rattle.ioam_run_collect.specs.Exported.{AreFirst, AreFirstOfRun, IsTimely, IsTold, ending_with}
 use Rattle.ioam_run_collect.specs.Paths.{AreOfRun, exports_of}
 use Rattle.ioam_run_collect.proofs.ExportLaws.{reads-run}
@@ -35,7 +35,7 @@ use Rattle.ioam_run_collect.proofs.ReadLaws.{regrouped}
 use Rattle.ioam_run_collect.proofs.WholeLaws.{fronts-read, whole_paths}
 use Rattle.ioam_run_collect.proofs.WithinLaws.{domain_within}
 use Rattle.ioam_run_collect.specs.Gathering.{AreFew, AreWhole, IsPast, Passes}
-use Rattle.ioam_run_audit.specs.Domain.{Domain}
+use Rattle.ioam_topo.specs.declared.domain.Domain.{Domain}
 use Rattle.ioam_run_domain.specs.Traffic as traffic
 use Rattle.ioam_run_domain.specs.Traffic.{Course, HoldsFronts, frame_of, frames_of}
 

@@ -1,6 +1,6 @@
 //! The forms of a command line.
 ghost use Rattle.std.specs.Prelude.{◌≡◌, ◌↔◌, ℕ, IsTrue, MatchOption, codes};
-ghost use Rattle.ioam_cmd.specs.Words.{IsBulk, IsCount, IsForm, IsNoForm, IsNoBulk, IsSeed, IsWorkers};
+ghost use Rattle.ioam_words.specs.Words.{IsBulk, IsCount, IsForm, IsNoForm, IsNoBulk, IsSeed, IsWorkers};
 
 use ioam_base::digits::decimal_below;
 use ioam_base::name::Name;
@@ -94,26 +94,25 @@ fn bulk_of(seed: &Name, count: &Name, workers: &Name) -> Option<Command>
 pub fn parse(words: &[Name]) -> Option<Command>
     ensures { MatchOption result (IsNoForm words.now) (λ command. IsForm command words.now) }
 {
-    match words {
-        [command, _, _, _] if command.text() == "filter" => Some(Command::Filter),
-        [command, _, _] if command.text() == "paths" => Some(Command::Paths),
-        [command, _, _] if command.text() == "show" => Some(Command::Show),
-        [command, _, _] if command.text() == "save" => Some(Command::Save),
-        [command, _, _, _, _, _, _, _, _] if command.text() == "node" => Some(Command::Node),
-        [command, _, _, _, _, _, _] if command.text() == "audit" => Some(Command::Audit),
-        [command, _, _, word, _, _] if command.text() == "run" => {
-            let workers = workers_of(word)?;
+    let command = words.first()?;
+    match (command.text(), words.len()) {
+        ("filter", 4) => Some(Command::Filter),
+        ("paths", 3) => Some(Command::Paths),
+        ("show", 3) => Some(Command::Show),
+        ("save", 3) => Some(Command::Save),
+        ("node", 9) => Some(Command::Node),
+        ("audit", 7) => Some(Command::Audit),
+        ("run", 6) => {
+            let workers = workers_of(&words[3])?;
             Some(Command::Run { workers })
         }
-        [command, seed, count, workers, _] if command.text() == "bulk" => {
-            bulk_of(seed, count, workers)
-        }
-        [command, _, _] if command.text() == "collect" => Some(Command::Collect),
-        [command, _, _] if command.text() == "ipfix" => Some(Command::Ipfix),
-        [command, _, _] if command.text() == "records" => Some(Command::Records),
-        [command, _, _] if command.text() == "part" => Some(Command::Part),
-        [command, _, _, _] if command.text() == "merge" => Some(Command::Merge),
-        [command, _, _] if command.text() == "parts" => Some(Command::Parts),
+        ("bulk", 5) => bulk_of(&words[1], &words[2], &words[3]),
+        ("collect", 3) => Some(Command::Collect),
+        ("ipfix", 3) => Some(Command::Ipfix),
+        ("records", 3) => Some(Command::Records),
+        ("part", 3) => Some(Command::Part),
+        ("merge", 4) => Some(Command::Merge),
+        ("parts", 3) => Some(Command::Parts),
         _ => None,
     }
 }

@@ -5,10 +5,10 @@ use Rattle.std.proofs.lemmas.Bool.{ltb-true, ltb-false}
 use Rattle.std.proofs.lemmas.Fmt.{decimal_injective}
 use Rattle.std.proofs.lemmas.Option.{none-some}
 use Rattle.ioam_base.proofs.DecimalLaws.{decimal_iff}
-use Rattle.ioam_run_audit.specs.Names.{name_at}
-use Rattle.ioam_cmd.specs.Words.{IsCount, IsForm, IsSeed, IsWorkers}
-use Rattle.ioam_cmd.specs.declared.command.Command.{Command}
-use Rattle.ioam_cmd.specs.declared.command.Command.TheVariants.{Filter, Paths, Show, Save, Node, Audit, Run, Bulk, Collect, Ipfix, Records, Part, Merge, Parts}
+use Rattle.ioam_desk_outputs.specs.Names.{name_at}
+use Rattle.ioam_words.specs.Words.{IsCount, IsForm, IsSeed, IsWorkers}
+use Rattle.ioam_words.specs.declared.command.Command.{Command}
+use Rattle.ioam_words.specs.declared.command.Command.TheVariants.{Filter, Paths, Show, Save, Node, Audit, Run, Bulk, Collect, Ipfix, Records, Part, Merge, Parts}
 
 -- the greatest seed
 pub greatest : codes "18446744073709551615" ≡ decimal 18446744073709551615

@@ -1,8 +1,8 @@
 -- The forms of a command line.
 use Rattle.std.specs.Prelude.{◌≡◌, ◌≤◌, ◌<◌, ◌^◌, ℕ, List, length, codes, decimal}
-use Rattle.ioam_run_audit.specs.Names.{name_at}
-use Rattle.ioam_cmd.specs.declared.command.Command.{Command}
-use Rattle.ioam_cmd.specs.declared.command.Command.TheVariants.{Filter, Paths, Show, Save, Node, Audit, Run, Bulk, Collect, Ipfix, Records, Part, Merge, Parts}
+use Rattle.ioam_desk_outputs.specs.Names.{name_at}
+use Rattle.ioam_words.specs.declared.command.Command.{Command}
+use Rattle.ioam_words.specs.declared.command.Command.TheVariants.{Filter, Paths, Show, Save, Node, Audit, Run, Bulk, Collect, Ipfix, Records, Part, Merge, Parts}
 
 -- the word spells a number of workers, 1 to 64, in decimal digits without a sign and without a zero in front
 abbrev pub IsWorkers : ℕ → List ℕ → Type 0

@@ -6,7 +6,7 @@ use Rattle.ioam_run_answer.specs.Sample.{Sample}
 use Rattle.ioam_run_collect.specs.Best.{groups_of}
 use Rattle.ioam_run_collect.specs.Join.{SameMembers, Tree, leaves}
 use Rattle.ioam_run_collect.specs.Keyed.{keyed}
-use Rattle.ioam_cmd.specs.Parted.{AreMerged}
+use Rattle.ioam_run_measured.specs.Parted.{AreMerged}
 use Rattle.ioam_run_answer.specs.Part.{IsPart, PartOf}
 use Rattle.ioam_run_collect.specs.Promise as collect
 use Rattle.ioam_run_collect.specs.Promise.{CollectNames}
@@ -15,18 +15,18 @@ use Rattle.ioam_run_answer.specs.Reads.{Ending, Whole, Faulty, Reads, ReadsOnly}
 use Rattle.ioam_run_answer.specs.Record.{Record}
 use Rattle.ioam_run_domain.specs.Promise as run
 use Rattle.ioam_run_domain.specs.Promise.{HoldsFiles, OfTraffic, RunNames, run_inputs}
-use Rattle.ioam_run_bulk.specs.Fate.{Fate}
-use Rattle.ioam_run_part.specs.GroupsText.{records_text}
-use Rattle.ioam_run_audit.specs.Merging.{PartsArrive}
-use Rattle.ioam_run_audit.specs.Names.{name_at}
-use Rattle.ioam_run_audit.specs.Merge.{Arrival}
-use Rattle.ioam_run_audit.specs.Turn.TheVariants as turn
+use Rattle.ioam_run_arrivals.specs.Fate.{Fate}
+use Rattle.ioam_report_groups.specs.GroupsText.{records_text}
+use Rattle.ioam_capture_merge.specs.Merging.{PartsArrive}
+use Rattle.ioam_desk_outputs.specs.Names.{name_at}
+use Rattle.ioam_capture.specs.Merge.{Arrival}
+use Rattle.ioam_capture.specs.declared.turns.Turn.TheVariants as turn
 use Rattle.ioam_run_answer.specs.declared.outcome.Outcome.{Outcome}
 use Rattle.ioam_run_answer.specs.declared.outcome.Outcome.TheVariants as outcome
 use Rattle.ioam_run_collect.specs.Exported.{AreFirst, AreWholePaths, ReadsFront, ending_with}
 use Rattle.ioam_run_collect.specs.Paths.{AreRegrouped, exports_of}
 use Rattle.ioam_run_collect.specs.Gathering.{AreFew, IsPast}
-use Rattle.ioam_run_audit.specs.Domain.{Domain}
+use Rattle.ioam_topo.specs.declared.domain.Domain.{Domain}
 use Rattle.ioam_run_domain.specs.Traffic.{Course, HoldsFronts, ArePassed, AreOpened, Arrive}
 
 -- ---- what `collect` makes of octets that read as these records, and end so

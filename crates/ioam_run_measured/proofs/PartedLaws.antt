@@ -9,7 +9,7 @@ use Rattle.ioam_run_answer.specs.Record.{Record}
 use Rattle.ioam_run_answer.specs.Part.{IsPart, PartOf}
 use Rattle.ioam_run_answer.proofs.PartLaws.{groups_same, part_unique}
 use Rattle.ioam_run_answer.specs.Entry.{Entry}
-use Rattle.ioam_cmd.specs.Parted.{AreMerged}
+use Rattle.ioam_run_measured.specs.Parted.{AreMerged}
 
 -- the records of a part are those of the groups that it is the part of
 pairs_of : (octets : List ℕ) (records : List Record) (groups : List (Key × List Entry)) → IsPart octets records → PartOf octets groups

@@ -1,4 +1,4 @@
-//! The forms of the command line, for those who asked for none of them.
+//! What is said to those who asked for no command: the forms that there are.
 use ioam_base::name::Name;
 use std::io::Eprint;
 

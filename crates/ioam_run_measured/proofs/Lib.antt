@@ -1,0 +1,2 @@
+pub mod MeasuredLaws
+mod PartedLaws
