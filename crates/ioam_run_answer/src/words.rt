@@ -1,8 +1,11 @@
-//! The words for faults of the domain file and of readings.
-ghost use Rattle.std.specs.Prelude.{◌≡◌, true};
-ghost use Rattle.ioam_run_answer.specs.Answers.{table_text, field_text, is_flow_key, why_text, read_why_text};
+//! The words for faults.
+ghost use Rattle.std.specs.Prelude.{◌≡◌, ◌++◌, codes, decimal, true};
+ghost use Rattle.ioam_run_answer.specs.Answers.{table_text, field_text, is_flow_key, why_text, read_why_text, fault_text, export_text, ipfix_text};
 
 use ioam_clock::ReadWhy;
+use ioam_dex::ExportFault;
+use ioam_ipfix::IpfixFault;
+use ioam_pcap::CapFault;
 use ioam_topo_entries::{Field, Table, Why};
 
 /// The word for a table of the domain file.
@@ -106,5 +109,52 @@ pub fn read_why_text(why: ReadWhy) -> &'static str
         ReadWhy::Node => "node",
         ReadWhy::Number => "number",
         ReadWhy::Order => "order",
+    }
+}
+
+/// The word for a capture's fault, and the number that was found.
+pub fn capture_words(fault: CapFault) -> (&'static str, u64)
+    ensures { fault_text fault ≡ result.0.now ++ codes " " ++ decimal result.1 }
+{
+    match fault {
+        CapFault::Magic { found } => ("magic", u64::from(found)),
+        CapFault::Blocks { limit } => ("blocks", u64::from(limit)),
+        CapFault::Order { found } => ("order", u64::from(found)),
+        CapFault::Large { found } => ("large", u64::from(found)),
+        CapFault::Size { found } => ("size", u64::from(found)),
+        CapFault::Trail { found } => ("trail", u64::from(found)),
+        CapFault::Kind { found } => ("kind", u64::from(found)),
+        CapFault::Face { found } => ("face", u64::from(found)),
+        CapFault::Link { found } => ("link", u64::from(found)),
+        CapFault::Resolution { found } => ("resolution", u64::from(found)),
+        CapFault::RecordLong { found } => ("long", u64::from(found)),
+        CapFault::Time { found } => ("time", found),
+        CapFault::Short { have } => ("short", u64::from(have)),
+    }
+}
+
+/// The word for a record's fault, and the number that was found.
+pub fn export_words(fault: ExportFault) -> (&'static str, u64)
+    ensures { export_text fault ≡ result.0.now ++ codes " " ++ decimal result.1 }
+{
+    match fault {
+        ExportFault::Version { found } => ("version", u64::from(found)),
+        ExportFault::Length { found } => ("length", u64::from(found)),
+        ExportFault::Element { at } => ("element", u64::from(at)),
+        ExportFault::Short { have } => ("short", u64::from(have)),
+    }
+}
+
+/// The word for a message's fault, and the number that was found.
+pub fn ipfix_words(fault: IpfixFault) -> (&'static str, u64)
+    ensures { ipfix_text fault ≡ result.0.now ++ codes " " ++ decimal result.1 }
+{
+    match fault {
+        IpfixFault::Version { found } => ("version", u64::from(found)),
+        IpfixFault::Length { found } => ("length", u64::from(found)),
+        IpfixFault::Set { found } => ("set", u64::from(found)),
+        IpfixFault::Template { found } => ("template", u64::from(found)),
+        IpfixFault::Field { at } => ("field", u64::from(at)),
+        IpfixFault::Short { have } => ("short", u64::from(have)),
     }
 }
