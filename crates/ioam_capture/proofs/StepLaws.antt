@@ -1,6 +1,6 @@
 -- What a step of a form's reader leaves of a reader of either form.
 use Rattle.std.proofs.Common.{◌≡◌, ℕ, ◌≤◌, List, [], ◌∷◌, ◌++◌, length, Option, Some, None, arith, refl, sym, ap, ◌∙◌, subst, inl, inr}
-use Rattle.std.specs.Prelude.{map}
+use Rattle.std.specs.Prelude.{⊤, map}
 use Rattle.std.proofs.lemmas.List.{append-nil, map-append}
 use Rattle.ioam_pcap.specs.declared.capture.CapFault.{CapFault}
 use Rattle.ioam_pcap.specs.declared.capture.CapStep.{CapStep}
@@ -26,6 +26,16 @@ use Rattle.ioam_capture.proofs.ReadsLaws.{IsNg-behind, not_ng-behind, Reads-uniq
 use Rattle.ioam_capture.proofs.StandsLaws.{Stands-shows}
 
 -- ---- of either form
+
+-- memory was wanted by `NoMemory` alone
+abbrev pub WantsNone : Step → Type 0
+WantsNone (Packet link p) = ⊤
+WantsNone More = ⊤
+WantsNone (Bad at f) = ⊤
+WantsNone NoMemory = ⊥
+
+pub wants_none : (step : Step) → WantsNone step → step ≡ NoMemory → ⊥
+wants_none step none same = subst WantsNone same none
 
 module _ (old new : Reading) (same : fed new ≡ fed old) (less : length (pending new) ≤ length (pending old)) (kept : held new ≡ held old) where
   nothing_more : (octets : List ℕ) (taken : List Taken) → Stands new octets taken → Stands new octets (taken ++ [])

@@ -91,6 +91,6 @@ pub(crate) fn due_classic(reader: &mut CaptureReader, ended: bool) -> Due
         CapStep::More => waiting(reader, ended),
         CapStep::Bad { at, fault } => Due::Bad { at, fault },
         // No record is read before the head.
-        CapStep::Packet(_) => Due::End,
+        CapStep::Packet(_) => unreachable!(),
     }
 }

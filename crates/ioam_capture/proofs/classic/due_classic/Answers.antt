@@ -39,3 +39,24 @@ pub returns-in-Bad-clause-faulty : goal.returns-in-Bad-clause-faulty
 returns-in-Bad-clause-faulty c =
     let told = rw c.in-Bad.is at c.next.follows.holds-at-none in
     keeps_fault (Classic c.args.reader.now) _ (ap Classic told.0.0)
+
+pub returns-in-Head-clause-few : goal.returns-in-Head-clause-few
+returns-in-Head-clause-few c = c.due_record-in-Head.ensures.few
+
+pub returns-in-Head-clause-stands : goal.returns-in-Head-clause-stands
+returns-in-Head-clause-stands c =
+    let told = rw c.in-Head.is at c.next.follows.holds-at-none in
+    (classic_head c.args.reader.now c.next.follows.lender-at-none c.in-Head.link told.0 told.1).2
+
+pub returns-in-Head-clause-kept : goal.returns-in-Head-clause-kept
+returns-in-Head-clause-kept c =
+    let told = rw c.in-Head.is at c.next.follows.holds-at-none in
+    (classic_head c.args.reader.now c.next.follows.lender-at-none c.in-Head.link told.0 told.1).1
+
+pub returns-in-More-clause-few : goal.returns-in-More-clause-few
+returns-in-More-clause-few c = c.waiting.ensures.few
+
+pub returns-in-More-clause-held : goal.returns-in-More-clause-held
+returns-in-More-clause-held c =
+    let told = rw c.in-More.is at c.next.follows.holds-at-none in
+    told.3

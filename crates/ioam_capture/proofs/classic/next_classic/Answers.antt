@@ -2,7 +2,8 @@ use Rattle.std.proofs.Common.{refl}
 use Rattle.ioam_pcap.specs.declared.capture.CapStep.TheVariants.{Head, More, Bad}
 use Rattle.ioam_capture.specs.Reading.{Classic}
 use Rattle.ioam_capture.proofs.FaultLaws.{classic_says}
-use Rattle.ioam_capture.proofs.StepLaws.{classic_head, classic_more, classic_bad, leaves_after}
+use Rattle.ioam_capture.proofs.StepLaws.{classic_head, classic_more, classic_bad, leaves_after, wants_none}
+use Rattle.ioam_capture.specs.declared.reader.Step.TheVariants as step
 use Rattle.ioam_capture.proofs.classic.next_classic.Goals as goal
 
 pub returns-in-Head : goal.returns-in-Head
@@ -19,9 +20,9 @@ returns-in-Head c =
 pub returns-in-More : goal.returns-in-More
 returns-in-More c =
     let told = rw c.in-More.is at c.next.follows.holds-at-none in
-    ((refl, λ _. tt, classic_more c.args.reader.now c.next.follows.lender-at-none told.0), record { rests = tt; memory = λ none. cc; faulty = classic_says c.args.reader.now More told.2 })
+    ((refl, λ _. tt, classic_more c.args.reader.now c.next.follows.lender-at-none told.0), record { rests = tt; memory = wants_none step.More tt; faulty = classic_says c.args.reader.now More told.2 })
 
 pub returns-in-Bad : goal.returns-in-Bad
 returns-in-Bad c =
     let told = rw c.in-Bad.is at c.next.follows.holds-at-none in
-    ((refl, λ _. tt, classic_bad c.args.reader.now c.next.follows.lender-at-none c.in-Bad.at c.in-Bad.fault told.0 told.1), record { rests = tt; memory = λ none. cc; faulty = classic_says c.args.reader.now (Bad c.in-Bad.at c.in-Bad.fault) told.2 })
+    ((refl, λ _. tt, classic_bad c.args.reader.now c.next.follows.lender-at-none c.in-Bad.at c.in-Bad.fault told.0 told.1), record { rests = tt; memory = wants_none (step.Bad c.in-Bad.at c.in-Bad.fault) tt; faulty = classic_says c.args.reader.now (Bad c.in-Bad.at c.in-Bad.fault) told.2 })
