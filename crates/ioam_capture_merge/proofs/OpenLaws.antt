@@ -5,8 +5,8 @@ use Rattle.std.proofs.lemmas.Bool.{cases_lt}
 use Rattle.std.proofs.lemmas.List.{take_more}
 use Rattle.std.proofs.lemmas.Option.{none-some, same_Some, slice_get-map, slice_get_read}
 use Rattle.ioam_desk.specs.Desk as desk
-use Rattle.ioam_desk.specs.Asked.{AsksFront}
-use Rattle.ioam_desk.specs.Desk.{Side, Writing, OpensInput, OpenIn, holds, opened_side, opened_each}
+use Rattle.ioam_desk.specs.Asked.{AsksFront, IsFaultOf}
+use Rattle.ioam_desk.specs.Desk.{Rose, Side, Writing, OpensInput, OpenIn, holds, opened_side, opened_each}
 use Rattle.ioam_desk.specs.Unread.{Unread}
 use Rattle.ioam_desk.specs.declared.fault.DeskFault.{DeskFault}
 use Rattle.ioam_desk.specs.declared.fault.DeskFault.TheVariants.{Failed, NoMemory}
@@ -15,7 +15,7 @@ use Rattle.ioam_capture.specs.Arrives.{Handed}
 use Rattle.ioam_capture.specs.Reading.{Reading, fresh, pending, most_held}
 use Rattle.ioam_capture.specs.declared.turns.Due.TheVariants.{More}
 use Rattle.ioam_capture.proofs.ArrivesLaws.{Arrives-total}
-use Rattle.ioam_capture_merge.specs.Merging.{AreUnread, Begins, EndsKept, Start, Row, IsRow, Merging, with_content, start_of, slot_of}
+use Rattle.ioam_capture_merge.specs.Merging.{AreUnread, Begins, EndsKept, LeavesFewer, Start, Row, IsRow, Merging, with_content, start_of, slot_of}
 use Rattle.ioam_capture_merge.specs.declared.capture.Capture.{Capture}
 use Rattle.ioam_capture_merge.specs.declared.merge.Merge.{Merge}
 use Rattle.ioam_capture_merge.proofs.MergingLaws.{Lane-other, map_length, same_slot}
@@ -159,8 +159,29 @@ pub failing_kept : (tells : Bool) (old new : desk.Reading) (held : Option (List 
 failing_kept tells old new held name Failed fails = λ k below. same_slot old new k (ap (λ f. f k) fails.1) (ap (λ f. f k) fails.2)
 failing_kept tells old new held name NoMemory fails = λ k below. ap (λ (r : desk.Reading). slot_of r k) fails
 
+-- an opening that failed asked for the name or for none, and made no slot
+pub failing_asked : (tells : Bool) (old new : desk.Reading) (held : Option (List ℕ)) (name : List ℕ) (fault : DeskFault) → OpenIn tells old held name (Err fault) new
+    → AsksFront old.side.asked new.side.asked (name ∷ [])
+failing_asked tells old new held name Failed fails = (1, fails.0.asked)
+failing_asked tells old new held name NoMemory fails = (0, ap (λ (r : desk.Reading). r.side.asked) fails ∙ sym (append-nil old.side.asked))
+
+pub failing_fewer : (tells : Bool) (old new : desk.Reading) (held : Option (List ℕ)) (name : List ℕ) (fault : DeskFault) → OpenIn tells old held name (Err fault) new
+    → LeavesFewer fault new.side.slots (old.side.slots + 1)
+failing_fewer tells old new held name Failed fails = omega (arith, fails.0.slots)
+failing_fewer tells old new held name NoMemory fails = tt
+
 pub kept_on : (base : ℕ) (a b c : desk.Reading) → base ≤ b.side.slots → EndsKept base a b → EndsKept b.side.slots b c → EndsKept base a c
 kept_on base a b c inside first second = λ k below. second k (omega (arith, below, inside)) ∙ first k below
+
+-- a fault behind openings that didn't fail
+pub fault_more : (start before after : Side) (names : List (List ℕ)) (fault : DeskFault) → before ≡ opened_each start names → IsFaultOf before after fault
+    → IsFaultOf start after fault
+fault_more start before after names Failed side rose = subst (λ (n : ℕ). Rose n after.faults) (ap (λ (s : Side). s.faults) side) rose
+fault_more start before after names NoMemory side same = same ∙ ap (λ (s : Side). s.faults) side
+
+pub fewer_more : (fault : DeskFault) (slots most more : ℕ) → most ≤ more → LeavesFewer fault slots most → LeavesFewer fault slots more
+fewer_more Failed slots most more inside fewer = omega (arith, inside, fewer)
+fewer_more NoMemory slots most more inside fewer = tt
 
 -- an opening reads nothing, whatever it answers
 pub opening_unread : (tells : Bool) (old new : desk.Reading) (outputs : Writing) (name : List ℕ) (slot : ℕ) → OpensInput tells old new (holds outputs name) name slot

@@ -1,7 +1,9 @@
-use Rattle.std.proofs.Common.{◌≡◌, ◌<◌, ◌∙◌, ◌∷◌, ◌++◌, List, ℕ, length, append-nil, [], take, get_or, refl, sym, ap, subst, arith}
+use Rattle.std.proofs.Common.{◌≡◌, ◌<◌, ◌≤◌, ◌+◌, ◌∙◌, ◌∷◌, ◌++◌, List, ℕ, length, append-nil, [], take, get_or, length-take, refl, sym, ap, subst, arith}
+use Rattle.std.proofs.lemmas.List.{take_all}
+use Rattle.std.proofs.lemmas.Result.{err_from_is_err_and}
 use Rattle.ioam_desk.specs.Desk.{Side, Writing, holds, opened_each}
 use Rattle.ioam_capture_merge.specs.Merging.{AreUnread, Start, Merging, start_of, with_content}
-use Rattle.ioam_capture_merge.proofs.OpenLaws.{Merging-none, start_more, side_more, asks_more, kept_on, unread_more}
+use Rattle.ioam_capture_merge.proofs.OpenLaws.{Merging-none, start_more, side_more, asks_more, kept_on, unread_more, fault_more, fewer_more}
 use Rattle.ioam_capture_merge.proofs.open.open_merge.Goals as goal
 
 pub names-init : goal.names-init
@@ -71,3 +73,44 @@ returns-in_err-open_one-clause-unread g c = λ told.
 
 pub returns-in-Err-clause-unread : goal.returns-in-Err-clause-unread
 returns-in-Err-clause-unread g c = λ told k below. absurd (omega (arith, below))
+
+pub returns-in_err-open_one-clause-opened : goal.returns-in_err-open_one-clause-opened
+returns-in_err-open_one-clause-opened g c =
+    let p = err_from_is_err_and c.from_residual.result c.from_residual.ensures.1 in
+    rw p.1 tt
+
+pub returns-in_err-open_one-clause-side : goal.returns-in_err-open_one-clause-side
+returns-in_err-open_one-clause-side g c =
+    let p = err_from_is_err_and c.from_residual.result c.from_residual.ensures.1 in
+    rw p.1 tt
+
+pub returns-in_err-open_one-clause-cause : goal.returns-in_err-open_one-clause-cause
+returns-in_err-open_one-clause-cause g c =
+    let p = err_from_is_err_and c.from_residual.result c.from_residual.ensures.1 in
+    rw (p.1, p.2) (fault_more (g.D.Desk.reading c.args.desk.now).side (g.D.Desk.reading c.names.desk).side (g.D.Desk.reading c.open_one.new.desk).side
+    (take c.names.name-index c.args.names.now) c.in_err-open_one.field-0.0 c.names.invariant.side c.in_err-open_one.ensures.cause)
+
+pub returns-in_err-open_one-clause-fewer : goal.returns-in_err-open_one-clause-fewer
+returns-in_err-open_one-clause-fewer g c =
+    let p = err_from_is_err_and c.from_residual.result c.from_residual.ensures.1 in
+    let inside : c.names.name-index < length c.args.names.now = omega arith in
+    let most : (g.D.Desk.reading c.names.desk).side.slots + 1 ≤ (g.D.Desk.reading c.args.desk.now).side.slots + length c.args.names.now =
+    omega (arith, inside, ap (λ (s : Side). s.slots) c.names.invariant.side, length-take c.names.name-index c.args.names.now) in
+    rw (p.1, p.2) (fewer_more c.in_err-open_one.field-0.0 (g.D.Desk.reading c.open_one.new.desk).side.slots ((g.D.Desk.reading c.names.desk).side.slots + 1)
+    ((g.D.Desk.reading c.args.desk.now).side.slots + length c.args.names.now) most c.in_err-open_one.ensures.fewer)
+
+pub returns-in_err-open_one-clause-outputs : goal.returns-in_err-open_one-clause-outputs
+returns-in_err-open_one-clause-outputs g c = c.in_err-open_one.ensures.outputs ∙ c.names.invariant.outputs
+
+pub returns-clause-opened : goal.returns-clause-opened
+returns-clause-opened g c =
+    let P : List (List ℕ) → Type 0 = λ xs. Merging g.D.Desk.tells (start_of (g.D.Desk.reading c.args.desk.now).side.slots (g.D.Desk.writing c.args.desk.now) xs)
+    (g.D.Desk.reading c.names.desk) c.names.merge [] in
+    subst P (take_all c.names.name-index c.args.names.now c.names-test.false) c.names.invariant.merging
+
+pub returns-clause-side : goal.returns-clause-side
+returns-clause-side g c =
+    c.names.invariant.side ∙ ap (opened_each (g.D.Desk.reading c.args.desk.now).side) (take_all c.names.name-index c.args.names.now c.names-test.false)
+
+pub returns-clause-asked : goal.returns-clause-asked
+returns-clause-asked g c = (c.names.name-index, ap (λ (s : Side). s.asked) c.names.invariant.side)
