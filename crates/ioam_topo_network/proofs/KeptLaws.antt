@@ -1,5 +1,5 @@
 -- Laws of what is true of a domain's tables, from what its file reads as.
-use Rattle.std.proofs.Common.{◌≡◌, ◌≢◌, ◌<◌, ◌≤◌, ℕ, Bool, true, false, nat_eq, cond, codes, List, map, length, Option, Some, None, option_map, unwrap_or, slice_get, is_some, Result, Ok, Err, refl, ap, sym, subst, ◌∙◌, arith}
+use Rattle.std.proofs.Common.{◌≡◌, ◌≢◌, ◌<◌, ℕ, Bool, true, false, nat_eq, cond, codes, List, map, length, Option, Some, None, option_map, unwrap_or, slice_get, is_some, Result, Ok, Err, refl, ap, sym, subst, ◌∙◌, arith}
 use Rattle.std.proofs.lemmas.Option.{slice_get-map, slice_get_cases}
 use Rattle.toml.specs.Data.{Data, Members, get_member}
 use Rattle.ioam_topo_values.specs.declared.why.Why.{Why}

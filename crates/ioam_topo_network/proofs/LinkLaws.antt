@@ -1,9 +1,8 @@
 -- Laws of the links that are collected.
 use Rattle.std.proofs.Common.{◌≡◌, ◌≤◌, ℕ, ◌+◌, List, [], ◌∷◌, ◌++◌, length, map, Ok, Err, Result, refl, ap, sym, ◌∙◌, arith}
 use Rattle.toml.specs.Data.{Members}
-use Rattle.std.proofs.Common.{Bool, true, false, cond, nat_lt, Option, Some, None, subst}
+use Rattle.std.proofs.Common.{Bool, true, false, cond, nat_lt, Option, Some, None}
 use Rattle.std.proofs.lemmas.Bool.Decides.{nat_tests}
-use Rattle.std.specs.List.{All}
 use Rattle.toml.specs.Data.{Data}
 use Rattle.ioam_topo_values.specs.declared.why.Why.{Why}
 use Rattle.ioam_topo_values.specs.declared.why.Why.TheVariants.{TooMany}

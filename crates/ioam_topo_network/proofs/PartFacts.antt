@@ -5,8 +5,7 @@ use Rattle.std.proofs.lemmas.Bool.Decides.{nat_tests}
 use Rattle.toml.specs.Data.{Data, Members, get_member, string, integer, float, boolean, datetime, array, table}
 use Rattle.ioam_data.specs.declared.namespace.Namespace.{Namespace}
 use Rattle.ioam_topo_values.specs.declared.why.Why.{Why}
-use Rattle.ioam_topo_values.specs.Reads.{◌▷◌, needed, maybe, optional}
-use Rattle.ioam_topo_values.specs.Numbers.{number}
+use Rattle.ioam_topo_values.specs.Reads.{◌▷◌, maybe, optional}
 use Rattle.ioam_topo_values.specs.Texts.{file_name}
 use Rattle.ioam_topo_values.specs.Entries.{namespaces, are_whole, spaces, apart, at_most}
 use Rattle.ioam_topo.specs.declared.parts.Node.{Node}
@@ -15,7 +14,7 @@ use Rattle.ioam_topo_entries.specs.Goods.{goods}
 use Rattle.ioam_topo_network.specs.NodeTable.{node_of, node_name, node_id, node_address, node_spaces}
 use Rattle.ioam_topo_network.specs.LinkTable.{link_of, link_name, link_from, link_to, link_out_id, link_in_id, link_delay, link_mtu}
 use Rattle.ioam_topo.specs.Sound.{IsNode, IsLink}
-use Rattle.ioam_topo_entries.proofs.ReadLaws.{number_bounds, needed_bounds}
+use Rattle.ioam_topo_entries.proofs.ReadLaws.{needed_bounds}
 use Rattle.ioam_topo_entries.proofs.GoodsLaws.{goods_all}
 
 few_in : (most : ℕ) (ss out : List Namespace) (b : Bool) → nat_le (length ss) most ≡ b → cond b (Ok ss) (Err Why.TooMany) ≡ Ok out → length out ≤ most

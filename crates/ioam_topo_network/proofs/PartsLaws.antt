@@ -1,30 +1,32 @@
 -- Laws of the tables of places, behind nodes that were read.
-use Rattle.std.proofs.Common.{◌≡◌, ℕ, List, codes, map, ap, ◌∙◌, subst}
+use Rattle.std.proofs.Common.{◌≡◌, ℕ, List, [], ◌++◌, codes, ap, sym, ◌∙◌, subst}
 use Rattle.toml.specs.Data.{Members, get_member}
 use Rattle.ioam_topo_tables.specs.declared.nodes.Nodes.{Nodes}
 use Rattle.ioam_topo_tables.specs.declared.links.Links.{Links}
 use Rattle.ioam_topo_tables.specs.declared.ports.Ports.{Ports}
 use Rattle.ioam_topo_tables.specs.declared.routes.Parts.{Parts}
 use Rattle.ioam_topo_tables.specs.declared.routes.Routes.{Routes}
-use Rattle.ioam_topo_entries.specs.declared.words.Table.TheVariants.{LinkTable, PortTable, RouteTable}
+use Rattle.ioam_topo_entries.specs.declared.words.Table.TheVariants.{NodeTable, LinkTable, PortTable, RouteTable}
+use Rattle.ioam_topo_entries.specs.declared.fault.DomainFault.{DomainFault}
 use Rattle.ioam_topo_entries.specs.Faults.{table_faults}
+use Rattle.ioam_topo_network.specs.NodeTable.{node_faults}
 use Rattle.ioam_topo_network.specs.NodeRead.{HoldsNodes}
 use Rattle.ioam_topo_network.specs.LinkTable.{link_faults}
 use Rattle.ioam_topo_network.specs.LinkRead.{HoldsLinks}
 use Rattle.ioam_topo_network.specs.PortTable.{port_faults}
 use Rattle.ioam_topo_network.specs.PortRead.{HoldsPorts}
 use Rattle.ioam_topo_network.specs.RouteRead.{HoldsRoutes, faults_behind}
-use Rattle.ioam_topo_network.specs.Places.{node_entries, link_entries, port_entries, route_entries, node_names, route_table_faults, routes_of, HoldsParts}
+use Rattle.ioam_topo_network.specs.Places.{node_entries, link_entries, port_entries, route_entries, node_names, part_faults, route_table_faults, routes_of, HoldsParts}
 
-pub links_same : (taps : ℕ) (t : Members) (nodes : Nodes) → HoldsNodes (node_entries t) nodes
+-- the faults of links and ports behind nodes without faults
+pub joined_same : (taps : ℕ) (t : Members) (nodes : Nodes) → HoldsNodes (node_entries t) nodes
+    → table_faults NodeTable 256 (get_member (codes "node") t) node_faults ≡ []
     → table_faults LinkTable 1024 (get_member (codes "link") t) (link_faults nodes.names taps)
-    ≡ table_faults LinkTable 1024 (get_member (codes "link") t) (link_faults (node_names t) taps)
-links_same taps t nodes holds = ap (λ n. table_faults LinkTable 1024 (get_member (codes "link") t) (link_faults n taps)) holds.names
-
-pub ports_same : (t : Members) (nodes : Nodes) → HoldsNodes (node_entries t) nodes
-    → table_faults PortTable 64 (get_member (codes "port") t) (port_faults nodes.names)
-    ≡ table_faults PortTable 64 (get_member (codes "port") t) (port_faults (node_names t))
-ports_same t nodes holds = ap (λ n. table_faults PortTable 64 (get_member (codes "port") t) (port_faults n)) holds.names
+    ++ table_faults PortTable 64 (get_member (codes "port") t) (port_faults nodes.names) ≡ part_faults taps t
+joined_same taps t nodes holds none =
+    let behind : List (List ℕ) → List DomainFault = λ n. table_faults LinkTable 1024 (get_member (codes "link") t) (link_faults n taps)
+    ++ table_faults PortTable 64 (get_member (codes "port") t) (port_faults n) in
+    ap behind holds.names ∙ sym (ap (λ l. l ++ behind (node_names t)) none)
 
 pub routes_same : (taps : ℕ) (t : Members) (parts : Parts) → HoldsParts taps t parts
     → table_faults RouteTable 16384 (get_member (codes "route") t) (faults_behind parts) ≡ route_table_faults t

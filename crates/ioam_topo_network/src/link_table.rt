@@ -90,28 +90,34 @@ pub(crate) fn maybe_copied(alloc: Global, text: Option<&str>) -> Result<Option<N
 }
 
 // A link of these parts.
-fn link_of(name: Name, ends: Ends, numbers: Numbers, tap: Option<Name>) -> Link
-    ensures { result ≡ record {
-      name = name;
+fn link_of(
+    alloc: Global,
+    name: &str,
+    ends: Ends,
+    numbers: Numbers,
+    tap: Option<&str>,
+) -> Result<Link, NoMemory>
+    ensures { IfOk result (λ link. link ≡ record {
+      name = name.now;
       from = record { 0 = ends.from };
       to = record { 0 = ends.to };
       out_id = numbers.out_id;
       in_id = numbers.in_id;
       delay = numbers.delay;
       mtu = numbers.mtu;
-      tap = tap;
-    } }
+      tap = option_map (λ t. t.now) tap.entry;
+    }) }
 {
-    Link {
-        name,
+    Ok(Link {
+        name: Name::new(alloc, name)?,
         from: NodeId(ends.from),
         to: NodeId(ends.to),
         out_id: numbers.out_id,
         in_id: numbers.in_id,
         delay: numbers.delay,
         mtu: numbers.mtu,
-        tap,
-    }
+        tap: maybe_copied(alloc, tap)?,
+    })
 }
 
 // The link of an entry, with its name.
@@ -135,9 +141,9 @@ fn read_link<'a>(
     let ends = link_ends(spot, nodes, entry)?;
     let numbers = link_numbers(spot, entry)?;
     let tap = spot.key(Field::TapKey, tap(most_taps, links.taps, entry))?;
-    match (Name::new(alloc, text), maybe_copied(alloc, tap)) {
-        (Ok(name), Ok(tap)) => Ok((text, link_of(name, ends, numbers, tap))),
-        _ => Err(DomainRefused::NoMemory),
+    match link_of(alloc, text, ends, numbers, tap) {
+        Ok(link) => Ok((text, link)),
+        Err(_) => Err(DomainRefused::NoMemory),
     }
 }
 

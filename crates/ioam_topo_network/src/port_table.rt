@@ -1,5 +1,5 @@
 //! The table `port`.
-ghost use Rattle.std.specs.Prelude.{◌≡◌};
+ghost use Rattle.std.specs.Prelude.{◌≡◌, IfOk, option_map};
 ghost use Rattle.toml.specs.View.{table_view};
 ghost use Rattle.ioam_topo_entries.specs.Faults.{Gives};
 ghost use Rattle.ioam_topo_network.specs.PortTable.{port_keys};
@@ -7,6 +7,7 @@ ghost use Rattle.ioam_topo_network.specs.PortRead.{IsNewPort};
 
 use crate::before::AmongNodes;
 use crate::link_table::maybe_copied;
+use ioam_base::memory::NoMemory;
 use ioam_base::name::Name;
 use ioam_topo::{NodeId, Port};
 use ioam_topo_entries::{
@@ -15,6 +16,32 @@ use ioam_topo_entries::{
 use ioam_topo_tables::{Nodes, Ports};
 use ioam_topo_values::{file_name, maybe_file_name};
 use std::alloc::Global;
+
+// A port of these parts.
+fn port_of(
+    alloc: Global,
+    name: &str,
+    node: NodeId,
+    id: u32,
+    input: Option<&str>,
+    output: &str,
+) -> Result<Port, NoMemory>
+    ensures { IfOk result (λ port. port ≡ record {
+      name = name.now;
+      node = node;
+      id = id;
+      input = option_map (λ t. t.now) input.entry;
+      output = output.now;
+    }) }
+{
+    Ok(Port {
+        name: Name::new(alloc, name)?,
+        node,
+        id,
+        input: maybe_copied(alloc, input)?,
+        output: Name::new(alloc, output)?,
+    })
+}
 
 // The port of an entry, with its name.
 fn read_port<'a>(
@@ -37,22 +64,9 @@ fn read_port<'a>(
     let id = spot.key(Field::IdKey, number32(entry, "id", 0, 4_294_967_295))?;
     let input = spot.key(Field::InKey, maybe_file_name(entry, "in"))?;
     let output = spot.key(Field::OutKey, file_name(entry, "out"))?;
-    match (
-        Name::new(alloc, text),
-        maybe_copied(alloc, input),
-        Name::new(alloc, output),
-    ) {
-        (Ok(name), Ok(input), Ok(output)) => Ok((
-            text,
-            Port {
-                name,
-                node: NodeId(node),
-                id,
-                input,
-                output,
-            },
-        )),
-        _ => Err(DomainRefused::NoMemory),
+    match port_of(alloc, text, NodeId(node), id, input, output) {
+        Ok(port) => Ok((text, port)),
+        Err(_) => Err(DomainRefused::NoMemory),
     }
 }
 

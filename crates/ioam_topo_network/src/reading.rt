@@ -1,5 +1,5 @@
 //! The nodes, links, ports and routes of a domain file.
-ghost use Rattle.std.specs.Prelude.{◌≡◌, codes};
+ghost use Rattle.std.specs.Prelude.{◌≡◌, ◌++◌, codes};
 ghost use Rattle.toml.specs.Data.{get_member};
 ghost use Rattle.toml.specs.View.{table_view};
 ghost use Rattle.ioam_topo_values.specs.Entries.{entries};
@@ -79,6 +79,23 @@ fn read_ports(alloc: Global, top: &toml::Table, nodes: &Nodes) -> Result<Ports, 
     )
 }
 
+// The links and the ports of a file, whose nodes these are.
+fn read_joined(
+    alloc: Global,
+    top: &toml::Table,
+    nodes: &Nodes,
+    taps: u32,
+) -> Result<(Links, Ports), DomainRefused>
+    ensures { Gives result (table_faults LinkTable 1024 (get_member (codes "link") (table_view top.now)) (link_faults nodes.now.names taps)
+        ++ table_faults PortTable 64 (get_member (codes "port") (table_view top.now)) (port_faults nodes.now.names))
+        (λ both. HoldsLinks nodes.now.names taps (link_entries (table_view top.now)) both.0
+        × HoldsPorts nodes.now.names (port_entries (table_view top.now)) both.1) }
+{
+    let links = read_links(alloc, top, nodes, taps)?;
+    let ports = read_ports(alloc, top, nodes)?;
+    Ok((links, ports))
+}
+
 /// The nodes, links and ports of a file, or the first fault of these tables. No more than `taps`
 /// links may have a tap. Where there is no memory, NoMemory may be answered in place of anything
 /// else.
@@ -86,8 +103,7 @@ pub fn read_parts(alloc: Global, top: &toml::Table, taps: u32) -> Result<Parts, 
     ensures { Gives result (part_faults taps (table_view top.now)) (HoldsParts taps (table_view top.now)) }
 {
     let nodes = read_nodes(alloc, top)?;
-    let links = read_links(alloc, top, &nodes, taps)?;
-    let ports = read_ports(alloc, top, &nodes)?;
+    let (links, ports) = read_joined(alloc, top, &nodes, taps)?;
     Ok(Parts {
         nodes,
         links,

@@ -33,15 +33,15 @@ returns-in_err-numbers c =
     rw (p.1, p.2) (gives_first c.in_err-numbers.field-0.0 _ (at LinkTable c.args.place TapKey (link_tap c.args.most_taps c.args.links.now.taps (table_view c.args.entry.now))) _ _ _
     (rw (a, b, e)) c.in_err-numbers.ensures)
 
-pub returns-in-Ok-Ok : goal.returns-in-Ok-Ok
-returns-in-Ok-Ok c =
+pub returns-in-Ok : goal.returns-in-Ok
+returns-in-Ok c =
     let a : at LinkTable c.args.place OtherKey (own_keys LinkTable (table_view c.args.entry.now)) ≡ [] = search rules in
     let b : at LinkTable c.args.place NameKey (link_name (table_view c.args.entry.now) ▷ fresh bytes_eq c.args.links.now.names) ≡ [] = search rules in
     let e : end_keys c.args.nodes.now.names c.args.place (table_view c.args.entry.now) ≡ [] = c.in_ok-ends.ensures.0 in
     let n : number_keys c.args.place (table_view c.args.entry.now) ≡ [] = c.in_ok-numbers.ensures.0 in
-    let t : link_tap c.args.most_taps c.args.links.now.taps (table_view c.args.entry.now) ≡ Ok c.in-Ok-Ok.tap = search rules in
+    let t : link_tap c.args.most_taps c.args.links.now.taps (table_view c.args.entry.now) ≡ Ok c.in-Ok.link.tap = search rules in
     let none : at LinkTable c.args.place TapKey (link_tap c.args.most_taps c.args.links.now.taps (table_view c.args.entry.now)) ≡ [] = rw t in
-    let tap : maybe file_name (get_member (codes "tap") (table_view c.args.entry.now)) ≡ Ok c.in-Ok-Ok.tap = tap_read c.args.most_taps c.args.links.now.taps _ _ t in
+    let tap : maybe file_name (get_member (codes "tap") (table_view c.args.entry.now)) ≡ Ok c.in-Ok.link.tap = tap_read c.args.most_taps c.args.links.now.taps _ _ t in
     let f : link_name (table_view c.args.entry.now) ▷ fresh bytes_eq c.args.links.now.names ≡ Ok c.in_ok-text.text.now = search rules in (
       rw (a, b, e, n, none),
       record {
@@ -50,7 +50,7 @@ returns-in-Ok-Ok c =
         end_is = search rules;
         name_is = search rules;
         new_name = fresh_new bytes_eq c.args.links.now.names _ c.in_ok-text.text.now f;
-        tap_is = rw c.link_of.ensures (tap_counts (get_member (codes "tap") (table_view c.args.entry.now)) _ tap);
-        room = rw c.link_of.ensures (tap_room c.args.most_taps c.args.links.now.taps _ _ t);
+        tap_is = tap_counts (get_member (codes "tap") (table_view c.args.entry.now)) _ tap;
+        room = tap_room c.args.most_taps c.args.links.now.taps _ _ t;
       },
     )
