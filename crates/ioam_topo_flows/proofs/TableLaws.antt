@@ -41,7 +41,7 @@ flows_keep nodes t flows count holds = record {
 }
 
 -- the faults of extra traces behind flows that were read are those behind the flows' entries
-pub extras_same : (nodes : Nodes) (t : Members) (flows : Flows) (most : ℕ) → HoldsFlows nodes.names (map list_of nodes.items.items) (flow_entries t) flows
+extras_same : (nodes : Nodes) (t : Members) (flows : Flows) (most : ℕ) → HoldsFlows nodes.names (map list_of nodes.items.items) (flow_entries t) flows
     → extra_faults_behind nodes flows t most ≡ extra_table_faults nodes.names (map list_of nodes.items.items) t most
 extras_same nodes t flows most holds = rw (holds.names, holds.looks)
 
@@ -49,12 +49,13 @@ extras_are : (nodes : Nodes) (t : Members) (flows : Flows) (extras : Extras) →
     → HoldsExtras nodes flows (extra_entries t) extras → traced 0 flows.items.items extras.items.items ≡ flows_behind nodes.names (map list_of nodes.items.items) t
 extras_are nodes t flows extras holds more = ap (traced 0 flows.items.items) more.items ∙ rw (holds.names, holds.looks, holds.items)
 
--- no faults of either table
-pub flows_clear : (nodes : Nodes) (t : Members) (flows : Flows) (most more : ℕ) → HoldsFlows nodes.names (map list_of nodes.items.items) (flow_entries t) flows
-    → flow_table_faults nodes.names (map list_of nodes.items.items) t most ≡ [] → extra_faults_behind nodes flows t more ≡ []
-    → flow_table_faults nodes.names (map list_of nodes.items.items) t most ++ extra_table_faults nodes.names (map list_of nodes.items.items) t more ≡ []
-flows_clear nodes t flows most more holds clear behind =
-    ap (λ l. l ++ extra_table_faults nodes.names (map list_of nodes.items.items) t more) clear ∙ (sym (extras_same nodes t flows more holds) ∙ behind)
+-- the faults of extra traces behind flows without faults are those of both tables
+pub extras_behind : (nodes : Nodes) (t : Members) (flows : Flows) (most more : ℕ) → HoldsFlows nodes.names (map list_of nodes.items.items) (flow_entries t) flows
+    → flow_table_faults nodes.names (map list_of nodes.items.items) t most ≡ []
+    → extra_faults_behind nodes flows t more
+    ≡ flow_table_faults nodes.names (map list_of nodes.items.items) t most ++ extra_table_faults nodes.names (map list_of nodes.items.items) t more
+extras_behind nodes t flows most more holds clear =
+    extras_same nodes t flows more holds ∙ sym (ap (λ l. l ++ extra_table_faults nodes.names (map list_of nodes.items.items) t more) clear)
 
 -- the flows with their extra traces
 pub flows_are : (nodes : Nodes) (t : Members) (most : ℕ) (flows out : Flows) (extras : Extras) → most ≤ 256 → length nodes.names ≡ length nodes.items.items

@@ -4,7 +4,6 @@ ghost use Rattle.toml.specs.View.{table_view};
 ghost use Rattle.ioam_topo_values.specs.Reads.{◌▷◌};
 ghost use Rattle.ioam_topo_entries.specs.Faults.{Gives};
 ghost use Rattle.ioam_topo.specs.Keyed.{IsNewId};
-ghost use Rattle.ioam_topo.specs.Traces.{own_traces};
 ghost use Rattle.ioam_topo_flows.specs.Apart.{fresh_some};
 ghost use Rattle.ioam_topo_entries.specs.Goods.{list_of};
 ghost use Rattle.ioam_topo_flows.specs.FlowParts.{flow_id, exporting_keys};
@@ -15,6 +14,7 @@ use crate::before::AmongNodes;
 use crate::flow_parts::{
     Exporting, Outer, Selection, Tracing, direct, every, read_outer, read_selection, read_tracing,
 };
+use ioam_base::memory::NoMemory;
 use ioam_base::name::Name;
 use ioam_data::Namespace;
 use ioam_topo::{Flow, NodeId, Traces};
@@ -27,23 +27,24 @@ use std::alloc::Global;
 
 // The flow of these parts.
 fn flow_with(
-    name: Name,
+    alloc: Global,
+    name: &str,
     selection: Selection,
     outer: Outer,
     tracing: Tracing,
-    traces: Traces,
     exporting: Exporting,
-) -> Flow
-    requires { traces ≡ own_traces (record { 0 = selection.namespace }) tracing.trace tracing.capacity }
-    ensures { result ≡ flow_with name selection outer tracing exporting }
+) -> Result<Flow, NoMemory>
+    ensures { IfOk result (λ flow. flow ≡ flow_with name.now selection outer tracing exporting) }
 {
-    Flow {
-        name,
+    let namespace = Namespace(selection.namespace);
+    let traces = Traces::own(alloc, namespace, tracing.trace, tracing.capacity)?;
+    Ok(Flow {
+        name: Name::new(alloc, name)?,
         entry: NodeId(selection.entry),
         exit: NodeId(selection.exit),
         source: selection.source,
         target: selection.target,
-        namespace: Namespace(selection.namespace),
+        namespace,
         hops: outer.hops,
         label: outer.label,
         trace: tracing.trace,
@@ -54,7 +55,7 @@ fn flow_with(
         every: exporting.every,
         flow_id: exporting.flow_id,
         limit: exporting.limit,
-    }
+    })
 }
 
 // The id of an entry, needed where there are direct exports, which no other flow of the
@@ -114,14 +115,9 @@ fn read_flow<'a>(
     let outer = read_outer(spot, entry)?;
     let tracing = read_tracing(spot, entry)?;
     let exporting = exporting(flows, spot, selection.namespace, entry)?;
-    let space = Namespace(selection.namespace);
-    let traces = Traces::own(alloc, space, tracing.trace, tracing.capacity);
-    match (Name::new(alloc, text), traces) {
-        (Ok(name), Ok(traces)) => {
-            let flow = flow_with(name, selection, outer, tracing, traces, exporting);
-            Ok((text, flow))
-        }
-        _ => Err(DomainRefused::NoMemory),
+    match flow_with(alloc, text, selection, outer, tracing, exporting) {
+        Ok(flow) => Ok((text, flow)),
+        Err(_) => Err(DomainRefused::NoMemory),
     }
 }
 

@@ -69,6 +69,27 @@ fn read_extras(
     read_entries(alloc, top, Table::ExtraTable, "extra", most, &before, none)
 }
 
+// The flows of a file, whose nodes these are, and apart from them their extra traces.
+fn read_apart(
+    alloc: Global,
+    top: &toml::Table,
+    nodes: &Nodes,
+    flows: usize,
+    extras: usize,
+) -> Result<(Flows, Extras), DomainRefused>
+    requires few_flows { flows ≤ 256 }
+    requires few_extras { extras ≤ 512 }
+    requires named { length nodes.now.names ≡ length nodes.now.items.items }
+    ensures { Gives result (flow_table_faults nodes.now.names (map list_of nodes.now.items.items) (table_view top.now) flows
+        ++ extra_table_faults nodes.now.names (map list_of nodes.now.items.items) (table_view top.now) extras)
+        (λ both. HoldsFlows nodes.now.names (map list_of nodes.now.items.items) (flow_entries (table_view top.now)) both.0
+        × HoldsExtras nodes.now both.0 (extra_entries (table_view top.now)) both.1) }
+{
+    let found = read_own_flows(alloc, top, nodes, flows)?;
+    let more = read_extras(alloc, top, nodes, &found, extras)?;
+    Ok((found, more))
+}
+
 /// The flows of a file, whose nodes these are, each with its extra traces, or the first fault of
 /// the tables `flow` and `extra`, which may have at most `flows` and `extras` entries. Where there
 /// is no memory, NoMemory may be answered in place of anything else.
@@ -86,8 +107,7 @@ pub fn read_flows(
         ++ extra_table_faults nodes.now.names (map list_of nodes.now.items.items) (table_view top.now) extras)
         (AreFlows nodes.now (map list_of nodes.now.items.items) (table_view top.now) flows) }
 {
-    let found = read_own_flows(alloc, top, nodes, flows)?;
-    let more = read_extras(alloc, top, nodes, &found, extras)?;
+    let (found, more) = read_apart(alloc, top, nodes, flows, extras)?;
     match with_extras(found, more.items.as_slice()) {
         Ok(out) => Ok(out),
         Err(_) => Err(DomainRefused::NoMemory),

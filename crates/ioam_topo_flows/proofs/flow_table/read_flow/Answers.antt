@@ -1,4 +1,4 @@
-use Rattle.std.proofs.Common.{rules, ◌≡◌, ◌++◌, [], Ok, map, ap, sym, ◌∙◌, ℕ, Result}
+use Rattle.std.proofs.Common.{rules, refl, ◌≡◌, ◌++◌, [], Ok, map, ap, sym, ◌∙◌, ℕ, Result}
 use Rattle.std.proofs.lemmas.Result.{err_from_is_err_and}
 use Rattle.std.specs.Str.{bytes_eq}
 use Rattle.toml.specs.View.{table_view}
@@ -52,19 +52,18 @@ returns-in_err-exporting c =
     rw (p.1, p.2) (gives_same c.in_err-exporting.field-0.0 _ _ _ _
     (sym (last_of_six _ _ _ _ _ _ a b c.in_ok-selection.ensures.0 c.in_ok-outer.ensures.0 c.in_ok-tracing.ensures.0 ∙ e)) c.in_err-exporting.ensures)
 
-pub returns-in-Ok-Ok : goal.returns-in-Ok-Ok
-returns-in-Ok-Ok c =
+pub returns-in-Ok : goal.returns-in-Ok
+returns-in-Ok c =
     let a : at FlowTable c.args.place OtherKey (own_keys FlowTable (table_view c.args.entry.now)) ≡ [] = search rules in
     let b : at FlowTable c.args.place NameKey (flow_name (table_view c.args.entry.now) ▷ fresh bytes_eq c.args.flows.now.names) ≡ [] = search rules in
     let e : exporting_keys c.args.place (flow_space c.args.nodes.now.names (map list_of c.args.nodes.now.items.items) (table_view c.args.entry.now)) c.args.flows.now.taken.keys (table_view c.args.entry.now)
     ≡ exporting_keys c.args.place (Ok c.in_ok-selection.selection.namespace) c.args.flows.now.taken.keys (table_view c.args.entry.now)
     = ap (λ (r : Result ℕ Why). exporting_keys c.args.place r c.args.flows.now.taken.keys (table_view c.args.entry.now)) c.in_ok-selection.ensures.1.1 in
     let f : flow_name (table_view c.args.entry.now) ▷ fresh bytes_eq c.args.flows.now.names ≡ Ok c.in_ok-text.text.now = search rules in
-    let n : flow_name (table_view c.args.entry.now) ≡ Ok c.in_ok-text.text.now = search rules in
-    let named : c.in-Ok-Ok.name ≡ c.in_ok-text.text.now = search rules in (
+    let n : flow_name (table_view c.args.entry.now) ≡ Ok c.in_ok-text.text.now = search rules in (
       last_of_six _ _ _ _ _ _ a b c.in_ok-selection.ensures.0 c.in_ok-outer.ensures.0 c.in_ok-tracing.ensures.0 ∙ (e ∙ c.in_ok-exporting.ensures.0),
-      new_flow c.args.nodes.now.names (map list_of c.args.nodes.now.items.items) c.args.flows.now (table_view c.args.entry.now) c.in_ok-text.text.now c.in-Ok-Ok.name
-          c.in_ok-selection.selection c.in_ok-outer.outer c.in_ok-tracing.tracing c.in_ok-exporting.exporting c.flow_with-flow.result
-          c.flow_with-flow.ensures named n (fresh_new bytes_eq c.args.flows.now.names _ c.in_ok-text.text.now f)
+      new_flow c.args.nodes.now.names (map list_of c.args.nodes.now.items.items) c.args.flows.now (table_view c.args.entry.now) c.in_ok-text.text.now c.in_ok-text.text.now
+          c.in_ok-selection.selection c.in_ok-outer.outer c.in_ok-tracing.tracing c.in_ok-exporting.exporting c.in-Ok.flow
+          c.in-Ok.ensures refl n (fresh_new bytes_eq c.args.flows.now.names _ c.in_ok-text.text.now f)
           c.in_ok-selection.ensures.1.0 c.in_ok-selection.ensures.1.1 c.in_ok-outer.ensures.1 c.in_ok-tracing.ensures.1 c.in_ok-exporting.ensures.1,
     )
