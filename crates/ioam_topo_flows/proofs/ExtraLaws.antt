@@ -43,7 +43,7 @@ use Rattle.ioam_topo_flows.specs.Spaces.{known_at}
 use Rattle.ioam_topo_flows.proofs.SpaceLaws.{known_read}
 use Rattle.ioam_topo_flows.specs.FlowTable.{FlowLook}
 use Rattle.ioam_topo_flows.specs.FlowRead.{look_of}
-use Rattle.ioam_topo_flows.specs.ExtraTable.{extra_flow, extra_trace, extra_capacity, extra_keys, extra_faults, extra_space, extra_look, seen, look_in, traced_at, times, few_of, unlike, traces_at, with_traces, traced}
+use Rattle.ioam_topo_flows.specs.ExtraTable.{extra_flow, extra_trace, extra_capacity, kind_keys, extra_keys, extra_faults, extra_space, extra_look, seen, look_in, traced_at, times, few_of, unlike, traces_at, with_traces, traced}
 use Rattle.ioam_topo_flows.specs.ExtraRead.{OwnAlone, IsFitting, KeepsFlows, HoldsExtras, IsNewExtra, place_of_extra, key_of_extra, flow_behind, key_behind, extra_behind}
 use Rattle.ioam_topo_flows.proofs.TracedLaws.{traced_push, traced_get, traced_none, times_traces, apart_traces}
 
@@ -338,17 +338,16 @@ extra_read nodes flows extras m i space kind capacity named spaced traced_is siz
           (named_traced flows.names flows.items.items _ i flow few.0 there) there joins;
     }
 
--- such an entry has no faults
-pub extra_clear : (nodes : Nodes) (flows : Flows) (extras : Extras) (m : Members) (place i space kind capacity : ℕ) → at ExtraTable place OtherKey (own_keys ExtraTable m) ≡ []
+-- such an entry has no faults but those of its type and its capacity
+pub extra_rest : (nodes : Nodes) (flows : Flows) (extras : Extras) (m : Members) (place i space : ℕ) → at ExtraTable place OtherKey (own_keys ExtraTable m) ≡ []
     → flow_behind nodes flows m ▷ few_of extras.places.items ≡ Ok i
     → needed (number 0 65535) (get_member (codes "namespace") m) ▷ known_at (map list_of nodes.items.items) (look_in (map look_of flows.items.items) (Ok i)).entry
     ▷ known_at (map list_of nodes.items.items) (look_in (map look_of flows.items.items) (Ok i)).exit
     ▷ unlike (look_in (map look_of flows.items.items) (Ok i)).space ▷ fresh_with (Ok i) extras.taken.keys ≡ Ok space
-    → extra_trace m ≡ Ok kind → extra_capacity m ≡ Ok capacity
-    → extra_keys flows.names (map look_of flows.items.items) (map list_of nodes.items.items) place extras.places.items extras.taken.keys m ≡ []
-extra_clear nodes flows extras m place i space kind capacity own named spaced traced_is sized =
+    → kind_keys place m ≡ extra_keys flows.names (map look_of flows.items.items) (map list_of nodes.items.items) place extras.places.items extras.taken.keys m
+extra_rest nodes flows extras m place i space own named spaced =
     let few : (flow_behind nodes flows m ≡ Ok i) × (times i extras.places.items < 2) = few_read extras.places.items (flow_behind nodes flows m) i named in
     let read = fresh_behind flows.names (map look_of flows.items.items) (map list_of nodes.items.items) m i few.0 extras.taken.keys ∙ spaced in
-    none_of_five own (ap (at ExtraTable place FlowKey) named) (ap (at ExtraTable place NamespaceKey) read) (ap (at ExtraTable place TraceKey) traced_is) (ap (at ExtraTable place CapacityKey) sized) where
-      none_of_five : {a b c d e : List DomainFault} → a ≡ [] → b ≡ [] → c ≡ [] → d ≡ [] → e ≡ [] → a ++ (b ++ (c ++ (d ++ e))) ≡ []
-      none_of_five a b c d e = rw (a, b, c, d, e)
+    behind_three own (ap (at ExtraTable place FlowKey) named) (ap (at ExtraTable place NamespaceKey) read) where
+      behind_three : {a b c d : List DomainFault} → a ≡ [] → b ≡ [] → c ≡ [] → d ≡ a ++ (b ++ (c ++ d))
+      behind_three a b c = rw (a, b, c)

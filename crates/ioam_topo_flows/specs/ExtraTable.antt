@@ -67,6 +67,10 @@ extra_trace m = needed trace_type (get_member (codes "trace") m)
 abbrev pub extra_capacity : Members → Result ℕ Why
 extra_capacity m = needed (number 1 61) (get_member (codes "capacity") m)
 
+-- the faults of a trace's type and capacity
+abbrev pub kind_keys : ℕ → Members → List DomainFault
+kind_keys place m = at ExtraTable place TraceKey (extra_trace m) ++ at ExtraTable place CapacityKey (extra_capacity m)
+
 -- `flows` are the names of the flows, `looks` what is known of them, and `lists` the namespaces that the nodes list
 module _ (flows : List (List ℕ)) (looks : List FlowLook) (lists : List (Result (List Namespace) Why)) where
   -- a flow that has a trace
@@ -96,8 +100,7 @@ module _ (flows : List (List ℕ)) (looks : List FlowLook) (lists : List (Result
       at ExtraTable place OtherKey (own_keys ExtraTable m)
       ++ (at ExtraTable place FlowKey (extra_flow m ▷ few_of before)
       ++ (at ExtraTable place NamespaceKey (extra_space m ▷ unlike (extra_look m).space ▷ fresh_with (extra_flow m) taken)
-      ++ (at ExtraTable place TraceKey (extra_trace m)
-      ++ at ExtraTable place CapacityKey (extra_capacity m))))
+      ++ kind_keys place m))
 
   -- the faults of an entry behind others
   abbrev pub extra_faults : List Members → Members → List DomainFault

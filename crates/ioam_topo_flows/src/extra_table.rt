@@ -13,7 +13,7 @@ ghost use Rattle.ioam_topo_entries.specs.Goods.{known, list_of};
 ghost use Rattle.ioam_topo_flows.specs.Apart.{fresh_with};
 ghost use Rattle.ioam_topo_flows.specs.Spaces.{known_at};
 ghost use Rattle.ioam_topo_flows.specs.FlowRead.{look_of};
-ghost use Rattle.ioam_topo_flows.specs.ExtraTable.{seen, look_in, traced_at, times, few_of, unlike, extra_trace, extra_keys, traced};
+ghost use Rattle.ioam_topo_flows.specs.ExtraTable.{seen, look_in, traced_at, times, few_of, unlike, extra_trace, extra_capacity, kind_keys, extra_keys, traced};
 ghost use Rattle.ioam_topo_flows.specs.ExtraRead.{IsNewExtra};
 
 use crate::before::AmongFlows;
@@ -173,6 +173,17 @@ fn needed_trace(entry: &toml::Table) -> Result<TraceType, Why>
     }
 }
 
+// The type of the trace of an entry, and how many words it has room for.
+fn read_kind(spot: Spot, entry: &toml::Table) -> Result<(TraceType, u8), DomainRefused>
+    requires { spot.table ≡ Table.ExtraTable }
+    ensures { Gives result (kind_keys spot.place (table_view entry.now))
+        (λ read. (extra_trace (table_view entry.now) ≡ Ok read.0) × (extra_capacity (table_view entry.now) ≡ Ok read.1)) }
+{
+    let kind = spot.key(Field::TraceKey, needed_trace(entry))?;
+    let capacity = spot.key(Field::CapacityKey, number8(entry, "capacity", 1, 61))?;
+    Ok((kind, capacity))
+}
+
 // The extra trace of an entry, with the place of its flow.
 fn read_extra(
     extras: &Extras,
@@ -192,8 +203,7 @@ fn read_extra(
     let flow = spot.key(Field::FlowKey, few_of(extras, named_flow(flows, entry)))?;
     let space = new_space(extras, nodes, flows, flow, entry);
     let space = spot.key(Field::NamespaceKey, space)?;
-    let kind = spot.key(Field::TraceKey, needed_trace(entry))?;
-    let capacity = spot.key(Field::CapacityKey, number8(entry, "capacity", 1, 61))?;
+    let (kind, capacity) = read_kind(spot, entry)?;
     Ok((
         flow,
         FlowTrace {

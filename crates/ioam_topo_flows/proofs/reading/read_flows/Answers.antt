@@ -19,3 +19,6 @@ pub returns-in_err-found : goal.returns-in_err-found
 returns-in_err-found c =
     let p = err_from_is_err_and c.from_residual.result c.from_residual.ensures.1 in
     rw (p.1, p.2) (gives_same c.in_err-found.field-0.0 _ _ _ _ refl c.in_err-found.ensures)
+
+pub with_extras-requires : goal.with_extras-requires
+with_extras-requires c = rw c.as_slice.ensures.value c.in_ok-found.ensures.1.1.within
