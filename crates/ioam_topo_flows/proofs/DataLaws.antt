@@ -1,5 +1,5 @@
 -- Laws of the node data that are collected.
-use Rattle.std.proofs.Common.{◌≡◌, ℕ, ◌+◌, List, [], ◌∷◌, ◌++◌, length, Bool, true, false, cond, Result, Ok, Err, refl, subst}
+use Rattle.std.proofs.Common.{◌≡◌, ℕ, ◌+◌, List, [], ◌∷◌, ◌++◌, length, Bool, true, false, cond, Result, Ok, Err, refl, ap, sym, ◌∙◌, subst}
 use Rattle.std.specs.List.{list_any}
 use Rattle.toml.specs.Data.{Members}
 use Rattle.ioam_topo_values.specs.declared.why.Why.{Why}
@@ -9,8 +9,15 @@ use Rattle.ioam_topo_tables.specs.declared.data_rows.DataRows.{DataRows}
 use Rattle.ioam_topo.specs.declared.parts.NodeData.{NodeData}
 use Rattle.ioam_topo.specs.Keyed.{is_pair, key_of_data}
 use Rattle.ioam_topo_flows.specs.Apart.{fresh_with}
-use Rattle.ioam_topo_flows.specs.DataTable.{data_keys, data_faults, data_of, data_key}
+use Rattle.ioam_topo_flows.specs.DataTable.{data_node, data_space, values_of, value_keys, data_keys, data_faults, data_of, data_key}
 use Rattle.ioam_topo_flows.specs.DataRead.{HoldsData, IsNewData}
+use Rattle.ioam_topo_entries.specs.declared.words.Table.TheVariants.{DataTable}
+use Rattle.ioam_topo_entries.specs.declared.words.Field.TheVariants.{OtherKey, NodeKey, NamespaceKey}
+use Rattle.ioam_topo_entries.specs.declared.fault.DomainFault.{DomainFault}
+use Rattle.ioam_topo_entries.specs.declared.fault.DomainRefused.{DomainRefused}
+use Rattle.ioam_topo_entries.specs.Faults.{at, Gives}
+use Rattle.ioam_topo_entries.specs.Keys.{own_keys}
+use Rattle.ioam_topo_entries.proofs.FaultLaws.{gives_same}
 use Rattle.ioam_topo_entries.proofs.KeyLaws.{kept_by}
 use Rattle.ioam_topo_entries.proofs.GoodsLaws.{goods_push}
 
@@ -38,3 +45,35 @@ fresh_with_new a seen (Ok y) x is =
     let both : (list_any (is_pair a y) seen ≡ false) × (y ≡ x) = fresh_under (list_any (is_pair a y) seen) y x (Ok y ▷ fresh_with (Ok a) seen) refl is in
     let P : ℕ → Type 0 = λ z. list_any (is_pair a z) seen ≡ false in subst P both.1 both.0
 fresh_with_new a seen (Err why) x is = cc
+
+fresh_with_read : (a : ℕ) (seen : List (ℕ × ℕ)) (r : Result ℕ Why) (x : ℕ) → r ▷ fresh_with (Ok a) seen ≡ Ok x → r ≡ Ok x
+fresh_with_read a seen (Ok y) x is =
+    let both : (list_any (is_pair a y) seen ≡ false) × (y ≡ x) = fresh_under (list_any (is_pair a y) seen) y x (Ok y ▷ fresh_with (Ok a) seen) refl is in ap Ok both.1
+fresh_with_read a seen (Err why) x is = cc
+
+module _ (nodes : List (List ℕ)) (m : Members) (seen : List (ℕ × ℕ)) (node space : ℕ) (placed : data_node nodes m ≡ Ok node)
+    (spaced : data_space m ▷ fresh_with (Ok node) seen ≡ Ok space) where
+  -- behind a node and a namespace that were read, the faults of an entry are those of its values
+  values_behind : (place : ℕ) → at DataTable place OtherKey (own_keys DataTable m) ≡ [] → value_keys place m ≡ data_keys nodes place seen m
+  values_behind place own = behind_three own (ap (at DataTable place NodeKey) placed)
+      (ap (at DataTable place NamespaceKey) (ap (λ r. data_space m ▷ fresh_with r seen) placed ∙ spaced)) where
+        behind_three : {a b c d : List DomainFault} → a ≡ [] → b ≡ [] → c ≡ [] → d ≡ a ++ (b ++ (c ++ d))
+        behind_three a b c = rw (a, b, c)
+
+  -- and its values are those of that node, in a namespace of which it has no others
+  new_data : (rows : DataRows) (row : NodeData) → rows.taken.keys ≡ seen → values_of node space m ≡ Ok row → row.node.0 ≡ node → row.namespace.0 ≡ space
+      → IsNewData nodes rows m row
+  new_data rows row keys is at_node in_space =
+      let read : data_space m ≡ Ok space = fresh_with_read node seen (data_space m) space spaced in
+      record {
+        is = rw (placed, read) is;
+        key_is = rw (placed, read, at_node, in_space);
+        new_key = rw (at_node, in_space, keys) (fresh_with_new node seen (data_space m) space spaced);
+      }
+
+  -- what such an entry gives is what its values give
+  pub row_behind : (place : ℕ) (rows : DataRows) (read : Result NodeData DomainRefused) → rows.taken.keys ≡ seen → at DataTable place OtherKey (own_keys DataTable m) ≡ []
+      → Gives read (value_keys place m) (λ row. (values_of node space m ≡ Ok row) × (row.node.0 ≡ node) × (row.namespace.0 ≡ space))
+      → Gives read (data_keys nodes place seen m) (IsNewData nodes rows m)
+  row_behind place rows (Ok row) keys own is = (sym (values_behind place own) ∙ is.0, new_data rows row keys is.1.0 is.1.1 is.1.2)
+  row_behind place rows (Err refused) keys own is = gives_same refused _ _ _ _ (values_behind place own) is

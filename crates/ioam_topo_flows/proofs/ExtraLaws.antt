@@ -1,15 +1,15 @@
 -- Laws of the extra traces that are collected.
-use Rattle.std.proofs.Common.{◌≡◌, ◌≢◌, ◌<◌, ◌≤◌, ℕ, zero, suc, ◌+◌, Bool, true, false, nat_eq, nat_lt, cond, List, [], ◌∷◌, ◌++◌, map, length, take, set, slice_get, Option, Some, None, is_some, option_map, unwrap_or, Result, Ok, Err, refl, ap, sym, subst, ◌∙◌, arith, codes, get_or, AllPairs}
+use Rattle.std.proofs.Common.{◌≡◌, ◌≢◌, ◌<◌, ◌≤◌, ℕ, ◌+◌, Bool, true, false, nat_eq, nat_lt, cond, List, [], ◌∷◌, ◌++◌, map, length, take, set, slice_get, Option, Some, None, is_some, option_map, Result, Ok, Err, refl, ap, sym, subst, ◌∙◌, arith, codes, get_or}
 use Rattle.std.specs.List.{All, list_any}
 use Rattle.std.proofs.lemmas.Bool.Decides.{nat_tests}
-use Rattle.std.proofs.lemmas.List.Elements.{All-cons, All-nil, All-push, All-append, All-get_or, All-set, All-weaker}
+use Rattle.std.proofs.lemmas.List.Elements.{All-cons, All-nil, All-push, All-append, All-get_or, All-set}
 use Rattle.std.proofs.lemmas.List.{length-append}
 use Rattle.std.proofs.lemmas.List.Quantifiers.{all_pairs_push}
 use Rattle.std.proofs.lemmas.Option.{slice_get-map, slice_get_cases, slice_get_within, get_or_from_slice_get}
 use Rattle.toml.specs.Data.{Data, Members, get_member}
 use Rattle.ioam_data.specs.declared.namespace.Namespace.{Namespace}
 use Rattle.ioam_topo_values.specs.declared.why.Why.{Why}
-use Rattle.ioam_topo_values.specs.declared.why.Why.TheVariants.{Range, Twice, TooMany, Unknown}
+use Rattle.ioam_topo_values.specs.declared.why.Why.TheVariants.{Twice, TooMany}
 use Rattle.ioam_topo_values.specs.Reads.{◌▷◌, needed}
 use Rattle.ioam_topo_values.specs.Numbers.{number}
 use Rattle.ioam_topo_values.specs.Texts.{name}
@@ -23,14 +23,13 @@ use Rattle.ioam_topo.specs.Keyed.{is_pair}
 use Rattle.ioam_topo.specs.Kept.{JoinsEnds}
 use Rattle.ioam_topo.specs.Known.{is_known, IsKnownAtEnds}
 use Rattle.ioam_topo.specs.Sound.{IsFlow}
-use Rattle.ioam_topo.specs.Traces.{IsFlowTrace, AreOfOwnSpaces, own_traces}
-use Rattle.ioam_topo.proofs.KeyLaws.{map_append, length_map}
-use Rattle.ioam_topo_entries.specs.Goods.{goods, known, list_of}
+use Rattle.ioam_topo.specs.Traces.{IsFlowTrace, own_traces}
+use Rattle.ioam_topo_entries.specs.Goods.{known, list_of}
 use Rattle.ioam_topo_entries.proofs.GoodsLaws.{goods_push, known_below}
 use Rattle.ioam_topo_entries.proofs.KeyLaws.{kept_by}
 use Rattle.ioam_topo_entries.proofs.ReadLaws.{passed, needed_bounds}
 use Rattle.ioam_topo_entries.specs.declared.words.Table.TheVariants.{ExtraTable}
-use Rattle.ioam_topo_entries.specs.declared.words.Field.TheVariants.{OtherKey, FlowKey, NamespaceKey, TraceKey, CapacityKey}
+use Rattle.ioam_topo_entries.specs.declared.words.Field.TheVariants.{OtherKey, FlowKey, NamespaceKey}
 use Rattle.ioam_topo_entries.specs.declared.fault.DomainFault.{DomainFault}
 use Rattle.ioam_topo_entries.specs.Faults.{at}
 use Rattle.ioam_topo_entries.specs.Keys.{own_keys}

@@ -1,27 +1,22 @@
 -- Laws of the tables of flows and of their extra traces, once these were read.
-use Rattle.std.proofs.Common.{◌≡◌, ◌≤◌, ℕ, List, [], ◌++◌, map, length, codes, refl, ap, sym, subst, ◌∙◌, Result, arith}
+use Rattle.std.proofs.Common.{◌≡◌, ◌≤◌, ℕ, [], ◌++◌, map, length, codes, ap, sym, subst, ◌∙◌, arith}
 use Rattle.std.specs.List.{All}
 use Rattle.toml.specs.Data.{Members, get_member}
 use Rattle.ioam_topo_tables.specs.declared.nodes.Nodes.{Nodes}
-use Rattle.ioam_topo.specs.declared.parts.Flow.{Flow}
 use Rattle.ioam_topo_tables.specs.declared.flows.Flows.{Flows}
-use Rattle.ioam_topo.specs.declared.traces.FlowTrace.{FlowTrace}
 use Rattle.ioam_topo_tables.specs.Flows.{name_of_flow, ids_of_flows}
 use Rattle.ioam_topo.specs.Kept.{JoinsEnds}
-use Rattle.ioam_topo_tables.specs.Kept.{FlowsKept}
 use Rattle.ioam_topo.specs.Known.{IsKnownAtEnds}
-use Rattle.ioam_topo.specs.Sound.{IsFlow}
 use Rattle.ioam_topo.proofs.KeyLaws.{length_map}
-use Rattle.ioam_topo_entries.specs.declared.words.Table.TheVariants.{FlowTable, ExtraTable}
-use Rattle.ioam_topo_entries.specs.Faults.{table_faults}
-use Rattle.ioam_topo_entries.specs.Goods.{goods, list_of}
+use Rattle.ioam_topo_entries.specs.declared.words.Table.TheVariants.{FlowTable}
+use Rattle.ioam_topo_entries.specs.Goods.{list_of}
 use Rattle.ioam_topo_entries.proofs.GoodsLaws.{goods_all}
 use Rattle.ioam_topo_entries.proofs.TableLaws.{few_items}
 use Rattle.ioam_topo_flows.specs.declared.extra_table.Extras.{Extras}
 use Rattle.ioam_topo_flows.specs.FlowTable.{flow_entries, flow_of, flow_faults}
-use Rattle.ioam_topo_flows.specs.FlowRead.{HoldsFlows, look_of}
-use Rattle.ioam_topo_flows.specs.ExtraTable.{extra_entries, extra_of, traced, with_traces}
-use Rattle.ioam_topo_flows.specs.ExtraRead.{OwnAlone, KeepsFlows, HoldsExtras, extra_behind}
+use Rattle.ioam_topo_flows.specs.FlowRead.{HoldsFlows}
+use Rattle.ioam_topo_flows.specs.ExtraTable.{extra_entries, traced}
+use Rattle.ioam_topo_flows.specs.ExtraRead.{OwnAlone, KeepsFlows, HoldsExtras}
 use Rattle.ioam_topo_flows.specs.Tables.{flow_table_faults, extra_table_faults, extra_faults_behind, flows_behind, AreFlows}
 use Rattle.ioam_topo_flows.proofs.FlowFacts.{flows_sound}
 use Rattle.ioam_topo_flows.proofs.FlowKept.{flow_joins, flow_alone, flow_known}

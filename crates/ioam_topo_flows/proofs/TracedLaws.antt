@@ -1,15 +1,13 @@
 -- Laws of flows with extra traces.
-use Rattle.std.proofs.Common.{◌≡◌, ◌≢◌, ◌<◌, ◌≤◌, ℕ, zero, suc, ◌+◌, Bool, true, false, ◌||◌, nat_eq, cond, List, [], ◌∷◌, ◌++◌, map, length, take, set, slice_get, Option, Some, None, is_some, IsSomeAnd, refl, ap, sym, subst, ◌∙◌, arith, get_or, AllPairs, drop, slice_index_or}
+use Rattle.std.proofs.Common.{◌≡◌, ◌≢◌, ◌<◌, ◌≤◌, ℕ, zero, suc, ◌+◌, Bool, true, false, ◌||◌, nat_eq, cond, List, [], ◌∷◌, ◌++◌, map, length, take, set, slice_get, Option, Some, None, IsSomeAnd, refl, ap, sym, subst, ◌∙◌, arith, drop, slice_index_or}
 use Rattle.std.specs.List.{All, list_any}
 use Rattle.std.proofs.lemmas.Bool.Decides.{nat_tests}
 use Rattle.std.proofs.lemmas.List.{append_assoc, append-nil, drop_more, drop_all, take_more, take_all}
-use Rattle.std.proofs.lemmas.List.Elements.{All-cons, All-nil, All-head, All-tail, All-push, All-append, All-get_or}
-use Rattle.std.proofs.lemmas.List.Quantifiers.{all_pairs_push}
+use Rattle.std.proofs.lemmas.List.Elements.{All-cons, All-nil, All-head, All-tail, All-get_or}
 use Rattle.ioam_topo.specs.declared.parts.Flow.{Flow}
 use Rattle.ioam_topo.specs.declared.traces.FlowTrace.{FlowTrace}
 use Rattle.ioam_topo.specs.Keyed.{is_pair, pairs_of}
 use Rattle.ioam_topo_tables.specs.Flows.{with_trace, name_of_flow, ids_of_flows}
-use Rattle.ioam_topo.specs.Traces.{IsFlowTrace, AreOfOwnSpaces, own_traces}
 use Rattle.ioam_topo_flows.specs.ExtraTable.{times, traces_at, with_traces, traced}
 use Rattle.ioam_topo_flows.specs.ExtraRead.{place_of_extra, key_of_extra}
 

@@ -41,6 +41,16 @@ data_schema m = maybe (number 0 16777214) (get_member (codes "schema") m) ▷ be
 abbrev pub data_snapshot : Members → Result (Option (List ℕ)) Why
 data_snapshot m = maybe octets (get_member (codes "snapshot") m) ▷ beside (is_some (get_member (codes "schema") m))
 
+-- the data of a node in a namespace, where their keys are read; else the first reason why not
+abbrev pub values_of : ℕ → ℕ → Members → Result NodeData Why
+values_of node space m = data_short m ▷ (λ short. data_wide m ▷ (λ wide. data_schema m ▷ (λ schema. data_snapshot m ▷ (λ snapshot.
+    Ok (record { node = record { 0 = node }; namespace = record { 0 = space }; short = short; wide = wide; schema = schema; snapshot = snapshot })))))
+
+-- the faults of these keys
+abbrev pub value_keys : ℕ → Members → List DomainFault
+value_keys place m = at DataTable place ShortKey (data_short m) ++ (at DataTable place WideKey (data_wide m)
+    ++ (at DataTable place SchemaKey (data_schema m) ++ at DataTable place SnapshotKey (data_snapshot m)))
+
 -- `nodes` are the names of the nodes
 module _ (nodes : List (List ℕ)) where
   -- the node of an entry, by its place
@@ -53,9 +63,7 @@ module _ (nodes : List (List ℕ)) where
 
   -- the data of a node in a namespace, where all keys are read; else the first reason why not
   abbrev pub data_of : Members → Result NodeData Why
-  data_of m = data_node m ▷ (λ node. data_space m ▷ (λ space. data_short m ▷ (λ short. data_wide m ▷ (λ wide.
-      data_schema m ▷ (λ schema. data_snapshot m ▷ (λ snapshot.
-      Ok (record { node = record { 0 = node }; namespace = record { 0 = space }; short = short; wide = wide; schema = schema; snapshot = snapshot })))))))
+  data_of m = data_node m ▷ (λ node. data_space m ▷ (λ space. values_of node space m))
 
   -- the faults of the entry at a place, with these nodes and namespaces before it
   abbrev pub data_keys : ℕ → List (ℕ × ℕ) → Members → List DomainFault
@@ -63,10 +71,7 @@ module _ (nodes : List (List ℕ)) where
       at DataTable place OtherKey (own_keys DataTable m)
       ++ (at DataTable place NodeKey (data_node m)
       ++ (at DataTable place NamespaceKey (data_space m ▷ fresh_with (data_node m) seen)
-      ++ (at DataTable place ShortKey (data_short m)
-      ++ (at DataTable place WideKey (data_wide m)
-      ++ (at DataTable place SchemaKey (data_schema m)
-      ++ at DataTable place SnapshotKey (data_snapshot m))))))
+      ++ value_keys place m))
 
   -- the faults of an entry behind others
   abbrev pub data_faults : List Members → Members → List DomainFault

@@ -1,9 +1,7 @@
 -- What is known of the extra traces of the entries so far, and of one that was read.
-use Rattle.std.specs.Prelude.{◌≡◌, ◌≢◌, ◌<◌, ◌≤◌, ℕ, ◌+◌, true, false, List, [], map, length, Option, Some, is_some, slice_get, Result, Ok}
+use Rattle.std.specs.Prelude.{◌≡◌, ◌≢◌, ◌<◌, ℕ, true, false, List, map, length, Some, is_some, slice_get, Result, Ok}
 use Rattle.std.specs.List.{All, list_any}
 use Rattle.toml.specs.Data.{Members}
-use Rattle.ioam_data.specs.Kind.{is_entry_type}
-use Rattle.ioam_data.specs.declared.namespace.Namespace.{Namespace}
 use Rattle.ioam_topo_values.specs.declared.why.Why.{Why}
 use Rattle.ioam_topo_tables.specs.declared.nodes.Nodes.{Nodes}
 use Rattle.ioam_topo.specs.declared.parts.Node.{Node}

@@ -5,7 +5,7 @@ ghost use Rattle.toml.specs.View.{table_view};
 ghost use Rattle.ioam_topo_values.specs.Reads.{◌▷◌, ReadsOr};
 ghost use Rattle.ioam_topo_entries.specs.Faults.{Gives};
 ghost use Rattle.ioam_topo_flows.specs.Apart.{fresh_with};
-ghost use Rattle.ioam_topo_flows.specs.DataTable.{data_space, data_snapshot, data_keys};
+ghost use Rattle.ioam_topo_flows.specs.DataTable.{data_space, data_snapshot, values_of, value_keys, data_keys};
 ghost use Rattle.ioam_topo_flows.specs.DataRead.{IsNewData};
 
 use crate::before::AmongNodes;
@@ -42,6 +42,36 @@ fn new_space(rows: &DataRows, node: u32, entry: &toml::Table) -> Result<u16, Why
     }
 }
 
+// What an entry holds for a node in a namespace.
+fn read_values(
+    alloc: Global,
+    spot: Spot,
+    node: u32,
+    space: u16,
+    entry: &toml::Table,
+) -> Result<NodeData, DomainRefused>
+    requires { spot.table ≡ Table.DataTable }
+    ensures { Gives result (value_keys spot.place (table_view entry.now)) (λ row. (values_of node space (table_view entry.now) ≡ Ok row)
+        × (row.node.0 ≡ node) × (row.namespace.0 ≡ space)) }
+{
+    let short = spot.key(
+        Field::ShortKey,
+        maybe_number32(entry, "short", 0, 4_294_967_295),
+    )?;
+    let wide = spot.key(Field::WideKey, maybe_number(entry, "wide", 0, MOST_WIDE))?;
+    let schema = maybe_number32(entry, "schema", 0, 16_777_214);
+    let schema = spot.key(Field::SchemaKey, beside(schema, has(entry, "snapshot")))?;
+    let snapshot = spot.key_or(Field::SnapshotKey, snapshot(alloc, entry))?;
+    Ok(NodeData {
+        node: NodeId(node),
+        namespace: Namespace(space),
+        short,
+        wide,
+        schema,
+        snapshot,
+    })
+}
+
 // The data of an entry.
 fn read_row(
     alloc: Global,
@@ -59,22 +89,7 @@ fn read_row(
     spot.key(Field::OtherKey, own_keys(Table::DataTable, entry))?;
     let node = spot.key(Field::NodeKey, known(&nodes.names, entry, "node"))?;
     let space = spot.key(Field::NamespaceKey, new_space(rows, node, entry))?;
-    let short = spot.key(
-        Field::ShortKey,
-        maybe_number32(entry, "short", 0, 4_294_967_295),
-    )?;
-    let wide = spot.key(Field::WideKey, maybe_number(entry, "wide", 0, MOST_WIDE))?;
-    let schema = maybe_number32(entry, "schema", 0, 16_777_214);
-    let schema = spot.key(Field::SchemaKey, beside(schema, has(entry, "snapshot")))?;
-    let snapshot = spot.key_or(Field::SnapshotKey, snapshot(alloc, entry))?;
-    Ok(NodeData {
-        node: NodeId(node),
-        namespace: Namespace(space),
-        short,
-        wide,
-        schema,
-        snapshot,
-    })
+    read_values(alloc, spot, node, space, entry)
 }
 
 impl<'a> Collects<AmongNodes<'a>> for DataRows {

@@ -1,4 +1,4 @@
-use Rattle.std.proofs.Common.{refl, sym, arith, ◌∙◌}
+use Rattle.std.proofs.Common.{refl, sym, ◌∙◌}
 use Rattle.ioam_topo_flows.proofs.TracedLaws.{traced_none, extras_turn, extras_there, extras_all}
 use Rattle.ioam_topo_flows.proofs.extra_table.with_extras.Goals as goal
 
