@@ -1,9 +1,13 @@
-use Rattle.std.proofs.Common.{◌+◌, ◌≤◌, length, drop, sym, subst}
+use Rattle.std.proofs.Common.{◌+◌, ◌≤◌, length, drop, sym, subst, arith}
 use Rattle.std.specs.Prelude.{set, true}
 use Rattle.std.proofs.lemmas.List.{take_rest}
-use Rattle.ioam_ipfix.specs.Sets.{TemplatePasses}
-use Rattle.ioam_ipfix.proofs.PlacesLaws.{Took, Took-push}
+use Rattle.ioam_ipfix.specs.Faults.{IsStuckTemplate}
+use Rattle.ioam_ipfix.specs.Sets.{IsPadding, TemplatePasses}
+use Rattle.ioam_ipfix.proofs.PlacesLaws.{Took, Took-all, Took-none, Took-push, Took-stuck}
 use Rattle.ioam_ipfix.proofs.set.take_templates.Goals as goal
+
+pub templates-init : goal.templates-init
+templates-init c = record { within = omega arith; took = Took-none c.args.content.now c.args.known.now }
 
 pub templates-preserved : goal.templates-preserved
 templates-preserved c =
@@ -17,3 +21,16 @@ templates-preserved c =
       within = took.within;
       took = subst (λ k. Took content c.args.known.now (at + size) (set c.templates.known k true)) (sym c.from.ensures) took;
     }
+
+pub returns-in-Padding : goal.returns-in-Padding
+returns-in-Padding c =
+    let content = c.args.content.now in
+    let at = c.templates.at in
+    Took-all content c.args.known.now at c.templates.known c.templates.invariant.took (subst (IsPadding 4) (take_rest content at) c.in-Padding.ensures)
+
+pub returns-in-Bad : goal.returns-in-Bad
+returns-in-Bad c =
+    let content = c.args.content.now in
+    let at = c.templates.at in
+    Took-stuck content c.args.known.now at c.templates.known c.in-Bad.fault c.templates.invariant.took
+    (subst (λ o. IsStuckTemplate o c.in-Bad.fault) (take_rest content at) c.in-Bad.ensures)
