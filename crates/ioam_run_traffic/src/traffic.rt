@@ -5,9 +5,9 @@ ghost use Rattle.ioam_desk.specs.Kept.{KeepsOutputs, WritesFrom};
 ghost use Rattle.ioam_capture_merge.specs.Merging.{AreUnread, EndsKept, Merging, start_of};
 ghost use Rattle.ioam_run_arrivals.specs.Outlets.{outlet_count};
 ghost use Rattle.ioam_desk_outputs.specs.Names.{AreApart};
-ghost use Rattle.ioam_desk_outputs.specs.Told.{AreTold, GathersNothing, unsaid};
+ghost use Rattle.ioam_desk_outputs.specs.Told.{AreTold, GathersFew, GathersNothing, unsaid};
 ghost use Rattle.ioam_topo.specs.Domain.{ports as ports_of};
-ghost use Rattle.ioam_run_traffic.specs.Running.{Ends, IsBroken};
+ghost use Rattle.ioam_run_traffic.specs.Running.{Ends, IsBroken, Running};
 ghost use Rattle.ioam_run_traffic.specs.Traffic.{Files, files_of, course_with, begun, AllOpened, Finishes, IsEnd};
 ghost use Rattle.ioam_run_traffic.specs.declared.halt.Halt.{Halt};
 
@@ -162,7 +162,38 @@ fn run_open<R: Threads + Sync, D: Desk, G: Gate>(
         return Halt::NoMemory;
     };
     let mut progress = Progress { merge, gathered };
-    let halt = carry_on(terms, alloc, desk, &mut progress, outputs);
+    run_begun(terms, alloc, desk, &mut progress, outputs)
+}
+
+// Takes the arrivals to their end, and puts the rest behind it where the outputs don't stay as they are.
+fn run_begun<R: Threads + Sync, D: Desk, G: Gate>(
+    terms: &Terms<'_, R, G>,
+    alloc: Global,
+    desk: &mut D,
+    progress: &mut Progress,
+    outputs: &mut [Output],
+) -> Halt
+    ghost files: { Files }
+    requires staffed { (1 ≤ terms.now.workers) × (terms.now.workers ≤ 64) }
+    requires running { Running D.tells (course_with G.opens terms.now.domain.now terms.now.readings.now terms.now.ports.now files)
+        (D.reading desk.old) (D.writing desk.old) progress.old outputs.old }
+    requires sized { length terms.now.ports.now ≡ length files.lanes.contents }
+    requires inside { All (λ port. port.0 < length (ports_of terms.now.domain.now)) terms.now.ports.now }
+    requires width { length outputs.old ≡ outlet_count terms.now.domain.now }
+    requires waiting { GathersFew outputs.old }
+    ensures ends { Ends D.tells (course_with G.opens terms.now.domain.now terms.now.readings.now terms.now.ports.now files) (D.reading desk.old) (D.reading desk.new)
+        (D.writing desk.old) (D.writing desk.new) result }
+    // What failed is answered: no read where the captures decided the end, and no write but where the answer says so.
+    ensures faults_in { IsEnd result → (D.reading desk.new).side.faults ≡ (D.reading desk.old).side.faults }
+    ensures faults_out { result ≢ Halt.WriteFault → (D.writing desk.new).side.faults ≡ (D.writing desk.old).side.faults }
+    ensures asked_in { (D.reading desk.new).side.asked ≡ (D.reading desk.old).side.asked }
+    ensures slots_in { (D.reading desk.new).side.slots ≡ (D.reading desk.old).side.slots }
+    ensures asked_out { (D.writing desk.new).side.asked ≡ (D.writing desk.old).side.asked }
+    ensures slots_out { (D.writing desk.new).side.slots ≡ (D.writing desk.old).side.slots }
+    ensures kept { EndsKept files.lanes.base (D.reading desk.old) (D.reading desk.new) }
+    ensures kept_out { WritesFrom files.first (D.writing desk.old) (D.writing desk.new) }
+{
+    let halt = carry_on(terms, alloc, desk, progress, outputs);
     if is_broken(halt) {
         return halt;
     }

@@ -1,4 +1,4 @@
 use Rattle.ioam_run_traffic.proofs.traffic.run_open.Given as goal
 
-abbrev pub ghost-carry_on : goal.ghost-carry_on
-ghost-carry_on g a = g.files
+abbrev pub ghost-run_begun : goal.ghost-run_begun
+ghost-run_begun g a = g.files
