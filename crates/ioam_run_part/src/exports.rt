@@ -30,6 +30,22 @@ pub(crate) fn run_files<D: Desk>(
     let Ok(mut tools) = new_tools(alloc) else {
         return Outcome::NoMemory;
     };
+    run_with(alloc, &mut tools, exports, part, desk)
+}
+
+// The same, with what is needed at hand.
+fn run_with<D: Desk>(
+    alloc: Global,
+    tools: &mut Tools,
+    exports: &Name,
+    part: &Name,
+    desk: &mut D,
+) -> Outcome
+    requires piece { length tools.old.piece.items ≡ PIECE }
+    requires stands { collected.Stands tools.old.collector [] }
+    requires limit { tools.old.collector.limit ≡ 1048576 }
+    ensures { PartEnds (around D.tells (D.reading desk.old) (D.reading desk.new) (D.writing desk.old) (D.writing desk.new)) (record { exports = exports.now; part = part.now }) result }
+{
     let mut feed = match open_exports(alloc, desk, exports.text()) {
         Ok(feed) => feed,
         Err(DeskFault::Failed) => return Outcome::ReadFault,
