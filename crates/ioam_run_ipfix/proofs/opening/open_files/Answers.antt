@@ -87,3 +87,29 @@ returns-in-Err-NoMemory-open_outputs-clause-failures g c =
     let lacks = rw c.in-Err-NoMemory-open_outputs.field-0-is at c.in-Err-NoMemory-open_outputs.ensures.fault in
     failures-memory g.D.Desk.tells (g.D.Desk.reading c.args.desk.now) (g.D.Desk.reading c.open_outputs.new.desk) (g.D.Desk.writing c.args.desk.now) (g.D.Desk.writing c.open_outputs.new.desk)
     (lacks.0 ∙ ap (λ (w : Writing). w.side.faults) c.in-Ok.ensures.outputs)
+
+pub returns-in-Ok-open_outputs-clause-no_output : goal.returns-in-Ok-open_outputs-clause-no_output
+returns-in-Ok-open_outputs-clause-no_output g c =
+    let slots : (g.D.Desk.reading c.open_outputs.new.desk).side.slots ≡ (g.D.Desk.reading c.args.desk.now).side.slots + 1 =
+    ap (λ (r : Reading). r.side.slots) c.in-Ok-open_outputs.ensures.inputs ∙ ap (λ (s : Side). s.slots) c.in-Ok.ensures.opened.side in
+    λ same. absurd (omega (arith, same, slots))
+
+pub returns-in-Err-Failed-open_outputs-clause-no_output : goal.returns-in-Err-Failed-open_outputs-clause-no_output
+returns-in-Err-Failed-open_outputs-clause-no_output g c =
+    let slots : (g.D.Desk.reading c.open_outputs.new.desk).side.slots ≡ (g.D.Desk.reading c.args.desk.now).side.slots + 1 =
+    ap (λ (r : Reading). r.side.slots) c.in-Err-Failed-open_outputs.ensures.inputs ∙ ap (λ (s : Side). s.slots) c.in-Ok.ensures.opened.side in
+    λ same. absurd (omega (arith, same, slots))
+
+pub returns-in-Err-NoMemory-open_outputs-clause-no_output : goal.returns-in-Err-NoMemory-open_outputs-clause-no_output
+returns-in-Err-NoMemory-open_outputs-clause-no_output g c =
+    let slots : (g.D.Desk.reading c.open_outputs.new.desk).side.slots ≡ (g.D.Desk.reading c.args.desk.now).side.slots + 1 =
+    ap (λ (r : Reading). r.side.slots) c.in-Err-NoMemory-open_outputs.ensures.inputs ∙ ap (λ (s : Side). s.slots) c.in-Ok.ensures.opened.side in
+    λ same. absurd (omega (arith, same, slots))
+
+pub returns-in-Err-Failed-clause-no_output : goal.returns-in-Err-Failed-clause-no_output
+returns-in-Err-Failed-clause-no_output g c =
+    λ same. c.in-Err-Failed.ensures.outputs
+
+pub returns-in-Err-NoMemory-clause-no_output : goal.returns-in-Err-NoMemory-clause-no_output
+returns-in-Err-NoMemory-clause-no_output g c =
+    λ same. c.in-Err-NoMemory.ensures.outputs
