@@ -163,3 +163,27 @@ returns-in-Err-clause-kept_out g c = WritesFrom-then g.files.first (g.D.Desk.wri
     (WritesFrom-then g.files.first (g.D.Desk.writing c.args.desk.now) (g.D.Desk.writing c.turns.desk) (g.D.Desk.writing c.turn.new.desk) c.turns.invariant.kept_out
     (WritesFrom-same g.files.first _ _ c.turn.ensures.outputs))
     c.pass_on.ensures.kept
+
+pub returns-in-Err-clause-faults_in : goal.returns-in-Err-clause-faults_in
+returns-in-Err-clause-faults_in g c =
+    λ other. ap (λ (r : Reading). r.side.faults) c.in-Err.ensures.inputs ∙ ap (λ (s : Side). s.faults) (c.in-Ok-Next.ensures.same ∙ c.turns.invariant.inputs)
+
+pub returns-in-Err-clause-asked_in : goal.returns-in-Err-clause-asked_in
+returns-in-Err-clause-asked_in g c =
+    ap (λ (r : Reading). r.side.asked) c.in-Err.ensures.inputs ∙ ap (λ (s : Side). s.asked) (c.in-Ok-Next.ensures.same ∙ c.turns.invariant.inputs)
+
+pub returns-in-Err-clause-slots_in : goal.returns-in-Err-clause-slots_in
+returns-in-Err-clause-slots_in g c =
+    ap (λ (r : Reading). r.side.slots) c.in-Err.ensures.inputs ∙ ap (λ (s : Side). s.slots) (c.in-Ok-Next.ensures.same ∙ c.turns.invariant.inputs)
+
+pub returns-in-Err-clause-faults_out : goal.returns-in-Err-clause-faults_out
+returns-in-Err-clause-faults_out g c =
+    λ other. c.in-Err.ensures.faults other ∙ ap (λ (s : Side). s.faults) (ap (λ (w : Writing). w.side) c.in-Ok-Next.ensures.outputs ∙ c.turns.invariant.side)
+
+pub returns-in-Err-clause-asked_out : goal.returns-in-Err-clause-asked_out
+returns-in-Err-clause-asked_out g c =
+    c.in-Err.ensures.asked ∙ ap (λ (s : Side). s.asked) (ap (λ (w : Writing). w.side) c.in-Ok-Next.ensures.outputs ∙ c.turns.invariant.side)
+
+pub returns-in-Err-clause-slots_out : goal.returns-in-Err-clause-slots_out
+returns-in-Err-clause-slots_out g c =
+    c.in-Err.ensures.slots ∙ ap (λ (s : Side). s.slots) (ap (λ (w : Writing). w.side) c.in-Ok-Next.ensures.outputs ∙ c.turns.invariant.side)

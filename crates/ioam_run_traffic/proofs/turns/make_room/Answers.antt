@@ -121,3 +121,11 @@ returns-in-Err-NoMemory-clause-kept g c =
     c.tell.new.self c.tell.new.outputs added adds gathers in
     told_writes g.D.Desk.tells (g.D.Desk.writing c.args.desk.now) (g.D.Desk.writing c.flush_full.new.desk) g.files.first g.files.names
     c.tell.new.outputs runs.texts runs.told c.flush_full.ensures.others
+
+pub returns-in-Err-Failed-clause-faults : goal.returns-in-Err-Failed-clause-faults
+returns-in-Err-Failed-clause-faults g c =
+    λ other. absurd (other refl)
+
+pub returns-in-Err-NoMemory-clause-faults : goal.returns-in-Err-NoMemory-clause-faults
+returns-in-Err-NoMemory-clause-faults g c =
+    λ other. rw c.in-Err-NoMemory.field-0-is at c.in-Err-NoMemory.ensures.cause

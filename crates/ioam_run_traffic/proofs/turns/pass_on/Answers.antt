@@ -38,3 +38,11 @@ returns-in-Err-take_next-clause-stops g c =
 
 pub returns-then-taken-from-clause-kept : goal.returns-then-taken-from-clause-kept
 returns-then-taken-from-clause-kept g c = WritesFrom-same g.files.first (g.D.Desk.writing c.args.desk.now) _ refl
+
+pub returns-in-Err-clause-faults : goal.returns-in-Err-clause-faults
+returns-in-Err-clause-faults g c =
+    λ other. c.in-Err.ensures.faults other
+
+pub take_next-requires-clause-few : goal.take_next-requires-clause-few
+take_next-requires-clause-few g c =
+    omega (arith, c.if-taken-from.false, c.in-Ok.ensures.counted, c.args.terms.now.domain.now.packets_most)
