@@ -1,6 +1,10 @@
-use Rattle.std.proofs.Common.{◌≡◌, ℕ, ◌+◌, List, Some, length, ap, ◌∙◌, subst, inr, arith}
+use Rattle.std.proofs.Common.{◌≡◌, ℕ, ◌+◌, List, ◌∷◌, [], Some, length, ap, ◌∙◌, subst, sym, inr, arith}
+use Rattle.ioam_desk.specs.Asked.{AsksFront}
+use Rattle.ioam_desk.specs.Kept.{KeepsOutputs}
+use Rattle.ioam_desk.specs.declared.fault.DeskFault.TheVariants.{Failed, NoMemory}
+use Rattle.ioam_desk.proofs.KeptLaws.{KeepsOutputs-same}
 use Rattle.ioam_desk.specs.Desk.{OpensInput, Side, Reading, Writing, holds}
-use Rattle.ioam_run_ipfix.proofs.OpeningLaws.{asks_one, untouched, unwritten}
+use Rattle.ioam_run_ipfix.proofs.OpeningLaws.{KeepsInputs-opened, KeepsInputs-unopened, asks_none, asks_one, untouched, unwritten}
 use Rattle.ioam_run_answer.proofs.FailuresLaws.{failures-read, failures-write, failures-memory}
 use Rattle.ioam_run_ipfix.proofs.opening.open_files.Goals as goal
 
@@ -113,3 +117,71 @@ returns-in-Err-Failed-clause-no_output g c =
 pub returns-in-Err-NoMemory-clause-no_output : goal.returns-in-Err-NoMemory-clause-no_output
 returns-in-Err-NoMemory-clause-no_output g c =
     λ same. c.in-Err-NoMemory.ensures.outputs
+
+pub returns-in-Ok-open_outputs-clause-kept_in : goal.returns-in-Ok-open_outputs-clause-kept_in
+returns-in-Ok-open_outputs-clause-kept_in g c =
+    KeepsInputs-opened g.D.Desk.tells (g.D.Desk.reading c.args.desk.now) (g.D.Desk.reading c.open_in.new.self) (g.D.Desk.reading c.open_outputs.new.desk)
+    (holds (g.D.Desk.writing c.args.desk.now) c.text.result.now) c.text.result.now c.in-Ok.slot c.in-Ok.ensures.opened c.in-Ok-open_outputs.ensures.inputs
+
+pub returns-in-Ok-open_outputs-clause-kept_out : goal.returns-in-Ok-open_outputs-clause-kept_out
+returns-in-Ok-open_outputs-clause-kept_out g c =
+    λ told. subst (λ w. KeepsOutputs w (g.D.Desk.writing c.open_outputs.new.desk)) c.in-Ok.ensures.outputs (c.in-Ok-open_outputs.ensures.kept told)
+
+pub returns-in-Ok-open_outputs-clause-asked_out : goal.returns-in-Ok-open_outputs-clause-asked_out
+returns-in-Ok-open_outputs-clause-asked_out g c =
+    let P : List (List ℕ) → Type 0 = λ names. AsksFront (g.D.Desk.writing c.open_in.new.self).side.asked (g.D.Desk.writing c.open_outputs.new.desk).side.asked names in
+    subst (λ (w : Writing). AsksFront w.side.asked (g.D.Desk.writing c.open_outputs.new.desk).side.asked (g.start.out ∷ [])) c.in-Ok.ensures.outputs (subst P c.requires.1.1.1 c.in-Ok-open_outputs.ensures.asked)
+
+pub returns-in-Err-Failed-open_outputs-clause-kept_in : goal.returns-in-Err-Failed-open_outputs-clause-kept_in
+returns-in-Err-Failed-open_outputs-clause-kept_in g c =
+    KeepsInputs-opened g.D.Desk.tells (g.D.Desk.reading c.args.desk.now) (g.D.Desk.reading c.open_in.new.self) (g.D.Desk.reading c.open_outputs.new.desk)
+    (holds (g.D.Desk.writing c.args.desk.now) c.text.result.now) c.text.result.now c.in-Ok.slot c.in-Ok.ensures.opened c.in-Err-Failed-open_outputs.ensures.inputs
+
+pub returns-in-Err-Failed-open_outputs-clause-kept_out : goal.returns-in-Err-Failed-open_outputs-clause-kept_out
+returns-in-Err-Failed-open_outputs-clause-kept_out g c =
+    λ told. subst (λ w. KeepsOutputs w (g.D.Desk.writing c.open_outputs.new.desk)) c.in-Ok.ensures.outputs (c.in-Err-Failed-open_outputs.ensures.kept told)
+
+pub returns-in-Err-Failed-open_outputs-clause-asked_out : goal.returns-in-Err-Failed-open_outputs-clause-asked_out
+returns-in-Err-Failed-open_outputs-clause-asked_out g c =
+    let P : List (List ℕ) → Type 0 = λ names. AsksFront (g.D.Desk.writing c.open_in.new.self).side.asked (g.D.Desk.writing c.open_outputs.new.desk).side.asked names in
+    subst (λ (w : Writing). AsksFront w.side.asked (g.D.Desk.writing c.open_outputs.new.desk).side.asked (g.start.out ∷ [])) c.in-Ok.ensures.outputs (subst P c.requires.1.1.1 c.in-Err-Failed-open_outputs.ensures.asked)
+
+pub returns-in-Err-NoMemory-open_outputs-clause-kept_in : goal.returns-in-Err-NoMemory-open_outputs-clause-kept_in
+returns-in-Err-NoMemory-open_outputs-clause-kept_in g c =
+    KeepsInputs-opened g.D.Desk.tells (g.D.Desk.reading c.args.desk.now) (g.D.Desk.reading c.open_in.new.self) (g.D.Desk.reading c.open_outputs.new.desk)
+    (holds (g.D.Desk.writing c.args.desk.now) c.text.result.now) c.text.result.now c.in-Ok.slot c.in-Ok.ensures.opened c.in-Err-NoMemory-open_outputs.ensures.inputs
+
+pub returns-in-Err-NoMemory-open_outputs-clause-kept_out : goal.returns-in-Err-NoMemory-open_outputs-clause-kept_out
+returns-in-Err-NoMemory-open_outputs-clause-kept_out g c =
+    λ told. subst (λ w. KeepsOutputs w (g.D.Desk.writing c.open_outputs.new.desk)) c.in-Ok.ensures.outputs (c.in-Err-NoMemory-open_outputs.ensures.kept told)
+
+pub returns-in-Err-NoMemory-open_outputs-clause-asked_out : goal.returns-in-Err-NoMemory-open_outputs-clause-asked_out
+returns-in-Err-NoMemory-open_outputs-clause-asked_out g c =
+    let P : List (List ℕ) → Type 0 = λ names. AsksFront (g.D.Desk.writing c.open_in.new.self).side.asked (g.D.Desk.writing c.open_outputs.new.desk).side.asked names in
+    subst (λ (w : Writing). AsksFront w.side.asked (g.D.Desk.writing c.open_outputs.new.desk).side.asked (g.start.out ∷ [])) c.in-Ok.ensures.outputs (subst P c.requires.1.1.1 c.in-Err-NoMemory-open_outputs.ensures.asked)
+
+pub returns-in-Err-Failed-clause-kept_in : goal.returns-in-Err-Failed-clause-kept_in
+returns-in-Err-Failed-clause-kept_in g c =
+    KeepsInputs-unopened g.D.Desk.tells (g.D.Desk.reading c.args.desk.now) (g.D.Desk.reading c.open_in.new.self) (holds (g.D.Desk.writing c.args.desk.now) c.text.result.now) c.text.result.now Failed
+    (rw c.in-Err-Failed.field-0-is at c.in-Err-Failed.ensures.opened)
+
+pub returns-in-Err-Failed-clause-kept_out : goal.returns-in-Err-Failed-clause-kept_out
+returns-in-Err-Failed-clause-kept_out g c =
+    λ told. KeepsOutputs-same (g.D.Desk.writing c.args.desk.now) (g.D.Desk.writing c.open_in.new.self) c.in-Err-Failed.ensures.outputs
+
+pub returns-in-Err-Failed-clause-asked_out : goal.returns-in-Err-Failed-clause-asked_out
+returns-in-Err-Failed-clause-asked_out g c =
+    subst (λ (w : Writing). AsksFront (g.D.Desk.writing c.args.desk.now).side.asked w.side.asked (g.start.out ∷ [])) (sym c.in-Err-Failed.ensures.outputs) (asks_none (g.D.Desk.writing c.args.desk.now).side.asked (g.start.out ∷ []))
+
+pub returns-in-Err-NoMemory-clause-kept_in : goal.returns-in-Err-NoMemory-clause-kept_in
+returns-in-Err-NoMemory-clause-kept_in g c =
+    KeepsInputs-unopened g.D.Desk.tells (g.D.Desk.reading c.args.desk.now) (g.D.Desk.reading c.open_in.new.self) (holds (g.D.Desk.writing c.args.desk.now) c.text.result.now) c.text.result.now NoMemory
+    (rw c.in-Err-NoMemory.field-0-is at c.in-Err-NoMemory.ensures.opened)
+
+pub returns-in-Err-NoMemory-clause-kept_out : goal.returns-in-Err-NoMemory-clause-kept_out
+returns-in-Err-NoMemory-clause-kept_out g c =
+    λ told. KeepsOutputs-same (g.D.Desk.writing c.args.desk.now) (g.D.Desk.writing c.open_in.new.self) c.in-Err-NoMemory.ensures.outputs
+
+pub returns-in-Err-NoMemory-clause-asked_out : goal.returns-in-Err-NoMemory-clause-asked_out
+returns-in-Err-NoMemory-clause-asked_out g c =
+    subst (λ (w : Writing). AsksFront (g.D.Desk.writing c.args.desk.now).side.asked w.side.asked (g.start.out ∷ [])) (sym c.in-Err-NoMemory.ensures.outputs) (asks_none (g.D.Desk.writing c.args.desk.now).side.asked (g.start.out ∷ []))
