@@ -1,5 +1,5 @@
 -- Messages one behind the other, joined and cut, and their sizes.
-use Rattle.std.proofs.Common.{◌≡◌, ℕ, zero, suc, ◌+◌, ◌*◌, ◌<◌, ◌≤◌, List, [], ◌∷◌, ◌++◌, length, drop, length-drop, refl, sym, ap, subst, arith}
+use Rattle.std.proofs.Common.{ℕ, zero, suc, ◌+◌, ◌*◌, ◌<◌, ◌≤◌, List, [], ◌∷◌, ◌++◌, length, drop, length-drop, refl, sym, ap, subst, arith}
 use Rattle.ioam_base.specs.Chain.{Chain}
 use Rattle.ioam_base.specs.Octets.{u16_at, IsOctets}
 use Rattle.ioam_base.proofs.OctetsLaws.{u16_at-fits}

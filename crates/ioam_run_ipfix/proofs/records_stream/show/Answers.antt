@@ -1,4 +1,4 @@
-use Rattle.std.proofs.Common.{refl, ap, ◌++◌, ◌∙◌}
+use Rattle.std.proofs.Common.{ap, ◌++◌, ◌∙◌}
 use Rattle.ioam_dex.specs.Record.{record_octets}
 use Rattle.ioam_dex.specs.Room.{Room}
 use Rattle.ioam_ipfix.specs.Data.{data_at}
