@@ -20,6 +20,8 @@ import subprocess
 import sys
 import tempfile
 
+sys.dont_write_bytecode = True
+
 TOP = os.path.dirname(os.path.dirname(os.path.dirname(os.path.abspath(__file__))))
 LEAST = 0.5
 OPENED = re.compile(r'^\d+ +([\d.]+) openat\(AT_FDCWD, "([^"]*)"')
