@@ -4,7 +4,8 @@ ghost use Rattle.ioam_run_answer.specs.Answers.{status_of, line_text, domain_tex
 
 use crate::outcome::Outcome;
 use crate::words::{
-    capture_words, export_words, field_text, ipfix_words, read_why_text, table_text, why_text,
+    FaultWord, capture_word, export_word, field_text, ipfix_word, read_why_text, table_text,
+    why_text,
 };
 use ioam_base::memory::NoMemory;
 use ioam_clock::ReadingsFault;
@@ -105,7 +106,7 @@ fn capture_line(alloc: Global, name: &str, at: u64, fault: CapFault) -> Result<S
     ensures { IfOk result (λ line. string_bytes line
         ≡ codes "capture " ++ name.now ++ codes " " ++ decimal at ++ codes " " ++ fault_text fault) }
 {
-    let (word, number) = capture_words(fault);
+    let FaultWord { word, number } = capture_word(fault);
     Ok(format!(in alloc; "capture {name} {at} {word} {number}")?)
 }
 
@@ -114,7 +115,7 @@ fn exports_line(alloc: Global, at: u64, fault: ExportFault) -> Result<String, No
     ensures { IfOk result (λ line. string_bytes line
         ≡ codes "exports " ++ decimal at ++ codes " " ++ export_text fault) }
 {
-    let (word, number) = export_words(fault);
+    let FaultWord { word, number } = export_word(fault);
     Ok(format!(in alloc; "exports {at} {word} {number}")?)
 }
 
@@ -123,7 +124,7 @@ fn ipfix_line(alloc: Global, at: u64, fault: IpfixFault) -> Result<String, NoMem
     ensures { IfOk result (λ line. string_bytes line
         ≡ codes "ipfix " ++ decimal at ++ codes " " ++ ipfix_text fault) }
 {
-    let (word, number) = ipfix_words(fault);
+    let FaultWord { word, number } = ipfix_word(fault);
     Ok(format!(in alloc; "ipfix {at} {word} {number}")?)
 }
 
@@ -154,6 +155,6 @@ fn part_fault_line(alloc: Global, fault: PartFault) -> Result<String, NoMemory>
 fn part_record_line(alloc: Global, fault: ExportFault) -> Result<String, NoMemory>
     ensures { IfOk result (λ line. string_bytes line ≡ codes "record " ++ export_text fault) }
 {
-    let (word, number) = export_words(fault);
+    let FaultWord { word, number } = export_word(fault);
     Ok(format!(in alloc; "record {word} {number}")?)
 }

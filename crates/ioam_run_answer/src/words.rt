@@ -112,49 +112,64 @@ pub fn read_why_text(why: ReadWhy) -> &'static str
     }
 }
 
-/// The word for a capture's fault, and the number that was found.
-pub fn capture_words(fault: CapFault) -> (&'static str, u64)
-    ensures { fault_text fault ≡ result.0.now ++ codes " " ++ decimal result.1 }
+/// How a fault is said: by a word, and the number that was found.
+pub struct FaultWord {
+    /// The word for it.
+    pub word: &'static str,
+    /// What stands where it is wrong, or how much there is.
+    pub number: u64,
+}
+
+fn fault_word(word: &'static str, number: u64) -> FaultWord
+    ensures word { result.word.now ≡ word.now }
+    ensures number { result.number ≡ number }
+{
+    FaultWord { word, number }
+}
+
+/// The word for a capture's fault.
+pub fn capture_word(fault: CapFault) -> FaultWord
+    ensures { fault_text fault ≡ result.word.now ++ codes " " ++ decimal result.number }
 {
     match fault {
-        CapFault::Magic { found } => ("magic", u64::from(found)),
-        CapFault::Blocks { limit } => ("blocks", u64::from(limit)),
-        CapFault::Order { found } => ("order", u64::from(found)),
-        CapFault::Large { found } => ("large", u64::from(found)),
-        CapFault::Size { found } => ("size", u64::from(found)),
-        CapFault::Trail { found } => ("trail", u64::from(found)),
-        CapFault::Kind { found } => ("kind", u64::from(found)),
-        CapFault::Face { found } => ("face", u64::from(found)),
-        CapFault::Link { found } => ("link", u64::from(found)),
-        CapFault::Resolution { found } => ("resolution", u64::from(found)),
-        CapFault::RecordLong { found } => ("long", u64::from(found)),
-        CapFault::Time { found } => ("time", found),
-        CapFault::Short { have } => ("short", u64::from(have)),
+        CapFault::Magic { found } => fault_word("magic", u64::from(found)),
+        CapFault::Blocks { limit } => fault_word("blocks", u64::from(limit)),
+        CapFault::Order { found } => fault_word("order", u64::from(found)),
+        CapFault::Large { found } => fault_word("large", u64::from(found)),
+        CapFault::Size { found } => fault_word("size", u64::from(found)),
+        CapFault::Trail { found } => fault_word("trail", u64::from(found)),
+        CapFault::Kind { found } => fault_word("kind", u64::from(found)),
+        CapFault::Face { found } => fault_word("face", u64::from(found)),
+        CapFault::Link { found } => fault_word("link", u64::from(found)),
+        CapFault::Resolution { found } => fault_word("resolution", u64::from(found)),
+        CapFault::RecordLong { found } => fault_word("long", u64::from(found)),
+        CapFault::Time { found } => fault_word("time", found),
+        CapFault::Short { have } => fault_word("short", u64::from(have)),
     }
 }
 
-/// The word for a record's fault, and the number that was found.
-pub fn export_words(fault: ExportFault) -> (&'static str, u64)
-    ensures { export_text fault ≡ result.0.now ++ codes " " ++ decimal result.1 }
+/// The word for a record's fault.
+pub fn export_word(fault: ExportFault) -> FaultWord
+    ensures { export_text fault ≡ result.word.now ++ codes " " ++ decimal result.number }
 {
     match fault {
-        ExportFault::Version { found } => ("version", u64::from(found)),
-        ExportFault::Length { found } => ("length", u64::from(found)),
-        ExportFault::Element { at } => ("element", u64::from(at)),
-        ExportFault::Short { have } => ("short", u64::from(have)),
+        ExportFault::Version { found } => fault_word("version", u64::from(found)),
+        ExportFault::Length { found } => fault_word("length", u64::from(found)),
+        ExportFault::Element { at } => fault_word("element", u64::from(at)),
+        ExportFault::Short { have } => fault_word("short", u64::from(have)),
     }
 }
 
-/// The word for a message's fault, and the number that was found.
-pub fn ipfix_words(fault: IpfixFault) -> (&'static str, u64)
-    ensures { ipfix_text fault ≡ result.0.now ++ codes " " ++ decimal result.1 }
+/// The word for a message's fault.
+pub fn ipfix_word(fault: IpfixFault) -> FaultWord
+    ensures { ipfix_text fault ≡ result.word.now ++ codes " " ++ decimal result.number }
 {
     match fault {
-        IpfixFault::Version { found } => ("version", u64::from(found)),
-        IpfixFault::Length { found } => ("length", u64::from(found)),
-        IpfixFault::Set { found } => ("set", u64::from(found)),
-        IpfixFault::Template { found } => ("template", u64::from(found)),
-        IpfixFault::Field { at } => ("field", u64::from(at)),
-        IpfixFault::Short { have } => ("short", u64::from(have)),
+        IpfixFault::Version { found } => fault_word("version", u64::from(found)),
+        IpfixFault::Length { found } => fault_word("length", u64::from(found)),
+        IpfixFault::Set { found } => fault_word("set", u64::from(found)),
+        IpfixFault::Template { found } => fault_word("template", u64::from(found)),
+        IpfixFault::Field { at } => fault_word("field", u64::from(at)),
+        IpfixFault::Short { have } => fault_word("short", u64::from(have)),
     }
 }
