@@ -5,7 +5,8 @@ use Rattle.std.proofs.lemmas.Bool.{cases_lt}
 use Rattle.std.proofs.lemmas.List.{take_more}
 use Rattle.std.proofs.lemmas.Option.{none-some, same_Some, slice_get-map, slice_get_read}
 use Rattle.ioam_desk.specs.Desk as desk
-use Rattle.ioam_desk.specs.Asked.{AsksFront, IsFaultOf}
+use Rattle.ioam_desk.specs.Asked.{AsksFront, HaveSlotsBut, IsFaultOf}
+use Rattle.ioam_desk.proofs.AskedLaws.{HaveSlots-each, HaveSlots-still, HaveSlots-then}
 use Rattle.ioam_desk.specs.Desk.{Rose, Side, Writing, OpensInput, OpenIn, holds, opened_side, opened_each}
 use Rattle.ioam_desk.specs.Unread.{Unread}
 use Rattle.ioam_desk.specs.declared.fault.DeskFault.{DeskFault}
@@ -170,6 +171,12 @@ pub failing_fewer : (tells : Bool) (old new : desk.Reading) (held : Option (List
 failing_fewer tells old new held name Failed fails = omega (arith, fails.0.slots)
 failing_fewer tells old new held name NoMemory fails = tt
 
+-- where it failed for want of memory, no name was asked for
+pub failing_slots : (tells : Bool) (old new : desk.Reading) (held : Option (List ℕ)) (name : List ℕ) (fault : DeskFault) → OpenIn tells old held name (Err fault) new
+    → HaveSlotsBut old.side new.side fault
+failing_slots tells old new held name Failed fails = tt
+failing_slots tells old new held name NoMemory fails = HaveSlots-still old.side new.side (ap (λ (r : desk.Reading). r.side) fails)
+
 pub kept_on : (base : ℕ) (a b c : desk.Reading) → base ≤ b.side.slots → EndsKept base a b → EndsKept b.side.slots b c → EndsKept base a c
 kept_on base a b c inside first second = λ k below. second k (omega (arith, below, inside)) ∙ first k below
 
@@ -178,6 +185,12 @@ pub fault_more : (start before after : Side) (names : List (List ℕ)) (fault : 
     → IsFaultOf start after fault
 fault_more start before after names Failed side rose = subst (λ (n : ℕ). Rose n after.faults) (ap (λ (s : Side). s.faults) side) rose
 fault_more start before after names NoMemory side same = same ∙ ap (λ (s : Side). s.faults) side
+
+-- each name before has its slot, and so has the next where it was asked for
+pub slots_more : (start before after : Side) (names : List (List ℕ)) (fault : DeskFault) → before ≡ opened_each start names → HaveSlotsBut before after fault
+    → HaveSlotsBut start after fault
+slots_more start before after names Failed side have = tt
+slots_more start before after names NoMemory side have = HaveSlots-then start before after (HaveSlots-each start before names side) have
 
 pub fewer_more : (fault : DeskFault) (slots most more : ℕ) → most ≤ more → LeavesFewer fault slots most → LeavesFewer fault slots more
 fewer_more Failed slots most more inside fewer = omega (arith, inside, fewer)

@@ -1,6 +1,6 @@
 //! Opening of several captures.
 ghost use Rattle.std.specs.Prelude.{◌≡◌, ◌+◌, ◌∷◌, [], IfErr, IfOk, IsTrue, OnOk, length, vec_len};
-ghost use Rattle.ioam_desk.specs.Asked.{AsksFront, IsFaultOf};
+ghost use Rattle.ioam_desk.specs.Asked.{AsksFront, HaveSlotsBut, IsFaultOf};
 ghost use Rattle.ioam_desk.specs.Desk.{holds, opened_side, opened_each};
 ghost use Rattle.ioam_capture_merge.specs.Merging.{Start, Merging, LeavesFewer, AreUnread, EndsKept, start_of, with_content};
 
@@ -25,6 +25,7 @@ fn open_one<D: Desk>(
     ensures side { OnOk result ((D.reading desk.new).side ≡ opened_side (D.reading desk.old).side name.now) }
     ensures asked { AsksFront (D.reading desk.old).side.asked (D.reading desk.new).side.asked (name.now ∷ []) }
     ensures cause { IfErr result (IsFaultOf (D.reading desk.old).side (D.reading desk.new).side) }
+    ensures slots { IfErr result (HaveSlotsBut (D.reading desk.old).side (D.reading desk.new).side) }
     ensures fewer { IfErr result (λ fault. LeavesFewer fault (D.reading desk.new).side.slots ((D.reading desk.old).side.slots + 1)) }
     ensures unread { IsTrue D.tells → AreUnread (start_of (D.reading desk.old).side.slots (D.writing desk.old) (name.now ∷ [])) (D.reading desk.new) }
     ensures outputs { D.writing desk.new ≡ D.writing desk.old }
@@ -47,6 +48,7 @@ pub fn open_merge<D: Desk>(alloc: Global, desk: &mut D, names: &[Name]) -> Resul
     ensures side { OnOk result ((D.reading desk.new).side ≡ opened_each (D.reading desk.old).side names.now) }
     ensures asked { AsksFront (D.reading desk.old).side.asked (D.reading desk.new).side.asked names.now }
     ensures cause { IfErr result (IsFaultOf (D.reading desk.old).side (D.reading desk.new).side) }
+    ensures slots { IfErr result (HaveSlotsBut (D.reading desk.old).side (D.reading desk.new).side) }
     ensures fewer { IfErr result (λ fault. LeavesFewer fault (D.reading desk.new).side.slots ((D.reading desk.old).side.slots + length names.now)) }
     ensures unread { IsTrue D.tells → AreUnread (start_of (D.reading desk.old).side.slots (D.writing desk.old) names.now) (D.reading desk.new) }
     ensures outputs { D.writing desk.new ≡ D.writing desk.old }

@@ -42,8 +42,8 @@ pub fn ioam<R: Threads + Sync, D: Desk, G: Gate>(
     ensures read_fault { result ≡ Outcome.ReadFault → Rose (D.reading desk.old).side.faults (D.reading desk.new).side.faults }
     ensures write_fault { result ≡ Outcome.WriteFault → Rose (D.writing desk.old).side.faults (D.writing desk.new).side.faults }
 
-    // What failed is answered: no call of an input failed where the words and the files decided the answer, and none of an output
-    // where it is any but WriteFault.
+    // What failed is answered: each input that was asked for was opened where the answer is any but ReadFault, no call of an input
+    // failed where the words and the files decided it, and none of an output where it is any but WriteFault.
     ensures failures { AnswersFailures (around D.tells (D.reading desk.old) (D.reading desk.new) (D.writing desk.old) (D.writing desk.new)) result }
 
     // The command of the words keeps its promise.

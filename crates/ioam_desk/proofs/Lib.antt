@@ -1,3 +1,4 @@
+pub mod AskedLaws
 pub mod DeskLaws
 mod HostLaws
 pub mod KeptLaws

@@ -55,8 +55,7 @@ abbrev pub FailsWhole : Bool → Reading → Reading → Option (List ℕ) → L
 FailsWhole tells old new held name limit Failed = Rose old.side.faults new.side.faults × Asks old.side new.side name × KeepsSlots old new
 FailsWhole tells old new held name limit (TooLong most) = (most ≡ limit) × (new.side ≡ opened_side old.side name)
     × (IsTrue tells → IsSomeAnd held (λ octets. limit < length octets)) × KeepsSlots old new
-FailsWhole tells old new held name limit NoMemory = (new.side.faults ≡ old.side.faults)
-    × ((new.side.asked ≡ old.side.asked) ⊎ Asks old.side new.side name) × KeepsSlots old new
+FailsWhole tells old new held name limit NoMemory = ((new.side ≡ old.side) ⊎ (new.side ≡ opened_side old.side name)) × KeepsSlots old new
 
 -- how many of so many octets were written
 abbrev pub sent : ℕ → Result (Unit {0}) WriteAll → ℕ

@@ -1,11 +1,11 @@
 -- What the packets of BEFORE became by all packets of AFTER, however far that was read; and that all were judged that can be.
-use Rattle.std.proofs.Common.{◌≡◌, ℕ, zero, suc, ◌+◌, ◌-◌, ◌<◌, ◌≤◌, Bool, true, false, IsTrue, IsSomeAnd, List, [], ◌∷◌, ◌++◌, length, take, drop, Option, Some, None, refl, sym, ap, ◌∙◌, subst, inl, inr, arith, append-nil, append_assoc, length-append, length-drop}
+use Rattle.std.proofs.Common.{◌≡◌, ℕ, zero, suc, ◌-◌, ◌<◌, ◌≤◌, Bool, true, false, IsTrue, IsSomeAnd, List, [], ◌∷◌, ◌++◌, length, take, drop, Option, Some, None, refl, sym, ap, ◌∙◌, subst, inl, inr, arith, append-nil, append_assoc, length-append, length-drop}
 use Rattle.std.proofs.lemmas.List.{length-take-le, take-append-drop}
 use Rattle.ioam_desk.specs.Desk as desk
 use Rattle.ioam_pcap.specs.Ending.{Ending, Whole, Faulty}
 use Rattle.ioam_pcap.specs.Entries.{Taken}
 use Rattle.ioam_capture.specs.Reads.{Reads}
-use Rattle.ioam_run_stream.specs.Promise.{AreFirst, ArePassed, AreWhole}
+use Rattle.ioam_run_stream.specs.Promise.{AreFirst, AreWhole}
 use Rattle.ioam_run_stream.proofs.HaltsLaws.{held_map}
 use Rattle.ioam_run_stream.proofs.StopsLaws.{begins_ends, begins_passed, begins_whole}
 use Rattle.ioam_run_audit.specs.Fit.{Place}

@@ -1,5 +1,5 @@
 -- A read of one of the two captures failed.
-use Rattle.std.proofs.Common.{◌≡◌, ℕ, Bool, false, IsTrue, IsSomeAnd, List, Option, None, Result, Ok, Err, ap, ◌∙◌, sym, subst}
+use Rattle.std.proofs.Common.{◌≡◌, ℕ, Bool, false, IsSomeAnd, List, Option, None, Result, Ok, Err, ap, ◌∙◌, sym, subst}
 use Rattle.std.specs.Prelude.{IfErr}
 use Rattle.ioam_capture.specs.Reader.{Stands}
 use Rattle.ioam_capture.specs.Reading.{Reading}

@@ -2,12 +2,13 @@
 use Rattle.std.proofs.Common.{◌≡◌, ℕ, zero, suc, ◌+◌, Bool, false, IsTrue, List, [], ◌∷◌, ◌++◌, take, length, Option, Some, Err, refl, sym, ap, ◌∙◌, subst, arith, append-nil, append_assoc}
 use Rattle.ioam_capture.specs.Reading.{Reading, fresh, most_held, pending}
 use Rattle.ioam_capture_merge.specs.Feed.{Fed}
-use Rattle.ioam_desk.specs.Asked.{AsksFront, IsFaultOf}
+use Rattle.ioam_desk.specs.Asked.{AsksFront, HaveSlotsBut, IsFaultOf}
 use Rattle.ioam_desk.specs.Desk as desk
 use Rattle.ioam_desk.specs.Desk.{OpenIn, OpensInput, Side, opened_side, opened_each}
 use Rattle.ioam_desk.specs.Kept.{KeepsInputs}
 use Rattle.ioam_desk.specs.declared.fault.DeskFault.{DeskFault}
 use Rattle.ioam_desk.specs.declared.fault.DeskFault.TheVariants.{Failed, NoMemory}
+use Rattle.ioam_desk.proofs.AskedLaws.{HaveSlots-one, HaveSlots-then}
 use Rattle.ioam_desk.proofs.KeptLaws.{KeepsInputs-but, KeepsInputs-same, KeepsInputs-then}
 use Rattle.ioam_pcap.specs.Entries.{Taken}
 use Rattle.ioam_run_audit.specs.Fit.{Place}
@@ -85,6 +86,11 @@ asks_two old new a b (suc n, asked) = (1, asked ∙ ap (λ (rest : List (List �
 pub asks_second : (old mid new : Side) (a b : List ℕ) → mid ≡ opened_side old a → AsksFront mid.asked new.asked (b ∷ []) → AsksFront old.asked new.asked (a ∷ b ∷ [])
 asks_second old mid new a b opened (count, asked) =
     (suc count, asked ∙ ap (λ (s : Side). s.asked ++ take count (b ∷ [])) opened ∙ append_assoc old.asked (a ∷ []) (take count (b ∷ [])))
+
+-- it was, and the second couldn't be
+pub missed_second : (old mid new : Side) (a : List ℕ) (fault : DeskFault) → mid ≡ opened_side old a → HaveSlotsBut mid new fault → HaveSlotsBut old new fault
+missed_second old mid new a Failed opened slots = tt
+missed_second old mid new a NoMemory opened slots = HaveSlots-then old mid new (HaveSlots-one old mid a opened) slots
 
 pub opened_both : (old mid new : Side) (a b : List ℕ) → mid ≡ opened_side old a → new ≡ opened_side mid b → new ≡ opened_each old (a ∷ b ∷ [])
 opened_both old mid new a b first second =

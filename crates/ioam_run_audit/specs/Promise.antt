@@ -311,6 +311,6 @@ module _ (desks : Desks) (files : AuditNames) where
     pub exact : (asked : Outcome) → IsTrue desks.tells → Asked files desks.old asked
         → (Rose desks.old_in.side.faults desks.new_in.side.faults → ⊥) → (Rose desks.old.side.faults desks.new.side.faults → ⊥)
         → (answer ≡ asked) ⊎ (answer ≡ outcome.NoMemory)
-    -- what failed is answered: no call of an input failed where the words and the files decided the answer, and none of REPORT
-    -- where the answer is any but WriteFault
+    -- what failed is answered: each input that was asked for was opened, but behind ReadFault; no call of one failed where the words
+    -- and the files decided the answer, and none of REPORT where it is any but WriteFault
     pub failures : AnswersFailures desks answer

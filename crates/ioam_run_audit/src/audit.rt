@@ -1,6 +1,6 @@
 //! `audit DOMAIN NODE LINK BEFORE AFTER REPORT`.
-ghost use Rattle.std.specs.Prelude.{◌≡◌, ◌+◌, ◌≤◌, ◌∷◌, [], Err, IfErr, IfOk, IsTrue, OnOk};
-ghost use Rattle.ioam_desk.specs.Asked.{AsksFront};
+ghost use Rattle.std.specs.Prelude.{◌≡◌, ◌≢◌, ◌+◌, ◌≤◌, ◌∷◌, [], Err, IfErr, IfOk, IsTrue, OnOk};
+ghost use Rattle.ioam_desk.specs.Asked.{AsksFront, HaveSlots};
 ghost use Rattle.ioam_desk.specs.Desk.{holds, opened_side};
 ghost use Rattle.ioam_desk.specs.Kept.{KeepsInputs};
 ghost use Rattle.ioam_desk_outputs.specs.Names.{AreApart};
@@ -57,6 +57,8 @@ fn read_named<D: Desk>(
     ensures read { IsDomainRead D.tells (D.reading desk.old) (D.reading desk.new) (holds (D.writing desk.old) files.now.domain) result }
     ensures settled { IfErr result (λ refusal. IsSettled (refused_as refusal)
         → (D.reading desk.new).side.faults ≡ (D.reading desk.old).side.faults) }
+    ensures opens { IfErr result (λ refusal. refused_as refusal ≢ Outcome.ReadFault
+        → HaveSlots (D.reading desk.old).side (D.reading desk.new).side) }
     ensures side { OnOk result ((D.reading desk.new).side ≡ opened_side (D.reading desk.old).side files.now.domain) }
     ensures ended { OnOk result (IsTrue D.tells → IsTrue ((D.reading desk.new).ended (D.reading desk.old).side.slots)) }
     ensures asked { AsksFront (D.reading desk.old).side.asked (D.reading desk.new).side.asked (files.now.domain ∷ []) }

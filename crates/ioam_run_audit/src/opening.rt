@@ -1,6 +1,6 @@
 //! The two captures, opened.
 ghost use Rattle.std.specs.Prelude.{◌≡◌, ◌+◌, ◌≤◌, ◌∷◌, [], IfErr, IfOk, IsTrue, OnErr, OnOk};
-ghost use Rattle.ioam_desk.specs.Asked.{AsksFront, IsFaultOf};
+ghost use Rattle.ioam_desk.specs.Asked.{AsksFront, HaveSlotsBut, IsFaultOf};
 ghost use Rattle.ioam_desk.specs.Desk.{OpensInput, holds, opened_each};
 ghost use Rattle.ioam_desk.specs.Kept.{KeepsInputs};
 ghost use Rattle.ioam_run_audit.specs.Fit.{Place};
@@ -21,6 +21,7 @@ fn open_lane<D: Desk>(alloc: Global, desk: &mut D, name: &Name) -> Result<Lane, 
         (holds (D.writing desk.old) name.now) name.now lane.feed.slot) }
     ensures begun { IfOk result (λ lane. AtLane D.tells (holds (D.writing desk.old) name.now) (D.reading desk.new) lane []) }
     ensures cause { IfErr result (IsFaultOf (D.reading desk.old).side (D.reading desk.new).side) }
+    ensures opens { IfErr result (HaveSlotsBut (D.reading desk.old).side (D.reading desk.new).side) }
     ensures slots { OnErr result ((D.reading desk.new).side.slots ≡ (D.reading desk.old).side.slots) }
     ensures asked { AsksFront (D.reading desk.old).side.asked (D.reading desk.new).side.asked (name.now ∷ []) }
     ensures kept { KeepsInputs (D.reading desk.old) (D.reading desk.new) }
@@ -56,6 +57,7 @@ pub(crate) fn open_pair<D: Desk>(
     ensures asked { AsksFront (D.reading desk.old).side.asked (D.reading desk.new).side.asked (before.now ∷ after.now ∷ []) }
     ensures kept { KeepsInputs (D.reading desk.old) (D.reading desk.new) }
     ensures cause { IfErr result (IsFaultOf (D.reading desk.old).side (D.reading desk.new).side) }
+    ensures opens { IfErr result (HaveSlotsBut (D.reading desk.old).side (D.reading desk.new).side) }
     ensures outputs { D.writing desk.new ≡ D.writing desk.old }
 {
     let before = match open_lane(alloc, desk, before) {

@@ -1,10 +1,11 @@
 -- What a run promises for each of its answers: where it isn't set, and where its traffic ended.
-use Rattle.std.proofs.Common.{◌≡◌, ℕ, ◌+◌, ◌<◌, ◌⊎◌, Bool, IsTrue, List, [], ◌∷◌, ◌++◌, length, refl, sym, ◌∙◌, ap, subst, inl, inr, ⊎_elim, append_assoc, arith}
+use Rattle.std.proofs.Common.{◌≡◌, ◌≢◌, ℕ, ◌+◌, ◌<◌, ◌⊎◌, Bool, IsTrue, List, [], ◌∷◌, ◌++◌, length, refl, sym, ◌∙◌, ap, subst, inl, inr, ⊎_elim, append_assoc, arith}
 use Rattle.ioam_clock.specs.declared.sample.Sample.{Sample}
-use Rattle.ioam_desk.specs.Asked.{AsksFront}
+use Rattle.ioam_desk.specs.Asked.{AsksFront, HaveSlots}
 use Rattle.ioam_desk.specs.Desk.{Side, Reading, Writing, Rose, opened_each}
 use Rattle.ioam_desk.specs.Kept.{KeepsInputs, KeepsOutputs}
 use Rattle.ioam_desk.specs.Unread.{Unread}
+use Rattle.ioam_desk.proofs.AskedLaws.{HaveSlots-each, HaveSlots-then}
 use Rattle.ioam_desk.proofs.KeptLaws.{KeepsInputs-then, KeepsOutputs-same}
 use Rattle.ioam_run_traffic.specs.Merging.{AreUnread, EndsKept, start_of}
 use Rattle.ioam_desk_outputs.specs.Names.{AreApart}
@@ -31,6 +32,7 @@ use Rattle.ioam_run_domain.proofs.EndsLaws.{same_faults, Ends-cause, Ends-differ
 module _ (opens tells : Bool) (files : RunNames) (old_in new_in : Reading) (old new : Writing) (why : Refusal) (answer : Outcome)
     (refuses : Refuses old files.domain files.readings tells old_in new_in why)
     (settled : IsSettled (refused_as why) → new_in.side.faults ≡ old_in.side.faults)
+    (slots : refused_as why ≢ outcome.ReadFault → HaveSlots old_in.side new_in.side)
     (asked : AsksFront old_in.side.asked new_in.side.asked (files.domain ∷ files.readings ∷ []))
     (first : (fault : DomainFault) → why ≡ refusal.Domain fault → AsksFront old_in.side.asked new_in.side.asked (files.domain ∷ []))
     (turn : IsDomainFirst old files.domain files.readings tells old_in new_in)
@@ -68,6 +70,7 @@ module _ (opens tells : Bool) (files : RunNames) (old_in new_in : Reading) (old 
 
   refused-failures : AnswersFailures (around tells old_in new_in old new) answer
   refused-failures = record {
+    opens = λ other. slots (λ read. other (is ∙ read));
     reads = λ decided. settled (subst IsSettled is decided);
     writes = λ other. ap (λ (w : Writing). w.side.faults) same;
   }
@@ -256,6 +259,8 @@ module _ (opens tells : Bool) (files : RunNames) (old_in mid_in new_in : Reading
 
   ended-failures : AnswersFailures (around tells mid_in new_in mid new) answer → AnswersFailures (around tells old_in new_in old new) answer
   ended-failures failures = record {
+    opens = λ other. HaveSlots-then old_in.side mid_in.side new_in.side
+        (HaveSlots-each old_in.side mid_in.side (files.domain ∷ files.readings ∷ []) opened) (failures.opens other);
     reads = λ settled. failures.reads settled ∙ ap (λ (s : Side). s.faults) opened;
     writes = λ other. failures.writes other ∙ ap (λ (w : Writing). w.side.faults) same;
   }

@@ -298,8 +298,9 @@ module _ (opens : Bool) (desks : Desks) (files : RunNames) where
     -- of at most 262,144 octets
     pub boundary : IsBehindAll (desks.old.side.slots < desks.new.side.slots) answer → IsTrue desks.tells
         → IsBounded opens files desks.old_in desks.new_in desks.old desks.new
-    -- what failed is answered: told or not, no opening or read of an input failed where the words and the files decided the
-    -- answer, and no opening or write of an output where the answer is any but WriteFault
+    -- what failed is answered: told or not, each input that was asked for was opened, but behind ReadFault, no opening or read of
+    -- one failed where the words and the files decided the answer, and no opening or write of an output where the answer is any but
+    -- WriteFault
     pub failures : AnswersFailures desks answer
     -- input slots that were there, and where the desk tells output slots that were there and names that weren't opened to be written, are as they were
     pub kept_in : KeepsInputs desks.old_in desks.new_in

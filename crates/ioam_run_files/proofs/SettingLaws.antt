@@ -85,4 +85,4 @@ pub whole_keeps : {T : Type 0} (tells : Bool) (old new : Reading) (held : Option
 whole_keeps tells old new held name limit octets_of (Ok x) reads = KeepsInputs-but old new old.side.slots (omega arith) reads.other_left reads.other_ended
 whole_keeps tells old new held name limit octets_of (Err whole.Failed) fails = KeepsInputs-but old new old.side.slots (omega arith) fails.2.left fails.2.ended
 whole_keeps tells old new held name limit octets_of (Err (whole.TooLong most)) fails = KeepsInputs-but old new old.side.slots (omega arith) fails.3.left fails.3.ended
-whole_keeps tells old new held name limit octets_of (Err whole.NoMemory) fails = KeepsInputs-but old new old.side.slots (omega arith) fails.2.left fails.2.ended
+whole_keeps tells old new held name limit octets_of (Err whole.NoMemory) fails = KeepsInputs-but old new old.side.slots (omega arith) fails.1.left fails.1.ended

@@ -1,12 +1,13 @@
 //! The two files that a run is set by.
-ghost use Rattle.std.specs.Prelude.{◌≡◌, ◌+◌, ◌≤◌, ◌∷◌, [], IsTrue, Err, IfOk, IfErr, OnOk, MatchResult};
+ghost use Rattle.std.specs.Prelude.{◌≡◌, ◌≢◌, ◌+◌, ◌≤◌, ◌∷◌, [], IsTrue, Err, IfOk, IfErr, OnOk, MatchResult};
 ghost use Rattle.ioam_clock.specs.Reading.{node_names};
-ghost use Rattle.ioam_desk.specs.Asked.{AsksFront};
+ghost use Rattle.ioam_desk.specs.Asked.{AsksFront, HaveSlots};
 ghost use Rattle.ioam_desk.specs.Desk.{SameBut, holds, opened_side, opened_each};
 ghost use Rattle.ioam_desk.specs.Kept.{KeepsInputs};
 ghost use Rattle.ioam_desk.specs.Whole.{ReadsWhole, FailsWhole};
 ghost use Rattle.ioam_run_answer.specs.DomainFault.{DomainFault};
 ghost use Rattle.ioam_run_answer.specs.Outcomes.{IsSettled};
+ghost use Rattle.ioam_run_answer.specs.declared.outcome.Outcome.{Outcome};
 ghost use Rattle.ioam_run_files.specs.Answer.{refused_as};
 ghost use Rattle.ioam_run_files.specs.Reads.{IsDomainRead, AreReadingsRead};
 ghost use Rattle.ioam_run_files.specs.Setting.{IsDomainFirst, IsSetting, Refuses};
@@ -70,6 +71,8 @@ pub fn read_domain_file<D: Desk>(
     // A call that failed is answered.
     ensures settled { IfErr result (λ refusal. IsSettled (refused_as refusal)
         → (D.reading desk.new).side.faults ≡ (D.reading desk.old).side.faults) }
+    ensures opens { IfErr result (λ refusal. refused_as refusal ≢ Outcome.ReadFault
+        → HaveSlots (D.reading desk.old).side (D.reading desk.new).side) }
     ensures side { OnOk result ((D.reading desk.new).side ≡ opened_side (D.reading desk.old).side name.now) }
     ensures ended { OnOk result (IsTrue D.tells → IsTrue ((D.reading desk.new).ended (D.reading desk.old).side.slots)) }
     ensures asked { AsksFront (D.reading desk.old).side.asked (D.reading desk.new).side.asked (name.now ∷ []) }
@@ -108,6 +111,8 @@ fn read_readings_file<D: Desk>(
     // A call that failed is answered.
     ensures settled { IfErr result (λ refusal. IsSettled (refused_as refusal)
         → (D.reading desk.new).side.faults ≡ (D.reading desk.old).side.faults) }
+    ensures opens { IfErr result (λ refusal. refused_as refusal ≢ Outcome.ReadFault
+        → HaveSlots (D.reading desk.old).side (D.reading desk.new).side) }
     ensures side { OnOk result ((D.reading desk.new).side ≡ opened_side (D.reading desk.old).side name.now) }
     ensures ended { OnOk result (IsTrue D.tells → IsTrue ((D.reading desk.new).ended (D.reading desk.old).side.slots)) }
     ensures other_ended { OnOk result (SameBut (D.reading desk.old).side.slots (D.reading desk.old).ended (D.reading desk.new).ended) }
@@ -143,6 +148,8 @@ pub fn read_setting<D: Desk>(
     // A call that failed is answered.
     ensures settled { IfErr result (λ refusal. IsSettled (refused_as refusal)
         → (D.reading desk.new).side.faults ≡ (D.reading desk.old).side.faults) }
+    ensures opens { IfErr result (λ refusal. refused_as refusal ≢ Outcome.ReadFault
+        → HaveSlots (D.reading desk.old).side (D.reading desk.new).side) }
     ensures side { OnOk result ((D.reading desk.new).side ≡ opened_each (D.reading desk.old).side (domain.now ∷ readings.now ∷ [])) }
     ensures ended { OnOk result (IsTrue D.tells → IsTrue ((D.reading desk.new).ended (D.reading desk.old).side.slots)
         × IsTrue ((D.reading desk.new).ended ((D.reading desk.old).side.slots + 1))) }

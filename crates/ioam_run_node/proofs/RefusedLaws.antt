@@ -1,11 +1,11 @@
 -- What a run owes whose domain or readings are refused.
-use Rattle.std.proofs.Common.{◌≡◌, ℕ, zero, suc, ◌+◌, ◌≤◌, Bool, IsTrue, List, [], ◌∷◌, ◌++◌, take, refl, sym, ◌∙◌, ap, subst, inl, append-nil, arith}
+use Rattle.std.proofs.Common.{◌≡◌, ◌≢◌, ℕ, zero, suc, ◌+◌, ◌≤◌, Bool, IsTrue, List, [], ◌∷◌, ◌++◌, take, refl, sym, ◌∙◌, ap, subst, inl, append-nil, arith}
 use Rattle.ioam_run_files.specs.Desks.{around}
 use Rattle.ioam_run_files.specs.Failures.{AnswersFailures}
 use Rattle.ioam_run_files.specs.Outcomes.{IsDone, IsBehindAll, IsSettled}
 use Rattle.ioam_run_files.specs.Outcome.{Outcome}
 use Rattle.ioam_run_files.specs.Outcome.TheVariants as outcome
-use Rattle.ioam_desk.specs.Asked.{AsksFront}
+use Rattle.ioam_desk.specs.Asked.{AsksFront, HaveSlots}
 use Rattle.ioam_desk.specs.Desk.{Reading, Writing, Rose}
 use Rattle.ioam_desk.specs.Kept.{KeepsInputs}
 use Rattle.ioam_desk.proofs.KeptLaws.{KeepsOutputs-same}
@@ -130,7 +130,9 @@ module _ (tells : Bool) (files : NodeNames) (old_in new_in : Reading) (old : Wri
 
 -- what failed before it is answered
 pub refused_failures : (tells : Bool) (old_in new_in : Reading) (old new : Writing) (why : Refusal) (answer : Outcome) → answer ≡ refused_as why
+    → (refused_as why ≢ outcome.ReadFault → HaveSlots old_in.side new_in.side)
     → (IsSettled (refused_as why) → new_in.side.faults ≡ old_in.side.faults) → new ≡ old → AnswersFailures (around tells old_in new_in old new) answer
-refused_failures tells old_in new_in old new why answer is settled same =
+refused_failures tells old_in new_in old new why answer is opens settled same =
     let P : Outcome → Type 0 = λ a. IsSettled a → new_in.side.faults ≡ old_in.side.faults in
-    record { reads = subst P (sym is) settled; writes = λ other. ap (λ (w : Writing). w.side.faults) same }
+    let Q : Outcome → Type 0 = λ a. a ≢ outcome.ReadFault → HaveSlots old_in.side new_in.side in
+    record { opens = subst Q (sym is) opens; reads = subst P (sym is) settled; writes = λ other. ap (λ (w : Writing). w.side.faults) same }

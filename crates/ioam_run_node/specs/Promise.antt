@@ -272,8 +272,8 @@ module _ (desks : Desks) (files : NodeNames) where
     pub exact : (asked : Outcome) → IsTrue desks.tells → Asked files desks.old asked
         → (Rose desks.old_in.side.faults desks.new_in.side.faults → ⊥) → (Rose desks.old.side.faults desks.new.side.faults → ⊥)
         → (answer ≡ asked) ⊎ (answer ≡ outcome.NoMemory)
-    -- what failed is answered, told or not: no call on an input failed where the words and the files decided the answer, and none on an output where
-    -- it is any but WriteFault
+    -- what failed is answered, told or not: each input that was asked for was opened, but behind ReadFault; no call on an input failed where the
+    -- words and the files decided the answer, and none on an output where it is any but WriteFault
     pub failures : AnswersFailures desks answer
     -- what the node sends has at most 262,144 octets, and what it sends to a port is one IPv6 packet, with a whole header chain
     -- and without an IOAM option

@@ -1,13 +1,14 @@
 //! `node DOMAIN READINGS NODE LINK IN OUT REPORT EXPORTS`.
-ghost use Rattle.std.specs.Prelude.{◌≡◌, ◌+◌, ◌<◌, ◌≤◌, ◌∷◌, [], IsTrue, Err, IfOk, IfErr, OnOk, length};
+ghost use Rattle.std.specs.Prelude.{◌≡◌, ◌≢◌, ◌+◌, ◌<◌, ◌≤◌, ◌∷◌, [], IsTrue, Err, IfOk, IfErr, OnOk, length};
 ghost use Rattle.ioam_run_files.specs.Desks.{around};
-ghost use Rattle.ioam_desk.specs.Asked.{AsksFront};
+ghost use Rattle.ioam_desk.specs.Asked.{AsksFront, HaveSlots};
 ghost use Rattle.ioam_desk.specs.Desk.{opened_each};
 ghost use Rattle.ioam_desk.specs.Kept.{KeepsInputs};
 ghost use Rattle.ioam_run_files.specs.DomainFault.{DomainFault};
 ghost use Rattle.ioam_desk_outputs.specs.Names.{AreApart};
 ghost use Rattle.ioam_run_files.specs.Answer.{refused_as};
 ghost use Rattle.ioam_run_files.specs.Failures.{AnswersFailures};
+ghost use Rattle.ioam_run_files.specs.Outcome.{Outcome};
 ghost use Rattle.ioam_run_files.specs.Outcomes.{IsSettled};
 ghost use Rattle.ioam_run_files.specs.Setting.{IsDomainFirst, IsSetting, Refuses};
 ghost use Rattle.ioam_run_files.specs.declared.setting.Refusal.{Refusal};
@@ -62,6 +63,8 @@ fn read_names<D: Desk>(
     ensures refused { IfErr result (Refuses (D.writing desk.old) files.now.domain files.now.readings D.tells (D.reading desk.old) (D.reading desk.new)) }
     ensures settled { IfErr result (λ refusal. IsSettled (refused_as refusal)
         → (D.reading desk.new).side.faults ≡ (D.reading desk.old).side.faults) }
+    ensures opens { IfErr result (λ refusal. refused_as refusal ≢ Outcome.ReadFault
+        → HaveSlots (D.reading desk.old).side (D.reading desk.new).side) }
     ensures side { OnOk result ((D.reading desk.new).side ≡ opened_each (D.reading desk.old).side (files.now.domain ∷ files.now.readings ∷ [])) }
     ensures ended { OnOk result (IsTrue D.tells → IsTrue ((D.reading desk.new).ended (D.reading desk.old).side.slots)
         × IsTrue ((D.reading desk.new).ended ((D.reading desk.old).side.slots + 1))) }

@@ -1,12 +1,13 @@
 -- A file that is opened, and read as a part.
 use Rattle.std.proofs.Common.{◌≡◌, ℕ, ◌+◌, ◌≤◌, length, Bool, IsTrue, IsSomeAnd, List, [], ◌∷◌, Option, Some, Ok, Err, refl, sym, ap, ◌∙◌, subst, append-nil, arith}
-use Rattle.std.specs.Prelude.{Result}
+use Rattle.std.specs.Prelude.{◌≢◌, Result}
 use Rattle.ioam_desk.specs.Asked.{AsksFront}
 use Rattle.ioam_desk.specs.Desk as desk
 use Rattle.ioam_desk.specs.Desk.{Side, Rose, OpenIn, OpensInput, opened_side}
 use Rattle.ioam_desk.specs.Kept.{KeepsInputs}
 use Rattle.ioam_desk.specs.declared.fault.DeskFault.{DeskFault}
 use Rattle.ioam_desk.specs.declared.fault.DeskFault.TheVariants.{Failed, NoMemory}
+use Rattle.ioam_desk.proofs.AskedLaws.{HaveSlots-one, HaveSlots-same, HaveSlots-then}
 use Rattle.ioam_desk.proofs.KeptLaws.{KeepsInputs-same, KeepsInputs-but}
 use Rattle.ioam_collect.specs.Collected.{Collected}
 use Rattle.ioam_collect_stream.specs.Gathering.{ReadsOne}
@@ -24,7 +25,8 @@ slot_asked tells content slot old new (Err (unread.Fault at fault)) reads = (ap 
 slot_asked tells content slot old new (Err unread.Failed) reads = (reads.asked, reads.slots)
 slot_asked tells content slot old new (Err unread.NoMemory) reads = (ap (λ (s : Side). s.asked) reads, ap (λ (s : Side). s.slots) reads)
 
-slot_faults : (tells : Bool) (content : Option (List ℕ)) (slot : ℕ) (old new : desk.Reading) (r : Result Collected Unread) → ReadsSlot tells content slot old new r → AnswersReads old new r
+slot_faults : (tells : Bool) (content : Option (List ℕ)) (slot : ℕ) (old new : desk.Reading) (r : Result Collected Unread) → ReadsSlot tells content slot old new r
+    → r ≢ Err unread.Failed → new.side.faults ≡ old.side.faults
 slot_faults tells content slot old new (Ok c) reads other = ap (λ (s : Side). s.faults) reads.0
 slot_faults tells content slot old new (Err (unread.Fault at fault)) reads other = ap (λ (s : Side). s.faults) reads.0
 slot_faults tells content slot old new (Err unread.Failed) reads other = absurd (other refl)
@@ -50,7 +52,11 @@ module _ (tells : Bool) (content : Option (List ℕ)) (name : List ℕ) (old mid
   file_asked r reads = (1, (slot_asked tells (Some (mid.left slot)) slot mid new r reads).0 ∙ ap (λ (s : Side). s.asked) opened.side)
 
   pub file_faults : (r : Result Collected Unread) → ReadsSlot tells (Some (mid.left slot)) slot mid new r → AnswersReads old new r
-  file_faults r reads other = slot_faults tells (Some (mid.left slot)) slot mid new r reads other ∙ ap (λ (s : Side). s.faults) opened.side
+  file_faults r reads other =
+      let still = slot_asked tells (Some (mid.left slot)) slot mid new r reads in (
+        HaveSlots-then old.side mid.side new.side (HaveSlots-one old.side mid.side name opened.side) (HaveSlots-same mid.side new.side still.0 still.1),
+        slot_faults tells (Some (mid.left slot)) slot mid new r reads other ∙ ap (λ (s : Side). s.faults) opened.side,
+      )
 
   pub file_slots : (r : Result Collected Unread) → ReadsSlot tells (Some (mid.left slot)) slot mid new r → new.side.slots ≡ old.side.slots + 1
   file_slots r reads = (slot_asked tells (Some (mid.left slot)) slot mid new r reads).1 ∙ ap (λ (s : Side). s.slots) opened.side

@@ -1,11 +1,12 @@
 -- A file that is read as a part and kept as it is.
 use Rattle.std.proofs.Common.{◌≡◌, ℕ, ◌+◌, ◌-◌, ◌<◌, ◌≤◌, Bool, true, IsTrue, IsSomeAnd, List, [], ◌∷◌, ◌++◌, length, length-append, length-take-le, take, Option, None, Some, Ok, Err, refl, sym, ap, ◌∙◌, subst, append-nil, append_assoc, arith}
-use Rattle.std.specs.Prelude.{Result, is_some, nat_lt, ◌||◌}
+use Rattle.std.specs.Prelude.{◌≢◌, Result, is_some, nat_lt, ◌||◌}
 use Rattle.ioam_desk.specs.Asked.{AsksFront}
 use Rattle.ioam_desk.specs.Desk as desk
 use Rattle.ioam_desk.specs.Desk.{Side, Gives, ReadInto, Rose, OpensInput}
 use Rattle.ioam_desk.specs.declared.fault.DeskFault.{DeskFault}
 use Rattle.ioam_desk.specs.declared.fault.DeskFault.TheVariants.{Failed, NoMemory}
+use Rattle.ioam_desk.proofs.AskedLaws.{HaveSlots-one, HaveSlots-same, HaveSlots-then}
 use Rattle.ioam_part.specs.Faults.{HasFault}
 use Rattle.ioam_part.specs.Part.{IsPart}
 use Rattle.ioam_part.specs.Reading.{StandsBy}
@@ -130,7 +131,8 @@ slot_asked tells content slot old new (Err (unread.Fault at fault)) reads = (ap 
 slot_asked tells content slot old new (Err unread.Failed) reads = (reads.asked, reads.slots)
 slot_asked tells content slot old new (Err unread.NoMemory) reads = (ap (λ (s : Side). s.asked) reads, ap (λ (s : Side). s.slots) reads)
 
-slot_faults : (tells : Bool) (content : Option (List ℕ)) (slot : ℕ) (old new : desk.Reading) (r : Result (List ℕ) Unread) → ReadsFlatSlot tells content slot old new r → AnswersReads old new r
+slot_faults : (tells : Bool) (content : Option (List ℕ)) (slot : ℕ) (old new : desk.Reading) (r : Result (List ℕ) Unread) → ReadsFlatSlot tells content slot old new r
+    → r ≢ Err unread.Failed → new.side.faults ≡ old.side.faults
 slot_faults tells content slot old new (Ok kept) reads other = ap (λ (s : Side). s.faults) reads.0
 slot_faults tells content slot old new (Err (unread.Fault at fault)) reads other = ap (λ (s : Side). s.faults) reads.0
 slot_faults tells content slot old new (Err unread.Failed) reads other = absurd (other refl)
@@ -153,7 +155,11 @@ module _ (tells : Bool) (content : Option (List ℕ)) (name : List ℕ) (old mid
   file_asked r reads = (1, (slot_asked tells (Some (mid.left slot)) slot mid new r reads).0 ∙ ap (λ (s : Side). s.asked) opened.side)
 
   pub file_faults : (r : Result (List ℕ) Unread) → ReadsFlatSlot tells (Some (mid.left slot)) slot mid new r → AnswersReads old new r
-  file_faults r reads other = slot_faults tells (Some (mid.left slot)) slot mid new r reads other ∙ ap (λ (s : Side). s.faults) opened.side
+  file_faults r reads other =
+      let still = slot_asked tells (Some (mid.left slot)) slot mid new r reads in (
+        HaveSlots-then old.side mid.side new.side (HaveSlots-one old.side mid.side name opened.side) (HaveSlots-same mid.side new.side still.0 still.1),
+        slot_faults tells (Some (mid.left slot)) slot mid new r reads other ∙ ap (λ (s : Side). s.faults) opened.side,
+      )
 
   pub file_slots : (r : Result (List ℕ) Unread) → ReadsFlatSlot tells (Some (mid.left slot)) slot mid new r → new.side.slots ≡ old.side.slots + 1
   file_slots r reads = (slot_asked tells (Some (mid.left slot)) slot mid new r reads).1 ∙ ap (λ (s : Side). s.slots) opened.side

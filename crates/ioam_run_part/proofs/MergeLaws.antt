@@ -1,9 +1,10 @@
 -- How a run of `merge` ends whose names differ.
-use Rattle.std.proofs.Common.{◌≡◌, ◌≢◌, ℕ, ◌+◌, ◌⊎◌, IsTrue, IsSomeAnd, List, [], ◌∷◌, ◌++◌, length, length-append, Option, Some, sym, ap, ◌∙◌, subst, inl, inr, ⊎_elim, arith, append-nil, append_assoc}
-use Rattle.ioam_desk.specs.Asked.{AsksFront}
+use Rattle.std.proofs.Common.{◌≡◌, ◌≢◌, ℕ, ◌+◌, ◌⊎◌, IsTrue, IsSomeAnd, List, [], ◌∷◌, ◌++◌, length, length-append, Option, Some, refl, sym, ap, ◌∙◌, subst, inl, inr, ⊎_elim, arith, append-nil, append_assoc}
+use Rattle.ioam_desk.specs.Asked.{AsksFront, HaveSlots}
 use Rattle.ioam_desk.specs.Desk as desk
-use Rattle.ioam_desk.specs.Desk.{Side, Writing, Rose}
+use Rattle.ioam_desk.specs.Desk.{Side, Writing, Rose, opened_side}
 use Rattle.ioam_desk.specs.Kept.{KeepsOutputs}
+use Rattle.ioam_desk.proofs.AskedLaws.{HaveSlots-one, HaveSlots-still, HaveSlots-then}
 use Rattle.ioam_desk.proofs.KeptLaws.{KeepsInputs-same, KeepsOutputs-same}
 use Rattle.ioam_part.specs.declared.fault.PartFault.{PartFault}
 use Rattle.ioam_run_answer.specs.Record.{Record}
@@ -16,7 +17,7 @@ use Rattle.ioam_run_part.specs.Joined.{HoldsBoth, HoldsBothFront, WritesJoined}
 use Rattle.ioam_run_part.specs.MergeEnds.{ApartCause, MergeEnds}
 use Rattle.ioam_run_part.specs.MergePromise.{HoldsMerged, HoldsMergedFront, MergeAsked, MergeCause, MergeKeeps, MergeLeaves, OpensNoPart, one_held, two_held}
 use Rattle.ioam_run_part.specs.Records.{HoldBoth, AreParts, KeepFew, KeepMany}
-use Rattle.ioam_run_part.specs.Two.{TriesTwo, HoldsTwo, OpensUpTo, RefusesTwo}
+use Rattle.ioam_run_part.specs.Two.{AnswersTwo, TriesTwo, HoldsTwo, OpensUpTo, RefusesTwo}
 use Rattle.ioam_run_answer.proofs.FailuresLaws.{failures-none}
 use Rattle.ioam_run_part.proofs.FileLaws.{none_asked}
 use Rattle.ioam_run_part.proofs.JoinedLaws.{merged}
@@ -62,8 +63,8 @@ module _ (desks : Desks) (files : MergeNames) (same : desks.new ≡ desks.old) w
   refused_done _ refuses done = refuses
 
   pub ends_refused : (answer : Outcome) → Refuses answer → TriesTwo desks.tells (one_held desks files) (two_held desks files) files.one files.two desks.old_in desks.new_in
-      → (answer ≢ outcome.ReadFault → desks.new_in.side.faults ≡ desks.old_in.side.faults) → MergeEnds desks files answer
-  ends_refused answer refuses tries reads = record {
+      → AnswersTwo desks.old_in desks.new_in answer → MergeEnds desks files answer
+  ends_refused answer refuses tries answers = record {
     cause = refused_cause answer refuses;
     leaves = λ told. refused_leaves answer refuses;
     asked_in = tries.asked;
@@ -78,8 +79,12 @@ module _ (desks : Desks) (files : MergeNames) (same : desks.new ≡ desks.old) w
     drained = λ done told. absurd (refused_done answer refuses done);
     few_one = tries.few_one;
     few_two = tries.few_two;
-    failures = record { reads = λ settled. reads (λ is. subst IsSettled is settled); writes = λ other. ap (λ (w : Writing). w.side.faults) same };
-    read_failed = reads;
+    failures = record {
+      opens = λ other. (answers other).0;
+      reads = λ settled. (answers (λ is. subst IsSettled is settled)).1;
+      writes = λ other. ap (λ (w : Writing). w.side.faults) same;
+    };
+    read_failed = λ other. (answers other).1;
     kept_in = tries.kept;
     kept_out = λ told. KeepsOutputs-same desks.old desks.new same;
   }
@@ -148,6 +153,11 @@ module _ (desks : Desks) (files : MergeNames) (a b : List ℕ)
   both_asked : desks.new_in.side.asked ≡ desks.old_in.side.asked ++ files.one ∷ files.two ∷ []
   both_asked = ap (λ (s : Side). s.asked) holds_two.side ∙ append_assoc desks.old_in.side.asked (files.one ∷ []) (files.two ∷ [])
 
+  both_slots : HaveSlots desks.old_in.side desks.new_in.side
+  both_slots =
+      let mid = opened_side desks.old_in.side files.one in
+      HaveSlots-then desks.old_in.side mid desks.new_in.side (HaveSlots-one desks.old_in.side mid files.one refl) (HaveSlots-one mid desks.new_in.side files.two holds_two.side)
+
   pub ends_joined : (answer : Outcome) → Writes answer → TriesTwo desks.tells (one_held desks files) (two_held desks files) files.one files.two desks.old_in desks.new_in
       → AsksFront desks.old.side.asked desks.new.side.asked (files.part ∷ []) → (IsTrue desks.tells → KeepsOutputs desks.old desks.new)
       → (answer ≢ outcome.WriteFault → desks.new.side.faults ≡ desks.old.side.faults) → MergeEnds desks files answer
@@ -166,7 +176,7 @@ module _ (desks : Desks) (files : MergeNames) (a b : List ℕ)
     drained = λ done told. (holds_two.first_ended told, holds_two.second_ended told);
     few_one = tries.few_one;
     few_two = tries.few_two;
-    failures = record { reads = λ settled. ap (λ (s : Side). s.faults) holds_two.side; writes = failed };
+    failures = record { opens = λ other. both_slots; reads = λ settled. ap (λ (s : Side). s.faults) holds_two.side; writes = failed };
     read_failed = λ other. ap (λ (s : Side). s.faults) holds_two.side;
     kept_in = tries.kept;
     kept_out = kept;
@@ -278,7 +288,8 @@ module _ (desks : Desks) (files : MergeNames) where
       drained = λ done told. absurd (not_done done);
       few_one = λ more. (let none = ap (λ (r : desk.Reading). r.side.slots) same_in in absurd (omega (arith, none, more)));
       few_two = λ more. (let none = ap (λ (r : desk.Reading). r.side.slots) same_in in absurd (omega (arith, none, more)));
-      failures = failures-none desks.tells desks.old_in desks.new_in desks.old desks.new answer (ap (λ (r : desk.Reading). r.side.faults) same_in) (ap (λ (w : Writing). w.side.faults) same);
+      failures = failures-none desks.tells desks.old_in desks.new_in desks.old desks.new (HaveSlots-still desks.old_in.side desks.new_in.side (ap (λ (r : desk.Reading). r.side) same_in)) answer
+          (ap (λ (r : desk.Reading). r.side.faults) same_in) (ap (λ (w : Writing). w.side.faults) same);
       read_failed = λ other. ap (λ (r : desk.Reading). r.side.faults) same_in;
       kept_in = KeepsInputs-same desks.old_in desks.new_in same_in;
       kept_out = λ told. KeepsOutputs-same desks.old desks.new same;

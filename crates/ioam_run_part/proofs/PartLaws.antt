@@ -2,11 +2,12 @@
 use Rattle.std.proofs.Common.{◌≡◌, ◌≢◌, ℕ, ◌+◌, ◌<◌, ◌≤◌, ◌⊎◌, Bool, false, IsTrue, IsSomeAnd, List, [], ◌∷◌, ◌++◌, All, Option, None, Some, Ok, Err, refl, sym, ap, ◌∙◌, subst, inl, inr, ⊎_elim, arith}
 use Rattle.std.proofs.lemmas.List.Elements.{All-nil}
 use Rattle.ioam_base.specs.Octets.{IsFront}
-use Rattle.ioam_desk.specs.Asked.{AsksFront}
+use Rattle.ioam_desk.specs.Asked.{AsksFront, HaveSlots}
 use Rattle.ioam_desk.specs.Desk as desk
 use Rattle.ioam_desk.specs.Desk.{Side, Writing, Rose, OpenIn, OpensInput, OpenOut, holds}
 use Rattle.ioam_desk.specs.Kept.{KeepsInputs, WritesFrom}
 use Rattle.ioam_desk.specs.declared.fault.DeskFault.TheVariants.{Failed}
+use Rattle.ioam_desk.proofs.AskedLaws.{HaveSlots-one, HaveSlots-still}
 use Rattle.ioam_desk.proofs.KeptLaws.{KeepsInputs-same, KeepsInputs-but, KeepsOutputs-same, KeepsOutputs-asked, KeepsOutputs-from}
 use Rattle.ioam_collect_stream.proofs.HeldLaws.{holds_slot}
 use Rattle.ioam_run_answer.specs.Record.{IsRecord, Record}
@@ -157,8 +158,9 @@ module _ (desks : Desks) (files : PartNames) where
     }
 
     -- no memory could be had, or a file could not be opened
-    pub ends_wanting : Untouched → PartEnds desks files outcome.NoMemory
-    ends_wanting untouched = still_ends outcome.NoMemory tt (inl same) (λ behind. behind) (λ done. done) untouched (failures-memory desks.tells desks.old_in desks.new_in desks.old desks.new (ap (λ (w : Writing). w.side.faults) same))
+    pub ends_wanting : Untouched → HaveSlots desks.old_in.side desks.new_in.side → PartEnds desks files outcome.NoMemory
+    ends_wanting untouched slots = still_ends outcome.NoMemory tt (inl same) (λ behind. behind) (λ done. done) untouched
+        (failures-memory desks.tells desks.old_in desks.new_in desks.old desks.new slots (ap (λ (w : Writing). w.side.faults) same))
 
     pub ends_unread : Rose desks.old_in.side.faults desks.new_in.side.faults → desks.new_in.side.slots ≡ desks.old_in.side.slots → PartEnds desks files outcome.ReadFault
     ends_unread rose slots = still_ends outcome.ReadFault rose (inl (slots, same)) (λ behind. behind) (λ done. done) (never_opened slots) (failures-read desks.tells desks.old_in desks.new_in desks.old desks.new (ap (λ (w : Writing). w.side.faults) same))
@@ -190,6 +192,9 @@ module _ (desks : Desks) (files : PartNames) where
       now_slots : desks.new_in.side.slots ≡ desks.old_in.side.slots + 1
       now_slots = ap (λ (r : desk.Reading). r.side.slots) same_in ∙ mid_slots
 
+      now_have : HaveSlots desks.old_in.side desks.new_in.side
+      now_have = HaveSlots-one desks.old_in.side desks.new_in.side files.exports (ap (λ (r : desk.Reading). r.side) same_in ∙ opened.side)
+
       reads_none : ReadsOne slot_in mid_in desks.new_in
       reads_none = ((λ k apart. ap (λ (r : desk.Reading). r.left k) same_in), (λ k apart. ap (λ (r : desk.Reading). r.ended k) same_in))
 
@@ -215,13 +220,13 @@ module _ (desks : Desks) (files : PartNames) where
         no_output = λ none. (let slots = now_slots in absurd (omega (arith, slots, none)));
         unread = λ told unopened more. untouched told;
         drained = λ none told. absurd none;
-        failures = failures-write desks.tells desks.old_in desks.new_in desks.old desks.new;
+        failures = failures-write desks.tells desks.old_in desks.new_in desks.old desks.new now_have;
         kept_in = kept_one reads_none;
         kept_out = λ told. KeepsOutputs-asked desks.tells desks.old desks.new files.part (Err Failed) failed told;
       }
 
       pub ends_unopened : desks.new ≡ desks.old → PartEnds desks files outcome.NoMemory
-      ends_unopened same = ends_wanting same (1, now_asked) (kept_one reads_none) (λ told more. untouched told)
+      ends_unopened same = ends_wanting same (1, now_asked) (kept_one reads_none) (λ told more. untouched told) now_have
 
     -- it was
     module _ (mid : Writing) (slot : ℕ) (opened_out : OpenOut desks.tells desks.old files.part (Ok slot) mid) where
@@ -275,7 +280,8 @@ module _ (desks : Desks) (files : PartNames) where
             no_output = λ none. (let grew = mid_slots in absurd (omega (arith, slots_in, grew, none)));
             unread = λ told unopened more. (let grew : mid.side.slots ≡ desks.old.side.slots + 1 = ap (λ (s : Side). s.slots) opened_out.1 in absurd (omega (arith, slots_out, grew, unopened)));
             drained = drained_of answer ends;
-            failures = failures-behind desks.tells desks.old_in mid_in desks.new_in desks.old mid desks.new answer mid_faults out_faults failures;
+            failures = failures-behind desks.tells desks.old_in mid_in desks.new_in desks.old mid desks.new answer
+                (HaveSlots-one desks.old_in.side mid_in.side files.exports opened.side) mid_faults out_faults failures;
             kept_in = kept_one reads;
             kept_out = λ told. KeepsOutputs-from desks.old mid desks.new slot (KeepsOutputs-asked desks.tells desks.old mid files.part (Ok slot) opened_out told)
                 (let number = opened_out.0 in omega (arith, number)) slots_out asked_out writes;
@@ -351,7 +357,8 @@ module _ (desks : Desks) (files : PartNames) where
       no_output = λ none. same;
       unread = λ told unopened. never_opened desks files (ap (λ (r : desk.Reading). r.side.slots) same_in) told;
       drained = λ done told. absurd (not_done done);
-      failures = failures-none desks.tells desks.old_in desks.new_in desks.old desks.new answer (ap (λ (r : desk.Reading). r.side.faults) same_in) (ap (λ (w : Writing). w.side.faults) same);
+      failures = failures-none desks.tells desks.old_in desks.new_in desks.old desks.new (HaveSlots-still desks.old_in.side desks.new_in.side (ap (λ (r : desk.Reading). r.side) same_in)) answer
+          (ap (λ (r : desk.Reading). r.side.faults) same_in) (ap (λ (w : Writing). w.side.faults) same);
       kept_in = KeepsInputs-same desks.old_in desks.new_in same_in;
       kept_out = λ told. KeepsOutputs-same desks.old desks.new same;
     }

@@ -1,12 +1,13 @@
 -- How a run of `parts` ends.
 use Rattle.std.proofs.Common.{◌≡◌, ◌≢◌, ℕ, ◌+◌, ◌<◌, ◌⊎◌, IsTrue, IsSomeAnd, List, [], ◌∷◌, ◌++◌, Some, Ok, Err, refl, sym, ap, ◌∙◌, subst, inl, inr, ⊎_elim, arith}
 use Rattle.std.specs.Prelude.{Result}
-use Rattle.ioam_desk.specs.Asked.{AsksFront}
+use Rattle.ioam_desk.specs.Asked.{AsksFront, HaveSlots}
 use Rattle.ioam_desk.specs.Desk as desk
 use Rattle.ioam_desk.specs.Desk.{Side, Writing, Rose}
 use Rattle.ioam_desk.specs.Kept.{KeepsInputs, KeepsOutputs}
 use Rattle.ioam_desk.specs.declared.fault.DeskFault.{DeskFault}
 use Rattle.ioam_desk.specs.declared.fault.DeskFault.TheVariants.{Failed, NoMemory}
+use Rattle.ioam_desk.proofs.AskedLaws.{HaveSlots-one, HaveSlots-still}
 use Rattle.ioam_desk.proofs.KeptLaws.{KeepsInputs-same, KeepsOutputs-same}
 use Rattle.ioam_collect.specs.Collected.{Collected}
 use Rattle.ioam_part.specs.declared.fault.PartFault.{PartFault}
@@ -21,6 +22,7 @@ use Rattle.ioam_run_part.specs.PartsEnds.{ApartCause, PartsEnds}
 use Rattle.ioam_run_part.specs.PartsPromise.{HoldsLines, HoldsLinesFront, PartsAsked, PartsCause, PartsKeeps, PartsLeaves, part_held}
 use Rattle.ioam_run_part.specs.Records.{IsAPart, ReadsFew}
 use Rattle.ioam_run_part.specs.Stored.{AnswersWrites, HoldsFrontOf, Stores, answer_of}
+use Rattle.ioam_run_part.specs.Two.{AnswersTwo}
 use Rattle.ioam_run_part.specs.Unread.{AnswersReads, ReadsFile}
 use Rattle.ioam_run_part.specs.Unread as unread_file
 use Rattle.ioam_run_part.specs.declared.unread.Unread.{Unread}
@@ -63,8 +65,8 @@ module _ (desks : Desks) (files : PartsNames) (same : desks.new ≡ desks.old) w
   module _ (asked : AsksFront desks.old_in.side.asked desks.new_in.side.asked (files.part ∷ [])) (kept : KeepsInputs desks.old_in desks.new_in)
       (few : desks.old_in.side.slots < desks.new_in.side.slots → ReadsFew desks.tells (part_held desks files) desks.old_in.side.slots desks.new_in) where
     still_ends : (answer : Outcome) → ApartCause desks files answer → PartsLeaves (part_held desks files) files.report desks.old desks.new answer → Opens answer → (IsDone answer → ⊥)
-        → (answer ≢ outcome.ReadFault → desks.new_in.side.faults ≡ desks.old_in.side.faults) → PartsEnds desks files answer
-    still_ends answer cause leaves opens not_done reads = record {
+        → AnswersTwo desks.old_in desks.new_in answer → PartsEnds desks files answer
+    still_ends answer cause leaves opens not_done answers = record {
       cause = cause;
       leaves = λ told. leaves;
       asked_in = asked;
@@ -76,24 +78,28 @@ module _ (desks : Desks) (files : PartsNames) (same : desks.new ≡ desks.old) w
       no_report = λ before. same;
       drained = λ done told. absurd (not_done done);
       few = few;
-      failures = record { reads = λ settled. reads (λ is. subst IsSettled is settled); writes = λ other. ap (λ (w : Writing). w.side.faults) same };
-      read_failed = reads;
+      failures = record {
+        opens = λ other. (answers other).0;
+        reads = λ settled. (answers (λ is. subst IsSettled is settled)).1;
+        writes = λ other. ap (λ (w : Writing). w.side.faults) same;
+      };
+      read_failed = λ other. (answers other).1;
       kept_in = kept;
       kept_out = λ told. KeepsOutputs-same desks.old desks.new same;
     }
 
     -- no memory could be had, and no read failed
-    pub ends_wanting : desks.new_in.side.faults ≡ desks.old_in.side.faults → PartsEnds desks files outcome.NoMemory
-    ends_wanting none = still_ends outcome.NoMemory tt (inl same) (λ at fault is. absurd (subst OpensNoPart (sym is) tt)) (λ done. done) (λ other. none)
+    pub ends_wanting : HaveSlots desks.old_in.side desks.new_in.side → desks.new_in.side.faults ≡ desks.old_in.side.faults → PartsEnds desks files outcome.NoMemory
+    ends_wanting slots none = still_ends outcome.NoMemory tt (inl same) (λ at fault is. absurd (subst OpensNoPart (sym is) tt)) (λ done. done) (λ other. (slots, none))
 
     pub ends_unread : (answer : Outcome) (why : Unread) → Reads (Err why) → (answer ≡ unread_file.answer_of files.part why) ⊎ (answer ≡ outcome.NoMemory)
         → (why ≡ unread.Failed → answer ≡ outcome.ReadFault) → AnswersReads {A = Collected} desks.old_in desks.new_in (Err why) → PartsEnds desks files answer
     ends_unread answer why reads either failed answers =
         let P : Outcome → Type 0 = λ o. PartsEnds desks files o in
         let named : Outcome = unread_file.answer_of files.part why in
-        let other : answer ≢ outcome.ReadFault → desks.new_in.side.faults ≡ desks.old_in.side.faults = read_failed desks.old_in desks.new_in why answer failed answers in
+        let other : AnswersTwo desks.old_in desks.new_in answer = read_failed desks.old_in desks.new_in why answer failed answers in
         ⊎_elim (λ is. subst P (sym is) (still_ends named (unread_cause why reads) (unread_leaves why) (unread_opened why reads) (unread_done why) (λ apart. other (λ it. apart (sym is ∙ it)))))
-        (λ none. subst P (sym none) (ends_wanting (other (λ it. let bad = sym none ∙ it in cc)))) either
+        (λ none. (let answered = other (λ it. let bad = sym none ∙ it in cc) in subst P (sym none) (ends_wanting answered.0 answered.1))) either
 
 -- ---- it was
 
@@ -150,7 +156,11 @@ module _ (desks : Desks) (files : PartsNames) (c : Collected) (text : List ℕ) 
     no_report = λ before. absurd (stored_before r before);
     drained = λ done told. reads.2 told;
     few = few;
-    failures = record { reads = λ settled. ap (λ (s : Side). s.faults) reads.0; writes = written_answered desks.old desks.new r (answer_of r) refl failed };
+    failures = record {
+      opens = λ other. HaveSlots-one desks.old_in.side desks.new_in.side files.part reads.0;
+      reads = λ settled. ap (λ (s : Side). s.faults) reads.0;
+      writes = written_answered desks.old desks.new r (answer_of r) refl failed;
+    };
     read_failed = λ other. ap (λ (s : Side). s.faults) reads.0;
     kept_in = kept;
     kept_out = kept_out;
@@ -229,7 +239,8 @@ module _ (desks : Desks) (files : PartsNames) where
       no_report = λ before. same;
       drained = λ done told. absurd (not_done done);
       few = λ more. (let none = ap (λ (r : desk.Reading). r.side.slots) same_in in absurd (omega (arith, none, more)));
-      failures = failures-none desks.tells desks.old_in desks.new_in desks.old desks.new answer (ap (λ (r : desk.Reading). r.side.faults) same_in) (ap (λ (w : Writing). w.side.faults) same);
+      failures = failures-none desks.tells desks.old_in desks.new_in desks.old desks.new (HaveSlots-still desks.old_in.side desks.new_in.side (ap (λ (r : desk.Reading). r.side) same_in)) answer
+          (ap (λ (r : desk.Reading). r.side.faults) same_in) (ap (λ (w : Writing). w.side.faults) same);
       read_failed = λ other. ap (λ (r : desk.Reading). r.side.faults) same_in;
       kept_in = KeepsInputs-same desks.old_in desks.new_in same_in;
       kept_out = λ told. KeepsOutputs-same desks.old desks.new same;

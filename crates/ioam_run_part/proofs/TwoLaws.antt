@@ -5,12 +5,13 @@ use Rattle.ioam_desk.specs.Asked.{AsksFront}
 use Rattle.ioam_desk.specs.Desk as desk
 use Rattle.ioam_desk.specs.Desk.{Side, Rose, opened_side}
 use Rattle.ioam_desk.specs.Kept.{KeepsInputs}
+use Rattle.ioam_desk.proofs.AskedLaws.{HaveSlots-one, HaveSlots-then}
 use Rattle.ioam_desk.proofs.KeptLaws.{KeepsInputs-then}
 use Rattle.ioam_part.specs.Faults.{HasFault}
 use Rattle.ioam_run_answer.specs.declared.outcome.Outcome.{Outcome}
 use Rattle.ioam_run_answer.specs.declared.outcome.Outcome.TheVariants as outcome
 use Rattle.ioam_run_part.specs.Records.{IsAPart, IsSecondFaulty, ReadsFew}
-use Rattle.ioam_run_part.specs.Two.{TriesTwo, HoldsTwo, RefusesTwo}
+use Rattle.ioam_run_part.specs.Two.{AnswersTwo, TriesTwo, HoldsTwo, RefusesTwo}
 use Rattle.ioam_run_part.specs.Flat.{IsFlat, ReadsFlatFile}
 use Rattle.ioam_run_part.specs.Unread.{answer_of}
 use Rattle.ioam_run_part.specs.declared.unread.Unread.{Unread}
@@ -84,7 +85,7 @@ module _ (tells : Bool) (first second : Option (List ℕ)) (one two : List ℕ) 
   mid_slots : mid.side.slots ≡ old.side.slots + 1
   mid_slots = ap (λ (s : Side). s.slots) reads_one.0
 
-  pub mid_faults : mid.side.faults ≡ old.side.faults
+  mid_faults : mid.side.faults ≡ old.side.faults
   mid_faults = ap (λ (s : Side). s.faults) reads_one.0
 
   pub second_refuses : (why : Unread) → ReadsFlatFile tells second two mid new (Err why) → RefusesTwo tells first second one two old new (answer_of two why)
@@ -98,6 +99,11 @@ module _ (tells : Bool) (first second : Option (List ℕ)) (one two : List ℕ) 
   )
   second_refuses unread.Failed reads = subst (λ n. Rose n new.side.faults) mid_faults reads.0
   second_refuses unread.NoMemory reads = tt
+
+  pub second_answers : (answer : Outcome) → AnswersTwo mid new answer → AnswersTwo old new answer
+  second_answers answer answers other =
+      let behind = answers other in
+      (HaveSlots-then old.side mid.side new.side (HaveSlots-one old.side mid.side one reads_one.0) behind.0, behind.1 ∙ mid_faults)
 
   pub second_tries : KeepsInputs old mid → AsksFront mid.side.asked new.side.asked (two ∷ []) → mid.side.slots ≤ new.side.slots → new.side.slots ≤ mid.side.slots + 1 → KeepsInputs mid new
       → (old.side.slots < mid.side.slots → ReadsFew tells first old.side.slots mid) → (mid.side.slots < new.side.slots → ReadsFew tells second mid.side.slots new)

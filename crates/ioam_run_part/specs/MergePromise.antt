@@ -135,8 +135,8 @@ module _ (desks : Desks) (files : MergeNames) where
     -- of each of the two at most the first 300,000,000 octets are read
     pub few_one : desks.old_in.side.slots < desks.new_in.side.slots → ReadsFew desks.tells one_held desks.old_in.side.slots desks.new_in
     pub few_two : desks.old_in.side.slots + 1 < desks.new_in.side.slots → ReadsFew desks.tells two_held (desks.old_in.side.slots + 1) desks.new_in
-    -- what failed is answered: no call of ONE and TWO failed where the words and the files decided the answer, and none of PART
-    -- unless the answer is WriteFault
+    -- what failed is answered: each of ONE and TWO that was asked for was opened, but behind ReadFault; no call of them failed where
+    -- the words and the files decided the answer, and none of PART unless the answer is WriteFault
     pub failures : AnswersFailures desks answer
     -- a failed opening or read of ONE or TWO is answered as such, and as nothing else
     pub read_failed : answer ≢ outcome.ReadFault → desks.new_in.side.faults ≡ desks.old_in.side.faults

@@ -98,8 +98,8 @@ module _ (desks : Desks) (files : PartNames) where
     pub unread : IsTrue desks.tells → desks.new.side.slots ≡ desks.old.side.slots → desks.old_in.side.slots < desks.new_in.side.slots
         → exported ≡ Some (desks.new_in.left desks.old_in.side.slots)
     pub drained : IsDone answer → IsTrue desks.tells → IsTrue (desks.new_in.ended desks.old_in.side.slots)
-    -- what failed is answered: no call of EXPORTS failed where the words and the file decided the answer, and none of PART
-    -- unless the answer is WriteFault
+    -- what failed is answered: where EXPORTS was asked for it was opened, but behind ReadFault; no call of it failed where the words
+    -- and the file decided the answer, and none of PART unless the answer is WriteFault
     pub failures : AnswersFailures desks answer
     -- input slots that were there, and where the desk tells output slots that were there and names that weren't opened to be written, are as they were
     pub kept_in : KeepsInputs desks.old_in desks.new_in

@@ -97,8 +97,8 @@ module _ (desks : Desks) (files : PartsNames) where
     pub drained : IsDone answer → IsTrue desks.tells → IsTrue (desks.new_in.ended desks.old_in.side.slots)
     -- at most the first 300,000,000 octets of PART are read
     pub few : desks.old_in.side.slots < desks.new_in.side.slots → ReadsFew desks.tells part_held desks.old_in.side.slots desks.new_in
-    -- what failed is answered: no call of PART failed where the words and the file decided the answer, and none of REPORT
-    -- unless the answer is WriteFault
+    -- what failed is answered: where PART was asked for it was opened, but behind ReadFault; no call of it failed where the words and
+    -- the file decided the answer, and none of REPORT unless the answer is WriteFault
     pub failures : AnswersFailures desks answer
     -- a failed opening or read of PART is answered as such, and as nothing else
     pub read_failed : answer ≢ outcome.ReadFault → desks.new_in.side.faults ≡ desks.old_in.side.faults

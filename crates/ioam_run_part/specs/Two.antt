@@ -1,6 +1,6 @@
 -- Two files that are read as parts, one after the other.
-use Rattle.std.specs.Prelude.{◌≡◌, ℕ, ◌+◌, ◌<◌, ◌≤◌, ◌⊎◌, ⊤, Bool, IsTrue, IsSomeAnd, List, [], ◌∷◌, ◌++◌, Option, Result, Ok, Err}
-use Rattle.ioam_desk.specs.Asked.{AsksFront}
+use Rattle.std.specs.Prelude.{◌≡◌, ◌≢◌, ℕ, ◌+◌, ◌<◌, ◌≤◌, ◌⊎◌, ⊤, Bool, IsTrue, IsSomeAnd, List, [], ◌∷◌, ◌++◌, Option, Result, Ok, Err}
+use Rattle.ioam_desk.specs.Asked.{AsksFront, HaveSlots}
 use Rattle.ioam_desk.specs.Desk as desk
 use Rattle.ioam_desk.specs.Desk.{Rose, opened_side}
 use Rattle.ioam_desk.specs.Kept.{KeepsInputs}
@@ -33,6 +33,11 @@ pub record HoldsTwo (tells : Bool) (first second : Option (List ℕ)) (one two :
 abbrev pub OpensUpTo : List ℕ → List ℕ → desk.Reading → desk.Reading → List ℕ → Type 0
 OpensUpTo one two old new name = ((name ≡ one) × (new.side.asked ≡ old.side.asked ++ one ∷ []))
     ⊎ ((name ≡ two) × (new.side.asked ≡ old.side.asked ++ one ∷ two ∷ []))
+
+-- what failed is answered: where the answer is any but ReadFault each of the two that was asked for was opened, and no call of
+-- them failed
+abbrev pub AnswersTwo : desk.Reading → desk.Reading → Outcome → Type 0
+AnswersTwo old new answer = answer ≢ outcome.ReadFault → HaveSlots old.side new.side × (new.side.faults ≡ old.side.faults)
 
 -- the octets of both, or the answer for the first that wasn't read
 module _ (tells : Bool) (first second : Option (List ℕ)) (one two : List ℕ) (old new : desk.Reading) where

@@ -1,5 +1,6 @@
 -- Files that are read as parts, each to its end where it is one; at most the first 300,000,000 octets of each.
 use Rattle.std.specs.Prelude.{◌≡◌, ◌≢◌, ℕ, ◌+◌, ⊤, Bool, IsTrue, IsSomeAnd, List, [], ◌∷◌, ◌++◌, length, Option, Some, Result, Ok, Err}
+use Rattle.ioam_desk.specs.Asked.{HaveSlots}
 use Rattle.ioam_desk.specs.Desk as desk
 use Rattle.ioam_desk.specs.Desk.{Rose, Fails, opened_side}
 use Rattle.ioam_desk.specs.declared.fault.DeskFault.{DeskFault}
@@ -64,9 +65,9 @@ module _ (tells : Bool) (content : Option (List ℕ)) (name : List ℕ) (old new
   ReadsFile (Err unread.Failed) = Rose old.side.faults new.side.faults × (new.side.asked ≡ old.side.asked ++ name ∷ [])
   ReadsFile (Err unread.NoMemory) = ⊤
 
--- what failed is answered: unless that is why the file wasn't read no read of it failed, and no opening
+-- what failed is answered: unless that is why the file wasn't read it was opened, where it was asked for, and no call of it failed
 abbrev pub AnswersReads : {A : Type 0} → desk.Reading → desk.Reading → Result A Unread → Type 0
-AnswersReads old new result = result ≢ Err unread.Failed → new.side.faults ≡ old.side.faults
+AnswersReads old new result = result ≢ Err unread.Failed → HaveSlots old.side new.side × (new.side.faults ≡ old.side.faults)
 
 -- the answer for a file of this name that wasn't read
 abbrev pub answer_of : List ℕ → Unread → Outcome

@@ -1,7 +1,7 @@
 //! Two files that are read as parts, one after the other.
-ghost use Rattle.std.specs.Prelude.{◌≡◌, ◌≢◌, IfErr, List};
+ghost use Rattle.std.specs.Prelude.{◌≡◌, IfErr, List};
 ghost use Rattle.ioam_desk.specs.Desk.{holds};
-ghost use Rattle.ioam_run_part.specs.Two.{ReadsTwo, TriesTwo};
+ghost use Rattle.ioam_run_part.specs.Two.{AnswersTwo, ReadsTwo, TriesTwo};
 
 use crate::flat::read_flat;
 use crate::unread::unread_outcome;
@@ -21,7 +21,7 @@ pub(crate) fn read_two<D: Desk>(
     ensures reads { ReadsTwo D.tells (holds (D.writing desk.old) one.now) (holds (D.writing desk.old) two.now) one.now two.now
         (D.reading desk.old) (D.reading desk.new) result }
     ensures tries { TriesTwo D.tells (holds (D.writing desk.old) one.now) (holds (D.writing desk.old) two.now) one.now two.now (D.reading desk.old) (D.reading desk.new) }
-    ensures faults { IfErr result (λ answer. answer ≢ Outcome.ReadFault → (D.reading desk.new).side.faults ≡ (D.reading desk.old).side.faults) }
+    ensures faults { IfErr result (AnswersTwo (D.reading desk.old) (D.reading desk.new)) }
     ensures outputs { D.writing desk.new ≡ D.writing desk.old }
 {
     let first = match read_flat(alloc, desk, one) {

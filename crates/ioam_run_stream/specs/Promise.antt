@@ -146,8 +146,8 @@ module _ (Texts : List Taken → List (List ℕ) → Type 0) (desks : Desks) (fi
     pub unread : IsTrue desks.tells → desks.new.side.slots < desks.old.side.slots + length files.outputs → desks.old_in.side.slots < desks.new_in.side.slots
         → holds desks.old files.input ≡ Some (desks.new_in.left desks.old_in.side.slots)
     pub drained : IsDone answer → IsTrue desks.tells → IsTrue (desks.new_in.ended desks.old_in.side.slots)
-    -- what failed is answered, told or not: no call on IN failed where the words and IN decided the answer, and none on an output where it is any but
-    -- WriteFault
+    -- what failed is answered, told or not: where IN was asked for it was opened, but behind ReadFault; no call on IN failed where the words and
+    -- IN decided the answer, and none on an output where it is any but WriteFault
     pub failures : AnswersFailures desks answer
     -- input slots that were there, and where the desk tells output slots that were there and names that weren't opened to be written, are as they were
     pub kept_in : KeepsInputs desks.old_in desks.new_in

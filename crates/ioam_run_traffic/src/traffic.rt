@@ -1,6 +1,6 @@
 //! The traffic of a domain: its files, and how it ends.
 ghost use Rattle.std.specs.Prelude.{◌≡◌, ◌≢◌, ◌↔◌, ◌⊎◌, ◌+◌, ◌<◌, ◌≤◌, ◌++◌, [], All, IsTrue, length};
-ghost use Rattle.ioam_desk.specs.Asked.{AsksFront};
+ghost use Rattle.ioam_desk.specs.Asked.{AsksFront, HaveSlots};
 ghost use Rattle.ioam_desk.specs.Kept.{KeepsOutputs, WritesFrom};
 ghost use Rattle.ioam_capture_merge.specs.Merging.{AreUnread, EndsKept, Merging, start_of};
 ghost use Rattle.ioam_run_arrivals.specs.Outlets.{outlet_count};
@@ -59,6 +59,8 @@ pub fn run_traffic<R: Threads + Sync, D: Desk, G: Gate>(
     // What failed is answered: no read where the captures decided the end, and no write but where the answer says so.
     ensures faults_in { IsEnd result → (D.reading desk.new).side.faults ≡ (D.reading desk.old).side.faults }
     ensures faults_out { result ≢ Halt.WriteFault → (D.writing desk.new).side.faults ≡ (D.writing desk.old).side.faults }
+    // Each capture that was asked for was opened, where the end is any but a fault of reading.
+    ensures opens { result ≢ Halt.ReadFault → HaveSlots (D.reading desk.old).side (D.reading desk.new).side }
     ensures asked_in { AsksFront (D.reading desk.old).side.asked (D.reading desk.new).side.asked inputs.now }
     ensures asked_out { AsksFront (D.writing desk.old).side.asked (D.writing desk.new).side.asked outputs.now }
     ensures all_in { IsEnd result → AllOpened (D.reading desk.old).side (D.reading desk.new).side inputs.now }
@@ -100,6 +102,8 @@ fn run_files<R: Threads + Sync, D: Desk, G: Gate>(
     // What failed is answered: no read where the captures decided the end, and no write but where the answer says so.
     ensures faults_in { IsEnd result → (D.reading desk.new).side.faults ≡ (D.reading desk.old).side.faults }
     ensures faults_out { result ≢ Halt.WriteFault → (D.writing desk.new).side.faults ≡ (D.writing desk.old).side.faults }
+    // Each capture that was asked for was opened, where the end is any but a fault of reading.
+    ensures opens { result ≢ Halt.ReadFault → HaveSlots (D.reading desk.old).side (D.reading desk.new).side }
     ensures asked_in { AsksFront (D.reading desk.old).side.asked (D.reading desk.new).side.asked inputs.now }
     ensures asked_out { AsksFront (D.writing desk.old).side.asked (D.writing desk.new).side.asked outputs.now }
     ensures all_in { IsEnd result → AllOpened (D.reading desk.old).side (D.reading desk.new).side inputs.now }

@@ -3,7 +3,7 @@ use Rattle.std.proofs.lemmas.List.{take_all}
 use Rattle.std.proofs.lemmas.Result.{err_from_is_err_and}
 use Rattle.ioam_desk.specs.Desk.{Side, Writing, holds, opened_each}
 use Rattle.ioam_capture_merge.specs.Merging.{AreUnread, Start, Merging, start_of, with_content}
-use Rattle.ioam_capture_merge.proofs.OpenLaws.{Merging-none, start_more, side_more, asks_more, kept_on, unread_more, fault_more, fewer_more}
+use Rattle.ioam_capture_merge.proofs.OpenLaws.{Merging-none, start_more, side_more, asks_more, kept_on, unread_more, fault_more, fewer_more, slots_more}
 use Rattle.ioam_capture_merge.proofs.open.open_merge.Goals as goal
 
 pub names-init : goal.names-init
@@ -89,6 +89,12 @@ returns-in_err-open_one-clause-cause g c =
     let p = err_from_is_err_and c.from_residual.result c.from_residual.ensures.1 in
     rw (p.1, p.2) (fault_more (g.D.Desk.reading c.args.desk.now).side (g.D.Desk.reading c.names.desk).side (g.D.Desk.reading c.open_one.new.desk).side
     (take c.names.name-index c.args.names.now) c.in_err-open_one.field-0.0 c.names.invariant.side c.in_err-open_one.ensures.cause)
+
+pub returns-in_err-open_one-clause-slots : goal.returns-in_err-open_one-clause-slots
+returns-in_err-open_one-clause-slots g c =
+    let p = err_from_is_err_and c.from_residual.result c.from_residual.ensures.1 in
+    rw (p.1, p.2) (slots_more (g.D.Desk.reading c.args.desk.now).side (g.D.Desk.reading c.names.desk).side (g.D.Desk.reading c.open_one.new.desk).side
+    (take c.names.name-index c.args.names.now) c.in_err-open_one.field-0.0 c.names.invariant.side c.in_err-open_one.ensures.slots)
 
 pub returns-in_err-open_one-clause-fewer : goal.returns-in_err-open_one-clause-fewer
 returns-in_err-open_one-clause-fewer g c =

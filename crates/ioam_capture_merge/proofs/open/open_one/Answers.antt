@@ -1,7 +1,8 @@
 use Rattle.std.proofs.Common.{refl, ap, length, arith, false}
 use Rattle.std.proofs.lemmas.Result.{err_from_is_err_and}
 use Rattle.ioam_desk.specs.Desk.{Side, holds}
-use Rattle.ioam_capture_merge.proofs.OpenLaws.{Merging-push, opening_kept, failing_kept, opening_unread, failing_unread, failing_asked, failing_fewer}
+use Rattle.ioam_desk.proofs.AskedLaws.{HaveSlots-one}
+use Rattle.ioam_capture_merge.proofs.OpenLaws.{Merging-push, opening_kept, failing_kept, opening_unread, failing_unread, failing_asked, failing_fewer, failing_slots}
 use Rattle.ioam_capture_merge.proofs.open.open_one.Goals as goal
 
 pub returns-in-Ok-clause-opened : goal.returns-in-Ok-clause-opened
@@ -76,3 +77,12 @@ returns-in_err-feed-clause-fewer g c =
     let p = err_from_is_err_and c.from_residual.result c.from_residual.ensures.1 in
     rw (p.1, p.2) (failing_fewer g.D.Desk.tells (g.D.Desk.reading c.args.desk.now) (g.D.Desk.reading c.open_feed.new.desk)
     (holds (g.D.Desk.writing c.args.desk.now) c.args.name.now) c.args.name.now c.in_err-feed.field-0.0 c.in_err-feed.ensures.fault)
+
+pub returns-in_err-feed-clause-slots : goal.returns-in_err-feed-clause-slots
+returns-in_err-feed-clause-slots g c =
+    let p = err_from_is_err_and c.from_residual.result c.from_residual.ensures.1 in
+    rw (p.1, p.2) (failing_slots g.D.Desk.tells (g.D.Desk.reading c.args.desk.now) (g.D.Desk.reading c.open_feed.new.desk)
+    (holds (g.D.Desk.writing c.args.desk.now) c.args.name.now) c.args.name.now c.in_err-feed.field-0.0 c.in_err-feed.ensures.fault)
+
+pub returns-in-Err-clause-slots : goal.returns-in-Err-clause-slots
+returns-in-Err-clause-slots g c = HaveSlots-one (g.D.Desk.reading c.args.desk.now).side (g.D.Desk.reading c.open_feed.new.desk).side c.args.name.now c.in_ok-feed.ensures.opened.side

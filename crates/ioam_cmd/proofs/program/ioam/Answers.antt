@@ -25,4 +25,4 @@ returns-in-Some-clause-failures g c =
     (sound g.G.Gate.opens desks c.args.words.now c.in-Some.command c.run_command.result c.run_command.ensures.keeps).failures
 
 pub returns-in-None-clause-failures : goal.returns-in-None-clause-failures
-returns-in-None-clause-failures g c = record { reads = λ settled. refl; writes = λ other. refl }
+returns-in-None-clause-failures g c = record { opens = λ other. refl; reads = λ settled. refl; writes = λ other. refl }

@@ -4,6 +4,7 @@ use Rattle.ioam_desk.specs.Desk.{Rose, Writing}
 use Rattle.ioam_run_audit.specs.Pairs.{place_of}
 use Rattle.ioam_run_audit.proofs.ClosedLaws.{closed_both, closed_finishes, closed_halts, closed_parts, cut_finishes, moves_on, moves_rest}
 use Rattle.ioam_run_answer.proofs.FailuresLaws.{failures-memory, failures-unsettled, failures-write}
+use Rattle.ioam_run_audit.proofs.SlotsLaws.{two_behind, two_slots}
 use Rattle.ioam_run_audit.proofs.comparison.run_open.Goals as goal
 
 -- ---- a read failed while the packets of BEFORE were judged
@@ -35,7 +36,10 @@ pub returns-in-Err-Read-clause-failures : goal.returns-in-Err-Read-clause-failur
 returns-in-Err-Read-clause-failures g c =
     let judged = rw c.in-Err-Read.field-0-is at c.in-Err-Read.ensures.judged in
     failures-unsettled g.D.Desk.tells (g.D.Desk.reading c.args.desk.now) (g.D.Desk.reading c.cut_off.new.desk)
-    (g.D.Desk.writing c.args.desk.now) (g.D.Desk.writing c.cut_off.new.desk) c.cut_off.result c.cut_off.ensures.unsettled
+    (g.D.Desk.writing c.args.desk.now) (g.D.Desk.writing c.cut_off.new.desk)
+    (two_slots c.args.pair.now.before.feed.slot c.args.pair.now.after.feed.slot (g.D.Desk.reading c.args.desk.now) (g.D.Desk.reading c.judge_all.new.desk)
+    (g.D.Desk.reading c.cut_off.new.desk) c.in-Err-Read.ensures.moves.two c.cut_off.ensures.inputs)
+    c.cut_off.result c.cut_off.ensures.unsettled
     (λ other. c.cut_off.ensures.faults other ∙ ap (λ (s : desk.Side). s.faults) judged.1)
 
 -- ---- a write failed, or no memory could be had
@@ -44,12 +48,16 @@ pub returns-in-Err-Write-clause-failures : goal.returns-in-Err-Write-clause-fail
 returns-in-Err-Write-clause-failures g c =
     failures-write g.D.Desk.tells (g.D.Desk.reading c.args.desk.now) (g.D.Desk.reading c.judge_all.new.desk)
     (g.D.Desk.writing c.args.desk.now) (g.D.Desk.writing c.judge_all.new.desk)
+    (two_slots c.args.pair.now.before.feed.slot c.args.pair.now.after.feed.slot (g.D.Desk.reading c.args.desk.now) (g.D.Desk.reading c.judge_all.new.desk)
+    (g.D.Desk.reading c.judge_all.new.desk) c.in-Err-Write.ensures.moves.two refl)
 
 pub returns-in-Err-NoMemory-clause-failures : goal.returns-in-Err-NoMemory-clause-failures
 returns-in-Err-NoMemory-clause-failures g c =
     let judged = rw c.in-Err-NoMemory.field-0-is at c.in-Err-NoMemory.ensures.judged in
     failures-memory g.D.Desk.tells (g.D.Desk.reading c.args.desk.now) (g.D.Desk.reading c.judge_all.new.desk)
-    (g.D.Desk.writing c.args.desk.now) (g.D.Desk.writing c.judge_all.new.desk) judged.0
+    (g.D.Desk.writing c.args.desk.now) (g.D.Desk.writing c.judge_all.new.desk)
+    (two_slots c.args.pair.now.before.feed.slot c.args.pair.now.after.feed.slot (g.D.Desk.reading c.args.desk.now) (g.D.Desk.reading c.judge_all.new.desk)
+    (g.D.Desk.reading c.judge_all.new.desk) c.in-Err-NoMemory.ensures.moves.two refl) judged.0
 
 -- ---- a read failed behind BEFORE
 
@@ -97,8 +105,10 @@ returns-in-Err-Failed-clause-moves g c =
 pub returns-in-Err-Failed-clause-failures : goal.returns-in-Err-Failed-clause-failures
 returns-in-Err-Failed-clause-failures g c =
     failures-unsettled g.D.Desk.tells (g.D.Desk.reading c.args.desk.now) (g.D.Desk.reading c.cut_off-in-Err-Failed.new.desk)
-    (g.D.Desk.writing c.args.desk.now) (g.D.Desk.writing c.cut_off-in-Err-Failed.new.desk) c.cut_off-in-Err-Failed.result
-    c.cut_off-in-Err-Failed.ensures.unsettled
+    (g.D.Desk.writing c.args.desk.now) (g.D.Desk.writing c.cut_off-in-Err-Failed.new.desk)
+    (two_behind c.judge_all.new.pair.before.feed.slot c.judge_all.new.pair.after.feed.slot (g.D.Desk.reading c.args.desk.now) (g.D.Desk.reading c.judge_all.new.desk)
+    (g.D.Desk.reading c.rest.new.desk) (g.D.Desk.reading c.cut_off-in-Err-Failed.new.desk) c.in-Ok.ensures.same_in c.in-Err-Failed.ensures.two c.cut_off-in-Err-Failed.ensures.inputs)
+    c.cut_off-in-Err-Failed.result c.cut_off-in-Err-Failed.ensures.unsettled
     (λ other. c.cut_off-in-Err-Failed.ensures.faults other ∙ ap (λ (w : Writing). w.side.faults) c.in-Err-Failed.ensures.outputs
     ∙ ap (λ (s : desk.Side). s.faults) c.in-Ok.ensures.same_out)
 
@@ -106,6 +116,8 @@ pub returns-in-Err-NoMemory-rest-clause-failures : goal.returns-in-Err-NoMemory-
 returns-in-Err-NoMemory-rest-clause-failures g c =
     failures-memory g.D.Desk.tells (g.D.Desk.reading c.args.desk.now) (g.D.Desk.reading c.rest.new.desk)
     (g.D.Desk.writing c.args.desk.now) (g.D.Desk.writing c.rest.new.desk)
+    (two_behind c.judge_all.new.pair.before.feed.slot c.judge_all.new.pair.after.feed.slot (g.D.Desk.reading c.args.desk.now) (g.D.Desk.reading c.judge_all.new.desk)
+    (g.D.Desk.reading c.rest.new.desk) (g.D.Desk.reading c.rest.new.desk) c.in-Ok.ensures.same_in c.in-Err-NoMemory-rest.ensures.two refl)
     (ap (λ (w : Writing). w.side.faults) c.in-Err-NoMemory-rest.ensures.outputs ∙ ap (λ (s : desk.Side). s.faults) c.in-Ok.ensures.same_out)
 
 pub returns-in-Err-NoMemory-rest-clause-finishes : goal.returns-in-Err-NoMemory-rest-clause-finishes
@@ -155,6 +167,8 @@ returns-clause-moves g c =
 
 pub returns-clause-failures : goal.returns-clause-failures
 returns-clause-failures g c = record {
+  opens = λ other. two_behind c.judge_all.new.pair.before.feed.slot c.judge_all.new.pair.after.feed.slot (g.D.Desk.reading c.args.desk.now) (g.D.Desk.reading c.judge_all.new.desk)
+      (g.D.Desk.reading c.rest.new.desk) (g.D.Desk.reading c.finish_with.new.desk) c.in-Ok.ensures.same_in c.in-Ok-rest.ensures.two c.finish_with.ensures.inputs;
   reads = λ settled. ap (λ (r : desk.Reading). r.side.faults) c.finish_with.ensures.inputs ∙ ap (λ (s : desk.Side). s.faults) c.in-Ok-rest.ensures.same
       ∙ ap (λ (s : desk.Side). s.faults) c.in-Ok.ensures.same_in;
   writes = λ other. c.finish_with.ensures.faults other ∙ ap (λ (w : Writing). w.side.faults) c.in-Ok-rest.ensures.outputs

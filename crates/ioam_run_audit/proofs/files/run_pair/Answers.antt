@@ -1,6 +1,7 @@
 use Rattle.std.proofs.Common.{◌≡◌, ℕ, List, length, IsTrue, ◌∙◌, ap, subst, sym, rules}
 use Rattle.ioam_desk.specs.Asked.{AsksFront}
 use Rattle.ioam_desk.specs.Desk.{Reading, Side, opened_each}
+use Rattle.ioam_desk.proofs.AskedLaws.{HaveSlots-still}
 use Rattle.ioam_desk_outputs.specs.Held.{HoldFronts}
 use Rattle.ioam_desk_outputs.specs.Told.{GathersNothing}
 use Rattle.ioam_desk_outputs.specs.declared.output.Output.{Output}
@@ -36,6 +37,7 @@ returns-in-Ok g c = record {
       c.in-Ok.ensures.kept c.run_open.ensures.finishes c.run_open.ensures.moves;
   failures = failures-behind g.D.Desk.tells (g.D.Desk.reading c.args.desk.now) (g.D.Desk.reading c.open_outputs.new.desk) (g.D.Desk.reading c.run_open.new.desk)
       (g.D.Desk.writing c.args.desk.now) (g.D.Desk.writing c.open_outputs.new.desk) (g.D.Desk.writing c.run_open.new.desk) c.run_open.result
+      (HaveSlots-still (g.D.Desk.reading c.args.desk.now).side (g.D.Desk.reading c.open_outputs.new.desk).side (ap (λ (r : Reading). r.side) c.in-Ok.ensures.inputs))
       (ap (λ (r : Reading). r.side.faults) c.in-Ok.ensures.inputs) (ap (λ (s : Side). s.faults) c.in-Ok.ensures.side) c.run_open.ensures.failures;
 }
 
@@ -51,7 +53,8 @@ returns-in-Err-Failed g c =
       runs = runs_failed g.D.Desk.tells g.start (place_of c.args.seat.now) c.args.before.now c.args.after.now c.args.pair.now.before.feed.slot c.args.pair.now.after.feed.slot
           (g.D.Desk.reading c.args.desk.now) (g.D.Desk.reading c.open_outputs.new.desk) old new c.args.report.now c.args.pair.now
           c.requires.1.1.1.0 c.requires.1.1.0 c.requires.1.0 c.in-Err-Failed.ensures.inputs asked c.in-Err-Failed.ensures.kept fronts fault.0;
-      failures = failures-write g.D.Desk.tells (g.D.Desk.reading c.args.desk.now) (g.D.Desk.reading c.open_outputs.new.desk) old new;
+      failures = failures-write g.D.Desk.tells (g.D.Desk.reading c.args.desk.now) (g.D.Desk.reading c.open_outputs.new.desk) old new
+          (HaveSlots-still (g.D.Desk.reading c.args.desk.now).side (g.D.Desk.reading c.open_outputs.new.desk).side (ap (λ (r : Reading). r.side) c.in-Err-Failed.ensures.inputs));
     }
 
 pub returns-in-Err-NoMemory : goal.returns-in-Err-NoMemory
@@ -66,5 +69,6 @@ returns-in-Err-NoMemory g c =
       runs = runs_none g.D.Desk.tells g.start (place_of c.args.seat.now) c.args.before.now c.args.after.now c.args.pair.now.before.feed.slot c.args.pair.now.after.feed.slot
           (g.D.Desk.reading c.args.desk.now) (g.D.Desk.reading c.open_outputs.new.desk) old new c.args.report.now c.args.pair.now
           c.requires.1.1.1.0 c.requires.1.1.0 c.requires.1.0 c.in-Err-NoMemory.ensures.inputs asked c.in-Err-NoMemory.ensures.kept fronts;
-      failures = failures-memory g.D.Desk.tells (g.D.Desk.reading c.args.desk.now) (g.D.Desk.reading c.open_outputs.new.desk) old new fault.0;
+      failures = failures-memory g.D.Desk.tells (g.D.Desk.reading c.args.desk.now) (g.D.Desk.reading c.open_outputs.new.desk) old new
+          (HaveSlots-still (g.D.Desk.reading c.args.desk.now).side (g.D.Desk.reading c.open_outputs.new.desk).side (ap (λ (r : Reading). r.side) c.in-Err-NoMemory.ensures.inputs)) fault.0;
     }

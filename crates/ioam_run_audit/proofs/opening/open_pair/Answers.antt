@@ -1,6 +1,6 @@
 use Rattle.std.proofs.Common.{ap, sym}
 use Rattle.ioam_desk.specs.Desk.{Writing, holds}
-use Rattle.ioam_run_audit.proofs.OpeningLaws.{asks_second, asks_two, both_unread, none_unread, one_unread}
+use Rattle.ioam_run_audit.proofs.OpeningLaws.{asks_second, asks_two, both_unread, missed_second, none_unread, one_unread}
 use Rattle.ioam_run_audit.proofs.opening.open_pair.Goals as goal
 
 pub returns-in-Err-clause-asked : goal.returns-in-Err-clause-asked
@@ -16,6 +16,11 @@ pub returns-clause-asked : goal.returns-clause-asked
 returns-clause-asked g c =
     asks_second (g.D.Desk.reading c.args.desk.now).side (g.D.Desk.reading c.open_lane.new.desk).side (g.D.Desk.reading c.open_lane-2.new.desk).side
     c.args.before.now c.args.after.now c.in-Ok.ensures.opened.side c.in-Ok-open_lane.ensures.asked
+
+pub returns-in-Err-open_lane-clause-opens : goal.returns-in-Err-open_lane-clause-opens
+returns-in-Err-open_lane-clause-opens g c =
+    missed_second (g.D.Desk.reading c.args.desk.now).side (g.D.Desk.reading c.open_lane.new.desk).side (g.D.Desk.reading c.open_lane-2.new.desk).side
+    c.args.before.now c.in-Err-open_lane.fault c.in-Ok.ensures.opened.side c.in-Err-open_lane.ensures.opens
 
 pub returns-in-Err-clause-unread : goal.returns-in-Err-clause-unread
 returns-in-Err-clause-unread g c = λ told. none_unread (g.D.Desk.reading c.args.desk.now) (g.D.Desk.reading c.open_lane.new.desk)

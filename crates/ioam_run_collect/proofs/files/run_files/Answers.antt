@@ -2,10 +2,10 @@ use Rattle.std.proofs.Common.{◌≡◌, ℕ, ◌+◌, ◌++◌, ◌∷◌, List
 use Rattle.ioam_desk.specs.Asked.{AsksFront}
 use Rattle.ioam_desk.specs.Desk as desk
 use Rattle.ioam_desk.specs.Desk.{Side, Writing, Rose, holds}
+use Rattle.ioam_desk.proofs.AskedLaws.{HaveSlots-one, HaveSlots-still}
 use Rattle.ioam_desk.proofs.KeptLaws.{KeepsInputs-same, KeepsOutputs-same, KeepsOutputs-then, KeepsOutputs-from}
 use Rattle.ioam_collect_stream.specs.Feed.{Fed}
 use Rattle.ioam_collect_stream.specs.Gathering.{ReadsOne}
-use Rattle.ioam_run_answer.specs.Desks.{around}
 use Rattle.ioam_run_answer.specs.declared.outcome.Outcome.TheVariants as outcome
 use Rattle.ioam_run_answer.proofs.FailuresLaws.{failures-read, failures-write, failures-memory, failures-none, failures-behind}
 use Rattle.ioam_run_collect.proofs.FinishesLaws.{Finishes-cause, Finishes-leaves, Finishes-drained, fed_start, gathers_none, unwritten, unsaid_start}
@@ -328,7 +328,9 @@ returns-clause-unread g c = λ told unopened opened.
     c.in-Err-NoMemory-open_outputs.ensures.inputs told
 
 pub returns-in_default-clause-failures : goal.returns-in_default-clause-failures
-returns-in_default-clause-failures g c = failures-none g.D.Desk.tells (g.D.Desk.reading c.args.desk.now) (g.D.Desk.reading c.args.desk.now) (g.D.Desk.writing c.args.desk.now) (g.D.Desk.writing c.args.desk.now) outcome.NoMemory refl refl
+returns-in_default-clause-failures g c =
+    failures-none g.D.Desk.tells (g.D.Desk.reading c.args.desk.now) (g.D.Desk.reading c.args.desk.now) (g.D.Desk.writing c.args.desk.now) (g.D.Desk.writing c.args.desk.now)
+    (HaveSlots-still (g.D.Desk.reading c.args.desk.now).side _ refl) outcome.NoMemory refl refl
 
 pub returns-in-Err-Failed-clause-failures : goal.returns-in-Err-Failed-clause-failures
 returns-in-Err-Failed-clause-failures g c =
@@ -337,22 +339,31 @@ returns-in-Err-Failed-clause-failures g c =
 
 pub returns-in-Err-NoMemory-clause-failures : goal.returns-in-Err-NoMemory-clause-failures
 returns-in-Err-NoMemory-clause-failures g c =
+    let same = rw c.in-Err-NoMemory.field-0-is at c.in-Err-NoMemory.ensures.fault in
     failures-memory g.D.Desk.tells (g.D.Desk.reading c.args.desk.now) (g.D.Desk.reading c.open_exports.new.desk) (g.D.Desk.writing c.args.desk.now) (g.D.Desk.writing c.open_exports.new.desk)
+    (HaveSlots-still (g.D.Desk.reading c.args.desk.now).side (g.D.Desk.reading c.open_exports.new.desk).side (ap (λ (r : desk.Reading). r.side) same))
     (ap (λ (w : Writing). w.side.faults) c.in-Err-NoMemory.ensures.outputs)
 
 pub returns-in-Ok-open_outputs-clause-failures : goal.returns-in-Ok-open_outputs-clause-failures
 returns-in-Ok-open_outputs-clause-failures g c = failures-behind g.D.Desk.tells
     (g.D.Desk.reading c.args.desk.now) (g.D.Desk.reading c.open_outputs.new.desk) (g.D.Desk.reading c.run_open.new.desk)
     (g.D.Desk.writing c.args.desk.now) (g.D.Desk.writing c.open_outputs.new.desk) (g.D.Desk.writing c.run_open.new.desk) c.run_open.result
+    (HaveSlots-one (g.D.Desk.reading c.args.desk.now).side (g.D.Desk.reading c.open_outputs.new.desk).side c.text.result.now
+    (ap (λ (r : desk.Reading). r.side) c.in-Ok-open_outputs.ensures.inputs ∙ c.in-Ok-open_exports.ensures.opened.side))
     (ap (λ (r : desk.Reading). r.side.faults) c.in-Ok-open_outputs.ensures.inputs ∙ ap (λ (s : Side). s.faults) c.in-Ok-open_exports.ensures.opened.side)
     (ap (λ (s : Side). s.faults) c.in-Ok-open_outputs.ensures.side ∙ ap (λ (w : Writing). w.side.faults) c.in-Ok-open_exports.ensures.outputs)
     c.run_open.ensures.failures
 
 pub returns-in-Err-Failed-open_outputs-clause-failures : goal.returns-in-Err-Failed-open_outputs-clause-failures
-returns-in-Err-Failed-open_outputs-clause-failures g c = failures-write g.D.Desk.tells (g.D.Desk.reading c.args.desk.now) (g.D.Desk.reading c.open_outputs.new.desk) (g.D.Desk.writing c.args.desk.now) (g.D.Desk.writing c.open_outputs.new.desk)
+returns-in-Err-Failed-open_outputs-clause-failures g c =
+    failures-write g.D.Desk.tells (g.D.Desk.reading c.args.desk.now) (g.D.Desk.reading c.open_outputs.new.desk) (g.D.Desk.writing c.args.desk.now) (g.D.Desk.writing c.open_outputs.new.desk)
+    (HaveSlots-one (g.D.Desk.reading c.args.desk.now).side (g.D.Desk.reading c.open_outputs.new.desk).side c.text.result.now
+    (ap (λ (r : desk.Reading). r.side) c.in-Err-Failed-open_outputs.ensures.inputs ∙ c.in-Ok-open_exports.ensures.opened.side))
 
 pub returns-clause-failures : goal.returns-clause-failures
 returns-clause-failures g c =
     let failed = rw c.in-Err-NoMemory-open_outputs.field-0-is at c.in-Err-NoMemory-open_outputs.ensures.fault in
     failures-memory g.D.Desk.tells (g.D.Desk.reading c.args.desk.now) (g.D.Desk.reading c.open_outputs.new.desk) (g.D.Desk.writing c.args.desk.now) (g.D.Desk.writing c.open_outputs.new.desk)
+    (HaveSlots-one (g.D.Desk.reading c.args.desk.now).side (g.D.Desk.reading c.open_outputs.new.desk).side c.text.result.now
+    (ap (λ (r : desk.Reading). r.side) c.in-Err-NoMemory-open_outputs.ensures.inputs ∙ c.in-Ok-open_exports.ensures.opened.side))
     (failed.0 ∙ ap (λ (w : Writing). w.side.faults) c.in-Ok-open_exports.ensures.outputs)

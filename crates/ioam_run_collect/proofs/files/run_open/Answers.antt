@@ -1,9 +1,9 @@
 use Rattle.std.proofs.Common.{[], ◌∷◌, rules, ap, sym, ◌∙◌, subst, arith}
 use Rattle.ioam_desk.specs.Desk as desk
 use Rattle.ioam_desk.specs.Desk.{Side, Writing}
+use Rattle.ioam_desk.proofs.AskedLaws.{HaveSlots-same}
 use Rattle.ioam_desk.proofs.KeptLaws.{WritesFrom-same, WritesFrom-then}
 use Rattle.ioam_run_collect.specs.Ends.{Finishes, outcome_of}
-use Rattle.ioam_run_answer.specs.Desks.{around}
 use Rattle.ioam_run_answer.proofs.FailuresLaws.{failures-write, failures-memory}
 use Rattle.ioam_run_collect.proofs.FailuresLaws.{answers_halt}
 use Rattle.ioam_run_collect.proofs.FinishesLaws.{unsaid_still, unsaid_open, unsaid_one, Sticks-begun, Finishes-written, Halts-sticks}
@@ -90,6 +90,7 @@ returns-in-Err-NoMemory-clause-finishes g c =
 pub returns-then-is_out-clause-failures : goal.returns-then-is_out-clause-failures
 returns-then-is_out-clause-failures g c =
     failures-memory g.D.Desk.tells (g.D.Desk.reading c.args.desk.now) (g.D.Desk.reading c.gather-halt.new.desk) (g.D.Desk.writing c.args.desk.now) (g.D.Desk.writing c.gather-halt.new.desk)
+    (HaveSlots-same (g.D.Desk.reading c.args.desk.now).side (g.D.Desk.reading c.gather-halt.new.desk).side c.gather-halt.ensures.asked c.gather-halt.ensures.slots)
     (ap (λ (w : Writing). w.side.faults) c.gather-halt.ensures.outputs)
 
 pub returns-in-Ok-clause-failures : goal.returns-in-Ok-clause-failures
@@ -98,10 +99,15 @@ returns-in-Ok-clause-failures g c = rw c.outcome_of.ensures (answers_halt g.D.De
     c.gather-halt.ensures.same c.write_report.ensures.inputs c.gather-halt.ensures.outputs c.in-Ok.ensures.same)
 
 pub returns-in-Err-Failed-clause-failures : goal.returns-in-Err-Failed-clause-failures
-returns-in-Err-Failed-clause-failures g c = failures-write g.D.Desk.tells (g.D.Desk.reading c.args.desk.now) (g.D.Desk.reading c.write_report.new.desk) (g.D.Desk.writing c.args.desk.now) (g.D.Desk.writing c.write_report.new.desk)
+returns-in-Err-Failed-clause-failures g c =
+    failures-write g.D.Desk.tells (g.D.Desk.reading c.args.desk.now) (g.D.Desk.reading c.write_report.new.desk) (g.D.Desk.writing c.args.desk.now) (g.D.Desk.writing c.write_report.new.desk)
+    (HaveSlots-same (g.D.Desk.reading c.args.desk.now).side (g.D.Desk.reading c.write_report.new.desk).side (ap (λ (r : desk.Reading). r.side.asked) c.write_report.ensures.inputs ∙ c.gather-halt.ensures.asked)
+    (ap (λ (r : desk.Reading). r.side.slots) c.write_report.ensures.inputs ∙ c.gather-halt.ensures.slots))
 
 pub returns-in-Err-NoMemory-clause-failures : goal.returns-in-Err-NoMemory-clause-failures
 returns-in-Err-NoMemory-clause-failures g c =
     let same = rw c.in-Err-NoMemory.field-0-is at c.in-Err-NoMemory.ensures.cause in
     failures-memory g.D.Desk.tells (g.D.Desk.reading c.args.desk.now) (g.D.Desk.reading c.write_report.new.desk) (g.D.Desk.writing c.args.desk.now) (g.D.Desk.writing c.write_report.new.desk)
+    (HaveSlots-same (g.D.Desk.reading c.args.desk.now).side (g.D.Desk.reading c.write_report.new.desk).side (ap (λ (r : desk.Reading). r.side.asked) c.write_report.ensures.inputs ∙ c.gather-halt.ensures.asked)
+    (ap (λ (r : desk.Reading). r.side.slots) c.write_report.ensures.inputs ∙ c.gather-halt.ensures.slots))
     (same ∙ ap (λ (w : Writing). w.side.faults) c.gather-halt.ensures.outputs)

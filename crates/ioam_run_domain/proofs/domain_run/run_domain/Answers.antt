@@ -5,7 +5,7 @@ use Rattle.ioam_run_domain.proofs.domain_run.run_domain.Goals as goal
 pub returns-in-Err : goal.returns-in-Err
 returns-in-Err g c = record {
   keeps = laws.refused-keeps g.G.Gate.opens g.D.Desk.tells c.args.files.now (g.D.Desk.reading c.args.desk.now) (g.D.Desk.reading c.read_names.new.desk)
-      (g.D.Desk.writing c.args.desk.now) (g.D.Desk.writing c.read_names.new.desk) c.in-Err.refusal c.refused.result c.in-Err.ensures.refused c.in-Err.ensures.settled c.in-Err.ensures.asked (λ fault is. c.in-Err.ensures.domain_first fault (ap Err is))
+      (g.D.Desk.writing c.args.desk.now) (g.D.Desk.writing c.read_names.new.desk) c.in-Err.refusal c.refused.result c.in-Err.ensures.refused c.in-Err.ensures.settled c.in-Err.ensures.opens c.in-Err.ensures.asked (λ fault is. c.in-Err.ensures.domain_first fault (ap Err is))
       c.read_names.ensures.in_turn c.in-Err.ensures.outputs c.refused.ensures c.read_names.ensures.kept;
 }
 

@@ -2,6 +2,7 @@ use Rattle.std.proofs.Common.{ap, inl, arith}
 use Rattle.std.proofs.lemmas.Result.{err_from_is_err_and}
 use Rattle.ioam_clock.specs.Reading.{node_names}
 use Rattle.ioam_desk.specs.Desk.{Side, holds}
+use Rattle.ioam_desk.proofs.AskedLaws.{HaveSlots-one, HaveSlots-then}
 use Rattle.ioam_desk.proofs.KeptLaws.{KeepsInputs-then}
 use Rattle.ioam_run_files.proofs.SettingLaws.{asks_next, domain_first, refuses_next, none_of_domain, same_refusal}
 use Rattle.ioam_run_files.proofs.setting.read_setting.Goals as goal
@@ -40,6 +41,14 @@ pub returns-clause-in_turn : goal.returns-clause-in_turn
 returns-clause-in_turn g c = domain_first g.D.Desk.tells (g.D.Desk.reading c.args.desk.now) (g.D.Desk.reading c.read_domain_file.new.desk)
     (g.D.Desk.reading c.read_readings_file.new.desk) (g.D.Desk.writing c.args.desk.now) c.args.domain.now c.args.readings.now c.in_ok-domain.domain
     c.in_ok-domain.ensures.read c.in_ok-domain.ensures.side c.in_ok-domain.ensures.ended c.read_readings_file.ensures.kept
+
+pub returns-in_err-readings-clause-opens : goal.returns-in_err-readings-clause-opens
+returns-in_err-readings-clause-opens g c =
+    let p = err_from_is_err_and c.from_residual-in_err-readings.result c.from_residual-in_err-readings.ensures.1 in
+    let old = (g.D.Desk.reading c.args.desk.now).side in
+    let mid = (g.D.Desk.reading c.read_domain_file.new.desk).side in
+    rw (p.1, p.2) (λ other. HaveSlots-then old mid (g.D.Desk.reading c.read_readings_file.new.desk).side
+    (HaveSlots-one old mid c.args.domain.now c.in_ok-domain.ensures.side) (c.in_err-readings.ensures.opens other))
 
 pub returns-in_err-readings-clause-domain_first :
     goal.returns-in_err-readings-clause-domain_first

@@ -2,6 +2,7 @@ use Rattle.std.proofs.Common.{rules, refl, sym, ap, ◌∙◌, arith}
 use Rattle.std.proofs.lemmas.Bool.{false≢true}
 use Rattle.ioam_desk.specs.Desk as desk
 use Rattle.ioam_desk.specs.Desk.{Side}
+use Rattle.ioam_desk.proofs.AskedLaws.{HaveSlots-same, HaveSlots-still}
 use Rattle.std.specs.Prelude.{IsSomeAnd, IsTrue}
 use Rattle.ioam_run_ipfix.specs.Ends.{IsBroken}
 use Rattle.ioam_run_ipfix.specs.Texts.{AreMessages, HoldsText}
@@ -104,21 +105,26 @@ returns-clause-frames g c =
 
 pub returns-in_default-clause-failures : goal.returns-in_default-clause-failures
 returns-in_default-clause-failures g c =
-    failures-none g.D.Desk.tells (g.D.Desk.reading c.args.desk.now) _ (g.D.Desk.writing c.args.desk.now) _ _ refl refl
+    failures-none g.D.Desk.tells (g.D.Desk.reading c.args.desk.now) _ (g.D.Desk.writing c.args.desk.now) _ (HaveSlots-still (g.D.Desk.reading c.args.desk.now).side _ refl) _ refl refl
 
 pub returns-in-Ok-write_rest-clause-failures : goal.returns-in-Ok-write_rest-clause-failures
 returns-in-Ok-write_rest-clause-failures g c =
     failures-before g.D.Desk.tells (g.D.Desk.reading c.args.desk.now) (g.D.Desk.reading c.read_on-answer.new.desk) (g.D.Desk.reading c.write_rest.new.desk)
     (g.D.Desk.writing c.args.desk.now) (g.D.Desk.writing c.read_on-answer.new.desk) (g.D.Desk.writing c.write_rest.new.desk) c.read_on-answer.result
+    (HaveSlots-still (g.D.Desk.reading c.read_on-answer.new.desk).side (g.D.Desk.reading c.write_rest.new.desk).side (ap (λ (r : desk.Reading). r.side) c.write_rest.ensures.inputs))
     (ap (λ (r : desk.Reading). r.side.faults) c.write_rest.ensures.inputs) (ap (λ (s : Side). s.faults) c.in-Ok-write_rest.ensures.same) c.read_on-answer.ensures.failures
 
 pub returns-in-Err-Failed-clause-failures : goal.returns-in-Err-Failed-clause-failures
 returns-in-Err-Failed-clause-failures g c =
     failures-write g.D.Desk.tells (g.D.Desk.reading c.args.desk.now) (g.D.Desk.reading c.write_rest.new.desk) (g.D.Desk.writing c.args.desk.now) (g.D.Desk.writing c.write_rest.new.desk)
+    (HaveSlots-same (g.D.Desk.reading c.args.desk.now).side (g.D.Desk.reading c.write_rest.new.desk).side (ap (λ (r : desk.Reading). r.side.asked) c.write_rest.ensures.inputs ∙ c.read_on-answer.ensures.frames.asked_in)
+    (ap (λ (r : desk.Reading). r.side.slots) c.write_rest.ensures.inputs ∙ c.read_on-answer.ensures.frames.slots_in))
 
 pub returns-clause-failures : goal.returns-clause-failures
 returns-clause-failures g c =
     let whole : IsBroken c.read_on-answer.result → ⊥ = λ broken. false≢true (sym c.if-is_broken.false ∙ c.is_broken.ensures.1 broken) in
     let lacks = rw c.in-Err-NoMemory.field-0-is at c.in-Err-NoMemory.ensures.cause in
     failures-memory g.D.Desk.tells (g.D.Desk.reading c.args.desk.now) (g.D.Desk.reading c.write_rest.new.desk) (g.D.Desk.writing c.args.desk.now) (g.D.Desk.writing c.write_rest.new.desk)
+    (HaveSlots-same (g.D.Desk.reading c.args.desk.now).side (g.D.Desk.reading c.write_rest.new.desk).side (ap (λ (r : desk.Reading). r.side.asked) c.write_rest.ensures.inputs ∙ c.read_on-answer.ensures.frames.asked_in)
+    (ap (λ (r : desk.Reading). r.side.slots) c.write_rest.ensures.inputs ∙ c.read_on-answer.ensures.frames.slots_in))
     (lacks ∙ c.read_on-answer.ensures.failures.writes (whole-write c.read_on-answer.result whole))

@@ -1,6 +1,7 @@
 use Rattle.std.proofs.Common.{◌≡◌, ℕ, IsTrue, List, length, length-append, refl, ap, sym, ◌∙◌, subst, arith}
 use Rattle.ioam_desk.specs.Desk as desk
 use Rattle.ioam_desk.specs.Desk.{Side, Writing}
+use Rattle.ioam_desk.proofs.AskedLaws.{HaveSlots-still}
 use Rattle.ioam_dex.specs.Reader.{fed, ending_of}
 use Rattle.ioam_run_ipfix.specs.Exports.{AreFirst}
 use Rattle.ioam_run_ipfix.specs.PackSteps.{Halts, Feeds}
@@ -202,30 +203,40 @@ returns-in-Err-NoMemory-refill-clause-ends g c =
 
 pub returns-in-Ok-Bad-clause-failures : goal.returns-in-Ok-Bad-clause-failures
 returns-in-Ok-Bad-clause-failures g c =
-    failures-none g.D.Desk.tells (g.D.Desk.reading c.args.desk.now) (g.D.Desk.reading c.take_shown.new.desk) (g.D.Desk.writing c.args.desk.now) (g.D.Desk.writing c.take_shown.new.desk) _
+    failures-none g.D.Desk.tells (g.D.Desk.reading c.args.desk.now) (g.D.Desk.reading c.take_shown.new.desk) (g.D.Desk.writing c.args.desk.now) (g.D.Desk.writing c.take_shown.new.desk)
+    (HaveSlots-still (g.D.Desk.reading c.args.desk.now).side (g.D.Desk.reading c.take_shown.new.desk).side
+    (ap (λ (r : desk.Reading). r.side) c.take_shown.ensures.inputs ∙ c.pieces.invariant.inputs)) _
     (ap (λ (r : desk.Reading). r.side.faults) c.take_shown.ensures.inputs ∙ ap (λ (s : Side). s.faults) c.pieces.invariant.inputs)
     (ap (λ (s : Side). s.faults) c.in-Ok-Bad.ensures.same ∙ ap (λ (s : Side). s.faults) c.pieces.invariant.side)
 
 pub returns-in-Ok-Limit-clause-failures : goal.returns-in-Ok-Limit-clause-failures
 returns-in-Ok-Limit-clause-failures g c =
-    failures-none g.D.Desk.tells (g.D.Desk.reading c.args.desk.now) (g.D.Desk.reading c.take_shown.new.desk) (g.D.Desk.writing c.args.desk.now) (g.D.Desk.writing c.take_shown.new.desk) _
+    failures-none g.D.Desk.tells (g.D.Desk.reading c.args.desk.now) (g.D.Desk.reading c.take_shown.new.desk) (g.D.Desk.writing c.args.desk.now) (g.D.Desk.writing c.take_shown.new.desk)
+    (HaveSlots-still (g.D.Desk.reading c.args.desk.now).side (g.D.Desk.reading c.take_shown.new.desk).side
+    (ap (λ (r : desk.Reading). r.side) c.take_shown.ensures.inputs ∙ c.pieces.invariant.inputs)) _
     (ap (λ (r : desk.Reading). r.side.faults) c.take_shown.ensures.inputs ∙ ap (λ (s : Side). s.faults) c.pieces.invariant.inputs)
     (ap (λ (s : Side). s.faults) c.in-Ok-Limit.ensures.same ∙ ap (λ (s : Side). s.faults) c.pieces.invariant.side)
 
 pub returns-in-Err-Failed-clause-failures : goal.returns-in-Err-Failed-clause-failures
 returns-in-Err-Failed-clause-failures g c =
     failures-write g.D.Desk.tells (g.D.Desk.reading c.args.desk.now) (g.D.Desk.reading c.take_shown.new.desk) (g.D.Desk.writing c.args.desk.now) (g.D.Desk.writing c.take_shown.new.desk)
+    (HaveSlots-still (g.D.Desk.reading c.args.desk.now).side (g.D.Desk.reading c.take_shown.new.desk).side
+    (ap (λ (r : desk.Reading). r.side) c.take_shown.ensures.inputs ∙ c.pieces.invariant.inputs))
 
 pub returns-in-Err-NoMemory-clause-failures : goal.returns-in-Err-NoMemory-clause-failures
 returns-in-Err-NoMemory-clause-failures g c =
     let lacks = rw c.in-Err-NoMemory.field-0-is at c.in-Err-NoMemory.ensures.cause in
     failures-memory g.D.Desk.tells (g.D.Desk.reading c.args.desk.now) (g.D.Desk.reading c.take_shown.new.desk) (g.D.Desk.writing c.args.desk.now) (g.D.Desk.writing c.take_shown.new.desk)
+    (HaveSlots-still (g.D.Desk.reading c.args.desk.now).side (g.D.Desk.reading c.take_shown.new.desk).side
+    (ap (λ (r : desk.Reading). r.side) c.take_shown.ensures.inputs ∙ c.pieces.invariant.inputs))
     (lacks ∙ ap (λ (s : Side). s.faults) c.pieces.invariant.side)
 
 pub returns-in-Ok-false-clause-failures : goal.returns-in-Ok-false-clause-failures
 returns-in-Ok-false-clause-failures g c =
     let ends = rw c.in-Ok-false.field-0-test at c.in-Ok-false.ensures.read in
-    failures-none g.D.Desk.tells (g.D.Desk.reading c.args.desk.now) (g.D.Desk.reading c.refill.new.desk) (g.D.Desk.writing c.args.desk.now) (g.D.Desk.writing c.refill.new.desk) c.end_outcome.result
+    failures-none g.D.Desk.tells (g.D.Desk.reading c.args.desk.now) (g.D.Desk.reading c.refill.new.desk) (g.D.Desk.writing c.args.desk.now) (g.D.Desk.writing c.refill.new.desk)
+    (HaveSlots-still (g.D.Desk.reading c.args.desk.now).side (g.D.Desk.reading c.refill.new.desk).side
+    (ends.0.side ∙ ap (λ (r : desk.Reading). r.side) c.take_shown.ensures.inputs ∙ c.pieces.invariant.inputs)) c.end_outcome.result
     (ap (λ (s : Side). s.faults) ends.0.side ∙ ap (λ (r : desk.Reading). r.side.faults) c.take_shown.ensures.inputs ∙ ap (λ (s : Side). s.faults) c.pieces.invariant.inputs)
     (ap (λ (w : Writing). w.side.faults) c.refill.ensures.outputs ∙ ap (λ (s : Side). s.faults) c.in-Ok-More.ensures.same ∙ ap (λ (s : Side). s.faults) c.pieces.invariant.side)
 
@@ -236,5 +247,8 @@ returns-in-Err-Failed-refill-clause-failures g c =
 
 pub returns-in-Err-NoMemory-refill-clause-failures : goal.returns-in-Err-NoMemory-refill-clause-failures
 returns-in-Err-NoMemory-refill-clause-failures g c =
+    let lacks = rw c.in-Err-NoMemory-refill.field-0-is at c.in-Err-NoMemory-refill.ensures.read in
     failures-memory g.D.Desk.tells (g.D.Desk.reading c.args.desk.now) (g.D.Desk.reading c.refill.new.desk) (g.D.Desk.writing c.args.desk.now) (g.D.Desk.writing c.refill.new.desk)
+    (HaveSlots-still (g.D.Desk.reading c.args.desk.now).side (g.D.Desk.reading c.refill.new.desk).side
+    (lacks.0 ∙ ap (λ (r : desk.Reading). r.side) c.take_shown.ensures.inputs ∙ c.pieces.invariant.inputs))
     (ap (λ (w : Writing). w.side.faults) c.refill.ensures.outputs ∙ ap (λ (s : Side). s.faults) c.in-Ok-More.ensures.same ∙ ap (λ (s : Side). s.faults) c.pieces.invariant.side)

@@ -2,6 +2,7 @@ use Rattle.std.proofs.Common.{◌≡◌, ℕ, ◌+◌, List, ◌∷◌, [], Some
 use Rattle.ioam_desk.specs.Asked.{AsksFront}
 use Rattle.ioam_desk.specs.Kept.{KeepsOutputs}
 use Rattle.ioam_desk.specs.declared.fault.DeskFault.TheVariants.{Failed, NoMemory}
+use Rattle.ioam_desk.proofs.AskedLaws.{HaveSlots-one, HaveSlots-still}
 use Rattle.ioam_desk.proofs.KeptLaws.{KeepsOutputs-same}
 use Rattle.ioam_desk.specs.Desk.{OpensInput, Side, Reading, Writing, holds}
 use Rattle.ioam_run_ipfix.proofs.OpeningLaws.{KeepsInputs-opened, KeepsInputs-unopened, asks_none, asks_one, untouched, unwritten}
@@ -80,16 +81,22 @@ returns-in-Err-Failed-clause-failures g c =
 
 pub returns-in-Err-NoMemory-clause-failures : goal.returns-in-Err-NoMemory-clause-failures
 returns-in-Err-NoMemory-clause-failures g c =
-    failures-memory g.D.Desk.tells (g.D.Desk.reading c.args.desk.now) (g.D.Desk.reading c.open_in.new.self) (g.D.Desk.writing c.args.desk.now) (g.D.Desk.writing c.open_in.new.self) (ap (λ (w : Writing). w.side.faults) c.in-Err-NoMemory.ensures.outputs)
+    let same = rw c.in-Err-NoMemory.field-0-is at c.in-Err-NoMemory.ensures.opened in
+    failures-memory g.D.Desk.tells (g.D.Desk.reading c.args.desk.now) (g.D.Desk.reading c.open_in.new.self) (g.D.Desk.writing c.args.desk.now) (g.D.Desk.writing c.open_in.new.self)
+    (HaveSlots-still (g.D.Desk.reading c.args.desk.now).side (g.D.Desk.reading c.open_in.new.self).side (ap (λ (r : Reading). r.side) same)) (ap (λ (w : Writing). w.side.faults) c.in-Err-NoMemory.ensures.outputs)
 
 pub returns-in-Err-Failed-open_outputs-clause-failures : goal.returns-in-Err-Failed-open_outputs-clause-failures
 returns-in-Err-Failed-open_outputs-clause-failures g c =
     failures-write g.D.Desk.tells (g.D.Desk.reading c.args.desk.now) (g.D.Desk.reading c.open_outputs.new.desk) (g.D.Desk.writing c.args.desk.now) (g.D.Desk.writing c.open_outputs.new.desk)
+    (HaveSlots-one (g.D.Desk.reading c.args.desk.now).side (g.D.Desk.reading c.open_outputs.new.desk).side c.text.result.now
+    (ap (λ (r : Reading). r.side) c.in-Err-Failed-open_outputs.ensures.inputs ∙ c.in-Ok.ensures.opened.side))
 
 pub returns-in-Err-NoMemory-open_outputs-clause-failures : goal.returns-in-Err-NoMemory-open_outputs-clause-failures
 returns-in-Err-NoMemory-open_outputs-clause-failures g c =
     let lacks = rw c.in-Err-NoMemory-open_outputs.field-0-is at c.in-Err-NoMemory-open_outputs.ensures.fault in
     failures-memory g.D.Desk.tells (g.D.Desk.reading c.args.desk.now) (g.D.Desk.reading c.open_outputs.new.desk) (g.D.Desk.writing c.args.desk.now) (g.D.Desk.writing c.open_outputs.new.desk)
+    (HaveSlots-one (g.D.Desk.reading c.args.desk.now).side (g.D.Desk.reading c.open_outputs.new.desk).side c.text.result.now
+    (ap (λ (r : Reading). r.side) c.in-Err-NoMemory-open_outputs.ensures.inputs ∙ c.in-Ok.ensures.opened.side))
     (lacks.0 ∙ ap (λ (w : Writing). w.side.faults) c.in-Ok.ensures.outputs)
 
 pub returns-in-Ok-open_outputs-clause-no_output : goal.returns-in-Ok-open_outputs-clause-no_output

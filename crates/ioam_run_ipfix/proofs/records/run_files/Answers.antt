@@ -1,5 +1,6 @@
 use Rattle.std.proofs.Common.{◌≡◌, ◌+◌, refl, ap, arith}
 use Rattle.ioam_desk.specs.Desk.{Side}
+use Rattle.ioam_desk.proofs.AskedLaws.{HaveSlots-one, HaveSlots-still}
 use Rattle.ioam_run_ipfix.proofs.BoundsLaws.{Bounds-none, Bounds-opened, Bounds-refused, refused-opens}
 use Rattle.ioam_run_ipfix.proofs.RecordsLaws.{ends-cause, ends-leaves, ends-drained, ends-opened, refused-cause, refused-leaves}
 use Rattle.ioam_run_answer.proofs.FailuresLaws.{failures-none, failures-behind}
@@ -55,10 +56,11 @@ returns-in-Err-clause-unopened g c = λ none. absurd (refused-opens g.D.Desk.tel
 
 pub returns-in_default-clause-failures : goal.returns-in_default-clause-failures
 returns-in_default-clause-failures g c =
-    failures-none g.D.Desk.tells (g.D.Desk.reading c.args.desk.now) _ (g.D.Desk.writing c.args.desk.now) _ _ refl refl
+    failures-none g.D.Desk.tells (g.D.Desk.reading c.args.desk.now) _ (g.D.Desk.writing c.args.desk.now) _ (HaveSlots-still (g.D.Desk.reading c.args.desk.now).side _ refl) _ refl refl
 
 pub returns-in-Ok-open_files-clause-failures : goal.returns-in-Ok-open_files-clause-failures
 returns-in-Ok-open_files-clause-failures g c =
     failures-behind g.D.Desk.tells (g.D.Desk.reading c.args.desk.now) (g.D.Desk.reading c.open_files.new.desk) (g.D.Desk.reading c.run_open.new.desk)
     (g.D.Desk.writing c.args.desk.now) (g.D.Desk.writing c.open_files.new.desk) (g.D.Desk.writing c.run_open.new.desk) c.run_open.result
+    (HaveSlots-one (g.D.Desk.reading c.args.desk.now).side (g.D.Desk.reading c.open_files.new.desk).side c.args.input.now c.in-Ok-open_files.ensures.opened.side_in)
     (ap (λ (s : Side). s.faults) c.in-Ok-open_files.ensures.opened.side_in) (ap (λ (s : Side). s.faults) c.in-Ok-open_files.ensures.opened.side_out) c.run_open.ensures.failures

@@ -1,4 +1,5 @@
 use Rattle.std.proofs.Common.{◌≡◌, ℕ, List, refl, ◌∙◌, subst, inl, inr}
+use Rattle.ioam_desk.proofs.AskedLaws.{HaveSlots-still}
 use Rattle.ioam_desk_outputs.specs.Names.{AreApart, IsFirstRepeat}
 use Rattle.ioam_run_node.specs.Ends.{IsTwice}
 use Rattle.ioam_run_node.specs.Promise.{node_files}
@@ -13,7 +14,7 @@ returns-in_default g c =
     let writing = g.D.Desk.writing c.args.desk.now in
     record {
       ends = inl (stays_none g.D.Desk.tells c.args.files.now reading writing (IsTwice g.D.Desk.tells c.args.files.now reading reading writing writing));
-      failures = failures-none g.D.Desk.tells reading reading writing writing _ refl refl;
+      failures = failures-none g.D.Desk.tells reading reading writing writing (HaveSlots-still reading.side reading.side refl) _ refl refl;
     }
 
 pub returns-in-Some : goal.returns-in-Some
@@ -26,7 +27,8 @@ returns-in-Some g c =
       ends = stays_file g.D.Desk.tells files (g.D.Desk.reading c.args.desk.now) (g.D.Desk.writing c.args.desk.now)
           (seat_at c.args.setting.now.domain c.args.setting.now.readings c.args.node c.args.inward) (node_files files) c.in-Some.at c.swap_remove.result refl first
           (taken_name (node_files files) c.in-Ok.names.items c.in-Some.at c.swap_remove.result c.in-Ok.ensures c.swap_remove.ensures.value first.inside);
-      failures = failures-none g.D.Desk.tells (g.D.Desk.reading c.args.desk.now) _ (g.D.Desk.writing c.args.desk.now) _ _ refl refl;
+      failures = failures-none g.D.Desk.tells (g.D.Desk.reading c.args.desk.now) _ (g.D.Desk.writing c.args.desk.now) _
+          (HaveSlots-still (g.D.Desk.reading c.args.desk.now).side _ refl) _ refl refl;
     }
 
 pub run_apart-requires-clause-apart : goal.run_apart-requires-clause-apart

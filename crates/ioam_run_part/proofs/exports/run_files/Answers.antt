@@ -1,4 +1,5 @@
 use Rattle.std.proofs.Common.{◌∷◌, [], refl}
+use Rattle.ioam_desk.proofs.AskedLaws.{HaveSlots-still}
 use Rattle.ioam_desk.proofs.KeptLaws.{KeepsInputs-same}
 use Rattle.ioam_run_answer.specs.Desks.{Desks, around}
 use Rattle.ioam_run_part.specs.Files.{PartNames}
@@ -12,3 +13,4 @@ returns-in_default g c =
     let desks : Desks = around g.D.Desk.tells (g.D.Desk.reading c.args.desk.now) (g.D.Desk.reading c.args.desk.now) (g.D.Desk.writing c.args.desk.now) (g.D.Desk.writing c.args.desk.now) in
     ends_wanting desks names refl (none_asked (g.D.Desk.reading c.args.desk.now) (g.D.Desk.reading c.args.desk.now) (c.args.exports.now ∷ []) refl)
     (KeepsInputs-same (g.D.Desk.reading c.args.desk.now) (g.D.Desk.reading c.args.desk.now) refl) (never_opened desks names refl)
+    (HaveSlots-still (g.D.Desk.reading c.args.desk.now).side (g.D.Desk.reading c.args.desk.now).side refl)

@@ -1,11 +1,12 @@
 use Rattle.std.proofs.Common.{rules, [], ap, sym, ◌∙◌, subst}
 use Rattle.ioam_desk.specs.Desk as desk
 use Rattle.ioam_desk.specs.Desk.{Writing, Rose}
+use Rattle.ioam_desk.proofs.AskedLaws.{HaveSlots-same}
 use Rattle.ioam_part.specs.Part.{part_text}
 use Rattle.ioam_run_answer.specs.declared.outcome.Outcome.{Outcome}
 use Rattle.ioam_run_part.specs.PartEnds.{Finishes}
 use Rattle.ioam_run_answer.proofs.FailuresLaws.{failures-write, failures-memory}
-use Rattle.ioam_run_part.proofs.FailuresLaws.{answers_halt, written_done, written_wanting}
+use Rattle.ioam_run_part.proofs.FailuresLaws.{answers_halt, written_done, written_still, written_wanting}
 use Rattle.ioam_run_part.proofs.PartLaws.{blank_sticks, blank_still, finishes_written, halts_stick}
 use Rattle.ioam_run_part.proofs.exports.run_open.Goals as goal
 
@@ -69,19 +70,24 @@ returns-in-Err-NoMemory-clause-finishes g c = λ part blank.
 pub returns-then-is_out-clause-failures : goal.returns-then-is_out-clause-failures
 returns-then-is_out-clause-failures g c =
     failures-memory g.D.Desk.tells (g.D.Desk.reading c.args.desk.now) (g.D.Desk.reading c.gather-halt.new.desk) (g.D.Desk.writing c.args.desk.now) (g.D.Desk.writing c.gather-halt.new.desk)
+    (HaveSlots-same (g.D.Desk.reading c.args.desk.now).side (g.D.Desk.reading c.gather-halt.new.desk).side c.gather-halt.ensures.asked c.gather-halt.ensures.slots)
     (ap (λ (w : Writing). w.side.faults) c.gather-halt.ensures.outputs)
 
 pub returns-in-Ok-clause-failures : goal.returns-in-Ok-clause-failures
 returns-in-Ok-clause-failures g c = rw c.outcome_of.ensures (answers_halt g.D.Desk.tells (g.D.Desk.reading c.args.desk.now) (g.D.Desk.reading c.gather-halt.new.desk) (g.D.Desk.reading c.write_part.new.desk)
     (g.D.Desk.writing c.args.desk.now) (g.D.Desk.writing c.gather-halt.new.desk) (g.D.Desk.writing c.write_part.new.desk) c.gather-halt.result
+    (written_still (g.D.Desk.reading c.args.desk.now) (g.D.Desk.reading c.gather-halt.new.desk) (g.D.Desk.reading c.write_part.new.desk) c.gather-halt.ensures.asked c.gather-halt.ensures.slots c.write_part.ensures.inputs)
     c.gather-halt.ensures.same c.write_part.ensures.inputs c.gather-halt.ensures.outputs
     (written_done (g.D.Desk.writing c.gather-halt.new.desk) (g.D.Desk.writing c.write_part.new.desk) _ c.in-Ok.ensures.faults))
 
 pub returns-in-Err-Failed-clause-failures : goal.returns-in-Err-Failed-clause-failures
-returns-in-Err-Failed-clause-failures g c = failures-write g.D.Desk.tells (g.D.Desk.reading c.args.desk.now) (g.D.Desk.reading c.write_part.new.desk) (g.D.Desk.writing c.args.desk.now) (g.D.Desk.writing c.write_part.new.desk)
+returns-in-Err-Failed-clause-failures g c =
+    failures-write g.D.Desk.tells (g.D.Desk.reading c.args.desk.now) (g.D.Desk.reading c.write_part.new.desk) (g.D.Desk.writing c.args.desk.now) (g.D.Desk.writing c.write_part.new.desk)
+    (written_still (g.D.Desk.reading c.args.desk.now) (g.D.Desk.reading c.gather-halt.new.desk) (g.D.Desk.reading c.write_part.new.desk) c.gather-halt.ensures.asked c.gather-halt.ensures.slots c.write_part.ensures.inputs)
 
 pub returns-in-Err-NoMemory-clause-failures : goal.returns-in-Err-NoMemory-clause-failures
 returns-in-Err-NoMemory-clause-failures g c =
     let same = rw c.in-Err-NoMemory.field-0-is at c.in-Err-NoMemory.ensures.faults in
     failures-memory g.D.Desk.tells (g.D.Desk.reading c.args.desk.now) (g.D.Desk.reading c.write_part.new.desk) (g.D.Desk.writing c.args.desk.now) (g.D.Desk.writing c.write_part.new.desk)
+    (written_still (g.D.Desk.reading c.args.desk.now) (g.D.Desk.reading c.gather-halt.new.desk) (g.D.Desk.reading c.write_part.new.desk) c.gather-halt.ensures.asked c.gather-halt.ensures.slots c.write_part.ensures.inputs)
     (written_wanting (g.D.Desk.writing c.gather-halt.new.desk) (g.D.Desk.writing c.write_part.new.desk) same ∙ ap (λ (w : Writing). w.side.faults) c.gather-halt.ensures.outputs)

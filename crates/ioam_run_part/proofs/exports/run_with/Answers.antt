@@ -2,6 +2,7 @@ use Rattle.std.proofs.Common.{ℕ, List, ◌∷◌, [], Ok, Err, sym, ap, ◌∙
 use Rattle.ioam_desk.specs.Desk as desk
 use Rattle.ioam_desk.specs.Desk.{OpenIn, OpenOut, OpensInput, Writing, holds}
 use Rattle.ioam_desk.specs.declared.fault.DeskFault.TheVariants.{Failed}
+use Rattle.ioam_desk.proofs.AskedLaws.{HaveSlots-still}
 use Rattle.ioam_desk.proofs.KeptLaws.{KeepsInputs-same}
 use Rattle.ioam_run_answer.specs.Desks.{Desks, around}
 use Rattle.ioam_run_part.specs.Files.{PartNames}
@@ -30,7 +31,7 @@ returns-in-Err-NoMemory g c =
     let desks : Desks = around g.D.Desk.tells old_in new_in (g.D.Desk.writing c.args.desk.now) (g.D.Desk.writing c.open_exports.new.desk) in
     let same = rw c.in-Err-NoMemory.field-0-is at c.in-Err-NoMemory.ensures.fault in
     ends_wanting desks names c.in-Err-NoMemory.ensures.outputs (none_asked old_in new_in (c.args.exports.now ∷ []) same) (KeepsInputs-same old_in new_in same)
-    (never_opened desks names (ap (λ (r : desk.Reading). r.side.slots) same))
+    (never_opened desks names (ap (λ (r : desk.Reading). r.side.slots) same)) (HaveSlots-still old_in.side new_in.side (ap (λ (r : desk.Reading). r.side) same))
 
 pub run_open-requires : goal.run_open-requires
 run_open-requires g c = record {

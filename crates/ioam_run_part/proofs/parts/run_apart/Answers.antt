@@ -3,6 +3,7 @@ use Rattle.ioam_desk.specs.Asked.{AsksFront}
 use Rattle.ioam_desk.specs.Desk as desk
 use Rattle.ioam_desk.specs.Desk.{Side, Writing, holds}
 use Rattle.ioam_desk.specs.Kept.{KeepsInputs, KeepsOutputs}
+use Rattle.ioam_desk.proofs.AskedLaws.{HaveSlots-one}
 use Rattle.ioam_run_answer.specs.Desks.{Desks, around}
 use Rattle.ioam_run_answer.specs.declared.outcome.Outcome.{Outcome}
 use Rattle.ioam_run_part.specs.Files.{PartsNames}
@@ -41,7 +42,8 @@ pub returns-in-Err-lines : goal.returns-in-Err-lines
 returns-in-Err-lines g c =
     let names : PartsNames = record { part = c.args.part.now; report = c.args.report.now } in
     let desks : Desks = around g.D.Desk.tells (g.D.Desk.reading c.args.desk.now) (g.D.Desk.reading c.read_held.new.desk) (g.D.Desk.writing c.args.desk.now) (g.D.Desk.writing c.read_held.new.desk) in
-    ends_wanting desks names c.in-Ok.ensures.outputs c.in-Ok.ensures.asked c.in-Ok.ensures.kept_in c.in-Ok.ensures.few (ap (λ (s : Side). s.faults) c.in-Ok.ensures.reads.0)
+    ends_wanting desks names c.in-Ok.ensures.outputs c.in-Ok.ensures.asked c.in-Ok.ensures.kept_in c.in-Ok.ensures.few
+    (HaveSlots-one desks.old_in.side desks.new_in.side c.args.part.now c.in-Ok.ensures.reads.0) (ap (λ (s : Side). s.faults) c.in-Ok.ensures.reads.0)
 
 pub returns-in-Err : goal.returns-in-Err
 returns-in-Err g c =

@@ -4,7 +4,7 @@ use Rattle.ioam_run_part.specs.Records.{ReadsFew}
 use Rattle.ioam_run_part.specs.Flat.{ReadsFlatFile}
 use Rattle.ioam_run_part.specs.Unread.{answer_of}
 use Rattle.ioam_run_part.proofs.FailuresLaws.{read_failed}
-use Rattle.ioam_run_part.proofs.TwoLaws.{mid_faults, either_refuses, first_refuses, first_tries, second_refuses, second_tries, holds_two}
+use Rattle.ioam_run_part.proofs.TwoLaws.{either_refuses, first_refuses, first_tries, second_answers, second_refuses, second_tries, holds_two}
 use Rattle.ioam_run_part.proofs.two.read_two.Goals as goal
 
 pub returns-in-Err : goal.returns-in-Err
@@ -56,8 +56,7 @@ returns-in-Err-read_flat g c =
           (second_refuses g.D.Desk.tells first second c.args.one.now c.args.two.now old mid new c.in-Ok.part c.in-Ok.ensures.reads c.in-Err-read_flat.why reads);
       tries = second_tries g.D.Desk.tells first second c.args.one.now c.args.two.now old mid new c.in-Ok.part c.in-Ok.ensures.reads c.in-Ok.ensures.kept_in
           c.in-Err-read_flat.ensures.asked c.in-Err-read_flat.ensures.grew c.in-Err-read_flat.ensures.slots c.in-Err-read_flat.ensures.kept_in c.in-Ok.ensures.few (subst F c.in-Ok.ensures.outputs c.in-Err-read_flat.ensures.few);
-      faults = λ other.
-          read_failed mid new c.in-Err-read_flat.why c.unread_outcome-in-Err-read_flat.result c.unread_outcome-in-Err-read_flat.ensures.failed c.in-Err-read_flat.ensures.faults other
-          ∙ mid_faults g.D.Desk.tells first second c.args.one.now c.args.two.now old mid new c.in-Ok.part c.in-Ok.ensures.reads;
+      faults = second_answers g.D.Desk.tells first second c.args.one.now c.args.two.now old mid new c.in-Ok.part c.in-Ok.ensures.reads c.unread_outcome-in-Err-read_flat.result
+          (read_failed mid new c.in-Err-read_flat.why c.unread_outcome-in-Err-read_flat.result c.unread_outcome-in-Err-read_flat.ensures.failed c.in-Err-read_flat.ensures.faults);
       outputs = c.in-Err-read_flat.ensures.outputs ∙ c.in-Ok.ensures.outputs;
     }

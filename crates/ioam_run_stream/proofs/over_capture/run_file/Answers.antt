@@ -10,6 +10,7 @@ use Rattle.ioam_run_stream.specs.Streams.{Start, Finishes, ReadsOne}
 use Rattle.ioam_run_stream.proofs.BeginLaws.{Fed-start, told_start, unwritten}
 use Rattle.ioam_run_stream.proofs.FinishesLaws.{Finishes-drained, Finishes-cause, Finishes-leaves}
 use Rattle.ioam_desk.proofs.KeptLaws.{KeepsInputs-same, KeepsOutputs-same, KeepsOutputs-then, KeepsOutputs-from}
+use Rattle.ioam_desk.proofs.AskedLaws.{HaveSlots-one, HaveSlots-still}
 use Rattle.ioam_run_answer.proofs.FailuresLaws.{failures-none, failures-read, failures-write, failures-memory, failures-behind}
 use Rattle.ioam_run_stream.proofs.KeptLaws.{ReadsOne-same, KeepsInputs-unopened, KeepsInputs-opened, unread}
 use Rattle.ioam_run_stream.proofs.over_capture.run_file.Goals as goal
@@ -342,7 +343,7 @@ returns-clause-unread g c = λ told unopened opened.
 
 pub returns-in_default-clause-failures : goal.returns-in_default-clause-failures
 returns-in_default-clause-failures g c =
-    failures-none g.D.Desk.tells (g.D.Desk.reading c.args.desk.now) _ (g.D.Desk.writing c.args.desk.now) _ _ refl refl
+    failures-none g.D.Desk.tells (g.D.Desk.reading c.args.desk.now) _ (g.D.Desk.writing c.args.desk.now) _ (HaveSlots-still (g.D.Desk.reading c.args.desk.now).side _ refl) _ refl refl
 
 pub returns-in-Err-Failed-clause-failures : goal.returns-in-Err-Failed-clause-failures
 returns-in-Err-Failed-clause-failures g c =
@@ -351,7 +352,9 @@ returns-in-Err-Failed-clause-failures g c =
 
 pub returns-in-Err-NoMemory-clause-failures : goal.returns-in-Err-NoMemory-clause-failures
 returns-in-Err-NoMemory-clause-failures g c =
+    let same = rw c.in-Err-NoMemory.field-0-is at c.in-Err-NoMemory.ensures.fault in
     failures-memory g.D.Desk.tells (g.D.Desk.reading c.args.desk.now) (g.D.Desk.reading c.open_feed.new.desk) (g.D.Desk.writing c.args.desk.now) (g.D.Desk.writing c.open_feed.new.desk)
+    (HaveSlots-still (g.D.Desk.reading c.args.desk.now).side (g.D.Desk.reading c.open_feed.new.desk).side (ap (λ (r : desk.Reading). r.side) same))
     (ap (λ (w : Writing). w.side.faults) c.in-Err-NoMemory.ensures.outputs)
 
 pub returns-in-Ok-open_outputs-clause-failures : goal.returns-in-Ok-open_outputs-clause-failures
@@ -359,6 +362,7 @@ returns-in-Ok-open_outputs-clause-failures g c =
     failures-behind g.D.Desk.tells (g.D.Desk.reading c.args.desk.now) (g.D.Desk.reading c.open_outputs.new.desk) (g.D.Desk.reading c.run_open.new.desk)
     (g.D.Desk.writing c.args.desk.now) (g.D.Desk.writing c.open_outputs.new.desk) (g.D.Desk.writing c.run_open.new.desk)
     c.run_open.result
+    (HaveSlots-one (g.D.Desk.reading c.args.desk.now).side (g.D.Desk.reading c.open_outputs.new.desk).side _ (ap (λ (r : desk.Reading). r.side) c.open_outputs.ensures.inputs ∙ c.in-Ok-open_feed.ensures.opened.side))
     (ap (λ (r : desk.Reading). r.side.faults) c.in-Ok-open_outputs.ensures.inputs ∙ ap (λ (s : Side). s.faults) c.in-Ok-open_feed.ensures.opened.side)
     (ap (λ (s : Side). s.faults) c.in-Ok-open_outputs.ensures.side ∙ ap (λ (w : Writing). w.side.faults) c.in-Ok-open_feed.ensures.outputs)
     c.run_open.ensures.failures
@@ -366,9 +370,11 @@ returns-in-Ok-open_outputs-clause-failures g c =
 pub returns-in-Err-Failed-open_outputs-clause-failures : goal.returns-in-Err-Failed-open_outputs-clause-failures
 returns-in-Err-Failed-open_outputs-clause-failures g c =
     failures-write g.D.Desk.tells (g.D.Desk.reading c.args.desk.now) (g.D.Desk.reading c.open_outputs.new.desk) (g.D.Desk.writing c.args.desk.now) (g.D.Desk.writing c.open_outputs.new.desk)
+    (HaveSlots-one (g.D.Desk.reading c.args.desk.now).side (g.D.Desk.reading c.open_outputs.new.desk).side _ (ap (λ (r : desk.Reading). r.side) c.open_outputs.ensures.inputs ∙ c.in-Ok-open_feed.ensures.opened.side))
 
 pub returns-clause-failures : goal.returns-clause-failures
 returns-clause-failures g c =
     let lacks = rw c.in-Err-NoMemory-open_outputs.field-0-is at c.in-Err-NoMemory-open_outputs.ensures.fault in
     failures-memory g.D.Desk.tells (g.D.Desk.reading c.args.desk.now) (g.D.Desk.reading c.open_outputs.new.desk) (g.D.Desk.writing c.args.desk.now) (g.D.Desk.writing c.open_outputs.new.desk)
+    (HaveSlots-one (g.D.Desk.reading c.args.desk.now).side (g.D.Desk.reading c.open_outputs.new.desk).side _ (ap (λ (r : desk.Reading). r.side) c.open_outputs.ensures.inputs ∙ c.in-Ok-open_feed.ensures.opened.side))
     (lacks.0 ∙ ap (λ (w : Writing). w.side.faults) c.in-Ok-open_feed.ensures.outputs)

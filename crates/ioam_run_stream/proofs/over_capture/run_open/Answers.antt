@@ -6,6 +6,7 @@ use Rattle.ioam_run_stream.specs.Streams.{Finishes, IsBroken}
 use Rattle.ioam_run_stream.proofs.BeginLaws.{begins_same, Streams-begin, Sticks-begin}
 use Rattle.ioam_run_stream.proofs.FinishesLaws.{Stops-open, Finishes-written, Stops-sticks}
 use Rattle.ioam_desk.proofs.KeptLaws.{WritesFrom-same, WritesFrom-then}
+use Rattle.ioam_desk.proofs.AskedLaws.{HaveSlots-same, HaveSlots-still}
 use Rattle.ioam_run_answer.proofs.FailuresLaws.{failures-none, failures-write, failures-memory, failures-before}
 use Rattle.ioam_run_stream.proofs.BrokenLaws.{whole_write}
 use Rattle.ioam_run_stream.proofs.KeptLaws.{ReadsOne-same, ReadsOne-on, Stops-writes}
@@ -117,22 +118,30 @@ returns-clause-kept_out g c = WritesFrom-then g.begun.start.base (g.D.Desk.writi
 
 pub returns-in_default-clause-failures : goal.returns-in_default-clause-failures
 returns-in_default-clause-failures g c =
-    failures-none g.D.Desk.tells (g.D.Desk.reading c.args.desk.now) _ (g.D.Desk.writing c.args.desk.now) _ _ refl refl
+    failures-none g.D.Desk.tells (g.D.Desk.reading c.args.desk.now) _ (g.D.Desk.writing c.args.desk.now) _ (HaveSlots-still (g.D.Desk.reading c.args.desk.now).side _ refl) _ refl refl
 
 pub returns-in-Ok-write_rest-clause-failures : goal.returns-in-Ok-write_rest-clause-failures
 returns-in-Ok-write_rest-clause-failures g c =
     failures-before g.D.Desk.tells (g.D.Desk.reading c.args.desk.now) (g.D.Desk.reading c.read_on-answer.new.desk) (g.D.Desk.reading c.write_rest.new.desk)
     (g.D.Desk.writing c.args.desk.now) (g.D.Desk.writing c.read_on-answer.new.desk) (g.D.Desk.writing c.write_rest.new.desk)
-    c.read_on-answer.result (ap (λ (r : desk.Reading). r.side.faults) c.in-Ok-write_rest.ensures.inputs) (ap (λ (s : Side). s.faults) c.in-Ok-write_rest.ensures.same)
+    c.read_on-answer.result
+    (HaveSlots-still (g.D.Desk.reading c.read_on-answer.new.desk).side (g.D.Desk.reading c.write_rest.new.desk).side (ap (λ (r : desk.Reading). r.side) c.in-Ok-write_rest.ensures.inputs))
+    (ap (λ (r : desk.Reading). r.side.faults) c.in-Ok-write_rest.ensures.inputs) (ap (λ (s : Side). s.faults) c.in-Ok-write_rest.ensures.same)
     c.read_on-answer.ensures.failures
 
 pub returns-in-Err-Failed-clause-failures : goal.returns-in-Err-Failed-clause-failures
 returns-in-Err-Failed-clause-failures g c =
     failures-write g.D.Desk.tells (g.D.Desk.reading c.args.desk.now) (g.D.Desk.reading c.write_rest.new.desk) (g.D.Desk.writing c.args.desk.now) (g.D.Desk.writing c.write_rest.new.desk)
+    (HaveSlots-same (g.D.Desk.reading c.args.desk.now).side (g.D.Desk.reading c.write_rest.new.desk).side
+    (ap (λ (r : desk.Reading). r.side.asked) c.write_rest.ensures.inputs ∙ c.read_on-answer.ensures.asked_in)
+    (ap (λ (r : desk.Reading). r.side.slots) c.write_rest.ensures.inputs ∙ c.read_on-answer.ensures.slots_in))
 
 pub returns-clause-failures : goal.returns-clause-failures
 returns-clause-failures g c =
     let same = rw c.in-Err-NoMemory.field-0-is at c.in-Err-NoMemory.ensures.cause in
     let other = whole_write c.read_on-answer.result (λ broken. false≢true (sym c.if-is_broken.false ∙ c.is_broken.ensures.1 broken)) in
     failures-memory g.D.Desk.tells (g.D.Desk.reading c.args.desk.now) (g.D.Desk.reading c.write_rest.new.desk) (g.D.Desk.writing c.args.desk.now) (g.D.Desk.writing c.write_rest.new.desk)
+    (HaveSlots-same (g.D.Desk.reading c.args.desk.now).side (g.D.Desk.reading c.write_rest.new.desk).side
+    (ap (λ (r : desk.Reading). r.side.asked) c.write_rest.ensures.inputs ∙ c.read_on-answer.ensures.asked_in)
+    (ap (λ (r : desk.Reading). r.side.slots) c.write_rest.ensures.inputs ∙ c.read_on-answer.ensures.slots_in))
     (same ∙ c.read_on-answer.ensures.failures.writes other)

@@ -8,6 +8,8 @@ use Rattle.ioam_pcap.specs.Ending.{Faulty, ending_of}
 use Rattle.ioam_run_stream.specs.Promise.{EndsSo}
 use Rattle.ioam_run_stream.proofs.HaltsLaws.{Streams-sticks, Streams-fronts, halts_waiting, halts_end}
 use Rattle.ioam_run_stream.proofs.StopsLaws.{begins_ends, Halts-sticks_here, Stops-bad, Stops-end, Halts-left, Streams-room, Streams-fed, Streams-ended}
+use Rattle.ioam_desk.specs.Asked.{HaveSlots}
+use Rattle.ioam_desk.proofs.AskedLaws.{HaveSlots-same, HaveSlots-still}
 use Rattle.ioam_run_answer.proofs.FailuresLaws.{failures-none, failures-read, failures-write, failures-memory}
 use Rattle.ioam_run_stream.proofs.KeptLaws.{ReadsOne-same, ReadsOne-on, ReadsOne-refilled}
 use Rattle.ioam_run_stream.proofs.stream.read_on.Goals as goal
@@ -302,9 +304,14 @@ returns-in-Err-NoMemory-refill-clause-kept_out g c = WritesFrom-then g.begun.sta
     c.pieces.invariant.kept_out c.take_shown.ensures.kept)
     (WritesFrom-same g.begun.start.base _ _ c.refill.ensures.outputs)
 
+-- a refill opens nothing
+refilled : (old mid new : Side) → mid ≡ old → new.asked ≡ mid.asked → new.slots ≡ mid.slots → HaveSlots old new
+refilled old mid new same asked slots = HaveSlots-same old new (asked ∙ ap (λ (s : Side). s.asked) same) (slots ∙ ap (λ (s : Side). s.slots) same)
+
 pub returns-in-Ok-Bad-clause-failures : goal.returns-in-Ok-Bad-clause-failures
 returns-in-Ok-Bad-clause-failures g c =
     failures-none g.D.Desk.tells (g.D.Desk.reading c.args.desk.now) (g.D.Desk.reading c.take_shown.new.desk) (g.D.Desk.writing c.args.desk.now) (g.D.Desk.writing c.take_shown.new.desk)
+    (HaveSlots-still (g.D.Desk.reading c.args.desk.now).side (g.D.Desk.reading c.take_shown.new.desk).side (ap (λ (r : desk.Reading). r.side) c.take_shown.ensures.inputs ∙ c.pieces.invariant.inputs))
     c.capture_outcome.result
     (ap (λ (r : desk.Reading). r.side.faults) c.in-Ok-Bad.ensures.inputs ∙ ap (λ (s : Side). s.faults) c.pieces.invariant.inputs)
     (ap (λ (s : Side). s.faults) c.in-Ok-Bad.ensures.same ∙ ap (λ (s : Side). s.faults) c.pieces.invariant.side)
@@ -312,6 +319,7 @@ returns-in-Ok-Bad-clause-failures g c =
 pub returns-in-Ok-Limit-clause-failures : goal.returns-in-Ok-Limit-clause-failures
 returns-in-Ok-Limit-clause-failures g c =
     failures-none g.D.Desk.tells (g.D.Desk.reading c.args.desk.now) (g.D.Desk.reading c.take_shown.new.desk) (g.D.Desk.writing c.args.desk.now) (g.D.Desk.writing c.take_shown.new.desk)
+    (HaveSlots-still (g.D.Desk.reading c.args.desk.now).side (g.D.Desk.reading c.take_shown.new.desk).side (ap (λ (r : desk.Reading). r.side) c.take_shown.ensures.inputs ∙ c.pieces.invariant.inputs))
     _
     (ap (λ (r : desk.Reading). r.side.faults) c.in-Ok-Limit.ensures.inputs ∙ ap (λ (s : Side). s.faults) c.pieces.invariant.inputs)
     (ap (λ (s : Side). s.faults) c.in-Ok-Limit.ensures.same ∙ ap (λ (s : Side). s.faults) c.pieces.invariant.side)
@@ -319,17 +327,21 @@ returns-in-Ok-Limit-clause-failures g c =
 pub returns-in-Err-Failed-clause-failures : goal.returns-in-Err-Failed-clause-failures
 returns-in-Err-Failed-clause-failures g c =
     failures-write g.D.Desk.tells (g.D.Desk.reading c.args.desk.now) (g.D.Desk.reading c.take_shown.new.desk) (g.D.Desk.writing c.args.desk.now) (g.D.Desk.writing c.take_shown.new.desk)
+    (HaveSlots-still (g.D.Desk.reading c.args.desk.now).side (g.D.Desk.reading c.take_shown.new.desk).side (ap (λ (r : desk.Reading). r.side) c.take_shown.ensures.inputs ∙ c.pieces.invariant.inputs))
 
 pub returns-in-Err-NoMemory-clause-failures : goal.returns-in-Err-NoMemory-clause-failures
 returns-in-Err-NoMemory-clause-failures g c =
     let same = rw c.in-Err-NoMemory.field-0-is at c.in-Err-NoMemory.ensures.cause in
     failures-memory g.D.Desk.tells (g.D.Desk.reading c.args.desk.now) (g.D.Desk.reading c.take_shown.new.desk) (g.D.Desk.writing c.args.desk.now) (g.D.Desk.writing c.take_shown.new.desk)
+    (HaveSlots-still (g.D.Desk.reading c.args.desk.now).side (g.D.Desk.reading c.take_shown.new.desk).side (ap (λ (r : desk.Reading). r.side) c.take_shown.ensures.inputs ∙ c.pieces.invariant.inputs))
     (same ∙ ap (λ (s : Side). s.faults) c.pieces.invariant.side)
 
 pub returns-in-Ok-false-clause-failures : goal.returns-in-Ok-false-clause-failures
 returns-in-Ok-false-clause-failures g c =
     let ends = rw c.in-Ok-false.field-0-test at c.in-Ok-false.ensures.read in
     failures-none g.D.Desk.tells (g.D.Desk.reading c.args.desk.now) (g.D.Desk.reading c.refill.new.desk) (g.D.Desk.writing c.args.desk.now) (g.D.Desk.writing c.refill.new.desk)
+    (refilled (g.D.Desk.reading c.args.desk.now).side (g.D.Desk.reading c.take_shown.new.desk).side (g.D.Desk.reading c.refill.new.desk).side
+    (ap (λ (r : desk.Reading). r.side) c.in-Ok-More.ensures.inputs ∙ c.pieces.invariant.inputs) c.in-Ok-false.ensures.asked c.in-Ok-false.ensures.slots)
     c.end_outcome.result
     (ap (λ (s : Side). s.faults) ends.gives.side ∙ ap (λ (r : desk.Reading). r.side.faults) c.in-Ok-More.ensures.inputs ∙ ap (λ (s : Side). s.faults) c.pieces.invariant.inputs)
     (ap (λ (w : Writing). w.side.faults) c.in-Ok-false.ensures.outputs ∙ ap (λ (s : Side). s.faults) c.in-Ok-More.ensures.same ∙ ap (λ (s : Side). s.faults) c.pieces.invariant.side)
@@ -342,4 +354,6 @@ returns-in-Err-Failed-refill-clause-failures g c =
 pub returns-in-Err-NoMemory-refill-clause-failures : goal.returns-in-Err-NoMemory-refill-clause-failures
 returns-in-Err-NoMemory-refill-clause-failures g c =
     failures-memory g.D.Desk.tells (g.D.Desk.reading c.args.desk.now) (g.D.Desk.reading c.refill.new.desk) (g.D.Desk.writing c.args.desk.now) (g.D.Desk.writing c.refill.new.desk)
+    (refilled (g.D.Desk.reading c.args.desk.now).side (g.D.Desk.reading c.take_shown.new.desk).side (g.D.Desk.reading c.refill.new.desk).side
+    (ap (λ (r : desk.Reading). r.side) c.in-Ok-More.ensures.inputs ∙ c.pieces.invariant.inputs) c.in-Err-NoMemory-refill.ensures.asked c.in-Err-NoMemory-refill.ensures.slots)
     (ap (λ (w : Writing). w.side.faults) c.in-Err-NoMemory-refill.ensures.outputs ∙ ap (λ (s : Side). s.faults) c.in-Ok-More.ensures.same ∙ ap (λ (s : Side). s.faults) c.pieces.invariant.side)

@@ -1,5 +1,6 @@
 use Rattle.std.proofs.Common.{◌≡◌, ◌+◌, ◌++◌, List, length, rules, ap, sym, ◌∙◌, subst, inl, inr, arith}
 use Rattle.ioam_desk.specs.Desk.{Reading, Writing, Side}
+use Rattle.ioam_desk.proofs.AskedLaws.{HaveSlots-each, HaveSlots-same, HaveSlots-then}
 use Rattle.ioam_desk_outputs.specs.declared.output.Output.{Output}
 use Rattle.ioam_desk_outputs.specs.Told.{GathersNothing}
 use Rattle.ioam_desk_outputs.proofs.ToldLaws.{told_names}
@@ -179,3 +180,24 @@ pub returns-clause-unread : goal.returns-clause-unread
 returns-clause-unread g c = λ told few.
     let P : Reading → Type 0 = λ r. AreUnread (start_of (g.D.Desk.reading c.args.desk.now).side.slots (g.D.Desk.writing c.args.desk.now) c.args.inputs.now) r in
     subst P (sym c.open_outputs.ensures.inputs) (c.open_merge.ensures.unread told)
+
+pub returns-in-Err-NoMemory-clause-opens : goal.returns-in-Err-NoMemory-clause-opens
+returns-in-Err-NoMemory-clause-opens g c = λ other. rw c.in-Err-NoMemory.field-0-is at c.in-Err-NoMemory.ensures.slots
+
+pub returns-in-Ok-open_outputs-clause-opens : goal.returns-in-Ok-open_outputs-clause-opens
+returns-in-Ok-open_outputs-clause-opens g c = λ other.
+    HaveSlots-then (g.D.Desk.reading c.args.desk.now).side (g.D.Desk.reading c.open_merge.new.desk).side (g.D.Desk.reading c.run_open.new.desk).side
+    (HaveSlots-each (g.D.Desk.reading c.args.desk.now).side (g.D.Desk.reading c.open_merge.new.desk).side c.args.inputs.now c.in-Ok.ensures.side)
+    (HaveSlots-same (g.D.Desk.reading c.open_merge.new.desk).side (g.D.Desk.reading c.run_open.new.desk).side
+    (c.run_open.ensures.asked_in ∙ ap (λ (r : Reading). r.side.asked) c.in-Ok-open_outputs.ensures.inputs)
+    (c.run_open.ensures.slots_in ∙ ap (λ (r : Reading). r.side.slots) c.in-Ok-open_outputs.ensures.inputs))
+
+pub returns-in-Err-Failed-open_outputs-clause-opens : goal.returns-in-Err-Failed-open_outputs-clause-opens
+returns-in-Err-Failed-open_outputs-clause-opens g c = λ other.
+    HaveSlots-each (g.D.Desk.reading c.args.desk.now).side (g.D.Desk.reading c.open_outputs.new.desk).side c.args.inputs.now
+    (ap (λ (r : Reading). r.side) c.open_outputs.ensures.inputs ∙ c.in-Ok.ensures.side)
+
+pub returns-clause-opens : goal.returns-clause-opens
+returns-clause-opens g c = λ other.
+    HaveSlots-each (g.D.Desk.reading c.args.desk.now).side (g.D.Desk.reading c.open_outputs.new.desk).side c.args.inputs.now
+    (ap (λ (r : Reading). r.side) c.open_outputs.ensures.inputs ∙ c.in-Ok.ensures.side)
