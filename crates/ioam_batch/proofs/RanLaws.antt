@@ -138,14 +138,6 @@ room-left i count options given spare before fits left =
 
 -- ---- a packet that isn't enclosed
 
-pub lowered-none : (packet : List ℕ) → lowered 0 packet ≡ packet
-lowered-none packet = set-same packet 7
-  where
-    set-same : (xs : List ℕ) (i : ℕ) → set xs i (get_or xs i 0 - 0) ≡ xs
-    set-same [] i = refl
-    set-same (x ∷ xs) zero = ap (λ n. n ∷ xs) (omega arith)
-    set-same (x ∷ xs) (suc i) = ap (λ ys. x ∷ ys) (set-same xs i)
-
 pub inside-index : (xs : List ℕ) (i : ℕ) → 1 ≤ slice_index xs i → i < length xs
 inside-index [] i some = absurd (omega (arith, some))
 inside-index (x ∷ xs) zero some = omega arith

@@ -1,4 +1,3 @@
-pub mod FedLaws
 pub mod CaptureLaws
 pub mod ListLaws
 pub mod MergingLaws

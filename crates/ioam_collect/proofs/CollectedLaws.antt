@@ -1,5 +1,5 @@
 -- Laws of a collector and the records that it stands for.
-use Rattle.std.proofs.Common.{◌≡◌, ◌≢◌, ℕ, ◌+◌, ◌≤◌, suc, Bool, true, false, cond, IsTrue, List, [], ◌∷◌, ◌++◌, length, map, refl, sym, ap, ap₂, ◌∙◌, subst, ◌==◌, arith, ◌⊎◌, inl, inr, Option, None, Some, length-append}
+use Rattle.std.proofs.Common.{◌≡◌, ◌≢◌, ℕ, ◌+◌, ◌≤◌, suc, Bool, true, false, cond, List, [], ◌∷◌, ◌++◌, length, map, refl, sym, ap, ap₂, ◌∙◌, subst, ◌==◌, arith, ◌⊎◌, inl, inr, Option, None, Some, length-append}
 use Rattle.std.specs.Prelude.{◌↔◌, ◌/◌, Result, Ok, Err}
 use Rattle.std.specs.Map.{lookup, keys_of}
 use Rattle.std.specs.List.{AllByRecursion}
@@ -129,11 +129,6 @@ pub pair_full : (old : Collected) (x : Record) (p : Key × Entry) → keyed_of x
 pair_full old x p is B both =
     let P : Option (Key × Entry) → Type 0 = λ o. B ↔ Answers old o Full in
     subst P (sym is) both
-
-pub unkeyed_full : (old : Collected) (x : Record) → keyed_of x ≡ None → IsTrue false ↔ Answers old (keyed_of x) Full
-unkeyed_full old x is =
-    let P : Option (Key × Entry) → Type 0 = λ o. IsTrue false ↔ Answers old o Full in
-    subst P (sym is) ((λ none. absurd (cc none)), (λ full. absurd (cc full)))
 
 -- a record without one
 pub unkeyed_adds : (old new : Collected) (x : Record) → keyed_of x ≡ None → Counts old Unkeyed new

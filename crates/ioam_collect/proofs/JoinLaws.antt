@@ -202,10 +202,6 @@ module _ (ps : List (Key × Entry)) (a : IsInOrder pair_cmp ps) where
 pub pairs_groups : (ps : List (Key × Entry)) → pairs_in (groups_of ps) ≡ kept_of ps
 pairs_groups ps = pairs_with (kept_of ps) (ordered ps)
 
--- groups are of what is kept alone
-groups_from : List (Key × Entry) → List (Key × List Entry)
-groups_from kept = map (group kept) (keys_in kept)
-
 groups_kept : (ps qs : List (Key × Entry)) → kept_of ps ≡ kept_of qs → groups_of ps ≡ groups_of qs
 groups_kept ps qs same = ap (λ kept. map (group kept) (keys_in kept)) same
 

@@ -131,11 +131,6 @@ module _ {X : Type 0} (cmp : X → X → Ordering) (total : IsTotalOrder cmp) (e
   placed-some x [] e = absurd (cc e)
   placed-some x (y ∷ ys) e = placed_by-some (cmp x y) x y ys (placed cmp x ys) e
 
-  pub equal_by : (o : Ordering) → is_eq o ≡ true → o ≡ Equal
-  equal_by Less e = absurd (cc e)
-  equal_by Equal e = refl
-  equal_by Greater e = absurd (cc e)
-
   pub itself : (x : X) → is_eq (cmp x x) ≡ true
   itself x = ap is_eq (tied_itself total x)
 

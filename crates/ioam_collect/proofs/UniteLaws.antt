@@ -242,9 +242,6 @@ module _ (x y : Key × Entry) (xs ys : List (Key × Entry)) (a : AreApart (x ∷
       let less : pair_meet y x ≡ Less = pair_meet_back x y more in
       (all_united (λ z. pair_meet y z ≡ Less) (x ∷ xs) ys (less, all_less y x xs less a.0) b.0, right)
 
-all_none : (P : Key × Entry → Type 0) → AllByRecursion P []
-all_none P = tt
-
 module _ (x : Key × Entry) (xs : List (Key × Entry)) (a : AreApart (x ∷ xs)) (below : (ys : List (Key × Entry)) → AreApart ys → AreApart (united xs ys)) where
   beside_apart : (ys : List (Key × Entry)) → AreApart ys → AreApart (united (x ∷ xs) ys)
   beside_apart [] b = (all_united (λ z. pair_meet x z ≡ Less) xs [] a.0 tt, below [] tt)

@@ -156,11 +156,6 @@ full_is Unkeyed is = absurd (cc is)
 pub full_not : (added : Added) → is_full added ≡ false → added ≡ Full → ⊥
 full_not added isnt same = let is : is_full added ≡ true = ap is_full same in absurd (cc (isnt, is))
 
-pub step_fed : (x : Record) (old new : Reading) → old.pending ≡ record_octets x ++ new.pending → new.start ≡ old.start + length (record_octets x) → fed new ≡ fed old
-step_fed x old new is at =
-    let both : length old.pending ≡ length (record_octets x) + length new.pending = ap length is ∙ length-append (record_octets x) new.pending in
-    omega arith
-
 -- what stopped the taking of records
 pub pauses_step : (old new : Reading) (before after : Collected) (p : Pause) → Steps old new before after (Some p)
     → (octets : List ℕ) (records : List Record) → Gathers octets records old before → Pauses octets new after p

@@ -3,4 +3,3 @@ pub mod DeskLaws
 mod HostLaws
 pub mod KeptLaws
 mod MovesLaws
-pub mod StoreLaws

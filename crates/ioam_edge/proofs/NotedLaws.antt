@@ -2,7 +2,7 @@
 use Rattle.std.proofs.Common.{◌≡◌, ◌≢◌, ℕ, ◌+◌, ◌<◌, ◌≤◌, ◌==◌, max, Bool, true, false, ◌||◌, List, [], ◌∷◌, ◌++◌, arith, refl, sym, ap, ◌∙◌, inl, inr, ◌⊎◌, append_assoc}
 use Rattle.std.specs.List.{sum_by}
 use Rattle.std.proofs.lemmas.List.{append-nil}
-use Rattle.std.proofs.lemmas.Bool.{cases_lt, false≢true}
+use Rattle.std.proofs.lemmas.Bool.{cases_lt}
 use Rattle.std.proofs.lemmas.Bool.Decides.{nat_tests}
 use Rattle.std.proofs.lemmas.List.Folds.{list_any-append}
 use Rattle.std.proofs.lemmas.List.Sums.{sum_by-append}
@@ -90,12 +90,6 @@ pub counts-push : (noted : List ℕ) (n : ℕ) → counts_in (notes_of (noted ++
 counts-push noted n = ap counts_in (notes_behind-push [] noted n) ∙ counts_in-push (notes_of noted) (note_of noted n)
 
 -- ---- the number due in the words of a list: above each number noted, and one above one of them where there is one
-
-pub noted-below : (noted : List ℕ) (n : ℕ) → is_noted n noted ≡ true → n < due noted
-noted-below noted n is = elim (cases_lt n (due noted)) [
-  | inl below ↦ below
-  | inr above ↦ absurd (false≢true (sym (is_noted-above noted n above) ∙ is))
-]
 
 first_noted : (m : ℕ) (rest : Bool) → ((m == m) || rest) ≡ true
 first_noted m rest = grind (arith, nat_tests)

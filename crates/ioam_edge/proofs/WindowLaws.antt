@@ -7,10 +7,7 @@ use Rattle.std.proofs.lemmas.Bool.Decides.{nat_tests}
 use Rattle.std.proofs.lemmas.Nat.Bits.{bit_at_or, bit_at-pow_other, bit_at_cat_low, bit_at_cat_high, bit_at-zero, bit_at_set_same, bit_at_set_other}
 use Rattle.ioam_edge.specs.Window.{moved_bit, Moved, Set}
 
--- bit 0 of 1 alone is set
-pub one_low : bit_at 1 0 ≡ 1
-one_low = refl
-
+-- of 1 no bit above the lowest is set
 pub one_above : (k : ℕ) → 0 < k → bit_at 1 k ≡ 0
 one_above k some = bit_at-pow_other 0 k (λ same. omega arith)
 

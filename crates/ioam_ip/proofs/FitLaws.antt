@@ -4,7 +4,7 @@ use Rattle.std.specs.List.{All}
 use Rattle.std.proofs.lemmas.List.Elements.{All-nil, All-cons, All-head, All-rest}
 use Rattle.ioam_base.specs.Leads.{Leads}
 use Rattle.ioam_ip.specs.Chain.{size_by, Admits, CanPass, head_at, behind}
-use Rattle.ioam_ip.specs.ChainOptions.{is_options_head, HeadFits, IsFilledRange}
+use Rattle.ioam_ip.specs.ChainOptions.{HeadFits}
 use Rattle.ioam_ip.specs.Options.{IsFilled}
 use Rattle.ioam_ip.specs.HeadsLeft.{AreHeads}
 use Rattle.ioam_ip.specs.declared.chain.Kind.{Kind}
@@ -37,10 +37,6 @@ reached_fit p spot (h ∷ hs) last leads =
 -- every header of the chain fits
 pub heads_fit : (p : List ℕ) (hs : List Head) → AreHeads p hs → All (HeadFits p) hs
 heads_fit p hs are = reached_fit p _ hs are.chain.last are.chain.reaches
-
--- so an options header can be looked through
-pub filled_range : (p : List ℕ) (head : Head) → HeadFits p head → IsTrue (is_options_head head) → IsFilledRange p head.range
-filled_range p head fits options = record { ordered = fits.ordered; within = fits.within; filled = fits.filled options }
 
 -- the first of the headers that are left fits, and so do those behind it
 pub first_fits : (p : List ℕ) (head : Head) (hs others : List Head) → hs ≡ head ∷ others → All (HeadFits p) hs

@@ -1,12 +1,12 @@
 -- Laws of options headers that are laid out.
 use Rattle.std.proofs.Common.{◌≡◌, ℕ, zero, suc, ◌+◌, ◌-◌, ◌/◌, ◌<◌, ◌≤◌, List, [], ◌∷◌, ◌++◌, Bool, true, false, cond, eqb, ltb, length, take, drop, filter, replicate, slice_index, slice_set, get_or, refl, sym, ap, ◌∙◌, subst, arith, append_assoc, length-append, length-take, length-drop, get_or-take, get_or-drop}
-use Rattle.std.proofs.lemmas.List.{ext_get_or, get_or-append-add, get_or_at, get_or_append_left, append-nil, length-set, get_or-set_other, get_or-set_same, length-replicate, take_all, drop_at, drop-drop}
+use Rattle.std.proofs.lemmas.List.{ext_get_or, get_or-append-add, get_or_at, get_or_append_left, append-nil, length-set, get_or-set_other, length-replicate, take_all, drop_at, drop-drop}
 use Rattle.std.proofs.lemmas.List.Elements.{filter-append}
 use Rattle.std.proofs.lemmas.Bool.Decides.{nat_tests}
 use Rattle.ioam_base.specs.Leads.{Leads}
 use Rattle.ioam_base.proofs.LeadsLaws.{Leads-push, Leads-append}
 use Rattle.ioam_ip.specs.Options.{Item, OptionFits, option_end, option_size, item_at, body_at, ItemsUpTo, AreOptions, is_option}
-use Rattle.ioam_ip.specs.Layout.{padding, gap_before, with_option, padded, finished, IsSized}
+use Rattle.ioam_ip.specs.Layout.{padding, gap_before, with_option, padded, finished}
 use Rattle.ioam_ip.proofs.OptionsLaws.{option_size-pos}
 
 -- the second begins with the first, but for its first two octets
@@ -221,13 +221,3 @@ pub AreOptions-finished : (laid : List ℕ) (os : List Item) → 2 ≤ length la
 AreOptions-finished laid os behind are =
     AreOptions-set (laid ++ padding (padded (length laid) - length laid)) (padded (length laid) / 8 - 1) os
     (AreOptions-padding laid (padded (length laid) - length laid) os behind are)
-
--- and its length octet says its length
-pub finished-sized : (laid : List ℕ) → 2 ≤ length laid → IsSized (finished laid) (length laid)
-finished-sized laid behind =
-    let whole : ℕ = padded (length laid) in
-    let long : length (laid ++ padding (whole - length laid)) ≡ whole =
-    omega (arith, length-append laid (padding (whole - length laid)), length-padding (whole - length laid)) in
-    let same : length (finished laid) ≡ whole = length-set (laid ++ padding (whole - length laid)) 1 (whole / 8 - 1) ∙ long in
-    let octet : slice_index (finished laid) 1 ≡ whole / 8 - 1 = get_or-set_same (laid ++ padding (whole - length laid)) 1 (whole / 8 - 1) 0 (omega (arith, long)) in
-    record { length_is = same; said = omega (arith, same, octet) }

@@ -1,19 +1,17 @@
 -- A walk along the chain, one header after the other.
-use Rattle.std.proofs.Common.{◌≡◌, ℕ, ◌<◌, ◌≤◌, List, [], ◌∷◌, ◌++◌, Bool, true, false, cond, ◌&&◌, ◌||◌, eqb, not, Option, None, refl, sym, ap, ◌∙◌, subst, arith}
+use Rattle.std.proofs.Common.{◌≡◌, ℕ, List, [], ◌∷◌, ◌++◌, Bool, true, false, cond, ◌&&◌, ◌||◌, eqb, not, Option, refl, sym, ap, ◌∙◌, subst, arith}
 use Rattle.std.specs.List.{list_any}
 use Rattle.std.specs.Option.{option_or}
 use Rattle.std.proofs.lemmas.List.Folds.{list_any-append}
 use Rattle.std.proofs.lemmas.List.{append-nil}
 use Rattle.std.proofs.lemmas.Grind.{common_steps}
 use Rattle.ioam_base.proofs.LeadsLaws.{Leads-push}
-use Rattle.ioam_ip.specs.Chain.{kind_of, size_by, Admits, CanPass, EndsAt, head_at, behind, end_at, start, Reaches, Chain, IsSound, BadAt}
+use Rattle.ioam_ip.specs.Chain.{CanPass, EndsAt, head_at, behind, start, Reaches, Chain, IsSound, BadAt}
 use Rattle.ioam_ip.specs.ChainOptions.{HeadOptions, OptionsOf, is_nested, outer_targets}
 use Rattle.ioam_ip.specs.Findings.{has_ioam, first_limit}
 use Rattle.ioam_ip.specs.Options.{Item}
 use Rattle.ioam_ip.specs.Scan.{IsFoundIn}
 use Rattle.ioam_ip.specs.Walks.{IsWhole}
-use Rattle.ioam_ip.specs.declared.chain.Kind.{Kind}
-use Rattle.ioam_ip.specs.declared.chain.Kind.TheVariants.{HopByHop, Destination, Routing, Fragment, Nested, Upper}
 use Rattle.ioam_ip.specs.declared.chain.HeadSpot.{HeadSpot}
 use Rattle.ioam_ip.specs.declared.chain.Head.{Head}
 use Rattle.ioam_ip.specs.declared.scan.Findings.{Findings}
@@ -33,21 +31,6 @@ pub record Walked (p : List ℕ) (spot : HeadSpot) (passed : Passed) : Type 0 wh
   pub inside : passed.inside ≡ list_any is_nested heads
   pub ioam : passed.ioam ≡ has_ioam options
   pub limit : passed.limit ≡ first_limit outer
-
--- none yet
-pub Walked-none : (p : List ℕ) (spot : HeadSpot) (passed : Passed) → start p ≡ spot
-    → passed.inside ≡ false → passed.ioam ≡ false → passed.limit ≡ None → Walked p spot passed
-Walked-none p spot passed here inside ioam limit = record {
-  heads = [];
-  options = [];
-  outer = [];
-  reaches = here;
-  are_options = refl;
-  are_outer = refl;
-  inside = inside;
-  ioam = ioam;
-  limit = limit;
-}
 
 -- what the outer Destination Options headers have, with one header more
 outer_by : (p : List ℕ) (hs targets : List Head) (head : Head) (c : Bool) (os more : List Item) (was now found : Option ℕ)
@@ -134,15 +117,3 @@ pub Walked-bad : (p : List ℕ) (spot : HeadSpot) (passed : Passed) → Walked p
 Walked-bad p spot passed walked no_pass no_end =
     let bad : BadAt p spot.at = record { spot = spot; heads = walked.heads; reaches = walked.reaches; no_pass = no_pass; no_end = no_end; place = refl } in
     (bad, bad_not_sound p spot.at bad)
-
-size-pos : (p : List ℕ) (spot : HeadSpot) (k : Kind) → Admits p spot k → 1 ≤ size_by p spot.at k
-size-pos p spot HopByHop admits = omega arith
-size-pos p spot Destination admits = omega arith
-size-pos p spot Routing admits = omega arith
-size-pos p spot Fragment admits = omega arith
-size-pos p spot Nested admits = omega arith
-size-pos p spot Upper admits = absurd admits
-
--- each step goes on
-pub pass-moves : (p : List ℕ) (spot : HeadSpot) → CanPass p spot → spot.at < end_at p spot
-pass-moves p spot pass = omega (arith, size-pos p spot (kind_of spot.value) pass.1)

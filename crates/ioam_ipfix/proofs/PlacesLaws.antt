@@ -14,7 +14,7 @@ use Rattle.ioam_ipfix.specs.Sets.{spot, set_kind, IsPadding, RecordPasses, Templ
 use Rattle.ioam_ipfix.specs.Messages.{joined}
 use Rattle.ioam_ipfix.specs.Faults.{IsUnsized, IsStuckTemplate, HasStuckTemplate, HasStuckRecord, IsStuckAs, IsStuck, IsStuckInside}
 use Rattle.ioam_ipfix.specs.Places.{slice, records_at, IsPlace, AllPlaces}
-use Rattle.ioam_ipfix.specs.Steps.{AddsTemplates, Adds, AddsRecords, AddsContent, AddsSet, TakesMessage}
+use Rattle.ioam_ipfix.specs.Steps.{AddsTemplates, Adds, AddsRecords, AddsContent, AddsSet}
 use Rattle.ioam_base.proofs.ChainLaws.{Chain-push}
 use Rattle.ioam_ipfix.proofs.TemplateLaws.{with_templates-push}
 
@@ -183,9 +183,6 @@ pub record Sets (message : List ℕ) (known : List Bool) (at : ℕ) (behind : Li
   pub records : records_at message places ≡ joined sets
   pub all : AllPlaces message places
 
-pub Sets-none : (message : List ℕ) (known : List Bool) (places : List Place) → 16 ≤ length message → places ≡ [] → Sets message known 16 known places
-Sets-none message known places long none = subst (λ ps. Sets message known 16 known ps) (sym none) (record { within = long; sets = []; leads = refl; records = refl; all = tt })
-
 pub Sets-push : (message : List ℕ) (known : List Bool) (at : ℕ) (mid : List Bool) (old : List Place) (size : ℕ) (behind : List Bool) (new : List Place)
     → Sets message known at mid old → AddsSet message at size mid behind old new → Sets message known (at + size) behind new
 Sets-push message known at mid old size behind new taken adds = record {
@@ -195,11 +192,6 @@ Sets-push message known at mid old size behind new taken adds = record {
   records = adds.4.0 ∙ ap (λ xs. xs ++ adds.0) taken.records ∙ sym (joined-push taken.sets adds.0);
   all = adds.4.1;
 }
-
-pub Sets-all : (message : List ℕ) (known : List Bool) (at : ℕ) (behind : List Bool) (places : List Place) → Sets message known at behind places → drop at message ≡ []
-    → TakesMessage message known behind places
-Sets-all message known at behind places taken none =
-    (taken.sets, subst (λ o. Chain SetPasses (spot known (drop 16 message)) taken.sets (spot behind o)) none taken.leads, taken.records, taken.all)
 
 pub Sets-stuck : (message : List ℕ) (known : List Bool) (at : ℕ) (behind : List Bool) (places : List Place) (f : IpfixFault) → Sets message known at behind places
     → IsStuck at (spot behind (drop at message)) f → IsStuckInside known message f

@@ -46,9 +46,6 @@ Put run old at new = (xs : List Record) → AllByRecursion IsRecord xs → run �
     → (done : List Record) × (left : List Record) × (xs ≡ done ++ left) × AllByRecursion IsRecord left × (drop at run ≡ records_octets left)
     × (new ≡ old ++ flat_map data_octets done)
 
-pub Put-none : (run old : List ℕ) → Put run old 0 old
-Put-none run old xs all is = ([], xs, refl, all, is, sym (append-nil old))
-
 -- behind a place that is not the end a record begins
 pub Put-begins : (run old : List ℕ) (at : ℕ) (new : List ℕ) → Put run old at new → AreRecords run → at < length run → BeginsRecord (drop at run)
 Put-begins run old at new put are inside =

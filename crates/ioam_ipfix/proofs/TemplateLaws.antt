@@ -7,7 +7,7 @@ use Rattle.ioam_base.specs.Words.{two_octets}
 use Rattle.ioam_base.proofs.WordsLaws.{two_octets-same}
 use Rattle.ioam_ipfix.specs.declared.fault.IpfixFault.{IpfixFault}
 use Rattle.ioam_base.specs.Chain.{Stops, IsFunctional}
-use Rattle.ioam_ipfix.specs.Templates.{IsTemplate, tells_visit, tells_flow, tells_seq, only, fields_with, fields, field_octets, template_octets, with_templates}
+use Rattle.ioam_ipfix.specs.Templates.{tells_visit, tells_flow, tells_seq, only, fields_with, fields, field_octets, template_octets, with_templates}
 use Rattle.ioam_ipfix.specs.Data.{weight}
 use Rattle.ioam_ipfix.specs.Sets.{IsPadding, TemplatePasses, HasTemplates}
 use Rattle.ioam_ipfix.specs.Faults.{IsStuckTemplate, HasStuckTemplate}
@@ -111,11 +111,3 @@ pub template_built : (id count : ℕ) (visit flow seq : Bool) → visit ≡ tell
 template_built id count visit flow seq v f s is =
     ap (λ n. built id n visit flow seq) is ∙ built-by id visit flow seq
     ∙ (λ i. two_octets id ++ (two_octets (length (fields_with (v i) (f i) (s i))) ++ flat_map field_octets (fields_with (v i) (f i) (s i))))
-
--- ---- where no template stands
-
-pub template-none : (rest : List ℕ) → (IsTemplate (u16_at rest 0) → ⊥) → Stops TemplatePasses rest
-template-none rest other id b pass = other (subst IsTemplate (sym (template-head rest id b pass).1) pass.0)
-
-pub template-other : (rest : List ℕ) → ((b : List ℕ) → rest ≡ template_octets (u16_at rest 0) ++ b → ⊥) → Stops TemplatePasses rest
-template-other rest other id b pass = other b (pass.1 ∙ ap (λ i. template_octets i ++ b) (sym (template-head rest id b pass).1))

@@ -11,11 +11,10 @@ use Rattle.ioam_ipfix.specs.declared.fault.IpfixFault.{IpfixFault}
 use Rattle.ioam_ipfix.specs.Faults.{IsStuckInside, IsBadHead, HasFault}
 use Rattle.ioam_ipfix.specs.Messages.{IsWhole, MessagePasses, IsCut}
 use Rattle.ioam_ipfix.specs.Places.{AllPlaces, records_at}
-use Rattle.ioam_ipfix.specs.Reading.{Reading, fed, fresh, held, place_of, while_due, with_due, with_piece}
+use Rattle.ioam_ipfix.specs.Reading.{Reading, fed, held, place_of, while_due, with_due, with_piece}
 use Rattle.ioam_ipfix.specs.Reader.{Waits, IsFaulty, Takes}
 use Rattle.ioam_ipfix.specs.Sets.{spot, SetPasses}
 use Rattle.ioam_ipfix.specs.Steps.{TakesMessage}
-use Rattle.ioam_ipfix.specs.Templates.{none_known}
 use Rattle.ioam_ipfix.proofs.ReaderLaws.{while_due-most, while_due-none}
 
 -- the message that was taken last has so many octets, with which the pending ones begin, and its records at these places
@@ -30,9 +29,6 @@ view_of octets size known messages places = record {
   given = length octets.given + size;
   owed = while_due (records_at (take size octets.pending) places) size;
 }
-
-pub fresh-view : (octets : Kept) → octets ≡ base.fresh → (places : List Place) → places ≡ [] → ◌≡◌ {A = Reading} fresh (view_of octets 0 none_known 0 places)
-fresh-view octets is places none = ap₂ (λ (o : Kept) (ps : List Place). view_of o 0 none_known 0 ps) (sym is) (sym none)
 
 module _ (octets : Kept) (size : ℕ) (fits : size ≤ length octets.pending) (known : List Bool) (messages : ℕ) where
   given-is : (count owed : ℕ) → count + owed ≡ size → length (octets.given ++ take count octets.pending) + owed ≡ length octets.given + size
@@ -149,30 +145,6 @@ places-kept octets size (p ∷ places) owed gone is stays all =
     let same : size - gone ≡ size = omega (arith, none) in
     let here : take (size - gone) (drop gone octets.pending) ≡ take size octets.pending = λ i. take (same i) (drop (none i) octets.pending) in
     subst (λ o. AllPlaces o (p ∷ places)) (sym here) all
-
-pub gone-inside : (octets kept : Kept) (size messages : ℕ) (places none : List Place) → kept ≡ passed size octets → none ≡ [] → Inside octets size messages places
-    → Inside kept 0 messages none
-gone-inside octets kept size messages places none took is inside =
-    let left = length-drop size octets.pending in
-    let begins = ap (λ (k : Kept). length k.pending) took in
-    let at : kept.start ≡ octets.start + size = ap (λ (k : Kept). k.start) took in
-    (omega arith, omega (arith, left, begins, at, inside.0, inside.1), omega (arith, at, inside.2), subst (λ ps. AllPlaces (take 0 kept.pending) ps) (sym is) tt)
-
-pub whole-inside : (octets kept : Kept) (size n : ℕ) (known behind : List Bool) (messages : ℕ) (due places : List Place) (pending : List ℕ) → kept ≡ passed size octets
-    → pending ≡ kept.pending → IsWhole pending × (n ≡ u16_at pending 2) × (n < 65536) → TakesMessage (take n pending) known behind places → Inside octets size messages due
-    → Inside kept n (messages + 1) places
-whole-inside octets kept size n known behind messages due places pending took is whole found inside =
-    let left = length-drop size octets.pending in
-    let begins = ap (λ (k : Kept). length k.pending) took in
-    let here = ap length is in
-    let at : kept.start ≡ octets.start + size = ap (λ (k : Kept). k.start) took in
-    let there = whole.0.there in
-    let least = whole.0.least in (
-      omega (arith, here, there, whole.1),
-      omega (arith, left, begins, at, inside.0, inside.1),
-      omega (arith, at, inside.2, least, whole.1),
-      subst (λ o. AllPlaces (take n o) places) is found.3,
-    )
 
 -- ---- a piece more
 

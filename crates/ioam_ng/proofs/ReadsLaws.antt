@@ -81,9 +81,6 @@ module _ (octets more : List ℕ) where
 
   -- a faulty front stays so, and one without a fault
   module _ (count : ℕ) where
-    fault_by_front : Bool → Bool → Option CapFault → Option CapFault → Option CapFault
-    fault_by_front alien there magic other = if alien then magic else if there then other else None
-
     alien_fault : (known : Option Order) → 4 ≤ length octets → is_alien known octets ≡ true → front_fault count known (octets ++ more) ≡ front_fault count known octets
     alien_fault known long alien =
         let was : front_fault count known octets ≡ Some (fault.Magic (u32_at octets 0)) =

@@ -2,7 +2,7 @@
 use Rattle.std.proofs.Common.{◌≡◌, ℕ, ◌+◌, ◌*◌, ◌<◌, ◌≤◌, List, [], ◌∷◌, length, take, Bool, true, false, not, ◌&&◌, ◌||◌, ◌%◌, Option, Some, None, arith, refl, sym, ap, ◌∙◌, length-drop}
 use Rattle.std.specs.Prelude.{nat_le, nat_lt, is_none, ◌==◌, if◌then◌else◌}
 use Rattle.std.specs.Option.{option_or}
-use Rattle.std.proofs.lemmas.Bool.{true≢false, and_parts, leb-false, leb-true, ltb-false}
+use Rattle.std.proofs.lemmas.Bool.{true≢false, and_parts, leb-false, ltb-false}
 use Rattle.ioam_base.specs.Octets.{u32_at}
 use Rattle.ioam_pcap.specs.declared.capture.CapFault.{CapFault}
 use Rattle.ioam_pcap.specs.declared.capture.CapFault.TheVariants as fault
@@ -62,13 +62,6 @@ module _ (known : Known) (octets : List ℕ) (sound : fault_in known octets ≡ 
 
   size_few : size known octets ≤ 16777216
   size_few = ltb-false 16777216 (size known octets) front_checked.1
-
--- a whole block without a fault has no more octets than the largest, all of which are there
-pub whole_few : (known : Known) (octets : List ℕ) → fault_in known octets ≡ None → is_whole known octets ≡ true
-    → (size known octets ≤ 16777216) × (size known octets ≤ length octets)
-whole_few known octets sound whole =
-    let there = and_parts (is_front octets) (nat_le (size known octets) (length octets)) whole in
-    (size_few known octets sound there.0, leb-true (size known octets) (length octets) there.1)
 
 -- the front of a block has 12 octets at most
 front_few : (octets : List ℕ) → front_size octets ≤ 12

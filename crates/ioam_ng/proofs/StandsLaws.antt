@@ -37,10 +37,6 @@ Stands-feed reader piece octets taken stands = record {
   inside = omega (arith, stands.inside, length-append reader.pending piece, length-append octets piece);
 }
 
--- no block was passed, or one more without a packet
-pub Skips-none : (reader : Reading) → Skips reader reader
-Skips-none reader = record { blocks = []; leads = refl; none = refl; fed = refl; still = λ _. refl; held = refl }
-
 pub Skips-push : (old mid new : Reading) → Skips old mid → IsPlain mid → place_of new ≡ behind (place_of mid) → fed new ≡ fed mid → held new ≡ held mid → Skips old new
 Skips-push old mid new skips plain next same kept =
     let pushed = Leads-push CanPass packet_there behind (place_of old) skips.blocks (place_of mid) skips.leads plain.0 in

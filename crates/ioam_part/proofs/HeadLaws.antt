@@ -1,9 +1,8 @@
 -- The head of a part.
-use Rattle.std.proofs.Common.{◌≡◌, ℕ, ◌+◌, ◌<◌, ◌≤◌, List, [], ◌∷◌, ◌++◌, length, take, drop, refl, sym, ap, ◌∙◌, subst, arith}
-use Rattle.std.proofs.lemmas.List.{append-nil, drop_all, take-append-drop, take-append-le}
+use Rattle.std.proofs.Common.{◌≡◌, ℕ, ◌≤◌, List, [], ◌++◌, length, drop, refl, ap, ◌∙◌, arith}
+use Rattle.std.proofs.lemmas.List.{append-nil, drop_all}
 use Rattle.ioam_base.specs.Octets.{IsOctets, u32_at, u64_at}
 use Rattle.ioam_base.specs.Words.{four_octets, eight_octets}
-use Rattle.ioam_base.proofs.OctetsLaws.{u32_at-fits}
 use Rattle.ioam_base.proofs.WordsLaws.{four-at, eight-at, four_octets-same}
 use Rattle.ioam_part.specs.Part.{mark, head_octets}
 
@@ -28,15 +27,6 @@ head_is head small size is =
 -- octets that begin with the mark have its number
 number_is : (rest : List ℕ) → u64_at (mark ++ rest) 0 ≡ number
 number_is rest = refl
-
-split_eight : (octets : List ℕ) → take 8 octets ++ drop 8 octets ≡ octets
-split_eight octets = take-append-drop 8 octets
-
-pub not_marked : (octets more : List ℕ) → 8 ≤ length octets → (u64_at octets 0 ≡ number → ⊥) → take 8 (octets ++ more) ≡ mark → ⊥
-not_marked octets more fits other is =
-    let front : take 8 octets ≡ mark = sym (take-append-le 8 octets more fits) ∙ is in
-    let whole : octets ≡ mark ++ drop 8 octets = sym (split_eight octets) ∙ ap (λ o. o ++ drop 8 octets) front in
-    other (ap (λ o. u64_at o 0) whole ∙ number_is (drop 8 octets))
 
 -- a head says one count
 pub count_same : (m n : ℕ) → m ≤ 1048576 → n ≤ 1048576 → head_octets m ≡ head_octets n → m ≡ n

@@ -4,21 +4,20 @@ use Rattle.std.proofs.lemmas.List.{append-nil}
 use Rattle.std.proofs.lemmas.List.Elements.{All-head, All-tail}
 use Rattle.ioam_base.specs.Words.{four_octets}
 use Rattle.ioam_base.proofs.WordsLaws.{four_octets-same}
-use Rattle.ioam_dex.specs.Record.{Record, IsRecord, HasItsParts, IsNumbered, record_octets}
+use Rattle.ioam_dex.specs.Record.{Record, IsRecord, record_octets}
 use Rattle.ioam_dex.specs.Reads.{records_octets}
-use Rattle.ioam_dex.specs.Visit.{visit_octets, version_of, IsVisitBelow}
+use Rattle.ioam_dex.specs.Visit.{visit_octets, IsVisitBelow}
 use Rattle.ioam_dex.proofs.ReadsLaws.{Splits-unique, NoRecord, cut-no-record}
 use Rattle.ioam_dex.proofs.RecordLaws.{record_octets-same}
 use Rattle.ioam_dex.proofs.VisitLaws.{visit_octets-same}
 use Rattle.ioam_pool.specs.Entry.{Entry}
 use Rattle.ioam_collect.specs.Best.{kept_of, keys_in, group, groups_of}
-use Rattle.ioam_collect.specs.Join.{pairs_in}
-use Rattle.ioam_collect.specs.Keyed.{core_of, item_of, keyed_by, keyed_of, keyed, with_keyed, hops_of}
+use Rattle.ioam_collect.specs.Keyed.{core_of, keyed_by, keyed_of, keyed, with_keyed, hops_of}
 use Rattle.ioam_collect.specs.declared.key.Key.{Key}
 use Rattle.ioam_collect.proofs.JoinLaws.{half_left, half_right, append_three, kept_parts, kept_swapped, kept_twice, pairs_groups}
 use Rattle.ioam_collect.proofs.JoiningLaws.{keyed-append}
 use Rattle.ioam_collect.proofs.UniteLaws.{apart_kept}
-use Rattle.ioam_part.specs.Part.{mark, head_octets, part_octets, HasKey, AreInOrder, IsPart, PartOf, JoinsTo}
+use Rattle.ioam_part.specs.Part.{part_octets, HasKey, IsPart, PartOf, JoinsTo}
 
 -- ---- the records of pairs
 

@@ -1,9 +1,8 @@
 -- A part that is read in pieces.
-use Rattle.std.proofs.Common.{◌≡◌, ℕ, ◌+◌, ◌*◌, ◌-◌, ◌<◌, ◌≤◌, Bool, true, false, List, [], ◌++◌, length, length-append, length-take, take, drop, append_assoc, refl, sym, ap, ap₂, ◌∙◌, subst, arith, ◌⊎◌, inl, inr, Option, None, Some}
+use Rattle.std.proofs.Common.{◌≡◌, ℕ, ◌+◌, ◌-◌, ◌<◌, ◌≤◌, Bool, true, false, List, [], ◌++◌, length, length-append, length-take, take, drop, append_assoc, refl, sym, ap, ap₂, ◌∙◌, subst, arith, ◌⊎◌, inl, inr, Option, None, Some}
 use Rattle.std.specs.Prelude.{is_some, max, min, Result, Ok, Err, IfOk}
 use Rattle.std.proofs.lemmas.Bool.Decides.{nat_tests}
 use Rattle.std.proofs.lemmas.List.{append-nil, take-append-drop, take_all}
-use Rattle.std.proofs.lemmas.List.Elements.{All-nil}
 use Rattle.ioam_base.specs.Octets.{u32_at}
 use Rattle.ioam_dex.specs.Faults.{IsCut}
 use Rattle.ioam_dex.specs.Record.{Record}
@@ -12,14 +11,12 @@ use Rattle.ioam_dex.specs.Reading.{Reading}
 use Rattle.ioam_dex.specs.Reads.{records_octets}
 use Rattle.ioam_dex.specs.Visit.{has_visit, twelve_where}
 use Rattle.ioam_dex.proofs.RecordLaws.{numbers_size-small}
-use Rattle.ioam_collect.specs.Collected as collected
-use Rattle.ioam_collect.specs.Collected.{Collected, count_kept}
-use Rattle.ioam_part.specs.Part.{most_records, head_octets, HasKey, IsPart}
+use Rattle.ioam_collect.specs.Collected.{count_kept}
+use Rattle.ioam_part.specs.Part.{most_records, head_octets, IsPart}
 use Rattle.ioam_part.specs.Faults.{Reaches, IsBehindHead, HasFault}
 use Rattle.ioam_part.specs.Reading.{PartReading, Holds, Took, IsOpen, IsBehind, StandsBy, Stands, IsReadAs, FoundBehind, HoldsFew, Stops}
 use Rattle.ioam_part.specs.declared.fault.PartFault.{PartFault}
 use Rattle.ioam_part.specs.declared.fault.PartFault.TheVariants as fault
-use Rattle.ioam_part.specs.declared.progress.Progress.{Progress}
 use Rattle.ioam_part.proofs.HeadLaws.{count_same}
 use Rattle.ioam_part.proofs.TakingLaws.{count_all, took_fed, start_small}
 
@@ -29,18 +26,6 @@ if_ok (Ok x) P Q known gives = gives x known
 if_ok (Err e) P Q known gives = tt
 
 -- ---- nothing was fed
-
-pub took_none : (count limit : ℕ) (reading : Reading) (p : Progress) → dex.Stands reading [] [] → p.order ≡ None → p.given ≡ 0 → p.end ≡ reading.start
-    → p.full ≡ false → collected.Stands p.collector [] → p.collector.held ≡ 0 → p.collector.limit ≡ limit → Took count limit [] [] reading p
-took_none count limit reading p stands none given end not_full holds held same = record {
-  stands = stands;
-  in_order = record { keys = All-nil HasKey; apart = tt };
-  within = omega arith;
-  last = none;
-  given = given;
-  end = end;
-  holds = subst (λ b. Holds limit b p.collector []) (sym not_full) (holds, omega (arith, held), same);
-}
 
 -- ---- a fault stays
 

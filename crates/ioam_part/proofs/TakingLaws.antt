@@ -2,8 +2,8 @@
 use Rattle.std.proofs.Common.{◌≡◌, ℕ, ◌+◌, ◌*◌, ◌<◌, ◌≤◌, Bool, true, false, cond, List, [], ◌∷◌, ◌++◌, length, length-append, All, refl, sym, ap, ap₂, ◌∙◌, subst, arith, ◌⊎◌, inl, inr, Option, None, Some}
 use Rattle.std.specs.Prelude.{min, is_some}
 use Rattle.std.proofs.lemmas.Bool.Decides.{nat_tests}
-use Rattle.std.proofs.lemmas.List.{append-nil, nil_from_length}
-use Rattle.std.proofs.lemmas.List.Elements.{All-head, All-tail, All-push, All-append}
+use Rattle.std.proofs.lemmas.List.{nil_from_length}
+use Rattle.std.proofs.lemmas.List.Elements.{All-head, All-tail, All-push}
 use Rattle.ioam_dex.specs.declared.export.ExportFault.{ExportFault}
 use Rattle.ioam_dex.specs.Faults.{Fault, IsCut}
 use Rattle.ioam_dex.specs.Numbers.{has_flow, has_seq, four_where}
@@ -11,7 +11,7 @@ use Rattle.ioam_dex.specs.Record.{Record, HasItsParts, IsRecord, record_octets}
 use Rattle.ioam_dex.specs.Visit.{has_visit, twelve_where, version_of}
 use Rattle.ioam_dex.specs.Reader as dex
 use Rattle.ioam_dex.specs.Reading.{Reading}
-use Rattle.ioam_dex.specs.Reads.{records_octets, Splits}
+use Rattle.ioam_dex.specs.Reads.{records_octets}
 use Rattle.ioam_dex.proofs.FaultLaws.{Fault-behind}
 use Rattle.ioam_dex.proofs.ReaderLaws.{Stands-feed}
 use Rattle.ioam_dex.proofs.ReadsLaws.{Splits-feed}
@@ -32,7 +32,7 @@ use Rattle.ioam_collect.proofs.RankedLaws.{comes, came, last-push}
 use Rattle.ioam_collect.proofs.UniteLaws.{apart_kept}
 use Rattle.ioam_part.specs.Part.{HasKey, AreInOrder}
 use Rattle.ioam_part.specs.Faults.{Reaches, HasFaultBehind}
-use Rattle.ioam_part.specs.Reading.{Holds, Took, Rests, Goes, FoundBehind, Stops, Turns}
+use Rattle.ioam_part.specs.Reading.{Holds, Took, Goes, FoundBehind, Stops, Turns}
 use Rattle.ioam_part.specs.declared.fault.PartFault.{PartFault}
 use Rattle.ioam_part.specs.declared.fault.PartFault.TheVariants as fault
 use Rattle.ioam_part.specs.declared.progress.Progress.{Progress}

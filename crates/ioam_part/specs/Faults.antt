@@ -1,6 +1,5 @@
 -- Why octets are no part: the one fault that they have, and its place. Faults are looked for in the order of their places.
 use Rattle.std.specs.Prelude.{◌≡◌, ◌≢◌, ℕ, ◌+◌, ◌<◌, ◌≤◌, ◌⊎◌, List, [], ◌∷◌, ◌++◌, length, take}
-use Rattle.ioam_base.specs.Words.{four_octets}
 use Rattle.ioam_dex.specs.Faults.{Fault, IsCut}
 use Rattle.ioam_dex.specs.Record.{Record, IsRecord, record_octets}
 use Rattle.ioam_dex.specs.Reads.{records_octets, Splits}

@@ -1,5 +1,5 @@
 -- A part that is read in pieces.
-use Rattle.std.specs.Prelude.{◌≡◌, ℕ, ◌+◌, ◌<◌, ◌≤◌, ◌⊎◌, max, min, Bool, true, false, List, [], ◌∷◌, ◌++◌, length, Option, Some, None, ⊤, ◌*◌}
+use Rattle.std.specs.Prelude.{◌≡◌, ℕ, ◌+◌, ◌<◌, ◌≤◌, ◌⊎◌, max, min, Bool, true, false, List, [], ◌∷◌, ◌++◌, length, Option, Some, None, ⊤}
 use Rattle.ioam_dex.specs.Faults.{IsCut}
 use Rattle.ioam_dex.specs.Record.{Record, record_octets}
 use Rattle.ioam_dex.specs.Reading.{Reading}

@@ -1,5 +1,5 @@
 -- One of two parts that are walked.
-use Rattle.std.proofs.Common.{◌≡◌, ℕ, ◌+◌, ◌<◌, ◌≤◌, List, [], ◌∷◌, ◌++◌, length, length-append, take, drop, All, Option, None, Some, refl, sym, ap, ◌∙◌, subst, arith}
+use Rattle.std.proofs.Common.{◌≡◌, ℕ, ◌+◌, ◌≤◌, List, [], ◌∷◌, ◌++◌, length, length-append, take, drop, All, Option, None, Some, refl, sym, ap, ◌∙◌, subst, arith}
 use Rattle.std.specs.Prelude.{IfSome, IsSomeAnd, MatchOption, unwrap_or}
 use Rattle.std.proofs.Math.Seq.{take-nil}
 use Rattle.std.proofs.lemmas.List.{take-append-drop}
@@ -16,21 +16,8 @@ use Rattle.ioam_part_merge.specs.Walk.{IsSide, Says, ShowsNext}
 record_some : (x : Record) → 4 ≤ length (record_octets x)
 record_some x = omega arith
 
--- octets in front of which a record stands have as many at least
-front_within : (octets : List ℕ) (x : Record) (rest : List ℕ) → octets ≡ record_octets x ++ rest → length (record_octets x) ≤ length octets
-front_within octets x rest is = let size = ap length is in let both = length-append (record_octets x) rest in omega (arith, size, both)
-
-pub not_short : (octets : List ℕ) (x : Record) (rest : List ℕ) → octets ≡ record_octets x ++ rest → length octets < 4 → ⊥
-not_short octets x rest is short = let within = front_within octets x rest is in let some = record_some x in omega (arith, within, some, short)
-
 pub sized : (octets : List ℕ) (x : Record) (rest : List ℕ) (size : ℕ) → IsRecord x → octets ≡ record_octets x ++ rest → size ≡ length_of octets → size ≡ length (record_octets x)
 sized octets x rest size is_x is says = says ∙ front-length octets x rest is_x is
-
-pub not_longer : (octets : List ℕ) (x : Record) (rest : List ℕ) (size : ℕ) → IsRecord x → octets ≡ record_octets x ++ rest → size ≡ length_of octets → (size ≤ length octets → ⊥) → ⊥
-not_longer octets x rest size is_x is says longer =
-    let same = sized octets x rest size is_x is says in
-    let within = front_within octets x rest is in
-    longer (omega (arith, same, within))
 
 take_front : (xs ys : List ℕ) → take (length xs) (xs ++ ys) ≡ xs
 take_front [] ys = refl

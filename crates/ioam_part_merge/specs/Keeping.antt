@@ -1,5 +1,5 @@
 -- A part that is read in pieces and kept as it is.
-use Rattle.std.specs.Prelude.{◌≡◌, ℕ, List, ◌⊎◌, ⊤, Option}
+use Rattle.std.specs.Prelude.{◌≡◌, ℕ, List, ⊤, Option}
 use Rattle.ioam_dex.specs.Record.{Record}
 use Rattle.ioam_part.specs.Faults.{HasFault}
 use Rattle.ioam_part.specs.Part.{IsPart}

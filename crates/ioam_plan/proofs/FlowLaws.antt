@@ -1,5 +1,5 @@
 -- What is planned for a packet that is to be enclosed.
-use Rattle.std.proofs.Common.{◌≡◌, ℕ, ◌+◌, ◌-◌, ◌<◌, ◌≤◌, cond, List, length, Option, Some, None, IsSomeAnd, slice_get, sym, ap, subst, arith}
+use Rattle.std.proofs.Common.{◌≡◌, ℕ, ◌+◌, ◌-◌, ◌<◌, ◌≤◌, cond, List, length, Option, Some, IsSomeAnd, slice_get, sym, ap, subst, arith}
 use Rattle.std.specs.Prelude.{All, IsTrue, is_some, slice_index}
 use Rattle.ioam_clock.specs.declared.sample.Sample.{Sample}
 use Rattle.ioam_ip.specs.Header.{HasFields}
@@ -18,12 +18,11 @@ use Rattle.ioam_plan.specs.declared.stage.Inside.{Inside}
 use Rattle.ioam_plan.specs.declared.stage.JourneySpot.{JourneySpot}
 use Rattle.ioam_plan.specs.declared.stage.Stage.TheVariants.{Enter}
 use Rattle.ioam_plan.specs.declared.stage.Trip.{Trip}
-use Rattle.ioam_plan.specs.Counted.{CanCount}
 use Rattle.ioam_plan.specs.Drawn.{numbers_of}
 use Rattle.ioam_plan.specs.Inside.{EndsInside}
 use Rattle.ioam_plan.specs.Journey.{Journey}
 use Rattle.ioam_plan.specs.Plans.{PlansFlow, start_of, flow_trip, entry_of}
-use Rattle.ioam_plan.specs.Rides.{Rides, RidesBy, IsVisitIn}
+use Rattle.ioam_plan.specs.Rides.{Rides, IsVisitIn}
 use Rattle.ioam_plan.specs.Steps.{HasRidden}
 use Rattle.ioam_plan.proofs.RidesLaws.{rides_flow, enters_high, direct_there}
 
@@ -68,17 +67,3 @@ flow_rides domain readings number time id flow packet found it numbers target ho
     rides_flow domain packet it inside flow port short at known is_packet sound (omega (arith, counted, small)) direct
     (λ some. omega (arith, is, enters_high domain T spot entry it.visits moved.0.last moved.0.reaches some)) below moved.0.carried visits
     (omega (arith, few, same)) moved.1 ends
-
--- the number of its flow can rise
-can_count : (domain : Domain) (packet : List ℕ) (it : Itinerary) (carried : Option (FlowId × Numbers)) (counters : List ℕ)
-    → length counters ≡ length (flows domain) → All (λ number. number < 4294967296) counters → RidesBy domain packet it carried
-    → CanCount counters carried
-can_count domain packet it None counters long few rides = tt
-can_count domain packet it (Some carried) counters long few rides =
-    let inside : carried.0.0 < length counters = omega (arith, long, rides.known) in
-    (inside, few carried.0.0 0 inside)
-
-pub rides_count : (domain : Domain) (packet : List ℕ) (it : Itinerary) (counters : List ℕ)
-    → length counters ≡ length (flows domain) → All (λ number. number < 4294967296) counters → Rides domain packet it
-    → CanCount counters it.carried
-rides_count domain packet it counters long few rides = can_count domain packet it it.carried counters long few rides.carries

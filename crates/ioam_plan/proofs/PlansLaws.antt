@@ -1,5 +1,5 @@
 -- What is planned for a frame is one thing only.
-use Rattle.std.proofs.Common.{◌≡◌, ℕ, List, Result, Ok, Err, IfOk, Option, Some, None, IsSomeAnd, slice_get, sym, ◌∙◌, subst}
+use Rattle.std.proofs.Common.{◌≡◌, ℕ, List, Option, Some, None, IsSomeAnd, slice_get, sym, ◌∙◌, subst}
 use Rattle.ioam_clock.specs.declared.sample.Sample.{Sample}
 use Rattle.ioam_topo.specs.declared.domain.Domain.{Domain}
 use Rattle.ioam_topo.specs.declared.parts.Flow.{Flow}
@@ -103,12 +103,3 @@ module _ (domain : Domain) (readings : List (List Sample)) (earlier : List Itine
       → Plans domain readings earlier port time b other → it ≡ other
   Plans-same port a b same first second =
       one_of_same a b (slice_get (ports domain) port.0) (first.0 ∙ sym second.0) same first.1 second.1
-
--- so what is planned for a frame is what an itinerary says that was planned for it
-pub planned_only : {E : Type 0} (domain : Domain) (readings : List (List Sample)) (earlier : List Itinerary) (port : PortId) (time : ℕ)
-    (admitted : Admit) (answer : Result Itinerary E) (other : Itinerary)
-    → IfOk answer (Plans domain readings earlier port time admitted) → Plans domain readings earlier port time admitted other
-    → IfOk answer (λ it. it ≡ other)
-planned_only domain readings earlier port time admitted (Err why) other planned is = tt
-planned_only domain readings earlier port time admitted (Ok it) other planned is =
-    Plans-unique domain readings earlier time it other port admitted planned is

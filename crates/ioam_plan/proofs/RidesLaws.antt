@@ -1,8 +1,8 @@
 -- What a planned itinerary keeps.
-use Rattle.std.proofs.Common.{◌≡◌, ℕ, ◌+◌, ◌-◌, ◌<◌, ◌≤◌, Bool, true, false, cond, List, [], ◌∷◌, length, Option, Some, None, IfSome, slice_get, refl, sym, ◌∙◌, ap, subst, arith}
+use Rattle.std.proofs.Common.{◌≡◌, ℕ, ◌+◌, ◌<◌, ◌≤◌, Bool, true, false, cond, List, [], ◌∷◌, length, Option, Some, None, IfSome, slice_get, refl, sym, ap, subst, arith}
 use Rattle.std.specs.Prelude.{All, IsTrue, is_some, nat_le, slice_index}
 use Rattle.std.proofs.lemmas.Bool.{leb-false}
-use Rattle.std.proofs.lemmas.List.Elements.{All-nil, All-weaker}
+use Rattle.std.proofs.lemmas.List.Elements.{All-nil}
 use Rattle.ioam_ip.specs.Chain.{IsSound}
 use Rattle.ioam_ip.specs.Packet.{IsPacket}
 use Rattle.ioam_topo.specs.declared.domain.Domain.{Domain}
@@ -21,9 +21,9 @@ use Rattle.ioam_plan.specs.declared.stage.Stage.{Stage}
 use Rattle.ioam_plan.specs.declared.stage.Stage.TheVariants.{Enter}
 use Rattle.ioam_plan.specs.declared.stage.Trip.{Trip}
 use Rattle.ioam_plan.specs.Drawn.{direct_number}
-use Rattle.ioam_plan.specs.Inside.{EndsInside, IsVisitOf, StaysInside}
+use Rattle.ioam_plan.specs.Inside.{EndsInside}
 use Rattle.ioam_plan.specs.Journey.{Reaches, carried_by}
-use Rattle.ioam_plan.specs.Rides.{Rides, RidesBy, RidesPlain, IsVisitIn, Sends, SendsBy}
+use Rattle.ioam_plan.specs.Rides.{Rides, RidesBy, IsVisitIn, Sends, SendsBy}
 use Rattle.ioam_plan.specs.Steps.{HasRidden}
 use Rattle.ioam_plan.proofs.JourneyLaws.{by_choice}
 
@@ -45,30 +45,9 @@ pub carried_none : (visits : List Visit) → carried_by visits None ≡ None
 carried_none [] = refl
 carried_none (visit ∷ visits) = refl
 
-not_extra : (exited : Bool) → exited ≡ false → cond {A = ℕ} exited 1 0 ≡ 0
-not_extra exited is = ap (λ (b : Bool). cond {A = ℕ} b 1 0) is
-
 one_most : (exited : Bool) → cond {A = ℕ} exited 1 0 ≤ 1
 one_most true = omega arith
 one_most false = omega arith
-
--- a packet that isn't enclosed
-pub rides_plain : (domain : Domain) (packet : List ℕ) (it : Itinerary) (hops size : ℕ)
-    → it.port.0 < length (ports domain) → length packet ≤ 65575 → IsPacket packet → hops ≡ slice_index packet 7 → hops < 256 → it.carried ≡ carried_by it.visits None
-    → All (IsVisitIn domain) it.visits → length it.visits ≤ hops - 1 + cond it.exited 1 0
-    → HasRidden size None it.exited it.visits → EndsInside domain it.end → Rides domain packet it
-rides_plain domain packet it hops size port short is_packet is below carried visits few ridden ends =
-    let none : it.carried ≡ None = carried ∙ carried_none it.visits in
-    let zero : cond {A = ℕ} it.exited 1 0 ≡ 0 = not_extra it.exited ridden.0 in
-    let plain : RidesPlain packet it = record { is_packet = λ some. is_packet; few = omega (arith, few, zero, is); sends = ridden.1; exited = ridden.0 } in
-    record {
-      port = port;
-      short = short;
-      visits = visits;
-      few = omega (arith, few, zero, below);
-      carries = subst (RidesBy domain packet it) (sym none) plain;
-      ends = ends;
-    }
 
 -- what a packet that may be enclosed carries, by its visits
 carries_by : (domain : Domain) (packet : List ℕ) (it : Itinerary) (inside : Inside) (flow : Flow) (visits : List Visit)
@@ -118,8 +97,3 @@ rides_flow domain packet it inside flow port short found known is_packet sound n
       (carries_by domain packet it inside flow it.visits found known is_packet sound number direct high few refl ridden);
   ends = ends;
 }
-
--- so it stays inside its domain
-pub stays_inside : (domain : Domain) (packet : List ℕ) (it : Itinerary) → Rides domain packet it → StaysInside domain it
-stays_inside domain packet it rides =
-    (All-weaker (IsVisitIn domain) (IsVisitOf domain) (λ visit is. is.node) it.visits rides.visits, rides.ends)

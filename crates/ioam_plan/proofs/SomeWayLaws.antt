@@ -39,10 +39,6 @@ use Rattle.ioam_plan.specs.Travels.{PassesEntry, Travels, TravelsBy, TravelsFlow
 use Rattle.ioam_plan.proofs.ChoiceLaws.{exit_right}
 use Rattle.ioam_plan.proofs.PlannedLaws.{there_in, link_there, port_there, right_by, right_in, here_is, not_here_is}
 
--- a hop limit that doesn't stop the packet can be lowered
-can_fall : (hops n : ℕ) → (hops ≤ 1 → ⊥) → hops ≤ n → 2 ≤ hops
-can_fall hops n high most = let more : 1 < hops = lt_of_not-le high in omega (arith, more)
-
 none_left : (hops : ℕ) → (hops ≤ 1 → ⊥) → hops ≤ 0 → ⊥
 none_left hops high most = let more : 1 < hops = lt_of_not-le high in omega (arith, more, most)
 

@@ -1,5 +1,5 @@
 -- Laws of freeing a chain, of more chains and of more cells.
-use Rattle.std.proofs.Common.{◌≡◌, ◌≢◌, ℕ, ◌+◌, ◌<◌, ◌≤◌, ◌^◌, zero, suc, List, [], ◌∷◌, ◌++◌, length, map, cond, set, refl, sym, ap, ap₂, ◌∙◌, arith, get_or, ◌⊎◌, inl, inr, ◌==◌, nat_lt, Option, None, Some, length-set, length-append}
+use Rattle.std.proofs.Common.{◌≡◌, ◌≢◌, ℕ, ◌+◌, ◌<◌, ◌≤◌, zero, suc, List, [], ◌∷◌, ◌++◌, length, map, cond, set, refl, sym, ap, ap₂, ◌∙◌, arith, get_or, ◌⊎◌, inl, inr, ◌==◌, nat_lt, Option, None, Some, length-set, length-append}
 use Rattle.std.specs.Prelude.{sum_by}
 use Rattle.std.proofs.lemmas.Bool.{cases_eq}
 use Rattle.std.proofs.lemmas.Bool.Decides.{nat_tests}
@@ -9,7 +9,7 @@ use Rattle.ioam_pool.specs.Entry.{Entry}
 use Rattle.ioam_pool.specs.Order.{IsChain}
 use Rattle.ioam_pool.specs.Cells.{blank, cell_at, entry_at, entries_from, Chained, EndsWith, Parted, times}
 use Rattle.ioam_pool.specs.Chains.{chain_of, total, with_chain, with_one_more}
-use Rattle.ioam_pool.specs.Kept.{seen, IsPool, Grows}
+use Rattle.ioam_pool.specs.Kept.{seen, Grows}
 use Rattle.ioam_pool.specs.declared.cells.Cell.{Cell}
 use Rattle.ioam_pool.proofs.ChainLaws.{Chained-unique, times-append, times-itself, Chained-behind, Chained-set, Chained-turn, entries-kept}
 use Rattle.ioam_pool.proofs.PartLaws.{one_at, at_most, shown_at, chain_is, total_is, below_one, from_none}
@@ -216,22 +216,4 @@ Grows-more cells free cells' free' item grows heads p =
       grown_parted cells' heads free' so_far.0 item,
       grown_chains cells' heads free' so_far.0 item ∙ so_far.1,
       λ at is c. (grown_chain cells' heads free' so_far.0 item at is (so_far.2 at is c)).0,
-    )
-
-pub Grows-none : (cells : List Cell) (free : Option ℕ) → Grows cells free cells free
-Grows-none cells free heads p = (p, refl, λ at is c. c)
-
--- what growing leaves
-pub grown_is : (cells : List Cell) (heads : List (Option ℕ)) (free : Option ℕ) (held : ℕ) (cells' : List Cell) (free' : Option ℕ)
-    → Grows cells free cells' free' → length cells' < 2 ^ 31 → IsPool cells heads free held
-    → IsPool cells' heads free' held × ((seen cells' heads).chains ≡ (seen cells heads).chains)
-grown_is cells heads free held cells' free' grows few pool =
-    let grown = grows heads pool.parted in (
-      record {
-        parted = grown.0;
-        count = pool.count ∙ ap (λ xs. sum_by length xs) (sym grown.1);
-        in_order = λ d. rw grown.1 (pool.in_order d);
-        room = few;
-      },
-      grown.1,
     )

@@ -9,7 +9,6 @@ use Rattle.ioam_pool.specs.Entry.{Entry, is_full}
 use Rattle.ioam_pool.specs.Order.{meet, IsChain}
 use Rattle.ioam_pool.specs.Cells.{blank, cell_at, entry_at, entries_from, next_or, Ends, EndsWith, Gap, Parted, Passed, Ties, times, linked_in, head_then, with_item}
 use Rattle.ioam_pool.specs.Guides.{OnChain, IsStart, GuidesOn, Guided}
-use Rattle.ioam_pool.specs.Kept.{Grows}
 use Rattle.ioam_pool.specs.declared.cells.Cell.{Cell}
 use Rattle.ioam_pool.specs.declared.guides.Guide.{Guide}
 use Rattle.ioam_pool.proofs.ChainLaws.{walked-is, split_first, Chained-unique, Chained-behind, times-append, times-itself}
@@ -109,17 +108,6 @@ pub guided_more : (cells : List Cell) (heads : List (Option ℕ)) (guides : List
     → (heads' : List (Option ℕ)) → heads' ≡ heads ++ None ∷ [] → Guided cells heads' guides
 guided_more cells heads guides guided heads' pushed = λ k d inside.
     rw (pushed, push_none heads (get_or guides k d).chain None) (guided k d inside)
-
--- more cells
-pub guided_grown : (cells : List Cell) (heads : List (Option ℕ)) (free : Option ℕ) (cells' : List Cell) (free' : Option ℕ) (guides : List Guide)
-    → Parted cells heads free → Grows cells free cells' free' → Guided cells heads guides → Guided cells' heads guides
-guided_grown cells heads free cells' free' guides p grows guided = λ k d inside.
-    let on = guided k d inside in
-    record {
-      front = on.front;
-      back = on.back;
-      whole = (grows heads p).2 (get_or heads (get_or guides k d).chain None) (on.front ++ (get_or guides k d).cell ∷ on.back) on.whole;
-    }
 
 pub guided_none : (cells : List Cell) (heads : List (Option ℕ)) → Guided cells heads []
 guided_none cells heads = All-nil (λ (g : Guide). OnChain cells (get_or heads g.chain None) g.cell)

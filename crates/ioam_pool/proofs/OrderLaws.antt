@@ -1,5 +1,5 @@
 -- Laws of the order of entries, and of entries that can't stand beside one another.
-use Rattle.std.proofs.Common.{◌≡◌, ◌≢◌, ℕ, zero, suc, Bool, List, [], ◌∷◌, ◌++◌, length, true, false, refl, sym, ap, ap₂, ◌∙◌, arith, ◌⊎◌, inl, inr}
+use Rattle.std.proofs.Common.{◌≡◌, ◌≢◌, ℕ, zero, suc, Bool, List, [], ◌∷◌, ◌++◌, length, true, false, refl, sym, ap, ap₂, ◌∙◌, arith, inl, inr}
 use Rattle.std.specs.Prelude.{Contains}
 use Rattle.std.specs.Cmp.{IsTotalOrder}
 use Rattle.std.specs.Cmp.Lexicographic.{slice_cmp}
@@ -60,12 +60,6 @@ extras_trans (x ∷ xs) (y ∷ ys) (z ∷ zs) a b = nat_list_cmp_total.trans (x 
 pub extras_none : (xs : List ℕ) → extras xs [] ≡ Equal
 extras_none [] = refl
 extras_none (x ∷ xs) = refl
-
-pub extras_empty : (xs ys : List ℕ) → (length xs ≡ 0) ⊎ (length ys ≡ 0) → extras xs ys ≡ Equal
-extras_empty [] ys none = refl
-extras_empty (x ∷ xs) [] none = refl
-extras_empty (x ∷ xs) (y ∷ ys) (inl none) = absurd (omega arith)
-extras_empty (x ∷ xs) (y ∷ ys) (inr none) = absurd (omega arith)
 
 pub extras_there : (xs ys : List ℕ) → length xs ≢ 0 → length ys ≢ 0 → extras xs ys ≡ slice_cmp nat_cmp xs ys
 extras_there [] ys some more = absurd (some refl)

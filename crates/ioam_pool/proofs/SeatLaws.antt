@@ -3,10 +3,10 @@ use Rattle.std.proofs.lemmas.Bool.{cases_eq, ne_eqb}
 use Rattle.std.proofs.Common.{◌≡◌, ◌≢◌, ◌⊎◌, inl, inr, false, ◌==◌, ℕ, ◌+◌, ◌<◌, ◌≤◌, List, [], ◌∷◌, ◌++◌, length, map, refl, sym, ap, ◌∙◌, arith, get_or, Option, None, Some, length-append, append_assoc}
 use Rattle.std.specs.List.{AllByRecursion}
 use Rattle.std.proofs.lemmas.List.{get_or_default, length-map}
-use Rattle.std.specs.declared.cmp.Ordering.TheVariants.{Less, Equal, Greater}
+use Rattle.std.specs.declared.cmp.Ordering.TheVariants.{Less, Equal}
 use Rattle.ioam_pool.specs.Entry.{Entry}
 use Rattle.ioam_pool.specs.Order.{meet, IsChain}
-use Rattle.ioam_pool.specs.Cells.{blank, cell_at, entry_at, entries_from, Chained, Ends, Passed, Gap, Ties, EndsWith, Reaches, times}
+use Rattle.ioam_pool.specs.Cells.{blank, cell_at, entry_at, entries_from, Chained, Ends, Passed, Ties, EndsWith, Reaches, times}
 use Rattle.ioam_pool.specs.declared.cells.Cell.{Cell}
 use Rattle.ioam_pool.proofs.ChainLaws.{walked-is, split_first, Chained-unique, Chained-behind}
 use Rattle.ioam_pool.proofs.OrderLaws.{meet_trans}
@@ -32,9 +32,6 @@ Ends-few cells at ends =
     let entries = walked-is (length cells) cells at ends.list ends.chained short in
     let count : length (entries_from cells at) ≡ length ends.list = ap length entries ∙ length-map ends.list (entry_at cells) in
     omega arith
-
-pub Ends-none : (cells : List Cell) → entries_from cells None ≡ []
-Ends-none cells = walked-is (length cells) cells None [] refl (omega arith)
 
 all_push : (P : ℕ → Type 0) (xs : List ℕ) (x : ℕ) → AllByRecursion P xs → P x → AllByRecursion P (xs ++ x ∷ [])
 all_push P [] x all here = (here, tt)
@@ -70,16 +67,6 @@ module _ (cells : List Cell) (head before : Option ℕ) (item : Entry) where
       let parts = split_first cells i p.back p.rest in
       record { front = p.front; back = parts.0; whole = rw parts.1 at p.whole; ties = equal }
 
-  pub passed_behind : (i : ℕ) → Passed cells head before (Some i) item → meet (entry_at cells i) item ≡ Greater → Gap cells head before item
-  passed_behind i p greater =
-      let parts = split_first cells i p.back p.rest in
-      record { front = p.front; back = i ∷ parts.0; whole = rw parts.1 at p.whole; last = p.last; passed = p.passed; behind = greater }
-
-  pub passed_all : Passed cells head before None item → Gap cells head before item
-  passed_all p =
-      let none : p.back ≡ [] = Chained-unique cells None p.back [] p.rest refl in
-      record { front = p.front; back = []; whole = rw none at p.whole; last = p.last; passed = p.passed; behind = tt }
-
 -- the same of a cell that is read with any default
 pub first_step : (cells : List Cell) (at : Option ℕ) (i : ℕ) (d : Cell) → at ≡ Some i → Ends cells at
     → (i < length cells) × Ends cells (get_or cells i d).next × (entries_from cells at ≡ (get_or cells i d).item ∷ entries_from cells (get_or cells i d).next)
@@ -107,9 +94,6 @@ module _ (cells : List Cell) (head before at : Option ℕ) (item : Entry) (p : P
   passed_at : Passed cells head before (Some i) item
   passed_at = rw is at p
 
-  pub step_in : i < length cells
-  step_in = (first_step cells at i cell is (passed_ends cells head before item at p)).0
-
   pub step_smaller : length (entries_from cells cell.next) < length (entries_from cells at)
   step_smaller = (cell_step cells at i cell is read (passed_ends cells head before item at p)).1
 
@@ -122,11 +106,6 @@ module _ (cells : List Cell) (head before at : Option ℕ) (item : Entry) (p : P
   step_held equal =
       let equal' : meet (entry_at cells i) item ≡ Equal = rw same_cell at (sym equal) in
       passed_held cells head before item i passed_at equal'
-
-  pub step_behind : Greater ≡ meet cell.item item → Gap cells head before item
-  step_behind greater =
-      let greater' : meet (entry_at cells i) item ≡ Greater = rw same_cell at (sym greater) in
-      passed_behind cells head before item i passed_at greater'
 
 -- walking to the last cell
 pub reaches_first : (cells : List Cell) (head : Option ℕ) (last : ℕ) → head ≡ Some last → Ends cells head → Reaches cells head last 1

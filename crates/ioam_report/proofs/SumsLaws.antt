@@ -29,9 +29,6 @@ sum_of seen dropped = record { seen = seen; dropped = dropped }
 same_sum : (a b c d : ℕ) → a ≡ c → b ≡ d → Some (sum_of a b) ≡ Some (sum_of c d)
 same_sum a b c d p q = ap (λ (n : ℕ). Some (sum_of n b)) p ∙ ap (λ (n : ℕ). Some (sum_of c n)) q
 
-pub Raised-none : (sums : List NodeSum) (node : ℕ) → Raised sums sums node 0 0
-Raised-none sums node = record { raised = λ before is _ _. is ∙ same_sum before.seen before.dropped (before.seen + 0) (before.dropped + 0) (omega arith) (omega arith) }
-
 pub Raised-then : (a b c : List NodeSum) (node s d t e : ℕ) → Raised a b node s d → Raised b c node t e → Raised a c node (s + t) (d + e)
 Raised-then a b c node s d t e first second = record {
   raised = λ before is seen dropped.

@@ -1,9 +1,7 @@
 -- Laws of the lines of groups.
-use Rattle.std.proofs.Common.{◌≡◌, ℕ, ◌<◌, ◌≤◌, List, [], ◌∷◌, ◌++◌, length, ap, ap₂, ◌∙◌, arith, inl, inr, ◌⊎◌, Option, None, Some}
+use Rattle.std.proofs.Common.{◌≡◌, ℕ, ◌<◌, ◌≤◌, List, [], ◌∷◌, ◌++◌, length, ap, ap₂, ◌∙◌, arith, Option, None, Some}
 use Rattle.std.specs.List.{flat_map}
 use Rattle.std.proofs.lemmas.Bool.Decides.{nat_tests}
-use Rattle.ioam_data.specs.Elements.{IsElement, IsFilled}
-use Rattle.ioam_data.specs.Kind.{words}
 use Rattle.ioam_dex.specs.Record.{Record}
 use Rattle.ioam_pool.specs.Entry.{Entry}
 use Rattle.ioam_collect.specs.Keyed.{keyed, keyed_of}
@@ -11,10 +9,6 @@ use Rattle.ioam_collect.specs.Best.{kept_of, groups_of}
 use Rattle.ioam_collect.specs.Collected.{Collected, Stands, capped, one_where_none, count_unkeyed}
 use Rattle.ioam_collect.specs.declared.key.Key.{Key}
 use Rattle.ioam_report_groups.specs.GroupsText.{group_text, counts_line, collected_text, records_text}
-
-pub filled_or_empty : (kind : ℕ) (element : List ℕ) → IsFilled kind element → (element ≡ []) ⊎ IsElement kind (words kind) element
-filled_or_empty kind element (inl is) = inr is
-filled_or_empty kind element (inr void) = inl void.nothing
 
 capped-is : (n : ℕ) → n < 18446744073709551616 → capped n ≡ n
 capped-is n below = grind (arith, nat_tests)

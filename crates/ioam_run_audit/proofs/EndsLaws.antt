@@ -3,9 +3,8 @@ use Rattle.std.proofs.Common.{◌≡◌, ℕ, ◌+◌, ◌<◌, ◌≤◌, ◌^�
 use Rattle.ioam_desk.specs.Desk as desk
 use Rattle.ioam_desk.specs.Desk.{Writing, Rose}
 use Rattle.ioam_desk_outputs.specs.Held.{HoldAllFronts, HoldTexts}
-use Rattle.ioam_desk_outputs.specs.Told.{AreOpen, AreTold, said_more}
+use Rattle.ioam_desk_outputs.specs.Told.{AreTold, said_more}
 use Rattle.ioam_desk_outputs.specs.declared.output.Output.{Output}
-use Rattle.ioam_desk_outputs.proofs.ToldLaws.{AreTold-open, told_names}
 use Rattle.ioam_pcap.specs.Ending.{Whole}
 use Rattle.ioam_pcap.specs.Entries.{Taken}
 use Rattle.ioam_run_answer.specs.declared.outcome.Outcome.{Outcome}
@@ -17,7 +16,7 @@ use Rattle.ioam_run_audit.specs.Lanes.{EndsBy}
 use Rattle.ioam_run_audit.specs.Lines.{BecomeOf, lines_of, report_of, sums_line, sums_of, verdict_as, verdict_line, verdict_of}
 use Rattle.ioam_run_audit.specs.Pairs.{Over, Start, sums_as}
 use Rattle.ioam_run_audit.specs.Promise.{AreTaken}
-use Rattle.ioam_run_audit.specs.Runs.{Cut, IsBehind, IsJudged, IsTold, Matched, Sticks, answer_of, behind_of, left_of}
+use Rattle.ioam_run_audit.specs.Runs.{Cut, IsBehind, IsJudged, Matched, Sticks, answer_of, behind_of, left_of}
 use Rattle.ioam_run_audit.specs.declared.counts.Counts.{Counts}
 use Rattle.ioam_run_audit.specs.declared.fate.Fate.{Fate}
 use Rattle.ioam_run_audit.specs.declared.lane.End.{End}
@@ -117,12 +116,6 @@ module _ (tells : Bool) (start : Start) (place : Place) where
   become_size xs ys fates rest counts are same =
       omega (arith, ap (λ sums. sums.sent) same, sums_sent fates, fates_size HasReason IsFit (CameFrom place) 1 xs ys fates rest are)
 
-  pub told_open : (outputs : Writing) (tellers : List Output) (fates : List Fate) → IsTold tells start place outputs tellers fates → AreOpen outputs tellers
-  told_open outputs tellers fates told = AreTold-open tells outputs start.base (start.report ∷ []) tellers (lines_of 1 fates ∷ []) told
-
-  pub told_one : (outputs : Writing) (tellers : List Output) (fates : List Fate) → IsTold tells start place outputs tellers fates → length tellers ≡ 1
-  told_one outputs tellers fates told = told_names tells outputs start.base (start.report ∷ []) tellers (lines_of 1 fates ∷ []) told
-
   -- ---- behind both
 
   module _ (inputs : desk.Reading) (outputs : Writing) (pair : Pair) (tellers : List Output) (how last : End)
@@ -138,9 +131,6 @@ module _ (tells : Bool) (start : Start) (place : Place) where
 
     pub both_sent : pair.counts.sent ≤ pair.after.taken
     both_sent = omega (arith, both_size)
-
-    pub both_few : pair.after.taken ≤ 16777216
-    both_few = omega (arith, both.over.after.count_is, both.over.after.few)
 
     abbrev its_verdict : Option (Option ℕ)
     its_verdict = verdict_by pair.counts pair.after.taken how last

@@ -1,10 +1,10 @@
 -- The files but for DOMAIN: what a run of them comes to, from its parts.
-use Rattle.std.proofs.Common.{◌≡◌, ℕ, ◌+◌, ◌≤◌, ◌⊎◌, Bool, IsTrue, List, [], ◌∷◌, ◌++◌, length, refl, sym, ap, ◌∙◌, subst, inl, inr, arith, append-nil}
+use Rattle.std.proofs.Common.{◌≡◌, ℕ, ◌+◌, ◌⊎◌, Bool, IsTrue, List, [], ◌∷◌, ◌++◌, length, refl, sym, ap, ◌∙◌, subst, inl, inr, arith}
 use Rattle.ioam_desk.specs.Asked.{AsksFront}
 use Rattle.ioam_desk.specs.Desk as desk
 use Rattle.ioam_desk.specs.Desk.{Rose, Side, Writing, holds, opened_each}
 use Rattle.ioam_desk.specs.Kept.{KeepsInputs, KeepsOutputs}
-use Rattle.ioam_desk.proofs.KeptLaws.{KeepsOutputs-from, KeepsOutputs-same}
+use Rattle.ioam_desk.proofs.KeptLaws.{KeepsOutputs-from}
 use Rattle.ioam_desk_outputs.specs.Held.{HoldFronts}
 use Rattle.ioam_desk_outputs.specs.Told.{AreTold, unsaid}
 use Rattle.ioam_desk_outputs.specs.declared.output.Output.{Output}
@@ -119,28 +119,7 @@ module _ (tells : Bool) (start : Start) (place : Place) (before after : List ℕ
     runs_none = runs_missed outcome.NoMemory (inr refl) (λ all. all)
 
 module _ (tells : Bool) (place : Place) (before after report : List ℕ) (old_in new_in : desk.Reading) (old new : Writing) where
-  -- a capture wasn't opened
-  module _ (asked : AsksFront old_in.side.asked new_in.side.asked (before ∷ after ∷ [])) (few : new_in.side.slots ≤ old_in.side.slots + 1) (kept : KeepsInputs old_in new_in)
-      (unread : IsTrue tells → AreUnread new_in (holds old before) (holds old after) old_in.side.slots (old_in.side.slots + 1)) (same : new ≡ old) where
-    files_missed : (answer : Outcome) → ((answer ≡ outcome.ReadFault) × Rose old_in.side.faults new_in.side.faults) ⊎ (answer ≡ outcome.NoMemory)
-        → (IsBehindAll ⊥ answer → ⊥) → RunsFiles tells place before after report old_in new_in old new answer
-    files_missed answer why early = record {
-      ends = inl (record { why = why; few = few; same = same });
-      asked_in = asked;
-      asked_out = (0, ap (λ (w : Writing). w.side.asked) same ∙ sym (append-nil old.side.asked));
-      all_out = λ all. absurd (early all);
-      unread = λ told none. unread told;
-      kept_in = kept;
-      kept_out = λ told. KeepsOutputs-same old new same;
-    }
-
-    pub files_failed : Rose old_in.side.faults new_in.side.faults → RunsFiles tells place before after report old_in new_in old new outcome.ReadFault
-    files_failed rose = files_missed outcome.ReadFault (inl (refl, rose)) (λ all. all)
-
-    pub files_none : RunsFiles tells place before after report old_in new_in old new outcome.NoMemory
-    files_none = files_missed outcome.NoMemory (inr refl) (λ all. all)
-
-  -- both were
+  -- both captures were opened
   pub files_opened : (mid_in : desk.Reading) (mid : Writing) (start : Start) (first second : ℕ) (answer : Outcome) → mid_in.side ≡ opened_each old_in.side (before ∷ after ∷ [])
       → KeepsInputs old_in mid_in → (IsTrue tells → AreUnread mid_in (holds old before) (holds old after) old_in.side.slots (old_in.side.slots + 1))
       → mid ≡ old → start ≡ start_of old before after report → first ≡ old_in.side.slots → second ≡ old_in.side.slots + 1

@@ -18,7 +18,6 @@ use Rattle.ioam_run_audit.specs.Pairs.{Due, Ended, FateOf, Pairs, ReadsTwo, Star
 use Rattle.ioam_run_audit.specs.Promise.{AreTaken}
 use Rattle.ioam_run_audit.specs.Runs.{AreCut, Closed, Cut, IsTold, Matched, Moves, Running, Sticks, StopsBy}
 use Rattle.ioam_run_audit.specs.declared.fate.Fate.{Fate}
-use Rattle.ioam_run_audit.specs.declared.fate.Fate.TheVariants.{Sent, Gone, Skipped}
 use Rattle.ioam_run_audit.specs.declared.lane.End.{End}
 use Rattle.ioam_run_audit.specs.declared.matching.Stop.{Stop}
 use Rattle.ioam_run_audit.specs.declared.matching.Stop.TheVariants as stop
@@ -155,20 +154,6 @@ module _ (tells : Bool) (start : Start) (place : Place) (inputs : desk.Reading) 
 
   pub put_sticks : (outputs : Writing) → (IsTrue tells → HoldAllFronts outputs (start.report ∷ []) (lines_of 1 (fates ++ fate ∷ []) ∷ [])) → Sticks tells start place outputs
   put_sticks outputs fronts = lines_stick tells start place outputs (fates ++ fate ∷ []) put_matched.0 put_matched.1 fronts
-
-  pub put_same : (pair_behind fate pair).before ≡ pair.before
-  put_same = by_fate fate where
-    by_fate : (f : Fate) → (pair_behind f pair).before ≡ pair.before
-    by_fate (Sent m) = refl
-    by_fate Gone = refl
-    by_fate (Skipped reason) = refl
-
-  pub put_after : (pair_behind fate pair).after ≡ pair.after
-  put_after = by_fate fate where
-    by_fate : (f : Fate) → (pair_behind f pair).after ≡ pair.after
-    by_fate (Sent m) = refl
-    by_fate Gone = refl
-    by_fate (Skipped reason) = refl
 
 -- by other numbers of the slots
 pub moves_slots : (first second one other base : ℕ) (old_in new_in : desk.Reading) (old_out new_out : Writing) → one ≡ first → other ≡ second

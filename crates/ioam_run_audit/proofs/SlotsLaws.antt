@@ -6,9 +6,6 @@ use Rattle.ioam_desk.proofs.AskedLaws.{HaveSlots-same, HaveSlots-still, HaveSlot
 use Rattle.ioam_run_audit.specs.Lanes.{ReadsAlone}
 use Rattle.ioam_run_audit.specs.Pairs.{ReadsTwo}
 
-pub two_first : (first second : ℕ) (old new : desk.Reading) → ReadsAlone first old new → ReadsTwo first second old new
-two_first first second old new is = record { asked = is.asked; slots = is.slots; left = λ k one other. is.left k one; ended = λ k one other. is.ended k one }
-
 pub two_second : (first second : ℕ) (old new : desk.Reading) → ReadsAlone second old new → ReadsTwo first second old new
 two_second first second old new is = record { asked = is.asked; slots = is.slots; left = λ k one other. is.left k other; ended = λ k one other. is.ended k other }
 

@@ -1,8 +1,6 @@
 -- Laws of the report.
 use Rattle.std.proofs.Common.{◌≡◌, ℕ, ◌<◌, List, [], ◌∷◌, ◌++◌, length, get_or, set, Ok, Err, ap, subst, arith}
-use Rattle.std.specs.Prelude.{replicate, Result, OnOk, is_ok, if◌then◌else◌}
-use Rattle.std.proofs.lemmas.List.{length-map}
-use Rattle.ioam_clock.specs.Reading.{node_names, readings_of}
+use Rattle.std.specs.Prelude.{Result, OnOk, is_ok, if◌then◌else◌}
 use Rattle.ioam_clock.specs.declared.sample.Sample.{Sample}
 use Rattle.ioam_run_arrivals.specs.Fate.{AreFates}
 use Rattle.ioam_run_arrivals.proofs.OneFateLaws.{AreFates-unique}
@@ -13,18 +11,11 @@ use Rattle.ioam_run_arrivals.specs.Itinerary.{Itinerary}
 use Rattle.ioam_report.specs.Sums.{StandFor}
 use Rattle.ioam_report.specs.SumsText.{sums_text, arrivals_text}
 use Rattle.ioam_report.specs.declared.sums.Sums.{Sums}
-use Rattle.ioam_topo.specs.Domain.{nodes, ports}
-use Rattle.ioam_topo.specs.Keyed.{name_of_node}
+use Rattle.ioam_topo.specs.Domain.{ports}
 use Rattle.ioam_topo.specs.declared.domain.Domain.{Domain}
 use Rattle.ioam_run_bulk.specs.Generated.{arrivals}
 use Rattle.ioam_run_bulk.specs.Load.{AreSums}
 use Rattle.ioam_run_bulk.specs.Promise.{IsReport, no_readings}
-
--- a file of no octets has no readings
-pub nothing_read : (domain : Domain) → readings_of (node_names domain) [] ≡ Ok (no_readings domain)
-nothing_read domain =
-    let size : length (node_names domain) ≡ length (nodes domain) = length-map (nodes domain) name_of_node in
-    ap (λ (n : ℕ). Ok (replicate n [])) size
 
 pub IsReport-of : (seed count : ℕ) (domain : Domain) (readings : List (List Sample)) (sums : Sums) → IsBulkDomain count domain
     → readings ≡ no_readings domain → AreSums domain readings seed count sums

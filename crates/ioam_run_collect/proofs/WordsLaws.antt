@@ -1,19 +1,12 @@
 -- The names of the command's two files.
-use Rattle.std.proofs.Common.{◌≡◌, ◌≢◌, ℕ, zero, suc, ◌<◌, ◌⊎◌, Bool, List, [], ◌∷◌, Option, sym, ap, ◌∙◌, subst, ⊎_elim, arith}
+use Rattle.std.proofs.Common.{◌≡◌, ◌≢◌, ℕ, zero, suc, ◌<◌, ◌⊎◌, Bool, List, [], ◌∷◌, Option, sym, subst, ⊎_elim, arith}
 use Rattle.std.specs.Prelude.{Contains}
 use Rattle.ioam_desk.specs.Desk.{Reading, Writing}
-use Rattle.ioam_desk_outputs.specs.Names.{name_at, AreApart, Repeats}
+use Rattle.ioam_desk_outputs.specs.Names.{AreApart, Repeats}
 use Rattle.ioam_run_answer.specs.declared.outcome.Outcome.{Outcome}
 use Rattle.ioam_run_answer.specs.declared.outcome.Outcome.TheVariants as outcome
 use Rattle.ioam_run_collect.specs.Promise.{HasCause}
 use Rattle.ioam_run_collect.specs.Ends.{FileCause}
-
--- a list of one name
-pub first_of_one : (names : List (List ℕ)) (name : List ℕ) → names ≡ name ∷ [] → name_at names 0 ≡ name
-first_of_one names name one = ap (λ (ns : List (List ℕ)). name_at ns 0) one
-
-pub one_of_first : (names : List (List ℕ)) (name : List ℕ) → names ≡ name ∷ [] → names ≡ name_at names 0 ∷ []
-one_of_first names name one = one ∙ ap (λ (n : List ℕ). n ∷ []) (sym (first_of_one names name one))
 
 -- one name is apart
 none_earlier : (name : List ℕ) → Contains [] name → ⊥

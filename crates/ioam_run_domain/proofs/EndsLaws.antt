@@ -243,11 +243,3 @@ module _ (opens tells : Bool) (files : RunNames) (old_in new_in : Reading) (old 
   refused_unset (refusal.Readings fault) = tt
   refused_unset refusal.ReadFault = tt
   refused_unset refusal.NoMemory = tt
-
--- a read fault, and a write fault, of the whole run
-module _ (opens tells : Bool) (files : RunNames) (domain : Domain) (readings : List (List Sample)) (mid_in new_in : Reading) (old new : Writing) where
-  pub Ends-read : Ends opens tells files domain readings mid_in new_in old new outcome.ReadFault → Rose mid_in.side.faults new_in.side.faults
-  Ends-read ends = ends.1.0
-
-  pub Ends-write : Ends opens tells files domain readings mid_in new_in old new outcome.WriteFault → Rose old.side.faults new.side.faults
-  Ends-write ends = ends.1.0

@@ -2,16 +2,14 @@
 use Rattle.std.proofs.Common.{◌≡◌, ℕ, zero, suc, ◌<◌, Bool, IsTrue, List, [], ◌∷◌, ◌++◌, length, Option, Some, Err, sym, ◌∙◌, ap, subst, append-nil, arith}
 use Rattle.std.specs.Prelude.{Contains}
 use Rattle.ioam_desk.specs.Asked.{AsksFront}
-use Rattle.ioam_desk.specs.Desk.{Side, Reading, Writing, OpenIn, OpensInput}
+use Rattle.ioam_desk.specs.Desk.{Reading, Writing, OpenIn, OpensInput}
 use Rattle.ioam_desk.specs.Kept.{KeepsInputs}
 use Rattle.ioam_desk.specs.declared.fault.DeskFault.{DeskFault}
 use Rattle.ioam_desk.specs.declared.fault.DeskFault.TheVariants.{Failed, NoMemory}
 use Rattle.ioam_desk.proofs.KeptLaws.{KeepsInputs-same, KeepsInputs-but}
 use Rattle.ioam_desk_outputs.specs.Held.{HoldFronts}
 use Rattle.ioam_desk_outputs.specs.Names.{AreApart, Repeats}
-use Rattle.ioam_desk_outputs.specs.Told.{AreTold, unsaid}
-use Rattle.ioam_desk_outputs.specs.declared.output.Output.{Output}
-use Rattle.ioam_run_ipfix.specs.Streams.{Start, Handed, IsSaid, IsUnwritten}
+use Rattle.ioam_run_ipfix.specs.Streams.{Start, IsUnwritten}
 
 -- ---- one name is apart
 
@@ -58,24 +56,7 @@ untouched tells old mid new held name slot opens same told =
     let Q : Reading → Type 0 = λ r. held ≡ Some (r.left old.side.slots) in
     subst Q (sym same) (subst P opens.number (opens.left told))
 
-pub handed_none : (tells : Bool) (old mid new : Reading) (held content : Option (List ℕ)) (name : List ℕ) (slot : ℕ)
-    → OpensInput tells old mid held name slot → new ≡ mid → content ≡ held → Handed tells content new slot []
-handed_none tells old mid new held content name slot opens same is =
-    let P : Reading → Type 0 = λ r. Handed tells content r slot [] in
-    subst P (sym same) (record {
-      is_open = omega (arith, opens.number, ap (λ (s : Side). s.slots) opens.side);
-      held = λ told. is ∙ opens.left told;
-    })
-
 -- ---- OUT
-
--- nothing was told to it yet
-pub said_none : (tells : Bool) (start : Start) (slot : ℕ) (outs : List (List ℕ)) (new : Writing) (outputs : List Output) → start.base ≡ slot → outs ≡ start.out ∷ []
-    → AreTold tells new slot outs outputs (unsaid outs) → IsSaid tells start new outputs []
-said_none tells start slot outs new outputs number one told =
-    let P : ℕ → Type 0 = λ k. AreTold tells new k (start.out ∷ []) outputs ([] ∷ []) in
-    let Q : List (List ℕ) → Type 0 = λ names. AreTold tells new slot names outputs (unsaid names) in
-    subst P (sym number) (subst Q one told)
 
 -- it could not be opened
 pub unwritten : (start : Start) (mid new : Writing) (outs : List (List ℕ)) (left : List ℕ) → start.content ≡ Some left → outs ≡ start.out ∷ []

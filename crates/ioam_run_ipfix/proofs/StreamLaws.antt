@@ -109,10 +109,6 @@ pub Handed-all : (tells : Bool) (content : Option (List ℕ)) (old new : Reading
 Handed-all tells content old new slot octets gives handed told =
     handed.held told ∙ ap (λ left. Some (octets ++ left)) (gives.none told refl) ∙ ap Some (append-nil octets)
 
-pub Handed-same : (tells : Bool) (content : Option (List ℕ)) (old new : Reading) (slot : ℕ) (octets : List ℕ) → new ≡ old
-    → Handed tells content old slot octets → Handed tells content new slot octets
-Handed-same tells content old new slot octets same handed = let P : Reading → Type 0 = λ r. Handed tells content r slot octets in subst P (sym same) handed
-
 -- what holds of all octets that begin with those that were handed out holds of the input
 pub of_content : (tells : Bool) (content : Option (List ℕ)) (inputs : Reading) (slot : ℕ) (octets : List ℕ) (P : List ℕ → Type 0) → Handed tells content inputs slot octets
     → ((rest : List ℕ) → P (octets ++ rest)) → IsTrue tells → IsSomeAnd content P

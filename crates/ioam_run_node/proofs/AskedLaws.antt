@@ -42,13 +42,6 @@ same_inward a b node name agree =
     ap at agree.same_links
 
 module _ (files : NodeNames) (a b : Domain) (agree : Agree a b) where
-  -- where one is at a node, so is the other
-  IsAt-same : (node : NodeId) (inward : ℕ) → IsAt files a node inward → IsAt files b node inward
-  IsAt-same node inward at = record {
-    has_node = sym (same_node a b files.node agree) ∙ at.has_node;
-    has_link = sym (same_inward a b node files.link agree) ∙ at.has_link;
-  }
-
   no_node : (node : NodeId) → node_of_name a files.node ≡ None → node_of_name b files.node ≡ Some node → ⊥
   no_node node none some = none_or_some (node_of_name b files.node) node (sym (same_node a b files.node agree) ∙ none) some
 

@@ -1,5 +1,5 @@
 -- How a run ends in a domain that was read.
-use Rattle.std.proofs.Common.{◌≡◌, ℕ, ◌<◌, ◌≤◌, ◌⊎◌, Bool, List, length, get_or, Some, None, refl, sym, ◌∙◌, ap, subst, inl, inr, ⊎_elim}
+use Rattle.std.proofs.Common.{◌≡◌, ℕ, ◌<◌, ◌≤◌, Bool, List, length, get_or, Some, refl, sym, ◌∙◌, ap, subst, inl, inr, ⊎_elim}
 use Rattle.ioam_run_files.specs.Outcome.{Outcome}
 use Rattle.ioam_run_files.specs.Outcome.TheVariants as outcome
 use Rattle.ioam_clock.specs.declared.sample.Sample.{Sample}
@@ -10,38 +10,13 @@ use Rattle.ioam_topo.specs.Domain.{node_of_name}
 use Rattle.ioam_topo.specs.declared.domain.Domain.{Domain}
 use Rattle.ioam_topo.specs.declared.ids.NodeId.{NodeId}
 use Rattle.ioam_run_node.specs.Ends.{Gathered, Stays, Ran, Ends, EndsAt}
-use Rattle.ioam_run_node.specs.Promise.{NodeNames, IsAt, IsUnfit, inward_of, node_files, output_files}
+use Rattle.ioam_run_node.specs.Promise.{NodeNames, IsAt, inward_of, node_files, output_files}
 use Rattle.ioam_run_node.specs.Seat.{Seat, seat_at}
 
 module _ (tells : Bool) (files : NodeNames) (reading : Reading) (writing : Writing) where
   -- no memory could be had
   pub stays_none : (IsRefused : List ℕ → Type 0) → Stays tells files reading reading writing writing IsRefused outcome.NoMemory
   stays_none IsRefused = record { why = inl refl; same_in = refl; same = refl }
-
-  stays_named : (IsRefused : List ℕ → Type 0) (answer : Outcome) (name : List ℕ) → (answer ≡ outcome.Names name) ⊎ (answer ≡ outcome.NoMemory) → IsRefused name
-      → Stays tells files reading reading writing writing IsRefused answer
-  stays_named IsRefused answer name either refused = record {
-    why = ⊎_elim (λ named. inr (name, named, refused)) (λ none. inl none) either;
-    same_in = refl;
-    same = refl;
-  }
-
-  -- NODE is refused
-  pub stays_node : (domain : Domain) (samples : List (List Sample)) (answer : Outcome) (name text : List ℕ) → text ≡ name → name ≡ files.node
-      → node_of_name domain text ≡ None → (answer ≡ outcome.Names name) ⊎ (answer ≡ outcome.NoMemory)
-      → Ends tells files reading reading writing writing domain samples answer
-  stays_node domain samples answer name text same is none either =
-      inl (stays_named (IsUnfit files domain) answer name either
-      (inl (ap (node_of_name domain) (sym (same ∙ is)) ∙ none, is)))
-
-  -- LINK is
-  pub stays_link : (domain : Domain) (samples : List (List Sample)) (answer : Outcome) (node : NodeId) (name text link : List ℕ) → text ≡ name → name ≡ files.node
-      → node_of_name domain text ≡ Some node → link ≡ files.link → inward_of domain node link ≡ None
-      → (answer ≡ outcome.Names link) ⊎ (answer ≡ outcome.NoMemory)
-      → Ends tells files reading reading writing writing domain samples answer
-  stays_link domain samples answer node name text link same is some link_is none either =
-      inl (stays_named (IsUnfit files domain) answer link either
-      (inr (inl (node, ap (node_of_name domain) (sym (same ∙ is)) ∙ some, ap (inward_of domain node) (sym link_is) ∙ none, link_is))))
 
   -- a file is
   pub stays_file : (seat : Seat) (names : List (List ℕ)) (at : ℕ) (name : List ℕ) → names ≡ node_files files → IsFirstRepeat names at → name ≡ name_at names at

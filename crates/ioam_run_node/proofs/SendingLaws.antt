@@ -1,5 +1,5 @@
 -- What a node makes of a packet that it sends.
-use Rattle.std.proofs.Common.{◌≡◌, ◌↔◌, ℕ, ◌-◌, Bool, true, false, IsTrue, List, [], ◌∷◌, ◌++◌, length, take, drop, slice_index, Option, Some, None, Ok, Err, refl, sym, ◌∙◌, ap, subst, append-nil}
+use Rattle.std.proofs.Common.{◌≡◌, ◌↔◌, ℕ, ◌-◌, Bool, true, false, IsTrue, List, [], ◌∷◌, ◌++◌, length, take, slice_index, Option, Some, None, Ok, Err, refl, sym, ◌∙◌, ap, subst, append-nil}
 use Rattle.std.specs.Prelude.{if◌then◌else◌, nat_eq, nat_le, nat_lt}
 use Rattle.ioam_ip.specs.Chain.{IsSound}
 use Rattle.ioam_ip.specs.ChainOptions.{CarriesIoam}
@@ -86,12 +86,6 @@ clean_is seat time (way.Port port) packet came now same can is is_packet sound c
 take_front : (xs ys : List ℕ) → take (length xs) (xs ++ ys) ≡ xs
 take_front [] ys = refl
 take_front (x ∷ xs) ys = ap (λ (rest : List ℕ). x ∷ rest) (take_front xs ys)
-
--- what a vector holds whose octets were changed as a slice of as many
-pub whole_changed : (now items : List ℕ) (len : ℕ) → length now ≡ len → take len (now ++ drop (length now) items) ≡ now
-whole_changed now items len long =
-    let P : ℕ → Type 0 = λ n. take n (now ++ drop (length now) items) ≡ now in
-    subst P long (take_front now (drop (length now) items))
 
 -- what was added, in the files of the definition
 pub adds_for : (seat : Seat) (old new : List Output) (number time : ℕ) (sent : Way) (packet p : List ℕ) (name : List ℕ) (notes : List NodeNote) (exports : List ℕ)

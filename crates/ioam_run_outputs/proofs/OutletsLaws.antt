@@ -56,11 +56,6 @@ taps_push : (links : List Link) (link : Link) → taps_of (links ++ link ∷ [])
 taps_push [] link = omega arith
 taps_push (first ∷ links) link = let rest : taps_of (links ++ link ∷ []) ≡ taps_of links + count_of link.tap = taps_push links link in omega (arith, rest)
 
-pub taps_step : (links : List Link) (place : ℕ) (link : Link) → place < length links → link ≡ get_or links place link
-    → taps_of (take (place + 1) links) ≡ taps_of (take place links) + count_of link.tap
-taps_step links place link inside is =
-    ap taps_of (take_more links place link inside ∙ ap (λ (l : Link). take place links ++ l ∷ []) (sym is)) ∙ taps_push (take place links) link
-
 -- these links are below a number
 abbrev AreBelow : ℕ → List LinkId → Type 0
 AreBelow most ids = All (λ link. link.0 < most) ids
@@ -151,7 +146,3 @@ each_behind {A} {B} g front (x ∷ xs) =
     let Q : List A → Type 0 = λ l. each_from (length xs) (suc (length front)) (λ n. g (slice_get l n)) ≡ map (λ y. g (Some y)) xs in
     ap (λ (at : Option A). g at ∷ each_from (length xs) (suc (length front)) (λ n. g (slice_get all n))) there
     ∙ ap (λ (l : List B). g (Some x) ∷ l) (subst Q grown (subst P count (each_behind g (front ++ x ∷ []) xs)))
-
-pub each_from-slice : {A B : Type 0} (g : Option A → B) (xs : List A)
-    → each_from (length xs) 0 (λ n. g (slice_get xs n)) ≡ map (λ x. g (Some x)) xs
-each_from-slice g xs = each_behind g [] xs

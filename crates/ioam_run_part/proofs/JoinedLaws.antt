@@ -1,6 +1,6 @@
 -- What two parts join to.
-use Rattle.std.proofs.Common.{◌≡◌, ℕ, ◌<◌, ◌≤◌, Bool, List, length, ◌++◌, refl, sym, ap, ◌∙◌, subst, inl, inr, arith, Option, None, Some, Ok, Err}
-use Rattle.std.specs.Prelude.{Result, MatchOption}
+use Rattle.std.proofs.Common.{◌≡◌, ℕ, Bool, List, length, ◌++◌, refl, sym, ap, ◌∙◌, subst, inl, inr, arith, Option, None, Some, Ok, Err}
+use Rattle.std.specs.Prelude.{Result}
 use Rattle.ioam_desk.specs.Desk.{Writing}
 use Rattle.ioam_desk.specs.declared.fault.DeskFault.{DeskFault}
 use Rattle.ioam_desk.specs.declared.fault.DeskFault.TheVariants.{Failed, NoMemory}
@@ -50,11 +50,6 @@ pub written : (tells : Bool) (name : List ℕ) (xs ys : List Record) (old new : 
 written tells name xs ys old new text (Ok done) few part stores = (few, record { text = text; part = part; held = stores.1 }, stores.0)
 written tells name xs ys old new text (Err Failed) few part stores = (stores.0, record { text = text; part = part; held = stores.1 })
 written tells name xs ys old new text (Err NoMemory) few part stores = inr (record { text = text; part = part; held = stores })
-
--- what a walk was found to have
-pub counts_as : (ps : List (Key × Entry)) (count : Option ℕ) → MatchOption count (1048576 < length ps) (λ n. (n ≡ length ps) × (n ≤ 1048576)) → Counts ps count
-counts_as ps None past = past
-counts_as ps (Some n) counts = counts
 
 -- how many records both have, by how many come of a walk
 pub counted : (one two : List ℕ) (xs ys : List Record) (count : Option ℕ) → IsPart one xs → IsPart two ys → Counts (united (keyed xs) (keyed ys)) count → CountsBoth xs ys count

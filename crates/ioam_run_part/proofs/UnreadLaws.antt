@@ -90,10 +90,6 @@ undecided_few limit octets r none stands = few_by limit octets r (sound limit oc
 
 -- ---- a piece more
 
-none_or : (o : Option (ℕ × PartFault)) → (o ≡ None) ⊎ (is_some o ≡ true)
-none_or None = inl refl
-none_or (Some bad) = inr refl
-
 -- nothing was decided
 pub undecided : (o : Option (ℕ × PartFault)) (left : ℕ) → (is_some o || nat_lt left 65536) ≡ false → (o ≡ None) × (65536 ≤ left)
 undecided None left none = (refl, grind (arith, none))
@@ -127,9 +123,6 @@ kept_more tells first old new slot into (Ok count) kept reads =
 kept_more tells first old new slot into (Err Failed) kept reads =
     ((λ k apart. ap (λ (left : ℕ → List ℕ). left k) reads.1 ∙ kept.0 k apart), (λ k apart. ap (λ (ended : ℕ → Bool). ended k) reads.2 ∙ kept.1 k apart))
 kept_more tells first old new slot into (Err NoMemory) kept reads = subst (λ now. ReadsOne slot first now) (sym reads) kept
-
-pub kept_none : (slot : ℕ) (old : desk.Reading) → ReadsOne slot old old
-kept_none slot old = ((λ k apart. refl), (λ k apart. refl))
 
 -- ---- how it ends
 

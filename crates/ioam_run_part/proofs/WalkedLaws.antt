@@ -64,9 +64,6 @@ module _ (tells : Bool) (slot : ℕ) where
     pub comes : Comes walk rest
     pub grows : GrowsBut tells slot octets (gathered ++ pairs_octets rest) first now
 
-  pub waits_first : (gathered : List ℕ) (walk : Walking) (desk : Writing) (ps : List (Key × Entry)) → Comes walk ps → Waits (gathered ++ pairs_octets ps) gathered walk desk desk
-  waits_first gathered walk desk ps comes = record { rest = ps; comes = comes; grows = record { sent = []; grows = grows_none desk; are = refl } }
-
   -- the octets that wait, where the next ones are these
   split : (gathered octets : List ℕ) (rest : List (Key × Entry)) (new : Walking) (next : NextIs rest octets new) → gathered ++ pairs_octets rest ≡ (gathered ++ octets) ++ pairs_octets next.rest
   split gathered octets rest new next =

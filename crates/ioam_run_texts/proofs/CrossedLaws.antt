@@ -70,15 +70,6 @@ kept-step link kept visits place visit d old items new inside is before now =
     length-taken (x ∷ xs) zero lt = refl
     length-taken (x ∷ xs) (suc n) lt = ap suc (length-taken xs n (omega (arith, lt)))
 
--- what was kept of one visit
-pub kept-some : (time : ℕ) (found : Option (List ℕ)) (octets old new : List ℕ) → found ≡ Some octets → new ≡ old ++ record_octets time octets
-    → new ≡ old ++ records_text (kept_at time found)
-kept-some time found octets old new is adds = adds ∙ ap (λ (t : List ℕ). old ++ t) (sym (append-nil (record_octets time octets)))
-    ∙ ap (λ (f : Option (List ℕ)). old ++ records_text (kept_at time f)) (sym is)
-
-pub kept-none : (time : ℕ) (found : Option (List ℕ)) (old : List ℕ) → found ≡ None → old ≡ old ++ records_text (kept_at time found)
-kept-none time found old is = sym (append-nil old) ∙ ap (λ (f : Option (List ℕ)). old ++ records_text (kept_at time f)) (sym is)
-
 -- ---- they are those of the arrival
 
 -- a visit that goes by a link with a tap

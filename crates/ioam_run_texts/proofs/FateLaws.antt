@@ -1,5 +1,5 @@
 -- How an arrival's packet goes, step by step.
-use Rattle.std.proofs.Common.{ℕ, List}
+use Rattle.std.proofs.Common.{List}
 use Rattle.ioam_batch.specs.Sample.{Sample}
 use Rattle.ioam_plan.specs.Plans.{Plans}
 use Rattle.ioam_plan.specs.declared.itinerary.Itinerary.{Itinerary}

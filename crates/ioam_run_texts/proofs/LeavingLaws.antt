@@ -80,9 +80,6 @@ last_visit (visit ∷ visits) v has = last_of (visit ∷ visits) v (length (visi
 pub one-record : (old items : List ℕ) (s : Sent) → items ≡ old ++ record_octets s.time s.octets → items ≡ old ++ records_text (s ∷ [])
 one-record old items s is = is ∙ ap (λ (t : List ℕ). old ++ t) (sym (append-nil (record_octets s.time s.octets)))
 
-pub no-record : (old : List ℕ) → old ≡ old ++ records_text []
-no-record old = sym (append-nil old)
-
 -- ---- what leaves of a job, whether it ran or not
 
 -- what stands in a packet from a place on is what it carries
@@ -112,11 +109,6 @@ module _ (domain : Domain) (readings : List (List Sample)) (packet : List ℕ) (
   plain-by None none held = ap (λ (p : List ℕ). record { time = last_time itinerary.visits; octets = p } ∷ []) held.0
   plain-by (Some carried) none held = let never : Some carried ≡ None = none in cc
 
-  -- one that didn't reach its exit
-  inside-by : (carried : Option (FlowId × Numbers)) → IsSome carried → [] ≡ leaves_by packet itinerary.visits false carried
-  inside-by None some = let never : false ≡ true = some in cc
-  inside-by (Some carried) some = refl
-
   -- one that did
   twice : IsPacket packet → lowered 1 (lowered 1 packet) ≡ lowered 2 packet
   twice is = lowered-more packet (lowered 1 packet) 1 (omega (arith, is.header_there)) refl
@@ -143,13 +135,6 @@ module _ (domain : Domain) (job : Job) where
       ap (λ (t : ℕ). record { time = t; octets = job.packet.items } ∷ []) (when ∙ ap (λ (it : Itinerary). last_time it.visits) way)
       ∙ plain-by domain readings fate.packet fate.itinerary job fate.itinerary.carried (subst (λ (it : Itinerary). it.carried ≡ None) way none)
       (after domain readings fate job ran)
-
-  pub none-leaves : IsSome job.itinerary.carried → job.itinerary.exited ≡ false → AreLeaving domain job []
-  none-leaves some not readings fate ran =
-      let way = same-way domain readings fate job ran in
-      let stays : fate.itinerary.exited ≡ false = subst (λ (it : Itinerary). it.exited ≡ false) way not in
-      inside-by domain readings fate.packet fate.itinerary job fate.itinerary.carried (subst (λ (it : Itinerary). IsSome it.carried) way some)
-      ∙ ap (λ (b : Bool). leaves_by fate.packet fate.itinerary.visits b fate.itinerary.carried) (sym stays)
 
   pub inside-leaves : (time : ℕ) (inner : Option (List ℕ)) → IsSome job.itinerary.carried → job.itinerary.exited ≡ true
       → time ≡ last_time job.itinerary.visits → GivesInside job.packet.items inner → AreLeaving domain job (lowered_at time inner)

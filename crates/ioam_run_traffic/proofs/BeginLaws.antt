@@ -1,5 +1,5 @@
 -- Traffic of which nothing was taken yet.
-use Rattle.std.proofs.Common.{◌≡◌, ℕ, ◌+◌, ◌<◌, Bool, IsTrue, List, [], length, sym, ◌∙◌, ap, subst, arith}
+use Rattle.std.proofs.Common.{◌≡◌, ℕ, ◌+◌, Bool, IsTrue, List, [], length, sym, ◌∙◌, ap, subst, arith}
 use Rattle.std.proofs.lemmas.List.{length-map}
 use Rattle.std.proofs.lemmas.List.Elements.{All-nil}
 use Rattle.ioam_desk.specs.Desk.{Side, Reading, Writing, holds, opened_each}
@@ -94,18 +94,12 @@ module _ (tells opens : Bool) (domain : Domain) (readings : List (List Sample)) 
 
 -- the files as they were opened
 module _ (files : Files) (ins outs : List (List ℕ)) (reading : Reading) (writing : Writing) (known : files ≡ files_of ins outs reading writing) where
-  pub known_names : files.names ≡ outs
-  known_names = ap (λ (f : Files). f.names) known
-
   pub known_sized : length files.lanes.contents ≡ length ins
   known_sized = ap (λ (f : Files). length f.lanes.contents) known ∙ length-map ins (holds writing)
 
   pub known_opened : (opens : Bool) (domain : Domain) (readings : List (List Sample)) (ports : List PortId) (new : Reading) → new.side.slots ≡ reading.side.slots + length ins
       → AreOpened (course_with opens domain readings ports files) new
   known_opened opens domain readings ports new slots = omega (arith, slots, known_sized, ap (λ (f : Files). f.lanes.base) known)
-
-  pub known_fewer : (new : Reading) → new.side.slots < reading.side.slots + length ins → new.side.slots < files.lanes.base + length files.lanes.contents
-  known_fewer new slots = omega (arith, slots, known_sized, ap (λ (f : Files). f.lanes.base) known)
 
   pub known_merging : (tells : Bool) (inputs now : Reading) (merge : Merge) → now ≡ inputs
       → Merging tells (start_of reading.side.slots writing ins) inputs merge [] → Merging tells files.lanes now merge []

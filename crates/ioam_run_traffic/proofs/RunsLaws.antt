@@ -9,7 +9,7 @@ use Rattle.ioam_clock.specs.declared.sample.Sample.{Sample}
 use Rattle.ioam_run_arrivals.specs.Fate.{Frame}
 use Rattle.ioam_run_arrivals.specs.Texts.{way_of}
 use Rattle.ioam_run_arrivals.proofs.OneFateLaws.{AreFates-length}
-use Rattle.ioam_run_arrivals.specs.Forwarding.{Forwards, IsOf, taken}
+use Rattle.ioam_run_arrivals.specs.Forwarding.{Forwards, taken}
 use Rattle.ioam_run_arrivals.specs.declared.forwarding.Forwarding.{Forwarding}
 use Rattle.ioam_capture_merge.specs.Merging as merging
 use Rattle.ioam_capture_merge.specs.Merging.{Begins, IsFile, FilesBegin, Row, Merging, Comes}
@@ -56,9 +56,6 @@ module _ (tells : Bool) (course : Course) (Were : List Arrival → Type 0) (outp
     Forwards-count course.opens course.domain course.readings (frames_of course.ports runs.taken) runs.texts gathered runs.forwards,
     length-map runs.taken (frame_of course.ports),
   )
-
-  pub Runs-of : IsOf course.domain gathered
-  Runs-of = runs.forwards.of
 
   -- something else is known of what was taken
   pub Runs-so : (Are : List Arrival → Type 0) → Are runs.taken → Runs tells course Are outputs gathered tellers

@@ -51,9 +51,6 @@ module _ (table : Table) (most : ℕ) (d : Option Data) (faults : List Members �
       let same : NoMemory ≡ refused = cc in
       subst (λ (r : DomainRefused). Gives {A = T} (Err r) (table_faults table most d faults) P) same tt
 
-  pub rows_few : (xs : List Members) → rows most d ≡ Ok xs → length xs ≤ most
-  rows_few xs read = (read_few most (array_at d) xs read).1
-
   -- the entries of rows that were read, collected
   pub rows_taken : {T : Type 0} (P : List Members → T → Type 0) (xs : List Members) (result : Result T DomainRefused) → rows most d ≡ Ok xs
       → Gives result (each faults [] xs) (P xs) → Gives result (table_faults table most d faults) (P (entries d))

@@ -29,10 +29,6 @@ few_of : (table : Table) (most : ℕ) (r : Result (List Members) Why) → at tab
 few_of table most (Ok xs) is = few_in table most xs (nat_le (length xs) most) refl is
 few_of table most (Err why) is = omega arith
 
--- a table without faults has no more entries than the most
-pub entries_few : (table : Table) (most : ℕ) (d : Option Data) (F : List Members → Members → List DomainFault) → table_faults table most d F ≡ [] → length (entries d) ≤ most
-entries_few table most d F is = few_of table most (array_at d) (front_none (at table 0 NoKey (rows most d)) (each F [] (entries d)) is)
-
 -- and gives no more than these
 pub few_entries : {A : Type 0} (read : Members → Result A Why) (table : Table) (most : ℕ) (d : Option Data) (F : List Members → Members → List DomainFault)
     → table_faults table most d F ≡ [] → length (goods read (entries d)) ≤ most

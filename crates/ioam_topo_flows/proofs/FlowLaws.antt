@@ -1,12 +1,11 @@
 -- Laws of the flows that are collected.
-use Rattle.std.proofs.Common.{◌≡◌, ℕ, ◌+◌, List, [], ◌∷◌, ◌++◌, map, length, Bool, true, false, Option, Some, None, Result, Ok, Err, refl, ap, sym, ◌∙◌, subst}
+use Rattle.std.proofs.Common.{◌≡◌, ℕ, ◌+◌, List, [], ◌∷◌, ◌++◌, map, length, false, Option, Result, Ok, Err, refl, ap, sym, ◌∙◌, subst}
 use Rattle.std.specs.List.{list_any}
 use Rattle.std.specs.Str.{bytes_eq}
-use Rattle.toml.specs.Data.{Data, Members}
+use Rattle.toml.specs.Data.{Members}
 use Rattle.ioam_data.specs.declared.namespace.Namespace.{Namespace}
 use Rattle.ioam_topo_values.specs.declared.why.Why.{Why}
-use Rattle.ioam_topo_values.specs.Reads.{◌▷◌, needed, maybe}
-use Rattle.ioam_topo_values.specs.Pairs.{beside}
+use Rattle.ioam_topo_values.specs.Reads.{◌▷◌}
 use Rattle.ioam_topo_tables.specs.declared.flows.Flows.{Flows}
 use Rattle.ioam_topo.specs.declared.parts.Flow.{Flow}
 use Rattle.ioam_topo_flows.specs.declared.flow_parts.Selection.{Selection}
@@ -101,18 +100,3 @@ module _ (nodes : List (List ℕ)) (lists : List (Result (List Namespace) Why)) 
 module _ (xs ys zs ps qs es : List DomainFault) where
   pub last_of_six : xs ≡ [] → ys ≡ [] → zs ≡ [] → ps ≡ [] → qs ≡ [] → xs ++ (ys ++ (zs ++ (ps ++ (qs ++ es)))) ≡ es
   last_of_six x y z p q = rw (x, y, z, p, q)
-
--- an id that may be absent is that of its namespace
-read_kept : (space : ℕ) (r : Result ℕ Why) (other : Bool) (id : Option ℕ) → r ▷ (λ x. Ok (Some x)) ▷ beside other ≡ Ok id
-    → kept (Ok space ▷ (λ s. r ▷ (λ x. Ok (s, x)))) [] ≡ pairs_of space id
-read_kept space (Ok n) other id is = let some : id ≡ Some n = cc in rw some
-read_kept space (Err why) other id is = cc
-
-none_beside : (other : Bool) (id : Option ℕ) → beside other None ≡ Ok id → id ≡ None
-none_beside true id is = cc
-none_beside false id is = cc
-
-pub id_kept : (kind : Data → Result ℕ Why) (space : ℕ) (d : Option Data) (other : Bool) (id : Option ℕ) → maybe kind d ▷ beside other ≡ Ok id
-    → kept (Ok space ▷ (λ s. needed kind d ▷ (λ x. Ok (s, x)))) [] ≡ pairs_of space id
-id_kept kind space None other id is = let none : id ≡ None = none_beside other id is in rw none
-id_kept kind space (Some d) other id is = read_kept space (kind d) other id is

@@ -1,5 +1,5 @@
 -- What an entry node joins is the outer packet before any visit.
-use Rattle.std.proofs.Common.{◌≡◌, ℕ, ◌+◌, ◌-◌, ◌*◌, ◌/◌, ◌%◌, ◌<◌, ◌≤◌, Bool, true, false, cond, eqb, List, [], ◌∷◌, ◌++◌, length, map, slice_index, Option, Some, None, is_some, refl, sym, ap, ◌∙◌, arith, length-append}
+use Rattle.std.proofs.Common.{◌≡◌, ℕ, ◌+◌, ◌-◌, ◌<◌, false, cond, eqb, List, [], ◌∷◌, ◌++◌, length, map, slice_index, Option, Some, None, is_some, refl, ap, ◌∙◌, arith, length-append}
 use Rattle.std.specs.List.{All}
 use Rattle.std.proofs.lemmas.List.{length-set, map-append}
 use Rattle.std.proofs.lemmas.Bool.Decides.{nat_tests}
@@ -104,12 +104,6 @@ module _ (source target : ℕ) (flow : Flow) (numbers : Numbers) (packet : List 
         length-append targets tunnel.inner,
         length-set packet 7 (slice_index packet 7 - 1),
       )
-
-  -- the headers and the packet fit a payload
-  pub payload-fits : (next : ℕ) (hop targets : List ℕ) → hop ≡ header_if next laid → targets ≡ header_if 41 tunnel.targets
-      → length hop + length targets + length packet ≤ 65535
-  payload-fits next hop targets hop_is targets_is =
-      omega (arith, ap length hop_is ∙ hop-length next, ap length targets_is ∙ target-length, may.size)
 
   pub whole-length : length (wire tunnel 0 no_elements) ≡ outer_size flow (length packet) (is_some numbers.direct) (is_some numbers.limit)
   whole-length = length-packet tunnel (limit_after tunnel 0) laid ∙ behind-length

@@ -1,5 +1,5 @@
 -- An enclosed packet has a whole chain where the packet that it carries has one, and that packet is found in it.
-use Rattle.std.proofs.Common.{◌≡◌, ℕ, ◌+◌, ◌*◌, ◌/◌, ◌<◌, ◌≤◌, List, ◌++◌, length, drop, Option, Some, None, MatchOption, refl, sym, ap, ◌∙◌, subst, arith, append_assoc, length-append}
+use Rattle.std.proofs.Common.{◌≡◌, ℕ, ◌+◌, ◌<◌, List, ◌++◌, length, drop, Option, Some, None, MatchOption, refl, sym, ap, ◌∙◌, subst, arith, append_assoc, length-append}
 use Rattle.std.specs.List.{find}
 use Rattle.std.specs.declared.ops.Range.{Range}
 use Rattle.std.proofs.lemmas.List.{drop_at}
@@ -99,6 +99,3 @@ none-first packet first place at = let same = first-same packet None place first
 
 pub head-first : (packet : List ℕ) (head : Head) → FirstOther packet (Some head) → (place : ℕ) → (at : InnerAt packet place) → head ≡ at.head
 head-first packet head first place at = let same = first-same packet (Some head) place first at in cc
-
-pub not-sound : (packet : List ℕ) (place : ℕ) → (IsSound packet → ⊥) → InnerAt packet place → ⊥
-not-sound packet place never at = never (record { heads = at.heads; upper = at.are_heads.upper; at = at.are_heads.at; chain = at.are_heads.chain })

@@ -1,17 +1,14 @@
 -- Options that are laid out one after the other.
-use Rattle.std.proofs.Common.{◌≡◌, ℕ, ◌+◌, ◌-◌, ◌<◌, ◌≤◌, ◌||◌, Bool, true, false, IsTrue, get_or, List, [], ◌∷◌, ◌++◌, length, map, drop, Option, Some, None, is_some, refl, sym, ap, ◌∙◌, subst, arith, append_assoc, length-append}
+use Rattle.std.proofs.Common.{◌≡◌, ℕ, ◌+◌, ◌-◌, ◌<◌, ◌≤◌, Bool, true, false, get_or, List, [], ◌∷◌, ◌++◌, length, map, drop, sym, ap, ◌∙◌, subst, arith, append_assoc, length-append}
 use Rattle.std.specs.List.{All}
 use Rattle.std.proofs.lemmas.List.{append-nil, drop_all, drop_more}
 use Rattle.std.proofs.lemmas.List.Elements.{All-nil, All-cons}
-use Rattle.ioam_data.specs.declared.namespace.Namespace.{Namespace}
 use Rattle.ioam_ip.specs.Laid.{Part, header_of, header_if, laid_with}
 use Rattle.ioam_ip.specs.Layout.{padding, gap_before, with_option, finished}
 use Rattle.ioam_ip.proofs.LayLaws.{laid_with-append, finished-laid}
 use Rattle.ioam_ip.specs.Sizes.{options_end}
-use Rattle.ioam_topo.specs.declared.parts.Flow.{Flow}
 use Rattle.ioam_topo.specs.declared.traces.FlowTrace.{FlowTrace}
-use Rattle.ioam_tunnel.specs.declared.numbers.Numbers.{Numbers}
-use Rattle.ioam_tunnel.specs.Enclosed.{room_of, direct_parts, limit_parts, edge_parts, has_parts}
+use Rattle.ioam_tunnel.specs.Enclosed.{room_of, has_parts}
 use Rattle.ioam_tunnel.specs.Outer.{Writing, more, with_parts, behind}
 use Rattle.ioam_tunnel.specs.Size.{trace_size}
 use Rattle.ioam_tunnel.specs.Wire.{IsRoom, trace_parts, no_elements}
@@ -134,21 +131,6 @@ module _ (old begun : Writing) (next : ℕ) (first second : List Part) (none : o
 abbrev pub has_traces : List FlowTrace → Bool
 has_traces [] = false
 has_traces (trace ∷ traces) = true
-
--- whether there are options, by what they are of
-pub has_hop-parts : (traces : List FlowTrace) (flow : Flow) (kind seq : Option ℕ) → (IsTrue (is_some seq) → IsTrue (is_some kind))
-    → has_parts (trace_parts (map room_of traces) no_elements ++ direct_parts flow kind seq) ≡ (has_traces traces || is_some seq)
-has_hop-parts (trace ∷ traces) flow kind seq only = refl
-has_hop-parts [] flow (Some kind) (Some seq) only = refl
-has_hop-parts [] flow (Some kind) None only = refl
-has_hop-parts [] flow None (Some seq) only = absurd (cc (only refl))
-has_hop-parts [] flow None None only = refl
-
-pub has_target-parts : (namespace : Namespace) (limit edge : Option ℕ) (numbers : Numbers)
-    → has_parts (limit_parts limit ++ edge_parts namespace edge numbers) ≡ (is_some limit || is_some edge)
-has_target-parts namespace (Some limit) edge numbers = refl
-has_target-parts namespace None (Some kind) numbers = refl
-has_target-parts namespace None None numbers = refl
 
 -- ---- the traces one after the other
 

@@ -214,13 +214,3 @@ closed octets start end n writing is ordered within some =
     let made : writing_of (slice_set octets (start + 1) n) end end ≡ behind (writing_of octets start end) set =
     λ i. record { front = all i; laid = none i; most = most i } in
     made ∙ ap (λ (w : Writing). behind w (slice_set w.laid 1 n)) is
-
--- what stands behind it stays
-pub zeros-kept : (octets : List ℕ) (end at n : ℕ) → at < end → end ≤ length octets → drop end (slice_set octets at n) ≡ drop end octets
-zeros-kept octets end at n below within =
-    let front : take end octets ++ drop end octets ≡ octets = take-append-drop end octets in
-    let long : length (take end octets) ≡ end = omega (arith, length-take end octets) in
-    let kept : length (slice_set (take end octets) at n) ≡ end = omega (arith, length-set (take end octets) at n, long) in
-    ap (λ xs. drop end (slice_set xs at n)) (sym front)
-    ∙ ap (drop end) (set-append_left (take end octets) (drop end octets) at n (omega (arith, long)))
-    ∙ drop_at (slice_set (take end octets) at n) (drop end octets) end kept

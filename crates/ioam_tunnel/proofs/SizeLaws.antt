@@ -1,5 +1,5 @@
 -- How long the options of an outer packet are.
-use Rattle.std.proofs.Common.{◌≡◌, ◌≢◌, ℕ, zero, suc, ◌+◌, ◌*◌, ◌<◌, ◌≤◌, Bool, true, false, IsTrue, cond, List, [], ◌∷◌, ◌++◌, length, map, drop, replicate, Option, Some, None, is_some, slice_get, refl, sym, ap, ◌∙◌, arith, length-append}
+use Rattle.std.proofs.Common.{◌≡◌, ◌≢◌, ℕ, suc, ◌+◌, ◌*◌, ◌≤◌, Bool, true, false, IsTrue, cond, List, [], ◌∷◌, ◌++◌, length, map, replicate, Option, Some, None, is_some, refl, ap, ◌∙◌, arith, length-append}
 use Rattle.std.proofs.lemmas.List.{length-replicate}
 use Rattle.ioam_base.specs.Words.{four_octets_if}
 use Rattle.ioam_data.specs.Kind.{words}
@@ -8,7 +8,6 @@ use Rattle.ioam_dex.specs.Direct.{direct_octets}
 use Rattle.ioam_dex.specs.declared.direct.Direct.{Direct}
 use Rattle.ioam_edge.specs.Edge.{asks, edge_octets, fields_size, HasItsFields}
 use Rattle.ioam_edge.proofs.EdgeLaws.{length-edge_octets}
-use Rattle.ioam_ip.specs.Laid.{Part, header_of, header_if}
 use Rattle.ioam_ip.specs.Layout.{padded}
 use Rattle.ioam_ip.specs.Sizes.{Sized, sized, size_with, options_end, header_size}
 use Rattle.ioam_topo.specs.declared.parts.Flow.{Flow}
@@ -18,7 +17,7 @@ use Rattle.ioam_trace.proofs.DataLaws.{trace_data-none}
 use Rattle.ioam_trace.proofs.HeadLaws.{length-header}
 use Rattle.ioam_tunnel.specs.declared.numbers.Numbers.{Numbers}
 use Rattle.ioam_data.specs.Written.{seconds_of, fraction_of}
-use Rattle.ioam_tunnel.specs.Enclosed.{room_of, direct_of, direct_parts, if_asked, edge_of, edge_parts, limit_parts}
+use Rattle.ioam_tunnel.specs.Enclosed.{room_of, direct_of, direct_parts, edge_of, edge_parts, limit_parts}
 use Rattle.ioam_tunnel.specs.Size.{trace_size, direct_sizes, limit_sizes, edge_sizes}
 use Rattle.ioam_tunnel.specs.Wire.{trace_parts, no_elements}
 

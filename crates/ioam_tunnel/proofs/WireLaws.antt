@@ -1,11 +1,10 @@
 -- Laws of an enclosed packet on its way.
-use Rattle.std.proofs.Common.{◌≡◌, ℕ, zero, suc, ◌+◌, ◌-◌, ◌*◌, ◌/◌, ◌<◌, ◌≤◌, Bool, true, false, cond, eqb, List, [], ◌∷◌, ◌++◌, length, take, drop, map, set, get_or, slice_index, slice_range, append_assoc, length-append, refl, sym, ap, ◌∙◌, subst, arith}
-use Rattle.std.proofs.lemmas.List.{take_at, drop_at, get_or_append_left}
+use Rattle.std.proofs.Common.{◌≡◌, ℕ, ◌+◌, ◌-◌, ◌≤◌, Bool, true, false, cond, eqb, List, [], ◌∷◌, ◌++◌, length, take, drop, map, set, slice_index, slice_range, length-append, refl, sym, ap, ◌∙◌, arith}
+use Rattle.std.proofs.lemmas.List.{take_at}
 use Rattle.ioam_base.specs.Octets.{written}
-use Rattle.ioam_ip.specs.Chain.{said_size}
 use Rattle.ioam_ip.specs.Rewriting.{options_in, with_steps}
 use Rattle.ioam_ip.specs.Hop.{has_hop, hop_end, hop_head, HopFits, hop_stepped}
-use Rattle.ioam_ip.specs.Laid.{Part, header_of, parts_end, parts_octets, stepped, AreParts, header_if, value_if}
+use Rattle.ioam_ip.specs.Laid.{Part, header_of, stepped, AreParts, header_if, value_if}
 use Rattle.ioam_base.proofs.WrittenLaws.{written-at}
 use Rattle.ioam_ip.proofs.LaidLaws.{length-header, said-header, header-stepped, parts_end-stepped}
 use Rattle.ioam_tunnel.specs.Wire.{Room, Tunnel, AreConstant, trace_parts, hop_parts, next_value, behind_outer, outer_header, packet_with}

@@ -1,5 +1,5 @@
 -- What an entry node puts around a packet of a flow (RFC 2473 section 3, RFC 9197 sections 4.4 and 4.6, RFC 9326 section 3.2).
-use Rattle.std.specs.Prelude.{ℕ, ◌^◌, ◌+◌, ◌*◌, ◌/◌, ◌%◌, ◌<◌, ◌≤◌, Bool, true, false, IsTrue, if◌then◌else◌, List, [], ◌∷◌, ◌++◌, length, map, Option, Some, None, IfSome, is_some, slice_get}
+use Rattle.std.specs.Prelude.{ℕ, ◌^◌, ◌<◌, ◌≤◌, Bool, true, false, IsTrue, if◌then◌else◌, List, [], ◌∷◌, ◌++◌, length, map, Option, Some, None, is_some, slice_get}
 use Rattle.ioam_data.specs.Written.{seconds_of, fraction_of}
 use Rattle.ioam_data.specs.declared.namespace.Namespace.{Namespace}
 use Rattle.ioam_dex.specs.Direct.{direct_octets}

@@ -1,5 +1,5 @@
 -- How long an outer packet is.
-use Rattle.std.specs.Prelude.{ℕ, ◌+◌, ◌*◌, Bool, if◌then◌else◌, List, [], ◌∷◌, ◌++◌, map, Option, Some, None, slice_get}
+use Rattle.std.specs.Prelude.{ℕ, ◌+◌, ◌*◌, Bool, if◌then◌else◌, List, [], ◌∷◌, ◌++◌, map, Option, Some, None}
 use Rattle.ioam_edge.specs.Edge.{fields_size}
 use Rattle.ioam_ip.specs.Sizes.{Sized, header_size}
 use Rattle.ioam_topo.specs.declared.parts.Flow.{Flow}

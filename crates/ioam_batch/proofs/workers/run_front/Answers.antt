@@ -1,4 +1,4 @@
-use Rattle.std.proofs.Common.{◌≡◌, ◌++◌, List, length, take, sym, subst, ◌∙◌, arith}
+use Rattle.std.proofs.Common.{List, take, sym, subst, ◌∙◌, arith}
 use Rattle.std.specs.List.{AllZip}
 use Rattle.std.proofs.lemmas.List.{drop_at, take_at}
 use Rattle.ioam_batch.specs.Batches.{MayRun}

@@ -1,6 +1,5 @@
-use Rattle.std.proofs.Common.{◌≡◌, ◌+◌, ◌≤◌, ◌++◌, length, ap, ◌∙◌, arith}
+use Rattle.std.proofs.Common.{ap, ◌∙◌, arith}
 use Rattle.ioam_base.specs.Octets.{IsOctets}
-use Rattle.ioam_dex.specs.Record.{record_octets}
 use Rattle.ioam_dex.specs.Room.{Room, appended}
 use Rattle.ioam_dex.proofs.RecordLaws.{record_octets-length, record_size-small}
 use Rattle.ioam_ipfix.specs.Data.{data_at}

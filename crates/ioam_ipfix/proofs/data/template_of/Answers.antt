@@ -1,4 +1,4 @@
-use Rattle.std.proofs.Common.{◌≡◌, ◌≤◌, length, ap, ◌∙◌, arith}
+use Rattle.std.proofs.Common.{length, ap, ◌∙◌, arith}
 use Rattle.ioam_ipfix.proofs.DataLaws.{template-by}
 use Rattle.ioam_ipfix.proofs.data.template_of.Goals as goal
 

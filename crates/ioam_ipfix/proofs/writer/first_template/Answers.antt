@@ -1,4 +1,4 @@
-use Rattle.std.proofs.Common.{◌≡◌, ◌∙◌}
+use Rattle.std.proofs.Common.{◌∙◌}
 use Rattle.ioam_ipfix.proofs.RunLaws.{first-is}
 use Rattle.ioam_ipfix.proofs.writer.first_template.Goals as goal
 

@@ -1,4 +1,4 @@
-use Rattle.std.proofs.Common.{◌≡◌, ◌+◌, length, ap, arith}
+use Rattle.std.proofs.Common.{length, ap, arith}
 use Rattle.ioam_ipfix.proofs.RunLaws.{front-small}
 use Rattle.ioam_ipfix.proofs.writer.front_in.Goals as goal
 

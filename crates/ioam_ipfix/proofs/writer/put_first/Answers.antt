@@ -1,6 +1,6 @@
-use Rattle.std.proofs.Common.{◌≡◌, ◌+◌, ◌++◌, List, ℕ, length, take, ap, sym, ◌∙◌, arith}
+use Rattle.std.proofs.Common.{◌≡◌, ◌++◌, length, ap, ◌∙◌, arith}
 use Rattle.ioam_base.specs.Octets.{u16_at}
-use Rattle.ioam_dex.specs.Record.{Record, record_octets}
+use Rattle.ioam_dex.specs.Record.{record_octets}
 use Rattle.ioam_ipfix.specs.Data.{moved}
 use Rattle.ioam_ipfix.proofs.DataLaws.{moved-is}
 use Rattle.ioam_ipfix.proofs.RunLaws.{first-is, first-size, first-fits, front-small}

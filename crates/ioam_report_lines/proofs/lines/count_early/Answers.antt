@@ -1,6 +1,5 @@
-use Rattle.std.proofs.Common.{◌≡◌, ◌*◌, ◌-◌, ◌/◌, ◌<◌, ◌≤◌, ℕ, List, length, length-drop, drop, sym, ap, ◌∙◌, arith, rules}
+use Rattle.std.proofs.Common.{◌≡◌, ◌*◌, ◌-◌, ◌/◌, ◌≤◌, ℕ, List, length, length-drop, drop, sym, ap, ◌∙◌, arith, rules}
 use Rattle.ioam_data.specs.Kind.{words}
-use Rattle.ioam_trace.specs.Area.{elements_of}
 use Rattle.ioam_report_lines.proofs.CountLaws.{length-equal}
 use Rattle.ioam_report_lines.proofs.lines.count_early.Goals as goal
 

@@ -1,9 +1,8 @@
-use Rattle.std.proofs.Common.{◌≡◌, ◌+◌, length, ℕ, List, Option, Some, slice_get, is_some, IfSome, refl, sym, ap, ◌∙◌, subst, arith}
+use Rattle.std.proofs.Common.{◌≡◌, length, ℕ, Option, is_some, IfSome, sym, ap, ◌∙◌, subst}
 use Rattle.ioam_ip.specs.Chain.{IsSound}
 use Rattle.ioam_ip.specs.Hop.{HopFits}
 use Rattle.ioam_ip.specs.Packet.{IsPacket}
 use Rattle.ioam_ip.proofs.SoundLaws.{IsSound-lowered, IsPacket-lowered}
-use Rattle.ioam_topo.specs.Domain.{flows, nodes}
 use Rattle.ioam_topo.specs.declared.parts.Flow.{Flow}
 use Rattle.ioam_tunnel.specs.Enclosed.{MayEnclose, tunnel_of, tunnel_by, tunnel_between, address_of}
 use Rattle.ioam_tunnel.specs.Size.{outer_size}

@@ -1,4 +1,4 @@
-use Rattle.std.proofs.Common.{◌+◌, ◌*◌, [], List, ℕ, arith}
+use Rattle.std.proofs.Common.{[], List, ℕ, arith}
 use Rattle.ioam_trace.specs.Data.{trace_data}
 use Rattle.ioam_tunnel.proofs.LayLaws.{length-option, option-laid}
 use Rattle.ioam_tunnel.proofs.SizeLaws.{length_trace}

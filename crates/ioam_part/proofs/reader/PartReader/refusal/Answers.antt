@@ -1,4 +1,4 @@
-use Rattle.std.proofs.Common.{◌≡◌, ◌+◌, ◌-◌, ◌<◌, ℕ, List, length, true, false, refl, sym, ap, ap₂, ◌∙◌, subst, arith, None}
+use Rattle.std.proofs.Common.{◌≡◌, ◌+◌, ◌-◌, ℕ, List, length, sym, ap, ◌∙◌, subst, arith, None}
 use Rattle.ioam_base.specs.Octets.{u32_at}
 use Rattle.ioam_dex.specs.Reader as dex
 use Rattle.ioam_part.specs.Faults.{HasFault}

@@ -1,4 +1,4 @@
-use Rattle.std.proofs.Common.{List, ℕ, sym, subst}
+use Rattle.std.proofs.Common.{sym, subst}
 use Rattle.ioam_part_merge.specs.Keeping.{Keeping, Keeps}
 use Rattle.ioam_part_merge.proofs.keeper.PartKeeper.finish.Goals as goal
 

@@ -1,4 +1,4 @@
-use Rattle.ioam_part_merge.specs.Walk.{Walking, sides}
+use Rattle.ioam_part_merge.specs.Walk.{sides}
 use Rattle.ioam_part_merge.proofs.WalkLaws.{begins, body_is}
 use Rattle.std.proofs.Common.{◌∙◌}
 use Rattle.ioam_part_merge.proofs.walk.Walk.new.Goals as goal
