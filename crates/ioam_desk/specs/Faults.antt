@@ -18,6 +18,11 @@ faults_after faults (Ok _) = faults
 faults_after faults (Err Failed) = one_more faults
 faults_after faults (Err NoMemory) = faults
 
+-- how many calls on files failed, after one more call
+abbrev pub errors_after : {A E : Type 0} → ℕ → Result A E → ℕ
+errors_after errors (Ok _) = errors
+errors_after errors (Err _) = errors + 1
+
 -- a call failed where it had to, and nowhere else, but for want of memory
 abbrev pub FailsIf : {A : Type 0} → Bool → Result A DeskFault → Type 0
 FailsIf must (Ok _) = must ≡ false

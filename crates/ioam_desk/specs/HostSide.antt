@@ -1,5 +1,5 @@
 -- One kind of slots over real files.
-use Rattle.std.specs.Prelude.{◌≡◌, ◌≢◌, ⊤, ◌++◌, ◌∷◌, [], ℕ, List, All, length, Option, Some, option_map, option_and_then, Result, Ok, Err, vec_len}
+use Rattle.std.specs.Prelude.{◌≡◌, ◌≢◌, ◌++◌, ◌∷◌, [], ℕ, List, All, length, ◌+◌, IfSome, Option, None, Some, option_map, option_and_then, Result, Ok, Err, vec_len}
 use Rattle.std.specs.List.{slice_get}
 use Rattle.ioam_desk.specs.Desk.{Side, opened_side}
 use Rattle.ioam_desk.specs.declared.file_system.Identity.{Identity}
@@ -44,6 +44,10 @@ pub record ChangesFile {F : Type 0} (old new : List (Slot F)) (slot : ℕ) (to :
   pub identity : option_map (λ (one : Slot F). one.opened.identity) (slice_get new slot) ≡ option_map (λ (one : Slot F). one.opened.identity) (slice_get old slot)
   pub file : (before after : Slot F) → slice_get old slot ≡ Some before → slice_get new slot ≡ Some after → to before.opened.file after.opened.file
 
+-- of the file of a slot this is so
+abbrev pub IsOfSlot : {F A : Type 0} → (F → A → Type 0) → List (Slot F) → ℕ → A → Type 0
+IsOfSlot so slots slot x = IfSome (slice_get slots slot) (λ one. so one.opened.file x)
+
 -- none of the slots is over this file
 abbrev pub IsApart : {F : Type 0} → Identity → List (Slot F) → Type 0
 IsApart identity slots = All (λ slot. slot.opened.identity ≢ Some identity) slots
@@ -80,13 +84,29 @@ IsOfSystem said reason.IsInput = ⊥
 IsOfSystem said reason.IsOutput = ⊥
 IsOfSystem said reason.TakesNone = ⊥
 
--- a read fails by what the system said
-abbrev pub IsOfRead : Reason → Type 0
-IsOfRead = IsOfSystem (λ _. ⊤)
+-- a write failed by what the system said of it, or as it took nothing
+abbrev pub IsOfWrite : (Reason → Type 0) → Type 0 → Reason → Type 0
+IsOfWrite said none (reason.System why) = said (reason.System why)
+IsOfWrite said none reason.IsInput = ⊥
+IsOfWrite said none reason.IsOutput = ⊥
+IsOfWrite said none reason.TakesNone = none
 
--- a write by that, or as it took nothing
-abbrev pub IsOfWrite : Reason → Type 0
-IsOfWrite (reason.System why) = ⊤
-IsOfWrite reason.IsInput = ⊥
-IsOfWrite reason.IsOutput = ⊥
-IsOfWrite reason.TakesNone = ⊤
+-- a call that failed for this reason is an error of the outside: not where the desk itself refuses
+-- the file, or where a write took nothing
+abbrev pub errors_by : ℕ → Reason → ℕ
+errors_by errors (reason.System why) = errors + 1
+errors_by errors reason.IsInput = errors
+errors_by errors reason.IsOutput = errors
+errors_by errors reason.TakesNone = errors
+
+-- how many errors the outside gave, after an opening that was answered so
+abbrev pub errors_opening : {A : Type 0} → ℕ → Result A Reason → ℕ
+errors_opening errors (Ok _) = errors
+errors_opening errors (Err why) = errors_by errors why
+
+-- how many errors the outside gave, after a call of the desk that was answered so and, where it failed, for this reason
+abbrev pub errors_answered : ℕ → Result ℕ DeskFault → Option Reason → ℕ
+errors_answered errors (Ok _) why = errors
+errors_answered errors (Err NoMemory) why = errors
+errors_answered errors (Err Failed) None = errors
+errors_answered errors (Err Failed) (Some why) = errors_by errors why

@@ -1,5 +1,8 @@
 //! The machine's files as `HostDesk` sees them.
 ghost use Rattle.std.specs.Prelude.{ℕ, List, Option, IfOk, IfErr, OnOk};
+ghost use Rattle.std.specs.Io.{ReadsAtMost, WritesAtMost};
+ghost use Rattle.std.specs.Io.KnownBytes.{ReadConsumes, WriteAppends};
+ghost use Rattle.ioam_desk.specs.Faults.{errors_after};
 ghost use Rattle.ioam_desk.specs.declared.file_system.Identity.{Identity};
 ghost use Rattle.ioam_desk.specs.declared.host_fault.Reason.{Reason};
 ghost use Rattle.ioam_desk.specs.declared.host_fault.Reason.TheVariants.{System};
@@ -20,8 +23,8 @@ pub struct Identity {
 ///
 /// What was done to a file, and what was said where it could not be done, is told by predicates,
 /// which nothing but the calls can give: so it is proved which call was made and with which name,
-/// though of a real file nothing is known. No clause says what a call leaves of the files, so that
-/// they are known as they were only where none was made.
+/// though of a real file nothing is known. Each call that fails is one error more, so that none can
+/// be passed over, and no call can be made a second time after one.
 pub trait FileSystem {
     type File: Read + Write + Drop;
 
@@ -49,25 +52,60 @@ pub trait FileSystem {
     /// The file could not be emptied, and this was said.
     ghost is_not_emptied: { Self.File → Reason → Type 0 };
 
+    /// A read gave this number of octets of the file.
+    ghost is_read: { Self.File → ℕ → Type 0 };
+
+    /// The file could not be read, and this was said.
+    ghost is_not_read: { Self.File → Reason → Type 0 };
+
+    /// The file took this number of octets of a write.
+    ghost is_written: { Self.File → ℕ → Type 0 };
+
+    /// The file could not be written, and this was said.
+    ghost is_not_written: { Self.File → Reason → Type 0 };
+
+    /// This number of calls on the files failed so far.
+    ghost has_errors: { Self → ℕ → Type 0 };
+
     /// Opens a file to be read.
     fn open(&mut self, name: &str) -> io::Result<Self::File>
         ensures opened { IfOk result (λ file. is_opened file name.now) }
-        ensures said { IfErr result (λ why. is_not_opened name.now (System why)) };
+        ensures said { IfErr result (λ why. is_not_opened name.now (System why)) }
+        ensures counted { (errors : ℕ) → has_errors self.old errors → has_errors self.new (errors_after errors result) };
 
     /// Opens a file to be written, or makes it. What it holds stays as it is.
     fn create(&mut self, name: &str) -> io::Result<Self::File>
         ensures created { IfOk result (λ file. is_created file name.now) }
-        ensures said { IfErr result (λ why. is_not_created name.now (System why)) };
+        ensures said { IfErr result (λ why. is_not_created name.now (System why)) }
+        ensures counted { (errors : ℕ) → has_errors self.old errors → has_errors self.new (errors_after errors result) };
 
     /// Which file it is: None where it isn't a regular one.
     fn identity(&mut self, file: &Self::File) -> io::Result<Option<Identity>>
         ensures identified { IfOk result (is_identified file.now) }
-        ensures said { IfErr result (λ why. is_not_identified file.now (System why)) };
+        ensures said { IfErr result (λ why. is_not_identified file.now (System why)) }
+        ensures counted { (errors : ℕ) → has_errors self.old errors → has_errors self.new (errors_after errors result) };
 
     /// Takes away all that a regular file holds.
     fn empty(&mut self, file: &Self::File) -> io::Result<()>
         ensures emptied { OnOk result (is_emptied file.now) }
-        ensures said { IfErr result (λ why. is_not_emptied file.now (System why)) };
+        ensures said { IfErr result (λ why. is_not_emptied file.now (System why)) }
+        ensures counted { (errors : ℕ) → has_errors self.old errors → has_errors self.new (errors_after errors result) };
+
+    /// Reads the next octets of a file into the front of a buffer. The answer is how many.
+    fn read(&mut self, file: &mut Self::File, into: &mut [u8]) -> io::Result<usize>
+        ensures bound { ReadsAtMost result into.new }
+        ensures octets { ReadConsumes (Self.File.remaining file.old) (Self.File.remaining file.new) result into.new }
+        ensures read { IfOk result (is_read file.new) }
+        ensures said { IfErr result (λ why. is_not_read file.new (System why)) }
+        ensures counted { (errors : ℕ) → has_errors self.old errors → has_errors self.new (errors_after errors result) };
+
+    /// Writes octets at the end of what was written to a file. The answer is how many it took.
+    fn write(&mut self, file: &mut Self::File, from: &[u8]) -> io::Result<usize>
+        ensures bound { WritesAtMost result from.now }
+        ensures octets { WriteAppends (Self.File.contents file.old) (Self.File.contents file.new) result from.now }
+        ensures written { IfOk result (is_written file.new) }
+        ensures said { IfErr result (λ why. is_not_written file.new (System why)) }
+        ensures counted { (errors : ℕ) → has_errors self.old errors → has_errors self.new (errors_after errors result) };
 }
 
 /// The files of the machine.
@@ -98,6 +136,16 @@ impl<'a, R: Files> FileSystem for MachineFiles<'a, R> {
 
     ghost is_not_emptied = { λ _ _. ⊤ };
 
+    ghost is_read = { λ _ _. ⊤ };
+
+    ghost is_not_read = { λ _ _. ⊤ };
+
+    ghost is_written = { λ _ _. ⊤ };
+
+    ghost is_not_written = { λ _ _. ⊤ };
+
+    ghost has_errors = { λ _ _. ⊤ };
+
     fn open(&mut self, name: &str) -> io::Result<R::File> {
         fs::open(self.0, name)
     }
@@ -122,5 +170,13 @@ impl<'a, R: Files> FileSystem for MachineFiles<'a, R> {
 
     fn empty(&mut self, file: &R::File) -> io::Result<()> {
         file.set_len(0)
+    }
+
+    fn read(&mut self, file: &mut R::File, into: &mut [u8]) -> io::Result<usize> {
+        file.read(into)
+    }
+
+    fn write(&mut self, file: &mut R::File, from: &[u8]) -> io::Result<usize> {
+        file.write(from)
     }
 }

@@ -1,16 +1,16 @@
 //! The desk over the files of the machine.
-ghost use Rattle.std.specs.Prelude.{◌≡◌, ◌≢◌, ◌<◌, ◌⊎◌, Err, None, Some, false, length, IfOk, IfErr, IfSome, OnOk, OnErr, option_map};
+ghost use Rattle.std.specs.Prelude.{◌≡◌, ◌≢◌, ◌<◌, ◌⊎◌, ℕ, Err, None, Some, false, length, IfOk, IfErr, IfSome, OnOk, OnErr, option_map};
 ghost use Rattle.std.specs.Io.KnownBytes.{ReadConsumes, WriteAppends};
 ghost use Rattle.ioam_desk.specs.Desk.{OpenIn, ReadInto, KeepsBehind, OpenOut, WriteFrom, holds};
 ghost use Rattle.ioam_desk.specs.HostDesk.{untold_reading, untold_writing, reading_of, writing_of, inputs_of, outputs_of, read_fault_name, write_fault_name, read_fault_reason, write_fault_reason, AddsOpened, IsTakenAnew, IsOfSome, IsSaid};
-ghost use Rattle.ioam_desk.specs.HostSide.{no_side, slot_name, IsRefusal, IsOfSystem, IsOfRead, IsOfWrite, ChangesFile};
+ghost use Rattle.ioam_desk.specs.HostSide.{no_side, slot_name, IsRefusal, IsOfSystem, IsOfSlot, IsOfWrite, ChangesFile, errors_opening, errors_answered};
 ghost use Rattle.ioam_desk.specs.Faults.{faults_after};
 
 use crate::desk::Desk;
 use crate::fault::DeskFault;
 use crate::file_system::FileSystem;
 use crate::host_fault::{Fault, Reason};
-use crate::host_side::{HostSide, Opened};
+use crate::host_side::{HostSide, Opened, read_slot, write_slot};
 use std::alloc::Global;
 
 /// Real files. What they hold isn't told.
@@ -62,6 +62,7 @@ fn opened<R: FileSystem>(files: &mut R, name: &str) -> Result<Opened<R::File>, R
     ensures opened { IfOk result (λ opened. R.is_opened opened.file name.now
         × R.is_identified opened.file opened.identity) }
     ensures said { IfErr result (IsOfSystem (IsSaid (R.is_not_opened name.now) (λ file. R.is_opened file name.now) R.is_not_identified)) }
+    ensures counted { (errors : ℕ) → R.has_errors files.old errors → R.has_errors files.new (errors_opening errors result) }
 {
     let file = match files.open(name) {
         Ok(file) => file,
@@ -87,6 +88,7 @@ fn created<R: FileSystem>(
         (IsSaid (R.is_not_created name.now) (λ file. R.is_created file name.now) (λ file why. R.is_not_identified file why ⊎ R.is_not_emptied file why))
         (IsOfSome (λ file. R.is_created file name.now) R.is_identified)
         inputs.now.slots.items outputs.now.slots.items) }
+    ensures counted { (errors : ℕ) → R.has_errors files.old errors → R.has_errors files.new (errors_opening errors result) }
 {
     let file = match files.create(name) {
         Ok(file) => file,
@@ -133,6 +135,8 @@ impl<R: FileSystem> Desk for HostDesk<R> {
             → IfSome (read_fault_reason self.new) (IsOfSystem (IsSaid (R.is_not_opened name.now) (λ file. R.is_opened file name.now) R.is_not_identified)) }
         ensures unasked { result ≡ Err DeskFault.NoMemory → self.new.files ≡ self.old.files }
         ensures last { result ≢ Err DeskFault.Failed → self.new.inputs.last ≡ self.old.inputs.last }
+        ensures counted { (errors : ℕ) → R.has_errors self.old.files errors
+            → R.has_errors self.new.files (errors_answered errors result (read_fault_reason self.new)) }
     {
         let names = self.inputs.make_room(self.alloc, name)?;
         let opened = opened(&mut self.files, name);
@@ -153,10 +157,13 @@ impl<R: FileSystem> Desk for HostDesk<R> {
             (λ before after. ReadConsumes (R.File.remaining before) (R.File.remaining after) result into.new) }
         ensures others { self.new.outputs ≡ self.old.outputs }
         ensures named { OnErr result (read_fault_name self.new ≡ slot_name self.old.inputs slot) }
-        ensures reason { OnErr result (IfSome (read_fault_reason self.new) IsOfRead) }
+        ensures given { IfOk result (IsOfSlot R.is_read (inputs_of self.new) slot) }
+        ensures reason { OnErr result (IfSome (read_fault_reason self.new) (IsOfSystem (IsOfSlot R.is_not_read (inputs_of self.new) slot))) }
         ensures last { OnOk result (self.new.inputs.last ≡ self.old.inputs.last) }
+        ensures counted { (errors : ℕ) → R.has_errors self.old.files errors
+            → R.has_errors self.new.files (errors_answered errors result (read_fault_reason self.new)) }
     {
-        self.inputs.read(slot, into)
+        read_slot(&mut self.files, &mut self.inputs, slot, into)
     }
 
     fn open_out(&mut self, name: &str) -> Result<u32, DeskFault>
@@ -178,6 +185,8 @@ impl<R: FileSystem> Desk for HostDesk<R> {
             (inputs_of self.old) (outputs_of self.old)) }
         ensures unasked { result ≡ Err DeskFault.NoMemory → self.new.files ≡ self.old.files }
         ensures last { result ≢ Err DeskFault.Failed → self.new.outputs.last ≡ self.old.outputs.last }
+        ensures counted { (errors : ℕ) → R.has_errors self.old.files errors
+            → R.has_errors self.new.files (errors_answered errors result (write_fault_reason self.new)) }
     {
         let names = self.outputs.make_room(self.alloc, name)?;
         let opened = created(&mut self.files, &self.inputs, &self.outputs, name);
@@ -197,9 +206,13 @@ impl<R: FileSystem> Desk for HostDesk<R> {
             (λ before after. WriteAppends (R.File.contents before) (R.File.contents after) result from.now) }
         ensures others { self.new.inputs ≡ self.old.inputs }
         ensures named { OnErr result (write_fault_name self.new ≡ slot_name self.old.outputs slot) }
-        ensures reason { OnErr result (IfSome (write_fault_reason self.new) IsOfWrite) }
+        ensures taken { IfOk result (IsOfSlot R.is_written (outputs_of self.new) slot) }
+        ensures reason { OnErr result (IfSome (write_fault_reason self.new) (IsOfWrite
+            (IsOfSlot R.is_not_written (outputs_of self.new) slot) (IsOfSlot R.is_written (outputs_of self.new) slot 0))) }
         ensures last { OnOk result (self.new.outputs.last ≡ self.old.outputs.last) }
+        ensures counted { (errors : ℕ) → R.has_errors self.old.files errors
+            → R.has_errors self.new.files (errors_answered errors result (write_fault_reason self.new)) }
     {
-        self.outputs.write(slot, from)
+        write_slot(&mut self.files, &mut self.outputs, slot, from)
     }
 }

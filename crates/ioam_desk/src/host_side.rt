@@ -1,18 +1,17 @@
 //! One kind of slots over real files.
-ghost use Rattle.std.specs.Prelude.{◌≡◌, ◌<◌, ◌^◌, ◌≤◌, ◌∷◌, ◌++◌, [], ◌↔◌, None, Some, IsTrue, OnOk, OnErr, IfOk, IfErr, IfSome, MatchResult, vec_len, vec_capacity, length, option_map};
+ghost use Rattle.std.specs.Prelude.{◌≡◌, ◌<◌, ◌^◌, ◌≤◌, ◌∷◌, ◌++◌, [], ℕ, ◌↔◌, None, Some, IsTrue, OnOk, OnErr, IfOk, IfErr, IfSome, MatchResult, vec_len, vec_capacity, length, option_map};
 ghost use Rattle.std.specs.Io.KnownBytes.{ReadConsumes, WriteAppends};
-ghost use Rattle.ioam_desk.specs.HostSide.{side_of, no_side, AddsSlot, HasCounted, ChangesFile, IsApart, slot_name, fault_name, fault_reason, name_of, IsOfRead, IsOfWrite};
+ghost use Rattle.ioam_desk.specs.HostSide.{side_of, no_side, AddsSlot, HasCounted, ChangesFile, IsApart, slot_name, fault_name, fault_reason, name_of, IsOfSystem, IsOfSlot, IsOfWrite, errors_answered};
 ghost use Rattle.ioam_desk.specs.Faults.{with_fault};
 ghost use Rattle.ioam_desk.specs.declared.fault.DeskFault.TheVariants.{Failed};
 
 use crate::fault::DeskFault;
-use crate::file_system::Identity;
+use crate::file_system::{FileSystem, Identity};
 use crate::host_fault::{Fault, Reason};
 use crate::room::put;
 use ioam_base::memory::NoMemory;
 use ioam_base::name::Name;
 use std::alloc::Global;
-use std::io::{Read, Write};
 
 /// A file that was opened, and which one it is: None where it isn't a regular one.
 #[derive(Drop)]
@@ -158,41 +157,54 @@ impl<F: Drop> HostSide<F> {
     }
 }
 
-impl<F: Read + Drop> HostSide<F> {
-    /// Reads from a slot.
-    pub(crate) fn read(&mut self, slot: u32, into: &mut [u8]) -> Result<usize, DeskFault>
-        requires { slot < vec_len self.old.slots }
-        ensures count { IfOk result (λ count. count ≤ length into.new) }
-        ensures side { HasCounted (side_of self.old) result (side_of self.new) }
-        ensures octets { ChangesFile self.old.slots.items self.new.slots.items slot
-            (λ before after. ReadConsumes (F.remaining before) (F.remaining after) result into.new) }
-        ensures fault { OnErr result (fault_name self.new ≡ slot_name self.old slot) }
-        ensures reason { OnErr result (IfSome (fault_reason self.new) IsOfRead) }
-        ensures last { OnOk result (self.new.last ≡ self.old.last) }
-    {
-        match self.slots[slot as usize].opened.file.read(into) {
-            Ok(count) => Ok(count),
-            Err(error) => Err(self.failed(Place::Slot(slot), Reason::System(error))),
-        }
+/// Reads from a slot.
+pub(crate) fn read_slot<R: FileSystem>(
+    files: &mut R,
+    side: &mut HostSide<R::File>,
+    slot: u32,
+    into: &mut [u8],
+) -> Result<usize, DeskFault>
+    requires { slot < vec_len side.old.slots }
+    ensures count { IfOk result (λ count. count ≤ length into.new) }
+    ensures side { HasCounted (side_of side.old) result (side_of side.new) }
+    ensures octets { ChangesFile side.old.slots.items side.new.slots.items slot
+        (λ before after. ReadConsumes (R.File.remaining before) (R.File.remaining after) result into.new) }
+    ensures given { IfOk result (IsOfSlot R.is_read side.new.slots.items slot) }
+    ensures fault { OnErr result (fault_name side.new ≡ slot_name side.old slot) }
+    ensures reason { OnErr result (IfSome (fault_reason side.new) (IsOfSystem (IsOfSlot R.is_not_read side.new.slots.items slot))) }
+    ensures last { OnOk result (side.new.last ≡ side.old.last) }
+    ensures counted { (errors : ℕ) → R.has_errors files.old errors
+        → R.has_errors files.new (errors_answered errors result (fault_reason side.new)) }
+{
+    match files.read(&mut side.slots[slot as usize].opened.file, into) {
+        Ok(count) => Ok(count),
+        Err(error) => Err(side.failed(Place::Slot(slot), Reason::System(error))),
     }
 }
 
-impl<F: Write + Drop> HostSide<F> {
-    /// Writes to a slot. A write that takes nothing has failed.
-    pub(crate) fn write(&mut self, slot: u32, from: &[u8]) -> Result<usize, DeskFault>
-        requires { slot < vec_len self.old.slots }
-        ensures count { IfOk result (λ count. (1 ≤ count) × (count ≤ length from.now)) }
-        ensures side { HasCounted (side_of self.old) result (side_of self.new) }
-        ensures octets { ChangesFile self.old.slots.items self.new.slots.items slot
-            (λ before after. WriteAppends (F.contents before) (F.contents after) result from.now) }
-        ensures fault { OnErr result (fault_name self.new ≡ slot_name self.old slot) }
-        ensures reason { OnErr result (IfSome (fault_reason self.new) IsOfWrite) }
-        ensures last { OnOk result (self.new.last ≡ self.old.last) }
-    {
-        match self.slots[slot as usize].opened.file.write(from) {
-            Ok(0) => Err(self.failed(Place::Slot(slot), Reason::TakesNone)),
-            Ok(count) => Ok(count),
-            Err(why) => Err(self.failed(Place::Slot(slot), Reason::System(why))),
-        }
+/// Writes to a slot. A write that takes nothing has failed.
+pub(crate) fn write_slot<R: FileSystem>(
+    files: &mut R,
+    side: &mut HostSide<R::File>,
+    slot: u32,
+    from: &[u8],
+) -> Result<usize, DeskFault>
+    requires { slot < vec_len side.old.slots }
+    ensures count { IfOk result (λ count. (1 ≤ count) × (count ≤ length from.now)) }
+    ensures side { HasCounted (side_of side.old) result (side_of side.new) }
+    ensures octets { ChangesFile side.old.slots.items side.new.slots.items slot
+        (λ before after. WriteAppends (R.File.contents before) (R.File.contents after) result from.now) }
+    ensures taken { IfOk result (IsOfSlot R.is_written side.new.slots.items slot) }
+    ensures fault { OnErr result (fault_name side.new ≡ slot_name side.old slot) }
+    ensures reason { OnErr result (IfSome (fault_reason side.new) (IsOfWrite
+        (IsOfSlot R.is_not_written side.new.slots.items slot) (IsOfSlot R.is_written side.new.slots.items slot 0))) }
+    ensures last { OnOk result (side.new.last ≡ side.old.last) }
+    ensures counted { (errors : ℕ) → R.has_errors files.old errors
+        → R.has_errors files.new (errors_answered errors result (fault_reason side.new)) }
+{
+    match files.write(&mut side.slots[slot as usize].opened.file, from) {
+        Ok(0) => Err(side.failed(Place::Slot(slot), Reason::TakesNone)),
+        Ok(count) => Ok(count),
+        Err(why) => Err(side.failed(Place::Slot(slot), Reason::System(why))),
     }
 }

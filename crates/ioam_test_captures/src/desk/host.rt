@@ -64,6 +64,16 @@ impl FileSystem for ByLength {
 
     ghost is_not_emptied = { λ _ _. ⊤ };
 
+    ghost is_read = { λ _ _. ⊤ };
+
+    ghost is_not_read = { λ _ _. ⊤ };
+
+    ghost is_written = { λ _ _. ⊤ };
+
+    ghost is_not_written = { λ _ _. ⊤ };
+
+    ghost has_errors = { λ _ _. ⊤ };
+
     fn open(&mut self, name: &str) -> io::Result<Faulty> {
         let identity = match name.len() {
             0 => return Err(io::Error::from(ErrorKind::NotFound)),
@@ -86,6 +96,14 @@ impl FileSystem for ByLength {
 
     fn empty(&mut self, _file: &Faulty) -> io::Result<()> {
         Ok(())
+    }
+
+    fn read(&mut self, file: &mut Faulty, into: &mut [u8]) -> io::Result<usize> {
+        file.read(into)
+    }
+
+    fn write(&mut self, file: &mut Faulty, from: &[u8]) -> io::Result<usize> {
+        file.write(from)
     }
 }
 
