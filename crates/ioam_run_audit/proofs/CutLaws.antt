@@ -42,7 +42,7 @@ taken_first : (taken : List Taken) (octets : List ℕ) → AreTaken taken octets
 taken_first taken octets (inl all) = begins_ends all.0 taken octets all.1
 taken_first taken octets (inr passed) = begins_passed 16777216 taken octets passed
 
--- as those that can be judged do
+-- as those that were judged do
 pub judged_first : (place : Place) (after : Option (List ℕ)) (ended_after : Bool) (left_before left_after : List ℕ) (taken : List Taken) (octets : List ℕ)
     → AreJudged place after ended_after left_before left_after taken octets → AreFirst taken octets
 judged_first place after ended_after left_before left_after taken octets (inl all) = taken_first taken octets all

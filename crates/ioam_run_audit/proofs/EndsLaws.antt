@@ -1,7 +1,7 @@
 -- What REPORT holds once both captures were read, or a read failed.
 use Rattle.std.proofs.Common.{◌≡◌, ℕ, ◌+◌, ◌<◌, ◌≤◌, ◌^◌, Bool, IsTrue, List, [], ◌∷◌, ◌++◌, length, Option, Some, None, refl, sym, ap, ◌∙◌, subst, inl, inr, arith, append-nil}
 use Rattle.ioam_desk.specs.Desk as desk
-use Rattle.ioam_desk.specs.Desk.{Writing, Rose}
+use Rattle.ioam_desk.specs.Desk.{Writing, Rose, holds}
 use Rattle.ioam_desk_outputs.specs.Held.{HoldAllFronts, HoldTexts}
 use Rattle.ioam_desk_outputs.specs.Told.{AreTold, said_more}
 use Rattle.ioam_desk_outputs.specs.declared.output.Output.{Output}
@@ -10,13 +10,13 @@ use Rattle.ioam_pcap.specs.Entries.{Taken}
 use Rattle.ioam_run_answer.specs.declared.outcome.Outcome.{Outcome}
 use Rattle.ioam_run_stream.specs.Promise.{AreFirst, EndsSo}
 use Rattle.ioam_run_stream.proofs.HaltsLaws.{held_map}
-use Rattle.ioam_run_audit.specs.Ends.{BehindBy, Both, Closes, Parts, WrittenCut, verdict_by}
+use Rattle.ioam_run_audit.specs.Ends.{BehindBy, Both, Closes, IsPart, NoneBehind, Part, Parts, WrittenCut, verdict_by}
 use Rattle.ioam_run_audit.specs.Fit.{CameFrom, HasReason, IsFit, Place}
 use Rattle.ioam_run_audit.specs.Lanes.{EndsBy}
 use Rattle.ioam_run_audit.specs.Lines.{BecomeOf, lines_of, report_of, sums_line, sums_of, verdict_as, verdict_line, verdict_of}
 use Rattle.ioam_run_audit.specs.Pairs.{Over, Start, sums_as}
 use Rattle.ioam_run_audit.specs.Promise.{AreTaken}
-use Rattle.ioam_run_audit.specs.Runs.{Cut, IsBehind, IsJudged, Matched, Sticks, answer_of, behind_of, left_of}
+use Rattle.ioam_run_audit.specs.Runs.{Cut, IsJudged, Matched, Sticks, answer_of, behind_of, left_of}
 use Rattle.ioam_run_audit.specs.declared.counts.Counts.{Counts}
 use Rattle.ioam_run_audit.specs.declared.fate.Fate.{Fate}
 use Rattle.ioam_run_audit.specs.declared.lane.End.{End}
@@ -58,22 +58,12 @@ behind_by counts taken fates rest same size end.Whole (end.Bad at fault) = refl
 behind_by counts taken fates rest same size end.Limit last = refl
 behind_by counts taken fates rest same size (end.Bad at fault) last = refl
 
--- a verdict stands there only where both were read whole
-is_behind : (tells : Bool) (start : Start) (place : Place) → IsTrue tells → (fates : List Fate) (rest : List Taken) (behind : List ℕ) (how last : End)
-    → Matched tells start place (EndsBy how) (EndsBy last) fates rest → BehindBy how last fates rest behind → IsBehind start place fates rest behind
-is_behind tells start place told fates rest behind end.Whole end.Whole matched is =
-    inr (matched_so tells start place told (EndsSo Whole) (EndsSo Whole) fates rest matched, is)
-is_behind tells start place told fates rest behind end.Whole end.Limit matched is = inl is
-is_behind tells start place told fates rest behind end.Whole (end.Bad at fault) matched is = inl is
-is_behind tells start place told fates rest behind end.Limit last matched is = inl is
-is_behind tells start place told fates rest behind (end.Bad at fault) last matched is = inl is
-
 module _ (tells : Bool) (start : Start) (place : Place) where
   -- REPORT holds a front
   pub parts_sticks : (outputs : Writing) → Sticks tells start place outputs → IsTrue tells → Parts start place outputs
   parts_sticks outputs sticks told =
       let fronts = sticks told in
-      record { fates = fronts.fates; rest = fronts.rest; behind = fronts.behind; matched = fronts.matched; behind_is = fronts.behind_is; held = λ opened. fronts.held.0 }
+      inl (record { fates = fronts.fates; rest = fronts.rest; behind = []; matched = fronts.matched; behind_is = refl; held = λ opened. fronts.held.0 })
 
   pub over_matched : (inputs : desk.Reading) (pair : Pair) (fates : List Fate) (how last : End) (over : Over tells start place inputs pair fates how last)
       → Matched tells start place (EndsBy how) (EndsBy last) fates over.rest
@@ -98,6 +88,38 @@ module _ (tells : Bool) (start : Start) (place : Place) where
     few_before = matched.few_before;
     few_after = matched.few_after;
   }
+
+  -- no verdict stands there
+  lines_by : (outputs : Writing) → IsTrue tells → (fates : List Fate) (rest : List Taken) (behind : List ℕ) (how last : End)
+      → Matched tells start place (EndsBy how) (EndsBy last) fates rest → NoneBehind fates rest behind → IsPart start place outputs (report_of fates behind)
+      → Part start place outputs AreFirst AreTaken NoneBehind (IsPart start place outputs)
+  lines_by outputs told fates rest behind how last matched is held = record {
+    fates = fates;
+    rest = rest;
+    behind = behind;
+    matched = matched_so tells start place told AreFirst AreTaken fates rest (matched_first fates rest how last matched);
+    behind_is = is;
+    held = held;
+  }
+
+  -- a verdict stands there only where both were read whole, and then not all of it
+  parts_by : (outputs : Writing) → IsTrue tells → (fates : List Fate) (rest : List Taken) (behind : List ℕ) (how last : End)
+      → Matched tells start place (EndsBy how) (EndsBy last) fates rest → BehindBy how last fates rest behind → IsPart start place outputs (report_of fates behind)
+      → (how ≡ end.Whole → last ≡ end.Whole → holds outputs start.report ≡ Some (report_of fates behind) → ⊥) → Parts start place outputs
+  parts_by outputs told fates rest behind end.Whole end.Whole matched is held unfinished = inr (record {
+    fates = fates;
+    rest = rest;
+    behind = behind;
+    matched = matched_so tells start place told (EndsSo Whole) (EndsSo Whole) fates rest matched;
+    behind_is = is;
+    held = (held, unfinished refl refl);
+  })
+  parts_by outputs told fates rest behind end.Whole end.Limit matched is held unfinished = inl (lines_by outputs told fates rest behind end.Whole end.Limit matched is held)
+  parts_by outputs told fates rest behind end.Whole (end.Bad at fault) matched is held unfinished =
+      inl (lines_by outputs told fates rest behind end.Whole (end.Bad at fault) matched is held)
+  parts_by outputs told fates rest behind end.Limit last matched is held unfinished = inl (lines_by outputs told fates rest behind end.Limit last matched is held)
+  parts_by outputs told fates rest behind (end.Bad at fault) last matched is held unfinished =
+      inl (lines_by outputs told fates rest behind (end.Bad at fault) last matched is held)
 
   -- ---- so many there are
 
@@ -168,21 +190,26 @@ module _ (tells : Bool) (start : Start) (place : Place) where
       drained_after = λ whole told. subst (λ (r : desk.Reading). IsTrue (r.ended pair.after.feed.slot)) (sym same) (both.over.after.drained whole told);
     }
 
+    abbrev Said : Option (Option ℕ) → List ℕ
+    Said verdict = lines_of 1 both.fates ++ behind_of pair.counts verdict
+
     -- some was
     pub both_parts : (new_out : Writing) (verdict : Option (Option ℕ)) → verdict ≡ its_verdict
         → (IsTrue tells → (slot : ℕ) (names texts : List (List ℕ)) → AreTold tells outputs slot names tellers texts
         → HoldAllFronts new_out names (said_more texts (behind_of pair.counts verdict ∷ [])))
+        → (how ≡ end.Whole → last ≡ end.Whole → IsTrue tells → (slot : ℕ) (name text : List ℕ) → AreTold tells outputs slot (name ∷ []) tellers (text ∷ [])
+        → holds new_out name ≡ Some (text ++ behind_of pair.counts verdict) → ⊥)
         → IsTrue tells → Parts start place new_out
-    both_parts new_out verdict is fronts told = record {
-      fates = both.fates;
-      rest = both.over.rest;
-      behind = behind_text its_verdict;
-      matched = matched_so tells start place told AreFirst AreTaken both.fates both.over.rest (matched_first both.fates both.over.rest how last both_matched);
-      behind_is = is_behind tells start place told both.fates both.over.rest (behind_text its_verdict) how last both_matched its_behind;
-      held = λ opened. (subst (HoldAllFronts new_out (start.report ∷ [])) both_text
-          (subst (λ v. HoldAllFronts new_out (start.report ∷ []) ((lines_of 1 both.fates ++ behind_of pair.counts v) ∷ [])) is
-          (fronts told start.base (start.report ∷ []) (lines_of 1 both.fates ∷ []) both.told))).0;
-    }
+    both_parts new_out verdict is fronts unfinished told =
+        let same : Said verdict ≡ its_text = ap Said is ∙ ap head_of both_text in
+        parts_by new_out told both.fates both.over.rest (behind_text its_verdict) how last both_matched its_behind
+        (λ opened. (subst (λ text. HoldAllFronts new_out (start.report ∷ []) (text ∷ [])) same
+        (fronts told start.base (start.report ∷ []) (lines_of 1 both.fates ∷ []) both.told)).0)
+        (λ whole too all. unfinished whole too told start.base start.report (lines_of 1 both.fates) both.told (all ∙ ap Some (sym same)))
+      where
+        head_of : List (List ℕ) → List ℕ
+        head_of [] = []
+        head_of (text ∷ texts) = text
 
   -- ---- where a read failed
 
@@ -224,12 +251,12 @@ module _ (tells : Bool) (start : Start) (place : Place) where
 
     pub cut_parts : (new_out : Writing) → (IsTrue tells → (slot : ℕ) (names texts : List (List ℕ)) → AreTold tells outputs slot names tellers texts
         → HoldAllFronts new_out names (said_more texts (behind_of pair.counts None ∷ []))) → IsTrue tells → Parts start place new_out
-    cut_parts new_out fronts told = record {
+    cut_parts new_out fronts told = inl (record {
       fates = halted.fates;
       rest = halted.rest;
       behind = [];
       matched = matched_so tells start place told AreFirst AreTaken halted.fates halted.rest halted_first;
-      behind_is = inl refl;
+      behind_is = refl;
       held = λ opened. (subst (HoldAllFronts new_out (start.report ∷ [])) halted_text
           (fronts told start.base (start.report ∷ []) (lines_of 1 halted.fates ∷ []) halted.told)).0;
-    }
+    })

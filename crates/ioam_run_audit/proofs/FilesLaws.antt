@@ -91,15 +91,15 @@ module _ (tells : Bool) (start : Start) (place : Place) (before after : List ℕ
     missed_parts : IsTrue tells → Parts start place new_out
     missed_parts told =
         let all = pairs_matched tells start place old_in pair [] pairs in
-        record {
+        inl (record {
           fates = [];
           rest = all.0;
           behind = [];
           matched = matched_so tells start place told AreFirst AreTaken [] all.0 all.1;
-          behind_is = inl refl;
+          behind_is = refl;
           held = λ opened. (subst (λ (name : List ℕ). HoldFronts old_out new_out 0 (name ∷ []) (report_of [] [] ∷ [])) (sym named) (fronts told (report_of [] [] ∷ []) refl)).0
               (omega (arith, opened, based));
-        }
+        })
 
     runs_missed : (answer : Outcome) → ((answer ≡ outcome.WriteFault) × Rose old_out.side.faults new_out.side.faults) ⊎ (answer ≡ outcome.NoMemory)
         → (IsBehindAll ⊥ answer → ⊥) → RunsPair tells start place before after first second old_in new_in old_out new_out answer

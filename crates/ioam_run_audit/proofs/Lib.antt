@@ -10,6 +10,7 @@ mod FrontsLaws
 mod CutLaws
 mod FailsLaws
 mod RunLaws
+mod UnfinishedLaws
 mod EndsLaws
 mod ClosedLaws
 mod OpeningLaws

@@ -11,7 +11,7 @@ use Rattle.ioam_run_audit.specs.Ends.{Parts, Written, WrittenCut, start_of}
 use Rattle.ioam_run_audit.specs.Fit.{Place}
 use Rattle.ioam_run_audit.specs.Lines.{report_of, sums_of, verdict_line, verdict_of}
 use Rattle.ioam_run_audit.specs.Pairs.{Start}
-use Rattle.ioam_run_audit.specs.Promise.{AreTaken, AuditNames, Holds, HoldsPart, IsCutOff, IsReady, MayHaveVerdict, Reports}
+use Rattle.ioam_run_audit.specs.Promise.{AreTaken, AuditNames, Holds, HoldsPart, HoldsUnfinished, IsCutOff, IsReady, LeavesPart, Reports}
 use Rattle.ioam_run_audit.specs.Runs.{IsJudged, Matched}
 use Rattle.ioam_run_audit.specs.Verdicts.{HasVerdict, NoVerdict}
 use Rattle.ioam_run_audit.specs.declared.fate.Fate.{Fate}
@@ -91,7 +91,7 @@ module _ (tells : Bool) (files : AuditNames) (old_in new_in : desk.Reading) (old
         reports P Q P Q (λ taken octets is. is) (λ taken octets is. is) HasVerdict (Holds files old_in new_in old new) written.fates written.rest written.behind
         matched (has_verdict P Q written.fates written.rest written.behind matched written.behind_is) (written.held told).0
 
-  -- of all packets of BEFORE that can be judged
+  -- of the packets of BEFORE that were judged
   pub cut_reports : (first second : ℕ) → WrittenCut tells start place new_in first second new
       → Reports files old AreFirst AreTaken (IsCutOff files old (new_in.ended second) (new_in.left first) (new_in.left second)) (Holds files old_in new_in old new)
   cut_reports first second written =
@@ -101,12 +101,12 @@ module _ (tells : Bool) (files : AuditNames) (old_in new_in : desk.Reading) (old
       (IsCutOff files old (new_in.ended second) (new_in.left first) (new_in.left second)) (Holds files old_in new_in old new) written.fates written.rest written.behind
       matched (written.behind_is, matched.of_before refl) (written.held told).0
 
-  -- a front
-  pub some_reports : Parts start place new → Reports files old AreFirst AreTaken (MayHaveVerdict files old) (HoldsPart files old_in new_in old new)
-  some_reports parts = elim parts.behind_is [
-    | inl none ↦ reports AreFirst AreTaken AreFirst AreTaken (λ taken octets is. is) (λ taken octets is. is) (MayHaveVerdict files old)
-        (HoldsPart files old_in new_in old new) parts.fates parts.rest parts.behind parts.matched (inl none) parts.held
-    | inr whole ↦ reports (EndsSo Whole) (EndsSo Whole) AreFirst AreTaken (begins_ends Whole) (λ taken octets reads. inl (Whole, reads)) (MayHaveVerdict files old)
-        (HoldsPart files old_in new_in old new) parts.fates parts.rest parts.behind whole.0
-        (inr (whole.0.of_before refl, whole.0.of_after refl, has_verdict (EndsSo Whole) (EndsSo Whole) parts.fates parts.rest parts.behind whole.0 whole.1)) parts.held
+  -- a part
+  pub some_reports : Parts start place new → LeavesPart files old_in new_in old new
+  some_reports parts = elim parts [
+    | inl lines ↦ inl (reports AreFirst AreTaken AreFirst AreTaken (λ taken octets is. is) (λ taken octets is. is) NoVerdict
+        (HoldsPart files old_in new_in old new) lines.fates lines.rest lines.behind lines.matched lines.behind_is lines.held)
+    | inr all ↦ inr (reports (EndsSo Whole) (EndsSo Whole) (EndsSo Whole) (EndsSo Whole) (λ taken octets is. is) (λ taken octets is. is) HasVerdict
+        (HoldsUnfinished files old_in new_in old new) all.fates all.rest all.behind all.matched
+        (has_verdict (EndsSo Whole) (EndsSo Whole) all.fates all.rest all.behind all.matched all.behind_is) all.held)
   ]

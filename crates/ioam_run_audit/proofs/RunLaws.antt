@@ -1,5 +1,5 @@
 -- What REPORT is told, and what it holds where nothing more is.
-use Rattle.std.proofs.Common.{◌≡◌, ℕ, ◌+◌, Bool, true, IsTrue, List, [], ◌∷◌, ◌++◌, length, Option, refl, sym, ap, ◌∙◌, subst, inl}
+use Rattle.std.proofs.Common.{◌≡◌, ℕ, ◌+◌, Bool, true, IsTrue, List, [], ◌∷◌, ◌++◌, length, Option, refl, sym, ap, ◌∙◌, subst}
 use Rattle.ioam_desk.specs.Desk as desk
 use Rattle.ioam_desk.specs.Desk.{Rose, Writing}
 use Rattle.ioam_desk.specs.Kept.{WritesFrom}
@@ -52,9 +52,7 @@ module _ (tells : Bool) (start : Start) (place : Place) where
   lines_stick outputs fates rest matched fronts = λ told. record {
     fates = fates;
     rest = rest;
-    behind = [];
     matched = matched_so told AreFirst AreTaken fates rest matched;
-    behind_is = inl refl;
     held = more_fronts outputs (start.report ∷ []) (lines_of 1 fates ∷ []) ((sums_line (sums_of fates) ++ []) ∷ []) refl (fronts told);
   }
 

@@ -8,18 +8,19 @@ use Rattle.ioam_desk.specs.Kept.{KeepsInputs, KeepsOutputs}
 use Rattle.ioam_desk_outputs.specs.Held.{HoldTexts}
 use Rattle.ioam_desk_outputs.specs.Names.{AreApart}
 use Rattle.ioam_desk_outputs.specs.declared.output.Output.{Output}
+use Rattle.ioam_pcap.specs.Ending.{Whole}
 use Rattle.ioam_pcap.specs.Entries.{Taken}
 use Rattle.ioam_run_answer.specs.Outcomes.{IsBehindAll}
 use Rattle.ioam_run_answer.specs.declared.outcome.Outcome.{Outcome}
 use Rattle.ioam_run_answer.specs.declared.outcome.Outcome.TheVariants as outcome
-use Rattle.ioam_run_stream.specs.Promise.{AreFirst}
+use Rattle.ioam_run_stream.specs.Promise.{AreFirst, EndsSo}
 use Rattle.ioam_topo.specs.declared.domain.Domain.{Domain}
 use Rattle.ioam_run_audit.specs.Fit.{Place}
 use Rattle.ioam_run_audit.specs.Lanes.{EndsBy}
 use Rattle.ioam_run_audit.specs.Lines.{report_of, sums_of, verdict_line, verdict_of}
 use Rattle.ioam_run_audit.specs.Pairs.{AreUnread, Over, ReadsTwo, Start}
 use Rattle.ioam_run_audit.specs.Promise.{AreTaken, AuditNames, IsAt, IsTwice, IsUnfit, audit_files}
-use Rattle.ioam_run_audit.specs.Runs.{IsBehind, IsJudged, IsTold, Matched, answer_of, left_of}
+use Rattle.ioam_run_audit.specs.Runs.{IsJudged, IsTold, Matched, answer_of, left_of}
 use Rattle.ioam_run_audit.specs.declared.counts.Counts.{Counts}
 use Rattle.ioam_run_audit.specs.declared.fate.Fate.{Fate}
 use Rattle.ioam_run_audit.specs.declared.lane.End.{End}
@@ -34,7 +35,7 @@ verdict_by counts taken end.Whole (end.Bad at fault) = None
 verdict_by counts taken end.Limit last = None
 verdict_by counts taken (end.Bad at fault) last = None
 
--- nothing stands behind the sums; or, where both were read whole, the verdict
+-- nothing stands behind the sums
 abbrev pub NoneBehind : List Fate → List Taken → List ℕ → Type 0
 NoneBehind fates rest behind = behind ≡ []
 
@@ -50,14 +51,27 @@ BehindBy (end.Bad at fault) last fates rest behind = behind ≡ []
 abbrev pub start_of : Writing → List ℕ → List ℕ → List ℕ → Start
 start_of old before after report = record { before = holds old before; after = holds old after; base = old.side.slots; report = report }
 
--- where REPORT was opened it holds a front of the text of some first packets of BEFORE by all of AFTER
-pub record Parts (start : Start) (place : Place) (outputs : Writing) : Type 0 where
-  pub fates : List Fate
-  pub rest : List Taken
-  pub behind : List ℕ
-  pub matched : Matched true start place AreFirst AreTaken fates rest
-  pub behind_is : IsBehind start place fates rest behind
-  pub held : start.base < outputs.side.slots → IsSomeAnd (holds outputs start.report) (λ part. IsFront part (report_of fates behind))
+module _ (start : Start) (place : Place) (outputs : Writing) where
+  -- REPORT, where it was opened, holds a front of the text
+  abbrev pub IsPart : List ℕ → Type 0
+  IsPart text = start.base < outputs.side.slots → IsSomeAnd (holds outputs start.report) (λ part. IsFront part text)
+
+  -- and not all of it
+  abbrev pub IsUnfinished : List ℕ → Type 0
+  IsUnfinished text = IsPart text × (holds outputs start.report ≡ Some text → ⊥)
+
+  -- what REPORT holds of the text of some packets of both
+  pub record Part (IsOfBefore IsOfAfter : List Taken → List ℕ → Type 0) (Behind : List Fate → List Taken → List ℕ → Type 0) (IsText : List ℕ → Type 0) : Type 0 where
+    pub fates : List Fate
+    pub rest : List Taken
+    pub behind : List ℕ
+    pub matched : Matched true start place IsOfBefore IsOfAfter fates rest
+    pub behind_is : Behind fates rest behind
+    pub held : IsText (report_of fates behind)
+
+  -- a front of the lines and the sums of some first packets of BEFORE by all of AFTER; or of the whole text but its end
+  abbrev pub Parts : Type 0
+  Parts = Part AreFirst AreTaken NoneBehind IsPart ⊎ Part (EndsSo Whole) (EndsSo Whole) (BehindBy end.Whole end.Whole) IsUnfinished
 
 module _ (tells : Bool) (start : Start) (place : Place) where
   -- REPORT holds the text of some packets of both
@@ -84,7 +98,7 @@ module _ (tells : Bool) (start : Start) (place : Place) where
     pub drained_before : how ≡ end.Whole → IsTrue tells → IsTrue (inputs.ended first)
     pub drained_after : last ≡ end.Whole → IsTrue tells → IsTrue (inputs.ended second)
 
-  -- REPORT holds the text of all packets of BEFORE that can be judged
+  -- REPORT holds the text of the packets of BEFORE that were judged
   abbrev pub WrittenCut : desk.Reading → ℕ → ℕ → Writing → Type 0
   WrittenCut inputs first second outputs = Written (IsJudged start place inputs first second) AreTaken NoneBehind outputs
 

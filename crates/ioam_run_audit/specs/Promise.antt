@@ -76,7 +76,7 @@ AreTaken taken octets = ((ending : Ending) × Reads octets taken ending) ⊎ Are
 abbrev pub AreFound : Place → List Taken → List ℕ → List ℕ → Type 0
 AreFound place before left octets = (whole : List Taken) × AreWhole left whole octets × IsVerdict place before whole Yes
 
--- These records of BEFORE are all of which it can be said what becomes of them where so much of both captures is left to hand
+-- These records of BEFORE were judged where this much of both captures is left to hand
 -- out: BEFORE is over; or they are all that are whole in what was handed out of it; or the next record of AFTER isn't known, since
 -- AFTER hasn't ended, and no record is whole in what was handed out of it that isn't one of these. Where AFTER has ended, each
 -- record of BEFORE that was handed out whole is judged.
@@ -198,12 +198,7 @@ module _ (files : AuditNames) where
       pub report : IsReport place before after behind text
       pub text_is : IsText text
 
-    -- no verdict stands there, or that on all packets of both
-    abbrev pub MayHaveVerdict : Place → List Taken → List Taken → List ℕ → Type 0
-    MayHaveVerdict place before after behind = NoVerdict place before after behind
-        ⊎ (BeforeIs (EndsSo Whole before) × AfterIs (EndsSo Whole after) × HasVerdict place before after behind)
-
-    -- no verdict stands there, and the records of BEFORE are all that can be judged where so much of both is left, and AFTER has
+    -- no verdict stands there, and the records of BEFORE are those that were judged where this much of both is left, and AFTER has
     -- ended or hasn't
     abbrev pub IsCutOff : Bool → List ℕ → List ℕ → Place → List Taken → List Taken → List ℕ → Type 0
     IsCutOff ended_after left_before left_after place before after behind = NoVerdict place before after behind
@@ -225,10 +220,18 @@ module _ (files : AuditNames) where
     abbrev pub HoldsPart : List ℕ → Type 0
     HoldsPart text = old.side.slots < new.side.slots → IsSomeAnd (holds new files.report) (λ part. IsFront part text)
 
+    -- and not all of it
+    abbrev pub HoldsUnfinished : List ℕ → Type 0
+    HoldsUnfinished text = HoldsPart text × (Holds text → ⊥)
+
+    -- REPORT holds a front of the lines and the sums of some first packets of BEFORE by all of AFTER; or, where both captures were
+    -- read whole, of these and the verdict, which isn't there to its end
+    abbrev pub LeavesPart : Type 0
+    LeavesPart = Reports old AreFirst AreTaken NoVerdict HoldsPart ⊎ Reports old (EndsSo Whole) (EndsSo Whole) HasVerdict HoldsUnfinished
+
     -- What REPORT holds afterwards, where the desk tells: the lines and the sums of all packets of BEFORE by all of AFTER, and
-    -- behind Done alone the verdict; after a fault of reading those of all packets of BEFORE that can be judged by what was
-    -- handed out; or nothing was opened for writing; or where it was opened it holds a front of the text of some first packets of
-    -- BEFORE, likewise by all of AFTER.
+    -- with Done alone the verdict; after a fault of reading those of the packets of BEFORE that were judged by what was
+    -- handed out; or nothing was opened for writing; or where it was opened it holds a part.
     abbrev pub Leaves : Outcome → Type 0
     Leaves outcome.Done = Reports old (EndsSo Whole) (EndsSo Whole) HasVerdict Holds
     Leaves (outcome.Capture name at fault) = Reports old AreTaken AreTaken NoVerdict Holds
@@ -236,8 +239,8 @@ module _ (files : AuditNames) where
     Leaves outcome.ReadFault = ((new_in.side.slots < old_in.side.slots + 3) × (new ≡ old))
         ⊎ ((old_in.side.slots + 2 < new_in.side.slots) × Reports old AreFirst AreTaken
         (IsCutOff old (new_in.ended (old_in.side.slots + 2)) (new_in.left (old_in.side.slots + 1)) (new_in.left (old_in.side.slots + 2))) Holds)
-    Leaves outcome.WriteFault = Reports old AreFirst AreTaken (MayHaveVerdict old) HoldsPart
-    Leaves outcome.NoMemory = (new ≡ old) ⊎ Reports old AreFirst AreTaken (MayHaveVerdict old) HoldsPart
+    Leaves outcome.WriteFault = LeavesPart
+    Leaves outcome.NoMemory = (new ≡ old) ⊎ LeavesPart
     Leaves outcome.Usage = new ≡ old
     Leaves (outcome.Domain fault) = new ≡ old
     Leaves (outcome.Names name) = new ≡ old

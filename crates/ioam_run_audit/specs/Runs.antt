@@ -1,5 +1,5 @@
 -- A run whose files were opened: REPORT is told the lines of the packets of BEFORE, one after the other.
-use Rattle.std.specs.Prelude.{◌≡◌, ◌⊎◌, ⊤, ℕ, ◌+◌, ◌≤◌, Bool, true, ◌==◌, if◌then◌else◌, IsTrue, IsSomeAnd, List, [], ◌∷◌, ◌++◌, length, Option, Some, None, Result, Ok, Err}
+use Rattle.std.specs.Prelude.{◌≡◌, ⊤, ℕ, ◌+◌, ◌≤◌, Bool, true, ◌==◌, if◌then◌else◌, IsTrue, IsSomeAnd, List, [], ◌∷◌, ◌++◌, length, Option, Some, None, Result, Ok, Err}
 use Rattle.ioam_desk.specs.Desk as desk
 use Rattle.ioam_desk.specs.Desk.{Writing, Rose}
 use Rattle.ioam_desk.specs.Kept.{WritesFrom}
@@ -8,13 +8,12 @@ use Rattle.ioam_desk.specs.declared.fault.DeskFault.TheVariants as desk_fault
 use Rattle.ioam_desk_outputs.specs.Held.{HoldAllFronts}
 use Rattle.ioam_desk_outputs.specs.Told.{AreTold}
 use Rattle.ioam_desk_outputs.specs.declared.output.Output.{Output}
-use Rattle.ioam_pcap.specs.Ending.{Whole}
 use Rattle.ioam_pcap.specs.Entries.{Taken}
 use Rattle.ioam_run_answer.specs.declared.outcome.Outcome.{Outcome}
 use Rattle.ioam_run_answer.specs.declared.outcome.Outcome.TheVariants as outcome
-use Rattle.ioam_run_stream.specs.Promise.{AreFirst, EndsSo}
+use Rattle.ioam_run_stream.specs.Promise.{AreFirst}
 use Rattle.ioam_run_audit.specs.Fit.{Place}
-use Rattle.ioam_run_audit.specs.Lines.{BecomeOf, lines_of, report_of, sums_of, verdict_as, verdict_of, sums_line, verdict_line}
+use Rattle.ioam_run_audit.specs.Lines.{BecomeOf, lines_of, report_of, sums_of, verdict_as, sums_line, verdict_line}
 use Rattle.ioam_run_audit.specs.Pairs.{Ended, Pairs, ReadsTwo, Start, sums_as}
 use Rattle.ioam_run_audit.specs.Promise.{AreJudged, AreTaken}
 use Rattle.ioam_run_audit.specs.declared.counts.Counts.{Counts}
@@ -39,26 +38,18 @@ module _ (tells : Bool) (start : Start) (place : Place) (IsOfBefore IsOfAfter : 
     pub few_before : length xs ≤ 16777216
     pub few_after : length ys ≤ 16777216
 
--- nothing stands behind the sums; or, where both were read whole, the verdict
 module _ (start : Start) (place : Place) where
-  -- what stands behind the sums in the text of which REPORT holds a front: nothing, or the verdict where both were read whole
-  abbrev pub IsBehind : List Fate → List Taken → List ℕ → Type 0
-  IsBehind fates rest behind = (behind ≡ [])
-      ⊎ (Matched true start place (EndsSo Whole) (EndsSo Whole) fates rest × (behind ≡ verdict_line (verdict_of rest (sums_of fates).sent)))
-
-  -- these records of BEFORE are all that can be judged, where this is what the two slots have still to hand out, and the second has
+  -- these records of BEFORE were judged, where this is what the two slots have still to hand out, and the second has
   -- ended or hasn't
   abbrev pub IsJudged : desk.Reading → ℕ → ℕ → List Taken → List ℕ → Type 0
   IsJudged inputs first second = AreJudged place start.after (inputs.ended second) (inputs.left first) (inputs.left second)
 
-  -- REPORT holds a front of the text of some first packets of BEFORE by all of AFTER
+  -- REPORT holds a front of the lines and the sums of some first packets of BEFORE by all of AFTER
   pub record Fronts (outputs : Writing) : Type 0 where
     pub fates : List Fate
     pub rest : List Taken
-    pub behind : List ℕ
     pub matched : Matched true start place AreFirst AreTaken fates rest
-    pub behind_is : IsBehind fates rest behind
-    pub held : HoldAllFronts outputs (start.report ∷ []) (report_of fates behind ∷ [])
+    pub held : HoldAllFronts outputs (start.report ∷ []) (report_of fates [] ∷ [])
 
 module _ (tells : Bool) (start : Start) (place : Place) where
   -- where the desk tells, REPORT holds a front of such a text

@@ -1,10 +1,12 @@
 //! What is answered behind both captures, and what stands behind the lines then.
-ghost use Rattle.std.specs.Prelude.{◌≡◌, ◌<◌, ◌≤◌, ◌+◌, ◌^◌, ◌⊎◌, ◌∷◌, ◌++◌, [], List, ℕ, IfErr, IsTrue, OnOk, length};
+ghost use Rattle.std.specs.Prelude.{◌≡◌, ◌<◌, ◌≤◌, ◌+◌, ◌^◌, ◌⊎◌, ◌∷◌, ◌++◌, [], List, ℕ, Some, IfErr, IsTrue, OnErr, OnOk, length};
 ghost use Rattle.ioam_desk.specs.Asked.{IsFaultOf};
+ghost use Rattle.ioam_desk.specs.Desk.{holds};
 ghost use Rattle.ioam_desk.specs.Kept.{WritesFrom};
 ghost use Rattle.ioam_desk_outputs.specs.Held.{HoldAllFronts, HoldTexts};
 ghost use Rattle.ioam_desk_outputs.specs.Told.{AreOpen, AreTold, said_more};
 ghost use Rattle.ioam_run_answer.specs.declared.outcome.Outcome.{Outcome};
+ghost use Rattle.ioam_run_audit.specs.declared.lane.End.{End};
 ghost use Rattle.ioam_run_audit.specs.Runs.{answer_of, behind_of, left_of};
 
 use crate::counts::Counts;
@@ -21,7 +23,9 @@ use std::alloc::Global;
 /// The answer where BEFORE, of a name, ends so, and AFTER, of another, so: what is wrong with BEFORE comes before what is wrong
 /// with AFTER.
 pub(crate) fn answer(alloc: Global, before: &Name, after: &Name, how: End, last: End) -> Outcome
-    ensures { (result ≡ answer_of before.now after.now how last) ⊎ (result ≡ Outcome.NoMemory) }
+    ensures said { (result ≡ answer_of before.now after.now how last) ⊎ (result ≡ Outcome.NoMemory) }
+    // Of two whole captures it is Done, which takes no memory.
+    ensures done { how ≡ End.Whole → last ≡ End.Whole → result ≡ Outcome.Done }
 {
     match (how, last) {
         (End::Bad { at, fault }, _) => capture_outcome(alloc, before, at, fault),
@@ -78,6 +82,10 @@ pub(crate) fn close<D: Desk>(
     ensures fronts { IsTrue D.tells → (slot : ℕ) (names texts : List (List ℕ))
         → AreTold D.tells (D.writing desk.old) slot names outputs.old texts
         → HoldAllFronts (D.writing desk.new) names (said_more texts (behind_of counts verdict ∷ [])) }
+    // An error comes only where something is left to write.
+    ensures unfinished { OnErr result (IsTrue D.tells → (slot : ℕ) (name text : List ℕ)
+        → AreTold D.tells (D.writing desk.old) slot (name ∷ []) outputs.old (text ∷ [])
+        → holds (D.writing desk.new) name ≡ Some (text ++ behind_of counts verdict) → ⊥) }
     ensures cause { IfErr result (IsFaultOf (D.writing desk.old).side (D.writing desk.new).side) }
     ensures same { OnOk result ((D.writing desk.new).side ≡ (D.writing desk.old).side) }
     ensures asked { (D.writing desk.new).side.asked ≡ (D.writing desk.old).side.asked }

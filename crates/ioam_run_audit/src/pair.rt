@@ -79,8 +79,7 @@ impl Pair {
     /// What comes next of BEFORE. What comes next of AFTER is made known first, so that each packet of BEFORE that is taken can
     /// be judged, also where the next read fails.
     ///
-    /// `Failed`: a read failed, and the desk's count of faults rose; all packets of BEFORE were judged that can be by what was
-    /// handed out of both.
+    /// `Failed`: a read failed, and the desk's count of faults rose; all packets of BEFORE that were taken were judged.
     pub(crate) fn next<D: Desk>(
         &mut self,
         desk: &mut D,

@@ -1,4 +1,5 @@
-use Rattle.std.proofs.Common.{refl, inl, inr, [], ◌∷◌, ⊎_elim}
+use Rattle.std.proofs.Common.{◌≡◌, refl, sym, ◌∙◌, inl, inr, [], ◌∷◌, ⊎_elim}
+use Rattle.ioam_run_answer.specs.declared.outcome.Outcome.TheVariants as outcome
 use Rattle.ioam_run_audit.proofs.EndsLaws.{both_parts, both_sent, both_sums, closes}
 use Rattle.ioam_run_audit.proofs.comparison.finish_with.Goals as goal
 
@@ -21,8 +22,12 @@ returns-in-Ok-clause-finishes g c = λ start place both.
     (λ none. inr (record {
       why = inr none;
       parts = both_parts g.D.Desk.tells start place (g.D.Desk.reading c.args.desk.now) (g.D.Desk.writing c.args.desk.now) c.args.pair.now c.args.outputs.now c.args.how c.args.last both
-          (g.D.Desk.writing c.close.new.desk) c.verdict_by-verdict.result c.verdict_by-verdict.ensures c.in-Ok.ensures.fronts;
-    })) c.answer.ensures
+          (g.D.Desk.writing c.close.new.desk) c.verdict_by-verdict.result c.verdict_by-verdict.ensures c.in-Ok.ensures.fronts
+          (λ whole too told slot name text is all. not_done (sym (c.answer.ensures.done whole too) ∙ none));
+    })) c.answer.ensures.said
+  where
+    not_done : outcome.Done ≡ outcome.NoMemory → ⊥
+    not_done same = cc
 
 pub returns-in-Ok-clause-kept : goal.returns-in-Ok-clause-kept
 returns-in-Ok-clause-kept g c = λ start place both. c.in-Ok.ensures.kept start.base (start.report ∷ []) _ both.told
@@ -32,7 +37,8 @@ returns-in-Err-Failed-clause-finishes g c = λ start place both.
     inr (record {
       why = inl (refl, rw c.in-Err-Failed.field-0-is at c.in-Err-Failed.ensures.cause);
       parts = both_parts g.D.Desk.tells start place (g.D.Desk.reading c.args.desk.now) (g.D.Desk.writing c.args.desk.now) c.args.pair.now c.args.outputs.now c.args.how c.args.last both
-          (g.D.Desk.writing c.close.new.desk) c.verdict_by-verdict.result c.verdict_by-verdict.ensures c.in-Err-Failed.ensures.fronts;
+          (g.D.Desk.writing c.close.new.desk) c.verdict_by-verdict.result c.verdict_by-verdict.ensures c.in-Err-Failed.ensures.fronts
+          (λ whole too. c.in-Err-Failed.ensures.unfinished);
     })
 
 pub returns-in-Err-Failed-clause-kept : goal.returns-in-Err-Failed-clause-kept
@@ -43,7 +49,8 @@ returns-in-Err-NoMemory-clause-finishes g c = λ start place both.
     inr (record {
       why = inr refl;
       parts = both_parts g.D.Desk.tells start place (g.D.Desk.reading c.args.desk.now) (g.D.Desk.writing c.args.desk.now) c.args.pair.now c.args.outputs.now c.args.how c.args.last both
-          (g.D.Desk.writing c.close.new.desk) c.verdict_by-verdict.result c.verdict_by-verdict.ensures c.in-Err-NoMemory.ensures.fronts;
+          (g.D.Desk.writing c.close.new.desk) c.verdict_by-verdict.result c.verdict_by-verdict.ensures c.in-Err-NoMemory.ensures.fronts
+          (λ whole too. c.in-Err-NoMemory.ensures.unfinished);
     })
 
 pub returns-in-Err-NoMemory-clause-kept : goal.returns-in-Err-NoMemory-clause-kept
