@@ -67,12 +67,12 @@ wanted_long octets long = by_test (ltb (length octets) 8) refl where
   by_test true is = let short = true_lt (length octets) 8 is in absurd (omega (arith, short, long))
   by_test false is = omega (arith, four_flow (slice_index octets 3), four_seq (slice_index octets 3))
 
-whole_is : (octets : List ℕ) → wanted octets ≤ length octets → size_of octets ≤ length octets
+pub whole_is : (octets : List ℕ) → wanted octets ≤ length octets → size_of octets ≤ length octets
 whole_is octets enough =
     let least = wanted_by (ltb (length octets) 8) octets refl in
     omega (arith, enough, wanted_long octets (omega (arith, least, enough)))
 
-short_not : (octets : List ℕ) → length octets < wanted octets → size_of octets ≤ length octets → ⊥
+pub short_not : (octets : List ℕ) → length octets < wanted octets → size_of octets ≤ length octets → ⊥
 short_not octets short whole = omega (arith, short, whole, wanted_long octets (omega (arith, whole)))
 
 -- ---- one option
@@ -81,13 +81,13 @@ ioam_by : (a b : Bool) → (a || b) ≡ true → (a ≡ true) ⊎ (b ≡ true)
 ioam_by true b is = inl refl
 ioam_by false b is = inr is
 
-ioam_type : (kind : ℕ) → is_ioam_type kind ≡ true → (kind ≡ 0x11) ⊎ (kind ≡ 0x31)
+pub ioam_type : (kind : ℕ) → is_ioam_type kind ≡ true → (kind ≡ 0x11) ⊎ (kind ≡ 0x31)
 ioam_type kind is = by_case (ioam_by (eqb kind 0x11) (eqb kind 0x31) is) where
   by_case : (eqb kind 0x11 ≡ true) ⊎ (eqb kind 0x31 ≡ true) → (kind ≡ 0x11) ⊎ (kind ≡ 0x31)
   by_case (inl is) = inl (true_is kind 0x11 is)
   by_case (inr is) = inr (true_is kind 0x31 is)
 
-no_ioam : (kind : ℕ) → is_ioam_type kind ≡ false → (kind ≡ 0x11) ⊎ (kind ≡ 0x31) → ⊥
+pub no_ioam : (kind : ℕ) → is_ioam_type kind ≡ false → (kind ≡ 0x11) ⊎ (kind ≡ 0x31) → ⊥
 no_ioam kind is (inl same) = absurd (cc (sym is ∙ ap is_ioam_type same))
 no_ioam kind is (inr same) = absurd (cc (sym is ∙ ap is_ioam_type same))
 

@@ -3,6 +3,7 @@ pub mod CarriedLaws
 pub mod CountedLaws
 pub mod ExportedLaws
 pub mod FlowExportsLaws
+pub mod NotedLaws
 pub mod PartsLaws
 pub mod PlacesLaws
 pub mod RecordsLaws

@@ -4,6 +4,7 @@ pub mod Exports
 pub mod FlowExports
 pub mod Leaving
 pub mod Met
+pub mod Noted
 pub mod Notes
 pub mod Room
 pub mod Seeing

@@ -13,6 +13,7 @@ ghost use Rattle.ioam_node_visit.specs.Counted.{hop_exports, hop_notes};
 ghost use Rattle.ioam_node_visit.specs.Exported.{HasExported};
 ghost use Rattle.ioam_node_visit.specs.Exports.{records_of};
 ghost use Rattle.ioam_node_visit.specs.FlowExports.{CarriesDirect, HasFlowExports};
+ghost use Rattle.ioam_node_visit.specs.Noted.{HasNoted};
 ghost use Rattle.ioam_node_visit.specs.Notes.{notes_of};
 ghost use Rattle.ioam_node_visit.specs.Step.{node_step};
 ghost use Rattle.ioam_node_visit.specs.Stepped.{Stepped};
@@ -64,6 +65,9 @@ pub fn begin(
     ensures exported { (tunnel : Tunnel) → IsTunnel tunnel → packet.old ≡ wire_after domain.now readings.now tunnel []
         → room.new.exports ≡ room.old.exports
         ++ records_octets (tunnel_records domain.now readings.now tunnel 0 (record { place = place; time = time })) }
+    // The notes by the octets of the packet's options.
+    ensures noted { let limit = slice_index packet.old 7 in
+        HasNoted domain.now readings.now place time limit packet.old room.old.notes room.new.notes }
     // The export records by the fields of the packet's direct export options.
     ensures records { let limit = slice_index packet.old 7 in
         HasExported domain.now readings.now place time limit packet.old room.old.exports room.new.exports }
@@ -129,6 +133,9 @@ pub fn transit(
         → packet.old ≡ wire_after domain.now readings.now tunnel visits
         → room.new.exports ≡ room.old.exports
         ++ records_octets (tunnel_records domain.now readings.now tunnel (length visits) (record { place = place; time = time })) }
+    // The notes by the octets of the packet's options.
+    ensures noted { let limit = slice_index packet.old 7 - 1 in
+        HasNoted domain.now readings.now place time limit packet.old room.old.notes room.new.notes }
     // The export records by the fields of the packet's direct export options.
     ensures records { let limit = slice_index packet.old 7 - 1 in
         HasExported domain.now readings.now place time limit packet.old room.old.exports room.new.exports }
@@ -196,6 +203,9 @@ pub fn exit(
         → packet.old ≡ wire_after domain.now readings.now tunnel visits
         → room.new.exports ≡ room.old.exports
         ++ records_octets (tunnel_records domain.now readings.now tunnel (length visits) (record { place = place; time = time })) }
+    // The notes by the octets of the packet's options.
+    ensures noted { let limit = slice_index packet.old 7 - 1 in
+        HasNoted domain.now readings.now place time limit packet.old room.old.notes room.new.notes }
     // The export records by the fields of the packet's direct export options.
     ensures records { let limit = slice_index packet.old 7 - 1 in
         HasExported domain.now readings.now place time limit packet.old room.old.exports room.new.exports }

@@ -1,13 +1,15 @@
 use Rattle.std.proofs.Common.{◌-◌, ◌++◌, [], refl, ap, ◌∙◌, ℕ, List, slice_index, sym, subst, ◌≡◌, arith}
 use Rattle.ioam_dex.specs.Reads.{records_octets}
 use Rattle.ioam_ip.specs.Hop.{hop_options}
-use Rattle.ioam_node_visit.specs.Counted.{records_in}
+use Rattle.ioam_node_visit.specs.Counted.{notes_in, records_in}
 use Rattle.ioam_node_visit.specs.Exports.{records_of}
 use Rattle.ioam_node_visit.specs.FlowExports.{AreFlowExports}
+use Rattle.ioam_node_visit.specs.Notes.{notes_of}
 use Rattle.ioam_node_visit.specs.Stepped.{Stepped}
 use Rattle.ioam_node_visit.specs.Visits.{Visited, tunnel_records}
 use Rattle.ioam_node_visit.proofs.FlowExportsLaws.{flow-exports}
 use Rattle.ioam_node_visit.proofs.ExportedLaws.{exports-are, exports-only}
+use Rattle.ioam_node_visit.proofs.NotedLaws.{notes-are, notes-only}
 use Rattle.ioam_node_visit.proofs.SteppedLaws.{stepped-is, stepped-only}
 use Rattle.ioam_node_visit.proofs.RecordsLaws.{first-records}
 use Rattle.ioam_node_visit.proofs.VisitLaws.{begins}
@@ -68,4 +70,19 @@ returns-clause-flow c tunnel flow number is carries same =
       records = records;
       are = subst P hops (flow-exports d r tunnel 0 visit flow number carries);
       is = returns-clause-exported c tunnel is same;
+    }
+
+pub returns-clause-noted : goal.returns-clause-noted
+returns-clause-noted c =
+    let d = c.args.domain.now in
+    let r = c.args.readings.now in
+    let p = c.args.place in
+    let t = c.args.time in
+    let hops = slice_index c.args.packet.now 7 in
+    let options = hop_options c.args.packet.now in
+    record {
+      notes = notes_in (notes_of d r p t hops) options;
+      are = notes-are d r p t hops options;
+      only = notes-only d r p t hops options;
+      is = c.visit_packet.ensures.notes;
     }

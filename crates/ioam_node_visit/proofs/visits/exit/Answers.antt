@@ -1,12 +1,14 @@
 use Rattle.std.proofs.Common.{◌++◌, ap, ◌∙◌, ◌-◌, ℕ, List, slice_index, sym, subst, length}
 use Rattle.ioam_dex.specs.Reads.{records_octets}
 use Rattle.ioam_ip.specs.Hop.{hop_options}
-use Rattle.ioam_node_visit.specs.Counted.{records_in}
+use Rattle.ioam_node_visit.specs.Counted.{notes_in, records_in}
 use Rattle.ioam_node_visit.specs.Exports.{records_of}
+use Rattle.ioam_node_visit.specs.Notes.{notes_of}
 use Rattle.ioam_node_visit.specs.Stepped.{Stepped}
 use Rattle.ioam_node_visit.specs.Visits.{Visited, tunnel_records}
 use Rattle.ioam_node_visit.proofs.FlowExportsLaws.{flow-exports}
 use Rattle.ioam_node_visit.proofs.ExportedLaws.{exports-are, exports-only}
+use Rattle.ioam_node_visit.proofs.NotedLaws.{notes-are, notes-only}
 use Rattle.ioam_node_visit.proofs.SteppedLaws.{stepped-is, stepped-only}
 use Rattle.ioam_node_visit.proofs.RecordsLaws.{later-records}
 use Rattle.ioam_node_visit.proofs.VisitLaws.{exits}
@@ -62,4 +64,19 @@ returns-clause-flow c tunnel visits flow number is carries some same =
       records = tunnel_records c.args.domain.now c.args.readings.now tunnel (length visits) visit;
       are = flow-exports c.args.domain.now c.args.readings.now tunnel (length visits) visit flow number carries;
       is = returns-clause-exported c tunnel visits is some same;
+    }
+
+pub returns-clause-noted : goal.returns-clause-noted
+returns-clause-noted c =
+    let d = c.args.domain.now in
+    let r = c.args.readings.now in
+    let p = c.args.place in
+    let t = c.args.time in
+    let hops = slice_index c.args.packet.now 7 - 1 in
+    let options = hop_options c.args.packet.now in
+    record {
+      notes = notes_in (notes_of d r p t hops) options;
+      are = notes-are d r p t hops options;
+      only = notes-only d r p t hops options;
+      is = c.visit_packet.ensures.notes;
     }

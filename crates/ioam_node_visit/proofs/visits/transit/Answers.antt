@@ -11,6 +11,7 @@ use Rattle.ioam_node_visit.specs.Stepped.{Stepped}
 use Rattle.ioam_node_visit.specs.Visits.{Visited, tunnel_records}
 use Rattle.ioam_node_visit.proofs.FlowExportsLaws.{flow-exports}
 use Rattle.ioam_node_visit.proofs.ExportedLaws.{exports-are, exports-only}
+use Rattle.ioam_node_visit.proofs.NotedLaws.{notes-are, notes-only}
 use Rattle.ioam_node_visit.proofs.SteppedLaws.{stepped-lowered, stepped-only}
 use Rattle.ioam_node_visit.proofs.CountedLaws.{IsPacket-lowered, options_lowered}
 use Rattle.ioam_node_visit.proofs.RecordsLaws.{later-records}
@@ -109,4 +110,19 @@ returns-clause-flow c tunnel visits flow number is carries some same =
       records = tunnel_records c.args.domain.now c.args.readings.now tunnel (length visits) visit;
       are = flow-exports c.args.domain.now c.args.readings.now tunnel (length visits) visit flow number carries;
       is = returns-clause-exported c tunnel visits is some same;
+    }
+
+pub returns-clause-noted : goal.returns-clause-noted
+returns-clause-noted c =
+    let d = c.args.domain.now in
+    let r = c.args.readings.now in
+    let p = c.args.place in
+    let t = c.args.time in
+    let hops = slice_index c.args.packet.now 7 - 1 in
+    let options = hop_options c.args.packet.now in
+    record {
+      notes = notes_in (notes_of d r p t hops) options;
+      are = notes-are d r p t hops options;
+      only = notes-only d r p t hops options;
+      is = returns-clause-notes c;
     }
