@@ -2,6 +2,7 @@ mod EnclosedLaws
 pub mod ExportLaws
 pub mod FacesLaws
 mod FewLaws
+mod FlowsLaws
 pub mod FrontLaws
 mod HopLaws
 mod OrderLaws

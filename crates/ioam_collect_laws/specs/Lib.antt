@@ -1,2 +1,3 @@
 pub mod Exported
+pub mod Flows
 pub mod Paths

@@ -6,6 +6,7 @@ ghost use Rattle.std.specs.List.{All};
 ghost use Rattle.ioam_dex.specs.Record.{Record};
 ghost use Rattle.ioam_topo_file.specs.File.{IsDomainOf};
 ghost use Rattle.ioam_collect_laws.specs.Exported.{ExportsAreRead, FrontsAreRead, HasFaces, TellsRun};
+ghost use Rattle.ioam_collect_laws.specs.Flows.{AreOfFlows};
 ghost use Rattle.ioam_collect_laws.specs.Paths.{IsWithin, Regroups};
 ghost use Rattle.ioam_topo.specs.Domain.{flows};
 ghost use Rattle.ioam_topo.specs.declared.domain.Domain.{Domain};
@@ -28,6 +29,12 @@ pub fn fronts_are_read()
 /// Says that what is read of the octets that a run exports regroups to the whole paths of its packets (RFC 9326 section 3.2).
 pub fn exports_tell_paths()
     ensures { (octets : List ℕ) (read : List Record) → TellsRun octets read }
+{}
+
+/// Says that each enclosed packet of a run carries the direct export option of its flow, with its own number, and that the
+/// records of its visits have the flow's fields and that number (RFC 9326 section 3.2).
+pub fn records_are_of_flows()
+    ensures { AreOfFlows }
 {}
 
 /// Says that the numbers of the flows of a file's domain are within their types, as the laws above ask.
