@@ -11,7 +11,7 @@ use Rattle.ioam_ip.specs.Rewriting.{options_in}
 use Rattle.ioam_topo.specs.declared.domain.Domain.{Domain}
 use Rattle.ioam_audit.specs.Changed.{Changed}
 use Rattle.ioam_audit.specs.Header.{IsLowered, IsLeftBehind}
-use Rattle.ioam_audit.specs.Sent.{IsLeft, IsSentSo, MayLeaveItem}
+use Rattle.ioam_audit.specs.Sent.{IsLeft, IsSentSo, MayBecomeItem}
 use Rattle.ioam_audit.proofs.ChangesLaws.{Stand, stand_within}
 use Rattle.ioam_audit.proofs.LeftLaws.{stand-in}
 use Rattle.ioam_audit.proofs.PartsLaws.{take_two}
@@ -143,7 +143,7 @@ module _ (domain : Domain) (node hops id inward : ℕ) (before after : List ℕ)
           let within : hop_end before ≤ length before = fits.within there in
           let new = s.0 in
           let size : length new ≡ hop_end before - 40 =
-          length-Changed (MayLeaveItem domain node hops id inward) 0 (options_in (hop_head before)) (hop_head before) new (stand-in (hop_head before)) s.1 ∙ long_hop within in
+          length-Changed (MayBecomeItem domain node hops id inward) 0 (options_in (hop_head before)) (hop_head before) new (stand-in (hop_head before)) s.1 ∙ long_hop within in
           let same = long_after before after fits.header_there (hop_end before) end_order within new size s.2 in (
             same,
             header-lowered before after fits.header_there same sent_so.limit (heads_same before after fits.header_there (hop_end before) end_order within new size s.2),

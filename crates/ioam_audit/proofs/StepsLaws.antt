@@ -25,7 +25,7 @@ use Rattle.ioam_trace.proofs.FilledLaws.{Filling-filled}
 use Rattle.ioam_audit.specs.Becomes.{MayBecome}
 use Rattle.ioam_audit.specs.Changed.{Changed}
 use Rattle.ioam_audit.specs.Free.{IsFree, IsAnySnapshot}
-use Rattle.ioam_audit.specs.Sent.{MayLeave, MayLeaveItem, IsLeft, IsSentSo, IsSentAs, is_changing}
+use Rattle.ioam_audit.specs.Sent.{MayBecomeData, MayBecomeItem, IsLeft, IsSentSo, IsSentAs, is_changing}
 use Rattle.ioam_audit.proofs.ChangingLaws.{changing-is}
 use Rattle.ioam_audit.proofs.StrictLaws.{filling-legal}
 
@@ -125,7 +125,7 @@ module _ (domain : Domain) (readings : List (List Sample)) (place : Place) (time
       ∙ by_changing (eqb kind 0x31) (leb 2 (length body)) (eqb (slice_index body 1) 0) (adds domain place.node.0 body)
       (take 2 body ++ filled (drop 2 body) (view (space_in body))) body (two_of_ten body)
 
-  may_leave : (kind : ℕ) (body : List ℕ) → MayLeave domain place.node.0 hops id place.inward kind body (node_step domain readings place time hops kind body)
+  may_leave : (kind : ℕ) (body : List ℕ) → MayBecomeData domain place.node.0 hops id place.inward kind body (node_step domain readings place time hops kind body)
   may_leave kind body =
       subst (λ xs. MatchBool (is_changing domain place.node.0 kind body) ((take 2 xs ≡ take 2 body) × MayBecome hops id place.inward (drop 2 body) (drop 2 xs)) (xs ≡ body))
       (sym (changed_is kind body))
@@ -133,7 +133,7 @@ module _ (domain : Domain) (readings : List (List Sample)) (place : Place) (time
       (λ is. (changing-is domain place.node.0 kind body is).1) (may_become (drop 2 body) (space_in body)))
 
   -- all of a header
-  left : (head : List ℕ) (items : List Item) → Changed (MayLeaveItem domain place.node.0 hops id place.inward) head items (with_steps step head items)
+  left : (head : List ℕ) (items : List Item) → Changed (MayBecomeItem domain place.node.0 hops id place.inward) head items (with_steps step head items)
   left head [] = refl
   left head (item ∷ items) =
       (step item.kind item.body, length-step domain readings place time hops item.kind item.body, may_leave item.kind item.body, left (with_step step head item) items)

@@ -24,19 +24,19 @@ end_of None = 0
 end_of (Some link) = link.in_id
 
 module _ (domain : Domain) (node hops id inward : ℕ) where
-  -- a node may leave the data of an option so
-  abbrev pub MayLeave : ℕ → List ℕ → List ℕ → Type 0
-  MayLeave kind old new = MatchBool (is_changing domain node kind old)
+  -- a node may have made this of the data of an option
+  abbrev pub MayBecomeData : ℕ → List ℕ → List ℕ → Type 0
+  MayBecomeData kind old new = MatchBool (is_changing domain node kind old)
       ((take 2 new ≡ take 2 old) × MayBecome hops id inward (drop 2 old) (drop 2 new))
       (new ≡ old)
 
-  -- a node may leave the data of this option so
-  abbrev pub MayLeaveItem : Item → List ℕ → Type 0
-  MayLeaveItem item body = MayLeave item.kind item.body body
+  -- a node may have made this of the data of this option
+  abbrev pub MayBecomeItem : Item → List ℕ → Type 0
+  MayBecomeItem item body = MayBecomeData item.kind item.body body
 
   -- the header of these octets but for the data of its options
   abbrev pub IsLeft : List ℕ → List ℕ → Type 0
-  IsLeft head new = Changed MayLeaveItem head (options_in head) new
+  IsLeft head new = Changed MayBecomeItem head (options_in head) new
 
   -- the packet with its hop limit, 2 or more, one less, and all else as it was but for the data of the options of its outer
   -- Hop-by-Hop Options header

@@ -3,7 +3,7 @@ ghost use Rattle.std.specs.Prelude.{◌≡◌, ◌<◌, ◌≤◌, ◌↔◌, tr
 ghost use Rattle.ioam_node_visit.specs.Step.{knows, space_in};
 ghost use Rattle.ioam_topo.specs.Domain.{nodes};
 ghost use Rattle.ioam_audit.specs.Becomes.{MayBecome};
-ghost use Rattle.ioam_audit.specs.Sent.{MayLeave, is_changing};
+ghost use Rattle.ioam_audit.specs.Sent.{MayBecomeData, is_changing};
 
 use crate::data::may_become;
 use crate::parts::is_same;
@@ -55,7 +55,7 @@ pub(crate) fn may_leave(
     new: &[u8],
 ) -> bool
     requires { length new.now ≡ length old.now }
-    ensures { IsTrue result ↔ MayLeave domain.now node.0 sight.hops sight.id sight.inward kind old.now new.now }
+    ensures { IsTrue result ↔ MayBecomeData domain.now node.0 sight.hops sight.id sight.inward kind old.now new.now }
 {
     if !is_changing(domain, node, kind, old) {
         return is_same(new, old);

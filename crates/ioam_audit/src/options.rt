@@ -1,7 +1,7 @@
 //! Whether an options header is what a node may have left of it.
 ghost use Rattle.std.specs.Prelude.{◌≡◌, ◌+◌, ◌≤◌, ◌↔◌, IsTrue, length, slice_range};
 ghost use Rattle.ioam_ip.specs.Spot.{spot_end};
-ghost use Rattle.ioam_audit.specs.Sent.{IsLeft, MayLeave};
+ghost use Rattle.ioam_audit.specs.Sent.{IsLeft, MayBecomeData};
 
 use crate::left::may_leave;
 use crate::parts::is_same;
@@ -23,7 +23,7 @@ fn agrees_at(
     requires behind { from ≤ spot.at + 2 }
     requires within { spot_end spot ≤ length old.now }
     ensures { IsTrue result ↔ ((slice_range new.now from (spot.at + 2) ≡ slice_range old.now from (spot.at + 2))
-        × MayLeave domain.now node.0 sight.hops sight.id sight.inward spot.kind
+        × MayBecomeData domain.now node.0 sight.hops sight.id sight.inward spot.kind
         (slice_range old.now (spot.at + 2) (spot_end spot)) (slice_range new.now (spot.at + 2) (spot_end spot))) }
 {
     let start = spot.at + 2;

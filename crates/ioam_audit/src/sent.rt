@@ -2,12 +2,10 @@
 ghost use Rattle.std.specs.Prelude.{◌≡◌, ◌<◌, ◌≤◌, ◌-◌, ◌↔◌, ℕ, List, IsTrue, IfSome, drop, length, slice_index, slice_range, slice_get};
 ghost use Rattle.ioam_clock.specs.declared.sample.Sample.{Sample};
 ghost use Rattle.ioam_ip.specs.Chain.{IsSound};
-ghost use Rattle.ioam_ip.specs.Hop.{hop_stepped};
-ghost use Rattle.ioam_ip.specs.Lowered.{lowered};
 ghost use Rattle.ioam_ip.specs.Packet.{IsPacket};
 ghost use Rattle.ioam_node.specs.declared.place.Place.{Place};
 ghost use Rattle.ioam_node_visit.specs.Seeing.{id_of};
-ghost use Rattle.ioam_node_visit.specs.Step.{node_step};
+ghost use Rattle.ioam_node_visit.specs.Stepped.{Stepped};
 ghost use Rattle.ioam_topo.specs.Domain.{links, nodes};
 ghost use Rattle.ioam_audit.specs.Header.{IsLeftBehind, IsLowered};
 ghost use Rattle.ioam_audit.specs.Sent.{IsLeft, IsSentAs, end_of};
@@ -108,11 +106,11 @@ pub fn legal(domain: &Domain, node: NodeId, link: LinkId, before: &[u8], after: 
     requires packet { IsPacket before.now }
     requires sound { IsSound before.now }
     ensures legal { IsTrue result ↔ IsSentAs domain.now node.0 (end_of (slice_get (links domain.now) link.0)) before.now after.now }
-    // What the node of this domain itself makes of a packet is legal.
+    // What the node of this domain itself leaves of a packet, place by place, is legal.
     ensures steps { (readings : List (List Sample)) (place : Place) (time : ℕ) → place.node.0 ≡ node.0
         → place.inward ≡ end_of (slice_get (links domain.now) link.0) → IfSome place.outward (λ number. number < 4294967296)
         → 2 ≤ slice_index before.now 7
-        → after.now ≡ hop_stepped (node_step domain.now readings place time (slice_index before.now 7 - 1)) (lowered 1 before.now)
+        → Stepped domain.now readings place time (slice_index before.now 7 - 1) (slice_index before.now 7 - 1) before.now after.now
         → IsTrue result }
 {
     let sight = sight_of(domain, node, link, before);

@@ -2,18 +2,18 @@ use Rattle.std.proofs.Common.{ℕ, List, arith, sym, ◌∙◌}
 use Rattle.std.proofs.lemmas.List.{take_rest}
 use Rattle.ioam_ip.specs.Options.{Item}
 use Rattle.ioam_ip.specs.Spot.{IsNext}
-use Rattle.ioam_audit.specs.Sent.{MayLeaveItem}
+use Rattle.ioam_audit.specs.Sent.{MayBecomeItem}
 use Rattle.ioam_audit.proofs.LeftLaws.{rest-all, turn-opens, turn-closes, last}
 use Rattle.ioam_audit.proofs.options.agree.Goals as goal
 
 pub options-init : goal.options-init
 options-init c =
-    let May : Item → List ℕ → Type 0 = MayLeaveItem c.args.domain.now c.args.node.0 c.args.sight.hops c.args.sight.id c.args.sight.inward in
+    let May : Item → List ℕ → Type 0 = MayBecomeItem c.args.domain.now c.args.node.0 c.args.sight.hops c.args.sight.id c.args.sight.inward in
     (omega arith, omega arith, rest-all May c.args.old.now c.args.new.now c.requires)
 
 pub options-preserved : goal.options-preserved
 options-preserved c =
-    let May : Item → List ℕ → Type 0 = MayLeaveItem c.args.domain.now c.args.node.0 c.args.sight.hops c.args.sight.id c.args.sight.inward in
+    let May : Item → List ℕ → Type 0 = MayBecomeItem c.args.domain.now c.args.node.0 c.args.sight.hops c.args.sight.id c.args.sight.inward in
     let old = c.args.old.now in
     let new = c.args.new.now in
     let so_far = c.options.invariant in
@@ -30,7 +30,7 @@ options-preserved c =
 
 pub returns-then-not-agrees_at : goal.returns-then-not-agrees_at
 returns-then-not-agrees_at c =
-    let May : Item → List ℕ → Type 0 = MayLeaveItem c.args.domain.now c.args.node.0 c.args.sight.hops c.args.sight.id c.args.sight.inward in
+    let May : Item → List ℕ → Type 0 = MayBecomeItem c.args.domain.now c.args.node.0 c.args.sight.hops c.args.sight.id c.args.sight.inward in
     let old = c.args.old.now in
     let new = c.args.new.now in
     let so_far = c.options.invariant in
@@ -44,7 +44,7 @@ returns-then-not-agrees_at c =
 
 pub returns : goal.returns
 returns c =
-    let May : Item → List ℕ → Type 0 = MayLeaveItem c.args.domain.now c.args.node.0 c.args.sight.hops c.args.sight.id c.args.sight.inward in
+    let May : Item → List ℕ → Type 0 = MayBecomeItem c.args.domain.now c.args.node.0 c.args.sight.hops c.args.sight.id c.args.sight.inward in
     let so_far = c.options.invariant in
     let step = so_far.2 in
     let ends = last May c.args.old.now c.args.new.now c.options.from c.options.at c.in_default.ensures in

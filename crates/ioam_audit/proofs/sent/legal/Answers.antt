@@ -1,5 +1,8 @@
-use Rattle.std.proofs.Common.{◌≡◌, ℕ, ◌<◌, List, slice_get, arith, sym, subst}
-use Rattle.ioam_ip.specs.Hop.{HopFits}
+use Rattle.std.proofs.Common.{◌≡◌, ℕ, ◌-◌, ◌<◌, List, slice_get, slice_index, arith, sym, subst}
+use Rattle.ioam_ip.specs.Hop.{HopFits, hop_stepped}
+use Rattle.ioam_ip.specs.Lowered.{lowered}
+use Rattle.ioam_node_visit.specs.Step.{node_step}
+use Rattle.ioam_node_visit.proofs.SteppedLaws.{stepped-lowered, stepped-only}
 use Rattle.ioam_audit.proofs.HopFitsLaws.{HopFits-IsSound}
 use Rattle.ioam_topo.specs.Domain.{links}
 use Rattle.ioam_topo.specs.declared.domain.Domain.{Domain}
@@ -39,7 +42,10 @@ returns-clause-steps c readings place time at by outward limit stepped =
     let known = c.sight_of-sight.result in
     let is = c.sight_of-sight.ensures in
     let fits : HopFits before = HopFits-IsSound before c.requires.packet c.requires.sound in
+    let hops = slice_index before 7 - 1 in
+    let same = stepped-only domain readings place time hops hops before after (hop_stepped (node_step domain readings place time hops) (lowered 1 before)) stepped
+    (stepped-lowered domain readings place time hops before hops c.requires.sound c.requires.packet) in
     let sent = steps-sent domain readings place time node (end_of (slice_get (links domain) c.args.link.0)) before after (omega (arith, c.type_inv.before 7))
-    (subst (λ n. n < 72057594037927936) is.id known.id_below) (subst (λ n. n < 4294967296) is.inward known.inward_below) at by outward limit stepped in
+    (subst (λ n. n < 72057594037927936) is.id known.id_below) (subst (λ n. n < 4294967296) is.inward known.inward_below) at by outward limit same in
     c.is_sent.ensures.1 (sent-parts domain node known.hops known.id known.inward before after fits
     (told domain node _ _ _ known.hops known.id known.inward before after (sym is.hops) (sym is.id) (sym is.inward) sent))
