@@ -1,9 +1,12 @@
 -- What an element holds (RFC 9197 section 4.4.2), field by field.
-use Rattle.std.specs.Prelude.{ℕ, ◌+◌, ◌-◌, ◌*◌, ◌/◌, ◌%◌, if◌then◌else◌, List, take, drop, Option, Some, None}
+use Rattle.std.specs.Prelude.{ℕ, zero, suc, ◌+◌, ◌-◌, ◌*◌, ◌/◌, ◌%◌, List, [], ◌∷◌, take, drop, Option, Some, None}
 use Rattle.ioam_base.specs.Octets.{u32_at}
-use Rattle.ioam_data.specs.Kind.{has, where_has, words}
+use Rattle.ioam_data.specs.Kind.{words}
+use Rattle.ioam_data.specs.Shape.{parted, joined_if}
+use Rattle.ioam_data.specs.Table.{table, numbers_by, rest_by}
 use Rattle.ioam_data.specs.View.{snapshot_data}
 use Rattle.ioam_data.specs.declared.held.Fields.{Fields}
+pub use Rattle.ioam_data.specs.Bits.{when_has, past}
 
 -- the fields of an element without where they lie in memory
 pub record Held : Type 0 where
@@ -41,7 +44,41 @@ held fields = record {
   snapshot = snapshot_data fields.snapshot;
 }
 
--- ---- a field at the front of octets
+-- ---- fields by the numbers of the table
+
+-- the number of the row at an index
+abbrev pub number_at_row : ℕ → List (Option ℕ) → Option ℕ
+number_at_row row [] = None
+number_at_row zero (number ∷ numbers) = number
+number_at_row (suc row) (number ∷ numbers) = number_at_row row numbers
+
+-- fields by the number of each row, the filler and the snapshot
+abbrev pub named : List (Option ℕ) → List ℕ → Option (ℕ × List ℕ) → Held
+named numbers filler snapshot = record {
+  hop_node = parted 16777216 (number_at_row 0 numbers);
+  faces = parted 65536 (number_at_row 1 numbers);
+  seconds = number_at_row 2 numbers;
+  fraction = number_at_row 3 numbers;
+  delay = number_at_row 4 numbers;
+  short = number_at_row 5 numbers;
+  queue = number_at_row 6 numbers;
+  check = number_at_row 7 numbers;
+  wide_hop_node = parted 72057594037927936 (number_at_row 8 numbers);
+  wide_faces = parted 4294967296 (number_at_row 9 numbers);
+  wide = number_at_row 10 numbers;
+  buffer = number_at_row 11 numbers;
+  filler = filler;
+  snapshot = snapshot;
+}
+
+-- the number of each row
+abbrev pub numbers_of : Held → List (Option ℕ)
+numbers_of held = joined_if 16777216 held.hop_node ∷ (joined_if 65536 held.faces
+    ∷ (held.seconds ∷ (held.fraction ∷ (held.delay ∷ (held.short ∷ (held.queue ∷ (held.check
+    ∷ (joined_if 72057594037927936 held.wide_hop_node ∷ (joined_if 4294967296 held.wide_faces
+    ∷ (held.wide ∷ (held.buffer ∷ [])))))))))))
+
+-- ---- a field at the start of octets
 
 -- 8 bits and 24 bits
 abbrev pub hop_node_at : List ℕ → ℕ × ℕ
@@ -67,50 +104,15 @@ wide_faces_at octets = (u32_at octets 0, u32_at octets 4)
 abbrev pub wide_at : List ℕ → ℕ
 wide_at octets = u32_at octets 0 * 4294967296 + u32_at octets 4
 
--- a schema of 24 bits behind the octet of the length, and the data
+-- a schema of 24 bits after the octet of the length, and the data
 abbrev pub snapshot_at : List ℕ → ℕ × List ℕ
 snapshot_at octets = (u32_at octets 0 % 16777216, drop 4 octets)
 
--- the value that is read where the type has a bit
-abbrev pub when_has : {T : Type 0} → ℕ → ℕ → T → Option T
-when_has kind bit value = if has kind bit then Some value else None
-
--- the octets behind the field of a bit
-abbrev pub past : ℕ → ℕ → ℕ → List ℕ → List ℕ
-past kind bit amount octets = drop (4 * where_has kind bit amount) octets
-
 -- ---- the whole element
 
--- the fields of an element, one behind the other in bit order, the words that fill it up to NodeLen, and
--- the snapshot
+-- the fields of an element in bit order, the words that fill it up to NodeLen, and the snapshot
 unfoldable pub fields_of : ℕ → ℕ → List ℕ → Held
 fields_of kind node_len octets =
-    let behind_0 = past kind 0 1 octets in
-    let behind_1 = past kind 1 1 behind_0 in
-    let behind_2 = past kind 2 1 behind_1 in
-    let behind_3 = past kind 3 1 behind_2 in
-    let behind_4 = past kind 4 1 behind_3 in
-    let behind_5 = past kind 5 1 behind_4 in
-    let behind_6 = past kind 6 1 behind_5 in
-    let behind_7 = past kind 7 1 behind_6 in
-    let behind_8 = past kind 8 2 behind_7 in
-    let behind_9 = past kind 9 2 behind_8 in
-    let behind_10 = past kind 10 2 behind_9 in
-    let behind_11 = past kind 11 1 behind_10 in
+    let rest = rest_by table kind octets in
     let filler = 4 * (node_len - words kind) in
-    record {
-      hop_node = when_has kind 0 (hop_node_at octets);
-      faces = when_has kind 1 (faces_at behind_0);
-      seconds = when_has kind 2 (number_at behind_1);
-      fraction = when_has kind 3 (number_at behind_2);
-      delay = when_has kind 4 (number_at behind_3);
-      short = when_has kind 5 (number_at behind_4);
-      queue = when_has kind 6 (number_at behind_5);
-      check = when_has kind 7 (number_at behind_6);
-      wide_hop_node = when_has kind 8 (wide_hop_node_at behind_7);
-      wide_faces = when_has kind 9 (wide_faces_at behind_8);
-      wide = when_has kind 10 (wide_at behind_9);
-      buffer = when_has kind 11 (number_at behind_10);
-      filler = take filler behind_11;
-      snapshot = when_has kind 22 (snapshot_at (drop filler behind_11));
-    }
+    named (numbers_by table kind octets) (take filler rest) (when_has kind 22 (snapshot_at (drop filler rest)))

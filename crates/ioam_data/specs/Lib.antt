@@ -1,10 +1,15 @@
+pub mod Before
+pub mod Bits
 pub mod Cursor
 pub mod Elements
 pub mod Fields
 pub mod Kind
 pub mod OptionType
+pub mod Shape
 pub mod Shown
 pub mod Snapshot
+pub mod Table
+pub mod Values
 pub mod View
 pub mod Whole
 pub mod Written

@@ -1,6 +1,8 @@
 //! The fields of an element as they are read, one behind the other.
 ghost use Rattle.std.specs.Prelude.{◌≡◌, ℕ, ◌+◌, ◌*◌, ◌<◌, ◌≤◌, length};
 ghost use Rattle.ioam_data.specs.Kind.{where_has};
+ghost use Rattle.ioam_data.specs.Shape.{parted, number_of};
+ghost use Rattle.ioam_data.specs.Shape.Shape.{HopNode, Pair, WideHopNode, WidePair};
 ghost use Rattle.ioam_data.specs.Fields.{when_has, hop_node_at, faces_at, number_at, wide_hop_node_at, wide_faces_at, wide_at};
 
 use crate::kind::TraceType;
@@ -51,6 +53,7 @@ impl<'a> Cursor<'a> {
         requires bit { bit < 24 }
         requires room { HasRoom self.old bit 1 }
         ensures value { result ≡ when_has self.old.kind bit (hop_node_at self.old.rest.now) }
+        ensures number { result ≡ parted 16777216 (when_has self.old.kind bit (number_of HopNode self.old.rest.now)) }
         ensures passes { Passes self.old self.new bit 1 }
     {
         let word = self.number(bit)?;
@@ -63,6 +66,7 @@ impl<'a> Cursor<'a> {
         requires bit { bit < 24 }
         requires room { HasRoom self.old bit 1 }
         ensures value { result ≡ when_has self.old.kind bit (faces_at self.old.rest.now) }
+        ensures number { result ≡ parted 65536 (when_has self.old.kind bit (number_of Pair self.old.rest.now)) }
         ensures passes { Passes self.old self.new bit 1 }
     {
         let word = self.number(bit)?;
@@ -75,6 +79,7 @@ impl<'a> Cursor<'a> {
         requires bit { bit < 24 }
         requires room { HasRoom self.old bit 2 }
         ensures value { result ≡ when_has self.old.kind bit (wide_faces_at self.old.rest.now) }
+        ensures number { result ≡ parted 4294967296 (when_has self.old.kind bit (number_of WidePair self.old.rest.now)) }
         ensures passes { Passes self.old self.new bit 2 }
     {
         if !self.kind.has(bit) {
@@ -103,6 +108,7 @@ impl<'a> Cursor<'a> {
         requires bit { bit < 24 }
         requires room { HasRoom self.old bit 2 }
         ensures value { result ≡ when_has self.old.kind bit (wide_hop_node_at self.old.rest.now) }
+        ensures number { result ≡ parted 72057594037927936 (when_has self.old.kind bit (number_of WideHopNode self.old.rest.now)) }
         ensures passes { Passes self.old self.new bit 2 }
     {
         let (first, second) = self.wide_faces(bit)?;

@@ -1,6 +1,7 @@
 //! IOAM trace types and the elements that nodes record (RFC 9197 section 4.4).
 #![tactic(auto)]
 
+mod before;
 pub mod bit;
 mod buffer;
 mod cursor;
@@ -16,6 +17,7 @@ mod units;
 mod view;
 mod writer;
 
+pub use before::is_as_before;
 pub use buffer::ElementBuf;
 pub use cursor::Cursor;
 pub use exported::put_exported;

@@ -26,7 +26,7 @@ fn snapshot(kind: TraceType, octets: &[u8]) -> Option<(u32, &[u8])>
 }
 
 // The fields of an element, by the rules alone.
-#[tactic(auto, unfolding(crate::specs::Kind::words, crate::specs::Fields::fields_of))]
+#[tactic(auto, unfolding(crate::specs::Kind::words, crate::specs::Table::table, crate::specs::Fields::fields_of))]
 fn read_fields(kind: TraceType, node_len: u8, octets: &[u8]) -> Fields<'_>
     requires { IsElement kind node_len octets.now }
     ensures { held result ≡ fields_of kind node_len octets.now }
