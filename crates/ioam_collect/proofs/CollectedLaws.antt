@@ -12,6 +12,7 @@ use Rattle.ioam_base.specs.Octets.{u32_at}
 use Rattle.ioam_data.specs.Kind.{has, where_has, words}
 use Rattle.ioam_data.specs.Elements.{IsFilled}
 use Rattle.ioam_data.specs.Fields.{fields_of}
+use Rattle.ioam_data.specs.Table.{table}
 use Rattle.ioam_dex.specs.Record.{Record}
 use Rattle.ioam_pool.specs.Entry.{Entry}
 use Rattle.ioam_pool.specs.Order.{IsInOrder}
@@ -36,14 +37,14 @@ where_zero true n none = absurd (omega arith)
 where_zero false n none = refl
 
 has_none : (kind : ℕ) → words kind ≡ 0 → (has kind 0 ≡ false) × (has kind 8 ≡ false)
-unfolding words
+unfolding words table
 has_none kind none =
     let first : where_has kind 0 1 ≡ 0 = omega arith in
     let wide : where_has kind 8 2 ≡ 0 = omega arith in
     (where_zero (has kind 0) 0 first, where_zero (has kind 8) 1 wide)
 
 no_hops_void : (x : Record) → has x.kind 0 ≡ false → has x.kind 8 ≡ false → hops_of x ≡ None
-unfolding fields_of
+unfolding fields_of table
 no_hops_void x first wide = rw (first, wide) refl
 
 pub zero_from : (n : ℕ) → true ≡ (n == 0) → n ≡ 0
@@ -61,7 +62,7 @@ no_hops x (inr void) none = let both = has_none x.kind void.wordless in no_hops_
 
 -- a type with bit 0 has an element, which begins with the hop value
 pub first_room : (x : Record) → IsFilled x.kind x.element → has x.kind 0 ≡ true → 4 ≤ length x.element
-unfolding words
+unfolding words table
 first_room x (inl element) first =
     let whole = element.whole in
     let one : where_has x.kind 0 1 ≡ 1 = rw first refl in
@@ -69,7 +70,7 @@ first_room x (inl element) first =
 first_room x (inr void) first = let none = (has_none x.kind void.wordless).0 in absurd (cc (none, first))
 
 pub first_hops : (x : Record) → has x.kind 0 ≡ true → hops_of x ≡ Some (u32_at x.element 0 / 16777216)
-unfolding fields_of
+unfolding fields_of table
 first_hops x first = rw first refl
 
 -- ---- one record more

@@ -13,7 +13,7 @@ use Rattle.ioam_data.specs.Snapshot.{IsSnapshot}
 use Rattle.ioam_data.specs.Table.{table, octets_by}
 use Rattle.ioam_data.specs.View.{Seen, IsSeen}
 use Rattle.ioam_data.specs.Written.{part, snapshot_of, element_of, or_ones, or_wide_ones, narrow_face, narrow_id, seconds_of, fraction_of, delay_of}
-use Rattle.ioam_data.proofs.TableLaws.{Fit, length-octets_by, numbers_by-octets_by, drop-rest_by}
+use Rattle.ioam_data.proofs.TableLaws.{Fit, length-octets_by, numbers_by-kept, kept_by-shown, drop-rest_by}
 
 -- ---- what is written fits its field
 
@@ -112,7 +112,7 @@ fields_of-element_of kind node_len view is =
     let ones = replicate count 255 in
     let last = part kind 22 (snapshot_of view.snapshot) in
     let long : length ones ≡ count = length-replicate count 255 in
-    let numbers = numbers_by-octets_by table kind view (ones ++ last) (table-fit view is) in
+    let numbers = numbers_by-kept table kind view (ones ++ last) ∙ kept_by-shown table kind view (table-fit view is) in
     let rest = sym (drop-rest_by table kind (octets_by table kind view ++ (ones ++ last)))
     ∙ drop_at (octets_by table kind view) (ones ++ last) (4 * words kind) (length-octets_by table kind view) in
     let filler = ap (take count) rest ∙ take_at ones last count long in

@@ -1,5 +1,5 @@
 -- What is read of an element tells all of its octets.
-use Rattle.std.proofs.Common.{◌≡◌, ℕ, ◌+◌, ◌*◌, ◌-◌, ◌/◌, ◌%◌, ◌≤◌, Bool, true, false, cond, List, [], ◌∷◌, ◌++◌, length, take, drop, get_or, arith, refl, sym, ap, ◌∙◌, Option, Some, None}
+use Rattle.std.proofs.Common.{◌≡◌, ℕ, ◌+◌, ◌*◌, ◌-◌, ◌/◌, ◌%◌, Bool, true, false, cond, List, [], ◌∷◌, ◌++◌, length, take, drop, get_or, arith, refl, sym, ap, ◌∙◌, Option, Some, None}
 use Rattle.std.proofs.lemmas.List.{length-drop, get_or-drop, drop-drop, take-append-drop, nil_from_length}
 use Rattle.ioam_base.specs.Octets.{IsOctets, u32_at}
 use Rattle.ioam_base.specs.Words.{four_octets}
@@ -30,7 +30,7 @@ joined-parted unit is None = refl
 joined-parted unit is (Some number) = ap Some (is number)
 
 -- a row of the table each
-numbers_of-named : (kind : ℕ) (octets filler : List ℕ) (snapshot : Option (ℕ × List ℕ)) → numbers_of (named (numbers_by table kind octets) filler snapshot) ≡ numbers_by table kind octets
+pub numbers_of-named : (kind : ℕ) (octets filler : List ℕ) (snapshot : Option (ℕ × List ℕ)) → numbers_of (named (numbers_by table kind octets) filler snapshot) ≡ numbers_by table kind octets
 unfolding table
 numbers_of-named kind octets filler snapshot =
     let hop_node = joined-parted 16777216 (λ n. omega arith) (number_at_row 0 (numbers_by table kind octets)) in

@@ -1,5 +1,5 @@
 -- What an element holds (RFC 9197 section 4.4.2), field by field.
-use Rattle.std.specs.Prelude.{ℕ, zero, suc, ◌+◌, ◌-◌, ◌*◌, ◌/◌, ◌%◌, List, [], ◌∷◌, take, drop, Option, Some, None}
+use Rattle.std.specs.Prelude.{ℕ, zero, suc, ◌+◌, ◌-◌, ◌*◌, ◌/◌, ◌%◌, List, [], ◌∷◌, take, drop, Option, None}
 use Rattle.ioam_base.specs.Octets.{u32_at}
 use Rattle.ioam_data.specs.Kind.{words}
 use Rattle.ioam_data.specs.Shape.{parted, joined_if}

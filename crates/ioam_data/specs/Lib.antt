@@ -1,4 +1,3 @@
-pub mod Before
 pub mod Bits
 pub mod Cursor
 pub mod Elements

@@ -1,7 +1,7 @@
 -- The fields of an element (RFC 9197 section 4.4.2), a row each, in the order of their bits; and what any list of rows
 -- says of octets.
 use Rattle.std.specs.Prelude.{ℕ, zero, suc, ◌+◌, ◌%◌, Bool, false, ◌||◌, ◌==◌, if◌then◌else◌, List, [], ◌∷◌, ◌++◌, take, drop, Option, Some, None}
-use Rattle.ioam_data.specs.Bits.{has, where_has, part, when_has, past}
+use Rattle.ioam_data.specs.Bits.{where_has, part, when_has, past}
 use Rattle.ioam_data.specs.Shape.{Shape, words_of, octets_of, number_of, joined}
 use Rattle.ioam_data.specs.Shape.Shape.{HopNode, Pair, Word, WideHopNode, WidePair, DoubleWord}
 use Rattle.ioam_data.specs.Values.{or_ones, or_wide_ones, narrow_face, narrow_id, seconds_of, fraction_of, delay_of}

@@ -1,7 +1,6 @@
 //! IOAM trace types and the elements that nodes record (RFC 9197 section 4.4).
 #![tactic(auto)]
 
-mod before;
 pub mod bit;
 mod buffer;
 mod cursor;
@@ -17,10 +16,9 @@ mod units;
 mod view;
 mod writer;
 
-pub use before::is_as_before;
 pub use buffer::ElementBuf;
 pub use cursor::Cursor;
-pub use exported::put_exported;
+pub use exported::{MOST_EXPORTED, put_exported};
 pub use held::Fields;
 pub use kind::TraceType;
 pub use namespace::Namespace;

@@ -7,6 +7,7 @@ use Rattle.ioam_base.specs.Words.{two_octets, three_octets, four_octets_if}
 use Rattle.ioam_base.proofs.OctetsLaws.{u32_at-fits}
 use Rattle.ioam_base.proofs.WordsLaws.{octet-at, two-at, three-at, two_octets-same, three_octets-same, four_octets_if-same}
 use Rattle.ioam_data.specs.Elements.{IsFilled}
+use Rattle.ioam_data.specs.Written.{most_exported}
 use Rattle.ioam_dex.specs.Numbers.{has_flow, has_seq, four_where, numbers_size, u32_where}
 use Rattle.ioam_dex.specs.Visit.{has_visit, version_of, visit_octets, twelve_where, visit_where}
 use Rattle.ioam_dex.specs.Record.{Record, HasItsParts, front_size, record_size, record_octets, IsRecord, Rec, length_of, front_of, element_of, kind_of, record_at, IsSized}
@@ -258,7 +259,7 @@ pub record AtPlaces (octets : List ℕ) : Type 0 where
   pub front : front_of octets ≤ length octets
   pub size : length octets ≡ length_of octets
   pub filled : IsFilled (kind_of octets) (element_of octets)
-  pub short : length (element_of octets) ≤ 244
+  pub short : length (element_of octets) ≤ most_exported
 
 pub at_places : (octets : List ℕ) (x : Record) → Rec octets x → AtPlaces octets
 at_places octets x rec =

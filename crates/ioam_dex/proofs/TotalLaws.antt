@@ -6,6 +6,7 @@ use Rattle.std.proofs.lemmas.List.Elements.{All-nil}
 use Rattle.ioam_base.specs.Octets.{IsOctets}
 use Rattle.ioam_data.specs.Kind.{has, words}
 use Rattle.ioam_data.specs.Elements.{size_at, IsElement, IsVoid, IsFilled}
+use Rattle.ioam_data.specs.Written.{most_exported}
 use Rattle.ioam_dex.specs.declared.export.ExportFault.{ExportFault}
 use Rattle.ioam_dex.specs.declared.export.ExportFault.TheVariants as fault
 use Rattle.ioam_dex.specs.Visit.{IsVersion}
@@ -84,7 +85,7 @@ module _ (octets : List ℕ) (small : IsOctets octets) where
         | inl few ↦ inr (inl (inr (inl (version, few))))
         | inr begins ↦ elim (cases_lt (length_of octets) (front_of octets)) [
           | inl low ↦ inr (inr (fault.Length (length_of octets), (begins, version, refl, inl low)))
-          | inr least ↦ elim (cases_lt (front_of octets + 244) (length_of octets)) [
+          | inr least ↦ elim (cases_lt (front_of octets + most_exported) (length_of octets)) [
             | inl high ↦ inr (inr (fault.Length (length_of octets), (begins, version, refl, inr high)))
             | inr most ↦ sized_at (record { begins = begins; version = version; least = least; most = most })
           ]

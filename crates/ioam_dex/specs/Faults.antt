@@ -8,6 +8,7 @@ use Rattle.ioam_dex.specs.declared.head.RecordHead.{RecordHead}
 use Rattle.ioam_dex.specs.declared.head.RecordStep.{RecordStep}
 use Rattle.ioam_dex.specs.declared.head.RecordStep.TheVariants as step
 use Rattle.ioam_data.specs.Elements.{IsFilled}
+use Rattle.ioam_data.specs.Written.{most_exported}
 use Rattle.ioam_dex.specs.Visit.{IsVersion}
 use Rattle.ioam_dex.specs.Record.{Record, IsRecord, record_octets, length_of, front_of, element_of, kind_of, IsSized}
 
@@ -15,7 +16,7 @@ use Rattle.ioam_dex.specs.Record.{Record, IsRecord, record_octets, length_of, fr
 abbrev pub Fault : List ℕ → ExportFault → Type 0
 Fault octets (fault.Version found) = (1 ≤ length octets) × (found ≡ slice_index octets 0) × (found ≢ 1) × (found ≢ 2)
 Fault octets (fault.Length found) = (4 ≤ length octets) × IsVersion (slice_index octets 0) × (found ≡ length_of octets)
-    × ((found < front_of octets) ⊎ (front_of octets + 244 < found))
+    × ((found < front_of octets) ⊎ (front_of octets + most_exported < found))
 Fault octets (fault.Element at) = IsSized octets × (length_of octets ≤ length octets) × (at ≡ front_of octets)
     × (IsFilled (kind_of octets) (element_of octets) → ⊥)
 Fault octets (fault.Short have) = ⊥

@@ -5,11 +5,12 @@ use Rattle.std.specs.Prelude.{ℕ, ◌+◌, ◌-◌, ◌≡◌, ◌<◌, ◌≤�
 use Rattle.ioam_base.specs.Octets.{u16_at, u24_at}
 use Rattle.ioam_base.specs.Words.{two_octets, three_octets, four_octets_if}
 use Rattle.ioam_data.specs.Elements.{IsFilled}
+use Rattle.ioam_data.specs.Written.{most_exported}
 use Rattle.ioam_dex.specs.Numbers.{has_flow, has_seq, four_where, numbers_size, u32_where}
 use Rattle.ioam_dex.specs.declared.export.Export.{Export}
 use Rattle.ioam_dex.specs.Visit.{IsVersion, has_visit, version_of, visit_octets, twelve_where, visit_where, IsVisitBelow}
 
--- the most octets of one: 30 in front of an element of 244
+-- the most octets of one: 30 before an element of 244
 abbrev pub most_record : ℕ
 most_record = 274
 
@@ -47,7 +48,7 @@ pub record HasItsParts (x : Record) : Type 0 where
   pub flow : is_some x.flow ≡ has_flow x.ext
   pub seq : is_some x.seq ≡ has_seq x.ext
   pub filled : IsFilled x.kind x.element
-  pub short : length x.element ≤ 244
+  pub short : length x.element ≤ most_exported
 
 -- its numbers are within their fields
 pub record IsNumbered (x : Record) : Type 0 where
@@ -124,4 +125,4 @@ pub record IsSized (octets : List ℕ) : Type 0 where
   pub begins : 4 ≤ length octets
   pub version : IsVersion (slice_index octets 0)
   pub least : front_of octets ≤ length_of octets
-  pub most : length_of octets ≤ front_of octets + 244
+  pub most : length_of octets ≤ front_of octets + most_exported

@@ -1,6 +1,7 @@
 //! A record as octets, and the one record that octets are.
 ghost use Rattle.std.specs.Prelude.{◌≡◌, ◌+◌, ◌<◌, ◌≤◌, ◌∷◌, ◌++◌, length, IsSomeAnd, MatchOption};
 ghost use Rattle.ioam_base.specs.Words.{two_octets, three_octets};
+ghost use Rattle.ioam_data.specs.Written.{most_exported};
 ghost use Rattle.ioam_dex.specs.Visit.{version_of};
 ghost use Rattle.ioam_dex.specs.Record.{Record, HasItsParts, IsNumbered, Rec, record_of, record_octets, record_size};
 ghost use Rattle.ioam_dex.specs.Faults.{said};
@@ -15,7 +16,7 @@ use crate::visit::version_of;
 
 // The numbers of a record and its sizes.
 fn head_of(export: &Export<'_>) -> RecordHead
-    requires { length export.now.element.now ≤ 244 }
+    requires { length export.now.element.now ≤ most_exported }
     ensures says { said result export.now.element.now ≡ record_of export.now }
     ensures size { result.size ≡ record_size (record_of export.now) }
 {

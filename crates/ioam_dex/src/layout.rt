@@ -1,6 +1,7 @@
 //! How many octets an export record has, and its element.
 ghost use Rattle.std.specs.Prelude.{◌≡◌, ◌≤◌, length};
 ghost use Rattle.ioam_data.specs.Elements.{IsFilled};
+ghost use Rattle.ioam_data.specs.Written.{most_exported};
 ghost use Rattle.ioam_dex.specs.Record.{Record, Rec, front_size, kind_of, element_of};
 
 use crate::fields::{EXTENSIONS, TRACE_TYPE, VERSION, VISIT};
@@ -8,10 +9,7 @@ use crate::numbers::numbers_size;
 use crate::visit::{has_visit, twelve_where};
 use ioam_data::TraceType;
 
-/// The most octets of an element: 61 words.
-pub const MOST_ELEMENT: usize = 244;
-
-/// The most octets of a record: a front of 30, and an element.
+/// The most octets of a record: 30, and an element of `MOST_EXPORTED`.
 pub const MOST_RECORD: usize = 274;
 
 /// The most records of a file of export records.
@@ -31,7 +29,7 @@ pub fn element_in(octets: &[u8]) -> (TraceType, &[u8])
     ensures kind { result.0 ≡ kind_of octets.now }
     ensures element { result.1.now ≡ element_of octets.now }
     ensures filled { IsFilled result.0 result.1.now }
-    ensures short { length result.1.now ≤ 244 }
+    ensures short { length result.1.now ≤ most_exported }
     // They are those that `export_of` reads.
     ensures says { (x : Record) → Rec octets.now x → (result.0 ≡ x.kind) × (result.1.now ≡ x.element) }
 {

@@ -19,7 +19,7 @@ mod visit;
 pub use direct::{Direct, DirectFault};
 pub use export::{Export, ExportFault};
 pub use exporting::{export_of, put_export};
-pub use layout::{MOST_ELEMENT, MOST_RECORD, MOST_RECORDS, element_in};
+pub use layout::{MOST_RECORD, MOST_RECORDS, element_in};
 pub use numbers::{has_flow, has_seq, u32_where};
 pub use putting::put;
 pub use reader::{ExportReader, Shown, Step};

@@ -9,11 +9,11 @@ use crate::fields::{
     EXTENSIONS, FLAGS, LENGTH, NAMESPACE, PLAIN, SIZED, TRACE_TYPE, VERSION, VISIT, VISITED,
 };
 use crate::head::{RecordHead, RecordStep, Sizing};
-use crate::layout::{MOST_ELEMENT, front_size};
+use crate::layout::front_size;
 use crate::numbers::{four_where, has_flow, has_seq, u32_where};
 use crate::visit::{has_visit, twelve_where, visit_where};
 use ioam_base::octets::u16_at;
-use ioam_data::{Namespace, TraceType, split};
+use ioam_data::{MOST_EXPORTED, Namespace, TraceType, split};
 
 impl RecordHead {
     /// The record with its element.
@@ -60,7 +60,7 @@ fn size_step(octets: &[u8]) -> Sizing
     let front = front_size(version, octets[EXTENSIONS]);
     let found = u16_at(octets, LENGTH);
     let size = usize::from(found);
-    if size < front || size > front + MOST_ELEMENT {
+    if size < front || size > front + MOST_EXPORTED {
         return Sizing::Bad(ExportFault::Length { found });
     }
     Sizing::Sized { front, size }

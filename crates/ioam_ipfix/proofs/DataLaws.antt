@@ -8,6 +8,7 @@ use Rattle.ioam_base.specs.Words.{two_octets, three_octets, four_octets_if}
 use Rattle.ioam_base.proofs.OctetsLaws.{u32_at-fits}
 use Rattle.ioam_base.proofs.WordsLaws.{octet-at, two-at, three-at, two_octets-front, two_octets-same, three_octets-same, four_octets_if-same}
 use Rattle.ioam_data.specs.Elements.{IsFilled}
+use Rattle.ioam_data.specs.Written.{most_exported}
 use Rattle.ioam_dex.specs.Numbers.{has_flow, has_seq, four_where, u32_where}
 use Rattle.ioam_dex.specs.Visit.{has_visit, version_of, visit_octets, twelve_where, visit_where}
 use Rattle.ioam_dex.specs.Record.{Record, IsRecord, IsNumbered, Rec, record_size, record_octets}
@@ -421,7 +422,7 @@ record-there id octets small is room sayable =
 -- ---- what may be said, by places
 
 pub sayable-at : (id : ℕ) (octets : List ℕ) → IsOctets octets → has_flow (get_or octets 3 0) ≡ tells_flow id → has_seq (get_or octets 3 0) ≡ tells_seq id
-    → IsFilled (u24_at octets 4) (element_at (drop (front_of id) octets)) → length (element_at (drop (front_of id) octets)) ≤ 244 → IsRecord (data_at id octets)
+    → IsFilled (u24_at octets 4) (element_at (drop (front_of id) octets)) → length (element_at (drop (front_of id) octets)) ≤ most_exported → IsRecord (data_at id octets)
 sayable-at id octets small flow seq filled short =
     let element = element_at (drop (front_of id) octets) in
     let shape = shaped-at id octets small element in

@@ -5,6 +5,7 @@ use Rattle.std.specs.List.{AllByRecursion}
 use Rattle.std.proofs.lemmas.List.{append-nil, take_all, take_at, drop_all, drop_at}
 use Rattle.ioam_base.specs.Octets.{u16_at}
 use Rattle.ioam_base.specs.Words.{two_octets, four_octets_if}
+use Rattle.ioam_data.specs.Written.{most_exported}
 use Rattle.ioam_dex.specs.Visit.{visit_octets}
 use Rattle.ioam_dex.specs.Record.{Record, IsRecord}
 use Rattle.ioam_ipfix.specs.declared.kind.SetKind.TheVariants.{Data}
@@ -26,7 +27,7 @@ four-few : (number : Option ℕ) → length (four_octets_if number) ≤ 4
 four-few None = omega arith
 four-few (Some number) = omega arith
 
-pub data-short : (x : Record) → length x.element ≤ 244 → length (data_octets x) ≤ 272
+pub data-short : (x : Record) → length x.element ≤ most_exported → length (data_octets x) ≤ 272
 data-short x short = omega (
   arith,
   short,

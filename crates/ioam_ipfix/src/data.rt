@@ -12,13 +12,11 @@ ghost use Rattle.ioam_ipfix.specs.Templates.{IsTemplate};
 use crate::kind::FIRST_TEMPLATE;
 use crate::template::{tells_flow, tells_seq, tells_visit, weight};
 use ioam_base::octets::u16_at;
-use ioam_data::{Namespace, TraceType};
+use ioam_data::{MOST_EXPORTED, Namespace, TraceType};
 use ioam_dex::fields::{
     EXTENSIONS, FLAGS, NAMESPACE, PLAIN, TRACE_TYPE, VERSION, VISIT_SIZE, VISITED,
 };
-use ioam_dex::{
-    Export, ExportRoom, MOST_ELEMENT, has_flow, has_seq, is_filled, u32_where, visit_where,
-};
+use ioam_dex::{Export, ExportRoom, has_flow, has_seq, is_filled, u32_where, visit_where};
 
 // The octets of the fields that each record has but its element: Namespace-ID, flags, extension flags and IOAM-Trace-Type.
 const FIXED: u16 = 7;
@@ -174,7 +172,7 @@ fn data_whole(id: u16, octets: &[u8]) -> Option<usize>
     };
     let element = &octets[from..to];
     if agrees(id, octets[3])
-        && element.len() <= MOST_ELEMENT
+        && element.len() <= MOST_EXPORTED
         && is_filled(TraceType::at(octets, 4), element)
     {
         Some(to)

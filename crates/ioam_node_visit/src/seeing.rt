@@ -8,7 +8,7 @@ ghost use Rattle.ioam_data.specs.Elements.{IsFilled};
 ghost use Rattle.ioam_data.specs.Kind.{words};
 ghost use Rattle.ioam_data.specs.Snapshot.{IsSnapshot};
 ghost use Rattle.ioam_data.specs.View.{seen, snapshot_data};
-ghost use Rattle.ioam_data.specs.Written.{element_of};
+ghost use Rattle.ioam_data.specs.Written.{element_of, most_exported};
 ghost use Rattle.ioam_topo.specs.Domain.{nodes, node_data};
 ghost use Rattle.ioam_topo.specs.Finding.{data_at};
 ghost use Rattle.ioam_topo.specs.Sound.{IsNodeData};
@@ -168,7 +168,7 @@ impl NodeVisit<'_> {
         ensures octets { let view = view_of self.now.domain.now self.now.readings.now self.now.place self.now.time self.now.hops namespace.0 in
             into.new ≡ element_of kind (words kind) view }
         ensures whole { IsFilled kind into.new }
-        ensures size { length into.new ≤ 244 }
+        ensures size { length into.new ≤ most_exported }
     {
         let view = self.view(kind, namespace);
         put_exported(kind, &view, into);

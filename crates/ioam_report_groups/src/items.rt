@@ -3,6 +3,7 @@ ghost use Rattle.std.specs.Prelude.{◌≡◌, ◌+◌, ◌≤◌, ◌++◌, ◌
 ghost use Rattle.std.specs.Int.{w32, to_be_bytes};
 ghost use Rattle.std.specs.List.{AllByRecursion, flat_map};
 ghost use Rattle.ioam_data.specs.Elements.{IsFilled};
+ghost use Rattle.ioam_data.specs.Written.{most_exported};
 ghost use Rattle.ioam_dex.specs.Record.{Record, Rec, kind_of, element_of};
 ghost use Rattle.ioam_report_lines.specs.Digits.{digits_of};
 ghost use Rattle.ioam_collect.specs.Keyed.{IsOfRecord};
@@ -45,7 +46,7 @@ fn put_visit(extra: &[u8], line: &mut Line)
 // Puts the line of a record together, its last word first.
 fn put_line(kind: TraceType, element: &[u8], extra: &[u8], line: &mut Line)
     requires filled { IsFilled kind element.now }
-    requires short { length element.now ≤ 244 }
+    requires short { length element.now ≤ most_exported }
     requires extra { (length extra.now ≡ 0) ⊎ (length extra.now ≡ 12) }
     ensures { line.new ≡ record_line kind element.now extra.now }
 {

@@ -4,6 +4,8 @@ use Rattle.std.proofs.lemmas.Bool.{or_parts}
 use Rattle.std.proofs.lemmas.List.{append-nil}
 use Rattle.ioam_data.specs.Fields.{Held, fields_of}
 use Rattle.ioam_data.specs.Kind.{has, words}
+use Rattle.ioam_data.specs.Table.{table}
+use Rattle.ioam_data.proofs.TableLaws.{parted-there}
 use Rattle.ioam_report_lines.specs.Early.{IsEarly, early_text}
 use Rattle.ioam_report_lines.specs.FieldsText.{element_text}
 use Rattle.ioam_report_lines.specs.Spaced.{bits_text, early_words, fillers_text, snapshot_text, spaced_fields}
@@ -51,9 +53,10 @@ early_of kind node_len exact first second no_snapshot =
 
 -- the fields of a type with none of the bits 4 to 11
 early-bits : (kind node_len : ℕ) (octets : List ℕ) → IsEarly kind node_len → bits_text (fields_of kind (words kind) octets) ≡ early_text kind octets
-unfolding bits_text fields_of
+unfolding bits_text fields_of table
 early-bits kind node_len octets is =
-    rw (is.no_delay, is.no_short, is.no_queue, is.no_check, is.no_wide_hop_node, is.no_wide_faces, is.no_wide, is.no_buffer) (simp append-nil)
+    rw (is.no_delay, is.no_short, is.no_queue, is.no_check, is.no_wide_hop_node, is.no_wide_faces, is.no_wide, is.no_buffer)
+    (append-nil _ ∙ same-words (parted-there (has kind 0) 16777216 _) (parted-there (has kind 1) 65536 _) refl refl)
 
 -- fields that nothing follows
 only-bits : (held : Held) → length held.filler ≡ 0 → held.snapshot ≡ None → spaced_fields held ≡ bits_text held

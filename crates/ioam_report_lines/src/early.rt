@@ -41,7 +41,7 @@ pub(crate) fn put_early_fields(
 
 // Puts the fields of bits 0 to 3 of an element in front of a line.
 #[inline]
-#[tactic(auto, unfolding(ioam_data::specs::Kind::words))]
+#[tactic(auto, unfolding(ioam_data::specs::Kind::words, ioam_data::specs::Table::table))]
 fn put_early(kind: TraceType, element: &[u8], line: &mut Line)
     requires fields { 4 * words kind ≤ length element.now }
     requires room { 168 + length line.old ≤ 1024 }

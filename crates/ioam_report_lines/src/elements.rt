@@ -4,6 +4,7 @@ ghost use Rattle.ioam_data.specs.Elements.{IsElement};
 ghost use Rattle.ioam_data.specs.Fields.{held, fields_of};
 ghost use Rattle.ioam_data.specs.Kind.{words};
 ghost use Rattle.ioam_data.specs.View.{snapshot_data};
+ghost use Rattle.ioam_data.specs.Written.{most_exported};
 ghost use Rattle.ioam_report_lines.specs.Digits.{digits_of};
 ghost use Rattle.ioam_report_lines.specs.FieldsText.{element_text, known_narrow, opaque_digits};
 ghost use Rattle.ioam_report_lines.specs.Spaced.{bits_text, fillers_text, snapshot_text, spaced_fields, when_there};
@@ -211,11 +212,11 @@ pub fn put_fields(
 }
 
 /// Puts the text of an element in front of a line, as [`put_fields`] appends it. The element has no words but
-/// those of the fields of its type and a snapshot, 244 octets in all at most, as that of an export record has
+/// those of the fields of its type and a snapshot, [`MOST_EXPORTED`](ioam_data::MOST_EXPORTED) octets in all at most, as that of an export record has
 /// (RFC 9326 section 3.2), or it is empty, which gives an empty text.
 pub fn put_element(kind: TraceType, element: &[u8], line: &mut Line)
     requires element { (element.now ≡ []) ⊎ IsElement kind (words kind) element.now }
-    requires short { length element.now ≤ 244 }
+    requires short { length element.now ≤ most_exported }
     requires room { 951 + length line.old ≤ 1024 }
     ensures value { line.new ≡ element_text kind (words kind) element.now ++ line.old }
     ensures size { length line.new ≤ 951 + length line.old }

@@ -6,6 +6,7 @@ use Rattle.std.specs.Str.{bytes_eq}
 use Rattle.std.proofs.lemmas.Option.{same_Some}
 use Rattle.std.proofs.lemmas.List.Elements.{All-cons, All-nil}
 use Rattle.ioam_data.specs.Kind.{has, undefined, is_entry_type}
+use Rattle.ioam_data.specs.Table.{table}
 use Rattle.ioam_topo.specs.Types.{is_direct_type, is_edge_type}
 use Rattle.ioam_topo.specs.declared.parts.Node.{Node}
 use Rattle.ioam_topo.specs.declared.parts.Link.{Link}
@@ -121,7 +122,7 @@ for_one P x p y is = subst P (same_Some x y is) p
 
 -- the flow is one that a domain may have
 bulk_flow_is : IsFlow bulk_flow
-unfolding bulk_flow has is_entry_type undefined
+unfolding bulk_flow has is_entry_type undefined table
 bulk_flow_is = record {
   source = record { short = omega arith; rest = refl };
   target = record { short = omega arith; rest = refl };

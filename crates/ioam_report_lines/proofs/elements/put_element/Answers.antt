@@ -1,6 +1,7 @@
 use Rattle.std.proofs.Common.{◌≡◌, ◌++◌, [], drop, length, sym, ap, ◌∙◌, rules}
 use Rattle.ioam_data.specs.Fields.{Held, held, fields_of}
 use Rattle.ioam_data.specs.Kind.{words}
+use Rattle.ioam_data.specs.Written.{most_exported}
 use Rattle.ioam_report_lines.specs.FieldsText.{element_text}
 use Rattle.ioam_report_lines.specs.Spaced.{spaced_fields}
 use Rattle.ioam_report_lines.proofs.FittingLaws.{no-fill, snapshot-few, data-few}
@@ -15,7 +16,7 @@ put_words-requires-clause-fill c =
 
 pub put_words-requires-clause-snapshot : goal.put_words-requires-clause-snapshot
 put_words-requires-clause-snapshot c =
-    data-few c.fields.result.snapshot 240 (snapshot-few (held c.fields.result) c.args.element.now 244 c.fields.ensures.whole c.requires.short)
+    data-few c.fields.result.snapshot 240 (snapshot-few (held c.fields.result) c.args.element.now most_exported c.fields.ensures.whole c.requires.short)
 
 pub returns-clause-value : goal.returns-clause-value
 returns-clause-value c =
