@@ -20,10 +20,8 @@ use Rattle.ioam_trace.specs.Filling.{IsOpen, words_to_add}
 use Rattle.ioam_audit.specs.Becomes.{IsFit, Adds, Overflows, MayBecome}
 use Rattle.ioam_audit.specs.Decided.{AddsSo, OverflowsSo, IsDecided}
 use Rattle.ioam_base.proofs.WordsLaws.{two-at}
-use Rattle.ioam_data.proofs.WholeLaws.{fields_of-whole}
-use Rattle.ioam_audit.proofs.LawfulLaws.{wide, lawful}
-use Rattle.ioam_audit.proofs.ShapeLaws.{octets_drop, shape}
-use Rattle.ioam_audit.proofs.CheckLaws.{IsWide}
+use Rattle.ioam_data.proofs.TableLaws.{octets_drop}
+use Rattle.ioam_audit.proofs.LawfulLaws.{lawful}
 use Rattle.ioam_audit.proofs.WitnessLaws.{witness}
 use Rattle.ioam_audit.proofs.SizeLaws.{long, one}
 use Rattle.ioam_audit.proofs.AddingLaws.{remaining_is, between_is}
@@ -80,11 +78,8 @@ module _ (hops id inward : ℕ) (old new : List ℕ) (hops_below : hops < 256) (
     abbrev element : List ℕ
     element = with_check kind (element_of kind node_len adds.view) adds.check
 
-    right : IsWide adds.view
-    right = wide kind node_len hops id inward adds.view adds.check adds.free hops_below id_below inward_below
-
     element_long : length element ≡ 4 * amount
-    element_long = long kind node_len adds.view adds.check right room
+    element_long = long kind node_len adds.view adds.check adds.free.snapshot_fits room
 
     now_left : remaining_of new ≡ remaining_of old - amount
     now_left = ap remaining_of adds.is ∙ remaining_is old element amount small_old fit.space adds.fits element_long
@@ -98,7 +93,7 @@ module _ (hops id inward : ℕ) (old new : List ℕ) (hops_below : hops < 256) (
         let may : MayAdd kind node_len hops id inward element = record { view = adds.view; check = adds.check; free = adds.free; is = refl } in
         record {
           less = omega (arith, now_left);
-          element = subst (IsElement kind node_len) (sym there) (one kind node_len adds.view adds.check right room some);
+          element = subst (IsElement kind node_len) (sym there) (one kind node_len adds.view adds.check adds.free.snapshot_fits room some);
           lawful = subst (λ xs. IsLawful hops id inward (fields_of kind node_len xs)) (sym there) (lawful kind node_len hops id inward element hops_below id_below inward_below may);
           is = adds.is ∙ ap (λ n. with_element old n element) fell ∙ ap (λ xs. with_element old (remaining_of old - remaining_of new) xs) (sym there);
         }
@@ -172,10 +167,8 @@ module _ (hops id inward : ℕ) (old new : List ℕ) (hops_below : hops < 256) (
   adds_by so =
       let e = between old new in
       let octets : IsOctets e = octets_take (4 * (remaining_of old - remaining_of new)) (drop (8 + 4 * remaining_of new) new) (octets_drop (8 + 4 * remaining_of new) new small_new) in
-      let may = witness kind node_len hops id inward (fields_of kind node_len e) (shape kind node_len e octets so.element) so.lawful hops_below id_below inward_below e
-      (fields_of-whole kind node_len e octets so.element) in
-      let right = wide kind node_len hops id inward may.view may.check may.free hops_below id_below inward_below in
-      let size : length e ≡ 4 * words_to_add old may.view = ap length may.is ∙ long kind node_len may.view may.check right room in
+      let may = witness kind node_len hops id inward e octets so.element so.lawful in
+      let size : length e ≡ 4 * words_to_add old may.view = ap length may.is ∙ long kind node_len may.view may.check may.free.snapshot_fits room in
       let there : length e ≡ 4 * (remaining_of old - remaining_of new) =
       omega (arith, so.less, same, fit.space, length-take (4 * (remaining_of old - remaining_of new)) (drop (8 + 4 * remaining_of new) new), length-drop (8 + 4 * remaining_of new) new) in
       let fell : remaining_of old - remaining_of new ≡ words_to_add old may.view = omega (arith, size, there) in

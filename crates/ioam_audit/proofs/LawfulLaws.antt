@@ -1,15 +1,19 @@
--- An element is that of some free view exactly where its fields are lawful.
-use Rattle.std.proofs.Common.{◌≡◌, ◌⊎◌, inl, inr, ℕ, ◌*◌, ◌-◌, ◌<◌, ◌≤◌, Bool, true, false, cond, List, arith, refl, sym, ap, ◌∙◌, subst, Option, Some, None}
+-- The fields of an element of a free view are lawful.
+use Rattle.std.proofs.Common.{◌≡◌, ◌⊎◌, inl, inr, ℕ, ◌+◌, ◌*◌, ◌-◌, ◌/◌, ◌%◌, ◌<◌, ◌≤◌, Bool, true, false, cond, List, arith, refl, sym, ap, ◌∙◌, subst, Option, Some, None}
 use Rattle.std.specs.Prelude.{IfSome, nat_lt}
 use Rattle.std.proofs.lemmas.List.Elements.{All-replicate}
 use Rattle.std.proofs.lemmas.Bool.Decides.{nat_tests}
-use Rattle.ioam_data.specs.Fields.{when_has, fields_of}
+use Rattle.ioam_data.specs.Fields.{Held, named, fields_of}
 use Rattle.ioam_data.specs.Kind.{has, words}
+use Rattle.ioam_data.specs.Shape.{parted}
+use Rattle.ioam_data.specs.Table.{table}
 use Rattle.ioam_data.specs.View.{Seen}
 use Rattle.ioam_data.specs.Written.{element_of, or_ones, narrow_face, narrow_id, delay_of}
+use Rattle.ioam_data.proofs.FieldLaws.{narrow_id_below, narrow_face_below}
+use Rattle.ioam_data.proofs.TableLaws.{kept_by}
 use Rattle.ioam_audit.specs.Free.{IsFree, with_check}
 use Rattle.ioam_audit.specs.Lawful.{ComesBy, IsLawful}
-use Rattle.ioam_audit.proofs.CheckLaws.{IsWide, shown_with, fields_of-with_check}
+use Rattle.ioam_audit.proofs.CheckLaws.{checked_by, fields_of-with_check, ones}
 
 -- these octets are the element of some free view, but for the checksum complement
 pub record MayAdd (kind node_len hops id inward : ℕ) (octets : List ℕ) : Type 0 where
@@ -18,65 +22,97 @@ pub record MayAdd (kind node_len hops id inward : ℕ) (octets : List ℕ) : Typ
   pub free : IsFree hops id inward view
   pub is : octets ≡ with_check kind (element_of kind node_len view) check
 
--- ---- what a free view shows is lawful
+-- ---- a field that is there
 
-if_has : {X : Type 0} (b : Bool) (x : X) (P : X → Type 0) → P x → IfSome (cond b (Some x) None) P
-if_has true x P p = p
-if_has false x P p = tt
+one_there : (b : Bool) (number : ℕ) (P : ℕ → Type 0) → P number → IfSome (cond b (Some number) None) P
+one_there true number P p = p
+one_there false number P p = tt
 
-delay_lawful : (delay : Option ℕ) → (delay_of delay ≤ 2147483648) ⊎ (delay_of delay ≡ 4294967295)
+two_there : (b : Bool) (unit number : ℕ) (P : ℕ × ℕ → Type 0) → P (number / unit, number % unit) → IfSome (parted unit (cond b (Some number) None)) P
+two_there true unit number P p = p
+two_there false unit number P p = tt
+
+delay_lawful : (delay : Option ℕ) → (delay_of delay % 4294967296 ≤ 2147483648) ⊎ (delay_of delay % 4294967296 ≡ 4294967295)
 delay_lawful None = inr refl
 delay_lawful (Some delay) = inl (most delay)
   where
-    most : (delay : ℕ) → cond (nat_lt 2147483647 delay) 2147483648 delay ≤ 2147483648
-    most delay = grind (arith, nat_tests)
+    most : (delay : ℕ) → cond (nat_lt 2147483647 delay) 2147483648 delay % 4294967296 ≤ 2147483648
+    most delay = let below : cond (nat_lt 2147483647 delay) 2147483648 delay ≤ 2147483648 = grind (arith, nat_tests) in omega (arith, below)
 
-narrow_ones : (face : Option ℕ) → narrow_face face ≡ narrow_face (Some (or_ones face))
-narrow_ones None = refl
-narrow_ones (Some face) = refl
+out_same : (outward : Option ℕ) → IfSome outward (λ number. number < 4294967296) → narrow_face outward ≡ narrow_face (Some (or_ones outward % 4294967296))
+out_same None below = refl
+out_same (Some face) below = let same : face ≡ face % 4294967296 = omega (arith, below) in ap (λ n. narrow_face (Some n)) same
 
-module _ (kind node_len hops id inward : ℕ) (view : Seen) (check : ℕ) (free : IsFree hops id inward view) where
-  came_shown : ComesBy (narrow_face (Some inward)) inward (shown_with kind node_len view check) ⊎ ComesBy 65535 4294967295 (shown_with kind node_len view check)
-  came_shown = elim free.inward_is as (λ _. ComesBy (narrow_face (Some inward)) inward (shown_with kind node_len view check) ⊎ ComesBy 65535 4294967295 (shown_with kind node_len view check)) [
-    | inl is ↦ inl (record {
-      faces = if_has (has kind 1) (narrow_face view.inward, narrow_face view.outward) (λ pair. pair.0 ≡ narrow_face (Some inward)) (ap narrow_face is);
-      wide_faces = if_has (has kind 9) (or_ones view.inward, or_ones view.outward) (λ pair. pair.0 ≡ inward) (ap or_ones is);
-    })
-    | inr is ↦ inr (record {
-      faces = if_has (has kind 1) (narrow_face view.inward, narrow_face view.outward) (λ pair. pair.0 ≡ 65535) (ap narrow_face is);
-      wide_faces = if_has (has kind 9) (or_ones view.inward, or_ones view.outward) (λ pair. pair.0 ≡ 4294967295) (ap or_ones is);
-    })
-  ]
+module _ (kind node_len hops id inward : ℕ) (hops_below : hops < 256) (id_below : id < 72057594037927936) (inward_below : inward < 4294967296)
+    (view : Seen) (check : ℕ) (free : IsFree hops id inward view) where
+  -- the numbers of the rows of bits 0, 1, 8 and 9
+  abbrev n0 : ℕ
+  n0 = (view.hops * 16777216 + narrow_id view.id) % 4294967296
 
-  shown-lawful : IsLawful hops id inward (shown_with kind node_len view check)
-  shown-lawful = record {
-    hop_node = if_has (has kind 0) (view.hops, narrow_id view.id) (λ pair. (pair.0 ≡ hops) × (pair.1 ≡ narrow_id id)) (free.hops_is, ap narrow_id free.id_is);
-    wide_hop_node = if_has (has kind 8) (view.hops, view.id) (λ pair. (pair.0 ≡ hops) × (pair.1 ≡ id)) (free.hops_is, free.id_is);
-    came = came_shown;
-    goes = if_has (has kind 1) (narrow_face view.inward, narrow_face view.outward) (λ pair. IfSome (when_has kind 9 (or_ones view.inward, or_ones view.outward)) (λ wide. pair.1 ≡ narrow_face (Some wide.1)))
-        (if_has (has kind 9) (or_ones view.inward, or_ones view.outward) (λ wide. narrow_face view.outward ≡ narrow_face (Some wide.1)) (narrow_ones view.outward));
-    delay = if_has (has kind 4) (delay_of view.delay) (λ delay. (delay ≤ 2147483648) ⊎ (delay ≡ 4294967295)) (delay_lawful view.delay);
-    filler = All-replicate (λ octet. octet ≡ 255) (4 * (node_len - words kind)) 255 refl;
+  abbrev n1 : ℕ
+  n1 = (narrow_face view.inward * 65536 + narrow_face view.outward) % 4294967296
+
+  abbrev n8 : ℕ
+  n8 = (view.hops * 72057594037927936 + view.id) % 18446744073709551616
+
+  abbrev n9 : ℕ
+  n9 = (or_ones view.inward * 4294967296 + or_ones view.outward % 4294967296) % 18446744073709551616
+
+  hop_node : (n0 / 16777216 ≡ hops) × (n0 % 16777216 ≡ narrow_id id)
+  hop_node =
+      let same = ap narrow_id free.id_is in
+      let below = narrow_id_below id in
+      (omega (arith, free.hops_is, same, below, hops_below), omega (arith, free.hops_is, same, below, hops_below))
+
+  wide_hop_node : (n8 / 72057594037927936 ≡ hops) × (n8 % 72057594037927936 ≡ id)
+  wide_hop_node = (omega (arith, free.hops_is, free.id_is, hops_below, id_below), omega (arith, free.hops_is, free.id_is, hops_below, id_below))
+
+  faces : (n1 / 65536 ≡ narrow_face view.inward) × (n1 % 65536 ≡ narrow_face view.outward)
+  faces =
+      let first = narrow_face_below view.inward in
+      let second = narrow_face_below view.outward in
+      (omega (arith, first, second), omega (arith, first, second))
+
+  wide_first : or_ones view.inward < 4294967296 → n9 / 4294967296 ≡ or_ones view.inward
+  wide_first below = omega (arith, below)
+
+  goes : n1 % 65536 ≡ narrow_face (Some (n9 % 4294967296))
+  goes =
+      let wide : n9 % 4294967296 ≡ or_ones view.outward % 4294967296 = omega arith in
+      faces.1 ∙ out_same view.outward free.outward_below ∙ ap (λ n. narrow_face (Some n)) (sym wide)
+
+  -- the fields, whatever snapshot follows them
+  abbrev read : Option (ℕ × List ℕ) → Held
+  read snapshot = named (kept_by (checked_by check table) kind view) (ones kind node_len view check) snapshot
+
+  came_by : (snapshot : Option (ℕ × List ℕ)) (face : Option ℕ) → view.inward ≡ face → or_ones face < 4294967296
+      → ComesBy (narrow_face face) (or_ones face) (read snapshot)
+  unfolding table
+  came_by snapshot face is below = record {
+    faces = two_there (has kind 1) 65536 n1 (λ pair. pair.0 ≡ narrow_face face) (faces.0 ∙ ap narrow_face is);
+    wide_faces = two_there (has kind 9) 4294967296 n9 (λ pair. pair.0 ≡ or_ones face) (wide_first (omega (arith, ap or_ones is, below)) ∙ ap or_ones is);
   }
 
-  inward_wide : inward < 4294967296 → IfSome view.inward (λ number. number < 4294967296)
-  inward_wide below = elim free.inward_is as (λ _. IfSome view.inward (λ number. number < 4294967296)) [
-    | inl is ↦ subst (λ o. IfSome o (λ number. number < 4294967296)) (sym is) below
-    | inr is ↦ subst (λ o. IfSome o (λ number. number < 4294967296)) (sym is) tt
+  came : (snapshot : Option (ℕ × List ℕ)) → ComesBy (narrow_face (Some inward)) inward (read snapshot) ⊎ ComesBy 65535 4294967295 (read snapshot)
+  came snapshot = elim free.inward_is as (λ _. ComesBy (narrow_face (Some inward)) inward (read snapshot) ⊎ ComesBy 65535 4294967295 (read snapshot)) [
+    | inl is ↦ inl (came_by snapshot (Some inward) is inward_below)
+    | inr is ↦ inr (came_by snapshot None is (omega arith))
   ]
 
-  pub wide : hops < 256 → id < 72057594037927936 → inward < 4294967296 → IsWide view
-  wide hops_below id_below inward_below = record {
-    hops_below = omega (arith, free.hops_is, hops_below);
-    id_below = omega (arith, free.id_is, id_below);
-    inward_below = inward_wide inward_below;
-    outward_below = free.outward_below;
-    snapshot_fits = free.snapshot_fits;
+  read-lawful : (snapshot : Option (ℕ × List ℕ)) → IsLawful hops id inward (read snapshot)
+  unfolding table
+  read-lawful snapshot = record {
+    hop_node = two_there (has kind 0) 16777216 n0 (λ pair. (pair.0 ≡ hops) × (pair.1 ≡ narrow_id id)) hop_node;
+    wide_hop_node = two_there (has kind 8) 72057594037927936 n8 (λ pair. (pair.0 ≡ hops) × (pair.1 ≡ id)) wide_hop_node;
+    came = came snapshot;
+    goes = two_there (has kind 1) 65536 n1 (λ pair. IfSome (read snapshot).wide_faces (λ wide. pair.1 ≡ narrow_face (Some wide.1)))
+        (two_there (has kind 9) 4294967296 n9 (λ wide. n1 % 65536 ≡ narrow_face (Some wide.1)) goes);
+    delay = one_there (has kind 4) (delay_of view.delay % 4294967296) (λ delay. (delay ≤ 2147483648) ⊎ (delay ≡ 4294967295)) (delay_lawful view.delay);
+    filler = All-replicate (λ octet. octet ≡ 255) (4 * (node_len - words kind)) 255 refl;
   }
 
 pub lawful : (kind node_len hops id inward : ℕ) (octets : List ℕ) → hops < 256 → id < 72057594037927936 → inward < 4294967296
     → MayAdd kind node_len hops id inward octets → IsLawful hops id inward (fields_of kind node_len octets)
 lawful kind node_len hops id inward octets hops_below id_below inward_below may =
-    let is = wide kind node_len hops id inward may.view may.check may.free hops_below id_below inward_below in
-    subst (IsLawful hops id inward) (sym (ap (fields_of kind node_len) may.is ∙ fields_of-with_check kind node_len may.view may.check is))
-    (shown-lawful kind node_len hops id inward may.view may.check may.free)
+    subst (IsLawful hops id inward) (sym (fields_of-with_check kind node_len may.view may.check octets may.is))
+    (read-lawful kind node_len hops id inward hops_below id_below inward_below may.view may.check may.free (fields_of kind node_len octets).snapshot)

@@ -11,7 +11,6 @@ pub mod MatchLaws
 pub mod NoneLaws
 pub mod PartsLaws
 pub mod SentLaws
-pub mod ShapeLaws
 pub mod SizeLaws
 pub mod StepsLaws
 pub mod StrictLaws

@@ -12,7 +12,6 @@ use Rattle.ioam_trace.specs.declared.addition.Filled.{Filled}
 use Rattle.ioam_trace.specs.declared.addition.Filled.TheVariants.{Added, Overflowed, AlreadyOver, Unsuited}
 use Rattle.ioam_data.specs.Written.{element_of}
 use Rattle.ioam_audit.proofs.CheckLaws.{with_check-ones}
-use Rattle.ioam_audit.proofs.LawfulLaws.{wide}
 
 looser : (u w n : ℕ) (some : Bool) → (cond (eqb u 0) (eqb n w) (leb (w + u) n) && some) ≡ true → (cond (eqb u 0) (eqb n w) (leb w n) && some) ≡ true
 looser u w n some can = grind (arith, nat_tests, and_parts)
@@ -57,6 +56,6 @@ module _ (hops id inward : ℕ) (old new : List ℕ) (view : Seen) (hops_below :
       free = free;
       fits = omega (arith, f.2, f.3);
       is = f.4 ∙ ap (λ n. with_element old n (element_of (kind_of old) (node_len_of old) view)) f.2 ∙ ap (λ xs. with_element old (words_to_add old view) xs)
-          (sym (with_check-ones (kind_of old) (node_len_of old) view (wide (kind_of old) (node_len_of old) hops id inward view 4294967295 free hops_below id_below inward_below)));
+          (sym (with_check-ones (kind_of old) (node_len_of old) view));
     }),
   ))

@@ -1,9 +1,10 @@
 -- What may be in the element that a node adds to a trace (RFC 9197 section 4.4.2), where all that is known of the node is
 -- its id, the hop limit with which it sends the packet on and the interface by which the packet came.
-use Rattle.std.specs.Prelude.{◌≡◌, ◌<◌, ◌≤◌, ◌+◌, ◌*◌, ◌%◌, ◌⊎◌, ℕ, if◌then◌else◌, List, length, Some, None, IfSome}
+use Rattle.std.specs.Prelude.{◌≡◌, ◌<◌, ◌≤◌, ◌*◌, ◌%◌, ◌⊎◌, ℕ, if◌then◌else◌, List, length, Some, None, IfSome}
 use Rattle.ioam_base.specs.Octets.{written}
 use Rattle.ioam_base.specs.Words.{four_octets}
-use Rattle.ioam_data.specs.Kind.{has, where_has}
+use Rattle.ioam_data.specs.Kind.{has}
+use Rattle.ioam_data.specs.Table.{rows, words_by}
 use Rattle.ioam_data.specs.View.{Seen}
 
 -- an opaque state snapshot (section 4.4.2.13): a schema of 24 bits, and whole words of data, as many as Length, of 8
@@ -23,10 +24,9 @@ pub record IsFree (hops id inward : ℕ) (view : Seen) : Type 0 where
   pub outward_below : IfSome view.outward (λ number. number < 4294967296)
   pub snapshot_fits : IfSome view.snapshot (λ given. IsAnySnapshot given.0 given.1)
 
--- the words of the fields of bits 0 to 6, in front of the checksum complement
+-- the words of the fields of bits 0 to 6, before the checksum complement
 abbrev pub words_before : ℕ → ℕ
-words_before kind = where_has kind 0 1 + where_has kind 1 1 + where_has kind 2 1 + where_has kind 3 1
-    + where_has kind 4 1 + where_has kind 5 1 + where_has kind 6 1
+words_before kind = words_by (rows 0 7) kind
 
 -- an element with this checksum complement (section 4.4.2.8, bit 7), where the type has it
 abbrev pub with_check : ℕ → List ℕ → ℕ → List ℕ
