@@ -3,3 +3,4 @@ pub mod DeskLaws
 mod HostLaws
 pub mod KeptLaws
 mod MovesLaws
+pub mod TouchesLaws

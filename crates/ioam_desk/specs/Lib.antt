@@ -1,6 +1,7 @@
 pub mod Desk
 pub mod Asked
 pub mod Kept
+pub mod Touches
 pub mod Whole
 pub mod Faults
 pub mod Files

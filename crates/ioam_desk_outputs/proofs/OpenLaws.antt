@@ -1,14 +1,17 @@
 -- One output after another is opened.
-use Rattle.std.proofs.Common.{◌≡◌, ◌≢◌, ℕ, ◌+◌, ◌<◌, ◌≤◌, Bool, IsTrue, Contains, List, [], ◌∷◌, ◌++◌, length, take, drop, Some, Ok, Err, get_or, refl, sym, ◌∙◌, ap, subst, append-nil, append_assoc, arith, suc, length-append}
-use Rattle.std.proofs.lemmas.List.{get_or_default, take_more, take-append-drop}
+use Rattle.std.proofs.Common.{◌≡◌, ◌≢◌, ℕ, ◌+◌, ◌<◌, ◌≤◌, Bool, IsTrue, Contains, List, [], ◌∷◌, ◌++◌, length, take, drop, Some, Ok, Err, get_or, refl, sym, ◌∙◌, ap, subst, append-nil, append_assoc, arith, zero, suc, inl, inr, length-append}
+use Rattle.std.proofs.lemmas.Bool.{cases_eq}
+use Rattle.std.proofs.lemmas.List.{get_or_default, take_more, take-append-drop, length-take-le}
 use Rattle.std.proofs.lemmas.List.Elements.{All-push, All-same}
-use Rattle.ioam_desk.specs.Asked.{IsFaultOf}
-use Rattle.ioam_desk.specs.Desk.{Side, Writing, Written, OpenOut, holds, opened_side, opened_each}
+use Rattle.ioam_desk.specs.Asked.{AsksFront, IsFaultOf}
+use Rattle.ioam_desk.specs.Desk.{Side, Reading, Writing, Written, OpenIn, OpenOut, holds, opened_side, opened_each}
 use Rattle.ioam_desk.specs.declared.fault.DeskFault.{DeskFault}
 use Rattle.ioam_desk.specs.declared.fault.DeskFault.TheVariants.{Failed, NoMemory}
 use Rattle.ioam_desk_outputs.specs.declared.output.Output.{Output}
 use Rattle.ioam_desk_outputs.specs.Held.{HoldFronts}
-use Rattle.ioam_desk_outputs.specs.Names.{AreApart}
+use Rattle.ioam_desk_outputs.specs.Names.{AreApart, name_at}
+use Rattle.ioam_desk_outputs.specs.Open.{AreSlots, AreUnread}
+use Rattle.ioam_desk.specs.Touches.{State, opening, Within}
 use Rattle.ioam_desk_outputs.specs.Told.{IsTold, AreTold, GathersNothing, unsaid}
 use Rattle.ioam_desk_outputs.proofs.HeldLaws.{front_held, holds_slot}
 use Rattle.ioam_desk_outputs.proofs.ToldLaws.{AreTold-unwritten}
@@ -167,3 +170,100 @@ stops_more tells start mid new names i outputs name output apart inside is opene
           (told_more tells start mid new names i outputs name output apart inside is opened nothing before told)
           (ap (λ (s : Side). s.slots) side),
     )
+
+-- one input more is open and unread
+pub unread_more : (tells : Bool) (start mid new : State) (names : List (List ℕ)) (i slot : ℕ) (name : List ℕ) → i < length names → name ≡ get_or names i name
+    → mid.inputs.side ≡ opened_each start.inputs.side (take i names) → mid.outputs ≡ start.outputs
+    → OpenIn tells mid.inputs (holds mid.outputs name) name (Ok slot) new.inputs
+    → AreUnread tells start.inputs mid.inputs start.outputs names → AreUnread tells start.inputs new.inputs start.outputs names
+unread_more tells start mid new names i slot name inside is before same opened unread = λ told j below.
+    let slots : mid.inputs.side.slots ≡ start.inputs.side.slots + i = ap (λ (s : Side). s.slots) before ∙ ap (λ (n : ℕ). start.inputs.side.slots + n) (length-take-le i names (omega (arith, inside))) in
+    let number : slot ≡ start.inputs.side.slots + i = opened.number ∙ slots in
+    let grown : new.inputs.side.slots ≡ mid.inputs.side.slots + 1 = ap (λ (s : Side). s.slots) opened.side in
+    elim (cases_eq j i) [
+      | inl at ↦
+          let here : holds start.outputs name ≡ Some (new.inputs.left slot) = ap (λ (w : Writing). holds w name) (sym same) ∙ opened.left told in
+          let P : ℕ → Type 0 = λ k. holds start.outputs (name_at names k) ≡ Some (new.inputs.left (start.inputs.side.slots + k)) in
+          subst P (sym at) (ap (λ (n : List ℕ). holds start.outputs n) (sym (is ∙ get_or_default names i name [] inside)) ∙ here ∙ ap (λ (k : ℕ). Some (new.inputs.left k)) number)
+      | inr other ↦ unread told j (omega (arith, below, grown, slots, other))
+          ∙ ap Some (sym (opened.other_left (start.inputs.side.slots + j) (λ at. other (omega (arith, at, number)))))
+    ]
+
+-- an input could not be opened
+pub unread_fault : (tells : Bool) (start mid new : State) (names : List (List ℕ)) (name : List ℕ) (fault : DeskFault)
+    → OpenIn tells mid.inputs (holds mid.outputs name) name (Err fault) new.inputs
+    → AreUnread tells start.inputs mid.inputs start.outputs names → AreUnread tells start.inputs new.inputs start.outputs names
+unread_fault tells start mid new names name Failed failed unread = λ told j below.
+    unread told j (omega (arith, below, failed.0.slots)) ∙ ap (λ (left : ℕ → List ℕ). Some (left (start.inputs.side.slots + j))) (sym failed.1)
+unread_fault tells start mid new names name NoMemory same unread = λ told j below.
+    unread told j (omega (arith, below, ap (λ (r : Reading). r.side.slots) same)) ∙ ap (λ (r : Reading). Some (r.left (start.inputs.side.slots + j))) (sym same)
+
+-- the slots are numbered one after another
+pub slots_more : (base : ℕ) (names : List (List ℕ)) (i slot : ℕ) (slots later : List ℕ) → i < length names → slot ≡ base + i → later ≡ slots ++ slot ∷ []
+    → AreSlots base (length (take i names)) slots → AreSlots base (length (take (i + 1) names)) later
+slots_more base names i slot slots later inside number is are =
+    let size : length slots ≡ i = are.size ∙ length-take-le i names (omega (arith, inside)) in
+    let P : List ℕ → Type 0 = λ xs. AreSlots base (length (take (i + 1) names)) xs in
+    subst P (sym is) (record {
+      size = omega (arith, length-append slots (slot ∷ []), size, length-take-le (i + 1) names (omega (arith, inside)));
+      number = λ k below. elim (cases_eq k i) [
+        | inl at ↦ ap (λ (m : ℕ). get_or (slots ++ slot ∷ []) m 0) (at ∙ sym size) ∙ get_or_last slots slot ∙ number ∙ ap (λ (m : ℕ). base + m) (sym at)
+        | inr other ↦ get_or_first slots slot k (omega (arith, below, other, size, length-append slots (slot ∷ [])))
+            ∙ are.number k (omega (arith, below, other, size, length-append slots (slot ∷ [])))
+      ];
+    })
+  where
+    get_or_last : (xs : List ℕ) (x : ℕ) → get_or (xs ++ x ∷ []) (length xs) 0 ≡ x
+    get_or_last [] x = refl
+    get_or_last (y ∷ xs) x = get_or_last xs x
+
+    get_or_first : (xs : List ℕ) (x k : ℕ) → k < length xs → get_or (xs ++ x ∷ []) k 0 ≡ get_or xs k 0
+    get_or_first [] x k below = absurd (omega (arith, below))
+    get_or_first (y ∷ xs) x zero below = refl
+    get_or_first (y ∷ xs) x (suc k) below = get_or_first xs x k (omega (arith, below))
+
+-- the names that were asked for, where a prefix of them was and one more
+pub asked_now : (start mid : Side) (asked : List (List ℕ)) (names : List (List ℕ)) (i : ℕ) → mid ≡ opened_each start (take i names) → asked ≡ mid.asked
+    → AsksFront start.asked asked names
+asked_now start mid asked names i before is = (i, is ∙ ap (λ (s : Side). s.asked) before)
+
+pub asked_more : (start mid : Side) (asked : List (List ℕ)) (names : List (List ℕ)) (i : ℕ) (name : List ℕ) → i < length names → name ≡ get_or names i name
+    → mid ≡ opened_each start (take i names) → asked ≡ mid.asked ++ name ∷ [] → AsksFront start.asked asked names
+asked_more start mid asked names i name inside at before is = (
+  i + 1,
+  is ∙ ap (λ (s : Side). s.asked ++ name ∷ []) before ∙ append_assoc start.asked (take i names) (name ∷ [])
+      ∙ ap (λ (xs : List (List ℕ)). start.asked ++ xs) (sym (one_more names i name inside at)),
+)
+
+-- the names that an answer of an opening call leaves asked for
+pub asked_fault_in : (tells : Bool) (start mid new : State) (names : List (List ℕ)) (i : ℕ) (name : List ℕ) (fault : DeskFault) → i < length names → name ≡ get_or names i name
+    → mid.inputs.side ≡ opened_each start.inputs.side (take i names) → OpenIn tells mid.inputs (holds mid.outputs name) name (Err fault) new.inputs → AsksFront start.inputs.side.asked new.inputs.side.asked names
+asked_fault_in tells start mid new names i name Failed inside at before failed = asked_more start.inputs.side mid.inputs.side new.inputs.side.asked names i name inside at before failed.0.asked
+asked_fault_in tells start mid new names i name NoMemory inside at before same = asked_now start.inputs.side mid.inputs.side new.inputs.side.asked names i before (ap (λ (r : Reading). r.side.asked) same)
+
+pub asked_fault_out : (tells : Bool) (start mid new : State) (names : List (List ℕ)) (i : ℕ) (name : List ℕ) (fault : DeskFault) → i < length names → name ≡ get_or names i name
+    → mid.outputs.side ≡ opened_each start.outputs.side (take i names) → OpenOut tells mid.outputs name (Err fault) new.outputs → AsksFront start.outputs.side.asked new.outputs.side.asked names
+asked_fault_out tells start mid new names i name Failed inside at before failed = asked_more start.outputs.side mid.outputs.side new.outputs.side.asked names i name inside at before failed.0.asked
+asked_fault_out tells start mid new names i name NoMemory inside at before same = asked_now start.outputs.side mid.outputs.side new.outputs.side.asked names i before (ap (λ (w : Writing). w.side.asked) same)
+
+-- nothing was opened
+pub opened_none : (side : Side) → side ≡ opened_each side []
+opened_none side =
+    let slots : side.slots + 0 ≡ side.slots = omega arith in
+    rw (append-nil side.asked, slots) refl
+
+-- a name of the list is opened
+single : (name other : List ℕ) (k : ℕ) → k < 1 → get_or (name ∷ []) k other ≡ other → name ≡ other
+single name other zero below same = same
+single name other (suc k) below same = absurd (omega (arith, below))
+
+one_is : (names : List (List ℕ)) (i : ℕ) (name other : List ℕ) → i < length names → name ≡ get_or names i name → Contains (name ∷ []) other → Contains names other
+one_is names i name other inside is one =
+    let same : name ≡ other = single name other one.0 one.1 one.2 in
+    (i, inside, get_or_default names i other name inside ∙ sym is ∙ same)
+
+pub within_in : (names : List (List ℕ)) (i : ℕ) (name : List ℕ) → i < length names → name ≡ get_or names i name → Within (opening (name ∷ []) []) (opening names [])
+within_in names i name inside is = record { reads = λ k none. none; writes = λ k none. none; ins = λ other one. one_is names i name other inside is one; outs = λ other none. none }
+
+pub within_out : (names : List (List ℕ)) (i : ℕ) (name : List ℕ) → i < length names → name ≡ get_or names i name → Within (opening [] (name ∷ [])) (opening [] names)
+within_out names i name inside is = record { reads = λ k none. none; writes = λ k none. none; ins = λ other none. none; outs = λ other one. one_is names i name other inside is one }

@@ -1,6 +1,7 @@
 //! Writing of gathered octets.
 ghost use Rattle.std.specs.Prelude.{◌≡◌, ◌≤◌, ◌<◌, [], ℕ, List, All, IsTrue, IfErr, OnErr, OnOk, length};
 ghost use Rattle.ioam_desk.specs.Asked.{IsFaultOf};
+ghost use Rattle.ioam_desk.specs.Touches.{Touches, state, writes_from, failing_out};
 ghost use Rattle.ioam_desk_outputs.specs.Flush.{KeepsFew, KeepsTold, LeavesSome, Moves, WritesTheirs};
 ghost use Rattle.ioam_desk_outputs.specs.Held.{HoldTexts, HoldAllFronts};
 ghost use Rattle.ioam_desk_outputs.specs.Told.{AreTold, AreOpen, GathersFew, GathersNothing};
@@ -103,6 +104,9 @@ pub fn flush_full<D: Desk>(desk: &mut D, outputs: &mut [Output]) -> Result<(), D
     ensures open { AreOpen (D.writing desk.new) outputs.new }
     ensures others { WritesTheirs (D.writing desk.old) (D.writing desk.new) outputs.old }
     ensures inputs { D.reading desk.new ≡ D.reading desk.old }
+    ensures touches { (slot : ℕ) (names texts : List (List ℕ)) → AreTold D.tells (D.writing desk.old) slot names outputs.old texts
+        → Touches D.tells (writes_from slot) (failing_out result)
+        (state (D.reading desk.old) (D.writing desk.old)) (state (D.reading desk.new) (D.writing desk.new)) }
 {
     flush_each(desk, outputs, GATHER)
 }
@@ -128,6 +132,9 @@ pub fn finish<D: Desk>(desk: &mut D, outputs: &mut [Output]) -> Result<(), DeskF
     ensures open { AreOpen (D.writing desk.new) outputs.new }
     ensures others { WritesTheirs (D.writing desk.old) (D.writing desk.new) outputs.old }
     ensures inputs { D.reading desk.new ≡ D.reading desk.old }
+    ensures touches { (slot : ℕ) (names texts : List (List ℕ)) → AreTold D.tells (D.writing desk.old) slot names outputs.old texts
+        → Touches D.tells (writes_from slot) (failing_out result)
+        (state (D.reading desk.old) (D.writing desk.old)) (state (D.reading desk.new) (D.writing desk.new)) }
 {
     flush_each(desk, outputs, 1)
 }

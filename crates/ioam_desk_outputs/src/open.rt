@@ -1,8 +1,9 @@
 //! Opening of many outputs.
-ghost use Rattle.std.specs.Prelude.{◌≡◌, ℕ, List, IsTrue, IfErr, IfOk, OnOk, length};
+ghost use Rattle.std.specs.Prelude.{◌≡◌, [], ℕ, List, IsTrue, IfErr, IfOk, OnOk, length};
 ghost use Rattle.ioam_desk.specs.Asked.{AsksFront, IsFaultOf};
 ghost use Rattle.ioam_desk.specs.Desk.{opened_each};
 ghost use Rattle.ioam_desk.specs.Kept.{KeepsOutputs};
+ghost use Rattle.ioam_desk.specs.Touches.{Touches, state, opening, failing_out};
 ghost use Rattle.ioam_desk_outputs.specs.Held.{HoldFronts};
 ghost use Rattle.ioam_desk_outputs.specs.Names.{AreApart};
 ghost use Rattle.ioam_desk_outputs.specs.Told.{AreOpen, AreTold, GathersNothing, unsaid};
@@ -33,6 +34,8 @@ pub fn open_outputs<D: Desk>(
         → HoldFronts (D.writing desk.old) (D.writing desk.new) 0 names.now texts)) }
     ensures kept { IsTrue D.tells → KeepsOutputs (D.writing desk.old) (D.writing desk.new) }
     ensures inputs { D.reading desk.new ≡ D.reading desk.old }
+    ensures touches { Touches D.tells (opening [] names.now) (failing_out result)
+        (state (D.reading desk.old) (D.writing desk.old)) (state (D.reading desk.new) (D.writing desk.new)) }
 {
     let Ok(mut outputs) = Vec::with_capacity(alloc, names.len()) else {
         return Err(DeskFault::NoMemory);

@@ -1,6 +1,7 @@
-use Rattle.std.proofs.Common.{◌≡◌, IsTrue, take}
+use Rattle.std.proofs.Common.{◌≡◌, [], IsTrue, take}
 use Rattle.ioam_desk.specs.Desk.{opened_each}
 use Rattle.ioam_desk.specs.Kept.{KeepsOutputs}
+use Rattle.ioam_desk.specs.Touches.{Touches, state, Quiet, opening}
 use Rattle.ioam_desk_outputs.specs.Told.{AreTold, GathersNothing, unsaid}
 use Rattle.ioam_desk_outputs.proofs.open.open_outputs.Given as goal
 
@@ -12,4 +13,6 @@ invariant-names g l = record {
   side : (g.D.Desk.writing l.desk).side ≡ opened_each (g.D.Desk.writing l.initial.desk).side (take l.name-index l.names);
   kept : IsTrue g.D.Desk.tells → KeepsOutputs (g.D.Desk.writing l.initial.desk) (g.D.Desk.writing l.desk);
   inputs : g.D.Desk.reading l.desk ≡ g.D.Desk.reading l.initial.desk;
+  touches : Touches g.D.Desk.tells (opening [] l.names) Quiet (state (g.D.Desk.reading l.initial.desk) (g.D.Desk.writing l.initial.desk))
+      (state (g.D.Desk.reading l.desk) (g.D.Desk.writing l.desk));
 }
