@@ -1,0 +1,175 @@
+-- The frame of a run, by where it ended.
+use Rattle.std.specs.Prelude.{⊤}
+use Rattle.std.proofs.Common.{◌≡◌, ℕ, ◌+◌, ◌<◌, Bool, IsTrue, List, [], ◌∷◌, ◌++◌, length, take, Option, Some, refl, sym, ◌∙◌, ap, inr, append-nil, arith}
+use Rattle.std.proofs.lemmas.List.{take_all}
+use Rattle.ioam_desk.specs.Asked.{AsksFront}
+use Rattle.ioam_desk.specs.Desk.{Side, Reading, Writing, opened_each}
+use Rattle.ioam_desk.specs.Touches.{State, Footprint, Failing, Quiet, Read, Touches, Within, opening}
+use Rattle.ioam_desk.proofs.TouchesLaws.{touches-none, touches-more, touches-then, touches-quiet_late, touches-slots_in, touches-slots_out, touches-unasked_in, touches-unasked_out}
+use Rattle.std.specs.Option.{unwrap_or}
+use Rattle.std.proofs.lemmas.Bool.{false≢true}
+use Rattle.ioam_desk_outputs.specs.Open.{AreUnread}
+use Rattle.ioam_desk_outputs.specs.Held.{HoldAllFronts, HoldFronts}
+use Rattle.ioam_desk_outputs.proofs.HeldLaws.{HoldAllFronts-holds}
+use Rattle.ioam_stream.specs.Stage.{Kind, Lawful, unseen}
+use Rattle.ioam_stream.specs.Streams.{Start, IsFedSo, Finishes, streams_from, failing}
+use Rattle.ioam_stream.specs.declared.reading.Stop.{Stop}
+use Rattle.ioam_stream.specs.declared.reading.Stop.TheVariants as stop
+use Rattle.ioam_stream.specs.Frame.{Frame, HoldSome, Leaves, contents, failing_all}
+
+-- answers that aren't an end
+pub no_read : stop.ReadFault ≡ stop.Ended → ⊥
+no_read same = cc
+
+pub no_write : stop.WriteFault ≡ stop.Ended → ⊥
+no_write same = cc
+
+pub no_memory : stop.NoMemory ≡ stop.Ended → ⊥
+no_memory same = cc
+
+module _ (tells : Bool) (ins outs : List (List ℕ)) (drains : Type 0) where
+  pub within_ins : Within (opening ins []) (opening ins outs)
+  within_ins = record { reads = λ k none. none; writes = λ k none. none; ins = λ name is. is; outs = λ name none. absurd (omega (arith, none.1)) }
+
+  -- it ended while the inputs were opened
+  pub frame_ins : (old new : State) (answer : Stop) → (answer ≡ stop.Ended → ⊥)
+      → Touches tells (opening ins outs) (failing_all answer) old new → AsksFront old.inputs.side.asked new.inputs.side.asked ins
+      → AreUnread tells old.inputs new.inputs old.outputs ins → new.outputs ≡ old.outputs → Frame tells ins outs old new drains answer
+  frame_ins old new answer not_ended touches asked unread same = record {
+    touches = touches;
+    asked_in = asked;
+    asked_out = (0, ap (λ (w : Writing). w.side.asked) same ∙ sym (append-nil old.outputs.side.asked) ∙ ap (λ (xs : List (List ℕ)). old.outputs.side.asked ++ xs) (sym (none outs)));
+    all = λ is. absurd (not_ended is);
+    no_output = λ less. same;
+    unread = λ less. unread;
+    drained = λ is all told i inside. absurd (not_ended is);
+  }
+    where
+      none : (xs : List (List ℕ)) → take 0 xs ≡ []
+      none [] = refl
+      none (x ∷ xs) = refl
+
+  -- it ended before anything was opened
+  pub frame_none : (old : State) → Frame tells ins outs old old drains stop.NoMemory
+  frame_none old = frame_ins old old stop.NoMemory no_memory (touches-quiet_late tells (opening ins outs) old old (touches-none tells (opening ins outs) old))
+      (0, sym (append-nil old.inputs.side.asked) ∙ ap (λ (xs : List (List ℕ)). old.inputs.side.asked ++ xs) (sym (none ins)))
+      (λ told i below. absurd (omega (arith, below))) refl
+    where
+      none : (xs : List (List ℕ)) → take 0 xs ≡ []
+      none [] = refl
+      none (x ∷ xs) = refl
+
+  asked_all : (old new : Side) (names : List (List ℕ)) → new.asked ≡ old.asked ++ names → AsksFront old.asked new.asked names
+  asked_all old new names is = (length names, is ∙ ap (λ (xs : List (List ℕ)). old.asked ++ xs) (sym (take_all (length names) names (omega arith))))
+
+  -- it ended while the outputs were opened
+  pub frame_outs : (old mid new : State) (answer : Stop) → (answer ≡ stop.Ended → ⊥)
+      → Touches tells (opening ins outs) (failing_all answer) old new → mid.inputs.side ≡ opened_each old.inputs.side ins → new.inputs ≡ mid.inputs
+      → AsksFront old.outputs.side.asked new.outputs.side.asked outs → AreUnread tells old.inputs mid.inputs old.outputs ins → Frame tells ins outs old new drains answer
+  frame_outs old mid new answer not_ended touches side same asked unread = record {
+    touches = touches;
+    asked_in = asked_all old.inputs.side new.inputs.side ins (ap (λ (r : Reading). r.side.asked) same ∙ ap (λ (s : Side). s.asked) side);
+    asked_out = asked;
+    all = λ is. absurd (not_ended is);
+    no_output = λ less. absurd (omega (arith, less, ap (λ (r : Reading). r.side.slots) same, ap (λ (s : Side). s.slots) side));
+    unread = λ less told i below. unread told i (omega (arith, below, ap (λ (r : Reading). r.side.slots) same))
+        ∙ ap (λ (r : Reading). Some (r.left (old.inputs.side.slots + i))) (sym same);
+    drained = λ is all told i inside. absurd (not_ended is);
+  }
+
+  -- a read that failed is a call of an input that failed
+  pub touches_all : (f : Footprint) (old new : State) (answer : Stop) → Touches tells f (failing answer) old new → Touches tells f (failing_all answer) old new
+  touches_all f old new stop.Ended t = t
+  touches_all f old new stop.ReadFault t = record {
+    inputs = record { asked = t.inputs.asked; asks = t.inputs.asks; among = t.inputs.among; how = record { rose = t.inputs.how.rose; slots = touches-slots_in tells f Read old new t }; left = t.inputs.left; ended = t.inputs.ended };
+    outputs = record { asked = t.outputs.asked; asks = t.outputs.asks; among = t.outputs.among; how = t.outputs.how; written = t.outputs.written; files = t.outputs.files };
+  }
+  touches_all f old new stop.WriteFault t = t
+  touches_all f old new stop.NoMemory t = t
+
+  -- it ran
+  pub frame_ran : (old mid late new : State) (answer : Stop) (base_in base_out : ℕ) → base_in ≡ old.inputs.side.slots → base_out ≡ old.outputs.side.slots
+      → Touches tells (opening ins []) Quiet old mid → mid.inputs.side ≡ opened_each old.inputs.side ins
+      → Touches tells (opening [] outs) Quiet mid late → late.inputs ≡ mid.inputs → late.outputs.side ≡ opened_each mid.outputs.side outs → mid.outputs ≡ old.outputs
+      → Touches tells (streams_from base_in base_out) (failing answer) late new
+      → (answer ≡ stop.Ended → drains → IsTrue tells → (i : ℕ) → i < length ins → IsTrue (new.inputs.ended (old.inputs.side.slots + i)))
+      → Frame tells ins outs old new drains answer
+  frame_ran old mid late new answer base_in base_out at_in at_out first side_in second same_in side_out same_out third drained =
+      let opened = touches-then tells (opening ins outs) (opening [] outs) Quiet old mid late (λ k below away none. none) (λ k below away none. none)
+      (λ name none. absurd (omega (arith, none.1))) (λ name is. is) (touches-more tells (opening ins []) (opening ins outs) Quiet old mid within_ins first) second in
+      let touches = touches-then tells (opening ins outs) (streams_from base_in base_out) (failing answer) old late new
+      (λ k below away above. omega (arith, below, above, at_in)) (λ k below away above. omega (arith, below, above, at_out))
+      (λ name none. absurd (omega (arith, none.1))) (λ name none. absurd (omega (arith, none.1))) opened third in
+      let asked_in : new.inputs.side.asked ≡ old.inputs.side.asked ++ ins =
+      touches-unasked_in tells (streams_from base_in base_out) (failing answer) late new refl third ∙ ap (λ (r : Reading). r.side.asked) same_in ∙ ap (λ (s : Side). s.asked) side_in in
+      let asked_out : new.outputs.side.asked ≡ old.outputs.side.asked ++ outs =
+      touches-unasked_out tells (streams_from base_in base_out) (failing answer) late new refl third ∙ ap (λ (s : Side). s.asked) side_out ∙ ap (λ (w : Writing). w.side.asked ++ outs) same_out in
+      let slots_in = touches-slots_in tells (streams_from base_in base_out) (failing answer) late new third in
+      let slots_out = touches-slots_out tells (streams_from base_in base_out) (failing answer) late new third in
+      record {
+        touches = touches_all (opening ins outs) old new answer touches;
+        asked_in = asked_all old.inputs.side new.inputs.side ins asked_in;
+        asked_out = asked_all old.outputs.side new.outputs.side outs asked_out;
+        all = λ is. (asked_in, asked_out);
+        no_output = λ less. absurd (omega (arith, less, slots_in, ap (λ (r : Reading). r.side.slots) same_in, ap (λ (s : Side). s.slots) side_in));
+        unread = λ less. absurd (omega (arith, less, slots_out, ap (λ (s : Side). s.slots) side_out, ap (λ (w : Writing). w.side.slots) same_out));
+        drained = drained;
+      }
+
+module _ {S : Type 0} (kind : Kind S) (tells : Bool) (ins outs : List (List ℕ)) where
+  -- where a run begins
+  abbrev pub start_of : State → S → Start S
+  start_of old stage = record {
+    contents = contents tells ins outs old old;
+    base_in = old.inputs.side.slots;
+    base_out = old.outputs.side.slots;
+    names = outs;
+    begun = stage;
+  }
+
+  some_of : (old new : State) (stage last : S) → (so : List (List ℕ)) × kind.firsts stage (contents tells ins outs old old) so × HoldAllFronts new.outputs outs so
+      → HoldSome tells ins outs old new (kind.texts stage last) (kind.firsts stage)
+  some_of old new stage last sticks = record { so = sticks.0; texts = sticks.1; held = HoldAllFronts-holds old.outputs new.outputs 0 outs sticks.0 sticks.2 }
+
+  -- what a run over opened files left
+  pub finishes_leaves : (old new : State) (stage last : S) (answer : Stop) → length ins ≡ kind.inputs → IsTrue tells
+      → Finishes kind tells (start_of old stage) new last answer → Leaves tells ins outs old new (kind.texts stage last) (kind.firsts stage) answer
+  finishes_leaves old new stage last stop.Ended size told f = let held = f.0 told in record { so = held.0; texts = held.1; held = held.2 }
+  finishes_leaves old new stage last stop.ReadFault size told f = let held = f.2 told in inr (record {
+    handed = f.0;
+    splits = λ i inside. f.1 told i (omega (arith, inside, size));
+    hold = record { so = held.0; texts = held.1; held = held.2 };
+  })
+  finishes_leaves old new stage last stop.WriteFault size told f = some_of old new stage last (f told)
+  finishes_leaves old new stage last stop.NoMemory size told f = inr (some_of old new stage last (f told))
+
+  pub drained_of : (old new : State) (stage last : S) (answer : Stop) → length ins ≡ kind.inputs → Finishes kind tells (start_of old stage) new last answer
+      → answer ≡ stop.Ended → kind.drains last → IsTrue tells → (i : ℕ) → i < length ins → IsTrue (new.inputs.ended (old.inputs.side.slots + i))
+  drained_of old new stage last stop.Ended size f is all told i inside = f.1 all told i (omega (arith, inside, size))
+  drained_of old new stage last stop.ReadFault size f is all told i inside = absurd (no_read is)
+  drained_of old new stage last stop.WriteFault size f is all told i inside = absurd (no_write is)
+  drained_of old new stage last stop.NoMemory size f is all told i inside = absurd (no_memory is)
+
+  -- outputs that could not all be opened
+  pub unopened_some : (lawful : Lawful kind) (old new : State) (stage last : S) → kind.fresh stage → length outs ≡ kind.width
+      → ((texts : List (List ℕ)) → length texts ≡ length outs → HoldFronts old.outputs new.outputs 0 outs texts)
+      → HoldSome tells ins outs old new (kind.texts stage last) (kind.firsts stage)
+  unopened_some lawful old new stage last fresh width empty =
+      let none = lawful.none stage (contents tells ins outs old old) fresh in
+      record { so = none.0; texts = none.2; held = empty none.0 (none.1 ∙ sym width) }
+
+  -- the inputs are unread
+  pub opened_unseen : (old mid late : State) (stage : S) → length ins ≡ kind.inputs → mid.inputs.side ≡ opened_each old.inputs.side ins → late.inputs ≡ mid.inputs
+      → AreUnread tells old.inputs mid.inputs old.outputs ins → IsFedSo kind tells (start_of old stage) late.inputs unseen
+  opened_unseen old mid late stage size side same unread = record {
+    is_open = λ i inside. omega (arith, inside, size, ap (λ (r : Reading). r.side.slots) same, ap (λ (s : Side). s.slots) side);
+    handed = λ told i inside. ap (λ (held : Option (List ℕ)). unwrap_or held []) (unread told i (omega (arith, inside, size, ap (λ (s : Side). s.slots) side))
+        ∙ ap (λ (r : Reading). Some (r.left (old.inputs.side.slots + i))) (sym same));
+    ended = λ told i inside done. absurd (false≢true done);
+  }
+
+-- inputs were opened, and then outputs
+pub opened_both : (tells : Bool) (ins outs : List (List ℕ)) (x : Failing) (old mid new : State) → Touches tells (opening ins []) Quiet old mid
+    → Touches tells (opening [] outs) x mid new → Touches tells (opening ins outs) x old new
+opened_both tells ins outs x old mid new first second = touches-then tells (opening ins outs) (opening [] outs) x old mid new (λ k below away none. none) (λ k below away none. none)
+    (λ name none. absurd (omega (arith, none.1))) (λ name is. is) (touches-more tells (opening ins []) (opening ins outs) Quiet old mid (within_ins tells ins outs ⊤) first) second

@@ -1,0 +1,3 @@
+pub mod StreamsLaws
+pub mod RunLaws
+pub mod FrameLaws

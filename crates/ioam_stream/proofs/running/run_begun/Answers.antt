@@ -1,0 +1,115 @@
+use Rattle.ioam_desk.specs.Asked.{AsksFront}
+use Rattle.std.specs.Prelude.{⊤}
+use Rattle.std.proofs.Common.{◌≡◌, ℕ, List, rules, length, ap, sym, subst, ◌∙◌, arith, [], inr}
+use Rattle.ioam_desk.specs.Desk.{Writing}
+use Rattle.ioam_desk.specs.Touches.{state, State, Quiet, Input, Output, opening}
+use Rattle.ioam_desk.proofs.TouchesLaws.{touches-more, touches-quiet_late}
+use Rattle.ioam_desk_outputs.specs.Held.{HoldFronts}
+use Rattle.ioam_desk_outputs.specs.Open.{AreSlots}
+use Rattle.ioam_desk_outputs.specs.Told.{AreTold, GathersNothing, unsaid}
+use Rattle.ioam_desk_outputs.specs.declared.output.Output.{Output as Sink}
+use Rattle.ioam_desk_outputs.proofs.ToldLaws.{told_names}
+use Rattle.ioam_stream.specs.Stage.{unseen}
+use Rattle.ioam_stream.specs.Streams.{Start, IsFedSo, Finishes}
+use Rattle.ioam_stream.proofs.FrameLaws.{within_ins, frame_none, frame_ins, frame_outs, frame_ran, finishes_leaves, drained_of, unopened_some, opened_unseen, opened_both, no_read, no_write, no_memory}
+use Rattle.ioam_stream.proofs.running.run_begun.Goals as goal
+
+pub returns-in_default-clause-frame : goal.returns-in_default-clause-frame
+returns-in_default-clause-frame g c = frame_none g.D.Desk.tells c.args.inputs.now c.args.outputs.now _ (state (g.D.Desk.reading c.args.desk.now) (g.D.Desk.writing c.args.desk.now))
+
+pub returns-in-Err-Failed-clause-frame : goal.returns-in-Err-Failed-clause-frame
+returns-in-Err-Failed-clause-frame g c = frame_ins g.D.Desk.tells c.args.inputs.now c.args.outputs.now _ (state (g.D.Desk.reading c.args.desk.now) (g.D.Desk.writing c.args.desk.now)) (state (g.D.Desk.reading c.open_inputs.new.desk) (g.D.Desk.writing c.open_inputs.new.desk)) _ no_read
+    (touches-more g.D.Desk.tells (opening c.args.inputs.now []) (opening c.args.inputs.now c.args.outputs.now) Input _ _ (within_ins g.D.Desk.tells c.args.inputs.now c.args.outputs.now ⊤) (rw c.in-Err-Failed.field-0-is at c.in-Err-Failed.ensures.touches))
+    c.in-Err-Failed.ensures.asked c.in-Err-Failed.ensures.unread c.in-Err-Failed.ensures.outputs
+
+pub returns-in-Err-NoMemory-clause-frame : goal.returns-in-Err-NoMemory-clause-frame
+returns-in-Err-NoMemory-clause-frame g c = frame_ins g.D.Desk.tells c.args.inputs.now c.args.outputs.now _ (state (g.D.Desk.reading c.args.desk.now) (g.D.Desk.writing c.args.desk.now)) (state (g.D.Desk.reading c.open_inputs.new.desk) (g.D.Desk.writing c.open_inputs.new.desk)) _ no_memory
+    (touches-quiet_late g.D.Desk.tells (opening c.args.inputs.now c.args.outputs.now) _ _
+    (touches-more g.D.Desk.tells (opening c.args.inputs.now []) (opening c.args.inputs.now c.args.outputs.now) Quiet _ _ (within_ins g.D.Desk.tells c.args.inputs.now c.args.outputs.now ⊤) (rw c.in-Err-NoMemory.field-0-is at c.in-Err-NoMemory.ensures.touches)))
+    c.in-Err-NoMemory.ensures.asked c.in-Err-NoMemory.ensures.unread c.in-Err-NoMemory.ensures.outputs
+
+pub returns-in-Err-Failed-open_outputs-clause-frame : goal.returns-in-Err-Failed-open_outputs-clause-frame
+returns-in-Err-Failed-open_outputs-clause-frame g c = frame_outs g.D.Desk.tells c.args.inputs.now c.args.outputs.now _ (state (g.D.Desk.reading c.args.desk.now) (g.D.Desk.writing c.args.desk.now)) (state (g.D.Desk.reading c.open_inputs.new.desk) (g.D.Desk.writing c.open_inputs.new.desk)) (state (g.D.Desk.reading c.open_outputs.new.desk) (g.D.Desk.writing c.open_outputs.new.desk)) _ no_write
+    (opened_both g.D.Desk.tells c.args.inputs.now c.args.outputs.now Output _ _ _ c.in-Ok-open_inputs.ensures.touches (rw c.in-Err-Failed-open_outputs.field-0-is at c.in-Err-Failed-open_outputs.ensures.touches))
+    c.in-Ok-open_inputs.ensures.side c.in-Err-Failed-open_outputs.ensures.inputs
+    (subst (λ (w : Writing). AsksFront w.side.asked (g.D.Desk.writing c.open_outputs.new.desk).side.asked c.args.outputs.now) c.in-Ok-open_inputs.ensures.outputs c.in-Err-Failed-open_outputs.ensures.asked)
+    c.in-Ok-open_inputs.ensures.unread
+
+pub returns-in-Err-Failed-open_outputs-clause-leaves : goal.returns-in-Err-Failed-open_outputs-clause-leaves
+returns-in-Err-Failed-open_outputs-clause-leaves g c = λ told. unopened_some g.S.Stage.kind g.D.Desk.tells c.args.inputs.now c.args.outputs.now g.met.S.Stage.lawful (state (g.D.Desk.reading c.args.desk.now) (g.D.Desk.writing c.args.desk.now)) (state (g.D.Desk.reading c.open_outputs.new.desk) (g.D.Desk.writing c.open_outputs.new.desk)) c.args.stage.now _
+    c.requires.1.1.1.1.1.0 c.requires.1.1.1.1.0
+    (subst (λ (w : Writing). (texts : List (List ℕ)) → length texts ≡ length c.args.outputs.now → HoldFronts w (g.D.Desk.writing c.open_outputs.new.desk) 0 c.args.outputs.now texts)
+    c.in-Ok-open_inputs.ensures.outputs (c.in-Err-Failed-open_outputs.ensures.fault.1 told))
+
+pub returns-in-Ok-open_outputs-clause-leaves : goal.returns-in-Ok-open_outputs-clause-leaves
+returns-in-Ok-open_outputs-clause-leaves g c = λ told.
+    let new = state (g.D.Desk.reading c.run_open.new.desk) (g.D.Desk.writing c.run_open.new.desk) in
+    finishes_leaves g.S.Stage.kind g.D.Desk.tells c.args.inputs.now c.args.outputs.now (state (g.D.Desk.reading c.args.desk.now) (g.D.Desk.writing c.args.desk.now)) new c.args.stage.now c.run_open.new.stage c.run_open.result
+    c.requires.1.1.1.0 told (let P : Start _ → Type 0 = λ s. Finishes g.S.Stage.kind g.D.Desk.tells s new c.run_open.new.stage c.run_open.result in subst P c.requires.1.1.1.1.1.1 c.run_open.ensures.finishes)
+
+pub returns-in-Ok-open_outputs-clause-frame : goal.returns-in-Ok-open_outputs-clause-frame
+returns-in-Ok-open_outputs-clause-frame g c =
+    let new = state (g.D.Desk.reading c.run_open.new.desk) (g.D.Desk.writing c.run_open.new.desk) in
+    let starts = c.requires.1.1.1.1.1.1 in
+    frame_ran g.D.Desk.tells c.args.inputs.now c.args.outputs.now _ (state (g.D.Desk.reading c.args.desk.now) (g.D.Desk.writing c.args.desk.now)) (state (g.D.Desk.reading c.open_inputs.new.desk) (g.D.Desk.writing c.open_inputs.new.desk)) (state (g.D.Desk.reading c.open_outputs.new.desk) (g.D.Desk.writing c.open_outputs.new.desk)) new c.run_open.result
+    g.start.base_in g.start.base_out (ap (λ (s : Start _). s.base_in) starts) (ap (λ (s : Start _). s.base_out) starts)
+    c.in-Ok-open_inputs.ensures.touches c.in-Ok-open_inputs.ensures.side c.in-Ok-open_outputs.ensures.touches c.in-Ok-open_outputs.ensures.inputs c.in-Ok-open_outputs.ensures.side c.in-Ok-open_inputs.ensures.outputs
+    c.run_open.ensures.touches
+    (drained_of g.S.Stage.kind g.D.Desk.tells c.args.inputs.now c.args.outputs.now (state (g.D.Desk.reading c.args.desk.now) (g.D.Desk.writing c.args.desk.now)) new c.args.stage.now c.run_open.new.stage c.run_open.result c.requires.1.1.1.0
+    (let P : Start _ → Type 0 = λ s. Finishes g.S.Stage.kind g.D.Desk.tells s new c.run_open.new.stage c.run_open.result in subst P starts c.run_open.ensures.finishes))
+
+pub run_open-requires : goal.run_open-requires
+run_open-requires g c κs within =
+    let old : State = state (g.D.Desk.reading c.args.desk.now) (g.D.Desk.writing c.args.desk.now) in
+    let mid : State = state (g.D.Desk.reading c.open_inputs.new.desk) (g.D.Desk.writing c.open_inputs.new.desk) in
+    let late : State = state (g.D.Desk.reading c.open_outputs.new.desk) (g.D.Desk.writing c.open_outputs.new.desk) in
+    let starts = sym c.requires.1.1.1.1.1.1 in
+    let outputs = c.deref_mut.result.now in
+    let told : AreTold g.D.Desk.tells late.outputs old.outputs.side.slots c.args.outputs.now outputs (unsaid c.args.outputs.now) =
+    subst (λ (os : List Sink). AreTold g.D.Desk.tells late.outputs old.outputs.side.slots c.args.outputs.now os (unsaid c.args.outputs.now)) (sym c.deref_mut.ensures.value)
+    (subst (λ (w : Writing). AreTold g.D.Desk.tells late.outputs w.side.slots c.args.outputs.now c.in-Ok-open_outputs.outputs.items (unsaid c.args.outputs.now)) c.in-Ok-open_inputs.ensures.outputs c.in-Ok-open_outputs.ensures.opened) in
+    let fed = let P : Start _ → Type 0 = λ s. IsFedSo g.S.Stage.kind g.D.Desk.tells s late.inputs unseen in
+    subst P starts (opened_unseen g.S.Stage.kind g.D.Desk.tells c.args.inputs.now c.args.outputs.now old mid late c.args.stage.now c.requires.1.1.1.0 c.in-Ok-open_inputs.ensures.side c.in-Ok-open_outputs.ensures.inputs c.in-Ok-open_inputs.ensures.unread) in (
+      search rules,
+      (
+        search rules,
+        (
+          fed,
+          (
+            (let P : Start _ → Type 0 = λ s. AreTold g.D.Desk.tells late.outputs s.base_out s.names outputs (unsaid s.names) in subst P starts told),
+            (
+              subst (λ (os : List Sink). GathersNothing os) (sym c.deref_mut.ensures.value) c.in-Ok-open_outputs.ensures.nothing,
+              (
+                told_names g.D.Desk.tells late.outputs old.outputs.side.slots c.args.outputs.now outputs (unsaid c.args.outputs.now) told ∙ c.requires.1.1.1.1.0,
+                (
+                  ap (λ (s : Start _). s.begun) c.requires.1.1.1.1.1.1,
+                  (
+                    c.requires.1.1.1.1.1.0,
+                    (
+                      (let P : Start _ → Type 0 = λ s. AreSlots s.base_in g.S.Stage.kind.inputs c.deref.result.now in subst P starts
+                          (subst (λ (n : ℕ). AreSlots old.inputs.side.slots n c.deref.result.now) c.requires.1.1.1.0
+                          (subst (λ (xs : List ℕ). AreSlots old.inputs.side.slots (length c.args.inputs.now) xs) (sym c.deref.ensures.value) c.in-Ok-open_inputs.ensures.slots))),
+                      (omega (arith, c.in-Ok.ensures, ap (λ (xs : List ℕ). length xs) c.deref_mut-in-Ok-open_outputs.ensures.value), omega (arith, c.in-Ok.ensures, ap (λ (xs : List ℕ). length xs) c.deref_mut-in-Ok-open_outputs.ensures.value)),
+                    ),
+                  ),
+                ),
+              ),
+            ),
+          ),
+        ),
+      ),
+    )
+
+pub returns-clause-frame : goal.returns-clause-frame
+returns-clause-frame g c = frame_outs g.D.Desk.tells c.args.inputs.now c.args.outputs.now _ (state (g.D.Desk.reading c.args.desk.now) (g.D.Desk.writing c.args.desk.now)) (state (g.D.Desk.reading c.open_inputs.new.desk) (g.D.Desk.writing c.open_inputs.new.desk)) (state (g.D.Desk.reading c.open_outputs.new.desk) (g.D.Desk.writing c.open_outputs.new.desk)) _ no_memory
+    (touches-quiet_late g.D.Desk.tells (opening c.args.inputs.now c.args.outputs.now) _ _
+    (opened_both g.D.Desk.tells c.args.inputs.now c.args.outputs.now Quiet _ _ _ c.in-Ok-open_inputs.ensures.touches (rw c.in-Err-NoMemory-open_outputs.field-0-is at c.in-Err-NoMemory-open_outputs.ensures.touches)))
+    c.in-Ok-open_inputs.ensures.side c.in-Err-NoMemory-open_outputs.ensures.inputs
+    (subst (λ (w : Writing). AsksFront w.side.asked (g.D.Desk.writing c.open_outputs.new.desk).side.asked c.args.outputs.now) c.in-Ok-open_inputs.ensures.outputs c.in-Err-NoMemory-open_outputs.ensures.asked)
+    c.in-Ok-open_inputs.ensures.unread
+
+pub returns-clause-leaves : goal.returns-clause-leaves
+returns-clause-leaves g c = λ told. inr (unopened_some g.S.Stage.kind g.D.Desk.tells c.args.inputs.now c.args.outputs.now g.met.S.Stage.lawful (state (g.D.Desk.reading c.args.desk.now) (g.D.Desk.writing c.args.desk.now)) (state (g.D.Desk.reading c.open_outputs.new.desk) (g.D.Desk.writing c.open_outputs.new.desk)) c.args.stage.now _
+    c.requires.1.1.1.1.1.0 c.requires.1.1.1.1.0
+    (subst (λ (w : Writing). (texts : List (List ℕ)) → length texts ≡ length c.args.outputs.now → HoldFronts w (g.D.Desk.writing c.open_outputs.new.desk) 0 c.args.outputs.now texts)
+    c.in-Ok-open_inputs.ensures.outputs (c.in-Err-NoMemory-open_outputs.ensures.fault.1 told)))

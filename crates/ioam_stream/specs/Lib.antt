@@ -1,0 +1,3 @@
+pub mod Stage
+pub mod Streams
+pub mod Frame
