@@ -10,7 +10,7 @@ use Rattle.ioam_desk.specs.declared.fault.DeskFault.TheVariants.{Failed, NoMemor
 use Rattle.ioam_desk_outputs.specs.declared.output.Output.{Output}
 use Rattle.ioam_desk_outputs.specs.Held.{HoldFronts}
 use Rattle.ioam_desk_outputs.specs.Names.{AreApart, name_at}
-use Rattle.ioam_desk_outputs.specs.Open.{AreSlots, AreUnread}
+use Rattle.ioam_desk_outputs.specs.Open.{AreSlots, AreUnread, OpensFewer}
 use Rattle.ioam_desk.specs.Touches.{State, opening, Within}
 use Rattle.ioam_desk_outputs.specs.Told.{IsTold, AreTold, GathersNothing, unsaid}
 use Rattle.ioam_desk_outputs.proofs.HeldLaws.{front_held, holds_slot}
@@ -245,6 +245,12 @@ pub asked_fault_out : (tells : Bool) (start mid new : State) (names : List (List
     → mid.outputs.side ≡ opened_each start.outputs.side (take i names) → OpenOut tells mid.outputs name (Err fault) new.outputs → AsksFront start.outputs.side.asked new.outputs.side.asked names
 asked_fault_out tells start mid new names i name Failed inside at before failed = asked_more start.outputs.side mid.outputs.side new.outputs.side.asked names i name inside at before failed.0.asked
 asked_fault_out tells start mid new names i name NoMemory inside at before same = asked_now start.outputs.side mid.outputs.side new.outputs.side.asked names i before (ap (λ (w : Writing). w.side.asked) same)
+
+pub fewer_fault : (tells : Bool) (start mid new : State) (names : List (List ℕ)) (i : ℕ) (name : List ℕ) (fault : DeskFault) → i < length names
+    → mid.inputs.side ≡ opened_each start.inputs.side (take i names) → OpenIn tells mid.inputs (holds mid.outputs name) name (Err fault) new.inputs
+    → OpensFewer start.inputs.side new.inputs.side (length names) fault
+fewer_fault tells start mid new names i name Failed inside before failed = omega (arith, inside, failed.0.slots, ap (λ (s : Side). s.slots) before, length-take-le i names (omega (arith, inside)))
+fewer_fault tells start mid new names i name NoMemory inside before same = tt
 
 -- nothing was opened
 pub opened_none : (side : Side) → side ≡ opened_each side []

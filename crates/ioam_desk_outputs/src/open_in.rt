@@ -1,9 +1,9 @@
 //! Opening of many inputs.
-ghost use Rattle.std.specs.Prelude.{◌≡◌, IfOk, OnOk, [], length};
+ghost use Rattle.std.specs.Prelude.{◌≡◌, IfErr, IfOk, OnOk, [], length};
 ghost use Rattle.ioam_desk.specs.Asked.{AsksFront};
 ghost use Rattle.ioam_desk.specs.Desk.{opened_each};
 ghost use Rattle.ioam_desk.specs.Touches.{Touches, state, opening, failing_open};
-ghost use Rattle.ioam_desk_outputs.specs.Open.{AreSlots, AreUnread};
+ghost use Rattle.ioam_desk_outputs.specs.Open.{AreSlots, AreUnread, OpensFewer};
 
 use ioam_base::name::Name;
 use ioam_desk::{Desk, DeskFault};
@@ -19,6 +19,7 @@ pub fn open_inputs<D: Desk>(
 ) -> Result<Vec<u32>, DeskFault>
     ensures slots { IfOk result (λ slots. AreSlots (D.reading desk.old).side.slots (length names.now) slots.items) }
     ensures side { OnOk result ((D.reading desk.new).side ≡ opened_each (D.reading desk.old).side names.now) }
+    ensures fewer { IfErr result (OpensFewer (D.reading desk.old).side (D.reading desk.new).side (length names.now)) }
     ensures asked { AsksFront (D.reading desk.old).side.asked (D.reading desk.new).side.asked names.now }
     ensures unread { AreUnread D.tells (D.reading desk.old) (D.reading desk.new) (D.writing desk.old) names.now }
     ensures outputs { D.writing desk.new ≡ D.writing desk.old }

@@ -3,11 +3,12 @@ use Rattle.std.specs.Prelude.{⊤}
 use Rattle.std.proofs.Common.{◌≡◌, ℕ, ◌+◌, ◌<◌, Bool, IsTrue, List, [], ◌∷◌, ◌++◌, length, take, Option, Some, refl, sym, ◌∙◌, ap, inr, append-nil, arith}
 use Rattle.std.proofs.lemmas.List.{take_all}
 use Rattle.ioam_desk.specs.Asked.{AsksFront}
-use Rattle.ioam_desk.specs.Desk.{Side, Reading, Writing, opened_each}
-use Rattle.ioam_desk.specs.Touches.{State, Footprint, Failing, Quiet, Read, Touches, Within, opening}
+use Rattle.ioam_desk.specs.Desk.{Side, Reading, Writing, holds, opened_each}
+use Rattle.ioam_desk.specs.Touches.{State, Footprint, Failing, Quiet, Read, Touches, Within, opening, HowIn}
 use Rattle.ioam_desk.proofs.TouchesLaws.{touches-none, touches-more, touches-then, touches-quiet_late, touches-slots_in, touches-slots_out, touches-unasked_in, touches-unasked_out}
 use Rattle.std.specs.Option.{unwrap_or}
 use Rattle.std.proofs.lemmas.Bool.{false≢true}
+use Rattle.ioam_desk_outputs.specs.Names.{name_at}
 use Rattle.ioam_desk_outputs.specs.Open.{AreUnread}
 use Rattle.ioam_desk_outputs.specs.Held.{HoldAllFronts, HoldFronts}
 use Rattle.ioam_desk_outputs.proofs.HeldLaws.{HoldAllFronts-holds}
@@ -15,7 +16,7 @@ use Rattle.ioam_stream.specs.Stage.{Kind, Lawful, unseen}
 use Rattle.ioam_stream.specs.Streams.{Start, IsFedSo, Finishes, streams_from, failing}
 use Rattle.ioam_stream.specs.declared.reading.Stop.{Stop}
 use Rattle.ioam_stream.specs.declared.reading.Stop.TheVariants as stop
-use Rattle.ioam_stream.specs.Frame.{Frame, HoldSome, Leaves, contents, failing_all}
+use Rattle.ioam_stream.specs.Frame.{Frame, AllOpen, HoldSome, Leaves, contents, failing_all}
 
 -- answers that aren't an end
 pub no_read : stop.ReadFault ≡ stop.Ended → ⊥
@@ -26,6 +27,18 @@ no_write same = cc
 
 pub no_memory : stop.NoMemory ≡ stop.Ended → ⊥
 no_memory same = cc
+
+-- what a name holds is what the input holds
+held_is : (tells : Bool) (ins outs : List (List ℕ)) (old : State) (i : ℕ) (left : List ℕ) → holds old.outputs (name_at ins i) ≡ Some left
+    → holds old.outputs (name_at ins i) ≡ Some (contents tells ins outs old old i)
+held_is tells ins outs old i left is = is ∙ ap (λ (held : Option (List ℕ)). Some (unwrap_or held [])) (sym is)
+
+-- a run over opened inputs opens none
+slots_ran : (answer : Stop) (old new : Side) → HowIn (failing answer) old new → length new.asked ≡ length old.asked → new.slots ≡ old.slots
+slots_ran stop.Ended old new how asked = omega (arith, how.slots, asked)
+slots_ran stop.ReadFault old new how asked = omega (arith, how.slots, asked)
+slots_ran stop.WriteFault old new how asked = omega (arith, how.slots, asked)
+slots_ran stop.NoMemory old new how asked = omega (arith, how.slots, asked)
 
 module _ (tells : Bool) (ins outs : List (List ℕ)) (drains : Type 0) where
   pub within_ins : Within (opening ins []) (opening ins outs)
@@ -42,6 +55,7 @@ module _ (tells : Bool) (ins outs : List (List ℕ)) (drains : Type 0) where
     all = λ is. absurd (not_ended is);
     no_output = λ less. same;
     unread = λ less. unread;
+    held = λ told i below. held_is tells ins outs old i (new.inputs.left (old.inputs.side.slots + i)) (unread told i below);
     drained = λ is all told i inside. absurd (not_ended is);
   }
     where
@@ -74,6 +88,8 @@ module _ (tells : Bool) (ins outs : List (List ℕ)) (drains : Type 0) where
     no_output = λ less. absurd (omega (arith, less, ap (λ (r : Reading). r.side.slots) same, ap (λ (s : Side). s.slots) side));
     unread = λ less told i below. unread told i (omega (arith, below, ap (λ (r : Reading). r.side.slots) same))
         ∙ ap (λ (r : Reading). Some (r.left (old.inputs.side.slots + i))) (sym same);
+    held = λ told i below. held_is tells ins outs old i (mid.inputs.left (old.inputs.side.slots + i))
+        (unread told i (omega (arith, below, ap (λ (r : Reading). r.side.slots) same)));
     drained = λ is all told i inside. absurd (not_ended is);
   }
 
@@ -92,9 +108,10 @@ module _ (tells : Bool) (ins outs : List (List ℕ)) (drains : Type 0) where
       → Touches tells (opening ins []) Quiet old mid → mid.inputs.side ≡ opened_each old.inputs.side ins
       → Touches tells (opening [] outs) Quiet mid late → late.inputs ≡ mid.inputs → late.outputs.side ≡ opened_each mid.outputs.side outs → mid.outputs ≡ old.outputs
       → Touches tells (streams_from base_in base_out) (failing answer) late new
+      → AreUnread tells old.inputs mid.inputs old.outputs ins
       → (answer ≡ stop.Ended → drains → IsTrue tells → (i : ℕ) → i < length ins → IsTrue (new.inputs.ended (old.inputs.side.slots + i)))
       → Frame tells ins outs old new drains answer
-  frame_ran old mid late new answer base_in base_out at_in at_out first side_in second same_in side_out same_out third drained =
+  frame_ran old mid late new answer base_in base_out at_in at_out first side_in second same_in side_out same_out third unread drained =
       let opened = touches-then tells (opening ins outs) (opening [] outs) Quiet old mid late (λ k below away none. none) (λ k below away none. none)
       (λ name none. absurd (omega (arith, none.1))) (λ name is. is) (touches-more tells (opening ins []) (opening ins outs) Quiet old mid within_ins first) second in
       let touches = touches-then tells (opening ins outs) (streams_from base_in base_out) (failing answer) old late new
@@ -113,6 +130,13 @@ module _ (tells : Bool) (ins outs : List (List ℕ)) (drains : Type 0) where
         all = λ is. (asked_in, asked_out);
         no_output = λ less. absurd (omega (arith, less, slots_in, ap (λ (r : Reading). r.side.slots) same_in, ap (λ (s : Side). s.slots) side_in));
         unread = λ less. absurd (omega (arith, less, slots_out, ap (λ (s : Side). s.slots) side_out, ap (λ (w : Writing). w.side.slots) same_out));
+        held = λ told i below. held_is tells ins outs old i (mid.inputs.left (old.inputs.side.slots + i)) (unread told i (omega (
+          arith,
+          below,
+          slots_ran answer late.inputs.side new.inputs.side third.inputs.how
+              (ap (λ (xs : List (List ℕ)). length xs) (touches-unasked_in tells (streams_from base_in base_out) (failing answer) late new refl third)),
+          ap (λ (r : Reading). r.side.slots) same_in,
+        )));
         drained = drained;
       }
 
@@ -132,16 +156,19 @@ module _ {S : Type 0} (kind : Kind S) (tells : Bool) (ins outs : List (List ℕ)
   some_of old new stage last sticks = record { so = sticks.0; texts = sticks.1; held = HoldAllFronts-holds old.outputs new.outputs 0 outs sticks.0 sticks.2 }
 
   -- what a run over opened files left
-  pub finishes_leaves : (old new : State) (stage last : S) (answer : Stop) → length ins ≡ kind.inputs → IsTrue tells
+  pub finishes_leaves : (old new : State) (stage last : S) (answer : Stop) → length ins ≡ kind.inputs → AllOpen tells ins outs old new → IsTrue tells
       → Finishes kind tells (start_of old stage) new last answer → Leaves tells ins outs old new (kind.texts stage last) (kind.firsts stage) answer
-  finishes_leaves old new stage last stop.Ended size told f = let held = f.0 told in record { so = held.0; texts = held.1; held = held.2 }
-  finishes_leaves old new stage last stop.ReadFault size told f = let held = f.2 told in inr (record {
-    handed = f.0;
-    splits = λ i inside. f.1 told i (omega (arith, inside, size));
-    hold = record { so = held.0; texts = held.1; held = held.2 };
-  })
-  finishes_leaves old new stage last stop.WriteFault size told f = some_of old new stage last (f told)
-  finishes_leaves old new stage last stop.NoMemory size told f = inr (some_of old new stage last (f told))
+  finishes_leaves old new stage last stop.Ended size opened told f = let held = f.0 told in (opened, record { so = held.0; texts = held.1; held = held.2 })
+  finishes_leaves old new stage last stop.ReadFault size opened told f = let held = f.2 told in inr (
+    opened,
+    record {
+      handed = f.0;
+      splits = λ i inside. f.1 told i (omega (arith, inside, size));
+      hold = record { so = held.0; texts = held.1; held = held.2 };
+    },
+  )
+  finishes_leaves old new stage last stop.WriteFault size opened told f = (opened, some_of old new stage last (f told))
+  finishes_leaves old new stage last stop.NoMemory size opened told f = inr (opened, some_of old new stage last (f told))
 
   pub drained_of : (old new : State) (stage last : S) (answer : Stop) → length ins ≡ kind.inputs → Finishes kind tells (start_of old stage) new last answer
       → answer ≡ stop.Ended → kind.drains last → IsTrue tells → (i : ℕ) → i < length ins → IsTrue (new.inputs.ended (old.inputs.side.slots + i))

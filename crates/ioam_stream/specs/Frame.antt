@@ -1,5 +1,5 @@
 -- What every streaming command promises of what it opened, read and kept, and of what its outputs hold.
-use Rattle.std.specs.Prelude.{◌≡◌, ℕ, ◌+◌, ◌<◌, ◌⊎◌, ⊤, Bool, IsTrue, List, [], ◌++◌, length, unwrap_or}
+use Rattle.std.specs.Prelude.{◌≡◌, ℕ, ◌+◌, ◌<◌, ◌≤◌, ◌⊎◌, ⊤, Bool, IsTrue, List, [], ◌++◌, length, Some, unwrap_or}
 use Rattle.ioam_desk.specs.Asked.{AsksFront}
 use Rattle.ioam_desk.specs.Desk.{holds}
 use Rattle.ioam_desk.specs.Touches.{State, Touches, opening, Failing, Quiet, Input, Output, Late}
@@ -34,8 +34,17 @@ module _ (tells : Bool) (ins outs : List (List ℕ)) (old new : State) where
     -- no output is opened before all inputs are, and nothing is read before all outputs are
     pub no_output : new.inputs.side.slots < old.inputs.side.slots + length ins → new.outputs ≡ old.outputs
     pub unread : new.outputs.side.slots < old.outputs.side.slots + length outs → AreUnread tells old.inputs new.inputs old.outputs ins
+    -- the name of each input that was opened held octets
+    pub held : IsTrue tells → (i : ℕ) → old.inputs.side.slots + i < new.inputs.side.slots → holds old.outputs (name_at ins i) ≡ Some (contents i)
     -- where it took its inputs to their ends, all were read to them
     pub drained : answer ≡ stop.Ended → drains → IsTrue tells → (i : ℕ) → i < length ins → IsTrue (new.inputs.ended (old.inputs.side.slots + i))
+
+  -- all inputs were opened, or not all
+  abbrev pub AllOpen : Type 0
+  AllOpen = old.inputs.side.slots + length ins ≤ new.inputs.side.slots
+
+  abbrev pub NotAllOpen : Type 0
+  NotAllOpen = new.inputs.side.slots < old.inputs.side.slots + length ins
 
   module _ (Texts : How → (ℕ → List ℕ) → List (List ℕ) → Type 0) (Firsts : (ℕ → List ℕ) → List (List ℕ) → Type 0) where
     -- the outputs hold texts that are so of these octets
@@ -58,10 +67,10 @@ module _ (tells : Bool) (ins outs : List (List ℕ)) (old new : State) where
 
     -- what the outputs hold, by the answer
     abbrev pub Leaves : Stop → Type 0
-    Leaves stop.Ended = HoldAll Ended contents
-    Leaves stop.ReadFault = (new.outputs ≡ old.outputs) ⊎ HoldHanded
-    Leaves stop.WriteFault = HoldSome
-    Leaves stop.NoMemory = (new.outputs ≡ old.outputs) ⊎ HoldSome
+    Leaves stop.Ended = AllOpen × HoldAll Ended contents
+    Leaves stop.ReadFault = (NotAllOpen × (new.outputs ≡ old.outputs)) ⊎ (AllOpen × HoldHanded)
+    Leaves stop.WriteFault = AllOpen × HoldSome
+    Leaves stop.NoMemory = (new.outputs ≡ old.outputs) ⊎ (AllOpen × HoldSome)
 
 -- the answer leaves the outputs as they are
 abbrev pub IsBroken : Stop → Type 0

@@ -4,7 +4,7 @@ use Rattle.ioam_desk.specs.Desk.{Side, OpenIn, holds}
 use Rattle.ioam_desk.specs.Touches.{Touches, state, Quiet, opening, failing_open}
 use Rattle.ioam_desk.proofs.TouchesLaws.{touches-none, touches-within, touches-open_in}
 use Rattle.ioam_desk_outputs.specs.Open.{AreSlots}
-use Rattle.ioam_desk_outputs.proofs.OpenLaws.{side_more, slots_more, unread_more, unread_fault, asked_now, asked_more, asked_fault_in, within_in, opened_none}
+use Rattle.ioam_desk_outputs.proofs.OpenLaws.{side_more, slots_more, unread_more, unread_fault, asked_now, asked_more, asked_fault_in, within_in, opened_none, fewer_fault}
 use Rattle.ioam_desk_outputs.proofs.open_in.open_inputs.Goals as goal
 
 pub names-preserved : goal.names-preserved
@@ -88,3 +88,8 @@ returns-in-Err-clause-asked g c =
     let is : name ≡ get_or names i name = subst (λ (x : List ℕ). x ≡ get_or names i x) (sym c.text.ensures) c.name-item.is in
     asked_fault_in g.D.Desk.tells (state (g.D.Desk.reading c.args.desk.now) (g.D.Desk.writing c.args.desk.now)) (state (g.D.Desk.reading c.names.desk) (g.D.Desk.writing c.names.desk))
     (state (g.D.Desk.reading c.open_in.new.self) (g.D.Desk.writing c.open_in.new.self)) names i name c.in-Err.fault (omega arith) is c.names.invariant.side c.in-Err.ensures.opened
+
+pub returns-in-Err-clause-fewer : goal.returns-in-Err-clause-fewer
+returns-in-Err-clause-fewer g c =
+    fewer_fault g.D.Desk.tells (state (g.D.Desk.reading c.args.desk.now) (g.D.Desk.writing c.args.desk.now)) (state (g.D.Desk.reading c.names.desk) (g.D.Desk.writing c.names.desk))
+    (state (g.D.Desk.reading c.open_in.new.self) (g.D.Desk.writing c.open_in.new.self)) c.args.names.now c.names.name-index c.text.result.now c.in-Err.fault (omega arith) c.names.invariant.side c.in-Err.ensures.opened

@@ -1,16 +1,16 @@
 use Rattle.ioam_desk.specs.Asked.{AsksFront}
 use Rattle.std.specs.Prelude.{⊤}
-use Rattle.std.proofs.Common.{◌≡◌, ℕ, List, rules, length, ap, sym, subst, ◌∙◌, arith, [], inr}
-use Rattle.ioam_desk.specs.Desk.{Writing}
+use Rattle.std.proofs.Common.{◌≡◌, ℕ, List, rules, length, ap, sym, subst, ◌∙◌, arith, [], inl, inr}
+use Rattle.ioam_desk.specs.Desk.{Side, Reading, Writing}
 use Rattle.ioam_desk.specs.Touches.{state, State, Quiet, Input, Output, opening}
-use Rattle.ioam_desk.proofs.TouchesLaws.{touches-more, touches-quiet_late}
+use Rattle.ioam_desk.proofs.TouchesLaws.{touches-slots_in, touches-more, touches-quiet_late}
 use Rattle.ioam_desk_outputs.specs.Held.{HoldFronts}
 use Rattle.ioam_desk_outputs.specs.Open.{AreSlots}
 use Rattle.ioam_desk_outputs.specs.Told.{AreTold, GathersNothing, unsaid}
 use Rattle.ioam_desk_outputs.specs.declared.output.Output.{Output as Sink}
 use Rattle.ioam_desk_outputs.proofs.ToldLaws.{told_names}
 use Rattle.ioam_stream.specs.Stage.{unseen}
-use Rattle.ioam_stream.specs.Streams.{Start, IsFedSo, Finishes}
+use Rattle.ioam_stream.specs.Streams.{Start, IsFedSo, Finishes, failing, streams_from}
 use Rattle.ioam_stream.proofs.FrameLaws.{within_ins, frame_none, frame_ins, frame_outs, frame_ran, finishes_leaves, drained_of, unopened_some, opened_unseen, opened_both, no_read, no_write, no_memory}
 use Rattle.ioam_stream.proofs.running.run_begun.Goals as goal
 
@@ -36,16 +36,26 @@ returns-in-Err-Failed-open_outputs-clause-frame g c = frame_outs g.D.Desk.tells 
     c.in-Ok-open_inputs.ensures.unread
 
 pub returns-in-Err-Failed-open_outputs-clause-leaves : goal.returns-in-Err-Failed-open_outputs-clause-leaves
-returns-in-Err-Failed-open_outputs-clause-leaves g c = λ told. unopened_some g.S.Stage.kind g.D.Desk.tells c.args.inputs.now c.args.outputs.now g.met.S.Stage.lawful (state (g.D.Desk.reading c.args.desk.now) (g.D.Desk.writing c.args.desk.now)) (state (g.D.Desk.reading c.open_outputs.new.desk) (g.D.Desk.writing c.open_outputs.new.desk)) c.args.stage.now _
-    c.requires.1.1.1.1.1.0 c.requires.1.1.1.1.0
-    (subst (λ (w : Writing). (texts : List (List ℕ)) → length texts ≡ length c.args.outputs.now → HoldFronts w (g.D.Desk.writing c.open_outputs.new.desk) 0 c.args.outputs.now texts)
-    c.in-Ok-open_inputs.ensures.outputs (c.in-Err-Failed-open_outputs.ensures.fault.1 told))
+returns-in-Err-Failed-open_outputs-clause-leaves g c = λ told. (
+  omega (arith, ap (λ (r : Reading). r.side.slots) c.in-Err-Failed-open_outputs.ensures.inputs, ap (λ (s : Side). s.slots) c.in-Ok-open_inputs.ensures.side),
+  unopened_some g.S.Stage.kind g.D.Desk.tells c.args.inputs.now c.args.outputs.now g.met.S.Stage.lawful (state (g.D.Desk.reading c.args.desk.now) (g.D.Desk.writing c.args.desk.now)) (state (g.D.Desk.reading c.open_outputs.new.desk) (g.D.Desk.writing c.open_outputs.new.desk)) c.args.stage.now _
+      c.requires.1.1.1.1.1.0 c.requires.1.1.1.1.0
+      (subst (λ (w : Writing). (texts : List (List ℕ)) → length texts ≡ length c.args.outputs.now → HoldFronts w (g.D.Desk.writing c.open_outputs.new.desk) 0 c.args.outputs.now texts)
+      c.in-Ok-open_inputs.ensures.outputs (c.in-Err-Failed-open_outputs.ensures.fault.1 told)),
+)
 
 pub returns-in-Ok-open_outputs-clause-leaves : goal.returns-in-Ok-open_outputs-clause-leaves
 returns-in-Ok-open_outputs-clause-leaves g c = λ told.
     let new = state (g.D.Desk.reading c.run_open.new.desk) (g.D.Desk.writing c.run_open.new.desk) in
     finishes_leaves g.S.Stage.kind g.D.Desk.tells c.args.inputs.now c.args.outputs.now (state (g.D.Desk.reading c.args.desk.now) (g.D.Desk.writing c.args.desk.now)) new c.args.stage.now c.run_open.new.stage c.run_open.result
-    c.requires.1.1.1.0 told (let P : Start _ → Type 0 = λ s. Finishes g.S.Stage.kind g.D.Desk.tells s new c.run_open.new.stage c.run_open.result in subst P c.requires.1.1.1.1.1.1 c.run_open.ensures.finishes)
+    c.requires.1.1.1.0
+    (omega (
+      arith,
+      touches-slots_in g.D.Desk.tells (streams_from g.start.base_in g.start.base_out) (failing c.run_open.result) (state (g.D.Desk.reading c.open_outputs.new.desk) (g.D.Desk.writing c.open_outputs.new.desk)) new c.run_open.ensures.touches,
+      ap (λ (r : Reading). r.side.slots) c.in-Ok-open_outputs.ensures.inputs,
+      ap (λ (s : Side). s.slots) c.in-Ok-open_inputs.ensures.side,
+    ))
+    told (let P : Start _ → Type 0 = λ s. Finishes g.S.Stage.kind g.D.Desk.tells s new c.run_open.new.stage c.run_open.result in subst P c.requires.1.1.1.1.1.1 c.run_open.ensures.finishes)
 
 pub returns-in-Ok-open_outputs-clause-frame : goal.returns-in-Ok-open_outputs-clause-frame
 returns-in-Ok-open_outputs-clause-frame g c =
@@ -54,9 +64,12 @@ returns-in-Ok-open_outputs-clause-frame g c =
     frame_ran g.D.Desk.tells c.args.inputs.now c.args.outputs.now _ (state (g.D.Desk.reading c.args.desk.now) (g.D.Desk.writing c.args.desk.now)) (state (g.D.Desk.reading c.open_inputs.new.desk) (g.D.Desk.writing c.open_inputs.new.desk)) (state (g.D.Desk.reading c.open_outputs.new.desk) (g.D.Desk.writing c.open_outputs.new.desk)) new c.run_open.result
     g.start.base_in g.start.base_out (ap (λ (s : Start _). s.base_in) starts) (ap (λ (s : Start _). s.base_out) starts)
     c.in-Ok-open_inputs.ensures.touches c.in-Ok-open_inputs.ensures.side c.in-Ok-open_outputs.ensures.touches c.in-Ok-open_outputs.ensures.inputs c.in-Ok-open_outputs.ensures.side c.in-Ok-open_inputs.ensures.outputs
-    c.run_open.ensures.touches
+    c.run_open.ensures.touches c.in-Ok-open_inputs.ensures.unread
     (drained_of g.S.Stage.kind g.D.Desk.tells c.args.inputs.now c.args.outputs.now (state (g.D.Desk.reading c.args.desk.now) (g.D.Desk.writing c.args.desk.now)) new c.args.stage.now c.run_open.new.stage c.run_open.result c.requires.1.1.1.0
     (let P : Start _ → Type 0 = λ s. Finishes g.S.Stage.kind g.D.Desk.tells s new c.run_open.new.stage c.run_open.result in subst P starts c.run_open.ensures.finishes))
+
+pub returns-in-Err-Failed-clause-leaves : goal.returns-in-Err-Failed-clause-leaves
+returns-in-Err-Failed-clause-leaves g c = λ told. inl (rw c.in-Err-Failed.field-0-is at c.in-Err-Failed.ensures.fewer, c.in-Err-Failed.ensures.outputs)
 
 pub run_open-requires : goal.run_open-requires
 run_open-requires g c κs within =
@@ -109,7 +122,10 @@ returns-clause-frame g c = frame_outs g.D.Desk.tells c.args.inputs.now c.args.ou
     c.in-Ok-open_inputs.ensures.unread
 
 pub returns-clause-leaves : goal.returns-clause-leaves
-returns-clause-leaves g c = λ told. inr (unopened_some g.S.Stage.kind g.D.Desk.tells c.args.inputs.now c.args.outputs.now g.met.S.Stage.lawful (state (g.D.Desk.reading c.args.desk.now) (g.D.Desk.writing c.args.desk.now)) (state (g.D.Desk.reading c.open_outputs.new.desk) (g.D.Desk.writing c.open_outputs.new.desk)) c.args.stage.now _
-    c.requires.1.1.1.1.1.0 c.requires.1.1.1.1.0
-    (subst (λ (w : Writing). (texts : List (List ℕ)) → length texts ≡ length c.args.outputs.now → HoldFronts w (g.D.Desk.writing c.open_outputs.new.desk) 0 c.args.outputs.now texts)
-    c.in-Ok-open_inputs.ensures.outputs (c.in-Err-NoMemory-open_outputs.ensures.fault.1 told)))
+returns-clause-leaves g c = λ told. inr (
+  omega (arith, ap (λ (r : Reading). r.side.slots) c.in-Err-NoMemory-open_outputs.ensures.inputs, ap (λ (s : Side). s.slots) c.in-Ok-open_inputs.ensures.side),
+  unopened_some g.S.Stage.kind g.D.Desk.tells c.args.inputs.now c.args.outputs.now g.met.S.Stage.lawful (state (g.D.Desk.reading c.args.desk.now) (g.D.Desk.writing c.args.desk.now)) (state (g.D.Desk.reading c.open_outputs.new.desk) (g.D.Desk.writing c.open_outputs.new.desk)) c.args.stage.now _
+      c.requires.1.1.1.1.1.0 c.requires.1.1.1.1.0
+      (subst (λ (w : Writing). (texts : List (List ℕ)) → length texts ≡ length c.args.outputs.now → HoldFronts w (g.D.Desk.writing c.open_outputs.new.desk) 0 c.args.outputs.now texts)
+      c.in-Ok-open_inputs.ensures.outputs (c.in-Err-NoMemory-open_outputs.ensures.fault.1 told)),
+)
