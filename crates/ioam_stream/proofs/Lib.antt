@@ -1,3 +1,4 @@
 pub mod StreamsLaws
 pub mod RunLaws
 pub mod FrameLaws
+pub mod ConversionLaws

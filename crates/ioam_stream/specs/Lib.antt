@@ -1,3 +1,5 @@
 pub mod Stage
 pub mod Streams
 pub mod Frame
+pub mod Conversion
+pub mod ConversionLaws

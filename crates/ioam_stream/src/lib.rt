@@ -4,10 +4,12 @@
 //! [`run`] promises, whatever the stage, what was opened, read and kept (`Frame`), and what the outputs hold then (`Leaves`).
 #![tactic(auto)]
 
+mod conversion;
 mod reading;
 mod running;
 mod stage;
 
+pub use conversion::{Conversion, Converter, Took};
 pub use reading::Stop;
 pub use running::run;
 pub use stage::{Stage, Step};

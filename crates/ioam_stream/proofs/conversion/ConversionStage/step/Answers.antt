@@ -1,0 +1,10 @@
+use Rattle.std.proofs.Common.{refl}
+use Rattle.ioam_stream.proofs.ConversionLaws.{closing_stops, closing_takes, stop_stops, stop_takes}
+use Rattle.ioam_stream.proofs.conversion.ConversionStage.step.Goals as goal
+
+pub close-requires-clause-stops : goal.close-requires-clause-stops
+close-requires-clause-stops g c = stop_stops g.C.Converter.does c.args.self.now c.take.new.self c.args.outputs.now c.take.new.outputs c.requires.stands c.in-Taking.is
+    (rw c.in-Stop.is at c.in_ok-take-in-Taking.ensures.takes)
+
+pub close-requires-in-Closing-clause-stops : goal.close-requires-in-Closing-clause-stops
+close-requires-in-Closing-clause-stops g c = closing_stops g.C.Converter.does c.args.self.now c.requires.stands c.in-Closing.is
