@@ -1,11 +1,9 @@
 -- The names and the files ask for one answer.
-use Rattle.std.proofs.Common.{◌≡◌, ℕ, ◌⊎◌, Bool, IsTrue, IsSomeAnd, List, Option, Some, None, refl, sym, ap, ◌∙◌, inl, inr}
+use Rattle.std.proofs.Common.{◌≡◌, ◌≢◌, ℕ, ◌⊎◌, Bool, IsTrue, IsSomeAnd, List, Option, Some, None, refl, sym, ap, ◌∙◌, inl, inr}
 use Rattle.ioam_desk.specs.Desk.{Reading, Writing, Rose}
 use Rattle.ioam_dex.specs.Reads as dex
-use Rattle.ioam_dex.specs.declared.export.ExportFault.{ExportFault}
 use Rattle.ioam_dex.proofs.ReadsLaws as dex_laws
 use Rattle.ioam_ipfix.specs.Reads as ipfix
-use Rattle.ioam_ipfix.specs.declared.fault.IpfixFault.{IpfixFault}
 use Rattle.ioam_ipfix.proofs.ReadsLaws as ipfix_laws
 use Rattle.ioam_run_answer.specs.declared.outcome.Outcome.{Outcome}
 use Rattle.ioam_run_answer.specs.declared.outcome.Outcome.TheVariants as outcome
@@ -25,102 +23,69 @@ never_both o P Q never x y = let both = both_held o P Q x y in never both.0 both
 
 -- ---- `ipfix`
 
+-- the answer of EXPORTS that ends so
+abbrev ipfix_of : dex.Ending → Outcome
+ipfix_of dex.Whole = outcome.Done
+ipfix_of (dex.Faulty at fault) = outcome.Exports at fault
+
 one_ending : (content : Option (List ℕ)) (d e : dex.Ending) → IsSomeAnd content (IsExports d) → IsSomeAnd content (IsExports e) → d ≡ e
 one_ending content d e x y =
     let both = both_held content (IsExports d) (IsExports e) x y in
     (dex_laws.Reads-unique both.0 both.1.records both.2.records d e both.1.reads both.2.reads).1
 
-long_or : (content : Option (List ℕ)) (d : dex.Ending) → IsSomeAnd content IsLong → IsSomeAnd content (IsExports d) → ⊥
-long_or content d = never_both content IsLong (IsExports d) (long_or_few d)
-
-whole_or_faulty : (at : ℕ) (fault : ExportFault) → dex.Whole ≡ dex.Faulty at fault → ⊥
-whole_or_faulty at fault same = cc
-
-faulty_same : (at : ℕ) (fault : ExportFault) (place : ℕ) (other : ExportFault) → dex.Faulty at fault ≡ dex.Faulty place other
-    → outcome.Exports at fault ≡ outcome.Exports place other
-faulty_same at fault place other same =
-    let there : at ≡ place = cc in
-    let why : fault ≡ other = cc in
-    cc
-
 module _ (tells : Bool) (content : Option (List ℕ)) (input out : List ℕ) (told : IsTrue tells) where
-  ipfix-unique : (a b : Outcome) → IpfixAsked tells content input out a → IpfixAsked tells content input out b → a ≡ b
-  ipfix-unique outcome.Done outcome.Done x y = refl
-  ipfix-unique outcome.Done (outcome.Names name') x y = absurd (x.0 y.0)
-  ipfix-unique outcome.Done (outcome.Exports at' fault') x y = absurd (whole_or_faulty at' fault' (one_ending content dex.Whole (dex.Faulty at' fault') (x.1 told) (y.1 told)))
-  ipfix-unique outcome.Done (outcome.Records limit') x y = absurd (long_or content dex.Whole (y.2 told) (x.1 told))
-  ipfix-unique outcome.Done outcome.Usage x y = absurd y
-  ipfix-unique outcome.Done (outcome.Domain why') x y = absurd y
-  ipfix-unique outcome.Done (outcome.Readings why') x y = absurd y
-  ipfix-unique outcome.Done (outcome.Capture name' at' fault') x y = absurd y
-  ipfix-unique outcome.Done (outcome.Ipfix at' fault') x y = absurd y
-  ipfix-unique outcome.Done (outcome.Part name' at' fault') x y = absurd y
-  ipfix-unique outcome.Done (outcome.Packets limit') x y = absurd y
-  ipfix-unique outcome.Done outcome.ReadFault x y = absurd y
-  ipfix-unique outcome.Done outcome.WriteFault x y = absurd y
-  ipfix-unique outcome.Done outcome.NoMemory x y = absurd y
-  ipfix-unique (outcome.Names name) outcome.Done x y = absurd (y.0 x.0)
-  ipfix-unique (outcome.Names name) (outcome.Names name') x y = ap outcome.Names (x.1 ∙ sym y.1)
-  ipfix-unique (outcome.Names name) (outcome.Exports at' fault') x y = absurd (y.0 x.0)
-  ipfix-unique (outcome.Names name) (outcome.Records limit') x y = absurd (y.0 x.0)
-  ipfix-unique (outcome.Names name) outcome.Usage x y = absurd y
-  ipfix-unique (outcome.Names name) (outcome.Domain why') x y = absurd y
-  ipfix-unique (outcome.Names name) (outcome.Readings why') x y = absurd y
-  ipfix-unique (outcome.Names name) (outcome.Capture name' at' fault') x y = absurd y
-  ipfix-unique (outcome.Names name) (outcome.Ipfix at' fault') x y = absurd y
-  ipfix-unique (outcome.Names name) (outcome.Part name' at' fault') x y = absurd y
-  ipfix-unique (outcome.Names name) (outcome.Packets limit') x y = absurd y
-  ipfix-unique (outcome.Names name) outcome.ReadFault x y = absurd y
-  ipfix-unique (outcome.Names name) outcome.WriteFault x y = absurd y
-  ipfix-unique (outcome.Names name) outcome.NoMemory x y = absurd y
-  ipfix-unique (outcome.Exports at fault) outcome.Done x y = absurd (whole_or_faulty at fault (sym (one_ending content (dex.Faulty at fault) dex.Whole (x.1 told) (y.1 told))))
-  ipfix-unique (outcome.Exports at fault) (outcome.Names name') x y = absurd (x.0 y.0)
-  ipfix-unique (outcome.Exports at fault) (outcome.Exports at' fault') x y = faulty_same at fault at' fault' (one_ending content (dex.Faulty at fault) (dex.Faulty at' fault') (x.1 told) (y.1 told))
-  ipfix-unique (outcome.Exports at fault) (outcome.Records limit') x y = absurd (long_or content (dex.Faulty at fault) (y.2 told) (x.1 told))
-  ipfix-unique (outcome.Exports at fault) outcome.Usage x y = absurd y
-  ipfix-unique (outcome.Exports at fault) (outcome.Domain why') x y = absurd y
-  ipfix-unique (outcome.Exports at fault) (outcome.Readings why') x y = absurd y
-  ipfix-unique (outcome.Exports at fault) (outcome.Capture name' at' fault') x y = absurd y
-  ipfix-unique (outcome.Exports at fault) (outcome.Ipfix at' fault') x y = absurd y
-  ipfix-unique (outcome.Exports at fault) (outcome.Part name' at' fault') x y = absurd y
-  ipfix-unique (outcome.Exports at fault) (outcome.Packets limit') x y = absurd y
-  ipfix-unique (outcome.Exports at fault) outcome.ReadFault x y = absurd y
-  ipfix-unique (outcome.Exports at fault) outcome.WriteFault x y = absurd y
-  ipfix-unique (outcome.Exports at fault) outcome.NoMemory x y = absurd y
-  ipfix-unique (outcome.Records limit) outcome.Done x y = absurd (long_or content dex.Whole (x.2 told) (y.1 told))
-  ipfix-unique (outcome.Records limit) (outcome.Names name') x y = absurd (x.0 y.0)
-  ipfix-unique (outcome.Records limit) (outcome.Exports at' fault') x y = absurd (long_or content (dex.Faulty at' fault') (x.2 told) (y.1 told))
-  ipfix-unique (outcome.Records limit) (outcome.Records limit') x y = ap outcome.Records (x.1 ∙ sym y.1)
-  ipfix-unique (outcome.Records limit) outcome.Usage x y = absurd y
-  ipfix-unique (outcome.Records limit) (outcome.Domain why') x y = absurd y
-  ipfix-unique (outcome.Records limit) (outcome.Readings why') x y = absurd y
-  ipfix-unique (outcome.Records limit) (outcome.Capture name' at' fault') x y = absurd y
-  ipfix-unique (outcome.Records limit) (outcome.Ipfix at' fault') x y = absurd y
-  ipfix-unique (outcome.Records limit) (outcome.Part name' at' fault') x y = absurd y
-  ipfix-unique (outcome.Records limit) (outcome.Packets limit') x y = absurd y
-  ipfix-unique (outcome.Records limit) outcome.ReadFault x y = absurd y
-  ipfix-unique (outcome.Records limit) outcome.WriteFault x y = absurd y
-  ipfix-unique (outcome.Records limit) outcome.NoMemory x y = absurd y
-  ipfix-unique outcome.Usage b x y = absurd x
-  ipfix-unique (outcome.Domain why) b x y = absurd x
-  ipfix-unique (outcome.Readings why) b x y = absurd x
-  ipfix-unique (outcome.Capture name at fault) b x y = absurd x
-  ipfix-unique (outcome.Ipfix at fault) b x y = absurd x
-  ipfix-unique (outcome.Part name at fault) b x y = absurd x
-  ipfix-unique (outcome.Packets limit) b x y = absurd x
-  ipfix-unique outcome.ReadFault b x y = absurd x
-  ipfix-unique outcome.WriteFault b x y = absurd x
-  ipfix-unique outcome.NoMemory b x y = absurd x
+  -- the answers that may be asked for: EXPORTS ends so, is too long, or the names are equal
+  abbrev Ends : Outcome → Type 0
+  Ends a = (ending : dex.Ending) × (a ≡ ipfix_of ending) × (input ≢ out) × IsSomeAnd content (IsExports ending)
+
+  abbrev Long : Outcome → Type 0
+  Long a = (a ≡ outcome.Records 67108864) × (input ≢ out) × IsSomeAnd content IsLong
+
+  abbrev Same : Outcome → Type 0
+  Same a = (a ≡ outcome.Names out) × (input ≡ out)
+
+  ipfix_view : (a : Outcome) → IpfixAsked tells content input out a → Ends a ⊎ (Long a ⊎ Same a)
+  ipfix_view outcome.Done x = inl (dex.Whole, refl, x.0, x.1 told)
+  ipfix_view (outcome.Exports at fault) x = inl (dex.Faulty at fault, refl, x.0, x.1 told)
+  ipfix_view (outcome.Records limit) x = inr (inl (ap outcome.Records x.1, x.0, x.2 told))
+  ipfix_view (outcome.Names name) x = inr (inr (ap outcome.Names x.1, x.0))
+  ipfix_view outcome.Usage x = absurd x
+  ipfix_view (outcome.Domain why) x = absurd x
+  ipfix_view (outcome.Readings why) x = absurd x
+  ipfix_view (outcome.Capture name at fault) x = absurd x
+  ipfix_view (outcome.Ipfix at fault) x = absurd x
+  ipfix_view (outcome.Part name at fault) x = absurd x
+  ipfix_view (outcome.Packets limit) x = absurd x
+  ipfix_view outcome.ReadFault x = absurd x
+  ipfix_view outcome.WriteFault x = absurd x
+  ipfix_view outcome.NoMemory x = absurd x
+
+  ipfix_same : (a b : Outcome) → Ends a ⊎ (Long a ⊎ Same a) → Ends b ⊎ (Long b ⊎ Same b) → a ≡ b
+  ipfix_same a b (inl x) (inl y) = x.1 ∙ ap ipfix_of (one_ending content x.0 y.0 x.3 y.3) ∙ sym y.1
+  ipfix_same a b (inl x) (inr (inl y)) = absurd (never_both content IsLong (IsExports x.0) (long_or_few x.0) y.2 x.3)
+  ipfix_same a b (inl x) (inr (inr y)) = absurd (x.2 y.1)
+  ipfix_same a b (inr (inl x)) (inl y) = absurd (never_both content IsLong (IsExports y.0) (long_or_few y.0) x.2 y.3)
+  ipfix_same a b (inr (inl x)) (inr (inl y)) = x.0 ∙ sym y.0
+  ipfix_same a b (inr (inl x)) (inr (inr y)) = absurd (x.1 y.1)
+  ipfix_same a b (inr (inr x)) (inl y) = absurd (y.2 x.1)
+  ipfix_same a b (inr (inr x)) (inr (inl y)) = absurd (y.1 x.1)
+  ipfix_same a b (inr (inr x)) (inr (inr y)) = x.0 ∙ sym y.0
+
+  ipfix_unique : (a b : Outcome) → IpfixAsked tells content input out a → IpfixAsked tells content input out b → (a ≡ b) ⊎ (a ≡ outcome.NoMemory)
+  ipfix_unique a b x y = inl (ipfix_same a b (ipfix_view a x) (ipfix_view b y))
 
   -- what is asked for is answered, unless a call failed or no memory could be had
   pub ipfix-exact : (old_in new_in : Reading) (old new : Writing) (answer asked : Outcome)
       → IpfixCause tells content input out old_in new_in old new answer → IpfixAsked tells content input out asked
       → (Rose old_in.side.faults new_in.side.faults → ⊥) → (Rose old.side.faults new.side.faults → ⊥)
       → (answer ≡ asked) ⊎ (answer ≡ outcome.NoMemory)
-  ipfix-exact old_in new_in old new outcome.Done asked cause asks reads writes = inl (ipfix-unique outcome.Done asked cause asks)
-  ipfix-exact old_in new_in old new (outcome.Names name) asked cause asks reads writes = inl (ipfix-unique (outcome.Names name) asked cause asks)
-  ipfix-exact old_in new_in old new (outcome.Exports at fault) asked cause asks reads writes = inl (ipfix-unique (outcome.Exports at fault) asked cause asks)
-  ipfix-exact old_in new_in old new (outcome.Records limit) asked cause asks reads writes = inl (ipfix-unique (outcome.Records limit) asked cause asks)
+  ipfix-exact old_in new_in old new outcome.ReadFault asked cause asks reads writes = absurd (reads cause)
+  ipfix-exact old_in new_in old new outcome.WriteFault asked cause asks reads writes = absurd (writes cause)
+  ipfix-exact old_in new_in old new outcome.NoMemory asked cause asks reads writes = inr refl
+  ipfix-exact old_in new_in old new outcome.Done asked cause asks reads writes = ipfix_unique outcome.Done asked cause asks
+  ipfix-exact old_in new_in old new (outcome.Names name) asked cause asks reads writes = ipfix_unique (outcome.Names name) asked cause asks
+  ipfix-exact old_in new_in old new (outcome.Exports at fault) asked cause asks reads writes = ipfix_unique (outcome.Exports at fault) asked cause asks
+  ipfix-exact old_in new_in old new (outcome.Records limit) asked cause asks reads writes = ipfix_unique (outcome.Records limit) asked cause asks
   ipfix-exact old_in new_in old new outcome.Usage asked cause asks reads writes = absurd cause
   ipfix-exact old_in new_in old new (outcome.Domain why) asked cause asks reads writes = absurd cause
   ipfix-exact old_in new_in old new (outcome.Readings why) asked cause asks reads writes = absurd cause
@@ -128,11 +93,13 @@ module _ (tells : Bool) (content : Option (List ℕ)) (input out : List ℕ) (to
   ipfix-exact old_in new_in old new (outcome.Ipfix at fault) asked cause asks reads writes = absurd cause
   ipfix-exact old_in new_in old new (outcome.Part name at fault) asked cause asks reads writes = absurd cause
   ipfix-exact old_in new_in old new (outcome.Packets limit) asked cause asks reads writes = absurd cause
-  ipfix-exact old_in new_in old new outcome.ReadFault asked cause asks reads writes = absurd (reads cause)
-  ipfix-exact old_in new_in old new outcome.WriteFault asked cause asks reads writes = absurd (writes cause)
-  ipfix-exact old_in new_in old new outcome.NoMemory asked cause asks reads writes = inr refl
 
 -- ---- `records`
+
+-- the answer of IN that ends so
+abbrev records_of : ipfix.Ending → Outcome
+records_of ipfix.Whole = outcome.Done
+records_of (ipfix.Faulty at fault) = outcome.Ipfix at fault
 
 end_once : (content : Option (List ℕ)) (d e : ipfix.Ending) → IsSomeAnd content (IsMessages d) → IsSomeAnd content (IsMessages e) → d ≡ e
 end_once content d e x y =
@@ -148,114 +115,76 @@ crowded_or content d = never_both content IsCrowded (IsMessages d) (λ octets. c
 one_limit : (content : Option (List ℕ)) → IsSomeAnd content IsFull → IsSomeAnd content IsCrowded → ⊥
 one_limit content = never_both content IsFull IsCrowded full_or_crowded
 
-sound_or_faulty : (at : ℕ) (fault : IpfixFault) → ipfix.Whole ≡ ipfix.Faulty at fault → ⊥
-sound_or_faulty at fault same = cc
-
-fault_same : (at : ℕ) (fault : IpfixFault) (place : ℕ) (other : IpfixFault) → ipfix.Faulty at fault ≡ ipfix.Faulty place other
-    → outcome.Ipfix at fault ≡ outcome.Ipfix place other
-fault_same at fault place other same =
-    let there : at ≡ place = cc in
-    let why : fault ≡ other = cc in
-    cc
-
 module _ (tells : Bool) (content : Option (List ℕ)) (input out : List ℕ) (told : IsTrue tells) where
+  -- the answers that may be asked for: IN ends so, has too many records, too many messages, or the names are equal
+  abbrev Read : Outcome → Type 0
+  Read a = (ending : ipfix.Ending) × (a ≡ records_of ending) × (input ≢ out) × IsSomeAnd content (IsMessages ending)
+
+  abbrev Full : Outcome → Type 0
+  Full a = (a ≡ outcome.Records 67108864) × (input ≢ out) × IsSomeAnd content IsFull
+
+  abbrev Crowded : Outcome → Type 0
+  Crowded a = (a ≡ outcome.Packets 67108865) × (input ≢ out) × IsSomeAnd content IsCrowded
+
+  abbrev Alike : Outcome → Type 0
+  Alike a = (a ≡ outcome.Names out) × (input ≡ out)
+
+  abbrev View : Outcome → Type 0
+  View a = Read a ⊎ (Full a ⊎ (Crowded a ⊎ Alike a))
+
+  records_view : (a : Outcome) → RecordsAsked tells content input out a → View a
+  records_view outcome.Done x = inl (ipfix.Whole, refl, x.0, x.1 told)
+  records_view (outcome.Ipfix at fault) x = inl (ipfix.Faulty at fault, refl, x.0, x.1 told)
+  records_view (outcome.Records limit) x = inr (inl (ap outcome.Records x.1, x.0, x.2 told))
+  records_view (outcome.Packets limit) x = inr (inr (inl (ap outcome.Packets x.1, x.0, x.2 told)))
+  records_view (outcome.Names name) x = inr (inr (inr (ap outcome.Names x.1, x.0)))
+  records_view (outcome.Exports at fault) x = absurd x
+  records_view outcome.Usage x = absurd x
+  records_view (outcome.Domain why) x = absurd x
+  records_view (outcome.Readings why) x = absurd x
+  records_view (outcome.Capture name at fault) x = absurd x
+  records_view (outcome.Part name at fault) x = absurd x
+  records_view outcome.ReadFault x = absurd x
+  records_view outcome.WriteFault x = absurd x
+  records_view outcome.NoMemory x = absurd x
+
+  records_same : (a b : Outcome) → View a → View b → a ≡ b
+  records_same a b (inl x) (inl y) = x.1 ∙ ap records_of (end_once content x.0 y.0 x.3 y.3) ∙ sym y.1
+  records_same a b (inl x) (inr (inl y)) = absurd (full_or content x.0 y.2 x.3)
+  records_same a b (inl x) (inr (inr (inl y))) = absurd (crowded_or content x.0 y.2 x.3)
+  records_same a b (inl x) (inr (inr (inr y))) = absurd (x.2 y.1)
+  records_same a b (inr (inl x)) (inl y) = absurd (full_or content y.0 x.2 y.3)
+  records_same a b (inr (inl x)) (inr (inl y)) = x.0 ∙ sym y.0
+  records_same a b (inr (inl x)) (inr (inr (inl y))) = absurd (one_limit content x.2 y.2)
+  records_same a b (inr (inl x)) (inr (inr (inr y))) = absurd (x.1 y.1)
+  records_same a b (inr (inr (inl x))) (inl y) = absurd (crowded_or content y.0 x.2 y.3)
+  records_same a b (inr (inr (inl x))) (inr (inl y)) = absurd (one_limit content y.2 x.2)
+  records_same a b (inr (inr (inl x))) (inr (inr (inl y))) = x.0 ∙ sym y.0
+  records_same a b (inr (inr (inl x))) (inr (inr (inr y))) = absurd (x.1 y.1)
+  records_same a b (inr (inr (inr x))) (inl y) = absurd (y.2 x.1)
+  records_same a b (inr (inr (inr x))) (inr (inl y)) = absurd (y.1 x.1)
+  records_same a b (inr (inr (inr x))) (inr (inr (inl y))) = absurd (y.1 x.1)
+  records_same a b (inr (inr (inr x))) (inr (inr (inr y))) = x.0 ∙ sym y.0
+
   pub records-unique : (a b : Outcome) → RecordsAsked tells content input out a → RecordsAsked tells content input out b → a ≡ b
-  records-unique outcome.Done outcome.Done x y = refl
-  records-unique outcome.Done (outcome.Names name') x y = absurd (x.0 y.0)
-  records-unique outcome.Done (outcome.Exports at' fault') x y = absurd y
-  records-unique outcome.Done (outcome.Records limit') x y = absurd (full_or content ipfix.Whole (y.2 told) (x.1 told))
-  records-unique outcome.Done outcome.Usage x y = absurd y
-  records-unique outcome.Done (outcome.Domain why') x y = absurd y
-  records-unique outcome.Done (outcome.Readings why') x y = absurd y
-  records-unique outcome.Done (outcome.Capture name' at' fault') x y = absurd y
-  records-unique outcome.Done (outcome.Ipfix at' fault') x y = absurd (sound_or_faulty at' fault' (end_once content ipfix.Whole (ipfix.Faulty at' fault') (x.1 told) (y.1 told)))
-  records-unique outcome.Done (outcome.Part name' at' fault') x y = absurd y
-  records-unique outcome.Done (outcome.Packets limit') x y = absurd (crowded_or content ipfix.Whole (y.2 told) (x.1 told))
-  records-unique outcome.Done outcome.ReadFault x y = absurd y
-  records-unique outcome.Done outcome.WriteFault x y = absurd y
-  records-unique outcome.Done outcome.NoMemory x y = absurd y
-  records-unique (outcome.Names name) outcome.Done x y = absurd (y.0 x.0)
-  records-unique (outcome.Names name) (outcome.Names name') x y = ap outcome.Names (x.1 ∙ sym y.1)
-  records-unique (outcome.Names name) (outcome.Exports at' fault') x y = absurd y
-  records-unique (outcome.Names name) (outcome.Records limit') x y = absurd (y.0 x.0)
-  records-unique (outcome.Names name) outcome.Usage x y = absurd y
-  records-unique (outcome.Names name) (outcome.Domain why') x y = absurd y
-  records-unique (outcome.Names name) (outcome.Readings why') x y = absurd y
-  records-unique (outcome.Names name) (outcome.Capture name' at' fault') x y = absurd y
-  records-unique (outcome.Names name) (outcome.Ipfix at' fault') x y = absurd (y.0 x.0)
-  records-unique (outcome.Names name) (outcome.Part name' at' fault') x y = absurd y
-  records-unique (outcome.Names name) (outcome.Packets limit') x y = absurd (y.0 x.0)
-  records-unique (outcome.Names name) outcome.ReadFault x y = absurd y
-  records-unique (outcome.Names name) outcome.WriteFault x y = absurd y
-  records-unique (outcome.Names name) outcome.NoMemory x y = absurd y
-  records-unique (outcome.Exports at fault) b x y = absurd x
-  records-unique (outcome.Records limit) outcome.Done x y = absurd (full_or content ipfix.Whole (x.2 told) (y.1 told))
-  records-unique (outcome.Records limit) (outcome.Names name') x y = absurd (x.0 y.0)
-  records-unique (outcome.Records limit) (outcome.Exports at' fault') x y = absurd y
-  records-unique (outcome.Records limit) (outcome.Records limit') x y = ap outcome.Records (x.1 ∙ sym y.1)
-  records-unique (outcome.Records limit) outcome.Usage x y = absurd y
-  records-unique (outcome.Records limit) (outcome.Domain why') x y = absurd y
-  records-unique (outcome.Records limit) (outcome.Readings why') x y = absurd y
-  records-unique (outcome.Records limit) (outcome.Capture name' at' fault') x y = absurd y
-  records-unique (outcome.Records limit) (outcome.Ipfix at' fault') x y = absurd (full_or content (ipfix.Faulty at' fault') (x.2 told) (y.1 told))
-  records-unique (outcome.Records limit) (outcome.Part name' at' fault') x y = absurd y
-  records-unique (outcome.Records limit) (outcome.Packets limit') x y = absurd (one_limit content (x.2 told) (y.2 told))
-  records-unique (outcome.Records limit) outcome.ReadFault x y = absurd y
-  records-unique (outcome.Records limit) outcome.WriteFault x y = absurd y
-  records-unique (outcome.Records limit) outcome.NoMemory x y = absurd y
-  records-unique outcome.Usage b x y = absurd x
-  records-unique (outcome.Domain why) b x y = absurd x
-  records-unique (outcome.Readings why) b x y = absurd x
-  records-unique (outcome.Capture name at fault) b x y = absurd x
-  records-unique (outcome.Ipfix at fault) outcome.Done x y = absurd (sound_or_faulty at fault (sym (end_once content (ipfix.Faulty at fault) ipfix.Whole (x.1 told) (y.1 told))))
-  records-unique (outcome.Ipfix at fault) (outcome.Names name') x y = absurd (x.0 y.0)
-  records-unique (outcome.Ipfix at fault) (outcome.Exports at' fault') x y = absurd y
-  records-unique (outcome.Ipfix at fault) (outcome.Records limit') x y = absurd (full_or content (ipfix.Faulty at fault) (y.2 told) (x.1 told))
-  records-unique (outcome.Ipfix at fault) outcome.Usage x y = absurd y
-  records-unique (outcome.Ipfix at fault) (outcome.Domain why') x y = absurd y
-  records-unique (outcome.Ipfix at fault) (outcome.Readings why') x y = absurd y
-  records-unique (outcome.Ipfix at fault) (outcome.Capture name' at' fault') x y = absurd y
-  records-unique (outcome.Ipfix at fault) (outcome.Ipfix at' fault') x y = fault_same at fault at' fault' (end_once content (ipfix.Faulty at fault) (ipfix.Faulty at' fault') (x.1 told) (y.1 told))
-  records-unique (outcome.Ipfix at fault) (outcome.Part name' at' fault') x y = absurd y
-  records-unique (outcome.Ipfix at fault) (outcome.Packets limit') x y = absurd (crowded_or content (ipfix.Faulty at fault) (y.2 told) (x.1 told))
-  records-unique (outcome.Ipfix at fault) outcome.ReadFault x y = absurd y
-  records-unique (outcome.Ipfix at fault) outcome.WriteFault x y = absurd y
-  records-unique (outcome.Ipfix at fault) outcome.NoMemory x y = absurd y
-  records-unique (outcome.Part name at fault) b x y = absurd x
-  records-unique (outcome.Packets limit) outcome.Done x y = absurd (crowded_or content ipfix.Whole (x.2 told) (y.1 told))
-  records-unique (outcome.Packets limit) (outcome.Names name') x y = absurd (x.0 y.0)
-  records-unique (outcome.Packets limit) (outcome.Exports at' fault') x y = absurd y
-  records-unique (outcome.Packets limit) (outcome.Records limit') x y = absurd (one_limit content (y.2 told) (x.2 told))
-  records-unique (outcome.Packets limit) outcome.Usage x y = absurd y
-  records-unique (outcome.Packets limit) (outcome.Domain why') x y = absurd y
-  records-unique (outcome.Packets limit) (outcome.Readings why') x y = absurd y
-  records-unique (outcome.Packets limit) (outcome.Capture name' at' fault') x y = absurd y
-  records-unique (outcome.Packets limit) (outcome.Ipfix at' fault') x y = absurd (crowded_or content (ipfix.Faulty at' fault') (x.2 told) (y.1 told))
-  records-unique (outcome.Packets limit) (outcome.Part name' at' fault') x y = absurd y
-  records-unique (outcome.Packets limit) (outcome.Packets limit') x y = ap outcome.Packets (x.1 ∙ sym y.1)
-  records-unique (outcome.Packets limit) outcome.ReadFault x y = absurd y
-  records-unique (outcome.Packets limit) outcome.WriteFault x y = absurd y
-  records-unique (outcome.Packets limit) outcome.NoMemory x y = absurd y
-  records-unique outcome.ReadFault b x y = absurd x
-  records-unique outcome.WriteFault b x y = absurd x
-  records-unique outcome.NoMemory b x y = absurd x
+  records-unique a b x y = records_same a b (records_view a x) (records_view b y)
 
   -- what is asked for is answered, unless a call failed or no memory could be had
   pub records-exact : (old_in new_in : Reading) (old new : Writing) (answer asked : Outcome)
       → RecordsCause tells content input out old_in new_in old new answer → RecordsAsked tells content input out asked
       → (Rose old_in.side.faults new_in.side.faults → ⊥) → (Rose old.side.faults new.side.faults → ⊥)
       → (answer ≡ asked) ⊎ (answer ≡ outcome.NoMemory)
+  records-exact old_in new_in old new outcome.ReadFault asked cause asks reads writes = absurd (reads cause)
+  records-exact old_in new_in old new outcome.WriteFault asked cause asks reads writes = absurd (writes cause)
+  records-exact old_in new_in old new outcome.NoMemory asked cause asks reads writes = inr refl
   records-exact old_in new_in old new outcome.Done asked cause asks reads writes = inl (records-unique outcome.Done asked cause asks)
   records-exact old_in new_in old new (outcome.Names name) asked cause asks reads writes = inl (records-unique (outcome.Names name) asked cause asks)
-  records-exact old_in new_in old new (outcome.Exports at fault) asked cause asks reads writes = absurd cause
   records-exact old_in new_in old new (outcome.Records limit) asked cause asks reads writes = inl (records-unique (outcome.Records limit) asked cause asks)
+  records-exact old_in new_in old new (outcome.Ipfix at fault) asked cause asks reads writes = inl (records-unique (outcome.Ipfix at fault) asked cause asks)
+  records-exact old_in new_in old new (outcome.Packets limit) asked cause asks reads writes = inl (records-unique (outcome.Packets limit) asked cause asks)
+  records-exact old_in new_in old new (outcome.Exports at fault) asked cause asks reads writes = absurd cause
   records-exact old_in new_in old new outcome.Usage asked cause asks reads writes = absurd cause
   records-exact old_in new_in old new (outcome.Domain why) asked cause asks reads writes = absurd cause
   records-exact old_in new_in old new (outcome.Readings why) asked cause asks reads writes = absurd cause
   records-exact old_in new_in old new (outcome.Capture name at fault) asked cause asks reads writes = absurd cause
-  records-exact old_in new_in old new (outcome.Ipfix at fault) asked cause asks reads writes = inl (records-unique (outcome.Ipfix at fault) asked cause asks)
   records-exact old_in new_in old new (outcome.Part name at fault) asked cause asks reads writes = absurd cause
-  records-exact old_in new_in old new (outcome.Packets limit) asked cause asks reads writes = inl (records-unique (outcome.Packets limit) asked cause asks)
-  records-exact old_in new_in old new outcome.ReadFault asked cause asks reads writes = absurd (reads cause)
-  records-exact old_in new_in old new outcome.WriteFault asked cause asks reads writes = absurd (writes cause)
-  records-exact old_in new_in old new outcome.NoMemory asked cause asks reads writes = inr refl

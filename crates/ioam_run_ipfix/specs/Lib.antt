@@ -1,9 +1,8 @@
-pub mod Ends
+pub mod Bounds
 pub mod Exports
 pub mod Messages
-pub mod PackSteps
+pub mod Packer
 pub mod Packing
 pub mod Promise
-pub mod Streams
-pub mod TakeSteps
+pub mod Taker
 pub mod Texts

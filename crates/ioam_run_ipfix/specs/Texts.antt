@@ -1,5 +1,5 @@
 -- The texts that are written of records: as messages, or one behind the other; and what OUT holds of them.
-use Rattle.std.specs.Prelude.{◌≡◌, ℕ, ◌<◌, All, IsSomeAnd, List, Some}
+use Rattle.std.specs.Prelude.{◌≡◌, ℕ, ◌<◌, All, IsSomeAnd, List, [], ◌∷◌, Some}
 use Rattle.ioam_base.specs.Octets.{IsFront}
 use Rattle.ioam_desk.specs.Desk.{Writing, holds}
 use Rattle.ioam_dex.specs.Record.{Record, IsRecord}
@@ -44,3 +44,12 @@ module _ (Is Are : List Record → List ℕ → Type 0) where
     pub text : List ℕ
     pub is : Is records text
     pub held : old.side.slots < new.side.slots → IsSomeAnd (holds new out) (λ part. IsFront part text)
+
+  -- the one text is that of some records of the octets, no more than may be
+  pub record Says (octets : List ℕ) (so : List (List ℕ)) : Type 0 where
+    pub records : List Record
+    pub are : Are records octets
+    pub few : AreFew records
+    pub text : List ℕ
+    pub is : Is records text
+    pub said : so ≡ text ∷ []

@@ -20,12 +20,12 @@ returns g c = record {
     asked_out = c.run_names.ensures.bounds.asked_out;
     all_in = c.run_names.ensures.bounds.all_in;
     all_out = c.run_names.ensures.bounds.all_out;
-    unopened = c.run_names.ensures.unopened;
-    differed = c.run_names.ensures.differed;
+    unopened = c.run_names.ensures.bounds.unopened;
+    differed = c.run_names.ensures.bounds.differed;
     no_output = c.run_names.ensures.bounds.no_output;
     unread = c.run_names.ensures.bounds.unread;
     drained = c.run_names.ensures.bounds.drained;
-    failures = c.run_names.ensures.failures;
+    failures = c.run_names.ensures.bounds.failures;
     kept_in = c.run_names.ensures.bounds.kept_in;
     kept_out = c.run_names.ensures.bounds.kept_out;
   };
