@@ -14,7 +14,7 @@ use Rattle.ioam_pcap.specs.Entries.{Taken}
 use Rattle.ioam_pcap.specs.declared.capture.CapFault.{CapFault}
 use Rattle.ioam_run_stream.specs.Promise.{EndsSo, AreFirst, ArePassed, AreWhole}
 use Rattle.ioam_run_stream.proofs.HaltsLaws.{held_so}
-use Rattle.ioam_run_stream.proofs.OnwardLaws.{given_first}
+use Rattle.ioam_run_stream.specs.FirstLaws.{given_first}
 use Rattle.ioam_run_stream.proofs.StepLaws.{same_most}
 use Rattle.ioam_run_audit.specs.Lanes.{At, Comes, EndsBy, IsOver, ReadsAlone, Steps}
 use Rattle.ioam_run_audit.specs.declared.lane.End.{End}

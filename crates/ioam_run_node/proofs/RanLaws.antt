@@ -9,7 +9,7 @@ use Rattle.ioam_desk.specs.Desk.{Side, Reading, Writing, holds, opened_each}
 use Rattle.ioam_desk.specs.Kept.{KeepsInputs}
 use Rattle.ioam_desk.proofs.KeptLaws.{KeepsInputs-same, KeepsInputs-then, KeepsOutputs-same}
 use Rattle.ioam_run_stream.specs.Promise.{HoldsAll, AreWhole}
-use Rattle.ioam_run_stream.specs.Streams.{FileCause}
+use Rattle.ioam_run_stream.specs.Answers.{FileCause}
 use Rattle.ioam_run_stream.specs.Promise as capture
 use Rattle.ioam_run_files.specs.Setting.{IsSetting}
 use Rattle.ioam_run_files.specs.declared.setting.Refusal.TheVariants as refusal

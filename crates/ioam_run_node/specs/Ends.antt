@@ -8,7 +8,7 @@ use Rattle.ioam_desk.specs.Asked.{AsksFront}
 use Rattle.ioam_desk.specs.Desk.{Reading, Writing, holds}
 use Rattle.ioam_desk.specs.Kept.{KeepsInputs, KeepsOutputs}
 use Rattle.ioam_desk_outputs.specs.Names.{name_at, AreApart, IsFirstRepeat}
-use Rattle.ioam_run_stream.specs.Streams.{FileCause}
+use Rattle.ioam_run_stream.specs.Answers.{FileCause}
 use Rattle.ioam_run_stream.specs.Promise as capture
 use Rattle.ioam_topo.specs.declared.domain.Domain.{Domain}
 use Rattle.ioam_run_node.specs.NodeText.{NodeTexts}

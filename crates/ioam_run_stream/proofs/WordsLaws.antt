@@ -6,7 +6,7 @@ use Rattle.ioam_run_answer.specs.Desks.{Desks}
 use Rattle.ioam_run_answer.specs.declared.outcome.Outcome.{Outcome}
 use Rattle.ioam_run_answer.specs.declared.outcome.Outcome.TheVariants as outcome
 use Rattle.ioam_run_stream.specs.Promise.{CaptureNames, all_names, most_packets, HasCause}
-use Rattle.ioam_run_stream.specs.Streams.{FileCause}
+use Rattle.ioam_run_stream.specs.Answers.{FileCause}
 
 -- the outputs' names differ where all do
 pub apart_tail : (name : List ℕ) (names : List (List ℕ)) → AreApart (name ∷ names) → AreApart names

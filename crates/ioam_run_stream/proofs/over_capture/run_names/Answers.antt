@@ -2,7 +2,7 @@ use Rattle.std.proofs.Common.{List, ℕ, inr, sym, subst, refl, arith}
 use Rattle.ioam_desk_outputs.specs.Names.{AreApart}
 use Rattle.ioam_run_answer.specs.Desks.{around}
 use Rattle.ioam_run_stream.specs.Promise.{most_packets}
-use Rattle.ioam_run_stream.specs.Streams.{FileCause}
+use Rattle.ioam_run_stream.specs.Answers.{FileCause}
 use Rattle.ioam_run_stream.proofs.WordsLaws.{apart_tail, cause_of_file}
 use Rattle.ioam_desk.proofs.KeptLaws.{KeepsInputs-same, KeepsOutputs-same}
 use Rattle.ioam_run_stream.proofs.over_capture.run_names.Goals as goal

@@ -1,4 +1,0 @@
-use Rattle.ioam_run_stream.proofs.over_capture.run_open.Given as goal
-
-abbrev pub ghost-read_on : goal.ghost-read_on
-ghost-read_on g a = g.begun
