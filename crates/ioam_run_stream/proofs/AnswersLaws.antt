@@ -107,7 +107,7 @@ module _ {G : Type 0} (gathers : G → List Taken → List (List ℕ) → G → 
   abbrev LeavesSo : Outcome → Type 0
   LeavesSo answer = Leaves limit (Texts begun.gathered) names input old.inputs new.inputs old.outputs new.outputs answer
 
-  -- behind the last record that was taken
+  -- after the last record that was taken
   left_by : (why : End) → last.end ≡ why → holds old.outputs input ≡ Some octets
       → HoldAll tells ins names old new Said Firsts Ended (contents tells ins names old new) → LeavesSo (answer_of input limit why)
   left_by end.Open is held hold = absurd (of_why end.Open is hold.texts.taken hold.texts.are)

@@ -18,13 +18,13 @@ use Rattle.ioam_stream.specs.declared.reading.Stop.TheVariants as stop
 use Rattle.ioam_stream.proofs.StreamsLaws.{within_writes, sticks_told}
 use Rattle.ioam_stream.specs.Frame.{IsBroken}
 
--- outputs that were told something are open
+-- outputs to which something was said are open
 pub told_open : (tells : Bool) (base : ℕ) (names : List (List ℕ)) (desk : Writing) (outputs : List Sink)
     → (texts : List (List ℕ)) × AreTold tells desk base names outputs texts → AreOpen desk outputs
 told_open tells base names desk outputs told = AreTold-open tells desk base names outputs told.0 told.1
 
 module _ {S : Type 0} (kind : Kind S) (tells : Bool) (start : Start S) where
-  -- what was told to the outputs when reading stopped
+  -- what was said to the outputs when reading stopped
   pub stops_told : (state : State) (stage : S) (outputs : List Sink) (answer : Stop) → Stops kind tells start state stage outputs answer
       → (IsBroken answer → ⊥) → (so_far : List (List ℕ)) × AreTold tells state.outputs start.base_out start.names outputs so_far
   stops_told state stage outputs stop.Ended stops whole = (stops.0.so_far, stops.0.told)

@@ -16,7 +16,7 @@ use Rattle.ioam_stream.specs.Streams.{Start, IsFedSo, Streams, IsWaiting, Sticks
 use Rattle.ioam_stream.specs.declared.reading.Pause.{Pause}
 use Rattle.ioam_stream.specs.declared.reading.Pause.TheVariants as pause
 
--- outputs that nobody wrote to were told what they were told
+-- what was said to outputs that nobody wrote to is still said
 AreTold-still : (tells : Bool) (old new : Writing) (slot : ℕ) (names : List (List ℕ)) (outputs : List Sink) (texts : List (List ℕ))
     → (IsTrue tells → (k : ℕ) → k < old.side.slots → new.written k ≡ old.written k) → (IsTrue tells → (name : List ℕ) → new.files name ≡ old.files name)
     → old.side.slots ≤ new.side.slots → AreTold tells old slot names outputs texts → AreTold tells new slot names outputs texts
@@ -162,7 +162,7 @@ module _ {S : Type 0} (kind : Kind S) (tells : Bool) (start : Start S) where
     is_open = waiting.is_open;
   }
 
-  -- outputs that were told something hold a prefix of it, and of what comes after it
+  -- outputs hold a prefix of what was said to them, and of that with more after it
   pub sticks_told : (state : State) (outputs : List Sink) (so_far : List (List ℕ)) → length outputs ≡ kind.width
       → AreTold tells state.outputs start.base_out start.names outputs so_far
       → (IsTrue tells → Leads kind start.begun start.contents so_far) → Sticks kind tells start state.outputs
@@ -269,7 +269,7 @@ module _ {S : Type 0} (kind : Kind S) (tells : Bool) (start : Start S) where
         told = told_touched tells base Quiet old new start.base_out start.names outputs streams.so_far touches streams.told;
       }
 
-  -- what was handed out, behind a piece of one input
+  -- what was handed out, after a piece of one input
   pub piece_seen : (old new : State) (input slot : ℕ) (octets : List ℕ) (seen : Seen) → slot ≡ start.base_in + input
       → Gives tells old.inputs new.inputs slot octets → IsFedSo kind tells start old.inputs seen → seen.ended input ≡ false
       → (now : Seen) × IsFed input octets seen now × IsFedSo kind tells start new.inputs now
@@ -313,7 +313,7 @@ module _ {S : Type 0} (kind : Kind S) (tells : Bool) (start : Start S) where
           ∙ ap (λ (xs : List ℕ). xs ++ new.inputs.left slot) (sym at_input)
           ∙ ap (λ (k : ℕ). now.fed input ++ new.inputs.left k) number
 
-  -- and behind its end
+  -- and after its end
   pub end_seen : (old new : State) (input slot : ℕ) (seen : Seen) → slot ≡ start.base_in + input
       → Gives tells old.inputs new.inputs slot [] → IsFedSo kind tells start old.inputs seen
       → (now : Seen) × IsEnded input seen now × IsFedSo kind tells start new.inputs now

@@ -10,7 +10,7 @@ use Rattle.ioam_stream.specs.Stage.{How, Ended, Handed}
 use Rattle.ioam_stream.specs.declared.reading.Stop.{Stop}
 use Rattle.ioam_stream.specs.declared.reading.Stop.TheVariants as stop
 
--- which call failed behind an answer
+-- which call failed, by the answer of a run
 abbrev pub failing_all : Stop → Failing
 failing_all stop.Ended = Quiet
 failing_all stop.ReadFault = Input

@@ -63,7 +63,7 @@ pub record Kind (S : Type 0) : Type 1 where
   pub room : S → ℕ
 
 module _ {S : Type 0} (kind : Kind S) where
-  -- with something behind them, these are the texts of some first items
+  -- with more after them, these are the texts of some first items
   abbrev pub Leads : S → (ℕ → List ℕ) → List (List ℕ) → Type 0
   Leads begun contents so_far = (rest : List (List ℕ)) × (length rest ≡ kind.width) × kind.firsts begun contents (said_more so_far rest)
 

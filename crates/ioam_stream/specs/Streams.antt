@@ -31,7 +31,7 @@ pub record Going (S : Type 0) : Type 0 where
 abbrev pub streams_from : ℕ → ℕ → Footprint
 streams_from base_in base_out = record { reads = λ k. base_in ≤ k; writes = λ k. base_out ≤ k; ins = []; outs = [] }
 
--- which call failed behind an answer
+-- which call failed, by what became of a piece, and by the answer of a run
 abbrev pub failing_piece : Piece → Failing
 failing_piece (piece.Fed count) = Quiet
 failing_piece piece.ReadFault = Read
@@ -51,7 +51,7 @@ module _ {S : Type 0} (kind : Kind S) (tells : Bool) (start : Start S) where
     pub ended : IsTrue tells → (i : ℕ) → i < kind.inputs → IsTrue (seen.ended i)
         → (inputs.left (start.base_in + i) ≡ []) × IsTrue (inputs.ended (start.base_in + i))
 
-  -- the outputs were told what the stage has said of what was handed out
+  -- the stage has said `so_far` of what was handed out, and this was written or is gathered
   pub record Streams (cut : Bool) (state : State) (stage : S) (outputs : List Sink) : Type 0 where
     pub seen : Seen
     pub so_far : List (List ℕ)
@@ -68,7 +68,7 @@ module _ {S : Type 0} (kind : Kind S) (tells : Bool) (start : Start S) where
     pub waits : kind.waits stage input
     pub is_open : streams.seen.ended input ≡ false
 
-  -- all is said: what the outputs were told is so of these octets
+  -- all is said, and it is so of these octets
   pub record Halts (how : How) (octets : ℕ → List ℕ) (state : State) (stage : S) (outputs : List Sink) : Type 0 where
     pub so_far : List (List ℕ)
     pub told : AreTold tells state.outputs start.base_out start.names outputs so_far
@@ -79,7 +79,7 @@ module _ {S : Type 0} (kind : Kind S) (tells : Bool) (start : Start S) where
   abbrev pub Drains : State → S → Type 0
   Drains state stage = kind.drains stage → IsTrue tells → (i : ℕ) → i < kind.inputs → IsTrue (state.inputs.ended (start.base_in + i))
 
-  -- what was handed out of the inputs, and what is left, behind a read that failed
+  -- what was handed out of the inputs, and what is left, after a read that failed
   abbrev pub Splits : (ℕ → List ℕ) → State → Type 0
   Splits handed state = IsTrue tells → (i : ℕ) → i < kind.inputs → start.contents i ≡ handed i ++ state.inputs.left (start.base_in + i)
 
@@ -105,7 +105,7 @@ module _ {S : Type 0} (kind : Kind S) (tells : Bool) (start : Start S) where
   abbrev pub Sticks : Writing → Type 0
   Sticks desk = IsTrue tells → (so : List (List ℕ)) × kind.firsts start.begun start.contents so × HoldAllFronts desk start.names so
 
-  -- why reading stopped, and what the outputs were told then
+  -- why reading stopped, and what was said then
   abbrev pub Stops : State → S → List Sink → Stop → Type 0
   Stops state stage outputs stop.Ended = Stopped false state stage outputs
   Stops state stage outputs stop.ReadFault = Stopped true state stage outputs

@@ -74,7 +74,7 @@ pub fn run<S: Stage, D: Desk>(
     run_begun(alloc, desk, inputs, outputs, stage)
 }
 
-// The same, where it is told how it began.
+// Runs a stage, with `start` for how the run began.
 fn run_begun<S: Stage, D: Desk>(
     alloc: Global,
     desk: &mut D,
