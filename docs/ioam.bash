@@ -2,7 +2,7 @@
 _ioam() {
     local word=${COMP_WORDS[COMP_CWORD]}
     if [ "$COMP_CWORD" = 1 ]; then
-        mapfile -t COMPREPLY < <(compgen -W 'audit bulk collect filter ipfix merge node part parts paths records run save show' -- "$word")
+        mapfile -t COMPREPLY < <(compgen -W 'audit bulk collect filter ipfix leaks merge node part parts paths records run save show' -- "$word")
     else
         compopt -o filenames
         mapfile -t COMPREPLY < <(compgen -f -- "$word")

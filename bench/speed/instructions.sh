@@ -38,6 +38,7 @@ count_all() {
     counted walk ../walk in.pcap out
     counted filter "$ioam" filter in.pcap out out.report
     counted filter-ng "$ioam" filter in.pcapng out out.report
+    counted leaks "$ioam" leaks in.pcap out out.report
     counted paths "$ioam" paths in.pcap out
     counted show "$ioam" show in.pcap out
     counted save "$ioam" save in.pcap out
@@ -86,6 +87,7 @@ echo '| command | instructions | of | peer | its instructions | times that |'
 echo '|---|---|---|---|---|---|'
 row '`filter`' filter 'a packet' $more walk walk.c
 row '`filter` of pcapng' filter-ng 'a packet' $more filter '`filter`'
+row '`leaks`' leaks 'a packet' $more filter '`filter`'
 row '`paths`' paths 'a packet' $more walk walk.c
 row '`show`' show 'a packet' $more walk walk.c
 row '`save`' save 'a packet' $more walk walk.c

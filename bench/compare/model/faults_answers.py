@@ -7,6 +7,7 @@ from faults_reach import reached
 from faults_readings import Fault as ReadingsFault, read_readings
 from faults_values import Fault, decimal_of
 from foreign_node import Node
+from leaks_reports import leaks
 from messages_ipfix import Reader, written
 from ng_captures import CLASSIC_HEAD, read_capture
 from parts_files import MOST, PartFault, held, part_of, read_part, record_octets, spelled
@@ -14,7 +15,7 @@ from texts_reports import filtered, paths, saved, show
 
 STATUS = ("done", "usage", "names", "domain", "readings", "capture", "exports", "packets", "records", "read", "write", "no",
           "ipfix", "part")
-WORDS = {"run": 5, "node": 8, "paths": 2, "collect": 2, "show": 2, "filter": 3, "save": 2, "bulk": 4, "audit": 6, "ipfix": 2,
+WORDS = {"run": 5, "node": 8, "paths": 2, "collect": 2, "show": 2, "filter": 3, "leaks": 3, "save": 2, "bulk": 4, "audit": 6, "ipfix": 2,
          "records": 2, "part": 2, "merge": 3, "parts": 2}
 MOST_PACKETS = 16_777_216
 
@@ -229,9 +230,9 @@ def answer(words, files):
             line, outputs = BY_WORDS[words[0]](files, words)
         else:
             differ(words[1:])
-            make = {"filter": filtered, "paths": paths, "show": show, "save": saved}[words[0]]
+            make = {"filter": filtered, "leaks": leaks, "paths": paths, "show": show, "save": saved}[words[0]]
             line, made = over_capture(files, words[1], MOST_PACKETS, make)
-            outputs = dict(zip(words[2:], made if words[0] == "filter" else (made,)))
+            outputs = dict(zip(words[2:], made if words[0] in ("filter", "leaks") else (made,)))
     except Answer as refusal:
         line, outputs = refusal.line, refusal.outputs
     reached(f"answer {words[0] if words else 'none'}: " + said(line))

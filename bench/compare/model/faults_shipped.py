@@ -36,8 +36,8 @@ def over_shipped(rng):
     """A command over a shipped capture, and `node` over a shipped domain, each a little changed."""
     capture = changed(rng, shipped(rng.choice(CAPTURES)), (0, 1, 1, 2, 5, 20))
     if rng.random() < 0.5:
-        command = rng.choice((b"filter", b"paths", b"show", b"save"))
-        return [command, b"I", b"O"] + [b"P"] * (command == b"filter"), {"I": capture}
+        command = rng.choice((b"filter", b"leaks", b"paths", b"show", b"save"))
+        return [command, b"I", b"O"] + [b"P"] * (command in (b"filter", b"leaks")), {"I": capture}
     folder = rng.choice(DOMAINS)
     domain, readings = shipped(f"{folder}/domain.toml"), shipped(f"{folder}/readings")
     if rng.random() < 0.3:

@@ -40,9 +40,9 @@ def capture_of(rng, aim=None, times=ng_random.TIMES):
 
 
 def over_capture(rng):
-    """`filter`, `paths`, `show` or `save` over a capture."""
-    command = rng.choice((b"filter", b"paths", b"show", b"show", b"save"))
-    outputs = [b"O", b"P"] if command == b"filter" else [b"O"]
+    """`filter`, `leaks`, `paths`, `show` or `save` over a capture."""
+    command = rng.choice((b"filter", b"leaks", b"leaks", b"paths", b"show", b"show", b"save"))
+    outputs = [b"O", b"P"] if command in (b"filter", b"leaks") else [b"O"]
     return [command, b"I", *outputs], {"I": capture_of(rng)}
 
 
@@ -197,7 +197,7 @@ SHARES = ((over_capture, 16), (over_node, 16), (over_faulty_domain, 17), (over_f
           (over_shipped, 3), (odd_words, 4), (over_audit, 17), (over_messages, 9), (over_parts, 9))
 
 
-MAKERS = {"filter": over_capture, "paths": over_capture, "show": over_capture, "save": over_capture, "node": over_node,
+MAKERS = {"filter": over_capture, "leaks": over_capture, "paths": over_capture, "show": over_capture, "save": over_capture, "node": over_node,
           "run": over_faulty_domain, "collect": over_records, "audit": over_audit, "ipfix": over_messages,
           "records": over_messages, "part": over_parts, "merge": over_parts, "parts": over_parts, "bulk": over_numbers}
 

@@ -64,6 +64,40 @@ def node_rows():
     expect(over("node D R z ab I O P E", {"D": DOMAIN.encode(), "R": b""})[0], "names z")
 
 
+def leak_rows(inside):
+    """Packets that show IOAM data, and such that hide some."""
+    sums = "packets 1 clean {} carries {} quotes {} hidden {} unseen 0\n"
+    flow = "2001:db8:: 2001:db8::1"
+
+    def shown(following, octets):
+        packet = (b"\x60\0\0\0" + len(octets).to_bytes(2, "big") + bytes([following, 64])
+                  + bytes.fromhex("20010db8" + "00" * 12 + "20010db8" + "00" * 11 + "01") + octets)
+        made = over("leaks I O P", {"I": capture(packet)})[1]
+        return made["P"].decode(), made["O"] == capture(packet)
+
+    def leaking(how, counts):
+        return f"1 {how} {flow}\nflow 1 {how} {flow}\n" + sums.format(*counts), True
+
+    def hidden(why):
+        return f"1 hidden {why} {flow}\n" + sums.format(0, 0, 0, 1), False
+
+    clean = sums.format(1, 0, 0, 0), False
+    inner = b"\x60\0\0\0\0\x10\0\x40" + bytes(32)
+    trace = bytes.fromhex("3b01310a0000000000000000") + bytes(4)
+    error = bytes.fromhex("0104000000000000")
+    expect(over("leaks I O P", {"I": capture(inside)})[1]["P"].decode().split(" ")[1], "carries")
+    expect(shown(17, bytes(8)), clean)
+    expect(shown(58, error + inner + trace), leaking("quotes", (0, 0, 1, 0)))
+    expect(shown(58, error + inner + trace[:3]), leaking("quotes", (0, 0, 1, 0)))
+    expect(shown(58, error + inner + trace[:2]), clean)
+    expect(shown(58, b"\x80" + error[1:] + inner + trace), clean)
+    for following, why in ((50, "esp"), (51, "ah")):
+        expect(shown(following, bytes(8)), hidden(why))
+    expect(shown(44, bytes.fromhex("3a00000800000001") + error + inner + trace), hidden("fragment"))
+    expect(shown(0, bytes.fromhex("3b01010400000000")), hidden("chain"))
+    expect(shown(0, bytes.fromhex("2b00310400000000") + bytes.fromhex("3b010000")), leaking("carries", (0, 1, 0, 0)))
+
+
 def capture_rows():
     """Captures and their faults."""
     kept = over("filter I O P", {"I": capture(U)})
@@ -72,6 +106,7 @@ def capture_rows():
     expect(over("filter I O P", {"I": cut})[1]["P"], b"1 drop not-ipv6\n2 drop cut\npackets 2 kept 0 dropped 2\n")
     inside = U[:4] + b"\x00\x30\x29" + U[7:40] + U[:4] + b"\x00\x08\x00" + U[7:40] + bytes.fromhex("3b00310400000000")
     expect(over("filter I O P", {"I": capture(inside)})[1]["P"], b"1 drop ioam-in\npackets 1 kept 0 dropped 1\n")
+    leak_rows(inside)
     little = bytes.fromhex("d4c3b2a102000400000000000000000000000400010000000100000020a107003e0000003e000000" + "00" * 12 + "86dd") + U
     expect(over("filter I O P", {"I": little})[1]["O"].hex()[48:80], "000000011dcd65000000003000000030")
     wide = HEAD[:24] + bytes.fromhex("00000001773594000000000000000000")

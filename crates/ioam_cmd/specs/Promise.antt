@@ -3,7 +3,7 @@
 use Rattle.std.specs.Prelude.{◌≡◌, ℕ, Bool, IsTrue, List}
 use Rattle.ioam_run_measured.specs.Measured.{Measures}
 use Rattle.ioam_words.specs.declared.command.Command.{Command}
-use Rattle.ioam_words.specs.declared.command.Command.TheVariants.{Filter, Paths, Show, Save, Node, Audit, Run, Bulk, Collect, Ipfix, Records, Part, Merge, Parts}
+use Rattle.ioam_words.specs.declared.command.Command.TheVariants.{Filter, Leaks, Paths, Show, Save, Node, Audit, Run, Bulk, Collect, Ipfix, Records, Part, Merge, Parts}
 use Rattle.ioam_desk.specs.Desk.{holds}
 use Rattle.ioam_run_audit.specs.Names.{name_at}
 use Rattle.ioam_run_answer.specs.Desks.{Desks}
@@ -18,6 +18,7 @@ use Rattle.ioam_run_collect.specs.Promise.{collect_names}
 use Rattle.ioam_run_domain.specs.Promise as domain
 use Rattle.ioam_run_domain.specs.Promise.{RunNames, run_names}
 use Rattle.ioam_run_ipfix.specs.Promise.{IpfixAsked, IpfixKeeps, RecordsAsked, RecordsKeeps, ipfix_names, records_names}
+use Rattle.ioam_run_leaks.specs.Promise.{LeaksKeeps}
 use Rattle.ioam_run_node.specs.Promise as node
 use Rattle.ioam_run_node.specs.Promise.{node_names}
 use Rattle.ioam_run_part.specs.Files.{merge_names, part_names, parts_names}
@@ -43,6 +44,7 @@ module _ (opens : Bool) (desks : Desks) (words : List (List ℕ)) where
   -- the command keeps its promise, over the words and the desk, with this answer
   abbrev pub Keeps : Command → Outcome → Type 0
   Keeps Filter answer = FilterKeeps desks (capture_names words) answer
+  Keeps Leaks answer = LeaksKeeps desks (capture_names words) answer
   Keeps Paths answer = PathsKeeps desks (capture_names words) answer
   Keeps Show answer = ShowKeeps desks (capture_names words) answer
   Keeps Save answer = SaveKeeps desks (capture_names words) answer
@@ -62,6 +64,7 @@ module _ (desks : Desks) (words : List (List ℕ)) where
   -- the answer that the words and what the files hold ask of the command, where nothing fails
   abbrev pub Asked : Command → Outcome → Type 0
   Asked Filter answer = capture.Asked desks (capture_names words) answer
+  Asked Leaks answer = capture.Asked desks (capture_names words) answer
   Asked Paths answer = capture.Asked desks (capture_names words) answer
   Asked Show answer = capture.Asked desks (capture_names words) answer
   Asked Save answer = capture.Asked desks (capture_names words) answer

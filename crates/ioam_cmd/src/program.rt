@@ -19,6 +19,7 @@ use ioam_run_capture::{CaptureFiles, run_filter, run_paths, run_save, run_show};
 use ioam_run_collect::{CollectFiles, run_collect};
 use ioam_run_domain::{Gate, RunFiles, run_domain};
 use ioam_run_ipfix::{IpfixFiles, RecordsFiles, run_ipfix, run_records};
+use ioam_run_leaks::run_leaks;
 use ioam_run_node::{NodeFiles, run_node};
 use ioam_run_part::{MergeFiles, PartFiles, PartsFiles, run_merge, run_part, run_parts};
 use ioam_words::{Command, parse};
@@ -74,6 +75,7 @@ fn run_command<R: Threads + Sync, D: Desk, G: Gate>(
 {
     match command {
         Command::Filter => run_filter(alloc, &CaptureFiles::of(words), desk),
+        Command::Leaks => run_leaks(alloc, &CaptureFiles::of(words), desk),
         Command::Paths => run_paths(alloc, &CaptureFiles::of(words), desk),
         Command::Show => run_show(alloc, &CaptureFiles::of(words), desk),
         Command::Save => run_save(alloc, &CaptureFiles::of(words), desk),

@@ -5,7 +5,7 @@ pub struct Refusal {
     pub line: &'static str,
 }
 
-const REFUSALS: [Refusal; 30] = [
+const REFUSALS: [Refusal; 33] = [
     Refusal {
         words: &["bulk", "18446744073709551616", "1", "1", "r"],
         line: "usage",
@@ -80,6 +80,18 @@ const REFUSALS: [Refusal; 30] = [
     },
     Refusal {
         words: &["filter", "a", "b", "c", "d"],
+        line: "usage",
+    },
+    Refusal {
+        words: &["leaks", "a", "b", "a"],
+        line: "names a",
+    },
+    Refusal {
+        words: &["leaks", "a", "b", "b"],
+        line: "names b",
+    },
+    Refusal {
+        words: &["leaks", "a", "b"],
         line: "usage",
     },
     Refusal {

@@ -5,8 +5,8 @@ use ioam_desk::MemoryDesk;
 use ioam_run_answer::line;
 use ioam_test_rows::digits::{is_front, words};
 use ioam_test_runs::{
-    collect_plainly, filter_plainly, holds, ipfix_plainly, is_said, paths_plainly, put,
-    records_plainly, save_plainly, set_up, show_plainly,
+    collect_plainly, filter_plainly, holds, ipfix_plainly, is_said, leaks_plainly, paths_plainly,
+    put, records_plainly, save_plainly, set_up, show_plainly,
 };
 use std::alloc::Global;
 
@@ -14,6 +14,7 @@ use std::alloc::Global;
 #[derive(Clone, Copy)]
 pub(crate) enum Command {
     Filter,
+    Leaks,
     Paths,
     Show,
     Save,
@@ -25,6 +26,11 @@ pub(crate) enum Command {
 fn filtered(alloc: Global, desk: &mut MemoryDesk) -> Result<String, NoMemory> {
     let names = words(alloc, &["filter", "in.pcap", "out", "report.txt"])?;
     line(alloc, &filter_plainly(alloc, &names, desk))
+}
+
+fn leaking(alloc: Global, desk: &mut MemoryDesk) -> Result<String, NoMemory> {
+    let names = words(alloc, &["leaks", "in.pcap", "out", "report.txt"])?;
+    line(alloc, &leaks_plainly(alloc, &names, desk))
 }
 
 fn listed(alloc: Global, desk: &mut MemoryDesk) -> Result<String, NoMemory> {
@@ -65,6 +71,7 @@ pub(crate) fn line_of(
 ) -> Result<String, NoMemory> {
     match command {
         Command::Filter => filtered(alloc, desk),
+        Command::Leaks => leaking(alloc, desk),
         Command::Paths => listed(alloc, desk),
         Command::Show => shown(alloc, desk),
         Command::Save => saved(alloc, desk),
@@ -90,7 +97,8 @@ pub(crate) fn desk_with(
 /// Whether the outputs that a command writes are there and hold these octets, and it wrote no other.
 pub(crate) fn are_held(command: Command, desk: &MemoryDesk, out: &[u8], report: &[u8]) -> bool {
     match command {
-        Command::Filter => holds(desk, "out", out) && holds(desk, "report.txt", report),
+        Command::Filter | Command::Leaks => holds(desk, "out", out)
+            && holds(desk, "report.txt", report),
         Command::Save | Command::Ipfix | Command::Records => {
             holds(desk, "out", out) && desk.file("report.txt").is_none()
         }

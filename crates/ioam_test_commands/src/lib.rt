@@ -1,6 +1,6 @@
 //! The tests of the commands but `run`: whole runs over desks in memory of `filter`, `paths`, `show` and
-//! `save` (`ioam_run_capture`), `collect` (`ioam_run_collect`), `part`, `merge` and `parts` (`parts`), `ipfix` and
-//! `records` (`messages`), `node` (`transit`), `audit` and `bulk`. What the first four read and have to write stands in
+//! `save` (`ioam_run_capture`), `leaks` (`ioam_run_leaks`), `collect` (`ioam_run_collect`), `part`, `merge` and `parts` (`parts`), `ipfix` and
+//! `records` (`messages`), `node` (`transit`), `audit` and `bulk`. What the first five read and have to write stands in
 //! `ioam_test_rows`.
 #![tactic(auto)]
 

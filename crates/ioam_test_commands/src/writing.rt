@@ -4,6 +4,7 @@ use crate::desks::{Command, is_so, saved_of};
 use crate::long::{long_capture, long_report};
 use ioam_test_rows::capture_rows::{listings, runs};
 use ioam_test_rows::digits::octets;
+use ioam_test_rows::leak_rows::leak_runs;
 use ioam_test_rows::ng_rows::savings;
 use ioam_test_rows::show_rows::shown;
 use std::alloc::Global;
@@ -73,6 +74,16 @@ fn filter_writes_what_it_keeps(rt: HostRuntime) {
         let outputs = (run.output, run.report);
         assert_row(&rt, alloc, Command::Filter, run.input, run.line, outputs);
         assert_saved(&rt, alloc, Command::Filter, run.input, outputs);
+    }
+}
+
+#[test]
+fn leaks_writes_what_shows(rt: HostRuntime) {
+    let alloc = rt.alloc();
+    for run in leak_runs() {
+        let outputs = (run.output, run.report);
+        assert_row(&rt, alloc, Command::Leaks, run.input, run.line, outputs);
+        assert_saved(&rt, alloc, Command::Leaks, run.input, outputs);
     }
 }
 

@@ -1,8 +1,8 @@
 //! Runs of `filter` and `paths`, as rows: what is read, and what is written.
 use crate::digits::{AT_ONE, HEAD, UDP};
 
-// A packet of 88 octets: a nested packet with an IOAM option in its Hop-by-Hop header.
-const NESTED: &str =
+/// A packet of 88 octets: a nested packet with an IOAM option in its Hop-by-Hop header.
+pub const NESTED: &str =
     "6000000000302940 20010db8000100000000000000000001 20010db8000200000000000000000001
     6000000000080040 20010db8000100000000000000000001 20010db8000200000000000000000001 3b00310400000000";
 

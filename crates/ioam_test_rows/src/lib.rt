@@ -11,6 +11,7 @@ pub mod flow_ng_rows;
 pub mod flow_parts;
 pub mod flow_rows;
 pub mod flow_rows_more;
+pub mod leak_rows;
 pub mod ng_rows;
 pub mod run_rows;
 pub mod show_rows;

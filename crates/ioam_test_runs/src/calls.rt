@@ -12,6 +12,7 @@ use ioam_run_capture::{CaptureFiles, run_filter, run_paths, run_save, run_show};
 use ioam_run_collect::{CollectFiles, run_collect};
 use ioam_run_domain::{RunFiles, run_domain};
 use ioam_run_ipfix::{IpfixFiles, RecordsFiles, run_ipfix, run_records};
+use ioam_run_leaks::run_leaks;
 use ioam_run_node::{NodeFiles, run_node};
 use std::alloc::Global;
 use std::thread::Threads;
@@ -21,6 +22,13 @@ pub fn filter_plainly<D: Desk>(alloc: Global, words: &[Name], desk: &mut D) -> O
     requires { length words.now ≡ 4 }
 {
     run_filter(alloc, &CaptureFiles::of(words), desk)
+}
+
+/// [`run_leaks`], without its clauses.
+pub fn leaks_plainly<D: Desk>(alloc: Global, words: &[Name], desk: &mut D) -> Outcome
+    requires { length words.now ≡ 4 }
+{
+    run_leaks(alloc, &CaptureFiles::of(words), desk)
 }
 
 /// [`run_paths`], without its clauses.

@@ -8,7 +8,7 @@ use Rattle.ioam_base.proofs.DecimalLaws.{decimal_iff}
 use Rattle.ioam_desk_outputs.specs.Names.{name_at}
 use Rattle.ioam_words.specs.Words.{IsCount, IsForm, IsSeed, IsWorkers}
 use Rattle.ioam_words.specs.declared.command.Command.{Command}
-use Rattle.ioam_words.specs.declared.command.Command.TheVariants.{Filter, Paths, Show, Save, Node, Audit, Run, Bulk, Collect, Ipfix, Records, Part, Merge, Parts}
+use Rattle.ioam_words.specs.declared.command.Command.TheVariants.{Filter, Leaks, Paths, Show, Save, Node, Audit, Run, Bulk, Collect, Ipfix, Records, Part, Merge, Parts}
 
 -- the greatest seed
 pub greatest : codes "18446744073709551615" ≡ decimal 18446744073709551615
@@ -37,6 +37,7 @@ spells_seed word (Some n) reads other =
 -- a command's own word
 abbrev named : Command → List ℕ
 named Filter = codes "filter"
+named Leaks = codes "leaks"
 named Paths = codes "paths"
 named Show = codes "show"
 named Save = codes "save"
@@ -53,6 +54,7 @@ named Parts = codes "parts"
 
 is_named : (command : Command) (words : List (List ℕ)) → IsForm command words → name_at words 0 ≡ named command
 is_named Filter words form = form.1
+is_named Leaks words form = form.1
 is_named Paths words form = form.1
 is_named Show words form = form.1
 is_named Save words form = form.1
@@ -75,6 +77,7 @@ key_of word = get_or word 0 0 + 256 * get_or word 1 0 + 65536 * get_or word 2 0 
 abbrev keyed : ℕ → ℕ → ℕ → ℕ → Command
 keyed key seed count workers =
     if nat_eq key (key_of (codes "filter")) then Filter
+    else if nat_eq key (key_of (codes "leaks")) then Leaks
     else if nat_eq key (key_of (codes "paths")) then Paths
     else if nat_eq key (key_of (codes "show")) then Show
     else if nat_eq key (key_of (codes "save")) then Save
@@ -107,6 +110,7 @@ with_numbers_of command key = keyed key (seed_in command) (count_in command) (wo
 
 is_keyed : (command : Command) → with_numbers_of command (key_of (named command)) ≡ command
 is_keyed Filter = refl
+is_keyed Leaks = refl
 is_keyed Paths = refl
 is_keyed Show = refl
 is_keyed Save = refl
@@ -135,6 +139,7 @@ module _ (words : List (List ℕ)) where
 
   pub one_form : (one command : Command) → IsForm one words → IsForm command words → one ≡ command
   one_form Filter command is form = other Filter command is form
+  one_form Leaks command is form = other Leaks command is form
   one_form Paths command is form = other Paths command is form
   one_form Show command is form = other Show command is form
   one_form Save command is form = other Save command is form

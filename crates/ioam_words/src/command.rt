@@ -10,6 +10,8 @@ use ioam_base::name::Name;
 pub enum Command {
     /// `filter IN OUT REPORT`
     Filter,
+    /// `leaks IN OUT REPORT`
+    Leaks,
     /// `paths IN REPORT`
     Paths,
     /// `show IN REPORT`
@@ -97,6 +99,7 @@ pub fn parse(words: &[Name]) -> Option<Command>
     let command = words.first()?;
     match (command.text(), words.len()) {
         ("filter", 4) => Some(Command::Filter),
+        ("leaks", 4) => Some(Command::Leaks),
         ("paths", 3) => Some(Command::Paths),
         ("show", 3) => Some(Command::Show),
         ("save", 3) => Some(Command::Save),

@@ -3,8 +3,9 @@ use ioam_base::name::Name;
 use std::io::Eprint;
 
 /// What stands behind the program's name, a line a command.
-const FORMS: [&str; 14] = [
+const FORMS: [&str; 15] = [
     "filter IN OUT REPORT",
+    "leaks IN OUT REPORT",
     "paths IN REPORT",
     "show IN REPORT",
     "save IN OUT",

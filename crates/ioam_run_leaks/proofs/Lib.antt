@@ -1,0 +1,2 @@
+pub mod GatheringLaws
+pub mod ObservationLaws
