@@ -30,20 +30,36 @@ def aim_of(domain, node):
     return Aim(domain.node[node]["address"], routes, known * 3 + [7, 8, 9, 65_535], snapshots, lengths)
 
 
-def capture_of(rng, aim=None, times=ng_random.TIMES):
+def quoting_frame(rng, aim, ethernet):
+    """A frame, or one with an ICMPv6 message that quotes a packet, whole or in part, and its original length."""
+    quoted, _ = frame(rng, aim, False)
+    if rng.random() < 0.5 or not quoted:
+        return frame(rng, aim, ethernet)
+    quoted = quoted[:rng.choice((len(quoted), rng.randrange(len(quoted)), 40 + rng.randrange(24)))]
+    message = bytes([rng.choice((1, 1, 2, 3, 4, 127, 128, 129)), 0]) + bytes(rng.choice((6, 6, 6, 6, 6, 5, 0))) + quoted
+    fragment = rng.choice((None, None, None, None, 0, 1, 8))
+    if fragment is not None:
+        message = bytes([58, 0]) + fragment.to_bytes(2, "big") + bytes(4) + message
+    head = b"\x60\0\0\0" + len(message).to_bytes(2, "big") + bytes([58 if fragment is None else 44, 64])
+    addresses = b"".join(bytes.fromhex("20010db8") + bytes(11) + bytes([rng.randrange(3)]) for _ in range(2))
+    octets = (bytes(12) + b"\x86\xdd" if ethernet else b"") + head + addresses + message
+    return octets, len(octets)
+
+
+def capture_of(rng, aim=None, times=ng_random.TIMES, make=frame):
     """A capture of packets that are aimed at something."""
     aim = aim or Aim()
     count = rng.choice((0, 1, 2, 3, 5, 8, 12, 20, 40)) if rng.random() < 0.98 else 300  # more octets than are read at once
     wrong = rng.choice((0, 1, 1, 1, 1, 1, 40))
     size = ng_random.Size(min(count, 12) if wrong > 1 else count, times, rng.random() < 0.03, wrong)
-    return ng_random.capture(rng, size, lambda inner, ethernet: frame(inner, aim, ethernet))
+    return ng_random.capture(rng, size, lambda inner, ethernet: make(inner, aim, ethernet))
 
 
 def over_capture(rng):
     """`filter`, `leaks`, `paths`, `show` or `save` over a capture."""
     command = rng.choice((b"filter", b"leaks", b"leaks", b"paths", b"show", b"show", b"save"))
     outputs = [b"O", b"P"] if command in (b"filter", b"leaks") else [b"O"]
-    return [command, b"I", *outputs], {"I": capture_of(rng)}
+    return [command, b"I", *outputs], {"I": capture_of(rng, make=quoting_frame if command == b"leaks" else frame)}
 
 
 def over_records(rng):
