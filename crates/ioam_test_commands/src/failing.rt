@@ -77,8 +77,8 @@ fn of_collect() -> Failing {
     }
 }
 
-// The files are opened by the first calls, and the reads follow, each of one piece; then what is gathered is
-// written.
+// The files are opened by the first calls. Of the calls after them some read, each one piece, and the others write
+// what is gathered, so the outputs hold what some number of pieces shows.
 fn read_fell(
     alloc: Global,
     row: &Failing,
@@ -89,11 +89,16 @@ fn read_fell(
     if call <= row.opens {
         return Ok(or_wrong(is_unopened(desk), Fell::Unopened));
     }
-    let reads = call.saturating_sub(row.opens).saturating_sub(1);
-    let (out, report) = outputs_of(row.command, reads.saturating_mul(piece as u64));
-    let out = octets(alloc, out)?;
-    let are_held = are_held(row.command, desk, &out, report.as_bytes());
-    Ok(or_wrong(are_held, Fell::Read))
+    let calls = call.saturating_sub(row.opens).saturating_sub(1);
+    for writes in 0..=calls {
+        let reads = calls.saturating_sub(writes);
+        let (out, report) = outputs_of(row.command, reads.saturating_mul(piece as u64));
+        let out = octets(alloc, out)?;
+        if are_held(row.command, desk, &out, report.as_bytes()) {
+            return Ok(Fell::Read);
+        }
+    }
+    Ok(Fell::Wrong)
 }
 
 // A failed write leaves a front of each output.

@@ -14,7 +14,8 @@ fn left_of(alloc: Global, command: Command, handed: u64) -> Result<Vec<u8>, NoMe
     }
 }
 
-// The files are opened by the first two calls, and the reads follow, each of one piece.
+// The files are opened by the first two calls. Of the calls after them some read, each one piece, and the others write
+// what is gathered, so OUT holds what some number of pieces shows.
 fn read_fell(
     alloc: Global,
     command: Command,
@@ -25,8 +26,15 @@ fn read_fell(
     if call <= 2 {
         return Ok(or_wrong(is_unopened(desk), Fell::Unopened));
     }
-    let left = left_of(alloc, command, (call - 3).saturating_mul(piece as u64))?;
-    Ok(or_wrong(are_held(command, desk, &left, b""), Fell::Read))
+    let calls = call.saturating_sub(3);
+    for writes in 0..=calls {
+        let reads = calls.saturating_sub(writes);
+        let left = left_of(alloc, command, reads.saturating_mul(piece as u64))?;
+        if are_held(command, desk, &left, b"") {
+            return Ok(Fell::Read);
+        }
+    }
+    Ok(Fell::Wrong)
 }
 
 /// What becomes of a run over two records, or over their messages, of which the numbered call fails.
