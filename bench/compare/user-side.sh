@@ -293,7 +293,7 @@ live() { # live DROPPED FILE WORD..: the file of the words that read `live` is t
     kill -INT $reader && wait $reader 2>/dev/null
     exec 7>&- && cp "$file" stdout && : >stderr && judge 0 0 "$@" ', live'
 }
-live 1 report paths live report && live 0 report show live report && live 1 report filter live out report && live 0 out save live out
+live 1 report paths live report && live 1 report show live report && live 1 report filter live out report && live 0 out save live out
 rm -f out report one.pcap
 
 # What crosses ab comes to b, and what b sends is what crosses bc: with no delay on ab at the same times. Files named as NODE and LINK.
