@@ -156,7 +156,7 @@ module _ {S : Type 0} (kind : Kind S) (tells : Bool) (ins outs : List (List ℕ)
   some_of old new stage last sticks = record { so = sticks.0; texts = sticks.1; held = HoldAllFronts-holds old.outputs new.outputs 0 outs sticks.0 sticks.2 }
 
   -- what a run over opened files left
-  pub finishes_leaves : (old new : State) (stage last : S) (answer : Stop) → length ins ≡ kind.inputs → AllOpen tells ins outs old new → IsTrue tells
+  pub finishes_leaves : (old new : State) (stage last : S) (answer : Stop) → length ins ≡ kind.inputs stage → AllOpen tells ins outs old new → IsTrue tells
       → Finishes kind tells (start_of old stage) new last answer → Leaves tells ins outs old new (kind.texts stage last) (kind.firsts stage) answer
   finishes_leaves old new stage last stop.Ended size opened told f = let held = f.0 told in (opened, record { so = held.0; texts = held.1; held = held.2 })
   finishes_leaves old new stage last stop.ReadFault size opened told f = let held = f.2 told in inr (
@@ -170,7 +170,7 @@ module _ {S : Type 0} (kind : Kind S) (tells : Bool) (ins outs : List (List ℕ)
   finishes_leaves old new stage last stop.WriteFault size opened told f = (opened, some_of old new stage last (f told))
   finishes_leaves old new stage last stop.NoMemory size opened told f = inr (opened, some_of old new stage last (f told))
 
-  pub drained_of : (old new : State) (stage last : S) (answer : Stop) → length ins ≡ kind.inputs → Finishes kind tells (start_of old stage) new last answer
+  pub drained_of : (old new : State) (stage last : S) (answer : Stop) → length ins ≡ kind.inputs stage → Finishes kind tells (start_of old stage) new last answer
       → answer ≡ stop.Ended → kind.drains last → IsTrue tells → (i : ℕ) → i < length ins → IsTrue (new.inputs.ended (old.inputs.side.slots + i))
   drained_of old new stage last stop.Ended size f is all told i inside = f.1 all told i (omega (arith, inside, size))
   drained_of old new stage last stop.ReadFault size f is all told i inside = absurd (no_read is)
@@ -178,7 +178,7 @@ module _ {S : Type 0} (kind : Kind S) (tells : Bool) (ins outs : List (List ℕ)
   drained_of old new stage last stop.NoMemory size f is all told i inside = absurd (no_memory is)
 
   -- outputs that could not all be opened
-  pub unopened_some : (lawful : Lawful kind) (old new : State) (stage last : S) → kind.fresh stage → length outs ≡ kind.width
+  pub unopened_some : (lawful : Lawful kind) (old new : State) (stage last : S) → kind.fresh stage → length outs ≡ kind.width stage
       → ((texts : List (List ℕ)) → length texts ≡ length outs → HoldFronts old.outputs new.outputs 0 outs texts)
       → HoldSome tells ins outs old new (kind.texts stage last) (kind.firsts stage)
   unopened_some lawful old new stage last fresh width empty =
@@ -186,7 +186,7 @@ module _ {S : Type 0} (kind : Kind S) (tells : Bool) (ins outs : List (List ℕ)
       record { so = none.0; texts = none.2; held = empty none.0 (none.1 ∙ sym width) }
 
   -- the inputs are unread
-  pub opened_unseen : (old mid late : State) (stage : S) → length ins ≡ kind.inputs → mid.inputs.side ≡ opened_each old.inputs.side ins → late.inputs ≡ mid.inputs
+  pub opened_unseen : (old mid late : State) (stage : S) → length ins ≡ kind.inputs stage → mid.inputs.side ≡ opened_each old.inputs.side ins → late.inputs ≡ mid.inputs
       → AreUnread tells old.inputs mid.inputs old.outputs ins → IsFedSo kind tells (start_of old stage) late.inputs unseen
   opened_unseen old mid late stage size side same unread = record {
     is_open = λ i inside. omega (arith, inside, size, ap (λ (r : Reading). r.side.slots) same, ap (λ (s : Side). s.slots) side);

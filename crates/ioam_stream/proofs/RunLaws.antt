@@ -37,8 +37,8 @@ module _ {S : Type 0} (kind : Kind S) (tells : Bool) (start : Start S) where
       → (IsBroken answer → ⊥)
       → (IsTrue tells → (so_far : List (List ℕ)) → AreTold tells old.outputs start.base_out start.names outputs so_far
       → HoldTexts new.outputs start.names so_far)
-      → ((i : ℕ) → i < kind.inputs → new.inputs.left (start.base_in + i) ≡ old.inputs.left (start.base_in + i))
-      → ((i : ℕ) → i < kind.inputs → new.inputs.ended (start.base_in + i) ≡ old.inputs.ended (start.base_in + i))
+      → ((i : ℕ) → i < kind.inputs start.begun → new.inputs.left (start.base_in + i) ≡ old.inputs.left (start.base_in + i))
+      → ((i : ℕ) → i < kind.inputs start.begun → new.inputs.ended (start.base_in + i) ≡ old.inputs.ended (start.base_in + i))
       → Finishes kind tells start new stage answer
   stops_finishes old new stage outputs stop.Ended stops whole texts left ended = (
     λ told. (stops.0.so_far, stops.0.says told, texts told stops.0.so_far stops.0.told),
@@ -53,7 +53,7 @@ module _ {S : Type 0} (kind : Kind S) (tells : Bool) (start : Start S) where
   stops_finishes old new stage outputs stop.NoMemory stops whole texts left ended = absurd (whole tt)
 
   -- or only a prefix
-  pub stops_sticks : (old new : State) (stage : S) (outputs after : List Sink) (answer : Stop) → length after ≡ kind.width
+  pub stops_sticks : (old new : State) (stage : S) (outputs after : List Sink) (answer : Stop) → length after ≡ kind.width start.begun
       → Stops kind tells start old stage outputs answer → (IsBroken answer → ⊥) → KeepsTold tells old.outputs new.outputs outputs after → Sticks kind tells start new.outputs
   stops_sticks old new stage outputs after stop.Ended width stops whole says =
       sticks_told kind tells start new after stops.0.so_far width (says start.base_out start.names stops.0.so_far stops.0.told) stops.0.leads
@@ -98,7 +98,7 @@ module _ {S : Type 0} (kind : Kind S) (tells : Bool) (start : Start S) where
       }
 
   -- outputs to which nothing was said hold a prefix of any texts
-  pub unbegun_sticks : (lawful : Lawful kind) (state : State) (stage : S) (before : List Sink) → kind.fresh stage → start.begun ≡ stage → length before ≡ kind.width
+  pub unbegun_sticks : (lawful : Lawful kind) (state : State) (stage : S) (before : List Sink) → kind.fresh stage → start.begun ≡ stage → length before ≡ kind.width start.begun
       → AreTold tells state.outputs start.base_out start.names before (unsaid start.names) → Sticks kind tells start state.outputs
   unbegun_sticks lawful state stage before fresh same width told =
       let size = told_names tells state.outputs start.base_out start.names before (unsaid start.names) told in

@@ -82,7 +82,7 @@ none_given tells old new slot into count is gives =
 
 module _ {S : Type 0} (kind : Kind S) (tells : Bool) (start : Start S) where
   -- what was handed out covers what the inputs hold
-  pub fed_covers : (inputs : Reading) (seen : Seen) → IsTrue tells → IsFedSo kind tells start inputs seen → Covers kind.inputs seen start.contents
+  pub fed_covers : (inputs : Reading) (seen : Seen) → IsTrue tells → IsFedSo kind tells start inputs seen → Covers (kind.inputs start.begun) seen start.contents
   fed_covers inputs seen told fed = record {
     front = λ i inside. covers (start.contents i) (seen.fed i) (inputs.left (start.base_in + i)) (fed.handed told i inside);
     whole = λ i inside done. fed.handed told i inside ∙ ap (λ (left : List ℕ). seen.fed i ++ left) (fed.ended told i inside done).0 ∙ append-nil (seen.fed i);
@@ -138,7 +138,7 @@ module _ {S : Type 0} (kind : Kind S) (tells : Bool) (start : Start S) where
       told = subst (λ (outputs : List Sink). AreTold tells state.outputs start.base_out start.names outputs streams.so_far) (sym waits.same) streams.told;
     };
     uncut = sym streams.cut_is ∙ waits.uncut start.begun streams.seen streams.so_far streams.stands;
-    inside = waits.inside;
+    inside = waits.inside start.begun streams.seen streams.so_far streams.stands;
     waits = waits.waits;
     is_open = waits.is_open start.begun streams.seen streams.so_far streams.stands;
   }
@@ -163,7 +163,7 @@ module _ {S : Type 0} (kind : Kind S) (tells : Bool) (start : Start S) where
   }
 
   -- outputs hold a prefix of what was said to them, and of that with more after it
-  pub sticks_told : (state : State) (outputs : List Sink) (so_far : List (List ℕ)) → length outputs ≡ kind.width
+  pub sticks_told : (state : State) (outputs : List Sink) (so_far : List (List ℕ)) → length outputs ≡ kind.width start.begun
       → AreTold tells state.outputs start.base_out start.names outputs so_far
       → (IsTrue tells → Leads kind start.begun start.contents so_far) → Sticks kind tells start state.outputs
   sticks_told state outputs so_far width told leads = λ is.
@@ -181,7 +181,7 @@ module _ {S : Type 0} (kind : Kind S) (tells : Bool) (start : Start S) where
       lawful.begins start.begun seen so_far stage start.contents (fed_covers inputs seen told fed) stands
 
   -- so in the middle
-  pub streams_sticks : (lawful : Lawful kind) (cut : Bool) (state : State) (stage : S) (outputs : List Sink) → length outputs ≡ kind.width
+  pub streams_sticks : (lawful : Lawful kind) (cut : Bool) (state : State) (stage : S) (outputs : List Sink) → length outputs ≡ kind.width start.begun
       → Streams kind tells start cut state stage outputs → Sticks kind tells start state.outputs
   streams_sticks lawful cut state stage outputs width streams =
       sticks_told state outputs streams.so_far width streams.told (leads_of lawful state.inputs stage streams.seen streams.so_far streams.fed streams.stands)
@@ -281,7 +281,7 @@ module _ {S : Type 0} (kind : Kind S) (tells : Bool) (start : Start S) where
       handed = λ told i inside. elim (cases_eq i input) [
         | inl same ↦
             let P : ℕ → Type 0 = λ k. start.contents k ≡ now.fed k ++ new.inputs.left (start.base_in + k) in
-            subst P (sym same) (here told (subst (λ (k : ℕ). k < kind.inputs) same inside))
+            subst P (sym same) (here told (subst (λ (k : ℕ). k < kind.inputs start.begun) same inside))
         | inr other ↦ fed.handed told i inside
             ∙ ap (λ (xs : List ℕ). xs ++ old.inputs.left (start.base_in + i)) (sym (elsewhere i other))
             ∙ ap (λ (xs : List ℕ). now.fed i ++ xs) (sym (gives.other_left (start.base_in + i) (λ at. other (omega (arith, at, number)))))
@@ -305,7 +305,7 @@ module _ {S : Type 0} (kind : Kind S) (tells : Bool) (start : Start S) where
       elsewhere : (k : ℕ) → k ≢ input → now.fed k ≡ seen.fed k
       elsewhere k other = unplaced input seen.fed (seen.fed input ++ octets) k other
 
-      here : IsTrue tells → input < kind.inputs → start.contents input ≡ now.fed input ++ new.inputs.left (start.base_in + input)
+      here : IsTrue tells → input < kind.inputs start.begun → start.contents input ≡ now.fed input ++ new.inputs.left (start.base_in + input)
       here told inside = fed.handed told input inside
           ∙ ap (λ (k : ℕ). seen.fed input ++ old.inputs.left k) (sym number)
           ∙ ap (λ (xs : List ℕ). seen.fed input ++ xs) (gives.left told)
@@ -353,7 +353,7 @@ module _ {S : Type 0} (kind : Kind S) (tells : Bool) (start : Start S) where
       ]
 
   -- so where the stage waits
-  pub waiting_sticks : (lawful : Lawful kind) (base : ℕ) (x : Failing) (old new : State) (stage : S) (outputs : List Sink) (input : ℕ) → length outputs ≡ kind.width
+  pub waiting_sticks : (lawful : Lawful kind) (base : ℕ) (x : Failing) (old new : State) (stage : S) (outputs : List Sink) (input : ℕ) → length outputs ≡ kind.width start.begun
       → Touches tells (reads_from base) x old new → IsWaiting kind tells start false old stage outputs input → Sticks kind tells start new.outputs
   waiting_sticks lawful base x old new stage outputs input width touches waiting =
       let streams = waiting.streams in
@@ -363,7 +363,7 @@ module _ {S : Type 0} (kind : Kind S) (tells : Bool) (start : Start S) where
 
 -- what waited could not all be written
 pub late_sticks : {S : Type 0} (kind : Kind S) (tells : Bool) (start : Start S) (lawful : Lawful kind) (old new : State) (x : Failing) (stage : S) (before after : List Sink) (input : ℕ)
-    → length after ≡ kind.width → KeepsTold tells old.outputs new.outputs before after → Touches tells (writes_from start.base_out) x old new
+    → length after ≡ kind.width start.begun → KeepsTold tells old.outputs new.outputs before after → Touches tells (writes_from start.base_out) x old new
     → IsWaiting kind tells start false old stage before input → Sticks kind tells start new.outputs
 late_sticks kind tells start lawful old new x stage before after input width says touches waiting =
     streams_sticks kind tells start lawful false new stage after width

@@ -1,5 +1,5 @@
--- What a command makes of the items of its one input: items that are taken one by one, and then a tail, said once.
-use Rattle.std.specs.Prelude.{◌≡◌, ℕ, ◌+◌, ◌<◌, Bool, true, false, IsTrue, List, [], ◌++◌, length}
+-- What a command makes of the items of its one input: items that are taken one by one, and then a tail, said in parts.
+use Rattle.std.specs.Prelude.{◌≡◌, ℕ, ◌+◌, ◌<◌, ◌≤◌, Bool, true, false, IsTrue, List, [], ◌++◌, length}
 use Rattle.ioam_base.specs.Octets.{IsFront}
 use Rattle.ioam_desk_outputs.specs.Told.{Adds, said_more}
 use Rattle.ioam_desk_outputs.specs.declared.output.Output.{Output}
@@ -9,11 +9,13 @@ use Rattle.ioam_stream.specs.declared.conversion.Phase.{Phase}
 use Rattle.ioam_stream.specs.declared.conversion.Phase.TheVariants as phase
 use Rattle.ioam_stream.specs.declared.stage.Step.{Step}
 use Rattle.ioam_stream.specs.declared.stage.Step.TheVariants as step
+use Rattle.ioam_stream.specs.declared.conversion.Tail.{Tail}
+use Rattle.ioam_stream.specs.declared.conversion.Tail.TheVariants as tail
 use Rattle.ioam_stream.specs.declared.conversion.Took.{Took}
 use Rattle.ioam_stream.specs.declared.conversion.Took.TheVariants as took
 
 -- What a converter is. `stands begun octets so_far now`: it was handed these octets, and has said these texts. `stops`: no
--- item is taken any more, of octets that are all or were handed out, and the tail isn't said. `texts`: these are the whole
+-- item is taken any more, of octets that are all or were handed out, and the tail isn't said to its end. `texts`: these are the whole
 -- texts. `firsts`: these are the texts of some first items.
 pub record Converts (C : Type 0) : Type 1 where
   pub width : ℕ
@@ -85,6 +87,7 @@ module _ {C : Type 0} (does : Converts C) where
     -- whatever follows, no item is taken any more
     pub record TakesNone : Type 0 where
       pub same : after ≡ before
+      pub held : does.held new ≤ does.held old
       pub stops : (begun : C) (octets rest : List ℕ) (so_far : List (List ℕ)) → does.stands begun octets so_far old → does.stops begun Ended (octets ++ rest) so_far new
       pub undrained : does.drains new → ⊥
 
@@ -94,13 +97,27 @@ module _ {C : Type 0} (does : Converts C) where
     Takes took.More = NeedsMore
     Takes took.Stop = TakesNone
 
-    -- the tail was said
-    pub record Closes : Type 0 where
+    -- a part of the tail was said, and more is to come
+    pub record SaysPart : Type 0 where
+      pub held : does.held new < does.held old
+      pub room : does.room new ≡ does.room old
+      pub added : List (List ℕ)
+      pub adds : Adds before after added
+      pub stops : (begun : C) (how : How) (octets : List ℕ) (so_far : List (List ℕ)) → does.stops begun how octets so_far old → does.stops begun how octets (said_more so_far added) new
+      pub drains : does.drains new → does.drains old
+
+    -- the last of it was said
+    pub record SaysLast : Type 0 where
       pub room : does.room new ≡ does.room old
       pub added : List (List ℕ)
       pub adds : Adds before after added
       pub texts : (begun : C) (how : How) (octets : List ℕ) (so_far : List (List ℕ)) → does.stops begun how octets so_far old → does.texts begun new how octets (said_more so_far added)
       pub drains : does.drains new → does.drains old
+
+    -- what one call said of the tail
+    abbrev pub Closes : Tail → Type 0
+    Closes tail.Rest = SaysPart
+    Closes tail.End = SaysLast
 
   -- ---- a converter as a stage
 
@@ -123,16 +140,21 @@ module _ {C : Type 0} (does : Converts C) where
   StandsIn phase.Closing begun seen so_far now = SaysSo (λ how octets. does.stops begun how octets so_far now.converter) (does.drains now.converter) seen
   StandsIn phase.Closed begun seen so_far now = SaysSo (λ how octets. does.texts begun now.converter how octets so_far) (does.drains now.converter) seen
 
-  -- the tail was said in a step
+  abbrev pub phase_after : Tail → Phase
+  phase_after tail.Rest = phase.Closing
+  phase_after tail.End = phase.Closed
+
+  -- the tail was said, or a part of it, in a step
   pub record IsClosing (old new : Conversion C) (before after : List Output) (answer : Step) : Type 0 where
-    pub closes : Closes old.converter new.converter before after
-    pub phase : new.phase ≡ phase.Closed
+    pub left : Tail
+    pub closes : Closes old.converter new.converter before after left
+    pub phase : new.phase ≡ phase_after left
     pub ended : new.ended ≡ old.ended
     pub taken : answer ≡ step.Taken
 
   abbrev pub held_in : Phase → ℕ → ℕ
   held_in phase.Taking held = held + 2
-  held_in phase.Closing held = 1
+  held_in phase.Closing held = held + 1
   held_in phase.Closed held = 0
 
   abbrev pub not_yet : Bool → ℕ
@@ -153,8 +175,8 @@ module _ {C : Type 0} (does : Converts C) where
 
   abbrev pub kind : Kind (Conversion C)
   kind = record {
-    inputs = 1;
-    width = does.width;
+    inputs = λ now. 1;
+    width = λ now. does.width;
     fresh = IsFresh;
     stands = λ begun seen so_far now. StandsIn now.phase begun.converter seen so_far now;
     texts = λ begun now how contents. does.texts begun.converter now.converter how (contents 0);

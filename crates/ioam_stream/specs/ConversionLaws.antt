@@ -39,4 +39,5 @@ module _ {C : Type 0} (does : Converts C) (sound : Sound does) where
   lawful = record {
     begins = λ begun seen so_far now contents covers stands. begins_in now.phase begun.converter seen so_far now contents covers stands;
     none = λ begun contents fresh. sound.none begun.converter (contents 0) fresh.fresh;
+    width = λ begun seen so_far now stands. refl;
   }

@@ -46,13 +46,13 @@ pub record Covers (inputs : ℕ) (seen : Seen) (contents : ℕ → List ℕ) : T
   pub front : (i : ℕ) → i < inputs → IsFront (seen.fed i) (contents i)
   pub whole : (i : ℕ) → i < inputs → IsTrue (seen.ended i) → contents i ≡ seen.fed i
 
--- What a stage is: how many inputs it reads and how many outputs it says texts to; when nothing was taken yet; that the
+-- What a stage is: how many inputs it reads and to how many outputs it says texts, which stays so while it runs; when nothing was taken yet; that the
 -- stage that began as the first, now the second, was handed this and has said these texts; which texts are said of octets
 -- from the first stage to the second, when all is said; which texts are those of some first items; when the stage has taken
 -- its inputs to their ends; which input it needs more of; how much it still holds, and may still be fed.
 pub record Kind (S : Type 0) : Type 1 where
-  pub inputs : ℕ
-  pub width : ℕ
+  pub inputs : S → ℕ
+  pub width : S → ℕ
   pub fresh : S → Type 0
   pub stands : S → Seen → List (List ℕ) → S → Type 0
   pub texts : S → S → How → (ℕ → List ℕ) → List (List ℕ) → Type 0
@@ -65,14 +65,15 @@ pub record Kind (S : Type 0) : Type 1 where
 module _ {S : Type 0} (kind : Kind S) where
   -- with more after them, these are the texts of some first items
   abbrev pub Leads : S → (ℕ → List ℕ) → List (List ℕ) → Type 0
-  Leads begun contents so_far = (rest : List (List ℕ)) × (length rest ≡ kind.width) × kind.firsts begun contents (said_more so_far rest)
+  Leads begun contents so_far = (rest : List (List ℕ)) × (length rest ≡ kind.width begun) × kind.firsts begun contents (said_more so_far rest)
 
-  -- what was said leads to texts of some first items; there are texts of none
+  -- what was said leads to texts of some first items; there are texts of none; the outputs stay as many
   pub record Lawful : Type 0 where
     pub begins : (begun : S) (seen : Seen) (so_far : List (List ℕ)) (stage : S) (contents : ℕ → List ℕ)
-        → Covers kind.inputs seen contents → kind.stands begun seen so_far stage → Leads begun contents so_far
+        → Covers (kind.inputs begun) seen contents → kind.stands begun seen so_far stage → Leads begun contents so_far
     pub none : (begun : S) (contents : ℕ → List ℕ) → kind.fresh begun
-        → (so : List (List ℕ)) × (length so ≡ kind.width) × kind.firsts begun contents so
+        → (so : List (List ℕ)) × (length so ≡ kind.width begun) × kind.firsts begun contents so
+    pub width : (begun : S) (seen : Seen) (so_far : List (List ℕ)) (stage : S) → kind.stands begun seen so_far stage → kind.width stage ≡ kind.width begun
 
   -- the stage stands for something
   pub record Standing (stage : S) : Type 0 where
@@ -108,7 +109,7 @@ module _ {S : Type 0} (kind : Kind S) where
     pub record Waits (input : ℕ) : Type 0 where
       pub same : after ≡ before
       pub room : kind.room new ≡ kind.room old
-      pub inside : input < kind.inputs
+      pub inside : (begun : S) (seen : Seen) (so_far : List (List ℕ)) → kind.stands begun seen so_far old → input < kind.inputs begun
       pub waits : kind.waits new input
       pub stands : (begun : S) (seen : Seen) (so_far : List (List ℕ)) → kind.stands begun seen so_far old → kind.stands begun seen so_far new
       pub is_open : (begun : S) (seen : Seen) (so_far : List (List ℕ)) → kind.stands begun seen so_far old → seen.ended input ≡ false
@@ -120,9 +121,9 @@ module _ {S : Type 0} (kind : Kind S) where
       pub room : kind.room new ≡ kind.room old
       pub stands : (begun : S) (seen : Seen) (so_far : List (List ℕ)) → kind.stands begun seen so_far old → kind.stands begun seen so_far new
       pub drained : (begun : S) (seen : Seen) (so_far : List (List ℕ)) → kind.stands begun seen so_far old → seen.cut ≡ false → kind.drains new
-          → (i : ℕ) → i < kind.inputs → IsTrue (seen.ended i)
+          → (i : ℕ) → i < kind.inputs begun → IsTrue (seen.ended i)
       pub whole : (begun : S) (seen : Seen) (so_far : List (List ℕ)) (contents : ℕ → List ℕ) → kind.stands begun seen so_far old → seen.cut ≡ false
-          → Covers kind.inputs seen contents → kind.texts begun new Ended contents so_far
+          → Covers (kind.inputs begun) seen contents → kind.texts begun new Ended contents so_far
       pub cut : (begun : S) (seen : Seen) (so_far : List (List ℕ)) → kind.stands begun seen so_far old → seen.cut ≡ true
           → kind.texts begun new Handed seen.fed so_far
 

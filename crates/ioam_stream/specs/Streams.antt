@@ -46,9 +46,9 @@ failing stop.NoMemory = Late
 module _ {S : Type 0} (kind : Kind S) (tells : Bool) (start : Start S) where
   -- what was handed out of the inputs so far, and what is left
   pub record IsFedSo (inputs : Reading) (seen : Seen) : Type 0 where
-    pub is_open : (i : ℕ) → i < kind.inputs → start.base_in + i < inputs.side.slots
-    pub handed : IsTrue tells → (i : ℕ) → i < kind.inputs → start.contents i ≡ seen.fed i ++ inputs.left (start.base_in + i)
-    pub ended : IsTrue tells → (i : ℕ) → i < kind.inputs → IsTrue (seen.ended i)
+    pub is_open : (i : ℕ) → i < kind.inputs start.begun → start.base_in + i < inputs.side.slots
+    pub handed : IsTrue tells → (i : ℕ) → i < kind.inputs start.begun → start.contents i ≡ seen.fed i ++ inputs.left (start.base_in + i)
+    pub ended : IsTrue tells → (i : ℕ) → i < kind.inputs start.begun → IsTrue (seen.ended i)
         → (inputs.left (start.base_in + i) ≡ []) × IsTrue (inputs.ended (start.base_in + i))
 
   -- the stage has said `so_far` of what was handed out, and this was written or is gathered
@@ -64,7 +64,7 @@ module _ {S : Type 0} (kind : Kind S) (tells : Bool) (start : Start S) where
   pub record IsWaiting (cut : Bool) (state : State) (stage : S) (outputs : List Sink) (input : ℕ) : Type 0 where
     pub streams : Streams cut state stage outputs
     pub uncut : cut ≡ false
-    pub inside : input < kind.inputs
+    pub inside : input < kind.inputs start.begun
     pub waits : kind.waits stage input
     pub is_open : streams.seen.ended input ≡ false
 
@@ -77,11 +77,11 @@ module _ {S : Type 0} (kind : Kind S) (tells : Bool) (start : Start S) where
 
   -- where the stage has taken its inputs to their ends, they were read to their ends
   abbrev pub Drains : State → S → Type 0
-  Drains state stage = kind.drains stage → IsTrue tells → (i : ℕ) → i < kind.inputs → IsTrue (state.inputs.ended (start.base_in + i))
+  Drains state stage = kind.drains stage → IsTrue tells → (i : ℕ) → i < kind.inputs start.begun → IsTrue (state.inputs.ended (start.base_in + i))
 
   -- what was handed out of the inputs, and what is left, after a read that failed
   abbrev pub Splits : (ℕ → List ℕ) → State → Type 0
-  Splits handed state = IsTrue tells → (i : ℕ) → i < kind.inputs → start.contents i ≡ handed i ++ state.inputs.left (start.base_in + i)
+  Splits handed state = IsTrue tells → (i : ℕ) → i < kind.inputs start.begun → start.contents i ≡ handed i ++ state.inputs.left (start.base_in + i)
 
   -- all is said of what the inputs hold, or of what was handed out
   abbrev pub Stopped : Bool → State → S → List Sink → Type 0

@@ -1,4 +1,4 @@
-//! A stage over one input, whose items are taken one by one, and whose tail is said once.
+//! A stage over one input, whose items are taken one by one, and whose tail is said in parts.
 ghost use Rattle.std.specs.Prelude.{◌≡◌, ◌<◌, ◌≤◌, IfOk, OnOk, length};
 ghost use Rattle.ioam_desk_outputs.specs.Told.{GathersFew, GathersNothing};
 ghost use Rattle.ioam_stream.specs.Conversion.{Closes, Converts, Finishes, IsClosing, IsFresh, Opens, Refills, Sound, StandsSo, StopsSo, Takes};
@@ -17,6 +17,15 @@ pub enum Took {
     More,
     /// Whatever follows, none is taken any more. Why, the converter knows.
     Stop,
+}
+
+/// What is left of the tail.
+#[derive(Clone, Copy)]
+pub enum Tail {
+    /// More is to be said.
+    Rest,
+    /// All is said.
+    End,
 }
 
 /// A reader of one input, and what is made of its items.
@@ -59,12 +68,12 @@ pub trait Converter: Drop {
         requires waits { does.waits self.old }
         ensures { Finishes does Handed self.old self.new };
 
-    /// Says what comes after the last item.
-    fn close(&mut self, outputs: &mut [Output]) -> Result<(), NoMemory>
+    /// Says what comes after the last item, or its next part. Before each call less than a piece waits to be written.
+    fn close(&mut self, outputs: &mut [Output]) -> Result<Tail, NoMemory>
         requires stops { StopsSo does self.old }
         requires width { length outputs.old ≡ does.width }
         requires few { GathersFew outputs.old }
-        ensures { OnOk result (Closes does self.old self.new outputs.old outputs.new) };
+        ensures { IfOk result (Closes does self.old self.new outputs.old outputs.new) };
 
     ghost sound: { Sound does };
 }
@@ -99,15 +108,17 @@ impl<C: Converter> Conversion<C> {
         }
     }
 
-    // Says what comes after the last item.
+    // Says what comes after the last item, or its next part.
     fn close(&mut self, outputs: &mut [Output]) -> Result<Step, NoMemory>
         requires stops { StopsSo C.does self.old.converter }
         requires width { length outputs.old ≡ C.does.width }
         requires few { GathersFew outputs.old }
         ensures { IfOk result (IsClosing C.does self.old self.new outputs.old outputs.new) }
     {
-        self.converter.close(outputs)?;
-        self.phase = Phase::Closed;
+        self.phase = match self.converter.close(outputs)? {
+            Tail::Rest => Phase::Closing,
+            Tail::End => Phase::Closed,
+        };
         Ok(Step::Taken)
     }
 }

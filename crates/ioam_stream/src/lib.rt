@@ -9,7 +9,7 @@ mod reading;
 mod running;
 mod stage;
 
-pub use conversion::{Conversion, Converter, Took};
+pub use conversion::{Conversion, Converter, Tail, Took};
 pub use reading::Stop;
 pub use running::run;
 pub use stage::{Stage, Step};

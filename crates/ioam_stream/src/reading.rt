@@ -40,7 +40,7 @@ fn take_shown<S: Stage, D: Desk>(
 ) -> Result<Pause, DeskFault>
     ghost going: { Going S }
     requires streams { Streams S.kind D.tells going.start going.cut (state (D.reading desk.old) (D.writing desk.old)) stage.old outputs.old }
-    requires width { length outputs.old ≡ S.kind.width }
+    requires width { length outputs.old ≡ S.kind.width going.start.begun }
     requires few { GathersFew outputs.old }
     ensures paused { IfOk result (Pauses S.kind D.tells going.start going.cut (state (D.reading desk.new) (D.writing desk.new)) stage.new outputs.new) }
     ensures sticks { OnErr result (Sticks S.kind D.tells going.start (D.writing desk.new)) }
@@ -73,7 +73,7 @@ fn take_rest<S: Stage, D: Desk>(
     ghost start: { Start S }
     requires streams { Streams S.kind D.tells start false (state (D.reading desk.old) (D.writing desk.old)) stage.old outputs.old }
     requires waits { S.kind.waits stage.old input }
-    requires width { length outputs.old ≡ S.kind.width }
+    requires width { length outputs.old ≡ S.kind.width start.begun }
     requires few { GathersFew outputs.old }
     ensures stopped { OnOk result (Stopped S.kind D.tells start true (state (D.reading desk.new) (D.writing desk.new)) stage.new outputs.new) }
     ensures sticks { OnErr result (Sticks S.kind D.tells start (D.writing desk.new)) }
@@ -106,7 +106,7 @@ fn read_piece<S: Stage, D: Desk>(
 ) -> Piece
     ghost start: { Start S }
     requires waits { S.kind.waits stage.old input }
-    requires inside { input < S.kind.inputs }
+    requires inside { input < S.kind.inputs start.begun }
     requires slot { slot ≡ start.base_in + input }
     requires open { slot < (D.reading desk.old).side.slots }
     requires room { (0 < length piece.old) × (length piece.old ≤ 65536) }
@@ -156,9 +156,9 @@ pub(crate) fn read_on<S: Stage, D: Desk>(
 ) -> Stop
     ghost start: { Start S }
     requires streams { Streams S.kind D.tells start false (state (D.reading desk.old) (D.writing desk.old)) stage.old outputs.old }
-    requires width { length outputs.old ≡ S.kind.width }
+    requires width { length outputs.old ≡ S.kind.width start.begun }
     requires few { GathersFew outputs.old }
-    requires slots { AreSlots start.base_in S.kind.inputs slots.now }
+    requires slots { AreSlots start.base_in (S.kind.inputs start.begun) slots.now }
     requires room { (0 < length piece.old) × (length piece.old ≤ 65536) }
     ensures stops { Stops S.kind D.tells start (state (D.reading desk.new) (D.writing desk.new)) stage.new outputs.new result }
     ensures touches { Touches D.tells (streams_from start.base_in start.base_out) (failing result)

@@ -34,10 +34,10 @@ pub fn run_open<S: Stage, D: Desk>(
     requires fed { IsFedSo S.kind D.tells start (D.reading desk.old) unseen }
     requires told { AreTold D.tells (D.writing desk.old) start.base_out start.names outputs.old (unsaid start.names) }
     requires nothing { GathersNothing outputs.old }
-    requires width { length outputs.old ≡ S.kind.width }
+    requires width { length outputs.old ≡ S.kind.width start.begun }
     requires same { start.begun ≡ stage.old }
     requires fresh { S.kind.fresh stage.old }
-    requires slots { AreSlots start.base_in S.kind.inputs slots.now }
+    requires slots { AreSlots start.base_in (S.kind.inputs start.begun) slots.now }
     requires room { (0 < length piece.old) × (length piece.old ≤ 65536) }
     ensures finishes { Finishes S.kind D.tells start (state (D.reading desk.new) (D.writing desk.new)) stage.new result }
     ensures touches { Touches D.tells (streams_from start.base_in start.base_out) (failing result) (state (D.reading desk.old) (D.writing desk.old)) (state (D.reading desk.new) (D.writing desk.new)) }
@@ -65,8 +65,8 @@ pub fn run<S: Stage, D: Desk>(
     stage: &mut S,
 ) -> Stop
     requires apart { AreApart outputs.now }
-    requires inputs { length inputs.now ≡ S.kind.inputs }
-    requires width { length outputs.now ≡ S.kind.width }
+    requires inputs { length inputs.now ≡ S.kind.inputs stage.old }
+    requires width { length outputs.now ≡ S.kind.width stage.old }
     requires fresh { S.kind.fresh stage.old }
     ensures frame { Frame D.tells inputs.now outputs.now (state (D.reading desk.old) (D.writing desk.old)) (state (D.reading desk.new) (D.writing desk.new)) (S.kind.drains stage.new) result }
     ensures leaves { IsTrue D.tells → Leaves D.tells inputs.now outputs.now (state (D.reading desk.old) (D.writing desk.old)) (state (D.reading desk.new) (D.writing desk.new)) (S.kind.texts stage.old stage.new) (S.kind.firsts stage.old) result }
@@ -84,8 +84,8 @@ fn run_begun<S: Stage, D: Desk>(
 ) -> Stop
     ghost start: { Start S }
     requires apart { AreApart outputs.now }
-    requires inputs { length inputs.now ≡ S.kind.inputs }
-    requires width { length outputs.now ≡ S.kind.width }
+    requires inputs { length inputs.now ≡ S.kind.inputs stage.old }
+    requires width { length outputs.now ≡ S.kind.width stage.old }
     requires fresh { S.kind.fresh stage.old }
     requires starts { start ≡ record {
       contents = contents D.tells inputs.now outputs.now (state (D.reading desk.old) (D.writing desk.old)) (state (D.reading desk.old) (D.writing desk.old));

@@ -28,7 +28,7 @@ pub trait Stage: Drop {
 
     /// Says what comes before the first item.
     fn begin(&self, outputs: &mut [Output]) -> Result<(), NoMemory>
-        requires width { length outputs.old ≡ kind.width }
+        requires width { length outputs.old ≡ kind.width self.now }
         requires nothing { GathersNothing outputs.old }
         ensures begins { OnOk result (Begins kind self.now outputs.old outputs.new) }
         ensures few { OnOk result (GathersFew outputs.new) };
@@ -36,7 +36,7 @@ pub trait Stage: Drop {
     /// Takes the next item that was handed out whole, and says what is made of it. After the last item it says what comes
     /// there, piece by piece. Before each step less than a piece waits to be written to each output.
     fn step(&mut self, outputs: &mut [Output]) -> Result<Step, NoMemory>
-        requires width { length outputs.old ≡ kind.width }
+        requires width { length outputs.old ≡ kind.width self.old }
         requires few { GathersFew outputs.old }
         requires stands { Standing kind self.old }
         ensures { IfOk result (Steps kind self.old self.new outputs.old outputs.new) };

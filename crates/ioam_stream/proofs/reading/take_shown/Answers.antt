@@ -7,6 +7,15 @@ use Rattle.ioam_desk_outputs.proofs.ToldLaws.{AreTold-open}
 use Rattle.ioam_stream.proofs.StreamsLaws.{streams_taken, streams_written, streams_waits, streams_ends, streams_sticks}
 use Rattle.ioam_stream.proofs.reading.take_shown.Goals as goal
 
+pub step-requires : goal.step-requires
+step-requires g c =
+    let streams = c.items.invariant.streams in
+    record {
+      width = c.items.invariant.width ∙ sym (g.met.S.Stage.lawful.width g.going.start.begun streams.seen streams.so_far c.items.stage streams.stands);
+      few = c.items.invariant.few;
+      stands = record { begun = g.going.start.begun; seen = streams.seen; so_far = streams.so_far; stands = streams.stands };
+    }
+
 pub returns-in-Ok-More-clause-paused : goal.returns-in-Ok-More-clause-paused
 returns-in-Ok-More-clause-paused g c = streams_waits g.S.Stage.kind g.D.Desk.tells g.going.start g.going.cut (state (g.D.Desk.reading c.items.desk) (g.D.Desk.writing c.items.desk)) c.items.stage c.step.new.self c.items.outputs c.step.new.outputs c.in-Ok-More.input
     (rw c.in-Ok-More.field-0-is at c.in-Ok-More.ensures) c.items.invariant.streams

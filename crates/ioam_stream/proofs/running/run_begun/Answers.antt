@@ -93,13 +93,14 @@ run_open-requires g c κs within =
             (
               subst (λ (os : List Sink). GathersNothing os) (sym c.deref_mut.ensures.value) c.in-Ok-open_outputs.ensures.nothing,
               (
-                told_names g.D.Desk.tells late.outputs old.outputs.side.slots c.args.outputs.now outputs (unsaid c.args.outputs.now) told ∙ c.requires.1.1.1.1.0,
+                (let P : Start _ → Type 0 = λ s. length outputs ≡ g.S.Stage.kind.width s.begun in subst P starts
+                    (told_names g.D.Desk.tells late.outputs old.outputs.side.slots c.args.outputs.now outputs (unsaid c.args.outputs.now) told ∙ c.requires.1.1.1.1.0)),
                 (
                   ap (λ (s : Start _). s.begun) c.requires.1.1.1.1.1.1,
                   (
                     c.requires.1.1.1.1.1.0,
                     (
-                      (let P : Start _ → Type 0 = λ s. AreSlots s.base_in g.S.Stage.kind.inputs c.deref.result.now in subst P starts
+                      (let P : Start _ → Type 0 = λ s. AreSlots s.base_in (g.S.Stage.kind.inputs s.begun) c.deref.result.now in subst P starts
                           (subst (λ (n : ℕ). AreSlots old.inputs.side.slots n c.deref.result.now) c.requires.1.1.1.0
                           (subst (λ (xs : List ℕ). AreSlots old.inputs.side.slots (length c.args.inputs.now) xs) (sym c.deref.ensures.value) c.in-Ok-open_inputs.ensures.slots))),
                       (omega (arith, c.in-Ok.ensures, ap (λ (xs : List ℕ). length xs) c.deref_mut-in-Ok-open_outputs.ensures.value), omega (arith, c.in-Ok.ensures, ap (λ (xs : List ℕ). length xs) c.deref_mut-in-Ok-open_outputs.ensures.value)),

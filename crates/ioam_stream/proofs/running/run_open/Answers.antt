@@ -1,5 +1,5 @@
 use Rattle.ioam_desk.specs.Touches.{state, State}
-use Rattle.std.proofs.Common.{◌<◌, ◌+◌, ℕ, rules, arith, Ok, Err}
+use Rattle.std.proofs.Common.{ap, ◌∙◌, ◌<◌, ◌+◌, ℕ, rules, arith, Ok, Err}
 use Rattle.std.proofs.lemmas.Bool.{false≢true}
 use Rattle.ioam_desk.specs.declared.fault.DeskFault.TheVariants.{Failed, NoMemory}
 use Rattle.ioam_desk.proofs.TouchesLaws.{touches-slots_in}
@@ -11,6 +11,12 @@ use Rattle.ioam_stream.proofs.running.run_open.Goals as goal
 pub returns-in_default-clause-finishes : goal.returns-in_default-clause-finishes
 returns-in_default-clause-finishes g c = unbegun_sticks g.S.Stage.kind g.D.Desk.tells g.start g.met.S.Stage.lawful (state (g.D.Desk.reading c.args.desk.now) (g.D.Desk.writing c.args.desk.now)) c.args.stage.now c.args.outputs.now
     c.requires.1.1.1.1.1.1.1.0 c.requires.1.1.1.1.1.1.0 c.requires.1.1.1.1.1.0 c.requires.1.1.1.0
+
+pub begin-requires : goal.begin-requires
+begin-requires g c = record {
+  width = c.requires.1.1.1.1.1.0 ∙ ap g.S.Stage.kind.width c.requires.1.1.1.1.1.1.0;
+  nothing = c.requires.1.1.1.1.0;
+}
 
 pub read_on-answer-requires : goal.read_on-answer-requires
 read_on-answer-requires g c κs within = (
@@ -36,7 +42,7 @@ returns-in-Ok-finish-clause-finishes g c =
     let said = stops_told g.S.Stage.kind g.D.Desk.tells g.start old c.read_on-answer.new.stage c.read_on-answer.new.outputs c.read_on-answer.result
     c.read_on-answer.ensures.stops (λ broken. false≢true (c.if-is_broken.ensures.1 broken)) in
     let touches = c.in-Ok-finish.ensures.touches g.start.base_out g.start.names said.0 said.1 in
-    let below : (i : ℕ) → i < g.S.Stage.kind.inputs → g.start.base_in + i < old.inputs.side.slots =
+    let below : (i : ℕ) → i < g.S.Stage.kind.inputs g.start.begun → g.start.base_in + i < old.inputs.side.slots =
     λ i inside. omega (arith, c.requires.1.1.0.is_open i inside, touches-slots_in g.D.Desk.tells (streams_from g.start.base_in g.start.base_out) (failing c.read_on-answer.result) (state (g.D.Desk.reading c.args.desk.now) (g.D.Desk.writing c.args.desk.now)) old c.read_on-answer.ensures.touches) in
     stops_finishes g.S.Stage.kind g.D.Desk.tells g.start old (state (g.D.Desk.reading c.finish.new.desk) (g.D.Desk.writing c.finish.new.desk)) c.read_on-answer.new.stage c.read_on-answer.new.outputs c.read_on-answer.result
     c.read_on-answer.ensures.stops (λ broken. false≢true (c.if-is_broken.ensures.1 broken)) (λ told. c.in-Ok-finish.ensures.texts told g.start.base_out g.start.names)
