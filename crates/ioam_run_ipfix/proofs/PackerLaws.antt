@@ -27,7 +27,7 @@ use Rattle.ioam_run_ipfix.specs.declared.packer.Packer.{Packer}
 use Rattle.ioam_run_ipfix.specs.declared.packer.Cause.{Cause}
 use Rattle.ioam_run_ipfix.specs.declared.packer.Cause.TheVariants as cause
 use Rattle.ioam_run_ipfix.proofs.PackingLaws.{packed-count, packed-rest}
-use Rattle.ioam_stream.specs.Conversion.{StandsSo, StopsSo, TakesOne, TakesNone, Finishes, Closes, Opens, Refills}
+use Rattle.ioam_stream.specs.Conversion.{StandsSo, StopsSo, TakesOne, TakesNone, Finishes, SaysLast, Opens, Refills}
 use Rattle.ioam_stream.specs.Stage.{How, Ended, Handed}
 
 -- two clauses of a call that succeeds
@@ -146,6 +146,7 @@ module _ (old new : Packer) (outputs : List Output) (same : new.packing ≡ old.
   pub packer_limit : new.cause ≡ cause.Limit → 67108864 ≤ old.packing.before + old.packing.held → (x : Record) → Gives old.reader new.reader x → TakesNone does old new outputs outputs
   packer_limit why full x gives = record {
     same = refl;
+    held = let same_held = ap (λ (p : Packed). 67108864 - (p.before + p.held)) same in omega (arith, same_held);
     stops = λ begun octets rest so_far s.
         let few = s.few in
         stopped_by Ended octets (octets ++ rest) so_far old new s same (
@@ -166,6 +167,7 @@ module _ (old new : Packer) (outputs : List Output) (same : new.packing ≡ old.
       → TakesNone does old new outputs outputs
   packer_bad at fault why reads = record {
     same = refl;
+    held = let same_held = ap (λ (p : Packed). 67108864 - (p.before + p.held)) same in omega (arith, same_held);
     stops = λ begun octets rest so_far s. stopped_by Ended octets (octets ++ rest) so_far old new s same (
       subst (λ (k : Cause). ArePacked Ended k s.records (octets ++ rest)) (sym why) (reads octets s.records s.stands rest),
       (old.reader.pending ++ rest, Splits-feed octets rest s.records old.reader.pending s.stands.splits),
@@ -201,7 +203,7 @@ packer_cut packer waits = record {
 -- ---- the last run
 
 pub packer_closes : (old new : Packer) (outputs : List Output) (d now : Output) → length outputs ≡ 1 → now.slot ≡ (get_or outputs 0 d).slot → StopsSo does old
-    → PutsRest old.packing (get_or outputs 0 d).gathered.items now.gathered.items → new.reader ≡ old.reader → new.cause ≡ old.cause → Closes does old new outputs (set outputs 0 now)
+    → PutsRest old.packing (get_or outputs 0 d).gathered.items now.gathered.items → new.reader ≡ old.reader → new.cause ≡ old.cause → SaysLast does old new outputs (set outputs 0 now)
 packer_closes old new outputs d now one slot so puts reader why =
     let s = so.stops in
     let put = puts s.done s.records s.packed in

@@ -29,7 +29,7 @@ use Rattle.ioam_run_ipfix.proofs.GoesLaws.{all-given, goes-further}
 use Rattle.ioam_run_ipfix.proofs.MessagesLaws.{joined-append, stop-front}
 use Rattle.ioam_run_ipfix.proofs.PackerLaws.{adds_one}
 use Rattle.ioam_run_ipfix.proofs.SizeLaws.{chain-append, octets-append, reader-room}
-use Rattle.ioam_stream.specs.Conversion.{StandsSo, TakesOne, TakesNone, NeedsMore, Finishes, Closes, Opens, Refills}
+use Rattle.ioam_stream.specs.Conversion.{StandsSo, TakesOne, TakesNone, NeedsMore, Finishes, SaysLast, Opens, Refills}
 use Rattle.ioam_stream.specs.Stage.{How, Ended, Handed}
 
 adds_none : (outputs : List Output) → length outputs ≡ 1 → Adds outputs outputs ([] ∷ [])
@@ -141,10 +141,11 @@ said_by why how taker octets whole so_far s are = record {
 }
 
 -- whatever follows, these are the records
-stops_by : (old new : Taker) (outputs : List Output) (why : Cause) → new.cause ≡ why → (IsEnd why → ⊥)
+stops_by : (old new : Taker) (outputs : List Output) (why : Cause) → new.given ≡ old.given → new.cause ≡ why → (IsEnd why → ⊥)
     → ((octets rest : List ℕ) (so_far : List (List ℕ)) (s : IsTaking octets so_far old) → AreTaken Ended why s.records (octets ++ rest)) → TakesNone does old new outputs outputs
-stops_by old new outputs why is no_end are = record {
+stops_by old new outputs why given is no_end are = record {
   same = refl;
+  held = omega (arith, given);
   stops = λ begun octets rest so_far s. subst (λ (k : Cause). Says AreRecords (Are k Ended) (octets ++ rest) so_far) (sym is)
       (said_by why Ended old octets (octets ++ rest) so_far s (are octets rest so_far s, first_on s.records octets rest s.first));
   undrained = λ drains. no_end (subst (λ (k : Cause). IsEnd k) is drains);
@@ -155,9 +156,9 @@ begins_on : (octets rest : List ℕ) (messages : List (List Record)) (place : Sp
 begins_on octets rest messages place leads = messages-behind rest (spot none_known octets) messages place leads
 
 -- a faulty message
-pub taker_bad : (old new : Taker) (outputs : List Output) (at : ℕ) (fault : IpfixFault) → new.cause ≡ cause.Bad at fault → new.reader.messages ≤ most_messages
+pub taker_bad : (old new : Taker) (outputs : List Output) (at : ℕ) (fault : IpfixFault) → new.given ≡ old.given → new.cause ≡ cause.Bad at fault → new.reader.messages ≤ most_messages
     → SaysBad old.reader new.reader at fault → TakesNone does old new outputs outputs
-taker_bad old new outputs at fault why few bad = stops_by old new outputs (cause.Bad at fault) why (λ end. end) (λ octets rest so_far s.
+taker_bad old new outputs at fault given why few bad = stops_by old new outputs (cause.Bad at fault) given why (λ end. end) (λ octets rest so_far s.
     let says = bad octets s.records s.stands in
     let most = s.few in
     let size = ap length says.1 in
@@ -169,9 +170,9 @@ taker_bad old new outputs at fault why few bad = stops_by old new outputs (cause
     })
 
 -- a message too many
-pub taker_messages : (old new : Taker) (outputs : List Output) (xs : List Record) → new.cause ≡ cause.Messages → most_messages < new.reader.messages
+pub taker_messages : (old new : Taker) (outputs : List Output) (xs : List Record) → new.given ≡ old.given → new.cause ≡ cause.Messages → most_messages < new.reader.messages
     → Goes old.reader new.reader xs → TakesNone does old new outputs outputs
-taker_messages old new outputs xs why many goes = stops_by old new outputs cause.Messages why (λ end. end) (λ octets rest so_far s.
+taker_messages old new outputs xs given why many goes = stops_by old new outputs cause.Messages given why (λ end. end) (λ octets rest so_far s.
     let all : List (List Record) = s.stands.before ++ s.stands.last in
     let count = s.stands.count in
     let had = s.few_messages in
@@ -204,9 +205,9 @@ taker_messages old new outputs xs why many goes = stops_by old new outputs cause
     })
 
 -- a record too many
-pub taker_records : (old new : Taker) (outputs : List Output) (x : Record) → new.cause ≡ cause.Records → 67108864 ≤ old.given → new.reader.messages ≤ most_messages
+pub taker_records : (old new : Taker) (outputs : List Output) (x : Record) → new.given ≡ old.given → new.cause ≡ cause.Records → 67108864 ≤ old.given → new.reader.messages ≤ most_messages
     → Goes old.reader new.reader (x ∷ []) → TakesNone does old new outputs outputs
-taker_records old new outputs x why most few_messages goes = stops_by old new outputs cause.Records why (λ end. end) (λ octets rest so_far s.
+taker_records old new outputs x given why most few_messages goes = stops_by old new outputs cause.Records given why (λ end. end) (λ octets rest so_far s.
     let now = goes.stands octets s.records s.stands in
     let all : List (List Record) = now.before ++ now.last in
     let are : joined all ≡ s.records ++ x ∷ new.reader.due = all-given new.reader octets (s.records ++ x ∷ []) now ∙ append_assoc s.records (x ∷ []) new.reader.due in
@@ -289,7 +290,7 @@ taker_cut taker waits = record {
       );
 }
 
-pub taker_closes : (taker : Taker) (outputs : List Output) → length outputs ≡ 1 → Closes does taker taker outputs outputs
+pub taker_closes : (taker : Taker) (outputs : List Output) → length outputs ≡ 1 → SaysLast does taker taker outputs outputs
 taker_closes taker outputs one = record {
   room = refl;
   added = [] ∷ [];

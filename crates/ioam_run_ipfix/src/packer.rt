@@ -13,7 +13,7 @@ use ioam_desk_outputs::Output;
 use ioam_dex::{ExportFault, ExportReader, MOST_RECORDS, Shown};
 use ioam_ipfix::put_templates;
 use ioam_run_answer::Outcome;
-use ioam_stream::{Converter, Stop, Took};
+use ioam_stream::{Converter, Stop, Tail, Took};
 use std::alloc::Global;
 
 /// Why no record of EXPORTS is packed any more.
@@ -112,8 +112,9 @@ impl Converter for Packer {
 
     fn cut(&mut self) {}
 
-    fn close(&mut self, outputs: &mut [Output]) -> Result<(), NoMemory> {
-        self.packing.put_rest(&mut outputs[0].gathered)
+    fn close(&mut self, outputs: &mut [Output]) -> Result<Tail, NoMemory> {
+        self.packing.put_rest(&mut outputs[0].gathered)?;
+        Ok(Tail::End)
     }
 
     ghost sound = { sound };

@@ -9,7 +9,7 @@ use ioam_desk_outputs::Output;
 use ioam_dex::{ExportRoom, MOST_RECORD, MOST_RECORDS};
 use ioam_ipfix::{IpfixFault, IpfixReader, IpfixShown, put_record};
 use ioam_run_answer::Outcome;
-use ioam_stream::{Converter, Stop, Took};
+use ioam_stream::{Converter, Stop, Tail, Took};
 use std::alloc::Global;
 
 /// The most messages that are read: one with templates, and one for each of the most records.
@@ -152,8 +152,8 @@ impl Converter for Taker {
 
     fn cut(&mut self) {}
 
-    fn close(&mut self, _outputs: &mut [Output]) -> Result<(), NoMemory> {
-        Ok(())
+    fn close(&mut self, _outputs: &mut [Output]) -> Result<Tail, NoMemory> {
+        Ok(Tail::End)
     }
 
     ghost sound = { sound };

@@ -17,7 +17,7 @@ use Rattle.ioam_run_stream.specs.declared.captured.End.{End}
 use Rattle.ioam_run_stream.specs.declared.captured.End.TheVariants as end
 use Rattle.ioam_run_stream.specs.declared.captured.Next.TheVariants as next
 use Rattle.ioam_run_stream.specs.FirstLaws.{given_first, more_sized}
-use Rattle.ioam_stream.specs.Conversion.{Refills, Finishes, TakesOne, NeedsMore, TakesNone, Closes}
+use Rattle.ioam_stream.specs.Conversion.{Refills, Finishes, TakesOne, NeedsMore, TakesNone, SaysLast}
 use Rattle.ioam_stream.specs.Stage.{How, Ended}
 
 -- something is added to each output
@@ -159,6 +159,7 @@ module _ {G : Type 0} (gathers : G → List Taken → List (List ℕ) → G → 
         → TakesNone (does gathers count width begins Texts) old new outputs now
     takes_none after_same same undrained are = record {
       same = same;
+      held = let same_count = ap count after_same in omega (arith, same_count, limit);
       stops = λ begun octets rest so_far taking. record {
         taken = taking.taken;
         are = are octets rest taking.taken taking.stands taking.gathered.count_is taking.gathered.few;
@@ -209,7 +210,7 @@ module _ {G : Type 0} (gathers : G → List Taken → List (List ℕ) → G → 
   -- what comes after the last record was said
   pub closes_so : (old new : Captured G) (outputs now : List Output) (sums : List (List ℕ)) → length outputs ≡ width → new ≡ old → Adds outputs now sums
       → ((begun : G) (taken : List Taken) (so_far : List (List ℕ)) → gathers begun taken so_far old.gathered → Texts begun taken (said_more so_far sums))
-      → Closes (does gathers count width begins Texts) old new outputs now
+      → SaysLast (does gathers count width begins Texts) old new outputs now
   closes_so old new outputs now sums sized same adds ends = record {
     room = ap (λ (c : Captured G). 2 ^ 63 - fed c.reader) same;
     added = sums;

@@ -11,7 +11,7 @@ use ioam_base::memory::NoMemory;
 use ioam_capture::{Reader, Step};
 use ioam_desk_outputs::Output;
 use ioam_pcap::CapFault;
-use ioam_stream::{Converter, Took};
+use ioam_stream::{Converter, Tail, Took};
 use std::alloc::Global;
 
 /// The most records that are taken of a capture by a command over it alone.
@@ -143,8 +143,9 @@ impl<G: Gather> Converter for Captured<G> {
 
     fn cut(&mut self) {}
 
-    fn close(&mut self, outputs: &mut [Output]) -> Result<(), NoMemory> {
-        self.gathered.put_sums(outputs)
+    fn close(&mut self, outputs: &mut [Output]) -> Result<Tail, NoMemory> {
+        self.gathered.put_sums(outputs)?;
+        Ok(Tail::End)
     }
 
     ghost sound = { sound G.gathers G.count G.width G.fresh G.texts G.sums G.empty G.ends G.sized G.of_none G.empty_sized };

@@ -7,13 +7,13 @@ pub returns-then-messages-from-clause-takes : goal.returns-then-messages-from-cl
 returns-then-messages-from-clause-takes c =
     let went = shows_goes c.args.self.now.reader c.show-shown.new.reader c.show-shown.new.room.octets c.show-shown.result c.show-shown.ensures.shows in
     taker_messages c.args.self.now (record { reader = c.show-shown.new.reader; room = c.show-shown.new.room; given = c.args.self.now.given; cause = cause.Messages })
-    c.args.outputs.now went.0 refl (omega (arith, c.messages.ensures, c.if-messages-from.true)) went.1
+    c.args.outputs.now went.0 refl refl (omega (arith, c.messages.ensures, c.if-messages-from.true)) went.1
 
 pub returns-then-self-from-clause-takes : goal.returns-then-self-from-clause-takes
 returns-then-self-from-clause-takes c =
     let shows = c.in-Record.ensures.shows in
     taker_records c.args.self.now (record { reader = c.show-shown.new.reader; room = c.show-shown.new.room; given = c.args.self.now.given; cause = cause.Records })
-    c.args.outputs.now shows.0 refl (omega (arith, c.if-self-from.true)) (omega (arith, c.messages.ensures, c.if-messages-from.false)) shows.3
+    c.args.outputs.now shows.0 refl refl (omega (arith, c.if-self-from.true)) (omega (arith, c.messages.ensures, c.if-messages-from.false)) shows.3
 
 pub returns-in_ok-append-in-Record-clause-takes : goal.returns-in_ok-append-in-Record-clause-takes
 returns-in_ok-append-in-Record-clause-takes c =
@@ -26,4 +26,4 @@ returns-in_ok-append-in-Record-clause-takes c =
 pub returns-in-Bad-clause-takes : goal.returns-in-Bad-clause-takes
 returns-in-Bad-clause-takes c =
     taker_bad c.args.self.now (record { reader = c.show-shown.new.reader; room = c.show-shown.new.room; given = c.args.self.now.given; cause = cause.Bad c.in-Bad.at c.in-Bad.fault })
-    c.args.outputs.now c.in-Bad.at c.in-Bad.fault refl (omega (arith, c.messages.ensures, c.if-messages-from.false)) c.in-Bad.ensures.shows.1
+    c.args.outputs.now c.in-Bad.at c.in-Bad.fault refl refl (omega (arith, c.messages.ensures, c.if-messages-from.false)) c.in-Bad.ensures.shows.1
