@@ -10,7 +10,7 @@ use Rattle.ioam_desk.specs.declared.fault.DeskFault.TheVariants.{Failed, NoMemor
 use Rattle.ioam_desk_outputs.specs.declared.output.Output.{Output}
 use Rattle.ioam_desk_outputs.specs.Held.{HoldFronts}
 use Rattle.ioam_desk_outputs.specs.Names.{AreApart, name_at}
-use Rattle.ioam_desk_outputs.specs.Open.{AreSlots, AreUnread, OpensFewer}
+use Rattle.ioam_desk_outputs.specs.Open.{AreSlots, AreUnended, AreUnread, OpensFewer}
 use Rattle.ioam_desk.specs.Touches.{State, opening, Within}
 use Rattle.ioam_desk_outputs.specs.Told.{IsTold, AreTold, GathersNothing, unsaid}
 use Rattle.ioam_desk_outputs.proofs.HeldLaws.{front_held, holds_slot}
@@ -187,6 +187,19 @@ unread_more tells start mid new names i slot name inside is before same opened u
           subst P (sym at) (ap (λ (n : List ℕ). holds start.outputs n) (sym (is ∙ get_or_default names i name [] inside)) ∙ here ∙ ap (λ (k : ℕ). Some (new.inputs.left k)) number)
       | inr other ↦ unread told j (omega (arith, below, grown, slots, other))
           ∙ ap Some (sym (opened.other_left (start.inputs.side.slots + j) (λ at. other (omega (arith, at, number)))))
+    ]
+
+-- so does one more that hasn't ended
+pub unended_more : (tells : Bool) (start mid new : State) (names : List (List ℕ)) (i slot : ℕ) (name : List ℕ) → i < length names
+    → mid.inputs.side ≡ opened_each start.inputs.side (take i names) → OpenIn tells mid.inputs (holds mid.outputs name) name (Ok slot) new.inputs
+    → AreUnended start.inputs mid.inputs → AreUnended start.inputs new.inputs
+unended_more tells start mid new names i slot name inside before opened unended = λ j below.
+    let slots : mid.inputs.side.slots ≡ start.inputs.side.slots + i = ap (λ (s : Side). s.slots) before ∙ ap (λ (n : ℕ). start.inputs.side.slots + n) (length-take-le i names (omega (arith, inside))) in
+    let number : slot ≡ start.inputs.side.slots + i = opened.number ∙ slots in
+    let grown : new.inputs.side.slots ≡ mid.inputs.side.slots + 1 = ap (λ (s : Side). s.slots) opened.side in
+    elim (cases_eq j i) [
+      | inl at ↦ ap (λ (k : ℕ). new.inputs.ended k) (ap (λ (k : ℕ). start.inputs.side.slots + k) at ∙ sym number) ∙ opened.ended
+      | inr other ↦ opened.other_ended (start.inputs.side.slots + j) (λ at. other (omega (arith, at, number))) ∙ unended j (omega (arith, below, grown, slots, other))
     ]
 
 -- an input could not be opened

@@ -1,5 +1,5 @@
 -- Inputs that are opened in order.
-use Rattle.std.specs.Prelude.{◌≡◌, ℕ, ◌+◌, ◌<◌, ⊤, Bool, IsTrue, List, length, get_or, Some}
+use Rattle.std.specs.Prelude.{◌≡◌, ℕ, ◌+◌, ◌<◌, ⊤, Bool, false, IsTrue, List, length, get_or, Some}
 use Rattle.ioam_desk.specs.Desk.{Side, Reading, Writing, holds}
 use Rattle.ioam_desk.specs.declared.fault.DeskFault.{DeskFault}
 use Rattle.ioam_desk.specs.declared.fault.DeskFault.TheVariants.{Failed, NoMemory}
@@ -19,3 +19,7 @@ OpensFewer old new count NoMemory = ⊤
 abbrev pub AreUnread : Bool → Reading → Reading → Writing → List (List ℕ) → Type 0
 AreUnread tells old new outputs names = IsTrue tells → (i : ℕ) → old.side.slots + i < new.side.slots
     → holds outputs (name_at names i) ≡ Some (new.left (old.side.slots + i))
+
+-- none of the inputs that were opened since has ended
+abbrev pub AreUnended : Reading → Reading → Type 0
+AreUnended old new = (i : ℕ) → old.side.slots + i < new.side.slots → new.ended (old.side.slots + i) ≡ false

@@ -3,7 +3,7 @@ ghost use Rattle.std.specs.Prelude.{◌≡◌, IfErr, IfOk, OnOk, [], length};
 ghost use Rattle.ioam_desk.specs.Asked.{AsksFront};
 ghost use Rattle.ioam_desk.specs.Desk.{opened_each};
 ghost use Rattle.ioam_desk.specs.Touches.{Touches, state, opening, failing_open};
-ghost use Rattle.ioam_desk_outputs.specs.Open.{AreSlots, AreUnread, OpensFewer};
+ghost use Rattle.ioam_desk_outputs.specs.Open.{AreSlots, AreUnended, AreUnread, OpensFewer};
 
 use ioam_base::name::Name;
 use ioam_desk::{Desk, DeskFault};
@@ -22,6 +22,8 @@ pub fn open_inputs<D: Desk>(
     ensures fewer { IfErr result (OpensFewer (D.reading desk.old).side (D.reading desk.new).side (length names.now)) }
     ensures asked { AsksFront (D.reading desk.old).side.asked (D.reading desk.new).side.asked names.now }
     ensures unread { AreUnread D.tells (D.reading desk.old) (D.reading desk.new) (D.writing desk.old) names.now }
+    ensures unended { OnOk result (AreUnended (D.reading desk.old) (D.reading desk.new)) }
+    ensures none { length names.now ≡ 0 → D.reading desk.new ≡ D.reading desk.old }
     ensures outputs { D.writing desk.new ≡ D.writing desk.old }
     ensures touches { Touches D.tells (opening names.now []) (failing_open result)
         (state (D.reading desk.old) (D.writing desk.old)) (state (D.reading desk.new) (D.writing desk.new)) }

@@ -3,8 +3,7 @@ use Rattle.std.proofs.Common.{◌≡◌, ℕ, ◌+◌, Bool, true, false, List, 
 use Rattle.std.proofs.lemmas.Bool.{true≢false}
 use Rattle.ioam_desk_outputs.specs.Told.{Adds, said_more}
 use Rattle.ioam_desk_outputs.specs.declared.output.Output.{Output}
-use Rattle.ioam_stream.specs.Stage.{Standing, Seen, Covers, How, Ended, Handed, Steps, Takes}
-use Rattle.ioam_stream.specs.Conversion as conversion
+use Rattle.ioam_stream.specs.Stage.{Standing, Seen, Covers, Ended, Handed, Steps, Takes}
 use Rattle.ioam_stream.specs.Conversion.{Converts, StandsSo, StopsSo, TakesNone, SaysSo, StandsIn, IsTaking, IsClosing, Closes, phase_after, held_in, not_yet, kind}
 use Rattle.ioam_stream.specs.declared.conversion.Conversion.{Conversion}
 use Rattle.ioam_stream.specs.declared.conversion.Phase.{Phase}
@@ -12,7 +11,6 @@ use Rattle.ioam_stream.specs.declared.conversion.Phase.TheVariants as phase
 use Rattle.ioam_stream.specs.declared.conversion.Tail.{Tail}
 use Rattle.ioam_stream.specs.declared.conversion.Tail.TheVariants as tail
 use Rattle.ioam_stream.specs.declared.stage.Step.{Step}
-use Rattle.ioam_stream.specs.declared.stage.Step.TheVariants as step
 
 module _ {C : Type 0} (does : Converts C) where
   all_covers : (seen : Seen) → Covers 1 seen seen.fed

@@ -9,14 +9,14 @@ use Rattle.ioam_desk.proofs.TouchesLaws.{touches-none, touches-more, touches-the
 use Rattle.std.specs.Option.{unwrap_or}
 use Rattle.std.proofs.lemmas.Bool.{false≢true}
 use Rattle.ioam_desk_outputs.specs.Names.{name_at}
-use Rattle.ioam_desk_outputs.specs.Open.{AreUnread}
+use Rattle.ioam_desk_outputs.specs.Open.{AreUnended, AreUnread}
 use Rattle.ioam_desk_outputs.specs.Held.{HoldAllFronts, HoldFronts}
 use Rattle.ioam_desk_outputs.proofs.HeldLaws.{HoldAllFronts-holds}
 use Rattle.ioam_stream.specs.Stage.{Kind, Lawful, unseen}
 use Rattle.ioam_stream.specs.Streams.{Start, IsFedSo, Finishes, streams_from, failing}
 use Rattle.ioam_stream.specs.declared.reading.Stop.{Stop}
 use Rattle.ioam_stream.specs.declared.reading.Stop.TheVariants as stop
-use Rattle.ioam_stream.specs.Frame.{Frame, AllOpen, HoldSome, Leaves, contents, failing_all}
+use Rattle.ioam_stream.specs.Frame.{Frame, AllOpen, HoldSome, Leaves, Marked, contents, failing_all}
 
 -- answers that aren't an end
 pub no_read : stop.ReadFault ≡ stop.Ended → ⊥
@@ -27,6 +27,15 @@ no_write same = cc
 
 pub no_memory : stop.NoMemory ≡ stop.Ended → ⊥
 no_memory same = cc
+
+pub no_read_ended : stop.Ended ≡ stop.ReadFault → ⊥
+no_read_ended same = cc
+
+pub no_fault : stop.WriteFault ≡ stop.ReadFault → ⊥
+no_fault same = cc
+
+pub no_unread : stop.NoMemory ≡ stop.ReadFault → ⊥
+no_unread same = cc
 
 -- what a name holds is what the input holds
 held_is : (tells : Bool) (ins outs : List (List ℕ)) (old : State) (i : ℕ) (left : List ℕ) → holds old.outputs (name_at ins i) ≡ Some left
@@ -177,6 +186,14 @@ module _ {S : Type 0} (kind : Kind S) (tells : Bool) (ins outs : List (List ℕ)
   drained_of old new stage last stop.WriteFault size f is all told i inside = absurd (no_write is)
   drained_of old new stage last stop.NoMemory size f is all told i inside = absurd (no_memory is)
 
+  -- which inputs had ended
+  pub marked_of : (old new : State) (stage last : S) (answer : Stop) → length ins ≡ kind.inputs stage → Finishes kind tells (start_of old stage) new last answer
+      → IsTrue tells → Marked tells ins outs old new (kind.marks last) answer
+  marked_of old new stage last stop.ReadFault size f told is opened = let marks = f.3 told in (marks.0, marks.1, λ i inside. marks.2 i (omega (arith, inside, size)))
+  marked_of old new stage last stop.Ended size f told is opened = absurd (no_read_ended is)
+  marked_of old new stage last stop.WriteFault size f told is opened = absurd (no_fault is)
+  marked_of old new stage last stop.NoMemory size f told is opened = absurd (no_unread is)
+
   -- outputs that could not all be opened
   pub unopened_some : (lawful : Lawful kind) (old new : State) (stage last : S) → kind.fresh stage → length outs ≡ kind.width stage
       → ((texts : List (List ℕ)) → length texts ≡ length outs → HoldFronts old.outputs new.outputs 0 outs texts)
@@ -187,12 +204,13 @@ module _ {S : Type 0} (kind : Kind S) (tells : Bool) (ins outs : List (List ℕ)
 
   -- the inputs are unread
   pub opened_unseen : (old mid late : State) (stage : S) → length ins ≡ kind.inputs stage → mid.inputs.side ≡ opened_each old.inputs.side ins → late.inputs ≡ mid.inputs
-      → AreUnread tells old.inputs mid.inputs old.outputs ins → IsFedSo kind tells (start_of old stage) late.inputs unseen
-  opened_unseen old mid late stage size side same unread = record {
+      → AreUnread tells old.inputs mid.inputs old.outputs ins → AreUnended old.inputs mid.inputs → IsFedSo kind tells (start_of old stage) late.inputs unseen
+  opened_unseen old mid late stage size side same unread unended = record {
     is_open = λ i inside. omega (arith, inside, size, ap (λ (r : Reading). r.side.slots) same, ap (λ (s : Side). s.slots) side);
     handed = λ told i inside. ap (λ (held : Option (List ℕ)). unwrap_or held []) (unread told i (omega (arith, inside, size, ap (λ (s : Side). s.slots) side))
         ∙ ap (λ (r : Reading). Some (r.left (old.inputs.side.slots + i))) (sym same));
-    ended = λ told i inside done. absurd (false≢true done);
+    whole = λ told i inside done. absurd (false≢true done);
+    ended = λ told i inside. ap (λ (r : Reading). r.ended (old.inputs.side.slots + i)) same ∙ unended i (omega (arith, inside, size, ap (λ (s : Side). s.slots) side));
   }
 
 -- inputs were opened, and then outputs

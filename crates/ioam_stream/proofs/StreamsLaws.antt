@@ -1,6 +1,7 @@
 -- Laws of a stage that is handed pieces of inputs while its texts are written.
 use Rattle.std.proofs.Common.{◌≡◌, ◌≢◌, ℕ, ◌+◌, ◌<◌, ◌≤◌, Bool, true, false, IsTrue, All, Contains, List, [], ◌∷◌, ◌++◌, length, take, refl, sym, ◌∙◌, ap, subst, inl, inr, zero, suc, append-nil, append_assoc, arith, Result}
 use Rattle.std.proofs.lemmas.Bool.{cases_eq, false≢true}
+use Rattle.std.proofs.lemmas.List.{length-take-le}
 use Rattle.ioam_base.specs.Octets.{IsFront}
 use Rattle.ioam_desk.specs.Desk.{Side, Reading, Writing, Gives, ReadInto}
 use Rattle.ioam_desk.specs.Touches.{State, Footprint, Failing, Quiet, Touches, Within, read_of, reads_from, writes_from, failing_read}
@@ -71,6 +72,14 @@ unplaced (suc input) f x (suc k) other = unplaced input (λ n. f (suc n)) x k (�
 not_ended : (ended : ℕ → Bool) (i : ℕ) → ended i ≡ false → IsTrue (ended i) → ⊥
 not_ended ended i is done = false≢true (sym is ∙ done)
 
+is_not : (b : Bool) → (IsTrue b → ⊥) → b ≡ false
+is_not true = λ no. absurd (no refl)
+is_not false = λ no. refl
+
+-- a read that gave something
+pub some_given : (into : List ℕ) (count : ℕ) → 0 < count → count ≤ length into → take count into ≡ [] → ⊥
+some_given into count some inside none = omega (arith, some, length-take-le count into inside, ap length none)
+
 take_none : (xs : List ℕ) → take 0 xs ≡ []
 take_none [] = refl
 take_none (x ∷ xs) = refl
@@ -85,7 +94,7 @@ module _ {S : Type 0} (kind : Kind S) (tells : Bool) (start : Start S) where
   pub fed_covers : (inputs : Reading) (seen : Seen) → IsTrue tells → IsFedSo kind tells start inputs seen → Covers (kind.inputs start.begun) seen start.contents
   fed_covers inputs seen told fed = record {
     front = λ i inside. covers (start.contents i) (seen.fed i) (inputs.left (start.base_in + i)) (fed.handed told i inside);
-    whole = λ i inside done. fed.handed told i inside ∙ ap (λ (left : List ℕ). seen.fed i ++ left) (fed.ended told i inside done).0 ∙ append-nil (seen.fed i);
+    whole = λ i inside done. fed.handed told i inside ∙ ap (λ (left : List ℕ). seen.fed i ++ left) (fed.whole told i inside done) ∙ append-nil (seen.fed i);
   }
 
   -- calls that read none of the inputs
@@ -95,10 +104,8 @@ module _ {S : Type 0} (kind : Kind S) (tells : Bool) (start : Start S) where
     is_open = λ i inside. omega (arith, fed.is_open i inside, touches-slots_in tells f x old new touches);
     handed = λ told i inside. fed.handed told i inside ∙ ap (λ (left : List ℕ). seen.fed i ++ left)
         (sym (touches.inputs.left (start.base_in + i) (fed.is_open i inside) (away (start.base_in + i))));
-    ended = λ told i inside done. (
-      touches.inputs.left (start.base_in + i) (fed.is_open i inside) (away (start.base_in + i)) ∙ (fed.ended told i inside done).0,
-      subst (λ (b : Bool). IsTrue b) (sym (touches.inputs.ended (start.base_in + i) (fed.is_open i inside) (away (start.base_in + i)))) (fed.ended told i inside done).1,
-    );
+    whole = λ told i inside done. touches.inputs.left (start.base_in + i) (fed.is_open i inside) (away (start.base_in + i)) ∙ fed.whole told i inside done;
+    ended = λ told i inside. touches.inputs.ended (start.base_in + i) (fed.is_open i inside) (away (start.base_in + i)) ∙ fed.ended told i inside;
   }
 
   -- an item was taken
@@ -196,7 +203,7 @@ module _ {S : Type 0} (kind : Kind S) (tells : Bool) (start : Start S) where
       says = λ told. ends.whole start.begun streams.seen streams.so_far start.contents streams.stands streams.cut_is (fed_covers state.inputs streams.seen told streams.fed);
       leads = leads_of lawful state.inputs old streams.seen streams.so_far streams.fed streams.stands;
     },
-    λ drains told i inside. (streams.fed.ended told i inside (ends.drained start.begun streams.seen streams.so_far streams.stands streams.cut_is drains i inside)).1,
+    λ drains told i inside. streams.fed.ended told i inside ∙ ends.drained start.begun streams.seen streams.so_far streams.stands streams.cut_is drains i inside,
   )
   streams_ends lawful true state old new before after ends streams = (
     streams.seen.fed,
@@ -204,9 +211,10 @@ module _ {S : Type 0} (kind : Kind S) (tells : Bool) (start : Start S) where
     record {
       so_far = streams.so_far;
       told = subst (λ (outputs : List Sink). AreTold tells state.outputs start.base_out start.names outputs streams.so_far) (sym ends.same) streams.told;
-      says = λ told. ends.cut start.begun streams.seen streams.so_far streams.stands streams.cut_is;
+      says = λ told. (ends.cut start.begun streams.seen streams.so_far streams.stands streams.cut_is).0;
       leads = leads_of lawful state.inputs old streams.seen streams.so_far streams.fed streams.stands;
     },
+    λ told. (streams.seen.ended, (ends.cut start.begun streams.seen streams.so_far streams.stands streams.cut_is).1, λ i inside. streams.fed.ended told i inside),
   )
 
   -- where no more can be had no step waits
@@ -224,7 +232,7 @@ module _ {S : Type 0} (kind : Kind S) (tells : Bool) (start : Start S) where
         seen = now;
         so_far = streams.so_far;
         cut_is = refl;
-        fed = record { is_open = streams.fed.is_open; handed = streams.fed.handed; ended = streams.fed.ended };
+        fed = record { is_open = streams.fed.is_open; handed = streams.fed.handed; whole = streams.fed.whole; ended = streams.fed.ended };
         stands = keeps start.begun streams.seen now streams.so_far (record { fed = λ k. refl; ended = λ k. refl; cut = refl }) streams.stands;
         told = streams.told;
       }
@@ -242,10 +250,8 @@ module _ {S : Type 0} (kind : Kind S) (tells : Bool) (start : Start S) where
         fed = record {
           is_open = λ i inside. omega (arith, streams.fed.is_open i inside, touches-slots_in tells (reads_from base) x old new touches);
           handed = λ told i inside. streams.fed.handed told i inside ∙ ap (λ (f : ℕ → List ℕ). streams.seen.fed i ++ f (start.base_in + i)) (sym left);
-          ended = λ told i inside done. (
-            ap (λ (f : ℕ → List ℕ). f (start.base_in + i)) left ∙ (streams.fed.ended told i inside done).0,
-            subst (λ (b : Bool). IsTrue b) (ap (λ (f : ℕ → Bool). f (start.base_in + i)) (sym ended)) (streams.fed.ended told i inside done).1,
-          );
+          whole = λ told i inside done. ap (λ (f : ℕ → List ℕ). f (start.base_in + i)) left ∙ streams.fed.whole told i inside done;
+          ended = λ told i inside. ap (λ (f : ℕ → Bool). f (start.base_in + i)) ended ∙ streams.fed.ended told i inside;
         };
         stands = subst (λ (s : S). kind.stands start.begun streams.seen streams.so_far s) (sym same) streams.stands;
         told = told_touched tells base x old new start.base_out start.names outputs streams.so_far touches streams.told;
@@ -271,9 +277,9 @@ module _ {S : Type 0} (kind : Kind S) (tells : Bool) (start : Start S) where
 
   -- what was handed out, after a piece of one input
   pub piece_seen : (old new : State) (input slot : ℕ) (octets : List ℕ) (seen : Seen) → slot ≡ start.base_in + input
-      → Gives tells old.inputs new.inputs slot octets → IsFedSo kind tells start old.inputs seen → seen.ended input ≡ false
+      → Gives tells old.inputs new.inputs slot octets → (octets ≡ [] → ⊥) → IsFedSo kind tells start old.inputs seen → seen.ended input ≡ false
       → (now : Seen) × IsFed input octets seen now × IsFedSo kind tells start new.inputs now
-  piece_seen old new input slot octets seen number gives fed is_open = (
+  piece_seen old new input slot octets seen number gives some fed is_open = (
     now,
     record { is_open = is_open; fed = at_input; others = elsewhere; ended = λ k. refl; cut = refl },
     record {
@@ -286,12 +292,16 @@ module _ {S : Type 0} (kind : Kind S) (tells : Bool) (start : Start S) where
             ∙ ap (λ (xs : List ℕ). xs ++ old.inputs.left (start.base_in + i)) (sym (elsewhere i other))
             ∙ ap (λ (xs : List ℕ). now.fed i ++ xs) (sym (gives.other_left (start.base_in + i) (λ at. other (omega (arith, at, number)))))
       ];
-      ended = λ told i inside done. elim (cases_eq i input) [
+      whole = λ told i inside done. elim (cases_eq i input) [
         | inl same ↦ absurd (not_ended seen.ended i (subst (λ (k : ℕ). seen.ended k ≡ false) (sym same) is_open) done)
-        | inr other ↦ (
-          gives.other_left (start.base_in + i) (λ at. other (omega (arith, at, number))) ∙ (fed.ended told i inside done).0,
-          subst (λ (b : Bool). IsTrue b) (sym (gives.other_ended (start.base_in + i) (λ at. other (omega (arith, at, number))))) (fed.ended told i inside done).1,
-        )
+        | inr other ↦ gives.other_left (start.base_in + i) (λ at. other (omega (arith, at, number))) ∙ fed.whole told i inside done
+      ];
+      ended = λ told i inside. elim (cases_eq i input) [
+        | inl same ↦
+            let P : ℕ → Type 0 = λ k. new.inputs.ended k ≡ seen.ended input in
+            let here : new.inputs.ended slot ≡ seen.ended input = is_not (new.inputs.ended slot) (λ ended. some ((gives.ended told).0 ended)) ∙ sym is_open in
+            subst P (number ∙ ap (λ (k : ℕ). start.base_in + k) (sym same)) here ∙ ap seen.ended (sym same)
+        | inr other ↦ gives.other_ended (start.base_in + i) (λ at. other (omega (arith, at, number))) ∙ fed.ended told i inside
       ];
     },
   )
@@ -323,16 +333,18 @@ module _ {S : Type 0} (kind : Kind S) (tells : Bool) (start : Start S) where
     record {
       is_open = λ i inside. omega (arith, fed.is_open i inside, ap (λ (s : Side). s.slots) gives.side);
       handed = λ told i inside. fed.handed told i inside ∙ ap (λ (xs : List ℕ). seen.fed i ++ xs) (sym (same_left told i));
-      ended = λ told i inside done. elim (cases_eq i input) [
+      whole = λ told i inside done. elim (cases_eq i input) [
         | inl same ↦
-            let P : ℕ → Type 0 = λ k. (new.inputs.left k ≡ []) × IsTrue (new.inputs.ended k) in
-            subst P (number ∙ ap (λ (k : ℕ). start.base_in + k) (sym same))
-            (sym (gives.left told) ∙ gives.none told refl, (gives.ended told).1 refl)
-        | inr other ↦
-            let was = subst (λ (b : Bool). IsTrue b) (elsewhere i other) done in (
-              gives.other_left (start.base_in + i) (λ at. other (omega (arith, at, number))) ∙ (fed.ended told i inside was).0,
-              subst (λ (b : Bool). IsTrue b) (sym (gives.other_ended (start.base_in + i) (λ at. other (omega (arith, at, number))))) (fed.ended told i inside was).1,
-            )
+            let P : ℕ → Type 0 = λ k. new.inputs.left k ≡ [] in
+            subst P (number ∙ ap (λ (k : ℕ). start.base_in + k) (sym same)) (sym (gives.left told) ∙ gives.none told refl)
+        | inr other ↦ gives.other_left (start.base_in + i) (λ at. other (omega (arith, at, number)))
+            ∙ fed.whole told i inside (subst (λ (b : Bool). IsTrue b) (elsewhere i other) done)
+      ];
+      ended = λ told i inside. elim (cases_eq i input) [
+        | inl same ↦
+            let P : ℕ → Type 0 = λ k. new.inputs.ended k ≡ true in
+            subst P (number ∙ ap (λ (k : ℕ). start.base_in + k) (sym same)) ((gives.ended told).1 refl) ∙ sym at_input ∙ ap now.ended (sym same)
+        | inr other ↦ gives.other_ended (start.base_in + i) (λ at. other (omega (arith, at, number))) ∙ fed.ended told i inside ∙ sym (elsewhere i other)
       ];
     },
   )
@@ -374,6 +386,10 @@ pub piece_touches : (tells : Bool) (old new : State) (base input slot : ℕ) (in
     → ReadInto tells old.inputs slot into result new.inputs → new.outputs ≡ old.outputs → Touches tells (reads_from base) (failing_read result) old new
 piece_touches tells old new base input slot into result is read kept = touches-more tells (read_of slot) (reads_from base) (failing_read result) old new
     (within-read slot (reads_from base) (omega (arith, is))) (touches-read tells old new slot into result read kept)
+
+-- an input that is waited for is there
+pub none_waits : {A : Type 0} (input count : ℕ) → input < count → count ≡ 0 → A
+none_waits input count inside none = absurd (omega (arith, inside, none))
 
 -- footprints
 pub within_writes : (base_in base_out : ℕ) → Within (writes_from base_out) (streams_from base_in base_out)

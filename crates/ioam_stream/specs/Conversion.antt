@@ -1,6 +1,5 @@
 -- What a command makes of the items of its one input: items that are taken one by one, and then a tail, said in parts.
-use Rattle.std.specs.Prelude.{◌≡◌, ℕ, ◌+◌, ◌<◌, ◌≤◌, Bool, true, false, IsTrue, List, [], ◌++◌, length}
-use Rattle.ioam_base.specs.Octets.{IsFront}
+use Rattle.std.specs.Prelude.{◌≡◌, ℕ, ◌+◌, ◌<◌, ◌≤◌, ⊤, Bool, true, false, IsTrue, List, [], ◌++◌, length}
 use Rattle.ioam_desk_outputs.specs.Told.{Adds, said_more}
 use Rattle.ioam_desk_outputs.specs.declared.output.Output.{Output}
 use Rattle.ioam_stream.specs.Stage.{Kind, Seen, How, Ended, Handed, Covers}
@@ -182,6 +181,7 @@ module _ {C : Type 0} (does : Converts C) where
     texts = λ begun now how contents. does.texts begun.converter now.converter how (contents 0);
     firsts = λ begun contents. does.firsts begun.converter (contents 0);
     drains = λ now. does.drains now.converter;
+    marks = λ now ended. ⊤;
     waits = IsShort;
     held = λ now. held_in now.phase (does.held now.converter);
     room = λ now. does.room now.converter + not_yet now.ended;

@@ -1,9 +1,9 @@
 -- The laws of a converter as a stage. They stand among the definitions, since a ghost member of an `impl` cites specs/ alone.
-use Rattle.std.specs.Prelude.{◌≡◌, ℕ, Bool, true, false, refl, List, [], ◌++◌, length}
-use Rattle.std.proofs.Common.{sym, subst, ◌∙◌, ap, append-nil, arith}
+use Rattle.std.specs.Prelude.{◌≡◌, ℕ, Bool, true, false, refl, List}
+use Rattle.std.proofs.Common.{sym, subst, arith}
 use Rattle.ioam_desk_outputs.specs.Told.{said_more}
-use Rattle.ioam_stream.specs.Stage.{Lawful, Seen, Covers, How, Ended, Handed, Leads}
-use Rattle.ioam_stream.specs.Conversion.{Converts, Sound, LeadsTo, SaysSo, StandsIn, IsFresh, kind}
+use Rattle.ioam_stream.specs.Stage.{Lawful, Seen, Covers, How, Ended, Handed}
+use Rattle.ioam_stream.specs.Conversion.{Converts, Sound, LeadsTo, SaysSo, StandsIn, kind}
 use Rattle.ioam_stream.specs.declared.conversion.Conversion.{Conversion}
 use Rattle.ioam_stream.specs.declared.conversion.Phase.{Phase}
 use Rattle.ioam_stream.specs.declared.conversion.Phase.TheVariants as phase

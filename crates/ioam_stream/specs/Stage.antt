@@ -46,10 +46,11 @@ pub record Covers (inputs : ℕ) (seen : Seen) (contents : ℕ → List ℕ) : T
   pub front : (i : ℕ) → i < inputs → IsFront (seen.fed i) (contents i)
   pub whole : (i : ℕ) → i < inputs → IsTrue (seen.ended i) → contents i ≡ seen.fed i
 
--- What a stage is: how many inputs it reads and to how many outputs it says texts, which stays so while it runs; when nothing was taken yet; that the
--- stage that began as the first, now the second, was handed this and has said these texts; which texts are said of octets
--- from the first stage to the second, when all is said; which texts are those of some first items; when the stage has taken
--- its inputs to their ends; which input it needs more of; how much it still holds, and may still be fed.
+-- What a stage is: how many inputs it reads and to how many outputs it says texts, which stays so while it runs; when
+-- nothing was taken yet; that the stage that began as the first, now the second, was handed this and has said these texts;
+-- which texts are said of octets from the first stage to the second, when all is said; which texts are those of some first
+-- items; when the stage has taken its inputs to their ends; which of them it knows to have ended, after a read that failed;
+-- which input it needs more of; how much it still holds, and may still be fed.
 pub record Kind (S : Type 0) : Type 1 where
   pub inputs : S → ℕ
   pub width : S → ℕ
@@ -58,6 +59,7 @@ pub record Kind (S : Type 0) : Type 1 where
   pub texts : S → S → How → (ℕ → List ℕ) → List (List ℕ) → Type 0
   pub firsts : S → (ℕ → List ℕ) → List (List ℕ) → Type 0
   pub drains : S → Type 0
+  pub marks : S → (ℕ → Bool) → Type 0
   pub waits : S → ℕ → Type 0
   pub held : S → ℕ
   pub room : S → ℕ
@@ -125,7 +127,7 @@ module _ {S : Type 0} (kind : Kind S) where
       pub whole : (begun : S) (seen : Seen) (so_far : List (List ℕ)) (contents : ℕ → List ℕ) → kind.stands begun seen so_far old → seen.cut ≡ false
           → Covers (kind.inputs begun) seen contents → kind.texts begun new Ended contents so_far
       pub cut : (begun : S) (seen : Seen) (so_far : List (List ℕ)) → kind.stands begun seen so_far old → seen.cut ≡ true
-          → kind.texts begun new Handed seen.fed so_far
+          → kind.texts begun new Handed seen.fed so_far × kind.marks new seen.ended
 
     -- what one step did
     abbrev pub Steps : Step → Type 0

@@ -1,5 +1,5 @@
 -- A stage that is handed pieces of its inputs while its texts are written.
-use Rattle.std.specs.Prelude.{◌≡◌, ℕ, ◌+◌, ◌<◌, ◌≤◌, ⊤, Bool, true, false, IsTrue, List, [], ◌++◌}
+use Rattle.std.specs.Prelude.{◌≡◌, ◌≢◌, ℕ, ◌+◌, ◌<◌, ◌≤◌, ⊤, Bool, true, false, IsTrue, List, [], ◌++◌}
 use Rattle.ioam_desk.specs.Desk.{Reading, Writing}
 use Rattle.ioam_desk.specs.Touches.{State, Footprint, Failing, Quiet, Read, Output, Late}
 use Rattle.ioam_desk_outputs.specs.Held.{HoldAllFronts, HoldTexts}
@@ -43,13 +43,17 @@ failing stop.ReadFault = Read
 failing stop.WriteFault = Output
 failing stop.NoMemory = Late
 
+-- no input was read, and no read failed
+abbrev pub ReadsNone : Reading → Reading → Stop → Type 0
+ReadsNone old new answer = (new ≡ old) × (answer ≢ stop.ReadFault)
+
 module _ {S : Type 0} (kind : Kind S) (tells : Bool) (start : Start S) where
   -- what was handed out of the inputs so far, and what is left
   pub record IsFedSo (inputs : Reading) (seen : Seen) : Type 0 where
     pub is_open : (i : ℕ) → i < kind.inputs start.begun → start.base_in + i < inputs.side.slots
     pub handed : IsTrue tells → (i : ℕ) → i < kind.inputs start.begun → start.contents i ≡ seen.fed i ++ inputs.left (start.base_in + i)
-    pub ended : IsTrue tells → (i : ℕ) → i < kind.inputs start.begun → IsTrue (seen.ended i)
-        → (inputs.left (start.base_in + i) ≡ []) × IsTrue (inputs.ended (start.base_in + i))
+    pub whole : IsTrue tells → (i : ℕ) → i < kind.inputs start.begun → IsTrue (seen.ended i) → inputs.left (start.base_in + i) ≡ []
+    pub ended : IsTrue tells → (i : ℕ) → i < kind.inputs start.begun → inputs.ended (start.base_in + i) ≡ seen.ended i
 
   -- the stage has said `so_far` of what was handed out, and this was written or is gathered
   pub record Streams (cut : Bool) (state : State) (stage : S) (outputs : List Sink) : Type 0 where
@@ -83,10 +87,14 @@ module _ {S : Type 0} (kind : Kind S) (tells : Bool) (start : Start S) where
   abbrev pub Splits : (ℕ → List ℕ) → State → Type 0
   Splits handed state = IsTrue tells → (i : ℕ) → i < kind.inputs start.begun → start.contents i ≡ handed i ++ state.inputs.left (start.base_in + i)
 
+  -- the stage knows which inputs have ended
+  abbrev pub Marks : State → S → Type 0
+  Marks state stage = IsTrue tells → (ended : ℕ → Bool) × kind.marks stage ended × ((i : ℕ) → i < kind.inputs start.begun → state.inputs.ended (start.base_in + i) ≡ ended i)
+
   -- all is said of what the inputs hold, or of what was handed out
   abbrev pub Stopped : Bool → State → S → List Sink → Type 0
   Stopped false state stage outputs = Halts Ended start.contents state stage outputs × Drains state stage
-  Stopped true state stage outputs = (handed : ℕ → List ℕ) × Splits handed state × Halts Handed handed state stage outputs
+  Stopped true state stage outputs = (handed : ℕ → List ℕ) × Splits handed state × Halts Handed handed state stage outputs × Marks state stage
 
   -- what stopped the taking of items
   abbrev pub Pauses : Bool → State → S → List Sink → Pause → Type 0
@@ -119,6 +127,6 @@ module _ {S : Type 0} (kind : Kind S) (tells : Bool) (start : Start S) where
   -- how a run over opened files ended
   abbrev pub Finishes : State → S → Stop → Type 0
   Finishes state stage stop.Ended = Holds Ended start.contents state stage × Drains state stage
-  Finishes state stage stop.ReadFault = (handed : ℕ → List ℕ) × Splits handed state × Holds Handed handed state stage
+  Finishes state stage stop.ReadFault = (handed : ℕ → List ℕ) × Splits handed state × Holds Handed handed state stage × Marks state stage
   Finishes state stage stop.WriteFault = Sticks state.outputs
   Finishes state stage stop.NoMemory = Sticks state.outputs

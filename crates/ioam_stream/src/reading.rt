@@ -5,7 +5,7 @@ ghost use Rattle.ioam_desk_outputs.specs.Flush.{KeepsTold};
 ghost use Rattle.ioam_desk_outputs.specs.Open.{AreSlots};
 ghost use Rattle.ioam_desk_outputs.specs.Told.{AreOpen, AreTold, GathersFew, GathersNothing};
 ghost use Rattle.ioam_stream.specs.Stage.{Standing};
-ghost use Rattle.ioam_stream.specs.Streams.{Going, Start, Streams, Pauses, Refills, Sticks, Stopped, Stops, failing, failing_piece, streams_from};
+ghost use Rattle.ioam_stream.specs.Streams.{Going, Start, Streams, Pauses, ReadsNone, Refills, Sticks, Stopped, Stops, failing, failing_piece, streams_from};
 
 use crate::stage::{Stage, Step};
 use ioam_base::memory::NoMemory;
@@ -46,6 +46,7 @@ fn take_shown<S: Stage, D: Desk>(
     ensures sticks { OnErr result (Sticks S.kind D.tells going.start (D.writing desk.new)) }
     ensures room { OnOk result (S.kind.room stage.new ≡ S.kind.room stage.old) }
     ensures few { OnOk result (GathersFew outputs.new) }
+    ensures unread { D.reading desk.new ≡ D.reading desk.old }
     ensures touches { Touches D.tells (writes_from going.start.base_out) (failing_out result)
         (state (D.reading desk.old) (D.writing desk.old)) (state (D.reading desk.new) (D.writing desk.new)) }
 {
@@ -136,6 +137,7 @@ fn flush_late<D: Desk>(desk: &mut D, outputs: &mut [Output], late: bool) -> Resu
     ensures told { KeepsTold D.tells (D.writing desk.old) (D.writing desk.new) outputs.old outputs.new }
     ensures live { OnOk result (IsTrue late → GathersNothing outputs.new) }
     ensures few { OnOk result (GathersFew outputs.new) }
+    ensures unread { D.reading desk.new ≡ D.reading desk.old }
     ensures touches { (slot : ℕ) (names texts : List (List ℕ)) → AreTold D.tells (D.writing desk.old) slot names outputs.old texts
         → Touches D.tells (writes_from slot) (failing_out result)
         (state (D.reading desk.old) (D.writing desk.old)) (state (D.reading desk.new) (D.writing desk.new)) }
@@ -161,6 +163,7 @@ pub(crate) fn read_on<S: Stage, D: Desk>(
     requires slots { AreSlots start.base_in (S.kind.inputs start.begun) slots.now }
     requires room { (0 < length piece.old) × (length piece.old ≤ 65536) }
     ensures stops { Stops S.kind D.tells start (state (D.reading desk.new) (D.writing desk.new)) stage.new outputs.new result }
+    ensures alone { S.kind.inputs start.begun ≡ 0 → ReadsNone (D.reading desk.old) (D.reading desk.new) result }
     ensures touches { Touches D.tells (streams_from start.base_in start.base_out) (failing result)
         (state (D.reading desk.old) (D.writing desk.old)) (state (D.reading desk.new) (D.writing desk.new)) }
 {

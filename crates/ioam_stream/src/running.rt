@@ -4,8 +4,8 @@ ghost use Rattle.ioam_desk.specs.Touches.{Touches, state};
 ghost use Rattle.ioam_desk_outputs.specs.Open.{AreSlots};
 ghost use Rattle.ioam_desk_outputs.specs.Told.{AreTold, GathersNothing, unsaid};
 ghost use Rattle.ioam_stream.specs.Stage.{unseen};
-ghost use Rattle.ioam_stream.specs.Streams.{Start, IsFedSo, Finishes, failing, streams_from};
-ghost use Rattle.ioam_stream.specs.Frame.{Frame, IsBroken, Leaves, contents};
+ghost use Rattle.ioam_stream.specs.Streams.{Start, IsFedSo, Finishes, ReadsNone, failing, streams_from};
+ghost use Rattle.ioam_stream.specs.Frame.{Frame, IsBroken, Leaves, Marked, contents};
 ghost use Rattle.ioam_desk_outputs.specs.Names.{AreApart};
 
 use crate::reading::{Stop, read_on};
@@ -40,6 +40,7 @@ pub fn run_open<S: Stage, D: Desk>(
     requires slots { AreSlots start.base_in (S.kind.inputs start.begun) slots.now }
     requires room { (0 < length piece.old) × (length piece.old ≤ 65536) }
     ensures finishes { Finishes S.kind D.tells start (state (D.reading desk.new) (D.writing desk.new)) stage.new result }
+    ensures alone { S.kind.inputs start.begun ≡ 0 → ReadsNone (D.reading desk.old) (D.reading desk.new) result }
     ensures touches { Touches D.tells (streams_from start.base_in start.base_out) (failing result) (state (D.reading desk.old) (D.writing desk.old)) (state (D.reading desk.new) (D.writing desk.new)) }
 {
     let Ok(()) = stage.begin(outputs) else {
@@ -70,6 +71,8 @@ pub fn run<S: Stage, D: Desk>(
     requires fresh { S.kind.fresh stage.old }
     ensures frame { Frame D.tells inputs.now outputs.now (state (D.reading desk.old) (D.writing desk.old)) (state (D.reading desk.new) (D.writing desk.new)) (S.kind.drains stage.new) result }
     ensures leaves { IsTrue D.tells → Leaves D.tells inputs.now outputs.now (state (D.reading desk.old) (D.writing desk.old)) (state (D.reading desk.new) (D.writing desk.new)) (S.kind.texts stage.old stage.new) (S.kind.firsts stage.old) result }
+    ensures marks { IsTrue D.tells → Marked D.tells inputs.now outputs.now (state (D.reading desk.old) (D.writing desk.old)) (state (D.reading desk.new) (D.writing desk.new)) (S.kind.marks stage.new) result }
+    ensures alone { length inputs.now ≡ 0 → ReadsNone (D.reading desk.old) (D.reading desk.new) result }
 {
     run_begun(alloc, desk, inputs, outputs, stage)
 }
@@ -96,6 +99,8 @@ fn run_begun<S: Stage, D: Desk>(
     } }
     ensures frame { Frame D.tells inputs.now outputs.now (state (D.reading desk.old) (D.writing desk.old)) (state (D.reading desk.new) (D.writing desk.new)) (S.kind.drains stage.new) result }
     ensures leaves { IsTrue D.tells → Leaves D.tells inputs.now outputs.now (state (D.reading desk.old) (D.writing desk.old)) (state (D.reading desk.new) (D.writing desk.new)) (S.kind.texts stage.old stage.new) (S.kind.firsts stage.old) result }
+    ensures marks { IsTrue D.tells → Marked D.tells inputs.now outputs.now (state (D.reading desk.old) (D.writing desk.old)) (state (D.reading desk.new) (D.writing desk.new)) (S.kind.marks stage.new) result }
+    ensures alone { length inputs.now ≡ 0 → ReadsNone (D.reading desk.old) (D.reading desk.new) result }
 {
     let Ok(mut piece) = new_piece(alloc) else {
         return Stop::NoMemory;

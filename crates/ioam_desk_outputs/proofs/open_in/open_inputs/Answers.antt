@@ -1,10 +1,10 @@
-use Rattle.std.proofs.Common.{◌≡◌, ◌<◌, ◌+◌, ℕ, List, [], ◌∷◌, length, take, Ok, Err, get_or, refl, sym, ◌∙◌, subst, ap, arith}
+use Rattle.std.proofs.Common.{◌≡◌, ◌<◌, ◌+◌, ℕ, List, [], ◌∷◌, length, Ok, Err, get_or, refl, sym, ◌∙◌, subst, ap, arith}
 use Rattle.std.proofs.lemmas.List.{length-take-le}
 use Rattle.ioam_desk.specs.Desk.{Side, OpenIn, holds}
-use Rattle.ioam_desk.specs.Touches.{Touches, state, Quiet, opening, failing_open}
+use Rattle.ioam_desk.specs.Touches.{state, Quiet, opening, failing_open}
 use Rattle.ioam_desk.proofs.TouchesLaws.{touches-none, touches-within, touches-open_in}
 use Rattle.ioam_desk_outputs.specs.Open.{AreSlots}
-use Rattle.ioam_desk_outputs.proofs.OpenLaws.{side_more, slots_more, unread_more, unread_fault, asked_now, asked_more, asked_fault_in, within_in, opened_none, fewer_fault}
+use Rattle.ioam_desk_outputs.proofs.OpenLaws.{side_more, slots_more, unread_more, unended_more, asked_more, asked_fault_in, within_in, opened_none, fewer_fault}
 use Rattle.ioam_desk_outputs.proofs.open_in.open_inputs.Goals as goal
 
 pub names-preserved : goal.names-preserved
@@ -25,6 +25,8 @@ names-preserved g c =
       slots = slots_more start.inputs.side.slots names i slot c.names.slots.items c.push.new.self.items inside number c.in-Ok-push.ensures.items c.names.invariant.slots;
       side = side_more start.inputs.side mid.inputs.side new.inputs.side names i name inside is c.names.invariant.side opened.side;
       unread = unread_more g.D.Desk.tells start mid new names i slot name inside is c.names.invariant.side c.names.invariant.outputs opened c.names.invariant.unread;
+      unended = unended_more g.D.Desk.tells start mid new names i slot name inside c.names.invariant.side opened c.names.invariant.unended;
+      none = λ empty. absurd (omega (arith, inside, empty));
       outputs = c.in-Ok-open_in.ensures.outputs ∙ c.names.invariant.outputs;
       touches = touches-within g.D.Desk.tells (opening names []) (opening _ []) Quiet start mid new (within_in names i name inside is) c.names.invariant.touches
           (touches-open_in g.D.Desk.tells mid new name (Ok slot) opened c.in-Ok-open_in.ensures.outputs);
@@ -76,6 +78,8 @@ names-init g c =
       slots = subst (λ (xs : List ℕ). AreSlots start.inputs.side.slots 0 xs) (sym c.in-Ok.ensures.items) (record { size = refl; number = λ i below. absurd (omega (arith, below)) });
       side = opened_none start.inputs.side;
       unread = λ told i below. absurd (omega (arith, below));
+      unended = λ i below. absurd (omega (arith, below));
+      none = λ empty. refl;
       outputs = refl;
       touches = touches-none g.D.Desk.tells (opening c.args.names.now []) start;
     }
@@ -93,3 +97,9 @@ pub returns-in-Err-clause-fewer : goal.returns-in-Err-clause-fewer
 returns-in-Err-clause-fewer g c =
     fewer_fault g.D.Desk.tells (state (g.D.Desk.reading c.args.desk.now) (g.D.Desk.writing c.args.desk.now)) (state (g.D.Desk.reading c.names.desk) (g.D.Desk.writing c.names.desk))
     (state (g.D.Desk.reading c.open_in.new.self) (g.D.Desk.writing c.open_in.new.self)) c.args.names.now c.names.name-index c.text.result.now c.in-Err.fault (omega arith) c.names.invariant.side c.in-Err.ensures.opened
+
+pub returns-in-Err-push-clause-none : goal.returns-in-Err-push-clause-none
+returns-in-Err-push-clause-none g c = λ empty. absurd (omega (arith, empty))
+
+pub returns-in-Err-clause-none : goal.returns-in-Err-clause-none
+returns-in-Err-clause-none g c = λ empty. absurd (omega (arith, empty))

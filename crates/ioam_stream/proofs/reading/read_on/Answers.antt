@@ -1,10 +1,11 @@
-use Rattle.std.proofs.Common.{false, rules, subst, arith, sym, Ok, Err}
+use Rattle.std.proofs.Common.{◌∙◌, refl, false, rules, subst, arith, sym, Ok, Err}
 use Rattle.ioam_desk.specs.Touches.{state, reads_from, writes_from, Quiet, Read, Output}
 use Rattle.ioam_desk.specs.declared.fault.DeskFault.TheVariants.{Failed, NoMemory}
-use Rattle.ioam_desk.proofs.TouchesLaws.{touches-within, touches-quiet_late, touches-rest}
+use Rattle.ioam_desk.proofs.TouchesLaws.{touches-none, touches-within, touches-quiet_late, touches-rest}
 use Rattle.ioam_desk_outputs.proofs.ToldLaws.{AreTold-open}
 use Rattle.ioam_stream.specs.Streams.{streams_from}
-use Rattle.ioam_stream.proofs.StreamsLaws.{waiting_fed, waiting_unread, waiting_sticks, waiting_written, late_sticks, within_writes, within_reads}
+use Rattle.ioam_stream.proofs.StreamsLaws.{waiting_fed, waiting_unread, waiting_sticks, waiting_written, late_sticks, none_waits, within_writes, within_reads}
+use Rattle.ioam_stream.proofs.FrameLaws.{no_fault, no_read_ended, no_unread}
 use Rattle.ioam_stream.proofs.reading.read_on.Goals as goal
 
 pub returns-in-Ok-End-clause-touches : goal.returns-in-Ok-End-clause-touches
@@ -76,6 +77,7 @@ pieces-preserved g c =
       streams = waiting_fed g.S.Stage.kind g.D.Desk.tells g.start g.start.base_in (state (g.D.Desk.reading c.flush_late.new.desk) (g.D.Desk.writing c.flush_late.new.desk)) (state (g.D.Desk.reading c.read_piece.new.desk) (g.D.Desk.writing c.read_piece.new.desk)) c.take_shown.new.stage c.read_piece.new.stage c.flush_late.new.outputs
           c.in-Ok-More.input c.in-Fed.ensures.touches refills.1 flushed;
       width = omega (arith, c.pieces.invariant.width, c.take_shown.auto.outputs, c.flush_late.auto.outputs);
+      alone = λ none. none_waits c.in-Ok-More.input (g.S.Stage.kind.inputs g.start.begun) waiting.inside none;
       few = c.in-Ok.ensures.few;
       room = (omega (arith, c.pieces.invariant.room.0, c.read_piece.auto.piece), omega (arith, c.pieces.invariant.room.1, c.read_piece.auto.piece));
       touches = touches-within g.D.Desk.tells (streams_from g.start.base_in g.start.base_out) (reads_from g.start.base_in) Quiet _ _ _ (within_reads g.start.base_in g.start.base_out) before c.in-Fed.ensures.touches;
@@ -168,3 +170,52 @@ returns-in-Err-NoMemory-take_rest-clause-touches g c =
     touches-rest g.D.Desk.tells (streams_from g.start.base_in g.start.base_out) (writes_from g.start.base_out) _ _ _ (Err NoMemory) (within_writes g.start.base_in g.start.base_out)
     (touches-within g.D.Desk.tells (streams_from g.start.base_in g.start.base_out) (reads_from g.start.base_in) Read _ _ _ (within_reads g.start.base_in g.start.base_out) before c.in-ReadFault.ensures.touches)
     (rw c.in-Err-NoMemory-take_rest.field-0-is at c.in-Err-NoMemory-take_rest.ensures.touches)
+
+pub returns-in-Ok-End-clause-alone : goal.returns-in-Ok-End-clause-alone
+returns-in-Ok-End-clause-alone g c = λ none. (c.in-Ok-End.ensures.unread ∙ c.pieces.invariant.alone none, no_read_ended)
+
+pub returns-in-Err-Failed-clause-alone : goal.returns-in-Err-Failed-clause-alone
+returns-in-Err-Failed-clause-alone g c = λ none. (c.in-Err-Failed.ensures.unread ∙ c.pieces.invariant.alone none, no_fault)
+
+pub returns-in-Err-NoMemory-clause-alone : goal.returns-in-Err-NoMemory-clause-alone
+returns-in-Err-NoMemory-clause-alone g c = λ none. (c.in-Err-NoMemory.ensures.unread ∙ c.pieces.invariant.alone none, no_unread)
+
+pub returns-in-Err-Failed-flush_late-clause-alone : goal.returns-in-Err-Failed-flush_late-clause-alone
+returns-in-Err-Failed-flush_late-clause-alone g c =
+    let waiting = rw c.in-Ok-More.field-0-is at c.in-Ok-More.ensures.paused in
+    λ none. none_waits c.in-Ok-More.input (g.S.Stage.kind.inputs g.start.begun) waiting.inside none
+
+pub returns-in-Err-NoMemory-flush_late-clause-alone : goal.returns-in-Err-NoMemory-flush_late-clause-alone
+returns-in-Err-NoMemory-flush_late-clause-alone g c =
+    let waiting = rw c.in-Ok-More.field-0-is at c.in-Ok-More.ensures.paused in
+    λ none. none_waits c.in-Ok-More.input (g.S.Stage.kind.inputs g.start.begun) waiting.inside none
+
+pub returns-in-NoMemory-clause-alone : goal.returns-in-NoMemory-clause-alone
+returns-in-NoMemory-clause-alone g c =
+    let waiting = rw c.in-Ok-More.field-0-is at c.in-Ok-More.ensures.paused in
+    λ none. none_waits c.in-Ok-More.input (g.S.Stage.kind.inputs g.start.begun) waiting.inside none
+
+pub returns-in-Ok-take_rest-clause-alone : goal.returns-in-Ok-take_rest-clause-alone
+returns-in-Ok-take_rest-clause-alone g c =
+    let waiting = rw c.in-Ok-More.field-0-is at c.in-Ok-More.ensures.paused in
+    λ none. none_waits c.in-Ok-More.input (g.S.Stage.kind.inputs g.start.begun) waiting.inside none
+
+pub returns-in-Err-Failed-take_rest-clause-alone : goal.returns-in-Err-Failed-take_rest-clause-alone
+returns-in-Err-Failed-take_rest-clause-alone g c =
+    let waiting = rw c.in-Ok-More.field-0-is at c.in-Ok-More.ensures.paused in
+    λ none. none_waits c.in-Ok-More.input (g.S.Stage.kind.inputs g.start.begun) waiting.inside none
+
+pub returns-in-Err-NoMemory-take_rest-clause-alone : goal.returns-in-Err-NoMemory-take_rest-clause-alone
+returns-in-Err-NoMemory-take_rest-clause-alone g c =
+    let waiting = rw c.in-Ok-More.field-0-is at c.in-Ok-More.ensures.paused in
+    λ none. none_waits c.in-Ok-More.input (g.S.Stage.kind.inputs g.start.begun) waiting.inside none
+
+pub pieces-init : goal.pieces-init
+pieces-init g c = record {
+  streams = c.requires.1.1.0;
+  width = c.requires.1.1.1.0;
+  alone = λ none. refl;
+  few = c.requires.1.1.1.1.0;
+  room = c.requires.1.1.1.1.1.1;
+  touches = touches-none g.D.Desk.tells (streams_from g.start.base_in g.start.base_out) (state (g.D.Desk.reading c.args.desk.now) (g.D.Desk.writing c.args.desk.now));
+}

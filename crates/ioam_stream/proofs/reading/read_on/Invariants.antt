@@ -9,6 +9,7 @@ abbrev pub invariant-pieces : goal.invariant-pieces
 invariant-pieces g l = record {
   streams : Streams g.S.Stage.kind g.D.Desk.tells g.start false (state (g.D.Desk.reading l.desk) (g.D.Desk.writing l.desk)) l.stage l.outputs;
   width : length l.outputs ≡ g.S.Stage.kind.width g.start.begun;
+  alone : g.S.Stage.kind.inputs g.start.begun ≡ 0 → g.D.Desk.reading l.desk ≡ g.D.Desk.reading l.initial.desk;
   few : GathersFew l.outputs;
   room : (0 < length l.piece) × (length l.piece ≤ 65536);
   touches : Touches g.D.Desk.tells (streams_from g.start.base_in g.start.base_out) Quiet (state (g.D.Desk.reading l.initial.desk) (g.D.Desk.writing l.initial.desk)) (state (g.D.Desk.reading l.desk) (g.D.Desk.writing l.desk));

@@ -1,7 +1,7 @@
-use Rattle.std.proofs.Common.{take, Ok, Err}
+use Rattle.std.proofs.Common.{take, Ok, Err, arith}
 use Rattle.ioam_desk.specs.declared.fault.DeskFault.TheVariants.{Failed, NoMemory}
 use Rattle.ioam_desk.specs.Touches.{state}
-use Rattle.ioam_stream.proofs.StreamsLaws.{piece_seen, end_seen, none_given, piece_touches}
+use Rattle.ioam_stream.proofs.StreamsLaws.{piece_seen, end_seen, none_given, some_given, piece_touches}
 use Rattle.ioam_stream.proofs.reading.read_piece.Goals as goal
 
 pub returns-in-Ok-eq0-clause-read : goal.returns-in-Ok-eq0-clause-read
@@ -16,7 +16,7 @@ pub returns-in-Ok-feed-clause-read : goal.returns-in-Ok-feed-clause-read
 returns-in-Ok-feed-clause-read g c = (
   c.in-Ok-feed.ensures.room,
   λ seen so_far fed is_open stands.
-      let now = piece_seen g.S.Stage.kind g.D.Desk.tells g.start (state (g.D.Desk.reading c.args.desk.now) (g.D.Desk.writing c.args.desk.now)) (state (g.D.Desk.reading c.read.new.self) (g.D.Desk.writing c.read.new.self)) c.args.input c.args.slot (take c.in-Ok.count c.read.new.into) seen c.requires.1.1.1.1.0 c.in-Ok.ensures.read.1 fed is_open in
+      let now = piece_seen g.S.Stage.kind g.D.Desk.tells g.start (state (g.D.Desk.reading c.args.desk.now) (g.D.Desk.writing c.args.desk.now)) (state (g.D.Desk.reading c.read.new.self) (g.D.Desk.writing c.read.new.self)) c.args.input c.args.slot (take c.in-Ok.count c.read.new.into) seen c.requires.1.1.1.1.0 c.in-Ok.ensures.read.1 (some_given c.read.new.into c.in-Ok.count (omega arith) c.in-Ok.ensures.read.0) fed is_open in
       (now.0, now.1.cut, now.2, c.in-Ok-feed.ensures.stands g.start.begun seen now.0 so_far now.1 stands),
 )
 

@@ -55,6 +55,7 @@ items-preserved g c =
       width = omega (arith, c.items.invariant.width, c.step.auto.outputs, c.flush_full.auto.outputs);
       few = c.in-Ok.ensures.few;
       room = takes.room ∙ c.items.invariant.room;
+      unread = c.in-Ok.ensures.inputs ∙ c.items.invariant.unread;
       touches = touches-on g.D.Desk.tells (writes_from g.going.start.base_out) Quiet (state (g.D.Desk.reading c.args.desk.now) (g.D.Desk.writing c.args.desk.now)) (state (g.D.Desk.reading c.items.desk) (g.D.Desk.writing c.items.desk)) (state (g.D.Desk.reading c.flush_full.new.desk) (g.D.Desk.writing c.flush_full.new.desk))
           c.items.invariant.touches (c.in-Ok.ensures.touches g.going.start.base_out g.going.start.names streams.so_far streams.told);
     }
@@ -68,6 +69,7 @@ items-init g c = record {
   width = c.requires.1.1.1.0;
   few = c.requires.1.1.1.1;
   room = refl;
+  unread = refl;
   touches = touches-none g.D.Desk.tells (writes_from g.going.start.base_out) (state (g.D.Desk.reading c.args.desk.now) (g.D.Desk.writing c.args.desk.now));
 }
 

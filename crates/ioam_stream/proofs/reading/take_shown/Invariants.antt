@@ -10,6 +10,7 @@ invariant-items g l = record {
   streams : Streams g.S.Stage.kind g.D.Desk.tells g.going.start g.going.cut (state (g.D.Desk.reading l.desk) (g.D.Desk.writing l.desk)) l.stage l.outputs;
   width : length l.outputs ≡ g.S.Stage.kind.width g.going.start.begun;
   few : GathersFew l.outputs;
+  unread : g.D.Desk.reading l.desk ≡ g.D.Desk.reading l.initial.desk;
   room : g.S.Stage.kind.room l.stage ≡ g.S.Stage.kind.room l.initial.stage;
   touches : Touches g.D.Desk.tells (writes_from g.going.start.base_out) Quiet (state (g.D.Desk.reading l.initial.desk) (g.D.Desk.writing l.initial.desk)) (state (g.D.Desk.reading l.desk) (g.D.Desk.writing l.desk));
 }

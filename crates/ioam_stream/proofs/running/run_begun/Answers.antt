@@ -1,6 +1,6 @@
 use Rattle.ioam_desk.specs.Asked.{AsksFront}
 use Rattle.std.specs.Prelude.{⊤}
-use Rattle.std.proofs.Common.{◌≡◌, ℕ, List, rules, length, ap, sym, subst, ◌∙◌, arith, [], inl, inr}
+use Rattle.std.proofs.Common.{◌≡◌, ℕ, List, rules, length, ap, refl, sym, subst, ◌∙◌, arith, [], inl, inr}
 use Rattle.ioam_desk.specs.Desk.{Side, Reading, Writing}
 use Rattle.ioam_desk.specs.Touches.{state, State, Quiet, Input, Output, opening}
 use Rattle.ioam_desk.proofs.TouchesLaws.{touches-slots_in, touches-more, touches-quiet_late}
@@ -11,7 +11,7 @@ use Rattle.ioam_desk_outputs.specs.declared.output.Output.{Output as Sink}
 use Rattle.ioam_desk_outputs.proofs.ToldLaws.{told_names}
 use Rattle.ioam_stream.specs.Stage.{unseen}
 use Rattle.ioam_stream.specs.Streams.{Start, IsFedSo, Finishes, failing, streams_from}
-use Rattle.ioam_stream.proofs.FrameLaws.{within_ins, frame_none, frame_ins, frame_outs, frame_ran, finishes_leaves, drained_of, unopened_some, opened_unseen, opened_both, no_read, no_write, no_memory}
+use Rattle.ioam_stream.proofs.FrameLaws.{within_ins, frame_none, frame_ins, frame_outs, frame_ran, finishes_leaves, drained_of, unopened_some, opened_unseen, opened_both, marked_of, no_read, no_write, no_memory, no_fault, no_unread}
 use Rattle.ioam_stream.proofs.running.run_begun.Goals as goal
 
 pub returns-in_default-clause-frame : goal.returns-in_default-clause-frame
@@ -82,7 +82,7 @@ run_open-requires g c κs within =
     subst (λ (os : List Sink). AreTold g.D.Desk.tells late.outputs old.outputs.side.slots c.args.outputs.now os (unsaid c.args.outputs.now)) (sym c.deref_mut.ensures.value)
     (subst (λ (w : Writing). AreTold g.D.Desk.tells late.outputs w.side.slots c.args.outputs.now c.in-Ok-open_outputs.outputs.items (unsaid c.args.outputs.now)) c.in-Ok-open_inputs.ensures.outputs c.in-Ok-open_outputs.ensures.opened) in
     let fed = let P : Start _ → Type 0 = λ s. IsFedSo g.S.Stage.kind g.D.Desk.tells s late.inputs unseen in
-    subst P starts (opened_unseen g.S.Stage.kind g.D.Desk.tells c.args.inputs.now c.args.outputs.now old mid late c.args.stage.now c.requires.1.1.1.0 c.in-Ok-open_inputs.ensures.side c.in-Ok-open_outputs.ensures.inputs c.in-Ok-open_inputs.ensures.unread) in (
+    subst P starts (opened_unseen g.S.Stage.kind g.D.Desk.tells c.args.inputs.now c.args.outputs.now old mid late c.args.stage.now c.requires.1.1.1.0 c.in-Ok-open_inputs.ensures.side c.in-Ok-open_outputs.ensures.inputs c.in-Ok-open_inputs.ensures.unread c.in-Ok-open_inputs.ensures.unended) in (
       search rules,
       (
         search rules,
@@ -130,3 +130,51 @@ returns-clause-leaves g c = λ told. inr (
       (subst (λ (w : Writing). (texts : List (List ℕ)) → length texts ≡ length c.args.outputs.now → HoldFronts w (g.D.Desk.writing c.open_outputs.new.desk) 0 c.args.outputs.now texts)
       c.in-Ok-open_inputs.ensures.outputs (c.in-Err-NoMemory-open_outputs.ensures.fault.1 told)),
 )
+
+pub returns-in_default-clause-marks : goal.returns-in_default-clause-marks
+returns-in_default-clause-marks g c = λ told is. absurd (no_unread is)
+
+pub returns-in_default-clause-alone : goal.returns-in_default-clause-alone
+returns-in_default-clause-alone g c = λ none. (refl, no_unread)
+
+pub returns-in-Err-Failed-clause-marks : goal.returns-in-Err-Failed-clause-marks
+returns-in-Err-Failed-clause-marks g c =
+    let fewer = rw c.in-Err-Failed.field-0-is at c.in-Err-Failed.ensures.fewer in
+    λ told is opened. absurd (omega (arith, fewer, opened))
+
+pub returns-in-Err-Failed-clause-alone : goal.returns-in-Err-Failed-clause-alone
+returns-in-Err-Failed-clause-alone g c =
+    let fewer = rw c.in-Err-Failed.field-0-is at c.in-Err-Failed.ensures.fewer in
+    λ none. absurd (omega (arith, fewer, none, ap (λ (r : Reading). r.side.slots) (c.in-Err-Failed.ensures.none none)))
+
+pub returns-in-Err-NoMemory-clause-marks : goal.returns-in-Err-NoMemory-clause-marks
+returns-in-Err-NoMemory-clause-marks g c = λ told is. absurd (no_unread is)
+
+pub returns-in-Err-NoMemory-clause-alone : goal.returns-in-Err-NoMemory-clause-alone
+returns-in-Err-NoMemory-clause-alone g c = λ none. (c.in-Err-NoMemory.ensures.none none, no_unread)
+
+pub returns-in-Err-Failed-open_outputs-clause-marks : goal.returns-in-Err-Failed-open_outputs-clause-marks
+returns-in-Err-Failed-open_outputs-clause-marks g c = λ told is. absurd (no_fault is)
+
+pub returns-in-Err-Failed-open_outputs-clause-alone : goal.returns-in-Err-Failed-open_outputs-clause-alone
+returns-in-Err-Failed-open_outputs-clause-alone g c = λ none. (c.in-Err-Failed-open_outputs.ensures.inputs ∙ c.in-Ok-open_inputs.ensures.none none, no_fault)
+
+pub returns-clause-marks : goal.returns-clause-marks
+returns-clause-marks g c = λ told is. absurd (no_unread is)
+
+pub returns-clause-alone : goal.returns-clause-alone
+returns-clause-alone g c = λ none. (c.in-Err-NoMemory-open_outputs.ensures.inputs ∙ c.in-Ok-open_inputs.ensures.none none, no_unread)
+
+pub returns-in-Ok-open_outputs-clause-marks : goal.returns-in-Ok-open_outputs-clause-marks
+returns-in-Ok-open_outputs-clause-marks g c = λ told.
+    let new = state (g.D.Desk.reading c.run_open.new.desk) (g.D.Desk.writing c.run_open.new.desk) in
+    marked_of g.S.Stage.kind g.D.Desk.tells c.args.inputs.now c.args.outputs.now (state (g.D.Desk.reading c.args.desk.now) (g.D.Desk.writing c.args.desk.now)) new c.args.stage.now c.run_open.new.stage c.run_open.result
+    c.requires.1.1.1.0
+    (let P : Start _ → Type 0 = λ s. Finishes g.S.Stage.kind g.D.Desk.tells s new c.run_open.new.stage c.run_open.result in subst P c.requires.1.1.1.1.1.1 c.run_open.ensures.finishes)
+    told
+
+pub returns-in-Ok-open_outputs-clause-alone : goal.returns-in-Ok-open_outputs-clause-alone
+returns-in-Ok-open_outputs-clause-alone g c = λ none.
+    let starts = c.requires.1.1.1.1.1.1 in
+    let ran = c.run_open.ensures.alone (ap (λ (s : Start _). g.S.Stage.kind.inputs s.begun) starts ∙ sym c.requires.1.1.1.0 ∙ none) in
+    (ran.0 ∙ c.in-Ok-open_outputs.ensures.inputs ∙ c.in-Ok-open_inputs.ensures.none none, ran.1)

@@ -6,6 +6,7 @@ use Rattle.ioam_desk.proofs.TouchesLaws.{touches-slots_in}
 use Rattle.ioam_stream.specs.Streams.{streams_from, failing}
 use Rattle.ioam_stream.specs.Frame.{IsBroken}
 use Rattle.ioam_stream.proofs.RunLaws.{told_open, begun_streams, unbegun_sticks, stops_told, stops_finishes, stops_sticks, touches_answered}
+use Rattle.ioam_stream.proofs.FrameLaws.{no_fault, no_unread}
 use Rattle.ioam_stream.proofs.running.run_open.Goals as goal
 
 pub returns-in_default-clause-finishes : goal.returns-in_default-clause-finishes
@@ -84,3 +85,12 @@ returns-in-Err-NoMemory-clause-touches g c =
     c.read_on-answer.ensures.stops whole in
     touches_answered g.D.Desk.tells g.start.base_in g.start.base_out _ _ _ c.read_on-answer.result (Err NoMemory)
     whole c.read_on-answer.ensures.touches (rw c.in-Err-NoMemory.field-0-is at c.in-Err-NoMemory.ensures.touches g.start.base_out g.start.names said.0 said.1)
+
+pub returns-in-Ok-finish-clause-alone : goal.returns-in-Ok-finish-clause-alone
+returns-in-Ok-finish-clause-alone g c = λ none. let ran = c.read_on-answer.ensures.alone none in (c.in-Ok-finish.ensures.inputs ∙ ran.0, ran.1)
+
+pub returns-in-Err-Failed-clause-alone : goal.returns-in-Err-Failed-clause-alone
+returns-in-Err-Failed-clause-alone g c = λ none. (c.in-Err-Failed.ensures.inputs ∙ (c.read_on-answer.ensures.alone none).0, no_fault)
+
+pub returns-in-Err-NoMemory-clause-alone : goal.returns-in-Err-NoMemory-clause-alone
+returns-in-Err-NoMemory-clause-alone g c = λ none. (c.in-Err-NoMemory.ensures.inputs ∙ (c.read_on-answer.ensures.alone none).0, no_unread)

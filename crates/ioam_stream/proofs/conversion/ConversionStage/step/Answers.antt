@@ -1,5 +1,4 @@
-use Rattle.std.proofs.Common.{refl}
-use Rattle.ioam_stream.proofs.ConversionLaws.{closing_stops, closing_takes, stop_stops, stop_takes}
+use Rattle.ioam_stream.proofs.ConversionLaws.{closing_stops, stop_stops}
 use Rattle.ioam_stream.proofs.conversion.ConversionStage.step.Goals as goal
 
 pub close-requires-clause-stops : goal.close-requires-clause-stops
