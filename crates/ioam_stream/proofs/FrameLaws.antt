@@ -189,7 +189,7 @@ module _ {S : Type 0} (kind : Kind S) (tells : Bool) (ins outs : List (List ℕ)
   -- which inputs had ended
   pub marked_of : (old new : State) (stage last : S) (answer : Stop) → length ins ≡ kind.inputs stage → Finishes kind tells (start_of old stage) new last answer
       → IsTrue tells → Marked tells ins outs old new (kind.marks last) answer
-  marked_of old new stage last stop.ReadFault size f told is opened = let marks = f.3 told in (marks.0, marks.1, λ i inside. marks.2 i (omega (arith, inside, size)))
+  marked_of old new stage last stop.ReadFault size f told is opened = let marks = f.3 told in (marks.0, marks.1, λ i inside. marks.2 i (omega (arith, inside, size)), λ i inside done. marks.3 i (omega (arith, inside, size)) done)
   marked_of old new stage last stop.Ended size f told is opened = absurd (no_read_ended is)
   marked_of old new stage last stop.WriteFault size f told is opened = absurd (no_fault is)
   marked_of old new stage last stop.NoMemory size f told is opened = absurd (no_unread is)

@@ -48,7 +48,7 @@ module _ {S : Type 0} (kind : Kind S) (tells : Bool) (start : Start S) where
     stops.0,
     λ told i inside. stops.1 told i inside ∙ ap (λ (xs : List ℕ). stops.0 i ++ xs) (sym (left i inside)),
     λ told. (stops.2.so_far, stops.2.says told, texts told stops.2.so_far stops.2.told),
-    λ told. let marks = stops.3 told in (marks.0, marks.1, λ i inside. ended i inside ∙ marks.2 i inside),
+    λ told. let marks = stops.3 told in (marks.0, marks.1, λ i inside. ended i inside ∙ marks.2 i inside, λ i inside done. left i inside ∙ marks.3 i inside done),
   )
   stops_finishes old new stage outputs stop.WriteFault stops whole texts left ended = absurd (whole tt)
   stops_finishes old new stage outputs stop.NoMemory stops whole texts left ended = absurd (whole tt)

@@ -214,7 +214,7 @@ module _ {S : Type 0} (kind : Kind S) (tells : Bool) (start : Start S) where
       says = λ told. (ends.cut start.begun streams.seen streams.so_far streams.stands streams.cut_is).0;
       leads = leads_of lawful state.inputs old streams.seen streams.so_far streams.fed streams.stands;
     },
-    λ told. (streams.seen.ended, (ends.cut start.begun streams.seen streams.so_far streams.stands streams.cut_is).1, λ i inside. streams.fed.ended told i inside),
+    λ told. (streams.seen.ended, (ends.cut start.begun streams.seen streams.so_far streams.stands streams.cut_is).1, λ i inside. streams.fed.ended told i inside, λ i inside done. streams.fed.whole told i inside done),
   )
 
   -- where no more can be had no step waits

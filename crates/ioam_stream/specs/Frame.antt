@@ -46,10 +46,11 @@ module _ (tells : Bool) (ins outs : List (List ℕ)) (old new : State) where
   abbrev pub NotAllOpen : Type 0
   NotAllOpen = new.inputs.side.slots < old.inputs.side.slots + length ins
 
-  -- after a read that failed the stage knows which inputs have ended
+  -- after a read that failed the stage knows which inputs have ended; of those nothing is left
   abbrev pub Marked : ((ℕ → Bool) → Type 0) → Stop → Type 0
   Marked Marks answer = answer ≡ stop.ReadFault → AllOpen
       → (ended : ℕ → Bool) × Marks ended × ((i : ℕ) → i < length ins → new.inputs.ended (old.inputs.side.slots + i) ≡ ended i)
+      × ((i : ℕ) → i < length ins → IsTrue (ended i) → new.inputs.left (old.inputs.side.slots + i) ≡ [])
 
   module _ (Texts : How → (ℕ → List ℕ) → List (List ℕ) → Type 0) (Firsts : (ℕ → List ℕ) → List (List ℕ) → Type 0) where
     -- the outputs hold texts that are so of these octets

@@ -87,9 +87,10 @@ module _ {S : Type 0} (kind : Kind S) (tells : Bool) (start : Start S) where
   abbrev pub Splits : (ℕ → List ℕ) → State → Type 0
   Splits handed state = IsTrue tells → (i : ℕ) → i < kind.inputs start.begun → start.contents i ≡ handed i ++ state.inputs.left (start.base_in + i)
 
-  -- the stage knows which inputs have ended
+  -- the stage knows which inputs have ended; of those nothing is left
   abbrev pub Marks : State → S → Type 0
   Marks state stage = IsTrue tells → (ended : ℕ → Bool) × kind.marks stage ended × ((i : ℕ) → i < kind.inputs start.begun → state.inputs.ended (start.base_in + i) ≡ ended i)
+      × ((i : ℕ) → i < kind.inputs start.begun → IsTrue (ended i) → state.inputs.left (start.base_in + i) ≡ [])
 
   -- all is said of what the inputs hold, or of what was handed out
   abbrev pub Stopped : Bool → State → S → List Sink → Type 0
