@@ -1,5 +1,6 @@
 -- Steps of a converter as a stage.
 use Rattle.std.proofs.Common.{◌≡◌, ℕ, ◌+◌, Bool, true, false, List, [], ◌++◌, refl, sym, ap, ◌∙◌, subst, append-nil, arith}
+use Rattle.std.specs.Prelude.{Result, Ok, Err, OnErr}
 use Rattle.std.proofs.lemmas.Bool.{true≢false}
 use Rattle.ioam_desk_outputs.specs.Told.{Adds, said_more}
 use Rattle.ioam_desk_outputs.specs.declared.output.Output.{Output}
@@ -11,6 +12,10 @@ use Rattle.ioam_stream.specs.declared.conversion.Phase.TheVariants as phase
 use Rattle.ioam_stream.specs.declared.conversion.Tail.{Tail}
 use Rattle.ioam_stream.specs.declared.conversion.Tail.TheVariants as tail
 use Rattle.ioam_stream.specs.declared.stage.Step.{Step}
+
+pub on_err : {T E : Type 0} (r : Result T E) (P : Type 0) → P → OnErr r P
+on_err (Ok x) P p = tt
+on_err (Err e) P p = p
 
 module _ {C : Type 0} (does : Converts C) where
   all_covers : (seen : Seen) → Covers 1 seen seen.fed

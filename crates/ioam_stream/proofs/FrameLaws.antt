@@ -1,6 +1,6 @@
 -- The frame of a run, by where it ended.
 use Rattle.std.specs.Prelude.{⊤}
-use Rattle.std.proofs.Common.{◌≡◌, ℕ, ◌+◌, ◌<◌, Bool, IsTrue, List, [], ◌∷◌, ◌++◌, length, take, Option, Some, refl, sym, ◌∙◌, ap, inr, append-nil, arith}
+use Rattle.std.proofs.Common.{◌≡◌, ℕ, ◌+◌, ◌<◌, Bool, IsTrue, List, [], ◌∷◌, ◌++◌, length, take, Option, Some, refl, sym, ◌∙◌, ap, inl, inr, append-nil, arith}
 use Rattle.std.proofs.lemmas.List.{take_all}
 use Rattle.ioam_desk.specs.Asked.{AsksFront}
 use Rattle.ioam_desk.specs.Desk.{Side, Reading, Writing, holds, opened_each}
@@ -13,10 +13,10 @@ use Rattle.ioam_desk_outputs.specs.Open.{AreUnended, AreUnread}
 use Rattle.ioam_desk_outputs.specs.Held.{HoldAllFronts, HoldFronts}
 use Rattle.ioam_desk_outputs.proofs.HeldLaws.{HoldAllFronts-holds}
 use Rattle.ioam_stream.specs.Stage.{Kind, Lawful, unseen}
-use Rattle.ioam_stream.specs.Streams.{Start, IsFedSo, Finishes, streams_from, failing}
+use Rattle.ioam_stream.specs.Streams.{Start, IsFedSo, Finishes, Sticks, streams_from, failing}
 use Rattle.ioam_stream.specs.declared.reading.Stop.{Stop}
 use Rattle.ioam_stream.specs.declared.reading.Stop.TheVariants as stop
-use Rattle.ioam_stream.specs.Frame.{Frame, AllOpen, HoldSome, Leaves, Marked, contents, failing_all}
+use Rattle.ioam_stream.specs.Frame.{Frame, AllOpen, HoldLess, HoldSome, Leaves, Unsealed, Marked, contents, failing_all}
 
 -- answers that aren't an end
 pub no_read : stop.ReadFault ≡ stop.Ended → ⊥
@@ -160,15 +160,33 @@ module _ {S : Type 0} (kind : Kind S) (tells : Bool) (ins outs : List (List ℕ)
     begun = stage;
   }
 
-  some_of : (old new : State) (stage last : S) → (so : List (List ℕ)) × kind.firsts stage (contents tells ins outs old old) so × HoldAllFronts new.outputs outs so
+  some_of : (lawful : Lawful kind) (old new : State) (stage last : S) → HoldLess tells ins outs old new (kind.sealed stage) (kind.parts stage)
       → HoldSome tells ins outs old new (kind.texts stage last) (kind.firsts stage)
-  some_of old new stage last sticks = record { so = sticks.0; texts = sticks.1; held = HoldAllFronts-holds old.outputs new.outputs 0 outs sticks.0 sticks.2 }
+  some_of lawful old new stage last less = record {
+    so = less.0;
+    texts = elim less.2 [
+      | inl parts ↦ lawful.parts stage (contents tells ins outs old old) less.0 parts
+      | inr sealed ↦ lawful.sealed stage (contents tells ins outs old old) less.0 sealed.0
+    ];
+    held = less.1;
+  }
+
+  less_of : (old new : State) (stage : S) → IsTrue tells → Sticks kind tells (start_of old stage) new.outputs → HoldLess tells ins outs old new (kind.sealed stage) (kind.parts stage)
+  less_of old new stage told sticks = let held = sticks told in (held.0, HoldAllFronts-holds old.outputs new.outputs 0 outs held.0 held.1, held.2)
+
+  -- sealed texts
+  pub unsealed_of : (old new : State) (stage last : S) (answer : Stop) → IsTrue tells → Finishes kind tells (start_of old stage) new last answer
+      → Unsealed tells ins outs old new (kind.sealed stage) (kind.parts stage) answer
+  unsealed_of old new stage last stop.Ended told f = tt
+  unsealed_of old new stage last stop.ReadFault told f = tt
+  unsealed_of old new stage last stop.WriteFault told f = less_of old new stage told f
+  unsealed_of old new stage last stop.NoMemory told f = inr (less_of old new stage told f)
 
   -- what a run over opened files left
-  pub finishes_leaves : (old new : State) (stage last : S) (answer : Stop) → length ins ≡ kind.inputs stage → AllOpen tells ins outs old new → IsTrue tells
+  pub finishes_leaves : (lawful : Lawful kind) (old new : State) (stage last : S) (answer : Stop) → length ins ≡ kind.inputs stage → AllOpen tells ins outs old new → IsTrue tells
       → Finishes kind tells (start_of old stage) new last answer → Leaves tells ins outs old new (kind.texts stage last) (kind.firsts stage) answer
-  finishes_leaves old new stage last stop.Ended size opened told f = let held = f.0 told in (opened, record { so = held.0; texts = held.1; held = held.2 })
-  finishes_leaves old new stage last stop.ReadFault size opened told f = let held = f.2 told in inr (
+  finishes_leaves lawful old new stage last stop.Ended size opened told f = let held = f.0 told in (opened, record { so = held.0; texts = held.1; held = held.2 })
+  finishes_leaves lawful old new stage last stop.ReadFault size opened told f = let held = f.2 told in inr (
     opened,
     record {
       handed = f.0;
@@ -176,8 +194,8 @@ module _ {S : Type 0} (kind : Kind S) (tells : Bool) (ins outs : List (List ℕ)
       hold = record { so = held.0; texts = held.1; held = held.2 };
     },
   )
-  finishes_leaves old new stage last stop.WriteFault size opened told f = (opened, some_of old new stage last (f told))
-  finishes_leaves old new stage last stop.NoMemory size opened told f = inr (opened, some_of old new stage last (f told))
+  finishes_leaves lawful old new stage last stop.WriteFault size opened told f = (opened, some_of lawful old new stage last (less_of old new stage told f))
+  finishes_leaves lawful old new stage last stop.NoMemory size opened told f = inr (opened, some_of lawful old new stage last (less_of old new stage told f))
 
   pub drained_of : (old new : State) (stage last : S) (answer : Stop) → length ins ≡ kind.inputs stage → Finishes kind tells (start_of old stage) new last answer
       → answer ≡ stop.Ended → kind.drains last → IsTrue tells → (i : ℕ) → i < length ins → IsTrue (new.inputs.ended (old.inputs.side.slots + i))
@@ -195,12 +213,17 @@ module _ {S : Type 0} (kind : Kind S) (tells : Bool) (ins outs : List (List ℕ)
   marked_of old new stage last stop.NoMemory size f told is opened = absurd (no_unread is)
 
   -- outputs that could not all be opened
+  pub unopened_less : (lawful : Lawful kind) (old new : State) (stage : S) → kind.fresh stage → length outs ≡ kind.width stage
+      → ((texts : List (List ℕ)) → length texts ≡ length outs → HoldFronts old.outputs new.outputs 0 outs texts)
+      → HoldLess tells ins outs old new (kind.sealed stage) (kind.parts stage)
+  unopened_less lawful old new stage fresh width empty =
+      let none = lawful.none stage (contents tells ins outs old old) fresh in
+      (none.0, empty none.0 (none.1 ∙ sym width), inl none.2)
+
   pub unopened_some : (lawful : Lawful kind) (old new : State) (stage last : S) → kind.fresh stage → length outs ≡ kind.width stage
       → ((texts : List (List ℕ)) → length texts ≡ length outs → HoldFronts old.outputs new.outputs 0 outs texts)
       → HoldSome tells ins outs old new (kind.texts stage last) (kind.firsts stage)
-  unopened_some lawful old new stage last fresh width empty =
-      let none = lawful.none stage (contents tells ins outs old old) fresh in
-      record { so = none.0; texts = none.2; held = empty none.0 (none.1 ∙ sym width) }
+  unopened_some lawful old new stage last fresh width empty = some_of lawful old new stage last (unopened_less lawful old new stage fresh width empty)
 
   -- the inputs are unread
   pub opened_unseen : (old mid late : State) (stage : S) → length ins ≡ kind.inputs stage → mid.inputs.side ≡ opened_each old.inputs.side ins → late.inputs ≡ mid.inputs

@@ -1,11 +1,11 @@
 -- Laws of runs over opened files.
-use Rattle.std.proofs.Common.{false, ◌≡◌, ℕ, ◌+◌, ◌<◌, Bool, IsTrue, List, [], ◌++◌, length, Result, Ok, Err, refl, sym, ◌∙◌, ap, subst, ◌∷◌, arith}
+use Rattle.std.proofs.Common.{false, ◌≡◌, ℕ, ◌+◌, ◌<◌, Bool, IsTrue, List, [], ◌++◌, length, Result, Ok, Err, refl, sym, ◌∙◌, ap, subst, ◌∷◌, arith, inl}
 use Rattle.ioam_desk.specs.Desk.{Writing}
 use Rattle.ioam_desk.specs.Touches.{State, writes_from, Touches, Quiet, Output, failing_out}
 use Rattle.ioam_desk.specs.declared.fault.DeskFault.{DeskFault}
 use Rattle.ioam_desk.specs.declared.fault.DeskFault.TheVariants.{Failed, NoMemory}
 use Rattle.ioam_desk.proofs.TouchesLaws.{touches-within, touches-quiet_late, touches-rest}
-use Rattle.ioam_desk_outputs.specs.Flush.{KeepsTold}
+use Rattle.ioam_desk_outputs.specs.Flush.{KeepsTold, LeavesSome}
 use Rattle.ioam_desk_outputs.specs.Held.{HoldTexts, HoldAllFronts}
 use Rattle.ioam_desk_outputs.specs.Told.{AreOpen, Adds, AreTold, unsaid}
 use Rattle.ioam_desk_outputs.proofs.HeldLaws.{AreTold-fronts, more_fronts}
@@ -15,7 +15,7 @@ use Rattle.ioam_stream.specs.Stage.{Kind, Lawful, Begins, unseen}
 use Rattle.ioam_stream.specs.Streams.{Start, IsFedSo, Streams, Stops, Sticks, Finishes, streams_from, failing}
 use Rattle.ioam_stream.specs.declared.reading.Stop.{Stop}
 use Rattle.ioam_stream.specs.declared.reading.Stop.TheVariants as stop
-use Rattle.ioam_stream.proofs.StreamsLaws.{within_writes, sticks_told}
+use Rattle.ioam_stream.proofs.StreamsLaws.{within_writes, sticks_left}
 use Rattle.ioam_stream.specs.Frame.{IsBroken}
 
 -- outputs to which something was said are open
@@ -55,13 +55,14 @@ module _ {S : Type 0} (kind : Kind S) (tells : Bool) (start : Start S) where
 
   -- or only a prefix
   pub stops_sticks : (old new : State) (stage : S) (outputs after : List Sink) (answer : Stop) → length after ≡ kind.width start.begun
+      → LeavesSome 1 outputs after → length outputs ≡ length after
       → Stops kind tells start old stage outputs answer → (IsBroken answer → ⊥) → KeepsTold tells old.outputs new.outputs outputs after → Sticks kind tells start new.outputs
-  stops_sticks old new stage outputs after stop.Ended width stops whole says =
-      sticks_told kind tells start new after stops.0.so_far width (says start.base_out start.names stops.0.so_far stops.0.told) stops.0.leads
-  stops_sticks old new stage outputs after stop.ReadFault width stops whole says =
-      sticks_told kind tells start new after stops.2.so_far width (says start.base_out start.names stops.2.so_far stops.2.told) stops.2.leads
-  stops_sticks old new stage outputs after stop.WriteFault width stops whole says = absurd (whole tt)
-  stops_sticks old new stage outputs after stop.NoMemory width stops whole says = absurd (whole tt)
+  stops_sticks old new stage outputs after stop.Ended width left same stops whole says =
+      sticks_left kind tells start new 1 outputs after stops.0.so_far width left same (says start.base_out start.names stops.0.so_far stops.0.told) stops.0.leads
+  stops_sticks old new stage outputs after stop.ReadFault width left same stops whole says =
+      sticks_left kind tells start new 1 outputs after stops.2.so_far width left same (says start.base_out start.names stops.2.so_far stops.2.told) stops.2.leads
+  stops_sticks old new stage outputs after stop.WriteFault width left same stops whole says = absurd (whole tt)
+  stops_sticks old new stage outputs after stop.NoMemory width left same stops whole says = absurd (whole tt)
 
   -- an answer that leaves the outputs alone
   pub broken_finishes : (state : State) (stage : S) (outputs : List Sink) (answer : Stop) → Stops kind tells start state stage outputs answer
@@ -106,12 +107,12 @@ module _ {S : Type 0} (kind : Kind S) (tells : Bool) (start : Start S) where
       let none = lawful.none start.begun start.contents (let P : S → Type 0 = λ s. kind.fresh s in subst P (sym same) fresh) in
       λ is. (
         none.0,
-        none.2,
         (
             let P : List (List ℕ) → Type 0 = λ texts. HoldAllFronts state.outputs start.names texts in
             subst P (said_first start.names none.0 (none.1 ∙ sym width ∙ size))
             (more_fronts state.outputs start.names (unsaid start.names) none.0 (none.1 ∙ sym width ∙ size)
             (AreTold-fronts tells state.outputs start.base_out start.names before (unsaid start.names) is told))),
+        inl none.2,
       )
 
 -- what the answer of writing the rest makes of the answer

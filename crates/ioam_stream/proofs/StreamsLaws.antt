@@ -1,5 +1,5 @@
 -- Laws of a stage that is handed pieces of inputs while its texts are written.
-use Rattle.std.proofs.Common.{◌≡◌, ◌≢◌, ℕ, ◌+◌, ◌<◌, ◌≤◌, Bool, true, false, IsTrue, All, Contains, List, [], ◌∷◌, ◌++◌, length, take, refl, sym, ◌∙◌, ap, subst, inl, inr, zero, suc, append-nil, append_assoc, arith, Result}
+use Rattle.std.proofs.Common.{◌≡◌, ◌≢◌, ℕ, ◌+◌, ◌<◌, ◌≤◌, Bool, true, false, IsTrue, All, Contains, List, [], ◌∷◌, ◌++◌, length, take, refl, sym, ◌∙◌, ap, subst, inl, inr, zero, suc, append-nil, append_assoc, arith, Result, get_or, Some, ◌⊎◌, length-append}
 use Rattle.std.proofs.lemmas.Bool.{cases_eq, false≢true}
 use Rattle.std.proofs.lemmas.List.{length-take-le}
 use Rattle.ioam_base.specs.Octets.{IsFront}
@@ -7,12 +7,13 @@ use Rattle.ioam_desk.specs.Desk.{Side, Reading, Writing, Gives, ReadInto}
 use Rattle.ioam_desk.specs.Touches.{State, Footprint, Failing, Quiet, Touches, Within, read_of, reads_from, writes_from, failing_read}
 use Rattle.ioam_desk.proofs.TouchesLaws.{touches-slots_in, touches-slots_out, touches-more, touches-read, within-read}
 use Rattle.ioam_desk.specs.declared.fault.DeskFault.{DeskFault}
-use Rattle.ioam_desk_outputs.specs.Flush.{KeepsTold}
+use Rattle.ioam_desk_outputs.specs.Flush.{KeepsTold, LeavesSome}
+use Rattle.ioam_desk_outputs.specs.Held.{HoldTexts}
 use Rattle.ioam_desk_outputs.specs.Told.{AreTold, said_more}
 use Rattle.ioam_desk_outputs.specs.declared.output.Output.{Output as Sink}
-use Rattle.ioam_desk_outputs.proofs.HeldLaws.{AreTold-fronts, more_fronts}
+use Rattle.ioam_desk_outputs.proofs.HeldLaws.{AreTold-fronts, holds_slot, more_fronts}
 use Rattle.ioam_desk_outputs.proofs.ToldLaws.{AreTold-adds, told_names}
-use Rattle.ioam_stream.specs.Stage.{Kind, Seen, Covers, Lawful, Leads, Keeps, IsCut, Takes, Waits, Ends, IsFed, IsEnded}
+use Rattle.ioam_stream.specs.Stage.{Kind, Seen, Covers, Lawful, Leading, Leads, Keeps, IsCut, Takes, Waits, Ends, IsFed, IsEnded}
 use Rattle.ioam_stream.specs.Streams.{Start, IsFedSo, Streams, IsWaiting, Sticks, Stopped, Pauses, streams_from}
 use Rattle.ioam_stream.specs.declared.reading.Pause.{Pause}
 use Rattle.ioam_stream.specs.declared.reading.Pause.TheVariants as pause
@@ -52,6 +53,9 @@ told_touched tells base x old new slot names outputs texts touches told =
 covers : (xs handed left : List ℕ) → xs ≡ handed ++ left → IsFront handed xs
 covers xs handed left is = record { rest = left; is = is }
 
+one_some : (xs ys : List ℕ) → Some xs ≡ Some ys → xs ≡ ys
+one_some xs ys same = cc
+
 -- a function changed at one number
 abbrev at_place : {A : Type 0} → ℕ → (ℕ → A) → A → ℕ → A
 at_place zero f x zero = x
@@ -88,6 +92,21 @@ take_none (x ∷ xs) = refl
 pub none_given : (tells : Bool) (old new : Reading) (slot : ℕ) (into : List ℕ) (count : ℕ) → count ≡ 0 → Gives tells old new slot (take count into) → Gives tells old new slot []
 none_given tells old new slot into count is gives =
     subst (λ (xs : List ℕ). Gives tells old new slot xs) (ap (λ (n : ℕ). take n into) is ∙ take_none into) gives
+
+-- files of whose texts something is left to write don't all hold them
+pub not_held : (tells : Bool) (desk : Writing) (slot : ℕ) (names : List (List ℕ)) (outputs : List Sink) (texts : List (List ℕ)) → IsTrue tells
+    → AreTold tells desk slot names outputs texts → (place : ℕ) → place < length outputs → ((d : Sink) → 0 < length (get_or outputs place d).gathered.items)
+    → HoldTexts desk names texts → ⊥
+not_held tells desk slot [] [] [] is told place inside left held = omega (arith, inside)
+not_held tells desk slot (name ∷ names) (output ∷ outputs) (text ∷ texts) is told zero inside left held =
+    let same : desk.written slot ≡ text = one_some (desk.written slot) text (sym (holds_slot desk name slot (told.0.tied is)) ∙ held.0) in
+    omega (arith, left output, ap length (told.0.said is), length-append (desk.written slot) output.gathered.items, ap length same)
+not_held tells desk slot (name ∷ names) (output ∷ outputs) (text ∷ texts) is told (suc place) inside left held =
+    not_held tells desk (slot + 1) names outputs texts is told.1 place (omega (arith, inside)) left held.1
+not_held tells desk slot [] [] (text ∷ texts) is told place inside left held = absurd told
+not_held tells desk slot [] (output ∷ outputs) texts is told place inside left held = absurd told
+not_held tells desk slot (name ∷ names) [] texts is told place inside left held = absurd told
+not_held tells desk slot (name ∷ names) (output ∷ outputs) [] is told place inside left held = absurd told
 
 module _ {S : Type 0} (kind : Kind S) (tells : Bool) (start : Start S) where
   -- what was handed out covers what the inputs hold
@@ -176,22 +195,41 @@ module _ {S : Type 0} (kind : Kind S) (tells : Bool) (start : Start S) where
   sticks_told state outputs so_far width told leads = λ is.
       let lead = leads is in (
         said_more so_far lead.0,
-        lead.2,
         more_fronts state.outputs start.names so_far lead.0
             (lead.1 ∙ sym width ∙ told_names tells state.outputs start.base_out start.names outputs so_far told)
             (AreTold-fronts tells state.outputs start.base_out start.names outputs so_far is told),
+        inl lead.2,
       )
 
+  -- and not all of it, if something is left to write
+  pub sticks_left : (state : State) (least : ℕ) (before outputs : List Sink) (so_far : List (List ℕ)) → length outputs ≡ kind.width start.begun
+      → LeavesSome least before outputs → length before ≡ length outputs → AreTold tells state.outputs start.base_out start.names outputs so_far
+      → (IsTrue tells → Leads kind start.begun start.contents so_far ⊎ kind.sealed start.begun start.contents so_far) → Sticks kind tells start state.outputs
+  sticks_left state least before outputs so_far width left same told leads = λ is. elim (leads is) [
+    | inl lead ↦ sticks_told state outputs so_far width told (λ told. lead) is
+    | inr sealed ↦ (
+      so_far,
+      AreTold-fronts tells state.outputs start.base_out start.names outputs so_far is told,
+      inr (sealed, not_held tells state.outputs start.base_out start.names outputs so_far is told left.place (omega (arith, left.inside, same)) left.left),
+    )
+  ]
+
   leads_of : (lawful : Lawful kind) (inputs : Reading) (stage : S) (seen : Seen) (so_far : List (List ℕ)) → IsFedSo kind tells start inputs seen
-      → kind.stands start.begun seen so_far stage → IsTrue tells → Leads kind start.begun start.contents so_far
+      → kind.stands start.begun seen so_far stage → IsTrue tells → Leads kind start.begun start.contents so_far ⊎ kind.sealed start.begun start.contents so_far
   leads_of lawful inputs stage seen so_far fed stands told =
       lawful.begins start.begun seen so_far stage start.contents (fed_covers inputs seen told fed) stands
 
   -- so in the middle
-  pub streams_sticks : (lawful : Lawful kind) (cut : Bool) (state : State) (stage : S) (outputs : List Sink) → length outputs ≡ kind.width start.begun
+  pub streams_sticks : (cut : Bool) (state : State) (stage : S) (outputs : List Sink) → length outputs ≡ kind.width start.begun → Leading kind stage
       → Streams kind tells start cut state stage outputs → Sticks kind tells start state.outputs
-  streams_sticks lawful cut state stage outputs width streams =
-      sticks_told state outputs streams.so_far width streams.told (leads_of lawful state.inputs stage streams.seen streams.so_far streams.fed streams.stands)
+  streams_sticks cut state stage outputs width leading streams = sticks_told state outputs streams.so_far width streams.told
+      (λ told. leading start.begun streams.seen streams.so_far start.contents (fed_covers state.inputs streams.seen told streams.fed) streams.stands)
+
+  -- what could not all be written
+  pub streams_left : (lawful : Lawful kind) (cut : Bool) (state : State) (stage : S) (least : ℕ) (before outputs : List Sink) → length outputs ≡ kind.width start.begun
+      → LeavesSome least before outputs → length before ≡ length outputs → Streams kind tells start cut state stage outputs → Sticks kind tells start state.outputs
+  streams_left lawful cut state stage least before outputs width left same streams = sticks_left state least before outputs streams.so_far width left same streams.told
+      (leads_of lawful state.inputs stage streams.seen streams.so_far streams.fed streams.stands)
 
   -- all is said
   pub streams_ends : (lawful : Lawful kind) (cut : Bool) (state : State) (old new : S) (before after : List Sink) → Ends kind old new before after
@@ -371,14 +409,14 @@ module _ {S : Type 0} (kind : Kind S) (tells : Bool) (start : Start S) where
       let streams = waiting.streams in
       sticks_told new outputs streams.so_far width
       (told_touched tells base x old new start.base_out start.names outputs streams.so_far touches streams.told)
-      (leads_of lawful old.inputs stage streams.seen streams.so_far streams.fed streams.stands)
+      (λ told. lawful.waits stage input waiting.waits start.begun streams.seen streams.so_far start.contents (fed_covers old.inputs streams.seen told streams.fed) streams.stands)
 
 -- what waited could not all be written
 pub late_sticks : {S : Type 0} (kind : Kind S) (tells : Bool) (start : Start S) (lawful : Lawful kind) (old new : State) (x : Failing) (stage : S) (before after : List Sink) (input : ℕ)
     → length after ≡ kind.width start.begun → KeepsTold tells old.outputs new.outputs before after → Touches tells (writes_from start.base_out) x old new
     → IsWaiting kind tells start false old stage before input → Sticks kind tells start new.outputs
 late_sticks kind tells start lawful old new x stage before after input width says touches waiting =
-    streams_sticks kind tells start lawful false new stage after width
+    streams_sticks kind tells start false new stage after width (lawful.waits stage input waiting.waits)
     (streams_written kind tells start false old new x stage before after says touches waiting.streams)
 
 -- a piece was read of an input

@@ -180,6 +180,8 @@ module _ {C : Type 0} (does : Converts C) where
     stands = λ begun seen so_far now. StandsIn now.phase begun.converter seen so_far now;
     texts = λ begun now how contents. does.texts begun.converter now.converter how (contents 0);
     firsts = λ begun contents. does.firsts begun.converter (contents 0);
+    sealed = λ begun contents so. ⊥;
+    parts = λ begun contents. does.firsts begun.converter (contents 0);
     drains = λ now. does.drains now.converter;
     marks = λ now ended. ⊤;
     waits = IsShort;

@@ -1,8 +1,8 @@
 -- The laws of a converter as a stage. They stand among the definitions, since a ghost member of an `impl` cites specs/ alone.
 use Rattle.std.specs.Prelude.{◌≡◌, ℕ, Bool, true, false, refl, List}
-use Rattle.std.proofs.Common.{sym, subst, arith}
+use Rattle.std.proofs.Common.{sym, subst, inl, arith}
 use Rattle.ioam_desk_outputs.specs.Told.{said_more}
-use Rattle.ioam_stream.specs.Stage.{Lawful, Seen, Covers, How, Ended, Handed}
+use Rattle.ioam_stream.specs.Stage.{Lawful, Leading, Seen, Covers, How, Ended, Handed}
 use Rattle.ioam_stream.specs.Conversion.{Converts, Sound, LeadsTo, SaysSo, StandsIn, kind}
 use Rattle.ioam_stream.specs.declared.conversion.Conversion.{Conversion}
 use Rattle.ioam_stream.specs.declared.conversion.Phase.{Phase}
@@ -35,9 +35,15 @@ module _ {C : Type 0} (does : Converts C) (sound : Sound does) where
   begins_in phase.Closed begun seen so_far now contents covers says =
       leads_by _ _ begun seen so_far contents (λ how octets. sound.ended begun now.converter how octets so_far) covers says seen.cut refl
 
+  abbrev pub leading : (now : Conversion C) → Leading (kind does) now
+  leading now begun seen so_far contents covers stands = begins_in now.phase begun.converter seen so_far now contents covers stands
+
   abbrev pub lawful : Lawful (kind does)
   lawful = record {
-    begins = λ begun seen so_far now contents covers stands. begins_in now.phase begun.converter seen so_far now contents covers stands;
+    begins = λ begun seen so_far now contents covers stands. inl (leading now begun seen so_far contents covers stands);
+    waits = λ now input waits. leading now;
     none = λ begun contents fresh. sound.none begun.converter (contents 0) fresh.fresh;
+    parts = λ begun contents so firsts. firsts;
+    sealed = λ begun contents so never. absurd never;
     width = λ begun seen so_far now stands. refl;
   }

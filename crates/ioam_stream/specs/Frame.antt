@@ -78,6 +78,18 @@ module _ (tells : Bool) (ins outs : List (List ℕ)) (old new : State) where
     Leaves stop.WriteFault = AllOpen × HoldSome
     Leaves stop.NoMemory = (new.outputs ≡ old.outputs) ⊎ (AllOpen × HoldSome)
 
+module _ (tells : Bool) (ins outs : List (List ℕ)) (old new : State) (Sealed Parts : (ℕ → List ℕ) → List (List ℕ) → Type 0) where
+  -- each output that was opened holds a prefix of its text of some first items, and not all do where these texts are sealed
+  abbrev pub HoldLess : Type 0
+  HoldLess = (so : List (List ℕ)) × HoldFronts old.outputs new.outputs 0 outs so
+      × (Parts (contents tells ins outs old new) so ⊎ (Sealed (contents tells ins outs old new) so × (HoldTexts new.outputs outs so → ⊥)))
+
+  -- sealed texts are held only if an end is answered
+  abbrev pub Unsealed : Stop → Type 0
+  Unsealed stop.WriteFault = HoldLess
+  Unsealed stop.NoMemory = (new.outputs ≡ old.outputs) ⊎ HoldLess
+  Unsealed _ = ⊤
+
 -- the answer leaves the outputs as they are
 abbrev pub IsBroken : Stop → Type 0
 IsBroken stop.WriteFault = ⊤

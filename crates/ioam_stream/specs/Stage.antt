@@ -1,5 +1,5 @@
 -- What a stage is handed, and what it makes of it.
-use Rattle.std.specs.Prelude.{◌≡◌, ◌≢◌, ℕ, ◌<◌, Bool, true, false, IsTrue, List, [], ◌++◌, length}
+use Rattle.std.specs.Prelude.{◌≡◌, ◌≢◌, ℕ, ◌<◌, ◌⊎◌, Bool, true, false, IsTrue, List, [], ◌++◌, length}
 use Rattle.ioam_base.specs.Octets.{IsFront}
 use Rattle.ioam_desk_outputs.specs.Told.{Adds, said_more}
 use Rattle.ioam_desk_outputs.specs.declared.output.Output.{Output}
@@ -49,7 +49,7 @@ pub record Covers (inputs : ℕ) (seen : Seen) (contents : ℕ → List ℕ) : T
 -- What a stage is: how many inputs it reads and to how many outputs it says texts, which stays so while it runs; when
 -- nothing was taken yet; that the stage that began as the first, now the second, was handed this and has said these texts;
 -- which texts are said of octets from the first stage to the second, when all is said; which texts are those of some first
--- items; when the stage has taken its inputs to their ends; which of them it knows to have ended, after a read that failed;
+-- items, either with something that comes only before an end is answered, or without it; when the stage has taken its inputs to their ends; which of them it knows to have ended, after a read that failed;
 -- which input it needs more of; how much it still holds, and may still be fed.
 pub record Kind (S : Type 0) : Type 1 where
   pub inputs : S → ℕ
@@ -58,6 +58,8 @@ pub record Kind (S : Type 0) : Type 1 where
   pub stands : S → Seen → List (List ℕ) → S → Type 0
   pub texts : S → S → How → (ℕ → List ℕ) → List (List ℕ) → Type 0
   pub firsts : S → (ℕ → List ℕ) → List (List ℕ) → Type 0
+  pub sealed : S → (ℕ → List ℕ) → List (List ℕ) → Type 0
+  pub parts : S → (ℕ → List ℕ) → List (List ℕ) → Type 0
   pub drains : S → Type 0
   pub marks : S → (ℕ → Bool) → Type 0
   pub waits : S → ℕ → Type 0
@@ -67,14 +69,22 @@ pub record Kind (S : Type 0) : Type 1 where
 module _ {S : Type 0} (kind : Kind S) where
   -- with more after them, these are the texts of some first items
   abbrev pub Leads : S → (ℕ → List ℕ) → List (List ℕ) → Type 0
-  Leads begun contents so_far = (rest : List (List ℕ)) × (length rest ≡ kind.width begun) × kind.firsts begun contents (said_more so_far rest)
+  Leads begun contents so_far = (rest : List (List ℕ)) × (length rest ≡ kind.width begun) × kind.parts begun contents (said_more so_far rest)
 
-  -- what was said leads to texts of some first items; there are texts of none; the outputs stay as many
+  -- so does whatever the stage has said
+  abbrev pub Leading : S → Type 0
+  Leading stage = (begun : S) (seen : Seen) (so_far : List (List ℕ)) (contents : ℕ → List ℕ) → Covers (kind.inputs begun) seen contents
+      → kind.stands begun seen so_far stage → Leads begun contents so_far
+
+  -- what was said leads to texts of some first items, unless it is sealed; there are texts of none; the outputs stay as many
   pub record Lawful : Type 0 where
     pub begins : (begun : S) (seen : Seen) (so_far : List (List ℕ)) (stage : S) (contents : ℕ → List ℕ)
-        → Covers (kind.inputs begun) seen contents → kind.stands begun seen so_far stage → Leads begun contents so_far
+        → Covers (kind.inputs begun) seen contents → kind.stands begun seen so_far stage → Leads begun contents so_far ⊎ kind.sealed begun contents so_far
+    pub waits : (stage : S) (input : ℕ) → kind.waits stage input → Leading stage
     pub none : (begun : S) (contents : ℕ → List ℕ) → kind.fresh begun
-        → (so : List (List ℕ)) × (length so ≡ kind.width begun) × kind.firsts begun contents so
+        → (so : List (List ℕ)) × (length so ≡ kind.width begun) × kind.parts begun contents so
+    pub parts : (begun : S) (contents : ℕ → List ℕ) (so : List (List ℕ)) → kind.parts begun contents so → kind.firsts begun contents so
+    pub sealed : (begun : S) (contents : ℕ → List ℕ) (so : List (List ℕ)) → kind.sealed begun contents so → kind.firsts begun contents so
     pub width : (begun : S) (seen : Seen) (so_far : List (List ℕ)) (stage : S) → kind.stands begun seen so_far stage → kind.width stage ≡ kind.width begun
 
   -- the stage stands for something

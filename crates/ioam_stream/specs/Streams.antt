@@ -1,5 +1,5 @@
 -- A stage that is handed pieces of its inputs while its texts are written.
-use Rattle.std.specs.Prelude.{◌≡◌, ◌≢◌, ℕ, ◌+◌, ◌<◌, ◌≤◌, ⊤, Bool, true, false, IsTrue, List, [], ◌++◌}
+use Rattle.std.specs.Prelude.{◌≡◌, ◌≢◌, ℕ, ◌+◌, ◌<◌, ◌≤◌, ◌⊎◌, ⊤, Bool, true, false, IsTrue, List, [], ◌++◌}
 use Rattle.ioam_desk.specs.Desk.{Reading, Writing}
 use Rattle.ioam_desk.specs.Touches.{State, Footprint, Failing, Quiet, Read, Output, Late}
 use Rattle.ioam_desk_outputs.specs.Held.{HoldAllFronts, HoldTexts}
@@ -77,7 +77,7 @@ module _ {S : Type 0} (kind : Kind S) (tells : Bool) (start : Start S) where
     pub so_far : List (List ℕ)
     pub told : AreTold tells state.outputs start.base_out start.names outputs so_far
     pub says : IsTrue tells → kind.texts start.begun stage how octets so_far
-    pub leads : IsTrue tells → Leads kind start.begun start.contents so_far
+    pub leads : IsTrue tells → Leads kind start.begun start.contents so_far ⊎ kind.sealed start.begun start.contents so_far
 
   -- where the stage has taken its inputs to their ends, they were read to their ends
   abbrev pub Drains : State → S → Type 0
@@ -110,9 +110,10 @@ module _ {S : Type 0} (kind : Kind S) (tells : Bool) (start : Start S) where
   Refills input old new before after piece.ReadFault = (after ≡ before) × (new.left ≡ old.left) × (new.ended ≡ old.ended)
   Refills input old new before after piece.NoMemory = ⊤
 
-  -- each output holds a prefix of its text of some first items
+  -- each output holds a prefix of its text of some first items, and not all do where these texts are sealed
   abbrev pub Sticks : Writing → Type 0
-  Sticks desk = IsTrue tells → (so : List (List ℕ)) × kind.firsts start.begun start.contents so × HoldAllFronts desk start.names so
+  Sticks desk = IsTrue tells → (so : List (List ℕ)) × HoldAllFronts desk start.names so
+      × (kind.parts start.begun start.contents so ⊎ (kind.sealed start.begun start.contents so × (HoldTexts desk start.names so → ⊥)))
 
   -- why reading stopped, and what was said then
   abbrev pub Stops : State → S → List Sink → Stop → Type 0

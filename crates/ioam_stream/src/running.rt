@@ -5,7 +5,7 @@ ghost use Rattle.ioam_desk_outputs.specs.Open.{AreSlots};
 ghost use Rattle.ioam_desk_outputs.specs.Told.{AreTold, GathersNothing, unsaid};
 ghost use Rattle.ioam_stream.specs.Stage.{unseen};
 ghost use Rattle.ioam_stream.specs.Streams.{Start, IsFedSo, Finishes, ReadsNone, failing, streams_from};
-ghost use Rattle.ioam_stream.specs.Frame.{Frame, IsBroken, Leaves, Marked, contents};
+ghost use Rattle.ioam_stream.specs.Frame.{Frame, IsBroken, Leaves, Marked, Unsealed, contents};
 ghost use Rattle.ioam_desk_outputs.specs.Names.{AreApart};
 
 use crate::reading::{Stop, read_on};
@@ -71,6 +71,7 @@ pub fn run<S: Stage, D: Desk>(
     requires fresh { S.kind.fresh stage.old }
     ensures frame { Frame D.tells inputs.now outputs.now (state (D.reading desk.old) (D.writing desk.old)) (state (D.reading desk.new) (D.writing desk.new)) (S.kind.drains stage.new) result }
     ensures leaves { IsTrue D.tells → Leaves D.tells inputs.now outputs.now (state (D.reading desk.old) (D.writing desk.old)) (state (D.reading desk.new) (D.writing desk.new)) (S.kind.texts stage.old stage.new) (S.kind.firsts stage.old) result }
+    ensures sealed { IsTrue D.tells → Unsealed D.tells inputs.now outputs.now (state (D.reading desk.old) (D.writing desk.old)) (state (D.reading desk.new) (D.writing desk.new)) (S.kind.sealed stage.old) (S.kind.parts stage.old) result }
     ensures marks { IsTrue D.tells → Marked D.tells inputs.now outputs.now (state (D.reading desk.old) (D.writing desk.old)) (state (D.reading desk.new) (D.writing desk.new)) (S.kind.marks stage.new) result }
     ensures alone { length inputs.now ≡ 0 → ReadsNone (D.reading desk.old) (D.reading desk.new) result }
 {
@@ -99,6 +100,7 @@ fn run_begun<S: Stage, D: Desk>(
     } }
     ensures frame { Frame D.tells inputs.now outputs.now (state (D.reading desk.old) (D.writing desk.old)) (state (D.reading desk.new) (D.writing desk.new)) (S.kind.drains stage.new) result }
     ensures leaves { IsTrue D.tells → Leaves D.tells inputs.now outputs.now (state (D.reading desk.old) (D.writing desk.old)) (state (D.reading desk.new) (D.writing desk.new)) (S.kind.texts stage.old stage.new) (S.kind.firsts stage.old) result }
+    ensures sealed { IsTrue D.tells → Unsealed D.tells inputs.now outputs.now (state (D.reading desk.old) (D.writing desk.old)) (state (D.reading desk.new) (D.writing desk.new)) (S.kind.sealed stage.old) (S.kind.parts stage.old) result }
     ensures marks { IsTrue D.tells → Marked D.tells inputs.now outputs.now (state (D.reading desk.old) (D.writing desk.old)) (state (D.reading desk.new) (D.writing desk.new)) (S.kind.marks stage.new) result }
     ensures alone { length inputs.now ≡ 0 → ReadsNone (D.reading desk.old) (D.reading desk.new) result }
 {

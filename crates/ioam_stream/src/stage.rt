@@ -1,7 +1,7 @@
 //! What a command makes of the octets of its inputs.
-ghost use Rattle.std.specs.Prelude.{◌≡◌, ◌<◌, ◌≤◌, OnOk, IfOk, length};
+ghost use Rattle.std.specs.Prelude.{◌≡◌, ◌<◌, ◌≤◌, OnErr, OnOk, IfOk, length};
 ghost use Rattle.ioam_desk_outputs.specs.Told.{GathersFew, GathersNothing};
-ghost use Rattle.ioam_stream.specs.Stage.{Kind, Lawful, Standing, Begins, Steps, Feeds, Keeps, IsFed, IsEnded, IsCut};
+ghost use Rattle.ioam_stream.specs.Stage.{Kind, Lawful, Leading, Standing, Begins, Steps, Feeds, Keeps, IsFed, IsEnded, IsCut};
 
 use ioam_base::memory::NoMemory;
 use ioam_desk_outputs::Output;
@@ -39,7 +39,9 @@ pub trait Stage: Drop {
         requires width { length outputs.old ≡ kind.width self.old }
         requires few { GathersFew outputs.old }
         requires stands { Standing kind self.old }
-        ensures { IfOk result (Steps kind self.old self.new outputs.old outputs.new) };
+        ensures steps { IfOk result (Steps kind self.old self.new outputs.old outputs.new) }
+        // Something comes after what was said.
+        ensures leads { OnErr result (Leading kind self.old) };
 
     /// Takes a piece, at most 65,536 octets, of the input that the stage waits for.
     fn feed(&mut self, input: usize, octets: &[u8]) -> Result<(), NoMemory>

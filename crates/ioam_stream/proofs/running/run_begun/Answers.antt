@@ -11,7 +11,7 @@ use Rattle.ioam_desk_outputs.specs.declared.output.Output.{Output as Sink}
 use Rattle.ioam_desk_outputs.proofs.ToldLaws.{told_names}
 use Rattle.ioam_stream.specs.Stage.{unseen}
 use Rattle.ioam_stream.specs.Streams.{Start, IsFedSo, Finishes, failing, streams_from}
-use Rattle.ioam_stream.proofs.FrameLaws.{within_ins, frame_none, frame_ins, frame_outs, frame_ran, finishes_leaves, drained_of, unopened_some, opened_unseen, opened_both, marked_of, no_read, no_write, no_memory, no_fault, no_unread}
+use Rattle.ioam_stream.proofs.FrameLaws.{within_ins, frame_none, frame_ins, frame_outs, frame_ran, finishes_leaves, drained_of, unopened_less, unopened_some, unsealed_of, opened_unseen, opened_both, marked_of, no_read, no_write, no_memory, no_fault, no_unread}
 use Rattle.ioam_stream.proofs.running.run_begun.Goals as goal
 
 pub returns-in_default-clause-frame : goal.returns-in_default-clause-frame
@@ -47,7 +47,7 @@ returns-in-Err-Failed-open_outputs-clause-leaves g c = λ told. (
 pub returns-in-Ok-open_outputs-clause-leaves : goal.returns-in-Ok-open_outputs-clause-leaves
 returns-in-Ok-open_outputs-clause-leaves g c = λ told.
     let new = state (g.D.Desk.reading c.run_open.new.desk) (g.D.Desk.writing c.run_open.new.desk) in
-    finishes_leaves g.S.Stage.kind g.D.Desk.tells c.args.inputs.now c.args.outputs.now (state (g.D.Desk.reading c.args.desk.now) (g.D.Desk.writing c.args.desk.now)) new c.args.stage.now c.run_open.new.stage c.run_open.result
+    finishes_leaves g.S.Stage.kind g.D.Desk.tells c.args.inputs.now c.args.outputs.now g.met.S.Stage.lawful (state (g.D.Desk.reading c.args.desk.now) (g.D.Desk.writing c.args.desk.now)) new c.args.stage.now c.run_open.new.stage c.run_open.result
     c.requires.1.1.1.0
     (omega (
       arith,
@@ -178,3 +178,24 @@ returns-in-Ok-open_outputs-clause-alone g c = λ none.
     let starts = c.requires.1.1.1.1.1.1 in
     let ran = c.run_open.ensures.alone (ap (λ (s : Start _). g.S.Stage.kind.inputs s.begun) starts ∙ sym c.requires.1.1.1.0 ∙ none) in
     (ran.0 ∙ c.in-Ok-open_outputs.ensures.inputs ∙ c.in-Ok-open_inputs.ensures.none none, ran.1)
+
+pub returns-in-Ok-open_outputs-clause-sealed : goal.returns-in-Ok-open_outputs-clause-sealed
+returns-in-Ok-open_outputs-clause-sealed g c = λ told.
+    let new = state (g.D.Desk.reading c.run_open.new.desk) (g.D.Desk.writing c.run_open.new.desk) in
+    unsealed_of g.S.Stage.kind g.D.Desk.tells c.args.inputs.now c.args.outputs.now (state (g.D.Desk.reading c.args.desk.now) (g.D.Desk.writing c.args.desk.now)) new c.args.stage.now c.run_open.new.stage c.run_open.result
+    told (let P : Start _ → Type 0 = λ s. Finishes g.S.Stage.kind g.D.Desk.tells s new c.run_open.new.stage c.run_open.result in subst P c.requires.1.1.1.1.1.1 c.run_open.ensures.finishes)
+
+pub returns-in-Err-Failed-open_outputs-clause-sealed : goal.returns-in-Err-Failed-open_outputs-clause-sealed
+returns-in-Err-Failed-open_outputs-clause-sealed g c = λ told.
+    unopened_less g.S.Stage.kind g.D.Desk.tells c.args.inputs.now c.args.outputs.now g.met.S.Stage.lawful (state (g.D.Desk.reading c.args.desk.now) (g.D.Desk.writing c.args.desk.now)) (state (g.D.Desk.reading c.open_outputs.new.desk) (g.D.Desk.writing c.open_outputs.new.desk)) c.args.stage.now
+    c.requires.1.1.1.1.1.0 c.requires.1.1.1.1.0
+    (subst (λ (w : Writing). (texts : List (List ℕ)) → length texts ≡ length c.args.outputs.now → HoldFronts w (g.D.Desk.writing c.open_outputs.new.desk) 0 c.args.outputs.now texts)
+    c.in-Ok-open_inputs.ensures.outputs (c.in-Err-Failed-open_outputs.ensures.fault.1 told))
+
+pub returns-clause-sealed : goal.returns-clause-sealed
+returns-clause-sealed g c = λ told. inr (
+  unopened_less g.S.Stage.kind g.D.Desk.tells c.args.inputs.now c.args.outputs.now g.met.S.Stage.lawful (state (g.D.Desk.reading c.args.desk.now) (g.D.Desk.writing c.args.desk.now)) (state (g.D.Desk.reading c.open_outputs.new.desk) (g.D.Desk.writing c.open_outputs.new.desk)) c.args.stage.now
+      c.requires.1.1.1.1.1.0 c.requires.1.1.1.1.0
+      (subst (λ (w : Writing). (texts : List (List ℕ)) → length texts ≡ length c.args.outputs.now → HoldFronts w (g.D.Desk.writing c.open_outputs.new.desk) 0 c.args.outputs.now texts)
+      c.in-Ok-open_inputs.ensures.outputs (c.in-Err-NoMemory-open_outputs.ensures.fault.1 told))
+)

@@ -61,7 +61,7 @@ returns-in-Ok-finish-clause-touches g c =
 pub returns-in-Err-Failed-clause-finishes : goal.returns-in-Err-Failed-clause-finishes
 returns-in-Err-Failed-clause-finishes g c = stops_sticks g.S.Stage.kind g.D.Desk.tells g.start (state (g.D.Desk.reading c.read_on-answer.new.desk) (g.D.Desk.writing c.read_on-answer.new.desk)) (state (g.D.Desk.reading c.finish.new.desk) (g.D.Desk.writing c.finish.new.desk))
     c.read_on-answer.new.stage c.read_on-answer.new.outputs c.finish.new.outputs c.read_on-answer.result
-    (omega (arith, c.requires.1.1.1.1.1.0, c.begin.auto.outputs, c.read_on-answer.auto.outputs, c.finish.auto.outputs))
+    (omega (arith, c.requires.1.1.1.1.1.0, c.begin.auto.outputs, c.read_on-answer.auto.outputs, c.finish.auto.outputs)) c.in-Err-Failed.ensures.left (omega (arith, c.finish.auto.outputs))
     c.read_on-answer.ensures.stops (λ broken. false≢true (c.if-is_broken.ensures.1 broken)) c.finish.ensures.told
 
 pub returns-in-Err-Failed-clause-touches : goal.returns-in-Err-Failed-clause-touches
@@ -75,7 +75,7 @@ returns-in-Err-Failed-clause-touches g c =
 pub returns-in-Err-NoMemory-clause-finishes : goal.returns-in-Err-NoMemory-clause-finishes
 returns-in-Err-NoMemory-clause-finishes g c = stops_sticks g.S.Stage.kind g.D.Desk.tells g.start (state (g.D.Desk.reading c.read_on-answer.new.desk) (g.D.Desk.writing c.read_on-answer.new.desk)) (state (g.D.Desk.reading c.finish.new.desk) (g.D.Desk.writing c.finish.new.desk))
     c.read_on-answer.new.stage c.read_on-answer.new.outputs c.finish.new.outputs c.read_on-answer.result
-    (omega (arith, c.requires.1.1.1.1.1.0, c.begin.auto.outputs, c.read_on-answer.auto.outputs, c.finish.auto.outputs))
+    (omega (arith, c.requires.1.1.1.1.1.0, c.begin.auto.outputs, c.read_on-answer.auto.outputs, c.finish.auto.outputs)) c.in-Err-NoMemory.ensures.left (omega (arith, c.finish.auto.outputs))
     c.read_on-answer.ensures.stops (λ broken. false≢true (c.if-is_broken.ensures.1 broken)) c.finish.ensures.told
 
 pub returns-in-Err-NoMemory-clause-touches : goal.returns-in-Err-NoMemory-clause-touches
