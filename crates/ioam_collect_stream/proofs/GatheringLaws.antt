@@ -1,14 +1,12 @@
 -- Laws of export records that are read in pieces and regrouped.
-use Rattle.std.proofs.Common.{◌≡◌, ℕ, ◌+◌, ◌*◌, ◌<◌, ◌≤◌, Bool, true, false, IsTrue, List, [], ◌∷◌, ◌++◌, length, length-append, Option, Some, refl, sym, ap, ◌∙◌, subst, arith, inl, inr}
-use Rattle.std.specs.Prelude.{IsSomeAnd, All, Ok}
+use Rattle.std.proofs.Common.{◌≡◌, ℕ, ◌+◌, ◌*◌, ◌<◌, ◌≤◌, Bool, true, false, List, [], ◌∷◌, ◌++◌, length, length-append, refl, sym, ap, ◌∙◌, subst, arith, inl, inr}
 use Rattle.std.specs.List.{AllByRecursion}
 use Rattle.std.proofs.lemmas.Bool.Decides.{nat_tests}
 use Rattle.std.proofs.lemmas.List.Elements.{recursion_from_All}
-use Rattle.ioam_desk.specs.Desk as desk
 use Rattle.ioam_dex.specs.Record.{Record, IsRecord, record_octets}
 use Rattle.ioam_dex.specs.Visit.{has_visit, twelve_where}
 use Rattle.ioam_dex.specs.Faults.{IsCut}
-use Rattle.ioam_dex.specs.Reads.{records_octets, Reads}
+use Rattle.ioam_dex.specs.Reads.{records_octets}
 use Rattle.ioam_dex.specs.Reading.{Reading}
 use Rattle.ioam_dex.specs.Reader.{Stands, Waits, fed}
 use Rattle.ioam_dex.proofs.RecordLaws.{numbers_size-small, record_octets-length, record_size-small}
@@ -19,16 +17,7 @@ use Rattle.ioam_collect.specs.Joining.{is_full}
 use Rattle.ioam_collect.proofs.CountLaws.{full_count, fits_count, held_within}
 use Rattle.ioam_collect.specs.declared.growing.Added.{Added}
 use Rattle.ioam_collect.specs.declared.growing.Added.TheVariants.{Kept, Replaced, Repeat, Unkeyed, Full}
-use Rattle.ioam_dex.proofs.ReadsLaws.{Splits-feed}
-use Rattle.std.proofs.lemmas.List.{append-nil}
-use Rattle.ioam_collect_stream.specs.declared.step.Pause.{Pause}
-use Rattle.ioam_collect_stream.specs.declared.step.Pause.TheVariants as pause
-use Rattle.ioam_dex.specs.Reads.{Ending}
-use Rattle.ioam_collect_stream.specs.Feed.{Fed, FeedsPiece, FindsEnd, Refills}
-use Rattle.std.specs.Prelude.{Result, Err}
-use Rattle.ioam_desk.specs.declared.fault.DeskFault.{DeskFault}
-use Rattle.ioam_desk.specs.declared.fault.DeskFault.TheVariants.{Failed, NoMemory}
-use Rattle.ioam_collect_stream.specs.Gathering.{AreFew, Gathers, IsLimit, IsPast, SaysLimit, Steps, Pauses, Passes, AreWhole, ReadsOne}
+use Rattle.ioam_collect_stream.specs.Gathering.{AreFew, Gathers, IsPast, SaysLimit}
 
 twelve_small : (there : Bool) → twelve_where there ≤ 12
 twelve_small true = omega arith
@@ -48,7 +37,7 @@ cut_few octets (inr (inr sized)) =
 pub Waits-few : (reader : Reading) → Waits reader → length reader.pending < 274
 Waits-few reader waits = cut_few reader.pending waits
 
-octets_few : (records : List Record) → AllByRecursion IsRecord records → length (records_octets records) ≤ 274 * length records
+pub octets_few : (records : List Record) → AllByRecursion IsRecord records → length (records_octets records) ≤ 274 * length records
 octets_few [] all = omega arith
 octets_few (x ∷ records) all =
     let more = octets_few records all.1 in
@@ -126,17 +115,6 @@ pub past_held : (old new : Reading) (before : Collected) (x : Record)
 past_held old new before x given full octets records g =
     (x, given octets records g.stands, inl (refl, past_of before records x g.stands_for g.limit full))
 
-pub one_limit : (limit : ℕ) (records : List Record) (x : Record) → IsPast limit records x → IsLimit limit
-one_limit limit records x (inl past) = inl past.0
-one_limit limit records x (inr past) = inr past.0
-
--- what is known of the octets handed out is known of what the name holds
-pub of_content : (tells : Bool) (content : Option (List ℕ)) (inputs : desk.Reading) (slot : ℕ) (reader : Reading) (octets : List ℕ) (records : List Record)
-    (P : List ℕ → Type 0) → Fed tells content inputs slot reader octets records → ((rest : List ℕ) → P (octets ++ rest)) → IsTrue tells → IsSomeAnd content P
-of_content tells content inputs slot reader octets records P fed all told =
-    let Q : Option (List ℕ) → Type 0 = λ o. IsSomeAnd o P in
-    subst Q (sym (fed.held told)) (all (inputs.left slot))
-
 -- behind another answer than Full the collector stands for one record more
 pub leaves_more : (added : Added) (before after : Collected) (x : Record) → (added ≡ Full → ⊥) → Leaves added before x after
     → (xs : List Record) → collected.Stands before xs → collected.Stands after (xs ++ x ∷ [])
@@ -155,79 +133,3 @@ full_is Unkeyed is = absurd (cc is)
 
 pub full_not : (added : Added) → is_full added ≡ false → added ≡ Full → ⊥
 full_not added isnt same = let is : is_full added ≡ true = ap is_full same in absurd (cc (isnt, is))
-
--- what stopped the taking of records
-pub pauses_step : (old new : Reading) (before after : Collected) (p : Pause) → Steps old new before after (Some p)
-    → (octets : List ℕ) (records : List Record) → Gathers octets records old before → Pauses octets new after p
-pauses_step old new before after pause.More steps octets records g = (records, rw (steps.0, steps.1) g, rw steps.0 steps.2)
-pauses_step old new before after (pause.Bad at fault) steps octets records g = (records, rw (steps.0, steps.1) g, steps.2 octets records g.stands)
-pauses_step old new before after (pause.Limit limit) steps octets records g =
-    let past = steps.1 octets records g in
-    (records, rw steps.0 g.stands_for, g.few, (past.0, past.1, past.2))
-
--- ---- no other input slot is read
-
-pub ReadsOne-same : (slot : ℕ) (old : desk.Reading) → ReadsOne slot old old
-ReadsOne-same slot old = ((λ k other. refl), (λ k other. refl))
-
-refills_one : (tells : Bool) (old new : desk.Reading) (slot most : ℕ) (reader now : Reading) (result : Result Bool DeskFault)
-    → Refills tells old slot most reader result new now → ReadsOne slot old new
-refills_one tells old new slot most reader now (Ok true) refills = (refills.gives.other_left, refills.gives.other_ended)
-refills_one tells old new slot most reader now (Ok false) refills = (refills.gives.other_left, refills.gives.other_ended)
-refills_one tells old new slot most reader now (Err Failed) refills =
-    ((λ k other. ap (λ (left : ℕ → List ℕ). left k) refills.left), (λ k other. ap (λ (ended : ℕ → Bool). ended k) refills.ended))
-refills_one tells old new slot most reader now (Err NoMemory) refills = (refills.other_left, refills.other_ended)
-
-pub ReadsOne-more : (tells : Bool) (slot other most : ℕ) (first old new : desk.Reading) (reader now : Reading) (result : Result Bool DeskFault)
-    → ReadsOne slot first old → other ≡ slot → Refills tells old other most reader result new now → ReadsOne slot first new
-ReadsOne-more tells slot other most first old new reader now result before is refills =
-    let P : ℕ → Type 0 = λ k. ReadsOne k old new in
-    let more = subst P is (refills_one tells old new other most reader now result refills) in
-    ((λ k apart. more.0 k apart ∙ before.0 k apart), (λ k apart. more.1 k apart ∙ before.1 k apart))
-
-module _ (tells : Bool) (content : Option (List ℕ)) (inputs : desk.Reading) (slot : ℕ) (reader now : Reading) (octets : List ℕ) (records others : List Record)
-    (collector : Collected) (fed : Fed tells content inputs slot reader octets records) where
-  pub stepped : Stands now octets others → Fed tells content inputs slot now octets others
-  stepped stands = record { stands = stands; is_open = fed.is_open; held = fed.held }
-
-  -- a piece more was fed
-  pub fed_on : (new : desk.Reading) (most : ℕ) (next : Reading) → Gathers octets others now collector → FeedsPiece tells inputs slot most now new next
-      → (o : List ℕ) × (r : List Record) × Fed tells content new slot next o r × Gathers o r next collector
-  fed_on new most next g feeds =
-      let more = feeds.kept content octets others (stepped g.stands) in
-      (octets ++ feeds.piece, others, more, record { stands = more.stands; stands_for = g.stands_for; few = g.few; limit = g.limit })
-
-  pub whole_is : IsTrue tells → inputs.left slot ≡ [] → content ≡ Some octets
-  whole_is told left = fed.held told ∙ ap (λ rest. Some (octets ++ rest)) left ∙ ap Some (append-nil octets)
-
-  -- the records of which one more is too many
-  pub passes : (limit : ℕ) (x : Record) → Stands now octets (others ++ x ∷ []) → IsPast limit others x
-      → IsTrue tells → IsSomeAnd content (Passes limit others)
-  passes limit x stands past = of_content tells content inputs slot reader octets records (Passes limit others) fed (λ rest. record {
-    next = x;
-    rest = now.pending ++ rest;
-    splits = Splits-feed octets rest (others ++ x ∷ []) now.pending stands.splits;
-    past = past;
-  })
-
-  -- the records that are whole in what was handed out
-  pub whole_in : (left : List ℕ) → left ≡ inputs.left slot → Stands now octets others → Waits now → IsTrue tells → IsSomeAnd content (AreWhole left others)
-  whole_in left same stands waits told =
-      let Q : Option (List ℕ) → Type 0 = λ o. IsSomeAnd o (AreWhole left others) in
-      subst Q (sym (fed.held told)) (record {
-        handed = octets;
-        parts = ap (λ rest. octets ++ rest) (sym same);
-        rest = now.pending;
-        splits = stands.splits;
-        cut = waits;
-      })
-
-  -- all that the name holds was read
-  pub whole_of : (new : desk.Reading) (next : Reading) → Gathers octets others now collector → FindsEnd tells inputs slot now new next → (ending : Ending)
-      → ((o : List ℕ) (r : List Record) → Stands next o r → Reads o r ending)
-      → (r : List Record) × collected.Stands collector r × AreFew r × (IsTrue tells → IsSomeAnd content (λ o. Reads o r ending))
-  whole_of new next g ends ending reads =
-      let kept = ends.kept content octets others (stepped g.stands) in
-      let read : Reads octets others ending = reads octets others kept.stands in
-      let Q : Option (List ℕ) → Type 0 = λ o. IsSomeAnd o (λ o. Reads o others ending) in
-      (others, g.stands_for, g.few, λ told. subst Q (sym (kept.held told ∙ ap (λ rest. Some (octets ++ rest)) (ends.left told) ∙ ap Some (append-nil octets))) read)

@@ -1,4 +1,5 @@
 mod GatheringLaws
-mod ReportLaws
+pub mod RecordsLaws
+mod RegroupingLaws
 -- of the crates below, for the crates above
 pub use Rattle.ioam_desk_outputs.proofs.HeldLaws

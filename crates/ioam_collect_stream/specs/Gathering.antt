@@ -11,10 +11,10 @@ use Rattle.ioam_collect.specs.Keyed.{keyed_of}
 use Rattle.ioam_collect.specs.Collected as collected
 use Rattle.ioam_collect.specs.Collected.{Collected, Answers, count_kept}
 use Rattle.ioam_collect.specs.declared.growing.Added.TheVariants.{Full}
+use Rattle.ioam_collect_stream.specs.declared.step.Limit.{Limit}
+use Rattle.ioam_collect_stream.specs.declared.step.Limit.TheVariants as limits
 use Rattle.ioam_collect_stream.specs.declared.step.Pause.{Pause}
 use Rattle.ioam_collect_stream.specs.declared.step.Pause.TheVariants as pause
-use Rattle.ioam_collect_stream.specs.declared.gathering.Halt.{Halt}
-use Rattle.ioam_collect_stream.specs.declared.gathering.Halt.TheVariants as halt
 
 -- the most records that a collector of the program holds: 1,048,576
 abbrev pub most_held : ℕ
@@ -41,6 +41,11 @@ pub record Gathers (octets : List ℕ) (records : List Record) (reader : Reading
 abbrev pub IsLimit : ℕ → Type 0
 IsLimit limit = (limit ≡ most_held) ⊎ (limit ≡ most_records)
 
+-- how many records a limit allows
+abbrev pub most_of : Limit → ℕ
+most_of limits.Held = most_held
+most_of limits.Read = most_records
+
 -- which limit is said of a record where as many were read as may be: that of what is held, where it would be one too many there too
 abbrev pub SaysLimit : Collected → Record → ℕ → Type 0
 SaysLimit collector x limit = ((limit ≡ most_held) × Answers collector (keyed_of x) Full)
@@ -56,19 +61,9 @@ module _ (old new : Reading) (before after : Collected) where
   Steps (Some pause.More) = (new ≡ old) × (after ≡ before) × Waits old
   Steps (Some (pause.Bad at fault)) = (new ≡ old) × (after ≡ before)
       × ((octets : List ℕ) (records : List Record) → Stands old octets records → (more : List ℕ) → Reads (octets ++ more) records (Faulty at fault))
-  Steps (Some (pause.Limit limit)) = (after ≡ before)
+  Steps (Some (pause.Limit limit)) = (length new.pending < length old.pending) × (after ≡ before)
       × ((octets : List ℕ) (records : List Record) → Gathers octets records old before
-      → (x : Record) × Stands new octets (records ++ x ∷ []) × IsPast limit records x)
-
--- what stopped the taking of records, some of which were gathered before
-module _ (octets : List ℕ) (reader : Reading) (collector : Collected) where
-  -- why the taking of records paused, and what was gathered then
-  abbrev pub Pauses : Pause → Type 0
-  Pauses pause.More = (records : List Record) × Gathers octets records reader collector × Waits reader
-  Pauses (pause.Bad at fault) = (records : List Record) × Gathers octets records reader collector
-      × ((more : List ℕ) → Reads (octets ++ more) records (Faulty at fault))
-  Pauses (pause.Limit limit) = (records : List Record) × collected.Stands collector records × AreFew records
-      × ((x : Record) × Stands reader octets (records ++ x ∷ []) × IsPast limit records x)
+      → (x : Record) × Stands new octets (records ++ x ∷ []) × IsPast (most_of limit) records x)
 
 -- the octets are these records, behind which one is too many
 pub record Passes (limit : ℕ) (records : List Record) (octets : List ℕ) : Type 0 where
@@ -88,18 +83,3 @@ pub record AreWhole (left : List ℕ) (records : List Record) (octets : List ℕ
 -- no input slot but this one was read
 abbrev pub ReadsOne : ℕ → desk.Reading → desk.Reading → Type 0
 ReadsOne slot old new = SameBut slot old.left new.left × SameBut slot old.ended new.ended
-
--- the collector stands for some records; where the desk tells, this is what they are of what the name holds
-module _ (tells : Bool) (content : Option (List ℕ)) (slot : ℕ) (old new : desk.Reading) (collector : Collected) where
-  -- the collector stands for some records, no more than may be, which are so of what the name holds
-  abbrev pub Of : (List Record → List ℕ → Type 0) → Type 0
-  Of Are = (records : List Record) × collected.Stands collector records × AreFew records
-      × (IsTrue tells → IsSomeAnd content (Are records))
-
-  -- why reading stopped, and for which records the collector stands then
-  abbrev pub Halts : Halt → Type 0
-  Halts halt.Done = Of (λ records octets. Reads octets records Whole) × (IsTrue tells → IsTrue (new.ended slot))
-  Halts (halt.Exports at fault) = Of (λ records octets. Reads octets records (Faulty at fault))
-  Halts (halt.Records limit) = Of (Passes limit) × IsLimit limit
-  Halts halt.ReadFault = Rose old.side.faults new.side.faults × Of (AreWhole (new.left slot))
-  Halts halt.NoMemory = ⊤

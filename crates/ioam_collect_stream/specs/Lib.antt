@@ -1,5 +1,5 @@
-pub mod Feed
 pub mod Gathering
+pub mod Regrouping
+pub mod Report
 -- of the crates below, for the crates above
 pub use Rattle.ioam_desk_outputs.specs.Names
-pub use Rattle.ioam_report_groups.specs.GroupsText

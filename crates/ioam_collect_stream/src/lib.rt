@@ -1,12 +1,11 @@
-//! Export records that are read in pieces from a desk and regrouped, and the report of their groups.
+//! Export records that are read in pieces and regrouped, as what the machine converts.
 #![tactic(auto)]
 
 mod ahead;
-mod feed;
-mod gathering;
-mod reporting;
+mod regrouping;
+mod report;
 mod step;
 
-pub use feed::{ExportFeed, open_exports};
-pub use gathering::{Halt, gather};
-pub use reporting::write_report;
+pub use regrouping::{Cause, Regrouping, answer};
+pub use report::Report;
+pub use step::Limit;

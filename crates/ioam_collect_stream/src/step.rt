@@ -2,11 +2,32 @@
 ghost use Rattle.std.specs.Prelude.{◌≡◌, IfOk};
 ghost use Rattle.ioam_dex.specs.Reader.{fed};
 ghost use Rattle.ioam_dex.specs.Record.{HasItsParts, record_of};
-ghost use Rattle.ioam_collect_stream.specs.Gathering.{SaysLimit, Steps, most_held};
+ghost use Rattle.ioam_collect_stream.specs.Gathering.{SaysLimit, Steps, most_held, most_of};
 
 use ioam_base::memory::NoMemory;
 use ioam_collect::{Collector, MOST_HELD};
 use ioam_dex::{Export, ExportFault, ExportReader, MOST_RECORDS, Step};
+
+/// What there is another record past.
+#[derive(Clone, Copy)]
+pub enum Limit {
+    /// As many records are held as may be.
+    Held,
+    /// As many were read as may be.
+    Read,
+}
+
+impl Limit {
+    /// How many that are.
+    pub fn records(self) -> u32
+        ensures { result ≡ most_of self }
+    {
+        match self {
+            Limit::Held => MOST_HELD,
+            Limit::Read => MOST_RECORDS,
+        }
+    }
+}
 
 /// Why no record was taken.
 #[derive(Clone, Copy)]
@@ -15,21 +36,21 @@ pub(crate) enum Pause {
     More,
     /// At this place of the input a record is faulty.
     Bad { at: u64, fault: ExportFault },
-    /// As many records were read, or are held, as may be, and there is another.
-    Limit { limit: u32 },
+    /// There is a record past a limit.
+    Limit { limit: Limit },
 }
 
 // Which limit a record passes where as many were read as may be. Where it would be one too many to be
 // held too, that is said.
-fn passed_limit(collector: &mut Collector, export: &Export<'_>) -> u32
+fn passed_limit(collector: &mut Collector, export: &Export<'_>) -> Limit
     requires parts { HasItsParts (record_of export.now) }
-    ensures says { SaysLimit collector.old (record_of export.now) result }
+    ensures says { SaysLimit collector.old (record_of export.now) (most_of result) }
     ensures same { collector.new ≡ collector.old }
 {
     if collector.is_full_for(export) {
-        MOST_HELD
+        Limit::Held
     } else {
-        MOST_RECORDS
+        Limit::Read
     }
 }
 
@@ -51,7 +72,9 @@ pub(crate) fn step(
             }
             let added = collector.add(&export)?;
             if added.is_full() {
-                return Ok(Some(Pause::Limit { limit: MOST_HELD }));
+                return Ok(Some(Pause::Limit {
+                    limit: Limit::Held,
+                }));
             }
             Ok(None)
         }

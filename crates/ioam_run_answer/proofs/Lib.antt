@@ -1,4 +1,6 @@
+pub mod AskedLaws
 pub mod FailuresLaws
+pub mod RanLaws
 -- of the crates below, for the crates above
 pub use Rattle.ioam_dex.proofs.FaultLaws
 pub use Rattle.ioam_dex.proofs.ReadsLaws

@@ -1,5 +1,6 @@
 pub mod Outcomes
 pub mod Answers
+pub mod Bounds
 pub mod Desks
 pub mod Failures
 -- of the crates below, for the crates above

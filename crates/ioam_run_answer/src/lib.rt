@@ -6,4 +6,4 @@ mod outcome;
 mod words;
 
 pub use answer::{line, status};
-pub use outcome::{Outcome, capture_outcome, names_outcome};
+pub use outcome::{Outcome, answered, capture_outcome, names_outcome};

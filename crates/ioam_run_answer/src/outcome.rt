@@ -1,5 +1,6 @@
 //! The answers of a command.
 ghost use Rattle.std.specs.Prelude.{◌≡◌, ◌⊎◌};
+ghost use Rattle.ioam_run_answer.specs.Bounds.{answered};
 
 use ioam_base::name::Name;
 use ioam_clock::ReadingsFault;
@@ -7,6 +8,7 @@ use ioam_dex::ExportFault;
 use ioam_ipfix::IpfixFault;
 use ioam_part::PartFault;
 use ioam_pcap::CapFault;
+use ioam_stream::Stop;
 use ioam_topo_entries::DomainFault;
 use std::alloc::Global;
 
@@ -84,5 +86,17 @@ pub fn capture_outcome(alloc: Global, name: &Name, at: u64, fault: CapFault) -> 
     match Name::new(alloc, name.text()) {
         Ok(name) => Outcome::Capture { name, at, fault },
         Err(_) => Outcome::NoMemory,
+    }
+}
+
+/// The answer of a run that stopped so; `ended` is that of one that ended.
+pub fn answered(stop: Stop, ended: Outcome) -> Outcome
+    ensures { result ≡ answered stop ended }
+{
+    match stop {
+        Stop::Ended => ended,
+        Stop::ReadFault => Outcome::ReadFault,
+        Stop::WriteFault => Outcome::WriteFault,
+        Stop::NoMemory => Outcome::NoMemory,
     }
 }

@@ -1,9 +1,5 @@
-mod RecordsLaws
 mod AskedLaws
-mod FailuresLaws
-mod FinishesLaws
-mod KeptLaws
-mod WordsLaws
+mod CollectLaws
 -- of the crates below, for the crates above
 pub use Rattle.ioam_collect.proofs.CountLaws
 pub use Rattle.ioam_collect.proofs.JoinLaws

@@ -1,5 +1,4 @@
 pub mod Promise
-pub mod Ends
 -- of the crates below, for the crates above
 pub use Rattle.ioam_collect.specs.Best
 pub use Rattle.ioam_collect.specs.Collected

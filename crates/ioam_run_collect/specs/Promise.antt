@@ -6,7 +6,7 @@ use Rattle.ioam_desk.specs.Desk.{Reading, Writing, Rose, holds}
 use Rattle.ioam_desk.specs.Kept.{KeepsInputs, KeepsOutputs}
 use Rattle.ioam_run_answer.specs.Record.{Record}
 use Rattle.ioam_run_answer.specs.Reads.{Ending, Whole, Faulty, Reads, Splits}
-use Rattle.ioam_collect_stream.specs.GroupsText.{records_text}
+use Rattle.ioam_report_groups.specs.GroupsText.{records_text}
 use Rattle.ioam_desk_outputs.specs.Names.{name_at}
 use Rattle.ioam_collect_laws.specs.Exported.{TellsRun}
 use Rattle.ioam_collect_laws.specs.Paths.{Regroups}

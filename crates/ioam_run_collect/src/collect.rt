@@ -1,17 +1,18 @@
 //! The command: its names, its files and its answer.
-ghost use Rattle.std.specs.Prelude.{◌≡◌, ◌≢◌, ◌<◌, ◌⊎◌, ◌∷◌, ◌++◌, [], IsTrue, Some};
-ghost use Rattle.ioam_desk.specs.Asked.{AsksFront};
+ghost use Rattle.std.specs.Prelude.{◌≡◌, ◌≢◌, ◌∷◌, [], IsTrue};
 ghost use Rattle.ioam_desk.specs.Desk.{holds};
-ghost use Rattle.ioam_desk.specs.Kept.{KeepsInputs, KeepsOutputs};
+ghost use Rattle.ioam_run_answer.specs.Bounds.{Bounds};
 ghost use Rattle.ioam_run_answer.specs.Desks.{around};
-ghost use Rattle.ioam_run_answer.specs.Failures.{AnswersFailures};
-ghost use Rattle.ioam_run_answer.specs.Outcomes.{IsDone, IsBehindAll, OpensNothing};
-ghost use Rattle.ioam_run_collect.specs.Promise.{HasCause, Keeps, Leaves};
+ghost use Rattle.ioam_run_collect.specs.Promise.{CollectNames, HasCause, Keeps, Leaves};
 
-use crate::files::run_files;
+use crate::groups::Groups;
 use crate::names::CollectFiles;
+use ioam_base::name::Name;
+use ioam_collect::{Collector, MOST_HELD};
+use ioam_collect_stream::{Regrouping, answer};
 use ioam_desk::Desk;
 use ioam_run_answer::{Outcome, names_outcome};
+use ioam_stream::{Conversion, run};
 use std::alloc::Global;
 use std::slice;
 
@@ -33,23 +34,41 @@ fn run_names<D: Desk>(alloc: Global, files: &CollectFiles<'_>, desk: &mut D) -> 
         (D.reading desk.old) (D.reading desk.new) (D.writing desk.old) (D.writing desk.new) result }
     ensures leaves { IsTrue D.tells → Leaves (holds (D.writing desk.old) files.now.exports) files.now.report
         (D.reading desk.old) (D.reading desk.new) (D.writing desk.old) (D.writing desk.new) result }
-    ensures asked_in { AsksFront (D.reading desk.old).side.asked (D.reading desk.new).side.asked (files.now.exports ∷ []) }
-    ensures asked_out { AsksFront (D.writing desk.old).side.asked (D.writing desk.new).side.asked (files.now.report ∷ []) }
-    ensures all_in { IsBehindAll ⊥ result → (D.reading desk.new).side.asked ≡ (D.reading desk.old).side.asked ++ files.now.exports ∷ [] }
-    ensures all_out { IsBehindAll ⊥ result → (D.writing desk.new).side.asked ≡ (D.writing desk.old).side.asked ++ files.now.report ∷ [] }
-    ensures unopened { OpensNothing result → D.reading desk.new ≡ D.reading desk.old }
-    ensures differed { (D.reading desk.new ≡ D.reading desk.old) ⊎ (files.now.exports ≢ files.now.report) }
-    ensures no_output { (D.reading desk.new).side.slots ≡ (D.reading desk.old).side.slots → D.writing desk.new ≡ D.writing desk.old }
-    ensures unread { IsTrue D.tells → (D.writing desk.new).side.slots ≡ (D.writing desk.old).side.slots → (D.reading desk.old).side.slots < (D.reading desk.new).side.slots
-        → holds (D.writing desk.old) files.now.exports ≡ Some ((D.reading desk.new).left (D.reading desk.old).side.slots) }
-    ensures drained { IsDone result → IsTrue D.tells → IsTrue ((D.reading desk.new).ended (D.reading desk.old).side.slots) }
-    ensures failures { AnswersFailures (around D.tells (D.reading desk.old) (D.reading desk.new) (D.writing desk.old) (D.writing desk.new)) result }
-    ensures kept_in { KeepsInputs (D.reading desk.old) (D.reading desk.new) }
-    ensures kept_out { IsTrue D.tells → KeepsOutputs (D.writing desk.old) (D.writing desk.new) }
+    ensures bounds { Bounds (around D.tells (D.reading desk.old) (D.reading desk.new) (D.writing desk.old) (D.writing desk.new))
+        files.now.exports (files.now.report ∷ []) (files.now.exports ≢ files.now.report) result }
 {
     if files.exports.is(files.report) {
         names_outcome(alloc, files.report)
     } else {
-        run_files(alloc, files.exports, slice::from_ref(files.report), desk)
+        run_files(
+            alloc,
+            slice::from_ref(files.exports),
+            slice::from_ref(files.report),
+            desk,
+        )
     }
+}
+
+// Opens EXPORTS, and then REPORT, regroups the records of the one and writes the other.
+fn run_files<D: Desk>(alloc: Global, ins: &[Name], outs: &[Name], desk: &mut D) -> Outcome
+    ghost files: { CollectNames }
+    requires exports { ins.now ≡ files.exports ∷ [] }
+    requires report { outs.now ≡ files.report ∷ [] }
+    requires apart { files.exports ≢ files.report }
+    ensures cause { HasCause D.tells (holds (D.writing desk.old) files.exports) files.exports files.report
+        (D.reading desk.old) (D.reading desk.new) (D.writing desk.old) (D.writing desk.new) result }
+    ensures leaves { IsTrue D.tells → Leaves (holds (D.writing desk.old) files.exports) files.report
+        (D.reading desk.old) (D.reading desk.new) (D.writing desk.old) (D.writing desk.new) result }
+    ensures bounds { Bounds (around D.tells (D.reading desk.old) (D.reading desk.new) (D.writing desk.old) (D.writing desk.new))
+        files.exports (files.report ∷ []) (files.exports ≢ files.report) result }
+{
+    let Ok(mut collector) = Collector::new(alloc, MOST_HELD) else {
+        return Outcome::NoMemory;
+    };
+    let Ok(regrouping) = Regrouping::<Groups>::new(alloc, &mut collector) else {
+        return Outcome::NoMemory;
+    };
+    let mut stage = Conversion::new(regrouping);
+    let stop = run(alloc, desk, ins, outs, &mut stage);
+    answer(stop, stage.converter.cause)
 }

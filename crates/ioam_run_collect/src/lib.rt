@@ -2,7 +2,7 @@
 #![tactic(auto)]
 
 mod collect;
-mod files;
+mod groups;
 mod names;
 
 pub use collect::run_collect;

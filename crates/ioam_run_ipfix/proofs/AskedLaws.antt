@@ -1,12 +1,13 @@
 -- The names and the files ask for one answer.
 use Rattle.std.proofs.Common.{◌≡◌, ◌≢◌, ℕ, ◌⊎◌, Bool, IsTrue, IsSomeAnd, List, Option, Some, None, refl, sym, ap, ◌∙◌, inl, inr}
 use Rattle.ioam_desk.specs.Desk.{Reading, Writing, Rose}
-use Rattle.ioam_dex.specs.Reads as dex
 use Rattle.ioam_dex.proofs.ReadsLaws as dex_laws
 use Rattle.ioam_ipfix.specs.Reads as ipfix
 use Rattle.ioam_ipfix.proofs.ReadsLaws as ipfix_laws
 use Rattle.ioam_run_answer.specs.declared.outcome.Outcome.{Outcome}
 use Rattle.ioam_run_answer.specs.declared.outcome.Outcome.TheVariants as outcome
+use Rattle.ioam_run_answer.proofs.AskedLaws.{Asks, Causes, exact}
+use Rattle.ioam_run_answer.proofs.RanLaws.{held_map}
 use Rattle.ioam_run_ipfix.specs.Exports.{IsExports, IsLong}
 use Rattle.ioam_run_ipfix.specs.Messages.{IsMessages, IsCrowded, IsFull}
 use Rattle.ioam_run_ipfix.specs.Promise.{IpfixAsked, IpfixCause, RecordsAsked, RecordsCause}
@@ -23,76 +24,41 @@ never_both o P Q never x y = let both = both_held o P Q x y in never both.0 both
 
 -- ---- `ipfix`
 
--- the answer of EXPORTS that ends so
-abbrev ipfix_of : dex.Ending → Outcome
-ipfix_of dex.Whole = outcome.Done
-ipfix_of (dex.Faulty at fault) = outcome.Exports at fault
+-- the octets are more records than may be, and this limit says how many may be
+abbrev Long : ℕ → List ℕ → Type 0
+Long limit octets = (limit ≡ 67108864) × IsLong octets
 
-one_ending : (content : Option (List ℕ)) (d e : dex.Ending) → IsSomeAnd content (IsExports d) → IsSomeAnd content (IsExports e) → d ≡ e
-one_ending content d e x y =
-    let both = both_held content (IsExports d) (IsExports e) x y in
-    (dex_laws.Reads-unique both.0 both.1.records both.2.records d e both.1.reads both.2.reads).1
+module _ (tells : Bool) (content : Option (List ℕ)) (input out : List ℕ) where
+  limit_long : (limit : ℕ) → limit ≡ 67108864 → (IsTrue tells → IsSomeAnd content IsLong) → IsTrue tells → IsSomeAnd content (Long limit)
+  limit_long limit is long told = held_map content IsLong (Long limit) (λ octets so. (is, so)) (long told)
 
-module _ (tells : Bool) (content : Option (List ℕ)) (input out : List ℕ) (told : IsTrue tells) where
-  -- the answers that may be asked for: EXPORTS ends so, is too long, or the names are equal
-  abbrev Ends : Outcome → Type 0
-  Ends a = (ending : dex.Ending) × (a ≡ ipfix_of ending) × (input ≢ out) × IsSomeAnd content (IsExports ending)
+  ipfix_asks : (a : Outcome) → IpfixAsked tells content input out a → Asks tells content input out (λ limit. limit ≡ 67108864) IsExports Long a
+  ipfix_asks outcome.Done x = x
+  ipfix_asks (outcome.Names name) x = x
+  ipfix_asks (outcome.Exports at fault) x = x
+  ipfix_asks (outcome.Records limit) x = (x.0, x.1, limit_long limit x.1 x.2)
+  ipfix_asks _ x = absurd x
 
-  abbrev Long : Outcome → Type 0
-  Long a = (a ≡ outcome.Records 67108864) × (input ≢ out) × IsSomeAnd content IsLong
+  module _ (told : IsTrue tells) (old_in new_in : Reading) (old new : Writing) where
+    ipfix_causes : (answer : Outcome) → IpfixCause tells content input out old_in new_in old new answer
+        → Causes tells content input out (λ limit. limit ≡ 67108864) IsExports Long old_in new_in old new answer
+    ipfix_causes outcome.Done x = x
+    ipfix_causes (outcome.Names name) x = x
+    ipfix_causes (outcome.Exports at fault) x = x
+    ipfix_causes (outcome.Records limit) x = (x.0, x.1, limit_long limit x.1 x.2)
+    ipfix_causes outcome.ReadFault x = x
+    ipfix_causes outcome.WriteFault x = x
+    ipfix_causes outcome.NoMemory x = x
+    ipfix_causes _ x = absurd x
 
-  abbrev Same : Outcome → Type 0
-  Same a = (a ≡ outcome.Names out) × (input ≡ out)
-
-  ipfix_view : (a : Outcome) → IpfixAsked tells content input out a → Ends a ⊎ (Long a ⊎ Same a)
-  ipfix_view outcome.Done x = inl (dex.Whole, refl, x.0, x.1 told)
-  ipfix_view (outcome.Exports at fault) x = inl (dex.Faulty at fault, refl, x.0, x.1 told)
-  ipfix_view (outcome.Records limit) x = inr (inl (ap outcome.Records x.1, x.0, x.2 told))
-  ipfix_view (outcome.Names name) x = inr (inr (ap outcome.Names x.1, x.0))
-  ipfix_view outcome.Usage x = absurd x
-  ipfix_view (outcome.Domain why) x = absurd x
-  ipfix_view (outcome.Readings why) x = absurd x
-  ipfix_view (outcome.Capture name at fault) x = absurd x
-  ipfix_view (outcome.Ipfix at fault) x = absurd x
-  ipfix_view (outcome.Part name at fault) x = absurd x
-  ipfix_view (outcome.Packets limit) x = absurd x
-  ipfix_view outcome.ReadFault x = absurd x
-  ipfix_view outcome.WriteFault x = absurd x
-  ipfix_view outcome.NoMemory x = absurd x
-
-  ipfix_same : (a b : Outcome) → Ends a ⊎ (Long a ⊎ Same a) → Ends b ⊎ (Long b ⊎ Same b) → a ≡ b
-  ipfix_same a b (inl x) (inl y) = x.1 ∙ ap ipfix_of (one_ending content x.0 y.0 x.3 y.3) ∙ sym y.1
-  ipfix_same a b (inl x) (inr (inl y)) = absurd (never_both content IsLong (IsExports x.0) (long_or_few x.0) y.2 x.3)
-  ipfix_same a b (inl x) (inr (inr y)) = absurd (x.2 y.1)
-  ipfix_same a b (inr (inl x)) (inl y) = absurd (never_both content IsLong (IsExports y.0) (long_or_few y.0) x.2 y.3)
-  ipfix_same a b (inr (inl x)) (inr (inl y)) = x.0 ∙ sym y.0
-  ipfix_same a b (inr (inl x)) (inr (inr y)) = absurd (x.1 y.1)
-  ipfix_same a b (inr (inr x)) (inl y) = absurd (y.2 x.1)
-  ipfix_same a b (inr (inr x)) (inr (inl y)) = absurd (y.1 x.1)
-  ipfix_same a b (inr (inr x)) (inr (inr y)) = x.0 ∙ sym y.0
-
-  ipfix_unique : (a b : Outcome) → IpfixAsked tells content input out a → IpfixAsked tells content input out b → (a ≡ b) ⊎ (a ≡ outcome.NoMemory)
-  ipfix_unique a b x y = inl (ipfix_same a b (ipfix_view a x) (ipfix_view b y))
-
-  -- what is asked for is answered, unless a call failed or no memory could be had
-  pub ipfix-exact : (old_in new_in : Reading) (old new : Writing) (answer asked : Outcome)
-      → IpfixCause tells content input out old_in new_in old new answer → IpfixAsked tells content input out asked
-      → (Rose old_in.side.faults new_in.side.faults → ⊥) → (Rose old.side.faults new.side.faults → ⊥)
-      → (answer ≡ asked) ⊎ (answer ≡ outcome.NoMemory)
-  ipfix-exact old_in new_in old new outcome.ReadFault asked cause asks reads writes = absurd (reads cause)
-  ipfix-exact old_in new_in old new outcome.WriteFault asked cause asks reads writes = absurd (writes cause)
-  ipfix-exact old_in new_in old new outcome.NoMemory asked cause asks reads writes = inr refl
-  ipfix-exact old_in new_in old new outcome.Done asked cause asks reads writes = ipfix_unique outcome.Done asked cause asks
-  ipfix-exact old_in new_in old new (outcome.Names name) asked cause asks reads writes = ipfix_unique (outcome.Names name) asked cause asks
-  ipfix-exact old_in new_in old new (outcome.Exports at fault) asked cause asks reads writes = ipfix_unique (outcome.Exports at fault) asked cause asks
-  ipfix-exact old_in new_in old new (outcome.Records limit) asked cause asks reads writes = ipfix_unique (outcome.Records limit) asked cause asks
-  ipfix-exact old_in new_in old new outcome.Usage asked cause asks reads writes = absurd cause
-  ipfix-exact old_in new_in old new (outcome.Domain why) asked cause asks reads writes = absurd cause
-  ipfix-exact old_in new_in old new (outcome.Readings why) asked cause asks reads writes = absurd cause
-  ipfix-exact old_in new_in old new (outcome.Capture name at fault) asked cause asks reads writes = absurd cause
-  ipfix-exact old_in new_in old new (outcome.Ipfix at fault) asked cause asks reads writes = absurd cause
-  ipfix-exact old_in new_in old new (outcome.Part name at fault) asked cause asks reads writes = absurd cause
-  ipfix-exact old_in new_in old new (outcome.Packets limit) asked cause asks reads writes = absurd cause
+    -- what is asked for is answered, unless a call failed or no memory could be had
+    pub ipfix-exact : (answer asked : Outcome) → IpfixCause tells content input out old_in new_in old new answer → IpfixAsked tells content input out asked
+        → (Rose old_in.side.faults new_in.side.faults → ⊥) → (Rose old.side.faults new.side.faults → ⊥) → (answer ≡ asked) ⊎ (answer ≡ outcome.NoMemory)
+    ipfix-exact answer asked cause asks = exact tells content input out (λ limit. limit ≡ 67108864) IsExports Long told
+        (λ octets d e x y. (dex_laws.Reads-unique octets x.records y.records d e x.reads y.reads).1)
+        (λ octets limit d x. long_or_few d octets x.1)
+        (λ octets a b x y. x.0 ∙ sym y.0)
+        old_in new_in old new answer asked (ipfix_causes answer cause) (ipfix_asks asked asks)
 
 -- ---- `records`
 

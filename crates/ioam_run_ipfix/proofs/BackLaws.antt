@@ -17,7 +17,7 @@ use Rattle.ioam_run_ipfix.specs.Messages.{IsMessages}
 use Rattle.ioam_run_ipfix.specs.Promise.{BringsBack, IpfixLeaves}
 use Rattle.ioam_run_ipfix.specs.Texts.{AreCut, AreMessages, HoldsText}
 use Rattle.ioam_run_ipfix.proofs.AskedLaws.{records-unique}
-use Rattle.ioam_run_ipfix.proofs.RanLaws.{held_map}
+use Rattle.ioam_run_answer.proofs.RanLaws.{held_map}
 
 -- a run has a record at least
 runs-few : (runs : List (ℕ × List Record)) → AreRuns runs → length (runs_of runs) ≤ length (joined (runs_of runs))

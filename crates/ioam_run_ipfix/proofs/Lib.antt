@@ -2,11 +2,11 @@ mod AskedLaws
 pub mod BackLaws
 mod ExportsLaws
 mod GoesLaws
+mod HeldLaws
 mod IpfixLaws
 mod MessagesLaws
 mod PackerLaws
 mod PackingLaws
-mod RanLaws
 mod RecordsLaws
 mod SizeLaws
 mod TakerLaws

@@ -30,11 +30,6 @@ use Rattle.ioam_run_ipfix.proofs.PackingLaws.{packed-count, packed-rest}
 use Rattle.ioam_stream.specs.Conversion.{StandsSo, StopsSo, TakesOne, TakesNone, Finishes, SaysLast, Opens, Refills}
 use Rattle.ioam_stream.specs.Stage.{How, Ended, Handed}
 
--- two clauses of a call that succeeds
-pub OnOk_both : {T E : Type 0} (r : Result T E) (P Q R : Type 0) → OnOk r P → OnOk r Q → (P → Q → R) → OnOk r R
-OnOk_both (Ok x) P Q R p q f = f p q
-OnOk_both (Err e) P Q R p q f = tt
-
 -- octets that are gathered for the one output
 pub adds_one : (outputs : List Output) (d after : Output) (added : List ℕ) → length outputs ≡ 1
     → after.slot ≡ (get_or outputs 0 d).slot → after.gathered.items ≡ (get_or outputs 0 d).gathered.items ++ added

@@ -4,18 +4,19 @@ use Rattle.ioam_desk.specs.Desk.{holds}
 use Rattle.ioam_desk.specs.Touches.{State}
 use Rattle.ioam_dex.specs.Record.{Record}
 use Rattle.ioam_ipfix.specs.Reads.{Faulty, Whole}
+use Rattle.ioam_run_answer.specs.Bounds.{Bounds, answered}
 use Rattle.ioam_run_answer.specs.Desks.{around}
 use Rattle.ioam_run_answer.specs.Outcomes.{IsDone, OpensNothing}
 use Rattle.ioam_run_answer.specs.declared.outcome.Outcome.{Outcome}
-use Rattle.ioam_run_ipfix.specs.Bounds.{Bounds, answered}
 use Rattle.ioam_run_ipfix.specs.Messages.{AreAsMany, AreBefore, AreFirst, AreOf, AreWhole, IsCrowded, IsFull, IsMessages}
 use Rattle.ioam_run_ipfix.specs.Taker.{AreTaken, IsEnd, answer_of}
 use Rattle.ioam_run_ipfix.specs.Promise.{RecordsCause, RecordsLeaves}
-use Rattle.ioam_run_ipfix.specs.Texts.{AreRecords, HoldsText}
+use Rattle.ioam_run_ipfix.specs.Texts.{AreRecords, HoldsFront, HoldsText, Says}
 use Rattle.ioam_run_ipfix.specs.declared.taker.Cause.{Cause}
 use Rattle.ioam_run_ipfix.specs.declared.taker.Cause.TheVariants as cause
-use Rattle.ioam_run_ipfix.proofs.RanLaws.{bounds_ran, Framed, TextsOf, FirstsOf, held_map, all_held, read_held, write_held, memory_held}
-use Rattle.ioam_stream.specs.Stage.{Ended}
+use Rattle.ioam_run_answer.proofs.RanLaws.{Framed, LeftBy, bounds_ran, held_map, kept_by}
+use Rattle.ioam_run_ipfix.proofs.HeldLaws.{front_held, text_held}
+use Rattle.ioam_stream.specs.Stage.{How, Ended, Handed}
 use Rattle.ioam_stream.specs.Frame.{Frame, Leaves}
 use Rattle.ioam_stream.specs.declared.reading.Stop.{Stop}
 use Rattle.ioam_stream.specs.declared.reading.Stop.TheVariants as stop
@@ -33,18 +34,17 @@ whole_on left records handed whole = record {
   are = whole.are;
 }
 
-module _ (tells : Bool) (input out : List ℕ) (old new : State) (why : Cause) (drains : Type 0) where
+module _ (tells : Bool) (input out : List ℕ) (old new : State) (why : Cause) where
+  abbrev Said : How → List ℕ → List (List ℕ) → Type 0
+  Said how = Says AreRecords (λ records octets. AreTaken how why records octets × AreFirst records octets)
+
   abbrev pub Records : Stop → Type 0
-  Records answer = Leaves tells (input ∷ []) (out ∷ []) old new (TextsOf tells input out old new AreRecords AreFirst (λ how. AreTaken how why))
-      (FirstsOf tells input out old new AreRecords AreFirst (λ how. AreTaken how why)) answer
+  Records = LeftBy tells input (out ∷ []) old new (IsEnd why) (HoldsText AreRecords (AreTaken Ended why) new.outputs out) (λ left. HoldsText AreRecords (AreWhole left) new.outputs out)
+      (HoldsFront AreRecords AreFirst old.outputs new.outputs out)
 
-  ended_held : Framed tells input out old new drains stop.Ended → IsTrue tells → Records stop.Ended
-      → IsSomeAnd (holds old.outputs input) (HoldsText AreRecords (AreTaken Ended why) new.outputs out)
-  ended_held = all_held tells input out old new AreRecords AreFirst (λ how. AreTaken how why) drains
-
-  pub records_leaves : (answer : Stop) → Framed tells input out old new drains answer → IsTrue tells → Records answer
+  records_leaves : (answer : Stop) → Records answer
       → RecordsLeaves (holds old.outputs input) out old.inputs new.inputs old.outputs new.outputs (answered answer (answer_of why))
-  records_leaves stop.Ended frame told leaves = by_cause why (ended_held frame told leaves)
+  records_leaves stop.Ended kept = by_cause why kept
     where
       by_cause : (k : Cause) → IsSomeAnd (holds old.outputs input) (HoldsText AreRecords (AreTaken Ended k) new.outputs out)
           → RecordsLeaves (holds old.outputs input) out old.inputs new.inputs old.outputs new.outputs (answer_of k)
@@ -52,13 +52,13 @@ module _ (tells : Bool) (input out : List ℕ) (old new : State) (why : Cause) (
       by_cause (cause.Bad at fault) held = held
       by_cause cause.Messages held = held
       by_cause cause.Records held = held
-  records_leaves stop.ReadFault frame told leaves = read_held tells input out old new AreRecords AreFirst (λ how. AreTaken how why) AreWhole whole_on drains frame told leaves
-  records_leaves stop.WriteFault frame told leaves = write_held tells input out old new AreRecords AreFirst (λ how. AreTaken how why) drains frame told leaves
-  records_leaves stop.NoMemory frame told leaves = memory_held tells input out old new AreRecords AreFirst (λ how. AreTaken how why) drains frame told leaves
+  records_leaves stop.ReadFault kept = kept
+  records_leaves stop.WriteFault kept = kept
+  records_leaves stop.NoMemory kept = kept
 
-  pub records_cause : (answer : Stop) → input ≢ out → Framed tells input out old new drains answer → (IsTrue tells → Records answer)
+  records_cause : (answer : Stop) → input ≢ out → Framed tells input (out ∷ []) old new (IsEnd why) answer → (IsTrue tells → Records answer)
       → RecordsCause tells (holds old.outputs input) input out old.inputs new.inputs old.outputs new.outputs (answered answer (answer_of why))
-  records_cause stop.Ended apart frame leaves = by_cause why (λ told. ended_held frame told (leaves told))
+  records_cause stop.Ended apart frame kept = by_cause why kept
     where
       by_cause : (k : Cause) → (IsTrue tells → IsSomeAnd (holds old.outputs input) (HoldsText AreRecords (AreTaken Ended k) new.outputs out))
           → RecordsCause tells (holds old.outputs input) input out old.inputs new.inputs old.outputs new.outputs (answer_of k)
@@ -82,15 +82,15 @@ module _ (tells : Bool) (input out : List ℕ) (old new : State) (why : Cause) (
         refl,
         λ told. held_map (holds old.outputs input) (HoldsText AreRecords AreAsMany new.outputs out) IsFull (λ octets all. all.are.full) (held told),
       )
-  records_cause stop.ReadFault apart frame leaves = frame.touches.inputs.how.rose
-  records_cause stop.WriteFault apart frame leaves = frame.touches.outputs.how.rose
-  records_cause stop.NoMemory apart frame leaves = tt
+  records_cause stop.ReadFault apart frame kept = frame.touches.inputs.how.rose
+  records_cause stop.WriteFault apart frame kept = frame.touches.outputs.how.rose
+  records_cause stop.NoMemory apart frame kept = tt
 
 -- what the run says of its answer
 abbrev pub RecordsRan : Bool → List ℕ → List ℕ → State → State → Outcome → Type 0
 RecordsRan tells input out old new answer = RecordsCause tells (holds old.outputs input) input out old.inputs new.inputs old.outputs new.outputs answer
     × (IsTrue tells → RecordsLeaves (holds old.outputs input) out old.inputs new.inputs old.outputs new.outputs answer)
-    × Bounds (around tells old.inputs new.inputs old.outputs new.outputs) input out answer
+    × Bounds (around tells old.inputs new.inputs old.outputs new.outputs) input (out ∷ []) (input ≢ out) answer
 
 ends_done : (why : Cause) → IsDone (answer_of why) → IsEnd why
 ends_done cause.End done = tt
@@ -106,18 +106,16 @@ ends_open cause.Records none = none
 
 pub records_ran : (tells : Bool) (ins outs : List (List ℕ)) (input out : List ℕ) (old new : State) (why : Cause) (stopped : Stop) (answer : Outcome)
     → answer ≡ answered stopped (answer_of why) → ins ≡ input ∷ [] → outs ≡ out ∷ [] → input ≢ out → Frame tells ins outs old new (IsEnd why) stopped
-    → (IsTrue tells → Leaves tells ins outs old new (TextsOf tells input out old new AreRecords AreFirst (λ how. AreTaken how why))
-    (FirstsOf tells input out old new AreRecords AreFirst (λ how. AreTaken how why)) stopped) → RecordsRan tells input out old new answer
+    → (IsTrue tells → Leaves tells ins outs old new (λ how of. Says AreRecords (λ records octets. AreTaken how why records octets × AreFirst records octets) (of 0))
+    (λ of. Says AreRecords AreFirst (of 0)) stopped) → RecordsRan tells input out old new answer
 records_ran tells ins outs input out old new why stopped answer is one_in one_out apart frame leaves =
-    let here = subst (λ (os : List (List ℕ)). Frame tells (input ∷ []) os old new (IsEnd why) stopped) one_out
-    (subst (λ (is : List (List ℕ)). Frame tells is outs old new (IsEnd why) stopped) one_in frame) in
-    let held : IsTrue tells → Records tells input out old new why (IsEnd why) stopped = λ told.
-    subst (λ (os : List (List ℕ)). Leaves tells (input ∷ []) os old new (TextsOf tells input out old new AreRecords AreFirst (λ how. AreTaken how why))
-    (FirstsOf tells input out old new AreRecords AreFirst (λ how. AreTaken how why)) stopped) one_out
-    (subst (λ (is : List (List ℕ)). Leaves tells is outs old new (TextsOf tells input out old new AreRecords AreFirst (λ how. AreTaken how why))
-    (FirstsOf tells input out old new AreRecords AreFirst (λ how. AreTaken how why)) stopped) one_in (leaves told)) in
+    let kept = kept_by tells input (out ∷ []) old new (IsEnd why) (HoldsText AreRecords (AreTaken Ended why) new.outputs out) (λ left. HoldsText AreRecords (AreWhole left) new.outputs out)
+    (HoldsFront AreRecords AreFirst old.outputs new.outputs out) (Said tells input out old new why) (Says AreRecords AreFirst)
+    (λ so of. text_held AreRecords AreFirst old new out (AreTaken Ended why) (AreTaken Ended why) so of of (λ records are. are))
+    (λ so handed left. text_held AreRecords AreFirst old new out (AreWhole left) (AreWhole []) so handed (handed ++ left) (λ records. whole_on left records handed))
+    (front_held AreRecords AreFirst old new out) ins outs one_in one_out stopped frame leaves in
     subst (λ (a : Outcome). RecordsRan tells input out old new a) (sym is) (
-      records_cause tells input out old new why (IsEnd why) stopped apart here held,
-      λ told. records_leaves tells input out old new why (IsEnd why) stopped here told (held told),
-      bounds_ran tells input out old new (IsEnd why) stopped (answer_of why) here (ends_done why) (ends_open why) apart,
+      records_cause tells input out old new why stopped apart kept.0 kept.1,
+      λ told. records_leaves tells input out old new why stopped (kept.1 told),
+      bounds_ran tells input (out ∷ []) old new (IsEnd why) (input ≢ out) stopped (answer_of why) kept.0 (ends_done why) (ends_open why) apart,
     )

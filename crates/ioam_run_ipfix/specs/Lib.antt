@@ -1,4 +1,3 @@
-pub mod Bounds
 pub mod Exports
 pub mod Messages
 pub mod Packer

@@ -1,8 +1,8 @@
 //! `ipfix`: its names, its files and its answer.
 ghost use Rattle.std.specs.Prelude.{◌≡◌, ◌≢◌, ◌∷◌, [], IsTrue};
 ghost use Rattle.ioam_desk.specs.Desk.{holds};
+ghost use Rattle.ioam_run_answer.specs.Bounds.{Bounds};
 ghost use Rattle.ioam_run_answer.specs.Desks.{around};
-ghost use Rattle.ioam_run_ipfix.specs.Bounds.{Bounds};
 ghost use Rattle.ioam_run_ipfix.specs.Promise.{IpfixCause, IpfixKeeps, IpfixLeaves, IpfixNames};
 
 use crate::names::IpfixFiles;
@@ -31,7 +31,7 @@ fn run_names<D: Desk>(alloc: Global, files: &IpfixFiles<'_>, desk: &mut D) -> Ou
         (D.reading desk.old) (D.reading desk.new) (D.writing desk.old) (D.writing desk.new) result }
     ensures leaves { IsTrue D.tells → IpfixLeaves (holds (D.writing desk.old) files.now.exports) files.now.out
         (D.reading desk.old) (D.reading desk.new) (D.writing desk.old) (D.writing desk.new) result }
-    ensures bounds { Bounds (around D.tells (D.reading desk.old) (D.reading desk.new) (D.writing desk.old) (D.writing desk.new)) files.now.exports files.now.out result }
+    ensures bounds { Bounds (around D.tells (D.reading desk.old) (D.reading desk.new) (D.writing desk.old) (D.writing desk.new)) files.now.exports (files.now.out ∷ []) (files.now.exports ≢ files.now.out) result }
 {
     if files.exports.is(files.out) {
         names_outcome(alloc, files.out)
@@ -55,7 +55,7 @@ fn run_files<D: Desk>(alloc: Global, ins: &[Name], outs: &[Name], desk: &mut D) 
         (D.reading desk.old) (D.reading desk.new) (D.writing desk.old) (D.writing desk.new) result }
     ensures leaves { IsTrue D.tells → IpfixLeaves (holds (D.writing desk.old) files.exports) files.out
         (D.reading desk.old) (D.reading desk.new) (D.writing desk.old) (D.writing desk.new) result }
-    ensures bounds { Bounds (around D.tells (D.reading desk.old) (D.reading desk.new) (D.writing desk.old) (D.writing desk.new)) files.exports files.out result }
+    ensures bounds { Bounds (around D.tells (D.reading desk.old) (D.reading desk.new) (D.writing desk.old) (D.writing desk.new)) files.exports (files.out ∷ []) (files.exports ≢ files.out) result }
 {
     let Ok(packer) = Packer::new(alloc) else {
         return Outcome::NoMemory;

@@ -3,7 +3,7 @@ ghost use Rattle.std.specs.Prelude.{◌≡◌, ◌∷◌, [], IfOk, OnOk, length
 ghost use Rattle.ioam_desk_outputs.specs.Told.{Adds};
 ghost use Rattle.ioam_dex.specs.Reader.{Stands};
 ghost use Rattle.ioam_ipfix.specs.Written.{messages_text};
-ghost use Rattle.ioam_run_ipfix.specs.Bounds.{answered};
+ghost use Rattle.ioam_run_answer.specs.Bounds.{answered};
 ghost use Rattle.ioam_run_ipfix.specs.Packer.{IsFresh, answer_of, cause_of, does, sound};
 ghost use Rattle.ioam_run_ipfix.specs.Packing.{IsPacked};
 
@@ -12,7 +12,7 @@ use ioam_base::memory::NoMemory;
 use ioam_desk_outputs::Output;
 use ioam_dex::{ExportFault, ExportReader, MOST_RECORDS, Shown};
 use ioam_ipfix::put_templates;
-use ioam_run_answer::Outcome;
+use ioam_run_answer::{Outcome, answered};
 use ioam_stream::{Converter, Stop, Tail, Took};
 use std::alloc::Global;
 
@@ -53,18 +53,14 @@ impl Packer {
 pub(crate) fn answer(stop: Stop, cause: Cause) -> Outcome
     ensures { result ≡ answered stop (answer_of cause) }
 {
-    match stop {
-        Stop::Ended => match cause {
-            Cause::End => Outcome::Done,
-            Cause::Bad { at, fault } => Outcome::Exports { at, fault },
-            Cause::Limit => Outcome::Records {
-                limit: MOST_RECORDS,
-            },
+    let ended = match cause {
+        Cause::End => Outcome::Done,
+        Cause::Bad { at, fault } => Outcome::Exports { at, fault },
+        Cause::Limit => Outcome::Records {
+            limit: MOST_RECORDS,
         },
-        Stop::ReadFault => Outcome::ReadFault,
-        Stop::WriteFault => Outcome::WriteFault,
-        Stop::NoMemory => Outcome::NoMemory,
-    }
+    };
+    answered(stop, ended)
 }
 
 // What stopped it at the end of the input, of which the last item may be cut.

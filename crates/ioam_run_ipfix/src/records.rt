@@ -1,8 +1,8 @@
 //! `records`: its names, its files and its answer.
 ghost use Rattle.std.specs.Prelude.{◌≡◌, ◌≢◌, ◌∷◌, [], IsTrue};
 ghost use Rattle.ioam_desk.specs.Desk.{holds};
+ghost use Rattle.ioam_run_answer.specs.Bounds.{Bounds};
 ghost use Rattle.ioam_run_answer.specs.Desks.{around};
-ghost use Rattle.ioam_run_ipfix.specs.Bounds.{Bounds};
 ghost use Rattle.ioam_run_ipfix.specs.Promise.{RecordsCause, RecordsKeeps, RecordsLeaves, RecordsNames};
 
 use crate::names::RecordsFiles;
@@ -32,7 +32,7 @@ fn run_names<D: Desk>(alloc: Global, files: &RecordsFiles<'_>, desk: &mut D) -> 
         (D.reading desk.old) (D.reading desk.new) (D.writing desk.old) (D.writing desk.new) result }
     ensures leaves { IsTrue D.tells → RecordsLeaves (holds (D.writing desk.old) files.now.input) files.now.out
         (D.reading desk.old) (D.reading desk.new) (D.writing desk.old) (D.writing desk.new) result }
-    ensures bounds { Bounds (around D.tells (D.reading desk.old) (D.reading desk.new) (D.writing desk.old) (D.writing desk.new)) files.now.input files.now.out result }
+    ensures bounds { Bounds (around D.tells (D.reading desk.old) (D.reading desk.new) (D.writing desk.old) (D.writing desk.new)) files.now.input (files.now.out ∷ []) (files.now.input ≢ files.now.out) result }
 {
     if files.input.is(files.out) {
         names_outcome(alloc, files.out)
@@ -56,7 +56,7 @@ fn run_files<D: Desk>(alloc: Global, ins: &[Name], outs: &[Name], desk: &mut D) 
         (D.reading desk.old) (D.reading desk.new) (D.writing desk.old) (D.writing desk.new) result }
     ensures leaves { IsTrue D.tells → RecordsLeaves (holds (D.writing desk.old) files.input) files.out
         (D.reading desk.old) (D.reading desk.new) (D.writing desk.old) (D.writing desk.new) result }
-    ensures bounds { Bounds (around D.tells (D.reading desk.old) (D.reading desk.new) (D.writing desk.old) (D.writing desk.new)) files.input files.out result }
+    ensures bounds { Bounds (around D.tells (D.reading desk.old) (D.reading desk.new) (D.writing desk.old) (D.writing desk.new)) files.input (files.out ∷ []) (files.input ≢ files.out) result }
 {
     let Ok(taker) = Taker::new(alloc) else {
         return Outcome::NoMemory;

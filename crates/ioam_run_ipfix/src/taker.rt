@@ -1,6 +1,6 @@
 //! IN, read in pieces while the records of its messages are written.
 ghost use Rattle.std.specs.Prelude.{◌≡◌, ◌+◌, IfOk, length};
-ghost use Rattle.ioam_run_ipfix.specs.Bounds.{answered};
+ghost use Rattle.ioam_run_answer.specs.Bounds.{answered};
 ghost use Rattle.ioam_run_ipfix.specs.Taker.{IsFresh, Shows, answer_of, cause_of, does, sound};
 
 use ioam_base::memory::NoMemory;
@@ -8,7 +8,7 @@ use ioam_base::text::append;
 use ioam_desk_outputs::Output;
 use ioam_dex::{ExportRoom, MOST_RECORD, MOST_RECORDS};
 use ioam_ipfix::{IpfixFault, IpfixReader, IpfixShown, put_record};
-use ioam_run_answer::Outcome;
+use ioam_run_answer::{Outcome, answered};
 use ioam_stream::{Converter, Stop, Tail, Took};
 use std::alloc::Global;
 
@@ -65,21 +65,17 @@ impl Taker {
 pub(crate) fn answer(stop: Stop, cause: Cause) -> Outcome
     ensures { result ≡ answered stop (answer_of cause) }
 {
-    match stop {
-        Stop::Ended => match cause {
-            Cause::End => Outcome::Done,
-            Cause::Bad { at, fault } => Outcome::Ipfix { at, fault },
-            Cause::Messages => Outcome::Packets {
-                limit: MOST_MESSAGES,
-            },
-            Cause::Records => Outcome::Records {
-                limit: MOST_RECORDS,
-            },
+    let ended = match cause {
+        Cause::End => Outcome::Done,
+        Cause::Bad { at, fault } => Outcome::Ipfix { at, fault },
+        Cause::Messages => Outcome::Packets {
+            limit: MOST_MESSAGES,
         },
-        Stop::ReadFault => Outcome::ReadFault,
-        Stop::WriteFault => Outcome::WriteFault,
-        Stop::NoMemory => Outcome::NoMemory,
-    }
+        Cause::Records => Outcome::Records {
+            limit: MOST_RECORDS,
+        },
+    };
+    answered(stop, ended)
 }
 
 // Puts the octets of the next record into the room, if there is one.

@@ -1,11 +1,6 @@
-use Rattle.ioam_desk.specs.Desk.{holds}
 use Rattle.ioam_desk_outputs.specs.Names.{name_at}
 use Rattle.ioam_run_collect.proofs.collect.run_names.Given as goal
 
--- what EXPORTS holds before anything is opened
+-- the names of the files
 abbrev pub ghost-run_files : goal.ghost-run_files
-ghost-run_files g a = record {
-  content = holds (g.D.Desk.writing a.desk.now) a.exports.now;
-  base = (g.D.Desk.writing a.desk.now).side.slots;
-  report = name_at a.reports.now 0;
-}
+ghost-run_files g a = record { exports = name_at a.ins.now 0; report = name_at a.outs.now 0 }

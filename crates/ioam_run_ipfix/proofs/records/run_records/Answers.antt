@@ -1,3 +1,4 @@
+use Rattle.std.proofs.Common.{arith}
 use Rattle.ioam_desk.specs.Desk.{holds}
 use Rattle.ioam_run_ipfix.proofs.AskedLaws.{records-exact}
 use Rattle.ioam_run_ipfix.proofs.records.run_records.Goals as goal
@@ -18,7 +19,7 @@ returns g c = record {
     unopened = c.run_names.ensures.bounds.unopened;
     differed = c.run_names.ensures.bounds.differed;
     no_output = c.run_names.ensures.bounds.no_output;
-    unread = c.run_names.ensures.bounds.unread;
+    unread = λ told none. c.run_names.ensures.bounds.unread told (omega (arith, none));
     drained = c.run_names.ensures.bounds.drained;
     failures = c.run_names.ensures.bounds.failures;
     kept_in = c.run_names.ensures.bounds.kept_in;

@@ -1,46 +1,14 @@
 -- Which records stand at the front of octets.
 use Rattle.std.proofs.Common.{◌≡◌, ℕ, ◌+◌, ◌<◌, ◌≤◌, ◌⊎◌, List, [], ◌∷◌, ◌++◌, length, length-append, All, refl, sym, ap, ◌∙◌, subst, inl, inr, append_assoc, append-nil, arith}
-use Rattle.std.proofs.lemmas.List.Elements.{All-head, All-tail, All-nil}
-use Rattle.std.specs.List.{AllByRecursion}
-use Rattle.std.proofs.lemmas.List.Elements.{recursion_from_All, All-from_recursion}
-use Rattle.ioam_run_answer.specs.Record.{Record, IsRecord, record_octets}
-use Rattle.ioam_run_answer.specs.Reads.{records_octets, Splits, Ending, Whole, Faulty, EndsAt}
-use Rattle.ioam_run_answer.specs.ExportFault.TheVariants as fault
-use Rattle.ioam_run_answer.proofs.RecordLaws.{record_octets-same}
-use Rattle.ioam_run_answer.proofs.ReadsLaws.{records_octets-append, Splits-feed, NoRecord, cut-no-record, fault-no-record}
+use Rattle.std.proofs.lemmas.List.Elements.{All-head, All-tail}
+use Rattle.ioam_dex.specs.Record.{Record, IsRecord, record_octets}
+use Rattle.ioam_dex.specs.Reads.{records_octets, Ending, Reads, Whole, Faulty, EndsAt}
+use Rattle.ioam_dex.specs.declared.export.ExportFault.TheVariants as fault
+use Rattle.ioam_dex.proofs.RecordLaws.{record_octets-same}
+use Rattle.ioam_dex.proofs.ReadsLaws.{NoRecord, cut-no-record, fault-no-record}
 use Rattle.ioam_collect.specs.Collected.{count_kept}
 use Rattle.ioam_collect.proofs.CountLaws.{count_kept-grows}
-use Rattle.ioam_collect_stream.specs.Gathering.{AreFew, Passes, AreWhole}
-use Rattle.ioam_run_collect.specs.Promise.{EndsSo, AreFirst, IsExports, IsLong}
-
--- ---- first records
-
-init_all : (xs ys : List Record) → AllByRecursion IsRecord (xs ++ ys) → AllByRecursion IsRecord xs
-init_all [] ys all = tt
-init_all (x ∷ xs) ys all = (all.0, init_all xs ys all.1)
-
-pub first_none : (octets : List ℕ) → AreFirst [] octets
-first_none octets = (octets, record { each = All-nil IsRecord; is = refl })
-
-pub first_ends : (ending : Ending) (records : List Record) (octets : List ℕ) → EndsSo ending records octets → AreFirst records octets
-first_ends ending records octets reads = (reads.rest, reads.splits)
-
-pub first_passes : (limit : ℕ) (records : List Record) (octets : List ℕ) → Passes limit records octets → AreFirst records octets
-first_passes limit records octets passes =
-    let last : List Record = passes.next ∷ [] in (
-      record_octets passes.next ++ passes.rest,
-      record {
-        each = All-from_recursion IsRecord records (init_all records last (recursion_from_All IsRecord (records ++ last) passes.splits.each));
-        is = passes.splits.is ∙ ap (λ o. o ++ passes.rest) (records_octets-append records last)
-            ∙ ap (λ o. (records_octets records ++ o) ++ passes.rest) (append-nil (record_octets passes.next))
-            ∙ append_assoc (records_octets records) (record_octets passes.next) passes.rest;
-      },
-    )
-
-pub first_whole : (left : List ℕ) (records : List Record) (octets : List ℕ) → AreWhole left records octets → AreFirst records octets
-first_whole left records octets whole =
-    let P : List ℕ → Type 0 = λ o. Splits o records (whole.rest ++ left) in
-    (whole.rest ++ left, subst P (sym whole.parts) (Splits-feed whole.handed left records whole.rest whole.splits))
+use Rattle.ioam_collect_stream.specs.Gathering.{AreFew, Passes}
 
 -- ---- fronts of one another
 
@@ -126,18 +94,19 @@ ends-no-record at rest (Faulty place (fault.Length found)) ends = fault-no-recor
 ends-no-record at rest (Faulty place (fault.Element front)) ends = fault-no-record rest (fault.Element front) ends.1
 
 -- octets that have too many records don't end with few
-pub long_or_few : (limit : ℕ) (ending : Ending) (octets : List ℕ) → IsLong limit octets → IsExports ending octets → ⊥
-long_or_few limit ending octets long ends =
-    let xs : List Record = long.records ++ long.passes.next ∷ [] in
-    let front = front_of xs ends.records long.passes.rest ends.reads.rest long.passes.splits.each ends.reads.splits.each
-    (ends-no-record _ ends.reads.rest ending ends.reads.ends) (sym long.passes.splits.is ∙ ends.reads.splits.is) in
-    no_front limit xs ends.records front.0 long.passes.past ends.few front.1
+pub long_or_few : (limit : ℕ) (ending : Ending) (octets : List ℕ) (many few : List Record) → Passes limit many octets → Reads octets few ending → AreFew few → ⊥
+long_or_few limit ending octets many few passes reads within =
+    let xs : List Record = many ++ passes.next ∷ [] in
+    let front = front_of xs few passes.rest reads.rest passes.splits.each reads.splits.each
+    (ends-no-record _ reads.rest ending reads.ends) (sym passes.splits.is ∙ reads.splits.is) in
+    no_front limit xs few front.0 passes.past within front.1
 
-pub long_once : (a b : ℕ) (octets : List ℕ) → IsLong a octets → IsLong b octets → a ≡ b
-long_once a b octets x y =
-    let xs : List Record = x.records ++ x.passes.next ∷ [] in
-    let ys : List Record = y.records ++ y.passes.next ∷ [] in
-    elim (one_front xs ys x.passes.rest y.passes.rest x.passes.splits.each y.passes.splits.each (sym x.passes.splits.is ∙ y.passes.splits.is)) [
-      | inl (more, is) ↦ same_limit a b xs y.records more y.passes.next x.passes.past y.passes.past y.few is
-      | inr (more, is) ↦ sym (same_limit b a ys x.records more x.passes.next y.passes.past x.passes.past x.few is)
+-- and have them by one limit
+pub long_once : (a b : ℕ) (octets : List ℕ) (xs ys : List Record) → Passes a xs octets → AreFew xs → Passes b ys octets → AreFew ys → a ≡ b
+long_once a b octets xs ys x few y within =
+    let all : List Record = xs ++ x.next ∷ [] in
+    let others : List Record = ys ++ y.next ∷ [] in
+    elim (one_front all others x.rest y.rest x.splits.each y.splits.each (sym x.splits.is ∙ y.splits.is)) [
+      | inl (more, is) ↦ same_limit a b all ys more y.next x.past y.past within is
+      | inr (more, is) ↦ sym (same_limit b a others xs more x.next y.past x.past few is)
     ]

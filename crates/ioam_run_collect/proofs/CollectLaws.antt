@@ -1,0 +1,148 @@
+-- What a run of `collect` answers, and what REPORT holds then.
+use Rattle.std.proofs.Common.{◌≡◌, ◌≢◌, ◌+◌, ◌∷◌, [], ◌++◌, ◌∙◌, ap, append-nil, List, ℕ, Bool, IsTrue, IsSomeAnd, Some, refl, sym, subst, inl, inr, arith}
+use Rattle.ioam_base.specs.Octets.{IsFront}
+use Rattle.ioam_desk.specs.Desk.{holds}
+use Rattle.ioam_desk.specs.Touches.{State}
+use Rattle.ioam_desk_outputs.specs.Held.{HoldTexts, HoldFronts}
+use Rattle.ioam_dex.specs.Record.{Record}
+use Rattle.ioam_dex.specs.Reads.{Faulty, Whole}
+use Rattle.ioam_collect_laws.proofs.ReadLaws.{regroups}
+use Rattle.ioam_collect_laws.proofs.WholeLaws.{tells-run}
+use Rattle.ioam_collect_stream.specs.Gathering.{AreWhole, IsLimit, Passes, most_of}
+use Rattle.ioam_collect_stream.specs.Regrouping.{AreFirst, AreOf, IsEnd, Says, answer_of}
+use Rattle.ioam_collect_stream.specs.declared.regrouping.Cause.{Cause}
+use Rattle.ioam_collect_stream.specs.declared.regrouping.Cause.TheVariants as cause
+use Rattle.ioam_collect_stream.specs.declared.step.Limit.{Limit}
+use Rattle.ioam_collect_stream.specs.declared.step.Limit.TheVariants as limits
+use Rattle.ioam_report_groups.specs.GroupsText.{records_text}
+use Rattle.ioam_run_answer.specs.Bounds.{Bounds, answered}
+use Rattle.ioam_run_answer.specs.Desks.{around}
+use Rattle.ioam_run_answer.specs.Outcomes.{IsDone, OpensNothing}
+use Rattle.ioam_run_answer.specs.declared.outcome.Outcome.{Outcome}
+use Rattle.ioam_run_answer.proofs.RanLaws.{Framed, LeftBy, bounds_ran, held_map, kept_by}
+use Rattle.ioam_run_collect.specs.Promise.{EndsSo, HasCause, HoldsPart, HoldsReport, IsExports, IsLong, Leaves}
+use Rattle.ioam_stream.specs.Stage.{How, Ended, Handed}
+use Rattle.ioam_stream.specs.Frame as frame
+use Rattle.ioam_stream.specs.Frame.{Frame}
+use Rattle.ioam_stream.specs.declared.reading.Stop.{Stop}
+use Rattle.ioam_stream.specs.declared.reading.Stop.TheVariants as stop
+
+-- of the octets that were handed out, and those that are left
+whole_on : (left : List ℕ) (records : List Record) (handed : List ℕ) → AreWhole [] records handed → AreWhole left records (handed ++ left)
+whole_on left records handed whole = record {
+  handed = whole.handed;
+  parts = ap (λ (o : List ℕ). o ++ left) (whole.parts ∙ append-nil whole.handed);
+  rest = whole.rest;
+  splits = whole.splits;
+  cut = whole.cut;
+}
+
+is_limit : (limit : Limit) → IsLimit (most_of limit)
+is_limit limits.Held = inl refl
+is_limit limits.Read = inr refl
+
+ends_done : (why : Cause) → IsDone (answer_of why) → IsEnd why
+ends_done cause.End done = tt
+ends_done (cause.Bad at fault) done = done
+ends_done (cause.Limit limit) done = done
+
+ends_open : (why : Cause) → OpensNothing (answer_of why) → ⊥
+ends_open cause.End none = none
+ends_open (cause.Bad at fault) none = none
+ends_open (cause.Limit limit) none = none
+
+abbrev Texts : List Record → List ℕ → Type 0
+Texts records text = text ≡ records_text records
+
+module _ (tells : Bool) (input out : List ℕ) (old new : State) (why : Cause) where
+  -- the report of records
+  held_all : (Are These : List Record → List ℕ → Type 0) (so : List (List ℕ)) (of all : List ℕ) → ((records : List Record) → These records of → Are records all)
+      → Says Texts These of so → HoldTexts new.outputs (out ∷ []) so → HoldsReport Are new.outputs out all
+  held_all Are These so of all on says held = record {
+    records = says.records;
+    are = on says.records says.are;
+    few = says.few;
+    held = (subst (λ (texts : List (List ℕ)). HoldTexts new.outputs (out ∷ []) texts) says.said held).0 ∙ ap Some says.is;
+    regroups = regroups says.records;
+    tells_run = tells-run all says.records;
+  }
+
+  -- or a front of it
+  held_part : (so : List (List ℕ)) (of : List ℕ) → Says Texts AreFirst of so → HoldFronts old.outputs new.outputs 0 (out ∷ []) so → HoldsPart old.outputs new.outputs out of
+  held_part so of says held = record {
+    records = says.records;
+    first = says.first;
+    few = says.few;
+    held = λ opened. subst (λ (text : List ℕ). IsSomeAnd (holds new.outputs out) (λ part. IsFront part text)) says.is
+        ((subst (λ (texts : List (List ℕ)). HoldFronts old.outputs new.outputs 0 (out ∷ []) texts) says.said held).0 (omega (arith, opened)));
+  }
+
+  abbrev All : List ℕ → Type 0
+  All = HoldsReport (AreOf Ended why) new.outputs out
+
+  abbrev Part : List ℕ → List ℕ → Type 0
+  Part left = HoldsReport (AreWhole left) new.outputs out
+
+  abbrev Says' : How → List ℕ → List (List ℕ) → Type 0
+  Says' how = Says Texts (AreOf how why)
+
+  abbrev Kept : Stop → Type 0
+  Kept = LeftBy tells input (out ∷ []) old new (IsEnd why) All Part (HoldsPart old.outputs new.outputs out)
+
+  leaves_so : (answer : Stop) → Kept answer → Leaves (holds old.outputs input) out old.inputs new.inputs old.outputs new.outputs (answered answer (answer_of why))
+  leaves_so stop.Ended kept = by_cause why kept
+    where
+      by_cause : (k : Cause) → IsSomeAnd (holds old.outputs input) (HoldsReport (AreOf Ended k) new.outputs out)
+          → Leaves (holds old.outputs input) out old.inputs new.inputs old.outputs new.outputs (answer_of k)
+      by_cause cause.End held = held
+      by_cause (cause.Bad at fault) held = held
+      by_cause (cause.Limit limit) held = held
+  leaves_so stop.ReadFault kept = kept
+  leaves_so stop.WriteFault kept = kept
+  leaves_so stop.NoMemory kept = kept
+
+  cause_so : (answer : Stop) → input ≢ out → Framed tells input (out ∷ []) old new (IsEnd why) answer → (IsTrue tells → Kept answer)
+      → HasCause tells (holds old.outputs input) input out old.inputs new.inputs old.outputs new.outputs (answered answer (answer_of why))
+  cause_so stop.Ended apart framed kept = by_cause why kept
+    where
+      by_cause : (k : Cause) → (IsTrue tells → IsSomeAnd (holds old.outputs input) (HoldsReport (AreOf Ended k) new.outputs out))
+          → HasCause tells (holds old.outputs input) input out old.inputs new.inputs old.outputs new.outputs (answer_of k)
+      by_cause cause.End held = (
+        apart,
+        λ told. held_map (holds old.outputs input) (HoldsReport (EndsSo Whole) new.outputs out) (IsExports Whole)
+            (λ octets all. record { records = all.records; reads = all.are; few = all.few }) (held told),
+      )
+      by_cause (cause.Bad at fault) held = (
+        apart,
+        λ told. held_map (holds old.outputs input) (HoldsReport (EndsSo (Faulty at fault)) new.outputs out) (IsExports (Faulty at fault))
+            (λ octets all. record { records = all.records; reads = all.are; few = all.few }) (held told),
+      )
+      by_cause (cause.Limit limit) held = (
+        apart,
+        is_limit limit,
+        λ told. held_map (holds old.outputs input) (HoldsReport (Passes (most_of limit)) new.outputs out) (IsLong (most_of limit))
+            (λ octets all. record { records = all.records; passes = all.are; few = all.few }) (held told),
+      )
+  cause_so stop.ReadFault apart framed kept = framed.touches.inputs.how.rose
+  cause_so stop.WriteFault apart framed kept = framed.touches.outputs.how.rose
+  cause_so stop.NoMemory apart framed kept = tt
+
+  -- what the run says of its answer
+  abbrev pub Ran : Outcome → Type 0
+  Ran answer = HasCause tells (holds old.outputs input) input out old.inputs new.inputs old.outputs new.outputs answer
+      × (IsTrue tells → Leaves (holds old.outputs input) out old.inputs new.inputs old.outputs new.outputs answer)
+      × Bounds (around tells old.inputs new.inputs old.outputs new.outputs) input (out ∷ []) (input ≢ out) answer
+
+  pub ran : (ins outs : List (List ℕ)) (stopped : Stop) (answer : Outcome) → answer ≡ answered stopped (answer_of why) → ins ≡ input ∷ [] → outs ≡ out ∷ [] → input ≢ out
+      → Frame tells ins outs old new (IsEnd why) stopped
+      → (IsTrue tells → frame.Leaves tells ins outs old new (λ how of. Says' how (of 0)) (λ of. Says Texts AreFirst (of 0)) stopped) → Ran answer
+  ran ins outs stopped answer is one_in one_out apart framed left =
+      let kept = kept_by tells input (out ∷ []) old new (IsEnd why) All Part (HoldsPart old.outputs new.outputs out) Says' (Says Texts AreFirst)
+      (λ so of. held_all (AreOf Ended why) (AreOf Ended why) so of of (λ records are. are))
+      (λ so handed left. held_all (AreWhole left) (AreWhole []) so handed (handed ++ left) (λ records. whole_on left records handed))
+      held_part ins outs one_in one_out stopped framed left in
+      subst Ran (sym is) (
+        cause_so stopped apart kept.0 kept.1,
+        λ told. leaves_so stopped (kept.1 told),
+        bounds_ran tells input (out ∷ []) old new (IsEnd why) (input ≢ out) stopped (answer_of why) kept.0 (ends_done why) (ends_open why) apart,
+      )
