@@ -1,5 +1,5 @@
 -- Laws of export records that are read in pieces and regrouped.
-use Rattle.std.proofs.Common.{◌≡◌, ℕ, ◌+◌, ◌*◌, ◌<◌, ◌≤◌, Bool, true, false, List, [], ◌∷◌, ◌++◌, length, length-append, refl, sym, ap, ◌∙◌, subst, arith, inl, inr}
+use Rattle.std.proofs.Common.{◌≡◌, ℕ, ◌+◌, ◌*◌, ◌<◌, ◌≤◌, Bool, true, false, List, [], ◌∷◌, ◌++◌, length, length-append, refl, ap, ◌∙◌, arith, inl, inr}
 use Rattle.std.specs.List.{AllByRecursion}
 use Rattle.std.proofs.lemmas.Bool.Decides.{nat_tests}
 use Rattle.std.proofs.lemmas.List.Elements.{recursion_from_All}
@@ -8,7 +8,7 @@ use Rattle.ioam_dex.specs.Visit.{has_visit, twelve_where}
 use Rattle.ioam_dex.specs.Faults.{IsCut}
 use Rattle.ioam_dex.specs.Reads.{records_octets}
 use Rattle.ioam_dex.specs.Reading.{Reading}
-use Rattle.ioam_dex.specs.Reader.{Stands, Waits, fed}
+use Rattle.ioam_dex.specs.Reader.{Stands, Waits}
 use Rattle.ioam_dex.proofs.RecordLaws.{numbers_size-small, record_octets-length, record_size-small}
 use Rattle.ioam_collect.specs.Keyed.{keyed_of}
 use Rattle.ioam_collect.specs.Collected as collected
@@ -17,7 +17,7 @@ use Rattle.ioam_collect.specs.Joining.{is_full}
 use Rattle.ioam_collect.proofs.CountLaws.{full_count, fits_count, held_within}
 use Rattle.ioam_collect.specs.declared.growing.Added.{Added}
 use Rattle.ioam_collect.specs.declared.growing.Added.TheVariants.{Kept, Replaced, Repeat, Unkeyed, Full}
-use Rattle.ioam_collect_stream.specs.Gathering.{AreFew, Gathers, IsPast, SaysLimit}
+use Rattle.ioam_collect_stream.specs.Gathering.{Gathers, IsPast, SaysLimit}
 
 twelve_small : (there : Bool) → twelve_where there ≤ 12
 twelve_small true = omega arith

@@ -1,4 +1,4 @@
-mod GatheringLaws
+pub mod GatheringLaws
 pub mod RecordsLaws
 mod RegroupingLaws
 -- of the crates below, for the crates above

@@ -1,11 +1,11 @@
 -- How records are read and regrouped, and what is said of them.
-use Rattle.std.proofs.Common.{◌≡◌, ℕ, ◌+◌, ◌*◌, ◌-◌, ◌^◌, ◌<◌, ◌≤◌, suc, List, [], ◌∷◌, ◌++◌, length, get_or, set, refl, sym, ap, ◌∙◌, subst, length-append, append-nil, append_assoc, arith, Option, Some, None, MatchOption}
+use Rattle.std.proofs.Common.{◌≡◌, ℕ, ◌+◌, ◌-◌, ◌^◌, ◌<◌, suc, List, [], ◌∷◌, ◌++◌, length, get_or, set, refl, sym, ap, ◌∙◌, subst, length-append, append-nil, append_assoc, arith, Option, Some, None, MatchOption}
 use Rattle.std.specs.Borrow.{MutBor}
 use Rattle.std.proofs.lemmas.List.Elements.{All-nil, All-cons}
 use Rattle.ioam_collect.specs.Collected as collected
 use Rattle.ioam_collect.specs.Collected.{Collected}
-use Rattle.ioam_collect_stream.specs.Gathering.{AreFew, AreWhole, Gathers, Passes, Steps, most_of}
-use Rattle.ioam_collect_stream.specs.Regrouping.{AreFirst, AreOf, HasStopped, IsEnd, IsFresh, IsRegrouping, IsSaying, IsUnsaid, Says, by_option, cause_of, does}
+use Rattle.ioam_collect_stream.specs.Gathering.{Gathers, Steps}
+use Rattle.ioam_collect_stream.specs.Regrouping.{AreFirst, AreOf, HasStopped, IsEnd, IsRegrouping, IsSaying, IsUnsaid, by_option, does}
 use Rattle.ioam_collect_stream.specs.Report.{Begins, Puts, PutsPart}
 use Rattle.ioam_collect_stream.specs.declared.regrouping.Regrouping.{Regrouping}
 use Rattle.ioam_collect_stream.specs.declared.regrouping.Cause.{Cause}
@@ -16,14 +16,13 @@ use Rattle.ioam_collect_stream.proofs.GatheringLaws.{Waits-few, start_few}
 use Rattle.ioam_desk_outputs.specs.Told.{Adds, GathersFew, GathersNothing, said_more}
 use Rattle.ioam_desk_outputs.specs.declared.output.Output.{Output}
 use Rattle.ioam_desk_outputs.proofs.ToldLaws.{Adds-few}
-use Rattle.ioam_dex.specs.Record.{Record, IsRecord}
-use Rattle.ioam_dex.specs.Reads.{Faulty, Reads}
+use Rattle.ioam_dex.specs.Record.{Record}
 use Rattle.ioam_dex.specs.Reading.{Reading}
-use Rattle.ioam_dex.specs.Reader.{Stands, Waits, ending_of, fed}
+use Rattle.ioam_dex.specs.Reader.{Stands, Waits, fed}
 use Rattle.ioam_dex.specs.declared.export.ExportFault.{ExportFault}
 use Rattle.ioam_dex.proofs.ReadsLaws.{Splits-feed}
 use Rattle.ioam_stream.specs.Conversion.{Closes, Converts, StandsSo, StopsSo, TakesOne, NeedsMore, TakesNone, Finishes, SaysPart, SaysLast, Opens, Refills}
-use Rattle.ioam_stream.specs.Stage.{How, Ended, Handed}
+use Rattle.ioam_stream.specs.Stage.{How, Ended}
 use Rattle.ioam_stream.specs.declared.conversion.Tail.{Tail}
 use Rattle.ioam_stream.specs.declared.conversion.Tail.TheVariants as tail
 
@@ -218,15 +217,15 @@ module _ {T : Type 0} (tells : List Record → List ℕ → Type 0) (rest : T �
         → Begins tells rest left most lent.now before after.gathered.items report → SaysPart D old new outputs (set outputs 0 after)
     says_first lent report so here gone is begins =
         let stands : (records : List Record) (so_far : List (List ℕ)) → MatchOption old.collector (IsSaying tells rest left most records so_far old.report)
-            (λ (c : MutBor Collected). collected.Stands c.now records × IsUnsaid so_far) → collected.Stands lent.now records × IsUnsaid so_far =
-            λ records so_far says. subst (λ (o : Option (MutBor Collected)). MatchOption o (IsSaying tells rest left most records so_far old.report)
-            (λ (c : MutBor Collected). collected.Stands c.now records × IsUnsaid so_far)) here says in
+        (λ (c : MutBor Collected). collected.Stands c.now records × IsUnsaid so_far) → collected.Stands lent.now records × IsUnsaid so_far =
+        λ records so_far says. subst (λ (o : Option (MutBor Collected)). MatchOption o (IsSaying tells rest left most records so_far old.report)
+        (λ (c : MutBor Collected). collected.Stands c.now records × IsUnsaid so_far)) here says in
         let s = so.stops in
         let few = begins.few s.records s.first.1.each s.few (stands s.records so.so_far s.says).0 in
         let was : by_option old.collector (by_option old.report 0 left) (λ (c : MutBor Collected). suc most) ≡ suc most =
-            ap (λ (o : Option (MutBor Collected)). by_option o (by_option old.report 0 left) (λ (c : MutBor Collected). suc most)) here in
+        ap (λ (o : Option (MutBor Collected)). by_option o (by_option old.report 0 left) (λ (c : MutBor Collected). suc most)) here in
         let now : by_option new.collector (by_option new.report 0 left) (λ (c : MutBor Collected). suc most) ≡ left report =
-            ap (λ (o : Option (MutBor Collected)). by_option o (by_option new.report 0 left) (λ (c : MutBor Collected). suc most)) gone ∙ ap (λ (o : Option T). by_option o 0 left) is in
+        ap (λ (o : Option (MutBor Collected)). by_option o (by_option new.report 0 left) (λ (c : MutBor Collected). suc most)) gone ∙ ap (λ (o : Option T). by_option o 0 left) is in
         record {
           held = omega (arith, was, now, few, ap (λ (r : Reading). length r.pending) reader_is);
           room = ap (λ (r : Reading). 2 ^ 63 - fed r) reader_is;
@@ -235,12 +234,12 @@ module _ {T : Type 0} (tells : List Record → List ℕ → Type 0) (rest : T �
           stops = λ begun how octets so_far t.
               let c = stands t.records so_far t.says in
               still_stopped how octets so_far (said_more so_far (begins.added ∷ [])) t (subst (λ (o : Option (MutBor Collected)). MatchOption o (IsSaying tells rest left most t.records (said_more so_far (begins.added ∷ [])) new.report)
-                    (λ (c : MutBor Collected). collected.Stands c.now t.records × IsUnsaid (said_more so_far (begins.added ∷ [])))) (sym gone)
-                    (subst (λ (o : Option T). IsSaying tells rest left most t.records (said_more so_far (begins.added ∷ [])) o) (sym is) (
-                      begins.added,
-                      begins.text t.records t.first.1.each t.few c.0,
-                      ap (λ (texts : List (List ℕ)). said_more texts (begins.added ∷ [])) c.1,
-                    )));
+              (λ (c : MutBor Collected). collected.Stands c.now t.records × IsUnsaid (said_more so_far (begins.added ∷ [])))) (sym gone)
+              (subst (λ (o : Option T). IsSaying tells rest left most t.records (said_more so_far (begins.added ∷ [])) o) (sym is) (
+                begins.added,
+                begins.text t.records t.first.1.each t.few c.0,
+                ap (λ (texts : List (List ℕ)). said_more texts (begins.added ∷ [])) c.1,
+              )));
           drains = subst (λ (k : Cause). IsEnd k) why;
         }
 
@@ -256,9 +255,9 @@ module _ {T : Type 0} (tells : List Record → List ℕ → Type 0) (rest : T �
       pub says_more : new.collector ≡ None → new.report ≡ Some report → PutsPart rest left mid report before after.gathered.items → SaysPart D old new outputs (set outputs 0 after)
       says_more none is puts =
           let first : by_option old.collector (by_option old.report 0 left) (λ (c : MutBor Collected). suc most) ≡ left mid =
-              ap (λ (o : Option (MutBor Collected)). by_option o (by_option old.report 0 left) (λ (c : MutBor Collected). suc most)) gone ∙ ap (λ (o : Option T). by_option o 0 left) was in
+          ap (λ (o : Option (MutBor Collected)). by_option o (by_option old.report 0 left) (λ (c : MutBor Collected). suc most)) gone ∙ ap (λ (o : Option T). by_option o 0 left) was in
           let now : by_option new.collector (by_option new.report 0 left) (λ (c : MutBor Collected). suc most) ≡ left report =
-              ap (λ (o : Option (MutBor Collected)). by_option o (by_option new.report 0 left) (λ (c : MutBor Collected). suc most)) none ∙ ap (λ (o : Option T). by_option o 0 left) is in
+          ap (λ (o : Option (MutBor Collected)). by_option o (by_option new.report 0 left) (λ (c : MutBor Collected). suc most)) none ∙ ap (λ (o : Option T). by_option o 0 left) is in
           let less = puts.fewer in
           record {
             held = omega (arith, first, now, less, ap (λ (r : Reading). length r.pending) reader_is);
@@ -268,12 +267,12 @@ module _ {T : Type 0} (tells : List Record → List ℕ → Type 0) (rest : T �
             stops = λ begun how octets so_far t.
                 let c = said_of t.records so_far t.says in
                 still_stopped how octets so_far (said_more so_far (puts.added ∷ [])) t (subst (λ (o : Option (MutBor Collected)). MatchOption o (IsSaying tells rest left most t.records (said_more so_far (puts.added ∷ [])) new.report)
-                      (λ (c : MutBor Collected). collected.Stands c.now t.records × IsUnsaid (said_more so_far (puts.added ∷ [])))) (sym none)
-                      (subst (λ (o : Option T). IsSaying tells rest left most t.records (said_more so_far (puts.added ∷ [])) o) (sym is) (
-                        c.0 ++ puts.added,
-                        subst (tells t.records) (ap (λ o. c.0 ++ o) puts.rest_is ∙ sym (append_assoc c.0 puts.added (rest report))) c.1,
-                        ap (λ (texts : List (List ℕ)). said_more texts (puts.added ∷ [])) c.2,
-                      )));
+                (λ (c : MutBor Collected). collected.Stands c.now t.records × IsUnsaid (said_more so_far (puts.added ∷ [])))) (sym none)
+                (subst (λ (o : Option T). IsSaying tells rest left most t.records (said_more so_far (puts.added ∷ [])) o) (sym is) (
+                  c.0 ++ puts.added,
+                  subst (tells t.records) (ap (λ o. c.0 ++ o) puts.rest_is ∙ sym (append_assoc c.0 puts.added (rest report))) c.1,
+                  ap (λ (texts : List (List ℕ)). said_more texts (puts.added ∷ [])) c.2,
+                )));
             drains = subst (λ (k : Cause). IsEnd k) why;
           }
 

@@ -1,9 +1,9 @@
 -- Export records that are read in pieces while a collector regroups them.
-use Rattle.std.specs.Prelude.{◌≡◌, ℕ, ◌<◌, ◌≤◌, ◌⊎◌, ⊤, Bool, IsTrue, IsSomeAnd, List, [], ◌∷◌, ◌++◌, length, Option, Some, None}
+use Rattle.std.specs.Prelude.{◌≡◌, ℕ, ◌<◌, ◌≤◌, ◌⊎◌, List, [], ◌∷◌, ◌++◌, length, Option, Some, None}
 use Rattle.ioam_desk.specs.Desk as desk
 use Rattle.ioam_desk.specs.Desk.{Rose, SameBut}
 use Rattle.ioam_dex.specs.Record.{Record, most_records}
-use Rattle.ioam_dex.specs.Reads.{Whole, Faulty, Reads, Splits}
+use Rattle.ioam_dex.specs.Reads.{Faulty, Reads, Splits}
 use Rattle.ioam_dex.specs.Faults.{IsCut}
 use Rattle.ioam_dex.specs.Reading.{Reading}
 use Rattle.ioam_dex.specs.Reader.{Stands, Waits}

@@ -14,6 +14,7 @@ pub trait Report<'a>: Drop {
 
     // there is a text of no records
     ghost none: { List ℕ };
+
     ghost of_none: { tells [] none };
 
     // what is still to be said
@@ -21,6 +22,7 @@ pub trait Report<'a>: Drop {
 
     // how many parts may still be said, and the most that may be said of any records
     ghost left: { Self → ℕ };
+
     ghost most: { ℕ };
 
     /// Says the first part.

@@ -72,9 +72,7 @@ pub(crate) fn step(
             }
             let added = collector.add(&export)?;
             if added.is_full() {
-                return Ok(Some(Pause::Limit {
-                    limit: Limit::Held,
-                }));
+                return Ok(Some(Pause::Limit { limit: Limit::Held }));
             }
             Ok(None)
         }

@@ -1,5 +1,5 @@
 -- What the frame of a run over one input says, and what the outputs hold, by how the run stopped.
-use Rattle.std.proofs.Common.{◌≡◌, ◌≢◌, ℕ, zero, suc, ◌+◌, ◌<◌, ◌⊎◌, Bool, IsTrue, IsSomeAnd, List, [], ◌∷◌, ◌++◌, length, Option, Some, None, refl, sym, ap, ◌∙◌, subst, inl, inr, append-nil, arith}
+use Rattle.std.proofs.Common.{◌≡◌, ℕ, zero, suc, ◌+◌, ◌<◌, ◌⊎◌, Bool, IsTrue, IsSomeAnd, List, [], ◌∷◌, ◌++◌, Option, Some, None, refl, sym, ap, ◌∙◌, subst, inl, inr, append-nil, arith}
 use Rattle.std.specs.Prelude.{Contains, IfOk, OnOk, Result, Ok, Err}
 use Rattle.ioam_desk.specs.Desk.{Reading, Writing, holds}
 use Rattle.ioam_desk.specs.Touches.{State, Touches, opening}
@@ -32,7 +32,7 @@ pub held_map : (o : Option (List ℕ)) (P Q : List ℕ → Type 0) → ((octets 
 held_map None P Q f held = absurd held
 held_map (Some octets) P Q f held = f octets held
 
-held_some : (o : Option (List ℕ)) (octets : List ℕ) (P : List ℕ → Type 0) → o ≡ Some octets → P octets → IsSomeAnd o P
+pub held_some : (o : Option (List ℕ)) (octets : List ℕ) (P : List ℕ → Type 0) → o ≡ Some octets → P octets → IsSomeAnd o P
 held_some o octets P is holds = subst (λ (p : Option (List ℕ)). IsSomeAnd p P) (sym is) holds
 
 -- one name is apart

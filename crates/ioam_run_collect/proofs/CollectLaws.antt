@@ -1,5 +1,5 @@
 -- What a run of `collect` answers, and what REPORT holds then.
-use Rattle.std.proofs.Common.{◌≡◌, ◌≢◌, ◌+◌, ◌∷◌, [], ◌++◌, ◌∙◌, ap, append-nil, List, ℕ, Bool, IsTrue, IsSomeAnd, Some, refl, sym, subst, inl, inr, arith}
+use Rattle.std.proofs.Common.{◌≡◌, ◌≢◌, ◌∷◌, [], ◌++◌, ◌∙◌, ap, append-nil, List, ℕ, Bool, IsTrue, IsSomeAnd, Some, refl, sym, subst, inl, inr, arith}
 use Rattle.ioam_base.specs.Octets.{IsFront}
 use Rattle.ioam_desk.specs.Desk.{holds}
 use Rattle.ioam_desk.specs.Touches.{State}
@@ -21,7 +21,7 @@ use Rattle.ioam_run_answer.specs.Outcomes.{IsDone, OpensNothing}
 use Rattle.ioam_run_answer.specs.declared.outcome.Outcome.{Outcome}
 use Rattle.ioam_run_answer.proofs.RanLaws.{Framed, LeftBy, bounds_ran, held_map, kept_by}
 use Rattle.ioam_run_collect.specs.Promise.{EndsSo, HasCause, HoldsPart, HoldsReport, IsExports, IsLong, Leaves}
-use Rattle.ioam_stream.specs.Stage.{How, Ended, Handed}
+use Rattle.ioam_stream.specs.Stage.{How, Ended}
 use Rattle.ioam_stream.specs.Frame as frame
 use Rattle.ioam_stream.specs.Frame.{Frame}
 use Rattle.ioam_stream.specs.declared.reading.Stop.{Stop}

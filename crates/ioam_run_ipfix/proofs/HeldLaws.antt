@@ -1,5 +1,5 @@
 -- What OUT holds of the texts that were said.
-use Rattle.std.proofs.Common.{◌≡◌, ℕ, ◌+◌, ◌<◌, ◌∷◌, List, [], subst, arith}
+use Rattle.std.proofs.Common.{ℕ, ◌∷◌, List, [], subst, arith}
 use Rattle.ioam_desk.specs.Touches.{State}
 use Rattle.ioam_desk_outputs.specs.Held.{HoldTexts, HoldFronts}
 use Rattle.ioam_dex.specs.Record.{Record}

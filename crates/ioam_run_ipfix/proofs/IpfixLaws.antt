@@ -16,7 +16,7 @@ use Rattle.ioam_run_ipfix.specs.declared.packer.Cause.{Cause}
 use Rattle.ioam_run_ipfix.specs.declared.packer.Cause.TheVariants as cause
 use Rattle.ioam_run_answer.proofs.RanLaws.{Framed, LeftBy, bounds_ran, held_map, kept_by}
 use Rattle.ioam_run_ipfix.proofs.HeldLaws.{front_held, text_held}
-use Rattle.ioam_stream.specs.Stage.{How, Ended, Handed}
+use Rattle.ioam_stream.specs.Stage.{How, Ended}
 use Rattle.ioam_stream.specs.Frame.{Frame, Leaves}
 use Rattle.ioam_stream.specs.declared.reading.Stop.{Stop}
 use Rattle.ioam_stream.specs.declared.reading.Stop.TheVariants as stop

@@ -1,19 +1,12 @@
--- What failed is answered: of the answer for what stopped the reading, of one output, and of one input.
-use Rattle.std.proofs.Common.{◌≡◌, ℕ, List, Option, Ok, Err, ap, ◌∙◌, refl, subst, sym}
+-- What failed is answered: of one output, and of one input.
+use Rattle.std.proofs.Common.{◌≡◌, ℕ, List, Option, Err, ap, ◌∙◌, refl}
 use Rattle.std.specs.Prelude.{◌≢◌, Bool, Result}
-use Rattle.ioam_desk.specs.Asked.{HaveSlots}
-use Rattle.ioam_desk.specs.Desk.{Reading, Writing, Side, OpenIn, OpenOut}
+use Rattle.ioam_desk.specs.Desk.{Reading, Writing, OpenIn, OpenOut}
 use Rattle.ioam_desk.specs.declared.fault.DeskFault.{DeskFault}
 use Rattle.ioam_desk.specs.declared.fault.DeskFault.TheVariants.{Failed, NoMemory}
-use Rattle.ioam_desk.proofs.AskedLaws.{HaveSlots-same, HaveSlots-still}
-use Rattle.ioam_run_answer.specs.Desks.{around}
-use Rattle.ioam_run_answer.specs.Failures.{AnswersFailures}
-use Rattle.ioam_run_answer.specs.Outcomes.{IsSettled}
-use Rattle.ioam_collect_stream.specs.declared.gathering.Halt.{Halt}
-use Rattle.ioam_collect_stream.specs.declared.gathering.Halt.TheVariants as halt
+use Rattle.ioam_desk.proofs.AskedLaws.{HaveSlots-still}
 use Rattle.ioam_run_answer.specs.declared.outcome.Outcome.{Outcome}
 use Rattle.ioam_run_answer.specs.declared.outcome.Outcome.TheVariants as outcome
-use Rattle.ioam_run_part.specs.PartEnds.{outcome_of}
 use Rattle.ioam_run_part.specs.Stored.{AnswersWrites}
 use Rattle.ioam_run_part.specs.Stored as stored
 use Rattle.ioam_run_part.specs.Two.{AnswersTwo}
@@ -21,36 +14,9 @@ use Rattle.ioam_run_part.specs.Unread.{AnswersReads, unread_by}
 use Rattle.ioam_run_part.specs.declared.unread.Unread.{Unread}
 use Rattle.ioam_run_part.specs.declared.unread.Unread.TheVariants as unread
 
--- no name was opened while the input was read, and it is as it was behind the writing
-pub written_still : (old_in mid_in new_in : Reading) → mid_in.side.asked ≡ old_in.side.asked → mid_in.side.slots ≡ old_in.side.slots → new_in ≡ mid_in
-    → HaveSlots old_in.side new_in.side
-written_still old_in mid_in new_in asked slots inputs =
-    subst (λ (r : Reading). HaveSlots old_in.side r.side) (sym inputs) (HaveSlots-same old_in.side mid_in.side asked slots)
-
-module _ (tells : Bool) (old_in mid_in new_in : Reading) (old mid new : Writing) where
-  -- behind what stopped the reading all was written
-  pub answers_halt : (why : Halt) → HaveSlots old_in.side new_in.side → (why ≢ halt.ReadFault → mid_in.side ≡ old_in.side) → new_in ≡ mid_in → mid ≡ old
-      → new.side.faults ≡ mid.side.faults
-      → AnswersFailures (around tells old_in new_in old new) (outcome_of why)
-  answers_halt why slots read inputs outputs written = record {
-    opens = λ other. slots;
-    reads = λ settled.
-        let P : Halt → Type 0 = λ h. IsSettled (outcome_of h) in
-        ap (λ (r : Reading). r.side.faults) inputs ∙ ap (λ (s : Side). s.faults) (read (λ is. subst P is settled));
-    writes = λ other. written ∙ ap (λ (w : Writing). w.side.faults) outputs;
-  }
-
 -- ---- one output
 
 module _ (old new : Writing) where
-  -- all was written
-  pub written_done : (u : Unit {0}) → AnswersWrites old new (Ok u) → new.side.faults ≡ old.side.faults
-  written_done u answers = answers (λ same. cc)
-
-  -- no memory could be had
-  pub written_wanting : AnswersWrites old new (Err NoMemory) → new.side.faults ≡ old.side.faults
-  written_wanting answers = answers (λ same. cc)
-
   -- the answer for what became of it
   pub written_answered : (r : Result (Unit {0}) DeskFault) (answer : Outcome) → answer ≡ stored.answer_of r → AnswersWrites old new r → answer ≢ outcome.WriteFault
       → new.side.faults ≡ old.side.faults

@@ -8,10 +8,9 @@ mod MergeLaws
 mod OneFault
 mod PartAskedLaws
 mod PartLaws
+mod PartReportLaws
 mod PartsAskedLaws
 mod PartsLaws
-mod PiecesLaws
-mod RecordsLaws
 mod StoredLaws
 mod TwoLaws
 mod UnreadLaws

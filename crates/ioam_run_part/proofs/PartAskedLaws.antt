@@ -1,78 +1,40 @@
 -- The words and EXPORTS ask for one answer of `part`.
-use Rattle.std.proofs.Common.{◌≡◌, ℕ, ◌⊎◌, Bool, IsTrue, IsSomeAnd, List, Option, Some, None, refl, sym, ap, ◌∙◌, inl, inr}
+use Rattle.std.proofs.Common.{◌≡◌, ℕ, ◌⊎◌, Bool, IsTrue, List, Option}
 use Rattle.ioam_desk.specs.Desk.{Reading, Writing, Rose}
-use Rattle.ioam_run_answer.specs.Reads.{Ending, Whole, Faulty}
-use Rattle.ioam_run_answer.specs.ExportFault.{ExportFault}
-use Rattle.ioam_run_answer.proofs.ReadsLaws.{Reads-unique}
+use Rattle.ioam_dex.proofs.ReadsLaws.{Reads-unique}
+use Rattle.ioam_collect_stream.specs.Gathering.{IsLimit}
+use Rattle.ioam_collect_stream.proofs.RecordsLaws.{long_or_few, long_once}
 use Rattle.ioam_run_answer.specs.declared.outcome.Outcome.{Outcome}
 use Rattle.ioam_run_answer.specs.declared.outcome.Outcome.TheVariants as outcome
+use Rattle.ioam_run_answer.proofs.AskedLaws.{Asks, Causes, exact}
 use Rattle.ioam_run_part.specs.PartPromise.{PartAsked, PartCause}
 use Rattle.ioam_run_part.specs.Records.{IsExports, IsLong}
-use Rattle.ioam_run_part.proofs.RecordsLaws.{long_or_few, long_once}
 
-both_held : (o : Option (List ℕ)) (P Q : List ℕ → Type 0) → IsSomeAnd o P → IsSomeAnd o Q → (octets : List ℕ) × P octets × Q octets
-both_held None P Q x y = absurd x
-both_held (Some octets) P Q x y = (octets, x, y)
+module _ (tells : Bool) (content : Option (List ℕ)) (exports part : List ℕ) where
+  asks_so : (a : Outcome) → PartAsked tells content exports part a → Asks tells content exports part IsLimit IsExports IsLong a
+  asks_so outcome.Done x = x
+  asks_so (outcome.Names name) x = x
+  asks_so (outcome.Exports at fault) x = x
+  asks_so (outcome.Records limit) x = x
+  asks_so _ x = absurd x
 
-one_ending : (content : Option (List ℕ)) (d e : Ending) → IsSomeAnd content (IsExports d) → IsSomeAnd content (IsExports e) → d ≡ e
-one_ending content d e x y =
-    let both = both_held content (IsExports d) (IsExports e) x y in
-    (Reads-unique both.0 both.1.records both.2.records d e both.1.reads both.2.reads).1
+  module _ (told : IsTrue tells) (old_in new_in : Reading) (old new : Writing) where
+    caused_so : (answer : Outcome) → PartCause tells content exports part old_in new_in old new answer
+        → Causes tells content exports part IsLimit IsExports IsLong old_in new_in old new answer
+    caused_so outcome.Done x = x
+    caused_so (outcome.Names name) x = x
+    caused_so (outcome.Exports at fault) x = x
+    caused_so (outcome.Records limit) x = x
+    caused_so outcome.ReadFault x = x
+    caused_so outcome.WriteFault x = x
+    caused_so outcome.NoMemory x = x
+    caused_so _ x = absurd x
 
-long_or : (content : Option (List ℕ)) (limit : ℕ) (d : Ending) → IsSomeAnd content (IsLong limit) → IsSomeAnd content (IsExports d) → ⊥
-long_or content limit d x y =
-    let both = both_held content (IsLong limit) (IsExports d) x y in
-    long_or_few limit d both.0 both.1 both.2
-
-one_long : (content : Option (List ℕ)) (a b : ℕ) → IsSomeAnd content (IsLong a) → IsSomeAnd content (IsLong b) → a ≡ b
-one_long content a b x y =
-    let both = both_held content (IsLong a) (IsLong b) x y in
-    long_once a b both.0 both.1 both.2
-
-whole_or_faulty : (at : ℕ) (fault : ExportFault) → Whole ≡ Faulty at fault → ⊥
-whole_or_faulty at fault same = cc
-
-faulty_same : (at : ℕ) (fault : ExportFault) (place : ℕ) (other : ExportFault) → Faulty at fault ≡ Faulty place other
-    → outcome.Exports at fault ≡ outcome.Exports place other
-faulty_same at fault place other same =
-    let there : at ≡ place = cc in
-    let why : fault ≡ other = cc in
-    cc
-
-module _ (tells : Bool) (content : Option (List ℕ)) (exports part : List ℕ) (told : IsTrue tells) where
-  asked_once : (a b : Outcome) → PartAsked tells content exports part a → PartAsked tells content exports part b → a ≡ b
-  asked_once outcome.Done outcome.Done x y = refl
-  asked_once outcome.Done (outcome.Names name') x y = absurd (x.0 y.0)
-  asked_once outcome.Done (outcome.Exports at' fault') x y = absurd (whole_or_faulty at' fault' (one_ending content Whole (Faulty at' fault') (x.1 told) (y.1 told)))
-  asked_once outcome.Done (outcome.Records limit') x y = absurd (long_or content limit' Whole (y.2 told) (x.1 told))
-  asked_once outcome.Done _ x y = absurd y
-  asked_once (outcome.Names name) outcome.Done x y = absurd (y.0 x.0)
-  asked_once (outcome.Names name) (outcome.Names name') x y = ap outcome.Names (x.1 ∙ sym y.1)
-  asked_once (outcome.Names name) (outcome.Exports at' fault') x y = absurd (y.0 x.0)
-  asked_once (outcome.Names name) (outcome.Records limit') x y = absurd (y.0 x.0)
-  asked_once (outcome.Names name) _ x y = absurd y
-  asked_once (outcome.Exports at fault) outcome.Done x y = absurd (whole_or_faulty at fault (sym (one_ending content (Faulty at fault) Whole (x.1 told) (y.1 told))))
-  asked_once (outcome.Exports at fault) (outcome.Names name') x y = absurd (x.0 y.0)
-  asked_once (outcome.Exports at fault) (outcome.Exports at' fault') x y = faulty_same at fault at' fault' (one_ending content (Faulty at fault) (Faulty at' fault') (x.1 told) (y.1 told))
-  asked_once (outcome.Exports at fault) (outcome.Records limit') x y = absurd (long_or content limit' (Faulty at fault) (y.2 told) (x.1 told))
-  asked_once (outcome.Exports at fault) _ x y = absurd y
-  asked_once (outcome.Records limit) outcome.Done x y = absurd (long_or content limit Whole (x.2 told) (y.1 told))
-  asked_once (outcome.Records limit) (outcome.Names name') x y = absurd (x.0 y.0)
-  asked_once (outcome.Records limit) (outcome.Exports at' fault') x y = absurd (long_or content limit (Faulty at' fault') (x.2 told) (y.1 told))
-  asked_once (outcome.Records limit) (outcome.Records limit') x y = ap outcome.Records (one_long content limit limit' (x.2 told) (y.2 told))
-  asked_once (outcome.Records limit) _ x y = absurd y
-  asked_once _ b x y = absurd x
-
-  -- what is asked for is answered, unless a call failed or no memory could be had
-  pub part_asked : (old_in new_in : Reading) (old new : Writing) (answer asked : Outcome)
-      → PartCause tells content exports part old_in new_in old new answer → PartAsked tells content exports part asked
-      → (Rose old_in.side.faults new_in.side.faults → ⊥) → (Rose old.side.faults new.side.faults → ⊥)
-      → (answer ≡ asked) ⊎ (answer ≡ outcome.NoMemory)
-  part_asked old_in new_in old new outcome.Done asked cause asks reads writes = inl (asked_once outcome.Done asked cause asks)
-  part_asked old_in new_in old new (outcome.Names name) asked cause asks reads writes = inl (asked_once (outcome.Names name) asked cause asks)
-  part_asked old_in new_in old new (outcome.Exports at fault) asked cause asks reads writes = inl (asked_once (outcome.Exports at fault) asked cause asks)
-  part_asked old_in new_in old new (outcome.Records limit) asked cause asks reads writes = inl (asked_once (outcome.Records limit) asked cause asks)
-  part_asked old_in new_in old new outcome.ReadFault asked cause asks reads writes = absurd (reads cause)
-  part_asked old_in new_in old new outcome.WriteFault asked cause asks reads writes = absurd (writes cause)
-  part_asked old_in new_in old new outcome.NoMemory asked cause asks reads writes = inr refl
-  part_asked old_in new_in old new _ asked cause asks reads writes = absurd cause
+    -- what is asked for is answered, unless a call failed or no memory could be had
+    pub part_asked : (answer asked : Outcome) → PartCause tells content exports part old_in new_in old new answer → PartAsked tells content exports part asked
+        → (Rose old_in.side.faults new_in.side.faults → ⊥) → (Rose old.side.faults new.side.faults → ⊥) → (answer ≡ asked) ⊎ (answer ≡ outcome.NoMemory)
+    part_asked answer asked cause asks = exact tells content exports part IsLimit IsExports IsLong told
+        (λ octets d e x y. (Reads-unique octets x.records y.records d e x.reads y.reads).1)
+        (λ octets limit d x y. long_or_few limit d octets x.records y.records x.passes y.reads y.few)
+        (λ octets a b x y. long_once a b octets x.records y.records x.passes x.few y.passes y.few)
+        old_in new_in old new answer asked (caused_so answer cause) (asks_so asked asks)

@@ -4,8 +4,8 @@ pub mod Joined
 pub mod KeptText
 pub mod MergeEnds
 pub mod MergePromise
-pub mod PartEnds
 pub mod PartPromise
+pub mod PartReport
 pub mod PartsEnds
 pub mod PartsPromise
 pub mod Records

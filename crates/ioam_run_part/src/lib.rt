@@ -2,7 +2,6 @@
 //! joined, and one printed.
 #![tactic(auto)]
 
-mod exports;
 mod flat;
 mod gathered;
 mod joined;
@@ -11,7 +10,7 @@ mod merge;
 mod names;
 mod part;
 mod parts;
-mod pieces;
+mod records;
 mod stored;
 mod two;
 mod unread;

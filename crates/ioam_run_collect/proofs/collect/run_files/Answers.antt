@@ -1,4 +1,7 @@
+use Rattle.std.proofs.Common.{◌≢◌, ◌∷◌, []}
 use Rattle.ioam_desk.specs.Touches.{state}
+use Rattle.ioam_run_answer.specs.declared.outcome.Outcome.TheVariants as outcome
+use Rattle.ioam_run_answer.proofs.RanLaws.{bounds_none}
 use Rattle.ioam_run_collect.proofs.CollectLaws.{ran}
 use Rattle.ioam_run_collect.proofs.collect.run_files.Goals as goal
 
@@ -19,3 +22,7 @@ returns-clause-bounds g c =
     (ran g.D.Desk.tells g.files.exports g.files.report (state (g.D.Desk.reading c.args.desk.now) (g.D.Desk.writing c.args.desk.now))
     (state (g.D.Desk.reading c.run-stop.new.desk) (g.D.Desk.writing c.run-stop.new.desk)) c.run-stop.new.stage.converter.cause c.args.ins.now c.args.outs.now c.run-stop.result
     c.answer.result c.answer.ensures c.requires.1.0 c.requires.1.1.0 c.requires.1.1.1 c.run-stop.ensures.frame c.run-stop.ensures.leaves).2
+
+pub returns-in_default-new-clause-bounds : goal.returns-in_default-new-clause-bounds
+returns-in_default-new-clause-bounds g c = bounds_none g.D.Desk.tells g.files.exports (g.files.report ∷ []) (g.files.exports ≢ g.files.report)
+    (g.D.Desk.reading c.args.desk.now) (g.D.Desk.writing c.args.desk.now) outcome.NoMemory (λ behind. behind) (λ done. done)
