@@ -1,5 +1,5 @@
 -- What two parts join to.
-use Rattle.std.proofs.Common.{◌≡◌, ℕ, Bool, List, length, ◌++◌, refl, sym, ap, ◌∙◌, subst, inl, inr, arith, Option, None, Some, Ok, Err}
+use Rattle.std.proofs.Common.{◌≡◌, ℕ, ◌<◌, Bool, List, [], length, ◌++◌, append-nil, refl, sym, ap, ◌∙◌, subst, inl, inr, arith, Option, None, Some, Ok, Err}
 use Rattle.std.specs.Prelude.{Result}
 use Rattle.ioam_desk.specs.Desk.{Writing}
 use Rattle.ioam_desk.specs.declared.fault.DeskFault.{DeskFault}
@@ -15,11 +15,13 @@ use Rattle.ioam_collect.proofs.JoiningLaws.{keyed-append}
 use Rattle.ioam_collect.proofs.UniteLaws.{apart_kept}
 use Rattle.ioam_part.specs.Part.{IsPart, PartOf, JoinsTo, head_octets}
 use Rattle.ioam_part.proofs.PartLaws.{joined_is, joined_only, joined_swaps, joined_associates, joined_repeats, groups_same, part_same}
-use Rattle.ioam_part_merge.specs.Walk.{Walking, Comes, pairs_octets}
+use Rattle.ioam_part_merge.specs.Walk.{Walking, Comes, NextIs, left, pairs_octets}
 use Rattle.ioam_part_merge.proofs.WalkLaws.{count_is, text_is_part}
 use Rattle.ioam_run_answer.specs.declared.outcome.Outcome.{Outcome}
 use Rattle.ioam_run_answer.specs.declared.outcome.Outcome.TheVariants as outcome
-use Rattle.ioam_run_part.specs.Joined.{Counts, CountsBoth, IsPlan, RefusesJoined, WritesJoined}
+use Rattle.ioam_run_part.specs.Joined.{Counts, CountsBoth, IsPlan, RefusesJoined, SaysJoined, WritesJoined, head_if, left_of}
+use Rattle.ioam_run_part.specs.Telling.{PutsLast, PutsPart}
+use Rattle.ioam_run_part.specs.declared.joined.Joined.{Joined}
 use Rattle.ioam_run_part.specs.MergePromise.{IsMerged}
 use Rattle.ioam_run_part.specs.Records.{IsPartOfAll, KeepFew}
 use Rattle.ioam_run_part.specs.Stored.{Stores, answer_of}
@@ -57,21 +59,69 @@ counted one two xs ys None p q past = let same = count_is one two xs ys p q in o
 counted one two xs ys (Some count) p q counts = let same = count_is one two xs ys p q in let is = counts.0 in let few = counts.1 in omega (arith, same, is, few)
 
 -- what a plan has
-pub plan_is : (one two : List ℕ) (xs ys : List Record) (walk : Walking) (gathered : List ℕ) (count : ℕ) → IsPart one xs → IsPart two ys
-    → Counts (united (keyed xs) (keyed ys)) (Some count) → Comes walk (united (keyed xs) (keyed ys)) → gathered ≡ head_octets count → IsPlan xs ys walk gathered
-plan_is one two xs ys walk gathered count p q counts comes head =
-    record { few = counted one two xs ys (Some count) p q counts; comes = comes; head = head ∙ ap head_octets counts.0 }
+pub plan_is : (one two : List ℕ) (xs ys : List Record) (walk : Walking) (count : ℕ) → IsPart one xs → IsPart two ys
+    → Counts (united (keyed xs) (keyed ys)) (Some count) → Comes walk (united (keyed xs) (keyed ys)) → IsPlan xs ys (Some count) walk
+plan_is one two xs ys walk count p q counts comes = record { few = counted one two xs ys (Some count) p q counts; comes = comes; same = ap Some counts.0 }
 
--- what a plan writes is the part of both
-pub planned : (one two : List ℕ) (xs ys : List Record) (walk : Walking) (gathered : List ℕ) → IsPart one xs → IsPart two ys → IsPlan xs ys walk gathered
-    → IsPartOfAll (xs ++ ys) (gathered ++ pairs_octets (united (keyed xs) (keyed ys)))
-planned one two xs ys walk gathered p q plan =
+-- the part of both
+abbrev pub both_text : List Record → List Record → List ℕ
+both_text xs ys = head_octets (length (united (keyed xs) (keyed ys))) ++ pairs_octets (united (keyed xs) (keyed ys))
+
+pub both_part : (one two : List ℕ) (xs ys : List Record) → IsPart one xs → IsPart two ys → KeepFew xs ys → IsPartOfAll (xs ++ ys) (both_text xs ys)
+both_part one two xs ys p q few =
     let same = count_is one two xs ys p q in
-    let few = plan.few in
-    let us : List (Key × Entry) = united (keyed xs) (keyed ys) in
-    let text : PartOf (head_octets (length us) ++ pairs_octets us) (groups_of (keyed xs ++ keyed ys)) = text_is_part one two xs ys p q (omega (arith, same, few)) in
-    subst (λ ps. PartOf (gathered ++ pairs_octets us) (groups_of ps)) (sym (keyed-append xs ys))
-    (subst (λ o. PartOf (o ++ pairs_octets us) (groups_of (keyed xs ++ keyed ys))) (sym plan.head) text)
+    subst (λ ps. PartOf (both_text xs ys) (groups_of ps)) (sym (keyed-append xs ys)) (text_is_part one two xs ys p q (omega (arith, same, few)))
+
+-- is what a plan says
+pub planned : (xs ys : List Record) (count : Option ℕ) (walk : Walking) → IsPlan xs ys count walk → SaysJoined count walk (both_text xs ys)
+planned xs ys count walk plan = record {
+  pairs = united (keyed xs) (keyed ys);
+  comes = plan.comes;
+  is = ap (λ (o : Option ℕ). head_if o ++ pairs_octets (united (keyed xs) (keyed ys))) (sym plan.same);
+}
+
+-- ---- one part of it is said
+
+abbrev pub Says : Joined → List ℕ → Type 0
+Says j text = SaysJoined j.count j.walk text
+
+abbrev pub Left : Joined → ℕ
+Left j = left_of j.count j.walk
+
+abbrev pub joined : Option ℕ → Walking → Joined
+joined count walk = record { count = count; walk = walk }
+
+-- the head
+pub head_put : (count : ℕ) (walk : Walking) (before after : List ℕ) → after ≡ before ++ head_octets count → PutsPart Says Left (joined (Some count) walk) (joined None walk) before after
+head_put count walk before after is = record {
+  fewer = omega arith;
+  added = head_octets count;
+  is = is;
+  rest = λ text says. (pairs_octets says.pairs, record { pairs = says.pairs; comes = says.comes; is = refl }, says.is);
+}
+
+-- the next record
+pub record_put : (old new : Walking) (octets before after : List ℕ) → ((ps : List (Key × Entry)) → Comes old ps → NextIs ps octets new) → left new < left old → after ≡ before ++ octets
+    → PutsPart Says Left (joined None old) (joined None new) before after
+record_put old new octets before after next fewer is = record {
+  fewer = fewer;
+  added = octets;
+  is = is;
+  rest = λ text says.
+      let comes = next says.pairs says.comes in (
+        pairs_octets comes.rest,
+        record { pairs = comes.rest; comes = comes.comes; is = refl },
+        says.is ∙ ap pairs_octets comes.are ∙ ap (λ (o : List ℕ). o ++ pairs_octets comes.rest) (sym comes.is),
+      );
+}
+
+-- none is left
+pub none_put : (old new : Walking) (out : List ℕ) → ((ps : List (Key × Entry)) → Comes old ps → ps ≡ []) → PutsLast Says Left (joined None old) (joined None new) out out
+none_put old new out none = record {
+  added = [];
+  is = sym (append-nil out);
+  all = λ text says. says.is ∙ ap pairs_octets (none says.pairs says.comes);
+}
 
 -- nothing was opened
 pub unwritten : (tells : Bool) (name : List ℕ) (xs ys : List Record) (old : Writing) (answer : Outcome) → RefusesJoined xs ys answer → WritesJoined tells name xs ys old old answer

@@ -1,6 +1,5 @@
+mod DecidingLaws
 mod FailuresLaws
-mod FileLaws
-mod FlatLaws
 mod JoinedLaws
 mod KeptLaws
 mod MergeAskedLaws
@@ -11,7 +10,6 @@ mod PartLaws
 mod PartReportLaws
 mod PartsAskedLaws
 mod PartsLaws
-mod StoredLaws
+mod TellingLaws
 mod TwoLaws
 mod UnreadLaws
-mod WalkedLaws

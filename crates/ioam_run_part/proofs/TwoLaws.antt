@@ -1,5 +1,5 @@
 -- Two files that are read as parts, one after the other.
-use Rattle.std.proofs.Common.{◌≡◌, ℕ, zero, suc, ◌+◌, ◌<◌, ◌≤◌, ◌⊎◌, Bool, IsTrue, IsSomeAnd, List, [], ◌∷◌, ◌++◌, length, length-append, Option, None, Some, Ok, Err, refl, sym, ap, ◌∙◌, subst, inl, inr, append-nil, append_assoc, ⊎_elim, arith}
+use Rattle.std.proofs.Common.{◌≡◌, ℕ, zero, suc, ◌+◌, ◌≤◌, ◌⊎◌, Bool, IsTrue, IsSomeAnd, List, [], ◌∷◌, ◌++◌, length, length-append, Option, None, Some, Ok, Err, refl, sym, ap, ◌∙◌, subst, inl, inr, append-nil, append_assoc, ⊎_elim, arith}
 use Rattle.std.proofs.Math.Seq.{take-nil}
 use Rattle.ioam_desk.specs.Asked.{AsksFront}
 use Rattle.ioam_desk.specs.Desk as desk
@@ -12,8 +12,8 @@ use Rattle.ioam_run_answer.specs.declared.outcome.Outcome.{Outcome}
 use Rattle.ioam_run_answer.specs.declared.outcome.Outcome.TheVariants as outcome
 use Rattle.ioam_run_part.specs.Records.{IsAPart, IsSecondFaulty, ReadsFew}
 use Rattle.ioam_run_part.specs.Two.{AnswersTwo, TriesTwo, HoldsTwo, RefusesTwo}
-use Rattle.ioam_run_part.specs.Flat.{IsFlat, ReadsFlatFile}
-use Rattle.ioam_run_part.specs.Unread.{answer_of}
+use Rattle.ioam_run_part.specs.Deciding.{TriesFile}
+use Rattle.ioam_run_part.specs.Unread.{IsFlat, ReadsFile, answer_of}
 use Rattle.ioam_run_part.specs.declared.unread.Unread.{Unread}
 use Rattle.ioam_run_part.specs.declared.unread.Unread.TheVariants as unread
 use Rattle.ioam_run_part.proofs.MergeLaws.{some_held}
@@ -52,7 +52,7 @@ either_refuses tells first second one two old new answer is either refuses =
 -- ---- the first wasn't read
 
 module _ (tells : Bool) (first second : Option (List ℕ)) (one two : List ℕ) (old new : desk.Reading) where
-  pub first_refuses : (why : Unread) → ReadsFlatFile tells first one old new (Err why) → RefusesTwo tells first second one two old new (answer_of one why)
+  pub first_refuses : (why : Unread) → ReadsFile (IsFlat tells first) tells first one old new (Err why) → RefusesTwo tells first second one two old new (answer_of one why)
   first_refuses (unread.Fault at fault) reads = (inl (refl, reads.1), inl (refl, ap (λ (s : Side). s.asked) reads.0))
   first_refuses unread.Failed reads = reads.0
   first_refuses unread.NoMemory reads = tt
@@ -64,21 +64,22 @@ module _ (tells : Bool) (first second : Option (List ℕ)) (one two : List ℕ) 
       let more = length-append old.side.asked (one ∷ two ∷ []) in
       omega (arith, few, size, more)
 
-  pub first_tries : AsksFront old.side.asked new.side.asked (one ∷ []) → new.side.slots ≤ old.side.slots + 1 → KeepsInputs old new
-      → (old.side.slots < new.side.slots → ReadsFew tells first old.side.slots new) → TriesTwo tells first second one two old new
-  first_tries asked slots kept few = record {
-    asked = asks_first old.side.asked new.side.asked one two asked;
-    in_turn = λ both told. absurd (first_alone asked both);
-    opened = λ both. absurd (first_alone asked both);
-    slots = omega (arith, slots);
-    kept = kept;
-    few_one = few;
-    few_two = λ more. absurd (omega (arith, slots, more));
-  }
+  pub first_tries : TriesFile tells first one old new → TriesTwo tells first second one two old new
+  first_tries tries =
+      let slots = tries.slots in
+      record {
+        asked = asks_first old.side.asked new.side.asked one two tries.asked;
+        in_turn = λ both told. absurd (first_alone tries.asked both);
+        opened = λ both. absurd (first_alone tries.asked both);
+        slots = omega (arith, slots);
+        kept = tries.kept;
+        few_one = tries.few;
+        few_two = λ more. absurd (omega (arith, slots, more));
+      }
 
 -- ---- it was
 
-module _ (tells : Bool) (first second : Option (List ℕ)) (one two : List ℕ) (old mid new : desk.Reading) (a : List ℕ) (reads_one : ReadsFlatFile tells first one old mid (Ok a)) where
+module _ (tells : Bool) (first second : Option (List ℕ)) (one two : List ℕ) (old mid new : desk.Reading) (a : List ℕ) (reads_one : ReadsFile (IsFlat tells first) tells first one old mid (Ok a)) where
   mid_asked : mid.side.asked ≡ old.side.asked ++ one ∷ []
   mid_asked = ap (λ (s : Side). s.asked) reads_one.0
 
@@ -88,7 +89,7 @@ module _ (tells : Bool) (first second : Option (List ℕ)) (one two : List ℕ) 
   mid_faults : mid.side.faults ≡ old.side.faults
   mid_faults = ap (λ (s : Side). s.faults) reads_one.0
 
-  pub second_refuses : (why : Unread) → ReadsFlatFile tells second two mid new (Err why) → RefusesTwo tells first second one two old new (answer_of two why)
+  pub second_refuses : (why : Unread) → ReadsFile (IsFlat tells second) tells second two mid new (Err why) → RefusesTwo tells first second one two old new (answer_of two why)
   second_refuses (unread.Fault at fault) reads = (
     inr (
       refl,
@@ -105,26 +106,25 @@ module _ (tells : Bool) (first second : Option (List ℕ)) (one two : List ℕ) 
       let behind = answers other in
       (HaveSlots-then old.side mid.side new.side (HaveSlots-one old.side mid.side one reads_one.0) behind.0, behind.1 ∙ mid_faults)
 
-  pub second_tries : KeepsInputs old mid → AsksFront mid.side.asked new.side.asked (two ∷ []) → mid.side.slots ≤ new.side.slots → new.side.slots ≤ mid.side.slots + 1 → KeepsInputs mid new
-      → (old.side.slots < mid.side.slots → ReadsFew tells first old.side.slots mid) → (mid.side.slots < new.side.slots → ReadsFew tells second mid.side.slots new)
-      → TriesTwo tells first second one two old new
-  second_tries kept_one asked grows slots kept few_one few_two = record {
-    asked = asks_second old.side.asked mid.side.asked new.side.asked one two mid_asked asked;
-    in_turn = λ both told. is_a_part tells first a reads_one.1 told;
-    opened = λ both. (let grew = mid_slots in omega (arith, grew, grows));
-    slots = (let grew = mid_slots in omega (arith, slots, grew));
-    kept = KeepsInputs-then old mid new (let grew = mid_slots in omega (arith, grew)) kept_one kept;
-    few_one = λ more.
-        let grew = mid_slots in
-        let same : new.left old.side.slots ≡ mid.left old.side.slots = kept.left old.side.slots (omega (arith, grew)) in
-        let P : List ℕ → Type 0 = λ left. IsTrue tells → IsSomeAnd first (λ octets. length octets ≤ length left + 300000000) in
-        subst P (sym same) (few_one (omega (arith, grew)));
-    few_two = λ more.
-        let grew = mid_slots in
-        subst (λ k. ReadsFew tells second k new) grew (few_two (omega (arith, grew, more)));
-  }
+  pub second_tries : TriesFile tells first one old mid → TriesFile tells second two mid new → TriesTwo tells first second one two old new
+  second_tries tries_one tries =
+      let grew = mid_slots in
+      let grows = tries.grew in
+      let slots = tries.slots in
+      record {
+        asked = asks_second old.side.asked mid.side.asked new.side.asked one two mid_asked tries.asked;
+        in_turn = λ both told. is_a_part tells first a reads_one.1 told;
+        opened = λ both. omega (arith, grew, grows);
+        slots = omega (arith, slots, grew);
+        kept = KeepsInputs-then old mid new (omega (arith, grew)) tries_one.kept tries.kept;
+        few_one = λ more.
+            let same : new.left old.side.slots ≡ mid.left old.side.slots = tries.kept.left old.side.slots (omega (arith, grew)) in
+            let P : List ℕ → Type 0 = λ left. IsTrue tells → IsSomeAnd first (λ octets. length octets ≤ length left + 300000000) in
+            subst P (sym same) (tries_one.few (omega (arith, grew)));
+        few_two = λ more. subst (λ k. ReadsFew tells second k new) grew (tries.few (omega (arith, grew, more)));
+      }
 
-  pub holds_two : KeepsInputs mid new → (b : List ℕ) → ReadsFlatFile tells second two mid new (Ok b) → HoldsTwo tells first second one two old new a b
+  pub holds_two : KeepsInputs mid new → (b : List ℕ) → ReadsFile (IsFlat tells second) tells second two mid new (Ok b) → HoldsTwo tells first second one two old new a b
   holds_two kept b reads = record {
     side = reads.0 ∙ ap (λ (s : Side). opened_side s two) reads_one.0;
     first_held = reads_one.1;

@@ -1,6 +1,6 @@
--- A slot that is read as a part.
-use Rattle.std.proofs.Common.{◌≡◌, ℕ, ◌+◌, ◌*◌, ◌-◌, ◌<◌, ◌≤◌, ◌⊎◌, Bool, true, false, IsTrue, IsSomeAnd, List, [], ◌∷◌, ◌++◌, length, length-append, length-take-le, take, All, Option, None, Some, Ok, Err, refl, sym, ap, ◌∙◌, subst, inl, inr, append-nil, append_assoc, arith}
-use Rattle.std.specs.Prelude.{Result, is_some, nat_lt, ◌||◌}
+-- How much a reader of a part may have been fed, and the verdict on what it was.
+use Rattle.std.proofs.Common.{◌≡◌, ℕ, ◌+◌, ◌*◌, ◌<◌, ◌≤◌, ◌⊎◌, Bool, true, false, IsTrue, IsSomeAnd, List, [], ◌∷◌, ◌++◌, length, length-append, All, Option, None, Some, Ok, Err, refl, sym, ap, ◌∙◌, subst, inl, inr, append-nil, arith}
+use Rattle.std.specs.Prelude.{MatchResult, Result, is_some, nat_lt, ⊤, ◌||◌}
 use Rattle.std.proofs.lemmas.List.Elements.{All-head, All-tail}
 use Rattle.ioam_desk.specs.Desk as desk
 use Rattle.ioam_desk.specs.Desk.{Gives, ReadInto, SameBut}
@@ -18,12 +18,16 @@ use Rattle.ioam_collect_stream.specs.Gathering.{ReadsOne}
 use Rattle.ioam_part.specs.Faults.{HasFault}
 use Rattle.ioam_part.specs.Reading as part
 use Rattle.ioam_part.specs.Reading.{PartReading, IsOpen, IsBehind, StandsBy, fault_of}
+use Rattle.ioam_part.specs.Part.{IsPart}
 use Rattle.ioam_part.specs.declared.fault.PartFault.{PartFault}
-use Rattle.ioam_run_part.specs.Records.{ReadsFew}
-use Rattle.ioam_run_part.specs.Unread.{Fed, Judges, ReadsSlot, unread_by}
+use Rattle.ioam_part.specs.declared.reader.PartRefused.{PartRefused}
+use Rattle.ioam_part.specs.declared.reader.PartRefused.TheVariants as refused
+use Rattle.ioam_part_merge.specs.Keeping as keeping
+use Rattle.ioam_run_part.specs.Deciding.{AnswersFile, Decides, IsRead}
+use Rattle.ioam_run_part.specs.Records.{IsAPart}
+use Rattle.ioam_run_part.specs.Unread.{AnswersReads, IsFlat, IsHeld, ReadsFile, unread_by, verdict_of}
 use Rattle.ioam_run_part.specs.declared.unread.Unread.{Unread}
-use Rattle.ioam_run_part.specs.declared.unread.Unread.TheVariants as unread
-use Rattle.ioam_run_part.proofs.OneFault.{part_or_fault}
+use Rattle.ioam_run_part.proofs.OneFault.{one_fault, part_or_fault}
 
 -- ---- how much a reader of a part may have been fed
 
@@ -95,28 +99,6 @@ pub undecided : (o : Option (ℕ × PartFault)) (left : ℕ) → (is_some o || n
 undecided None left none = (refl, grind (arith, none))
 undecided (Some bad) left none = absurd (cc none)
 
--- a fault was found
-pub decided : (tells : Bool) (content : Option (List ℕ)) (inputs : desk.Reading) (slot left : ℕ) (r : PartReading) → Fed tells content inputs slot left r
-    → (is_some (fault_of r) || nat_lt left 65536) ≡ true → (bad : ℕ × PartFault) × (fault_of r ≡ Some bad)
-decided tells content inputs slot left r fed so = by (fault_of r) refl so
-  where
-    by : (o : Option (ℕ × PartFault)) → fault_of r ≡ o → (is_some o || nat_lt left 65536) ≡ true → (bad : ℕ × PartFault) × (fault_of r ≡ Some bad)
-    by (Some bad) is so = (bad, is)
-    by None is so =
-        let few = undecided_few 1048576 fed.octets r is fed.stands in
-        let less : left < 65536 = grind (arith, so) in
-        let within = fed.within in
-        absurd (omega (arith, few, less, within))
-
-pub fed_more : (tells : Bool) (content : Option (List ℕ)) (old new : desk.Reading) (slot left count : ℕ) (into : List ℕ) (r r' : PartReading) → (fed : Fed tells content old slot left r)
-    → ReadInto tells old slot into (Ok count) new → count ≤ left → part.Stands 1048576 (fed.octets ++ take count into) r' → Fed tells content new slot (left - count) r'
-fed_more tells content old new slot left count into r r' fed reads fits stands = record {
-  octets = fed.octets ++ take count into;
-  stands = stands;
-  within = (let size = length-take-le count into reads.0 in let both = length-append fed.octets (take count into) in let within = fed.within in omega (arith, size, both, within, fits));
-  held = λ told. fed.held told ∙ ap (λ o. Some (fed.octets ++ o)) (reads.1.left told) ∙ ap Some (sym (append_assoc fed.octets (take count into) (new.left slot)));
-}
-
 pub kept_more : (tells : Bool) (first old new : desk.Reading) (slot : ℕ) (into : List ℕ) (r : Result ℕ DeskFault) → ReadsOne slot first old → ReadInto tells old slot into r new → ReadsOne slot first new
 kept_more tells first old new slot into (Ok count) kept reads =
     ((λ k apart. reads.1.other_left k apart ∙ kept.0 k apart), (λ k apart. reads.1.other_ended k apart ∙ kept.1 k apart))
@@ -124,74 +106,88 @@ kept_more tells first old new slot into (Err Failed) kept reads =
     ((λ k apart. ap (λ (left : ℕ → List ℕ). left k) reads.1 ∙ kept.0 k apart), (λ k apart. ap (λ (ended : ℕ → Bool). ended k) reads.2 ∙ kept.1 k apart))
 kept_more tells first old new slot into (Err NoMemory) kept reads = subst (λ now. ReadsOne slot first now) (sym reads) kept
 
--- ---- how it ends
+-- ---- the verdict
 
 some_held : (o : Option (List ℕ)) (octets : List ℕ) (P : List ℕ → Type 0) → o ≡ Some octets → P octets → IsSomeAnd o P
 some_held o octets P is held = subst (λ u. IsSomeAnd u P) (sym is) held
 
-module _ (tells : Bool) (content : Option (List ℕ)) (slot left : ℕ) (first old new : desk.Reading) (r : PartReading) (fed : Fed tells content old slot left r) (side : old.side ≡ first.side) where
-  -- the file has ended
-  whole_held : (into : List ℕ) → ReadInto tells old slot into (Ok 0) new → IsTrue tells → content ≡ Some fed.octets
-  whole_held into reads told = fed.held told ∙ ap (λ o. Some (fed.octets ++ o)) (reads.1.none told refl) ∙ ap Some (append-nil fed.octets)
+-- the one fault of octets is that of all octets that begin so
+same_fault : (octets more : List ℕ) (bad : ℕ × PartFault) (at : ℕ) (fault : PartFault) → HasFault octets at fault
+    → ((others : List ℕ) → HasFault (octets ++ others) bad.0 bad.1) → HasFault (octets ++ more) at fault
+same_fault octets more bad at fault here has =
+    let same = one_fault octets at bad.0 fault bad.1 here (subst (λ o. HasFault o bad.0 bad.1) (append-nil octets) (has [])) in
+    subst (λ n. HasFault (octets ++ more) n fault) (sym same.0) (subst (λ f. HasFault (octets ++ more) bad.0 f) (sym same.1) (has more))
 
-  pub reads_whole : (into : List ℕ) → ReadInto tells old slot into (Ok 0) new → (answer : Result Collected Unread) → Judges fed.octets answer → ReadsSlot tells content slot first new answer
-  reads_whole into reads (Ok c) judges = (
-    reads.1.side ∙ side,
-    record { octets = fed.octets; records = judges.0; part = judges.1; stands = judges.2; limit = judges.4; is = whole_held into reads },
-    λ told. (reads.1.ended told).1 refl,
-  )
-  reads_whole into reads (Err (unread.Fault at fault)) judges = (reads.1.side ∙ side, λ told. some_held content fed.octets (λ o. HasFault o at fault) (whole_held into reads told) judges)
-  reads_whole into reads (Err unread.Failed) judges = absurd judges
-  reads_whole into reads (Err unread.NoMemory) judges = reads.1.side ∙ side
+-- octets are such a part, or have this fault
+abbrev pub Judges : {A : Type 0} → (List ℕ → A → Type 0) → List ℕ → Result A PartRefused → Type 0
+Judges Is octets (Ok part) = Is octets part
+Judges Is octets (Err (refused.Fault at fault)) = HasFault octets at fault
+Judges Is octets (Err refused.Full) = ⊤
+Judges Is octets (Err refused.NoMemory) = ⊤
 
-  -- a fault was found: all octets that begin so have it
-  pub reads_fault : (bad : ℕ × PartFault) → fault_of r ≡ Some bad → (answer : Result Collected Unread) → ((octets : List ℕ) → part.Stands 1048576 octets r → Judges octets answer)
-      → ReadsSlot tells content slot first old answer
-  reads_fault bad found (Ok c) judges =
-      let has : HasFault (fed.octets ++ []) bad.0 bad.1 = (subst (StandsBy 1048576 fed.octets r) found fed.stands) [] in
-      let read = judges fed.octets fed.stands in
-      absurd (part_or_fault fed.octets read.0 bad.0 bad.1 read.1 (subst (λ o. HasFault o bad.0 bad.1) (append-nil fed.octets) has))
-  reads_fault bad found (Err (unread.Fault at fault)) judges = (
-    side,
-    λ told.
-        let has : (more : List ℕ) → HasFault (fed.octets ++ more) bad.0 bad.1 = subst (StandsBy 1048576 fed.octets r) found fed.stands in
-        let all : List ℕ = fed.octets ++ old.left slot in
-        let on : (more : List ℕ) → HasFault (all ++ more) bad.0 bad.1 =
-        (λ more. subst (λ o. HasFault o bad.0 bad.1) (sym (append_assoc fed.octets (old.left slot) more)) (has (old.left slot ++ more))) in
-        some_held content all (λ o. HasFault o at fault) (fed.held told) (judges all (subst (StandsBy 1048576 all r) (sym found) on)),
-  )
-  reads_fault bad found (Err unread.Failed) judges = absurd (judges fed.octets fed.stands)
-  reads_fault bad found (Err unread.NoMemory) judges = side
+pub judges_read : (octets : List ℕ) (read : Result Collected PartRefused) → MatchResult read (part.IsReadAs 1048576 octets) (part.RefusedBy 1048576 octets) → Judges (part.IsReadAs 1048576) octets read
+judges_read octets (Ok c) is = is
+judges_read octets (Err (refused.Fault at fault)) has = has
+judges_read octets (Err refused.Full) full = tt
+judges_read octets (Err refused.NoMemory) none = tt
+
+pub judges_kept : (octets : List ℕ) (read : Result (List ℕ) PartRefused) → MatchResult read (keeping.IsWhole octets) (keeping.RefusedBy octets) → Judges keeping.IsWhole octets read
+judges_kept octets (Ok kept) is = is
+judges_kept octets (Err (refused.Fault at fault)) has = has
+judges_kept octets (Err refused.Full) none = tt
+judges_kept octets (Err refused.NoMemory) none = tt
+
+module _ {A T : Type 0} (reading : T → PartReading) (Stands : List ℕ → T → Type 0) (reads_so : (octets : List ℕ) (now : T) → Stands octets now → IsRead octets (reading now))
+    (Is : List ℕ → A → Type 0) (part_is : (octets : List ℕ) (a : A) → Is octets a → IsAPart octets)
+    (Held : A → Type 0) (tells : Bool) (content : Option (List ℕ)) (held_is : (octets : List ℕ) (a : A) → Is octets a → (IsTrue tells → content ≡ Some octets) → Held a)
+    (name : List ℕ) (old new : desk.Reading) where
+  module _ (now : T) (d : Decides reading Stands tells content name old new (Ok now)) where
+    found_has : (bad : ℕ × PartFault) → fault_of (reading now) ≡ Some bad → (more : List ℕ) → HasFault (d.1.octets ++ more) bad.0 bad.1
+    found_has bad found = let read = reads_so d.1.octets now d.1.stands in subst (StandsBy read.0 d.1.octets (reading now)) found read.1
+
+    all_held : fault_of (reading now) ≡ None → IsTrue tells → content ≡ Some d.1.octets
+    all_held none told = d.1.held told ∙ ap (λ o. Some (d.1.octets ++ o)) (d.1.whole none told).0 ∙ ap Some (append-nil d.1.octets)
+
+    pub judged : (read : Result A PartRefused) → Judges Is d.1.octets read → ReadsFile Held tells content name old new (verdict_of read)
+    judged = by (fault_of (reading now)) refl
+      where
+        by : (o : Option (ℕ × PartFault)) → fault_of (reading now) ≡ o → (read : Result A PartRefused) → Judges Is d.1.octets read
+            → ReadsFile Held tells content name old new (verdict_of read)
+        by None none (Ok a) is = (d.0, held_is d.1.octets a is (all_held none), λ told. (d.1.whole none told).1)
+        by None none (Err (refused.Fault at fault)) has = (d.0, λ told. some_held content d.1.octets (λ o. HasFault o at fault) (all_held none told) has)
+        by None none (Err refused.Full) judges = tt
+        by None none (Err refused.NoMemory) judges = tt
+        by (Some bad) found (Ok a) is =
+            let of = part_is d.1.octets a is in
+            absurd (part_or_fault d.1.octets of.0 bad.0 bad.1 of.1 (subst (λ o. HasFault o bad.0 bad.1) (append-nil d.1.octets) (found_has bad found [])))
+        by (Some bad) found (Err (refused.Fault at fault)) has = (
+          d.0,
+          λ told. some_held content (d.1.octets ++ d.1.rest) (λ o. HasFault o at fault) (d.1.held told) (same_fault d.1.octets d.1.rest bad at fault has (found_has bad found)),
+        )
+        by (Some bad) found (Err refused.Full) judges = tt
+        by (Some bad) found (Err refused.NoMemory) judges = tt
 
   -- no more could be read
-  pub reads_failed : (into : List ℕ) (why : DeskFault) → ReadInto tells old slot into (Err why) new → ReadsSlot tells content slot first new (Err (unread_by why))
-  reads_failed into Failed reads = subst (λ s. desk.Fails s new.side) side reads.0
-  reads_failed into NoMemory reads = ap (λ (now : desk.Reading). now.side) reads ∙ side
+  pub unjudged : (why : DeskFault) → Decides reading Stands tells content name old new (Err why) → ReadsFile Held tells content name old new (Err (unread_by why))
+  unjudged Failed decides = decides
+  unjudged NoMemory decides = tt
 
--- ---- how much is read
+-- what is held of the collector of a part, and of its octets
+module _ (tells : Bool) (content : Option (List ℕ)) where
+  pub is_held : (octets : List ℕ) (c : Collected) → part.IsReadAs 1048576 octets c → (IsTrue tells → content ≡ Some octets) → IsHeld tells content c
+  is_held octets c is held = record { octets = octets; records = is.0; part = is.1; stands = is.2; limit = is.4; is = held }
 
--- so many octets were handed out, of which no more may be than were still to be read
-pub few_handed : (tells : Bool) (content : Option (List ℕ)) (old new : desk.Reading) (slot left : ℕ) (r : PartReading) (octets : List ℕ) → Fed tells content old slot left r
-    → (IsTrue tells → old.left slot ≡ octets ++ new.left slot) → length octets ≤ left → ReadsFew tells content slot new
-few_handed tells content old new slot left r octets fed handed most told =
-    let all : List ℕ = fed.octets ++ old.left slot in
-    let size = length-append fed.octets (old.left slot) in
-    let more : length (old.left slot) ≡ length octets + length (new.left slot) = ap length (handed told) ∙ length-append octets (new.left slot) in
-    let within = fed.within in
-    some_held content all (λ o. length o ≤ length (new.left slot) + 300000000) (fed.held told) (omega (arith, size, more, within, most))
+  pub is_flat : (octets kept : List ℕ) → keeping.IsWhole octets kept → (IsTrue tells → content ≡ Some octets) → IsFlat tells content kept
+  is_flat octets kept is held = record {
+    records = is.1.0;
+    part = subst (λ o. IsPart o is.1.0) (sym is.0) is.1.1;
+    is = λ told. held told ∙ ap Some (sym is.0);
+  }
 
-pub few_still : (tells : Bool) (content : Option (List ℕ)) (old : desk.Reading) (slot left : ℕ) (r : PartReading) → Fed tells content old slot left r → ReadsFew tells content slot old
-few_still tells content old slot left r fed = few_handed tells content old old slot left r [] fed (λ told. refl) (omega arith)
+-- what failed is answered
+pub answers_done : {T A : Type 0} (old new : desk.Reading) (now : T) (result : Result A Unread) → AnswersFile {A = T} old new (Ok now) → AnswersReads {A = A} old new result
+answers_done old new now result answers other = answers (λ same. cc)
 
-pub few_read : (tells : Bool) (content : Option (List ℕ)) (old new : desk.Reading) (slot left count : ℕ) (into : List ℕ) (r : PartReading) → Fed tells content old slot left r
-    → ReadInto tells old slot into (Ok count) new → count ≤ left → ReadsFew tells content slot new
-few_read tells content old new slot left count into r fed reads fits =
-    let size = length-take-le count into reads.0 in
-    few_handed tells content old new slot left r (take count into) fed reads.1.left (omega (arith, size, fits))
-
-pub few_failed : (tells : Bool) (content : Option (List ℕ)) (old new : desk.Reading) (slot left : ℕ) (into : List ℕ) (why : DeskFault) (r : PartReading) → Fed tells content old slot left r
-    → ReadInto tells old slot into (Err why) new → ReadsFew tells content slot new
-few_failed tells content old new slot left into Failed r fed reads =
-    few_handed tells content old new slot left r [] fed (λ told. ap (λ (l : ℕ → List ℕ). l slot) (sym reads.1)) (omega arith)
-few_failed tells content old new slot left into NoMemory r fed reads =
-    few_handed tells content old new slot left r [] fed (λ told. ap (λ (now : desk.Reading). now.left slot) (sym reads)) (omega arith)
+pub answers_by : {T A : Type 0} (old new : desk.Reading) (why : DeskFault) → AnswersFile {A = T} old new (Err why) → AnswersReads {A = A} old new (Err (unread_by why))
+answers_by old new Failed answers other = absurd (other refl)
+answers_by old new NoMemory answers other = answers (λ same. cc)

@@ -1,5 +1,5 @@
 -- Two parts, joined and written as one.
-use Rattle.std.specs.Prelude.{◌≡◌, ℕ, ◌<◌, ◌≤◌, ◌⊎◌, ⊤, Bool, IsTrue, List, [], ◌∷◌, ◌++◌, length, Option, None, Some}
+use Rattle.std.specs.Prelude.{◌≡◌, ℕ, ◌+◌, ◌<◌, ◌≤◌, ◌⊎◌, ⊤, Bool, IsTrue, List, [], ◌∷◌, ◌++◌, length, Option, None, Some}
 use Rattle.ioam_desk.specs.Desk.{Writing, Rose, holds}
 use Rattle.ioam_run_answer.specs.Record.{Record}
 use Rattle.ioam_collect.specs.Entry.{Entry}
@@ -7,7 +7,7 @@ use Rattle.ioam_collect.specs.Keyed.{keyed}
 use Rattle.ioam_collect.specs.Unite.{united}
 use Rattle.ioam_collect.specs.declared.key.Key.{Key}
 use Rattle.ioam_part.specs.Part.{head_octets}
-use Rattle.ioam_part_merge.specs.Walk.{Walking, Comes}
+use Rattle.ioam_part_merge.specs.Walk.{Walking, Comes, left, pairs_octets}
 use Rattle.ioam_run_answer.specs.declared.outcome.Outcome.{Outcome}
 use Rattle.ioam_run_answer.specs.declared.outcome.Outcome.TheVariants as outcome
 use Rattle.ioam_run_part.specs.Records.{IsPartOfAll, KeepFew, KeepMany}
@@ -23,11 +23,27 @@ abbrev pub CountsBoth : List Record → List Record → Option ℕ → Type 0
 CountsBoth xs ys None = KeepMany xs ys
 CountsBoth xs ys (Some count) = KeepFew xs ys
 
--- what comes of the walk are the records of both, which are no more than a part may have, and this is their head
-pub record IsPlan (xs ys : List Record) (walk : Walking) (gathered : List ℕ) : Type 0 where
+-- the head that says so many records, until it is said
+abbrev pub head_if : Option ℕ → List ℕ
+head_if None = []
+head_if (Some count) = head_octets count
+
+-- the head, if it isn't said yet, and the records that come of a walk
+pub record SaysJoined (count : Option ℕ) (walk : Walking) (text : List ℕ) : Type 0 where
+  pub pairs : List (Key × Entry)
+  pub comes : Comes walk pairs
+  pub is : text ≡ head_if count ++ pairs_octets pairs
+
+-- of how many parts this is at most
+abbrev pub left_of : Option ℕ → Walking → ℕ
+left_of None walk = left walk
+left_of (Some count) walk = left walk + 1
+
+-- what comes of the walk are the records of both, which are no more than a part may have, and as many as these
+pub record IsPlan (xs ys : List Record) (count : Option ℕ) (walk : Walking) : Type 0 where
   pub few : KeepFew xs ys
   pub comes : Comes walk (united (keyed xs) (keyed ys))
-  pub head : gathered ≡ head_octets (length (united (keyed xs) (keyed ys)))
+  pub same : count ≡ Some (length (united (keyed xs) (keyed ys)))
 
 -- or the answer where there is none
 abbrev pub RefusesJoined : List Record → List Record → Outcome → Type 0

@@ -7,25 +7,12 @@ use Rattle.ioam_desk.specs.declared.fault.DeskFault.TheVariants.{Failed, NoMemor
 use Rattle.ioam_run_answer.specs.declared.outcome.Outcome.{Outcome}
 use Rattle.ioam_run_answer.specs.declared.outcome.Outcome.TheVariants as outcome
 
--- the name is tied to an output slot, to which nothing was written
-pub record IsBlank (tells : Bool) (desk : Writing) (name : List ℕ) (slot : ℕ) : Type 0 where
-  pub inside : slot < desk.side.slots
-  pub tied : IsTrue tells → desk.files name ≡ Some (Written slot)
-  pub blank : IsTrue tells → desk.written slot ≡ []
-
 -- the name holds a front of the text
 abbrev pub HoldsFrontOf : Writing → List ℕ → List ℕ → Type 0
 HoldsFrontOf desk name text = IsSomeAnd (holds desk name) (λ front. IsFront front text)
 
--- what became of a text that was written to the slot of a name; what else changed is said beside
+-- what became of a text whose name was opened to be written: the name holds the text; or, where it was opened, a front of it
 module _ (tells : Bool) (name text : List ℕ) (old new : Writing) where
-  -- the name holds the text; or, where the writing failed or no memory could be had, a front of it
-  abbrev pub Writes : Result (Unit {0}) DeskFault → Type 0
-  Writes (Ok _) = (new.side ≡ old.side) × (IsTrue tells → holds new name ≡ Some text)
-  Writes (Err Failed) = Rose old.side.faults new.side.faults × (IsTrue tells → HoldsFrontOf new name text)
-  Writes (Err NoMemory) = IsTrue tells → HoldsFrontOf new name text
-
-  -- and of one whose name was opened before
   abbrev pub Stores : Result (Unit {0}) DeskFault → Type 0
   Stores (Ok _) = (new.side.asked ≡ old.side.asked ++ name ∷ []) × (IsTrue tells → holds new name ≡ Some text)
   Stores (Err Failed) = Rose old.side.faults new.side.faults × (IsTrue tells → old.side.slots < new.side.slots → HoldsFrontOf new name text)

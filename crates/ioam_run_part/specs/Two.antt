@@ -8,7 +8,7 @@ use Rattle.ioam_run_answer.specs.declared.outcome.Outcome.{Outcome}
 use Rattle.ioam_run_answer.specs.declared.outcome.Outcome.TheVariants as outcome
 use Rattle.ioam_run_part.specs.Records.{IsAPart, ReadsFew}
 use Rattle.ioam_run_part.specs.MergePromise.{IsFaulty}
-use Rattle.ioam_run_part.specs.Flat.{IsFlat}
+use Rattle.ioam_run_part.specs.Unread.{IsFlat}
 
 -- whatever was answered: the names that were asked for, the second only where the first was opened and, where the desk tells, is
 -- a part; what is as it was, and how much was read

@@ -2,8 +2,7 @@
 //! joined, and one printed.
 #![tactic(auto)]
 
-mod flat;
-mod gathered;
+mod deciding;
 mod joined;
 mod kept;
 mod merge;
@@ -11,10 +10,9 @@ mod names;
 mod part;
 mod parts;
 mod records;
-mod stored;
+mod telling;
 mod two;
 mod unread;
-mod walked;
 
 pub use merge::run_merge;
 pub use names::{MergeFiles, PartFiles, PartsFiles};

@@ -2,7 +2,6 @@
 ghost use Rattle.std.specs.Prelude.{◌≡◌, List, MatchOption};
 ghost use Rattle.ioam_run_answer.specs.Desks.{around};
 ghost use Rattle.ioam_run_part.specs.Files.{AreApart, IsRepeat};
-ghost use Rattle.ioam_run_part.specs.MergeEnds.{MergeEnds};
 ghost use Rattle.ioam_run_part.specs.MergePromise.{MergeKeeps};
 
 use crate::joined::write_joined;
@@ -43,7 +42,8 @@ fn repeat<'a>(files: &MergeFiles<'a>) -> Option<&'a Name>
 
 // The same where the names differ.
 fn run_apart<D: Desk>(alloc: Global, files: &MergeFiles<'_>, desk: &mut D) -> Outcome
-    ensures { MergeEnds (around D.tells (D.reading desk.old) (D.reading desk.new) (D.writing desk.old) (D.writing desk.new)) files.now result }
+    requires { AreApart files.now.one files.now.two files.now.part }
+    ensures { MergeKeeps (around D.tells (D.reading desk.old) (D.reading desk.new) (D.writing desk.old) (D.writing desk.new)) files.now result }
 {
     match read_two(alloc, files.one, files.two, desk) {
         Ok((first, second)) => write_joined(alloc, &first, &second, files.part, desk),

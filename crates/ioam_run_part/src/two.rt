@@ -3,8 +3,7 @@ ghost use Rattle.std.specs.Prelude.{◌≡◌, IfErr, List};
 ghost use Rattle.ioam_desk.specs.Desk.{holds};
 ghost use Rattle.ioam_run_part.specs.Two.{AnswersTwo, ReadsTwo, TriesTwo};
 
-use crate::flat::read_flat;
-use crate::unread::unread_outcome;
+use crate::unread::{read_flat, unread_outcome};
 use ioam_base::name::Name;
 use ioam_desk::Desk;
 use ioam_part_merge::PartOctets;

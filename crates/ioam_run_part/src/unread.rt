@@ -1,50 +1,43 @@
-//! A file that is read as a part, in pieces: to its end where it is one, and at most its first 300,000,000 octets.
-ghost use Rattle.std.specs.Prelude.{◌≡◌, ◌<◌, ◌≤◌, ◌+◌, ◌⊎◌, ◌∷◌, [], List, ℕ, Option, Some, IsTrue, length, is_some, nat_lt, ◌||◌};
-ghost use Rattle.ioam_collect_stream.specs.Gathering.{ReadsOne};
-ghost use Rattle.ioam_desk.specs.Asked.{AsksFront};
+//! Files that are read as parts: of one the records, or the octets.
+ghost use Rattle.std.specs.Prelude.{◌≡◌, ◌⊎◌};
 ghost use Rattle.ioam_desk.specs.Desk.{holds};
-ghost use Rattle.ioam_desk.specs.Kept.{KeepsInputs};
-ghost use Rattle.ioam_part.specs.Reading.{Stands, fault_of};
 ghost use Rattle.ioam_run_answer.specs.declared.outcome.Outcome.{Outcome};
-ghost use Rattle.ioam_run_part.specs.Records.{ReadsFew};
-ghost use Rattle.ioam_run_part.specs.Unread.{AnswersReads, Judges, ReadsFile, ReadsSlot, answer_of, unread_by};
+ghost use Rattle.ioam_run_part.specs.Deciding.{TriesFile};
+ghost use Rattle.ioam_run_part.specs.Unread.{AnswersReads, IsFlat, IsHeld, ReadsFile, answer_of, unread_by, verdict_of};
 
-use ioam_base::memory::NoMemory;
+use crate::deciding::read_file;
 use ioam_base::name::Name;
 use ioam_collect::{Collector, MOST_HELD};
-use ioam_desk::{Desk, DeskFault, PIECE, new_piece};
+use ioam_desk::{Desk, DeskFault};
 use ioam_part::{PartFault, PartReader, PartRefused};
+use ioam_part_merge::{PartKeeper, PartOctets};
 use ioam_run_answer::Outcome;
 use std::alloc::Global;
-
-/// At most so many octets of a file are read. No part has as many.
-pub(crate) const MOST_OCTETS: usize = 300_000_000;
 
 /// Why a file wasn't read as a part.
 #[derive(Clone, Copy)]
 pub(crate) enum Unread {
-    /// The octets are no part: the place of their first fault, and the fault.
+    /// The octets are no part: the offset of their first fault, and the fault.
     Fault { at: u64, fault: PartFault },
     /// The file could not be opened or read.
     Failed,
-    /// No memory could be had.
+    /// Memory ran out.
     NoMemory,
 }
 
-// What the octets are that a reader was fed, where the file has ended or has shown its fault. A part has no more records
-// than may be held.
-fn verdict(reader: PartReader) -> Result<Collector, Unread>
-    ensures { (octets : List ℕ) → Stands 1048576 octets reader → Judges octets result }
+// What the octets are that were read. A part has no more records than may be held.
+fn verdict<A>(read: Result<A, PartRefused>) -> Result<A, Unread>
+    ensures { result ≡ verdict_of read }
 {
-    match reader.finish() {
-        Ok(collector) => Ok(collector),
+    match read {
+        Ok(part) => Ok(part),
         Err(PartRefused::Fault(at, fault)) => Err(Unread::Fault { at, fault }),
         Err(PartRefused::Full | PartRefused::NoMemory) => Err(Unread::NoMemory),
     }
 }
 
-/// Why nothing is read on.
-pub(crate) fn unread_by(fault: DeskFault) -> Unread
+// Why nothing is read on.
+fn unread_by(fault: DeskFault) -> Unread
     ensures { result ≡ unread_by fault }
 {
     match fault {
@@ -53,73 +46,42 @@ pub(crate) fn unread_by(fault: DeskFault) -> Unread
     }
 }
 
-// Whether a reader has found a fault, or so much was read that it has: no part has as many octets.
-fn is_decided(reader: &PartReader, left: usize) -> bool
-    ensures { result ≡ is_some (fault_of reader.now) || nat_lt left 65536 }
-{
-    reader.fault().is_some() || left < PIECE
-}
-
-// Reads an input slot, in pieces, to its end or to what shows that it is no part.
-fn read_slot<D: Desk>(
-    desk: &mut D,
-    slot: u32,
-    reader: PartReader,
-    piece: &mut [u8],
-) -> Result<Collector, Unread>
-    ghost content: { Option (List ℕ) }
-    requires input { slot < (D.reading desk.old).side.slots }
-    requires held { IsTrue D.tells → content ≡ Some ((D.reading desk.old).left slot) }
-    requires stands { Stands 1048576 [] reader }
-    requires room { length piece.old ≡ PIECE }
-    ensures reads { ReadsSlot D.tells content slot (D.reading desk.old) (D.reading desk.new) result }
-    ensures few { ReadsFew D.tells content slot (D.reading desk.new) }
-    ensures kept_in { ReadsOne slot (D.reading desk.old) (D.reading desk.new) }
-    ensures outputs { D.writing desk.new ≡ D.writing desk.old }
-{
-    let mut reader = reader;
-    let mut left = MOST_OCTETS;
-    'pieces: while !is_decided(&reader, left) {
-        let count = match desk.read(slot, piece) {
-            Ok(count) => count,
-            Err(fault) => return Err(unread_by(fault)),
-        };
-        if count == 0 {
-            return verdict(reader);
-        }
-        left -= count;
-        reader = match reader.feed(&piece[..count]) {
-            Ok(reader) => reader,
-            Err(NoMemory) => return Err(Unread::NoMemory),
-        };
-    }
-    verdict(reader)
-}
-
-/// Opens a file and reads it as a part: the collector of its records, or why there is none. At most its first
-/// 300,000,000 octets are read.
+/// Opens a file and reads it as a part: the collector of its records, or why there is none.
 pub(crate) fn read_held<D: Desk>(
     alloc: Global,
     desk: &mut D,
     name: &Name,
 ) -> Result<Collector, Unread>
-    ensures reads { ReadsFile D.tells (holds (D.writing desk.old) name.now) name.now (D.reading desk.old) (D.reading desk.new) result }
-    ensures few { (D.reading desk.old).side.slots < (D.reading desk.new).side.slots → ReadsFew D.tells (holds (D.writing desk.old) name.now) (D.reading desk.old).side.slots (D.reading desk.new) }
+    ensures reads { ReadsFile (IsHeld D.tells (holds (D.writing desk.old) name.now)) D.tells (holds (D.writing desk.old) name.now) name.now (D.reading desk.old) (D.reading desk.new) result }
+    ensures tries { TriesFile D.tells (holds (D.writing desk.old) name.now) name.now (D.reading desk.old) (D.reading desk.new) }
     ensures faults { AnswersReads (D.reading desk.old) (D.reading desk.new) result }
-    ensures asked { AsksFront (D.reading desk.old).side.asked (D.reading desk.new).side.asked (name.now ∷ []) }
-    ensures grew { (D.reading desk.old).side.slots ≤ (D.reading desk.new).side.slots }
-    ensures slots { (D.reading desk.new).side.slots ≤ (D.reading desk.old).side.slots + 1 }
-    ensures kept_in { KeepsInputs (D.reading desk.old) (D.reading desk.new) }
     ensures outputs { D.writing desk.new ≡ D.writing desk.old }
 {
-    let Ok(mut piece) = new_piece(alloc) else {
-        return Err(Unread::NoMemory);
-    };
     let Ok(reader) = PartReader::new(alloc, MOST_HELD) else {
         return Err(Unread::NoMemory);
     };
-    match desk.open_in(name.text()) {
-        Ok(slot) => read_slot(desk, slot, reader, &mut piece),
+    match read_file(alloc, desk, name, reader) {
+        Ok(reader) => verdict(reader.finish()),
+        Err(fault) => Err(unread_by(fault)),
+    }
+}
+
+/// Opens a file and reads it as a part: its octets, or why they are none.
+pub(crate) fn read_flat<D: Desk>(
+    alloc: Global,
+    desk: &mut D,
+    name: &Name,
+) -> Result<PartOctets, Unread>
+    ensures reads { ReadsFile (IsFlat D.tells (holds (D.writing desk.old) name.now)) D.tells (holds (D.writing desk.old) name.now) name.now (D.reading desk.old) (D.reading desk.new) result }
+    ensures tries { TriesFile D.tells (holds (D.writing desk.old) name.now) name.now (D.reading desk.old) (D.reading desk.new) }
+    ensures faults { AnswersReads (D.reading desk.old) (D.reading desk.new) result }
+    ensures outputs { D.writing desk.new ≡ D.writing desk.old }
+{
+    let Ok(keeper) = PartKeeper::new(alloc) else {
+        return Err(Unread::NoMemory);
+    };
+    match read_file(alloc, desk, name, keeper) {
+        Ok(keeper) => verdict(keeper.finish()),
         Err(fault) => Err(unread_by(fault)),
     }
 }
@@ -136,7 +98,7 @@ pub(crate) fn unread_outcome(alloc: Global, name: &Name, why: Unread) -> Outcome
     }
 }
 
-// The answer that this file is no part, from this place on.
+// The answer that this file is no part, from this offset on.
 fn part_outcome(alloc: Global, name: &Name, at: u64, fault: PartFault) -> Outcome
     ensures { (result ≡ Outcome.Part name.now at fault) ⊎ (result ≡ Outcome.NoMemory) }
 {

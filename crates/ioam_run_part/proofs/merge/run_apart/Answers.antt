@@ -5,11 +5,11 @@ use Rattle.ioam_desk.specs.Desk.{Writing, holds}
 use Rattle.ioam_desk.specs.Kept.{KeepsOutputs}
 use Rattle.ioam_run_answer.specs.Desks.{Desks, around}
 use Rattle.ioam_run_answer.specs.declared.outcome.Outcome.TheVariants as outcome
-use Rattle.ioam_run_part.specs.Files.{MergeNames}
+use Rattle.ioam_run_part.specs.Files.{AreApart, MergeNames}
 use Rattle.ioam_run_part.specs.Joined.{WritesJoined}
-use Rattle.ioam_run_part.specs.MergeEnds.{MergeEnds}
+use Rattle.ioam_run_part.specs.MergePromise.{MergeKeeps}
 use Rattle.ioam_run_part.specs.Two.{HoldsTwo, TriesTwo}
-use Rattle.ioam_run_part.proofs.MergeLaws.{ends_refused, ends_joined}
+use Rattle.ioam_run_part.proofs.MergeLaws.{keeps_joined, keeps_refused}
 use Rattle.ioam_run_part.proofs.merge.run_apart.Goals as goal
 
 pub returns-in-Ok : goal.returns-in-Ok
@@ -30,8 +30,10 @@ returns-in-Ok g c =
     let A : Writing → Type 0 = λ w. AsksFront w.side.asked new.side.asked (names.part ∷ []) in
     let K : Writing → Type 0 = λ w. IsTrue tells → KeepsOutputs w new in
     let F : Writing → Type 0 = λ w. c.write_joined.result ≢ outcome.WriteFault → new.side.faults ≡ w.side.faults in
-    let E : MergeNames → Type 0 = λ f. MergeEnds (around tells old_in new_in old new) f c.write_joined.result in
-    subst E c.files.view_is (ends_joined (around tells old_in new_in old new) names c.in-Ok.first c.in-Ok.second held c.write_joined.result
+    let N : MergeNames → Type 0 = λ f. AreApart f.one f.two f.part in
+    let apart = subst N (sym c.files.view_is) c.requires in
+    let E : MergeNames → Type 0 = λ f. MergeKeeps (around tells old_in new_in old new) f c.write_joined.result in
+    subst E c.files.view_is (keeps_joined (around tells old_in new_in old new) names apart c.in-Ok.first c.in-Ok.second held c.write_joined.result
     (subst W c.in-Ok.ensures.outputs (c.write_joined.ensures.writes held.first_held.records held.second_held.records held.first_held.part held.second_held.part))
     tries (subst A c.in-Ok.ensures.outputs c.write_joined.ensures.asked) (subst K c.in-Ok.ensures.outputs c.write_joined.ensures.kept) (subst F c.in-Ok.ensures.outputs c.write_joined.ensures.faults))
 
@@ -39,5 +41,7 @@ pub returns-in-Err : goal.returns-in-Err
 returns-in-Err g c =
     let names : MergeNames = record { one = c.files.inside.one.now; two = c.files.inside.two.now; part = c.files.inside.part.now } in
     let desks : Desks = around g.D.Desk.tells (g.D.Desk.reading c.args.desk.now) (g.D.Desk.reading c.read_two.new.desk) (g.D.Desk.writing c.args.desk.now) (g.D.Desk.writing c.read_two.new.desk) in
-    let E : MergeNames → Type 0 = λ f. MergeEnds desks f c.in-Err.answer in
-    subst E c.files.view_is (ends_refused desks names c.in-Err.ensures.outputs c.in-Err.answer c.in-Err.ensures.reads c.in-Err.ensures.tries c.in-Err.ensures.faults)
+    let N : MergeNames → Type 0 = λ f. AreApart f.one f.two f.part in
+    let apart = subst N (sym c.files.view_is) c.requires in
+    let E : MergeNames → Type 0 = λ f. MergeKeeps desks f c.in-Err.answer in
+    subst E c.files.view_is (keeps_refused desks names c.in-Err.ensures.outputs apart c.in-Err.answer c.in-Err.ensures.reads c.in-Err.ensures.tries c.in-Err.ensures.faults)

@@ -1,6 +1,6 @@
 use Rattle.std.proofs.Common.{refl}
 use Rattle.ioam_run_answer.specs.Desks.{around}
-use Rattle.ioam_run_part.proofs.MergeLaws.{keeps_apart, keeps_names}
+use Rattle.ioam_run_part.proofs.MergeLaws.{keeps_names}
 use Rattle.ioam_run_part.proofs.merge.run_merge.Goals as goal
 
 pub returns-in-Some : goal.returns-in-Some
@@ -10,7 +10,4 @@ returns-in-Some g c = record {
 }
 
 pub returns-in-None : goal.returns-in-None
-returns-in-None g c = record {
-  keeps = keeps_apart (around g.D.Desk.tells (g.D.Desk.reading c.args.desk.now) (g.D.Desk.reading c.run_apart.new.desk) (g.D.Desk.writing c.args.desk.now) (g.D.Desk.writing c.run_apart.new.desk))
-      c.args.files.now c.run_apart.result c.in-None.ensures c.run_apart.ensures;
-}
+returns-in-None g c = record { keeps = c.run_apart.ensures }

@@ -1,63 +1,34 @@
-use Rattle.std.proofs.Common.{◌≡◌, ℕ, ◌+◌, List, ◌∷◌, [], length, rules, refl, ap, ◌∙◌, subst, Err, arith}
-use Rattle.ioam_desk.specs.Desk as desk
-use Rattle.ioam_desk.specs.Desk.{OpenIn, OpensInput, holds}
-use Rattle.ioam_desk.proofs.KeptLaws.{KeepsInputs-same}
-use Rattle.ioam_run_part.proofs.FailuresLaws.{read_unopened}
-use Rattle.ioam_run_part.proofs.FileLaws.{read_file, file_asked, file_faults, file_slots, file_kept, none_asked, unopened_asked, file_few, unopened_slots}
+use Rattle.std.proofs.Common.{refl}
+use Rattle.ioam_desk.specs.Desk.{holds}
+use Rattle.ioam_part.specs.Reading as part
+use Rattle.ioam_part.specs.Reading.{PartReading}
+use Rattle.ioam_run_part.specs.Unread.{IsHeld}
+use Rattle.ioam_run_part.proofs.DecidingLaws.{tries_none}
+use Rattle.ioam_run_part.proofs.UnreadLaws.{answers_by, answers_done, is_held, judged, judges_read, unjudged}
 use Rattle.ioam_run_part.proofs.unread.read_held.Goals as goal
 
-pub returns-in_default-clause-asked : goal.returns-in_default-clause-asked
-returns-in_default-clause-asked g c = none_asked (g.D.Desk.reading c.args.desk.now) (g.D.Desk.reading c.args.desk.now) (c.args.name.now ∷ []) refl
+pub returns-in_default-clause-tries : goal.returns-in_default-clause-tries
+returns-in_default-clause-tries g c = tries_none g.D.Desk.tells (holds (g.D.Desk.writing c.args.desk.now) c.args.name.now) c.args.name.now (g.D.Desk.reading c.args.desk.now) (g.D.Desk.reading c.args.desk.now) refl
 
-pub returns-in_default-clause-kept_in : goal.returns-in_default-clause-kept_in
-returns-in_default-clause-kept_in g c = KeepsInputs-same (g.D.Desk.reading c.args.desk.now) (g.D.Desk.reading c.args.desk.now) refl
-
-pub returns-in_default-new-clause-asked : goal.returns-in_default-new-clause-asked
-returns-in_default-new-clause-asked g c = none_asked (g.D.Desk.reading c.args.desk.now) (g.D.Desk.reading c.args.desk.now) (c.args.name.now ∷ []) refl
-
-pub returns-in_default-new-clause-kept_in : goal.returns-in_default-new-clause-kept_in
-returns-in_default-new-clause-kept_in g c = KeepsInputs-same (g.D.Desk.reading c.args.desk.now) (g.D.Desk.reading c.args.desk.now) refl
-
-pub read_slot-requires : goal.read_slot-requires
-read_slot-requires g c κs within =
-    let opened = c.in-Ok-open_in.ensures.opened in
-    let number = opened.number in
-    let slots : (g.D.Desk.reading c.open_in.new.self).side.slots ≡ (g.D.Desk.reading c.args.desk.now).side.slots + 1 = ap (λ (s : desk.Side). s.slots) opened.side in (
-      search rules,
-      (omega (arith, number, slots), ((λ told. refl), (c.in-Ok-new.ensures.stands, ap (λ (o : List ℕ). length o) c.deref_mut.ensures.value ∙ c.in-Ok.ensures))),
-    )
-
-pub returns-in-Ok-open_in : goal.returns-in-Ok-open_in
-returns-in-Ok-open_in g c =
+pub returns-in-Ok-read_file-clause-reads : goal.returns-in-Ok-read_file-clause-reads
+returns-in-Ok-read_file-clause-reads g c =
+    let held = holds (g.D.Desk.writing c.args.desk.now) c.args.name.now in
     let old = g.D.Desk.reading c.args.desk.now in
-    let mid = g.D.Desk.reading c.open_in.new.self in
-    let new = g.D.Desk.reading c.read_slot.new.desk in
-    let P : List ℕ → Type 0 = λ name. OpensInput g.D.Desk.tells old mid (holds (g.D.Desk.writing c.args.desk.now) name) name c.in-Ok-open_in.slot in
-    let opened = subst P c.text.ensures c.in-Ok-open_in.ensures.opened in
-    let slots = file_slots g.D.Desk.tells (holds (g.D.Desk.writing c.args.desk.now) c.args.name.now) c.args.name.now old mid new c.in-Ok-open_in.slot opened c.read_slot.result c.read_slot.ensures.reads in
-    record {
-      reads = read_file g.D.Desk.tells (holds (g.D.Desk.writing c.args.desk.now) c.args.name.now) c.args.name.now old mid new c.in-Ok-open_in.slot opened c.read_slot.result c.read_slot.ensures.reads;
-      few = λ more. file_few g.D.Desk.tells (holds (g.D.Desk.writing c.args.desk.now) c.args.name.now) c.args.name.now old mid new c.in-Ok-open_in.slot opened c.read_slot.ensures.few;
-      faults = file_faults g.D.Desk.tells (holds (g.D.Desk.writing c.args.desk.now) c.args.name.now) c.args.name.now old mid new c.in-Ok-open_in.slot opened c.read_slot.result c.read_slot.ensures.reads;
-      asked = file_asked g.D.Desk.tells (holds (g.D.Desk.writing c.args.desk.now) c.args.name.now) c.args.name.now old mid new c.in-Ok-open_in.slot opened c.read_slot.result c.read_slot.ensures.reads;
-      grew = omega (arith, slots);
-      slots = omega (arith, slots);
-      kept_in = file_kept g.D.Desk.tells (holds (g.D.Desk.writing c.args.desk.now) c.args.name.now) c.args.name.now old mid new c.in-Ok-open_in.slot opened c.read_slot.ensures.kept_in;
-      outputs = c.read_slot.ensures.outputs ∙ c.in-Ok-open_in.ensures.outputs;
-    }
+    let new = g.D.Desk.reading c.read_file.new.desk in
+    let decides = c.in-Ok-read_file.ensures.reads in
+    rw c.verdict.ensures (judged (λ (r : PartReading). r) (part.Stands 1048576) (λ octets reader stands. (1048576, stands)) (part.IsReadAs 1048576) (λ octets c is. (is.0, is.1)) (IsHeld g.D.Desk.tells held) g.D.Desk.tells held
+    (is_held g.D.Desk.tells held) c.args.name.now old new c.in-Ok-read_file.reader decides c.finish.result (judges_read decides.1.octets c.finish.result (c.finish.ensures 1048576 decides.1.octets decides.1.stands)))
 
-pub returns-clause-asked : goal.returns-clause-asked
-returns-clause-asked g c =
-    let P : List ℕ → Type 0 = λ name. OpenIn g.D.Desk.tells (g.D.Desk.reading c.args.desk.now) (holds (g.D.Desk.writing c.args.desk.now) name) name (Err c.in-Err.fault) (g.D.Desk.reading c.open_in.new.self) in
-    unopened_asked g.D.Desk.tells (g.D.Desk.reading c.args.desk.now) (g.D.Desk.reading c.open_in.new.self) (holds (g.D.Desk.writing c.args.desk.now) c.args.name.now) c.args.name.now c.in-Err.fault
-    (subst P c.text.ensures c.in-Err.ensures.opened)
+pub returns-in-Ok-read_file-clause-faults : goal.returns-in-Ok-read_file-clause-faults
+returns-in-Ok-read_file-clause-faults g c = answers_done (g.D.Desk.reading c.args.desk.now) (g.D.Desk.reading c.read_file.new.desk) c.in-Ok-read_file.reader c.verdict.result c.in-Ok-read_file.ensures.faults
 
-pub returns-clause-few : goal.returns-clause-few
-returns-clause-few g c = λ more. absurd (
-    let same = unopened_slots g.D.Desk.tells (g.D.Desk.reading c.args.desk.now) (g.D.Desk.reading c.open_in.new.self) (holds (g.D.Desk.writing c.args.desk.now) c.text.result.now) c.text.result.now c.in-Err.fault
-    c.in-Err.ensures.opened in
-    omega (arith, same, more))
+pub returns-in-Err-clause-reads : goal.returns-in-Err-clause-reads
+returns-in-Err-clause-reads g c =
+    let held = holds (g.D.Desk.writing c.args.desk.now) c.args.name.now in
+    let old = g.D.Desk.reading c.args.desk.now in
+    let new = g.D.Desk.reading c.read_file.new.desk in
+    rw c.unread_by.ensures (unjudged (λ (r : PartReading). r) (part.Stands 1048576) (λ octets reader stands. (1048576, stands)) (part.IsReadAs 1048576) (λ octets c is. (is.0, is.1)) (IsHeld g.D.Desk.tells held) g.D.Desk.tells held
+    (is_held g.D.Desk.tells held) c.args.name.now old new c.in-Err.fault c.in-Err.ensures.reads)
 
-pub returns-clause-faults : goal.returns-clause-faults
-returns-clause-faults g c = rw c.unread_by.ensures (read_unopened (g.D.Desk.reading c.args.desk.now) (g.D.Desk.reading c.open_in.new.self) g.D.Desk.tells
-    (holds (g.D.Desk.writing c.args.desk.now) c.text.result.now) c.text.result.now c.in-Err.fault c.in-Err.ensures.opened)
+pub returns-in-Err-clause-faults : goal.returns-in-Err-clause-faults
+returns-in-Err-clause-faults g c = rw c.unread_by.ensures (answers_by (g.D.Desk.reading c.args.desk.now) (g.D.Desk.reading c.read_file.new.desk) c.in-Err.fault c.in-Err.ensures.faults)

@@ -1,0 +1,155 @@
+-- A text that is said part by part, and what a run leaves of it.
+use Rattle.std.proofs.Common.{◌≡◌, ℕ, ◌<◌, Bool, true, false, IsTrue, IsSomeAnd, List, [], ◌∷◌, ◌++◌, length, get_or, set, Option, None, Some, refl, sym, ap, ◌∙◌, subst, inl, inr, append-nil, append_assoc, arith}
+use Rattle.std.proofs.lemmas.Bool.{true≢false}
+use Rattle.ioam_base.specs.Octets.{IsFront}
+use Rattle.ioam_desk.specs.Desk.{Writing, holds}
+use Rattle.ioam_desk.specs.Touches.{State}
+use Rattle.ioam_desk_outputs.specs.Held.{HoldTexts, HoldFronts}
+use Rattle.ioam_desk_outputs.specs.Told.{Adds, said_more}
+use Rattle.ioam_desk_outputs.specs.declared.output.Output.{Output}
+use Rattle.ioam_run_part.specs.Stored.{AnswersWrites, HoldsFrontOf, Stores}
+use Rattle.ioam_run_part.specs.Telling.{Leaves, Puts, TellsBy, TellsFront, held_by, kind, stored_by}
+use Rattle.ioam_run_part.specs.declared.telling.Telling.{Telling}
+use Rattle.ioam_stream.specs.Frame.{Frame, HoldSome}
+use Rattle.ioam_stream.specs.Frame as frame_of
+use Rattle.ioam_stream.specs.Stage.{Begins, Ends, Takes}
+use Rattle.ioam_stream.specs.declared.conversion.Tail.{Tail}
+use Rattle.ioam_stream.specs.declared.conversion.Tail.TheVariants as tail
+use Rattle.ioam_stream.specs.declared.reading.Stop.{Stop}
+use Rattle.ioam_stream.specs.declared.reading.Stop.TheVariants as stop
+
+-- ---- the stage
+
+adds_none : (outputs : List Output) → length outputs ≡ 1 → Adds outputs outputs ([] ∷ [])
+adds_none [] one = absurd (omega (arith, one))
+adds_none (x ∷ []) one = (refl, sym (append-nil x.gathered.items), tt)
+adds_none (x ∷ y ∷ outputs) one = absurd (omega (arith, one))
+
+adds_one : (outputs : List Output) (d after : Output) (added : List ℕ) → length outputs ≡ 1 → after.slot ≡ (get_or outputs 0 d).slot
+    → after.gathered.items ≡ (get_or outputs 0 d).gathered.items ++ added → Adds outputs (set outputs 0 after) (added ∷ [])
+adds_one [] d after added one slot is = absurd (omega (arith, one))
+adds_one (x ∷ []) d after added one slot is = (slot, is, tt)
+adds_one (x ∷ y ∷ outputs) d after added one slot is = absurd (omega (arith, one))
+
+-- whether that was the last part
+abbrev is_last : Tail → Bool
+is_last tail.Rest = false
+is_last tail.End = true
+
+module _ {T : Type 0} (says : T → List ℕ → Type 0) (left : T → ℕ) where
+  pub telling_begins : (stage : Telling T) (outputs : List Output) → length outputs ≡ 1 → Begins (kind says left) stage outputs outputs
+  telling_begins stage outputs one = (
+    [] ∷ [],
+    adds_none outputs one,
+    λ fresh. record {
+      said = [];
+      is = refl;
+      uncut = refl;
+      leaves = λ text t. subst (λ (b : Bool). Leaves says left b stage.source [] text) (sym fresh) (text, t, refl);
+    },
+  )
+
+  module _ (old new : Telling T) (outputs : List Output) (d now : Output) (one : length outputs ≡ 1) (slot : now.slot ≡ (get_or outputs 0 d).slot) (going : old.done ≡ false) where
+    left_on : (begun : Telling T) (said text : List ℕ) → Leaves says left old.done old.source said text → Leaves says left false old.source said text
+    left_on begun said text = subst (λ (b : Bool). Leaves says left b old.source said text) going
+
+    -- a part was said
+    pub telling_takes : (more : Tail) → new.done ≡ is_last more → Puts says left old.source new.source (get_or outputs 0 d).gathered.items now.gathered.items more
+        → Takes (kind says left) old new outputs (set outputs 0 now)
+    telling_takes tail.Rest is puts = record {
+      held = omega (arith, puts.fewer, ap (λ (b : Bool). held_by says left b (left old.source)) going, ap (λ (b : Bool). held_by says left b (left new.source)) is);
+      room = refl;
+      added = puts.added ∷ [];
+      adds = adds_one outputs d now puts.added one slot puts.is;
+      stands = λ begun seen so_far s. record {
+        said = s.said ++ puts.added;
+        is = ap (λ (ts : List (List ℕ)). said_more ts (puts.added ∷ [])) s.is;
+        uncut = s.uncut;
+        leaves = λ text t.
+            let was = left_on begun s.said text (s.leaves text t) in
+            let next = puts.rest was.0 was.1 in
+            subst (λ (b : Bool). Leaves says left b new.source (s.said ++ puts.added) text) (sym is)
+            (next.0, next.1, was.2 ∙ ap (λ (o : List ℕ). s.said ++ o) next.2 ∙ sym (append_assoc s.said puts.added next.0));
+      };
+    }
+    telling_takes tail.End is puts = record {
+      held = omega (arith, ap (λ (b : Bool). held_by says left b (left old.source)) going, ap (λ (b : Bool). held_by says left b (left new.source)) is);
+      room = refl;
+      added = puts.added ∷ [];
+      adds = adds_one outputs d now puts.added one slot puts.is;
+      stands = λ begun seen so_far s. record {
+        said = s.said ++ puts.added;
+        is = ap (λ (ts : List (List ℕ)). said_more ts (puts.added ∷ [])) s.is;
+        uncut = s.uncut;
+        leaves = λ text t.
+            let was = left_on begun s.said text (s.leaves text t) in
+            subst (λ (b : Bool). Leaves says left b new.source (s.said ++ puts.added) text) (sym is)
+            (was.2 ∙ ap (λ (o : List ℕ). s.said ++ o) (puts.all was.0 was.1));
+      };
+    }
+
+  -- all is said
+  pub telling_ends : (stage : Telling T) (outputs : List Output) → stage.done ≡ true → Ends (kind says left) stage stage outputs outputs
+  telling_ends stage outputs is = record {
+    same = refl;
+    room = refl;
+    stands = λ begun seen so_far s. s;
+    drained = λ begun seen so_far s uncut drains i inside. absurd (omega (arith, inside));
+    whole = λ begun seen so_far contents s uncut covers. record {
+      said = s.said;
+      is = s.is;
+      all = λ text t. subst (λ (b : Bool). Leaves says left b stage.source s.said text) is (s.leaves text t);
+    };
+    cut = λ begun seen so_far s cut. absurd (true≢false (sym cut ∙ s.uncut));
+  }
+
+-- ---- what a run leaves
+
+front_on : (o : Option (List ℕ)) (said text : List ℕ) → IsFront said text → IsSomeAnd o (λ part. IsFront part said) → IsSomeAnd o (λ part. IsFront part text)
+front_on None said text front held = absurd held
+front_on (Some part) said text front held = record {
+  rest = held.rest ++ front.rest;
+  is = front.is ∙ ap (λ (o : List ℕ). o ++ front.rest) held.is ∙ append_assoc part held.rest front.rest;
+}
+
+module _ (tells : Bool) (name : List ℕ) (old new : State) (drains : Type 0) where
+  abbrev pub Framed : Stop → Type 0
+  Framed answer = Frame tells [] (name ∷ []) old new drains answer
+
+  pub told_faults : (answer : Stop) → Framed answer → AnswersWrites old.outputs new.outputs (stored_by answer)
+  told_faults stop.Ended frame other = frame.touches.outputs.how.faults
+  told_faults stop.ReadFault frame other = frame.touches.outputs.how.faults
+  told_faults stop.WriteFault frame other = absurd (other refl)
+  told_faults stop.NoMemory frame other = frame.touches.outputs.how.faults
+
+  module _ {T : Type 0} (says : T → List ℕ → Type 0) (left : T → ℕ) (begun : Telling T) where
+    abbrev pub Left : Stop → Type 0
+    Left answer = frame_of.Leaves tells [] (name ∷ []) old new (λ how contents so. TellsBy says left how begun so) (λ contents so. TellsFront says left begun so) answer
+
+    -- it wasn't opened
+    unopened : {A : Type 0} → new.outputs ≡ old.outputs → old.outputs.side.slots < new.outputs.side.slots → A
+    unopened same more = absurd (let slots = ap (λ (w : Writing). w.side.slots) same in omega (arith, slots, more))
+
+    some_said : (text : List ℕ) → says begun.source text → HoldSome tells [] (name ∷ []) old new (λ how contents so. TellsBy says left how begun so) (λ contents so. TellsFront says left begun so)
+        → old.outputs.side.slots < new.outputs.side.slots → HoldsFrontOf new.outputs name text
+    some_said text t some more = front_on (holds new.outputs name) some.texts.said text (some.texts.front text t)
+        ((subst (λ (ts : List (List ℕ)). HoldFronts old.outputs new.outputs 0 (name ∷ []) ts) some.texts.is some.held).0 (omega (arith, more)))
+
+    -- the file holds the text, or a prefix of it
+    pub told_stored : (answer : Stop) → Framed answer → (IsTrue tells → Left answer) → (text : List ℕ) → says begun.source text
+        → Stores tells name text old.outputs new.outputs (stored_by answer)
+    told_stored stop.Ended frame leaves text t = (
+      (frame.all refl).1,
+      λ told.
+          let all = (leaves told).1 in
+          (subst (λ (ts : List (List ℕ)). HoldTexts new.outputs (name ∷ []) ts) all.texts.is all.held).0 ∙ ap Some (sym (all.texts.all text t)),
+    )
+    told_stored stop.ReadFault frame leaves text t = λ told more. elim (leaves told) [
+      | inl none ↦ unopened none.1 more
+      | inr handed ↦ absurd handed.1.hold.texts
+    ]
+    told_stored stop.WriteFault frame leaves text t = (frame.touches.outputs.how.rose, λ told more. some_said text t (leaves told).1 more)
+    told_stored stop.NoMemory frame leaves text t = λ told more. elim (leaves told) [
+      | inl same ↦ unopened same more
+      | inr some ↦ some_said text t some.1 more
+    ]
