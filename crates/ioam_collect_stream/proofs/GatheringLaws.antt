@@ -1,15 +1,11 @@
 -- Laws of export records that are read in pieces and regrouped.
-use Rattle.std.proofs.Common.{◌≡◌, ℕ, ◌+◌, ◌*◌, ◌<◌, ◌≤◌, Bool, true, false, List, [], ◌∷◌, ◌++◌, length, length-append, refl, ap, ◌∙◌, arith, inl, inr}
-use Rattle.std.specs.List.{AllByRecursion}
+use Rattle.std.proofs.Common.{◌≡◌, ℕ, ◌+◌, ◌*◌, ◌<◌, ◌≤◌, true, false, List, [], ◌∷◌, ◌++◌, length, length-append, refl, ap, ◌∙◌, arith, inl, inr}
 use Rattle.std.proofs.lemmas.Bool.Decides.{nat_tests}
 use Rattle.std.proofs.lemmas.List.Elements.{recursion_from_All}
 use Rattle.ioam_dex.specs.Record.{Record, IsRecord, record_octets}
-use Rattle.ioam_dex.specs.Visit.{has_visit, twelve_where}
-use Rattle.ioam_dex.specs.Faults.{IsCut}
-use Rattle.ioam_dex.specs.Reads.{records_octets}
 use Rattle.ioam_dex.specs.Reading.{Reading}
 use Rattle.ioam_dex.specs.Reader.{Stands, Waits}
-use Rattle.ioam_dex.proofs.RecordLaws.{numbers_size-small, record_octets-length, record_size-small}
+use Rattle.ioam_run_answer.proofs.ExportsLaws.{cut_few, octets_few}
 use Rattle.ioam_collect.specs.Keyed.{keyed_of}
 use Rattle.ioam_collect.specs.Collected as collected
 use Rattle.ioam_collect.specs.Collected.{Collected, Answers, Leaves, capped, count_kept, held_more}
@@ -19,32 +15,9 @@ use Rattle.ioam_collect.specs.declared.growing.Added.{Added}
 use Rattle.ioam_collect.specs.declared.growing.Added.TheVariants.{Kept, Replaced, Repeat, Unkeyed, Full}
 use Rattle.ioam_collect_stream.specs.Gathering.{Gathers, IsPast, SaysLimit}
 
-twelve_small : (there : Bool) → twelve_where there ≤ 12
-twelve_small true = omega arith
-twelve_small false = omega arith
-
-cut_few : (octets : List ℕ) → IsCut octets → length octets < 274
-cut_few octets (inl none) = omega arith
-cut_few octets (inr (inl short)) = let few = short.1 in omega arith
-cut_few octets (inr (inr sized)) =
-    let less = sized.1 in
-    let most = sized.0.most in
-    let visit = twelve_small (has_visit (Rattle.std.specs.Prelude.slice_index octets 0)) in
-    let numbers = numbers_size-small (Rattle.std.specs.Prelude.slice_index octets 1) in
-    omega arith
-
 -- a reader that waits holds back less than a record
 pub Waits-few : (reader : Reading) → Waits reader → length reader.pending < 274
 Waits-few reader waits = cut_few reader.pending waits
-
-pub octets_few : (records : List Record) → AllByRecursion IsRecord records → length (records_octets records) ≤ 274 * length records
-octets_few [] all = omega arith
-octets_few (x ∷ records) all =
-    let more = octets_few records all.1 in
-    let size = record_octets-length x all.0.parts in
-    let few = record_size-small x all.0.parts in
-    let both = length-append (record_octets x) (records_octets records) in
-    omega arith
 
 -- what it has taken is no more than the greatest records
 pub start_few : (reader : Reading) (octets : List ℕ) (records : List Record) → Stands reader octets records → reader.start ≤ 274 * length records

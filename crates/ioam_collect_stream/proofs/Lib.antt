@@ -1,4 +1,4 @@
-pub mod GatheringLaws
+mod GatheringLaws
 pub mod RecordsLaws
 mod RegroupingLaws
 -- of the crates below, for the crates above

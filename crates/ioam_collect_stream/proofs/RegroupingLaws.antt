@@ -21,18 +21,11 @@ use Rattle.ioam_dex.specs.Reading.{Reading}
 use Rattle.ioam_dex.specs.Reader.{Stands, Waits, fed}
 use Rattle.ioam_dex.specs.declared.export.ExportFault.{ExportFault}
 use Rattle.ioam_dex.proofs.ReadsLaws.{Splits-feed}
+use Rattle.ioam_run_answer.proofs.CallLaws.{adds_one}
 use Rattle.ioam_stream.specs.Conversion.{Closes, Converts, StandsSo, StopsSo, TakesOne, NeedsMore, TakesNone, Finishes, SaysPart, SaysLast, Opens, Refills}
 use Rattle.ioam_stream.specs.Stage.{How, Ended}
 use Rattle.ioam_stream.specs.declared.conversion.Tail.{Tail}
 use Rattle.ioam_stream.specs.declared.conversion.Tail.TheVariants as tail
-
--- octets that are gathered for the one output
-pub adds_one : (outputs : List Output) (d after : Output) (added : List ℕ) → length outputs ≡ 1
-    → after.slot ≡ (get_or outputs 0 d).slot → after.gathered.items ≡ (get_or outputs 0 d).gathered.items ++ added
-    → Adds outputs (set outputs 0 after) (added ∷ [])
-adds_one [] d after added one slot is = absurd (omega (arith, one))
-adds_one (x ∷ []) d after added one slot is = (slot, is, tt)
-adds_one (x ∷ y ∷ outputs) d after added one slot is = absurd (omega (arith, one))
 
 -- or none
 adds_none : (outputs : List Output) → length outputs ≡ 1 → Adds outputs outputs ([] ∷ [])

@@ -1,4 +1,6 @@
 pub mod AskedLaws
+pub mod CallLaws
+pub mod ExportsLaws
 pub mod FailuresLaws
 pub mod RanLaws
 -- of the crates below, for the crates above

@@ -1,6 +1,6 @@
 -- What the frame of a run over one input says, and what the outputs hold, by how the run stopped.
 use Rattle.std.proofs.Common.{◌≡◌, ℕ, zero, suc, ◌+◌, ◌<◌, ◌⊎◌, Bool, IsTrue, IsSomeAnd, List, [], ◌∷◌, ◌++◌, Option, Some, None, refl, sym, ap, ◌∙◌, subst, inl, inr, append-nil, arith}
-use Rattle.std.specs.Prelude.{Contains, IfOk, OnOk, Result, Ok, Err}
+use Rattle.std.specs.Prelude.{Contains}
 use Rattle.ioam_desk.specs.Desk.{Reading, Writing, holds}
 use Rattle.ioam_desk.specs.Touches.{State, Touches, opening}
 use Rattle.ioam_desk.proofs.KeptLaws.{KeepsInputs-same, KeepsOutputs-same}
@@ -17,16 +17,6 @@ use Rattle.ioam_stream.specs.Stage.{How, Ended, Handed}
 use Rattle.ioam_stream.specs.Frame.{Frame, HoldSome, Leaves, contents, failing_all}
 use Rattle.ioam_stream.specs.declared.reading.Stop.{Stop}
 use Rattle.ioam_stream.specs.declared.reading.Stop.TheVariants as stop
-
--- two clauses of a call that succeeds
-pub OnOk_both : {T E : Type 0} (r : Result T E) (P Q R : Type 0) → OnOk r P → OnOk r Q → (P → Q → R) → OnOk r R
-OnOk_both (Ok x) P Q R p q f = f p q
-OnOk_both (Err e) P Q R p q f = tt
-
--- what an Ok tells of its value, passed on
-pub IfOk-map : {T E : Type 0} (r : Result T E) (P Q : T → Type 0) → ((x : T) → P x → Q x) → IfOk r P → IfOk r Q
-IfOk-map (Ok x) P Q f p = f x p
-IfOk-map (Err e) P Q f p = tt
 
 pub held_map : (o : Option (List ℕ)) (P Q : List ℕ → Type 0) → ((octets : List ℕ) → P octets → Q octets) → IsSomeAnd o P → IsSomeAnd o Q
 held_map None P Q f held = absurd held

@@ -1,21 +1,17 @@
 -- How records are read and packed.
-use Rattle.std.proofs.Common.{◌≡◌, ℕ, ◌+◌, ◌*◌, ◌-◌, ◌^◌, ◌<◌, ◌≤◌, Bool, true, false, List, [], ◌∷◌, ◌++◌, length, get_or, set, refl, sym, ap, ◌∙◌, subst, inl, inr, append-nil, append_assoc, length-append, arith, Option, Some, None}
-use Rattle.std.specs.List.{AllByRecursion}
-use Rattle.std.specs.Prelude.{slice_index, flat_map}
+use Rattle.std.proofs.Common.{◌≡◌, ℕ, ◌+◌, ◌-◌, ◌^◌, ◌<◌, ◌≤◌, List, [], ◌∷◌, ◌++◌, length, get_or, set, refl, sym, ap, ◌∙◌, subst, append-nil, append_assoc, length-append, arith, Option, Some, None}
+use Rattle.std.specs.Prelude.{flat_map}
 use Rattle.std.proofs.lemmas.List.{append_cancel_left}
 use Rattle.std.proofs.lemmas.List.Elements.{recursion_from_All, All-nil, All-cons}
 use Rattle.ioam_desk_outputs.specs.Told.{Adds, GathersFew, GathersNothing, said_more}
 use Rattle.ioam_desk_outputs.specs.declared.output.Output.{Output}
 use Rattle.ioam_desk_outputs.proofs.ToldLaws.{Adds-few}
-use Rattle.ioam_dex.specs.Record.{Record, IsRecord, record_octets}
-use Rattle.ioam_dex.specs.Visit.{has_visit, twelve_where}
-use Rattle.ioam_dex.specs.Faults.{IsCut}
-use Rattle.ioam_dex.specs.Reads.{Faulty, Reads, records_octets}
+use Rattle.ioam_dex.specs.Record.{Record, IsRecord}
+use Rattle.ioam_dex.specs.Reads.{Faulty, Reads}
 use Rattle.ioam_dex.specs.Reading.{Reading}
 use Rattle.ioam_dex.specs.Reader.{Stands, Waits, ending_of, fed}
 use Rattle.ioam_dex.specs.declared.export.ExportFault.{ExportFault}
 use Rattle.ioam_dex.specs.Showing.{Gives}
-use Rattle.ioam_dex.proofs.RecordLaws.{numbers_size-small, record_octets-length, record_size-small}
 use Rattle.ioam_dex.proofs.ReadsLaws.{Splits-feed}
 use Rattle.ioam_ipfix.specs.Templates.{template_octets, all_ids}
 use Rattle.ioam_ipfix.specs.Written.{templates_message, runs_text, messages_text}
@@ -27,16 +23,10 @@ use Rattle.ioam_run_ipfix.specs.declared.packer.Packer.{Packer}
 use Rattle.ioam_run_ipfix.specs.declared.packer.Cause.{Cause}
 use Rattle.ioam_run_ipfix.specs.declared.packer.Cause.TheVariants as cause
 use Rattle.ioam_run_ipfix.proofs.PackingLaws.{packed-count, packed-rest}
+use Rattle.ioam_run_answer.proofs.ExportsLaws.{cut_few, octets_few}
+use Rattle.ioam_run_answer.proofs.CallLaws.{adds_one}
 use Rattle.ioam_stream.specs.Conversion.{StandsSo, StopsSo, TakesOne, TakesNone, Finishes, SaysLast, Opens, Refills}
 use Rattle.ioam_stream.specs.Stage.{How, Ended, Handed}
-
--- octets that are gathered for the one output
-pub adds_one : (outputs : List Output) (d after : Output) (added : List ℕ) → length outputs ≡ 1
-    → after.slot ≡ (get_or outputs 0 d).slot → after.gathered.items ≡ (get_or outputs 0 d).gathered.items ++ added
-    → Adds outputs (set outputs 0 after) (added ∷ [])
-adds_one [] d after added one slot is = absurd (omega (arith, one))
-adds_one (x ∷ []) d after added one slot is = (slot, is, tt)
-adds_one (x ∷ y ∷ outputs) d after added one slot is = absurd (omega (arith, one))
 
 -- ---- the texts
 
@@ -220,29 +210,6 @@ packer_closes old new outputs d now one slot so puts reader why =
     }
 
 -- ---- how much a reader holds
-
-twelve_small : (there : Bool) → twelve_where there ≤ 12
-twelve_small true = omega arith
-twelve_small false = omega arith
-
-cut_few : (octets : List ℕ) → IsCut octets → length octets < 274
-cut_few octets (inl none) = omega arith
-cut_few octets (inr (inl short)) = let few = short.1 in omega arith
-cut_few octets (inr (inr sized)) =
-    let less = sized.1 in
-    let most = sized.0.most in
-    let visit = twelve_small (has_visit (slice_index octets 0)) in
-    let numbers = numbers_size-small (slice_index octets 1) in
-    omega arith
-
-octets_few : (records : List Record) → AllByRecursion IsRecord records → length (records_octets records) ≤ 274 * length records
-octets_few [] all = omega arith
-octets_few (x ∷ records) all =
-    let more = octets_few records all.1 in
-    let size = record_octets-length x all.0.parts in
-    let few = record_size-small x all.0.parts in
-    let both = length-append (record_octets x) (records_octets records) in
-    omega arith
 
 -- a reader that waits was fed no more than the greatest records and the first octets of another
 pub packer_room : (packer : Packer) → StandsSo does packer → Waits packer.reader → fed packer.reader < 18387829010

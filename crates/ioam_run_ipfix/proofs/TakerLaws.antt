@@ -27,7 +27,7 @@ use Rattle.ioam_run_ipfix.specs.declared.taker.Cause.{Cause}
 use Rattle.ioam_run_ipfix.specs.declared.taker.Cause.TheVariants as cause
 use Rattle.ioam_run_ipfix.proofs.GoesLaws.{all-given, goes-further}
 use Rattle.ioam_run_ipfix.proofs.MessagesLaws.{joined-append, stop-front}
-use Rattle.ioam_run_ipfix.proofs.PackerLaws.{adds_one}
+use Rattle.ioam_run_answer.proofs.CallLaws.{adds_one}
 use Rattle.ioam_run_ipfix.proofs.SizeLaws.{chain-append, octets-append, reader-room}
 use Rattle.ioam_stream.specs.Conversion.{StandsSo, TakesOne, TakesNone, NeedsMore, Finishes, SaysLast, Opens, Refills}
 use Rattle.ioam_stream.specs.Stage.{How, Ended, Handed}

@@ -6,7 +6,7 @@ use Rattle.ioam_run_answer.specs.Reads.{records_octets}
 use Rattle.ioam_collect.specs.Collected as collected
 use Rattle.ioam_collect.specs.Collected.{Collected}
 use Rattle.ioam_collect_stream.specs.Gathering.{AreFew}
-use Rattle.ioam_collect_stream.proofs.GatheringLaws.{octets_few}
+use Rattle.ioam_run_answer.proofs.ExportsLaws.{octets_few}
 use Rattle.ioam_part.specs.Part.{head_octets, part_octets}
 use Rattle.ioam_part.specs.Rest.{Leaves}
 use Rattle.ioam_run_part.specs.Records.{IsPartOfAll}

@@ -1,5 +1,5 @@
 use Rattle.std.proofs.Common.{refl, sym, ◌∙◌}
-use Rattle.ioam_run_answer.proofs.RanLaws.{IfOk-map}
+use Rattle.ioam_run_answer.proofs.CallLaws.{IfOk-map}
 use Rattle.ioam_collect_stream.proofs.RegroupingLaws.{says_first, says_next}
 use Rattle.ioam_collect_stream.proofs.regrouping.RegroupingConverter.close.Goals as goal
 

@@ -1,5 +1,5 @@
 use Rattle.std.proofs.Common.{[], refl, arith}
-use Rattle.ioam_run_answer.proofs.RanLaws.{OnOk_both}
+use Rattle.ioam_run_answer.proofs.CallLaws.{OnOk_both}
 use Rattle.ioam_collect_stream.proofs.RegroupingLaws.{fed_few, is_there, refills}
 use Rattle.ioam_collect_stream.proofs.regrouping.RegroupingConverter.feed.Goals as goal
 

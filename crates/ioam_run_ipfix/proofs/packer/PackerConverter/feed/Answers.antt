@@ -1,5 +1,5 @@
 use Rattle.std.proofs.Common.{refl, arith}
-use Rattle.ioam_run_answer.proofs.RanLaws.{OnOk_both}
+use Rattle.ioam_run_answer.proofs.CallLaws.{OnOk_both}
 use Rattle.ioam_run_ipfix.proofs.PackerLaws.{packer_feeds, packer_room}
 use Rattle.ioam_run_ipfix.proofs.packer.PackerConverter.feed.Goals as goal
 

@@ -1,5 +1,5 @@
 use Rattle.std.proofs.Common.{refl, arith}
-use Rattle.ioam_run_answer.proofs.RanLaws.{OnOk_both}
+use Rattle.ioam_run_answer.proofs.CallLaws.{OnOk_both}
 use Rattle.ioam_run_ipfix.proofs.TakerLaws.{taker_feeds, taker_fits, taker_room}
 use Rattle.ioam_run_ipfix.proofs.taker.TakerConverter.feed.Goals as goal
 
