@@ -56,10 +56,11 @@ pub record Says (tells Are : List Record → List ℕ → Type 0) (octets : List
   pub is : tells records text
   pub said : so ≡ text ∷ []
 
+-- no records are no more than may be
 abbrev pub none_few : AreFew []
 none_few = record { read = omega arith; held = omega arith }
 
--- of an option that may be there
+-- the number of what an option holds, or another where it holds nothing
 abbrev pub by_option : {A : Type 0} → Option A → ℕ → (A → ℕ) → ℕ
 by_option None n f = n
 by_option (Some x) n f = f x
@@ -94,6 +95,7 @@ module _ {T : Type 0} (tells : List Record → List ℕ → Type 0) (rest : T �
     pub few : AreFew records
     pub says : MatchOption now.collector (IsSaying records so_far now.report) (λ collector. collected.Stands collector.now records × IsUnsaid so_far)
 
+  -- nothing is said of the records before the last one was regrouped
   abbrev pub does : Converts (Regrouping T)
   does = record {
     width = 1;
