@@ -1,10 +1,10 @@
-//! The tests of the top call (`ioam_cmd`): command lines that are refused, one run over a desk that never
-//! fails, and runs behind gates. They stand apart from the program, so that it stands on no crate of tests.
+//! The tests of the top call (`ioam_cmd`) that no case of `ioam_cases` can say: a run over a desk that never fails,
+//! and runs behind gates.
 #![tactic(auto)]
 
 #[cfg(test)]
 mod gated;
 #[cfg(test)]
-mod refusals;
+mod rows;
 #[cfg(test)]
 mod tests;

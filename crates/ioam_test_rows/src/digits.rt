@@ -1,6 +1,4 @@
-//! What all rows share: octets by their digits, and words.
-ghost use Rattle.std.specs.Prelude.{◌≡◌, IfOk, length};
-
+//! Octets by their hexadecimal digits, and words.
 use ioam_base::memory::NoMemory;
 use ioam_base::name::Name;
 use std::alloc::Global;
@@ -30,16 +28,7 @@ pub fn octets(alloc: Global, parts: &[&str]) -> Result<Vec<u8>, NoMemory> {
     hex::decode(alloc, &digits).map_err(|_| NoMemory)
 }
 
-/// The octets of parts, one behind the other.
-pub fn joined(alloc: Global, parts: &[&[&str]]) -> Result<Vec<u8>, NoMemory> {
-    let mut out = Vec::new(alloc);
-    for part in parts {
-        out.extend_from_slice(&octets(alloc, part)?)?;
-    }
-    Ok(out)
-}
-
-/// The octets of texts, one behind the other.
+/// The octets of texts, one after the other.
 pub fn text(alloc: Global, parts: &[&str]) -> Result<Vec<u8>, NoMemory> {
     let mut text = Vec::new(alloc);
     for part in parts {
@@ -49,20 +38,10 @@ pub fn text(alloc: Global, parts: &[&str]) -> Result<Vec<u8>, NoMemory> {
 }
 
 /// Words as the program has them.
-pub fn words(alloc: Global, texts: &[&str]) -> Result<Vec<Name>, NoMemory>
-    ensures { IfOk result (λ words. length words.items ≡ length texts.now) }
-{
+pub fn words(alloc: Global, texts: &[&str]) -> Result<Vec<Name>, NoMemory> {
     let mut words = Vec::new(alloc);
-    'texts: for text in texts {
+    for text in texts {
         words.push(Name::new(alloc, text)?)?;
     }
     Ok(words)
-}
-
-/// Whether a file, if it is there, is a front of these octets.
-pub fn is_front(file: Option<&[u8]>, whole: &[u8]) -> bool {
-    match file {
-        Some(octets) => whole.starts_with(octets),
-        None => true,
-    }
 }
