@@ -7,10 +7,11 @@ there; those of the manual page are to print `done`.
 PROGRAM is what `./ioam` in the documents stands for: this repository's `ioam` where none is given. Each
 document is played in a new folder with a copy of examples/. A line for each command: `ok` or `DIFFERS`, and
 then what was wanted and what came. Ends with status 1 where one differs. Commands that print nothing are shown
-without lines behind them; other commands of the documents (`rt ci`, say) stand without `$` and aren't run. Where gnuplot is missing,
-those that name a picture are left out.
+without lines behind them; other commands of the documents (`rt ci`, say) stand without `$` and aren't run. A command is left out
+if a tool that it needs is missing (gnuplot, for those that name a picture), and then whatever follows it in its section.
 """
 import os
+import re
 import shutil
 import subprocess
 import sys
@@ -20,19 +21,32 @@ from repository import TOP, program_at
 
 
 
+# Tools that commands of the documents use and that may be missing.
+TOOLS = ("editcap", "mergecap", "tcpdump", "tcprewrite", "tshark", "jq")
+
+
+def missing(command):
+    """The tools that a command needs and that aren't here."""
+    words = set(re.split(r"[^\w.-]+", command))
+    wanted = [tool for tool in TOOLS if tool in words] + (["gnuplot"] if ".png" in command else [])
+    return [tool for tool in wanted if not shutil.which(tool)]
+
+
 def shown(path):
-    """The commands of a document, each with the lines that are shown behind it."""
+    """The commands of a document, each with its section and the lines that are shown behind it."""
     commands = []
     inside = False
+    section = ""
     for line in open(path, encoding="utf-8"):
         text = line.rstrip("\n")
         if text.startswith("    $ "):
-            commands.append((text[6:], []))
+            commands.append((section, text[6:], []))
             inside = True
         elif text.startswith("    ") and inside:
-            commands[-1][1].append(text[4:])
+            commands[-1][2].append(text[4:])
         else:
             inside = False
+            section = text if text.startswith("#") else section
     return commands
 
 
@@ -45,9 +59,9 @@ def shown_in_manual(path):
         if text.startswith((".Bd", ".Ed")):
             inside = text.startswith(".Bd")
         elif inside and text.startswith("$ "):
-            commands.append((text[2:], ["done"]))
+            commands.append(("", text[2:], ["done"]))
         elif inside:
-            commands[-1] = commands[-1][0].rstrip("\\") + text.lstrip(), ["done"]
+            commands[-1] = "", commands[-1][1].rstrip("\\") + text.lstrip(), ["done"]
     return commands
 
 
@@ -58,8 +72,10 @@ def play(path, program):
     with tempfile.TemporaryDirectory() as room:
         shutil.copytree(os.path.join(TOP, "examples"), os.path.join(room, "examples"))
         os.symlink(program, os.path.join(room, "ioam"))
-        for command, wanted in commands:
-            if ".png" in command and not shutil.which("gnuplot"):
+        left = None
+        for section, command, wanted in commands:
+            if missing(command) or (section and section == left):
+                left = section
                 print(f"left    {os.path.relpath(path, TOP)}: {command}")
                 continue
             found = {**os.environ, "PATH": room + os.pathsep + os.environ["PATH"]}
