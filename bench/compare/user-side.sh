@@ -281,20 +281,26 @@ want 5 'capture /dev/null 0 short 0' filter /dev/null /dev//null report
 cat pipe >piped & want 0 done filter x pipe ./pipe && kill $! 2>/dev/null
 
 # A live pipe: what the first packet shows is written while the pipe is open, and stays when a signal ends the program.
-size=$(od -An -tu4 -j 32 -N 4 "$real") && one=$((40 + size)) && head -c "$one" "$real" >one.pcap && mkfifo live && chmod 666 live
+first() { # first CAPTURE: its first packet alone, as one.pcap
+    size=$(od --endian=big -An -tu4 -j 32 -N 4 "$1") && one=$((40 + size)) && head -c "$one" "$1" >one.pcap
+}
+mkfifo live && chmod 666 live && first "$real"
 live() { # live DROPPED FILE WORD..: the file of the words that read `live` is that of one packet, but for its last DROPPED lines
     dropped=$1 file=$2 && shift 2
     timeout 60 $as ./ioam $(printf '%s ' "$@" | sed 's/live/one.pcap/') >/dev/null 2>&1
     if [ "$dropped" = 0 ]; then cp "$file" wanted; else head -n -"$dropped" "$file" >wanted; fi
     rm -f "$file"
     timeout 60 $as ./ioam "$@" >/dev/null 2>stderr &
-    reader=$! && exec 7>live && head -c "$one" "$real" >&7
+    reader=$! && exec 7>live && cat one.pcap >&7
     for _ in 1 2 3 4 5 6 7 8 9 10 11 12 13 14 15 16 17 18 19 20; do cmp -s "$file" wanted && break; sleep 0.1; done
     kill -INT $reader && wait $reader 2>/dev/null
     exec 7>&- && cp "$file" stdout && : >stderr && judge 0 0 "$@" ', live'
 }
 live 1 report paths live report && live 1 report show live report && live 1 report filter live out report && live 0 out save live out
-rm -f out report one.pcap
+first examples/audit/after.pcap && live 9 report audit examples/one-node/domain.toml three two-three examples/audit/before.pcap live report
+sed 's,examples/three/west.pcap,live,' "$domain" >live.toml && sed 's,examples/three/west.pcap,one.pcap,' "$domain" >one.pcap.toml
+first examples/three/west.pcap && live 5 report run live.toml "$readings" 1 report exports
+rm -f out report one.pcap live.toml one.pcap.toml west-out.pcap east-out.pcap bc.pcap exports
 
 # What crosses ab comes to b, and what b sends is what crosses bc: with no delay on ab at the same times. Files named as NODE and LINK.
 sed 's/delay = 1000, mtu = 1500 }/delay = 0, mtu = 1500, tap = "ab.pcap" }/' "$domain" >domain.toml
