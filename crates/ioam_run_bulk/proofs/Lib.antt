@@ -1,4 +1,5 @@
 mod GeneratedLaws
 mod LoadLaws
+mod RanLaws
 mod ReportLaws
-mod WordsLaws
+mod SendsLaws

@@ -1,6 +1,5 @@
 -- Laws of the report.
-use Rattle.std.proofs.Common.{◌≡◌, ℕ, ◌<◌, List, [], ◌∷◌, ◌++◌, length, get_or, set, Ok, Err, ap, subst, arith}
-use Rattle.std.specs.Prelude.{Result, OnOk, is_ok, if◌then◌else◌}
+use Rattle.std.proofs.Common.{◌≡◌, ℕ, ◌<◌, List, [], ◌∷◌, ◌++◌, length, get_or, set, ap, subst, arith}
 use Rattle.ioam_clock.specs.declared.sample.Sample.{Sample}
 use Rattle.ioam_run_arrivals.specs.Fate.{AreFates}
 use Rattle.ioam_run_arrivals.proofs.OneFateLaws.{AreFates-unique}
@@ -39,13 +38,6 @@ pub Adds-one : (outputs : List Output) (d after : Output) (added : List ℕ) →
 Adds-one [] d after added one slot is = absurd (omega (arith, one))
 Adds-one (x ∷ []) d after added one slot is = (slot, is, tt)
 Adds-one (x ∷ y ∷ outputs) d after added one slot is = absurd (omega (arith, one))
-
--- what was appended is the report
-pub report-appended : {T E : Type 0} (result : Result T E) (seed count : ℕ) (old new text : List ℕ)
-    → new ≡ (if is_ok result then old ++ text else old) → IsReport seed count text
-    → OnOk result ((more : List ℕ) × IsReport seed count more × (new ≡ old ++ more))
-report-appended (Ok x) seed count old new text is report = (text, report, is)
-report-appended (Err e) seed count old new text is report = tt
 
 -- the domain has a first port
 pub first-port : (count : ℕ) (domain : Domain) → IsBulkDomain count domain → 0 < length (ports domain)

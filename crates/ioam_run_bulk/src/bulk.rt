@@ -1,24 +1,50 @@
 //! `bulk SEED COUNT WORKERS REPORT`.
-ghost use Rattle.std.specs.Prelude.{◌≡◌, ◌≢◌, ◌⊎◌, ◌≤◌, ◌∷◌, ◌++◌, [], IfErr, IsTrue, OnOk, length};
-ghost use Rattle.ioam_run_answer.specs.Outcomes.{IsDone};
-ghost use Rattle.ioam_run_answer.specs.declared.outcome.Outcome.{Outcome};
-ghost use Rattle.ioam_desk.specs.Asked.{AsksFront, IsFaultOf};
-ghost use Rattle.ioam_desk.specs.Desk.{Rose};
-ghost use Rattle.ioam_desk.specs.Kept.{KeepsOutputs};
-ghost use Rattle.ioam_desk_outputs.specs.Names.{name_at};
+ghost use Rattle.std.specs.Prelude.{◌≡◌, ◌<◌, ◌≤◌, ◌^◌, IfOk};
+ghost use Rattle.std.specs.Borrow.{MutBor};
+ghost use Rattle.ioam_run_arrivals.specs.Forwarding.{IsOf, taken};
+ghost use Rattle.ioam_run_arrivals.specs.declared.forwarding.Forwarding.{Forwarding};
+ghost use Rattle.ioam_topo_generated.specs.Bulk.{IsBulkDomain};
 ghost use Rattle.ioam_run_answer.specs.Desks.{around};
-ghost use Rattle.ioam_run_bulk.specs.Promise.{HasCause, HoldsFront, HoldsReport, Keeps, Leaves};
+ghost use Rattle.ioam_run_bulk.specs.Load.{IsSkipped};
+ghost use Rattle.ioam_run_bulk.specs.Promise.{Keeps, no_readings};
+ghost use Rattle.ioam_run_bulk.specs.Stage.{answered};
 
-use crate::report::write_report;
-use crate::terms::Demand;
+use crate::stage::Generating;
+use crate::terms::Terms;
+use ioam_base::memory::NoMemory;
 use ioam_base::name::Name;
-use ioam_desk::{Desk, DeskFault};
-use ioam_desk_outputs::open_outputs;
+use ioam_clock::{Readings, read_readings};
+use ioam_desk::Desk;
 use ioam_run_answer::Outcome;
-use ioam_run_arrivals::Gate;
+use ioam_run_arrivals::{Forwarding, Gate};
+use ioam_stream::{Stop, run as run_stage};
+use ioam_topo::Domain;
+use ioam_topo_generated::bulk_domain;
 use std::alloc::Global;
 use std::slice;
 use std::thread::Threads;
+
+// No samples of any node: a file of no octets has no fault.
+fn no_readings(alloc: Global, domain: &Domain) -> Result<Readings, NoMemory>
+    ensures { IfOk result (λ readings. readings ≡ no_readings domain.now) }
+{
+    match read_readings(alloc, domain, &[]) {
+        Ok(readings) => Ok(readings),
+        Err(_) => Err(NoMemory),
+    }
+}
+
+// The answer of a run that stopped so.
+fn answer(stop: Stop) -> Outcome
+    ensures { result ≡ answered stop }
+{
+    match stop {
+        Stop::Ended => Outcome::Done,
+        Stop::ReadFault => Outcome::ReadFault,
+        Stop::WriteFault => Outcome::WriteFault,
+        Stop::NoMemory => Outcome::NoMemory,
+    }
+}
 
 /// Runs `bulk SEED COUNT WORKERS REPORT`: COUNT packets, 1 to 1,000,000, that are generated behind SEED
 /// are sent through a domain of five nodes in a row, the first of which encloses those for the first
@@ -41,64 +67,46 @@ pub fn run_bulk<R: Threads + Sync, D: Desk, G: Gate>(
     requires staffed { (1 ≤ workers) × (workers ≤ 64) }
     ensures keeps { Keeps (around D.tells (D.reading desk.old) (D.reading desk.new) (D.writing desk.old) (D.writing desk.new)) seed count report.now result }
 {
-    let demand = Demand {
-        rt,
-        workers,
-        gate,
-        seed,
-        count,
+    let Ok(domain) = bulk_domain(alloc, count) else {
+        return Outcome::NoMemory;
     };
-    run_load(&demand, alloc, report, desk)
+    let Ok(readings) = no_readings(alloc, &domain) else {
+        return Outcome::NoMemory;
+    };
+    let run = |gathered: &mut Forwarding|
+        requires { (1 ≤ workers) × (workers ≤ 64) × IsOf domain gathered.old × (taken gathered.old < 2 ^ 33) }
+        ensures { IsSkipped domain readings gathered.old gathered.new }
+    { gathered.skip(rt, workers, gate, &domain, &readings) };
+    run_by(alloc, &run, seed, count, &domain, &readings, report, desk)
 }
 
-// The same, clause by clause.
-fn run_load<R: Threads + Sync, D: Desk, G: Gate>(
-    demand: &Demand<'_, R, G>,
+// Opens the one file, and writes to it the sums of the arrivals, whose jobs are run by `run`.
+fn run_by<F: Fn(&mut Forwarding), D: Desk>(
     alloc: Global,
+    run: &F,
+    seed: u64,
+    count: u32,
+    domain: &Domain,
+    readings: &Readings,
     report: &Name,
     desk: &mut D,
 ) -> Outcome
-    requires count { (1 ≤ demand.now.count) × (demand.now.count ≤ 1000000) }
-    requires staffed { (1 ≤ demand.now.workers) × (demand.now.workers ≤ 64) }
-    ensures leaves { IsTrue D.tells → Leaves demand.now.seed demand.now.count report.now (D.writing desk.old) (D.writing desk.new) result }
-    ensures cause { HasCause (D.writing desk.old) (D.writing desk.new) result }
-    ensures exact { (Rose (D.writing desk.old).side.faults (D.writing desk.new).side.faults → ⊥)
-        → (result ≡ Outcome.Done) ⊎ (result ≡ Outcome.NoMemory) }
-    ensures faults { result ≢ Outcome.WriteFault → (D.writing desk.new).side.faults ≡ (D.writing desk.old).side.faults }
-    ensures asked_out { AsksFront (D.writing desk.old).side.asked (D.writing desk.new).side.asked (report.now ∷ []) }
-    ensures all_out { IsDone result → (D.writing desk.new).side.asked ≡ (D.writing desk.old).side.asked ++ report.now ∷ [] }
-    ensures kept_in { D.reading desk.new ≡ D.reading desk.old }
-    ensures kept_out { IsTrue D.tells → KeepsOutputs (D.writing desk.old) (D.writing desk.new) }
+    requires domain { IsBulkDomain count domain.now }
+    requires readings { readings.now ≡ no_readings domain.now }
+    requires may_run { (p : MutBor Forwarding) → IsOf domain.now p.now → taken p.now < 2 ^ 33 → F.pre run.now p }
+    requires runs { (p q : MutBor Forwarding) (done : Unit {0}) → IsOf domain.now p.now → F.post run.now p done q
+        → IsSkipped domain.now readings.now p.now q.now }
+    ensures keeps { Keeps (around D.tells (D.reading desk.old) (D.reading desk.new) (D.writing desk.old) (D.writing desk.new)) seed count report.now result }
 {
-    let reports = slice::from_ref(report);
-    match write_sums(demand, alloc, reports, desk) {
-        Ok(()) => Outcome::Done,
-        Err(DeskFault::Failed) => Outcome::WriteFault,
-        Err(DeskFault::NoMemory) => Outcome::NoMemory,
-    }
-}
-
-// Opens the one file, and writes the sums to it.
-fn write_sums<R: Threads + Sync, D: Desk, G: Gate>(
-    demand: &Demand<'_, R, G>,
-    alloc: Global,
-    reports: &[Name],
-    desk: &mut D,
-) -> Result<(), DeskFault>
-    requires one { length reports.now ≡ 1 }
-    requires count { (1 ≤ demand.now.count) × (demand.now.count ≤ 1000000) }
-    requires staffed { (1 ≤ demand.now.workers) × (demand.now.workers ≤ 64) }
-    ensures held { OnOk result (IsTrue D.tells → HoldsReport demand.now.seed demand.now.count (name_at reports.now 0) (D.writing desk.new)) }
-    ensures front { IsTrue D.tells → HoldsFront demand.now.seed demand.now.count (name_at reports.now 0) (D.writing desk.old) (D.writing desk.new) }
-    ensures cause { IfErr result (IsFaultOf (D.writing desk.old).side (D.writing desk.new).side) }
-    ensures faults { OnOk result ((D.writing desk.new).side.faults ≡ (D.writing desk.old).side.faults) }
-    ensures asked_out { AsksFront (D.writing desk.old).side.asked (D.writing desk.new).side.asked reports.now }
-    ensures all_out { OnOk result ((D.writing desk.new).side.asked ≡ (D.writing desk.old).side.asked ++ reports.now) }
-    ensures kept_in { D.reading desk.new ≡ D.reading desk.old }
-    ensures kept_out { IsTrue D.tells → KeepsOutputs (D.writing desk.old) (D.writing desk.new) }
-{
-    match open_outputs(alloc, desk, reports) {
-        Ok(mut outputs) => write_report(demand, alloc, &mut outputs, desk),
-        Err(fault) => Err(fault),
-    }
+    let terms = Terms {
+        run,
+        seed,
+        count,
+        domain,
+        readings,
+    };
+    let Ok(mut stage) = Generating::new(alloc, terms) else {
+        return Outcome::NoMemory;
+    };
+    answer(run_stage(alloc, desk, &[], slice::from_ref(report), &mut stage))
 }

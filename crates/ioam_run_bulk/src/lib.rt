@@ -4,7 +4,7 @@
 mod bulk;
 mod generator;
 mod load;
-mod report;
+mod stage;
 mod terms;
 
 pub use bulk::run_bulk;

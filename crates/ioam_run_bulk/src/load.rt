@@ -3,18 +3,15 @@ ghost use Rattle.std.specs.Prelude.{◌≡◌, ◌+◌, ◌<◌, ◌≤◌, ◌^
 ghost use Rattle.ioam_clock.specs.declared.sample.Sample.{Sample};
 ghost use Rattle.ioam_run_arrivals.specs.Fate.{Frame};
 ghost use Rattle.ioam_run_arrivals.specs.Forwarding.{Forwards, IsOf, has_room, taken};
-ghost use Rattle.ioam_topo.specs.Domain.{ports};
-ghost use Rattle.ioam_run_bulk.specs.Load.{AreSums, Loads};
+ghost use Rattle.ioam_run_bulk.specs.Load.{AreSums, IsSet, Loads};
 
 use crate::generator::{MOST_GENERATED, next_state, put_packet};
 use crate::terms::Terms;
 use ioam_base::memory::NoMemory;
 use ioam_pcap::Packet;
-use ioam_report::Sums;
-use ioam_run_arrivals::{Arrival, Forwarding, Gate};
+use ioam_run_arrivals::{Arrival, Forwarding};
 use ioam_topo::{Domain, PortId};
 use std::alloc::Global;
-use std::thread::Threads;
 
 // Nanoseconds from an arrival to the next.
 const PAUSE: u64 = 1_000;
@@ -27,8 +24,8 @@ pub struct Load {
     pub(crate) octets: Vec<u8>,
 }
 
-// No arrival yet.
-fn new_load(alloc: Global, domain: &Domain, seed: u64) -> Result<Load, NoMemory>
+/// No arrival yet.
+pub(crate) fn new_load(alloc: Global, domain: &Domain, seed: u64) -> Result<Load, NoMemory>
     ensures { IfOk result (λ load. (readings : List (List Sample)) → Loads domain.now readings seed 0 load) }
 {
     let gathered = Forwarding::start(alloc, domain)?;
@@ -41,8 +38,8 @@ fn new_load(alloc: Global, domain: &Domain, seed: u64) -> Result<Load, NoMemory>
 }
 
 // Where no more may wait, runs what waits and forgets it.
-fn make_room<R: Threads + Sync, G: Gate>(terms: &Terms<'_, R, G>, gathered: &mut Forwarding)
-    requires staffed { (1 ≤ terms.now.workers) × (terms.now.workers ≤ 64) }
+fn make_room<F: Fn(&mut Forwarding)>(terms: &Terms<'_, '_, '_, F>, gathered: &mut Forwarding)
+    requires set { IsSet (λ f p. F.pre f p) (λ f p u q. F.post f p u q) terms.now }
     requires of { IsOf terms.now.domain.now gathered.old }
     requires few { taken gathered.old < 2 ^ 33 }
     ensures of { IsOf terms.now.domain.now gathered.new }
@@ -54,24 +51,17 @@ fn make_room<R: Threads + Sync, G: Gate>(terms: &Terms<'_, R, G>, gathered: &mut
     if gathered.has_room() {
         return;
     }
-    gathered.skip(
-        terms.rt,
-        terms.workers,
-        terms.gate,
-        terms.domain,
-        terms.readings,
-    );
+    (terms.run)(gathered);
 }
 
 // Takes the arrival with this number, counted from 0, at the first port of the domain.
-fn take_next<R: Threads + Sync, G: Gate>(
-    terms: &Terms<'_, R, G>,
+fn take_next<F: Fn(&mut Forwarding)>(
+    terms: &Terms<'_, '_, '_, F>,
     alloc: Global,
     number: u32,
     load: &mut Load,
 ) -> Result<(), NoMemory>
-    requires staffed { (1 ≤ terms.now.workers) × (terms.now.workers ≤ 64) }
-    requires port { 0 < length (ports terms.now.domain.now) }
+    requires set { IsSet (λ f p. F.pre f p) (λ f p u q. F.post f p u q) terms.now }
     requires of { IsOf terms.now.domain.now load.old.gathered }
     requires counted { taken load.old.gathered ≡ number }
     ensures of { OnOk result (IsOf terms.now.domain.now load.new.gathered) }
@@ -95,28 +85,30 @@ fn take_next<R: Threads + Sync, G: Gate>(
     Ok(())
 }
 
-/// Takes so many arrivals behind a seed, and runs all their jobs. The sums are those of what becomes of
-/// them; nothing else is kept of an arrival once its batch was run.
-pub(crate) fn sums_of<R: Threads + Sync, G: Gate>(
-    terms: &Terms<'_, R, G>,
+/// Takes the arrivals from number `from` on, up to `until` and without it.
+pub(crate) fn take_some<F: Fn(&mut Forwarding)>(
+    terms: &Terms<'_, '_, '_, F>,
     alloc: Global,
-    seed: u64,
-    count: u32,
-) -> Result<Sums, NoMemory>
-    requires staffed { (1 ≤ terms.now.workers) × (terms.now.workers ≤ 64) }
-    requires port { 0 < length (ports terms.now.domain.now) }
-    ensures { IfOk result (AreSums terms.now.domain.now terms.now.readings.now seed count) }
+    from: u32,
+    until: u32,
+    load: &mut Load,
+) -> Result<(), NoMemory>
+    requires set { IsSet (λ f p. F.pre f p) (λ f p u q. F.post f p u q) terms.now }
+    requires span { from ≤ until }
+    requires loads { Loads terms.now.domain.now terms.now.readings.now terms.now.seed from load.old }
+    ensures loads { OnOk result (Loads terms.now.domain.now terms.now.readings.now terms.now.seed until load.new) }
 {
-    let mut load = new_load(alloc, terms.domain, seed)?;
-    'arrivals: for number in 0..count {
-        take_next(terms, alloc, number, &mut load)?;
+    'arrivals: for number in from..until {
+        take_next(terms, alloc, number, load)?;
     }
-    load.gathered.skip(
-        terms.rt,
-        terms.workers,
-        terms.gate,
-        terms.domain,
-        terms.readings,
-    );
-    Ok(load.gathered.sums)
+    Ok(())
+}
+
+/// Runs all jobs that wait, and forgets them.
+pub(crate) fn run_rest<F: Fn(&mut Forwarding)>(terms: &Terms<'_, '_, '_, F>, load: &mut Load)
+    requires set { IsSet (λ f p. F.pre f p) (λ f p u q. F.post f p u q) terms.now }
+    requires loads { Loads terms.now.domain.now terms.now.readings.now terms.now.seed terms.now.count load.old }
+    ensures sums { AreSums terms.now.domain.now terms.now.readings.now terms.now.seed terms.now.count load.new.gathered.sums }
+{
+    (terms.run)(&mut load.gathered);
 }

@@ -1,6 +1,10 @@
 use Rattle.std.proofs.Common.{ℕ, ◌*◌, ◌∙◌, false, length, ap, arith}
 use Rattle.ioam_run_bulk.proofs.LoadLaws.{Loads-next, arrives}
+use Rattle.ioam_run_bulk.proofs.ReportLaws.{first-port}
 use Rattle.ioam_run_bulk.proofs.load.take_next.Goals as goal
+
+pub take-requires-clause-port : goal.take-requires-clause-port
+take-requires-clause-port g c = first-port c.args.terms.now.count c.args.terms.now.domain.now c.requires.set.domain
 
 pub returns-clause-loads : goal.returns-clause-loads
 returns-clause-loads g c = λ seed loads.

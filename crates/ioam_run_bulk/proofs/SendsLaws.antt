@@ -1,0 +1,106 @@
+-- Steps of a generated load as a stage.
+use Rattle.std.proofs.Common.{◌≡◌, ℕ, ◌-◌, ◌<◌, ◌≤◌, Bool, true, false, List, [], ◌∷◌, length, refl, sym, ap, ◌∙◌, subst, append-nil, arith}
+use Rattle.std.proofs.lemmas.Bool.{true≢false}
+use Rattle.std.specs.Borrow.{MutBor}
+use Rattle.ioam_run_arrivals.specs.declared.forwarding.Forwarding.{Forwarding}
+use Rattle.ioam_desk_outputs.specs.Told.{Adds, GathersFew, GathersNothing, said_more}
+use Rattle.ioam_desk_outputs.specs.declared.output.Output.{Output}
+use Rattle.ioam_stream.specs.Stage.{Standing, Begins, Ends, Takes}
+use Rattle.ioam_run_bulk.specs.Load.{IsSet}
+use Rattle.ioam_run_bulk.specs.Promise.{IsReport}
+use Rattle.ioam_run_bulk.specs.Stage.{HasTaken, StandsIn, held_in, kind}
+use Rattle.ioam_run_bulk.specs.declared.stage.Generating.{Generating}
+use Rattle.ioam_run_bulk.specs.declared.terms.Terms.{Terms}
+
+-- nothing is added to one output
+adds_none : (outputs : List Output) → length outputs ≡ 1 → Adds outputs outputs ([] ∷ [])
+adds_none [] one = absurd (omega (arith, one))
+adds_none (x ∷ []) one = (refl, sym (append-nil x.gathered.items), tt)
+adds_none (x ∷ y ∷ outputs) one = absurd (omega (arith, one))
+
+pub nothing_few : (outputs : List Output) → GathersNothing outputs → GathersFew outputs
+nothing_few outputs none k d inside = omega (arith, ap (λ (xs : List ℕ). length xs) (none k d inside))
+
+module _ {F : Type 0} (Pre : F → MutBor Forwarding → Type 0) (Post : F → MutBor Forwarding → Unit {0} → MutBor Forwarding → Type 0) where
+  pub begins_sends : (stage : Generating F) (outputs : List Output) → length outputs ≡ 1 → Begins (kind Pre Post) stage outputs outputs
+  begins_sends stage outputs one = (
+    [] ∷ [],
+    adds_none outputs one,
+    λ fresh. record {
+      set = fresh.set;
+      same = refl;
+      uncut = refl;
+      says = let P : Bool → Type 0 = λ said. StandsIn said stage ([] ∷ []) in
+          subst P (sym fresh.unsaid) (refl, subst (λ (n : ℕ). HasTaken n stage) (sym fresh.none) fresh.loads, omega (arith, fresh.none));
+    },
+  )
+
+  -- what stands for something before the sums were said
+  pub unsaid_taken : (stage : Generating F) → Standing (kind Pre Post) stage → stage.said ≡ false → HasTaken stage.taken stage × (stage.taken ≤ stage.terms.count)
+  unsaid_taken stage standing unsaid =
+      let says = subst (λ (said : Bool). StandsIn said stage standing.so_far) unsaid standing.stands.says in
+      (says.1, says.2)
+
+  module _ (old new : Generating F) (before after : List Output) where
+    -- some arrivals were taken
+    pub takes_some : length before ≡ 1 → after ≡ before → new.terms ≡ old.terms → old.said ≡ false → new.said ≡ false → old.taken < new.taken
+        → new.taken ≤ old.terms.count → HasTaken new.taken new → Takes (kind Pre Post) old new before after
+    takes_some one same terms unsaid still more few loads =
+        let P : ℕ → Type 0 = λ count. held_in new.said (count - new.taken) < held_in old.said (old.terms.count - old.taken) in
+        record {
+          held = subst P (ap (λ (t : Terms F). t.count) (sym terms))
+              (let Q : Bool → Bool → Type 0 = λ a b. held_in a (old.terms.count - new.taken) < held_in b (old.terms.count - old.taken) in
+              subst (λ (b : Bool). Q new.said b) (sym unsaid) (subst (λ (a : Bool). Q a false) (sym still) (omega (arith, more, few))));
+          room = refl;
+          added = [] ∷ [];
+          adds = subst (λ (o : List Output). Adds before o ([] ∷ [])) (sym same) (adds_none before one);
+          stands = λ begun seen so_far stands.
+              let says = subst (λ (said : Bool). StandsIn said old so_far) unsaid stands.says in
+              record {
+                set = subst (λ (t : Terms F). IsSet Pre Post t) (sym terms) stands.set;
+                same = terms ∙ stands.same;
+                uncut = stands.uncut;
+                says = subst (λ (said : Bool). StandsIn said new (said_more so_far ([] ∷ []))) (sym still) (
+                  ap (λ (so : List (List ℕ)). said_more so ([] ∷ [])) says.0,
+                  loads,
+                  subst (λ (t : Terms F). new.taken ≤ t.count) (sym terms) few,
+                );
+              };
+        }
+
+    -- the sums were said
+    pub takes_sums : (text : List ℕ) → Adds before after (text ∷ []) → new.terms ≡ old.terms → old.said ≡ false → new.said ≡ true
+        → (IsSet Pre Post old.terms → IsReport old.terms.seed old.terms.count text) → Takes (kind Pre Post) old new before after
+    takes_sums text adds terms unsaid said report =
+        let Q : Bool → Bool → Type 0 = λ a b. held_in a (new.terms.count - new.taken) < held_in b (old.terms.count - old.taken) in
+        record {
+          held = subst (λ (b : Bool). Q new.said b) (sym unsaid) (subst (λ (a : Bool). Q a false) (sym said) (omega arith));
+          room = refl;
+          added = text ∷ [];
+          adds = adds;
+          stands = λ begun seen so_far stands.
+              let says = subst (λ (b : Bool). StandsIn b old so_far) unsaid stands.says in
+              record {
+                set = subst (λ (t : Terms F). IsSet Pre Post t) (sym terms) stands.set;
+                same = terms ∙ stands.same;
+                uncut = stands.uncut;
+                says = subst (λ (b : Bool). StandsIn b new (said_more so_far (text ∷ []))) (sym said) (
+                  text,
+                  subst (λ (t : Terms F). IsReport t.seed t.count text) (sym terms) (report stands.set),
+                  ap (λ (so : List (List ℕ)). said_more so (text ∷ [])) says.0,
+                );
+              };
+        }
+
+  -- all was said
+  pub ends_said : (stage : Generating F) (outputs : List Output) → stage.said ≡ true → Ends (kind Pre Post) stage stage outputs outputs
+  ends_said stage outputs said = record {
+    same = refl;
+    room = refl;
+    stands = λ begun seen so_far stands. stands;
+    drained = λ begun seen so_far stands uncut drains i inside. absurd (omega (arith, inside));
+    whole = λ begun seen so_far contents stands uncut covers.
+        let says = subst (λ (b : Bool). StandsIn b stage so_far) said stands.says in
+        (says.0, subst (λ (t : Terms F). IsReport t.seed t.count says.0) stands.same says.1, says.2);
+    cut = λ begun seen so_far stands cut. absurd (true≢false (sym cut ∙ stands.uncut));
+  }
