@@ -1,34 +1,22 @@
 -- What a run over no input and REPORT keeps.
-use Rattle.std.proofs.Common.{◌≡◌, ◌≢◌, ℕ, zero, suc, ◌<◌, ◌⊎◌, Bool, IsTrue, List, [], ◌∷◌, ◌++◌, refl, sym, ap, subst, inl, inr, append-nil, arith}
-use Rattle.std.specs.Prelude.{Contains}
+use Rattle.std.proofs.Common.{◌≡◌, ◌≢◌, ℕ, ◌⊎◌, Bool, IsTrue, List, [], ◌∷◌, ◌++◌, refl, sym, ap, subst, inl, inr, append-nil, arith}
 use Rattle.ioam_desk.specs.Desk.{Reading, Writing, Rose}
 use Rattle.ioam_desk.specs.Touches.{State, Touches, opening}
 use Rattle.ioam_desk.proofs.KeptLaws.{KeepsOutputs-same}
 use Rattle.ioam_desk.proofs.TouchesLaws.{touches-kept_out}
 use Rattle.ioam_desk_outputs.specs.Held.{HoldFronts, HoldTexts}
-use Rattle.ioam_desk_outputs.specs.Names.{AreApart, Repeats}
+use Rattle.ioam_run_answer.specs.Bounds.{answered}
 use Rattle.ioam_run_answer.specs.Desks.{around}
 use Rattle.ioam_run_answer.specs.Failures.{AnswersFailures}
 use Rattle.ioam_run_answer.specs.Outcomes.{IsDone}
 use Rattle.ioam_run_answer.specs.declared.outcome.Outcome.TheVariants as outcome
 use Rattle.ioam_run_bulk.specs.Promise.{HasCause, HoldsFront, IsReport, Keeps, Leaves, MayReport}
-use Rattle.ioam_run_bulk.specs.Stage.{SaysOne, answered}
+use Rattle.ioam_run_bulk.specs.Stage.{SaysOne}
 use Rattle.ioam_stream.specs.Stage.{How, Ended}
 use Rattle.ioam_stream.specs.Frame.{Frame, HoldSome, Leaves as LeavesAll, failing_all}
 use Rattle.ioam_stream.specs.Streams.{ReadsNone}
 use Rattle.ioam_stream.specs.declared.reading.Stop.{Stop}
 use Rattle.ioam_stream.specs.declared.reading.Stop.TheVariants as stop
-
--- one name is apart
-pub one_apart : (names : List (List ℕ)) (name : List ℕ) → names ≡ name ∷ [] → AreApart names
-one_apart names name one = subst (λ (ns : List (List ℕ)). AreApart ns) (sym one) apart
-  where
-    none_earlier : Contains [] name → ⊥
-    none_earlier there = let below = there.1 in omega (arith, below)
-
-    apart : (at : ℕ) → at < 1 → Repeats (name ∷ []) at → ⊥
-    apart zero inside repeats = none_earlier repeats
-    apart (suc at) inside repeats = omega (arith, inside)
 
 module _ (tells : Bool) (seed count : ℕ) (report : List ℕ) where
   unopened : (old new : Writing) → new ≡ old → HoldsFront seed count report old new
@@ -64,7 +52,7 @@ module _ (tells : Bool) (seed count : ℕ) (report : List ℕ) where
       )
 
       leaves_ran : (answer : Stop) → answer ≢ stop.ReadFault → LeavesAll tells [] (report ∷ []) old new TextsOf FirstsOf answer
-          → Leaves seed count report old.outputs new.outputs (answered answer)
+          → Leaves seed count report old.outputs new.outputs (answered answer outcome.Done)
       leaves_ran stop.Ended read leaves =
           let says = whole leaves.1.so leaves.1.texts in
           (says.0, says.1, (subst (λ (so : List (List ℕ)). HoldTexts new.outputs (report ∷ []) so) says.2 leaves.1.held).0)
@@ -74,20 +62,20 @@ module _ (tells : Bool) (seed count : ℕ) (report : List ℕ) where
       leaves_ran stop.NoMemory read (inr some) = some_held some.1
 
     cause_ran : (answer : Stop) → answer ≢ stop.ReadFault → Touches tells (opening [] (report ∷ [])) (failing_all answer) old new
-        → HasCause old.outputs new.outputs (answered answer)
+        → HasCause old.outputs new.outputs (answered answer outcome.Done)
     cause_ran stop.Ended read t = tt
     cause_ran stop.ReadFault read t = absurd (read refl)
     cause_ran stop.WriteFault read t = t.outputs.how.rose
     cause_ran stop.NoMemory read t = tt
 
     exact_ran : (answer : Stop) → answer ≢ stop.ReadFault → Touches tells (opening [] (report ∷ [])) (failing_all answer) old new
-        → (Rose old.outputs.side.faults new.outputs.side.faults → ⊥) → (answered answer ≡ outcome.Done) ⊎ (answered answer ≡ outcome.NoMemory)
+        → (Rose old.outputs.side.faults new.outputs.side.faults → ⊥) → (answered answer outcome.Done ≡ outcome.Done) ⊎ (answered answer outcome.Done ≡ outcome.NoMemory)
     exact_ran stop.Ended read t none = inl refl
     exact_ran stop.ReadFault read t none = absurd (read refl)
     exact_ran stop.WriteFault read t none = absurd (none t.outputs.how.rose)
     exact_ran stop.NoMemory read t none = inr refl
 
-    all_ran : (drains : Type 0) (answer : Stop) → Frame tells [] (report ∷ []) old new drains answer → IsDone (answered answer)
+    all_ran : (drains : Type 0) (answer : Stop) → Frame tells [] (report ∷ []) old new drains answer → IsDone (answered answer outcome.Done)
         → new.outputs.side.asked ≡ old.outputs.side.asked ++ report ∷ []
     all_ran drains stop.Ended frame done = (frame.all refl).1
     all_ran drains stop.ReadFault frame done = absurd done
@@ -95,7 +83,7 @@ module _ (tells : Bool) (seed count : ℕ) (report : List ℕ) where
     all_ran drains stop.NoMemory frame done = absurd done
 
     failures_ran : (answer : Stop) → Touches tells (opening [] (report ∷ [])) (failing_all answer) old new
-        → AnswersFailures (around tells old.inputs new.inputs old.outputs new.outputs) (answered answer)
+        → AnswersFailures (around tells old.inputs new.inputs old.outputs new.outputs) (answered answer outcome.Done)
     failures_ran stop.Ended t = record { opens = λ other. t.inputs.how.slots; reads = λ settled. t.inputs.how.faults; writes = λ other. t.outputs.how.faults }
     failures_ran stop.ReadFault t = record { opens = λ other. absurd (other refl); reads = λ settled. absurd settled; writes = λ other. t.outputs.how.faults }
     failures_ran stop.WriteFault t = record { opens = λ other. t.inputs.how.slots; reads = λ settled. absurd settled; writes = λ other. absurd (other refl) }
@@ -105,7 +93,7 @@ module _ (tells : Bool) (seed count : ℕ) (report : List ℕ) where
         → (drains : Type 0) (answer : Stop) → Frame tells [] (report ∷ []) old new drains answer
         → (IsTrue tells → LeavesAll tells [] (report ∷ []) old new (λ how contents. Texts how) (λ contents. SaysOne (MayReport seed count)) answer)
         → ReadsNone old.inputs new.inputs answer
-        → Keeps (around tells old.inputs new.inputs old.outputs new.outputs) seed count report (answered answer)
+        → Keeps (around tells old.inputs new.inputs old.outputs new.outputs) seed count report (answered answer outcome.Done)
     keeps_ran Texts whole drains answer frame leaves none = record {
       cause = cause_ran answer none.1 frame.touches;
       leaves = λ told. leaves_ran Texts whole answer none.1 (leaves told);

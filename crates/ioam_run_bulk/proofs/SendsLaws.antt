@@ -1,5 +1,6 @@
 -- Steps of a generated load as a stage.
-use Rattle.std.proofs.Common.{◌≡◌, ℕ, ◌-◌, ◌<◌, ◌≤◌, Bool, true, false, List, [], ◌∷◌, length, refl, sym, ap, ◌∙◌, subst, append-nil, arith}
+use Rattle.std.specs.Prelude.{OnErr}
+use Rattle.std.proofs.Common.{Result, Ok, Err, ◌≡◌, ℕ, ◌-◌, ◌<◌, ◌≤◌, Bool, true, false, List, [], ◌∷◌, length, refl, sym, ap, ◌∙◌, subst, append-nil, arith}
 use Rattle.std.proofs.lemmas.Bool.{true≢false}
 use Rattle.std.specs.Borrow.{MutBor}
 use Rattle.ioam_run_arrivals.specs.declared.forwarding.Forwarding.{Forwarding}
@@ -20,6 +21,11 @@ adds_none (x ∷ y ∷ outputs) one = absurd (omega (arith, one))
 
 pub nothing_few : (outputs : List Output) → GathersNothing outputs → GathersFew outputs
 nothing_few outputs none k d inside = omega (arith, ap (λ (xs : List ℕ). length xs) (none k d inside))
+
+-- after an error, whatever it is
+pub on_err : {T E : Type 0} (result : Result T E) (P : Type 0) → P → OnErr result P
+on_err (Ok x) P holds = tt
+on_err (Err e) P holds = holds
 
 module _ {F : Type 0} (Pre : F → MutBor Forwarding → Type 0) (Post : F → MutBor Forwarding → Unit {0} → MutBor Forwarding → Type 0) where
   pub begins_sends : (stage : Generating F) (outputs : List Output) → length outputs ≡ 1 → Begins (kind Pre Post) stage outputs outputs

@@ -1,22 +1,11 @@
 -- A generated load as a stage: it reads nothing, and says the sums.
 use Rattle.std.specs.Prelude.{◌≡◌, ℕ, ◌+◌, ◌-◌, ◌≤◌, ⊤, Bool, true, false, List, [], ◌∷◌}
 use Rattle.std.specs.Borrow.{MutBor}
-use Rattle.ioam_run_answer.specs.declared.outcome.Outcome.{Outcome}
-use Rattle.ioam_run_answer.specs.declared.outcome.Outcome.TheVariants as outcome
 use Rattle.ioam_run_arrivals.specs.declared.forwarding.Forwarding.{Forwarding}
 use Rattle.ioam_stream.specs.Stage.{Kind, Seen, How, Ended, Handed}
-use Rattle.ioam_stream.specs.declared.reading.Stop.{Stop}
-use Rattle.ioam_stream.specs.declared.reading.Stop.TheVariants as stop
 use Rattle.ioam_run_bulk.specs.Load.{IsSet, Loads}
 use Rattle.ioam_run_bulk.specs.Promise.{IsReport, MayReport}
 use Rattle.ioam_run_bulk.specs.declared.stage.Generating.{Generating}
-
--- the answer of a run that stopped so
-abbrev pub answered : Stop → Outcome
-answered stop.Ended = outcome.Done
-answered stop.ReadFault = outcome.ReadFault
-answered stop.WriteFault = outcome.WriteFault
-answered stop.NoMemory = outcome.NoMemory
 
 -- one text, that is so
 abbrev pub SaysOne : (List ℕ → Type 0) → List (List ℕ) → Type 0
@@ -65,6 +54,8 @@ module _ {F : Type 0} (Pre : F → MutBor Forwarding → Type 0) (Post : F → M
     stands = Sends;
     texts = λ begun stage how contents. Says begun how;
     firsts = λ begun contents. SaysOne (MayReport begun.terms.seed begun.terms.count);
+    sealed = λ begun contents so. ⊥;
+    parts = λ begun contents. SaysOne (MayReport begun.terms.seed begun.terms.count);
     drains = λ stage. ⊤;
     marks = λ stage ended. ⊤;
     waits = λ stage input. ⊥;

@@ -4,7 +4,7 @@ use Rattle.std.specs.Borrow.{MutBor}
 use Rattle.std.proofs.Common.{subst, ◌∙◌, ap, append-nil, inl, inr}
 use Rattle.ioam_desk_outputs.specs.Told.{said_more}
 use Rattle.ioam_run_arrivals.specs.declared.forwarding.Forwarding.{Forwarding}
-use Rattle.ioam_stream.specs.Stage.{Lawful, Leads}
+use Rattle.ioam_stream.specs.Stage.{Lawful, Leading, Leads}
 use Rattle.ioam_run_bulk.specs.Promise.{IsReport}
 use Rattle.ioam_run_bulk.specs.Stage.{StandsIn, kind}
 use Rattle.ioam_run_bulk.specs.declared.stage.Generating.{Generating}
@@ -25,9 +25,15 @@ module _ {F : Type 0} (Pre : F → MutBor Forwarding → Type 0) (Post : F → M
     ),
   )
 
+  abbrev pub leading : (stage : Generating F) → Leading (kind Pre Post) stage
+  leading stage begun seen so_far contents covers stands = leads_in begun stage contents so_far stage.said stands.same stands.says
+
   abbrev pub lawful : Lawful (kind Pre Post)
   lawful = record {
-    begins = λ begun seen so_far stage contents covers stands. leads_in begun stage contents so_far stage.said stands.same stands.says;
+    begins = λ begun seen so_far stage contents covers stands. inl (leading stage begun seen so_far contents covers stands);
+    waits = λ stage input never. absurd never;
     none = λ begun contents fresh. ([] ∷ [], refl, ([], inl refl, refl));
+    parts = λ begun contents so firsts. firsts;
+    sealed = λ begun contents so never. absurd never;
     width = λ begun seen so_far stage stands. refl;
   }

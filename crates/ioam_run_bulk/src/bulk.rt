@@ -7,7 +7,6 @@ ghost use Rattle.ioam_topo_generated.specs.Bulk.{IsBulkDomain};
 ghost use Rattle.ioam_run_answer.specs.Desks.{around};
 ghost use Rattle.ioam_run_bulk.specs.Load.{IsSkipped};
 ghost use Rattle.ioam_run_bulk.specs.Promise.{Keeps, no_readings};
-ghost use Rattle.ioam_run_bulk.specs.Stage.{answered};
 
 use crate::stage::Generating;
 use crate::terms::Terms;
@@ -15,9 +14,9 @@ use ioam_base::memory::NoMemory;
 use ioam_base::name::Name;
 use ioam_clock::{Readings, read_readings};
 use ioam_desk::Desk;
-use ioam_run_answer::Outcome;
+use ioam_run_answer::{Outcome, answered};
 use ioam_run_arrivals::{Forwarding, Gate};
-use ioam_stream::{Stop, run as run_stage};
+use ioam_stream::run as run_stage;
 use ioam_topo::Domain;
 use ioam_topo_generated::bulk_domain;
 use std::alloc::Global;
@@ -31,18 +30,6 @@ fn no_readings(alloc: Global, domain: &Domain) -> Result<Readings, NoMemory>
     match read_readings(alloc, domain, &[]) {
         Ok(readings) => Ok(readings),
         Err(_) => Err(NoMemory),
-    }
-}
-
-// The answer of a run that stopped so.
-fn answer(stop: Stop) -> Outcome
-    ensures { result ≡ answered stop }
-{
-    match stop {
-        Stop::Ended => Outcome::Done,
-        Stop::ReadFault => Outcome::ReadFault,
-        Stop::WriteFault => Outcome::WriteFault,
-        Stop::NoMemory => Outcome::NoMemory,
     }
 }
 
@@ -108,5 +95,6 @@ fn run_by<F: Fn(&mut Forwarding), D: Desk>(
     let Ok(mut stage) = Generating::new(alloc, terms) else {
         return Outcome::NoMemory;
     };
-    answer(run_stage(alloc, desk, &[], slice::from_ref(report), &mut stage))
+    let stop = run_stage(alloc, desk, &[], slice::from_ref(report), &mut stage);
+    answered(stop, Outcome::Done)
 }
