@@ -11,15 +11,13 @@ use Rattle.ioam_run_answer.specs.declared.outcome.Outcome.TheVariants as outcome
 use Rattle.ioam_run_stream.specs.Promise.{EndsSo}
 use Rattle.ioam_topo.specs.declared.domain.Domain.{Domain}
 use Rattle.ioam_run_answer.specs.DomainFault.{DomainFault}
-use Rattle.ioam_run_audit.specs.Ends.{BehindBy, Ends, NoneBehind, Ran, RanAt, Stays, Written, WrittenCut, start_of}
+use Rattle.ioam_run_audit.specs.Ends.{AreUnread, BehindBy, Ends, NoneBehind, Ran, RanAt, Start, Stays, Written, WrittenCut, answer_of, start_of}
 use Rattle.ioam_run_audit.specs.Fit.{Place}
-use Rattle.ioam_run_audit.specs.Lanes.{EndsBy}
-use Rattle.ioam_run_audit.specs.Pairs.{AreUnread, Start}
+use Rattle.ioam_run_audit.specs.Cursors.{EndsBy}
 use Rattle.ioam_run_audit.specs.Promise.{AreDrained, AreFit, AreTaken, AuditNames, HasCause, HasDomain, HaveDiffered, IsAt, IsCapture, IsReady, IsUnfit, IsUntouched, Leaves, Owes, Says, input_files}
-use Rattle.ioam_run_audit.specs.Runs.{answer_of}
-use Rattle.ioam_run_audit.specs.declared.lane.End.{End}
-use Rattle.ioam_run_audit.specs.declared.lane.End.TheVariants as end
-use Rattle.ioam_run_audit.proofs.CutLaws.{ends_taken}
+use Rattle.ioam_run_audit.specs.declared.cursor.End.{End}
+use Rattle.ioam_run_audit.specs.declared.cursor.End.TheVariants as end
+use Rattle.ioam_run_audit.proofs.RanLaws.{ends_taken}
 use Rattle.ioam_run_audit.proofs.RefusedLaws.{names_owes, none_owes}
 use Rattle.ioam_run_audit.proofs.ReportsLaws.{cut_reports, is_input, is_long, no_verdict, some_reports, with_verdict}
 
@@ -177,49 +175,58 @@ module _ (tells : Bool) (files : AuditNames) (old_in mid_in : Reading) (opened :
     -- ---- both were read
 
     abbrev Text : End → End → Type 0
-    Text how last = Written tells start place (EndsBy how) (EndsBy last) (BehindBy how last) new
+    Text how last = IsTrue tells → Written start place new (EndsBy how) (EndsBy last) (BehindBy how last)
 
-    taken_text : (how last : End) → IsTrue tells → Written tells start place (EndsBy how) (EndsBy last) NoneBehind new
+    taken_text : (how last : End) → IsTrue tells → Written start place new (EndsBy how) (EndsBy last) NoneBehind
         → Leaves files old_in new_in old new (outcome.Packets 16777216)
-    taken_text how last told written = no_verdict tells files old_in new_in old new place told (ready told) (EndsBy how) (EndsBy last) AreTaken AreTaken
+    taken_text how last told written = no_verdict tells files old_in new_in old new place (ready told) (EndsBy how) (EndsBy last) AreTaken AreTaken
         (ends_taken how) (ends_taken last) written
 
-    closes_core : (how last : End) → Text how last → (how ≡ end.Whole → last ≡ end.Whole → IsTrue tells → AreDrained files old_in new_in old new)
+    abbrev Known : End → End → Type 0
+    Known how last = IsTrue tells → (how ≡ end.Open → ⊥) × (last ≡ end.Open → ⊥)
+
+    closes_core : (how last : End) → Known how last → Text how last → (how ≡ end.Whole → last ≡ end.Whole → IsTrue tells → AreDrained files old_in new_in old new)
         → Its (answer_of files.before files.after how last)
-    closes_core end.Whole end.Whole written drained = core_done
-        (λ told. (
+    closes_core end.Whole end.Whole known text drained = core_done
+        (λ told. let written = text told in (
           (place, ready told),
-          is_input start.before Whole written.matched.xs written.matched.few_before (written.matched.of_before told),
-          is_input start.after Whole written.matched.ys written.matched.few_after (written.matched.of_after told),
+          is_input start.before Whole written.matched.xs written.matched.few_before written.matched.of_before,
+          is_input start.after Whole written.matched.ys written.matched.few_after written.matched.of_after,
         ))
-        (λ told. with_verdict tells files old_in new_in old new place told (ready told) (EndsSo Whole) (EndsSo Whole) written)
+        (λ told. with_verdict tells files old_in new_in old new place (ready told) (EndsSo Whole) (EndsSo Whole) (text told))
         (drained refl refl)
-    closes_core end.Whole end.Limit written drained = core_packets
-        (λ told. (
+    closes_core end.Whole end.Limit known text drained = core_packets
+        (λ told. let written = text told in (
           (place, ready told),
           refl,
           inr (
-            is_input start.before Whole written.matched.xs written.matched.few_before (written.matched.of_before told),
-            is_long start.after written.matched.ys (written.matched.of_after told),
+            is_input start.before Whole written.matched.xs written.matched.few_before written.matched.of_before,
+            is_long start.after written.matched.ys written.matched.of_after,
           ),
         ))
-        (λ told. taken_text end.Whole end.Limit told written)
-    closes_core end.Whole (end.Bad at fault) written drained = core_capture files.after at fault (inr refl)
-        (λ told. (
+        (λ told. taken_text end.Whole end.Limit told (text told))
+    closes_core end.Whole (end.Bad at fault) known text drained = core_capture files.after at fault (inr refl)
+        (λ told. let written = text told in (
           (place, ready told),
           inr (
             refl,
-            is_input start.before Whole written.matched.xs written.matched.few_before (written.matched.of_before told),
-            is_input start.after (Faulty at fault) written.matched.ys written.matched.few_after (written.matched.of_after told),
+            is_input start.before Whole written.matched.xs written.matched.few_before written.matched.of_before,
+            is_input start.after (Faulty at fault) written.matched.ys written.matched.few_after written.matched.of_after,
           ),
         ))
-        (λ told. taken_text end.Whole (end.Bad at fault) told written)
-    closes_core end.Limit last written drained = core_packets
-        (λ told. ((place, ready told), refl, inl (is_long start.before written.matched.xs (written.matched.of_before told))))
-        (λ told. taken_text end.Limit last told written)
-    closes_core (end.Bad at fault) last written drained = core_capture files.before at fault (inl refl)
-        (λ told. ((place, ready told), inl (refl, is_input start.before (Faulty at fault) written.matched.xs written.matched.few_before (written.matched.of_before told))))
-        (λ told. taken_text (end.Bad at fault) last told written)
+        (λ told. taken_text end.Whole (end.Bad at fault) told (text told))
+    closes_core end.Whole end.Open known text drained = core_done (λ told. absurd ((known told).1 refl)) (λ told. absurd ((known told).1 refl)) (λ told. absurd ((known told).1 refl))
+    closes_core end.Limit last known text drained = core_packets
+        (λ told. let written = text told in ((place, ready told), refl, inl (is_long start.before written.matched.xs written.matched.of_before)))
+        (λ told. taken_text end.Limit last told (text told))
+    closes_core (end.Bad at fault) last known text drained = core_capture files.before at fault (inl refl)
+        (λ told. let written = text told in
+        ((place, ready told), inl (refl, is_input start.before (Faulty at fault) written.matched.xs written.matched.few_before written.matched.of_before)))
+        (λ told. taken_text (end.Bad at fault) last told (text told))
+    closes_core end.Open end.Whole known text drained = core_done (λ told. absurd ((known told).0 refl)) (λ told. absurd ((known told).0 refl)) (λ told. absurd ((known told).0 refl))
+    closes_core end.Open end.Open known text drained = core_done (λ told. absurd ((known told).0 refl)) (λ told. absurd ((known told).0 refl)) (λ told. absurd ((known told).0 refl))
+    closes_core end.Open end.Limit known text drained = core_packets (λ told. absurd ((known told).0 refl)) (λ told. absurd ((known told).0 refl))
+    closes_core end.Open (end.Bad at fault) known text drained = core_capture files.after at fault (inr refl) (λ told. absurd ((known told).0 refl)) (λ told. absurd ((known told).0 refl))
 
     -- ---- by how it ended
 
@@ -228,46 +235,37 @@ module _ (tells : Bool) (files : AuditNames) (old_in mid_in : Reading) (opened :
 
     its_core : Its answer
     its_core = elim ran.runs.ends [
-      | inl misses ↦ elim misses.why [
-        | inl failed ↦ subst Its (sym failed.0) (core_read failed.1 (λ told. inl (omega (arith, misses.few, one_slot), misses.same)))
-        | inr none ↦ subst Its (sym none) (core_none (λ told. inl misses.same))
-      ]
-      | inr opens ↦ elim opens.reports [
-        | inl closes ↦ subst Its (sym closes.answer_is) (closes_core closes.how closes.last closes.written (λ whole too told. (
-          kept_ended old_in.side.slots (omega (arith, one_slot)) (ended told),
-          subst (λ k. IsTrue (new_in.ended k)) one_slot (closes.drained_before whole told),
-          subst (λ k. IsTrue (new_in.ended k)) next_slot (closes.drained_after too told),
+      | inl closes ↦ subst Its (sym closes.answer_is) (closes_core closes.how closes.last closes.known closes.written (λ whole too told. (
+        kept_ended old_in.side.slots (omega (arith, one_slot)) (ended told),
+        subst (λ k. IsTrue (new_in.ended k)) one_slot (closes.drained whole too told).0,
+        subst (λ k. IsTrue (new_in.ended k)) next_slot (closes.drained whole too told).1,
+      )))
+      | inr other ↦ elim other [
+        | inl cuts ↦ subst Its (sym cuts.answer_is) (core_read cuts.rose (λ told. inr (
+          omega (arith, cuts.opened, one_slot),
+          cut_reports tells files old_in new_in old new place (ready told) (old_in.side.slots + 1) (old_in.side.slots + 2)
+              (subst (λ k. WrittenCut tells start place new_in (old_in.side.slots + 1) k new) next_slot
+              (subst (λ k. WrittenCut tells start place new_in k (mid_in.side.slots + 1) new) one_slot (cuts.written told))),
         )))
-        | inr other ↦ elim other [
-          | inl cuts ↦ subst Its (sym cuts.answer_is) (core_read cuts.rose (λ told. inr (
-            omega (arith, opens.slots, one_slot),
-            cut_reports tells files old_in new_in old new place told (ready told) (old_in.side.slots + 1) (old_in.side.slots + 2)
-                (subst (λ k. WrittenCut tells start place new_in (old_in.side.slots + 1) k new) next_slot
-                (subst (λ k. WrittenCut tells start place new_in k (mid_in.side.slots + 1) new) one_slot cuts.written)),
-          )))
-          | inr breaks ↦ elim breaks.why [
-            | inl failed ↦ subst Its (sym failed.0) (core_write failed.1 (λ told. some_reports tells files old_in new_in old new place told (ready told) (breaks.parts told)))
-            | inr none ↦ subst Its (sym none) (core_none (λ told. inr (some_reports tells files old_in new_in old new place told (ready told) (breaks.parts told))))
+        | inr more ↦ elim more [
+          | inl misses ↦ subst Its (sym misses.answer_is) (core_read misses.rose (λ told. inl (omega (arith, misses.few, one_slot), misses.same)))
+          | inr last ↦ elim last [
+            | inl sticks ↦ subst Its (sym sticks.answer_is) (core_write sticks.rose (λ told. some_reports tells files old_in new_in old new place (ready told) (sticks.parts told)))
+            | inr lacks ↦ subst Its (sym lacks.answer_is) (core_none (λ told. elim (lacks.parts told) [
+              | inl same ↦ inl same
+              | inr parts ↦ inr (some_reports tells files old_in new_in old new place (ready told) parts)
+            ]))
           ]
         ]
       ]
     ]
 
     all_in : IsBehindAll ⊥ answer → new_in.side.asked ≡ old_in.side.asked ++ input_files files
-    all_in all = elim ran.runs.ends [
-      | inl misses ↦ elim misses.why [
-        | inl failed ↦ absurd (subst (IsBehindAll ⊥) failed.0 all)
-        | inr none ↦ absurd (subst (IsBehindAll ⊥) none all)
-      ]
-      | inr opens ↦ opens.asked ∙ ap (λ (m : List (List ℕ)). m ++ files.before ∷ files.after ∷ []) one_asked
-          ∙ append_assoc old_in.side.asked (files.domain ∷ []) (files.before ∷ files.after ∷ [])
-    ]
+    all_in all = (ran.runs.all all).0 ∙ ap (λ (m : List (List ℕ)). m ++ files.before ∷ files.after ∷ []) one_asked
+        ∙ append_assoc old_in.side.asked (files.domain ∷ []) (files.before ∷ files.after ∷ [])
 
     no_output : new_in.side.slots < old_in.side.slots + 3 → new ≡ old
-    no_output few = elim ran.runs.ends [
-      | inl misses ↦ misses.same
-      | inr opens ↦ absurd (omega (arith, few, opens.slots, one_slot))
-    ]
+    no_output few = ran.runs.no_output (omega (arith, few, one_slot))
 
     unread : IsTrue tells → new.side.slots ≡ old.side.slots
         → AreUnread new_in (holds old files.before) (holds old files.after) (old_in.side.slots + 1) (old_in.side.slots + 2)
@@ -286,7 +284,7 @@ module _ (tells : Bool) (files : AuditNames) (old_in mid_in : Reading) (opened :
         front_in = asks_all new_in.side.asked ran.runs.asked_in;
         front_out = ran.runs.asked_out;
         all_in = all_in;
-        all_out = ran.runs.all_out;
+        all_out = λ all. (ran.runs.all all).1;
         untouched = its_core.untouched;
         domain_first = λ fault is. absurd (its_core.not_domain fault is);
         no_output = no_output;

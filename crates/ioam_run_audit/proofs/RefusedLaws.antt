@@ -7,7 +7,7 @@ use Rattle.ioam_desk.proofs.KeptLaws.{KeepsOutputs-same}
 use Rattle.ioam_run_answer.specs.Outcomes.{IsDone, IsBehindAll}
 use Rattle.ioam_run_answer.specs.declared.outcome.Outcome.{Outcome}
 use Rattle.ioam_run_answer.specs.declared.outcome.Outcome.TheVariants as outcome
-use Rattle.ioam_run_audit.specs.Pairs.{AreUnread}
+use Rattle.ioam_run_audit.specs.Ends.{AreUnread}
 use Rattle.ioam_run_audit.specs.Promise.{AuditNames, HasCause, HasDomain, HaveDiffered, IsUnfit, IsUntouched, Leaves, Owes}
 use Rattle.ioam_run_files.specs.Answer.{refused_as}
 use Rattle.ioam_run_files.specs.Reads.{IsDomainRead}

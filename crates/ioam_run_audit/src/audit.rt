@@ -3,13 +3,12 @@ ghost use Rattle.std.specs.Prelude.{◌≡◌, ◌≢◌, ◌+◌, ◌≤◌, �
 ghost use Rattle.ioam_desk.specs.Asked.{AsksFront, HaveSlots};
 ghost use Rattle.ioam_desk.specs.Desk.{holds, opened_side};
 ghost use Rattle.ioam_desk.specs.Kept.{KeepsInputs};
-ghost use Rattle.ioam_desk_outputs.specs.Names.{AreApart};
 ghost use Rattle.ioam_run_answer.specs.Desks.{around};
 ghost use Rattle.ioam_run_answer.specs.Failures.{AnswersFailures};
 ghost use Rattle.ioam_run_answer.specs.Outcomes.{IsSettled};
-ghost use Rattle.ioam_run_audit.specs.Ends.{Ends, EndsAt, Ran};
-ghost use Rattle.ioam_run_audit.specs.Pairs.{place_of};
-ghost use Rattle.ioam_run_audit.specs.Promise.{Keeps, Owes, audit_files};
+ghost use Rattle.ioam_run_audit.specs.Ends.{Ends, EndsAt};
+ghost use Rattle.ioam_run_audit.specs.Comparing.{place_of};
+ghost use Rattle.ioam_run_audit.specs.Promise.{Keeps, Owes};
 ghost use Rattle.ioam_run_files.specs.Answer.{refused_as};
 ghost use Rattle.ioam_run_files.specs.Reads.{IsDomainRead};
 
@@ -96,20 +95,6 @@ fn run_at<D: Desk>(alloc: Global, files: &AuditFiles<'_>, seat: &Seat<'_>, desk:
         Some(at) => Outcome::Names {
             name: names.swap_remove(at),
         },
-        None => run_apart(alloc, files, seat, desk),
+        None => run_files(alloc, files, &names, seat, desk),
     }
-}
-
-// The same, where they differ.
-fn run_apart<D: Desk>(
-    alloc: Global,
-    files: &AuditFiles<'_>,
-    seat: &Seat<'_>,
-    desk: &mut D,
-) -> Outcome
-    requires apart { AreApart (audit_files files.now) }
-    ensures ran { Ran D.tells files.now (D.reading desk.old) (D.reading desk.new) (D.writing desk.old) (D.writing desk.new) (place_of seat.now) result }
-    ensures failures { AnswersFailures (around D.tells (D.reading desk.old) (D.reading desk.new) (D.writing desk.old) (D.writing desk.new)) result }
-{
-    run_files(alloc, files.before, files.after, files.report, seat, desk)
 }

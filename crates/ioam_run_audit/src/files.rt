@@ -1,69 +1,80 @@
-//! The files of the command but for DOMAIN: BEFORE, AFTER, and REPORT behind them.
-ghost use Rattle.std.specs.Prelude.{◌≡◌, [], length};
+//! The files of the command but for DOMAIN: BEFORE, AFTER, and then REPORT.
+ghost use Rattle.std.specs.Prelude.{◌≡◌, ◌⊎◌};
+ghost use Rattle.ioam_desk_outputs.specs.Names.{AreApart};
+ghost use Rattle.ioam_run_answer.specs.Bounds.{answered};
 ghost use Rattle.ioam_run_answer.specs.Desks.{around};
 ghost use Rattle.ioam_run_answer.specs.Failures.{AnswersFailures};
-ghost use Rattle.ioam_run_audit.specs.Ends.{RunsFiles, RunsPair};
-ghost use Rattle.ioam_run_audit.specs.Pairs.{Pairs, Start, place_of};
+ghost use Rattle.ioam_run_audit.specs.Comparing.{place_of};
+ghost use Rattle.ioam_run_audit.specs.Ends.{Ran, answer_of};
+ghost use Rattle.ioam_run_audit.specs.Promise.{audit_files};
+ghost use Rattle.ioam_run_audit.specs.declared.cursor.End.{End};
+ghost use Rattle.ioam_stream.specs.declared.reading.Stop.{Stop};
+ghost use Rattle.ioam_run_answer.specs.declared.outcome.Outcome.{Outcome};
 
-use crate::comparison::run_open;
-use crate::opening::open_pair;
-use crate::pair::Pair;
+use crate::comparison::Comparison;
+use crate::cursor::End;
+use crate::names::AuditFiles;
 use crate::seat::Seat;
 use ioam_base::name::Name;
-use ioam_desk::{Desk, DeskFault, PIECE, new_piece};
-use ioam_desk_outputs::open_outputs;
-use ioam_run_answer::Outcome;
+use ioam_desk::Desk;
+use ioam_run_answer::{Outcome, capture_outcome};
+use ioam_run_stream::MOST_PACKETS;
+use ioam_stream::{Stop, run};
 use std::alloc::Global;
-use std::slice;
 
-// Opens REPORT, and compares the two captures that were opened, of which nothing was read.
-fn run_pair<D: Desk>(
-    alloc: Global,
-    before: &Name,
-    after: &Name,
-    report: &Name,
-    seat: &Seat<'_>,
-    pair: &mut Pair,
-    piece: &mut [u8],
-    desk: &mut D,
-) -> Outcome
-    ghost start: { Start }
-    requires pairs { Pairs D.tells start (place_of seat.now) (D.reading desk.old) pair.old [] }
-    requires base { start.base ≡ (D.writing desk.old).side.slots }
-    requires report { start.report ≡ report.now }
-    requires room { length piece.old ≡ PIECE }
-    ensures runs { RunsPair D.tells start (place_of seat.now) before.now after.now pair.old.before.feed.slot pair.old.after.feed.slot
-        (D.reading desk.old) (D.reading desk.new) (D.writing desk.old) (D.writing desk.new) result }
-    ensures failures { AnswersFailures (around D.tells (D.reading desk.old) (D.reading desk.new) (D.writing desk.old) (D.writing desk.new)) result }
+// The answer of a run that stopped so, of which BEFORE, of a name, ends so, and AFTER, of another, so: what is wrong with
+// BEFORE comes before what is wrong with AFTER.
+fn answer(alloc: Global, before: &Name, after: &Name, stop: Stop, how: End, last: End) -> Outcome
+    ensures said { (result ≡ answered stop (answer_of before.now after.now how last)) ⊎ ((stop ≡ Stop.Ended) × (result ≡ Outcome.NoMemory)) }
+    // Of two whole captures it is Done, which takes no memory.
+    ensures done { stop ≡ Stop.Ended → how ≡ End.Whole → last ≡ End.Whole → result ≡ Outcome.Done }
 {
-    match open_outputs(alloc, desk, slice::from_ref(report)) {
-        Ok(mut outputs) => run_open(alloc, before, after, seat, pair, &mut outputs, piece, desk),
-        Err(DeskFault::Failed) => Outcome::WriteFault,
-        Err(DeskFault::NoMemory) => Outcome::NoMemory,
+    match stop {
+        Stop::Ended => ended(alloc, before, after, how, last),
+        Stop::ReadFault => Outcome::ReadFault,
+        Stop::WriteFault => Outcome::WriteFault,
+        Stop::NoMemory => Outcome::NoMemory,
     }
 }
 
-/// Opens BEFORE, then AFTER, then REPORT, and compares the two captures.
+// The answer of a run that has ended.
+fn ended(alloc: Global, before: &Name, after: &Name, how: End, last: End) -> Outcome
+    ensures said { (result ≡ answer_of before.now after.now how last) ⊎ (result ≡ Outcome.NoMemory) }
+    ensures done { how ≡ End.Whole → last ≡ End.Whole → result ≡ Outcome.Done }
+{
+    match (how, last) {
+        (End::Bad { at, fault }, _) => capture_outcome(alloc, before, at, fault),
+        (End::Limit, _) | (_, End::Limit) => Outcome::Packets {
+            limit: MOST_PACKETS,
+        },
+        (_, End::Bad { at, fault }) => capture_outcome(alloc, after, at, fault),
+        (_, _) => Outcome::Done,
+    }
+}
+
+/// Opens BEFORE, then AFTER, then REPORT, and compares the two captures. `names` are those of all files.
 pub(crate) fn run_files<D: Desk>(
     alloc: Global,
-    before: &Name,
-    after: &Name,
-    report: &Name,
+    files: &AuditFiles<'_>,
+    names: &[Name],
     seat: &Seat<'_>,
     desk: &mut D,
 ) -> Outcome
-    ensures runs { RunsFiles D.tells (place_of seat.now) before.now after.now report.now
-        (D.reading desk.old) (D.reading desk.new) (D.writing desk.old) (D.writing desk.new) result }
+    requires names { names.now ≡ audit_files files.now }
+    requires apart { AreApart (audit_files files.now) }
+    ensures ran { Ran D.tells files.now (D.reading desk.old) (D.reading desk.new) (D.writing desk.old) (D.writing desk.new) (place_of seat.now) result }
     ensures failures { AnswersFailures (around D.tells (D.reading desk.old) (D.reading desk.new) (D.writing desk.old) (D.writing desk.new)) result }
 {
-    let Ok(mut piece) = new_piece(alloc) else {
+    let Ok(mut stage) = Comparison::new(alloc, seat) else {
         return Outcome::NoMemory;
     };
-    match open_pair(alloc, desk, before, after) {
-        Ok(mut pair) => run_pair(
-            alloc, before, after, report, seat, &mut pair, &mut piece, desk,
-        ),
-        Err(DeskFault::Failed) => Outcome::ReadFault,
-        Err(DeskFault::NoMemory) => Outcome::NoMemory,
-    }
+    let stop = run(alloc, desk, &names[1..3], &names[3..], &mut stage);
+    answer(
+        alloc,
+        files.before,
+        files.after,
+        stop,
+        stage.before.end,
+        stage.after.end,
+    )
 }

@@ -2,7 +2,7 @@
 ghost use Rattle.std.specs.Prelude.{◌≡◌, IfOk};
 ghost use Rattle.ioam_capture.specs.Reader.{taken_of};
 ghost use Rattle.ioam_ip.specs.Packet.{IsPacket};
-ghost use Rattle.ioam_run_audit.specs.Lanes.{IsHeld, IsHeldSo};
+ghost use Rattle.ioam_run_audit.specs.Cursors.{IsHeld, IsHeldSo};
 
 use ioam_base::memory::NoMemory;
 use ioam_ip::{Walk, walk};

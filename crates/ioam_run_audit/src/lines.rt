@@ -1,7 +1,7 @@
 //! The lines of REPORT.
 ghost use Rattle.std.specs.Prelude.{◌≡◌, ◌+◌, ◌<◌, ◌^◌, ◌++◌, OnOk, decimal};
 ghost use Rattle.ioam_run_audit.specs.Lines.{line_of, verdict_as, sums_line, verdict_line};
-ghost use Rattle.ioam_run_audit.specs.Pairs.{sums_as};
+ghost use Rattle.ioam_run_audit.specs.Comparing.{sums_as};
 
 use crate::counts::Counts;
 use crate::fate::Fate;
