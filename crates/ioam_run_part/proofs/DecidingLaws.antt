@@ -1,8 +1,10 @@
 -- A file that is opened, and read as a part.
-use Rattle.std.proofs.Common.{◌≡◌, ℕ, ◌+◌, ◌-◌, ◌<◌, ◌≤◌, Bool, true, IsTrue, IsSomeAnd, List, [], ◌∷◌, ◌++◌, length, length-append, length-take-le, take, Option, None, Some, Ok, Err, refl, sym, ap, ◌∙◌, subst, append_assoc, arith}
+use Rattle.std.proofs.Common.{◌≡◌, ℕ, ◌+◌, ◌-◌, ◌<◌, ◌≤◌, Bool, true, IsTrue, IsSomeAnd, List, [], ◌∷◌, ◌++◌, length, length-append, length-take-le, take, Option, None, Some, Ok, Err, refl, sym, ap, ◌∙◌, subst, append-nil, append_assoc, arith}
 use Rattle.std.specs.Prelude.{◌≢◌, IfOk, Result, is_some, nat_lt, ◌||◌}
+use Rattle.ioam_desk.specs.Asked.{AsksFront}
 use Rattle.ioam_desk.specs.Desk as desk
 use Rattle.ioam_desk.specs.Desk.{Side, ReadInto, Rose, OpenIn, OpensInput}
+use Rattle.ioam_desk.specs.Kept.{KeepsInputs}
 use Rattle.ioam_desk.specs.declared.fault.DeskFault.{DeskFault}
 use Rattle.ioam_desk.specs.declared.fault.DeskFault.TheVariants.{Failed, NoMemory}
 use Rattle.ioam_desk.proofs.AskedLaws.{HaveSlots-one, HaveSlots-same, HaveSlots-still, HaveSlots-then}

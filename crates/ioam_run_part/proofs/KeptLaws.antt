@@ -13,7 +13,7 @@ use Rattle.ioam_part.specs.Part.{AreInOrder, HasKey}
 use Rattle.ioam_report_groups.specs.GroupsText.{group_text}
 use Rattle.ioam_run_part.specs.KeptText.{AreLines, kept_line, kept_text, part_lines}
 use Rattle.ioam_run_part.specs.Telling.{PutsLast}
-use Rattle.ioam_run_part.specs.declared.kept.Report.{Report}
+use Rattle.ioam_run_part.specs.declared.kept.Lines.{Lines}
 
 keyed-length : (xs : List Record) → All HasKey xs → length (keyed xs) ≡ length xs
 keyed-length [] keys = refl
@@ -35,17 +35,17 @@ pub put_text : (c : Collected) (old lines new : List ℕ) (held : ℕ) → lines
 put_text c old lines new held lines_are held_is new_is =
     new_is ∙ ap₂ (λ (o : List ℕ) (n : ℕ). o ++ kept_line n) lines_are held_is ∙ append_assoc old (flat_map group_text c.groups) (kept_line c.held)
 
-abbrev Says : Report → List ℕ → Type 0
-Says report text = AreLines report.collector text
+abbrev Says : Lines → List ℕ → Type 0
+Says lines text = AreLines lines.collector text
 
-abbrev report_of : Collected → Report
-report_of c = record { collector = c }
+abbrev lines_of : Collected → Lines
+lines_of c = record { collector = c }
 
 -- all lines at once
-pub report_put : (c : Collected) (before after : List ℕ) → after ≡ before ++ kept_text c
+pub lines_put : (c : Collected) (before after : List ℕ) → after ≡ before ++ kept_text c
     → ((xs : List Record) → AreInOrder xs → length xs ≤ 1048576 → Stands c xs → kept_text c ≡ part_lines xs)
-    → PutsLast Says (λ report. 0) (report_of c) (report_of c) before after
-report_put c before after is lines = record {
+    → PutsLast Says (λ kept. 0) (lines_of c) (lines_of c) before after
+lines_put c before after is lines = record {
   added = kept_text c;
   is = is;
   all = λ text are. are.is ∙ sym (lines are.records are.in_order are.few are.stands);

@@ -1,7 +1,7 @@
 -- A text that becomes what a name holds.
 use Rattle.std.specs.Prelude.{◌≡◌, ◌≢◌, ℕ, ◌<◌, Bool, IsTrue, IsSomeAnd, List, [], ◌∷◌, ◌++◌, Some, Result, Ok, Err}
 use Rattle.ioam_base.specs.Octets.{IsFront}
-use Rattle.ioam_desk.specs.Desk.{Writing, Written, Rose, holds}
+use Rattle.ioam_desk.specs.Desk.{Writing, Rose, holds}
 use Rattle.ioam_desk.specs.declared.fault.DeskFault.{DeskFault}
 use Rattle.ioam_desk.specs.declared.fault.DeskFault.TheVariants.{Failed, NoMemory}
 use Rattle.ioam_run_answer.specs.declared.outcome.Outcome.{Outcome}

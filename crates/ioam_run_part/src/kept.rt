@@ -32,16 +32,16 @@ fn put_kept(collector: &Collector, out: &mut Vec<u8>) -> Result<(), NoMemory>
     put_count(collector.held(), out)
 }
 
-/// The report of what a collector holds.
+/// What a collector holds, as lines.
 #[derive(Drop)]
-pub(crate) struct Report {
+pub(crate) struct Lines {
     pub(crate) collector: Collector,
 }
 
-impl Source for Report {
-    ghost says = { λ report text. AreLines report.collector text };
+impl Source for Lines {
+    ghost says = { λ lines text. AreLines lines.collector text };
 
-    ghost left = { λ report. 0 };
+    ghost left = { λ lines. 0 };
 
     fn put(&mut self, out: &mut Vec<u8>) -> Result<Tail, NoMemory> {
         put_kept(&self.collector, out)?;

@@ -3,7 +3,7 @@ ghost use Rattle.std.specs.Prelude.{◌≢◌};
 ghost use Rattle.ioam_run_answer.specs.Desks.{around};
 ghost use Rattle.ioam_run_part.specs.PartsPromise.{PartsKeeps};
 
-use crate::kept::Report;
+use crate::kept::Lines;
 use crate::names::PartsFiles;
 use crate::telling::{stored_outcome, tell};
 use crate::unread::{read_held, unread_outcome};
@@ -33,7 +33,7 @@ fn run_apart<D: Desk>(alloc: Global, part: &Name, report: &Name, desk: &mut D) -
     ensures { PartsKeeps (around D.tells (D.reading desk.old) (D.reading desk.new) (D.writing desk.old) (D.writing desk.new)) (record { part = part.now; report = report.now }) result }
 {
     match read_held(alloc, desk, part) {
-        Ok(collector) => stored_outcome(tell(alloc, desk, report, Report { collector })),
+        Ok(collector) => stored_outcome(tell(alloc, desk, report, Lines { collector })),
         Err(why) => unread_outcome(alloc, part, why),
     }
 }
