@@ -1,3 +1,4 @@
+pub mod CauseLaws
 mod GatheringLaws
 pub mod RecordsLaws
 mod RegroupingLaws

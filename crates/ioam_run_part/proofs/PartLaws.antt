@@ -1,20 +1,18 @@
 -- What a run of `part` answers, and what PART holds then.
-use Rattle.std.proofs.Common.{◌≡◌, ◌≢◌, ◌∷◌, [], ◌++◌, ◌∙◌, ap, append-nil, List, ℕ, Bool, IsTrue, IsSomeAnd, refl, sym, subst, inl, inr, arith}
+use Rattle.std.proofs.Common.{◌≡◌, ◌≢◌, ◌∷◌, [], ◌++◌, List, ℕ, Bool, IsTrue, IsSomeAnd, sym, subst, arith}
 use Rattle.ioam_base.specs.Octets.{IsFront}
 use Rattle.ioam_desk.specs.Desk.{holds}
 use Rattle.ioam_desk.specs.Touches.{State}
 use Rattle.ioam_desk_outputs.specs.Held.{HoldTexts, HoldFronts}
 use Rattle.ioam_dex.specs.Record.{Record}
 use Rattle.ioam_dex.specs.Reads.{Faulty, Whole}
-use Rattle.ioam_collect_stream.specs.Gathering.{AreWhole, IsLimit, Passes, most_of}
+use Rattle.ioam_collect_stream.specs.Gathering.{AreWhole, Passes, most_of}
 use Rattle.ioam_collect_stream.specs.Regrouping.{AreFirst, AreOf, IsEnd, Says, answer_of}
 use Rattle.ioam_collect_stream.specs.declared.regrouping.Cause.{Cause}
 use Rattle.ioam_collect_stream.specs.declared.regrouping.Cause.TheVariants as cause
-use Rattle.ioam_collect_stream.specs.declared.step.Limit.{Limit}
-use Rattle.ioam_collect_stream.specs.declared.step.Limit.TheVariants as limits
+use Rattle.ioam_collect_stream.proofs.CauseLaws.{ends_done, ends_open, is_limit, whole_on}
 use Rattle.ioam_run_answer.specs.Bounds.{Bounds, answered}
 use Rattle.ioam_run_answer.specs.Desks.{around}
-use Rattle.ioam_run_answer.specs.Outcomes.{IsDone, OpensNothing}
 use Rattle.ioam_run_answer.specs.declared.outcome.Outcome.{Outcome}
 use Rattle.ioam_run_answer.proofs.RanLaws.{Framed, LeftBy, bounds_ran, held_map, held_some, kept_by}
 use Rattle.ioam_run_part.specs.PartPromise.{HoldsFront, HoldsPart, PartCause, PartLeaves}
@@ -24,30 +22,6 @@ use Rattle.ioam_stream.specs.Frame as frame
 use Rattle.ioam_stream.specs.Frame.{Frame}
 use Rattle.ioam_stream.specs.declared.reading.Stop.{Stop}
 use Rattle.ioam_stream.specs.declared.reading.Stop.TheVariants as stop
-
--- of the octets that were handed out, and those that are left
-whole_on : (left : List ℕ) (records : List Record) (handed : List ℕ) → AreWhole [] records handed → AreWhole left records (handed ++ left)
-whole_on left records handed whole = record {
-  handed = whole.handed;
-  parts = ap (λ (o : List ℕ). o ++ left) (whole.parts ∙ append-nil whole.handed);
-  rest = whole.rest;
-  splits = whole.splits;
-  cut = whole.cut;
-}
-
-is_limit : (limit : Limit) → IsLimit (most_of limit)
-is_limit limits.Held = inl refl
-is_limit limits.Read = inr refl
-
-ends_done : (why : Cause) → IsDone (answer_of why) → IsEnd why
-ends_done cause.End done = tt
-ends_done (cause.Bad at fault) done = done
-ends_done (cause.Limit limit) done = done
-
-ends_open : (why : Cause) → OpensNothing (answer_of why) → ⊥
-ends_open cause.End none = none
-ends_open (cause.Bad at fault) none = none
-ends_open (cause.Limit limit) none = none
 
 module _ (tells : Bool) (input out : List ℕ) (old new : State) (why : Cause) where
   -- the part of records
