@@ -1,0 +1,9 @@
+use Rattle.std.proofs.Common.{arith}
+use Rattle.ioam_delays.proofs.BucketLaws.{bucket_ends, least_whole, wide}
+use Rattle.ioam_delays.proofs.buckets.size_least.Goals as goal
+
+pub returns-clause-is : goal.returns-clause-is
+returns-clause-is c = least_whole c.args.bucket c.shift_of-shift.result c.shift_of-shift.ensures c.requires
+
+pub returns-clause-fits : goal.returns-clause-fits
+returns-clause-fits c = omega (arith, least_whole c.args.bucket c.shift_of-shift.result c.shift_of-shift.ensures c.requires, bucket_ends c.args.bucket c.requires, wide c.args.bucket)

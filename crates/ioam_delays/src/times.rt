@@ -1,0 +1,32 @@
+//! Time stamps (RFC 9197 section 5) and the delays between them.
+ghost use Rattle.std.specs.Prelude.{◌≡◌, ◌<◌, ◌≤◌, ◌*◌, ◌/◌, ◌^◌};
+ghost use Rattle.ioam_delays.specs.Stamps.{IsDelay, part_of};
+
+/// The nanoseconds of a fraction in units of `1/units` seconds.
+pub fn nanoseconds(fraction: u32, units: u64) -> u64
+    requires below { fraction < units }
+    requires units { units ≤ 2 ^ 32 }
+    ensures is { result ≡ part_of units fraction }
+    ensures below { result < 10 ^ 9 }
+{
+    u64::from(fraction) * 1_000_000_000 / units
+}
+
+/// The delay from one time to another, both known modulo an even number.
+pub fn delay(from: u64, to: u64, modulus: u64) -> i64
+    requires from { from < modulus }
+    requires to { to < modulus }
+    requires modulus { modulus ≤ 2 ^ 32 * 10 ^ 9 }
+    ensures { IsDelay modulus from to result }
+{
+    let ahead = if to < from {
+        to + (modulus - from)
+    } else {
+        to - from
+    };
+    if 2 * ahead < modulus {
+        ahead as i64
+    } else {
+        ahead as i64 - modulus as i64
+    }
+}
