@@ -1,5 +1,5 @@
 -- The buckets of numbers: which one a number is in, and that they stand one after the other.
-use Rattle.std.proofs.Common.{◌≡◌, ℕ, ◌+◌, ◌-◌, ◌*◌, ◌/◌, ◌%◌, ◌<◌, ◌≤◌, ◌^◌, ◌⊎◌, inl, inr, sym, ◌∙◌, ap, subst, arith}
+use Rattle.std.proofs.Common.{◌≡◌, ℕ, ◌+◌, ◌-◌, ◌*◌, ◌/◌, ◌%◌, ◌<◌, ◌≤◌, ◌^◌, ◌⊎◌, inl, inr, ◌∙◌, ap, subst, arith}
 use Rattle.std.proofs.Math.Nat.{pow-le-pow_right}
 use Rattle.std.proofs.lemmas.Bool.{cases_lt}
 use Rattle.std.proofs.lemmas.Nat.{pow_pos, pow-add, le-div, div_below, shr_split, mod_below, mul-le, one_shl, shl_whole}
@@ -49,16 +49,16 @@ module _ (n s q b : ℕ) (is : q ≡ n / 2 ^ s) (from : 32 ≤ q) (below : q < 6
       subst P shift_is (omega (arith, first_is, shr_split n s, mod_below n (2 ^ s) (pow_pos s)))
 
 -- the numbers of a bucket, by how far they are shifted
-module _ (b s : ℕ) (is : s ≡ b / 32 - 1) (within : b < 1888) where
-  pub least_whole : (b - 32 * s) * 2 ^ s % 2 ^ 64 ≡ least_of b
-  least_whole = shl_whole (b - 32 * s) 6 s 64 (omega arith) (omega arith) ∙ ap (λ (k : ℕ). (b - 32 * k) * 2 ^ k) is
+module _ (b s : ℕ) (is : s ≡ b / 32 - 1) (within : b ≤ 2048) where
+  pub least_whole : (b - 32 * s) * 2 ^ s % 2 ^ 128 ≡ least_of b
+  least_whole = shl_whole (b - 32 * s) 6 s 128 (omega arith) (omega arith) ∙ ap (λ (k : ℕ). (b - 32 * k) * 2 ^ k) is
 
-  pub width_whole : 1 * 2 ^ s % 2 ^ 64 ≡ width b
-  width_whole = one_shl s 64 (omega arith) ∙ ap (λ (k : ℕ). 2 ^ k) is
+  pub width_whole : 1 * 2 ^ s % 2 ^ 128 ≡ width b
+  width_whole = one_shl s 128 (omega arith) ∙ ap (λ (k : ℕ). 2 ^ k) is
 
--- all of them are below 2^63
-pub bucket_ends : (b : ℕ) → b < 1888 → least_of b + width b ≤ 2 ^ 63
-bucket_ends b within = omega (arith, mul-le (b - 32 * shift b + 1) (2 ^ shift b) 64 (2 ^ 57) (omega arith) (pow-le-pow_right {n = 2} (omega arith) {i = shift b} {j = 57} (omega arith)))
+-- all of them are below 2^69
+pub bucket_ends : (b : ℕ) → b ≤ 2048 → least_of b + width b ≤ 2 ^ 69
+bucket_ends b within = omega (arith, mul-le (b - 32 * shift b + 1) (2 ^ shift b) 64 (2 ^ 63) (omega arith) (pow-le-pow_right {n = 2} (omega arith) {i = shift b} {j = 63} (omega arith)))
 
 pub wide : (b : ℕ) → 1 ≤ width b
 wide b = omega (arith, pow_pos (shift b))
@@ -82,3 +82,12 @@ next_least b = by_shift (cases_lt (shift (b + 1)) (shift b + 1)) where
 
         the_last : b + 1 ≡ 32 * (shift b + 2) → (b - 32 * shift b) * 2 ^ shift b ≡ 63 * 2 ^ shift b
         the_last is = ap (λ (k : ℕ). k * 2 ^ shift b) (omega arith)
+
+-- a bucket is no wider than a 32nd of its least number, and one more
+pub spread : (b : ℕ) → 32 * (width b - 1) ≤ least_of b
+spread b = by_shift (cases_lt b 64) where
+  by_shift : (b < 64) ⊎ (64 ≤ b) → 32 * (width b - 1) ≤ least_of b
+  by_shift (inl few) = let one : 2 ^ shift b ≡ 1 = ap (λ (k : ℕ). 2 ^ k) none in omega arith where
+    none : shift b ≡ 0
+    none = omega arith
+  by_shift (inr some) = omega (arith, mul-le 32 (width b) (b - 32 * shift b) (width b) (omega arith) (omega arith))

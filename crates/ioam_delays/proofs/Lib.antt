@@ -1,2 +1,4 @@
 pub mod BucketLaws
+pub mod CounterLaws
+pub mod SignedLaws
 pub mod TimeLaws

@@ -18,13 +18,13 @@ least_of bucket = (bucket - 32 * shift bucket) * width bucket
 abbrev pub greatest_of : ℕ → ℕ
 greatest_of bucket = least_of bucket + (width bucket - 1)
 
--- the least delay of a bucket among all 3,776, of which the first 1,888 are for delays below 0
+-- the least delay of a bucket among all 4,096, of which the first 2,048 are for delays below 0
 abbrev pub low : ℕ → ℤ
-low bucket = if nat_lt bucket 1888 then negsuc (greatest_of (1887 - bucket)) else pos (least_of (bucket - 1888))
+low bucket = if nat_lt bucket 2048 then negsuc (greatest_of (2047 - bucket)) else pos (least_of (bucket - 2048))
 
 -- the greatest delay of a bucket
 abbrev pub high : ℕ → ℤ
-high bucket = if nat_lt bucket 1888 then negsuc (least_of (1887 - bucket)) else pos (greatest_of (bucket - 1888))
+high bucket = if nat_lt bucket 2048 then negsuc (least_of (2047 - bucket)) else pos (greatest_of (bucket - 2048))
 
 -- a delay is in a bucket
 abbrev pub IsWithin : ℕ → ℤ → Type 0

@@ -2,7 +2,9 @@
 #![tactic(auto)]
 
 mod buckets;
+mod counter;
 mod times;
 
 pub use buckets::{BUCKETS, bucket, greatest, least};
+pub use counter::Counter;
 pub use times::{delay, nanoseconds};

@@ -1,4 +1,4 @@
-use Rattle.std.proofs.Common.{◌≡◌, ◌≤◌, ◌-◌, ◌+◌, ◌*◌, ◌/◌, ◌^◌, refl, arith}
+use Rattle.std.proofs.Common.{◌≤◌, ◌-◌, refl, arith}
 use Rattle.ioam_delays.proofs.BucketLaws.{few_bits, first_bits, in_greatest, in_least, seven_bits}
 use Rattle.ioam_delays.proofs.buckets.size_bucket.Goals as goal
 

@@ -1,4 +1,4 @@
-use Rattle.std.proofs.Common.{◌≡◌, ◌<◌, inl, inr, pos, ◌-ℤ◌, ◌^◌, arith, to_z, of_z, w64}
+use Rattle.std.proofs.Common.{◌<◌, inl, inr, arith}
 use Rattle.std.proofs.lemmas.Int.{ints}
 use Rattle.ioam_delays.proofs.TimeLaws.{IsAhead, ahead_below, delay_ahead, delay_behind}
 use Rattle.ioam_delays.proofs.times.delay.Goals as goal
