@@ -1,3 +1,4 @@
 pub mod Buckets
 pub mod Counters
-pub mod Stamps
+pub mod Sights
+pub mod Times

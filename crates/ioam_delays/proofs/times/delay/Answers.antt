@@ -1,18 +1,16 @@
-use Rattle.std.proofs.Common.{◌<◌, inl, inr, arith}
-use Rattle.std.proofs.lemmas.Int.{ints}
-use Rattle.ioam_delays.proofs.TimeLaws.{IsAhead, ahead_below, delay_ahead, delay_behind}
+use Rattle.std.proofs.Common.{rules, ◌≡◌, ◌-◌, ℤ, negsuc, ◌-ℤ◌, sym, subst, to_z, of_z, w64}
+use Rattle.ioam_delays.specs.Times.{IsDelay, delay_of}
+use Rattle.ioam_delays.proofs.TimeLaws.{delay_is}
 use Rattle.ioam_delays.proofs.times.delay.Goals as goal
-use Rattle.ioam_delays.proofs.times.delay.Goals.{then-to-from, else-to-from}
 
-pub returns-then-ahead-modulus : goal.returns-then-ahead-modulus
-returns-then-ahead-modulus c =
-    let ahead : IsAhead c.args.modulus c.args.from c.args.to c.if-to-from.ahead =
-    elim c.if-to-from.branch [ then-to-from w ↦ inl (w.if-to-from.true, w.ahead-is) | else-to-from w ↦ inr (w.if-to-from.false, w.ahead-is) ] in
-    delay_ahead _ _ _ c.if-to-from.ahead _ (omega arith) (omega arith) ahead (omega arith) (omega (arith, ints))
+pub returns-then-ahead-modulus-clause-is : goal.returns-then-ahead-modulus-clause-is
+returns-then-ahead-modulus-clause-is c =
+    let P : ℤ → Type 0 = λ d. IsDelay c.args.modulus c.args.from c.args.to d in
+    let value : to_z w64 c.ahead-ahead.result ≡ delay_of c.args.modulus c.args.from c.args.to = search rules in
+    subst P (sym value) (delay_is c.args.modulus c.args.from c.args.to c.requires.some)
 
-pub returns-else-ahead-modulus : goal.returns-else-ahead-modulus
-returns-else-ahead-modulus c =
-    let ahead : IsAhead c.args.modulus c.args.from c.args.to c.if-to-from.ahead =
-    elim c.if-to-from.branch [ then-to-from w ↦ inl (w.if-to-from.true, w.ahead-is) | else-to-from w ↦ inr (w.if-to-from.false, w.ahead-is) ] in
-    let below : c.if-to-from.ahead < c.args.modulus = ahead_below _ _ _ _ (omega arith) (omega arith) ahead in
-    delay_behind _ _ _ c.if-to-from.ahead _ (omega arith) (omega arith) ahead (omega arith) (omega (arith, ints, below))
+pub returns-else-ahead-modulus-clause-is : goal.returns-else-ahead-modulus-clause-is
+returns-else-ahead-modulus-clause-is c =
+    let P : ℤ → Type 0 = λ d. IsDelay c.args.modulus c.args.from c.args.to d in
+    let value : to_z w64 (of_z w64 (negsuc 0 -ℤ to_z w64 (c.args.modulus - c.ahead-ahead.result - 1))) ≡ delay_of c.args.modulus c.args.from c.args.to = search rules in
+    subst P (sym value) (delay_is c.args.modulus c.args.from c.args.to c.requires.some)
