@@ -1,0 +1,5 @@
+pub mod Keys
+pub mod Orders
+pub mod Tallies
+pub mod Courses
+pub mod Counted

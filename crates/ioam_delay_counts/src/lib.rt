@@ -1,0 +1,17 @@
+//! What is counted of the delays of traces: for each namespace, way, hop and node.
+#![tactic(auto)]
+
+mod course;
+mod delays;
+mod filled;
+mod keys;
+mod passed;
+mod seen;
+mod sums;
+
+pub use course::{count_hops, count_nodes, way, whole_delay};
+pub use filled::{Fill, Filled};
+pub use keys::{HopKey, NodeKey, SpaceKey, Step, WayKey};
+pub use passed::Passed;
+pub use seen::Seen;
+pub use sums::{MOST_HOPS, MOST_WAYS, Sums};
