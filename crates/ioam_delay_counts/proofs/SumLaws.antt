@@ -28,7 +28,7 @@ pub of_more : {Y : Type 0} (f : Course → List Y) (courses : List Course) (cour
 of_more {Y} f courses course =
     flat_map-append f courses (course ∷ []) ∙ ap (λ (ys : List Y). flat_map f courses ++ ys) (append-nil (f course))
 
-of_few : {Y : Type 0} (f : Course → List Y) → ((course : Course) → length (f course) ≤ length course.sights) → (courses : List Course)
+pub of_few : {Y : Type 0} (f : Course → List Y) → ((course : Course) → length (f course) ≤ length course.sights) → (courses : List Course)
     → length (flat_map f courses) + length courses ≤ weight courses
 of_few f few [] = omega arith
 of_few f few (course ∷ courses) =
