@@ -1,0 +1,6 @@
+//! The delays of the traces of packets.
+#![tactic(auto)]
+
+mod packets;
+
+pub use packets::count_packet;
