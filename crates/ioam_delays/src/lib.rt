@@ -19,8 +19,8 @@ mod tests {
     #[test]
     fn percentiles(rt: HostRuntime) {
         let mut counter = Counter::new(rt.alloc(), 1_000).expect(&rt, "memory");
-        for times in 2..101i64 {
-            counter.add(times * 1_000);
+        for times in 2..101u64 {
+            counter.add((times * 1_000) as i64);
         }
         assert_eq!(rt; counter.count, 100);
         assert_eq!(rt; counter.percentile(50), 50_175);
