@@ -1,2 +1,3 @@
 pub mod Words
+pub mod Shares
 pub mod Rows

@@ -7,8 +7,11 @@ use Rattle.ioam_delays.specs.declared.counter.Counter.{Counter}
 use Rattle.ioam_delay_counts.specs.declared.filled.Filled.{Filled}
 use Rattle.ioam_delay_counts.specs.declared.keys.NodeKey.{NodeKey}
 use Rattle.ioam_delay_counts.specs.declared.keys.SpaceKey.{SpaceKey}
+use Rattle.ioam_delay_counts.specs.declared.keys.WayKey.{WayKey}
+use Rattle.ioam_delay_counts.specs.declared.passed.Passed.{Passed}
 use Rattle.ioam_delay_counts.specs.declared.seen.Seen.{Seen}
-use Rattle.ioam_delay_lines.specs.Words.{node_text}
+use Rattle.ioam_delay_lines.specs.Shares.{share_text}
+use Rattle.ioam_delay_lines.specs.Words.{node_text, way_text}
 
 -- the mean, rounded down
 abbrev pub mean_of : Counter → ℤ
@@ -62,3 +65,8 @@ space_row key filled = codes "namespace " ++ decimal key.0 ++ codes " traces " +
 abbrev pub node_row : NodeKey → Seen → List ℕ
 node_row key seen = codes "  node " ++ node_text key.node ++ codes " seen " ++ decimal seen.count ++ codes " stamped " ++ decimal seen.stamped
     ++ codes " bad " ++ decimal seen.bad ++ codes " long " ++ decimal seen.long ++ delays_text seen.delays
+
+-- the line of a way, of so many traces of its namespace
+abbrev pub way_row : ℕ → WayKey → Passed → List ℕ
+way_row traces key passed = codes "  way" ++ way_text key ++ codes " count " ++ decimal passed.count ++ codes " share " ++ share_text passed.count traces
+    ++ ends_text passed.delays

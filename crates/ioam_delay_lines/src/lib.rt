@@ -3,8 +3,10 @@
 
 mod delays;
 mod rows;
+mod share;
 mod words;
 
 pub use delays::{put_delays, put_ends};
-pub use rows::{put_node_row, put_space_row};
+pub use rows::{put_node_row, put_space_row, put_way_row};
+pub use share::put_share;
 pub use words::{put_gap, put_node, put_way};

@@ -1,12 +1,13 @@
 //! The lines of namespaces and nodes.
-ghost use Rattle.std.specs.Prelude.{◌≡◌, ◌++◌, OnOk};
-ghost use Rattle.ioam_delay_lines.specs.Rows.{node_row, space_row};
+ghost use Rattle.std.specs.Prelude.{◌≡◌, ◌<◌, ◌≤◌, ◌++◌, OnOk};
+ghost use Rattle.ioam_delay_lines.specs.Rows.{node_row, space_row, way_row};
 
-use crate::delays::put_delays;
-use crate::words::put_node;
+use crate::delays::{put_delays, put_ends};
+use crate::share::put_share;
+use crate::words::{put_node, put_way};
 use ioam_base::memory::NoMemory;
 use ioam_base::text::{append, append_decimal};
-use ioam_delay_counts::{Filled, NodeKey, Seen, SpaceKey};
+use ioam_delay_counts::{Filled, NodeKey, Passed, Seen, SpaceKey, WayKey};
 
 /// Appends `namespace NS traces C overflow C empty C` and the end of the line.
 pub fn put_space_row(key: SpaceKey, filled: &Filled, out: &mut Vec<u8>) -> Result<(), NoMemory>
@@ -38,4 +39,24 @@ pub fn put_node_row(key: NodeKey, seen: &Seen, out: &mut Vec<u8>) -> Result<(), 
     append(out, b" long ")?;
     append_decimal(out, seen.long)?;
     put_delays(&seen.delays, out)
+}
+
+/// Appends `  way WAY count C share S`, and the delays from its first element to the last; its namespace has `traces`.
+pub fn put_way_row(
+    traces: u64,
+    key: &WayKey,
+    passed: &Passed,
+    out: &mut Vec<u8>,
+) -> Result<(), NoMemory>
+    requires some { 0 < traces }
+    requires within { passed.now.count ≤ traces }
+    ensures { OnOk result (out.new.items ≡ out.old.items ++ way_row traces key.now passed.now) }
+{
+    append(out, b"  way")?;
+    put_way(key, out)?;
+    append(out, b" count ")?;
+    append_decimal(out, passed.count)?;
+    append(out, b" share ")?;
+    put_share(passed.count, traces, out)?;
+    put_ends(&passed.delays, out)
 }
